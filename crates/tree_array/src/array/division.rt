@@ -1,0 +1,94 @@
+//! How the pairs of an array are divided between two new ones.
+ghost use Rattle.std.specs.Prelude.{◌≡◌, ◌+◌, ◌≤◌, [], ◌∷◌, length, take, drop, slice_get, MatchOption};
+ghost use Rattle.tree_array.specs.Arrivals.{boundary, drained, in_order};
+
+use super::{ArrayOf, RETIRED};
+use crate::ranks::{made, next_above};
+use crate::search::count_ascents;
+
+impl<K: Ord + Drop, V: Drop, const LEN: usize> ArrayOf<K, V, LEN> {
+    /// Where to split: how many entries go low, how many there are, and whether all of `LEN` arrived in
+    /// ascending order. Up to three quarters of `LEN` entries there is no split, and the first number is `LEN`.
+    /// No comparisons.
+    pub fn optimal_boundary(&self) -> (u8, usize, bool)
+        ensures { result ≡ boundary K.cmp LEN self.now }
+    {
+        let (count, rises) = count_ascents(&self.cells, self.ranks, made(self.bitmap));
+        if count as usize <= LEN * 3 / 4 {
+            (LEN as u8, count as usize, false)
+        } else if 2 * rises + 1 < count {
+            (rises + 1, count as usize, false)
+        } else {
+            (rises, count as usize, rises as usize == LEN - 1)
+        }
+    }
+
+    /// Moves the first `boundary` entries into `low` and the others into `high`, arriving in ascending order.
+    /// Afterwards this array is empty and retired. Caller's condition: `low` and `high` are new. No comparisons.
+    pub fn distribute(&mut self, boundary: u8, low: &mut Self, high: &mut Self)
+        requires low { low.old ≡ in_order [] }
+        requires high { high.old ≡ in_order [] }
+        ensures low { low.new ≡ in_order (take boundary self.old.entries) }
+        ensures high { high.new ≡ in_order (drop boundary self.old.entries) }
+        ensures left { self.new ≡ drained self.old }
+    {
+        self.move_least(boundary, low);
+        self.move_all(high);
+    }
+
+    /// Does what [`distribute`](ArrayOf::distribute) does, but gives the entry at place `boundary` back, if there
+    /// is one.
+    pub fn distribute_apart(
+        &mut self,
+        boundary: u8,
+        low: &mut Self,
+        high: &mut Self,
+    ) -> Option<(K, V)>
+        requires low { low.old ≡ in_order [] }
+        requires high { high.old ≡ in_order [] }
+        ensures low { low.new ≡ in_order (take boundary self.old.entries) }
+        ensures apart { result ≡ slice_get self.old.entries boundary }
+        ensures high { high.new ≡ in_order (drop (boundary + 1) self.old.entries) }
+        ensures left { self.new ≡ drained self.old }
+    {
+        self.move_least(boundary, low);
+        let apart = self.take_least();
+        self.move_all(high);
+        apart
+    }
+
+    /// Moves all entries into a new array, which leaves this one retired.
+    fn move_all(&mut self, to: &mut Self)
+        requires { to.old ≡ in_order [] }
+        ensures moved { to.new ≡ in_order self.old.entries }
+        ensures left { self.new ≡ drained self.old }
+    {
+        self.move_least(LEN as u8, to);
+        self.ranks = RETIRED;
+    }
+
+    /// Moves the first `count` entries into a new array.
+    fn move_least(&mut self, count: u8, to: &mut Self)
+        requires { to.old ≡ in_order [] }
+        ensures moved { to.new ≡ in_order (take count self.old.entries) }
+        ensures left { self.new.entries ≡ drop count self.old.entries }
+        ensures arrivals { length self.new.arrivals ≡ length self.old.arrivals }
+    {
+        for _ in 0..count {
+            let Some((key, val)) = self.take_least() else {
+                return;
+            };
+            to.push_last(key, val);
+        }
+    }
+
+    /// Takes the first entry.
+    fn take_least(&mut self) -> Option<(K, V)>
+        ensures taken { MatchOption result ((self.old.entries ≡ []) × (self.new ≡ self.old)) (λ pair. self.old.entries ≡ pair ∷ self.new.entries) }
+        ensures arrivals { length self.new.arrivals ≡ length self.old.arrivals }
+    {
+        let slot = next_above::<LEN>(self.ranks, made(self.bitmap), 0)?;
+        let (key, val, _) = self.take(slot);
+        Some((key, val))
+    }
+}

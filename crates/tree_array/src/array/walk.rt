@@ -1,0 +1,193 @@
+//! Walks over the slots of an array, in the order of their keys and against it.
+ghost use Rattle.std.specs.Prelude.{◌≡◌, None, ⊤, option_and_then, slice_get};
+ghost use Rattle.tree_array.specs.Arrivals.{slots_in_order};
+ghost use Rattle.tree_array.specs.Walk.{StepsBack, StepsOn, left_back, left_on, standing};
+
+use super::ArrayOf;
+use crate::ranks::{made, next_above, rank};
+use std::alloc::AllocError;
+use std::marker::Model;
+
+/// A walk over the reachable slots of an array in ascending order of their keys. It is of the array as
+/// it stood when the walk was made. A slot is named by the number of its arrival.
+///
+/// A `next` that answers None keeps the place.
+#[derive(Drop)]
+pub struct ArrayIterOf<const LEN: usize> {
+    order: [u8; LEN],
+    count: u8,
+    at: Option<u8>,
+}
+
+/// The walk over an array of fifteen slots.
+pub type ArrayIter = ArrayIterOf<15>;
+
+/// The walk in descending order.
+#[derive(Drop)]
+pub struct ArrayRevIterOf<const LEN: usize> {
+    walk: ArrayIterOf<LEN>,
+}
+
+/// The walk in descending order over an array of fifteen slots.
+pub type ArrayRevIter = ArrayRevIterOf<15>;
+
+impl<const LEN: usize> Model for ArrayIterOf<LEN> {
+    ghost use Rattle.std.specs.Prelude.{◌≡◌, ◌≤◌, ◌<◌, length, take};
+    ghost use Rattle.std.specs.Option.{ForSome};
+    ghost use Rattle.tree_array.specs.Walk.{Walk, standing};
+
+    ghost Value = { Walk };
+
+    ghost view = { λ a. standing (take a.count a.order) a.at };
+
+    ghost invariant = { λ a. (length a.order ≡ LEN) × (a.count ≤ LEN) × ForSome a.at (λ place. place < a.count) };
+}
+
+impl<const LEN: usize> Model for ArrayRevIterOf<LEN> {
+    ghost use Rattle.tree_array.specs.Walk.{Walk};
+
+    ghost Value = { Walk };
+
+    ghost view = { λ a. a.walk };
+}
+
+impl<const LEN: usize> ArrayIterOf<LEN> {
+    /// A walk before the first slot. No comparisons.
+    pub fn new<K: Ord + Drop, V: Drop>(array: &ArrayOf<K, V, LEN>) -> Self
+        ensures { result ≡ standing (slots_in_order K.cmp array.now) None }
+    {
+        let made = made(array.bitmap);
+        let mut order = [0; LEN];
+        let mut count = 0;
+        let mut low = 0;
+        while let Some(slot) = next_above::<LEN>(array.ranks, made, low) {
+            order[count as usize] = slot;
+            count += 1;
+            low = rank::<LEN>(array.ranks, slot);
+        }
+        ArrayIterOf {
+            order,
+            count,
+            at: None,
+        }
+    }
+
+    /// The slot that the walk stands at, if it has begun.
+    pub fn slot(&self) -> Option<u8>
+        ensures { result ≡ option_and_then (slice_get self.now.slots) self.now.at }
+    {
+        let place = self.at?;
+        Some(self.order[place as usize])
+    }
+
+    /// Goes back to before the first slot.
+    pub fn rewind(&mut self)
+        ensures { self.new ≡ standing self.old.slots None }
+    {
+        self.at = None;
+    }
+
+    /// Turns about at its place. A walk that has not begun turns into one that has not begun.
+    pub fn rev(self) -> ArrayRevIterOf<LEN>
+        ensures { result ≡ self.entry }
+    {
+        ArrayRevIterOf { walk: self }
+    }
+}
+
+impl<const LEN: usize> ArrayRevIterOf<LEN> {
+    /// A walk before the first slot, which is that of the largest key. No comparisons.
+    pub fn new<K: Ord + Drop, V: Drop>(array: &ArrayOf<K, V, LEN>) -> Self
+        ensures { result ≡ standing (slots_in_order K.cmp array.now) None }
+    {
+        ArrayIterOf::new(array).rev()
+    }
+
+    /// The slot that the walk stands at, if it has begun.
+    pub fn slot(&self) -> Option<u8>
+        ensures { result ≡ option_and_then (slice_get self.now.slots) self.now.at }
+    {
+        self.walk.slot()
+    }
+
+    /// Goes back to before the first slot.
+    pub fn rewind(&mut self)
+        ensures { self.new ≡ standing self.old.slots None }
+    {
+        self.walk.rewind();
+    }
+
+    /// Turns about at its place. A walk that has not begun turns into one that has not begun.
+    pub fn rev(self) -> ArrayIterOf<LEN>
+        ensures { result ≡ self.entry }
+    {
+        self.walk
+    }
+}
+
+impl<const LEN: usize> Iterator for ArrayIterOf<LEN> {
+    type Item = u8;
+
+    ghost next_gives = { StepsOn };
+
+    ghost remaining = { left_on };
+
+    fn next(&mut self) -> Option<u8> {
+        let place = match self.at {
+            None => 0,
+            Some(place) => place + 1,
+        };
+        if place < self.count {
+            self.at = Some(place);
+            Some(self.order[place as usize])
+        } else {
+            None
+        }
+    }
+}
+
+impl<const LEN: usize> Iterator for ArrayRevIterOf<LEN> {
+    type Item = u8;
+
+    ghost next_gives = { StepsBack };
+
+    ghost remaining = { left_back };
+
+    fn next(&mut self) -> Option<u8> {
+        let behind = match self.walk.at {
+            None => self.walk.count,
+            Some(place) => place,
+        };
+        if behind > 0 {
+            self.walk.at = Some(behind - 1);
+            Some(self.walk.order[behind as usize - 1])
+        } else {
+            None
+        }
+    }
+}
+
+impl<const LEN: usize> Clone for ArrayIterOf<LEN> {
+    ghost is_clone = { λ walk clone. clone ≡ walk };
+
+    ghost is_infallible = { λ _. ⊤ };
+
+    fn clone(&self) -> Result<Self, AllocError> {
+        Ok(ArrayIterOf {
+            order: self.order,
+            count: self.count,
+            at: self.at,
+        })
+    }
+}
+
+impl<const LEN: usize> Clone for ArrayRevIterOf<LEN> {
+    ghost is_clone = { λ walk clone. clone ≡ walk };
+
+    ghost is_infallible = { λ _. ⊤ };
+
+    fn clone(&self) -> Result<Self, AllocError> {
+        let walk = self.walk.clone()?;
+        Ok(ArrayRevIterOf { walk })
+    }
+}
