@@ -1,0 +1,4 @@
+pub mod Bitmap
+pub mod Scan
+pub mod Slots
+pub mod Word
