@@ -1,4 +1,6 @@
-pub mod Order
-pub mod Lists
-pub mod LookUps
 pub mod Ascending
+pub mod LookUps
+pub mod Lists
+pub mod Order
+pub mod Overwrites
+pub mod Searches
