@@ -1,4 +1,5 @@
 pub mod Ascending
+pub mod Histories
 pub mod LookUps
 pub mod Lists
 pub mod Order
