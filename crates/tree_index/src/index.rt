@@ -49,6 +49,7 @@ impl<K: IndexKey, V: Drop> TreeIndex<K, V> {
     /// The value at a key. It compares about log2 of the length times and takes no memory.
     pub fn peek(&self, key: &K) -> Option<&V>
         ensures found { option_copied result ≡ option_map (λ pair. pair.1) (pair_at K.cmp self.now key.now) }
+        ensures ascending { IsAscending K.cmp self.now }
     {
         self.pairs.peek(key)
     }

@@ -6,6 +6,8 @@ mod commands;
 mod index;
 mod keys;
 mod shared;
+#[cfg(test)]
+mod tests;
 
 pub use commands::run;
 pub use index::TreeIndex;

@@ -6,6 +6,8 @@ mod bounds;
 mod commands;
 pub mod laws;
 mod plain;
+#[cfg(test)]
+mod tests;
 
 pub use bounds::{is_above, is_below, range_contains};
 pub use commands::{Command, InsertError, Record, Reply};

@@ -47,15 +47,13 @@ impl<K: Ord + Drop, V: Drop> PlainIndex<K, V> {
     pub fn insert(&mut self, key: K, value: V) -> Result<(), InsertError<K, V>>
         ensures { Inserts K.cmp self.old key value result self.new }
     {
-        let place = match self.place_of(&key) {
-            Ok(_) => return Err(InsertError::Duplicate(key, value)),
-            Err(place) => place,
-        };
-        if let Err(refused) = self.pairs.insert(place, (key, value)) {
-            let (key, value) = refused.value;
-            return Err(InsertError::OutOfMemory(key, value));
+        match self.place_of(&key) {
+            Ok(_) => Err(InsertError::Duplicate(key, value)),
+            Err(place) => match self.fill(place, key, value) {
+                Ok(()) => Ok(()),
+                Err((key, value)) => Err(InsertError::OutOfMemory(key, value)),
+            },
         }
-        Ok(())
     }
 
     /// The pair whose key equals `key`.
@@ -70,7 +68,8 @@ impl<K: Ord + Drop, V: Drop> PlainIndex<K, V> {
 
     /// The value at a key.
     pub fn peek(&self, key: &K) -> Option<&V>
-        ensures { option_copied result ≡ option_map (λ pair. pair.1) (pair_at K.cmp self.now key.now) }
+        ensures found { option_copied result ≡ option_map (λ pair. pair.1) (pair_at K.cmp self.now key.now) }
+        ensures ascending { IsAscending K.cmp self.now }
     {
         match self.place_of(key) {
             Ok(place) => Some(&self.pairs[place].1),
@@ -92,13 +91,21 @@ impl<K: Ord + Drop, V: Drop> PlainIndex<K, V> {
     pub fn upsert(&mut self, key: K, value: V) -> Result<(), (K, V)>
         ensures { Upserts K.cmp self.old key value result self.new }
     {
-        let place = match self.place_of(&key) {
+        match self.place_of(&key) {
             Ok(place) => {
                 self.pairs[place] = (key, value);
-                return Ok(());
+                Ok(())
             }
-            Err(place) => place,
-        };
+            Err(place) => self.fill(place, key, value),
+        }
+    }
+
+    // Stores a pair in the gap that a search found for its key.
+    fn fill(&mut self, place: usize, key: K, value: V) -> Result<(), (K, V)>
+        requires gap { IsGap K.cmp self.old key place }
+        requires few { place ≤ length self.old }
+        ensures { Upserts K.cmp self.old key value result self.new }
+    {
         if let Err(refused) = self.pairs.insert(place, (key, value)) {
             return Err(refused.value);
         }

@@ -1,7 +1,7 @@
 use Rattle.std.proofs.Common.{sym, ◌∙◌, subst}
 use Rattle.tree_model.specs.Pairs.{IsAscending}
 use Rattle.tree_model.proofs.Ascending.{IsAscending-put}
-use Rattle.tree_model.proofs.Searches.{insert-put, set-put}
+use Rattle.tree_model.proofs.Searches.{set-put}
 use Rattle.tree_model.proofs.plain.PlainIndex.upsert.Goals as goal
 
 -- the pair takes the place of the one with its key
@@ -12,9 +12,3 @@ invariant_of-self g c =
 
 pub returns-in-Ok : goal.returns-in-Ok
 returns-in-Ok g c = rw (← c.self.view_is) (let place = rw (← c.self.view_is) at c.in-Ok.ensures.found in set-put g.K.Ord.cmp _ _ _ c.args.value place)
-
--- or it goes into its gap
-pub invariant_of-self-2 : goal.invariant_of-self-2
-invariant_of-self-2 g c =
-    let gap = rw (← c.self.view_is) at c.in-Err.ensures.gap in
-    subst (IsAscending g.K.Ord.cmp) (sym (c.in_default.ensures.items ∙ insert-put g.K.Ord.cmp _ _ _ c.args.value gap)) (IsAscending-put g.met.K.Ord.total _ c.args.key c.args.value c.self.invariant)
