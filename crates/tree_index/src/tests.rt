@@ -158,10 +158,10 @@ fn hands_back_what_is_refused(rt: HostRuntime) -> Result<(), Fail> {
         }
         if let Err(refused) = state.apply(Command::Peek(key)) {
             assert!(rt; matches!(refused, Command::Peek(k) if k == key));
-            assert_eq!(rt; state.history().len(), calls + 1);
+            assert_eq!(rt; state.history().len().checked_sub(1), Some(calls));
             assert!(rt; matches!(state.apply(Command::Peek(key)), Ok(Reply::Found(Some(_)))));
         }
-        assert_eq!(rt; state.history().len(), calls + 2);
+        assert_eq!(rt; state.history().len().checked_sub(2), Some(calls));
         assert_eq!(rt; state.index().peek(&key).copied(), Some(key + 100));
     }
     Ok(())
