@@ -1,5 +1,8 @@
 //! Commands of an index, what it answers to them, and the record of both.
 
+use std::error::Error;
+use std::fmt;
+
 /// One call of an index.
 #[derive(Debug, Drop)]
 pub enum Command<K, V> {
@@ -16,15 +19,37 @@ pub enum Reply<V> {
     Stored,
     /// The key is present, and nothing changed.
     Duplicate,
-    /// The value at the key, if it is present.
+    /// The value at the key, if the key is present.
     Found(Option<V>),
-    /// There was no memory, and nothing changed.
+    /// Memory was refused, and nothing changed.
     Refused,
 }
 
 /// A command of a history, and what was answered to it.
 #[derive(Debug, Drop)]
 pub struct Record<K, V> {
+    /// What was asked.
     pub command: Command<K, V>,
+    /// What was answered.
     pub reply: Reply<V>,
 }
+
+/// Why a pair was not inserted, with that pair.
+#[derive(Debug, Drop)]
+pub enum InsertError<K, V> {
+    /// The key is present.
+    Duplicate(K, V),
+    /// The key is absent, and memory for the pair was refused.
+    OutOfMemory(K, V),
+}
+
+impl<K, V> fmt::Display for InsertError<K, V> {
+    fn fmt<W: fmt::Write>(&self, f: &mut fmt::Formatter<W>) -> fmt::Result {
+        match self {
+            InsertError::Duplicate(_, _) => write!(f, "the key is present"),
+            InsertError::OutOfMemory(_, _) => write!(f, "out of memory"),
+        }
+    }
+}
+
+impl<K: fmt::Debug + Drop, V: fmt::Debug + Drop> Error for InsertError<K, V> {}

@@ -2,6 +2,13 @@
 //! commands that it answers.
 #![tactic(auto)]
 
+mod bounds;
 mod commands;
+pub mod laws;
+mod plain;
+#[cfg(test)]
+mod tests;
 
-pub use commands::{Command, Record, Reply};
+pub use bounds::{is_above, is_below, range_contains};
+pub use commands::{Command, InsertError, Record, Reply};
+pub use plain::PlainIndex;

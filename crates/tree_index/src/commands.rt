@@ -1,0 +1,49 @@
+//! Lists of commands.
+ghost use Rattle.std.specs.Prelude.{◌≡◌, IfOk, OnErr};
+ghost use Rattle.tree_model.specs.Runs.{Step, Runs};
+
+use crate::index::TreeIndex;
+use crate::keys::{IndexKey, SameClone};
+use std::alloc::AllocError;
+use tree_model::{Command, InsertError, Reply};
+
+/// Answers the commands in turn, a reply for each.
+///
+/// The room for all replies is taken first: an `Err` changed nothing. A command for which memory
+/// is refused is replied `Refused`, leaves the index as it was, and the run goes on.
+pub fn run<K: IndexKey, V: SameClone>(
+    index: &mut TreeIndex<K, V>,
+    commands: Vec<Command<K, V>>,
+) -> Result<Vec<Reply<V>>, AllocError>
+    ensures runs { IfOk result (λ replies. Runs K.cmp V.seen index.old commands.items replies.items index.new) }
+    ensures err { OnErr result (index.new ≡ index.old) }
+{
+    let mut replies = Vec::with_capacity(*commands.allocator(), commands.len())?;
+    for command in commands {
+        replies.push(answer(index, command)).unwrap();
+    }
+    Ok(replies)
+}
+
+// Answers one command.
+fn answer<K: IndexKey, V: SameClone>(
+    index: &mut TreeIndex<K, V>,
+    command: Command<K, V>,
+) -> Reply<V>
+    ensures { Step K.cmp V.seen index.old command result index.new }
+{
+    match command {
+        Command::Insert(key, value) => match index.insert_sync(key, value) {
+            Ok(()) => Reply::Stored,
+            Err(InsertError::Duplicate(_, _)) => Reply::Duplicate,
+            Err(InsertError::OutOfMemory(_, _)) => Reply::Refused,
+        },
+        Command::Peek(key) => match index.peek(&key) {
+            None => Reply::Found(None),
+            Some(value) => match value.clone() {
+                Ok(value) => Reply::Found(Some(value)),
+                Err(_) => Reply::Refused,
+            },
+        },
+    }
+}

@@ -1,0 +1,202 @@
+//! What an index asks of its keys, and what a history asks of keys and values.
+ghost use Rattle.std.specs.Prelude.{◌≡◌, ℕ, ℤ, Bool, List, string_bytes};
+ghost use Rattle.std.specs.declared.cmp.Ordering.TheVariants.{Equal};
+ghost use Rattle.std.proofs.Common.{sym};
+ghost use Rattle.tree_index.specs.Keys.{equal_booleans, equal_integers, equal_numbers, equal_texts};
+
+/// A key of an index: its order is total and agrees with its equality, as `Ord` asks, and a clone
+/// that succeeds compares equal to its source.
+pub trait IndexKey: Clone + Ord + Drop {
+    ghost clone_equal: { (x y : Self) → Self.is_clone x y → Self.cmp x y ≡ Equal };
+}
+
+/// A key or a value that a history may keep a clone of: contracts see in it what `seen` names, and
+/// a clone that succeeds is seen the same.
+pub trait SameClone: Clone + Drop {
+    ghost Seen: { Type 0 };
+
+    ghost seen: { Self → Seen };
+
+    ghost clone_seen: { (x y : Self) → Self.is_clone x y → seen x ≡ seen y };
+}
+
+impl IndexKey for bool {
+    ghost clone_equal = { equal_booleans };
+}
+
+impl SameClone for bool {
+    ghost Seen = { Bool };
+
+    ghost seen = { λ x. x };
+
+    ghost clone_seen = { λ x y h. sym h };
+}
+
+impl IndexKey for String {
+    ghost clone_equal = { λ x y h. equal_texts (string_bytes x) (string_bytes y) h };
+}
+
+/// Of a text its bytes are seen.
+impl SameClone for String {
+    ghost Seen = { List ℕ };
+
+    ghost seen = { string_bytes };
+
+    ghost clone_seen = { λ x y h. sym h };
+}
+
+impl IndexKey for u8 {
+    ghost clone_equal = { equal_numbers };
+}
+
+impl SameClone for u8 {
+    ghost Seen = { ℕ };
+
+    ghost seen = { λ x. x };
+
+    ghost clone_seen = { λ x y h. sym h };
+}
+
+impl IndexKey for u16 {
+    ghost clone_equal = { equal_numbers };
+}
+
+impl SameClone for u16 {
+    ghost Seen = { ℕ };
+
+    ghost seen = { λ x. x };
+
+    ghost clone_seen = { λ x y h. sym h };
+}
+
+impl IndexKey for u32 {
+    ghost clone_equal = { equal_numbers };
+}
+
+impl SameClone for u32 {
+    ghost Seen = { ℕ };
+
+    ghost seen = { λ x. x };
+
+    ghost clone_seen = { λ x y h. sym h };
+}
+
+impl IndexKey for u64 {
+    ghost clone_equal = { equal_numbers };
+}
+
+impl SameClone for u64 {
+    ghost Seen = { ℕ };
+
+    ghost seen = { λ x. x };
+
+    ghost clone_seen = { λ x y h. sym h };
+}
+
+impl IndexKey for u128 {
+    ghost clone_equal = { equal_numbers };
+}
+
+impl SameClone for u128 {
+    ghost Seen = { ℕ };
+
+    ghost seen = { λ x. x };
+
+    ghost clone_seen = { λ x y h. sym h };
+}
+
+impl IndexKey for usize {
+    ghost clone_equal = { equal_numbers };
+}
+
+impl SameClone for usize {
+    ghost Seen = { ℕ };
+
+    ghost seen = { λ x. x };
+
+    ghost clone_seen = { λ x y h. sym h };
+}
+
+impl IndexKey for char {
+    ghost clone_equal = { equal_numbers };
+}
+
+impl SameClone for char {
+    ghost Seen = { ℕ };
+
+    ghost seen = { λ x. x };
+
+    ghost clone_seen = { λ x y h. sym h };
+}
+
+impl IndexKey for i8 {
+    ghost clone_equal = { equal_integers };
+}
+
+impl SameClone for i8 {
+    ghost Seen = { ℤ };
+
+    ghost seen = { λ x. x };
+
+    ghost clone_seen = { λ x y h. sym h };
+}
+
+impl IndexKey for i16 {
+    ghost clone_equal = { equal_integers };
+}
+
+impl SameClone for i16 {
+    ghost Seen = { ℤ };
+
+    ghost seen = { λ x. x };
+
+    ghost clone_seen = { λ x y h. sym h };
+}
+
+impl IndexKey for i32 {
+    ghost clone_equal = { equal_integers };
+}
+
+impl SameClone for i32 {
+    ghost Seen = { ℤ };
+
+    ghost seen = { λ x. x };
+
+    ghost clone_seen = { λ x y h. sym h };
+}
+
+impl IndexKey for i64 {
+    ghost clone_equal = { equal_integers };
+}
+
+impl SameClone for i64 {
+    ghost Seen = { ℤ };
+
+    ghost seen = { λ x. x };
+
+    ghost clone_seen = { λ x y h. sym h };
+}
+
+impl IndexKey for i128 {
+    ghost clone_equal = { equal_integers };
+}
+
+impl SameClone for i128 {
+    ghost Seen = { ℤ };
+
+    ghost seen = { λ x. x };
+
+    ghost clone_seen = { λ x y h. sym h };
+}
+
+impl IndexKey for isize {
+    ghost clone_equal = { equal_integers };
+}
+
+impl SameClone for isize {
+    ghost Seen = { ℤ };
+
+    ghost seen = { λ x. x };
+
+    ghost clone_seen = { λ x y h. sym h };
+}

@@ -1,0 +1,16 @@
+//! An ordered index that answers as one strictly ascending list of pairs, with the history of its
+//! calls where that is wanted.
+#![tactic(auto)]
+
+mod commands;
+mod index;
+mod keys;
+mod shared;
+#[cfg(test)]
+mod tests;
+
+pub use commands::run;
+pub use index::TreeIndex;
+pub use keys::{IndexKey, SameClone};
+pub use shared::State;
+pub use tree_model::{Command, InsertError, Record, Reply};

@@ -1,0 +1,161 @@
+//! An index with the history of its calls.
+ghost use Rattle.std.specs.Prelude.{◌≡◌, ◌<◌, List, [], ◌∷◌, ◌++◌, vec_len, vec_capacity, IfOk, IfErr, OnErr};
+ghost use Rattle.std.specs.Option.{option_copied, option_map};
+ghost use Rattle.tree_model.specs.History.{Appends, IsHistoryOf, IsSameCommand};
+ghost use Rattle.tree_index.specs.Inserts.{RecordsInsert};
+
+use crate::index::TreeIndex;
+use crate::keys::{IndexKey, SameClone};
+use std::alloc::{AllocError, Global};
+use std::fmt;
+use std::marker::Model;
+use tree_model::{Command, InsertError, Record, Reply};
+
+/// An index with the history of its calls. Contracts see the list of its pairs and the history,
+/// and every `State` keeps that the history replays to that list: from the empty list, each reply
+/// is the one that the list gives, and none is `Refused`.
+#[derive(Drop)]
+pub struct State<K: IndexKey + SameClone, V: SameClone> {
+    index: TreeIndex<K, V>,
+    history: Vec<Record<K, V>>,
+}
+
+impl<K: IndexKey + SameClone, V: SameClone> Model for State<K, V> {
+    ghost use Rattle.tree_model.specs.History.{Log, IsHistoryOf};
+
+    ghost Value = { Log K V };
+
+    ghost view = { λ a. record { entries = a.index; history = a.history.items } };
+
+    ghost invariant = { λ a. IsHistoryOf K.cmp K.seen V.seen a.history.items a.index };
+}
+
+impl<K: IndexKey + SameClone, V: SameClone> State<K, V> {
+    /// The empty index, and no call. It takes no memory yet.
+    pub fn new(alloc: Global) -> Self
+        ensures entries { result.entries ≡ [] }
+        ensures history { result.history ≡ [] }
+    {
+        State {
+            index: TreeIndex::new(alloc),
+            history: Vec::new(alloc),
+        }
+    }
+
+    /// The index, to be read.
+    pub fn index(&self) -> &TreeIndex<K, V>
+        ensures { result.now ≡ self.now.entries }
+    {
+        &self.index
+    }
+
+    /// The calls that were answered, in order, each with its reply. Keys and values in it are
+    /// clones, seen the same as what was passed.
+    pub fn history(&self) -> &[Record<K, V>]
+        ensures calls { result.now ≡ self.now.history }
+        ensures replays { IsHistoryOf K.cmp K.seen V.seen self.now.history self.now.entries }
+    {
+        &self.history
+    }
+
+    /// Answers a command, and keeps a clone of it with its reply.
+    ///
+    /// The room for the record and its clones is taken first. An `Err` is for want of memory: it
+    /// hands the very command back, and index and history are as they were. A reply is never
+    /// `Refused`.
+    pub fn apply(&mut self, command: Command<K, V>) -> Result<Reply<V>, Command<K, V>>
+        ensures ok { IfOk result (Appends K.cmp K.seen V.seen self.old self.new command) }
+        ensures handed_back { IfErr result (λ back. back ≡ command) }
+        ensures err { OnErr result (self.new ≡ self.old) }
+    {
+        match command {
+            Command::Insert(key, value) => match self.insert(key, value) {
+                Ok(()) => Ok(Reply::Stored),
+                Err(InsertError::Duplicate(_, _)) => Ok(Reply::Duplicate),
+                Err(InsertError::OutOfMemory(key, value)) => Err(Command::Insert(key, value)),
+            },
+            Command::Peek(key) => self.look_up(key),
+        }
+    }
+
+    /// Does what `apply` does with an insert, and hands the pair back for a duplicate too.
+    ///
+    /// `OutOfMemory` left index and history as they were.
+    pub fn insert(&mut self, key: K, value: V) -> Result<(), InsertError<K, V>>
+        ensures { RecordsInsert K.cmp K.seen V.seen self.old self.new key value result }
+    {
+        if self.history.reserve(1).is_err() {
+            return Err(InsertError::OutOfMemory(key, value));
+        }
+        let Ok(command) = cloned_insert(&key, &value) else {
+            return Err(InsertError::OutOfMemory(key, value));
+        };
+        match self.index.insert_sync(key, value) {
+            Ok(()) => {
+                keep(&mut self.history, command, Reply::Stored);
+                Ok(())
+            }
+            Err(InsertError::Duplicate(key, value)) => {
+                keep(&mut self.history, command, Reply::Duplicate);
+                Err(InsertError::Duplicate(key, value))
+            }
+            Err(InsertError::OutOfMemory(key, value)) => Err(InsertError::OutOfMemory(key, value)),
+        }
+    }
+
+    // Answers a look-up, which goes into the history with a second clone of what it found.
+    fn look_up(&mut self, key: K) -> Result<Reply<V>, Command<K, V>>
+        ensures ok { IfOk result (Appends K.cmp K.seen V.seen self.old self.new (Command.Peek key)) }
+        ensures handed_back { IfErr result (λ back. back ≡ Command.Peek key) }
+        ensures err { OnErr result (self.new ≡ self.old) }
+    {
+        if self.history.reserve(1).is_err() {
+            return Err(Command::Peek(key));
+        }
+        let Ok((found, kept)) = two_clones(self.index.peek(&key)) else {
+            return Err(Command::Peek(key));
+        };
+        keep(&mut self.history, Command::Peek(key), Reply::Found(kept));
+        Ok(Reply::Found(found))
+    }
+}
+
+impl<K, V> fmt::Debug for State<K, V>
+where
+    K: IndexKey + SameClone + fmt::Debug,
+    V: SameClone + fmt::Debug,
+{
+    fn fmt<W: fmt::Write>(&self, f: &mut fmt::Formatter<W>) -> fmt::Result {
+        let history = self.history();
+        write!(f, "State {{ index: {:?}, history: {history:?} }}", self.index())
+    }
+}
+
+// Two clones of a value that may be there.
+fn two_clones<V: SameClone>(value: Option<&V>) -> Result<(Option<V>, Option<V>), AllocError>
+    ensures first { IfOk result (λ clones. option_map V.seen clones.0 ≡ option_map V.seen (option_copied value.entry)) }
+    ensures second { IfOk result (λ clones. option_map V.seen clones.1 ≡ option_map V.seen (option_copied value.entry)) }
+{
+    match value {
+        None => Ok((None, None)),
+        Some(value) => Ok((Some(value.clone()?), Some(value.clone()?))),
+    }
+}
+
+// A clone of an insert.
+fn cloned_insert<K: IndexKey + SameClone, V: SameClone>(
+    key: &K,
+    value: &V,
+) -> Result<Command<K, V>, AllocError>
+    ensures { IfOk result (IsSameCommand K.cmp K.seen V.seen (Command.Insert key.now value.now)) }
+{
+    Ok(Command::Insert(key.clone()?, value.clone()?))
+}
+
+// Adds a record, for which there is room.
+fn keep<K: Drop, V: Drop>(history: &mut Vec<Record<K, V>>, command: Command<K, V>, reply: Reply<V>)
+    requires { vec_len history.old < vec_capacity history.old }
+    ensures { history.new.items ≡ history.old.items ++ record { command = command; reply = reply } ∷ [] }
+{
+    history.push(Record { command, reply }).unwrap();
+}

@@ -1,0 +1,115 @@
+-- A history that an answered command is added to goes on replaying to the entries, and a history replays to one list.
+use Rattle.std.proofs.Common.{◌≡◌, List, [], ◌∷◌, ◌++◌, Option, Some, None, refl, sym, ap, ◌∙◌, subst, rules, Bool, true, false, cond}
+use Rattle.std.specs.Prelude.{filter, option_map, IsSome}
+use Rattle.std.specs.Cmp.{IsTotalOrder}
+use Rattle.std.specs.declared.cmp.Ordering.{Ordering}
+use Rattle.std.specs.declared.cmp.Ordering.TheVariants.{Equal}
+use Rattle.std.specs.Ordering.{is_lt, is_eq, is_gt}
+use Rattle.std.proofs.lemmas.Cmp.{alike_right, tied_itself}
+use Rattle.tree_model.specs.declared.commands.Command.{Command}
+use Rattle.tree_model.specs.declared.commands.Command.TheVariants.{Insert, Peek}
+use Rattle.tree_model.specs.declared.commands.Reply.{Reply}
+use Rattle.tree_model.specs.declared.commands.Reply.TheVariants.{Stored, Duplicate, Found, Refused}
+use Rattle.tree_model.specs.declared.commands.Record.{Record}
+use Rattle.tree_model.specs.Pairs.{below, pair_at, put}
+use Rattle.tree_model.specs.Runs.{Step}
+use Rattle.tree_model.specs.History.{IsAnswered, Replays, IsSameKey, IsSamePairs, IsSameCommand, IsSameReply, IsHistoryOf}
+
+-- one more record at the end
+Replays-push : {K V S : Type 0} (cmp : K → K → Ordering) (seen : V → S) (old : List (K × V)) (records : List (Record K V)) (mid new : List (K × V)) (r : Record K V) → Replays cmp seen old records mid → IsAnswered r.reply → Step cmp seen mid r.command r.reply new → Replays cmp seen old (records ++ r ∷ []) new
+Replays-push cmp seen old [] mid new r h answered step = (new, answered, subst (λ l. Step cmp seen l r.command r.reply new) h step, refl)
+Replays-push cmp seen old (x ∷ xs) mid new r h answered step = (h.0, h.1, h.2, Replays-push cmp seen h.0 xs mid new r h.3 answered step)
+
+-- of two options seen the same, both are there or neither
+both_none : {X Y S : Type 0} (f : X → S) (g : Y → S) (a : Option X) (b : Option Y) → option_map f a ≡ option_map g b → a ≡ None → b ≡ None
+both_none f g a None e n = refl
+both_none f g None (Some y) e n = cc
+both_none f g (Some x) (Some y) e n = cc
+
+both_some : {X Y S : Type 0} (f : X → S) (g : Y → S) (a : Option X) (b : Option Y) → option_map f a ≡ option_map g b → IsSome a → IsSome b
+both_some f g None b e n = cc
+both_some f g (Some x) None e n = cc
+both_some f g (Some x) (Some y) e n = search rules
+
+module _ {K V A B : Type 0} (cmp : K → K → Ordering) (seen_key : K → A) (seen : V → B) where
+  same-append : (a b c d : List (K × V)) → IsSamePairs cmp seen_key seen a b → IsSamePairs cmp seen_key seen c d → IsSamePairs cmp seen_key seen (a ++ c) (b ++ d)
+  same-append [] [] c d h t = t
+  same-append [] (q ∷ qs) c d h t = absurd h
+  same-append (p ∷ ps) [] c d h t = absurd h
+  same-append (p ∷ ps) (q ∷ qs) c d h t = (h.0, h.1, same-append ps qs c d h.2 t)
+
+module _ {K V A B : Type 0} {cmp : K → K → Ordering} (o : IsTotalOrder cmp) (seen_key : K → A) (seen : V → B) (key k : K) (same_key : IsSameKey cmp seen_key key k) where
+  -- clones of two keys compare as the keys do
+  same_cmp : (x y : K) → cmp x y ≡ Equal → cmp x key ≡ cmp y k
+  same_cmp x y e = o.congr x y key e ∙ alike_right o key k y same_key.equal
+
+  same-filter : (test : Ordering → Bool) (ps qs : List (K × V)) → IsSamePairs cmp seen_key seen ps qs → IsSamePairs cmp seen_key seen (filter (λ p. test (cmp p.0 key)) ps) (filter (λ q. test (cmp q.0 k)) qs)
+  same-filter test [] [] h = tt
+  same-filter test [] (q ∷ qs) h = absurd h
+  same-filter test (p ∷ ps) [] h = absurd h
+  same-filter test (p ∷ ps) (q ∷ qs) h =
+      let again = same-filter test ps qs h.2 in
+      rw (same_cmp p.0 q.0 h.0.equal) (elim (test (cmp q.0 k)) as (λ b. IsSamePairs cmp seen_key seen (cond b (p ∷ filter (λ p. test (cmp p.0 key)) ps) (filter (λ p. test (cmp p.0 key)) ps)) (cond b (q ∷ filter (λ q. test (cmp q.0 k)) qs) (filter (λ q. test (cmp q.0 k)) qs))) [ true ↦ (h.0, h.1, again) | false ↦ again ])
+
+  -- the same value is at the key
+  same_at : (ps qs : List (K × V)) → IsSamePairs cmp seen_key seen ps qs → option_map (λ p. seen p.1) (pair_at cmp ps key) ≡ option_map (λ q. seen q.1) (pair_at cmp qs k)
+  same_at [] [] h = refl
+  same_at [] (q ∷ qs) h = absurd h
+  same_at (p ∷ ps) [] h = absurd h
+  same_at (p ∷ ps) (q ∷ qs) h =
+      rw (same_cmp p.0 q.0 h.0.equal) (elim (is_eq (cmp q.0 k)) as (λ b. option_map (λ p. seen p.1) (cond b (Some p) (pair_at cmp ps key)) ≡ option_map (λ q. seen q.1) (cond b (Some q) (pair_at cmp qs k))) [ true ↦ ap Some h.1 | false ↦ same_at ps qs h.2 ])
+
+  same-put : (ps qs : List (K × V)) (value v : V) → seen value ≡ seen v → IsSamePairs cmp seen_key seen ps qs → IsSamePairs cmp seen_key seen (put cmp ps key value) (put cmp qs k v)
+  same-put ps qs value v e h = same-append cmp seen_key seen (below cmp ps key) (below cmp qs k) _ _ (same-filter is_lt ps qs h) (same_key, e, same-filter is_gt ps qs h)
+
+-- A step on the entries is the same step, of the clones, on what the history replays to.
+same_step : {K V A B : Type 0} {cmp : K → K → Ordering} (o : IsTotalOrder cmp) (seen_key : K → A) (seen : V → B) (old new l : List (K × V)) (command c : Command K V) (reply r : Reply V) → IsSamePairs cmp seen_key seen old l → IsSameCommand cmp seen_key seen command c → IsSameReply cmp seen_key seen reply r → Step cmp seen old command reply new → (m : List (K × V)) × Step cmp seen l c r m × IsSamePairs cmp seen_key seen new m
+same_step {cmp = cmp} o seen_key seen old new l (Insert key value) (Insert k v) Stored Stored h same e step =
+    (put cmp l k v, (both_none _ _ _ _ (same_at o seen_key seen key k same.0 old l h) step.0, refl), rw step.1 (same-put o seen_key seen key k same.0 old l value v same.1 h))
+same_step {cmp = cmp} o seen_key seen old new l (Insert key value) (Insert k v) Duplicate Duplicate h same e step =
+    (l, (both_some _ _ _ _ (same_at o seen_key seen key k same.0 old l h) step.0, refl), rw step.1 h)
+same_step {cmp = cmp} o seen_key seen old new l (Insert key value) (Insert k v) Refused Refused h same e step =
+    (l, (both_none _ _ _ _ (same_at o seen_key seen key k same.0 old l h) step.0, refl), rw step.1 h)
+same_step o seen_key seen old new l (Insert key value) (Insert k v) (Found f) r h same e step = absurd step
+same_step {cmp = cmp} o seen_key seen old new l (Peek key) (Peek k) (Found found) (Found f) h same e step =
+    (l, (sym e ∙ step.0 ∙ same_at o seen_key seen key k same old l h, refl), rw step.1 h)
+same_step {cmp = cmp} o seen_key seen old new l (Peek key) (Peek k) Refused Refused h same e step =
+    (l, (both_some _ _ _ _ (same_at o seen_key seen key k same old l h) step.0, refl), rw step.1 h)
+same_step o seen_key seen old new l (Peek key) (Peek k) Stored r h same e step = absurd step
+same_step o seen_key seen old new l (Peek key) (Peek k) Duplicate r h same e step = absurd step
+same_step o seen_key seen old new l (Insert key value) (Peek k) reply r h same e step = absurd same
+same_step o seen_key seen old new l (Peek key) (Insert k v) reply r h same e step = absurd same
+same_step o seen_key seen old new l command c reply r h same e step = absurd e
+
+-- the history with the record replays to the entries after the step
+pub history_grows : {K V A B : Type 0} {cmp : K → K → Ordering} (o : IsTotalOrder cmp) (seen_key : K → A) (seen : V → B) (history : List (Record K V)) (old new : List (K × V)) (command : Command K V) (reply : Reply V) (kept : Record K V) → IsHistoryOf cmp seen_key seen history old → Step cmp seen old command reply new → IsAnswered kept.reply → IsSameCommand cmp seen_key seen command kept.command → IsSameReply cmp seen_key seen reply kept.reply → IsHistoryOf cmp seen_key seen (history ++ kept ∷ []) new
+history_grows {cmp = cmp} o seen_key seen history old new command reply kept h step answered same_command same_reply =
+    let next = same_step o seen_key seen old new h.replayed command kept.command reply kept.reply h.same same_command same_reply step in
+    record { replayed = next.0; replays = Replays-push cmp seen [] history h.replayed next.0 kept h.replays answered next.1; same = next.2 }
+
+-- a key is itself
+pub same_key_itself : {K A : Type 0} {cmp : K → K → Ordering} (o : IsTotalOrder cmp) (seen_key : K → A) (key : K) → IsSameKey cmp seen_key key key
+same_key_itself o seen_key key = record { equal = tied_itself o key; alike = refl }
+
+-- what is seen of a pair's value
+pub seen_value : {K V B : Type 0} (seen : V → B) (found : Option (K × V)) → option_map seen (option_map (λ pair. pair.1) found) ≡ option_map (λ pair. seen pair.1) found
+seen_value seen None = refl
+seen_value seen (Some pair) = refl
+
+-- a command with its reply leaves one list
+one_step : {K V S : Type 0} (cmp : K → K → Ordering) (seen : V → S) (old l m : List (K × V)) (command : Command K V) (reply : Reply V) → Step cmp seen old command reply l → Step cmp seen old command reply m → l ≡ m
+one_step cmp seen old l m (Insert k v) Stored h i = h.1 ∙ sym i.1
+one_step cmp seen old l m (Insert k v) Duplicate h i = h.1 ∙ sym i.1
+one_step cmp seen old l m (Insert k v) Refused h i = h.1 ∙ sym i.1
+one_step cmp seen old l m (Insert k v) (Found found) h i = absurd h
+one_step cmp seen old l m (Peek k) (Found found) h i = h.1 ∙ sym i.1
+one_step cmp seen old l m (Peek k) Refused h i = h.1 ∙ sym i.1
+one_step cmp seen old l m (Peek k) Stored h i = absurd h
+one_step cmp seen old l m (Peek k) Duplicate h i = absurd h
+
+-- a history replays to one list
+pub one_replay : {K V S : Type 0} (cmp : K → K → Ordering) (seen : V → S) (old : List (K × V)) (history : List (Record K V)) (l m : List (K × V)) → Replays cmp seen old history l → Replays cmp seen old history m → l ≡ m
+one_replay cmp seen old [] l m h i = h ∙ sym i
+one_replay cmp seen old (r ∷ records) l m h i =
+    let first : h.0 ≡ i.0 = one_step cmp seen old h.0 i.0 r.command r.reply h.2 i.2 in
+    one_replay cmp seen i.0 records l m (subst (λ mid. Replays cmp seen mid records l) first h.3) i.3

@@ -1,0 +1,80 @@
+-- Facts on each element of a list, and what a filter or a search makes of a list whose elements all pass, or all fail.
+use Rattle.std.proofs.Common.{◌≡◌, Bool, true, false, cond, List, [], ◌∷◌, ◌++◌, filter, find, Option, Some, None, refl, ap}
+use Rattle.std.specs.List.{AllByRecursion}
+
+module _ {X : Type 0} where
+  -- Q of each element follows from P of it
+  pub all_map : {P Q : X → Type 0} → ((x : X) → P x → Q x) → (xs : List X) → AllByRecursion P xs → AllByRecursion Q xs
+  all_map f [] h = tt
+  all_map f (x ∷ xs) h = (f x h.0, all_map f xs h.1)
+
+  pub all-append : (P : X → Type 0) (xs ys : List X) → AllByRecursion P xs → AllByRecursion P ys → AllByRecursion P (xs ++ ys)
+  all-append P [] ys h k = k
+  all-append P (x ∷ xs) ys h k = (h.0, all-append P xs ys h.1 k)
+
+  -- what holds of each element holds of each that a filter keeps
+  pub all-filter : (P : X → Type 0) (test : X → Bool) (xs : List X) → AllByRecursion P xs → AllByRecursion P (filter test xs)
+  all-filter P test [] h = tt
+  all-filter P test (x ∷ xs) h = kept (test x) (all-filter P test xs h.1)
+    where
+      kept : (b : Bool) → AllByRecursion P (filter test xs) → AllByRecursion P (cond b (x ∷ filter test xs) (filter test xs))
+      kept true rest = (h.0, rest)
+      kept false rest = rest
+
+  -- each element that a filter keeps passes its test
+  pub all_passed : (P : X → Type 0) (test : X → Bool) → ((x : X) → test x ≡ true → P x) → (xs : List X) → AllByRecursion P (filter test xs)
+  all_passed P test f [] = tt
+  all_passed P test f (x ∷ xs) = kept (test x) (f x) (all_passed P test f xs)
+    where
+      kept : (b : Bool) → (b ≡ true → P x) → AllByRecursion P (filter test xs) → AllByRecursion P (cond b (x ∷ filter test xs) (filter test xs))
+      kept true passes rest = (passes refl, rest)
+      kept false passes rest = rest
+
+  pub filter_none : (test : X → Bool) (xs : List X) → AllByRecursion (λ x. test x ≡ false) xs → filter test xs ≡ []
+  filter_none test [] h = refl
+  filter_none test (x ∷ xs) h = rw h.0 (filter_none test xs h.1)
+
+  pub filter_all : (test : X → Bool) (xs : List X) → AllByRecursion (λ x. test x ≡ true) xs → filter test xs ≡ xs
+  filter_all test [] h = refl
+  filter_all test (x ∷ xs) h = rw h.0 (ap (λ rest. x ∷ rest) (filter_all test xs h.1))
+
+  -- two filters that say the same of each element
+  pub filter_same : (test other : X → Bool) → ((x : X) → test x ≡ other x) → (xs : List X) → filter test xs ≡ filter other xs
+  filter_same test other same [] = refl
+  filter_same test other same (x ∷ xs) = rw (same x) (ap (λ rest. cond (other x) (x ∷ rest) rest) (filter_same test other same xs))
+
+  pub find_none : (test : X → Bool) (xs : List X) → AllByRecursion (λ x. test x ≡ false) xs → find test xs ≡ None
+  find_none test [] h = refl
+  find_none test (x ∷ xs) h = rw h.0 (find_none test xs h.1)
+
+  pub find_after : (test : X → Bool) (xs ys : List X) → find test xs ≡ None → find test (xs ++ ys) ≡ find test ys
+  find_after test [] ys h = refl
+  find_after test (x ∷ xs) ys h = go (test x) (find_after test xs ys) h
+    where
+      go : (b : Bool) → (find test xs ≡ None → find test (xs ++ ys) ≡ find test ys) → cond b (Some x) (find test xs) ≡ None → cond b (Some x) (find test (xs ++ ys)) ≡ find test ys
+      go true again none = cc
+      go false again none = again none
+
+  pub find_before : (test : X → Bool) (xs ys : List X) → find test ys ≡ None → find test (xs ++ ys) ≡ find test xs
+  find_before test [] ys h = h
+  find_before test (x ∷ xs) ys h = elim (test x) as (λ b. cond b (Some x) (find test (xs ++ ys)) ≡ cond b (Some x) (find test xs)) [ true ↦ refl | false ↦ find_before test xs ys h ]
+
+  -- a filter that keeps whatever the search could find, and one that drops it
+  pub find_kept : (test keeps : X → Bool) → ((x : X) → test x ≡ true → keeps x ≡ true) → (xs : List X) → find test (filter keeps xs) ≡ find test xs
+  find_kept test keeps f [] = refl
+  find_kept test keeps f (x ∷ xs) = go (keeps x) refl (test x) refl (find_kept test keeps f xs)
+    where
+      go : (k : Bool) → keeps x ≡ k → (t : Bool) → test x ≡ t → find test (filter keeps xs) ≡ find test xs → find test (cond k (x ∷ filter keeps xs) (filter keeps xs)) ≡ cond t (Some x) (find test xs)
+      go true k true t again = rw t refl
+      go true k false t again = rw t again
+      go false k true t again = absurd (let passes = f x t in cc)
+      go false k false t again = again
+
+  pub find_dropped : (test keeps : X → Bool) → ((x : X) → test x ≡ true → keeps x ≡ false) → (xs : List X) → find test (filter keeps xs) ≡ None
+  find_dropped test keeps f [] = refl
+  find_dropped test keeps f (x ∷ xs) = go (keeps x) refl (test x) refl (find_dropped test keeps f xs)
+    where
+      go : (k : Bool) → keeps x ≡ k → (t : Bool) → test x ≡ t → find test (filter keeps xs) ≡ None → find test (cond k (x ∷ filter keeps xs) (filter keeps xs)) ≡ None
+      go true k true t again = absurd (let drops = f x t in cc)
+      go true k false t again = rw t again
+      go false k t e again = again

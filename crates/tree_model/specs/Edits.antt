@@ -1,0 +1,18 @@
+-- What each edit of a list of pairs answers and leaves, by cases on its answer.
+use Rattle.std.specs.Prelude.{◌≡◌, List, Result, Ok, Err}
+use Rattle.std.specs.declared.cmp.Ordering.{Ordering}
+use Rattle.tree_model.specs.declared.commands.InsertError.{InsertError}
+use Rattle.tree_model.specs.declared.commands.InsertError.TheVariants.{Duplicate, OutOfMemory}
+use Rattle.tree_model.specs.Pairs.{IsPresent, IsAbsent, put}
+
+module _ {K V : Type 0} (cmp : K → K → Ordering) where
+  -- The pair is stored, where its key was absent. Or it comes back and nothing changed: as a duplicate where its key is present, for want of memory where it is absent.
+  abbrev pub Inserts : {T : Type 0} → List (K × V) → K → V → Result T (InsertError K V) → List (K × V) → Type 0
+  Inserts old k v (Ok _) new = IsAbsent cmp old k × (new ≡ put cmp old k v)
+  Inserts old k v (Err (Duplicate key value)) new = IsPresent cmp old k × (key ≡ k) × (value ≡ v) × (new ≡ old)
+  Inserts old k v (Err (OutOfMemory key value)) new = IsAbsent cmp old k × (key ≡ k) × (value ≡ v) × (new ≡ old)
+
+  -- The pair is stored, in place of one whose key equals its own. Or memory was refused where its key is absent: it comes back and nothing changed.
+  abbrev pub Upserts : {T : Type 0} → List (K × V) → K → V → Result T (K × V) → List (K × V) → Type 0
+  Upserts old k v (Ok _) new = new ≡ put cmp old k v
+  Upserts old k v (Err pair) new = IsAbsent cmp old k × (pair ≡ (k, v)) × (new ≡ old)

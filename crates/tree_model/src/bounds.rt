@@ -1,0 +1,37 @@
+//! Two bounds on keys.
+ghost use Rattle.std.specs.Prelude.{◌≡◌};
+ghost use Rattle.std.specs.Range.Bound.{bound_map};
+ghost use Rattle.tree_model.specs.Pairs.{meets_lower, meets_upper, within};
+
+use std::ops::Bound;
+
+/// Whether a key is within both bounds, each by itself: reversed bounds contain no key.
+///
+/// It compares at most twice.
+pub fn range_contains<K: Ord>(bounds: (Bound<&K>, Bound<&K>), key: &K) -> bool
+    ensures { result ≡ within K.cmp (bound_map (λ k. k.now) bounds.entry.0) (bound_map (λ k. k.now) bounds.entry.1) key.now }
+{
+    is_above(bounds.0, key) && is_below(bounds.1, key)
+}
+
+/// Whether a key meets a lower bound.
+pub fn is_above<K: Ord>(low: Bound<&K>, key: &K) -> bool
+    ensures { result ≡ meets_lower K.cmp (bound_map (λ k. k.now) low.entry) key.now }
+{
+    match low {
+        Bound::Included(low) => low.cmp(key).is_le(),
+        Bound::Excluded(low) => low.cmp(key).is_lt(),
+        Bound::Unbounded => true,
+    }
+}
+
+/// Whether a key meets an upper bound.
+pub fn is_below<K: Ord>(high: Bound<&K>, key: &K) -> bool
+    ensures { result ≡ meets_upper K.cmp (bound_map (λ k. k.now) high.entry) key.now }
+{
+    match high {
+        Bound::Included(high) => key.cmp(high).is_le(),
+        Bound::Excluded(high) => key.cmp(high).is_lt(),
+        Bound::Unbounded => true,
+    }
+}

@@ -1,0 +1,165 @@
+//! The plain program: an index over one ascending vector, against which others are compared.
+ghost use Rattle.std.specs.Prelude.{◌≡◌, ◌≤◌, ◌↔◌, IsTrue, List, [], length, IfOk, IfErr};
+ghost use Rattle.std.specs.Option.{option_copied, option_map};
+ghost use Rattle.std.specs.Range.Bound.{bound_map};
+ghost use Rattle.tree_model.specs.Pairs.{IsAscending, IsPresent, pair_at, without, cut};
+ghost use Rattle.tree_model.specs.Edits.{Inserts, Upserts};
+ghost use Rattle.tree_model.specs.Places.{IsPlace, IsGap};
+
+use crate::bounds::range_contains;
+use crate::commands::InsertError;
+use std::alloc::Global;
+use std::marker::Model;
+use std::ops::Bound;
+
+/// An ordered index over one ascending vector of pairs. Contracts see the list of its pairs.
+///
+/// A look-up compares at most about log2 of the length; an edit moves the pairs behind its place.
+#[derive(Drop)]
+pub struct PlainIndex<K: Ord + Drop, V: Drop> {
+    pairs: Vec<(K, V)>,
+}
+
+impl<K: Ord + Drop, V: Drop> Model for PlainIndex<K, V> {
+    ghost use Rattle.std.specs.Prelude.{List};
+    ghost use Rattle.tree_model.specs.Pairs.{IsAscending};
+
+    ghost Value = { List (K × V) };
+
+    ghost view = { λ a. a.pairs.items };
+
+    ghost invariant = { λ a. IsAscending K.cmp a.pairs.items };
+}
+
+impl<K: Ord + Drop, V: Drop> PlainIndex<K, V> {
+    /// The empty index. It takes no memory yet.
+    pub fn new(alloc: Global) -> Self
+        ensures { result ≡ [] }
+    {
+        PlainIndex {
+            pairs: Vec::new(alloc),
+        }
+    }
+
+    /// Stores a pair whose key is absent.
+    ///
+    /// A duplicate comes back with its pair, and so does a pair for which memory is refused; either leaves the index as it was.
+    pub fn insert(&mut self, key: K, value: V) -> Result<(), InsertError<K, V>>
+        ensures { Inserts K.cmp self.old key value result self.new }
+    {
+        match self.place_of(&key) {
+            Ok(_) => Err(InsertError::Duplicate(key, value)),
+            Err(place) => match self.fill(place, key, value) {
+                Ok(()) => Ok(()),
+                Err((key, value)) => Err(InsertError::OutOfMemory(key, value)),
+            },
+        }
+    }
+
+    /// The pair whose key equals `key`.
+    pub fn peek_entry(&self, key: &K) -> Option<&(K, V)>
+        ensures { option_copied result ≡ pair_at K.cmp self.now key.now }
+    {
+        match self.place_of(key) {
+            Ok(place) => Some(&self.pairs[place]),
+            Err(_) => None,
+        }
+    }
+
+    /// The value at a key.
+    pub fn peek(&self, key: &K) -> Option<&V>
+        ensures found { option_copied result ≡ option_map (λ pair. pair.1) (pair_at K.cmp self.now key.now) }
+        ensures ascending { IsAscending K.cmp self.now }
+    {
+        match self.place_of(key) {
+            Ok(place) => Some(&self.pairs[place].1),
+            Err(_) => None,
+        }
+    }
+
+    /// All pairs, in ascending order.
+    pub fn pairs(&self) -> &[(K, V)]
+        ensures all { result.now ≡ self.now }
+        ensures ascending { IsAscending K.cmp self.now }
+    {
+        &self.pairs
+    }
+
+    /// Stores a pair, in place of one whose key equals its own: the stored key is the new one too.
+    ///
+    /// Only memory for an absent key can be refused: the pair comes back, and the index is as it was.
+    pub fn upsert(&mut self, key: K, value: V) -> Result<(), (K, V)>
+        ensures { Upserts K.cmp self.old key value result self.new }
+    {
+        match self.place_of(&key) {
+            Ok(place) => {
+                self.pairs[place] = (key, value);
+                Ok(())
+            }
+            Err(place) => self.fill(place, key, value),
+        }
+    }
+
+    // Stores a pair in the gap that a search found for its key.
+    fn fill(&mut self, place: usize, key: K, value: V) -> Result<(), (K, V)>
+        requires gap { IsGap K.cmp self.old key place }
+        requires few { place ≤ length self.old }
+        ensures { Upserts K.cmp self.old key value result self.new }
+    {
+        if let Err(refused) = self.pairs.insert(place, (key, value)) {
+            return Err(refused.value);
+        }
+        Ok(())
+    }
+
+    /// Removes the pair at a key, and says whether there was one.
+    pub fn remove(&mut self, key: &K) -> bool
+        ensures answer { IsTrue result ↔ IsPresent K.cmp self.old key.now }
+        ensures left { self.new ≡ without K.cmp self.old key.now }
+    {
+        match self.place_of(key) {
+            Ok(place) => {
+                let _ = self.pairs.remove(place);
+                true
+            }
+            Err(_) => false,
+        }
+    }
+
+    /// Removes each pair whose key is within both bounds.
+    pub fn remove_range(&mut self, bounds: (Bound<&K>, Bound<&K>))
+        ensures { self.new ≡ cut K.cmp self.old (bound_map (λ k. k.now) bounds.entry.0) (bound_map (λ k. k.now) bounds.entry.1) }
+    {
+        self.pairs.retain(|pair| !range_contains(bounds, &pair.0));
+    }
+
+    /// Removes all pairs.
+    pub fn clear(&mut self)
+        ensures { self.new ≡ [] }
+    {
+        self.pairs.clear();
+    }
+
+    /// How many pairs there are.
+    pub fn len(&self) -> usize
+        ensures { result ≡ length self.now }
+    {
+        self.pairs.len()
+    }
+
+    /// Whether there is no pair.
+    pub fn is_empty(&self) -> bool
+        ensures { IsTrue result ↔ (self.now ≡ []) }
+    {
+        self.pairs.is_empty()
+    }
+
+    // Where the key is, or before which place it would go.
+    fn place_of(&self, key: &K) -> Result<usize, usize>
+        ensures found { IfOk result (IsPlace K.cmp self.now key.now) }
+        ensures gap { IfErr result (IsGap K.cmp self.now key.now) }
+        ensures few { IfErr result (λ place. place ≤ length self.now) }
+    {
+        self.pairs.binary_search_by(|pair| pair.0.cmp(key))
+    }
+}
