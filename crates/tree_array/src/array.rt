@@ -13,12 +13,11 @@ use std::marker::Model;
 
 mod division;
 mod insertion;
-mod range;
 mod removal;
 mod searches;
 mod walk;
 
-pub use range::range_contains;
+pub use tree_model::range_contains;
 pub use walk::{ArrayIter, ArrayIterOf, ArrayRevIter, ArrayRevIterOf};
 
 /// The word of a retired array, which holds no rank.

@@ -7,11 +7,11 @@ ghost use Rattle.tree_array.specs.Arrivals.{arrival, removed, with_val, without_
 ghost use Rattle.tree_array.specs.Removal.{IsRemoval, removal_of};
 ghost use Rattle.tree_model.specs.Pairs.{IsAbsent, pair_at};
 
-use super::range::range_contains;
 use super::{ArrayOf, RETIRED, RemoveResult};
 use crate::ranks::{made, rank_dropped};
 use crate::search::{Place, find_key};
 use std::ops::Bound;
+use tree_model::range_contains;
 
 impl<K: Ord + Drop, V: Drop, const LEN: usize> ArrayOf<K, V, LEN> {
     /// Takes the pair of a slot, which is then spent. It answers `Retired` with the last pair, and else
