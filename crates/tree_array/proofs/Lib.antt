@@ -1,4 +1,9 @@
 pub mod Bitmap
+pub mod Orders
+pub mod Picks
+pub mod RankOrder
+pub mod Rises
 pub mod Scan
+pub mod Searching
 pub mod Slots
 pub mod Word

@@ -4,7 +4,8 @@ ghost use Rattle.tree_array.specs.Arrivals.{slots_in_order};
 ghost use Rattle.tree_array.specs.Walk.{StepsBack, StepsOn, left_back, left_on, standing};
 
 use super::ArrayOf;
-use crate::ranks::{made, next_above, rank};
+use crate::order::in_rank_order;
+use crate::ranks::made;
 use std::alloc::AllocError;
 use std::marker::Model;
 
@@ -56,15 +57,7 @@ impl<const LEN: usize> ArrayIterOf<LEN> {
     pub fn new<K: Ord + Drop, V: Drop>(array: &ArrayOf<K, V, LEN>) -> Self
         ensures { result ≡ standing (slots_in_order K.cmp array.now) None }
     {
-        let made = made(array.bitmap);
-        let mut order = [0; LEN];
-        let mut count = 0;
-        let mut low = 0;
-        while let Some(slot) = next_above::<LEN>(array.ranks, made, low) {
-            order[count as usize] = slot;
-            count += 1;
-            low = rank::<LEN>(array.ranks, slot);
-        }
+        let (order, count) = in_rank_order(array.ranks, made(array.bitmap));
         ArrayIterOf {
             order,
             count,
