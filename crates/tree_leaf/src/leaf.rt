@@ -1,0 +1,66 @@
+//! Leaves, each an array with the numbers of the leaves beside it.
+ghost use Rattle.std.specs.Prelude.{◌≡◌, [], None};
+ghost use Rattle.std.specs.Borrow.{sem};
+ghost use Rattle.tree_array.specs.Arrivals.{in_order};
+ghost use Rattle.tree_array.specs.Length.{IsLen};
+
+use crate::arena::LeafId;
+use tree_array::array::ArrayOf;
+
+/// A leaf: an array of `LEN` slots, 7 or 15, and the numbers of the leaves before and after it.
+#[derive(Drop)]
+pub struct LeafOf<K: Ord, V, const LEN: usize> {
+    array: ArrayOf<K, V, LEN>,
+    prev: Option<LeafId>,
+    next: Option<LeafId>,
+}
+
+/// The leaf of fifteen slots.
+pub type Leaf<K, V> = LeafOf<K, V, 15>;
+
+impl<K: Ord + Drop, V: Drop, const LEN: usize> LeafOf<K, V, LEN> {
+    ghost use Rattle.tree_leaf.specs.Lending.{lends_array};
+
+    /// A leaf with a new array, and no leaf beside it. Caller's condition: `LEN` is 7 or 15.
+    pub fn new() -> Self
+        requires { IsLen LEN }
+        ensures array { result.array ≡ in_order [] }
+        ensures prev { result.prev ≡ None }
+        ensures next { result.next ≡ None }
+    {
+        LeafOf {
+            array: ArrayOf::new(),
+            prev: None,
+            next: None,
+        }
+    }
+
+    /// The array.
+    pub fn array(&self) -> &ArrayOf<K, V, LEN>
+        ensures { result.now ≡ self.now.array }
+    {
+        &self.array
+    }
+
+    /// The array, to be written.
+    pub fn array_mut(&mut self) -> &mut ArrayOf<K, V, LEN>
+        ensures* lends { sem 𝓛 (lends_array K.row V.row V.row LEN.row K.cmp K.eq K.partial_cmp self.entry result) }
+        ensures value { result.now ≡ self.old.array }
+    {
+        &mut self.array
+    }
+
+    /// The number of the leaf before this one, if there is one.
+    pub fn prev(&self) -> Option<LeafId>
+        ensures { result ≡ self.now.prev }
+    {
+        self.prev
+    }
+
+    /// The number of the leaf after this one, if there is one.
+    pub fn next(&self) -> Option<LeafId>
+        ensures { result ≡ self.now.next }
+    {
+        self.next
+    }
+}
