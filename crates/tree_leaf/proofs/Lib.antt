@@ -1,1 +1,5 @@
+pub mod Additions
+pub mod Chains
+pub mod Counts
 pub mod Rooms
+pub mod Splices

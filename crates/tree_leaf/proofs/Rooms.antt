@@ -1,8 +1,11 @@
 -- What is kept in an arena, and the room that is left in it.
-use Rattle.std.proofs.Common.{◌≡◌, ℕ, ◌+◌, ◌≤◌, Result, Ok, Err, IsOk, OnOk, Some, None, ap, refl, arith}
-use Rattle.slab.specs.Slab.{Slab, get, slab_len, HasRoomFor, Updates}
+use Rattle.std.proofs.Common.{◌≡◌, ℕ, ◌+◌, ◌≤◌, Result, Ok, Err, IsOk, OnOk, Option, Some, None, is_some, cond, ap, refl, ◌∙◌, arith}
+use Rattle.std.proofs.lemmas.List.Sums.{sum_by-set}
+use Rattle.slab.specs.Slab.{Slab, get, ContainsKey, slab_len, HasRoomFor, Updates, with_value}
+use Rattle.slab.proofs.SlabLemmas.{ContainsKey-within}
 use Rattle.tree_leaf.specs.declared.arena.SlotsOf.{SlotsOf}
 use Rattle.tree_leaf.specs.Arena.{Keeps, Loses, KeepsBoth, HasPlaces, Reserves}
+use Rattle.tree_leaf.specs.Links.{SameRoom}
 
 module _ {T : Type 0} where
   -- an arena that has changed at most in how much fits, which is no less
@@ -25,3 +28,17 @@ module _ {K V N : Type 0} {LEN : ℕ} where
   pub reserved : {A E : Type 0} (old new : SlotsOf K V N LEN) (more_leaves more_nodes : ℕ) (result : Result A E) → KeepsBoth old new → HasRoomFor new.leaves more_leaves → OnOk result (HasRoomFor new.nodes more_nodes) → (HasRoomFor old.nodes more_nodes → IsOk result) → Reserves old new more_leaves more_nodes result
   reserved old new more_leaves more_nodes (Ok x) kept leaves nodes succeeds = (kept, record { leaves = leaves; nodes = nodes })
   reserved old new more_leaves more_nodes (Err e) kept leaves nodes succeeds = (kept, λ had. let ok = succeeds had.nodes in (cc))
+
+module _ {T : Type 0} where
+  -- a value that takes the place of another takes no room
+  pub rewritten : (arena : Slab T) (id : ℕ) (value : T) → ContainsKey arena id → SameRoom arena (with_value arena id value)
+  rewritten arena id value used =
+      let set_there = sum_by-set (λ (slot : Option T). cond (is_some slot) 1 0) arena.slots id (Some value) None (ContainsKey-within arena id used) in
+      let was : cond {A = ℕ} (is_some (get arena id)) 1 0 ≡ 1 = rw used refl in
+      record { counted = omega (arith, set_there, was); capacity = refl }
+
+  pub same_room_trans : (a b c : Slab T) → SameRoom a b → SameRoom b c → SameRoom a c
+  same_room_trans a b c first second = record { counted = second.counted ∙ first.counted; capacity = second.capacity ∙ first.capacity }
+
+  pub same_room_refl : (a : Slab T) → SameRoom a a
+  same_room_refl a = record { counted = refl; capacity = refl }

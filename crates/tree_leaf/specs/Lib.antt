@@ -1,2 +1,5 @@
 pub mod Arena
+pub mod Chain
+pub mod Counting
 pub mod Lending
+pub mod Links

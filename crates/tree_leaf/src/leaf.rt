@@ -7,6 +7,10 @@ ghost use Rattle.tree_array.specs.Length.{IsLen};
 use crate::arena::LeafId;
 use tree_array::array::ArrayOf;
 
+mod links;
+
+pub use links::{add_before, splice_link, unlink};
+
 /// A leaf: an array of `LEN` slots, 7 or 15, and the numbers of the leaves before and after it.
 #[derive(Drop)]
 pub struct LeafOf<K: Ord, V, const LEN: usize> {

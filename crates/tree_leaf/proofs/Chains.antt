@@ -1,0 +1,89 @@
+-- Chains of linked leaves: their parts, and which leaves stand beside one.
+use Rattle.std.proofs.Common.{◌≡◌, ℕ, ◌+◌, ◌≤◌, List, [], ◌∷◌, ◌++◌, Option, Some, None, IsSome, is_some, refl, sym, ◌∙◌, arith}
+use Rattle.slab.specs.Slab.{Slab, get}
+use Rattle.tree_leaf.specs.declared.leaf.LeafOf.{LeafOf}
+use Rattle.tree_leaf.specs.Counting.{times, uses}
+use Rattle.tree_leaf.specs.Chain.{first_or, last_or, IsBetween, AreLinked, IsChain, SameArray}
+use Rattle.tree_leaf.proofs.Counts.{times-append, times-cons, one_here, in_use, uses_same}
+
+pub first_or-append : (xs ys : List ℕ) (after : Option ℕ) → first_or (xs ++ ys) after ≡ first_or xs (first_or ys after)
+first_or-append [] ys after = refl
+first_or-append (x ∷ xs) ys after = refl
+
+-- the last number of a list that isn't empty stands in it, and so does the first
+pub last_within : (y : ℕ) (rest : List ℕ) (n : ℕ) → last_or (Some y) rest ≡ Some n → 1 ≤ times n (y ∷ rest)
+last_within y [] n is = let same : n ≡ y = cc in omega (arith, times-cons n y [], one_here n y same)
+last_within y (z ∷ rest) n is = omega (arith, times-cons n y (z ∷ rest), last_within z rest n is)
+
+pub last_inside : (xs : List ℕ) (n : ℕ) → last_or None xs ≡ Some n → 1 ≤ times n xs
+last_inside [] n is = absurd (cc)
+last_inside (y ∷ rest) n is = last_within y rest n is
+
+pub first_inside : (ys : List ℕ) (n : ℕ) → first_or ys None ≡ Some n → 1 ≤ times n ys
+first_inside [] n is = absurd (cc)
+first_inside (y ∷ rest) n is = let same : n ≡ y = cc in omega (arith, times-cons n y rest, one_here n y same)
+
+module _ {K V : Type 0} {LEN : ℕ} where
+  -- the links of leaves in two lists, one behind the other, are those of each
+  module _ (leaves : Slab (LeafOf K V LEN)) where
+    pub linked_left : (before : Option ℕ) (xs ys : List ℕ) (after : Option ℕ) → AreLinked leaves before (xs ++ ys) after → AreLinked leaves before xs (first_or ys after)
+    linked_left before [] ys after linked = tt
+    linked_left before (x ∷ xs) ys after linked = (rw (first_or-append xs ys after) at linked.0, linked_left (Some x) xs ys after linked.1)
+
+    pub linked_right : (before : Option ℕ) (xs ys : List ℕ) (after : Option ℕ) → AreLinked leaves before (xs ++ ys) after → AreLinked leaves (last_or before xs) ys after
+    linked_right before [] ys after linked = linked
+    linked_right before (x ∷ xs) ys after linked = linked_right (Some x) xs ys after linked.1
+
+    pub linked_join : (before : Option ℕ) (xs ys : List ℕ) (after : Option ℕ) → AreLinked leaves before xs (first_or ys after) → AreLinked leaves (last_or before xs) ys after → AreLinked leaves before (xs ++ ys) after
+    linked_join before [] ys after left right = right
+    linked_join before (x ∷ xs) ys after left right = (rw (first_or-append xs ys after) left.0, linked_join (Some x) xs ys after left.1 right)
+
+  -- leaves that stay are linked as they were
+  pub linked_kept : (old new : Slab (LeafOf K V LEN)) (before : Option ℕ) (xs : List ℕ) (after : Option ℕ) → ((n : ℕ) → 1 ≤ times n xs → get new n ≡ get old n) → AreLinked old before xs after → AreLinked new before xs after
+  linked_kept old new before [] after same linked = tt
+  linked_kept old new before (x ∷ xs) after same linked = (
+    rw (same x (omega (arith, times-cons x x xs, one_here x x refl))) linked.0,
+    linked_kept old new (Some x) xs after (λ n inside. same n (omega (arith, times-cons n x xs))) linked.1,
+  )
+
+  -- a leaf with the same array is in use alike
+  pub same_array_uses : (old new : Slab (LeafOf K V LEN)) (n : ℕ) → SameArray (get old n) (get new n) → uses new n ≡ uses old n
+  same_array_uses old new n same = uses_same old new n (by_slot (get old n) same)
+    where
+      by_slot : (slot : Option (LeafOf K V LEN)) → SameArray slot (get new n) → is_some (get new n) ≡ is_some slot
+      by_slot None h = rw h refl
+      by_slot (Some leaf) h = rw h.1 refl
+
+  pub same_array_refl : (slot : Option (LeafOf K V LEN)) → SameArray slot slot
+  same_array_refl None = refl
+  same_array_refl (Some leaf) = (leaf, refl, refl)
+
+  pub same_array_trans : (a b c : Option (LeafOf K V LEN)) → SameArray a b → SameArray b c → SameArray a c
+  same_array_trans None b c first second = rw first at second
+  same_array_trans (Some leaf) b c first second = let next = rw first.1 at second in (next.0, next.1, next.2 ∙ first.2)
+
+  pub same_array_used : (old new : Option (LeafOf K V LEN)) → SameArray old new → IsSome old → IsSome new
+  same_array_used None new same used = absurd (cc)
+  same_array_used (Some leaf) new same used = rw same.1 refl
+
+  module _ (leaves : Slab (LeafOf K V LEN)) (front : List ℕ) (id : ℕ) (back : List ℕ) (chain : IsChain leaves (front ++ id ∷ back)) where
+    -- a number of a chain stands in it once, and is in use
+    pub counted : (n : ℕ) → times n front + times n (id ∷ back) ≤ uses leaves n
+    counted n = omega (arith, chain.once n, times-append n front (id ∷ back))
+
+    pub chain_used : IsSome (get leaves id)
+    chain_used = in_use leaves id (omega (arith, counted id, times-cons id id back, one_here id id refl))
+
+    -- the leaves beside it are those that its links name, and they are in use
+    module _ (leaf : LeafOf K V LEN) (here : get leaves id ≡ Some leaf) where
+      pub neighbours : (last_or None front ≡ leaf.prev) × (first_or back None ≡ leaf.next)
+      neighbours =
+          let between = (linked_right leaves None front (id ∷ back) None chain.linked).0 in
+          let links = rw here at between in
+          (sym links.0, sym links.1)
+
+      pub prev_used : (n : ℕ) → leaf.prev ≡ Some n → IsSome (get leaves n)
+      prev_used n is = in_use leaves n (omega (arith, counted n, last_inside front n (neighbours.0 ∙ is)))
+
+      pub next_used : (n : ℕ) → leaf.next ≡ Some n → IsSome (get leaves n)
+      next_used n is = in_use leaves n (omega (arith, counted n, times-cons n id back, first_inside back n (neighbours.1 ∙ is)))
