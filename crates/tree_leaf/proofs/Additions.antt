@@ -1,15 +1,15 @@
 -- A new leaf that comes into a chain before another one: it is added, then spliced to the leaf before and to the one behind.
-use Rattle.std.proofs.Common.{◌≡◌, ◌≢◌, ℕ, ◌+◌, ◌≤◌, ◌==◌, cond, List, [], ◌∷◌, ◌++◌, Option, Some, None, IsSome, refl, sym, ◌∙◌, arith, inl, inr}
+use Rattle.std.proofs.Common.{◌≡◌, ◌≢◌, ℕ, ◌+◌, ◌≤◌, ◌==◌, cond, List, ◌∷◌, ◌++◌, Some, None, IsSome, refl, sym, ◌∙◌, arith, inl, inr}
 use Rattle.std.proofs.lemmas.Bool.{cases_eq}
-use Rattle.slab.specs.Slab.{Slab, get, HasRoomFor}
+use Rattle.slab.specs.Slab.{Slab, get}
 use Rattle.tree_leaf.specs.declared.leaf.LeafOf.{LeafOf}
 use Rattle.tree_leaf.specs.declared.arena.SlotsOf.{SlotsOf}
 use Rattle.tree_leaf.specs.Counting.{times, uses}
-use Rattle.tree_leaf.specs.Chain.{first_or, last_or, AreLinked, IsChain, SameArray}
+use Rattle.tree_leaf.specs.Chain.{last_or, AreLinked, IsChain, SameArray}
 use Rattle.tree_leaf.specs.Arena.{Gains}
 use Rattle.tree_leaf.specs.Links.{Splices, GainsBefore}
 use Rattle.tree_leaf.proofs.Counts.{times-append, times-cons, one_here, none_here, uses_le_one, uses_some, uses_none, in_use}
-use Rattle.tree_leaf.proofs.Chains.{last_inside, linked_left, linked_right, linked_join, linked_kept, same_array_uses, same_array_trans, same_array_used, neighbours, counted}
+use Rattle.tree_leaf.proofs.Chains.{last_inside, linked_left, linked_right, linked_join, linked_kept, same_array_uses, same_array_trans, neighbours, counted}
 use Rattle.tree_leaf.proofs.Splices.{untouched_leaf, front_spliced, back_spliced}
 
 module _ {T : Type 0} (old new : Slab T) (id : ℕ) (value : T) (gains : Gains old new id value) where

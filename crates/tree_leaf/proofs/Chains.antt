@@ -3,7 +3,7 @@ use Rattle.std.proofs.Common.{◌≡◌, ℕ, ◌+◌, ◌≤◌, List, [], ◌�
 use Rattle.slab.specs.Slab.{Slab, get}
 use Rattle.tree_leaf.specs.declared.leaf.LeafOf.{LeafOf}
 use Rattle.tree_leaf.specs.Counting.{times, uses}
-use Rattle.tree_leaf.specs.Chain.{first_or, last_or, IsBetween, AreLinked, IsChain, SameArray}
+use Rattle.tree_leaf.specs.Chain.{first_or, last_or, AreLinked, IsChain, SameArray}
 use Rattle.tree_leaf.proofs.Counts.{times-append, times-cons, one_here, in_use, uses_same}
 
 pub first_or-append : (xs ys : List ℕ) (after : Option ℕ) → first_or (xs ++ ys) after ≡ first_or xs (first_or ys after)

@@ -1,5 +1,9 @@
 pub mod Additions
 pub mod Chains
 pub mod Counts
+pub mod Jumps
+pub mod Pigeonhole
 pub mod Rooms
 pub mod Splices
+pub mod Steps
+pub mod Ways

@@ -4,7 +4,7 @@ use Rattle.std.proofs.lemmas.List.Sums.{sum_by-set}
 use Rattle.slab.specs.Slab.{Slab, get, ContainsKey, slab_len, HasRoomFor, Updates, with_value}
 use Rattle.slab.proofs.SlabLemmas.{ContainsKey-within}
 use Rattle.tree_leaf.specs.declared.arena.SlotsOf.{SlotsOf}
-use Rattle.tree_leaf.specs.Arena.{Keeps, Loses, KeepsBoth, HasPlaces, Reserves}
+use Rattle.tree_leaf.specs.Arena.{Keeps, Loses, KeepsBoth, Reserves}
 use Rattle.tree_leaf.specs.Links.{SameRoom}
 
 module _ {T : Type 0} where

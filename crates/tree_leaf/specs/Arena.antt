@@ -1,5 +1,5 @@
 -- What the calls of the arenas answer and leave. Each arena is a slab: `get` is what stands under a number, and `HasRoomFor` says that so many more fit without memory.
-use Rattle.std.specs.Prelude.{◌≡◌, ℕ, ◌+◌, ◌≤◌, Result, Ok, Err, Option, Some, None, [], List}
+use Rattle.std.specs.Prelude.{◌≡◌, ℕ, ◌+◌, Result, Ok, Err, Some, None, []}
 use Rattle.slab.specs.Slab.{Slab, get, slab_len, HasRoomFor, Updates}
 use Rattle.tree_leaf.specs.declared.arena.SlotsOf.{SlotsOf}
 

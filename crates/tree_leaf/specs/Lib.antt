@@ -1,5 +1,8 @@
 pub mod Arena
 pub mod Chain
 pub mod Counting
+pub mod Entries
 pub mod Lending
 pub mod Links
+pub mod Walks
+pub mod Ways

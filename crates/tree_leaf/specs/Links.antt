@@ -1,5 +1,5 @@
 -- What the calls on links leave. Each is stated over every context: whatever chain ran through the leaf runs as it says.
-use Rattle.std.specs.Prelude.{◌≡◌, ◌≢◌, ℕ, ◌+◌, List, ◌∷◌, ◌++◌, Option, Some, None, IsSome, Result, Ok, Err}
+use Rattle.std.specs.Prelude.{◌≡◌, ◌≢◌, ℕ, ◌+◌, List, ◌∷◌, ◌++◌, Option, Some, None, Result, Ok, Err}
 use Rattle.slab.specs.Slab.{Slab, get, slab_len, HasRoomFor}
 use Rattle.tree_leaf.specs.declared.leaf.LeafOf.{LeafOf}
 use Rattle.tree_leaf.specs.declared.arena.SlotsOf.{SlotsOf}

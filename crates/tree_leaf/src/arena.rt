@@ -16,7 +16,7 @@ pub use ids::{LeafId, NodeId};
 /// until that is removed.
 #[derive(Drop)]
 pub struct SlotsOf<K: Ord, V, N, const LEN: usize> {
-    leaves: Slab<LeafOf<K, V, LEN>>,
+    pub(crate) leaves: Slab<LeafOf<K, V, LEN>>,
     nodes: Slab<N>,
     /// No leaf and no node, ever. A slab has none in itself, and these show that one of each has a
     /// size that memory can hold, which each call on one asks.

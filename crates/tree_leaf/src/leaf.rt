@@ -1,15 +1,20 @@
 //! Leaves, each an array with the numbers of the leaves beside it.
-ghost use Rattle.std.specs.Prelude.{◌≡◌, [], None};
+ghost use Rattle.std.specs.Prelude.{◌≡◌, [], None, Some, IsSome};
 ghost use Rattle.std.specs.Borrow.{sem};
-ghost use Rattle.tree_array.specs.Arrivals.{in_order};
+ghost use Rattle.tree_array.specs.Arrivals.{arrival, in_order, slots_in_order};
+ghost use Rattle.tree_array.specs.Sound.{IsSound};
+ghost use Rattle.tree_array.specs.Walk.{standing};
 ghost use Rattle.tree_array.specs.Length.{IsLen};
 
 use crate::arena::LeafId;
-use tree_array::array::ArrayOf;
+use tree_array::array::{ArrayIterOf, ArrayOf};
 
 mod links;
+mod stand;
+mod walk;
 
 pub use links::{add_before, splice_link, unlink};
+pub use walk::{Iter, IterOf, LinkedIter, LinkedRevIter, RevIter, RevIterOf, Walked};
 
 /// A leaf: an array of `LEN` slots, 7 or 15, and the numbers of the leaves before and after it.
 #[derive(Drop)]
@@ -66,5 +71,22 @@ impl<K: Ord + Drop, V: Drop, const LEN: usize> LeafOf<K, V, LEN> {
         ensures { result ≡ self.now.next }
     {
         self.next
+    }
+
+    /// A walk over the slots, before the first.
+    fn slots(&self) -> ArrayIterOf<LEN>
+        ensures walk { result ≡ standing (slots_in_order K.cmp self.now.array) None }
+        ensures sound { IsSound K.cmp LEN self.now.array }
+    {
+        let _sound = self.array.free();
+        ArrayIterOf::new(&self.array)
+    }
+
+    /// The entry of a slot. Caller's condition: the slot is reachable.
+    fn entry(&self, slot: u8) -> (&K, &V)
+        requires { IsSome (arrival self.now.array.arrivals slot) }
+        ensures { arrival self.now.array.arrivals slot ≡ Some (result.0.now, result.1.now) }
+    {
+        (self.array.key(slot), self.array.val(slot))
     }
 }

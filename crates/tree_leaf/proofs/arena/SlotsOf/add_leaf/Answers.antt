@@ -1,4 +1,3 @@
-use Rattle.std.proofs.Common.{rules}
 use Rattle.tree_leaf.proofs.Rooms.{grown}
 use Rattle.tree_leaf.proofs.arena.SlotsOf.add_leaf.Goals as goal
 

@@ -1,4 +1,3 @@
-use Rattle.std.proofs.Common.{rules}
 use Rattle.tree_leaf.proofs.Rooms.{lost}
 use Rattle.tree_leaf.proofs.arena.SlotsOf.remove_leaf.Goals as goal
 

@@ -1,5 +1,4 @@
-use Rattle.std.proofs.Common.{◌≡◌, ℕ, Some, IsSome, refl, ◌∙◌, rules}
-use Rattle.slab.specs.Slab.{get}
+use Rattle.std.proofs.Common.{◌≡◌, rules}
 use Rattle.tree_leaf.proofs.Chains.{chain_used, prev_used, same_array_used}
 use Rattle.tree_leaf.proofs.Additions.{gains_before, still_used, new_used}
 use Rattle.tree_leaf.proofs.leaf.links.add_before.Goals as goal

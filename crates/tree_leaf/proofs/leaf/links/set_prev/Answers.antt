@@ -1,4 +1,3 @@
-use Rattle.std.proofs.Common.{refl}
 use Rattle.tree_leaf.proofs.Rooms.{rewritten}
 use Rattle.tree_leaf.proofs.Splices.{changed}
 use Rattle.tree_leaf.proofs.leaf.links.set_prev.Goals as goal

@@ -1,4 +1,4 @@
-use Rattle.std.proofs.Common.{refl, ◌∙◌, rules}
+use Rattle.std.proofs.Common.{rules}
 use Rattle.tree_leaf.proofs.Chains.{chain_used, prev_used, next_used}
 use Rattle.tree_leaf.proofs.Splices.{unlinked}
 use Rattle.tree_leaf.proofs.leaf.links.unlink.Goals as goal
