@@ -9,12 +9,15 @@ ghost use Rattle.tree_array.specs.Length.{IsLen};
 use crate::arena::LeafId;
 use tree_array::array::{ArrayIterOf, ArrayOf};
 
+mod iter;
 mod links;
+mod rev_iter;
 mod stand;
-mod walk;
 
+pub use iter::{Iter, IterOf, LinkedIter};
 pub use links::{add_before, splice_link, unlink};
-pub use walk::{Iter, IterOf, LinkedIter, LinkedRevIter, RevIter, RevIterOf, Walked};
+pub use rev_iter::{LinkedRevIter, RevIter, RevIterOf};
+pub use stand::Walked;
 
 /// A leaf: an array of `LEN` slots, 7 or 15, and the numbers of the leaves before and after it.
 #[derive(Drop)]

@@ -10,6 +10,21 @@ use crate::arena::LeafId;
 use crate::leaf::LeafOf;
 use slab::Slab;
 
+/// What a walk over leaves of this type keeps. It has no call.
+pub trait Walked {
+    ghost use Rattle.std.specs.Prelude.{ℕ};
+    ghost use Rattle.slab.specs.Slab.{Slab as Slots};
+    ghost use Rattle.tree_array.specs.Walk.{Walk};
+
+    ghost stands: { Slots Self → ℕ → Self → Walk → Type 0 };
+}
+
+impl<K: Ord, V, const LEN: usize> Walked for LeafOf<K, V, LEN> {
+    ghost use Rattle.tree_leaf.specs.Walks.{IsStand};
+
+    ghost stands = { IsStand K.cmp };
+}
+
 /// Which way a walk goes through the links.
 #[derive(Clone, Copy)]
 pub enum Way {

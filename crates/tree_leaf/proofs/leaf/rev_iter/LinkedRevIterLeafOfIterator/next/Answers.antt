@@ -1,6 +1,6 @@
 use Rattle.std.proofs.Common.{rules, refl}
 use Rattle.tree_leaf.proofs.Steps.{as_many, slot_reachable, entry_read, progress_back}
-use Rattle.tree_leaf.proofs.leaf.walk.LinkedRevIterLeafOfIterator.next.Goals as goal
+use Rattle.tree_leaf.proofs.leaf.rev_iter.LinkedRevIterLeafOfIterator.next.Goals as goal
 
 pub entry-requires : goal.entry-requires
 entry-requires g c = (search rules, slot_reachable _ _ _ _ _ c.self.invariant _ _ c.in_ok-slot.ensures.steps.1)

@@ -1,7 +1,7 @@
 use Rattle.std.proofs.Common.{rules, refl, ◌∙◌, sym}
 use Rattle.tree_leaf.specs.declared.leaf.stand.Way.TheVariants.{On}
 use Rattle.tree_leaf.proofs.Jumps.{jump_on, lands_in, lands_nowhere, way_parts}
-use Rattle.tree_leaf.proofs.leaf.walk.LinkedIter+LeafOf+K+V+LEN+LEN.jump.Goals as goal
+use Rattle.tree_leaf.proofs.leaf.iter.LinkedIter+LeafOf+K+V+LEN+LEN.jump.Goals as goal
 
 pub returns-in_err-id : goal.returns-in_err-id
 returns-in_err-id g c = rw (← c.self.view_is) (λ front back chain.

@@ -2,7 +2,7 @@ use Rattle.std.proofs.Common.{rules, refl, ap, ◌∙◌, sym, reverse}
 use Rattle.std.proofs.lemmas.List.{reverse-reverse}
 use Rattle.tree_leaf.specs.declared.leaf.stand.Way.TheVariants.{Back}
 use Rattle.tree_leaf.proofs.Jumps.{jump_back, lands_in, lands_nowhere, way_parts}
-use Rattle.tree_leaf.proofs.leaf.walk.LinkedRevIter+LeafOf+K+V+LEN+LEN.jump.Goals as goal
+use Rattle.tree_leaf.proofs.leaf.rev_iter.LinkedRevIter+LeafOf+K+V+LEN+LEN.jump.Goals as goal
 
 pub returns-in_err-id : goal.returns-in_err-id
 returns-in_err-id g c = rw (← c.self.view_is) (λ front back chain.
