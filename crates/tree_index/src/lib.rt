@@ -5,6 +5,7 @@
 mod commands;
 mod index;
 mod keys;
+pub mod laws;
 mod shared;
 #[cfg(test)]
 mod tests;
