@@ -71,6 +71,15 @@ fn meets_bounds(rt: HostRuntime) {
     assert!(rt; !is_below(Bound::Excluded(&high), &4));
 }
 
+#[test]
+fn tells_why_a_pair_was_refused(rt: HostRuntime) -> Result<(), Fail> {
+    let duplicate: InsertError<u64, u64> = InsertError::Duplicate(1, 10);
+    let refused: InsertError<u64, u64> = InsertError::OutOfMemory(1, 10);
+    let shown = format!(in rt.alloc(); "{duplicate}; {refused}; {refused:?}")?;
+    assert_eq!(rt; shown.as_str(), "the key is present; out of memory; OutOfMemory(1, 10)");
+    Ok(())
+}
+
 // Whatever request is refused, the pair comes back, the pairs stay, and the same call again
 // answers as it would have.
 #[test]
