@@ -1,8 +1,12 @@
 pub mod Bitmap
+pub mod Emptied
+pub mod Entries
+pub mod Kept
 pub mod Picks
 pub mod RankOrder
 pub mod Rises
 pub mod Scan
 pub mod Searching
 pub mod Slots
+pub mod Sorted
 pub mod Word
