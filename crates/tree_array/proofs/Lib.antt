@@ -1,6 +1,7 @@
 pub mod Bitmap
 pub mod Emptied
 pub mod Entries
+pub mod Found
 pub mod Kept
 pub mod Picks
 pub mod RankOrder
