@@ -2,6 +2,7 @@ pub mod Bitmap
 pub mod Emptied
 pub mod Entries
 pub mod Found
+pub mod Joined
 pub mod Kept
 pub mod Picks
 pub mod RankOrder
