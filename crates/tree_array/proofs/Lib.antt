@@ -9,6 +9,8 @@ pub mod RankOrder
 pub mod Rises
 pub mod Scan
 pub mod Searching
+pub mod Seen
 pub mod Slots
 pub mod Sorted
+pub mod Taken
 pub mod Word
