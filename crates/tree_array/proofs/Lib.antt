@@ -6,6 +6,7 @@ pub mod Joined
 pub mod Kept
 pub mod Picks
 pub mod RankOrder
+pub mod Removed
 pub mod Rises
 pub mod Scan
 pub mod Searching
