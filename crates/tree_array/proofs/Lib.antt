@@ -13,5 +13,6 @@ pub mod Searching
 pub mod Seen
 pub mod Slots
 pub mod Sorted
+pub mod Stored
 pub mod Taken
 pub mod Word
