@@ -4,6 +4,7 @@ pub mod Entries
 pub mod Found
 pub mod Joined
 pub mod Kept
+pub mod LeastFrom
 pub mod Picks
 pub mod RankOrder
 pub mod Removed
