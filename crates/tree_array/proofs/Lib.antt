@@ -6,4 +6,5 @@ pub mod Rises
 pub mod Scan
 pub mod Searching
 pub mod Slots
+pub mod Walks
 pub mod Word
