@@ -1,5 +1,9 @@
 pub mod Bitmap
 pub mod Orders
+pub mod Emptied
+pub mod Entries
+pub mod Found
+pub mod Kept
 pub mod Picks
 pub mod RankOrder
 pub mod Rises
@@ -7,4 +11,5 @@ pub mod Scan
 pub mod Searching
 pub mod Slots
 pub mod Walks
+pub mod Sorted
 pub mod Word

@@ -38,6 +38,13 @@ module _ {K V : Type 0} where
     | inr late ↦ get_or_past (picked pick n) p None (omega (arith, length-picked pick n)) ∙ sym (unmade p late)
   ]
 
+  -- a reachable arrival was made
+  pub made_early : (pick : ℕ → Option (K × V)) (n : ℕ) → ((p : ℕ) → n ≤ p → pick p ≡ None) → (p : ℕ) (e : K × V) → pick p ≡ Some e → p < n
+  made_early pick n unmade p e some = elim (cases_lt p n) [
+    | inl lt ↦ lt
+    | inr ge ↦ absurd (none-some e (sym (unmade p ge) ∙ some))
+  ]
+
   -- the list changes as each arrival does
   pub picked-map : (f : Option (K × V) → Option (K × V)) (pick pick' : ℕ → Option (K × V)) (n : ℕ) → ((p : ℕ) → p < n → pick' p ≡ f (pick p)) → picked pick' n ≡ map f (picked pick n)
   picked-map f pick pick' zero each = refl

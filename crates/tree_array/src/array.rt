@@ -70,7 +70,8 @@ impl<K: Ord + Drop, V: Drop, const LEN: usize> ArrayOf<K, V, LEN> {
         ensures free { result ≡ free LEN self.now }
         ensures sound { IsSound K.cmp LEN self.now }
     {
-        LEN as u8 - made(self.bitmap)
+        let made = made(self.bitmap);
+        LEN as u8 - made
     }
 
     /// Whether the last pair was removed. Such an array stays empty.
