@@ -16,7 +16,7 @@ use Rattle.tree_array.specs.Arrivals.{arrival, numbered, sorted}
 use Rattle.tree_array.specs.Order.{IsRising, IsOrder}
 use Rattle.tree_array.specs.Layout.{picked}
 use Rattle.tree_array.specs.Ranked.{IsRanked}
-use Rattle.tree_array.proofs.Picks.{arrival-all, cases_option}
+use Rattle.tree_array.proofs.Picks.{arrival-all, cases_option, made_early}
 use Rattle.tree_array.proofs.RankOrder.{one_arrival}
 use Rattle.tree_array.proofs.Sorted.{IsAscending-sorted, all-sorted, pair_at-sorted}
 
@@ -126,12 +126,6 @@ module _ {K V : Type 0} where
   IsPicked pick slot = (val : V) × (pick slot.1 ≡ Some (slot.0, val))
 
 module _ {K V : Type 0} {cmp : K → K → Ordering} {pick : ℕ → Option (K × V)} {rank : ℕ → ℕ} {made : ℕ} (it : IsRanked cmp pick rank made) where
-  pub arrival_early : (p : ℕ) (e : K × V) → pick p ≡ Some e → p < made
-  arrival_early p e there = elim (cases_lt p made) [
-    | inl lt ↦ lt
-    | inr le ↦ absurd (none-some e (sym (it.unmade p le) ∙ there))
-  ]
-
   -- the ranks of the first arrivals are few, and no two are one
   pub rank_few : (len p : ℕ) → made ≤ len → len ≤ 15 → p < made → rank p ≤ len
   rank_few len p le small lt = elim (cases_option (pick p)) [
@@ -165,7 +159,7 @@ module _ {K V : Type 0} {cmp : K → K → Ordering} {pick : ℕ → Option (K �
 
   all_ranked : (slots : List (K × ℕ)) → AllByRecursion (IsPicked pick) slots → AllByRecursion (λ p. (p < made) × (0 < rank p)) (map (λ slot. slot.1) slots)
   all_ranked [] all = tt
-  all_ranked (slot ∷ slots) all = ((arrival_early slot.1 (slot.0, all.0.0) all.0.1, it.ranked slot.1 (slot.0, all.0.0) all.0.1), all_ranked slots all.1)
+  all_ranked (slot ∷ slots) all = ((made_early pick made it.unmade slot.1 (slot.0, all.0.0) all.0.1, it.ranked slot.1 (slot.0, all.0.0) all.0.1), all_ranked slots all.1)
 
 module _ {K V : Type 0} {cmp : K → K → Ordering} (o : IsTotalOrder cmp) {pick : ℕ → Option (K × V)} {rank : ℕ → ℕ} {made : ℕ} (it : IsRanked cmp pick rank made) (few : made ≤ 15) where
   -- each reachable arrival is among the slots in order
