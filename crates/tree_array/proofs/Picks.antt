@@ -1,5 +1,5 @@
 -- The arrivals of an array, as a list of what is picked by their numbers.
-use Rattle.std.proofs.Common.{◌≡◌, ◌≢◌, ◌⊎◌, ℕ, zero, suc, ◌+◌, ◌-◌, ◌<◌, ◌≤◌, List, [], ◌∷◌, ◌++◌, map, length, true, false, Option, None, Some, refl, sym, ◌∙◌, ap, inl, inr, add-one, length-append, arith}
+use Rattle.std.proofs.Common.{◌≡◌, ◌≢◌, ◌⊎◌, ℕ, zero, suc, ◌+◌, ◌-◌, ◌<◌, ◌≤◌, List, [], ◌∷◌, ◌++◌, map, length, true, false, Option, None, Some, IsSome, refl, sym, ◌∙◌, ap, inl, inr, add-one, length-append, arith}
 use Rattle.std.specs.Option.{is_some}
 use Rattle.std.proofs.lemmas.Bool.{cases_lt}
 use mathlib.Core.Bool.{false≢true}
@@ -85,3 +85,7 @@ some_from_test (Some a) h = (a, refl)
 pub none_from_test : {A : Type 0} (o : Option A) → is_some o ≡ false → o ≡ None
 none_from_test None h = refl
 none_from_test (Some a) h = absurd (false≢true (sym h))
+
+pub some_of : {A : Type 0} (o : Option A) → IsSome o → (a : A) × (o ≡ Some a)
+some_of None there = absurd (false≢true there)
+some_of (Some a) there = (a, refl)
