@@ -15,7 +15,7 @@ pub mod Searching
 pub mod Seen
 pub mod Slots
 pub mod Sorted
-pub mod Walks
 pub mod Stored
 pub mod Taken
+pub mod Walks
 pub mod Word
