@@ -83,6 +83,7 @@ module _ {K V : Type 0} {cmp : K → K → Ordering} (o : IsTotalOrder cmp) wher
         (sorted_as (others key) (without cmp before key) (IsAscending-without o before key (IsAscending-sorted o (reachable arrivals))) (λ other.
         pair_at-others (reachable arrivals) key other
         ∙ sym (pair_at-without o other before key ∙ rw (found_before other) refl)))
+
     -- so are those within the bounds
     pub entries-cut : (low high : Bound K) → sorted cmp (reachable (map (cut_at cmp low high) arrivals)) ≡ cut cmp (sorted cmp (reachable arrivals)) low high
     entries-cut low high =

@@ -1,10 +1,12 @@
 pub mod Bitmap
+pub mod Dealt
 pub mod Emptied
 pub mod Entries
 pub mod Found
 pub mod Joined
 pub mod Kept
 pub mod LeastFrom
+pub mod Orders
 pub mod Picks
 pub mod RankOrder
 pub mod Removed
@@ -16,4 +18,5 @@ pub mod Slots
 pub mod Sorted
 pub mod Stored
 pub mod Taken
+pub mod Walks
 pub mod Word

@@ -19,6 +19,5 @@ pub record IsSound {K V : Type 0} (cmp : K → K → Ordering) (len : ℕ) (arra
   -- there are as many entries as reachable arrivals
   pub count : length array.entries ≡ length (reachable array.arrivals)
   pub entries_few : length array.entries ≤ length array.arrivals
-
   -- a retired array has no entry
   pub none_retired : array.retired ≡ true → array.entries ≡ []

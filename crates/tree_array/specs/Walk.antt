@@ -1,6 +1,9 @@
 -- A walk over the slots of an array, in the order of their keys or against it.
-use Rattle.std.specs.Prelude.{◌≡◌, ℕ, ◌+◌, ◌-◌, ◌<◌, ◌≤◌, List, length, Option, None, Some, MatchOption, slice_get}
+use Rattle.std.specs.Prelude.{◌≡◌, ℕ, ◌+◌, ◌-◌, ◌<◌, ◌≤◌, List, map, drop, length, Option, None, Some, MatchOption, slice_get}
 use Rattle.std.specs.Iterator.{Count, at_most}
+use Rattle.std.specs.declared.cmp.Ordering.{Ordering}
+use Rattle.tree_model.specs.Pairs.{IsAscending}
+use Rattle.tree_array.specs.Arrivals.{Arrivals, arrival}
 
 -- the slots in the order of their keys, and the place among them that the walk stands at, if it has begun
 pub record Walk : Type 0 where
@@ -43,3 +46,9 @@ left_on walk = at_most (length walk.slots - place_ahead walk.at)
 
 abbrev pub left_back : Walk → Count
 left_back walk = at_most (places_behind (length walk.slots) walk.at)
+
+-- the slots that lie ahead of the walk are those of the entries, which ascend and are no more than slots
+pub record IsOver {K V : Type 0} (cmp : K → K → Ordering) (len : ℕ) (array : Arrivals K V) (walk : Walk) : Type 0 where
+  pub slots : map (arrival array.arrivals) (drop (place_ahead walk.at) walk.slots) ≡ map Some array.entries
+  pub ascending : IsAscending cmp array.entries
+  pub few : length array.entries ≤ len

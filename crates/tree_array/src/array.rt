@@ -18,7 +18,7 @@ mod searches;
 mod walk;
 
 pub use tree_model::range_contains;
-pub use walk::{ArrayIter, ArrayIterOf, ArrayRevIter, ArrayRevIterOf};
+pub use walk::{ArrayIter, ArrayRevIter};
 
 /// The word of a retired array, which holds no rank.
 const RETIRED: u64 = 1 << 62;

@@ -5,5 +5,6 @@ mod answers;
 pub mod array;
 mod cells;
 mod judge;
+mod order;
 mod ranks;
 mod search;

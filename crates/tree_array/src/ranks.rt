@@ -99,6 +99,18 @@ pub fn rank_added<const LEN: usize>(ranks: u64, low: u8, next: u8) -> u64
     )
 }
 
+/// The ranks with a new arrival above all.
+pub fn rank_appended<const LEN: usize>(ranks: u64, next: u8) -> u64
+    requires len { IsLen LEN }
+    requires next { next < LEN }
+    requires unranked { rank_for LEN ranks next ≡ 0 }
+    requires small { ranks < 2 ^ 60 }
+    ensures appended { IsSetAt (rank_for LEN ranks) (rank_for LEN result) next (next + 1) }
+    ensures small { result < 2 ^ 60 }
+{
+    raised(ranks, slot::<LEN>(next), next + 1)
+}
+
 /// The ranks with that of an older arrival given to a new one.
 pub fn rank_moved<const LEN: usize>(ranks: u64, old: u8, next: u8) -> u64
     requires len { IsLen LEN }

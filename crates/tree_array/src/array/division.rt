@@ -1,9 +1,10 @@
 //! How the pairs of an array are divided between two new ones.
 ghost use Rattle.std.specs.Prelude.{◌≡◌, ◌+◌, ◌≤◌, [], ◌∷◌, length, take, drop, slice_get, MatchOption};
 ghost use Rattle.tree_array.specs.Arrivals.{boundary, drained, in_order};
+ghost use Rattle.tree_array.specs.Walk.{IsOver};
 
-use super::{ArrayOf, RETIRED};
-use crate::ranks::{made, next_above};
+use super::{ArrayIter, ArrayOf, RETIRED};
+use crate::ranks::made;
 use crate::search::count_ascents;
 
 impl<K: Ord + Drop, V: Drop, const LEN: usize> ArrayOf<K, V, LEN> {
@@ -32,8 +33,10 @@ impl<K: Ord + Drop, V: Drop, const LEN: usize> ArrayOf<K, V, LEN> {
         ensures high { high.new ≡ in_order (drop boundary self.old.entries) }
         ensures left { self.new ≡ drained self.old }
     {
-        self.move_least(boundary, low);
-        self.move_all(high);
+        let mut walk = ArrayIter::new(self);
+        self.move_on(&mut walk, boundary as usize, low);
+        self.move_on(&mut walk, LEN, high);
+        self.ranks = RETIRED;
     }
 
     /// Does what [`distribute`](ArrayOf::distribute) does, but gives the entry at place `boundary` back, if there
@@ -51,43 +54,39 @@ impl<K: Ord + Drop, V: Drop, const LEN: usize> ArrayOf<K, V, LEN> {
         ensures high { high.new ≡ in_order (drop (boundary + 1) self.old.entries) }
         ensures left { self.new ≡ drained self.old }
     {
-        self.move_least(boundary, low);
-        let apart = self.take_least();
-        self.move_all(high);
+        let mut walk = ArrayIter::new(self);
+        self.move_on(&mut walk, boundary as usize, low);
+        let apart = self.take_on(&mut walk);
+        self.move_on(&mut walk, LEN, high);
+        self.ranks = RETIRED;
         apart
     }
 
-    /// Moves all entries into a new array, which leaves this one retired.
-    fn move_all(&mut self, to: &mut Self)
-        requires { to.old ≡ in_order [] }
-        ensures moved { to.new ≡ in_order self.old.entries }
-        ensures left { self.new ≡ drained self.old }
-    {
-        self.move_least(LEN as u8, to);
-        self.ranks = RETIRED;
-    }
-
-    /// Moves the first `count` entries into a new array.
-    fn move_least(&mut self, count: u8, to: &mut Self)
-        requires { to.old ≡ in_order [] }
+    /// Moves up to `count` entries into a new array. The walk is over the entries.
+    fn move_on(&mut self, walk: &mut ArrayIter, count: usize, to: &mut Self)
+        requires walk { IsOver K.cmp LEN self.old walk.old }
+        requires new { to.old ≡ in_order [] }
+        ensures walk { IsOver K.cmp LEN self.new walk.new }
         ensures moved { to.new ≡ in_order (take count self.old.entries) }
         ensures left { self.new.entries ≡ drop count self.old.entries }
         ensures arrivals { length self.new.arrivals ≡ length self.old.arrivals }
     {
         for _ in 0..count {
-            let Some((key, val)) = self.take_least() else {
+            let Some((key, val)) = self.take_on(walk) else {
                 return;
             };
             to.push_last(key, val);
         }
     }
 
-    /// Takes the first entry.
-    fn take_least(&mut self) -> Option<(K, V)>
-        ensures taken { MatchOption result ((self.old.entries ≡ []) × (self.new ≡ self.old)) (λ pair. self.old.entries ≡ pair ∷ self.new.entries) }
+    /// Takes the first entry. The walk is over the entries.
+    fn take_on(&mut self, walk: &mut ArrayIter) -> Option<(K, V)>
+        requires { IsOver K.cmp LEN self.old walk.old }
+        ensures walk { IsOver K.cmp LEN self.new walk.new }
+        ensures taken { MatchOption result ((self.old.entries ≡ []) × (self.new.entries ≡ [])) (λ pair. self.old.entries ≡ pair ∷ self.new.entries) }
         ensures arrivals { length self.new.arrivals ≡ length self.old.arrivals }
     {
-        let slot = next_above::<LEN>(self.ranks, made(self.bitmap), 0)?;
+        let slot = walk.next()?;
         let (key, val, _) = self.take(slot);
         Some((key, val))
     }

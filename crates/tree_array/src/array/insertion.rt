@@ -5,7 +5,7 @@ ghost use Rattle.tree_array.specs.Insertion.{IsInsert};
 ghost use Rattle.tree_array.specs.Length.{IsLen};
 
 use super::{ArrayOf, InsertResult};
-use crate::ranks::{following, made, rank_added, rank_moved};
+use crate::ranks::{following, made, rank_added, rank_appended, rank_moved};
 use crate::search::{Place, find_key};
 use std::cmp::Ordering;
 
@@ -55,7 +55,7 @@ impl<K: Ord + Drop, V: Drop, const LEN: usize> ArrayOf<K, V, LEN> {
         ensures { self.new ≡ stored K.cmp self.old key val }
     {
         let next = made(self.bitmap);
-        self.ranks = rank_added::<LEN>(self.ranks, next, next);
+        self.ranks = rank_appended::<LEN>(self.ranks, next);
         self.bitmap = following::<LEN>(self.bitmap);
         self.cells.put(next, Some((key, val)));
     }

@@ -2,8 +2,8 @@
 ghost use Rattle.std.specs.Prelude.{◌≡◌, ◌<◌};
 
 use super::{
-    Array, ArrayIter, ArrayIterOf, ArrayOf, ArrayRevIter, DIMENSION, InsertResult, KeyJudge,
-    RemoveResult, Steps, range_contains,
+    Array, ArrayIter, ArrayOf, ArrayRevIter, DIMENSION, InsertResult, KeyJudge, RemoveResult,
+    Steps, range_contains,
 };
 use crate::ranks::slot;
 use std::marker::Brand;
@@ -292,7 +292,7 @@ fn walks(rt: HostRuntime) -> Result<(), Fail> {
     assert_eq!(rt; (back.slot(), back.next()), (None, Some(2)));
     let mut fresh = ArrayRevIter::new(&array).rev();
     assert_eq!(rt; fresh.next(), Some(1));
-    let mut fresh = ArrayIterOf::new(&array).rev();
+    let mut fresh = ArrayIter::new(&array).rev();
     assert_eq!(rt; fresh.next(), Some(2));
     Ok(())
 }

@@ -12,8 +12,7 @@ returns-then-self-eq0 g c =
 pub returns-else-self-eq0 : goal.returns-else-self-eq0
 returns-else-self-eq0 g c =
     let bits = c.self.invariant.0 in
-    let retired : c.is_retired.result ≡ (c.self.inside.ranks == 2 ^ 62) = c.is_retired.ensures ∙ ap (λ (a : Arrivals _ _). a.retired) (sym c.self.view_is) in
-    (
+    let retired : c.is_retired.result ≡ (c.self.inside.ranks == 2 ^ 62) = c.is_retired.ensures ∙ ap (λ (a : Arrivals _ _). a.retired) (sym c.self.view_is) in (
       λ yes. ap (λ (a : Arrivals _ _). a.entries) (sym c.self.view_is) ∙ entries_from_mark g.row.LEN c.self.inside.ranks bits.is_len bits.few c.self.invariant.1 c.self.invariant.2 (grind (arith, nat_tests)),
       λ none. elim (word_from_entries g.row.LEN c.self.inside.ranks bits.is_len bits.few c.self.invariant.1 c.self.invariant.2 (ap (λ (a : Arrivals _ _). a.entries) c.self.view_is ∙ none)) [
         | inl zero ↦ absurd (c.if-self-eq0.false zero)
