@@ -1,3 +1,4 @@
+pub mod Appended
 pub mod Bitmap
 pub mod Dealt
 pub mod Emptied
