@@ -18,5 +18,6 @@ pub mod Slots
 pub mod Sorted
 pub mod Stored
 pub mod Taken
+pub mod Valued
 pub mod Walks
 pub mod Word
