@@ -1,3 +1,4 @@
+pub mod Appended
 pub mod Bitmap
 pub mod Dealt
 pub mod Emptied
@@ -18,5 +19,6 @@ pub mod Slots
 pub mod Sorted
 pub mod Stored
 pub mod Taken
+pub mod Valued
 pub mod Walks
 pub mod Word
