@@ -8,6 +8,7 @@ pub mod Joined
 pub mod Kept
 pub mod Orders
 pub mod Picks
+pub mod Ranges
 pub mod RankOrder
 pub mod Removed
 pub mod Rises
