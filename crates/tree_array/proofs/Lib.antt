@@ -6,6 +6,7 @@ pub mod Entries
 pub mod Found
 pub mod Joined
 pub mod Kept
+pub mod LeastFrom
 pub mod Orders
 pub mod Picks
 pub mod Ranges

@@ -48,7 +48,7 @@ returns-else-is_full g c =
     record {
       new_is =
           moved_seen g.met.K.Ord.total c.self.invariant.0.is_len c.self.invariant.1 ready.early ready.live c.args.key c.args.val _ _ _ moved.small following.first following.made
-              _ _ _ place.1.1 place.1.2 c.put.ensures (rw next at c.put-else-is_full.ensures) (rw next at moved.here) moved.old (λ p d d'. moved.others p d (rw next d'))
+          _ _ _ place.1.1 place.1.2 c.put.ensures (rw next at c.put-else-is_full.ensures) (rw next at moved.here) moved.old (λ p d d'. moved.others p d (rw next d'))
           ∙ ap (λ (array : Arrivals _ _). stored g.K.Ord.cmp array c.args.key c.args.val) c.self.view_is;
       room = ready.room;
       absent = λ h. grind (arith, nat_tests, c.if-not-this.false);
@@ -120,7 +120,7 @@ returns-else-is_full-2 g c =
     record {
       new_is =
           added_seen g.met.K.Ord.total c.self.invariant.0.is_len c.self.invariant.1 ready.early ready.live c.args.key c.args.val _ _ _ added.small following.first following.made
-              _ (rw next at place.0) place.1 (rw next at c.put-else-is_full-2.ensures) (rw next at added.here) (λ p lt d. added.others p lt (rw next d)) added.rest
+          _ (rw next at place.0) place.1 (rw next at c.put-else-is_full-2.ensures) (rw next at added.here) (λ p lt d. added.others p lt (rw next d)) added.rest
           ∙ ap (λ (array : Arrivals _ _). stored g.K.Ord.cmp array c.args.key c.args.val) c.self.view_is;
       room = ready.room;
       absent = λ h. rw (← c.self.view_is) (found_none g.met.K.Ord.total c.self.invariant.1 _ _ place.1);
