@@ -1,0 +1,84 @@
+-- One step of the search for a key.
+use Rattle.std.proofs.Common.{◌≡◌, ◌⊎◌, ℕ, ◌+◌, ◌<◌, ◌≤◌, Option, Some, sym, ◌∙◌, inl, inr, lit<, arith}
+use Rattle.std.specs.declared.cmp.Ordering.{Ordering}
+use Rattle.std.specs.declared.cmp.Ordering.TheVariants.{Less, Greater}
+use Rattle.std.specs.Cmp.{IsTotalOrder}
+use Rattle.std.proofs.lemmas.Bool.{cases_lt}
+use Rattle.std.proofs.lemmas.Option.{none-some}
+use Rattle.tree_array.specs.Place.{Parts}
+use Rattle.tree_array.specs.Ranked.{IsRanked}
+use Rattle.tree_array.proofs.RankOrder.{greater_by_rank, less_by_rank}
+
+-- what a search knows when it has met the first arrivals
+pub record HasMet {K V : Type 0} (cmp : K → K → Ordering) (pick : ℕ → Option (K × V)) (rank : ℕ → ℕ) (made : ℕ) (key : K) (met low high : ℕ) : Type 0 where
+  pub low_bound : low ≤ made
+  pub low_high : low < high
+  pub smaller : (p : ℕ) (e : K × V) → pick p ≡ Some e → rank p ≤ low → cmp key e.0 ≡ Greater
+  pub larger : (p : ℕ) (e : K × V) → pick p ≡ Some e → high ≤ rank p → cmp key e.0 ≡ Less
+  pub passed : (p : ℕ) (e : K × V) → pick p ≡ Some e → p < met → (rank p ≤ low) ⊎ (high ≤ rank p)
+
+module _ {K V : Type 0} {cmp : K → K → Ordering} (o : IsTotalOrder cmp) {pick : ℕ → Option (K × V)} {rank : ℕ → ℕ} {made : ℕ} (it : IsRanked cmp pick rank made) {key : K} where
+  pub met_none : made ≤ 15 → HasMet cmp pick rank made key 0 0 16
+  met_none few = record {
+    low_bound = omega arith;
+    low_high = lit< tt;
+    smaller = λ p e some le. absurd (omega (arith, it.ranked p e some));
+    larger = λ p e some le. absurd (omega (arith, it.bound p e some));
+    passed = λ p e some lt. absurd (omega arith);
+  }
+
+  module _ {met low high : ℕ} (h : HasMet cmp pick rank made key met low high) where
+    -- an arrival that is not asked about
+    pub met_other : ((e : K × V) → pick met ≡ Some e → (rank met ≤ low) ⊎ (high ≤ rank met)) → HasMet cmp pick rank made key (met + 1) low high
+    met_other out = record {
+      low_bound = h.low_bound;
+      low_high = h.low_high;
+      smaller = h.smaller;
+      larger = h.larger;
+      passed = λ p e some lt. elim (cases_lt p met) [
+        | inl before ↦ h.passed p e some before
+        | inr from ↦ let here : p ≡ met = omega arith in rw here (out e (rw here at some))
+      ];
+    }
+
+    -- a smaller arrival
+    pub met_smaller : (e : K × V) (r : ℕ) → pick met ≡ Some e → r ≡ rank met → low < r → r < high → cmp key e.0 ≡ Greater → HasMet cmp pick rank made key (met + 1) r high
+    met_smaller e r some is up down greater = record {
+      low_bound = omega (arith, is, it.bound met e some);
+      low_high = down;
+      smaller = λ q f there le. greater_by_rank o key e.0 f.0 (rank met) (rank q) greater (it.order met q e f some there) (omega arith);
+      larger = h.larger;
+      passed = λ q f there lt. elim (cases_lt q met) [
+        | inl before ↦ elim (h.passed q f there before) [
+          | inl le ↦ inl (omega arith)
+          | inr ge ↦ inr ge
+        ]
+        | inr from ↦ let here : q ≡ met = omega arith in inl (rw (here, is) (omega arith))
+      ];
+    }
+
+    -- a larger arrival
+    pub met_larger : (e : K × V) (r : ℕ) → pick met ≡ Some e → r ≡ rank met → low < r → r < high → cmp key e.0 ≡ Less → HasMet cmp pick rank made key (met + 1) low r
+    met_larger e r some is up down less = record {
+      low_bound = h.low_bound;
+      low_high = up;
+      smaller = h.smaller;
+      larger = λ q f there le. less_by_rank o key e.0 f.0 (rank met) (rank q) less (it.order met q e f some there) (omega arith);
+      passed = λ q f there lt. elim (cases_lt q met) [
+        | inl before ↦ elim (h.passed q f there before) [
+          | inl le ↦ inl le
+          | inr ge ↦ inr (omega arith)
+        ]
+        | inr from ↦ let here : q ≡ met = omega arith in inr (rw (here, is) (omega arith))
+      ];
+    }
+
+    -- all arrivals were met
+    pub met_all : made ≤ met → Parts cmp pick rank made key low
+    met_all all p e some = elim (cases_lt p made) [
+      | inr late ↦ absurd (none-some e (sym (it.unmade p late) ∙ some))
+      | inl early ↦ elim (h.passed p e some (omega arith)) [
+        | inl le ↦ inl (le, h.smaller p e some le)
+        | inr ge ↦ inr (omega (arith, h.low_high), h.larger p e some ge)
+      ]
+    ]

@@ -1,0 +1,116 @@
+//! A fixed array of pairs in the order of their keys.
+ghost use Rattle.std.specs.Prelude.{◌≡◌, ◌↔◌, ◌⊎◌, ℕ, ◌<◌, ◌≤◌, IsTrue, IsSome, Some, [], true, false};
+ghost use Rattle.tree_array.specs.Arrivals.{Arrivals, arrival, free, in_order};
+ghost use Rattle.tree_array.specs.Insertion.{IsFull};
+ghost use Rattle.tree_array.specs.Length.{IsLen};
+ghost use Rattle.tree_array.specs.Sound.{IsSound};
+
+pub use crate::answers::{DIMENSION, Dimension, InsertResult, RemoveResult};
+use crate::cells::Cells;
+pub use crate::judge::{Judge, KeyJudge, Steps};
+use crate::ranks::made;
+use std::marker::Model;
+
+mod division;
+mod insertion;
+mod removal;
+mod searches;
+mod walk;
+
+pub use tree_model::range_contains;
+pub use walk::{ArrayIter, ArrayRevIter};
+
+/// The word of a retired array, which holds no rank.
+const RETIRED: u64 = 1 << 62;
+
+/// A fixed array of `LEN` slots, 7 or 15, in which pairs arrive one after another and are found in
+/// the order of their keys.
+///
+/// A pair that is stored takes the next slot. A pair that is removed or replaced is dropped, and its
+/// slot stays spent. An array whose last pair was removed is retired and takes no more.
+/// No call takes memory.
+#[derive(Drop)]
+pub struct ArrayOf<K: Ord, V, const LEN: usize> {
+    cells: Cells<K, V, LEN>,
+    ranks: u64,
+    bitmap: u16,
+}
+
+/// The array of fifteen slots.
+pub type Array<K, V> = ArrayOf<K, V, 15>;
+
+impl<K: Ord, V, const LEN: usize> Model for ArrayOf<K, V, LEN> {
+    ghost use Rattle.tree_array.specs.Arrivals.{Arrivals};
+    ghost use Rattle.tree_array.specs.Layout.{pick_of, rank_for};
+    ghost use Rattle.tree_array.specs.Ranked.{IsBitmap, IsMarked, IsRanked, seen};
+    ghost use Rattle.tree_array.specs.Word.{made_of};
+
+    ghost Value = { Arrivals K V };
+
+    ghost view = { λ a. seen K.cmp (pick_of LEN a.cells.cells) a.ranks (made_of a.bitmap) };
+
+    ghost invariant = { λ a. IsBitmap LEN a.bitmap × IsRanked K.cmp (pick_of LEN a.cells.cells) (rank_for LEN a.ranks) (made_of a.bitmap) × IsMarked (pick_of LEN a.cells.cells) a.ranks };
+}
+
+impl<K: Ord + Drop, V: Drop, const LEN: usize> ArrayOf<K, V, LEN> {
+    /// An array with no used slot. Caller's condition: `LEN` is 7 or 15.
+    pub fn new() -> Self
+        requires { IsLen LEN }
+        ensures { result ≡ in_order [] }
+    {
+        ArrayOf {
+            cells: Cells::new(),
+            ranks: 0,
+            bitmap: 0,
+        }
+    }
+
+    /// How many slots were never used, and by its contract what every array keeps.
+    pub fn free(&self) -> u8
+        ensures free { result ≡ free LEN self.now }
+        ensures sound { IsSound K.cmp LEN self.now }
+    {
+        let made = made(self.bitmap);
+        LEN as u8 - made
+    }
+
+    /// Whether the last pair was removed. Such an array stays empty.
+    pub fn is_retired(&self) -> bool
+        ensures { result ≡ self.now.retired }
+    {
+        self.ranks == RETIRED
+    }
+
+    /// Whether no slot is free, or the array is retired.
+    pub fn is_full(&self) -> bool
+        ensures { IsTrue result ↔ IsFull LEN self.now }
+    {
+        self.free() == 0 || self.is_retired()
+    }
+
+    /// Whether no pair is reachable.
+    pub fn is_empty(&self) -> bool
+        ensures { IsTrue result ↔ (self.now.entries ≡ []) }
+    {
+        self.ranks == 0 || self.is_retired()
+    }
+
+    /// The key of a slot. Caller's condition: the slot is reachable.
+    pub fn key(&self, slot: u8) -> &K
+        requires { IsSome (arrival self.now.arrivals slot) }
+        ensures { (val : V) × (arrival self.now.arrivals slot ≡ Some (result.now, val)) }
+    {
+        self.cells.pair(slot).0
+    }
+
+    /// The value of a slot. Caller's condition: the slot is reachable.
+    pub fn val(&self, slot: u8) -> &V
+        requires { IsSome (arrival self.now.arrivals slot) }
+        ensures { (key : K) × (arrival self.now.arrivals slot ≡ Some (key, result.now)) }
+    {
+        self.cells.pair(slot).1
+    }
+}
+
+#[cfg(test)]
+mod tests;

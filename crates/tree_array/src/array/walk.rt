@@ -1,0 +1,182 @@
+//! Walks over the slots of an array, in the order of their keys and against it.
+ghost use Rattle.std.specs.Prelude.{◌≡◌, None, ⊤, option_and_then, slice_get};
+ghost use Rattle.tree_array.specs.Arrivals.{slots_in_order};
+ghost use Rattle.tree_array.specs.Walk.{IsOver, StepsBack, StepsOn, left_back, left_on, standing};
+
+use super::ArrayOf;
+use crate::order::{MOST, in_rank_order};
+use crate::ranks::made;
+use std::alloc::AllocError;
+use std::marker::Model;
+
+/// A walk over the reachable slots of an array in ascending order of their keys. It is of the array as
+/// it stood when the walk was made. A slot is named by the number of its arrival.
+///
+/// A `next` that answers None keeps the place.
+#[derive(Drop)]
+pub struct ArrayIter {
+    order: [u8; MOST],
+    count: u8,
+    at: Option<u8>,
+}
+
+/// The walk in descending order.
+#[derive(Drop)]
+pub struct ArrayRevIter {
+    walk: ArrayIter,
+}
+
+impl Model for ArrayIter {
+    ghost use Rattle.std.specs.Prelude.{◌≡◌, ◌≤◌, ◌<◌, length, take};
+    ghost use Rattle.std.specs.Option.{ForSome};
+    ghost use Rattle.tree_array.specs.Walk.{Walk, standing};
+
+    ghost Value = { Walk };
+
+    ghost view = { λ a. standing (take a.count a.order) a.at };
+
+    ghost invariant = { λ a. (length a.order ≡ 15) × (a.count ≤ 15) × ForSome a.at (λ place. place < a.count) };
+}
+
+impl Model for ArrayRevIter {
+    ghost use Rattle.tree_array.specs.Walk.{Walk};
+
+    ghost Value = { Walk };
+
+    ghost view = { λ a. a.walk };
+}
+
+impl ArrayIter {
+    /// A walk before the first slot. No comparisons.
+    pub fn new<K: Ord + Drop, V: Drop, const LEN: usize>(array: &ArrayOf<K, V, LEN>) -> Self
+        ensures slots { result ≡ standing (slots_in_order K.cmp array.now) None }
+        ensures over { IsOver K.cmp LEN array.now result }
+    {
+        let (order, count) = in_rank_order::<LEN>(array.ranks, made(array.bitmap));
+        ArrayIter {
+            order,
+            count,
+            at: None,
+        }
+    }
+
+    /// The slot that the walk stands at, if it has begun.
+    pub fn slot(&self) -> Option<u8>
+        ensures { result ≡ option_and_then (slice_get self.now.slots) self.now.at }
+    {
+        let place = self.at?;
+        Some(self.order[place as usize])
+    }
+
+    /// Goes back to before the first slot.
+    pub fn rewind(&mut self)
+        ensures { self.new ≡ standing self.old.slots None }
+    {
+        self.at = None;
+    }
+
+    /// Turns about at its place. A walk that has not begun turns into one that has not begun.
+    pub fn rev(self) -> ArrayRevIter
+        ensures { result ≡ self }
+    {
+        ArrayRevIter { walk: self }
+    }
+}
+
+impl ArrayRevIter {
+    /// A walk before the first slot, which is that of the largest key. No comparisons.
+    pub fn new<K: Ord + Drop, V: Drop, const LEN: usize>(array: &ArrayOf<K, V, LEN>) -> Self
+        ensures { result ≡ standing (slots_in_order K.cmp array.now) None }
+    {
+        ArrayIter::new(array).rev()
+    }
+
+    /// The slot that the walk stands at, if it has begun.
+    pub fn slot(&self) -> Option<u8>
+        ensures { result ≡ option_and_then (slice_get self.now.slots) self.now.at }
+    {
+        self.walk.slot()
+    }
+
+    /// Goes back to before the first slot.
+    pub fn rewind(&mut self)
+        ensures { self.new ≡ standing self.old.slots None }
+    {
+        self.walk.rewind();
+    }
+
+    /// Turns about at its place. A walk that has not begun turns into one that has not begun.
+    pub fn rev(self) -> ArrayIter
+        ensures { result ≡ self }
+    {
+        let ArrayRevIter { walk } = self;
+        walk
+    }
+}
+
+impl Iterator for ArrayIter {
+    type Item = u8;
+
+    ghost next_gives = { StepsOn };
+
+    ghost remaining = { left_on };
+
+    fn next(&mut self) -> Option<u8> {
+        let place = match self.at {
+            None => 0,
+            Some(place) => place + 1,
+        };
+        if place < self.count {
+            self.at = Some(place);
+            Some(self.order[place as usize])
+        } else {
+            None
+        }
+    }
+}
+
+impl Iterator for ArrayRevIter {
+    type Item = u8;
+
+    ghost next_gives = { StepsBack };
+
+    ghost remaining = { left_back };
+
+    fn next(&mut self) -> Option<u8> {
+        let behind = match self.walk.at {
+            None => self.walk.count,
+            Some(place) => place,
+        };
+        if behind > 0 {
+            self.walk.at = Some(behind - 1);
+            Some(self.walk.order[behind as usize - 1])
+        } else {
+            None
+        }
+    }
+}
+
+impl Clone for ArrayIter {
+    ghost is_clone = { λ walk clone. clone ≡ walk };
+
+    ghost is_infallible = { λ _. ⊤ };
+
+    fn clone(&self) -> Result<Self, AllocError> {
+        Ok(ArrayIter {
+            order: self.order,
+            count: self.count,
+            at: self.at,
+        })
+    }
+}
+
+impl Clone for ArrayRevIter {
+    ghost is_clone = { λ walk clone. clone ≡ walk };
+
+    ghost is_infallible = { λ _. ⊤ };
+
+    fn clone(&self) -> Result<Self, AllocError> {
+        let walk = self.walk.clone()?;
+        Ok(ArrayRevIter { walk })
+    }
+}
