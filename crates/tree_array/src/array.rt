@@ -8,6 +8,7 @@ ghost use Rattle.tree_array.specs.Sound.{IsSound};
 pub use crate::answers::{DIMENSION, Dimension, InsertResult, RemoveResult};
 use crate::cells::Cells;
 pub use crate::judge::{Judge, KeyJudge, Steps};
+pub use crate::keys::{IndexKey, SameClone};
 use crate::ranks::made;
 use std::marker::Model;
 

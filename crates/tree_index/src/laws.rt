@@ -2,10 +2,9 @@
 //! about a history calls it to have the law.
 ghost use Rattle.tree_model.specs.Laws.{ReplaysOnce};
 
-use crate::keys::SameClone;
+use tree_array::array::SameClone;
 
 /// A history replays to one list at most.
 pub fn history_replays_once<K: Ord, V: SameClone>()
     ensures { ReplaysOnce K V K.cmp V.seen }
-{
-}
+{}
