@@ -109,7 +109,8 @@ impl ArrayRevIter {
     pub fn rev(self) -> ArrayIter
         ensures { result ≡ self }
     {
-        self.walk
+        let ArrayRevIter { walk } = self;
+        walk
     }
 }
 
