@@ -114,4 +114,10 @@ impl<K: Ord + Drop, V: Drop, const LEN: usize> ArrayOf<K, V, LEN> {
 }
 
 #[cfg(test)]
+mod comparison;
+#[cfg(test)]
+mod found;
+#[cfg(test)]
+mod plain;
+#[cfg(test)]
 mod tests;

@@ -1,15 +1,10 @@
 //! The worked rows of an array, with the word of its ranks and its bitmap.
-ghost use Rattle.std.specs.Prelude.{◌≡◌, ◌<◌, IfSome, IsSome};
-ghost use Rattle.tree_array.specs.Arrivals.{arrival};
 
-use super::{
-    Array, ArrayIter, ArrayOf, ArrayRevIter, DIMENSION, InsertResult, KeyJudge, RemoveResult,
-    Steps, range_contains,
-};
+use super::found::{found, slot_from};
+use super::plain::word;
+use super::{Array, ArrayIter, ArrayOf, ArrayRevIter, DIMENSION, RemoveResult, range_contains};
 use crate::ranks::slot;
-use std::marker::Brand;
 use std::ops::Bound;
-use std::sync::ledger::{Blank, Ledger};
 use std::test::Fail;
 
 /// The array in which these keys arrived, each with itself as its value.
@@ -27,48 +22,6 @@ fn small_of(keys: &[u64]) -> ArrayOf<u64, u64, 7> {
         let _ = array.insert::<true>(*key, *key);
     }
     array
-}
-
-/// What an insert answered, with the pair that came back.
-fn word(answer: InsertResult<u64, u64>) -> (&'static str, Option<(u64, u64)>) {
-    match answer {
-        InsertResult::Success => ("Success", None),
-        InsertResult::Duplicate(key, val) => ("Duplicate", Some((key, val))),
-        InsertResult::Full(key, val) => ("Full", Some((key, val))),
-    }
-}
-
-/// What the three searches find by a key: the pair, the value, and the slot of the least key from there on.
-fn found(array: &Array<u64, u64>, key: u64) -> (Option<(u64, u64)>, Option<u64>, Option<u8>)
-    ensures { IfSome result.2 (λ slot. IsSome (arrival array.now.arrivals slot)) }
-{
-    found_by::<Brand>(array, key, Blank::new(1))
-}
-
-fn found_by<L: Ledger>(
-    array: &Array<u64, u64>,
-    key: u64,
-    blank: Blank,
-) -> (Option<(u64, u64)>, Option<u64>, Option<u8>)
-    requires name { blank.name ≡ L.name }
-    requires parts { blank.parts ≡ L.parts }
-    requires some { 0 < L.parts }
-    ensures { IfSome result.2 (λ slot. IsSome (arrival array.now.arrivals slot)) }
-{
-    let mut judge: KeyJudge<u64, L> = KeyJudge::new(&key, Steps::new(blank));
-    let pair = match array.search_entry(&mut judge) {
-        Some((key, val)) => Some((*key, *val)),
-        None => None,
-    };
-    let val = array.search_val(&mut judge).copied();
-    (pair, val, array.min_greater_equal(&mut judge))
-}
-
-/// The slot of the least key from this one on.
-fn slot_from(array: &Array<u64, u64>, key: u64) -> Option<u8>
-    ensures { IfSome result (λ slot. IsSome (arrival array.now.arrivals slot)) }
-{
-    found(array, key).2
 }
 
 /// Whether a walk gives these slots and no more.
