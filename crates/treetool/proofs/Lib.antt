@@ -1,0 +1,4 @@
+pub mod FirstWords
+pub mod Decimals
+pub mod Spellings
+pub mod Writes

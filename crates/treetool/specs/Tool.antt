@@ -1,0 +1,20 @@
+-- The program: its status, and what it does to its streams.
+use Rattle.std.specs.Prelude.{◌≡◌, ℕ, List, [], ◌++◌, ◌∷◌, Option, Result, Ok, Err, codes}
+use Rattle.treetool.specs.declared.lines.ToolFault.{ToolFault}
+use Rattle.treetool.specs.Lines.{with_feed}
+use Rattle.treetool.specs.Writing.{Writes}
+use Rattle.treetool.specs.Runs.{RunsLines}
+
+-- With arguments the usage line was written, or a front of it, and the status is 1.
+abbrev pub RefusesArguments : Option (List ℕ) → Option (List ℕ) → ℕ → Type 0
+RefusesArguments contents contents' status = (outcome : Result (Unit {0}) (Unit {0})) × Writes (with_feed (codes "usage: treetool [storm W N]")) contents contents' outcome × (status ≡ 1)
+
+-- the status of a run over lines
+abbrev pub status_of : {T : Type 0} → Result T ToolFault → ℕ
+status_of (Ok _) = 0
+status_of (Err _) = 2
+
+-- Without arguments the lines of the input were answered over an index that was empty.
+abbrev pub RunsTool : Option (List ℕ) → Option (List ℕ) → Option (List ℕ) → Option (List ℕ) → ℕ → Type 0
+RunsTool remaining remaining' contents contents' status =
+    (outcome : Result (Unit {0}) ToolFault) × (entries : List (ℕ × ℕ)) × RunsLines [] entries remaining remaining' contents contents' outcome × (status ≡ status_of outcome)
