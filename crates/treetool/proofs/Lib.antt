@@ -2,3 +2,6 @@ pub mod FirstWords
 pub mod Decimals
 pub mod Spellings
 pub mod Writes
+pub mod Scripts
+pub mod Steps
+pub mod Endings

@@ -1,9 +1,9 @@
 -- A run over the lines of an input, and the program.
-use Rattle.std.specs.Prelude.{◌≡◌, ℕ, List, [], ◌++◌, Option, Result, Ok, Err}
+use Rattle.std.specs.Prelude.{◌≡◌, ℕ, List, ◌++◌, Option, Result, Ok, Err}
 use Rattle.std.specs.Io.KnownBytes.{Appends, Consumes, IsAtEnd}
 use Rattle.treetool.specs.declared.lines.ToolFault.{ToolFault}
 use Rattle.treetool.specs.declared.lines.ToolFault.TheVariants.{Read, Write}
-use Rattle.treetool.specs.Lines.{with_feed, text_of, HasLines, last_line, Script}
+use Rattle.treetool.specs.Lines.{text_of, HasLines, last_line, Script}
 use Rattle.treetool.specs.Progress.{BrokeOff}
 
 -- What was read and what was written after a run over lines.

@@ -1,13 +1,18 @@
 -- The program: its status, and what it does to its streams.
-use Rattle.std.specs.Prelude.{◌≡◌, ℕ, List, [], ◌++◌, ◌∷◌, Option, Result, Ok, Err, codes}
+use Rattle.std.specs.Prelude.{◌≡◌, ◌⊎◌, ℕ, List, [], Option, Result, Ok, Err, codes}
+use Rattle.std.specs.Io.KnownBytes.{Appends}
 use Rattle.treetool.specs.declared.lines.ToolFault.{ToolFault}
 use Rattle.treetool.specs.Lines.{with_feed}
-use Rattle.treetool.specs.Writing.{Writes}
+use Rattle.treetool.specs.Writing.{IsFront}
 use Rattle.treetool.specs.Runs.{RunsLines}
 
--- With arguments the usage line was written, or a front of it, and the status is 1.
+abbrev pub usage_line : List ℕ
+usage_line = with_feed (codes "usage: treetool [storm W N]")
+
+-- With arguments the usage line was written, or where a write failed a front of it, and the status is 1.
 abbrev pub RefusesArguments : Option (List ℕ) → Option (List ℕ) → ℕ → Type 0
-RefusesArguments contents contents' status = (outcome : Result (Unit {0}) (Unit {0})) × Writes (with_feed (codes "usage: treetool [storm W N]")) contents contents' outcome × (status ≡ 1)
+RefusesArguments contents contents' status =
+    (written : List ℕ) × Appends contents contents' written × ((written ≡ usage_line) ⊎ IsFront written usage_line) × (status ≡ 1)
 
 -- the status of a run over lines
 abbrev pub status_of : {T : Type 0} → Result T ToolFault → ℕ

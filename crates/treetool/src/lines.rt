@@ -6,9 +6,8 @@ ghost use Rattle.treetool.specs.Runs.{RunsLines};
 use crate::answers::{answer_to, write_answer};
 use crate::begun_line::BegunLine;
 use std::error::Error;
-use std::fmt;
-use std::io;
 use std::io::{Read, Write};
+use std::{fmt, io};
 use tree_index::TreeIndex;
 
 /// Why a run over lines stopped before the end of its input.

@@ -1,4 +1,4 @@
-use Rattle.std.proofs.Common.{◌≡◌, ◌∷◌, ◌++◌, refl, sym, ◌∙◌}
+use Rattle.std.proofs.Common.{◌≡◌, ◌++◌, refl, sym, ◌∙◌}
 use Rattle.std.specs.Fmt.{decimal}
 use Rattle.treetool.specs.Words.{one_number}
 use Rattle.treetool.proofs.FirstWords.{one_first_word}
