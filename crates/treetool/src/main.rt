@@ -8,6 +8,8 @@ mod lines;
 mod numbers;
 mod requests;
 mod short_text;
+#[cfg(test)]
+mod tests;
 mod tool;
 mod words;
 mod writing;

@@ -7,4 +7,4 @@ use Rattle.treetool.proofs.tool.run_tool.Goals as goal
 pub returns-then-not-is_empty-clause-usage : goal.returns-then-not-is_empty-clause-usage
 returns-then-not-is_empty-clause-usage g c = λ some.
     let wrote = written_of usage_line (g.E.Write.contents c.args.errors.now) (g.E.Write.contents c.write_whole.new.output) c.write_whole.result c.write_whole.ensures in
-    (refl, refl, (wrote.0, wrote.1, wrote.2, refl))
+    (refl {a = c.args.input.now}, refl {a = c.args.output.now}, (wrote.0, wrote.1, wrote.2, refl))
