@@ -31,7 +31,8 @@ pub enum Answer {
 
 /// Applies what the line asks, and answers it.
 pub fn answer_to(index: &mut TreeIndex<u64, u64>, line: &BegunLine) -> Answer
-    ensures { (begun : List ℕ) → line.now ≡ clip begun → Says index.old begun (answer_text result) index.new }
+    ensures { (begun : List ℕ) → line.now ≡ clip begun →
+        Says index.old begun (answer_text result) index.new }
 {
     let Some(text) = line.text() else {
         return Answer::Unknown;
@@ -59,7 +60,8 @@ fn respond(index: &mut TreeIndex<u64, u64>, request: Option<Request>) -> Answer
 
 /// Writes the line of an answer.
 pub fn write_answer<W: Write>(output: &mut W, answer: Answer) -> io::Result<()>
-    ensures { Writes (with_feed (answer_text answer)) (W.contents output.old) (W.contents output.new) result }
+    ensures { Writes (with_feed (answer_text answer))
+        (W.contents output.old) (W.contents output.new) result }
 {
     match answer {
         Answer::Stored => write_whole(output, b"ok\n"),

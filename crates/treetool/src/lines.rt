@@ -42,7 +42,8 @@ pub fn run_lines<R: Read, W: Write>(
     input: &mut R,
     output: &mut W,
 ) -> Result<(), ToolFault>
-    ensures { RunsLines index.old index.new (R.remaining input.old) (R.remaining input.new) (W.contents output.old) (W.contents output.new) result }
+    ensures { RunsLines index.old index.new (R.remaining input.old) (R.remaining input.new)
+        (W.contents output.old) (W.contents output.new) result }
 {
     let mut line = BegunLine::new();
     let mut piece = [0; 256];
@@ -70,13 +71,13 @@ fn end_lines<W: Write>(
     line: &BegunLine,
     output: &mut W,
 ) -> io::Result<()>
-    ensures { EndsInput line.now index.old index.new (W.contents output.old) (W.contents output.new) result }
+    ensures { EndsInput line.now index.old index.new
+        (W.contents output.old) (W.contents output.new) result }
 {
     if line.is_empty() {
         return Ok(());
     }
-    let answer = answer_to(index, line);
-    write_answer(output, answer)
+    write_answer(output, answer_to(index, line))
 }
 
 // Takes bytes in turn.
@@ -86,7 +87,8 @@ fn feed_all<W: Write>(
     bytes: &[u8],
     output: &mut W,
 ) -> io::Result<()>
-    ensures { Feeds line.old index.old bytes.now line.new index.new (W.contents output.old) (W.contents output.new) result }
+    ensures { Feeds line.old index.old bytes.now line.new index.new
+        (W.contents output.old) (W.contents output.new) result }
 {
     for byte in bytes {
         feed(index, line, *byte, output)?;
@@ -101,7 +103,8 @@ fn feed<W: Write>(
     byte: u8,
     output: &mut W,
 ) -> io::Result<()>
-    ensures { Feeds line.old index.old (byte ∷ []) line.new index.new (W.contents output.old) (W.contents output.new) result }
+    ensures { Feeds line.old index.old (byte ∷ []) line.new index.new
+        (W.contents output.old) (W.contents output.new) result }
 {
     if byte != b'\n' {
         line.push(byte);

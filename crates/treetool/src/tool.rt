@@ -34,8 +34,17 @@ fn run_tool<R: Read, W: Write, E: Write>(
     output: &mut W,
     errors: &mut E,
 ) -> u8
-    ensures usage { 0 < length arguments.now → (input.new ≡ input.old) × (output.new ≡ output.old) × RefusesArguments (E.contents errors.old) (E.contents errors.new) result }
-    ensures lines { length arguments.now ≡ 0 → (errors.new ≡ errors.old) × RunsTool (R.remaining input.old) (R.remaining input.new) (W.contents output.old) (W.contents output.new) result }
+    // With arguments the input and the output are left as they are.
+    ensures usage { 0 < length arguments.now →
+        RefusesArguments (E.contents errors.old) (E.contents errors.new) result }
+    ensures unread { 0 < length arguments.now → input.new ≡ input.old }
+    ensures unwritten { 0 < length arguments.now → output.new ≡ output.old }
+
+    // Without any the lines are answered, and no error is shown.
+    ensures lines { length arguments.now ≡ 0 →
+        RunsTool (R.remaining input.old) (R.remaining input.new)
+        (W.contents output.old) (W.contents output.new) result }
+    ensures silent { length arguments.now ≡ 0 → errors.new ≡ errors.old }
 {
     if !arguments.is_empty() {
         let _ = write_whole(errors, b"usage: treetool [storm W N]\n");

@@ -18,7 +18,8 @@ pub fn first_word(text: &[u8]) -> (&[u8], &[u8])
 
 /// What stands behind a space, where the text begins with one.
 pub fn behind_space(text: &[u8]) -> Option<&[u8]>
-    ensures { MatchOption result ((rest : List ℕ) → text.now ≢ 32 ∷ rest) (λ rest. text.now ≡ 32 ∷ rest.now) }
+    ensures { MatchOption result ((rest : List ℕ) → text.now ≢ 32 ∷ rest)
+        (λ rest. text.now ≡ 32 ∷ rest.now) }
 {
     match text {
         [b' ', rest @ ..] => Some(rest),
