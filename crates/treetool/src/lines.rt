@@ -52,10 +52,10 @@ pub fn run_lines<R: Read, W: Write>(
             return Err(ToolFault::Read);
         };
         if count == 0 {
-            let Ok(()) = end_lines(index, &line, output) else {
-                return Err(ToolFault::Write);
+            return match end_lines(index, &line, output) {
+                Ok(()) => Ok(()),
+                Err(_) => Err(ToolFault::Write),
             };
-            return Ok(());
         }
         let (bytes, _) = piece.split_at(count);
         let Ok(()) = feed_all(index, &mut line, bytes, output) else {

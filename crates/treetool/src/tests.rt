@@ -38,8 +38,12 @@ fn answers_lines(rt: HostRuntime) {
             "ok\nok\nok\n10\n20\n30\n",
         ),
         (
-            "insert 18446744073709551615 0\npeek 18446744073709551615\ninsert 0 18446744073709551615\npeek 0\n",
-            "ok\n0\nok\n18446744073709551615\n",
+            "insert 18446744073709551615 0\npeek 18446744073709551615\n",
+            "ok\n0\n",
+        ),
+        (
+            "insert 0 18446744073709551615\npeek 0\n",
+            "ok\n18446744073709551615\n",
         ),
     ] {
         expect_answers(&rt, rt.alloc(), lines.as_bytes(), wanted.as_bytes());

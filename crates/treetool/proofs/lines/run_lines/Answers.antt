@@ -27,18 +27,18 @@ returns-in_default g c =
     runs_to_fault c.args.index.now c.loop.index _ _ _ _ _ _ c.loop.line taken c.loop.invariant.out c.loop.invariant.carried
 
 -- the input ended
-pub returns-then-count-eq0 : goal.returns-then-count-eq0
-returns-then-count-eq0 g c =
+pub returns-in-Ok-end_lines : goal.returns-in-Ok-end_lines
+returns-in-Ok-end_lines g c =
     let none : Consumes (g.R.Read.remaining c.loop.input) (g.R.Read.remaining c.read.new.self) [] = rw c.if-count-eq0.true at c.in-Ok.ensures.bytes.0 in
     let taken : Consumes (g.R.Read.remaining c.args.input.now) (g.R.Read.remaining c.read.new.self) c.loop.invariant.read = rw append-nil at (Consumes-trans _ _ _ _ _ c.loop.invariant.taken none) in
     runs_to_end c.args.index.now c.loop.index _ _ _ _ _ _ c.loop.line taken c.loop.invariant.out c.loop.invariant.carried c.end_lines.new.index _ (c.in-Ok.ensures.bytes.1 c.if-count-eq0.true (omega arith)) c.in-Ok-end_lines.ensures
 
 -- the answer to the last line broke off
-pub returns-in_default-end_lines : goal.returns-in_default-end_lines
-returns-in_default-end_lines g c =
+pub returns-in-Err : goal.returns-in-Err
+returns-in-Err g c =
     let none : Consumes (g.R.Read.remaining c.loop.input) (g.R.Read.remaining c.read.new.self) [] = rw c.if-count-eq0.true at c.in-Ok.ensures.bytes.0 in
     let taken : Consumes (g.R.Read.remaining c.args.input.now) (g.R.Read.remaining c.read.new.self) c.loop.invariant.read = rw append-nil at (Consumes-trans _ _ _ _ _ c.loop.invariant.taken none) in
-    runs_to_last c.args.index.now c.loop.index _ _ _ _ _ _ c.loop.line taken c.loop.invariant.out c.loop.invariant.carried c.end_lines.new.index _ (c.in-Ok.ensures.bytes.1 c.if-count-eq0.true (omega arith)) c.in_default-end_lines.ensures
+    runs_to_last c.args.index.now c.loop.index _ _ _ _ _ _ c.loop.line taken c.loop.invariant.out c.loop.invariant.carried c.end_lines.new.index _ (c.in-Ok.ensures.bytes.1 c.if-count-eq0.true (omega arith)) c.in-Err.ensures
 
 -- a write failed
 pub returns-in_default-feed_all : goal.returns-in_default-feed_all
