@@ -24,4 +24,3 @@ module _ {K : Type 0} {cmp : K → K → Ordering} (o : IsTotalOrder cmp) where
 
   pub alike_after : (x y z : K) (c : Ordering) → cmp x y ≡ Equal → cmp z x ≡ c → cmp z y ≡ c
   alike_after x y z c same h = sym (alike_right o x y z same) ∙ h
-

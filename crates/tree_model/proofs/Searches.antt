@@ -51,7 +51,7 @@ module _ {K V : Type 0} {cmp : K → K → Ordering} (o : IsTotalOrder cmp) wher
         inside = omega arith;
         here = rw (equal p) refl;
         smaller = rw (equal p) (sym (filter_none _ ps (all_map (λ q e. ap is_lt e) ps over)));
-        larger = rw (equal p) (sym (filter_all _ ps (all_map (λ q e. ap is_gt e) ps over)))
+        larger = rw (equal p) (sym (filter_all _ ps (all_map (λ q e. ap is_gt e) ps over)));
       }
   place_at k (p ∷ ps) (suc i) h lt equal =
       let later = All-from_recursion _ ps h.0 i p (omega arith) in
@@ -69,7 +69,7 @@ module _ {K V : Type 0} (cmp : K → K → Ordering) (k : K) where
       record {
         smaller = sym (filter_none _ (p ∷ ps) (all_map (λ q e. ap is_lt e) (p ∷ ps) over));
         larger = sym (filter_all _ (p ∷ ps) (all_map (λ q e. ap is_gt e) (p ∷ ps) over));
-        absent = find_none _ (p ∷ ps) (all_map (λ q e. ap is_eq e) (p ∷ ps) over)
+        absent = find_none _ (p ∷ ps) (all_map (λ q e. ap is_eq e) (p ∷ ps) over);
       }
   gap_at (p ∷ ps) (suc i) h =
       let under : cmp p.0 k ≡ Less = h.0 0 p (omega arith) (omega arith) in
