@@ -181,6 +181,16 @@ spent_list [] (y ∷ others) same none = absurd (omega arith)
 spent_list (a ∷ spent) [] same none = absurd (omega arith)
 spent_list (a ∷ spent) (y ∷ others) same none = rw (none 0, spent_list spent others (omega arith) (λ p. none (suc p))) refl
 
+nones_same : {A X Y : Type 0} (xs : List X) (ys : List Y) → length xs ≡ length ys → ◌≡◌ {A = List (Option A)} (map (λ _. None) xs) (map (λ _. None) ys)
+nones_same [] [] same = refl
+nones_same [] (y ∷ ys) same = absurd (omega arith)
+nones_same (x ∷ xs) [] same = absurd (omega arith)
+nones_same {A} (x ∷ xs) (y ∷ ys) same = ap (λ (rest : List (Option A)). None ∷ rest) (nones_same xs ys (omega arith))
+
+-- what is left of it depends on how many arrivals there were
+pub drained_same : {K V : Type 0} (array other : Arrivals K V) → length array.arrivals ≡ length other.arrivals → drained array ≡ drained other
+drained_same {K} {V} array other whole = ap (λ (arrivals : List (Option (K × V))). record { arrivals = arrivals; retired = true; entries = [] }) (nones_same array.arrivals other.arrivals whole)
+
 module _ {K V : Type 0} {cmp : K → K → Ordering} {len bitmap : ℕ} {pick : ℕ → Option (K × V)} (ranks : ℕ) (bits : IsBitmap len bitmap) (it : IsRanked cmp pick (rank_for len ranks) (made_of bitmap)) {array : Arrivals K V} (view_is : seen cmp pick ranks (made_of bitmap) ≡ array) (none : array.entries ≡ []) where
   no_entries : sorted cmp (reachable (picked pick (made_of bitmap))) ≡ []
   no_entries = ap (λ (a : Arrivals K V). a.entries) view_is ∙ none

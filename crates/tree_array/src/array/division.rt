@@ -35,8 +35,7 @@ impl<K: Ord + Drop, V: Drop, const LEN: usize> ArrayOf<K, V, LEN> {
     {
         let mut walk = ArrayIter::new(self);
         self.move_on(&mut walk, boundary as usize, low);
-        self.move_on(&mut walk, LEN, high);
-        self.ranks = RETIRED;
+        self.move_rest(walk, high);
     }
 
     /// Does what [`distribute`](ArrayOf::distribute) does, but gives the entry at place `boundary` back, if there
@@ -57,9 +56,19 @@ impl<K: Ord + Drop, V: Drop, const LEN: usize> ArrayOf<K, V, LEN> {
         let mut walk = ArrayIter::new(self);
         self.move_on(&mut walk, boundary as usize, low);
         let apart = self.take_on(&mut walk);
-        self.move_on(&mut walk, LEN, high);
-        self.ranks = RETIRED;
+        self.move_rest(walk, high);
         apart
+    }
+
+    /// Moves the entries into a new array, and retires this one. The walk is over the entries.
+    fn move_rest(&mut self, mut walk: ArrayIter, to: &mut Self)
+        requires walk { IsOver K.cmp LEN self.old walk }
+        requires new { to.old ≡ in_order [] }
+        ensures moved { to.new ≡ in_order self.old.entries }
+        ensures left { self.new ≡ drained self.old }
+    {
+        self.move_on(&mut walk, LEN, to);
+        self.ranks = RETIRED;
     }
 
     /// Moves up to `count` entries into a new array. The walk is over the entries.

@@ -1,27 +1,7 @@
 use Rattle.std.proofs.Common.{◌∙◌, ap, rules}
-use Rattle.std.proofs.lemmas.List.{drop_all, take_all}
 use Rattle.tree_array.specs.Arrivals.{in_order}
-use Rattle.tree_array.proofs.Dealt.{drained_holds, drained_seen, next_apart}
+use Rattle.tree_array.proofs.Dealt.{drained_same, next_apart}
 use Rattle.tree_array.proofs.array.ArrayOf.distribute_apart.Goals as goal
-
-pub new-walk-requires : goal.new-walk-requires
-new-walk-requires g c = search rules
-
-pub move_on-requires : goal.move_on-requires
-move_on-requires g c = (search rules, (c.new-walk.ensures.over, c.requires.low))
-
-pub move_on-requires-2 : goal.move_on-requires-2
-move_on-requires-2 g c = (search rules, (c.take_on-apart.ensures.walk, c.requires.high))
-
-pub invariant_of-self : goal.invariant_of-self
-invariant_of-self g c =
-    let none = c.move_on-2.ensures.left ∙ drop_all g.row.LEN _ c.take_on-apart.ensures.walk.few in
-    drained_holds c.self.inside.ranks c.self.invariant.0 c.self.invariant.1 c.self.view_is none
-
-pub returns-clause-left : goal.returns-clause-left
-returns-clause-left g c =
-    let none = c.move_on-2.ensures.left ∙ drop_all g.row.LEN _ c.take_on-apart.ensures.walk.few in
-    drained_seen c.self.inside.ranks c.self.invariant.0 c.self.invariant.1 c.self.view_is none c.args.self.now (c.move_on-2.ensures.arrivals ∙ c.take_on-apart.ensures.arrivals ∙ c.move_on.ensures.arrivals)
 
 pub returns-clause-apart : goal.returns-clause-apart
 returns-clause-apart g c = (next_apart c.args.boundary c.args.self.now.entries _ _ c.take_on-apart.result c.move_on.ensures.left c.take_on-apart.ensures.taken).0
@@ -29,4 +9,7 @@ returns-clause-apart g c = (next_apart c.args.boundary c.args.self.now.entries _
 pub returns-clause-high : goal.returns-clause-high
 returns-clause-high g c =
     let behind = (next_apart c.args.boundary c.args.self.now.entries _ _ c.take_on-apart.result c.move_on.ensures.left c.take_on-apart.ensures.taken).1 in
-    c.move_on-2.ensures.moved ∙ ap in_order (take_all g.row.LEN _ c.take_on-apart.ensures.walk.few ∙ behind)
+    c.move_rest.ensures.moved ∙ ap in_order behind
+
+pub returns-clause-left : goal.returns-clause-left
+returns-clause-left g c = c.move_rest.ensures.left ∙ drained_same c.take_on-apart.new.self c.args.self.now (c.take_on-apart.ensures.arrivals ∙ c.move_on.ensures.arrivals)
