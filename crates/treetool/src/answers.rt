@@ -7,8 +7,7 @@ ghost use Rattle.treetool.specs.Writing.{Writes};
 use crate::begun_line::BegunLine;
 use crate::requests::{Request, request_of};
 use crate::short_text::ShortText;
-use crate::writing::write_whole;
-use std::io;
+use crate::writing::{WriteFailed, write_whole};
 use std::io::Write;
 use tree_index::{InsertError, TreeIndex};
 
@@ -59,7 +58,7 @@ fn respond(index: &mut TreeIndex<u64, u64>, request: Option<Request>) -> Answer
 }
 
 /// Writes the line of an answer.
-pub fn write_answer<W: Write>(output: &mut W, answer: Answer) -> io::Result<()>
+pub fn write_answer<W: Write>(output: &mut W, answer: Answer) -> Result<(), WriteFailed>
     ensures { Writes (with_feed (answer_text answer))
         (W.contents output.old) (W.contents output.new) result }
 {

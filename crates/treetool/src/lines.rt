@@ -5,9 +5,10 @@ ghost use Rattle.treetool.specs.Runs.{RunsLines};
 
 use crate::answers::{answer_to, write_answer};
 use crate::begun_line::BegunLine;
+use crate::writing::WriteFailed;
 use std::error::Error;
+use std::fmt;
 use std::io::{Read, Write};
-use std::{fmt, io};
 use tree_index::TreeIndex;
 
 /// Why a run over lines stopped before the end of its input.
@@ -70,7 +71,7 @@ fn end_lines<W: Write>(
     index: &mut TreeIndex<u64, u64>,
     line: &BegunLine,
     output: &mut W,
-) -> io::Result<()>
+) -> Result<(), WriteFailed>
     ensures { EndsInput line.now index.old index.new
         (W.contents output.old) (W.contents output.new) result }
 {
@@ -86,7 +87,7 @@ fn feed_all<W: Write>(
     line: &mut BegunLine,
     bytes: &[u8],
     output: &mut W,
-) -> io::Result<()>
+) -> Result<(), WriteFailed>
     ensures { Feeds line.old index.old bytes.now line.new index.new
         (W.contents output.old) (W.contents output.new) result }
 {
@@ -102,7 +103,7 @@ fn feed<W: Write>(
     line: &mut BegunLine,
     byte: u8,
     output: &mut W,
-) -> io::Result<()>
+) -> Result<(), WriteFailed>
     ensures { Feeds line.old index.old (byte ∷ []) line.new index.new
         (W.contents output.old) (W.contents output.new) result }
 {
