@@ -50,7 +50,9 @@ impl<K: Ord, V, const LEN: usize> Model for ArrayOf<K, V, LEN> {
 
     ghost view = { λ a. seen K.cmp (pick_of LEN a.cells.cells) a.ranks (made_of a.bitmap) };
 
-    ghost invariant = { λ a. IsBitmap LEN a.bitmap × IsRanked K.cmp (pick_of LEN a.cells.cells) (rank_for LEN a.ranks) (made_of a.bitmap) × IsMarked (pick_of LEN a.cells.cells) a.ranks };
+    ghost invariant = { λ a. IsBitmap LEN a.bitmap
+        × IsRanked K.cmp (pick_of LEN a.cells.cells) (rank_for LEN a.ranks) (made_of a.bitmap)
+        × IsMarked (pick_of LEN a.cells.cells) a.ranks };
 }
 
 impl<K: Ord + Drop, V: Drop, const LEN: usize> ArrayOf<K, V, LEN> {
