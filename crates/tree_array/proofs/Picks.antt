@@ -1,5 +1,5 @@
 -- The arrivals of an array, as a list of what is picked by their numbers.
-use Rattle.std.proofs.Common.{◌≡◌, ◌≢◌, ◌⊎◌, ℕ, zero, suc, ◌+◌, ◌-◌, ◌<◌, ◌≤◌, List, [], ◌∷◌, ◌++◌, map, length, true, false, Option, None, Some, refl, sym, ◌∙◌, ap, inl, inr, add-one, length-append, arith}
+use Rattle.std.proofs.Common.{◌≡◌, ◌≢◌, ◌⊎◌, ℕ, zero, suc, ◌+◌, ◌-◌, ◌<◌, ◌≤◌, List, [], ◌∷◌, ◌++◌, map, length, true, false, Option, None, Some, IsSome, refl, sym, ◌∙◌, ap, inl, inr, add-one, length-append, arith}
 use Rattle.std.specs.Option.{is_some}
 use Rattle.std.proofs.lemmas.Bool.{cases_lt}
 use mathlib.Core.Bool.{false≢true}
@@ -36,6 +36,13 @@ module _ {K V : Type 0} where
   arrival-all pick n unmade p = elim (cases_lt p n) [
     | inl early ↦ arrival-picked pick n p early
     | inr late ↦ get_or_past (picked pick n) p None (omega (arith, length-picked pick n)) ∙ sym (unmade p late)
+  ]
+
+  -- a reachable arrival was made
+  pub made_early : (pick : ℕ → Option (K × V)) (n : ℕ) → ((p : ℕ) → n ≤ p → pick p ≡ None) → (p : ℕ) (e : K × V) → pick p ≡ Some e → p < n
+  made_early pick n unmade p e some = elim (cases_lt p n) [
+    | inl lt ↦ lt
+    | inr ge ↦ absurd (none-some e (sym (unmade p ge) ∙ some))
   ]
 
   -- the list changes as each arrival does
@@ -78,3 +85,7 @@ some_from_test (Some a) h = (a, refl)
 pub none_from_test : {A : Type 0} (o : Option A) → is_some o ≡ false → o ≡ None
 none_from_test None h = refl
 none_from_test (Some a) h = absurd (false≢true (sym h))
+
+pub some_of : {A : Type 0} (o : Option A) → IsSome o → (a : A) × (o ≡ Some a)
+some_of None there = absurd (false≢true there)
+some_of (Some a) there = (a, refl)

@@ -1,5 +1,6 @@
 pub mod Arrivals
 pub mod Insertion
+pub mod Keys
 pub mod Layout
 pub mod Length
 pub mod Order

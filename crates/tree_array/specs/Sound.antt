@@ -16,5 +16,8 @@ pub record IsSound {K V : Type 0} (cmp : K → K → Ordering) (len : ℕ) (arra
   pub sorted_arrivals : array.entries ≡ sorted cmp (reachable array.arrivals)
   pub ascending : IsAscending cmp array.entries
   pub slots : map (arrival array.arrivals) (slots_in_order cmp array) ≡ map Some array.entries
+  -- there are as many entries as reachable arrivals
+  pub count : length array.entries ≡ length (reachable array.arrivals)
+  pub entries_few : length array.entries ≤ length array.arrivals
   -- a retired array has no entry
   pub none_retired : array.retired ≡ true → array.entries ≡ []

@@ -8,6 +8,7 @@ ghost use Rattle.tree_array.specs.Sound.{IsSound};
 pub use crate::answers::{DIMENSION, Dimension, InsertResult, RemoveResult};
 use crate::cells::Cells;
 pub use crate::judge::{Judge, KeyJudge, Steps};
+pub use crate::keys::{IndexKey, SameClone};
 use crate::ranks::made;
 use std::marker::Model;
 
@@ -18,7 +19,7 @@ mod searches;
 mod walk;
 
 pub use tree_model::range_contains;
-pub use walk::{ArrayIter, ArrayIterOf, ArrayRevIter, ArrayRevIterOf};
+pub use walk::{ArrayIter, ArrayRevIter};
 
 /// The word of a retired array, which holds no rank.
 const RETIRED: u64 = 1 << 62;
@@ -49,7 +50,9 @@ impl<K: Ord, V, const LEN: usize> Model for ArrayOf<K, V, LEN> {
 
     ghost view = { λ a. seen K.cmp (pick_of LEN a.cells.cells) a.ranks (made_of a.bitmap) };
 
-    ghost invariant = { λ a. IsBitmap LEN a.bitmap × IsRanked K.cmp (pick_of LEN a.cells.cells) (rank_for LEN a.ranks) (made_of a.bitmap) × IsMarked (pick_of LEN a.cells.cells) a.ranks };
+    ghost invariant = { λ a. IsBitmap LEN a.bitmap
+        × IsRanked K.cmp (pick_of LEN a.cells.cells) (rank_for LEN a.ranks) (made_of a.bitmap)
+        × IsMarked (pick_of LEN a.cells.cells) a.ranks };
 }
 
 impl<K: Ord + Drop, V: Drop, const LEN: usize> ArrayOf<K, V, LEN> {
@@ -70,7 +73,8 @@ impl<K: Ord + Drop, V: Drop, const LEN: usize> ArrayOf<K, V, LEN> {
         ensures free { result ≡ free LEN self.now }
         ensures sound { IsSound K.cmp LEN self.now }
     {
-        LEN as u8 - made(self.bitmap)
+        let made = made(self.bitmap);
+        LEN as u8 - made
     }
 
     /// Whether the last pair was removed. Such an array stays empty.
@@ -111,5 +115,11 @@ impl<K: Ord + Drop, V: Drop, const LEN: usize> ArrayOf<K, V, LEN> {
     }
 }
 
+#[cfg(test)]
+mod comparison;
+#[cfg(test)]
+mod found;
+#[cfg(test)]
+mod plain;
 #[cfg(test)]
 mod tests;

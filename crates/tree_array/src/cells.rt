@@ -45,7 +45,8 @@ impl<K: Drop, V: Drop, const LEN: usize> Cells<K, V, LEN> {
     /// Replaces the value of a reachable arrival.
     pub fn replace(&mut self, arrival: u8, val: V) -> V
         requires { IsSome (pick_of LEN self.old.cells arrival) }
-        ensures { (key : K) × (pick_of LEN self.old.cells arrival ≡ Some (key, result)) × IsSetAt (pick_of LEN self.old.cells) (pick_of LEN self.new.cells) arrival (Some (key, val)) }
+        ensures { (key : K) × (pick_of LEN self.old.cells arrival ≡ Some (key, result))
+            × IsSetAt (pick_of LEN self.old.cells) (pick_of LEN self.new.cells) arrival (Some (key, val)) }
     {
         match &mut self.cells[slot::<LEN>(arrival)] {
             Some((_, stored)) => mem::replace(stored, val),

@@ -5,6 +5,7 @@ mod answers;
 pub mod array;
 mod cells;
 mod judge;
+mod keys;
 mod order;
 mod ranks;
 mod search;

@@ -6,17 +6,20 @@ ghost use Rattle.tree_array.specs.Order.{IsOrder, IsTable};
 
 use crate::ranks::rank;
 
+/// No array has more slots.
+pub const MOST: usize = 15;
+
 /// The arrivals that have a rank, each before those of higher ranks, and how many they are.
-pub fn in_rank_order<const LEN: usize>(ranks: u64, made: u8) -> ([u8; LEN], u8)
+pub fn in_rank_order<const LEN: usize>(ranks: u64, made: u8) -> ([u8; MOST], u8)
     requires len { IsLen LEN }
     requires made { made ≤ LEN }
     requires bound { (p : ℕ) → p < made → rank_for LEN ranks p ≤ LEN }
     requires apart { (p q : ℕ) → p < made → q < made → 0 < rank_for LEN ranks p → rank_for LEN ranks p ≡ rank_for LEN ranks q → p ≡ q }
-    ensures whole { length result.0 ≡ LEN }
-    ensures few { result.1 ≤ LEN }
+    ensures whole { length result.0 ≡ 15 }
+    ensures few { result.1 ≤ 15 }
     ensures order { IsOrder (rank_for LEN ranks) made (take result.1 result.0) }
 {
-    let mut order = [0; LEN];
+    let mut order = [0; MOST];
     let mut count = 0;
     for named in by_rank::<LEN>(ranks, made) {
         if let Some(arrival) = named {
@@ -28,15 +31,15 @@ pub fn in_rank_order<const LEN: usize>(ranks: u64, made: u8) -> ([u8; LEN], u8)
 }
 
 /// The arrival of each rank, if one has it. The least rank, which is 1, stands first.
-fn by_rank<const LEN: usize>(ranks: u64, made: u8) -> [Option<u8>; LEN]
+fn by_rank<const LEN: usize>(ranks: u64, made: u8) -> [Option<u8>; MOST]
     requires len { IsLen LEN }
     requires made { made ≤ LEN }
     requires bound { (p : ℕ) → p < made → rank_for LEN ranks p ≤ LEN }
     requires apart { (p q : ℕ) → p < made → q < made → 0 < rank_for LEN ranks p → rank_for LEN ranks p ≡ rank_for LEN ranks q → p ≡ q }
-    ensures whole { length result ≡ LEN }
+    ensures whole { length result ≡ 15 }
     ensures table { IsTable (rank_for LEN ranks) made result }
 {
-    let mut table = [None; LEN];
+    let mut table = [None; MOST];
     for arrival in 0..made {
         let rank = rank::<LEN>(ranks, arrival);
         if rank > 0 {

@@ -1,2 +1,1 @@
 pub mod Inserts
-pub mod Keys

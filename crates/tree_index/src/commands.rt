@@ -3,8 +3,8 @@ ghost use Rattle.std.specs.Prelude.{◌≡◌, IfOk, OnErr};
 ghost use Rattle.tree_model.specs.Runs.{Step, Runs};
 
 use crate::index::TreeIndex;
-use crate::keys::{IndexKey, SameClone};
 use std::alloc::AllocError;
+use tree_array::array::{IndexKey, SameClone};
 use tree_model::{Command, InsertError, Reply};
 
 /// Answers the commands in turn, a reply for each.

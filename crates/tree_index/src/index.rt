@@ -4,10 +4,10 @@ ghost use Rattle.std.specs.Option.{option_copied, option_map};
 ghost use Rattle.tree_model.specs.Pairs.{IsAscending, pair_at};
 ghost use Rattle.tree_model.specs.Edits.{Inserts};
 
-use crate::keys::IndexKey;
 use std::alloc::Global;
 use std::fmt;
 use std::marker::Model;
+use tree_array::array::IndexKey;
 use tree_model::{InsertError, PlainIndex};
 
 /// An ordered index of pairs of a key and a value. Contracts see the list of its pairs, strictly

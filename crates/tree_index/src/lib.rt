@@ -4,13 +4,13 @@
 
 mod commands;
 mod index;
-mod keys;
+pub mod laws;
 mod shared;
 #[cfg(test)]
 mod tests;
 
 pub use commands::run;
 pub use index::TreeIndex;
-pub use keys::{IndexKey, SameClone};
 pub use shared::State;
+pub use tree_array::array::{IndexKey, SameClone};
 pub use tree_model::{Command, InsertError, Record, Reply};

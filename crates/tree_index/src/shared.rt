@@ -5,10 +5,10 @@ ghost use Rattle.tree_model.specs.History.{Appends, IsHistoryOf, IsSameCommand};
 ghost use Rattle.tree_index.specs.Inserts.{RecordsInsert};
 
 use crate::index::TreeIndex;
-use crate::keys::{IndexKey, SameClone};
 use std::alloc::{AllocError, Global};
 use std::fmt;
 use std::marker::Model;
+use tree_array::array::{IndexKey, SameClone};
 use tree_model::{Command, InsertError, Record, Reply};
 
 /// An index with the history of its calls. Contracts see the list of its pairs and the history,
@@ -127,7 +127,11 @@ where
 {
     fn fmt<W: fmt::Write>(&self, f: &mut fmt::Formatter<W>) -> fmt::Result {
         let history = self.history();
-        write!(f, "State {{ index: {:?}, history: {history:?} }}", self.index())
+        write!(
+            f,
+            "State {{ index: {:?}, history: {history:?} }}",
+            self.index()
+        )
     }
 }
 

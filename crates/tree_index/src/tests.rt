@@ -1,6 +1,6 @@
 //! Worked calls of the index, its runs and its state.
 ghost use Rattle.std.proofs.Common.{rules};
-ghost use Rattle.tree_index.specs.Keys.{equal_numbers};
+ghost use Rattle.tree_array.specs.Keys.{equal_numbers};
 
 use crate::{Command, IndexKey, InsertError, Record, Reply, SameClone, State, TreeIndex, run};
 use std::alloc::Global;
@@ -11,7 +11,10 @@ fn keeps_the_first_of_two_pairs(rt: HostRuntime) -> Result<(), Fail> {
     let mut index = TreeIndex::new(rt.alloc());
     assert!(rt; index.insert_sync(1, 10).is_ok());
     let again = index.insert_sync(1, 11);
-    assert!(rt; matches!(&again, Err(InsertError::Duplicate(1, 11))), "{again:?}");
+    assert!(rt;
+        matches!(&again, Err(InsertError::Duplicate(1, 11))),
+        "{again:?}"
+    );
     assert_eq!(rt; index.peek(&1).copied(), Some(10));
     assert_eq!(rt; index.peek(&2).copied(), None);
     let shown = format!(in rt.alloc(); "{index:?}")?;
@@ -131,13 +134,19 @@ fn keeps_its_history(rt: HostRuntime) -> Result<(), Fail> {
     assert!(rt;
         matches!(
             &state.history()[1],
-            Record { command: Command::Insert(1, 11), reply: Reply::Duplicate }
+            Record {
+                command: Command::Insert(1, 11),
+                reply: Reply::Duplicate
+            }
         )
     );
     assert!(rt;
         matches!(
             &state.history()[2],
-            Record { command: Command::Peek(1), reply: Reply::Found(Some(10)) }
+            Record {
+                command: Command::Peek(1),
+                reply: Reply::Found(Some(10))
+            }
         )
     );
     Ok(())
@@ -151,7 +160,9 @@ fn hands_back_what_is_refused(rt: HostRuntime) -> Result<(), Fail> {
     for key in 0..20 {
         let calls = state.history().len();
         if let Err(refused) = state.insert(key, key + 100) {
-            assert!(rt; matches!(refused, InsertError::OutOfMemory(k, v) if k == key && v == key + 100));
+            assert!(rt;
+                matches!(refused, InsertError::OutOfMemory(k, v) if k == key && v == key + 100)
+            );
             assert_eq!(rt; state.history().len(), calls);
             assert_eq!(rt; state.index().peek(&key).copied(), None);
             assert!(rt; state.insert(key, key + 100).is_ok());

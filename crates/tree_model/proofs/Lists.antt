@@ -1,5 +1,5 @@
 -- Facts on each element of a list, and what a filter or a search makes of a list whose elements all pass, or all fail.
-use Rattle.std.proofs.Common.{◌≡◌, Bool, true, false, cond, List, [], ◌∷◌, ◌++◌, filter, find, Option, Some, None, refl, ap}
+use Rattle.std.proofs.Common.{◌≡◌, Bool, true, false, cond, List, [], ◌∷◌, ◌++◌, filter, find, Some, None, refl, ap}
 use Rattle.std.specs.List.{AllByRecursion}
 
 module _ {X : Type 0} where

@@ -1,10 +1,10 @@
 -- What a total order says of two keys turned round, and of three.
-use Rattle.std.proofs.Common.{◌≡◌, Bool, true, false, ◌∙◌, sym, ap}
+use Rattle.std.proofs.Common.{◌≡◌, ◌∙◌, sym, ap}
 use Rattle.std.specs.Cmp.{IsTotalOrder}
 use Rattle.std.specs.declared.cmp.Ordering.{Ordering}
 use Rattle.std.specs.declared.cmp.Ordering.TheVariants.{Less, Equal, Greater}
 use Rattle.std.specs.Ordering.{ordering_reverse}
-use Rattle.std.proofs.lemmas.Cmp.{alike_right, tied_back}
+use Rattle.std.proofs.lemmas.Cmp.{alike_right}
 
 module _ {K : Type 0} {cmp : K → K → Ordering} (o : IsTotalOrder cmp) where
   -- x is smaller than y, so y is larger than x
@@ -24,4 +24,3 @@ module _ {K : Type 0} {cmp : K → K → Ordering} (o : IsTotalOrder cmp) where
 
   pub alike_after : (x y z : K) (c : Ordering) → cmp x y ≡ Equal → cmp z x ≡ c → cmp z y ≡ c
   alike_after x y z c same h = sym (alike_right o x y z same) ∙ h
-

@@ -1,5 +1,5 @@
 -- What a binary search for a key answers in an ascending list of pairs.
-use Rattle.std.proofs.Common.{◌≡◌, ℕ, zero, suc, ◌<◌, ◌≤◌, List, [], ◌∷◌, ◌++◌, length, take, drop, None, slice_get, refl, rules, sym, ap, ◌∙◌, take-append-drop, arith, IsSome, Result, Ok, Err, IfOk, IfErr}
+use Rattle.std.proofs.Common.{◌≡◌, ℕ, zero, suc, ◌<◌, ◌≤◌, List, [], ◌∷◌, ◌++◌, length, take, drop, slice_get, refl, rules, sym, ap, ◌∙◌, take-append-drop, arith, IsSome, Result, Ok, Err, IfOk, IfErr}
 use Rattle.std.specs.Cmp.{IsTotalOrder}
 use Rattle.std.specs.List.{AllByRecursion, HoldsAt, insert, remove, slice_set}
 use Rattle.std.specs.List.Sorted.{IsNonDecreasingBy, IsPartitionPoint, IsSearchInRange, IsBinarySearchResult}
@@ -8,7 +8,7 @@ use Rattle.std.specs.declared.cmp.Ordering.TheVariants.{Less, Equal, Greater}
 use Rattle.std.specs.Ordering.{ordering_index, is_lt, is_eq, is_gt}
 use Rattle.std.proofs.lemmas.Cmp.{tied_back}
 use Rattle.std.proofs.lemmas.List.Elements.{All-from_recursion, recursion_from_All}
-use Rattle.tree_model.specs.Pairs.{IsAscending, below, above, pair_at, IsPresent, put, without}
+use Rattle.tree_model.specs.Pairs.{IsAscending, IsPresent, put, without}
 use Rattle.tree_model.specs.Places.{IsPlace, IsGap}
 use Rattle.tree_model.proofs.Order.{greater_from_less, less_from_greater, alike, alike_after}
 use Rattle.tree_model.proofs.Lists.{all_map, filter_none, filter_all, find_none}
@@ -51,7 +51,7 @@ module _ {K V : Type 0} {cmp : K → K → Ordering} (o : IsTotalOrder cmp) wher
         inside = omega arith;
         here = rw (equal p) refl;
         smaller = rw (equal p) (sym (filter_none _ ps (all_map (λ q e. ap is_lt e) ps over)));
-        larger = rw (equal p) (sym (filter_all _ ps (all_map (λ q e. ap is_gt e) ps over)))
+        larger = rw (equal p) (sym (filter_all _ ps (all_map (λ q e. ap is_gt e) ps over)));
       }
   place_at k (p ∷ ps) (suc i) h lt equal =
       let later = All-from_recursion _ ps h.0 i p (omega arith) in
@@ -69,7 +69,7 @@ module _ {K V : Type 0} (cmp : K → K → Ordering) (k : K) where
       record {
         smaller = sym (filter_none _ (p ∷ ps) (all_map (λ q e. ap is_lt e) (p ∷ ps) over));
         larger = sym (filter_all _ (p ∷ ps) (all_map (λ q e. ap is_gt e) (p ∷ ps) over));
-        absent = find_none _ (p ∷ ps) (all_map (λ q e. ap is_eq e) (p ∷ ps) over)
+        absent = find_none _ (p ∷ ps) (all_map (λ q e. ap is_eq e) (p ∷ ps) over);
       }
   gap_at (p ∷ ps) (suc i) h =
       let under : cmp p.0 k ≡ Less = h.0 0 p (omega arith) (omega arith) in

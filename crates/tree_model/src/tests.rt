@@ -8,7 +8,10 @@ use std::test::Fail;
 fn index_of(alloc: Global, keys: &[u64]) -> Result<PlainIndex<u64, u64>, Fail> {
     let mut index = PlainIndex::new(alloc);
     for key in keys {
-        index.upsert(*key, key.saturating_mul(10)).ok().ok_or("memory")?;
+        index
+            .upsert(*key, key.saturating_mul(10))
+            .ok()
+            .ok_or("memory")?;
     }
     Ok(index)
 }
@@ -19,9 +22,15 @@ fn stores_in_order(rt: HostRuntime) -> Result<(), Fail> {
     assert_eq!(rt; index.pairs(), [(3, 30), (5, 50), (9, 90)].as_slice());
     assert!(rt; index.insert(4, 40).is_ok());
     let again = index.insert(4, 41);
-    assert!(rt; matches!(&again, Err(InsertError::Duplicate(4, 41))), "{again:?}");
+    assert!(rt;
+        matches!(&again, Err(InsertError::Duplicate(4, 41))),
+        "{again:?}"
+    );
     assert!(rt; index.upsert(4, 42).is_ok());
-    assert_eq!(rt; index.pairs(), [(3, 30), (4, 42), (5, 50), (9, 90)].as_slice());
+    assert_eq!(rt;
+        index.pairs(),
+        [(3, 30), (4, 42), (5, 50), (9, 90)].as_slice()
+    );
     assert_eq!(rt; index.peek(&4).copied(), Some(42));
     assert_eq!(rt; index.peek_entry(&6).copied(), None);
     assert_eq!(rt; index.peek_entry(&9).copied(), Some((9, 90)));
@@ -52,14 +61,32 @@ fn left_by(alloc: Global, low: Bound<&u64>, high: Bound<&u64>) -> Result<usize, 
 fn cuts_each_bound_by_itself(rt: HostRuntime) -> Result<(), Fail> {
     let alloc = rt.alloc();
     let (low, high) = (2, 4);
-    assert_eq!(rt; left_by(alloc, Bound::Included(&low), Bound::Included(&high))?, 2);
-    assert_eq!(rt; left_by(alloc, Bound::Included(&low), Bound::Excluded(&high))?, 3);
-    assert_eq!(rt; left_by(alloc, Bound::Excluded(&low), Bound::Included(&high))?, 3);
-    assert_eq!(rt; left_by(alloc, Bound::Excluded(&low), Bound::Excluded(&high))?, 4);
-    assert_eq!(rt; left_by(alloc, Bound::Unbounded, Bound::Excluded(&high))?, 2);
+    assert_eq!(rt;
+        left_by(alloc, Bound::Included(&low), Bound::Included(&high))?,
+        2
+    );
+    assert_eq!(rt;
+        left_by(alloc, Bound::Included(&low), Bound::Excluded(&high))?,
+        3
+    );
+    assert_eq!(rt;
+        left_by(alloc, Bound::Excluded(&low), Bound::Included(&high))?,
+        3
+    );
+    assert_eq!(rt;
+        left_by(alloc, Bound::Excluded(&low), Bound::Excluded(&high))?,
+        4
+    );
+    assert_eq!(rt;
+        left_by(alloc, Bound::Unbounded, Bound::Excluded(&high))?,
+        2
+    );
     assert_eq!(rt; left_by(alloc, Bound::Excluded(&low), Bound::Unbounded)?, 2);
     assert_eq!(rt; left_by(alloc, Bound::Unbounded, Bound::Unbounded)?, 0);
-    assert_eq!(rt; left_by(alloc, Bound::Included(&high), Bound::Included(&low))?, 5);
+    assert_eq!(rt;
+        left_by(alloc, Bound::Included(&high), Bound::Included(&low))?,
+        5
+    );
     Ok(())
 }
 
@@ -69,6 +96,18 @@ fn meets_bounds(rt: HostRuntime) {
     assert!(rt; range_contains((Bound::Included(&low), Bound::Excluded(&high)), &3));
     assert!(rt; is_above(Bound::Included(&low), &2));
     assert!(rt; !is_below(Bound::Excluded(&high), &4));
+}
+
+#[test]
+fn tells_why_a_pair_was_refused(rt: HostRuntime) -> Result<(), Fail> {
+    let duplicate: InsertError<u64, u64> = InsertError::Duplicate(1, 10);
+    let refused: InsertError<u64, u64> = InsertError::OutOfMemory(1, 10);
+    let shown = format!(in rt.alloc(); "{duplicate}; {refused}; {refused:?}")?;
+    assert_eq!(rt;
+        shown.as_str(),
+        "the key is present; out of memory; OutOfMemory(1, 10)"
+    );
+    Ok(())
 }
 
 // Whatever request is refused, the pair comes back, the pairs stay, and the same call again

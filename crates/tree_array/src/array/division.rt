@@ -3,7 +3,7 @@ ghost use Rattle.std.specs.Prelude.{◌≡◌, ◌+◌, ◌≤◌, [], ◌∷◌
 ghost use Rattle.tree_array.specs.Arrivals.{boundary, drained, in_order};
 ghost use Rattle.tree_array.specs.Walk.{IsOver};
 
-use super::{ArrayIterOf, ArrayOf, RETIRED};
+use super::{ArrayIter, ArrayOf, RETIRED};
 use crate::ranks::made;
 use crate::search::count_ascents;
 
@@ -33,10 +33,9 @@ impl<K: Ord + Drop, V: Drop, const LEN: usize> ArrayOf<K, V, LEN> {
         ensures high { high.new ≡ in_order (drop boundary self.old.entries) }
         ensures left { self.new ≡ drained self.old }
     {
-        let mut walk = ArrayIterOf::new(self);
-        self.move_on(&mut walk, boundary, low);
-        self.move_on(&mut walk, LEN as u8, high);
-        self.ranks = RETIRED;
+        let mut walk = ArrayIter::new(self);
+        self.move_on(&mut walk, boundary as usize, low);
+        self.move_rest(walk, high);
     }
 
     /// Does what [`distribute`](ArrayOf::distribute) does, but gives the entry at place `boundary` back, if there
@@ -54,16 +53,26 @@ impl<K: Ord + Drop, V: Drop, const LEN: usize> ArrayOf<K, V, LEN> {
         ensures high { high.new ≡ in_order (drop (boundary + 1) self.old.entries) }
         ensures left { self.new ≡ drained self.old }
     {
-        let mut walk = ArrayIterOf::new(self);
-        self.move_on(&mut walk, boundary, low);
+        let mut walk = ArrayIter::new(self);
+        self.move_on(&mut walk, boundary as usize, low);
         let apart = self.take_on(&mut walk);
-        self.move_on(&mut walk, LEN as u8, high);
-        self.ranks = RETIRED;
+        self.move_rest(walk, high);
         apart
     }
 
+    /// Moves the entries into a new array, and retires this one. The walk is over the entries.
+    fn move_rest(&mut self, mut walk: ArrayIter, to: &mut Self)
+        requires walk { IsOver K.cmp LEN self.old walk }
+        requires new { to.old ≡ in_order [] }
+        ensures moved { to.new ≡ in_order self.old.entries }
+        ensures left { self.new ≡ drained self.old }
+    {
+        self.move_on(&mut walk, LEN, to);
+        self.ranks = RETIRED;
+    }
+
     /// Moves up to `count` entries into a new array. The walk is over the entries.
-    fn move_on(&mut self, walk: &mut ArrayIterOf<LEN>, count: u8, to: &mut Self)
+    fn move_on(&mut self, walk: &mut ArrayIter, count: usize, to: &mut Self)
         requires walk { IsOver K.cmp LEN self.old walk.old }
         requires new { to.old ≡ in_order [] }
         ensures walk { IsOver K.cmp LEN self.new walk.new }
@@ -80,10 +89,10 @@ impl<K: Ord + Drop, V: Drop, const LEN: usize> ArrayOf<K, V, LEN> {
     }
 
     /// Takes the first entry. The walk is over the entries.
-    fn take_on(&mut self, walk: &mut ArrayIterOf<LEN>) -> Option<(K, V)>
+    fn take_on(&mut self, walk: &mut ArrayIter) -> Option<(K, V)>
         requires { IsOver K.cmp LEN self.old walk.old }
         ensures walk { IsOver K.cmp LEN self.new walk.new }
-        ensures taken { MatchOption result ((self.old.entries ≡ []) × (self.new ≡ self.old)) (λ pair. self.old.entries ≡ pair ∷ self.new.entries) }
+        ensures taken { MatchOption result ((self.old.entries ≡ []) × (self.new.entries ≡ [])) (λ pair. self.old.entries ≡ pair ∷ self.new.entries) }
         ensures arrivals { length self.new.arrivals ≡ length self.old.arrivals }
     {
         let slot = walk.next()?;

@@ -41,7 +41,9 @@ impl<K: Ord + Drop, V: Drop, const LEN: usize> ArrayOf<K, V, LEN> {
     pub fn remove_if<F: FnOnce(&V) -> bool + Drop>(&mut self, key: &K, condition: F) -> RemoveResult
         requires { ForSome (pair_at K.cmp self.old.entries key.now) (λ pair. FnOnceTakesAt F.FnOnce condition pair.1) }
         ensures absent { IsAbsent K.cmp self.old.entries key.now → (self.new ≡ self.old) × (result ≡ RemoveResult.Fail) }
-        ensures present { IfSome (pair_at K.cmp self.old.entries key.now) (λ pair. (said : Bool) × FnOnceReturnsAt F.FnOnce condition pair.1 said × IsRemoval K.cmp self.old key.now said result self.new) }
+        ensures present { IfSome (pair_at K.cmp self.old.entries key.now)
+            (λ pair. (said : Bool) × FnOnceReturnsAt F.FnOnce condition pair.1 said
+            × IsRemoval K.cmp self.old key.now said result self.new) }
     {
         match find_key(&self.cells, self.ranks, made(self.bitmap), key) {
             Place::At(slot) => {
@@ -60,7 +62,8 @@ impl<K: Ord + Drop, V: Drop, const LEN: usize> ArrayOf<K, V, LEN> {
     /// Removes the pairs whose keys are within the bounds, and retires the array if the last one went.
     /// At most two comparisons a slot.
     pub fn remove_range(&mut self, bounds: (Bound<&K>, Bound<&K>))
-        ensures { self.new ≡ without_range K.cmp self.old (bound_map (λ key. key.now) bounds.entry.0) (bound_map (λ key. key.now) bounds.entry.1) }
+        ensures { self.new ≡ without_range K.cmp self.old
+            (bound_map (λ key. key.now) bounds.entry.0) (bound_map (λ key. key.now) bounds.entry.1) }
     {
         for slot in 0..made(self.bitmap) {
             if self.is_reachable(slot) && range_contains(bounds, self.key(slot)) {
@@ -80,7 +83,8 @@ impl<K: Ord + Drop, V: Drop, const LEN: usize> ArrayOf<K, V, LEN> {
     /// Replaces the value of a slot and answers the old one. Caller's condition: the slot is reachable.
     pub fn set_val(&mut self, slot: u8, val: V) -> V
         requires { IsSome (arrival self.old.arrivals slot) }
-        ensures { (key : K) × (arrival self.old.arrivals slot ≡ Some (key, result)) × (self.new ≡ with_val K.cmp self.old slot key val) }
+        ensures { (key : K) × (arrival self.old.arrivals slot ≡ Some (key, result))
+            × (self.new ≡ with_val K.cmp self.old slot key val) }
     {
         self.cells.replace(slot, val)
     }

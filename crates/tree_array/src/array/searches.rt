@@ -11,7 +11,8 @@ use crate::search::{Place, find};
 impl<K: Ord + Drop, V: Drop, const LEN: usize> ArrayOf<K, V, LEN> {
     /// The pair with the judge's key. At most `LEN` comparisons.
     pub fn search_entry<J: Judge<K>>(&self, judge: &mut J) -> Option<(&K, &V)>
-        ensures found { MatchOption result (IsAbsent K.cmp self.now.entries (J.key judge.old)) (λ pair. pair_at K.cmp self.now.entries (J.key judge.old) ≡ Some (pair.0.now, pair.1.now)) }
+        ensures found { MatchOption result (IsAbsent K.cmp self.now.entries (J.key judge.old))
+            (λ pair. pair_at K.cmp self.now.entries (J.key judge.old) ≡ Some (pair.0.now, pair.1.now)) }
         ensures same_key { J.key judge.new ≡ J.key judge.old }
         ensures counted { J.count judge.new ≤ J.count judge.old + LEN }
     {
@@ -23,7 +24,8 @@ impl<K: Ord + Drop, V: Drop, const LEN: usize> ArrayOf<K, V, LEN> {
 
     /// The value with the judge's key. At most `LEN` comparisons.
     pub fn search_val<J: Judge<K>>(&self, judge: &mut J) -> Option<&V>
-        ensures found { MatchOption result (IsAbsent K.cmp self.now.entries (J.key judge.old)) (λ val. (key : K) × (pair_at K.cmp self.now.entries (J.key judge.old) ≡ Some (key, val.now))) }
+        ensures found { MatchOption result (IsAbsent K.cmp self.now.entries (J.key judge.old))
+            (λ val. (key : K) × (pair_at K.cmp self.now.entries (J.key judge.old) ≡ Some (key, val.now))) }
         ensures same_key { J.key judge.new ≡ J.key judge.old }
         ensures counted { J.count judge.new ≤ J.count judge.old + LEN }
     {
@@ -33,7 +35,9 @@ impl<K: Ord + Drop, V: Drop, const LEN: usize> ArrayOf<K, V, LEN> {
 
     /// The slot of the least key that isn't less than the judge's. At most `LEN` comparisons.
     pub fn min_greater_equal<J: Judge<K>>(&self, judge: &mut J) -> Option<u8>
-        ensures found { MatchOption result (least_from K.cmp self.now.entries (J.key judge.old) ≡ None) (λ slot. (pair : _) × (arrival self.now.arrivals slot ≡ Some pair) × (least_from K.cmp self.now.entries (J.key judge.old) ≡ Some pair)) }
+        ensures found { MatchOption result (least_from K.cmp self.now.entries (J.key judge.old) ≡ None)
+            (λ slot. (pair : _) × (arrival self.now.arrivals slot ≡ Some pair)
+            × (least_from K.cmp self.now.entries (J.key judge.old) ≡ Some pair)) }
         ensures same_key { J.key judge.new ≡ J.key judge.old }
         ensures counted { J.count judge.new ≤ J.count judge.old + LEN }
     {

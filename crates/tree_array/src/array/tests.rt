@@ -1,14 +1,10 @@
 //! The worked rows of an array, with the word of its ranks and its bitmap.
-ghost use Rattle.std.specs.Prelude.{◌≡◌, ◌<◌};
 
-use super::{
-    Array, ArrayIter, ArrayIterOf, ArrayOf, ArrayRevIter, DIMENSION, InsertResult, KeyJudge,
-    RemoveResult, Steps, range_contains,
-};
+use super::found::{found, slot_from};
+use super::plain::word;
+use super::{Array, ArrayIter, ArrayOf, ArrayRevIter, DIMENSION, RemoveResult, range_contains};
 use crate::ranks::slot;
-use std::marker::Brand;
 use std::ops::Bound;
-use std::sync::ledger::{Blank, Ledger};
 use std::test::Fail;
 
 /// The array in which these keys arrived, each with itself as its value.
@@ -26,38 +22,6 @@ fn small_of(keys: &[u64]) -> ArrayOf<u64, u64, 7> {
         let _ = array.insert::<true>(*key, *key);
     }
     array
-}
-
-/// What an insert answered, with the pair that came back.
-fn word(answer: InsertResult<u64, u64>) -> (&'static str, Option<(u64, u64)>) {
-    match answer {
-        InsertResult::Success => ("Success", None),
-        InsertResult::Duplicate(key, val) => ("Duplicate", Some((key, val))),
-        InsertResult::Full(key, val) => ("Full", Some((key, val))),
-    }
-}
-
-/// What the three searches find by a key: the pair, the value, and the least key from there on.
-fn found(array: &Array<u64, u64>, key: u64) -> (Option<(u64, u64)>, Option<u64>, Option<u8>) {
-    found_by::<Brand>(array, key, Blank::new(1))
-}
-
-fn found_by<L: Ledger>(
-    array: &Array<u64, u64>,
-    key: u64,
-    blank: Blank,
-) -> (Option<(u64, u64)>, Option<u64>, Option<u8>)
-    requires name { blank.name ≡ L.name }
-    requires parts { blank.parts ≡ L.parts }
-    requires some { 0 < L.parts }
-{
-    let mut judge: KeyJudge<u64, L> = KeyJudge::new(&key, Steps::new(blank));
-    let pair = match array.search_entry(&mut judge) {
-        Some((key, val)) => Some((*key, *val)),
-        None => None,
-    };
-    let val = array.search_val(&mut judge).copied();
-    (pair, val, array.min_greater_equal(&mut judge))
 }
 
 /// Whether a walk gives these slots and no more.
@@ -95,16 +59,12 @@ fn ranks_and_bitmap(rt: HostRuntime) -> Result<(), Fail> {
 #[test]
 fn slots_of_arrivals(rt: HostRuntime) -> Result<(), Fail> {
     let slots = [1, 2, 3, 0, 5, 6, 7, 4, 9, 10, 11, 8, 12, 13, 14];
-    let mut arrival = 0;
-    for expected in &slots {
-        assert_eq!(rt; slot::<15>(arrival), *expected);
-        arrival += 1;
+    for (arrival, expected) in slots.iter().enumerate() {
+        assert_eq!(rt; slot::<15>(arrival as u8), *expected);
     }
     let small_slots = [1, 2, 3, 0, 4, 5, 6];
-    let mut arrival = 0;
-    for expected in &small_slots {
-        assert_eq!(rt; slot::<7>(arrival), *expected);
-        arrival += 1;
+    for (arrival, expected) in small_slots.iter().enumerate() {
+        assert_eq!(rt; slot::<7>(arrival as u8), *expected);
     }
     assert_eq!(rt; (DIMENSION.len, DIMENSION.bits), (15, 4));
     Ok(())
@@ -151,13 +111,18 @@ fn retires(rt: HostRuntime) -> Result<(), Fail> {
 #[test]
 fn takes_and_replaces(rt: HostRuntime) -> Result<(), Fail> {
     let mut array = of(&[5, 3, 9]);
-    assert_eq!(rt; *array.key(1), 3);
-    assert_eq!(rt; array.set_val(1, 30), 3);
-    assert_eq!(rt; *array.val(1), 30);
-    assert_eq!(rt; array.take(0), (5, 5, RemoveResult::Success));
-    assert_eq!(rt; array.take(1), (3, 30, RemoveResult::Success));
-    assert_eq!(rt; array.take(2), (9, 9, RemoveResult::Retired));
+    let slot = slot_from(&array, 2).ok_or("a slot")?;
+    assert_eq!(rt; (slot, *array.key(slot)), (1, 3));
+    assert_eq!(rt; array.set_val(slot, 30), 3);
+    let slot = slot_from(&array, 2).ok_or("a slot")?;
+    assert_eq!(rt; (slot, *array.val(slot)), (1, 30));
+    assert_eq!(rt; array.take(slot), (3, 30, RemoveResult::Success));
+    let slot = slot_from(&array, 5).ok_or("a slot")?;
+    assert_eq!(rt; array.take(slot), (5, 5, RemoveResult::Success));
+    let slot = slot_from(&array, 5).ok_or("a slot")?;
+    assert_eq!(rt; array.take(slot), (9, 9, RemoveResult::Retired));
     assert!(rt; array.is_retired());
+    assert_eq!(rt; slot_from(&array, 0), None);
     Ok(())
 }
 
@@ -292,7 +257,7 @@ fn walks(rt: HostRuntime) -> Result<(), Fail> {
     assert_eq!(rt; (back.slot(), back.next()), (None, Some(2)));
     let mut fresh = ArrayRevIter::new(&array).rev();
     assert_eq!(rt; fresh.next(), Some(1));
-    let mut fresh = ArrayIterOf::new(&array).rev();
+    let mut fresh = ArrayIter::new(&array).rev();
     assert_eq!(rt; fresh.next(), Some(2));
     Ok(())
 }

@@ -1,10 +1,10 @@
 //! Walks over the slots of an array, in the order of their keys and against it.
 ghost use Rattle.std.specs.Prelude.{◌≡◌, None, ⊤, option_and_then, slice_get};
 ghost use Rattle.tree_array.specs.Arrivals.{slots_in_order};
-ghost use Rattle.tree_array.specs.Walk.{StepsBack, StepsOn, left_back, left_on, standing};
+ghost use Rattle.tree_array.specs.Walk.{IsOver, StepsBack, StepsOn, left_back, left_on, standing};
 
 use super::ArrayOf;
-use crate::order::in_rank_order;
+use crate::order::{MOST, in_rank_order};
 use crate::ranks::made;
 use std::alloc::AllocError;
 use std::marker::Model;
@@ -14,25 +14,19 @@ use std::marker::Model;
 ///
 /// A `next` that answers None keeps the place.
 #[derive(Drop)]
-pub struct ArrayIterOf<const LEN: usize> {
-    order: [u8; LEN],
+pub struct ArrayIter {
+    order: [u8; MOST],
     count: u8,
     at: Option<u8>,
 }
 
-/// The walk over an array of fifteen slots.
-pub type ArrayIter = ArrayIterOf<15>;
-
 /// The walk in descending order.
 #[derive(Drop)]
-pub struct ArrayRevIterOf<const LEN: usize> {
-    walk: ArrayIterOf<LEN>,
+pub struct ArrayRevIter {
+    walk: ArrayIter,
 }
 
-/// The walk in descending order over an array of fifteen slots.
-pub type ArrayRevIter = ArrayRevIterOf<15>;
-
-impl<const LEN: usize> Model for ArrayIterOf<LEN> {
+impl Model for ArrayIter {
     ghost use Rattle.std.specs.Prelude.{◌≡◌, ◌≤◌, ◌<◌, length, take};
     ghost use Rattle.std.specs.Option.{ForSome};
     ghost use Rattle.tree_array.specs.Walk.{Walk, standing};
@@ -41,10 +35,10 @@ impl<const LEN: usize> Model for ArrayIterOf<LEN> {
 
     ghost view = { λ a. standing (take a.count a.order) a.at };
 
-    ghost invariant = { λ a. (length a.order ≡ LEN) × (a.count ≤ LEN) × ForSome a.at (λ place. place < a.count) };
+    ghost invariant = { λ a. (length a.order ≡ 15) × (a.count ≤ 15) × ForSome a.at (λ place. place < a.count) };
 }
 
-impl<const LEN: usize> Model for ArrayRevIterOf<LEN> {
+impl Model for ArrayRevIter {
     ghost use Rattle.tree_array.specs.Walk.{Walk};
 
     ghost Value = { Walk };
@@ -52,13 +46,14 @@ impl<const LEN: usize> Model for ArrayRevIterOf<LEN> {
     ghost view = { λ a. a.walk };
 }
 
-impl<const LEN: usize> ArrayIterOf<LEN> {
+impl ArrayIter {
     /// A walk before the first slot. No comparisons.
-    pub fn new<K: Ord + Drop, V: Drop>(array: &ArrayOf<K, V, LEN>) -> Self
-        ensures { result ≡ standing (slots_in_order K.cmp array.now) None }
+    pub fn new<K: Ord + Drop, V: Drop, const LEN: usize>(array: &ArrayOf<K, V, LEN>) -> Self
+        ensures slots { result ≡ standing (slots_in_order K.cmp array.now) None }
+        ensures over { IsOver K.cmp LEN array.now result }
     {
-        let (order, count) = in_rank_order(array.ranks, made(array.bitmap));
-        ArrayIterOf {
+        let (order, count) = in_rank_order::<LEN>(array.ranks, made(array.bitmap));
+        ArrayIter {
             order,
             count,
             at: None,
@@ -81,19 +76,19 @@ impl<const LEN: usize> ArrayIterOf<LEN> {
     }
 
     /// Turns about at its place. A walk that has not begun turns into one that has not begun.
-    pub fn rev(self) -> ArrayRevIterOf<LEN>
-        ensures { result ≡ self.entry }
+    pub fn rev(self) -> ArrayRevIter
+        ensures { result ≡ self }
     {
-        ArrayRevIterOf { walk: self }
+        ArrayRevIter { walk: self }
     }
 }
 
-impl<const LEN: usize> ArrayRevIterOf<LEN> {
+impl ArrayRevIter {
     /// A walk before the first slot, which is that of the largest key. No comparisons.
-    pub fn new<K: Ord + Drop, V: Drop>(array: &ArrayOf<K, V, LEN>) -> Self
+    pub fn new<K: Ord + Drop, V: Drop, const LEN: usize>(array: &ArrayOf<K, V, LEN>) -> Self
         ensures { result ≡ standing (slots_in_order K.cmp array.now) None }
     {
-        ArrayIterOf::new(array).rev()
+        ArrayIter::new(array).rev()
     }
 
     /// The slot that the walk stands at, if it has begun.
@@ -111,14 +106,15 @@ impl<const LEN: usize> ArrayRevIterOf<LEN> {
     }
 
     /// Turns about at its place. A walk that has not begun turns into one that has not begun.
-    pub fn rev(self) -> ArrayIterOf<LEN>
-        ensures { result ≡ self.entry }
+    pub fn rev(self) -> ArrayIter
+        ensures { result ≡ self }
     {
-        self.walk
+        let ArrayRevIter { walk } = self;
+        walk
     }
 }
 
-impl<const LEN: usize> Iterator for ArrayIterOf<LEN> {
+impl Iterator for ArrayIter {
     type Item = u8;
 
     ghost next_gives = { StepsOn };
@@ -139,7 +135,7 @@ impl<const LEN: usize> Iterator for ArrayIterOf<LEN> {
     }
 }
 
-impl<const LEN: usize> Iterator for ArrayRevIterOf<LEN> {
+impl Iterator for ArrayRevIter {
     type Item = u8;
 
     ghost next_gives = { StepsBack };
@@ -160,13 +156,13 @@ impl<const LEN: usize> Iterator for ArrayRevIterOf<LEN> {
     }
 }
 
-impl<const LEN: usize> Clone for ArrayIterOf<LEN> {
+impl Clone for ArrayIter {
     ghost is_clone = { λ walk clone. clone ≡ walk };
 
     ghost is_infallible = { λ _. ⊤ };
 
     fn clone(&self) -> Result<Self, AllocError> {
-        Ok(ArrayIterOf {
+        Ok(ArrayIter {
             order: self.order,
             count: self.count,
             at: self.at,
@@ -174,13 +170,13 @@ impl<const LEN: usize> Clone for ArrayIterOf<LEN> {
     }
 }
 
-impl<const LEN: usize> Clone for ArrayRevIterOf<LEN> {
+impl Clone for ArrayRevIter {
     ghost is_clone = { λ walk clone. clone ≡ walk };
 
     ghost is_infallible = { λ _. ⊤ };
 
     fn clone(&self) -> Result<Self, AllocError> {
         let walk = self.walk.clone()?;
-        Ok(ArrayRevIterOf { walk })
+        Ok(ArrayRevIter { walk })
     }
 }

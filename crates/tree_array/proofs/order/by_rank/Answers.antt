@@ -1,11 +1,11 @@
-use Rattle.std.proofs.Common.{◌-◌, length, set, ◌∙◌, sym, arith}
-use Rattle.std.proofs.lemmas.List.{length-replicate, length-set}
+use Rattle.std.proofs.Common.{◌-◌, length, set, refl, ◌∙◌, sym, arith}
+use Rattle.std.proofs.lemmas.List.{length-set}
 use Rattle.tree_array.proofs.Orders.{table_none, table_kept, table_set}
 use Rattle.tree_array.proofs.order.by_rank.Goals as goal
 use Rattle.tree_array.proofs.order.by_rank.Goals.{then-rank-gt0, else-rank-gt0}
 
 pub loop-arrival-init : goal.loop-arrival-init
-loop-arrival-init g c = record { whole = length-replicate g.row.LEN _; table = table_none _ g.row.LEN }
+loop-arrival-init g c = record { whole = refl; table = table_none _ 15 }
 
 pub loop-arrival-preserved : goal.loop-arrival-preserved
 loop-arrival-preserved g c =

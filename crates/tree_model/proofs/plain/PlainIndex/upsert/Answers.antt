@@ -1,4 +1,4 @@
-use Rattle.std.proofs.Common.{sym, ◌∙◌, subst}
+use Rattle.std.proofs.Common.{sym, subst}
 use Rattle.tree_model.specs.Pairs.{IsAscending}
 use Rattle.tree_model.proofs.Ascending.{IsAscending-put}
 use Rattle.tree_model.proofs.Searches.{set-put}

@@ -1,0 +1,209 @@
+-- Entries that are taken one by one along a walk, and stored in a new array.
+use Rattle.std.proofs.Common.{◌≡◌, ℕ, zero, suc, ◌+◌, ◌^◌, ◌<◌, ◌≤◌, Bool, true, false, cond, length, map, drop, take, filter, get_or, List, [], ◌∷◌, ◌++◌, slice_get, Option, Some, None, MatchOption, refl, sym, ◌∙◌, ap, subst, inr, add-one, arith}
+use Rattle.std.specs.List.{AllByRecursion}
+use Rattle.std.specs.declared.cmp.Ordering.{Ordering}
+use Rattle.std.specs.declared.cmp.Ordering.TheVariants.{Less, Equal, Greater}
+use Rattle.std.specs.Cmp.{IsTotalOrder}
+use Rattle.std.specs.Ordering.{is_lt, is_eq, is_gt}
+use Rattle.std.proofs.lemmas.Cmp.{tied_itself}
+use Rattle.std.proofs.lemmas.List.{drop_all, drop_more, length-drop, length-map, length-take, map-append}
+use Rattle.std.proofs.lemmas.Option.{none-some, get_or_from_slice_get, slice_get_past, slice_get_within}
+use Rattle.tree_model.specs.Pairs.{AllLarger, IsAscending, above, below, without}
+use Rattle.tree_model.proofs.Lists.{all_map, filter_all, filter_none}
+use Rattle.tree_model.proofs.Order.{greater_from_less}
+use Rattle.tree_array.specs.Arrivals.{Arrivals, arrival, drained, in_order, reachable, removed, sorted, spend, spent_at, stored}
+use Rattle.tree_array.specs.Layout.{picked, rank_for}
+use Rattle.tree_array.specs.Ranked.{IsBitmap, IsMarked, IsRanked, seen}
+use Rattle.tree_array.specs.Walk.{IsOver, Walk, place_ahead, standing}
+use Rattle.tree_array.specs.Word.{made_of}
+use Rattle.tree_array.proofs.Emptied.{no_rank_mark, ranked_none, spent_from_entries}
+use Rattle.tree_array.proofs.Picks.{arrival-all}
+
+-- the slots ahead of a walk, with the first
+ahead_of : (slots : List ℕ) (place slot : ℕ) → slice_get slots place ≡ Some slot → drop place slots ≡ slot ∷ drop (place + 1) slots
+ahead_of slots place slot h =
+    drop_more slots place slot (slice_get_within slots place slot h) ∙ ap (λ (first : ℕ). first ∷ drop (place + 1) slots) (get_or_from_slice_get slots place slot slot h)
+
+module _ {K V : Type 0} where
+  -- the first slot that lies ahead is that of the first entry
+  pub record IsNext (array : Arrivals K V) (slot : ℕ) (slots : List ℕ) : Type 0 where
+    pub entry : K × V
+    pub rest : List (K × V)
+    pub entries : array.entries ≡ entry ∷ rest
+    pub here : arrival array.arrivals slot ≡ Some entry
+    pub ahead : map (arrival array.arrivals) slots ≡ map Some rest
+
+  next_of : (array : Arrivals K V) (slot : ℕ) (slots : List ℕ) (entries : List (K × V)) → array.entries ≡ entries → arrival array.arrivals slot ∷ map (arrival array.arrivals) slots ≡ map Some entries → IsNext array slot slots
+  next_of array slot slots [] e h = cc
+  next_of array slot slots (entry ∷ rest) e h = record { entry = entry; rest = rest; entries = e; here = cc; ahead = cc }
+
+  -- an arrival after a key is spent
+  pub arrival-spend : (cmp : K → K → Ordering) (arrivals : List (Option (K × V))) (key : K) (p : ℕ) → arrival (spend cmp arrivals key) p ≡ spent_at cmp key (arrival arrivals p)
+  arrival-spend cmp [] key p = refl
+  arrival-spend cmp (a ∷ arrivals) key zero = refl
+  arrival-spend cmp (a ∷ arrivals) key (suc p) = arrival-spend cmp arrivals key p
+
+module _ {K V : Type 0} {cmp : K → K → Ordering} {len : ℕ} {array : Arrivals K V} {walk : Walk} (over : IsOver cmp len array walk) where
+  pub next_entry : (slot : ℕ) → slice_get walk.slots (place_ahead walk.at) ≡ Some slot → IsNext array slot (drop (place_ahead walk.at + 1) walk.slots)
+  next_entry slot h =
+      next_of array slot (drop (place_ahead walk.at + 1) walk.slots) array.entries refl (ap (map (arrival array.arrivals)) (sym (ahead_of walk.slots (place_ahead walk.at) slot h)) ∙ over.slots)
+
+  -- a walk at its end is over no entry
+  pub no_entry : length walk.slots ≤ place_ahead walk.at → array.entries ≡ []
+  no_entry le = go array.entries (sym over.slots ∙ ap (map (arrival array.arrivals)) (drop_all (place_ahead walk.at) walk.slots le))
+    where
+      go : (entries : List (K × V)) → map Some entries ≡ [] → entries ≡ []
+      go [] h = refl
+      go (e ∷ entries) h = cc
+
+module _ {K V : Type 0} {cmp : K → K → Ordering} (o : IsTotalOrder cmp) where
+  -- the entries without the first
+  without_first : (e : K × V) (rest : List (K × V)) → IsAscending cmp (e ∷ rest) → without cmp (e ∷ rest) e.0 ≡ rest
+  without_first e rest h =
+      let over : AllByRecursion (λ (f : K × V). cmp f.0 e.0 ≡ Greater) rest = all_map (λ f later. greater_from_less o e.0 f.0 later) rest h.0 in
+      rw (tied_itself o e.0, filter_none (λ (f : K × V). is_lt (cmp f.0 e.0)) rest (all_map (λ f larger. ap is_lt larger) rest over), filter_all (λ (f : K × V). is_gt (cmp f.0 e.0)) rest (all_map (λ f larger. ap is_gt larger) rest over)) refl
+
+  -- later arrivals stay where an earlier key is spent
+  later_stay : (arrivals : List (Option (K × V))) (key : K) (slots : List ℕ) (rest : List (K × V)) → AllLarger cmp key rest → map (arrival arrivals) slots ≡ map Some rest → map (arrival (spend cmp arrivals key)) slots ≡ map Some rest
+  later_stay arrivals key [] rest larger h = h
+  later_stay arrivals key (slot ∷ slots) [] larger h = cc
+  later_stay arrivals key (slot ∷ slots) (e ∷ rest) larger h =
+      let here : arrival arrivals slot ≡ Some e = cc in
+      let ahead : map (arrival arrivals) slots ≡ map Some rest = cc in
+      rw (arrival-spend cmp arrivals key slot, here, greater_from_less o key e.0 larger.0, later_stay arrivals key slots rest larger.1 ahead) refl
+
+  module _ {len : ℕ} {array : Arrivals K V} {walk : Walk} (over : IsOver cmp len array walk) {slot : ℕ} (there : slice_get walk.slots (place_ahead walk.at) ≡ Some slot) (key : K) (val : V) (pair : arrival array.arrivals slot ≡ Some (key, val)) {left : Arrivals K V} (left_is : left ≡ removed cmp array key) where
+    next_here : IsNext array slot (drop (place_ahead walk.at + 1) walk.slots)
+    next_here = next_entry over slot there
+
+    same : next_here.entry ≡ (key, val)
+    same = let h = next_here.here in cc
+
+    whole : array.entries ≡ (key, val) ∷ next_here.rest
+    whole = next_here.entries ∙ ap (λ (e : K × V). e ∷ next_here.rest) same
+
+    ascending : IsAscending cmp ((key, val) ∷ next_here.rest)
+    ascending = subst (IsAscending cmp) whole over.ascending
+
+    left_entries : left.entries ≡ next_here.rest
+    left_entries = ap (λ (a : Arrivals K V). a.entries) left_is ∙ ap (λ (entries : List (K × V)). without cmp entries key) whole ∙ without_first (key, val) next_here.rest ascending
+
+    -- the first entry was taken
+    pub taken : array.entries ≡ (key, val) ∷ left.entries
+    taken = whole ∙ ap (λ (rest : List (K × V)). (key, val) ∷ rest) (sym left_entries)
+
+    -- and the walk is over the rest
+    pub over_rest : IsOver cmp len left (standing walk.slots (Some (place_ahead walk.at)))
+    over_rest = record {
+      slots =
+          ap (λ (a : Arrivals K V). map (arrival a.arrivals) (drop (place_ahead walk.at + 1) walk.slots)) left_is
+          ∙ later_stay array.arrivals key (drop (place_ahead walk.at + 1) walk.slots) next_here.rest ascending.0 next_here.ahead
+          ∙ ap (map Some) (sym left_entries);
+      ascending = subst (IsAscending cmp) (sym left_entries) ascending.1;
+      few = omega (arith, over.few, ap length taken);
+    }
+
+module _ {X : Type 0} where
+  -- one more element of a list
+  pub one_more : (n : ℕ) (xs : List X) (x : X) (rest : List X) → drop n xs ≡ x ∷ rest → (take (suc n) xs ≡ take n xs ++ x ∷ []) × (drop (suc n) xs ≡ rest) × (n < length xs) × (slice_get xs n ≡ Some x)
+  one_more zero [] x rest h = cc
+  one_more zero (y ∷ xs) x rest h =
+      let first : y ≡ x = cc in
+      let others : xs ≡ rest = cc in
+      (ap (λ (y : X). y ∷ []) first, others, omega arith, ap (λ (y : X). Some y) first)
+  one_more (suc n) [] x rest h = cc
+  one_more (suc n) (y ∷ xs) x rest h =
+      let more = one_more n xs x rest h in
+      (ap (λ (ys : List X). y ∷ ys) more.0, more.1, omega (arith, more.2), more.3)
+
+  -- the element at a place, and those behind it
+  pub next_apart : (n : ℕ) (xs ahead behind : List X) (apart : Option X) → ahead ≡ drop n xs → MatchOption apart ((ahead ≡ []) × (behind ≡ [])) (λ x. ahead ≡ x ∷ behind) → (apart ≡ slice_get xs n) × (behind ≡ drop (n + 1) xs)
+  next_apart n xs ahead behind None is h =
+      let past : length xs ≤ n = omega (arith, ap length (sym is ∙ h.0), length-drop n xs) in
+      (sym (slice_get_past xs n past), h.1 ∙ sym (drop_all (n + 1) xs (omega arith)))
+  next_apart n xs ahead behind (Some x) is h =
+      let more = one_more n xs x behind (sym is ∙ h) in
+      (sym more.3, rw (add-one n) (sym more.1))
+
+  all_there : (P : X → Type 0) (xs : List X) (p : ℕ) (x : X) → AllByRecursion P xs → get_or (map Some xs) p None ≡ Some x → P x
+  all_there P [] p x all h = absurd (none-some x h)
+  all_there P (y ∷ xs) zero x all h = let same : y ≡ x = cc in subst P same all.0
+  all_there P (y ∷ xs) (suc p) x all h = all_there P xs p x all.1 h
+
+module _ {K V : Type 0} {cmp : K → K → Ordering} (o : IsTotalOrder cmp) where
+  abbrev AllSmaller : K → List (K × V) → Type 0
+  AllSmaller key pairs = AllByRecursion (λ pair. cmp pair.0 key ≡ Less) pairs
+
+  -- the pairs before one are smaller
+  smaller_before : (n : ℕ) (pairs : List (K × V)) (e : K × V) (rest : List (K × V)) → IsAscending cmp pairs → drop n pairs ≡ e ∷ rest → AllSmaller e.0 (take n pairs)
+  smaller_before zero pairs e rest h there = tt
+  smaller_before (suc n) [] e rest h there = tt
+  smaller_before (suc n) (f ∷ pairs) e rest h there = (later n pairs f h.0 there, smaller_before n pairs e rest h.1 there)
+    where
+      later : (n : ℕ) (pairs : List (K × V)) (f : K × V) → AllLarger cmp f.0 pairs → drop n pairs ≡ e ∷ rest → cmp f.0 e.0 ≡ Less
+      later zero [] f larger there = cc
+      later zero (g ∷ pairs) f larger there = let same : g ≡ e = cc in rw (← same) larger.0
+      later (suc n) [] f larger there = cc
+      later (suc n) (g ∷ pairs) f larger there = later n pairs f larger.1 there
+
+  spend_none : (pairs : List (K × V)) (key : K) → AllSmaller key pairs → spend cmp (map Some pairs) key ≡ map Some pairs
+  spend_none [] key smaller = refl
+  spend_none (e ∷ pairs) key smaller = rw (smaller.0, spend_none pairs key smaller.1) refl
+
+  -- a pair that is stored above all others comes last
+  stored_last : (pairs : List (K × V)) (e : K × V) → AllSmaller e.0 pairs → stored cmp (in_order pairs) e.0 e.1 ≡ in_order (pairs ++ e ∷ [])
+  stored_last pairs e smaller =
+      let same : below cmp pairs e.0 ≡ pairs = filter_all _ pairs (all_map (λ f less. ap is_lt less) pairs smaller) in
+      let none : above cmp pairs e.0 ≡ [] = filter_none _ pairs (all_map (λ f less. ap is_gt less) pairs smaller) in
+      rw (spend_none pairs e.0 smaller, same, none, map-append Some pairs (e ∷ [])) refl
+
+  module _ (entries : List (K × V)) (n : ℕ) (e : K × V) (rest : List (K × V)) (ascending : IsAscending cmp entries) (next : drop n entries ≡ e ∷ rest) where
+    smaller : AllSmaller e.0 (take n entries)
+    smaller = smaller_before n entries e rest ascending next
+
+    -- the next entry finds room, and comes last
+    pub room : (len : ℕ) → length entries ≤ len → length (in_order (take n entries)).arrivals < len
+    room len few = omega (arith, (one_more n entries e rest next).2, length-map (take n entries) (λ (pair : K × V). Some pair), length-take n entries)
+
+    pub last : (p : ℕ) (f : K × V) → arrival (in_order (take n entries)).arrivals p ≡ Some f → cmp e.0 f.0 ≡ Greater
+    last p f there = greater_from_less o f.0 e.0 (all_there (λ (pair : K × V). cmp pair.0 e.0 ≡ Less) (take n entries) p f smaller there)
+
+    pub more_moved : stored cmp (in_order (take n entries)) e.0 e.1 ≡ in_order (take (n + 1) entries)
+    more_moved = rw (add-one n) (stored_last (take n entries) e smaller ∙ ap in_order (sym (one_more n entries e rest next).0))
+
+    pub more_left : rest ≡ drop (n + 1) entries
+    more_left = rw (add-one n) (sym (one_more n entries e rest next).1)
+
+-- ---- an array whose entries are all taken
+spent_list : {X Y : Type 0} (spent : List (Option X)) (others : List Y) → length spent ≡ length others → ((p : ℕ) → get_or spent p None ≡ None) → spent ≡ map (λ _. None) others
+spent_list [] [] same none = refl
+spent_list [] (y ∷ others) same none = absurd (omega arith)
+spent_list (a ∷ spent) [] same none = absurd (omega arith)
+spent_list (a ∷ spent) (y ∷ others) same none = rw (none 0, spent_list spent others (omega arith) (λ p. none (suc p))) refl
+
+nones_same : {A X Y : Type 0} (xs : List X) (ys : List Y) → length xs ≡ length ys → ◌≡◌ {A = List (Option A)} (map (λ _. None) xs) (map (λ _. None) ys)
+nones_same [] [] same = refl
+nones_same [] (y ∷ ys) same = absurd (omega arith)
+nones_same (x ∷ xs) [] same = absurd (omega arith)
+nones_same {A} (x ∷ xs) (y ∷ ys) same = ap (λ (rest : List (Option A)). None ∷ rest) (nones_same xs ys (omega arith))
+
+-- what is left of it depends on how many arrivals there were
+pub drained_same : {K V : Type 0} (array other : Arrivals K V) → length array.arrivals ≡ length other.arrivals → drained array ≡ drained other
+drained_same {K} {V} array other whole = ap (λ (arrivals : List (Option (K × V))). record { arrivals = arrivals; retired = true; entries = [] }) (nones_same array.arrivals other.arrivals whole)
+
+module _ {K V : Type 0} {cmp : K → K → Ordering} {len bitmap : ℕ} {pick : ℕ → Option (K × V)} (ranks : ℕ) (bits : IsBitmap len bitmap) (it : IsRanked cmp pick (rank_for len ranks) (made_of bitmap)) {array : Arrivals K V} (view_is : seen cmp pick ranks (made_of bitmap) ≡ array) (none : array.entries ≡ []) where
+  no_entries : sorted cmp (reachable (picked pick (made_of bitmap))) ≡ []
+  no_entries = ap (λ (a : Arrivals K V). a.entries) view_is ∙ none
+
+  spent : (p : ℕ) → pick p ≡ None
+  spent = spent_from_entries cmp pick (made_of bitmap) it.unmade no_entries
+
+  -- it may be retired
+  pub drained_holds : IsBitmap len bitmap × IsRanked cmp pick (rank_for len (2 ^ 62)) (made_of bitmap) × IsMarked pick (2 ^ 62)
+  drained_holds = (bits, ranked_none cmp pick _ (made_of bitmap) spent (no_rank_mark len bits.is_len), record { mark = inr refl; no_pair = λ p _. spent p })
+
+  pub drained_seen : (old : Arrivals K V) → length array.arrivals ≡ length old.arrivals → seen cmp pick (2 ^ 62) (made_of bitmap) ≡ drained old
+  drained_seen old whole =
+      let same : length (picked pick (made_of bitmap)) ≡ length old.arrivals = ap (λ (a : Arrivals K V). length a.arrivals) view_is ∙ whole in
+      let arrivals : picked pick (made_of bitmap) ≡ map (λ _. None) old.arrivals = spent_list (picked pick (made_of bitmap)) old.arrivals same (λ p. arrival-all pick (made_of bitmap) it.unmade p ∙ spent p) in
+      rw (no_entries, arrivals) refl

@@ -1,0 +1,125 @@
+-- Arrivals within two bounds that are spent one by one.
+use Rattle.std.proofs.Common.{◌≡◌, ◌≢◌, ℕ, zero, suc, ◌+◌, ◌<◌, ◌≤◌, Bool, true, false, List, [], ◌∷◌, map, get_or, length, Option, None, Some, refl, sym, ◌∙◌, ap, inl, inr, arith}
+use Rattle.std.specs.Prelude.{not, ◌&&◌, ◌||◌}
+use Rattle.std.specs.declared.cmp.Ordering.{Ordering}
+use Rattle.std.specs.declared.cmp.Ordering.TheVariants.{Equal}
+use Rattle.std.specs.declared.ops.Bound.{Bound}
+use Rattle.std.specs.Cmp.{IsTotalOrder}
+use Rattle.std.specs.Ordering.{is_eq}
+use Rattle.std.proofs.lemmas.Bool.{cases_eq, cases_lt}
+use Rattle.std.proofs.lemmas.Cmp.{tied_itself}
+use Rattle.std.proofs.lemmas.Bool.Decides.{nat_tests}
+use Rattle.std.proofs.lemmas.List.{ext_get_or, length-map, nil_from_length}
+use Rattle.std.proofs.lemmas.Option.{none-some}
+use Rattle.tree_array.specs.Arrivals.{Arrivals, arrival, cut_at, is_empty, reachable, removed, sorted, spent_at, spend, without_range}
+use Rattle.tree_array.specs.Sound.{IsSound}
+use Rattle.tree_model.specs.Pairs.{cut, within, without}
+use Rattle.tree_model.proofs.LookUps.{equal_from_test}
+use Rattle.tree_array.proofs.Dealt.{arrival-spend}
+use Rattle.tree_array.proofs.Entries.{entries-cut, entries-spend}
+use Rattle.tree_array.proofs.Picks.{all_spent}
+use Rattle.tree_array.proofs.Seen.{same_arrays}
+
+module _ {K V : Type 0} (cmp : K → K → Ordering) (low high : Bound K) where
+  -- of the first arrivals those within the bounds are spent
+  pub record IsCutTo (old : Arrivals K V) (n : ℕ) (new : Arrivals K V) : Type 0 where
+    pub whole : length new.arrivals ≡ length old.arrivals
+    pub cut : (p : ℕ) → p < n → arrival new.arrivals p ≡ cut_at cmp low high (arrival old.arrivals p)
+    pub rest : (p : ℕ) → n ≤ p → arrival new.arrivals p ≡ arrival old.arrivals p
+    pub entries : new.entries ≡ sorted cmp (reachable new.arrivals)
+    pub retired : new.retired ≡ (old.retired || (not (is_empty old.entries) && is_empty new.entries))
+
+  arrival-cut : (arrivals : List (Option (K × V))) (p : ℕ) → arrival (map (cut_at cmp low high) arrivals) p ≡ cut_at cmp low high (arrival arrivals p)
+  arrival-cut [] p = refl
+  arrival-cut (a ∷ arrivals) zero = refl
+  arrival-cut (a ∷ arrivals) (suc p) = arrival-cut arrivals p
+
+  pub kept_outside : (key : K) (val : V) → within cmp low high key ≡ false → cut_at cmp low high (Some (key, val)) ≡ Some (key, val)
+  kept_outside key val h = rw h refl
+
+module _ {K V : Type 0} {cmp : K → K → Ordering} (o : IsTotalOrder cmp) (low high : Bound K) {len : ℕ} {old : Arrivals K V} (kept : IsSound cmp len old) where
+  module _ {n : ℕ} {mid : Arrivals K V} (so_far : IsCutTo cmp low high old n mid) where
+    -- the next arrival stays
+    pub cut_kept : cut_at cmp low high (arrival mid.arrivals n) ≡ arrival mid.arrivals n → IsCutTo cmp low high old (n + 1) mid
+    cut_kept stays = record {
+      whole = so_far.whole;
+      cut = λ p lt. elim (cases_eq p n) [
+        | inl here ↦ rw here (sym stays ∙ ap (cut_at cmp low high) (so_far.rest n (omega arith)))
+        | inr differs ↦ so_far.cut p (omega arith)
+      ];
+      rest = λ p le. so_far.rest p (omega arith);
+      entries = so_far.entries;
+      retired = so_far.retired;
+    }
+
+    -- the next arrival is taken
+    module _ (key : K) (val : V) (there : arrival mid.arrivals n ≡ Some (key, val)) (inside : within cmp low high key ≡ true) {new : Arrivals K V} (new_is : new ≡ removed cmp mid key) where
+      was : arrival old.arrivals n ≡ Some (key, val)
+      was = sym (so_far.rest n (omega arith)) ∙ there
+
+      -- no other arrival has its key
+      other : (p : ℕ) (a : Option (K × V)) → arrival old.arrivals p ≡ a → p ≢ n → spent_at cmp key a ≡ a
+      other p None none differs = refl
+      other p (Some e) some differs = go (is_eq (cmp e.0 key)) refl
+        where
+          go : (b : Bool) → is_eq (cmp e.0 key) ≡ b → spent_at cmp key (Some e) ≡ Some e
+          go true h = absurd (differs (kept.distinct p n e (key, val) some was (equal_from_test _ h)))
+          go false h = rw h refl
+
+      cut_other : (p : ℕ) (a : Option (K × V)) → arrival old.arrivals p ≡ a → p ≢ n → spent_at cmp key (cut_at cmp low high a) ≡ cut_at cmp low high a
+      cut_other p None none differs = refl
+      cut_other p (Some e) some differs = go (within cmp low high e.0) refl
+        where
+          go : (b : Bool) → within cmp low high e.0 ≡ b → spent_at cmp key (cut_at cmp low high (Some e)) ≡ cut_at cmp low high (Some e)
+          go true h = rw h refl
+          go false h = rw h (other p (Some e) some differs)
+
+      -- so the array wasn't empty, nor retired
+      some_entry : old.entries ≡ [] → ⊥
+      some_entry none = none-some (key, val) (sym (all_spent old.arrivals (reachable_none none) n) ∙ was)
+        where
+          reachable_none : old.entries ≡ [] → reachable old.arrivals ≡ []
+          reachable_none h = nil_from_length (reachable old.arrivals) (omega (arith, kept.count, ap length h))
+
+      full_test : is_empty old.entries ≡ false
+      full_test = go old.entries refl
+        where
+          go : (entries : List (K × V)) → old.entries ≡ entries → is_empty entries ≡ false
+          go [] h = absurd (some_entry h)
+          go (e ∷ entries) h = grind (arith, nat_tests)
+
+      live : old.retired ≡ false
+      live = go old.retired refl
+        where
+          go : (b : Bool) → old.retired ≡ b → b ≡ false
+          go true h = absurd (some_entry (kept.none_retired h))
+          go false h = refl
+
+      pub cut_taken : IsCutTo cmp low high old (n + 1) new
+      cut_taken = rw new_is record {
+        whole = length-map mid.arrivals (spent_at cmp key) ∙ so_far.whole;
+        cut = λ p lt. arrival-spend cmp mid.arrivals key p ∙ elim (cases_eq p n) [
+          | inl here ↦ rw (here, there, was, tied_itself o key, inside) refl
+          | inr differs ↦ ap (spent_at cmp key) (so_far.cut p (omega arith)) ∙ cut_other p (arrival old.arrivals p) refl differs
+        ];
+        rest = λ p le.
+            let differs : p ≢ n = λ e. omega arith in
+            arrival-spend cmp mid.arrivals key p ∙ ap (spent_at cmp key) (so_far.rest p (omega arith)) ∙ other p (arrival old.arrivals p) refl differs;
+        entries = ap (λ (entries : List (K × V)). without cmp entries key) so_far.entries ∙ sym (entries-spend o mid.arrivals key);
+        retired = rw (full_test, live) refl;
+      }
+
+    -- all arrivals were looked at
+    pub cut_all : length old.arrivals ≤ n → mid ≡ without_range cmp old low high
+    cut_all past =
+        same_arrays _ _ _ _ _ _ arrivals_cut (so_far.retired ∙ ap (λ (entries : List (K × V)). old.retired || (not (is_empty old.entries) && is_empty entries)) entries_cut) entries_cut
+      where
+        arrivals_cut : mid.arrivals ≡ map (cut_at cmp low high) old.arrivals
+        arrivals_cut =
+            ext_get_or None mid.arrivals (map (cut_at cmp low high) old.arrivals) (so_far.whole ∙ sym (length-map old.arrivals (cut_at cmp low high)))
+            (λ p lt. so_far.cut p (omega (arith, so_far.whole)) ∙ sym (arrival-cut cmp low high old.arrivals p))
+
+        entries_cut : mid.entries ≡ cut cmp old.entries low high
+        entries_cut =
+            so_far.entries ∙ ap (λ (arrivals : List (Option (K × V))). sorted cmp (reachable arrivals)) arrivals_cut ∙ entries-cut o old.arrivals low high
+            ∙ ap (λ (entries : List (K × V)). cut cmp entries low high) (sym kept.sorted_arrivals)

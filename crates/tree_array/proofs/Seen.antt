@@ -1,0 +1,67 @@
+-- What contracts see of the fields of an array, and of an arrival there.
+use Rattle.std.proofs.Common.{◌≡◌, ◌≢◌, ◌⊎◌, ℕ, ◌+◌, ◌==◌, ◌^◌, ◌<◌, ◌≤◌, Bool, true, false, List, [], ◌∷◌, ◌++◌, map, length, Option, None, Some, IsSome, refl, sym, ◌∙◌, ap, subst, inl, inr, arith}
+use Rattle.std.specs.declared.cmp.Ordering.{Ordering}
+use Rattle.std.specs.declared.cmp.Ordering.TheVariants.{Equal}
+use Rattle.std.specs.Cmp.{IsTotalOrder}
+use Rattle.std.specs.Ordering.{is_eq}
+use Rattle.std.proofs.lemmas.Bool.{cases_eq}
+use Rattle.std.proofs.lemmas.Cmp.{tied_itself}
+use Rattle.std.proofs.lemmas.Option.{none-some}
+use Rattle.tree_array.specs.Arrivals.{Arrivals, arrival, reachable, sorted, spent_at, spend, is_empty, removed}
+use Rattle.tree_array.specs.Layout.{IsSetAt, picked}
+use Rattle.tree_array.specs.Ranked.{IsRanked, seen}
+use Rattle.tree_model.specs.Pairs.{without}
+use Rattle.tree_model.proofs.LookUps.{equal_from_test}
+use Rattle.tree_array.proofs.Entries.{entries-spend}
+use Rattle.tree_array.proofs.Found.{one_place}
+use Rattle.tree_array.proofs.Picks.{arrival-all, picked-map}
+
+pub same_arrays : {K V : Type 0} (a b : List (Option (K × V))) (r s : Bool) (l m : List (K × V)) → a ≡ b → r ≡ s → l ≡ m → ◌≡◌ {A = Arrivals K V} (record { arrivals = a; retired = r; entries = l }) (record { arrivals = b; retired = s; entries = m })
+same_arrays a b r s l m e f g = rw (e, f, g) refl
+
+-- the view of an array is its arrivals, its mark and its entries
+module _ {K V : Type 0} (cmp : K → K → Ordering) (pick : ℕ → Option (K × V)) (ranks made : ℕ) {array : Arrivals K V} (view_is : seen cmp pick ranks made ≡ array) where
+  pub arrivals_seen : array.arrivals ≡ picked pick made
+  arrivals_seen = sym (ap (λ (a : Arrivals K V). a.arrivals) view_is)
+
+  pub retired_seen : array.retired ≡ (ranks == 2 ^ 62)
+  retired_seen = sym (ap (λ (a : Arrivals K V). a.retired) view_is)
+
+  pub entries_seen : array.entries ≡ sorted cmp (reachable (picked pick made))
+  entries_seen = sym (ap (λ (a : Arrivals K V). a.entries) view_is)
+
+  module _ {rank : ℕ → ℕ} (it : IsRanked cmp pick rank made) where
+    pub arrival_seen : (p : ℕ) → arrival array.arrivals p ≡ pick p
+    arrival_seen p = ap (λ (arrivals : List (Option (K × V))). arrival arrivals p) arrivals_seen ∙ arrival-all pick made it.unmade p
+
+    pub reachable_seen : (p : ℕ) → IsSome (arrival array.arrivals p) → IsSome (pick p)
+    reachable_seen p some = subst IsSome (arrival_seen p) some
+
+-- a key that compares as another is spent where that is
+module _ {K V : Type 0} {cmp : K → K → Ordering} (o : IsTotalOrder cmp) {pick : ℕ → Option (K × V)} {rank : ℕ → ℕ} {made : ℕ} (it : IsRanked cmp pick rank made) (key : K) where
+  -- each arrival but that of the key stays
+  spent_others : (old : ℕ) (before : K × V) → pick old ≡ Some before → cmp before.0 key ≡ Equal → (p : ℕ) → p ≢ old → spent_at cmp key (pick p) ≡ pick p
+  spent_others old before at_old same p differs = go (pick p) refl
+    where
+      other : (e : K × V) → pick p ≡ Some e → (b : Bool) → is_eq (cmp e.0 key) ≡ b → b ≡ false
+      other e some false h = refl
+      other e some true h = absurd (differs (one_place o it key old p before e at_old some same (equal_from_test _ h)))
+
+      go : (o : Option (K × V)) → pick p ≡ o → spent_at cmp key o ≡ o
+      go None none = refl
+      go (Some e) some = rw (other e some (is_eq (cmp e.0 key)) refl) refl
+
+  -- the arrivals after that of the key is spent
+  pub spend_seen : (pick' : ℕ → Option (K × V)) (old : ℕ) (before : K × V) → pick old ≡ Some before → cmp before.0 key ≡ Equal → IsSetAt pick pick' old None → picked pick' made ≡ spend cmp (picked pick made) key
+  spend_seen pick' old before at_old same set = picked-map (spent_at cmp key) pick pick' made (λ p lt. elim (cases_eq p old) [
+    | inl here ↦ rw (here, set.here, at_old, same) refl
+    | inr differs ↦ set.others p differs ∙ sym (spent_others old before at_old same p differs)
+  ])
+
+  -- without an arrival of the key nothing is spent
+  pub spend_absent : ((p : ℕ) (e : K × V) → pick p ≡ Some e → is_eq (cmp e.0 key) ≡ false) → picked pick made ≡ spend cmp (picked pick made) key
+  spend_absent absent = picked-map (spent_at cmp key) pick pick made (λ p lt. go p (pick p) refl)
+    where
+      go : (p : ℕ) (o : Option (K × V)) → pick p ≡ o → o ≡ spent_at cmp key o
+      go p None none = refl
+      go p (Some e) some = rw (absent p e some) refl

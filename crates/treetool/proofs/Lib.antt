@@ -1,0 +1,7 @@
+pub mod FirstWords
+pub mod Decimals
+pub mod Spellings
+pub mod Writes
+pub mod Scripts
+pub mod Steps
+pub mod Endings

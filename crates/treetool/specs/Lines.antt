@@ -1,0 +1,75 @@
+-- The lines of a text, how a request is written as a line, what a line is answered, and a script of lines.
+use Rattle.std.specs.Prelude.{◌≡◌, ◌≢◌, ◌⊎◌, ℕ, ◌^◌, ◌<◌, List, [], ◌∷◌, ◌++◌, MatchOption, codes, decimal}
+use Rattle.std.specs.List.{AllByRecursion, flat_map}
+use Rattle.std.specs.Option.{option_map_or}
+use Rattle.std.specs.Ordering.{nat_cmp}
+use Rattle.tree_model.specs.Pairs.{pair_at, put}
+use Rattle.treetool.specs.declared.requests.Request.{Request}
+use Rattle.treetool.specs.declared.requests.Request.TheVariants.{Insert, Peek}
+
+-- a line holds no line feed
+abbrev pub IsLine : List ℕ → Type 0
+IsLine bytes = AllByRecursion (λ b. b ≢ 10) bytes
+
+-- a line, and the line feed that ends it
+abbrev pub with_feed : List ℕ → List ℕ
+with_feed line = line ++ 10 ∷ []
+
+-- the text of lines that line feeds end
+abbrev pub text_of : List (List ℕ) → List ℕ
+text_of lines = flat_map with_feed lines
+
+-- The text has these lines that a line feed ends, and then the rest.
+pub record HasLines (text : List ℕ) (ended : List (List ℕ)) (rest : List ℕ) : Type 0 where
+  pub whole : text ≡ text_of ended ++ rest
+  pub each : AllByRecursion IsLine ended
+  pub partial : IsLine rest
+
+-- the rest is a line too, if it has a byte
+abbrev pub last_line : List ℕ → List (List ℕ)
+last_line [] = []
+last_line (b ∷ rest) = (b ∷ rest) ∷ []
+
+-- the first word of a request
+abbrev pub name_of : Request → List ℕ
+name_of (Insert key value) = codes "insert"
+name_of (Peek key) = codes "peek"
+
+-- its other words; a number is written by its decimal digits, without a leading zero
+abbrev pub arguments_of : Request → List (List ℕ)
+arguments_of (Insert key value) = decimal key ∷ decimal value ∷ []
+arguments_of (Peek key) = decimal key ∷ []
+
+-- words, each behind one space
+abbrev pub behind_spaces : List (List ℕ) → List ℕ
+behind_spaces words = flat_map (λ word. 32 ∷ word) words
+
+-- how a request is written
+abbrev pub spelling : Request → List ℕ
+spelling request = name_of request ++ behind_spaces (arguments_of request)
+
+-- the numbers of a request are those that have a spelling
+abbrev pub Fits : Request → Type 0
+Fits (Insert key value) = (key < 2 ^ 64) × (value < 2 ^ 64)
+Fits (Peek key) = key < 2 ^ 64
+
+-- What a request is answered where the entries are old, and that they become new.
+abbrev pub Answers : List (ℕ × ℕ) → Request → List ℕ → List (ℕ × ℕ) → Type 0
+Answers old (Insert key value) answer new =
+    MatchOption (pair_at nat_cmp old key)
+    (((answer ≡ codes "ok") × (new ≡ put nat_cmp old key value)) ⊎ ((answer ≡ codes "refused") × (new ≡ old)))
+    (λ _. (answer ≡ codes "duplicate") × (new ≡ old))
+Answers old (Peek key) answer new = (answer ≡ option_map_or (λ pair. decimal pair.1) (pair_at nat_cmp old key) (codes "none")) × (new ≡ old)
+
+-- What a line is answered: a request as it asks, and any other line with a question mark.
+abbrev pub Says : List (ℕ × ℕ) → List ℕ → List ℕ → List (ℕ × ℕ) → Type 0
+Says old line answer new =
+    ((request : Request) × Fits request × (line ≡ spelling request) × Answers old request answer new)
+    ⊎ (((request : Request) → Fits request → line ≢ spelling request) × (answer ≡ codes "?") × (new ≡ old))
+
+-- The lines are answered one after another.
+abbrev pub Script : List (ℕ × ℕ) → List (List ℕ) → List (List ℕ) → List (ℕ × ℕ) → Type 0
+Script old [] [] new = new ≡ old
+Script old (line ∷ lines) (answer ∷ answers) new = (mid : List (ℕ × ℕ)) × Says old line answer mid × Script mid lines answers new
+Script old [] (answer ∷ answers) new = ⊥
+Script old (line ∷ lines) [] new = ⊥

@@ -1,0 +1,25 @@
+-- The program: its status, and what it does to its streams.
+use Rattle.std.specs.Prelude.{◌≡◌, ◌⊎◌, ℕ, List, [], Option, Result, Ok, Err, codes}
+use Rattle.std.specs.Io.KnownBytes.{Appends}
+use Rattle.treetool.specs.declared.lines.ToolFault.{ToolFault}
+use Rattle.treetool.specs.Lines.{with_feed}
+use Rattle.treetool.specs.Writing.{IsFront}
+use Rattle.treetool.specs.Runs.{RunsLines}
+
+abbrev pub usage_line : List ℕ
+usage_line = with_feed (codes "usage: treetool [storm W N]")
+
+-- With arguments the usage line was written, or where a write failed a front of it, and the status is 1.
+abbrev pub RefusesArguments : Option (List ℕ) → Option (List ℕ) → ℕ → Type 0
+RefusesArguments contents contents' status =
+    (written : List ℕ) × Appends contents contents' written × ((written ≡ usage_line) ⊎ IsFront written usage_line) × (status ≡ 1)
+
+-- the status of a run over lines
+abbrev pub status_of : {T : Type 0} → Result T ToolFault → ℕ
+status_of (Ok _) = 0
+status_of (Err _) = 2
+
+-- Without arguments the lines of the input were answered over an index that was empty.
+abbrev pub RunsTool : Option (List ℕ) → Option (List ℕ) → Option (List ℕ) → Option (List ℕ) → ℕ → Type 0
+RunsTool remaining remaining' contents contents' status =
+    (outcome : Result (Unit {0}) ToolFault) × (entries : List (ℕ × ℕ)) × RunsLines [] entries remaining remaining' contents contents' outcome × (status ≡ status_of outcome)

@@ -1,0 +1,78 @@
+//! What a line is answered.
+ghost use Rattle.std.specs.Prelude.{◌≡◌, ℕ, List};
+ghost use Rattle.treetool.specs.Lines.{with_feed, Says};
+ghost use Rattle.treetool.specs.Progress.{answer_text, clip, Responds};
+ghost use Rattle.treetool.specs.Writing.{Writes};
+
+use crate::begun_line::BegunLine;
+use crate::requests::{Request, request_of};
+use crate::short_text::ShortText;
+use crate::writing::{WriteFailed, write_whole};
+use std::io::Write;
+use tree_index::{InsertError, TreeIndex};
+
+/// What a line is answered.
+#[derive(Clone, Copy, Debug)]
+pub enum Answer {
+    /// `ok`.
+    Stored,
+    /// `duplicate`.
+    Duplicate,
+    /// `refused`, for want of memory.
+    Refused,
+    /// `none`.
+    Missing,
+    /// `?`, to a line that is no request.
+    Unknown,
+    /// A number.
+    Value(u64),
+}
+
+/// Applies what the line asks, and answers it.
+pub fn answer_to(index: &mut TreeIndex<u64, u64>, line: &BegunLine) -> Answer
+    ensures { (begun : List ℕ) → line.now ≡ clip begun →
+        Says index.old begun (answer_text result) index.new }
+{
+    let Some(text) = line.text() else {
+        return Answer::Unknown;
+    };
+    respond(index, request_of(text))
+}
+
+// Applies a request, and answers it.
+fn respond(index: &mut TreeIndex<u64, u64>, request: Option<Request>) -> Answer
+    ensures { Responds index.old request (answer_text result) index.new }
+{
+    match request {
+        None => Answer::Unknown,
+        Some(Request::Insert(key, value)) => match index.insert_sync(key, value) {
+            Ok(()) => Answer::Stored,
+            Err(InsertError::Duplicate(_, _)) => Answer::Duplicate,
+            Err(InsertError::OutOfMemory(_, _)) => Answer::Refused,
+        },
+        Some(Request::Peek(key)) => match index.peek(&key) {
+            Some(value) => Answer::Value(*value),
+            None => Answer::Missing,
+        },
+    }
+}
+
+/// Writes the line of an answer.
+pub fn write_answer<W: Write>(output: &mut W, answer: Answer) -> Result<(), WriteFailed>
+    ensures { Writes (with_feed (answer_text answer))
+        (W.contents output.old) (W.contents output.new) result }
+{
+    match answer {
+        Answer::Stored => write_whole(output, b"ok\n"),
+        Answer::Duplicate => write_whole(output, b"duplicate\n"),
+        Answer::Refused => write_whole(output, b"refused\n"),
+        Answer::Missing => write_whole(output, b"none\n"),
+        Answer::Unknown => write_whole(output, b"?\n"),
+        Answer::Value(n) => {
+            let mut text = ShortText::new();
+            text.push_front(b'\n');
+            text.push_number_front(n);
+            write_whole(output, text.as_bytes())
+        }
+    }
+}

@@ -1,0 +1,239 @@
+//! Worked scripts of the engine and the program, also where a read or a write fails.
+mod streams;
+
+use crate::lines::{ToolFault, run_lines};
+use crate::tool::tool;
+use std::alloc::Global;
+use std::io::Read;
+use std::process::Abort;
+use streams::{Failing, Failure, Sink, Source};
+use tree_index::TreeIndex;
+
+// The lines are answered so, in whatever pieces they come and go.
+fn expect_answers(rt: &impl Abort, alloc: Global, lines: &[u8], wanted: &[u8]) {
+    for (read, written) in [(256, 256), (1, 256), (256, 1), (7, 2)] {
+        let input = Source::new(lines, read, Failing::never());
+        let mut output = Sink::new(written, Failing::never());
+        let mut errors = Sink::new(256, Failing::never());
+        assert_eq!(rt; tool(alloc, &[], input, &mut output, &mut errors), 0);
+        assert_eq!(rt; output.taken(), wanted);
+        assert!(rt; errors.taken().is_empty());
+    }
+}
+
+#[test]
+fn answers_lines(rt: HostRuntime) {
+    for (lines, wanted) in [
+        ("insert 1 10\npeek 1\n", "ok\n10\n"),
+        (
+            "insert 1 10\ninsert 1 11\npeek 1\npeek 2\n\n",
+            "ok\nduplicate\n10\nnone\n?\n",
+        ),
+        ("", ""),
+        ("\n", "?\n"),
+        ("insert 1 10\npeek 1", "ok\n10\n"),
+        ("peek 1\ninsert 1 ", "none\n?\n"),
+        (
+            "insert 2 20\ninsert 1 10\ninsert 3 30\npeek 1\npeek 2\npeek 3\n",
+            "ok\nok\nok\n10\n20\n30\n",
+        ),
+        (
+            "insert 18446744073709551615 0\npeek 18446744073709551615\n",
+            "ok\n0\n",
+        ),
+        (
+            "insert 0 18446744073709551615\npeek 0\n",
+            "ok\n18446744073709551615\n",
+        ),
+    ] {
+        expect_answers(&rt, rt.alloc(), lines.as_bytes(), wanted.as_bytes());
+    }
+}
+
+// Each is a line of its own that asks nothing, also where a request stands in it.
+#[test]
+fn takes_only_the_grammar(rt: HostRuntime) {
+    for line in [
+        b"insert 01 10".as_slice(),
+        b"insert 1 010",
+        b"insert 00 10",
+        b"insert +1 10",
+        b"insert -1 10",
+        b"insert 1 -",
+        b"insert 1 1_0",
+        b"insert 1 0xa",
+        b"insert 1 1e1",
+        b"insert 1 10 ",
+        b"insert 1 10 0",
+        b"insert  1 10",
+        b"insert 1  10",
+        b" insert 1 10",
+        b"insert\t1 10",
+        b"insert 1\x0010",
+        b"insert 1",
+        b"insert ",
+        b"insert",
+        b"Insert 1 10",
+        b"inserts 1 10",
+        b"inser 1 10",
+        b"1 10",
+        b"insert 1 10\r",
+        b"\rinsert 1 10",
+        b"insert 1 \xff",
+        b"\xc3\xa9 1 10",
+        b"insert 1 18446744073709551616",
+        b"insert 18446744073709551616 10",
+        b"insert 1 99999999999999999999999999999999",
+        b"peek",
+        b"peek ",
+        b"peek 01",
+        b"peek 1 ",
+        b"peek 1 1",
+        b"peek 18446744073709551616",
+        b"peek 1\r",
+        b" ",
+        b"\0",
+        b"?",
+    ] {
+        let mut input = line.chain(b"\npeek 1\npeek 0\n".as_slice());
+        let mut output = Sink::new(256, Failing::never());
+        let mut index = TreeIndex::new(rt.alloc());
+        assert_eq!(rt; run_lines(&mut index, &mut input, &mut output), Ok(()));
+        assert_eq!(rt;
+            output.taken(),
+            b"?\nnone\nnone\n".as_slice(),
+            "at {line:?}"
+        );
+    }
+}
+
+// Of 256 bytes, of 257, of 300 and of others, each with a request in it. The line behind is answered.
+#[test]
+fn takes_no_long_line(rt: HostRuntime) {
+    for length in [1, 200, 249, 250, 251, 252, 256, 257, 294, 506, 512, 600] {
+        for (before, filler, behind) in [
+            ("peek 1", [b' '; 600], "\npeek 1"),
+            ("peek ", [b'0'; 600], "1\npeek 1"),
+            ("", [b' '; 600], "peek 1\npeek 1"),
+            ("", [b'x'; 600], "peek 1\npeek 1"),
+        ] {
+            let (middle, _) = filler.split_at(length);
+            let line = before.as_bytes().chain(middle).chain(behind.as_bytes());
+            let mut input = b"insert 1 10\n".as_slice().chain(line);
+            let mut output = Sink::new(256, Failing::never());
+            let mut index = TreeIndex::new(rt.alloc());
+            assert_eq!(rt; run_lines(&mut index, &mut input, &mut output), Ok(()));
+            assert_eq!(rt; output.taken(), b"ok\n?\n10\n".as_slice(), "at {length}");
+        }
+    }
+}
+
+const SCRIPT: &[u8] = b"insert 1 10\npeek 1\ninsert 2 20\npeek 2";
+
+const ANSWERS: &[u8] = b"ok\n10\nok\n20\n";
+
+// The lines that a line feed ended before the read that failed are applied and answered.
+#[test]
+fn tells_that_a_read_failed(rt: HostRuntime) {
+    for by in [Failure::Broken, Failure::Interrupted] {
+        for (from, to, answered, first, second) in [
+            (0, 12, 0, None, None),
+            (12, 19, 3, Some(10), None),
+            (19, 31, 6, Some(10), None),
+            (31, 38, 9, Some(10), Some(20)),
+        ] {
+            for passes in from..to {
+                let mut input = Source::new(SCRIPT, 1, Failing { passes, by });
+                let mut output = Sink::new(256, Failing::never());
+                let mut index = TreeIndex::new(rt.alloc());
+                let ended = run_lines(&mut index, &mut input, &mut output);
+                assert_eq!(rt; ended, Err(ToolFault::Read), "{by:?} at {passes}");
+                assert_eq!(rt; output.taken(), ANSWERS.split_at(answered).0);
+                assert_eq!(rt; index.peek(&1).copied(), first);
+                assert_eq!(rt; index.peek(&2).copied(), second);
+                let again = Source::new(SCRIPT, 1, Failing { passes, by });
+                let status = tool(
+                    rt.alloc(),
+                    &[],
+                    again,
+                    &mut output,
+                    &mut Sink::new(0, Failing::never()),
+                );
+                assert_eq!(rt; status, 2);
+            }
+        }
+    }
+}
+
+// So are the lines before the one whose answer broke off; that one is applied.
+#[test]
+fn tells_that_a_write_failed(rt: HostRuntime) {
+    for by in [Failure::Broken, Failure::Interrupted, Failure::Stalled] {
+        for passes in 0..12 {
+            let mut input = SCRIPT;
+            let mut output = Sink::new(1, Failing { passes, by });
+            let mut index = TreeIndex::new(rt.alloc());
+            let ended = run_lines(&mut index, &mut input, &mut output);
+            assert_eq!(rt; ended, Err(ToolFault::Write), "{by:?} at {passes}");
+            assert_eq!(rt; output.taken(), ANSWERS.split_at(passes as usize).0);
+            assert_eq!(rt; index.peek(&1).copied(), Some(10));
+            let second = if passes < 6 { None } else { Some(20) };
+            assert_eq!(rt; index.peek(&2).copied(), second);
+            let broken = Sink::new(1, Failing { passes, by });
+            let mut errors = Sink::new(256, Failing::never());
+            assert_eq!(rt; tool(rt.alloc(), &[], SCRIPT, broken, &mut errors), 2);
+            assert!(rt; errors.taken().is_empty());
+        }
+    }
+}
+
+#[test]
+fn shows_the_usage(rt: HostRuntime) {
+    for word in ["x", "", "-h"] {
+        let Ok(argument) = String::from_str(rt.alloc(), word) else {
+            return;
+        };
+        let arguments = [argument];
+        for (passes, shown) in [
+            (u64::MAX, b"usage: treetool [storm W N]\n".as_slice()),
+            (0, b""),
+            (3, b"usa"),
+        ] {
+            let by = Failure::Broken;
+            let mut input = Source::new(SCRIPT, 256, Failing::never());
+            let mut output = Sink::new(256, Failing::never());
+            let mut errors = Sink::new(1, Failing { passes, by });
+            let status = tool(rt.alloc(), &arguments, &mut input, &mut output, &mut errors);
+            assert_eq!(rt; status, 1);
+            assert!(rt; output.taken().is_empty());
+            assert_eq!(rt; errors.taken(), shown);
+        }
+    }
+}
+
+// Where memory is refused the line is answered so, its key is absent, and the next lines go on.
+#[test]
+fn answers_that_memory_is_refused(rt: HostRuntime) {
+    let mut index = TreeIndex::new(rt.alloc());
+    for lines in [
+        "insert 1 10\npeek 1\n",
+        "insert 2 10\npeek 2\n",
+        "insert 3 10\npeek 3\n",
+        "insert 4 10\npeek 4\n",
+        "insert 5 10\npeek 5\n",
+    ] {
+        let mut input = lines.as_bytes();
+        let mut output = Sink::new(256, Failing::never());
+        assert_eq!(rt; run_lines(&mut index, &mut input, &mut output), Ok(()));
+        let answers = output.taken();
+        assert!(rt; answers == b"ok\n10\n".as_slice() || answers == b"refused\nnone\n".as_slice());
+    }
+}
+
+#[test]
+fn shows_faults(rt: HostRuntime) {
+    let shown = format!(in rt.alloc(); "{}, {:?}", ToolFault::Read, ToolFault::Write);
+    if let Ok(text) = shown {
+        assert_eq!(rt; text.as_str(), "a read failed, Write");
+    }
+}

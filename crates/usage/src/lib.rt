@@ -1,0 +1,38 @@
+//! Callers of the library as the README shows them.
+#![tactic(auto)]
+
+ghost use Rattle.std.specs.Prelude.{◌≡◌, Some, IfSome, IfNone};
+ghost use Rattle.std.specs.Option.{option_map};
+ghost use Rattle.std.specs.Ordering.{nat_cmp};
+ghost use Rattle.tree_model.specs.Pairs.{pair_at};
+
+use tree_index::{InsertError, TreeIndex};
+use tree_model::laws::edits_are_found;
+
+/// Offers a price for an item, and tells the price that stands: the first one offered. `None`
+/// means that memory was refused, and then the prices are as they were.
+pub fn offer(prices: &mut TreeIndex<u64, u64>, item: u64, price: u64) -> Option<u64>
+    ensures stands { IfSome result (λ first. option_map (λ pair. pair.1) (pair_at nat_cmp prices.new item) ≡ Some first) }
+    ensures refused { IfNone result (prices.new ≡ prices.old) }
+{
+    edits_are_found::<u64, u64>();
+    match prices.insert_sync(item, price) {
+        Ok(()) => Some(price),
+        Err(InsertError::Duplicate(item, _)) => prices.peek(&item).copied(),
+        Err(InsertError::OutOfMemory(_, _)) => None,
+    }
+}
+
+#[cfg(test)]
+mod tests {
+    use super::*;
+    use std::test::Fail;
+
+    #[test]
+    fn keeps_the_first_price(rt: HostRuntime) -> Result<(), Fail> {
+        let mut prices = TreeIndex::new(rt.alloc());
+        assert_eq!(rt; offer(&mut prices, 7, 100).ok_or("memory")?, 100);
+        assert_eq!(rt; offer(&mut prices, 7, 90).ok_or("memory")?, 100);
+        Ok(())
+    }
+}
