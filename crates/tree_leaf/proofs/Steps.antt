@@ -4,7 +4,6 @@ use Rattle.std.proofs.lemmas.List.{length-map}
 use Rattle.std.proofs.lemmas.Option.{slice_get_within, slice_get_past}
 use Rattle.std.specs.Borrow.{Bor}
 use Rattle.std.specs.Iterator.{MakesProgress}
-use Rattle.std.specs.declared.cmp.Ordering.{Ordering}
 use Rattle.slab.specs.Slab.{Slab}
 use Rattle.tree_array.specs.Arrivals.{arrival}
 use Rattle.tree_array.specs.Walk.{Walk, place_ahead, places_behind, standing as array_standing}
@@ -19,20 +18,17 @@ same_place find (a ∷ xs) [] same place x is = absurd (cc)
 same_place find (a ∷ xs) (y ∷ ys) same zero x is = let this : x ≡ a = cc in (y, rw this (cc), refl)
 same_place find (a ∷ xs) (y ∷ ys) same (suc place) x is = let rest : map find xs ≡ map Some ys = cc in same_place find xs ys rest place x is
 
-module _ {K V : Type 0} {LEN : ℕ} (cmp : K → K → Ordering) (leaves : Slab (LeafOf K V LEN)) (id : ℕ) (leaf : LeafOf K V LEN) (slots : Walk) (stand : IsStand cmp leaves id leaf slots) where
+module _ {K V : Type 0} {LEN : ℕ} (leaves : Slab (LeafOf K V LEN)) (id : ℕ) (leaf : LeafOf K V LEN) (slots : Walk) (stand : IsStand leaves id leaf slots) where
   entries_here : leaf_entries leaves id ≡ leaf.array.entries
   entries_here = rw stand.there refl
 
-  slots_map : map (arrival leaf.array.arrivals) slots.slots ≡ map Some leaf.array.entries
-  slots_map = rw stand.slots_are stand.sound.slots
-
   -- there are as many slots as entries
   pub as_many : length slots.slots ≡ length (leaf_entries leaves id)
-  as_many = rw entries_here (sym (length-map slots.slots (arrival leaf.array.arrivals)) ∙ ap length slots_map ∙ length-map leaf.array.entries Some)
+  as_many = rw entries_here (sym (length-map slots.slots (arrival leaf.array.arrivals)) ∙ ap length stand.slots_are ∙ length-map leaf.array.entries Some)
 
   -- the slot at a place is that of the entry at this place
   pub entry_at : (place slot : ℕ) → slice_get slots.slots place ≡ Some slot → (entry : K × V) × (arrival leaf.array.arrivals slot ≡ Some entry) × (slice_get (leaf_entries leaves id) place ≡ Some entry)
-  entry_at place slot is = rw entries_here (same_place (arrival leaf.array.arrivals) slots.slots leaf.array.entries slots_map place slot is)
+  entry_at place slot is = rw entries_here (same_place (arrival leaf.array.arrivals) slots.slots leaf.array.entries stand.slots_are place slot is)
 
   pub slot_reachable : (place slot : ℕ) → slice_get slots.slots place ≡ Some slot → IsSome (arrival leaf.array.arrivals slot)
   slot_reachable place slot is = rw (entry_at place slot is).1 refl
@@ -78,37 +74,36 @@ module _ {K V : Type 0} {LEN : ℕ} where
     rests = λ finite. tt;
   }
 
-module _ {K V : Type 0} {LEN : ℕ} (cmp : K → K → Ordering) (leaves : Slab (LeafOf K V LEN)) (id : ℕ) (leaf : LeafOf K V LEN) (slots : Walk) (stand : IsStand cmp leaves id leaf slots) where
+module _ {K V : Type 0} {LEN : ℕ} (leaves : Slab (LeafOf K V LEN)) (id : ℕ) (leaf : LeafOf K V LEN) (slots : Walk) (stand : IsStand leaves id leaf slots) where
   -- a walk over the same slots, before the first
   module _ (all : Walk) (fresh : all ≡ array_standing slots.slots None) where
-    pub all_slots : IsStand cmp leaves id leaf all
+    pub all_slots : IsStand leaves id leaf all
     all_slots = record {
       there = stand.there;
       front = stand.front;
       back = stand.back;
       chain = stand.chain;
-      sound = stand.sound;
-      slots_are = ap (λ (walk : Walk). walk.slots) fresh ∙ stand.slots_are;
+      slots_are = rw (ap (λ (walk : Walk). walk.slots) fresh) stand.slots_are;
     }
 
     -- the key that is read from the first slot, or from the last one
     pub first_read : (slot : ℕ) (read : K × V) → slice_get all.slots (place_ahead all.at) ≡ Some slot → arrival leaf.array.arrivals slot ≡ Some read → Some read.0 ≡ option_map (λ entry. entry.0) (first_of (leaf_entries leaves id))
     first_read slot read is found =
         let at_first : slice_get all.slots 0 ≡ Some slot = rw (ap (λ (walk : Walk). walk.at) fresh) at is in
-        rw (entry_read cmp leaves id leaf all all_slots 0 slot read at_first found) refl
+        rw (entry_read leaves id leaf all all_slots 0 slot read at_first found) refl
 
     pub last_read : (slot : ℕ) (read : K × V) → slice_get all.slots (places_behind (length all.slots) all.at - 1) ≡ Some slot → arrival leaf.array.arrivals slot ≡ Some read → Some read.0 ≡ option_map (λ entry. entry.0) (last_of (leaf_entries leaves id))
     last_read slot read is found =
-        let at_last : slice_get all.slots (length (leaf_entries leaves id) - 1) ≡ Some slot = rw (ap (λ (walk : Walk). walk.at) fresh, as_many cmp leaves id leaf all all_slots) at is in
-        rw (entry_read cmp leaves id leaf all all_slots _ slot read at_last found) refl
+        let at_last : slice_get all.slots (length (leaf_entries leaves id) - 1) ≡ Some slot = rw (ap (λ (walk : Walk). walk.at) fresh, as_many leaves id leaf all all_slots) at is in
+        rw (entry_read leaves id leaf all all_slots _ slot read at_last found) refl
 
     -- a leaf without slots has no first entry and no last one
     pub none_ahead : {X : Type 0} (key : K × V → X) (at : ℕ) → length all.slots ≤ place_ahead all.at → None ≡ option_map key (slice_get (leaf_entries leaves id) at)
     none_ahead key at none =
         let few : length all.slots ≤ 0 = rw (ap (λ (walk : Walk). walk.at) fresh) at none in
-        rw (slice_get_past (leaf_entries leaves id) at (omega (arith, few, as_many cmp leaves id leaf all all_slots))) refl
+        rw (slice_get_past (leaf_entries leaves id) at (omega (arith, few, as_many leaves id leaf all all_slots))) refl
 
     pub none_behind : {X : Type 0} (key : K × V → X) (at : ℕ) → places_behind (length all.slots) all.at ≡ 0 → None ≡ option_map key (slice_get (leaf_entries leaves id) at)
     none_behind key at none =
         let few : length all.slots ≡ 0 = rw (ap (λ (walk : Walk). walk.at) fresh) at none in
-        rw (slice_get_past (leaf_entries leaves id) at (omega (arith, few, as_many cmp leaves id leaf all all_slots))) refl
+        rw (slice_get_past (leaf_entries leaves id) at (omega (arith, few, as_many leaves id leaf all all_slots))) refl

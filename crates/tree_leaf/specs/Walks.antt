@@ -1,11 +1,9 @@
 -- A walk over the entries of linked leaves, in the order of their keys or against it. In one leaf it goes from entry to entry, and a jump takes it to the next leaf that has one.
-use Rattle.std.specs.Prelude.{◌≡◌, ℕ, ◌-◌, ◌<◌, ◌≤◌, ◌==◌, if◌then◌else◌, List, [], ◌∷◌, ◌++◌, length, reverse, Option, None, Some, MatchOption, option_map, option_and_then, slice_get}
+use Rattle.std.specs.Prelude.{◌≡◌, ℕ, ◌-◌, ◌<◌, ◌≤◌, ◌==◌, if◌then◌else◌, List, [], ◌∷◌, ◌++◌, length, map, reverse, Option, None, Some, MatchOption, option_map, option_and_then, slice_get}
 use Rattle.std.specs.Borrow.{Bor}
 use Rattle.std.specs.Iterator.{Count, at_most}
-use Rattle.std.specs.declared.cmp.Ordering.{Ordering}
 use Rattle.slab.specs.Slab.{Slab, get}
-use Rattle.tree_array.specs.Arrivals.{slots_in_order}
-use Rattle.tree_array.specs.Sound.{IsSound}
+use Rattle.tree_array.specs.Arrivals.{arrival}
 use Rattle.tree_array.specs.Walk.{Walk, place_ahead, places_behind}
 use Rattle.tree_leaf.specs.declared.leaf.LeafOf.{LeafOf}
 use Rattle.tree_leaf.specs.Chain.{IsChain}
@@ -84,10 +82,9 @@ module _ {K V : Type 0} {LEN : ℕ} where
       → (new ≡ jumped (λ entries. length entries - 1) old (reverse front)) × (option_map lent_entry result ≡ last_of (entries_of old.leaves front))
 
   -- a walk stands in the leaf, which has this number in a chain, over the slots of its entries
-  pub record IsStand (cmp : K → K → Ordering) (leaves : Slab (LeafOf K V LEN)) (id : ℕ) (leaf : LeafOf K V LEN) (slots : Walk) : Type 0 where
+  pub record IsStand (leaves : Slab (LeafOf K V LEN)) (id : ℕ) (leaf : LeafOf K V LEN) (slots : Walk) : Type 0 where
     pub there : get leaves id ≡ Some leaf
     pub front : List ℕ
     pub back : List ℕ
     pub chain : IsChain leaves (front ++ id ∷ back)
-    pub sound : IsSound cmp LEN leaf.array
-    pub slots_are : slots.slots ≡ slots_in_order cmp leaf.array
+    pub slots_are : map (arrival leaf.array.arrivals) slots.slots ≡ map Some leaf.array.entries

@@ -141,3 +141,6 @@ impl<K: Ord + Drop, V: Drop, N: Drop, const LEN: usize> SlotsOf<K, V, N, LEN> {
         self.nodes.len()
     }
 }
+
+#[cfg(test)]
+mod tests;

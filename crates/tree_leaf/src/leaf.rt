@@ -1,13 +1,11 @@
 //! Leaves, each an array with the numbers of the leaves beside it.
 ghost use Rattle.std.specs.Prelude.{◌≡◌, [], None, Some, IsSome};
 ghost use Rattle.std.specs.Borrow.{sem};
-ghost use Rattle.tree_array.specs.Arrivals.{arrival, in_order, slots_in_order};
-ghost use Rattle.tree_array.specs.Sound.{IsSound};
-ghost use Rattle.tree_array.specs.Walk.{standing};
+ghost use Rattle.tree_array.specs.Arrivals.{arrival, in_order};
 ghost use Rattle.tree_array.specs.Length.{IsLen};
 
 use crate::arena::LeafId;
-use tree_array::array::{ArrayIterOf, ArrayOf};
+use tree_array::array::{ArrayIter, ArrayOf};
 
 mod iter;
 mod links;
@@ -76,15 +74,6 @@ impl<K: Ord + Drop, V: Drop, const LEN: usize> LeafOf<K, V, LEN> {
         self.next
     }
 
-    /// A walk over the slots, before the first.
-    fn slots(&self) -> ArrayIterOf<LEN>
-        ensures walk { result ≡ standing (slots_in_order K.cmp self.now.array) None }
-        ensures sound { IsSound K.cmp LEN self.now.array }
-    {
-        let _sound = self.array.free();
-        ArrayIterOf::new(&self.array)
-    }
-
     /// The entry of a slot. Caller's condition: the slot is reachable.
     fn entry(&self, slot: u8) -> (&K, &V)
         requires { IsSome (arrival self.now.array.arrivals slot) }
@@ -93,3 +82,6 @@ impl<K: Ord + Drop, V: Drop, const LEN: usize> LeafOf<K, V, LEN> {
         (self.array.key(slot), self.array.val(slot))
     }
 }
+
+#[cfg(test)]
+mod tests;

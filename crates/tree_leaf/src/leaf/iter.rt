@@ -10,23 +10,23 @@ use crate::leaf::stand::{Stand, Walked, Way};
 use slab::Slab;
 use std::alloc::AllocError;
 use std::marker::Model;
-use tree_array::array::ArrayIterOf;
+use tree_array::array::ArrayIter;
 
 /// A walk in ascending order of the keys, over leaves of a type. It stands in one leaf, unopened or on
 /// an entry of it. No call compares keys or takes memory.
 #[derive(Drop)]
-pub struct LinkedIter<'t, L: Walked, const LEN: usize> {
+pub struct LinkedIter<'t, L: Walked> {
     pub(super) stand: Stand<'t, L>,
-    pub(super) slots: ArrayIterOf<LEN>,
+    pub(super) slots: ArrayIter,
 }
 
 /// The walk over leaves of `LEN` slots.
-pub type IterOf<'t, K, V, const LEN: usize> = LinkedIter<'t, LeafOf<K, V, LEN>, LEN>;
+pub type IterOf<'t, K, V, const LEN: usize> = LinkedIter<'t, LeafOf<K, V, LEN>>;
 
 /// The walk over leaves of fifteen slots.
 pub type Iter<'t, K, V> = IterOf<'t, K, V, 15>;
 
-impl<'t, L: Walked, const LEN: usize> Model for LinkedIter<'t, L, LEN> {
+impl<'t, L: Walked> Model for LinkedIter<'t, L> {
     ghost use Rattle.tree_leaf.specs.Walks.{LinkedWalk, standing};
 
     ghost Value = { LinkedWalk L };
@@ -36,7 +36,7 @@ impl<'t, L: Walked, const LEN: usize> Model for LinkedIter<'t, L, LEN> {
     ghost invariant = { λ a. L.stands a.stand.leaves.now a.stand.id a.stand.leaf.now a.slots };
 }
 
-impl<'t, K: Ord + Drop, V: Drop, const LEN: usize> LinkedIter<'t, LeafOf<K, V, LEN>, LEN> {
+impl<'t, K: Ord + Drop, V: Drop, const LEN: usize> LinkedIter<'t, LeafOf<K, V, LEN>> {
     /// A walk that stands unopened in a leaf. Caller's condition: the leaf is one of a chain.
     pub fn new<N: Drop>(arenas: &'t SlotsOf<K, V, N, LEN>, id: LeafId) -> Self
         requires { (front back : _) × IsChain arenas.now.leaves (front ++ id ∷ back) }
@@ -51,7 +51,7 @@ impl<'t, K: Ord + Drop, V: Drop, const LEN: usize> LinkedIter<'t, LeafOf<K, V, L
         ensures { result ≡ standing leaves.now id None }
     {
         let stand = Stand::at(leaves, id);
-        let slots = stand.leaf.slots();
+        let slots = ArrayIter::new(stand.leaf.array());
         LinkedIter { stand, slots }
     }
 
@@ -104,8 +104,7 @@ impl<'t, K: Ord + Drop, V: Drop, const LEN: usize> LinkedIter<'t, LeafOf<K, V, L
     }
 }
 
-impl<'t, K: Ord + Drop, V: Drop, const LEN: usize> Iterator
-    for LinkedIter<'t, LeafOf<K, V, LEN>, LEN> {
+impl<'t, K: Ord + Drop, V: Drop, const LEN: usize> Iterator for LinkedIter<'t, LeafOf<K, V, LEN>> {
     type Item = (&'t K, &'t V);
 
     ghost next_gives = { StepsOn };
@@ -118,7 +117,7 @@ impl<'t, K: Ord + Drop, V: Drop, const LEN: usize> Iterator
     }
 }
 
-impl<'t, L: Walked, const LEN: usize> Clone for LinkedIter<'t, L, LEN> {
+impl<'t, L: Walked> Clone for LinkedIter<'t, L> {
     ghost is_clone = { λ walk clone. clone ≡ walk };
 
     ghost is_infallible = { λ _. ⊤ };

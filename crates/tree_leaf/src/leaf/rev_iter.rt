@@ -9,22 +9,22 @@ use crate::leaf::iter::{IterOf, LinkedIter};
 use crate::leaf::stand::{Stand, Walked, Way};
 use std::alloc::AllocError;
 use std::marker::Model;
-use tree_array::array::ArrayRevIterOf;
+use tree_array::array::ArrayRevIter;
 
 /// The walk in descending order of the keys.
 #[derive(Drop)]
-pub struct LinkedRevIter<'t, L: Walked, const LEN: usize> {
+pub struct LinkedRevIter<'t, L: Walked> {
     pub(super) stand: Stand<'t, L>,
-    pub(super) slots: ArrayRevIterOf<LEN>,
+    pub(super) slots: ArrayRevIter,
 }
 
 /// The walk in descending order over leaves of `LEN` slots.
-pub type RevIterOf<'t, K, V, const LEN: usize> = LinkedRevIter<'t, LeafOf<K, V, LEN>, LEN>;
+pub type RevIterOf<'t, K, V, const LEN: usize> = LinkedRevIter<'t, LeafOf<K, V, LEN>>;
 
 /// The walk in descending order over leaves of fifteen slots.
 pub type RevIter<'t, K, V> = RevIterOf<'t, K, V, 15>;
 
-impl<'t, L: Walked, const LEN: usize> Model for LinkedRevIter<'t, L, LEN> {
+impl<'t, L: Walked> Model for LinkedRevIter<'t, L> {
     ghost use Rattle.tree_leaf.specs.Walks.{LinkedWalk, standing};
 
     ghost Value = { LinkedWalk L };
@@ -34,7 +34,7 @@ impl<'t, L: Walked, const LEN: usize> Model for LinkedRevIter<'t, L, LEN> {
     ghost invariant = { λ a. L.stands a.stand.leaves.now a.stand.id a.stand.leaf.now a.slots };
 }
 
-impl<'t, K: Ord + Drop, V: Drop, const LEN: usize> LinkedRevIter<'t, LeafOf<K, V, LEN>, LEN> {
+impl<'t, K: Ord + Drop, V: Drop, const LEN: usize> LinkedRevIter<'t, LeafOf<K, V, LEN>> {
     /// A walk that stands unopened in a leaf. Caller's condition: the leaf is one of a chain.
     pub fn new<N: Drop>(arenas: &'t SlotsOf<K, V, N, LEN>, id: LeafId) -> Self
         requires { (front back : _) × IsChain arenas.now.leaves (front ++ id ∷ back) }
@@ -93,7 +93,7 @@ impl<'t, K: Ord + Drop, V: Drop, const LEN: usize> LinkedRevIter<'t, LeafOf<K, V
 }
 
 impl<'t, K: Ord + Drop, V: Drop, const LEN: usize> Iterator
-    for LinkedRevIter<'t, LeafOf<K, V, LEN>, LEN> {
+    for LinkedRevIter<'t, LeafOf<K, V, LEN>> {
     type Item = (&'t K, &'t V);
 
     ghost next_gives = { StepsBack };
@@ -106,7 +106,7 @@ impl<'t, K: Ord + Drop, V: Drop, const LEN: usize> Iterator
     }
 }
 
-impl<'t, L: Walked, const LEN: usize> Clone for LinkedRevIter<'t, L, LEN> {
+impl<'t, L: Walked> Clone for LinkedRevIter<'t, L> {
     ghost is_clone = { λ walk clone. clone ≡ walk };
 
     ghost is_infallible = { λ _. ⊤ };

@@ -22,7 +22,7 @@ pub trait Walked {
 impl<K: Ord, V, const LEN: usize> Walked for LeafOf<K, V, LEN> {
     ghost use Rattle.tree_leaf.specs.Walks.{IsStand};
 
-    ghost stands = { IsStand K.cmp };
+    ghost stands = { IsStand };
 }
 
 /// Which way a walk goes through the links.

@@ -2,7 +2,7 @@ use Rattle.std.proofs.Common.{rules, refl, ap, ◌∙◌, sym, reverse}
 use Rattle.std.proofs.lemmas.List.{reverse-reverse}
 use Rattle.tree_leaf.specs.declared.leaf.stand.Way.TheVariants.{Back}
 use Rattle.tree_leaf.proofs.Jumps.{jump_back, lands_in, lands_nowhere, way_parts}
-use Rattle.tree_leaf.proofs.leaf.rev_iter.LinkedRevIter+LeafOf+K+V+LEN+LEN.jump.Goals as goal
+use Rattle.tree_leaf.proofs.leaf.rev_iter.LinkedRevIter+LeafOf+K+V+LEN.jump.Goals as goal
 
 pub returns-in_err-id : goal.returns-in_err-id
 returns-in_err-id g c = rw (← c.self.view_is) (λ front back chain.
@@ -14,7 +14,7 @@ pub in_leaf-requires : goal.in_leaf-requires
 in_leaf-requires g c =
     let chain = c.self.invariant.chain in
     let parted = way_parts Back c.self.invariant.front c.self.inside.stand.id c.self.invariant.back c.in_ok-id.id (lands_in c.self.inside.stand.leaves.now _ _ (sym (c.landing.ensures _ _ chain) ∙ c.in_ok-id.was)) in
-    (search rules, (search rules, (parted.front, parted.back, rw parted.parts at chain)))
+    (search rules, (parted.front, parted.back, rw parted.parts at chain))
 
 pub returns : goal.returns
 returns g c = rw (← c.self.view_is) (λ front back chain.
