@@ -1,10 +1,10 @@
 -- Entries that are taken one by one along a walk, and stored in a new array.
-use Rattle.std.proofs.Common.{◌≡◌, ℕ, zero, suc, ◌+◌, ◌^◌, ◌<◌, ◌≤◌, Bool, true, false, cond, length, map, drop, take, filter, get_or, List, [], ◌∷◌, ◌++◌, slice_get, Option, Some, None, MatchOption, refl, sym, ◌∙◌, ap, subst, inr, add-one, arith}
+use Rattle.std.proofs.Common.{◌≡◌, ℕ, zero, suc, ◌+◌, ◌^◌, ◌<◌, ◌≤◌, true, length, map, drop, take, get_or, List, [], ◌∷◌, ◌++◌, slice_get, Option, Some, None, MatchOption, refl, sym, ◌∙◌, ap, subst, inr, add-one, arith}
 use Rattle.std.specs.List.{AllByRecursion}
 use Rattle.std.specs.declared.cmp.Ordering.{Ordering}
-use Rattle.std.specs.declared.cmp.Ordering.TheVariants.{Less, Equal, Greater}
+use Rattle.std.specs.declared.cmp.Ordering.TheVariants.{Less, Greater}
 use Rattle.std.specs.Cmp.{IsTotalOrder}
-use Rattle.std.specs.Ordering.{is_lt, is_eq, is_gt}
+use Rattle.std.specs.Ordering.{is_lt, is_gt}
 use Rattle.std.proofs.lemmas.Cmp.{tied_itself}
 use Rattle.std.proofs.lemmas.List.{drop_all, drop_more, length-drop, length-map, length-take, map-append}
 use Rattle.std.proofs.lemmas.Option.{none-some, get_or_from_slice_get, slice_get_past, slice_get_within}
@@ -47,14 +47,6 @@ module _ {K V : Type 0} {cmp : K → K → Ordering} {len : ℕ} {array : Arriva
   pub next_entry : (slot : ℕ) → slice_get walk.slots (place_ahead walk.at) ≡ Some slot → IsNext array slot (drop (place_ahead walk.at + 1) walk.slots)
   next_entry slot h =
       next_of array slot (drop (place_ahead walk.at + 1) walk.slots) array.entries refl (ap (map (arrival array.arrivals)) (sym (ahead_of walk.slots (place_ahead walk.at) slot h)) ∙ over.slots)
-
-  -- a walk at its end is over no entry
-  pub no_entry : length walk.slots ≤ place_ahead walk.at → array.entries ≡ []
-  no_entry le = go array.entries (sym over.slots ∙ ap (map (arrival array.arrivals)) (drop_all (place_ahead walk.at) walk.slots le))
-    where
-      go : (entries : List (K × V)) → map Some entries ≡ [] → entries ≡ []
-      go [] h = refl
-      go (e ∷ entries) h = cc
 
 module _ {K V : Type 0} {cmp : K → K → Ordering} (o : IsTotalOrder cmp) where
   -- the entries without the first

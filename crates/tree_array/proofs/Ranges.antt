@@ -1,17 +1,16 @@
 -- Arrivals within two bounds that are spent one by one.
-use Rattle.std.proofs.Common.{◌≡◌, ◌≢◌, ℕ, zero, suc, ◌+◌, ◌<◌, ◌≤◌, Bool, true, false, List, [], ◌∷◌, map, get_or, length, Option, None, Some, refl, sym, ◌∙◌, ap, inl, inr, arith}
+use Rattle.std.proofs.Common.{◌≡◌, ◌≢◌, ℕ, zero, suc, ◌+◌, ◌<◌, ◌≤◌, Bool, true, false, List, [], ◌∷◌, map, length, Option, None, Some, refl, sym, ◌∙◌, ap, inl, inr, arith}
 use Rattle.std.specs.Prelude.{not, ◌&&◌, ◌||◌}
 use Rattle.std.specs.declared.cmp.Ordering.{Ordering}
-use Rattle.std.specs.declared.cmp.Ordering.TheVariants.{Equal}
 use Rattle.std.specs.declared.ops.Bound.{Bound}
 use Rattle.std.specs.Cmp.{IsTotalOrder}
 use Rattle.std.specs.Ordering.{is_eq}
-use Rattle.std.proofs.lemmas.Bool.{cases_eq, cases_lt}
+use Rattle.std.proofs.lemmas.Bool.{cases_eq}
 use Rattle.std.proofs.lemmas.Cmp.{tied_itself}
 use Rattle.std.proofs.lemmas.Bool.Decides.{nat_tests}
 use Rattle.std.proofs.lemmas.List.{ext_get_or, length-map, nil_from_length}
 use Rattle.std.proofs.lemmas.Option.{none-some}
-use Rattle.tree_array.specs.Arrivals.{Arrivals, arrival, cut_at, is_empty, reachable, removed, sorted, spent_at, spend, without_range}
+use Rattle.tree_array.specs.Arrivals.{Arrivals, arrival, cut_at, is_empty, reachable, removed, sorted, spent_at, without_range}
 use Rattle.tree_array.specs.Sound.{IsSound}
 use Rattle.tree_model.specs.Pairs.{cut, within, without}
 use Rattle.tree_model.proofs.LookUps.{equal_from_test}

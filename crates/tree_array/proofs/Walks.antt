@@ -1,11 +1,10 @@
 -- The slots in the order of their keys are the arrivals in the order of their ranks.
-use Rattle.std.proofs.Common.{◌≡◌, ◌⊎◌, ℕ, zero, suc, ◌+◌, ◌-◌, ◌<◌, ◌≤◌, Bool, true, false, cond, length, map, find, List, [], ◌∷◌, Option, Some, None, refl, sym, ◌∙◌, ap, inl, inr, subst, arith}
+use Rattle.std.proofs.Common.{◌≡◌, ◌⊎◌, ℕ, zero, suc, ◌+◌, ◌<◌, ◌≤◌, Bool, true, false, cond, map, find, List, [], ◌∷◌, Option, Some, None, refl, sym, ◌∙◌, ap, inl, inr, subst, arith}
 use Rattle.std.specs.List.{AllByRecursion, Contains}
 use Rattle.std.specs.declared.cmp.Ordering.{Ordering}
-use Rattle.std.specs.declared.cmp.Ordering.TheVariants.{Less, Equal, Greater}
+use Rattle.std.specs.declared.cmp.Ordering.TheVariants.{Less}
 use Rattle.std.specs.Cmp.{IsTotalOrder}
-use Rattle.std.specs.Ordering.{is_eq, nat_cmp}
-use Rattle.std.proofs.lemmas.Bool.{cases_lt}
+use Rattle.std.specs.Ordering.{is_eq}
 use Rattle.std.proofs.lemmas.Cmp.{ranked, tied_itself}
 use Rattle.std.proofs.lemmas.List.Elements.{All-contains, All-from_recursion, Contains-append_cases, Contains-append_right}
 use Rattle.std.proofs.lemmas.Option.{none-some, same_Some}
@@ -74,10 +73,7 @@ module _ (rank : ℕ → ℕ) where
       (λ p there. let r = holds _ ys p i.ranked there in h.every p r.0 r.1)
 
 module _ {K V : Type 0} where
-  -- the number of a reachable arrival beside its key
-  abbrev IsNumbered : List (Option (K × V)) → K × ℕ → Type 0
-  IsNumbered arrivals slot = (val : V) × (arrival arrivals slot.1 ≡ Some (slot.0, val))
-
+  -- each number is that of a reachable arrival beside its key
   all_numbered : (n : ℕ) (arrivals : List (Option (K × V))) → AllByRecursion (λ slot. (p : ℕ) × (val : V) × (slot.1 ≡ n + p) × (arrival arrivals p ≡ Some (slot.0, val))) (numbered n arrivals)
   all_numbered n [] = tt
   all_numbered n (None ∷ arrivals) = all_map (λ slot h. (suc h.0, h.1, omega (arith, h.2), h.3)) (numbered (suc n) arrivals) (all_numbered (suc n) arrivals)

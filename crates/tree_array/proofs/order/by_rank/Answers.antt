@@ -1,4 +1,4 @@
-use Rattle.std.proofs.Common.{◌-◌, length, set, refl, ◌∙◌, sym, arith}
+use Rattle.std.proofs.Common.{◌-◌, refl, ◌∙◌, arith}
 use Rattle.std.proofs.lemmas.List.{length-set}
 use Rattle.tree_array.proofs.Orders.{table_none, table_kept, table_set}
 use Rattle.tree_array.proofs.order.by_rank.Goals as goal

@@ -1,4 +1,4 @@
-use Rattle.std.proofs.Common.{◌+◌, ◌++◌, [], ◌∷◌, sym, ◌∙◌, ap, arith}
+use Rattle.std.proofs.Common.{◌++◌, [], ◌∷◌, sym, ◌∙◌, ap, arith}
 use Rattle.std.proofs.lemmas.List.{length-set, take_all, take_more_set}
 use Rattle.tree_array.proofs.Orders.{names_more_some, names_more_none, table_order}
 use Rattle.tree_array.proofs.order.in_rank_order.Goals as goal

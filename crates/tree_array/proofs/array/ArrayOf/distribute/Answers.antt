@@ -1,4 +1,4 @@
-use Rattle.std.proofs.Common.{◌∙◌, rules}
+use Rattle.std.proofs.Common.{◌∙◌}
 use Rattle.tree_array.proofs.Dealt.{drained_same}
 use Rattle.tree_array.proofs.array.ArrayOf.distribute.Goals as goal
 

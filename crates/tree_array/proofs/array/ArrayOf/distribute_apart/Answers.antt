@@ -1,4 +1,4 @@
-use Rattle.std.proofs.Common.{◌∙◌, ap, rules}
+use Rattle.std.proofs.Common.{◌∙◌, ap}
 use Rattle.tree_array.specs.Arrivals.{in_order}
 use Rattle.tree_array.proofs.Dealt.{drained_same, next_apart}
 use Rattle.tree_array.proofs.array.ArrayOf.distribute_apart.Goals as goal

@@ -1,4 +1,4 @@
-use Rattle.std.proofs.Common.{◌≡◌, ◌∷◌, drop, refl, sym, ◌∙◌, ap, rules}
+use Rattle.std.proofs.Common.{refl, sym, ◌∙◌, rules}
 use Rattle.tree_array.proofs.Dealt.{room, last, more_moved, more_left}
 use Rattle.tree_array.proofs.array.ArrayOf.move_on.Goals as goal
 

@@ -1,6 +1,5 @@
-use Rattle.std.proofs.Common.{◌∙◌, ap, rules}
-use Rattle.std.proofs.lemmas.List.{drop_all, take_all}
-use Rattle.tree_array.specs.Arrivals.{in_order}
+use Rattle.std.proofs.Common.{◌∙◌}
+use Rattle.std.proofs.lemmas.List.{drop_all}
 use Rattle.tree_array.proofs.Dealt.{drained_holds, drained_seen}
 use Rattle.tree_array.proofs.array.ArrayOf.move_rest.Goals as goal
 

@@ -1,4 +1,4 @@
-use Rattle.std.proofs.Common.{◌<◌, ◌≢◌, ℕ, refl, sym, ◌∙◌, ap, arith}
+use Rattle.std.proofs.Common.{◌∙◌, ap, arith}
 use Rattle.tree_array.specs.Arrivals.{Arrivals, stored}
 use Rattle.tree_array.proofs.Appended.{parts_all, ranks_stay}
 use Rattle.tree_array.proofs.Seen.{arrival_seen}

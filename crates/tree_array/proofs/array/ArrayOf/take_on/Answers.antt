@@ -1,6 +1,6 @@
-use Rattle.std.proofs.Common.{◌≡◌, Some, IsSome, sym, subst, refl, rules}
+use Rattle.std.proofs.Common.{IsSome, sym, subst, refl, rules}
 use Rattle.tree_array.specs.Walk.{IsOver}
-use Rattle.tree_array.proofs.Dealt.{next_entry, no_entry, taken, over_rest}
+use Rattle.tree_array.proofs.Dealt.{next_entry, taken, over_rest}
 use Rattle.tree_array.proofs.array.ArrayOf.take_on.Goals as goal
 
 pub take-key-requires : goal.take-key-requires

@@ -1,4 +1,4 @@
-use Rattle.std.proofs.Common.{◌≡◌, ◌≤◌, ℕ, List, None, subst, sym, ◌∙◌, ap, arith}
+use Rattle.std.proofs.Common.{ℕ, List, None, subst, sym, ◌∙◌, ap, arith}
 use Rattle.tree_array.specs.Arrivals.{slots_in_order}
 use Rattle.tree_array.specs.Sound.{IsSound}
 use Rattle.tree_array.specs.Walk.{IsOver, standing}
