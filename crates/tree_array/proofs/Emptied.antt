@@ -1,9 +1,8 @@
 -- Arrays without a reachable arrival.
-use Rattle.std.proofs.Common.{◌≡◌, ◌≢◌, ◌⊎◌, ℕ, ◌+◌, ◌^◌, ◌<◌, ◌≤◌, List, [], ◌∷◌, ◌++◌, length, Option, None, Some, refl, sym, ◌∙◌, ap, inl, inr, length-append, arith}
+use Rattle.std.proofs.Common.{◌≡◌, ◌⊎◌, ℕ, ◌^◌, ◌<◌, ◌≤◌, List, [], ◌∷◌, length, Option, None, refl, sym, ◌∙◌, ap, inl, inr, length-append, arith}
 use Rattle.std.specs.declared.cmp.Ordering.{Ordering}
-use Rattle.std.proofs.lemmas.Bool.{cases_lt}
 use Rattle.std.proofs.lemmas.Option.{none-some}
-use Rattle.tree_array.specs.Arrivals.{arrival, reachable, sorted}
+use Rattle.tree_array.specs.Arrivals.{reachable, sorted}
 use Rattle.tree_array.specs.Layout.{picked, rank_for}
 use Rattle.tree_array.specs.Length.{IsLen}
 use Rattle.tree_array.specs.Ranked.{IsRanked, IsMarked}

@@ -1,13 +1,13 @@
 -- What every array keeps.
-use Rattle.std.proofs.Common.{◌≡◌, ℕ, zero, suc, ◌+◌, ◌==◌, ◌^◌, ◌≤◌, Bool, false, true, List, [], ◌∷◌, map, length, Option, None, Some, refl, sym, ◌∙◌, ap, subst, arith}
+use Rattle.std.proofs.Common.{◌≡◌, ℕ, suc, ◌+◌, ◌≤◌, Bool, false, true, List, [], ◌∷◌, map, length, Option, None, Some, refl, sym, ◌∙◌, ap, arith}
 use Rattle.std.specs.declared.cmp.Ordering.{Ordering}
 use Rattle.std.specs.declared.cmp.Ordering.TheVariants.{Equal}
 use Rattle.std.specs.Cmp.{IsTotalOrder}
 use Rattle.std.specs.List.{AllByRecursion}
 use Rattle.std.specs.Ordering.{is_eq}
 use Rattle.std.proofs.lemmas.Bool.Decides.{nat_tests}
-use Rattle.tree_array.specs.Arrivals.{arrival, reachable, numbered, sorted, slots_in_order}
-use Rattle.tree_array.specs.Layout.{rank_for, picked}
+use Rattle.tree_array.specs.Arrivals.{arrival, reachable, numbered, sorted}
+use Rattle.tree_array.specs.Layout.{picked}
 use Rattle.tree_array.specs.Length.{IsLen}
 use Rattle.tree_array.specs.Ranked.{IsRanked, IsMarked, seen}
 use Rattle.tree_array.specs.Sound.{IsSound}
@@ -17,7 +17,7 @@ use Rattle.tree_array.proofs.Emptied.{entries_none}
 use Rattle.tree_array.proofs.Entries.{all-reachable}
 use Rattle.tree_array.proofs.Picks.{length-picked, arrival-all, reachable_few}
 use Rattle.tree_array.proofs.RankOrder.{one_arrival}
-use Rattle.tree_array.proofs.Sorted.{IsAscending-sorted, pair_at-sorted, all-sorted, length-put_absent, with_values, values-sorted}
+use Rattle.tree_array.proofs.Sorted.{IsAscending-sorted, pair_at-sorted, all-sorted, length-put_absent, values-sorted}
 
 -- ---- the slots of the entries
 module _ {K V : Type 0} where

@@ -1,18 +1,14 @@
 -- What contracts see of the fields of an array, and of an arrival there.
-use Rattle.std.proofs.Common.{◌≡◌, ◌≢◌, ◌⊎◌, ℕ, ◌+◌, ◌==◌, ◌^◌, ◌<◌, ◌≤◌, Bool, true, false, List, [], ◌∷◌, ◌++◌, map, length, Option, None, Some, IsSome, refl, sym, ◌∙◌, ap, subst, inl, inr, arith}
+use Rattle.std.proofs.Common.{◌≡◌, ◌≢◌, ℕ, ◌==◌, ◌^◌, Bool, true, false, List, Option, None, Some, IsSome, refl, sym, ◌∙◌, ap, subst, inl, inr}
 use Rattle.std.specs.declared.cmp.Ordering.{Ordering}
 use Rattle.std.specs.declared.cmp.Ordering.TheVariants.{Equal}
 use Rattle.std.specs.Cmp.{IsTotalOrder}
 use Rattle.std.specs.Ordering.{is_eq}
 use Rattle.std.proofs.lemmas.Bool.{cases_eq}
-use Rattle.std.proofs.lemmas.Cmp.{tied_itself}
-use Rattle.std.proofs.lemmas.Option.{none-some}
-use Rattle.tree_array.specs.Arrivals.{Arrivals, arrival, reachable, sorted, spent_at, spend, is_empty, removed}
+use Rattle.tree_array.specs.Arrivals.{Arrivals, arrival, reachable, sorted, spent_at, spend}
 use Rattle.tree_array.specs.Layout.{IsSetAt, picked}
 use Rattle.tree_array.specs.Ranked.{IsRanked, seen}
-use Rattle.tree_model.specs.Pairs.{without}
 use Rattle.tree_model.proofs.LookUps.{equal_from_test}
-use Rattle.tree_array.proofs.Entries.{entries-spend}
 use Rattle.tree_array.proofs.Found.{one_place}
 use Rattle.tree_array.proofs.Picks.{arrival-all, picked-map}
 

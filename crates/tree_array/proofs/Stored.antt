@@ -1,5 +1,5 @@
 -- The fields of an array after a pair was stored, and what contracts see of them.
-use Rattle.std.proofs.Common.{◌≡◌, ◌≢◌, ◌⊎◌, ℕ, ◌+◌, ◌-◌, ◌==◌, ◌^◌, ◌<◌, ◌≤◌, Bool, true, false, IsTrue, List, [], ◌∷◌, ◌++◌, length, Option, None, Some, refl, sym, ◌∙◌, ap, inl, inr, arith}
+use Rattle.std.proofs.Common.{◌≡◌, ◌≢◌, ℕ, ◌+◌, ◌==◌, ◌^◌, ◌<◌, ◌≤◌, Bool, true, false, IsTrue, List, [], ◌∷◌, ◌++◌, length, Option, None, Some, refl, sym, ◌∙◌, ap, inl, inr, arith}
 use Rattle.std.specs.declared.cmp.Ordering.{Ordering}
 use Rattle.std.specs.declared.cmp.Ordering.TheVariants.{Equal}
 use Rattle.std.specs.Cmp.{IsTotalOrder}
@@ -7,7 +7,6 @@ use Rattle.std.specs.Ordering.{is_eq}
 use Rattle.std.proofs.lemmas.Bool.{cases_lt}
 use Rattle.std.proofs.lemmas.Bool.Decides.{nat_tests}
 use Rattle.std.proofs.lemmas.Cmp.{tied_back}
-use Rattle.std.proofs.lemmas.Option.{none-some}
 use mathlib.Core.Bool.{false≢true}
 use Rattle.tree_array.specs.Arrivals.{Arrivals, free, reachable, sorted, spend, stored}
 use Rattle.tree_array.specs.Insertion.{IsFull, HasRoom}
@@ -19,7 +18,7 @@ use Rattle.tree_array.specs.Word.{made_of, raised_rank}
 use Rattle.tree_model.proofs.Order.{greater_from_less, less_from_greater}
 use Rattle.tree_array.proofs.Entries.{entries-store}
 use Rattle.tree_array.proofs.Joined.{added_joins, moved_joins, joined_ranked}
-use Rattle.tree_array.proofs.Picks.{cases_option, length-picked, picked-next, picked_same, made_early}
+use Rattle.tree_array.proofs.Picks.{cases_option, length-picked, picked-next, picked_same}
 use Rattle.tree_array.proofs.Seen.{same_arrays, arrivals_seen, retired_seen, spend_seen, spend_absent}
 use Rattle.tree_array.proofs.Slots.{len_small}
 

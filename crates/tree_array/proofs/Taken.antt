@@ -1,5 +1,5 @@
 -- The fields of an array after a pair was taken.
-use Rattle.std.proofs.Common.{◌≡◌, ◌≢◌, ℕ, ◌==◌, ◌^◌, ◌<◌, ◌≤◌, Bool, true, false, List, [], length, Option, None, Some, refl, sym, ◌∙◌, ap, inl, inr, lit<, arith}
+use Rattle.std.proofs.Common.{◌≡◌, ◌≢◌, ℕ, ◌==◌, ◌^◌, ◌<◌, ◌≤◌, false, List, length, Option, None, Some, refl, sym, ◌∙◌, ap, inl, inr, arith}
 use Rattle.std.specs.declared.cmp.Ordering.{Ordering}
 use Rattle.std.specs.Cmp.{IsTotalOrder}
 use Rattle.std.proofs.lemmas.Bool.{cases_lt}
@@ -7,7 +7,7 @@ use Rattle.std.proofs.lemmas.Bool.Decides.{nat_tests}
 use Rattle.std.proofs.lemmas.Cmp.{tied_itself}
 use Rattle.std.proofs.lemmas.List.{nil_from_length}
 use Rattle.std.proofs.lemmas.Option.{none-some}
-use Rattle.tree_array.specs.Arrivals.{Arrivals, reachable, sorted, is_empty, removed}
+use Rattle.tree_array.specs.Arrivals.{reachable, sorted, is_empty, removed}
 use Rattle.tree_array.specs.Layout.{IsSetAt, picked, rank_for}
 use Rattle.tree_array.specs.Ranked.{IsBitmap, IsRanked, IsMarked, seen}
 use Rattle.tree_array.specs.Word.{made_of}

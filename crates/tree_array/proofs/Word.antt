@@ -1,7 +1,7 @@
 -- What adding to one rank of a word, or taking it away, leaves at every slot.
 use Rattle.std.proofs.Common.{◌≡◌, ◌≢◌, ℕ, zero, suc, ◌+◌, ◌-◌, ◌*◌, ◌/◌, ◌%◌, ◌^◌, ◌<◌, ◌≤◌, refl, sym, ◌∙◌, ap, subst, inl, inr, arith}
 use Rattle.std.proofs.lemmas.Bool.{cases_order}
-use Rattle.std.proofs.lemmas.Nat.{pow_pos, pow_below, pow-add, mod-pow-add, shl_whole, mod_below, div-add-mod'}
+use Rattle.std.proofs.lemmas.Nat.{pow_pos, pow-add, mod-pow-add, shl_whole, mod_below, div-add-mod'}
 use Rattle.std.proofs.Math.Nat.{div-div-eq-div-mul, add-mul-div_right, add-mul-mod_self_right, div-eq_of_lt, div-mul-le_self, mul-le-mul_right, mod-eq_of_lt, zero-mul, zero-div}
 use Rattle.tree_array.specs.Word.{rank_of}
 

@@ -1,5 +1,5 @@
 -- What every array keeps.
-use Rattle.std.specs.Prelude.{◌≡◌, ℕ, ◌≤◌, true, List, [], Option, Some, map, length}
+use Rattle.std.specs.Prelude.{◌≡◌, ℕ, ◌≤◌, true, [], Some, map, length}
 use Rattle.std.specs.declared.cmp.Ordering.{Ordering}
 use Rattle.std.specs.declared.cmp.Ordering.TheVariants.{Equal}
 use Rattle.tree_model.specs.Pairs.{IsAscending}

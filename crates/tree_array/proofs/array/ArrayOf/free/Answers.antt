@@ -1,6 +1,5 @@
-use Rattle.std.proofs.Common.{◌≡◌, ◌-◌, ◌<◌, w8, length, subst, sym, ap, ◌∙◌, arith}
+use Rattle.std.proofs.Common.{w8, subst, arith}
 use Rattle.std.proofs.Math.Facts.{Fits-of_lt}
-use Rattle.tree_array.specs.Arrivals.{Arrivals}
 use Rattle.tree_array.specs.Sound.{IsSound}
 use Rattle.tree_array.proofs.Kept.{sound}
 use Rattle.tree_array.proofs.Picks.{length-picked}

@@ -1,4 +1,4 @@
-use Rattle.std.proofs.Common.{◌≤◌, ◌∙◌, sym, arith}
+use Rattle.std.proofs.Common.{◌≤◌, ◌∙◌, arith}
 use Rattle.tree_array.specs.Word.{made_of}
 use Rattle.tree_array.proofs.LeastFrom.{least_at, least_seen}
 use Rattle.tree_array.proofs.Seen.{arrival_seen}
