@@ -1,0 +1,7 @@
+pub mod Between
+pub mod Children
+pub mod Lists
+pub mod Order
+pub mod Routes
+pub mod Sizes
+pub mod Walks

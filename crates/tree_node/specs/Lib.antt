@@ -1,0 +1,2 @@
+pub mod Arenas
+pub mod Tree
