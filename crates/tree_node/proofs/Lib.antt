@@ -1,5 +1,6 @@
 pub mod Between
 pub mod Children
+pub mod Frames
 pub mod Lists
 pub mod Order
 pub mod Routes
