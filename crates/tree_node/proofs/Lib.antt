@@ -1,6 +1,7 @@
 pub mod Between
 pub mod Children
 pub mod Frames
+pub mod Lifts
 pub mod Lists
 pub mod Order
 pub mod Routes
