@@ -1,4 +1,5 @@
 pub mod Between
+pub mod ChildChanges
 pub mod Children
 pub mod Frames
 pub mod Lifts
@@ -6,4 +7,5 @@ pub mod Lists
 pub mod Order
 pub mod Routes
 pub mod Sizes
+pub mod Spares
 pub mod Walks
