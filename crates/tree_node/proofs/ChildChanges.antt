@@ -47,26 +47,26 @@ module _ {K : Type 0} {cmp : K → K → Ordering} (o : IsTotalOrder cmp) (A B :
 
 module _ {K V : Type 0} {LEN : ℕ} {cmp : K → K → Ordering} (o : IsTotalOrder cmp) (level : ℕ) (old : TreeArenas K V LEN) (id child : ℕ) (k : K)
     (part : IsPart cmp (suc level) old id) (which : HasChildFor cmp k (get old.nodes id) child) where
-  leaves_once : (n : ℕ) → times n (leaves_at (suc level) old.nodes id) ≤ uses old.leaves n
+  pub leaves_once : (n : ℕ) → times n (leaves_at (suc level) old.nodes id) ≤ uses old.leaves n
   leaves_once n =
       omega (arith, part.chain.once n, times-append n part.front (leaves_at (suc level) old.nodes id ++ part.back), times-append n (leaves_at (suc level) old.nodes id) part.back)
 
   -- at some bounds of the node
   module _ (low high : Option K) (s : Stands cmp (suc level) old low id high) where
-    abbrev front : List ℕ
+    abbrev pub front : List ℕ
     front = front_at (is_from cmp k) (keyed s.node).entries
 
-    abbrev back : List ℕ
+    abbrev pub back : List ℕ
     back = back_at (is_from cmp k) (keyed s.node).entries s.last
 
-    chosen : child ≡ child_at (is_from cmp k) (keyed s.node).entries s.last
+    pub chosen : child ≡ child_at (is_from cmp k) (keyed s.node).entries s.last
     chosen = child_is o level old low id high s k child which
 
-    was : children_of old.nodes id ≡ front ++ (child ∷ [] ++ back)
+    pub was : children_of old.nodes id ≡ front ++ (child ∷ [] ++ back)
     was = rw (s.here, s.last_is, chosen) (children_split (is_from cmp k) (keyed s.node).entries s.last)
 
     -- the child is a part itself
-    child_part : IsPart cmp level old child
+    pub child_part : IsPart cmp level old child
     child_part = record {
       stands = child_stands o level old id part.stands k child which;
       nodes_once = λ n. omega (arith, part.nodes_once n, node_times level old.nodes id front (child ∷ []) back was n, ap (times n) (single_nodes level old.nodes child));
@@ -78,34 +78,34 @@ module _ {K V : Type 0} {LEN : ℕ} {cmp : K → K → Ordering} (o : IsTotalOrd
     }
 
     module _ (new : TreeArenas K V LEN) (replaces : Replaces level old new (child ∷ []) (child ∷ [])) where
-      same_node : get new.nodes id ≡ get old.nodes id
+      pub same_node : get new.nodes id ≡ get old.nodes id
       same_node =
           replaces.nodes_kept id (rw s.here refl)
           (omega (arith, node_times level old.nodes id front (child ∷ []) back was id, one_here id id refl, part.nodes_once id, uses_le_one old.nodes id))
 
-      now : children_of new.nodes id ≡ front ++ (child ∷ [] ++ back)
+      pub now : children_of new.nodes id ≡ front ++ (child ∷ [] ++ back)
       now = rw same_node was
 
-      fronts : AllByRecursion (λ x. Agrees level old new x) front
+      pub fronts : AllByRecursion (λ x. Agrees level old new x) front
       fronts = front_agrees level old new new id front (child ∷ []) (child ∷ []) back replaces was now part.nodes_once leaves_once (λ n differs. refl) (rw (same_node, s.here) refl) refl
 
-      backs : AllByRecursion (λ x. Agrees level old new x) back
+      pub backs : AllByRecursion (λ x. Agrees level old new x) back
       backs = back_agrees level old new new id front (child ∷ []) (child ∷ []) back replaces was now part.nodes_once leaves_once (λ n differs. refl) (rw (same_node, s.here) refl) refl
 
-      node_replaces : Replaces (suc level) old new (id ∷ []) (id ∷ [])
+      pub node_replaces : Replaces (suc level) old new (id ∷ []) (id ∷ [])
       node_replaces = lifted level old new new id front (child ∷ []) (child ∷ []) back replaces was now part.nodes_once leaves_once (λ n differs. refl) (rw (same_node, s.here) refl) refl
 
-      old_walk : walk (suc level) old id ≡ flat_map (walk level old) front ++ (walk level old child ++ flat_map (walk level old) back)
+      pub old_walk : walk (suc level) old id ≡ flat_map (walk level old) front ++ (walk level old child ++ flat_map (walk level old) back)
       old_walk = rw (walk-children level old id, was, flat_map-append (walk level old) front) refl
 
-      new_walk : walk (suc level) new id ≡ flat_map (walk level old) front ++ (walk level new child ++ flat_map (walk level old) back)
+      pub new_walk : walk (suc level) new id ≡ flat_map (walk level old) front ++ (walk level new child ++ flat_map (walk level old) back)
       new_walk =
           rw (walk-children level new id, now, flat_map-append (walk level new) front,
               flat_map_same (walk level new) (walk level old) front (all_map (λ x same. same_walk level old new x same) _ fronts),
               flat_map_same (walk level new) (walk level old) back (all_map (λ x same. same_walk level old new x same) _ backs)) refl
 
       -- the node stands where the child does if the key is between the bounds
-      node_stands : ((low high : Option K) → IsAbove cmp low k → IsUpTo cmp k high → Stands cmp level old low child high → Stands cmp level new low child high)
+      pub node_stands : ((low high : Option K) → IsAbove cmp low k → IsUpTo cmp k high → Stands cmp level old low child high → Stands cmp level new low child high)
           → IsAbove cmp low k → IsUpTo cmp k high → Stands cmp (suc level) new low id high
       node_stands keeps above up_to = record {
         node = s.node;
@@ -121,7 +121,7 @@ module _ {K V : Type 0} {LEN : ℕ} {cmp : K → K → Ordering} (o : IsTotalOrd
       }
 
       -- and where the child keeps all its bounds
-      node_keeps : KeepsBounds cmp level old new child → Stands cmp (suc level) new low id high
+      pub node_keeps : KeepsBounds cmp level old new child → Stands cmp (suc level) new low id high
       node_keeps keeps = record {
         node = s.node;
         here = same_node ∙ s.here;
@@ -135,10 +135,10 @@ module _ {K V : Type 0} {LEN : ℕ} {cmp : K → K → Ordering} (o : IsTotalOrd
       }
 
       -- the room of the other leaves stays
-      old_spare : spare (suc level) old id ≡ min (spares level old front) (min (spare level old child) (spares level old back))
+      pub old_spare : spare (suc level) old id ≡ min (spares level old front) (min (spare level old child) (spares level old back))
       old_spare = spare_split level old id front (child ∷ []) back was ∙ rw (spares-single level old child) refl
 
-      new_spare : spare (suc level) new id ≡ min (spares level old front) (min (spare level new child) (spares level old back))
+      pub new_spare : spare (suc level) new id ≡ min (spares level old front) (min (spare level new child) (spares level old back))
       new_spare =
           spare_split level new id front (child ∷ []) back now
           ∙ rw (spares-single level new child, spares_same level old new front fronts, spares_same level old new back backs) refl

@@ -2,8 +2,11 @@ pub mod Between
 pub mod ChildChanges
 pub mod Children
 pub mod Frames
+pub mod LeafRemovals
+pub mod LeafWrites
 pub mod Lifts
 pub mod Lists
+pub mod NodeRemovals
 pub mod Order
 pub mod Routes
 pub mod Sizes
