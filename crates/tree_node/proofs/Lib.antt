@@ -2,6 +2,7 @@ pub mod Between
 pub mod ChildChanges
 pub mod Children
 pub mod Frames
+pub mod LeafDrops
 pub mod LeafRemovals
 pub mod LeafWrites
 pub mod Lifts
@@ -12,3 +13,4 @@ pub mod Routes
 pub mod Sizes
 pub mod Spares
 pub mod Walks
+pub mod Widens

@@ -55,3 +55,7 @@ module _ {K V : Type 0} {LEN : ℕ} where
 
   pub spares-single : (level : ℕ) (a : TreeArenas K V LEN) (id : ℕ) → spares level a (id ∷ []) ≡ spare level a id
   spares-single level a id = rw (single_leaves level a.nodes id) refl
+
+  -- a part has no more room than an array has slots
+  pub spare_le : (level : ℕ) (a : TreeArenas K V LEN) (id : ℕ) → spare level a id ≤ LEN
+  spare_le level a id = least_le LEN _ (leaves_at level a.nodes id)

@@ -20,7 +20,7 @@ walk-children level a id = flat_map-flat_map (leaf_entries a.leaves) (leaves_at 
 
 module _ {K : Type 0} {cmp : K → K → Ordering} (o : IsTotalOrder cmp) where
   -- a bound passed on over a separator
-  above_next : (low : Option K) (s k : K) → IsAbove cmp low s → IsAbove cmp (Some s) k → IsAbove cmp low k
+  pub above_next : (low : Option K) (s k : K) → IsAbove cmp low s → IsAbove cmp (Some s) k → IsAbove cmp low k
   above_next None s k p q = tt
   above_next (Some low) s k p q = o.trans low s k p q
 

@@ -35,3 +35,18 @@ module _ {K V : Type 0} (cmp : K → K → Ordering) (Says : V → Bool → Type
     pub replaces : Replaces level old new (id ∷ []) (id ∷ [])
     -- no leaf loses room, but one that is retired has none
     pub spare : (spare level new id ≡ 0) ⊎ (spare level old id ≤ spare level new id)
+
+module _ {K V : Type 0} {LEN : ℕ} (cmp : K → K → Ordering) where
+  -- The part has the same pairs, and stands as it did, with no less room.
+  pub record KeepsPart (level : ℕ) (old new : TreeArenas K V LEN) (id : ℕ) : Type 0 where
+    pub pairs : walk level new id ≡ walk level old id
+    pub keeps : KeepsBounds cmp level old new id
+    pub replaces : Replaces level old new (id ∷ []) (id ∷ [])
+    pub more : spare level old id ≤ spare level new id
+
+  -- The part that had no pair is retired.
+  pub record Retires (level : ℕ) (old new : TreeArenas K V LEN) (id : ℕ) : Type 0 where
+    pub pairs : walk level old id ≡ []
+    pub retired : IsRetired level new id
+    pub replaces : Replaces level old new (id ∷ []) (id ∷ [])
+    pub more : spare level old id ≤ spare level new id
