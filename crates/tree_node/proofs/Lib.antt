@@ -1,5 +1,6 @@
 pub mod Between
 pub mod ChildChanges
+pub mod ChildDrops
 pub mod Children
 pub mod Frames
 pub mod LeafDrops

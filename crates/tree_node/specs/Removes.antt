@@ -44,9 +44,14 @@ module _ {K V : Type 0} {LEN : ℕ} (cmp : K → K → Ordering) where
     pub replaces : Replaces level old new (id ∷ []) (id ∷ [])
     pub more : spare level old id ≤ spare level new id
 
-  -- The part that had no pair is retired.
-  pub record Retires (level : ℕ) (old new : TreeArenas K V LEN) (id : ℕ) : Type 0 where
-    pub pairs : walk level old id ≡ []
-    pub retired : IsRetired level new id
-    pub replaces : Replaces level old new (id ∷ []) (id ∷ [])
-    pub more : spare level old id ≤ spare level new id
+-- The part that had no pair is retired.
+pub record Retires {K V : Type 0} {LEN : ℕ} (level : ℕ) (old new : TreeArenas K V LEN) (id : ℕ) : Type 0 where
+  pub pairs : walk level old id ≡ []
+  pub retired : IsRetired level new id
+  pub replaces : Replaces level old new (id ∷ []) (id ∷ [])
+  pub more : spare level old id ≤ spare level new id
+
+-- a node is retired, or keeps all but children without pairs
+abbrev pub Cleans : {K V : Type 0} {LEN : ℕ} → (K → K → Ordering) → Bool → ℕ → TreeArenas K V LEN → TreeArenas K V LEN → ℕ → Type 0
+Cleans cmp true level old new id = Retires level old new id
+Cleans cmp false level old new id = KeepsPart cmp level old new id
