@@ -1,5 +1,5 @@
 -- The child that a key belongs to is changed and keeps its number: what that makes of the part under the node.
-use Rattle.std.proofs.Common.{◌≡◌, ℕ, suc, ◌+◌, ◌≤◌, min, Bool, true, false, cond, List, [], ◌∷◌, ◌++◌, map, Option, Some, None, refl, ap, ◌∙◌, arith}
+use Rattle.std.proofs.Common.{◌≡◌, ℕ, suc, ◌≤◌, min, Bool, true, false, cond, List, [], ◌∷◌, ◌++◌, map, Option, Some, refl, ap, ◌∙◌, arith}
 use Rattle.std.specs.List.{flat_map, AllByRecursion}
 use Rattle.std.specs.declared.cmp.Ordering.{Ordering}
 use Rattle.std.specs.Cmp.{IsTotalOrder}
@@ -11,7 +11,7 @@ use Rattle.tree_model.proofs.Lists.{all_map, all-append}
 use Rattle.tree_node.specs.Arenas.{TreeArenas}
 use Rattle.tree_node.specs.Parts.{IsPart, KeepsBounds, Replaces}
 use Rattle.tree_node.specs.Shape.{spare}
-use Rattle.tree_node.specs.Tree.{IsAbove, IsUpTo, AreParted, keyed, child_at, front_at, back_at, is_from, HasChildFor, Stands, walk, leaves_at, leaves_of, nodes_at, children_of}
+use Rattle.tree_node.specs.Tree.{IsAbove, IsUpTo, AreParted, keyed, child_at, front_at, back_at, is_from, HasChildFor, Stands, walk, leaves_at, leaves_of, children_of}
 use Rattle.tree_node.proofs.Children.{child_stands}
 use Rattle.tree_node.proofs.Frames.{parted_map, Agrees, same_walk, same_stands}
 use Rattle.tree_node.proofs.Lifts.{node_times, leaves_are, grouped_as, front_agrees, back_agrees, lifted, single_leaves, single_nodes}
@@ -36,9 +36,9 @@ module _ {K : Type 0} {cmp : K → K → Ordering} (o : IsTotalOrder cmp) (A B :
           → ((low high : Option K) → IsAbove cmp low k → IsUpTo cmp k high → A low (cond b c.1 (child_at (is_from cmp k) rest last)) high → B low (cond b c.1 (child_at (is_from cmp k) rest last)) high)
           → AllByRecursion (λ x. (low high : Option K) → A low x high → B low x high) (cond b (map (λ d. d.1) rest ++ last ∷ []) (back_at (is_from cmp k) rest last))
           → (AllByRecursion (λ x. (low high : Option K) → A low x high → B low x high) (front_at (is_from cmp k) rest)
-              → ((low high : Option K) → IsAbove cmp low k → IsUpTo cmp k high → A low (child_at (is_from cmp k) rest last) high → B low (child_at (is_from cmp k) rest last) high)
-              → AllByRecursion (λ x. (low high : Option K) → A low x high → B low x high) (back_at (is_from cmp k) rest last)
-              → IsAbove cmp (Some c.0) k → AreParted cmp B (Some c.0) rest last high)
+          → ((low high : Option K) → IsAbove cmp low k → IsUpTo cmp k high → A low (child_at (is_from cmp k) rest last) high → B low (child_at (is_from cmp k) rest last) high)
+          → AllByRecursion (λ x. (low high : Option K) → A low x high → B low x high) (back_at (is_from cmp k) rest last)
+          → IsAbove cmp (Some c.0) k → AreParted cmp B (Some c.0) rest last high)
           → AreParted cmp B low (c ∷ rest) last high
       by_test true from front child back later =
           (child low (Some c.0) above (upto_from_test o c.0 k from) parted.0, parted.1, parted.2, parted_map cmp A B (Some c.0) rest last high back parted.3)
@@ -73,8 +73,11 @@ module _ {K V : Type 0} {LEN : ℕ} {cmp : K → K → Ordering} (o : IsTotalOrd
       front = part.front ++ leaves_of level old.nodes front;
       back = leaves_of level old.nodes back ++ part.back;
       chain =
-          rw (← single_leaves level old.nodes child, ← grouped_as part.front (leaves_of level old.nodes front) (leaves_of level old.nodes (child ∷ [])) (leaves_of level old.nodes back) part.back,
-              ← leaves_are level old.nodes id front (child ∷ []) back was) part.chain;
+          rw (
+            ← single_leaves level old.nodes child,
+            ← grouped_as part.front (leaves_of level old.nodes front) (leaves_of level old.nodes (child ∷ [])) (leaves_of level old.nodes back) part.back,
+            ← leaves_are level old.nodes id front (child ∷ []) back was,
+          ) part.chain;
     }
 
     module _ (new : TreeArenas K V LEN) (replaces : Replaces level old new (child ∷ []) (child ∷ [])) where
@@ -100,9 +103,13 @@ module _ {K V : Type 0} {LEN : ℕ} {cmp : K → K → Ordering} (o : IsTotalOrd
 
       pub new_walk : walk (suc level) new id ≡ flat_map (walk level old) front ++ (walk level new child ++ flat_map (walk level old) back)
       new_walk =
-          rw (walk-children level new id, now, flat_map-append (walk level new) front,
-              flat_map_same (walk level new) (walk level old) front (all_map (λ x same. same_walk level old new x same) _ fronts),
-              flat_map_same (walk level new) (walk level old) back (all_map (λ x same. same_walk level old new x same) _ backs)) refl
+          rw (
+            walk-children level new id,
+            now,
+            flat_map-append (walk level new) front,
+            flat_map_same (walk level new) (walk level old) front (all_map (λ x same. same_walk level old new x same) _ fronts),
+            flat_map_same (walk level new) (walk level old) back (all_map (λ x same. same_walk level old new x same) _ backs),
+          ) refl
 
       -- the node stands where the child does if the key is between the bounds
       pub node_stands : ((low high : Option K) → IsAbove cmp low k → IsUpTo cmp k high → Stands cmp level old low child high → Stands cmp level new low child high)
@@ -130,7 +137,7 @@ module _ {K V : Type 0} {LEN : ℕ} {cmp : K → K → Ordering} (o : IsTotalOrd
         last_is = s.last_is;
         parted = parted_map cmp (Stands cmp level old) (Stands cmp level new) low _ _ high
             (rw (children_split (is_from cmp k) (keyed s.node).entries s.last, ← chosen)
-             (all-append _ front (child ∷ back) (all_map (λ x same. same_stands cmp level old new x same) _ fronts) (keeps, all_map (λ x same. same_stands cmp level old new x same) _ backs)))
+            (all-append _ front (child ∷ back) (all_map (λ x same. same_stands cmp level old new x same) _ fronts) (keeps, all_map (λ x same. same_stands cmp level old new x same) _ backs)))
             s.parted;
       }
 

@@ -1,5 +1,5 @@
 -- A keyed child without pairs is dropped: what that makes of the part under its node.
-use Rattle.std.proofs.Common.{◌≡◌, ℕ, suc, ◌+◌, ◌≤◌, min, List, [], ◌∷◌, ◌++◌, map, Option, Some, None, refl, sym, ap, ◌∙◌, arith, append_assoc}
+use Rattle.std.proofs.Common.{◌≡◌, ℕ, suc, ◌≤◌, List, [], ◌∷◌, ◌++◌, map, Option, Some, None, refl, sym, ap, ◌∙◌, arith, append_assoc}
 use Rattle.std.specs.List.{flat_map, AllByRecursion}
 use Rattle.std.specs.declared.cmp.Ordering.{Ordering}
 use Rattle.std.specs.Cmp.{IsTotalOrder}
@@ -14,7 +14,7 @@ use Rattle.tree_model.specs.Pairs.{without}
 use Rattle.tree_model.proofs.Lists.{all_map, all-append}
 use Rattle.tree_node.specs.declared.node.NodeOf.{NodeOf}
 use Rattle.tree_node.specs.Arenas.{TreeArenas}
-use Rattle.tree_node.specs.Parts.{IsPart, KeepsBounds, Replaces}
+use Rattle.tree_node.specs.Parts.{IsPart, Replaces}
 use Rattle.tree_node.specs.Removes.{KeepsPart, Retires}
 use Rattle.tree_node.specs.Shape.{spare}
 use Rattle.tree_node.specs.Tree.{AreParted, HasKind, Stands, keyed, unbounded, walk, leaves_at, children_of}
@@ -22,7 +22,7 @@ use Rattle.tree_node.proofs.Between.{without_between}
 use Rattle.tree_node.proofs.Frames.{parted_map, Agrees, same_walk, same_stands}
 use Rattle.tree_node.proofs.Lifts.{front_agrees, back_agrees, lifted}
 use Rattle.tree_node.proofs.Lists.{flat_map_same}
-use Rattle.tree_node.proofs.Spares.{spares, spares_same, spare_split, spares-single, spare_le}
+use Rattle.tree_node.proofs.Spares.{spares_same, spare_split, spares-single, spare_le}
 use Rattle.tree_node.proofs.Walks.{walk-children}
 use Rattle.tree_node.proofs.Widens.{parted_without, stands_wider, separators_around}
 
@@ -77,9 +77,13 @@ module _ {K V : Type 0} {LEN : ℕ} {cmp : K → K → Ordering} (o : IsTotalOrd
 
     new_walk : walk (suc level) new id ≡ flat_map (walk level old) front ++ flat_map (walk level old) back
     new_walk =
-        rw (walk-children level new id, now, flat_map-append (walk level new) front,
-            flat_map_same (walk level new) (walk level old) front (all_map (λ c same. same_walk level old new c same) _ fronts),
-            flat_map_same (walk level new) (walk level old) back (all_map (λ c same. same_walk level old new c same) _ backs)) refl
+        rw (
+          walk-children level new id,
+          now,
+          flat_map-append (walk level new) front,
+          flat_map_same (walk level new) (walk level old) front (all_map (λ c same. same_walk level old new c same) _ fronts),
+          flat_map_same (walk level new) (walk level old) back (all_map (λ c same. same_walk level old new c same) _ backs),
+        ) refl
 
     stands_left : Stands cmp (suc level) new low id high
     stands_left = record {
@@ -91,7 +95,7 @@ module _ {K V : Type 0} {LEN : ℕ} {cmp : K → K → Ordering} (o : IsTotalOrd
       parted = rw entries_left
           (parted_map cmp (Stands cmp level old) (Stands cmp level new) low (before ++ after) st.last high
           (rw (map-append (λ (c : K × ℕ). c.1) before, append_assoc front (map (λ c. c.1) after) (st.last ∷ []))
-           (all-append _ front back (all_map (λ c same. same_stands cmp level old new c same) _ fronts) (all_map (λ c same. same_stands cmp level old new c same) _ backs)))
+          (all-append _ front back (all_map (λ c same. same_stands cmp level old new c same) _ fronts) (all_map (λ c same. same_stands cmp level old new c same) _ backs)))
           (parted_without o (Stands cmp level old) (stands_wider o level old) low before s x after st.last high parted));
     }
 

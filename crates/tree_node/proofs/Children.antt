@@ -1,17 +1,15 @@
 -- The child that a key belongs to, of a node that stands or is retired.
-use Rattle.std.proofs.Common.{◌≡◌, ℕ, zero, suc, Bool, true, false, cond, List, [], ◌∷◌, ◌++◌, map, Option, Some, None, IsSome, inl, inr, refl, sym, ◌∙◌}
-use Rattle.std.specs.List.{AllByRecursion}
+use Rattle.std.proofs.Common.{◌≡◌, ℕ, zero, suc, Bool, true, false, cond, List, [], ◌∷◌, Option, Some, None, IsSome, inl, inr, refl, sym, ◌∙◌}
 use Rattle.std.specs.declared.cmp.Ordering.{Ordering}
 use Rattle.std.specs.Cmp.{IsTotalOrder}
 use Rattle.std.proofs.lemmas.List.{append-nil}
 use Rattle.slab.specs.Slab.{get}
 use Rattle.tree_leaf.specs.declared.leaf.LeafOf.{LeafOf}
-use Rattle.tree_model.specs.Pairs.{pair_at}
 use Rattle.tree_node.specs.declared.node.NodeOf.{NodeOf}
 use Rattle.tree_node.specs.Arenas.{TreeArenas}
-use Rattle.tree_node.specs.Tree.{IsAbove, AreParted, keyed, unbounded, child_at, child_of, is_from, HasChildFor, Stands, IsRetiredNode, StandsOrRetired, walk}
+use Rattle.tree_node.specs.Tree.{AreParted, keyed, unbounded, child_at, child_of, is_from, HasChildFor, Stands, IsRetiredNode, StandsOrRetired, walk}
 use Rattle.tree_node.proofs.Lists.{all_yes}
-use Rattle.tree_node.proofs.Walks.{child_is, found_in_child}
+use Rattle.tree_node.proofs.Walks.{child_is}
 
 module _ {K : Type 0} (cmp : K → K → Ordering) (Child : Option K → ℕ → Option K → Type 0) where
   parted_free_low : ((low : Option K) (id : ℕ) (high : Option K) → Child low id high → Child None id high)

@@ -25,9 +25,10 @@ each_of (x ∷ xs) h = (h x (head_here x xs), each_of xs (λ n inside. h n (omeg
 pub each_part : (f : ℕ → List ℕ) (P : ℕ → Type 0) (xs : List ℕ) → ((n : ℕ) → 1 ≤ times n (flat_map f xs) → P n)
     → AllByRecursion (λ x. (n : ℕ) → 1 ≤ times n (f x) → P n) xs
 each_part f P [] h = tt
-each_part f P (x ∷ xs) h =
-    (λ n inside. h n (omega (arith, times-append n (f x) (flat_map f xs))),
-     each_part f P xs (λ n inside. h n (omega (arith, times-append n (f x) (flat_map f xs)))))
+each_part f P (x ∷ xs) h = (
+  λ n inside. h n (omega (arith, times-append n (f x) (flat_map f xs))),
+  each_part f P xs (λ n inside. h n (omega (arith, times-append n (f x) (flat_map f xs)))),
+)
 
 pub all_both : {X : Type 0} (P Q : X → Type 0) (xs : List X) → AllByRecursion P xs → AllByRecursion Q xs → AllByRecursion (λ x. P x × Q x) xs
 all_both P Q [] p q = tt

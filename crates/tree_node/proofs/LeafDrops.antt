@@ -1,5 +1,5 @@
 -- A leaf that is taken out of its chain and out of its arena.
-use Rattle.std.proofs.Common.{◌≡◌, ◌≢◌, ℕ, ◌+◌, ◌≤◌, List, [], ◌∷◌, ◌++◌, Option, Some, None, is_some, refl, ap, ◌∙◌, arith, inl, inr}
+use Rattle.std.proofs.Common.{◌≡◌, ℕ, ◌+◌, ◌≤◌, List, [], ◌∷◌, ◌++◌, None, is_some, refl, ap, ◌∙◌, arith, inl, inr}
 use Rattle.std.proofs.lemmas.Bool.{cases_eq}
 use Rattle.slab.specs.Slab.{get}
 use Rattle.tree_leaf.specs.declared.leaf.LeafOf.{LeafOf}
@@ -23,8 +23,14 @@ module _ {K V : Type 0} {LEN : ℕ} (old mid new : TreeArenas K V LEN) (id : ℕ
         let was : uses old.leaves n ≡ 1 = rw same (uses_some old.leaves id (rw unlinks.here refl)) in
         omega (arith, uses_none new.leaves n gone, was, times-cons n id [], times-nil n, one_here n id same)
     | inr differs ↦
-        omega (arith, uses_same mid.leaves new.leaves n (ap is_some (loses.updates.others n differs)), same_array_uses old.leaves mid.leaves n (unlinks.splices.kept n),
-        times-cons n id [], times-nil n, none_here n id differs)
+        omega (
+          arith,
+          uses_same mid.leaves new.leaves n (ap is_some (loses.updates.others n differs)),
+          same_array_uses old.leaves mid.leaves n (unlinks.splices.kept n),
+          times-cons n id [],
+          times-nil n,
+          none_here n id differs,
+        )
   ]
 
   -- the leaves around it are a chain without it
@@ -32,7 +38,7 @@ module _ {K V : Type 0} {LEN : ℕ} (old mid new : TreeArenas K V LEN) (id : ℕ
   chain_without front back chain =
       let around : IsChain mid.leaves (front ++ back) = unlinks.chained front back chain in
       let once : (n : ℕ) → times n (front ++ back) + times n (id ∷ []) ≤ uses old.leaves n =
-          λ n. omega (arith, chain.once n, times-append n front (id ∷ back), times-append n front back, times-cons n id back, times-cons n id [], times-nil n) in
+      λ n. omega (arith, chain.once n, times-append n front (id ∷ back), times-append n front back, times-cons n id back, times-cons n id [], times-nil n) in
       record {
         once = λ n. omega (arith, once n, counted n, times-nil n);
         linked = linked_kept mid.leaves new.leaves None (front ++ back) None (λ n inside. loses.updates.others n (λ same.

@@ -1,5 +1,5 @@
 -- A removal in a leaf.
-use Rattle.std.proofs.Common.{◌≡◌, ◌⊎◌, ℕ, ◌-◌, ◌≤◌, ◌==◌, min, Bool, true, false, cond, List, [], ◌∷◌, ◌++◌, length, Option, Some, None, IfSome, refl, sym, ap, ◌∙◌, arith, inl, inr}
+use Rattle.std.proofs.Common.{◌≡◌, ◌⊎◌, ℕ, ◌-◌, ◌≤◌, ◌==◌, min, Bool, true, false, cond, List, [], ◌∷◌, length, Option, Some, None, IfSome, refl, sym, ap, ◌∙◌, arith, inl, inr}
 use Rattle.std.specs.List.{AllByRecursion}
 use Rattle.std.specs.declared.cmp.Ordering.{Ordering}
 use Rattle.std.specs.Cmp.{IsTotalOrder}
@@ -8,7 +8,7 @@ use Rattle.std.proofs.lemmas.List.{length-map}
 use Rattle.slab.specs.Slab.{get}
 use Rattle.tree_array.specs.declared.answers.RemoveResult.{RemoveResult}
 use Rattle.tree_array.specs.declared.answers.RemoveResult.TheVariants.{Success, Retired, Fail}
-use Rattle.tree_array.specs.Arrivals.{Arrivals, free, is_empty, removed, spent_at}
+use Rattle.tree_array.specs.Arrivals.{Arrivals, removed, spent_at}
 use Rattle.tree_array.specs.Removal.{IsRemoval, removal_of}
 use Rattle.tree_leaf.specs.declared.leaf.LeafOf.{LeafOf}
 use Rattle.tree_model.specs.Pairs.{IsAbsent, pair_at, without}
@@ -17,8 +17,8 @@ use Rattle.tree_model.proofs.Lists.{all-append, all-filter}
 use Rattle.tree_node.specs.Arenas.{TreeArenas}
 use Rattle.tree_node.specs.Parts.{KeepsBounds, Replaces}
 use Rattle.tree_node.specs.Removes.{Removes, TakesOut}
-use Rattle.tree_node.specs.Shape.{spare, leaf_free, slot_free}
-use Rattle.tree_node.specs.Tree.{LeafStands, walk, IsRetiredLeaf}
+use Rattle.tree_node.specs.Shape.{spare, slot_free}
+use Rattle.tree_node.specs.Tree.{walk}
 use Rattle.tree_node.proofs.Children.{walk-leaf}
 use Rattle.tree_node.proofs.LeafWrites.{with_array, here_now, array_replaces}
 
@@ -120,6 +120,7 @@ module _ {K V : Type 0} {LEN : ℕ} {cmp : K → K → Ordering} (o : IsTotalOrd
           → TakesUnder cmp Says 0 a (with_array a id leaf array) id result key
       told pair found true says removal = out pair found says removal.0 result removal.1
       told pair found false says removal = rw removal.1 (kept removal.0 (λ other is. let both : Some pair ≡ Some other = sym found ∙ is in let same : other ≡ pair = cc in rw same says))
+
       by_pair : (found : Option (K × V)) → pair_at cmp leaf.array.entries key ≡ found
           → (found ≡ None → (array ≡ leaf.array) × (result ≡ Fail))
           → IfSome found (λ pair. (said : Bool) × Says pair.1 said × IsRemoval cmp leaf.array key said result array)

@@ -1,11 +1,11 @@
 -- A leaf whose array is written and whose links stay.
-use Rattle.std.proofs.Common.{◌≡◌, ℕ, List, [], ◌∷◌, ◌++◌, Option, Some, None, is_some, refl, ap, ◌∙◌, arith, inl, inr}
+use Rattle.std.proofs.Common.{◌≡◌, ℕ, List, [], ◌∷◌, Option, Some, None, is_some, refl, ap, arith, inl, inr}
 use Rattle.std.proofs.lemmas.Bool.{cases_eq}
-use Rattle.slab.specs.Slab.{Slab, get, with_value, Updates}
+use Rattle.slab.specs.Slab.{get, with_value, Updates}
 use Rattle.slab.proofs.SlabLemmas.{Updates-with_value}
 use Rattle.tree_array.specs.Arrivals.{Arrivals}
 use Rattle.tree_leaf.specs.declared.leaf.LeafOf.{LeafOf}
-use Rattle.tree_leaf.specs.Chain.{IsBetween, AreLinked, IsChain, first_or}
+use Rattle.tree_leaf.specs.Chain.{IsBetween, AreLinked, first_or}
 use Rattle.tree_leaf.specs.Counting.{uses}
 use Rattle.tree_leaf.proofs.Chains.{same_array_refl}
 use Rattle.tree_leaf.proofs.Counts.{times-cons, one_here, uses_same}
@@ -17,7 +17,7 @@ abbrev pub with_array : {K V : Type 0} {LEN : ℕ} → TreeArenas K V LEN → �
 with_array a id leaf array = record a { leaves = with_value a.leaves id (record leaf { array = array }) }
 
 module _ {K V : Type 0} {LEN : ℕ} (a : TreeArenas K V LEN) (id : ℕ) (leaf : LeafOf K V LEN) (array : Arrivals K V) (was : get a.leaves id ≡ Some leaf) where
-  updated : Updates a.leaves (with_array a id leaf array).leaves id (Some (record leaf { array = array }))
+  pub updated : Updates a.leaves (with_array a id leaf array).leaves id (Some (record leaf { array = array }))
   updated = Updates-with_value a.leaves id (record leaf { array = array }) (rw was refl)
 
   -- the leaf is there with its new array

@@ -3,6 +3,7 @@ pub mod ChildChanges
 pub mod ChildDrops
 pub mod Children
 pub mod Frames
+pub mod Inserts
 pub mod LeafDrops
 pub mod LeafRemovals
 pub mod LeafWrites
@@ -13,5 +14,6 @@ pub mod Order
 pub mod Routes
 pub mod Sizes
 pub mod Spares
+pub mod Steps
 pub mod Walks
 pub mod Widens

@@ -1,5 +1,5 @@
 -- A change of some children of a node is a change of the part under the node.
-use Rattle.std.proofs.Common.{◌≡◌, ℕ, suc, ◌+◌, ◌≤◌, ◌==◌, cond, List, [], ◌∷◌, ◌++◌, Option, Some, None, is_some, IsSome, refl, ap, ◌∙◌, arith, append_assoc, inl, inr}
+use Rattle.std.proofs.Common.{◌≡◌, ℕ, suc, ◌+◌, ◌≤◌, ◌==◌, cond, List, [], ◌∷◌, ◌++◌, is_some, IsSome, refl, ap, ◌∙◌, arith, append_assoc, inl, inr}
 use Rattle.std.specs.List.{AllByRecursion}
 use Rattle.std.proofs.lemmas.Bool.{cases_eq}
 use Rattle.std.proofs.lemmas.List.{append-nil}
@@ -31,14 +31,25 @@ module _ {K : Type 0} {LEN : ℕ} (level : ℕ) (nodes : Slab (NodeOf K LEN)) (i
   pub node_times : (n : ℕ) → times n (nodes_at (suc level) nodes id)
       ≡ cond (id == n) 1 0 + (times n (nodes_of level nodes front) + (times n (nodes_of level nodes ids) + times n (nodes_of level nodes back)))
   node_times n =
-      rw (times-cons n id, was, flat_map-append (nodes_at level nodes) front, flat_map-append (nodes_at level nodes) ids,
-          times-append n (nodes_of level nodes front), times-append n (nodes_of level nodes ids)) refl
+      rw (
+        times-cons n id,
+        was,
+        flat_map-append (nodes_at level nodes) front,
+        flat_map-append (nodes_at level nodes) ids,
+        times-append n (nodes_of level nodes front),
+        times-append n (nodes_of level nodes ids),
+      ) refl
 
   pub leaf_times : (n : ℕ) → times n (leaves_at (suc level) nodes id)
       ≡ times n (leaves_of level nodes front) + (times n (leaves_of level nodes ids) + times n (leaves_of level nodes back))
   leaf_times n =
-      rw (was, flat_map-append (leaves_at level nodes) front, flat_map-append (leaves_at level nodes) ids,
-          times-append n (leaves_of level nodes front), times-append n (leaves_of level nodes ids)) refl
+      rw (
+        was,
+        flat_map-append (leaves_at level nodes) front,
+        flat_map-append (leaves_at level nodes) ids,
+        times-append n (leaves_of level nodes front),
+        times-append n (leaves_of level nodes ids),
+      ) refl
 
   pub leaves_are : leaves_at (suc level) nodes id ≡ leaves_of level nodes front ++ (leaves_of level nodes ids ++ leaves_of level nodes back)
   leaves_are = rw (was, flat_map-append (leaves_at level nodes) front, flat_map-append (leaves_at level nodes) ids) refl
@@ -53,7 +64,6 @@ module _ {K V : Type 0} {LEN : ℕ} (level : ℕ) (old mid new : TreeArenas K V 
     (others : (n : ℕ) → (n ≡ id → ⊥) → get new.nodes n ≡ get mid.nodes n)
     (here : IsSome (get new.nodes id))
     (leaves : new.leaves ≡ mid.leaves) where
-
   nodes_split : (n : ℕ) → times n (nodes_at (suc level) old.nodes id)
       ≡ cond (id == n) 1 0 + (times n (nodes_of level old.nodes front) + (times n (nodes_of level old.nodes ids) + times n (nodes_of level old.nodes back)))
   nodes_split n = node_times level old.nodes id front ids back was n
@@ -98,22 +108,30 @@ module _ {K V : Type 0} {LEN : ℕ} (level : ℕ) (old mid new : TreeArenas K V 
   changed_agree =
       all_map (λ x both. record { nodes = both; leaves = λ m below. rw leaves (same_array_refl (get mid.leaves m)) }) _
       (each_part (nodes_at level mid.nodes) (λ m. get new.nodes m ≡ get mid.nodes m) ids' (λ m below. others m (λ same.
-        let one = one_here m id same in
-        omega (arith, nodes_split m, nodes_once m, uses_le_one old.nodes m, uses_le_one mid.nodes m, r.nodes_counted m, one, below))))
+      let one = one_here m id same in
+      omega (arith, nodes_split m, nodes_once m, uses_le_one old.nodes m, uses_le_one mid.nodes m, r.nodes_counted m, one, below))))
 
   new_leaves : leaves_at (suc level) new.nodes id ≡ leaves_of level old.nodes front ++ (leaves_of level mid.nodes ids' ++ leaves_of level old.nodes back)
   new_leaves =
-      rw (now, flat_map-append (leaves_at level new.nodes) front, flat_map-append (leaves_at level new.nodes) ids',
-          flat_map_same (leaves_at level new.nodes) (leaves_at level old.nodes) front (all_map (λ x same. same_leaves level old new x same) _ front_agrees),
-          flat_map_same (leaves_at level new.nodes) (leaves_at level old.nodes) back (all_map (λ x same. same_leaves level old new x same) _ back_agrees),
-          flat_map_same (leaves_at level new.nodes) (leaves_at level mid.nodes) ids' (all_map (λ x same. same_leaves level mid new x same) _ changed_agree)) refl
+      rw (
+        now,
+        flat_map-append (leaves_at level new.nodes) front,
+        flat_map-append (leaves_at level new.nodes) ids',
+        flat_map_same (leaves_at level new.nodes) (leaves_at level old.nodes) front (all_map (λ x same. same_leaves level old new x same) _ front_agrees),
+        flat_map_same (leaves_at level new.nodes) (leaves_at level old.nodes) back (all_map (λ x same. same_leaves level old new x same) _ back_agrees),
+        flat_map_same (leaves_at level new.nodes) (leaves_at level mid.nodes) ids' (all_map (λ x same. same_leaves level mid new x same) _ changed_agree),
+      ) refl
 
   new_nodes : nodes_at (suc level) new.nodes id ≡ id ∷ (nodes_of level old.nodes front ++ (nodes_of level mid.nodes ids' ++ nodes_of level old.nodes back))
   new_nodes =
-      rw (now, flat_map-append (nodes_at level new.nodes) front, flat_map-append (nodes_at level new.nodes) ids',
-          flat_map_same (nodes_at level new.nodes) (nodes_at level old.nodes) front (all_map (λ x same. same_nodes level old new x same) _ front_agrees),
-          flat_map_same (nodes_at level new.nodes) (nodes_at level old.nodes) back (all_map (λ x same. same_nodes level old new x same) _ back_agrees),
-          flat_map_same (nodes_at level new.nodes) (nodes_at level mid.nodes) ids' (all_map (λ x same. same_nodes level mid new x same) _ changed_agree)) refl
+      rw (
+        now,
+        flat_map-append (nodes_at level new.nodes) front,
+        flat_map-append (nodes_at level new.nodes) ids',
+        flat_map_same (nodes_at level new.nodes) (nodes_at level old.nodes) front (all_map (λ x same. same_nodes level old new x same) _ front_agrees),
+        flat_map_same (nodes_at level new.nodes) (nodes_at level old.nodes) back (all_map (λ x same. same_nodes level old new x same) _ back_agrees),
+        flat_map_same (nodes_at level new.nodes) (nodes_at level mid.nodes) ids' (all_map (λ x same. same_nodes level mid new x same) _ changed_agree),
+      ) refl
 
   new_nodes_split : (n : ℕ) → times n (nodes_at (suc level) new.nodes id)
       ≡ cond (id == n) 1 0 + (times n (nodes_of level old.nodes front) + (times n (nodes_of level mid.nodes ids') + times n (nodes_of level old.nodes back)))
@@ -150,7 +168,7 @@ module _ {K V : Type 0} {LEN : ℕ} (level : ℕ) (old mid new : TreeArenas K V 
     chained = λ before after chain.
         let split = leaves_are level old.nodes id front ids back was in
         let grouped : IsChain old.leaves ((before ++ leaves_of level old.nodes front) ++ (leaves_of level old.nodes ids ++ (leaves_of level old.nodes back ++ after))) =
-            rw (← grouped_as before (leaves_of level old.nodes front) (leaves_of level old.nodes ids) (leaves_of level old.nodes back) after, ← split, ← single_leaves (suc level) old.nodes id) chain in
+        rw (← grouped_as before (leaves_of level old.nodes front) (leaves_of level old.nodes ids) (leaves_of level old.nodes back) after, ← split, ← single_leaves (suc level) old.nodes id) chain in
         rw (leaves, single_leaves (suc level) new.nodes id, new_leaves, grouped_as before (leaves_of level old.nodes front) (leaves_of level mid.nodes ids') (leaves_of level old.nodes back) after)
         (r.chained (before ++ leaves_of level old.nodes front) (leaves_of level old.nodes back ++ after) grouped);
   }

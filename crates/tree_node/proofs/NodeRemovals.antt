@@ -1,5 +1,5 @@
 -- A removal in the child that a key belongs to, of the part under its node.
-use Rattle.std.proofs.Common.{◌≡◌, ℕ, suc, Bool, List, [], ◌∷◌, ◌++◌, Option, Some, None, refl, ap, ◌∙◌, sym, arith, inl, inr, ◌⊎◌, ◌≤◌, min}
+use Rattle.std.proofs.Common.{◌≡◌, ℕ, suc, Bool, List, ◌++◌, None, refl, ◌∙◌, sym, arith, inl, inr, ◌⊎◌, ◌≤◌, min}
 use Rattle.std.specs.List.{AllByRecursion}
 use Rattle.std.specs.declared.cmp.Ordering.{Ordering}
 use Rattle.std.specs.declared.cmp.Ordering.TheVariants.{Less}
@@ -11,7 +11,6 @@ use Rattle.tree_model.specs.Pairs.{AllLarger}
 use Rattle.tree_node.specs.Arenas.{TreeArenas}
 use Rattle.tree_node.specs.Parts.{IsPart}
 use Rattle.tree_node.specs.Removes.{Removes, TakesOut}
-use Rattle.tree_node.specs.Shape.{spare}
 use Rattle.tree_node.specs.Tree.{HasChildFor, Stands}
 use Rattle.tree_node.proofs.Between.{found_between, without_between}
 use Rattle.tree_node.proofs.ChildChanges.{node_keeps, node_replaces, old_spare, new_spare, old_walk, new_walk}

@@ -1,5 +1,5 @@
 -- The child that a key belongs to is that of the least separator from the key on.
-use Rattle.std.proofs.Common.{◌≡◌, Bool, true, false, cond, List, [], ◌∷◌, find, Option, Some, None, refl, ap}
+use Rattle.std.proofs.Common.{◌≡◌, Bool, true, false, cond, List, [], ◌∷◌, Some, None, refl, ap}
 use Rattle.std.specs.declared.cmp.Ordering.{Ordering}
 use Rattle.tree_array.specs.Arrivals.{least_from}
 use Rattle.tree_node.specs.Tree.{child_at, child_of, is_from}

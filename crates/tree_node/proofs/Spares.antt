@@ -2,7 +2,6 @@
 use Rattle.std.proofs.Common.{◌≡◌, ℕ, suc, ◌≤◌, min, List, [], ◌∷◌, ◌++◌, Option, Some, None, refl, arith}
 use Rattle.std.specs.List.{AllByRecursion}
 use Rattle.std.proofs.lemmas.List.Concat.{flat_map-append}
-use Rattle.slab.specs.Slab.{get}
 use Rattle.tree_leaf.specs.declared.leaf.LeafOf.{LeafOf}
 use Rattle.tree_leaf.specs.Chain.{SameArray}
 use Rattle.tree_node.specs.Arenas.{TreeArenas}
@@ -50,8 +49,13 @@ module _ {K V : Type 0} {LEN : ℕ} where
   pub spare_split : (level : ℕ) (a : TreeArenas K V LEN) (id : ℕ) (front ids back : List ℕ) → children_of a.nodes id ≡ front ++ (ids ++ back)
       → spare (suc level) a id ≡ min (spares level a front) (min (spares level a ids) (spares level a back))
   spare_split level a id front ids back was =
-      rw (was, flat_map-append (leaves_at level a.nodes) front, flat_map-append (leaves_at level a.nodes) ids,
-          least-append LEN (leaf_free a.leaves) (leaves_of level a.nodes front), least-append LEN (leaf_free a.leaves) (leaves_of level a.nodes ids)) refl
+      rw (
+        was,
+        flat_map-append (leaves_at level a.nodes) front,
+        flat_map-append (leaves_at level a.nodes) ids,
+        least-append LEN (leaf_free a.leaves) (leaves_of level a.nodes front),
+        least-append LEN (leaf_free a.leaves) (leaves_of level a.nodes ids),
+      ) refl
 
   pub spares-single : (level : ℕ) (a : TreeArenas K V LEN) (id : ℕ) → spares level a (id ∷ []) ≡ spare level a id
   spares-single level a id = rw (single_leaves level a.nodes id) refl

@@ -1,5 +1,5 @@
 -- The walk of what stands under a number: its bounds, and where a key is in it.
-use Rattle.std.proofs.Common.{◌≡◌, ℕ, zero, suc, Bool, true, false, cond, List, [], ◌∷◌, ◌++◌, map, Option, Some, None, refl, sym, ap, ◌∙◌}
+use Rattle.std.proofs.Common.{◌≡◌, ℕ, zero, suc, Bool, true, false, cond, List, [], ◌∷◌, ◌++◌, map, Option, Some, None, refl, sym, ap}
 use Rattle.std.specs.List.{flat_map, AllByRecursion}
 use Rattle.std.specs.declared.cmp.Ordering.{Ordering}
 use Rattle.std.specs.declared.cmp.Ordering.TheVariants.{Less}
@@ -9,9 +9,9 @@ use Rattle.slab.specs.Slab.{get}
 use Rattle.tree_model.specs.Pairs.{AllLarger, pair_at}
 use Rattle.tree_model.proofs.Lists.{all_map, all-append}
 use Rattle.tree_node.specs.Arenas.{TreeArenas}
-use Rattle.tree_node.specs.Tree.{IsAbove, IsUpTo, IsBelow, AreParted, keyed, child_at, front_at, back_at, is_from, HasChildFor, LeafStands, Stands, walk, leaf_entries, leaves_at, children_of}
+use Rattle.tree_node.specs.Tree.{IsAbove, IsUpTo, IsBelow, AreParted, keyed, child_at, front_at, back_at, is_from, HasChildFor, Stands, walk, leaf_entries, leaves_at, children_of}
 use Rattle.tree_node.proofs.Between.{found_between}
-use Rattle.tree_node.proofs.Lists.{all_yes, flat_map-flat_map}
+use Rattle.tree_node.proofs.Lists.{flat_map-flat_map}
 use Rattle.tree_node.proofs.Order.{upto_less, upto_from_less, upto_from_test, less_from_test}
 
 -- the walk of a node is that of its children

@@ -1,5 +1,5 @@
 -- Parts of a tree in arenas, and how a call changes one. A part is what stands under some numbers of one level.
-use Rattle.std.specs.Prelude.{◌≡◌, ℕ, ◌+◌, ◌≤◌, List, [], ◌∷◌, ◌++◌, Option, Some, None, IsSome}
+use Rattle.std.specs.Prelude.{◌≡◌, ℕ, ◌+◌, ◌≤◌, List, ◌++◌, Option, None, IsSome}
 use Rattle.std.specs.declared.cmp.Ordering.{Ordering}
 use Rattle.slab.specs.Slab.{get}
 use Rattle.tree_leaf.specs.Chain.{IsChain, SameArray}

@@ -1,4 +1,4 @@
-use Rattle.std.proofs.Common.{rules, ◌≡◌, ◌∙◌, Option, None, Some, true, false, refl}
+use Rattle.std.proofs.Common.{rules, ◌≡◌, Option, None, Some, false, refl}
 use Rattle.std.specs.Prelude.{is_some}
 use Rattle.slab.specs.Slab.{ContainsKey}
 use Rattle.tree_node.proofs.Children.{node_there}
