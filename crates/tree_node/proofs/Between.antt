@@ -1,0 +1,51 @@
+-- A key between the pairs before it and the pairs behind it.
+use Rattle.std.proofs.Common.{◌≡◌, List, ◌++◌, ◌∙◌, ap, refl, append_assoc}
+use Rattle.std.specs.List.{AllByRecursion}
+use Rattle.std.specs.declared.cmp.Ordering.{Ordering}
+use Rattle.std.specs.declared.cmp.Ordering.TheVariants.{Less, Greater}
+use Rattle.std.specs.Ordering.{is_eq, is_gt, is_lt}
+use Rattle.std.specs.Cmp.{IsTotalOrder}
+use Rattle.std.proofs.lemmas.List.{append-nil}
+use Rattle.std.proofs.lemmas.List.Elements.{filter-append}
+use Rattle.tree_model.specs.Pairs.{AllLarger, above, below, pair_at, put, without}
+use Rattle.tree_model.proofs.Lists.{all_map, find_after, find_before, find_none, filter_all, filter_none}
+use Rattle.tree_model.proofs.Order.{greater_from_less}
+use Rattle.tree_model.proofs.LookUps.{none_larger}
+
+module _ {K V : Type 0} {cmp : K → K → Ordering} (o : IsTotalOrder cmp) (k : K) (front middle back : List (K × V))
+    (smaller : AllByRecursion (λ p. cmp p.0 k ≡ Less) front) (larger : AllLarger cmp k back) where
+  -- it is found where it is found in the middle
+  pub found_between : pair_at cmp (front ++ (middle ++ back)) k ≡ pair_at cmp middle k
+  found_between =
+      find_after _ front _ (find_none _ front (all_map (λ p h. ap is_eq h) front smaller))
+      ∙ find_before _ middle back (none_larger o k back larger)
+
+  larger_is : AllByRecursion (λ p. cmp p.0 k ≡ Greater) back
+  larger_is = all_map (λ p h. greater_from_less o k p.0 h) back larger
+
+  below_between : below cmp (front ++ (middle ++ back)) k ≡ front ++ below cmp middle k
+  below_between =
+      rw (
+        filter-append (λ p. is_lt (cmp p.0 k)) front,
+        filter-append (λ p. is_lt (cmp p.0 k)) middle,
+        filter_all (λ p. is_lt (cmp p.0 k)) front (all_map (λ p h. ap is_lt h) front smaller),
+        filter_none (λ p. is_lt (cmp p.0 k)) back (all_map (λ p h. ap is_lt h) back larger_is),
+        append-nil,
+      ) refl
+
+  above_between : above cmp (front ++ (middle ++ back)) k ≡ above cmp middle k ++ back
+  above_between =
+      rw (
+        filter-append (λ p. is_gt (cmp p.0 k)) front,
+        filter-append (λ p. is_gt (cmp p.0 k)) middle,
+        filter_none (λ p. is_gt (cmp p.0 k)) front (all_map (λ p h. ap is_gt h) front smaller),
+        filter_all (λ p. is_gt (cmp p.0 k)) back (all_map (λ p h. ap is_gt h) back larger_is),
+      ) refl
+
+  -- and removed where it is removed in the middle
+  pub without_between : without cmp (front ++ (middle ++ back)) k ≡ front ++ (without cmp middle k ++ back)
+  without_between = rw (below_between, above_between) (simp append_assoc)
+
+  -- and put where it is put in the middle
+  pub put_between : (v : V) → put cmp (front ++ (middle ++ back)) k v ≡ front ++ (put cmp middle k v ++ back)
+  put_between v = rw (below_between, above_between) (simp append_assoc)

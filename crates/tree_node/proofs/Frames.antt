@@ -1,0 +1,104 @@
+-- What stays of a part where what it reaches stays.
+use Rattle.std.proofs.Common.{◌≡◌, ℕ, zero, suc, ◌≤◌, List, [], ◌∷◌, ◌++◌, map, Option, Some, None, refl, ap, ◌∙◌, arith}
+use Rattle.std.specs.List.{flat_map, AllByRecursion}
+use Rattle.std.specs.declared.cmp.Ordering.{Ordering}
+use Rattle.slab.specs.Slab.{get}
+use Rattle.tree_leaf.specs.declared.leaf.LeafOf.{LeafOf}
+use Rattle.tree_leaf.specs.Chain.{SameArray}
+use Rattle.tree_leaf.specs.Counting.{times}
+use Rattle.tree_leaf.proofs.Counts.{times-append, times-cons, one_here}
+use Rattle.tree_model.proofs.Lists.{all_map}
+use Rattle.tree_node.specs.Arenas.{TreeArenas}
+use Rattle.tree_node.specs.Tree.{AreParted, LeafStands, Stands, walk, slot_entries, leaves_at, nodes_at, nodes_of, children_of}
+use Rattle.tree_node.proofs.Lists.{flat_map_same}
+
+-- a number that heads a list is in it
+pub head_here : (n : ℕ) (ids : List ℕ) → 1 ≤ times n (n ∷ ids)
+head_here n ids = omega (arith, times-cons n n ids, one_here n n refl)
+
+-- what holds of each number of a list, by counting
+pub each_of : {P : ℕ → Type 0} (ids : List ℕ) → ((n : ℕ) → 1 ≤ times n ids → P n) → AllByRecursion P ids
+each_of [] h = tt
+each_of (x ∷ xs) h = (h x (head_here x xs), each_of xs (λ n inside. h n (omega (arith, times-cons n x xs))))
+
+-- what holds of each number of lists together holds of each number of each list
+pub each_part : (f : ℕ → List ℕ) (P : ℕ → Type 0) (xs : List ℕ) → ((n : ℕ) → 1 ≤ times n (flat_map f xs) → P n)
+    → AllByRecursion (λ x. (n : ℕ) → 1 ≤ times n (f x) → P n) xs
+each_part f P [] h = tt
+each_part f P (x ∷ xs) h = (
+  λ n inside. h n (omega (arith, times-append n (f x) (flat_map f xs))),
+  each_part f P xs (λ n inside. h n (omega (arith, times-append n (f x) (flat_map f xs)))),
+)
+
+pub all_both : {X : Type 0} (P Q : X → Type 0) (xs : List X) → AllByRecursion P xs → AllByRecursion Q xs → AllByRecursion (λ x. P x × Q x) xs
+all_both P Q [] p q = tt
+all_both P Q (x ∷ xs) p q = ((p.0, q.0), all_both P Q xs p.1 q.1)
+
+module _ {K V : Type 0} {LEN : ℕ} where
+  -- what the part reaches is the same in both arenas, but for links
+  pub record Agrees (level : ℕ) (a b : TreeArenas K V LEN) (id : ℕ) : Type 0 where
+    pub nodes : (n : ℕ) → 1 ≤ times n (nodes_at level a.nodes id) → get b.nodes n ≡ get a.nodes n
+    pub leaves : (n : ℕ) → 1 ≤ times n (leaves_at level a.nodes id) → SameArray (get a.leaves n) (get b.leaves n)
+
+  -- the node itself is the same, and its children agree
+  pub agrees_here : (level : ℕ) (a b : TreeArenas K V LEN) (id : ℕ) → Agrees (suc level) a b id → get b.nodes id ≡ get a.nodes id
+  agrees_here level a b id same = same.nodes id (head_here id _)
+
+  agrees_below : (level : ℕ) (a b : TreeArenas K V LEN) (id : ℕ) → Agrees (suc level) a b id → AllByRecursion (λ x. Agrees level a b x) (children_of a.nodes id)
+  agrees_below level a b id same =
+      let deeper : (n : ℕ) → 1 ≤ times n (nodes_of level a.nodes (children_of a.nodes id)) → get b.nodes n ≡ get a.nodes n = λ n inside. same.nodes n (rw (times-cons n id) (omega arith)) in
+      all_map (λ x both. record { nodes = both.0; leaves = both.1 }) _
+      (all_both _ _ _
+      (each_part (nodes_at level a.nodes) (λ n. get b.nodes n ≡ get a.nodes n) _ deeper)
+      (each_part (leaves_at level a.nodes) (λ n. SameArray (get a.leaves n) (get b.leaves n)) _ same.leaves))
+
+  pub same_leaves : (level : ℕ) (a b : TreeArenas K V LEN) (id : ℕ) → Agrees level a b id → leaves_at level b.nodes id ≡ leaves_at level a.nodes id
+  same_leaves zero a b id same = refl
+  same_leaves (suc level) a b id same =
+      rw (agrees_here level a b id same) (flat_map_same _ _ _ (all_map (λ x below. same_leaves level a b x below) _ (agrees_below level a b id same)))
+
+  pub same_nodes : (level : ℕ) (a b : TreeArenas K V LEN) (id : ℕ) → Agrees level a b id → nodes_at level b.nodes id ≡ nodes_at level a.nodes id
+  same_nodes zero a b id same = refl
+  same_nodes (suc level) a b id same =
+      rw (agrees_here level a b id same) (ap (λ xs. id ∷ xs) (flat_map_same _ _ _ (all_map (λ x below. same_nodes level a b x below) _ (agrees_below level a b id same))))
+
+  same_entries : (old new : Option (LeafOf K V LEN)) → SameArray old new → slot_entries new ≡ slot_entries old
+  same_entries None new same = rw same refl
+  same_entries (Some leaf) new same = rw (same.1, same.2) refl
+
+  pub same_walk : (level : ℕ) (a b : TreeArenas K V LEN) (id : ℕ) → Agrees level a b id → walk level b id ≡ walk level a id
+  same_walk level a b id same =
+      rw (same_leaves level a b id same)
+      (flat_map_same _ _ _ (each_of (leaves_at level a.nodes id) (λ n inside. same_entries _ _ (same.leaves n inside))))
+
+-- children between the separators, each of which stands as before
+pub parted_map : {K : Type 0} (cmp : K → K → Ordering) (A B : Option K → ℕ → Option K → Type 0) (low : Option K) (pairs : List (K × ℕ)) (last : ℕ) (high : Option K)
+    → AllByRecursion (λ x. (low high : Option K) → A low x high → B low x high) (map (λ c. c.1) pairs ++ last ∷ [])
+    → AreParted cmp A low pairs last high → AreParted cmp B low pairs last high
+parted_map cmp A B low [] last high each parted = each.0 low high parted
+parted_map cmp A B low (c ∷ rest) last high each parted =
+    (each.0 low (Some c.0) parted.0, parted.1, parted.2, parted_map cmp A B (Some c.0) rest last high each.1 parted.3)
+
+module _ {K V : Type 0} {LEN : ℕ} (cmp : K → K → Ordering) where
+  leaf_same : (a b : TreeArenas K V LEN) (low : Option K) (id : ℕ) (high : Option K) (s : LeafStands cmp a.leaves low id high) → SameArray (Some s.leaf) (get b.leaves id) → LeafStands cmp b.leaves low id high
+  leaf_same a b low id high s same =
+      record {
+        leaf = same.0;
+        here = same.1;
+        ascending = rw same.2 s.ascending;
+        above = rw same.2 s.above;
+        up_to = rw same.2 s.up_to;
+      }
+
+  pub same_stands : (level : ℕ) (a b : TreeArenas K V LEN) (id : ℕ) → Agrees level a b id → (low high : Option K) → Stands cmp level a low id high → Stands cmp level b low id high
+  same_stands zero a b id same low high s = leaf_same a b low id high s (rw s.here at (same.leaves id (head_here id [])))
+  same_stands (suc level) a b id same low high s =
+      record {
+        node = s.node;
+        here = agrees_here level a b id same ∙ s.here;
+        kind = s.kind;
+        last = s.last;
+        last_is = s.last_is;
+        parted = parted_map cmp (Stands cmp level a) (Stands cmp level b) low _ _ high
+            (rw (s.here, s.last_is) at (all_map (λ x below. same_stands level a b x below) _ (agrees_below level a b id same))) s.parted;
+      }

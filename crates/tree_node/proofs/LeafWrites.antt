@@ -1,0 +1,52 @@
+-- A leaf whose array is written and whose links stay.
+use Rattle.std.proofs.Common.{◌≡◌, ℕ, List, [], ◌∷◌, Option, Some, None, is_some, refl, ap, arith, inl, inr}
+use Rattle.std.proofs.lemmas.Bool.{cases_eq}
+use Rattle.slab.specs.Slab.{get, with_value, Updates}
+use Rattle.slab.proofs.SlabLemmas.{Updates-with_value}
+use Rattle.tree_array.specs.Arrivals.{Arrivals}
+use Rattle.tree_leaf.specs.declared.leaf.LeafOf.{LeafOf}
+use Rattle.tree_leaf.specs.Chain.{IsBetween, AreLinked, first_or}
+use Rattle.tree_leaf.specs.Counting.{uses}
+use Rattle.tree_leaf.proofs.Chains.{same_array_refl}
+use Rattle.tree_leaf.proofs.Counts.{times-cons, one_here, uses_same}
+use Rattle.tree_node.specs.Arenas.{TreeArenas}
+use Rattle.tree_node.specs.Parts.{Replaces}
+
+-- the arenas with another array in the leaf
+abbrev pub with_array : {K V : Type 0} {LEN : ℕ} → TreeArenas K V LEN → ℕ → LeafOf K V LEN → Arrivals K V → TreeArenas K V LEN
+with_array a id leaf array = record a { leaves = with_value a.leaves id (record leaf { array = array }) }
+
+module _ {K V : Type 0} {LEN : ℕ} (a : TreeArenas K V LEN) (id : ℕ) (leaf : LeafOf K V LEN) (array : Arrivals K V) (was : get a.leaves id ≡ Some leaf) where
+  pub updated : Updates a.leaves (with_array a id leaf array).leaves id (Some (record leaf { array = array }))
+  updated = Updates-with_value a.leaves id (record leaf { array = array }) (rw was refl)
+
+  -- the leaf is there with its new array
+  pub here_now : get (with_array a id leaf array).leaves id ≡ Some (record leaf { array = array })
+  here_now = updated.changed
+
+  links_stay : (n : ℕ) (before after : Option ℕ) → IsBetween (get a.leaves n) before after → IsBetween (get (with_array a id leaf array).leaves n) before after
+  links_stay n before after linked = elim (cases_eq n id) [
+    | inl same ↦ let here = rw (same, was) at linked in rw (same, updated.changed) here
+    | inr differs ↦ rw (updated.others n differs) linked
+  ]
+
+  chain_stays : (before : Option ℕ) (ids : List ℕ) (after : Option ℕ) → AreLinked a.leaves before ids after → AreLinked (with_array a id leaf array).leaves before ids after
+  chain_stays before [] after linked = tt
+  chain_stays before (n ∷ rest) after linked = (links_stay n before (first_or rest after) linked.0, chain_stays (Some n) rest after linked.1)
+
+  uses_stay : (n : ℕ) → uses (with_array a id leaf array).leaves n ≡ uses a.leaves n
+  uses_stay n = elim (cases_eq n id) [
+    | inl same ↦ uses_same _ _ n (rw (same, updated.changed, was) refl)
+    | inr differs ↦ uses_same _ _ n (ap is_some (updated.others n differs))
+  ]
+
+  -- the leaf has become the leaf, and nothing else has changed
+  pub array_replaces : Replaces 0 a (with_array a id leaf array) (id ∷ []) (id ∷ [])
+  array_replaces = record {
+    nodes_kept = λ n used outside. refl;
+    leaves_kept = λ n used outside.
+        rw (updated.others n (λ same. omega (arith, times-cons n id [], one_here n id same, outside))) (same_array_refl (get a.leaves n));
+    nodes_counted = λ n. refl;
+    leaves_counted = λ n. rw (uses_stay n) refl;
+    chained = λ front back chain. record { once = λ n. rw (uses_stay n) (chain.once n); linked = chain_stays None _ None chain.linked };
+  }

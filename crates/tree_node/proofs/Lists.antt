@@ -1,0 +1,17 @@
+-- Lists of lists.
+use Rattle.std.proofs.Common.{◌≡◌, List, [], ◌∷◌, refl}
+use Rattle.std.specs.List.{flat_map, AllByRecursion}
+use Rattle.std.proofs.lemmas.List.Concat.{flat_map-append}
+
+module _ {X : Type 0} where
+  pub all_yes : {P : X → Type 0} → ((x : X) → P x) → (xs : List X) → AllByRecursion P xs
+  all_yes f [] = tt
+  all_yes f (x ∷ xs) = (f x, all_yes f xs)
+
+  pub flat_map-flat_map : {Y Z : Type 0} (f : Y → List Z) (g : X → List Y) (xs : List X) → flat_map f (flat_map g xs) ≡ flat_map (λ x. flat_map f (g x)) xs
+  flat_map-flat_map f g [] = refl
+  flat_map-flat_map f g (x ∷ xs) = rw (flat_map-append f (g x) (flat_map g xs), flat_map-flat_map f g xs) refl
+
+  pub flat_map_same : {Y : Type 0} (f g : X → List Y) (xs : List X) → AllByRecursion (λ x. f x ≡ g x) xs → flat_map f xs ≡ flat_map g xs
+  flat_map_same f g [] h = refl
+  flat_map_same f g (x ∷ xs) h = rw (h.0, flat_map_same f g xs h.1) refl

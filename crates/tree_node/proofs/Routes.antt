@@ -1,0 +1,31 @@
+-- The child that a key belongs to is that of the least separator from the key on.
+use Rattle.std.proofs.Common.{◌≡◌, Bool, true, false, cond, List, [], ◌∷◌, Some, None, refl, ap}
+use Rattle.std.specs.declared.cmp.Ordering.{Ordering}
+use Rattle.tree_array.specs.Arrivals.{least_from}
+use Rattle.tree_node.specs.Tree.{child_at, child_of, is_from}
+
+module _ {K X : Type 0} (cmp : K → K → Ordering) (k : K) where
+  at_separator : (pairs : List (K × X)) (last : X) (pair : K × X) → least_from cmp pairs k ≡ Some pair → child_at (is_from cmp k) pairs last ≡ pair.1
+  at_separator [] last pair h = absurd (cc)
+  at_separator (c ∷ rest) last pair h = by_test (is_from cmp k c.0) (at_separator rest last pair) h
+    where
+      by_test : (b : Bool) → (least_from cmp rest k ≡ Some pair → child_at (is_from cmp k) rest last ≡ pair.1) → cond b (Some c) (least_from cmp rest k) ≡ Some pair
+          → cond b c.1 (child_at (is_from cmp k) rest last) ≡ pair.1
+      by_test true later h = let same : c ≡ pair = cc in ap (λ p. p.1) same
+      by_test false later h = later h
+
+  past_separators : (pairs : List (K × X)) (last : X) → least_from cmp pairs k ≡ None → child_at (is_from cmp k) pairs last ≡ last
+  past_separators [] last h = refl
+  past_separators (c ∷ rest) last h = by_test (is_from cmp k c.0) (past_separators rest last) h
+    where
+      by_test : (b : Bool) → (least_from cmp rest k ≡ None → child_at (is_from cmp k) rest last ≡ last) → cond b (Some c) (least_from cmp rest k) ≡ None
+          → cond b c.1 (child_at (is_from cmp k) rest last) ≡ last
+      by_test true later h = absurd (cc)
+      by_test false later h = later h
+
+  -- the child of the least separator from the key on, and the unbounded one where there is none
+  pub routed_to : (pairs : List (K × X)) (last : X) (pair : K × X) → least_from cmp pairs k ≡ Some pair → child_of cmp k pairs (Some last) ≡ Some pair.1
+  routed_to pairs last pair h = ap Some (at_separator pairs last pair h)
+
+  pub routed_past : (pairs : List (K × X)) (last : X) → least_from cmp pairs k ≡ None → child_of cmp k pairs (Some last) ≡ Some last
+  routed_past pairs last h = ap Some (past_separators pairs last h)

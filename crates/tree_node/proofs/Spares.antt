@@ -1,0 +1,65 @@
+-- The least room of the leaves of a part, and of several.
+use Rattle.std.proofs.Common.{◌≡◌, ℕ, suc, ◌≤◌, min, List, [], ◌∷◌, ◌++◌, Option, Some, None, refl, arith}
+use Rattle.std.specs.List.{AllByRecursion}
+use Rattle.std.proofs.lemmas.List.Concat.{flat_map-append}
+use Rattle.tree_leaf.specs.declared.leaf.LeafOf.{LeafOf}
+use Rattle.tree_leaf.specs.Chain.{SameArray}
+use Rattle.tree_node.specs.Arenas.{TreeArenas}
+use Rattle.tree_node.specs.Shape.{slot_free, leaf_free, least, spare}
+use Rattle.tree_node.specs.Tree.{leaves_at, leaves_of, children_of}
+use Rattle.tree_node.proofs.Frames.{each_of, Agrees, same_leaves}
+use Rattle.tree_node.proofs.Lifts.{single_leaves}
+
+least_le : (most : ℕ) (f : ℕ → ℕ) (xs : List ℕ) → least most f xs ≤ most
+least_le most f [] = omega arith
+least_le most f (x ∷ xs) = omega (arith, least_le most f xs)
+
+least-append : (most : ℕ) (f : ℕ → ℕ) (xs ys : List ℕ) → least most f (xs ++ ys) ≡ min (least most f xs) (least most f ys)
+least-append most f [] ys = omega (arith, least_le most f ys)
+least-append most f (x ∷ xs) ys = omega (arith, least-append most f xs ys)
+
+least_same : (most : ℕ) (f g : ℕ → ℕ) (xs : List ℕ) → AllByRecursion (λ x. f x ≡ g x) xs → least most f xs ≡ least most g xs
+least_same most f g [] same = refl
+least_same most f g (x ∷ xs) same = rw (same.0, least_same most f g xs same.1) refl
+
+module _ {K V : Type 0} {LEN : ℕ} where
+  slot_free_same : (old new : Option (LeafOf K V LEN)) → SameArray old new → slot_free new ≡ slot_free old
+  slot_free_same None new same = rw same refl
+  slot_free_same (Some leaf) new same = rw (same.1, same.2) refl
+
+  -- a part that stays has the same room
+  same_spare : (level : ℕ) (a b : TreeArenas K V LEN) (id : ℕ) → Agrees level a b id → spare level b id ≡ spare level a id
+  same_spare level a b id same =
+      rw (same_leaves level a b id same)
+      (least_same LEN _ _ _ (each_of (leaves_at level a.nodes id) (λ n inside. slot_free_same _ _ (same.leaves n inside))))
+
+  -- the least room of several parts
+  abbrev pub spares : ℕ → TreeArenas K V LEN → List ℕ → ℕ
+  spares level a ids = least LEN (leaf_free a.leaves) (leaves_of level a.nodes ids)
+
+  spares-cons : (level : ℕ) (a : TreeArenas K V LEN) (x : ℕ) (xs : List ℕ) → spares level a (x ∷ xs) ≡ min (spare level a x) (spares level a xs)
+  spares-cons level a x xs = least-append LEN _ (leaves_at level a.nodes x) (leaves_of level a.nodes xs)
+
+  pub spares_same : (level : ℕ) (a b : TreeArenas K V LEN) (xs : List ℕ) → AllByRecursion (λ x. Agrees level a b x) xs → spares level b xs ≡ spares level a xs
+  spares_same level a b [] same = refl
+  spares_same level a b (x ∷ xs) same =
+      rw (spares-cons level a x xs, spares-cons level b x xs, same_spare level a b x same.0, spares_same level a b xs same.1) refl
+
+  -- the room of a node is the least of that of its children
+  pub spare_split : (level : ℕ) (a : TreeArenas K V LEN) (id : ℕ) (front ids back : List ℕ) → children_of a.nodes id ≡ front ++ (ids ++ back)
+      → spare (suc level) a id ≡ min (spares level a front) (min (spares level a ids) (spares level a back))
+  spare_split level a id front ids back was =
+      rw (
+        was,
+        flat_map-append (leaves_at level a.nodes) front,
+        flat_map-append (leaves_at level a.nodes) ids,
+        least-append LEN (leaf_free a.leaves) (leaves_of level a.nodes front),
+        least-append LEN (leaf_free a.leaves) (leaves_of level a.nodes ids),
+      ) refl
+
+  pub spares-single : (level : ℕ) (a : TreeArenas K V LEN) (id : ℕ) → spares level a (id ∷ []) ≡ spare level a id
+  spares-single level a id = rw (single_leaves level a.nodes id) refl
+
+  -- a part has no more room than an array has slots
+  pub spare_le : (level : ℕ) (a : TreeArenas K V LEN) (id : ℕ) → spare level a id ≤ LEN
+  spare_le level a id = least_le LEN _ (leaves_at level a.nodes id)

@@ -1,0 +1,65 @@
+-- Two changes of a part, one after the other.
+use Rattle.std.proofs.Common.{ℕ, ◌≤◌, List, [], ◌∷◌, None, refl, sym, ap, ◌∙◌, arith}
+use Rattle.std.specs.declared.cmp.Ordering.{Ordering}
+use Rattle.slab.specs.Slab.{get}
+use Rattle.tree_leaf.specs.Counting.{times, uses}
+use Rattle.tree_leaf.proofs.Chains.{same_array_refl, same_array_trans}
+use Rattle.tree_leaf.proofs.Counts.{uses_le_one, uses_some, in_use}
+use Rattle.tree_node.specs.Arenas.{TreeArenas}
+use Rattle.tree_node.specs.Parts.{IsPart, Replaces}
+use Rattle.tree_node.specs.Removes.{KeepsPart, Retires}
+use Rattle.tree_node.specs.Tree.{Stands}
+use Rattle.tree_node.proofs.Lifts.{single_leaves, single_nodes}
+
+module _ {K V : Type 0} {LEN : ℕ} where
+  pub replaces_trans : (level : ℕ) (a b c : TreeArenas K V LEN) (xs ys zs : List ℕ) → Replaces level a b xs ys → Replaces level b c ys zs → Replaces level a c xs zs
+  replaces_trans level a b c xs ys zs first second = record {
+    nodes_kept = λ n used outside.
+        let same = first.nodes_kept n used outside in
+        second.nodes_kept n (rw same used) (omega (arith, first.nodes_counted n, outside, uses_some a.nodes n used, uses_le_one b.nodes n)) ∙ same;
+    leaves_kept = λ n used outside.
+        let same = first.leaves_kept n used outside in
+        let still : 1 ≤ uses b.leaves n = omega (arith, first.leaves_counted n, outside, uses_some a.leaves n used) in
+        same_array_trans _ _ _ same (second.leaves_kept n (in_use b.leaves n still) (omega (arith, first.leaves_counted n, outside, uses_some a.leaves n used, uses_le_one b.leaves n)));
+    nodes_counted = λ n. omega (arith, first.nodes_counted n, second.nodes_counted n);
+    leaves_counted = λ n. omega (arith, first.leaves_counted n, second.leaves_counted n);
+    chained = λ front back chain. second.chained front back (first.chained front back chain);
+  }
+
+  -- a part that doesn't change
+  pub replaces_refl : (level : ℕ) (a : TreeArenas K V LEN) (xs : List ℕ) → Replaces level a a xs xs
+  replaces_refl level a xs = record {
+    nodes_kept = λ n used outside. refl;
+    leaves_kept = λ n used outside. same_array_refl (get a.leaves n);
+    nodes_counted = λ n. refl;
+    leaves_counted = λ n. refl;
+    chained = λ front back chain. chain;
+  }
+
+module _ {K V : Type 0} {LEN : ℕ} (cmp : K → K → Ordering) (level : ℕ) where
+  -- what has become of a part is one, if it stands
+  pub part_after : (old new : TreeArenas K V LEN) (id : ℕ) → IsPart cmp level old id → Stands cmp level new None id None → Replaces level old new (id ∷ []) (id ∷ []) → IsPart cmp level new id
+  part_after old new id part stands r = record {
+    stands = stands;
+    nodes_once = λ n. omega (arith, part.nodes_once n, r.nodes_counted n, ap (times n) (single_nodes level old.nodes id), ap (times n) (single_nodes level new.nodes id));
+    front = part.front;
+    back = part.back;
+    chain = rw (single_leaves level new.nodes id) at (r.chained part.front part.back (rw (single_leaves level old.nodes id) part.chain));
+  }
+
+  -- children are dropped one after another
+  pub keeps_part_trans : (a b c : TreeArenas K V LEN) (id : ℕ) → KeepsPart cmp level a b id → KeepsPart cmp level b c id → KeepsPart cmp level a c id
+  keeps_part_trans a b c id first second = record {
+    pairs = second.pairs ∙ first.pairs;
+    keeps = λ low high s. second.keeps low high (first.keeps low high s);
+    replaces = replaces_trans level a b c (id ∷ []) (id ∷ []) (id ∷ []) first.replaces second.replaces;
+    more = omega (arith, first.more, second.more);
+  }
+
+  pub retires_trans : (a b c : TreeArenas K V LEN) (id : ℕ) → KeepsPart cmp level a b id → Retires level b c id → Retires level a c id
+  retires_trans a b c id first second = record {
+    pairs = sym first.pairs ∙ second.pairs;
+    retired = second.retired;
+    replaces = replaces_trans level a b c (id ∷ []) (id ∷ []) (id ∷ []) first.replaces second.replaces;
+    more = omega (arith, first.more, second.more);
+  }

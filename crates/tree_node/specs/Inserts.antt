@@ -1,0 +1,49 @@
+-- What an insert under a number answers and leaves.
+use Rattle.std.specs.Prelude.{◌≡◌, ℕ, suc, ◌≤◌, Bool, true, false, List, [], ◌∷◌, Option, Result, Ok, Err}
+use Rattle.std.specs.declared.cmp.Ordering.{Ordering}
+use Rattle.tree_array.specs.declared.answers.InsertResult.{InsertResult}
+use Rattle.tree_array.specs.declared.answers.InsertResult.TheVariants.{Success, Duplicate, Full}
+use Rattle.tree_model.specs.Pairs.{IsAbsent, IsPresent, put}
+use Rattle.tree_node.specs.Arenas.{TreeArenas}
+use Rattle.tree_node.specs.Tree.{IsAbove, IsUpTo, Stands, walk}
+use Rattle.tree_node.specs.Parts.{Replaces, Unchanged}
+use Rattle.tree_node.specs.Shape.{spare, room}
+
+module _ {K V : Type 0} where
+  -- there was no room, in the arrays or in memory
+  abbrev pub refused : Result (InsertResult K V) (K × V) → Bool
+  refused (Ok Success) = false
+  refused (Ok (Duplicate k v)) = false
+  refused (Ok (Full k v)) = true
+  refused (Err pair) = true
+
+  -- a split is asked for
+  abbrev pub asks_split : Result (InsertResult K V) (K × V) → Bool
+  asks_split (Ok Success) = false
+  asks_split (Ok (Duplicate k v)) = false
+  asks_split (Ok (Full k v)) = true
+  asks_split (Err pair) = false
+
+module _ {K V : Type 0} (cmp : K → K → Ordering) (upsert : Bool) where
+  -- no pair with the key is there, where one would have been found first
+  abbrev pub IsNew : List (K × V) → K → Type 0
+  IsNew old key = upsert ≡ false → IsAbsent cmp old key
+
+  -- the pair is stored; or it comes back, and the list is what it was
+  abbrev pub Inserts : Result (InsertResult K V) (K × V) → List (K × V) → K → V → List (K × V) → Type 0
+  Inserts (Ok Success) old key val new = IsNew old key × (new ≡ put cmp old key val)
+  Inserts (Ok (Duplicate k v)) old key val new = (upsert ≡ false) × IsPresent cmp old key × (k ≡ key) × (v ≡ val) × (new ≡ old)
+  Inserts (Ok (Full k v)) old key val new = IsNew old key × (k ≡ key) × (v ≡ val) × (new ≡ old)
+  Inserts (Err pair) old key val new = IsNew old key × (pair.0 ≡ key) × (pair.1 ≡ val) × (new ≡ old)
+
+  pub record InsertsUnder {LEN : ℕ} (level : ℕ) (old new : TreeArenas K V LEN) (id : ℕ) (result : Result (InsertResult K V) (K × V)) (key : K) (val : V) : Type 0 where
+    pub pairs : Inserts result (walk level old id) key val (walk level new id)
+    -- the part stays between the bounds that it had, if the key is between them
+    pub stands : (low high : Option K) → IsAbove cmp low key → IsUpTo cmp key high → Stands cmp level old low id high → Stands cmp level new low id high
+    pub replaces : Replaces level old new (id ∷ []) (id ∷ [])
+    -- a write takes one place of a leaf, and is refused only where a leaf has none
+    pub lowers : spare level old id ≤ suc (spare level new id)
+    pub spent : refused result ≡ true → spare level old id ≡ 0
+    -- a split is asked for only where the array right under the number has no room, and then nothing has changed
+    pub full : asks_split result ≡ true → room level old id ≡ 0
+    pub unchanged : asks_split result ≡ true → Unchanged old new

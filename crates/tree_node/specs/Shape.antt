@@ -1,0 +1,41 @@
+-- How much room there is in a part.
+use Rattle.std.specs.Prelude.{ℕ, zero, suc, min, List, [], ◌∷◌, Option, Some, None, if◌then◌else◌}
+use Rattle.slab.specs.Slab.{Slab, get}
+use Rattle.tree_array.specs.Arrivals.{free}
+use Rattle.tree_leaf.specs.declared.leaf.LeafOf.{LeafOf}
+use Rattle.tree_node.specs.declared.node.NodeOf.{NodeOf}
+use Rattle.tree_node.specs.Arenas.{TreeArenas}
+use Rattle.tree_node.specs.Tree.{keyed, unbounded, leaves_at}
+
+-- the least of these numbers, and `most` where there is none
+abbrev pub least : ℕ → (ℕ → ℕ) → List ℕ → ℕ
+least most f [] = most
+least most f (id ∷ ids) = min (f id) (least most f ids)
+
+module _ {K V : Type 0} {LEN : ℕ} where
+  -- how many more pairs the leaf takes, which are none once it is retired
+  abbrev pub slot_free : Option (LeafOf K V LEN) → ℕ
+  slot_free None = 0
+  slot_free (Some leaf) = if leaf.array.retired then 0 else free LEN leaf.array
+
+  abbrev pub leaf_free : Slab (LeafOf K V LEN) → ℕ → ℕ
+  leaf_free leaves id = slot_free (get leaves id)
+
+-- how many more children a node takes beside its unbounded one
+abbrev pub children_free : {K : Type 0} {LEN : ℕ} → Option ℕ → NodeOf K LEN → ℕ
+children_free None node = 0
+children_free {LEN = LEN} (Some last) node = if (keyed node).retired then 0 else free LEN (keyed node)
+
+abbrev pub slot_room : {K : Type 0} {LEN : ℕ} → Option (NodeOf K LEN) → ℕ
+slot_room None = 0
+slot_room (Some node) = children_free (unbounded node) node
+
+module _ {K V : Type 0} {LEN : ℕ} where
+  -- the least that a leaf of the part takes: as many writes go into it without memory
+  abbrev pub spare : ℕ → TreeArenas K V LEN → ℕ → ℕ
+  spare level arenas id = least LEN (leaf_free arenas.leaves) (leaves_at level arenas.nodes id)
+
+  -- the room in the array right under the number
+  abbrev pub room : ℕ → TreeArenas K V LEN → ℕ → ℕ
+  room zero arenas id = leaf_free arenas.leaves id
+  room (suc level) arenas id = slot_room (get arenas.nodes id)
