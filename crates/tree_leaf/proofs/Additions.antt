@@ -1,5 +1,5 @@
 -- A new leaf that comes into a chain before another one: it is added, then spliced to the leaf before and to the one behind.
-use Rattle.std.proofs.Common.{◌≡◌, ◌≢◌, ℕ, ◌+◌, ◌≤◌, ◌==◌, cond, List, ◌∷◌, ◌++◌, Some, None, IsSome, refl, sym, ◌∙◌, arith, inl, inr}
+use Rattle.std.proofs.Common.{◌≡◌, ◌≢◌, ℕ, ◌+◌, ◌≤◌, ◌==◌, cond, List, [], ◌∷◌, ◌++◌, Some, None, IsSome, refl, sym, ap, ◌∙◌, arith, inl, inr}
 use Rattle.std.proofs.lemmas.Bool.{cases_eq}
 use Rattle.slab.specs.Slab.{Slab, get}
 use Rattle.tree_leaf.specs.declared.leaf.LeafOf.{LeafOf}
@@ -8,7 +8,7 @@ use Rattle.tree_leaf.specs.Counting.{times, uses}
 use Rattle.tree_leaf.specs.Chain.{last_or, AreLinked, IsChain, SameArray}
 use Rattle.tree_leaf.specs.Arena.{Gains}
 use Rattle.tree_leaf.specs.Links.{Splices, GainsBefore}
-use Rattle.tree_leaf.proofs.Counts.{times-append, times-cons, one_here, none_here, uses_le_one, uses_some, uses_none, in_use}
+use Rattle.tree_leaf.proofs.Counts.{times-nil, times-append, times-cons, one_here, none_here, uses_le_one, uses_some, uses_none, in_use}
 use Rattle.tree_leaf.proofs.Chains.{last_inside, linked_left, linked_right, linked_join, linked_kept, same_array_uses, same_array_trans, neighbours, counted}
 use Rattle.tree_leaf.proofs.Splices.{untouched_leaf, front_spliced, back_spliced}
 
@@ -22,6 +22,16 @@ module _ {T : Type 0} (old new : Slab T) (id : ℕ) (value : T) (gains : Gains o
 
   pub new_used : (n : ℕ) → Some id ≡ Some n → IsSome (get new n)
   new_used n is = let same : n ≡ id = cc in rw (same, gains.updates.changed) refl
+
+-- a new leaf without neighbours is a chain by itself
+pub alone : {K V : Type 0} {LEN : ℕ} (old new : Slab (LeafOf K V LEN)) (id : ℕ) (leaf : LeafOf K V LEN) → Gains old new id leaf → leaf.prev ≡ None → leaf.next ≡ None → IsChain new (id ∷ [])
+alone old new id leaf gains prev next = record {
+  once = λ n. elim (cases_eq n id) [
+    | inl same ↦ omega (arith, times-cons n id [], times-nil n, one_here n id same, uses_some new n (new_used old new id leaf gains n (ap Some (sym same))))
+    | inr differs ↦ omega (arith, times-cons n id [], times-nil n, none_here n id differs)
+  ];
+  linked = rw gains.updates.changed ((prev, next), tt);
+}
 
 module _ {K V N : Type 0} {LEN : ℕ} (old added joined new : SlotsOf K V N LEN) (at id : ℕ) (leaf after : LeafOf K V LEN)
     (was : get old.leaves at ≡ Some after) (gains : Gains old.leaves added.leaves id leaf)

@@ -13,7 +13,7 @@ fn numbers_come_and_go(rt: HostRuntime) -> Result<(), Fail> {
         unreachable!()
     };
     let Ok(second) = arenas.add_leaf(Leaf::new()) else {
-        unreachable!()
+        panic!(rt; "no room for a second leaf")
     };
     let Ok(node) = arenas.add_node(7) else {
         unreachable!()
