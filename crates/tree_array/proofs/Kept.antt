@@ -6,18 +6,20 @@ use Rattle.std.specs.Cmp.{IsTotalOrder}
 use Rattle.std.specs.List.{AllByRecursion}
 use Rattle.std.specs.Ordering.{is_eq}
 use Rattle.std.proofs.lemmas.Bool.Decides.{nat_tests}
-use Rattle.tree_array.specs.Arrivals.{arrival, reachable, numbered, sorted}
+use Rattle.tree_array.specs.Arrivals.{Arrivals, arrival, reachable, numbered, sorted, stored}
+use Rattle.tree_array.specs.Insertion.{HasRoom}
 use Rattle.tree_array.specs.Layout.{picked}
 use Rattle.tree_array.specs.Length.{IsLen}
 use Rattle.tree_array.specs.Ranked.{IsRanked, IsMarked, seen}
 use Rattle.tree_array.specs.Sound.{IsSound}
+use Rattle.tree_model.proofs.Lengths.{length-put, without_absent, without_few}
 use Rattle.tree_model.proofs.Lists.{find_none}
 use Rattle.tree_model.proofs.LookUps.{equal_from_test}
 use Rattle.tree_array.proofs.Emptied.{entries_none}
 use Rattle.tree_array.proofs.Entries.{all-reachable}
 use Rattle.tree_array.proofs.Picks.{length-picked, arrival-all, reachable_few}
 use Rattle.tree_array.proofs.RankOrder.{one_arrival}
-use Rattle.tree_array.proofs.Sorted.{IsAscending-sorted, pair_at-sorted, all-sorted, length-put_absent, values-sorted}
+use Rattle.tree_array.proofs.Sorted.{IsAscending-sorted, pair_at-sorted, all-sorted, values-sorted}
 
 -- ---- the slots of the entries
 module _ {K V : Type 0} where
@@ -71,7 +73,7 @@ module _ {K V : Type 0} {cmp : K → K → Ordering} (o : IsTotalOrder cmp) wher
   length-sorted [] distinct = refl
   length-sorted (None ∷ arrivals) distinct = length-sorted arrivals (λ p q e f some some' same. omega (arith, distinct (suc p) (suc q) e f some some' same))
   length-sorted (Some e ∷ arrivals) distinct =
-      omega (arith, length-put_absent cmp (sorted cmp (reachable arrivals)) e.0 e.1 (pair_at-sorted o e.0 (reachable arrivals) ∙ find_none _ (reachable arrivals) (all-reachable _ arrivals (λ q f some. other q f some (is_eq (cmp f.0 e.0)) refl))), length-sorted arrivals (λ p q e f some some' same. omega (arith, distinct (suc p) (suc q) e f some some' same)))
+      omega (arith, length-put cmp (sorted cmp (reachable arrivals)) e.0 e.1, without_absent cmp (sorted cmp (reachable arrivals)) e.0 (pair_at-sorted o e.0 (reachable arrivals) ∙ find_none _ (reachable arrivals) (all-reachable _ arrivals (λ q f some. other q f some (is_eq (cmp f.0 e.0)) refl))), length-sorted arrivals (λ p q e f some some' same. omega (arith, distinct (suc p) (suc q) e f some some' same)))
     where
       other : (q : ℕ) (f : K × V) → arrival arrivals q ≡ Some f → (b : Bool) → is_eq (cmp f.0 e.0) ≡ b → b ≡ false
       other q f some false h = refl
@@ -93,3 +95,8 @@ module _ {K V : Type 0} {cmp : K → K → Ordering} (o : IsTotalOrder cmp) wher
       entries_few = omega (arith, length-sorted (picked pick made) distinct_picked, reachable_few (picked pick made));
       none_retired = λ retired. entries_none cmp pick made (λ p. marked.no_pair p (grind (arith, nat_tests)));
     }
+
+-- what was stored fits
+pub stored_few : {K V : Type 0} (cmp : K → K → Ordering) (len : ℕ) (array : Arrivals K V) (key : K) (val : V) (new : Arrivals K V) → new ≡ stored cmp array key val → HasRoom len array
+    → length array.entries ≤ length array.arrivals → length new.entries ≤ len
+stored_few cmp len array key val new is room few = rw is (omega (arith, length-put cmp array.entries key val, without_few cmp array.entries key, room.0, few))

@@ -9,6 +9,7 @@ pub mod Kept
 pub mod LeastFrom
 pub mod Orders
 pub mod Picks
+pub mod Places
 pub mod Ranges
 pub mod RankOrder
 pub mod Removed

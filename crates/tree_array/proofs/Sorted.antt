@@ -1,14 +1,12 @@
 -- Pairs that are put into the order of their keys one by one.
-use Rattle.std.proofs.Common.{◌≡◌, ◌+◌, Bool, true, false, cond, List, [], ◌∷◌, map, filter, length, Option, Some, if◌then◌else◌, refl, sym, ◌∙◌, ap, length-append, arith}
+use Rattle.std.proofs.Common.{◌≡◌, Bool, true, false, cond, List, [], ◌∷◌, map, filter, Option, Some, if◌then◌else◌, refl, sym, ◌∙◌, ap}
 use Rattle.std.specs.declared.cmp.Ordering.{Ordering}
-use Rattle.std.specs.declared.cmp.Ordering.TheVariants.{Less, Equal, Greater}
 use Rattle.std.specs.Cmp.{IsTotalOrder}
 use Rattle.std.specs.List.{AllByRecursion}
 use Rattle.std.specs.Ordering.{is_lt, is_eq, is_gt}
 use Rattle.std.proofs.lemmas.List.{map-append}
-use Rattle.std.proofs.lemmas.Option.{none-some}
 use Rattle.tree_array.specs.Arrivals.{sorted}
-use Rattle.tree_model.specs.Pairs.{IsAscending, IsAbsent, pair_at, below, above, put}
+use Rattle.tree_model.specs.Pairs.{IsAscending, pair_at, below, above, put}
 use Rattle.tree_model.proofs.Ascending.{IsAscending-put}
 use Rattle.tree_model.proofs.Lists.{all-append, all-filter}
 use Rattle.tree_model.proofs.LookUps.{pair_at-put}
@@ -32,19 +30,6 @@ module _ {K V : Type 0} (cmp : K → K → Ordering) where
   all-sorted P (e ∷ pairs) h =
       let rest = all-sorted P pairs h.1 in
       all-append P (below cmp (sorted cmp pairs) e.0) (e ∷ above cmp (sorted cmp pairs) e.0) (all-filter P _ (sorted cmp pairs) rest) (h.0, all-filter P _ (sorted cmp pairs) rest)
-
-  -- beside the pairs with an absent key there are no others
-  parts_all : (pairs : List (K × V)) (key : K) → IsAbsent cmp pairs key → length (below cmp pairs key) + length (above cmp pairs key) ≡ length pairs
-  parts_all [] key absent = refl
-  parts_all (e ∷ pairs) key absent = go (cmp e.0 key) refl (parts_all pairs key)
-    where
-      go : (c : Ordering) → cmp e.0 key ≡ c → (IsAbsent cmp pairs key → length (below cmp pairs key) + length (above cmp pairs key) ≡ length pairs) → length (below cmp (e ∷ pairs) key) + length (above cmp (e ∷ pairs) key) ≡ length (e ∷ pairs)
-      go Less q rest = rw q (omega (arith, rest (rw q at absent)))
-      go Equal q rest = absurd (none-some e (sym (rw q at absent)))
-      go Greater q rest = rw q (omega (arith, rest (rw q at absent)))
-
-  pub length-put_absent : (pairs : List (K × V)) (key : K) (val : V) → IsAbsent cmp pairs key → length (put cmp pairs key val) ≡ length pairs + 1
-  length-put_absent pairs key val absent = omega (arith, length-append (below cmp pairs key) ((key, val) ∷ above cmp pairs key), parts_all pairs key absent)
 
 -- ---- pairs whose values are replaced by another function of them
 module _ {K X Y : Type 0} (cmp : K → K → Ordering) (f : K × X → Y) where

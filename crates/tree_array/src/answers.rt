@@ -1,4 +1,6 @@
 //! What the calls of an array answer.
+ghost use Rattle.std.specs.Prelude.{◌≡◌};
+ghost use Rattle.tree_array.specs.Insertion.{as_insert};
 
 /// How many slots an array has, and how many bits the rank of each takes.
 #[derive(Clone, Copy, Debug, PartialEq, Eq)]
@@ -19,6 +21,32 @@ pub enum InsertResult<K, V> {
     Duplicate(K, V),
     /// There is no room, and nothing changed. The pair comes back.
     Full(K, V),
+}
+
+/// What a store answers: an [`InsertResult`] that tells a new key from one that was there.
+#[derive(Debug, Drop)]
+pub enum StoreResult<K, V> {
+    /// The pair was stored, and its key is new.
+    New,
+    /// The pair was stored in place of one with an equal key.
+    Replaced,
+    /// An equal key is there, and nothing changed. The pair comes back.
+    Duplicate(K, V),
+    /// There is no room, and nothing changed. The pair comes back.
+    Full(K, V),
+}
+
+impl<K, V> StoreResult<K, V> {
+    /// The answer without what was there before.
+    pub fn into_insert(self) -> InsertResult<K, V>
+        ensures { result ≡ as_insert self }
+    {
+        match self {
+            StoreResult::New | StoreResult::Replaced => InsertResult::Success,
+            StoreResult::Duplicate(key, val) => InsertResult::Duplicate(key, val),
+            StoreResult::Full(key, val) => InsertResult::Full(key, val),
+        }
+    }
 }
 
 /// What a removal answers.

@@ -5,7 +5,7 @@ ghost use Rattle.tree_array.specs.Insertion.{IsFull};
 ghost use Rattle.tree_array.specs.Length.{IsLen};
 ghost use Rattle.tree_array.specs.Sound.{IsSound};
 
-pub use crate::answers::{DIMENSION, Dimension, InsertResult, RemoveResult};
+pub use crate::answers::{DIMENSION, Dimension, InsertResult, RemoveResult, StoreResult};
 use crate::cells::Cells;
 pub use crate::judge::{Judge, KeyJudge, Steps};
 pub use crate::keys::{IndexKey, SameClone};

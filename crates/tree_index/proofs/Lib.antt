@@ -1,0 +1,4 @@
+pub mod Indexed
+pub mod Numbers
+pub mod Stored
+pub mod Taken

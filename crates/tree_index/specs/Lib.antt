@@ -1,1 +1,2 @@
 pub mod Inserts
+pub mod Trees

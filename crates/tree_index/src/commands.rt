@@ -38,6 +38,11 @@ fn answer<K: IndexKey, V: SameClone>(
             Err(InsertError::Duplicate(_, _)) => Reply::Duplicate,
             Err(InsertError::OutOfMemory(_, _)) => Reply::Refused,
         },
+        Command::Upsert(key, value) => match index.upsert_sync(key, value) {
+            Ok(()) => Reply::Stored,
+            Err(_) => Reply::Refused,
+        },
+        Command::Remove(key) => Reply::Removed(index.remove_sync(&key)),
         Command::Peek(key) => match index.peek(&key) {
             None => Reply::Found(None),
             Some(value) => match value.clone() {

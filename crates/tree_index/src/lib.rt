@@ -8,6 +8,7 @@ pub mod laws;
 mod shared;
 #[cfg(test)]
 mod tests;
+mod tree;
 
 pub use commands::run;
 pub use index::TreeIndex;

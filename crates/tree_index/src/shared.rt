@@ -1,7 +1,7 @@
 //! An index with the history of its calls.
 ghost use Rattle.std.specs.Prelude.{◌≡◌, ◌<◌, List, [], ◌∷◌, ◌++◌, vec_len, vec_capacity, IfOk, IfErr, OnErr};
 ghost use Rattle.std.specs.Option.{option_copied, option_map};
-ghost use Rattle.tree_model.specs.History.{Appends, IsHistoryOf, IsSameCommand};
+ghost use Rattle.tree_model.specs.History.{Appends, IsHistoryOf, IsSameKey};
 ghost use Rattle.tree_index.specs.Inserts.{RecordsInsert};
 
 use crate::index::TreeIndex;
@@ -74,6 +74,8 @@ impl<K: IndexKey + SameClone, V: SameClone> State<K, V> {
                 Err(InsertError::Duplicate(_, _)) => Ok(Reply::Duplicate),
                 Err(InsertError::OutOfMemory(key, value)) => Err(Command::Insert(key, value)),
             },
+            Command::Upsert(key, value) => self.upsert(key, value),
+            Command::Remove(key) => self.remove(key),
             Command::Peek(key) => self.look_up(key),
         }
     }
@@ -87,9 +89,10 @@ impl<K: IndexKey + SameClone, V: SameClone> State<K, V> {
         if self.history.reserve(1).is_err() {
             return Err(InsertError::OutOfMemory(key, value));
         }
-        let Ok(command) = cloned_insert(&key, &value) else {
+        let Ok((kept_key, kept_value)) = cloned_pair(&key, &value) else {
             return Err(InsertError::OutOfMemory(key, value));
         };
+        let command = Command::Insert(kept_key, kept_value);
         match self.index.insert_sync(key, value) {
             Ok(()) => {
                 keep(&mut self.history, command, Reply::Stored);
@@ -101,6 +104,43 @@ impl<K: IndexKey + SameClone, V: SameClone> State<K, V> {
             }
             Err(InsertError::OutOfMemory(key, value)) => Err(InsertError::OutOfMemory(key, value)),
         }
+    }
+
+    // Answers an upsert, of which clones go into the history.
+    fn upsert(&mut self, key: K, value: V) -> Result<Reply<V>, Command<K, V>>
+        ensures ok { IfOk result (Appends K.cmp K.seen V.seen self.old self.new (Command.Upsert key value)) }
+        ensures handed_back { IfErr result (λ back. back ≡ Command.Upsert key value) }
+        ensures err { OnErr result (self.new ≡ self.old) }
+    {
+        if self.history.reserve(1).is_err() {
+            return Err(Command::Upsert(key, value));
+        }
+        let Ok((kept_key, kept_value)) = cloned_pair(&key, &value) else {
+            return Err(Command::Upsert(key, value));
+        };
+        if let Err((key, value)) = self.index.upsert_sync(key, value) {
+            return Err(Command::Upsert(key, value));
+        }
+        keep(
+            &mut self.history,
+            Command::Upsert(kept_key, kept_value),
+            Reply::Stored,
+        );
+        Ok(Reply::Stored)
+    }
+
+    // Answers a removal, of which the key itself goes into the history.
+    fn remove(&mut self, key: K) -> Result<Reply<V>, Command<K, V>>
+        ensures ok { IfOk result (Appends K.cmp K.seen V.seen self.old self.new (Command.Remove key)) }
+        ensures handed_back { IfErr result (λ back. back ≡ Command.Remove key) }
+        ensures err { OnErr result (self.new ≡ self.old) }
+    {
+        if self.history.reserve(1).is_err() {
+            return Err(Command::Remove(key));
+        }
+        let was = self.index.remove_sync(&key);
+        keep(&mut self.history, Command::Remove(key), Reply::Removed(was));
+        Ok(Reply::Removed(was))
     }
 
     // Answers a look-up, which goes into the history with a second clone of what it found.
@@ -146,14 +186,15 @@ fn two_clones<V: SameClone>(value: Option<&V>) -> Result<(Option<V>, Option<V>),
     }
 }
 
-// A clone of an insert.
-fn cloned_insert<K: IndexKey + SameClone, V: SameClone>(
+// Clones of a key and a value.
+fn cloned_pair<K: IndexKey + SameClone, V: SameClone>(
     key: &K,
     value: &V,
-) -> Result<Command<K, V>, AllocError>
-    ensures { IfOk result (IsSameCommand K.cmp K.seen V.seen (Command.Insert key.now value.now)) }
+) -> Result<(K, V), AllocError>
+    ensures key { IfOk result (λ pair. IsSameKey K.cmp K.seen key.now pair.0) }
+    ensures value { IfOk result (λ pair. V.seen value.now ≡ V.seen pair.1) }
 {
-    Ok(Command::Insert(key.clone()?, value.clone()?))
+    Ok((key.clone()?, value.clone()?))
 }
 
 // Adds a record, for which there is room.

@@ -1,4 +1,7 @@
 //! Worked calls of the index, its runs and its state.
+mod comparison;
+mod edits;
+
 ghost use Rattle.std.proofs.Common.{rules};
 ghost use Rattle.tree_array.specs.Keys.{equal_numbers};
 

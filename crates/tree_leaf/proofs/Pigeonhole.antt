@@ -1,10 +1,12 @@
--- Numbers in use, each at most once, are no more than an arena has slots.
-use Rattle.std.proofs.Common.{◌≡◌, ℕ, zero, suc, ◌+◌, ◌<◌, ◌≤◌, cond, List, [], ◌∷◌, length, IsSome, nat_lt, refl, arith}
+-- Numbers in use, each at most once, are no more than an arena counts.
+use Rattle.std.proofs.Common.{◌≡◌, ℕ, zero, suc, ◌+◌, ◌<◌, ◌≤◌, cond, List, [], ◌∷◌, length, take, count_by, Option, None, is_some, IsSome, nat_lt, refl, ap, arith}
 use Rattle.std.proofs.lemmas.Bool.Decides.{nat_tests}
-use Rattle.std.proofs.lemmas.List.{get_or_past}
-use Rattle.slab.specs.Slab.{Slab, get}
+use Rattle.std.proofs.lemmas.List.{get_or_past, take_all}
+use Rattle.std.proofs.lemmas.List.Sums.{sum_by-cons}
+use Rattle.std.specs.List.{slice_index_or}
+use Rattle.slab.specs.Slab.{Slab, get, slab_len}
 use Rattle.tree_leaf.specs.Counting.{times, uses}
-use Rattle.tree_leaf.proofs.Counts.{times-nil, times-cons, one_here, uses_le_one, in_use}
+use Rattle.tree_leaf.proofs.Counts.{times-nil, times-cons, one_here, in_use}
 
 -- how many of the numbers are below a bound
 below_count : ℕ → List ℕ → ℕ
@@ -21,11 +23,6 @@ unfolding below_count
 below_zero [] = refl
 below_zero (x ∷ xs) = grind (arith, nat_tests, below_zero xs)
 
--- numbers, each at most once, of which those below a bound are no more than the bound
-below_le : (bound : ℕ) (xs : List ℕ) → ((n : ℕ) → times n xs ≤ 1) → below_count bound xs ≤ bound
-below_le zero xs once = omega (arith, below_zero xs)
-below_le (suc bound) xs once = omega (arith, below_more bound xs, below_le bound xs once, once bound)
-
 below_all : (bound : ℕ) (xs : List ℕ) → ((n : ℕ) → 1 ≤ times n xs → n < bound) → below_count bound xs ≡ length xs
 unfolding below_count
 below_all bound [] within = refl
@@ -34,13 +31,28 @@ below_all bound (x ∷ xs) within =
     let rest = below_all bound xs (λ n inside. within n (omega (arith, times-cons n x xs))) in
     grind (arith, nat_tests)
 
-pub once_fits : {T : Type 0} (arena : Slab T) (xs : List ℕ) → ((n : ℕ) → times n xs ≤ uses arena n) → length xs ≤ length arena.slots
-once_fits arena xs once =
-    omega (
-      arith,
-      below_all (length arena.slots) xs (λ n inside. within n (in_use arena n (omega (arith, once n)))),
-      below_le (length arena.slots) xs (λ n. omega (arith, once n, uses_le_one arena n)),
-    )
-  where
-    within : (n : ℕ) → IsSome (get arena n) → n < length arena.slots
-    within n present = grind (arith, get_or_past)
+module _ {T : Type 0} where
+  used_more : (slots : List (Option T)) (n : ℕ) → count_by is_some (take (suc n) slots) ≡ count_by is_some (take n slots) + cond (is_some (slice_index_or slots n None)) 1 0
+  used_more [] zero = refl
+  used_more [] (suc n) = refl
+  used_more (slot ∷ slots) zero = refl
+  used_more (slot ∷ slots) (suc n) =
+      omega (arith, used_more slots n, sum_by-cons (λ x. cond (is_some x) 1 0) slot (take (suc n) slots), sum_by-cons (λ x. cond (is_some x) 1 0) slot (take n slots))
+
+  -- those below a bound are no more than the slots below it that are in use
+  below_few : (arena : Slab T) (xs : List ℕ) → ((n : ℕ) → times n xs ≤ uses arena n) → (bound : ℕ) → below_count bound xs ≤ count_by is_some (take bound arena.slots)
+  unfolding uses
+  below_few arena xs once zero = omega (arith, below_zero xs)
+  below_few arena xs once (suc bound) = omega (arith, below_more bound xs, below_few arena xs once bound, once bound, used_more arena.slots bound)
+
+  pub once_fits : (arena : Slab T) (xs : List ℕ) → ((n : ℕ) → times n xs ≤ uses arena n) → length xs ≤ slab_len arena
+  once_fits arena xs once =
+      omega (
+        arith,
+        below_all (length arena.slots) xs (λ n inside. within n (in_use arena n (omega (arith, once n)))),
+        below_few arena xs once (length arena.slots),
+        ap (count_by is_some) (take_all (length arena.slots) arena.slots (omega arith)),
+      )
+    where
+      within : (n : ℕ) → IsSome (get arena n) → n < length arena.slots
+      within n present = grind (arith, get_or_past)

@@ -1,5 +1,5 @@
 -- The way that links lead from a leaf: which leaves they pass, that it ends, and where a jump lands.
-use Rattle.std.proofs.Common.{◌≡◌, ℕ, zero, suc, ◌<◌, ◌≤◌, ◌==◌, Bool, true, false, List, [], ◌∷◌, ◌++◌, length, Option, Some, None, IsSome, refl, sym, ◌∙◌, IsTrue, ◌↔◌, arith, length-append}
+use Rattle.std.proofs.Common.{is_some, ◌≡◌, ℕ, zero, suc, ◌<◌, ◌≤◌, ◌==◌, Bool, true, false, List, [], ◌∷◌, ◌++◌, length, Option, Some, None, IsSome, refl, sym, ◌∙◌, IsTrue, ◌↔◌, arith, length-append}
 use mathlib.Core.List.{reverse_aux}
 use Rattle.std.proofs.lemmas.Bool.Decides.{nat_tests}
 use Rattle.std.proofs.lemmas.List.{length-reverse}
@@ -11,6 +11,7 @@ use Rattle.tree_leaf.specs.Chain.{first_or, last_or, IsBetween, AreLinked, IsCha
 use Rattle.tree_leaf.specs.Entries.{leaf_entries}
 use Rattle.tree_leaf.specs.Ways.{leaves_on, beside, landing}
 use Rattle.tree_leaf.proofs.Chains.{linked_left, linked_right, neighbours}
+use Rattle.std.proofs.lemmas.List.Sums.{count_by-le-length}
 use Rattle.tree_leaf.proofs.Pigeonhole.{once_fits}
 
 module _ {K V : Type 0} {LEN : ℕ} (leaves : Slab (LeafOf K V LEN)) (way : Way) where
@@ -129,7 +130,7 @@ module _ {K V : Type 0} {LEN : ℕ} (leaves : Slab (LeafOf K V LEN)) where
   none_passed way front id back leaf chain here = record {
     left = leaves_on way front back;
     leads = way_leads way front id back leaf chain here;
-    few = omega (arith, way_few way front id back, once_fits leaves (front ++ id ∷ back) chain.once);
+    few = omega (arith, way_few way front id back, once_fits leaves (front ++ id ∷ back) chain.once, count_by-le-length is_some leaves.slots);
     same = refl;
   }
 

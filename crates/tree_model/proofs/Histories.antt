@@ -7,11 +7,11 @@ use Rattle.std.specs.declared.cmp.Ordering.TheVariants.{Equal}
 use Rattle.std.specs.Ordering.{is_lt, is_eq, is_gt}
 use Rattle.std.proofs.lemmas.Cmp.{alike_right, tied_itself}
 use Rattle.tree_model.specs.declared.commands.Command.{Command}
-use Rattle.tree_model.specs.declared.commands.Command.TheVariants.{Insert, Peek}
+use Rattle.tree_model.specs.declared.commands.Command.TheVariants.{Insert, Upsert, Remove, Peek}
 use Rattle.tree_model.specs.declared.commands.Reply.{Reply}
-use Rattle.tree_model.specs.declared.commands.Reply.TheVariants.{Stored, Duplicate, Found, Refused}
+use Rattle.tree_model.specs.declared.commands.Reply.TheVariants.{Stored, Duplicate, Removed, Found, Refused}
 use Rattle.tree_model.specs.declared.commands.Record.{Record}
-use Rattle.tree_model.specs.Pairs.{below, pair_at, put}
+use Rattle.tree_model.specs.Pairs.{below, IsAbsent, IsPresent, pair_at, put, without}
 use Rattle.tree_model.specs.Runs.{Step}
 use Rattle.tree_model.specs.History.{IsAnswered, Replays, IsSameKey, IsSamePairs, IsSameCommand, IsSameReply, IsHistoryOf}
 
@@ -62,24 +62,63 @@ module _ {K V A B : Type 0} {cmp : K → K → Ordering} (o : IsTotalOrder cmp) 
   same-put : (ps qs : List (K × V)) (value v : V) → seen value ≡ seen v → IsSamePairs cmp seen_key seen ps qs → IsSamePairs cmp seen_key seen (put cmp ps key value) (put cmp qs k v)
   same-put ps qs value v e h = same-append cmp seen_key seen (below cmp ps key) (below cmp qs k) _ _ (same-filter is_lt ps qs h) (same_key, e, same-filter is_gt ps qs h)
 
+  same-without : (ps qs : List (K × V)) → IsSamePairs cmp seen_key seen ps qs → IsSamePairs cmp seen_key seen (without cmp ps key) (without cmp qs k)
+  same-without ps qs h = same-append cmp seen_key seen (below cmp ps key) (below cmp qs k) _ _ (same-filter is_lt ps qs h) (same-filter is_gt ps qs h)
+
+  -- it is absent from both, or present in both
+  absent_too : (ps qs : List (K × V)) → IsSamePairs cmp seen_key seen ps qs → IsAbsent cmp ps key → IsAbsent cmp qs k
+  absent_too ps qs h = both_none _ _ _ _ (same_at ps qs h)
+
+  present_too : (ps qs : List (K × V)) → IsSamePairs cmp seen_key seen ps qs → IsPresent cmp ps key → IsPresent cmp qs k
+  present_too ps qs h = both_some _ _ _ _ (same_at ps qs h)
+
+  present_back : (ps qs : List (K × V)) → IsSamePairs cmp seen_key seen ps qs → IsPresent cmp qs k → IsPresent cmp ps key
+  present_back ps qs h = both_some _ _ _ _ (sym (same_at ps qs h))
+
 -- A step on the entries is the same step, of the clones, on what the history replays to.
-same_step : {K V A B : Type 0} {cmp : K → K → Ordering} (o : IsTotalOrder cmp) (seen_key : K → A) (seen : V → B) (old new l : List (K × V)) (command c : Command K V) (reply r : Reply V) → IsSamePairs cmp seen_key seen old l → IsSameCommand cmp seen_key seen command c → IsSameReply cmp seen_key seen reply r → Step cmp seen old command reply new → (m : List (K × V)) × Step cmp seen l c r m × IsSamePairs cmp seen_key seen new m
-same_step {cmp = cmp} o seen_key seen old new l (Insert key value) (Insert k v) Stored Stored h same e step =
-    (put cmp l k v, (both_none _ _ _ _ (same_at o seen_key seen key k same.0 old l h) step.0, refl), rw step.1 (same-put o seen_key seen key k same.0 old l value v same.1 h))
-same_step {cmp = cmp} o seen_key seen old new l (Insert key value) (Insert k v) Duplicate Duplicate h same e step =
-    (l, (both_some _ _ _ _ (same_at o seen_key seen key k same.0 old l h) step.0, refl), rw step.1 h)
-same_step {cmp = cmp} o seen_key seen old new l (Insert key value) (Insert k v) Refused Refused h same e step =
-    (l, (both_none _ _ _ _ (same_at o seen_key seen key k same.0 old l h) step.0, refl), rw step.1 h)
-same_step o seen_key seen old new l (Insert key value) (Insert k v) (Found f) r h same e step = absurd step
-same_step {cmp = cmp} o seen_key seen old new l (Peek key) (Peek k) (Found found) (Found f) h same e step =
-    (l, (sym e ∙ step.0 ∙ same_at o seen_key seen key k same old l h, refl), rw step.1 h)
-same_step {cmp = cmp} o seen_key seen old new l (Peek key) (Peek k) Refused Refused h same e step =
-    (l, (both_some _ _ _ _ (same_at o seen_key seen key k same old l h) step.0, refl), rw step.1 h)
-same_step o seen_key seen old new l (Peek key) (Peek k) Stored r h same e step = absurd step
-same_step o seen_key seen old new l (Peek key) (Peek k) Duplicate r h same e step = absurd step
-same_step o seen_key seen old new l (Insert key value) (Peek k) reply r h same e step = absurd same
-same_step o seen_key seen old new l (Peek key) (Insert k v) reply r h same e step = absurd same
-same_step o seen_key seen old new l command c reply r h same e step = absurd e
+abbrev StepsAlike : {K V A B : Type 0} → (K → K → Ordering) → (K → A) → (V → B) → List (K × V) → Command K V → Reply V → List (K × V) → Type 0
+StepsAlike {K} {V} cmp seen_key seen l c r new = (m : List (K × V)) × Step cmp seen l c r m × IsSamePairs cmp seen_key seen new m
+
+module _ {K V A B : Type 0} {cmp : K → K → Ordering} (o : IsTotalOrder cmp) (seen_key : K → A) (seen : V → B) (old new l : List (K × V)) (h : IsSamePairs cmp seen_key seen old l) (key k : K) (same_key : IsSameKey cmp seen_key key k) where
+  same_insert : (value v : V) → seen value ≡ seen v → (reply r : Reply V) → IsSameReply cmp seen_key seen reply r → Step cmp seen old (Insert key value) reply new → StepsAlike cmp seen_key seen l (Insert k v) r new
+  same_insert value v alike Stored Stored e step = (put cmp l k v, (absent_too o seen_key seen key k same_key old l h step.0, refl), rw step.1 (same-put o seen_key seen key k same_key old l value v alike h))
+  same_insert value v alike Duplicate Duplicate e step = (l, (present_too o seen_key seen key k same_key old l h step.0, refl), rw step.1 h)
+  same_insert value v alike Refused Refused e step = (l, (absent_too o seen_key seen key k same_key old l h step.0, refl), rw step.1 h)
+  same_insert value v alike (Removed was) r e step = absurd step
+  same_insert value v alike (Found found) r e step = absurd step
+  same_insert value v alike reply r e step = absurd e
+
+  same_upsert : (value v : V) → seen value ≡ seen v → (reply r : Reply V) → IsSameReply cmp seen_key seen reply r → Step cmp seen old (Upsert key value) reply new → StepsAlike cmp seen_key seen l (Upsert k v) r new
+  same_upsert value v alike Stored Stored e step = (put cmp l k v, refl, rw step (same-put o seen_key seen key k same_key old l value v alike h))
+  same_upsert value v alike Refused Refused e step = (l, refl, rw step h)
+  same_upsert value v alike Duplicate r e step = absurd step
+  same_upsert value v alike (Removed was) r e step = absurd step
+  same_upsert value v alike (Found found) r e step = absurd step
+  same_upsert value v alike reply r e step = absurd e
+
+  same_remove : (reply r : Reply V) → IsSameReply cmp seen_key seen reply r → Step cmp seen old (Remove key) reply new → StepsAlike cmp seen_key seen l (Remove k) r new
+  same_remove (Removed was) (Removed w) e step =
+      (without cmp l k, (((λ yes. present_too o seen_key seen key k same_key old l h (step.0.0 (e ∙ yes))), (λ there. sym e ∙ step.0.1 (present_back o seen_key seen key k same_key old l h there))), refl), rw step.1 (same-without o seen_key seen key k same_key old l h))
+  same_remove Stored r e step = absurd step
+  same_remove Duplicate r e step = absurd step
+  same_remove (Found found) r e step = absurd step
+  same_remove Refused r e step = absurd step
+  same_remove reply r e step = absurd e
+
+  same_peek : (reply r : Reply V) → IsSameReply cmp seen_key seen reply r → Step cmp seen old (Peek key) reply new → StepsAlike cmp seen_key seen l (Peek k) r new
+  same_peek (Found found) (Found f) e step = (l, (sym e ∙ step.0 ∙ same_at o seen_key seen key k same_key old l h, refl), rw step.1 h)
+  same_peek Refused Refused e step = (l, (present_too o seen_key seen key k same_key old l h step.0, refl), rw step.1 h)
+  same_peek Stored r e step = absurd step
+  same_peek Duplicate r e step = absurd step
+  same_peek (Removed was) r e step = absurd step
+  same_peek reply r e step = absurd e
+
+same_step : {K V A B : Type 0} {cmp : K → K → Ordering} (o : IsTotalOrder cmp) (seen_key : K → A) (seen : V → B) (old new l : List (K × V)) (command c : Command K V) (reply r : Reply V) → IsSamePairs cmp seen_key seen old l → IsSameCommand cmp seen_key seen command c → IsSameReply cmp seen_key seen reply r → Step cmp seen old command reply new → StepsAlike cmp seen_key seen l c r new
+same_step o seen_key seen old new l (Insert key value) (Insert k v) reply r h same e step = same_insert o seen_key seen old new l h key k same.0 value v same.1 reply r e step
+same_step o seen_key seen old new l (Upsert key value) (Upsert k v) reply r h same e step = same_upsert o seen_key seen old new l h key k same.0 value v same.1 reply r e step
+same_step o seen_key seen old new l (Remove key) (Remove k) reply r h same e step = same_remove o seen_key seen old new l h key k same reply r e step
+same_step o seen_key seen old new l (Peek key) (Peek k) reply r h same e step = same_peek o seen_key seen old new l h key k same reply r e step
+same_step o seen_key seen old new l command c reply r h same e step = absurd same
 
 -- the history with the record replays to the entries after the step
 pub history_grows : {K V A B : Type 0} {cmp : K → K → Ordering} (o : IsTotalOrder cmp) (seen_key : K → A) (seen : V → B) (history : List (Record K V)) (old new : List (K × V)) (command : Command K V) (reply : Reply V) (kept : Record K V) → IsHistoryOf cmp seen_key seen history old → Step cmp seen old command reply new → IsAnswered kept.reply → IsSameCommand cmp seen_key seen command kept.command → IsSameReply cmp seen_key seen reply kept.reply → IsHistoryOf cmp seen_key seen (history ++ kept ∷ []) new
@@ -101,11 +140,12 @@ one_step : {K V S : Type 0} (cmp : K → K → Ordering) (seen : V → S) (old l
 one_step cmp seen old l m (Insert k v) Stored h i = h.1 ∙ sym i.1
 one_step cmp seen old l m (Insert k v) Duplicate h i = h.1 ∙ sym i.1
 one_step cmp seen old l m (Insert k v) Refused h i = h.1 ∙ sym i.1
-one_step cmp seen old l m (Insert k v) (Found found) h i = absurd h
+one_step cmp seen old l m (Upsert k v) Stored h i = h ∙ sym i
+one_step cmp seen old l m (Upsert k v) Refused h i = h ∙ sym i
+one_step cmp seen old l m (Remove k) (Removed was) h i = h.1 ∙ sym i.1
 one_step cmp seen old l m (Peek k) (Found found) h i = h.1 ∙ sym i.1
 one_step cmp seen old l m (Peek k) Refused h i = h.1 ∙ sym i.1
-one_step cmp seen old l m (Peek k) Stored h i = absurd h
-one_step cmp seen old l m (Peek k) Duplicate h i = absurd h
+one_step cmp seen old l m command reply h i = absurd h
 
 -- a history replays to one list
 pub one_replay : {K V S : Type 0} (cmp : K → K → Ordering) (seen : V → S) (old : List (K × V)) (history : List (Record K V)) (l m : List (K × V)) → Replays cmp seen old history l → Replays cmp seen old history m → l ≡ m

@@ -1,5 +1,5 @@
 -- What a binary search for a key answers in an ascending list of pairs.
-use Rattle.std.proofs.Common.{◌≡◌, ℕ, zero, suc, ◌<◌, ◌≤◌, List, [], ◌∷◌, ◌++◌, length, take, drop, slice_get, refl, rules, sym, ap, ◌∙◌, take-append-drop, arith, IsSome, Result, Ok, Err, IfOk, IfErr}
+use Rattle.std.proofs.Common.{◌≡◌, ℕ, zero, suc, ◌<◌, ◌≤◌, List, [], ◌∷◌, ◌++◌, length, take, drop, slice_get, refl, rules, sym, ap, ◌∙◌, take-append-drop, arith, IsSome, Some, Result, Ok, Err, IfOk, IfErr, get_or}
 use Rattle.std.specs.Cmp.{IsTotalOrder}
 use Rattle.std.specs.List.{AllByRecursion, HoldsAt, insert, remove, slice_set}
 use Rattle.std.specs.List.Sorted.{IsNonDecreasingBy, IsPartitionPoint, IsSearchInRange, IsBinarySearchResult}
@@ -8,7 +8,8 @@ use Rattle.std.specs.declared.cmp.Ordering.TheVariants.{Less, Equal, Greater}
 use Rattle.std.specs.Ordering.{ordering_index, is_lt, is_eq, is_gt}
 use Rattle.std.proofs.lemmas.Cmp.{tied_back}
 use Rattle.std.proofs.lemmas.List.Elements.{All-from_recursion, recursion_from_All}
-use Rattle.tree_model.specs.Pairs.{IsAscending, IsPresent, put, without}
+use Rattle.std.proofs.lemmas.Option.{slice_get_read}
+use Rattle.tree_model.specs.Pairs.{IsAscending, IsPresent, pair_at, put, without}
 use Rattle.tree_model.specs.Places.{IsPlace, IsGap}
 use Rattle.tree_model.proofs.Order.{greater_from_less, less_from_greater, alike, alike_after}
 use Rattle.tree_model.proofs.Lists.{all_map, filter_none, filter_all, find_none}
@@ -101,3 +102,7 @@ module _ {K V : Type 0} (cmp : K → K → Ordering) (l : List (K × V)) (k : K)
   -- a key at its place is present
   pub place_present : IsPlace cmp l k i → IsPresent cmp l k
   place_present place = rw (← place.here) (slice_get_there l i place.inside)
+
+  -- the pair that is read at the place of a key is that of the key
+  pub pair_read : (pair : K × V) → IsPlace cmp l k i → pair ≡ get_or l i pair → pair_at cmp l k ≡ Some pair
+  pair_read pair place read = sym place.here ∙ slice_get_read l (length l) i pair refl place.inside read

@@ -3,9 +3,9 @@ use Rattle.std.specs.Prelude.{◌≡◌, List, [], ◌∷◌, ◌++◌, ⊤, opt
 use Rattle.std.specs.declared.cmp.Ordering.{Ordering}
 use Rattle.std.specs.declared.cmp.Ordering.TheVariants.{Equal}
 use Rattle.tree_model.specs.declared.commands.Command.{Command}
-use Rattle.tree_model.specs.declared.commands.Command.TheVariants.{Insert, Peek}
+use Rattle.tree_model.specs.declared.commands.Command.TheVariants.{Insert, Upsert, Remove, Peek}
 use Rattle.tree_model.specs.declared.commands.Reply.{Reply}
-use Rattle.tree_model.specs.declared.commands.Reply.TheVariants.{Stored, Duplicate, Found, Refused}
+use Rattle.tree_model.specs.declared.commands.Reply.TheVariants.{Stored, Duplicate, Removed, Found, Refused}
 use Rattle.tree_model.specs.declared.commands.Record.{Record}
 use Rattle.tree_model.specs.Runs.{Step}
 
@@ -18,6 +18,7 @@ pub record Log (K V : Type 0) : Type 0 where
 abbrev pub IsAnswered : {V : Type 0} → Reply V → Type 0
 IsAnswered Stored = ⊤
 IsAnswered Duplicate = ⊤
+IsAnswered (Removed was) = ⊤
 IsAnswered (Found found) = ⊤
 IsAnswered Refused = ⊥
 
@@ -40,13 +41,15 @@ module _ {K V A B : Type 0} (cmp : K → K → Ordering) (seen_key : K → A) (s
 
   abbrev pub IsSameCommand : Command K V → Command K V → Type 0
   IsSameCommand (Insert key value) (Insert k v) = IsSameKey cmp seen_key key k × (seen value ≡ seen v)
+  IsSameCommand (Upsert key value) (Upsert k v) = IsSameKey cmp seen_key key k × (seen value ≡ seen v)
+  IsSameCommand (Remove key) (Remove k) = IsSameKey cmp seen_key key k
   IsSameCommand (Peek key) (Peek k) = IsSameKey cmp seen_key key k
-  IsSameCommand (Insert key value) (Peek k) = ⊥
-  IsSameCommand (Peek key) (Insert k v) = ⊥
+  IsSameCommand _ _ = ⊥
 
   abbrev pub IsSameReply : Reply V → Reply V → Type 0
   IsSameReply Stored Stored = ⊤
   IsSameReply Duplicate Duplicate = ⊤
+  IsSameReply (Removed was) (Removed w) = was ≡ w
   IsSameReply (Found found) (Found f) = option_map seen found ≡ option_map seen f
   IsSameReply Refused Refused = ⊤
   IsSameReply _ _ = ⊥

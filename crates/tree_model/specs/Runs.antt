@@ -1,11 +1,11 @@
 -- Commands, one after another, on a list of pairs. `seen` is what contracts see of a value, which a clone keeps.
-use Rattle.std.specs.Prelude.{◌≡◌, List, [], ◌∷◌, option_map}
+use Rattle.std.specs.Prelude.{◌≡◌, ◌↔◌, IsTrue, List, [], ◌∷◌, option_map}
 use Rattle.std.specs.declared.cmp.Ordering.{Ordering}
 use Rattle.tree_model.specs.declared.commands.Command.{Command}
-use Rattle.tree_model.specs.declared.commands.Command.TheVariants.{Insert, Peek}
+use Rattle.tree_model.specs.declared.commands.Command.TheVariants.{Insert, Upsert, Remove, Peek}
 use Rattle.tree_model.specs.declared.commands.Reply.{Reply}
-use Rattle.tree_model.specs.declared.commands.Reply.TheVariants.{Stored, Duplicate, Found, Refused}
-use Rattle.tree_model.specs.Pairs.{IsPresent, IsAbsent, pair_at, put}
+use Rattle.tree_model.specs.declared.commands.Reply.TheVariants.{Stored, Duplicate, Removed, Found, Refused}
+use Rattle.tree_model.specs.Pairs.{IsPresent, IsAbsent, pair_at, put, without}
 
 module _ {K V S : Type 0} (cmp : K → K → Ordering) (seen : V → S) where
   -- From old, the command may be answered by the reply, and leaves new.
@@ -13,11 +13,12 @@ module _ {K V S : Type 0} (cmp : K → K → Ordering) (seen : V → S) where
   Step old (Insert k v) Stored new = IsAbsent cmp old k × (new ≡ put cmp old k v)
   Step old (Insert k v) Duplicate new = IsPresent cmp old k × (new ≡ old)
   Step old (Insert k v) Refused new = IsAbsent cmp old k × (new ≡ old)
-  Step old (Insert k v) (Found found) new = ⊥
+  Step old (Upsert k v) Stored new = new ≡ put cmp old k v
+  Step old (Upsert k v) Refused new = new ≡ old
+  Step old (Remove k) (Removed was) new = (IsTrue was ↔ IsPresent cmp old k) × (new ≡ without cmp old k)
   Step old (Peek k) (Found found) new = (option_map seen found ≡ option_map (λ pair. seen pair.1) (pair_at cmp old k)) × (new ≡ old)
   Step old (Peek k) Refused new = IsPresent cmp old k × (new ≡ old)
-  Step old (Peek k) Stored new = ⊥
-  Step old (Peek k) Duplicate new = ⊥
+  Step old _ _ new = ⊥
 
   -- From old, the commands may be answered by the replies, one after another, and leave new.
   abbrev pub Runs : List (K × V) → List (Command K V) → List (Reply V) → List (K × V) → Type 0

@@ -8,6 +8,10 @@ use std::fmt;
 pub enum Command<K, V> {
     /// Stores a pair whose key is absent.
     Insert(K, V),
+    /// Stores a pair, in place of one whose key equals its own.
+    Upsert(K, V),
+    /// Removes the pair at a key.
+    Remove(K),
     /// Looks a key up.
     Peek(K),
 }
@@ -19,6 +23,8 @@ pub enum Reply<V> {
     Stored,
     /// The key is present, and nothing changed.
     Duplicate,
+    /// Whether there was a pair at the key, which is gone.
+    Removed(bool),
     /// The value at the key, if the key is present.
     Found(Option<V>),
     /// Memory was refused, and nothing changed.

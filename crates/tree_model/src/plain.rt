@@ -1,9 +1,10 @@
 //! The plain program: an index over one ascending vector, against which others are compared.
-ghost use Rattle.std.specs.Prelude.{◌≡◌, ◌≤◌, ◌↔◌, IsTrue, List, [], length, IfOk, IfErr};
-ghost use Rattle.std.specs.Option.{option_copied, option_map};
+ghost use Rattle.std.specs.Prelude.{◌≡◌, ◌≤◌, ◌↔◌, IsTrue, List, [], length, IfOk, IfErr, OnErr};
+ghost use Rattle.std.specs.Fn.{FnOnceReturnsAt, FnOnceTakesAt};
+ghost use Rattle.std.specs.Option.{ForSome, option_copied, option_map};
 ghost use Rattle.std.specs.Range.Bound.{bound_map};
-ghost use Rattle.tree_model.specs.Pairs.{IsAscending, IsPresent, pair_at, without, cut};
-ghost use Rattle.tree_model.specs.Edits.{Inserts, Upserts};
+ghost use Rattle.tree_model.specs.Pairs.{IsAbsent, IsAscending, IsPresent, pair_at, without, cut};
+ghost use Rattle.tree_model.specs.Edits.{Inserts, RemovesIf, Upserts};
 ghost use Rattle.tree_model.specs.Places.{IsPlace, IsGap};
 
 use crate::bounds::range_contains;
@@ -89,7 +90,8 @@ impl<K: Ord + Drop, V: Drop> PlainIndex<K, V> {
     ///
     /// Only memory for an absent key can be refused: the pair comes back, and the index is as it was.
     pub fn upsert(&mut self, key: K, value: V) -> Result<(), (K, V)>
-        ensures { Upserts K.cmp self.old key value result self.new }
+        ensures edit { Upserts K.cmp self.old key value result self.new }
+        ensures refused { OnErr result (IsAbsent K.cmp self.old key) }
     {
         match self.place_of(&key) {
             Ok(place) => {
@@ -124,6 +126,24 @@ impl<K: Ord + Drop, V: Drop> PlainIndex<K, V> {
             }
             Err(_) => false,
         }
+    }
+
+    /// Removes the pair at a key where the condition says so of its value, and says whether it did.
+    ///
+    /// The condition is asked once if the key is present, else never. Caller's condition: it may be
+    /// asked of the value at the key.
+    pub fn remove_if<F: FnOnce(&V) -> bool + Drop>(&mut self, key: &K, condition: F) -> bool
+        requires { ForSome (pair_at K.cmp self.old key.now) (λ pair. FnOnceTakesAt F.FnOnce condition pair.1) }
+        ensures { RemovesIf K.cmp (FnOnceReturnsAt F.FnOnce condition) self.old key.now result self.new }
+    {
+        let Ok(place) = self.place_of(key) else {
+            return false;
+        };
+        if !condition(&self.pairs[place].1) {
+            return false;
+        }
+        let _ = self.pairs.remove(place);
+        true
     }
 
     /// Removes each pair whose key is within both bounds.

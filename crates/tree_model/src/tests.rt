@@ -4,14 +4,13 @@ use std::alloc::Global;
 use std::ops::Bound;
 use std::test::Fail;
 
-// The index of these keys, each with ten times itself.
+// The index of these keys, each with ten times itself; a refused pair is stored at the second try.
 fn index_of(alloc: Global, keys: &[u64]) -> Result<PlainIndex<u64, u64>, Fail> {
     let mut index = PlainIndex::new(alloc);
     for key in keys {
-        index
-            .upsert(*key, key.saturating_mul(10))
-            .ok()
-            .ok_or("memory")?;
+        if let Err((key, value)) = index.upsert(*key, key.saturating_mul(10)) {
+            index.upsert(key, value).ok().ok_or("memory")?;
+        }
     }
     Ok(index)
 }
@@ -47,6 +46,28 @@ fn removes_and_clears(rt: HostRuntime) -> Result<(), Fail> {
     assert!(rt; !index.is_empty());
     index.clear();
     assert!(rt; index.is_empty());
+    Ok(())
+}
+
+// The condition is asked once of a key that is present, and never of an absent one.
+#[test]
+fn removes_by_value(rt: HostRuntime) -> Result<(), Fail> {
+    let mut index = index_of(rt.alloc(), &[1, 2, 3])?;
+    for (key, value, removed, times) in [
+        (2, 0, false, 1),
+        (2, 20, true, 1),
+        (2, 20, false, 0),
+        (3, 10, false, 1),
+    ] {
+        let mut asked = 0u64;
+        let answer = index.remove_if(&key, |stored| {
+            asked = asked.saturating_add(1);
+            *stored == value
+        });
+        assert_eq!(rt; answer, removed);
+        assert_eq!(rt; asked, times);
+    }
+    assert_eq!(rt; index.pairs(), [(1, 10), (3, 30)].as_slice());
     Ok(())
 }
 

@@ -120,6 +120,7 @@ module _ {K V : Type 0} {LEN : ℕ} {cmp : K → K → Ordering} (o : IsTotalOrd
         kind = s.kind;
         last = s.last;
         last_is = s.last_is;
+        few = s.few;
         parted = parted_changed o (Stands cmp level old) (Stands cmp level new) k low _ _ high s.parted
             (all_map (λ x same. same_stands cmp level old new x same) _ fronts)
             (rw chosen at keeps)
@@ -135,6 +136,7 @@ module _ {K V : Type 0} {LEN : ℕ} {cmp : K → K → Ordering} (o : IsTotalOrd
         kind = s.kind;
         last = s.last;
         last_is = s.last_is;
+        few = s.few;
         parted = parted_map cmp (Stands cmp level old) (Stands cmp level new) low _ _ high
             (rw (children_split (is_from cmp k) (keyed s.node).entries s.last, ← chosen)
             (all-append _ front (child ∷ back) (all_map (λ x same. same_stands cmp level old new x same) _ fronts) (keeps, all_map (λ x same. same_stands cmp level old new x same) _ backs)))

@@ -33,15 +33,15 @@ module _ {K : Type 0} (cmp : K → K → Ordering) (Child : Option K → ℕ →
       by_test false later = later
 
 module _ {K V : Type 0} {LEN : ℕ} (cmp : K → K → Ordering) where
-  stands_free_low : (level : ℕ) (a : TreeArenas K V LEN) (low : Option K) (id : ℕ) (high : Option K) → Stands cmp level a low id high → Stands cmp level a None id high
-  stands_free_low zero a low id high s = record { leaf = s.leaf; here = s.here; ascending = s.ascending; above = all_yes (λ p. tt) _; up_to = s.up_to }
+  pub stands_free_low : (level : ℕ) (a : TreeArenas K V LEN) (low : Option K) (id : ℕ) (high : Option K) → Stands cmp level a low id high → Stands cmp level a None id high
+  stands_free_low zero a low id high s = record { leaf = s.leaf; here = s.here; few = s.few; ascending = s.ascending; above = all_yes (λ p. tt) _; up_to = s.up_to }
   stands_free_low (suc level) a low id high s =
-      record { node = s.node; here = s.here; kind = s.kind; last = s.last; last_is = s.last_is; parted = parted_free_low cmp (Stands cmp level a) (stands_free_low level a) low _ _ high s.parted }
+      record { node = s.node; here = s.here; kind = s.kind; last = s.last; last_is = s.last_is; few = s.few; parted = parted_free_low cmp (Stands cmp level a) (stands_free_low level a) low _ _ high s.parted }
 
-  stands_free_high : (level : ℕ) (a : TreeArenas K V LEN) (low : Option K) (id : ℕ) (high : Option K) → Stands cmp level a low id high → Stands cmp level a low id None
-  stands_free_high zero a low id high s = record { leaf = s.leaf; here = s.here; ascending = s.ascending; above = s.above; up_to = all_yes (λ p. tt) _ }
+  pub stands_free_high : (level : ℕ) (a : TreeArenas K V LEN) (low : Option K) (id : ℕ) (high : Option K) → Stands cmp level a low id high → Stands cmp level a low id None
+  stands_free_high zero a low id high s = record { leaf = s.leaf; here = s.here; few = s.few; ascending = s.ascending; above = s.above; up_to = all_yes (λ p. tt) _ }
   stands_free_high (suc level) a low id high s =
-      record { node = s.node; here = s.here; kind = s.kind; last = s.last; last_is = s.last_is; parted = parted_free_high cmp (Stands cmp level a) (stands_free_high level a) low _ _ high s.parted }
+      record { node = s.node; here = s.here; kind = s.kind; last = s.last; last_is = s.last_is; few = s.few; parted = parted_free_high cmp (Stands cmp level a) (stands_free_high level a) low _ _ high s.parted }
 
 module _ {K V : Type 0} {LEN : ℕ} {cmp : K → K → Ordering} (o : IsTotalOrder cmp) (level : ℕ) (a : TreeArenas K V LEN) (id : ℕ) where
   -- the child that a key belongs to stands

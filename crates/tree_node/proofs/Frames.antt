@@ -85,6 +85,7 @@ module _ {K V : Type 0} {LEN : ℕ} (cmp : K → K → Ordering) where
       record {
         leaf = same.0;
         here = same.1;
+        few = rw same.2 s.few;
         ascending = rw same.2 s.ascending;
         above = rw same.2 s.above;
         up_to = rw same.2 s.up_to;
@@ -99,6 +100,7 @@ module _ {K V : Type 0} {LEN : ℕ} (cmp : K → K → Ordering) where
         kind = s.kind;
         last = s.last;
         last_is = s.last_is;
+        few = s.few;
         parted = parted_map cmp (Stands cmp level a) (Stands cmp level b) low _ _ high
             (rw (s.here, s.last_is) at (all_map (λ x below. same_stands level a b x below) _ (agrees_below level a b id same))) s.parted;
       }

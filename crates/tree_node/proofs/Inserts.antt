@@ -7,16 +7,16 @@ use Rattle.std.specs.Cmp.{IsTotalOrder}
 use Rattle.std.proofs.lemmas.Bool.{cases_eq}
 use Rattle.std.proofs.lemmas.List.{length-map}
 use Rattle.slab.specs.Slab.{get}
-use Rattle.tree_array.specs.declared.answers.InsertResult.{InsertResult}
-use Rattle.tree_array.specs.declared.answers.InsertResult.TheVariants.{Success, Duplicate, Full}
+use Rattle.tree_array.specs.declared.answers.StoreResult.{StoreResult}
+use Rattle.tree_array.specs.declared.answers.StoreResult.TheVariants.{New, Replaced, Duplicate, Full}
 use Rattle.tree_array.specs.Arrivals.{Arrivals, spend, spent_at}
-use Rattle.tree_array.specs.Insertion.{IsFull, IsInsert, IsStored}
+use Rattle.tree_array.specs.Insertion.{IsFull, IsStore, IsStored}
 use Rattle.tree_leaf.specs.declared.leaf.LeafOf.{LeafOf}
 use Rattle.tree_model.specs.Pairs.{AllLarger, put}
 use Rattle.tree_model.proofs.Ascending.{IsAscending-put}
 use Rattle.tree_model.proofs.Lists.{all-append, all-filter}
 use Rattle.tree_node.specs.Arenas.{TreeArenas}
-use Rattle.tree_node.specs.Inserts.{Inserts, InsertsUnder, asks_split}
+use Rattle.tree_node.specs.Inserts.{Inserts, InsertsUnder, asks_split, refused}
 use Rattle.tree_node.specs.Parts.{IsPart, Unchanged}
 use Rattle.tree_node.specs.Shape.{spare, leaf_free, slot_free}
 use Rattle.tree_node.specs.Tree.{HasChildFor, Stands, walk}
@@ -56,7 +56,7 @@ module _ {K V : Type 0} {LEN : ℕ} {cmp : K → K → Ordering} (o : IsTotalOrd
   kept same low high s =
       let both : Some s.leaf ≡ Some leaf = sym s.here ∙ was in
       let is : s.leaf ≡ leaf = cc in
-      record { leaf = record leaf { array = array }; here = here_now a id leaf array was; ascending = rw (same, ← is) s.ascending; above = rw (same, ← is) s.above; up_to = rw (same, ← is) s.up_to }
+      record { leaf = record leaf { array = array }; here = here_now a id leaf array was; few = rw (same, ← is) s.few; ascending = rw (same, ← is) s.ascending; above = rw (same, ← is) s.above; up_to = rw (same, ← is) s.up_to }
 
   as_spare : array ≡ leaf.array → spare 0 a id ≤ suc (spare 0 new id)
   as_spare same = rw (room_was, room_is, same) (omega arith)
@@ -73,24 +73,26 @@ module _ {K V : Type 0} {LEN : ℕ} {cmp : K → K → Ordering} (o : IsTotalOrd
   all_put P pairs here all = all-append P _ _ (all-filter P _ pairs all) (here, all-filter P _ pairs all)
 
   -- the pair was stored
-  success : IsStored cmp LEN upsert leaf.array key val array → InsertsUnder cmp upsert 0 a new id (Ok Success) key val
-  success ins = record {
-    pairs = rw (walk_was, walk_is) (ins.absent, entries);
+  success : (result : StoreResult K V) → refused {K = K} {V = V} (Ok result) ≡ false → asks_split {K = K} {V = V} (Ok result) ≡ false → Inserts cmp upsert (Ok result) leaf.array.entries key val array.entries
+      → IsStored cmp LEN upsert leaf.array key val array → InsertsUnder cmp upsert 0 a new id (Ok result) key val
+  success result taken no_split pairs ins = record {
+    pairs = rw (walk_was, walk_is) pairs;
     stands = λ low high above up_to s.
         let both : Some s.leaf ≡ Some leaf = sym s.here ∙ was in
         let is : s.leaf ≡ leaf = cc in
         record {
           leaf = record leaf { array = array };
           here = here_now a id leaf array was;
+          few = ins.few;
           ascending = rw entries (IsAscending-put o leaf.array.entries key val (rw is at s.ascending));
           above = rw entries (all_put _ leaf.array.entries above (rw is at s.above));
           up_to = rw entries (all_put _ leaf.array.entries up_to (rw is at s.up_to));
         };
     replaces = array_replaces a id leaf array was;
     lowers = rw (room_was, room_is, ins.new_is, ins.room.1) (omega (arith, more));
-    spent = λ so. absurd (cc);
-    full = λ so. absurd (cc);
-    unchanged = λ so. absurd (cc);
+    spent = λ so. absurd (let both = sym so ∙ taken in cc);
+    full = λ so. absurd (let both = sym so ∙ no_split in cc);
+    unchanged = λ so. absurd (let both = sym so ∙ no_split in cc);
   }
     where
       entries : array.entries ≡ put cmp leaf.array.entries key val
@@ -100,8 +102,9 @@ module _ {K V : Type 0} {LEN : ℕ} {cmp : K → K → Ordering} (o : IsTotalOrd
       more = omega (arith, length-append (spend cmp leaf.array.arrivals key) (Some (key, val) ∷ []), length-map leaf.array.arrivals (spent_at cmp key))
 
   -- what an array answers of an insert, of its leaf
-  pub inserts_in_leaf : (result : InsertResult K V) → IsInsert cmp LEN upsert leaf.array key val result array → InsertsUnder cmp upsert 0 a new id (Ok result) key val
-  inserts_in_leaf Success ins = success ins
+  pub inserts_in_leaf : (result : StoreResult K V) → IsStore cmp LEN upsert leaf.array key val result array → InsertsUnder cmp upsert 0 a new id (Ok result) key val
+  inserts_in_leaf New ins = success New refl refl (ins.1, rw ins.0.new_is refl) ins.0
+  inserts_in_leaf Replaced ins = success Replaced refl refl (ins.1, ins.2, rw ins.0.new_is refl) ins.0
   inserts_in_leaf (Duplicate k v) ins = record {
     pairs = rw (walk_was, walk_is) (ins.only_insert, ins.present, ins.back.same_key, ins.back.same_val, ap (λ (x : Arrivals K V). x.entries) ins.back.new_is);
     stands = λ low high above up_to s. kept ins.back.new_is low high s;
@@ -123,9 +126,11 @@ module _ {K V : Type 0} {LEN : ℕ} {cmp : K → K → Ordering} (o : IsTotalOrd
 
 module _ {K V : Type 0} {cmp : K → K → Ordering} (o : IsTotalOrder cmp) (upsert : Bool) (key : K) (val : V) (front old new back : List (K × V))
     (smaller : AllByRecursion (λ p. cmp p.0 key ≡ Less) front) (larger : AllLarger cmp key back) where
-  inserted_between : (result : Result (InsertResult K V) (K × V)) → Inserts cmp upsert result old key val new → Inserts cmp upsert result (front ++ (old ++ back)) key val (front ++ (new ++ back))
-  inserted_between (Ok Success) ins =
-      (λ first. found_between o key front old back smaller larger ∙ ins.0 first, rw (put_between o key front old back smaller larger val, ins.1) refl)
+  pub inserted_between : (result : Result (StoreResult K V) (K × V)) → Inserts cmp upsert result old key val new → Inserts cmp upsert result (front ++ (old ++ back)) key val (front ++ (new ++ back))
+  inserted_between (Ok New) ins =
+      (found_between o key front old back smaller larger ∙ ins.0, rw (put_between o key front old back smaller larger val, ins.1) refl)
+  inserted_between (Ok Replaced) ins =
+      (ins.0, rw (found_between o key front old back smaller larger) ins.1, rw (put_between o key front old back smaller larger val, ins.2) refl)
   inserted_between (Ok (Duplicate k v)) ins =
       (ins.0, rw (found_between o key front old back smaller larger) ins.1, ins.2, ins.3, rw ins.4 refl)
   inserted_between (Ok (Full k v)) ins =
@@ -135,7 +140,7 @@ module _ {K V : Type 0} {cmp : K → K → Ordering} (o : IsTotalOrder cmp) (ups
 
 module _ {K V : Type 0} {LEN : ℕ} {cmp : K → K → Ordering} (o : IsTotalOrder cmp) (upsert : Bool) (level : ℕ) (old new : TreeArenas K V LEN) (id child : ℕ) (key : K) (val : V) where
   -- an insert in the child, which asks for no split, is one in the node
-  pub inserts_in_node : (result : Result (InsertResult K V) (K × V)) → IsPart cmp (suc level) old id → HasChildFor cmp key (get old.nodes id) child
+  pub inserts_in_node : (result : Result (StoreResult K V) (K × V)) → IsPart cmp (suc level) old id → HasChildFor cmp key (get old.nodes id) child
       → InsertsUnder cmp upsert level old new child result key val → asks_split result ≡ false → InsertsUnder cmp upsert (suc level) old new id result key val
   inserts_in_node result part which ins no_split =
       let s : Stands cmp (suc level) old None id None = part.stands in

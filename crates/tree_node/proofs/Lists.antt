@@ -1,5 +1,5 @@
 -- Lists of lists.
-use Rattle.std.proofs.Common.{◌≡◌, List, [], ◌∷◌, refl}
+use Rattle.std.proofs.Common.{◌≡◌, List, [], ◌∷◌, ◌++◌, refl}
 use Rattle.std.specs.List.{flat_map, AllByRecursion}
 use Rattle.std.proofs.lemmas.List.Concat.{flat_map-append}
 
@@ -15,3 +15,8 @@ module _ {X : Type 0} where
   pub flat_map_same : {Y : Type 0} (f g : X → List Y) (xs : List X) → AllByRecursion (λ x. f x ≡ g x) xs → flat_map f xs ≡ flat_map g xs
   flat_map_same f g [] h = refl
   flat_map_same f g (x ∷ xs) h = rw (h.0, flat_map_same f g xs h.1) refl
+
+  -- what holds of all holds of one between others
+  pub all_middle : (P : X → Type 0) (front : List X) (x : X) (back : List X) → AllByRecursion P (front ++ x ∷ back) → P x
+  all_middle P [] x back each = each.0
+  all_middle P (y ∷ front) x back each = all_middle P front x back each.1

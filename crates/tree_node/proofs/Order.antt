@@ -4,7 +4,7 @@ use Rattle.std.specs.declared.cmp.Ordering.{Ordering}
 use Rattle.std.specs.declared.cmp.Ordering.TheVariants.{Less, Equal, Greater}
 use Rattle.std.specs.Ordering.{is_le, is_ge, ordering_reverse}
 use Rattle.std.specs.Cmp.{IsTotalOrder}
-use Rattle.tree_model.proofs.Order.{alike}
+use Rattle.tree_model.proofs.Order.{alike, alike_after}
 
 le_cases : (c : Ordering) → is_le c ≡ true → (c ≡ Less) ⊎ (c ≡ Equal)
 le_cases Less h = inl refl
@@ -26,6 +26,12 @@ module _ {K : Type 0} {cmp : K → K → Ordering} (o : IsTotalOrder cmp) where
   upto_less x y z le lt = elim (le_cases _ le) [
     | inl less ↦ o.trans x y z less lt
     | inr same ↦ alike o x y z Less same lt
+  ]
+
+  pub less_upto : (x y z : K) → cmp x y ≡ Less → is_le (cmp y z) ≡ true → cmp x z ≡ Less
+  less_upto x y z lt le = elim (le_cases _ le) [
+    | inl less ↦ o.trans x y z lt less
+    | inr same ↦ alike_after o y z x Less same lt
   ]
 
   pub upto_from_less : (x y : K) → cmp x y ≡ Less → is_le (cmp x y) ≡ true

@@ -1,5 +1,5 @@
 -- The child that a key belongs to is that of the least separator from the key on.
-use Rattle.std.proofs.Common.{◌≡◌, Bool, true, false, cond, List, [], ◌∷◌, Some, None, refl, ap}
+use Rattle.std.proofs.Common.{◌≡◌, Bool, true, false, cond, List, [], ◌∷◌, Option, Some, None, refl, sym, ap, ◌∙◌}
 use Rattle.std.specs.declared.cmp.Ordering.{Ordering}
 use Rattle.tree_array.specs.Arrivals.{least_from}
 use Rattle.tree_node.specs.Tree.{child_at, child_of, is_from}
@@ -29,3 +29,11 @@ module _ {K X : Type 0} (cmp : K → K → Ordering) (k : K) where
 
   pub routed_past : (pairs : List (K × X)) (last : X) → least_from cmp pairs k ≡ None → child_of cmp k pairs (Some last) ≡ Some last
   routed_past pairs last h = ap Some (past_separators pairs last h)
+
+  -- the child that was read from the slot of that separator
+  pub routed_by_slot : (pairs : List (K × X)) (last : X) {slot : Option (K × X)} (pair : K × X) (read : K × X) → slot ≡ Some pair → slot ≡ Some read → least_from cmp pairs k ≡ Some pair
+      → Some read.1 ≡ child_of cmp k pairs (Some last)
+  routed_by_slot pairs last pair read was is found =
+      let both : Some pair ≡ Some read = sym was ∙ is in
+      let same : pair ≡ read = cc in
+      ap (λ (c : K × X). Some c.1) (sym same) ∙ sym (routed_to pairs last pair found)

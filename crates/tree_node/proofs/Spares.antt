@@ -28,7 +28,7 @@ module _ {K V : Type 0} {LEN : ℕ} where
   slot_free_same (Some leaf) new same = rw (same.1, same.2) refl
 
   -- a part that stays has the same room
-  same_spare : (level : ℕ) (a b : TreeArenas K V LEN) (id : ℕ) → Agrees level a b id → spare level b id ≡ spare level a id
+  pub same_spare : (level : ℕ) (a b : TreeArenas K V LEN) (id : ℕ) → Agrees level a b id → spare level b id ≡ spare level a id
   same_spare level a b id same =
       rw (same_leaves level a b id same)
       (least_same LEN _ _ _ (each_of (leaves_at level a.nodes id) (λ n inside. slot_free_same _ _ (same.leaves n inside))))

@@ -1,5 +1,5 @@
 -- Two changes of a part, one after the other.
-use Rattle.std.proofs.Common.{ℕ, ◌≤◌, List, [], ◌∷◌, None, refl, sym, ap, ◌∙◌, arith}
+use Rattle.std.proofs.Common.{ℕ, ◌≤◌, List, [], ◌∷◌, None, refl, ap, ◌∙◌, arith}
 use Rattle.std.specs.declared.cmp.Ordering.{Ordering}
 use Rattle.slab.specs.Slab.{get}
 use Rattle.tree_leaf.specs.Counting.{times, uses}
@@ -7,7 +7,6 @@ use Rattle.tree_leaf.proofs.Chains.{same_array_refl, same_array_trans}
 use Rattle.tree_leaf.proofs.Counts.{uses_le_one, uses_some, in_use}
 use Rattle.tree_node.specs.Arenas.{TreeArenas}
 use Rattle.tree_node.specs.Parts.{IsPart, Replaces}
-use Rattle.tree_node.specs.Removes.{KeepsPart, Retires}
 use Rattle.tree_node.specs.Tree.{Stands}
 use Rattle.tree_node.proofs.Lifts.{single_leaves, single_nodes}
 
@@ -45,21 +44,4 @@ module _ {K V : Type 0} {LEN : ℕ} (cmp : K → K → Ordering) (level : ℕ) w
     front = part.front;
     back = part.back;
     chain = rw (single_leaves level new.nodes id) at (r.chained part.front part.back (rw (single_leaves level old.nodes id) part.chain));
-  }
-
-  -- children are dropped one after another
-  pub keeps_part_trans : (a b c : TreeArenas K V LEN) (id : ℕ) → KeepsPart cmp level a b id → KeepsPart cmp level b c id → KeepsPart cmp level a c id
-  keeps_part_trans a b c id first second = record {
-    pairs = second.pairs ∙ first.pairs;
-    keeps = λ low high s. second.keeps low high (first.keeps low high s);
-    replaces = replaces_trans level a b c (id ∷ []) (id ∷ []) (id ∷ []) first.replaces second.replaces;
-    more = omega (arith, first.more, second.more);
-  }
-
-  pub retires_trans : (a b c : TreeArenas K V LEN) (id : ℕ) → KeepsPart cmp level a b id → Retires level b c id → Retires level a c id
-  retires_trans a b c id first second = record {
-    pairs = sym first.pairs ∙ second.pairs;
-    retired = second.retired;
-    replaces = replaces_trans level a b c (id ∷ []) (id ∷ []) (id ∷ []) first.replaces second.replaces;
-    more = omega (arith, first.more, second.more);
   }

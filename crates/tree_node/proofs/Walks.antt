@@ -24,14 +24,14 @@ module _ {K : Type 0} {cmp : K → K → Ordering} (o : IsTotalOrder cmp) where
   above_next None s k p q = tt
   above_next (Some low) s k p q = o.trans low s k p q
 
-  up_to_next : (high : Option K) (s k : K) → IsBelow cmp s high → IsUpTo cmp k (Some s) → IsUpTo cmp k high
+  pub up_to_next : (high : Option K) (s k : K) → IsBelow cmp s high → IsUpTo cmp k (Some s) → IsUpTo cmp k high
   up_to_next None s k p q = tt
   up_to_next (Some high) s k p q = upto_from_less o k high (upto_less o k s high q p)
 
 module _ {K V : Type 0} {cmp : K → K → Ordering} (o : IsTotalOrder cmp) where
   -- parts between separators: the keys of all are between the outer bounds, those before the key's part below it, those behind it above it
   module _ (Child : Option K → ℕ → Option K → Type 0) (part : ℕ → List (K × V)) where
-    parted_above : ((low : Option K) (id : ℕ) (high : Option K) → Child low id high → AllByRecursion (λ p. IsAbove cmp low p.0) (part id))
+    pub parted_above : ((low : Option K) (id : ℕ) (high : Option K) → Child low id high → AllByRecursion (λ p. IsAbove cmp low p.0) (part id))
         → (low : Option K) (pairs : List (K × ℕ)) (last : ℕ) (high : Option K) → AreParted cmp Child low pairs last high
         → AllByRecursion (λ p. IsAbove cmp low p.0) (flat_map part (map (λ c. c.1) pairs ++ last ∷ []))
     parted_above each low [] last high parted = all-append _ (part last) [] (each low last high parted) tt

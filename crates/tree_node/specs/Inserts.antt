@@ -1,8 +1,10 @@
 -- What an insert under a number answers and leaves.
 use Rattle.std.specs.Prelude.{◌≡◌, ℕ, suc, ◌≤◌, Bool, true, false, List, [], ◌∷◌, Option, Result, Ok, Err}
 use Rattle.std.specs.declared.cmp.Ordering.{Ordering}
+use Rattle.tree_array.specs.Insertion.{as_insert}
 use Rattle.tree_array.specs.declared.answers.InsertResult.{InsertResult}
-use Rattle.tree_array.specs.declared.answers.InsertResult.TheVariants.{Success, Duplicate, Full}
+use Rattle.tree_array.specs.declared.answers.StoreResult.{StoreResult}
+use Rattle.tree_array.specs.declared.answers.StoreResult.TheVariants.{New, Replaced, Duplicate, Full}
 use Rattle.tree_model.specs.Pairs.{IsAbsent, IsPresent, put}
 use Rattle.tree_node.specs.Arenas.{TreeArenas}
 use Rattle.tree_node.specs.Tree.{IsAbove, IsUpTo, Stands, walk}
@@ -11,32 +13,40 @@ use Rattle.tree_node.specs.Shape.{spare, room}
 
 module _ {K V : Type 0} where
   -- there was no room, in the arrays or in memory
-  abbrev pub refused : Result (InsertResult K V) (K × V) → Bool
-  refused (Ok Success) = false
+  abbrev pub refused : Result (StoreResult K V) (K × V) → Bool
+  refused (Ok New) = false
+  refused (Ok Replaced) = false
   refused (Ok (Duplicate k v)) = false
   refused (Ok (Full k v)) = true
   refused (Err pair) = true
 
   -- a split is asked for
-  abbrev pub asks_split : Result (InsertResult K V) (K × V) → Bool
-  asks_split (Ok Success) = false
+  abbrev pub asks_split : Result (StoreResult K V) (K × V) → Bool
+  asks_split (Ok New) = false
+  asks_split (Ok Replaced) = false
   asks_split (Ok (Duplicate k v)) = false
   asks_split (Ok (Full k v)) = true
   asks_split (Err pair) = false
+
+  -- the answer without what was there before
+  abbrev pub plain_answer : Result (StoreResult K V) (K × V) → Result (InsertResult K V) (K × V)
+  plain_answer (Ok answer) = Ok (as_insert answer)
+  plain_answer (Err pair) = Err pair
 
 module _ {K V : Type 0} (cmp : K → K → Ordering) (upsert : Bool) where
   -- no pair with the key is there, where one would have been found first
   abbrev pub IsNew : List (K × V) → K → Type 0
   IsNew old key = upsert ≡ false → IsAbsent cmp old key
 
-  -- the pair is stored; or it comes back, and the list is what it was
-  abbrev pub Inserts : Result (InsertResult K V) (K × V) → List (K × V) → K → V → List (K × V) → Type 0
-  Inserts (Ok Success) old key val new = IsNew old key × (new ≡ put cmp old key val)
+  -- the pair is stored, as a new one or in place of one; or it comes back, and the list is what it was
+  abbrev pub Inserts : Result (StoreResult K V) (K × V) → List (K × V) → K → V → List (K × V) → Type 0
+  Inserts (Ok New) old key val new = IsAbsent cmp old key × (new ≡ put cmp old key val)
+  Inserts (Ok Replaced) old key val new = (upsert ≡ true) × IsPresent cmp old key × (new ≡ put cmp old key val)
   Inserts (Ok (Duplicate k v)) old key val new = (upsert ≡ false) × IsPresent cmp old key × (k ≡ key) × (v ≡ val) × (new ≡ old)
   Inserts (Ok (Full k v)) old key val new = IsNew old key × (k ≡ key) × (v ≡ val) × (new ≡ old)
   Inserts (Err pair) old key val new = IsNew old key × (pair.0 ≡ key) × (pair.1 ≡ val) × (new ≡ old)
 
-  pub record InsertsUnder {LEN : ℕ} (level : ℕ) (old new : TreeArenas K V LEN) (id : ℕ) (result : Result (InsertResult K V) (K × V)) (key : K) (val : V) : Type 0 where
+  pub record InsertsUnder {LEN : ℕ} (level : ℕ) (old new : TreeArenas K V LEN) (id : ℕ) (result : Result (StoreResult K V) (K × V)) (key : K) (val : V) : Type 0 where
     pub pairs : Inserts result (walk level old id) key val (walk level new id)
     -- the part stays between the bounds that it had, if the key is between them
     pub stands : (low high : Option K) → IsAbove cmp low key → IsUpTo cmp key high → Stands cmp level old low id high → Stands cmp level new low id high
@@ -47,3 +57,9 @@ module _ {K V : Type 0} (cmp : K → K → Ordering) (upsert : Bool) where
     -- a split is asked for only where the array right under the number has no room, and then nothing has changed
     pub full : asks_split result ≡ true → room level old id ≡ 0
     pub unchanged : asks_split result ≡ true → Unchanged old new
+
+  -- The same with the plain answer, which doesn't tell a new key from a replaced one.
+  pub record InsertsPlainly {LEN : ℕ} (level : ℕ) (old new : TreeArenas K V LEN) (id : ℕ) (result : Result (InsertResult K V) (K × V)) (key : K) (val : V) : Type 0 where
+    pub told : Result (StoreResult K V) (K × V)
+    pub plain : result ≡ plain_answer told
+    pub inserts : InsertsUnder level old new id told key val

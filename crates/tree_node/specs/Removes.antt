@@ -1,13 +1,21 @@
 -- What a removal under a number answers and leaves. `Says` tells what the condition answers of a value.
-use Rattle.std.specs.Prelude.{◌≡◌, ◌⊎◌, ℕ, ◌≤◌, Bool, true, false, List, [], ◌∷◌, Some}
+use Rattle.std.specs.Prelude.{◌≡◌, ◌⊎◌, ℕ, zero, suc, ◌≤◌, Bool, true, false, List, [], ◌∷◌, Option, None, Some, ⊤}
 use Rattle.std.specs.declared.cmp.Ordering.{Ordering}
 use Rattle.tree_array.specs.declared.answers.RemoveResult.{RemoveResult}
 use Rattle.tree_array.specs.declared.answers.RemoveResult.TheVariants.{Success, Retired, Fail}
 use Rattle.tree_model.specs.Pairs.{pair_at, without}
+use Rattle.slab.specs.Slab.{get}
+use Rattle.tree_node.specs.declared.node.NodeOf.{NodeOf}
 use Rattle.tree_node.specs.Arenas.{TreeArenas}
-use Rattle.tree_node.specs.Tree.{IsRetired, walk}
-use Rattle.tree_node.specs.Parts.{KeepsBounds, Replaces}
+use Rattle.tree_node.specs.Tree.{HasKind, IsRetired, walk}
+use Rattle.tree_node.specs.Parts.{KeepsBounds, Replaces, Unchanged}
 use Rattle.tree_node.specs.Shape.{spare}
+
+-- a node of the kind of this level
+abbrev pub IsOfLevel : {K : Type 0} {LEN : ℕ} → ℕ → Option (NodeOf K LEN) → Type 0
+IsOfLevel zero found = ⊤
+IsOfLevel (suc level) None = ⊥
+IsOfLevel (suc level) (Some node) = HasKind level node
 
 module _ {K V : Type 0} (cmp : K → K → Ordering) (Says : V → Bool → Type 0) where
   -- the pair with the key, of which the condition says yes, is gone
@@ -23,11 +31,11 @@ module _ {K V : Type 0} (cmp : K → K → Ordering) (Says : V → Bool → Type
   Removes Retired old key new = TakesOut old key new × (new ≡ [])
   Removes Fail old key new = ((pair : K × V) → pair_at cmp old key ≡ Some pair → Says pair.1 false) × (new ≡ old)
 
-  -- what stands under the number then
+  -- what stands under the number then: a part between the bounds that it had, or a retired one
   abbrev pub Leaves : {LEN : ℕ} → RemoveResult → ℕ → TreeArenas K V LEN → TreeArenas K V LEN → ℕ → Type 0
   Leaves Success level old new id = KeepsBounds cmp level old new id
-  Leaves Retired level old new id = IsRetired level new id
-  Leaves Fail level old new id = KeepsBounds cmp level old new id
+  Leaves Retired level old new id = IsRetired level new id × IsOfLevel level (get new.nodes id)
+  Leaves Fail level old new id = Unchanged old new
 
   pub record RemovesUnder {LEN : ℕ} (level : ℕ) (old new : TreeArenas K V LEN) (id : ℕ) (result : RemoveResult) (key : K) : Type 0 where
     pub pairs : Removes result (walk level old id) key (walk level new id)
@@ -35,23 +43,3 @@ module _ {K V : Type 0} (cmp : K → K → Ordering) (Says : V → Bool → Type
     pub replaces : Replaces level old new (id ∷ []) (id ∷ [])
     -- no leaf loses room, but one that is retired has none
     pub spare : (spare level new id ≡ 0) ⊎ (spare level old id ≤ spare level new id)
-
-module _ {K V : Type 0} {LEN : ℕ} (cmp : K → K → Ordering) where
-  -- The part has the same pairs, and stands as it did, with no less room.
-  pub record KeepsPart (level : ℕ) (old new : TreeArenas K V LEN) (id : ℕ) : Type 0 where
-    pub pairs : walk level new id ≡ walk level old id
-    pub keeps : KeepsBounds cmp level old new id
-    pub replaces : Replaces level old new (id ∷ []) (id ∷ [])
-    pub more : spare level old id ≤ spare level new id
-
--- The part that had no pair is retired.
-pub record Retires {K V : Type 0} {LEN : ℕ} (level : ℕ) (old new : TreeArenas K V LEN) (id : ℕ) : Type 0 where
-  pub pairs : walk level old id ≡ []
-  pub retired : IsRetired level new id
-  pub replaces : Replaces level old new (id ∷ []) (id ∷ [])
-  pub more : spare level old id ≤ spare level new id
-
--- a node is retired, or keeps all but children without pairs
-abbrev pub Cleans : {K V : Type 0} {LEN : ℕ} → (K → K → Ordering) → Bool → ℕ → TreeArenas K V LEN → TreeArenas K V LEN → ℕ → Type 0
-Cleans cmp true level old new id = Retires level old new id
-Cleans cmp false level old new id = KeepsPart cmp level old new id

@@ -1,5 +1,5 @@
 -- What stands in the arenas under a number, at a level. Level 0 is a leaf, and the children of a node stand one level below it.
-use Rattle.std.specs.Prelude.{◌≡◌, ℕ, zero, suc, true, Bool, List, [], ◌∷◌, ◌++◌, ⊤, ◌⊎◌, map, Option, Some, None, if◌then◌else◌}
+use Rattle.std.specs.Prelude.{◌≡◌, ℕ, zero, suc, ◌≤◌, length, true, Bool, List, [], ◌∷◌, ◌++◌, ⊤, ◌⊎◌, map, Option, Some, None, if◌then◌else◌}
 use Rattle.std.specs.List.{flat_map, AllByRecursion}
 use Rattle.std.specs.declared.cmp.Ordering.{Ordering}
 use Rattle.std.specs.declared.cmp.Ordering.TheVariants.{Less}
@@ -9,7 +9,7 @@ use Rattle.tree_model.specs.Pairs.{IsAscending}
 use Rattle.tree_array.specs.Arrivals.{Arrivals}
 use Rattle.tree_leaf.specs.declared.leaf.LeafOf.{LeafOf}
 use Rattle.tree_node.specs.declared.node.NodeOf.{NodeOf}
-use Rattle.tree_node.specs.declared.node.NodeOf.TheVariants.{Leaf}
+use Rattle.tree_node.specs.declared.node.NodeOf.TheVariants.{Internal, Leaf}
 use Rattle.tree_node.specs.Arenas.{TreeArenas}
 
 -- the keyed children in order, then the unbounded one
@@ -20,9 +20,11 @@ in_turn pairs (Some last) = map (λ c. c.1) pairs ++ last ∷ []
 module _ {K : Type 0} {LEN : ℕ} where
   -- the keyed children of a node, by their separators, and its unbounded one
   abbrev pub keyed : NodeOf K LEN → Arrivals K ℕ
+  keyed (Internal node) = node.children
   keyed (Leaf node) = node.children
 
   abbrev pub unbounded : NodeOf K LEN → Option ℕ
+  unbounded (Internal node) = node.unbounded_child
   unbounded (Leaf node) = node.unbounded_child
 
   abbrev pub node_children : Option (NodeOf K LEN) → List ℕ
@@ -52,7 +54,9 @@ module _ {K : Type 0} {LEN : ℕ} where
 
   -- a node is of the kind `Leaf` exactly where its children stand at level 0
   abbrev pub HasKind : ℕ → NodeOf K LEN → Type 0
+  HasKind zero (Internal node) = ⊥
   HasKind zero (Leaf node) = ⊤
+  HasKind (suc level) (Internal node) = ⊤
   HasKind (suc level) (Leaf node) = ⊥
 
 module _ {K V : Type 0} {LEN : ℕ} where
@@ -119,19 +123,21 @@ module _ {K : Type 0} (cmp : K → K → Ordering) where
   AreParted Child low (c ∷ rest) last high =
       Child low c.1 (Some c.0) × IsAbove low c.0 × IsBelow c.0 high × AreParted Child (Some c.0) rest last high
 
-  -- a node stands under this number, whose children are parted by its separators
+  -- a node with at most `LEN` keyed children stands under this number, and they are parted by its separators
   pub record NodeStands {LEN : ℕ} (Child : Option K → ℕ → Option K → Type 0) (level : ℕ) (nodes : Slab (NodeOf K LEN)) (low : Option K) (id : ℕ) (high : Option K) : Type 0 where
     pub node : NodeOf K LEN
     pub here : get nodes id ≡ Some node
     pub kind : HasKind level node
     pub last : ℕ
     pub last_is : unbounded node ≡ Some last
+    pub few : length (keyed node).entries ≤ LEN
     pub parted : AreParted Child low (keyed node).entries last high
 
-  -- a leaf with ascending keys above `low` and up to `high` stands under this number
+  -- a leaf with at most `LEN` ascending keys above `low` and up to `high` stands under this number
   pub record LeafStands {V : Type 0} {LEN : ℕ} (leaves : Slab (LeafOf K V LEN)) (low : Option K) (id : ℕ) (high : Option K) : Type 0 where
     pub leaf : LeafOf K V LEN
     pub here : get leaves id ≡ Some leaf
+    pub few : length leaf.array.entries ≤ LEN
     pub ascending : IsAscending cmp leaf.array.entries
     pub above : AllByRecursion (λ p. IsAbove low p.0) leaf.array.entries
     pub up_to : AllByRecursion (λ p. IsUpTo p.0 high) leaf.array.entries

@@ -21,3 +21,18 @@ pub(crate) fn child_for<K: Ord + Drop, I: Copy + Drop, J: Judge<K>, const LEN: u
         None => Some(last),
     }
 }
+
+/// The child that a key belongs to. At most `LEN` comparisons, which nobody counts.
+pub(crate) fn child_for_key<K: Ord + Drop, I: Copy + Drop, const LEN: usize>(
+    children: &ArrayOf<K, I, LEN>,
+    unbounded: Option<I>,
+    key: &K,
+) -> Option<I>
+    ensures { result ≡ child_of K.cmp key.now children.now.entries unbounded }
+{
+    let last = unbounded?;
+    match children.slot_for(key) {
+        Some(slot) => Some(*children.val(slot)),
+        None => Some(last),
+    }
+}

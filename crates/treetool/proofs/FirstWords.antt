@@ -25,5 +25,20 @@ one_first_word (c ∷ a) (d ∷ b) x y h k p q e =
 pub insert_is_word : IsWord (codes "insert")
 insert_is_word = search rules
 
+pub upsert_is_word : IsWord (codes "upsert")
+upsert_is_word = search rules
+
+pub remove_is_word : IsWord (codes "remove")
+remove_is_word = search rules
+
+pub remove_if_is_word : IsWord (codes "remove_if")
+remove_if_is_word = search rules
+
 pub peek_is_word : IsWord (codes "peek")
 peek_is_word = search rules
+
+pub contains_is_word : IsWord (codes "contains")
+contains_is_word = search rules
+
+pub len_is_word : IsWord (codes "len")
+len_is_word = search rules

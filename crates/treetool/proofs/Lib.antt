@@ -1,6 +1,7 @@
 pub mod FirstWords
 pub mod Decimals
 pub mod Spellings
+pub mod Names
 pub mod Writes
 pub mod Scripts
 pub mod Steps

@@ -4,8 +4,8 @@ use Rattle.std.specs.List.{AllByRecursion}
 use Rattle.std.specs.Io.KnownBytes.{Appends}
 use Rattle.treetool.specs.declared.requests.Request.{Request}
 use Rattle.treetool.specs.declared.answers.Answer.{Answer}
-use Rattle.treetool.specs.declared.answers.Answer.TheVariants.{Stored, Duplicate, Refused, Missing, Unknown, Value}
-use Rattle.treetool.specs.Lines.{IsLine, with_feed, text_of, HasLines, last_line, Script, Says, Answers}
+use Rattle.treetool.specs.declared.answers.Answer.TheVariants.{Stored, Duplicate, Refused, Missing, Truth, Unknown, Value}
+use Rattle.treetool.specs.Lines.{IsLine, with_feed, text_of, HasLines, last_line, Script, Says, Answers, truth}
 use Rattle.treetool.specs.Writing.{IsFront}
 
 -- the text of an answer
@@ -14,6 +14,7 @@ answer_text Stored = codes "ok"
 answer_text Duplicate = codes "duplicate"
 answer_text Refused = codes "refused"
 answer_text Missing = codes "none"
+answer_text (Truth answer) = truth answer
 answer_text Unknown = codes "?"
 answer_text (Value n) = decimal n
 

@@ -1,6 +1,8 @@
 //! What a line is answered.
 ghost use Rattle.std.specs.Prelude.{◌≡◌, ℕ, List};
-ghost use Rattle.treetool.specs.Lines.{with_feed, Says};
+ghost use Rattle.std.specs.Ordering.{nat_cmp};
+ghost use Rattle.tree_model.specs.Edits.{RemovesIf};
+ghost use Rattle.treetool.specs.Lines.{with_feed, Says, SaysEqual};
 ghost use Rattle.treetool.specs.Progress.{answer_text, clip, Responds};
 ghost use Rattle.treetool.specs.Writing.{Writes};
 
@@ -22,6 +24,8 @@ pub enum Answer {
     Refused,
     /// `none`.
     Missing,
+    /// `true` or `false`.
+    Truth(bool),
     /// `?`, to a line that is no request.
     Unknown,
     /// A number.
@@ -50,11 +54,26 @@ fn respond(index: &mut TreeIndex<u64, u64>, request: Option<Request>) -> Answer
             Err(InsertError::Duplicate(_, _)) => Answer::Duplicate,
             Err(InsertError::OutOfMemory(_, _)) => Answer::Refused,
         },
+        Some(Request::Upsert(key, value)) => match index.upsert_sync(key, value) {
+            Ok(()) => Answer::Stored,
+            Err(_) => Answer::Refused,
+        },
+        Some(Request::Remove(key)) => Answer::Truth(index.remove_sync(&key)),
+        Some(Request::RemoveIf(key, value)) => Answer::Truth(remove_value(index, key, value)),
+        Some(Request::Contains(key)) => Answer::Truth(index.contains(&key)),
+        Some(Request::Len) => Answer::Value(index.len() as u64),
         Some(Request::Peek(key)) => match index.peek(&key) {
             Some(value) => Answer::Value(*value),
             None => Answer::Missing,
         },
     }
+}
+
+// Removes the pair at a key, if its value is this one, and says whether it did.
+fn remove_value(index: &mut TreeIndex<u64, u64>, key: u64, value: u64) -> bool
+    ensures { RemovesIf nat_cmp (SaysEqual value) index.old key result index.new }
+{
+    index.remove_if_sync(&key, |stored| *stored == value)
 }
 
 /// Writes the line of an answer.
@@ -67,6 +86,8 @@ pub fn write_answer<W: Write>(output: &mut W, answer: Answer) -> Result<(), Writ
         Answer::Duplicate => write_whole(output, b"duplicate\n"),
         Answer::Refused => write_whole(output, b"refused\n"),
         Answer::Missing => write_whole(output, b"none\n"),
+        Answer::Truth(true) => write_whole(output, b"true\n"),
+        Answer::Truth(false) => write_whole(output, b"false\n"),
         Answer::Unknown => write_whole(output, b"?\n"),
         Answer::Value(n) => {
             let mut text = ShortText::new();

@@ -50,6 +50,52 @@ fn answers_lines(rt: HostRuntime) {
     }
 }
 
+// What the lines are answered over an index of their own.
+fn answered(rt: &impl Abort, alloc: Global, lines: &[u8]) -> Sink {
+    let mut input = lines;
+    let mut output = Sink::new(256, Failing::never());
+    let mut index = TreeIndex::new(alloc);
+    assert_eq!(rt; run_lines(&mut index, &mut input, &mut output), Ok(()));
+    output
+}
+
+// Where memory is refused at the first try, it isn't at the second.
+#[test]
+fn answers_edits_and_look_ups(rt: HostRuntime) {
+    for (lines, wanted) in [
+        (
+            "upsert 7 1\nupsert 7 2\nremove_if 7 1\nremove_if 7 2\nlen\n",
+            "ok\nok\nfalse\ntrue\n0\n",
+        ),
+        (
+            "remove 1\ninsert 1 10\nremove 1\nremove 1\npeek 1\n",
+            "false\nok\ntrue\nfalse\nnone\n",
+        ),
+        (
+            "upsert 2 20\nupsert 2 21\npeek 2\ninsert 2 22\npeek 2\n",
+            "ok\nok\n21\nduplicate\n21\n",
+        ),
+        (
+            "len\ninsert 3 30\nupsert 1 10\nlen\nremove 3\nlen\n",
+            "0\nok\nok\n2\ntrue\n1\n",
+        ),
+        (
+            "contains 5\nupsert 5 0\ncontains 5\ncontains 0\nremove_if 0 0\nremove_if 5 0\ncontains 5",
+            "false\nok\ntrue\nfalse\nfalse\ntrue\nfalse\n",
+        ),
+        (
+            "upsert 18446744073709551615 18446744073709551615\nremove_if 18446744073709551615 18446744073709551615\n",
+            "ok\ntrue\n",
+        ),
+    ] {
+        let mut output = answered(&rt, rt.alloc(), lines.as_bytes());
+        if output.taken() != wanted.as_bytes() {
+            output = answered(&rt, rt.alloc(), lines.as_bytes());
+        }
+        assert_eq!(rt; output.taken(), wanted.as_bytes());
+    }
+}
+
 // Each is a line of its own that asks nothing, also where a request stands in it.
 #[test]
 fn takes_only_the_grammar(rt: HostRuntime) {
@@ -91,6 +137,27 @@ fn takes_only_the_grammar(rt: HostRuntime) {
         b"peek 1 1",
         b"peek 18446744073709551616",
         b"peek 1\r",
+        b"upsert 1",
+        b"upsert 1 01",
+        b"upsert 1 10 0",
+        b"Upsert 1 10",
+        b"remove",
+        b"remove 1 10",
+        b"remove  1",
+        b"remove_if 1",
+        b"remove_if 1 10 0",
+        b"remove_if_ 1 10",
+        b"remove-if 1 10",
+        b"removeif 1 10",
+        b"contains",
+        b"contains 1 1",
+        b"contain 1",
+        b"len ",
+        b"len 1",
+        b"length",
+        b" len",
+        b"depth",
+        b"spare",
         b" ",
         b"\0",
         b"?",
@@ -221,6 +288,10 @@ fn answers_that_memory_is_refused(rt: HostRuntime) {
         "insert 3 10\npeek 3\n",
         "insert 4 10\npeek 4\n",
         "insert 5 10\npeek 5\n",
+        "upsert 6 10\npeek 6\n",
+        "upsert 7 10\npeek 7\n",
+        "upsert 8 10\npeek 8\n",
+        "upsert 9 10\npeek 9\n",
     ] {
         let mut input = lines.as_bytes();
         let mut output = Sink::new(256, Failing::never());

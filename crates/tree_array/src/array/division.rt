@@ -1,6 +1,7 @@
 //! How the pairs of an array are divided between two new ones.
 ghost use Rattle.std.specs.Prelude.{◌≡◌, ◌+◌, ◌≤◌, [], ◌∷◌, length, take, drop, slice_get, MatchOption};
 ghost use Rattle.tree_array.specs.Arrivals.{boundary, drained, in_order};
+ghost use Rattle.tree_array.specs.Sound.{IsSound};
 ghost use Rattle.tree_array.specs.Walk.{IsOver};
 
 use super::{ArrayIter, ArrayOf, RETIRED};
@@ -12,7 +13,8 @@ impl<K: Ord + Drop, V: Drop, const LEN: usize> ArrayOf<K, V, LEN> {
     /// ascending order. Up to three quarters of `LEN` entries there is no split, and the first number is `LEN`.
     /// No comparisons.
     pub fn optimal_boundary(&self) -> (u8, usize, bool)
-        ensures { result ≡ boundary K.cmp LEN self.now }
+        ensures boundary { result ≡ boundary K.cmp LEN self.now }
+        ensures sound { IsSound K.cmp LEN self.now }
     {
         let (count, rises) = count_ascents(&self.cells, self.ranks, made(self.bitmap));
         if count as usize <= LEN * 3 / 4 {
@@ -58,6 +60,18 @@ impl<K: Ord + Drop, V: Drop, const LEN: usize> ArrayOf<K, V, LEN> {
         let apart = self.take_on(&mut walk);
         self.move_rest(walk, high);
         apart
+    }
+
+    /// Lets the entries arrive anew in ascending order, so that no slot is spent. A retired array takes pairs again.
+    /// No comparisons.
+    pub fn rebuild(&mut self)
+        ensures { self.new ≡ in_order self.old.entries }
+    {
+        let _ = &self.cells;
+        let walk = ArrayIter::new(self);
+        let mut rebuilt = ArrayOf::new();
+        self.move_rest(walk, &mut rebuilt);
+        *self = rebuilt;
     }
 
     /// Moves the entries into a new array, and retires this one. The walk is over the entries.

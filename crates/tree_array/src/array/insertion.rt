@@ -1,10 +1,10 @@
 //! How an array takes a pair.
 ghost use Rattle.std.specs.Prelude.{◌≡◌, ℕ, ◌<◌, Some, true, false, length};
 ghost use Rattle.tree_array.specs.Arrivals.{arrival, stored};
-ghost use Rattle.tree_array.specs.Insertion.{IsInsert};
+ghost use Rattle.tree_array.specs.Insertion.{IsInsert, IsStore};
 ghost use Rattle.tree_array.specs.Length.{IsLen};
 
-use super::{ArrayOf, InsertResult};
+use super::{ArrayOf, InsertResult, StoreResult};
 use crate::ranks::{following, made, rank_added, rank_appended, rank_moved};
 use crate::search::{Place, find_key};
 use std::cmp::Ordering;
@@ -19,29 +19,36 @@ impl<K: Ord + Drop, V: Drop, const LEN: usize> ArrayOf<K, V, LEN> {
     pub fn insert<const UPSERT: bool>(&mut self, key: K, val: V) -> InsertResult<K, V>
         ensures { IsInsert K.cmp LEN UPSERT self.old key val result self.new }
     {
+        self.store::<UPSERT>(key, val).into_insert()
+    }
+
+    /// Does what [`insert`](ArrayOf::insert) does, and tells whether the key is new.
+    pub fn store<const UPSERT: bool>(&mut self, key: K, val: V) -> StoreResult<K, V>
+        ensures { IsStore K.cmp LEN UPSERT self.old key val result self.new }
+    {
         let next = made(self.bitmap);
         match find_key(&self.cells, self.ranks, next, &key) {
             Place::At(old) => {
                 if !UPSERT {
-                    InsertResult::Duplicate(key, val)
+                    StoreResult::Duplicate(key, val)
                 } else if self.is_full() {
-                    InsertResult::Full(key, val)
+                    StoreResult::Full(key, val)
                 } else {
                     self.ranks = rank_moved::<LEN>(self.ranks, old, next);
                     self.bitmap = following::<LEN>(self.bitmap);
                     self.cells.put(old, None);
                     self.cells.put(next, Some((key, val)));
-                    InsertResult::Success
+                    StoreResult::Replaced
                 }
             }
             Place::Above(low) => {
                 if self.is_full() {
-                    InsertResult::Full(key, val)
+                    StoreResult::Full(key, val)
                 } else {
                     self.ranks = rank_added::<LEN>(self.ranks, low, next);
                     self.bitmap = following::<LEN>(self.bitmap);
                     self.cells.put(next, Some((key, val)));
-                    InsertResult::Success
+                    StoreResult::New
                 }
             }
         }

@@ -1,10 +1,10 @@
 //! Searches of an array. Each asks its judge once about each slot at most.
-ghost use Rattle.std.specs.Prelude.{◌≡◌, ◌+◌, ◌≤◌, MatchOption, Some};
+ghost use Rattle.std.specs.Prelude.{◌≡◌, ◌+◌, ◌≤◌, [], ◌∷◌, ◌++◌, MatchOption, None, Some, slice_get};
 ghost use Rattle.tree_array.specs.Arrivals.{arrival, least_from};
 ghost use Rattle.tree_model.specs.Pairs.{IsAbsent, pair_at};
 
-use super::ArrayOf;
-use crate::judge::Judge;
+use super::{ArrayIter, ArrayOf};
+use crate::judge::{Asks, Judge};
 use crate::ranks::{made, next_above};
 use crate::search::{Place, find};
 
@@ -41,8 +41,46 @@ impl<K: Ord + Drop, V: Drop, const LEN: usize> ArrayOf<K, V, LEN> {
         ensures same_key { J.key judge.new ≡ J.key judge.old }
         ensures counted { J.count judge.new ≤ J.count judge.old + LEN }
     {
+        self.least_for(judge)
+    }
+
+    /// The slot of the least key that isn't less than this one. At most `LEN` comparisons, which nobody counts.
+    pub fn slot_for(&self, key: &K) -> Option<u8>
+        ensures { MatchOption result (least_from K.cmp self.now.entries key.now ≡ None)
+            (λ slot. (pair : _) × (arrival self.now.arrivals slot ≡ Some pair)
+            × (least_from K.cmp self.now.entries key.now ≡ Some pair)) }
+    {
+        self.least_for(&mut &*key)
+    }
+
+    /// The slot of the entry at this place in the order of keys, counted from 0. No comparisons.
+    pub fn slot_at(&self, place: u8) -> Option<u8>
+        ensures { MatchOption result (slice_get self.now.entries place ≡ None)
+            (λ slot. (pair : _) × (arrival self.now.arrivals slot ≡ Some pair) × (slice_get self.now.entries place ≡ Some pair)) }
+    {
+        ArrayIter::new(self).nth_slot(place)
+    }
+
+    /// The slot of the entry with the greatest key. No comparisons.
+    pub fn last_slot(&self) -> Option<u8>
+        ensures { MatchOption result (self.now.entries ≡ [])
+            (λ slot. (pair : _) × (arrival self.now.arrivals slot ≡ Some pair) × (front : _) × (self.now.entries ≡ front ++ pair ∷ [])) }
+    {
+        let walk = ArrayIter::new(self);
+        let last = walk.slot_count().checked_sub(1)?;
+        walk.nth_slot(last)
+    }
+
+    /// The slot of the least key that isn't less than that of the asked.
+    fn least_for<By, A: Asks<K, By>>(&self, asked: &mut A) -> Option<u8>
+        ensures found { MatchOption result (least_from K.cmp self.now.entries (A.key asked.old) ≡ None)
+            (λ slot. (pair : _) × (arrival self.now.arrivals slot ≡ Some pair)
+            × (least_from K.cmp self.now.entries (A.key asked.old) ≡ Some pair)) }
+        ensures same_key { A.key asked.new ≡ A.key asked.old }
+        ensures counted { A.count asked.new ≤ A.count asked.old + LEN }
+    {
         let made = made(self.bitmap);
-        match find(&self.cells, self.ranks, made, judge) {
+        match find(&self.cells, self.ranks, made, asked) {
             Place::At(slot) => Some(slot),
             Place::Above(low) => next_above::<LEN>(self.ranks, made, low),
         }

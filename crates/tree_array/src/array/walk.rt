@@ -1,5 +1,5 @@
 //! Walks over the slots of an array, in the order of their keys and against it.
-ghost use Rattle.std.specs.Prelude.{◌≡◌, None, ⊤, option_and_then, slice_get};
+ghost use Rattle.std.specs.Prelude.{◌≡◌, None, length, ⊤, option_and_then, slice_get};
 ghost use Rattle.tree_array.specs.Arrivals.{slots_in_order};
 ghost use Rattle.tree_array.specs.Walk.{IsOver, StepsBack, StepsOn, left_back, left_on, standing};
 
@@ -66,6 +66,24 @@ impl ArrayIter {
     {
         let place = self.at?;
         Some(self.order[place as usize])
+    }
+
+    /// The slot at this place of the walk.
+    pub(super) fn nth_slot(&self, place: u8) -> Option<u8>
+        ensures { result ≡ slice_get self.now.slots place }
+    {
+        if place < self.count {
+            Some(self.order[place as usize])
+        } else {
+            None
+        }
+    }
+
+    /// How many slots it walks over.
+    pub(super) fn slot_count(&self) -> u8
+        ensures { result ≡ length self.now.slots }
+    {
+        self.count
     }
 
     /// Goes back to before the first slot.

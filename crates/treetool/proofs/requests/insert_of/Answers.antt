@@ -1,6 +1,8 @@
-use Rattle.treetool.specs.declared.requests.Request.TheVariants.{Insert, Peek}
+use Rattle.std.proofs.Common.{◌≡◌}
+use Rattle.treetool.specs.Lines.{Fits, arguments_of, behind_spaces}
+use Rattle.treetool.proofs.Names.{only_insert}
 use Rattle.treetool.proofs.requests.insert_of.Goals as goal
 
 -- the arguments are no two numbers
 pub returns-in-None : goal.returns-in-None
-returns-in-None c = elim [ Insert key value ↦ λ fits e. c.in-None.ensures (key, value) fits.0 e | Peek key ↦ λ fits e. cc (fits.1) ]
+returns-in-None c = λ request fits e. only_insert (λ r. Fits r → c.args.arguments.now ≡ behind_spaces (arguments_of r) → ⊥) (λ key value fits e. c.in-None.ensures (key, value) fits e) request fits.1 fits.0 e

@@ -1,27 +1,43 @@
-use Rattle.std.proofs.Common.{◌≡◌, sym, ◌∙◌}
-use mathlib.Core.Bool.{false≢true}
+use Rattle.std.proofs.Common.{◌≡◌}
 use Rattle.std.specs.Prelude.{codes}
-use Rattle.std.proofs.lemmas.Slice.Eq.{bytes_eq-Decides}
 use Rattle.treetool.specs.Lines.{name_of}
-use Rattle.treetool.specs.declared.requests.Request.TheVariants.{Insert, Peek}
-use Rattle.treetool.proofs.Spellings.{parts_of, reads_by_name}
+use Rattle.treetool.specs.declared.requests.Request.TheVariants.{Insert, Upsert, Remove, RemoveIf, Peek, Contains, Len}
+use Rattle.treetool.proofs.Spellings.{parts_of, reads_when, not_named}
 use Rattle.treetool.proofs.requests.request_of.Goals as goal
 
+-- the first word is the name of a request
 pub returns-then-eq : goal.returns-then-eq
-returns-then-eq c =
-    let name : c.first_word.result.0.now ≡ codes "insert" = (bytes_eq-Decides c.first_word.result.0.now c.as_slice.result.now).0 (sym c.if-eq.ensures) ∙ c.as_slice.ensures in
-    reads_by_name c.args.line.now c.first_word.result.0.now c.first_word.result.1.now c.first_word.ensures.word c.first_word.ensures.behind c.first_word.ensures.whole (codes "insert") name c.insert_of.result c.insert_of.ensures
+returns-then-eq c = reads_when c.args.line.now c.first_word.result.0.now c.first_word.result.1.now c.first_word.ensures.word c.first_word.ensures.behind c.first_word.ensures.whole (codes "insert") c.as_slice.result.now c.if-eq.ensures c.as_slice.ensures c.insert_of.result c.insert_of.ensures
 
 pub returns-then-eq-2 : goal.returns-then-eq-2
-returns-then-eq-2 c =
-    let name : c.first_word.result.0.now ≡ codes "peek" = (bytes_eq-Decides c.first_word.result.0.now c.as_slice-2.result.now).0 (sym c.if-eq-2.ensures) ∙ c.as_slice-2.ensures in
-    reads_by_name c.args.line.now c.first_word.result.0.now c.first_word.result.1.now c.first_word.ensures.word c.first_word.ensures.behind c.first_word.ensures.whole (codes "peek") name c.peek_of.result c.peek_of.ensures
+returns-then-eq-2 c = reads_when c.args.line.now c.first_word.result.0.now c.first_word.result.1.now c.first_word.ensures.word c.first_word.ensures.behind c.first_word.ensures.whole (codes "upsert") c.as_slice-2.result.now c.if-eq-2.ensures c.as_slice-2.ensures c.upsert_of.result c.upsert_of.ensures
 
--- the first word is no name of a request
+pub returns-then-eq-3 : goal.returns-then-eq-3
+returns-then-eq-3 c = reads_when c.args.line.now c.first_word.result.0.now c.first_word.result.1.now c.first_word.ensures.word c.first_word.ensures.behind c.first_word.ensures.whole (codes "remove") c.as_slice-3.result.now c.if-eq-3.ensures c.as_slice-3.ensures c.remove_of.result c.remove_of.ensures
+
+pub returns-then-eq-4 : goal.returns-then-eq-4
+returns-then-eq-4 c = reads_when c.args.line.now c.first_word.result.0.now c.first_word.result.1.now c.first_word.ensures.word c.first_word.ensures.behind c.first_word.ensures.whole (codes "remove_if") c.as_slice-4.result.now c.if-eq-4.ensures c.as_slice-4.ensures c.remove_if_of.result c.remove_if_of.ensures
+
+pub returns-then-eq-5 : goal.returns-then-eq-5
+returns-then-eq-5 c = reads_when c.args.line.now c.first_word.result.0.now c.first_word.result.1.now c.first_word.ensures.word c.first_word.ensures.behind c.first_word.ensures.whole (codes "peek") c.as_slice-5.result.now c.if-eq-5.ensures c.as_slice-5.ensures c.peek_of.result c.peek_of.ensures
+
+pub returns-then-eq-6 : goal.returns-then-eq-6
+returns-then-eq-6 c = reads_when c.args.line.now c.first_word.result.0.now c.first_word.result.1.now c.first_word.ensures.word c.first_word.ensures.behind c.first_word.ensures.whole (codes "contains") c.as_slice-6.result.now c.if-eq-6.ensures c.as_slice-6.ensures c.contains_of.result c.contains_of.ensures
+
+pub returns-then-eq-7 : goal.returns-then-eq-7
+returns-then-eq-7 c = reads_when c.args.line.now c.first_word.result.0.now c.first_word.result.1.now c.first_word.ensures.word c.first_word.ensures.behind c.first_word.ensures.whole (codes "len") c.as_slice-7.result.now c.if-eq-7.ensures c.as_slice-7.ensures c.len_of.result c.len_of.ensures
+
+-- or of none
 pub returns : goal.returns
 returns c = λ request fits e.
-    let name : c.first_word.result.0.now ≡ name_of request = (parts_of c.args.line.now c.first_word.result.0.now c.first_word.result.1.now c.first_word.ensures.word c.first_word.ensures.behind c.first_word.ensures.whole request e).0 in
-    elim request as (λ r. c.first_word.result.0.now ≡ name_of r → ⊥) [
-      | Insert key value ↦ λ same. false≢true (c.if-eq.ensures ∙ (bytes_eq-Decides c.first_word.result.0.now c.as_slice.result.now).1 (same ∙ sym c.as_slice.ensures))
-      | Peek key ↦ λ same. false≢true (c.if-eq-2.ensures ∙ (bytes_eq-Decides c.first_word.result.0.now c.as_slice-2.result.now).1 (same ∙ sym c.as_slice-2.ensures))
+    let word = c.first_word.result.0.now in
+    let name : word ≡ name_of request = (parts_of c.args.line.now word c.first_word.result.1.now c.first_word.ensures.word c.first_word.ensures.behind c.first_word.ensures.whole request e).0 in
+    elim request as (λ r. word ≡ name_of r → ⊥) [
+      | Insert key value ↦ not_named word (codes "insert") c.as_slice.result.now c.if-eq.ensures c.as_slice.ensures
+      | Upsert key value ↦ not_named word (codes "upsert") c.as_slice-2.result.now c.if-eq-2.ensures c.as_slice-2.ensures
+      | Remove key ↦ not_named word (codes "remove") c.as_slice-3.result.now c.if-eq-3.ensures c.as_slice-3.ensures
+      | RemoveIf key value ↦ not_named word (codes "remove_if") c.as_slice-4.result.now c.if-eq-4.ensures c.as_slice-4.ensures
+      | Peek key ↦ not_named word (codes "peek") c.as_slice-5.result.now c.if-eq-5.ensures c.as_slice-5.ensures
+      | Contains key ↦ not_named word (codes "contains") c.as_slice-6.result.now c.if-eq-6.ensures c.as_slice-6.ensures
+      | Len ↦ not_named word (codes "len") c.as_slice-7.result.now c.if-eq-7.ensures c.as_slice-7.ensures
     ] name

@@ -10,5 +10,5 @@ invariant_of-self g c =
     let place = rw (← c.self.view_is) at c.in-Ok.ensures.found in
     subst (IsAscending g.K.Ord.cmp) (sym (set-put g.K.Ord.cmp _ _ _ c.args.value place)) (IsAscending-put g.met.K.Ord.total _ c.args.key c.args.value c.self.invariant)
 
-pub returns-in-Ok : goal.returns-in-Ok
-returns-in-Ok g c = rw (← c.self.view_is) (let place = rw (← c.self.view_is) at c.in-Ok.ensures.found in set-put g.K.Ord.cmp _ _ _ c.args.value place)
+pub returns-in-Ok-clause-edit : goal.returns-in-Ok-clause-edit
+returns-in-Ok-clause-edit g c = rw (← c.self.view_is) (let place = rw (← c.self.view_is) at c.in-Ok.ensures.found in set-put g.K.Ord.cmp _ _ _ c.args.value place)

@@ -1,0 +1,41 @@
+-- The pairs of a whole tree ascend, and how many there are after a store and after a removal.
+use Rattle.std.proofs.Common.{◌≡◌, ◌⊎◌, ℕ, ◌+◌, Bool, true, length, Option, Some, None, Ok, inl, inr, refl, ap, arith}
+use Rattle.std.specs.declared.cmp.Ordering.{Ordering}
+use Rattle.std.specs.Cmp.{IsTotalOrder}
+use Rattle.slab.specs.Slab.{get}
+use Rattle.tree_array.specs.declared.answers.StoreResult.TheVariants.{New, Replaced}
+use Rattle.tree_model.specs.Pairs.{IsAscending, IsPresent}
+use Rattle.tree_model.proofs.Lengths.{length-put, without_absent, without_present}
+use Rattle.tree_node.specs.Tree.{Stands, walk}
+use Rattle.tree_node.specs.Whole.{IsRetiredRoot, IsTop, walk_under}
+use Rattle.tree_node.proofs.Ascents.{walk_ascends}
+use Rattle.tree_node.proofs.Bare.{no_children}
+use Rattle.tree_index.specs.declared.tree.Tree.{Tree}
+use Rattle.tree_index.specs.Trees.{IsWhole, Stores, Takes, pairs_of}
+
+module _ {K V : Type 0} {LEN : ℕ} {cmp : K → K → Ordering} (o : IsTotalOrder cmp) where
+  pub pairs_ascend : (tree : Tree K V LEN) → IsWhole cmp tree → IsAscending cmp (pairs_of tree)
+  pairs_ascend tree whole = by_root tree.root whole.top
+    where
+      by_top : (root : ℕ × ℕ) → (Stands cmp root.1 tree.arenas None root.0 None ⊎ IsRetiredRoot tree.arenas root.0 root.1) → IsAscending cmp (walk root.1 tree.arenas root.0)
+      by_top root (inl s) = walk_ascends o root.1 tree.arenas None root.0 None s
+      by_top root (inr gone) = rw (gone.0, (no_children (get tree.arenas.nodes root.0) gone.1).1) tt
+
+      by_root : (root : Option (ℕ × ℕ)) → IsTop cmp tree.arenas root → IsAscending cmp (walk_under tree.arenas root)
+      by_root None top = tt
+      by_root (Some root) top = by_top root top.1
+
+  module _ (old new : Tree K V LEN) (key : K) (val : V) where
+    -- a new pair is one more, and a replaced one is as many
+    pub one_more : (upsert : Bool) → Stores cmp upsert old new key val (Ok New) → length (pairs_of new) ≡ length (pairs_of old) + 1
+    one_more upsert stores = omega (arith, ap length stores.pairs.1, length-put cmp (pairs_of old) key val, without_absent cmp (pairs_of old) key stores.pairs.0)
+
+    pub as_many : (upsert : Bool) → IsWhole cmp old → Stores cmp upsert old new key val (Ok Replaced) → length (pairs_of new) ≡ length (pairs_of old)
+    as_many upsert whole stores =
+        omega (arith, ap length stores.pairs.2, length-put cmp (pairs_of old) key val, without_present o (pairs_of old) key (pairs_ascend old whole) stores.pairs.1)
+
+  -- a removed pair is one less
+  pub one_less : (Says : V → Bool → Type 0) (old new : Tree K V LEN) (key : K) → IsWhole cmp old → Takes cmp Says old new key true → length (pairs_of new) + 1 ≡ length (pairs_of old)
+  one_less Says old new key whole takes =
+      let there : IsPresent cmp (pairs_of old) key = rw takes.pairs.1 refl in
+      omega (arith, ap length takes.pairs.3, without_present o (pairs_of old) key (pairs_ascend old whole) there)

@@ -1,0 +1,44 @@
+-- How many pairs a tree has at most.
+use Rattle.std.proofs.Common.{◌≡◌, ◌⊎◌, ℕ, ◌+◌, ◌*◌, ◌^◌, ◌<◌, ◌≤◌, [], length, Option, Some, None, inl, inr, refl, ap, arith}
+use Rattle.std.proofs.Math.Nat.{mul-le-mul_left}
+use Rattle.std.specs.declared.cmp.Ordering.{Ordering}
+use Rattle.slab.specs.Slab.{get, slab_len}
+use Rattle.tree_array.specs.Length.{IsLen}
+use Rattle.tree_leaf.proofs.Pigeonhole.{once_fits}
+use Rattle.tree_node.specs.Arenas.{TreeArenas}
+use Rattle.tree_node.specs.Tree.{Stands, leaves_at, walk}
+use Rattle.tree_node.specs.Whole.{IsRetiredRoot, IsTree, depth_of, walk_under}
+use Rattle.tree_node.proofs.Bare.{no_children}
+use Rattle.tree_node.proofs.Bounds.{entries_few, walk_few}
+
+module _ {K V : Type 0} {LEN : ℕ} (cmp : K → K → Ordering) (a : TreeArenas K V LEN) where
+  retired_empty : (id level : ℕ) → IsRetiredRoot a id level → walk level a id ≡ []
+  retired_empty id level gone = rw (gone.0, (no_children (get a.nodes id) gone.1).1) refl
+
+  -- no more than its leaves have slots
+  pub pairs_few : (root : Option (ℕ × ℕ)) → IsTree cmp a root → length (walk_under a root) ≤ LEN * slab_len a.leaves
+  pairs_few None tree = omega arith
+  pairs_few (Some root) tree = by_top tree.top.1
+    where
+      by_top : (Stands cmp root.1 a None root.0 None ⊎ IsRetiredRoot a root.0 root.1) → length (walk root.1 a root.0) ≤ LEN * slab_len a.leaves
+      by_top (inl s) =
+          omega (
+            arith,
+            entries_few cmp a root.1 None root.0 None s,
+            mul-le-mul_left LEN (once_fits a.leaves (leaves_at root.1 a.nodes root.0) (λ n. omega (arith, tree.leaves_once n))),
+          )
+      by_top (inr gone) = omega (arith, ap length (retired_empty root.0 root.1 gone))
+
+  -- no more than a tree of its depth can have
+  pub pairs_bound : (root : Option (ℕ × ℕ)) → IsTree cmp a root → length (walk_under a root) ≤ LEN * (LEN + 1) ^ depth_of root
+  pairs_bound None tree = omega arith
+  pairs_bound (Some root) tree = by_top tree.top.1
+    where
+      by_top : (Stands cmp root.1 a None root.0 None ⊎ IsRetiredRoot a root.0 root.1) → length (walk root.1 a root.0) ≤ LEN * (LEN + 1) ^ root.1
+      by_top (inl s) = walk_few cmp a root.1 None root.0 None s
+      by_top (inr gone) = omega (arith, ap length (retired_empty root.0 root.1 gone))
+
+-- so many slots are counted in 128 bits
+pub slots_small : (len leaves : ℕ) → IsLen len → leaves < 2 ^ 64 → len * leaves < 2 ^ 127
+slots_small len leaves (inl seven) few = rw seven (omega (arith, few))
+slots_small len leaves (inr fifteen) few = rw fifteen (omega (arith, few))

@@ -1,0 +1,5 @@
+use Rattle.tree_node.proofs.Bare.{empty_tree}
+use Rattle.tree_index.proofs.tree.Tree.new.Goals as goal
+
+pub returns-clause-whole : goal.returns-clause-whole
+returns-clause-whole g c = empty_tree g.K.Ord.cmp c.new.result c.new.ensures

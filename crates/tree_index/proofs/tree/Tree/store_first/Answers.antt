@@ -1,0 +1,13 @@
+use Rattle.std.proofs.Common.{refl}
+use Rattle.tree_node.proofs.Sizes.{fits}
+use Rattle.tree_index.proofs.Stored.{not_stored_first, stored_first}
+use Rattle.tree_index.proofs.tree.Tree.store_first.Goals as goal
+
+pub plant-requires : goal.plant-requires
+plant-requires g c = (search fits, (search fits, (c.requires.len, (c.requires.whole, c.requires.bare))))
+
+pub returns-in-Err : goal.returns-in-Err
+returns-in-Err g c = not_stored_first g.K.Ord.cmp _ c.args.self.now _ c.args.key c.args.val c.in-Err.pair c.requires.whole c.requires.bare refl c.in-Err.ensures.0 c.in-Err.ensures.1 c.in-Err.ensures.2
+
+pub returns-in-Ok : goal.returns-in-Ok
+returns-in-Ok g c = stored_first g.K.Ord.cmp _ c.args.self.now _ c.args.key c.args.val c.in-Ok.root c.requires.bare refl c.in-Ok.ensures

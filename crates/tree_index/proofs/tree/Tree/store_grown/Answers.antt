@@ -1,0 +1,61 @@
+use Rattle.std.proofs.Common.{suc, w64, Some, Ok, Err, refl, add-one, arith}
+use Rattle.std.proofs.Math.Facts.{Fits-of_lt}
+use Rattle.tree_node.proofs.Sizes.{fits}
+use Rattle.tree_node.specs.Tree.{IsRetiredNode}
+use Rattle.slab.specs.Slab.{ContainsKey, get}
+use Rattle.tree_node.proofs.Whole.{tree_raised}
+use Rattle.tree_index.proofs.Stored.{childless_root, no_room_left, not_grown, part_or_retired, root_part, root_there, stored_raised}
+use Rattle.tree_index.proofs.tree.Tree.store_grown.Goals as goal
+
+pub node-requires : goal.node-requires
+node-requires g c =
+    let there : ContainsKey c.args.self.now.arenas.nodes c.args.root = root_there g.K.Ord.cmp c.args.self.now.arenas c.args.root c.args.depth (rw c.requires.root at c.requires.whole) in
+    (search fits, there)
+
+pub store_first-requires : goal.store_first-requires
+store_first-requires g c =
+    let gone : IsRetiredNode (get c.args.self.now.arenas.nodes c.args.root) = rw c.node.ensures (c.if-is_childless.ensures.0 refl) in
+    (search fits, (c.requires.len, (c.requires.whole, rw c.requires.root (childless_root g.K.Ord.cmp c.args.self.now.arenas c.args.root c.args.depth (rw c.requires.root at c.requires.whole) gone))))
+
+pub split_root_at-requires : goal.split_root_at-requires
+split_root_at-requires g c =
+    let tree = rw c.requires.root at c.requires.whole in
+    let kept : IsRetiredNode (get c.args.self.now.arenas.nodes c.args.root) → ⊥ = λ gone. let childless = c.if-is_childless.ensures.1 (rw c.node.ensures at gone) in cc in (
+      search fits,
+      (
+        search fits,
+        (
+          tree.top.0,
+          (
+            root_part g.K.Ord.cmp c.args.self.now.arenas c.args.root c.args.depth tree kept,
+            no_room_left g.K.Ord.cmp c.args.self.now.arenas c.args.root c.args.depth tree.top.0 kept c.requires.full,
+          ),
+        ),
+      ),
+    )
+
+pub returns-in_default : goal.returns-in_default
+returns-in_default g c =
+    let tree = rw c.requires.root at c.requires.whole in
+    not_grown g.K.Ord.cmp _ c.args.self.now _ c.args.key c.args.val (c.args.key, c.args.val) c.requires.whole refl c.in_default.ensures.err c.requires.spent (rw c.requires.root tree.top.0) c.requires.new refl refl
+
+pub overflow_add-self : goal.overflow_add-self
+overflow_add-self g c = Fits-of_lt {w = w64} c.in-Ok.ensures.levels
+
+pub overflow_add-depth : goal.overflow_add-depth
+overflow_add-depth g c = Fits-of_lt {w = w64} c.in-Ok.ensures.levels
+
+pub insert_at-requires : goal.insert_at-requires
+insert_at-requires g c =
+    let tree = tree_raised c.args.self.now.arenas c.split_root_at.new.arenas c.args.root c.in-Ok.top c.args.depth (rw c.requires.root at c.requires.whole) c.in-Ok.ensures.done in
+    (search fits, (search fits, (omega arith, rw add-one (part_or_retired g.K.Ord.cmp c.split_root_at.new.arenas c.in-Ok.top (suc c.args.depth) tree))))
+
+pub returns-in-Err : goal.returns-in-Err
+returns-in-Err g c =
+    stored_raised g.K.Ord.cmp _ c.args.self.now (record { arenas = c.split_root_at.new.arenas; root = Some (c.in-Ok.top, suc c.args.depth) }) _ c.args.key c.args.val (Err c.in-Err.pair) c.args.root c.in-Ok.top c.args.depth
+    c.requires.root refl (rw add-one refl) c.requires.whole c.in-Ok.ensures.done (rw add-one at c.in-Err.ensures.inserts) (rw add-one at c.in-Err.ensures.retired) c.requires.spent
+
+pub returns-in-Ok-insert_at : goal.returns-in-Ok-insert_at
+returns-in-Ok-insert_at g c =
+    stored_raised g.K.Ord.cmp _ c.args.self.now (record { arenas = c.split_root_at.new.arenas; root = Some (c.in-Ok.top, suc c.args.depth) }) _ c.args.key c.args.val (Ok c.in-Ok-insert_at.answer) c.args.root c.in-Ok.top c.args.depth
+    c.requires.root refl (rw add-one refl) c.requires.whole c.in-Ok.ensures.done (rw add-one at c.in-Ok-insert_at.ensures.inserts) (rw add-one at c.in-Ok-insert_at.ensures.retired) c.requires.spent

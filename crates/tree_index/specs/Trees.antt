@@ -1,0 +1,36 @@
+-- What the calls of a tree answer and leave.
+use Rattle.std.specs.Prelude.{◌≡◌, ◌⊎◌, ℕ, suc, ◌-◌, ◌≤◌, Bool, true, false, List, Result}
+use Rattle.std.specs.declared.cmp.Ordering.{Ordering}
+use Rattle.tree_array.specs.declared.answers.StoreResult.{StoreResult}
+use Rattle.tree_model.specs.Edits.{RemovesIf}
+use Rattle.tree_node.specs.Inserts.{Inserts, asks_split, refused}
+use Rattle.tree_node.specs.Whole.{IsTree, depth_of, spare_under, walk_under}
+use Rattle.tree_index.specs.declared.tree.Tree.{Tree}
+
+module _ {K V : Type 0} {LEN : ℕ} where
+  abbrev pub pairs_of : Tree K V LEN → List (K × V)
+  pairs_of tree = walk_under tree.arenas tree.root
+
+  abbrev pub spare_of : Tree K V LEN → ℕ
+  spare_of tree = spare_under tree.arenas tree.root
+
+  abbrev pub IsWhole : (K → K → Ordering) → Tree K V LEN → Type 0
+  IsWhole cmp tree = IsTree cmp tree.arenas tree.root
+
+  -- The pair is stored, or it comes back for a duplicate or for want of memory.
+  pub record Stores (cmp : K → K → Ordering) (upsert : Bool) (old new : Tree K V LEN) (key : K) (val : V) (result : Result (StoreResult K V) (K × V)) : Type 0 where
+    pub whole : IsWhole cmp new
+    pub pairs : Inserts cmp upsert result (pairs_of old) key val (pairs_of new)
+    pub not_full : asks_split result ≡ false
+    -- a write takes at most one slot of a leaf, and is refused only where one has none
+    pub lowers : spare_of old ≤ suc (spare_of new)
+    pub spent : refused result ≡ true → spare_of old ≡ 0
+    -- the first one makes a tree of one level
+    pub first : depth_of old.root ≡ 0 → refused result ≡ false → (depth_of new.root ≡ 1) × (spare_of new ≡ LEN - 1)
+
+  -- The pair at the key is gone, where the condition says so of its value, or nothing is. `Says` tells what the condition answers of a value.
+  pub record Takes (cmp : K → K → Ordering) (Says : V → Bool → Type 0) (old new : Tree K V LEN) (key : K) (removed : Bool) : Type 0 where
+    pub whole : IsWhole cmp new
+    pub pairs : RemovesIf cmp Says (pairs_of old) key removed (pairs_of new)
+    -- no leaf loses room, but one that loses its last pair has none
+    pub spare : (spare_of new ≡ 0) ⊎ (spare_of old ≤ spare_of new)

@@ -1,0 +1,158 @@
+//! The tree that an index stands on.
+ghost use Rattle.std.specs.Prelude.{◌≡◌, ◌⊎◌, [], ◌+◌, ◌*◌, ◌^◌, ◌<◌, ◌≤◌, length, MatchOption, None, Some, false};
+ghost use Rattle.std.specs.Fn.{FnOnceReturnsAt, FnOnceTakesAt};
+ghost use Rattle.std.specs.Option.{ForSome};
+ghost use Rattle.tree_array.specs.Length.{IsLen};
+ghost use Rattle.tree_model.specs.Pairs.{IsAbsent, pair_at};
+ghost use Rattle.tree_node.specs.Inserts.{IsNew};
+ghost use Rattle.tree_node.specs.Shape.{room};
+ghost use Rattle.tree_node.specs.Tree.{IsRetired};
+ghost use Rattle.tree_node.specs.Whole.{depth_of, leaves_under};
+ghost use Rattle.tree_index.specs.Trees.{IsWhole, Stores, Takes, pairs_of, spare_of};
+
+use std::alloc::Global;
+use tree_array::array::{IndexKey, Judge, RemoveResult, StoreResult};
+use tree_leaf::arena::NodeId;
+use tree_node::insertion::insert_at;
+use tree_node::look_ups::search_at;
+use tree_node::lowering::lower_root_at;
+use tree_node::node::ArenasOf;
+use tree_node::planting::plant;
+use tree_node::removal::remove_at;
+use tree_node::root::split_root_at;
+
+/// Arenas, and the root of the tree in them with its level, if there is one.
+#[derive(Drop)]
+pub struct Tree<K: IndexKey, V: Drop, const LEN: usize> {
+    pub(crate) arenas: ArenasOf<K, V, LEN>,
+    pub(crate) root: Option<(NodeId, usize)>,
+}
+
+impl<K: IndexKey, V: Drop, const LEN: usize> Tree<K, V, LEN> {
+    /// The tree without pairs. It takes no memory yet.
+    pub fn new(alloc: Global) -> Self
+        ensures whole { IsWhole K.cmp result }
+        ensures root { result.root ≡ None }
+    {
+        Tree {
+            arenas: ArenasOf::new(alloc),
+            root: None,
+        }
+    }
+
+    /// Stores a pair, in place of one with an equal key if `UPSERT` says so.
+    ///
+    /// Never `Full`. An `Err` is for want of memory. At most `LEN` comparisons a level, and where an
+    /// array was full twice as many.
+    pub fn store<const UPSERT: bool>(&mut self, key: K, val: V) -> Result<StoreResult<K, V>, (K, V)>
+        requires len { IsLen LEN }
+        requires whole { IsWhole K.cmp self.old }
+        ensures { Stores K.cmp UPSERT self.old self.new key val result }
+    {
+        let Some((root, depth)) = self.root else {
+            return self.store_first::<UPSERT>(key, val);
+        };
+        match insert_at::<UPSERT, K, V, LEN>(&mut self.arenas, depth, root, key, val) {
+            Err(pair) => Err(pair),
+            Ok(answer) => match answer {
+                StoreResult::New => Ok(StoreResult::New),
+                StoreResult::Replaced => Ok(StoreResult::Replaced),
+                StoreResult::Duplicate(key, val) => Ok(StoreResult::Duplicate(key, val)),
+                StoreResult::Full(key, val) => self.store_grown::<UPSERT>(root, depth, key, val),
+            },
+        }
+    }
+
+    /// Stores the first pair.
+    fn store_first<const UPSERT: bool>(
+        &mut self,
+        key: K,
+        val: V,
+    ) -> Result<StoreResult<K, V>, (K, V)>
+        requires len { IsLen LEN }
+        requires whole { IsWhole K.cmp self.old }
+        requires bare { leaves_under self.old.arenas.nodes self.old.root ≡ [] }
+        ensures { Stores K.cmp UPSERT self.old self.new key val result }
+    {
+        match plant(&mut self.arenas, self.root, key, val) {
+            Err(pair) => Err(pair),
+            Ok(root) => {
+                self.root = Some((root, 1));
+                Ok(StoreResult::New)
+            }
+        }
+    }
+
+    /// Stores a pair for which the root has no room: a retired one makes place for a new one, and
+    /// another one is split.
+    fn store_grown<const UPSERT: bool>(
+        &mut self,
+        root: NodeId,
+        depth: usize,
+        key: K,
+        val: V,
+    ) -> Result<StoreResult<K, V>, (K, V)>
+        requires len { IsLen LEN }
+        requires whole { IsWhole K.cmp self.old }
+        requires root { self.old.root ≡ Some (root, depth) }
+        requires full { IsRetired depth self.old.arenas root ⊎ (room depth self.old.arenas root ≡ 0) }
+        requires new { IsNew K.cmp UPSERT (pairs_of self.old) key }
+        requires spent { spare_of self.old ≡ 0 }
+        ensures { Stores K.cmp UPSERT self.old self.new key val result }
+    {
+        if self.arenas.node(root).is_childless() {
+            return self.store_first::<UPSERT>(key, val);
+        }
+        let Ok(top) = split_root_at(&mut self.arenas, depth, root) else {
+            return Err((key, val));
+        };
+        self.root = Some((top, depth + 1));
+        match insert_at::<UPSERT, K, V, LEN>(&mut self.arenas, depth + 1, top, key, val) {
+            Err(pair) => Err(pair),
+            Ok(answer) => Ok(answer),
+        }
+    }
+
+    /// Removes the pair at a key where the condition says so of its value, and says whether it did. At most
+    /// `LEN` comparisons a level and in the leaf, and no memory.
+    pub fn remove_if<F: FnOnce(&V) -> bool + Drop>(&mut self, key: &K, condition: F) -> bool
+        requires whole { IsWhole K.cmp self.old }
+        requires callable { ForSome (pair_at K.cmp (pairs_of self.old) key.now) (λ pair. FnOnceTakesAt F.FnOnce condition pair.1) }
+        ensures { Takes K.cmp (FnOnceReturnsAt F.FnOnce condition) self.old self.new key.now result }
+    {
+        let Some((root, depth)) = self.root else {
+            return false;
+        };
+        match remove_at(&mut self.arenas, depth, root, key, condition) {
+            RemoveResult::Fail => false,
+            RemoveResult::Success => {
+                self.root = lower_root_at(&mut self.arenas, depth, root);
+                true
+            }
+            RemoveResult::Retired => {
+                self.root = lower_root_at(&mut self.arenas, depth, root);
+                true
+            }
+        }
+    }
+
+    /// The pair with the judge's key. At most `LEN` comparisons a level and in the leaf.
+    pub fn search<J: Judge<K>>(&self, judge: &mut J) -> Option<(&K, &V)>
+        requires { IsWhole K.cmp self.now }
+        ensures found { MatchOption result (IsAbsent K.cmp (pairs_of self.now) (J.key judge.old)) (λ pair. pair_at K.cmp (pairs_of self.now) (J.key judge.old) ≡ Some (pair.0.now, pair.1.now)) }
+        ensures counted { J.count judge.new ≤ J.count judge.old + LEN * (depth_of self.now.root + 1) }
+    {
+        let (root, depth) = self.root?;
+        search_at(&self.arenas, depth, root, judge)
+    }
+
+    /// How many slots the leaves have, which are no fewer than the pairs. It looks at no leaf.
+    pub fn slots(&self) -> u128
+        requires len { IsLen LEN }
+        requires whole { IsWhole K.cmp self.now }
+        ensures slots { length (pairs_of self.now) ≤ result }
+        ensures small { result < 2 ^ 127 }
+    {
+        LEN as u128 * self.arenas.leaf_count() as u128
+    }
+}

@@ -1,0 +1,55 @@
+-- The boundary of an array parts its entries: some are before it, and some are not.
+use Rattle.std.proofs.Common.{◌≡◌, ℕ, suc, ◌+◌, ◌*◌, ◌-◌, ◌<◌, ◌≤◌, ◌==◌, Bool, true, false, cond, leb, ltb, List, [], ◌∷◌, length, refl, arith, inl, inr}
+use Rattle.std.specs.declared.cmp.Ordering.{Ordering}
+use Rattle.std.specs.Ordering.{is_lt}
+use Rattle.std.proofs.lemmas.Bool.Decides.{nat_tests}
+use Rattle.tree_array.specs.Arrivals.{Arrivals, ascents, boundary, boundary_of, reachable}
+use Rattle.tree_array.specs.Length.{IsLen, limit}
+use Rattle.tree_array.specs.Sound.{IsSound}
+
+module _ (len count rises : ℕ) where
+  pub boundary_count : (boundary_of len count rises).1 ≡ count
+  boundary_count = by_tests (leb count (limit len)) (ltb (2 * rises + 1) count)
+    where
+      by_tests : (few fewer : Bool) → (cond {A = ℕ × ℕ × Bool} few (len, count, false) (cond fewer (rises + 1, count, false) (rises, count, rises == len - 1))).1 ≡ count
+      by_tests true fewer = refl
+      by_tests false true = refl
+      by_tests false false = refl
+
+  limit_some : IsLen len → 1 < limit len
+  limit_some (inl seven) = rw seven (omega arith)
+  limit_some (inr fifteen) = rw fifteen (omega arith)
+
+  boundary_parts : IsLen len → limit len < count → rises < count → (0 < (boundary_of len count rises).0) × ((boundary_of len count rises).0 < count)
+  boundary_parts is_len many fewer = by_tests (leb count (limit len)) (ltb (2 * rises + 1) count) refl refl
+    where
+      by_tests : (few rare : Bool) → leb count (limit len) ≡ few → ltb (2 * rises + 1) count ≡ rare
+          → (0 < (cond {A = ℕ × ℕ × Bool} few (len, count, false) (cond rare (rises + 1, count, false) (rises, count, rises == len - 1))).0)
+          × ((cond {A = ℕ × ℕ × Bool} few (len, count, false) (cond rare (rises + 1, count, false) (rises, count, rises == len - 1))).0 < count)
+      by_tests true rare is_few is_rare = absurd (let some = many in grind (arith, nat_tests))
+      by_tests false true is_few is_rare = let less : 2 * rises + 1 < count = grind (arith, nat_tests) in (omega arith, omega (arith, less))
+      by_tests false false is_few is_rare =
+          let least = limit_some is_len in
+          let more : count ≤ 2 * rises + 1 = grind (arith, nat_tests) in
+          (omega (arith, more, least, many), fewer)
+
+module _ {K V : Type 0} (cmp : K → K → Ordering) where
+  ascents_below : (pair : K × V) (pairs : List (K × V)) → ascents cmp (pair ∷ pairs) ≤ length pairs
+  ascents_below pair [] = omega arith
+  ascents_below pair (next ∷ pairs) = by_test (is_lt (cmp pair.0 next.0)) (ascents_below next pairs)
+    where
+      by_test : (b : Bool) → ascents cmp (next ∷ pairs) ≤ length pairs → cond b 1 0 + ascents cmp (next ∷ pairs) ≤ suc (length pairs)
+      by_test true later = omega arith
+      by_test false later = omega arith
+
+  ascents_fewer : (pairs : List (K × V)) → 0 < length pairs → ascents cmp pairs < length pairs
+  ascents_fewer [] some = absurd (omega arith)
+  ascents_fewer (pair ∷ pairs) some = omega (arith, ascents_below pair pairs)
+
+  -- above the limit some entries are before the boundary, and some are not
+  pub parted_by : (len : ℕ) (array : Arrivals K V) → IsSound cmp len array → limit len < length array.entries
+      → (0 < (boundary cmp len array).0) × ((boundary cmp len array).0 < length array.entries)
+  parted_by len array sound many =
+      let fewer : ascents cmp (reachable array.arrivals) < length array.entries =
+      rw sound.count (ascents_fewer (reachable array.arrivals) (omega (arith, sound.count, many))) in
+      boundary_parts len (length array.entries) (ascents cmp (reachable array.arrivals)) sound.is_len many fewer

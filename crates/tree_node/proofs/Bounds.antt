@@ -1,0 +1,74 @@
+-- How many pairs stand under a number at most.
+use Rattle.std.proofs.Common.{◌≡◌, ℕ, zero, suc, ◌+◌, ◌*◌, ◌^◌, ◌≤◌, List, [], ◌∷◌, ◌++◌, map, length, length-append, Option, Some, None, refl, ap, arith, mul-suc}
+use Rattle.std.proofs.Math.Nat.{mul-le-mul_left, pow-suc, pow-zero}
+use Rattle.std.specs.List.{flat_map, AllByRecursion}
+use Rattle.std.specs.declared.cmp.Ordering.{Ordering}
+use Rattle.std.proofs.lemmas.List.{length-map}
+use Rattle.std.proofs.lemmas.List.Concat.{flat_map-append}
+use Rattle.tree_model.proofs.Lists.{all-append}
+use Rattle.slab.specs.Slab.{slab_len}
+use Rattle.tree_leaf.proofs.Pigeonhole.{once_fits}
+use Rattle.tree_node.specs.Arenas.{TreeArenas}
+use Rattle.tree_node.specs.Parts.{IsPart}
+use Rattle.tree_node.specs.Tree.{AreParted, Stands, keyed, leaf_entries, leaves_at, nodes_at, children_of, walk}
+use Rattle.tree_node.proofs.Bare.{parted_last}
+
+-- lists of a bounded length, one after another
+length-flat_map : {X Y : Type 0} (f : X → List Y) (most : ℕ) (xs : List X) → AllByRecursion (λ x. length (f x) ≤ most) xs → length (flat_map f xs) ≤ most * length xs
+length-flat_map f most [] all = omega arith
+length-flat_map f most (x ∷ xs) all = omega (arith, length-append (f x) (flat_map f xs), length-flat_map f most xs all.1, all.0, mul-suc most (length xs))
+
+all-flat_map : {X Y : Type 0} (P : Y → Type 0) (f : X → List Y) (xs : List X) → AllByRecursion (λ x. AllByRecursion P (f x)) xs → AllByRecursion P (flat_map f xs)
+all-flat_map P f [] all = tt
+all-flat_map P f (x ∷ xs) all = all-append P (f x) (flat_map f xs) all.0 (all-flat_map P f xs all.1)
+
+module _ {K V : Type 0} {LEN : ℕ} (cmp : K → K → Ordering) (a : TreeArenas K V LEN) where
+  parted_all : (Child : Option K → ℕ → Option K → Type 0) (P : ℕ → Type 0) → ((low : Option K) (id : ℕ) (high : Option K) → Child low id high → P id)
+      → (low : Option K) (pairs : List (K × ℕ)) (last : ℕ) (high : Option K) → AreParted cmp Child low pairs last high → AllByRecursion P (map (λ c. c.1) pairs ++ last ∷ [])
+  parted_all Child P each low [] last high parted = (each low last high parted, tt)
+  parted_all Child P each low (c ∷ rest) last high parted = (each low c.1 (Some c.0) parted.0, parted_all Child P each (Some c.0) rest last high parted.3)
+
+  leaves_few : (level : ℕ) (low : Option K) (id : ℕ) (high : Option K) → Stands cmp level a low id high → AllByRecursion (λ n. length (leaf_entries a.leaves n) ≤ LEN) (leaves_at level a.nodes id)
+  leaves_few zero low id high s = (rw s.here s.few, tt)
+  leaves_few (suc level) low id high s =
+      rw (s.here, s.last_is)
+      (all-flat_map (λ n. length (leaf_entries a.leaves n) ≤ LEN) (leaves_at level a.nodes) _ (parted_all (Stands cmp level a) _ (leaves_few level) low _ _ high s.parted))
+
+  children_few : (level : ℕ) (low : Option K) (id : ℕ) (high : Option K) (s : Stands cmp (suc level) a low id high) → length (children_of a.nodes id) ≤ LEN + 1
+  children_few level low id high s = rw (s.here, s.last_is) (omega (arith, length-append (map (λ c. c.1) (keyed s.node).entries) (s.last ∷ []), length-map (keyed s.node).entries (λ c. c.1), s.few))
+
+  leaves_count : (level : ℕ) (low : Option K) (id : ℕ) (high : Option K) → Stands cmp level a low id high → length (leaves_at level a.nodes id) ≤ (LEN + 1) ^ level
+  leaves_count zero low id high s = omega (arith, pow-zero (LEN + 1))
+  leaves_count (suc level) low id high s =
+      let parts : AllByRecursion (λ x. length (leaves_at level a.nodes x) ≤ (LEN + 1) ^ level) (children_of a.nodes id) =
+      rw (s.here, s.last_is) (parted_all (Stands cmp level a) _ (leaves_count level) low _ _ high s.parted) in
+      let many = length-flat_map (leaves_at level a.nodes) ((LEN + 1) ^ level) (children_of a.nodes id) parts in
+      let few = mul-le-mul_left ((LEN + 1) ^ level) (children_few level low id high s) in
+      omega (arith, many, few, pow-suc (LEN + 1) level)
+
+  -- as many leaves as slots and one at every level, each with as many entries as slots
+  pub entries_few : (level : ℕ) (low : Option K) (id : ℕ) (high : Option K) → Stands cmp level a low id high → length (walk level a id) ≤ LEN * length (leaves_at level a.nodes id)
+  entries_few level low id high s = length-flat_map (leaf_entries a.leaves) LEN (leaves_at level a.nodes id) (leaves_few level low id high s)
+
+  pub walk_few : (level : ℕ) (low : Option K) (id : ℕ) (high : Option K) → Stands cmp level a low id high → length (walk level a id) ≤ LEN * (LEN + 1) ^ level
+  walk_few level low id high s = omega (arith, entries_few level low id high s, mul-le-mul_left LEN (leaves_count level low id high s))
+
+  -- a part has a node at each level
+  pub level_few : (level : ℕ) (low : Option K) (id : ℕ) (high : Option K) → Stands cmp level a low id high → level ≤ length (nodes_at level a.nodes id)
+  level_few zero low id high s = omega arith
+  level_few (suc level) low id high s =
+      let keyed_ids = map (λ c. c.1) (keyed s.node).entries in
+      let split : flat_map (nodes_at level a.nodes) (children_of a.nodes id) ≡ flat_map (nodes_at level a.nodes) keyed_ids ++ (nodes_at level a.nodes s.last ++ []) =
+      rw (s.here, s.last_is, flat_map-append (nodes_at level a.nodes) keyed_ids) refl in
+      let at = parted_last cmp a (Stands cmp level a) low _ _ high s.parted in
+      omega (
+        arith,
+        ap length split,
+        length-append (flat_map (nodes_at level a.nodes) keyed_ids) (nodes_at level a.nodes s.last ++ []),
+        length-append (nodes_at level a.nodes s.last) [],
+        level_few level at.0 s.last high at.1,
+      )
+
+  -- a part has no more levels than nodes are in use
+  pub part_levels : (level : ℕ) (id : ℕ) → IsPart cmp level a id → level ≤ slab_len a.nodes
+  part_levels level id part = omega (arith, level_few level None id None part.stands, once_fits a.nodes (nodes_at level a.nodes id) part.nodes_once)

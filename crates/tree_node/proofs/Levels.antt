@@ -1,0 +1,90 @@
+-- What the kind of a node says of its level, and where a key is found under a node of either kind.
+use Rattle.std.proofs.Common.{◌≡◌, ℕ, zero, suc, ◌+◌, ◌-◌, ◌*◌, ◌<◌, ◌≤◌, [], Some, None, IsSome, inl, refl, sym, subst, ◌∙◌, arith, add-one, sub-one, mul-suc}
+use Rattle.std.specs.declared.cmp.Ordering.{Ordering}
+use Rattle.std.specs.Cmp.{IsTotalOrder}
+use Rattle.slab.specs.Slab.{get}
+use Rattle.tree_leaf.specs.declared.leaf.LeafOf.{LeafOf}
+use Rattle.tree_model.specs.Pairs.{pair_at}
+use Rattle.tree_node.specs.declared.internal_node.InternalNodeOf.{InternalNodeOf}
+use Rattle.tree_node.specs.declared.leaf_node.LeafNodeOf.{LeafNodeOf}
+use Rattle.tree_node.specs.declared.node.NodeOf.{NodeOf}
+use Rattle.tree_node.specs.declared.node.NodeOf.TheVariants.{Internal, Leaf}
+use Rattle.tree_node.specs.Arenas.{TreeArenas}
+use Rattle.tree_node.specs.Tree.{keyed, unbounded, child_of, HasChildFor, HasKind, IsRetired, IsRetiredNode, Stands, StandsOrRetired, walk}
+use Rattle.tree_node.proofs.Children.{node_there, stands_over, child_stands, nothing_under, leaf_there, walk-leaf}
+use Rattle.tree_node.proofs.Walks.{found_in_child}
+
+module _ {K V : Type 0} {LEN : ℕ} (cmp : K → K → Ordering) (a : TreeArenas K V LEN) (id : ℕ) where
+  -- a node that stands has the kind of its level
+  pub kind_of : (level : ℕ) (node : NodeOf K LEN) → Stands cmp (suc level) a None id None → get a.nodes id ≡ Some node → HasKind level node
+  kind_of level node s here =
+      let same : Some s.node ≡ Some node = sym s.here ∙ here in
+      let is : s.node ≡ node = cc in
+      subst (λ n. HasKind level n) is s.kind
+
+  pub node_at : (level : ℕ) → 0 < level → StandsOrRetired cmp level a id → IsSome (get a.nodes id)
+  node_at zero inner given = absurd (omega (arith, inner))
+  node_at (suc level) inner given = node_there level a id given
+
+  -- it is retired where it has no child
+  pub retired_at : (level : ℕ) → 0 < level → (node : NodeOf K LEN) → get a.nodes id ≡ Some node → (IsRetiredNode (Some node) → IsRetired level a id) × (IsRetired level a id → IsRetiredNode (Some node))
+  retired_at zero inner node here = absurd (omega (arith, inner))
+  retired_at (suc level) inner node here = rw here (λ retired. retired, λ retired. retired)
+
+  pub nothing_at : (level : ℕ) → 0 < level → StandsOrRetired cmp level a id → (k : K) (node : NodeOf K LEN) → get a.nodes id ≡ Some node
+      → child_of cmp k (keyed node).entries (unbounded node) ≡ None → walk level a id ≡ []
+  nothing_at zero inner given k node here none = absurd (omega (arith, inner))
+  nothing_at (suc level) inner given k node here none = nothing_under level a id given k node here none
+
+module _ {K V : Type 0} {LEN : ℕ} {cmp : K → K → Ordering} (o : IsTotalOrder cmp) (a : TreeArenas K V LEN) (id : ℕ) (k : K) (child : ℕ) where
+  -- a key is found in this leaf
+  pub record FoundInLeaf (level : ℕ) : Type 0 where
+    pub here : IsSome (get a.leaves child)
+    pub found : (leaf : LeafOf K V LEN) → get a.leaves child ≡ Some leaf → pair_at cmp (walk level a id) k ≡ pair_at cmp leaf.array.entries k
+
+  -- or under this node, one level below
+  pub record FoundBelow (level : ℕ) : Type 0 where
+    pub inner : 0 < level - 1
+    pub stands : StandsOrRetired cmp (level - 1) a child
+    pub found : pair_at cmp (walk level a id) k ≡ pair_at cmp (walk (level - 1) a child) k
+
+  in_leaf : Stands cmp 1 a None id None → HasChildFor cmp k (get a.nodes id) child → FoundInLeaf 1
+  in_leaf s routed = record {
+    here = leaf_there a child None None (child_stands o 0 a id s k child routed);
+    found = λ leaf here. rw (found_in_child o 0 a None id None s k child routed, walk-leaf a child leaf here) refl;
+  }
+
+  below : (level : ℕ) → Stands cmp (suc (suc level)) a None id None → HasChildFor cmp k (get a.nodes id) child → FoundBelow (suc (suc level))
+  below level s routed = record {
+    inner = omega arith;
+    stands = rw sub-one (inl (child_stands o (suc level) a id s k child routed));
+    found = rw sub-one (found_in_child o (suc level) a None id None s k child routed);
+  }
+
+  routes : (node : NodeOf K LEN) → get a.nodes id ≡ Some node → child_of cmp k (keyed node).entries (unbounded node) ≡ Some child → HasChildFor cmp k (get a.nodes id) child
+  routes node here chosen = rw here chosen
+
+  pub found_in_leaf : (level : ℕ) → 0 < level → StandsOrRetired cmp level a id → (node : LeafNodeOf K LEN) → get a.nodes id ≡ Some (Leaf node)
+      → child_of cmp k node.children.entries node.unbounded_child ≡ Some child → FoundInLeaf level
+  found_in_leaf zero inner given node here chosen = absurd (omega (arith, inner))
+  found_in_leaf (suc zero) inner given node here chosen =
+      let routed = routes (Leaf node) here chosen in in_leaf (stands_over 0 a id given k child routed) routed
+  found_in_leaf (suc (suc level)) inner given node here chosen =
+      absurd (kind_of cmp a id (suc level) (Leaf node) (stands_over (suc level) a id given k child (routes (Leaf node) here chosen)) here)
+
+  pub found_below : (level : ℕ) → 0 < level → StandsOrRetired cmp level a id → (node : InternalNodeOf K LEN) → get a.nodes id ≡ Some (Internal node)
+      → child_of cmp k node.children.entries node.unbounded_child ≡ Some child → FoundBelow level
+  found_below zero inner given node here chosen = absurd (omega (arith, inner))
+  found_below (suc zero) inner given node here chosen =
+      absurd (kind_of cmp a id 0 (Internal node) (stands_over 0 a id given k child (routes (Internal node) here chosen)) here)
+  found_below (suc (suc level)) inner given node here chosen =
+      let routed = routes (Internal node) here chosen in below level (stands_over (suc level) a id given k child routed) routed
+
+-- one array is asked at each level, and the leaf
+pub two_asked : (len level x y z : ℕ) → 0 < level → y ≤ x + len → z ≤ y + len → z ≤ x + len * (level + 1)
+two_asked len zero x y z inner first second = absurd (omega (arith, inner))
+two_asked len (suc level) x y z inner first second = rw (add-one, mul-suc, mul-suc) (omega arith)
+
+pub one_more_asked : (len level x y z : ℕ) → 0 < level → y ≤ x + len → z ≤ y + len * (level - 1 + 1) → z ≤ x + len * (level + 1)
+one_more_asked len zero x y z inner first second = absurd (omega (arith, inner))
+one_more_asked len (suc level) x y z inner first second = rw (add-one, mul-suc) (omega (arith, rw (sub-one, add-one) at second))

@@ -1,0 +1,72 @@
+-- What the kind of a node says of its level, and what stands at a level that a program counts.
+use Rattle.std.proofs.Common.{◌≡◌, ◌⊎◌, ℕ, zero, suc, ◌<◌, ◌∷◌, None, Some, IsSome, refl, ap, arith, inl, inr}
+use Rattle.std.specs.declared.cmp.Ordering.{Ordering}
+use Rattle.std.specs.Cmp.{IsTotalOrder}
+use Rattle.slab.specs.Slab.{get}
+use Rattle.tree_leaf.specs.Counting.{times}
+use Rattle.tree_leaf.proofs.Counts.{times-append}
+use Rattle.tree_node.specs.declared.internal_node.InternalNodeOf.{InternalNodeOf}
+use Rattle.tree_node.specs.declared.leaf_node.LeafNodeOf.{LeafNodeOf}
+use Rattle.tree_node.specs.declared.node.NodeOf.{NodeOf}
+use Rattle.tree_node.specs.declared.node.NodeOf.TheVariants.{Internal, Leaf}
+use Rattle.tree_node.specs.Arenas.{TreeArenas}
+use Rattle.tree_node.specs.Parts.{IsPart}
+use Rattle.tree_node.specs.Tree.{HasChildFor, HasKind, IsRetired, IsRetiredNode, Stands, child_at, children_of, is_from, keyed}
+use Rattle.tree_node.proofs.ChildChanges.{front, back, was}
+use Rattle.tree_node.proofs.Children.{node_there}
+use Rattle.tree_node.proofs.Frames.{head_here}
+use Rattle.tree_node.proofs.LowSplits.{node_is}
+
+module _ {K V : Type 0} {LEN : ℕ} {cmp : K → K → Ordering} where
+  kind_at : (level : ℕ) (a : TreeArenas K V LEN) (id : ℕ) → IsPart cmp (suc level) a id → (node : NodeOf K LEN) → get a.nodes id ≡ Some node → HasKind level node
+  kind_at level a id part node here =
+      let s : Stands cmp (suc level) a None id None = part.stands in
+      rw (node_is level a None id None s node here) at s.kind
+
+  -- a node over nodes is above the first level
+  pub inner_level : (level : ℕ) → 0 < level → (a : TreeArenas K V LEN) (id : ℕ) → IsPart cmp level a id → (node : InternalNodeOf K LEN) → get a.nodes id ≡ Some (Internal node) → 1 < level
+  inner_level zero deep a id part node here = absurd (omega (arith, deep))
+  inner_level (suc zero) deep a id part node here = absurd (kind_at zero a id part (Internal node) here)
+  inner_level (suc (suc level)) deep a id part node here = omega arith
+
+  -- and one over leaves is at it
+  pub outer_level : (level : ℕ) → 0 < level → (a : TreeArenas K V LEN) (id : ℕ) → IsPart cmp level a id → (node : LeafNodeOf K LEN) → get a.nodes id ≡ Some (Leaf node) → level ≡ 1
+  outer_level zero deep a id part node here = absurd (omega (arith, deep))
+  outer_level (suc zero) deep a id part node here = refl
+  outer_level (suc (suc level)) deep a id part node here = absurd (kind_at (suc level) a id part (Leaf node) here)
+
+  -- a node that stands has a child for each key
+  pub some_child : (level : ℕ) → 0 < level → (a : TreeArenas K V LEN) (id : ℕ) → IsPart cmp level a id → (key : K) → (child : ℕ) × HasChildFor cmp key (get a.nodes id) child
+  some_child zero deep a id part key = absurd (omega (arith, deep))
+  some_child (suc level) deep a id part key =
+      let s : Stands cmp (suc level) a None id None = part.stands in
+      (child_at (is_from cmp key) (keyed s.node).entries s.last, rw (s.here, s.last_is) refl)
+
+  -- which is one of its children
+  pub child_inside : IsTotalOrder cmp → (level : ℕ) → 0 < level → (a : TreeArenas K V LEN) (id child : ℕ) (key : K) → IsPart cmp level a id → HasChildFor cmp key (get a.nodes id) child → 0 < times child (children_of a.nodes id)
+  child_inside o zero deep a id child key part which = absurd (omega (arith, deep))
+  child_inside o (suc level) deep a id child key part which =
+      let s : Stands cmp (suc level) a None id None = part.stands in
+      let before = front o level a id child key part which None None s in
+      let behind = back o level a id child key part which None None s in
+      omega (arith, ap (times child) (was o level a id child key part which None None s), times-append child before (child ∷ behind), head_here child behind)
+
+  -- a node is there
+  pub node_used : (level : ℕ) → 0 < level → (a : TreeArenas K V LEN) (id : ℕ) → IsPart cmp level a id ⊎ IsRetired level a id → IsSome (get a.nodes id)
+  node_used zero deep a id there = absurd (omega (arith, deep))
+  node_used (suc level) deep a id (inl part) = node_there level a id (inl part.stands)
+  node_used (suc level) deep a id (inr retired) = node_there {cmp = cmp} level a id (inr retired)
+
+  -- a part that stands isn't retired
+  pub not_retired : (level : ℕ) → 0 < level → (a : TreeArenas K V LEN) (id : ℕ) → IsPart cmp level a id → (node : NodeOf K LEN) → get a.nodes id ≡ Some node → IsRetiredNode (Some node) → ⊥
+  not_retired zero deep a id part node here retired = omega (arith, deep)
+  not_retired (suc level) deep a id part node here retired =
+      let s : Stands cmp (suc level) a None id None = part.stands in
+      let last = rw (node_is level a None id None s node here) at s.last_is in
+      let none = retired.1 in
+      cc
+
+module _ {K V : Type 0} {LEN : ℕ} where
+  pub retired_node : (level : ℕ) → 0 < level → (a : TreeArenas K V LEN) (id : ℕ) → IsRetired level a id → (node : NodeOf K LEN) → get a.nodes id ≡ Some node → IsRetiredNode (Some node)
+  retired_node zero deep a id retired node here = absurd (omega (arith, deep))
+  retired_node (suc level) deep a id retired node here = rw here at retired

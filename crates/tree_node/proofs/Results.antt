@@ -1,0 +1,13 @@
+-- What is known of a result by its arm.
+use Rattle.std.proofs.Common.{Result, Ok, Err}
+use Rattle.std.specs.Result.{IfOk, MatchResult, OnErr}
+
+-- what holds anyway holds after an error
+pub on_err : {T E : Type 0} {P : Type 0} (result : Result T E) → P → OnErr result P
+on_err (Ok x) p = tt
+on_err (Err e) p = p
+
+-- what is known of each success
+pub of_success : {T E : Type 0} (P Q : T → Type 0) (R : E → Type 0) (result : Result T E) → ((x : T) → P x → Q x) → MatchResult result P R → IfOk result Q
+of_success P Q R (Ok x) h known = h x known
+of_success P Q R (Err e) h known = tt

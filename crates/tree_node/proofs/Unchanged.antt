@@ -1,0 +1,58 @@
+-- What stands under every number is what it was: so is each part, and each chain.
+use Rattle.std.proofs.Common.{◌≡◌, ℕ, zero, suc, List, [], ◌∷◌, None, is_some, refl, ap, ◌∙◌}
+use Rattle.std.specs.declared.cmp.Ordering.{Ordering}
+use Rattle.slab.specs.Slab.{Slab, get}
+use Rattle.tree_leaf.specs.declared.leaf.LeafOf.{LeafOf}
+use Rattle.tree_leaf.specs.Arena.{KeepsBoth}
+use Rattle.tree_leaf.specs.Chain.{IsChain}
+use Rattle.tree_leaf.proofs.Chains.{linked_kept, same_array_refl}
+use Rattle.tree_leaf.proofs.Counts.{uses_same}
+use Rattle.tree_node.specs.Arenas.{TreeArenas}
+use Rattle.tree_node.specs.Parts.{IsPart, Replaces, Unchanged}
+use Rattle.tree_node.specs.Shape.{room, slot_free, slot_room}
+use Rattle.tree_node.specs.Tree.{leaves_of, nodes_of, leaves_at, nodes_at}
+use Rattle.tree_node.proofs.Frames.{Agrees, same_leaves, same_nodes, same_stands}
+use Rattle.tree_node.proofs.Lists.{all_yes, flat_map_same}
+use Rattle.tree_node.proofs.Steps.{part_after}
+
+-- a chain depends on what stands under its numbers
+pub chain_same : {K V : Type 0} {LEN : ℕ} (s t : Slab (LeafOf K V LEN)) → ((n : ℕ) → get t n ≡ get s n) → (ids : List ℕ) → IsChain s ids → IsChain t ids
+chain_same s t same ids chain = record { once = λ n. rw (uses_same s t n (ap is_some (same n))) (chain.once n); linked = linked_kept s t None ids None (λ n inside. same n) chain.linked }
+
+module _ {K V : Type 0} {LEN : ℕ} where
+  -- places that were reserved change nothing
+  pub unchanged_by_keeping : (old new : TreeArenas K V LEN) → KeepsBoth old new → Unchanged old new
+  unchanged_by_keeping old new keeps = record {
+    leaves = λ n. rw keeps.leaves.slots refl;
+    nodes = λ n. rw keeps.nodes.slots refl;
+  }
+
+  pub unchanged_trans : (a b c : TreeArenas K V LEN) → Unchanged a b → Unchanged b c → Unchanged a c
+  unchanged_trans a b c first second = record { leaves = λ n. second.leaves n ∙ first.leaves n; nodes = λ n. second.nodes n ∙ first.nodes n }
+
+  module _ (level : ℕ) (old new : TreeArenas K V LEN) (same : Unchanged old new) where
+    pub unchanged_agrees : (id : ℕ) → Agrees level old new id
+    unchanged_agrees id = record { nodes = λ n below. same.nodes n; leaves = λ n below. rw (same.leaves n) (same_array_refl (get old.leaves n)) }
+
+    leaves_stay : (ids : List ℕ) → leaves_of level new.nodes ids ≡ leaves_of level old.nodes ids
+    leaves_stay ids = flat_map_same (leaves_at level new.nodes) (leaves_at level old.nodes) ids (all_yes (λ id. same_leaves level old new id (unchanged_agrees id)) ids)
+
+    nodes_stay : (ids : List ℕ) → nodes_of level new.nodes ids ≡ nodes_of level old.nodes ids
+    nodes_stay ids = flat_map_same (nodes_at level new.nodes) (nodes_at level old.nodes) ids (all_yes (λ id. same_nodes level old new id (unchanged_agrees id)) ids)
+
+    pub unchanged_replaces : (ids : List ℕ) → Replaces level old new ids ids
+    unchanged_replaces ids = record {
+      nodes_kept = λ n used outside. same.nodes n;
+      leaves_kept = λ n used outside. rw (same.leaves n) (same_array_refl (get old.leaves n));
+      nodes_counted = λ n. rw (nodes_stay ids, uses_same old.nodes new.nodes n (ap is_some (same.nodes n))) refl;
+      leaves_counted = λ n. rw (leaves_stay ids, uses_same old.leaves new.leaves n (ap is_some (same.leaves n))) refl;
+      chained = λ front back chain. rw (leaves_stay ids) (chain_same old.leaves new.leaves same.leaves _ chain);
+    }
+
+    pub unchanged_part : (cmp : K → K → Ordering) (id : ℕ) → IsPart cmp level old id → IsPart cmp level new id
+    unchanged_part cmp id part =
+        part_after cmp level old new id part (same_stands cmp level old new id (unchanged_agrees id) None None part.stands) (unchanged_replaces (id ∷ []))
+
+  pub unchanged_room : (level : ℕ) (old new : TreeArenas K V LEN) → Unchanged old new → (id : ℕ) → room level new id ≡ room level old id
+  unchanged_room zero old new same id = ap slot_free (same.leaves id)
+  unchanged_room (suc level) old new same id = ap slot_room (same.nodes id)

@@ -1,0 +1,154 @@
+-- What keeps a whole tree.
+use Rattle.std.proofs.Common.{◌≡◌, ◌⊎◌, ℕ, suc, ◌<◌, ◌≤◌, ◌==◌, cond, Bool, true, false, List, [], ◌∷◌, ◌++◌, length, Option, Some, None, is_some, inl, inr, refl, sym, ap, ◌∙◌, arith}
+use Rattle.std.specs.declared.cmp.Ordering.{Ordering}
+use Rattle.std.proofs.lemmas.Bool.Decides.{nat_tests}
+use Rattle.std.proofs.lemmas.List.{append-nil}
+use Rattle.slab.specs.Slab.{get}
+use Rattle.tree_leaf.specs.Chain.{AreLinked, IsChain}
+use Rattle.tree_leaf.specs.Counting.{times, uses}
+use Rattle.tree_leaf.proofs.Chains.{same_array_refl}
+use Rattle.tree_leaf.proofs.Counts.{uses_same}
+use Rattle.tree_node.specs.Arenas.{TreeArenas}
+use Rattle.tree_node.specs.Depth.{HasNoKeyed}
+use Rattle.tree_node.specs.Lowering.{IsRootIfAny, LowersRoot}
+use Rattle.tree_node.specs.Parts.{IsPart, Replaces, Unchanged}
+use Rattle.tree_node.specs.Shape.{spare}
+use Rattle.tree_node.specs.Splits.{RaisesRoot}
+use Rattle.tree_node.specs.Tree.{Stands, leaves_at, leaves_of, nodes_at}
+use Rattle.tree_node.specs.Whole.{IsRetiredRoot, IsTop, IsTree, leaves_under, nodes_under, spare_under, walk_under}
+use Rattle.tree_node.proofs.Bare.{has_leaf}
+use Rattle.tree_node.proofs.Frames.{Agrees, same_leaves, same_nodes, same_stands, same_walk}
+use Rattle.tree_node.proofs.Lifts.{single_leaves, single_nodes}
+use Rattle.tree_node.proofs.Spares.{same_spare}
+
+module _ {K V : Type 0} {LEN : ℕ} {cmp : K → K → Ordering} where
+  -- a tree whose root stands is a part
+  pub tree_part : (a : TreeArenas K V LEN) (id level : ℕ) → IsTree cmp a (Some (id, level)) → Stands cmp level a None id None → IsPart cmp level a id
+  tree_part a id level tree stands = record {
+    stands = stands;
+    nodes_once = λ n. omega (arith, tree.nodes_once n);
+    front = [];
+    back = [];
+    chain = rw (append-nil (leaves_at level a.nodes id)) tree.chain;
+  }
+
+  -- the root's part was replaced: each number in use is reached once, and the leaves are the chain
+  module _ (a b : TreeArenas K V LEN) (id level : ℕ) (tree : IsTree cmp a (Some (id, level))) (r : Replaces level a b (id ∷ []) (id ∷ [])) where
+    pub nodes_after : (n : ℕ) → times n (nodes_at level b.nodes id) ≡ uses b.nodes n
+    nodes_after n = omega (arith, tree.nodes_once n, r.nodes_counted n, ap (times n) (single_nodes level a.nodes id), ap (times n) (single_nodes level b.nodes id))
+
+    pub leaves_after : (n : ℕ) → times n (leaves_at level b.nodes id) ≡ uses b.leaves n
+    leaves_after n = omega (arith, tree.leaves_once n, r.leaves_counted n, ap (times n) (single_leaves level a.nodes id), ap (times n) (single_leaves level b.nodes id))
+
+    pub chain_after : IsChain b.leaves (leaves_at level b.nodes id)
+    chain_after = whole_chain (r.chained [] [] (rw (single_leaves level a.nodes id, append-nil (leaves_at level a.nodes id)) tree.chain))
+      where
+        whole_chain : IsChain b.leaves (leaves_of level b.nodes (id ∷ []) ++ []) → IsChain b.leaves (leaves_at level b.nodes id)
+        whole_chain chain = rw (single_leaves level b.nodes id, append-nil (leaves_at level b.nodes id)) at chain
+
+    pub tree_after : IsTop cmp b (Some (id, level)) → IsTree cmp b (Some (id, level))
+    tree_after top = record { top = top; nodes_once = nodes_after; leaves_once = leaves_after; chain = chain_after }
+
+  -- it stands under a new root
+  pub tree_raised : (a b : TreeArenas K V LEN) (root id depth : ℕ) → IsTree cmp a (Some (root, depth)) → RaisesRoot cmp depth a b root id → IsTree cmp b (Some (id, suc depth))
+  tree_raised a b root id depth tree r = record {
+    top = (omega arith, inl r.stands);
+    nodes_once = λ n. omega (arith, tree.nodes_once n, r.nodes_counted n);
+    leaves_once = λ n. omega (arith, tree.leaves_once n, r.leaves_counted n);
+    chain = whole_chain (r.chained [] [] (rw (append-nil (leaves_at depth a.nodes root)) tree.chain));
+  }
+    where
+      whole_chain : IsChain b.leaves (leaves_at (suc depth) b.nodes id ++ []) → IsChain b.leaves (leaves_at (suc depth) b.nodes id)
+      whole_chain chain = rw (append-nil (leaves_at (suc depth) b.nodes id)) at chain
+
+  -- or under what was left of it
+  pub tree_lowered : (a b : TreeArenas K V LEN) (id level : ℕ) (result : Option (ℕ × ℕ)) → ((n : ℕ) → times n (nodes_at level a.nodes id) ≡ uses a.nodes n) → ((n : ℕ) → times n (leaves_at level a.nodes id) ≡ uses a.leaves n)
+      → IsChain a.leaves (leaves_at level a.nodes id) → LowersRoot cmp level a b id result → IsTree cmp b result
+  tree_lowered a b id level result nodes leaves chain r = record {
+    top = as_top result r.stands;
+    nodes_once = λ n. omega (arith, nodes n, r.nodes_counted n);
+    leaves_once = λ n. omega (arith, leaves n, ap (times n) r.leaves_under, ap (λ slab. uses slab n) r.leaves);
+    chain = rw (r.leaves, r.leaves_under) chain;
+  }
+    where
+      as_top : (result : Option (ℕ × ℕ)) → IsRootIfAny cmp b result → IsTop cmp b result
+      as_top None root = tt
+      as_top (Some root) top = (top.0, by_root top.1)
+        where
+          by_root : ((IsPart cmp root.1 b root.0 × (1 < root.1 → HasNoKeyed (get b.nodes root.0) → ⊥)) ⊎ IsRetiredRoot b root.0 root.1) → (Stands cmp root.1 b None root.0 None ⊎ IsRetiredRoot b root.0 root.1)
+          by_root (inl part) = inl part.0.stands
+          by_root (inr gone) = inr gone
+
+  -- what stands under every number is what it was
+  pub tree_unchanged : (a b : TreeArenas K V LEN) (root : Option (ℕ × ℕ)) → Unchanged a b → IsTree cmp a root → IsTree cmp b root
+  tree_unchanged a b root same tree = record {
+    top = top_kept root tree.top;
+    nodes_once = λ n. rw (nodes_kept root) (tree.nodes_once n ∙ sym (uses_same a.nodes b.nodes n (ap is_some (same.nodes n))));
+    leaves_once = λ n. rw (leaves_kept root) (tree.leaves_once n ∙ sym (uses_same a.leaves b.leaves n (ap is_some (same.leaves n))));
+    chain = rw (leaves_kept root) (record {
+      once = λ n. omega (arith, tree.chain.once n, uses_same a.leaves b.leaves n (ap is_some (same.leaves n)));
+      linked = linked_kept None (leaves_under a.nodes root) tree.chain.linked;
+    });
+  }
+    where
+      agrees : (level id : ℕ) → Agrees level a b id
+      agrees level id = record { nodes = λ n inside. same.nodes n; leaves = λ n inside. rw (same.leaves n) (same_array_refl (get a.leaves n)) }
+
+      nodes_kept : (root : Option (ℕ × ℕ)) → nodes_under b.nodes root ≡ nodes_under a.nodes root
+      nodes_kept None = refl
+      nodes_kept (Some root) = same_nodes root.1 a b root.0 (agrees root.1 root.0)
+
+      leaves_kept : (root : Option (ℕ × ℕ)) → leaves_under b.nodes root ≡ leaves_under a.nodes root
+      leaves_kept None = refl
+      leaves_kept (Some root) = same_leaves root.1 a b root.0 (agrees root.1 root.0)
+
+      top_kept : (root : Option (ℕ × ℕ)) → IsTop cmp a root → IsTop cmp b root
+      top_kept None top = tt
+      top_kept (Some root) top = (top.0, stands_kept root top.1)
+        where
+          stands_kept : (root : ℕ × ℕ) → (Stands cmp root.1 a None root.0 None ⊎ IsRetiredRoot a root.0 root.1) → (Stands cmp root.1 b None root.0 None ⊎ IsRetiredRoot b root.0 root.1)
+          stands_kept root (inl s) = inl (same_stands cmp root.1 a b root.0 (agrees root.1 root.0) None None s)
+          stands_kept root (inr retired) = inr (retired.0, rw (same.nodes root.0) retired.1, rw (same.nodes root.0) retired.2)
+
+      linked_kept : (before : Option ℕ) (ids : List ℕ) → AreLinked a.leaves before ids None → AreLinked b.leaves before ids None
+      linked_kept before [] linked = tt
+      linked_kept before (n ∷ rest) linked = (rw (same.leaves n) linked.0, linked_kept (Some n) rest linked.1)
+
+-- the number, if the list is not empty
+of_some : (ids : List ℕ) → (ids ≡ [] → ⊥) → (n : ℕ) → cond (length ids == 0) 0 n ≡ n
+of_some [] some n = absurd (some refl)
+of_some (x ∷ xs) some n = by_test (length (x ∷ xs) == 0) refl
+  where
+    by_test : (b : Bool) → (length (x ∷ xs) == 0) ≡ b → cond b 0 n ≡ n
+    by_test true h = absurd (grind (arith, nat_tests))
+    by_test false h = refl
+
+module _ {K V : Type 0} {LEN : ℕ} where
+  agreeing : (a b : TreeArenas K V LEN) → Unchanged a b → (level id : ℕ) → Agrees level a b id
+  agreeing a b same level id = record { nodes = λ n inside. same.nodes n; leaves = λ n inside. rw (same.leaves n) (same_array_refl (get a.leaves n)) }
+
+  pub walk_unchanged : (a b : TreeArenas K V LEN) (root : Option (ℕ × ℕ)) → Unchanged a b → walk_under b root ≡ walk_under a root
+  walk_unchanged a b None same = refl
+  walk_unchanged a b (Some root) same = same_walk root.1 a b root.0 (agreeing a b same root.1 root.0)
+
+  pub spare_unchanged : (a b : TreeArenas K V LEN) (root : Option (ℕ × ℕ)) → Unchanged a b → spare_under b root ≡ spare_under a root
+  spare_unchanged a b None same = refl
+  spare_unchanged a b (Some root) same =
+      let kept = agreeing a b same root.1 root.0 in
+      rw (same_leaves root.1 a b root.0 kept) (ap (λ s. cond (length (leaves_at root.1 a.nodes root.0) == 0) 0 s) (rw (same_leaves root.1 a b root.0 kept) at (same_spare root.1 a b root.0 kept)))
+
+  -- the spare of a tree whose root stands is that of its part
+  pub spare_standing : (cmp : K → K → Ordering) (a : TreeArenas K V LEN) (id level : ℕ) → Stands cmp level a None id None → spare_under a (Some (id, level)) ≡ spare level a id
+  spare_standing cmp a id level stands = of_some (leaves_at level a.nodes id) (has_leaf cmp a level None id None stands) (spare level a id)
+
+  -- and no more than it in any case
+  pub spare_at_most : (a : TreeArenas K V LEN) (id level : ℕ) → spare_under a (Some (id, level)) ≤ spare level a id
+  spare_at_most a id level = by_test (length (leaves_at level a.nodes id) == 0)
+    where
+      by_test : (b : Bool) → cond b 0 (spare level a id) ≤ spare level a id
+      by_test true = omega arith
+      by_test false = omega arith
+
+  -- a root that gives its place to another keeps the spare
+  pub spare_lowered : (cmp : K → K → Ordering) (a b : TreeArenas K V LEN) (id level : ℕ) (result : Option (ℕ × ℕ)) → LowersRoot cmp level a b id result → spare_under b result ≡ spare_under a (Some (id, level))
+  spare_lowered cmp a b id level result r = rw (r.leaves_under, r.leaves) refl

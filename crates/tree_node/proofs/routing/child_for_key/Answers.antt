@@ -1,0 +1,11 @@
+use Rattle.std.proofs.Common.{sym}
+use Rattle.tree_node.proofs.Routes.{routed_by_slot, routed_past}
+use Rattle.tree_node.proofs.routing.child_for_key.Goals as goal
+
+pub returns-in-Some : goal.returns-in-Some
+returns-in-Some g c =
+    let found = c.in-Some.ensures in
+    rw c.in_ok-last.was (routed_by_slot g.K.Ord.cmp c.args.key.now c.args.children.now.entries c.in_ok-last.last found.0 (c.val.ensures.0, c.val.result.now) found.1 c.val.ensures.1 found.2)
+
+pub returns-in-None : goal.returns-in-None
+returns-in-None g c = rw c.in_ok-last.was (sym (routed_past g.K.Ord.cmp c.args.key.now c.args.children.now.entries c.in_ok-last.last c.in-None.ensures))
