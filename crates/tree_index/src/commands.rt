@@ -15,7 +15,7 @@ pub fn run<K: IndexKey, V: SameClone>(
     index: &mut TreeIndex<K, V>,
     commands: Vec<Command<K, V>>,
 ) -> Result<Vec<Reply<V>>, AllocError>
-    ensures runs { IfOk result (λ replies. Runs K.cmp V.seen index.old commands.items replies.items index.new) }
+    ensures runs { IfOk result (λ replies. Runs K.cmp V.seen index.old.pairs commands.items replies.items index.new.pairs) }
     ensures err { OnErr result (index.new ≡ index.old) }
 {
     let mut replies = Vec::with_capacity(*commands.allocator(), commands.len())?;
@@ -30,7 +30,7 @@ fn answer<K: IndexKey, V: SameClone>(
     index: &mut TreeIndex<K, V>,
     command: Command<K, V>,
 ) -> Reply<V>
-    ensures { Step K.cmp V.seen index.old command result index.new }
+    ensures { Step K.cmp V.seen index.old.pairs command result index.new.pairs }
 {
     match command {
         Command::Insert(key, value) => match index.insert_sync(key, value) {

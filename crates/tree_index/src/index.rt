@@ -1,69 +1,101 @@
 //! The index.
-ghost use Rattle.std.specs.Prelude.{◌≡◌, ◌↔◌, IsTrue, ◌^◌, ◌-◌, min, [], length, Some, MatchOption};
+ghost use Rattle.std.specs.Prelude.{◌≡◌, ◌⊎◌, ◌↔◌, IsTrue, ◌+◌, ◌*◌, ◌^◌, ◌-◌, ◌≤◌, min, [], length, Some, MatchOption};
 ghost use Rattle.std.specs.Fn.{FnOnceReturnsAt, FnOnceTakesAt};
 ghost use Rattle.std.specs.Option.{ForSome, option_copied, option_map};
+ghost use Rattle.tree_array.specs.Length.{IsLen};
+ghost use Rattle.tree_index.specs.Index.{IsTreeOf, KeepsSpare, SpendsInsert, SpendsUpsert, StoresPair};
 ghost use Rattle.tree_model.specs.Pairs.{IsAbsent, IsAscending, IsPresent, pair_at, without};
 ghost use Rattle.tree_model.specs.Edits.{Inserts, RemovesIf, Upserts};
 
+use crate::seek::{Seeks, pair_of};
+use crate::tree::Tree;
 use std::alloc::Global;
 use std::fmt;
 use std::marker::Model;
-use tree_array::array::IndexKey;
-use tree_model::{InsertError, PlainIndex};
+use tree_array::array::{IndexKey, Judge, StoreResult};
+use tree_leaf::arena::NodeId;
+use tree_model::InsertError;
+use tree_node::node::ArenasOf;
 
-/// An ordered index of pairs of a key and a value. Contracts see the list of its pairs, strictly
-/// ascending by key.
+/// An ordered index of pairs of a key and a value, with fifteen pairs a leaf. See [`TreeIndexOf`].
+pub type TreeIndex<K, V> = TreeIndexOf<K, V, 15>;
+
+/// An ordered index of pairs of a key and a value, as a B-plus tree with `LEN` pairs a leaf and up to `LEN + 1`
+/// children a node. `LEN` is 7 or 15.
+///
+/// Contracts see the list of its pairs, strictly ascending by key; its depth, which is how many levels of nodes there are; and
+/// its spare, which is how many writes are sure to take no memory.
 #[derive(Drop)]
-pub struct TreeIndex<K: IndexKey, V: Drop> {
-    pairs: PlainIndex<K, V>,
+pub struct TreeIndexOf<K: IndexKey, V: Drop, const LEN: usize> {
+    tree: Tree<K, V, LEN>,
+    len: u128,
 }
 
-impl<K: IndexKey, V: Drop> Model for TreeIndex<K, V> {
-    ghost use Rattle.std.specs.Prelude.{List};
+impl<K: IndexKey, V: Drop, const LEN: usize> Model for TreeIndexOf<K, V, LEN> {
+    ghost use Rattle.std.specs.Prelude.{◌≡◌, length};
+    ghost use Rattle.tree_array.specs.Length.{IsLen};
+    ghost use Rattle.tree_index.specs.Index.{Index};
+    ghost use Rattle.tree_index.specs.Trees.{IsWhole, pairs_of, spare_of};
+    ghost use Rattle.tree_node.specs.Whole.{depth_of};
 
-    ghost Value = { List (K × V) };
+    ghost Value = { Index K V };
 
-    ghost view = { λ a. a.pairs };
+    ghost view = { λ a. record { pairs = pairs_of a.tree; depth = depth_of a.tree.root; spare = spare_of a.tree } };
+
+    ghost invariant = { λ a. IsLen LEN × IsWhole K.cmp a.tree × (a.len ≡ length (pairs_of a.tree)) };
 }
 
-impl<K: IndexKey, V: Drop> TreeIndex<K, V> {
-    /// The empty index. It takes no memory yet.
+impl<K: IndexKey, V: Drop, const LEN: usize> TreeIndexOf<K, V, LEN> {
+    /// The empty index, of depth 0. It takes no memory yet. Caller's condition: `LEN` is 7 or 15.
     pub fn new(alloc: Global) -> Self
-        ensures { result ≡ [] }
+        requires { IsLen LEN }
+        ensures pairs { result.pairs ≡ [] }
+        ensures depth { result.depth ≡ 0 }
     {
-        TreeIndex {
-            pairs: PlainIndex::new(alloc),
+        TreeIndexOf {
+            tree: Tree::new(alloc),
+            len: 0,
         }
     }
 
     /// Stores a pair whose key is absent.
     ///
     /// A pair whose key is present comes back as a duplicate, and one for which memory is refused
-    /// as out of memory; either leaves the index as it was. A duplicate is never refused for
-    /// memory. It compares about log2 of the length times, and moves the pairs with larger keys.
+    /// as out of memory; either leaves the pairs as they were. A duplicate is never refused for
+    /// memory, and no pair is while the spare is above 0. At most `LEN * (depth + 2)` comparisons, and
+    /// twice as many where arrays were full: then a level takes memory for a leaf or a node at most.
     pub fn insert_sync(&mut self, key: K, value: V) -> Result<(), InsertError<K, V>>
-        ensures { Inserts K.cmp self.old key value result self.new }
+        ensures pairs { Inserts K.cmp self.old.pairs key value result self.new.pairs }
+        ensures spare { SpendsInsert LEN self.old self.new result }
     {
-        self.pairs.insert(key, value)
+        match self.store::<false>(key, value) {
+            Err((key, value)) => Err(InsertError::OutOfMemory(key, value)),
+            Ok(StoreResult::New) => Ok(()),
+            Ok(StoreResult::Duplicate(key, value)) => Err(InsertError::Duplicate(key, value)),
+            Ok(_) => unreachable!(),
+        }
     }
 
     /// Stores a pair, in place of one whose key equals its own: the stored key is the new one too.
     ///
-    /// A pair for which memory is refused comes back, and the index is as it was. It compares about
-    /// log2 of the length times, and moves the pairs with larger keys where the key was absent.
+    /// A pair for which memory is refused comes back, and the pairs are as they were. None is refused while the
+    /// spare is above 0. The cost is that of `insert_sync`.
     pub fn upsert_sync(&mut self, key: K, value: V) -> Result<(), (K, V)>
-        ensures { Upserts K.cmp self.old key value result self.new }
+        ensures pairs { Upserts K.cmp self.old.pairs key value result self.new.pairs }
+        ensures spare { SpendsUpsert LEN self.old self.new result }
     {
-        self.pairs.upsert(key, value)
+        let _ = self.store::<true>(key, value)?;
+        Ok(())
     }
 
-    /// Removes the pair at a key, and says whether there was one. It compares about log2 of the
-    /// length times, moves the pairs with larger keys, and takes no memory.
+    /// Removes the pair at a key, and says whether there was one. At most `LEN * (depth + 1)` comparisons,
+    /// and no memory.
     pub fn remove_sync(&mut self, key: &K) -> bool
-        ensures answer { IsTrue result ↔ IsPresent K.cmp self.old key.now }
-        ensures left { self.new ≡ without K.cmp self.old key.now }
+        ensures answer { IsTrue result ↔ IsPresent K.cmp self.old.pairs key.now }
+        ensures left { self.new.pairs ≡ without K.cmp self.old.pairs key.now }
+        ensures spare { KeepsSpare self.old self.new }
     {
-        self.pairs.remove(key)
+        self.remove_if_sync(key, |_| true)
     }
 
     /// Removes the pair at a key where the condition says so of its value, and says whether it did.
@@ -71,55 +103,120 @@ impl<K: IndexKey, V: Drop> TreeIndex<K, V> {
     /// The condition is asked once if the key is present, else never. Caller's condition: it may be
     /// asked of the value at the key. The cost is that of `remove_sync`.
     pub fn remove_if_sync<F: FnOnce(&V) -> bool + Drop>(&mut self, key: &K, condition: F) -> bool
-        requires { ForSome (pair_at K.cmp self.old key.now) (λ pair. FnOnceTakesAt F.FnOnce condition pair.1) }
-        ensures { RemovesIf K.cmp (FnOnceReturnsAt F.FnOnce condition) self.old key.now result self.new }
+        requires { ForSome (pair_at K.cmp self.old.pairs key.now) (λ pair. FnOnceTakesAt F.FnOnce condition pair.1) }
+        ensures pairs { RemovesIf K.cmp (FnOnceReturnsAt F.FnOnce condition) self.old.pairs key.now result self.new.pairs }
+        ensures spare { KeepsSpare self.old self.new }
     {
-        self.pairs.remove_if(key, condition)
+        let removed = self.tree.remove_if(key, condition);
+        if removed {
+            self.len -= 1;
+        }
+        removed
     }
 
-    /// The value at a key. It compares about log2 of the length times and takes no memory.
+    /// The value at a key. At most `LEN * (depth + 1)` comparisons, and no memory.
     pub fn peek(&self, key: &K) -> Option<&V>
-        ensures found { option_copied result ≡ option_map (λ pair. pair.1) (pair_at K.cmp self.now key.now) }
-        ensures ascending { IsAscending K.cmp self.now }
+        ensures found { option_copied result ≡ option_map (λ pair. pair.1) (pair_at K.cmp self.now.pairs key.now) }
+        ensures ascending { IsAscending K.cmp self.now.pairs }
     {
-        self.pairs.peek(key)
-    }
-
-    /// The pair at a key, as it is stored. The cost is that of `peek`.
-    pub fn peek_entry(&self, key: &K) -> Option<(&K, &V)>
-        ensures { MatchOption result (IsAbsent K.cmp self.now key.now)
-            (λ pair. pair_at K.cmp self.now key.now ≡ Some (pair.0.now, pair.1.now)) }
-    {
-        match self.pairs.peek_entry(key) {
-            Some((key, value)) => Some((key, value)),
+        match self.peek_entry(key) {
+            Some((_, value)) => Some(value),
             None => None,
         }
     }
 
+    /// The pair at a key, as it is stored. The cost is that of `peek`.
+    pub fn peek_entry(&self, key: &K) -> Option<(&K, &V)>
+        ensures found { MatchOption result (IsAbsent K.cmp self.now.pairs key.now)
+            (λ pair. pair_at K.cmp self.now.pairs key.now ≡ Some (pair.0.now, pair.1.now)) }
+    {
+        pair_of(self, key)
+    }
+
+    /// The pair with the judge's key, as it is stored. The judge is asked at most `LEN * (depth + 1)` times.
+    pub fn peek_entry_by<J: Judge<K>>(&self, judge: &mut J) -> Option<(&K, &V)>
+        ensures found { MatchOption result (IsAbsent K.cmp self.now.pairs (J.key judge.old))
+            (λ pair. pair_at K.cmp self.now.pairs (J.key judge.old) ≡ Some (pair.0.now, pair.1.now)) }
+        ensures counted { J.count judge.new ≤ J.count judge.old + LEN * (self.now.depth + 1) }
+    {
+        self.tree.search(judge)
+    }
+
     /// Whether a key is present. The cost is that of `peek`.
     pub fn contains(&self, key: &K) -> bool
-        ensures { IsTrue result ↔ IsPresent K.cmp self.now key.now }
+        ensures { IsTrue result ↔ IsPresent K.cmp self.now.pairs key.now }
     {
         self.peek_entry(key).is_some()
     }
 
     /// How many pairs there are, or `usize::MAX` where there are more. It looks at no pair.
     pub fn len(&self) -> usize
-        ensures { result ≡ min (length self.now) (2 ^ 64 - 1) }
+        ensures { result ≡ min (length self.now.pairs) (2 ^ 64 - 1) }
     {
-        self.pairs.len()
+        self.len.min(usize::MAX as u128) as usize
     }
 
     /// Whether there is no pair. It looks at no pair.
     pub fn is_empty(&self) -> bool
-        ensures { IsTrue result ↔ (self.now ≡ []) }
+        ensures { IsTrue result ↔ (self.now.pairs ≡ []) }
     {
-        self.pairs.is_empty()
+        self.len == 0
+    }
+
+    /// How many levels of nodes there are: 0 without a root, and 1 where the root is a leaf node. It looks at
+    /// no node. At depth d there are at most `LEN * (LEN + 1)^d` pairs, and none at depth 0.
+    pub fn depth(&self) -> usize
+        ensures depth { result ≡ self.now.depth }
+        ensures none { self.now.depth ≡ 0 → self.now.pairs ≡ [] }
+        ensures bound { length self.now.pairs ≤ LEN * (LEN + 1) ^ self.now.depth }
+    {
+        match self.tree.root {
+            Some((_, depth)) => depth,
+            None => 0,
+        }
+    }
+
+    /// The arenas of the tree, and the number of its root if it has one. Every number in use in the arenas is
+    /// reached from the root once.
+    pub fn parts(&self) -> (&ArenasOf<K, V, LEN>, Option<NodeId>)
+        ensures { IsTreeOf K.cmp self.now result.0.now result.1 }
+    {
+        match self.tree.root {
+            Some((root, _)) => (&self.tree.arenas, Some(root)),
+            None => (&self.tree.arenas, None),
+        }
+    }
+
+    /// Stores a pair, in place of one with an equal key if `UPSERT` says so. Never `Full`.
+    fn store<const UPSERT: bool>(&mut self, key: K, value: V) -> Result<StoreResult<K, V>, (K, V)>
+        ensures { StoresPair K.cmp UPSERT LEN self.old self.new key value result }
+    {
+        match self.tree.store::<UPSERT>(key, value) {
+            Err(pair) => Err(pair),
+            Ok(StoreResult::New) => {
+                // Each pair has a slot of its own, so that their number fits.
+                prove!(self.len < self.tree.slots());
+                self.len += 1;
+                Ok(StoreResult::New)
+            }
+            Ok(answer) => Ok(answer),
+        }
     }
 }
 
-impl<K: IndexKey + fmt::Debug, V: Drop + fmt::Debug> fmt::Debug for TreeIndex<K, V> {
+impl<K: IndexKey, V: Drop, const LEN: usize> Seeks<K, V> for TreeIndexOf<K, V, LEN> {
+    ghost pairs = { λ index. index.pairs };
+
+    fn seek<J: Judge<K>>(&self, judge: &mut J) -> Option<(&K, &V)> {
+        self.peek_entry_by(judge)
+    }
+}
+
+impl<K: IndexKey + fmt::Debug, V: Drop + fmt::Debug, const LEN: usize> fmt::Debug
+    for TreeIndexOf<K, V, LEN>
+{
     fn fmt<W: fmt::Write>(&self, f: &mut fmt::Formatter<W>) -> fmt::Result {
-        write!(f, "TreeIndex {{ entries: {:?} }}", self.pairs.pairs())
+        let depth = self.depth();
+        write!(f, "TreeIndex {{ depth: {depth}, len: {:?} }}", self.len)
     }
 }

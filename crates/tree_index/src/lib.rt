@@ -5,13 +5,14 @@
 mod commands;
 mod index;
 pub mod laws;
+mod seek;
 mod shared;
 #[cfg(test)]
 mod tests;
 mod tree;
 
 pub use commands::run;
-pub use index::TreeIndex;
+pub use index::{TreeIndex, TreeIndexOf};
 pub use shared::State;
 pub use tree_array::array::{IndexKey, SameClone};
 pub use tree_model::{Command, InsertError, Record, Reply};

@@ -25,9 +25,9 @@ impl<K: IndexKey + SameClone, V: SameClone> Model for State<K, V> {
 
     ghost Value = { Log K V };
 
-    ghost view = { λ a. record { entries = a.index; history = a.history.items } };
+    ghost view = { λ a. record { entries = a.index.pairs; history = a.history.items } };
 
-    ghost invariant = { λ a. IsHistoryOf K.cmp K.seen V.seen a.history.items a.index };
+    ghost invariant = { λ a. IsHistoryOf K.cmp K.seen V.seen a.history.items a.index.pairs };
 }
 
 impl<K: IndexKey + SameClone, V: SameClone> State<K, V> {
@@ -44,7 +44,7 @@ impl<K: IndexKey + SameClone, V: SameClone> State<K, V> {
 
     /// The index, to be read.
     pub fn index(&self) -> &TreeIndex<K, V>
-        ensures { result.now ≡ self.now.entries }
+        ensures { result.now.pairs ≡ self.now.entries }
     {
         &self.index
     }

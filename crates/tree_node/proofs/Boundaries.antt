@@ -1,5 +1,5 @@
 -- The boundary of an array parts its entries: some are before it, and some are not.
-use Rattle.std.proofs.Common.{◌≡◌, ℕ, suc, ◌+◌, ◌*◌, ◌-◌, ◌<◌, ◌≤◌, ◌==◌, Bool, true, false, cond, leb, ltb, List, [], ◌∷◌, length, refl, arith, inl, inr}
+use Rattle.std.proofs.Common.{◌≡◌, ℕ, suc, ◌+◌, ◌*◌, ◌-◌, ◌<◌, ◌≤◌, ◌==◌, Bool, true, false, cond, leb, ltb, List, [], ◌∷◌, ap, length, refl, arith, inl, inr}
 use Rattle.std.specs.declared.cmp.Ordering.{Ordering}
 use Rattle.std.specs.Ordering.{is_lt}
 use Rattle.std.proofs.lemmas.Bool.Decides.{nat_tests}
@@ -53,3 +53,24 @@ module _ {K V : Type 0} (cmp : K → K → Ordering) where
       let fewer : ascents cmp (reachable array.arrivals) < length array.entries =
       rw sound.count (ascents_fewer (reachable array.arrivals) (omega (arith, sound.count, many))) in
       boundary_parts len (length array.entries) (ascents cmp (reachable array.arrivals)) sound.is_len many fewer
+
+  -- the boundary is the number of slots where the entries are within the limit, and nowhere else
+  pub few_by_boundary : (len : ℕ) (array : Arrivals K V) → IsSound cmp len array → (boundary cmp len array).0 ≡ len → length array.entries ≤ limit len
+  few_by_boundary len array sound at_len = by_test (leb (length array.entries) (limit len)) refl
+    where
+      by_test : (few : Bool) → leb (length array.entries) (limit len) ≡ few → length array.entries ≤ limit len
+      by_test true is_few = grind (arith, nat_tests)
+      by_test false is_few =
+          let many : limit len < length array.entries = grind (arith, nat_tests) in
+          absurd (omega (arith, at_len, (parted_by len array sound many).1, sound.entries_few, sound.few))
+
+  pub many_by_boundary : (len : ℕ) (array : Arrivals K V) → ((boundary cmp len array).0 ≡ len → ⊥) → limit len < length array.entries
+  many_by_boundary len array not_at_len = by_test (leb (length array.entries) (limit len)) refl
+    where
+      rises : ℕ
+      rises = ascents cmp (reachable array.arrivals)
+
+      by_test : (few : Bool) → leb (length array.entries) (limit len) ≡ few → limit len < length array.entries
+      by_test true is_few =
+          absurd (not_at_len (ap (λ few. (cond {A = ℕ × ℕ × Bool} few (len, length array.entries, false) (cond (ltb (2 * rises + 1) (length array.entries)) (rises + 1, length array.entries, false) (rises, length array.entries, rises == len - 1))).0) is_few))
+      by_test false is_few = grind (arith, nat_tests)

@@ -16,8 +16,8 @@ pub(crate) fn parting_place<K: Ord + Drop, I: Drop, const LEN: usize>(
     ensures place { MatchOption result (length children.now.entries ≤ limit LEN) (λ place. place < length children.now.entries) }
     ensures sound { IsSound K.cmp LEN children.now }
 {
-    let (boundary, count, _) = children.optimal_boundary();
-    if count <= LEN * 3 / 4 {
+    let (boundary, _, _) = children.optimal_boundary();
+    if boundary as usize == LEN {
         None
     } else {
         Some(boundary)

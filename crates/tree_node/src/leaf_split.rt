@@ -66,7 +66,7 @@ fn low_count<K: Ord + Drop, V: Drop, const LEN: usize>(
     ensures sound { IsSound K.cmp LEN array.now }
 {
     let (boundary, count, ascended) = array.optimal_boundary();
-    if count <= LEN * 3 / 4 {
+    if boundary as usize == LEN {
         None
     } else if ascended && last && is_beyond(array, key) {
         Some(count as u8)

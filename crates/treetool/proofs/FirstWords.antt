@@ -42,3 +42,9 @@ contains_is_word = search rules
 
 pub len_is_word : IsWord (codes "len")
 len_is_word = search rules
+
+pub depth_is_word : IsWord (codes "depth")
+depth_is_word = search rules
+
+pub spare_is_word : IsWord (codes "spare")
+spare_is_word = search rules

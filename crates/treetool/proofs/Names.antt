@@ -5,7 +5,7 @@ use Rattle.std.specs.Prelude.{codes}
 use Rattle.std.specs.Str.{bytes_eq}
 use Rattle.std.proofs.lemmas.Slice.Eq.{bytes_eq-Decides}
 use Rattle.treetool.specs.declared.requests.Request.{Request}
-use Rattle.treetool.specs.declared.requests.Request.TheVariants.{Insert, Upsert, Remove, RemoveIf, Peek, Contains, Len}
+use Rattle.treetool.specs.declared.requests.Request.TheVariants.{Insert, Upsert, Remove, RemoveIf, Peek, Contains, Len, Depth, Spare}
 use Rattle.treetool.specs.Lines.{name_of}
 
 -- texts that differ somewhere are two texts
@@ -40,3 +40,11 @@ module _ (P : Request → Type 0) where
   pub only_len : P Len → (request : Request) → name_of request ≡ codes "len" → P request
   only_len each Len named = each
   only_len each request named = apart (name_of request) (codes "len") refl named
+
+  pub only_depth : P Depth → (request : Request) → name_of request ≡ codes "depth" → P request
+  only_depth each Depth named = each
+  only_depth each request named = apart (name_of request) (codes "depth") refl named
+
+  pub only_spare : P Spare → (request : Request) → name_of request ≡ codes "spare" → P request
+  only_spare each Spare named = each
+  only_spare each request named = apart (name_of request) (codes "spare") refl named

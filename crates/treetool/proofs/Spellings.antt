@@ -7,11 +7,11 @@ use mathlib.Core.Bool.{false≢true}
 use Rattle.std.proofs.lemmas.Bool.Decides.{nat_tests}
 use Rattle.std.proofs.lemmas.Slice.Eq.{bytes_eq-Decides}
 use Rattle.treetool.specs.declared.requests.Request.{Request}
-use Rattle.treetool.specs.declared.requests.Request.TheVariants.{Insert, Upsert, Remove, RemoveIf, Peek, Contains, Len}
+use Rattle.treetool.specs.declared.requests.Request.TheVariants.{Insert, Upsert, Remove, RemoveIf, Peek, Contains, Len, Depth, Spare}
 use Rattle.treetool.specs.Lines.{Fits, name_of, arguments_of, behind_spaces, spelling}
 use Rattle.treetool.specs.Words.{IsWord, IsBehindWord, ReadsAs, ReadsArguments}
 use Rattle.treetool.specs.Progress.{clip}
-use Rattle.treetool.proofs.FirstWords.{one_first_word, insert_is_word, upsert_is_word, remove_is_word, remove_if_is_word, peek_is_word, contains_is_word, len_is_word}
+use Rattle.treetool.proofs.FirstWords.{one_first_word, insert_is_word, upsert_is_word, remove_is_word, remove_if_is_word, peek_is_word, contains_is_word, depth_is_word, len_is_word, spare_is_word}
 use Rattle.treetool.proofs.Decimals.{length-decimal}
 
 -- the name of a request is a word
@@ -23,6 +23,8 @@ IsWord-name (RemoveIf key value) = remove_if_is_word
 IsWord-name (Peek key) = peek_is_word
 IsWord-name (Contains key) = contains_is_word
 IsWord-name Len = len_is_word
+IsWord-name Depth = depth_is_word
+IsWord-name Spare = spare_is_word
 
 -- behind it stand spaces
 IsBehindWord-spaces : (words : List (List ℕ)) → IsBehindWord (behind_spaces words)
@@ -56,6 +58,8 @@ spelling_short (RemoveIf key value) fits = omega (arith, length-decimal key fits
 spelling_short (Peek key) fits = omega (arith, length-decimal key fits, length-append (decimal key) [])
 spelling_short (Contains key) fits = omega (arith, length-decimal key fits, length-append (decimal key) [])
 spelling_short Len fits = omega arith
+spelling_short Depth fits = omega arith
+spelling_short Spare fits = omega arith
 
 -- a line of which nothing is kept is longer
 long_by : (b : Bool) (line : List ℕ) → nat_le (length line) 256 ≡ b → clip line ≡ None → 256 < length line

@@ -1,12 +1,12 @@
 -- The lines of a text, how a request is written as a line, what a line is answered, and a script of lines.
-use Rattle.std.specs.Prelude.{◌≡◌, ◌≢◌, ◌⊎◌, ℕ, ◌-◌, ◌^◌, ◌<◌, min, Bool, true, false, nat_eq, List, [], ◌∷◌, ◌++◌, length, MatchOption, is_some, ⊤, codes, decimal}
+use Rattle.std.specs.Prelude.{◌≡◌, ◌≢◌, ◌⊎◌, ℕ, ◌*◌, ◌-◌, ◌^◌, ◌<◌, ◌≤◌, min, Bool, true, false, nat_eq, List, [], ◌∷◌, ◌++◌, length, MatchOption, is_some, ⊤, codes, decimal}
 use Rattle.std.specs.List.{AllByRecursion, flat_map}
 use Rattle.std.specs.Option.{option_map_or}
 use Rattle.std.specs.Ordering.{nat_cmp}
 use Rattle.tree_model.specs.Pairs.{pair_at, put, without}
 use Rattle.tree_model.specs.Edits.{RemovesIf}
 use Rattle.treetool.specs.declared.requests.Request.{Request}
-use Rattle.treetool.specs.declared.requests.Request.TheVariants.{Insert, Upsert, Remove, RemoveIf, Peek, Contains, Len}
+use Rattle.treetool.specs.declared.requests.Request.TheVariants.{Insert, Upsert, Remove, RemoveIf, Peek, Contains, Len, Depth, Spare}
 
 -- a line holds no line feed
 abbrev pub IsLine : List ℕ → Type 0
@@ -40,6 +40,8 @@ name_of (RemoveIf key value) = codes "remove_if"
 name_of (Peek key) = codes "peek"
 name_of (Contains key) = codes "contains"
 name_of Len = codes "len"
+name_of Depth = codes "depth"
+name_of Spare = codes "spare"
 
 -- its other words; a number is written by its decimal digits, without a leading zero
 abbrev pub arguments_of : Request → List (List ℕ)
@@ -50,6 +52,8 @@ arguments_of (RemoveIf key value) = decimal key ∷ decimal value ∷ []
 arguments_of (Peek key) = decimal key ∷ []
 arguments_of (Contains key) = decimal key ∷ []
 arguments_of Len = []
+arguments_of Depth = []
+arguments_of Spare = []
 
 -- words, each behind one space
 abbrev pub behind_spaces : List (List ℕ) → List ℕ
@@ -68,6 +72,8 @@ Fits (RemoveIf key value) = (key < 2 ^ 64) × (value < 2 ^ 64)
 Fits (Peek key) = key < 2 ^ 64
 Fits (Contains key) = key < 2 ^ 64
 Fits Len = ⊤
+Fits Depth = ⊤
+Fits Spare = ⊤
 
 -- how a truth is written
 abbrev pub truth : Bool → List ℕ
@@ -89,6 +95,8 @@ Answers old (Remove key) answer new = (answer ≡ truth (is_some (pair_at nat_cm
 Answers old (RemoveIf key value) answer new = (removed : Bool) × RemovesIf nat_cmp (SaysEqual value) old key removed new × (answer ≡ truth removed)
 Answers old (Contains key) answer new = (answer ≡ truth (is_some (pair_at nat_cmp old key))) × (new ≡ old)
 Answers old Len answer new = (answer ≡ decimal (min (length old) (2 ^ 64 - 1))) × (new ≡ old)
+Answers old Depth answer new = (depth : ℕ) × (length old ≤ 15 * 16 ^ depth) × (answer ≡ decimal depth) × (new ≡ old)
+Answers old Spare answer new = (spare : ℕ) × (answer ≡ decimal spare) × (new ≡ old)
 Answers old (Peek key) answer new = (answer ≡ option_map_or (λ pair. decimal pair.1) (pair_at nat_cmp old key) (codes "none")) × (new ≡ old)
 
 -- What a line is answered: a request as it asks, and any other line with a question mark.

@@ -35,7 +35,7 @@ pub enum Answer {
 /// Applies what the line asks, and answers it.
 pub fn answer_to(index: &mut TreeIndex<u64, u64>, line: &BegunLine) -> Answer
     ensures { (begun : List ℕ) → line.now ≡ clip begun →
-        Says index.old begun (answer_text result) index.new }
+        Says index.old.pairs begun (answer_text result) index.new.pairs }
 {
     let Some(text) = line.text() else {
         return Answer::Unknown;
@@ -45,7 +45,7 @@ pub fn answer_to(index: &mut TreeIndex<u64, u64>, line: &BegunLine) -> Answer
 
 // Applies a request, and answers it.
 fn respond(index: &mut TreeIndex<u64, u64>, request: Option<Request>) -> Answer
-    ensures { Responds index.old request (answer_text result) index.new }
+    ensures { Responds index.old.pairs request (answer_text result) index.new.pairs }
 {
     match request {
         None => Answer::Unknown,
@@ -62,6 +62,8 @@ fn respond(index: &mut TreeIndex<u64, u64>, request: Option<Request>) -> Answer
         Some(Request::RemoveIf(key, value)) => Answer::Truth(remove_value(index, key, value)),
         Some(Request::Contains(key)) => Answer::Truth(index.contains(&key)),
         Some(Request::Len) => Answer::Value(index.len() as u64),
+        Some(Request::Depth) => Answer::Value(index.depth() as u64),
+        Some(Request::Spare) => Answer::Value(u64::from(index.spare())),
         Some(Request::Peek(key)) => match index.peek(&key) {
             Some(value) => Answer::Value(*value),
             None => Answer::Missing,
@@ -71,7 +73,7 @@ fn respond(index: &mut TreeIndex<u64, u64>, request: Option<Request>) -> Answer
 
 // Removes the pair at a key, if its value is this one, and says whether it did.
 fn remove_value(index: &mut TreeIndex<u64, u64>, key: u64, value: u64) -> bool
-    ensures { RemovesIf nat_cmp (SaysEqual value) index.old key result index.new }
+    ensures { RemovesIf nat_cmp (SaysEqual value) index.old.pairs key result index.new.pairs }
 {
     index.remove_if_sync(&key, |stored| *stored == value)
 }

@@ -43,7 +43,7 @@ pub fn run_lines<R: Read, W: Write>(
     input: &mut R,
     output: &mut W,
 ) -> Result<(), ToolFault>
-    ensures { RunsLines index.old index.new (R.remaining input.old) (R.remaining input.new)
+    ensures { RunsLines index.old.pairs index.new.pairs (R.remaining input.old) (R.remaining input.new)
         (W.contents output.old) (W.contents output.new) result }
 {
     let mut line = BegunLine::new();
@@ -72,7 +72,7 @@ fn end_lines<W: Write>(
     line: &BegunLine,
     output: &mut W,
 ) -> Result<(), WriteFailed>
-    ensures { EndsInput line.now index.old index.new
+    ensures { EndsInput line.now index.old.pairs index.new.pairs
         (W.contents output.old) (W.contents output.new) result }
 {
     if line.is_empty() {
@@ -88,7 +88,7 @@ fn feed_all<W: Write>(
     bytes: &[u8],
     output: &mut W,
 ) -> Result<(), WriteFailed>
-    ensures { Feeds line.old index.old bytes.now line.new index.new
+    ensures { Feeds line.old index.old.pairs bytes.now line.new index.new.pairs
         (W.contents output.old) (W.contents output.new) result }
 {
     for byte in bytes {
@@ -104,7 +104,7 @@ fn feed<W: Write>(
     byte: u8,
     output: &mut W,
 ) -> Result<(), WriteFailed>
-    ensures { Feeds line.old index.old (byte ∷ []) line.new index.new
+    ensures { Feeds line.old index.old.pairs (byte ∷ []) line.new index.new.pairs
         (W.contents output.old) (W.contents output.new) result }
 {
     if byte != b'\n' {

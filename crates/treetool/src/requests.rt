@@ -23,6 +23,10 @@ pub enum Request {
     Contains(u64),
     /// How many pairs there are: `len`.
     Len,
+    /// How many levels of nodes there are: `depth`.
+    Depth,
+    /// How many writes are sure to take no memory: `spare`.
+    Spare,
 }
 
 /// What a line asks, where it is written as a request is.
@@ -50,6 +54,12 @@ pub fn request_of(line: &[u8]) -> Option<Request>
     }
     if name == b"len".as_slice() {
         return len_of(arguments);
+    }
+    if name == b"depth".as_slice() {
+        return depth_of(arguments);
+    }
+    if name == b"spare".as_slice() {
+        return spare_of(arguments);
     }
     None
 }
@@ -120,6 +130,26 @@ fn len_of(arguments: &[u8]) -> Option<Request>
 {
     if arguments.is_empty() {
         return Some(Request::Len);
+    }
+    None
+}
+
+// `depth` has no argument.
+fn depth_of(arguments: &[u8]) -> Option<Request>
+    ensures { ReadsArguments (codes "depth") arguments.now result }
+{
+    if arguments.is_empty() {
+        return Some(Request::Depth);
+    }
+    None
+}
+
+// `spare` has no argument.
+fn spare_of(arguments: &[u8]) -> Option<Request>
+    ensures { ReadsArguments (codes "spare") arguments.now result }
+{
+    if arguments.is_empty() {
+        return Some(Request::Spare);
     }
     None
 }

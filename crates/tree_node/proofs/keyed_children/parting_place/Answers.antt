@@ -1,10 +1,13 @@
-use Rattle.std.proofs.Common.{◌≡◌, ◌<◌, ◌*◌, ◌/◌, ◌∙◌, ap, length}
-use Rattle.tree_node.proofs.Boundaries.{boundary_count, parted_by}
+use Rattle.std.proofs.Common.{◌∙◌, ap, sym}
+use Rattle.tree_node.proofs.Boundaries.{few_by_boundary, many_by_boundary, parted_by}
 use Rattle.tree_node.proofs.keyed_children.parting_place.Goals as goal
 
-pub returns-else-count-clause-place : goal.returns-else-count-clause-place
-returns-else-count-clause-place g c =
+pub returns-then-boundary-clause-place : goal.returns-then-boundary-clause-place
+returns-then-boundary-clause-place g c =
+    few_by_boundary g.K.Ord.cmp g.row.LEN c.args.children.now c.optimal_boundary-boundary.ensures.sound (sym (ap (λ b. b.0) c.optimal_boundary-boundary.ensures.boundary) ∙ c.if-boundary.true)
+
+pub returns-else-boundary-clause-place : goal.returns-else-boundary-clause-place
+returns-else-boundary-clause-place g c =
     let told = c.optimal_boundary-boundary.ensures.boundary in
-    let count : c.optimal_boundary-boundary.result.1 ≡ length c.args.children.now.entries = ap (λ b. b.1) told ∙ boundary_count g.row.LEN _ _ in
-    let many : g.row.LEN * 3 / 4 < length c.args.children.now.entries = rw count at c.if-count.false in
+    let many = many_by_boundary g.K.Ord.cmp g.row.LEN c.args.children.now (λ at_len. c.if-boundary.false (ap (λ b. b.0) told ∙ at_len)) in
     rw told (parted_by g.K.Ord.cmp g.row.LEN c.args.children.now c.optimal_boundary-boundary.ensures.sound many).1

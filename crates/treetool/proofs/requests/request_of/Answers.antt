@@ -1,7 +1,7 @@
 use Rattle.std.proofs.Common.{◌≡◌}
 use Rattle.std.specs.Prelude.{codes}
 use Rattle.treetool.specs.Lines.{name_of}
-use Rattle.treetool.specs.declared.requests.Request.TheVariants.{Insert, Upsert, Remove, RemoveIf, Peek, Contains, Len}
+use Rattle.treetool.specs.declared.requests.Request.TheVariants.{Insert, Upsert, Remove, RemoveIf, Peek, Contains, Len, Depth, Spare}
 use Rattle.treetool.proofs.Spellings.{parts_of, reads_when, not_named}
 use Rattle.treetool.proofs.requests.request_of.Goals as goal
 
@@ -27,6 +27,12 @@ returns-then-eq-6 c = reads_when c.args.line.now c.first_word.result.0.now c.fir
 pub returns-then-eq-7 : goal.returns-then-eq-7
 returns-then-eq-7 c = reads_when c.args.line.now c.first_word.result.0.now c.first_word.result.1.now c.first_word.ensures.word c.first_word.ensures.behind c.first_word.ensures.whole (codes "len") c.as_slice-7.result.now c.if-eq-7.ensures c.as_slice-7.ensures c.len_of.result c.len_of.ensures
 
+pub returns-then-eq-8 : goal.returns-then-eq-8
+returns-then-eq-8 c = reads_when c.args.line.now c.first_word.result.0.now c.first_word.result.1.now c.first_word.ensures.word c.first_word.ensures.behind c.first_word.ensures.whole (codes "depth") c.as_slice-8.result.now c.if-eq-8.ensures c.as_slice-8.ensures c.depth_of.result c.depth_of.ensures
+
+pub returns-then-eq-9 : goal.returns-then-eq-9
+returns-then-eq-9 c = reads_when c.args.line.now c.first_word.result.0.now c.first_word.result.1.now c.first_word.ensures.word c.first_word.ensures.behind c.first_word.ensures.whole (codes "spare") c.as_slice-9.result.now c.if-eq-9.ensures c.as_slice-9.ensures c.spare_of.result c.spare_of.ensures
+
 -- or of none
 pub returns : goal.returns
 returns c = λ request fits e.
@@ -40,4 +46,6 @@ returns c = λ request fits e.
       | Peek key ↦ not_named word (codes "peek") c.as_slice-5.result.now c.if-eq-5.ensures c.as_slice-5.ensures
       | Contains key ↦ not_named word (codes "contains") c.as_slice-6.result.now c.if-eq-6.ensures c.as_slice-6.ensures
       | Len ↦ not_named word (codes "len") c.as_slice-7.result.now c.if-eq-7.ensures c.as_slice-7.ensures
+      | Depth ↦ not_named word (codes "depth") c.as_slice-8.result.now c.if-eq-8.ensures c.as_slice-8.ensures
+      | Spare ↦ not_named word (codes "spare") c.as_slice-9.result.now c.if-eq-9.ensures c.as_slice-9.ensures
     ] name

@@ -7,7 +7,7 @@ use Rattle.tree_index.proofs.shared.State.remove.Goals as goal
 -- the history grows by the key and the answer
 pub invariant_of-self-2 : goal.invariant_of-self-2
 invariant_of-self-2 g c =
-    rw (c.keep.ensures, c.reserve.ensures.items) (history_grows g.met.K.Ord.total g.K.SameClone.seen g.V.SameClone.seen c.self.inside.history.items c.self.inside.index c.remove_sync-was.new.self (Remove c.args.key) (Removed c.remove_sync-was.result) (record { command = Remove c.args.key; reply = Removed c.remove_sync-was.result }) c.self.invariant (c.remove_sync-was.ensures.answer, c.remove_sync-was.ensures.left) tt (same_key_itself g.met.K.Ord.total _ _) refl)
+    rw (c.keep.ensures, c.reserve.ensures.items) (history_grows g.met.K.Ord.total g.K.SameClone.seen g.V.SameClone.seen c.self.inside.history.items c.self.inside.index.pairs c.remove_sync-was.new.self.pairs (Remove c.args.key) (Removed c.remove_sync-was.result) (record { command = Remove c.args.key; reply = Removed c.remove_sync-was.result }) c.self.invariant (c.remove_sync-was.ensures.answer, c.remove_sync-was.ensures.left) tt (same_key_itself g.met.K.Ord.total _ _) refl)
 
 pub returns-clause-ok : goal.returns-clause-ok
 returns-clause-ok g c =

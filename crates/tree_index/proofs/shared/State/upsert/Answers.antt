@@ -7,8 +7,8 @@ use Rattle.tree_index.proofs.shared.State.upsert.Goals as goal
 -- the history grows by the clones
 pub invariant_of-self-2 : goal.invariant_of-self-2
 invariant_of-self-2 g c =
-    rw (c.keep.ensures, c.reserve.ensures.items) (history_grows g.met.K.Ord.total g.K.SameClone.seen g.V.SameClone.seen c.self.inside.history.items c.self.inside.index c.upsert_sync.new.self (Upsert c.args.key c.args.value) Stored (record { command = Upsert c.in-Ok.kept_key c.in-Ok.kept_value; reply = Stored }) c.self.invariant c.in_default-upsert_sync.ensures tt (c.in-Ok.ensures.key, c.in-Ok.ensures.value) tt)
+    rw (c.keep.ensures, c.reserve.ensures.items) (history_grows g.met.K.Ord.total g.K.SameClone.seen g.V.SameClone.seen c.self.inside.history.items c.self.inside.index.pairs c.upsert_sync.new.self.pairs (Upsert c.args.key c.args.value) Stored (record { command = Upsert c.in-Ok.kept_key c.in-Ok.kept_value; reply = Stored }) c.self.invariant c.in_default-upsert_sync.ensures.pairs tt (c.in-Ok.ensures.key, c.in-Ok.ensures.value) tt)
 
 pub returns-clause-ok : goal.returns-clause-ok
 returns-clause-ok g c =
-    rw (← c.self.view_is) (record { step = c.in_default-upsert_sync.ensures; answered = tt; kept = record { command = Upsert c.in-Ok.kept_key c.in-Ok.kept_value; reply = Stored }; appended = rw (c.keep.ensures, c.reserve.ensures.items) refl; same_command = (c.in-Ok.ensures.key, c.in-Ok.ensures.value); same_reply = tt })
+    rw (← c.self.view_is) (record { step = c.in_default-upsert_sync.ensures.pairs; answered = tt; kept = record { command = Upsert c.in-Ok.kept_key c.in-Ok.kept_value; reply = Stored }; appended = rw (c.keep.ensures, c.reserve.ensures.items) refl; same_command = (c.in-Ok.ensures.key, c.in-Ok.ensures.value); same_reply = tt })

@@ -1,0 +1,51 @@
+-- What contracts see of an index.
+use Rattle.std.specs.Prelude.{◌≡◌, ◌⊎◌, ℕ, suc, ◌-◌, ◌≤◌, Bool, true, false, List, Option, Result, Ok, Err}
+use Rattle.std.specs.Option.{option_map}
+use Rattle.std.specs.declared.cmp.Ordering.{Ordering}
+use Rattle.tree_model.specs.declared.commands.InsertError.{InsertError}
+use Rattle.tree_model.specs.declared.commands.InsertError.TheVariants.{Duplicate, OutOfMemory}
+use Rattle.tree_array.specs.declared.answers.StoreResult.{StoreResult}
+use Rattle.tree_node.specs.Arenas.{TreeArenas}
+use Rattle.tree_node.specs.Inserts.{Inserts, asks_split, refused}
+use Rattle.tree_node.specs.Whole.{IsTree, spare_under, walk_under}
+
+pub record Index (K V : Type 0) : Type 0 where
+  -- the pairs, strictly ascending by key
+  pub pairs : List (K × V)
+  -- how many levels of nodes there are
+  pub depth : ℕ
+  -- how many writes are sure to be stored without memory
+  pub spare : ℕ
+
+module _ {K V : Type 0} where
+  -- A write took at most one slot of a leaf. The first one made a tree of one level.
+  pub record IsWritten (LEN : ℕ) (old new : Index K V) : Type 0 where
+    pub lowers : old.spare ≤ suc new.spare
+    pub first : old.depth ≡ 0 → (new.depth ≡ 1) × (new.spare ≡ LEN - 1)
+
+  -- The pair is stored, or it comes back for a duplicate or for want of memory.
+  pub record StoresPair (cmp : K → K → Ordering) (upsert : Bool) (LEN : ℕ) (old new : Index K V) (key : K) (val : V) (result : Result (StoreResult K V) (K × V)) : Type 0 where
+    pub pairs : Inserts cmp upsert result old.pairs key val new.pairs
+    pub not_full : asks_split result ≡ false
+    pub spent : refused result ≡ true → old.spare ≡ 0
+    pub written : refused result ≡ false → IsWritten LEN old new
+
+  -- What an insert and an upsert do to the number of spare writes: an answered one takes at most one, and one is refused only where there is none.
+  abbrev pub SpendsInsert : {T : Type 0} → ℕ → Index K V → Index K V → Result T (InsertError K V) → Type 0
+  SpendsInsert LEN old new (Ok _) = IsWritten LEN old new
+  SpendsInsert LEN old new (Err (Duplicate key value)) = IsWritten LEN old new
+  SpendsInsert LEN old new (Err (OutOfMemory key value)) = old.spare ≡ 0
+
+  abbrev pub SpendsUpsert : {T : Type 0} → ℕ → Index K V → Index K V → Result T (K × V) → Type 0
+  SpendsUpsert LEN old new (Ok _) = IsWritten LEN old new
+  SpendsUpsert LEN old new (Err pair) = old.spare ≡ 0
+
+  -- No leaf lost room, but one that lost its last pair has none.
+  abbrev pub KeepsSpare : Index K V → Index K V → Type 0
+  KeepsSpare old new = (new.spare ≡ 0) ⊎ (old.spare ≤ new.spare)
+
+-- The index is a whole tree: these arenas, and this root at the level of its depth.
+pub record IsTreeOf {K V : Type 0} {LEN : ℕ} (cmp : K → K → Ordering) (index : Index K V) (arenas : TreeArenas K V LEN) (root : Option ℕ) : Type 0 where
+  pub tree : IsTree cmp arenas (option_map (λ id. (id, index.depth)) root)
+  pub pairs : walk_under arenas (option_map (λ id. (id, index.depth)) root) ≡ index.pairs
+  pub spare : spare_under arenas (option_map (λ id. (id, index.depth)) root) ≡ index.spare
