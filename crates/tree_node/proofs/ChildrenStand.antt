@@ -48,6 +48,12 @@ module _ {K V : Type 0} {LEN : ℕ} (cmp : K → K → Ordering) (a : TreeArenas
       absurd (let some = rw (← is, s.last_is) at none in cc)
   no_leaves (suc level) inner (inr retired) node here none = let r : IsRetiredNode (Some node) = rw here at retired in rw (here, r.0, r.1) refl
 
+  -- and one that isn't retired stands
+  pub stands_unless : (level : ℕ) → 0 < level → StandsOrRetired cmp level a id → (node : NodeOf K LEN) → get a.nodes id ≡ Some node → (IsRetiredNode (Some node) → ⊥) → Stands cmp level a None id None
+  stands_unless zero inner given node here not = absurd (omega (arith, inner))
+  stands_unless (suc level) inner (inl s) node here not = s
+  stands_unless (suc level) inner (inr retired) node here not = absurd (not (rw here at retired))
+
   -- a node over leaves
   pub record OverLeaves (level : ℕ) (pairs : List (K × ℕ)) (last : ℕ) : Type 0 where
     pub leaves : leaves_at level a.nodes id ≡ leaves_of 0 a.nodes (in_turn pairs (Some last))

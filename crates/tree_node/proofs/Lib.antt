@@ -5,6 +5,7 @@ pub mod Boundaries
 pub mod Bounds
 pub mod ChildChanges
 pub mod ChildDrops
+pub mod ChildTurns
 pub mod Children
 pub mod ChildrenStand
 pub mod Cuts
@@ -21,6 +22,7 @@ pub mod LeafRemovals
 pub mod LeafRooms
 pub mod LeafSplits
 pub mod LeafWrites
+pub mod LeastFree
 pub mod Levels
 pub mod Lifts
 pub mod Lists

@@ -18,6 +18,14 @@ least-append : (most : ℕ) (f : ℕ → ℕ) (xs ys : List ℕ) → least most 
 least-append most f [] ys = omega (arith, least_le most f ys)
 least-append most f (x ∷ xs) ys = omega (arith, least-append most f xs ys)
 
+-- the least of some numbers, and then of others too
+least_from : (least_before most : ℕ) (f : ℕ → ℕ) (ys : List ℕ) → least_before ≤ most → least least_before f ys ≡ min least_before (least most f ys)
+least_from least_before most f [] less = omega arith
+least_from least_before most f (y ∷ ys) less = omega (arith, least_from least_before most f ys less)
+
+pub least-then : (most : ℕ) (f : ℕ → ℕ) (xs ys : List ℕ) → least most f (xs ++ ys) ≡ least (least most f xs) f ys
+least-then most f xs ys = rw (least-append most f xs ys, least_from (least most f xs) most f ys (least_le most f xs)) refl
+
 least_same : (most : ℕ) (f g : ℕ → ℕ) (xs : List ℕ) → AllByRecursion (λ x. f x ≡ g x) xs → least most f xs ≡ least most g xs
 least_same most f g [] same = refl
 least_same most f g (x ∷ xs) same = rw (same.0, least_same most f g xs same.1) refl

@@ -14,7 +14,7 @@ use Rattle.tree_node.specs.Ends.{FindsFirst, IsFirstOn, passed}
 use Rattle.tree_node.proofs.Lists.{all_middle}
 
 -- the place of one of two lists of which one lists what the other names
-same_place : {X Y : Type 0} (find : X → Option Y) (xs : List X) (ys : List Y) → map find xs ≡ map Some ys → (place : ℕ) (x : X) → slice_get xs place ≡ Some x → (y : Y) × ((find x ≡ Some y) × (slice_get ys place ≡ Some y))
+pub same_place : {X Y : Type 0} (find : X → Option Y) (xs : List X) (ys : List Y) → map find xs ≡ map Some ys → (place : ℕ) (x : X) → slice_get xs place ≡ Some x → (y : Y) × ((find x ≡ Some y) × (slice_get ys place ≡ Some y))
 same_place find [] ys same place x is = absurd (cc)
 same_place find (a ∷ xs) [] same place x is = absurd (cc)
 same_place find (a ∷ xs) (y ∷ ys) same zero x is = let this : x ≡ a = cc in (y, (rw this (cc), refl))
@@ -27,10 +27,10 @@ module _ {X : Type 0} where
   around_place (y ∷ ys) zero x is = let same : y ≡ x = cc in ap (λ z. z ∷ ys) same
   around_place (y ∷ ys) (suc i) x is = ap (λ zs. y ∷ zs) (around_place ys i x is)
 
-  around : (xs : List X) (i next : ℕ) (x : X) → suc i ≡ next → slice_get xs i ≡ Some x → xs ≡ take i xs ++ x ∷ drop next xs
+  pub around : (xs : List X) (i next : ℕ) (x : X) → suc i ≡ next → slice_get xs i ≡ Some x → xs ≡ take i xs ++ x ∷ drop next xs
   around xs i next x follows is = subst (λ (n : ℕ). xs ≡ take i xs ++ x ∷ drop n xs) follows (around_place xs i x is)
 
-  take_one_more : (xs : List X) (i : ℕ) (x : X) → slice_get xs i ≡ Some x → take (suc i) xs ≡ take i xs ++ x ∷ []
+  pub take_one_more : (xs : List X) (i : ℕ) (x : X) → slice_get xs i ≡ Some x → take (suc i) xs ≡ take i xs ++ x ∷ []
   take_one_more [] i x is = absurd (cc)
   take_one_more (y ∷ ys) zero x is = let same : y ≡ x = cc in ap (λ z. z ∷ []) same
   take_one_more (y ∷ ys) (suc i) x is = ap (λ zs. y ∷ zs) (take_one_more ys i x is)

@@ -18,5 +18,6 @@ pub mod planting;
 pub mod removal;
 pub mod root;
 mod routing;
+pub mod spare;
 #[cfg(test)]
 mod tests;

@@ -45,7 +45,7 @@ pub fn split_root_at<K: Ord + Drop, V: Drop, const LEN: usize>(
 }
 
 /// How many keyed children can still arrive, and by its contract how many slots there are.
-fn slots_left<K: Ord + Drop, const LEN: usize>(node: &NodeOf<K, LEN>) -> u8
+pub(crate) fn slots_left<K: Ord + Drop, const LEN: usize>(node: &NodeOf<K, LEN>) -> u8
     ensures few { result ≤ LEN }
     ensures len { IsLen LEN }
 {
