@@ -1,16 +1,20 @@
 -- The pairs of a whole tree ascend, and how many there are after a store and after a removal.
-use Rattle.std.proofs.Common.{◌≡◌, ◌⊎◌, ℕ, ◌+◌, Bool, true, length, Option, Some, None, Ok, inl, inr, refl, ap, arith}
+use Rattle.std.proofs.Common.{◌≡◌, ◌⊎◌, ◌↔◌, ◌==◌, ℕ, ◌+◌, Bool, true, IsTrue, List, [], ◌∷◌, length, Option, Some, None, Result, Ok, inl, inr, refl, ap, arith}
 use Rattle.std.specs.declared.cmp.Ordering.{Ordering}
 use Rattle.std.specs.Cmp.{IsTotalOrder}
+use Rattle.std.specs.Option.{option_map}
+use Rattle.std.proofs.lemmas.Bool.Decides.{nat_tests}
 use Rattle.slab.specs.Slab.{get}
+use Rattle.tree_array.specs.declared.answers.StoreResult.{StoreResult}
 use Rattle.tree_array.specs.declared.answers.StoreResult.TheVariants.{New, Replaced}
 use Rattle.tree_model.specs.Pairs.{IsAscending, IsPresent}
 use Rattle.tree_model.proofs.Lengths.{length-put, without_absent, without_present}
 use Rattle.tree_node.specs.Tree.{Stands, walk}
-use Rattle.tree_node.specs.Whole.{IsRetiredRoot, IsTop, walk_under}
+use Rattle.tree_node.specs.Whole.{IsRetiredRoot, IsTop, depth_of, walk_under}
 use Rattle.tree_node.proofs.Ascents.{walk_ascends}
 use Rattle.tree_node.proofs.Bare.{no_children}
 use Rattle.tree_index.specs.declared.tree.Tree.{Tree}
+use Rattle.tree_index.specs.Index.{IsTreeOf, StoresPair, index_of}
 use Rattle.tree_index.specs.Trees.{IsWhole, Stores, Takes, pairs_of}
 
 module _ {K V : Type 0} {LEN : ℕ} {cmp : K → K → Ordering} (o : IsTotalOrder cmp) where
@@ -39,3 +43,26 @@ module _ {K V : Type 0} {LEN : ℕ} {cmp : K → K → Ordering} (o : IsTotalOrd
   one_less Says old new key whole takes =
       let there : IsPresent cmp (pairs_of old) key = rw takes.pairs.1 refl in
       omega (arith, ap length takes.pairs.3, without_present o (pairs_of old) key (pairs_ascend old whole) there)
+
+module _ {K V : Type 0} {LEN : ℕ} (cmp : K → K → Ordering) (upsert : Bool) (old new : Tree K V LEN) (key : K) (val : V) where
+  -- what a store in the tree is to the index
+  pub stores_pair : (result : Result (StoreResult K V) (K × V)) → Stores cmp upsert old new key val result → StoresPair cmp upsert LEN (index_of old) (index_of new) key val result
+  stores_pair result stores = record {
+    pairs = stores.pairs;
+    not_full = stores.not_full;
+    spent = stores.spent;
+    written = λ taken. record { lowers = stores.lowers; first = λ none. stores.first none taken };
+  }
+
+-- the index is empty where no pair is counted
+pub empty_by_count : {X : Type 0} (l : List X) (n : ℕ) → n ≡ length l → IsTrue (n == 0) ↔ (l ≡ [])
+empty_by_count [] n none = rw none ((λ t. refl), (λ e. refl))
+empty_by_count (x ∷ xs) n some = ((λ t. absurd (let none : n ≡ 0 = grind (arith, nat_tests) in omega (arith, some, none))), (λ e. absurd (cc)))
+
+-- a pair of these two
+pub pair_is : {A B : Type 0} (pair : A × B) (a : A) (b : B) → pair.0 ≡ a → pair.1 ≡ b → pair ≡ (a, b)
+pair_is (x, y) a b first second = rw (first, second) refl
+
+-- what is lent of an index is its tree
+pub is_tree_of : {K V : Type 0} {LEN : ℕ} (cmp : K → K → Ordering) (tree : Tree K V LEN) (root : Option ℕ) → option_map (λ id. (id, depth_of tree.root)) root ≡ tree.root → IsWhole cmp tree → IsTreeOf cmp (index_of tree) tree.arenas root
+is_tree_of cmp tree root same whole = record { tree = rw same whole; pairs = rw same refl; spare = rw same refl }

@@ -7,7 +7,9 @@ use Rattle.tree_model.specs.declared.commands.InsertError.TheVariants.{Duplicate
 use Rattle.tree_array.specs.declared.answers.StoreResult.{StoreResult}
 use Rattle.tree_node.specs.Arenas.{TreeArenas}
 use Rattle.tree_node.specs.Inserts.{Inserts, asks_split, refused}
-use Rattle.tree_node.specs.Whole.{IsTree, spare_under, walk_under}
+use Rattle.tree_node.specs.Whole.{IsTree, depth_of, spare_under, walk_under}
+use Rattle.tree_index.specs.declared.tree.Tree.{Tree}
+use Rattle.tree_index.specs.Trees.{pairs_of, spare_of}
 
 pub record Index (K V : Type 0) : Type 0 where
   -- the pairs, strictly ascending by key
@@ -16,6 +18,10 @@ pub record Index (K V : Type 0) : Type 0 where
   pub depth : ℕ
   -- how many writes are sure to be stored without memory
   pub spare : ℕ
+
+-- the index that a tree is
+abbrev pub index_of : {K V : Type 0} {LEN : ℕ} → Tree K V LEN → Index K V
+index_of tree = record { pairs = pairs_of tree; depth = depth_of tree.root; spare = spare_of tree }
 
 module _ {K V : Type 0} where
   -- A write took at most one slot of a leaf. The first one made a tree of one level.

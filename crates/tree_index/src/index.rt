@@ -1,5 +1,5 @@
 //! The index.
-ghost use Rattle.std.specs.Prelude.{◌≡◌, ◌⊎◌, ◌↔◌, IsTrue, ◌+◌, ◌*◌, ◌^◌, ◌-◌, ◌≤◌, min, [], length, Some, MatchOption};
+ghost use Rattle.std.specs.Prelude.{◌≡◌, ◌⊎◌, ◌↔◌, IsTrue, ◌+◌, ◌*◌, ◌^◌, ◌-◌, ◌≤◌, Bool, true, min, [], length, Some, MatchOption};
 ghost use Rattle.std.specs.Fn.{FnOnceReturnsAt, FnOnceTakesAt};
 ghost use Rattle.std.specs.Option.{ForSome, option_copied, option_map};
 ghost use Rattle.tree_array.specs.Length.{IsLen};
@@ -16,6 +16,7 @@ use tree_array::array::{IndexKey, Judge, StoreResult};
 use tree_leaf::arena::NodeId;
 use tree_model::InsertError;
 use tree_node::node::ArenasOf;
+use tree_node::spare::spare_at;
 
 /// An ordered index of pairs of a key and a value, with fifteen pairs a leaf. See [`TreeIndexOf`].
 pub type TreeIndex<K, V> = TreeIndexOf<K, V, 15>;
@@ -34,13 +35,12 @@ pub struct TreeIndexOf<K: IndexKey, V: Drop, const LEN: usize> {
 impl<K: IndexKey, V: Drop, const LEN: usize> Model for TreeIndexOf<K, V, LEN> {
     ghost use Rattle.std.specs.Prelude.{◌≡◌, length};
     ghost use Rattle.tree_array.specs.Length.{IsLen};
-    ghost use Rattle.tree_index.specs.Index.{Index};
-    ghost use Rattle.tree_index.specs.Trees.{IsWhole, pairs_of, spare_of};
-    ghost use Rattle.tree_node.specs.Whole.{depth_of};
+    ghost use Rattle.tree_index.specs.Index.{Index, index_of};
+    ghost use Rattle.tree_index.specs.Trees.{IsWhole, pairs_of};
 
     ghost Value = { Index K V };
 
-    ghost view = { λ a. record { pairs = pairs_of a.tree; depth = depth_of a.tree.root; spare = spare_of a.tree } };
+    ghost view = { λ a. index_of a.tree };
 
     ghost invariant = { λ a. IsLen LEN × IsWhole K.cmp a.tree × (a.len ≡ length (pairs_of a.tree)) };
 }
@@ -70,9 +70,12 @@ impl<K: IndexKey, V: Drop, const LEN: usize> TreeIndexOf<K, V, LEN> {
     {
         match self.store::<false>(key, value) {
             Err((key, value)) => Err(InsertError::OutOfMemory(key, value)),
-            Ok(StoreResult::New) => Ok(()),
-            Ok(StoreResult::Duplicate(key, value)) => Err(InsertError::Duplicate(key, value)),
-            Ok(_) => unreachable!(),
+            Ok(answer) => match answer {
+                StoreResult::New => Ok(()),
+                StoreResult::Duplicate(key, value) => Err(InsertError::Duplicate(key, value)),
+                StoreResult::Replaced => unreachable!(),
+                StoreResult::Full(_, _) => unreachable!(),
+            },
         }
     }
 
@@ -84,8 +87,15 @@ impl<K: IndexKey, V: Drop, const LEN: usize> TreeIndexOf<K, V, LEN> {
         ensures pairs { Upserts K.cmp self.old.pairs key value result self.new.pairs }
         ensures spare { SpendsUpsert LEN self.old self.new result }
     {
-        let _ = self.store::<true>(key, value)?;
-        Ok(())
+        match self.store::<true>(key, value) {
+            Err(pair) => Err(pair),
+            Ok(answer) => match answer {
+                StoreResult::New => Ok(()),
+                StoreResult::Replaced => Ok(()),
+                StoreResult::Duplicate(_, _) => unreachable!(),
+                StoreResult::Full(_, _) => unreachable!(),
+            },
+        }
     }
 
     /// Removes the pair at a key, and says whether there was one. At most `LEN * (depth + 1)` comparisons,
@@ -95,7 +105,12 @@ impl<K: IndexKey, V: Drop, const LEN: usize> TreeIndexOf<K, V, LEN> {
         ensures left { self.new.pairs ≡ without K.cmp self.old.pairs key.now }
         ensures spare { KeepsSpare self.old self.new }
     {
-        self.remove_if_sync(key, |_| true)
+        self.remove_if_sync(
+            key,
+            |_|
+                ensures { result ≡ true }
+            { true },
+        )
     }
 
     /// Removes the pair at a key where the condition says so of its value, and says whether it did.
@@ -105,6 +120,7 @@ impl<K: IndexKey, V: Drop, const LEN: usize> TreeIndexOf<K, V, LEN> {
     pub fn remove_if_sync<F: FnOnce(&V) -> bool + Drop>(&mut self, key: &K, condition: F) -> bool
         requires { ForSome (pair_at K.cmp self.old.pairs key.now) (λ pair. FnOnceTakesAt F.FnOnce condition pair.1) }
         ensures pairs { RemovesIf K.cmp (FnOnceReturnsAt F.FnOnce condition) self.old.pairs key.now result self.new.pairs }
+        ensures always { ((value : V) (said : Bool) → FnOnceReturnsAt F.FnOnce condition value said → said ≡ true) → (IsTrue result ↔ IsPresent K.cmp self.old.pairs key.now) × (self.new.pairs ≡ without K.cmp self.old.pairs key.now) }
         ensures spare { KeepsSpare self.old self.new }
     {
         let removed = self.tree.remove_if(key, condition);
@@ -129,6 +145,7 @@ impl<K: IndexKey, V: Drop, const LEN: usize> TreeIndexOf<K, V, LEN> {
     pub fn peek_entry(&self, key: &K) -> Option<(&K, &V)>
         ensures found { MatchOption result (IsAbsent K.cmp self.now.pairs key.now)
             (λ pair. pair_at K.cmp self.now.pairs key.now ≡ Some (pair.0.now, pair.1.now)) }
+        ensures ascending { IsAscending K.cmp self.now.pairs }
     {
         pair_of(self, key)
     }
@@ -138,6 +155,7 @@ impl<K: IndexKey, V: Drop, const LEN: usize> TreeIndexOf<K, V, LEN> {
         ensures found { MatchOption result (IsAbsent K.cmp self.now.pairs (J.key judge.old))
             (λ pair. pair_at K.cmp self.now.pairs (J.key judge.old) ≡ Some (pair.0.now, pair.1.now)) }
         ensures counted { J.count judge.new ≤ J.count judge.old + LEN * (self.now.depth + 1) }
+        ensures ascending { IsAscending K.cmp self.now.pairs }
     {
         self.tree.search(judge)
     }
@@ -176,6 +194,17 @@ impl<K: IndexKey, V: Drop, const LEN: usize> TreeIndexOf<K, V, LEN> {
         }
     }
 
+    /// The least number of slots that were never used in a leaf; 0 without a leaf, and where one is retired. So many
+    /// writes are sure to take no memory. It looks at every leaf, and compares nothing.
+    pub fn spare(&self) -> u8
+        ensures { result ≡ self.now.spare }
+    {
+        match self.tree.root {
+            Some((root, depth)) => spare_at(&self.tree.arenas, depth, root),
+            None => 0,
+        }
+    }
+
     /// The arenas of the tree, and the number of its root if it has one. Every number in use in the arenas is
     /// reached from the root once.
     pub fn parts(&self) -> (&ArenasOf<K, V, LEN>, Option<NodeId>)
@@ -193,13 +222,17 @@ impl<K: IndexKey, V: Drop, const LEN: usize> TreeIndexOf<K, V, LEN> {
     {
         match self.tree.store::<UPSERT>(key, value) {
             Err(pair) => Err(pair),
-            Ok(StoreResult::New) => {
-                // Each pair has a slot of its own, so that their number fits.
-                prove!(self.len < self.tree.slots());
-                self.len += 1;
-                Ok(StoreResult::New)
-            }
-            Ok(answer) => Ok(answer),
+            Ok(answer) => match answer {
+                StoreResult::New => {
+                    // Each pair has a slot of its own, so that their number fits.
+                    prove!(self.len < self.tree.slots());
+                    self.len += 1;
+                    Ok(StoreResult::New)
+                }
+                StoreResult::Replaced => Ok(StoreResult::Replaced),
+                StoreResult::Duplicate(key, value) => Ok(StoreResult::Duplicate(key, value)),
+                StoreResult::Full(key, value) => Ok(StoreResult::Full(key, value)),
+            },
         }
     }
 }
@@ -213,8 +246,7 @@ impl<K: IndexKey, V: Drop, const LEN: usize> Seeks<K, V> for TreeIndexOf<K, V, L
 }
 
 impl<K: IndexKey + fmt::Debug, V: Drop + fmt::Debug, const LEN: usize> fmt::Debug
-    for TreeIndexOf<K, V, LEN>
-{
+    for TreeIndexOf<K, V, LEN> {
     fn fmt<W: fmt::Write>(&self, f: &mut fmt::Formatter<W>) -> fmt::Result {
         let depth = self.depth();
         write!(f, "TreeIndex {{ depth: {depth}, len: {:?} }}", self.len)

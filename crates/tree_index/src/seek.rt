@@ -1,6 +1,6 @@
 //! Look-ups by a key alone.
 ghost use Rattle.std.specs.Prelude.{◌≡◌, ◌<◌, List, Some, MatchOption};
-ghost use Rattle.tree_model.specs.Pairs.{IsAbsent, pair_at};
+ghost use Rattle.tree_model.specs.Pairs.{IsAbsent, IsAscending, pair_at};
 
 use std::marker::Brand;
 use std::sync::ledger::{Blank, Ledger};
@@ -12,12 +12,14 @@ pub trait Seeks<K: Ord, V> {
 
     /// The pair with the judge's key.
     fn seek<J: Judge<K>>(&self, judge: &mut J) -> Option<(&K, &V)>
-        ensures { MatchOption result (IsAbsent K.cmp (pairs self.now) (J.key judge.old)) (λ pair. pair_at K.cmp (pairs self.now) (J.key judge.old) ≡ Some (pair.0.now, pair.1.now)) };
+        ensures ascending { IsAscending K.cmp (pairs self.now) }
+        ensures found { MatchOption result (IsAbsent K.cmp (pairs self.now) (J.key judge.old)) (λ pair. pair_at K.cmp (pairs self.now) (J.key judge.old) ≡ Some (pair.0.now, pair.1.now)) };
 }
 
 /// The pair at a key, for a caller that counts no comparisons.
 pub fn pair_of<'a, K: Ord, V, S: Seeks<K, V>>(sought: &'a S, key: &K) -> Option<(&'a K, &'a V)>
-    ensures { MatchOption result (IsAbsent K.cmp (S.pairs sought.now) key.now) (λ pair. pair_at K.cmp (S.pairs sought.now) key.now ≡ Some (pair.0.now, pair.1.now)) }
+    ensures ascending { IsAscending K.cmp (S.pairs sought.now) }
+    ensures found { MatchOption result (IsAbsent K.cmp (S.pairs sought.now) key.now) (λ pair. pair_at K.cmp (S.pairs sought.now) key.now ≡ Some (pair.0.now, pair.1.now)) }
 {
     pair_by::<K, V, S, Brand>(sought, key, Blank::new(1))
 }
@@ -30,7 +32,8 @@ fn pair_by<'a, K: Ord, V, S: Seeks<K, V>, L: Ledger>(
     requires name { blank.name ≡ L.name }
     requires parts { blank.parts ≡ L.parts }
     requires some { 0 < L.parts }
-    ensures { MatchOption result (IsAbsent K.cmp (S.pairs sought.now) key.now) (λ pair. pair_at K.cmp (S.pairs sought.now) key.now ≡ Some (pair.0.now, pair.1.now)) }
+    ensures ascending { IsAscending K.cmp (S.pairs sought.now) }
+    ensures found { MatchOption result (IsAbsent K.cmp (S.pairs sought.now) key.now) (λ pair. pair_at K.cmp (S.pairs sought.now) key.now ≡ Some (pair.0.now, pair.1.now)) }
 {
     let mut judge: KeyJudge<K, L> = KeyJudge::new(key, Steps::new(blank));
     sought.seek(&mut judge)

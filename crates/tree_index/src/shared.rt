@@ -92,14 +92,15 @@ impl<K: IndexKey + SameClone, V: SameClone> State<K, V> {
         let Ok((kept_key, kept_value)) = cloned_pair(&key, &value) else {
             return Err(InsertError::OutOfMemory(key, value));
         };
-        let command = Command::Insert(kept_key, kept_value);
         match self.index.insert_sync(key, value) {
             Ok(()) => {
-                keep(&mut self.history, command, Reply::Stored);
+                let kept = Command::Insert(kept_key, kept_value);
+                keep(&mut self.history, kept, Reply::Stored);
                 Ok(())
             }
             Err(InsertError::Duplicate(key, value)) => {
-                keep(&mut self.history, command, Reply::Duplicate);
+                let kept = Command::Insert(kept_key, kept_value);
+                keep(&mut self.history, kept, Reply::Duplicate);
                 Err(InsertError::Duplicate(key, value))
             }
             Err(InsertError::OutOfMemory(key, value)) => Err(InsertError::OutOfMemory(key, value)),

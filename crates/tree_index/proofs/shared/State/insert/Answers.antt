@@ -1,7 +1,9 @@
-use Rattle.std.proofs.Common.{refl}
+use Rattle.std.proofs.Common.{refl, sym, ◌∙◌}
 use Rattle.tree_model.specs.declared.commands.Command.TheVariants.{Insert}
 use Rattle.tree_model.specs.declared.commands.Reply.TheVariants.{Stored, Duplicate}
 use Rattle.tree_model.proofs.Histories.{history_grows}
+use Rattle.tree_node.proofs.Sizes.{fits}
+use Rattle.tree_index.proofs.Rooms.{room_left}
 use Rattle.tree_index.proofs.shared.State.insert.Goals as goal
 
 -- the history grows by the clones
@@ -22,3 +24,17 @@ pub returns-in-Err-Duplicate : goal.returns-in-Err-Duplicate
 returns-in-Err-Duplicate g c =
     let back = rw c.in-Err-Duplicate.field-0-is at c.in-Err-Duplicate.ensures.pairs in
     (rw (← c.self.view_is) (record { step = (back.0, back.3); answered = tt; kept = record { command = Insert c.in-Ok.kept_key c.in-Ok.kept_value; reply = Duplicate }; appended = rw (c.keep-in-Err-Duplicate.ensures, c.reserve.ensures.items) refl; same_command = (c.in-Ok.ensures.key, c.in-Ok.ensures.value); same_reply = tt }), back.1, back.2)
+
+pub insert_sync-requires : goal.insert_sync-requires
+insert_sync-requires g c = search fits
+
+pub keep-requires : goal.keep-requires
+keep-requires g c = room_left c.reserve.result _ _ c.reserve.ensures.ok (sym c.is_err.ensures.value ∙ c.if-is_err.false)
+
+pub keep-requires-in-Err-Duplicate : goal.keep-requires-in-Err-Duplicate
+keep-requires-in-Err-Duplicate g c = room_left c.reserve.result _ _ c.reserve.ensures.ok (sym c.is_err.ensures.value ∙ c.if-is_err.false)
+
+pub returns-in-Err-OutOfMemory : goal.returns-in-Err-OutOfMemory
+returns-in-Err-OutOfMemory g c =
+    let back = rw c.in-Err-OutOfMemory.field-0-is at c.in-Err-OutOfMemory.ensures.pairs in
+    (rw (← c.self.view_is, back.3, c.reserve.ensures.items) refl, back.1, back.2)

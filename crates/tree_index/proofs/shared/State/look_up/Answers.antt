@@ -1,9 +1,10 @@
-use Rattle.tree_node.proofs.Sizes.{fits}
 use Rattle.std.proofs.Common.{refl, ap, sym, ◌∙◌}
 use Rattle.std.specs.Option.{option_map}
 use Rattle.tree_model.specs.declared.commands.Command.TheVariants.{Peek}
 use Rattle.tree_model.specs.declared.commands.Reply.TheVariants.{Found}
 use Rattle.tree_model.proofs.Histories.{history_grows, same_key_itself, seen_value}
+use Rattle.tree_node.proofs.Sizes.{fits}
+use Rattle.tree_index.proofs.Rooms.{room_left}
 use Rattle.tree_index.proofs.shared.State.look_up.Goals as goal
 
 -- both clones are seen as the value at the key
@@ -21,4 +22,4 @@ pub peek-requires : goal.peek-requires
 peek-requires g c = search fits
 
 pub keep-requires : goal.keep-requires
-keep-requires g c = ?
+keep-requires g c = room_left c.reserve.result _ _ c.reserve.ensures.ok (sym c.is_err.ensures.value ∙ c.if-is_err.false)
