@@ -16,7 +16,7 @@ use Rattle.tree_model.specs.Pairs.{AllLarger, put}
 use Rattle.tree_model.proofs.Ascending.{IsAscending-put}
 use Rattle.tree_model.proofs.Lists.{all-append, all-filter}
 use Rattle.tree_node.specs.Arenas.{TreeArenas}
-use Rattle.tree_node.specs.Inserts.{Inserts, InsertsUnder, asks_split, refused}
+use Rattle.tree_node.specs.Inserts.{Inserts, InsertsUnder, asks_split, declined, refused}
 use Rattle.tree_node.specs.Parts.{IsPart, Unchanged}
 use Rattle.tree_node.specs.Shape.{spare, leaf_free, slot_free}
 use Rattle.tree_node.specs.Tree.{HasChildFor, Stands, walk}
@@ -73,9 +73,9 @@ module _ {K V : Type 0} {LEN : ℕ} {cmp : K → K → Ordering} (o : IsTotalOrd
   all_put P pairs here all = all-append P _ _ (all-filter P _ pairs all) (here, all-filter P _ pairs all)
 
   -- the pair was stored
-  success : (result : StoreResult K V) → refused {K = K} {V = V} (Ok result) ≡ false → asks_split {K = K} {V = V} (Ok result) ≡ false → Inserts cmp upsert (Ok result) leaf.array.entries key val array.entries
+  success : (result : StoreResult K V) → refused {K = K} {V = V} (Ok result) ≡ false → asks_split {K = K} {V = V} (Ok result) ≡ false → declined {K = K} {V = V} (Ok result) ≡ false → Inserts cmp upsert (Ok result) leaf.array.entries key val array.entries
       → IsStored cmp LEN upsert leaf.array key val array → InsertsUnder cmp upsert 0 a new id (Ok result) key val
-  success result taken no_split pairs ins = record {
+  success result taken no_split accepted pairs ins = record {
     pairs = rw (walk_was, walk_is) pairs;
     stands = λ low high above up_to s.
         let both : Some s.leaf ≡ Some leaf = sym s.here ∙ was in
@@ -92,7 +92,7 @@ module _ {K V : Type 0} {LEN : ℕ} {cmp : K → K → Ordering} (o : IsTotalOrd
     lowers = rw (room_was, room_is, ins.new_is, ins.room.1) (omega (arith, more));
     spent = λ so. absurd (let both = sym so ∙ taken in cc);
     full = λ so. absurd (let both = sym so ∙ no_split in cc);
-    unchanged = λ so. absurd (let both = sym so ∙ no_split in cc);
+    unchanged = λ so. absurd (let both = sym so ∙ accepted in cc);
   }
     where
       entries : array.entries ≡ put cmp leaf.array.entries key val
@@ -103,8 +103,8 @@ module _ {K V : Type 0} {LEN : ℕ} {cmp : K → K → Ordering} (o : IsTotalOrd
 
   -- what an array answers of an insert, of its leaf
   pub inserts_in_leaf : (result : StoreResult K V) → IsStore cmp LEN upsert leaf.array key val result array → InsertsUnder cmp upsert 0 a new id (Ok result) key val
-  inserts_in_leaf New ins = success New refl refl (ins.1, rw ins.0.new_is refl) ins.0
-  inserts_in_leaf Replaced ins = success Replaced refl refl (ins.1, ins.2, rw ins.0.new_is refl) ins.0
+  inserts_in_leaf New ins = success New refl refl refl (ins.1, rw ins.0.new_is refl) ins.0
+  inserts_in_leaf Replaced ins = success Replaced refl refl refl (ins.1, ins.2, rw ins.0.new_is refl) ins.0
   inserts_in_leaf (Duplicate k v) ins = record {
     pairs = rw (walk_was, walk_is) (ins.only_insert, ins.present, ins.back.same_key, ins.back.same_val, ap (λ (x : Arrivals K V). x.entries) ins.back.new_is);
     stands = λ low high above up_to s. kept ins.back.new_is low high s;
@@ -112,7 +112,7 @@ module _ {K V : Type 0} {LEN : ℕ} {cmp : K → K → Ordering} (o : IsTotalOrd
     lowers = as_spare ins.back.new_is;
     spent = λ so. absurd (cc);
     full = λ so. absurd (cc);
-    unchanged = λ so. absurd (cc);
+    unchanged = λ so. nothing_changed ins.back.new_is;
   }
   inserts_in_leaf (Full k v) ins = record {
     pairs = rw (walk_was, walk_is) (ins.absent, ins.back.same_key, ins.back.same_val, ap (λ (x : Arrivals K V). x.entries) ins.back.new_is);
@@ -155,5 +155,5 @@ module _ {K V : Type 0} {LEN : ℕ} {cmp : K → K → Ordering} (o : IsTotalOrd
         lowers = omega (arith, whole, rest, ins.lowers);
         spent = λ so. omega (arith, whole, ins.spent so);
         full = λ so. absurd (let both = sym so ∙ no_split in cc);
-        unchanged = λ so. absurd (let both = sym so ∙ no_split in cc);
+        unchanged = λ so. ins.unchanged so;
       }

@@ -1,12 +1,12 @@
 -- An insert that met a full child: what it answers where no room is made, and where it is tried again.
-use Rattle.std.proofs.Common.{◌≡◌, ℕ, zero, suc, ◌-◌, ◌<◌, Bool, true, false, [], ◌∷◌, None, Result, Ok, Err, refl, sym, ◌∙◌, arith, sub-one}
+use Rattle.std.proofs.Common.{◌≡◌, ℕ, zero, suc, ◌-◌, ◌<◌, Bool, true, false, List, [], ◌∷◌, None, Result, Ok, Err, refl, sym, ◌∙◌, arith, sub-one}
 use Rattle.std.specs.declared.cmp.Ordering.{Ordering}
 use Rattle.std.specs.Cmp.{IsTotalOrder}
 use Rattle.slab.specs.Slab.{get}
 use Rattle.tree_array.specs.declared.answers.StoreResult.{StoreResult}
-use Rattle.tree_array.specs.declared.answers.StoreResult.TheVariants.{Full}
+use Rattle.tree_array.specs.declared.answers.StoreResult.TheVariants.{New, Replaced, Duplicate, Full}
 use Rattle.tree_node.specs.Arenas.{TreeArenas}
-use Rattle.tree_node.specs.Inserts.{Inserts, InsertsUnder, IsNew, asks_split}
+use Rattle.tree_node.specs.Inserts.{Inserts, InsertsUnder, IsNew, asks_split, declined}
 use Rattle.tree_node.specs.Parts.{IsPart, Unchanged}
 use Rattle.tree_node.specs.Shape.{room, spare}
 use Rattle.tree_node.specs.Splits.{HasMadeRoom, SplitsChild}
@@ -27,6 +27,15 @@ module _ {K V : Type 0} {LEN : ℕ} (cmp : K → K → Ordering) (upsert : Bool)
     pub same_val : v ≡ val
     pub spent : spare level old id ≡ 0
     pub part : IsPart cmp level mid id
+
+-- a new pair that asks for no split is taken, or refused for want of memory
+accepted : {K V : Type 0} (cmp : K → K → Ordering) (upsert : Bool) (pairs left : List (K × V)) (key : K) (val : V) → IsNew cmp upsert pairs key
+    → (result : Result (StoreResult K V) (K × V)) → Inserts cmp upsert result pairs key val left → asks_split result ≡ false → declined result ≡ false
+accepted cmp upsert pairs left key val absent (Ok New) ins no_split = refl
+accepted cmp upsert pairs left key val absent (Ok Replaced) ins no_split = refl
+accepted cmp upsert pairs left key val absent (Ok (Duplicate k v)) ins no_split = absurd (let present = rw (absent ins.0) at ins.1 in cc)
+accepted cmp upsert pairs left key val absent (Ok (Full k v)) ins no_split = absurd (cc)
+accepted cmp upsert pairs left key val absent (Err pair) ins no_split = refl
 
 module _ {K V : Type 0} {LEN : ℕ} {cmp : K → K → Ordering} (upsert : Bool) (level : ℕ) (old mid : TreeArenas K V LEN) (id : ℕ) (key : K) (val : V) (k : K) (v : V) (below : IsFullBelow cmp upsert level old mid id key val k v) where
   -- nothing has changed since
@@ -66,8 +75,10 @@ module _ {K V : Type 0} {LEN : ℕ} {cmp : K → K → Ordering} (upsert : Bool)
       → InsertsUnder cmp upsert level old new id result key val
   inserted_again made new result room ins no_split =
       let walked : walk level made id ≡ walk level old id = room.pairs ∙ same_walk level old mid id (unchanged_agrees level old mid below.same id) in
+      let pairs : Inserts cmp upsert result (walk level old id) key val (walk level new id) = rw (← walked) ins.pairs in
+      let taken = accepted cmp upsert (walk level old id) (walk level new id) key val below.absent result pairs no_split in
       record {
-        pairs = rw (← walked) ins.pairs;
+        pairs = pairs;
         stands = λ low high above up_to s.
             ins.stands low high above up_to (room.stands low high above up_to (same_stands cmp level old mid id (unchanged_agrees level old mid below.same id) low high s));
         replaces = replaces_trans level old made new (id ∷ []) (id ∷ []) (id ∷ [])
@@ -75,7 +86,7 @@ module _ {K V : Type 0} {LEN : ℕ} {cmp : K → K → Ordering} (upsert : Bool)
         lowers = omega (arith, below.spent);
         spent = λ so. below.spent;
         full = λ so. absurd (let both = sym so ∙ no_split in cc);
-        unchanged = λ so. absurd (let both = sym so ∙ no_split in cc);
+        unchanged = λ so. absurd (let both = sym so ∙ taken in cc);
       }
 
   -- the part is one still where room was made

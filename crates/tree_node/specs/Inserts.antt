@@ -28,6 +28,14 @@ module _ {K V : Type 0} where
   asks_split (Ok (Full k v)) = true
   asks_split (Err pair) = false
 
+  -- the pair comes back, and not for want of memory
+  abbrev pub declined : Result (StoreResult K V) (K × V) → Bool
+  declined (Ok New) = false
+  declined (Ok Replaced) = false
+  declined (Ok (Duplicate k v)) = true
+  declined (Ok (Full k v)) = true
+  declined (Err pair) = false
+
   -- the answer without what was there before
   abbrev pub plain_answer : Result (StoreResult K V) (K × V) → Result (InsertResult K V) (K × V)
   plain_answer (Ok answer) = Ok (as_insert answer)
@@ -54,9 +62,10 @@ module _ {K V : Type 0} (cmp : K → K → Ordering) (upsert : Bool) where
     -- a write takes one place of a leaf, and is refused only where a leaf has none
     pub lowers : spare level old id ≤ suc (spare level new id)
     pub spent : refused result ≡ true → spare level old id ≡ 0
-    -- a split is asked for only where the array right under the number has no room, and then nothing has changed
+    -- a split is asked for only where the array right under the number has no room
     pub full : asks_split result ≡ true → room level old id ≡ 0
-    pub unchanged : asks_split result ≡ true → Unchanged old new
+    -- where that is so, or the key is there, nothing has changed
+    pub unchanged : declined result ≡ true → Unchanged old new
 
   -- The same with the plain answer, which doesn't tell a new key from a replaced one.
   pub record InsertsPlainly {LEN : ℕ} (level : ℕ) (old new : TreeArenas K V LEN) (id : ℕ) (result : Result (InsertResult K V) (K × V)) (key : K) (val : V) : Type 0 where

@@ -44,8 +44,8 @@ impl<K: IndexKey, const LEN: usize> LeafNodeOf<K, LEN> {
 /// Inserts a pair under a number of this level. With `UPSERT` it replaces the pair with an equal key.
 ///
 /// `Duplicate` comes where `UPSERT` is false and an equal key is there, also where there is no room. `Full` comes where
-/// the node itself takes no child more, so that its parent has to make room in it, and where it is retired; nothing
-/// changed then. An `Err` comes for want of memory: the entries are what they were. Each hands the pair back.
+/// the node itself takes no child more, so that its parent has to make room in it, and where it is retired. Neither
+/// changes anything. An `Err` comes for want of memory: the entries are what they were. Each hands the pair back.
 ///
 /// At most `LEN` comparisons a level, and where an array was full twice as many. The key is cloned only to part a leaf.
 ///

@@ -10,6 +10,7 @@ pub mod internal_node;
 mod keyed_children;
 pub mod leaf_node;
 mod leaf_split;
+pub mod listing;
 pub mod look_ups;
 pub mod lowering;
 pub mod node;

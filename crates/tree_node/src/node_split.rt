@@ -61,6 +61,8 @@ impl<K: Ord + Drop, const LEN: usize> InternalNodeOf<K, LEN> {
 }
 
 /// Makes room in a child node under a parent of this level, as [`InternalNodeOf::split_node`] does.
+///
+/// The level serves the contract alone. It is no ghost parameter, since a recursive caller can't pick one.
 pub fn split_child_at<K: Ord + Drop, V: Drop, const LEN: usize>(
     arenas: &mut ArenasOf<K, V, LEN>,
     level: usize,
@@ -74,7 +76,6 @@ pub fn split_child_at<K: Ord + Drop, V: Drop, const LEN: usize>(
     ensures err { OnErr result (Unchanged arenas.old arenas.new) }
     ensures places { HasPlaces arenas.old 0 1 → IsOk result }
 {
-    let _level = level;
     InternalNodeOf::split_node(arenas, parent, target)
 }
 

@@ -1,5 +1,6 @@
 //! Calls on a number, in a tree that is built by hand.
 mod leaf_nodes;
+mod listed;
 
 ghost use Rattle.std.specs.Prelude.{◌≡◌, ◌<◌, [], ◌∷◌, None, Some, IfOk, if◌then◌else◌};
 ghost use Rattle.std.specs.Ordering.{nat_cmp};

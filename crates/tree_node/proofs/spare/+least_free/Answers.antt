@@ -6,7 +6,7 @@ use Rattle.tree_node.specs.declared.node.NodeOf.TheVariants.{Internal, Leaf}
 use Rattle.tree_node.specs.Shape.{leaf_free}
 use Rattle.tree_node.specs.Tree.{StandsOrRetired, in_turn, leaves_at}
 use Rattle.tree_node.proofs.ChildrenStand.{no_leaves, over_leaves, over_nodes}
-use Rattle.tree_node.proofs.ChildTurns.{begins_over, slot_is_child, child_turn, holds_in_turn, holds_at_last}
+use Rattle.tree_node.proofs.ChildTurns.{begins_over, slot_reachable, child_turn, holds_in_turn, holds_at_last}
 use Rattle.tree_node.proofs.LeastFree.{begins_least, least_in_turn, least_at_last}
 use Rattle.tree_node.proofs.Levels.{node_at}
 use Rattle.tree_node.proofs.spare.+least_free.Goals as goal
@@ -41,7 +41,7 @@ loop-slot-init g t c =
 
 pub val-requires : goal.val-requires
 val-requires g t c =
-    let there : IsSome (arrival c.in-Internal.node.children.arrivals c.in-Some-slot.slot) = slot_is_child c.in-Internal.node.children _ _ _ c.loop-slot.invariant.over c.in-Some-slot.ensures.steps in
+    let there : IsSome (arrival c.in-Internal.node.children.arrivals c.in-Some-slot.slot) = slot_reachable c.in-Internal.node.children _ _ _ c.loop-slot.invariant.over c.in-Some-slot.ensures.steps in
     search rules
 
 pub least_free-so_far-requires : goal.least_free-so_far-requires
