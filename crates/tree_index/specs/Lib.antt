@@ -1,3 +1,4 @@
 pub mod Index
 pub mod Inserts
+pub mod Served
 pub mod Trees

@@ -1,5 +1,6 @@
 //! Lists of commands.
 ghost use Rattle.std.specs.Prelude.{◌≡◌, IfOk, OnErr};
+ghost use Rattle.tree_index.specs.Served.{AreServed, SpendsBy};
 ghost use Rattle.tree_model.specs.Runs.{Step, Runs};
 
 use crate::index::TreeIndex;
@@ -10,12 +11,14 @@ use tree_model::{Command, InsertError, Reply};
 /// Answers the commands in turn, a reply for each.
 ///
 /// The room for all replies is taken first: an `Err` changed nothing. A command for which memory
-/// is refused is replied `Refused`, leaves the index as it was, and the run goes on.
+/// is refused is replied `Refused`, leaves the pairs as they were, and the run goes on. Of the writes before the first
+/// removal, as many as the index had spare are not refused.
 pub fn run<K: IndexKey, V: SameClone>(
     index: &mut TreeIndex<K, V>,
     commands: Vec<Command<K, V>>,
 ) -> Result<Vec<Reply<V>>, AllocError>
     ensures runs { IfOk result (λ replies. Runs K.cmp V.seen index.old.pairs commands.items replies.items index.new.pairs) }
+    ensures spare { IfOk result (λ replies. AreServed index.old.spare commands.items replies.items) }
     ensures err { OnErr result (index.new ≡ index.old) }
 {
     let mut replies = Vec::with_capacity(*commands.allocator(), commands.len())?;
@@ -30,7 +33,8 @@ fn answer<K: IndexKey, V: SameClone>(
     index: &mut TreeIndex<K, V>,
     command: Command<K, V>,
 ) -> Reply<V>
-    ensures { Step K.cmp V.seen index.old.pairs command result index.new.pairs }
+    ensures step { Step K.cmp V.seen index.old.pairs command result index.new.pairs }
+    ensures spare { SpendsBy command index.old.spare index.new.spare result }
 {
     match command {
         Command::Insert(key, value) => match index.insert_sync(key, value) {

@@ -15,6 +15,7 @@ use std::marker::Model;
 use tree_array::array::{IndexKey, Judge, StoreResult};
 use tree_leaf::arena::NodeId;
 use tree_model::InsertError;
+use tree_node::listing::list_at;
 use tree_node::node::ArenasOf;
 use tree_node::spare::spare_at;
 
@@ -246,9 +247,15 @@ impl<K: IndexKey, V: Drop, const LEN: usize> Seeks<K, V> for TreeIndexOf<K, V, L
 }
 
 impl<K: IndexKey + fmt::Debug, V: Drop + fmt::Debug, const LEN: usize> fmt::Debug
-    for TreeIndexOf<K, V, LEN> {
+    for TreeIndexOf<K, V, LEN>
+{
     fn fmt<W: fmt::Write>(&self, f: &mut fmt::Formatter<W>) -> fmt::Result {
         let depth = self.depth();
-        write!(f, "TreeIndex {{ depth: {depth}, len: {:?} }}", self.len)
+        write!(f, "TreeIndex {{ depth: {depth}, entries: ")?;
+        match self.tree.root {
+            Some((root, depth)) => list_at(&self.tree.arenas, depth, root, f)?,
+            None => write!(f, "[]")?,
+        }
+        write!(f, " }}")
     }
 }
