@@ -1,5 +1,5 @@
 -- Going through an array in turn by a walk over its slots, and through the children of a node: the keyed ones, and then the last.
-use Rattle.std.proofs.Common.{◌≡◌, ℕ, suc, List, [], ◌∷◌, ◌++◌, map, length, take, drop, Option, Some, None, IsSome, refl, sym, ap, subst, ◌∙◌, add-one, arith, append_assoc}
+use Rattle.std.proofs.Common.{◌≡◌, ℕ, suc, List, [], ◌∷◌, ◌++◌, map, length, take, drop, Some, None, IsSome, refl, sym, ap, subst, ◌∙◌, add-one, arith, append_assoc}
 use Rattle.std.specs.List.{AllByRecursion}
 use Rattle.std.proofs.lemmas.List.{length-map, map-append, take_all}
 use Rattle.tree_array.specs.Arrivals.{Arrivals, arrival}

@@ -1,4 +1,4 @@
-use Rattle.std.proofs.Common.{rules, inr, refl, arith, ap}
+use Rattle.std.proofs.Common.{arith, ap}
 use Rattle.std.specs.Ordering.{nat_cmp}
 use Rattle.tree_array.specs.Arrivals.{Arrivals}
 use Rattle.tree_node.proofs.Makings.{leaf_node_made}
