@@ -1,5 +1,5 @@
 -- The pairs of a whole tree ascend, and how many there are after a store and after a removal.
-use Rattle.std.proofs.Common.{◌≡◌, ◌⊎◌, ◌↔◌, ◌==◌, ℕ, ◌+◌, Bool, true, IsTrue, List, [], ◌∷◌, length, Option, Some, None, Result, Ok, inl, inr, refl, ap, arith}
+use Rattle.std.proofs.Common.{◌≡◌, ◌⊎◌, ◌↔◌, ◌==◌, ℕ, ◌+◌, Bool, true, IsTrue, List, [], ◌∷◌, length, Option, Some, None, MatchOption, is_some, Bor, Result, Ok, inl, inr, refl, ap, arith}
 use Rattle.std.specs.declared.cmp.Ordering.{Ordering}
 use Rattle.std.specs.Cmp.{IsTotalOrder}
 use Rattle.std.specs.Option.{option_map}
@@ -7,7 +7,7 @@ use Rattle.std.proofs.lemmas.Bool.Decides.{nat_tests}
 use Rattle.slab.specs.Slab.{get}
 use Rattle.tree_array.specs.declared.answers.StoreResult.{StoreResult}
 use Rattle.tree_array.specs.declared.answers.StoreResult.TheVariants.{New, Replaced}
-use Rattle.tree_model.specs.Pairs.{IsAscending, IsPresent}
+use Rattle.tree_model.specs.Pairs.{IsAbsent, IsAscending, IsPresent, pair_at}
 use Rattle.tree_model.proofs.Lengths.{length-put, without_absent, without_present}
 use Rattle.tree_node.specs.Tree.{Stands, walk}
 use Rattle.tree_node.specs.Whole.{IsRetiredRoot, IsTop, depth_of, walk_under}
@@ -66,3 +66,9 @@ pair_is (x, y) a b first second = rw (first, second) refl
 -- what is lent of an index is its tree
 pub is_tree_of : {K V : Type 0} {LEN : ℕ} (cmp : K → K → Ordering) (tree : Tree K V LEN) (root : Option ℕ) → option_map (λ id. (id, depth_of tree.root)) root ≡ tree.root → IsWhole cmp tree → IsTreeOf cmp (index_of tree) tree.arenas root
 is_tree_of cmp tree root same whole = record { tree = rw same whole; pairs = rw same refl; spare = rw same refl }
+
+-- a key is present where a pair is found at it
+pub present_where_found : {K V : Type 0} (cmp : K → K → Ordering) (l : List (K × V)) (k : K) (found : Option (Bor K × Bor V)) (is : Bool) → is ≡ is_some found
+    → MatchOption found (IsAbsent cmp l k) (λ pair. pair_at cmp l k ≡ Some (pair.0.now, pair.1.now)) → IsTrue is ↔ IsPresent cmp l k
+present_where_found cmp l k None is told absent = rw (told, absent) ((λ t. absurd (cc)), (λ t. absurd (cc)))
+present_where_found cmp l k (Some pair) is told at_key = rw (told, at_key) ((λ t. refl), (λ t. refl))

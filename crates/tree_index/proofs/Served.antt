@@ -1,5 +1,5 @@
 -- A run serves as many writes as were spare.
-use Rattle.std.proofs.Common.{◌≡◌, ℕ, zero, suc, ◌≤◌, List, [], ◌∷◌, arith}
+use Rattle.std.proofs.Common.{◌≡◌, ℕ, zero, suc, ◌≤◌, List, [], ◌∷◌, subst, arith}
 use Rattle.tree_model.specs.declared.commands.Command.{Command}
 use Rattle.tree_model.specs.declared.commands.Command.TheVariants.{Insert, Upsert, Remove, Peek}
 use Rattle.tree_model.specs.declared.commands.Reply.{Reply}
@@ -29,4 +29,9 @@ module _ {K V : Type 0} where
   served_more (suc old) new (Upsert k v) reply commands replies spends served =
       ((λ refused. absurd (omega (arith, spends.refused refused))), served_fewer new old commands replies (omega (arith, spends.lowers)) served)
   served_more (suc old) new (Remove k) reply commands replies spends served = tt
-  served_more (suc old) new (Peek k) reply commands replies spends served = rw (← spends) served
+  served_more (suc old) new (Peek k) reply commands replies spends served = subst (λ (spare : ℕ). AreServed spare commands replies) spends served
+
+-- no command, no reply
+pub none_served : (K V : Type 0) (spare : ℕ) → AreServed {K = K} {V = V} spare [] []
+none_served K V zero = tt
+none_served K V (suc spare) = tt

@@ -5,12 +5,12 @@ use Rattle.tree_model.specs.declared.commands.Command.TheVariants.{Insert, Upser
 use Rattle.tree_model.specs.declared.commands.Reply.{Reply}
 use Rattle.tree_model.specs.declared.commands.Reply.TheVariants.{Refused}
 
-module _ {K V : Type 0} where
-  -- A write is refused only where no spare is left, and takes at most one.
-  pub record Spends (old new : ℕ) (reply : Reply V) : Type 0 where
-    pub refused : reply ≡ Refused → old ≡ 0
-    pub lowers : old ≤ suc new
+-- A write is refused only where no spare is left, and takes at most one.
+pub record Spends {V : Type 0} (old new : ℕ) (reply : Reply V) : Type 0 where
+  pub refused : reply ≡ Refused → old ≡ 0
+  pub lowers : old ≤ suc new
 
+module _ {K V : Type 0} where
   -- what a command does to the spare
   abbrev pub SpendsBy : Command K V → ℕ → ℕ → Reply V → Type 0
   SpendsBy (Insert k v) old new reply = Spends old new reply

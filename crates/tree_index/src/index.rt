@@ -106,12 +106,7 @@ impl<K: IndexKey, V: Drop, const LEN: usize> TreeIndexOf<K, V, LEN> {
         ensures left { self.new.pairs ≡ without K.cmp self.old.pairs key.now }
         ensures spare { KeepsSpare self.old self.new }
     {
-        self.remove_if_sync(
-            key,
-            |_|
-                ensures { result ≡ true }
-            { true },
-        )
+        self.remove_if_sync(key, always)
     }
 
     /// Removes the pair at a key where the condition says so of its value, and says whether it did.
@@ -236,6 +231,13 @@ impl<K: IndexKey, V: Drop, const LEN: usize> TreeIndexOf<K, V, LEN> {
             },
         }
     }
+}
+
+/// Yes, whatever the value.
+fn always<V>(_: &V) -> bool
+    ensures { result ≡ true }
+{
+    true
 }
 
 impl<K: IndexKey, V: Drop, const LEN: usize> Seeks<K, V> for TreeIndexOf<K, V, LEN> {
