@@ -10,10 +10,10 @@ use tree_index::{InsertError, TreeIndex};
 use tree_model::laws::edits_are_found;
 
 /// Offers a price for an item, and tells the price that stands: the first one offered. `None`
-/// means that memory was refused, and then the prices are as they were.
+/// means that memory was refused: no leaf had room to spare, and the prices are as they were.
 pub fn offer(prices: &mut TreeIndex<u64, u64>, item: u64, price: u64) -> Option<u64>
-    ensures stands { IfSome result (λ first. option_map (λ pair. pair.1) (pair_at nat_cmp prices.new item) ≡ Some first) }
-    ensures refused { IfNone result (prices.new ≡ prices.old) }
+    ensures stands { IfSome result (λ first. option_map (λ pair. pair.1) (pair_at nat_cmp prices.new.pairs item) ≡ Some first) }
+    ensures refused { IfNone result ((prices.new.pairs ≡ prices.old.pairs) × (prices.old.spare ≡ 0)) }
 {
     edits_are_found::<u64, u64>();
     match prices.insert_sync(item, price) {

@@ -1,6 +1,8 @@
 use Rattle.treetool.specs.Tool.{usage_line}
 use Rattle.treetool.proofs.Writes.{written_of}
-use Rattle.std.proofs.Common.{refl}
+use Rattle.std.proofs.Common.{◌≡◌, ℕ, List, [], Option, Result, Err, refl, subst}
+use Rattle.treetool.specs.declared.lines.ToolFault.{ToolFault}
+use Rattle.treetool.specs.Runs.{RunsLines}
 use Rattle.treetool.proofs.tool.run_tool.Goals as goal
 
 -- the usage line was written, as far as it could be
@@ -8,3 +10,17 @@ pub returns-then-not-is_empty-clause-usage : goal.returns-then-not-is_empty-clau
 returns-then-not-is_empty-clause-usage g c = λ some.
     let wrote = written_of usage_line (g.E.Write.contents c.args.errors.now) (g.E.Write.contents c.write_whole.new.output) c.write_whole.result c.write_whole.ensures in
     (wrote.0, wrote.1, wrote.2, refl)
+
+-- the index was empty
+over_empty : (old new : List (ℕ × ℕ)) (remaining remaining' contents contents' : Option (List ℕ)) (result : Result (Unit {0}) ToolFault) → old ≡ [] → RunsLines old new remaining remaining' contents contents' result
+    → RunsLines [] new remaining remaining' contents contents' result
+over_empty old new remaining remaining' contents contents' result empty runs = subst (λ (start : List (ℕ × ℕ)). RunsLines start new remaining remaining' contents contents' result) empty runs
+
+pub returns-clause-lines : goal.returns-clause-lines
+returns-clause-lines g c none = (
+  Err c.in-Err.field-0,
+  c.run_lines.new.index.pairs,
+  over_empty c.new-index.result.pairs c.run_lines.new.index.pairs (g.R.Read.remaining c.args.input.now) (g.R.Read.remaining c.run_lines.new.input) (g.W.Write.contents c.args.output.now) (g.W.Write.contents c.run_lines.new.output) (Err c.in-Err.field-0)
+  c.new-index.ensures.pairs c.in-Err.ensures,
+  refl,
+)
