@@ -249,8 +249,7 @@ impl<K: IndexKey, V: Drop, const LEN: usize> Seeks<K, V> for TreeIndexOf<K, V, L
 }
 
 impl<K: IndexKey + fmt::Debug, V: Drop + fmt::Debug, const LEN: usize> fmt::Debug
-    for TreeIndexOf<K, V, LEN>
-{
+    for TreeIndexOf<K, V, LEN> {
     fn fmt<W: fmt::Write>(&self, f: &mut fmt::Formatter<W>) -> fmt::Result {
         let depth = self.depth();
         write!(f, "TreeIndex {{ depth: {depth}, entries: ")?;

@@ -1,6 +1,8 @@
 //! Worked calls of the index, its runs and its state.
 mod comparison;
 mod edits;
+mod orders;
+mod shapes;
 
 ghost use Rattle.std.proofs.Common.{rules};
 ghost use Rattle.tree_array.specs.Keys.{equal_numbers};
@@ -21,7 +23,10 @@ fn keeps_the_first_of_two_pairs(rt: HostRuntime) -> Result<(), Fail> {
     assert_eq!(rt; index.peek(&1).copied(), Some(10));
     assert_eq!(rt; index.peek(&2).copied(), None);
     let shown = format!(in rt.alloc(); "{index:?}")?;
-    assert_eq!(rt; shown.as_str(), "TreeIndex { depth: 1, entries: [(1, 10)] }");
+    assert_eq!(rt;
+        shown.as_str(),
+        "TreeIndex { depth: 1, entries: [(1, 10)] }"
+    );
     Ok(())
 }
 

@@ -15,7 +15,7 @@ pub returns-in-None-clause-step : goal.returns-in-None-clause-step
 returns-in-None-clause-step g c = rw c.in-Peek.is (ap (option_map g.V.SameClone.seen) c.in-None.ensures.found ∙ seen_value g.V.SameClone.seen _, refl)
 
 pub returns-in-Ok-clone-clause-step : goal.returns-in-Ok-clone-clause-step
-returns-in-Ok-clone-clause-step g c = 
+returns-in-Ok-clone-clause-step g c =
     let same : g.V.SameClone.seen c.in-Some.value.now ≡ g.V.SameClone.seen c.in-Ok-clone.value = g.met.V.SameClone.clone_seen _ _ c.in-Ok-clone.ensures.cases in
     rw c.in-Peek.is (ap Some (sym same) ∙ ap (option_map g.V.SameClone.seen) c.in-Some.ensures.found ∙ seen_value g.V.SameClone.seen _, refl)
 
