@@ -1,20 +1,24 @@
 -- The pairs of a whole tree ascend, and how many there are after a store and after a removal.
-use Rattle.std.proofs.Common.{◌≡◌, ◌⊎◌, ◌↔◌, ◌==◌, ℕ, ◌+◌, Bool, true, IsTrue, List, [], ◌∷◌, length, Option, Some, None, MatchOption, is_some, Bor, Result, Ok, inl, inr, refl, ap, arith}
+use Rattle.std.proofs.Common.{◌≡◌, ◌⊎◌, ◌↔◌, ◌==◌, ℕ, ◌+◌, ◌<◌, Bool, true, IsTrue, List, [], ◌∷◌, length, Option, Some, None, MatchOption, is_some, Bor, Result, Ok, inl, inr, refl, ap, arith}
 use Rattle.std.specs.declared.cmp.Ordering.{Ordering}
 use Rattle.std.specs.Cmp.{IsTotalOrder}
 use Rattle.std.specs.Option.{option_map}
 use Rattle.std.proofs.lemmas.Bool.Decides.{nat_tests}
+use Rattle.std.proofs.lemmas.List.{append-nil}
 use Rattle.slab.specs.Slab.{get}
 use Rattle.tree_array.specs.declared.answers.StoreResult.{StoreResult}
 use Rattle.tree_array.specs.declared.answers.StoreResult.TheVariants.{New, Replaced}
 use Rattle.tree_model.specs.Pairs.{IsAbsent, IsAscending, IsPresent, pair_at}
 use Rattle.tree_model.proofs.Lengths.{length-put, without_absent, without_present}
-use Rattle.tree_node.specs.Tree.{Stands, walk}
+use Rattle.tree_node.specs.Arenas.{TreeArenas}
+use Rattle.tree_node.specs.Ends.{IsLinked}
+use Rattle.tree_node.specs.Tree.{Stands, StandsOrRetired, leaves_at, walk}
 use Rattle.tree_node.specs.Whole.{IsRetiredRoot, IsTop, depth_of, walk_under}
 use Rattle.tree_node.proofs.Ascents.{walk_ascends}
 use Rattle.tree_node.proofs.Bare.{no_children}
 use Rattle.tree_index.specs.declared.tree.Tree.{Tree}
-use Rattle.tree_index.specs.Index.{IsTreeOf, StoresPair, index_of}
+use Rattle.tree_index.proofs.Stored.{stands_or_retired}
+use Rattle.tree_index.specs.Index.{Index, IsTreeOf, StoresPair, index_of}
 use Rattle.tree_index.specs.Trees.{IsWhole, Stores, Takes, pairs_of}
 
 module _ {K V : Type 0} {LEN : ℕ} {cmp : K → K → Ordering} (o : IsTotalOrder cmp) where
@@ -72,3 +76,9 @@ pub present_where_found : {K V : Type 0} (cmp : K → K → Ordering) (l : List 
     → MatchOption found (IsAbsent cmp l k) (λ pair. pair_at cmp l k ≡ Some (pair.0.now, pair.1.now)) → IsTrue is ↔ IsPresent cmp l k
 present_where_found cmp l k None is told absent = rw (told, absent) ((λ t. absurd (cc)), (λ t. absurd (cc)))
 present_where_found cmp l k (Some pair) is told at_key = rw (told, at_key) ((λ t. refl), (λ t. refl))
+
+-- a tree that is lent can be walked from either end
+pub walks_from : {K V : Type 0} {LEN : ℕ} (cmp : K → K → Ordering) (index : Index K V) (arenas : TreeArenas K V LEN) (root : ℕ) → IsTreeOf cmp index arenas (Some root)
+    → (0 < index.depth) × StandsOrRetired cmp index.depth arenas root × IsLinked index.depth arenas root
+walks_from cmp index arenas root is =
+    (is.tree.top.0, stands_or_retired cmp arenas root index.depth is.tree, ([], [], rw (append-nil (leaves_at index.depth arenas.nodes root)) is.tree.chain))

@@ -70,22 +70,24 @@ fn compare(rt: &impl Abort, index: &TreeIndex<u64, u64>, plain: &PlainIndex<u64,
         assert!(rt; plain.is_empty());
         return;
     };
-    if let Some(mut walk) = min_at(arenas, index.depth(), root) {
-        for pair in plain.pairs() {
-            assert_eq!(rt; following(&mut walk), Some(*pair));
+    match min_at(arenas, index.depth(), root) {
+        Some(mut walk) => {
+            for pair in plain.pairs() {
+                assert_eq!(rt; following(&mut walk), Some(*pair));
+            }
+            assert_eq!(rt; following(&mut walk), None);
         }
-        assert_eq!(rt; following(&mut walk), None);
+        None => assert!(rt; plain.is_empty()),
     }
-    if let Some(mut walk) = max_at(arenas, index.depth(), root) {
-        for pair in plain.pairs().iter().rev() {
-            assert_eq!(rt; preceding(&mut walk), Some(*pair));
+    match max_at(arenas, index.depth(), root) {
+        Some(mut walk) => {
+            for pair in plain.pairs().iter().rev() {
+                assert_eq!(rt; preceding(&mut walk), Some(*pair));
+            }
+            assert_eq!(rt; preceding(&mut walk), None);
         }
-        assert_eq!(rt; preceding(&mut walk), None);
+        None => assert!(rt; plain.is_empty()),
     }
-    assert_eq!(rt;
-        min_at(arenas, index.depth(), root).is_none(),
-        plain.is_empty()
-    );
 }
 
 // After the n-th call, about this key.
