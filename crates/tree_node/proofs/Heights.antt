@@ -10,7 +10,7 @@ use Rattle.tree_node.specs.Arenas.{TreeArenas}
 use Rattle.tree_node.specs.Ends.{BeginsPart, IsLinked}
 use Rattle.tree_node.specs.Tree.{IsRetired, IsRetiredNode, Stands, StandsOrRetired, leaves_at, node_children, walk}
 
-retired_children : {K : Type 0} {LEN : ℕ} (slot : Option (NodeOf K LEN)) → IsRetiredNode slot → node_children slot ≡ []
+pub retired_children : {K : Type 0} {LEN : ℕ} (slot : Option (NodeOf K LEN)) → IsRetiredNode slot → node_children slot ≡ []
 retired_children None r = absurd r
 retired_children (Some node) r = rw (r.0, r.1) refl
 

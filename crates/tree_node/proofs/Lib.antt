@@ -38,6 +38,7 @@ pub mod NodeSplits
 pub mod NodeWrites
 pub mod OnlyLeaves
 pub mod Order
+pub mod PartHeights
 pub mod Places
 pub mod Raises
 pub mod Rebuilds

@@ -8,6 +8,8 @@ ghost use Rattle.tree_node.specs.Inserts.{InsertsPlainly, InsertsUnder};
 ghost use Rattle.tree_node.specs.Parts.{IsPart, Unchanged};
 ghost use Rattle.tree_node.specs.Tree.{HasChildFor, IsRetired};
 
+use crate::depth::level_of;
+use crate::internal_node::InternalNodeOf;
 use crate::leaf_node::LeafNodeOf;
 use crate::leaf_split::make_room;
 use crate::node::{ArenasOf, NodeOf};
@@ -34,10 +36,76 @@ impl<K: IndexKey, const LEN: usize> LeafNodeOf<K, LEN> {
         ensures inserts { IsPart K.cmp 1 arenas.old id → InsertsPlainly K.cmp UPSERT 1 arenas.old arenas.new id result key val }
         ensures retired { IsRetired 1 arenas.old id → (result ≡ Ok (PlainlyFull key val)) × Unchanged arenas.old arenas.new }
     {
-        match insert_at::<UPSERT, K, V, LEN>(arenas, 1, id, key, val) {
-            Ok(answer) => Ok(answer.into_insert()),
-            Err(pair) => Err(pair),
-        }
+        insert_plainly_at::<UPSERT, K, V, LEN>(arenas, 1, id, key, val)
+    }
+}
+
+impl<K: IndexKey, const LEN: usize> InternalNodeOf<K, LEN> {
+    /// Inserts a pair. With `UPSERT` it replaces the pair with an equal key.
+    ///
+    /// `Duplicate` comes where `UPSERT` is false and an equal key is there; `Full` where the node itself takes no
+    /// child more, so that its parent has to make room in it, and where it is retired; an `Err` for want of memory.
+    /// Each hands the pair back, and the entries are what they were. At most `LEN` comparisons a level, and where an
+    /// array was full twice as many; each node or leaf that is divided takes memory for one more.
+    ///
+    /// Caller's condition: a node over nodes stands under the number, with a well-formed part of a tree, or retired;
+    /// `height` is the level of that part.
+    pub fn insert<const UPSERT: bool, V: Drop>(
+        arenas: &mut ArenasOf<K, V, LEN>,
+        id: NodeId,
+        key: K,
+        val: V,
+    ) -> Result<InsertResult<K, V>, (K, V)>
+        ghost height: { ℕ }
+        requires node { 1 < height }
+        requires part { IsPart K.cmp height arenas.old id ⊎ IsRetired height arenas.old id }
+        ensures inserts { IsPart K.cmp height arenas.old id → InsertsPlainly K.cmp UPSERT height arenas.old arenas.new id result key val }
+        ensures retired { IsRetired height arenas.old id → (result ≡ Ok (PlainlyFull key val)) × Unchanged arenas.old arenas.new }
+    {
+        NodeOf::insert::<UPSERT, V>(arenas, id, key, val)
+    }
+}
+
+impl<K: IndexKey, const LEN: usize> NodeOf<K, LEN> {
+    /// Inserts a pair under a node of either kind, as [`InternalNodeOf::insert`] does under one over nodes: with
+    /// the same answers, and at the same cost. It reads one node a level first, to find the level.
+    ///
+    /// Caller's condition: a node stands under the number, with a well-formed part of a tree, or retired; `height`
+    /// is the level of that part.
+    pub fn insert<const UPSERT: bool, V: Drop>(
+        arenas: &mut ArenasOf<K, V, LEN>,
+        id: NodeId,
+        key: K,
+        val: V,
+    ) -> Result<InsertResult<K, V>, (K, V)>
+        ghost height: { ℕ }
+        requires node { 0 < height }
+        requires part { IsPart K.cmp height arenas.old id ⊎ IsRetired height arenas.old id }
+        ensures inserts { IsPart K.cmp height arenas.old id → InsertsPlainly K.cmp UPSERT height arenas.old arenas.new id result key val }
+        ensures retired { IsRetired height arenas.old id → (result ≡ Ok (PlainlyFull key val)) × Unchanged arenas.old arenas.new }
+    {
+        let level = level_of(arenas, id);
+        insert_plainly_at::<UPSERT, K, V, LEN>(arenas, level, id, key, val)
+    }
+}
+
+/// Inserts a pair under a number of this level, as [`insert_at`] does, and answers without telling a new key from
+/// a replaced one.
+fn insert_plainly_at<const UPSERT: bool, K: IndexKey, V: Drop, const LEN: usize>(
+    arenas: &mut ArenasOf<K, V, LEN>,
+    level: usize,
+    id: NodeId,
+    key: K,
+    val: V,
+) -> Result<InsertResult<K, V>, (K, V)>
+    requires node { 0 < level }
+    requires part { IsPart K.cmp level arenas.old id ⊎ IsRetired level arenas.old id }
+    ensures inserts { IsPart K.cmp level arenas.old id → InsertsPlainly K.cmp UPSERT level arenas.old arenas.new id result key val }
+    ensures retired { IsRetired level arenas.old id → (result ≡ Ok (PlainlyFull key val)) × Unchanged arenas.old arenas.new }
+{
+    match insert_at::<UPSERT, K, V, LEN>(arenas, level, id, key, val) {
+        Ok(answer) => Ok(answer.into_insert()),
+        Err(pair) => Err(pair),
     }
 }
 

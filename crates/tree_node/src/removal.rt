@@ -1,5 +1,5 @@
 //! Removals under the number of a node, at its level.
-ghost use Rattle.std.specs.Prelude.{◌≡◌, ◌⊎◌, ◌<◌};
+ghost use Rattle.std.specs.Prelude.{◌≡◌, ◌⊎◌, ℕ, ◌<◌};
 ghost use Rattle.std.specs.Fn.{FnOnceReturnsAt, FnOnceTakesAt};
 ghost use Rattle.std.specs.Option.{ForSome};
 ghost use Rattle.tree_model.specs.Pairs.{pair_at};
@@ -11,6 +11,8 @@ ghost use Rattle.tree_node.specs.Tree.{IsRetired, walk};
 
 use crate::child_slot::child_slot_for;
 use crate::clean_up::{drop_child_node, drop_keyed_leaf, retire_if_empty};
+use crate::depth::level_of;
+use crate::internal_node::InternalNodeOf;
 use crate::leaf_node::LeafNodeOf;
 use crate::node::{ArenasOf, NodeOf};
 use tree_array::array::RemoveResult;
@@ -38,6 +40,57 @@ impl<K: Ord + Drop, const LEN: usize> LeafNodeOf<K, LEN> {
         ensures settled { result ≡ RemoveResult.Success → HasOnlyRetired arenas.new id → ⊥ }
     {
         remove_at(arenas, 1, id, key, condition)
+    }
+}
+
+impl<K: Ord + Drop, const LEN: usize> InternalNodeOf<K, LEN> {
+    /// Removes the pair with a key, where the condition says so of its value. The condition is asked once if
+    /// the key is there, else never.
+    ///
+    /// It answers `Fail` where the key is absent or the condition said no, and nothing changed; `Retired`
+    /// where no child is left; else `Success`. A child that lost its last pair is dropped. At most
+    /// `LEN * (depth + 1)` comparisons, and no memory.
+    ///
+    /// Caller's condition: a node over nodes stands under the number, with a well-formed part of a tree, or
+    /// retired, and `height` is the level of that part; and the condition may be called on the value at the key.
+    pub fn remove_if<V: Drop, F: FnOnce(&V) -> bool + Drop>(
+        arenas: &mut ArenasOf<K, V, LEN>,
+        id: NodeId,
+        key: &K,
+        condition: F,
+    ) -> RemoveResult
+        ghost height: { ℕ }
+        requires node { 1 < height }
+        requires part { IsPart K.cmp height arenas.old id ⊎ IsRetired height arenas.old id }
+        requires callable { ForSome (pair_at K.cmp (walk height arenas.old id) key.now) (λ pair. FnOnceTakesAt F.FnOnce condition pair.1) }
+        ensures { RemovesUnder K.cmp (λ val said. FnOnceReturnsAt F.FnOnce condition val said) height arenas.old arenas.new id result key.now }
+    {
+        NodeOf::remove_if(arenas, id, key, condition)
+    }
+}
+
+impl<K: Ord + Drop, const LEN: usize> NodeOf<K, LEN> {
+    /// Removes the pair with a key, where the condition says so of its value, under a node of either kind, with
+    /// the answers of [`LeafNodeOf::remove_if`] and [`InternalNodeOf::remove_if`]. At most `LEN * (depth + 1)`
+    /// comparisons, and no memory. It reads one node a level first, to find the level.
+    ///
+    /// Caller's condition: a node stands under the number, with a well-formed part of a tree, or retired, and
+    /// `height` is the level of that part; and the condition may be called on the value at the key.
+    pub fn remove_if<V: Drop, F: FnOnce(&V) -> bool + Drop>(
+        arenas: &mut ArenasOf<K, V, LEN>,
+        id: NodeId,
+        key: &K,
+        condition: F,
+    ) -> RemoveResult
+        ghost height: { ℕ }
+        requires node { 0 < height }
+        requires part { IsPart K.cmp height arenas.old id ⊎ IsRetired height arenas.old id }
+        requires callable { ForSome (pair_at K.cmp (walk height arenas.old id) key.now) (λ pair. FnOnceTakesAt F.FnOnce condition pair.1) }
+        ensures removes { RemovesUnder K.cmp (λ val said. FnOnceReturnsAt F.FnOnce condition val said) height arenas.old arenas.new id result key.now }
+        ensures settled { height ≡ 1 → result ≡ RemoveResult.Success → HasOnlyRetired arenas.new id → ⊥ }
+    {
+        let level = level_of(arenas, id);
+        remove_at(arenas, level, id, key, condition)
     }
 }
 

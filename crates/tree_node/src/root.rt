@@ -5,11 +5,36 @@ ghost use Rattle.tree_node.specs.Parts.{IsPart, Unchanged};
 ghost use Rattle.tree_node.specs.Shape.{room};
 ghost use Rattle.tree_node.specs.Splits.{RaisesRoot};
 
+use crate::depth::level_of;
 use crate::internal_node::InternalNodeOf;
 use crate::node::{ArenasOf, NodeOf};
 use crate::node_split::split_child_at;
 use std::alloc::AllocError;
 use tree_leaf::arena::NodeId;
+
+impl<K: Ord + Drop, const LEN: usize> NodeOf<K, LEN> {
+    /// Puts a root without room under a new one, makes room in it there, and answers the new root's number. It takes
+    /// the two nodes that this needs at most before it changes anything: an `Err`, for want of memory, leaves
+    /// what stood under every number. It reads one node a level first, to find the depth.
+    ///
+    /// Caller's condition: a well-formed tree stands under the root, which isn't retired and has no room for a
+    /// keyed child; `height` is the tree's depth.
+    pub fn split_root<V: Drop>(
+        arenas: &mut ArenasOf<K, V, LEN>,
+        root: NodeId,
+    ) -> Result<NodeId, AllocError>
+        ghost height: { ℕ }
+        requires node { 0 < height }
+        requires part { IsPart K.cmp height arenas.old root }
+        requires full { room height arenas.old root ≡ 0 }
+        ensures done { IfOk result (λ id. RaisesRoot K.cmp height arenas.old arenas.new root id) }
+        ensures levels { IfOk result (λ _. height + 1 < 2 ^ 64) }
+        ensures err { OnErr result (Unchanged arenas.old arenas.new) }
+    {
+        let depth = level_of(arenas, root);
+        split_root_at(arenas, depth, root)
+    }
+}
 
 /// Puts a root without room under a new one, makes room in it there, and answers the new root's number. It takes the
 /// two nodes that this needs at most before it changes anything: an `Err`, for want of memory, leaves

@@ -1,6 +1,6 @@
 use Rattle.std.proofs.Common.{◌≡◌, Ok, Err, refl, ap}
 use Rattle.tree_array.specs.declared.answers.StoreResult.TheVariants.{Full}
-use Rattle.tree_node.proofs.leaf_node.LeafNodeOf.insert.Goals as goal
+use Rattle.tree_node.proofs.insertion.insert_plainly_at.Goals as goal
 
 pub returns-in-Ok-clause-inserts : goal.returns-in-Ok-clause-inserts
 returns-in-Ok-clause-inserts g c part = record { told = Ok c.in-Ok.answer; plain = ap Ok c.into_insert.ensures; inserts = c.in-Ok.ensures.inserts part }

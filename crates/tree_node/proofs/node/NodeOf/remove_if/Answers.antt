@@ -1,0 +1,37 @@
+use Rattle.std.proofs.Common.{rules, arith, ◌≡◌, ◌⊎◌, ◌<◌}
+use Rattle.tree_node.specs.Parts.{IsPart}
+use Rattle.tree_node.specs.Tree.{IsRetired, StandsOrRetired}
+use Rattle.tree_node.proofs.Heights.{is_level}
+use Rattle.tree_node.proofs.PartHeights.{given_at, part_at, removed_at}
+use Rattle.tree_node.proofs.Sizes.{fits}
+use Rattle.tree_node.proofs.node.NodeOf.remove_if.Goals as goal
+
+pub level_of-level-requires : goal.level_of-level-requires
+level_of-level-requires g c κs within =
+    let inner : 0 < g.height = assumption c.requires in
+    let there : IsPart g.K.Ord.cmp g.height c.args.arenas.now c.args.id ⊎ IsRetired g.height c.args.arenas.now c.args.id = assumption c.requires in
+    let given : StandsOrRetired g.K.Ord.cmp g.height c.args.arenas.now c.args.id = given_at g.K.Ord.cmp c.args.arenas.now c.args.id g.height there in
+    (within.0, (within.1, (search rules, (search rules, (search fits, (inner, given))))))
+
+pub remove_at-requires : goal.remove_at-requires
+remove_at-requires g c =
+    let inner : 0 < g.height = assumption c.requires in
+    let there : IsPart g.K.Ord.cmp g.height c.args.arenas.now c.args.id ⊎ IsRetired g.height c.args.arenas.now c.args.id = assumption c.requires in
+    let lv = is_level g.K.Ord.cmp c.args.arenas.now c.args.id g.height c.level_of-level.result inner (given_at g.K.Ord.cmp c.args.arenas.now c.args.id g.height there) c.level_of-level.ensures.stands c.level_of-level.ensures.retired in
+    let part : IsPart g.K.Ord.cmp c.level_of-level.result c.args.arenas.now c.args.id ⊎ IsRetired c.level_of-level.result c.args.arenas.now c.args.id =
+    part_at g.K.Ord.cmp c.args.arenas.now c.args.id g.height c.level_of-level.result inner there c.level_of-level.ensures.stands c.level_of-level.ensures.retired in
+    (search rules, (search fits, (lv.inner, (part, rw lv.leaves (assumption c.requires)))))
+
+pub returns-clause-removes : goal.returns-clause-removes
+returns-clause-removes g c =
+    let inner : 0 < g.height = assumption c.requires in
+    let there : IsPart g.K.Ord.cmp g.height c.args.arenas.now c.args.id ⊎ IsRetired g.height c.args.arenas.now c.args.id = assumption c.requires in
+    removed_at g.K.Ord.cmp c.args.arenas.now c.args.id g.height c.level_of-level.result inner there c.level_of-level.ensures.stands c.level_of-level.ensures.retired _ _ _ _ c.remove_at.ensures.removes
+
+pub returns-clause-settled : goal.returns-clause-settled
+returns-clause-settled g c lowest =
+    let inner : 0 < g.height = assumption c.requires in
+    let there : IsPart g.K.Ord.cmp g.height c.args.arenas.now c.args.id ⊎ IsRetired g.height c.args.arenas.now c.args.id = assumption c.requires in
+    let lv = is_level g.K.Ord.cmp c.args.arenas.now c.args.id g.height c.level_of-level.result inner (given_at g.K.Ord.cmp c.args.arenas.now c.args.id g.height there) c.level_of-level.ensures.stands c.level_of-level.ensures.retired in
+    let one : c.level_of-level.result ≡ 1 = omega (arith, lowest, lv.inner, lv.le) in
+    c.remove_at.ensures.settled one
