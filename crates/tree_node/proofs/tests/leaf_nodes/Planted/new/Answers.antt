@@ -1,4 +1,4 @@
-use Rattle.std.proofs.Common.{rules, inl, inr, refl, arith, ap}
+use Rattle.std.proofs.Common.{rules, inl, arith, ap}
 use Rattle.tree_array.specs.Arrivals.{Arrivals}
 use Rattle.tree_node.proofs.Makings.{leaf_node_made}
 use Rattle.tree_node.proofs.Sizes.{fits}
@@ -13,4 +13,7 @@ invariant_of-result g c =
     (rw c.in-Ok-add_node.ensures.leaves c.in-Ok.ensures.leaves.updates.changed) c.new.ensures.prev c.new.ensures.next (rw c.new.ensures.array (omega arith)) (rw c.new.ensures.array tt))
 
 pub new-requires-2 : goal.new-requires-2
-new-requires-2 g c = (search (rules, fits), inr refl)
+new-requires-2 g c = (search (rules, fits), c.requires)
+
+pub new-requires : goal.new-requires
+new-requires g c = (search (rules, fits), c.requires)
