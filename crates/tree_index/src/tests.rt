@@ -8,7 +8,6 @@ ghost use Rattle.std.proofs.Common.{rules};
 ghost use Rattle.tree_array.specs.Keys.{equal_numbers};
 
 use crate::{Command, IndexKey, InsertError, Record, Reply, SameClone, State, TreeIndex, run};
-use std::alloc::Global;
 use std::test::Fail;
 
 #[test]
@@ -64,8 +63,11 @@ fn tells_keys_apart_by_their_order(rt: HostRuntime) -> Result<(), Fail> {
 }
 
 // The larger of two keys is inserted first, both are found, and the history has a clone of each.
-fn answers_by_key<K: IndexKey + SameClone>(alloc: Global, low: K, high: K) -> Result<bool, Fail> {
-    let mut state: State<K, bool> = State::new(alloc);
+fn answers_by_key<K: IndexKey + SameClone>(
+    state: &mut State<K, bool>,
+    low: K,
+    high: K,
+) -> Result<bool, Fail> {
     let asked = low.clone()?;
     state.insert(high, true).ok().ok_or("memory")?;
     state.insert(low, false).ok().ok_or("memory")?;
@@ -76,29 +78,29 @@ fn answers_by_key<K: IndexKey + SameClone>(alloc: Global, low: K, high: K) -> Re
 #[test]
 fn takes_keys_of_each_type(rt: HostRuntime) -> Result<(), Fail> {
     let alloc = rt.alloc();
-    assert!(rt; answers_by_key(alloc, 1u8, u8::MAX)?);
-    assert!(rt; answers_by_key(alloc, 1u16, u16::MAX)?);
-    assert!(rt; answers_by_key(alloc, 1u32, u32::MAX)?);
-    assert!(rt; answers_by_key(alloc, 1u64, u64::MAX)?);
-    assert!(rt; answers_by_key(alloc, 1u128, u128::MAX)?);
-    assert!(rt; answers_by_key(alloc, 1usize, usize::MAX)?);
-    assert!(rt; answers_by_key(alloc, 'a', 'é')?);
-    assert!(rt; answers_by_key(alloc, false, true)?);
+    assert!(rt; answers_by_key(&mut State::new(alloc), 1u8, u8::MAX)?);
+    assert!(rt; answers_by_key(&mut State::new(alloc), 1u16, u16::MAX)?);
+    assert!(rt; answers_by_key(&mut State::new(alloc), 1u32, u32::MAX)?);
+    assert!(rt; answers_by_key(&mut State::new(alloc), 1u64, u64::MAX)?);
+    assert!(rt; answers_by_key(&mut State::new(alloc), 1u128, u128::MAX)?);
+    assert!(rt; answers_by_key(&mut State::new(alloc), 1usize, usize::MAX)?);
+    assert!(rt; answers_by_key(&mut State::new(alloc), 'a', 'é')?);
+    assert!(rt; answers_by_key(&mut State::new(alloc), false, true)?);
     Ok(())
 }
 
 #[test]
 fn takes_signed_keys_and_texts(rt: HostRuntime) -> Result<(), Fail> {
     let alloc = rt.alloc();
-    assert!(rt; answers_by_key(alloc, i8::MIN, 1i8)?);
-    assert!(rt; answers_by_key(alloc, i16::MIN, 1i16)?);
-    assert!(rt; answers_by_key(alloc, i32::MIN, 1i32)?);
-    assert!(rt; answers_by_key(alloc, i64::MIN, 1i64)?);
-    assert!(rt; answers_by_key(alloc, i128::MIN, 1i128)?);
-    assert!(rt; answers_by_key(alloc, isize::MIN, 1isize)?);
+    assert!(rt; answers_by_key(&mut State::new(alloc), i8::MIN, 1i8)?);
+    assert!(rt; answers_by_key(&mut State::new(alloc), i16::MIN, 1i16)?);
+    assert!(rt; answers_by_key(&mut State::new(alloc), i32::MIN, 1i32)?);
+    assert!(rt; answers_by_key(&mut State::new(alloc), i64::MIN, 1i64)?);
+    assert!(rt; answers_by_key(&mut State::new(alloc), i128::MIN, 1i128)?);
+    assert!(rt; answers_by_key(&mut State::new(alloc), isize::MIN, 1isize)?);
     let low = String::from_str(alloc, "a")?;
     let high = String::from_str(alloc, "ab")?;
-    assert!(rt; answers_by_key(alloc, low, high)?);
+    assert!(rt; answers_by_key(&mut State::new(alloc), low, high)?);
     Ok(())
 }
 

@@ -21,6 +21,6 @@ returns-clause-lines g c none = (
   Err c.in-Err.field-0,
   c.run_lines.new.index.pairs,
   over_empty c.new-index.result.pairs c.run_lines.new.index.pairs (g.R.Read.remaining c.args.input.now) (g.R.Read.remaining c.run_lines.new.input) (g.W.Write.contents c.args.output.now) (g.W.Write.contents c.run_lines.new.output) (Err c.in-Err.field-0)
-  c.new-index.ensures.pairs c.in-Err.ensures,
+      c.new-index.ensures.pairs c.in-Err.ensures,
   refl,
 )
