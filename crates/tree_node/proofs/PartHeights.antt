@@ -1,5 +1,5 @@
 -- The level that was found by a number serves a write under it, in place of the one that the contract speaks of.
-use Rattle.std.proofs.Common.{◌≡◌, ◌⊎◌, ℕ, zero, suc, ◌<◌, Bool, [], ◌∷◌, Option, None, Some, inl, inr, refl, arith}
+use Rattle.std.proofs.Common.{◌≡◌, ◌⊎◌, ℕ, zero, suc, ◌<◌, Bool, [], ◌∷◌, Option, None, inl, inr, refl, arith}
 use Rattle.std.specs.declared.cmp.Ordering.{Ordering}
 use Rattle.slab.specs.Slab.{get}
 use Rattle.tree_array.specs.declared.answers.RemoveResult.{RemoveResult}
@@ -8,7 +8,7 @@ use Rattle.tree_node.specs.Arenas.{TreeArenas}
 use Rattle.tree_node.specs.Lowering.{LowersRoot}
 use Rattle.tree_node.specs.Parts.{IsPart, Unchanged}
 use Rattle.tree_node.specs.Removes.{RemovesUnder}
-use Rattle.tree_node.specs.Tree.{IsRetired, Stands, StandsOrRetired, leaves_at, nodes_at, walk}
+use Rattle.tree_node.specs.Tree.{IsRetired, Stands, StandsOrRetired, leaves_at, nodes_at}
 use Rattle.tree_node.proofs.Heights.{retired_children}
 use Rattle.tree_node.proofs.Unchanged.{unchanged_replaces}
 

@@ -16,10 +16,7 @@ impl<K: Ord + Drop, const LEN: usize> NodeOf<K, LEN> {
     /// stays, retired or not. No comparisons, and no memory. It reads one node a level first, to find the level.
     ///
     /// Caller's condition: a well-formed part of a tree stands there, or a retired node; `height` is its level.
-    pub fn cleanup_root<V: Drop>(
-        arenas: &mut ArenasOf<K, V, LEN>,
-        root: NodeId,
-    ) -> Option<NodeId>
+    pub fn cleanup_root<V: Drop>(arenas: &mut ArenasOf<K, V, LEN>, root: NodeId) -> Option<NodeId>
         ghost height: { ℕ }
         requires node { 0 < height }
         requires part { IsPart K.cmp height arenas.old root ⊎ IsRetired height arenas.old root }

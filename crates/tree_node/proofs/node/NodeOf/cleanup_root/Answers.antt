@@ -1,4 +1,4 @@
-use Rattle.std.proofs.Common.{rules, ◌⊎◌, ◌<◌, None, Some}
+use Rattle.std.proofs.Common.{rules, ◌⊎◌, ◌<◌}
 use Rattle.slab.specs.Slab.{get}
 use Rattle.tree_node.specs.Parts.{IsPart}
 use Rattle.tree_node.specs.Removes.{IsOfLevel}

@@ -1,4 +1,4 @@
-use Rattle.std.proofs.Common.{rules, arith, ◌≡◌, ◌<◌, inl}
+use Rattle.std.proofs.Common.{rules, ◌≡◌, ◌<◌, inl}
 use Rattle.tree_node.specs.Parts.{IsPart}
 use Rattle.tree_node.specs.Tree.{StandsOrRetired}
 use Rattle.tree_node.specs.Shape.{room}
