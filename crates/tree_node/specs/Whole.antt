@@ -2,6 +2,7 @@
 use Rattle.std.specs.Prelude.{◌≡◌, ◌≢◌, IsSome, ◌⊎◌, ℕ, ◌-◌, ◌<◌, ◌==◌, List, [], ◌∷◌, length, ⊤, Option, None, Some, Result, Ok, Err, if◌then◌else◌}
 use Rattle.std.specs.declared.cmp.Ordering.{Ordering}
 use Rattle.slab.specs.Slab.{Slab, get}
+use Rattle.tree_leaf.specs.Arena.{HasPlaces}
 use Rattle.tree_leaf.specs.Chain.{IsChain}
 use Rattle.tree_leaf.specs.Counting.{times, uses}
 use Rattle.tree_node.specs.declared.node.NodeOf.{NodeOf}
@@ -66,7 +67,7 @@ pub record HasOnly {K V : Type 0} {LEN : ℕ} (cmp : K → K → Ordering) (aren
   pub pairs : walk 1 arenas id ≡ (key, val) ∷ []
   pub spare : spare_under arenas (Some (id, 1)) ≡ LEN - 1
 
--- the pair stands alone in a tree of one level, or it comes back
+-- the pair stands alone in a tree of one level; or it comes back, which it doesn't where a leaf and a node fit
 abbrev pub Plants : {K V : Type 0} {LEN : ℕ} → (K → K → Ordering) → TreeArenas K V LEN → TreeArenas K V LEN → K → V → Result ℕ (K × V) → Type 0
 Plants cmp old new key val (Ok id) = HasOnly cmp new id key val
-Plants cmp old new key val (Err pair) = Unchanged old new × (pair.0 ≡ key) × (pair.1 ≡ val)
+Plants cmp old new key val (Err pair) = Unchanged old new × (pair.0 ≡ key) × (pair.1 ≡ val) × (HasPlaces old 1 1 → ⊥)

@@ -11,7 +11,7 @@ use tree_leaf::leaf::LeafOf;
 
 /// Puts a pair into a tree without leaves: under a new root, or in place of a retired leaf node. It answers
 /// the root's number. Memory is taken for one leaf, and for the root if there is none; an `Err`, for want of it,
-/// hands the pair back. No comparisons.
+/// hands the pair back; it doesn't come where a leaf and a node were reserved. No comparisons.
 ///
 /// Caller's condition: `LEN` is 7 or 15, and the tree, whose root comes with its level, has no leaf.
 pub fn plant<K: Ord + Drop, V: Drop, const LEN: usize>(

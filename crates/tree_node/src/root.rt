@@ -1,6 +1,7 @@
 //! How a tree grows by a level.
-ghost use Rattle.std.specs.Prelude.{◌≡◌, ℕ, ◌+◌, ◌^◌, ◌<◌, ◌≤◌, IfOk, OnErr};
+ghost use Rattle.std.specs.Prelude.{◌≡◌, ℕ, ◌+◌, ◌^◌, ◌<◌, ◌≤◌, IfOk, IsOk, OnErr};
 ghost use Rattle.tree_array.specs.Length.{IsLen};
+ghost use Rattle.tree_leaf.specs.Arena.{HasPlaces};
 ghost use Rattle.tree_node.specs.Parts.{IsPart, Unchanged};
 ghost use Rattle.tree_node.specs.Shape.{room};
 ghost use Rattle.tree_node.specs.Splits.{RaisesRoot};
@@ -38,7 +39,7 @@ impl<K: Ord + Drop, const LEN: usize> NodeOf<K, LEN> {
 
 /// Puts a root without room under a new one, makes room in it there, and answers the new root's number. It takes the
 /// two nodes that this needs at most before it changes anything: an `Err`, for want of memory, leaves
-/// what stood under every number.
+/// what stood under every number; it doesn't come where two nodes more were reserved.
 ///
 /// Caller's condition: a well-formed tree of this depth stands under the root, which isn't retired and has
 /// no room for a keyed child.
@@ -53,6 +54,7 @@ pub fn split_root_at<K: Ord + Drop, V: Drop, const LEN: usize>(
     ensures done { IfOk result (λ id. RaisesRoot K.cmp depth arenas.old arenas.new root id) }
     ensures levels { IfOk result (λ _. depth + 1 < 2 ^ 64) }
     ensures err { OnErr result (Unchanged arenas.old arenas.new) }
+    ensures places { HasPlaces arenas.old 0 2 → IsOk result }
 {
     prove!(slots_left(arenas.node(root)) as usize <= LEN);
     arenas.reserve(0, 2)?;

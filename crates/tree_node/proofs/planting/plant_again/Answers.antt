@@ -1,14 +1,18 @@
-use Rattle.std.proofs.Common.{refl, ap, ◌∙◌}
+use Rattle.std.proofs.Common.{arith, refl, ap, ◌∙◌}
 use Rattle.slab.specs.Slab.{ContainsKey, Slab, get}
 use Rattle.slab.proofs.SlabLemmas.{Updates-with_value}
 use Rattle.tree_array.specs.Arrivals.{Arrivals}
+use Rattle.tree_leaf.specs.Arena.{HasPlaces}
 use Rattle.tree_node.specs.declared.node.NodeOf.TheVariants.{Leaf}
 use Rattle.tree_node.proofs.Bare.{has_only, some_slots, unchanged_kept}
 use Rattle.tree_node.proofs.Sizes.{fits}
 use Rattle.tree_node.proofs.planting.plant_again.Goals as goal
 
 pub returns-in_default : goal.returns-in_default
-returns-in_default g c = (unchanged_kept c.args.arenas.now c.reserve.new.self c.in_default.ensures.0, refl, refl)
+returns-in_default g c =
+    let kept = unchanged_kept c.args.arenas.now c.reserve.new.self c.in_default.ensures.0 in
+    let fewer : HasPlaces c.args.arenas.now 1 1 → HasPlaces c.args.arenas.now 1 0 = λ had. record { leaves = had.leaves; nodes = omega (arith, had.nodes) } in
+    (kept, refl, refl, λ had. c.in_default.ensures.1 (fewer had))
 
 pub leaf_with-requires : goal.leaf_with-requires
 leaf_with-requires g c = (search fits, c.requires.len)

@@ -7,7 +7,7 @@ use Rattle.tree_node.proofs.Sizes.{fits}
 use Rattle.tree_node.proofs.planting.plant_root.Goals as goal
 
 pub returns-in_default : goal.returns-in_default
-returns-in_default g c = (unchanged_kept c.args.arenas.now c.reserve.new.self c.in_default.ensures.0, refl, refl)
+returns-in_default g c = (unchanged_kept c.args.arenas.now c.reserve.new.self c.in_default.ensures.0, refl, refl, c.in_default.ensures.1)
 
 pub leaf_with-requires : goal.leaf_with-requires
 leaf_with-requires g c = (search fits, c.requires.len)

@@ -59,3 +59,6 @@ pub returns-clause-levels : goal.returns-clause-levels
 returns-clause-levels g c =
     let top = top_part_at c.args.depth c.requires.node c.args.arenas.now c.reserve.new.self c.add_node.new.self c.args.root c.in-Ok.id c.new-top.result c.requires.part c.in_ok-reserve.ensures.0 c.in-Ok.ensures.nodes c.in-Ok.ensures.leaves c.new-top.ensures.keyed c.new-top.ensures.unbounded in
     omega (arith, part_levels g.K.Ord.cmp c.add_node.new.self (c.args.depth + 1) c.in-Ok.id top.0, c.node_count.ensures, c.node_count.type_inv)
+
+pub returns-in_err-reserve-clause-places : goal.returns-in_err-reserve-clause-places
+returns-in_err-reserve-clause-places g c = λ had. absurd (c.in_err-reserve.ensures.1 had)

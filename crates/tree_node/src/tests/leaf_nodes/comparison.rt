@@ -110,11 +110,12 @@ fn inserts<const UPSERT: bool, const LEN: usize, R: Abort>(
     };
     let found = !UPSERT && plain.value(key).is_some();
     assert_eq!(rt; matches!(answer, InsertResult::Duplicate(_, _)), found);
+    let divides = plain.fills_a_leaf(LEN);
     match answer {
         InsertResult::Success => {
             plain.set(key, Some(val));
             if planted.leaf_count() > plain.leaves() {
-                assert!(rt; plain.has_room(LEN));
+                assert!(rt; divides && plain.has_room(LEN));
                 plain.split();
                 met.splits = met.splits.saturating_add(1);
             }
@@ -122,7 +123,7 @@ fn inserts<const UPSERT: bool, const LEN: usize, R: Abort>(
         InsertResult::Duplicate(back, given) => assert_eq!(rt; (back, given), (key, val)),
         InsertResult::Full(back, given) => {
             assert_eq!(rt; (back, given), (key, val));
-            assert!(rt; !plain.has_room(LEN));
+            assert!(rt; !plain.has_room(LEN) && (divides || plain.leaves() == 0));
             met.full = met.full.saturating_add(1);
         }
     }

@@ -73,6 +73,12 @@ impl Plain {
         self.leaves > 0 && self.came < len && (self.came == 0 || self.leaves > 1)
     }
 
+    /// Whether the pairs may fill a leaf of `len` slots so that it is divided: it takes more than three quarters of them.
+    pub fn fills_a_leaf(&self, len: usize) -> bool {
+        let pairs = self.vals.iter().filter(|val| val.is_some()).count();
+        pairs >= len - len / 4
+    }
+
     /// A keyed leaf came.
     pub fn split(&mut self) {
         self.leaves = self.leaves.saturating_add(1);
