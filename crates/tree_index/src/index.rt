@@ -63,8 +63,9 @@ impl<K: IndexKey, V: Drop, const LEN: usize> TreeIndexOf<K, V, LEN> {
     ///
     /// A pair whose key is present comes back as a duplicate, and one for which memory is refused
     /// as out of memory; either leaves the pairs as they were. A duplicate is never refused for
-    /// memory, and no pair is while the spare is above 0. At most `LEN * (depth + 2)` comparisons, and
-    /// twice as many where arrays were full: then a level takes memory for a leaf or a node at most.
+    /// memory, and no pair is while the spare is above 0. At most `LEN * (depth + 1)` comparisons where
+    /// its leaf has a free slot, and no memory. Where arrays are full, the way down is gone again below each
+    /// level at which one was, and memory is taken for at most one leaf, one node a level, and a new root.
     pub fn insert_sync(&mut self, key: K, value: V) -> Result<(), InsertError<K, V>>
         ensures pairs { Inserts K.cmp self.old.pairs key value result self.new.pairs }
         ensures spare { SpendsInsert LEN self.old self.new result }

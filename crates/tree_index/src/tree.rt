@@ -42,8 +42,8 @@ impl<K: IndexKey, V: Drop, const LEN: usize> Tree<K, V, LEN> {
 
     /// Stores a pair, in place of one with an equal key if `UPSERT` says so.
     ///
-    /// Never `Full`. An `Err` is for want of memory. At most `LEN` comparisons a level, and where an
-    /// array was full twice as many.
+    /// Never `Full`. An `Err` is for want of memory. At most `LEN` comparisons a level and in the leaf;
+    /// below each level at which an array was full the way down is gone again.
     pub fn store<const UPSERT: bool>(&mut self, key: K, val: V) -> Result<StoreResult<K, V>, (K, V)>
         requires len { IsLen LEN }
         requires whole { IsWhole K.cmp self.old }

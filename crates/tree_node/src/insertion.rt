@@ -23,7 +23,8 @@ impl<K: IndexKey, const LEN: usize> LeafNodeOf<K, LEN> {
     ///
     /// `Duplicate` comes where `UPSERT` is false and an equal key is there; `Full` where a leaf has to be divided and the
     /// node takes no child more, and where it is retired; an `Err` for want of memory. Each hands the pair back. At most
-    /// `LEN * 2` comparisons, and as many again where the leaf was full, which takes memory for one leaf.
+    /// `LEN * 2` comparisons where the leaf has a free slot. Where it has none, at most `LEN * 5 + 1`, and a division
+    /// takes memory for one leaf.
     ///
     /// Caller's condition: a leaf node stands under the number, with a well-formed part of a tree, or retired.
     pub fn insert<const UPSERT: bool, V: Drop>(
@@ -45,8 +46,9 @@ impl<K: IndexKey, const LEN: usize> InternalNodeOf<K, LEN> {
     ///
     /// `Duplicate` comes where `UPSERT` is false and an equal key is there; `Full` where the node itself takes no
     /// child more, so that its parent has to make room in it, and where it is retired; an `Err` for want of memory.
-    /// Each hands the pair back, and the entries are what they were. At most `LEN` comparisons a level, and where an
-    /// array was full twice as many; each node or leaf that is divided takes memory for one more.
+    /// Each hands the pair back, and the entries are what they were. At most `LEN` comparisons a level and in the leaf;
+    /// below each level at which an array was full the way down is gone again. Each node or leaf that is divided takes
+    /// memory for one more.
     ///
     /// Caller's condition: a node over nodes stands under the number, with a well-formed part of a tree, or retired;
     /// `height` is the level of that part.
@@ -115,7 +117,8 @@ fn insert_plainly_at<const UPSERT: bool, K: IndexKey, V: Drop, const LEN: usize>
 /// the node itself takes no child more, so that its parent has to make room in it, and where it is retired. Neither
 /// changes anything. An `Err` comes for want of memory: the entries are what they were. Each hands the pair back.
 ///
-/// At most `LEN` comparisons a level, and where an array was full twice as many. The key is cloned only to part a leaf.
+/// At most `LEN` comparisons a level and in the leaf; below each level at which an array was full the way down is gone
+/// again. The key is cloned only to part a leaf.
 ///
 /// Caller's condition: a well-formed part of a tree stands there, or a retired node.
 pub fn insert_at<const UPSERT: bool, K: IndexKey, V: Drop, const LEN: usize>(

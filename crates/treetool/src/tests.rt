@@ -64,8 +64,8 @@ fn answered(rt: &impl Abort, alloc: Global, lines: &[u8]) -> Sink {
 fn answers_edits_and_look_ups(rt: HostRuntime) {
     for (lines, wanted) in [
         (
-            "upsert 7 1\nupsert 7 2\nremove_if 7 1\nremove_if 7 2\nlen\n",
-            "ok\nok\nfalse\ntrue\n0\n",
+            "upsert 7 1\nupsert 7 2\nremove_if 7 1\nremove_if 7 2\nlen\ndepth\nspare\n",
+            "ok\nok\nfalse\ntrue\n0\n1\n0\n",
         ),
         (
             "remove 1\ninsert 1 10\nremove 1\nremove 1\npeek 1\n",
