@@ -1,9 +1,9 @@
 -- A run serves as many writes as were spare.
-use Rattle.std.proofs.Common.{◌≡◌, ℕ, zero, suc, ◌≤◌, List, [], ◌∷◌, subst, arith}
+use Rattle.std.proofs.Common.{ℕ, zero, suc, ◌≤◌, List, [], ◌∷◌, subst, arith}
 use Rattle.tree_model.specs.declared.commands.Command.{Command}
 use Rattle.tree_model.specs.declared.commands.Command.TheVariants.{Insert, Upsert, Remove, Peek}
 use Rattle.tree_model.specs.declared.commands.Reply.{Reply}
-use Rattle.tree_index.specs.Served.{AreServed, Spends, SpendsBy}
+use Rattle.tree_index.specs.Served.{AreServed, SpendsBy}
 
 module _ {K V : Type 0} where
   -- where more are spare, no fewer are served

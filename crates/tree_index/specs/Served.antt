@@ -1,5 +1,5 @@
 -- How many writes of a run are sure to be answered.
-use Rattle.std.specs.Prelude.{◌≡◌, ◌≢◌, ℕ, zero, suc, ◌≤◌, List, [], ◌∷◌, ⊤}
+use Rattle.std.specs.Prelude.{◌≡◌, ◌≢◌, ℕ, suc, ◌≤◌, List, ◌∷◌, ⊤}
 use Rattle.tree_model.specs.declared.commands.Command.{Command}
 use Rattle.tree_model.specs.declared.commands.Command.TheVariants.{Insert, Upsert, Remove, Peek}
 use Rattle.tree_model.specs.declared.commands.Reply.{Reply}
