@@ -3,6 +3,7 @@ mod comparison;
 mod edits;
 mod orders;
 mod shapes;
+mod walker;
 
 ghost use Rattle.std.proofs.Common.{rules};
 ghost use Rattle.tree_array.specs.Keys.{equal_numbers};

@@ -1,5 +1,6 @@
 //! Thousands of keys, put and removed in several orders, compared with the plain index: at the key and beside it after
 //! each call, and as a whole after each hundredth.
+use super::walker::walk;
 use crate::TreeIndex;
 use std::alloc::Global;
 use std::process::Abort;
@@ -103,6 +104,7 @@ fn compare_at(
     }
     if n % STRETCH == 0 {
         compare(rt, index, plain);
+        walk(rt, index);
     }
 }
 
