@@ -13,6 +13,7 @@ use Rattle.tree_node.specs.Splits.{RaisesRoot}
 use Rattle.tree_node.specs.Tree.{IsRetired, IsRetiredNode, Stands, StandsOrRetired, leaves_at}
 use Rattle.tree_node.specs.Whole.{HasOnly, IsRetiredRoot, IsTree, depth_of, leaves_under, walk_under}
 use Rattle.tree_node.proofs.Bare.{no_children}
+use Rattle.tree_node.proofs.Fulls.{crowded_room}
 use Rattle.tree_node.proofs.Whole.{spare_standing, spare_unchanged, tree_after, tree_part, tree_raised, tree_unchanged, walk_unchanged}
 use Rattle.tree_index.specs.declared.tree.Tree.{Tree}
 use Rattle.tree_index.specs.Trees.{IsWhole, Stores, pairs_of, spare_of}
@@ -116,7 +117,7 @@ module _ {K V : Type 0} {LEN : ℕ} (cmp : K → K → Ordering) where
               let none : spare_of old ≡ 0 = rw was (spare_standing cmp old.arenas id level stands) ∙ ins.spent refl in
               record {
                 still_whole = same.2;
-                full = inr (room_unchanged level old.arenas new.arenas id (ins.unchanged refl) ∙ ins.full refl);
+                full = inr (room_unchanged level old.arenas new.arenas id (ins.unchanged refl) ∙ crowded_room cmp level old.arenas id key (ins.full refl));
                 absent = λ inserts_only. rw (same.0, was, ins.pairs.1) (ins.pairs.0 inserts_only);
                 spent = same.1 ∙ none;
                 was_spent = none;
@@ -221,7 +222,7 @@ module _ {K V : Type 0} {LEN : ℕ} (cmp : K → K → Ordering) where
     raised_whole = tree_raised old.arenas mid.arenas root top depth here_before raised
 
     takes_it : asks_split result ≡ false
-    takes_it = false_from_ne_true (asks_split result) (λ asks. omega (arith, raised.roomy, (inserts (tree_part mid.arenas top (suc depth) raised_whole raised.stands)).full asks))
+    takes_it = false_from_ne_true (asks_split result) (λ asks. omega (arith, raised.roomy, crowded_room cmp (suc depth) mid.arenas top key ((inserts (tree_part mid.arenas top (suc depth) raised_whole raised.stands)).full asks)))
 
     pub stored_raised : spare_of old ≡ 0 → Stores cmp upsert old new key val result
     stored_raised spent =

@@ -1,10 +1,14 @@
--- Where a node takes no keyed child more, and where it does.
-use Rattle.std.proofs.Common.{◌≡◌, ℕ, zero, suc, ◌<◌, Bool, true, false, cond, Option, Some, None, refl, arith, inl, inr}
+-- Where a node takes no keyed child more, and where it does; where no room can be made on the way of a key.
+use Rattle.std.proofs.Common.{◌≡◌, ℕ, zero, suc, ◌-◌, ◌<◌, Bool, true, false, cond, Option, Some, None, refl, arith, inl, inr, sub-one}
+use Rattle.std.specs.declared.cmp.Ordering.{Ordering}
+use Rattle.slab.specs.Slab.{get}
 use Rattle.tree_array.specs.Arrivals.{free}
 use Rattle.tree_array.specs.Insertion.{HasRoom, IsFull}
+use Rattle.tree_array.specs.Length.{limit}
 use Rattle.tree_node.specs.declared.node.NodeOf.{NodeOf}
-use Rattle.tree_node.specs.Shape.{children_free, slot_room}
-use Rattle.tree_node.specs.Tree.{keyed, unbounded}
+use Rattle.tree_node.specs.Arenas.{TreeArenas}
+use Rattle.tree_node.specs.Shape.{IsCrowded, children_free, held, room, slot_room}
+use Rattle.tree_node.specs.Tree.{HasChildFor, keyed, unbounded}
 
 module _ {K : Type 0} {LEN : ℕ} (node : NodeOf K LEN) where
   -- a full array of children is no room
@@ -34,3 +38,15 @@ module _ {K : Type 0} {LEN : ℕ} (node : NodeOf K LEN) where
       by_mark : (b : Bool) → (keyed node).retired ≡ b → b ≡ false
       by_mark false e = refl
       by_mark true e = absurd (not (inr e))
+
+module _ {K V : Type 0} {LEN : ℕ} (cmp : K → K → Ordering) where
+  -- the array right under the number has none
+  pub crowded_room : (level : ℕ) (a : TreeArenas K V LEN) (id : ℕ) (key : K) → IsCrowded cmp level a id key → room level a id ≡ 0
+  crowded_room zero a id key crowded = crowded
+  crowded_room (suc level) a id key crowded = crowded.0
+
+  -- nor can it be made above a child where it can't be made
+  pub crowded_above : (level : ℕ) → 0 < level → (a : TreeArenas K V LEN) (id child : ℕ) (key : K) → room level a id ≡ 0 → HasChildFor cmp key (get a.nodes id) child → limit LEN < held (level - 1) a child
+      → IsCrowded cmp (level - 1) a child key → IsCrowded cmp level a id key
+  crowded_above zero deep a id child key none which many crowded = absurd (omega (arith, deep))
+  crowded_above (suc level) deep a id child key none which many crowded = (none, child, which, rw sub-one at many, rw sub-one at crowded)

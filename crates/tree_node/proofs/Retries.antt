@@ -8,14 +8,15 @@ use Rattle.tree_array.specs.declared.answers.StoreResult.TheVariants.{New, Repla
 use Rattle.tree_node.specs.Arenas.{TreeArenas}
 use Rattle.tree_node.specs.Inserts.{Inserts, InsertsUnder, IsNew, asks_split, declined}
 use Rattle.tree_node.specs.Parts.{IsPart, Unchanged}
-use Rattle.tree_node.specs.Shape.{room, spare}
-use Rattle.tree_node.specs.Splits.{HasMadeRoom, SplitsChild}
+use Rattle.tree_node.specs.Shape.{IsCrowded, room, spare}
+use Rattle.tree_node.specs.Splits.{HasMadeRoom, LacksRoom, SplitsChild}
 use Rattle.tree_node.specs.Tree.{HasChildFor, Stands, walk}
 use Rattle.tree_node.proofs.ChildChanges.{child_part, new_walk, old_spare, old_walk}
 use Rattle.tree_node.proofs.Frames.{same_stands, same_walk}
+use Rattle.tree_node.proofs.Fulls.{crowded_above, crowded_room}
 use Rattle.tree_node.proofs.Inserts.{inserted_between, inserts_in_node}
 use Rattle.tree_node.proofs.Steps.{part_after, replaces_trans}
-use Rattle.tree_node.proofs.Unchanged.{unchanged_agrees, unchanged_part, unchanged_replaces, unchanged_room, unchanged_trans}
+use Rattle.tree_node.proofs.Unchanged.{unchanged_agrees, unchanged_held, unchanged_part, unchanged_replaces, unchanged_room, unchanged_trans}
 use Rattle.tree_node.proofs.Walks.{front_walk_below, back_walk_above}
 
 module _ {K V : Type 0} {LEN : ℕ} (cmp : K → K → Ordering) (upsert : Bool) where
@@ -58,17 +59,24 @@ module _ {K V : Type 0} {LEN : ℕ} {cmp : K → K → Ordering} (upsert : Bool)
       unchanged = λ so. absurd (cc);
     }
 
-    -- the node takes no child more itself
-    pub no_room_either : room level mid id ≡ 0 → InsertsUnder cmp upsert level old new id (Ok (Full k v)) key val
-    no_room_either none = record {
+    still_full : IsCrowded cmp level old id key → InsertsUnder cmp upsert level old new id (Ok (Full k v)) key val
+    still_full crowded = record {
       pairs = (below.absent, below.same_key, below.same_val, pairs_same);
       stands = λ low high above up_to s. same_stands cmp level old new id (unchanged_agrees level old new whole id) low high s;
       replaces = unchanged_replaces level old new whole (id ∷ []);
       lowers = omega (arith, below.spent);
       spent = λ so. below.spent;
-      full = λ so. sym (unchanged_room level old mid below.same id) ∙ none;
+      full = λ so. crowded;
       unchanged = λ so. whole;
     }
+
+  -- the node takes no child more itself
+  pub no_room_either : 0 < level → (new : TreeArenas K V LEN) (child : ℕ) → HasChildFor cmp key (get old.nodes id) child → InsertsUnder cmp upsert (level - 1) old mid child (Ok (Full k v)) key val → LacksRoom level mid new id child
+      → InsertsUnder cmp upsert level old new id (Ok (Full k v)) key val
+  no_room_either deep new child which ins lacks =
+      still_full new lacks.unchanged
+      (crowded_above cmp level deep old id child key
+      (sym (unchanged_room level old mid below.same id) ∙ lacks.full) which (rw (unchanged_held (level - 1) old mid below.same child) at lacks.many) (ins.full refl))
 
   -- room was made, and the pair inserted
   pub inserted_again : (made new : TreeArenas K V LEN) (result : Result (StoreResult K V) (K × V)) → HasMadeRoom cmp level mid made id key → InsertsUnder cmp upsert level made new id result key val → asks_split result ≡ false
@@ -100,7 +108,7 @@ module _ {K V : Type 0} {LEN : ℕ} {cmp : K → K → Ordering} {upsert : Bool}
     where
       by_answer : (b : Bool) → asks_split result ≡ b → b ≡ false
       by_answer false e = refl
-      by_answer true e = absurd (omega (arith, some, ins.full e))
+      by_answer true e = absurd (omega (arith, some, crowded_room cmp level old child key (ins.full e)))
 
 -- a split of the key's child makes room for the key
 pub room_by_split : {K V : Type 0} {LEN : ℕ} {cmp : K → K → Ordering} {level : ℕ} {old new : TreeArenas K V LEN} {id child : ℕ} (key : K) → SplitsChild cmp level old new id child → HasChildFor cmp key (get old.nodes id) child → HasMadeRoom cmp level old new id key

@@ -1,5 +1,5 @@
 -- What stands under every number is what it was: so is each part, and each chain.
-use Rattle.std.proofs.Common.{◌≡◌, ℕ, zero, suc, List, [], ◌∷◌, None, is_some, refl, ap, ◌∙◌}
+use Rattle.std.proofs.Common.{◌≡◌, ℕ, zero, suc, List, [], ◌∷◌, length, None, is_some, refl, ap, ◌∙◌}
 use Rattle.std.specs.declared.cmp.Ordering.{Ordering}
 use Rattle.slab.specs.Slab.{Slab, get}
 use Rattle.tree_leaf.specs.declared.leaf.LeafOf.{LeafOf}
@@ -9,8 +9,8 @@ use Rattle.tree_leaf.proofs.Chains.{linked_kept, same_array_refl}
 use Rattle.tree_leaf.proofs.Counts.{uses_same}
 use Rattle.tree_node.specs.Arenas.{TreeArenas}
 use Rattle.tree_node.specs.Parts.{IsPart, Replaces, Unchanged}
-use Rattle.tree_node.specs.Shape.{room, slot_free, slot_room}
-use Rattle.tree_node.specs.Tree.{leaves_of, nodes_of, leaves_at, nodes_at}
+use Rattle.tree_node.specs.Shape.{held, room, slot_free, slot_keyed, slot_room}
+use Rattle.tree_node.specs.Tree.{leaves_of, nodes_of, leaves_at, nodes_at, slot_entries}
 use Rattle.tree_node.proofs.Frames.{Agrees, same_leaves, same_nodes, same_stands}
 use Rattle.tree_node.proofs.Lists.{all_yes, flat_map_same}
 use Rattle.tree_node.proofs.Steps.{part_after}
@@ -56,3 +56,7 @@ module _ {K V : Type 0} {LEN : ℕ} where
   pub unchanged_room : (level : ℕ) (old new : TreeArenas K V LEN) → Unchanged old new → (id : ℕ) → room level new id ≡ room level old id
   unchanged_room zero old new same id = ap slot_free (same.leaves id)
   unchanged_room (suc level) old new same id = ap slot_room (same.nodes id)
+
+  pub unchanged_held : (level : ℕ) (old new : TreeArenas K V LEN) → Unchanged old new → (id : ℕ) → held level new id ≡ held level old id
+  unchanged_held zero old new same id = ap (λ leaf. length (slot_entries leaf)) (same.leaves id)
+  unchanged_held (suc level) old new same id = ap slot_keyed (same.nodes id)

@@ -9,7 +9,7 @@ use Rattle.tree_model.specs.Pairs.{IsAbsent, IsPresent, put}
 use Rattle.tree_node.specs.Arenas.{TreeArenas}
 use Rattle.tree_node.specs.Tree.{IsAbove, IsUpTo, Stands, walk}
 use Rattle.tree_node.specs.Parts.{Replaces, Unchanged}
-use Rattle.tree_node.specs.Shape.{spare, room}
+use Rattle.tree_node.specs.Shape.{IsCrowded, spare}
 
 module _ {K V : Type 0} where
   -- there was no room, in the arrays or in memory
@@ -62,8 +62,8 @@ module _ {K V : Type 0} (cmp : K → K → Ordering) (upsert : Bool) where
     -- a write takes one place of a leaf, and is refused only where a leaf has none
     pub lowers : spare level old id ≤ suc (spare level new id)
     pub spent : refused result ≡ true → spare level old id ≡ 0
-    -- a split is asked for only where the array right under the number has no room
-    pub full : asks_split result ≡ true → room level old id ≡ 0
+    -- a split is asked for only where no array on the way of the key has room, nor can be built anew
+    pub full : asks_split result ≡ true → IsCrowded cmp level old id key
     -- where that is so, or the key is there, nothing has changed
     pub unchanged : declined result ≡ true → Unchanged old new
 

@@ -1,11 +1,13 @@
 -- How much room there is in a part.
-use Rattle.std.specs.Prelude.{ℕ, zero, suc, min, List, [], ◌∷◌, Option, Some, None, if◌then◌else◌}
+use Rattle.std.specs.Prelude.{◌≡◌, ℕ, zero, suc, ◌<◌, min, List, [], ◌∷◌, length, Option, Some, None, if◌then◌else◌}
+use Rattle.std.specs.declared.cmp.Ordering.{Ordering}
 use Rattle.slab.specs.Slab.{Slab, get}
 use Rattle.tree_array.specs.Arrivals.{free}
+use Rattle.tree_array.specs.Length.{limit}
 use Rattle.tree_leaf.specs.declared.leaf.LeafOf.{LeafOf}
 use Rattle.tree_node.specs.declared.node.NodeOf.{NodeOf}
 use Rattle.tree_node.specs.Arenas.{TreeArenas}
-use Rattle.tree_node.specs.Tree.{keyed, unbounded, leaves_at}
+use Rattle.tree_node.specs.Tree.{HasChildFor, keyed, unbounded, leaf_entries, leaves_at}
 
 -- the least of these numbers, and `most` where there is none
 abbrev pub least : ℕ → (ℕ → ℕ) → List ℕ → ℕ
@@ -30,6 +32,10 @@ abbrev pub slot_room : {K : Type 0} {LEN : ℕ} → Option (NodeOf K LEN) → �
 slot_room None = 0
 slot_room (Some node) = children_free (unbounded node) node
 
+abbrev pub slot_keyed : {K : Type 0} {LEN : ℕ} → Option (NodeOf K LEN) → ℕ
+slot_keyed None = 0
+slot_keyed (Some node) = length (keyed node).entries
+
 module _ {K V : Type 0} {LEN : ℕ} where
   -- the least that a leaf of the part takes: as many writes go into it without memory
   abbrev pub spare : ℕ → TreeArenas K V LEN → ℕ → ℕ
@@ -39,3 +45,14 @@ module _ {K V : Type 0} {LEN : ℕ} where
   abbrev pub room : ℕ → TreeArenas K V LEN → ℕ → ℕ
   room zero arenas id = leaf_free arenas.leaves id
   room (suc level) arenas id = slot_room (get arenas.nodes id)
+
+  -- how many entries, or keyed children, that array has
+  abbrev pub held : ℕ → TreeArenas K V LEN → ℕ → ℕ
+  held zero arenas id = length (leaf_entries arenas.leaves id)
+  held (suc level) arenas id = slot_keyed (get arenas.nodes id)
+
+  -- no array on the way of the key has room, and each below the number has too many to be built anew
+  abbrev pub IsCrowded : (K → K → Ordering) → ℕ → TreeArenas K V LEN → ℕ → K → Type 0
+  IsCrowded cmp zero arenas id key = room zero arenas id ≡ 0
+  IsCrowded cmp (suc level) arenas id key =
+      (room (suc level) arenas id ≡ 0) × (child : ℕ) × HasChildFor cmp key (get arenas.nodes id) child × (limit LEN < held level arenas child) × IsCrowded cmp level arenas child key

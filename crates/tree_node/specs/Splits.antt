@@ -5,13 +5,20 @@ use Rattle.std.specs.declared.cmp.Ordering.{Ordering}
 use Rattle.std.specs.declared.cmp.Ordering.TheVariants.{Less}
 use Rattle.slab.specs.Slab.{get}
 use Rattle.tree_array.specs.Arrivals.{in_order, stored}
+use Rattle.tree_array.specs.Length.{limit}
 use Rattle.tree_leaf.specs.Chain.{IsChain}
 use Rattle.tree_leaf.specs.Counting.{times, uses}
 use Rattle.tree_node.specs.declared.node.NodeOf.{NodeOf}
 use Rattle.tree_node.specs.Arenas.{TreeArenas}
 use Rattle.tree_node.specs.Tree.{IsAbove, IsUpTo, HasChildFor, HasKind, Stands, keyed, unbounded, children_of, leaves_at, nodes_at, walk}
 use Rattle.tree_node.specs.Parts.{KeepsBounds, Replaces, Unchanged}
-use Rattle.tree_node.specs.Shape.{room}
+use Rattle.tree_node.specs.Shape.{held, room}
+
+-- The parent takes no child more, and the child has too many to be built anew. Nothing has changed.
+pub record LacksRoom {K V : Type 0} {LEN : ℕ} (level : ℕ) (old new : TreeArenas K V LEN) (parent target : ℕ) : Type 0 where
+  pub full : room level old parent ≡ 0
+  pub many : limit LEN < held (level - 1) old target
+  pub unchanged : Unchanged old new
 
 module _ {K V : Type 0} {LEN : ℕ} (cmp : K → K → Ordering) where
   -- The part has the same pairs, between bounds that the key is within, and the child for the key has room.
@@ -24,10 +31,9 @@ module _ {K V : Type 0} {LEN : ℕ} (cmp : K → K → Ordering) where
     -- so that a second insert does not ask for a split
     pub child : (child : ℕ) → HasChildFor cmp key (get new.nodes id) child → 0 < room (level - 1) new child
 
-  -- not without room for a separator: then nothing has changed
-  abbrev pub RoomResult : Bool → ℕ → TreeArenas K V LEN → TreeArenas K V LEN → ℕ → K → Type 0
-  RoomResult true level old new id key = HasMadeRoom level old new id key
-  RoomResult false level old new id key = (room level old id ≡ 0) × Unchanged old new
+  abbrev pub RoomResult : Bool → ℕ → TreeArenas K V LEN → TreeArenas K V LEN → ℕ → ℕ → K → Type 0
+  RoomResult true level old new id target key = HasMadeRoom level old new id key
+  RoomResult false level old new id target key = LacksRoom level old new id target
 
   -- The child has room now, and the part above it is what it was but for one child more at most, which has room too.
   pub record SplitsChild (level : ℕ) (old new : TreeArenas K V LEN) (parent target : ℕ) : Type 0 where
@@ -41,10 +47,9 @@ module _ {K V : Type 0} {LEN : ℕ} (cmp : K → K → Ordering) where
     -- a key that belonged to the child belongs to one with room
     pub routed : (key : K) → HasChildFor cmp key (get old.nodes parent) target → (child : ℕ) → HasChildFor cmp key (get new.nodes parent) child → 0 < room (level - 1) new child
 
-  -- not without room for a separator: then nothing has changed
   abbrev pub SplitResult : Bool → ℕ → TreeArenas K V LEN → TreeArenas K V LEN → ℕ → ℕ → Type 0
   SplitResult true level old new parent target = SplitsChild level old new parent target
-  SplitResult false level old new parent target = (room level old parent ≡ 0) × Unchanged old new
+  SplitResult false level old new parent target = LacksRoom level old new parent target
 
   -- The part under the root stands under a new root, one level higher. Each key's child has room.
   pub record RaisesRoot (depth : ℕ) (old new : TreeArenas K V LEN) (root id : ℕ) : Type 0 where

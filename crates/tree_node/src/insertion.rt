@@ -44,9 +44,9 @@ impl<K: IndexKey, const LEN: usize> LeafNodeOf<K, LEN> {
 impl<K: IndexKey, const LEN: usize> InternalNodeOf<K, LEN> {
     /// Inserts a pair. With `UPSERT` it replaces the pair with an equal key.
     ///
-    /// `Duplicate` comes where `UPSERT` is false and an equal key is there; `Full` where the node itself takes no
-    /// child more, so that its parent has to make room in it, and where it is retired; an `Err` for want of memory.
-    /// Each hands the pair back, and the entries are what they were. At most `LEN` comparisons a level and in the leaf;
+    /// `Duplicate` comes where `UPSERT` is false and an equal key is there; `Full` where a child has to be divided and
+    /// the node takes no child more, so that its parent has to make room in it, and where it is retired; an `Err` for
+    /// want of memory. Each hands the pair back, and the entries are what they were. At most `LEN` comparisons a level and in the leaf;
     /// below each level at which an array was full the way down is gone again. Each node or leaf that is divided takes
     /// memory for one more.
     ///
@@ -114,8 +114,8 @@ fn insert_plainly_at<const UPSERT: bool, K: IndexKey, V: Drop, const LEN: usize>
 /// Inserts a pair under a number of this level. With `UPSERT` it replaces the pair with an equal key.
 ///
 /// `Duplicate` comes where `UPSERT` is false and an equal key is there, also where there is no room. `Full` comes where
-/// the node itself takes no child more, so that its parent has to make room in it, and where it is retired. Neither
-/// changes anything. An `Err` comes for want of memory: the entries are what they were. Each hands the pair back.
+/// a child has to be divided and the node takes no child more, so that its parent has to make room in it, and where it
+/// is retired. Neither changes anything. An `Err` comes for want of memory: the entries are what they were. Each hands the pair back.
 ///
 /// At most `LEN` comparisons a level and in the leaf; below each level at which an array was full the way down is gone
 /// again. The key is cloned only to part a leaf.

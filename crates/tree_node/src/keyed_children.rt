@@ -13,7 +13,7 @@ use tree_array::array::ArrayOf;
 pub(crate) fn parting_place<K: Ord + Drop, I: Drop, const LEN: usize>(
     children: &ArrayOf<K, I, LEN>,
 ) -> Option<u8>
-    ensures place { MatchOption result (length children.now.entries ≤ limit LEN) (λ place. place < length children.now.entries) }
+    ensures place { MatchOption result (length children.now.entries ≤ limit LEN) (λ place. (limit LEN < length children.now.entries) × (place < length children.now.entries)) }
     ensures sound { IsSound K.cmp LEN children.now }
 {
     let (boundary, _, _) = children.optimal_boundary();

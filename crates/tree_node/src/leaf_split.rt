@@ -36,7 +36,7 @@ pub(crate) fn make_room<K: IndexKey, V: Drop, const LEN: usize>(
 ) -> Result<bool, AllocError>
     requires part { IsPart K.cmp 1 arenas.old id }
     requires child { HasChildFor K.cmp key.now (get arenas.old.nodes id) target }
-    ensures done { IfOk result (λ made. RoomResult K.cmp made 1 arenas.old arenas.new id key.now) }
+    ensures done { IfOk result (λ made. RoomResult K.cmp made 1 arenas.old arenas.new id target key.now) }
     ensures err { OnErr result (Unchanged arenas.old arenas.new) }
 {
     let NodeOf::Leaf(node) = arenas.node(id) else {
@@ -62,7 +62,7 @@ fn low_count<K: Ord + Drop, V: Drop, const LEN: usize>(
     key: &K,
     last: bool,
 ) -> Option<u8>
-    ensures cut { MatchOption result (length array.now.entries ≤ limit LEN) (λ count. IsCut K.cmp key.now count array.now.entries) }
+    ensures cut { MatchOption result (length array.now.entries ≤ limit LEN) (λ count. (limit LEN < length array.now.entries) × IsCut K.cmp key.now count array.now.entries) }
     ensures sound { IsSound K.cmp LEN array.now }
 {
     let (boundary, count, ascended) = array.optimal_boundary();

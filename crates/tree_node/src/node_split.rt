@@ -92,7 +92,7 @@ fn takes_no_more<K: Ord + Drop, const LEN: usize>(node: &NodeOf<K, LEN>) -> bool
 /// The place of the keyed child that parts the lower ones from the upper. None where the array is to be
 /// built anew.
 fn place_to_part<K: Ord + Drop, const LEN: usize>(node: &NodeOf<K, LEN>) -> Option<u8>
-    ensures place { MatchOption result (length (keyed node.now).entries ≤ limit LEN) (λ place. place < length (keyed node.now).entries) }
+    ensures place { MatchOption result (length (keyed node.now).entries ≤ limit LEN) (λ place. (limit LEN < length (keyed node.now).entries) × (place < length (keyed node.now).entries)) }
     ensures sound { IsSound K.cmp LEN (keyed node.now) }
 {
     match node {

@@ -61,8 +61,8 @@ returns-in-Err-split_child_at g t c =
 pub returns-in-Ok-false : goal.returns-in-Ok-false
 returns-in-Ok-false g t c =
     let below = full_below_at g.met.K.Ord.total _ c.args.level c.requires.node _ _ c.args.id c.in-Some.child c.args.key c.args.val c.in-Full.key c.in-Full.val c.requires.part c.in-Some.ensures.0 (rw c.in-Full.is at c.in-Ok.ensures) in
-    let none = rw c.in-Ok-false.field-0-test at c.in-Ok-false.ensures.done in
-    no_room_either _ c.args.level _ _ c.args.id c.args.key c.args.val _ _ below c.split_child_at.new.arenas none.1 none.0
+    let lacks = rw c.in-Ok-false.field-0-test at c.in-Ok-false.ensures.done in
+    no_room_either _ c.args.level _ _ c.args.id c.args.key c.args.val _ _ below c.requires.node c.split_child_at.new.arenas c.in-Some.child c.in-Some.ensures.0 (rw c.in-Full.is at c.in-Ok.ensures) lacks
 
 pub node_for-requires-in-Ok-true : goal.node_for-requires-in-Ok-true
 node_for-requires-in-Ok-true g t c =

@@ -1,4 +1,4 @@
-use Rattle.std.proofs.Common.{rules, Ok, refl}
+use Rattle.std.proofs.Common.{rules, Ok, refl, arith}
 use Rattle.tree_array.specs.declared.answers.StoreResult.TheVariants.{New, Replaced, Duplicate}
 use Rattle.tree_node.proofs.Inserts.{inserts_in_leaf, inserts_in_node}
 use Rattle.tree_node.proofs.LeafRooms.{leaf_used}
@@ -43,8 +43,8 @@ pub returns-in-Ok-false : goal.returns-in-Ok-false
 returns-in-Ok-false g c =
     let ins = inserts_in_leaf g.met.K.Ord.total _ c.args.arenas.now c.leaf_for-leaf.result c.leaf_mut.result.now c.store.new.self c.args.key c.args.val c.leaf_mut.ensures.value c.store.result (rw c.array_mut.ensures.value at c.store.ensures) in
     let below = full_below g.met.K.Ord.total _ 0 _ _ c.args.id c.leaf_for-leaf.result c.args.key c.args.val c.in-Full.key c.in-Full.val c.requires c.leaf_for-leaf.ensures (rw c.in-Full.is at ins) in
-    let none = rw c.in-Ok-false.field-0-test at c.in-Ok-false.ensures.done in
-    no_room_either _ 1 _ _ c.args.id c.args.key c.args.val _ _ below c.make_room.new.arenas none.1 none.0
+    let lacks = rw c.in-Ok-false.field-0-test at c.in-Ok-false.ensures.done in
+    no_room_either _ 1 _ _ c.args.id c.args.key c.args.val _ _ below (omega arith) c.make_room.new.arenas c.leaf_for-leaf.result c.leaf_for-leaf.ensures (rw c.in-Full.is at ins) lacks
 
 pub leaf_for-leaf-requires-in-Ok-true : goal.leaf_for-leaf-requires-in-Ok-true
 leaf_for-leaf-requires-in-Ok-true g c =

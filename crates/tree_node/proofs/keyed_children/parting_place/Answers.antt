@@ -10,4 +10,4 @@ pub returns-else-boundary-clause-place : goal.returns-else-boundary-clause-place
 returns-else-boundary-clause-place g c =
     let told = c.optimal_boundary-boundary.ensures.boundary in
     let many = many_by_boundary g.K.Ord.cmp g.row.LEN c.args.children.now (λ at_len. c.if-boundary.false (ap (λ b. b.0) told ∙ at_len)) in
-    rw told (parted_by g.K.Ord.cmp g.row.LEN c.args.children.now c.optimal_boundary-boundary.ensures.sound many).1
+    rw told (many, (parted_by g.K.Ord.cmp g.row.LEN c.args.children.now c.optimal_boundary-boundary.ensures.sound many).1)

@@ -11,4 +11,4 @@ returns-else-ascended-clause-cut g c =
     let told = c.optimal_boundary-boundary.ensures.boundary in
     let many = many_by_boundary g.K.Ord.cmp g.row.LEN c.args.array.now (λ at_len. c.if-boundary.false (ap (λ b. b.0) told ∙ at_len)) in
     let parts = parted_by g.K.Ord.cmp g.row.LEN c.args.array.now c.optimal_boundary-boundary.ensures.sound many in
-    rw told (record { some = parts.0; within = omega (arith, parts.1); stays = inl parts.1 })
+    rw told (many, record { some = parts.0; within = omega (arith, parts.1); stays = inl parts.1 })

@@ -1,4 +1,4 @@
-use Rattle.std.proofs.Common.{rules, ◌≡◌, ◌∙◌, ◌≤◌, length, Some, refl, sym, ap}
+use Rattle.std.proofs.Common.{rules, ◌≡◌, ◌∙◌, ◌<◌, ◌≤◌, length, Some, refl, sym, ap}
 use Rattle.tree_array.specs.Length.{limit}
 use Rattle.tree_node.specs.declared.node.NodeOf.TheVariants.{Leaf}
 use Rattle.tree_node.specs.Splits.{IsCut}
@@ -26,12 +26,17 @@ returns-in_default-low_count-clause-done g c =
 pub returns-then-full-clause-done : goal.returns-then-full-clause-done
 returns-then-full-clause-done g c =
     let here = c.node.ensures ∙ ap Some c.in-Leaf.is in
-    (rw here (full_room (Leaf c.in-Leaf.node) (c.is_full-full.ensures.0 c.if-full.true)), record { leaves = λ n. refl; nodes = λ n. refl })
+    let many : limit g.row.LEN < length c.leaf.result.now.array.entries = rw c.array.ensures at c.in-Some.ensures.cut.0 in
+    record {
+      full = rw here (full_room (Leaf c.in-Leaf.node) (c.is_full-full.ensures.0 c.if-full.true));
+      many = rw c.leaf.ensures many;
+      unchanged = record { leaves = λ n. refl; nodes = λ n. refl };
+    }
 
 pub split_leaf-requires : goal.split_leaf-requires
 split_leaf-requires g c =
     let here = c.node.ensures ∙ ap Some c.in-Leaf.is in
-    let cut : IsCut g.K.Ord.cmp c.args.key.now c.in-Some.count c.leaf.result.now.array.entries = rw c.array.ensures at c.in-Some.ensures.cut in (
+    let cut : IsCut g.K.Ord.cmp c.args.key.now c.in-Some.count c.leaf.result.now.array.entries = rw c.array.ensures at c.in-Some.ensures.cut.1 in (
       search rules,
       (
         search rules,
@@ -53,5 +58,5 @@ split_leaf-requires g c =
 
 pub returns-clause-done : goal.returns-clause-done
 returns-clause-done g c =
-    let cut : IsCut g.K.Ord.cmp c.args.key.now c.in-Some.count c.leaf.result.now.array.entries = rw c.array.ensures at c.in-Some.ensures.cut in
+    let cut : IsCut g.K.Ord.cmp c.args.key.now c.in-Some.count c.leaf.result.now.array.entries = rw c.array.ensures at c.in-Some.ensures.cut.1 in
     c.in_ok-split_leaf.ensures.done c.args.key.now c.requires.child (rw c.leaf.ensures cut)

@@ -34,7 +34,7 @@ split_child_at-requires g c =
 pub unreachable-requires-in-Ok-false : goal.unreachable-requires-in-Ok-false
 unreachable-requires-in-Ok-false g c =
     let none = rw c.in-Ok-false.field-0-test at c.in-Ok-false.ensures.done in
-    top_room_at c.args.depth c.requires.node c.args.arenas.now c.reserve.new.self c.add_node.new.self c.args.root c.in-Ok.id c.new-top.result c.requires.part c.in_ok-reserve.ensures.0 c.in-Ok.ensures.nodes c.in-Ok.ensures.leaves c.new-top.ensures.keyed c.new-top.ensures.unbounded c.slots_left.ensures.len none.0
+    top_room_at c.args.depth c.requires.node c.args.arenas.now c.reserve.new.self c.add_node.new.self c.args.root c.in-Ok.id c.new-top.result c.requires.part c.in_ok-reserve.ensures.0 c.in-Ok.ensures.nodes c.in-Ok.ensures.leaves c.new-top.ensures.keyed c.new-top.ensures.unbounded c.slots_left.ensures.len none.full
 
 pub unreachable-requires-in-Err : goal.unreachable-requires-in-Err
 unreachable-requires-in-Err g c =

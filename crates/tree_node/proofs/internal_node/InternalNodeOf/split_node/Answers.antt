@@ -1,4 +1,4 @@
-use Rattle.std.proofs.Common.{rules, ◌≡◌, ◌<◌, ◌≤◌, ◌∙◌, length, Some, refl, sym}
+use Rattle.std.proofs.Common.{rules, ◌≡◌, ◌<◌, ◌≤◌, ◌∙◌, length, Some, refl, sym, sub-one}
 use Rattle.slab.specs.Slab.{ContainsKey}
 use Rattle.tree_array.specs.Length.{limit}
 use Rattle.tree_node.specs.Tree.{keyed}
@@ -38,7 +38,11 @@ returns-in_default-clause-done g c height deep part =
 pub returns-then-full-clause-done : goal.returns-then-full-clause-done
 returns-then-full-clause-done g c height deep part =
     let up = two_up height deep in
-    rw up.1 (rw c.node.ensures (full_room c.node.result.now (c.takes_no_more-full.ensures.0 c.if-full.true)), record { leaves = λ n. refl; nodes = λ n. refl })
+    rw up.1 (record {
+      full = rw c.node.ensures (full_room c.node.result.now (c.takes_no_more-full.ensures.0 c.if-full.true));
+      many = rw (sub-one, c.node-2.ensures) c.in-Some.ensures.place.0;
+      unchanged = record { leaves = λ n. refl; nodes = λ n. refl };
+    })
 
 pub returns-in_err-reserve-clause-err : goal.returns-in_err-reserve-clause-err
 returns-in_err-reserve-clause-err g c = on_err c.from_residual.result (unchanged_by_keeping _ _ c.in_err-reserve.ensures.0)
@@ -54,7 +58,7 @@ pub cut_node-separator-requires : goal.cut_node-separator-requires
 cut_node-separator-requires g c =
     let read : c.node-2.result.now ≡ c.node_mut-2.result.now =
     same_value _ _ (sym c.node-2.ensures ∙ sym ((unchanged_by_keeping _ _ c.in_ok-reserve.ensures.0).nodes c.args.target) ∙ c.node_mut-2.ensures.value) in
-    let within : c.in-Some.place < length (keyed c.node_mut-2.result.now).entries = rw read at c.in-Some.ensures.place in
+    let within : c.in-Some.place < length (keyed c.node_mut-2.result.now).entries = rw read at c.in-Some.ensures.place.1 in
     (search (rules, c.requires-raw), (c.place_to_part.ensures.sound.is_len, within))
 
 pub add_node-requires : goal.add_node-requires
@@ -69,7 +73,7 @@ node_mut-requires-3 g c =
     let up = two_up c.requires.part.0 c.requires.part.1 in
     let read : c.node-2.result.now ≡ c.node_mut-2.result.now =
     same_value _ _ (sym c.node-2.ensures ∙ sym ((unchanged_by_keeping _ _ c.in_ok-reserve.ensures.0).nodes c.args.target) ∙ c.node_mut-2.ensures.value) in
-    let within : c.in-Some.place < length (keyed c.node_mut-2.result.now).entries = rw read at c.in-Some.ensures.place in
+    let within : c.in-Some.place < length (keyed c.node_mut-2.result.now).entries = rw read at c.in-Some.ensures.place.1 in
     let stays = parent_stays g.met.K.Ord.total up.0 c.args.arenas.now c.args.parent c.args.target (rw up.1 at c.requires.part.2) c.requires.child _ c.add_node.new.self _ c.in-Some.place c.node_mut-2.result.now _ _ _
     c.in_ok-reserve.ensures.0 c.node_mut-2.ensures.value c.cut_node-separator.ensures c.in-Ok.ensures.nodes c.in-Ok.ensures.leaves within in
     let there : ContainsKey c.add_node.new.self.nodes c.args.parent =
@@ -81,7 +85,7 @@ put_node-requires g c =
     let up = two_up c.requires.part.0 c.requires.part.1 in
     let read : c.node-2.result.now ≡ c.node_mut-2.result.now =
     same_value _ _ (sym c.node-2.ensures ∙ sym ((unchanged_by_keeping _ _ c.in_ok-reserve.ensures.0).nodes c.args.target) ∙ c.node_mut-2.ensures.value) in
-    let within : c.in-Some.place < length (keyed c.node_mut-2.result.now).entries = rw read at c.in-Some.ensures.place in
+    let within : c.in-Some.place < length (keyed c.node_mut-2.result.now).entries = rw read at c.in-Some.ensures.place.1 in
     let above = above_was g.met.K.Ord.total up.0 c.args.arenas.now c.args.parent c.args.target (rw up.1 at c.requires.part.2) c.requires.child _ c.add_node.new.self _ c.in-Some.place c.node_mut-2.result.now _ _ _
     c.in_ok-reserve.ensures.0 c.node_mut-2.ensures.value c.cut_node-separator.ensures c.in-Ok.ensures.nodes c.in-Ok.ensures.leaves within _ c.node_mut-3.ensures.value in
     let same : c.node.result.now ≡ c.node_mut-3.result.now = same_value _ _ (sym c.node.ensures ∙ above) in (
@@ -102,7 +106,7 @@ returns-clause-done g c height deep part =
     let up = two_up height deep in
     let read : c.node-2.result.now ≡ c.node_mut-2.result.now =
     same_value _ _ (sym c.node-2.ensures ∙ sym ((unchanged_by_keeping _ _ c.in_ok-reserve.ensures.0).nodes c.args.target) ∙ c.node_mut-2.ensures.value) in
-    let within : c.in-Some.place < length (keyed c.node_mut-2.result.now).entries = rw read at c.in-Some.ensures.place in
+    let within : c.in-Some.place < length (keyed c.node_mut-2.result.now).entries = rw read at c.in-Some.ensures.place.1 in
     rw up.1
     (split_in_two g.met.K.Ord.total up.0 c.args.arenas.now c.args.parent c.args.target (rw up.1 at part) c.requires.child _ c.add_node.new.self _ c.in-Some.place c.node_mut-2.result.now _ _ _
     c.in_ok-reserve.ensures.0 c.node_mut-2.ensures.value c.cut_node-separator.ensures c.in-Ok.ensures.nodes c.in-Ok.ensures.leaves within _ c.node_mut-3.ensures.value _ c.put_node.ensures)
