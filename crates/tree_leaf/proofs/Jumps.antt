@@ -13,7 +13,7 @@ use Rattle.tree_leaf.specs.Entries.{leaf_entries, entries_of}
 use Rattle.tree_leaf.specs.Walks.{LeafWalk, StepsOn, StepsBack, jumped, lent_entry, standing, first_of, last_of}
 use Rattle.tree_leaf.specs.Ways.{leaves_on, landing}
 
-not_none : {X : Type 0} (x : X) (xs : List X) → (length (x ∷ xs) == 0) ≡ false
+pub not_none : {X : Type 0} (x : X) (xs : List X) → (length (x ∷ xs) == 0) ≡ false
 not_none x xs = grind (arith, nat_tests)
 
 -- a number among others parts them
@@ -43,7 +43,7 @@ slice_get-right [] ys i n is = let same : n ≡ i = omega arith in rw same refl
 slice_get-right (x ∷ xs) ys i zero is = absurd (omega arith)
 slice_get-right (x ∷ xs) ys i (suc n) is = slice_get-right xs ys i n (omega arith)
 
-last_append : {X : Type 0} (xs : List X) (y : X) (ys : List X) → last_of (xs ++ y ∷ ys) ≡ slice_get (y ∷ ys) (length (y ∷ ys) - 1)
+pub last_append : {X : Type 0} (xs : List X) (y : X) (ys : List X) → last_of (xs ++ y ∷ ys) ≡ slice_get (y ∷ ys) (length (y ∷ ys) - 1)
 last_append xs y ys = slice_get-right xs (y ∷ ys) (length (y ∷ ys) - 1) (length (xs ++ y ∷ ys) - 1) (omega (arith, length-append xs (y ∷ ys)))
 
 module _ {K V : Type 0} {LEN : ℕ} (leaves : Slab (LeafOf K V LEN)) where

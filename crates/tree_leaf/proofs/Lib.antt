@@ -3,6 +3,7 @@ pub mod Chains
 pub mod Counts
 pub mod Jumps
 pub mod Pigeonhole
+pub mod Rests
 pub mod Rooms
 pub mod Splices
 pub mod Steps

@@ -20,7 +20,7 @@ module _ {K V : Type 0} {LEN : ℕ} (leaves : Slab (LeafOf K V LEN)) (way : Way)
   Leads next [] = next ≡ None
   Leads next (id ∷ ids) = (next ≡ Some id) × ((leaf : LeafOf K V LEN) × (get leaves id ≡ Some leaf) × Leads (beside way leaf) ids)
 
-  beside_slot : Option (LeafOf K V LEN) → Option ℕ
+  unfoldable pub beside_slot : Option (LeafOf K V LEN) → Option ℕ
   beside_slot None = None
   beside_slot (Some leaf) = beside way leaf
 
@@ -125,12 +125,15 @@ module _ {K V : Type 0} {LEN : ℕ} (leaves : Slab (LeafOf K V LEN)) where
   way_few On front id back = omega (arith, length-append front (id ∷ back))
   way_few Back front id back = omega (arith, length-append front (id ∷ back), length-reverse front)
 
+  pub way_fits : (way : Way) (front : List ℕ) (id : ℕ) (back : List ℕ) → IsChain leaves (front ++ id ∷ back) → length (leaves_on way front back) ≤ length leaves.slots
+  way_fits way front id back chain = omega (arith, way_few way front id back, once_fits leaves (front ++ id ∷ back) chain.once, count_by-le-length is_some leaves.slots)
+
   -- before the first link no leaf is passed
   pub none_passed : (way : Way) (front : List ℕ) (id : ℕ) (back : List ℕ) (leaf : LeafOf K V LEN) → IsChain leaves (front ++ id ∷ back) → get leaves id ≡ Some leaf → Passed leaves way (leaves_on way front back) None (beside way leaf)
   none_passed way front id back leaf chain here = record {
     left = leaves_on way front back;
     leads = way_leads way front id back leaf chain here;
-    few = omega (arith, way_few way front id back, once_fits leaves (front ++ id ∷ back) chain.once, count_by-le-length is_some leaves.slots);
+    few = way_fits way front id back chain;
     same = refl;
   }
 

@@ -84,4 +84,8 @@ impl<K: Ord + Drop, V: Drop, const LEN: usize> LeafOf<K, V, LEN> {
 }
 
 #[cfg(test)]
+mod comparison;
+#[cfg(test)]
+mod plain;
+#[cfg(test)]
 mod tests;

@@ -2,4 +2,5 @@
 #![tactic(auto)]
 
 pub mod arena;
+pub mod laws;
 pub mod leaf;

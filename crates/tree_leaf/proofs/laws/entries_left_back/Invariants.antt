@@ -1,0 +1,11 @@
+use Rattle.std.proofs.Common.{◌++◌, ◌∷◌, List, ℕ}
+use Rattle.tree_leaf.specs.declared.leaf.stand.Way.TheVariants.{Back}
+use Rattle.tree_leaf.specs.Chain.{IsChain}
+use Rattle.tree_leaf.proofs.Rests.{HasGiven, count_left}
+use Rattle.tree_leaf.proofs.laws.entries_left_back.Given as goal
+
+abbrev pub invariant-loop-entry : goal.invariant-loop-entry
+invariant-loop-entry g l = (front back : List ℕ) → IsChain l.fn.walk.leaves (front ++ l.fn.walk.leaf ∷ back) → HasGiven Back l.fn.walk front back l.walk l.entries.items
+
+abbrev pub decreases-loop-entry : goal.decreases-loop-entry
+decreases-loop-entry g l = count_left Back l.walk
