@@ -1,5 +1,5 @@
 -- The pairs of a whole tree ascend, and how many there are after a store and after a removal.
-use Rattle.std.proofs.Common.{◌≡◌, ◌⊎◌, ◌↔◌, ◌==◌, ℕ, ◌+◌, ◌<◌, Bool, true, IsTrue, List, [], ◌∷◌, length, Option, Some, None, MatchOption, is_some, Bor, Result, Ok, inl, inr, refl, ap, arith}
+use Rattle.std.proofs.Common.{◌≡◌, ◌⊎◌, ◌↔◌, ◌==◌, ℕ, zero, suc, ◌+◌, ◌<◌, Bool, true, false, IsTrue, List, [], ◌∷◌, length, Option, Some, None, MatchOption, is_some, Bor, Result, Ok, Err, inl, inr, refl, ap, arith}
 use Rattle.std.specs.declared.cmp.Ordering.{Ordering}
 use Rattle.std.specs.Cmp.{IsTotalOrder}
 use Rattle.std.specs.Option.{option_map}
@@ -7,18 +7,19 @@ use Rattle.std.proofs.lemmas.Bool.Decides.{nat_tests}
 use Rattle.std.proofs.lemmas.List.{append-nil}
 use Rattle.slab.specs.Slab.{get}
 use Rattle.tree_array.specs.declared.answers.StoreResult.{StoreResult}
-use Rattle.tree_array.specs.declared.answers.StoreResult.TheVariants.{New, Replaced}
+use Rattle.tree_array.specs.declared.answers.StoreResult.TheVariants.{New, Replaced, Duplicate, Full}
 use Rattle.tree_model.specs.Pairs.{IsAbsent, IsAscending, IsPresent, pair_at}
 use Rattle.tree_model.proofs.Lengths.{length-put, without_absent, without_present}
 use Rattle.tree_node.specs.Arenas.{TreeArenas}
 use Rattle.tree_node.specs.Ends.{IsLinked}
+use Rattle.tree_node.specs.Inserts.{Inserts, declined}
 use Rattle.tree_node.specs.Tree.{Stands, StandsOrRetired, leaves_at, walk}
 use Rattle.tree_node.specs.Whole.{IsRetiredRoot, IsTop, depth_of, walk_under}
 use Rattle.tree_node.proofs.Ascents.{walk_ascends}
 use Rattle.tree_node.proofs.Bare.{no_children}
 use Rattle.tree_index.specs.declared.tree.Tree.{Tree}
 use Rattle.tree_index.proofs.Stored.{stands_or_retired}
-use Rattle.tree_index.specs.Index.{Index, IsTreeOf, StoresPair, index_of}
+use Rattle.tree_index.specs.Index.{Index, IsTreeOf, IsWritten, StoresPair, index_of}
 use Rattle.tree_index.specs.Trees.{IsWhole, Stores, Takes, pairs_of}
 
 module _ {K V : Type 0} {LEN : ℕ} {cmp : K → K → Ordering} (o : IsTotalOrder cmp) where
@@ -49,6 +50,14 @@ module _ {K V : Type 0} {LEN : ℕ} {cmp : K → K → Ordering} (o : IsTotalOrd
       omega (arith, ap length takes.pairs.3, without_present o (pairs_of old) key (pairs_ascend old whole) there)
 
 module _ {K V : Type 0} {LEN : ℕ} (cmp : K → K → Ordering) (upsert : Bool) (old new : Tree K V LEN) (key : K) (val : V) where
+  -- a pair that comes back for a duplicate, or because there is no room, leaves the pairs
+  as_it_was : (result : Result (StoreResult K V) (K × V)) → declined result ≡ true → Inserts cmp upsert result (pairs_of old) key val (pairs_of new) → pairs_of new ≡ pairs_of old
+  as_it_was (Ok New) so inserts = absurd (cc)
+  as_it_was (Ok Replaced) so inserts = absurd (cc)
+  as_it_was (Ok (Duplicate k v)) so inserts = inserts.4
+  as_it_was (Ok (Full k v)) so inserts = inserts.3
+  as_it_was (Err pair) so inserts = absurd (cc)
+
   -- what a store in the tree is to the index
   pub stores_pair : (result : Result (StoreResult K V) (K × V)) → Stores cmp upsert old new key val result → StoresPair cmp upsert LEN (index_of old) (index_of new) key val result
   stores_pair result stores = record {
@@ -56,7 +65,20 @@ module _ {K V : Type 0} {LEN : ℕ} (cmp : K → K → Ordering) (upsert : Bool)
     not_full = stores.not_full;
     spent = stores.spent;
     written = λ taken. record { lowers = stores.lowers; first = λ none. stores.first none taken };
+    kept = λ so. rw (as_it_was result so stores.pairs, (stores.kept so).0, (stores.kept so).1) refl;
   }
+
+-- a write that changed nothing met a tree with a root
+pub deep_if_kept : {K V : Type 0} (LEN : ℕ) (old new : Index K V) → new ≡ old → IsWritten LEN old new → 0 < old.depth
+deep_if_kept {K = K} {V = V} LEN old new same written = by_depth old.depth refl
+  where
+    by_depth : (depth : ℕ) → old.depth ≡ depth → 0 < depth
+    by_depth zero none = absurd (omega (arith, none, ap (λ (index : Index K V). index.depth) same, (written.first none).0))
+    by_depth (suc depth) deep = omega arith
+
+-- a removal that removed nothing leaves the index as it was
+pub index_kept : {K V : Type 0} {LEN : ℕ} (cmp : K → K → Ordering) (Says : V → Bool → Type 0) (old new : Tree K V LEN) (key : K) → Takes cmp Says old new key false → index_of new ≡ index_of old
+index_kept cmp Says old new key takes = rw (takes.pairs.1, (takes.kept refl).0, (takes.kept refl).1) refl
 
 -- the index is empty where no pair is counted
 pub empty_by_count : {X : Type 0} (l : List X) (n : ℕ) → n ≡ length l → IsTrue (n == 0) ↔ (l ≡ [])

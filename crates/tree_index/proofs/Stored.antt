@@ -1,12 +1,13 @@
 -- What a store in a tree comes to: the first pair, a pair under the root, and a pair after the root has grown.
-use Rattle.std.proofs.Common.{◌≡◌, ◌⊎◌, ℕ, zero, suc, ◌<◌, Bool, false, [], Option, Some, None, IsSome, Result, Ok, Err, inl, inr, refl, sym, ap, ◌∙◌, arith}
+use Rattle.std.proofs.Common.{◌≡◌, ◌⊎◌, ℕ, zero, suc, ◌<◌, Bool, false, List, [], Option, Some, None, IsSome, Result, Ok, Err, inl, inr, refl, sym, ap, ◌∙◌, arith}
 use Rattle.std.specs.declared.cmp.Ordering.{Ordering}
 use Rattle.std.proofs.lemmas.Bool.{false_from_ne_true}
 use Rattle.slab.specs.Slab.{get}
+use Rattle.tree_model.specs.Pairs.{IsAbsent, IsPresent}
 use Rattle.tree_array.specs.declared.answers.StoreResult.{StoreResult}
-use Rattle.tree_array.specs.declared.answers.StoreResult.TheVariants.{New, Full}
+use Rattle.tree_array.specs.declared.answers.StoreResult.TheVariants.{New, Replaced, Duplicate, Full}
 use Rattle.tree_node.specs.Arenas.{TreeArenas}
-use Rattle.tree_node.specs.Inserts.{InsertsUnder, IsNew, asks_split}
+use Rattle.tree_node.specs.Inserts.{Inserts, InsertsUnder, IsNew, asks_split, declined}
 use Rattle.tree_node.specs.Parts.{IsPart, Unchanged}
 use Rattle.tree_node.specs.Shape.{room, spare}
 use Rattle.tree_node.specs.Splits.{RaisesRoot}
@@ -17,6 +18,15 @@ use Rattle.tree_node.proofs.Fulls.{crowded_room}
 use Rattle.tree_node.proofs.Whole.{spare_standing, spare_unchanged, tree_after, tree_part, tree_raised, tree_unchanged, walk_unchanged}
 use Rattle.tree_index.specs.declared.tree.Tree.{Tree}
 use Rattle.tree_index.specs.Trees.{IsWhole, Stores, pairs_of, spare_of}
+
+module _ {K V : Type 0} (cmp : K → K → Ordering) (upsert : Bool) where
+  -- a pair that is new is no duplicate
+  not_declined : (result : Result (StoreResult K V) (K × V)) (old new : List (K × V)) (key : K) (val : V) → IsNew cmp upsert old key → Inserts cmp upsert result old key val new → asks_split result ≡ false → declined result ≡ false
+  not_declined (Ok New) old new key val absent inserts takes = refl
+  not_declined (Ok Replaced) old new key val absent inserts takes = refl
+  not_declined (Ok (Duplicate k v)) old new key val absent inserts takes = absurd (let none : IsAbsent cmp old key = absent inserts.0 in let there : IsPresent cmp old key = inserts.1 in cc)
+  not_declined (Ok (Full k v)) old new key val absent inserts takes = absurd (cc)
+  not_declined (Err pair) old new key val absent inserts takes = refl
 
 module _ {K V : Type 0} {LEN : ℕ} (cmp : K → K → Ordering) where
   -- a tree without leaves has no pair, and no spare slot
@@ -48,6 +58,7 @@ module _ {K V : Type 0} {LEN : ℕ} (cmp : K → K → Ordering) where
       lowers = omega (arith, bare_spare old bare);
       spent = λ so. absurd (cc);
       first = λ none taken. (rw root refl, rw root only.spare);
+      kept = λ so. absurd (cc);
     }
 
     pub not_stored_first : (pair : K × V) → IsWhole cmp old → leaves_under old.arenas.nodes old.root ≡ [] → new.root ≡ old.root → Unchanged old.arenas new.arenas → pair.0 ≡ key → pair.1 ≡ val
@@ -59,6 +70,7 @@ module _ {K V : Type 0} {LEN : ℕ} (cmp : K → K → Ordering) where
       lowers = omega (arith, bare_spare old bare);
       spent = λ so. bare_spare old bare;
       first = λ none taken. absurd (cc);
+      kept = λ so. absurd (cc);
     }
 
     -- a pair under the root
@@ -81,6 +93,7 @@ module _ {K V : Type 0} {LEN : ℕ} (cmp : K → K → Ordering) where
             lowers = omega (arith, ins.lowers, was_spare, is_spare);
             spent = λ so. was_spare ∙ ins.spent so;
             first = λ none taken. absurd (omega (arith, here.top.0, ap depth_of was, none));
+            kept = λ so. rw (was, now) (refl, spare_unchanged old.arenas new.arenas (Some (id, level)) (ins.unchanged so));
           }
 
       pub stored_under : asks_split result ≡ false → Stores cmp upsert old new key val result
@@ -143,15 +156,16 @@ module _ {K V : Type 0} {LEN : ℕ} (cmp : K → K → Ordering) where
               }
 
   -- the root has grown, and then the pair was stored
-  pub stored_grown : (upsert : Bool) (old mid new : Tree K V LEN) (key : K) (val : V) (result : Result (StoreResult K V) (K × V)) → spare_of old ≡ 0 → 0 < depth_of old.root → pairs_of mid ≡ pairs_of old
-      → Stores cmp upsert mid new key val result → Stores cmp upsert old new key val result
-  stored_grown upsert old mid new key val result spent deep pairs stores = record {
+  pub stored_grown : (upsert : Bool) (old mid new : Tree K V LEN) (key : K) (val : V) (result : Result (StoreResult K V) (K × V)) → spare_of old ≡ 0 → 0 < depth_of old.root → IsNew cmp upsert (pairs_of old) key
+      → pairs_of mid ≡ pairs_of old → Stores cmp upsert mid new key val result → Stores cmp upsert old new key val result
+  stored_grown upsert old mid new key val result spent deep absent pairs stores = record {
     whole = stores.whole;
     pairs = rw pairs at stores.pairs;
     not_full = stores.not_full;
     lowers = omega (arith, spent);
     spent = λ so. spent;
     first = λ none taken. absurd (omega (arith, none, deep));
+    kept = λ so. absurd (let no : declined result ≡ false = not_declined cmp upsert result (pairs_of old) (pairs_of new) key val absent (rw pairs at stores.pairs) stores.not_full in cc);
   }
 
   -- the root could not grow for want of memory
@@ -164,6 +178,7 @@ module _ {K V : Type 0} {LEN : ℕ} (cmp : K → K → Ordering) where
     lowers = omega (arith, spent);
     spent = λ so. spent;
     first = λ none taken. absurd (cc);
+    kept = λ so. absurd (cc);
   }
 
   -- what is known of the root of a tree
@@ -224,7 +239,7 @@ module _ {K V : Type 0} {LEN : ℕ} (cmp : K → K → Ordering) where
     takes_it : asks_split result ≡ false
     takes_it = false_from_ne_true (asks_split result) (λ asks. omega (arith, raised.roomy, crowded_room cmp (suc depth) mid.arenas top key ((inserts (tree_part mid.arenas top (suc depth) raised_whole raised.stands)).full asks)))
 
-    pub stored_raised : spare_of old ≡ 0 → Stores cmp upsert old new key val result
-    stored_raised spent =
-        stored_grown upsert old mid new key val result spent (rw was here_before.top.0) (rw (was, between) raised.pairs)
+    pub stored_raised : spare_of old ≡ 0 → IsNew cmp upsert (pairs_of old) key → Stores cmp upsert old new key val result
+    stored_raised spent absent =
+        stored_grown upsert old mid new key val result spent (rw was here_before.top.0) absent (rw (was, between) raised.pairs)
         (stored_under upsert mid new key val top (suc depth) result between now (rw between raised_whole) inserts retired takes_it)

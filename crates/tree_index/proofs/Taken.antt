@@ -25,6 +25,7 @@ module _ {K V : Type 0} {LEN : ℕ} (cmp : K → K → Ordering) (Says : V → B
     whole = rw same whole;
     pairs = rw (same, none) ((λ pair found. absurd (cc)), refl);
     spare = inr (rw same (omega arith));
+    kept = λ so. rw same (refl, refl);
   }
 
   module _ (id level : ℕ) (was : old.root ≡ Some (id, level)) (whole : IsWhole cmp old) where
@@ -37,6 +38,7 @@ module _ {K V : Type 0} {LEN : ℕ} (cmp : K → K → Ordering) (Says : V → B
       whole = rw root (tree_unchanged old.arenas new.arenas old.root r.leaves whole);
       pairs = (rw was r.pairs.0, rw root (walk_unchanged old.arenas new.arenas old.root r.leaves));
       spare = inr (omega (arith, ap (λ r. spare_under new.arenas r) root, spare_unchanged old.arenas new.arenas old.root r.leaves));
+      kept = λ so. rw root (refl, spare_unchanged old.arenas new.arenas old.root r.leaves);
     }
 
     -- the pair went, and then the root was lowered
@@ -47,6 +49,7 @@ module _ {K V : Type 0} {LEN : ℕ} (cmp : K → K → Ordering) (Says : V → B
         whole = tree_lowered mid new.arenas id level new.root (nodes_after old.arenas mid id level here r.replaces) (leaves_after old.arenas mid id level here r.replaces) (chain_after old.arenas mid id level here r.replaces) lowers;
         pairs = (gone.pair, rw was gone.was, gone.said, rw (was, lowers.pairs) gone.left);
         spare = rw (was, spare_lowered cmp mid new.arenas id level new.root lowers) spare_mid;
+        kept = λ so. absurd (cc);
       }
 
     -- the spare of the part after the removal

@@ -1,12 +1,12 @@
 -- What contracts see of an index.
-use Rattle.std.specs.Prelude.{◌≡◌, ◌⊎◌, ℕ, suc, ◌-◌, ◌≤◌, Bool, true, false, List, Option, Result, Ok, Err}
+use Rattle.std.specs.Prelude.{◌≡◌, ◌⊎◌, ℕ, suc, ◌-◌, ◌<◌, ◌≤◌, Bool, true, false, List, Option, Result, Ok, Err}
 use Rattle.std.specs.Option.{option_map}
 use Rattle.std.specs.declared.cmp.Ordering.{Ordering}
 use Rattle.tree_model.specs.declared.commands.InsertError.{InsertError}
 use Rattle.tree_model.specs.declared.commands.InsertError.TheVariants.{Duplicate, OutOfMemory}
 use Rattle.tree_array.specs.declared.answers.StoreResult.{StoreResult}
 use Rattle.tree_node.specs.Arenas.{TreeArenas}
-use Rattle.tree_node.specs.Inserts.{Inserts, asks_split, refused}
+use Rattle.tree_node.specs.Inserts.{Inserts, asks_split, declined, refused}
 use Rattle.tree_node.specs.Whole.{IsTree, depth_of, spare_under, walk_under}
 use Rattle.tree_index.specs.declared.tree.Tree.{Tree}
 use Rattle.tree_index.specs.Trees.{pairs_of, spare_of}
@@ -35,11 +35,12 @@ module _ {K V : Type 0} where
     pub not_full : asks_split result ≡ false
     pub spent : refused result ≡ true → old.spare ≡ 0
     pub written : refused result ≡ false → IsWritten LEN old new
+    pub kept : declined result ≡ true → new ≡ old
 
-  -- What an insert and an upsert do to the number of spare writes: an answered one takes at most one, and one is refused only where there is none.
+  -- What an insert and an upsert do to depth and spare: a pair that is stored takes at most one of the spare, a duplicate changes nothing, and a pair is refused only where none is spare.
   abbrev pub SpendsInsert : {T : Type 0} → ℕ → Index K V → Index K V → Result T (InsertError K V) → Type 0
   SpendsInsert LEN old new (Ok _) = IsWritten LEN old new
-  SpendsInsert LEN old new (Err (Duplicate key value)) = IsWritten LEN old new
+  SpendsInsert LEN old new (Err (Duplicate key value)) = (0 < old.depth) × (new ≡ old)
   SpendsInsert LEN old new (Err (OutOfMemory key value)) = old.spare ≡ 0
 
   abbrev pub SpendsUpsert : {T : Type 0} → ℕ → Index K V → Index K V → Result T (K × V) → Type 0

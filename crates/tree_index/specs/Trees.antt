@@ -3,7 +3,7 @@ use Rattle.std.specs.Prelude.{◌≡◌, ◌⊎◌, ℕ, suc, ◌-◌, ◌≤◌
 use Rattle.std.specs.declared.cmp.Ordering.{Ordering}
 use Rattle.tree_array.specs.declared.answers.StoreResult.{StoreResult}
 use Rattle.tree_model.specs.Edits.{RemovesIf}
-use Rattle.tree_node.specs.Inserts.{Inserts, asks_split, refused}
+use Rattle.tree_node.specs.Inserts.{Inserts, asks_split, declined, refused}
 use Rattle.tree_node.specs.Whole.{IsTree, depth_of, spare_under, walk_under}
 use Rattle.tree_index.specs.declared.tree.Tree.{Tree}
 
@@ -17,6 +17,9 @@ module _ {K V : Type 0} {LEN : ℕ} where
   abbrev pub IsWhole : (K → K → Ordering) → Tree K V LEN → Type 0
   IsWhole cmp tree = IsTree cmp tree.arenas tree.root
 
+  abbrev pub KeepsShape : Tree K V LEN → Tree K V LEN → Type 0
+  KeepsShape old new = (depth_of new.root ≡ depth_of old.root) × (spare_of new ≡ spare_of old)
+
   -- The pair is stored, or it comes back for a duplicate or for want of memory.
   pub record Stores (cmp : K → K → Ordering) (upsert : Bool) (old new : Tree K V LEN) (key : K) (val : V) (result : Result (StoreResult K V) (K × V)) : Type 0 where
     pub whole : IsWhole cmp new
@@ -27,6 +30,8 @@ module _ {K V : Type 0} {LEN : ℕ} where
     pub spent : refused result ≡ true → spare_of old ≡ 0
     -- the first one makes a tree of one level
     pub first : depth_of old.root ≡ 0 → refused result ≡ false → (depth_of new.root ≡ 1) × (spare_of new ≡ LEN - 1)
+    -- a duplicate leaves the tree as it was
+    pub kept : declined result ≡ true → KeepsShape old new
 
   -- The pair at the key is gone, where the condition says so of its value, or nothing is. `Says` tells what the condition answers of a value.
   pub record Takes (cmp : K → K → Ordering) (Says : V → Bool → Type 0) (old new : Tree K V LEN) (key : K) (removed : Bool) : Type 0 where
@@ -34,3 +39,4 @@ module _ {K V : Type 0} {LEN : ℕ} where
     pub pairs : RemovesIf cmp Says (pairs_of old) key removed (pairs_of new)
     -- no leaf loses room, but one that loses its last pair has none
     pub spare : (spare_of new ≡ 0) ⊎ (spare_of old ≤ spare_of new)
+    pub kept : removed ≡ false → KeepsShape old new

@@ -1,5 +1,5 @@
 //! The index.
-ghost use Rattle.std.specs.Prelude.{◌≡◌, ◌⊎◌, ◌↔◌, IsTrue, ◌+◌, ◌*◌, ◌^◌, ◌-◌, ◌≤◌, Bool, true, min, [], length, Some, MatchOption};
+ghost use Rattle.std.specs.Prelude.{◌≡◌, ◌⊎◌, ◌↔◌, IsTrue, ◌+◌, ◌*◌, ◌^◌, ◌-◌, ◌≤◌, Bool, false, true, min, [], length, Some, MatchOption};
 ghost use Rattle.std.specs.Fn.{FnOnceReturnsAt, FnOnceTakesAt};
 ghost use Rattle.std.specs.Option.{ForSome, option_copied, option_map};
 ghost use Rattle.tree_array.specs.Length.{IsLen};
@@ -52,6 +52,7 @@ impl<K: IndexKey, V: Drop, const LEN: usize> TreeIndexOf<K, V, LEN> {
         requires { IsLen LEN }
         ensures pairs { result.pairs ≡ [] }
         ensures depth { result.depth ≡ 0 }
+        ensures spare { result.spare ≡ 0 }
     {
         TreeIndexOf {
             tree: Tree::new(alloc),
@@ -106,6 +107,7 @@ impl<K: IndexKey, V: Drop, const LEN: usize> TreeIndexOf<K, V, LEN> {
         ensures answer { IsTrue result ↔ IsPresent K.cmp self.old.pairs key.now }
         ensures left { self.new.pairs ≡ without K.cmp self.old.pairs key.now }
         ensures spare { KeepsSpare self.old self.new }
+        ensures kept { result ≡ false → self.new ≡ self.old }
     {
         self.remove_if_sync(key, always)
     }
@@ -119,6 +121,7 @@ impl<K: IndexKey, V: Drop, const LEN: usize> TreeIndexOf<K, V, LEN> {
         ensures pairs { RemovesIf K.cmp (FnOnceReturnsAt F.FnOnce condition) self.old.pairs key.now result self.new.pairs }
         ensures always { ((value : V) (said : Bool) → FnOnceReturnsAt F.FnOnce condition value said → said ≡ true) → (IsTrue result ↔ IsPresent K.cmp self.old.pairs key.now) × (self.new.pairs ≡ without K.cmp self.old.pairs key.now) }
         ensures spare { KeepsSpare self.old self.new }
+        ensures kept { result ≡ false → self.new ≡ self.old }
     {
         let removed = self.tree.remove_if(key, condition);
         if removed {

@@ -1,4 +1,5 @@
 //! Worked calls of the index, its runs and its state.
+mod again;
 mod comparison;
 mod edits;
 mod orders;
@@ -9,20 +10,24 @@ ghost use Rattle.std.proofs.Common.{rules};
 ghost use Rattle.tree_array.specs.Keys.{equal_numbers};
 
 use crate::{Command, IndexKey, InsertError, Record, Reply, SameClone, State, TreeIndex, run};
+use again::{again, applied, inserted, replied};
+use std::alloc::{AllocError, Global};
+use std::process::Abort;
 use std::test::Fail;
+use walker::walk;
 
 #[test]
 fn keeps_the_first_of_two_pairs(rt: HostRuntime) -> Result<(), Fail> {
     let mut index = TreeIndex::new(rt.alloc());
-    assert!(rt; index.insert_sync(1, 10).is_ok());
-    let again = index.insert_sync(1, 11);
+    assert!(rt; inserted(&rt, &mut index, 1, 10).is_ok());
+    let second = index.insert_sync(1, 11);
     assert!(rt;
-        matches!(&again, Err(InsertError::Duplicate(1, 11))),
-        "{again:?}"
+        matches!(&second, Err(InsertError::Duplicate(1, 11))),
+        "{second:?}"
     );
     assert_eq!(rt; index.peek(&1).copied(), Some(10));
     assert_eq!(rt; index.peek(&2).copied(), None);
-    let shown = format!(in rt.alloc(); "{index:?}")?;
+    let shown = again(|| format!(in rt.alloc(); "{index:?}"))?;
     assert_eq!(rt;
         shown.as_str(),
         "TreeIndex { depth: 1, entries: [(1, 10)] }"
@@ -54,7 +59,7 @@ fn tells_keys_apart_by_their_order(rt: HostRuntime) -> Result<(), Fail> {
         number: 5,
         tag: 'b',
     };
-    assert!(rt; index.insert_sync(first, 1).is_ok());
+    assert!(rt; inserted(&rt, &mut index, first, 1).is_ok());
     assert_eq!(rt; index.peek(&second).copied(), Some(1));
     let Err(InsertError::Duplicate(key, 2)) = index.insert_sync(second, 2) else {
         return Err(Fail::from("no duplicate"));
@@ -64,66 +69,84 @@ fn tells_keys_apart_by_their_order(rt: HostRuntime) -> Result<(), Fail> {
 }
 
 // The larger of two keys is inserted first, both are found, and the history has a clone of each.
-fn answers_by_key<K: IndexKey + SameClone>(
+fn expect_answers<K: IndexKey + SameClone>(
+    rt: &impl Abort,
     state: &mut State<K, bool>,
     low: K,
     high: K,
-) -> Result<bool, Fail> {
-    let asked = low.clone()?;
-    state.insert(high, true).ok().ok_or("memory")?;
-    state.insert(low, false).ok().ok_or("memory")?;
-    let found = state.apply(Command::Peek(asked)).ok().ok_or("memory")?;
-    Ok(matches!(found, Reply::Found(Some(false))) && state.history().len() == 3)
+) -> Result<(), Fail> {
+    let asked = again(|| low.clone())?;
+    let stored = applied(rt, state, Command::Insert(high, true));
+    assert!(rt; matches!(stored, Some(Reply::Stored)));
+    let stored = applied(rt, state, Command::Insert(low, false));
+    assert!(rt; matches!(stored, Some(Reply::Stored)));
+    let found = applied(rt, state, Command::Peek(asked));
+    assert!(rt; matches!(found, Some(Reply::Found(Some(false)))));
+    assert_eq!(rt; state.history().len(), 3);
+    Ok(())
 }
 
 #[test]
 fn takes_keys_of_each_type(rt: HostRuntime) -> Result<(), Fail> {
     let alloc = rt.alloc();
-    assert!(rt; answers_by_key(&mut State::new(alloc), 1u8, u8::MAX)?);
-    assert!(rt; answers_by_key(&mut State::new(alloc), 1u16, u16::MAX)?);
-    assert!(rt; answers_by_key(&mut State::new(alloc), 1u32, u32::MAX)?);
-    assert!(rt; answers_by_key(&mut State::new(alloc), 1u64, u64::MAX)?);
-    assert!(rt; answers_by_key(&mut State::new(alloc), 1u128, u128::MAX)?);
-    assert!(rt; answers_by_key(&mut State::new(alloc), 1usize, usize::MAX)?);
-    assert!(rt; answers_by_key(&mut State::new(alloc), 'a', 'é')?);
-    assert!(rt; answers_by_key(&mut State::new(alloc), false, true)?);
+    expect_answers(&rt, &mut State::new(alloc), 1u8, u8::MAX)?;
+    expect_answers(&rt, &mut State::new(alloc), 1u16, u16::MAX)?;
+    expect_answers(&rt, &mut State::new(alloc), 1u32, u32::MAX)?;
+    expect_answers(&rt, &mut State::new(alloc), 1u64, u64::MAX)?;
+    expect_answers(&rt, &mut State::new(alloc), 1u128, u128::MAX)?;
+    expect_answers(&rt, &mut State::new(alloc), 1usize, usize::MAX)?;
+    expect_answers(&rt, &mut State::new(alloc), 'a', 'é')?;
+    expect_answers(&rt, &mut State::new(alloc), false, true)?;
     Ok(())
 }
 
 #[test]
 fn takes_signed_keys_and_texts(rt: HostRuntime) -> Result<(), Fail> {
     let alloc = rt.alloc();
-    assert!(rt; answers_by_key(&mut State::new(alloc), i8::MIN, 1i8)?);
-    assert!(rt; answers_by_key(&mut State::new(alloc), i16::MIN, 1i16)?);
-    assert!(rt; answers_by_key(&mut State::new(alloc), i32::MIN, 1i32)?);
-    assert!(rt; answers_by_key(&mut State::new(alloc), i64::MIN, 1i64)?);
-    assert!(rt; answers_by_key(&mut State::new(alloc), i128::MIN, 1i128)?);
-    assert!(rt; answers_by_key(&mut State::new(alloc), isize::MIN, 1isize)?);
-    let low = String::from_str(alloc, "a")?;
-    let high = String::from_str(alloc, "ab")?;
-    assert!(rt; answers_by_key(&mut State::new(alloc), low, high)?);
+    expect_answers(&rt, &mut State::new(alloc), i8::MIN, 1i8)?;
+    expect_answers(&rt, &mut State::new(alloc), i16::MIN, 1i16)?;
+    expect_answers(&rt, &mut State::new(alloc), i32::MIN, 1i32)?;
+    expect_answers(&rt, &mut State::new(alloc), i64::MIN, 1i64)?;
+    expect_answers(&rt, &mut State::new(alloc), i128::MIN, 1i128)?;
+    expect_answers(&rt, &mut State::new(alloc), isize::MIN, 1isize)?;
+    let low = again(|| String::from_str(alloc, "a"))?;
+    let high = again(|| String::from_str(alloc, "ab"))?;
+    expect_answers(&rt, &mut State::new(alloc), low, high)?;
     Ok(())
 }
 
-#[test]
-fn runs_commands_over_texts(rt: HostRuntime) -> Result<(), Fail> {
-    let alloc = rt.alloc();
-    let mut index: TreeIndex<String, String> = TreeIndex::new(alloc);
+fn commands_over_texts(alloc: Global) -> Result<Vec<Command<String, String>>, AllocError> {
     let commands = vec![in alloc;
         Command::Insert(String::from_str(alloc, "b")?, String::from_str(alloc, "x")?),
         Command::Insert(String::from_str(alloc, "b")?, String::from_str(alloc, "y")?),
         Command::Peek(String::from_str(alloc, "b")?),
         Command::Peek(String::from_str(alloc, "c")?),
     ]?;
-    let replies = run(&mut index, commands)?;
-    assert_eq!(rt; replies.len(), 4);
-    assert!(rt; matches!(&replies[0], Reply::Stored));
-    assert!(rt; matches!(&replies[1], Reply::Duplicate));
-    let Reply::Found(Some(found)) = &replies[2] else {
-        return Err(Fail::from("not found"));
-    };
-    assert_eq!(rt; found.as_str(), "x");
-    assert!(rt; matches!(&replies[3], Reply::Found(None)));
+    Ok(commands)
+}
+
+// One of two runs at least is not refused.
+#[test]
+fn runs_commands_over_texts(rt: HostRuntime) -> Result<(), Fail> {
+    let alloc = rt.alloc();
+    let mut answered = false;
+    for _ in 0..2 {
+        let mut index = TreeIndex::new(alloc);
+        let commands = again(|| commands_over_texts(alloc))?;
+        let Some(replies) = replied(&rt, &mut index, commands) else {
+            continue;
+        };
+        assert_eq!(rt; replies.len(), 4);
+        assert!(rt; matches!(&replies[0], Reply::Stored));
+        assert!(rt; matches!(&replies[1], Reply::Duplicate));
+        let Reply::Found(Some(found)) = &replies[2] else {
+            return Err(Fail::from("not found"));
+        };
+        assert_eq!(rt; found.as_str(), "x");
+        assert!(rt; matches!(&replies[3], Reply::Found(None)));
+        answered = true;
+    }
+    assert!(rt; answered);
     Ok(())
 }
 
@@ -136,8 +159,8 @@ fn keeps_its_history(rt: HostRuntime) -> Result<(), Fail> {
         (Command::Peek(1), "Found(Some(10))"),
         (Command::Peek(2), "Found(None)"),
     ] {
-        let reply = state.apply(command).ok().ok_or("memory")?;
-        let shown = format!(in rt.alloc(); "{reply:?}")?;
+        let reply = applied(&rt, &mut state, command).ok_or("memory")?;
+        let shown = again(|| format!(in rt.alloc(); "{reply:?}"))?;
         assert_eq!(rt; shown.as_str(), wanted);
     }
     assert_eq!(rt; state.index().peek(&1).copied(), Some(10));
@@ -176,6 +199,7 @@ fn hands_back_what_is_refused(rt: HostRuntime) -> Result<(), Fail> {
             );
             assert_eq!(rt; state.history().len(), calls);
             assert_eq!(rt; state.index().peek(&key).copied(), None);
+            walk(&rt, state.index());
             assert!(rt; state.insert(key, key + 100).is_ok());
         }
         if let Err(refused) = state.apply(Command::Peek(key)) {
@@ -189,21 +213,34 @@ fn hands_back_what_is_refused(rt: HostRuntime) -> Result<(), Fail> {
     Ok(())
 }
 
-// Each command of a run is answered, or refused and without effect.
+// Each command of a run is answered, or refused and without effect. Of three runs one at most is refused, or a command of it.
 #[test]
 fn goes_on_after_a_refusal(rt: HostRuntime) -> Result<(), Fail> {
     let alloc = rt.alloc();
     let mut index: TreeIndex<u64, u64> = TreeIndex::new(alloc);
-    let commands = vec![in alloc; Command::Insert(1, 10), Command::Peek(1)]?;
-    match run(&mut index, commands) {
-        Err(_) => assert_eq!(rt; index.peek(&1).copied(), None),
-        Ok(replies) => {
-            assert_eq!(rt; replies.len(), 2);
-            let stored = matches!(&replies[0], Reply::Stored);
-            assert!(rt; stored || matches!(&replies[0], Reply::Refused));
-            assert_eq!(rt; index.peek(&1).is_some(), stored);
-            assert_eq!(rt; matches!(&replies[1], Reply::Found(Some(10))), stored);
+    let mut refused = 0u64;
+    let mut at_key = None;
+    for value in [10, 11, 12] {
+        let commands = again(|| vec![in alloc; Command::Upsert(1, value), Command::Peek(1)])?;
+        let stored = match run(&mut index, commands) {
+            Err(_) => false,
+            Ok(replies) => {
+                assert_eq!(rt; replies.len(), 2);
+                let stored = matches!(&replies[0], Reply::Stored);
+                assert!(rt; stored || matches!(&replies[0], Reply::Refused));
+                let wanted = if stored { Some(value) } else { at_key };
+                assert!(rt; matches!(&replies[1], Reply::Found(found) if *found == wanted));
+                stored
+            }
+        };
+        if stored {
+            at_key = Some(value);
+        } else {
+            refused = refused.saturating_add(1);
         }
+        assert_eq!(rt; index.peek(&1).copied(), at_key);
+        walk(&rt, &index);
     }
+    assert!(rt; refused <= 1);
     Ok(())
 }

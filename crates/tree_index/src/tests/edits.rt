@@ -1,22 +1,14 @@
-//! Edits by key, and what look-ups find after them. A test goes on where one request for memory is
-//! refused: the same call again then answers.
+//! Edits by key, and what look-ups find after them.
 use super::Tagged;
-use crate::{Command, IndexKey, Reply, State, TreeIndex, run};
+use super::again::{again, applied, replied, upserted};
+use crate::{Command, Reply, State, TreeIndex};
 use std::test::Fail;
-
-// Whether a pair was stored, at the first try or at the second.
-fn stored<K: IndexKey, V: Drop>(index: &mut TreeIndex<K, V>, key: K, value: V) -> bool {
-    match index.upsert_sync(key, value) {
-        Ok(()) => true,
-        Err((key, value)) => index.upsert_sync(key, value).is_ok(),
-    }
-}
 
 #[test]
 fn replaces_the_stored_key(rt: HostRuntime) -> Result<(), Fail> {
     let mut index = TreeIndex::new(rt.alloc());
     for (tag, value) in [('a', 1), ('b', 2)] {
-        assert!(rt; stored(&mut index, Tagged { number: 5, tag }, value));
+        assert!(rt; upserted(&rt, &mut index, Tagged { number: 5, tag }, value));
     }
     let asked = Tagged {
         number: 5,
@@ -33,7 +25,7 @@ fn replaces_the_stored_key(rt: HostRuntime) -> Result<(), Fail> {
 fn says_whether_it_removed(rt: HostRuntime) {
     let mut index: TreeIndex<u64, u64> = TreeIndex::new(rt.alloc());
     assert!(rt; !index.remove_sync(&1));
-    assert!(rt; stored(&mut index, 1, 10));
+    assert!(rt; upserted(&rt, &mut index, 1, 10));
     assert!(rt; !index.is_empty());
     assert!(rt; index.remove_sync(&1));
     assert!(rt; !index.contains(&1));
@@ -44,7 +36,7 @@ fn says_whether_it_removed(rt: HostRuntime) {
 #[test]
 fn asks_its_condition_once(rt: HostRuntime) {
     let mut index: TreeIndex<u64, u64> = TreeIndex::new(rt.alloc());
-    assert!(rt; stored(&mut index, 1, 10));
+    assert!(rt; upserted(&rt, &mut index, 1, 10));
     for (wanted, removed, times) in [(0, false, 1), (10, true, 1), (10, false, 0)] {
         let mut asked = 0u64;
         let answer = index.remove_if_sync(&1, |value| {
@@ -55,32 +47,28 @@ fn asks_its_condition_once(rt: HostRuntime) {
     }
 }
 
+// One of two runs at least is not refused.
 #[test]
-fn runs_edits(rt: HostRuntime) {
-    let mut index: TreeIndex<u64, u64> = TreeIndex::new(rt.alloc());
-    let Ok(commands) = vec![in rt.alloc();
-        Command::Insert(1, 10),
-        Command::Insert(1, 11),
-        Command::Upsert(1, 12),
-        Command::Peek(1),
-        Command::Remove(2),
-        Command::Upsert(3, 30),
-        Command::Remove(1),
-        Command::Peek(1),
-    ] else {
-        return;
-    };
-    let Ok(replies) = run(&mut index, commands) else {
-        assert!(rt; index.is_empty());
-        return;
-    };
-    assert_eq!(rt; replies.len(), 8);
-    let refused = replies
-        .iter()
-        .filter(|reply| matches!(reply, Reply::Refused))
-        .count();
-    assert!(rt; refused <= 1);
-    if refused == 0 {
+fn runs_edits(rt: HostRuntime) -> Result<(), Fail> {
+    let mut answered = false;
+    for _ in 0..2 {
+        let mut index: TreeIndex<u64, u64> = TreeIndex::new(rt.alloc());
+        let commands = again(|| {
+            vec![in rt.alloc();
+                Command::Insert(1, 10),
+                Command::Insert(1, 11),
+                Command::Upsert(1, 12),
+                Command::Peek(1),
+                Command::Remove(2),
+                Command::Upsert(3, 30),
+                Command::Remove(1),
+                Command::Peek(1),
+            ]
+        })?;
+        let Some(replies) = replied(&rt, &mut index, commands) else {
+            continue;
+        };
+        assert_eq!(rt; replies.len(), 8);
         assert!(rt; matches!(&replies[0], Reply::Stored));
         assert!(rt; matches!(&replies[1], Reply::Duplicate));
         assert!(rt; matches!(&replies[2], Reply::Stored));
@@ -91,32 +79,24 @@ fn runs_edits(rt: HostRuntime) {
         assert!(rt; matches!(&replies[7], Reply::Found(None)));
         assert_eq!(rt; index.peek(&3).copied(), Some(30));
         assert_eq!(rt; index.len(), 1);
+        answered = true;
     }
-}
-
-// What a command is answered, at the first try or at the second. A refused one changed neither the
-// history nor the number of pairs.
-fn applied(state: &mut State<u64, u64>, command: Command<u64, u64>) -> Option<Reply<u64>> {
-    let before = (state.history().len(), state.index().len());
-    match state.apply(command) {
-        Ok(reply) => Some(reply),
-        Err(_) if (state.history().len(), state.index().len()) != before => None,
-        Err(command) => state.apply(command).ok(),
-    }
+    assert!(rt; answered);
+    Ok(())
 }
 
 #[test]
 fn keeps_edits_in_its_history(rt: HostRuntime) {
     let mut state = State::new(rt.alloc());
     for key in 0..6 {
-        let stored = applied(&mut state, Command::Upsert(key, 1));
+        let stored = applied(&rt, &mut state, Command::Upsert(key, 1));
         assert!(rt; matches!(stored, Some(Reply::Stored)));
-        let replaced = applied(&mut state, Command::Upsert(key, 2));
+        let replaced = applied(&rt, &mut state, Command::Upsert(key, 2));
         assert!(rt; matches!(replaced, Some(Reply::Stored)));
         assert_eq!(rt; state.index().peek(&key).copied(), Some(2));
-        let removed = applied(&mut state, Command::Remove(key));
+        let removed = applied(&rt, &mut state, Command::Remove(key));
         assert!(rt; matches!(removed, Some(Reply::Removed(true))));
-        let again = applied(&mut state, Command::Remove(key));
+        let again = applied(&rt, &mut state, Command::Remove(key));
         assert!(rt; matches!(again, Some(Reply::Removed(false))));
     }
     assert!(rt; state.index().is_empty());

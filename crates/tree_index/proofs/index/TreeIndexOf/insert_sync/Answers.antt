@@ -1,5 +1,6 @@
 use Rattle.std.proofs.Common.{refl, sym}
 use mathlib.Core.Bool.{false≢true}
+use Rattle.tree_index.proofs.Indexed.{deep_if_kept}
 use Rattle.tree_index.proofs.index.TreeIndexOf.insert_sync.Goals as goal
 
 pub unreachable-requires : goal.unreachable-requires
@@ -30,7 +31,7 @@ returns-in-Duplicate-clause-pairs g c =
 pub returns-in-Duplicate-clause-spare : goal.returns-in-Duplicate-clause-spare
 returns-in-Duplicate-clause-spare g c =
     let stores = rw c.in-Duplicate.is at c.in-Ok.ensures in
-    stores.written refl
+    (deep_if_kept _ _ _ (stores.kept refl) (stores.written refl), stores.kept refl)
 
 pub returns-in-Err-clause-pairs : goal.returns-in-Err-clause-pairs
 returns-in-Err-clause-pairs g c = (c.in-Err.ensures.pairs.0 refl, c.in-Err.ensures.pairs.1, c.in-Err.ensures.pairs.2, c.in-Err.ensures.pairs.3)

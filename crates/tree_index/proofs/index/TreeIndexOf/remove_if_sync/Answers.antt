@@ -2,7 +2,7 @@ use Rattle.tree_node.proofs.Sizes.{fits}
 use Rattle.std.proofs.Common.{◌∙◌, ap, arith, sym, length}
 use Rattle.std.specs.Fn.{FnOnceReturnsAt}
 use Rattle.tree_index.specs.Trees.{pairs_of}
-use Rattle.tree_index.proofs.Indexed.{one_less, pairs_ascend}
+use Rattle.tree_index.proofs.Indexed.{index_kept, one_less, pairs_ascend}
 use Rattle.tree_index.proofs.Removed.{removes_surely}
 use Rattle.tree_index.proofs.index.TreeIndexOf.remove_if_sync.Goals as goal
 
@@ -35,6 +35,9 @@ returns-then-removed-clause-spare g c = rw (← c.self.view_is) c.remove_if-remo
 
 pub returns-else-removed-clause-spare : goal.returns-else-removed-clause-spare
 returns-else-removed-clause-spare g c = rw (← c.self.view_is) c.remove_if-removed.ensures.spare
+
+pub returns-else-removed-clause-kept : goal.returns-else-removed-clause-kept
+returns-else-removed-clause-kept g c = λ none. rw (← c.self.view_is) (index_kept g.K.Ord.cmp _ c.self.inside.tree _ c.args.key.now (rw c.if-removed.false at c.remove_if-removed.ensures))
 
 pub returns-then-removed-clause-always : goal.returns-then-removed-clause-always
 returns-then-removed-clause-always g c = rw (← c.self.view_is) (

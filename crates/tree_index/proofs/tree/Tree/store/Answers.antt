@@ -41,5 +41,5 @@ returns-in-Full g c =
     let none = no_room g.K.Ord.cmp _ c.args.self.now _ c.args.key c.args.val c.in-Some.root c.in-Some.depth (Ok c.in-Ok.answer) c.in-Some.is c.in-Some.is c.requires.whole c.in-Ok.ensures.inserts c.in-Ok.ensures.retired
     c.in-Full.key c.in-Full.val (ap Ok c.in-Full.is) in
     let tree = rw c.in-Some.is at c.requires.whole in
-    stored_grown g.K.Ord.cmp _ c.args.self.now _ c.store_grown.new.self c.args.key c.args.val c.store_grown.result none.was_spent (rw c.in-Some.is tree.top.0) none.pairs
+    stored_grown g.K.Ord.cmp _ c.args.self.now _ c.store_grown.new.self c.args.key c.args.val c.store_grown.result none.was_spent (rw c.in-Some.is tree.top.0) (rw (none.same_key, none.pairs) at none.absent) none.pairs
     (rw (none.same_key, none.same_val) at c.store_grown.ensures)

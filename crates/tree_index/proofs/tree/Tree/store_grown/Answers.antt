@@ -53,9 +53,9 @@ insert_at-requires g c =
 pub returns-in-Err : goal.returns-in-Err
 returns-in-Err g c =
     stored_raised g.K.Ord.cmp _ c.args.self.now (record { arenas = c.split_root_at.new.arenas; root = Some (c.in-Ok.top, suc c.args.depth) }) _ c.args.key c.args.val (Err c.in-Err.pair) c.args.root c.in-Ok.top c.args.depth
-    c.requires.root refl (rw add-one refl) c.requires.whole c.in-Ok.ensures.done (rw add-one at c.in-Err.ensures.inserts) (rw add-one at c.in-Err.ensures.retired) c.requires.spent
+    c.requires.root refl (rw add-one refl) c.requires.whole c.in-Ok.ensures.done (rw add-one at c.in-Err.ensures.inserts) (rw add-one at c.in-Err.ensures.retired) c.requires.spent c.requires.new
 
 pub returns-in-Ok-insert_at : goal.returns-in-Ok-insert_at
 returns-in-Ok-insert_at g c =
     stored_raised g.K.Ord.cmp _ c.args.self.now (record { arenas = c.split_root_at.new.arenas; root = Some (c.in-Ok.top, suc c.args.depth) }) _ c.args.key c.args.val (Ok c.in-Ok-insert_at.answer) c.args.root c.in-Ok.top c.args.depth
-    c.requires.root refl (rw add-one refl) c.requires.whole c.in-Ok.ensures.done (rw add-one at c.in-Ok-insert_at.ensures.inserts) (rw add-one at c.in-Ok-insert_at.ensures.retired) c.requires.spent
+    c.requires.root refl (rw add-one refl) c.requires.whole c.in-Ok.ensures.done (rw add-one at c.in-Ok-insert_at.ensures.inserts) (rw add-one at c.in-Ok-insert_at.ensures.retired) c.requires.spent c.requires.new
