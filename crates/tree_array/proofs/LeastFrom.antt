@@ -11,7 +11,7 @@ use Rattle.std.proofs.lemmas.Option.{none-some, same_Some}
 use Rattle.std.specs.Option.{MatchOption}
 use Rattle.tree_array.specs.Arrivals.{Arrivals, arrival, reachable, sorted, least_from}
 use Rattle.tree_array.specs.Layout.{picked}
-use Rattle.tree_array.specs.Place.{Parts, IsNextAbove}
+use Rattle.tree_array.specs.Place.{Parts, IsNext, IsNextAbove}
 use Rattle.tree_array.specs.Ranked.{IsRanked, seen}
 use Rattle.tree_model.specs.Pairs.{IsAscending, AllLarger, pair_at}
 use Rattle.tree_model.proofs.Lists.{find_none}
@@ -92,7 +92,7 @@ module _ {K V : Type 0} {cmp : K → K → Ordering} (o : IsTotalOrder cmp) (key
       ]))
 
       -- so a search for the next rank answers the slot of that entry
-      pub least_seen : (ranks : ℕ) {array : Arrivals K V} → seen cmp pick ranks made ≡ array → made ≤ 15 → (found : Option ℕ) → MatchOption found ((p : ℕ) → p < made → rank p ≤ low) (IsNextAbove rank made low) → MatchOption found (least_from cmp array.entries key ≡ None) (λ slot. (e : K × V) × (arrival array.arrivals slot ≡ Some e) × (least_from cmp array.entries key ≡ Some e))
+      pub least_seen : (ranks : ℕ) {array : Arrivals K V} → seen cmp pick ranks made ≡ array → made ≤ 15 → (found : Option ℕ) → IsNext rank made low found → MatchOption found (least_from cmp array.entries key ≡ None) (λ slot. (e : K × V) × (arrival array.arrivals slot ≡ Some e) × (least_from cmp array.entries key ≡ Some e))
       least_seen ranks view_is few None none = rw (entries_seen cmp pick ranks made view_is) (least_none none)
       least_seen ranks view_is few (Some slot) next =
           let there = some_of _ (some_from_rank it slot (omega (arith, next.early)) (omega (arith, next.above))) in

@@ -14,7 +14,6 @@ pub mod Ranges
 pub mod RankOrder
 pub mod Removed
 pub mod Rises
-pub mod Scan
 pub mod Searching
 pub mod Seen
 pub mod Slots

@@ -1,8 +1,7 @@
 //! The ranks of arrivals: four bits for each slot of one word.
-ghost use Rattle.std.specs.Prelude.{◌≡◌, ◌≢◌, ℕ, ◌+◌, ◌*◌, ◌^◌, ◌<◌, ◌≤◌, MatchOption};
+ghost use Rattle.std.specs.Prelude.{◌≡◌, ◌≢◌, ℕ, ◌+◌, ◌*◌, ◌^◌, ◌<◌, ◌≤◌};
 ghost use Rattle.tree_array.specs.Layout.{slot_of, rank_for, IsSetAt};
 ghost use Rattle.tree_array.specs.Length.{IsLen};
-ghost use Rattle.tree_array.specs.Place.{IsNextAbove};
 ghost use Rattle.tree_array.specs.Ranked.{IsBitmap};
 ghost use Rattle.tree_array.specs.Word.{rank_of, raised_rank, made_of};
 
@@ -136,24 +135,6 @@ pub fn rank_dropped<const LEN: usize>(ranks: u64, old: u8) -> u64
     ensures bound { result ≤ ranks }
 {
     cleared(ranks, slot::<LEN>(old))
-}
-
-/// The arrival with the least rank above `low`.
-pub fn next_above<const LEN: usize>(ranks: u64, made: u8, low: u8) -> Option<u8>
-    requires len { IsLen LEN }
-    requires made { made ≤ LEN }
-    ensures { MatchOption result ((p : ℕ) → p < made → rank_for LEN ranks p ≤ low) (IsNextAbove (rank_for LEN ranks) made low) }
-{
-    let mut best = 16;
-    let mut found = None;
-    for arrival in 0..made {
-        let rank = rank::<LEN>(ranks, arrival);
-        if low < rank && rank < best {
-            best = rank;
-            found = Some(arrival);
-        }
-    }
-    found
 }
 
 /// How many arrivals a bitmap counts.

@@ -1,5 +1,5 @@
 //! Searches among the arrivals of an array.
-ghost use Rattle.std.specs.Prelude.{◌≡◌, ℕ, ◌+◌, ◌<◌, ◌≤◌, length};
+ghost use Rattle.std.specs.Prelude.{◌≡◌, ℕ, ◌+◌, ◌<◌, ◌≤◌, ◌↔◌, IsTrue, length};
 ghost use Rattle.tree_array.specs.Arrivals.{reachable, ascents};
 ghost use Rattle.tree_array.specs.Layout.{pick_of, rank_for, picked};
 ghost use Rattle.tree_array.specs.Length.{IsLen};
@@ -11,11 +11,12 @@ use crate::judge::Asks;
 use crate::ranks::rank;
 use std::cmp::Ordering;
 
-/// Where a key stands: it is that of an arrival, or it comes after the pairs up to a rank alone.
+/// Where a key stands: it is that of an arrival; or it comes after the pairs up to a rank alone, and before that of the
+/// arrival with the next rank, if there is one.
 #[derive(Clone, Copy)]
 pub enum Place {
     At(u8),
-    Above(u8),
+    Above(u8, Option<u8>),
 }
 
 /// Where the key of the asked stands. It asks once about each arrival at most, and about those
@@ -35,18 +36,30 @@ pub fn find<K: Ord, V, By, A: Asks<K, By>, const LEN: usize>(
 {
     let mut low = 0;
     let mut high = 16;
+    let mut next = None;
     for arrival in 0..made {
         let rank = rank::<LEN>(ranks, arrival);
-        if low < rank && rank < high {
+        if is_between(low, rank, high) {
             let (key, _) = cells.pair(arrival);
             match asked.ask(key) {
-                Ordering::Less => high = rank,
+                Ordering::Less => {
+                    high = rank;
+                    next = Some(arrival);
+                }
                 Ordering::Equal => return Place::At(arrival),
                 Ordering::Greater => low = rank,
             }
         }
     }
-    Place::Above(low)
+    Place::Above(low, next)
+}
+
+/// Whether a rank is between two others. One difference tells it, and so one branch, which can't be foreseen.
+fn is_between(low: u8, rank: u8, high: u8) -> bool
+    requires { low < high }
+    ensures { IsTrue result ↔ ((low < rank) × (rank < high)) }
+{
+    rank.wrapping_sub(low + 1) < high - low - 1
 }
 
 /// Where a key stands.

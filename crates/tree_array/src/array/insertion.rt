@@ -41,7 +41,7 @@ impl<K: Ord + Drop, V: Drop, const LEN: usize> ArrayOf<K, V, LEN> {
                     StoreResult::Replaced
                 }
             }
-            Place::Above(low) => {
+            Place::Above(low, _) => {
                 if self.is_full() {
                     StoreResult::Full(key, val)
                 } else {

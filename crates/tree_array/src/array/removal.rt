@@ -55,7 +55,7 @@ impl<K: Ord + Drop, V: Drop, const LEN: usize> ArrayOf<K, V, LEN> {
                     RemoveResult::Fail
                 }
             }
-            Place::Above(_) => RemoveResult::Fail,
+            Place::Above(_, _) => RemoveResult::Fail,
         }
     }
 

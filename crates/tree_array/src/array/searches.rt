@@ -5,7 +5,7 @@ ghost use Rattle.tree_model.specs.Pairs.{IsAbsent, pair_at};
 
 use super::{ArrayIter, ArrayOf};
 use crate::judge::{Asks, Judge};
-use crate::ranks::{made, next_above};
+use crate::ranks::made;
 use crate::search::{Place, find};
 
 impl<K: Ord + Drop, V: Drop, const LEN: usize> ArrayOf<K, V, LEN> {
@@ -18,7 +18,7 @@ impl<K: Ord + Drop, V: Drop, const LEN: usize> ArrayOf<K, V, LEN> {
     {
         match find(&self.cells, self.ranks, made(self.bitmap), judge) {
             Place::At(slot) => Some(self.cells.pair(slot)),
-            Place::Above(_) => None,
+            Place::Above(_, _) => None,
         }
     }
 
@@ -79,10 +79,9 @@ impl<K: Ord + Drop, V: Drop, const LEN: usize> ArrayOf<K, V, LEN> {
         ensures same_key { A.key asked.new ≡ A.key asked.old }
         ensures counted { A.count asked.new ≤ A.count asked.old + LEN }
     {
-        let made = made(self.bitmap);
-        match find(&self.cells, self.ranks, made, asked) {
+        match find(&self.cells, self.ranks, made(self.bitmap), asked) {
             Place::At(slot) => Some(slot),
-            Place::Above(low) => next_above::<LEN>(self.ranks, made, low),
+            Place::Above(_, next) => next,
         }
     }
 }

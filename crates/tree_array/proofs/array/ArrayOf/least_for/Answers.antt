@@ -14,4 +14,5 @@ pub returns-in-Above-clause-found : goal.returns-in-Above-clause-found
 returns-in-Above-clause-found g c =
     let bits = c.self.invariant.0 in
     let few : made_of c.self.inside.bitmap ≤ 15 = omega (arith, bits.few, len_small g.row.LEN bits.is_len) in
-    least_seen g.met.K.Ord.total _ c.self.invariant.1 _ c.in-Above.ensures.place.1 _ c.self.view_is few _ (rw c.made-made.ensures at c.next_above.ensures)
+    let place = rw c.made.ensures at c.in-Above.ensures.place in
+    least_seen g.met.K.Ord.total _ c.self.invariant.1 _ place.1 _ c.self.view_is few _ place.2
