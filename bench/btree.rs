@@ -1,0 +1,248 @@
+//! The workloads of `crates/treebench` over `std::collections::BTreeMap`: the same keys, the same arguments, the same
+//! lines of output.
+use std::collections::BTreeMap;
+use std::env::args;
+use std::fs::read_to_string;
+use std::mem::take;
+use std::process::exit;
+use std::time::{Duration, Instant};
+
+const FEW: usize = 1000;
+
+#[derive(Clone, Copy)]
+enum Workload {
+    InsertAscending,
+    InsertRandom,
+    UpsertRandom,
+    PeekHit,
+    PeekMiss,
+    RemoveRandom,
+    RemoveMiddle,
+    BuildAndDrop,
+    InsertText,
+    PeekText,
+}
+
+const ALL: [(Workload, &str); 10] = [
+    (Workload::InsertAscending, "insert_ascending"),
+    (Workload::InsertRandom, "insert_random"),
+    (Workload::UpsertRandom, "upsert_random"),
+    (Workload::PeekHit, "peek_hit"),
+    (Workload::PeekMiss, "peek_miss"),
+    (Workload::RemoveRandom, "remove_random"),
+    (Workload::RemoveMiddle, "remove_middle"),
+    (Workload::BuildAndDrop, "build_and_drop"),
+    (Workload::InsertText, "insert_text"),
+    (Workload::PeekText, "peek_text"),
+];
+
+struct Numbers {
+    last: u64,
+}
+
+impl Numbers {
+    fn new() -> Self {
+        Numbers {
+            last: 0x9e37_79b9_7f4a_7c15,
+        }
+    }
+
+    fn draw(&mut self) -> u64 {
+        self.last ^= self.last << 13;
+        self.last ^= self.last >> 7;
+        self.last ^= self.last << 17;
+        self.last
+    }
+
+    fn list(&mut self, count: usize) -> Vec<u64> {
+        (0..count).map(|_| self.draw()).collect()
+    }
+
+    fn shuffle<T>(&mut self, items: &mut [T]) {
+        for place in 1..items.len() {
+            let other = self.draw() % (place as u64 + 1);
+            items.swap(place, other as usize);
+        }
+    }
+}
+
+fn ascending(first: usize, end: usize) -> Vec<u64> {
+    (first..end).map(|number| number as u64).collect()
+}
+
+fn texts(numbers: &[u64]) -> Vec<String> {
+    numbers.iter().map(|number| format!("{number:016x}")).collect()
+}
+
+fn insert_all<K: Ord>(map: &mut BTreeMap<K, u64>, keys: Vec<K>) -> u64 {
+    let mut stored = 0u64;
+    for key in keys {
+        map.insert(key, stored);
+        stored += 1;
+    }
+    stored
+}
+
+fn peek_all<K: Ord>(map: &BTreeMap<K, u64>, keys: &[K]) -> u64 {
+    let mut sum = 0u64;
+    for key in keys {
+        if let Some(value) = map.get(key) {
+            sum = sum.wrapping_mul(31).wrapping_add(*value).wrapping_add(1);
+        }
+    }
+    sum
+}
+
+fn remove_all<K: Ord>(map: &mut BTreeMap<K, u64>, keys: &[K]) -> u64 {
+    let mut removed = 0u64;
+    for key in keys {
+        if map.remove(key).is_some() {
+            removed += 1;
+        }
+    }
+    removed
+}
+
+struct Scene<K> {
+    map: BTreeMap<K, u64>,
+    coming: Vec<K>,
+    asked: Vec<K>,
+}
+
+impl<K: Ord> Scene<K> {
+    fn empty(coming: Vec<K>, asked: Vec<K>) -> Self {
+        Scene {
+            map: BTreeMap::new(),
+            coming,
+            asked,
+        }
+    }
+
+    fn filled(keys: Vec<K>, coming: Vec<K>, asked: Vec<K>) -> Self {
+        let mut map = BTreeMap::new();
+        insert_all(&mut map, keys);
+        Scene { map, coming, asked }
+    }
+
+    fn run(&mut self, workload: Workload) -> u64 {
+        let coming = take(&mut self.coming);
+        match workload {
+            Workload::PeekHit | Workload::PeekMiss | Workload::PeekText => {
+                peek_all(&self.map, &self.asked)
+            }
+            Workload::RemoveRandom | Workload::RemoveMiddle => {
+                remove_all(&mut self.map, &self.asked)
+            }
+            Workload::BuildAndDrop => insert_all(&mut BTreeMap::new(), coming),
+            _ => insert_all(&mut self.map, coming),
+        }
+    }
+
+    fn sum(&self) -> u64 {
+        peek_all(&self.map, &self.asked).wrapping_add((self.map.len() as u64) << 32)
+    }
+
+    fn measure(mut self, workload: Workload) -> (Duration, usize, u64) {
+        let start = Instant::now();
+        let answers = self.run(workload);
+        let time = start.elapsed();
+        (time, self.asked.len(), answers.rotate_left(16) ^ self.sum())
+    }
+}
+
+fn scene_of_numbers(workload: Workload, size: usize) -> Scene<u64> {
+    let mut source = Numbers::new();
+    let keys = source.list(size);
+    let mut order = keys.clone();
+    source.shuffle(&mut order);
+    match workload {
+        Workload::InsertAscending => Scene::empty(ascending(0, size), ascending(0, size)),
+        Workload::UpsertRandom => Scene::filled(keys, order.clone(), order),
+        Workload::PeekMiss => Scene::filled(keys, Vec::new(), source.list(size)),
+        Workload::PeekHit | Workload::RemoveRandom => Scene::filled(keys, Vec::new(), order),
+        Workload::RemoveMiddle => {
+            let mut all = ascending(0, size);
+            source.shuffle(&mut all);
+            Scene::filled(all, Vec::new(), ascending(size / 4, size - size / 4))
+        }
+        _ => Scene::empty(keys, order),
+    }
+}
+
+fn scene_of_texts(workload: Workload, size: usize) -> Scene<String> {
+    let mut source = Numbers::new();
+    let mut numbers = source.list(size);
+    let keys = texts(&numbers);
+    source.shuffle(&mut numbers);
+    let order = texts(&numbers);
+    match workload {
+        Workload::PeekText => Scene::filled(keys, Vec::new(), order),
+        _ => Scene::empty(keys, order),
+    }
+}
+
+fn measure(workload: Workload, size: usize) -> (Duration, usize, u64) {
+    match workload {
+        Workload::InsertText | Workload::PeekText => scene_of_texts(workload, size).measure(workload),
+        _ => scene_of_numbers(workload, size).measure(workload),
+    }
+}
+
+fn show_checksums() {
+    for (workload, name) in ALL {
+        let (_, _, checksum) = measure(workload, FEW);
+        println!("{name} {checksum:016x}");
+    }
+}
+
+fn show_times(size: usize, repeats: usize) {
+    for (workload, name) in ALL {
+        let (mut least, calls, checksum) = measure(workload, size);
+        for _ in 1..repeats {
+            least = least.min(measure(workload, size).0);
+        }
+        let tenths = (least.as_nanos() * 10).checked_div(calls as u128).unwrap_or(0);
+        println!("{name} {}.{} {checksum:016x}", tenths / 10, tenths % 10);
+    }
+}
+
+fn greatest_resident() -> usize {
+    let status = read_to_string("/proc/self/status").expect("/proc/self/status can be read");
+    status
+        .lines()
+        .find_map(|line| line.strip_prefix("VmHWM:")?.trim().strip_suffix(" kB")?.parse().ok())
+        .expect("/proc/self/status tells the greatest resident size")
+}
+
+fn show_memory(size: usize) {
+    let before = greatest_resident();
+    let mut source = Numbers::new();
+    let mut map = BTreeMap::new();
+    for _ in 0..size {
+        let key = source.draw();
+        map.insert(key, key);
+    }
+    let grown = greatest_resident().saturating_sub(before);
+    println!("memory {} {}", (grown * 1024).checked_div(size).unwrap_or(0), map.len());
+}
+
+fn main() {
+    let words: Vec<String> = args().skip(1).collect();
+    let number = |word: &String| word.parse().ok();
+    match words.as_slice() {
+        [] => return show_checksums(),
+        [first, keys] if first == "memory" => {
+            if let Some(keys) = number(keys) {
+                return show_memory(keys);
+            }
+        }
+        [keys, repeats] => {
+            if let (Some(keys), Some(repeats)) = (number(keys), number(repeats)) {
+                return show_times(keys, repeats);
+            }
+        }
+        _ => {}
+    }
+    eprintln!("usage: btree [KEYS REPEATS | memory KEYS]");
+    exit(1);
+}

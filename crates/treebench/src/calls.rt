@@ -1,0 +1,56 @@
+//! What a workload does with an index: one call a key, and a number that all answers enter.
+use std::alloc::AllocError;
+use tree_index::{IndexKey, TreeIndex};
+
+/// Inserts the keys, each with its place in the list as the value, and counts them.
+pub fn insert_all<K: IndexKey>(
+    index: &mut TreeIndex<K, u64>,
+    keys: Vec<K>,
+) -> Result<u64, AllocError> {
+    let mut stored = 0u64;
+    for key in keys {
+        if index.insert_sync(key, stored).is_err() {
+            return Err(AllocError);
+        }
+        stored = stored.wrapping_add(1);
+    }
+    Ok(stored)
+}
+
+/// Upserts the keys, each with its place in the list as the value, and counts them.
+pub fn upsert_all<K: IndexKey>(
+    index: &mut TreeIndex<K, u64>,
+    keys: Vec<K>,
+) -> Result<u64, AllocError> {
+    let mut stored = 0u64;
+    for key in keys {
+        if index.upsert_sync(key, stored).is_err() {
+            return Err(AllocError);
+        }
+        stored = stored.wrapping_add(1);
+    }
+    Ok(stored)
+}
+
+/// Folds the values at the keys into a number, in the order of the list. Each enters greater by one, so that a value
+/// of 0 counts.
+pub fn peek_all<K: IndexKey>(index: &TreeIndex<K, u64>, keys: &[K]) -> u64 {
+    let mut sum = 0u64;
+    for key in keys {
+        if let Some(value) = index.peek(key) {
+            sum = sum.wrapping_mul(31).wrapping_add(*value).wrapping_add(1);
+        }
+    }
+    sum
+}
+
+/// Removes the keys, and counts those that were there.
+pub fn remove_all<K: IndexKey>(index: &mut TreeIndex<K, u64>, keys: &[K]) -> u64 {
+    let mut removed = 0u64;
+    for key in keys {
+        if index.remove_sync(key) {
+            removed = removed.wrapping_add(1);
+        }
+    }
+    removed
+}
