@@ -4,7 +4,7 @@ use Rattle.std.specs.List.{AllByRecursion}
 use Rattle.std.specs.declared.cmp.Ordering.{Ordering}
 use Rattle.std.specs.declared.cmp.Ordering.TheVariants.{Less}
 use Rattle.slab.specs.Slab.{get}
-use Rattle.tree_array.specs.Arrivals.{in_order, stored}
+use Rattle.tree_array.specs.Arrivals.{Arrivals, boundary, in_order, stored}
 use Rattle.tree_array.specs.Length.{limit}
 use Rattle.tree_leaf.specs.Chain.{IsChain}
 use Rattle.tree_leaf.specs.Counting.{times, uses}
@@ -91,3 +91,7 @@ pub record IsCut {K V : Type 0} (cmp : K → K → Ordering) (key : K) (count : 
   pub some : 0 < count
   pub within : count ≤ length entries
   pub stays : (count < length entries) ⊎ AllByRecursion (λ p. cmp p.0 key ≡ Less) entries
+
+-- So many first entries part from the others by the rule: those up to the boundary, or all of the last leaf.
+abbrev pub GoesLow : {K V : Type 0} → (K → K → Ordering) → ℕ → Bool → Arrivals K V → ℕ → Type 0
+GoesLow cmp len last array count = (count ≡ (boundary cmp len array).0) ⊎ ((last ≡ true) × ((boundary cmp len array).2 ≡ true) × (count ≡ (boundary cmp len array).1))

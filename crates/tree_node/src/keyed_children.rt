@@ -1,6 +1,6 @@
 //! The keyed children of a node: how they take one more, and how they are cut in two.
-ghost use Rattle.std.specs.Prelude.{◌≡◌, ◌+◌, ◌<◌, ◌≤◌, MatchOption, Some, take, drop, length, slice_get};
-ghost use Rattle.tree_array.specs.Arrivals.{in_order, stored};
+ghost use Rattle.std.specs.Prelude.{◌≡◌, ◌+◌, ◌<◌, ◌≤◌, IfSome, MatchOption, Some, take, drop, length, slice_get};
+ghost use Rattle.tree_array.specs.Arrivals.{boundary, in_order, stored};
 ghost use Rattle.tree_array.specs.Insertion.{HasRoom};
 ghost use Rattle.tree_array.specs.Length.{IsLen, limit};
 ghost use Rattle.tree_array.specs.Sound.{IsSound};
@@ -14,6 +14,7 @@ pub(crate) fn parting_place<K: Ord + Drop, I: Drop, const LEN: usize>(
     children: &ArrayOf<K, I, LEN>,
 ) -> Option<u8>
     ensures place { MatchOption result (length children.now.entries ≤ limit LEN) (λ place. (limit LEN < length children.now.entries) × (place < length children.now.entries)) }
+    ensures rule { IfSome result (λ place. place ≡ (boundary K.cmp LEN children.now).0) }
     ensures sound { IsSound K.cmp LEN children.now }
 {
     let (boundary, _, _) = children.optimal_boundary();

@@ -1,5 +1,5 @@
 //! How a leaf node makes room for a key whose leaf has none.
-ghost use Rattle.std.specs.Prelude.{◌≡◌, ℕ, ◌<◌, ◌≤◌, [], IfOk, MatchOption, OnErr, IsTrue, Some, take, drop, length, slice_get};
+ghost use Rattle.std.specs.Prelude.{◌≡◌, ℕ, ◌<◌, ◌≤◌, [], IfOk, IfSome, MatchOption, OnErr, IsTrue, Some, take, drop, length, slice_get};
 ghost use Rattle.std.specs.List.{AllByRecursion};
 ghost use Rattle.slab.specs.Slab.{get};
 ghost use Rattle.tree_array.specs.Arrivals.{in_order};
@@ -8,7 +8,7 @@ ghost use Rattle.tree_array.specs.Length.{IsLen, limit};
 ghost use Rattle.tree_array.specs.Sound.{IsSound};
 ghost use Rattle.tree_model.specs.Pairs.{IsAbsent};
 ghost use Rattle.tree_node.specs.Parts.{IsPart, Unchanged};
-ghost use Rattle.tree_node.specs.Splits.{HasMadeRoom, IsCut, PutsChild, RoomResult};
+ghost use Rattle.tree_node.specs.Splits.{GoesLow, HasMadeRoom, IsCut, PutsChild, RoomResult};
 ghost use Rattle.tree_node.specs.Tree.{HasChildFor, HasKind, keyed, leaf_entries};
 
 use crate::keyed_children::put_keyed;
@@ -63,6 +63,7 @@ fn low_count<K: Ord + Drop, V: Drop, const LEN: usize>(
     last: bool,
 ) -> Option<u8>
     ensures cut { MatchOption result (length array.now.entries ≤ limit LEN) (λ count. (limit LEN < length array.now.entries) × IsCut K.cmp key.now count array.now.entries) }
+    ensures rule { IfSome result (λ count. GoesLow K.cmp LEN last array.now count) }
     ensures sound { IsSound K.cmp LEN array.now }
 {
     let (boundary, count, ascended) = array.optimal_boundary();

@@ -1,6 +1,7 @@
 //! How a node makes room in a child node.
-ghost use Rattle.std.specs.Prelude.{◌≡◌, ◌⊎◌, ℕ, ◌<◌, ◌≤◌, ◌↔◌, IfOk, IsOk, OnErr, IsTrue, MatchOption, Some, length};
+ghost use Rattle.std.specs.Prelude.{◌≡◌, ◌⊎◌, ℕ, ◌<◌, ◌≤◌, ◌↔◌, IfOk, IfSome, IsOk, OnErr, IsTrue, MatchOption, Some, length};
 ghost use Rattle.slab.specs.Slab.{get};
+ghost use Rattle.tree_array.specs.Arrivals.{boundary};
 ghost use Rattle.tree_array.specs.Insertion.{HasRoom, IsFull};
 ghost use Rattle.tree_array.specs.Length.{IsLen, limit};
 ghost use Rattle.tree_array.specs.Sound.{IsSound};
@@ -93,6 +94,7 @@ fn takes_no_more<K: Ord + Drop, const LEN: usize>(node: &NodeOf<K, LEN>) -> bool
 /// built anew.
 fn place_to_part<K: Ord + Drop, const LEN: usize>(node: &NodeOf<K, LEN>) -> Option<u8>
     ensures place { MatchOption result (length (keyed node.now).entries ≤ limit LEN) (λ place. (limit LEN < length (keyed node.now).entries) × (place < length (keyed node.now).entries)) }
+    ensures rule { IfSome result (λ place. place ≡ (boundary K.cmp LEN (keyed node.now)).0) }
     ensures sound { IsSound K.cmp LEN (keyed node.now) }
 {
     match node {
