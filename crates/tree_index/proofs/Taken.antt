@@ -6,15 +6,17 @@ use Rattle.tree_array.specs.declared.answers.RemoveResult.{RemoveResult}
 use Rattle.tree_array.specs.declared.answers.RemoveResult.TheVariants.{Success, Retired, Fail}
 use Rattle.tree_model.specs.Pairs.{pair_at}
 use Rattle.tree_node.specs.Arenas.{TreeArenas}
-use Rattle.tree_node.specs.Lowering.{LowersRoot}
+use Rattle.tree_remove.specs.Lowering.{LowersRoot}
 use Rattle.tree_node.specs.Parts.{IsPart}
-use Rattle.tree_node.specs.Removes.{IsOfLevel, RemovesUnder, TakesOut}
+use Rattle.tree_node.specs.Tree.{IsOfLevel}
+use Rattle.tree_remove.specs.Removes.{RemovesUnder, TakesOut}
 use Rattle.tree_node.specs.Shape.{spare}
 use Rattle.tree_node.specs.Tree.{IsRetired, Stands, walk}
 use Rattle.tree_node.specs.Whole.{IsRetiredRoot, IsTree, spare_under}
 use Rattle.tree_node.proofs.Bare.{no_children}
 use Rattle.tree_node.proofs.Steps.{part_after}
-use Rattle.tree_node.proofs.Whole.{chain_after, leaves_after, nodes_after, spare_lowered, spare_standing, spare_unchanged, tree_lowered, tree_part, tree_unchanged, walk_unchanged}
+use Rattle.tree_node.proofs.Whole.{chain_after, leaves_after, nodes_after, spare_standing, spare_unchanged, tree_part, tree_unchanged, walk_unchanged}
+use Rattle.tree_remove.proofs.LoweredTrees.{spare_lowered, tree_lowered}
 use Rattle.tree_index.specs.declared.tree.Tree.{Tree}
 use Rattle.tree_index.specs.Trees.{IsWhole, Takes}
 

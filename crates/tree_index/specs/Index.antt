@@ -6,7 +6,7 @@ use Rattle.tree_model.specs.declared.commands.InsertError.{InsertError}
 use Rattle.tree_model.specs.declared.commands.InsertError.TheVariants.{Duplicate, OutOfMemory}
 use Rattle.tree_array.specs.declared.answers.StoreResult.{StoreResult}
 use Rattle.tree_node.specs.Arenas.{TreeArenas}
-use Rattle.tree_node.specs.Inserts.{Inserts, asks_split, declined, refused}
+use Rattle.tree_insert.specs.Inserts.{Inserts, asks_split, declined, refused}
 use Rattle.tree_node.specs.Whole.{IsTree, depth_of, spare_under, walk_under}
 use Rattle.tree_index.specs.declared.tree.Tree.{Tree}
 use Rattle.tree_index.specs.Trees.{pairs_of, spare_of}

@@ -3,7 +3,7 @@ use Rattle.std.specs.Prelude.{◌≡◌, ◌⊎◌, ℕ, suc, ◌-◌, ◌≤◌
 use Rattle.std.specs.declared.cmp.Ordering.{Ordering}
 use Rattle.tree_array.specs.declared.answers.StoreResult.{StoreResult}
 use Rattle.tree_model.specs.Edits.{RemovesIf}
-use Rattle.tree_node.specs.Inserts.{Inserts, asks_split, declined, refused}
+use Rattle.tree_insert.specs.Inserts.{Inserts, asks_split, declined, refused}
 use Rattle.tree_node.specs.Whole.{IsTree, depth_of, spare_under, walk_under}
 use Rattle.tree_index.specs.declared.tree.Tree.{Tree}
 

@@ -4,7 +4,7 @@ ghost use Rattle.std.specs.Fn.{FnOnceReturnsAt, FnOnceTakesAt};
 ghost use Rattle.std.specs.Option.{ForSome};
 ghost use Rattle.tree_array.specs.Length.{IsLen};
 ghost use Rattle.tree_model.specs.Pairs.{IsAbsent, pair_at};
-ghost use Rattle.tree_node.specs.Inserts.{IsNew};
+ghost use Rattle.tree_insert.specs.Inserts.{IsNew};
 ghost use Rattle.tree_node.specs.Shape.{room};
 ghost use Rattle.tree_node.specs.Tree.{IsRetired};
 ghost use Rattle.tree_node.specs.Whole.{depth_of, leaves_under};
@@ -13,13 +13,13 @@ ghost use Rattle.tree_index.specs.Trees.{IsWhole, Stores, Takes, pairs_of, spare
 use std::alloc::Global;
 use tree_array::array::{IndexKey, Judge, RemoveResult, StoreResult};
 use tree_leaf::arena::NodeId;
-use tree_node::insertion::insert_at;
+use tree_insert::insertion::insert_at;
 use tree_node::look_ups::search_at;
-use tree_node::lowering::lower_root_at;
+use tree_remove::lowering::lower_root_at;
 use tree_node::node::ArenasOf;
-use tree_node::planting::plant;
-use tree_node::removal::remove_at;
-use tree_node::root::split_root_at;
+use tree_insert::planting::plant;
+use tree_remove::removal::remove_at;
+use tree_insert::root::split_root_at;
 
 /// Arenas, and the root of the tree in them with its level, if there is one.
 #[derive(Drop)]

@@ -15,7 +15,7 @@ use Rattle.tree_node.specs.Tree.{HasChildFor, HasKind, IsRetired, IsRetiredNode,
 use Rattle.tree_node.proofs.ChildChanges.{front, back, was}
 use Rattle.tree_node.proofs.Children.{node_there}
 use Rattle.tree_node.proofs.Frames.{head_here}
-use Rattle.tree_node.proofs.LowSplits.{node_is}
+use Rattle.tree_node.proofs.Standing.{node_is}
 
 module _ {K V : Type 0} {LEN : ℕ} {cmp : K → K → Ordering} where
   kind_at : (level : ℕ) (a : TreeArenas K V LEN) (id : ℕ) → IsPart cmp (suc level) a id → (node : NodeOf K LEN) → get a.nodes id ≡ Some node → HasKind level node

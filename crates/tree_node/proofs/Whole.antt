@@ -9,11 +9,8 @@ use Rattle.tree_leaf.specs.Counting.{times, uses}
 use Rattle.tree_leaf.proofs.Chains.{same_array_refl}
 use Rattle.tree_leaf.proofs.Counts.{uses_same}
 use Rattle.tree_node.specs.Arenas.{TreeArenas}
-use Rattle.tree_node.specs.Depth.{HasNoKeyed}
-use Rattle.tree_node.specs.Lowering.{IsRootIfAny, LowersRoot}
 use Rattle.tree_node.specs.Parts.{IsPart, Replaces, Unchanged}
 use Rattle.tree_node.specs.Shape.{spare}
-use Rattle.tree_node.specs.Splits.{RaisesRoot}
 use Rattle.tree_node.specs.Tree.{Stands, leaves_at, leaves_of, nodes_at}
 use Rattle.tree_node.specs.Whole.{IsRetiredRoot, IsTop, IsTree, leaves_under, nodes_under, spare_under, walk_under}
 use Rattle.tree_node.proofs.Bare.{has_leaf}
@@ -48,36 +45,6 @@ module _ {K V : Type 0} {LEN : ℕ} {cmp : K → K → Ordering} where
 
     pub tree_after : IsTop cmp b (Some (id, level)) → IsTree cmp b (Some (id, level))
     tree_after top = record { top = top; nodes_once = nodes_after; leaves_once = leaves_after; chain = chain_after }
-
-  -- it stands under a new root
-  pub tree_raised : (a b : TreeArenas K V LEN) (root id depth : ℕ) → IsTree cmp a (Some (root, depth)) → RaisesRoot cmp depth a b root id → IsTree cmp b (Some (id, suc depth))
-  tree_raised a b root id depth tree r = record {
-    top = (omega arith, inl r.stands);
-    nodes_once = λ n. omega (arith, tree.nodes_once n, r.nodes_counted n);
-    leaves_once = λ n. omega (arith, tree.leaves_once n, r.leaves_counted n);
-    chain = whole_chain (r.chained [] [] (rw (append-nil (leaves_at depth a.nodes root)) tree.chain));
-  }
-    where
-      whole_chain : IsChain b.leaves (leaves_at (suc depth) b.nodes id ++ []) → IsChain b.leaves (leaves_at (suc depth) b.nodes id)
-      whole_chain chain = rw (append-nil (leaves_at (suc depth) b.nodes id)) at chain
-
-  -- or under what was left of it
-  pub tree_lowered : (a b : TreeArenas K V LEN) (id level : ℕ) (result : Option (ℕ × ℕ)) → ((n : ℕ) → times n (nodes_at level a.nodes id) ≡ uses a.nodes n) → ((n : ℕ) → times n (leaves_at level a.nodes id) ≡ uses a.leaves n)
-      → IsChain a.leaves (leaves_at level a.nodes id) → LowersRoot cmp level a b id result → IsTree cmp b result
-  tree_lowered a b id level result nodes leaves chain r = record {
-    top = as_top result r.stands;
-    nodes_once = λ n. omega (arith, nodes n, r.nodes_counted n);
-    leaves_once = λ n. omega (arith, leaves n, ap (times n) r.leaves_under, ap (λ slab. uses slab n) r.leaves);
-    chain = rw (r.leaves, r.leaves_under) chain;
-  }
-    where
-      as_top : (result : Option (ℕ × ℕ)) → IsRootIfAny cmp b result → IsTop cmp b result
-      as_top None root = tt
-      as_top (Some root) top = (top.0, by_root top.1)
-        where
-          by_root : ((IsPart cmp root.1 b root.0 × (1 < root.1 → HasNoKeyed (get b.nodes root.0) → ⊥)) ⊎ IsRetiredRoot b root.0 root.1) → (Stands cmp root.1 b None root.0 None ⊎ IsRetiredRoot b root.0 root.1)
-          by_root (inl part) = inl part.0.stands
-          by_root (inr gone) = inr gone
 
   -- what stands under every number is what it was
   pub tree_unchanged : (a b : TreeArenas K V LEN) (root : Option (ℕ × ℕ)) → Unchanged a b → IsTree cmp a root → IsTree cmp b root
@@ -148,7 +115,3 @@ module _ {K V : Type 0} {LEN : ℕ} where
       by_test : (b : Bool) → cond b 0 (spare level a id) ≤ spare level a id
       by_test true = omega arith
       by_test false = omega arith
-
-  -- a root that gives its place to another keeps the spare
-  pub spare_lowered : (cmp : K → K → Ordering) (a b : TreeArenas K V LEN) (id level : ℕ) (result : Option (ℕ × ℕ)) → LowersRoot cmp level a b id result → spare_under b result ≡ spare_under a (Some (id, level))
-  spare_lowered cmp a b id level result r = rw (r.leaves_under, r.leaves) refl

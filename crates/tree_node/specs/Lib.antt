@@ -1,12 +1,7 @@
 pub mod Arenas
-pub mod CleanUps
 pub mod Depth
 pub mod Ends
-pub mod Inserts
-pub mod Lowering
 pub mod Parts
-pub mod Removes
 pub mod Shape
-pub mod Splits
 pub mod Tree
 pub mod Whole

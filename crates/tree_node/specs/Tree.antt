@@ -59,6 +59,12 @@ module _ {K : Type 0} {LEN : ℕ} where
   HasKind (suc level) (Internal node) = ⊤
   HasKind (suc level) (Leaf node) = ⊥
 
+-- a node of the kind of this level
+abbrev pub IsOfLevel : {K : Type 0} {LEN : ℕ} → ℕ → Option (NodeOf K LEN) → Type 0
+IsOfLevel zero found = ⊤
+IsOfLevel (suc level) None = ⊥
+IsOfLevel (suc level) (Some node) = HasKind level node
+
 module _ {K V : Type 0} {LEN : ℕ} where
   -- the entries of the leaf under a number
   abbrev pub slot_entries : Option (LeafOf K V LEN) → List (K × V)

@@ -8,7 +8,7 @@ use Rattle.tree_leaf.specs.Counting.{times, uses}
 use Rattle.tree_node.specs.declared.node.NodeOf.{NodeOf}
 use Rattle.tree_node.specs.Arenas.{TreeArenas}
 use Rattle.tree_node.specs.Parts.{Unchanged}
-use Rattle.tree_node.specs.Removes.{IsOfLevel}
+use Rattle.tree_node.specs.Tree.{IsOfLevel}
 use Rattle.tree_node.specs.Shape.{least, leaf_free}
 use Rattle.tree_node.specs.Tree.{IsRetired, Stands, leaves_at, nodes_at, walk}
 

@@ -6,7 +6,7 @@ use tree_array::array::{ArrayOf, Judge};
 
 /// The child that the judge's key belongs to: that of the least separator that the key doesn't
 /// exceed, else the unbounded one. At most `LEN` comparisons.
-pub(crate) fn child_for<K: Ord + Drop, I: Copy + Drop, J: Judge<K>, const LEN: usize>(
+pub fn child_for<K: Ord + Drop, I: Copy + Drop, J: Judge<K>, const LEN: usize>(
     children: &ArrayOf<K, I, LEN>,
     unbounded: Option<I>,
     judge: &mut J,
@@ -23,7 +23,7 @@ pub(crate) fn child_for<K: Ord + Drop, I: Copy + Drop, J: Judge<K>, const LEN: u
 }
 
 /// The child that a key belongs to. At most `LEN` comparisons, which nobody counts.
-pub(crate) fn child_for_key<K: Ord + Drop, I: Copy + Drop, const LEN: usize>(
+pub fn child_for_key<K: Ord + Drop, I: Copy + Drop, const LEN: usize>(
     children: &ArrayOf<K, I, LEN>,
     unbounded: Option<I>,
     key: &K,

@@ -6,8 +6,7 @@ ghost use Rattle.tree_node.specs.Shape.{leaf_free, least};
 ghost use Rattle.tree_node.specs.Tree.{StandsOrRetired, in_turn, leaves_at, leaves_of};
 ghost use Rattle.tree_node.specs.Whole.{spare_under};
 
-use crate::node::{ArenasOf, NodeOf};
-use crate::root::slots_left;
+use crate::node::{ArenasOf, NodeOf, slots_left};
 use tree_array::array::{ArrayIter, ArrayOf};
 use tree_leaf::arena::{LeafId, NodeId};
 

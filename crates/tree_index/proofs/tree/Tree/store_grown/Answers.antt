@@ -3,7 +3,7 @@ use Rattle.std.proofs.Math.Facts.{Fits-of_lt}
 use Rattle.tree_node.proofs.Sizes.{fits}
 use Rattle.tree_node.specs.Tree.{IsRetiredNode}
 use Rattle.slab.specs.Slab.{ContainsKey, get}
-use Rattle.tree_node.proofs.Whole.{tree_raised}
+use Rattle.tree_insert.proofs.RaisedTrees.{tree_raised}
 use Rattle.tree_index.proofs.Stored.{childless_root, no_room_left, not_grown, part_or_retired, root_part, root_there, stored_raised}
 use Rattle.tree_index.proofs.tree.Tree.store_grown.Goals as goal
 

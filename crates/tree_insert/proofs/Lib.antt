@@ -1,0 +1,15 @@
+pub mod Boundaries
+pub mod Cuts
+pub mod Fulls
+pub mod Inserts
+pub mod LeafRooms
+pub mod LeafSplits
+pub mod LowSplits
+pub mod NodeRooms
+pub mod NodeSplits
+pub mod Places
+pub mod RaisedTrees
+pub mod Raises
+pub mod Rebuilds
+pub mod Results
+pub mod Retries

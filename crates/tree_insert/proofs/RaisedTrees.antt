@@ -1,0 +1,23 @@
+-- A whole tree whose root stands under a new one.
+use Rattle.std.proofs.Common.{◌≡◌, ℕ, suc, Some, [], ◌++◌, inl, arith}
+use Rattle.std.specs.declared.cmp.Ordering.{Ordering}
+use Rattle.std.proofs.lemmas.List.{append-nil}
+use Rattle.tree_leaf.specs.Chain.{IsChain}
+use Rattle.tree_leaf.specs.Counting.{times, uses}
+use Rattle.tree_node.specs.Arenas.{TreeArenas}
+use Rattle.tree_node.specs.Tree.{leaves_at, nodes_at}
+use Rattle.tree_node.specs.Whole.{IsTree}
+use Rattle.tree_insert.specs.Splits.{RaisesRoot}
+
+module _ {K V : Type 0} {LEN : ℕ} {cmp : K → K → Ordering} where
+  -- it is a whole tree with one level more
+  pub tree_raised : (a b : TreeArenas K V LEN) (root id depth : ℕ) → IsTree cmp a (Some (root, depth)) → RaisesRoot cmp depth a b root id → IsTree cmp b (Some (id, suc depth))
+  tree_raised a b root id depth tree r = record {
+    top = (omega arith, inl r.stands);
+    nodes_once = λ n. omega (arith, tree.nodes_once n, r.nodes_counted n);
+    leaves_once = λ n. omega (arith, tree.leaves_once n, r.leaves_counted n);
+    chain = whole_chain (r.chained [] [] (rw (append-nil (leaves_at depth a.nodes root)) tree.chain));
+  }
+    where
+      whole_chain : IsChain b.leaves (leaves_at (suc depth) b.nodes id ++ []) → IsChain b.leaves (leaves_at (suc depth) b.nodes id)
+      whole_chain chain = rw (append-nil (leaves_at (suc depth) b.nodes id)) at chain

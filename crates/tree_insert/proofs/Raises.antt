@@ -1,0 +1,157 @@
+-- A root that comes under a new one, in which it is split.
+use Rattle.std.proofs.Common.{◌≡◌, ℕ, zero, suc, ◌+◌, ◌-◌, ◌<◌, ◌==◌, cond, [], ◌∷◌, Some, None, is_some, refl, sym, ap, ◌∙◌, arith, add-one, sub-one, inl, inr}
+use Rattle.std.specs.declared.cmp.Ordering.{Ordering}
+use Rattle.std.proofs.lemmas.Bool.{cases_eq}
+use Rattle.std.proofs.lemmas.List.{append-nil}
+use Rattle.slab.specs.Slab.{get}
+use Rattle.tree_array.specs.Arrivals.{in_order}
+use Rattle.tree_array.specs.Length.{IsLen}
+use Rattle.tree_leaf.specs.Arena.{Gains, KeepsBoth}
+use Rattle.tree_leaf.specs.Counting.{times, uses}
+use Rattle.tree_leaf.proofs.Chains.{same_array_refl}
+use Rattle.tree_leaf.proofs.Counts.{times-cons, one_here, none_here, uses_some, uses_none, uses_same}
+use Rattle.tree_node.specs.declared.internal_node.InternalNodeOf.{InternalNodeOf}
+use Rattle.tree_node.specs.declared.node.NodeOf.TheVariants.{Internal}
+use Rattle.tree_node.specs.Arenas.{TreeArenas}
+use Rattle.tree_node.specs.Parts.{IsPart, Unchanged}
+use Rattle.tree_node.specs.Shape.{room}
+use Rattle.tree_insert.specs.Splits.{RaisesRoot, SplitsChild}
+use Rattle.tree_node.specs.Tree.{Stands, walk, leaves_at, nodes_at, children_of}
+use Rattle.tree_node.proofs.Frames.{Agrees, head_here, same_leaves, same_nodes, same_walk, same_stands}
+use Rattle.tree_node.proofs.Lifts.{single_leaves, single_nodes}
+use Rattle.tree_node.proofs.Unchanged.{chain_same, unchanged_by_keeping}
+use Rattle.tree_node.proofs.Walks.{walk-children}
+
+module _ {K V : Type 0} {LEN : ℕ} {cmp : K → K → Ordering} (level : ℕ) (old reserved mid : TreeArenas K V LEN) (root id : ℕ) (top : InternalNodeOf K LEN)
+    (part : IsPart cmp (suc level) old root) (keeps : KeepsBoth old reserved) (gains : Gains reserved.nodes mid.nodes id (Internal top)) (leaves : mid.leaves ≡ reserved.leaves)
+    (keyed_none : top.children ≡ in_order []) (last : top.unbounded_child ≡ Some root) where
+  same : Unchanged old reserved
+  same = unchanged_by_keeping old reserved keeps
+
+  was_free : get old.nodes id ≡ None
+  was_free = sym (same.nodes id) ∙ gains.was_free
+
+  nodes_stay : (n : ℕ) → (n ≡ id → ⊥) → get mid.nodes n ≡ get old.nodes n
+  nodes_stay n differs = gains.updates.others n differs ∙ same.nodes n
+
+  leaves_stay : (n : ℕ) → get mid.leaves n ≡ get old.leaves n
+  leaves_stay n = rw leaves (same.leaves n)
+
+  -- the root is the only child of the new one
+  top_children : children_of mid.nodes id ≡ root ∷ []
+  top_children = rw (gains.updates.changed, keyed_none, last) refl
+
+  agrees : Agrees (suc level) old mid root
+  agrees = record {
+    nodes = λ m below. nodes_stay m (λ at_id. omega (arith, part.nodes_once m, uses_none old.nodes m (rw at_id was_free), below));
+    leaves = λ m below. rw (leaves_stay m) (same_array_refl (get old.leaves m));
+  }
+
+  top_leaves : leaves_at (suc (suc level)) mid.nodes id ≡ leaves_at (suc level) old.nodes root
+  top_leaves = rw top_children (single_leaves (suc level) mid.nodes root ∙ same_leaves (suc level) old mid root agrees)
+
+  top_nodes : nodes_at (suc (suc level)) mid.nodes id ≡ id ∷ nodes_at (suc level) old.nodes root
+  top_nodes = rw top_children (ap (λ ids. id ∷ ids) (single_nodes (suc level) mid.nodes root ∙ same_nodes (suc level) old mid root agrees))
+
+  top_walk : walk (suc (suc level)) mid id ≡ walk (suc level) old root
+  top_walk = walk-children (suc level) mid id ∙ rw top_children (append-nil (walk (suc level) mid root) ∙ same_walk (suc level) old mid root agrees)
+
+  uses_now : (n : ℕ) → uses mid.nodes n ≡ uses old.nodes n + cond (id == n) 1 0
+  uses_now n = elim (cases_eq n id) [
+    | inl at_id ↦
+        let now : get mid.nodes n ≡ Some (Internal top) = rw at_id gains.updates.changed in
+        let before : get old.nodes n ≡ None = rw at_id was_free in
+        omega (arith, uses_some mid.nodes n (rw now refl), uses_none old.nodes n before, one_here n id at_id)
+    | inr differs ↦ omega (arith, uses_same old.nodes mid.nodes n (ap is_some (nodes_stay n differs)), none_here n id differs)
+  ]
+
+  top_stands : Stands cmp (suc (suc level)) mid None id None
+  top_stands = record {
+    node = Internal top;
+    here = gains.updates.changed;
+    kind = tt;
+    last = root;
+    last_is = last;
+    few = rw keyed_none (omega arith);
+    parted = rw keyed_none (same_stands cmp (suc level) old mid root agrees None None part.stands);
+  }
+
+  pub top_part : IsPart cmp (suc (suc level)) mid id
+  top_part = record {
+    stands = top_stands;
+    nodes_once = λ n. rw (top_nodes, times-cons n id) (omega (arith, uses_now n, part.nodes_once n));
+    front = part.front;
+    back = part.back;
+    chain = rw top_leaves (chain_same old.leaves mid.leaves leaves_stay _ part.chain);
+  }
+
+  pub root_inside : 0 < times root (children_of mid.nodes id)
+  root_inside = rw top_children (head_here root [])
+
+  -- the new root has room for a separator
+  pub top_room : IsLen LEN → 6 < room (suc (suc level)) mid id
+  top_room is_len = rw (gains.updates.changed, last, keyed_none) (by_len is_len)
+    where
+      by_len : IsLen LEN → 6 < LEN - 0
+      by_len (inl seven) = omega (arith, seven)
+      by_len (inr fifteen) = omega (arith, fifteen)
+
+  pub raises : IsLen LEN → (new : TreeArenas K V LEN) → SplitsChild cmp (suc (suc level)) mid new id root → RaisesRoot cmp (suc level) old new root id
+  raises is_len new split = record {
+    pairs = split.pairs ∙ top_walk;
+    stands = split.keeps None None top_stands;
+    nodes_counted = λ n.
+        omega (
+          arith,
+          split.replaces.nodes_counted n,
+          ap (times n) (single_nodes (suc (suc level)) mid.nodes id),
+          ap (times n) (single_nodes (suc (suc level)) new.nodes id),
+          ap (times n) top_nodes,
+          times-cons n id (nodes_at (suc level) old.nodes root),
+          uses_now n,
+        );
+    leaves_counted = λ n.
+        omega (
+          arith,
+          split.replaces.leaves_counted n,
+          ap (times n) (single_leaves (suc (suc level)) mid.nodes id),
+          ap (times n) (single_leaves (suc (suc level)) new.nodes id),
+          ap (times n) top_leaves,
+          uses_same old.leaves mid.leaves n (ap is_some (leaves_stay n)),
+        );
+    chained = λ front back chain.
+        rw (single_leaves (suc (suc level)) new.nodes id) at (split.replaces.chained front back (rw (single_leaves (suc (suc level)) mid.nodes id, top_leaves) (chain_same old.leaves mid.leaves leaves_stay _ chain)));
+    roomy = omega (arith, split.spends, top_room is_len);
+    routed = λ key child which. rw sub-one at (split.routed key (rw (gains.updates.changed, last, keyed_none) refl) child which);
+  }
+
+-- the same where the depth is a number of the program
+module _ {K V : Type 0} {LEN : ℕ} {cmp : K → K → Ordering} where
+  pub top_part_at : (depth : ℕ) → 0 < depth → (old reserved mid : TreeArenas K V LEN) (root id : ℕ) (top : InternalNodeOf K LEN) → IsPart cmp depth old root → KeepsBoth old reserved → Gains reserved.nodes mid.nodes id (Internal top) → mid.leaves ≡ reserved.leaves
+      → top.children ≡ in_order [] → top.unbounded_child ≡ Some root → IsPart cmp (depth + 1) mid id × (0 < times root (children_of mid.nodes id))
+  top_part_at zero deep old reserved mid root id top part keeps gains leaves keyed_none last = absurd (omega (arith, deep))
+  top_part_at (suc level) deep old reserved mid root id top part keeps gains leaves keyed_none last =
+      (rw add-one (top_part level old reserved mid root id top part keeps gains leaves keyed_none last), root_inside level old reserved mid root id top part keeps gains leaves keyed_none last)
+
+  pub top_room_at : (depth : ℕ) → 0 < depth → (old reserved mid : TreeArenas K V LEN) (root id : ℕ) (top : InternalNodeOf K LEN) → IsPart cmp depth old root → KeepsBoth old reserved → Gains reserved.nodes mid.nodes id (Internal top) → mid.leaves ≡ reserved.leaves
+      → top.children ≡ in_order [] → top.unbounded_child ≡ Some root → IsLen LEN → room (depth + 1) mid id ≡ 0 → ⊥
+  top_room_at zero deep old reserved mid root id top part keeps gains leaves keyed_none last is_len none = omega (arith, deep)
+  top_room_at (suc level) deep old reserved mid root id top part keeps gains leaves keyed_none last is_len none =
+      let some = top_room level old reserved mid root id top part keeps gains leaves keyed_none last is_len in
+      let zero_room : room (suc (suc level)) mid id ≡ 0 = rw add-one at none in
+      omega (arith, some, zero_room)
+
+  pub raises_at : (depth : ℕ) → 0 < depth → (old reserved mid : TreeArenas K V LEN) (root id : ℕ) (top : InternalNodeOf K LEN) → IsPart cmp depth old root → KeepsBoth old reserved → Gains reserved.nodes mid.nodes id (Internal top) → mid.leaves ≡ reserved.leaves
+      → top.children ≡ in_order [] → top.unbounded_child ≡ Some root → IsLen LEN → (new : TreeArenas K V LEN) → SplitsChild cmp (depth + 1) mid new id root → RaisesRoot cmp depth old new root id
+  raises_at zero deep old reserved mid root id top part keeps gains leaves keyed_none last is_len new split = absurd (omega (arith, deep))
+  raises_at (suc level) deep old reserved mid root id top part keeps gains leaves keyed_none last is_len new split = raises level old reserved mid root id top part keeps gains leaves keyed_none last is_len new (rw add-one at split)
+
+-- the part under the new root is one, so that a pair is inserted there next
+pub raised_part : {K V : Type 0} {LEN : ℕ} {cmp : K → K → Ordering} (depth : ℕ) (old new : TreeArenas K V LEN) (root id : ℕ) → IsPart cmp depth old root → RaisesRoot cmp depth old new root id → IsPart cmp (suc depth) new id
+raised_part depth old new root id part raised = record {
+  stands = raised.stands;
+  nodes_once = λ n. omega (arith, part.nodes_once n, raised.nodes_counted n);
+  front = part.front;
+  back = part.back;
+  chain = raised.chained part.front part.back part.chain;
+}

@@ -1,0 +1,154 @@
+-- An insert that met a full child: what it answers where no room is made, and where it is tried again.
+use Rattle.std.proofs.Common.{◌≡◌, ℕ, zero, suc, ◌-◌, ◌<◌, Bool, true, false, List, [], ◌∷◌, None, Result, Ok, Err, refl, sym, ◌∙◌, arith, sub-one}
+use Rattle.std.specs.declared.cmp.Ordering.{Ordering}
+use Rattle.std.specs.Cmp.{IsTotalOrder}
+use Rattle.slab.specs.Slab.{get}
+use Rattle.tree_array.specs.declared.answers.StoreResult.{StoreResult}
+use Rattle.tree_array.specs.declared.answers.StoreResult.TheVariants.{New, Replaced, Duplicate, Full}
+use Rattle.tree_node.specs.Arenas.{TreeArenas}
+use Rattle.tree_insert.specs.Inserts.{Inserts, InsertsUnder, IsNew, asks_split, declined}
+use Rattle.tree_node.specs.Parts.{IsPart, Unchanged}
+use Rattle.tree_node.specs.Shape.{IsCrowded, room, spare}
+use Rattle.tree_insert.specs.Splits.{HasMadeRoom, LacksRoom, SplitsChild}
+use Rattle.tree_node.specs.Tree.{HasChildFor, Stands, walk}
+use Rattle.tree_node.proofs.ChildChanges.{child_part, new_walk, old_spare, old_walk}
+use Rattle.tree_node.proofs.Frames.{same_stands, same_walk}
+use Rattle.tree_insert.proofs.Fulls.{crowded_above, crowded_room}
+use Rattle.tree_insert.proofs.Inserts.{inserted_between, inserts_in_node}
+use Rattle.tree_node.proofs.Steps.{part_after, replaces_trans}
+use Rattle.tree_node.proofs.Unchanged.{unchanged_agrees, unchanged_held, unchanged_part, unchanged_replaces, unchanged_room, unchanged_trans}
+use Rattle.tree_node.proofs.Walks.{front_walk_below, back_walk_above}
+
+module _ {K V : Type 0} {LEN : ℕ} (cmp : K → K → Ordering) (upsert : Bool) where
+  -- the child for the key was full: the part is what it was, and the pair is the caller's
+  pub record IsFullBelow (level : ℕ) (old mid : TreeArenas K V LEN) (id : ℕ) (key : K) (val : V) (k : K) (v : V) : Type 0 where
+    pub same : Unchanged old mid
+    pub absent : IsNew cmp upsert (walk level old id) key
+    pub same_key : k ≡ key
+    pub same_val : v ≡ val
+    pub spent : spare level old id ≡ 0
+    pub part : IsPart cmp level mid id
+
+-- a new pair that asks for no split is taken, or refused for want of memory
+accepted : {K V : Type 0} (cmp : K → K → Ordering) (upsert : Bool) (pairs left : List (K × V)) (key : K) (val : V) → IsNew cmp upsert pairs key
+    → (result : Result (StoreResult K V) (K × V)) → Inserts cmp upsert result pairs key val left → asks_split result ≡ false → declined result ≡ false
+accepted cmp upsert pairs left key val absent (Ok New) ins no_split = refl
+accepted cmp upsert pairs left key val absent (Ok Replaced) ins no_split = refl
+accepted cmp upsert pairs left key val absent (Ok (Duplicate k v)) ins no_split = absurd (let present = rw (absent ins.0) at ins.1 in cc)
+accepted cmp upsert pairs left key val absent (Ok (Full k v)) ins no_split = absurd (cc)
+accepted cmp upsert pairs left key val absent (Err pair) ins no_split = refl
+
+module _ {K V : Type 0} {LEN : ℕ} {cmp : K → K → Ordering} (upsert : Bool) (level : ℕ) (old mid : TreeArenas K V LEN) (id : ℕ) (key : K) (val : V) (k : K) (v : V) (below : IsFullBelow cmp upsert level old mid id key val k v) where
+  -- nothing has changed since
+  module _ (new : TreeArenas K V LEN) (still : Unchanged mid new) where
+    whole : Unchanged old new
+    whole = unchanged_trans old mid new below.same still
+
+    pairs_same : walk level new id ≡ walk level old id
+    pairs_same = same_walk level old new id (unchanged_agrees level old new whole id)
+
+    -- memory was refused
+    pub refused_room : InsertsUnder cmp upsert level old new id (Err (k, v)) key val
+    refused_room = record {
+      pairs = (below.absent, below.same_key, below.same_val, pairs_same);
+      stands = λ low high above up_to s. same_stands cmp level old new id (unchanged_agrees level old new whole id) low high s;
+      replaces = unchanged_replaces level old new whole (id ∷ []);
+      lowers = omega (arith, below.spent);
+      spent = λ so. below.spent;
+      full = λ so. absurd (cc);
+      unchanged = λ so. absurd (cc);
+    }
+
+    still_full : IsCrowded cmp level old id key → InsertsUnder cmp upsert level old new id (Ok (Full k v)) key val
+    still_full crowded = record {
+      pairs = (below.absent, below.same_key, below.same_val, pairs_same);
+      stands = λ low high above up_to s. same_stands cmp level old new id (unchanged_agrees level old new whole id) low high s;
+      replaces = unchanged_replaces level old new whole (id ∷ []);
+      lowers = omega (arith, below.spent);
+      spent = λ so. below.spent;
+      full = λ so. crowded;
+      unchanged = λ so. whole;
+    }
+
+  -- the node takes no child more itself
+  pub no_room_either : 0 < level → (new : TreeArenas K V LEN) (child : ℕ) → HasChildFor cmp key (get old.nodes id) child → InsertsUnder cmp upsert (level - 1) old mid child (Ok (Full k v)) key val → LacksRoom level mid new id child
+      → InsertsUnder cmp upsert level old new id (Ok (Full k v)) key val
+  no_room_either deep new child which ins lacks =
+      still_full new lacks.unchanged
+      (crowded_above cmp level deep old id child key
+      (sym (unchanged_room level old mid below.same id) ∙ lacks.full) which (rw (unchanged_held (level - 1) old mid below.same child) at lacks.many) (ins.full refl))
+
+  -- room was made, and the pair inserted
+  pub inserted_again : (made new : TreeArenas K V LEN) (result : Result (StoreResult K V) (K × V)) → HasMadeRoom cmp level mid made id key → InsertsUnder cmp upsert level made new id result key val → asks_split result ≡ false
+      → InsertsUnder cmp upsert level old new id result key val
+  inserted_again made new result room ins no_split =
+      let walked : walk level made id ≡ walk level old id = room.pairs ∙ same_walk level old mid id (unchanged_agrees level old mid below.same id) in
+      let pairs : Inserts cmp upsert result (walk level old id) key val (walk level new id) = rw (← walked) ins.pairs in
+      let taken = accepted cmp upsert (walk level old id) (walk level new id) key val below.absent result pairs no_split in
+      record {
+        pairs = pairs;
+        stands = λ low high above up_to s.
+            ins.stands low high above up_to (room.stands low high above up_to (same_stands cmp level old mid id (unchanged_agrees level old mid below.same id) low high s));
+        replaces = replaces_trans level old made new (id ∷ []) (id ∷ []) (id ∷ [])
+            (replaces_trans level old mid made (id ∷ []) (id ∷ []) (id ∷ []) (unchanged_replaces level old mid below.same (id ∷ [])) room.replaces) ins.replaces;
+        lowers = omega (arith, below.spent);
+        spent = λ so. below.spent;
+        full = λ so. absurd (let both = sym so ∙ no_split in cc);
+        unchanged = λ so. absurd (let both = sym so ∙ taken in cc);
+      }
+
+  -- the part is one still where room was made
+  pub part_with_room : (made : TreeArenas K V LEN) → HasMadeRoom cmp level mid made id key → IsPart cmp level made id
+  part_with_room made room = part_after cmp level mid made id below.part (room.stands None None tt tt below.part.stands) room.replaces
+
+module _ {K V : Type 0} {LEN : ℕ} {cmp : K → K → Ordering} {upsert : Bool} {level : ℕ} {old new : TreeArenas K V LEN} {child : ℕ} {key : K} {val : V} where
+  -- an answer asks for no split where there is room
+  pub no_split_with_room : (result : Result (StoreResult K V) (K × V)) → InsertsUnder cmp upsert level old new child result key val → 0 < room level old child → asks_split result ≡ false
+  no_split_with_room result ins some = by_answer (asks_split result) refl
+    where
+      by_answer : (b : Bool) → asks_split result ≡ b → b ≡ false
+      by_answer false e = refl
+      by_answer true e = absurd (omega (arith, some, crowded_room cmp level old child key (ins.full e)))
+
+-- a split of the key's child makes room for the key
+pub room_by_split : {K V : Type 0} {LEN : ℕ} {cmp : K → K → Ordering} {level : ℕ} {old new : TreeArenas K V LEN} {id child : ℕ} (key : K) → SplitsChild cmp level old new id child → HasChildFor cmp key (get old.nodes id) child → HasMadeRoom cmp level old new id key
+room_by_split key split which = record {
+  pairs = split.pairs;
+  stands = λ low high above up_to s. split.keeps low high s;
+  replaces = split.replaces;
+  spends = split.spends;
+  child = split.routed key which;
+}
+
+module _ {K V : Type 0} {LEN : ℕ} {cmp : K → K → Ordering} (o : IsTotalOrder cmp) (upsert : Bool) (level : ℕ) (old new : TreeArenas K V LEN) (id child : ℕ) (key : K) (val : V) where
+  -- the child answered that it is full
+  pub full_below : (k : K) (v : V) → IsPart cmp (suc level) old id → HasChildFor cmp key (get old.nodes id) child → InsertsUnder cmp upsert level old new child (Ok (Full k v)) key val → IsFullBelow cmp upsert (suc level) old new id key val k v
+  full_below k v part which ins =
+      let s : Stands cmp (suc level) old None id None = part.stands in
+      let pairs : Inserts cmp upsert (Ok (Full k v)) (walk (suc level) old id) key val (walk (suc level) new id) =
+      rw (old_walk o level old id child key part which None None s new ins.replaces, new_walk o level old id child key part which None None s new ins.replaces)
+      (inserted_between o upsert key val _ _ _ _ (front_walk_below o level old None id None s key) (back_walk_above o level old None id None s key) (Ok (Full k v)) ins.pairs) in
+      record {
+        same = ins.unchanged refl;
+        absent = pairs.0;
+        same_key = pairs.1;
+        same_val = pairs.2;
+        spent = omega (arith, old_spare o level old id child key part which None None s new ins.replaces, ins.spent refl);
+        part = unchanged_part (suc level) old new (ins.unchanged refl) cmp id part;
+      }
+
+-- the same where the level is a number of the program
+module _ {K V : Type 0} {LEN : ℕ} {cmp : K → K → Ordering} (o : IsTotalOrder cmp) (upsert : Bool) where
+  pub full_below_at : (level : ℕ) → 0 < level → (old new : TreeArenas K V LEN) (id child : ℕ) (key : K) (val : V) (k : K) (v : V) → IsPart cmp level old id → HasChildFor cmp key (get old.nodes id) child
+      → InsertsUnder cmp upsert (level - 1) old new child (Ok (Full k v)) key val → IsFullBelow cmp upsert level old new id key val k v
+  full_below_at zero deep old new id child key val k v part which ins = absurd (omega (arith, deep))
+  full_below_at (suc level) deep old new id child key val k v part which ins = full_below o upsert level old new id child key val k v part which (rw sub-one at ins)
+
+  pub inserts_in_node_at : (level : ℕ) → 0 < level → (old new : TreeArenas K V LEN) (id child : ℕ) (key : K) (val : V) (result : Result (StoreResult K V) (K × V)) → IsPart cmp level old id → HasChildFor cmp key (get old.nodes id) child
+      → InsertsUnder cmp upsert (level - 1) old new child result key val → asks_split result ≡ false → InsertsUnder cmp upsert level old new id result key val
+  inserts_in_node_at zero deep old new id child key val result part which ins no_split = absurd (omega (arith, deep))
+  inserts_in_node_at (suc level) deep old new id child key val result part which ins no_split = inserts_in_node o upsert level old new id child key val result part which (rw sub-one at ins) no_split
+
+pub child_part_at : {K V : Type 0} {LEN : ℕ} {cmp : K → K → Ordering} → IsTotalOrder cmp → (level : ℕ) → 0 < level → (a : TreeArenas K V LEN) (id child : ℕ) (key : K) → IsPart cmp level a id → HasChildFor cmp key (get a.nodes id) child → IsPart cmp (level - 1) a child
+child_part_at o zero deep a id child key part which = absurd (omega (arith, deep))
+child_part_at o (suc level) deep a id child key part which = rw sub-one (child_part o level a id child key part which None None part.stands)

@@ -1,0 +1,2 @@
+pub mod Inserts
+pub mod Splits

@@ -1,4 +1,0 @@
-use Rattle.tree_node.proofs.node.NodeOf.cleanup_root.Given as goal
-
-abbrev pub ghost-level_of_root : goal.ghost-level_of_root
-ghost-level_of_root g a = g.height

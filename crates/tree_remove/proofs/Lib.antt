@@ -1,0 +1,14 @@
+pub mod ChildDrops
+pub mod Descents
+pub mod EmptyNodes
+pub mod LeafDrops
+pub mod LeafRemovals
+pub mod Losses
+pub mod LoweredTrees
+pub mod Lowerings
+pub mod NodeDrops
+pub mod NodeRemovals
+pub mod NodeWrites
+pub mod OnlyLeaves
+pub mod PartHeights
+pub mod Splits

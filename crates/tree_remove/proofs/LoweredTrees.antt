@@ -1,0 +1,36 @@
+-- What a whole tree is when its root has given its place to what was left of it.
+use Rattle.std.proofs.Common.{◌≡◌, ◌⊎◌, ℕ, ◌<◌, Option, Some, None, inl, inr, refl, ap, arith}
+use Rattle.std.specs.declared.cmp.Ordering.{Ordering}
+use Rattle.slab.specs.Slab.{get}
+use Rattle.tree_leaf.specs.Chain.{IsChain}
+use Rattle.tree_leaf.specs.Counting.{times, uses}
+use Rattle.tree_node.specs.Arenas.{TreeArenas}
+use Rattle.tree_node.specs.Depth.{HasNoKeyed}
+use Rattle.tree_node.specs.Parts.{IsPart}
+use Rattle.tree_node.specs.Tree.{Stands, leaves_at, nodes_at}
+use Rattle.tree_node.specs.Whole.{IsRetiredRoot, IsTop, IsTree, spare_under}
+use Rattle.tree_remove.specs.Lowering.{IsRootIfAny, LowersRoot}
+
+module _ {K V : Type 0} {LEN : ℕ} {cmp : K → K → Ordering} where
+  -- it is a whole tree still
+  pub tree_lowered : (a b : TreeArenas K V LEN) (id level : ℕ) (result : Option (ℕ × ℕ)) → ((n : ℕ) → times n (nodes_at level a.nodes id) ≡ uses a.nodes n) → ((n : ℕ) → times n (leaves_at level a.nodes id) ≡ uses a.leaves n)
+      → IsChain a.leaves (leaves_at level a.nodes id) → LowersRoot cmp level a b id result → IsTree cmp b result
+  tree_lowered a b id level result nodes leaves chain r = record {
+    top = as_top result r.stands;
+    nodes_once = λ n. omega (arith, nodes n, r.nodes_counted n);
+    leaves_once = λ n. omega (arith, leaves n, ap (times n) r.leaves_under, ap (λ slab. uses slab n) r.leaves);
+    chain = rw (r.leaves, r.leaves_under) chain;
+  }
+    where
+      as_top : (result : Option (ℕ × ℕ)) → IsRootIfAny cmp b result → IsTop cmp b result
+      as_top None root = tt
+      as_top (Some root) top = (top.0, by_root top.1)
+        where
+          by_root : ((IsPart cmp root.1 b root.0 × (1 < root.1 → HasNoKeyed (get b.nodes root.0) → ⊥)) ⊎ IsRetiredRoot b root.0 root.1) → (Stands cmp root.1 b None root.0 None ⊎ IsRetiredRoot b root.0 root.1)
+          by_root (inl part) = inl part.0.stands
+          by_root (inr gone) = inr gone
+
+module _ {K V : Type 0} {LEN : ℕ} where
+  -- a root that gives its place to another keeps the spare
+  pub spare_lowered : (cmp : K → K → Ordering) (a b : TreeArenas K V LEN) (id level : ℕ) (result : Option (ℕ × ℕ)) → LowersRoot cmp level a b id result → spare_under b result ≡ spare_under a (Some (id, level))
+  spare_lowered cmp a b id level result r = rw (r.leaves_under, r.leaves) refl

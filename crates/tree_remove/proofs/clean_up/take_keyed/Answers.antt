@@ -1,0 +1,28 @@
+use Rattle.std.proofs.Common.{rules, IsSome, refl}
+use Rattle.slab.specs.Slab.{ContainsKey}
+use Rattle.tree_array.specs.Arrivals.{arrival}
+use Rattle.tree_remove.proofs.NodeWrites.{has_node, leaf_keyed_taken, internal_keyed_taken}
+use Rattle.tree_remove.proofs.clean_up.take_keyed.Goals as goal
+
+pub node_mut-requires : goal.node_mut-requires
+node_mut-requires g c =
+    let there : ContainsKey c.args.arenas.now.nodes c.args.id = has_node _ _ c.requires in
+    search rules
+
+pub take-requires : goal.take-requires
+take-requires g c =
+    let there : IsSome (arrival c.in-Leaf.node.children.arrivals c.args.slot) = rw (c.node_mut.ensures.value, c.in-Leaf.is) at c.requires in
+    search rules
+
+pub take-requires-in-Internal : goal.take-requires-in-Internal
+take-requires-in-Internal g c =
+    let there : IsSome (arrival c.in-Internal.node.children.arrivals c.args.slot) = rw (c.node_mut.ensures.value, c.in-Internal.is) at c.requires in
+    search rules
+
+pub returns-in-Leaf-clause-nodes : goal.returns-in-Leaf-clause-nodes
+returns-in-Leaf-clause-nodes g c =
+    leaf_keyed_taken g.K.Ord.cmp c.args.arenas.now.nodes c.args.id c.in-Leaf.node _ _ _ (rw c.in-Leaf.is at c.node_mut.ensures.value) c.take.ensures.pair c.take.ensures.left refl
+
+pub returns-in-Internal-clause-nodes : goal.returns-in-Internal-clause-nodes
+returns-in-Internal-clause-nodes g c =
+    internal_keyed_taken g.K.Ord.cmp c.args.arenas.now.nodes c.args.id c.in-Internal.node _ _ _ (rw c.in-Internal.is at c.node_mut.ensures.value) c.take-in-Internal.ensures.pair c.take-in-Internal.ensures.left refl

@@ -1,0 +1,48 @@
+use Rattle.std.proofs.Common.{rules, ◌≡◌, ◌⊎◌, ◌<◌, ◌-◌, false, true, inl, sym, ◌∙◌, arith}
+use Rattle.slab.specs.Slab.{ContainsKey, get}
+use Rattle.tree_node.specs.Parts.{IsPart}
+use Rattle.tree_node.specs.Tree.{IsOfLevel}
+use Rattle.tree_node.specs.Tree.{IsRetired}
+use Rattle.tree_remove.proofs.Descents.{node_at}
+use Rattle.tree_remove.proofs.Lowerings.{leaf_node_stays, keyed_stays, retired_gone, over_one, of_level}
+use Rattle.tree_node.proofs.Sizes.{fits}
+use Rattle.tree_remove.proofs.lowering.+lower_root_at.Goals as goal
+
+pub node-requires : goal.node-requires
+node-requires g t c =
+    let there : ContainsKey c.args.arenas.now.nodes c.args.root = node_at g.K.Ord.cmp c.args.level c.args.arenas.now c.args.root c.requires.node c.requires.part in
+    search rules
+
+pub returns-then-not-is_empty : goal.returns-then-not-is_empty
+returns-then-not-is_empty g t c =
+    keyed_stays g.K.Ord.cmp c.args.arenas.now c.args.root c.args.level c.requires.node c.requires.part c.in-Internal.node (rw c.in-Internal.is at c.node.ensures)
+    (λ none. let both : false ≡ true = sym c.if-not-is_empty.true ∙ c.is_empty.ensures.1 none in cc)
+
+pub remove_node-requires : goal.remove_node-requires
+remove_node-requires g t c =
+    let there : ContainsKey c.args.arenas.now.nodes c.args.root = node_at g.K.Ord.cmp c.args.level c.args.arenas.now c.args.root c.requires.node c.requires.part in
+    search rules
+
+pub returns-in_err-below-in-Internal : goal.returns-in_err-below-in-Internal
+returns-in_err-below-in-Internal g t c =
+    rw c.from_residual.ensures
+    (retired_gone g.K.Ord.cmp c.args.arenas.now c.args.root c.remove_node.new.self c.in-Internal.node _ (rw c.in-Internal.is at c.node.ensures) c.remove_node.ensures.nodes c.remove_node.ensures.leaves c.args.level c.requires.node c.requires.part
+    c.in_err-below-in-Internal.was)
+
+pub lower_root_at-requires : goal.lower_root_at-requires
+lower_root_at-requires g t c κs within =
+    let over = over_one g.K.Ord.cmp c.args.arenas.now c.args.root c.remove_node.new.self c.in-Internal.node _ c.in_ok-below-in-Internal.field-0 c.args.level (rw c.in-Internal.is at c.node.ensures) c.remove_node.ensures.nodes c.remove_node.ensures.leaves
+    c.requires.node c.requires.part c.requires.kind (c.is_empty.ensures.0 c.if-not-is_empty.false) c.in_ok-below-in-Internal.was in
+    let inner : 0 < c.args.level - 1 = rw over.level_below (omega arith) in
+    let part : IsPart g.K.Ord.cmp (c.args.level - 1) c.remove_node.new.self c.in_ok-below-in-Internal.field-0 ⊎ IsRetired (c.args.level - 1) c.remove_node.new.self c.in_ok-below-in-Internal.field-0 = rw over.level_below (inl over.part) in
+    let kind : IsOfLevel (c.args.level - 1) (get c.remove_node.new.self.nodes c.in_ok-below-in-Internal.field-0) = rw over.level_below (of_level over.below over.part) in
+    (search rules, (within.0, (within.1, (search rules, (search rules, (search fits, (inner, (part, kind))))))))
+
+pub returns-in_ok-below-in-Internal : goal.returns-in_ok-below-in-Internal
+returns-in_ok-below-in-Internal g t c =
+    let over = over_one g.K.Ord.cmp c.args.arenas.now c.args.root c.remove_node.new.self c.in-Internal.node _ c.in_ok-below-in-Internal.field-0 c.args.level (rw c.in-Internal.is at c.node.ensures) c.remove_node.ensures.nodes c.remove_node.ensures.leaves
+    c.requires.node c.requires.part c.requires.kind (c.is_empty.ensures.0 c.if-not-is_empty.false) c.in_ok-below-in-Internal.was in
+    rw over.level_is (over.on _ _ (rw over.level_below at c.lower_root_at.ensures))
+
+pub returns-in-Leaf : goal.returns-in-Leaf
+returns-in-Leaf g t c = leaf_node_stays g.K.Ord.cmp c.args.arenas.now c.args.root c.args.level c.requires.node c.requires.part c.requires.kind _ (rw c.in-Leaf.is at c.node.ensures)

@@ -1,0 +1,17 @@
+use Rattle.tree_node.proofs.Children.{walk-leaf}
+use Rattle.tree_remove.proofs.LeafRemovals.{leaf_settled, removes_in_leaf}
+use Rattle.tree_node.proofs.Sizes.{fits}
+use Rattle.tree_remove.proofs.removal.remove_in_leaf.Goals as goal
+
+pub remove_if-requires : goal.remove_if-requires
+remove_if-requires g c = (search fits, rw c.array_mut.ensures.value (rw (walk-leaf c.args.arenas.now c.args.id c.leaf_mut.result.now c.leaf_mut.ensures.value) at c.requires.callable))
+
+pub returns-clause-removes : goal.returns-clause-removes
+returns-clause-removes g c =
+    let asked = rw c.array_mut.ensures.value at c.remove_if.ensures in
+    removes_in_leaf g.met.K.Ord.total _ c.args.arenas.now c.args.id c.leaf_mut.result.now c.remove_if.new.self c.args.key.now c.leaf_mut.ensures.value c.remove_if.result asked.absent asked.present
+
+pub returns-clause-settled : goal.returns-clause-settled
+returns-clause-settled g c =
+    let asked = rw c.array_mut.ensures.value at c.remove_if.ensures in
+    leaf_settled g.met.K.Ord.total _ c.args.arenas.now c.args.id c.leaf_mut.result.now c.remove_if.new.self c.args.key.now c.leaf_mut.ensures.value c.remove_if.result asked.absent asked.present

@@ -1,0 +1,93 @@
+-- How a retired child is taken out of its node and dropped, and what that leaves.
+use Rattle.std.specs.Prelude.{◌≡◌, ℕ, List, [], ◌∷◌, ◌++◌, Option, None, Some, IsSome, ⊤}
+use Rattle.std.specs.declared.cmp.Ordering.{Ordering}
+use Rattle.slab.specs.Slab.{Slab, get, Updates}
+use Rattle.tree_array.specs.declared.answers.RemoveResult.{RemoveResult}
+use Rattle.tree_array.specs.declared.answers.RemoveResult.TheVariants.{Success, Retired, Fail}
+use Rattle.tree_array.specs.Arrivals.{Arrivals, arrival, least_from, removed}
+use Rattle.tree_node.specs.declared.node.NodeOf.{NodeOf}
+use Rattle.tree_node.specs.Arenas.{TreeArenas}
+use Rattle.tree_node.specs.Parts.{Replaces}
+use Rattle.tree_node.specs.Tree.{IsOfLevel}
+use Rattle.tree_node.specs.Tree.{keyed, unbounded, children_of, HasKind, IsRetired, walk}
+
+module _ {K : Type 0} (cmp : K → K → Ordering) where
+  -- the child that a key belongs to: a keyed one, whose separator stands in this slot, or else the unbounded one
+  abbrev pub IsChildAt : {X : Type 0} → K → Arrivals K X → Option X → X → Option ℕ → Type 0
+  IsChildAt key children last child None = (least_from cmp children.entries key ≡ None) × (last ≡ Some child)
+  IsChildAt key children last child (Some slot) =
+      (separator : K) × (arrival children.arrivals slot ≡ Some (separator, child)) × (least_from cmp children.entries key ≡ Some (separator, child)) × IsSome last
+
+  -- the child of the greatest separator moves to the place of the unbounded one, or there is none
+  abbrev pub MovesLast : {X : Type 0} → Arrivals K X → Arrivals K X → Option X → RemoveResult → Type 0
+  MovesLast old new last Success =
+      (separator : K) × (child : _) × (front : List _) × (old.entries ≡ front ++ (separator, child) ∷ []) × (new ≡ removed cmp old separator) × (last ≡ Some child)
+  MovesLast old new last Retired = (old.entries ≡ []) × (new ≡ old) × (last ≡ None)
+  MovesLast old new last Fail = ⊥
+
+  module _ {LEN : ℕ} (old new : Slab (NodeOf K LEN)) (id : ℕ) where
+    -- the keyed child of a slot is taken out of the node under a number
+    pub record TakesKeyed (slot : ℕ) : Type 0 where
+      pub node : NodeOf K LEN
+      pub left : NodeOf K LEN
+      pub was : get old id ≡ Some node
+      pub updates : Updates old new id (Some left)
+      pub kind : (level : ℕ) → HasKind level node → HasKind level left
+      pub pair : K × ℕ
+      pub there : arrival (keyed node).arrivals slot ≡ Some pair
+      pub others : keyed left ≡ removed cmp (keyed node) pair.0
+      pub same_unbounded : unbounded left ≡ unbounded node
+
+    -- the unbounded child is taken out of it
+    pub record TakesUnbounded (result : RemoveResult) : Type 0 where
+      pub node : NodeOf K LEN
+      pub left : NodeOf K LEN
+      pub was : get old id ≡ Some node
+      pub updates : Updates old new id (Some left)
+      pub kind : (level : ℕ) → HasKind level node → HasKind level left
+      pub moves : MovesLast (keyed node) (keyed left) (unbounded left) result
+
+  module _ {V : Type 0} {LEN : ℕ} (level : ℕ) (old new : TreeArenas K V LEN) (id child : ℕ) where
+    -- a child of this level is dropped, and then taken out of its node
+    pub record DropsKeyed (slot : ℕ) : Type 0 where
+      pub between : TreeArenas K V LEN
+      pub dropped : Replaces level old between (child ∷ []) []
+      pub takes : TakesKeyed between.nodes new.nodes id slot
+      pub leaves : new.leaves ≡ between.leaves
+
+    pub record DropsUnbounded (result : RemoveResult) : Type 0 where
+      pub between : TreeArenas K V LEN
+      pub dropped : Replaces level old between (child ∷ []) []
+      pub takes : TakesUnbounded between.nodes new.nodes id result
+      pub leaves : new.leaves ≡ between.leaves
+
+    abbrev pub DropsChild : Option ℕ → RemoveResult → Type 0
+    DropsChild None result = DropsUnbounded result
+    DropsChild (Some slot) result = DropsKeyed slot × (result ≡ Success)
+
+-- a node is there, with a child in the slot, if one is named
+abbrev pub HasChildIn : {K : Type 0} {LEN : ℕ} → Option (NodeOf K LEN) → Option ℕ → Type 0
+HasChildIn None slot = ⊥
+HasChildIn (Some node) None = ⊤
+HasChildIn (Some node) (Some slot) = IsSome (arrival (keyed node).arrivals slot)
+
+module _ {K V : Type 0} {LEN : ℕ} where
+  -- this is the only leaf of a leaf node, and retired
+  abbrev pub IsOnlyRetired : TreeArenas K V LEN → ℕ → ℕ → Type 0
+  IsOnlyRetired arenas id last = (children_of arenas.nodes id ≡ last ∷ []) × IsRetired 0 arenas last
+
+  abbrev pub HasOnlyRetired : TreeArenas K V LEN → ℕ → Type 0
+  HasOnlyRetired arenas id = (last : ℕ) × IsOnlyRetired arenas id last
+
+  -- the part that had no pair is retired
+  pub record Retires (level : ℕ) (old new : TreeArenas K V LEN) (id : ℕ) : Type 0 where
+    pub pairs : walk level old id ≡ []
+    pub retired : IsRetired level new id
+    pub kind : IsOfLevel level (get new.nodes id)
+    pub replaces : Replaces level old new (id ∷ []) (id ∷ [])
+
+  -- a leaf node is retired if it has no leaf but one that is retired, and else nothing changes
+  abbrev pub RetiresIfEmpty : TreeArenas K V LEN → TreeArenas K V LEN → ℕ → RemoveResult → Type 0
+  RetiresIfEmpty old new id Success = (new ≡ old) × (HasOnlyRetired old id → ⊥)
+  RetiresIfEmpty old new id Retired = Retires 1 old new id
+  RetiresIfEmpty old new id Fail = ⊥

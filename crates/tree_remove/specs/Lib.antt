@@ -1,0 +1,3 @@
+pub mod CleanUps
+pub mod Lowering
+pub mod Removes

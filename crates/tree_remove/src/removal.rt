@@ -1,0 +1,82 @@
+//! Removals under the number of a node, at its level.
+ghost use Rattle.std.specs.Prelude.{◌≡◌, ◌⊎◌, ◌<◌};
+ghost use Rattle.std.specs.Fn.{FnOnceReturnsAt, FnOnceTakesAt};
+ghost use Rattle.std.specs.Option.{ForSome};
+ghost use Rattle.tree_model.specs.Pairs.{pair_at};
+ghost use Rattle.slab.specs.Slab.{ContainsKey};
+ghost use Rattle.tree_remove.specs.CleanUps.{HasOnlyRetired};
+ghost use Rattle.tree_node.specs.Parts.{IsPart};
+ghost use Rattle.tree_remove.specs.Removes.{RemovesUnder};
+ghost use Rattle.tree_node.specs.Tree.{IsRetired, walk};
+
+use crate::child_slot::child_slot_for;
+use crate::clean_up::{drop_child_node, drop_keyed_leaf, retire_if_empty};
+use tree_node::node::{ArenasOf, NodeOf};
+use tree_array::array::RemoveResult;
+use tree_leaf::arena::{LeafId, NodeId};
+
+/// Removes the pair with a key, where the condition says so of its value, under a number of this level. The
+/// condition is asked once if the key is there, else never.
+///
+/// It answers `Fail` where the key is absent or the condition said no, and nothing changed; `Retired` where
+/// no child is left under the number; else `Success`. At most `LEN * (level + 1)` comparisons, and no memory.
+///
+/// Caller's condition: a well-formed part of a tree stands there, or a retired node; and the condition may be
+/// called on the value at the key.
+pub fn remove_at<K: Ord + Drop, V: Drop, F: FnOnce(&V) -> bool + Drop, const LEN: usize>(
+    arenas: &mut ArenasOf<K, V, LEN>,
+    level: usize,
+    id: NodeId,
+    key: &K,
+    condition: F,
+) -> RemoveResult
+    requires node { 0 < level }
+    requires part { IsPart K.cmp level arenas.old id ⊎ IsRetired level arenas.old id }
+    requires callable { ForSome (pair_at K.cmp (walk level arenas.old id) key.now) (λ pair. FnOnceTakesAt F.FnOnce condition pair.1) }
+    ensures removes { RemovesUnder K.cmp (λ val said. FnOnceReturnsAt F.FnOnce condition val said) level arenas.old arenas.new id result key.now }
+    ensures settled { level ≡ 1 → result ≡ RemoveResult.Success → HasOnlyRetired arenas.new id → ⊥ }
+{
+    match arenas.node(id) {
+        NodeOf::Leaf(node) => {
+            let Some(place) = child_slot_for(&node.children, node.unbounded_child, key) else {
+                return RemoveResult::Fail;
+            };
+            match remove_in_leaf(arenas, place.child, key, condition) {
+                RemoveResult::Retired => match place.slot {
+                    Some(slot) => {
+                        drop_keyed_leaf(arenas, id, place.child, slot);
+                        retire_if_empty(arenas, id)
+                    }
+                    None => retire_if_empty(arenas, id),
+                },
+                RemoveResult::Success => RemoveResult::Success,
+                RemoveResult::Fail => RemoveResult::Fail,
+            }
+        }
+        NodeOf::Internal(node) => {
+            let Some(place) = child_slot_for(&node.children, node.unbounded_child, key) else {
+                return RemoveResult::Fail;
+            };
+            match remove_at(arenas, level - 1, place.child, key, condition) {
+                RemoveResult::Retired => drop_child_node(arenas, id, place.child, place.slot),
+                RemoveResult::Success => RemoveResult::Success,
+                RemoveResult::Fail => RemoveResult::Fail,
+            }
+        }
+    }
+}
+
+/// Removes the pair with a key from a leaf, where the condition says so of its value.
+fn remove_in_leaf<K: Ord + Drop, V: Drop, F: FnOnce(&V) -> bool + Drop, const LEN: usize>(
+    arenas: &mut ArenasOf<K, V, LEN>,
+    id: LeafId,
+    key: &K,
+    condition: F,
+) -> RemoveResult
+    requires there { ContainsKey arenas.old.leaves id }
+    requires callable { ForSome (pair_at K.cmp (walk 0 arenas.old id) key.now) (λ pair. FnOnceTakesAt F.FnOnce condition pair.1) }
+    ensures removes { RemovesUnder K.cmp (λ val said. FnOnceReturnsAt F.FnOnce condition val said) 0 arenas.old arenas.new id result key.now }
+    ensures settled { result ≡ RemoveResult.Success → IsRetired 0 arenas.new id → ⊥ }
+{
+    arenas.leaf_mut(id).array_mut().remove_if(key, condition)
+}
