@@ -1,6 +1,5 @@
 pub mod Arrivals
 pub mod Insertion
-pub mod Keys
 pub mod Layout
 pub mod Length
 pub mod Order

@@ -8,7 +8,6 @@ ghost use Rattle.tree_array.specs.Sound.{IsSound};
 pub use crate::answers::{DIMENSION, Dimension, InsertResult, RemoveResult, StoreResult};
 use crate::cells::Cells;
 pub use crate::judge::{Judge, KeyJudge, Steps};
-pub use crate::keys::{IndexKey, SameClone};
 use crate::ranks::made;
 use std::marker::Model;
 
@@ -18,7 +17,7 @@ mod removal;
 mod searches;
 mod walk;
 
-pub use tree_model::range_contains;
+pub use tree_model::{IndexKey, SameClone, range_contains};
 pub use walk::{ArrayIter, ArrayRevIter};
 
 /// The word of a retired array, which holds no rank.

@@ -5,7 +5,6 @@ mod answers;
 pub mod array;
 mod cells;
 mod judge;
-mod keys;
 mod order;
 mod ranks;
 mod search;

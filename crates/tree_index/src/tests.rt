@@ -7,7 +7,7 @@ mod shapes;
 mod walker;
 
 ghost use Rattle.std.proofs.Common.{rules};
-ghost use Rattle.tree_array.specs.Keys.{equal_numbers};
+ghost use Rattle.tree_model.specs.Keys.{equal_numbers};
 
 use crate::{Command, IndexKey, InsertError, Record, Reply, SameClone, State, TreeIndex, run};
 use again::{again, applied, inserted, replied};

@@ -4,7 +4,7 @@ use std::error::Error;
 use std::fmt;
 
 /// One call of an index.
-#[derive(Debug, Drop)]
+#[derive(Debug, PartialEq, Eq, Drop)]
 pub enum Command<K, V> {
     /// Stores a pair whose key is absent.
     Insert(K, V),
@@ -17,7 +17,7 @@ pub enum Command<K, V> {
 }
 
 /// What an index answers to a command.
-#[derive(Debug, Drop)]
+#[derive(Debug, PartialEq, Eq, Drop)]
 pub enum Reply<V> {
     /// The pair was stored.
     Stored,
@@ -32,7 +32,7 @@ pub enum Reply<V> {
 }
 
 /// A command of a history, and what was answered to it.
-#[derive(Debug, Drop)]
+#[derive(Debug, PartialEq, Eq, Drop)]
 pub struct Record<K, V> {
     /// What was asked.
     pub command: Command<K, V>,
@@ -41,7 +41,7 @@ pub struct Record<K, V> {
 }
 
 /// Why a pair was not inserted, with that pair.
-#[derive(Debug, Drop)]
+#[derive(Debug, PartialEq, Eq, Drop)]
 pub enum InsertError<K, V> {
     /// The key is present.
     Duplicate(K, V),

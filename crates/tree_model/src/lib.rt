@@ -4,6 +4,7 @@
 
 mod bounds;
 mod commands;
+mod keys;
 pub mod laws;
 mod plain;
 #[cfg(test)]
@@ -11,4 +12,5 @@ mod tests;
 
 pub use bounds::{is_above, is_below, range_contains};
 pub use commands::{Command, InsertError, Record, Reply};
+pub use keys::{IndexKey, SameClone};
 pub use plain::PlainIndex;

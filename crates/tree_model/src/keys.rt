@@ -2,7 +2,7 @@
 ghost use Rattle.std.specs.Prelude.{◌≡◌, ℕ, ℤ, Bool, List, string_bytes};
 ghost use Rattle.std.specs.declared.cmp.Ordering.TheVariants.{Equal};
 ghost use Rattle.std.proofs.Common.{sym};
-ghost use Rattle.tree_array.specs.Keys.{equal_booleans, equal_integers, equal_numbers, equal_texts};
+ghost use Rattle.tree_model.specs.Keys.{equal_booleans, equal_integers, equal_numbers, equal_texts};
 
 /// A key of an index: its order is total and agrees with its equality, as `Ord` asks, and a clone
 /// that succeeds compares equal to its source.
