@@ -8,11 +8,11 @@ ghost use Rattle.tree_node.specs.Parts.{IsPart, Unchanged};
 ghost use Rattle.tree_node.specs.Tree.{HasChildFor, IsRetired};
 
 use crate::leaf_split::make_room;
-use tree_node::node::{ArenasOf, NodeOf};
 use crate::node_split::split_child_at;
-use tree_node::routing::child_for_key;
 use tree_array::array::{IndexKey, StoreResult};
 use tree_leaf::arena::{LeafId, NodeId};
+use tree_node::node::{ArenasOf, NodeOf};
+use tree_node::routing::child_place_for;
 
 /// Inserts a pair under a number of this level. With `UPSERT` it replaces the pair with an equal key.
 ///
@@ -114,7 +114,10 @@ pub(crate) fn node_for<K: Ord + Drop, V: Drop, const LEN: usize>(
         (λ child. HasChildFor K.cmp key.now (get arenas.now.nodes id) child × (node : _) × (get arenas.now.nodes id ≡ Some (InternalKind node))) }
 {
     match arenas.node(id) {
-        NodeOf::Internal(node) => child_for_key(&node.children, node.unbounded_child, key),
+        NodeOf::Internal(node) => {
+            let place = child_place_for(&node.children, node.unbounded_child, key)?;
+            Some(place.child)
+        }
         NodeOf::Leaf(_) => None,
     }
 }
@@ -131,8 +134,8 @@ pub(crate) fn leaf_for<K: Ord + Drop, V: Drop, const LEN: usize>(
     let NodeOf::Leaf(node) = arenas.node(id) else {
         unreachable!()
     };
-    let Some(leaf) = child_for_key(&node.children, node.unbounded_child, key) else {
+    let Some(place) = child_place_for(&node.children, node.unbounded_child, key) else {
         unreachable!()
     };
-    leaf
+    place.child
 }

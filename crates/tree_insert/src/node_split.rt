@@ -12,12 +12,12 @@ ghost use Rattle.tree_node.specs.Parts.{IsPart, Unchanged};
 ghost use Rattle.tree_insert.specs.Splits.{CutsNode, PutsChild, RebuildsNode, SplitResult};
 ghost use Rattle.tree_node.specs.Tree.{HasKind, children_of, keyed};
 
-use tree_node::internal_node::InternalNodeOf;
 use crate::keyed_children::{cut_keyed, parting_place, put_keyed};
-use tree_node::leaf_node::LeafNodeOf;
-use tree_node::node::{ArenasOf, NodeOf};
 use std::alloc::AllocError;
 use tree_leaf::arena::NodeId;
+use tree_node::internal_node::InternalNodeOf;
+use tree_node::leaf_node::LeafNodeOf;
+use tree_node::node::{ArenasOf, NodeOf};
 
 /// Makes room in a child node, by the first rule that fits:
 ///

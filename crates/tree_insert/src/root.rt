@@ -5,11 +5,11 @@ ghost use Rattle.tree_node.specs.Parts.{IsPart, Unchanged};
 ghost use Rattle.tree_node.specs.Shape.{room};
 ghost use Rattle.tree_insert.specs.Splits.{RaisesRoot};
 
-use tree_node::internal_node::InternalNodeOf;
-use tree_node::node::{ArenasOf, NodeOf, slots_left};
 use crate::node_split::split_child_at;
 use std::alloc::AllocError;
 use tree_leaf::arena::NodeId;
+use tree_node::internal_node::InternalNodeOf;
+use tree_node::node::{ArenasOf, NodeOf, slots_left};
 
 /// Puts a root without room under a new one, makes room in it there, and answers the new root's number. It takes the
 /// two nodes that this needs at most before it changes anything: an `Err`, for want of memory, leaves

@@ -13,7 +13,5 @@ there cmp k (Some node) child which = refl
 pub node-requires : goal.node-requires
 node-requires g c = (search fits, there g.K.Ord.cmp c.args.key.now _ c.requires.0 c.requires.1)
 
-pub returns-in-Internal : goal.returns-in-Internal
-returns-in-Internal g c =
-    let told : c.child_for_key.result ≡ Some c.requires.0 = c.child_for_key.ensures ∙ (rw (c.node.ensures, c.in-Internal.is) at c.requires.1) in
-    rw told (c.requires.1, c.in-Internal.node, c.node.ensures ∙ ap Some c.in-Internal.is)
+pub returns-in_ok-place-in-Internal : goal.returns-in_ok-place-in-Internal
+returns-in_ok-place-in-Internal g c = (rw (c.node.ensures, c.in-Internal.is) c.in_ok-place-in-Internal.ensures.child, c.in-Internal.node, c.node.ensures ∙ ap Some c.in-Internal.is)
