@@ -11,7 +11,7 @@ use Rattle.tree_array.specs.declared.answers.StoreResult.TheVariants.{New, Repla
 use Rattle.tree_model.specs.Pairs.{IsAbsent, IsAscending, IsPresent, pair_at}
 use Rattle.tree_model.proofs.Lengths.{length-put, without_absent, without_present}
 use Rattle.tree_node.specs.Arenas.{TreeArenas}
-use Rattle.tree_node.specs.Ends.{IsLinked}
+use Rattle.tree_walk.specs.Ends.{IsLinked}
 use Rattle.tree_insert.specs.Inserts.{Inserts, declined}
 use Rattle.tree_node.specs.Tree.{Stands, StandsOrRetired, leaves_at, walk}
 use Rattle.tree_node.specs.Whole.{IsRetiredRoot, IsTop, depth_of, walk_under}

@@ -7,7 +7,6 @@ pub mod LeafSplits
 pub mod LowSplits
 pub mod NodeRooms
 pub mod NodeSplits
-pub mod Places
 pub mod RaisedTrees
 pub mod Raises
 pub mod Rebuilds

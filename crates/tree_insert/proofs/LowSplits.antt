@@ -21,7 +21,7 @@ use Rattle.tree_node.specs.Tree.{AreParted, IsAbove, IsBelow, IsUpTo, HasChildFo
 use Rattle.tree_node.proofs.Frames.{Agrees, agrees_here, same_walk, same_stands}
 use Rattle.tree_node.proofs.Lifts.{front_agrees, back_agrees, changed_agree, lifted}
 use Rattle.tree_node.proofs.Lists.{flat_map_same}
-use Rattle.tree_insert.proofs.Places.{first_child, later_children, low_at, high_at, children_at, children_put, routed_by, child_between, separator_absent, separator_put, parted_low}
+use Rattle.tree_node.proofs.Places.{first_child, later_children, low_at, high_at, children_at, children_put, routed_by, child_between, separator_absent, separator_put, parted_low}
 use Rattle.tree_node.proofs.Standing.{node_is}
 use Rattle.tree_node.proofs.Walks.{walk-children}
 

@@ -22,7 +22,7 @@ use Rattle.tree_node.proofs.Lifts.{grouped_as, leaves_are, node_times, single_le
 use Rattle.tree_insert.proofs.LowSplits.{SplitsLow, absent_here, child_split}
 use Rattle.tree_node.proofs.Standing.{node_is}
 use Rattle.tree_insert.proofs.NodeSplits.{high_node_room, low_node_room, node_splits_low}
-use Rattle.tree_insert.proofs.Places.{IsAt, child_between, high_at, later_children, low_at, place_of}
+use Rattle.tree_node.proofs.Places.{IsAt, child_between, high_at, later_children, low_at, place_of}
 use Rattle.tree_insert.proofs.Rebuilds.{among, node_rebuilt, split_by_rebuild}
 use Rattle.tree_node.proofs.Unchanged.{unchanged_by_keeping}
 

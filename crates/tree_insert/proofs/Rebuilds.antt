@@ -26,7 +26,7 @@ use Rattle.tree_node.proofs.LeafWrites.{with_array, here_now, array_replaces}
 use Rattle.tree_node.proofs.Lifts.{node_times, front_agrees, back_agrees, lifted, single_leaves, single_nodes}
 use Rattle.tree_node.proofs.Lists.{flat_map_same}
 use Rattle.tree_node.proofs.Standing.{node_is}
-use Rattle.tree_insert.proofs.Places.{IsAt, children_at, later_children}
+use Rattle.tree_node.proofs.Places.{IsAt, children_at, later_children}
 use Rattle.tree_node.proofs.Walks.{walk-children}
 
 -- the child is what it was to all that look for pairs, and has room

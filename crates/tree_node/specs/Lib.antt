@@ -1,6 +1,5 @@
 pub mod Arenas
 pub mod Depth
-pub mod Ends
 pub mod Parts
 pub mod Routing
 pub mod Shape

@@ -7,7 +7,7 @@ use std::process::Abort;
 use std::test::Fail;
 use tree_leaf::leaf::{IterOf, RevIterOf};
 use tree_model::PlainIndex;
-use tree_node::ends::{max_at, min_at};
+use tree_walk::ends::{max_at, min_at};
 
 const MANY: u64 = 4000;
 
