@@ -1,10 +1,10 @@
 -- The program: its status, and what it does to its streams.
 use Rattle.std.specs.Prelude.{◌≡◌, ◌⊎◌, ℕ, List, [], Option, Result, Ok, Err, codes}
 use Rattle.std.specs.Io.KnownBytes.{Appends}
-use Rattle.treetool.specs.declared.lines.ToolFault.{ToolFault}
-use Rattle.treetool.specs.Lines.{with_feed}
-use Rattle.treetool.specs.Writing.{IsFront}
-use Rattle.treetool.specs.Runs.{RunsLines}
+use Rattle.tree_lines.specs.declared.lines.ToolFault.{ToolFault}
+use Rattle.tree_lines.specs.Lines.{with_feed}
+use Rattle.tree_lines.specs.Writing.{IsFront}
+use Rattle.tree_lines.specs.Runs.{RunsLines}
 
 abbrev pub usage_line : List ℕ
 usage_line = with_feed (codes "usage: treetool [storm W N]")
