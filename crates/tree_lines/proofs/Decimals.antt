@@ -6,7 +6,7 @@ use Rattle.std.proofs.lemmas.Fmt.{decimal_is_IsNumeral, decimal_digit, first_dec
 use Rattle.std.proofs.lemmas.Str.Parse.{IsNumeralModel, numerals_by_value, tells_digits, parse_plain, digit_from_value}
 use Rattle.tree_lines.specs.Words.{IsWord, IsPlain}
 
--- digits hold no space
+-- digits contain no space
 IsWord-digits : (ds : List ℕ) → AllDigits 10 ds → IsWord ds
 IsWord-digits [] h = tt
 IsWord-digits (d ∷ ds) h = ((λ same. let digit = digit_from_value d h.0 in omega (arith, digit, same)), IsWord-digits ds h.1)
@@ -15,7 +15,7 @@ IsWord-digits (d ∷ ds) h = ((λ same. let digit = digit_from_value d h.0 in om
 pub IsWord-decimal : (n : ℕ) → n < 2 ^ 64 → IsWord (decimal n)
 IsWord-decimal n small = IsWord-digits (decimal n) (decimal_is_IsNumeral n small).0.1
 
--- and begins as one does
+-- it has no sign and no leading zero
 plain_by : (n : ℕ) → n < 2 ^ 64 → (ds : List ℕ) → ds ≡ decimal n → IsPlain ds
 plain_by zero small ds e = rw (e, decimal_digit 0 (omega arith)) ((λ same. omega (arith, same)), (λ same. refl))
 plain_by (suc n) small ds e =
@@ -25,11 +25,11 @@ plain_by (suc n) small ds e =
 pub IsPlain-decimal : (n : ℕ) → n < 2 ^ 64 → IsPlain (decimal n)
 IsPlain-decimal n small = plain_by n small (decimal n) refl
 
--- how the digits of a parsed text are seen
+-- the digits of a parsed text
 digits_seen : IsNumeralModel (AllDigits 10) (digits_value 10)
 digits_seen = numerals_by_value _ tells_digits
 
--- a plain word that parses as a number is how that number is written
+-- a plain word that parses as a number spells that number
 pub number_read : (E : Type 0) (word : List ℕ) (n : ℕ) → IsPlain word → ParsesUnsigned {E = E} 64 10 word (Ok n) → (n < 2 ^ 64) × (word ≡ decimal n)
 number_read E word n plain parses =
     let read = parse_plain digits_seen {E = E} 64 word (Ok n) parses plain.0 in

@@ -11,7 +11,7 @@ use Rattle.tree_lines.specs.Runs.{RunsLines}
 use Rattle.tree_lines.proofs.Scripts.{text_of-append, Script-append}
 use Rattle.tree_lines.proofs.Steps.{broke_before, breaks_later}
 
--- a line of which no byte is kept, though it isn't too long, is empty
+-- a line that is kept without a byte is empty
 empty_by : (b : Bool) (x : ℕ) (xs : List ℕ) → Some [] ≡ (if b then Some (x ∷ xs) else None) → ⊥
 empty_by true x xs e = cc
 empty_by false x xs e = cc
@@ -20,7 +20,7 @@ clip_empty : (begun : List ℕ) → Some [] ≡ clip begun → begun ≡ []
 clip_empty [] e = refl
 clip_empty (x ∷ xs) e = absurd (empty_by (nat_le (length (x ∷ xs)) 256) x xs e)
 
--- no line is begun where the input ends
+-- the input ends, and no line is begun
 pub ends_empty : (line : Option (List ℕ)) (old : List (ℕ × ℕ)) (x : Option (List ℕ)) → line ≡ Some [] → EndsInput {T = Unit {0}} {E = Unit {0}} line old old x x (Ok tt)
 ends_empty line old x empty begun kept =
     let none : begun ≡ [] = clip_empty begun (sym empty ∙ kept) in
@@ -32,13 +32,13 @@ script_of_last : (begun answer : List ℕ) (old new : List (ℕ × ℕ)) → beg
 script_of_last [] answer old new some says = absurd (some refl)
 script_of_last (b ∷ begun) answer old new some says = (new, says, refl)
 
--- the line that is begun there is answered, or its answer breaks off
+-- the begun line is answered, or its answer breaks off
 pub ends_line : {E : Type 0} (line : Option (List ℕ)) (old new : List (ℕ × ℕ)) (answer : List ℕ) (x y : Option (List ℕ)) → line ≢ Some [] → ((begun : List ℕ) → line ≡ clip begun → Says old begun answer new) → (result : Result (Unit {0}) E) → Writes (with_feed answer) x y result → EndsInput line old new x y result
 ends_line line old new answer x y some says (Ok u) h = λ begun kept. (answer ∷ [], rw append-nil h, script_of_last begun answer old new (λ none. some (kept ∙ ap clip none)) (says begun kept))
 ends_line line old new answer x y some says (Err e) h = λ begun kept. (answer, h.0, h.1, (λ none. some (kept ∙ ap clip none)), says begun kept, h.2)
 
 module _ (old now : List (ℕ × ℕ)) (x y r s : Option (List ℕ)) (read written : List ℕ) (line : Option (List ℕ)) (taken : Consumes r s read) (out : Appends x y written) (carried : Carries (Some []) old read written line now) where
-  -- all bytes were read behind no begun line
+  -- no line was begun before the first byte
   from_start : Carried [] old read written line now
   from_start = carried [] tt refl
 

@@ -3,7 +3,7 @@ use Rattle.std.proofs.Common.{◌≡◌, ℕ, List, [], ◌∷◌, ◌++◌, ref
 use Rattle.std.specs.Prelude.{codes}
 use Rattle.tree_lines.specs.Words.{IsWord, IsBehindWord}
 
--- a text has one first word, and one text behind it
+-- a text has one first word and one rest
 pub one_first_word : (a b x y : List ℕ) → IsWord a → IsWord b → IsBehindWord x → IsBehindWord y → a ++ x ≡ b ++ y → (a ≡ b) × (x ≡ y)
 one_first_word [] [] x y h k p q e = (refl, e)
 one_first_word [] (d ∷ b) [] y h k p q e = cc

@@ -8,7 +8,7 @@ use Rattle.tree_lines.specs.declared.requests.Request.{Request}
 use Rattle.tree_lines.specs.declared.requests.Request.TheVariants.{Insert, Upsert, Remove, RemoveIf, Peek, Contains, Len, Depth, Spare}
 use Rattle.tree_lines.specs.Lines.{name_of}
 
--- texts that differ somewhere are two texts
+-- texts that differ somewhere are not equal
 apart : {X : Type 0} (a b : List ℕ) → bytes_eq a b ≡ false → a ≡ b → X
 apart a b differ same = absurd (false≢true (sym differ ∙ (bytes_eq-Decides a b).1 same))
 

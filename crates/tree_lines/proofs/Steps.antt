@@ -1,4 +1,4 @@
--- Steps of a run over lines: what bytes bring, one piece after another.
+-- Steps of a run over lines: the effect of bytes, one piece after another.
 use Rattle.std.proofs.Common.{◌≡◌, ◌≢◌, ℕ, List, [], ◌∷◌, ◌++◌, Option, Some, refl, sym, ap, ◌∙◌, append_assoc, append-nil}
 use Rattle.tree_model.proofs.Lists.{all-append}
 use Rattle.tree_lines.specs.Lines.{IsLine, with_feed, text_of, HasLines, Says, Script}
@@ -6,7 +6,7 @@ use Rattle.tree_lines.specs.Writing.{IsFront}
 use Rattle.tree_lines.specs.Progress.{clip, Carries, EndsLine, BrokeOff, Breaks}
 use Rattle.tree_lines.proofs.Scripts.{text_of-append, Script-append, HasLines-more}
 
--- no byte brings nothing
+-- no bytes have no effect
 pub carries_none : (line : Option (List ℕ)) (old : List (ℕ × ℕ)) → Carries line old [] [] line old
 carries_none line old begun is_line e = record {
   ended = [];
@@ -18,7 +18,7 @@ carries_none line old begun is_line e = record {
   script = refl;
 }
 
--- a byte that is no line feed goes on with the line
+-- a byte other than a line feed is appended to the line
 pub carries_byte : (before after : Option (List ℕ)) (old : List (ℕ × ℕ)) (byte : ℕ) → byte ≢ 10 → ((begun : List ℕ) → before ≡ clip begun → after ≡ clip (begun ++ byte ∷ [])) → Carries before old (byte ∷ []) [] after old
 carries_byte before after old byte other kept begun is_line e = record {
   ended = [];
@@ -60,7 +60,7 @@ breaks_line before old new answer part says front begun is_line e = record {
   broken = front;
 }
 
--- bytes that bring something, and then more
+-- bytes, and then more bytes
 pub carries_more : (before mid after : Option (List ℕ)) (old now new : List (ℕ × ℕ)) (a b w v : List ℕ) → Carries before old a w mid now → Carries mid now b v after new → Carries before old (a ++ b) (w ++ v) after new
 carries_more before mid after old now new a b w v h k begun is_line e =
     let first = h begun is_line e in
@@ -75,12 +75,12 @@ carries_more before mid after old now new a b w v h k begun is_line e =
       script = Script-append old now new first.ended first.answers second.ended second.answers first.script second.script;
     }
 
--- a line feed behind a line stays there
+-- a line feed after a line stays there when more bytes come
 EndsLine-more : (at_end : Type 0) (line after more : List ℕ) → EndsLine ⊥ line after → EndsLine at_end line (after ++ more)
 EndsLine-more at_end line [] more h = absurd h.0
 EndsLine-more at_end line (b ∷ after) more h = h
 
--- an answer that broke off, and bytes behind its line
+-- an answer that broke off, and bytes after its line
 pub broke_before : (at_end : Type 0) (text more : List ℕ) (old new : List (ℕ × ℕ)) (w : List ℕ) → BrokeOff ⊥ text old w new → BrokeOff at_end (text ++ more) old w new
 broke_before at_end text more old new w broke = record {
   front = broke.front;
@@ -116,7 +116,7 @@ broke_later text more ended answers rest old now new w v h wrote script broke = 
   broken = broke.broken;
 }
 
--- what the bytes brought before an answer broke off
+-- the effect of the bytes before an answer broke off
 pub breaks_later : (before mid : Option (List ℕ)) (old now new : List (ℕ × ℕ)) (a b w v : List ℕ) → Carries before old a w mid now → Breaks mid now b v new → Breaks before old (a ++ b) (w ++ v) new
 breaks_later before mid old now new a b w v h k begun is_line e =
     let first = h begun is_line e in

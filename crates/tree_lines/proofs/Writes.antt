@@ -7,7 +7,7 @@ use Rattle.std.specs.Io.KnownBytes.{Appends, WriteAppends}
 use Rattle.std.proofs.KnownBytes.{Appends-kept, Appends-nil}
 use Rattle.tree_lines.specs.Writing.{IsFront, Writes}
 
--- a part that something follows is no whole
+-- a part that something follows is not the whole
 pub front_of : (text part rest : List ℕ) → text ≡ part ++ rest → 0 < length rest → IsFront part text
 front_of text part [] e h = absurd (omega (arith, h))
 front_of text part (b ∷ bs) e h = record { next = b; others = bs; text_is = e }
@@ -17,7 +17,7 @@ pub written_of : {T E : Type 0} (text : List ℕ) (x y : Option (List ℕ)) (res
 written_of text x y (Ok u) h = (text, h, inl refl)
 written_of text x y (Err e) h = (h.0, h.1, inr h.2)
 
--- what a write took, where one that failed took nothing
+-- what a write took; one that failed took nothing
 pub took : {E : Type 0} (x y : Option (List ℕ)) (result : Result ℕ E) (bytes : List ℕ) → WriteAppends x y result bytes → Appends x y (take (result_unwrap_or result 0) bytes)
 took x y (Ok n) bytes h = h
 took x y (Err e) bytes h = Appends-kept x x y [] (Appends-nil x) h

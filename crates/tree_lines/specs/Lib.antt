@@ -3,4 +3,3 @@ pub mod Words
 pub mod Writing
 pub mod Progress
 pub mod Runs
-pub mod Tool

@@ -1,4 +1,4 @@
--- The lines of a text, how a request is written as a line, what a line is answered, and a script of lines.
+-- The lines of a text, the spelling of a request, the answer to a line, and scripts of lines.
 use Rattle.std.specs.Prelude.{◌≡◌, ◌≢◌, ◌⊎◌, ℕ, ◌*◌, ◌-◌, ◌^◌, ◌<◌, ◌≤◌, min, Bool, true, false, nat_eq, List, [], ◌∷◌, ◌++◌, length, MatchOption, is_some, ⊤, codes, decimal}
 use Rattle.std.specs.List.{AllByRecursion, flat_map}
 use Rattle.std.specs.Option.{option_map_or}
@@ -8,7 +8,7 @@ use Rattle.tree_model.specs.Edits.{RemovesIf}
 use Rattle.tree_lines.specs.declared.requests.Request.{Request}
 use Rattle.tree_lines.specs.declared.requests.Request.TheVariants.{Insert, Upsert, Remove, RemoveIf, Peek, Contains, Len, Depth, Spare}
 
--- a line holds no line feed
+-- a line contains no line feed
 abbrev pub IsLine : List ℕ → Type 0
 IsLine bytes = AllByRecursion (λ b. b ≢ 10) bytes
 
@@ -16,17 +16,17 @@ IsLine bytes = AllByRecursion (λ b. b ≢ 10) bytes
 abbrev pub with_feed : List ℕ → List ℕ
 with_feed line = line ++ 10 ∷ []
 
--- the text of lines that line feeds end
+-- lines as one text, each with its line feed
 abbrev pub text_of : List (List ℕ) → List ℕ
 text_of lines = flat_map with_feed lines
 
--- The text has these lines that a line feed ends, and then the rest.
+-- The text is these lines, each ended by a line feed, and then the rest, which has no line feed.
 pub record HasLines (text : List ℕ) (ended : List (List ℕ)) (rest : List ℕ) : Type 0 where
   pub whole : text ≡ text_of ended ++ rest
   pub each : AllByRecursion IsLine ended
   pub partial : IsLine rest
 
--- the rest is a line too, if it has a byte
+-- the rest is a line too, unless it is empty
 abbrev pub last_line : List ℕ → List (List ℕ)
 last_line [] = []
 last_line (b ∷ rest) = (b ∷ rest) ∷ []
@@ -43,7 +43,7 @@ name_of Len = codes "len"
 name_of Depth = codes "depth"
 name_of Spare = codes "spare"
 
--- its other words; a number is written by its decimal digits, without a leading zero
+-- the other words of a request; a number is written in decimal digits without a leading zero
 abbrev pub arguments_of : Request → List (List ℕ)
 arguments_of (Insert key value) = decimal key ∷ decimal value ∷ []
 arguments_of (Upsert key value) = decimal key ∷ decimal value ∷ []
@@ -55,15 +55,15 @@ arguments_of Len = []
 arguments_of Depth = []
 arguments_of Spare = []
 
--- words, each behind one space
+-- words, each after one space
 abbrev pub behind_spaces : List (List ℕ) → List ℕ
 behind_spaces words = flat_map (λ word. 32 ∷ word) words
 
--- how a request is written
+-- the spelling of a request
 abbrev pub spelling : Request → List ℕ
 spelling request = name_of request ++ behind_spaces (arguments_of request)
 
--- the numbers of a request are those that have a spelling
+-- the numbers of a request fit in 64 bits
 abbrev pub Fits : Request → Type 0
 Fits (Insert key value) = (key < 2 ^ 64) × (value < 2 ^ 64)
 Fits (Upsert key value) = (key < 2 ^ 64) × (value < 2 ^ 64)
@@ -75,16 +75,16 @@ Fits Len = ⊤
 Fits Depth = ⊤
 Fits Spare = ⊤
 
--- how a truth is written
+-- the spelling of a truth value
 abbrev pub truth : Bool → List ℕ
 truth true = codes "true"
 truth false = codes "false"
 
--- a condition that says whether a value is this one
+-- the condition that compares a stored value with this one
 abbrev pub SaysEqual : ℕ → ℕ → Bool → Type 0
 SaysEqual value stored said = said ≡ nat_eq stored value
 
--- What a request is answered where the entries are old, and that they become new.
+-- The answer to a request over the pairs `old`, which become `new`.
 abbrev pub Answers : List (ℕ × ℕ) → Request → List ℕ → List (ℕ × ℕ) → Type 0
 Answers old (Insert key value) answer new =
     MatchOption (pair_at nat_cmp old key)
@@ -99,7 +99,7 @@ Answers old Depth answer new = (depth : ℕ) × (length old ≤ 15 * 16 ^ depth)
 Answers old Spare answer new = (spare : ℕ) × (answer ≡ decimal spare) × (new ≡ old)
 Answers old (Peek key) answer new = (answer ≡ option_map_or (λ pair. decimal pair.1) (pair_at nat_cmp old key) (codes "none")) × (new ≡ old)
 
--- What a line is answered: a request as it asks, and any other line with a question mark.
+-- The answer to a line. A line that is not a request is answered with a question mark and changes nothing.
 abbrev pub Says : List (ℕ × ℕ) → List ℕ → List ℕ → List (ℕ × ℕ) → Type 0
 Says old line answer new =
     ((request : Request) × Fits request × (line ≡ spelling request) × Answers old request answer new)

@@ -1,4 +1,4 @@
--- A run over the lines of an input, and the program.
+-- Runs over the lines of an input.
 use Rattle.std.specs.Prelude.{◌≡◌, ℕ, List, ◌++◌, Option, Result, Ok, Err}
 use Rattle.std.specs.Io.KnownBytes.{Appends, Consumes, IsAtEnd}
 use Rattle.tree_lines.specs.declared.lines.ToolFault.{ToolFault}
@@ -6,10 +6,10 @@ use Rattle.tree_lines.specs.declared.lines.ToolFault.TheVariants.{Read, Write}
 use Rattle.tree_lines.specs.Lines.{text_of, HasLines, last_line, Script}
 use Rattle.tree_lines.specs.Progress.{BrokeOff}
 
--- What was read and what was written after a run over lines.
--- Ok: at the end of the input, and all lines were answered.
--- Read: all lines that a line feed ends were answered, and no more was applied.
--- Write: a front of the lines was, and the answer to its last line broke off.
+-- What a run over lines read and wrote.
+-- Ok: the input is at its end, and all lines were answered.
+-- Read: all lines that a line feed ended were answered, and nothing else was applied.
+-- Write: the first lines were answered, up to one whose answer broke off.
 abbrev pub RunsLines : {T : Type 0} → List (ℕ × ℕ) → List (ℕ × ℕ) → Option (List ℕ) → Option (List ℕ) → Option (List ℕ) → Option (List ℕ) → Result T ToolFault → Type 0
 RunsLines old new remaining remaining' contents contents' (Ok _) =
     (read written : List ℕ) × Consumes remaining remaining' read × Appends contents contents' written × IsAtEnd remaining'

@@ -4,16 +4,16 @@ use Rattle.std.specs.List.{AllByRecursion}
 use Rattle.tree_lines.specs.declared.requests.Request.{Request}
 use Rattle.tree_lines.specs.Lines.{Fits, name_of, arguments_of, behind_spaces}
 
--- a word holds no space
+-- a word contains no space
 abbrev pub IsWord : List ℕ → Type 0
 IsWord bytes = AllByRecursion (λ b. b ≢ 32) bytes
 
--- behind a word the line ends, or a space stands
+-- after a word the line ends or a space follows
 abbrev pub IsBehindWord : List ℕ → Type 0
 IsBehindWord [] = ⊤
 IsBehindWord (b ∷ bytes) = b ≡ 32
 
--- The text spells what is read, and where nothing is read, it spells nothing that fits.
+-- The text spells what was read. If nothing was read, it spells nothing that fits.
 abbrev pub ReadsAs : {X : Type 0} → (X → Type 0) → (X → List ℕ) → List ℕ → Option X → Type 0
 ReadsAs fits spell text (Some x) = fits x × (text ≡ spell x)
 ReadsAs {X} fits spell text None = (x : X) → fits x → text ≢ spell x
@@ -22,7 +22,7 @@ ReadsAs {X} fits spell text None = (x : X) → fits x → text ≢ spell x
 abbrev pub ReadsArguments : List ℕ → List ℕ → Option Request → Type 0
 ReadsArguments name text read = ReadsAs (λ request. Fits request × (name_of request ≡ name)) (λ request. behind_spaces (arguments_of request)) text read
 
--- a number and two numbers, each behind a space
+-- one number and two numbers, each after a space
 abbrev pub one_number : ℕ → List ℕ
 one_number n = behind_spaces (decimal n ∷ [])
 
@@ -35,6 +35,6 @@ FitsWord n = n < 2 ^ 64
 abbrev pub BothFit : ℕ × ℕ → Type 0
 BothFit pair = FitsWord pair.0 × FitsWord pair.1
 
--- a word that begins as a number does: with neither a sign nor a leading zero
+-- a word with neither a plus sign nor a leading zero
 abbrev pub IsPlain : List ℕ → Type 0
 IsPlain word = (slice_index word 0 ≢ 43) × (slice_index word 0 ≡ 48 → length word ≡ 1)

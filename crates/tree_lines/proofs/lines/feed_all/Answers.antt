@@ -21,7 +21,7 @@ loop-byte-preserved g c =
       carried = rw (take_at_read bytes i 0 c.loop-byte-test.true).1 (carries_more c.args.line.now c.loop-byte.line c.feed.new.line c.args.index.now.pairs c.loop-byte.index.pairs c.feed.new.index.pairs (take i bytes) (get_or bytes i 0 ∷ []) c.loop-byte.invariant.written fed.0 c.loop-byte.invariant.carried fed.2);
     }
 
--- a write failed, and the bytes that are left weren't taken
+-- a write failed, and the remaining bytes were not taken
 pub returns-in_err-feed : goal.returns-in_err-feed
 returns-in_err-feed g c =
     let failed = err_from_is_err_and c.from_residual.result c.from_residual.ensures.1 in

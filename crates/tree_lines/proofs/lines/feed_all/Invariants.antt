@@ -3,7 +3,7 @@ use Rattle.std.specs.Io.KnownBytes.{Appends}
 use Rattle.tree_lines.specs.Progress.{Carries}
 use Rattle.tree_lines.proofs.lines.feed_all.Given as goal
 
--- what the bytes so far brought
+-- the effect of the bytes so far
 abbrev pub invariant-loop-byte : goal.invariant-loop-byte
 invariant-loop-byte g l = record {
   written : List ℕ;

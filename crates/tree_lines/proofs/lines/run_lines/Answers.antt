@@ -46,6 +46,6 @@ returns-in_default-feed_all g c =
     let fed = c.in_default-feed_all.ensures in
     runs_to_break c.args.index.now.pairs c.loop.index.pairs _ _ _ _ _ _ c.loop.line c.loop.invariant.taken c.loop.invariant.out c.loop.invariant.carried c.feed_all.new.index.pairs c.split_at.result.0.now fed.0 _ _ (rw c.split_at.ensures.front c.in-Ok.ensures.bytes.0) fed.1 fed.2
 
--- the reads were used up
+-- the input did not end
 pub returns : goal.returns
 returns g c = runs_to_fault c.args.index.now.pairs c.loop.index.pairs _ _ _ _ _ _ c.loop.line c.loop.invariant.taken c.loop.invariant.out c.loop.invariant.carried

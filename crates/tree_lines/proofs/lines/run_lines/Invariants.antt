@@ -4,7 +4,7 @@ use Rattle.std.specs.Io.KnownBytes.{Appends, Consumes}
 use Rattle.tree_lines.specs.Progress.{Carries}
 use Rattle.tree_lines.proofs.lines.run_lines.Given as goal
 
--- what the bytes so far brought
+-- the effect of the bytes so far
 abbrev pub invariant-loop : goal.invariant-loop
 invariant-loop g l = record {
   read : List ℕ;

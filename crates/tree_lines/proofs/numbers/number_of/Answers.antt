@@ -15,7 +15,7 @@ returns-then-not-is_plain c = λ n small e. false≢true (c.if-not-is_plain.ensu
 pub returns-in_default : goal.returns-in_default
 returns-in_default c = λ n small e. c.in_default.ensures.cases.0 (subst IsUtf8 (sym e) (IsUtf8-from_ascii _ (IsAscii-decimal n small)))
 
--- what is plain and parsed is as it is written
+-- a plain word spells the number that it parses as
 pub returns-in-Ok-parse : goal.returns-in-Ok-parse
 returns-in-Ok-parse c =
     rw (← c.in-Ok.ensures.cases.0) (number_read ℕ c.in-Ok.text.now c.in-Ok-parse.n (subst IsPlain (sym c.in-Ok.ensures.cases.0) (c.if-not-is_plain.ensures.0 refl)) c.in-Ok-parse.ensures.value.0)

@@ -5,7 +5,7 @@ use Rattle.tree_lines.proofs.FirstWords.{one_first_word}
 use Rattle.tree_lines.proofs.Decimals.{IsWord-decimal}
 use Rattle.tree_lines.proofs.numbers.two_numbers_of.Goals as goal
 
--- one of the two words is no number
+-- one of the two words is not a number
 pub returns-in_default-number_of : goal.returns-in_default-number_of
 returns-in_default-number_of c = λ pair fits e.
     let words : c.in-Some.words.now ≡ decimal pair.0 ++ one_number pair.1 = cc (c.in-Some.ensures) in

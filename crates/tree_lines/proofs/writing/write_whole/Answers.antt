@@ -9,7 +9,7 @@ use Rattle.tree_lines.proofs.writing.write_whole.Goals as goal
 pub split_at-requires : goal.split_at-requires
 split_at-requires g c = rw c.unwrap_or-count.ensures (took_at_most c.write.result c.loop-rest.rest.now c.write.ensures.bound)
 
--- a front of the rest went out
+-- a part of the rest was written
 pub loop-rest-preserved : goal.loop-rest-preserved
 loop-rest-preserved g c =
     let part = c.loop-rest.invariant.part in

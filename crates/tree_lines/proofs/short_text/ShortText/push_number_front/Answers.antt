@@ -7,14 +7,14 @@ use Rattle.tree_lines.proofs.short_text.ShortText.push_number_front.Goals as goa
 pub loop-rest-init : goal.loop-rest-init
 loop-rest-init c = record { put = refl; room = omega (arith, length-decimal c.args.n (omega arith)); small = omega arith }
 
--- each digit that is left has a place
+-- there is room for each remaining digit
 pub push_front-requires : goal.push_front-requires
 push_front-requires c = omega (arith, decimal_nonempty c.loop-rest.rest (omega arith))
 
 pub push_front-requires-2 : goal.push_front-requires-2
 push_front-requires-2 c = omega (arith, decimal_nonempty c.loop-rest.rest (omega arith))
 
--- the last digit of the rest was put
+-- the last digit of the rest was prepended
 pub loop-rest-preserved : goal.loop-rest-preserved
 loop-rest-preserved c =
     let rest = c.loop-rest.rest in

@@ -2,7 +2,7 @@ use Rattle.std.proofs.Common.{◌≡◌, ◌+◌, ◌<◌, ◌≤◌, ◌^◌, �
 use Rattle.std.specs.Fmt.{decimal}
 use Rattle.tree_lines.proofs.short_text.ShortText.push_number_front.Given as goal
 
--- the digits of the rest are still to be put before the bytes that stand
+-- the digits of the rest are still to be prepended
 abbrev pub invariant-loop-rest : goal.invariant-loop-rest
 invariant-loop-rest l = record {
   put : decimal l.n ++ l.fn.self ≡ decimal l.rest ++ l.self;
