@@ -1,5 +1,7 @@
+pub mod Attempts
 pub mod Boundaries
 pub mod Cuts
+pub mod Descents
 pub mod Fulls
 pub mod Inserts
 pub mod LeafRooms

@@ -59,25 +59,6 @@ pub fn split_child<K: Ord + Drop, V: Drop, const LEN: usize>(
     Ok(true)
 }
 
-/// Makes room in a child node under a parent of this level, as [`split_child`] does.
-///
-/// The level serves the contract alone. It is no ghost parameter, since a recursive caller can't pick one.
-pub fn split_child_at<K: Ord + Drop, V: Drop, const LEN: usize>(
-    arenas: &mut ArenasOf<K, V, LEN>,
-    level: usize,
-    parent: NodeId,
-    target: NodeId,
-) -> Result<bool, AllocError>
-    requires node { 1 < level }
-    requires part { IsPart K.cmp level arenas.old parent }
-    requires child { 0 < times target (children_of arenas.old.nodes parent) }
-    ensures done { IfOk result (λ split. SplitResult K.cmp split level arenas.old arenas.new parent target) }
-    ensures err { OnErr result (Unchanged arenas.old arenas.new) }
-    ensures places { HasPlaces arenas.old 0 1 → IsOk result }
-{
-    split_child(arenas, parent, target)
-}
-
 /// Whether no keyed child can come.
 fn takes_no_more<K: Ord + Drop, const LEN: usize>(node: &NodeOf<K, LEN>) -> bool
     ensures { IsTrue result ↔ IsFull LEN (keyed node.now) }

@@ -5,7 +5,7 @@ ghost use Rattle.tree_node.specs.Parts.{IsPart, Unchanged};
 ghost use Rattle.tree_node.specs.Shape.{room};
 ghost use Rattle.tree_insert.specs.Splits.{RaisesRoot};
 
-use crate::node_split::split_child_at;
+use crate::node_split::split_child;
 use std::alloc::AllocError;
 use tree_leaf::arena::NodeId;
 use tree_node::internal_node::InternalNodeOf;
@@ -36,9 +36,9 @@ pub fn split_root_at<K: Ord + Drop, V: Drop, const LEN: usize>(
     let Ok(id) = arenas.add_node(NodeOf::Internal(top)) else {
         unreachable!()
     };
-    // There are as many nodes as levels at least, so that their number fits.
+    // There are as many nodes as levels at least, so that the new depth fits.
     let _ = arenas.node_count();
-    match split_child_at(arenas, depth + 1, id, root) {
+    match split_child(arenas, id, root) {
         Ok(true) => Ok(id),
         Ok(false) => unreachable!(),
         Err(_) => unreachable!(),
