@@ -1,0 +1,2 @@
+pub mod FoundLevels
+pub mod FoundRoots
