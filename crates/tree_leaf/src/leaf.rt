@@ -9,12 +9,12 @@ use tree_array::array::{ArrayIter, ArrayOf};
 
 mod iter;
 mod links;
-mod rev_iter;
+mod slot_walk;
 mod stand;
 
-pub use iter::{Iter, IterOf, LinkedIter};
+pub use iter::{Iter, IterOf, LinkedIter, RevIter, RevIterOf};
 pub use links::{add_before, splice_link, unlink};
-pub use rev_iter::{LinkedRevIter, RevIter, RevIterOf};
+pub use slot_walk::{Reversible, SlotWalk};
 pub use stand::Walked;
 
 /// A leaf: an array of `LEN` slots, 7 or 15, and the numbers of the leaves before and after it.

@@ -1,6 +1,6 @@
 use Rattle.std.proofs.Common.{rules, ◌∙◌, sym}
 use Rattle.tree_leaf.proofs.Steps.{stood_reachable, stood_read}
-use Rattle.tree_leaf.proofs.leaf.iter.LinkedIter+LeafOf+K+V+LEN.get.Goals as goal
+use Rattle.tree_leaf.proofs.leaf.iter.LinkedIter+LeafOf+K+V+LEN+S.get.Goals as goal
 
 pub entry-requires : goal.entry-requires
 entry-requires g c = (search rules, stood_reachable _ _ _ _ c.self.invariant _ (sym c.slot.ensures ∙ c.in_ok-slot.was))
