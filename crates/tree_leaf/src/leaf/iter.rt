@@ -49,8 +49,8 @@ impl<'t, K: Ord + Drop, V: Drop, S: SlotWalk, const LEN: usize> LinkedIter<
     LeafOf<K, V, LEN>,
     S,
 > {
-    /// An iterator that stands unopened in a leaf. Runs in constant time. The caller must name a leaf of a
-    /// chain.
+    /// Creates an iterator that stands unopened in a leaf. Runs in constant time. The caller must name a leaf
+    /// of a chain.
     pub fn new<N: Drop>(arenas: &'t SlotsOf<K, V, N, LEN>, id: LeafId) -> Self
         requires { (front back : _) × IsChain arenas.now.leaves (front ++ id ∷ back) }
         ensures { result ≡ standing arenas.now.leaves id None }
@@ -58,7 +58,7 @@ impl<'t, K: Ord + Drop, V: Drop, S: SlotWalk, const LEN: usize> LinkedIter<
         Self::in_leaf(&arenas.leaves, id)
     }
 
-    /// An iterator that stands unopened in a leaf of a chain.
+    /// Creates an iterator that stands unopened in a leaf of a chain.
     fn in_leaf(leaves: &'t Slab<LeafOf<K, V, LEN>>, id: LeafId) -> Self
         requires { (front back : _) × IsChain leaves.now (front ++ id ∷ back) }
         ensures { result ≡ standing leaves.now id None }
@@ -68,8 +68,8 @@ impl<'t, K: Ord + Drop, V: Drop, S: SlotWalk, const LEN: usize> LinkedIter<
         LinkedIter { stand, slots }
     }
 
-    /// The entry that the iterator stands on: `None` before the first `next` in a leaf. Runs in constant
-    /// time.
+    /// Returns the entry that the iterator stands on, or `None` before the first `next` in a leaf. Runs in
+    /// constant time.
     pub fn get(&self) -> Option<(&'t K, &'t V)>
         ensures { option_map lent_entry result ≡ stood_on self.now }
     {
@@ -101,7 +101,7 @@ impl<'t, K: Ord + Drop, V: Drop, S: Reversible, const LEN: usize> LinkedIter<
     LeafOf<K, V, LEN>,
     S,
 > {
-    /// The key of the entry of the leaf that comes last on the way, if the leaf has one.
+    /// Returns the key that comes last on the way in its leaf, if the leaf has an entry.
     fn last_key(&self) -> Option<&'t K>
         ensures { option_copied result ≡ option_map (λ entry. entry.0) (first_on (opposite S.way) (here self.now)) }
     {
@@ -125,7 +125,8 @@ impl<'t, K: Ord + Drop, V: Drop, S: Reversible, const LEN: usize> LinkedIter<
 }
 
 impl<'t, K: Ord + Drop, V: Drop, const LEN: usize> LinkedIter<'t, LeafOf<K, V, LEN>, ArrayIter> {
-    /// The largest key of the leaf that the iterator stands in, if it has an entry. Runs in constant time.
+    /// Returns the largest key of the leaf that the iterator stands in, if the leaf has an entry. Runs in
+    /// constant time.
     pub fn max_key(&self) -> Option<&'t K>
         ensures { option_copied result ≡ option_map (λ entry. entry.0) (last_of (here self.now)) }
     {
@@ -134,7 +135,8 @@ impl<'t, K: Ord + Drop, V: Drop, const LEN: usize> LinkedIter<'t, LeafOf<K, V, L
 }
 
 impl<'t, K: Ord + Drop, V: Drop, const LEN: usize> LinkedIter<'t, LeafOf<K, V, LEN>, ArrayRevIter> {
-    /// The least key of the leaf that the iterator stands in, if it has an entry. Runs in constant time.
+    /// Returns the least key of the leaf that the iterator stands in, if the leaf has an entry. Runs in
+    /// constant time.
     pub fn min_key(&self) -> Option<&'t K>
         ensures { option_copied result ≡ option_map (λ entry. entry.0) (first_of (here self.now)) }
     {

@@ -1,4 +1,5 @@
-//! One trait for the two walks over the slots of an array, so that a walk over leaves is written once.
+//! The trait that both iterators over the slots of an array implement, so that an iterator over leaves is
+//! written once.
 use crate::leaf::stand::Way;
 use tree_array::array::{ArrayIter, ArrayRevIter};
 
@@ -14,19 +15,20 @@ pub trait SlotWalk: Drop {
 
     ghost walk: { Self → Walk };
 
-    /// Which way it goes.
+    /// Returns which way it goes.
     fn way() -> Way
         ensures { result ≡ way };
 
-    /// An iterator this way, at the place of one in ascending order.
+    /// Turns an iterator in ascending order into one this way, at the same place.
     fn at(slots: ArrayIter) -> Self
         ensures { walk result ≡ slots };
 
-    /// The slot that it stands at, if it has begun.
+    /// Returns the slot that it stands at, if it has begun.
     fn slot(&self) -> Option<u8>
         ensures { result ≡ option_and_then (slice_get (walk self.now).slots) (walk self.now).at };
 
-    /// Goes to the next slot on its way. `None`, with its place kept, where there is none.
+    /// Goes to the next slot on its way and returns it. Returns `None` and keeps its place where there is
+    /// none.
     fn step(&mut self) -> Option<u8>
         ensures slots { (walk self.new).slots ≡ (walk self.old).slots }
         ensures steps { StepsOver way (walk self.old).slots (walk self.old).at result (walk self.new).at };
@@ -35,7 +37,7 @@ pub trait SlotWalk: Drop {
     fn rewind(&mut self)
         ensures { walk self.new ≡ standing (walk self.old).slots None };
 
-    /// An iterator at the same place.
+    /// Returns an iterator at the same place.
     fn again(&self) -> Self
         ensures { walk result ≡ walk self.now };
 }
