@@ -145,6 +145,3 @@ impl<K: Ord + Drop, V: Drop, N: Drop, const LEN: usize> SlotsOf<K, V, N, LEN> {
         self.nodes.len()
     }
 }
-
-#[cfg(test)]
-mod tests;

@@ -83,10 +83,3 @@ impl<K: Ord + Drop, V: Drop, const LEN: usize> LeafOf<K, V, LEN> {
         (self.array.key(slot), self.array.val(slot))
     }
 }
-
-#[cfg(test)]
-mod comparison;
-#[cfg(test)]
-mod plain;
-#[cfg(test)]
-mod tests;

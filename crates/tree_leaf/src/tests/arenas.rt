@@ -1,5 +1,5 @@
 //! Arenas: each call with ample memory, and what a refusal leaves.
-use super::{Slots, SlotsOf};
+use crate::arena::{Slots, SlotsOf};
 use crate::leaf::{Leaf, LeafOf};
 use std::test::Fail;
 

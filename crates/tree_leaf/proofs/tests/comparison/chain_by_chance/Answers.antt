@@ -1,6 +1,6 @@
 use Rattle.std.proofs.Common.{rules, [], ◌∷◌}
 use Rattle.tree_leaf.proofs.Additions.{alone}
-use Rattle.tree_leaf.proofs.leaf.comparison.chain_by_chance.Goals as goal
+use Rattle.tree_leaf.proofs.tests.comparison.chain_by_chance.Goals as goal
 
 pub add_before-requires : goal.add_before-requires
 add_before-requires g c = (search rules, (search rules, ([], [], alone _ _ _ _ c.in-Ok.ensures.leaves c.in_ok-leaf_by_chance.ensures.prev c.in_ok-leaf_by_chance.ensures.next)))

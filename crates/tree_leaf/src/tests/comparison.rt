@@ -3,10 +3,10 @@ ghost use Rattle.std.specs.Prelude.{◌≡◌, ◌<◌, ◌∷◌, [], IfOk, Non
 ghost use Rattle.tree_array.specs.Length.{IsLen};
 ghost use Rattle.tree_leaf.specs.Chain.{IsChain};
 
-use super::plain::{Place, Plain};
-use super::{IterOf, LeafOf, RevIterOf, add_before};
+use super::plain::{Order, Place, Plain};
 use crate::arena::{LeafId, SlotsOf};
 use crate::laws::{entries_back, entries_on};
+use crate::leaf::{IterOf, LeafOf, LinkedIter, RevIterOf, SlotWalk, add_before};
 use std::alloc::{AllocError, Global};
 use std::process::Abort;
 use std::test::Fail;
@@ -120,13 +120,14 @@ fn key(entry: Option<(&u64, &u64)>) -> Option<u64> {
     }
 }
 
-/// Some calls by chance on a walk, each compared.
-fn steps_on<'t, const LEN: usize, R: Abort>(
+/// Some calls by chance on an iterator in this order, each compared.
+fn steps<'t, S: SlotWalk, const LEN: usize, R: Abort>(
     rt: &R,
     chance: &mut Chance,
-    walk: &mut IterOf<'t, u64, u64, LEN>,
+    walk: &mut LinkedIter<'t, LeafOf<u64, u64, LEN>, S>,
     plain: &Plain,
     place: &mut Place,
+    order: Order,
 ) -> Result<(), Fail> {
     for _ in 0..chance.below(9) {
         match chance.below(8) {
@@ -137,48 +138,18 @@ fn steps_on<'t, const LEN: usize, R: Abort>(
             1 => {
                 let mut ahead = *place;
                 let mut other = walk.clone()?;
-                assert_eq!(rt; key(other.next()), plain.next(&mut ahead));
+                assert_eq!(rt; key(other.next()), plain.next(&mut ahead, order));
                 assert_eq!(rt; key(other.get()), plain.get(ahead));
             }
-            2 | 3 => assert_eq!(rt; key(walk.jump()), plain.jump(place)),
-            _ => assert_eq!(rt; key(walk.next()), plain.next(place)),
+            2 | 3 => assert_eq!(rt; key(walk.jump()), plain.jump(place, order)),
+            _ => assert_eq!(rt; key(walk.next()), plain.next(place, order)),
         }
         assert_eq!(rt; key(walk.get()), plain.get(*place));
-        assert_eq!(rt; walk.max_key().copied(), plain.max_key(place.leaf));
     }
     Ok(())
 }
 
-/// The same on a walk against the order.
-fn steps_back<'t, const LEN: usize, R: Abort>(
-    rt: &R,
-    chance: &mut Chance,
-    walk: &mut RevIterOf<'t, u64, u64, LEN>,
-    plain: &Plain,
-    place: &mut Place,
-) -> Result<(), Fail> {
-    for _ in 0..chance.below(9) {
-        match chance.below(8) {
-            0 => {
-                walk.rewind();
-                place.at = None;
-            }
-            1 => {
-                let mut ahead = *place;
-                let mut other = walk.clone()?;
-                assert_eq!(rt; key(other.next()), plain.next_back(&mut ahead));
-                assert_eq!(rt; key(other.get()), plain.get(ahead));
-            }
-            2 | 3 => assert_eq!(rt; key(walk.jump()), plain.jump_back(place)),
-            _ => assert_eq!(rt; key(walk.next()), plain.next_back(place)),
-        }
-        assert_eq!(rt; key(walk.get()), plain.get(*place));
-        assert_eq!(rt; walk.min_key().copied(), plain.min_key(place.leaf));
-    }
-    Ok(())
-}
-
-/// A walk that goes some steps on, turns about, goes some steps back, and turns about again.
+/// An iterator that goes some steps on, turns about, goes some steps back, and turns about again.
 fn goes_about<'t, const LEN: usize, R: Abort>(
     rt: &R,
     chance: &mut Chance,
@@ -188,9 +159,11 @@ fn goes_about<'t, const LEN: usize, R: Abort>(
 ) -> Result<(), Fail> {
     let mut on = walk;
     for _ in 0..8 {
-        steps_on(rt, chance, &mut on, plain, &mut place)?;
+        steps(rt, chance, &mut on, plain, &mut place, Order::Ascending)?;
+        assert_eq!(rt; on.max_key().copied(), plain.max_key(place.leaf));
         let mut back = on.rev();
-        steps_back(rt, chance, &mut back, plain, &mut place)?;
+        steps(rt, chance, &mut back, plain, &mut place, Order::Descending)?;
+        assert_eq!(rt; back.min_key().copied(), plain.min_key(place.leaf));
         on = back.rev();
     }
     Ok(())
@@ -225,7 +198,14 @@ fn compare<const LEN: usize, R: Abort>(rt: &R, alloc: Global, seed: u64) -> Resu
     goes_about(rt, &mut chance, walk, plain, Place { leaf: 0, at: None })?;
     let mut walk = RevIterOf::new(&linked.arenas, linked.last);
     let mut place = Place { leaf: 3, at: None };
-    steps_back(rt, &mut chance, &mut walk, plain, &mut place)?;
+    steps(
+        rt,
+        &mut chance,
+        &mut walk,
+        plain,
+        &mut place,
+        Order::Descending,
+    )?;
     goes_about(rt, &mut chance, walk.rev(), plain, place)
 }
 

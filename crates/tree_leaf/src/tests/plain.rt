@@ -7,6 +7,13 @@ pub struct Plain {
     pub last: usize,
 }
 
+/// The order in which a walk goes through the entries.
+#[derive(Clone, Copy)]
+pub enum Order {
+    Ascending,
+    Descending,
+}
+
 /// Where a walk stands: the number of the leaf, and the place in the list if it has begun there.
 #[derive(Clone, Copy)]
 pub struct Place {
@@ -43,30 +50,25 @@ impl Plain {
         self.within(leaf, self.up_to(leaf).checked_sub(1))
     }
 
-    fn steps(&self, place: &mut Place, at: Option<usize>) -> Option<u64> {
+    /// Steps to the next entry in this order, within the leaf.
+    pub fn next(&self, place: &mut Place, order: Order) -> Option<u64> {
+        let at = match (order, place.at) {
+            (Order::Ascending, Some(at)) => Some(at.saturating_add(1)),
+            (Order::Ascending, None) => Some(self.before(place.leaf)),
+            (Order::Descending, Some(at)) => at.checked_sub(1),
+            (Order::Descending, None) => self.up_to(place.leaf).checked_sub(1),
+        };
         let key = self.within(place.leaf, at)?;
         place.at = at;
         Some(key)
     }
 
-    pub fn next(&self, place: &mut Place) -> Option<u64> {
-        let ahead = match place.at {
-            Some(at) => at.saturating_add(1),
-            None => self.before(place.leaf),
+    /// Goes to the nearest entry in this order that is in another leaf, or else to the leaf at that end.
+    pub fn jump(&self, place: &mut Place, order: Order) -> Option<u64> {
+        let (at, end) = match order {
+            Order::Ascending => (Some(self.up_to(place.leaf)), self.last),
+            Order::Descending => (self.before(place.leaf).checked_sub(1), 0),
         };
-        self.steps(place, Some(ahead))
-    }
-
-    pub fn next_back(&self, place: &mut Place) -> Option<u64> {
-        let behind = match place.at {
-            Some(at) => at,
-            None => self.up_to(place.leaf),
-        };
-        self.steps(place, behind.checked_sub(1))
-    }
-
-    /// Goes to the leaf of the entry at a place of the list, or else to the leaf at the end of the way.
-    fn jumps(&self, place: &mut Place, at: Option<usize>, end: usize) -> Option<u64> {
         let entry = match at {
             Some(at) => self.entries.get(at),
             None => None,
@@ -82,15 +84,5 @@ impl Plain {
             };
         }
         None
-    }
-
-    pub fn jump(&self, place: &mut Place) -> Option<u64> {
-        let ahead = self.up_to(place.leaf);
-        self.jumps(place, Some(ahead), self.last)
-    }
-
-    pub fn jump_back(&self, place: &mut Place) -> Option<u64> {
-        let behind = self.before(place.leaf);
-        self.jumps(place, behind.checked_sub(1), 0)
     }
 }

@@ -1,5 +1,5 @@
 use Rattle.std.proofs.Common.{◌≡◌, None}
-use Rattle.tree_leaf.proofs.leaf.comparison.leaf_by_chance.Given as goal
+use Rattle.tree_leaf.proofs.tests.comparison.leaf_by_chance.Given as goal
 
 abbrev pub invariant-loop-index : goal.invariant-loop-index
 invariant-loop-index g l = (l.leaf.prev ≡ None) × (l.leaf.next ≡ None)

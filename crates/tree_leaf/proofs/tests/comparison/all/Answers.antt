@@ -1,5 +1,5 @@
 use Rattle.std.proofs.Common.{rules, [], ◌∷◌}
-use Rattle.tree_leaf.proofs.leaf.comparison.all.Goals as goal
+use Rattle.tree_leaf.proofs.tests.comparison.all.Goals as goal
 
 pub entries_on-requires : goal.entries_on-requires
 entries_on-requires g c = (search rules, ([], _, c.requires))
