@@ -8,7 +8,7 @@ use Rattle.tree_array.specs.declared.answers.RemoveResult.TheVariants.{Success, 
 use Rattle.tree_leaf.specs.declared.leaf.stand.Way.{Way}
 use Rattle.tree_leaf.specs.Walks.{LeafWalk}
 use Rattle.tree_node.specs.Arenas.{TreeArenas}
-use Rattle.tree_node.specs.Ends.{BeginsPart, IsLinked}
+use Rattle.tree_walk.specs.Ends.{BeginsPart, IsLinked}
 use Rattle.tree_node.specs.Parts.{IsPart, Unchanged}
 use Rattle.tree_node.specs.Tree.{IsRetired, Stands, StandsOrRetired, leaves_at, nodes_at, walk}
 use Rattle.tree_node.proofs.Bare.{no_children}

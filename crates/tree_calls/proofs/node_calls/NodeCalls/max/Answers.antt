@@ -1,6 +1,6 @@
 use Rattle.std.proofs.Common.{rules, ◌<◌}
 use Rattle.tree_leaf.specs.declared.leaf.stand.Way.TheVariants.{Back}
-use Rattle.tree_node.specs.Ends.{IsLinked}
+use Rattle.tree_walk.specs.Ends.{IsLinked}
 use Rattle.tree_node.specs.Tree.{StandsOrRetired}
 use Rattle.tree_node.proofs.Sizes.{fits}
 use Rattle.tree_calls.proofs.FoundLevels.{is_found, linked_at, begins_at}
