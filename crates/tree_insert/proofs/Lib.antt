@@ -13,5 +13,6 @@ pub mod Places
 pub mod RaisedTrees
 pub mod Raises
 pub mod Rebuilds
+pub mod Replants
 pub mod Results
 pub mod Retries
