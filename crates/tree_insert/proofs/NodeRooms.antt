@@ -29,7 +29,7 @@ use Rattle.tree_insert.proofs.Rebuilds.{among, node_rebuilt, same_children, spli
 use Rattle.tree_node.proofs.Unchanged.{unchanged_by_keeping}
 
 -- a level above that of the leaf nodes
-pub two_up : (height : ℕ) → 1 < height → (level : ℕ) × (height ≡ suc (suc level))
+pub two_up : (level : ℕ) → 1 < level → (below : ℕ) × (level ≡ suc (suc below))
 two_up zero more = absurd (omega (arith, more))
 two_up (suc zero) more = absurd (omega (arith, more))
 two_up (suc (suc level)) more = (level, refl)
