@@ -12,5 +12,6 @@ pub mod NodeSplits
 pub mod RaisedTrees
 pub mod Raises
 pub mod Rebuilds
+pub mod Replants
 pub mod Results
 pub mod Retries

@@ -4,6 +4,7 @@ use Rattle.tree_insert.proofs.Attempts.{fewer_below}
 use Rattle.tree_insert.proofs.Descents.{first_level, full_under, has_none, has_some, leaf_full, leaf_stored, leaf_there, refused_below, stored_below, under}
 use Rattle.tree_insert.proofs.Retries.{child_part_at, last_attempt, no_room_either, part_with_room, refused_room, retried, room_by_split, which_still}
 use Rattle.tree_node.specs.declared.node.NodeOf.TheVariants.{Internal, Leaf}
+use Rattle.tree_node.proofs.LeafWrites.{with_array}
 use Rattle.tree_node.proofs.NodeKinds.{child_inside, inner_level, node_used}
 use Rattle.tree_node.proofs.Sizes.{fits}
 use Rattle.tree_insert.proofs.insertion.+insert_at.Goals as goal
@@ -31,7 +32,7 @@ insert_at-requires g t c κs within =
     let goes = under g.K.Ord.cmp c.args.level c.requires.node c.args.arenas.now c.args.id c.args.key (Leaf c.in-Leaf.node) (rw c.in-Leaf.is at c.node.ensures) c.in-Some.place.child (rw c.in-Some.is at c.child_place_for.ensures.child) c.requires.part in
     let below = leaf_full g.met.K.Ord.total _ c.args.level c.requires.node c.args.arenas.now c.args.id c.in-Some.place.child c.args.key c.args.val c.in-Leaf.node (rw c.in-Leaf.is at c.node.ensures) goes c.leaf_mut.result.now c.leaf_mut.ensures.value c.store.new.self c.store.result (rw c.array_mut.ensures.value at c.store.ensures) c.in-Full.key c.in-Full.val c.in-Full.is in
     let one = first_level g.met.K.Ord.total false c.args.level c.requires.node c.args.arenas.now c.args.id c.in-Some.place.child c.args.key c.args.val c.in-Leaf.node (rw c.in-Leaf.is at c.node.ensures) goes in
-    let made : HasMadeRoom g.K.Ord.cmp c.args.level _ c.make_room.new.arenas c.args.id c.in-Full.key = rw one (rw c.in-Ok-true.field-0-test at c.in-Ok-true.ensures.done) in
+    let made : HasMadeRoom g.K.Ord.cmp c.args.level (with_array c.args.arenas.now c.in-Some.place.child c.leaf_mut.result.now c.store.new.self) c.make_room.new.arenas c.args.id c.in-Full.key = rw one (rw c.in-Ok-true.field-0-test at c.in-Ok-true.ensures.done) in
     let less = last_attempt _ c.args.level _ _ c.args.id c.in-Some.place.child c.args.key c.args.val _ _ below c.requires.node c.make_room.new.arenas made in
     (omega (arith, less), (search rules, (within.0, (within.1, (search rules, (search (rules, c.requires-raw), (search (fits, c.requires-raw), (c.requires.node, inl (part_with_room _ c.args.level _ _ c.args.id c.in-Some.place.child c.args.key c.args.val _ _ below c.requires.node c.make_room.new.arenas made)))))))))
 
@@ -78,7 +79,7 @@ returns-in-Ok-true-clause-inserts g t c part =
     let goes = under g.K.Ord.cmp c.args.level c.requires.node c.args.arenas.now c.args.id c.args.key (Leaf c.in-Leaf.node) (rw c.in-Leaf.is at c.node.ensures) c.in-Some.place.child (rw c.in-Some.is at c.child_place_for.ensures.child) c.requires.part in
     let below = leaf_full g.met.K.Ord.total _ c.args.level c.requires.node c.args.arenas.now c.args.id c.in-Some.place.child c.args.key c.args.val c.in-Leaf.node (rw c.in-Leaf.is at c.node.ensures) goes c.leaf_mut.result.now c.leaf_mut.ensures.value c.store.new.self c.store.result (rw c.array_mut.ensures.value at c.store.ensures) c.in-Full.key c.in-Full.val c.in-Full.is in
     let one = first_level g.met.K.Ord.total false c.args.level c.requires.node c.args.arenas.now c.args.id c.in-Some.place.child c.args.key c.args.val c.in-Leaf.node (rw c.in-Leaf.is at c.node.ensures) goes in
-    let made : HasMadeRoom g.K.Ord.cmp c.args.level _ c.make_room.new.arenas c.args.id c.in-Full.key = rw one (rw c.in-Ok-true.field-0-test at c.in-Ok-true.ensures.done) in
+    let made : HasMadeRoom g.K.Ord.cmp c.args.level (with_array c.args.arenas.now c.in-Some.place.child c.leaf_mut.result.now c.store.new.self) c.make_room.new.arenas c.args.id c.in-Full.key = rw one (rw c.in-Ok-true.field-0-test at c.in-Ok-true.ensures.done) in
     retried _ c.args.level _ _ c.args.id c.in-Some.place.child c.args.key c.args.val _ _ below c.requires.node c.make_room.new.arenas made c.insert_at.new.arenas c.insert_at.result (c.insert_at.ensures.inserts (part_with_room _ c.args.level _ _ c.args.id c.in-Some.place.child c.args.key c.args.val _ _ below c.requires.node c.make_room.new.arenas made))
 
 pub returns-in-Ok-true-clause-retired : goal.returns-in-Ok-true-clause-retired
@@ -89,7 +90,7 @@ returns-in-Ok-false-clause-inserts g t c part =
     let goes = under g.K.Ord.cmp c.args.level c.requires.node c.args.arenas.now c.args.id c.args.key (Leaf c.in-Leaf.node) (rw c.in-Leaf.is at c.node.ensures) c.in-Some.place.child (rw c.in-Some.is at c.child_place_for.ensures.child) c.requires.part in
     let below = leaf_full g.met.K.Ord.total _ c.args.level c.requires.node c.args.arenas.now c.args.id c.in-Some.place.child c.args.key c.args.val c.in-Leaf.node (rw c.in-Leaf.is at c.node.ensures) goes c.leaf_mut.result.now c.leaf_mut.ensures.value c.store.new.self c.store.result (rw c.array_mut.ensures.value at c.store.ensures) c.in-Full.key c.in-Full.val c.in-Full.is in
     let one = first_level g.met.K.Ord.total false c.args.level c.requires.node c.args.arenas.now c.args.id c.in-Some.place.child c.args.key c.args.val c.in-Leaf.node (rw c.in-Leaf.is at c.node.ensures) goes in
-    let lacks : LacksRoom c.args.level _ c.make_room.new.arenas c.args.id c.in-Some.place.child = rw one (rw c.in-Ok-false.field-0-test at c.in-Ok-false.ensures.done) in
+    let lacks : LacksRoom c.args.level (with_array c.args.arenas.now c.in-Some.place.child c.leaf_mut.result.now c.store.new.self) c.make_room.new.arenas c.args.id c.in-Some.place.child = rw one (rw c.in-Ok-false.field-0-test at c.in-Ok-false.ensures.done) in
     no_room_either _ c.args.level _ _ c.args.id c.in-Some.place.child c.args.key c.args.val _ _ below c.requires.node c.make_room.new.arenas lacks
 
 pub returns-in-Ok-false-clause-retired : goal.returns-in-Ok-false-clause-retired
