@@ -21,12 +21,12 @@ use tree_insert::insertion::insert_at;
 use tree_leaf::arena::NodeId;
 use tree_leaf::leaf::{IterOf, RevIterOf};
 use tree_node::depth::level_of;
-use tree_walk::ends::{max_at, min_at};
 use tree_node::internal_node::InternalNodeOf;
 use tree_node::leaf_node::LeafNodeOf;
 use tree_node::look_ups::search_at;
 use tree_node::node::{ArenasOf, NodeOf};
 use tree_remove::removal::remove_at;
+use tree_walk::ends::{max_at, min_at};
 
 /// The calls on the number of a node, as `LeafNode::insert::<false, u64>(&mut arenas, id, key, val)`.
 ///
