@@ -1,4 +1,5 @@
 pub mod Arrivals
+pub mod Cells
 pub mod Insertion
 pub mod Keys
 pub mod Layout
@@ -8,5 +9,5 @@ pub mod Place
 pub mod Ranked
 pub mod Removal
 pub mod Sound
+pub mod Tabled
 pub mod Walk
-pub mod Word

@@ -7,5 +7,4 @@ mod cells;
 mod judge;
 mod keys;
 mod order;
-mod ranks;
 mod search;
