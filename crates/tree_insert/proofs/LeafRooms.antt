@@ -28,6 +28,10 @@ use Rattle.tree_node.proofs.Places.{IsForKey, high_for, low_for, place_for}
 use Rattle.tree_insert.proofs.Rebuilds.{among, leaf_rebuilt, room_made_by_rebuild}
 use Rattle.tree_node.proofs.Unchanged.{chain_same, unchanged_by_keeping}
 
+-- a reserve leaves a leaf as it was read
+pub leaf_read : {K V : Type 0} {LEN : ℕ} (old reserved : TreeArenas K V LEN) → KeepsBoth old reserved → (x : ℕ) (before after : LeafOf K V LEN) → get old.leaves x ≡ Some before → get reserved.leaves x ≡ Some after → before ≡ after
+leaf_read old reserved keeps x before after was is = let both : Some before ≡ Some after = sym was ∙ sym ((unchanged_by_keeping old reserved keeps).leaves x) ∙ is in cc
+
 module _ {K V : Type 0} {LEN : ℕ} {cmp : K → K → Ordering} (o : IsTotalOrder cmp) (old : TreeArenas K V LEN) (id x : ℕ) (key : K) (part : IsPart cmp 1 old id) (which : HasChildFor cmp key (get old.nodes id) x) where
   stood : Stands cmp 1 old None id None
   stood = part.stands

@@ -34,6 +34,10 @@ two_up zero more = absurd (omega (arith, more))
 two_up (suc zero) more = absurd (omega (arith, more))
 two_up (suc (suc level)) more = (level, refl)
 
+-- a reserve leaves a node as it was read
+pub node_read : {K V : Type 0} {LEN : ℕ} (old reserved : TreeArenas K V LEN) → KeepsBoth old reserved → (x : ℕ) (before after : NodeOf K LEN) → get old.nodes x ≡ Some before → get reserved.nodes x ≡ Some after → before ≡ after
+node_read old reserved keeps x before after was is = let both : Some before ≡ Some after = sym was ∙ sym ((unchanged_by_keeping old reserved keeps).nodes x) ∙ is in cc
+
 -- a write of a node takes none of the room that was reserved
 pub node_room_after_write : {K V : Type 0} {LEN : ℕ} (reserved : TreeArenas K V LEN) (x : ℕ) (node : NodeOf K LEN) → get reserved.nodes x ≡ Some node → (value : NodeOf K LEN) → HasPlaces reserved 0 1
     → HasRoomFor (with_value reserved.nodes x value) 1

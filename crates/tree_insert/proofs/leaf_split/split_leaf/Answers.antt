@@ -1,15 +1,12 @@
-use Rattle.std.proofs.Common.{rules, ◌≡◌, ◌-◌, ◌∙◌, drop, take, slice_get, None, Some, refl, sym, ap, arith}
+use Rattle.std.proofs.Common.{rules, ◌≡◌, ◌-◌, ◌∙◌, drop, take, slice_get, None, Some, refl, arith}
 use Rattle.slab.specs.Slab.{ContainsKey}
 use Rattle.tree_array.specs.Arrivals.{in_order}
 use Rattle.tree_node.specs.Tree.{Stands}
-use Rattle.tree_insert.proofs.LeafRooms.{chain_through, leaf_room_by_split, leaf_used, parent_kind, parent_was, room_after_write, separator_is_new}
+use Rattle.tree_insert.proofs.LeafRooms.{chain_through, leaf_read, leaf_room_by_split, leaf_used, parent_kind, parent_was, room_after_write, separator_is_new}
 use Rattle.tree_insert.proofs.Results.{on_err}
 use Rattle.tree_node.proofs.Sizes.{fits}
 use Rattle.tree_node.proofs.Unchanged.{unchanged_by_keeping}
 use Rattle.tree_insert.proofs.leaf_split.split_leaf.Goals as goal
-
-same_leaf : {A : Type 0} (x y : A) → Some x ≡ Some y → x ≡ y
-same_leaf x y both = cc
 
 pub leaf-requires : goal.leaf-requires
 leaf-requires g c =
@@ -47,7 +44,7 @@ put_leaf-requires g c =
     let cut = c.requires.cut in
     let separator = c.in_ok-separator.ensures in
     let read : c.leaf.result.now ≡ c.leaf_mut.result.now =
-    same_leaf c.leaf.result.now c.leaf_mut.result.now (rw (c.leaf_mut.ensures.value) at (sym c.leaf.ensures ∙ sym ((unchanged_by_keeping c.args.arenas.now c.reserve.new.self c.in_ok-reserve.ensures.0).leaves c.args.target))) in
+    leaf_read c.args.arenas.now c.reserve.new.self c.in_ok-reserve.ensures.0 c.args.target c.leaf.result.now c.leaf_mut.result.now c.leaf.ensures c.leaf_mut.ensures.value in
     let high : c.cut_low.new.array ≡ in_order (drop c.args.count c.leaf_mut.result.now.array.entries) = rw c.array_mut.ensures.value at c.cut_low.ensures.high in
     let low : c.cut_low.new.low ≡ in_order (take c.args.count c.leaf_mut.result.now.array.entries) = rw c.array_mut.ensures.value at c.cut_low.ensures.low in
     let last : slice_get c.leaf_mut.result.now.array.entries (c.args.count - 1) ≡ Some separator.0 = rw (c.array.ensures, read) at separator.1 in
@@ -69,7 +66,7 @@ pub returns-clause-done : goal.returns-clause-done
 returns-clause-done g c key which cut =
     let separator = c.in_ok-separator.ensures in
     let read : c.leaf.result.now ≡ c.leaf_mut.result.now =
-    same_leaf c.leaf.result.now c.leaf_mut.result.now (rw (c.leaf_mut.ensures.value) at (sym c.leaf.ensures ∙ sym ((unchanged_by_keeping c.args.arenas.now c.reserve.new.self c.in_ok-reserve.ensures.0).leaves c.args.target))) in
+    leaf_read c.args.arenas.now c.reserve.new.self c.in_ok-reserve.ensures.0 c.args.target c.leaf.result.now c.leaf_mut.result.now c.leaf.ensures c.leaf_mut.ensures.value in
     let high : c.cut_low.new.array ≡ in_order (drop c.args.count c.leaf_mut.result.now.array.entries) = rw c.array_mut.ensures.value at c.cut_low.ensures.high in
     let low : c.cut_low.new.low ≡ in_order (take c.args.count c.leaf_mut.result.now.array.entries) = rw c.array_mut.ensures.value at c.cut_low.ensures.low in
     let last : slice_get c.leaf_mut.result.now.array.entries (c.args.count - 1) ≡ Some separator.0 = rw (c.array.ensures, read) at separator.1 in

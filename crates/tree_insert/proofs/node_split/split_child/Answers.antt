@@ -4,7 +4,7 @@ use Rattle.tree_array.specs.Insertion.{HasRoom}
 use Rattle.tree_array.specs.Length.{limit}
 use Rattle.tree_node.specs.Tree.{keyed}
 use Rattle.tree_insert.proofs.Fulls.{full_room, not_full_room}
-use Rattle.tree_insert.proofs.NodeRooms.{above_kind, above_was, child_used, node_room_after_write, parent_stays, parent_used, separator_is_new, split_anew, split_in_two, two_up}
+use Rattle.tree_insert.proofs.NodeRooms.{above_kind, above_was, child_used, node_read, node_room_after_write, parent_stays, parent_used, separator_is_new, split_anew, split_in_two, two_up}
 use Rattle.tree_insert.proofs.Results.{on_err}
 use Rattle.tree_node.proofs.Sizes.{fits}
 use Rattle.tree_node.proofs.Unchanged.{unchanged_by_keeping}
@@ -58,7 +58,7 @@ node_mut-requires-2 g c =
 pub cut_node-separator-requires : goal.cut_node-separator-requires
 cut_node-separator-requires g c =
     let read : c.node-2.result.now ≡ c.node_mut-2.result.now =
-    same_value _ _ (sym c.node-2.ensures ∙ sym ((unchanged_by_keeping _ _ c.in_ok-reserve.ensures.0).nodes c.args.target) ∙ c.node_mut-2.ensures.value) in
+    node_read c.args.arenas.now c.reserve.new.self c.in_ok-reserve.ensures.0 c.args.target c.node-2.result.now c.node_mut-2.result.now c.node-2.ensures c.node_mut-2.ensures.value in
     let within : c.in-Some.place < length (keyed c.node_mut-2.result.now).entries = rw read at c.in-Some.ensures.place.1 in
     (search (rules, c.requires-raw), (c.place_to_part.ensures.sound.is_len, within))
 
@@ -73,7 +73,7 @@ pub node_mut-requires-3 : goal.node_mut-requires-3
 node_mut-requires-3 g c =
     let up = two_up c.requires.part.0 c.requires.part.1 in
     let read : c.node-2.result.now ≡ c.node_mut-2.result.now =
-    same_value _ _ (sym c.node-2.ensures ∙ sym ((unchanged_by_keeping _ _ c.in_ok-reserve.ensures.0).nodes c.args.target) ∙ c.node_mut-2.ensures.value) in
+    node_read c.args.arenas.now c.reserve.new.self c.in_ok-reserve.ensures.0 c.args.target c.node-2.result.now c.node_mut-2.result.now c.node-2.ensures c.node_mut-2.ensures.value in
     let within : c.in-Some.place < length (keyed c.node_mut-2.result.now).entries = rw read at c.in-Some.ensures.place.1 in
     let stays = parent_stays g.met.K.Ord.total up.0 c.args.arenas.now c.args.parent c.args.target (rw up.1 at c.requires.part.2) c.requires.child _ c.add_node.new.self _ c.in-Some.place c.node_mut-2.result.now _ _ _
     c.in_ok-reserve.ensures.0 c.node_mut-2.ensures.value c.cut_node-separator.ensures c.in-Ok.ensures.nodes c.in-Ok.ensures.leaves within in
@@ -85,7 +85,7 @@ pub put_node-requires : goal.put_node-requires
 put_node-requires g c =
     let up = two_up c.requires.part.0 c.requires.part.1 in
     let read : c.node-2.result.now ≡ c.node_mut-2.result.now =
-    same_value _ _ (sym c.node-2.ensures ∙ sym ((unchanged_by_keeping _ _ c.in_ok-reserve.ensures.0).nodes c.args.target) ∙ c.node_mut-2.ensures.value) in
+    node_read c.args.arenas.now c.reserve.new.self c.in_ok-reserve.ensures.0 c.args.target c.node-2.result.now c.node_mut-2.result.now c.node-2.ensures c.node_mut-2.ensures.value in
     let within : c.in-Some.place < length (keyed c.node_mut-2.result.now).entries = rw read at c.in-Some.ensures.place.1 in
     let above = above_was g.met.K.Ord.total up.0 c.args.arenas.now c.args.parent c.args.target (rw up.1 at c.requires.part.2) c.requires.child _ c.add_node.new.self _ c.in-Some.place c.node_mut-2.result.now _ _ _
     c.in_ok-reserve.ensures.0 c.node_mut-2.ensures.value c.cut_node-separator.ensures c.in-Ok.ensures.nodes c.in-Ok.ensures.leaves within _ c.node_mut-3.ensures.value in
@@ -106,7 +106,7 @@ pub returns-clause-done : goal.returns-clause-done
 returns-clause-done g c level deep part =
     let up = two_up level deep in
     let read : c.node-2.result.now ≡ c.node_mut-2.result.now =
-    same_value _ _ (sym c.node-2.ensures ∙ sym ((unchanged_by_keeping _ _ c.in_ok-reserve.ensures.0).nodes c.args.target) ∙ c.node_mut-2.ensures.value) in
+    node_read c.args.arenas.now c.reserve.new.self c.in_ok-reserve.ensures.0 c.args.target c.node-2.result.now c.node_mut-2.result.now c.node-2.ensures c.node_mut-2.ensures.value in
     let within : c.in-Some.place < length (keyed c.node_mut-2.result.now).entries = rw read at c.in-Some.ensures.place.1 in
     let above = above_was g.met.K.Ord.total up.0 c.args.arenas.now c.args.parent c.args.target (rw up.1 at part) c.requires.child _ c.add_node.new.self _ c.in-Some.place c.node_mut-2.result.now _ _ _
     c.in_ok-reserve.ensures.0 c.node_mut-2.ensures.value c.cut_node-separator.ensures c.in-Ok.ensures.nodes c.in-Ok.ensures.leaves within _ c.node_mut-3.ensures.value in
