@@ -15,8 +15,8 @@ use std::marker::Model;
 use tree_array::array::{IndexKey, Judge, StoreResult};
 use tree_leaf::arena::NodeId;
 use tree_model::InsertError;
-use tree_walk::listing::list_at;
 use tree_node::node::ArenasOf;
+use tree_walk::listing::list_at;
 use tree_walk::spare::spare_at;
 
 /// An ordered index of pairs of a key and a value, with fifteen pairs a leaf. See [`TreeIndexOf`].

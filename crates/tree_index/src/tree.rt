@@ -12,14 +12,14 @@ ghost use Rattle.tree_index.specs.Trees.{IsWhole, Stores, Takes, pairs_of, spare
 
 use std::alloc::Global;
 use tree_array::array::{IndexKey, Judge, RemoveResult, StoreResult};
-use tree_leaf::arena::NodeId;
 use tree_insert::insertion::insert_at;
-use tree_node::look_ups::search_at;
-use tree_remove::lowering::lower_root_at;
-use tree_node::node::ArenasOf;
 use tree_insert::planting::plant;
-use tree_remove::removal::remove_at;
 use tree_insert::root::split_root_at;
+use tree_leaf::arena::NodeId;
+use tree_node::look_ups::search_at;
+use tree_node::node::ArenasOf;
+use tree_remove::lowering::lower_root_at;
+use tree_remove::removal::remove_at;
 
 /// Arenas, and the root of the tree in them with its level, if there is one.
 #[derive(Drop)]
