@@ -1,5 +1,4 @@
 pub mod Arrivals
-pub mod Cells
 pub mod Insertion
 pub mod Layout
 pub mod Length
@@ -8,5 +7,5 @@ pub mod Place
 pub mod Ranked
 pub mod Removal
 pub mod Sound
-pub mod Tabled
 pub mod Walk
+pub mod Word

@@ -6,4 +6,5 @@ pub mod array;
 mod cells;
 mod judge;
 mod order;
+mod ranks;
 mod search;

@@ -1,7 +1,0 @@
-//! Slots that own a value or nothing, and take no more memory than the value.
-#![tactic(auto)]
-
-pub mod row;
-pub mod slot;
-#[cfg(test)]
-mod tests;
