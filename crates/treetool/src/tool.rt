@@ -1,5 +1,5 @@
 //! The program over streams that are passed to it.
-ghost use Rattle.std.specs.Prelude.{◌≡◌, ◌⊎◌, ◌<◌, [], length};
+ghost use Rattle.std.specs.Prelude.{◌≡◌, ◌⊎◌, ◌<◌, length};
 ghost use Rattle.treetool.specs.Tool.{RefusesArguments, RunsTool};
 
 use std::alloc::Global;
