@@ -1,15 +1,15 @@
 //! How a tree gains and loses levels at its root.
 ghost use Rattle.std.specs.Prelude.{◌≡◌, ◌⊎◌, ◌+◌, ◌^◌, ◌<◌, IfOk, IsOk, MatchOption, None, OnErr, Some, ℕ};
 ghost use Rattle.slab.specs.Slab.{get};
+ghost use Rattle.tree_insert.specs.Roots.{Replants};
 ghost use Rattle.tree_insert.specs.Splits.{RaisesRoot};
 ghost use Rattle.tree_leaf.specs.Arena.{HasPlaces};
 ghost use Rattle.tree_node.specs.Parts.{IsPart, Unchanged};
-ghost use Rattle.tree_node.specs.Shape.{room};
 ghost use Rattle.tree_node.specs.Tree.{IsOfLevel, IsRetired};
 ghost use Rattle.tree_remove.specs.Lowering.{LowersRoot};
 
 use std::alloc::AllocError;
-use tree_insert::root::split_root_at;
+use tree_insert::root::grow_root_at;
 use tree_leaf::arena::NodeId;
 use tree_node::depth::level_of;
 use tree_node::node::{ArenasOf, NodeOf};
@@ -18,28 +18,28 @@ use tree_remove::lowering::lower_root_at;
 /// The calls on the number of a root alone. The ghost parameter `level` is the tree's depth. Each call first reads one
 /// node per level, to find it.
 pub trait RootCalls<K: Ord + Drop, const LEN: usize> {
-    /// Puts a root without room under a new one, makes room in it there, and returns the new root's number.
+    /// Makes room under a root, and returns the number of the root then: puts it under a new root and splits it there. A
+    /// retired root keeps its number and becomes a leaf node over one empty leaf.
     ///
-    /// Returns `Err` if memory is refused, and then nothing changed; never if places for two nodes were reserved.
-    /// Allocates at most two nodes.
+    /// Returns `Err` if memory is refused, and then nothing changed; never if places for two nodes were reserved, or,
+    /// under a retired root, a place for a leaf. Allocates at most two nodes, or one leaf.
     ///
-    /// The caller must give the number of a root under which a well-formed tree stands and which has no room for a keyed
-    /// child.
+    /// The caller must give the number of a root under which a well-formed tree stands or which is retired.
     final fn split_root<V: Drop>(
         arenas: &mut ArenasOf<K, V, LEN>,
         root: NodeId,
     ) -> Result<NodeId, AllocError>
         ghost level: { ℕ }
         requires node { 0 < level }
-        requires part { IsPart K.cmp level arenas.old root }
-        requires full { room level arenas.old root ≡ 0 }
-        ensures done { IfOk result (λ id. RaisesRoot K.cmp level arenas.old arenas.new root id) }
-        ensures levels { IfOk result (λ _. level + 1 < 2 ^ 64) }
+        requires part { IsPart K.cmp level arenas.old root ⊎ IsRetired level arenas.old root }
+        ensures raised { IsPart K.cmp level arenas.old root → IfOk result (λ id. RaisesRoot K.cmp level arenas.old arenas.new root id × (level + 1 < 2 ^ 64)) }
+        ensures replanted { IsRetired level arenas.old root → IfOk result (λ id. (id ≡ root) × Replants K.cmp arenas.old arenas.new root) }
         ensures err { OnErr result (Unchanged arenas.old arenas.new) }
-        ensures places { HasPlaces arenas.old 0 2 → IsOk result }
+        ensures places { IsPart K.cmp level arenas.old root → HasPlaces arenas.old 0 2 → IsOk result }
+        ensures leaf_place { IsRetired level arenas.old root → HasPlaces arenas.old 1 0 → IsOk result }
     {
         let level = level_of(arenas, root);
-        split_root_at(arenas, level, root)
+        grow_root_at(arenas, level, root)
     }
 
     /// Returns the root after a removal: an internal root without keyed children gives its place to its unbounded
