@@ -4,12 +4,15 @@ use Rattle.std.specs.declared.cmp.Ordering.{Ordering}
 use Rattle.std.specs.declared.cmp.Ordering.TheVariants.{Equal}
 use Rattle.std.specs.Cmp.{IsTotalOrder}
 use Rattle.std.specs.Ordering.{is_eq}
+use Rattle.std.proofs.lemmas.Bool.{cases_lt}
 use Rattle.std.proofs.lemmas.Cmp.{tied_back}
 use Rattle.std.proofs.lemmas.Option.{none-some}
 use Rattle.tree_array.specs.Arrivals.{arrival, reachable, sorted}
 use Rattle.tree_array.specs.Layout.{picked}
-use Rattle.tree_array.specs.Place.{Parts}
+use Rattle.tree_array.specs.Place.{Parts, IsPlace}
+use Rattle.tree_array.specs.declared.search.Place.TheVariants.{Before}
 use Rattle.tree_array.specs.Ranked.{IsRanked}
+use Rattle.tree_array.specs.Tabled.{IsTabled}
 use Rattle.tree_model.specs.Pairs.{pair_at}
 use Rattle.tree_model.proofs.Lists.{find_none}
 use Rattle.tree_model.proofs.LookUps.{equal_from_test}
@@ -48,12 +51,22 @@ module _ {K V : Type 0} {cmp : K → K → Ordering} (o : IsTotalOrder cmp) {pic
       pair_at-sorted o key (reachable (picked pick made))
       ∙ reachable_found cmp key (picked pick made) p e (stands p ∙ some) (ap is_eq back) (λ q f there alike. one_place key p q e f some (sym (stands q) ∙ there) back (equal_from_test _ alike))
 
-  -- where the key stands above a rank alone, it has no entry
-  pub found_none : (key : K) (low : ℕ) → Parts cmp pick rank made key low → pair_at cmp (sorted cmp (reachable (picked pick made))) key ≡ None
-  found_none key low parts =
-      pair_at-sorted o key (reachable (picked pick made))
-      ∙ find_none _ (reachable (picked pick made)) (all-reachable _ (picked pick made) (λ p e there.
-      elim (parts p e (sym (arrival-all pick made it.unmade p) ∙ there)) [
-        | inl h ↦ ap is_eq (less_from_greater o key e.0 h.1)
-        | inr h ↦ ap is_eq (greater_from_less o key e.0 h.1)
-      ]))
+module _ {K V : Type 0} {cmp : K → K → Ordering} (o : IsTotalOrder cmp) {len : ℕ} {cells : List (Option (K × V))} {order made count : ℕ} (it : IsTabled cmp len cells order made count) {key : K} {low : ℕ} (parts : Parts cmp cells order count key low) where
+  -- a key that parts the entries is none of theirs
+  pub other_key : (p : ℕ) (e : K × V) → arrival cells p ≡ Some e → is_eq (cmp e.0 key) ≡ false
+  other_key p e some =
+      let i = it.listed p e some in
+      elim (cases_lt i.0 low) [
+        | inl lt ↦ ap is_eq (less_from_greater o key e.0 (parts.smaller i.0 e lt (ap (arrival cells) i.2 ∙ some)))
+        | inr ge ↦ ap is_eq (greater_from_less o key e.0 (parts.larger i.0 e ge i.1 (ap (arrival cells) i.2 ∙ some)))
+      ]
+
+  pub found_none : pair_at cmp (sorted cmp (reachable (picked (arrival cells) made))) key ≡ None
+  found_none =
+      pair_at-sorted o key (reachable (picked (arrival cells) made))
+      ∙ find_none _ (reachable (picked (arrival cells) made)) (all-reachable _ (picked (arrival cells) made) (λ p e there. other_key p e (sym (arrival-all (arrival cells) made it.unmade p) ∙ there)))
+
+-- a key that comes before a place, or behind all, is none of the entries'
+pub before_none : {K V : Type 0} {cmp : K → K → Ordering} (o : IsTotalOrder cmp) {len : ℕ} {cells : List (Option (K × V))} {order made count : ℕ} (it : IsTabled cmp len cells order made count) (key : K) (place slot : ℕ) → IsPlace cmp cells order count key (Before place slot) → pair_at cmp (sorted cmp (reachable (picked (arrival cells) made))) key ≡ None
+before_none o it key place slot (inl here) = found_none o it here.2
+before_none o it key place slot (inr behind) = found_none o it behind.2

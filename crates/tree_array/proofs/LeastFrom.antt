@@ -4,28 +4,29 @@ use Rattle.std.specs.declared.cmp.Ordering.{Ordering}
 use Rattle.std.specs.declared.cmp.Ordering.TheVariants.{Less, Equal, Greater}
 use Rattle.std.specs.Cmp.{IsTotalOrder}
 use Rattle.std.specs.List.{AllByRecursion}
-use Rattle.std.specs.Ordering.{is_le, is_ge, nat_cmp}
-use Rattle.std.proofs.lemmas.Bool.Decides.{nat_tests}
+use Rattle.std.specs.Ordering.{is_le, is_ge}
+use Rattle.std.proofs.lemmas.Bool.{cases_order}
 use Rattle.std.proofs.lemmas.Cmp.{tied_back, tied_itself}
 use Rattle.std.proofs.lemmas.Option.{none-some, same_Some}
-use Rattle.std.specs.Option.{MatchOption}
-use Rattle.tree_array.specs.Arrivals.{Arrivals, arrival, reachable, sorted, least_from}
+use Rattle.tree_array.specs.Arrivals.{arrival, reachable, sorted, least_from}
 use Rattle.tree_array.specs.Layout.{picked}
-use Rattle.tree_array.specs.Place.{Parts, IsNext, IsNextAbove}
-use Rattle.tree_array.specs.Ranked.{IsRanked, seen}
+use Rattle.tree_array.specs.Order.{named}
+use Rattle.tree_array.specs.Place.{Parts, IsPlace, slot_of}
+use Rattle.tree_array.specs.declared.search.Place.{Place}
+use Rattle.tree_array.specs.declared.search.Place.TheVariants.{At, Before}
+use Rattle.tree_array.specs.Ranked.{IsRanked}
+use Rattle.tree_array.specs.Tabled.{IsTabled}
 use Rattle.tree_model.specs.Pairs.{IsAscending, AllLarger, pair_at}
 use Rattle.tree_model.proofs.Lists.{find_none}
 use Rattle.tree_model.proofs.LookUps.{none_larger}
 use Rattle.tree_model.proofs.Order.{greater_from_less, less_from_greater}
 use Rattle.tree_array.proofs.Entries.{all-reachable}
 use Rattle.tree_array.proofs.Found.{found_at}
-use Rattle.tree_array.proofs.Picks.{arrival-all, made_early, some_of}
-use Rattle.tree_array.proofs.RankOrder.{some_from_rank}
-use Rattle.tree_array.proofs.Seen.{arrival_seen, entries_seen}
+use Rattle.tree_array.proofs.Picks.{arrival-all}
+use Rattle.tree_array.proofs.Walks.{ranked_of}
+use Rattle.tree_array.proofs.Slots.{len_small}
 use Rattle.tree_array.proofs.Sorted.{IsAscending-sorted, all-sorted}
-
-le_from_rank : (a b : ℕ) → a ≤ b → is_le (nat_cmp a b) ≡ true
-le_from_rank a b le = grind (arith, nat_tests)
+use Rattle.tree_array.proofs.Tabled.{early}
 
 module _ {K : Type 0} {cmp : K → K → Ordering} (o : IsTotalOrder cmp) (key : K) where
   -- a key that isn't less is one that the other isn't greater than
@@ -70,30 +71,36 @@ module _ {K V : Type 0} {cmp : K → K → Ordering} (o : IsTotalOrder cmp) (key
         let back : cmp e.0 key ≡ Equal = tied_back o key e.0 same in
         first_entry p e some (ap is_ge back) (λ q f there from. ap is_le (o.congr e.0 key f.0 back) ∙ le_from_ge o key f.0 from)
 
-    module _ (low : ℕ) (parts : Parts cmp pick rank made key low) where
-      -- the entry with the next rank above the smaller ones
-      pub least_above : (p : ℕ) (e : K × V) → pick p ≡ Some e → IsNextAbove rank made low p → least_from cmp (sorted cmp (reachable (picked pick made))) key ≡ Some e
-      least_above p e some next = first_entry p e some from (λ q f there from'. elim (parts q f there) [
-        | inl smaller ↦ absurd (let h : false ≡ true = sym (ap is_ge (less_from_greater o key f.0 smaller.1)) ∙ from' in cc)
-        | inr larger ↦ ap is_le (it.order p q e f some there) ∙ le_from_rank (rank p) (rank q) (next.least q (made_early pick made it.unmade q f there) larger.0)
-      ])
-        where
-          from : is_ge (cmp e.0 key) ≡ true
-          from = elim (parts p e some) [
-            | inl smaller ↦ absurd (omega (arith, next.above, smaller.0))
-            | inr larger ↦ ap is_ge (greater_from_less o key e.0 larger.1)
-          ]
+  module _ {len : ℕ} {cells : List (Option (K × V))} {order made count : ℕ} (it : IsTabled cmp len cells order made count) {low : ℕ} (parts : Parts cmp cells order count key low) where
+    -- the entry at the place that parts them
+    pub least_above : low < count → (e : K × V) → arrival cells (named order low) ≡ Some e → least_from cmp (sorted cmp (reachable (picked (arrival cells) made))) key ≡ Some e
+    least_above lt e some = first_entry (ranked_of o it) (named order low) e some (ap is_ge (greater_from_less o key e.0 (parts.larger low e (omega arith) lt some))) (λ q f there from. after q f there from)
+      where
+        after : (q : ℕ) (f : K × V) → arrival cells q ≡ Some f → is_ge (cmp f.0 key) ≡ true → is_le (cmp e.0 f.0) ≡ true
+        after q f there from =
+            let j = it.listed q f there in
+            let at_j : arrival cells (named order j.0) ≡ Some f = ap (arrival cells) j.2 ∙ there in
+            elim (cases_order low j.0) [
+              | inl same ↦ let one : e ≡ f = same_Some e f (sym some ∙ ap (λ (p : ℕ). arrival cells (named order p)) same ∙ at_j) in rw (← one) (ap is_le (tied_itself o e.0))
+              | inr (inl less) ↦ ap is_le (it.in_order.ascends low j.0 e f less j.1 some at_j)
+              | inr (inr more) ↦ absurd (let h : false ≡ true = sym (ap is_ge (less_from_greater o key f.0 (parts.smaller j.0 f more at_j))) ∙ from in cc)
+            ]
 
-      -- no entry, where no rank is above the smaller ones
-      pub least_none : ((p : ℕ) → p < made → rank p ≤ low) → least_from cmp (sorted cmp (reachable (picked pick made))) key ≡ None
-      least_none none = find_none _ (sorted cmp (reachable (picked pick made))) (all_entries _ (λ p e some. elim (parts p e some) [
-        | inl smaller ↦ ap is_ge (less_from_greater o key e.0 smaller.1)
-        | inr larger ↦ absurd (omega (arith, larger.0, none p (made_early pick made it.unmade p e some)))
-      ]))
+    -- no entry, where all are smaller
+    pub least_none : count ≤ low → least_from cmp (sorted cmp (reachable (picked (arrival cells) made))) key ≡ None
+    least_none all = find_none _ (sorted cmp (reachable (picked (arrival cells) made))) (all_entries (ranked_of o it) _ (λ p e some.
+        let i = it.listed p e some in
+        ap is_ge (less_from_greater o key e.0 (parts.smaller i.0 e (omega (arith, i.1)) (ap (arrival cells) i.2 ∙ some)))))
 
-      -- so a search for the next rank answers the slot of that entry
-      pub least_seen : (ranks : ℕ) {array : Arrivals K V} → seen cmp pick ranks made ≡ array → made ≤ 15 → (found : Option ℕ) → IsNext rank made low found → MatchOption found (least_from cmp array.entries key ≡ None) (λ slot. (e : K × V) × (arrival array.arrivals slot ≡ Some e) × (least_from cmp array.entries key ≡ Some e))
-      least_seen ranks view_is few None none = rw (entries_seen cmp pick ranks made view_is) (least_none none)
-      least_seen ranks view_is few (Some slot) next =
-          let there = some_of _ (some_from_rank it slot (omega (arith, next.early)) (omega (arith, next.above))) in
-          (there.0, arrival_seen cmp pick ranks made view_is it slot ∙ there.1, rw (entries_seen cmp pick ranks made view_is) (least_above slot there.0 there.1 next))
+  -- what the slot of a place says of the least entry
+  pub least_of : {len : ℕ} {cells : List (Option (K × V))} {order made count : ℕ} (it : IsTabled cmp len cells order made count) (place : Place) → IsPlace cmp cells order count key place → ((slot_of place < 15 → (e : K × V) × (arrival cells (slot_of place) ≡ Some e) × (least_from cmp (sorted cmp (reachable (picked (arrival cells) made))) key ≡ Some e)) × (15 ≤ slot_of place → least_from cmp (sorted cmp (reachable (picked (arrival cells) made))) key ≡ None))
+  least_of {cells = cells} {order = order} it (At p s) h = (
+    λ lt. (h.0.pair, ap (arrival cells) (sym h.1) ∙ h.0.there, least_at (ranked_of o it) (named order p) h.0.pair h.0.there h.0.same),
+    λ le. absurd (omega (arith, h.1, early o it p h.0.early, it.few_made, len_small _ it.is_len)),
+  )
+  least_of {cells = cells} {order = order} it (Before p s) (inl here) =
+      let e = it.in_order.stands p here.0 in (
+        λ lt. (e.0, ap (arrival cells) (sym here.1) ∙ e.1, least_above it here.2 here.0 e.0 e.1),
+        λ le. absurd (omega (arith, here.1, early o it p here.0, it.few_made, len_small _ it.is_len)),
+      )
+  least_of it (Before p s) (inr behind) = (λ lt. absurd (omega (arith, behind.1)), λ le. least_none it behind.2 (omega arith))

@@ -1,25 +1,25 @@
-pub mod Appended
-pub mod Bitmap
 pub mod Dealt
-pub mod Emptied
-pub mod Entries
-pub mod Found
-pub mod Joined
-pub mod Kept
-pub mod LeastFrom
-pub mod Orders
-pub mod Picks
-pub mod Places
-pub mod Ranges
-pub mod RankOrder
-pub mod Removed
-pub mod Rises
-pub mod Searching
-pub mod Seen
+mod Emptied
+mod Entries
+mod Filled
+mod Found
+mod Halving
+mod Kept
+mod LeastFrom
+mod Picks
+mod Places
+mod Ranges
+mod RankOrder
+mod Removed
+mod Rises
+mod Seen
+mod Sizes
 pub mod Slots
-pub mod Sorted
-pub mod Stored
-pub mod Taken
-pub mod Valued
-pub mod Walks
-pub mod Word
+mod Sorted
+mod Stored
+mod Tabled
+mod Taken
+mod Valued
+mod Walks
+mod Word
+mod Zips

@@ -1,10 +1,10 @@
 -- The arrivals of an array, as a list of what is picked by their numbers.
-use Rattle.std.proofs.Common.{◌≡◌, ◌⊎◌, ℕ, zero, suc, ◌+◌, ◌-◌, ◌<◌, ◌≤◌, List, [], ◌∷◌, ◌++◌, map, length, true, false, Option, None, Some, IsSome, refl, sym, ◌∙◌, ap, inl, inr, add-one, length-append, arith}
+use Rattle.std.proofs.Common.{◌≡◌, ◌⊎◌, ℕ, zero, suc, ◌+◌, ◌-◌, ◌<◌, ◌≤◌, List, [], ◌∷◌, ◌++◌, map, length, get_or, slice_get, true, false, Option, None, Some, IsSome, refl, sym, ◌∙◌, ap, inl, inr, add-one, length-append, arith}
 use Rattle.std.specs.Option.{is_some}
 use Rattle.std.proofs.lemmas.Bool.{cases_lt}
 use mathlib.Core.Bool.{false≢true}
 use Rattle.std.proofs.lemmas.List.{get_or_append_left, get_or-append_right, get_or_past, map-append}
-use Rattle.std.proofs.lemmas.Option.{none-some}
+use Rattle.std.proofs.lemmas.Option.{none-some, slice_get-get_or}
 use Rattle.tree_array.specs.Arrivals.{arrival, reachable}
 use Rattle.tree_array.specs.Layout.{picked}
 
@@ -13,23 +13,31 @@ pub cases_option : {A : Type 0} (o : Option A) → (o ≡ None) ⊎ ((a : A) × 
 cases_option None = inl refl
 cases_option (Some a) = inr (a, refl)
 
-module _ {K V : Type 0} where
-  pub picked-next : (pick : ℕ → Option (K × V)) (n : ℕ) → picked pick (n + 1) ≡ picked pick n ++ pick n ∷ []
+module _ {X : Type 0} where
+  pub picked-next : (pick : ℕ → X) (n : ℕ) → picked pick (n + 1) ≡ picked pick n ++ pick n ∷ []
   picked-next pick n = rw (add-one n) refl
 
-  pub length-picked : (pick : ℕ → Option (K × V)) (n : ℕ) → length (picked pick n) ≡ n
+  pub length-picked : (pick : ℕ → X) (n : ℕ) → length (picked pick n) ≡ n
   length-picked pick zero = refl
   length-picked pick (suc n) = omega (arith, length-append (picked pick n) (pick n ∷ []), length-picked pick n)
 
-  pub arrival-picked : (pick : ℕ → Option (K × V)) (n p : ℕ) → p < n → arrival (picked pick n) p ≡ pick p
-  arrival-picked pick zero p lt = absurd (omega arith)
-  arrival-picked pick (suc n) p lt = elim (cases_lt p n) [
-    | inl before ↦ get_or_append_left (picked pick n) (pick n ∷ []) None p (omega (arith, length-picked pick n)) ∙ arrival-picked pick n p before
+  pub get_or-picked : (pick : ℕ → X) (n p : ℕ) (d : X) → p < n → get_or (picked pick n) p d ≡ pick p
+  get_or-picked pick zero p d lt = absurd (omega arith)
+  get_or-picked pick (suc n) p d lt = elim (cases_lt p n) [
+    | inl before ↦ get_or_append_left (picked pick n) (pick n ∷ []) d p (omega (arith, length-picked pick n)) ∙ get_or-picked pick n p d before
     | inr from ↦
         let here : p ≡ n = omega arith in
         let first : p - n ≡ 0 = omega arith in
-        get_or-append_right (picked pick n) (pick n ∷ []) n p None (length-picked pick n) from ∙ rw (first, here) refl
+        get_or-append_right (picked pick n) (pick n ∷ []) n p d (length-picked pick n) from ∙ rw (first, here) refl
   ]
+
+  pub slice_get-picked : (pick : ℕ → X) (n p : ℕ) → p < n → slice_get (picked pick n) p ≡ Some (pick p)
+  slice_get-picked pick n p lt =
+      slice_get-get_or (picked pick n) p (pick p) (omega (arith, length-picked pick n)) ∙ ap (λ (x : X). Some x) (get_or-picked pick n p (pick p) lt)
+
+module _ {K V : Type 0} where
+  pub arrival-picked : (pick : ℕ → Option (K × V)) (n p : ℕ) → p < n → arrival (picked pick n) p ≡ pick p
+  arrival-picked pick n p lt = get_or-picked pick n p None lt
 
   -- where no more arrivals were made, each stands in the list
   pub arrival-all : (pick : ℕ → Option (K × V)) (n : ℕ) → ((p : ℕ) → n ≤ p → pick p ≡ None) → (p : ℕ) → arrival (picked pick n) p ≡ pick p

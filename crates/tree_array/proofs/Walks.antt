@@ -1,23 +1,28 @@
--- The slots in the order of their keys are the arrivals in the order of their ranks.
-use Rattle.std.proofs.Common.{◌≡◌, ◌⊎◌, ℕ, zero, suc, ◌+◌, ◌<◌, ◌≤◌, Bool, true, false, cond, map, find, List, [], ◌∷◌, Option, Some, None, refl, sym, ◌∙◌, ap, inl, inr, subst, arith}
+-- The ranks that an order gives, and the slots in the order of their keys.
+use Rattle.std.proofs.Common.{◌≡◌, ◌≢◌, ◌⊎◌, ℕ, zero, suc, ◌+◌, ◌<◌, ◌≤◌, Bool, true, false, cond, map, find, List, [], ◌∷◌, ◌++◌, Option, Some, None, IsSome, refl, sym, ◌∙◌, ap, inl, inr, subst, arith}
 use Rattle.std.specs.List.{AllByRecursion, Contains}
 use Rattle.std.specs.declared.cmp.Ordering.{Ordering}
 use Rattle.std.specs.declared.cmp.Ordering.TheVariants.{Less}
 use Rattle.std.specs.Cmp.{IsTotalOrder}
 use Rattle.std.specs.Ordering.{is_eq}
+use Rattle.std.proofs.lemmas.Bool.{cases_eq, cases_lt, cases_order}
+use Rattle.std.proofs.lemmas.Bool.Decides.{nat_tests}
 use Rattle.std.proofs.lemmas.Cmp.{ranked, tied_itself}
 use Rattle.std.proofs.lemmas.List.Elements.{All-contains, All-from_recursion, Contains-append_cases, Contains-append_right}
 use Rattle.std.proofs.lemmas.Option.{none-some, same_Some}
 use Rattle.tree_model.specs.Pairs.{AllLarger, IsAscending, pair_at}
-use Rattle.tree_model.proofs.Lists.{all_map}
+use Rattle.tree_model.proofs.Lists.{all_map, all-append}
+use Rattle.tree_model.proofs.Order.{greater_from_less}
 use Rattle.tree_model.proofs.LookUps.{equal_from_test}
-use Rattle.tree_array.specs.Arrivals.{arrival, numbered, sorted}
-use Rattle.tree_array.specs.Order.{IsRising, IsOrder}
+use Rattle.tree_array.specs.Arrivals.{arrival, numbered, slots_in_order, sorted}
+use Rattle.tree_array.specs.Order.{named, names, rank_in, IsRising, IsOrder}
 use Rattle.tree_array.specs.Layout.{picked}
 use Rattle.tree_array.specs.Ranked.{IsRanked}
-use Rattle.tree_array.proofs.Picks.{arrival-all, cases_option, made_early}
-use Rattle.tree_array.proofs.RankOrder.{one_arrival}
+use Rattle.tree_array.specs.Tabled.{IsTabled, seen}
+use Rattle.tree_array.proofs.Picks.{arrival-all, cases_option, get_or-picked, length-picked, made_early}
+use Rattle.tree_array.proofs.RankOrder.{nat_cmp_less, nat_cmp_equal, nat_cmp_greater, one_arrival}
 use Rattle.tree_array.proofs.Sorted.{IsAscending-sorted, all-sorted, pair_at-sorted}
+use Rattle.tree_array.proofs.Tabled.{early, places_apart, stands_some}
 
 module _ {X : Type 0} where
   -- an element of a list is its first or one of the rest
@@ -122,22 +127,6 @@ module _ {K V : Type 0} where
   IsPicked pick slot = (val : V) × (pick slot.1 ≡ Some (slot.0, val))
 
 module _ {K V : Type 0} {cmp : K → K → Ordering} {pick : ℕ → Option (K × V)} {rank : ℕ → ℕ} {made : ℕ} (it : IsRanked cmp pick rank made) where
-  -- the ranks of the first arrivals are few, and no two are one
-  pub rank_few : (len p : ℕ) → made ≤ len → len ≤ 15 → p < made → rank p ≤ len
-  rank_few len p le small lt = elim (cases_option (pick p)) [
-    | inl none ↦ omega (arith, it.unranked p (omega arith) none)
-    | inr some ↦ omega (arith, it.bound p some.0 some.1)
-  ]
-
-  pub rank_apart : (len p q : ℕ) → made ≤ len → len ≤ 15 → p < made → q < made → 0 < rank p → rank p ≡ rank q → p ≡ q
-  rank_apart len p q le small lt lt' pos same = elim (cases_option (pick p)) [
-    | inl none ↦ absurd (omega (arith, it.unranked p (omega arith) none))
-    | inr some ↦ elim (cases_option (pick q)) [
-      | inl none ↦ absurd (omega (arith, it.unranked q (omega arith) none))
-      | inr other ↦ it.apart p q some.0 other.0 some.1 other.1 same
-    ]
-  ]
-
   all_by_key : AllByRecursion (IsPicked pick) (by_key cmp pick made)
   all_by_key =
       all-sorted cmp (IsPicked pick) (numbered 0 (picked pick made))
@@ -157,7 +146,7 @@ module _ {K V : Type 0} {cmp : K → K → Ordering} {pick : ℕ → Option (K �
   all_ranked [] all = tt
   all_ranked (slot ∷ slots) all = ((made_early pick made it.unmade slot.1 (slot.0, all.0.0) all.0.1, it.ranked slot.1 (slot.0, all.0.0) all.0.1), all_ranked slots all.1)
 
-module _ {K V : Type 0} {cmp : K → K → Ordering} (o : IsTotalOrder cmp) {pick : ℕ → Option (K × V)} {rank : ℕ → ℕ} {made : ℕ} (it : IsRanked cmp pick rank made) (few : made ≤ 15) where
+module _ {K V : Type 0} {cmp : K → K → Ordering} (o : IsTotalOrder cmp) {pick : ℕ → Option (K × V)} {rank : ℕ → ℕ} {made : ℕ} (it : IsRanked cmp pick rank made) where
   -- each reachable arrival is among the slots in order
   slot_there : (p : ℕ) (e : K × V) → pick p ≡ Some e → Contains (map (λ slot. slot.1) (by_key cmp pick made)) p
   slot_there p e there =
@@ -173,7 +162,109 @@ module _ {K V : Type 0} {cmp : K → K → Ordering} (o : IsTotalOrder cmp) {pic
     rising = ranks_rise it (by_key cmp pick made) (IsAscending-sorted o (numbered 0 (picked pick made))) (all_by_key it);
     ranked = all_ranked it (by_key cmp pick made) (all_by_key it);
     every = λ p lt pos. elim (cases_option (pick p)) [
-      | inl none ↦ absurd (omega (arith, it.unranked p (omega arith) none))
+      | inl none ↦ absurd (omega (arith, it.unranked p none))
       | inr some ↦ slot_there p some.0 some.1
     ];
   }
+
+-- ---- the ranks that an order gives
+rank_here : (name : ℕ → ℕ) (n p : ℕ) → name n ≡ p → rank_in name (suc n) p ≡ n + 1
+rank_here name n p same = grind (arith, nat_tests)
+
+rank_before : (name : ℕ → ℕ) (n p : ℕ) → name n ≢ p → rank_in name (suc n) p ≡ rank_in name n p
+rank_before name n p differs = grind (arith, nat_tests)
+
+rank_le : (name : ℕ → ℕ) (n p : ℕ) → rank_in name n p ≤ n
+rank_le name zero p = omega arith
+rank_le name (suc n) p = elim (cases_eq (name n) p) [
+  | inl same ↦ omega (arith, rank_here name n p same)
+  | inr differs ↦ omega (arith, rank_before name n p differs, rank_le name n p)
+]
+
+-- a slot with a rank is named by a place
+pub rank_place : (name : ℕ → ℕ) (n p : ℕ) → 0 < rank_in name n p → (i : ℕ) × (i < n) × (name i ≡ p)
+rank_place name zero p pos = absurd (omega arith)
+rank_place name (suc n) p pos = elim (cases_eq (name n) p) [
+  | inl same ↦ (n, omega arith, same)
+  | inr differs ↦ let i = rank_place name n p (omega (arith, rank_before name n p differs)) in (i.0, omega (arith, i.1), i.2)
+]
+
+-- the rank of the slot that a place names
+rank_is : (name : ℕ → ℕ) (n i : ℕ) → i < n → ((j : ℕ) → j < n → j ≢ i → name j ≢ name i) → rank_in name n (name i) ≡ i + 1
+rank_is name zero i lt apart = absurd (omega arith)
+rank_is name (suc n) i lt apart = elim (cases_eq n i) [
+  | inl same ↦ rank_here name n (name i) (ap name same) ∙ ap (λ (q : ℕ). q + 1) same
+  | inr differs ↦ rank_before name n (name i) (apart n (omega arith) differs) ∙ rank_is name n i (omega arith) (λ j early. apart j (omega arith))
+]
+
+rising_push : (rank : ℕ → ℕ) (xs : List ℕ) (p : ℕ) → IsRising rank xs → AllByRecursion (λ q. rank q < rank p) xs → IsRising rank (xs ++ p ∷ [])
+rising_push rank [] p h all = (tt, tt)
+rising_push rank (x ∷ xs) p h all = (all-append _ xs (p ∷ []) h.0 (all.0, tt), rising_push rank xs p h.1 all.1)
+
+module _ {K V : Type 0} {cmp : K → K → Ordering} (o : IsTotalOrder cmp) {len : ℕ} {cells : List (Option (K × V))} {order made count : ℕ} (it : IsTabled cmp len cells order made count) where
+  abbrev rank : ℕ → ℕ
+  rank p = rank_in (named order) count p
+
+  rank_named : (i : ℕ) → i < count → rank (named order i) ≡ i + 1
+  rank_named i lt = rank_is (named order) count i lt (λ j early differs. places_apart o it.in_order j i early lt differs)
+
+  rank_listed : (p : ℕ) (e : K × V) → arrival cells p ≡ Some e → (i : ℕ) × (i < count) × (arrival cells (named order i) ≡ Some e) × (named order i ≡ p) × (rank p ≡ i + 1)
+  rank_listed p e some = let i = it.listed p e some in (i.0, i.1, ap (arrival cells) i.2 ∙ some, i.2, ap rank (sym i.2) ∙ rank_named i.0 i.1)
+
+  pub ranked_of : IsRanked cmp (arrival cells) (rank_in (named order) count) made
+  ranked_of = record {
+    unmade = it.unmade;
+    unranked = λ p none. elim (cases_lt 0 (rank p)) [
+      | inl pos ↦ let i = rank_place (named order) count p pos in let s = it.in_order.stands i.0 i.1 in absurd (none-some s.0 (sym none ∙ ap (arrival cells) (sym i.2) ∙ s.1))
+      | inr no_rank ↦ omega arith
+    ];
+    ranked = λ p e some. let i = rank_listed p e some in omega (arith, i.4);
+    bound = λ p e some. omega (arith, rank_le (named order) count p, it.few_count);
+    order = λ p q e f here there.
+        let i = rank_listed p e here in
+        let j = rank_listed q f there in
+        rw (i.4, j.4) (elim (cases_order i.0 j.0) [
+          | inl same ↦ let one : e ≡ f = same_Some e f (sym i.2 ∙ ap (λ (n : ℕ). arrival cells (named order n)) same ∙ j.2) in rw one (tied_itself o f.0) ∙ sym (nat_cmp_equal (i.0 + 1) (j.0 + 1) (omega arith))
+          | inr (inl less) ↦ it.in_order.ascends i.0 j.0 e f less j.1 i.2 j.2 ∙ sym (nat_cmp_less (i.0 + 1) (j.0 + 1) (omega arith))
+          | inr (inr more) ↦ greater_from_less o f.0 e.0 (it.in_order.ascends j.0 i.0 f e more i.1 j.2 i.2) ∙ sym (nat_cmp_greater (i.0 + 1) (j.0 + 1) (omega arith))
+        ]);
+    apart = λ p q e f here there same.
+        let i = rank_listed p e here in
+        let j = rank_listed q f there in
+        let one : i.0 ≡ j.0 = omega (arith, i.4, j.4) in
+        sym i.3 ∙ ap (named order) one ∙ j.3;
+  }
+
+  names_rising : (n : ℕ) → n ≤ count → IsRising rank (picked (named order) n) × AllByRecursion (λ p. rank p ≤ n) (picked (named order) n)
+  names_rising zero le = (tt, tt)
+  names_rising (suc n) le =
+      let rest = names_rising n (omega arith) in
+      let here = rank_named n (omega arith) in (
+        rising_push rank (picked (named order) n) (named order n) rest.0 (all_map (λ p few. omega (arith, few, here)) (picked (named order) n) rest.1),
+        all-append _ (picked (named order) n) (named order n ∷ []) (all_map (λ p few. omega (arith, few)) (picked (named order) n) rest.1) (omega (arith, here), tt),
+      )
+
+  names_ranked : (n : ℕ) → n ≤ count → AllByRecursion (λ p. (p < made) × (0 < rank p)) (picked (named order) n)
+  names_ranked zero le = tt
+  names_ranked (suc n) le = all-append _ (picked (named order) n) (named order n ∷ []) (names_ranked n (omega arith)) ((early o it n (omega arith), omega (arith, rank_named n (omega arith))), tt)
+
+  names_order : IsOrder rank made (names order count)
+  names_order = record {
+    rising = (names_rising count (omega arith)).0;
+    ranked = names_ranked count (omega arith);
+    every = λ p lt pos. let i = rank_place (named order) count p pos in (i.0, omega (arith, i.1, length-picked (named order) count), get_or-picked (named order) count i.0 p i.1 ∙ i.2);
+  }
+
+  -- the slots in the order of their keys are those that the places name
+  pub slots_named : (retired : Bool) → slots_in_order cmp (seen cmp cells made retired) ≡ names order count
+  slots_named retired = one_order rank made _ _ (slots_order o ranked_of) names_order
+
+  -- a slot with a rank holds a pair, and one without a rank holds none
+  pub live_some : (p : ℕ) → 0 < rank_in (named order) count p → IsSome (arrival cells p)
+  live_some p pos = let i = rank_place (named order) count p pos in subst (λ (q : ℕ). IsSome (arrival cells q)) i.2 (stands_some it.in_order i.0 i.1)
+
+  pub live_none : (p : ℕ) → rank_in (named order) count p ≡ 0 → arrival cells p ≡ None
+  live_none p no_rank = elim (cases_option (arrival cells p)) [
+    | inl none ↦ none
+    | inr some ↦ absurd (omega (arith, ranked_of.ranked p some.0 some.1, no_rank))
+  ]

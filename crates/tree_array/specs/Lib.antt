@@ -1,4 +1,5 @@
 pub mod Arrivals
+pub mod Cells
 pub mod Insertion
 pub mod Layout
 pub mod Length
@@ -7,5 +8,5 @@ pub mod Place
 pub mod Ranked
 pub mod Removal
 pub mod Sound
+pub mod Tabled
 pub mod Walk
-pub mod Word

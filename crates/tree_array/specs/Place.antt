@@ -1,26 +1,48 @@
--- Where a key stands among the arrivals of an array.
-use Rattle.std.specs.Prelude.{◌≡◌, ◌⊎◌, ℕ, ◌<◌, ◌≤◌, Option, Some, MatchOption}
+-- Where a key stands in the order of an array.
+use Rattle.std.specs.Prelude.{◌≡◌, ◌⊎◌, ℕ, ◌+◌, ◌<◌, ◌≤◌, List, length, Option, Some, slice_get}
 use Rattle.std.specs.declared.cmp.Ordering.{Ordering}
 use Rattle.std.specs.declared.cmp.Ordering.TheVariants.{Less, Equal, Greater}
 use Rattle.tree_array.specs.declared.search.Place.{Place}
-use Rattle.tree_array.specs.declared.search.Place.TheVariants.{At, Above}
+use Rattle.tree_array.specs.declared.search.Place.TheVariants.{At, Before}
+use Rattle.tree_array.specs.Arrivals.{arrival}
+use Rattle.tree_array.specs.Order.{named}
 
--- of the ranks above `low`, the p-th arrival's is the least
-pub record IsNextAbove (rank : ℕ → ℕ) (made low p : ℕ) : Type 0 where
-  pub early : p < made
-  pub above : low < rank p
-  pub least : (q : ℕ) → q < made → low < rank q → rank p ≤ rank q
+-- the slot that a place names
+abbrev pub slot_of : Place → ℕ
+slot_of (At place slot) = slot
+slot_of (Before place slot) = slot
 
--- the arrival with the least rank above `low`, if one has a rank above it
-abbrev pub IsNext : (ℕ → ℕ) → ℕ → ℕ → Option ℕ → Type 0
-IsNext rank made low next = MatchOption next ((p : ℕ) → p < made → rank p ≤ low) (IsNextAbove rank made low)
+module _ {K V : Type 0} (cmp : K → K → Ordering) (cells : List (Option (K × V))) (order count : ℕ) (key : K) where
+  -- a pair before the place is smaller, and any other larger
+  pub record Parts (low : ℕ) : Type 0 where
+    pub within : low ≤ count
+    pub smaller : (i : ℕ) (e : K × V) → i < low → arrival cells (named order i) ≡ Some e → cmp key e.0 ≡ Greater
+    pub larger : (i : ℕ) (e : K × V) → low ≤ i → i < count → arrival cells (named order i) ≡ Some e → cmp key e.0 ≡ Less
 
-module _ {K V : Type 0} (cmp : K → K → Ordering) (pick : ℕ → Option (K × V)) (rank : ℕ → ℕ) (made : ℕ) (key : K) where
-  -- a pair up to the rank is smaller, and any other larger
-  abbrev pub Parts : ℕ → Type 0
-  Parts low = (p : ℕ) (e : K × V) → pick p ≡ Some e → ((rank p ≤ low) × (cmp key e.0 ≡ Greater)) ⊎ ((low < rank p) × (cmp key e.0 ≡ Less))
+  -- the place has the key
+  pub record HasKey (i : ℕ) : Type 0 where
+    pub early : i < count
+    pub pair : K × V
+    pub there : arrival cells (named order i) ≡ Some pair
+    pub same : cmp key pair.0 ≡ Equal
 
-  -- the arrival has the key, or the rank parts the smaller pairs from the larger, of which the next one is the least
+  -- the place has the key, or parts the smaller pairs from the larger, and names the slot; or all pairs are smaller
   abbrev pub IsPlace : Place → Type 0
-  IsPlace (At p) = (p < made) × ((e : K × V) × (pick p ≡ Some e) × (cmp key e.0 ≡ Equal))
-  IsPlace (Above low next) = (low ≤ made) × Parts low × IsNext rank made low next
+  IsPlace (At place slot) = HasKey place × (named order place ≡ slot)
+  IsPlace (Before place slot) = ((place < count) × (named order place ≡ slot) × Parts place) ⊎ ((count ≤ place) × (slot ≡ 15) × Parts count)
+
+module _ {K V : Type 0} (cmp : K → K → Ordering) (cells : List (Option (K × V))) (order : ℕ) (key : K) where
+  -- the key is larger than the pairs before the window, and no larger than the pairs behind it: smaller, if no key met was equal
+  pub record IsWindow (len place rest met width : ℕ) : Type 0 where
+    pub reach : place + width ≤ len
+    pub few : met + width < 16
+    pub left : (i : ℕ) → named rest i ≡ named order (place + i)
+    pub smaller : (i : ℕ) (e : K × V) → i < place → arrival cells (named order i) ≡ Some e → cmp key e.0 ≡ Greater
+    pub larger : met ≡ 0 → (i : ℕ) (e : K × V) → place + width ≤ i → i < len → arrival cells (named order i) ≡ Some e → cmp key e.0 ≡ Less
+    pub equal : 0 < met → (place + width < len) × ((e : K × V) → arrival cells (named order (place + width)) ≡ Some e → cmp key e.0 ≡ Equal)
+
+-- of the entries those before the place are smaller than the key, and the others larger
+pub record PartsEntries {K V : Type 0} (cmp : K → K → Ordering) (entries : List (K × V)) (key : K) (place : ℕ) : Type 0 where
+  pub reach : place ≤ length entries
+  pub smaller : (i : ℕ) (e : K × V) → i < place → slice_get entries i ≡ Some e → cmp key e.0 ≡ Greater
+  pub larger : (i : ℕ) (e : K × V) → place ≤ i → slice_get entries i ≡ Some e → cmp key e.0 ≡ Less

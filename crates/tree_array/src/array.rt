@@ -1,5 +1,5 @@
 //! A fixed array of pairs in the order of their keys.
-ghost use Rattle.std.specs.Prelude.{◌≡◌, ◌↔◌, ◌⊎◌, ℕ, ◌<◌, ◌≤◌, IsTrue, IsSome, Some, [], true, false};
+ghost use Rattle.std.specs.Prelude.{◌≡◌, ◌↔◌, IsTrue, IsSome, Some, [], length};
 ghost use Rattle.tree_array.specs.Arrivals.{Arrivals, arrival, free, in_order};
 ghost use Rattle.tree_array.specs.Insertion.{IsFull};
 ghost use Rattle.tree_array.specs.Length.{IsLen};
@@ -8,7 +8,7 @@ ghost use Rattle.tree_array.specs.Sound.{IsSound};
 pub use crate::answers::{DIMENSION, Dimension, InsertResult, RemoveResult, StoreResult};
 use crate::cells::Cells;
 pub use crate::judge::{Judge, KeyJudge, Steps};
-use crate::ranks::made;
+use crate::order::slot_at;
 use std::marker::Model;
 
 mod division;
@@ -20,20 +20,18 @@ mod walk;
 pub use tree_model::{IndexKey, SameClone, range_contains};
 pub use walk::{ArrayIter, ArrayRevIter};
 
-/// The word of a retired array, which holds no rank.
-const RETIRED: u64 = 1 << 62;
-
 /// A fixed array of `LEN` slots, 7 or 15, in which pairs arrive one after another and are found in
 /// the order of their keys.
 ///
 /// A pair that is stored takes the next slot. A pair that is removed or replaced is dropped, and its
 /// slot stays spent. An array whose last pair was removed is retired and takes no more.
 /// No call takes memory.
-#[derive(Drop)]
 pub struct ArrayOf<K: Ord, V, const LEN: usize> {
+    order: u64,
+    made: u8,
+    count: u8,
+    retired: bool,
     cells: Cells<K, V, LEN>,
-    ranks: u64,
-    bitmap: u16,
 }
 
 /// The array of fifteen slots.
@@ -41,17 +39,29 @@ pub type Array<K, V> = ArrayOf<K, V, 15>;
 
 impl<K: Ord, V, const LEN: usize> Model for ArrayOf<K, V, LEN> {
     ghost use Rattle.tree_array.specs.Arrivals.{Arrivals};
-    ghost use Rattle.tree_array.specs.Layout.{pick_of, rank_for};
-    ghost use Rattle.tree_array.specs.Ranked.{IsBitmap, IsMarked, IsRanked, seen};
-    ghost use Rattle.tree_array.specs.Word.{made_of};
+    ghost use Rattle.tree_array.specs.Tabled.{IsMarked, IsTabled, seen};
 
     ghost Value = { Arrivals K V };
 
-    ghost view = { λ a. seen K.cmp (pick_of LEN a.cells.cells) a.ranks (made_of a.bitmap) };
+    ghost view = { λ a. seen K.cmp a.cells a.made a.retired };
 
-    ghost invariant = { λ a. IsBitmap LEN a.bitmap
-        × IsRanked K.cmp (pick_of LEN a.cells.cells) (rank_for LEN a.ranks) (made_of a.bitmap)
-        × IsMarked (pick_of LEN a.cells.cells) a.ranks };
+    ghost invariant = { λ a. IsTabled K.cmp LEN a.cells a.order a.made a.count × IsMarked a.count a.retired };
+}
+
+impl<K: Ord + Drop, V: Drop, const LEN: usize> Drop for ArrayOf<K, V, LEN> {
+    fn drop(self) {
+        let ArrayOf {
+            order,
+            made: _,
+            count,
+            retired: _,
+            mut cells,
+        } = self;
+        for place in 0..count {
+            let _ = cells.take(slot_at(order, place));
+        }
+        cells.discard();
+    }
 }
 
 impl<K: Ord + Drop, V: Drop, const LEN: usize> ArrayOf<K, V, LEN> {
@@ -61,9 +71,11 @@ impl<K: Ord + Drop, V: Drop, const LEN: usize> ArrayOf<K, V, LEN> {
         ensures { result ≡ in_order [] }
     {
         ArrayOf {
+            order: u64::MAX,
+            made: 0,
+            count: 0,
+            retired: false,
             cells: Cells::new(),
-            ranks: 0,
-            bitmap: 0,
         }
     }
 
@@ -72,7 +84,7 @@ impl<K: Ord + Drop, V: Drop, const LEN: usize> ArrayOf<K, V, LEN> {
         ensures free { result ≡ free LEN self.now }
         ensures sound { IsSound K.cmp LEN self.now }
     {
-        let made = made(self.bitmap);
+        let made = self.made;
         LEN as u8 - made
     }
 
@@ -80,7 +92,7 @@ impl<K: Ord + Drop, V: Drop, const LEN: usize> ArrayOf<K, V, LEN> {
     pub fn is_retired(&self) -> bool
         ensures { result ≡ self.now.retired }
     {
-        self.ranks == RETIRED
+        self.retired
     }
 
     /// Whether no slot is free, or the array is retired.
@@ -94,7 +106,14 @@ impl<K: Ord + Drop, V: Drop, const LEN: usize> ArrayOf<K, V, LEN> {
     pub fn is_empty(&self) -> bool
         ensures { IsTrue result ↔ (self.now.entries ≡ []) }
     {
-        self.ranks == 0 || self.is_retired()
+        self.count == 0
+    }
+
+    /// How many pairs are reachable.
+    pub fn len(&self) -> usize
+        ensures { result ≡ length self.now.entries }
+    {
+        self.count as usize
     }
 
     /// The key of a slot. Caller's condition: the slot is reachable.
@@ -102,7 +121,7 @@ impl<K: Ord + Drop, V: Drop, const LEN: usize> ArrayOf<K, V, LEN> {
         requires { IsSome (arrival self.now.arrivals slot) }
         ensures { (val : V) × (arrival self.now.arrivals slot ≡ Some (result.now, val)) }
     {
-        self.cells.pair(slot).0
+        self.cells.key(slot)
     }
 
     /// The value of a slot. Caller's condition: the slot is reachable.
@@ -116,6 +135,8 @@ impl<K: Ord + Drop, V: Drop, const LEN: usize> ArrayOf<K, V, LEN> {
 
 #[cfg(test)]
 mod comparison;
+#[cfg(test)]
+mod drops;
 #[cfg(test)]
 mod found;
 #[cfg(test)]

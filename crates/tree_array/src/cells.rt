@@ -1,77 +1,111 @@
-//! The cells of an array, each with a pair or none. Arrivals are named by their numbers alone.
-ghost use Rattle.std.specs.Prelude.{◌≡◌, ℕ, ◌<◌, length, None, Some, IsSome, is_some};
-ghost use Rattle.tree_array.specs.Layout.{pick_of, IsSetAt};
+//! The cells of an array, keys apart from values. No byte says which cells hold a pair: the order of the array does.
+ghost use Rattle.std.specs.Prelude.{◌≡◌, ℕ, ◌<◌, None, Some, IsSome, replicate, slice_set};
+ghost use Rattle.tree_array.specs.Arrivals.{arrival};
 
-use crate::ranks::slot;
+use std::marker::Model;
 use std::mem;
+use tree_slots::row::Row;
 
-/// The cells, of which an arrival takes that of its slot.
-#[derive(Drop)]
+/// The cells, each with a pair or none. There are no rows before the first pair, whose bytes then fill them.
 pub struct Cells<K, V, const LEN: usize> {
-    cells: [Option<(K, V)>; LEN],
-    ghost whole: { length cells ≡ LEN },
+    rows: Option<(Row<K, LEN>, Row<V, LEN>)>,
 }
 
-impl<K: Drop, V: Drop, const LEN: usize> Cells<K, V, LEN> {
-    /// Cells without a pair.
-    pub fn new() -> Self
-        ensures { (p : ℕ) → pick_of LEN result.cells p ≡ None }
-    {
-        Cells {
-            cells: [const { None }; LEN],
-        }
-    }
+impl<K, V, const LEN: usize> Model for Cells<K, V, LEN> {
+    ghost use Rattle.std.specs.Prelude.{List, Option, MatchOption, ⊤};
+    ghost use Rattle.tree_array.specs.Cells.{zipped, seen_cells, AreFilledAlike};
 
-    /// Puts a pair, or none, in place of an arrival.
-    pub fn put(&mut self, arrival: u8, pair: Option<(K, V)>)
-        requires { arrival < LEN }
-        ensures { IsSetAt (pick_of LEN self.old.cells) (pick_of LEN self.new.cells) arrival pair }
-    {
-        self.cells[slot::<LEN>(arrival)] = pair;
-    }
+    ghost Value = { List (Option (K × V)) };
 
-    /// Takes the pair of a reachable arrival.
-    pub fn take(&mut self, arrival: u8) -> (K, V)
-        requires { IsSome (pick_of LEN self.old.cells arrival) }
-        ensures pair { pick_of LEN self.old.cells arrival ≡ Some result }
-        ensures spent { IsSetAt (pick_of LEN self.old.cells) (pick_of LEN self.new.cells) arrival None }
-    {
-        match self.cells[slot::<LEN>(arrival)].take() {
-            Some(pair) => pair,
-            None => unreachable!(),
-        }
-    }
+    ghost view = { λ c. seen_cells LEN (λ rows. zipped rows.0.slots rows.1.slots) c.rows };
 
-    /// Replaces the value of a reachable arrival.
-    pub fn replace(&mut self, arrival: u8, val: V) -> V
-        requires { IsSome (pick_of LEN self.old.cells arrival) }
-        ensures { (key : K) × (pick_of LEN self.old.cells arrival ≡ Some (key, result))
-            × IsSetAt (pick_of LEN self.old.cells) (pick_of LEN self.new.cells) arrival (Some (key, val)) }
-    {
-        match &mut self.cells[slot::<LEN>(arrival)] {
-            Some((_, stored)) => mem::replace(stored, val),
-            None => unreachable!(),
-        }
-    }
+    ghost invariant = { λ c. MatchOption c.rows ⊤ (λ rows. AreFilledAlike rows.0.slots rows.1.slots) };
 }
 
 impl<K, V, const LEN: usize> Cells<K, V, LEN> {
-    /// The pair of a reachable arrival.
-    pub fn pair(&self, arrival: u8) -> (&K, &V)
-        requires { IsSome (pick_of LEN self.now.cells arrival) }
-        ensures { pick_of LEN self.now.cells arrival ≡ Some (result.0.now, result.1.now) }
+    /// Cells without a pair.
+    pub fn new() -> Self
+        ensures { result ≡ replicate LEN None }
     {
-        match &self.cells[slot::<LEN>(arrival)] {
-            Some((key, val)) => (key, val),
+        Cells { rows: None }
+    }
+
+    /// The key of a cell. The caller must know that it holds a pair.
+    #[inline]
+    pub fn key(&self, cell: u8) -> &K
+        requires { IsSome (arrival self.now cell) }
+        ensures { (val : V) × (arrival self.now cell ≡ Some (result.now, val)) }
+    {
+        match &self.rows {
+            Some((keys, _)) => keys.get(cell as usize),
             None => unreachable!(),
         }
     }
 
-    /// Whether an arrival is reachable.
-    pub fn has(&self, arrival: u8) -> bool
-        requires { arrival < LEN }
-        ensures { result ≡ is_some (pick_of LEN self.now.cells arrival) }
+    /// The pair of a cell. The caller must know that it holds one.
+    #[inline]
+    pub fn pair(&self, cell: u8) -> (&K, &V)
+        requires { IsSome (arrival self.now cell) }
+        ensures { arrival self.now cell ≡ Some (result.0.now, result.1.now) }
     {
-        self.cells[slot::<LEN>(arrival)].is_some()
+        match &self.rows {
+            Some((keys, vals)) => (keys.get(cell as usize), vals.get(cell as usize)),
+            None => unreachable!(),
+        }
+    }
+
+    /// Puts a pair into a cell. The caller must know that it holds none.
+    pub fn put(&mut self, cell: u8, key: K, val: V)
+        requires within { cell < LEN }
+        requires empty { arrival self.old cell ≡ None }
+        ensures { self.new ≡ slice_set self.old cell (Some (key, val)) }
+    {
+        match &mut self.rows {
+            Some((keys, vals)) => {
+                keys.put(cell as usize, key);
+                vals.put(cell as usize, val);
+            }
+            None => {
+                let rows = (Row::with(cell as usize, key), Row::with(cell as usize, val));
+                if let Some((_keys, _vals)) = mem::replace(&mut self.rows, Some(rows)) {
+                    unreachable!()
+                }
+            }
+        }
+    }
+
+    /// Takes the pair of a cell. The caller must know that it holds one.
+    pub fn take(&mut self, cell: u8) -> (K, V)
+        requires { IsSome (arrival self.old cell) }
+        ensures pair { arrival self.old cell ≡ Some result }
+        ensures spent { self.new ≡ slice_set self.old cell None }
+    {
+        match &mut self.rows {
+            Some((keys, vals)) => (keys.take(cell as usize), vals.take(cell as usize)),
+            None => unreachable!(),
+        }
+    }
+
+    /// Replaces the value of a cell and returns the old one. The caller must know that it holds a pair.
+    pub fn replace(&mut self, cell: u8, val: V) -> V
+        requires { IsSome (arrival self.old cell) }
+        ensures { (key : K) × (arrival self.old cell ≡ Some (key, result))
+            × (self.new ≡ slice_set self.old cell (Some (key, val))) }
+    {
+        match &mut self.rows {
+            Some((_, vals)) => vals.replace(cell as usize, val),
+            None => unreachable!(),
+        }
+    }
+
+    /// Ends cells that hold no pair. The caller must know that they hold none.
+    pub fn discard(self)
+        requires { (p : ℕ) → arrival self p ≡ None }
+    {
+        let Cells { rows } = self;
+        if let Some((keys, vals)) = rows {
+            keys.discard();
+            vals.discard();
+        }
     }
 }

@@ -6,5 +6,4 @@ pub mod array;
 mod cells;
 mod judge;
 mod order;
-mod ranks;
 mod search;

@@ -1,108 +1,191 @@
-//! Searches among the arrivals of an array.
-ghost use Rattle.std.specs.Prelude.{◌≡◌, ℕ, ◌+◌, ◌<◌, ◌≤◌, ◌↔◌, IsTrue, length};
-ghost use Rattle.tree_array.specs.Arrivals.{reachable, ascents};
-ghost use Rattle.tree_array.specs.Layout.{pick_of, rank_for, picked};
-ghost use Rattle.tree_array.specs.Length.{IsLen};
-ghost use Rattle.tree_array.specs.Place.{IsPlace};
-ghost use Rattle.tree_array.specs.Ranked.{IsRanked};
+//! Searches of an array by halving.
+ghost use Rattle.std.specs.Prelude.{◌≡◌, ◌+◌, ◌-◌, ◌*◌, ◌<◌, ◌≤◌};
+ghost use Rattle.tree_array.specs.Length.{IsLen, searched};
+ghost use Rattle.tree_array.specs.Order.{named, nearest, IsFilled};
+ghost use Rattle.tree_array.specs.Place.{IsPlace, IsWindow, slot_of};
+ghost use Rattle.tree_array.specs.Tabled.{IsInOrder};
 
 use crate::cells::Cells;
 use crate::judge::Asks;
-use crate::ranks::rank;
-use std::cmp::Ordering;
+use crate::order::{BEYOND, slot_at};
+use std::mem::size_of_val;
 
-/// Where a key stands: it is that of an arrival; or it comes after the pairs up to a rank alone, and before that of the
-/// arrival with the next rank, if there is one.
+/// Where a key stands in the order of an array.
 #[derive(Clone, Copy)]
 pub enum Place {
-    At(u8),
-    Above(u8, Option<u8>),
+    /// It is that of the entry at this place, in this slot.
+    At(u8, u8),
+    /// It comes before the entry at this place, in this slot; or behind all entries, and the slot is [`BEYOND`].
+    Before(u8, u8),
 }
 
-/// Where the key of the asked stands. It asks once about each arrival at most, and about those
-/// alone that stand between the nearest known keys.
+impl Place {
+    /// The slot of the entry, or [`BEYOND`] behind all entries.
+    pub fn slot(self) -> u8
+        ensures { result ≡ slot_of self }
+    {
+        match self {
+            Place::At(_, slot) => slot,
+            Place::Before(_, slot) => slot,
+        }
+    }
+}
+
+/// What a search has found out: all entries before `place` have smaller keys, and none behind the window has.
+#[derive(Clone, Copy)]
+struct Window {
+    order: u64,
+    count: u8,
+    place: u8,
+    /// The order from the place on.
+    rest: u64,
+    /// How many of the keys that were met are equal.
+    met: u8,
+}
+
+impl Window {
+    /// The place of the equal key, which was met at the end of the window.
+    fn end(self, width: u8) -> Place
+        requires some { 0 < self.count }
+        requires within { self.place + width < 15 }
+        ensures { result ≡ Place.At (nearest self.count (self.place + width)) (named self.rest width) }
+    {
+        let place = self.place + width;
+        let slot = slot_at(self.rest, width);
+        if place < self.count {
+            Place::At(place, slot)
+        } else {
+            Place::At(self.count - 1, slot)
+        }
+    }
+}
+
+/// Where the key of the asked stands. At most 4 comparisons among 15 slots, and 3 among 7.
+///
+/// A search for a small key makes them all, and has no branch on what one of them answers. For a key of more
+/// than 16 bytes an equal one ends the search.
+#[inline]
 pub fn find<K: Ord, V, By, A: Asks<K, By>, const LEN: usize>(
     cells: &Cells<K, V, LEN>,
-    ranks: u64,
-    made: u8,
+    order: u64,
+    count: u8,
     asked: &mut A,
 ) -> Place
     requires len { IsLen LEN }
-    requires made { made ≤ LEN }
-    requires ranked { IsRanked K.cmp (pick_of LEN cells.now.cells) (rank_for LEN ranks) made }
-    ensures place { IsPlace K.cmp (pick_of LEN cells.now.cells) (rank_for LEN ranks) made (A.key asked.old) result }
+    requires few { count ≤ LEN }
+    requires in_order { IsInOrder K.cmp cells.now order count }
+    requires filled { 0 < count → IsFilled LEN order count }
+    ensures place { IsPlace K.cmp cells.now order count (A.key asked.old) result }
     ensures same_key { A.key asked.new ≡ A.key asked.old }
-    ensures counted { A.count asked.new ≤ A.count asked.old + made }
+    ensures counted { A.count asked.new ≤ A.count asked.old + searched LEN }
 {
-    let mut low = 0;
-    let mut high = 16;
-    let mut next = None;
-    for arrival in 0..made {
-        let rank = rank::<LEN>(ranks, arrival);
-        if is_between(low, rank, high) {
-            let (key, _) = cells.pair(arrival);
-            match asked.ask(key) {
-                Ordering::Less => {
-                    high = rank;
-                    next = Some(arrival);
-                }
-                Ordering::Equal => return Place::At(arrival),
-                Ordering::Greater => low = rank,
-            }
-        }
+    if count == 0 {
+        return Place::Before(0, BEYOND);
     }
-    Place::Above(low, next)
+    let ends_early = size_of_val(cells.key(slot_at(order, 0))) > 16;
+    let window = begin(cells, order, count, asked);
+    if ends_early && window.met > 0 {
+        return window.end(7);
+    }
+    let window = halve(cells, window, 3, asked);
+    if ends_early && window.met > 0 {
+        return window.end(3);
+    }
+    let window = halve(cells, window, 1, asked);
+    if ends_early && window.met > 0 {
+        return window.end(1);
+    }
+    let window = halve(cells, window, 0, asked);
+    let slot = slot_at(window.rest, 0);
+    if window.met > 0 {
+        Place::At(window.place, slot)
+    } else {
+        Place::Before(window.place, slot)
+    }
 }
 
-/// Whether a rank is between two others. One difference tells it, and so one branch, which can't be foreseen.
-fn is_between(low: u8, rank: u8, high: u8) -> bool
-    requires { low < high }
-    ensures { IsTrue result ↔ ((low < rank) × (rank < high)) }
+/// A window of seven places.
+#[inline(always)]
+fn begin<K: Ord, V, By, A: Asks<K, By>, const LEN: usize>(
+    cells: &Cells<K, V, LEN>,
+    order: u64,
+    count: u8,
+    asked: &mut A,
+) -> Window
+    requires len { IsLen LEN }
+    requires some { 0 < count }
+    requires few { count ≤ LEN }
+    requires in_order { IsInOrder K.cmp cells.now order count }
+    requires filled { IsFilled LEN order count }
+    ensures order { result.order ≡ order }
+    ensures count { result.count ≡ count }
+    ensures window { IsWindow K.cmp cells.now order (A.key asked.old) LEN result.place result.rest result.met 7 }
+    ensures same_key { A.key asked.new ≡ A.key asked.old }
+    ensures counted { A.count asked.new ≤ A.count asked.old + (searched LEN - 3) }
 {
-    rank.wrapping_sub(low + 1) < high - low - 1
+    let all = Window {
+        order,
+        count,
+        place: 0,
+        rest: order,
+        met: 0,
+    };
+    if LEN > 7 {
+        halve(cells, all, 7, asked)
+    } else {
+        all
+    }
 }
 
-/// Where a key stands.
+/// Halves a window, by one comparison with the key in its middle.
+#[inline(always)]
+fn halve<K: Ord, V, By, A: Asks<K, By>, const LEN: usize>(
+    cells: &Cells<K, V, LEN>,
+    window: Window,
+    half: u8,
+    asked: &mut A,
+) -> Window
+    requires len { IsLen LEN }
+    requires some { 0 < window.count }
+    requires few { window.count ≤ LEN }
+    requires in_order { IsInOrder K.cmp cells.now window.order window.count }
+    requires filled { IsFilled LEN window.order window.count }
+    requires window { IsWindow K.cmp cells.now window.order (A.key asked.old) LEN window.place window.rest window.met (2 * half + 1) }
+    ensures order { result.order ≡ window.order }
+    ensures count { result.count ≡ window.count }
+    ensures window { IsWindow K.cmp cells.now window.order (A.key asked.old) LEN result.place result.rest result.met half }
+    ensures same_key { A.key asked.new ≡ A.key asked.old }
+    ensures counted { A.count asked.new ≤ A.count asked.old + 1 }
+{
+    let answer = asked.ask(cells.key(slot_at(window.rest, half)));
+    let met = window.met + answer.is_eq() as u8;
+    let (place, rest) = if answer.is_gt() {
+        (window.place + half + 1, window.rest >> (4 * half + 4))
+    } else {
+        (window.place, window.rest)
+    };
+    Window {
+        order: window.order,
+        count: window.count,
+        place,
+        rest,
+        met,
+    }
+}
+
+/// Where a key stands, with comparisons that nobody counts.
+#[inline]
 pub fn find_key<K: Ord, V, const LEN: usize>(
     cells: &Cells<K, V, LEN>,
-    ranks: u64,
-    made: u8,
+    order: u64,
+    count: u8,
     key: &K,
 ) -> Place
     requires len { IsLen LEN }
-    requires made { made ≤ LEN }
-    requires ranked { IsRanked K.cmp (pick_of LEN cells.now.cells) (rank_for LEN ranks) made }
-    ensures { IsPlace K.cmp (pick_of LEN cells.now.cells) (rank_for LEN ranks) made key.now result }
+    requires few { count ≤ LEN }
+    requires in_order { IsInOrder K.cmp cells.now order count }
+    requires filled { 0 < count → IsFilled LEN order count }
+    ensures { IsPlace K.cmp cells.now order count key.now result }
 {
-    find(cells, ranks, made, &mut &*key)
-}
-
-/// How many arrivals are reachable, and how many of these come after one with a smaller key.
-pub fn count_ascents<K: Ord, V, const LEN: usize>(
-    cells: &Cells<K, V, LEN>,
-    ranks: u64,
-    made: u8,
-) -> (u8, u8)
-    requires len { IsLen LEN }
-    requires made { made ≤ LEN }
-    requires ranked { IsRanked K.cmp (pick_of LEN cells.now.cells) (rank_for LEN ranks) made }
-    ensures few { result.0 ≤ made }
-    ensures fewer { result.1 ≤ result.0 }
-    ensures count { result.0 ≡ length (reachable (picked (pick_of LEN cells.now.cells) made)) }
-    ensures ascents { result.1 ≡ ascents K.cmp (reachable (picked (pick_of LEN cells.now.cells) made)) }
-{
-    let mut count = 0;
-    let mut rises = 0;
-    let mut previous = 0;
-    for arrival in 0..made {
-        if cells.has(arrival) {
-            let rank = rank::<LEN>(ranks, arrival);
-            if count > 0 && previous < rank {
-                rises += 1;
-            }
-            count += 1;
-            previous = rank;
-        }
-    }
-    (count, rises)
+    find(cells, order, count, &mut &*key)
 }

@@ -1,5 +1,5 @@
 -- The pairs of a whole tree ascend, and how many there are after a store and after a removal.
-use Rattle.std.proofs.Common.{◌≡◌, ◌⊎◌, ◌↔◌, ◌==◌, ℕ, zero, suc, ◌+◌, ◌<◌, Bool, true, false, IsTrue, List, [], ◌∷◌, length, Option, Some, None, MatchOption, is_some, Bor, Result, Ok, Err, inl, inr, refl, ap, arith}
+use Rattle.std.proofs.Common.{◌≡◌, ◌⊎◌, ◌↔◌, ◌==◌, ℕ, zero, suc, ◌+◌, ◌<◌, Bool, true, false, IsTrue, List, [], ◌∷◌, length, Option, Some, None, MatchOption, is_some, Bor, Result, Ok, Err, inl, inr, refl, sym, ap, ◌∙◌, arith}
 use Rattle.std.specs.declared.cmp.Ordering.{Ordering}
 use Rattle.std.specs.Cmp.{IsTotalOrder}
 use Rattle.std.specs.Option.{option_map}
@@ -11,7 +11,7 @@ use Rattle.tree_array.specs.declared.answers.StoreResult.TheVariants.{New, Repla
 use Rattle.tree_model.specs.Pairs.{IsAbsent, IsAscending, IsPresent, pair_at}
 use Rattle.tree_model.proofs.Lengths.{length-put, without_absent, without_present}
 use Rattle.tree_node.specs.Arenas.{TreeArenas}
-use Rattle.tree_node.specs.Ends.{IsLinked}
+use Rattle.tree_walk.specs.Ends.{IsLinked}
 use Rattle.tree_insert.specs.Inserts.{Inserts, declined}
 use Rattle.tree_node.specs.Tree.{Stands, StandsOrRetired, leaves_at, walk}
 use Rattle.tree_node.specs.Whole.{IsRetiredRoot, IsTop, depth_of, walk_under}
@@ -91,7 +91,12 @@ pair_is (x, y) a b first second = rw (first, second) refl
 
 -- what is lent of an index is its tree
 pub is_tree_of : {K V : Type 0} {LEN : ℕ} (cmp : K → K → Ordering) (tree : Tree K V LEN) (root : Option ℕ) → option_map (λ id. (id, depth_of tree.root)) root ≡ tree.root → IsWhole cmp tree → IsTreeOf cmp (index_of tree) tree.arenas root
-is_tree_of cmp tree root same whole = record { tree = rw same whole; pairs = rw same refl; spare = rw same refl }
+is_tree_of cmp tree root same whole = record {
+  tree = rw same whole;
+  pairs = rw same refl;
+  spare = rw same refl;
+  rootless = λ none. let gone : tree.root ≡ None = sym same ∙ ap (option_map (λ id. (id, depth_of tree.root))) none in rw gone refl;
+}
 
 -- a key is present where a pair is found at it
 pub present_where_found : {K V : Type 0} (cmp : K → K → Ordering) (l : List (K × V)) (k : K) (found : Option (Bor K × Bor V)) (is : Bool) → is ≡ is_some found

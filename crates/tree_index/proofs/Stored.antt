@@ -221,11 +221,6 @@ module _ {K V : Type 0} {LEN : ℕ} (cmp : K → K → Ordering) where
       by_top (inl stands) = tree_part a id level tree stands
       by_top (inr gone) = absurd (kept gone.1)
 
-  pub no_room_left : (a : TreeArenas K V LEN) (id level : ℕ) → 0 < level → (IsRetiredNode (get a.nodes id) → ⊥) → IsRetired level a id ⊎ (room level a id ≡ 0) → room level a id ≡ 0
-  no_room_left a id zero deep kept full = absurd (omega (arith, deep))
-  no_room_left a id (suc level) deep kept (inl gone) = absurd (kept gone)
-  no_room_left a id (suc level) deep kept (inr full) = full
-
   -- the root was split under a new one, and then the pair was inserted there
   module _ (upsert : Bool) (old mid new : Tree K V LEN) (key : K) (val : V) (result : Result (StoreResult K V) (K × V)) (root top depth : ℕ) (was : old.root ≡ Some (root, depth))
       (between : mid.root ≡ Some (top, suc depth)) (now : new.root ≡ Some (top, suc depth)) (whole : IsWhole cmp old) (raised : RaisesRoot cmp depth old.arenas mid.arenas root top)

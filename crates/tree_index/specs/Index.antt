@@ -1,5 +1,5 @@
 -- What contracts see of an index.
-use Rattle.std.specs.Prelude.{◌≡◌, ◌⊎◌, ℕ, suc, ◌-◌, ◌<◌, ◌≤◌, Bool, true, false, List, Option, Result, Ok, Err}
+use Rattle.std.specs.Prelude.{◌≡◌, ◌⊎◌, ℕ, suc, ◌-◌, ◌<◌, ◌≤◌, Bool, true, false, List, Option, None, Result, Ok, Err}
 use Rattle.std.specs.Option.{option_map}
 use Rattle.std.specs.declared.cmp.Ordering.{Ordering}
 use Rattle.tree_model.specs.declared.commands.InsertError.{InsertError}
@@ -56,3 +56,5 @@ pub record IsTreeOf {K V : Type 0} {LEN : ℕ} (cmp : K → K → Ordering) (ind
   pub tree : IsTree cmp arenas (option_map (λ id. (id, index.depth)) root)
   pub pairs : walk_under arenas (option_map (λ id. (id, index.depth)) root) ≡ index.pairs
   pub spare : spare_under arenas (option_map (λ id. (id, index.depth)) root) ≡ index.spare
+  -- without a root there is no level
+  pub rootless : root ≡ None → index.depth ≡ 0

@@ -15,9 +15,9 @@ use std::marker::Model;
 use tree_array::array::{IndexKey, Judge, StoreResult};
 use tree_leaf::arena::NodeId;
 use tree_model::InsertError;
-use tree_node::listing::list_at;
+use tree_walk::listing::list_at;
 use tree_node::node::ArenasOf;
-use tree_node::spare::spare_at;
+use tree_walk::spare::spare_at;
 
 /// An ordered index of pairs of a key and a value, with fifteen pairs a leaf. See [`TreeIndexOf`].
 pub type TreeIndex<K, V> = TreeIndexOf<K, V, 15>;

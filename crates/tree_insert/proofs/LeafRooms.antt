@@ -24,7 +24,7 @@ use Rattle.tree_insert.proofs.LeafSplits.{IsBetween, high_room, leaf_splits_low,
 use Rattle.tree_node.proofs.LeafWrites.{with_array, array_replaces}
 use Rattle.tree_insert.proofs.LowSplits.{absent_here, room_made_for}
 use Rattle.tree_node.proofs.Standing.{node_is}
-use Rattle.tree_insert.proofs.Places.{IsForKey, high_for, low_for, place_for}
+use Rattle.tree_node.proofs.Places.{IsForKey, high_for, low_for, place_for}
 use Rattle.tree_insert.proofs.Rebuilds.{among, leaf_rebuilt, room_made_by_rebuild}
 use Rattle.tree_node.proofs.Unchanged.{chain_same, unchanged_by_keeping}
 

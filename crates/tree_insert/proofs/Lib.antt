@@ -1,5 +1,7 @@
+pub mod Attempts
 pub mod Boundaries
 pub mod Cuts
+pub mod Descents
 pub mod Fulls
 pub mod Inserts
 pub mod LeafRooms
@@ -7,9 +9,9 @@ pub mod LeafSplits
 pub mod LowSplits
 pub mod NodeRooms
 pub mod NodeSplits
-pub mod Places
 pub mod RaisedTrees
 pub mod Raises
 pub mod Rebuilds
+pub mod Replants
 pub mod Results
 pub mod Retries

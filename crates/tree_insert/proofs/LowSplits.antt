@@ -16,12 +16,12 @@ use Rattle.tree_node.specs.declared.node.NodeOf.{NodeOf}
 use Rattle.tree_node.specs.Arenas.{TreeArenas}
 use Rattle.tree_node.specs.Parts.{IsPart, Replaces}
 use Rattle.tree_node.specs.Shape.{room, slot_room}
-use Rattle.tree_insert.specs.Splits.{HasMadeRoom, PutsChild, SplitsChild}
+use Rattle.tree_insert.specs.Splits.{HasMadeRoom, PutsChild, SharesChildren, SplitsChild}
 use Rattle.tree_node.specs.Tree.{AreParted, IsAbove, IsBelow, IsUpTo, HasChildFor, Stands, keyed, unbounded, child_at, is_from, walk, leaves_at, children_of}
 use Rattle.tree_node.proofs.Frames.{Agrees, agrees_here, same_walk, same_stands}
 use Rattle.tree_node.proofs.Lifts.{front_agrees, back_agrees, changed_agree, lifted}
 use Rattle.tree_node.proofs.Lists.{flat_map_same}
-use Rattle.tree_insert.proofs.Places.{first_child, later_children, low_at, high_at, children_at, children_put, routed_by, child_between, separator_absent, separator_put, parted_low}
+use Rattle.tree_node.proofs.Places.{first_child, later_children, low_at, high_at, children_at, children_put, routed_by, child_between, separator_absent, separator_put, parted_low}
 use Rattle.tree_node.proofs.Standing.{node_is}
 use Rattle.tree_node.proofs.Walks.{walk-children}
 
@@ -201,8 +201,9 @@ module _ {K V : Type 0} {LEN : ℕ} {cmp : K → K → Ordering} (o : IsTotalOrd
     ]
 
     -- and where the separator fits between all bounds, the child was split
-    pub child_split : ((low high : Option K) → Within low high) → 0 < room level mid y → 0 < room level mid x → SplitsChild cmp (suc level) old new id x
-    child_split fits low_room high_room = record {
+    pub child_split : ((low high : Option K) → Within low high) → 0 < room level mid y → 0 < room level mid x → SharesChildren (suc level) old new id x → SplitsChild cmp (suc level) old new id x
+    child_split fits low_room high_room shares = record {
+      shares = shares;
       pairs = same_pairs;
       keeps = λ low high s. stands_now low high (fits low high) s;
       replaces = replaces_node;

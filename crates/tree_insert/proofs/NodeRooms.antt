@@ -1,10 +1,11 @@
 -- A node that makes room in a child node: the child is split or built anew.
-use Rattle.std.proofs.Common.{◌≡◌, ℕ, zero, suc, ◌<◌, ◌≤◌, List, [], ◌∷◌, ◌++◌, map, length, Some, None, IsSome, refl, sym, ap, ◌∙◌, arith}
+use Rattle.std.proofs.Common.{◌≡◌, ℕ, zero, suc, ◌<◌, ◌≤◌, List, [], ◌∷◌, ◌++◌, map, length, Some, None, IsSome, refl, sym, ap, ◌∙◌, arith, inl, inr, sub-one}
 use Rattle.std.specs.Bool.{⊤}
 use Rattle.std.specs.declared.cmp.Ordering.{Ordering}
 use Rattle.std.specs.Cmp.{IsTotalOrder}
 use Rattle.slab.specs.Slab.{get, with_value, HasRoomFor, Updates}
 use Rattle.slab.proofs.SlabLemmas.{Updates-with_value}
+use Rattle.tree_array.specs.Insertion.{HasRoom}
 use Rattle.tree_array.specs.Length.{IsLen, limit}
 use Rattle.tree_leaf.specs.Arena.{Gains, KeepsBoth, HasPlaces}
 use Rattle.tree_leaf.specs.Counting.{times, uses}
@@ -15,19 +16,20 @@ use Rattle.tree_node.specs.declared.node.NodeOf.{NodeOf}
 use Rattle.tree_node.specs.declared.node.NodeOf.TheVariants.{Internal, Leaf}
 use Rattle.tree_node.specs.Arenas.{TreeArenas}
 use Rattle.tree_node.specs.Parts.{IsPart, Unchanged}
-use Rattle.tree_insert.specs.Splits.{CutsNode, PutsChild, RebuildsNode, SplitsChild}
+use Rattle.tree_insert.specs.Splits.{CutsNode, PutsChild, RebuildsNode, SharesChildren, SplitsChild}
+use Rattle.tree_node.specs.Shape.{room}
 use Rattle.tree_node.specs.Tree.{AreParted, HasKind, Stands, keyed, unbounded, children_of, leaves_of, nodes_of}
 use Rattle.tree_node.proofs.Children.{stands_free_low, stands_free_high}
 use Rattle.tree_node.proofs.Lifts.{grouped_as, leaves_are, node_times, single_leaves, single_nodes}
 use Rattle.tree_insert.proofs.LowSplits.{SplitsLow, absent_here, child_split}
 use Rattle.tree_node.proofs.Standing.{node_is}
-use Rattle.tree_insert.proofs.NodeSplits.{high_node_room, low_node_room, node_splits_low}
-use Rattle.tree_insert.proofs.Places.{IsAt, child_between, high_at, later_children, low_at, place_of}
-use Rattle.tree_insert.proofs.Rebuilds.{among, node_rebuilt, split_by_rebuild}
+use Rattle.tree_insert.proofs.NodeSplits.{children_shared, high_node_room, low_node_room, node_splits_low}
+use Rattle.tree_node.proofs.Places.{IsAt, child_between, high_at, later_children, low_at, place_of}
+use Rattle.tree_insert.proofs.Rebuilds.{among, node_rebuilt, same_children, split_by_rebuild}
 use Rattle.tree_node.proofs.Unchanged.{unchanged_by_keeping}
 
 -- a level above that of the leaf nodes
-pub two_up : (height : ℕ) → 1 < height → (level : ℕ) × (height ≡ suc (suc level))
+pub two_up : (level : ℕ) → 1 < level → (below : ℕ) × (level ≡ suc (suc below))
 two_up zero more = absurd (omega (arith, more))
 two_up (suc zero) more = absurd (omega (arith, more))
 two_up (suc (suc level)) more = (level, refl)
@@ -101,6 +103,7 @@ module _ {K V : Type 0} {LEN : ℕ} {cmp : K → K → Ordering} (o : IsTotalOrd
       → SplitsChild cmp (suc (suc level)) old (record old { nodes = with_value old.nodes x node' }) parent x
   split_anew node node' was_child rebuilds is_len few =
       split_by_rebuild (suc level) old (record old { nodes = with_value old.nodes x node' }) parent x part (node_rebuilt level old x child_part node node' was_child rebuilds is_len few) front back was
+      (inl (rw (sub-one, was_child) few, same_children level old x child_part node node' was_child rebuilds))
 
   -- it gave its lower children to a new one
   module _ (reserved mid : TreeArenas K V LEN) (y place : ℕ) (node high low : NodeOf K LEN) (separator : K)
@@ -158,11 +161,29 @@ module _ {K V : Type 0} {LEN : ℕ} {cmp : K → K → Ordering} (o : IsTotalOrd
       separator_is_new =
           absent_here o (λ low high. ⊤) (suc level) old mid parent x y separator part splits above above_was at.before at.onward stood.last above_last above_entries at.child (λ low_key high_key any. tt) tt
 
-      pub split_in_two : (above' : NodeOf K LEN) → PutsChild cmp above above' separator y → SplitsChild cmp (suc (suc level)) old (record mid { nodes = with_value mid.nodes parent above' }) parent x
-      split_in_two above' puts =
+      room_there : HasRoom LEN (keyed above) → 0 < room (suc (suc level)) old parent
+      room_there some = rw (above_was, above_last, some.1) some.0
+
+      y_not_parent : y ≡ parent → ⊥
+      y_not_parent same_id = let none : get old.nodes parent ≡ None = rw (sym same_id) was_free in let some = stood.here in cc
+
+      shared : (above' : NodeOf K LEN) → HasRoom LEN (keyed above) → SharesChildren (suc (suc level)) old (record mid { nodes = with_value mid.nodes parent above' }) parent x
+      shared above' some =
+          let update = Updates-with_value mid.nodes parent above' (rw is_above refl) in
+          inr (
+            room_there some,
+            y,
+            was_free,
+            rw (update.others y y_not_parent, update.others x (λ same_id. not_parent (sym same_id)))
+                (children_shared o level old mid x y separator child_part node low high was_child was_free gains.updates.changed high_here others (λ n. rw leaves (same.leaves n)) place cuts),
+          )
+
+      pub split_in_two : (above' : NodeOf K LEN) → HasRoom LEN (keyed above) → PutsChild cmp above above' separator y → SplitsChild cmp (suc (suc level)) old (record mid { nodes = with_value mid.nodes parent above' }) parent x
+      split_in_two above' some puts =
           let update = Updates-with_value mid.nodes parent above' (rw is_above refl) in
           child_split o (λ low high. ⊤) (suc level) old mid parent x y separator part splits above above_was at.before at.onward stood.last above_last above_entries at.child (λ low_key high_key any. tt) tt
           (record mid { nodes = with_value mid.nodes parent above' }) above' update.changed puts (λ n differs. update.others n differs) refl
           (λ low_key high_key. tt)
           (low_node_room o level old mid x y separator child_part node low high was_child was_free gains.updates.changed high_here others (λ n. rw leaves (same.leaves n)) place cuts within)
           (high_node_room o level old mid x y separator child_part node low high was_child was_free gains.updates.changed high_here others (λ n. rw leaves (same.leaves n)) place cuts within)
+          (shared above' some)

@@ -87,6 +87,10 @@ module _ {K V : Type 0} {LEN : ℕ} {cmp : K → K → Ordering} (o : IsTotalOrd
   now_children : children_of new.nodes x ≡ high_ids
   now_children = rw (high_here, high_entries, cuts.high_last, last_is) refl
 
+  -- the children stand in two nodes
+  pub children_shared : children_of old.nodes x ≡ children_of new.nodes y ++ children_of new.nodes x
+  children_shared = rw (x_children, y_children, now_children) refl
+
   not_new : (n : ℕ) → IsSome (get old.nodes n) → n ≡ y → ⊥
   not_new n used same = let none : get old.nodes n ≡ None = rw same was_free in let bad = rw none at used in cc
 

@@ -1,11 +1,10 @@
 -- A whole tree whose root stands under a new one.
-use Rattle.std.proofs.Common.{◌≡◌, ℕ, suc, Some, [], ◌++◌, inl, arith}
+use Rattle.std.proofs.Common.{ℕ, suc, Some, [], ◌++◌, inl, arith}
 use Rattle.std.specs.declared.cmp.Ordering.{Ordering}
 use Rattle.std.proofs.lemmas.List.{append-nil}
 use Rattle.tree_leaf.specs.Chain.{IsChain}
-use Rattle.tree_leaf.specs.Counting.{times, uses}
 use Rattle.tree_node.specs.Arenas.{TreeArenas}
-use Rattle.tree_node.specs.Tree.{leaves_at, nodes_at}
+use Rattle.tree_node.specs.Tree.{leaves_at}
 use Rattle.tree_node.specs.Whole.{IsTree}
 use Rattle.tree_insert.specs.Splits.{RaisesRoot}
 

@@ -100,6 +100,13 @@ module _ {K V : Type 0} {LEN : ℕ} {cmp : K → K → Ordering} (level : ℕ) (
   raises is_len new split = record {
     pairs = split.pairs ∙ top_walk;
     stands = split.keeps None None top_stands;
+    nodes_kept = λ n used outside.
+        let differs : n ≡ id → ⊥ = λ at_id. let none : get old.nodes n ≡ None = rw at_id was_free in let gone = rw none at used in cc in
+        split.replaces.nodes_kept n (rw (nodes_stay n differs) used)
+        (omega (arith, outside, ap (times n) (single_nodes (suc (suc level)) mid.nodes id), ap (times n) top_nodes, times-cons n id (nodes_at (suc level) old.nodes root), none_here n id differs))
+        ∙ nodes_stay n differs;
+    leaves_kept = λ n used outside.
+        rw (leaves_stay n) at (split.replaces.leaves_kept n (rw (leaves_stay n) used) (omega (arith, outside, ap (times n) (single_leaves (suc (suc level)) mid.nodes id), ap (times n) top_leaves)));
     nodes_counted = λ n.
         omega (
           arith,

@@ -18,7 +18,7 @@ use Rattle.tree_node.specs.declared.node.NodeOf.{NodeOf}
 use Rattle.tree_node.specs.Arenas.{TreeArenas}
 use Rattle.tree_node.specs.Parts.{IsPart, KeepsBounds, Replaces}
 use Rattle.tree_node.specs.Shape.{room}
-use Rattle.tree_insert.specs.Splits.{HasMadeRoom, RebuildsNode, SplitsChild}
+use Rattle.tree_insert.specs.Splits.{HasMadeRoom, RebuildsNode, SharesChildren, SplitsChild}
 use Rattle.tree_node.specs.Tree.{HasChildFor, Stands, keyed, unbounded, walk, leaves_at, nodes_at, nodes_of, node_children, children_of}
 use Rattle.tree_node.proofs.Children.{walk-leaf}
 use Rattle.tree_node.proofs.Frames.{Agrees, each_part, parted_map, same_leaves, same_nodes, same_walk, same_stands}
@@ -26,7 +26,7 @@ use Rattle.tree_node.proofs.LeafWrites.{with_array, here_now, array_replaces}
 use Rattle.tree_node.proofs.Lifts.{node_times, front_agrees, back_agrees, lifted, single_leaves, single_nodes}
 use Rattle.tree_node.proofs.Lists.{flat_map_same}
 use Rattle.tree_node.proofs.Standing.{node_is}
-use Rattle.tree_insert.proofs.Places.{IsAt, children_at, later_children}
+use Rattle.tree_node.proofs.Places.{IsAt, children_at, later_children}
 use Rattle.tree_node.proofs.Walks.{walk-children}
 
 -- the child is what it was to all that look for pairs, and has room
@@ -105,8 +105,9 @@ module _ {K V : Type 0} {LEN : ℕ} {cmp : K → K → Ordering} (level : ℕ) (
       only None child p q = absurd p
       only (Some node) child p q = let both : Some child ≡ Some x = sym q ∙ p in cc
 
-  pub split_by_rebuild : SplitsChild cmp (suc level) old new id x
-  split_by_rebuild = record {
+  pub split_by_rebuild : SharesChildren (suc level) old new id x → SplitsChild cmp (suc level) old new id x
+  split_by_rebuild shares = record {
+    shares = shares;
     pairs = same_pairs;
     keeps = keeps_node;
     replaces = replaces_node;
@@ -158,7 +159,7 @@ module _ {K V : Type 0} {LEN : ℕ} {cmp : K → K → Ordering} (level : ℕ) (
   entries_same : (keyed node').entries ≡ (keyed node).entries
   entries_same = ap (λ (k : Arrivals K ℕ). k.entries) rebuilds.rebuilt
 
-  same_children : children_of new.nodes x ≡ children_of a.nodes x
+  pub same_children : children_of new.nodes x ≡ children_of a.nodes x
   same_children = rw (written.changed, was, entries_same, rebuilds.last) refl
 
   below_same : (m : ℕ) → 1 ≤ times m (nodes_of level a.nodes (children_of a.nodes x)) → get new.nodes m ≡ get a.nodes m

@@ -1,7 +1,8 @@
 -- An insert that met a full child: what it answers where no room is made, and where it is tried again.
-use Rattle.std.proofs.Common.{◌≡◌, ℕ, zero, suc, ◌-◌, ◌<◌, Bool, true, false, List, [], ◌∷◌, None, Result, Ok, Err, refl, sym, ◌∙◌, arith, sub-one}
+use Rattle.std.proofs.Common.{◌≡◌, ℕ, zero, suc, ◌+◌, ◌-◌, ◌<◌, Bool, false, List, [], ◌∷◌, None, Result, Ok, Err, refl, sym, ◌∙◌, arith, sub-one}
 use Rattle.std.specs.declared.cmp.Ordering.{Ordering}
 use Rattle.std.specs.Cmp.{IsTotalOrder}
+use Rattle.std.proofs.lemmas.Bool.{false_from_ne_true}
 use Rattle.slab.specs.Slab.{get}
 use Rattle.tree_array.specs.declared.answers.StoreResult.{StoreResult}
 use Rattle.tree_array.specs.declared.answers.StoreResult.TheVariants.{New, Replaced, Duplicate, Full}
@@ -14,14 +15,18 @@ use Rattle.tree_node.specs.Tree.{HasChildFor, Stands, walk}
 use Rattle.tree_node.proofs.ChildChanges.{child_part, new_walk, old_spare, old_walk}
 use Rattle.tree_node.proofs.Frames.{same_stands, same_walk}
 use Rattle.tree_insert.proofs.Fulls.{crowded_above, crowded_room}
+use Rattle.tree_insert.proofs.Attempts.{attempts, not_crowded, one_attempt, two_attempts}
 use Rattle.tree_insert.proofs.Inserts.{inserted_between, inserts_in_node}
+use Rattle.tree_node.proofs.NodeKinds.{some_child}
 use Rattle.tree_node.proofs.Steps.{part_after, replaces_trans}
 use Rattle.tree_node.proofs.Unchanged.{unchanged_agrees, unchanged_held, unchanged_part, unchanged_replaces, unchanged_room, unchanged_trans}
 use Rattle.tree_node.proofs.Walks.{front_walk_below, back_walk_above}
 
 module _ {K V : Type 0} {LEN : ℕ} (cmp : K → K → Ordering) (upsert : Bool) where
   -- the child for the key was full: the part is what it was, and the pair is the caller's
-  pub record IsFullBelow (level : ℕ) (old mid : TreeArenas K V LEN) (id : ℕ) (key : K) (val : V) (k : K) (v : V) : Type 0 where
+  pub record IsFullBelow (level : ℕ) (old mid : TreeArenas K V LEN) (id child : ℕ) (key : K) (val : V) (k : K) (v : V) : Type 0 where
+    pub which : HasChildFor cmp key (get old.nodes id) child
+    pub crowded : IsCrowded cmp (level - 1) old child key
     pub same : Unchanged old mid
     pub absent : IsNew cmp upsert (walk level old id) key
     pub same_key : k ≡ key
@@ -38,7 +43,7 @@ accepted cmp upsert pairs left key val absent (Ok (Duplicate k v)) ins no_split 
 accepted cmp upsert pairs left key val absent (Ok (Full k v)) ins no_split = absurd (cc)
 accepted cmp upsert pairs left key val absent (Err pair) ins no_split = refl
 
-module _ {K V : Type 0} {LEN : ℕ} {cmp : K → K → Ordering} (upsert : Bool) (level : ℕ) (old mid : TreeArenas K V LEN) (id : ℕ) (key : K) (val : V) (k : K) (v : V) (below : IsFullBelow cmp upsert level old mid id key val k v) where
+module _ {K V : Type 0} {LEN : ℕ} {cmp : K → K → Ordering} (upsert : Bool) (level : ℕ) (old mid : TreeArenas K V LEN) (id child : ℕ) (key : K) (val : V) (k : K) (v : V) (below : IsFullBelow cmp upsert level old mid id child key val k v) where
   -- nothing has changed since
   module _ (new : TreeArenas K V LEN) (still : Unchanged mid new) where
     whole : Unchanged old new
@@ -70,16 +75,19 @@ module _ {K V : Type 0} {LEN : ℕ} {cmp : K → K → Ordering} (upsert : Bool)
       unchanged = λ so. whole;
     }
 
+  -- the child is there still, for the key that came back
+  pub which_still : HasChildFor cmp k (get mid.nodes id) child
+  which_still = rw (below.same_key, below.same.nodes id) below.which
+
   -- the node takes no child more itself
-  pub no_room_either : 0 < level → (new : TreeArenas K V LEN) (child : ℕ) → HasChildFor cmp key (get old.nodes id) child → InsertsUnder cmp upsert (level - 1) old mid child (Ok (Full k v)) key val → LacksRoom level mid new id child
-      → InsertsUnder cmp upsert level old new id (Ok (Full k v)) key val
-  no_room_either deep new child which ins lacks =
+  pub no_room_either : 0 < level → (new : TreeArenas K V LEN) → LacksRoom level mid new id child → InsertsUnder cmp upsert level old new id (Ok (Full k v)) key val
+  no_room_either deep new lacks =
       still_full new lacks.unchanged
       (crowded_above cmp level deep old id child key
-      (sym (unchanged_room level old mid below.same id) ∙ lacks.full) which (rw (unchanged_held (level - 1) old mid below.same child) at lacks.many) (ins.full refl))
+      (sym (unchanged_room level old mid below.same id) ∙ lacks.full) below.which (rw (unchanged_held (level - 1) old mid below.same child) at lacks.many) below.crowded)
 
   -- room was made, and the pair inserted
-  pub inserted_again : (made new : TreeArenas K V LEN) (result : Result (StoreResult K V) (K × V)) → HasMadeRoom cmp level mid made id key → InsertsUnder cmp upsert level made new id result key val → asks_split result ≡ false
+  inserted_again : (made new : TreeArenas K V LEN) (result : Result (StoreResult K V) (K × V)) → HasMadeRoom cmp level mid made id key → InsertsUnder cmp upsert level made new id result key val → asks_split result ≡ false
       → InsertsUnder cmp upsert level old new id result key val
   inserted_again made new result room ins no_split =
       let walked : walk level made id ≡ walk level old id = room.pairs ∙ same_walk level old mid id (unchanged_agrees level old mid below.same id) in
@@ -97,18 +105,27 @@ module _ {K V : Type 0} {LEN : ℕ} {cmp : K → K → Ordering} (upsert : Bool)
         unchanged = λ so. absurd (let both = sym so ∙ taken in cc);
       }
 
-  -- the part is one still where room was made
-  pub part_with_room : (made : TreeArenas K V LEN) → HasMadeRoom cmp level mid made id key → IsPart cmp level made id
-  part_with_room made room = part_after cmp level mid made id below.part (room.stands None None tt tt below.part.stands) room.replaces
+  module _ (deep : 0 < level) (made : TreeArenas K V LEN) (made_room : HasMadeRoom cmp level mid made id k) where
+    room_made : HasMadeRoom cmp level mid made id key
+    room_made = rw below.same_key at made_room
 
-module _ {K V : Type 0} {LEN : ℕ} {cmp : K → K → Ordering} {upsert : Bool} {level : ℕ} {old new : TreeArenas K V LEN} {child : ℕ} {key : K} {val : V} where
-  -- an answer asks for no split where there is room
-  pub no_split_with_room : (result : Result (StoreResult K V) (K × V)) → InsertsUnder cmp upsert level old new child result key val → 0 < room level old child → asks_split result ≡ false
-  no_split_with_room result ins some = by_answer (asks_split result) refl
-    where
-      by_answer : (b : Bool) → asks_split result ≡ b → b ≡ false
-      by_answer false e = refl
-      by_answer true e = absurd (omega (arith, some, crowded_room cmp level old child key (ins.full e)))
+    -- the part is one still where room was made
+    pub part_with_room : IsPart cmp level made id
+    part_with_room = part_after cmp level mid made id below.part (room_made.stands None None tt tt below.part.stands) room_made.replaces
+
+    -- and the pair is inserted there, by an insert that asks for no split
+    pub retried : (new : TreeArenas K V LEN) (result : Result (StoreResult K V) (K × V)) → InsertsUnder cmp upsert level made new id result k v → InsertsUnder cmp upsert level old new id result key val
+    retried new result inserts =
+        let ins : InsertsUnder cmp upsert level made new id result key val = rw (below.same_key, below.same_val) at inserts in
+        inserted_again made new result room_made ins (false_from_ne_true (asks_split result) (λ asks. not_crowded cmp level deep made id key room_made.child (ins.full asks)))
+
+    -- this insert needs no second attempt
+    pub last_attempt : attempts cmp level made id k < attempts cmp level old id key
+    last_attempt =
+        let child' = some_child level deep made id part_with_room key in
+        let after : attempts cmp level made id k ≡ level + level = rw below.same_key (one_attempt cmp level made id child'.0 key child'.1 (room_made.child child'.0 child'.1)) in
+        let before : attempts cmp level old id key ≡ level + level + 1 = two_attempts cmp level old id child key below.which (crowded_room cmp (level - 1) old child key below.crowded) in
+        omega (arith, after, before)
 
 -- a split of the key's child makes room for the key
 pub room_by_split : {K V : Type 0} {LEN : ℕ} {cmp : K → K → Ordering} {level : ℕ} {old new : TreeArenas K V LEN} {id child : ℕ} (key : K) → SplitsChild cmp level old new id child → HasChildFor cmp key (get old.nodes id) child → HasMadeRoom cmp level old new id key
@@ -122,13 +139,15 @@ room_by_split key split which = record {
 
 module _ {K V : Type 0} {LEN : ℕ} {cmp : K → K → Ordering} (o : IsTotalOrder cmp) (upsert : Bool) (level : ℕ) (old new : TreeArenas K V LEN) (id child : ℕ) (key : K) (val : V) where
   -- the child answered that it is full
-  pub full_below : (k : K) (v : V) → IsPart cmp (suc level) old id → HasChildFor cmp key (get old.nodes id) child → InsertsUnder cmp upsert level old new child (Ok (Full k v)) key val → IsFullBelow cmp upsert (suc level) old new id key val k v
+  full_below : (k : K) (v : V) → IsPart cmp (suc level) old id → HasChildFor cmp key (get old.nodes id) child → InsertsUnder cmp upsert level old new child (Ok (Full k v)) key val → IsFullBelow cmp upsert (suc level) old new id child key val k v
   full_below k v part which ins =
       let s : Stands cmp (suc level) old None id None = part.stands in
       let pairs : Inserts cmp upsert (Ok (Full k v)) (walk (suc level) old id) key val (walk (suc level) new id) =
       rw (old_walk o level old id child key part which None None s new ins.replaces, new_walk o level old id child key part which None None s new ins.replaces)
       (inserted_between o upsert key val _ _ _ _ (front_walk_below o level old None id None s key) (back_walk_above o level old None id None s key) (Ok (Full k v)) ins.pairs) in
       record {
+        which = which;
+        crowded = rw sub-one (ins.full refl);
         same = ins.unchanged refl;
         absent = pairs.0;
         same_key = pairs.1;
@@ -140,7 +159,7 @@ module _ {K V : Type 0} {LEN : ℕ} {cmp : K → K → Ordering} (o : IsTotalOrd
 -- the same where the level is a number of the program
 module _ {K V : Type 0} {LEN : ℕ} {cmp : K → K → Ordering} (o : IsTotalOrder cmp) (upsert : Bool) where
   pub full_below_at : (level : ℕ) → 0 < level → (old new : TreeArenas K V LEN) (id child : ℕ) (key : K) (val : V) (k : K) (v : V) → IsPart cmp level old id → HasChildFor cmp key (get old.nodes id) child
-      → InsertsUnder cmp upsert (level - 1) old new child (Ok (Full k v)) key val → IsFullBelow cmp upsert level old new id key val k v
+      → InsertsUnder cmp upsert (level - 1) old new child (Ok (Full k v)) key val → IsFullBelow cmp upsert level old new id child key val k v
   full_below_at zero deep old new id child key val k v part which ins = absurd (omega (arith, deep))
   full_below_at (suc level) deep old new id child key val k v part which ins = full_below o upsert level old new id child key val k v part which (rw sub-one at ins)
 

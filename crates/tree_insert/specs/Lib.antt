@@ -1,2 +1,3 @@
 pub mod Inserts
+pub mod Roots
 pub mod Splits

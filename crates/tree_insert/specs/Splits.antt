@@ -1,12 +1,12 @@
 -- What making room in a part leaves: a child that has none gives its lower part to a new child before it, or is built anew.
-use Rattle.std.specs.Prelude.{◌≡◌, ◌⊎◌, ℕ, suc, ◌+◌, ◌-◌, ◌<◌, ◌≤◌, Bool, true, false, List, [], ◌∷◌, ◌++◌, take, drop, length, Option, Some, None, slice_get}
+use Rattle.std.specs.Prelude.{◌≡◌, ◌⊎◌, ℕ, suc, ◌+◌, ◌-◌, ◌<◌, ◌≤◌, Bool, true, false, List, [], ◌∷◌, ◌++◌, take, drop, length, Option, Some, None, IsSome, slice_get}
 use Rattle.std.specs.List.{AllByRecursion}
 use Rattle.std.specs.declared.cmp.Ordering.{Ordering}
 use Rattle.std.specs.declared.cmp.Ordering.TheVariants.{Less}
 use Rattle.slab.specs.Slab.{get}
 use Rattle.tree_array.specs.Arrivals.{Arrivals, boundary, in_order, stored}
 use Rattle.tree_array.specs.Length.{limit}
-use Rattle.tree_leaf.specs.Chain.{IsChain}
+use Rattle.tree_leaf.specs.Chain.{IsChain, SameArray}
 use Rattle.tree_leaf.specs.Counting.{times, uses}
 use Rattle.tree_node.specs.declared.node.NodeOf.{NodeOf}
 use Rattle.tree_node.specs.Arenas.{TreeArenas}
@@ -19,6 +19,12 @@ pub record LacksRoom {K V : Type 0} {LEN : ℕ} (level : ℕ) (old new : TreeAre
   pub full : room level old parent ≡ 0
   pub many : limit LEN < held (level - 1) old target
   pub unchanged : Unchanged old new
+
+-- The child was built anew over its children, of which it had few; or its parent had room, and a new node got the first of them.
+abbrev pub SharesChildren : {K V : Type 0} {LEN : ℕ} → ℕ → TreeArenas K V LEN → TreeArenas K V LEN → ℕ → ℕ → Type 0
+SharesChildren {LEN = LEN} level old new parent target =
+    ((held (level - 1) old target ≤ limit LEN) × (children_of new.nodes target ≡ children_of old.nodes target))
+    ⊎ ((0 < room level old parent) × (low : ℕ) × (get old.nodes low ≡ None) × (children_of old.nodes target ≡ children_of new.nodes low ++ children_of new.nodes target))
 
 module _ {K V : Type 0} {LEN : ℕ} (cmp : K → K → Ordering) where
   -- The part has the same pairs, between bounds that the key is within, and the child for the key has room.
@@ -42,6 +48,8 @@ module _ {K V : Type 0} {LEN : ℕ} (cmp : K → K → Ordering) where
     pub replaces : Replaces level old new (parent ∷ []) (parent ∷ [])
     pub spends : room level old parent ≤ suc (room level new parent)
     pub roomy : 0 < room (level - 1) new target
+    -- the child's children stand in one node or two
+    pub shares : SharesChildren level old new parent target
     -- a child that the parent didn't have before
     pub gained : (child : ℕ) → 0 < times child (children_of new.nodes parent) → times child (children_of old.nodes parent) ≡ 0 → 0 < room (level - 1) new child
     -- a key that belonged to the child belongs to one with room
@@ -51,10 +59,13 @@ module _ {K V : Type 0} {LEN : ℕ} (cmp : K → K → Ordering) where
   SplitResult true level old new parent target = SplitsChild level old new parent target
   SplitResult false level old new parent target = LacksRoom level old new parent target
 
-  -- The part under the root stands under a new root, one level higher. Each key's child has room.
+  -- The part under the root stands under a new root, one level higher. The new root and each key's child have room, so that the next insert asks for no split.
   pub record RaisesRoot (depth : ℕ) (old new : TreeArenas K V LEN) (root id : ℕ) : Type 0 where
     pub pairs : walk (suc depth) new id ≡ walk depth old root
     pub stands : Stands cmp (suc depth) new None id None
+    -- what stands outside the part stays
+    pub nodes_kept : (n : ℕ) → IsSome (get old.nodes n) → times n (nodes_at depth old.nodes root) ≡ 0 → get new.nodes n ≡ get old.nodes n
+    pub leaves_kept : (n : ℕ) → IsSome (get old.leaves n) → times n (leaves_at depth old.nodes root) ≡ 0 → SameArray (get old.leaves n) (get new.leaves n)
     -- a number is taken where the part gains it
     pub nodes_counted : (n : ℕ) → uses new.nodes n + times n (nodes_at depth old.nodes root) ≡ uses old.nodes n + times n (nodes_at (suc depth) new.nodes id)
     pub leaves_counted : (n : ℕ) → uses new.leaves n + times n (leaves_at depth old.nodes root) ≡ uses old.leaves n + times n (leaves_at (suc depth) new.nodes id)

@@ -12,12 +12,12 @@ ghost use Rattle.tree_insert.specs.Splits.{GoesLow, HasMadeRoom, IsCut, PutsChil
 ghost use Rattle.tree_node.specs.Tree.{HasChildFor, HasKind, keyed, leaf_entries};
 
 use crate::keyed_children::put_keyed;
-use tree_node::node::{ArenasOf, NodeOf};
 use std::alloc::AllocError;
 use std::cmp::Ordering;
 use tree_array::array::{ArrayOf, IndexKey};
 use tree_leaf::arena::{LeafId, NodeId};
 use tree_leaf::leaf::{LeafOf, add_before};
+use tree_node::node::{ArenasOf, NodeOf};
 
 /// Makes room for a key in the leaf that it belongs to, by the first rule that fits:
 ///

@@ -12,12 +12,12 @@ ghost use Rattle.tree_node.specs.Parts.{IsPart, Unchanged};
 ghost use Rattle.tree_insert.specs.Splits.{CutsNode, PutsChild, RebuildsNode, SplitResult};
 ghost use Rattle.tree_node.specs.Tree.{HasKind, children_of, keyed};
 
-use tree_node::internal_node::InternalNodeOf;
 use crate::keyed_children::{cut_keyed, parting_place, put_keyed};
-use tree_node::leaf_node::LeafNodeOf;
-use tree_node::node::{ArenasOf, NodeOf};
 use std::alloc::AllocError;
 use tree_leaf::arena::NodeId;
+use tree_node::internal_node::InternalNodeOf;
+use tree_node::leaf_node::LeafNodeOf;
+use tree_node::node::{ArenasOf, NodeOf};
 
 /// Makes room in a child node, by the first rule that fits:
 ///
@@ -57,25 +57,6 @@ pub fn split_child<K: Ord + Drop, V: Drop, const LEN: usize>(
     };
     put_node(arenas.node_mut(parent), separator, low_id);
     Ok(true)
-}
-
-/// Makes room in a child node under a parent of this level, as [`split_child`] does.
-///
-/// The level serves the contract alone. It is no ghost parameter, since a recursive caller can't pick one.
-pub fn split_child_at<K: Ord + Drop, V: Drop, const LEN: usize>(
-    arenas: &mut ArenasOf<K, V, LEN>,
-    level: usize,
-    parent: NodeId,
-    target: NodeId,
-) -> Result<bool, AllocError>
-    requires node { 1 < level }
-    requires part { IsPart K.cmp level arenas.old parent }
-    requires child { 0 < times target (children_of arenas.old.nodes parent) }
-    ensures done { IfOk result (λ split. SplitResult K.cmp split level arenas.old arenas.new parent target) }
-    ensures err { OnErr result (Unchanged arenas.old arenas.new) }
-    ensures places { HasPlaces arenas.old 0 1 → IsOk result }
-{
-    split_child(arenas, parent, target)
 }
 
 /// Whether no keyed child can come.

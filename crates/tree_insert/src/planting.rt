@@ -4,10 +4,10 @@ ghost use Rattle.tree_array.specs.Arrivals.{in_order};
 ghost use Rattle.tree_array.specs.Length.{IsLen};
 ghost use Rattle.tree_node.specs.Whole.{HasNoOther, IsTree, Plants, leaves_under};
 
-use tree_node::leaf_node::LeafNodeOf;
-use tree_node::node::{ArenasOf, NodeOf};
 use tree_leaf::arena::NodeId;
 use tree_leaf::leaf::LeafOf;
+use tree_node::leaf_node::LeafNodeOf;
+use tree_node::node::{ArenasOf, NodeOf};
 
 /// Puts a pair into a tree without leaves: under a new root, or in place of a retired leaf node. It answers
 /// the root's number. Memory is taken for one leaf, and for the root if there is none; an `Err`, for want of it,

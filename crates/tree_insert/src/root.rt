@@ -1,22 +1,58 @@
-//! How a tree grows by a level.
-ghost use Rattle.std.specs.Prelude.{◌≡◌, ◌+◌, ◌^◌, ◌<◌, ◌≤◌, IfOk, IsOk, OnErr};
+//! How a root makes room: it grows by a level, or gets a leaf where it has none.
+ghost use Rattle.std.specs.Prelude.{◌≡◌, ◌⊎◌, ◌+◌, ◌^◌, ◌<◌, ◌≤◌, IfOk, IsOk, OnErr};
+ghost use Rattle.tree_array.specs.Length.{IsLen};
 ghost use Rattle.tree_leaf.specs.Arena.{HasPlaces};
 ghost use Rattle.tree_node.specs.Parts.{IsPart, Unchanged};
-ghost use Rattle.tree_node.specs.Shape.{room};
+ghost use Rattle.tree_node.specs.Tree.{IsRetired};
+ghost use Rattle.tree_insert.specs.Roots.{Replants};
 ghost use Rattle.tree_insert.specs.Splits.{RaisesRoot};
 
-use tree_node::internal_node::InternalNodeOf;
-use tree_node::node::{ArenasOf, NodeOf, slots_left};
-use crate::node_split::split_child_at;
+use crate::node_split::split_child;
 use std::alloc::AllocError;
 use tree_leaf::arena::NodeId;
+use tree_leaf::leaf::LeafOf;
+use tree_node::internal_node::InternalNodeOf;
+use tree_node::leaf_node::LeafNodeOf;
+use tree_node::node::{ArenasOf, NodeOf, slots_left};
 
-/// Puts a root without room under a new one, makes room in it there, and answers the new root's number. It takes the
-/// two nodes that this needs at most before it changes anything: an `Err`, for want of memory, leaves
-/// what stood under every number; it doesn't come where two nodes more were reserved.
+/// Makes room at a root, so that the next insert under the number that it returns asks for no split.
 ///
-/// Caller's condition: a well-formed tree of this depth stands under the root, which isn't retired and has
-/// no room for a keyed child.
+/// A root that is retired keeps its number and becomes a leaf node over a new, empty leaf, at level 1. Any other root
+/// comes under a new one, a level higher, and is split there.
+///
+/// Returns `Err` if memory is refused; nothing has changed then. Allocates one leaf for a retired root, and two nodes
+/// at most for another; it isn't refused where places for these were reserved. Makes at most `LEN` comparisons.
+///
+/// The caller must see that a well-formed tree of this depth stands under the root, or that the root is retired.
+pub fn grow_root_at<K: Ord + Drop, V: Drop, const LEN: usize>(
+    arenas: &mut ArenasOf<K, V, LEN>,
+    depth: usize,
+    root: NodeId,
+) -> Result<NodeId, AllocError>
+    requires node { 0 < depth }
+    requires part { IsPart K.cmp depth arenas.old root ⊎ IsRetired depth arenas.old root }
+    ensures raised { IsPart K.cmp depth arenas.old root → IfOk result (λ id. RaisesRoot K.cmp depth arenas.old arenas.new root id × (depth + 1 < 2 ^ 64)) }
+    ensures replanted { IsRetired depth arenas.old root → IfOk result (λ id. (id ≡ root) × Replants K.cmp arenas.old arenas.new root) }
+    ensures err { OnErr result (Unchanged arenas.old arenas.new) }
+    ensures places { IsPart K.cmp depth arenas.old root → HasPlaces arenas.old 0 2 → IsOk result }
+    ensures leaf_place { IsRetired depth arenas.old root → HasPlaces arenas.old 1 0 → IsOk result }
+{
+    let node = arenas.node(root);
+    prove!(slots_left(node) as usize <= LEN);
+    if node.is_childless() {
+        replant(arenas, root)
+    } else {
+        split_root_at(arenas, depth, root)
+    }
+}
+
+/// Puts a root under a new one and splits it there, or builds it anew if it has few keyed children. Returns the new
+/// root's number.
+///
+/// Returns `Err` if memory is refused; nothing has changed then. Allocates two nodes at most, before anything changes;
+/// it isn't refused where two nodes were reserved. Makes no comparisons.
+///
+/// The caller must see that a well-formed tree of this depth stands under the root, which isn't retired.
 pub fn split_root_at<K: Ord + Drop, V: Drop, const LEN: usize>(
     arenas: &mut ArenasOf<K, V, LEN>,
     depth: usize,
@@ -24,7 +60,6 @@ pub fn split_root_at<K: Ord + Drop, V: Drop, const LEN: usize>(
 ) -> Result<NodeId, AllocError>
     requires node { 0 < depth }
     requires part { IsPart K.cmp depth arenas.old root }
-    requires full { room depth arenas.old root ≡ 0 }
     ensures done { IfOk result (λ id. RaisesRoot K.cmp depth arenas.old arenas.new root id) }
     ensures levels { IfOk result (λ _. depth + 1 < 2 ^ 64) }
     ensures err { OnErr result (Unchanged arenas.old arenas.new) }
@@ -36,11 +71,31 @@ pub fn split_root_at<K: Ord + Drop, V: Drop, const LEN: usize>(
     let Ok(id) = arenas.add_node(NodeOf::Internal(top)) else {
         unreachable!()
     };
-    // There are as many nodes as levels at least, so that their number fits.
+    // There are as many nodes as levels at least, so that the new depth fits.
     let _ = arenas.node_count();
-    match split_child_at(arenas, depth + 1, id, root) {
+    match split_child(arenas, id, root) {
         Ok(true) => Ok(id),
         Ok(false) => unreachable!(),
         Err(_) => unreachable!(),
     }
+}
+
+/// Puts a leaf node over a new, empty leaf in place of a retired node.
+fn replant<K: Ord + Drop, V: Drop, const LEN: usize>(
+    arenas: &mut ArenasOf<K, V, LEN>,
+    root: NodeId,
+) -> Result<NodeId, AllocError>
+    requires len { IsLen LEN }
+    requires retired { IsRetired 1 arenas.old root }
+    ensures done { IfOk result (λ id. (id ≡ root) × Replants K.cmp arenas.old arenas.new root) }
+    ensures err { OnErr result (Unchanged arenas.old arenas.new) }
+    ensures places { HasPlaces arenas.old 1 0 → IsOk result }
+{
+    arenas.reserve(1, 0)?;
+    let leaf = LeafOf::new();
+    let Ok(added) = arenas.add_leaf(leaf) else {
+        unreachable!()
+    };
+    *arenas.node_mut(root) = NodeOf::Leaf(LeafNodeOf::new(added));
+    Ok(root)
 }

@@ -1,17 +1,18 @@
 -- Where a jump over leaves ends, and which entry it finds.
-use Rattle.std.proofs.Common.{◌≡◌, ℕ, zero, suc, ◌+◌, ◌-◌, ◌==◌, Bool, true, false, cond, List, [], ◌∷◌, ◌++◌, length, reverse, slice_get, Option, Some, None, option_map, refl, sym, ap, ◌∙◌, arith, append_assoc, length-append, inl, inr, ◌⊎◌}
+use Rattle.std.proofs.Common.{◌≡◌, ℕ, ◌==◌, Bool, true, false, cond, List, [], ◌∷◌, ◌++◌, length, reverse, slice_get, Option, Some, None, option_map, refl, sym, ap, ◌∙◌, arith, append_assoc, inl, inr, ◌⊎◌}
 use Rattle.std.proofs.lemmas.Bool.Decides.{nat_tests}
 use Rattle.std.proofs.lemmas.Grind.{reverse_onto}
-use Rattle.std.proofs.lemmas.List.{append-nil, reverse-append, reverse-reverse}
-use Rattle.std.proofs.lemmas.List.Concat.{flat_map-append}
+use Rattle.std.proofs.lemmas.List.{reverse-append, reverse-reverse}
 use Rattle.std.specs.Borrow.{Bor}
+use Rattle.std.specs.List.{flat_map}
 use Rattle.slab.specs.Slab.{Slab}
 use Rattle.tree_leaf.specs.declared.leaf.LeafOf.{LeafOf}
 use Rattle.tree_leaf.specs.declared.leaf.stand.Way.{Way}
 use Rattle.tree_leaf.specs.declared.leaf.stand.Way.TheVariants.{On, Back}
 use Rattle.tree_leaf.specs.Entries.{leaf_entries, entries_of}
-use Rattle.tree_leaf.specs.Walks.{LeafWalk, StepsOn, StepsBack, jumped, lent_entry, standing, first_of, last_of}
-use Rattle.tree_leaf.specs.Ways.{leaves_on, landing}
+use Rattle.tree_leaf.specs.Walks.{LeafWalk, Steps, first_of, first_on, jumped, lent_entry, standing}
+use Rattle.tree_leaf.specs.Ways.{StepsOver, along, beyond, landing, leaves_on, next_place}
+use Rattle.tree_leaf.proofs.Along.{all_ahead, all_left, along-flat_map, along-nil, along_empty, first_along, first_place, first_step, step_takes}
 
 pub not_none : {X : Type 0} (x : X) (xs : List X) → (length (x ∷ xs) == 0) ≡ false
 not_none x xs = grind (arith, nat_tests)
@@ -37,14 +38,6 @@ way_parts Back front leaf back id parted =
       back = reverse parted.front ++ leaf ∷ back;
       parts = rw whole (append_assoc (reverse parted.back ++ id ∷ []) (reverse parted.front) (leaf ∷ back) ∙ append_assoc (reverse parted.back) (id ∷ []) (reverse parted.front ++ leaf ∷ back));
     }
-
-slice_get-right : {X : Type 0} (xs ys : List X) (i n : ℕ) → n ≡ length xs + i → slice_get (xs ++ ys) n ≡ slice_get ys i
-slice_get-right [] ys i n is = let same : n ≡ i = omega arith in rw same refl
-slice_get-right (x ∷ xs) ys i zero is = absurd (omega arith)
-slice_get-right (x ∷ xs) ys i (suc n) is = slice_get-right xs ys i n (omega arith)
-
-pub last_append : {X : Type 0} (xs : List X) (y : X) (ys : List X) → last_of (xs ++ y ∷ ys) ≡ slice_get (y ∷ ys) (length (y ∷ ys) - 1)
-last_append xs y ys = slice_get-right xs (y ∷ ys) (length (y ∷ ys) - 1) (length (xs ++ y ∷ ys) - 1) (omega (arith, length-append xs (y ∷ ys)))
 
 module _ {K V : Type 0} {LEN : ℕ} (leaves : Slab (LeafOf K V LEN)) where
   -- where it lands is one of the leaves, or what was before them
@@ -80,91 +73,78 @@ module _ {K V : Type 0} {LEN : ℕ} (leaves : Slab (LeafOf K V LEN)) where
       by_test true e = lands_somewhere x ids e
       by_test false e = cc
 
-  module _ (at : List (K × V) → ℕ) where
-    -- the entry at this place of the first leaf that has one
-    met : List ℕ → Option (K × V)
-    met [] = None
-    met (id ∷ ids) = cond (length (leaf_entries leaves id) == 0) (met ids) (slice_get (leaf_entries leaves id) (at (leaf_entries leaves id)))
+  module _ (way : Way) where
+    -- the entries of these leaves in the order of the way, the nearest leaf first
+    abbrev pub met : List ℕ → List (K × V)
+    met ids = flat_map (λ id. along way (leaf_entries leaves id)) ids
 
-    -- the walk that is left, and the entry that is met, by whether the leaf is empty in which it lands
+    pub met_beyond : (front back : List ℕ) → along way (entries_of leaves (beyond way front back)) ≡ met (leaves_on way front back)
+    met_beyond front back = along-flat_map way (leaf_entries leaves) (beyond way front back)
+
+    -- the first entry on the way of the first leaf that has one
+    found : List ℕ → Option (K × V)
+    found [] = None
+    found (id ∷ ids) = cond (length (leaf_entries leaves id) == 0) (found ids) (slice_get (leaf_entries leaves id) (next_place way (length (leaf_entries leaves id)) None))
+
+    found_first : (ids : List ℕ) → found ids ≡ first_of (met ids)
+    unfolding found
+    found_first [] = refl
+    found_first (id ∷ ids) = by_entries (leaf_entries leaves id) (found_first ids)
+      where
+        by_entries : (entries : List (K × V)) → found ids ≡ first_of (met ids) → cond (length entries == 0) (found ids) (slice_get entries (next_place way (length entries) None)) ≡ first_of (along way entries ++ met ids)
+        by_entries [] again = rw (along-nil (K × V) way) again
+        by_entries (entry ∷ entries) again =
+            let first = first_step way entry entries in
+            let taken = sym (all_ahead way (entry ∷ entries)) ∙ step_takes way (entry ∷ entries) None _ first.first first.steps in
+            rw (not_none entry entries, taken) first.steps.1
+
+    -- the walk that is left, and the entry that is found, by whether the leaf is empty in which it lands
     abbrev Ends : LeafWalk K V LEN → Option (K × V) → ℕ → Bool → Type 0
     Ends walk entry id true = (walk ≡ standing leaves id None) × (entry ≡ None)
-    Ends walk entry id false = (walk ≡ standing leaves id (Some (at (leaf_entries leaves id)))) × (entry ≡ slice_get (leaf_entries leaves id) (at (leaf_entries leaves id)))
+    Ends walk entry id false =
+        let place = next_place way (length (leaf_entries leaves id)) None in
+        (walk ≡ standing leaves id (Some place)) × (entry ≡ slice_get (leaf_entries leaves id) place)
 
     ends : (walk : LeafWalk K V LEN) (before : Option ℕ) (ids : List ℕ) (id : ℕ) → walk.leaves ≡ leaves
         → ((n : ℕ) → before ≡ Some n → (walk ≡ standing leaves n None) × ((length (leaf_entries leaves n) == 0) ≡ true))
-        → landing leaves before ids ≡ Some id → Ends (jumped at walk ids) (met ids) id (length (leaf_entries leaves id) == 0)
-    unfolding met
+        → landing leaves before ids ≡ Some id → Ends (jumped way walk ids) (found ids) id (length (leaf_entries leaves id) == 0)
+    unfolding found
     ends walk before [] id same passed is = let there = passed id is in rw there.1 (there.0, refl)
     ends walk before (x ∷ ids) id same passed is = rw same (by_test (length (leaf_entries leaves x) == 0) refl
         (λ e h. ends (standing leaves x None) (Some x) ids id refl (λ n here. let this : x ≡ n = cc in rw (← this) (refl, e)) h) is)
       where
         by_test : (empty : Bool) → (length (leaf_entries leaves x) == 0) ≡ empty
-            → ((length (leaf_entries leaves x) == 0) ≡ true → landing leaves (Some x) ids ≡ Some id → Ends (jumped at (standing leaves x None) ids) (met ids) id (length (leaf_entries leaves id) == 0))
+            → ((length (leaf_entries leaves x) == 0) ≡ true → landing leaves (Some x) ids ≡ Some id → Ends (jumped way (standing leaves x None) ids) (found ids) id (length (leaf_entries leaves id) == 0))
             → cond empty (landing leaves (Some x) ids) (Some x) ≡ Some id
-            → Ends (cond empty (jumped at (standing leaves x None) ids) (standing leaves x (Some (at (leaf_entries leaves x))))) (cond empty (met ids) (slice_get (leaf_entries leaves x) (at (leaf_entries leaves x)))) id (length (leaf_entries leaves id) == 0)
+            → Ends (cond empty (jumped way (standing leaves x None) ids) (standing leaves x (Some (next_place way (length (leaf_entries leaves x)) None)))) (cond empty (found ids) (slice_get (leaf_entries leaves x) (next_place way (length (leaf_entries leaves x)) None))) id (length (leaf_entries leaves id) == 0)
         by_test true e again h = again e h
         by_test false e again h = let this : x ≡ id = cc in rw (← this, e) (refl, refl)
 
-  met_first : (ids : List ℕ) → met (λ _. 0) ids ≡ first_of (entries_of leaves ids)
-  unfolding met
-  met_first [] = refl
-  met_first (id ∷ ids) = by_entries (leaf_entries leaves id) (met_first ids)
-    where
-      by_entries : (entries : List (K × V)) → met (λ _. 0) ids ≡ first_of (entries_of leaves ids) → cond (length entries == 0) (met (λ _. 0) ids) (slice_get entries 0) ≡ first_of (entries ++ entries_of leaves ids)
-      by_entries [] again = again
-      by_entries (entry ∷ entries) again = rw (not_none entry entries) refl
+    -- a jump that lands in a leaf, and there takes a step
+    pub jumps : (walk landed new : LeafWalk K V LEN) (front back : List ℕ) (id : ℕ) (result : Option (Bor K × Bor V)) → walk.leaves ≡ leaves → landing leaves None (leaves_on way front back) ≡ Some id → landed ≡ standing leaves id None → Steps way landed result new
+        → (new ≡ jumped way walk (leaves_on way front back)) × (option_map lent_entry result ≡ first_on way (entries_of leaves (beyond way front back)))
+    jumps walk landed new front back id result same is fresh steps =
+        let done = by_result result (rw fresh at steps) in
+        (done.0, done.1 ∙ sym (first_along way (entries_of leaves (beyond way front back)) ∙ ap first_of (met_beyond front back)))
+      where
+        at_end : Ends (jumped way walk (leaves_on way front back)) (found (leaves_on way front back)) id (length (leaf_entries leaves id) == 0)
+        at_end = ends walk None (leaves_on way front back) id same (λ n none. absurd (cc)) is
 
-  met_last : (ids : List ℕ) → met (λ entries. length entries - 1) ids ≡ last_of (entries_of leaves (reverse ids))
-  unfolding met
-  met_last [] = refl
-  met_last (id ∷ ids) =
-      let whole : entries_of leaves (reverse (id ∷ ids)) ≡ entries_of leaves (reverse ids) ++ (leaf_entries leaves id ++ []) = ap (entries_of leaves) (reverse_onto ids id []) ∙ flat_map-append (leaf_entries leaves) (reverse ids) (id ∷ []) in
-      rw (whole, append-nil (leaf_entries leaves id)) (by_entries (leaf_entries leaves id) (met_last ids))
-    where
-      by_entries : (entries : List (K × V)) → met (λ es. length es - 1) ids ≡ last_of (entries_of leaves (reverse ids)) → cond (length entries == 0) (met (λ es. length es - 1) ids) (slice_get entries (length entries - 1)) ≡ last_of (entries_of leaves (reverse ids) ++ entries)
-      by_entries [] again = again ∙ sym (ap last_of (append-nil (entries_of leaves (reverse ids))))
-      by_entries (entry ∷ entries) again = rw (not_none entry entries) (sym (last_append (entries_of leaves (reverse ids)) entry entries))
+        by_result : (r : Option (Bor K × Bor V)) → Steps way (standing leaves id None) r new → (new ≡ jumped way walk (leaves_on way front back)) × (option_map lent_entry r ≡ first_of (met (leaves_on way front back)))
+        by_result None step =
+            let left = sym (all_left way (length (leaf_entries leaves id))) ∙ step.1.0 in
+            let empty : (length (leaf_entries leaves id) == 0) ≡ true = grind (arith, nat_tests, left) in
+            let there = rw empty at at_end in
+            (step.0 ∙ ap (standing leaves id) step.1.1 ∙ sym there.0, sym there.1 ∙ found_first (leaves_on way front back))
+        by_result (Some entry) step =
+            let left = all_left way (length (leaf_entries leaves id)) in
+            let filled : (length (leaf_entries leaves id) == 0) ≡ false = grind (arith, nat_tests, left, step.1.0) in
+            let there = rw filled at at_end in
+            (step.0 ∙ ap (standing leaves id) step.1.2 ∙ sym there.0, sym step.1.1 ∙ sym there.1 ∙ found_first (leaves_on way front back))
 
-  -- a jump that lands in a leaf, and there steps on to the first entry or back to the last one
-  pub jump_on : (walk landed new : LeafWalk K V LEN) (ids : List ℕ) (id : ℕ) (result : Option (Bor K × Bor V)) → walk.leaves ≡ leaves → landing leaves None ids ≡ Some id → landed ≡ standing leaves id None → StepsOn landed result new
-      → (new ≡ jumped (λ _. 0) walk ids) × (option_map lent_entry result ≡ first_of (entries_of leaves ids))
-  jump_on walk landed new ids id result same is fresh steps = by_result result (rw fresh at steps)
-    where
-      at_end : Ends (λ _. 0) (jumped (λ _. 0) walk ids) (met (λ _. 0) ids) id (length (leaf_entries leaves id) == 0)
-      at_end = ends (λ _. 0) walk None ids id same (λ n none. absurd (cc)) is
-
-      by_result : (r : Option (Bor K × Bor V)) → StepsOn (standing leaves id None) r new → (new ≡ jumped (λ _. 0) walk ids) × (option_map lent_entry r ≡ first_of (entries_of leaves ids))
-      by_result None step =
-          let empty : (length (leaf_entries leaves id) == 0) ≡ true = grind (arith, nat_tests, step.0) in
-          let there = rw empty at at_end in
-          (step.1 ∙ sym there.0, sym there.1 ∙ met_first ids)
-      by_result (Some entry) step =
-          let filled : (length (leaf_entries leaves id) == 0) ≡ false = by_entries (leaf_entries leaves id) step.0 in
-          let there = rw filled at at_end in
-          (step.1 ∙ sym there.0, sym step.0 ∙ sym there.1 ∙ met_first ids)
-        where
-          by_entries : (entries : List (K × V)) → slice_get entries 0 ≡ Some (lent_entry entry) → (length entries == 0) ≡ false
-          by_entries [] e = absurd (cc)
-          by_entries (x ∷ xs) e = not_none x xs
-
-  pub jump_back : (walk landed new : LeafWalk K V LEN) (ids : List ℕ) (id : ℕ) (result : Option (Bor K × Bor V)) → walk.leaves ≡ leaves → landing leaves None ids ≡ Some id → landed ≡ standing leaves id None → StepsBack landed result new
-      → (new ≡ jumped (λ entries. length entries - 1) walk ids) × (option_map lent_entry result ≡ last_of (entries_of leaves (reverse ids)))
-  jump_back walk landed new ids id result same is fresh steps = by_result result (rw fresh at steps)
-    where
-      at_end : Ends (λ entries. length entries - 1) (jumped (λ entries. length entries - 1) walk ids) (met (λ entries. length entries - 1) ids) id (length (leaf_entries leaves id) == 0)
-      at_end = ends (λ entries. length entries - 1) walk None ids id same (λ n none. absurd (cc)) is
-
-      by_result : (r : Option (Bor K × Bor V)) → StepsBack (standing leaves id None) r new → (new ≡ jumped (λ entries. length entries - 1) walk ids) × (option_map lent_entry r ≡ last_of (entries_of leaves (reverse ids)))
-      by_result None step =
-          let empty : (length (leaf_entries leaves id) == 0) ≡ true = grind (arith, nat_tests, step.0) in
-          let there = rw empty at at_end in
-          (step.1 ∙ sym there.0, sym there.1 ∙ met_last ids)
-      by_result (Some entry) step =
-          let filled : (length (leaf_entries leaves id) == 0) ≡ false = by_entries (leaf_entries leaves id) step.1 in
-          let there = rw filled at at_end in
-          (step.2 ∙ sym there.0, sym step.1 ∙ sym there.1 ∙ met_last ids)
-        where
-          by_entries : (entries : List (K × V)) → slice_get entries (length entries - 1) ≡ Some (lent_entry entry) → (length entries == 0) ≡ false
-          by_entries [] e = absurd (cc)
-          by_entries (x ∷ xs) e = not_none x xs
+    -- a walk with no leaf on its way stays
+    pub stays : (walk : LeafWalk K V LEN) (front back : List ℕ) → landing leaves None (leaves_on way front back) ≡ None
+        → (walk ≡ jumped way walk (leaves_on way front back)) × (None ≡ first_on way (entries_of leaves (beyond way front back)))
+    stays walk front back is =
+        let none = lands_nowhere (leaves_on way front back) is in
+        rw (none, along_empty way (beyond way front back) none) (refl, sym (first_place way []))

@@ -1,4 +1,5 @@
 pub mod Additions
+pub mod Along
 pub mod Chains
 pub mod Counts
 pub mod Jumps

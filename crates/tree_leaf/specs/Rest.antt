@@ -1,14 +1,14 @@
 -- What is left of a walk on its way through a chain, and that a walk with its jumps takes it entry by entry.
-use Rattle.std.specs.Prelude.{◌≡◌, ℕ, List, [], ◌∷◌, ◌++◌, length, map, drop, take, reverse, Option, None, Some}
+use Rattle.std.specs.Prelude.{◌≡◌, ℕ, List, [], ◌∷◌, ◌++◌, map, reverse, Option, None, Some}
 use Rattle.std.specs.Borrow.{Bor}
 use Rattle.slab.specs.Slab.{Slab}
-use Rattle.tree_array.specs.Walk.{place_ahead, places_behind}
 use Rattle.tree_leaf.specs.declared.leaf.LeafOf.{LeafOf}
 use Rattle.tree_leaf.specs.declared.leaf.stand.Way.{Way}
 use Rattle.tree_leaf.specs.declared.leaf.stand.Way.TheVariants.{On, Back}
 use Rattle.tree_leaf.specs.Chain.{IsChain}
 use Rattle.tree_leaf.specs.Entries.{entries_of}
 use Rattle.tree_leaf.specs.Walks.{LeafWalk, here, lent_entry}
+use Rattle.tree_leaf.specs.Ways.{ahead, along, beyond}
 
 -- the first entry is taken and the others are left, or there was none
 abbrev pub TakesFirst : {K V : Type 0} → List (K × V) → Option (Bor K × Bor V) → List (K × V) → Type 0
@@ -16,10 +16,9 @@ TakesFirst left None rest = (left ≡ []) × (rest ≡ [])
 TakesFirst left (Some entry) rest = left ≡ lent_entry entry ∷ rest
 
 module _ {K V : Type 0} {LEN : ℕ} where
-  -- Of the entries of a chain, in which these leaves stand before the walk's leaf and behind it: those behind the walk's place in order, or those before it against the order.
+  -- of the entries of a chain, in which these leaves stand before the walk's leaf and behind it, those that lie ahead of the walk, in its order
   abbrev pub left_of : Way → LeafWalk K V LEN → List ℕ → List ℕ → List (K × V)
-  left_of On walk front back = drop (place_ahead walk.at) (here walk) ++ entries_of walk.leaves back
-  left_of Back walk front back = reverse (entries_of walk.leaves front ++ take (places_behind (length (here walk)) walk.at) (here walk))
+  left_of way walk front back = ahead way (here walk) walk.at ++ along way (entries_of walk.leaves (beyond way front back))
 
   -- the entries of a leaf and of all leaves that the way leads to from it
   abbrev pub whole_way : Way → Slab (LeafOf K V LEN) → List ℕ → ℕ → List ℕ → List (K × V)

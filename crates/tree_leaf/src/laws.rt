@@ -1,20 +1,20 @@
-//! Laws of walks over linked leaves, each as the contract of a small function: a walk with its jumps
-//! gives all entries of the chain on its way, in order.
+//! Laws of iterators over linked leaves, each as the contract of a small function: an iterator with its
+//! jumps gives all entries of the chain on its way, in order.
 ghost use Rattle.std.specs.Prelude.{◌++◌, ◌∷◌, IfOk};
 ghost use Rattle.tree_leaf.specs.declared.leaf.stand.Way.TheVariants.{On, Back};
 ghost use Rattle.tree_leaf.specs.Chain.{IsChain};
 ghost use Rattle.tree_leaf.specs.Rest.{AreLeft, AreOnTheWay, Takes};
 
 use crate::arena::{LeafId, SlotsOf};
-use crate::leaf::{IterOf, RevIterOf};
+use crate::leaf::{IterOf, LeafOf, LinkedIter, RevIterOf, SlotWalk};
 use std::alloc::{AllocError, Global};
 
-/// The next entry of a walk, in its leaf or behind a jump: the first that is left on its way. None where
-/// none is left.
-pub fn next_or_jump<'t, K: Ord + Drop, V: Drop, const LEN: usize>(
-    walk: &mut IterOf<'t, K, V, LEN>,
+/// The next entry of an iterator, in its leaf or behind a jump: the first that is left on its way. `None`
+/// where none is left.
+pub fn next_or_jump<'t, K: Ord + Drop, V: Drop, S: SlotWalk, const LEN: usize>(
+    walk: &mut LinkedIter<'t, LeafOf<K, V, LEN>, S>,
 ) -> Option<(&'t K, &'t V)>
-    ensures { Takes On walk.old result walk.new }
+    ensures { Takes S.way walk.old result walk.new }
 {
     match walk.next() {
         None => walk.jump(),
@@ -22,26 +22,14 @@ pub fn next_or_jump<'t, K: Ord + Drop, V: Drop, const LEN: usize>(
     }
 }
 
-/// The same against the order of the keys.
-pub fn next_or_jump_back<'t, K: Ord + Drop, V: Drop, const LEN: usize>(
-    back: &mut RevIterOf<'t, K, V, LEN>,
-) -> Option<(&'t K, &'t V)>
-    ensures { Takes Back back.old result back.new }
-{
-    match back.next() {
-        None => back.jump(),
-        entry => entry,
-    }
-}
-
-/// All entries that are left of a walk. An `Err` is want of memory. Caller's condition, here and below: the
-/// leaf is one of a chain.
-pub fn entries_left<'t, K: Ord + Drop, V: Drop, const LEN: usize>(
+/// All entries that are left of an iterator, in the order of its way. Returns `Err` if memory for the list
+/// is refused. The caller must have an iterator that stands in a leaf of a chain.
+pub fn entries_left<'t, K: Ord + Drop, V: Drop, S: SlotWalk, const LEN: usize>(
     alloc: Global,
-    mut walk: IterOf<'t, K, V, LEN>,
+    mut walk: LinkedIter<'t, LeafOf<K, V, LEN>, S>,
 ) -> Result<Vec<(&'t K, &'t V)>, AllocError>
     requires { (front back : _) × IsChain walk.leaves (front ++ walk.leaf ∷ back) }
-    ensures { IfOk result (λ entries. AreLeft On walk.entry entries.items) }
+    ensures { IfOk result (λ entries. AreLeft S.way walk.entry entries.items) }
 {
     let mut entries = Vec::new(alloc);
     while let Some(entry) = next_or_jump(&mut walk) {
@@ -50,22 +38,8 @@ pub fn entries_left<'t, K: Ord + Drop, V: Drop, const LEN: usize>(
     Ok(entries)
 }
 
-/// The same against the order of the keys.
-pub fn entries_left_back<'t, K: Ord + Drop, V: Drop, const LEN: usize>(
-    alloc: Global,
-    mut walk: RevIterOf<'t, K, V, LEN>,
-) -> Result<Vec<(&'t K, &'t V)>, AllocError>
-    requires { (front back : _) × IsChain walk.leaves (front ++ walk.leaf ∷ back) }
-    ensures { IfOk result (λ entries. AreLeft Back walk.entry entries.items) }
-{
-    let mut entries = Vec::new(alloc);
-    while let Some(entry) = next_or_jump_back(&mut walk) {
-        entries.push(entry)?;
-    }
-    Ok(entries)
-}
-
-/// All entries of a leaf and of those behind it.
+/// All entries of a leaf and of those behind it, in ascending order. Returns `Err` if memory for the list
+/// is refused. The caller must name a leaf of a chain.
 pub fn entries_on<'t, K: Ord + Drop, V: Drop, N: Drop, const LEN: usize>(
     alloc: Global,
     arenas: &'t SlotsOf<K, V, N, LEN>,
@@ -77,7 +51,8 @@ pub fn entries_on<'t, K: Ord + Drop, V: Drop, N: Drop, const LEN: usize>(
     entries_left(alloc, IterOf::new(arenas, id))
 }
 
-/// All entries of a leaf and of those before it, against the order of their keys.
+/// All entries of a leaf and of those before it, in descending order. Returns `Err` if memory for the list
+/// is refused. The caller must name a leaf of a chain.
 pub fn entries_back<'t, K: Ord + Drop, V: Drop, N: Drop, const LEN: usize>(
     alloc: Global,
     arenas: &'t SlotsOf<K, V, N, LEN>,
@@ -86,5 +61,5 @@ pub fn entries_back<'t, K: Ord + Drop, V: Drop, N: Drop, const LEN: usize>(
     requires { (front back : _) × IsChain arenas.now.leaves (front ++ id ∷ back) }
     ensures { IfOk result (λ entries. AreOnTheWay Back arenas.now.leaves id entries.items) }
 {
-    entries_left_back(alloc, RevIterOf::new(arenas, id))
+    entries_left(alloc, RevIterOf::new(arenas, id))
 }

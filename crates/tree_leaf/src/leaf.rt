@@ -1,4 +1,4 @@
-//! Leaves, each an array with the numbers of the leaves beside it.
+//! Leaves: an array each, and links to the leaves beside it.
 ghost use Rattle.std.specs.Prelude.{◌≡◌, [], None, Some, IsSome};
 ghost use Rattle.std.specs.Borrow.{sem};
 ghost use Rattle.tree_array.specs.Arrivals.{arrival, in_order};
@@ -9,12 +9,12 @@ use tree_array::array::{ArrayIter, ArrayOf};
 
 mod iter;
 mod links;
-mod rev_iter;
+mod slot_walk;
 mod stand;
 
-pub use iter::{Iter, IterOf, LinkedIter};
+pub use iter::{Iter, IterOf, LinkedIter, RevIter, RevIterOf};
 pub use links::{add_before, splice_link, unlink};
-pub use rev_iter::{LinkedRevIter, RevIter, RevIterOf};
+pub use slot_walk::{Reversible, SlotWalk};
 pub use stand::Walked;
 
 /// A leaf: an array of `LEN` slots, 7 or 15, and the numbers of the leaves before and after it.
@@ -31,7 +31,8 @@ pub type Leaf<K, V> = LeafOf<K, V, 15>;
 impl<K: Ord + Drop, V: Drop, const LEN: usize> LeafOf<K, V, LEN> {
     ghost use Rattle.tree_leaf.specs.Lending.{lends_array};
 
-    /// A leaf with a new array, and no leaf beside it. Caller's condition: `LEN` is 7 or 15.
+    /// Creates a leaf with an empty array and no neighbours. Allocates nothing. The caller must choose 7
+    /// or 15 for `LEN`.
     pub fn new() -> Self
         requires { IsLen LEN }
         ensures array { result.array ≡ in_order [] }
@@ -45,14 +46,14 @@ impl<K: Ord + Drop, V: Drop, const LEN: usize> LeafOf<K, V, LEN> {
         }
     }
 
-    /// The array.
+    /// Returns the array. Runs in constant time.
     pub fn array(&self) -> &ArrayOf<K, V, LEN>
         ensures { result.now ≡ self.now.array }
     {
         &self.array
     }
 
-    /// The array, to be written.
+    /// Returns the array for writing; the links stay. Runs in constant time.
     pub fn array_mut(&mut self) -> &mut ArrayOf<K, V, LEN>
         ensures* lends { sem 𝓛 (lends_array K.row V.row V.row LEN.row K.cmp K.eq K.partial_cmp self.entry result) }
         ensures value { result.now ≡ self.old.array }
@@ -60,21 +61,21 @@ impl<K: Ord + Drop, V: Drop, const LEN: usize> LeafOf<K, V, LEN> {
         &mut self.array
     }
 
-    /// The number of the leaf before this one, if there is one.
+    /// Returns the number of the leaf before this one, if there is one.
     pub fn prev(&self) -> Option<LeafId>
         ensures { result ≡ self.now.prev }
     {
         self.prev
     }
 
-    /// The number of the leaf after this one, if there is one.
+    /// Returns the number of the leaf after this one, if there is one.
     pub fn next(&self) -> Option<LeafId>
         ensures { result ≡ self.now.next }
     {
         self.next
     }
 
-    /// The entry of a slot. Caller's condition: the slot is reachable.
+    /// Returns the entry of a slot. The caller must name a reachable slot.
     fn entry(&self, slot: u8) -> (&K, &V)
         requires { IsSome (arrival self.now.array.arrivals slot) }
         ensures { arrival self.now.array.arrivals slot ≡ Some (result.0.now, result.1.now) }
@@ -82,10 +83,3 @@ impl<K: Ord + Drop, V: Drop, const LEN: usize> LeafOf<K, V, LEN> {
         (self.array.key(slot), self.array.val(slot))
     }
 }
-
-#[cfg(test)]
-mod comparison;
-#[cfg(test)]
-mod plain;
-#[cfg(test)]
-mod tests;

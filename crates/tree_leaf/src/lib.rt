@@ -4,3 +4,5 @@
 pub mod arena;
 pub mod laws;
 pub mod leaf;
+#[cfg(test)]
+mod tests;

@@ -2,11 +2,8 @@
 #![tactic(auto)]
 
 pub mod depth;
-pub mod ends;
 pub mod internal_node;
 pub mod leaf_node;
-pub mod listing;
 pub mod look_ups;
 pub mod node;
 pub mod routing;
-pub mod spare;

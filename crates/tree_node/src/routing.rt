@@ -1,11 +1,21 @@
 //! Which child of a node a key belongs to.
-ghost use Rattle.std.specs.Prelude.{◌≡◌, ◌+◌, ◌≤◌};
+ghost use Rattle.std.specs.Prelude.{◌≡◌, ◌+◌, ◌≤◌, MatchOption, IsSome, None, Some};
+ghost use Rattle.std.specs.Option.{ForSome};
+ghost use Rattle.tree_array.specs.Arrivals.{arrival};
+ghost use Rattle.tree_node.specs.Routing.{IsChildAt};
 ghost use Rattle.tree_node.specs.Tree.{child_of};
 
 use tree_array::array::{ArrayOf, Judge};
 
+/// A child of a node, and the slot of its separator if it is a keyed one.
+#[derive(Drop)]
+pub struct ChildPlace<I> {
+    pub child: I,
+    pub slot: Option<u8>,
+}
+
 /// The child that the judge's key belongs to: that of the least separator that the key doesn't
-/// exceed, else the unbounded one. At most `LEN` comparisons.
+/// exceed, else the unbounded one. `None` in a node without an unbounded child. At most `LEN` comparisons.
 pub fn child_for<K: Ord + Drop, I: Copy + Drop, J: Judge<K>, const LEN: usize>(
     children: &ArrayOf<K, I, LEN>,
     unbounded: Option<I>,
@@ -16,23 +26,39 @@ pub fn child_for<K: Ord + Drop, I: Copy + Drop, J: Judge<K>, const LEN: usize>(
     ensures counted { J.count judge.new ≤ J.count judge.old + LEN }
 {
     let last = unbounded?;
-    match children.min_greater_equal(judge) {
-        Some(slot) => Some(*children.val(slot)),
-        None => Some(last),
-    }
+    let slot = children.min_greater_equal(judge);
+    Some(child_at(children, last, slot))
 }
 
-/// The child that a key belongs to. At most `LEN` comparisons, which nobody counts.
-pub fn child_for_key<K: Ord + Drop, I: Copy + Drop, const LEN: usize>(
+/// The child that a key belongs to, as [`child_for`] answers it, and where its separator stands. At most `LEN`
+/// comparisons, which no judge counts.
+pub fn child_place_for<K: Ord + Drop, I: Copy + Drop, const LEN: usize>(
     children: &ArrayOf<K, I, LEN>,
     unbounded: Option<I>,
     key: &K,
-) -> Option<I>
-    ensures { result ≡ child_of K.cmp key.now children.now.entries unbounded }
+) -> Option<ChildPlace<I>>
+    ensures place { MatchOption result (unbounded ≡ None) (λ place. IsChildAt K.cmp key.now children.now unbounded place.child place.slot) }
+    ensures child { MatchOption result (child_of K.cmp key.now children.now.entries unbounded ≡ None) (λ place. child_of K.cmp key.now children.now.entries unbounded ≡ Some place.child) }
 {
     let last = unbounded?;
-    match children.slot_for(key) {
-        Some(slot) => Some(*children.val(slot)),
-        None => Some(last),
+    let slot = children.slot_for(key);
+    Some(ChildPlace {
+        child: child_at(children, last, slot),
+        slot,
+    })
+}
+
+/// The keyed child in a slot, and the unbounded one where there is none.
+fn child_at<K: Ord + Drop, I: Copy + Drop, const LEN: usize>(
+    children: &ArrayOf<K, I, LEN>,
+    unbounded: I,
+    slot: Option<u8>,
+) -> I
+    requires { ForSome slot (λ keyed. IsSome (arrival children.now.arrivals keyed)) }
+    ensures { MatchOption slot (result ≡ unbounded) (λ keyed. (separator : K) × (arrival children.now.arrivals keyed ≡ Some (separator, result))) }
+{
+    match slot {
+        Some(keyed) => *children.val(keyed),
+        None => unbounded,
     }
 }

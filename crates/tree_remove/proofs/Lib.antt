@@ -10,5 +10,4 @@ pub mod NodeDrops
 pub mod NodeRemovals
 pub mod NodeWrites
 pub mod OnlyLeaves
-pub mod PartHeights
 pub mod Splits

@@ -4,7 +4,7 @@ use Rattle.std.specs.declared.cmp.Ordering.{Ordering}
 use Rattle.slab.specs.Slab.{Slab, get, Updates}
 use Rattle.tree_array.specs.declared.answers.RemoveResult.{RemoveResult}
 use Rattle.tree_array.specs.declared.answers.RemoveResult.TheVariants.{Success, Retired, Fail}
-use Rattle.tree_array.specs.Arrivals.{Arrivals, arrival, least_from, removed}
+use Rattle.tree_array.specs.Arrivals.{Arrivals, arrival, removed}
 use Rattle.tree_node.specs.declared.node.NodeOf.{NodeOf}
 use Rattle.tree_node.specs.Arenas.{TreeArenas}
 use Rattle.tree_node.specs.Parts.{Replaces}
@@ -12,12 +12,6 @@ use Rattle.tree_node.specs.Tree.{IsOfLevel}
 use Rattle.tree_node.specs.Tree.{keyed, unbounded, children_of, HasKind, IsRetired, walk}
 
 module _ {K : Type 0} (cmp : K → K → Ordering) where
-  -- the child that a key belongs to: a keyed one, whose separator stands in this slot, or else the unbounded one
-  abbrev pub IsChildAt : {X : Type 0} → K → Arrivals K X → Option X → X → Option ℕ → Type 0
-  IsChildAt key children last child None = (least_from cmp children.entries key ≡ None) × (last ≡ Some child)
-  IsChildAt key children last child (Some slot) =
-      (separator : K) × (arrival children.arrivals slot ≡ Some (separator, child)) × (least_from cmp children.entries key ≡ Some (separator, child)) × IsSome last
-
   -- the child of the greatest separator moves to the place of the unbounded one, or there is none
   abbrev pub MovesLast : {X : Type 0} → Arrivals K X → Arrivals K X → Option X → RemoveResult → Type 0
   MovesLast old new last Success =

@@ -5,9 +5,8 @@ use Rattle.tree_array.specs.declared.answers.RemoveResult.{RemoveResult}
 use Rattle.tree_array.specs.declared.answers.RemoveResult.TheVariants.{Success, Retired, Fail}
 use Rattle.tree_model.specs.Pairs.{pair_at, without}
 use Rattle.slab.specs.Slab.{get}
-use Rattle.tree_node.specs.declared.node.NodeOf.{NodeOf}
 use Rattle.tree_node.specs.Arenas.{TreeArenas}
-use Rattle.tree_node.specs.Tree.{HasKind, IsRetired, walk}
+use Rattle.tree_node.specs.Tree.{IsOfLevel, IsRetired, walk}
 use Rattle.tree_node.specs.Parts.{KeepsBounds, Replaces, Unchanged}
 use Rattle.tree_node.specs.Shape.{spare}
 

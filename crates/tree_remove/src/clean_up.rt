@@ -9,10 +9,10 @@ ghost use Rattle.tree_remove.specs.CleanUps.{DropsChild, DropsKeyed, HasChildIn,
 ghost use Rattle.tree_node.specs.Parts.{IsPart};
 ghost use Rattle.tree_node.specs.Tree.{IsRetiredNode, Stands};
 
-use tree_node::node::{ArenasOf, NodeOf};
 use tree_array::array::{ArrayOf, RemoveResult};
 use tree_leaf::arena::{LeafId, NodeId};
 use tree_leaf::leaf::unlink;
+use tree_node::node::{ArenasOf, NodeOf};
 
 /// Drops a keyed leaf, and takes it out of its node by the slot of its separator.
 pub(crate) fn drop_keyed_leaf<K: Ord + Drop, V: Drop, const LEN: usize>(

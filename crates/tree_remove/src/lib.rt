@@ -1,7 +1,6 @@
 //! Removals under the number of a node, with the clean-up of what they empty, and how a tree loses levels.
 #![tactic(auto)]
 
-mod child_slot;
 mod clean_up;
 pub mod lowering;
 pub mod removal;

@@ -6,8 +6,8 @@ ghost use Rattle.tree_node.specs.Parts.{IsPart};
 ghost use Rattle.tree_node.specs.Tree.{IsOfLevel};
 ghost use Rattle.tree_node.specs.Tree.{IsRetired};
 
-use tree_node::node::{ArenasOf, NodeOf};
 use tree_leaf::arena::NodeId;
+use tree_node::node::{ArenasOf, NodeOf};
 
 /// The root after a removal, and its level: a root that is an internal node without keyed children gives its
 /// place to its unbounded child, again and again, and None is left of a retired internal root. A root that is

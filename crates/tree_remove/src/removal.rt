@@ -9,11 +9,11 @@ ghost use Rattle.tree_node.specs.Parts.{IsPart};
 ghost use Rattle.tree_remove.specs.Removes.{RemovesUnder};
 ghost use Rattle.tree_node.specs.Tree.{IsRetired, walk};
 
-use crate::child_slot::child_slot_for;
 use crate::clean_up::{drop_child_node, drop_keyed_leaf, retire_if_empty};
-use tree_node::node::{ArenasOf, NodeOf};
 use tree_array::array::RemoveResult;
 use tree_leaf::arena::{LeafId, NodeId};
+use tree_node::node::{ArenasOf, NodeOf};
+use tree_node::routing::child_place_for;
 
 /// Removes the pair with a key, where the condition says so of its value, under a number of this level. The
 /// condition is asked once if the key is there, else never.
@@ -38,7 +38,7 @@ pub fn remove_at<K: Ord + Drop, V: Drop, F: FnOnce(&V) -> bool + Drop, const LEN
 {
     match arenas.node(id) {
         NodeOf::Leaf(node) => {
-            let Some(place) = child_slot_for(&node.children, node.unbounded_child, key) else {
+            let Some(place) = child_place_for(&node.children, node.unbounded_child, key) else {
                 return RemoveResult::Fail;
             };
             match remove_in_leaf(arenas, place.child, key, condition) {
@@ -54,7 +54,7 @@ pub fn remove_at<K: Ord + Drop, V: Drop, F: FnOnce(&V) -> bool + Drop, const LEN
             }
         }
         NodeOf::Internal(node) => {
-            let Some(place) = child_slot_for(&node.children, node.unbounded_child, key) else {
+            let Some(place) = child_place_for(&node.children, node.unbounded_child, key) else {
                 return RemoveResult::Fail;
             };
             match remove_at(arenas, level - 1, place.child, key, condition) {

@@ -3,15 +3,15 @@ ghost use Rattle.std.specs.Prelude.{◌<◌, Some};
 ghost use Rattle.std.specs.List.{AllByRecursion};
 ghost use Rattle.std.specs.Ordering.{nat_cmp};
 ghost use Rattle.slab.specs.Slab.{ContainsKey};
-ghost use Rattle.tree_node.specs.Ends.{IsLinked};
 ghost use Rattle.tree_node.specs.Tree.{StandsOrRetired, in_turn};
+ghost use Rattle.tree_walk.specs.Ends.{IsLinked};
 
 use std::process::Abort;
 use tree_array::array::{ArrayIter, ArrayOf};
 use tree_leaf::arena::{LeafId, NodeId};
 use tree_leaf::leaf::{IterOf, LeafOf, RevIterOf};
-use tree_node::ends::{max_at, min_at};
 use tree_node::node::{ArenasOf, NodeOf};
+use tree_walk::ends::{max_at, min_at};
 
 /// What a walk down has met: so many leaves, nodes and pairs, the greatest key or separator, and the last leaf.
 #[derive(Drop)]

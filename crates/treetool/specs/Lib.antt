@@ -1,6 +1,1 @@
-pub mod Lines
-pub mod Words
-pub mod Writing
-pub mod Progress
-pub mod Runs
 pub mod Tool

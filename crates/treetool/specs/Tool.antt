@@ -1,15 +1,15 @@
--- The program: its status, and what it does to its streams.
+-- The program: its exit status, and the effect on its streams.
 use Rattle.std.specs.Prelude.{◌≡◌, ◌⊎◌, ℕ, List, [], Option, Result, Ok, Err, codes}
 use Rattle.std.specs.Io.KnownBytes.{Appends}
-use Rattle.treetool.specs.declared.lines.ToolFault.{ToolFault}
-use Rattle.treetool.specs.Lines.{with_feed}
-use Rattle.treetool.specs.Writing.{IsFront}
-use Rattle.treetool.specs.Runs.{RunsLines}
+use Rattle.tree_lines.specs.declared.lines.ToolFault.{ToolFault}
+use Rattle.tree_lines.specs.Lines.{with_feed}
+use Rattle.tree_lines.specs.Writing.{IsFront}
+use Rattle.tree_lines.specs.Runs.{RunsLines}
 
 abbrev pub usage_line : List ℕ
 usage_line = with_feed (codes "usage: treetool [storm W N]")
 
--- With arguments the usage line was written, or where a write failed a front of it, and the status is 1.
+-- With arguments the usage line was written, or a prefix of it if a write failed, and the status is 1.
 abbrev pub RefusesArguments : Option (List ℕ) → Option (List ℕ) → ℕ → Type 0
 RefusesArguments contents contents' status =
     (written : List ℕ) × Appends contents contents' written × ((written ≡ usage_line) ⊎ IsFront written usage_line) × (status ≡ 1)

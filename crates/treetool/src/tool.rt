@@ -1,18 +1,17 @@
-//! The program but for the standard streams.
+//! The program over streams that are passed to it.
 ghost use Rattle.std.specs.Prelude.{◌≡◌, ◌⊎◌, ◌<◌, [], length};
 ghost use Rattle.treetool.specs.Tool.{RefusesArguments, RunsTool};
 
-use crate::lines::run_lines;
-use crate::writing::write_whole;
 use std::alloc::Global;
 use std::io::{Read, Write};
 use tree_index::TreeIndex;
+use tree_lines::{run_lines, write_whole};
 
-/// The program: what it answers is its status.
+/// Runs the program and returns its exit status. `arguments` are those after the program's name.
 ///
-/// Without arguments it answers the lines of the input, over an index that is empty at first: 0 at
-/// the end of the input, 2 where a read or a write failed. With any argument it writes the usage
-/// line to `errors`, and the status is 1, also where that line couldn't be written.
+/// Without arguments it answers the requests of `input` over an index that is empty at first. The
+/// status is 0 at the end of the input and 2 if a read or a write fails. With any argument it
+/// writes the usage line to `errors`; the status is then 1, even if that write fails.
 pub fn tool<R: Read + Drop, W: Write + Drop, E: Write + Drop>(
     alloc: Global,
     arguments: &[String],
@@ -26,7 +25,7 @@ pub fn tool<R: Read + Drop, W: Write + Drop, E: Write + Drop>(
     run_tool(alloc, arguments, &mut input, &mut output, &mut errors)
 }
 
-// The program over streams that are lent to it.
+// Runs the program over borrowed streams, so that its contract can say what happens to them.
 fn run_tool<R: Read, W: Write, E: Write>(
     alloc: Global,
     arguments: &[String],
@@ -34,13 +33,13 @@ fn run_tool<R: Read, W: Write, E: Write>(
     output: &mut W,
     errors: &mut E,
 ) -> u8
-    // With arguments the input and the output are left as they are.
+    // With arguments, the input and the output stay as they are.
     ensures usage { 0 < length arguments.now →
         RefusesArguments (E.contents errors.old) (E.contents errors.new) result }
     ensures unread { 0 < length arguments.now → input.new ≡ input.old }
     ensures unwritten { 0 < length arguments.now → output.new ≡ output.old }
 
-    // Without any the lines are answered, and no error is shown.
+    // Without any, the lines are answered and nothing is written to the errors.
     ensures lines { length arguments.now ≡ 0 →
         RunsTool (R.remaining input.old) (R.remaining input.new)
         (W.contents output.old) (W.contents output.new) result }

@@ -1,4 +1,4 @@
-//! Callers of the library as the README shows them.
+//! A caller of the library, and a key type of its own, as the README shows them.
 #![tactic(auto)]
 
 ghost use Rattle.std.specs.Prelude.{◌≡◌, Some, IfSome, IfNone};
@@ -6,6 +6,9 @@ ghost use Rattle.std.specs.Option.{option_map};
 ghost use Rattle.std.specs.Ordering.{nat_cmp};
 ghost use Rattle.tree_model.specs.Pairs.{pair_at};
 
+mod keys;
+
+pub use keys::Price;
 use tree_index::{InsertError, TreeIndex};
 use tree_model::laws::edits_are_found;
 
@@ -38,5 +41,15 @@ mod tests {
         }
         assert_eq!(rt; told, Some(100));
         assert_eq!(rt; offer(&mut prices, 7, 90), Some(100));
+    }
+
+    #[test]
+    fn orders_items_by_price(rt: HostRuntime) {
+        let mut items: TreeIndex<Price, &str> = TreeIndex::new(rt.alloc());
+        let dear = items.insert_sync(Price { cents: 900 }, "dear").is_ok();
+        let cheap = items.insert_sync(Price { cents: 100 }, "cheap").is_ok();
+        let found = items.peek(&Price { cents: 100 }).copied();
+        assert_eq!(rt; found, if cheap { Some("cheap") } else { None });
+        assert_eq!(rt; items.len(), dear as usize + cheap as usize);
     }
 }

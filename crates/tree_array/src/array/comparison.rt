@@ -2,7 +2,7 @@
 ghost use Rattle.std.specs.Prelude.{◌≡◌, ◌<◌, ◌≤◌};
 ghost use Rattle.tree_array.specs.Length.{IsLen};
 
-use super::found::{found, slot_from};
+use super::found::{found, questions, slot_from};
 use super::plain::{Plain, word};
 use super::{ArrayIter, ArrayOf, ArrayRevIter, RemoveResult};
 use std::alloc::Global;
@@ -206,6 +206,35 @@ fn answers_as_a_plain_list(rt: HostRuntime) -> Result<(), Fail> {
     for seed in 1..65 {
         compare::<15, _>(&rt, rt.alloc(), seed)?;
         compare::<7, _>(&rt, rt.alloc(), seed)?;
+    }
+    Ok(())
+}
+
+/// Searches of a full array, whose odd keys arrived by chance: at most `most` comparisons for every key, be it stored,
+/// between two that are, or outside.
+fn few_questions<const LEN: usize, R: Abort>(rt: &R, seed: u64, most: u64) -> Result<(), Fail>
+    requires { IsLen LEN }
+{
+    let mut chance = Chance(seed.wrapping_mul(0x9e37_79b9_7f4a_7c15));
+    let mut array = ArrayOf::<u64, u64, LEN>::new();
+    for _ in 0..2000 {
+        let key = chance.below(LEN as u64).wrapping_mul(2).wrapping_add(1);
+        let _ = array.insert::<false>(key, key);
+    }
+    assert!(rt; array.is_full());
+    for key in 0..2 * LEN as u64 + 1 {
+        let (found, asked) = questions(&array, key);
+        assert_eq!(rt; found, key % 2 == 1);
+        assert!(rt; asked <= most);
+    }
+    Ok(())
+}
+
+#[test]
+fn asks_few_questions(rt: HostRuntime) -> Result<(), Fail> {
+    for seed in 1..101 {
+        few_questions::<15, _>(&rt, seed, 4)?;
+        few_questions::<7, _>(&rt, seed, 3)?;
     }
     Ok(())
 }

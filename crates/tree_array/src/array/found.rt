@@ -1,8 +1,9 @@
-//! What the searches of an array find by a key, for the tests of arrays of any size.
+//! What the searches of an array find by a key, and how often they ask, for the tests of arrays of any size.
 ghost use Rattle.std.specs.Prelude.{◌≡◌, ℕ, ◌<◌, IfSome, IsSome};
 ghost use Rattle.tree_array.specs.Arrivals.{arrival};
 
 use super::{ArrayOf, Judge, KeyJudge, Steps};
+use std::cmp::Ordering;
 use std::marker::Brand;
 use std::sync::ledger::{Blank, Ledger};
 
@@ -13,12 +14,19 @@ pub type Found = (Option<(u64, u64)>, Option<u64>, Option<u8>);
 pub trait Searched {
     ghost has_slot: { Self → ℕ → Type 0 };
 
+    /// Whether one search finds the key.
+    fn finds<J: Judge<u64>>(&self, judge: &mut J) -> bool;
+
     fn search<J: Judge<u64>>(&self, judge: &mut J) -> Found
         ensures { IfSome result.2 (has_slot self.now) };
 }
 
 impl<const LEN: usize> Searched for ArrayOf<u64, u64, LEN> {
     ghost has_slot = { λ array slot. IsSome (arrival array.arrivals slot) };
+
+    fn finds<J: Judge<u64>>(&self, judge: &mut J) -> bool {
+        self.search_entry(judge).is_some()
+    }
 
     fn search<J: Judge<u64>>(&self, judge: &mut J) -> Found {
         let pair = match self.search_entry(judge) {
@@ -52,4 +60,40 @@ pub fn slot_from<S: Searched>(searched: &S, key: u64) -> Option<u8>
     ensures { IfSome result (S.has_slot searched.now) }
 {
     found(searched, key).2
+}
+
+/// An ordinary judge, whose questions the test counts beside it.
+#[derive(Drop)]
+struct Watching<'k, L: Ledger> {
+    judge: KeyJudge<'k, u64, L>,
+    asked: u64,
+}
+
+impl<'k, L: Ledger> Judge<u64> for Watching<'k, L> {
+    ghost key = { λ watching. watching.judge.key.now };
+
+    ghost count = { λ watching. watching.judge.steps };
+
+    fn judge(&mut self, stored: &u64) -> Ordering {
+        self.asked = self.asked.saturating_add(1);
+        self.judge.judge(stored)
+    }
+}
+
+/// Whether one search finds the key, and how often it asked.
+pub fn questions<S: Searched>(searched: &S, key: u64) -> (bool, u64) {
+    questions_by::<S, Brand>(searched, key, Blank::new(1))
+}
+
+fn questions_by<S: Searched, L: Ledger>(searched: &S, key: u64, blank: Blank) -> (bool, u64)
+    requires name { blank.name ≡ L.name }
+    requires parts { blank.parts ≡ L.parts }
+    requires some { 0 < L.parts }
+{
+    let mut judge: Watching<L> = Watching {
+        judge: KeyJudge::new(&key, Steps::new(blank)),
+        asked: 0,
+    };
+    let found = searched.finds(&mut judge);
+    (found, judge.asked)
 }

@@ -1,5 +1,5 @@
 //! How pairs leave an array, and how a value is replaced.
-ghost use Rattle.std.specs.Prelude.{◌≡◌, Bool, ◌<◌, IsSome, IfSome, Some, is_some};
+ghost use Rattle.std.specs.Prelude.{◌≡◌, Bool, ◌<◌, IsSome, IfSome, Some, length, slice_get};
 ghost use Rattle.std.specs.Fn.{FnOnceReturnsAt, FnOnceTakesAt};
 ghost use Rattle.std.specs.Option.{ForSome};
 ghost use Rattle.std.specs.Range.Bound.{bound_map};
@@ -7,8 +7,8 @@ ghost use Rattle.tree_array.specs.Arrivals.{arrival, removed, with_val, without_
 ghost use Rattle.tree_array.specs.Removal.{IsRemoval, removal_of};
 ghost use Rattle.tree_model.specs.Pairs.{IsAbsent, pair_at};
 
-use super::{ArrayOf, RETIRED, RemoveResult};
-use crate::ranks::{made, rank_dropped};
+use super::{ArrayOf, RemoveResult};
+use crate::order::{place_of, ranks, removed as removed_from, slot_at};
 use crate::search::{Place, find_key};
 use std::ops::Bound;
 use tree_model::range_contains;
@@ -22,10 +22,24 @@ impl<K: Ord + Drop, V: Drop, const LEN: usize> ArrayOf<K, V, LEN> {
         ensures left { self.new ≡ removed K.cmp self.old result.0 }
         ensures answer { result.2 ≡ removal_of self.new }
     {
-        self.ranks = rank_dropped::<LEN>(self.ranks, slot);
+        let place = place_of(self.order, self.count, slot);
+        self.take_at(place)
+    }
+
+    /// Takes the entry at this place in the order of keys. It answers as [`take`](ArrayOf::take) does.
+    pub(super) fn take_at(&mut self, place: u8) -> (K, V, RemoveResult)
+        requires { place < length self.old.entries }
+        ensures pair { slice_get self.old.entries place ≡ Some (result.0, result.1) }
+        ensures left { self.new ≡ removed K.cmp self.old result.0 }
+        ensures answer { result.2 ≡ removal_of self.new }
+    {
+        let slot = slot_at(self.order, place);
+        let order = removed_from::<LEN>(self.order, place, self.count);
         let (key, val) = self.cells.take(slot);
-        if self.ranks == 0 {
-            self.ranks = RETIRED;
+        self.order = order;
+        self.count -= 1;
+        if self.count == 0 {
+            self.retired = true;
             (key, val, RemoveResult::Retired)
         } else {
             (key, val, RemoveResult::Success)
@@ -45,17 +59,17 @@ impl<K: Ord + Drop, V: Drop, const LEN: usize> ArrayOf<K, V, LEN> {
             (λ pair. (said : Bool) × FnOnceReturnsAt F.FnOnce condition pair.1 said
             × IsRemoval K.cmp self.old key.now said result self.new) }
     {
-        match find_key(&self.cells, self.ranks, made(self.bitmap), key) {
-            Place::At(slot) => {
+        match find_key(&self.cells, self.order, self.count, key) {
+            Place::At(place, slot) => {
                 let (_, val) = self.cells.pair(slot);
                 if condition(val) {
-                    let (_, _, removal) = self.take(slot);
+                    let (_, _, removal) = self.take_at(place);
                     removal
                 } else {
                     RemoveResult::Fail
                 }
             }
-            Place::Above(_, _) => RemoveResult::Fail,
+            Place::Before(_, _) => RemoveResult::Fail,
         }
     }
 
@@ -65,19 +79,12 @@ impl<K: Ord + Drop, V: Drop, const LEN: usize> ArrayOf<K, V, LEN> {
         ensures { self.new ≡ without_range K.cmp self.old
             (bound_map (λ key. key.now) bounds.entry.0) (bound_map (λ key. key.now) bounds.entry.1) }
     {
-        for slot in 0..made(self.bitmap) {
-            if self.is_reachable(slot) && range_contains(bounds, self.key(slot)) {
+        let ranks = ranks(self.order, self.count);
+        for slot in 0..self.made {
+            if ranks[slot as usize] > 0 && range_contains(bounds, self.key(slot)) {
                 let _ = self.take(slot);
             }
         }
-    }
-
-    /// Whether a slot holds a pair.
-    fn is_reachable(&self, slot: u8) -> bool
-        requires { slot < LEN }
-        ensures { result ≡ is_some (arrival self.now.arrivals slot) }
-    {
-        self.cells.has(slot)
     }
 
     /// Replaces the value of a slot and answers the old one. Caller's condition: the slot is reachable.

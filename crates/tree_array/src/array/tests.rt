@@ -1,9 +1,8 @@
-//! The worked rows of an array, with the word of its ranks and its bitmap.
+//! The worked rows of an array, with the word of its order.
 
 use super::found::{found, slot_from};
 use super::plain::word;
 use super::{Array, ArrayIter, ArrayOf, ArrayRevIter, DIMENSION, RemoveResult, range_contains};
-use crate::ranks::slot;
 use std::ops::Bound;
 use std::test::Fail;
 
@@ -36,17 +35,18 @@ fn gives(walk: ArrayIter, slots: &[u8]) -> bool {
 }
 
 #[test]
-fn ranks_and_bitmap(rt: HostRuntime) -> Result<(), Fail> {
+fn orders(rt: HostRuntime) -> Result<(), Fail> {
     let mut array = of(&[5, 3, 9]);
-    assert_eq!(rt; array.ranks, 0x3120);
-    assert_eq!(rt; array.bitmap, 7);
+    assert_eq!(rt; array.order, 0xf222_2222_2222_2201);
+    assert_eq!(rt; (array.made, array.len()), (3, 3));
     assert_eq!(rt; array.remove_if(&3, |_| true), RemoveResult::Success);
+    assert_eq!(rt; array.order, 0xf222_2222_2222_2220);
     assert_eq!(rt; word(array.insert::<false>(4, 4)), ("Success", None));
-    assert_eq!(rt; array.ranks, 0x4031);
-    assert_eq!(rt; array.bitmap, 15);
+    assert_eq!(rt; array.order, 0xf222_2222_2222_2203);
+    assert_eq!(rt; (array.made, array.len()), (4, 3));
     assert_eq!(rt; word(array.insert::<true>(9, 90)), ("Success", None));
-    assert_eq!(rt; array.ranks, 0x40_0031);
-    assert_eq!(rt; array.bitmap, 31);
+    assert_eq!(rt; array.order, 0xf444_4444_4444_4403);
+    assert_eq!(rt; (array.made, array.len()), (5, 3));
     assert_eq!(rt; array.free(), 10);
     assert_eq!(rt; array.optimal_boundary(), (15, 3, false));
     assert_eq!(rt; found(&array, 9), (Some((9, 90)), Some(90), Some(4)));
@@ -57,17 +57,11 @@ fn ranks_and_bitmap(rt: HostRuntime) -> Result<(), Fail> {
 }
 
 #[test]
-fn slots_of_arrivals(rt: HostRuntime) -> Result<(), Fail> {
-    let slots = [1, 2, 3, 0, 5, 6, 7, 4, 9, 10, 11, 8, 12, 13, 14];
-    for (arrival, expected) in slots.iter().enumerate() {
-        assert_eq!(rt; slot::<15>(arrival as u8), *expected);
-    }
-    let small_slots = [1, 2, 3, 0, 4, 5, 6];
-    for (arrival, expected) in small_slots.iter().enumerate() {
-        assert_eq!(rt; slot::<7>(arrival as u8), *expected);
-    }
+fn orders_of_seven_slots(rt: HostRuntime) {
+    let array = small_of(&[6, 2, 4]);
+    assert_eq!(rt; array.order, 0xf000_0021);
+    assert_eq!(rt; (array.made, array.len(), array.free()), (3, 3, 4));
     assert_eq!(rt; (DIMENSION.len, DIMENSION.bits), (15, 4));
-    Ok(())
 }
 
 #[test]
@@ -103,7 +97,7 @@ fn retires(rt: HostRuntime) -> Result<(), Fail> {
     assert!(rt; array.is_full());
     assert!(rt; array.is_empty());
     assert_eq!(rt; array.free(), 14);
-    assert_eq!(rt; array.ranks, 1 << 62);
+    assert_eq!(rt; array.len(), 0);
     assert_eq!(rt; word(array.insert::<false>(6, 6)), ("Full", Some((6, 6))));
     Ok(())
 }
@@ -174,9 +168,9 @@ fn distributes(rt: HostRuntime) -> Result<(), Fail> {
     array.distribute(1, &mut low, &mut high);
     assert!(rt; array.is_empty());
     assert!(rt; array.is_retired());
-    assert_eq!(rt; (low.ranks, low.bitmap), (0x10, 1));
+    assert_eq!(rt; (low.order, low.made), (0xf000_0000_0000_0000, 1));
     assert_eq!(rt; found(&low, 3), (Some((3, 3)), Some(3), Some(0)));
-    assert_eq!(rt; (high.ranks, high.bitmap), (0x210, 3));
+    assert_eq!(rt; (high.order, high.made), (0xf111_1111_1111_1110, 2));
     assert_eq!(rt; found(&high, 5), (Some((5, 5)), Some(5), Some(0)));
     assert_eq!(rt; found(&high, 9), (Some((9, 9)), Some(9), Some(1)));
     Ok(())
@@ -193,9 +187,9 @@ fn distributes_apart(rt: HostRuntime) -> Result<(), Fail> {
     );
     assert!(rt; array.is_empty());
     assert!(rt; array.is_retired());
-    assert_eq!(rt; (low.ranks, low.bitmap), (0x10, 1));
+    assert_eq!(rt; (low.order, low.made), (0xf000_0000_0000_0000, 1));
     assert_eq!(rt; found(&low, 3), (Some((3, 3)), Some(3), Some(0)));
-    assert_eq!(rt; (high.ranks, high.bitmap), (0x10, 1));
+    assert_eq!(rt; (high.order, high.made), (0xf000_0000_0000_0000, 1));
     assert_eq!(rt; found(&high, 9), (Some((9, 9)), Some(9), Some(0)));
     Ok(())
 }

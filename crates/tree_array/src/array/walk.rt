@@ -1,11 +1,10 @@
 //! Walks over the slots of an array, in the order of their keys and against it.
-ghost use Rattle.std.specs.Prelude.{◌≡◌, None, length, ⊤, option_and_then, slice_get};
+ghost use Rattle.std.specs.Prelude.{◌≡◌, None, ⊤, option_and_then, slice_get};
 ghost use Rattle.tree_array.specs.Arrivals.{slots_in_order};
 ghost use Rattle.tree_array.specs.Walk.{IsOver, StepsBack, StepsOn, left_back, left_on, standing};
 
 use super::ArrayOf;
-use crate::order::{MOST, in_rank_order};
-use crate::ranks::made;
+use crate::order::{MOST, slots};
 use std::alloc::AllocError;
 use std::marker::Model;
 
@@ -52,10 +51,9 @@ impl ArrayIter {
         ensures slots { result ≡ standing (slots_in_order K.cmp array.now) None }
         ensures over { IsOver K.cmp LEN array.now result }
     {
-        let (order, count) = in_rank_order::<LEN>(array.ranks, made(array.bitmap));
         ArrayIter {
-            order,
-            count,
+            order: slots(array.order, array.count),
+            count: array.count,
             at: None,
         }
     }
@@ -66,24 +64,6 @@ impl ArrayIter {
     {
         let place = self.at?;
         Some(self.order[place as usize])
-    }
-
-    /// The slot at this place of the walk.
-    pub(super) fn nth_slot(&self, place: u8) -> Option<u8>
-        ensures { result ≡ slice_get self.now.slots place }
-    {
-        if place < self.count {
-            Some(self.order[place as usize])
-        } else {
-            None
-        }
-    }
-
-    /// How many slots it walks over.
-    pub(super) fn slot_count(&self) -> u8
-        ensures { result ≡ length self.now.slots }
-    {
-        self.count
     }
 
     /// Goes back to before the first slot.

@@ -1,43 +1,56 @@
-//! Walks over the entries of linked leaves, in ascending order of their keys.
+//! Walks over the entries of linked leaves, either way.
 ghost use Rattle.std.specs.Prelude.{◌≡◌, ◌++◌, ◌∷◌, None, ⊤, option_copied, option_map};
 ghost use Rattle.tree_leaf.specs.Chain.{IsChain};
-ghost use Rattle.tree_leaf.specs.Walks.{JumpsOn, StepsOn, here, last_of, left_on, lent_entry, standing, stood_on};
+ghost use Rattle.tree_leaf.specs.Walks.{Jumps, Steps, first_of, first_on, here, last_of, left_in_leaf, lent_entry, standing, stood_on};
+ghost use Rattle.tree_leaf.specs.Ways.{opposite};
 
 use crate::arena::{LeafId, SlotsOf};
 use crate::leaf::LeafOf;
-use crate::leaf::rev_iter::{LinkedRevIter, RevIterOf};
-use crate::leaf::stand::{Stand, Walked, Way};
+use crate::leaf::slot_walk::{Reversible, SlotWalk};
+use crate::leaf::stand::{Stand, Walked};
 use slab::Slab;
 use std::alloc::AllocError;
 use std::marker::Model;
-use tree_array::array::ArrayIter;
+use tree_array::array::{ArrayIter, ArrayRevIter};
 
-/// A walk in ascending order of the keys, over leaves of a type. It stands in one leaf, unopened or on
-/// an entry of it. No call compares keys or takes memory.
+/// An iterator over the entries of linked leaves of a type, the way that its iterator over the slots of a
+/// leaf goes. It stands in one leaf, unopened or on an entry of it. `next` goes through that leaf alone,
+/// and `jump` to the next leaf that has an entry. No call compares keys or allocates.
 #[derive(Drop)]
-pub struct LinkedIter<'t, L: Walked> {
-    pub(super) stand: Stand<'t, L>,
-    pub(super) slots: ArrayIter,
+pub struct LinkedIter<'t, L: Walked, S: SlotWalk> {
+    stand: Stand<'t, L>,
+    slots: S,
 }
 
-/// The walk over leaves of `LEN` slots.
-pub type IterOf<'t, K, V, const LEN: usize> = LinkedIter<'t, LeafOf<K, V, LEN>>;
+/// The iterator in ascending order of the keys, over leaves of `LEN` slots.
+pub type IterOf<'t, K, V, const LEN: usize> = LinkedIter<'t, LeafOf<K, V, LEN>, ArrayIter>;
 
-/// The walk over leaves of fifteen slots.
+/// The iterator in ascending order of the keys, over leaves of fifteen slots.
 pub type Iter<'t, K, V> = IterOf<'t, K, V, 15>;
 
-impl<'t, L: Walked> Model for LinkedIter<'t, L> {
+/// The iterator in descending order of the keys, over leaves of `LEN` slots.
+pub type RevIterOf<'t, K, V, const LEN: usize> = LinkedIter<'t, LeafOf<K, V, LEN>, ArrayRevIter>;
+
+/// The iterator in descending order of the keys, over leaves of fifteen slots.
+pub type RevIter<'t, K, V> = RevIterOf<'t, K, V, 15>;
+
+impl<'t, L: Walked, S: SlotWalk> Model for LinkedIter<'t, L, S> {
     ghost use Rattle.tree_leaf.specs.Walks.{LinkedWalk, standing};
 
     ghost Value = { LinkedWalk L };
 
-    ghost view = { λ a. standing a.stand.leaves.now a.stand.id a.slots.at };
+    ghost view = { λ a. standing a.stand.leaves.now a.stand.id (S.walk a.slots).at };
 
-    ghost invariant = { λ a. L.stands a.stand.leaves.now a.stand.id a.stand.leaf.now a.slots };
+    ghost invariant = { λ a. L.stands a.stand.leaves.now a.stand.id a.stand.leaf.now (S.walk a.slots) };
 }
 
-impl<'t, K: Ord + Drop, V: Drop, const LEN: usize> LinkedIter<'t, LeafOf<K, V, LEN>> {
-    /// A walk that stands unopened in a leaf. Caller's condition: the leaf is one of a chain.
+impl<'t, K: Ord + Drop, V: Drop, S: SlotWalk, const LEN: usize> LinkedIter<
+    't,
+    LeafOf<K, V, LEN>,
+    S,
+> {
+    /// Creates an iterator that stands unopened in a leaf. Runs in constant time. The caller must name a leaf
+    /// of a chain.
     pub fn new<N: Drop>(arenas: &'t SlotsOf<K, V, N, LEN>, id: LeafId) -> Self
         requires { (front back : _) × IsChain arenas.now.leaves (front ++ id ∷ back) }
         ensures { result ≡ standing arenas.now.leaves id None }
@@ -45,17 +58,18 @@ impl<'t, K: Ord + Drop, V: Drop, const LEN: usize> LinkedIter<'t, LeafOf<K, V, L
         Self::in_leaf(&arenas.leaves, id)
     }
 
-    /// A walk that stands unopened in a leaf of a chain.
-    pub(super) fn in_leaf(leaves: &'t Slab<LeafOf<K, V, LEN>>, id: LeafId) -> Self
+    /// Creates an iterator that stands unopened in a leaf of a chain.
+    fn in_leaf(leaves: &'t Slab<LeafOf<K, V, LEN>>, id: LeafId) -> Self
         requires { (front back : _) × IsChain leaves.now (front ++ id ∷ back) }
         ensures { result ≡ standing leaves.now id None }
     {
         let stand = Stand::at(leaves, id);
-        let slots = ArrayIter::new(stand.leaf.array());
+        let slots = S::at(ArrayIter::new(stand.leaf.array()));
         LinkedIter { stand, slots }
     }
 
-    /// The entry that the walk stands on: None before the first `next` in a leaf.
+    /// Returns the entry that the iterator stands on, or `None` before the first `next` in a leaf. Runs in
+    /// constant time.
     pub fn get(&self) -> Option<(&'t K, &'t V)>
         ensures { option_map lent_entry result ≡ stood_on self.now }
     {
@@ -63,67 +77,94 @@ impl<'t, K: Ord + Drop, V: Drop, const LEN: usize> LinkedIter<'t, LeafOf<K, V, L
         Some(self.stand.entry(slot))
     }
 
-    /// The largest key of the leaf that the walk stands in, if it has an entry.
-    pub fn max_key(&self) -> Option<&'t K>
-        ensures { option_copied result ≡ option_map (λ entry. entry.0) (last_of (here self.now)) }
-    {
-        let Ok(mut slots) = self.slots.clone() else {
-            unreachable!()
-        };
-        slots.rewind();
-        let last = slots.rev().next()?;
-        let (key, _) = self.stand.entry(last);
-        Some(key)
-    }
-
-    /// Goes on to the first entry of the next leaf that has one, and answers it. Where none has one, it
-    /// answers None and stands unopened in the last leaf, or stays where it is if that is the last.
+    /// Goes to the next leaf on the way that has an entry, and returns the first entry there. Where none
+    /// has one, returns `None` and stands unopened in the last leaf on the way, or stays where it is if
+    /// that is the last. Runs in the number of the leaves passed.
     pub fn jump(&mut self) -> Option<(&'t K, &'t V)>
-        ensures { JumpsOn self.old result self.new }
+        ensures { Jumps S.way self.old result self.new }
     {
-        let id = self.stand.landing(Way::On)?;
+        let id = self.stand.landing(S::way())?;
         *self = Self::in_leaf(self.stand.leaves, id);
         self.next()
     }
 
-    /// Goes back to before the first entry of the leaf.
+    /// Goes back to before the first entry on the way in its leaf. Runs in constant time.
     pub fn rewind(&mut self)
         ensures { self.new ≡ standing self.old.leaves self.old.leaf None }
     {
         self.slots.rewind();
     }
+}
 
-    /// Turns about at its place. An unopened walk turns into an unopened one in the same leaf.
-    pub fn rev(self) -> RevIterOf<'t, K, V, LEN>
+impl<'t, K: Ord + Drop, V: Drop, S: Reversible, const LEN: usize> LinkedIter<
+    't,
+    LeafOf<K, V, LEN>,
+    S,
+> {
+    /// Returns the key that comes last on the way in its leaf, if the leaf has an entry.
+    fn last_key(&self) -> Option<&'t K>
+        ensures { option_copied result ≡ option_map (λ entry. entry.0) (first_on (opposite S.way) (here self.now)) }
+    {
+        let mut slots = self.slots.again().rev();
+        slots.rewind();
+        let last = slots.step()?;
+        let (key, _) = self.stand.entry(last);
+        Some(key)
+    }
+
+    /// Turns about at its place. An unopened iterator turns into an unopened one in the same leaf. Runs in
+    /// constant time.
+    pub fn rev(self) -> LinkedIter<'t, LeafOf<K, V, LEN>, S::Reverse>
         ensures { result ≡ self.entry }
     {
-        LinkedRevIter {
+        LinkedIter {
             stand: self.stand,
             slots: self.slots.rev(),
         }
     }
 }
 
-impl<'t, K: Ord + Drop, V: Drop, const LEN: usize> Iterator for LinkedIter<'t, LeafOf<K, V, LEN>> {
+impl<'t, K: Ord + Drop, V: Drop, const LEN: usize> LinkedIter<'t, LeafOf<K, V, LEN>, ArrayIter> {
+    /// Returns the largest key of the leaf that the iterator stands in, if the leaf has an entry. Runs in
+    /// constant time.
+    pub fn max_key(&self) -> Option<&'t K>
+        ensures { option_copied result ≡ option_map (λ entry. entry.0) (last_of (here self.now)) }
+    {
+        self.last_key()
+    }
+}
+
+impl<'t, K: Ord + Drop, V: Drop, const LEN: usize> LinkedIter<'t, LeafOf<K, V, LEN>, ArrayRevIter> {
+    /// Returns the least key of the leaf that the iterator stands in, if the leaf has an entry. Runs in
+    /// constant time.
+    pub fn min_key(&self) -> Option<&'t K>
+        ensures { option_copied result ≡ option_map (λ entry. entry.0) (first_of (here self.now)) }
+    {
+        self.last_key()
+    }
+}
+
+impl<'t, K: Ord + Drop, V: Drop, S: SlotWalk, const LEN: usize> Iterator
+    for LinkedIter<'t, LeafOf<K, V, LEN>, S> {
     type Item = (&'t K, &'t V);
 
-    ghost next_gives = { StepsOn };
+    ghost next_gives = { Steps S.way };
 
-    ghost remaining = { left_on };
+    ghost remaining = { left_in_leaf S.way };
 
     fn next(&mut self) -> Option<(&'t K, &'t V)> {
-        let slot = self.slots.next()?;
+        let slot = self.slots.step()?;
         Some(self.stand.entry(slot))
     }
 }
 
-impl<'t, L: Walked> Clone for LinkedIter<'t, L> {
+impl<'t, L: Walked, S: SlotWalk> Clone for LinkedIter<'t, L, S> {
     ghost is_clone = { λ walk clone. clone ≡ walk };
 
     ghost is_infallible = { λ _. ⊤ };
 
     fn clone(&self) -> Result<Self, AllocError> {
-        let slots = self.slots.clone()?;
+        let slots = self.slots.again();
         let stand = self.stand.again();
         Ok(LinkedIter { stand, slots })
     }

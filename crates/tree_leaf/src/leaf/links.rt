@@ -1,4 +1,4 @@
-//! The links between leaves: who is made a neighbour of whom. No call compares keys.
+//! Changes of the links between leaves. No call compares keys.
 ghost use Rattle.std.specs.Prelude.{◌≡◌, ◌++◌, ◌∷◌};
 ghost use Rattle.std.specs.Option.{ForSome};
 ghost use Rattle.slab.specs.Slab.{ContainsKey};
@@ -8,8 +8,8 @@ ghost use Rattle.tree_leaf.specs.Links.{AddsBefore, ChangesAt, SameRoom, Splices
 use crate::arena::{LeafId, SlotsOf};
 use crate::leaf::LeafOf;
 
-/// Takes a leaf out of its chain: its two neighbours become the neighbours of each other. The leaf
-/// stays in its arena. Caller's condition: it is one of a chain.
+/// Removes a leaf from its chain: its two neighbours become neighbours of each other. The leaf stays in its
+/// arena. Runs in constant time. The caller must name a leaf of a chain.
 pub fn unlink<K: Ord + Drop, V: Drop, N: Drop, const LEN: usize>(
     arenas: &mut SlotsOf<K, V, N, LEN>,
     id: LeafId,
@@ -23,8 +23,8 @@ pub fn unlink<K: Ord + Drop, V: Drop, N: Drop, const LEN: usize>(
     splice_link(arenas, left, right);
 }
 
-/// Makes two leaves the neighbours of each other; what stood between them in a chain is out of it.
-/// A missing one is an end of the chain. Caller's condition: the numbers are in use.
+/// Makes two leaves neighbours of each other. What stood between them in a chain is out of it, and `None`
+/// stands for an end of the chain. Runs in constant time. The caller must name numbers in use.
 pub fn splice_link<K: Ord + Drop, V: Drop, N: Drop, const LEN: usize>(
     arenas: &mut SlotsOf<K, V, N, LEN>,
     left: Option<LeafId>,
@@ -39,8 +39,9 @@ pub fn splice_link<K: Ord + Drop, V: Drop, N: Drop, const LEN: usize>(
     set_prev(arenas, after, before);
 }
 
-/// Adds a leaf, linked right before the one at `at`. It hands the leaf back for want of memory, and
-/// nothing changed. Caller's condition: the one at `at` is one of a chain.
+/// Adds a leaf to the arena and links it right before the one at `at`. Returns `Err` with the leaf, and
+/// changes no leaf and no link, if there is no room for it and memory is refused. Runs in amortized constant
+/// time. The caller must name a leaf of a chain by `at`.
 pub fn add_before<K: Ord + Drop, V: Drop, N: Drop, const LEN: usize>(
     arenas: &mut SlotsOf<K, V, N, LEN>,
     at: LeafId,
@@ -60,7 +61,7 @@ pub fn add_before<K: Ord + Drop, V: Drop, N: Drop, const LEN: usize>(
     }
 }
 
-/// Tells a leaf, if it is one, which leaf comes after it.
+/// Sets which leaf comes after the one at `at`, if that is one.
 fn set_next<K: Ord + Drop, V: Drop, N: Drop, const LEN: usize>(
     arenas: &mut SlotsOf<K, V, N, LEN>,
     at: Option<LeafId>,
@@ -76,7 +77,7 @@ fn set_next<K: Ord + Drop, V: Drop, N: Drop, const LEN: usize>(
     }
 }
 
-/// Tells a leaf, if it is one, which leaf comes before it.
+/// Sets which leaf comes before the one at `at`, if that is one.
 fn set_prev<K: Ord + Drop, V: Drop, N: Drop, const LEN: usize>(
     arenas: &mut SlotsOf<K, V, N, LEN>,
     at: Option<LeafId>,

@@ -1,4 +1,4 @@
-//! The leaf that a walk stands in, and the leaves that it is linked to.
+//! The leaf that an iterator stands in, and the leaves that it is linked to.
 ghost use Rattle.std.specs.Prelude.{◌≡◌, ◌++◌, ◌∷◌, None, Some, IsSome, List, ℕ};
 ghost use Rattle.slab.specs.Slab.{ContainsKey, get};
 ghost use Rattle.tree_array.specs.Arrivals.{arrival};
@@ -10,7 +10,7 @@ use crate::arena::LeafId;
 use crate::leaf::LeafOf;
 use slab::Slab;
 
-/// What a walk over leaves of this type keeps. It has no call.
+/// A type of leaves to iterate over, with what an iterator over them keeps. It has no methods.
 pub trait Walked {
     ghost use Rattle.std.specs.Prelude.{ℕ};
     ghost use Rattle.slab.specs.Slab.{Slab as Slots};
@@ -25,14 +25,14 @@ impl<K: Ord, V, const LEN: usize> Walked for LeafOf<K, V, LEN> {
     ghost stands = { IsStand };
 }
 
-/// Which way a walk goes through the links.
+/// The way of an iterator through the links: on to larger keys, or back to smaller ones.
 #[derive(Clone, Copy)]
 pub enum Way {
     On,
     Back,
 }
 
-/// The leaf that a walk stands in, and all leaves.
+/// The leaf that an iterator stands in, and all leaves.
 #[derive(Drop)]
 pub struct Stand<'t, L> {
     pub leaves: &'t Slab<L>,
@@ -41,7 +41,7 @@ pub struct Stand<'t, L> {
 }
 
 impl<'t, L> Stand<'t, L> {
-    /// A stand in the leaf under a number.
+    /// Stands in the leaf under a number. The caller must name a number in use.
     pub fn at(leaves: &'t Slab<L>, id: LeafId) -> Self
         requires { ContainsKey leaves.now id }
         ensures leaves { result.leaves.now ≡ leaves.now }
@@ -52,7 +52,7 @@ impl<'t, L> Stand<'t, L> {
         Stand { leaves, id, leaf }
     }
 
-    /// A second stand in the same leaf.
+    /// Stands in the same leaf once more.
     pub fn again(&self) -> Self
         ensures { result ≡ self.now }
     {
@@ -65,7 +65,7 @@ impl<'t, L> Stand<'t, L> {
 }
 
 impl<'t, K: Ord + Drop, V: Drop, const LEN: usize> Stand<'t, LeafOf<K, V, LEN>> {
-    /// The entry of a slot. Caller's condition: the slot is reachable.
+    /// Returns the entry of a slot. The caller must name a reachable slot.
     pub fn entry(&self, slot: u8) -> (&'t K, &'t V)
         requires { IsSome (arrival self.now.leaf.now.array.arrivals slot) }
         ensures { arrival self.now.leaf.now.array.arrivals slot ≡ Some (lent_entry result) }
@@ -73,8 +73,8 @@ impl<'t, K: Ord + Drop, V: Drop, const LEN: usize> Stand<'t, LeafOf<K, V, LEN>> 
         self.leaf.entry(slot)
     }
 
-    /// Where a jump lands: in the next leaf on the way that has an entry, else in the last one. None where
-    /// no leaf follows.
+    /// Returns where a jump lands: the next leaf on the way that has an entry, or else the last leaf on the
+    /// way. Returns `None` where no leaf follows. Runs in the number of leaves passed.
     pub fn landing(&self, way: Way) -> Option<LeafId>
         requires leaf { get self.now.leaves.now self.now.id ≡ Some self.now.leaf.now }
         requires chain { (front back : _) × IsChain self.now.leaves.now (front ++ self.now.id ∷ back) }
@@ -95,7 +95,7 @@ impl<'t, K: Ord + Drop, V: Drop, const LEN: usize> Stand<'t, LeafOf<K, V, LEN>> 
 }
 
 impl<K: Ord + Drop, V: Drop, const LEN: usize> LeafOf<K, V, LEN> {
-    /// The leaf beside this one on the way.
+    /// Returns the leaf beside this one on the way.
     fn beside(&self, way: Way) -> Option<LeafId>
         ensures { result ≡ beside way self.now }
     {

@@ -1,54 +1,108 @@
-use Rattle.std.proofs.Common.{◌<◌, ◌≤◌, refl, sym, inl, inr, arith, rules}
-use Rattle.std.proofs.lemmas.Bool.{false≢true}
-use Rattle.tree_array.proofs.RankOrder.{some_from_rank}
-use Rattle.tree_array.proofs.Searching.{met_none, met_other, met_smaller, met_larger, met_all, met_next, outside}
-use Rattle.tree_array.proofs.Slots.{len_small}
+use Rattle.std.proofs.Common.{◌≡◌, ◌<◌, arith, rules}
+use Rattle.tree_array.proofs.Halving.{end_placed, place_equal, place_apart, searched_some}
 use Rattle.tree_array.proofs.search.find.Goals as goal
-use Rattle.tree_array.proofs.search.find.Goals.{then-is_between+in-Less, then-is_between+in-Greater, else-is_between}
 
-pub loop-arrival-init : goal.loop-arrival-init
-loop-arrival-init g c =
-    let few : c.args.made ≤ 15 = omega (arith, c.requires.made, len_small g.row.LEN c.requires.len) in
-    record { same_key = search rules; counted = omega arith; met = met_none g.met.K.Ord.total c.requires.ranked few }
-
-pub pair-requires : goal.pair-requires
-pair-requires g c =
-    let small : c.loop-arrival.arrival < 15 = omega (arith, c.requires.made, len_small g.row.LEN c.requires.len) in
-    (search rules, some_from_rank c.requires.ranked c.loop-arrival.arrival small (omega (arith, c.rank-rank.ensures.value, (c.if-is_between.ensures.0 refl).0)))
-
-pub returns-in-Equal-clause-place : goal.returns-in-Equal-clause-place
-returns-in-Equal-clause-place g c =
-    (c.loop-arrival-test.true, (_, c.pair.ensures, rw (← c.loop-arrival.invariant.same_key) (sym c.in-Equal.ensures.answer)))
-
-pub loop-arrival-preserved : goal.loop-arrival-preserved
-loop-arrival-preserved g c =
-    let met = c.loop-arrival.invariant.met in
-    let ranked = c.requires.ranked in
+pub returns-then-window-gt0-clause-place : goal.returns-then-window-gt0-clause-place
+returns-then-window-gt0-clause-place g c =
+    let r = c.requires in
     let o = g.met.K.Ord.total in
-    let value = c.rank-rank.ensures.value in
-    elim c.if-is_between.branch [
-      | then-is_between+in-Less w ↦ record {
-        same_key = rw (w.asked-is, w.in-Less.ensures.same_key) c.loop-arrival.invariant.same_key;
-        counted = rw w.asked-is (omega (arith, w.in-Less.ensures.counted, c.loop-arrival.invariant.counted));
-        met = rw (w.low-is, w.high-is, w.next-is) (met_larger o ranked met _ _ c.loop-arrival-test.true w.pair.ensures value (w.if-is_between.ensures.0 refl).0 (w.if-is_between.ensures.0 refl).1 (rw (← c.loop-arrival.invariant.same_key) (sym w.in-Less.ensures.answer)));
-      }
-      | then-is_between+in-Greater w ↦ record {
-        same_key = rw (w.asked-is, w.in-Greater.ensures.same_key) c.loop-arrival.invariant.same_key;
-        counted = rw w.asked-is (omega (arith, w.in-Greater.ensures.counted, c.loop-arrival.invariant.counted));
-        met = rw (w.low-is, w.high-is, w.next-is) (met_smaller o ranked met _ _ w.pair.ensures value (w.if-is_between.ensures.0 refl).0 (w.if-is_between.ensures.0 refl).1 (rw (← c.loop-arrival.invariant.same_key) (sym w.in-Greater.ensures.answer)));
-      }
-      | else-is_between w ↦ record {
-        same_key = rw w.asked-is c.loop-arrival.invariant.same_key;
-        counted = rw w.asked-is (omega (arith, c.loop-arrival.invariant.counted));
-        met = rw (w.low-is, w.high-is, w.next-is) (met_other o ranked met (λ e some. elim (outside _ _ _ (λ between. false≢true (w.if-is_between.ensures.1 between))) [
-          | inl below ↦ inl (omega (arith, value, below))
-          | inr beyond ↦ inr (omega (arith, value, beyond))
-        ]));
-      }
-    ]
+    let b = c.begin-window.ensures in
+    let some : 0 < c.args.count = omega (arith, c.if-count-eq0.false) in
+    rw (c.end.ensures, b.count) (end_placed o r.in_order (r.filled some) some r.few _ b.window c.if-window-gt0.true)
 
-pub returns-clause-place : goal.returns-clause-place
-returns-clause-place g c =
-    let met = c.loop-arrival.invariant.met in
-    let few : c.args.made ≤ 15 = omega (arith, c.requires.made, len_small g.row.LEN c.requires.len) in
-    (met.low_bound, met_all g.met.K.Ord.total c.requires.ranked met (omega arith), met_next g.met.K.Ord.total c.requires.ranked met (omega arith) few)
+pub halve-window-requires : goal.halve-window-requires
+halve-window-requires g c =
+    let r = c.requires in
+    let o = g.met.K.Ord.total in
+    let b = c.begin-window.ensures in
+    let some : 0 < c.args.count = omega (arith, c.if-count-eq0.false) in
+    (search rules, (r.len, (rw b.count some, (rw b.count r.few, (rw (b.order, b.count) r.in_order, (rw (b.order, b.count) (r.filled some), rw (b.order, b.same_key) b.window))))))
+
+pub returns-then-window-gt0-2-clause-place : goal.returns-then-window-gt0-2-clause-place
+returns-then-window-gt0-2-clause-place g c =
+    let r = c.requires in
+    let o = g.met.K.Ord.total in
+    let b = c.begin-window.ensures in
+    let some : 0 < c.args.count = omega (arith, c.if-count-eq0.false) in
+    let h = c.halve-window.ensures in
+    let w = rw (b.order, b.same_key) at h.window in
+    rw (c.end-then-window-gt0-2.ensures, h.count, b.count) (end_placed o r.in_order (r.filled some) some r.few _ w c.if-window-gt0-2.true)
+
+pub returns-then-window-gt0-2-clause-counted : goal.returns-then-window-gt0-2-clause-counted
+returns-then-window-gt0-2-clause-counted g c =
+    omega (arith, c.begin-window.ensures.counted, c.halve-window.ensures.counted, searched_some g.row.LEN)
+
+pub halve-window-requires-2 : goal.halve-window-requires-2
+halve-window-requires-2 g c =
+    let r = c.requires in
+    let o = g.met.K.Ord.total in
+    let b = c.begin-window.ensures in
+    let some : 0 < c.args.count = omega (arith, c.if-count-eq0.false) in
+    let h = c.halve-window.ensures in
+    let w = rw (b.order, b.same_key) at h.window in
+    (search rules, (r.len, (rw (h.count, b.count) some, (rw (h.count, b.count) r.few, (rw (h.order, h.count, b.order, b.count) r.in_order, (rw (h.order, h.count, b.order, b.count) (r.filled some), rw (h.order, b.order, h.same_key, b.same_key) w))))))
+
+pub returns-then-window-gt0-3-clause-place : goal.returns-then-window-gt0-3-clause-place
+returns-then-window-gt0-3-clause-place g c =
+    let r = c.requires in
+    let o = g.met.K.Ord.total in
+    let b = c.begin-window.ensures in
+    let some : 0 < c.args.count = omega (arith, c.if-count-eq0.false) in
+    let h = c.halve-window.ensures in
+    let w = rw (b.order, b.same_key) at h.window in
+    let h2 = c.halve-window-2.ensures in
+    let w2 = rw (h.order, b.order, h.same_key, b.same_key) at h2.window in
+    rw (c.end-then-window-gt0-3.ensures, h2.count, h.count, b.count) (end_placed o r.in_order (r.filled some) some r.few _ w2 c.if-window-gt0-3.true)
+
+pub returns-then-window-gt0-3-clause-counted : goal.returns-then-window-gt0-3-clause-counted
+returns-then-window-gt0-3-clause-counted g c =
+    omega (arith, c.begin-window.ensures.counted, c.halve-window.ensures.counted, c.halve-window-2.ensures.counted, searched_some g.row.LEN)
+
+pub halve-window-requires-3 : goal.halve-window-requires-3
+halve-window-requires-3 g c =
+    let r = c.requires in
+    let o = g.met.K.Ord.total in
+    let b = c.begin-window.ensures in
+    let some : 0 < c.args.count = omega (arith, c.if-count-eq0.false) in
+    let h = c.halve-window.ensures in
+    let w = rw (b.order, b.same_key) at h.window in
+    let h2 = c.halve-window-2.ensures in
+    let w2 = rw (h.order, b.order, h.same_key, b.same_key) at h2.window in
+    (search rules, (r.len, (rw (h2.count, h.count, b.count) some, (rw (h2.count, h.count, b.count) r.few, (rw (h2.order, h2.count, h.order, h.count, b.order, b.count) r.in_order, (rw (h2.order, h2.count, h.order, h.count, b.order, b.count) (r.filled some), rw (h2.order, h.order, b.order, h2.same_key, h.same_key, b.same_key) w2))))))
+
+pub returns-then-window-gt0-4-clause-place : goal.returns-then-window-gt0-4-clause-place
+returns-then-window-gt0-4-clause-place g c =
+    let r = c.requires in
+    let o = g.met.K.Ord.total in
+    let b = c.begin-window.ensures in
+    let some : 0 < c.args.count = omega (arith, c.if-count-eq0.false) in
+    let h = c.halve-window.ensures in
+    let w = rw (b.order, b.same_key) at h.window in
+    let h2 = c.halve-window-2.ensures in
+    let w2 = rw (h.order, b.order, h.same_key, b.same_key) at h2.window in
+    let h3 = c.halve-window-3.ensures in
+    let w3 = rw (h2.order, h.order, b.order, h2.same_key, h.same_key, b.same_key) at h3.window in
+    rw c.slot_at-slot.ensures (place_equal o r.in_order (r.filled some) some r.few _ w3 c.if-window-gt0-4.true)
+
+pub returns-then-window-gt0-4-clause-counted : goal.returns-then-window-gt0-4-clause-counted
+returns-then-window-gt0-4-clause-counted g c =
+    omega (arith, c.begin-window.ensures.counted, c.halve-window.ensures.counted, c.halve-window-2.ensures.counted, c.halve-window-3.ensures.counted, searched_some g.row.LEN)
+
+pub returns-else-window-gt0-4-clause-place : goal.returns-else-window-gt0-4-clause-place
+returns-else-window-gt0-4-clause-place g c =
+    let r = c.requires in
+    let o = g.met.K.Ord.total in
+    let b = c.begin-window.ensures in
+    let some : 0 < c.args.count = omega (arith, c.if-count-eq0.false) in
+    let h = c.halve-window.ensures in
+    let w = rw (b.order, b.same_key) at h.window in
+    let h2 = c.halve-window-2.ensures in
+    let w2 = rw (h.order, b.order, h.same_key, b.same_key) at h2.window in
+    let h3 = c.halve-window-3.ensures in
+    let w3 = rw (h2.order, h.order, b.order, h2.same_key, h.same_key, b.same_key) at h3.window in
+    let none : c.halve-window-3.result.met ≡ 0 = omega (arith, c.if-window-gt0-4.false) in
+    rw c.slot_at-slot.ensures (place_apart o r.in_order (r.filled some) some r.few _ w3 none)
+
+pub returns-else-window-gt0-4-clause-counted : goal.returns-else-window-gt0-4-clause-counted
+returns-else-window-gt0-4-clause-counted g c =
+    omega (arith, c.begin-window.ensures.counted, c.halve-window.ensures.counted, c.halve-window-2.ensures.counted, c.halve-window-3.ensures.counted, searched_some g.row.LEN)

@@ -47,10 +47,10 @@ put_leaf-requires g c =
     let cut = c.requires.cut in
     let separator = c.in_ok-separator.ensures in
     let read : c.leaf.result.now ≡ c.leaf_mut.result.now =
-    same_leaf _ _ (sym c.leaf.ensures ∙ sym ((unchanged_by_keeping _ _ c.in_ok-reserve.ensures.0).leaves c.args.target) ∙ c.leaf_mut.ensures.value) in
-    let high = c.cut_low.ensures.high ∙ ap (λ a. in_order (drop c.args.count a.entries)) c.array_mut.ensures.value in
-    let low = c.cut_low.ensures.low ∙ ap (λ a. in_order (take c.args.count a.entries)) c.array_mut.ensures.value in
-    let last = ap (λ a. slice_get a.entries (c.args.count - 1)) (sym (c.array.ensures ∙ ap (λ l. l.array) read)) ∙ separator.1 in
+    same_leaf c.leaf.result.now c.leaf_mut.result.now (rw (c.leaf_mut.ensures.value) at (sym c.leaf.ensures ∙ sym ((unchanged_by_keeping c.args.arenas.now c.reserve.new.self c.in_ok-reserve.ensures.0).leaves c.args.target))) in
+    let high : c.cut_low.new.array ≡ in_order (drop c.args.count c.leaf_mut.result.now.array.entries) = rw c.array_mut.ensures.value at c.cut_low.ensures.high in
+    let low : c.cut_low.new.low ≡ in_order (take c.args.count c.leaf_mut.result.now.array.entries) = rw c.array_mut.ensures.value at c.cut_low.ensures.low in
+    let last : slice_get c.leaf_mut.result.now.array.entries (c.args.count - 1) ≡ Some separator.0 = rw (c.array.ensures, read) at separator.1 in
     let node = parent_was g.met.K.Ord.total c.args.arenas.now c.args.id c.args.target cut.0 c.requires.part cut.1 _ _ _ c.args.count c.leaf_mut.result.now _ _ separator.0 c.in_ok-separator.separator
     c.in_ok-reserve.ensures.0 c.leaf_mut.ensures.value high low c.in-Ok.ensures last separator.2 cut.2 _ c.node_mut.ensures.value in (
       search rules,
@@ -69,10 +69,10 @@ pub returns-clause-done : goal.returns-clause-done
 returns-clause-done g c key which cut =
     let separator = c.in_ok-separator.ensures in
     let read : c.leaf.result.now ≡ c.leaf_mut.result.now =
-    same_leaf _ _ (sym c.leaf.ensures ∙ sym ((unchanged_by_keeping _ _ c.in_ok-reserve.ensures.0).leaves c.args.target) ∙ c.leaf_mut.ensures.value) in
-    let high = c.cut_low.ensures.high ∙ ap (λ a. in_order (drop c.args.count a.entries)) c.array_mut.ensures.value in
-    let low = c.cut_low.ensures.low ∙ ap (λ a. in_order (take c.args.count a.entries)) c.array_mut.ensures.value in
-    let last = ap (λ a. slice_get a.entries (c.args.count - 1)) (sym (c.array.ensures ∙ ap (λ l. l.array) read)) ∙ separator.1 in
+    same_leaf c.leaf.result.now c.leaf_mut.result.now (rw (c.leaf_mut.ensures.value) at (sym c.leaf.ensures ∙ sym ((unchanged_by_keeping c.args.arenas.now c.reserve.new.self c.in_ok-reserve.ensures.0).leaves c.args.target))) in
+    let high : c.cut_low.new.array ≡ in_order (drop c.args.count c.leaf_mut.result.now.array.entries) = rw c.array_mut.ensures.value at c.cut_low.ensures.high in
+    let low : c.cut_low.new.low ≡ in_order (take c.args.count c.leaf_mut.result.now.array.entries) = rw c.array_mut.ensures.value at c.cut_low.ensures.low in
+    let last : slice_get c.leaf_mut.result.now.array.entries (c.args.count - 1) ≡ Some separator.0 = rw (c.array.ensures, read) at separator.1 in
     leaf_room_by_split g.met.K.Ord.total c.args.arenas.now c.args.id c.args.target key c.requires.part which _ _ _ c.args.count c.leaf_mut.result.now _ _ separator.0 c.in_ok-separator.separator
     c.in_ok-reserve.ensures.0 c.leaf_mut.ensures.value high low c.in-Ok.ensures last separator.2 cut _ c.node_mut.ensures.value _ c.put_leaf.ensures
 

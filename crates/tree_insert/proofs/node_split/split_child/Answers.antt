@@ -1,5 +1,6 @@
 use Rattle.std.proofs.Common.{rules, ◌≡◌, ◌<◌, ◌≤◌, ◌∙◌, length, Some, refl, sym, sub-one}
 use Rattle.slab.specs.Slab.{ContainsKey}
+use Rattle.tree_array.specs.Insertion.{HasRoom}
 use Rattle.tree_array.specs.Length.{limit}
 use Rattle.tree_node.specs.Tree.{keyed}
 use Rattle.tree_insert.proofs.Fulls.{full_room, not_full_room}
@@ -28,16 +29,16 @@ node_mut-requires g c =
     (search fits, child_used g.met.K.Ord.total up.0 c.args.arenas.now c.args.parent c.args.target (rw up.1 at c.requires.part.2) c.requires.child)
 
 pub returns-in_default-clause-done : goal.returns-in_default-clause-done
-returns-in_default-clause-done g c height deep part =
-    let up = two_up height deep in
+returns-in_default-clause-done g c level deep part =
+    let up = two_up level deep in
     let read : c.node-2.result.now ≡ c.node_mut.result.now = same_value _ _ (sym c.node-2.ensures ∙ c.node_mut.ensures.value) in
     let few : length (keyed c.node_mut.result.now).entries ≤ limit g.row.LEN = rw read at c.in_default.ensures.place in
     rw up.1
     (split_anew g.met.K.Ord.total up.0 c.args.arenas.now c.args.parent c.args.target (rw up.1 at part) c.requires.child c.node_mut.result.now _ c.node_mut.ensures.value c.rebuild.ensures c.place_to_part.ensures.sound.is_len few)
 
 pub returns-then-full-clause-done : goal.returns-then-full-clause-done
-returns-then-full-clause-done g c height deep part =
-    let up = two_up height deep in
+returns-then-full-clause-done g c level deep part =
+    let up = two_up level deep in
     rw up.1 (record {
       full = rw c.node.ensures (full_room c.node.result.now (c.takes_no_more-full.ensures.0 c.if-full.true));
       many = rw (sub-one, c.node-2.ensures) c.in-Some.ensures.place.0;
@@ -102,11 +103,15 @@ put_node-requires g c =
     )
 
 pub returns-clause-done : goal.returns-clause-done
-returns-clause-done g c height deep part =
-    let up = two_up height deep in
+returns-clause-done g c level deep part =
+    let up = two_up level deep in
     let read : c.node-2.result.now ≡ c.node_mut-2.result.now =
     same_value _ _ (sym c.node-2.ensures ∙ sym ((unchanged_by_keeping _ _ c.in_ok-reserve.ensures.0).nodes c.args.target) ∙ c.node_mut-2.ensures.value) in
     let within : c.in-Some.place < length (keyed c.node_mut-2.result.now).entries = rw read at c.in-Some.ensures.place.1 in
+    let above = above_was g.met.K.Ord.total up.0 c.args.arenas.now c.args.parent c.args.target (rw up.1 at part) c.requires.child _ c.add_node.new.self _ c.in-Some.place c.node_mut-2.result.now _ _ _
+    c.in_ok-reserve.ensures.0 c.node_mut-2.ensures.value c.cut_node-separator.ensures c.in-Ok.ensures.nodes c.in-Ok.ensures.leaves within _ c.node_mut-3.ensures.value in
+    let same : c.node.result.now ≡ c.node_mut-3.result.now = same_value _ _ (sym c.node.ensures ∙ above) in
+    let some : HasRoom g.row.LEN (keyed c.node_mut-3.result.now) = rw (← same) (not_full_room c.node.result.now (λ full. let yes = c.takes_no_more-full.ensures.1 full in let no = c.if-full.false in cc)) in
     rw up.1
     (split_in_two g.met.K.Ord.total up.0 c.args.arenas.now c.args.parent c.args.target (rw up.1 at part) c.requires.child _ c.add_node.new.self _ c.in-Some.place c.node_mut-2.result.now _ _ _
-    c.in_ok-reserve.ensures.0 c.node_mut-2.ensures.value c.cut_node-separator.ensures c.in-Ok.ensures.nodes c.in-Ok.ensures.leaves within _ c.node_mut-3.ensures.value _ c.put_node.ensures)
+    c.in_ok-reserve.ensures.0 c.node_mut-2.ensures.value c.cut_node-separator.ensures c.in-Ok.ensures.nodes c.in-Ok.ensures.leaves within _ c.node_mut-3.ensures.value _ some c.put_node.ensures)

@@ -1,5 +1,4 @@
-use Rattle.std.proofs.Common.{rules, ◌+◌, ◌<◌, w64, arith, inl}
-use Rattle.std.proofs.Math.Facts.{Fits-of_lt}
+use Rattle.std.proofs.Common.{rules, ◌+◌, ◌<◌, arith, inl}
 use Rattle.slab.specs.Slab.{HasRoomFor}
 use Rattle.tree_leaf.specs.Arena.{HasPlaces}
 use Rattle.tree_node.proofs.Bounds.{part_levels}
@@ -25,15 +24,16 @@ unreachable-requires g c =
     let one : HasRoomFor c.reserve.new.self.nodes 1 = omega (arith, two) in
     c.in_default.ensures.nodes.no_room one
 
-pub split_child_at-requires : goal.split_child_at-requires
-split_child_at-requires g c =
+pub split_child-requires : goal.split_child-requires
+split_child-requires g c =
     let top = top_part_at c.args.depth c.requires.node c.args.arenas.now c.reserve.new.self c.add_node.new.self c.args.root c.in-Ok.id c.new-top.result c.requires.part c.in_ok-reserve.ensures.0 c.in-Ok.ensures.nodes c.in-Ok.ensures.leaves c.new-top.ensures.keyed c.new-top.ensures.unbounded in
     let deep : 1 < c.args.depth + 1 = omega (arith, c.requires.node) in
-    (search (rules, c.requires-raw), (search (fits, c.requires-raw), (deep, top)))
+    (search (rules, c.requires-raw), (search (fits, c.requires-raw), ((c.args.depth + 1, deep, top.0), top.1)))
 
 pub unreachable-requires-in-Ok-false : goal.unreachable-requires-in-Ok-false
 unreachable-requires-in-Ok-false g c =
-    let none = rw c.in-Ok-false.field-0-test at c.in-Ok-false.ensures.done in
+    let top = top_part_at c.args.depth c.requires.node c.args.arenas.now c.reserve.new.self c.add_node.new.self c.args.root c.in-Ok.id c.new-top.result c.requires.part c.in_ok-reserve.ensures.0 c.in-Ok.ensures.nodes c.in-Ok.ensures.leaves c.new-top.ensures.keyed c.new-top.ensures.unbounded in
+    let none = rw c.in-Ok-false.field-0-test at (c.in-Ok-false.ensures.done (c.args.depth + 1) (omega (arith, c.requires.node)) top.0) in
     top_room_at c.args.depth c.requires.node c.args.arenas.now c.reserve.new.self c.add_node.new.self c.args.root c.in-Ok.id c.new-top.result c.requires.part c.in_ok-reserve.ensures.0 c.in-Ok.ensures.nodes c.in-Ok.ensures.leaves c.new-top.ensures.keyed c.new-top.ensures.unbounded c.slots_left.ensures.len none.full
 
 pub unreachable-requires-in-Err : goal.unreachable-requires-in-Err
@@ -45,15 +45,13 @@ unreachable-requires-in-Err g c =
     cc
 
 pub returns-clause-done : goal.returns-clause-done
-returns-clause-done g c = raises_at c.args.depth c.requires.node c.args.arenas.now c.reserve.new.self c.add_node.new.self c.args.root c.in-Ok.id c.new-top.result c.requires.part c.in_ok-reserve.ensures.0 c.in-Ok.ensures.nodes c.in-Ok.ensures.leaves c.new-top.ensures.keyed c.new-top.ensures.unbounded c.slots_left.ensures.len c.split_child_at.new.arenas (rw c.in-Ok-true.field-0-test at c.in-Ok-true.ensures.done)
+returns-clause-done g c =
+    let top = top_part_at c.args.depth c.requires.node c.args.arenas.now c.reserve.new.self c.add_node.new.self c.args.root c.in-Ok.id c.new-top.result c.requires.part c.in_ok-reserve.ensures.0 c.in-Ok.ensures.nodes c.in-Ok.ensures.leaves c.new-top.ensures.keyed c.new-top.ensures.unbounded in
+    let split = rw c.in-Ok-true.field-0-test at (c.in-Ok-true.ensures.done (c.args.depth + 1) (omega (arith, c.requires.node)) top.0) in
+    raises_at c.args.depth c.requires.node c.args.arenas.now c.reserve.new.self c.add_node.new.self c.args.root c.in-Ok.id c.new-top.result c.requires.part c.in_ok-reserve.ensures.0 c.in-Ok.ensures.nodes c.in-Ok.ensures.leaves c.new-top.ensures.keyed c.new-top.ensures.unbounded c.slots_left.ensures.len c.split_child.new.arenas split
 
 pub returns-in_err-reserve-clause-err : goal.returns-in_err-reserve-clause-err
 returns-in_err-reserve-clause-err g c = on_err c.from_residual.result (unchanged_by_keeping _ _ c.in_err-reserve.ensures.0)
-
-pub overflow_add-depth : goal.overflow_add-depth
-overflow_add-depth g c =
-    let top = top_part_at c.args.depth c.requires.node c.args.arenas.now c.reserve.new.self c.add_node.new.self c.args.root c.in-Ok.id c.new-top.result c.requires.part c.in_ok-reserve.ensures.0 c.in-Ok.ensures.nodes c.in-Ok.ensures.leaves c.new-top.ensures.keyed c.new-top.ensures.unbounded in
-    Fits-of_lt {w = w64} (omega (arith, part_levels g.K.Ord.cmp c.add_node.new.self (c.args.depth + 1) c.in-Ok.id top.0, c.node_count.ensures, c.node_count.type_inv))
 
 pub returns-clause-levels : goal.returns-clause-levels
 returns-clause-levels g c =

@@ -3,8 +3,8 @@ use Rattle.tree_leaf.specs.declared.leaf.stand.Way.TheVariants.{Back}
 use Rattle.tree_leaf.proofs.Rests.{fresh_gives, if_ok}
 use Rattle.tree_leaf.proofs.laws.entries_back.Goals as goal
 
-pub entries_left_back-requires : goal.entries_left_back-requires
-entries_left_back-requires g c = (search rules, rw c.new.ensures c.requires)
+pub entries_left-requires : goal.entries_left-requires
+entries_left-requires g c = (search rules, rw c.new.ensures c.requires)
 
 pub returns : goal.returns
-returns g c = if_ok (λ entries. fresh_gives c.args.arenas.now.leaves c.args.id Back c.new.result entries.items c.new.ensures) c.entries_left_back.result c.entries_left_back.ensures
+returns g c = if_ok (λ entries. fresh_gives c.args.arenas.now.leaves c.args.id Back c.new.result entries.items c.new.ensures) c.entries_left.result c.entries_left.ensures

@@ -1,11 +1,10 @@
 use Rattle.std.proofs.Common.{◌++◌, ◌∷◌, List, ℕ}
-use Rattle.tree_leaf.specs.declared.leaf.stand.Way.TheVariants.{On}
 use Rattle.tree_leaf.specs.Chain.{IsChain}
 use Rattle.tree_leaf.proofs.Rests.{HasGiven, count_left}
 use Rattle.tree_leaf.proofs.laws.entries_left.Given as goal
 
 abbrev pub invariant-loop-entry : goal.invariant-loop-entry
-invariant-loop-entry g l = (front back : List ℕ) → IsChain l.fn.walk.leaves (front ++ l.fn.walk.leaf ∷ back) → HasGiven On l.fn.walk front back l.walk l.entries.items
+invariant-loop-entry g l = (front back : List ℕ) → IsChain l.fn.walk.leaves (front ++ l.fn.walk.leaf ∷ back) → HasGiven g.S.SlotWalk.way l.fn.walk front back l.walk l.entries.items
 
 abbrev pub decreases-loop-entry : goal.decreases-loop-entry
-decreases-loop-entry g l = count_left On l.walk
+decreases-loop-entry g l = count_left g.S.SlotWalk.way l.walk

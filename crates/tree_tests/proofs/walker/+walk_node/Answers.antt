@@ -4,7 +4,7 @@ use Rattle.slab.specs.Slab.{ContainsKey}
 use Rattle.tree_array.specs.Arrivals.{arrival}
 use Rattle.tree_node.specs.Tree.{StandsOrRetired, in_turn}
 use Rattle.tree_node.proofs.ChildrenStand.{over_leaves, over_nodes}
-use Rattle.tree_node.proofs.ChildTurns.{begins_over, slot_reachable, child_turn, holds_in_turn, holds_at_last}
+use Rattle.tree_walk.proofs.ChildTurns.{begins_over, slot_reachable, child_turn, holds_in_turn, holds_at_last}
 use Rattle.tree_node.proofs.Levels.{node_at}
 use Rattle.tree_tests.proofs.walker.+walk_node.Goals as goal
 

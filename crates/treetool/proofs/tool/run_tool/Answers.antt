@@ -1,8 +1,8 @@
 use Rattle.treetool.specs.Tool.{usage_line}
-use Rattle.treetool.proofs.Writes.{written_of}
+use Rattle.tree_lines.proofs.Writes.{written_of}
 use Rattle.std.proofs.Common.{◌≡◌, ℕ, List, [], Option, Result, Err, refl, subst}
-use Rattle.treetool.specs.declared.lines.ToolFault.{ToolFault}
-use Rattle.treetool.specs.Runs.{RunsLines}
+use Rattle.tree_lines.specs.declared.lines.ToolFault.{ToolFault}
+use Rattle.tree_lines.specs.Runs.{RunsLines}
 use Rattle.treetool.proofs.tool.run_tool.Goals as goal
 
 -- the usage line was written, as far as it could be

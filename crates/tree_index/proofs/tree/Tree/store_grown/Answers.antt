@@ -4,7 +4,7 @@ use Rattle.tree_node.proofs.Sizes.{fits}
 use Rattle.tree_node.specs.Tree.{IsRetiredNode}
 use Rattle.slab.specs.Slab.{ContainsKey, get}
 use Rattle.tree_insert.proofs.RaisedTrees.{tree_raised}
-use Rattle.tree_index.proofs.Stored.{childless_root, no_room_left, not_grown, part_or_retired, root_part, root_there, stored_raised}
+use Rattle.tree_index.proofs.Stored.{childless_root, not_grown, part_or_retired, root_part, root_there, stored_raised}
 use Rattle.tree_index.proofs.tree.Tree.store_grown.Goals as goal
 
 pub node-requires : goal.node-requires
@@ -22,16 +22,7 @@ split_root_at-requires g c =
     let tree = rw c.requires.root at c.requires.whole in
     let kept : IsRetiredNode (get c.args.self.now.arenas.nodes c.args.root) → ⊥ = λ gone. let childless = c.if-is_childless.ensures.1 (rw c.node.ensures at gone) in cc in (
       search fits,
-      (
-        search fits,
-        (
-          tree.top.0,
-          (
-            root_part g.K.Ord.cmp c.args.self.now.arenas c.args.root c.args.depth tree kept,
-            no_room_left g.K.Ord.cmp c.args.self.now.arenas c.args.root c.args.depth tree.top.0 kept c.requires.full,
-          ),
-        ),
-      ),
+      (search fits, (tree.top.0, root_part g.K.Ord.cmp c.args.self.now.arenas c.args.root c.args.depth tree kept)),
     )
 
 pub returns-in_default : goal.returns-in_default

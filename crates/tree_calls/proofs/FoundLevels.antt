@@ -1,0 +1,99 @@
+-- The level that a walk finds serves in place of the one that the contract speaks of: they differ for a retired node alone, which has nothing under it.
+use Rattle.std.proofs.Common.{◌≡◌, ◌⊎◌, ℕ, zero, suc, ◌+◌, ◌*◌, ◌<◌, ◌≤◌, Bool, [], ◌∷◌, Option, Some, None, MatchOption, inl, inr, refl, arith}
+use Rattle.std.proofs.Math.Nat.{mul-le-mul_left}
+use Rattle.std.specs.declared.cmp.Ordering.{Ordering}
+use Rattle.slab.specs.Slab.{get}
+use Rattle.tree_array.specs.declared.answers.RemoveResult.{RemoveResult}
+use Rattle.tree_array.specs.declared.answers.RemoveResult.TheVariants.{Success, Retired, Fail}
+use Rattle.tree_leaf.specs.declared.leaf.stand.Way.{Way}
+use Rattle.tree_leaf.specs.Walks.{LeafWalk}
+use Rattle.tree_node.specs.Arenas.{TreeArenas}
+use Rattle.tree_walk.specs.Ends.{BeginsPart, IsLinked}
+use Rattle.tree_node.specs.Parts.{IsPart, Unchanged}
+use Rattle.tree_node.specs.Tree.{IsRetired, Stands, StandsOrRetired, leaves_at, nodes_at, walk}
+use Rattle.tree_node.proofs.Bare.{no_children}
+use Rattle.tree_node.proofs.Unchanged.{unchanged_replaces}
+use Rattle.tree_remove.specs.Removes.{RemovesUnder}
+
+module _ {K V : Type 0} {LEN : ℕ} (a : TreeArenas K V LEN) (id : ℕ) where
+  -- a node is retired at each level, or at none
+  pub retired_too : (level other : ℕ) → 0 < level → 0 < other → IsRetired level a id → IsRetired other a id
+  retired_too zero other inner low retired = absurd (omega (arith, inner))
+  retired_too (suc level) zero inner low retired = absurd (omega (arith, low))
+  retired_too (suc level) (suc other) inner low retired = retired
+
+  -- and has nothing under it
+  pub no_leaves : (level : ℕ) → 0 < level → IsRetired level a id → leaves_at level a.nodes id ≡ []
+  no_leaves zero inner retired = absurd (omega (arith, inner))
+  no_leaves (suc level) inner retired = rw (no_children (get a.nodes id) retired).1 refl
+
+  pub itself : (level : ℕ) → 0 < level → IsRetired level a id → nodes_at level a.nodes id ≡ id ∷ []
+  itself zero inner retired = absurd (omega (arith, inner))
+  itself (suc level) inner retired = rw (no_children (get a.nodes id) retired).1 refl
+
+  still_retired : (b : TreeArenas K V LEN) (level : ℕ) → 0 < level → Unchanged a b → IsRetired level a id → IsRetired level b id
+  still_retired b zero inner same retired = absurd (omega (arith, inner))
+  still_retired b (suc level) inner same retired = rw (same.nodes id) retired
+
+pub given_at : {K V : Type 0} {LEN : ℕ} (cmp : K → K → Ordering) (a : TreeArenas K V LEN) (id level : ℕ) → IsPart cmp level a id ⊎ IsRetired level a id → StandsOrRetired cmp level a id
+given_at cmp a id level (inl part) = inl part.stands
+given_at cmp a id level (inr retired) = inr retired
+
+module _ {K V : Type 0} {LEN : ℕ} (cmp : K → K → Ordering) (a : TreeArenas K V LEN) (id level found : ℕ) where
+  pub record IsFound : Type 0 where
+    pub inner : 0 < found
+    pub le : found ≤ level
+    pub stands : StandsOrRetired cmp found a id
+    pub leaves : leaves_at found a.nodes id ≡ leaves_at level a.nodes id
+
+  module _ (inner : 0 < level) (up : Stands cmp level a None id None → found ≡ level) (one : IsRetired level a id → found ≡ 1) where
+    pub is_found : StandsOrRetired cmp level a id → IsFound
+    is_found (inl s) = let same = up s in record { inner = rw same inner; le = omega (arith, same); stands = rw same (inl s); leaves = rw same refl }
+    is_found (inr r) =
+        let same = one r in
+        let lowest : IsRetired 1 a id = retired_too a id level 1 inner (omega arith) r in
+        record {
+          inner = rw same (omega arith);
+          le = omega (arith, same, inner);
+          stands = rw same (inr lowest);
+          leaves = rw (same, no_leaves a id level inner r) (no_leaves a id 1 (omega arith) lowest);
+        }
+
+    pub part_found : IsPart cmp level a id ⊎ IsRetired level a id → IsPart cmp found a id ⊎ IsRetired found a id
+    part_found (inl part) = rw (up part.stands) (inl part)
+    part_found (inr retired) = rw (one retired) (inr (retired_too a id level 1 inner (omega arith) retired))
+
+    -- a removal under the node is the same at either level, since nothing is removed under a retired one
+    pub removed_at : IsPart cmp level a id ⊎ IsRetired level a id → (Says : V → Bool → Type 0) (b : TreeArenas K V LEN) (result : RemoveResult) (key : K) → RemovesUnder cmp Says found a b id result key → RemovesUnder cmp Says level a b id result key
+    removed_at (inl part) Says b result key removes = rw (up part.stands) at removes
+    removed_at (inr retired) Says b result key removes = fails_at result (rw (one retired) at removes)
+      where
+        none : leaves_at 1 a.nodes id ≡ []
+        none = no_leaves a id 1 (omega arith) (retired_too a id level 1 inner (omega arith) retired)
+
+        fails_at : (result : RemoveResult) → RemovesUnder cmp Says 1 a b id result key → RemovesUnder cmp Says level a b id result key
+        fails_at Success removes = absurd (let was = rw none at removes.pairs.was in cc)
+        fails_at Retired removes = absurd (let was = rw none at removes.pairs.0.was in cc)
+        fails_at Fail removes =
+            let same : Unchanged a b = removes.leaves in
+            let before = no_leaves a id level inner retired in
+            let after = no_leaves b id level inner (still_retired a id b level inner same retired) in
+            record {
+              pairs = (λ pair is. absurd (let was = rw before at is in cc), rw (before, after) refl);
+              leaves = same;
+              replaces = unchanged_replaces level a b same (id ∷ []);
+              spare = inr (rw (before, after) (omega arith));
+            }
+
+  module _ (is : IsFound) where
+    pub linked_at : IsLinked level a id → IsLinked found a id
+    linked_at linked = (linked.0, linked.1, rw is.leaves linked.2)
+
+    -- a walk that begins a part begins it at either level
+    pub begins_at : (way : Way) (result : Option (LeafWalk K V LEN)) → MatchOption result (walk found a id ≡ []) (BeginsPart way found a id) → MatchOption result (walk level a id ≡ []) (BeginsPart way level a id)
+    begins_at way None nothing = rw is.leaves at nothing
+    begins_at way (Some begun) begins = record { unopened = begins.unopened; leaf = rw is.leaves at begins.leaf; entry = rw is.leaves at begins.entry }
+
+    -- no more is asked than at the greater level
+    pub within_level : (len asked most : ℕ) → asked ≤ most + len * (found + 1) → asked ≤ most + len * (level + 1)
+    within_level len asked most few = let more : found + 1 ≤ level + 1 = omega (arith, is.le) in omega (arith, few, mul-le-mul_left len more)

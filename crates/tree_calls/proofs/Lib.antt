@@ -1,0 +1,3 @@
+pub mod FoundLevels
+pub mod FoundRoots
+pub mod KindSizes

@@ -1,0 +1,73 @@
+-- The spelling of requests.
+use Rattle.std.proofs.Common.{◌≡◌, ℕ, ◌<◌, ◌≤◌, List, [], ◌∷◌, ◌++◌, length, Option, Some, None, refl, sym, ap, ◌∙◌, length-append, arith}
+use Rattle.std.specs.Prelude.{nat_le, Bool, true, false}
+use Rattle.std.specs.Fmt.{decimal}
+use Rattle.std.specs.Str.{bytes_eq}
+use mathlib.Core.Bool.{false≢true}
+use Rattle.std.proofs.lemmas.Bool.Decides.{nat_tests}
+use Rattle.std.proofs.lemmas.Slice.Eq.{bytes_eq-Decides}
+use Rattle.tree_lines.specs.declared.requests.Request.{Request}
+use Rattle.tree_lines.specs.declared.requests.Request.TheVariants.{Insert, Upsert, Remove, RemoveIf, Peek, Contains, Len, Depth, Spare}
+use Rattle.tree_lines.specs.Lines.{Fits, name_of, arguments_of, behind_spaces, spelling}
+use Rattle.tree_lines.specs.Words.{IsWord, IsBehindWord, ReadsAs, ReadsArguments}
+use Rattle.tree_lines.specs.Progress.{clip}
+use Rattle.tree_lines.proofs.FirstWords.{one_first_word, insert_is_word, upsert_is_word, remove_is_word, remove_if_is_word, peek_is_word, contains_is_word, depth_is_word, len_is_word, spare_is_word}
+use Rattle.tree_lines.proofs.Decimals.{length-decimal}
+
+-- the name of a request is a word
+IsWord-name : (request : Request) → IsWord (name_of request)
+IsWord-name (Insert key value) = insert_is_word
+IsWord-name (Upsert key value) = upsert_is_word
+IsWord-name (Remove key) = remove_is_word
+IsWord-name (RemoveIf key value) = remove_if_is_word
+IsWord-name (Peek key) = peek_is_word
+IsWord-name (Contains key) = contains_is_word
+IsWord-name Len = len_is_word
+IsWord-name Depth = depth_is_word
+IsWord-name Spare = spare_is_word
+
+-- a space follows it, or nothing
+IsBehindWord-spaces : (words : List (List ℕ)) → IsBehindWord (behind_spaces words)
+IsBehindWord-spaces [] = tt
+IsBehindWord-spaces (word ∷ words) = refl
+
+module _ (line word behind : List ℕ) (is_word : IsWord word) (is_behind : IsBehindWord behind) (whole : line ≡ word ++ behind) where
+  -- a line that spells a request has its name as the first word, and its arguments after that
+  pub parts_of : (request : Request) → line ≡ spelling request → (word ≡ name_of request) × (behind ≡ behind_spaces (arguments_of request))
+  parts_of request e = one_first_word word (name_of request) behind (behind_spaces (arguments_of request)) is_word (IsWord-name request) is_behind (IsBehindWord-spaces (arguments_of request)) (sym whole ∙ e)
+
+  -- so a line is read by its first word and what follows it
+  pub reads_by_name : (name : List ℕ) → word ≡ name → (read : Option Request) → ReadsArguments name behind read → ReadsAs Fits spelling line read
+  reads_by_name name same (Some request) h = (h.0.0, whole ∙ ap (λ w. w ++ behind) (same ∙ sym h.0.1) ∙ ap (λ b. name_of request ++ b) h.1)
+  reads_by_name name same None h = λ request fits e. let parts = parts_of request e in h request (fits, sym parts.0 ∙ same) parts.1
+
+  -- the same if the two texts are compared byte by byte
+  pub reads_when : (name text : List ℕ) → true ≡ bytes_eq word text → text ≡ name → (read : Option Request) → ReadsArguments name behind read → ReadsAs Fits spelling line read
+  reads_when name text equal same read h = reads_by_name name ((bytes_eq-Decides word text).0 (sym equal) ∙ same) read h
+
+-- a word that differs from a name is not that name
+pub not_named : (word name text : List ℕ) → false ≡ bytes_eq word text → text ≡ name → word ≡ name → ⊥
+not_named word name text unequal same e = false≢true (unequal ∙ (bytes_eq-Decides word text).1 (e ∙ sym same))
+
+-- a request is a short line
+spelling_short : (request : Request) → Fits request → length (spelling request) ≤ 256
+spelling_short (Insert key value) fits = omega (arith, length-decimal key fits.0, length-decimal value fits.1, length-append (decimal key) (32 ∷ decimal value ++ []), length-append (decimal value) [])
+spelling_short (Upsert key value) fits = omega (arith, length-decimal key fits.0, length-decimal value fits.1, length-append (decimal key) (32 ∷ decimal value ++ []), length-append (decimal value) [])
+spelling_short (Remove key) fits = omega (arith, length-decimal key fits, length-append (decimal key) [])
+spelling_short (RemoveIf key value) fits = omega (arith, length-decimal key fits.0, length-decimal value fits.1, length-append (decimal key) (32 ∷ decimal value ++ []), length-append (decimal value) [])
+spelling_short (Peek key) fits = omega (arith, length-decimal key fits, length-append (decimal key) [])
+spelling_short (Contains key) fits = omega (arith, length-decimal key fits, length-append (decimal key) [])
+spelling_short Len fits = omega arith
+spelling_short Depth fits = omega arith
+spelling_short Spare fits = omega arith
+
+-- a line of which nothing is kept is longer than 256 bytes
+long_by : (b : Bool) (line : List ℕ) → nat_le (length line) 256 ≡ b → clip line ≡ None → 256 < length line
+long_by true line test none = absurd (cc (rw test at none))
+long_by false line test none = grind (arith, nat_tests)
+
+-- so it is not a request
+pub long_no_request : (line : List ℕ) → clip line ≡ None → (request : Request) → Fits request → line ≡ spelling request → ⊥
+long_no_request line none request fits e =
+    let long = long_by (nat_le (length line) 256) line refl none in
+    omega (arith, long, spelling_short request fits, ap length e)

@@ -1,0 +1,7 @@
+use Rattle.std.proofs.Common.{rules}
+use Rattle.tree_model.proofs.Edits.{removes_if_says}
+use Rattle.tree_lines.proofs.answers.remove_value.Goals as goal
+
+-- the closure compares the value at the key with the one asked for
+pub returns : goal.returns
+returns c = search (rules, removes_if_says)

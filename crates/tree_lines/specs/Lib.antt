@@ -1,0 +1,5 @@
+pub mod Lines
+pub mod Words
+pub mod Writing
+pub mod Progress
+pub mod Runs

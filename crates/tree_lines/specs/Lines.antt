@@ -1,0 +1,113 @@
+-- The lines of a text, the spelling of a request, the answer to a line, and scripts of lines.
+use Rattle.std.specs.Prelude.{◌≡◌, ◌≢◌, ◌⊎◌, ℕ, ◌*◌, ◌-◌, ◌^◌, ◌<◌, ◌≤◌, min, Bool, true, false, nat_eq, List, [], ◌∷◌, ◌++◌, length, MatchOption, is_some, ⊤, codes, decimal}
+use Rattle.std.specs.List.{AllByRecursion, flat_map}
+use Rattle.std.specs.Option.{option_map_or}
+use Rattle.std.specs.Ordering.{nat_cmp}
+use Rattle.tree_model.specs.Pairs.{pair_at, put, without}
+use Rattle.tree_model.specs.Edits.{RemovesIf}
+use Rattle.tree_lines.specs.declared.requests.Request.{Request}
+use Rattle.tree_lines.specs.declared.requests.Request.TheVariants.{Insert, Upsert, Remove, RemoveIf, Peek, Contains, Len, Depth, Spare}
+
+-- a line contains no line feed
+abbrev pub IsLine : List ℕ → Type 0
+IsLine bytes = AllByRecursion (λ b. b ≢ 10) bytes
+
+-- a line, and the line feed that ends it
+abbrev pub with_feed : List ℕ → List ℕ
+with_feed line = line ++ 10 ∷ []
+
+-- lines as one text, each with its line feed
+abbrev pub text_of : List (List ℕ) → List ℕ
+text_of lines = flat_map with_feed lines
+
+-- The text is these lines, each ended by a line feed, and then the rest, which has no line feed.
+pub record HasLines (text : List ℕ) (ended : List (List ℕ)) (rest : List ℕ) : Type 0 where
+  pub whole : text ≡ text_of ended ++ rest
+  pub each : AllByRecursion IsLine ended
+  pub partial : IsLine rest
+
+-- the rest is a line too, unless it is empty
+abbrev pub last_line : List ℕ → List (List ℕ)
+last_line [] = []
+last_line (b ∷ rest) = (b ∷ rest) ∷ []
+
+-- the first word of a request
+abbrev pub name_of : Request → List ℕ
+name_of (Insert key value) = codes "insert"
+name_of (Upsert key value) = codes "upsert"
+name_of (Remove key) = codes "remove"
+name_of (RemoveIf key value) = codes "remove_if"
+name_of (Peek key) = codes "peek"
+name_of (Contains key) = codes "contains"
+name_of Len = codes "len"
+name_of Depth = codes "depth"
+name_of Spare = codes "spare"
+
+-- the other words of a request; a number is written in decimal digits without a leading zero
+abbrev pub arguments_of : Request → List (List ℕ)
+arguments_of (Insert key value) = decimal key ∷ decimal value ∷ []
+arguments_of (Upsert key value) = decimal key ∷ decimal value ∷ []
+arguments_of (Remove key) = decimal key ∷ []
+arguments_of (RemoveIf key value) = decimal key ∷ decimal value ∷ []
+arguments_of (Peek key) = decimal key ∷ []
+arguments_of (Contains key) = decimal key ∷ []
+arguments_of Len = []
+arguments_of Depth = []
+arguments_of Spare = []
+
+-- words, each after one space
+abbrev pub behind_spaces : List (List ℕ) → List ℕ
+behind_spaces words = flat_map (λ word. 32 ∷ word) words
+
+-- the spelling of a request
+abbrev pub spelling : Request → List ℕ
+spelling request = name_of request ++ behind_spaces (arguments_of request)
+
+-- the numbers of a request fit in 64 bits
+abbrev pub Fits : Request → Type 0
+Fits (Insert key value) = (key < 2 ^ 64) × (value < 2 ^ 64)
+Fits (Upsert key value) = (key < 2 ^ 64) × (value < 2 ^ 64)
+Fits (Remove key) = key < 2 ^ 64
+Fits (RemoveIf key value) = (key < 2 ^ 64) × (value < 2 ^ 64)
+Fits (Peek key) = key < 2 ^ 64
+Fits (Contains key) = key < 2 ^ 64
+Fits Len = ⊤
+Fits Depth = ⊤
+Fits Spare = ⊤
+
+-- the spelling of a truth value
+abbrev pub truth : Bool → List ℕ
+truth true = codes "true"
+truth false = codes "false"
+
+-- the condition that compares a stored value with this one
+abbrev pub SaysEqual : ℕ → ℕ → Bool → Type 0
+SaysEqual value stored said = said ≡ nat_eq stored value
+
+-- The answer to a request over the pairs `old`, which become `new`.
+abbrev pub Answers : List (ℕ × ℕ) → Request → List ℕ → List (ℕ × ℕ) → Type 0
+Answers old (Insert key value) answer new =
+    MatchOption (pair_at nat_cmp old key)
+    (((answer ≡ codes "ok") × (new ≡ put nat_cmp old key value)) ⊎ ((answer ≡ codes "refused") × (new ≡ old)))
+    (λ _. (answer ≡ codes "duplicate") × (new ≡ old))
+Answers old (Upsert key value) answer new = ((answer ≡ codes "ok") × (new ≡ put nat_cmp old key value)) ⊎ ((answer ≡ codes "refused") × (new ≡ old))
+Answers old (Remove key) answer new = (answer ≡ truth (is_some (pair_at nat_cmp old key))) × (new ≡ without nat_cmp old key)
+Answers old (RemoveIf key value) answer new = (removed : Bool) × RemovesIf nat_cmp (SaysEqual value) old key removed new × (answer ≡ truth removed)
+Answers old (Contains key) answer new = (answer ≡ truth (is_some (pair_at nat_cmp old key))) × (new ≡ old)
+Answers old Len answer new = (answer ≡ decimal (min (length old) (2 ^ 64 - 1))) × (new ≡ old)
+Answers old Depth answer new = (depth : ℕ) × (length old ≤ 15 * 16 ^ depth) × (answer ≡ decimal depth) × (new ≡ old)
+Answers old Spare answer new = (spare : ℕ) × (answer ≡ decimal spare) × (new ≡ old)
+Answers old (Peek key) answer new = (answer ≡ option_map_or (λ pair. decimal pair.1) (pair_at nat_cmp old key) (codes "none")) × (new ≡ old)
+
+-- The answer to a line. A line that is not a request is answered with a question mark and changes nothing.
+abbrev pub Says : List (ℕ × ℕ) → List ℕ → List ℕ → List (ℕ × ℕ) → Type 0
+Says old line answer new =
+    ((request : Request) × Fits request × (line ≡ spelling request) × Answers old request answer new)
+    ⊎ (((request : Request) → Fits request → line ≢ spelling request) × (answer ≡ codes "?") × (new ≡ old))
+
+-- The lines are answered one after another.
+abbrev pub Script : List (ℕ × ℕ) → List (List ℕ) → List (List ℕ) → List (ℕ × ℕ) → Type 0
+Script old [] [] new = new ≡ old
+Script old (line ∷ lines) (answer ∷ answers) new = (mid : List (ℕ × ℕ)) × Says old line answer mid × Script mid lines answers new
+Script old [] (answer ∷ answers) new = ⊥
+Script old (line ∷ lines) [] new = ⊥

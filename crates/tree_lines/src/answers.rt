@@ -1,0 +1,103 @@
+//! Applies the request of a line and writes its answer.
+ghost use Rattle.std.specs.Prelude.{◌≡◌, ℕ, List};
+ghost use Rattle.std.specs.Ordering.{nat_cmp};
+ghost use Rattle.tree_model.specs.Edits.{RemovesIf};
+ghost use Rattle.tree_lines.specs.Lines.{with_feed, Says, SaysEqual};
+ghost use Rattle.tree_lines.specs.Progress.{answer_text, clip, Responds};
+ghost use Rattle.tree_lines.specs.Writing.{Writes};
+
+use crate::begun_line::BegunLine;
+use crate::requests::{Request, request_of};
+use crate::short_text::ShortText;
+use crate::writing::{WriteFailed, write_whole};
+use std::io::Write;
+use tree_index::{InsertError, TreeIndex};
+
+/// The answer to a line.
+#[derive(Clone, Copy, Debug)]
+pub enum Answer {
+    /// `ok`.
+    Stored,
+    /// `duplicate`.
+    Duplicate,
+    /// `refused`: the index could not allocate.
+    Refused,
+    /// `none`.
+    Missing,
+    /// `true` or `false`.
+    Truth(bool),
+    /// `?`: the line is not a request.
+    Unknown,
+    /// A number in decimal digits.
+    Value(u64),
+}
+
+/// Applies the request of a line and returns the answer.
+pub fn answer_to(index: &mut TreeIndex<u64, u64>, line: &BegunLine) -> Answer
+    ensures { (begun : List ℕ) → line.now ≡ clip begun →
+        Says index.old.pairs begun (answer_text result) index.new.pairs }
+{
+    let Some(text) = line.text() else {
+        return Answer::Unknown;
+    };
+    respond(index, request_of(text))
+}
+
+// Applies a request and returns the answer; `None` stands for a line that is not a request.
+fn respond(index: &mut TreeIndex<u64, u64>, request: Option<Request>) -> Answer
+    ensures { Responds index.old.pairs request (answer_text result) index.new.pairs }
+{
+    match request {
+        None => Answer::Unknown,
+        Some(Request::Insert(key, value)) => match index.insert_sync(key, value) {
+            Ok(()) => Answer::Stored,
+            Err(InsertError::Duplicate(_, _)) => Answer::Duplicate,
+            Err(InsertError::OutOfMemory(_, _)) => Answer::Refused,
+        },
+        Some(Request::Upsert(key, value)) => match index.upsert_sync(key, value) {
+            Ok(()) => Answer::Stored,
+            Err(_) => Answer::Refused,
+        },
+        Some(Request::Remove(key)) => Answer::Truth(index.remove_sync(&key)),
+        Some(Request::RemoveIf(key, value)) => Answer::Truth(remove_value(index, key, value)),
+        Some(Request::Contains(key)) => Answer::Truth(index.contains(&key)),
+        Some(Request::Len) => Answer::Value(index.len() as u64),
+        Some(Request::Depth) => Answer::Value(index.depth() as u64),
+        Some(Request::Spare) => Answer::Value(u64::from(index.spare())),
+        Some(Request::Peek(key)) => match index.peek(&key) {
+            Some(value) => Answer::Value(*value),
+            None => Answer::Missing,
+        },
+    }
+}
+
+// Removes the pair at a key if it has this value, and returns whether it did.
+fn remove_value(index: &mut TreeIndex<u64, u64>, key: u64, value: u64) -> bool
+    ensures { RemovesIf nat_cmp (SaysEqual value) index.old.pairs key result index.new.pairs }
+{
+    index.remove_if_sync(&key, |stored| *stored == value)
+}
+
+/// Writes an answer and a line feed.
+///
+/// Returns `Err` if a write fails; part of the line may have been written.
+pub fn write_answer<W: Write>(output: &mut W, answer: Answer) -> Result<(), WriteFailed>
+    ensures { Writes (with_feed (answer_text answer))
+        (W.contents output.old) (W.contents output.new) result }
+{
+    match answer {
+        Answer::Stored => write_whole(output, b"ok\n"),
+        Answer::Duplicate => write_whole(output, b"duplicate\n"),
+        Answer::Refused => write_whole(output, b"refused\n"),
+        Answer::Missing => write_whole(output, b"none\n"),
+        Answer::Truth(true) => write_whole(output, b"true\n"),
+        Answer::Truth(false) => write_whole(output, b"false\n"),
+        Answer::Unknown => write_whole(output, b"?\n"),
+        Answer::Value(n) => {
+            let mut text = ShortText::new();
+            text.push_front(b'\n');
+            text.push_number_front(n);
+            write_whole(output, text.as_bytes())
+        }
+    }
+}

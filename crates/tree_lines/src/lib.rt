@@ -1,0 +1,16 @@
+//! Requests to an ordered index as lines of text: the grammar, and an engine that answers them over
+//! any reader and writer.
+#![tactic(auto)]
+
+mod answers;
+mod begun_line;
+mod lines;
+mod numbers;
+mod requests;
+mod short_text;
+mod words;
+mod writing;
+
+pub use lines::{ToolFault, run_lines};
+pub use requests::Request;
+pub use writing::{WriteFailed, write_whole};

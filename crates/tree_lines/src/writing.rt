@@ -1,0 +1,37 @@
+//! Writes that are whole or fail.
+ghost use Rattle.tree_lines.specs.Writing.{Writes};
+
+use std::error::Error;
+use std::fmt;
+use std::io::Write;
+
+/// The error of [`write_whole`]: a write failed or took no byte.
+#[derive(Clone, Copy, Debug, PartialEq, Eq)]
+pub struct WriteFailed;
+
+impl fmt::Display for WriteFailed {
+    fn fmt<W: fmt::Write>(&self, f: &mut fmt::Formatter<W>) -> fmt::Result {
+        write!(f, "a write failed")
+    }
+}
+
+impl Error for WriteFailed {}
+
+/// Writes all of the bytes, by as many writes as that takes.
+///
+/// Returns `Err` if a write fails or takes no byte; a front of the bytes may have been written. An
+/// interrupted write is not tried again.
+pub fn write_whole<W: Write>(output: &mut W, bytes: &[u8]) -> Result<(), WriteFailed>
+    ensures { Writes bytes.now (W.contents output.old) (W.contents output.new) result }
+{
+    let mut rest = bytes;
+    while !rest.is_empty() {
+        let count = output.write(rest).unwrap_or(0);
+        if count == 0 {
+            return Err(WriteFailed);
+        }
+        let (_, left) = rest.split_at(count);
+        rest = left;
+    }
+    Ok(())
+}

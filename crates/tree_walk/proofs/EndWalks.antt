@@ -1,0 +1,51 @@
+-- Where a walk of a part begins: in a leaf of the chain, at the first entry of the part on its way.
+use Rattle.std.proofs.Common.{◌≡◌, ℕ, suc, ◌+◌, ◌-◌, ◌<◌, List, [], ◌∷◌, ◌++◌, length, slice_get, None, refl, sym, subst, arith, append_assoc, length-append}
+use Rattle.std.proofs.lemmas.List.{append-nil}
+use Rattle.std.proofs.lemmas.List.Concat.{flat_map-append}
+use Rattle.slab.specs.Slab.{Slab}
+use Rattle.tree_leaf.specs.declared.leaf.LeafOf.{LeafOf}
+use Rattle.tree_leaf.specs.declared.leaf.stand.Way.{Way}
+use Rattle.tree_leaf.specs.declared.leaf.stand.Way.TheVariants.{On, Back}
+use Rattle.tree_leaf.specs.Chain.{IsChain}
+use Rattle.tree_leaf.specs.Entries.{leaf_entries, entries_of}
+use Rattle.tree_leaf.specs.Walks.{LeafWalk, standing, first_of, last_of}
+use Rattle.tree_node.specs.Arenas.{TreeArenas}
+use Rattle.tree_walk.specs.Ends.{BeginsPart, IsFirstOn, IsLinked, first_on, passed}
+use Rattle.tree_node.specs.Tree.{leaves_at}
+
+module _ {X : Type 0} where
+  first-append : (xs ys : List X) → 0 < length xs → first_of (xs ++ ys) ≡ first_of xs
+  first-append [] ys some = absurd (omega (arith, some))
+  first-append (x ∷ xs) ys some = refl
+
+  behind-append : (xs ys : List X) (i : ℕ) → slice_get (xs ++ ys) (length xs + i) ≡ slice_get ys i
+  behind-append [] ys i = let e : 0 + i ≡ i = omega arith in rw e refl
+  behind-append (x ∷ xs) ys i = let e : suc (length xs) + i ≡ suc (length xs + i) = omega arith in rw e (behind-append xs ys i)
+
+  last-append : (xs ys : List X) → 0 < length ys → last_of (xs ++ ys) ≡ last_of ys
+  last-append xs ys some =
+      let e : length (xs ++ ys) - 1 ≡ length xs + (length ys - 1) = omega (arith, length-append xs ys) in
+      rw e (behind-append xs ys (length ys - 1))
+
+module _ {K V : Type 0} {LEN : ℕ} (leaves : Slab (LeafOf K V LEN)) where
+  -- the first entry of the leaf is the first of all these leaves
+  first_of_all : (way : Way) (ids : List ℕ) (id : ℕ) → IsFirstOn way leaves ids id → first_on way (leaf_entries leaves id) ≡ first_on way (entries_of leaves ids)
+  first_of_all way ids id is = rw (is.parts, flat_map-append (leaf_entries leaves) is.front (id ∷ is.back)) (by_way way is.none_passed)
+    where
+      by_way : (way : Way) → entries_of leaves (passed way is.front is.back) ≡ []
+          → first_on way (leaf_entries leaves id) ≡ first_on way (entries_of leaves is.front ++ (leaf_entries leaves id ++ entries_of leaves is.back))
+      by_way On none = rw none (sym (first-append (leaf_entries leaves id) (entries_of leaves is.back) is.entry))
+      by_way Back none = rw (none, append-nil (leaf_entries leaves id)) (sym (last-append (entries_of leaves is.front) (leaf_entries leaves id) is.entry))
+
+module _ {K V : Type 0} {LEN : ℕ} (way : Way) (level : ℕ) (a : TreeArenas K V LEN) (id leaf : ℕ) (is : IsFirstOn way a.leaves (leaves_at level a.nodes id) leaf) where
+  pub leaf_in_chain : IsLinked level a id → (front back : List ℕ) × IsChain a.leaves (front ++ leaf ∷ back)
+  leaf_in_chain linked =
+      let grouped : linked.0 ++ (leaves_at level a.nodes id ++ linked.1) ≡ (linked.0 ++ is.front) ++ leaf ∷ (is.back ++ linked.1) = rw is.parts (simp append_assoc) in
+      (linked.0 ++ is.front, is.back ++ linked.1, subst (IsChain a.leaves) grouped linked.2)
+
+  pub begins_there : (begun : LeafWalk K V LEN) → begun ≡ standing a.leaves leaf None → BeginsPart way level a id begun
+  begins_there begun same = rw same (record {
+    unopened = refl;
+    leaf = is;
+    entry = first_of_all a.leaves way (leaves_at level a.nodes id) leaf is;
+  })

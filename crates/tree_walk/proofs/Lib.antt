@@ -1,0 +1,4 @@
+pub mod ChildTurns
+pub mod EndWalks
+pub mod LeastFree
+pub mod Turns

@@ -1,0 +1,27 @@
+use Rattle.std.proofs.Common.{rules, refl, arith, w8}
+use Rattle.std.proofs.Math.Facts.{Fits-of_lt}
+use Rattle.slab.specs.Slab.{ContainsKey}
+use Rattle.tree_array.proofs.Slots.{len_small}
+use Rattle.tree_node.proofs.ChildrenStand.{no_leaves, stands_unless}
+use Rattle.tree_node.proofs.Levels.{node_at}
+use Rattle.tree_node.proofs.Whole.{spare_standing}
+use Rattle.tree_walk.proofs.spare.spare_at.Goals as goal
+
+pub node-node-requires : goal.node-node-requires
+node-node-requires g c =
+    let there : ContainsKey c.args.arenas.now.nodes c.args.id = node_at g.K.Ord.cmp c.args.arenas.now c.args.id c.args.level c.requires.node c.requires.stands in
+    search rules
+
+pub returns-then-is_childless : goal.returns-then-is_childless
+returns-then-is_childless g c =
+    let retired = c.is_childless.ensures.0 c.if-is_childless.true in
+    rw (no_leaves g.K.Ord.cmp c.args.arenas.now c.args.id c.args.level c.requires.node c.requires.stands _ c.node-node.ensures retired.1) refl
+
+pub overflow_cast-least_free : goal.overflow_cast-least_free
+overflow_cast-least_free g c = Fits-of_lt {w = w8} (omega (arith, len_small _ c.slots_left.ensures.len))
+
+pub returns : goal.returns
+returns g c =
+    let stands = stands_unless g.K.Ord.cmp c.args.arenas.now c.args.id c.args.level c.requires.node c.requires.stands _ c.node-node.ensures (λ retired. let wrong = c.if-is_childless.ensures.1 retired in cc) in
+    let whole = spare_standing g.K.Ord.cmp c.args.arenas.now c.args.id c.args.level stands in
+    cc

@@ -1,0 +1,83 @@
+//! The entries under the number of a node, as `Debug` writes them.
+ghost use Rattle.std.specs.Prelude.{◌<◌, Some};
+ghost use Rattle.std.specs.List.{AllByRecursion};
+ghost use Rattle.slab.specs.Slab.{ContainsKey};
+ghost use Rattle.tree_node.specs.Tree.{StandsOrRetired, in_turn};
+
+use std::fmt;
+use tree_array::array::{ArrayIter, ArrayOf};
+use tree_leaf::arena::{LeafId, NodeId};
+use tree_node::node::{ArenasOf, NodeOf};
+
+/// Writes the pairs under a number of this level, in the order of their keys, as the list `[(1, 10), (3, 4)]`:
+/// `[]` for none. An `Err` is the writer's. No comparisons, and no memory but the writer's; it reads every node
+/// and every leaf under the number.
+///
+/// Caller's condition, here and below: a well-formed part of a tree stands there, or a retired node.
+pub fn list_at<K: Ord + Drop + fmt::Debug, V: Drop + fmt::Debug, W: fmt::Write, const LEN: usize>(
+    arenas: &ArenasOf<K, V, LEN>,
+    level: usize,
+    id: NodeId,
+    f: &mut fmt::Formatter<W>,
+) -> fmt::Result
+    requires node { 0 < level }
+    requires stands { StandsOrRetired K.cmp level arenas.now id }
+{
+    let mut list = f.debug_list();
+    list_pairs(arenas, level, id, &mut list);
+    list.finish()
+}
+
+/// Adds the pairs under a number of this level to a list.
+fn list_pairs<K: Ord + Drop + fmt::Debug, V: Drop + fmt::Debug, W: fmt::Write, const LEN: usize>(
+    arenas: &ArenasOf<K, V, LEN>,
+    level: usize,
+    id: NodeId,
+    list: &mut fmt::DebugList<W>,
+)
+    requires node { 0 < level }
+    requires stands { StandsOrRetired K.cmp level arenas.now id }
+{
+    match arenas.node(id) {
+        NodeOf::Leaf(node) => {
+            let Some(last) = node.unbounded_child else {
+                return;
+            };
+            list_leaves(arenas, &node.children, last, list);
+        }
+        NodeOf::Internal(node) => {
+            let Some(last) = node.unbounded_child else {
+                return;
+            };
+            for slot in ArrayIter::new(&node.children) {
+                list_pairs(arenas, level - 1, *node.children.val(slot), list);
+            }
+            list_pairs(arenas, level - 1, last, list);
+        }
+    }
+}
+
+/// Adds the pairs of these keyed leaves and of the last.
+fn list_leaves<K: Ord + Drop + fmt::Debug, V: Drop + fmt::Debug, W: fmt::Write, const LEN: usize>(
+    arenas: &ArenasOf<K, V, LEN>,
+    keyed: &ArrayOf<K, LeafId, LEN>,
+    last: LeafId,
+    list: &mut fmt::DebugList<W>,
+)
+    requires { AllByRecursion (ContainsKey arenas.now.leaves) (in_turn keyed.now.entries (Some last)) }
+{
+    for slot in ArrayIter::new(keyed) {
+        list_array(arenas.leaf(*keyed.val(slot)).array(), list);
+    }
+    list_array(arenas.leaf(last).array(), list);
+}
+
+/// Adds the pairs of an array.
+fn list_array<K: Ord + Drop + fmt::Debug, V: Drop + fmt::Debug, W: fmt::Write, const LEN: usize>(
+    array: &ArrayOf<K, V, LEN>,
+    list: &mut fmt::DebugList<W>,
+) {
+    for slot in ArrayIter::new(array) {
+        list.entry(&(array.key(slot), array.val(slot)));
+    }
+}

@@ -1,8 +1,0 @@
-use Rattle.std.proofs.Common.{inr, refl, sym, ap, ◌∙◌}
-use Rattle.std.specs.Option.{option_map}
-use Rattle.treetool.proofs.Spellings.{long_no_request}
-use Rattle.treetool.proofs.answers.answer_to.Goals as goal
-
--- a line that is too long is no request
-pub returns-in_default : goal.returns-in_default
-returns-in_default c = λ begun kept. inr (long_no_request begun (sym kept ∙ sym c.text.ensures ∙ ap (option_map (λ text. text.now)) c.in_default.is), refl, refl)

@@ -1,8 +1,0 @@
-use Rattle.std.proofs.Common.{◌≡◌}
-use Rattle.treetool.specs.Lines.{Fits, arguments_of, behind_spaces}
-use Rattle.treetool.proofs.Names.{only_insert}
-use Rattle.treetool.proofs.requests.insert_of.Goals as goal
-
--- the arguments are no two numbers
-pub returns-in-None : goal.returns-in-None
-returns-in-None c = λ request fits e. only_insert (λ r. Fits r → c.args.arguments.now ≡ behind_spaces (arguments_of r) → ⊥) (λ key value fits e. c.in-None.ensures (key, value) fits e) request fits.1 fits.0 e

@@ -1,8 +1,0 @@
-use Rattle.std.proofs.Common.{◌≡◌}
-use Rattle.treetool.specs.Lines.{Fits, arguments_of, behind_spaces}
-use Rattle.treetool.proofs.Names.{only_remove}
-use Rattle.treetool.proofs.requests.remove_of.Goals as goal
-
--- the argument is no number
-pub returns-in-None : goal.returns-in-None
-returns-in-None c = λ request fits e. only_remove (λ r. Fits r → c.args.arguments.now ≡ behind_spaces (arguments_of r) → ⊥) (λ key fits e. c.in-None.ensures key fits e) request fits.1 fits.0 e
