@@ -12,6 +12,8 @@ mod index;
 #[cfg(test)]
 mod keys;
 #[cfg(test)]
+mod lines;
+#[cfg(test)]
 mod orders;
 #[cfg(test)]
 mod plain;
