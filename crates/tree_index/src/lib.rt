@@ -7,8 +7,6 @@ mod index;
 pub mod laws;
 mod seek;
 mod state;
-#[cfg(test)]
-mod tests;
 mod tree;
 
 pub use commands::run;

@@ -7,8 +7,6 @@ mod commands;
 mod keys;
 pub mod laws;
 mod plain;
-#[cfg(test)]
-mod tests;
 
 pub use bounds::{is_above, is_below, range_contains};
 pub use commands::{Command, InsertError, Record, Reply};

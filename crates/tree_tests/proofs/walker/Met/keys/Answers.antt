@@ -1,7 +1,7 @@
 use Rattle.std.proofs.Common.{rules, IsSome}
 use Rattle.tree_array.specs.Arrivals.{arrival}
 use Rattle.tree_walk.proofs.ChildTurns.{begins_over, slot_reachable, child_turn}
-use Rattle.tree_index.proofs.tests.walker.Met.keys.Goals as goal
+use Rattle.tree_tests.proofs.walker.Met.keys.Goals as goal
 
 pub loop-slot-init : goal.loop-slot-init
 loop-slot-init g c = (begins_over c.args.array.now _ _ _ c.into_iter-slot-iterator.ensures.into_iter_gives c.new-slot-items.ensures.slots c.new-slot-items.ensures.over.slots).0

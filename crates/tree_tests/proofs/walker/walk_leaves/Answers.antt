@@ -3,7 +3,7 @@ use Rattle.slab.specs.Slab.{ContainsKey}
 use Rattle.tree_array.specs.Arrivals.{arrival}
 use Rattle.tree_walk.proofs.ChildTurns.{begins_over, slot_reachable, child_turn, holds_in_turn, holds_at_last}
 use Rattle.tree_node.proofs.Sizes.{fits}
-use Rattle.tree_index.proofs.tests.walker.walk_leaves.Goals as goal
+use Rattle.tree_tests.proofs.walker.walk_leaves.Goals as goal
 
 pub loop-slot-init : goal.loop-slot-init
 loop-slot-init g c = (begins_over c.args.keyed.now _ _ _ c.into_iter-slot-iterator.ensures.into_iter_gives c.new-slot-items.ensures.slots c.new-slot-items.ensures.over.slots).0

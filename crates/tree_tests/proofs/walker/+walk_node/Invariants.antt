@@ -1,5 +1,5 @@
 use Rattle.tree_walk.proofs.ChildTurns.{IsOverKeyed}
-use Rattle.tree_index.proofs.tests.walker.+walk_node.Given as goal
+use Rattle.tree_tests.proofs.walker.+walk_node.Given as goal
 
 abbrev pub decreases-walk_node : goal.decreases-walk_node
 decreases-walk_node g l = l.level

@@ -1,9 +1,0 @@
-use Rattle.std.proofs.Common.{nat_cmp}
-use Rattle.tree_index.proofs.Indexed.{walks_from}
-use Rattle.tree_index.proofs.tests.walker.walk.Goals as goal
-
-pub walk_node-requires : goal.walk_node-requires
-walk_node-requires g c =
-    let is = rw c.in-Some.is at c.parts-root.ensures in
-    let walks = walks_from nat_cmp c.args.index.now c.parts-root.result.0.now c.in-Some.root is in
-    rw c.depth.ensures.depth (record { node = walks.0; stands = walks.1 })

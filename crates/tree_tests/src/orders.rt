@@ -1,0 +1,86 @@
+//! Thousands of keys, put and removed in several orders: compared at the key and beside it after each call, and as a
+//! whole after each hundredth.
+use crate::compared::Compared;
+use crate::refusals::with_memory;
+use std::alloc::{AllocError, Global};
+use std::process::Abort;
+
+const MANY: u64 = 4000;
+
+/// So many calls are made between two comparisons as a whole.
+const STRETCH: u64 = 100;
+
+/// The order in which keys come.
+#[derive(Clone, Copy)]
+enum Order {
+    Up,
+    Down,
+    Inward,
+    Scattered,
+}
+
+impl Order {
+    /// The n-th key of many. 1,327 and 4,000 have no common divisor, so that each key comes once.
+    fn key(self, n: u64) -> u64 {
+        match self {
+            Order::Up => n,
+            Order::Down => MANY.saturating_sub(n),
+            Order::Inward => {
+                if n % 2 == 0 {
+                    n
+                } else {
+                    MANY.saturating_sub(n)
+                }
+            }
+            Order::Scattered => n.saturating_mul(1327) % MANY,
+        }
+    }
+}
+
+/// Compares both after the n-th call, which was about this key.
+fn compare_at(rt: &impl Abort, both: &Compared, n: u64, key: u64) {
+    for near in [key.saturating_sub(1), key, key.saturating_add(1)] {
+        both.look_up(rt, near);
+    }
+    if n % STRETCH == 0 {
+        both.compare(rt);
+    }
+}
+
+fn compare_orders(
+    rt: &impl Abort,
+    alloc: Global,
+    coming: Order,
+    going: Order,
+) -> Result<(), AllocError> {
+    let mut both = Compared::new(alloc);
+    for n in 0..MANY {
+        let key = coming.key(n);
+        both.upsert(rt, key, key)?;
+        compare_at(rt, &both, n, key);
+    }
+    both.compare(rt);
+    for n in 0..MANY {
+        let key = going.key(n);
+        let _ = both.remove(rt, key);
+        compare_at(rt, &both, n, key);
+    }
+    both.compare(rt);
+    Ok(())
+}
+
+#[test]
+fn keeps_keys_that_come_in_order(rt: HostRuntime) {
+    with_memory(&rt, || {
+        compare_orders(&rt, rt.alloc(), Order::Up, Order::Down)?;
+        compare_orders(&rt, rt.alloc(), Order::Down, Order::Down)
+    });
+}
+
+#[test]
+fn keeps_keys_that_come_in_no_order(rt: HostRuntime) {
+    with_memory(&rt, || {
+        compare_orders(&rt, rt.alloc(), Order::Inward, Order::Scattered)?;
+        compare_orders(&rt, rt.alloc(), Order::Scattered, Order::Up)
+    });
+}
