@@ -26,7 +26,7 @@ pub use walk::{ArrayIter, ArrayRevIter};
 ///
 /// A pair that is stored takes the next slot. A pair that is removed or replaced is dropped, and its
 /// slot stays spent. An array whose last pair was removed is retired and takes no more.
-/// No call takes memory.
+/// No call takes memory. Keys stand apart from values, and a word keeps the order of the keys.
 pub struct ArrayOf<K: Ord, V, const LEN: usize> {
     order: u64,
     made: u8,

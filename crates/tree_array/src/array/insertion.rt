@@ -15,7 +15,7 @@ impl<K: Ord + Drop, V: Drop, const LEN: usize> ArrayOf<K, V, LEN> {
     ///
     /// It answers `Duplicate` where `UPSERT` is false and an equal key is there, also where no slot is
     /// free. It answers `Full` where no slot is free or the array is retired, with `UPSERT` for a key that
-    /// is there too. Both hand the pair back and change nothing. At most `LEN` comparisons.
+    /// is there too. Both hand the pair back and change nothing. At most 4 comparisons (3 among 7).
     pub fn insert<const UPSERT: bool>(&mut self, key: K, val: V) -> InsertResult<K, V>
         ensures { IsInsert K.cmp LEN UPSERT self.old key val result self.new }
     {
