@@ -10,4 +10,4 @@ pub returns : goal.returns
 returns g c = if_ok (λ entries. fresh_gives c.args.arenas.now.leaves c.args.id Back c.new.result entries.items c.new.ensures) c.entries_left_back.result c.entries_left_back.ensures
 
 pub new-requires : goal.new-requires
-new-requires g c = (search rules, c.requires)
+new-requires g c = (search rules, (search rules, c.requires))
