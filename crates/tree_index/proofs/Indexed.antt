@@ -1,5 +1,5 @@
 -- The pairs of a whole tree ascend, and how many there are after a store and after a removal.
-use Rattle.std.proofs.Common.{◌≡◌, ◌⊎◌, ◌↔◌, ◌==◌, ℕ, zero, suc, ◌+◌, ◌<◌, Bool, true, false, IsTrue, List, [], ◌∷◌, length, Option, Some, None, MatchOption, is_some, Bor, Result, Ok, Err, inl, inr, refl, ap, arith}
+use Rattle.std.proofs.Common.{◌≡◌, ◌⊎◌, ◌↔◌, ◌==◌, ℕ, zero, suc, ◌+◌, ◌<◌, Bool, true, false, IsTrue, List, [], ◌∷◌, length, Option, Some, None, MatchOption, is_some, Bor, Result, Ok, Err, inl, inr, refl, sym, ap, ◌∙◌, arith}
 use Rattle.std.specs.declared.cmp.Ordering.{Ordering}
 use Rattle.std.specs.Cmp.{IsTotalOrder}
 use Rattle.std.specs.Option.{option_map}
@@ -8,7 +8,7 @@ use Rattle.std.proofs.lemmas.List.{append-nil}
 use Rattle.slab.specs.Slab.{get}
 use Rattle.tree_array.specs.declared.answers.StoreResult.{StoreResult}
 use Rattle.tree_array.specs.declared.answers.StoreResult.TheVariants.{New, Replaced, Duplicate, Full}
-use Rattle.tree_model.specs.Pairs.{IsAbsent, IsAscending, IsPresent, pair_at}
+use Rattle.tree_model.specs.Pairs.{IsAbsent, IsAscending, IsPresent, pair_at, put}
 use Rattle.tree_model.proofs.Lengths.{length-put, without_absent, without_present}
 use Rattle.tree_node.specs.Arenas.{TreeArenas}
 use Rattle.tree_node.specs.Ends.{IsLinked}
@@ -20,7 +20,10 @@ use Rattle.tree_node.proofs.Bare.{no_children}
 use Rattle.tree_index.specs.declared.tree.Tree.{Tree}
 use Rattle.tree_index.proofs.Stored.{stands_or_retired}
 use Rattle.tree_index.specs.Index.{Index, IsTreeOf, IsWritten, StoresPair, index_of}
-use Rattle.tree_index.specs.Trees.{IsWhole, Stores, Takes, pairs_of}
+use Rattle.tree_index.specs.Trees.{IsWhole, Stores, Takes, pairs_of, told}
+use Rattle.tree_index.specs.declared.tree.Stored.{Stored}
+use Rattle.tree_index.specs.declared.tree.Stored.TheVariants.{New as NewKey, Replaced as OldKey}
+use Rattle.tree_model.specs.declared.commands.InsertError.{InsertError}
 
 module _ {K V : Type 0} {LEN : ℕ} {cmp : K → K → Ordering} (o : IsTotalOrder cmp) where
   pub pairs_ascend : (tree : Tree K V LEN) → IsWhole cmp tree → IsAscending cmp (pairs_of tree)
@@ -59,13 +62,12 @@ module _ {K V : Type 0} {LEN : ℕ} (cmp : K → K → Ordering) (upsert : Bool)
   as_it_was (Err pair) so inserts = absurd (cc)
 
   -- what a store in the tree is to the index
-  pub stores_pair : (result : Result (StoreResult K V) (K × V)) → Stores cmp upsert old new key val result → StoresPair cmp upsert LEN (index_of old) (index_of new) key val result
+  pub stores_pair : (result : Result Stored (InsertError K V)) → Stores cmp upsert old new key val (told result) → StoresPair cmp upsert LEN (index_of old) (index_of new) key val result
   stores_pair result stores = record {
     pairs = stores.pairs;
-    not_full = stores.not_full;
     spent = stores.spent;
     written = λ taken. record { lowers = stores.lowers; first = λ none. stores.first none taken };
-    kept = λ so. rw (as_it_was result so stores.pairs, (stores.kept so).0, (stores.kept so).1) refl;
+    kept = λ so. rw (as_it_was (told result) so stores.pairs, (stores.kept so).0, (stores.kept so).1) refl;
   }
 
 -- a write that changed nothing met a tree with a root
@@ -91,7 +93,12 @@ pair_is (x, y) a b first second = rw (first, second) refl
 
 -- what is lent of an index is its tree
 pub is_tree_of : {K V : Type 0} {LEN : ℕ} (cmp : K → K → Ordering) (tree : Tree K V LEN) (root : Option ℕ) → option_map (λ id. (id, depth_of tree.root)) root ≡ tree.root → IsWhole cmp tree → IsTreeOf cmp (index_of tree) tree.arenas root
-is_tree_of cmp tree root same whole = record { tree = rw same whole; pairs = rw same refl; spare = rw same refl }
+is_tree_of cmp tree root same whole = record {
+  tree = rw same whole;
+  pairs = rw same refl;
+  spare = rw same refl;
+  rootless = λ none. let gone : tree.root ≡ None = sym same ∙ ap (option_map (λ id. (id, depth_of tree.root))) none in rw gone refl;
+}
 
 -- a key is present where a pair is found at it
 pub present_where_found : {K V : Type 0} (cmp : K → K → Ordering) (l : List (K × V)) (k : K) (found : Option (Bor K × Bor V)) (is : Bool) → is ≡ is_some found
@@ -104,3 +111,13 @@ pub walks_from : {K V : Type 0} {LEN : ℕ} (cmp : K → K → Ordering) (index 
     → (0 < index.depth) × StandsOrRetired cmp index.depth arenas root × IsLinked index.depth arenas root
 walks_from cmp index arenas root is =
     (is.tree.top.0, stands_or_retired cmp arenas root index.depth is.tree, ([], [], rw (append-nil (leaves_at index.depth arenas.nodes root)) is.tree.chain))
+
+-- what a store is to an insert, which replaces no pair, and to an upsert, which finds no duplicate
+module _ {K V : Type 0} (LEN : ℕ) (cmp : K → K → Ordering) (old new : Index K V) (key : K) (val : V) where
+  pub inserted : (stored : Stored) → StoresPair cmp false LEN old new key val (Ok stored) → IsAbsent cmp old.pairs key × (new.pairs ≡ put cmp old.pairs key val) × IsWritten LEN old new
+  inserted NewKey stores = (stores.pairs.0, stores.pairs.1, stores.written refl)
+  inserted OldKey stores = absurd (let no : false ≡ true = stores.pairs.0 in cc)
+
+  pub upserted : (stored : Stored) → StoresPair cmp true LEN old new key val (Ok stored) → (new.pairs ≡ put cmp old.pairs key val) × IsWritten LEN old new
+  upserted NewKey stores = (stores.pairs.1, stores.written refl)
+  upserted OldKey stores = (stores.pairs.2, stores.written refl)

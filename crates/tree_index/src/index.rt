@@ -8,11 +8,11 @@ ghost use Rattle.tree_model.specs.Pairs.{IsAbsent, IsAscending, IsPresent, pair_
 ghost use Rattle.tree_model.specs.Edits.{Inserts, RemovesIf, Upserts};
 
 use crate::seek::{Seeks, pair_of};
-use crate::tree::Tree;
+use crate::tree::{Stored, Tree};
 use std::alloc::Global;
 use std::fmt;
 use std::marker::Model;
-use tree_array::array::{IndexKey, Judge, StoreResult};
+use tree_array::array::{IndexKey, Judge};
 use tree_leaf::arena::NodeId;
 use tree_model::InsertError;
 use tree_node::listing::list_at;
@@ -72,13 +72,8 @@ impl<K: IndexKey, V: Drop, const LEN: usize> TreeIndexOf<K, V, LEN> {
         ensures spare { SpendsInsert LEN self.old self.new result }
     {
         match self.store::<false>(key, value) {
-            Err((key, value)) => Err(InsertError::OutOfMemory(key, value)),
-            Ok(answer) => match answer {
-                StoreResult::New => Ok(()),
-                StoreResult::Duplicate(key, value) => Err(InsertError::Duplicate(key, value)),
-                StoreResult::Replaced => unreachable!(),
-                StoreResult::Full(_, _) => unreachable!(),
-            },
+            Ok(_) => Ok(()),
+            Err(error) => Err(error),
         }
     }
 
@@ -91,13 +86,10 @@ impl<K: IndexKey, V: Drop, const LEN: usize> TreeIndexOf<K, V, LEN> {
         ensures spare { SpendsUpsert LEN self.old self.new result }
     {
         match self.store::<true>(key, value) {
-            Err(pair) => Err(pair),
-            Ok(answer) => match answer {
-                StoreResult::New => Ok(()),
-                StoreResult::Replaced => Ok(()),
-                StoreResult::Duplicate(_, _) => unreachable!(),
-                StoreResult::Full(_, _) => unreachable!(),
-            },
+            Ok(_) => Ok(()),
+            Err(InsertError::Duplicate(key, value) | InsertError::OutOfMemory(key, value)) => Err((
+                key, value,
+            )),
         }
     }
 
@@ -216,23 +208,19 @@ impl<K: IndexKey, V: Drop, const LEN: usize> TreeIndexOf<K, V, LEN> {
         }
     }
 
-    /// Stores a pair, in place of one with an equal key if `UPSERT` says so. Never `Full`.
-    fn store<const UPSERT: bool>(&mut self, key: K, value: V) -> Result<StoreResult<K, V>, (K, V)>
+    /// Stores a pair, in place of one with an equal key if `UPSERT` says so.
+    fn store<const UPSERT: bool>(&mut self, key: K, value: V) -> Result<Stored, InsertError<K, V>>
         ensures { StoresPair K.cmp UPSERT LEN self.old self.new key value result }
     {
         match self.tree.store::<UPSERT>(key, value) {
-            Err(pair) => Err(pair),
-            Ok(answer) => match answer {
-                StoreResult::New => {
-                    // Each pair has a slot of its own, so that their number fits.
-                    prove!(self.len < self.tree.slots());
-                    self.len += 1;
-                    Ok(StoreResult::New)
-                }
-                StoreResult::Replaced => Ok(StoreResult::Replaced),
-                StoreResult::Duplicate(key, value) => Ok(StoreResult::Duplicate(key, value)),
-                StoreResult::Full(key, value) => Ok(StoreResult::Full(key, value)),
-            },
+            Ok(Stored::New) => {
+                // Each pair has a slot of its own, so that their number fits.
+                prove!(self.len < self.tree.slots());
+                self.len += 1;
+                Ok(Stored::New)
+            }
+            Ok(Stored::Replaced) => Ok(Stored::Replaced),
+            Err(error) => Err(error),
         }
     }
 }

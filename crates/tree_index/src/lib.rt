@@ -6,13 +6,15 @@ mod commands;
 mod index;
 pub mod laws;
 mod seek;
-mod shared;
+mod state;
 #[cfg(test)]
 mod tests;
 mod tree;
 
 pub use commands::run;
 pub use index::{TreeIndex, TreeIndexOf};
-pub use shared::State;
-pub use tree_array::array::{IndexKey, SameClone};
-pub use tree_model::{Command, InsertError, Record, Reply};
+pub use state::State;
+pub use tree_array::array::{Judge, KeyJudge, Steps};
+pub use tree_leaf::arena::NodeId;
+pub use tree_model::{Command, IndexKey, InsertError, Record, Reply, SameClone};
+pub use tree_node::node::{Arenas, ArenasOf};

@@ -16,7 +16,7 @@ store_grown-requires g c =
 
 pub returns-in-Err : goal.returns-in-Err
 returns-in-Err g c =
-    stored_under g.K.Ord.cmp _ c.args.self.now _ c.args.key c.args.val c.in-Some.root c.in-Some.depth (Err c.in-Err.pair) c.in-Some.is c.in-Some.is c.requires.whole c.in-Err.ensures.inserts c.in-Err.ensures.retired refl
+    stored_under g.K.Ord.cmp _ c.args.self.now _ c.args.key c.args.val c.in-Some.root c.in-Some.depth (Err (c.in-Err.key, c.in-Err.val)) c.in-Some.is c.in-Some.is c.requires.whole c.in-Err.ensures.inserts c.in-Err.ensures.retired refl
 
 pub returns-in-New : goal.returns-in-New
 returns-in-New g c =

@@ -4,7 +4,7 @@ use Rattle.tree_model.specs.declared.commands.Reply.TheVariants.{Stored, Duplica
 use Rattle.tree_model.proofs.Histories.{history_grows}
 use Rattle.tree_node.proofs.Sizes.{fits}
 use Rattle.tree_index.proofs.Rooms.{room_left}
-use Rattle.tree_index.proofs.shared.State.insert.Goals as goal
+use Rattle.tree_index.proofs.state.State.insert.Goals as goal
 
 -- the history grows by the clones
 pub invariant_of-self-in-Ok-insert_sync : goal.invariant_of-self-in-Ok-insert_sync

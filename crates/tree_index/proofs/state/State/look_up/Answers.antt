@@ -5,7 +5,7 @@ use Rattle.tree_model.specs.declared.commands.Reply.TheVariants.{Found}
 use Rattle.tree_model.proofs.Histories.{history_grows, same_key_itself, seen_value}
 use Rattle.tree_node.proofs.Sizes.{fits}
 use Rattle.tree_index.proofs.Rooms.{room_left}
-use Rattle.tree_index.proofs.shared.State.look_up.Goals as goal
+use Rattle.tree_index.proofs.state.State.look_up.Goals as goal
 
 -- both clones are seen as the value at the key
 pub invariant_of-self-2 : goal.invariant_of-self-2

@@ -1,4 +1,4 @@
-use Rattle.tree_index.proofs.shared.State.apply.Goals as goal
+use Rattle.tree_index.proofs.state.State.apply.Goals as goal
 
 pub returns-in-Upsert-clause-handed_back : goal.returns-in-Upsert-clause-handed_back
 returns-in-Upsert-clause-handed_back g c = rw c.in-Upsert.is c.upsert.ensures.handed_back

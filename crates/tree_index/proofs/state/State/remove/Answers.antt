@@ -4,7 +4,7 @@ use Rattle.tree_model.specs.declared.commands.Reply.TheVariants.{Removed}
 use Rattle.tree_model.proofs.Histories.{history_grows, same_key_itself}
 use Rattle.tree_node.proofs.Sizes.{fits}
 use Rattle.tree_index.proofs.Rooms.{room_left}
-use Rattle.tree_index.proofs.shared.State.remove.Goals as goal
+use Rattle.tree_index.proofs.state.State.remove.Goals as goal
 
 -- the history grows by the key and the answer
 pub invariant_of-self-2 : goal.invariant_of-self-2

@@ -1,6 +1,6 @@
 use Rattle.std.proofs.Common.{[], inr, refl}
 use Rattle.tree_node.proofs.Sizes.{fits}
-use Rattle.tree_index.proofs.shared.State.new.Goals as goal
+use Rattle.tree_index.proofs.state.State.new.Goals as goal
 
 pub new-requires : goal.new-requires
 new-requires g c = (search (fits, c.requires-raw), inr refl)

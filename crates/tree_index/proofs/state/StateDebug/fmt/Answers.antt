@@ -1,5 +1,5 @@
 use Rattle.tree_node.proofs.Sizes.{fits}
-use Rattle.tree_index.proofs.shared.StateDebug.fmt.Goals as goal
+use Rattle.tree_index.proofs.state.StateDebug.fmt.Goals as goal
 
 pub index-requires : goal.index-requires
 index-requires g c = search fits
