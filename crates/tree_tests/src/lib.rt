@@ -2,6 +2,8 @@
 #![tactic(auto)]
 
 #[cfg(test)]
+mod by_hand;
+#[cfg(test)]
 mod chance;
 #[cfg(test)]
 mod compared;
@@ -12,11 +14,17 @@ mod index;
 #[cfg(test)]
 mod keys;
 #[cfg(test)]
+mod nodes;
+#[cfg(test)]
 mod orders;
 #[cfg(test)]
 mod plain;
 #[cfg(test)]
+mod planted;
+#[cfg(test)]
 mod random;
+#[cfg(test)]
+mod random_nodes;
 #[cfg(test)]
 mod refusals;
 #[cfg(test)]

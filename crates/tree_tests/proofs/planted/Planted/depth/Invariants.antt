@@ -1,0 +1,4 @@
+use Rattle.tree_tests.proofs.planted.Planted.depth.Given as goal
+
+abbrev pub ghost-depth : goal.ghost-depth
+ghost-depth g a = g.LEVEL

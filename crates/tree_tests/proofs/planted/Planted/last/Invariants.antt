@@ -1,0 +1,4 @@
+use Rattle.tree_tests.proofs.planted.Planted.last.Given as goal
+
+abbrev pub ghost-max : goal.ghost-max
+ghost-max g a = g.LEVEL
