@@ -14,6 +14,8 @@ mod index;
 #[cfg(test)]
 mod keys;
 #[cfg(test)]
+mod lines;
+#[cfg(test)]
 mod nodes;
 #[cfg(test)]
 mod orders;
