@@ -76,16 +76,16 @@ fn keeps_edits(rt: HostRuntime) {
 /// The larger of two keys is inserted first, both are found, and the history has a clone of each.
 fn expect_answers<K: IndexKey + SameClone>(
     rt: &impl Abort,
-    mut state: State<K, bool>,
+    state: &mut State<K, bool>,
     low: K,
     high: K,
 ) -> Result<(), AllocError> {
     let asked = low.clone()?;
-    let stored = applied(rt, &mut state, Command::Insert(high, true))?;
+    let stored = applied(rt, state, Command::Insert(high, true))?;
     assert!(rt; stored == Reply::Stored);
-    let stored = applied(rt, &mut state, Command::Insert(low, false))?;
+    let stored = applied(rt, state, Command::Insert(low, false))?;
     assert!(rt; stored == Reply::Stored);
-    let found = applied(rt, &mut state, Command::Peek(asked))?;
+    let found = applied(rt, state, Command::Peek(asked))?;
     assert!(rt; found == Reply::Found(Some(false)));
     assert_eq!(rt; state.history().len(), 3);
     Ok(())
@@ -95,14 +95,14 @@ fn expect_answers<K: IndexKey + SameClone>(
 fn takes_keys_of_each_type(rt: HostRuntime) {
     with_memory(&rt, || {
         let alloc = rt.alloc();
-        expect_answers(&rt, State::new(alloc), 1u8, u8::MAX)?;
-        expect_answers(&rt, State::new(alloc), 1u16, u16::MAX)?;
-        expect_answers(&rt, State::new(alloc), 1u32, u32::MAX)?;
-        expect_answers(&rt, State::new(alloc), 1u64, u64::MAX)?;
-        expect_answers(&rt, State::new(alloc), 1u128, u128::MAX)?;
-        expect_answers(&rt, State::new(alloc), 1usize, usize::MAX)?;
-        expect_answers(&rt, State::new(alloc), 'a', 'é')?;
-        expect_answers(&rt, State::new(alloc), false, true)
+        expect_answers(&rt, &mut State::new(alloc), 1u8, u8::MAX)?;
+        expect_answers(&rt, &mut State::new(alloc), 1u16, u16::MAX)?;
+        expect_answers(&rt, &mut State::new(alloc), 1u32, u32::MAX)?;
+        expect_answers(&rt, &mut State::new(alloc), 1u64, u64::MAX)?;
+        expect_answers(&rt, &mut State::new(alloc), 1u128, u128::MAX)?;
+        expect_answers(&rt, &mut State::new(alloc), 1usize, usize::MAX)?;
+        expect_answers(&rt, &mut State::new(alloc), 'a', 'é')?;
+        expect_answers(&rt, &mut State::new(alloc), false, true)
     });
 }
 
@@ -110,15 +110,15 @@ fn takes_keys_of_each_type(rt: HostRuntime) {
 fn takes_signed_keys_and_texts(rt: HostRuntime) {
     with_memory(&rt, || {
         let alloc = rt.alloc();
-        expect_answers(&rt, State::new(alloc), i8::MIN, 1i8)?;
-        expect_answers(&rt, State::new(alloc), i16::MIN, 1i16)?;
-        expect_answers(&rt, State::new(alloc), i32::MIN, 1i32)?;
-        expect_answers(&rt, State::new(alloc), i64::MIN, 1i64)?;
-        expect_answers(&rt, State::new(alloc), i128::MIN, 1i128)?;
-        expect_answers(&rt, State::new(alloc), isize::MIN, 1isize)?;
+        expect_answers(&rt, &mut State::new(alloc), i8::MIN, 1i8)?;
+        expect_answers(&rt, &mut State::new(alloc), i16::MIN, 1i16)?;
+        expect_answers(&rt, &mut State::new(alloc), i32::MIN, 1i32)?;
+        expect_answers(&rt, &mut State::new(alloc), i64::MIN, 1i64)?;
+        expect_answers(&rt, &mut State::new(alloc), i128::MIN, 1i128)?;
+        expect_answers(&rt, &mut State::new(alloc), isize::MIN, 1isize)?;
         let low = String::from_str(alloc, "a")?;
         let high = String::from_str(alloc, "ab")?;
-        expect_answers(&rt, State::new(alloc), low, high)
+        expect_answers(&rt, &mut State::new(alloc), low, high)
     });
 }
 

@@ -6,4 +6,4 @@ pub walk-requires : goal.walk-requires
 walk-requires g c =
     let is = rw c.in-Some.is at c.parts-root.ensures in
     let walks = walks_from nat_cmp c.args.index.now c.parts-root.result.0.now c.in-Some.root is in
-    rw c.depth.ensures.depth (record { node = walks.0; stands = walks.1; linked = walks.2 })
+    rw c.depth.ensures.depth (omega arith, (omega arith, (walks.0, (walks.1, walks.2))))

@@ -6,6 +6,7 @@ use Rattle.tree_node.specs.Tree.{StandsOrRetired, in_turn}
 use Rattle.tree_node.proofs.ChildrenStand.{over_leaves, over_nodes}
 use Rattle.tree_walk.proofs.ChildTurns.{begins_over, slot_reachable, child_turn, holds_in_turn, holds_at_last}
 use Rattle.tree_node.proofs.Levels.{node_at}
+use Rattle.tree_node.proofs.Sizes.{fits}
 use Rattle.tree_tests.proofs.walker.+walk_node.Goals as goal
 
 pub node-requires : goal.node-requires
@@ -33,7 +34,7 @@ walk_node-requires g t c κs within =
     let turn = child_turn c.children-children.result.now _ _ _ c.loop-slot.invariant c.in-Some-slot.ensures.steps _ c.val.ensures in
     let inner : 0 < c.args.level - 1 = over.inner in
     let stands : StandsOrRetired nat_cmp (c.args.level - 1) c.args.arenas.now c.val.result.now = holds_in_turn c.children-children.result.now _ _ (rw (← c.children-children.ensures) at over.stand) _ _ _ turn in
-    (search rules, (within.0, (within.1, (inner, stands))))
+    (search rules, (search rules, (within, (search (fits, c.requires-raw), (search (fits, c.requires-raw), (inner, stands))))))
 
 pub loop-slot-preserved : goal.loop-slot-preserved
 loop-slot-preserved g t c = (child_turn c.children-children.result.now _ _ _ c.loop-slot.invariant c.in-Some-slot.ensures.steps _ c.val.ensures).over
@@ -43,4 +44,4 @@ walk_node-requires-in-Internal g t c κs within =
     let over = over_nodes nat_cmp c.args.arenas.now c.args.id c.args.level c.requires.node c.requires.stands c.in-Internal.node (rw c.in-Internal.is at c.node.ensures) _ (sym c.unbounded_child-in-Internal.ensures ∙ c.in-Some-unbounded_child.is) in
     let inner : 0 < c.args.level - 1 = over.inner in
     let stands : StandsOrRetired nat_cmp (c.args.level - 1) c.args.arenas.now c.in-Some-unbounded_child.last = holds_at_last c.children-children.result.now _ _ (rw (← c.children-children.ensures) at over.stand) in
-    (search rules, (within.0, (within.1, (inner, stands))))
+    (search rules, (search rules, (within, (search (fits, c.requires-raw), (search (fits, c.requires-raw), (inner, stands))))))
