@@ -1,52 +1,30 @@
--- Entries that are taken one by one along a walk, and stored in a new array.
-use Rattle.std.proofs.Common.{◌≡◌, ℕ, zero, suc, ◌+◌, ◌^◌, ◌<◌, ◌≤◌, true, length, map, drop, take, get_or, List, [], ◌∷◌, ◌++◌, slice_get, Option, Some, None, MatchOption, refl, sym, ◌∙◌, ap, subst, inr, add-one, arith}
+-- Entries that are taken one by one, and stored in a new array.
+use Rattle.std.proofs.Common.{◌≡◌, ℕ, zero, suc, ◌+◌, ◌<◌, ◌≤◌, Bool, true, length, map, drop, take, get_or, List, [], ◌∷◌, ◌++◌, slice_get, Option, Some, None, MatchOption, refl, sym, ◌∙◌, ap, subst, add-one, arith}
 use Rattle.std.specs.List.{AllByRecursion}
 use Rattle.std.specs.declared.cmp.Ordering.{Ordering}
 use Rattle.std.specs.declared.cmp.Ordering.TheVariants.{Less, Greater}
 use Rattle.std.specs.Cmp.{IsTotalOrder}
 use Rattle.std.specs.Ordering.{is_lt, is_gt}
 use Rattle.std.proofs.lemmas.Cmp.{tied_itself}
-use Rattle.std.proofs.lemmas.List.{drop_all, drop_more, length-drop, length-map, length-take, map-append}
-use Rattle.std.proofs.lemmas.Option.{none-some, get_or_from_slice_get, slice_get_past, slice_get_within}
+use Rattle.std.proofs.lemmas.List.{drop_all, take_all, length-drop, length-map, length-take, map-append}
+use Rattle.std.proofs.lemmas.Option.{none-some, same_Some, slice_get_past}
 use Rattle.tree_model.specs.Pairs.{AllLarger, IsAscending, above, below, without}
 use Rattle.tree_model.proofs.Lists.{all_map, filter_all, filter_none}
 use Rattle.tree_model.proofs.Order.{greater_from_less}
-use Rattle.tree_array.specs.Arrivals.{Arrivals, arrival, drained, in_order, reachable, removed, sorted, spend, spent_at, stored}
-use Rattle.tree_array.specs.Layout.{picked, rank_for}
-use Rattle.tree_array.specs.Ranked.{IsBitmap, IsMarked, IsRanked, seen}
-use Rattle.tree_array.specs.Walk.{IsOver, Walk, place_ahead, standing}
-use Rattle.tree_array.specs.Word.{made_of}
-use Rattle.tree_array.proofs.Emptied.{no_rank_mark, ranked_none, spent_from_entries}
-use Rattle.tree_array.proofs.Picks.{arrival-all}
-
--- the slots ahead of a walk, with the first
-ahead_of : (slots : List ℕ) (place slot : ℕ) → slice_get slots place ≡ Some slot → drop place slots ≡ slot ∷ drop (place + 1) slots
-ahead_of slots place slot h =
-    drop_more slots place slot (slice_get_within slots place slot h) ∙ ap (λ (first : ℕ). first ∷ drop (place + 1) slots) (get_or_from_slice_get slots place slot slot h)
+use Rattle.tree_array.specs.Arrivals.{Arrivals, arrival, drained, in_order, reachable, sorted, spend, spent_at, stored}
+use Rattle.tree_order.specs.Order.{picked}
+use Rattle.tree_cells.specs.Tabled.{IsMarked, IsTabled}
+use Rattle.tree_array.specs.View.{seen}
+use Rattle.tree_array.proofs.Emptied.{spent_from_entries}
+use Rattle.tree_array.proofs.Kept.{count_is}
+use Rattle.tree_cells.proofs.Picks.{arrival-all}
 
 module _ {K V : Type 0} where
-  -- the first slot that lies ahead is that of the first entry
-  pub record IsNext (array : Arrivals K V) (slot : ℕ) (slots : List ℕ) : Type 0 where
-    pub entry : K × V
-    pub rest : List (K × V)
-    pub entries : array.entries ≡ entry ∷ rest
-    pub here : arrival array.arrivals slot ≡ Some entry
-    pub ahead : map (arrival array.arrivals) slots ≡ map Some rest
-
-  next_of : (array : Arrivals K V) (slot : ℕ) (slots : List ℕ) (entries : List (K × V)) → array.entries ≡ entries → arrival array.arrivals slot ∷ map (arrival array.arrivals) slots ≡ map Some entries → IsNext array slot slots
-  next_of array slot slots [] e h = cc
-  next_of array slot slots (entry ∷ rest) e h = record { entry = entry; rest = rest; entries = e; here = cc; ahead = cc }
-
   -- an arrival after a key is spent
   pub arrival-spend : (cmp : K → K → Ordering) (arrivals : List (Option (K × V))) (key : K) (p : ℕ) → arrival (spend cmp arrivals key) p ≡ spent_at cmp key (arrival arrivals p)
   arrival-spend cmp [] key p = refl
   arrival-spend cmp (a ∷ arrivals) key zero = refl
   arrival-spend cmp (a ∷ arrivals) key (suc p) = arrival-spend cmp arrivals key p
-
-module _ {K V : Type 0} {cmp : K → K → Ordering} {len : ℕ} {array : Arrivals K V} {walk : Walk} (over : IsOver cmp len array walk) where
-  pub next_entry : (slot : ℕ) → slice_get walk.slots (place_ahead walk.at) ≡ Some slot → IsNext array slot (drop (place_ahead walk.at + 1) walk.slots)
-  next_entry slot h =
-      next_of array slot (drop (place_ahead walk.at + 1) walk.slots) array.entries refl (ap (map (arrival array.arrivals)) (sym (ahead_of walk.slots (place_ahead walk.at) slot h)) ∙ over.slots)
 
 module _ {K V : Type 0} {cmp : K → K → Ordering} (o : IsTotalOrder cmp) where
   -- the entries without the first
@@ -55,45 +33,10 @@ module _ {K V : Type 0} {cmp : K → K → Ordering} (o : IsTotalOrder cmp) wher
       let over : AllByRecursion (λ (f : K × V). cmp f.0 e.0 ≡ Greater) rest = all_map (λ f later. greater_from_less o e.0 f.0 later) rest h.0 in
       rw (tied_itself o e.0, filter_none (λ (f : K × V). is_lt (cmp f.0 e.0)) rest (all_map (λ f larger. ap is_lt larger) rest over), filter_all (λ (f : K × V). is_gt (cmp f.0 e.0)) rest (all_map (λ f larger. ap is_gt larger) rest over)) refl
 
-  -- later arrivals stay where an earlier key is spent
-  later_stay : (arrivals : List (Option (K × V))) (key : K) (slots : List ℕ) (rest : List (K × V)) → AllLarger cmp key rest → map (arrival arrivals) slots ≡ map Some rest → map (arrival (spend cmp arrivals key)) slots ≡ map Some rest
-  later_stay arrivals key [] rest larger h = h
-  later_stay arrivals key (slot ∷ slots) [] larger h = cc
-  later_stay arrivals key (slot ∷ slots) (e ∷ rest) larger h =
-      let here : arrival arrivals slot ≡ Some e = cc in
-      let ahead : map (arrival arrivals) slots ≡ map Some rest = cc in
-      rw (arrival-spend cmp arrivals key slot, here, greater_from_less o key e.0 larger.0, later_stay arrivals key slots rest larger.1 ahead) refl
-
-  module _ {len : ℕ} {array : Arrivals K V} {walk : Walk} (over : IsOver cmp len array walk) {slot : ℕ} (there : slice_get walk.slots (place_ahead walk.at) ≡ Some slot) (key : K) (val : V) (pair : arrival array.arrivals slot ≡ Some (key, val)) {left : Arrivals K V} (left_is : left ≡ removed cmp array key) where
-    next_here : IsNext array slot (drop (place_ahead walk.at + 1) walk.slots)
-    next_here = next_entry over slot there
-
-    same : next_here.entry ≡ (key, val)
-    same = let h = next_here.here in cc
-
-    whole : array.entries ≡ (key, val) ∷ next_here.rest
-    whole = next_here.entries ∙ ap (λ (e : K × V). e ∷ next_here.rest) same
-
-    ascending : IsAscending cmp ((key, val) ∷ next_here.rest)
-    ascending = subst (IsAscending cmp) whole over.ascending
-
-    left_entries : left.entries ≡ next_here.rest
-    left_entries = ap (λ (a : Arrivals K V). a.entries) left_is ∙ ap (λ (entries : List (K × V)). without cmp entries key) whole ∙ without_first (key, val) next_here.rest ascending
-
-    -- the first entry was taken
-    pub taken : array.entries ≡ (key, val) ∷ left.entries
-    taken = whole ∙ ap (λ (rest : List (K × V)). (key, val) ∷ rest) (sym left_entries)
-
-    -- and the walk is over the rest
-    pub over_rest : IsOver cmp len left (standing walk.slots (Some (place_ahead walk.at)))
-    over_rest = record {
-      slots =
-          ap (λ (a : Arrivals K V). map (arrival a.arrivals) (drop (place_ahead walk.at + 1) walk.slots)) left_is
-          ∙ later_stay array.arrivals key (drop (place_ahead walk.at + 1) walk.slots) next_here.rest ascending.0 next_here.ahead
-          ∙ ap (map Some) (sym left_entries);
-      ascending = subst (IsAscending cmp) (sym left_entries) ascending.1;
-      few = omega (arith, over.few, ap length taken);
-    }
+  -- the first entry was taken
+  pub taken : (entries : List (K × V)) (e : K × V) → IsAscending cmp entries → slice_get entries 0 ≡ Some e → entries ≡ e ∷ without cmp entries e.0
+  taken [] e h there = absurd (none-some e there)
+  taken (f ∷ rest) e h there = subst (λ (x : K × V). f ∷ rest ≡ x ∷ without cmp (f ∷ rest) x.0) (same_Some f e there) (ap (λ (others : List (K × V)). f ∷ others) (sym (without_first f rest h)))
 
 module _ {X : Type 0} where
   -- one more element of a list
@@ -116,6 +59,12 @@ module _ {X : Type 0} where
   next_apart n xs ahead behind (Some x) is h =
       let more = one_more n xs x behind (sym is ∙ h) in
       (sym more.3, rw (add-one n) (sym more.1))
+
+  -- where no element is left behind n, more take no more
+  pub all_dealt : (n count : ℕ) (xs left : List X) → left ≡ drop n xs → left ≡ [] → n ≤ count → (take n xs ≡ take count xs) × (drop count xs ≡ [])
+  all_dealt n count xs left is none le =
+      let few : length xs ≤ n = omega (arith, ap length (sym is ∙ none), length-drop n xs) in
+      (take_all n xs few ∙ sym (take_all count xs (omega arith)), drop_all count xs (omega arith))
 
   all_there : (P : X → Type 0) (xs : List X) (p : ℕ) (x : X) → AllByRecursion P xs → get_or (map Some xs) p None ≡ Some x → P x
   all_there P [] p x all h = absurd (none-some x h)
@@ -183,19 +132,17 @@ nones_same {A} (x ∷ xs) (y ∷ ys) same = ap (λ (rest : List (Option A)). Non
 pub drained_same : {K V : Type 0} (array other : Arrivals K V) → length array.arrivals ≡ length other.arrivals → drained array ≡ drained other
 drained_same {K} {V} array other whole = ap (λ (arrivals : List (Option (K × V))). record { arrivals = arrivals; retired = true; entries = [] }) (nones_same array.arrivals other.arrivals whole)
 
-module _ {K V : Type 0} {cmp : K → K → Ordering} {len bitmap : ℕ} {pick : ℕ → Option (K × V)} (ranks : ℕ) (bits : IsBitmap len bitmap) (it : IsRanked cmp pick (rank_for len ranks) (made_of bitmap)) {array : Arrivals K V} (view_is : seen cmp pick ranks (made_of bitmap) ≡ array) (none : array.entries ≡ []) where
-  no_entries : sorted cmp (reachable (picked pick (made_of bitmap))) ≡ []
+module _ {K V : Type 0} {cmp : K → K → Ordering} (o : IsTotalOrder cmp) {len : ℕ} {cells : List (Option (K × V))} {order made count : ℕ} (it : IsTabled cmp len cells order made count) (retired : Bool) {array : Arrivals K V} (view_is : seen cmp cells made retired ≡ array) (none : array.entries ≡ []) where
+  no_entries : sorted cmp (reachable (picked (arrival cells) made)) ≡ []
   no_entries = ap (λ (a : Arrivals K V). a.entries) view_is ∙ none
 
-  spent : (p : ℕ) → pick p ≡ None
-  spent = spent_from_entries cmp pick (made_of bitmap) it.unmade no_entries
-
   -- it may be retired
-  pub drained_holds : IsBitmap len bitmap × IsRanked cmp pick (rank_for len (2 ^ 62)) (made_of bitmap) × IsMarked pick (2 ^ 62)
-  drained_holds = (bits, ranked_none cmp pick _ (made_of bitmap) spent (no_rank_mark len bits.is_len), record { mark = inr refl; no_pair = λ p _. spent p })
+  pub drained_holds : IsTabled cmp len cells order made count × IsMarked count true
+  drained_holds = (it, λ is. sym (count_is o it) ∙ ap length no_entries)
 
-  pub drained_seen : (old : Arrivals K V) → length array.arrivals ≡ length old.arrivals → seen cmp pick (2 ^ 62) (made_of bitmap) ≡ drained old
+  pub drained_seen : (old : Arrivals K V) → length array.arrivals ≡ length old.arrivals → seen cmp cells made true ≡ drained old
   drained_seen old whole =
-      let same : length (picked pick (made_of bitmap)) ≡ length old.arrivals = ap (λ (a : Arrivals K V). length a.arrivals) view_is ∙ whole in
-      let arrivals : picked pick (made_of bitmap) ≡ map (λ _. None) old.arrivals = spent_list (picked pick (made_of bitmap)) old.arrivals same (λ p. arrival-all pick (made_of bitmap) it.unmade p ∙ spent p) in
+      let same : length (picked (arrival cells) made) ≡ length old.arrivals = ap (λ (a : Arrivals K V). length a.arrivals) view_is ∙ whole in
+      let spent = spent_from_entries cmp (arrival cells) made it.unmade no_entries in
+      let arrivals : picked (arrival cells) made ≡ map (λ _. None) old.arrivals = spent_list (picked (arrival cells) made) old.arrivals same (λ p. arrival-all (arrival cells) made it.unmade p ∙ spent p) in
       rw (no_entries, arrivals) refl

@@ -1,25 +1,32 @@
 -- What every array keeps.
-use Rattle.std.proofs.Common.{◌≡◌, ℕ, suc, ◌+◌, ◌≤◌, Bool, false, true, List, [], ◌∷◌, map, length, Option, None, Some, refl, sym, ◌∙◌, ap, arith}
+use Rattle.std.proofs.Common.{◌≡◌, ◌↔◌, IsTrue, ℕ, suc, ◌+◌, ◌-◌, ◌==◌, ◌++◌, ◌<◌, ◌≤◌, Bool, false, true, List, [], ◌∷◌, map, length, slice_get, Option, None, Some, refl, sym, ◌∙◌, ap, arith}
 use Rattle.std.specs.declared.cmp.Ordering.{Ordering}
 use Rattle.std.specs.declared.cmp.Ordering.TheVariants.{Equal}
 use Rattle.std.specs.Cmp.{IsTotalOrder}
 use Rattle.std.specs.List.{AllByRecursion}
 use Rattle.std.specs.Ordering.{is_eq}
 use Rattle.std.proofs.lemmas.Bool.Decides.{nat_tests}
-use Rattle.tree_array.specs.Arrivals.{Arrivals, arrival, reachable, numbered, sorted, stored}
+use Rattle.std.proofs.lemmas.List.{length-map, nil_from_length}
+use Rattle.std.proofs.lemmas.Option.{same_Some, slice_get_within}
+use Rattle.tree_array.specs.Arrivals.{Arrivals, arrival, ascents, reachable, numbered, sorted, stored}
 use Rattle.tree_array.specs.Insertion.{HasRoom}
-use Rattle.tree_array.specs.Layout.{picked}
-use Rattle.tree_array.specs.Length.{IsLen}
-use Rattle.tree_array.specs.Ranked.{IsRanked, IsMarked, seen}
+use Rattle.tree_order.specs.Order.{picked, named, names, rank_in, rises_in}
+use Rattle.tree_cells.specs.Ranked.{IsRanked}
 use Rattle.tree_array.specs.Sound.{IsSound}
+use Rattle.tree_cells.specs.Tabled.{IsMarked, IsTabled}
+use Rattle.tree_array.specs.View.{seen}
 use Rattle.tree_model.proofs.Lengths.{length-put, without_absent, without_few}
 use Rattle.tree_model.proofs.Lists.{find_none}
 use Rattle.tree_model.proofs.LookUps.{equal_from_test}
-use Rattle.tree_array.proofs.Emptied.{entries_none}
-use Rattle.tree_array.proofs.Entries.{all-reachable}
-use Rattle.tree_array.proofs.Picks.{length-picked, arrival-all, reachable_few}
-use Rattle.tree_array.proofs.RankOrder.{one_arrival}
-use Rattle.tree_array.proofs.Sorted.{IsAscending-sorted, pair_at-sorted, all-sorted, values-sorted}
+use Rattle.tree_cells.proofs.Entries.{all-reachable}
+use Rattle.tree_order.proofs.Picked.{length-picked, slice_get-picked}
+use Rattle.tree_cells.proofs.Picks.{arrival-all, reachable_few}
+use Rattle.tree_array.proofs.Places.{entry_at, last_entry}
+use Rattle.tree_cells.proofs.RankOrder.{one_arrival}
+use Rattle.tree_cells.proofs.Rises.{counted_all}
+use Rattle.tree_order.proofs.Slots.{len_small}
+use Rattle.tree_cells.proofs.Sorted.{IsAscending-sorted, pair_at-sorted, all-sorted, values-sorted}
+use Rattle.tree_cells.proofs.Walks.{ranked_of, slots_named}
 
 -- ---- the slots of the entries
 module _ {K V : Type 0} where
@@ -83,18 +90,72 @@ module _ {K V : Type 0} {cmp : K → K → Ordering} (o : IsTotalOrder cmp) wher
     pub distinct_picked : IsDistinct (picked pick made)
     distinct_picked p q e f here there = one_arrival it p q e f (sym (arrival-all pick made it.unmade p) ∙ here) (sym (arrival-all pick made it.unmade q) ∙ there)
 
-    pub sound : (len ranks : ℕ) → IsLen len → made ≤ len → IsMarked pick ranks → IsSound cmp len (seen cmp pick ranks made)
-    sound len ranks is_len few marked = record {
-      is_len = is_len;
-      few = omega (arith, few, length-picked pick made);
-      distinct = distinct_picked;
-      sorted_arrivals = refl;
-      ascending = IsAscending-sorted o (reachable (picked pick made));
-      slots = slots-sorted cmp (picked pick made);
-      count = length-sorted (picked pick made) distinct_picked;
-      entries_few = omega (arith, length-sorted (picked pick made) distinct_picked, reachable_few (picked pick made));
-      none_retired = λ retired. entries_none cmp pick made (λ p. marked.no_pair p (grind (arith, nat_tests)));
-    }
+module _ {K V : Type 0} {cmp : K → K → Ordering} (o : IsTotalOrder cmp) {len : ℕ} {cells : List (Option (K × V))} {order made count : ℕ} (it : IsTabled cmp len cells order made count) where
+  abbrev arrivals : List (Option (K × V))
+  arrivals = picked (arrival cells) made
+
+  slots_map : map (arrival (picked (arrival cells) made)) (names order count) ≡ map Some (sorted cmp (reachable (picked (arrival cells) made)))
+  slots_map = ap (map (arrival arrivals)) (sym (slots_named o it)) ∙ slots-sorted cmp arrivals
+
+  -- there is an entry for each place
+  pub count_is : length (sorted cmp (reachable (picked (arrival cells) made))) ≡ count
+  count_is = omega (arith, ap length slots_map, length-map (names order count) (arrival arrivals), length-map (sorted cmp (reachable arrivals)) (λ (e : K × V). Some e), length-picked (named order) count)
+
+  pub sound : (retired : Bool) → IsMarked count retired → IsSound cmp len (seen cmp cells made retired)
+  sound retired marked = record {
+    is_len = it.is_len;
+    few = omega (arith, it.few_made, length-picked (arrival cells) made);
+    distinct = distinct_picked o (ranked_of o it);
+    sorted_arrivals = refl;
+    ascending = IsAscending-sorted o (reachable arrivals);
+    slots = slots-sorted cmp arrivals;
+    count = length-sorted o arrivals (distinct_picked o (ranked_of o it));
+    entries_few = omega (arith, length-sorted o arrivals (distinct_picked o (ranked_of o it)), reachable_few arrivals);
+    none_retired = λ is_retired. nil_from_length _ (count_is ∙ marked is_retired);
+  }
+
+  -- an array is empty where no place names an entry
+  pub empty_iff : IsTrue (count == 0) ↔ (sorted cmp (reachable (picked (arrival cells) made)) ≡ [])
+  empty_iff = (λ is_zero. nil_from_length _ (count_is ∙ zero_from count is_zero), λ none. to_zero count (omega (arith, count_is, ap length none)))
+    where
+      zero_from : (n : ℕ) → IsTrue (n == 0) → n ≡ 0
+      zero_from n is_zero = grind (arith, nat_tests)
+
+      to_zero : (n : ℕ) → n ≡ 0 → IsTrue (n == 0)
+      to_zero n is = rw is refl
+
+  -- the last place names the greatest entry
+  pub last_place : 0 < count → (e : K × V) × (arrival cells (named order (count - 1)) ≡ Some e) × (front : List (K × V)) × (sorted cmp (reachable (picked (arrival cells) made)) ≡ front ++ e ∷ [])
+  last_place some =
+      let last : suc (count - 1) ≡ length (names order count) = omega (arith, length-picked (named order) count) in
+      let found = rw (slice_get-picked (named order) count (count - 1) (omega arith)) at (last_entry (arrival arrivals) (names order count) (sorted cmp (reachable arrivals)) slots_map (count - 1) last) in
+      (found.0, sym (arrival-all (arrival cells) made it.unmade (named order (count - 1))) ∙ found.1, found.2, found.3)
+
+  -- the entry at a place is the pair of the slot that it names
+  pub entry_place : (i : ℕ) (e : K × V) → i < count → arrival cells (named order i) ≡ Some e → slice_get (sorted cmp (reachable (picked (arrival cells) made))) i ≡ Some e
+  entry_place i e lt some =
+      let found = rw (slice_get-picked (named order) count i lt) at (entry_at (arrival arrivals) (names order count) (sorted cmp (reachable arrivals)) slots_map i) in
+      found.2 ∙ ap (λ (f : K × V). Some f) (same_Some found.0 e (sym found.1 ∙ arrival-all (arrival cells) made it.unmade (named order i) ∙ some))
+
+  pub place_entry : (i : ℕ) (e : K × V) → slice_get (sorted cmp (reachable (picked (arrival cells) made))) i ≡ Some e → (i < count) × (arrival cells (named order i) ≡ Some e)
+  place_entry i e there =
+      let lt : i < count = omega (arith, slice_get_within (sorted cmp (reachable arrivals)) i e there, count_is) in
+      let s = it.in_order.stands i lt in
+      (lt, s.1 ∙ ap (λ (f : K × V). Some f) (same_Some s.0 e (sym (entry_place i s.0 lt s.1) ∙ there)))
+
+  -- the rises of ranks are the ascents of keys
+  pub rises_seen : (retired : Bool) {array : Arrivals K V} → seen cmp cells made retired ≡ array → (rises_in (rank_in (named order) count) made ≡ ascents cmp (reachable array.arrivals)) × (rises_in (rank_in (named order) count) made ≤ count)
+  rises_seen retired view_is =
+      let counted = counted_all (ranked_of o it) (omega (arith, it.few_made, len_small len it.is_len)) made in
+      (counted.risen ∙ ap (λ (a : Arrivals K V). ascents cmp (reachable a.arrivals)) view_is, omega (arith, counted.fewer, length-sorted o arrivals (distinct_picked o (ranked_of o it)), count_is))
+
+  -- so contracts see them
+  module _ (retired : Bool) {array : Arrivals K V} (view_is : seen cmp cells made retired ≡ array) where
+    pub count_seen : length array.entries ≡ count
+    count_seen = ap (λ (a : Arrivals K V). length a.entries) (sym view_is) ∙ count_is
+
+    pub entry_seen : (i : ℕ) (e : K × V) → i < count → arrival cells (named order i) ≡ Some e → slice_get array.entries i ≡ Some e
+    entry_seen i e lt some = ap (λ (a : Arrivals K V). slice_get a.entries i) (sym view_is) ∙ entry_place i e lt some
 
 -- what was stored fits
 pub stored_few : {K V : Type 0} (cmp : K → K → Ordering) (len : ℕ) (array : Arrivals K V) (key : K) (val : V) (new : Arrivals K V) → new ≡ stored cmp array key val → HasRoom len array

@@ -1,25 +1,10 @@
-pub mod Appended
-pub mod Bitmap
 pub mod Dealt
-pub mod Emptied
-pub mod Entries
-pub mod Found
-pub mod Joined
-pub mod Kept
-pub mod LeastFrom
-pub mod Orders
-pub mod Picks
-pub mod Places
-pub mod Ranges
-pub mod RankOrder
-pub mod Removed
-pub mod Rises
-pub mod Searching
-pub mod Seen
-pub mod Slots
-pub mod Sorted
-pub mod Stored
-pub mod Taken
-pub mod Valued
-pub mod Walks
-pub mod Word
+mod Emptied
+mod Kept
+mod Places
+mod Ranges
+mod Removed
+mod Seen
+mod Stored
+mod Taken
+mod Valued

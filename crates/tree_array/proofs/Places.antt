@@ -1,13 +1,5 @@
 -- The slot at a place of a walk is that of the entry at this place.
 use Rattle.std.proofs.Common.{◌≡◌, ℕ, zero, suc, List, [], ◌∷◌, ◌++◌, map, length, slice_get, Option, Some, None, MatchOption, refl, ap, ◌∙◌}
-use Rattle.std.specs.declared.cmp.Ordering.{Ordering}
-use Rattle.tree_array.specs.Arrivals.{Arrivals, arrival}
-use Rattle.tree_array.specs.Walk.{IsOver, Walk, standing}
-
--- a walk that has not begun is over all entries
-pub over_all : {K V : Type 0} {cmp : K → K → Ordering} {len : ℕ} {array : Arrivals K V} (walk : Walk) (slots : List ℕ) → walk ≡ standing slots None → IsOver cmp len array walk
-    → map (arrival array.arrivals) walk.slots ≡ map Some array.entries
-over_all walk slots is over = let before : walk.at ≡ None = ap (λ (w : Walk). w.at) is in rw before at over.slots
 
 module _ {X : Type 0} (pair_of : ℕ → Option X) where
   -- what stands under the slot at a place is the entry at this place, or there is neither

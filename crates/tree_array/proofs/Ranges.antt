@@ -15,8 +15,8 @@ use Rattle.tree_array.specs.Sound.{IsSound}
 use Rattle.tree_model.specs.Pairs.{cut, within, without}
 use Rattle.tree_model.proofs.LookUps.{equal_from_test}
 use Rattle.tree_array.proofs.Dealt.{arrival-spend}
-use Rattle.tree_array.proofs.Entries.{entries-cut, entries-spend}
-use Rattle.tree_array.proofs.Picks.{all_spent}
+use Rattle.tree_cells.proofs.Entries.{entries-cut, entries-spend}
+use Rattle.tree_cells.proofs.Picks.{all_spent}
 use Rattle.tree_array.proofs.Seen.{same_arrays}
 
 module _ {K V : Type 0} (cmp : K → K → Ordering) (low high : Bound K) where
@@ -37,6 +37,21 @@ module _ {K V : Type 0} (cmp : K → K → Ordering) (low high : Bound K) where
   kept_outside key val h = rw h refl
 
 module _ {K V : Type 0} {cmp : K → K → Ordering} (o : IsTotalOrder cmp) (low high : Bound K) {len : ℕ} {old : Arrivals K V} (kept : IsSound cmp len old) where
+  -- no arrival was looked at
+  pub cut_none : IsCutTo cmp low high old 0 old
+  cut_none = record {
+    whole = refl;
+    cut = λ p lt. absurd (omega arith);
+    rest = λ p le. refl;
+    entries = kept.sorted_arrivals;
+    retired = same old.retired (is_empty old.entries);
+  }
+    where
+      same : (b x : Bool) → b ≡ (b || (not x && x))
+      same true x = refl
+      same false true = refl
+      same false false = refl
+
   module _ {n : ℕ} {mid : Arrivals K V} (so_far : IsCutTo cmp low high old n mid) where
     -- the next arrival stays
     pub cut_kept : cut_at cmp low high (arrival mid.arrivals n) ≡ arrival mid.arrivals n → IsCutTo cmp low high old (n + 1) mid

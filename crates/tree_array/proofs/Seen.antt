@@ -1,37 +1,43 @@
 -- What contracts see of the fields of an array, and of an arrival there.
-use Rattle.std.proofs.Common.{◌≡◌, ◌≢◌, ℕ, ◌==◌, ◌^◌, Bool, true, false, List, Option, None, Some, IsSome, refl, sym, ◌∙◌, ap, subst, inl, inr}
+use Rattle.std.proofs.Common.{◌≡◌, ◌≢◌, ℕ, ◌<◌, Bool, true, false, List, Option, None, Some, IsSome, refl, sym, ◌∙◌, ap, subst, inl, inr}
 use Rattle.std.specs.declared.cmp.Ordering.{Ordering}
 use Rattle.std.specs.declared.cmp.Ordering.TheVariants.{Equal}
 use Rattle.std.specs.Cmp.{IsTotalOrder}
 use Rattle.std.specs.Ordering.{is_eq}
 use Rattle.std.proofs.lemmas.Bool.{cases_eq}
 use Rattle.tree_array.specs.Arrivals.{Arrivals, arrival, reachable, sorted, spent_at, spend}
-use Rattle.tree_array.specs.Layout.{IsSetAt, picked}
-use Rattle.tree_array.specs.Ranked.{IsRanked, seen}
+use Rattle.tree_cells.specs.Tabled.{IsSetAt, IsTabled}
+use Rattle.tree_order.specs.Order.{picked, named}
+use Rattle.tree_cells.specs.Ranked.{IsRanked}
+use Rattle.tree_array.specs.View.{seen}
 use Rattle.tree_model.proofs.LookUps.{equal_from_test}
-use Rattle.tree_array.proofs.Found.{one_place}
-use Rattle.tree_array.proofs.Picks.{arrival-all, picked-map}
+use Rattle.tree_cells.proofs.Found.{one_place}
+use Rattle.tree_cells.proofs.Picks.{arrival-all, picked-map, some_of}
 
 pub same_arrays : {K V : Type 0} (a b : List (Option (K × V))) (r s : Bool) (l m : List (K × V)) → a ≡ b → r ≡ s → l ≡ m → ◌≡◌ {A = Arrivals K V} (record { arrivals = a; retired = r; entries = l }) (record { arrivals = b; retired = s; entries = m })
 same_arrays a b r s l m e f g = rw (e, f, g) refl
 
 -- the view of an array is its arrivals, its mark and its entries
-module _ {K V : Type 0} (cmp : K → K → Ordering) (pick : ℕ → Option (K × V)) (ranks made : ℕ) {array : Arrivals K V} (view_is : seen cmp pick ranks made ≡ array) where
-  pub arrivals_seen : array.arrivals ≡ picked pick made
+module _ {K V : Type 0} (cmp : K → K → Ordering) (cells : List (Option (K × V))) (made : ℕ) (retired : Bool) {array : Arrivals K V} (view_is : seen cmp cells made retired ≡ array) where
+  pub arrivals_seen : array.arrivals ≡ picked (arrival cells) made
   arrivals_seen = sym (ap (λ (a : Arrivals K V). a.arrivals) view_is)
 
-  pub retired_seen : array.retired ≡ (ranks == 2 ^ 62)
+  pub retired_seen : array.retired ≡ retired
   retired_seen = sym (ap (λ (a : Arrivals K V). a.retired) view_is)
 
-  pub entries_seen : array.entries ≡ sorted cmp (reachable (picked pick made))
+  pub entries_seen : array.entries ≡ sorted cmp (reachable (picked (arrival cells) made))
   entries_seen = sym (ap (λ (a : Arrivals K V). a.entries) view_is)
 
-  module _ {rank : ℕ → ℕ} (it : IsRanked cmp pick rank made) where
-    pub arrival_seen : (p : ℕ) → arrival array.arrivals p ≡ pick p
-    arrival_seen p = ap (λ (arrivals : List (Option (K × V))). arrival arrivals p) arrivals_seen ∙ arrival-all pick made it.unmade p
+  module _ {len order count : ℕ} (it : IsTabled cmp len cells order made count) where
+    pub arrival_seen : (p : ℕ) → arrival array.arrivals p ≡ arrival cells p
+    arrival_seen p = ap (λ (arrivals : List (Option (K × V))). arrival arrivals p) arrivals_seen ∙ arrival-all (arrival cells) made it.unmade p
 
-    pub reachable_seen : (p : ℕ) → IsSome (arrival array.arrivals p) → IsSome (pick p)
+    pub reachable_seen : (p : ℕ) → IsSome (arrival array.arrivals p) → IsSome (arrival cells p)
     reachable_seen p some = subst IsSome (arrival_seen p) some
+
+    -- a reachable arrival stands at a place
+    pub listed_seen : (p : ℕ) → IsSome (arrival array.arrivals p) → (i : ℕ) × (i < count) × (named order i ≡ p)
+    listed_seen p some = let e = some_of (arrival cells p) (reachable_seen p some) in it.listed p e.0 e.1
 
 -- a key that compares as another is spent where that is
 module _ {K V : Type 0} {cmp : K → K → Ordering} (o : IsTotalOrder cmp) {pick : ℕ → Option (K × V)} {rank : ℕ → ℕ} {made : ℕ} (it : IsRanked cmp pick rank made) (key : K) where

@@ -1,47 +1,42 @@
 -- The fields of an array after a pair was stored, and what contracts see of them.
-use Rattle.std.proofs.Common.{◌≡◌, ◌≢◌, ℕ, ◌+◌, ◌==◌, ◌^◌, ◌<◌, ◌≤◌, Bool, true, false, IsTrue, List, [], ◌∷◌, ◌++◌, length, Option, None, Some, refl, sym, ◌∙◌, ap, inl, inr, arith}
+use Rattle.std.proofs.Common.{◌≡◌, ◌≢◌, ℕ, ◌+◌, ◌<◌, ◌≤◌, Bool, true, false, IsTrue, List, [], ◌∷◌, ◌++◌, length, set, Option, None, Some, refl, ◌∙◌, ap, inl, inr, arith}
 use Rattle.std.specs.declared.cmp.Ordering.{Ordering}
-use Rattle.std.specs.declared.cmp.Ordering.TheVariants.{Equal}
+use Rattle.std.specs.declared.cmp.Ordering.TheVariants.{Greater}
 use Rattle.std.specs.Cmp.{IsTotalOrder}
-use Rattle.std.specs.Ordering.{is_eq}
 use Rattle.std.proofs.lemmas.Bool.{cases_lt}
 use Rattle.std.proofs.lemmas.Bool.Decides.{nat_tests}
 use Rattle.std.proofs.lemmas.Cmp.{tied_back}
+use Rattle.std.proofs.lemmas.List.{length-set}
 use mathlib.Core.Bool.{false≢true}
-use Rattle.tree_array.specs.Arrivals.{Arrivals, free, reachable, sorted, spend, stored}
-use Rattle.tree_array.specs.Insertion.{IsFull, HasRoom}
-use Rattle.tree_array.specs.Layout.{IsSetAt, picked, rank_for}
-use Rattle.tree_array.specs.Length.{IsLen}
-use Rattle.tree_array.specs.Place.{Parts}
-use Rattle.tree_array.specs.Ranked.{IsBitmap, IsRanked, IsMarked, seen}
-use Rattle.tree_array.specs.Word.{made_of, raised_rank}
-use Rattle.tree_model.proofs.Order.{greater_from_less, less_from_greater}
-use Rattle.tree_array.proofs.Entries.{entries-store}
-use Rattle.tree_array.proofs.Joined.{added_joins, moved_joins, joined_ranked}
-use Rattle.tree_array.proofs.Picks.{cases_option, length-picked, picked-next, picked_same}
-use Rattle.tree_array.proofs.Seen.{same_arrays, arrivals_seen, retired_seen, spend_seen, spend_absent}
-use Rattle.tree_array.proofs.Slots.{len_small}
+use Rattle.tree_array.specs.Arrivals.{Arrivals, arrival, free, reachable, sorted, spend, stored}
+use Rattle.tree_array.specs.Insertion.{IsFull, HasRoom, PartsEntries}
+use Rattle.tree_order.specs.Order.{picked, clamped, named}
+use Rattle.tree_cells.specs.Place.{HasKey, IsPlace, Parts}
+use Rattle.tree_cells.specs.declared.search.Place.TheVariants.{Before}
+use Rattle.tree_cells.specs.Tabled.{IsTabled}
+use Rattle.tree_array.specs.View.{seen}
+use Rattle.tree_cells.proofs.Entries.{entries-store}
+use Rattle.tree_cells.proofs.Found.{other_key}
+use Rattle.tree_array.proofs.Kept.{count_is, entry_place, place_entry}
+use Rattle.tree_order.proofs.Picked.{length-picked, picked-next}
+use Rattle.tree_cells.proofs.Picks.{picked_same}
+use Rattle.tree_array.proofs.Seen.{same_arrays, arrivals_seen, spend_seen, spend_absent}
+use Rattle.tree_cells.proofs.Tabled.{early, set_at}
+use Rattle.tree_cells.proofs.Walks.{ranked_of}
 
--- an array that can take an arrival: its view has room, not all arrivals were made, and its word has no mark
-pub record IsReady {K V : Type 0} (len ranks made : ℕ) (array : Arrivals K V) : Type 0 where
-  pub room : HasRoom len array
-  pub early : made < len
-  pub live : ranks < 2 ^ 60
+clamped_early : (count place : ℕ) → place < count → clamped count place ≡ place
+clamped_early count place lt = grind (arith, nat_tests)
 
--- an array with room can
-pub ready_from_room : {K V : Type 0} (cmp : K → K → Ordering) (pick : ℕ → Option (K × V)) (len ranks made : ℕ) (array : Arrivals K V) → seen cmp pick ranks made ≡ array → IsMarked pick ranks → HasRoom len array → IsReady len ranks made array
-ready_from_room cmp pick len ranks made array view_is marked room = record {
-  room = room;
-  early = omega (arith, room.0, ap length (arrivals_seen cmp pick ranks made view_is), length-picked pick made);
-  live = elim marked.mark [
-    | inl small ↦ small
-    | inr mark ↦ absurd (let h : (ranks == 2 ^ 62) ≡ false = sym (retired_seen cmp pick ranks made view_is) ∙ room.1 in grind (arith, nat_tests))
-  ];
-}
+clamped_late : (count place : ℕ) → count ≤ place → clamped count place ≡ count
+clamped_late count place le = grind (arith, nat_tests)
 
--- so can one that isn't full
-pub ready_from_not_full : {K V : Type 0} (cmp : K → K → Ordering) (pick : ℕ → Option (K × V)) (len ranks made : ℕ) (array : Arrivals K V) → seen cmp pick ranks made ≡ array → IsMarked pick ranks → (IsFull len array → IsTrue false) → IsReady len ranks made array
-ready_from_not_full cmp pick len ranks made array view_is marked not_full = ready_from_room cmp pick len ranks made array view_is marked (some_free, live array.retired refl)
+-- an array with room for an arrival has a slot for it
+pub made_early : {K V : Type 0} (cmp : K → K → Ordering) (cells : List (Option (K × V))) (len made : ℕ) (retired : Bool) (array : Arrivals K V) → seen cmp cells made retired ≡ array → length array.arrivals < len → made < len
+made_early cmp cells len made retired array view_is room = omega (arith, room, ap length (arrivals_seen cmp cells made retired view_is), length-picked (arrival cells) made)
+
+-- an array that isn't full has room
+pub room_from_not_full : {K V : Type 0} (len : ℕ) (array : Arrivals K V) → (IsFull len array → IsTrue false) → HasRoom len array
+room_from_not_full len array not_full = (some_free, live array.retired refl)
   where
     some_free : 0 < free len array
     some_free = elim (cases_lt 0 (free len array)) [
@@ -53,66 +48,58 @@ ready_from_not_full cmp pick len ranks made array view_is marked not_full = read
     live true e = absurd (false≢true (not_full (inr e)))
     live false e = refl
 
-module _ {K V : Type 0} {cmp : K → K → Ordering} {pick : ℕ → Option (K × V)} {made : ℕ} (len ranks : ℕ) (is_len : IsLen len) (it : IsRanked cmp pick (rank_for len ranks) made) (room : made < len) where
-  -- each rank has room above it
-  pub rank_room : (p : ℕ) → p < len → rank_for len ranks p < 15
-  rank_room p lt = elim (cases_option (pick p)) [
-    | inl none ↦ omega (arith, it.unranked p (omega (arith, len_small len is_len)) none)
-    | inr (e, some) ↦ omega (arith, it.bound p e some, len_small len is_len)
-  ]
+module _ {K V : Type 0} {cmp : K → K → Ordering} (o : IsTotalOrder cmp) {len : ℕ} {cells : List (Option (K × V))} {order made count : ℕ} (it : IsTabled cmp len cells order made count) where
+  -- the place that parts the entries parts what the order names
+  pub parts_places : (key : K) (place : ℕ) → PartsEntries cmp (sorted cmp (reachable (picked (arrival cells) made))) key place → Parts cmp cells order count key place
+  parts_places key place parts = record {
+    within = omega (arith, parts.reach, count_is o it);
+    smaller = λ i e lt some. parts.smaller i e lt (entry_place o it i e (omega (arith, parts.reach, count_is o it)) some);
+    larger = λ i e le lt some. parts.larger i e le (entry_place o it i e lt some);
+  }
 
-  pub next_unranked : rank_for len ranks made ≡ 0
-  next_unranked = it.unranked made (omega (arith, len_small len is_len)) (it.unmade made (omega arith))
+  pub parts_entries : (key : K) (place : ℕ) → Parts cmp cells order count key place → PartsEntries cmp (sorted cmp (reachable (picked (arrival cells) made))) key place
+  parts_entries key place parts = record {
+    reach = omega (arith, parts.within, count_is o it);
+    smaller = λ i e lt there. parts.smaller i e lt (place_entry o it i e there).1;
+    larger = λ i e le there. let h = place_entry o it i e there in parts.larger i e le h.0 h.1;
+  }
 
--- no rank stays none
-raised_zero : (low : ℕ) → raised_rank (low + 1) 0 ≡ 0
-raised_zero low = grind (arith, nat_tests)
+  -- behind all entries, where all are smaller
+  pub parts_last : (key : K) → ((p : ℕ) (e : K × V) → arrival cells p ≡ Some e → cmp key e.0 ≡ Greater) → Parts cmp cells order count key count
+  parts_last key last = record {
+    within = omega arith;
+    smaller = λ i e lt some. last (named order i) e some;
+    larger = λ i e le lt. absurd (omega arith);
+  }
 
--- a word below the mark isn't that of a retired array
-live_test : (ranks : ℕ) → ranks < 2 ^ 60 → (ranks == 2 ^ 62) ≡ false
-live_test ranks small = grind (arith, nat_tests)
+  -- where a search says that a key comes
+  pub parts_before : (key : K) (place slot : ℕ) → IsPlace cmp cells order count key (Before place slot) → Parts cmp cells order count key (clamped count place)
+  parts_before key place slot (inl here) = rw (clamped_early count place here.0) here.2
+  parts_before key place slot (inr behind) = rw (clamped_late count place behind.0) behind.2
 
-module _ {K V : Type 0} {cmp : K → K → Ordering} (o : IsTotalOrder cmp) {pick : ℕ → Option (K × V)} {len ranks made : ℕ} (is_len : IsLen len) (it : IsRanked cmp pick (rank_for len ranks) made) (room : made < len) (small : ranks < 2 ^ 60) (key : K) (val : V) (pick' : ℕ → Option (K × V)) (ranks' bitmap' : ℕ) (small' : ranks' < 2 ^ 60) (bits' : IsBitmap len bitmap') (made' : made_of bitmap' ≡ made + 1) where
-  marked : IsMarked pick' ranks'
-  marked = record { mark = inl small'; no_pair = λ p mark. absurd (omega arith) }
+  module _ (room : made < len) (key : K) (val : V) (retired : Bool) where
+    stored_seen : (cells' : List (Option (K × V))) → picked (arrival cells') made ≡ spend cmp (picked (arrival cells) made) key → arrival cells' made ≡ Some (key, val) → seen cmp cells' (made + 1) retired ≡ stored cmp (seen cmp cells made retired) key val
+    stored_seen cells' front last =
+        let arrivals : picked (arrival cells') (made + 1) ≡ spend cmp (picked (arrival cells) made) key ++ Some (key, val) ∷ [] = picked-next (arrival cells') made ∙ rw (front, last) refl in
+        same_arrays _ _ _ _ _ _ arrivals refl
+        (ap (λ (q : List (Option (K × V))). sorted cmp (reachable q)) arrivals ∙ entries-store o (picked (arrival cells) made) key val)
 
-  few : made < 15
-  few = omega (arith, len_small len is_len)
+    -- a pair whose key is new
+    pub added_seen : (low : ℕ) → Parts cmp cells order count key low → seen cmp (set cells made (Some (key, val))) (made + 1) retired ≡ stored cmp (seen cmp cells made retired) key val
+    added_seen low parts =
+        let put = set_at cells made (Some (key, val)) (omega (arith, it.whole)) in
+        stored_seen (set cells made (Some (key, val)))
+        (picked_same (arrival cells) (arrival (set cells made (Some (key, val)))) made (λ p lt. let differs : p ≢ made = λ e. omega arith in put.others p differs)
+        ∙ spend_absent o (ranked_of o it) key (λ p e some. other_key o it parts p e some))
+        put.here
 
-  stored_seen : picked pick' made ≡ spend cmp (picked pick made) key → pick' made ≡ Some (key, val) → seen cmp pick' ranks' (made_of bitmap') ≡ stored cmp (seen cmp pick ranks made) key val
-  stored_seen front last =
-      let arrivals : picked pick' (made_of bitmap') ≡ spend cmp (picked pick made) key ++ Some (key, val) ∷ [] = ap (picked pick') made' ∙ picked-next pick' made ∙ rw (front, last) refl in
-      same_arrays _ _ _ _ _ _ arrivals
-      (live_test ranks' small' ∙ sym (live_test ranks small))
-      (ap (λ (q : List (Option (K × V))). sorted cmp (reachable q)) arrivals ∙ entries-store o (picked pick made) key val)
-
-  -- a pair whose key is new
-  module _ (low : ℕ) (low_bound : low ≤ made) (parts : Parts cmp pick (rank_for len ranks) made key low) (set : IsSetAt pick pick' made (Some (key, val))) (here : rank_for len ranks' made ≡ low + 1) (others : (p : ℕ) → p < len → p ≢ made → rank_for len ranks' p ≡ raised_rank (low + 1) (rank_for len ranks p)) (rest : (p : ℕ) → len ≤ p → rank_for len ranks' p ≡ rank_for len ranks p) where
-    others_all : (p : ℕ) → p < 15 → p ≢ made → rank_for len ranks' p ≡ raised_rank (low + 1) (rank_for len ranks p)
-    others_all p lt differs = elim (cases_lt p len) [
-      | inl within ↦ others p within differs
-      | inr past ↦ let none : rank_for len ranks p ≡ 0 = it.unranked p lt (it.unmade p (omega arith)) in rest p past ∙ rw none (sym (raised_zero low))
-    ]
-
-    pub added_holds : IsBitmap len bitmap' × IsRanked cmp pick' (rank_for len ranks') (made_of bitmap') × IsMarked pick' ranks'
-    added_holds = (bits', rw made' (joined_ranked o it (added_joins o it (key, val) low low_bound parts set here others_all few)), marked)
-
-    pub added_seen : seen cmp pick' ranks' (made_of bitmap') ≡ stored cmp (seen cmp pick ranks made) key val
-    added_seen = stored_seen
-        (picked_same pick pick' made (λ p lt. let differs : p ≢ made = λ e. omega arith in set.others p differs)
-        ∙ spend_absent o it key (λ p e some. elim (parts p e some) [
-          | inl smaller ↦ ap is_eq (less_from_greater o key e.0 smaller.1)
-          | inr larger ↦ ap is_eq (greater_from_less o key e.0 larger.1)
-        ]))
-        set.here
-
-  -- a pair whose key an older arrival has
-  module _ (mid : ℕ → Option (K × V)) (old : ℕ) (before : K × V) (at_old : pick old ≡ Some before) (same_key : cmp key before.0 ≡ Equal) (spent : IsSetAt pick mid old None) (set : IsSetAt mid pick' made (Some (key, val))) (here : rank_for len ranks' made ≡ rank_for len ranks old) (there : rank_for len ranks' old ≡ 0) (others : (p : ℕ) → p ≢ old → p ≢ made → rank_for len ranks' p ≡ rank_for len ranks p) where
-    pub moved_holds : IsBitmap len bitmap' × IsRanked cmp pick' (rank_for len ranks') (made_of bitmap') × IsMarked pick' ranks'
-    moved_holds = (bits', rw made' (joined_ranked o it (moved_joins o it (key, val) mid old before at_old same_key spent set here there others)), marked)
-
-    pub moved_seen : seen cmp pick' ranks' (made_of bitmap') ≡ stored cmp (seen cmp pick ranks made) key val
-    moved_seen = stored_seen
-        (picked_same mid pick' made (λ p lt. let differs : p ≢ made = λ e. omega arith in set.others p differs)
-        ∙ spend_seen o it key mid old before at_old (tied_back o key before.0 same_key) spent)
-        set.here
+    -- a pair whose key an older arrival has
+    pub moved_seen : (i : ℕ) → HasKey cmp cells order count key i → seen cmp (set (set cells (named order i) None) made (Some (key, val))) (made + 1) retired ≡ stored cmp (seen cmp cells made retired) key val
+    moved_seen i h =
+        let old = named order i in
+        let spent = set_at cells (named order i) None (omega (arith, early o it i h.early, it.few_made, it.whole)) in
+        let put = set_at (set cells (named order i) None) made (Some (key, val)) (omega (arith, it.whole, length-set cells (named order i) None)) in
+        stored_seen (set (set cells (named order i) None) made (Some (key, val)))
+        (picked_same (arrival (set cells (named order i) None)) (arrival (set (set cells (named order i) None) made (Some (key, val)))) made (λ p lt. let differs : p ≢ made = λ e. omega arith in put.others p differs)
+        ∙ spend_seen o (ranked_of o it) key (arrival (set cells (named order i) None)) (named order i) h.pair h.there (tied_back o key h.pair.0 h.same) spent)
+        put.here

@@ -8,15 +8,19 @@ use Rattle.std.proofs.lemmas.Cmp.{tied_back}
 use Rattle.std.proofs.lemmas.List.{ext_get_or, get_or-set_other, get_or-set_same, length-set}
 use Rattle.std.proofs.lemmas.Option.{none-some, same_Some}
 use Rattle.tree_array.specs.Arrivals.{arrival, reachable, sorted, with_val}
-use Rattle.tree_array.specs.Layout.{IsSetAt, picked}
-use Rattle.tree_array.specs.Ranked.{IsMarked, IsRanked, seen}
+use Rattle.tree_cells.specs.Tabled.{IsSetAt, IsTabled}
+use Rattle.tree_order.specs.Order.{picked}
+use Rattle.tree_array.specs.View.{seen}
 use Rattle.tree_model.specs.Pairs.{pair_at, put}
 use Rattle.tree_model.proofs.Ascending.{IsAscending-put}
 use Rattle.tree_model.proofs.LookUps.{equal_from_test, pair_at-put, same_look_ups}
-use Rattle.tree_array.proofs.Found.{found_at}
-use Rattle.tree_array.proofs.Picks.{arrival-all, arrival-picked, length-picked, made_early}
+use Rattle.tree_cells.proofs.Found.{found_at}
+use Rattle.tree_cells.proofs.Picks.{arrival-all, arrival-picked, made_early}
+use Rattle.tree_order.proofs.Picked.{length-picked}
 use Rattle.tree_array.proofs.Seen.{same_arrays}
-use Rattle.tree_array.proofs.Sorted.{IsAscending-sorted, pair_at-sorted}
+use Rattle.tree_cells.proofs.Sorted.{IsAscending-sorted, pair_at-sorted}
+use Rattle.tree_cells.proofs.Tabled.{set_at, valued_tabled}
+use Rattle.tree_cells.proofs.Walks.{ranked_of}
 
 -- a list whose element at one place is set
 pub picked_set : {K V : Type 0} (pick pick' : ℕ → Option (K × V)) (made slot : ℕ) (pair : K × V) → slot < made → IsSetAt pick pick' slot (Some pair) → picked pick' made ≡ set (picked pick made) slot (Some pair)
@@ -43,65 +47,36 @@ others_found {K} {V} cmp (Some e ∷ arrivals) zero key old new other there h =
 others_found {K} {V} cmp (Some e ∷ arrivals) (suc slot) key old new other there h =
     ap (λ (found : Option (K × V)). cond (is_eq (cmp e.0 other)) (Some e) found) (others_found cmp arrivals slot key old new other there h)
 
-module _ {K V : Type 0} {cmp : K → K → Ordering} {pick : ℕ → Option (K × V)} {rank : ℕ → ℕ} {made : ℕ} (it : IsRanked cmp pick rank made) (slot : ℕ) (key : K) (old new : V) (there : pick slot ≡ Some (key, old)) {pick' : ℕ → Option (K × V)} (change : IsSetAt pick pick' slot (Some (key, new))) where
-  -- each arrival has the key that it had
-  stays : (p : ℕ) (e : K × V) → pick' p ≡ Some e → (val : V) × (pick p ≡ Some (e.0, val))
-  stays p e some = elim (cases_eq p slot) [
-    | inl here ↦
-        let same : (key, new) ≡ e = same_Some (key, new) e (sym change.here ∙ ap pick' (sym here) ∙ some) in
-        (old, ap pick here ∙ there ∙ ap (λ (f : K × V). Some (f.0, old)) same)
-    | inr differs ↦ (e.1, sym (change.others p differs) ∙ some)
-  ]
+module _ {K V : Type 0} {cmp : K → K → Ordering} (o : IsTotalOrder cmp) {len : ℕ} {cells : List (Option (K × V))} {order made count : ℕ} (it : IsTabled cmp len cells order made count) (slot : ℕ) (key : K) (old new : V) (there : arrival cells slot ≡ Some (key, old)) where
+  abbrev pick : ℕ → Option (K × V)
+  pick = arrival cells
 
-  spent_stays : (p : ℕ) → pick p ≡ None → pick' p ≡ None
-  spent_stays p none = elim (cases_eq p slot) [
-    | inl here ↦ absurd (none-some (key, old) (sym none ∙ ap pick here ∙ there))
-    | inr differs ↦ change.others p differs ∙ none
-  ]
+  abbrev pick' : ℕ → Option (K × V)
+  pick' = arrival (set cells slot (Some (key, new)))
 
-  spent_was : (p : ℕ) → pick' p ≡ None → pick p ≡ None
-  spent_was p none = elim (cases_eq p slot) [
-    | inl here ↦ absurd (none-some (key, new) (sym none ∙ ap pick' here ∙ change.here))
-    | inr differs ↦ sym (change.others p differs) ∙ none
-  ]
+  early_slot : slot < made
+  early_slot = made_early pick made it.unmade slot (key, old) there
 
-  pub valued_ranked : IsRanked cmp pick' rank made
-  valued_ranked = record {
-    unmade = λ p le. spent_stays p (it.unmade p le);
-    unranked = λ p lt none. it.unranked p lt (spent_was p none);
-    ranked = λ p e some. let was = stays p e some in it.ranked p (e.0, was.0) was.1;
-    bound = λ p e some. let was = stays p e some in it.bound p (e.0, was.0) was.1;
-    order = λ p q e f here behind.
-        let was = stays p e here in
-        let was' = stays q f behind in
-        it.order p q (e.0, was.0) (f.0, was'.0) was.1 was'.1;
-    apart = λ p q e f here behind same.
-        let was = stays p e here in
-        let was' = stays q f behind in
-        it.apart p q (e.0, was.0) (f.0, was'.0) was.1 was'.1 same;
-  }
+  change : IsSetAt pick pick' slot (Some (key, new))
+  change = set_at cells slot (Some (key, new)) (omega (arith, early_slot, it.few_made, it.whole))
 
-  pub valued_marked : (ranks : ℕ) → IsMarked pick ranks → IsMarked pick' ranks
-  valued_marked ranks marked = record { mark = marked.mark; no_pair = λ p mark. spent_stays p (marked.no_pair p mark) }
+  arrivals_valued : picked pick' made ≡ set (picked pick made) slot (Some (key, new))
+  arrivals_valued = picked_set pick pick' made slot (key, new) early_slot change
 
-  module _ (o : IsTotalOrder cmp) where
-    arrivals_valued : picked pick' made ≡ set (picked pick made) slot (Some (key, new))
-    arrivals_valued = picked_set pick pick' made slot (key, new) (made_early pick made it.unmade slot (key, old) there) change
+  -- the new pair is put among the entries
+  entries_valued : sorted cmp (reachable (picked pick' made)) ≡ put cmp (sorted cmp (reachable (picked pick made))) key new
+  entries_valued =
+      same_look_ups o (sorted cmp (reachable (picked pick' made))) (put cmp (sorted cmp (reachable (picked pick made))) key new) (IsAscending-sorted o (reachable (picked pick' made))) (IsAscending-put o (sorted cmp (reachable (picked pick made))) key new (IsAscending-sorted o (reachable (picked pick made))))
+      (λ other. go other (is_eq (cmp key other)) refl ∙ sym (pair_at-put o other (sorted cmp (reachable (picked pick made))) key new))
+    where
+      go : (other : K) (b : Bool) → is_eq (cmp key other) ≡ b → pair_at cmp (sorted cmp (reachable (picked pick' made))) other ≡ (if is_eq (cmp key other) then Some (key, new) else pair_at cmp (sorted cmp (reachable (picked pick made))) other)
+      go other true h = rw h (found_at o (ranked_of o (valued_tabled o it slot key old new there)) other slot (key, new) change.here (tied_back o key other (equal_from_test _ h)))
+      go other false h =
+          rw h
+          (pair_at-sorted o other (reachable (picked pick' made))
+          ∙ ap (λ (arrivals : List (Option (K × V))). pair_at cmp (reachable arrivals) other) arrivals_valued
+          ∙ others_found cmp (picked pick made) slot key old new other (arrival-all pick made it.unmade slot ∙ there) h
+          ∙ sym (pair_at-sorted o other (reachable (picked pick made))))
 
-    -- the new pair is put among the entries
-    entries_valued : sorted cmp (reachable (picked pick' made)) ≡ put cmp (sorted cmp (reachable (picked pick made))) key new
-    entries_valued =
-        same_look_ups o (sorted cmp (reachable (picked pick' made))) (put cmp (sorted cmp (reachable (picked pick made))) key new) (IsAscending-sorted o (reachable (picked pick' made))) (IsAscending-put o (sorted cmp (reachable (picked pick made))) key new (IsAscending-sorted o (reachable (picked pick made))))
-        (λ other. go other (is_eq (cmp key other)) refl ∙ sym (pair_at-put o other (sorted cmp (reachable (picked pick made))) key new))
-      where
-        go : (other : K) (b : Bool) → is_eq (cmp key other) ≡ b → pair_at cmp (sorted cmp (reachable (picked pick' made))) other ≡ (if is_eq (cmp key other) then Some (key, new) else pair_at cmp (sorted cmp (reachable (picked pick made))) other)
-        go other true h = rw h (found_at o valued_ranked other slot (key, new) change.here (tied_back o key other (equal_from_test _ h)))
-        go other false h =
-            rw h
-            (pair_at-sorted o other (reachable (picked pick' made))
-            ∙ ap (λ (arrivals : List (Option (K × V))). pair_at cmp (reachable arrivals) other) arrivals_valued
-            ∙ others_found cmp (picked pick made) slot key old new other (arrival-all pick made it.unmade slot ∙ there) h
-            ∙ sym (pair_at-sorted o other (reachable (picked pick made))))
-
-    pub valued_seen : (ranks : ℕ) → seen cmp pick' ranks made ≡ with_val cmp (seen cmp pick ranks made) slot key new
-    valued_seen ranks = same_arrays _ _ _ _ _ _ arrivals_valued refl entries_valued
+  pub valued_seen : (retired : Bool) → seen cmp (set cells slot (Some (key, new))) made retired ≡ with_val cmp (seen cmp cells made retired) slot key new
+  valued_seen retired = same_arrays _ _ _ _ _ _ arrivals_valued refl entries_valued

@@ -1,10 +1,10 @@
 -- What contracts see of an array: its arrivals, each a reachable pair or spent, whether it is retired, and its entries.
-use Rattle.std.specs.Prelude.{ℕ, suc, ◌+◌, ◌-◌, ◌*◌, ◌==◌, Bool, true, false, ◌||◌, ◌&&◌, not, List, [], ◌∷◌, ◌++◌, Option, None, Some, map, length, find, if◌then◌else◌, ltb, leb, slice_index_or, slice_set}
+use Rattle.std.specs.Prelude.{ℕ, ◌+◌, ◌-◌, ◌*◌, ◌==◌, Bool, true, false, ◌||◌, ◌&&◌, not, List, [], ◌∷◌, ◌++◌, Option, None, Some, map, length, if◌then◌else◌, ltb, leb, slice_set}
 use Rattle.std.specs.declared.cmp.Ordering.{Ordering}
-use Rattle.std.specs.Ordering.{is_lt, is_eq, is_ge}
 use Rattle.std.specs.declared.ops.Bound.{Bound}
-use Rattle.tree_model.specs.Pairs.{put, without, within, cut}
+use Rattle.tree_model.specs.Pairs.{put, without, cut}
 use Rattle.tree_array.specs.Length.{limit}
+pub use Rattle.tree_cells.specs.Arrivals.{arrival, reachable, numbered, spent_at, spend, cut_at, sorted, least_from, ascents}
 
 -- `entries` are the reachable pairs in the order of their keys
 pub record Arrivals (K V : Type 0) : Type 0 where
@@ -20,22 +20,6 @@ boundary_of len count rises =
     else (rises, count, rises == len - 1)
 
 module _ {K V : Type 0} where
-  -- the pair of an arrival, unless it is spent or was never made
-  abbrev pub arrival : List (Option (K × V)) → ℕ → Option (K × V)
-  arrival arrivals p = slice_index_or arrivals p None
-
-  -- the pairs that are reachable, in the order of their arrival
-  abbrev pub reachable : List (Option (K × V)) → List (K × V)
-  reachable [] = []
-  reachable (None ∷ arrivals) = reachable arrivals
-  reachable (Some pair ∷ arrivals) = pair ∷ reachable arrivals
-
-  -- the keys that are reachable, each with the number of its arrival, from this number on
-  abbrev pub numbered : ℕ → List (Option (K × V)) → List (K × ℕ)
-  numbered n [] = []
-  numbered n (None ∷ arrivals) = numbered (suc n) arrivals
-  numbered n (Some pair ∷ arrivals) = (pair.0, n) ∷ numbered (suc n) arrivals
-
   abbrev pub is_empty : List (K × V) → Bool
   is_empty pairs = length pairs == 0
 
@@ -52,18 +36,10 @@ module _ {K V : Type 0} where
   drained array = record { arrivals = map (λ _. None) array.arrivals; retired = true; entries = [] }
 
   module _ (cmp : K → K → Ordering) where
-    -- an arrival of this key is spent
-    abbrev pub spent_at : K → Option (K × V) → Option (K × V)
-    spent_at key None = None
-    spent_at key (Some pair) = if is_eq (cmp pair.0 key) then None else Some pair
-
-    abbrev pub spend : List (Option (K × V)) → K → List (Option (K × V))
-    spend arrivals key = map (spent_at key) arrivals
-
     -- the array with a pair stored, by which an equal key's older arrival is spent
     abbrev pub stored : Arrivals K V → K → V → Arrivals K V
     stored array key val = record {
-      arrivals = spend array.arrivals key ++ Some (key, val) ∷ [];
+      arrivals = spend cmp array.arrivals key ++ Some (key, val) ∷ [];
       retired = array.retired;
       entries = put cmp array.entries key val;
     }
@@ -71,20 +47,15 @@ module _ {K V : Type 0} where
     -- the array with a key removed, which retires it with its last entry
     abbrev pub removed : Arrivals K V → K → Arrivals K V
     removed array key = record {
-      arrivals = spend array.arrivals key;
+      arrivals = spend cmp array.arrivals key;
       retired = is_empty (without cmp array.entries key);
       entries = without cmp array.entries key;
     }
 
-    -- an arrival within the bounds is spent
-    abbrev pub cut_at : Bound K → Bound K → Option (K × V) → Option (K × V)
-    cut_at low high None = None
-    cut_at low high (Some pair) = if within cmp low high pair.0 then None else Some pair
-
     -- the array without the keys within the bounds, which is retired if its last entry went
     abbrev pub without_range : Arrivals K V → Bound K → Bound K → Arrivals K V
     without_range array low high = record {
-      arrivals = map (cut_at low high) array.arrivals;
+      arrivals = map (cut_at cmp low high) array.arrivals;
       retired = array.retired || (not (is_empty array.entries) && is_empty (cut cmp array.entries low high));
       entries = cut cmp array.entries low high;
     }
@@ -97,23 +68,8 @@ module _ {K V : Type 0} where
       entries = put cmp array.entries key val;
     }
 
-    -- the pairs, each put at its place by key
-    abbrev pub sorted : List (K × V) → List (K × V)
-    sorted [] = []
-    sorted (pair ∷ pairs) = put cmp (sorted pairs) pair.0 pair.1
-
-    -- the entry with the least key that isn't less than this one
-    abbrev pub least_from : List (K × V) → K → Option (K × V)
-    least_from pairs key = find (λ pair. is_ge (cmp pair.0 key)) pairs
-
-    -- how many neighbours ascend
-    abbrev pub ascents : List (K × V) → ℕ
-    ascents [] = 0
-    ascents (pair ∷ []) = 0
-    ascents (pair ∷ next ∷ pairs) = (if is_lt (cmp pair.0 next.0) then 1 else 0) + ascents (next ∷ pairs)
-
     abbrev pub boundary : ℕ → Arrivals K V → ℕ × ℕ × Bool
-    boundary len array = boundary_of len (length array.entries) (ascents (reachable array.arrivals))
+    boundary len array = boundary_of len (length array.entries) (ascents cmp (reachable array.arrivals))
 
 -- the numbers of the reachable arrivals in the order of their keys
 abbrev pub slots_in_order : {K V : Type 0} → (K → K → Ordering) → Arrivals K V → List ℕ

@@ -1,11 +1,7 @@
 pub mod Arrivals
 pub mod Insertion
-pub mod Layout
 pub mod Length
-pub mod Order
-pub mod Place
-pub mod Ranked
 pub mod Removal
 pub mod Sound
+pub mod View
 pub mod Walk
-pub mod Word

@@ -2,7 +2,7 @@
 ghost use Rattle.std.specs.Prelude.{◌≡◌};
 ghost use Rattle.tree_array.specs.Insertion.{as_insert};
 
-/// How many slots an array has, and how many bits the rank of each takes.
+/// How many slots an array has, and how many bits the name of each takes in the order.
 #[derive(Clone, Copy, Debug, PartialEq, Eq)]
 pub struct Dimension {
     pub len: u8,

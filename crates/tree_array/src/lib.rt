@@ -3,8 +3,3 @@
 
 mod answers;
 pub mod array;
-mod cells;
-mod judge;
-mod order;
-mod ranks;
-mod search;

@@ -5,6 +5,7 @@ ghost use Rattle.std.specs.Prelude.{◌≡◌, ◌↔◌, ◌⊎◌, ◌+◌, �
 ghost use Rattle.std.specs.Fn.{FnOnceReturnsAt, FnOnceTakesAt};
 ghost use Rattle.std.specs.Option.{ForSome};
 ghost use Rattle.slab.specs.Slab.{get};
+ghost use Rattle.tree_array.specs.Length.{searched};
 ghost use Rattle.tree_array.specs.declared.answers.InsertResult.TheVariants.{Full as PlainlyFull};
 ghost use Rattle.tree_calls.specs.CleanUps.{NeedsCleanUp};
 ghost use Rattle.tree_insert.specs.Inserts.{InsertsPlainly};
@@ -40,8 +41,8 @@ pub trait NodeCalls<K: Ord + Drop, const LEN: usize> {
     // All of them above the leaves.
     ghost above_leaves: { (level : ℕ) → StandsAt level → 0 < level };
 
-    /// Returns the pair with the judge's key, or `None` if the key is absent. Makes at most `LEN * (level + 1)`
-    /// comparisons, and allocates nothing.
+    /// Returns the pair with the judge's key, or `None` if the key is absent. Makes at most `4 * (level + 1)`
+    /// comparisons with 15 slots and `3 * (level + 1)` with 7, and allocates nothing.
     final fn search_entry<'a, V: Drop, J: Judge<K>>(
         arenas: &'a ArenasOf<K, V, LEN>,
         id: NodeId,
@@ -53,6 +54,7 @@ pub trait NodeCalls<K: Ord + Drop, const LEN: usize> {
         ensures found { MatchOption result (IsAbsent K.cmp (walk level arenas.now id) (J.key judge.old)) (λ pair. pair_at K.cmp (walk level arenas.now id) (J.key judge.old) ≡ Some (pair.0.now, pair.1.now)) }
         ensures same_key { J.key judge.new ≡ J.key judge.old }
         ensures counted { J.count judge.new ≤ J.count judge.old + LEN * (level + 1) }
+        ensures halved { J.count judge.new ≤ J.count judge.old + searched LEN * (level + 1) }
     {
         let level = level_of(arenas, id);
         search_at(arenas, level, id, judge)
@@ -71,6 +73,7 @@ pub trait NodeCalls<K: Ord + Drop, const LEN: usize> {
         ensures found { MatchOption result (IsAbsent K.cmp (walk level arenas.now id) (J.key judge.old)) (λ val. (key : K) × (pair_at K.cmp (walk level arenas.now id) (J.key judge.old) ≡ Some (key, val.now))) }
         ensures same_key { J.key judge.new ≡ J.key judge.old }
         ensures counted { J.count judge.new ≤ J.count judge.old + LEN * (level + 1) }
+        ensures halved { J.count judge.new ≤ J.count judge.old + searched LEN * (level + 1) }
     {
         let (_, val) = Self::search_entry(arenas, id, judge)?;
         Some(val)

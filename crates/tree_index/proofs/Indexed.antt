@@ -8,7 +8,10 @@ use Rattle.std.proofs.lemmas.List.{append-nil}
 use Rattle.slab.specs.Slab.{get}
 use Rattle.tree_array.specs.declared.answers.StoreResult.{StoreResult}
 use Rattle.tree_array.specs.declared.answers.StoreResult.TheVariants.{New, Replaced, Duplicate, Full}
-use Rattle.tree_model.specs.Pairs.{IsAbsent, IsAscending, IsPresent, pair_at}
+use Rattle.tree_model.specs.declared.commands.InsertError.{InsertError}
+use Rattle.tree_model.specs.declared.commands.InsertError.TheVariants.{Duplicate as SameKey, OutOfMemory}
+use Rattle.tree_model.specs.Edits.{Inserts as InsertsPair}
+use Rattle.tree_model.specs.Pairs.{IsAbsent, IsAscending, IsPresent, pair_at, put}
 use Rattle.tree_model.proofs.Lengths.{length-put, without_absent, without_present}
 use Rattle.tree_node.specs.Arenas.{TreeArenas}
 use Rattle.tree_walk.specs.Ends.{IsLinked}
@@ -17,10 +20,12 @@ use Rattle.tree_node.specs.Tree.{Stands, StandsOrRetired, leaves_at, walk}
 use Rattle.tree_node.specs.Whole.{IsRetiredRoot, IsTop, depth_of, walk_under}
 use Rattle.tree_node.proofs.Ascents.{walk_ascends}
 use Rattle.tree_node.proofs.Bare.{no_children}
+use Rattle.tree_index.specs.declared.tree.Stored.{Stored}
+use Rattle.tree_index.specs.declared.tree.Stored.TheVariants.{New as NewKey, Replaced as OldKey}
 use Rattle.tree_index.specs.declared.tree.Tree.{Tree}
 use Rattle.tree_index.proofs.Stored.{stands_or_retired}
-use Rattle.tree_index.specs.Index.{Index, IsTreeOf, IsWritten, StoresPair, index_of}
-use Rattle.tree_index.specs.Trees.{IsWhole, Stores, Takes, pairs_of}
+use Rattle.tree_index.specs.Index.{Index, IsTreeOf, IsWritten, SpendsInsert, StoresPair, index_of}
+use Rattle.tree_index.specs.Trees.{IsWhole, Stores, Takes, pairs_of, told}
 
 module _ {K V : Type 0} {LEN : ℕ} {cmp : K → K → Ordering} (o : IsTotalOrder cmp) where
   pub pairs_ascend : (tree : Tree K V LEN) → IsWhole cmp tree → IsAscending cmp (pairs_of tree)
@@ -58,14 +63,18 @@ module _ {K V : Type 0} {LEN : ℕ} (cmp : K → K → Ordering) (upsert : Bool)
   as_it_was (Ok (Full k v)) so inserts = inserts.3
   as_it_was (Err pair) so inserts = absurd (cc)
 
+  -- so does one that comes back from the tree
+  pub pairs_kept : (error : InsertError K V) → Stores cmp upsert old new key val (told (Err error)) → pairs_of new ≡ pairs_of old
+  pairs_kept (SameKey k v) stores = stores.pairs.4
+  pairs_kept (OutOfMemory k v) stores = stores.pairs.3
+
   -- what a store in the tree is to the index
-  pub stores_pair : (result : Result (StoreResult K V) (K × V)) → Stores cmp upsert old new key val result → StoresPair cmp upsert LEN (index_of old) (index_of new) key val result
+  pub stores_pair : (result : Result Stored (InsertError K V)) → Stores cmp upsert old new key val (told result) → StoresPair cmp upsert LEN (index_of old) (index_of new) key val result
   stores_pair result stores = record {
     pairs = stores.pairs;
-    not_full = stores.not_full;
     spent = stores.spent;
     written = λ taken. record { lowers = stores.lowers; first = λ none. stores.first none taken };
-    kept = λ so. rw (as_it_was result so stores.pairs, (stores.kept so).0, (stores.kept so).1) refl;
+    kept = λ so. rw (as_it_was (told result) so stores.pairs, (stores.kept so).0, (stores.kept so).1) refl;
   }
 
 -- a write that changed nothing met a tree with a root
@@ -109,3 +118,23 @@ pub walks_from : {K V : Type 0} {LEN : ℕ} (cmp : K → K → Ordering) (index 
     → (0 < index.depth) × StandsOrRetired cmp index.depth arenas root × IsLinked index.depth arenas root
 walks_from cmp index arenas root is =
     (is.tree.top.0, stands_or_retired cmp arenas root index.depth is.tree, ([], [], rw (append-nil (leaves_at index.depth arenas.nodes root)) is.tree.chain))
+
+-- what a store is to an insert, which replaces no pair, and to an upsert, which finds no duplicate
+module _ {K V : Type 0} (LEN : ℕ) (cmp : K → K → Ordering) (old new : Index K V) (key : K) (val : V) where
+  pub inserted : (stored : Stored) → StoresPair cmp false LEN old new key val (Ok stored) → IsAbsent cmp old.pairs key × (new.pairs ≡ put cmp old.pairs key val) × IsWritten LEN old new
+  inserted NewKey stores = (stores.pairs.0, stores.pairs.1, stores.written refl)
+  inserted OldKey stores = absurd (let no : false ≡ true = stores.pairs.0 in cc)
+
+  pub not_inserted : (error : InsertError K V) → StoresPair cmp false LEN old new key val (Err error) → InsertsPair cmp {T = Unit {0}} old.pairs key val (Err error) new.pairs × SpendsInsert {T = Unit {0}} LEN old new (Err error)
+  not_inserted (SameKey k v) stores = ((stores.pairs.1, stores.pairs.2, stores.pairs.3, stores.pairs.4), (deep_if_kept LEN old new (stores.kept refl) (stores.written refl), stores.kept refl))
+  not_inserted (OutOfMemory k v) stores = ((stores.pairs.0 refl, stores.pairs.1, stores.pairs.2, stores.pairs.3), stores.spent refl)
+
+  pub upserted : (stored : Stored) → StoresPair cmp true LEN old new key val (Ok stored) → (new.pairs ≡ put cmp old.pairs key val) × IsWritten LEN old new
+  upserted NewKey stores = (stores.pairs.1, stores.written refl)
+  upserted OldKey stores = (stores.pairs.2, stores.written refl)
+
+  pub not_upserted : (k : K) (v : V) → StoresPair cmp true LEN old new key val (Err (OutOfMemory k v)) → (◌≡◌ {A = K × V} (k, v) (key, val)) × (new.pairs ≡ old.pairs) × (old.spare ≡ 0)
+  not_upserted k v stores = (pair_is (k, v) key val stores.pairs.1 stores.pairs.2, stores.pairs.3, stores.spent refl)
+
+  pub no_duplicate : (k : K) (v : V) → StoresPair cmp true LEN old new key val (Err (SameKey k v)) → ⊥
+  no_duplicate k v stores = let no : true ≡ false = stores.pairs.0 in cc

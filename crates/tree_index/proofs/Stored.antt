@@ -17,8 +17,19 @@ use Rattle.tree_node.proofs.Bare.{no_children}
 use Rattle.tree_insert.proofs.Fulls.{crowded_room}
 use Rattle.tree_node.proofs.Whole.{spare_standing, spare_unchanged, tree_after, tree_part, tree_unchanged, walk_unchanged}
 use Rattle.tree_insert.proofs.RaisedTrees.{tree_raised}
+use Rattle.tree_model.specs.declared.commands.InsertError.{InsertError}
+use Rattle.tree_model.specs.declared.commands.InsertError.TheVariants.{Duplicate as Declined, OutOfMemory}
+use Rattle.tree_index.specs.declared.tree.Stored.{Stored as TreeStored}
+use Rattle.tree_index.specs.declared.tree.Stored.TheVariants.{New as NewKey, Replaced as OldKey}
 use Rattle.tree_index.specs.declared.tree.Tree.{Tree}
-use Rattle.tree_index.specs.Trees.{IsWhole, Stores, pairs_of, spare_of}
+use Rattle.tree_index.specs.Trees.{IsWhole, Stores, pairs_of, spare_of, told}
+
+-- a tree always finds room
+pub never_full : {K V : Type 0} (result : Result TreeStored (InsertError K V)) → asks_split (told result) ≡ false
+never_full (Ok NewKey) = refl
+never_full (Ok OldKey) = refl
+never_full (Err (Declined key val)) = refl
+never_full (Err (OutOfMemory key val)) = refl
 
 module _ {K V : Type 0} (cmp : K → K → Ordering) (upsert : Bool) where
   -- a pair that is new is no duplicate
@@ -55,7 +66,6 @@ module _ {K V : Type 0} {LEN : ℕ} (cmp : K → K → Ordering) where
     stored_first id bare root only = record {
       whole = rw root only.tree;
       pairs = rw (bare_pairs old bare) (refl, rw root only.pairs);
-      not_full = refl;
       lowers = omega (arith, bare_spare old bare);
       spent = λ so. absurd (cc);
       first = λ none taken. (rw root refl, rw root only.spare);
@@ -67,7 +77,6 @@ module _ {K V : Type 0} {LEN : ℕ} (cmp : K → K → Ordering) where
     not_stored_first pair whole bare root same k v = record {
       whole = rw root (tree_unchanged old.arenas new.arenas old.root same whole);
       pairs = ((λ inserts. rw (bare_pairs old bare) refl), k, v, rw root (walk_unchanged old.arenas new.arenas old.root same));
-      not_full = refl;
       lowers = omega (arith, bare_spare old bare);
       spent = λ so. bare_spare old bare;
       first = λ none taken. absurd (cc);
@@ -90,7 +99,6 @@ module _ {K V : Type 0} {LEN : ℕ} (cmp : K → K → Ordering) where
           record {
             whole = rw now (tree_after old.arenas new.arenas id level here ins.replaces (here.top.0, inl stands_now));
             pairs = rw (was, now) ins.pairs;
-            not_full = no_split;
             lowers = omega (arith, ins.lowers, was_spare, is_spare);
             spent = λ so. was_spare ∙ ins.spent so;
             first = λ none taken. absurd (omega (arith, here.top.0, ap depth_of was, none));
@@ -158,15 +166,14 @@ module _ {K V : Type 0} {LEN : ℕ} (cmp : K → K → Ordering) where
 
   -- the root has grown, and then the pair was stored
   pub stored_grown : (upsert : Bool) (old mid new : Tree K V LEN) (key : K) (val : V) (result : Result (StoreResult K V) (K × V)) → spare_of old ≡ 0 → 0 < depth_of old.root → IsNew cmp upsert (pairs_of old) key
-      → pairs_of mid ≡ pairs_of old → Stores cmp upsert mid new key val result → Stores cmp upsert old new key val result
-  stored_grown upsert old mid new key val result spent deep absent pairs stores = record {
+      → pairs_of mid ≡ pairs_of old → asks_split result ≡ false → Stores cmp upsert mid new key val result → Stores cmp upsert old new key val result
+  stored_grown upsert old mid new key val result spent deep absent pairs no_split stores = record {
     whole = stores.whole;
     pairs = rw pairs at stores.pairs;
-    not_full = stores.not_full;
     lowers = omega (arith, spent);
     spent = λ so. spent;
     first = λ none taken. absurd (omega (arith, none, deep));
-    kept = λ so. absurd (let no : declined result ≡ false = not_declined cmp upsert result (pairs_of old) (pairs_of new) key val absent (rw pairs at stores.pairs) stores.not_full in cc);
+    kept = λ so. absurd (let no : declined result ≡ false = not_declined cmp upsert result (pairs_of old) (pairs_of new) key val absent (rw pairs at stores.pairs) no_split in cc);
   }
 
   -- the root could not grow for want of memory
@@ -175,7 +182,6 @@ module _ {K V : Type 0} {LEN : ℕ} (cmp : K → K → Ordering) where
   not_grown upsert old new key val pair whole root same spent deep absent k v = record {
     whole = rw root (tree_unchanged old.arenas new.arenas old.root same whole);
     pairs = (absent, k, v, rw root (walk_unchanged old.arenas new.arenas old.root same));
-    not_full = refl;
     lowers = omega (arith, spent);
     spent = λ so. spent;
     first = λ none taken. absurd (cc);
@@ -232,10 +238,10 @@ module _ {K V : Type 0} {LEN : ℕ} (cmp : K → K → Ordering) where
     pub raised_whole : IsTree cmp mid.arenas (Some (top, suc depth))
     raised_whole = tree_raised old.arenas mid.arenas root top depth here_before raised
 
-    takes_it : asks_split result ≡ false
+    pub takes_it : asks_split result ≡ false
     takes_it = false_from_ne_true (asks_split result) (λ asks. omega (arith, raised.roomy, crowded_room cmp (suc depth) mid.arenas top key ((inserts (tree_part mid.arenas top (suc depth) raised_whole raised.stands)).full asks)))
 
     pub stored_raised : spare_of old ≡ 0 → IsNew cmp upsert (pairs_of old) key → Stores cmp upsert old new key val result
     stored_raised spent absent =
-        stored_grown upsert old mid new key val result spent (rw was here_before.top.0) absent (rw (was, between) raised.pairs)
+        stored_grown upsert old mid new key val result spent (rw was here_before.top.0) absent (rw (was, between) raised.pairs) takes_it
         (stored_under upsert mid new key val top (suc depth) result between now (rw between raised_whole) inserts retired takes_it)

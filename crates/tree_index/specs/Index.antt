@@ -4,12 +4,12 @@ use Rattle.std.specs.Option.{option_map}
 use Rattle.std.specs.declared.cmp.Ordering.{Ordering}
 use Rattle.tree_model.specs.declared.commands.InsertError.{InsertError}
 use Rattle.tree_model.specs.declared.commands.InsertError.TheVariants.{Duplicate, OutOfMemory}
-use Rattle.tree_array.specs.declared.answers.StoreResult.{StoreResult}
 use Rattle.tree_node.specs.Arenas.{TreeArenas}
-use Rattle.tree_insert.specs.Inserts.{Inserts, asks_split, declined, refused}
+use Rattle.tree_insert.specs.Inserts.{Inserts, declined, refused}
 use Rattle.tree_node.specs.Whole.{IsTree, depth_of, spare_under, walk_under}
+use Rattle.tree_index.specs.declared.tree.Stored.{Stored}
 use Rattle.tree_index.specs.declared.tree.Tree.{Tree}
-use Rattle.tree_index.specs.Trees.{pairs_of, spare_of}
+use Rattle.tree_index.specs.Trees.{pairs_of, spare_of, told}
 
 pub record Index (K V : Type 0) : Type 0 where
   -- the pairs, strictly ascending by key
@@ -30,12 +30,11 @@ module _ {K V : Type 0} where
     pub first : old.depth ≡ 0 → (new.depth ≡ 1) × (new.spare ≡ LEN - 1)
 
   -- The pair is stored, or it comes back for a duplicate or for want of memory.
-  pub record StoresPair (cmp : K → K → Ordering) (upsert : Bool) (LEN : ℕ) (old new : Index K V) (key : K) (val : V) (result : Result (StoreResult K V) (K × V)) : Type 0 where
-    pub pairs : Inserts cmp upsert result old.pairs key val new.pairs
-    pub not_full : asks_split result ≡ false
-    pub spent : refused result ≡ true → old.spare ≡ 0
-    pub written : refused result ≡ false → IsWritten LEN old new
-    pub kept : declined result ≡ true → new ≡ old
+  pub record StoresPair (cmp : K → K → Ordering) (upsert : Bool) (LEN : ℕ) (old new : Index K V) (key : K) (val : V) (result : Result Stored (InsertError K V)) : Type 0 where
+    pub pairs : Inserts cmp upsert (told result) old.pairs key val new.pairs
+    pub spent : refused (told result) ≡ true → old.spare ≡ 0
+    pub written : refused (told result) ≡ false → IsWritten LEN old new
+    pub kept : declined (told result) ≡ true → new ≡ old
 
   -- What an insert and an upsert do to depth and spare: a pair that is stored takes at most one of the spare, a duplicate changes nothing, and a pair is refused only where none is spare.
   abbrev pub SpendsInsert : {T : Type 0} → ℕ → Index K V → Index K V → Result T (InsertError K V) → Type 0

@@ -1,11 +1,23 @@
 -- What the calls of a tree answer and leave.
-use Rattle.std.specs.Prelude.{◌≡◌, ◌⊎◌, ℕ, suc, ◌-◌, ◌≤◌, Bool, true, false, List, Result}
+use Rattle.std.specs.Prelude.{◌≡◌, ◌⊎◌, ℕ, suc, ◌-◌, ◌≤◌, Bool, true, false, List, Result, Ok, Err}
 use Rattle.std.specs.declared.cmp.Ordering.{Ordering}
 use Rattle.tree_array.specs.declared.answers.StoreResult.{StoreResult}
+use Rattle.tree_array.specs.declared.answers.StoreResult.TheVariants.{New as NewKey, Replaced as OldKey, Duplicate as SameKey}
+use Rattle.tree_model.specs.declared.commands.InsertError.{InsertError}
+use Rattle.tree_model.specs.declared.commands.InsertError.TheVariants.{Duplicate, OutOfMemory}
 use Rattle.tree_model.specs.Edits.{RemovesIf}
-use Rattle.tree_insert.specs.Inserts.{Inserts, asks_split, declined, refused}
+use Rattle.tree_insert.specs.Inserts.{Inserts, declined, refused}
 use Rattle.tree_node.specs.Whole.{IsTree, depth_of, spare_under, walk_under}
+use Rattle.tree_index.specs.declared.tree.Stored.{Stored}
+use Rattle.tree_index.specs.declared.tree.Stored.TheVariants.{New, Replaced}
 use Rattle.tree_index.specs.declared.tree.Tree.{Tree}
+
+-- the answer of a tree as a node gives it; a tree always finds room, so none is `Full`
+abbrev pub told : {K V : Type 0} → Result Stored (InsertError K V) → Result (StoreResult K V) (K × V)
+told (Ok New) = Ok NewKey
+told (Ok Replaced) = Ok OldKey
+told (Err (Duplicate key val)) = Ok (SameKey key val)
+told (Err (OutOfMemory key val)) = Err (key, val)
 
 module _ {K V : Type 0} {LEN : ℕ} where
   abbrev pub pairs_of : Tree K V LEN → List (K × V)
@@ -24,7 +36,6 @@ module _ {K V : Type 0} {LEN : ℕ} where
   pub record Stores (cmp : K → K → Ordering) (upsert : Bool) (old new : Tree K V LEN) (key : K) (val : V) (result : Result (StoreResult K V) (K × V)) : Type 0 where
     pub whole : IsWhole cmp new
     pub pairs : Inserts cmp upsert result (pairs_of old) key val (pairs_of new)
-    pub not_full : asks_split result ≡ false
     -- a write takes at most one slot of a leaf, and is refused only where one has none
     pub lowers : spare_of old ≤ suc (spare_of new)
     pub spent : refused result ≡ true → spare_of old ≡ 0

@@ -8,10 +8,10 @@ use std::alloc::AllocError;
 use tree_array::array::{IndexKey, SameClone};
 use tree_model::{Command, InsertError, Reply};
 
-/// Answers the commands in turn, a reply for each.
+/// Applies the commands in turn and returns a reply to each.
 ///
-/// The room for all replies is taken first: an `Err` changed nothing. A command for which memory
-/// is refused is replied `Refused`, leaves the pairs as they were, and the run goes on. Of the writes before the first
+/// Returns `Err` if there is no memory for the replies; nothing changed then. A command that is refused memory gets
+/// the reply `Refused` and leaves the pairs as they were, and the run goes on. Of the writes before the first
 /// removal, as many as the index had spare are not refused.
 pub fn run<K: IndexKey, V: SameClone>(
     index: &mut TreeIndex<K, V>,

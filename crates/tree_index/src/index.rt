@@ -2,17 +2,17 @@
 ghost use Rattle.std.specs.Prelude.{◌≡◌, ◌⊎◌, ◌↔◌, IsTrue, ◌+◌, ◌*◌, ◌^◌, ◌-◌, ◌≤◌, Bool, false, true, min, [], length, Some, MatchOption};
 ghost use Rattle.std.specs.Fn.{FnOnceReturnsAt, FnOnceTakesAt};
 ghost use Rattle.std.specs.Option.{ForSome, option_copied, option_map};
-ghost use Rattle.tree_array.specs.Length.{IsLen};
+ghost use Rattle.tree_array.specs.Length.{IsLen, searched};
 ghost use Rattle.tree_index.specs.Index.{IsTreeOf, KeepsSpare, SpendsInsert, SpendsUpsert, StoresPair};
 ghost use Rattle.tree_model.specs.Pairs.{IsAbsent, IsAscending, IsPresent, pair_at, without};
 ghost use Rattle.tree_model.specs.Edits.{Inserts, RemovesIf, Upserts};
 
 use crate::seek::{Seeks, pair_of};
-use crate::tree::Tree;
+use crate::tree::{Stored, Tree};
 use std::alloc::Global;
 use std::fmt;
 use std::marker::Model;
-use tree_array::array::{IndexKey, Judge, StoreResult};
+use tree_array::array::{IndexKey, Judge};
 use tree_leaf::arena::NodeId;
 use tree_model::InsertError;
 use tree_node::node::ArenasOf;
@@ -22,11 +22,13 @@ use tree_walk::spare::spare_at;
 /// An ordered index of pairs of a key and a value, with fifteen pairs a leaf. See [`TreeIndexOf`].
 pub type TreeIndex<K, V> = TreeIndexOf<K, V, 15>;
 
-/// An ordered index of pairs of a key and a value, as a B-plus tree with `LEN` pairs a leaf and up to `LEN + 1`
-/// children a node. `LEN` is 7 or 15.
+/// An ordered index of pairs of a key and a value: a B-plus tree with up to `LEN` pairs a leaf and `LEN + 1` children
+/// a node. `LEN` is 7 or 15.
 ///
-/// Contracts see the list of its pairs, strictly ascending by key; its depth, which is how many levels of nodes there are; and
-/// its spare, which is how many writes are sure to take no memory.
+/// Contracts see the list of its pairs, strictly ascending by key; its depth, which is the number of levels of nodes;
+/// and its spare, which is how many writes are sure not to allocate.
+///
+/// Costs are in terms of the depth. An array is searched with at most 4 comparisons among 15 slots, and 3 among 7.
 #[derive(Drop)]
 pub struct TreeIndexOf<K: IndexKey, V: Drop, const LEN: usize> {
     tree: Tree<K, V, LEN>,
@@ -47,7 +49,7 @@ impl<K: IndexKey, V: Drop, const LEN: usize> Model for TreeIndexOf<K, V, LEN> {
 }
 
 impl<K: IndexKey, V: Drop, const LEN: usize> TreeIndexOf<K, V, LEN> {
-    /// The empty index, of depth 0. It takes no memory yet. Caller's condition: `LEN` is 7 or 15.
+    /// Creates an empty index. Allocates nothing. The caller must choose 7 or 15 for `LEN`.
     pub fn new(alloc: Global) -> Self
         requires { IsLen LEN }
         ensures pairs { result.pairs ≡ [] }
@@ -60,49 +62,44 @@ impl<K: IndexKey, V: Drop, const LEN: usize> TreeIndexOf<K, V, LEN> {
         }
     }
 
-    /// Stores a pair whose key is absent.
+    /// Stores a pair if its key is absent.
     ///
-    /// A pair whose key is present comes back as a duplicate, and one for which memory is refused
-    /// as out of memory; either leaves the pairs as they were. A duplicate is never refused for
-    /// memory, and no pair is while the spare is above 0. At most `LEN * (depth + 1)` comparisons where
-    /// its leaf has a free slot, and no memory. Where arrays are full, the way down is gone again below each
-    /// level at which one was, and memory is taken for at most one leaf, one node a level, and a new root.
+    /// Returns `Duplicate` if the key is present, and `OutOfMemory` if the key is absent and an allocation is
+    /// refused. Both hand the pair back, and the pairs are as they were. Nothing is refused while the spare is above
+    /// 0.
+    ///
+    /// Descends once and searches one array per level and the leaf. If the leaf has a free slot, allocates nothing.
+    /// If an array on the path is full, the descent restarts at its level, and the insert allocates at most one leaf,
+    /// one node per level and a new root.
     pub fn insert_sync(&mut self, key: K, value: V) -> Result<(), InsertError<K, V>>
         ensures pairs { Inserts K.cmp self.old.pairs key value result self.new.pairs }
         ensures spare { SpendsInsert LEN self.old self.new result }
     {
         match self.store::<false>(key, value) {
-            Err((key, value)) => Err(InsertError::OutOfMemory(key, value)),
-            Ok(answer) => match answer {
-                StoreResult::New => Ok(()),
-                StoreResult::Duplicate(key, value) => Err(InsertError::Duplicate(key, value)),
-                StoreResult::Replaced => unreachable!(),
-                StoreResult::Full(_, _) => unreachable!(),
-            },
+            Ok(_) => Ok(()),
+            Err(error) => Err(error),
         }
     }
 
-    /// Stores a pair, in place of one whose key equals its own: the stored key is the new one too.
+    /// Stores a pair. A pair with an equal key is replaced, key and value.
     ///
-    /// A pair for which memory is refused comes back, and the pairs are as they were. None is refused while the
-    /// spare is above 0. The cost is that of `insert_sync`.
+    /// Returns `Err` with the pair if an allocation is refused; the pairs are then as they were. Nothing is refused
+    /// while the spare is above 0. Costs what [`insert_sync`](TreeIndexOf::insert_sync) does. A replaced pair leaves
+    /// its slot spent, so an upsert can split a leaf too.
     pub fn upsert_sync(&mut self, key: K, value: V) -> Result<(), (K, V)>
         ensures pairs { Upserts K.cmp self.old.pairs key value result self.new.pairs }
         ensures spare { SpendsUpsert LEN self.old self.new result }
     {
         match self.store::<true>(key, value) {
-            Err(pair) => Err(pair),
-            Ok(answer) => match answer {
-                StoreResult::New => Ok(()),
-                StoreResult::Replaced => Ok(()),
-                StoreResult::Duplicate(_, _) => unreachable!(),
-                StoreResult::Full(_, _) => unreachable!(),
-            },
+            Ok(_) => Ok(()),
+            Err(InsertError::OutOfMemory(key, value)) => Err((key, value)),
+            Err(InsertError::Duplicate(key, value)) => Err((key, value)),
         }
     }
 
-    /// Removes the pair at a key, and says whether there was one. At most `LEN * (depth + 1)` comparisons,
-    /// and no memory.
+    /// Removes the pair with a key. Returns whether there was one.
+    ///
+    /// Descends once and searches one array per level and the leaf. Allocates nothing.
     pub fn remove_sync(&mut self, key: &K) -> bool
         ensures answer { IsTrue result ↔ IsPresent K.cmp self.old.pairs key.now }
         ensures left { self.new.pairs ≡ without K.cmp self.old.pairs key.now }
@@ -112,10 +109,10 @@ impl<K: IndexKey, V: Drop, const LEN: usize> TreeIndexOf<K, V, LEN> {
         self.remove_if_sync(key, always)
     }
 
-    /// Removes the pair at a key where the condition says so of its value, and says whether it did.
+    /// Removes the pair with a key if the condition holds of its value. Returns whether it did.
     ///
-    /// The condition is asked once if the key is present, else never. Caller's condition: it may be
-    /// asked of the value at the key. The cost is that of `remove_sync`.
+    /// Calls the condition once if the key is present, else never. The condition must accept the value of the key.
+    /// Costs what [`remove_sync`](TreeIndexOf::remove_sync) does.
     pub fn remove_if_sync<F: FnOnce(&V) -> bool + Drop>(&mut self, key: &K, condition: F) -> bool
         requires { ForSome (pair_at K.cmp self.old.pairs key.now) (λ pair. FnOnceTakesAt F.FnOnce condition pair.1) }
         ensures pairs { RemovesIf K.cmp (FnOnceReturnsAt F.FnOnce condition) self.old.pairs key.now result self.new.pairs }
@@ -130,7 +127,10 @@ impl<K: IndexKey, V: Drop, const LEN: usize> TreeIndexOf<K, V, LEN> {
         removed
     }
 
-    /// The value at a key. At most `LEN * (depth + 1)` comparisons, and no memory.
+    /// Returns the value of a key, or `None` if the key is absent.
+    ///
+    /// Makes at most `4 * (depth + 1)` comparisons with 15 pairs a leaf, and `3 * (depth + 1)` with 7. Allocates
+    /// nothing.
     pub fn peek(&self, key: &K) -> Option<&V>
         ensures found { option_copied result ≡ option_map (λ pair. pair.1) (pair_at K.cmp self.now.pairs key.now) }
         ensures ascending { IsAscending K.cmp self.now.pairs }
@@ -141,7 +141,7 @@ impl<K: IndexKey, V: Drop, const LEN: usize> TreeIndexOf<K, V, LEN> {
         }
     }
 
-    /// The pair at a key, as it is stored. The cost is that of `peek`.
+    /// Returns the pair with a key, as it is stored. Costs what [`peek`](TreeIndexOf::peek) does.
     pub fn peek_entry(&self, key: &K) -> Option<(&K, &V)>
         ensures found { MatchOption result (IsAbsent K.cmp self.now.pairs key.now)
             (λ pair. pair_at K.cmp self.now.pairs key.now ≡ Some (pair.0.now, pair.1.now)) }
@@ -150,39 +150,41 @@ impl<K: IndexKey, V: Drop, const LEN: usize> TreeIndexOf<K, V, LEN> {
         pair_of(self, key)
     }
 
-    /// The pair with the judge's key, as it is stored. The judge is asked at most `LEN * (depth + 1)` times.
+    /// Returns the pair with the judge's key, as it is stored. Asks the judge at most `4 * (depth + 1)` times with 15
+    /// pairs a leaf, and `3 * (depth + 1)` times with 7.
     pub fn peek_entry_by<J: Judge<K>>(&self, judge: &mut J) -> Option<(&K, &V)>
         ensures found { MatchOption result (IsAbsent K.cmp self.now.pairs (J.key judge.old))
             (λ pair. pair_at K.cmp self.now.pairs (J.key judge.old) ≡ Some (pair.0.now, pair.1.now)) }
         ensures counted { J.count judge.new ≤ J.count judge.old + LEN * (self.now.depth + 1) }
+        ensures halved { J.count judge.new ≤ J.count judge.old + searched LEN * (self.now.depth + 1) }
         ensures ascending { IsAscending K.cmp self.now.pairs }
     {
         self.tree.search(judge)
     }
 
-    /// Whether a key is present. The cost is that of `peek`.
+    /// Returns whether a key is present. Costs what [`peek`](TreeIndexOf::peek) does.
     pub fn contains(&self, key: &K) -> bool
         ensures { IsTrue result ↔ IsPresent K.cmp self.now.pairs key.now }
     {
         self.peek_entry(key).is_some()
     }
 
-    /// How many pairs there are, or `usize::MAX` where there are more. It looks at no pair.
+    /// Returns the number of pairs, or `usize::MAX` if there are more. Runs in constant time.
     pub fn len(&self) -> usize
         ensures { result ≡ min (length self.now.pairs) (2 ^ 64 - 1) }
     {
         self.len.min(usize::MAX as u128) as usize
     }
 
-    /// Whether there is no pair. It looks at no pair.
+    /// Returns whether the index is empty. Runs in constant time.
     pub fn is_empty(&self) -> bool
         ensures { IsTrue result ↔ (self.now.pairs ≡ []) }
     {
         self.len == 0
     }
 
-    /// How many levels of nodes there are: 0 without a root, and 1 where the root is a leaf node. It looks at
-    /// no node. At depth d there are at most `LEN * (LEN + 1)^d` pairs, and none at depth 0.
+    /// Returns the number of levels of nodes: 0 without a root, and 1 if the root is a leaf node. At depth *d* there
+    /// are at most `LEN * (LEN + 1)^d` pairs, and none at depth 0. Runs in constant time.
     pub fn depth(&self) -> usize
         ensures depth { result ≡ self.now.depth }
         ensures none { self.now.depth ≡ 0 → self.now.pairs ≡ [] }
@@ -194,8 +196,8 @@ impl<K: IndexKey, V: Drop, const LEN: usize> TreeIndexOf<K, V, LEN> {
         }
     }
 
-    /// The least number of slots that were never used in a leaf; 0 without a leaf, and where one is retired. So many
-    /// writes are sure to take no memory. It looks at every leaf, and compares nothing.
+    /// Returns the least number of slots never used in any leaf: 0 without a leaf, and 0 if one is retired. That many
+    /// writes are sure not to allocate. Reads every node and leaf, and makes no comparisons.
     pub fn spare(&self) -> u8
         ensures { result ≡ self.now.spare }
     {
@@ -205,8 +207,8 @@ impl<K: IndexKey, V: Drop, const LEN: usize> TreeIndexOf<K, V, LEN> {
         }
     }
 
-    /// The arenas of the tree, and the number of its root if it has one. Every number in use in the arenas is
-    /// reached from the root once.
+    /// Returns the arenas of the tree, and the number of its root if it has one. Every number in use in the arenas is
+    /// reached from the root exactly once. Runs in constant time.
     pub fn parts(&self) -> (&ArenasOf<K, V, LEN>, Option<NodeId>)
         ensures { IsTreeOf K.cmp self.now result.0.now result.1 }
     {
@@ -216,28 +218,24 @@ impl<K: IndexKey, V: Drop, const LEN: usize> TreeIndexOf<K, V, LEN> {
         }
     }
 
-    /// Stores a pair, in place of one with an equal key if `UPSERT` says so. Never `Full`.
-    fn store<const UPSERT: bool>(&mut self, key: K, value: V) -> Result<StoreResult<K, V>, (K, V)>
+    /// Stores a pair and counts it. With `UPSERT` it replaces the pair with an equal key.
+    fn store<const UPSERT: bool>(&mut self, key: K, value: V) -> Result<Stored, InsertError<K, V>>
         ensures { StoresPair K.cmp UPSERT LEN self.old self.new key value result }
     {
         match self.tree.store::<UPSERT>(key, value) {
-            Err(pair) => Err(pair),
-            Ok(answer) => match answer {
-                StoreResult::New => {
-                    // Each pair has a slot of its own, so that their number fits.
-                    prove!(self.len < self.tree.slots());
-                    self.len += 1;
-                    Ok(StoreResult::New)
-                }
-                StoreResult::Replaced => Ok(StoreResult::Replaced),
-                StoreResult::Duplicate(key, value) => Ok(StoreResult::Duplicate(key, value)),
-                StoreResult::Full(key, value) => Ok(StoreResult::Full(key, value)),
-            },
+            Ok(Stored::New) => {
+                // Each pair has a slot of its own, so their number fits.
+                prove!(self.len < self.tree.slots());
+                self.len += 1;
+                Ok(Stored::New)
+            }
+            Ok(Stored::Replaced) => Ok(Stored::Replaced),
+            Err(error) => Err(error),
         }
     }
 }
 
-/// Yes, whatever the value.
+/// Returns true, whatever the value.
 fn always<V>(_: &V) -> bool
     ensures { result ≡ true }
 {

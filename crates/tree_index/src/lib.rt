@@ -1,5 +1,29 @@
-//! An ordered index that answers as one strictly ascending list of pairs, with the history of its
-//! calls where that is wanted.
+//! An ordered index that answers as one strictly ascending list of pairs, and a state that keeps the history of its
+//! calls.
+//!
+//! A type of the caller's own is a key once it has an `impl IndexKey`, whose one law says that a clone compares equal
+//! to its source:
+//!
+//! ```
+//! impl IndexKey for Price {
+//!     ghost use Rattle.usage.specs.Price.{same_cents};
+//!
+//!     ghost clone_equal = { λ x y same. equal_numbers x.cents y.cents (same_cents x y same) };
+//! }
+//! ```
+//!
+//! A look-up by a [`Judge`] counts its comparisons, and so its caller can state a bound on them:
+//!
+//! ```
+//! pub fn price_by<J: Judge<u64>>(prices: &TreeIndex<u64, u64>, judge: &mut J) -> Option<u64>
+//!     ensures counted { J.count judge.new ≤ J.count judge.old + 4 * (prices.now.depth + 1) }
+//! {
+//!     let (_, price) = prices.peek_entry_by(judge)?;
+//!     Some(*price)
+//! }
+//! ```
+//!
+//! Both stand whole in the crate `usage`, where they are proved.
 #![tactic(auto)]
 
 mod commands;

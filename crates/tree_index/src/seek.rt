@@ -6,17 +6,17 @@ use std::marker::Brand;
 use std::sync::ledger::{Blank, Ledger};
 use tree_array::array::{Judge, KeyJudge, Steps};
 
-/// What is searched by a judge.
+/// A type that is searched by a judge.
 pub trait Seeks<K: Ord, V> {
     ghost pairs: { Self → List (K × V) };
 
-    /// The pair with the judge's key.
+    /// Returns the pair with the judge's key.
     fn seek<J: Judge<K>>(&self, judge: &mut J) -> Option<(&K, &V)>
         ensures ascending { IsAscending K.cmp (pairs self.now) }
         ensures found { MatchOption result (IsAbsent K.cmp (pairs self.now) (J.key judge.old)) (λ pair. pair_at K.cmp (pairs self.now) (J.key judge.old) ≡ Some (pair.0.now, pair.1.now)) };
 }
 
-/// The pair at a key, for a caller that counts no comparisons.
+/// Returns the pair with a key, for a caller that doesn't count comparisons.
 pub fn pair_of<'a, K: Ord, V, S: Seeks<K, V>>(sought: &'a S, key: &K) -> Option<(&'a K, &'a V)>
     ensures ascending { IsAscending K.cmp (S.pairs sought.now) }
     ensures found { MatchOption result (IsAbsent K.cmp (S.pairs sought.now) key.now) (λ pair. pair_at K.cmp (S.pairs sought.now) key.now ≡ Some (pair.0.now, pair.1.now)) }

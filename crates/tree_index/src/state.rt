@@ -11,9 +11,10 @@ use std::marker::Model;
 use tree_array::array::{IndexKey, SameClone};
 use tree_model::{Command, InsertError, Record, Reply};
 
-/// An index with the history of its calls. Contracts see the list of its pairs and the history,
-/// and every `State` keeps that the history replays to that list: from the empty list, each reply
-/// is the one that the list gives, and none is `Refused`.
+/// An index with the history of its calls. Contracts see the list of its pairs and the history.
+///
+/// The type keeps that the history replays to that list: from the empty list, each reply is the one that the list
+/// gives, and none is `Refused`.
 #[derive(Drop)]
 pub struct State<K: IndexKey + SameClone, V: SameClone> {
     index: TreeIndex<K, V>,
@@ -31,7 +32,7 @@ impl<K: IndexKey + SameClone, V: SameClone> Model for State<K, V> {
 }
 
 impl<K: IndexKey + SameClone, V: SameClone> State<K, V> {
-    /// The empty index, and no call. It takes no memory yet.
+    /// Creates an empty index without a history. Allocates nothing.
     pub fn new(alloc: Global) -> Self
         ensures entries { result.entries ≡ [] }
         ensures history { result.history ≡ [] }
@@ -42,15 +43,15 @@ impl<K: IndexKey + SameClone, V: SameClone> State<K, V> {
         }
     }
 
-    /// The index, to be read.
+    /// Returns the index, for reading.
     pub fn index(&self) -> &TreeIndex<K, V>
         ensures { result.now.pairs ≡ self.now.entries }
     {
         &self.index
     }
 
-    /// The calls that were answered, in order, each with its reply. Keys and values in it are
-    /// clones, seen the same as what was passed.
+    /// Returns the answered commands in order, each with its reply. Its keys and values are clones of those that were
+    /// passed.
     pub fn history(&self) -> &[Record<K, V>]
         ensures calls { result.now ≡ self.now.history }
         ensures replays { IsHistoryOf K.cmp K.seen V.seen self.now.history self.now.entries }
@@ -58,11 +59,10 @@ impl<K: IndexKey + SameClone, V: SameClone> State<K, V> {
         &self.history
     }
 
-    /// Answers a command, and keeps a clone of it with its reply.
+    /// Answers a command, and appends a clone of it with its reply to the history.
     ///
-    /// The room for the record and its clones is taken first. An `Err` is for want of memory: it
-    /// hands the very command back, and index and history are as they were. A reply is never
-    /// `Refused`.
+    /// Returns `Err` with the command if an allocation is refused; index and history are then as they were. The room
+    /// for the record and the clones are allocated before the index changes. A reply is never `Refused`.
     pub fn apply(&mut self, command: Command<K, V>) -> Result<Reply<V>, Command<K, V>>
         ensures ok { IfOk result (Appends K.cmp K.seen V.seen self.old self.new command) }
         ensures handed_back { IfErr result (λ back. back ≡ command) }
@@ -80,9 +80,9 @@ impl<K: IndexKey + SameClone, V: SameClone> State<K, V> {
         }
     }
 
-    /// Does what `apply` does with an insert, and hands the pair back for a duplicate too.
+    /// Does what [`apply`](State::apply) does with an insert, and hands the pair back for a duplicate too.
     ///
-    /// `OutOfMemory` left index and history as they were.
+    /// After `OutOfMemory` index and history are as they were.
     pub fn insert(&mut self, key: K, value: V) -> Result<(), InsertError<K, V>>
         ensures { RecordsInsert K.cmp K.seen V.seen self.old self.new key value result }
     {
@@ -107,7 +107,7 @@ impl<K: IndexKey + SameClone, V: SameClone> State<K, V> {
         }
     }
 
-    // Answers an upsert, of which clones go into the history.
+    // Answers an upsert. Clones of the pair go into the history.
     fn upsert(&mut self, key: K, value: V) -> Result<Reply<V>, Command<K, V>>
         ensures ok { IfOk result (Appends K.cmp K.seen V.seen self.old self.new (Command.Upsert key value)) }
         ensures handed_back { IfErr result (λ back. back ≡ Command.Upsert key value) }
@@ -130,7 +130,7 @@ impl<K: IndexKey + SameClone, V: SameClone> State<K, V> {
         Ok(Reply::Stored)
     }
 
-    // Answers a removal, of which the key itself goes into the history.
+    // Answers a removal. The key itself goes into the history.
     fn remove(&mut self, key: K) -> Result<Reply<V>, Command<K, V>>
         ensures ok { IfOk result (Appends K.cmp K.seen V.seen self.old self.new (Command.Remove key)) }
         ensures handed_back { IfErr result (λ back. back ≡ Command.Remove key) }
@@ -144,7 +144,7 @@ impl<K: IndexKey + SameClone, V: SameClone> State<K, V> {
         Ok(Reply::Removed(was))
     }
 
-    // Answers a look-up, which goes into the history with a second clone of what it found.
+    // Answers a look-up. A second clone of what it found goes into the history.
     fn look_up(&mut self, key: K) -> Result<Reply<V>, Command<K, V>>
         ensures ok { IfOk result (Appends K.cmp K.seen V.seen self.old self.new (Command.Peek key)) }
         ensures handed_back { IfErr result (λ back. back ≡ Command.Peek key) }
@@ -176,7 +176,7 @@ where
     }
 }
 
-// Two clones of a value that may be there.
+// Clones an optional value twice.
 fn two_clones<V: SameClone>(value: Option<&V>) -> Result<(Option<V>, Option<V>), AllocError>
     ensures first { IfOk result (λ clones. option_map V.seen clones.0 ≡ option_map V.seen (option_copied value.entry)) }
     ensures second { IfOk result (λ clones. option_map V.seen clones.1 ≡ option_map V.seen (option_copied value.entry)) }
@@ -187,7 +187,7 @@ fn two_clones<V: SameClone>(value: Option<&V>) -> Result<(Option<V>, Option<V>),
     }
 }
 
-// Clones of a key and a value.
+// Clones a key and a value.
 fn cloned_pair<K: IndexKey + SameClone, V: SameClone>(
     key: &K,
     value: &V,
@@ -198,7 +198,7 @@ fn cloned_pair<K: IndexKey + SameClone, V: SameClone>(
     Ok((key.clone()?, value.clone()?))
 }
 
-// Adds a record, for which there is room.
+// Appends a record. The caller must see that there is room.
 fn keep<K: Drop, V: Drop>(history: &mut Vec<Record<K, V>>, command: Command<K, V>, reply: Reply<V>)
     requires { vec_len history.old < vec_capacity history.old }
     ensures { history.new.items ≡ history.old.items ++ record { command = command; reply = reply } ∷ [] }

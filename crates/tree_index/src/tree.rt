@@ -1,14 +1,14 @@
 //! The tree that an index stands on.
-ghost use Rattle.std.specs.Prelude.{◌≡◌, ◌⊎◌, [], ◌+◌, ◌*◌, ◌^◌, ◌<◌, ◌≤◌, length, MatchOption, None, Some, false};
+ghost use Rattle.std.specs.Prelude.{◌≡◌, ◌⊎◌, [], ◌+◌, ◌*◌, ◌^◌, ◌<◌, ◌≤◌, length, Bool, MatchOption, None, Some, false};
 ghost use Rattle.std.specs.Fn.{FnOnceReturnsAt, FnOnceTakesAt};
 ghost use Rattle.std.specs.Option.{ForSome};
-ghost use Rattle.tree_array.specs.Length.{IsLen};
+ghost use Rattle.tree_array.specs.Length.{IsLen, searched};
 ghost use Rattle.tree_model.specs.Pairs.{IsAbsent, pair_at};
 ghost use Rattle.tree_insert.specs.Inserts.{IsNew};
 ghost use Rattle.tree_node.specs.Shape.{room};
 ghost use Rattle.tree_node.specs.Tree.{IsRetired};
 ghost use Rattle.tree_node.specs.Whole.{depth_of, leaves_under};
-ghost use Rattle.tree_index.specs.Trees.{IsWhole, Stores, Takes, pairs_of, spare_of};
+ghost use Rattle.tree_index.specs.Trees.{IsWhole, Stores, Takes, pairs_of, spare_of, told};
 
 use std::alloc::Global;
 use tree_array::array::{IndexKey, Judge, RemoveResult, StoreResult};
@@ -16,12 +16,22 @@ use tree_insert::insertion::insert_at;
 use tree_insert::planting::plant;
 use tree_insert::root::split_root_at;
 use tree_leaf::arena::NodeId;
+use tree_model::InsertError;
 use tree_node::look_ups::search_at;
 use tree_node::node::ArenasOf;
 use tree_remove::lowering::lower_root_at;
 use tree_remove::removal::remove_at;
 
-/// Arenas, and the root of the tree in them with its level, if there is one.
+/// Whether the key of a pair that was stored is new.
+#[derive(Drop)]
+pub enum Stored {
+    /// No pair had an equal key.
+    New,
+    /// The pair stands in place of one with an equal key.
+    Replaced,
+}
+
+/// A tree: its arenas, and its root with the root's level, if there is one.
 #[derive(Drop)]
 pub struct Tree<K: IndexKey, V: Drop, const LEN: usize> {
     pub(crate) arenas: ArenasOf<K, V, LEN>,
@@ -29,7 +39,7 @@ pub struct Tree<K: IndexKey, V: Drop, const LEN: usize> {
 }
 
 impl<K: IndexKey, V: Drop, const LEN: usize> Tree<K, V, LEN> {
-    /// The tree without pairs. It takes no memory yet.
+    /// Creates an empty tree. Allocates nothing.
     pub fn new(alloc: Global) -> Self
         ensures whole { IsWhole K.cmp result }
         ensures root { result.root ≡ None }
@@ -40,76 +50,79 @@ impl<K: IndexKey, V: Drop, const LEN: usize> Tree<K, V, LEN> {
         }
     }
 
-    /// Stores a pair, in place of one with an equal key if `UPSERT` says so.
+    /// Stores a pair. With `UPSERT` it replaces the pair with an equal key.
     ///
-    /// Never `Full`. An `Err` is for want of memory. At most `LEN` comparisons a level and in the leaf;
-    /// below each level at which an array was full the way down is gone again.
-    pub fn store<const UPSERT: bool>(&mut self, key: K, val: V) -> Result<StoreResult<K, V>, (K, V)>
+    /// Returns `Err` with the pair if an equal key is there and `UPSERT` is false, or if memory is refused. Makes at
+    /// most `LEN` comparisons a level and in the leaf; if an array on the path is full, the descent restarts at its
+    /// level.
+    pub fn store<const UPSERT: bool>(&mut self, key: K, val: V) -> Result<Stored, InsertError<K, V>>
         requires len { IsLen LEN }
         requires whole { IsWhole K.cmp self.old }
-        ensures { Stores K.cmp UPSERT self.old self.new key val result }
+        ensures { Stores K.cmp UPSERT self.old self.new key val (told result) }
     {
         let Some((root, depth)) = self.root else {
-            return self.store_first::<UPSERT>(key, val);
+            return self.store_first(key, val);
         };
         match insert_at::<UPSERT, K, V, LEN>(&mut self.arenas, depth, root, key, val) {
-            Err(pair) => Err(pair),
+            Err((key, val)) => Err(InsertError::OutOfMemory(key, val)),
             Ok(answer) => match answer {
-                StoreResult::New => Ok(StoreResult::New),
-                StoreResult::Replaced => Ok(StoreResult::Replaced),
-                StoreResult::Duplicate(key, val) => Ok(StoreResult::Duplicate(key, val)),
+                StoreResult::New => Ok(Stored::New),
+                StoreResult::Replaced => Ok(Stored::Replaced),
+                StoreResult::Duplicate(key, val) => Err(InsertError::Duplicate(key, val)),
                 StoreResult::Full(key, val) => self.store_grown::<UPSERT>(root, depth, key, val),
             },
         }
     }
 
     /// Stores the first pair.
-    fn store_first<const UPSERT: bool>(
-        &mut self,
-        key: K,
-        val: V,
-    ) -> Result<StoreResult<K, V>, (K, V)>
+    fn store_first(&mut self, key: K, val: V) -> Result<Stored, InsertError<K, V>>
         requires len { IsLen LEN }
         requires whole { IsWhole K.cmp self.old }
         requires bare { leaves_under self.old.arenas.nodes self.old.root ≡ [] }
-        ensures { Stores K.cmp UPSERT self.old self.new key val result }
+        ensures { (upsert : Bool) → Stores K.cmp upsert self.old self.new key val (told result) }
     {
         match plant(&mut self.arenas, self.root, key, val) {
-            Err(pair) => Err(pair),
+            Err((key, val)) => Err(InsertError::OutOfMemory(key, val)),
             Ok(root) => {
                 self.root = Some((root, 1));
-                Ok(StoreResult::New)
+                Ok(Stored::New)
             }
         }
     }
 
-    /// Stores a pair for which the root has no room: a retired one makes place for a new one, and
-    /// another one is split.
+    /// Stores a pair for which the root has no room: a retired root gets the pair as its only one, and any other is
+    /// split under a new root.
     fn store_grown<const UPSERT: bool>(
         &mut self,
         root: NodeId,
         depth: usize,
         key: K,
         val: V,
-    ) -> Result<StoreResult<K, V>, (K, V)>
+    ) -> Result<Stored, InsertError<K, V>>
         requires len { IsLen LEN }
         requires whole { IsWhole K.cmp self.old }
         requires root { self.old.root ≡ Some (root, depth) }
         requires full { IsRetired depth self.old.arenas root ⊎ (room depth self.old.arenas root ≡ 0) }
         requires new { IsNew K.cmp UPSERT (pairs_of self.old) key }
         requires spent { spare_of self.old ≡ 0 }
-        ensures { Stores K.cmp UPSERT self.old self.new key val result }
+        ensures { Stores K.cmp UPSERT self.old self.new key val (told result) }
     {
         if self.arenas.node(root).is_childless() {
-            return self.store_first::<UPSERT>(key, val);
+            return self.store_first(key, val);
         }
         let Ok(top) = split_root_at(&mut self.arenas, depth, root) else {
-            return Err((key, val));
+            return Err(InsertError::OutOfMemory(key, val));
         };
         self.root = Some((top, depth + 1));
         match insert_at::<UPSERT, K, V, LEN>(&mut self.arenas, depth + 1, top, key, val) {
-            Err(pair) => Err(pair),
-            Ok(answer) => Ok(answer),
+            Err((key, val)) => Err(InsertError::OutOfMemory(key, val)),
+            Ok(answer) => match answer {
+                StoreResult::New => Ok(Stored::New),
+                StoreResult::Replaced => Ok(Stored::Replaced),
+                StoreResult::Duplicate(key, val) => Err(InsertError::Duplicate(key, val)),
+                // The new root has room, and so has the child of each key.
+                StoreResult::Full(_, _) => unreachable!(),
+            },
         }
     }
 
@@ -136,17 +149,19 @@ impl<K: IndexKey, V: Drop, const LEN: usize> Tree<K, V, LEN> {
         }
     }
 
-    /// The pair with the judge's key. At most `LEN` comparisons a level and in the leaf.
+    /// Returns the pair with the judge's key. Makes at most 4 comparisons per level and in the leaf with 15 slots,
+    /// and 3 with 7.
     pub fn search<J: Judge<K>>(&self, judge: &mut J) -> Option<(&K, &V)>
         requires { IsWhole K.cmp self.now }
         ensures found { MatchOption result (IsAbsent K.cmp (pairs_of self.now) (J.key judge.old)) (λ pair. pair_at K.cmp (pairs_of self.now) (J.key judge.old) ≡ Some (pair.0.now, pair.1.now)) }
         ensures counted { J.count judge.new ≤ J.count judge.old + LEN * (depth_of self.now.root + 1) }
+        ensures halved { J.count judge.new ≤ J.count judge.old + searched LEN * (depth_of self.now.root + 1) }
     {
         let (root, depth) = self.root?;
         search_at(&self.arenas, depth, root, judge)
     }
 
-    /// How many slots the leaves have, which are no fewer than the pairs. It looks at no leaf.
+    /// Returns how many slots the leaves have, which is at least the number of pairs. Runs in constant time.
     pub fn slots(&self) -> u128
         requires len { IsLen LEN }
         requires whole { IsWhole K.cmp self.now }

@@ -1,5 +1,5 @@
 -- A leaf node that makes room for a key: its leaf is split or built anew.
-use Rattle.std.proofs.Common.{◌≡◌, ℕ, ◌-◌, ◌≤◌, List, ◌∷◌, ◌++◌, length, drop, take, slice_get, Some, None, IsSome, refl, sym, ap, ◌∙◌, arith}
+use Rattle.std.proofs.Common.{◌≡◌, ◌⊎◌, ℕ, suc, ◌-◌, ◌<◌, ◌≤◌, true, List, ◌∷◌, ◌++◌, length, drop, take, slice_get, Option, Some, None, IsSome, refl, sym, ap, ◌∙◌, arith, sub-one, inl, inr}
 use Rattle.std.specs.declared.cmp.Ordering.{Ordering}
 use Rattle.std.specs.declared.cmp.Ordering.TheVariants.{Equal}
 use Rattle.std.specs.Cmp.{IsTotalOrder}
@@ -15,18 +15,35 @@ use Rattle.tree_leaf.proofs.Rooms.{rewritten}
 use Rattle.tree_model.specs.Pairs.{IsAbsent}
 use Rattle.tree_node.specs.declared.node.NodeOf.{NodeOf}
 use Rattle.tree_node.specs.Arenas.{TreeArenas}
-use Rattle.tree_node.specs.Parts.{IsPart, Unchanged}
-use Rattle.tree_insert.specs.Splits.{HasMadeRoom, IsCut, PutsChild}
-use Rattle.tree_node.specs.Tree.{HasChildFor, HasKind, LeafStands, Stands, keyed, unbounded, child_at, is_from, leaf_entries}
+use Rattle.tree_node.specs.Parts.{IsPart, PutsChild, Unchanged}
+use Rattle.tree_insert.specs.Splits.{HasMadeRoom, IsCut}
+use Rattle.tree_node.specs.Shape.{room}
+use Rattle.tree_node.specs.Tree.{IsAbove, IsUpTo, HasChildFor, HasKind, LeafStands, Stands, keyed, unbounded, child_at, is_from, leaf_entries}
 use Rattle.tree_node.proofs.ChildChanges.{child_part}
 use Rattle.tree_node.proofs.Children.{child_stands}
 use Rattle.tree_insert.proofs.LeafSplits.{IsBetween, high_room, leaf_splits_low, low_room}
 use Rattle.tree_node.proofs.LeafWrites.{with_array, array_replaces}
-use Rattle.tree_insert.proofs.LowSplits.{absent_here, room_made_for}
+use Rattle.tree_node.proofs.LowSplits.{GainsLow, absent_here, gains_low}
 use Rattle.tree_node.proofs.Standing.{node_is}
 use Rattle.tree_node.proofs.Places.{IsForKey, high_for, low_for, place_for}
 use Rattle.tree_insert.proofs.Rebuilds.{among, leaf_rebuilt, room_made_by_rebuild}
 use Rattle.tree_node.proofs.Unchanged.{chain_same, unchanged_by_keeping}
+
+-- room was made for a key by a new child before the old one
+room_made_for : {K V : Type 0} {LEN : ℕ} {cmp : K → K → Ordering} {Within : Option K → Option K → Type 0} (level : ℕ) (old mid new : TreeArenas K V LEN) (id x y : ℕ) (separator key : K) → GainsLow cmp Within level old mid new id x y separator
+    → HasChildFor cmp key (get old.nodes id) x → ((low high : Option K) → IsAbove cmp low key → IsUpTo cmp key high → Within low high)
+    → (is_from cmp key separator ≡ true → 0 < room level mid y) → 0 < room level mid x → HasMadeRoom cmp (suc level) old new id key
+room_made_for {cmp = cmp} level old mid new id x y separator key gains which fits low_room high_room = record {
+  pairs = gains.pairs;
+  stands = λ low high above up_to s. gains.stands low high (fits low high above up_to) s;
+  replaces = gains.replaces;
+  spends = gains.spends;
+  child = λ child routed. rw sub-one (by_child child (gains.routed key child which routed));
+}
+  where
+    by_child : (child : ℕ) → ((child ≡ y) × (is_from cmp key separator ≡ true)) ⊎ (child ≡ x) → 0 < room level new child
+    by_child child (inl low) = rw low.0 (gains.low_room (low_room low.1))
+    by_child child (inr high) = rw high (gains.high_room high_room)
 
 -- a reserve leaves a leaf as it was read
 pub leaf_read : {K V : Type 0} {LEN : ℕ} (old reserved : TreeArenas K V LEN) → KeepsBoth old reserved → (x : ℕ) (before after : LeafOf K V LEN) → get old.leaves x ≡ Some before → get reserved.leaves x ≡ Some after → before ≡ after
@@ -109,12 +126,13 @@ module _ {K V : Type 0} {LEN : ℕ} {cmp : K → K → Ordering} (o : IsTotalOrd
     pub leaf_room_by_split : (node' : NodeOf K LEN) → PutsChild cmp node node' separator y → HasMadeRoom cmp 1 old (record mid { nodes = with_value mid.nodes id node' }) id key
     leaf_room_by_split node' puts =
         let update = Updates-with_value mid.nodes id node' (rw is_node refl) in
-        room_made_for o (IsBetween cmp key) 0 old mid id x y separator part
+        room_made_for 0 old mid (record mid { nodes = with_value mid.nodes id node' }) id x y separator key
+        (gains_low o (IsBetween cmp key) 0 old mid id x y separator part
         (leaf_splits_low o old reserved mid x y count leaf high low pair separator key same there high_is low_is gains last_low cloned cut_here)
         node parent_was at.before at.onward stood.last (last_is node parent_was) at.split (at.child ∙ goes node parent_was)
         (λ low_key high_key inside. (low_for cmp key low_key at.before at.smaller inside.0, high_for cmp key at.onward high_key at.up_to inside.1)) (tt, tt)
-        (record mid { nodes = with_value mid.nodes id node' }) node' update.changed puts (λ n differs. update.others n differs) refl
-        key which (λ low_key high_key above up_to. (above, up_to))
+        (record mid { nodes = with_value mid.nodes id node' }) node' update.changed puts (λ n differs. update.others n differs) refl)
+        which (λ low_key high_key above up_to. (above, up_to))
         (low_room o old reserved mid x y count leaf high low pair separator key same there high_is low_is gains last_low cloned cut_here few)
         (high_room o old reserved mid x y count leaf high low pair separator key same there high_is low_is gains last_low cloned cut_here few)
 

@@ -22,9 +22,9 @@ use Rattle.tree_node.specs.Shape.{room}
 use Rattle.tree_insert.specs.Splits.{IsCut}
 use Rattle.tree_node.specs.Tree.{IsAbove, IsBelow, IsUpTo, LeafStands, is_from}
 use Rattle.tree_node.proofs.Children.{walk-leaf}
-use Rattle.tree_insert.proofs.Cuts.{all_front, all_behind, ascending_front, ascending_behind, smaller_front, cut_whole, cut_with}
+use Rattle.tree_node.proofs.Cuts.{all_front, all_behind, ascending_front, ascending_behind, smaller_front, cut_whole, cut_with}
 use Rattle.tree_node.proofs.LeafWrites.{with_array, here_now, array_replaces}
-use Rattle.tree_insert.proofs.LowSplits.{SplitsLow}
+use Rattle.tree_node.proofs.LowSplits.{SplitsLow}
 use Rattle.tree_node.proofs.Order.{less_upto, upto_from_less}
 use Rattle.tree_node.proofs.Steps.{replaces_trans}
 use Rattle.tree_node.proofs.Unchanged.{unchanged_replaces}

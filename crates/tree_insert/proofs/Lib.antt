@@ -1,12 +1,10 @@
 pub mod Attempts
-pub mod Boundaries
-pub mod Cuts
 pub mod Descents
+mod FirstPairs
 pub mod Fulls
 pub mod Inserts
 pub mod LeafRooms
 pub mod LeafSplits
-pub mod LowSplits
 pub mod NodeRooms
 pub mod NodeSplits
 pub mod RaisedTrees
@@ -15,3 +13,4 @@ pub mod Rebuilds
 pub mod Replants
 pub mod Results
 pub mod Retries
+mod Variants

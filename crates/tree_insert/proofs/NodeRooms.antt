@@ -1,5 +1,5 @@
 -- A node that makes room in a child node: the child is split or built anew.
-use Rattle.std.proofs.Common.{◌≡◌, ℕ, zero, suc, ◌<◌, ◌≤◌, List, [], ◌∷◌, ◌++◌, map, length, Some, None, IsSome, refl, sym, ap, ◌∙◌, arith, inl, inr, sub-one}
+use Rattle.std.proofs.Common.{◌≡◌, ◌⊎◌, ℕ, zero, suc, ◌<◌, ◌≤◌, List, [], ◌∷◌, ◌++◌, true, map, length, Option, Some, None, IsSome, refl, sym, ap, ◌∙◌, arith, inl, inr, sub-one}
 use Rattle.std.specs.Bool.{⊤}
 use Rattle.std.specs.declared.cmp.Ordering.{Ordering}
 use Rattle.std.specs.Cmp.{IsTotalOrder}
@@ -15,18 +15,36 @@ use Rattle.tree_model.specs.Pairs.{IsAbsent}
 use Rattle.tree_node.specs.declared.node.NodeOf.{NodeOf}
 use Rattle.tree_node.specs.declared.node.NodeOf.TheVariants.{Internal, Leaf}
 use Rattle.tree_node.specs.Arenas.{TreeArenas}
-use Rattle.tree_node.specs.Parts.{IsPart, Unchanged}
-use Rattle.tree_insert.specs.Splits.{CutsNode, PutsChild, RebuildsNode, SharesChildren, SplitsChild}
+use Rattle.tree_node.specs.Parts.{IsPart, PutsChild, Unchanged}
+use Rattle.tree_insert.specs.Splits.{CutsNode, RebuildsNode, SharesChildren, SplitsChild}
 use Rattle.tree_node.specs.Shape.{room}
-use Rattle.tree_node.specs.Tree.{AreParted, HasKind, Stands, keyed, unbounded, children_of, leaves_of, nodes_of}
+use Rattle.tree_node.specs.Tree.{AreParted, HasChildFor, HasKind, is_from, Stands, keyed, unbounded, children_of, leaves_of, nodes_of}
 use Rattle.tree_node.proofs.Children.{stands_free_low, stands_free_high}
 use Rattle.tree_node.proofs.Lifts.{grouped_as, leaves_are, node_times, single_leaves, single_nodes}
-use Rattle.tree_insert.proofs.LowSplits.{SplitsLow, absent_here, child_split}
+use Rattle.tree_node.proofs.LowSplits.{GainsLow, SplitsLow, absent_here, gains_low}
 use Rattle.tree_node.proofs.Standing.{node_is}
 use Rattle.tree_insert.proofs.NodeSplits.{children_shared, high_node_room, low_node_room, node_splits_low}
 use Rattle.tree_node.proofs.Places.{IsAt, child_between, high_at, later_children, low_at, place_of}
 use Rattle.tree_insert.proofs.Rebuilds.{among, node_rebuilt, same_children, split_by_rebuild}
 use Rattle.tree_node.proofs.Unchanged.{unchanged_by_keeping}
+
+-- a child was split where the separator fits between all bounds
+child_split : {K V : Type 0} {LEN : ℕ} {cmp : K → K → Ordering} {Within : Option K → Option K → Type 0} (level : ℕ) (old mid new : TreeArenas K V LEN) (id x y : ℕ) (separator : K) → GainsLow cmp Within level old mid new id x y separator
+    → ((low high : Option K) → Within low high) → 0 < room level mid y → 0 < room level mid x → SharesChildren (suc level) old new id x → SplitsChild cmp (suc level) old new id x
+child_split {K = K} {cmp = cmp} level old mid new id x y separator gains fits low_room high_room shares = record {
+  shares = shares;
+  pairs = gains.pairs;
+  keeps = λ low high s. gains.stands low high (fits low high) s;
+  replaces = gains.replaces;
+  spends = gains.spends;
+  roomy = rw sub-one (gains.high_room high_room);
+  gained = λ z inside outside. rw (sub-one, gains.gained z inside outside) (gains.low_room low_room);
+  routed = λ key which z routed. rw sub-one (by_child key z (gains.routed key z which routed));
+}
+  where
+    by_child : (key : K) (child : ℕ) → ((child ≡ y) × (is_from cmp key separator ≡ true)) ⊎ (child ≡ x) → 0 < room level new child
+    by_child key child (inl low) = rw low.0 (gains.low_room low_room)
+    by_child key child (inr high) = rw high (gains.high_room high_room)
 
 -- a level above that of the leaf nodes
 pub two_up : (level : ℕ) → 1 < level → (below : ℕ) × (level ≡ suc (suc below))
@@ -185,8 +203,9 @@ module _ {K V : Type 0} {LEN : ℕ} {cmp : K → K → Ordering} (o : IsTotalOrd
       pub split_in_two : (above' : NodeOf K LEN) → HasRoom LEN (keyed above) → PutsChild cmp above above' separator y → SplitsChild cmp (suc (suc level)) old (record mid { nodes = with_value mid.nodes parent above' }) parent x
       split_in_two above' some puts =
           let update = Updates-with_value mid.nodes parent above' (rw is_above refl) in
-          child_split o (λ low high. ⊤) (suc level) old mid parent x y separator part splits above above_was at.before at.onward stood.last above_last above_entries at.child (λ low_key high_key any. tt) tt
-          (record mid { nodes = with_value mid.nodes parent above' }) above' update.changed puts (λ n differs. update.others n differs) refl
+          child_split (suc level) old mid (record mid { nodes = with_value mid.nodes parent above' }) parent x y separator
+          (gains_low o (λ low high. ⊤) (suc level) old mid parent x y separator part splits above above_was at.before at.onward stood.last above_last above_entries at.child (λ low_key high_key any. tt) tt
+          (record mid { nodes = with_value mid.nodes parent above' }) above' update.changed puts (λ n differs. update.others n differs) refl)
           (λ low_key high_key. tt)
           (low_node_room o level old mid x y separator child_part node low high was_child was_free gains.updates.changed high_here others (λ n. rw leaves (same.leaves n)) place cuts within)
           (high_node_room o level old mid x y separator child_part node low high was_child was_free gains.updates.changed high_here others (λ n. rw leaves (same.leaves n)) place cuts within)

@@ -19,11 +19,11 @@ use Rattle.tree_node.specs.Parts.{IsPart, Replaces}
 use Rattle.tree_node.specs.Shape.{room}
 use Rattle.tree_insert.specs.Splits.{CutsNode}
 use Rattle.tree_node.specs.Tree.{AreParted, IsAbove, IsBelow, Stands, keyed, unbounded, walk, leaves_at, nodes_at, leaves_of, nodes_of, children_of}
-use Rattle.tree_insert.proofs.Cuts.{all_front, all_behind, cut_whole}
+use Rattle.tree_node.proofs.Cuts.{all_front, all_behind, cut_whole}
 use Rattle.tree_node.proofs.Frames.{Agrees, each_part, parted_map, same_leaves, same_nodes, same_walk, same_stands}
 use Rattle.tree_node.proofs.Lifts.{single_leaves, single_nodes}
 use Rattle.tree_node.proofs.Lists.{flat_map_same}
-use Rattle.tree_insert.proofs.LowSplits.{SplitsLow}
+use Rattle.tree_node.proofs.LowSplits.{SplitsLow}
 use Rattle.tree_node.proofs.Standing.{node_is}
 use Rattle.tree_node.proofs.Unchanged.{chain_same}
 use Rattle.tree_node.proofs.Walks.{above_next, walk-children}

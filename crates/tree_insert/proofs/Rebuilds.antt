@@ -4,7 +4,6 @@ use Rattle.std.specs.List.{AllByRecursion}
 use Rattle.std.specs.declared.cmp.Ordering.{Ordering}
 use Rattle.std.proofs.lemmas.Bool.{cases_eq}
 use Rattle.std.proofs.lemmas.List.{length-map}
-use Rattle.std.proofs.lemmas.List.Concat.{flat_map-append}
 use Rattle.slab.specs.Slab.{get, with_value, Updates}
 use Rattle.slab.proofs.SlabLemmas.{Updates-with_value}
 use Rattle.tree_array.specs.Arrivals.{Arrivals, in_order}
@@ -12,7 +11,7 @@ use Rattle.tree_array.specs.Length.{IsLen, limit}
 use Rattle.tree_leaf.specs.declared.leaf.LeafOf.{LeafOf}
 use Rattle.tree_leaf.specs.Counting.{times, uses}
 use Rattle.tree_leaf.proofs.Chains.{same_array_refl}
-use Rattle.tree_leaf.proofs.Counts.{times-append, times-cons, one_here, uses_le_one, uses_same}
+use Rattle.tree_leaf.proofs.Counts.{times-cons, one_here, uses_le_one, uses_same}
 use Rattle.tree_model.proofs.Lists.{all_map, all-append}
 use Rattle.tree_node.specs.declared.node.NodeOf.{NodeOf}
 use Rattle.tree_node.specs.Arenas.{TreeArenas}
@@ -23,7 +22,7 @@ use Rattle.tree_node.specs.Tree.{HasChildFor, Stands, keyed, unbounded, walk, le
 use Rattle.tree_node.proofs.Children.{walk-leaf}
 use Rattle.tree_node.proofs.Frames.{Agrees, each_part, parted_map, same_leaves, same_nodes, same_walk, same_stands}
 use Rattle.tree_node.proofs.LeafWrites.{with_array, here_now, array_replaces}
-use Rattle.tree_node.proofs.Lifts.{node_times, front_agrees, back_agrees, lifted, single_leaves, single_nodes}
+use Rattle.tree_node.proofs.Lifts.{node_times, front_agrees, back_agrees, leaves_once_in, lifted, single_leaves, single_nodes, walk_now, walk_was}
 use Rattle.tree_node.proofs.Lists.{flat_map_same}
 use Rattle.tree_node.proofs.Standing.{node_is}
 use Rattle.tree_node.proofs.Places.{IsAt, children_at, later_children}
@@ -50,8 +49,7 @@ module _ {K V : Type 0} {LEN : ℕ} {cmp : K → K → Ordering} (level : ℕ) (
   now = rw same_node was
 
   leaves_once : (n : ℕ) → times n (leaves_at (suc level) old.nodes id) ≤ uses old.leaves n
-  leaves_once n =
-      omega (arith, part.chain.once n, times-append n part.front (leaves_at (suc level) old.nodes id ++ part.back), times-append n (leaves_at (suc level) old.nodes id) part.back)
+  leaves_once = leaves_once_in (suc level) old id part
 
   fronts : AllByRecursion (λ c. Agrees level old new c) front
   fronts = front_agrees level old new new id front (x ∷ []) (x ∷ []) back rebuilt.replaces was now part.nodes_once leaves_once (λ n differs. refl) (rw (same_node, stood.here) refl) refl
@@ -65,14 +63,8 @@ module _ {K V : Type 0} {LEN : ℕ} {cmp : K → K → Ordering} (level : ℕ) (
   same_pairs : walk (suc level) new id ≡ walk (suc level) old id
   same_pairs =
       rw (
-        walk-children level new id,
-        walk-children level old id,
-        was,
-        now,
-        flat_map-append (walk level new) front,
-        flat_map-append (walk level old) front,
-        flat_map_same (walk level new) (walk level old) front (all_map (λ c same. same_walk level old new c same) _ fronts),
-        flat_map_same (walk level new) (walk level old) back (all_map (λ c same. same_walk level old new c same) _ backs),
+        walk_now level old new new id front (x ∷ []) (x ∷ []) back rebuilt.replaces was now part.nodes_once leaves_once (λ n differs. refl) (rw (same_node, stood.here) refl) refl,
+        walk_was level old new new id front (x ∷ []) (x ∷ []) back rebuilt.replaces was now part.nodes_once leaves_once (λ n differs. refl) (rw (same_node, stood.here) refl) refl,
         rebuilt.pairs,
       ) refl
 

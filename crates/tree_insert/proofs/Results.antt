@@ -1,5 +1,5 @@
 -- What is known of a result by its arm.
-use Rattle.std.proofs.Common.{Result, Ok, Err}
+use Rattle.std.proofs.Common.{◌≡◌, Some, Result, Ok, Err}
 use Rattle.std.specs.Result.{IfOk, MatchResult, OnErr}
 
 -- what holds anyway holds after an error
@@ -11,3 +11,7 @@ on_err (Err e) p = p
 pub of_success : {T E : Type 0} (P Q : T → Type 0) (R : E → Type 0) (result : Result T E) → ((x : T) → P x → Q x) → MatchResult result P R → IfOk result Q
 of_success P Q R (Ok x) h known = h x known
 of_success P Q R (Err e) h known = tt
+
+-- what was read twice is the same
+pub same_value : {A : Type 0} (x y : A) → Some x ≡ Some y → x ≡ y
+same_value x y both = cc

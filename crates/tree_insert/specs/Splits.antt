@@ -4,7 +4,7 @@ use Rattle.std.specs.List.{AllByRecursion}
 use Rattle.std.specs.declared.cmp.Ordering.{Ordering}
 use Rattle.std.specs.declared.cmp.Ordering.TheVariants.{Less}
 use Rattle.slab.specs.Slab.{get}
-use Rattle.tree_array.specs.Arrivals.{Arrivals, boundary, in_order, stored}
+use Rattle.tree_array.specs.Arrivals.{Arrivals, boundary, in_order}
 use Rattle.tree_array.specs.Length.{limit}
 use Rattle.tree_leaf.specs.Chain.{IsChain, SameArray}
 use Rattle.tree_leaf.specs.Counting.{times, uses}
@@ -83,13 +83,6 @@ pub record CutsNode {K : Type 0} {LEN : ℕ} (old : NodeOf K LEN) (place : ℕ) 
   pub high_last : unbounded new ≡ unbounded old
   pub low_kind : (level : ℕ) → HasKind level old → HasKind level low
   pub high_kind : (level : ℕ) → HasKind level old → HasKind level new
-
--- a node has got a keyed child, and has no more than fit
-pub record PutsChild {K : Type 0} {LEN : ℕ} (cmp : K → K → Ordering) (old new : NodeOf K LEN) (separator : K) (id : ℕ) : Type 0 where
-  pub put : keyed new ≡ stored cmp (keyed old) separator id
-  pub few : length (keyed new).entries ≤ LEN
-  pub last : unbounded new ≡ unbounded old
-  pub kind : (level : ℕ) → HasKind level old → HasKind level new
 
 -- a node has the same children, each of which arrived anew
 pub record RebuildsNode {K : Type 0} {LEN : ℕ} (old new : NodeOf K LEN) : Type 0 where

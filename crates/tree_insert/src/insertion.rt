@@ -1,4 +1,4 @@
-//! How a pair is inserted under the number of a node.
+//! Inserts under the number of a node, at its level.
 ghost use Rattle.std.specs.Prelude.{◌≡◌, ◌⊎◌, ◌<◌, Ok};
 ghost use Rattle.tree_array.specs.declared.answers.StoreResult.TheVariants.{Full as FullResult};
 ghost use Rattle.tree_insert.specs.Inserts.{InsertsUnder};
@@ -12,17 +12,20 @@ use tree_leaf::arena::NodeId;
 use tree_node::node::{ArenasOf, NodeOf};
 use tree_node::routing::child_place_for;
 
-/// Inserts a pair under the number of a node of this level. With `UPSERT` it replaces the pair with an equal key.
+/// Inserts a pair under the number of a node of this level. With `UPSERT` it replaces a pair with an equal key.
 ///
-/// Returns `Duplicate` where `UPSERT` is false and an equal key is there, even if no slot is free. Returns `Full` where
-/// a child has to be split and the node's array has no slot for the separator, so that the parent has to split the
-/// node first, and where the node is retired. Returns `Err` if memory is refused: arrays may have been split by then,
-/// but the entries are what they were. All three hand the pair back; the first two leave everything unchanged.
+/// - Returns `Duplicate` if an equal key is there and `UPSERT` is false, even if no slot is free.
+/// - Returns `Full` if a child has to be split and the node has no slot for the separator, so that its parent must split
+///   the node first, or if the node is retired.
+/// - Returns `Err` if memory is refused. Arrays may have been split by then, but the entries are what they were.
 ///
-/// Makes at most `LEN` comparisons in each node on the path and in the leaf. Where a child was split or built anew, the
-/// insert starts again from its parent. A split of a leaf clones one key.
+/// Each of the three hands the pair back; the first two leave everything unchanged.
 ///
-/// The caller must see that a well-formed part of a tree stands there, or a retired node.
+/// Makes at most `LEN` comparisons in each node on the path and in the leaf. If a child is split or built anew, the
+/// descent restarts at its parent, once. Allocates one leaf and one node a level at most. A split of a leaf clones one
+/// key.
+///
+/// The caller must see that a well-formed part of a tree, or a retired node, stands under the number.
 pub fn insert_at<const UPSERT: bool, K: IndexKey, V: Drop, const LEN: usize>(
     arenas: &mut ArenasOf<K, V, LEN>,
     level: usize,

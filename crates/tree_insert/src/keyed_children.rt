@@ -1,4 +1,4 @@
-//! The keyed children of a node: how they take one more, and how they are cut in two.
+//! The keyed children of a node: one more is put among them, and an array of them is divided.
 ghost use Rattle.std.specs.Prelude.{◌≡◌, ◌+◌, ◌<◌, ◌≤◌, IfSome, MatchOption, Some, take, drop, length, slice_get};
 ghost use Rattle.tree_array.specs.Arrivals.{boundary, in_order, stored};
 ghost use Rattle.tree_array.specs.Insertion.{HasRoom};
@@ -8,8 +8,8 @@ ghost use Rattle.tree_model.specs.Pairs.{IsAbsent};
 
 use tree_array::array::ArrayOf;
 
-/// The place of the child that parts the lower ones from the upper. None where the array is to be built
-/// anew.
+/// Returns the place of the child at which the array divides, which is its boundary, or `None` if the array is built anew
+/// instead.
 pub(crate) fn parting_place<K: Ord + Drop, I: Drop, const LEN: usize>(
     children: &ArrayOf<K, I, LEN>,
 ) -> Option<u8>
@@ -25,7 +25,7 @@ pub(crate) fn parting_place<K: Ord + Drop, I: Drop, const LEN: usize>(
     }
 }
 
-/// Puts a child before those of larger separators.
+/// Puts a child under its separator, which is new in the array. Makes at most `LEN` comparisons.
 pub(crate) fn put_keyed<K: Ord + Drop, I: Drop, const LEN: usize>(
     children: &mut ArrayOf<K, I, LEN>,
     separator: K,
@@ -39,8 +39,8 @@ pub(crate) fn put_keyed<K: Ord + Drop, I: Drop, const LEN: usize>(
     let _ = children.insert::<false>(separator, child);
 }
 
-/// Takes out the child at this place, with its separator, and those before it. In both arrays the
-/// children arrive in ascending order.
+/// Takes out the children up to this place: returns the separator of the one at the place, an array of those before it,
+/// and the child itself. The children of both arrays arrive anew, in ascending order.
 pub(crate) fn cut_keyed<K: Ord + Drop, I: Drop, const LEN: usize>(
     children: &mut ArrayOf<K, I, LEN>,
     place: u8,

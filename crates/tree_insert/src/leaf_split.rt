@@ -1,4 +1,4 @@
-//! How a leaf node makes room for a key whose leaf has none.
+//! Splits and rebuilds of the leaves under a leaf node.
 ghost use Rattle.std.specs.Prelude.{◌≡◌, ℕ, ◌<◌, ◌≤◌, [], IfOk, IfSome, MatchOption, OnErr, IsTrue, Some, take, drop, length, slice_get};
 ghost use Rattle.std.specs.List.{AllByRecursion};
 ghost use Rattle.slab.specs.Slab.{get};
@@ -7,8 +7,8 @@ ghost use Rattle.tree_array.specs.Insertion.{HasRoom};
 ghost use Rattle.tree_array.specs.Length.{IsLen, limit};
 ghost use Rattle.tree_array.specs.Sound.{IsSound};
 ghost use Rattle.tree_model.specs.Pairs.{IsAbsent};
-ghost use Rattle.tree_node.specs.Parts.{IsPart, Unchanged};
-ghost use Rattle.tree_insert.specs.Splits.{GoesLow, HasMadeRoom, IsCut, PutsChild, RoomResult};
+ghost use Rattle.tree_node.specs.Parts.{IsPart, PutsChild, Unchanged};
+ghost use Rattle.tree_insert.specs.Splits.{GoesLow, HasMadeRoom, IsCut, RoomResult};
 ghost use Rattle.tree_node.specs.Tree.{HasChildFor, HasKind, keyed, leaf_entries};
 
 use crate::keyed_children::put_keyed;
@@ -19,15 +19,16 @@ use tree_leaf::arena::{LeafId, NodeId};
 use tree_leaf::leaf::{LeafOf, add_before};
 use tree_node::node::{ArenasOf, NodeOf};
 
-/// Makes room for a key in the leaf that it belongs to, by the first rule that fits:
+/// Makes room for a key in the leaf that the key belongs to. The first rule that applies decides:
 ///
-/// 1. Up to three quarters of its slots in entries, the leaf's array is built anew in place.
-/// 2. A node that takes no more keyed children answers false, and nothing changed.
-/// 3. The first entries go to a new leaf, linked before this one. Their greatest key, cloned, becomes
-///    its separator. All of them go where they arrived in ascending order, the leaf is the unbounded one and the key is
-///    larger than all.
+/// 1. If at most three quarters of the leaf's slots hold entries, its array is built anew in place.
+/// 2. If the node has no slot for another separator, returns false; nothing has changed.
+/// 3. Otherwise the leaf is split: its first entries move to a new leaf, linked before it, and a clone of the greatest
+///    key among them becomes the new leaf's separator. The leaf divides at its array's boundary. If it is the unbounded
+///    one, all its pairs arrived in ascending order and the key is larger than every key in it, all entries move.
 ///
-/// An `Err`, for want of memory, leaves what stood under every number.
+/// Returns `Err` if memory is refused, also by the clone; nothing has changed then. Allocates at most one leaf, and
+/// makes one comparison at most beside those of the put into the node's array.
 pub(crate) fn make_room<K: IndexKey, V: Drop, const LEN: usize>(
     arenas: &mut ArenasOf<K, V, LEN>,
     id: NodeId,
@@ -55,8 +56,9 @@ pub(crate) fn make_room<K: IndexKey, V: Drop, const LEN: usize>(
     Ok(true)
 }
 
-/// How many of the first entries are to go where the leaf is split for a key. None where the array is
-/// to be built anew.
+/// Returns how many of the first entries move when the leaf is split for a key, or `None` if the array is built anew
+/// instead. `last` says whether the leaf is the unbounded one. Compares the key only where a last leaf was filled in
+/// ascending order.
 fn low_count<K: Ord + Drop, V: Drop, const LEN: usize>(
     array: &ArrayOf<K, V, LEN>,
     key: &K,
@@ -76,7 +78,7 @@ fn low_count<K: Ord + Drop, V: Drop, const LEN: usize>(
     }
 }
 
-/// Whether the key is larger than all.
+/// Returns true if the key is larger than every key in the array. Makes at most one comparison.
 fn is_beyond<K: Ord + Drop, V: Drop, const LEN: usize>(array: &ArrayOf<K, V, LEN>, key: &K) -> bool
     requires { IsSound K.cmp LEN array.now }
     ensures { IsTrue result → AllByRecursion (λ p. K.cmp p.0 key.now ≡ Ordering.Less) array.now.entries }
@@ -87,8 +89,11 @@ fn is_beyond<K: Ord + Drop, V: Drop, const LEN: usize>(array: &ArrayOf<K, V, LEN
     }
 }
 
-/// Gives the first `count` entries of a leaf to a new one, linked before it, under a clone of their
-/// greatest key.
+/// Splits a leaf: its first `count` entries move to a new leaf, linked before it, under a clone of the greatest key among
+/// them.
+///
+/// Returns `Err` if memory is refused, also by the clone; nothing has changed then, since the place for the leaf is
+/// reserved and the key cloned before an entry moves.
 fn split_leaf<K: IndexKey, V: Drop, const LEN: usize>(
     arenas: &mut ArenasOf<K, V, LEN>,
     id: NodeId,
@@ -113,7 +118,7 @@ fn split_leaf<K: IndexKey, V: Drop, const LEN: usize>(
     Ok(())
 }
 
-/// A clone of the key at this place in the order of keys.
+/// Returns a clone of the key at this place in key order.
 fn separator_at<K: IndexKey, V: Drop, const LEN: usize>(
     array: &ArrayOf<K, V, LEN>,
     place: u8,
@@ -127,7 +132,7 @@ fn separator_at<K: IndexKey, V: Drop, const LEN: usize>(
     }
 }
 
-/// Moves the first `count` entries into `low`. In both arrays they arrive in ascending order.
+/// Moves the first `count` entries into `low`, which is new. The entries of both arrays arrive anew, in ascending order.
 fn cut_low<K: Ord + Drop, V: Drop, const LEN: usize>(
     array: &mut ArrayOf<K, V, LEN>,
     count: u8,
@@ -143,7 +148,7 @@ fn cut_low<K: Ord + Drop, V: Drop, const LEN: usize>(
     *array = high;
 }
 
-/// Puts a leaf before the children of larger separators.
+/// Puts a leaf under its separator into a leaf node.
 fn put_leaf<K: Ord + Drop, const LEN: usize>(node: &mut NodeOf<K, LEN>, separator: K, leaf: LeafId)
     requires kind { HasKind 0 node.old }
     requires absent { IsAbsent K.cmp (keyed node.old).entries separator }

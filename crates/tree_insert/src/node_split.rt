@@ -1,4 +1,4 @@
-//! How a node makes room in a child node.
+//! Splits and rebuilds of the nodes under an internal node.
 ghost use Rattle.std.specs.Prelude.{◌≡◌, ◌⊎◌, ℕ, ◌<◌, ◌≤◌, ◌↔◌, IfOk, IfSome, IsOk, OnErr, IsTrue, MatchOption, Some, length};
 ghost use Rattle.slab.specs.Slab.{get};
 ghost use Rattle.tree_array.specs.Arrivals.{boundary};
@@ -8,8 +8,8 @@ ghost use Rattle.tree_array.specs.Sound.{IsSound};
 ghost use Rattle.tree_leaf.specs.Arena.{HasPlaces};
 ghost use Rattle.tree_leaf.specs.Counting.{times};
 ghost use Rattle.tree_model.specs.Pairs.{IsAbsent};
-ghost use Rattle.tree_node.specs.Parts.{IsPart, Unchanged};
-ghost use Rattle.tree_insert.specs.Splits.{CutsNode, PutsChild, RebuildsNode, SplitResult};
+ghost use Rattle.tree_node.specs.Parts.{IsPart, PutsChild, Unchanged};
+ghost use Rattle.tree_insert.specs.Splits.{CutsNode, RebuildsNode, SplitResult};
 ghost use Rattle.tree_node.specs.Tree.{HasKind, children_of, keyed};
 
 use crate::keyed_children::{cut_keyed, parting_place, put_keyed};
@@ -19,18 +19,19 @@ use tree_node::internal_node::InternalNodeOf;
 use tree_node::leaf_node::LeafNodeOf;
 use tree_node::node::{ArenasOf, NodeOf};
 
-/// Makes room in a child node, by the first rule that fits:
+/// Makes room in a child node, the target. The first rule that applies decides:
 ///
-/// 1. Up to three quarters of its slots in keyed children, the child's array is built anew in place.
-/// 2. A parent that takes no more keyed children answers false, and nothing changed.
-/// 3. The child's lower children go to a new node of its kind, which becomes a keyed child before it.
-///    The separator comes from the child, so that no key is cloned.
+/// 1. If at most three quarters of the target's slots hold keyed children, its array is built anew in place.
+/// 2. If the parent has no slot for another separator, returns false; nothing has changed.
+/// 3. Otherwise the target is split at its array's boundary: the children below it move to a new node of the same kind,
+///    the keyed child at the boundary becomes that node's unbounded child, and its separator becomes the new node's.
+///    No key is cloned.
 ///
-/// An `Err`, for want of memory, leaves what stood under every number; it doesn't come where one more
-/// node was reserved. No comparisons but those of the parent's insert.
+/// Returns `Err` if memory is refused; nothing has changed then. Allocates at most one node, and isn't refused where one
+/// was reserved. Makes at most `LEN` comparisons, in the put into the parent's array.
 ///
-/// Caller's condition: a well-formed part of a tree stands under the parent, which is above the leaf
-/// nodes, and the target is one of its children.
+/// The caller must see that a well-formed part of a tree stands under the parent, that the parent is above the leaf nodes,
+/// and that the target is one of its children.
 pub fn split_child<K: Ord + Drop, V: Drop, const LEN: usize>(
     arenas: &mut ArenasOf<K, V, LEN>,
     parent: NodeId,
@@ -59,7 +60,7 @@ pub fn split_child<K: Ord + Drop, V: Drop, const LEN: usize>(
     Ok(true)
 }
 
-/// Whether no keyed child can come.
+/// Returns true if the node has no slot for another keyed child.
 fn takes_no_more<K: Ord + Drop, const LEN: usize>(node: &NodeOf<K, LEN>) -> bool
     ensures { IsTrue result ↔ IsFull LEN (keyed node.now) }
 {
@@ -69,8 +70,7 @@ fn takes_no_more<K: Ord + Drop, const LEN: usize>(node: &NodeOf<K, LEN>) -> bool
     }
 }
 
-/// The place of the keyed child that parts the lower ones from the upper. None where the array is to be
-/// built anew.
+/// Returns the place of the keyed child at which the node divides, or `None` if its array is built anew instead.
 fn place_to_part<K: Ord + Drop, const LEN: usize>(node: &NodeOf<K, LEN>) -> Option<u8>
     ensures place { MatchOption result (length (keyed node.now).entries ≤ limit LEN) (λ place. (limit LEN < length (keyed node.now).entries) × (place < length (keyed node.now).entries)) }
     ensures rule { IfSome result (λ place. place ≡ (boundary K.cmp LEN (keyed node.now)).0) }
@@ -82,7 +82,7 @@ fn place_to_part<K: Ord + Drop, const LEN: usize>(node: &NodeOf<K, LEN>) -> Opti
     }
 }
 
-/// Builds the array of keyed children anew.
+/// Builds the array of keyed children anew, in ascending order.
 fn rebuild<K: Ord + Drop, const LEN: usize>(node: &mut NodeOf<K, LEN>)
     ensures { RebuildsNode node.old node.new }
 {
@@ -92,8 +92,8 @@ fn rebuild<K: Ord + Drop, const LEN: usize>(node: &mut NodeOf<K, LEN>)
     }
 }
 
-/// Gives the children up to this place to a new node of the same kind, and the separator of the last of
-/// them back.
+/// Moves the children up to this place to a new node of the same kind, with the one at the place as its unbounded child.
+/// Returns that child's separator and the new node.
 fn cut_node<K: Ord + Drop, const LEN: usize>(
     node: &mut NodeOf<K, LEN>,
     place: u8,
@@ -122,7 +122,7 @@ fn cut_node<K: Ord + Drop, const LEN: usize>(
     }
 }
 
-/// Puts a node before the children of larger separators.
+/// Puts a node under its separator into an internal node.
 fn put_node<K: Ord + Drop, const LEN: usize>(node: &mut NodeOf<K, LEN>, separator: K, child: NodeId)
     requires kind { HasKind 1 node.old }
     requires absent { IsAbsent K.cmp (keyed node.old).entries separator }

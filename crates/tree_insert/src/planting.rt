@@ -9,11 +9,13 @@ use tree_leaf::leaf::LeafOf;
 use tree_node::leaf_node::LeafNodeOf;
 use tree_node::node::{ArenasOf, NodeOf};
 
-/// Puts a pair into a tree without leaves: under a new root, or in place of a retired leaf node. It answers
-/// the root's number. Memory is taken for one leaf, and for the root if there is none; an `Err`, for want of it,
-/// hands the pair back; it doesn't come where a leaf and a node were reserved. No comparisons.
+/// Puts the first pair into a tree without leaves, and returns the root's number. The root is a new leaf node, or the one
+/// that was retired, which gets a leaf again.
 ///
-/// Caller's condition: `LEN` is 7 or 15, and the tree, whose root comes with its level, has no leaf.
+/// Returns `Err` with the pair if memory is refused; nothing has changed then. Allocates one leaf, and one node if there
+/// is no root; isn't refused where these were reserved. Makes no comparisons.
+///
+/// The caller must see that `LEN` is 7 or 15, and that the tree, whose root comes with its level, has no leaf.
 pub fn plant<K: Ord + Drop, V: Drop, const LEN: usize>(
     arenas: &mut ArenasOf<K, V, LEN>,
     root: Option<(NodeId, usize)>,
@@ -31,7 +33,7 @@ pub fn plant<K: Ord + Drop, V: Drop, const LEN: usize>(
     }
 }
 
-/// Makes a leaf with the pair, and a leaf node over it as the root.
+/// Adds a leaf with the pair, and a leaf node over it as the root.
 fn plant_root<K: Ord + Drop, V: Drop, const LEN: usize>(
     arenas: &mut ArenasOf<K, V, LEN>,
     key: K,
@@ -53,7 +55,7 @@ fn plant_root<K: Ord + Drop, V: Drop, const LEN: usize>(
     Ok(id)
 }
 
-/// Makes a leaf with the pair, and a leaf node over it in place of the retired one.
+/// Adds a leaf with the pair, and puts a leaf node over it in place of the retired one.
 fn plant_again<K: Ord + Drop, V: Drop, const LEN: usize>(
     arenas: &mut ArenasOf<K, V, LEN>,
     root: NodeId,
@@ -74,7 +76,7 @@ fn plant_again<K: Ord + Drop, V: Drop, const LEN: usize>(
     Ok(root)
 }
 
-/// A leaf with this pair alone.
+/// Returns a leaf that holds this pair alone.
 fn leaf_with<K: Ord + Drop, V: Drop, const LEN: usize>(key: K, val: V) -> LeafOf<K, V, LEN>
     requires { IsLen LEN }
     ensures array { result.array ≡ in_order ((key, val) ∷ []) }

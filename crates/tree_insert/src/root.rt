@@ -1,4 +1,4 @@
-//! How a root makes room: it grows by a level, or gets a leaf where it has none.
+//! Growth at the root: a level above a full root, or a new leaf under a retired one.
 ghost use Rattle.std.specs.Prelude.{◌≡◌, ◌⊎◌, ◌+◌, ◌^◌, ◌<◌, ◌≤◌, IfOk, IsOk, OnErr};
 ghost use Rattle.tree_array.specs.Length.{IsLen};
 ghost use Rattle.tree_leaf.specs.Arena.{HasPlaces};
@@ -15,13 +15,16 @@ use tree_node::internal_node::InternalNodeOf;
 use tree_node::leaf_node::LeafNodeOf;
 use tree_node::node::{ArenasOf, NodeOf, slots_left};
 
-/// Makes room at a root, so that the next insert under the number that it returns asks for no split.
+/// Makes room at a root, and returns the number of the root that stands then: the next insert under it finds room.
 ///
-/// A root that is retired keeps its number and becomes a leaf node over a new, empty leaf, at level 1. Any other root
-/// comes under a new one, a level higher, and is split there.
+/// A retired root keeps its number and becomes a leaf node, at level 1, over a new, empty leaf. Any other root comes
+/// under a new one, a level higher, and is split there, or built anew if it has few keyed children.
 ///
-/// Returns `Err` if memory is refused; nothing has changed then. Allocates one leaf for a retired root, and two nodes
-/// at most for another; it isn't refused where places for these were reserved. Makes at most `LEN` comparisons.
+/// Returns `Err` if memory is refused; nothing has changed then. Allocates one leaf for a retired root and two nodes at
+/// most for any other, and isn't refused where these were reserved.
+///
+/// Makes no comparisons: a retired root has no key, and the separator that a split gives to the new root is the first
+/// in its array.
 ///
 /// The caller must see that a well-formed tree of this depth stands under the root, or that the root is retired.
 pub fn grow_root_at<K: Ord + Drop, V: Drop, const LEN: usize>(
@@ -46,11 +49,11 @@ pub fn grow_root_at<K: Ord + Drop, V: Drop, const LEN: usize>(
     }
 }
 
-/// Puts a root under a new one and splits it there, or builds it anew if it has few keyed children. Returns the new
-/// root's number.
+/// Puts a root under a new one and splits it there at its array's boundary, or builds it anew if at most three quarters
+/// of its slots hold keyed children. Returns the new root's number.
 ///
-/// Returns `Err` if memory is refused; nothing has changed then. Allocates two nodes at most, before anything changes;
-/// it isn't refused where two nodes were reserved. Makes no comparisons.
+/// Returns `Err` if memory is refused; nothing has changed then. Allocates two nodes at most, and isn't refused where two
+/// were reserved. Makes no comparisons: the separator of a split is the first in the new root's array.
 ///
 /// The caller must see that a well-formed tree of this depth stands under the root, which isn't retired.
 pub fn split_root_at<K: Ord + Drop, V: Drop, const LEN: usize>(
@@ -80,7 +83,8 @@ pub fn split_root_at<K: Ord + Drop, V: Drop, const LEN: usize>(
     }
 }
 
-/// Puts a leaf node over a new, empty leaf in place of a retired node.
+/// Puts a leaf node over a new, empty leaf in place of a retired node. Returns `Err` if memory is refused; nothing has
+/// changed then.
 fn replant<K: Ord + Drop, V: Drop, const LEN: usize>(
     arenas: &mut ArenasOf<K, V, LEN>,
     root: NodeId,

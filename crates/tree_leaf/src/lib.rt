@@ -4,5 +4,3 @@
 pub mod arena;
 pub mod laws;
 pub mod leaf;
-#[cfg(test)]
-mod tests;

@@ -5,16 +5,14 @@ ghost use Rattle.tree_model.specs.Pairs.{meets_lower, meets_upper, within};
 
 use std::ops::Bound;
 
-/// Whether a key is within both bounds, each by itself: reversed bounds contain no key.
-///
-/// It compares at most twice.
+/// Returns whether a key is within both bounds. Reversed bounds contain no key. Makes at most two comparisons.
 pub fn range_contains<K: Ord>(bounds: (Bound<&K>, Bound<&K>), key: &K) -> bool
     ensures { result ≡ within K.cmp (bound_map (λ k. k.now) bounds.entry.0) (bound_map (λ k. k.now) bounds.entry.1) key.now }
 {
     is_above(bounds.0, key) && is_below(bounds.1, key)
 }
 
-/// Whether a key meets a lower bound.
+/// Returns whether a key meets a lower bound. Makes at most one comparison.
 pub fn is_above<K: Ord>(low: Bound<&K>, key: &K) -> bool
     ensures { result ≡ meets_lower K.cmp (bound_map (λ k. k.now) low.entry) key.now }
 {
@@ -25,7 +23,7 @@ pub fn is_above<K: Ord>(low: Bound<&K>, key: &K) -> bool
     }
 }
 
-/// Whether a key meets an upper bound.
+/// Returns whether a key meets an upper bound. Makes at most one comparison.
 pub fn is_below<K: Ord>(high: Bound<&K>, key: &K) -> bool
     ensures { result ≡ meets_upper K.cmp (bound_map (λ k. k.now) high.entry) key.now }
 {

@@ -1,51 +1,51 @@
-//! Commands of an index, what it answers to them, and the record of both.
+//! The commands of an index, its replies, and the record of both in a history.
 
 use std::error::Error;
 use std::fmt;
 
-/// One call of an index.
+/// A call of an index, as a value.
 #[derive(Debug, PartialEq, Eq, Drop)]
 pub enum Command<K, V> {
-    /// Stores a pair whose key is absent.
+    /// Stores a pair if its key is absent.
     Insert(K, V),
-    /// Stores a pair, in place of one whose key equals its own.
+    /// Stores a pair. A pair with an equal key is replaced.
     Upsert(K, V),
-    /// Removes the pair at a key.
+    /// Removes the pair with a key.
     Remove(K),
-    /// Looks a key up.
+    /// Looks up a key.
     Peek(K),
 }
 
-/// What an index answers to a command.
+/// The reply to a command.
 #[derive(Debug, PartialEq, Eq, Drop)]
 pub enum Reply<V> {
     /// The pair was stored.
     Stored,
     /// The key is present, and nothing changed.
     Duplicate,
-    /// Whether there was a pair at the key, which is gone.
+    /// Whether a pair was removed.
     Removed(bool),
-    /// The value at the key, if the key is present.
+    /// The value of the key, or `None` if the key is absent.
     Found(Option<V>),
-    /// Memory was refused, and nothing changed.
+    /// An allocation was refused, and nothing changed.
     Refused,
 }
 
-/// A command of a history, and what was answered to it.
+/// A command in a history, with its reply.
 #[derive(Debug, PartialEq, Eq, Drop)]
 pub struct Record<K, V> {
-    /// What was asked.
+    /// The command.
     pub command: Command<K, V>,
-    /// What was answered.
+    /// The reply.
     pub reply: Reply<V>,
 }
 
-/// Why a pair was not inserted, with that pair.
+/// The error of an insert. It hands the pair back.
 #[derive(Debug, PartialEq, Eq, Drop)]
 pub enum InsertError<K, V> {
     /// The key is present.
     Duplicate(K, V),
-    /// The key is absent, and memory for the pair was refused.
+    /// The key is absent, and an allocation for the pair was refused.
     OutOfMemory(K, V),
 }
 

@@ -1,17 +1,19 @@
-//! What an index asks of its keys, and what a history asks of keys and values.
+//! What an index requires of its keys, and what a history requires of keys and values.
 ghost use Rattle.std.specs.Prelude.{◌≡◌, ℕ, ℤ, Bool, List, string_bytes};
 ghost use Rattle.std.specs.declared.cmp.Ordering.TheVariants.{Equal};
 ghost use Rattle.std.proofs.Common.{sym};
 ghost use Rattle.tree_model.specs.Keys.{equal_booleans, equal_integers, equal_numbers, equal_texts};
 
-/// A key of an index: its order is total and agrees with its equality, as `Ord` asks, and a clone
-/// that succeeds compares equal to its source.
+/// A key of an index. Its order is total and agrees with its equality, as `Ord` requires, and a clone compares equal
+/// to its source.
+///
+/// An index clones a key where it needs a separator. A clone that is refused memory refuses the insert.
 pub trait IndexKey: Clone + Ord + Drop {
     ghost clone_equal: { (x y : Self) → Self.is_clone x y → Self.cmp x y ≡ Equal };
 }
 
-/// A key or a value that a history may keep a clone of: contracts see in it what `seen` names, and
-/// a clone that succeeds is seen the same.
+/// A key or a value that a history may keep a clone of. Contracts see a value as its `seen`, and a clone is seen as
+/// its source is.
 pub trait SameClone: Clone + Drop {
     ghost Seen: { Type 0 };
 
@@ -36,7 +38,7 @@ impl IndexKey for String {
     ghost clone_equal = { λ x y h. equal_texts (string_bytes x) (string_bytes y) h };
 }
 
-/// Of a text its bytes are seen.
+/// A text is seen as its bytes.
 impl SameClone for String {
     ghost Seen = { List ℕ };
 

@@ -1,23 +1,23 @@
-//! Laws of the definitions, each as the contract of a function that does nothing. A caller that
-//! reasons about an index calls one to have its law.
+//! Laws of the definitions. Each is the contract of a function that does nothing: call it where a proof needs the
+//! law.
 ghost use Rattle.tree_model.specs.Laws.{EditsKeepOrder, EditsAreFound, LookUpsTellLists, LaterPutStays};
 
-/// Storing, removing and cutting leave an ascending list ascending.
+/// Storing, removing and cutting keep an ascending list ascending.
 pub fn edits_keep_order<K: Ord, V>()
     ensures { EditsKeepOrder K V K.cmp }
 {}
 
-/// A look-up after an edit finds what the edit says at its own key, and what it found before at any other.
+/// A look-up after an edit finds what the edit left at its key, and finds what it found before at every other key.
 pub fn edits_are_found<K: Ord, V>()
     ensures { EditsAreFound K V K.cmp }
 {}
 
-/// Two ascending lists in which every look-up finds the same are one list.
+/// Two ascending lists are the same if every look-up finds the same in both.
 pub fn look_ups_tell_lists<K: Ord, V>()
     ensures { LookUpsTellLists K V K.cmp }
 {}
 
-/// Of two pairs stored at equal keys the later one stays, as if it had been stored alone.
+/// Of two pairs stored at equal keys the later one stays, as if it were the only one stored.
 pub fn later_put_stays<K: Ord, V>()
     ensures { LaterPutStays K V K.cmp }
 {}

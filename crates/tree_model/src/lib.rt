@@ -1,5 +1,5 @@
-//! What an index means: a list of pairs in strictly ascending order of their keys, and the
-//! commands that it answers.
+//! What an index means: a list of pairs in strictly ascending key order, the commands that it answers, and the
+//! histories of its calls.
 #![tactic(auto)]
 
 mod bounds;

@@ -1,4 +1,4 @@
-//! The plain program: an index over one ascending vector, against which others are compared.
+//! A plain index over one ascending vector, which tests compare the tree with.
 ghost use Rattle.std.specs.Prelude.{◌≡◌, ◌≤◌, ◌↔◌, IsTrue, List, [], length, IfOk, IfErr, OnErr};
 ghost use Rattle.std.specs.Fn.{FnOnceReturnsAt, FnOnceTakesAt};
 ghost use Rattle.std.specs.Option.{ForSome, option_copied, option_map};
@@ -15,7 +15,7 @@ use std::ops::Bound;
 
 /// An ordered index over one ascending vector of pairs. Contracts see the list of its pairs.
 ///
-/// A look-up compares at most about log2 of the length; an edit moves the pairs behind its place.
+/// A look-up makes *O*(log(*n*)) comparisons. An edit moves the pairs behind it, and so runs in *O*(*n*).
 #[derive(Drop)]
 pub struct PlainIndex<K: Ord + Drop, V: Drop> {
     pairs: Vec<(K, V)>,
@@ -33,7 +33,7 @@ impl<K: Ord + Drop, V: Drop> Model for PlainIndex<K, V> {
 }
 
 impl<K: Ord + Drop, V: Drop> PlainIndex<K, V> {
-    /// The empty index. It takes no memory yet.
+    /// Creates an empty index. Allocates nothing.
     pub fn new(alloc: Global) -> Self
         ensures { result ≡ [] }
     {
@@ -42,9 +42,10 @@ impl<K: Ord + Drop, V: Drop> PlainIndex<K, V> {
         }
     }
 
-    /// Stores a pair whose key is absent.
+    /// Stores a pair if its key is absent.
     ///
-    /// A duplicate comes back with its pair, and so does a pair for which memory is refused; either leaves the index as it was.
+    /// Returns `Duplicate` if the key is present, and `OutOfMemory` if an allocation is refused. Both hand the pair
+    /// back, and nothing changed.
     pub fn insert(&mut self, key: K, value: V) -> Result<(), InsertError<K, V>>
         ensures { Inserts K.cmp self.old key value result self.new }
     {
@@ -57,7 +58,7 @@ impl<K: Ord + Drop, V: Drop> PlainIndex<K, V> {
         }
     }
 
-    /// The pair whose key equals `key`.
+    /// Returns the pair with a key.
     pub fn peek_entry(&self, key: &K) -> Option<&(K, V)>
         ensures { option_copied result ≡ pair_at K.cmp self.now key.now }
     {
@@ -67,7 +68,7 @@ impl<K: Ord + Drop, V: Drop> PlainIndex<K, V> {
         }
     }
 
-    /// The value at a key.
+    /// Returns the value of a key.
     pub fn peek(&self, key: &K) -> Option<&V>
         ensures found { option_copied result ≡ option_map (λ pair. pair.1) (pair_at K.cmp self.now key.now) }
         ensures ascending { IsAscending K.cmp self.now }
@@ -78,7 +79,7 @@ impl<K: Ord + Drop, V: Drop> PlainIndex<K, V> {
         }
     }
 
-    /// All pairs, in ascending order.
+    /// Returns all pairs, in key order. Runs in constant time.
     pub fn pairs(&self) -> &[(K, V)]
         ensures all { result.now ≡ self.now }
         ensures ascending { IsAscending K.cmp self.now }
@@ -86,9 +87,9 @@ impl<K: Ord + Drop, V: Drop> PlainIndex<K, V> {
         &self.pairs
     }
 
-    /// Stores a pair, in place of one whose key equals its own: the stored key is the new one too.
+    /// Stores a pair. A pair with an equal key is replaced, key and value.
     ///
-    /// Only memory for an absent key can be refused: the pair comes back, and the index is as it was.
+    /// Returns `Err` with the pair if the key is absent and an allocation is refused; nothing changed then.
     pub fn upsert(&mut self, key: K, value: V) -> Result<(), (K, V)>
         ensures edit { Upserts K.cmp self.old key value result self.new }
         ensures refused { OnErr result (IsAbsent K.cmp self.old key) }
@@ -102,7 +103,7 @@ impl<K: Ord + Drop, V: Drop> PlainIndex<K, V> {
         }
     }
 
-    // Stores a pair in the gap that a search found for its key.
+    // Inserts a pair at the gap that a search found for its key.
     fn fill(&mut self, place: usize, key: K, value: V) -> Result<(), (K, V)>
         requires gap { IsGap K.cmp self.old key place }
         requires few { place ≤ length self.old }
@@ -114,7 +115,7 @@ impl<K: Ord + Drop, V: Drop> PlainIndex<K, V> {
         Ok(())
     }
 
-    /// Removes the pair at a key, and says whether there was one.
+    /// Removes the pair with a key. Returns whether there was one.
     pub fn remove(&mut self, key: &K) -> bool
         ensures answer { IsTrue result ↔ IsPresent K.cmp self.old key.now }
         ensures left { self.new ≡ without K.cmp self.old key.now }
@@ -128,10 +129,9 @@ impl<K: Ord + Drop, V: Drop> PlainIndex<K, V> {
         }
     }
 
-    /// Removes the pair at a key where the condition says so of its value, and says whether it did.
+    /// Removes the pair with a key if the condition holds of its value. Returns whether it did.
     ///
-    /// The condition is asked once if the key is present, else never. Caller's condition: it may be
-    /// asked of the value at the key.
+    /// Calls the condition once if the key is present, else never. The condition must accept the value of the key.
     pub fn remove_if<F: FnOnce(&V) -> bool + Drop>(&mut self, key: &K, condition: F) -> bool
         requires { ForSome (pair_at K.cmp self.old key.now) (λ pair. FnOnceTakesAt F.FnOnce condition pair.1) }
         ensures { RemovesIf K.cmp (FnOnceReturnsAt F.FnOnce condition) self.old key.now result self.new }
@@ -146,7 +146,7 @@ impl<K: Ord + Drop, V: Drop> PlainIndex<K, V> {
         true
     }
 
-    /// Removes each pair whose key is within both bounds.
+    /// Removes every pair whose key is within both bounds.
     pub fn remove_range(&mut self, bounds: (Bound<&K>, Bound<&K>))
         ensures { self.new ≡ cut K.cmp self.old (bound_map (λ k. k.now) bounds.entry.0) (bound_map (λ k. k.now) bounds.entry.1) }
     {
@@ -160,21 +160,21 @@ impl<K: Ord + Drop, V: Drop> PlainIndex<K, V> {
         self.pairs.clear();
     }
 
-    /// How many pairs there are.
+    /// Returns the number of pairs. Runs in constant time.
     pub fn len(&self) -> usize
         ensures { result ≡ length self.now }
     {
         self.pairs.len()
     }
 
-    /// Whether there is no pair.
+    /// Returns whether the index is empty. Runs in constant time.
     pub fn is_empty(&self) -> bool
         ensures { IsTrue result ↔ (self.now ≡ []) }
     {
         self.pairs.is_empty()
     }
 
-    // Where the key is, or before which place it would go.
+    // Returns the place of a key, or the place where it would be inserted.
     fn place_of(&self, key: &K) -> Result<usize, usize>
         ensures found { IfOk result (IsPlace K.cmp self.now key.now) }
         ensures gap { IfErr result (IsGap K.cmp self.now key.now) }

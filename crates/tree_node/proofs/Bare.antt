@@ -8,12 +8,11 @@ use Rattle.slab.specs.Slab.{Slab, get}
 use Rattle.tree_array.specs.Arrivals.{in_order}
 use Rattle.tree_array.specs.Length.{IsLen}
 use Rattle.tree_leaf.specs.declared.leaf.LeafOf.{LeafOf}
-use Rattle.tree_leaf.specs.Arena.{IsEmpty, KeepsBoth}
+use Rattle.tree_leaf.specs.Arena.{IsEmpty}
 use Rattle.tree_leaf.specs.Counting.{times, uses}
 use Rattle.tree_leaf.proofs.Counts.{times-nil, times-cons, none_here, one_here, uses_none, uses_some}
 use Rattle.tree_node.specs.declared.node.NodeOf.{NodeOf}
 use Rattle.tree_node.specs.Arenas.{TreeArenas}
-use Rattle.tree_node.specs.Parts.{Unchanged}
 use Rattle.tree_node.specs.Tree.{AreParted, HasKind, IsRetiredNode, Stands, keyed, unbounded, leaves_at, nodes_at, leaves_of, node_children}
 use Rattle.tree_node.specs.Whole.{HasNoOther, HasOnly, IsRetiredRoot, IsTree, leaves_under}
 
@@ -131,13 +130,6 @@ module _ {K V : Type 0} {LEN : ℕ} (cmp : K → K → Ordering) (a : TreeArenas
     pairs = rw (leaves_are, leaf_here, array) refl;
     spare = rw (leaves_are, leaf_here, array) (omega (arith, some));
   }
-
--- what a reserve leaves
-pub unchanged_kept : {K V : Type 0} {LEN : ℕ} (old new : TreeArenas K V LEN) → KeepsBoth old new → Unchanged old new
-unchanged_kept old new kept = record {
-  leaves = λ n. ap (λ slots. slice_index_or slots n None) kept.leaves.slots;
-  nodes = λ n. ap (λ slots. slice_index_or slots n None) kept.nodes.slots;
-}
 
 -- arenas without numbers in use hold the tree without a root
 pub empty_tree : {K V : Type 0} {LEN : ℕ} (cmp : K → K → Ordering) (a : TreeArenas K V LEN) → IsEmpty a → IsTree cmp a None

@@ -3,22 +3,21 @@ use Rattle.std.proofs.Common.{◌≡◌, ℕ, suc, ◌≤◌, min, Bool, true, f
 use Rattle.std.specs.List.{flat_map, AllByRecursion}
 use Rattle.std.specs.declared.cmp.Ordering.{Ordering}
 use Rattle.std.specs.Cmp.{IsTotalOrder}
-use Rattle.std.proofs.lemmas.List.Concat.{flat_map-append}
+use Rattle.std.proofs.lemmas.List.{append-nil}
 use Rattle.slab.specs.Slab.{get}
 use Rattle.tree_leaf.specs.Counting.{times, uses}
-use Rattle.tree_leaf.proofs.Counts.{times-append, one_here, uses_le_one}
+use Rattle.tree_leaf.proofs.Counts.{one_here, uses_le_one}
 use Rattle.tree_model.proofs.Lists.{all_map, all-append}
 use Rattle.tree_node.specs.Arenas.{TreeArenas}
 use Rattle.tree_node.specs.Parts.{IsPart, KeepsBounds, Replaces}
 use Rattle.tree_node.specs.Shape.{spare}
 use Rattle.tree_node.specs.Tree.{IsAbove, IsUpTo, AreParted, keyed, child_at, front_at, back_at, is_from, HasChildFor, Stands, walk, leaves_at, leaves_of, children_of}
 use Rattle.tree_node.proofs.Children.{child_stands}
-use Rattle.tree_node.proofs.Frames.{parted_map, Agrees, same_walk, same_stands}
-use Rattle.tree_node.proofs.Lifts.{node_times, leaves_are, grouped_as, front_agrees, back_agrees, lifted, single_leaves, single_nodes}
-use Rattle.tree_node.proofs.Lists.{flat_map_same}
+use Rattle.tree_node.proofs.Frames.{parted_map, Agrees, same_stands}
+use Rattle.tree_node.proofs.Lifts.{node_times, leaves_are, leaves_once_in, grouped_as, front_agrees, back_agrees, lifted, single_leaves, single_nodes, walk_now, walk_was}
 use Rattle.tree_node.proofs.Order.{upto_from_test, less_from_test}
 use Rattle.tree_node.proofs.Spares.{spares, spares_same, spare_split, spares-single}
-use Rattle.tree_node.proofs.Walks.{walk-children, child_is, children_split}
+use Rattle.tree_node.proofs.Walks.{child_is, children_split}
 
 module _ {K : Type 0} {cmp : K → K → Ordering} (o : IsTotalOrder cmp) (A B : Option K → ℕ → Option K → Type 0) (k : K) where
   -- the children stay parted where the key's child stays between its bounds, if the key is between them, and each other child stays
@@ -48,8 +47,7 @@ module _ {K : Type 0} {cmp : K → K → Ordering} (o : IsTotalOrder cmp) (A B :
 module _ {K V : Type 0} {LEN : ℕ} {cmp : K → K → Ordering} (o : IsTotalOrder cmp) (level : ℕ) (old : TreeArenas K V LEN) (id child : ℕ) (k : K)
     (part : IsPart cmp (suc level) old id) (which : HasChildFor cmp k (get old.nodes id) child) where
   pub leaves_once : (n : ℕ) → times n (leaves_at (suc level) old.nodes id) ≤ uses old.leaves n
-  leaves_once n =
-      omega (arith, part.chain.once n, times-append n part.front (leaves_at (suc level) old.nodes id ++ part.back), times-append n (leaves_at (suc level) old.nodes id) part.back)
+  leaves_once = leaves_once_in (suc level) old id part
 
   -- at some bounds of the node
   module _ (low high : Option K) (s : Stands cmp (suc level) old low id high) where
@@ -99,16 +97,17 @@ module _ {K V : Type 0} {LEN : ℕ} {cmp : K → K → Ordering} (o : IsTotalOrd
       node_replaces = lifted level old new new id front (child ∷ []) (child ∷ []) back replaces was now part.nodes_once leaves_once (λ n differs. refl) (rw (same_node, s.here) refl) refl
 
       pub old_walk : walk (suc level) old id ≡ flat_map (walk level old) front ++ (walk level old child ++ flat_map (walk level old) back)
-      old_walk = rw (walk-children level old id, was, flat_map-append (walk level old) front) refl
+      old_walk =
+          rw (
+            walk_was level old new new id front (child ∷ []) (child ∷ []) back replaces was now part.nodes_once leaves_once (λ n differs. refl) (rw (same_node, s.here) refl) refl,
+            append-nil (walk level old child),
+          ) refl
 
       pub new_walk : walk (suc level) new id ≡ flat_map (walk level old) front ++ (walk level new child ++ flat_map (walk level old) back)
       new_walk =
           rw (
-            walk-children level new id,
-            now,
-            flat_map-append (walk level new) front,
-            flat_map_same (walk level new) (walk level old) front (all_map (λ x same. same_walk level old new x same) _ fronts),
-            flat_map_same (walk level new) (walk level old) back (all_map (λ x same. same_walk level old new x same) _ backs),
+            walk_now level old new new id front (child ∷ []) (child ∷ []) back replaces was now part.nodes_once leaves_once (λ n differs. refl) (rw (same_node, s.here) refl) refl,
+            append-nil (walk level new child),
           ) refl
 
       -- the node stands where the child does if the key is between the bounds

@@ -1,6 +1,7 @@
 -- A change of some children of a node is a change of the part under the node.
 use Rattle.std.proofs.Common.{◌≡◌, ℕ, suc, ◌+◌, ◌≤◌, ◌==◌, cond, List, [], ◌∷◌, ◌++◌, is_some, IsSome, refl, ap, ◌∙◌, arith, append_assoc, inl, inr}
-use Rattle.std.specs.List.{AllByRecursion}
+use Rattle.std.specs.List.{flat_map, AllByRecursion}
+use Rattle.std.specs.declared.cmp.Ordering.{Ordering}
 use Rattle.std.proofs.lemmas.Bool.{cases_eq}
 use Rattle.std.proofs.lemmas.List.{append-nil}
 use Rattle.std.proofs.lemmas.List.Concat.{flat_map-append}
@@ -12,10 +13,11 @@ use Rattle.tree_leaf.proofs.Counts.{times-append, times-cons, one_here, uses_le_
 use Rattle.tree_model.proofs.Lists.{all_map}
 use Rattle.tree_node.specs.declared.node.NodeOf.{NodeOf}
 use Rattle.tree_node.specs.Arenas.{TreeArenas}
-use Rattle.tree_node.specs.Parts.{Replaces}
-use Rattle.tree_node.specs.Tree.{leaves_at, nodes_at, leaves_of, nodes_of, children_of}
-use Rattle.tree_node.proofs.Frames.{each_part, all_both, Agrees, same_leaves, same_nodes}
+use Rattle.tree_node.specs.Parts.{IsPart, Replaces}
+use Rattle.tree_node.specs.Tree.{leaves_at, nodes_at, leaves_of, nodes_of, children_of, walk}
+use Rattle.tree_node.proofs.Frames.{each_part, all_both, Agrees, same_leaves, same_nodes, same_walk}
 use Rattle.tree_node.proofs.Lists.{flat_map_same}
+use Rattle.tree_node.proofs.Walks.{walk-children}
 
 pub single_leaves : {K : Type 0} {LEN : ℕ} (level : ℕ) (nodes : Slab (NodeOf K LEN)) (id : ℕ) → leaves_of level nodes (id ∷ []) ≡ leaves_at level nodes id
 single_leaves level nodes id = append-nil _
@@ -25,6 +27,11 @@ single_nodes level nodes id = append-nil _
 
 pub grouped_as : (a b c d e : List ℕ) → a ++ ((b ++ (c ++ d)) ++ e) ≡ (a ++ b) ++ (c ++ (d ++ e))
 grouped_as a b c d e = simp append_assoc
+
+-- a part has each of its leaves once
+pub leaves_once_in : {K V : Type 0} {LEN : ℕ} {cmp : K → K → Ordering} (level : ℕ) (a : TreeArenas K V LEN) (id : ℕ) → IsPart cmp level a id → (n : ℕ) → times n (leaves_at level a.nodes id) ≤ uses a.leaves n
+leaves_once_in level a id part n =
+    omega (arith, part.chain.once n, times-append n part.front (leaves_at level a.nodes id ++ part.back), times-append n (leaves_at level a.nodes id) part.back)
 
 -- the numbers under a node whose children are these
 module _ {K : Type 0} {LEN : ℕ} (level : ℕ) (nodes : Slab (NodeOf K LEN)) (id : ℕ) (front ids back : List ℕ) (was : children_of nodes id ≡ front ++ (ids ++ back)) where
@@ -152,6 +159,22 @@ module _ {K V : Type 0} {LEN : ℕ} (level : ℕ) (old mid new : TreeArenas K V 
         omega (arith, used, one, nodes_split n, nodes_once n, uses_le_one old.nodes n, uses_le_one mid.nodes n, r.nodes_counted n)
     | inr differs ↦ let kept = uses_same mid.nodes new.nodes n (ap is_some (others n differs)) in omega (arith, kept, r.nodes_counted n)
   ]
+
+  -- the walks of the changed children stand between those of the others
+  pub walk_was : walk (suc level) old id ≡ flat_map (walk level old) front ++ (flat_map (walk level old) ids ++ flat_map (walk level old) back)
+  walk_was = rw (walk-children level old id, was, flat_map-append (walk level old) front, flat_map-append (walk level old) ids) refl
+
+  pub walk_now : walk (suc level) new id ≡ flat_map (walk level old) front ++ (flat_map (walk level mid) ids' ++ flat_map (walk level old) back)
+  walk_now =
+      rw (
+        walk-children level new id,
+        now,
+        flat_map-append (walk level new) front,
+        flat_map-append (walk level new) ids',
+        flat_map_same (walk level new) (walk level old) front (all_map (λ x same. same_walk level old new x same) _ front_agrees),
+        flat_map_same (walk level new) (walk level old) back (all_map (λ x same. same_walk level old new x same) _ back_agrees),
+        flat_map_same (walk level new) (walk level mid) ids' (all_map (λ x same. same_walk level mid new x same) _ changed_agree),
+      ) refl
 
   -- the part under the node has become the part under the node
   pub lifted : Replaces (suc level) old new (id ∷ []) (id ∷ [])

@@ -1,11 +1,13 @@
 -- Parts of a tree in arenas, and how a call changes one. A part is what stands under some numbers of one level.
-use Rattle.std.specs.Prelude.{◌≡◌, ℕ, ◌+◌, ◌≤◌, List, ◌++◌, Option, None, IsSome}
+use Rattle.std.specs.Prelude.{◌≡◌, ℕ, ◌+◌, ◌≤◌, List, ◌++◌, length, Option, None, IsSome}
 use Rattle.std.specs.declared.cmp.Ordering.{Ordering}
 use Rattle.slab.specs.Slab.{get}
+use Rattle.tree_array.specs.Arrivals.{stored}
 use Rattle.tree_leaf.specs.Chain.{IsChain, SameArray}
 use Rattle.tree_leaf.specs.Counting.{times, uses}
+use Rattle.tree_node.specs.declared.node.NodeOf.{NodeOf}
 use Rattle.tree_node.specs.Arenas.{TreeArenas}
-use Rattle.tree_node.specs.Tree.{leaves_at, nodes_at, leaves_of, nodes_of, Stands}
+use Rattle.tree_node.specs.Tree.{HasKind, keyed, unbounded, leaves_at, nodes_at, leaves_of, nodes_of, Stands}
 
 module _ {K V : Type 0} {LEN : ℕ} where
   -- The part under the numbers `ids` has become the part under `ids'`, and nothing else has changed but links.
@@ -36,3 +38,10 @@ module _ {K V : Type 0} {LEN : ℕ} (cmp : K → K → Ordering) where
   -- the part keeps each pair of bounds that it had
   abbrev pub KeepsBounds : ℕ → TreeArenas K V LEN → TreeArenas K V LEN → ℕ → Type 0
   KeepsBounds level old new id = (low high : Option K) → Stands cmp level old low id high → Stands cmp level new low id high
+
+-- A node has got a keyed child, and has no more than fit.
+pub record PutsChild {K : Type 0} {LEN : ℕ} (cmp : K → K → Ordering) (old new : NodeOf K LEN) (separator : K) (id : ℕ) : Type 0 where
+  pub put : keyed new ≡ stored cmp (keyed old) separator id
+  pub few : length (keyed new).entries ≤ LEN
+  pub last : unbounded new ≡ unbounded old
+  pub kind : (level : ℕ) → HasKind level old → HasKind level new

@@ -1,4 +1,4 @@
-//! The level of a node of which the number alone is known.
+//! Finds the level of a node when only its number is known.
 ghost use Rattle.std.specs.Prelude.{◌≡◌, ◌<◌, None, ℕ};
 ghost use Rattle.tree_node.specs.Depth.{last_node};
 ghost use Rattle.tree_node.specs.Tree.{IsRetired, Stands, StandsOrRetired};
@@ -6,10 +6,10 @@ ghost use Rattle.tree_node.specs.Tree.{IsRetired, Stands, StandsOrRetired};
 use crate::node::{ArenasOf, NodeOf};
 use tree_leaf::arena::NodeId;
 
-/// The level of a node: how many nodes there are on the way from it to a leaf, itself among them. A
-/// retired node is at level 1. No comparisons; it reads one node a level.
+/// Returns the level of a node: the number of nodes on the path from it to a leaf, counting itself. A retired node is
+/// at level 1. Reads one node per level and makes no comparisons.
 ///
-/// Caller's condition: a well-formed part of a tree of `height` levels stands there, or a retired node.
+/// The caller must name a node under which a well-formed part of a tree of `height` levels stands, or a retired node.
 pub fn level_of<K: Ord + Drop, V: Drop, const LEN: usize>(
     arenas: &ArenasOf<K, V, LEN>,
     id: NodeId,
@@ -20,7 +20,7 @@ pub fn level_of<K: Ord + Drop, V: Drop, const LEN: usize>(
     ensures stands { Stands K.cmp height arenas.now None id None → result ≡ height }
     ensures retired { IsRetired height arenas.now id → result ≡ 1 }
 {
-    // The nodes on the way down are different ones, so a count of them fits.
+    // The nodes on the path are distinct, so their number fits.
     let _nodes = arenas.node_count();
     let mut level = 1;
     let mut below = arenas.node(id).last_node();
@@ -32,7 +32,7 @@ pub fn level_of<K: Ord + Drop, V: Drop, const LEN: usize>(
 }
 
 impl<K: Ord + Drop, const LEN: usize> NodeOf<K, LEN> {
-    /// The unbounded child, where it is a node.
+    /// Returns the unbounded child if it is a node.
     fn last_node(&self) -> Option<NodeId>
         ensures { result ≡ last_node self.now }
     {

@@ -6,8 +6,8 @@ ghost use Rattle.tree_array.specs.Length.{IsLen};
 use tree_array::array::ArrayOf;
 use tree_leaf::arena::NodeId;
 
-/// A node over nodes: up to `LEN` of them keyed, each by a separator that none of its keys exceeds,
-/// and an unbounded one for the keys above all separators. A retired one has no child.
+/// A node over nodes. It has up to `LEN` keyed children, each under a separator that no key of the child exceeds, and
+/// an unbounded child for the keys above all separators. A retired node has no child.
 #[derive(Drop)]
 pub struct InternalNodeOf<K: Ord, const LEN: usize> {
     pub children: ArrayOf<K, NodeId, LEN>,
@@ -18,7 +18,7 @@ pub struct InternalNodeOf<K: Ord, const LEN: usize> {
 pub type InternalNode<K> = InternalNodeOf<K, 15>;
 
 impl<K: Ord + Drop, const LEN: usize> InternalNodeOf<K, LEN> {
-    /// A node without keyed children. It takes no memory. Caller's condition: `LEN` is 7 or 15.
+    /// Creates a node without keyed children. Allocates nothing. The caller must choose 7 or 15 for `LEN`.
     pub fn new(unbounded: NodeId) -> Self
         requires { IsLen LEN }
         ensures keyed { result.children ≡ in_order [] }
@@ -30,14 +30,14 @@ impl<K: Ord + Drop, const LEN: usize> InternalNodeOf<K, LEN> {
         }
     }
 
-    /// The keyed children, by their separators.
+    /// Returns the keyed children under their separators.
     pub fn children(&self) -> &ArrayOf<K, NodeId, LEN>
         ensures { result.now ≡ self.now.children }
     {
         &self.children
     }
 
-    /// The number of the unbounded child, which a retired node has not.
+    /// Returns the number of the unbounded child. A retired node has none.
     pub fn unbounded_child(&self) -> Option<NodeId>
         ensures { result ≡ self.now.unbounded_child }
     {

@@ -6,8 +6,8 @@ ghost use Rattle.tree_array.specs.Length.{IsLen};
 use tree_array::array::ArrayOf;
 use tree_leaf::arena::LeafId;
 
-/// A node over leaves: up to `LEN` of them keyed, each by a separator that none of its keys exceeds,
-/// and an unbounded one for the keys above all separators. A retired one has no child.
+/// A node over leaves. It has up to `LEN` keyed leaves, each under a separator that no key of the leaf exceeds, and
+/// an unbounded leaf for the keys above all separators. A retired node has no child.
 #[derive(Drop)]
 pub struct LeafNodeOf<K: Ord, const LEN: usize> {
     pub children: ArrayOf<K, LeafId, LEN>,
@@ -18,7 +18,7 @@ pub struct LeafNodeOf<K: Ord, const LEN: usize> {
 pub type LeafNode<K> = LeafNodeOf<K, 15>;
 
 impl<K: Ord + Drop, const LEN: usize> LeafNodeOf<K, LEN> {
-    /// A node without keyed children. It takes no memory. Caller's condition: `LEN` is 7 or 15.
+    /// Creates a node without keyed children. Allocates nothing. The caller must choose 7 or 15 for `LEN`.
     pub fn new(unbounded: LeafId) -> Self
         requires { IsLen LEN }
         ensures keyed { result.children ≡ in_order [] }
@@ -30,14 +30,14 @@ impl<K: Ord + Drop, const LEN: usize> LeafNodeOf<K, LEN> {
         }
     }
 
-    /// The keyed children, by their separators.
+    /// Returns the keyed children under their separators.
     pub fn children(&self) -> &ArrayOf<K, LeafId, LEN>
         ensures { result.now ≡ self.now.children }
     {
         &self.children
     }
 
-    /// The number of the unbounded child, which a retired node has not.
+    /// Returns the number of the unbounded child. A retired node has none.
     pub fn unbounded_child(&self) -> Option<LeafId>
         ensures { result ≡ self.now.unbounded_child }
     {

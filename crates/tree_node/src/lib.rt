@@ -1,4 +1,5 @@
-//! Trees of nodes over linked leaves, in arenas under numbers, and what is looked up in them.
+//! Trees of nodes over linked leaves, kept in arenas under numbers: what a tree is, how a key finds its child, and
+//! look-ups.
 #![tactic(auto)]
 
 pub mod depth;

@@ -1,4 +1,4 @@
-//! Nodes of every kind, and the arenas that they stand in.
+//! Nodes of both kinds, and the arenas that hold them.
 ghost use Rattle.std.specs.Prelude.{◌≡◌, ◌↔◌, ◌≤◌, Some, IsTrue};
 ghost use Rattle.tree_array.specs.Length.{IsLen};
 ghost use Rattle.tree_node.specs.Depth.{HasNoKeyed};
@@ -20,14 +20,14 @@ pub enum NodeOf<K: Ord, const LEN: usize> {
 /// The node of fifteen keyed children.
 pub type Node<K> = NodeOf<K, 15>;
 
-/// The arenas of the leaves and the nodes of trees, with `LEN` slots in each array.
+/// The arenas of the leaves and nodes of trees, with `LEN` slots in each array.
 pub type ArenasOf<K, V, const LEN: usize> = SlotsOf<K, V, NodeOf<K, LEN>, LEN>;
 
 /// The arenas of trees with fifteen slots in each array.
 pub type Arenas<K, V> = ArenasOf<K, V, 15>;
 
 impl<K: Ord + Drop, const LEN: usize> NodeOf<K, LEN> {
-    /// Whether no child is left. Runs in constant time.
+    /// Returns whether the node has no child. Runs in constant time.
     pub fn is_childless(&self) -> bool
         ensures { IsTrue result ↔ IsRetiredNode (Some self.now) }
     {
@@ -37,7 +37,7 @@ impl<K: Ord + Drop, const LEN: usize> NodeOf<K, LEN> {
         }
     }
 
-    /// Whether no keyed child is left. Runs in constant time.
+    /// Returns whether the node has no keyed child. Runs in constant time.
     pub fn has_no_keyed(&self) -> bool
         ensures { IsTrue result ↔ HasNoKeyed (Some self.now) }
     {
@@ -48,7 +48,7 @@ impl<K: Ord + Drop, const LEN: usize> NodeOf<K, LEN> {
     }
 }
 
-/// How many keyed children can still arrive, and by its contract how many slots there are.
+/// Returns how many keyed children a node can still take. Runs in constant time.
 pub fn slots_left<K: Ord + Drop, const LEN: usize>(node: &NodeOf<K, LEN>) -> u8
     ensures few { result ≤ LEN }
     ensures len { IsLen LEN }

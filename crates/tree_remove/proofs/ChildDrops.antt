@@ -5,7 +5,6 @@ use Rattle.std.specs.declared.cmp.Ordering.{Ordering}
 use Rattle.std.specs.Cmp.{IsTotalOrder}
 use Rattle.std.proofs.lemmas.Cmp.{tied_itself}
 use Rattle.std.proofs.lemmas.List.{append-nil, map-append}
-use Rattle.std.proofs.lemmas.List.Concat.{flat_map-append}
 use Rattle.slab.specs.Slab.{get}
 use Rattle.tree_array.specs.declared.answers.RemoveResult.{RemoveResult}
 use Rattle.tree_array.specs.declared.answers.RemoveResult.TheVariants.{Success, Retired, Fail}
@@ -24,9 +23,8 @@ use Rattle.tree_node.specs.Shape.{spare}
 use Rattle.tree_node.specs.Tree.{AreParted, HasChildFor, IsRetired, Stands, back_at, children_of, front_at, is_from, keyed, unbounded, walk}
 use Rattle.tree_node.proofs.Between.{without_between}
 use Rattle.tree_node.proofs.ChildChanges.{leaves_once, was as children_were}
-use Rattle.tree_node.proofs.Frames.{parted_map, Agrees, same_walk, same_stands}
-use Rattle.tree_node.proofs.Lifts.{front_agrees, back_agrees, lifted, node_times}
-use Rattle.tree_node.proofs.Lists.{flat_map_same}
+use Rattle.tree_node.proofs.Frames.{parted_map, Agrees, same_stands}
+use Rattle.tree_node.proofs.Lifts.{front_agrees, back_agrees, lifted, node_times, walk_now, walk_was}
 use Rattle.tree_remove.proofs.NodeRemovals.{taken_between}
 use Rattle.tree_node.proofs.Spares.{spares_same, spare_split, spares-single, spare_le}
 use Rattle.tree_remove.proofs.Splits.{SplitAt, split_at, past_all}
@@ -67,17 +65,14 @@ module _ {K V : Type 0} {LEN : ℕ} {cmp : K → K → Ordering} (o : IsTotalOrd
     still_stand = all-append _ front back (all_map (λ x same. same_stands cmp level old new x same) _ fronts) (all_map (λ x same. same_stands cmp level old new x same) _ backs)
 
     old_walk : walk (suc level) old id ≡ flat_map (walk level old) front ++ (walk level old child ++ flat_map (walk level old) back)
-    old_walk = rw (walk-children level old id, children_are, flat_map-append (walk level old) front) refl
+    old_walk =
+        rw (
+          walk_was level old between new id front (child ∷ []) [] back r children_are now part.nodes_once (leaves_once o level old id child key part which) others here leaves,
+          append-nil (walk level old child),
+        ) refl
 
     new_walk : walk (suc level) new id ≡ flat_map (walk level old) front ++ ([] ++ flat_map (walk level old) back)
-    new_walk =
-        rw (
-          walk-children level new id,
-          now,
-          flat_map-append (walk level new) front,
-          flat_map_same (walk level new) (walk level old) front (all_map (λ x same. same_walk level old new x same) _ fronts),
-          flat_map_same (walk level new) (walk level old) back (all_map (λ x same. same_walk level old new x same) _ backs),
-        ) refl
+    new_walk = walk_now level old between new id front (child ∷ []) [] back r children_are now part.nodes_once (leaves_once o level old id child key part which) others here leaves
 
     takes : TakesOut cmp Says (walk level old child) key [] → TakesOut cmp Says (walk (suc level) old id) key (walk (suc level) new id)
     takes out =

@@ -1,7 +1,7 @@
-//! What a node does about a child that a removal retired.
+//! Clean-up after a removal that retired a child.
 //!
-//! The child is dropped by the node above it in the very removal that retired it. So a keyed child is never found
-//! retired, nor is any child of an internal node: each call drops the one child that it is told of.
+//! The node above a retired child drops it in the same removal. So no keyed child is ever found retired, nor any child of
+//! an internal node, and each function here drops the one child that it is given.
 ghost use Rattle.std.specs.Prelude.{◌≡◌, ℕ, suc, ◌++◌, ◌∷◌, IsSome, MatchOption, None, Some};
 ghost use Rattle.tree_leaf.specs.Chain.{IsChain};
 ghost use Rattle.slab.specs.Slab.{get};
@@ -14,7 +14,7 @@ use tree_leaf::arena::{LeafId, NodeId};
 use tree_leaf::leaf::unlink;
 use tree_node::node::{ArenasOf, NodeOf};
 
-/// Drops a keyed leaf, and takes it out of its node by the slot of its separator.
+/// Drops a keyed leaf and takes it out of its node, by the slot of its separator.
 pub(crate) fn drop_keyed_leaf<K: Ord + Drop, V: Drop, const LEN: usize>(
     arenas: &mut ArenasOf<K, V, LEN>,
     id: NodeId,
@@ -30,8 +30,8 @@ pub(crate) fn drop_keyed_leaf<K: Ord + Drop, V: Drop, const LEN: usize>(
     take_keyed(arenas, id, slot);
 }
 
-/// Drops a retired child of an internal node, and takes it out of the node, by the slot of its separator if
-/// it is a keyed one.
+/// Drops a retired child of an internal node and takes it out of the node: by the slot of its separator if it is a keyed
+/// child, and as the unbounded child without one.
 pub(crate) fn drop_child_node<K: Ord + Drop, V: Drop, const LEN: usize>(
     arenas: &mut ArenasOf<K, V, LEN>,
     id: NodeId,
@@ -53,8 +53,7 @@ pub(crate) fn drop_child_node<K: Ord + Drop, V: Drop, const LEN: usize>(
     }
 }
 
-/// Where a leaf node has no keyed leaf and its unbounded leaf is retired, drops that leaf, which retires the
-/// node.
+/// Drops the unbounded leaf of a leaf node if it is retired and there is no keyed leaf. The node is retired then.
 pub(crate) fn retire_if_empty<K: Ord + Drop, V: Drop, const LEN: usize>(
     arenas: &mut ArenasOf<K, V, LEN>,
     id: NodeId,
@@ -70,7 +69,7 @@ pub(crate) fn retire_if_empty<K: Ord + Drop, V: Drop, const LEN: usize>(
     take_unbounded(arenas, id)
 }
 
-/// The unbounded leaf of a leaf node, if it is retired and there is no keyed one.
+/// Returns the unbounded leaf of a leaf node if it is retired and there is no keyed leaf.
 fn only_retired<K: Ord + Drop, V: Drop, const LEN: usize>(
     arenas: &ArenasOf<K, V, LEN>,
     id: NodeId,
@@ -92,7 +91,7 @@ fn only_retired<K: Ord + Drop, V: Drop, const LEN: usize>(
     Some(last)
 }
 
-/// Takes a keyed child out of its node, by the slot of its separator.
+/// Takes a keyed child out of its node, by the slot of its separator. Other children keep their slots.
 fn take_keyed<K: Ord + Drop, V: Drop, const LEN: usize>(
     arenas: &mut ArenasOf<K, V, LEN>,
     id: NodeId,
@@ -112,8 +111,8 @@ fn take_keyed<K: Ord + Drop, V: Drop, const LEN: usize>(
     }
 }
 
-/// Takes the unbounded child out of its node. The keyed child with the greatest separator moves to its place;
-/// if there is none, the node is retired.
+/// Takes the unbounded child out of its node. The keyed child with the greatest separator takes its place; if there is
+/// none, the node is retired.
 fn take_unbounded<K: Ord + Drop, V: Drop, const LEN: usize>(
     arenas: &mut ArenasOf<K, V, LEN>,
     id: NodeId,
@@ -128,7 +127,7 @@ fn take_unbounded<K: Ord + Drop, V: Drop, const LEN: usize>(
     }
 }
 
-/// Moves the keyed child with the greatest separator to the place of the unbounded one.
+/// Makes the keyed child with the greatest separator the unbounded one. Its separator is dropped.
 fn move_last<K: Ord + Drop, I: Copy + Drop, const LEN: usize>(
     children: &mut ArrayOf<K, I, LEN>,
     unbounded: &mut Option<I>,

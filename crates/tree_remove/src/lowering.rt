@@ -1,4 +1,4 @@
-//! How a tree loses height.
+//! Levels that a tree loses at its root.
 ghost use Rattle.std.specs.Prelude.{◌⊎◌, ◌<◌};
 ghost use Rattle.slab.specs.Slab.{get};
 ghost use Rattle.tree_remove.specs.Lowering.{LowersRoot};
@@ -9,11 +9,13 @@ ghost use Rattle.tree_node.specs.Tree.{IsRetired};
 use tree_leaf::arena::NodeId;
 use tree_node::node::{ArenasOf, NodeOf};
 
-/// The root after a removal, and its level: a root that is an internal node without keyed children gives its
-/// place to its unbounded child, again and again, and None is left of a retired internal root. A root that is
-/// a leaf node stays, retired or not. No comparisons, and no memory.
+/// Returns the root that is left after a removal, and its level.
 ///
-/// Caller's condition: a well-formed part of a tree stands there, or a retired node.
+/// While the root is an internal node without keyed children, its unbounded child takes its place. A retired internal root
+/// leaves `None`. A root that is a leaf node stays, retired or not. Drops one node for each level that is lost; makes no
+/// comparisons and allocates nothing.
+///
+/// The caller must see that a well-formed part of a tree, or a retired node, stands under the number.
 pub fn lower_root_at<K: Ord + Drop, V: Drop, const LEN: usize>(
     arenas: &mut ArenasOf<K, V, LEN>,
     level: usize,

@@ -15,14 +15,15 @@ use tree_leaf::arena::{LeafId, NodeId};
 use tree_node::node::{ArenasOf, NodeOf};
 use tree_node::routing::child_place_for;
 
-/// Removes the pair with a key, where the condition says so of its value, under a number of this level. The
-/// condition is asked once if the key is there, else never.
+/// Removes the pair with an equal key from under the number of a node of this level, if the condition says yes of its
+/// value. The condition is called once if the key is there, and never otherwise.
 ///
-/// It answers `Fail` where the key is absent or the condition said no, and nothing changed; `Retired` where
-/// no child is left under the number; else `Success`. At most `LEN * (level + 1)` comparisons, and no memory.
+/// Returns `Fail` if the key is absent or the condition says no; nothing has changed then. Returns `Retired` if no child
+/// is left under the number, and `Success` otherwise. Makes at most `LEN * (level + 1)` comparisons and allocates
+/// nothing.
 ///
-/// Caller's condition: a well-formed part of a tree stands there, or a retired node; and the condition may be
-/// called on the value at the key.
+/// The caller must see that a well-formed part of a tree, or a retired node, stands under the number, and that the
+/// condition may be called on the value at the key.
 pub fn remove_at<K: Ord + Drop, V: Drop, F: FnOnce(&V) -> bool + Drop, const LEN: usize>(
     arenas: &mut ArenasOf<K, V, LEN>,
     level: usize,
@@ -66,7 +67,7 @@ pub fn remove_at<K: Ord + Drop, V: Drop, F: FnOnce(&V) -> bool + Drop, const LEN
     }
 }
 
-/// Removes the pair with a key from a leaf, where the condition says so of its value.
+/// Removes the pair with an equal key from a leaf, if the condition says yes of its value.
 fn remove_in_leaf<K: Ord + Drop, V: Drop, F: FnOnce(&V) -> bool + Drop, const LEN: usize>(
     arenas: &mut ArenasOf<K, V, LEN>,
     id: LeafId,

@@ -2,6 +2,8 @@
 #![tactic(auto)]
 
 #[cfg(test)]
+mod array;
+#[cfg(test)]
 mod chance;
 #[cfg(test)]
 mod compared;
@@ -11,6 +13,8 @@ mod histories;
 mod index;
 #[cfg(test)]
 mod keys;
+#[cfg(test)]
+mod leaf;
 #[cfg(test)]
 mod lines;
 #[cfg(test)]
@@ -25,5 +29,7 @@ mod refusals;
 mod runs;
 #[cfg(test)]
 mod shapes;
+#[cfg(test)]
+mod tallies;
 #[cfg(test)]
 mod walker;

@@ -1,4 +1,4 @@
-//! What is read off all that stands under the number of a node: its first and last entry, its spare, its pairs.
+//! Queries on a whole part of a tree: its least and greatest entry, its spare, and its pairs.
 #![tactic(auto)]
 
 pub mod ends;

@@ -1,4 +1,4 @@
-//! The entries under the number of a node, as `Debug` writes them.
+//! Writes the entries of a part of a tree, as `Debug` does.
 ghost use Rattle.std.specs.Prelude.{◌<◌, Some};
 ghost use Rattle.std.specs.List.{AllByRecursion};
 ghost use Rattle.slab.specs.Slab.{ContainsKey};
@@ -9,11 +9,10 @@ use tree_array::array::{ArrayIter, ArrayOf};
 use tree_leaf::arena::{LeafId, NodeId};
 use tree_node::node::{ArenasOf, NodeOf};
 
-/// Writes the pairs under a number of this level, in the order of their keys, as the list `[(1, 10), (3, 4)]`:
-/// `[]` for none. An `Err` is the writer's. No comparisons, and no memory but the writer's; it reads every node
-/// and every leaf under the number.
+/// Writes the pairs under a number in key order, as `[(1, 10), (3, 4)]`. Returns `Err` if the writer does. Reads
+/// every node and leaf under the number, makes no comparisons, and allocates nothing itself.
 ///
-/// Caller's condition, here and below: a well-formed part of a tree stands there, or a retired node.
+/// The caller must name a well-formed part of a tree at this level, or a retired node, here and below.
 pub fn list_at<K: Ord + Drop + fmt::Debug, V: Drop + fmt::Debug, W: fmt::Write, const LEN: usize>(
     arenas: &ArenasOf<K, V, LEN>,
     level: usize,
@@ -28,7 +27,7 @@ pub fn list_at<K: Ord + Drop + fmt::Debug, V: Drop + fmt::Debug, W: fmt::Write, 
     list.finish()
 }
 
-/// Adds the pairs under a number of this level to a list.
+/// Adds the pairs under a number to a list.
 fn list_pairs<K: Ord + Drop + fmt::Debug, V: Drop + fmt::Debug, W: fmt::Write, const LEN: usize>(
     arenas: &ArenasOf<K, V, LEN>,
     level: usize,
@@ -57,7 +56,7 @@ fn list_pairs<K: Ord + Drop + fmt::Debug, V: Drop + fmt::Debug, W: fmt::Write, c
     }
 }
 
-/// Adds the pairs of these keyed leaves and of the last.
+/// Adds the pairs of keyed leaves and of the unbounded one.
 fn list_leaves<K: Ord + Drop + fmt::Debug, V: Drop + fmt::Debug, W: fmt::Write, const LEN: usize>(
     arenas: &ArenasOf<K, V, LEN>,
     keyed: &ArrayOf<K, LeafId, LEN>,

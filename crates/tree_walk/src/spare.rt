@@ -1,4 +1,4 @@
-//! How much room the leaves under the number of a node have.
+//! The spare of a part of a tree: how much room its leaves have.
 ghost use Rattle.std.specs.Prelude.{◌≡◌, ◌<◌, Some};
 ghost use Rattle.std.specs.List.{AllByRecursion};
 ghost use Rattle.slab.specs.Slab.{ContainsKey};
@@ -10,11 +10,11 @@ use tree_array::array::{ArrayIter, ArrayOf};
 use tree_leaf::arena::{LeafId, NodeId};
 use tree_node::node::{ArenasOf, NodeOf, slots_left};
 
-/// The least number of slots never used in a leaf under a number of this level, where a retired leaf counts
-/// as full: as many pairs go there without memory, whatever their keys. 0 under a retired node, which has no
-/// leaf. No comparisons, no memory; it reads every node and every leaf under the number.
+/// Returns the least number of slots never used in any leaf under a number. A retired leaf counts 0, and so does a
+/// retired node. That many pairs can be inserted without allocating, whatever their keys. Reads every node and leaf
+/// under the number, makes no comparisons and allocates nothing.
 ///
-/// Caller's condition, here and below: a well-formed part of a tree stands there, or a retired node.
+/// The caller must name a well-formed part of a tree at this level, or a retired node, here and below.
 pub fn spare_at<K: Ord + Drop, V: Drop, const LEN: usize>(
     arenas: &ArenasOf<K, V, LEN>,
     level: usize,
@@ -32,7 +32,7 @@ pub fn spare_at<K: Ord + Drop, V: Drop, const LEN: usize>(
     least_free(arenas, level, id, LEN as u8)
 }
 
-/// The least number of slots never used in a leaf under a number of this level, if it is less than `most`.
+/// Returns the lesser of `most` and the spare under a number.
 fn least_free<K: Ord + Drop, V: Drop, const LEN: usize>(
     arenas: &ArenasOf<K, V, LEN>,
     level: usize,
@@ -63,7 +63,7 @@ fn least_free<K: Ord + Drop, V: Drop, const LEN: usize>(
     }
 }
 
-/// The same of these keyed leaves and of the last.
+/// Does the same for keyed leaves and the unbounded one.
 fn least_of_leaves<K: Ord + Drop, V: Drop, const LEN: usize>(
     arenas: &ArenasOf<K, V, LEN>,
     keyed: &ArrayOf<K, LeafId, LEN>,
@@ -80,7 +80,7 @@ fn least_of_leaves<K: Ord + Drop, V: Drop, const LEN: usize>(
     so_far.min(free_in(arenas, last))
 }
 
-/// How many slots of a leaf were never used, none of a retired one.
+/// Returns how many slots of a leaf were never used, or 0 if the leaf is retired.
 fn free_in<K: Ord + Drop, V: Drop, const LEN: usize>(
     arenas: &ArenasOf<K, V, LEN>,
     leaf: LeafId,

@@ -1,8 +1,8 @@
-//! What a workload does with an index: one call a key, and a number that all answers enter.
+//! The calls of a workload: one call per key, and a checksum of the answers.
 use std::alloc::AllocError;
 use tree_index::{IndexKey, TreeIndex};
 
-/// Inserts the keys, each with its place in the list as the value, and counts them.
+/// Inserts the keys, each with its place in the list as the value. Returns how many were inserted.
 pub fn insert_all<K: IndexKey>(
     index: &mut TreeIndex<K, u64>,
     keys: Vec<K>,
@@ -17,7 +17,7 @@ pub fn insert_all<K: IndexKey>(
     Ok(stored)
 }
 
-/// Upserts the keys, each with its place in the list as the value, and counts them.
+/// Upserts the keys, each with its place in the list as the value. Returns how many were stored.
 pub fn upsert_all<K: IndexKey>(
     index: &mut TreeIndex<K, u64>,
     keys: Vec<K>,
@@ -32,8 +32,8 @@ pub fn upsert_all<K: IndexKey>(
     Ok(stored)
 }
 
-/// Folds the values at the keys into a number, in the order of the list. Each enters greater by one, so that a value
-/// of 0 counts.
+/// Returns a checksum of the values of the keys, in the order of the list. Adds one to each value, so that a value of
+/// 0 counts.
 pub fn peek_all<K: IndexKey>(index: &TreeIndex<K, u64>, keys: &[K]) -> u64 {
     let mut sum = 0u64;
     for key in keys {
@@ -44,7 +44,7 @@ pub fn peek_all<K: IndexKey>(index: &TreeIndex<K, u64>, keys: &[K]) -> u64 {
     sum
 }
 
-/// Removes the keys, and counts those that were there.
+/// Removes the keys. Returns how many were present.
 pub fn remove_all<K: IndexKey>(index: &mut TreeIndex<K, u64>, keys: &[K]) -> u64 {
     let mut removed = 0u64;
     for key in keys {

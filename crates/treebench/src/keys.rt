@@ -1,21 +1,21 @@
-//! Keys in an order that is the same in every run.
+//! Keys in the same order in every run.
 use std::alloc::{AllocError, Global};
 
-/// A xorshift generator of 64 bits: each number but 0 comes once before one comes again.
+/// A 64-bit xorshift generator. Every number but 0 comes once before any comes again.
 #[derive(Drop)]
 pub struct Numbers {
     last: u64,
 }
 
 impl Numbers {
-    /// The numbers from the fixed seed on.
+    /// Creates a generator from the fixed seed.
     pub fn new() -> Self {
         Numbers {
             last: 0x9e37_79b9_7f4a_7c15,
         }
     }
 
-    /// The next number.
+    /// Returns the next number.
     pub fn draw(&mut self) -> u64 {
         let mut next = self.last;
         next ^= next << 13;
@@ -25,7 +25,7 @@ impl Numbers {
         next
     }
 
-    /// So many of the next numbers.
+    /// Returns the next `count` numbers.
     pub fn list(&mut self, alloc: Global, count: usize) -> Result<Vec<u64>, AllocError> {
         let mut numbers = Vec::with_capacity(alloc, count)?;
         for _ in 0..count {
@@ -34,7 +34,7 @@ impl Numbers {
         Ok(numbers)
     }
 
-    /// Puts what is in the list into another order.
+    /// Shuffles a list.
     pub fn shuffle<T>(&mut self, items: &mut [T]) {
         for place in 1..items.len() {
             let other = self.draw() % (place as u64 + 1);
@@ -43,7 +43,7 @@ impl Numbers {
     }
 }
 
-/// The numbers from one to below another.
+/// Returns the numbers of a half-open range.
 pub fn ascending(alloc: Global, first: usize, end: usize) -> Result<Vec<u64>, AllocError> {
     let mut numbers = Vec::with_capacity(alloc, end.saturating_sub(first))?;
     for number in first..end {
@@ -52,7 +52,7 @@ pub fn ascending(alloc: Global, first: usize, end: usize) -> Result<Vec<u64>, Al
     Ok(numbers)
 }
 
-/// Each number as sixteen hexadecimal digits.
+/// Returns each number as sixteen hexadecimal digits.
 pub fn texts(alloc: Global, numbers: &[u64]) -> Result<Vec<String>, AllocError> {
     let mut texts = Vec::with_capacity(alloc, numbers.len())?;
     for number in numbers {

@@ -1,8 +1,8 @@
-//! Measures the index: the time of its calls, and the memory that its pairs take.
+//! Measures the index: the time of its calls, and the memory of its pairs.
 //!
-//! Without arguments it runs each workload over a few keys and prints `name checksum`. With a number of keys
-//! and a number of repeats it prints `name nanoseconds_a_call checksum`, the least time of the repeats. With
-//! `memory` and a number of keys it prints `memory bytes_a_pair checksum`.
+//! Without arguments, runs each workload over 1,000 keys and prints `name checksum`. With a number of keys and a
+//! number of repeats, prints `name nanoseconds_per_call checksum`, with the least time of the repeats. With `memory`
+//! and a number of keys, prints `memory bytes_per_pair checksum`.
 #![tactic(auto)]
 
 mod calls;

@@ -1,20 +1,20 @@
-//! The memory that pairs take.
+//! Measures the memory of pairs.
 use crate::keys::Numbers;
 use std::alloc::AllocError;
 use std::rt::Files;
 use std::{fs, io};
 use tree_index::TreeIndex;
 
-/// The most memory that this process has held, over its pairs.
+/// The memory of a number of pairs.
 #[derive(Clone, Copy)]
 pub struct Footprint {
-    /// The growth of the greatest resident size, in bytes for each pair.
+    /// How far the peak resident size grew, in bytes per pair.
     pub bytes_a_pair: usize,
-    /// How many pairs were stored.
+    /// The number of pairs stored.
     pub checksum: usize,
 }
 
-/// Stores so many random pairs of two numbers each, and tells how far the greatest resident size rose.
+/// Stores random pairs of numbers and measures how far the peak resident size grows.
 pub fn measure_footprint(rt: &(impl Files + AllocGlobal), size: usize) -> io::Result<Footprint> {
     let before = greatest_resident(rt)?;
     let mut source = Numbers::new();
@@ -32,7 +32,7 @@ pub fn measure_footprint(rt: &(impl Files + AllocGlobal), size: usize) -> io::Re
     })
 }
 
-// The greatest resident size of this process so far, in units of 1,024 bytes, as Linux tells it.
+// Returns the peak resident size of this process in KiB, as Linux reports it.
 fn greatest_resident(rt: &(impl Files + AllocGlobal)) -> io::Result<usize> {
     let status = fs::read_to_string(rt, "/proc/self/status")?;
     for line in status.lines() {

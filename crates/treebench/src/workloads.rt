@@ -1,36 +1,36 @@
-//! The workloads, and the index and the keys that each begins with.
+//! The workloads, and the index and keys that each begins with.
 use crate::calls::{insert_all, peek_all, remove_all, upsert_all};
 use crate::keys::{Numbers, ascending, texts};
 use std::alloc::{AllocError, Global};
 use tree_index::TreeIndex;
 
-/// What is measured.
+/// A workload.
 #[derive(Clone, Copy)]
 pub enum Workload {
-    /// Keys from 0 on go into an empty index.
+    /// Inserts ascending keys into an empty index.
     InsertAscending,
-    /// Random keys go into an empty index.
+    /// Inserts random keys into an empty index.
     InsertRandom,
-    /// Each of random keys gets another value, in another order.
+    /// Upserts a new value at each of random keys, in another order.
     UpsertRandom,
-    /// Each of random keys is looked up, in another order.
+    /// Looks up each of random keys, in another order.
     PeekHit,
-    /// As many absent keys are looked up.
+    /// Looks up as many absent keys.
     PeekMiss,
-    /// Each of random keys is removed, in another order.
+    /// Removes each of random keys, in another order.
     RemoveRandom,
-    /// The middle half of the keys is removed, one after another from the least on.
+    /// Removes the middle half of the keys, in ascending order.
     RemoveMiddle,
-    /// Random keys go into an empty index, which is dropped.
+    /// Inserts random keys into an empty index and drops it.
     BuildAndDrop,
-    /// Random texts of sixteen bytes go into an empty index.
+    /// Inserts random texts of sixteen bytes into an empty index.
     InsertText,
-    /// Each of such texts is looked up, in another order.
+    /// Looks up each of such texts, in another order.
     PeekText,
 }
 
 impl Workload {
-    /// The workloads in the order in which they are run.
+    /// Returns the workloads in the order in which they run.
     pub const ALL: [Workload; 10] = [
         Workload::InsertAscending,
         Workload::InsertRandom,
@@ -44,7 +44,7 @@ impl Workload {
         Workload::PeekText,
     ];
 
-    /// The name that the output gives it.
+    /// Returns the name that the output gives it.
     pub fn name(self) -> &'static str {
         match self {
             Workload::InsertAscending => "insert_ascending",
@@ -60,17 +60,17 @@ impl Workload {
         }
     }
 
-    /// Whether its keys are texts.
+    /// Returns whether its keys are texts.
     pub fn is_of_texts(self) -> bool {
         matches!(self, Workload::InsertText | Workload::PeekText)
     }
 }
 
-/// What a workload begins with: an index, the keys that are stored in it, and the keys that are looked up or removed,
-/// and looked up once more when all calls are made.
+/// What a workload begins with: an index, the keys stored in it, and the keys to look up or remove. The latter are
+/// looked up once more after all calls.
 pub type Scene<K> = (TreeIndex<K, u64>, Vec<K>, Vec<K>);
 
-/// The scene of a workload over numbers, at so many keys.
+/// Returns the scene of a workload over so many numbers.
 pub fn scene_of_numbers(
     alloc: Global,
     workload: Workload,
@@ -113,7 +113,7 @@ pub fn scene_of_numbers(
     }
 }
 
-/// The scene of a workload over texts, at so many keys.
+/// Returns the scene of a workload over so many texts.
 pub fn scene_of_texts(
     alloc: Global,
     workload: Workload,
@@ -134,7 +134,7 @@ pub fn scene_of_texts(
     }
 }
 
-/// Makes the calls of a workload over numbers, which is what is measured.
+/// Makes the calls of a workload over numbers. Their time is what is measured.
 pub fn run_numbers(
     alloc: Global,
     workload: Workload,
@@ -151,7 +151,7 @@ pub fn run_numbers(
     }
 }
 
-/// The same over texts.
+/// Makes the calls of a workload over texts.
 pub fn run_texts(
     workload: Workload,
     index: &mut TreeIndex<String, u64>,

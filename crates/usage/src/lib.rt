@@ -1,7 +1,7 @@
 //! A caller of the library, and a key type of its own, as the README shows them.
 #![tactic(auto)]
 
-ghost use Rattle.std.specs.Prelude.{◌≡◌, Some, IfSome, IfNone};
+ghost use Rattle.std.specs.Prelude.{◌≡◌, ◌+◌, ◌*◌, ◌≤◌, Some, IfSome, IfNone};
 ghost use Rattle.std.specs.Option.{option_map};
 ghost use Rattle.std.specs.Ordering.{nat_cmp};
 ghost use Rattle.tree_model.specs.Pairs.{pair_at};
@@ -9,11 +9,12 @@ ghost use Rattle.tree_model.specs.Pairs.{pair_at};
 mod keys;
 
 pub use keys::Price;
-use tree_index::{InsertError, TreeIndex};
+use tree_index::{InsertError, Judge, TreeIndex};
 use tree_model::laws::edits_are_found;
 
-/// Offers a price for an item, and tells the price that stands: the first one offered. `None`
-/// means that memory was refused: no leaf had room to spare, and the prices are as they were.
+/// Offers a price for an item. Returns the price that stands, which is the first one offered.
+///
+/// Returns `None` if the index could not allocate; the prices are then as they were.
 pub fn offer(prices: &mut TreeIndex<u64, u64>, item: u64, price: u64) -> Option<u64>
     ensures stands { IfSome result (λ first. option_map (λ pair. pair.1) (pair_at nat_cmp prices.new.pairs item) ≡ Some first) }
     ensures refused { IfNone result ((prices.new.pairs ≡ prices.old.pairs) × (prices.old.spare ≡ 0)) }
@@ -26,6 +27,15 @@ pub fn offer(prices: &mut TreeIndex<u64, u64>, item: u64, price: u64) -> Option<
     }
 }
 
+/// Returns the price of the judge's item. The judge counts the comparisons: at most 4 * (depth + 1).
+pub fn price_by<J: Judge<u64>>(prices: &TreeIndex<u64, u64>, judge: &mut J) -> Option<u64>
+    ensures price { result ≡ option_map (λ pair. pair.1) (pair_at nat_cmp prices.now.pairs (J.key judge.old)) }
+    ensures counted { J.count judge.new ≤ J.count judge.old + 4 * (prices.now.depth + 1) }
+{
+    let (_, price) = prices.peek_entry_by(judge)?;
+    Some(*price)
+}
+
 #[cfg(test)]
 mod tests {
     use super::*;
@@ -35,7 +45,7 @@ mod tests {
         let mut prices = TreeIndex::new(rt.alloc());
         let mut told = offer(&mut prices, 7, 100);
         if told.is_none() {
-            // Memory was refused, and no price stands.
+            // The index could not allocate, and no price stands.
             assert!(rt; prices.is_empty());
             told = offer(&mut prices, 7, 100);
         }

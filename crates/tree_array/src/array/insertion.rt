@@ -1,21 +1,20 @@
 //! How an array takes a pair.
-ghost use Rattle.std.specs.Prelude.{◌≡◌, ℕ, ◌<◌, Some, true, false, length};
+ghost use Rattle.std.specs.Prelude.{◌≡◌, ℕ, ◌<◌, Some, false, length};
 ghost use Rattle.tree_array.specs.Arrivals.{arrival, stored};
-ghost use Rattle.tree_array.specs.Insertion.{IsInsert, IsStore};
-ghost use Rattle.tree_array.specs.Length.{IsLen};
+ghost use Rattle.tree_array.specs.Insertion.{IsInsert, IsStore, PartsEntries};
 
 use super::{ArrayOf, InsertResult, StoreResult};
-use crate::ranks::{following, made, rank_added, rank_appended, rank_moved};
-use crate::search::{Place, find_key};
 use std::cmp::Ordering;
+use tree_cells::search::{Place, find_key};
+use tree_order::order::{clamp, inserted, renamed};
 
 impl<K: Ord + Drop, V: Drop, const LEN: usize> ArrayOf<K, V, LEN> {
     /// Stores a pair in the next slot. With `UPSERT` it replaces the pair with an equal key, key and
     /// value, whose slot is then spent.
     ///
-    /// It answers `Duplicate` where `UPSERT` is false and an equal key is there, also where no slot is
-    /// free. It answers `Full` where no slot is free or the array is retired, with `UPSERT` for a key that
-    /// is there too. Both hand the pair back and change nothing. At most `LEN` comparisons.
+    /// Returns `Duplicate` if `UPSERT` is false and an equal key is there, also if no slot is free. Returns
+    /// `Full` if no slot is free or the array is retired, with `UPSERT` also for a key that is there. Both
+    /// hand the pair back and change nothing. Makes at most 4 comparisons (3 among 7 slots).
     pub fn insert<const UPSERT: bool>(&mut self, key: K, val: V) -> InsertResult<K, V>
         ensures { IsInsert K.cmp LEN UPSERT self.old key val result self.new }
     {
@@ -26,28 +25,28 @@ impl<K: Ord + Drop, V: Drop, const LEN: usize> ArrayOf<K, V, LEN> {
     pub fn store<const UPSERT: bool>(&mut self, key: K, val: V) -> StoreResult<K, V>
         ensures { IsStore K.cmp LEN UPSERT self.old key val result self.new }
     {
-        let next = made(self.bitmap);
-        match find_key(&self.cells, self.ranks, next, &key) {
-            Place::At(old) => {
+        match find_key(&self.cells, self.order, self.count, &key) {
+            Place::At(place, slot) => {
                 if !UPSERT {
                     StoreResult::Duplicate(key, val)
                 } else if self.is_full() {
                     StoreResult::Full(key, val)
                 } else {
-                    self.ranks = rank_moved::<LEN>(self.ranks, old, next);
-                    self.bitmap = following::<LEN>(self.bitmap);
-                    self.cells.put(old, None);
-                    self.cells.put(next, Some((key, val)));
+                    let made = self.made;
+                    let order = renamed::<LEN>(self.order, place, self.count, made);
+                    let _ = self.cells.take(slot);
+                    self.cells.put(made, key, val);
+                    self.order = order;
+                    self.made = made + 1;
                     StoreResult::Replaced
                 }
             }
-            Place::Above(low, _) => {
+            Place::Before(place, _) => {
                 if self.is_full() {
                     StoreResult::Full(key, val)
                 } else {
-                    self.ranks = rank_added::<LEN>(self.ranks, low, next);
-                    self.bitmap = following::<LEN>(self.bitmap);
-                    self.cells.put(next, Some((key, val)));
+                    let place = clamp(place, self.count);
+                    self.let_in(place, key, val);
                     StoreResult::New
                 }
             }
@@ -61,9 +60,22 @@ impl<K: Ord + Drop, V: Drop, const LEN: usize> ArrayOf<K, V, LEN> {
         requires last { (p : ℕ) (e : _) → arrival self.old.arrivals p ≡ Some e → K.cmp key e.0 ≡ Ordering.Greater }
         ensures { self.new ≡ stored K.cmp self.old key val }
     {
-        let next = made(self.bitmap);
-        self.ranks = rank_appended::<LEN>(self.ranks, next);
-        self.bitmap = following::<LEN>(self.bitmap);
-        self.cells.put(next, Some((key, val)));
+        let place = self.count;
+        self.let_in(place, key, val);
+    }
+
+    /// Stores a pair whose key is larger than those of the first `place` entries and smaller than the others.
+    fn let_in(&mut self, place: u8, key: K, val: V)
+        requires room { length self.old.arrivals < LEN }
+        requires live { self.old.retired ≡ false }
+        requires parts { PartsEntries K.cmp self.old.entries key place }
+        ensures { self.new ≡ stored K.cmp self.old key val }
+    {
+        let made = self.made;
+        let order = inserted::<LEN>(self.order, place, self.count, made);
+        self.cells.put(made, key, val);
+        self.order = order;
+        self.made = made + 1;
+        self.count += 1;
     }
 }

@@ -1,5 +1,5 @@
 //! How pairs leave an array, and how a value is replaced.
-ghost use Rattle.std.specs.Prelude.{◌≡◌, Bool, ◌<◌, IsSome, IfSome, Some, is_some};
+ghost use Rattle.std.specs.Prelude.{◌≡◌, Bool, ◌<◌, IsSome, IfSome, Some, length, slice_get};
 ghost use Rattle.std.specs.Fn.{FnOnceReturnsAt, FnOnceTakesAt};
 ghost use Rattle.std.specs.Option.{ForSome};
 ghost use Rattle.std.specs.Range.Bound.{bound_map};
@@ -7,37 +7,51 @@ ghost use Rattle.tree_array.specs.Arrivals.{arrival, removed, with_val, without_
 ghost use Rattle.tree_array.specs.Removal.{IsRemoval, removal_of};
 ghost use Rattle.tree_model.specs.Pairs.{IsAbsent, pair_at};
 
-use super::{ArrayOf, RETIRED, RemoveResult};
-use crate::ranks::{made, rank_dropped};
-use crate::search::{Place, find_key};
+use super::{ArrayOf, RemoveResult};
 use std::ops::Bound;
+use tree_cells::search::{Place, find_key};
 use tree_model::range_contains;
+use tree_order::order::{place_of, ranks, removed as removed_from, slot_at};
 
 impl<K: Ord + Drop, V: Drop, const LEN: usize> ArrayOf<K, V, LEN> {
-    /// Takes the pair of a slot, which is then spent. It answers `Retired` with the last pair, and else
-    /// `Success`. Caller's condition: the slot is reachable.
+    /// Takes the pair of a slot, which must be reachable and is then spent. Returns `Retired` with the last
+    /// pair, else `Success`. Makes no comparisons.
     pub fn take(&mut self, slot: u8) -> (K, V, RemoveResult)
         requires { IsSome (arrival self.old.arrivals slot) }
         ensures pair { arrival self.old.arrivals slot ≡ Some (result.0, result.1) }
         ensures left { self.new ≡ removed K.cmp self.old result.0 }
         ensures answer { result.2 ≡ removal_of self.new }
     {
-        self.ranks = rank_dropped::<LEN>(self.ranks, slot);
+        let place = place_of(self.order, self.count, slot);
+        self.take_at(place)
+    }
+
+    /// Takes the entry at this place in the order of keys. Returns what [`take`](ArrayOf::take) does.
+    pub(super) fn take_at(&mut self, place: u8) -> (K, V, RemoveResult)
+        requires { place < length self.old.entries }
+        ensures pair { slice_get self.old.entries place ≡ Some (result.0, result.1) }
+        ensures left { self.new ≡ removed K.cmp self.old result.0 }
+        ensures answer { result.2 ≡ removal_of self.new }
+    {
+        let slot = slot_at(self.order, place);
+        let order = removed_from::<LEN>(self.order, place, self.count);
         let (key, val) = self.cells.take(slot);
-        if self.ranks == 0 {
-            self.ranks = RETIRED;
+        self.order = order;
+        self.count -= 1;
+        if self.count == 0 {
+            self.retired = true;
             (key, val, RemoveResult::Retired)
         } else {
             (key, val, RemoveResult::Success)
         }
     }
 
-    /// Removes the pair with a key, where the condition says so of its value. The condition is asked once
-    /// if the key is there, else never.
+    /// Removes the pair with a key if the condition says so of its value. Calls the condition once if the key
+    /// is there, else never.
     ///
-    /// It answers `Fail` where the key is absent or the condition said no, and nothing changed; `Retired`
-    /// where the last pair went; else `Success`. At most `LEN` comparisons. Caller's condition: the condition
-    /// may be called on the value that is stored with the key.
+    /// Returns `Fail` if the key is absent or the condition said no, and nothing changed; `Retired` if the
+    /// last pair went; else `Success`. Makes at most 4 comparisons (3 among 7 slots). The condition must be
+    /// callable on the value that is stored with the key.
     pub fn remove_if<F: FnOnce(&V) -> bool + Drop>(&mut self, key: &K, condition: F) -> RemoveResult
         requires { ForSome (pair_at K.cmp self.old.entries key.now) (λ pair. FnOnceTakesAt F.FnOnce condition pair.1) }
         ensures absent { IsAbsent K.cmp self.old.entries key.now → (self.new ≡ self.old) × (result ≡ RemoveResult.Fail) }
@@ -45,42 +59,35 @@ impl<K: Ord + Drop, V: Drop, const LEN: usize> ArrayOf<K, V, LEN> {
             (λ pair. (said : Bool) × FnOnceReturnsAt F.FnOnce condition pair.1 said
             × IsRemoval K.cmp self.old key.now said result self.new) }
     {
-        match find_key(&self.cells, self.ranks, made(self.bitmap), key) {
-            Place::At(slot) => {
+        match find_key(&self.cells, self.order, self.count, key) {
+            Place::At(place, slot) => {
                 let (_, val) = self.cells.pair(slot);
                 if condition(val) {
-                    let (_, _, removal) = self.take(slot);
+                    let (_, _, removal) = self.take_at(place);
                     removal
                 } else {
                     RemoveResult::Fail
                 }
             }
-            Place::Above(_, _) => RemoveResult::Fail,
+            Place::Before(_, _) => RemoveResult::Fail,
         }
     }
 
     /// Removes the pairs whose keys are within the bounds, and retires the array if the last one went.
-    /// At most two comparisons a slot.
+    /// Makes at most two comparisons per slot.
     pub fn remove_range(&mut self, bounds: (Bound<&K>, Bound<&K>))
         ensures { self.new ≡ without_range K.cmp self.old
             (bound_map (λ key. key.now) bounds.entry.0) (bound_map (λ key. key.now) bounds.entry.1) }
     {
-        for slot in 0..made(self.bitmap) {
-            if self.is_reachable(slot) && range_contains(bounds, self.key(slot)) {
+        let ranks = ranks(self.order, self.count);
+        for slot in 0..self.made {
+            if ranks[slot as usize] > 0 && range_contains(bounds, self.key(slot)) {
                 let _ = self.take(slot);
             }
         }
     }
 
-    /// Whether a slot holds a pair.
-    fn is_reachable(&self, slot: u8) -> bool
-        requires { slot < LEN }
-        ensures { result ≡ is_some (arrival self.now.arrivals slot) }
-    {
-        self.cells.has(slot)
-    }
-
-    /// Replaces the value of a slot and answers the old one. Caller's condition: the slot is reachable.
+    /// Replaces the value of a slot, which must be reachable, and returns the old one.
     pub fn set_val(&mut self, slot: u8, val: V) -> V
         requires { IsSome (arrival self.old.arrivals slot) }
         ensures { (key : K) × (arrival self.old.arrivals slot ≡ Some (key, result))

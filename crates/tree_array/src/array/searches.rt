@@ -1,50 +1,58 @@
-//! Searches of an array. Each asks its judge once about each slot at most.
+//! Searches of an array by halving: at most 4 comparisons among 15 slots, and 3 among 7.
 ghost use Rattle.std.specs.Prelude.{◌≡◌, ◌+◌, ◌≤◌, [], ◌∷◌, ◌++◌, MatchOption, None, Some, slice_get};
 ghost use Rattle.tree_array.specs.Arrivals.{arrival, least_from};
+ghost use Rattle.tree_array.specs.Length.{searched};
 ghost use Rattle.tree_model.specs.Pairs.{IsAbsent, pair_at};
 
-use super::{ArrayIter, ArrayOf};
-use crate::judge::{Asks, Judge};
-use crate::ranks::made;
-use crate::search::{Place, find};
+use super::ArrayOf;
+use tree_cells::judge::{Asks, Judge};
+use tree_cells::search::{Place, find};
+use tree_order::order::{BEYOND, slot_at};
 
 impl<K: Ord + Drop, V: Drop, const LEN: usize> ArrayOf<K, V, LEN> {
-    /// The pair with the judge's key. At most `LEN` comparisons.
+    /// Returns the pair with the judge's key, or `None` if the key is absent. Makes at most 4 comparisons
+    /// (3 among 7 slots).
     pub fn search_entry<J: Judge<K>>(&self, judge: &mut J) -> Option<(&K, &V)>
         ensures found { MatchOption result (IsAbsent K.cmp self.now.entries (J.key judge.old))
             (λ pair. pair_at K.cmp self.now.entries (J.key judge.old) ≡ Some (pair.0.now, pair.1.now)) }
         ensures same_key { J.key judge.new ≡ J.key judge.old }
         ensures counted { J.count judge.new ≤ J.count judge.old + LEN }
+        ensures halved { J.count judge.new ≤ J.count judge.old + searched LEN }
     {
-        match find(&self.cells, self.ranks, made(self.bitmap), judge) {
-            Place::At(slot) => Some(self.cells.pair(slot)),
-            Place::Above(_, _) => None,
+        match find(&self.cells, self.order, self.count, judge) {
+            Place::At(_, slot) => Some(self.cells.pair(slot)),
+            Place::Before(_, _) => None,
         }
     }
 
-    /// The value with the judge's key. At most `LEN` comparisons.
+    /// Returns the value with the judge's key, or `None` if the key is absent. Makes at most 4 comparisons
+    /// (3 among 7 slots).
     pub fn search_val<J: Judge<K>>(&self, judge: &mut J) -> Option<&V>
         ensures found { MatchOption result (IsAbsent K.cmp self.now.entries (J.key judge.old))
             (λ val. (key : K) × (pair_at K.cmp self.now.entries (J.key judge.old) ≡ Some (key, val.now))) }
         ensures same_key { J.key judge.new ≡ J.key judge.old }
         ensures counted { J.count judge.new ≤ J.count judge.old + LEN }
+        ensures halved { J.count judge.new ≤ J.count judge.old + searched LEN }
     {
         let (_, val) = self.search_entry(judge)?;
         Some(val)
     }
 
-    /// The slot of the least key that isn't less than the judge's. At most `LEN` comparisons.
+    /// Returns the slot of the least key that isn't less than the judge's, or `None` if all are. Makes at most
+    /// 4 comparisons (3 among 7 slots).
     pub fn min_greater_equal<J: Judge<K>>(&self, judge: &mut J) -> Option<u8>
         ensures found { MatchOption result (least_from K.cmp self.now.entries (J.key judge.old) ≡ None)
             (λ slot. (pair : _) × (arrival self.now.arrivals slot ≡ Some pair)
             × (least_from K.cmp self.now.entries (J.key judge.old) ≡ Some pair)) }
         ensures same_key { J.key judge.new ≡ J.key judge.old }
         ensures counted { J.count judge.new ≤ J.count judge.old + LEN }
+        ensures halved { J.count judge.new ≤ J.count judge.old + searched LEN }
     {
         self.least_for(judge)
     }
 
-    /// The slot of the least key that isn't less than this one. At most `LEN` comparisons, which nobody counts.
+    /// Returns the slot of the least key that isn't less than this one, or `None` if all are. Makes at most
+    /// 4 comparisons (3 among 7 slots), which no judge counts.
     pub fn slot_for(&self, key: &K) -> Option<u8>
         ensures { MatchOption result (least_from K.cmp self.now.entries key.now ≡ None)
             (λ slot. (pair : _) × (arrival self.now.arrivals slot ≡ Some pair)
@@ -53,22 +61,28 @@ impl<K: Ord + Drop, V: Drop, const LEN: usize> ArrayOf<K, V, LEN> {
         self.least_for(&mut &*key)
     }
 
-    /// The slot of the entry at this place in the order of keys, counted from 0. No comparisons.
+    /// Returns the slot of the entry at this place in key order, counted from 0, or `None` behind the last.
+    /// Makes no comparisons.
     pub fn slot_at(&self, place: u8) -> Option<u8>
         ensures { MatchOption result (slice_get self.now.entries place ≡ None)
             (λ slot. (pair : _) × (arrival self.now.arrivals slot ≡ Some pair) × (slice_get self.now.entries place ≡ Some pair)) }
     {
-        ArrayIter::new(self).nth_slot(place)
+        if place < self.count {
+            Some(slot_at(self.order, place))
+        } else {
+            None
+        }
     }
 
-    /// The slot of the entry with the greatest key. No comparisons.
+    /// Returns the slot of the entry with the greatest key, or `None` if there is no entry. Makes no comparisons.
     pub fn last_slot(&self) -> Option<u8>
         ensures { MatchOption result (self.now.entries ≡ [])
             (λ slot. (pair : _) × (arrival self.now.arrivals slot ≡ Some pair) × (front : _) × (self.now.entries ≡ front ++ pair ∷ [])) }
     {
-        let walk = ArrayIter::new(self);
-        let last = walk.slot_count().checked_sub(1)?;
-        walk.nth_slot(last)
+        if self.count == 0 {
+            return None;
+        }
+        Some(slot_at(self.order, self.count - 1))
     }
 
     /// The slot of the least key that isn't less than that of the asked.
@@ -78,10 +92,9 @@ impl<K: Ord + Drop, V: Drop, const LEN: usize> ArrayOf<K, V, LEN> {
             × (least_from K.cmp self.now.entries (A.key asked.old) ≡ Some pair)) }
         ensures same_key { A.key asked.new ≡ A.key asked.old }
         ensures counted { A.count asked.new ≤ A.count asked.old + LEN }
+        ensures halved { A.count asked.new ≤ A.count asked.old + searched LEN }
     {
-        match find(&self.cells, self.ranks, made(self.bitmap), asked) {
-            Place::At(slot) => Some(slot),
-            Place::Above(_, next) => next,
-        }
+        let slot = find(&self.cells, self.order, self.count, asked).slot();
+        if slot < BEYOND { Some(slot) } else { None }
     }
 }

@@ -1,18 +1,17 @@
 //! Walks over the slots of an array, in the order of their keys and against it.
-ghost use Rattle.std.specs.Prelude.{◌≡◌, None, length, ⊤, option_and_then, slice_get};
+ghost use Rattle.std.specs.Prelude.{◌≡◌, None, ⊤, option_and_then, slice_get};
 ghost use Rattle.tree_array.specs.Arrivals.{slots_in_order};
 ghost use Rattle.tree_array.specs.Walk.{IsOver, StepsBack, StepsOn, left_back, left_on, standing};
 
 use super::ArrayOf;
-use crate::order::{MOST, in_rank_order};
-use crate::ranks::made;
 use std::alloc::AllocError;
 use std::marker::Model;
+use tree_order::order::{MOST, slots};
 
 /// A walk over the reachable slots of an array in ascending order of their keys. It is of the array as
 /// it stood when the walk was made. A slot is named by the number of its arrival.
 ///
-/// A `next` that answers None keeps the place.
+/// A `next` that returns `None` keeps the place.
 #[derive(Drop)]
 pub struct ArrayIter {
     order: [u8; MOST],
@@ -47,43 +46,24 @@ impl Model for ArrayRevIter {
 }
 
 impl ArrayIter {
-    /// A walk before the first slot. No comparisons.
+    /// Creates a walk that stands before the first slot. Makes no comparisons.
     pub fn new<K: Ord + Drop, V: Drop, const LEN: usize>(array: &ArrayOf<K, V, LEN>) -> Self
         ensures slots { result ≡ standing (slots_in_order K.cmp array.now) None }
         ensures over { IsOver K.cmp LEN array.now result }
     {
-        let (order, count) = in_rank_order::<LEN>(array.ranks, made(array.bitmap));
         ArrayIter {
-            order,
-            count,
+            order: slots(array.order, array.count),
+            count: array.count,
             at: None,
         }
     }
 
-    /// The slot that the walk stands at, if it has begun.
+    /// Returns the slot that the walk stands at, if it has begun.
     pub fn slot(&self) -> Option<u8>
         ensures { result ≡ option_and_then (slice_get self.now.slots) self.now.at }
     {
         let place = self.at?;
         Some(self.order[place as usize])
-    }
-
-    /// The slot at this place of the walk.
-    pub(super) fn nth_slot(&self, place: u8) -> Option<u8>
-        ensures { result ≡ slice_get self.now.slots place }
-    {
-        if place < self.count {
-            Some(self.order[place as usize])
-        } else {
-            None
-        }
-    }
-
-    /// How many slots it walks over.
-    pub(super) fn slot_count(&self) -> u8
-        ensures { result ≡ length self.now.slots }
-    {
-        self.count
     }
 
     /// Goes back to before the first slot.
@@ -102,14 +82,14 @@ impl ArrayIter {
 }
 
 impl ArrayRevIter {
-    /// A walk before the first slot, which is that of the largest key. No comparisons.
+    /// Creates a walk that stands before the slot of the greatest key. Makes no comparisons.
     pub fn new<K: Ord + Drop, V: Drop, const LEN: usize>(array: &ArrayOf<K, V, LEN>) -> Self
         ensures { result ≡ standing (slots_in_order K.cmp array.now) None }
     {
         ArrayIter::new(array).rev()
     }
 
-    /// The slot that the walk stands at, if it has begun.
+    /// Returns the slot that the walk stands at, if it has begun.
     pub fn slot(&self) -> Option<u8>
         ensures { result ≡ option_and_then (slice_get self.now.slots) self.now.at }
     {

@@ -3,6 +3,7 @@ use Rattle.slab.specs.Slab.{ContainsKey}
 use Rattle.tree_node.specs.Parts.{IsPart}
 use Rattle.tree_node.specs.Tree.{IsRetired, StandsOrRetired}
 use Rattle.tree_node.proofs.NodeKinds.{inner_level, node_used, outer_level}
+use Rattle.tree_node.proofs.Sizes.{fits}
 use Rattle.tree_calls.proofs.FoundLevels.{given_at}
 use Rattle.tree_calls.proofs.FoundRoots.{over_nodes}
 use Rattle.tree_calls.proofs.root_calls.level_of_root.Goals as goal
@@ -19,7 +20,7 @@ level_of-requires g c κs within =
     let inner : 0 < g.level = assumption c.requires in
     let there : IsPart g.K.Ord.cmp g.level c.args.arenas.now c.args.root ⊎ IsRetired g.level c.args.arenas.now c.args.root = assumption c.requires in
     let given : StandsOrRetired g.K.Ord.cmp g.level c.args.arenas.now c.args.root = given_at g.K.Ord.cmp c.args.arenas.now c.args.root g.level there in
-    search rules
+    (within.0, (within.1, (search rules, (search rules, (search fits, (inner, given))))))
 
 pub returns-in-Internal-clause-level : goal.returns-in-Internal-clause-level
 returns-in-Internal-clause-level g c part =

@@ -25,7 +25,7 @@ make_room-requires g t c =
     let goes = under g.K.Ord.cmp c.args.level c.requires.node c.args.arenas.now c.args.id c.args.key (Leaf c.in-Leaf.node) (rw c.in-Leaf.is at c.node.ensures) c.in-Some.place.child (rw c.in-Some.is at c.child_place_for.ensures.child) c.requires.part in
     let one = first_level g.met.K.Ord.total false c.args.level c.requires.node c.args.arenas.now c.args.id c.in-Some.place.child c.args.key c.args.val c.in-Leaf.node (rw c.in-Leaf.is at c.node.ensures) goes in
     let below = leaf_full g.met.K.Ord.total _ c.args.level c.requires.node c.args.arenas.now c.args.id c.in-Some.place.child c.args.key c.args.val c.in-Leaf.node (rw c.in-Leaf.is at c.node.ensures) goes c.leaf_mut.result.now c.leaf_mut.ensures.value c.store.new.self c.store.result (rw c.array_mut.ensures.value at c.store.ensures) c.in-Full.key c.in-Full.val c.in-Full.is in
-    (search rules, (search rules, (rw one at below.part, which_still _ c.args.level _ _ c.args.id c.in-Some.place.child c.args.key c.args.val _ _ below)))
+    (search fits, (search fits, (rw one at below.part, which_still _ c.args.level _ _ c.args.id c.in-Some.place.child c.args.key c.args.val _ _ below)))
 
 pub insert_at-requires : goal.insert_at-requires
 insert_at-requires g t c κs within =
@@ -46,7 +46,7 @@ insert_at-requires-in-Internal g t c κs within =
     let deeper : 0 < c.args.level - 1 = omega (arith, inner) in
     let part = child_part_at g.met.K.Ord.total c.args.level c.requires.node c.args.arenas.now c.args.id c.in-Some-child_place_for.place.child c.args.key goes.part goes.which in
     let less = fewer_below g.K.Ord.cmp c.args.level c.requires.node c.args.arenas.now c.args.arenas.now c.args.id c.in-Some-child_place_for.place.child c.args.key c.args.key in
-    (omega (arith, less), (search rules, (within.0, (within.1, (search rules, (search (rules, c.requires-raw), (search (fits, c.requires-raw), (deeper, inl part))))))))
+    (omega (arith, less), (search rules, (within.0, (within.1, (search rules, (search rules, (search fits, (deeper, inl part))))))))
 
 pub split_child-requires : goal.split_child-requires
 split_child-requires g t c =

@@ -7,7 +7,7 @@ use Rattle.std.specs.Ordering.{is_lt}
 use Rattle.std.specs.Cmp.{IsTotalOrder}
 use Rattle.tree_model.specs.Pairs.{IsAscending}
 use Rattle.tree_model.proofs.Lists.{all_map, all-append}
-use Rattle.tree_insert.proofs.Cuts.{smaller_front}
+use Rattle.tree_node.proofs.Cuts.{smaller_front}
 use Rattle.tree_insert.proofs.leaf_split.is_beyond.Goals as goal
 
 less_than : (r : Ordering) → IsTrue (is_lt r) → r ≡ Less

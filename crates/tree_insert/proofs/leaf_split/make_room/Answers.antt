@@ -4,11 +4,12 @@ use Rattle.tree_node.specs.declared.node.NodeOf.TheVariants.{Leaf}
 use Rattle.tree_insert.specs.Splits.{IsCut}
 use Rattle.tree_insert.proofs.Fulls.{full_room, not_full_room}
 use Rattle.tree_insert.proofs.LeafRooms.{leaf_room_by_rebuild, leaf_used}
+use Rattle.tree_insert.proofs.Results.{same_value}
 use Rattle.tree_node.proofs.Sizes.{fits}
 use Rattle.tree_insert.proofs.leaf_split.make_room.Goals as goal
 
-same_value : {A : Type 0} (x y : A) → Some x ≡ Some y → x ≡ y
-same_value x y both = cc
+pub node-requires : goal.node-requires
+node-requires g c = (search fits, search rules)
 
 pub leaf-requires : goal.leaf-requires
 leaf-requires g c = (search fits, (search fits, leaf_used g.met.K.Ord.total c.args.arenas.now c.args.id c.args.target c.args.key.now c.requires.part c.requires.child))

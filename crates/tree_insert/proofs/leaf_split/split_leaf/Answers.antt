@@ -50,7 +50,7 @@ put_leaf-requires g c =
     let last : slice_get c.leaf_mut.result.now.array.entries (c.args.count - 1) ≡ Some separator.0 = rw (c.array.ensures, read) at separator.1 in
     let node = parent_was g.met.K.Ord.total c.args.arenas.now c.args.id c.args.target cut.0 c.requires.part cut.1 _ _ _ c.args.count c.leaf_mut.result.now _ _ separator.0 c.in_ok-separator.separator
     c.in_ok-reserve.ensures.0 c.leaf_mut.ensures.value high low c.in-Ok.ensures last separator.2 cut.2 _ c.node_mut.ensures.value in (
-      search rules,
+      search (fits, c.requires-raw),
       (
         parent_kind g.met.K.Ord.total c.args.arenas.now c.args.id c.args.target cut.0 c.requires.part cut.1 _ _ _ c.args.count c.leaf_mut.result.now _ _ separator.0 c.in_ok-separator.separator
             c.in_ok-reserve.ensures.0 c.leaf_mut.ensures.value high low c.in-Ok.ensures last separator.2 cut.2 _ c.node_mut.ensures.value,
@@ -81,4 +81,4 @@ pub new-low-requires : goal.new-low-requires
 new-low-requires g c = (search fits, c.requires.len)
 
 pub cut_low-requires : goal.cut_low-requires
-cut_low-requires g c = (search (rules, c.requires-raw), (c.requires.len, c.array_mut-2.ensures.value ∙ c.new-low.ensures.array))
+cut_low-requires g c = (search rules, (c.requires.len, c.array_mut-2.ensures.value ∙ c.new-low.ensures.array))

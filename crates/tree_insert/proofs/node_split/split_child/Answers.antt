@@ -5,13 +5,11 @@ use Rattle.tree_array.specs.Length.{limit}
 use Rattle.tree_node.specs.Tree.{keyed}
 use Rattle.tree_insert.proofs.Fulls.{full_room, not_full_room}
 use Rattle.tree_insert.proofs.NodeRooms.{above_kind, above_was, child_used, node_read, node_room_after_write, parent_stays, parent_used, separator_is_new, split_anew, split_in_two, two_up}
-use Rattle.tree_insert.proofs.Results.{on_err}
+use Rattle.tree_insert.proofs.Results.{on_err, same_value}
 use Rattle.tree_node.proofs.Sizes.{fits}
 use Rattle.tree_node.proofs.Unchanged.{unchanged_by_keeping}
+use Rattle.tree_insert.proofs.Variants.{children_fit}
 use Rattle.tree_insert.proofs.node_split.split_child.Goals as goal
-
-same_value : {A : Type 0} (x y : A) → Some x ≡ Some y → x ≡ y
-same_value x y both = cc
 
 pub node-requires : goal.node-requires
 node-requires g c =
@@ -51,7 +49,7 @@ returns-in_err-reserve-clause-err g c = on_err c.from_residual.result (unchanged
 pub node_mut-requires-2 : goal.node_mut-requires-2
 node_mut-requires-2 g c =
     let up = two_up c.requires.part.0 c.requires.part.1 in (
-      search (fits, c.requires-raw),
+      search fits,
       rw c.in_ok-reserve.ensures.0.nodes.slots (child_used g.met.K.Ord.total up.0 c.args.arenas.now c.args.parent c.args.target (rw up.1 at c.requires.part.2) c.requires.child),
     )
 
@@ -60,10 +58,10 @@ cut_node-separator-requires g c =
     let read : c.node-2.result.now ≡ c.node_mut-2.result.now =
     node_read c.args.arenas.now c.reserve.new.self c.in_ok-reserve.ensures.0 c.args.target c.node-2.result.now c.node_mut-2.result.now c.node-2.ensures c.node_mut-2.ensures.value in
     let within : c.in-Some.place < length (keyed c.node_mut-2.result.now).entries = rw read at c.in-Some.ensures.place.1 in
-    (search (rules, c.requires-raw), (c.place_to_part.ensures.sound.is_len, within))
+    (search rules, (c.place_to_part.ensures.sound.is_len, within))
 
 pub add_node-requires : goal.add_node-requires
-add_node-requires g c = search (rules, fits, c.requires-raw)
+add_node-requires g c = search fits
 
 pub unreachable-requires : goal.unreachable-requires
 unreachable-requires g c =
@@ -79,7 +77,7 @@ node_mut-requires-3 g c =
     c.in_ok-reserve.ensures.0 c.node_mut-2.ensures.value c.cut_node-separator.ensures c.in-Ok.ensures.nodes c.in-Ok.ensures.leaves within in
     let there : ContainsKey c.add_node.new.self.nodes c.args.parent =
     rw stays (parent_used g.met.K.Ord.total up.0 c.args.arenas.now c.args.parent c.args.target (rw up.1 at c.requires.part.2) c.requires.child) in
-    (search (fits, c.requires-raw), there)
+    (search fits, there)
 
 pub put_node-requires : goal.put_node-requires
 put_node-requires g c =
@@ -90,7 +88,7 @@ put_node-requires g c =
     let above = above_was g.met.K.Ord.total up.0 c.args.arenas.now c.args.parent c.args.target (rw up.1 at c.requires.part.2) c.requires.child _ c.add_node.new.self _ c.in-Some.place c.node_mut-2.result.now _ _ _
     c.in_ok-reserve.ensures.0 c.node_mut-2.ensures.value c.cut_node-separator.ensures c.in-Ok.ensures.nodes c.in-Ok.ensures.leaves within _ c.node_mut-3.ensures.value in
     let same : c.node.result.now ≡ c.node_mut-3.result.now = same_value _ _ (sym c.node.ensures ∙ above) in (
-      search (rules, c.requires-raw),
+      search fits,
       (
         above_kind g.met.K.Ord.total up.0 c.args.arenas.now c.args.parent c.args.target (rw up.1 at c.requires.part.2) c.requires.child _ c.add_node.new.self _ c.in-Some.place c.node_mut-2.result.now _ _ _
             c.in_ok-reserve.ensures.0 c.node_mut-2.ensures.value c.cut_node-separator.ensures c.in-Ok.ensures.nodes c.in-Ok.ensures.leaves within _ c.node_mut-3.ensures.value,
@@ -115,3 +113,9 @@ returns-clause-done g c level deep part =
     rw up.1
     (split_in_two g.met.K.Ord.total up.0 c.args.arenas.now c.args.parent c.args.target (rw up.1 at part) c.requires.child _ c.add_node.new.self _ c.in-Some.place c.node_mut-2.result.now _ _ _
     c.in_ok-reserve.ensures.0 c.node_mut-2.ensures.value c.cut_node-separator.ensures c.in-Ok.ensures.nodes c.in-Ok.ensures.leaves within _ c.node_mut-3.ensures.value _ some c.put_node.ensures)
+
+pub drop-requires : goal.drop-requires
+drop-requires g c = search children_fit
+
+pub drop-requires-in_default-add_node-2 : goal.drop-requires-in_default-add_node-2
+drop-requires-in_default-add_node-2 g c = search children_fit

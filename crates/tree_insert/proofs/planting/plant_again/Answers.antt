@@ -4,13 +4,15 @@ use Rattle.slab.proofs.SlabLemmas.{Updates-with_value}
 use Rattle.tree_array.specs.Arrivals.{Arrivals}
 use Rattle.tree_leaf.specs.Arena.{HasPlaces}
 use Rattle.tree_node.specs.declared.node.NodeOf.TheVariants.{Leaf}
-use Rattle.tree_node.proofs.Bare.{has_only, some_slots, unchanged_kept}
+use Rattle.tree_node.proofs.Bare.{has_only, some_slots}
+use Rattle.tree_node.proofs.Unchanged.{unchanged_by_keeping}
 use Rattle.tree_node.proofs.Sizes.{fits}
+use Rattle.tree_insert.proofs.Variants.{children_fit}
 use Rattle.tree_insert.proofs.planting.plant_again.Goals as goal
 
 pub returns-in_default : goal.returns-in_default
 returns-in_default g c =
-    let kept = unchanged_kept c.args.arenas.now c.reserve.new.self c.in_default.ensures.0 in
+    let kept = unchanged_by_keeping c.args.arenas.now c.reserve.new.self c.in_default.ensures.0 in
     let fewer : HasPlaces c.args.arenas.now 1 1 → HasPlaces c.args.arenas.now 1 0 = λ had. record { leaves = had.leaves; nodes = omega (arith, had.nodes) } in
     (kept, refl, refl, λ had. c.in_default.ensures.1 (fewer had))
 
@@ -22,13 +24,13 @@ add_leaf-requires g c = search fits
 
 pub node_mut-requires : goal.node_mut-requires
 node_mut-requires g c =
-    let kept = unchanged_kept c.args.arenas.now c.reserve.new.self c.in-Ok.ensures.0 in
+    let kept = unchanged_by_keeping c.args.arenas.now c.reserve.new.self c.in-Ok.ensures.0 in
     let there : ContainsKey c.add_leaf.new.self.nodes c.args.root = rw (c.add_leaf.ensures.nodes, kept.nodes c.args.root) c.requires.retired.here in
     (search fits, there)
 
 pub returns : goal.returns
 returns g c =
-    let kept = unchanged_kept c.args.arenas.now c.reserve.new.self c.in-Ok.ensures.0 in
+    let kept = unchanged_by_keeping c.args.arenas.now c.reserve.new.self c.in-Ok.ensures.0 in
     let leaf = c.in-Ok-add_leaf.ensures.leaves in
     let node = Updates-with_value c.add_leaf.new.self.nodes c.args.root (Leaf c.new.result) (rw (c.add_leaf.ensures.nodes, kept.nodes c.args.root) c.requires.retired.here) in
     has_only g.K.Ord.cmp _ c.args.root (Leaf c.new.result) c.in-Ok-add_leaf.leaf c.leaf_with.result c.args.key c.args.val
@@ -36,3 +38,9 @@ returns g c =
     leaf.updates.changed c.leaf_with.ensures.array c.leaf_with.ensures.prev c.leaf_with.ensures.next (some_slots _ c.requires.len)
     (λ n differs. node.others n differs ∙ ap (λ (s : Slab _). get s n) c.add_leaf.ensures.nodes ∙ kept.nodes n ∙ c.requires.retired.nodes n differs)
     (λ n differs. leaf.updates.others n differs ∙ kept.leaves n ∙ c.requires.retired.leaves n)
+
+pub drop-node_mut-requires : goal.drop-node_mut-requires
+drop-node_mut-requires g c = search children_fit
+
+pub drop-requires-2 : goal.drop-requires-2
+drop-requires-2 g c = search children_fit

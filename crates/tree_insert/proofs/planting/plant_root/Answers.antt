@@ -2,12 +2,13 @@ use Rattle.std.proofs.Common.{None, refl, ap, ◌∙◌}
 use Rattle.slab.specs.Slab.{Slab, get}
 use Rattle.tree_array.specs.Arrivals.{Arrivals}
 use Rattle.tree_node.specs.declared.node.NodeOf.TheVariants.{Leaf}
-use Rattle.tree_node.proofs.Bare.{bare_leaves, bare_nodes, has_only, some_slots, unchanged_kept}
+use Rattle.tree_node.proofs.Bare.{bare_leaves, bare_nodes, has_only, some_slots}
+use Rattle.tree_node.proofs.Unchanged.{unchanged_by_keeping}
 use Rattle.tree_node.proofs.Sizes.{fits}
 use Rattle.tree_insert.proofs.planting.plant_root.Goals as goal
 
 pub returns-in_default : goal.returns-in_default
-returns-in_default g c = (unchanged_kept c.args.arenas.now c.reserve.new.self c.in_default.ensures.0, refl, refl, c.in_default.ensures.1)
+returns-in_default g c = (unchanged_by_keeping c.args.arenas.now c.reserve.new.self c.in_default.ensures.0, refl, refl, c.in_default.ensures.1)
 
 pub leaf_with-requires : goal.leaf_with-requires
 leaf_with-requires g c = (search fits, c.requires.len)
@@ -17,7 +18,7 @@ add_leaf-requires g c = search fits
 
 pub returns : goal.returns
 returns g c =
-    let kept = unchanged_kept c.args.arenas.now c.reserve.new.self c.in-Ok.ensures.0 in
+    let kept = unchanged_by_keeping c.args.arenas.now c.reserve.new.self c.in-Ok.ensures.0 in
     let leaf = c.in-Ok-add_leaf.ensures.leaves in
     let node = c.in-Ok-add_node.ensures.nodes in
     has_only g.K.Ord.cmp c.add_node.new.self c.in-Ok-add_node.id (Leaf c.new.result) c.in-Ok-add_leaf.leaf c.leaf_with.result c.args.key c.args.val

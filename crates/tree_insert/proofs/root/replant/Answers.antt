@@ -3,10 +3,12 @@ use Rattle.slab.specs.Slab.{ContainsKey, Slab, get}
 use Rattle.slab.proofs.SlabLemmas.{Updates-with_value}
 use Rattle.tree_array.specs.Arrivals.{Arrivals}
 use Rattle.tree_node.specs.declared.node.NodeOf.TheVariants.{Leaf}
-use Rattle.tree_node.proofs.Bare.{no_children, unchanged_kept}
+use Rattle.tree_node.proofs.Bare.{no_children}
+use Rattle.tree_node.proofs.Unchanged.{unchanged_by_keeping}
 use Rattle.tree_node.proofs.Sizes.{fits}
 use Rattle.tree_insert.proofs.Replants.{replants}
 use Rattle.tree_insert.proofs.Results.{on_err}
+use Rattle.tree_insert.proofs.Variants.{children_fit}
 use Rattle.tree_insert.proofs.root.replant.Goals as goal
 
 pub new-leaf-requires : goal.new-leaf-requires
@@ -17,13 +19,13 @@ add_leaf-requires g c = search fits
 
 pub node_mut-requires : goal.node_mut-requires
 node_mut-requires g c =
-    let kept = unchanged_kept c.args.arenas.now c.reserve.new.self c.in_ok-reserve.ensures.0 in
+    let kept = unchanged_by_keeping c.args.arenas.now c.reserve.new.self c.in_ok-reserve.ensures.0 in
     let there : ContainsKey c.add_leaf.new.self.nodes c.args.root = rw (c.add_leaf.ensures.nodes, kept.nodes c.args.root) (no_children (get c.args.arenas.now.nodes c.args.root) c.requires.retired).0 in
     (search fits, there)
 
 pub returns-clause-done : goal.returns-clause-done
 returns-clause-done g c =
-    let kept = unchanged_kept c.args.arenas.now c.reserve.new.self c.in_ok-reserve.ensures.0 in
+    let kept = unchanged_by_keeping c.args.arenas.now c.reserve.new.self c.in_ok-reserve.ensures.0 in
     let leaf = c.in-Ok.ensures.leaves in
     let there : ContainsKey c.add_leaf.new.self.nodes c.args.root = rw (c.add_leaf.ensures.nodes, kept.nodes c.args.root) (no_children (get c.args.arenas.now.nodes c.args.root) c.requires.retired).0 in
     let node = Updates-with_value c.add_leaf.new.self.nodes c.args.root (Leaf c.new.result) there in (
@@ -36,7 +38,13 @@ returns-clause-done g c =
     )
 
 pub returns-in_err-reserve-clause-err : goal.returns-in_err-reserve-clause-err
-returns-in_err-reserve-clause-err g c = on_err c.from_residual.result (unchanged_kept _ _ c.in_err-reserve.ensures.0)
+returns-in_err-reserve-clause-err g c = on_err c.from_residual.result (unchanged_by_keeping _ _ c.in_err-reserve.ensures.0)
 
 pub returns-in_err-reserve-clause-places : goal.returns-in_err-reserve-clause-places
 returns-in_err-reserve-clause-places g c = λ had. absurd (c.in_err-reserve.ensures.1 had)
+
+pub drop-node_mut-requires : goal.drop-node_mut-requires
+drop-node_mut-requires g c = search children_fit
+
+pub drop-requires-2 : goal.drop-requires-2
+drop-requires-2 g c = search children_fit

@@ -16,7 +16,7 @@ pub new-top-requires : goal.new-top-requires
 new-top-requires g c = (search (rules, fits, c.requires-raw), c.slots_left.ensures.len)
 
 pub add_node-requires : goal.add_node-requires
-add_node-requires g c = search (rules, fits, c.requires-raw)
+add_node-requires g c = search fits
 
 pub unreachable-requires : goal.unreachable-requires
 unreachable-requires g c =
@@ -28,7 +28,7 @@ pub split_child-requires : goal.split_child-requires
 split_child-requires g c =
     let top = top_part_at c.args.depth c.requires.node c.args.arenas.now c.reserve.new.self c.add_node.new.self c.args.root c.in-Ok.id c.new-top.result c.requires.part c.in_ok-reserve.ensures.0 c.in-Ok.ensures.nodes c.in-Ok.ensures.leaves c.new-top.ensures.keyed c.new-top.ensures.unbounded in
     let deep : 1 < c.args.depth + 1 = omega (arith, c.requires.node) in
-    (search (rules, c.requires-raw), (search (fits, c.requires-raw), ((c.args.depth + 1, deep, top.0), top.1)))
+    (search rules, (search fits, ((c.args.depth + 1, deep, top.0), top.1)))
 
 pub unreachable-requires-in-Ok-false : goal.unreachable-requires-in-Ok-false
 unreachable-requires-in-Ok-false g c =

@@ -1,5 +1,6 @@
 use Rattle.std.proofs.Common.{rules, ◌<◌, ◌-◌, sym, ◌∙◌, refl}
 use Rattle.slab.specs.Slab.{ContainsKey}
+use Rattle.tree_array.specs.Length.{searched}
 use Rattle.tree_node.specs.declared.node.NodeOf.TheVariants.{Internal, Leaf}
 use Rattle.tree_node.specs.Tree.{StandsOrRetired}
 use Rattle.tree_node.proofs.Levels.{node_at, nothing_at, found_in_leaf, found_below, two_asked, one_more_asked}
@@ -59,3 +60,11 @@ returns-in_ok-child-in-Internal-clause-found g t c =
 pub returns-in_ok-child-in-Internal-clause-counted : goal.returns-in_ok-child-in-Internal-clause-counted
 returns-in_ok-child-in-Internal-clause-counted g t c =
     one_more_asked g.row.LEN c.args.level _ _ _ c.requires.node c.child_for-in-Internal.ensures.counted c.search_at.ensures.counted
+
+pub returns-in_ok-child-in-Leaf-clause-halved : goal.returns-in_ok-child-in-Leaf-clause-halved
+returns-in_ok-child-in-Leaf-clause-halved g t c =
+    two_asked (searched g.row.LEN) c.args.level _ _ _ c.requires.node c.child_for.ensures.halved c.search_entry.ensures.halved
+
+pub returns-in_ok-child-in-Internal-clause-halved : goal.returns-in_ok-child-in-Internal-clause-halved
+returns-in_ok-child-in-Internal-clause-halved g t c =
+    one_more_asked (searched g.row.LEN) c.args.level _ _ _ c.requires.node c.child_for-in-Internal.ensures.halved c.search_at.ensures.halved

@@ -1,10 +1,16 @@
-use Rattle.std.proofs.Common.{◌≡◌, [], sym, ◌∙◌, true, false}
+use Rattle.std.proofs.Common.{◌≡◌, [], sym, ◌∙◌, true, false, inl, arith}
 use Rattle.slab.specs.Slab.{ContainsKey}
 use Rattle.tree_node.specs.declared.node.NodeOf.TheVariants.{Leaf}
 use Rattle.tree_remove.proofs.OnlyLeaves.{only_there, others_left, not_retired, is_only}
+use Rattle.tree_node.proofs.Levels.{node_at}
 use Rattle.tree_node.proofs.Sizes.{fits}
 use Rattle.tree_remove.proofs.clean_up.only_retired.Goals.{then-not-is_retired-via-then-not-is_retired, then-not-is_retired-via-else-not-is_retired+then-not-is_empty-2}
 use Rattle.tree_remove.proofs.clean_up.only_retired.Goals as goal
+
+pub node-requires : goal.node-requires
+node-requires g c =
+    let there : ContainsKey c.args.arenas.now.nodes c.args.id = node_at g.K.Ord.cmp c.args.arenas.now c.args.id 1 (omega arith) (inl c.requires) in
+    (search fits, there)
 
 pub returns-then-not-is_empty : goal.returns-then-not-is_empty
 returns-then-not-is_empty g c =

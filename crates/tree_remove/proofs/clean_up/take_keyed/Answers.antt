@@ -1,6 +1,7 @@
 use Rattle.std.proofs.Common.{rules, IsSome, refl}
 use Rattle.slab.specs.Slab.{ContainsKey}
 use Rattle.tree_array.specs.Arrivals.{arrival}
+use Rattle.tree_node.proofs.Sizes.{fits}
 use Rattle.tree_remove.proofs.NodeWrites.{has_node, leaf_keyed_taken, internal_keyed_taken}
 use Rattle.tree_remove.proofs.clean_up.take_keyed.Goals as goal
 
@@ -12,12 +13,12 @@ node_mut-requires g c =
 pub take-requires : goal.take-requires
 take-requires g c =
     let there : IsSome (arrival c.in-Leaf.node.children.arrivals c.args.slot) = rw (c.node_mut.ensures.value, c.in-Leaf.is) at c.requires in
-    search rules
+    (search rules, there)
 
 pub take-requires-in-Internal : goal.take-requires-in-Internal
 take-requires-in-Internal g c =
     let there : IsSome (arrival c.in-Internal.node.children.arrivals c.args.slot) = rw (c.node_mut.ensures.value, c.in-Internal.is) at c.requires in
-    search rules
+    (search rules, there)
 
 pub returns-in-Leaf-clause-nodes : goal.returns-in-Leaf-clause-nodes
 returns-in-Leaf-clause-nodes g c =

@@ -3,13 +3,14 @@ use Rattle.slab.specs.Slab.{ContainsKey}
 use Rattle.tree_array.specs.Arrivals.{arrival}
 use Rattle.tree_leaf.specs.declared.leaf.stand.Way.TheVariants.{On}
 use Rattle.tree_node.specs.Tree.{leaves_at}
+use Rattle.tree_node.proofs.Sizes.{fits}
 use Rattle.tree_walk.proofs.Turns.{turn, slot_reachable, holds, found, missed, last_holds, done_on, finds_last}
 use Rattle.tree_walk.proofs.ends.first_of_leaves.Goals as goal
 
 pub val-requires : goal.val-requires
 val-requires g c =
     let there : IsSome (arrival c.args.keyed.now.arrivals c.in-Some.slot) = slot_reachable c.args.arenas.now.leaves (leaves_at 0 c.args.arenas.now.nodes) _ c.args.last On _ _ _ c.loop-slot.invariant c.in-Some.ensures.steps in
-    search rules
+    (search fits, there)
 
 pub with_entry-found-requires : goal.with_entry-found-requires
 with_entry-found-requires g c =

@@ -3,6 +3,7 @@ use Rattle.slab.specs.Slab.{ContainsKey}
 use Rattle.tree_array.specs.Arrivals.{arrival}
 use Rattle.tree_leaf.specs.declared.leaf.stand.Way.TheVariants.{Back}
 use Rattle.tree_node.specs.Tree.{leaves_at}
+use Rattle.tree_node.proofs.Sizes.{fits}
 use Rattle.tree_walk.proofs.Turns.{turn, slot_reachable, holds, finds, found, misses, missed, last_holds, starts_back, done_back}
 use Rattle.tree_walk.proofs.ends.last_of_leaves.Goals as goal
 
@@ -23,7 +24,7 @@ loop-slot-init g c =
 pub val-requires : goal.val-requires
 val-requires g c =
     let there : IsSome (arrival c.args.keyed.now.arrivals c.in-Some.slot) = slot_reachable c.args.arenas.now.leaves (leaves_at 0 c.args.arenas.now.nodes) _ c.args.last Back _ _ _ c.loop-slot.invariant c.in-Some.ensures.steps in
-    search rules
+    (search fits, there)
 
 pub with_entry-found-requires-in-loop-slot : goal.with_entry-found-requires-in-loop-slot
 with_entry-found-requires-in-loop-slot g c =

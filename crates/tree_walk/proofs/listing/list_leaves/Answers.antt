@@ -11,7 +11,7 @@ loop-slot-init g c = (begins_over c.args.keyed.now _ _ _ c.into_iter-slot-iterat
 pub val-requires : goal.val-requires
 val-requires g c =
     let there : IsSome (arrival c.args.keyed.now.arrivals c.in-Some.slot) = slot_reachable c.args.keyed.now _ _ _ c.loop-slot.invariant c.in-Some.ensures.steps in
-    search rules
+    (search fits, there)
 
 pub leaf-requires : goal.leaf-requires
 leaf-requires g c =

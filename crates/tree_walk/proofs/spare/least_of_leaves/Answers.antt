@@ -3,6 +3,7 @@ use Rattle.slab.specs.Slab.{ContainsKey}
 use Rattle.tree_array.specs.Arrivals.{arrival}
 use Rattle.tree_node.specs.Shape.{leaf_free}
 use Rattle.tree_node.specs.Tree.{leaves_at}
+use Rattle.tree_node.proofs.Sizes.{fits}
 use Rattle.tree_walk.proofs.ChildTurns.{begins_over, slot_reachable, child_turn, holds_in_turn, holds_at_last}
 use Rattle.tree_walk.proofs.LeastFree.{begins_least, least_in_turn, least_at_last, least_of_one}
 use Rattle.tree_walk.proofs.spare.least_of_leaves.Goals as goal
@@ -14,7 +15,7 @@ loop-slot-init g c =
 pub val-requires : goal.val-requires
 val-requires g c =
     let there : IsSome (arrival c.args.keyed.now.arrivals c.in-Some.slot) = slot_reachable c.args.keyed.now _ _ _ c.loop-slot.invariant.over c.in-Some.ensures.steps in
-    search rules
+    (search fits, there)
 
 pub free_in-requires : goal.free_in-requires
 free_in-requires g c =

@@ -1,9 +1,16 @@
-use Rattle.std.proofs.Common.{suc, length, ◌≡◌, arith}
+use Rattle.std.proofs.Common.{◌<◌, ◌∙◌, ap, arith}
+use Rattle.std.proofs.lemmas.List.{nil_from_length}
 use Rattle.tree_array.specs.Arrivals.{arrival}
-use Rattle.tree_array.proofs.Places.{last_entry, over_all}
+use Rattle.tree_array.proofs.Kept.{count_seen, last_place}
+use Rattle.tree_array.proofs.Seen.{arrival_seen}
 use Rattle.tree_array.proofs.array.ArrayOf.last_slot.Goals as goal
+
+pub returns-then-self-eq0 : goal.returns-then-self-eq0
+returns-then-self-eq0 g c = nil_from_length _ (count_seen g.met.K.Ord.total c.self.invariant.0 _ c.self.view_is ∙ c.if-self-eq0.true)
 
 pub returns : goal.returns
 returns g c =
-    let last_is : suc c.in_ok-last.last ≡ length c.new-walk.result.slots = omega (arith, c.in_ok-last.ensures.0, c.in_ok-last.ensures.1, c.slot_count.ensures) in
-    rw c.nth_slot.ensures (last_entry (arrival c.args.self.now.arrivals) c.new-walk.result.slots c.args.self.now.entries (over_all c.new-walk.result _ c.new-walk.ensures.slots c.new-walk.ensures.over) c.in_ok-last.last last_is)
+    let it = c.self.invariant.0 in
+    let some : 0 < c.self.inside.count = omega (arith, c.if-self-eq0.false) in
+    let last = last_place g.met.K.Ord.total it some in
+    (last.0, arrival_seen _ _ _ _ c.self.view_is it c.slot_at.result ∙ ap (arrival c.self.inside.cells) c.slot_at.ensures ∙ last.1, last.2, rw (← c.self.view_is) last.3)

@@ -1,34 +1,61 @@
-use Rattle.std.proofs.Common.{◌≡◌, length, refl, subst, sym, ◌∙◌, ap, arith}
+use Rattle.std.proofs.Common.{◌≡◌, ◌<◌, IsSome, None, length, refl, subst, sym, ◌∙◌, ap, rules, arith}
 use Rattle.std.proofs.lemmas.Option.{same_Some}
-use Rattle.tree_array.specs.Arrivals.{Arrivals}
+use Rattle.tree_array.specs.Arrivals.{Arrivals, arrival}
 use Rattle.tree_array.specs.Sound.{IsSound}
 use Rattle.tree_array.proofs.Kept.{sound}
-use Rattle.tree_array.proofs.Picks.{length-picked, none_from_test}
-use Rattle.tree_array.proofs.Ranges.{cut_kept, cut_taken, cut_all, kept_outside}
+use Rattle.tree_order.proofs.Picked.{length-picked}
+use Rattle.tree_array.proofs.Ranges.{cut_none, cut_kept, cut_taken, cut_all, kept_outside}
+use Rattle.tree_array.proofs.Seen.{arrival_seen}
+use Rattle.tree_order.proofs.Slots.{len_small}
+use Rattle.tree_cells.proofs.Tabled.{early}
+use Rattle.tree_cells.proofs.Walks.{live_some, live_none}
 use Rattle.tree_array.proofs.array.ArrayOf.remove_range.Goals as goal
-use Rattle.tree_array.proofs.array.ArrayOf.remove_range.Goals.{then-is_reachable+then-range_contains, else-is_reachable, else-is_reachable-via-then-is_reachable+else-range_contains, else-is_reachable-via-else-is_reachable}
+use Rattle.tree_array.proofs.array.ArrayOf.remove_range.Goals.{then-ranks-slot-gt0+then-range_contains, else-ranks-slot-gt0, else-ranks-slot-gt0-via-then-ranks-slot-gt0+else-range_contains, else-ranks-slot-gt0-via-else-ranks-slot-gt0}
+
+pub ranks-ranks-requires-clause-within : goal.ranks-ranks-requires-clause-within
+ranks-ranks-requires-clause-within g c = λ i lt.
+    let it = c.self.invariant.0 in
+    omega (arith, early g.met.K.Ord.total it i lt, it.few_made, len_small g.row.LEN it.is_len)
+
+pub loop-slot-init : goal.loop-slot-init
+loop-slot-init g c =
+    cut_none g.met.K.Ord.total _ _ (subst (IsSound g.K.Ord.cmp g.row.LEN) c.self.view_is (sound g.met.K.Ord.total c.self.invariant.0 _ c.self.invariant.1))
+
+pub key-requires : goal.key-requires
+key-requires g c =
+    let it = c.self.invariant.0 in
+    let slot = c.loop-slot.slot in
+    let within : slot < 15 = omega (arith, c.loop-slot-test.true, it.few_made, len_small g.row.LEN it.is_len) in
+    let there = live_some g.met.K.Ord.total it slot (omega (arith, c.ranks-ranks.ensures.ranks slot within, c.if-ranks-slot-gt0.true)) in
+    (search rules, subst IsSome (sym (c.loop-slot.invariant.rest slot (omega arith) ∙ arrival_seen _ _ _ _ c.self.view_is it slot)) there)
 
 pub loop-slot-preserved : goal.loop-slot-preserved
 loop-slot-preserved g c =
     let o = g.met.K.Ord.total in
-    let bits = c.self.invariant.0 in
-    let kept = subst (IsSound g.K.Ord.cmp g.row.LEN) c.self.view_is (sound o c.self.invariant.1 g.row.LEN c.self.inside.ranks bits.is_len bits.few c.self.invariant.2) in
+    let it = c.self.invariant.0 in
+    let kept = subst (IsSound g.K.Ord.cmp g.row.LEN) c.self.view_is (sound o it _ c.self.invariant.1) in
     let so_far = c.loop-slot.invariant in
-    elim c.if-is_reachable.branch [
-      | then-is_reachable+then-range_contains w ↦
+    let slot = c.loop-slot.slot in
+    let within : slot < 15 = omega (arith, c.loop-slot-test.true, it.few_made, len_small g.row.LEN it.is_len) in
+    let rank = c.ranks-ranks.ensures.ranks slot within in
+    elim c.if-ranks-slot-gt0.branch [
+      | then-ranks-slot-gt0+then-range_contains w ↦
           let taken = w.take.ensures in
           let pair = same_Some _ _ (sym taken.pair ∙ w.key.ensures.1) in
           let same : w.take.result.0 ≡ w.key.result.now = ap (λ (pair : _ × _). pair.0) pair in
           rw w.self-is (cut_taken o _ _ kept so_far w.take.result.0 w.take.result.1 taken.pair (rw same (sym w.if-range_contains.ensures)) taken.left)
-      | else-is_reachable w ↦ elim w.else-is_reachable.branch [
-        | else-is_reachable-via-then-is_reachable+else-range_contains w' ↦ rw w.self-is (cut_kept o _ _ kept so_far (rw w'.key.ensures.1 (kept_outside g.K.Ord.cmp _ _ _ _ (sym w'.if-range_contains.ensures))))
-        | else-is_reachable-via-else-is_reachable w' ↦ rw w.self-is (cut_kept o _ _ kept so_far (rw (none_from_test _ (sym w'.if-is_reachable.ensures)) refl))
+      | else-ranks-slot-gt0 w ↦ elim w.else-ranks-slot-gt0.branch [
+        | else-ranks-slot-gt0-via-then-ranks-slot-gt0+else-range_contains w' ↦ rw w.self-is (cut_kept o _ _ kept so_far (rw w'.key.ensures.1 (kept_outside g.K.Ord.cmp _ _ _ _ (sym w'.if-range_contains.ensures))))
+        | else-ranks-slot-gt0-via-else-ranks-slot-gt0 w' ↦
+            let none : arrival c.loop-slot.self.arrivals slot ≡ None = so_far.rest slot (omega arith) ∙ arrival_seen _ _ _ _ c.self.view_is it slot ∙ live_none o it slot (omega (arith, rank, w'.if-ranks-slot-gt0.false)) in
+            rw w.self-is (cut_kept o _ _ kept so_far (rw none refl))
       ]
     ]
 
 pub returns : goal.returns
 returns g c =
     let o = g.met.K.Ord.total in
-    let bits = c.self.invariant.0 in
-    let kept = subst (IsSound g.K.Ord.cmp g.row.LEN) c.self.view_is (sound o c.self.invariant.1 g.row.LEN c.self.inside.ranks bits.is_len bits.few c.self.invariant.2) in
-    cut_all o _ _ kept c.loop-slot.invariant (omega (arith, length-picked, ap (λ (a : Arrivals _ _). length a.arrivals) c.self.view_is))
+    let it = c.self.invariant.0 in
+    let kept = subst (IsSound g.K.Ord.cmp g.row.LEN) c.self.view_is (sound o it _ c.self.invariant.1) in
+    let made = ap (λ (a : Arrivals _ _). length a.arrivals) (sym c.self.view_is) ∙ length-picked (arrival c.self.inside.cells) c.self.inside.made in
+    cut_all o _ _ kept c.loop-slot.invariant (omega (arith, made, c.loop-slot-test.false))

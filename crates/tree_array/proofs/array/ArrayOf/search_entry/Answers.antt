@@ -1,12 +1,25 @@
-use Rattle.std.proofs.Common.{sym, ◌∙◌}
-use Rattle.tree_array.proofs.Found.{found_at, found_none}
+use Rattle.std.proofs.Common.{IsSome, sym, subst, refl, ◌∙◌, ap, rules, arith}
+use Rattle.tree_array.specs.Arrivals.{arrival}
+use Rattle.tree_cells.proofs.Found.{found_at, before_none}
+use Rattle.tree_cells.proofs.Halving.{searched_few}
+use Rattle.tree_cells.proofs.Walks.{ranked_of}
 use Rattle.tree_array.proofs.array.ArrayOf.search_entry.Goals as goal
+
+pub pair-requires : goal.pair-requires
+pair-requires g c =
+    let place = c.in-At.ensures.place in
+    (search rules, subst IsSome (sym (ap (arrival c.self.inside.cells) (sym place.1) ∙ place.0.there)) refl)
 
 pub returns-in-At-clause-found : goal.returns-in-At-clause-found
 returns-in-At-clause-found g c =
     let place = c.in-At.ensures.place in
-    rw (← c.self.view_is) (found_at g.met.K.Ord.total c.self.invariant.1 _ _ _ place.1.1 place.1.2 ∙ sym place.1.1 ∙ c.pair.ensures)
+    rw (← c.self.view_is) (found_at g.met.K.Ord.total (ranked_of g.met.K.Ord.total c.self.invariant.0) _ _ _ place.0.there place.0.same ∙ sym place.0.there ∙ ap (arrival c.self.inside.cells) place.1 ∙ c.pair.ensures)
 
-pub returns-in-Above-clause-found : goal.returns-in-Above-clause-found
-returns-in-Above-clause-found g c =
-    rw (← c.self.view_is) (found_none g.met.K.Ord.total c.self.invariant.1 _ _ c.in-Above.ensures.place.1)
+pub returns-in-At-clause-counted : goal.returns-in-At-clause-counted
+returns-in-At-clause-counted g c = omega (arith, c.in-At.ensures.counted, searched_few g.row.LEN c.self.invariant.0.is_len)
+
+pub returns-in-Before-clause-found : goal.returns-in-Before-clause-found
+returns-in-Before-clause-found g c = rw (← c.self.view_is) (before_none g.met.K.Ord.total c.self.invariant.0 _ _ _ c.in-Before.ensures.place)
+
+pub returns-in-Before-clause-counted : goal.returns-in-Before-clause-counted
+returns-in-Before-clause-counted g c = omega (arith, c.in-Before.ensures.counted, searched_few g.row.LEN c.self.invariant.0.is_len)

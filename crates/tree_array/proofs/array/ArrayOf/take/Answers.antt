@@ -1,48 +1,25 @@
-use Rattle.std.proofs.Common.{refl, ◌∙◌, ap, rules}
-use Rattle.tree_array.specs.Arrivals.{Arrivals, removed}
-use Rattle.tree_array.proofs.Seen.{arrival_seen, reachable_seen}
-use Rattle.tree_array.proofs.Picks.{some_of}
-use Rattle.tree_array.proofs.Taken.{slot_within, last_holds, last_seen, more_holds, more_live, more_seen}
+use Rattle.std.proofs.Common.{◌∙◌, ap, sym, rules, arith}
+use Rattle.tree_array.specs.Arrivals.{arrival}
+use Rattle.tree_array.proofs.Kept.{count_seen, entry_seen}
+use Rattle.tree_array.proofs.Seen.{arrival_seen, listed_seen}
+use Rattle.tree_cells.proofs.Tabled.{few_places}
 use Rattle.tree_array.proofs.array.ArrayOf.take.Goals as goal
 
-pub rank_dropped-self-inside-requires-clause-old :
-    goal.rank_dropped-self-inside-requires-clause-old
-rank_dropped-self-inside-requires-clause-old g c =
-    let there = some_of _ (reachable_seen _ _ _ _ c.self.view_is c.self.invariant.1 c.args.slot c.requires) in
-    slot_within g.met.K.Ord.total c.self.invariant.0 c.self.invariant.1 c.self.invariant.2 c.args.slot there.0 there.1
+pub place_of-place-requires : goal.place_of-place-requires
+place_of-place-requires g c = record {
+  few = few_places g.met.K.Ord.total c.self.invariant.0;
+  there = listed_seen _ _ _ _ c.self.view_is c.self.invariant.0 c.args.slot c.requires;
+}
 
-pub take-key-requires : goal.take-key-requires
-take-key-requires g c = (search rules, reachable_seen _ _ _ _ c.self.view_is c.self.invariant.1 c.args.slot c.requires)
+pub take_at-requires : goal.take_at-requires
+take_at-requires g c =
+    let few = count_seen g.met.K.Ord.total c.self.invariant.0 _ c.self.view_is in
+    (search rules, omega (arith, few, c.place_of-place.ensures.early))
 
-pub invariant_of-self : goal.invariant_of-self
-invariant_of-self g c =
-    let dropped = c.rank_dropped-self-inside.ensures in
-    last_holds g.met.K.Ord.total c.self.invariant.0 c.self.invariant.1 c.self.invariant.2 c.args.slot _ c.take-key.ensures.pair c.take-key.ensures.spent _ dropped.bound dropped.dropped c.if-self-eq0.true
-
-pub invariant_of-self-else-self-eq0 : goal.invariant_of-self-else-self-eq0
-invariant_of-self-else-self-eq0 g c =
-    let dropped = c.rank_dropped-self-inside.ensures in
-    more_holds g.met.K.Ord.total c.self.invariant.0 c.self.invariant.1 c.self.invariant.2 c.args.slot _ c.take-key.ensures.pair c.take-key.ensures.spent _ dropped.bound dropped.dropped c.if-self-eq0.false
-
-pub returns-then-self-eq0-clause-pair : goal.returns-then-self-eq0-clause-pair
-returns-then-self-eq0-clause-pair g c = arrival_seen _ _ _ _ c.self.view_is c.self.invariant.1 c.args.slot ∙ c.take-key.ensures.pair
-
-pub returns-then-self-eq0-clause-left : goal.returns-then-self-eq0-clause-left
-returns-then-self-eq0-clause-left g c =
-    let dropped = c.rank_dropped-self-inside.ensures in
-    last_seen g.met.K.Ord.total c.self.invariant.0 c.self.invariant.1 c.self.invariant.2 c.args.slot _ c.take-key.ensures.pair c.take-key.ensures.spent _ dropped.bound dropped.dropped c.if-self-eq0.true
-    ∙ ap (λ (array : Arrivals _ _). removed g.K.Ord.cmp array c.take-key.result.0) c.self.view_is
-
-pub returns-else-self-eq0-clause-pair : goal.returns-else-self-eq0-clause-pair
-returns-else-self-eq0-clause-pair g c = arrival_seen _ _ _ _ c.self.view_is c.self.invariant.1 c.args.slot ∙ c.take-key.ensures.pair
-
-pub returns-else-self-eq0-clause-left : goal.returns-else-self-eq0-clause-left
-returns-else-self-eq0-clause-left g c =
-    let dropped = c.rank_dropped-self-inside.ensures in
-    more_seen g.met.K.Ord.total c.self.invariant.0 c.self.invariant.1 c.self.invariant.2 c.args.slot _ c.take-key.ensures.pair c.take-key.ensures.spent _ dropped.bound dropped.dropped c.if-self-eq0.false
-    ∙ ap (λ (array : Arrivals _ _). removed g.K.Ord.cmp array c.take-key.result.0) c.self.view_is
-
-pub returns-else-self-eq0-clause-answer : goal.returns-else-self-eq0-clause-answer
-returns-else-self-eq0-clause-answer g c =
-    let dropped = c.rank_dropped-self-inside.ensures in
-    rw (more_live g.met.K.Ord.total c.self.invariant.0 c.self.invariant.1 c.self.invariant.2 c.args.slot _ c.take-key.ensures.pair c.take-key.ensures.spent _ dropped.bound dropped.dropped c.if-self-eq0.false) refl
+pub returns-clause-pair : goal.returns-clause-pair
+returns-clause-pair g c =
+    let o = g.met.K.Ord.total in
+    let it = c.self.invariant.0 in
+    let at_place = c.place_of-place.ensures in
+    let s = it.in_order.stands c.place_of-place.result at_place.early in
+    arrival_seen _ _ _ _ c.self.view_is it c.args.slot ∙ ap (arrival c.self.inside.cells) (sym at_place.here) ∙ s.1 ∙ sym (entry_seen o it _ c.self.view_is c.place_of-place.result s.0 at_place.early s.1) ∙ c.take_at.ensures.pair

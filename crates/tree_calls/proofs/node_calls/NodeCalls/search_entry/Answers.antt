@@ -1,4 +1,5 @@
 use Rattle.std.proofs.Common.{rules, ◌<◌}
+use Rattle.tree_array.specs.Length.{searched}
 use Rattle.tree_node.specs.Tree.{StandsOrRetired}
 use Rattle.tree_node.proofs.Sizes.{fits}
 use Rattle.tree_calls.proofs.FoundLevels.{is_found, within_level}
@@ -29,3 +30,9 @@ returns-clause-counted g c =
     let inner : 0 < g.level = g.Self.NodeCalls.above_leaves g.level (assumption c.requires) in
     let found = is_found g.K.Ord.cmp c.args.arenas.now c.args.id g.level c.level_of-level.result inner c.level_of-level.ensures.stands c.level_of-level.ensures.retired (assumption c.requires) in
     within_level _ _ _ _ _ found g.row.LEN _ _ c.search_at.ensures.counted
+
+pub returns-clause-halved : goal.returns-clause-halved
+returns-clause-halved g c =
+    let inner : 0 < g.level = g.Self.NodeCalls.above_leaves g.level (assumption c.requires) in
+    let found = is_found g.K.Ord.cmp c.args.arenas.now c.args.id g.level c.level_of-level.result inner c.level_of-level.ensures.stands c.level_of-level.ensures.retired (assumption c.requires) in
+    within_level _ _ _ _ _ found (searched g.row.LEN) _ _ c.search_at.ensures.halved

@@ -1,40 +1,22 @@
-use Rattle.std.proofs.Common.{refl, sym}
-use mathlib.Core.Bool.{false≢true}
-use Rattle.tree_index.proofs.Indexed.{pair_is}
+use Rattle.tree_index.proofs.Indexed.{no_duplicate, not_upserted, upserted}
 use Rattle.tree_index.proofs.index.TreeIndexOf.upsert_sync.Goals as goal
 
-pub unreachable-requires : goal.unreachable-requires
-unreachable-requires g c =
-    let stores = rw c.in-Duplicate.is at c.in-Ok.ensures in
-    false≢true (sym stores.pairs.0)
+pub returns-in-Ok-clause-pairs : goal.returns-in-Ok-clause-pairs
+returns-in-Ok-clause-pairs g c = (upserted g.row.LEN g.K.Ord.cmp _ _ c.args.key c.args.value c.in-Ok.field-0 c.in-Ok.ensures).0
 
-pub unreachable-requires-in-Full : goal.unreachable-requires-in-Full
-unreachable-requires-in-Full g c =
-    let stores = rw c.in-Full.is at c.in-Ok.ensures in
-    false≢true (sym stores.not_full)
+pub returns-in-Ok-clause-spare : goal.returns-in-Ok-clause-spare
+returns-in-Ok-clause-spare g c = (upserted g.row.LEN g.K.Ord.cmp _ _ c.args.key c.args.value c.in-Ok.field-0 c.in-Ok.ensures).1
 
-pub returns-in-New-clause-pairs : goal.returns-in-New-clause-pairs
-returns-in-New-clause-pairs g c =
-    let stores = rw c.in-New.is at c.in-Ok.ensures in
-    stores.pairs.1
+pub returns-in-Err-OutOfMemory-clause-pairs : goal.returns-in-Err-OutOfMemory-clause-pairs
+returns-in-Err-OutOfMemory-clause-pairs g c =
+    let back = not_upserted g.row.LEN g.K.Ord.cmp _ _ c.args.key c.args.value c.in-Err-OutOfMemory.key c.in-Err-OutOfMemory.value (rw c.in-Err-OutOfMemory.field-0-is at c.in-Err-OutOfMemory.ensures) in
+    (back.0, back.1)
 
-pub returns-in-New-clause-spare : goal.returns-in-New-clause-spare
-returns-in-New-clause-spare g c =
-    let stores = rw c.in-New.is at c.in-Ok.ensures in
-    stores.written refl
+pub returns-in-Err-OutOfMemory-clause-spare : goal.returns-in-Err-OutOfMemory-clause-spare
+returns-in-Err-OutOfMemory-clause-spare g c =
+    (not_upserted g.row.LEN g.K.Ord.cmp _ _ c.args.key c.args.value c.in-Err-OutOfMemory.key c.in-Err-OutOfMemory.value (rw c.in-Err-OutOfMemory.field-0-is at c.in-Err-OutOfMemory.ensures)).2
 
-pub returns-in-Replaced-clause-pairs : goal.returns-in-Replaced-clause-pairs
-returns-in-Replaced-clause-pairs g c =
-    let stores = rw c.in-Replaced.is at c.in-Ok.ensures in
-    stores.pairs.2
-
-pub returns-in-Replaced-clause-spare : goal.returns-in-Replaced-clause-spare
-returns-in-Replaced-clause-spare g c =
-    let stores = rw c.in-Replaced.is at c.in-Ok.ensures in
-    stores.written refl
-
-pub returns-in-Err-clause-pairs : goal.returns-in-Err-clause-pairs
-returns-in-Err-clause-pairs g c = (pair_is c.in-Err.pair c.args.key c.args.value c.in-Err.ensures.pairs.1 c.in-Err.ensures.pairs.2, c.in-Err.ensures.pairs.3)
-
-pub returns-in-Err-clause-spare : goal.returns-in-Err-clause-spare
-returns-in-Err-clause-spare g c = c.in-Err.ensures.spent refl
+-- an upsert finds no duplicate
+pub returns-in-Err-Duplicate : goal.returns-in-Err-Duplicate
+returns-in-Err-Duplicate g c =
+    absurd (no_duplicate g.row.LEN g.K.Ord.cmp _ _ c.args.key c.args.value c.in-Err-Duplicate.key c.in-Err-Duplicate.value (rw c.in-Err-Duplicate.field-0-is at c.in-Err-Duplicate.ensures))

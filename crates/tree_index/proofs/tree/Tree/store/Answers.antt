@@ -1,6 +1,7 @@
 use Rattle.std.proofs.Common.{Ok, Err, ap, refl}
 use Rattle.tree_node.proofs.Sizes.{fits}
-use Rattle.tree_index.proofs.Stored.{no_room, part_or_retired, stored_grown, stored_under}
+use Rattle.tree_index.specs.Trees.{told}
+use Rattle.tree_index.proofs.Stored.{never_full, no_room, part_or_retired, stored_grown, stored_under}
 use Rattle.tree_index.proofs.tree.Tree.store.Goals as goal
 
 pub insert_at-requires : goal.insert_at-requires
@@ -16,7 +17,7 @@ store_grown-requires g c =
 
 pub returns-in-Err : goal.returns-in-Err
 returns-in-Err g c =
-    stored_under g.K.Ord.cmp _ c.args.self.now _ c.args.key c.args.val c.in-Some.root c.in-Some.depth (Err c.in-Err.pair) c.in-Some.is c.in-Some.is c.requires.whole c.in-Err.ensures.inserts c.in-Err.ensures.retired refl
+    stored_under g.K.Ord.cmp _ c.args.self.now _ c.args.key c.args.val c.in-Some.root c.in-Some.depth (Err (c.in-Err.key, c.in-Err.val)) c.in-Some.is c.in-Some.is c.requires.whole c.in-Err.ensures.inserts c.in-Err.ensures.retired refl
 
 pub returns-in-New : goal.returns-in-New
 returns-in-New g c =
@@ -41,5 +42,8 @@ returns-in-Full g c =
     let none = no_room g.K.Ord.cmp _ c.args.self.now _ c.args.key c.args.val c.in-Some.root c.in-Some.depth (Ok c.in-Ok.answer) c.in-Some.is c.in-Some.is c.requires.whole c.in-Ok.ensures.inserts c.in-Ok.ensures.retired
     c.in-Full.key c.in-Full.val (ap Ok c.in-Full.is) in
     let tree = rw c.in-Some.is at c.requires.whole in
-    stored_grown g.K.Ord.cmp _ c.args.self.now _ c.store_grown.new.self c.args.key c.args.val c.store_grown.result none.was_spent (rw c.in-Some.is tree.top.0) (rw (none.same_key, none.pairs) at none.absent) none.pairs
+    stored_grown g.K.Ord.cmp _ c.args.self.now _ c.store_grown.new.self c.args.key c.args.val (told c.store_grown.result) none.was_spent (rw c.in-Some.is tree.top.0) (rw (none.same_key, none.pairs) at none.absent) none.pairs (never_full c.store_grown.result)
     (rw (none.same_key, none.same_val) at c.store_grown.ensures)
+
+pub returns-in_default : goal.returns-in_default
+returns-in_default g c = c.store_first.ensures _

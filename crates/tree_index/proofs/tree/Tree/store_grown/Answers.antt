@@ -1,10 +1,10 @@
-use Rattle.std.proofs.Common.{suc, w64, Some, Ok, Err, refl, add-one, arith}
+use Rattle.std.proofs.Common.{suc, ◌+◌, w64, Some, Ok, Err, refl, add-one, arith}
 use Rattle.std.proofs.Math.Facts.{Fits-of_lt}
 use Rattle.tree_node.proofs.Sizes.{fits}
 use Rattle.tree_node.specs.Tree.{IsRetiredNode}
 use Rattle.slab.specs.Slab.{ContainsKey, get}
 use Rattle.tree_insert.proofs.RaisedTrees.{tree_raised}
-use Rattle.tree_index.proofs.Stored.{childless_root, not_grown, part_or_retired, root_part, root_there, stored_raised}
+use Rattle.tree_index.proofs.Stored.{childless_root, not_grown, part_or_retired, root_part, root_there, stored_raised, takes_it}
 use Rattle.tree_index.proofs.tree.Tree.store_grown.Goals as goal
 
 pub node-requires : goal.node-requires
@@ -43,10 +43,40 @@ insert_at-requires g c =
 
 pub returns-in-Err : goal.returns-in-Err
 returns-in-Err g c =
-    stored_raised g.K.Ord.cmp _ c.args.self.now (record { arenas = c.split_root_at.new.arenas; root = Some (c.in-Ok.top, suc c.args.depth) }) _ c.args.key c.args.val (Err c.in-Err.pair) c.args.root c.in-Ok.top c.args.depth
-    c.requires.root refl (rw add-one refl) c.requires.whole c.in-Ok.ensures.done (rw add-one at c.in-Err.ensures.inserts) (rw add-one at c.in-Err.ensures.retired) c.requires.spent c.requires.new
+    stored_raised g.K.Ord.cmp _ c.args.self.now (record { arenas = c.split_root_at.new.arenas; root = Some (c.in-Ok.top, suc c.args.depth) }) _ c.args.key c.args.val (Err (c.in-Err.key, c.in-Err.val)) c.args.root c.in-Ok.top
+    c.args.depth c.requires.root refl (rw add-one refl) c.requires.whole c.in-Ok.ensures.done (rw add-one at c.in-Err.ensures.inserts) (rw add-one at c.in-Err.ensures.retired) c.requires.spent c.requires.new
 
-pub returns-in-Ok-insert_at : goal.returns-in-Ok-insert_at
-returns-in-Ok-insert_at g c =
-    stored_raised g.K.Ord.cmp _ c.args.self.now (record { arenas = c.split_root_at.new.arenas; root = Some (c.in-Ok.top, suc c.args.depth) }) _ c.args.key c.args.val (Ok c.in-Ok-insert_at.answer) c.args.root c.in-Ok.top c.args.depth
-    c.requires.root refl (rw add-one refl) c.requires.whole c.in-Ok.ensures.done (rw add-one at c.in-Ok-insert_at.ensures.inserts) (rw add-one at c.in-Ok-insert_at.ensures.retired) c.requires.spent c.requires.new
+pub node-requires-room-N-Destruct : goal.node-requires-room-N-Destruct
+node-requires-room-N-Destruct g c κs within = search fits
+
+pub is_childless-requires : goal.is_childless-requires
+is_childless-requires g c = search fits
+
+pub returns-in-New : goal.returns-in-New
+returns-in-New g c =
+    rw c.in-New.is at
+    (stored_raised g.K.Ord.cmp _ c.args.self.now (record { arenas = c.split_root_at.new.arenas; root = Some (c.in-Ok.top, suc c.args.depth) }) (record { arenas = c.insert_at.new.arenas; root = Some (c.in-Ok.top, c.args.depth + 1) }) c.args.key c.args.val (Ok c.in-Ok-insert_at.answer) c.args.root c.in-Ok.top
+    c.args.depth c.requires.root refl (rw add-one refl) c.requires.whole c.in-Ok.ensures.done (rw add-one at c.in-Ok-insert_at.ensures.inserts) (rw add-one at c.in-Ok-insert_at.ensures.retired) c.requires.spent c.requires.new)
+
+pub returns-in-Replaced : goal.returns-in-Replaced
+returns-in-Replaced g c =
+    rw c.in-Replaced.is at
+    (stored_raised g.K.Ord.cmp _ c.args.self.now (record { arenas = c.split_root_at.new.arenas; root = Some (c.in-Ok.top, suc c.args.depth) }) (record { arenas = c.insert_at.new.arenas; root = Some (c.in-Ok.top, c.args.depth + 1) }) c.args.key c.args.val (Ok c.in-Ok-insert_at.answer) c.args.root c.in-Ok.top
+    c.args.depth c.requires.root refl (rw add-one refl) c.requires.whole c.in-Ok.ensures.done (rw add-one at c.in-Ok-insert_at.ensures.inserts) (rw add-one at c.in-Ok-insert_at.ensures.retired) c.requires.spent c.requires.new)
+
+pub returns-in-Duplicate : goal.returns-in-Duplicate
+returns-in-Duplicate g c =
+    rw c.in-Duplicate.is at
+    (stored_raised g.K.Ord.cmp _ c.args.self.now (record { arenas = c.split_root_at.new.arenas; root = Some (c.in-Ok.top, suc c.args.depth) }) (record { arenas = c.insert_at.new.arenas; root = Some (c.in-Ok.top, c.args.depth + 1) }) c.args.key c.args.val (Ok c.in-Ok-insert_at.answer) c.args.root c.in-Ok.top
+    c.args.depth c.requires.root refl (rw add-one refl) c.requires.whole c.in-Ok.ensures.done (rw add-one at c.in-Ok-insert_at.ensures.inserts) (rw add-one at c.in-Ok-insert_at.ensures.retired) c.requires.spent c.requires.new)
+
+-- the new root has room
+pub unreachable-requires : goal.unreachable-requires
+unreachable-requires g c =
+    let takes = takes_it g.K.Ord.cmp _ c.args.self.now (record { arenas = c.split_root_at.new.arenas; root = Some (c.in-Ok.top, suc c.args.depth) }) (record { arenas = c.insert_at.new.arenas; root = Some (c.in-Ok.top, suc c.args.depth) })
+    c.args.key c.args.val (Ok c.in-Ok-insert_at.answer) c.args.root c.in-Ok.top c.args.depth c.requires.root refl refl c.requires.whole c.in-Ok.ensures.done (rw add-one at c.in-Ok-insert_at.ensures.inserts) (rw add-one at c.in-Ok-insert_at.ensures.retired) in
+    let no = rw c.in-Full.is at takes in
+    cc
+
+pub returns-then-is_childless : goal.returns-then-is_childless
+returns-then-is_childless g c = c.store_first.ensures _

@@ -1,0 +1,5 @@
+use Rattle.tree_array.proofs.Emptied.{HasEmptied}
+use Rattle.tree_array.proofs.array.ArrayOf.drop.Given as goal
+
+abbrev pub invariant-loop-place : goal.invariant-loop-place
+invariant-loop-place g l = HasEmptied l.initial.cells l.cells l.order l.count l.place

@@ -1,0 +1,78 @@
+-- The arrivals of an array, as a list of what is picked by their numbers.
+use Rattle.std.proofs.Common.{◌≡◌, ◌⊎◌, ℕ, zero, suc, ◌<◌, ◌≤◌, List, [], ◌∷◌, ◌++◌, map, length, true, false, Option, None, Some, IsSome, refl, sym, ◌∙◌, ap, inl, inr, arith}
+use Rattle.std.specs.Option.{is_some}
+use Rattle.std.proofs.lemmas.Bool.{cases_lt}
+use mathlib.Core.Bool.{false≢true}
+use Rattle.std.proofs.lemmas.List.{get_or_past, map-append}
+use Rattle.std.proofs.lemmas.Option.{none-some}
+use Rattle.tree_cells.specs.Arrivals.{arrival, reachable}
+use Rattle.tree_order.specs.Order.{picked}
+use Rattle.tree_order.proofs.Picked.{length-picked, get_or-picked}
+
+-- a value is there or not
+pub cases_option : {A : Type 0} (o : Option A) → (o ≡ None) ⊎ ((a : A) × (o ≡ Some a))
+cases_option None = inl refl
+cases_option (Some a) = inr (a, refl)
+
+module _ {K V : Type 0} where
+  pub arrival-picked : (pick : ℕ → Option (K × V)) (n p : ℕ) → p < n → arrival (picked pick n) p ≡ pick p
+  arrival-picked pick n p lt = get_or-picked pick n p None lt
+
+  -- where no more arrivals were made, each stands in the list
+  pub arrival-all : (pick : ℕ → Option (K × V)) (n : ℕ) → ((p : ℕ) → n ≤ p → pick p ≡ None) → (p : ℕ) → arrival (picked pick n) p ≡ pick p
+  arrival-all pick n unmade p = elim (cases_lt p n) [
+    | inl early ↦ arrival-picked pick n p early
+    | inr late ↦ get_or_past (picked pick n) p None (omega (arith, length-picked pick n)) ∙ sym (unmade p late)
+  ]
+
+  -- a reachable arrival was made
+  pub made_early : (pick : ℕ → Option (K × V)) (n : ℕ) → ((p : ℕ) → n ≤ p → pick p ≡ None) → (p : ℕ) (e : K × V) → pick p ≡ Some e → p < n
+  made_early pick n unmade p e some = elim (cases_lt p n) [
+    | inl lt ↦ lt
+    | inr ge ↦ absurd (none-some e (sym (unmade p ge) ∙ some))
+  ]
+
+  -- the list changes as each arrival does
+  pub picked-map : (f : Option (K × V) → Option (K × V)) (pick pick' : ℕ → Option (K × V)) (n : ℕ) → ((p : ℕ) → p < n → pick' p ≡ f (pick p)) → picked pick' n ≡ map f (picked pick n)
+  picked-map f pick pick' zero each = refl
+  picked-map f pick pick' (suc n) each =
+      rw (each n (omega arith), picked-map f pick pick' n (λ p lt. each p (omega arith))) (sym (map-append f (picked pick n) (pick n ∷ [])))
+
+  pub picked_same : (pick pick' : ℕ → Option (K × V)) (n : ℕ) → ((p : ℕ) → p < n → pick' p ≡ pick p) → picked pick' n ≡ picked pick n
+  picked_same pick pick' zero each = refl
+  picked_same pick pick' (suc n) each = rw (each n (omega arith), picked_same pick pick' n (λ p lt. each p (omega arith))) refl
+
+  -- ---- the reachable arrivals
+  pub reachable-append : (xs ys : List (Option (K × V))) → reachable (xs ++ ys) ≡ reachable xs ++ reachable ys
+  reachable-append [] ys = refl
+  reachable-append (None ∷ xs) ys = reachable-append xs ys
+  reachable-append (Some e ∷ xs) ys = ap (λ (q : List (K × V)). e ∷ q) (reachable-append xs ys)
+
+  pub no_reachable : (arrivals : List (Option (K × V))) → ((p : ℕ) → arrival arrivals p ≡ None) → reachable arrivals ≡ []
+  no_reachable [] h = refl
+  no_reachable (None ∷ arrivals) h = no_reachable arrivals (λ p. h (suc p))
+  no_reachable (Some e ∷ arrivals) h = absurd (none-some e (sym (h 0)))
+
+  pub all_spent : (arrivals : List (Option (K × V))) → reachable arrivals ≡ [] → (p : ℕ) → arrival arrivals p ≡ None
+  all_spent [] e p = refl
+  all_spent (None ∷ arrivals) e zero = refl
+  all_spent (None ∷ arrivals) e (suc p) = all_spent arrivals e p
+  all_spent (Some f ∷ arrivals) e p = cc
+
+  pub reachable_few : (arrivals : List (Option (K × V))) → length (reachable arrivals) ≤ length arrivals
+  reachable_few [] = omega arith
+  reachable_few (None ∷ arrivals) = omega (arith, reachable_few arrivals)
+  reachable_few (Some e ∷ arrivals) = omega (arith, reachable_few arrivals)
+
+-- ---- what a test of an arrival says
+pub some_from_test : {A : Type 0} (o : Option A) → is_some o ≡ true → (a : A) × (o ≡ Some a)
+some_from_test None h = absurd (false≢true h)
+some_from_test (Some a) h = (a, refl)
+
+pub none_from_test : {A : Type 0} (o : Option A) → is_some o ≡ false → o ≡ None
+none_from_test None h = refl
+none_from_test (Some a) h = absurd (false≢true (sym h))
+
+pub some_of : {A : Type 0} (o : Option A) → IsSome o → (a : A) × (o ≡ Some a)
+some_of None there = absurd (false≢true there)
+some_of (Some a) there = (a, refl)

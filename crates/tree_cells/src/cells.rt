@@ -1,0 +1,111 @@
+//! The cells of an array, keys apart from values. No byte says which cells hold a pair: the order of the array does.
+ghost use Rattle.std.specs.Prelude.{◌≡◌, ℕ, ◌<◌, None, Some, IsSome, replicate, slice_set};
+ghost use Rattle.tree_cells.specs.Arrivals.{arrival};
+
+use std::marker::Model;
+use std::mem;
+use tree_slots::row::Row;
+
+/// The cells, each with a pair or none. There are no rows before the first pair, whose bytes then fill them.
+pub struct Cells<K, V, const LEN: usize> {
+    rows: Option<(Row<K, LEN>, Row<V, LEN>)>,
+}
+
+impl<K, V, const LEN: usize> Model for Cells<K, V, LEN> {
+    ghost use Rattle.std.specs.Prelude.{List, Option, MatchOption, ⊤};
+    ghost use Rattle.tree_cells.specs.Cells.{zipped, seen_cells, AreFilledAlike};
+
+    ghost Value = { List (Option (K × V)) };
+
+    ghost view = { λ c. seen_cells LEN (λ rows. zipped rows.0.slots rows.1.slots) c.rows };
+
+    ghost invariant = { λ c. MatchOption c.rows ⊤ (λ rows. AreFilledAlike rows.0.slots rows.1.slots) };
+}
+
+impl<K, V, const LEN: usize> Cells<K, V, LEN> {
+    /// Cells without a pair.
+    pub fn new() -> Self
+        ensures { result ≡ replicate LEN None }
+    {
+        Cells { rows: None }
+    }
+
+    /// The key of a cell. The caller must know that it holds a pair.
+    #[inline]
+    pub fn key(&self, cell: u8) -> &K
+        requires { IsSome (arrival self.now cell) }
+        ensures { (val : V) × (arrival self.now cell ≡ Some (result.now, val)) }
+    {
+        match &self.rows {
+            Some((keys, _)) => keys.get(cell as usize),
+            None => unreachable!(),
+        }
+    }
+
+    /// The pair of a cell. The caller must know that it holds one.
+    #[inline]
+    pub fn pair(&self, cell: u8) -> (&K, &V)
+        requires { IsSome (arrival self.now cell) }
+        ensures { arrival self.now cell ≡ Some (result.0.now, result.1.now) }
+    {
+        match &self.rows {
+            Some((keys, vals)) => (keys.get(cell as usize), vals.get(cell as usize)),
+            None => unreachable!(),
+        }
+    }
+
+    /// Puts a pair into a cell. The caller must know that it holds none.
+    pub fn put(&mut self, cell: u8, key: K, val: V)
+        requires within { cell < LEN }
+        requires empty { arrival self.old cell ≡ None }
+        ensures { self.new ≡ slice_set self.old cell (Some (key, val)) }
+    {
+        match &mut self.rows {
+            Some((keys, vals)) => {
+                keys.put(cell as usize, key);
+                vals.put(cell as usize, val);
+            }
+            None => {
+                let rows = (Row::with(cell as usize, key), Row::with(cell as usize, val));
+                if let Some((_keys, _vals)) = mem::replace(&mut self.rows, Some(rows)) {
+                    unreachable!()
+                }
+            }
+        }
+    }
+
+    /// Takes the pair of a cell. The caller must know that it holds one.
+    pub fn take(&mut self, cell: u8) -> (K, V)
+        requires { IsSome (arrival self.old cell) }
+        ensures pair { arrival self.old cell ≡ Some result }
+        ensures spent { self.new ≡ slice_set self.old cell None }
+    {
+        match &mut self.rows {
+            Some((keys, vals)) => (keys.take(cell as usize), vals.take(cell as usize)),
+            None => unreachable!(),
+        }
+    }
+
+    /// Replaces the value of a cell and returns the old one. The caller must know that it holds a pair.
+    pub fn replace(&mut self, cell: u8, val: V) -> V
+        requires { IsSome (arrival self.old cell) }
+        ensures { (key : K) × (arrival self.old cell ≡ Some (key, result))
+            × (self.new ≡ slice_set self.old cell (Some (key, val))) }
+    {
+        match &mut self.rows {
+            Some((_, vals)) => vals.replace(cell as usize, val),
+            None => unreachable!(),
+        }
+    }
+
+    /// Ends cells that hold no pair. The caller must know that they hold none.
+    pub fn discard(self)
+        requires { (p : ℕ) → arrival self p ≡ None }
+    {
+        let Cells { rows } = self;
+        if let Some((keys, vals)) = rows {
+            keys.discard();
+            vals.discard();
+        }
+    }
+}

@@ -1,0 +1,6 @@
+//! The cells of an array, and searches of them by halving.
+#![tactic(auto)]
+
+pub mod cells;
+pub mod judge;
+pub mod search;

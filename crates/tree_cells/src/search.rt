@@ -1,0 +1,191 @@
+//! Searches of an array by halving.
+ghost use Rattle.std.specs.Prelude.{◌≡◌, ◌+◌, ◌-◌, ◌*◌, ◌<◌, ◌≤◌};
+ghost use Rattle.tree_order.specs.Length.{IsLen};
+ghost use Rattle.tree_cells.specs.Place.{searched, nearest, IsPlace, IsWindow, slot_of};
+ghost use Rattle.tree_order.specs.Order.{named, IsFilled};
+ghost use Rattle.tree_cells.specs.Tabled.{IsInOrder};
+
+use crate::cells::Cells;
+use crate::judge::Asks;
+use std::mem::size_of_val;
+use tree_order::order::{BEYOND, slot_at};
+
+/// Where a key stands in the order of an array.
+#[derive(Clone, Copy)]
+pub enum Place {
+    /// It is that of the entry at this place, in this slot.
+    At(u8, u8),
+    /// It comes before the entry at this place, in this slot; or behind all entries, and the slot is [`BEYOND`].
+    Before(u8, u8),
+}
+
+impl Place {
+    /// The slot of the entry, or [`BEYOND`] behind all entries.
+    pub fn slot(self) -> u8
+        ensures { result ≡ slot_of self }
+    {
+        match self {
+            Place::At(_, slot) => slot,
+            Place::Before(_, slot) => slot,
+        }
+    }
+}
+
+/// What a search has found out: all entries before `place` have smaller keys, and none behind the window has.
+#[derive(Clone, Copy)]
+struct Window {
+    order: u64,
+    count: u8,
+    place: u8,
+    /// The order from the place on.
+    rest: u64,
+    /// How many of the keys that were met are equal.
+    met: u8,
+}
+
+impl Window {
+    /// The place of the equal key, which was met at the end of the window.
+    fn end(self, width: u8) -> Place
+        requires some { 0 < self.count }
+        requires within { self.place + width < 15 }
+        ensures { result ≡ Place.At (nearest self.count (self.place + width)) (named self.rest width) }
+    {
+        let place = self.place + width;
+        let slot = slot_at(self.rest, width);
+        if place < self.count {
+            Place::At(place, slot)
+        } else {
+            Place::At(self.count - 1, slot)
+        }
+    }
+}
+
+/// Where the key of the asked stands. At most 4 comparisons among 15 slots, and 3 among 7.
+///
+/// A search for a small key makes them all, and has no branch on what one of them answers. For a key of more
+/// than 16 bytes an equal one ends the search.
+#[inline]
+pub fn find<K: Ord, V, By, A: Asks<K, By>, const LEN: usize>(
+    cells: &Cells<K, V, LEN>,
+    order: u64,
+    count: u8,
+    asked: &mut A,
+) -> Place
+    requires len { IsLen LEN }
+    requires few { count ≤ LEN }
+    requires in_order { IsInOrder K.cmp cells.now order count }
+    requires filled { 0 < count → IsFilled LEN order count }
+    ensures place { IsPlace K.cmp cells.now order count (A.key asked.old) result }
+    ensures same_key { A.key asked.new ≡ A.key asked.old }
+    ensures counted { A.count asked.new ≤ A.count asked.old + searched LEN }
+{
+    if count == 0 {
+        return Place::Before(0, BEYOND);
+    }
+    let ends_early = size_of_val(cells.key(slot_at(order, 0))) > 16;
+    let window = begin(cells, order, count, asked);
+    if ends_early && window.met > 0 {
+        return window.end(7);
+    }
+    let window = halve(cells, window, 3, asked);
+    if ends_early && window.met > 0 {
+        return window.end(3);
+    }
+    let window = halve(cells, window, 1, asked);
+    if ends_early && window.met > 0 {
+        return window.end(1);
+    }
+    let window = halve(cells, window, 0, asked);
+    let slot = slot_at(window.rest, 0);
+    if window.met > 0 {
+        Place::At(window.place, slot)
+    } else {
+        Place::Before(window.place, slot)
+    }
+}
+
+/// A window of seven places.
+#[inline(always)]
+fn begin<K: Ord, V, By, A: Asks<K, By>, const LEN: usize>(
+    cells: &Cells<K, V, LEN>,
+    order: u64,
+    count: u8,
+    asked: &mut A,
+) -> Window
+    requires len { IsLen LEN }
+    requires some { 0 < count }
+    requires few { count ≤ LEN }
+    requires in_order { IsInOrder K.cmp cells.now order count }
+    requires filled { IsFilled LEN order count }
+    ensures order { result.order ≡ order }
+    ensures count { result.count ≡ count }
+    ensures window { IsWindow K.cmp cells.now order (A.key asked.old) LEN result.place result.rest result.met 7 }
+    ensures same_key { A.key asked.new ≡ A.key asked.old }
+    ensures counted { A.count asked.new ≤ A.count asked.old + (searched LEN - 3) }
+{
+    let all = Window {
+        order,
+        count,
+        place: 0,
+        rest: order,
+        met: 0,
+    };
+    if LEN > 7 {
+        halve(cells, all, 7, asked)
+    } else {
+        all
+    }
+}
+
+/// Halves a window, by one comparison with the key in its middle.
+#[inline(always)]
+fn halve<K: Ord, V, By, A: Asks<K, By>, const LEN: usize>(
+    cells: &Cells<K, V, LEN>,
+    window: Window,
+    half: u8,
+    asked: &mut A,
+) -> Window
+    requires len { IsLen LEN }
+    requires some { 0 < window.count }
+    requires few { window.count ≤ LEN }
+    requires in_order { IsInOrder K.cmp cells.now window.order window.count }
+    requires filled { IsFilled LEN window.order window.count }
+    requires window { IsWindow K.cmp cells.now window.order (A.key asked.old) LEN window.place window.rest window.met (2 * half + 1) }
+    ensures order { result.order ≡ window.order }
+    ensures count { result.count ≡ window.count }
+    ensures window { IsWindow K.cmp cells.now window.order (A.key asked.old) LEN result.place result.rest result.met half }
+    ensures same_key { A.key asked.new ≡ A.key asked.old }
+    ensures counted { A.count asked.new ≤ A.count asked.old + 1 }
+{
+    let answer = asked.ask(cells.key(slot_at(window.rest, half)));
+    let met = window.met + answer.is_eq() as u8;
+    let (place, rest) = if answer.is_gt() {
+        (window.place + half + 1, window.rest >> (4 * half + 4))
+    } else {
+        (window.place, window.rest)
+    };
+    Window {
+        order: window.order,
+        count: window.count,
+        place,
+        rest,
+        met,
+    }
+}
+
+/// Where a key stands, with comparisons that nobody counts.
+#[inline]
+pub fn find_key<K: Ord, V, const LEN: usize>(
+    cells: &Cells<K, V, LEN>,
+    order: u64,
+    count: u8,
+    key: &K,
+) -> Place
+    requires len { IsLen LEN }
+    requires few { count ≤ LEN }
+    requires in_order { IsInOrder K.cmp cells.now order count }
+    requires filled { 0 < count → IsFilled LEN order count }
+    ensures { IsPlace K.cmp cells.now order count key.now result }
+{
+    find(cells, order, count, &mut &*key)
+}

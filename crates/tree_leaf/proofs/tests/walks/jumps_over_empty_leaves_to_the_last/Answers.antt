@@ -1,5 +1,0 @@
-use Rattle.std.proofs.Common.{rules, [], ◌∷◌}
-use Rattle.tree_leaf.proofs.tests.walks.jumps_over_empty_leaves_to_the_last.Goals as goal
-
-pub new-walk-requires : goal.new-walk-requires
-new-walk-requires g c = (search rules, (search rules, ([], c.in_ok-linked.linked.second ∷ (c.in_ok-linked.linked.third ∷ []), c.in_ok-linked.ensures)))

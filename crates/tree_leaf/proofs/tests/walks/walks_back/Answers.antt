@@ -1,5 +1,0 @@
-use Rattle.std.proofs.Common.{rules, [], ◌∷◌}
-use Rattle.tree_leaf.proofs.tests.walks.walks_back.Goals as goal
-
-pub new-walk-requires : goal.new-walk-requires
-new-walk-requires g c = (search rules, (search rules, (c.in_ok-linked.linked.first ∷ (c.in_ok-linked.linked.second ∷ []), [], c.in_ok-linked.ensures)))

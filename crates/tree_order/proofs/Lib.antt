@@ -1,0 +1,4 @@
+mod Filled
+pub mod Picked
+pub mod Slots
+mod Word

@@ -1,0 +1,196 @@
+//! The order of an array: four bits of a word for each place, which name the slot of the entry there. The places
+//! behind the entries repeat the last name, and the place behind all slots holds [`BEYOND`].
+ghost use Rattle.std.specs.Prelude.{◌≡◌, ◌≢◌, ℕ, ◌+◌, ◌-◌, ◌*◌, ◌^◌, ◌<◌, ◌≤◌, length, slice_index_or, take};
+ghost use Rattle.tree_order.specs.Length.{IsLen};
+ghost use Rattle.tree_order.specs.Order.{clamped, named, names, rank_in, rises_in, IsFilled};
+
+/// No array has more slots.
+pub const MOST: usize = 15;
+
+/// The name that stands behind all slots.
+pub const BEYOND: u8 = 15;
+
+/// Fifteen places that each hold 1.
+const ONES: u64 = 0x0111_1111_1111_1111;
+
+/// The slot that a place names.
+#[inline]
+pub fn slot_at(order: u64, place: u8) -> u8
+    requires { place < 16 }
+    ensures { result ≡ named order place }
+{
+    (order >> (4 * place) & 15) as u8
+}
+
+/// The first places alone.
+fn first_places(order: u64, count: u8) -> u64
+    requires { count ≤ 15 }
+    ensures small { result < 2 ^ (4 * count) }
+    ensures same { (i : ℕ) → i < count → named result i ≡ named order i }
+{
+    let bits = 4 * count;
+    order - (order >> bits << bits)
+}
+
+/// The places with a slot let in before those from `place` on.
+fn let_in(order: u64, place: u8, count: u8, slot: u8) -> u64
+    requires place { place ≤ count }
+    requires room { count < 15 }
+    requires slot { slot < 16 }
+    requires small { order < 2 ^ (4 * count) }
+    ensures small { result < 2 ^ (4 * (count + 1)) }
+    ensures here { named result place ≡ slot }
+    ensures below { (i : ℕ) → i < place → named result i ≡ named order i }
+    ensures above { (i : ℕ) → place ≤ i → named result (i + 1) ≡ named order i }
+{
+    let bits = 4 * place;
+    let high = order >> bits;
+    let low = order - (high << bits);
+    low + ((high * 16 + slot as u64) << bits)
+}
+
+/// The places without one of them.
+fn let_out(order: u64, place: u8, count: u8) -> u64
+    requires place { place < count }
+    requires few { count ≤ 15 }
+    requires small { order < 2 ^ (4 * count) }
+    ensures small { result < 2 ^ (4 * (count - 1)) }
+    ensures below { (i : ℕ) → i < place → named result i ≡ named order i }
+    ensures above { (i : ℕ) → place ≤ i → named result i ≡ named order (i + 1) }
+{
+    let bits = 4 * place;
+    let high = order >> bits;
+    let low = order - (high << bits);
+    low + ((high >> 4) << bits)
+}
+
+/// The order of an array with these places alone.
+fn filled<const LEN: usize>(places: u64, count: u8) -> u64
+    requires len { IsLen LEN }
+    requires some { 0 < count }
+    requires few { count ≤ LEN }
+    requires small { places < 2 ^ (4 * count) }
+    ensures same { (i : ℕ) → i < count → named result i ≡ named places i }
+    ensures filled { IsFilled LEN result count }
+{
+    let spare = LEN as u8 - count;
+    let last = places >> (4 * count - 4);
+    let tail = last * (ONES >> (60 - 4 * spare));
+    places + ((tail + (15 << (4 * spare))) << (4 * count))
+}
+
+/// The order with a slot let in before the places from `place` on.
+pub fn inserted<const LEN: usize>(order: u64, place: u8, count: u8, slot: u8) -> u64
+    requires len { IsLen LEN }
+    requires place { place ≤ count }
+    requires room { count < LEN }
+    requires slot { slot < 16 }
+    ensures here { named result place ≡ slot }
+    ensures below { (i : ℕ) → i < place → named result i ≡ named order i }
+    ensures above { (i : ℕ) → place ≤ i → i < count → named result (i + 1) ≡ named order i }
+    ensures filled { IsFilled LEN result (count + 1) }
+{
+    let places = let_in(first_places(order, count), place, count, slot);
+    filled::<LEN>(places, count + 1)
+}
+
+/// The order without one of its places.
+pub fn removed<const LEN: usize>(order: u64, place: u8, count: u8) -> u64
+    requires len { IsLen LEN }
+    requires place { place < count }
+    requires few { count ≤ LEN }
+    ensures below { (i : ℕ) → i < place → named result i ≡ named order i }
+    ensures above { (i : ℕ) → place ≤ i → i + 1 < count → named result i ≡ named order (i + 1) }
+    ensures filled { 1 < count → IsFilled LEN result (count - 1) }
+{
+    if count == 1 {
+        return u64::MAX;
+    }
+    let places = let_out(first_places(order, count), place, count);
+    filled::<LEN>(places, count - 1)
+}
+
+/// The order with another slot at a place.
+pub fn renamed<const LEN: usize>(order: u64, place: u8, count: u8, slot: u8) -> u64
+    requires len { IsLen LEN }
+    requires place { place < count }
+    requires few { count ≤ LEN }
+    requires slot { slot < 16 }
+    ensures here { named result place ≡ slot }
+    ensures others { (i : ℕ) → i < count → i ≢ place → named result i ≡ named order i }
+    ensures filled { IsFilled LEN result count }
+{
+    let others = let_out(first_places(order, count), place, count);
+    filled::<LEN>(let_in(others, place, count - 1, slot), count)
+}
+
+/// The place, or the one behind the last entry where it lies behind that.
+pub fn clamp(place: u8, count: u8) -> u8
+    ensures { result ≡ clamped count place }
+{
+    if place < count { place } else { count }
+}
+
+/// The place that names a slot. The caller must know that there is one.
+pub fn place_of(order: u64, count: u8, slot: u8) -> u8
+    requires few { count ≤ 15 }
+    requires there { (i : ℕ) × (i < count) × (named order i ≡ slot) }
+    ensures early { result < count }
+    ensures here { named order result ≡ slot }
+{
+    for place in 0..count {
+        if slot_at(order, place) == slot {
+            return place;
+        }
+    }
+    unreachable!()
+}
+
+/// The slots that the first places name, in their order.
+pub fn slots(order: u64, count: u8) -> [u8; MOST]
+    requires { count ≤ 15 }
+    ensures whole { length result ≡ 15 }
+    ensures listed { take count result ≡ names order count }
+{
+    let mut slots = [0; MOST];
+    for place in 0..count {
+        slots[place as usize] = slot_at(order, place);
+    }
+    slots
+}
+
+/// The rank of each slot: one more than its place, or 0 where no place names it.
+pub fn ranks(order: u64, count: u8) -> [u8; MOST]
+    requires few { count ≤ 15 }
+    requires within { (i : ℕ) → i < count → named order i < 15 }
+    ensures whole { length result ≡ 15 }
+    ensures ranks { (p : ℕ) → p < 15 → slice_index_or result p 0 ≡ rank_in (named order) count p }
+{
+    let mut ranks = [0; MOST];
+    for place in 0..count {
+        ranks[slot_at(order, place) as usize] = place + 1;
+    }
+    ranks
+}
+
+/// How many slots have a higher rank than the one with a rank before them.
+pub fn count_rises(order: u64, count: u8, made: u8) -> u8
+    requires few { count ≤ 15 }
+    requires within { (i : ℕ) → i < count → named order i < 15 }
+    requires made { made ≤ 15 }
+    ensures { result ≡ rises_in (rank_in (named order) count) made }
+{
+    let ranks = ranks(order, count);
+    let mut rises = 0;
+    let mut previous = MOST as u8;
+    for slot in 0..made {
+        let rank = ranks[slot as usize];
+        if previous < rank {
+            rises += 1;
+        }
+        if rank > 0 {
+            previous = rank;
+        }
+    }
+    rises
+}

@@ -1,0 +1,13 @@
+use Rattle.std.proofs.Common.{List, Option, None, Some}
+use mir.Val.{Val}
+use base.Shift.{Keyless}
+use denote.RattleType.{RattleType}
+use denote.Param.Send.{IsSend}
+use Rattle.tree_slots.specs.contracts.slot.Slot.{the_row}
+
+owned : (T : RattleType) → IsSend T → (d : Option T.Denot) (vs : List Val) → Keyless ((the_row T).own_val d vs)
+owned T s None vs = ((λ _. tt), tt)
+owned T s (Some x) vs = ((λ _. tt), λ vss. (tt, (s.owned x vss.0, tt)))
+
+pub send : (T : RattleType) → IsSend T → IsSend (the_row T)
+send T s = record { owned = owned T s; leaving = λ k d w. tt }

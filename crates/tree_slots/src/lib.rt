@@ -1,0 +1,7 @@
+//! Slots that own a value or nothing, and take no more memory than the value.
+#![tactic(auto)]
+
+pub mod row;
+pub mod slot;
+#[cfg(test)]
+mod tests;

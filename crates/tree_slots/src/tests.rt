@@ -1,0 +1,95 @@
+//! The sizes of slots and rows, and what they drop.
+use crate::row::Row;
+use crate::slot::Slot;
+use std::alloc::AllocError;
+use std::cell::Cell;
+use std::marker::{Send, Sync};
+use std::mem::size_of;
+use std::test::Fail;
+
+/// Counts where it is dropped.
+struct Token<'c>(u64, &'c Cell<u64>);
+
+impl Drop for Token<'_> {
+    fn drop(self) {
+        self.1.set(self.1.get().saturating_add(1));
+        let Token(_, _) = self;
+    }
+}
+
+fn goes_to_threads<T: Send + Sync>(_sent: &T) {}
+
+#[test]
+fn sizes(rt: HostRuntime) {
+    assert_eq!(rt; size_of::<Slot<u8>>(), 1);
+    assert_eq!(rt; size_of::<Slot<u64>>(), 8);
+    assert_eq!(rt; size_of::<Slot<String>>(), size_of::<String>());
+    assert_eq!(rt; size_of::<Row<u64, 15>>(), 120);
+    assert_eq!(rt; size_of::<Row<(u64, u8), 7>>(), 112);
+}
+
+#[test]
+fn a_slot_drops_its_values_once(rt: HostRuntime) {
+    let drops = Cell::new(0);
+    let mut slot = Slot::full(Token(1, &drops));
+    let number = Slot::full(1);
+    goes_to_threads(&number);
+    assert_eq!(rt; number.into_inner(), 1);
+    let mut other = slot.spare();
+    assert_eq!(rt; (slot.get().0, drops.get()), (1, 0));
+    let first = slot.take();
+    assert_eq!(rt; (first.0, drops.get()), (1, 0));
+    drop(first);
+    assert_eq!(rt; drops.get(), 1);
+    other.put(Token(2, &drops));
+    let second = other.replace(Token(3, &drops));
+    assert_eq!(rt; (second.0, other.get().0, drops.get()), (2, 3, 1));
+    drop(second);
+    drop(other.into_inner());
+    assert_eq!(rt; drops.get(), 3);
+    slot.discard();
+    assert_eq!(rt; drops.get(), 3);
+}
+
+#[test]
+fn a_row_drops_its_values_once(rt: HostRuntime) {
+    let drops = Cell::new(0);
+    let mut row: Row<Token, 3> = Row::with(1, Token(10, &drops));
+    row.put(2, Token(20, &drops));
+    row.put(0, Token(30, &drops));
+    assert_eq!(rt; (row.get(0).0, row.get(1).0, row.get(2).0), (30, 10, 20));
+    drop(row.replace(2, Token(40, &drops)));
+    assert_eq!(rt; (row.get(2).0, drops.get()), (40, 1));
+    drop(row.take(1));
+    assert_eq!(rt; drops.get(), 2);
+    row.put(1, Token(50, &drops));
+    assert_eq!(rt; (row.take(0).0, row.take(1).0, row.take(2).0), (30, 50, 40));
+    assert_eq!(rt; drops.get(), 5);
+    row.discard();
+    assert_eq!(rt; drops.get(), 5);
+}
+
+fn named(rt: &HostRuntime, number: u64) -> Result<String, AllocError> {
+    format!(in rt.alloc(); "the name of {number}")
+}
+
+#[test]
+fn texts(rt: HostRuntime) -> Result<(), Fail> {
+    let mut row: Row<String, 2> = Row::with(0, named(&rt, 7)?);
+    match named(&rt, 8) {
+        Ok(name) => row.put(1, name),
+        Err(error) => {
+            drop(row.take(0));
+            row.discard();
+            return Err(error.into());
+        }
+    }
+    let eight = row.take(1);
+    let seven = row.take(0);
+    row.discard();
+    assert_eq!(rt;
+        (seven.as_str(), eight.as_str()),
+        ("the name of 7", "the name of 8")
+    );
+    Ok(())
+}

@@ -1,0 +1,5 @@
+use Rattle.tree_node.proofs.Sizes.{fits}
+use Rattle.tree_tests.proofs.tallies.expect_alive.Goals as goal
+
+pub parts-requires : goal.parts-requires
+parts-requires g c = search fits

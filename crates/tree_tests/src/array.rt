@@ -1,0 +1,6 @@
+//! Calls of an array through its public items.
+mod calls;
+mod comparison;
+mod drops;
+mod found;
+mod plain;

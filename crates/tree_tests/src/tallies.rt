@@ -1,0 +1,182 @@
+//! Keys and values that are counted: each is dropped once, and a clone of a key may be refused.
+ghost use Rattle.std.specs.Prelude.{◌≡◌};
+ghost use Rattle.tree_array.specs.Length.{IsLen};
+ghost use Rattle.tree_model.specs.Keys.{equal_numbers};
+
+use crate::chance::Chance;
+use crate::refusals::with_memory;
+use std::alloc::{AllocError, Global};
+use std::cell::Cell;
+use std::process::Abort;
+use tree_index::{InsertError, TreeIndexOf};
+use tree_model::IndexKey;
+
+/// How many were made and dropped, and whether clones are refused.
+#[derive(Drop)]
+struct Tally {
+    made: Cell<u64>,
+    dropped: Cell<u64>,
+    refuses: Cell<bool>,
+}
+
+impl Tally {
+    fn new() -> Self {
+        Tally {
+            made: Cell::new(0),
+            dropped: Cell::new(0),
+            refuses: Cell::new(false),
+        }
+    }
+
+    fn alive(&self) -> u64 {
+        self.made.get().saturating_sub(self.dropped.get())
+    }
+}
+
+/// A number that is counted where it is made, cloned and dropped, and compares by the number alone.
+#[derive_where(PartialEq, Eq, PartialOrd, Ord)]
+struct Counted<'c> {
+    number: u64,
+    #[derive_where(skip(EqHashOrd))]
+    tally: &'c Tally,
+}
+
+impl<'c> Counted<'c> {
+    fn new(number: u64, tally: &'c Tally) -> Self
+        ensures { result.number ≡ number }
+    {
+        tally.made.set(tally.made.get().saturating_add(1));
+        Counted { number, tally }
+    }
+}
+
+impl Drop for Counted<'_> {
+    fn drop(self) {
+        let Counted { number: _, tally } = self;
+        tally.dropped.set(tally.dropped.get().saturating_add(1));
+    }
+}
+
+impl Clone for Counted<'_> {
+    ghost is_clone = { λ key clone. clone.number ≡ key.number };
+
+    ghost is_infallible = { λ _. ⊥ };
+
+    fn clone(&self) -> Result<Self, AllocError> {
+        if self.tally.refuses.get() {
+            return Err(AllocError);
+        }
+        Ok(Counted::new(self.number, self.tally))
+    }
+}
+
+impl IndexKey for Counted<'_> {
+    ghost clone_equal = { λ x y h. equal_numbers x.number y.number h };
+}
+
+type Index<'c, const LEN: usize> = TreeIndexOf<Counted<'c>, Counted<'c>, LEN>;
+
+/// Each pair holds a key and a value, and each leaf but the last a separator.
+fn expect_alive<const LEN: usize>(rt: &impl Abort, index: &Index<'_, LEN>, tally: &Tally) {
+    let (arenas, _) = index.parts();
+    let separators = arenas.leaf_count().saturating_sub(1);
+    let held = index.len().saturating_mul(2).saturating_add(separators);
+    assert_eq!(rt; tally.alive(), held as u64);
+}
+
+/// Makes one random call. Returns `Err` if memory was refused.
+fn call<'c, const LEN: usize>(
+    index: &mut Index<'c, LEN>,
+    chance: &mut Chance,
+    tally: &'c Tally,
+) -> Result<(), AllocError> {
+    let number = chance.below(300);
+    let key = Counted::new(number, tally);
+    match chance.below(8) {
+        0..3 => {
+            if let Err(InsertError::OutOfMemory(_, _)) = index.insert_sync(
+                key,
+                Counted::new(number, tally),
+            ) {
+                return Err(AllocError);
+            }
+        }
+        3..5 => {
+            if index.upsert_sync(key, Counted::new(number, tally)).is_err() {
+                return Err(AllocError);
+            }
+        }
+        5 => {
+            let _ = index.remove_if_sync(&key, |value| value.number % 2 == 0);
+        }
+        _ => {
+            let _ = index.remove_sync(&key);
+        }
+    }
+    Ok(())
+}
+
+fn drops_once<const LEN: usize>(rt: &impl Abort, alloc: Global) -> Result<(), AllocError>
+    requires { IsLen LEN }
+{
+    let tally = Tally::new();
+    let mut index: Index<LEN> = TreeIndexOf::new(alloc);
+    let mut chance = Chance::new(1);
+    for _ in 0..4000 {
+        call(&mut index, &mut chance, &tally)?;
+        expect_alive(rt, &index, &tally);
+    }
+    drop(index);
+    assert_eq!(rt; tally.alive(), 0);
+    Ok(())
+}
+
+/// After inserts, refusals of a duplicate, upserts, removals and splits, and when the index is dropped.
+#[test]
+fn drops_each_key_and_value_once(rt: HostRuntime) {
+    with_memory(&rt, || {
+        drops_once::<7>(&rt, rt.alloc())?;
+        drops_once::<15>(&rt, rt.alloc())
+    });
+}
+
+/// Inserts descending keys while clones are refused, and again with clones where that refused one. Returns how often
+/// it did.
+fn refused_clones<const LEN: usize>(rt: &impl Abort, alloc: Global) -> Result<u64, AllocError>
+    requires { IsLen LEN }
+{
+    let tally = Tally::new();
+    let mut index: Index<LEN> = TreeIndexOf::new(alloc);
+    let mut refused = 0u64;
+    for number in (0..300).rev() {
+        let length = index.len();
+        tally.refuses.set(true);
+        let answer = index.insert_sync(Counted::new(number, &tally), Counted::new(number, &tally));
+        tally.refuses.set(false);
+        if let Err(InsertError::OutOfMemory(key, value)) = answer {
+            assert_eq!(rt; (key.number, value.number), (number, number));
+            assert_eq!(rt; index.len(), length);
+            for other in number..300 {
+                let there = index.peek(&Counted::new(other, &tally)).is_some();
+                assert_eq!(rt; there, other != number);
+            }
+            refused = refused.saturating_add(1);
+            if index.insert_sync(key, value).is_err() {
+                return Err(AllocError);
+            }
+        }
+        expect_alive(rt, &index, &tally);
+    }
+    assert_eq!(rt; index.len(), 300);
+    Ok(refused)
+}
+
+/// An insert that must split clones a separator. Where that is refused, the pair comes back and no pair changed.
+#[test]
+fn hands_back_the_pair_where_a_clone_is_refused(rt: HostRuntime) {
+    with_memory(&rt, || {
+        assert!(rt; refused_clones::<7>(&rt, rt.alloc())? > 30);
+        assert!(rt; refused_clones::<15>(&rt, rt.alloc())? > 15);
+        Ok(())
+    });
+}
