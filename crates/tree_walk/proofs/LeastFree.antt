@@ -1,5 +1,5 @@
 -- The least number over leaves, found as the children above them are gone through in turn.
-use Rattle.std.proofs.Common.{◌≡◌, ℕ, List, [], ◌∷◌, ◌++◌, min, refl, sym, ap, ◌∙◌, arith}
+use Rattle.std.proofs.Common.{◌≡◌, ℕ, List, [], ◌∷◌, min, sym, ap, ◌∙◌, arith}
 use Rattle.std.specs.List.{flat_map, AllByRecursion}
 use Rattle.tree_node.specs.Shape.{least}
 use Rattle.tree_node.proofs.Spares.{least-then}

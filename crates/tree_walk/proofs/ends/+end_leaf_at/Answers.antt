@@ -15,19 +15,19 @@ node-requires g t c =
 
 pub end_of_leaves-requires : goal.end_of_leaves-requires
 end_of_leaves-requires g t c =
-    let over = leaf_node_over g.K.Ord.cmp c.args.arenas.now c.args.id c.args.level c.requires.node c.requires.stands g.S.SlotWalk.way _ c.in-Leaf.node (rw c.in-Leaf.is at c.node.ensures) c.new-leaves.ensures in
+    let over = leaf_node_over g.K.Ord.cmp c.args.arenas.now c.args.id c.args.level c.requires.node c.requires.stands g.S.SlotWalk.way c.new-leaves.result c.in-Leaf.node (rw c.in-Leaf.is at c.node.ensures) c.new-leaves.ensures in
     let there : AllByRecursion (ContainsKey c.args.arenas.now.leaves) c.new-leaves.result = over.each in
     search (rules, fits)
 
 pub returns-in-Leaf : goal.returns-in-Leaf
 returns-in-Leaf g t c =
-    let over = leaf_node_over g.K.Ord.cmp c.args.arenas.now c.args.id c.args.level c.requires.node c.requires.stands g.S.SlotWalk.way _ c.in-Leaf.node (rw c.in-Leaf.is at c.node.ensures) c.new-leaves.ensures in
+    let over = leaf_node_over g.K.Ord.cmp c.args.arenas.now c.args.id c.args.level c.requires.node c.requires.stands g.S.SlotWalk.way c.new-leaves.result c.in-Leaf.node (rw c.in-Leaf.is at c.node.ensures) c.new-leaves.ensures in
     rw over.leaves c.end_of_leaves.ensures
 
 pub loop-child-init : goal.loop-child-init
 loop-child-init g t c =
-    let over = node_over g.K.Ord.cmp c.args.arenas.now c.args.id c.args.level c.requires.node c.requires.stands g.S.SlotWalk.way _ c.in-Internal.node (rw c.in-Internal.is at c.node.ensures) (c.into_iter-child-iterator.ensures.into_iter_gives ∙ c.new-children.ensures) in
-    begins _ _ _ _ _ over.leaves over.each
+    let over = node_over g.K.Ord.cmp c.args.arenas.now c.args.id c.args.level c.requires.node c.requires.stands g.S.SlotWalk.way c.into_iter-child-iterator.result c.in-Internal.node (rw c.in-Internal.is at c.node.ensures) (c.into_iter-child-iterator.ensures.into_iter_gives ∙ c.new-children.ensures) in
+    begins c.args.arenas.now.leaves (leaves_at (c.args.level - 1) c.args.arenas.now.nodes) g.S.SlotWalk.way (leaves_at c.args.level c.args.arenas.now.nodes c.args.id) c.into_iter-child-iterator.result over.leaves over.each
 
 pub end_leaf_at-found-requires : goal.end_leaf_at-found-requires
 end_leaf_at-found-requires g t c κs within =

@@ -14,7 +14,7 @@ node-requires g t c =
 
 pub loop-leaf-init : goal.loop-leaf-init
 loop-leaf-init g t c =
-    (leaf_node_over g.K.Ord.cmp c.args.arenas.now c.args.id c.args.level c.requires.node c.requires.stands On _ c.in-Leaf.node (rw c.in-Leaf.is at c.node.ensures) (c.into_iter-leaf-iterator.ensures.into_iter_gives ∙ c.new-leaf-items.ensures)).each
+    (leaf_node_over g.K.Ord.cmp c.args.arenas.now c.args.id c.args.level c.requires.node c.requires.stands On c.into_iter-leaf-iterator.result c.in-Leaf.node (rw c.in-Leaf.is at c.node.ensures) (c.into_iter-leaf-iterator.ensures.into_iter_gives ∙ c.new-leaf-items.ensures)).each
 
 pub leaf-requires : goal.leaf-requires
 leaf-requires g t c =
@@ -26,7 +26,7 @@ loop-leaf-preserved g t c = (rw c.in-Some.ensures.steps at c.loop-leaf.invariant
 
 pub loop-child-init : goal.loop-child-init
 loop-child-init g t c =
-    (node_over g.K.Ord.cmp c.args.arenas.now c.args.id c.args.level c.requires.node c.requires.stands On _ c.in-Internal.node (rw c.in-Internal.is at c.node.ensures) (c.into_iter-child-iterator.ensures.into_iter_gives ∙ c.new-child-items.ensures)).each
+    (node_over g.K.Ord.cmp c.args.arenas.now c.args.id c.args.level c.requires.node c.requires.stands On c.into_iter-child-iterator.result c.in-Internal.node (rw c.in-Internal.is at c.node.ensures) (c.into_iter-child-iterator.ensures.into_iter_gives ∙ c.new-child-items.ensures)).each
 
 pub list_pairs-requires : goal.list_pairs-requires
 list_pairs-requires g t c κs within =

@@ -1,7 +1,7 @@
-use Rattle.std.proofs.Common.{rules, refl, ◌∙◌, ◌<◌, ◌-◌}
+use Rattle.std.proofs.Common.{rules, sym, ap, ◌∙◌, ◌<◌, ◌-◌}
 use Rattle.slab.specs.Slab.{ContainsKey}
 use Rattle.tree_leaf.specs.declared.leaf.stand.Way.TheVariants.{On}
-use Rattle.tree_node.specs.Shape.{leaf_free}
+use Rattle.tree_node.specs.Shape.{leaf_free, least}
 use Rattle.tree_node.specs.Tree.{StandsOrRetired}
 use Rattle.tree_node.proofs.Levels.{node_at}
 use Rattle.tree_walk.proofs.LeastFree.{all_counted, counted, holds, least_of_one}
@@ -15,8 +15,8 @@ node-requires g t c =
 
 pub loop-leaf-init : goal.loop-leaf-init
 loop-leaf-init g t c =
-    let over = leaf_node_over g.K.Ord.cmp c.args.arenas.now c.args.id c.args.level c.requires.node c.requires.stands On _ c.in-Leaf.node (rw c.in-Leaf.is at c.node.ensures) (c.into_iter-leaf-iterator.ensures.into_iter_gives ∙ c.new-leaf-items.ensures) in
-    record { each = over.each; total_is = rw over.leaves refl }
+    let over = leaf_node_over g.K.Ord.cmp c.args.arenas.now c.args.id c.args.level c.requires.node c.requires.stands On c.into_iter-leaf-iterator.result c.in-Leaf.node (rw c.in-Leaf.is at c.node.ensures) (c.into_iter-leaf-iterator.ensures.into_iter_gives ∙ c.new-leaf-items.ensures) in
+    record { each = over.each; total_is = sym (ap (least c.args.most (leaf_free c.args.arenas.now.leaves)) over.leaves) }
 
 pub free_in-requires : goal.free_in-requires
 free_in-requires g t c =
@@ -31,8 +31,8 @@ returns-in-None g t c = all_counted _ _ _ _ _ _ c.loop-leaf.invariant c.in-None.
 
 pub loop-child-init : goal.loop-child-init
 loop-child-init g t c =
-    let over = node_over g.K.Ord.cmp c.args.arenas.now c.args.id c.args.level c.requires.node c.requires.stands On _ c.in-Internal.node (rw c.in-Internal.is at c.node.ensures) (c.into_iter-child-iterator.ensures.into_iter_gives ∙ c.new-child-items.ensures) in
-    record { each = over.each; total_is = rw over.leaves refl }
+    let over = node_over g.K.Ord.cmp c.args.arenas.now c.args.id c.args.level c.requires.node c.requires.stands On c.into_iter-child-iterator.result c.in-Internal.node (rw c.in-Internal.is at c.node.ensures) (c.into_iter-child-iterator.ensures.into_iter_gives ∙ c.new-child-items.ensures) in
+    record { each = over.each; total_is = sym (ap (least c.args.most (leaf_free c.args.arenas.now.leaves)) over.leaves) }
 
 pub least_free-so_far-requires : goal.least_free-so_far-requires
 least_free-so_far-requires g t c κs within =
