@@ -9,6 +9,7 @@ ghost use Rattle.tree_walk.specs.Ends.{BeginsPart, FindsFirst, IsLinked};
 ghost use Rattle.tree_node.specs.Tree.{StandsOrRetired, leaves_at, leaves_of, walk};
 
 use crate::children::{ChildWalk, ChildrenOf};
+use crate::leaves::array_of;
 use tree_array::array::{ArrayIter, ArrayRevIter};
 use tree_leaf::arena::{LeafId, NodeId};
 use tree_leaf::leaf::{IterOf, LeafOf, LinkedIter, RevIterOf};
@@ -119,7 +120,7 @@ fn with_entry<K: Ord + Drop, V: Drop, const LEN: usize>(
     requires { ContainsKey arenas.now.leaves leaf }
     ensures { (way : Way) → FindsFirst way arenas.now.leaves (leaf ∷ []) result }
 {
-    if arenas.leaf(leaf).array().is_empty() {
+    if array_of(arenas, leaf).is_empty() {
         None
     } else {
         Some(leaf)

@@ -3,5 +3,6 @@
 
 mod children;
 pub mod ends;
+mod leaves;
 pub mod listing;
 pub mod spare;

@@ -3,6 +3,7 @@ ghost use Rattle.std.specs.Prelude.{◌<◌};
 ghost use Rattle.tree_node.specs.Tree.{StandsOrRetired};
 
 use crate::children::ChildrenOn;
+use crate::leaves::array_of;
 use std::fmt;
 use tree_array::array::{ArrayIter, ArrayOf};
 use tree_leaf::arena::NodeId;
@@ -39,7 +40,7 @@ fn list_pairs<K: Ord + Drop + fmt::Debug, V: Drop + fmt::Debug, W: fmt::Write, c
     match arenas.node(id) {
         NodeOf::Leaf(node) => {
             for leaf in ChildrenOn::new(&node.children, node.unbounded_child) {
-                list_array(arenas.leaf(leaf).array(), list);
+                list_array(array_of(arenas, leaf), list);
             }
         }
         NodeOf::Internal(node) => {

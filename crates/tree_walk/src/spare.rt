@@ -6,6 +6,7 @@ ghost use Rattle.tree_node.specs.Tree.{StandsOrRetired, leaves_at};
 ghost use Rattle.tree_node.specs.Whole.{spare_under};
 
 use crate::children::ChildrenOn;
+use crate::leaves::array_of;
 use tree_leaf::arena::{LeafId, NodeId};
 use tree_node::node::{ArenasOf, NodeOf, slots_left};
 
@@ -67,6 +68,6 @@ fn free_in<K: Ord + Drop, V: Drop, const LEN: usize>(
     requires { ContainsKey arenas.now.leaves leaf }
     ensures { result ≡ leaf_free arenas.now.leaves leaf }
 {
-    let array = arenas.leaf(leaf).array();
+    let array = array_of(arenas, leaf);
     if array.is_retired() { 0 } else { array.free() }
 }

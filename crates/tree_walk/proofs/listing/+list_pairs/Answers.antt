@@ -16,8 +16,8 @@ pub loop-leaf-init : goal.loop-leaf-init
 loop-leaf-init g t c =
     (leaf_node_over g.K.Ord.cmp c.args.arenas.now c.args.id c.args.level c.requires.node c.requires.stands On c.into_iter-leaf-iterator.result c.in-Leaf.node (rw c.in-Leaf.is at c.node.ensures) (c.into_iter-leaf-iterator.ensures.into_iter_gives ∙ c.new-leaf-items.ensures)).each
 
-pub leaf-requires : goal.leaf-requires
-leaf-requires g t c =
+pub array_of-requires : goal.array_of-requires
+array_of-requires g t c =
     let there : ContainsKey c.args.arenas.now.leaves c.in-Some.leaf = (rw c.in-Some.ensures.steps at c.loop-leaf.invariant).0 in
     search (rules, fits)
 
