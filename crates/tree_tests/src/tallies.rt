@@ -3,11 +3,11 @@ ghost use Rattle.std.specs.Prelude.{◌≡◌};
 ghost use Rattle.tree_array.specs.Length.{IsLen};
 ghost use Rattle.tree_model.specs.Keys.{equal_numbers};
 
-use crate::chance::Chance;
-use crate::refusals::with_memory;
 use std::alloc::{AllocError, Global};
 use std::cell::Cell;
 use std::process::Abort;
+use test_support::chance::Chance;
+use test_support::refusals::succeeds;
 use tree_index::{InsertError, TreeIndexOf};
 use tree_model::IndexKey;
 
@@ -132,16 +132,51 @@ fn drops_once<const LEN: usize>(rt: &impl Abort, alloc: Global) -> Result<(), Al
 }
 
 /// After inserts, refusals of a duplicate, upserts, removals and splits, and when the index is dropped.
-#[test]
-fn drops_each_key_and_value_once(rt: HostRuntime) {
-    with_memory(&rt, || {
-        drops_once::<7>(&rt, rt.alloc())?;
-        drops_once::<15>(&rt, rt.alloc())
-    });
+fn drops_each_steps(rt: &impl Abort, alloc: Global) -> Result<(), AllocError> {
+    drops_once::<7>(rt, alloc)?;
+    drops_once::<15>(rt, alloc)
 }
 
-/// Inserts descending keys while clones are refused, and again with clones where that refused one. Returns how often
-/// it did.
+#[test]
+fn drops_each_key_and_value_once(rt: HostRuntime) {
+    assert!(rt; succeeds(|| drops_each_steps(&rt, rt.alloc())));
+}
+
+/// Compares which of the greatest keys are there: all but this one, of those from it on.
+fn expect_absent<'c, const LEN: usize>(
+    rt: &impl Abort,
+    index: &Index<'c, LEN>,
+    tally: &'c Tally,
+    number: u64,
+) {
+    for other in number..300 {
+        let there = index.peek(&Counted::new(other, tally)).is_some();
+        assert!(rt; there == (other != number));
+    }
+}
+
+/// Inserts a key while clones are refused, and again with clones if that refused it. Returns whether it did.
+fn insert_twice<'c, const LEN: usize>(
+    rt: &impl Abort,
+    index: &mut Index<'c, LEN>,
+    tally: &'c Tally,
+    number: u64,
+) -> Result<bool, AllocError> {
+    tally.refuses.set(true);
+    let answer = index.insert_sync(Counted::new(number, tally), Counted::new(number, tally));
+    tally.refuses.set(false);
+    let Err(InsertError::OutOfMemory(key, value)) = answer else {
+        return Ok(false);
+    };
+    assert!(rt; key.number == number && value.number == number);
+    expect_absent(rt, index, tally, number);
+    if index.insert_sync(key, value).is_err() {
+        return Err(AllocError);
+    }
+    Ok(true)
+}
+
+/// Inserts descending keys while clones are refused. Returns how many were refused.
 fn refused_clones<const LEN: usize>(rt: &impl Abort, alloc: Global) -> Result<u64, AllocError>
     requires { IsLen LEN }
 {
@@ -149,21 +184,8 @@ fn refused_clones<const LEN: usize>(rt: &impl Abort, alloc: Global) -> Result<u6
     let mut index: Index<LEN> = TreeIndexOf::new(alloc);
     let mut refused = 0u64;
     for number in (0..300).rev() {
-        let length = index.len();
-        tally.refuses.set(true);
-        let answer = index.insert_sync(Counted::new(number, &tally), Counted::new(number, &tally));
-        tally.refuses.set(false);
-        if let Err(InsertError::OutOfMemory(key, value)) = answer {
-            assert_eq!(rt; (key.number, value.number), (number, number));
-            assert_eq!(rt; index.len(), length);
-            for other in number..300 {
-                let there = index.peek(&Counted::new(other, &tally)).is_some();
-                assert_eq!(rt; there, other != number);
-            }
+        if insert_twice(rt, &mut index, &tally, number)? {
             refused = refused.saturating_add(1);
-            if index.insert_sync(key, value).is_err() {
-                return Err(AllocError);
-            }
         }
         expect_alive(rt, &index, &tally);
     }
@@ -172,11 +194,13 @@ fn refused_clones<const LEN: usize>(rt: &impl Abort, alloc: Global) -> Result<u6
 }
 
 /// An insert that must split clones a separator. Where that is refused, the pair comes back and no pair changed.
+fn refuses_clones(rt: &impl Abort, alloc: Global) -> Result<(), AllocError> {
+    assert!(rt; refused_clones::<7>(rt, alloc)? > 30);
+    assert!(rt; refused_clones::<15>(rt, alloc)? > 15);
+    Ok(())
+}
+
 #[test]
 fn hands_back_the_pair_where_a_clone_is_refused(rt: HostRuntime) {
-    with_memory(&rt, || {
-        assert!(rt; refused_clones::<7>(&rt, rt.alloc())? > 30);
-        assert!(rt; refused_clones::<15>(&rt, rt.alloc())? > 15);
-        Ok(())
-    });
+    assert!(rt; succeeds(|| refuses_clones(&rt, rt.alloc())));
 }

@@ -2,7 +2,7 @@
 use crate::calls::{insert_all, peek_all, remove_all, upsert_all};
 use crate::keys::{Numbers, ascending, texts};
 use std::alloc::{AllocError, Global};
-use tree_index::TreeIndex;
+use tree_index::{IndexKey, TreeIndex};
 
 /// A workload.
 #[derive(Clone, Copy)]
@@ -66,9 +66,28 @@ impl Workload {
     }
 }
 
-/// What a workload begins with: an index, the keys stored in it, and the keys to look up or remove. The latter are
-/// looked up once more after all calls.
+/// The keys of a workload: those that the index holds when it begins, those that it stores, and those that it looks up
+/// or removes. The latter are looked up once more after all calls.
+struct Keys<K> {
+    held: Vec<K>,
+    coming: Vec<K>,
+    asked: Vec<K>,
+}
+
+/// What a workload begins with: an index, the keys to store, and the keys to look up or remove.
 pub type Scene<K> = (TreeIndex<K, u64>, Vec<K>, Vec<K>);
+
+/// Returns an index of the keys held, and the other keys.
+fn scene<K: IndexKey>(alloc: Global, keys: Keys<K>) -> Result<Scene<K>, AllocError> {
+    let Keys {
+        held,
+        coming,
+        asked,
+    } = keys;
+    let mut index = TreeIndex::new(alloc);
+    insert_all(&mut index, held)?;
+    Ok((index, coming, asked))
+}
 
 /// Returns the scene of a workload over so many numbers.
 pub fn scene_of_numbers(
@@ -80,36 +99,45 @@ pub fn scene_of_numbers(
     let keys = source.list(alloc, size)?;
     let mut order = keys.clone()?;
     source.shuffle(&mut order);
-    let mut index = TreeIndex::new(alloc);
-    let none = Vec::new(alloc);
-    match workload {
-        Workload::InsertAscending => {
-            let coming = ascending(alloc, 0, size)?;
-            let asked = coming.clone()?;
-            Ok((index, coming, asked))
-        }
-        Workload::UpsertRandom => {
-            insert_all(&mut index, keys)?;
-            let coming = order.clone()?;
-            Ok((index, coming, order))
-        }
-        Workload::PeekMiss => {
-            insert_all(&mut index, keys)?;
-            let absent = source.list(alloc, size)?;
-            Ok((index, none, absent))
-        }
-        Workload::PeekHit | Workload::RemoveRandom => {
-            insert_all(&mut index, keys)?;
-            Ok((index, none, order))
-        }
-        Workload::RemoveMiddle => {
-            let mut all = ascending(alloc, 0, size)?;
-            source.shuffle(&mut all);
-            insert_all(&mut index, all)?;
-            let middle = ascending(alloc, size / 4, size - size / 4)?;
-            Ok((index, none, middle))
-        }
-        _ => Ok((index, keys, order)),
+    let keys = match workload {
+        Workload::InsertAscending => ascending_keys(alloc, size)?,
+        Workload::RemoveMiddle => middle_keys(alloc, &mut source, size)?,
+        Workload::PeekMiss => held_keys(alloc, keys, source.list(alloc, size)?),
+        Workload::PeekHit | Workload::RemoveRandom => held_keys(alloc, keys, order),
+        Workload::UpsertRandom => Keys {
+            held: keys,
+            coming: order.clone()?,
+            asked: order,
+        },
+        _ => Keys {
+            held: Vec::new(alloc),
+            coming: keys,
+            asked: order,
+        },
+    };
+    scene(alloc, keys)
+}
+
+fn ascending_keys(alloc: Global, size: usize) -> Result<Keys<u64>, AllocError> {
+    Ok(Keys {
+        held: Vec::new(alloc),
+        coming: ascending(alloc, 0, size)?,
+        asked: ascending(alloc, 0, size)?,
+    })
+}
+
+fn middle_keys(alloc: Global, source: &mut Numbers, size: usize) -> Result<Keys<u64>, AllocError> {
+    let mut held = ascending(alloc, 0, size)?;
+    source.shuffle(&mut held);
+    let asked = ascending(alloc, size / 4, size - size / 4)?;
+    Ok(held_keys(alloc, held, asked))
+}
+
+fn held_keys<K>(alloc: Global, held: Vec<K>, asked: Vec<K>) -> Keys<K> {
+    Keys {
+        held,
+        coming: Vec::new(alloc),
+        asked,
     }
 }
 
@@ -123,15 +151,18 @@ pub fn scene_of_texts(
     let mut numbers = source.list(alloc, size)?;
     let keys = texts(alloc, &numbers)?;
     source.shuffle(&mut numbers);
-    let order = texts(alloc, &numbers)?;
-    let mut index = TreeIndex::new(alloc);
-    match workload {
-        Workload::PeekText => {
-            insert_all(&mut index, keys)?;
-            Ok((index, Vec::new(alloc), order))
-        }
-        _ => Ok((index, keys, order)),
-    }
+    let asked = texts(alloc, &numbers)?;
+    let none = Vec::new(alloc);
+    let (held, coming) = match workload {
+        Workload::PeekText => (keys, none),
+        _ => (none, keys),
+    };
+    let keys = Keys {
+        held,
+        coming,
+        asked,
+    };
+    scene(alloc, keys)
 }
 
 /// Makes the calls of a workload over numbers. Their time is what is measured.
