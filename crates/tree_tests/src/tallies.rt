@@ -1,6 +1,5 @@
 //! Keys and values that are counted: each is dropped once, and a clone of a key may be refused.
 ghost use Rattle.std.specs.Prelude.{◌≡◌};
-ghost use Rattle.tree_array.specs.Length.{IsLen};
 ghost use Rattle.tree_model.specs.Keys.{equal_numbers};
 
 use std::alloc::{AllocError, Global};
@@ -116,30 +115,43 @@ fn call<'c, const LEN: usize>(
     Ok(())
 }
 
-fn drops_once<const LEN: usize>(rt: &impl Abort, alloc: Global) -> Result<(), AllocError>
-    requires { IsLen LEN }
-{
-    let tally = Tally::new();
-    let mut index: Index<LEN> = TreeIndexOf::new(alloc);
+/// Makes random calls, and counts what is alive after each.
+fn make_calls<'c, const LEN: usize>(
+    rt: &impl Abort,
+    index: &mut Index<'c, LEN>,
+    tally: &'c Tally,
+) -> Result<(), AllocError> {
     let mut chance = Chance::new(1);
     for _ in 0..4000 {
-        call(&mut index, &mut chance, &tally)?;
-        expect_alive(rt, &index, &tally);
+        call(index, &mut chance, tally)?;
+        expect_alive(rt, index, tally);
     }
+    Ok(())
+}
+
+fn drops_with_fifteen_slots(rt: &impl Abort, alloc: Global) -> Result<(), AllocError> {
+    let tally = Tally::new();
+    let mut index: Index<15> = TreeIndexOf::new(alloc);
+    make_calls(rt, &mut index, &tally)?;
+    drop(index);
+    assert_eq!(rt; tally.alive(), 0);
+    Ok(())
+}
+
+fn drops_with_seven_slots(rt: &impl Abort, alloc: Global) -> Result<(), AllocError> {
+    let tally = Tally::new();
+    let mut index: Index<7> = TreeIndexOf::new(alloc);
+    make_calls(rt, &mut index, &tally)?;
     drop(index);
     assert_eq!(rt; tally.alive(), 0);
     Ok(())
 }
 
 /// After inserts, refusals of a duplicate, upserts, removals and splits, and when the index is dropped.
-fn drops_each_steps(rt: &impl Abort, alloc: Global) -> Result<(), AllocError> {
-    drops_once::<7>(rt, alloc)?;
-    drops_once::<15>(rt, alloc)
-}
-
 #[test]
 fn drops_each_key_and_value_once(rt: HostRuntime) {
-    assert!(rt; succeeds(|| drops_each_steps(&rt, rt.alloc())));
+    assert!(rt; succeeds(|| drops_with_fifteen_slots(&rt, rt.alloc())));
+    assert!(rt; succeeds(|| drops_with_seven_slots(&rt, rt.alloc())));
 }
 
 /// Compares which of the greatest keys are there: all but this one, of those from it on.
@@ -177,30 +189,39 @@ fn insert_twice<'c, const LEN: usize>(
 }
 
 /// Inserts descending keys while clones are refused. Returns how many were refused.
-fn refused_clones<const LEN: usize>(rt: &impl Abort, alloc: Global) -> Result<u64, AllocError>
-    requires { IsLen LEN }
-{
-    let tally = Tally::new();
-    let mut index: Index<LEN> = TreeIndexOf::new(alloc);
+fn refused_clones<'c, const LEN: usize>(
+    rt: &impl Abort,
+    index: &mut Index<'c, LEN>,
+    tally: &'c Tally,
+) -> Result<u64, AllocError> {
     let mut refused = 0u64;
     for number in (0..300).rev() {
-        if insert_twice(rt, &mut index, &tally, number)? {
+        if insert_twice(rt, index, tally, number)? {
             refused = refused.saturating_add(1);
         }
-        expect_alive(rt, &index, &tally);
+        expect_alive(rt, index, tally);
     }
     assert_eq!(rt; index.len(), 300);
     Ok(refused)
 }
 
-/// An insert that must split clones a separator. Where that is refused, the pair comes back and no pair changed.
-fn refuses_clones(rt: &impl Abort, alloc: Global) -> Result<(), AllocError> {
-    assert!(rt; refused_clones::<7>(rt, alloc)? > 30);
-    assert!(rt; refused_clones::<15>(rt, alloc)? > 15);
+fn refuses_with_fifteen_slots(rt: &impl Abort, alloc: Global) -> Result<(), AllocError> {
+    let tally = Tally::new();
+    let mut index: Index<15> = TreeIndexOf::new(alloc);
+    assert!(rt; refused_clones(rt, &mut index, &tally)? > 15);
     Ok(())
 }
 
+fn refuses_with_seven_slots(rt: &impl Abort, alloc: Global) -> Result<(), AllocError> {
+    let tally = Tally::new();
+    let mut index: Index<7> = TreeIndexOf::new(alloc);
+    assert!(rt; refused_clones(rt, &mut index, &tally)? > 30);
+    Ok(())
+}
+
+/// An insert that must split clones a separator. Where that is refused, the pair comes back and no pair changed.
 #[test]
 fn hands_back_the_pair_where_a_clone_is_refused(rt: HostRuntime) {
-    assert!(rt; succeeds(|| refuses_clones(&rt, rt.alloc())));
+    assert!(rt; succeeds(|| refuses_with_fifteen_slots(&rt, rt.alloc())));
+    assert!(rt; succeeds(|| refuses_with_seven_slots(&rt, rt.alloc())));
 }

@@ -2,7 +2,7 @@
 use crate::calls::{insert_all, peek_all, remove_all, upsert_all};
 use crate::keys::{Numbers, ascending, texts};
 use std::alloc::{AllocError, Global};
-use tree_index::{IndexKey, TreeIndex};
+use tree_index::TreeIndex;
 
 /// A workload.
 #[derive(Clone, Copy)]
@@ -66,19 +66,19 @@ impl Workload {
     }
 }
 
-/// The keys of a workload: those that the index holds when it begins, those that it stores, and those that it looks up
+/// The keys of a workload over numbers: those that the index holds when it begins, those that it stores, and those that it looks up
 /// or removes. The latter are looked up once more after all calls.
-struct Keys<K> {
-    held: Vec<K>,
-    coming: Vec<K>,
-    asked: Vec<K>,
+struct Keys {
+    held: Vec<u64>,
+    coming: Vec<u64>,
+    asked: Vec<u64>,
 }
 
 /// What a workload begins with: an index, the keys to store, and the keys to look up or remove.
 pub type Scene<K> = (TreeIndex<K, u64>, Vec<K>, Vec<K>);
 
 /// Returns an index of the keys held, and the other keys.
-fn scene<K: IndexKey>(alloc: Global, keys: Keys<K>) -> Result<Scene<K>, AllocError> {
+fn scene(alloc: Global, keys: Keys) -> Result<Scene<u64>, AllocError> {
     let Keys {
         held,
         coming,
@@ -118,7 +118,7 @@ pub fn scene_of_numbers(
     scene(alloc, keys)
 }
 
-fn ascending_keys(alloc: Global, size: usize) -> Result<Keys<u64>, AllocError> {
+fn ascending_keys(alloc: Global, size: usize) -> Result<Keys, AllocError> {
     Ok(Keys {
         held: Vec::new(alloc),
         coming: ascending(alloc, 0, size)?,
@@ -126,14 +126,14 @@ fn ascending_keys(alloc: Global, size: usize) -> Result<Keys<u64>, AllocError> {
     })
 }
 
-fn middle_keys(alloc: Global, source: &mut Numbers, size: usize) -> Result<Keys<u64>, AllocError> {
+fn middle_keys(alloc: Global, source: &mut Numbers, size: usize) -> Result<Keys, AllocError> {
     let mut held = ascending(alloc, 0, size)?;
     source.shuffle(&mut held);
     let asked = ascending(alloc, size / 4, size - size / 4)?;
     Ok(held_keys(alloc, held, asked))
 }
 
-fn held_keys<K>(alloc: Global, held: Vec<K>, asked: Vec<K>) -> Keys<K> {
+fn held_keys(alloc: Global, held: Vec<u64>, asked: Vec<u64>) -> Keys {
     Keys {
         held,
         coming: Vec::new(alloc),
@@ -152,17 +152,14 @@ pub fn scene_of_texts(
     let keys = texts(alloc, &numbers)?;
     source.shuffle(&mut numbers);
     let asked = texts(alloc, &numbers)?;
-    let none = Vec::new(alloc);
-    let (held, coming) = match workload {
-        Workload::PeekText => (keys, none),
-        _ => (none, keys),
-    };
-    let keys = Keys {
-        held,
-        coming,
-        asked,
-    };
-    scene(alloc, keys)
+    let mut index = TreeIndex::new(alloc);
+    match workload {
+        Workload::PeekText => {
+            insert_all(&mut index, keys)?;
+            Ok((index, Vec::new(alloc), asked))
+        }
+        _ => Ok((index, keys, asked)),
+    }
 }
 
 /// Makes the calls of a workload over numbers. Their time is what is measured.

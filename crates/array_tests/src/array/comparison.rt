@@ -3,11 +3,11 @@ ghost use Rattle.tree_array.specs.Length.{IsLen};
 
 use super::found::{found, questions, slot_from};
 use super::plain::{Plain, word};
-use std::alloc::Global;
+use std::alloc::{AllocError, Global};
 use std::ops::Bound;
 use std::process::Abort;
-use std::test::Fail;
 use test_support::chance::Chance;
+use test_support::refusals::succeeds;
 use tree_array::array::{ArrayIter, ArrayOf, ArrayRevIter, RemoveResult};
 
 /// The keys are below this number.
@@ -37,7 +37,7 @@ fn compare_shape<const LEN: usize, R: Abort>(
     alloc: Global,
     array: &ArrayOf<u64, u64, LEN>,
     plain: &Plain,
-) -> Result<(), Fail> {
+) -> Result<(), AllocError> {
     let (boundary, count, ascends) = array.optimal_boundary();
     assert_eq!(rt; (boundary as usize, count, ascends), plain.boundary(alloc)?);
     let marks = (array.is_empty(), array.is_full(), array.is_retired());
@@ -99,7 +99,7 @@ fn compare_answers<const LEN: usize, R: Abort>(
     alloc: Global,
     array: &ArrayOf<u64, u64, LEN>,
     plain: &Plain,
-) -> Result<(), Fail> {
+) -> Result<(), AllocError> {
     compare_shape(rt, alloc, array, plain)?;
     let entries = plain.entries(alloc)?;
     compare_on(rt, array, &entries);
@@ -116,7 +116,7 @@ fn store<const LEN: usize, R: Abort>(
     chance: &mut Chance,
     array: &mut ArrayOf<u64, u64, LEN>,
     plain: &mut Plain,
-) -> Result<(), Fail> {
+) -> Result<(), AllocError> {
     let (key, val) = (chance.below(KEYS), chance.below(1000));
     match chance.below(4) {
         0 => {
@@ -208,7 +208,7 @@ fn holds<const LEN: usize, R: Abort>(
     alloc: Global,
     array: &ArrayOf<u64, u64, LEN>,
     pairs: &[(u64, u64)],
-) -> Result<(), Fail> {
+) -> Result<(), AllocError> {
     let mut plain = Plain::new(alloc, LEN);
     for (key, val) in pairs {
         let _ = plain.insert(false, *key, *val)?;
@@ -217,7 +217,7 @@ fn holds<const LEN: usize, R: Abort>(
 }
 
 /// Compares an array with a plain list after each of some random calls, and then its two parts.
-fn compare<const LEN: usize, R: Abort>(rt: &R, alloc: Global, seed: u64) -> Result<(), Fail>
+fn compare<const LEN: usize, R: Abort>(rt: &R, alloc: Global, seed: u64) -> Result<(), AllocError>
     requires { IsLen LEN }
 {
     let mut chance = Chance::new(seed);
@@ -250,7 +250,7 @@ fn divide<const LEN: usize, R: Abort>(
     entries: &[(u64, u64)],
     boundary: u8,
     whole: bool,
-) -> Result<(), Fail>
+) -> Result<(), AllocError>
     requires { IsLen LEN }
 {
     let (first, rest) = entries.split_at(entries.len().min(boundary as usize));
@@ -268,17 +268,16 @@ fn divide<const LEN: usize, R: Abort>(
 }
 
 #[test]
-fn answers_as_a_plain_list(rt: HostRuntime) -> Result<(), Fail> {
+fn answers_as_a_plain_list(rt: HostRuntime) {
     for seed in 1..65 {
-        compare::<15, _>(&rt, rt.alloc(), seed)?;
-        compare::<7, _>(&rt, rt.alloc(), seed)?;
+        assert!(rt; succeeds(|| compare::<15, _>(&rt, rt.alloc(), seed)));
+        assert!(rt; succeeds(|| compare::<7, _>(&rt, rt.alloc(), seed)));
     }
-    Ok(())
 }
 
 /// Searches of a full array, whose odd keys arrived in random order: at most `most` comparisons for every key, be it stored,
 /// between two that are, or outside.
-fn few_questions<const LEN: usize, R: Abort>(rt: &R, seed: u64, most: u64) -> Result<(), Fail>
+fn few_questions<const LEN: usize, R: Abort>(rt: &R, seed: u64, most: u64)
     requires { IsLen LEN }
 {
     let mut chance = Chance::new(seed);
@@ -293,14 +292,12 @@ fn few_questions<const LEN: usize, R: Abort>(rt: &R, seed: u64, most: u64) -> Re
         assert_eq!(rt; found, key % 2 == 1);
         assert!(rt; asked <= most);
     }
-    Ok(())
 }
 
 #[test]
-fn asks_few_questions(rt: HostRuntime) -> Result<(), Fail> {
+fn asks_few_questions(rt: HostRuntime) {
     for seed in 1..101 {
-        few_questions::<15, _>(&rt, seed, 4)?;
-        few_questions::<7, _>(&rt, seed, 3)?;
+        few_questions::<15, _>(&rt, seed, 4);
+        few_questions::<7, _>(&rt, seed, 3);
     }
-    Ok(())
 }
