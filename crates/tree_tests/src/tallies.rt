@@ -129,20 +129,23 @@ fn make_calls<'c, const LEN: usize>(
     Ok(())
 }
 
-fn drops_with_fifteen_slots(rt: &impl Abort, alloc: Global) -> Result<(), AllocError> {
-    let tally = Tally::new();
+/// Makes the calls of an index of fifteen slots, and drops it.
+fn use_fifteen_slots(rt: &impl Abort, alloc: Global, tally: &Tally) -> Result<(), AllocError> {
     let mut index: Index<15> = TreeIndexOf::new(alloc);
-    make_calls(rt, &mut index, &tally)?;
-    drop(index);
-    assert_eq!(rt; tally.alive(), 0);
-    Ok(())
+    make_calls(rt, &mut index, tally)
 }
 
-fn drops_with_seven_slots(rt: &impl Abort, alloc: Global) -> Result<(), AllocError> {
-    let tally = Tally::new();
+/// Makes the calls of an index of seven slots, and drops it.
+fn use_seven_slots(rt: &impl Abort, alloc: Global, tally: &Tally) -> Result<(), AllocError> {
     let mut index: Index<7> = TreeIndexOf::new(alloc);
-    make_calls(rt, &mut index, &tally)?;
-    drop(index);
+    make_calls(rt, &mut index, tally)
+}
+
+fn drops_once(rt: &impl Abort, alloc: Global) -> Result<(), AllocError> {
+    let tally = Tally::new();
+    use_fifteen_slots(rt, alloc, &tally)?;
+    assert_eq!(rt; tally.alive(), 0);
+    use_seven_slots(rt, alloc, &tally)?;
     assert_eq!(rt; tally.alive(), 0);
     Ok(())
 }
@@ -150,8 +153,7 @@ fn drops_with_seven_slots(rt: &impl Abort, alloc: Global) -> Result<(), AllocErr
 /// After inserts, refusals of a duplicate, upserts, removals and splits, and when the index is dropped.
 #[test]
 fn drops_each_key_and_value_once(rt: HostRuntime) {
-    assert!(rt; succeeds(|| drops_with_fifteen_slots(&rt, rt.alloc())));
-    assert!(rt; succeeds(|| drops_with_seven_slots(&rt, rt.alloc())));
+    assert!(rt; succeeds(|| drops_once(&rt, rt.alloc())));
 }
 
 /// Compares which of the greatest keys are there: all but this one, of those from it on.
