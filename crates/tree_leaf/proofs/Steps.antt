@@ -15,7 +15,7 @@ use Rattle.tree_leaf.specs.Ways.{StepsOver, next_place}
 use Rattle.tree_leaf.proofs.Along.{all_left, fewer_left, first_place}
 
 -- one place of two lists of which one lists what the other names
-same_place : {X Y : Type 0} (find : X → Option Y) (xs : List X) (ys : List Y) → map find xs ≡ map Some ys → (place : ℕ) (x : X) → slice_get xs place ≡ Some x → (y : Y) × (find x ≡ Some y) × (slice_get ys place ≡ Some y)
+pub same_place : {X Y : Type 0} (find : X → Option Y) (xs : List X) (ys : List Y) → map find xs ≡ map Some ys → (place : ℕ) (x : X) → slice_get xs place ≡ Some x → (y : Y) × (find x ≡ Some y) × (slice_get ys place ≡ Some y)
 same_place find [] ys same place x is = absurd (cc)
 same_place find (a ∷ xs) [] same place x is = absurd (cc)
 same_place find (a ∷ xs) (y ∷ ys) same zero x is = let this : x ≡ a = cc in (y, rw this (cc), refl)

@@ -12,6 +12,7 @@ use Rattle.tree_node.specs.Arenas.{TreeArenas}
 use Rattle.tree_node.specs.Parts.{IsPart}
 use Rattle.tree_node.specs.Tree.{AreParted, Stands, keyed, leaf_entries, leaves_at, nodes_at, children_of, walk}
 use Rattle.tree_node.proofs.Bare.{parted_last}
+use Rattle.tree_node.proofs.ChildrenStand.{parted_all}
 
 -- lists of a bounded length, one after another
 length-flat_map : {X Y : Type 0} (f : X → List Y) (most : ℕ) (xs : List X) → AllByRecursion (λ x. length (f x) ≤ most) xs → length (flat_map f xs) ≤ most * length xs
@@ -23,16 +24,11 @@ all-flat_map P f [] all = tt
 all-flat_map P f (x ∷ xs) all = all-append P (f x) (flat_map f xs) all.0 (all-flat_map P f xs all.1)
 
 module _ {K V : Type 0} {LEN : ℕ} (cmp : K → K → Ordering) (a : TreeArenas K V LEN) where
-  parted_all : (Child : Option K → ℕ → Option K → Type 0) (P : ℕ → Type 0) → ((low : Option K) (id : ℕ) (high : Option K) → Child low id high → P id)
-      → (low : Option K) (pairs : List (K × ℕ)) (last : ℕ) (high : Option K) → AreParted cmp Child low pairs last high → AllByRecursion P (map (λ c. c.1) pairs ++ last ∷ [])
-  parted_all Child P each low [] last high parted = (each low last high parted, tt)
-  parted_all Child P each low (c ∷ rest) last high parted = (each low c.1 (Some c.0) parted.0, parted_all Child P each (Some c.0) rest last high parted.3)
-
   leaves_few : (level : ℕ) (low : Option K) (id : ℕ) (high : Option K) → Stands cmp level a low id high → AllByRecursion (λ n. length (leaf_entries a.leaves n) ≤ LEN) (leaves_at level a.nodes id)
   leaves_few zero low id high s = (rw s.here s.few, tt)
   leaves_few (suc level) low id high s =
       rw (s.here, s.last_is)
-      (all-flat_map (λ n. length (leaf_entries a.leaves n) ≤ LEN) (leaves_at level a.nodes) _ (parted_all (Stands cmp level a) _ (leaves_few level) low _ _ high s.parted))
+      (all-flat_map (λ n. length (leaf_entries a.leaves n) ≤ LEN) (leaves_at level a.nodes) _ (parted_all cmp (Stands cmp level a) _ (leaves_few level) low _ _ high s.parted))
 
   children_few : (level : ℕ) (low : Option K) (id : ℕ) (high : Option K) (s : Stands cmp (suc level) a low id high) → length (children_of a.nodes id) ≤ LEN + 1
   children_few level low id high s = rw (s.here, s.last_is) (omega (arith, length-append (map (λ c. c.1) (keyed s.node).entries) (s.last ∷ []), length-map (keyed s.node).entries (λ c. c.1), s.few))
@@ -41,7 +37,7 @@ module _ {K V : Type 0} {LEN : ℕ} (cmp : K → K → Ordering) (a : TreeArenas
   leaves_count zero low id high s = omega (arith, pow-zero (LEN + 1))
   leaves_count (suc level) low id high s =
       let parts : AllByRecursion (λ x. length (leaves_at level a.nodes x) ≤ (LEN + 1) ^ level) (children_of a.nodes id) =
-      rw (s.here, s.last_is) (parted_all (Stands cmp level a) _ (leaves_count level) low _ _ high s.parted) in
+      rw (s.here, s.last_is) (parted_all cmp (Stands cmp level a) _ (leaves_count level) low _ _ high s.parted) in
       let many = length-flat_map (leaves_at level a.nodes) ((LEN + 1) ^ level) (children_of a.nodes id) parts in
       let few = mul-le-mul_left ((LEN + 1) ^ level) (children_few level low id high s) in
       omega (arith, many, few, pow-suc (LEN + 1) level)

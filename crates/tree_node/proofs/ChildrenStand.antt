@@ -14,7 +14,7 @@ use Rattle.tree_node.proofs.Children.{leaf_there, stands_free_high, stands_free_
 use Rattle.tree_node.proofs.Levels.{kind_of}
 
 -- what holds of each part between two bounds
-parted_all : {K : Type 0} (cmp : K → K → Ordering) (Child : Option K → ℕ → Option K → Type 0) (P : ℕ → Type 0) → ((low : Option K) (id : ℕ) (high : Option K) → Child low id high → P id)
+pub parted_all : {K : Type 0} (cmp : K → K → Ordering) (Child : Option K → ℕ → Option K → Type 0) (P : ℕ → Type 0) → ((low : Option K) (id : ℕ) (high : Option K) → Child low id high → P id)
     → (low : Option K) (pairs : List (K × ℕ)) (last : ℕ) (high : Option K) → AreParted cmp Child low pairs last high → AllByRecursion P (map (λ c. c.1) pairs ++ last ∷ [])
 parted_all cmp Child P each low [] last high parted = (each low last high parted, tt)
 parted_all cmp Child P each low (c ∷ rest) last high parted = (each low c.1 (Some c.0) parted.0, parted_all cmp Child P each (Some c.0) rest last high parted.3)

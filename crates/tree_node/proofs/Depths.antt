@@ -103,58 +103,58 @@ module _ {K V : Type 0} {LEN : ℕ} (cmp : K → K → Ordering) (a : TreeArenas
   below_of (suc level) id (Leaf node) s here = absurd (kind_of cmp a id (suc level) (Leaf node) s here)
 
   -- a part is not both
-  not_both : (height : ℕ) → 0 < height → (id : ℕ) → Stands cmp height a None id None → IsRetired height a id → ⊥
+  not_both : (level : ℕ) → 0 < level → (id : ℕ) → Stands cmp level a None id None → IsRetired level a id → ⊥
   not_both zero inner id s retired = omega (arith, inner)
-  not_both (suc height) inner id s retired = let r : IsRetiredNode (Some s.node) = rw s.here at retired in let none = r.1 in let some = s.last_is in let e : Some s.last ≡ None = sym some ∙ none in cc
+  not_both (suc level) inner id s retired = let r : IsRetiredNode (Some s.node) = rw s.here at retired in let none = r.1 in let some = s.last_is in let e : Some s.last ≡ None = sym some ∙ none in cc
 
-  module _ (height id most : ℕ) where
+  module _ (level id most : ℕ) where
     -- so many levels are counted on the way down, and as many as are missing are left
-    pub record Descends (level : ℕ) (below : Option ℕ) : Type 0 where
-      pub stands : Stands cmp height a None id None
+    pub record Descends (count : ℕ) (below : Option ℕ) : Type 0 where
+      pub stands : Stands cmp level a None id None
       pub left : ℕ
-      pub sum : level + left ≡ height
-      pub fits : height ≤ most
+      pub sum : count + left ≡ level
+      pub fits : level ≤ most
       pub way : Below left below
 
     -- a retired node has no way down
-    pub record Ends (level : ℕ) (below : Option ℕ) : Type 0 where
-      pub retired : IsRetired height a id
-      pub one : level ≡ 1
+    pub record Ends (count : ℕ) (below : Option ℕ) : Type 0 where
+      pub retired : IsRetired level a id
+      pub one : count ≡ 1
       pub none : below ≡ None
 
     abbrev pub Counts : ℕ → Option ℕ → Type 0
-    Counts level below = Descends level below ⊎ Ends level below
+    Counts count below = Descends count below ⊎ Ends count below
 
-    pub starts : (inner : 0 < height) → StandsOrRetired cmp height a id → slab_len a.nodes ≤ most → (node : NodeOf K LEN) → get a.nodes id ≡ Some node → Counts 1 (last_node node)
+    pub starts : (inner : 0 < level) → StandsOrRetired cmp level a id → slab_len a.nodes ≤ most → (node : NodeOf K LEN) → get a.nodes id ≡ Some node → Counts 1 (last_node node)
     starts inner (inl s) room node here = inl (record {
       stands = s;
-      left = height - 1;
+      left = level - 1;
       sum = omega (arith, inner);
-      fits = omega (arith, level_fits height id s, room);
-      way = way_from height inner s;
+      fits = omega (arith, level_fits level id s, room);
+      way = way_from level inner s;
     })
       where
-        way_from : (height : ℕ) → 0 < height → Stands cmp height a None id None → Below (height - 1) (last_node node)
+        way_from : (level : ℕ) → 0 < level → Stands cmp level a None id None → Below (level - 1) (last_node node)
         way_from zero inner s = absurd (omega (arith, inner))
-        way_from (suc level) inner s = rw sub-one (below_of level id node s here)
-    starts inner (inr retired) room node here = inr (record { retired = retired; one = refl; none = none_from height inner node here retired })
+        way_from (suc count) inner s = rw sub-one (below_of count id node s here)
+    starts inner (inr retired) room node here = inr (record { retired = retired; one = refl; none = none_from level inner node here retired })
       where
-        none_from : (height : ℕ) → 0 < height → (node : NodeOf K LEN) → get a.nodes id ≡ Some node → IsRetired height a id → last_node node ≡ None
+        none_from : (level : ℕ) → 0 < level → (node : NodeOf K LEN) → get a.nodes id ≡ Some node → IsRetired level a id → last_node node ≡ None
         none_from zero inner node here retired = absurd (omega (arith, inner))
-        none_from (suc level) inner (Internal node) here retired = let r : IsRetiredNode (Some (Internal node)) = rw here at retired in r.1
-        none_from (suc level) inner (Leaf node) here retired = refl
+        none_from (suc count) inner (Internal node) here retired = let r : IsRetiredNode (Some (Internal node)) = rw here at retired in r.1
+        none_from (suc count) inner (Leaf node) here retired = refl
 
     -- one step down
-    pub record Step (level at : ℕ) : Type 0 where
+    pub record Step (count at : ℕ) : Type 0 where
       pub there : IsSome (get a.nodes at)
-      pub lower : level < height
-      pub fits : height ≤ most
-      pub goes_on : (node : NodeOf K LEN) → get a.nodes at ≡ Some node → Counts (level + 1) (last_node node)
+      pub lower : count < level
+      pub fits : level ≤ most
+      pub goes_on : (node : NodeOf K LEN) → get a.nodes at ≡ Some node → Counts (count + 1) (last_node node)
 
-    pub step : (level : ℕ) (below : Option ℕ) (at : ℕ) → below ≡ Some at → Counts level below → Step level at
-    step level below at is (inl d) = by_left d.left d.sum d.way
+    pub step : (count : ℕ) (below : Option ℕ) (at : ℕ) → below ≡ Some at → Counts count below → Step count at
+    step count below at is (inl d) = by_left d.left d.sum d.way
       where
-        by_left : (left : ℕ) → level + left ≡ height → Below left below → Step level at
+        by_left : (left : ℕ) → count + left ≡ level → Below left below → Step count at
         by_left zero sum way = absurd (let e : Some at ≡ None = sym is ∙ way in cc)
         by_left (suc left) sum way =
             let same : Some way.0 ≡ Some at = sym way.1.0 ∙ is in
@@ -166,12 +166,12 @@ module _ {K V : Type 0} {LEN : ℕ} (cmp : K → K → Ordering) (a : TreeArenas
               fits = d.fits;
               goes_on = λ node here. inl (record { stands = d.stands; left = left; sum = omega (arith, sum); fits = d.fits; way = below_of left at node s here });
             }
-    step level below at is (inr e) = absurd (let none : Some at ≡ None = sym is ∙ e.none in cc)
+    step count below at is (inr e) = absurd (let none : Some at ≡ None = sym is ∙ e.none in cc)
 
-    pub counted : (inner : 0 < height) (level : ℕ) (below : Option ℕ) → below ≡ None → Counts level below → (Stands cmp height a None id None → level ≡ height) × (IsRetired height a id → level ≡ 1)
-    counted inner level below is (inl d) = (λ s. by_left d.left d.sum d.way, λ retired. absurd (not_both height inner id d.stands retired))
+    pub counted : (inner : 0 < level) (count : ℕ) (below : Option ℕ) → below ≡ None → Counts count below → (Stands cmp level a None id None → count ≡ level) × (IsRetired level a id → count ≡ 1)
+    counted inner count below is (inl d) = (λ s. by_left d.left d.sum d.way, λ retired. absurd (not_both level inner id d.stands retired))
       where
-        by_left : (left : ℕ) → level + left ≡ height → Below left below → level ≡ height
+        by_left : (left : ℕ) → count + left ≡ level → Below left below → count ≡ level
         by_left zero sum way = omega (arith, sum)
         by_left (suc left) sum way = absurd (let e : Some way.0 ≡ None = sym way.1.0 ∙ is in cc)
-    counted inner level below is (inr e) = (λ s. absurd (not_both height inner id s e.retired), λ retired. e.one)
+    counted inner count below is (inr e) = (λ s. absurd (not_both level inner id s e.retired), λ retired. e.one)

@@ -16,7 +16,7 @@ use Rattle.tree_node.proofs.Between.{found_between, put_between}
 use Rattle.tree_node.proofs.Frames.{parted_map}
 use Rattle.tree_node.proofs.Order.{less_from_test, upto_from_test}
 use Rattle.tree_node.proofs.Walks.{above_next}
-use Rattle.tree_node.proofs.Widens.{separators_above}
+use Rattle.tree_node.proofs.Widens.{below_next, separators_above}
 
 module _ {K : Type 0} where
   -- the child at the place, and those behind it
@@ -125,10 +125,6 @@ module _ {K : Type 0} {cmp : K → K → Ordering} (o : IsTotalOrder cmp) where
         up_to = later.up_to;
       }
 
-  below_next : (s t : K) (high : Option K) → IsBelow cmp s (Some t) → IsBelow cmp t high → IsBelow cmp s high
-  below_next s t None p q = tt
-  below_next s t (Some high) p q = o.trans s t high p q
-
   module _ (A : Option K → ℕ → Option K → Type 0) where
     -- the child at the place stands between its bounds
     pub child_between : (low : Option K) (before onward : List (K × ℕ)) (last : ℕ) (high : Option K) → AreParted cmp A low (before ++ onward) last high
@@ -174,6 +170,6 @@ module _ {K : Type 0} {cmp : K → K → Ordering} (o : IsTotalOrder cmp) where
       → AreParted cmp B low (before ++ (s, y) ∷ onward) last high
   parted_low A B s y low [] [] last high parted above below front lower upper back = (lower, above, below, upper)
   parted_low A B s y low [] (c ∷ rest) last high parted above below front lower upper back =
-      (lower, above, below_next s c.0 high below parted.2, (upper, below, parted.2, parted_map cmp A B (Some c.0) rest last high back parted.3))
+      (lower, above, below_next o high s c.0 below parted.2, (upper, below, parted.2, parted_map cmp A B (Some c.0) rest last high back parted.3))
   parted_low A B s y low (c ∷ rest) onward last high parted above below front lower upper back =
       (front.0 low (Some c.0) parted.0, parted.1, parted.2, parted_low A B s y (Some c.0) rest onward last high parted.3 above below front.1 lower upper back)

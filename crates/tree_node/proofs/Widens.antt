@@ -11,7 +11,7 @@ use Rattle.tree_node.specs.Tree.{IsAbove, IsBelow, AreParted, Stands}
 use Rattle.tree_node.proofs.Walks.{above_next, up_to_next}
 
 -- a separator below another is below what that is below
-below_next : {K : Type 0} {cmp : K → K → Ordering} (o : IsTotalOrder cmp) (high : Option K) (k s : K) → IsBelow cmp k (Some s) → IsBelow cmp s high → IsBelow cmp k high
+pub below_next : {K : Type 0} {cmp : K → K → Ordering} (o : IsTotalOrder cmp) (high : Option K) (k s : K) → IsBelow cmp k (Some s) → IsBelow cmp s high → IsBelow cmp k high
 below_next o None k s p q = tt
 below_next o (Some high) k s p q = o.trans k s high p q
 

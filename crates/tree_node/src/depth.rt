@@ -9,26 +9,26 @@ use tree_leaf::arena::NodeId;
 /// Returns the level of a node: the number of nodes on the path from it to a leaf, counting itself. A retired node is
 /// at level 1. Reads one node per level and makes no comparisons.
 ///
-/// The caller must name a node under which a well-formed part of a tree of `height` levels stands, or a retired node.
+/// The caller must name a node under which a well-formed part of a tree stands, or a retired node.
 pub fn level_of<K: Ord + Drop, V: Drop, const LEN: usize>(
     arenas: &ArenasOf<K, V, LEN>,
     id: NodeId,
 ) -> usize
-    ghost height: { ℕ }
-    requires node { 0 < height }
-    requires stands { StandsOrRetired K.cmp height arenas.now id }
-    ensures stands { Stands K.cmp height arenas.now None id None → result ≡ height }
-    ensures retired { IsRetired height arenas.now id → result ≡ 1 }
+    ghost level: { ℕ }
+    requires node { 0 < level }
+    requires stands { StandsOrRetired K.cmp level arenas.now id }
+    ensures stands { Stands K.cmp level arenas.now None id None → result ≡ level }
+    ensures retired { IsRetired level arenas.now id → result ≡ 1 }
 {
     // The nodes on the path are distinct, so their number fits.
     let _nodes = arenas.node_count();
-    let mut level = 1;
+    let mut count = 1;
     let mut below = arenas.node(id).last_node();
     while let Some(at) = below {
-        level += 1;
+        count += 1;
         below = arenas.node(at).last_node();
     }
-    level
+    count
 }
 
 impl<K: Ord + Drop, const LEN: usize> NodeOf<K, LEN> {

@@ -18,11 +18,10 @@ use Rattle.tree_node.specs.Parts.{IsPart, Replaces}
 use Rattle.tree_remove.specs.Removes.{RemovesUnder}
 use Rattle.tree_node.specs.Tree.{HasChildFor, HasKind, IsRetired, Stands, child_of, keyed, nodes_at, unbounded}
 use Rattle.tree_node.proofs.ChildChanges.{child_part, same_node, was}
-use Rattle.tree_node.proofs.Children.{leaf_there, node_there}
+use Rattle.tree_node.proofs.Children.{leaf_there}
 use Rattle.tree_node.proofs.Frames.{head_here}
 use Rattle.tree_node.proofs.Lifts.{node_times, single_nodes}
 use Rattle.tree_remove.proofs.NodeRemovals.{fails_retired}
-use Rattle.tree_remove.proofs.NodeWrites.{has_retired}
 use Rattle.tree_node.proofs.Routes.{routed_to, routed_past}
 
 module _ {K V : Type 0} {LEN : ℕ} {cmp : K → K → Ordering} (a : TreeArenas K V LEN) (id : ℕ) where
@@ -32,12 +31,6 @@ module _ {K V : Type 0} {LEN : ℕ} {cmp : K → K → Ordering} (a : TreeArenas
 
   kind_here : (level : ℕ) → Stands cmp (suc level) a None id None → (node : NodeOf K LEN) → get a.nodes id ≡ Some node → HasKind level node
   kind_here level s node here = rw (node_same level s node here) at s.kind
-
--- a node is there
-pub node_at : {K V : Type 0} {LEN : ℕ} (cmp : K → K → Ordering) (level : ℕ) (a : TreeArenas K V LEN) (id : ℕ) → 0 < level → IsPart cmp level a id ⊎ IsRetired level a id → IsSome (get a.nodes id)
-node_at cmp zero a id inner given = absurd (omega (arith, inner))
-node_at cmp (suc level) a id inner (inl part) = node_there level a id (inl part.stands)
-node_at cmp (suc level) a id inner (inr retired) = has_retired (get a.nodes id) retired
 
 module _ {K V : Type 0} {LEN : ℕ} (cmp : K → K → Ordering) (Says : V → Bool → Type 0) (a : TreeArenas K V LEN) (id : ℕ) (key : K) where
   -- a node without a child is retired

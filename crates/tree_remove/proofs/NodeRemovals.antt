@@ -8,7 +8,6 @@ use Rattle.slab.specs.Slab.{get}
 use Rattle.tree_array.specs.declared.answers.RemoveResult.{RemoveResult}
 use Rattle.tree_array.specs.declared.answers.RemoveResult.TheVariants.{Success, Retired, Fail}
 use Rattle.tree_leaf.specs.declared.leaf.LeafOf.{LeafOf}
-use Rattle.tree_leaf.proofs.Chains.{same_array_refl}
 use Rattle.tree_model.specs.Pairs.{AllLarger}
 use Rattle.tree_node.specs.Arenas.{TreeArenas}
 use Rattle.tree_remove.specs.CleanUps.{HasOnlyRetired, RetiresIfEmpty}
@@ -18,7 +17,8 @@ use Rattle.tree_node.specs.Shape.{spare}
 use Rattle.tree_node.specs.Tree.{HasChildFor, Stands, IsRetired, IsRetiredLeaf, leaves_at, slot_entries, walk}
 use Rattle.tree_node.proofs.Between.{found_between, without_between}
 use Rattle.tree_node.proofs.ChildChanges.{node_keeps, node_replaces, now, old_spare, new_spare, old_walk, new_walk}
-use Rattle.tree_node.proofs.Frames.{Agrees, same_stands}
+use Rattle.tree_node.proofs.Frames.{same_stands}
+use Rattle.tree_node.proofs.Unchanged.{unchanged_agrees}
 use Rattle.tree_remove.proofs.NodeDrops.{retired_children}
 use Rattle.tree_node.proofs.Spares.{spare_le}
 use Rattle.tree_node.proofs.Steps.{part_after, replaces_refl, replaces_trans}
@@ -90,9 +90,6 @@ module _ {K V : Type 0} {LEN : ℕ} where
   walk-retired zero a id retired = rw (no_entries (get a.leaves id) retired) refl
   walk-retired (suc level) a id retired = rw (walk-children level a id, retired_children a.nodes id retired) refl
 
-  unchanged_agrees : (level : ℕ) (old new : TreeArenas K V LEN) (id : ℕ) → Unchanged old new → Agrees level old new id
-  unchanged_agrees level old new id same = record { nodes = λ n inside. same.nodes n; leaves = λ n inside. rw (same.leaves n) (same_array_refl (get old.leaves n)) }
-
   -- a leaf node isn't left with a retired leaf alone where its own clean-up succeeds
   pub settled_if_empty : (old new : TreeArenas K V LEN) (id : ℕ) (result : RemoveResult) → RetiresIfEmpty old new id result → result ≡ Success → HasOnlyRetired new id → ⊥
   settled_if_empty old new id Success settles success = rw settles.0 settles.1
@@ -149,7 +146,7 @@ module _ {K V : Type 0} {LEN : ℕ} (cmp : K → K → Ordering) where
     given_left (suc level) old new id Success (inr retired) removes = absurd (nothing_taken key (walk-retired (suc level) old id retired) removes.pairs)
     given_left level old new id Retired given removes = inr removes.leaves.0
     given_left level old new id Fail (inl part) removes =
-        inl (part_after cmp level old new id part (same_stands cmp level old new id (unchanged_agrees level old new id removes.leaves) None None part.stands) removes.replaces)
+        inl (part_after cmp level old new id part (same_stands cmp level old new id (unchanged_agrees level old new removes.leaves id) None None part.stands) removes.replaces)
     given_left zero old new id Fail (inr retired) removes = inr (rw (removes.leaves.leaves id) retired)
     given_left (suc level) old new id Fail (inr retired) removes = inr (rw (removes.leaves.nodes id) retired)
 

@@ -4,16 +4,10 @@ use Rattle.std.specs.List.{AllByRecursion}
 use Rattle.std.proofs.lemmas.Option.{slice_get-map}
 use Rattle.tree_array.specs.Arrivals.{Arrivals, arrival}
 use Rattle.tree_array.specs.Walk.{Walk, StepsOn, place_ahead, standing}
+use Rattle.tree_leaf.proofs.Steps.{same_place}
 use Rattle.tree_node.specs.Tree.{in_turn}
 use Rattle.tree_node.proofs.Lists.{all_middle}
 pub use Rattle.tree_walk.specs.Children.{IsOverKeyed, keyed_children}
-
--- the place of one of two lists of which one lists what the other names
-same_place : {X Y : Type 0} (find : X → Option Y) (xs : List X) (ys : List Y) → map find xs ≡ map Some ys → (place : ℕ) (x : X) → slice_get xs place ≡ Some x → (y : Y) × ((find x ≡ Some y) × (slice_get ys place ≡ Some y))
-same_place find [] ys same place x is = absurd (cc)
-same_place find (a ∷ xs) [] same place x is = absurd (cc)
-same_place find (a ∷ xs) (y ∷ ys) same zero x is = let this : x ≡ a = cc in (y, (rw this (cc), refl))
-same_place find (a ∷ xs) (y ∷ ys) same (suc place) x is = let rest : map find xs ≡ map Some ys = cc in same_place find xs ys rest place x is
 
 -- what holds of all holds of the one at a place
 holds_at : {X : Type 0} (P : X → Type 0) (xs ys : List X) (place : ℕ) (x : X) → slice_get xs place ≡ Some x → AllByRecursion P (xs ++ ys) → P x

@@ -7,43 +7,43 @@ use Rattle.tree_node.proofs.depth.level_of.Goals as goal
 
 pub node-requires : goal.node-requires
 node-requires g c =
-    let inner : 0 < g.height = assumption c.requires in
-    let stands : StandsOrRetired g.K.Ord.cmp g.height c.args.arenas.now c.args.id = assumption c.requires in
-    let there : ContainsKey c.args.arenas.now.nodes c.args.id = node_at g.K.Ord.cmp c.args.arenas.now c.args.id g.height inner stands in
+    let inner : 0 < g.level = assumption c.requires in
+    let stands : StandsOrRetired g.K.Ord.cmp g.level c.args.arenas.now c.args.id = assumption c.requires in
+    let there : ContainsKey c.args.arenas.now.nodes c.args.id = node_at g.K.Ord.cmp c.args.arenas.now c.args.id g.level inner stands in
     search rules
 
 pub loop-below-init : goal.loop-below-init
 loop-below-init g c =
-    let inner : 0 < g.height = assumption c.requires in
-    let stands : StandsOrRetired g.K.Ord.cmp g.height c.args.arenas.now c.args.id = assumption c.requires in
-    rw c.last_node-below.ensures (starts g.K.Ord.cmp c.args.arenas.now g.height c.args.id _ inner stands (omega arith) _ c.node.ensures)
+    let inner : 0 < g.level = assumption c.requires in
+    let stands : StandsOrRetired g.K.Ord.cmp g.level c.args.arenas.now c.args.id = assumption c.requires in
+    rw c.last_node-below.ensures (starts g.K.Ord.cmp c.args.arenas.now g.level c.args.id _ inner stands (omega arith) _ c.node.ensures)
 
-pub overflow_add-level : goal.overflow_add-level
-overflow_add-level g c =
-    let down = step _ _ _ _ c.node_count-nodes.result c.loop-below.level _ c.in-Some.at c.in-Some.is c.loop-below.invariant in
+pub overflow_add-count : goal.overflow_add-count
+overflow_add-count g c =
+    let down = step _ _ _ _ c.node_count-nodes.result c.loop-below.count _ c.in-Some.at c.in-Some.is c.loop-below.invariant in
     omega (arith, down.lower, down.fits)
 
 pub node-requires-in-Some : goal.node-requires-in-Some
 node-requires-in-Some g c =
-    let there : ContainsKey c.args.arenas.now.nodes c.in-Some.at = (step _ _ _ _ c.node_count-nodes.result c.loop-below.level _ c.in-Some.at c.in-Some.is c.loop-below.invariant).there in
+    let there : ContainsKey c.args.arenas.now.nodes c.in-Some.at = (step _ _ _ _ c.node_count-nodes.result c.loop-below.count _ c.in-Some.at c.in-Some.is c.loop-below.invariant).there in
     search rules
 
 pub loop-below-smaller : goal.loop-below-smaller
 loop-below-smaller g c =
-    let down = step _ _ _ _ c.node_count-nodes.result c.loop-below.level _ c.in-Some.at c.in-Some.is c.loop-below.invariant in
+    let down = step _ _ _ _ c.node_count-nodes.result c.loop-below.count _ c.in-Some.at c.in-Some.is c.loop-below.invariant in
     omega (arith, down.lower)
 
 pub loop-below-preserved : goal.loop-below-preserved
 loop-below-preserved g c =
-    let down = step _ _ _ _ c.node_count-nodes.result c.loop-below.level _ c.in-Some.at c.in-Some.is c.loop-below.invariant in
+    let down = step _ _ _ _ c.node_count-nodes.result c.loop-below.count _ c.in-Some.at c.in-Some.is c.loop-below.invariant in
     rw c.last_node-below-in-Some.ensures (down.goes_on _ c.node-in-Some.ensures)
 
 pub returns-clause-stands : goal.returns-clause-stands
 returns-clause-stands g c =
-    let inner : 0 < g.height = assumption c.requires in
-    (counted _ _ g.height _ c.node_count-nodes.result inner c.loop-below.level _ c.in_default.is c.loop-below.invariant).0
+    let inner : 0 < g.level = assumption c.requires in
+    (counted _ _ g.level _ c.node_count-nodes.result inner c.loop-below.count _ c.in_default.is c.loop-below.invariant).0
 
 pub returns-clause-retired : goal.returns-clause-retired
 returns-clause-retired g c =
-    let inner : 0 < g.height = assumption c.requires in
-    (counted _ _ g.height _ c.node_count-nodes.result inner c.loop-below.level _ c.in_default.is c.loop-below.invariant).1
+    let inner : 0 < g.level = assumption c.requires in
+    (counted _ _ g.level _ c.node_count-nodes.result inner c.loop-below.count _ c.in_default.is c.loop-below.invariant).1

@@ -3,14 +3,14 @@ use Rattle.slab.specs.Slab.{ContainsKey, get}
 use Rattle.tree_node.specs.Parts.{IsPart}
 use Rattle.tree_node.specs.Tree.{IsOfLevel}
 use Rattle.tree_node.specs.Tree.{IsRetired}
-use Rattle.tree_remove.proofs.Descents.{node_at}
+use Rattle.tree_node.proofs.NodeKinds.{node_used}
 use Rattle.tree_remove.proofs.Lowerings.{leaf_node_stays, keyed_stays, retired_gone, over_one, of_level}
 use Rattle.tree_node.proofs.Sizes.{fits}
 use Rattle.tree_remove.proofs.lowering.+lower_root_at.Goals as goal
 
 pub node-requires : goal.node-requires
 node-requires g t c =
-    let there : ContainsKey c.args.arenas.now.nodes c.args.root = node_at g.K.Ord.cmp c.args.level c.args.arenas.now c.args.root c.requires.node c.requires.part in
+    let there : ContainsKey c.args.arenas.now.nodes c.args.root = node_used c.args.level c.requires.node c.args.arenas.now c.args.root c.requires.part in
     search rules
 
 pub returns-then-not-is_empty : goal.returns-then-not-is_empty
@@ -20,7 +20,7 @@ returns-then-not-is_empty g t c =
 
 pub remove_node-requires : goal.remove_node-requires
 remove_node-requires g t c =
-    let there : ContainsKey c.args.arenas.now.nodes c.args.root = node_at g.K.Ord.cmp c.args.level c.args.arenas.now c.args.root c.requires.node c.requires.part in
+    let there : ContainsKey c.args.arenas.now.nodes c.args.root = node_used c.args.level c.requires.node c.args.arenas.now c.args.root c.requires.part in
     search rules
 
 pub returns-in_err-below-in-Internal : goal.returns-in_err-below-in-Internal

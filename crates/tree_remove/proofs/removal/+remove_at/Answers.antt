@@ -4,7 +4,8 @@ use Rattle.tree_node.specs.declared.node.NodeOf.TheVariants.{Internal, Leaf}
 use Rattle.tree_node.specs.Parts.{IsPart}
 use Rattle.tree_node.specs.Tree.{IsRetired}
 use Rattle.tree_remove.proofs.ChildDrops.{child_dropped, keyed_dropped_at}
-use Rattle.tree_remove.proofs.Descents.{apart_below, fails_childless, leaf_at, node_at, part_below, slot_kept, still_linked, under_internal, under_leaf_node}
+use Rattle.tree_node.proofs.NodeKinds.{node_used}
+use Rattle.tree_remove.proofs.Descents.{apart_below, fails_childless, leaf_at, part_below, slot_kept, still_linked, under_internal, under_leaf_node}
 use Rattle.tree_remove.proofs.NodeRemovals.{fails_above, leaf_kept, part_left, removes_settled, settled_above, settled_if_empty, succeeds_above}
 use Rattle.tree_node.proofs.Sizes.{fits}
 use Rattle.tree_node.proofs.Walks.{found_in_child}
@@ -12,7 +13,7 @@ use Rattle.tree_remove.proofs.removal.+remove_at.Goals as goal
 
 pub node-requires : goal.node-requires
 node-requires g t c =
-    let there : ContainsKey c.args.arenas.now.nodes c.args.id = node_at g.K.Ord.cmp c.args.level c.args.arenas.now c.args.id c.requires.node c.requires.part in
+    let there : ContainsKey c.args.arenas.now.nodes c.args.id = node_used c.args.level c.requires.node c.args.arenas.now c.args.id c.requires.part in
     search rules
 
 pub returns-in_default-clause-removes : goal.returns-in_default-clause-removes
