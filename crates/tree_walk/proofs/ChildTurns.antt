@@ -1,5 +1,5 @@
 -- A walk over the slots of an array of children: the child at its place, and what holds of each.
-use Rattle.std.proofs.Common.{◌≡◌, ℕ, zero, suc, List, [], ◌∷◌, ◌++◌, map, drop, slice_get, Option, Some, None, IsSome, refl, sym, ap, ◌∙◌}
+use Rattle.std.proofs.Common.{◌≡◌, ℕ, zero, suc, List, [], ◌∷◌, ◌++◌, map, drop, slice_get, Some, None, IsSome, refl, sym, ap, ◌∙◌}
 use Rattle.std.specs.List.{AllByRecursion}
 use Rattle.std.proofs.lemmas.Option.{slice_get-map}
 use Rattle.tree_array.specs.Arrivals.{Arrivals, arrival}
@@ -24,15 +24,15 @@ module _ {K X : Type 0} (keyed : Arrivals K X) where
   module _ (walk : Walk) (over : IsOverKeyed keyed walk) (place slot : ℕ) (is : slice_get walk.slots place ≡ Some slot) where
     -- a slot of the walk is that of an entry
     pub reachable_at : IsSome (arrival keyed.arrivals slot)
-    reachable_at = rw (same_place (arrival keyed.arrivals) walk.slots keyed.entries over place slot is).1.0 refl
+    reachable_at = rw (same_place (arrival keyed.arrivals) walk.slots keyed.entries over place slot is).1 refl
 
     -- and the child in it is the one at this place
     pub child_at : (child : X) → ((key : K) × (arrival keyed.arrivals slot ≡ Some (key, child))) → slice_get (keyed_children keyed) place ≡ Some child
     child_at child read =
         let at = same_place (arrival keyed.arrivals) walk.slots keyed.entries over place slot is in
-        let both : Some at.0 ≡ Some (read.0, child) = sym at.1.0 ∙ read.1 in
+        let both : Some at.0 ≡ Some (read.0, child) = sym at.1 ∙ read.1 in
         let this : at.0 ≡ (read.0, child) = cc in
-        rw (slice_get-map (λ (c : K × X). c.1) keyed.entries place, at.1.1, this) refl
+        rw (slice_get-map (λ (c : K × X). c.1) keyed.entries place, at.2, this) refl
 
   -- the turn of a child, by which the walk goes from `old` to `new`
   pub record ChildTurn (old new : Walk) (child : X) : Type 0 where
