@@ -1,21 +1,25 @@
 -- What stands under the root of a tree that a test plants, and what calls leave of it.
-use Rattle.std.proofs.Common.{◌≡◌, ◌⊎◌, Bool, Result, Ok, ℕ, zero, suc, ◌<◌, ◌+◌, ◌≤◌, [], ◌∷◌, Some, None, refl, arith, add-one, inl, inr}
+use Rattle.std.proofs.Common.{◌≡◌, ◌↔◌, ◌⊎◌, ◌++◌, Bool, IsTrue, true, false, Result, Ok, Err, IfOk, OnErr, ℕ, zero, suc, ◌<◌, ◌+◌, ◌^◌, ◌≤◌, [], ◌∷◌, Some, None, refl, sym, ◌∙◌, arith, add-one, ap, map, IsSome, List, ◌==◌, inl, inr}
 use Rattle.std.specs.declared.cmp.Ordering.{Ordering}
-use Rattle.slab.specs.Slab.{get}
+use Rattle.std.proofs.lemmas.Bool.{false≢true}
+use Rattle.slab.specs.Slab.{Slab, get}
 use Rattle.tree_leaf.specs.Chain.{IsChain}
 use Rattle.tree_leaf.specs.Counting.{times, uses}
-use Rattle.tree_leaf.proofs.Counts.{times-nil, uses_some}
+use Rattle.tree_leaf.proofs.Counts.{one_here, times-append, times-cons, times-nil}
 use Rattle.tree_array.specs.declared.answers.InsertResult.{InsertResult}
 use Rattle.tree_array.specs.declared.answers.InsertResult.TheVariants.{Full}
 use Rattle.tree_array.specs.declared.answers.RemoveResult.{RemoveResult}
 use Rattle.tree_array.specs.declared.answers.RemoveResult.TheVariants.{Success, Retired, Fail}
 use Rattle.tree_insert.specs.Inserts.{InsertsPlainly}
-use Rattle.tree_insert.specs.Roots.{Replants}
-use Rattle.tree_insert.specs.Splits.{RaisesRoot}
+use Rattle.tree_insert.specs.Splits.{LacksRoom, RaisesRoot, SplitResult, SplitsChild}
+use Rattle.tree_node.specs.declared.internal_node.InternalNodeOf.{InternalNodeOf}
+use Rattle.tree_node.specs.declared.node.NodeOf.{NodeOf}
+use Rattle.tree_node.specs.declared.node.NodeOf.TheVariants.{Internal}
 use Rattle.tree_node.specs.Arenas.{TreeArenas}
 use Rattle.tree_node.specs.Parts.{IsPart, Unchanged}
-use Rattle.tree_node.specs.Tree.{IsOfLevel, IsRetired, StandsOrRetired, leaves_at, nodes_at}
+use Rattle.tree_node.specs.Tree.{IsOfLevel, IsRetired, StandsOrRetired, children_of, leaves_at, nodes_at}
 use Rattle.tree_node.specs.Whole.{IsTree}
+use Rattle.tree_node.proofs.Levels.{kind_of}
 use Rattle.tree_node.proofs.Steps.{part_after}
 use Rattle.tree_node.proofs.Unchanged.{unchanged_part}
 use Rattle.tree_node.proofs.Whole.{tree_part}
@@ -27,11 +31,11 @@ use Rattle.node_tests.specs.Planted.{IsPlanted}
 
 -- a root that stands is planted, and so is what a split makes of it
 module _ {K V : Type 0} {LEN : ℕ} (cmp : K → K → Ordering) where
-  pub planted_tree : (a : TreeArenas K V LEN) (id : ℕ) → IsTree cmp a (Some (id, 1)) → IsPlanted cmp 1 a id
-  planted_tree a id tree = elim tree.top.1 [
-    | inl stands ↦ inl (tree_part cmp a id 1 tree stands)
-    | inr retired ↦ inr (retired.1.0, retired.1.1)
-  ]
+  pub planted_new : (level : ℕ) (a : TreeArenas K V LEN) (id : ℕ) → level ≡ 1 → IsTree cmp a (Some (id, 1)) → IsPlanted cmp level a id
+  planted_new level a id lowest tree = rw lowest (elim tree.top.1 [
+    | inl stands ↦ inl (tree_part a id 1 tree stands)
+    | inr retired ↦ inr (retired.1, retired.2)
+  ])
 
   pub part_planted : (level : ℕ) (a : TreeArenas K V LEN) (id : ℕ) → (IsRetired level a id → ⊥) → IsPlanted cmp level a id → IsPart cmp level a id
   part_planted level a id stands (inl part) = part
@@ -46,14 +50,38 @@ module _ {K V : Type 0} {LEN : ℕ} (cmp : K → K → Ordering) where
     chain = raised.chained part.front part.back part.chain;
   }))
 
-  pub replanted_planted : (a b : TreeArenas K V LEN) (root : ℕ) → Replants cmp a b root → IsPlanted cmp 1 b root
-  replanted_planted a b root replants = inl (record {
-    stands = replants.stands;
-    nodes_once = λ n. ?;
-    front = [];
-    back = [];
-    chain = rw replants.leaves replants.chain;
-  })
+  pub raised_result : {E : Type 0} (level : ℕ) (a b : TreeArenas K V LEN) (root : ℕ) (result : Result ℕ E) → IsPart cmp level a root → IfOk result (λ id. RaisesRoot cmp level a b root id × (level + 1 < 2 ^ 64))
+      → IfOk result (λ id. IsPlanted cmp (level + 1) b id)
+  raised_result level a b root (Ok id) part raised = raised_planted level a b root id part raised.0
+  raised_result level a b root (Err e) part raised = tt
+
+-- an internal root, and its unbounded child
+last_inside : {K : Type 0} {LEN : ℕ} (nodes : Slab (NodeOf K LEN)) (id last : ℕ) (node : InternalNodeOf K LEN) → get nodes id ≡ Some (Internal node) → node.unbounded_child ≡ Some last → 0 < times last (children_of nodes id)
+last_inside nodes id last node here is =
+    let front = map (λ c. c.1) node.children.entries in
+    rw (here, is) (omega (arith, times-append last front (last ∷ []), times-cons last last [], one_here last last refl))
+
+module _ {K V : Type 0} {LEN : ℕ} (cmp : K → K → Ordering) where
+  pub internal_part : (level : ℕ) (a : TreeArenas K V LEN) (id last : ℕ) (node : InternalNodeOf K LEN) → 0 < level → IsPlanted cmp level a id → get a.nodes id ≡ Some (Internal node) → node.unbounded_child ≡ Some last
+      → ((1 < level) × IsPart cmp level a id) × (0 < times last (children_of a.nodes id))
+  internal_part zero a id last node inner planted here is = absurd (omega (arith, inner))
+  internal_part (suc zero) a id last node inner (inl part) here is = absurd (kind_of cmp a id 0 (Internal node) part.stands here)
+  internal_part (suc (suc level)) a id last node inner (inl part) here is = ((omega arith, part), last_inside a.nodes id last node here is)
+  internal_part (suc level) a id last node inner (inr gone) here is = absurd (let none = (rw here at gone.0).1 in cc)
+
+  pub planted_by_split : {E : Type 0} (level : ℕ) (old new : TreeArenas K V LEN) (id last : ℕ) (result : Result Bool E) → 1 < level → IsPart cmp level old id
+      → ((l : ℕ) → 1 < l → IsPart cmp l old id → IfOk result (λ split. SplitResult cmp split l old new id last)) → OnErr result (Unchanged old new) → IsPlanted cmp level new id
+  planted_by_split level old new id last (Ok true) high part done err =
+      let splits : SplitsChild cmp level old new id last = done level high part in
+      inl (part_after cmp level old new id part (splits.keeps None None part.stands) splits.replaces)
+  planted_by_split level old new id last (Ok false) high part done err =
+      let lacks : LacksRoom level old new id last = done level high part in
+      inl (unchanged_part level old new lacks.unchanged cmp id part)
+  planted_by_split level old new id last (Err e) high part done err = inl (unchanged_part level old new err cmp id part)
+
+-- what a call told of a root
+pub not_so : {P : Type 0} (told : Bool) → told ≡ false → (IsTrue told ↔ P) → P → ⊥
+not_so told denied says there = let holds : told ≡ true = says.1 there in absurd (false≢true (sym denied ∙ holds))
 
 -- what is planted stays so
 module _ {K V : Type 0} {LEN : ℕ} (cmp : K → K → Ordering) (level : ℕ) (old new : TreeArenas K V LEN) (id : ℕ) where

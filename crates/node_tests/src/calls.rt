@@ -2,7 +2,7 @@
 ghost use Rattle.tree_array.specs.Length.{IsLen};
 
 use crate::memory::twice;
-use crate::planted::Planted;
+use crate::planted::{Planted, cleanup_root, split_root};
 use crate::steps::{Step, Told, take};
 use std::alloc::{AllocError, Global};
 use std::process::Abort;
@@ -36,17 +36,16 @@ static FEW: [Step; 20] = [
     Step::Ends(None, None),
 ];
 
-/// The few calls of a root of this level, which stands over one leaf.
-fn few<N: NodeCalls<u64, LEN> + Drop, const LEN: usize>(
+/// The few calls of a root that stands over one leaf.
+fn few<N: NodeCalls<u64, LEN> + Drop, const LEVEL: usize, const LEN: usize>(
     rt: &impl Abort,
-    tree: &mut Planted<N, LEN>,
-    level: usize,
+    tree: &mut Planted<N, LEVEL, LEN>,
 ) -> Result<(), AllocError> {
-    let internal = level > 1;
+    let internal = LEVEL > 1;
     take(
         rt,
         tree,
-        &[Step::Shape(level, 1, level), Step::Marks(false, internal)],
+        &[Step::Shape(LEVEL, 1, LEVEL), Step::Marks(false, internal)],
     )?;
     take(rt, tree, &FEW)?;
     take(rt, tree, &[Step::Marks(true, internal)])
@@ -55,7 +54,7 @@ fn few<N: NodeCalls<u64, LEN> + Drop, const LEN: usize>(
 /// A leaf node that holds the pair (10, 1).
 fn leaf_node<const LEN: usize>(
     alloc: Global,
-) -> Result<Planted<LeafNodeOf<u64, LEN>, LEN>, AllocError>
+) -> Result<Planted<LeafNodeOf<u64, LEN>, 1, LEN>, AllocError>
     requires { IsLen LEN }
 {
     Planted::new(alloc, 10, 1)
@@ -64,45 +63,45 @@ fn leaf_node<const LEN: usize>(
 /// The root above such a leaf node.
 fn internal_node<const LEN: usize>(
     alloc: Global,
-) -> Result<Planted<InternalNodeOf<u64, LEN>, LEN>, AllocError>
+) -> Result<Planted<InternalNodeOf<u64, LEN>, 2, LEN>, AllocError>
     requires { IsLen LEN }
 {
-    leaf_node(alloc)?.through_node().split_root()
+    split_root(leaf_node(alloc)?.through_node())
 }
 
 #[test]
 fn a_leaf_node_answers(rt: HostRuntime) {
-    twice(&rt, || few(&rt, &mut leaf_node::<15>(rt.alloc())?, 1));
-    twice(&rt, || few(&rt, &mut leaf_node::<7>(rt.alloc())?, 1));
+    twice(&rt, || few(&rt, &mut leaf_node::<15>(rt.alloc())?));
+    twice(&rt, || few(&rt, &mut leaf_node::<7>(rt.alloc())?));
 }
 
 #[test]
 fn an_internal_node_answers(rt: HostRuntime) {
-    twice(&rt, || few(&rt, &mut internal_node::<15>(rt.alloc())?, 2));
-    twice(&rt, || few(&rt, &mut internal_node::<7>(rt.alloc())?, 2));
+    twice(&rt, || few(&rt, &mut internal_node::<15>(rt.alloc())?));
+    twice(&rt, || few(&rt, &mut internal_node::<7>(rt.alloc())?));
 }
 
 #[test]
 fn a_node_of_either_kind_answers(rt: HostRuntime) {
     twice(
         &rt,
-        || few(&rt, &mut leaf_node::<15>(rt.alloc())?.through_node(), 1),
+        || few(&rt, &mut leaf_node::<15>(rt.alloc())?.through_node()),
     );
     twice(
         &rt,
-        || few(&rt, &mut internal_node::<7>(rt.alloc())?.through_node(), 2),
+        || few(&rt, &mut internal_node::<7>(rt.alloc())?.through_node()),
     );
 }
 
 /// What a clean-up leaves of a root that holds the pair (10, 1) alone, or of a retired one.
-fn cleaned<N: NodeCalls<u64, LEN> + Drop, const LEN: usize>(
-    mut tree: Planted<N, LEN>,
+fn cleaned<N: NodeCalls<u64, LEN> + Drop, const LEVEL: usize, const LEN: usize>(
+    mut tree: Planted<N, LEVEL, LEN>,
     retired: bool,
 ) -> (Option<bool>, (usize, usize)) {
     if retired {
-        let _ = tree.remove_if(10, 1);
+        let _ = tree.remove_if(&10, |_| true);
     }
-    tree.through_node().cleanup_root()
+    cleanup_root(tree.through_node())
 }
 
 /// A leaf node stays the root. An internal node gives its place to its child, or is dropped.
@@ -129,27 +128,4 @@ fn clean_up<const LEN: usize>(rt: &impl Abort, alloc: Global) -> Result<(), Allo
 fn a_clean_up_leaves_a_root(rt: HostRuntime) {
     twice(&rt, || clean_up::<15>(&rt, rt.alloc()));
     twice(&rt, || clean_up::<7>(&rt, rt.alloc()));
-}
-
-static REPLANTED: [Step; 4] = [
-    Step::Shape(1, 1, 1),
-    Step::Marks(false, false),
-    Step::Insert(5, 6, Told::Success),
-    Step::Find(5, Some(6)),
-];
-
-/// Retires a root that holds the pair (10, 1) alone, and gives it a leaf again.
-fn replant<N: NodeCalls<u64, LEN> + Drop, const LEN: usize>(
-    rt: &impl Abort,
-    mut tree: Planted<N, LEN>,
-) -> Result<(), AllocError> {
-    take(rt, &mut tree, &[Step::Remove(10, 1, RemoveResult::Retired)])?;
-    let mut tree = tree.through_node().replant()?;
-    take(rt, &mut tree, &REPLANTED)
-}
-
-#[test]
-fn a_retired_root_gets_a_leaf_again(rt: HostRuntime) {
-    twice(&rt, || replant(&rt, leaf_node::<15>(rt.alloc())?));
-    twice(&rt, || replant(&rt, internal_node::<7>(rt.alloc())?));
 }

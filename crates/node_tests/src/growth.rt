@@ -1,7 +1,7 @@
 //! How a tree of ascending keys gains and loses levels: a leaf node takes `LEN + 1` leaves of `LEN` pairs, and a node over
 //! nodes `LEN` children with `LEN` leaves each and one with `LEN + 1`.
 use crate::memory::twice;
-use crate::planted::Planted;
+use crate::planted::{Planted, cleanup_root, split_root};
 use crate::steps::{Step, Told, take};
 use std::alloc::{AllocError, Global};
 use std::process::Abort;
@@ -76,14 +76,14 @@ static SMALL_THIRD: [Step; 9] = [
 /// the third is built anew.
 fn grow<const LEN: usize>(
     rt: &impl Abort,
-    mut tree: Planted<LeafNodeOf<u64, LEN>, LEN>,
+    mut tree: Planted<LeafNodeOf<u64, LEN>, 1, LEN>,
     [first, second, third]: [&[Step]; 3],
-) -> Result<Planted<NodeOf<u64, LEN>, LEN>, AllocError> {
+) -> Result<Planted<NodeOf<u64, LEN>, 3, LEN>, AllocError> {
     take(rt, &mut tree, first)?;
-    let mut tree = tree.through_node().split_root()?;
+    let mut tree = split_root::<1, 2, LEN>(tree.through_node())?;
     take(rt, &mut tree, second)?;
     assert!(rt; !tree.split_last()?);
-    let mut tree = tree.through_node().split_root()?;
+    let mut tree = split_root::<2, 3, LEN>(tree.through_node())?;
     assert!(rt; tree.split_last()?);
     let mut tree = tree.through_node();
     take(rt, &mut tree, third)?;
@@ -91,16 +91,16 @@ fn grow<const LEN: usize>(
 }
 
 fn grow_large(rt: &impl Abort, alloc: Global) -> Result<(), AllocError> {
-    let tree: Planted<LeafNode<u64>, 15> = Planted::new(alloc, 1, 1)?;
+    let tree: Planted<LeafNode<u64>, 1, 15> = Planted::new(alloc, 1, 1)?;
     let tree = grow(rt, tree, [&FIRST, &SECOND, &THIRD])?;
-    assert_eq!(rt; tree.cleanup_root(), (Some(true), (225, 16)));
+    assert_eq!(rt; cleanup_root(tree), (Some(true), (225, 16)));
     Ok(())
 }
 
 fn grow_small(rt: &impl Abort, alloc: Global) -> Result<(), AllocError> {
-    let tree: Planted<LeafNodeOf<u64, 7>, 7> = Planted::new(alloc, 1, 1)?;
+    let tree: Planted<LeafNodeOf<u64, 7>, 1, 7> = Planted::new(alloc, 1, 1)?;
     let tree = grow(rt, tree, [&SMALL_FIRST, &SMALL_SECOND, &SMALL_THIRD])?;
-    assert_eq!(rt; tree.cleanup_root(), (Some(true), (49, 8)));
+    assert_eq!(rt; cleanup_root(tree), (Some(true), (49, 8)));
     Ok(())
 }
 
@@ -131,10 +131,10 @@ static SMALL_DIVIDED: [Step; 4] = [
 /// Fills the one child of a root, and divides it: a new node takes most of its leaves.
 fn divide<const LEN: usize>(
     rt: &impl Abort,
-    tree: Planted<LeafNodeOf<u64, LEN>, LEN>,
+    tree: Planted<LeafNodeOf<u64, LEN>, 1, LEN>,
     [full, divided]: [&[Step]; 2],
 ) -> Result<(), AllocError> {
-    let mut tree = tree.through_node().split_root()?;
+    let mut tree = split_root::<1, 2, LEN>(tree.through_node())?;
     take(rt, &mut tree, full)?;
     assert!(rt; tree.split_last()?);
     take(rt, &mut tree, divided)
@@ -143,11 +143,11 @@ fn divide<const LEN: usize>(
 #[test]
 fn divides_a_full_child(rt: HostRuntime) {
     twice(&rt, || {
-        let tree: Planted<LeafNode<u64>, 15> = Planted::new(rt.alloc(), 1, 1)?;
+        let tree: Planted<LeafNode<u64>, 1, 15> = Planted::new(rt.alloc(), 1, 1)?;
         divide(&rt, tree, [&FULL, &DIVIDED])
     });
     twice(&rt, || {
-        let tree: Planted<LeafNodeOf<u64, 7>, 7> = Planted::new(rt.alloc(), 1, 1)?;
+        let tree: Planted<LeafNodeOf<u64, 7>, 1, 7> = Planted::new(rt.alloc(), 1, 1)?;
         divide(&rt, tree, [&SMALL_FULL, &SMALL_DIVIDED])
     });
 }

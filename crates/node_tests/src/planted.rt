@@ -1,5 +1,7 @@
 //! A tree in arenas of its own, under the number of its root.
-ghost use Rattle.tree_array.specs.Length.{IsLen};
+ghost use Rattle.std.specs.Prelude.{◌≡◌, ◌+◌, ◌<◌, IfOk};
+ghost use Rattle.std.specs.Ordering.{nat_cmp};
+ghost use Rattle.node_tests.specs.Planted.{IsPlanted};
 
 use std::alloc::{AllocError, Global};
 use std::marker::{Model, PhantomData};
@@ -15,14 +17,16 @@ use tree_node::node::{ArenasOf, NodeOf};
 
 /// A tree that is called through the node type `N`. Its root stands at this level, or is retired.
 #[derive(Drop)]
-pub(crate) struct Planted<N: NodeCalls<u64, LEN> + Drop, const LEN: usize> {
+pub(crate) struct Planted<N: NodeCalls<u64, LEN> + Drop, const LEVEL: usize, const LEN: usize> {
     arenas: ArenasOf<u64, u64, LEN>,
     root: NodeId,
-    level: usize,
     calls: PhantomData<N>,
 }
 
-impl<N: NodeCalls<u64, LEN> + Drop, const LEN: usize> Model for Planted<N, LEN> {
+impl<N, const LEVEL: usize, const LEN: usize> Model for Planted<N, LEVEL, LEN>
+where
+    N: NodeCalls<u64, LEN> + Drop,
+{
     ghost use Rattle.std.specs.Prelude.{⊤};
     ghost use Rattle.std.specs.Ordering.{nat_cmp};
     ghost use Rattle.node_tests.specs.Planted.{IsPlanted};
@@ -31,13 +35,21 @@ impl<N: NodeCalls<u64, LEN> + Drop, const LEN: usize> Model for Planted<N, LEN> 
 
     ghost view = { λ _. tt };
 
-    ghost invariant = { λ a. N.StandsAt a.level × IsPlanted nat_cmp a.level a.arenas a.root };
+    ghost invariant = { λ a. N.StandsAt LEVEL × IsPlanted nat_cmp LEVEL a.arenas a.root };
 }
 
-impl<const LEN: usize> Planted<LeafNodeOf<u64, LEN>, LEN> {
+impl<N, const LEVEL: usize, const LEN: usize> Planted<N, LEVEL, LEN>
+where
+    N: NodeCalls<u64, LEN> + Drop,
+{
+    ghost use Rattle.std.specs.Prelude.{◌≡◌};
+    ghost use Rattle.tree_array.specs.Length.{IsLen};
+
     /// A leaf node over one leaf, which holds this pair alone.
     pub(crate) fn new(alloc: Global, key: u64, val: u64) -> Result<Self, AllocError>
-        requires { IsLen LEN }
+        requires len { IsLen LEN }
+        requires level { LEVEL ≡ 1 }
+        requires kind { N.StandsAt LEVEL }
     {
         let mut arenas = ArenasOf::new(alloc);
         let Ok(root) = plant(&mut arenas, None, key, val) else {
@@ -46,13 +58,10 @@ impl<const LEN: usize> Planted<LeafNodeOf<u64, LEN>, LEN> {
         Ok(Planted {
             arenas,
             root,
-            level: 1,
             calls: PhantomData,
         })
     }
-}
 
-impl<N: NodeCalls<u64, LEN> + Drop, const LEN: usize> Planted<N, LEN> {
     pub(crate) fn insert<const UPSERT: bool>(
         &mut self,
         key: u64,
@@ -61,9 +70,14 @@ impl<N: NodeCalls<u64, LEN> + Drop, const LEN: usize> Planted<N, LEN> {
         N::insert::<UPSERT, u64>(&mut self.arenas, self.root, key, val)
     }
 
-    /// Removes the pair at a key if it has this value.
-    pub(crate) fn remove_if(&mut self, key: u64, val: u64) -> RemoveResult {
-        N::remove_if(&mut self.arenas, self.root, &key, |at_key| *at_key == val)
+    pub(crate) fn remove_if<F: FnOnce(&u64) -> bool + Drop>(
+        &mut self,
+        key: &u64,
+        condition: F,
+    ) -> RemoveResult
+        requires { F.IsAlwaysCallable condition }
+    {
+        N::remove_if(&mut self.arenas, self.root, key, condition)
     }
 
     pub(crate) fn search_entry<J: Judge<u64>>(&self, judge: &mut J) -> Option<(&u64, &u64)> {
@@ -104,77 +118,16 @@ impl<N: NodeCalls<u64, LEN> + Drop, const LEN: usize> Planted<N, LEN> {
     }
 
     /// The same tree, called through `Node`.
-    pub(crate) fn through_node(self) -> Planted<NodeOf<u64, LEN>, LEN> {
-        let Planted {
-            arenas,
-            root,
-            level,
-            ..
-        } = self;
+    pub(crate) fn through_node(self) -> Planted<NodeOf<u64, LEN>, LEVEL, LEN> {
+        let Planted { arenas, root, .. } = self;
         Planted {
             arenas,
             root,
-            level,
             calls: PhantomData,
         }
     }
-}
 
-impl<const LEN: usize> Planted<NodeOf<u64, LEN>, LEN> {
-    /// The tree after its root was split. `Err` if memory is refused, or if the root is retired.
-    pub(crate) fn split_root(self) -> Result<Planted<InternalNodeOf<u64, LEN>, LEN>, AllocError> {
-        let Planted {
-            mut arenas,
-            root,
-            level,
-            ..
-        } = self;
-        if NodeOf::is_retired(&arenas, root) {
-            return Err(AllocError);
-        }
-        let root = NodeOf::split_root(&mut arenas, root)?;
-        Ok(Planted {
-            arenas,
-            root,
-            level: level + 1,
-            calls: PhantomData,
-        })
-    }
-
-    /// The leaf node that a retired root becomes by a split. `Err` if memory is refused, or if the root stands.
-    pub(crate) fn replant(self) -> Result<Planted<LeafNodeOf<u64, LEN>, LEN>, AllocError> {
-        let Planted {
-            mut arenas,
-            root,
-            ..
-        } = self;
-        if !NodeOf::is_retired(&arenas, root) {
-            return Err(AllocError);
-        }
-        let root = NodeOf::split_root(&mut arenas, root)?;
-        Ok(Planted {
-            arenas,
-            root,
-            level: 1,
-            calls: PhantomData,
-        })
-    }
-
-    /// Whether another root, the same one or none is left by a clean-up, and how many leaves and nodes.
-    pub(crate) fn cleanup_root(self) -> (Option<bool>, (usize, usize)) {
-        let Planted {
-            mut arenas,
-            root,
-            ..
-        } = self;
-        let left = NodeOf::cleanup_root(&mut arenas, root);
-        let counts = (arenas.leaf_count(), arenas.node_count());
-        (left.map(|id| id != root), counts)
-    }
-}
-
-impl<const LEN: usize> Planted<InternalNodeOf<u64, LEN>, LEN> {
-    /// Makes room in the unbounded child of the root, and says whether it could.
+    /// Makes room in the unbounded child of an internal root, and says whether it could.
     pub(crate) fn split_last(&mut self) -> Result<bool, AllocError> {
         let NodeOf::Internal(node) = self.arenas.node(self.root) else {
             return Ok(false);
@@ -183,5 +136,69 @@ impl<const LEN: usize> Planted<InternalNodeOf<u64, LEN>, LEN> {
             return Ok(false);
         };
         InternalNodeOf::split_node(&mut self.arenas, self.root, last)
+    }
+}
+
+/// Splits a root, and returns the root then. `Err` if memory is refused, or if the root is retired.
+fn raise<N, const LEVEL: usize, const LEN: usize>(
+    arenas: &mut ArenasOf<u64, u64, LEN>,
+    root: NodeId,
+) -> Result<NodeId, AllocError>
+where
+    N: NodeCalls<u64, LEN> + RootCalls<u64, LEN>,
+    requires kind { N.StandsAt LEVEL }
+    requires planted { IsPlanted nat_cmp LEVEL arenas.old root }
+    ensures { IfOk result (λ id. IsPlanted nat_cmp (LEVEL + 1) arenas.new id) }
+{
+    if N::is_retired(arenas, root) {
+        return Err(AllocError);
+    }
+    N::split_root(arenas, root)
+}
+
+/// The tree after its root was split. `Err` if memory is refused, or if the root is retired.
+pub(crate) fn split_root<const LEVEL: usize, const HIGHER: usize, const LEN: usize>(
+    tree: Planted<NodeOf<u64, LEN>, LEVEL, LEN>,
+) -> Result<Planted<InternalNodeOf<u64, LEN>, HIGHER, LEN>, AllocError>
+    requires { HIGHER ≡ LEVEL + 1 }
+{
+    let Planted {
+        mut arenas,
+        root,
+        ..
+    } = tree;
+    let root = raise::<NodeOf<u64, LEN>, LEVEL, LEN>(&mut arenas, root)?;
+    Ok(Planted {
+        arenas,
+        root,
+        calls: PhantomData,
+    })
+}
+
+/// Cleans up at a root, and returns the root then.
+fn lower<N: RootCalls<u64, LEN>, const LEVEL: usize, const LEN: usize>(
+    arenas: &mut ArenasOf<u64, u64, LEN>,
+    root: NodeId,
+) -> Option<NodeId>
+    requires node { 0 < LEVEL }
+    requires planted { IsPlanted nat_cmp LEVEL arenas.old root }
+{
+    N::cleanup_root(arenas, root)
+}
+
+/// Whether another root or the same one is left by a clean-up, if there is one, and how many leaves and nodes.
+pub(crate) fn cleanup_root<const LEVEL: usize, const LEN: usize>(
+    tree: Planted<NodeOf<u64, LEN>, LEVEL, LEN>,
+) -> (Option<bool>, (usize, usize)) {
+    let Planted {
+        mut arenas,
+        root,
+        ..
+    } = tree;
+    let left = lower::<NodeOf<u64, LEN>, LEVEL, LEN>(&mut arenas, root);
+    let counts = (arenas.leaf_count(), arenas.node_count());
+    match left {
+        Some(id) => (Some(id != root), counts),
+        None => (None, counts),
     }
 }

@@ -15,7 +15,8 @@ pub(crate) trait Searched {
     fn search<J: Judge<u64>>(&self, judge: &mut J) -> Found;
 }
 
-impl<N: NodeCalls<u64, LEN> + Drop, const LEN: usize> Searched for Planted<N, LEN> {
+impl<N: NodeCalls<u64, LEN> + Drop, const LEVEL: usize, const LEN: usize> Searched
+    for Planted<N, LEVEL, LEN> {
     fn search<J: Judge<u64>>(&self, judge: &mut J) -> Found {
         let pair = match self.search_entry(judge) {
             Some((key, val)) => Some((*key, *val)),

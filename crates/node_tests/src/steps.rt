@@ -49,9 +49,9 @@ pub(crate) enum Step {
 }
 
 /// Takes the steps in turn.
-pub(crate) fn take<N: NodeCalls<u64, LEN> + Drop, const LEN: usize>(
+pub(crate) fn take<N: NodeCalls<u64, LEN> + Drop, const LEVEL: usize, const LEN: usize>(
     rt: &impl Abort,
-    tree: &mut Planted<N, LEN>,
+    tree: &mut Planted<N, LEVEL, LEN>,
     steps: &[Step],
 ) -> Result<(), AllocError> {
     for step in steps {
@@ -61,16 +61,16 @@ pub(crate) fn take<N: NodeCalls<u64, LEN> + Drop, const LEN: usize>(
 }
 
 /// Whether the tree gives the answer of a step.
-fn answers<N: NodeCalls<u64, LEN> + Drop, const LEN: usize>(
-    tree: &mut Planted<N, LEN>,
+fn answers<N: NodeCalls<u64, LEN> + Drop, const LEVEL: usize, const LEN: usize>(
+    tree: &mut Planted<N, LEVEL, LEN>,
     step: Step,
 ) -> Result<bool, AllocError> {
     match step {
         Step::Fill(first, last) => fill(tree, first, last),
         Step::Clear(first, last) => Ok(clear(tree, first, last)),
-        Step::Insert(key, val, told) => insert::<false, N, LEN>(tree, key, val, told),
-        Step::Upsert(key, val, told) => insert::<true, N, LEN>(tree, key, val, told),
-        Step::Remove(key, val, told) => Ok(tree.remove_if(key, val) == told),
+        Step::Insert(key, val, told) => insert::<false, N, LEVEL, LEN>(tree, key, val, told),
+        Step::Upsert(key, val, told) => insert::<true, N, LEVEL, LEN>(tree, key, val, told),
+        Step::Remove(key, val, told) => Ok(tree.remove_if(&key, |at_key| *at_key == val) == told),
         Step::Find(key, val) => Ok(found(tree, key) == (val.map(|val| (key, val)), val)),
         Step::Ends(first, last) => Ok((tree.first(), tree.last()) == (first, last)),
         Step::Shape(depth, leaves, nodes) => {
@@ -83,8 +83,8 @@ fn answers<N: NodeCalls<u64, LEN> + Drop, const LEN: usize>(
 }
 
 /// Whether an insert answers this. Memory may be refused, and then the pair comes back.
-fn insert<const UPSERT: bool, N: NodeCalls<u64, LEN> + Drop, const LEN: usize>(
-    tree: &mut Planted<N, LEN>,
+fn insert<const UPSERT: bool, N: NodeCalls<u64, LEN> + Drop, const LEVEL: usize, const LEN: usize>(
+    tree: &mut Planted<N, LEVEL, LEN>,
     key: u64,
     val: u64,
     told: Told,
@@ -97,13 +97,13 @@ fn insert<const UPSERT: bool, N: NodeCalls<u64, LEN> + Drop, const LEN: usize>(
 }
 
 /// Whether each key from the first to the last is stored.
-fn fill<N: NodeCalls<u64, LEN> + Drop, const LEN: usize>(
-    tree: &mut Planted<N, LEN>,
+fn fill<N: NodeCalls<u64, LEN> + Drop, const LEVEL: usize, const LEN: usize>(
+    tree: &mut Planted<N, LEVEL, LEN>,
     first: u64,
     last: u64,
 ) -> Result<bool, AllocError> {
     for key in first..=last {
-        if !insert::<false, N, LEN>(tree, key, key, Told::Success)? {
+        if !insert::<false, N, LEVEL, LEN>(tree, key, key, Told::Success)? {
             return Ok(false);
         }
     }
@@ -111,13 +111,13 @@ fn fill<N: NodeCalls<u64, LEN> + Drop, const LEN: usize>(
 }
 
 /// Whether each key from the last to the first is removed, and others are left.
-fn clear<N: NodeCalls<u64, LEN> + Drop, const LEN: usize>(
-    tree: &mut Planted<N, LEN>,
+fn clear<N: NodeCalls<u64, LEN> + Drop, const LEVEL: usize, const LEN: usize>(
+    tree: &mut Planted<N, LEVEL, LEN>,
     first: u64,
     last: u64,
 ) -> bool {
     for key in (first..=last).rev() {
-        if tree.remove_if(key, key) != RemoveResult::Success {
+        if tree.remove_if(&key, |_| true) != RemoveResult::Success {
             return false;
         }
     }
