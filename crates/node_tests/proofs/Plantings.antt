@@ -11,7 +11,8 @@ use Rattle.tree_array.specs.declared.answers.InsertResult.TheVariants.{Full}
 use Rattle.tree_array.specs.declared.answers.RemoveResult.{RemoveResult}
 use Rattle.tree_array.specs.declared.answers.RemoveResult.TheVariants.{Success, Retired, Fail}
 use Rattle.tree_insert.specs.Inserts.{InsertsPlainly}
-use Rattle.tree_insert.specs.Splits.{LacksRoom, RaisesRoot, SplitResult, SplitsChild}
+use Rattle.tree_insert.specs.Roots.{RaisesRoot}
+use Rattle.tree_split.specs.Splits.{LacksRoom, SplitResult, SplitsChild}
 use Rattle.tree_node.specs.declared.internal_node.InternalNodeOf.{InternalNodeOf}
 use Rattle.tree_node.specs.declared.node.NodeOf.{NodeOf}
 use Rattle.tree_node.specs.declared.node.NodeOf.TheVariants.{Internal}

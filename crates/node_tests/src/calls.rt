@@ -1,11 +1,11 @@
 //! Each call on a few pairs.
 ghost use Rattle.tree_array.specs.Length.{IsLen};
 
-use crate::memory::twice;
 use crate::planted::{Planted, cleanup_root, split_root};
 use crate::steps::{Step, Told, take};
 use std::alloc::{AllocError, Global};
 use std::process::Abort;
+use test_support::refusals::succeeds;
 use tree_array::array::RemoveResult;
 use tree_calls::node_calls::NodeCalls;
 use tree_node::internal_node::InternalNodeOf;
@@ -71,26 +71,20 @@ fn internal_node<const LEN: usize>(
 
 #[test]
 fn a_leaf_node_answers(rt: HostRuntime) {
-    twice(&rt, || few(&rt, &mut leaf_node::<15>(rt.alloc())?));
-    twice(&rt, || few(&rt, &mut leaf_node::<7>(rt.alloc())?));
+    assert!(rt; succeeds(|| few(&rt, &mut leaf_node::<15>(rt.alloc())?)));
+    assert!(rt; succeeds(|| few(&rt, &mut leaf_node::<7>(rt.alloc())?)));
 }
 
 #[test]
 fn an_internal_node_answers(rt: HostRuntime) {
-    twice(&rt, || few(&rt, &mut internal_node::<15>(rt.alloc())?));
-    twice(&rt, || few(&rt, &mut internal_node::<7>(rt.alloc())?));
+    assert!(rt; succeeds(|| few(&rt, &mut internal_node::<15>(rt.alloc())?)));
+    assert!(rt; succeeds(|| few(&rt, &mut internal_node::<7>(rt.alloc())?)));
 }
 
 #[test]
 fn a_node_of_either_kind_answers(rt: HostRuntime) {
-    twice(
-        &rt,
-        || few(&rt, &mut leaf_node::<15>(rt.alloc())?.through_node()),
-    );
-    twice(
-        &rt,
-        || few(&rt, &mut internal_node::<7>(rt.alloc())?.through_node()),
-    );
+    assert!(rt; succeeds(|| few(&rt, &mut leaf_node::<15>(rt.alloc())?.through_node())));
+    assert!(rt; succeeds(|| few(&rt, &mut internal_node::<7>(rt.alloc())?.through_node())));
 }
 
 /// What a clean-up leaves of a root that holds the pair (10, 1) alone, or of a retired one.
@@ -126,6 +120,6 @@ fn clean_up<const LEN: usize>(rt: &impl Abort, alloc: Global) -> Result<(), Allo
 
 #[test]
 fn a_clean_up_leaves_a_root(rt: HostRuntime) {
-    twice(&rt, || clean_up::<15>(&rt, rt.alloc()));
-    twice(&rt, || clean_up::<7>(&rt, rt.alloc()));
+    assert!(rt; succeeds(|| clean_up::<15>(&rt, rt.alloc())));
+    assert!(rt; succeeds(|| clean_up::<7>(&rt, rt.alloc())));
 }

@@ -1,10 +1,10 @@
 //! How a tree of ascending keys gains and loses levels: a leaf node takes `LEN + 1` leaves of `LEN` pairs, and a node over
 //! nodes `LEN` children with `LEN` leaves each and one with `LEN + 1`.
-use crate::memory::twice;
 use crate::planted::{Planted, cleanup_root, split_root};
 use crate::steps::{Step, Told, take};
 use std::alloc::{AllocError, Global};
 use std::process::Abort;
+use test_support::refusals::succeeds;
 use tree_node::leaf_node::{LeafNode, LeafNodeOf};
 use tree_node::node::NodeOf;
 
@@ -106,8 +106,8 @@ fn grow_small(rt: &impl Abort, alloc: Global) -> Result<(), AllocError> {
 
 #[test]
 fn grows_to_three_levels(rt: HostRuntime) {
-    twice(&rt, || grow_large(&rt, rt.alloc()));
-    twice(&rt, || grow_small(&rt, rt.alloc()));
+    assert!(rt; succeeds(|| grow_large(&rt, rt.alloc())));
+    assert!(rt; succeeds(|| grow_small(&rt, rt.alloc())));
 }
 
 static FULL: [Step; 2] = [Step::Fill(2, 240), Step::Shape(2, 16, 2)];
@@ -140,14 +140,18 @@ fn divide<const LEN: usize>(
     take(rt, &mut tree, divided)
 }
 
+fn divide_large(rt: &impl Abort, alloc: Global) -> Result<(), AllocError> {
+    let tree: Planted<LeafNode<u64>, 1, 15> = Planted::new(alloc, 1, 1)?;
+    divide(rt, tree, [&FULL, &DIVIDED])
+}
+
+fn divide_small(rt: &impl Abort, alloc: Global) -> Result<(), AllocError> {
+    let tree: Planted<LeafNodeOf<u64, 7>, 1, 7> = Planted::new(alloc, 1, 1)?;
+    divide(rt, tree, [&SMALL_FULL, &SMALL_DIVIDED])
+}
+
 #[test]
 fn divides_a_full_child(rt: HostRuntime) {
-    twice(&rt, || {
-        let tree: Planted<LeafNode<u64>, 1, 15> = Planted::new(rt.alloc(), 1, 1)?;
-        divide(&rt, tree, [&FULL, &DIVIDED])
-    });
-    twice(&rt, || {
-        let tree: Planted<LeafNodeOf<u64, 7>, 1, 7> = Planted::new(rt.alloc(), 1, 1)?;
-        divide(&rt, tree, [&SMALL_FULL, &SMALL_DIVIDED])
-    });
+    assert!(rt; succeeds(|| divide_large(&rt, rt.alloc())));
+    assert!(rt; succeeds(|| divide_small(&rt, rt.alloc())));
 }

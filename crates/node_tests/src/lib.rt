@@ -6,8 +6,6 @@ mod calls;
 #[cfg(test)]
 mod growth;
 #[cfg(test)]
-mod memory;
-#[cfg(test)]
 mod planted;
 #[cfg(test)]
 mod searches;

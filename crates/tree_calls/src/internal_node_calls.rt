@@ -1,16 +1,16 @@
 //! How an internal node makes room in a child node.
 ghost use Rattle.std.specs.Prelude.{◌<◌, IfOk, IsOk, OnErr, ℕ};
-ghost use Rattle.tree_insert.specs.Splits.{SplitResult};
 ghost use Rattle.tree_leaf.specs.Arena.{HasPlaces};
 ghost use Rattle.tree_leaf.specs.Counting.{times};
 ghost use Rattle.tree_node.specs.Parts.{IsPart, Unchanged};
 ghost use Rattle.tree_node.specs.Tree.{children_of};
+ghost use Rattle.tree_split.specs.Splits.{SplitResult};
 
 use std::alloc::AllocError;
-use tree_insert::node_split::split_child;
 use tree_leaf::arena::NodeId;
 use tree_node::internal_node::InternalNodeOf;
 use tree_node::node::ArenasOf;
+use tree_split::node_split::split_child;
 
 /// The calls on the number of an internal node alone.
 pub trait InternalNodeCalls<K: Ord + Drop, const LEN: usize> {

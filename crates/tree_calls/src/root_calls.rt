@@ -1,8 +1,7 @@
 //! How a tree gains and loses levels at its root.
 ghost use Rattle.std.specs.Prelude.{◌≡◌, ◌⊎◌, ◌+◌, ◌^◌, ◌<◌, IfOk, IsOk, MatchOption, None, OnErr, Some, ℕ};
 ghost use Rattle.slab.specs.Slab.{get};
-ghost use Rattle.tree_insert.specs.Roots.{Replants};
-ghost use Rattle.tree_insert.specs.Splits.{RaisesRoot};
+ghost use Rattle.tree_insert.specs.Roots.{RaisesRoot, Replants};
 ghost use Rattle.tree_leaf.specs.Arena.{HasPlaces};
 ghost use Rattle.tree_node.specs.Parts.{IsPart, Unchanged};
 ghost use Rattle.tree_node.specs.Tree.{IsOfLevel, IsRetired};

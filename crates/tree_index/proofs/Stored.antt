@@ -10,11 +10,11 @@ use Rattle.tree_node.specs.Arenas.{TreeArenas}
 use Rattle.tree_insert.specs.Inserts.{Inserts, InsertsUnder, IsNew, asks_split, declined}
 use Rattle.tree_node.specs.Parts.{IsPart, Unchanged}
 use Rattle.tree_node.specs.Shape.{room, spare}
-use Rattle.tree_insert.specs.Splits.{RaisesRoot}
+use Rattle.tree_insert.specs.Roots.{RaisesRoot}
 use Rattle.tree_node.specs.Tree.{IsRetired, IsRetiredNode, Stands, StandsOrRetired, leaves_at}
 use Rattle.tree_node.specs.Whole.{HasOnly, IsRetiredRoot, IsTree, depth_of, leaves_under, walk_under}
 use Rattle.tree_node.proofs.Bare.{no_children}
-use Rattle.tree_insert.proofs.Fulls.{crowded_room}
+use Rattle.tree_insert.proofs.Crowded.{crowded_room}
 use Rattle.tree_node.proofs.Whole.{spare_standing, spare_unchanged, tree_after, tree_part, tree_unchanged, walk_unchanged}
 use Rattle.tree_insert.proofs.RaisedTrees.{tree_raised}
 use Rattle.tree_model.specs.declared.commands.InsertError.{InsertError}

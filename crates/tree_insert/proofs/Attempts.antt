@@ -6,7 +6,7 @@ use Rattle.tree_node.specs.declared.node.NodeOf.{NodeOf}
 use Rattle.tree_node.specs.Arenas.{TreeArenas}
 use Rattle.tree_node.specs.Shape.{IsCrowded, room}
 use Rattle.tree_node.specs.Tree.{HasChildFor, child_of, keyed, unbounded}
-use Rattle.tree_insert.proofs.Fulls.{crowded_room}
+use Rattle.tree_insert.proofs.Crowded.{crowded_room}
 
 abbrev the_child : Option ℕ → ℕ
 the_child None = 0

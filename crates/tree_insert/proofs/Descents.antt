@@ -10,7 +10,7 @@ use Rattle.tree_array.specs.Insertion.{IsStore}
 use Rattle.tree_leaf.specs.declared.leaf.LeafOf.{LeafOf}
 use Rattle.tree_insert.specs.Inserts.{InsertsUnder, asks_split}
 use Rattle.tree_insert.proofs.Inserts.{inserts_in_leaf}
-use Rattle.tree_insert.proofs.LeafRooms.{leaf_used}
+use Rattle.tree_split.proofs.LeafRooms.{leaf_used}
 use Rattle.tree_insert.proofs.Retries.{IsFullBelow, child_part_at, full_below_at, inserts_in_node_at}
 use Rattle.tree_node.specs.declared.leaf_node.LeafNodeOf.{LeafNodeOf}
 use Rattle.tree_node.specs.declared.node.NodeOf.{NodeOf}
@@ -75,7 +75,7 @@ module _ {K V : Type 0} {LEN : ℕ} {cmp : K → K → Ordering} (o : IsTotalOrd
 -- the pair was inserted under the node that the key belongs to
 module _ {K V : Type 0} {LEN : ℕ} {cmp : K → K → Ordering} (o : IsTotalOrder cmp) (upsert : Bool) (level : ℕ) (deep : 0 < level) (a b : TreeArenas K V LEN) (id child : ℕ) (key : K) (val : V)
     (goes : IsUnder cmp level a id child key) where
-  pub below_part : IsPart cmp (level - 1) a child
+  below_part : IsPart cmp (level - 1) a child
   below_part = child_part_at o level deep a id child key goes.part goes.which
 
   module _ (result : Result (StoreResult K V) (K × V)) (inserts : IsPart cmp (level - 1) a child → InsertsUnder cmp upsert (level - 1) a b child result key val) where

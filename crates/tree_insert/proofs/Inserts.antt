@@ -1,5 +1,5 @@
 -- An insert in a leaf, and in the child that a key belongs to.
-use Rattle.std.proofs.Common.{◌≡◌, ℕ, suc, ◌≤◌, Bool, true, false, cond, List, [], ◌∷◌, ◌++◌, length, length-append, Option, Some, None, Result, Ok, Err, refl, sym, ap, ◌∙◌, arith, inl, inr}
+use Rattle.std.proofs.Common.{◌≡◌, ℕ, suc, ◌≤◌, Bool, false, List, [], ◌∷◌, ◌++◌, length, length-append, Option, Some, None, Result, Ok, Err, refl, sym, ap, ◌∙◌, arith, inl, inr}
 use Rattle.std.specs.List.{AllByRecursion}
 use Rattle.std.specs.declared.cmp.Ordering.{Ordering}
 use Rattle.std.specs.declared.cmp.Ordering.TheVariants.{Less}
@@ -25,6 +25,7 @@ use Rattle.tree_node.proofs.ChildChanges.{node_stands, node_replaces, old_spare,
 use Rattle.tree_node.proofs.Children.{walk-leaf}
 use Rattle.tree_node.proofs.LeafWrites.{with_array, here_now, array_replaces, updated}
 use Rattle.tree_node.proofs.Walks.{front_walk_below, back_walk_above}
+use Rattle.tree_split.proofs.Fulls.{none_free}
 
 module _ {K V : Type 0} {LEN : ℕ} {cmp : K → K → Ordering} (o : IsTotalOrder cmp) (upsert : Bool) (a : TreeArenas K V LEN) (id : ℕ) (leaf : LeafOf K V LEN) (array : Arrivals K V) (key : K) (val : V) (was : get a.leaves id ≡ Some leaf) where
   abbrev new : TreeArenas K V LEN
@@ -62,12 +63,7 @@ module _ {K V : Type 0} {LEN : ℕ} {cmp : K → K → Ordering} (o : IsTotalOrd
   as_spare same = rw (room_was, room_is, same) (omega arith)
 
   no_room : IsFull LEN leaf.array → slot_free {V = V} {LEN = LEN} (Some leaf) ≡ 0
-  no_room (inl none) = rw none (by_mark leaf.array.retired)
-    where
-      by_mark : (b : Bool) → cond {A = ℕ} b 0 0 ≡ 0
-      by_mark true = refl
-      by_mark false = refl
-  no_room (inr retired) = rw retired refl
+  no_room full = none_free LEN leaf.array full
 
   all_put : (P : K × V → Type 0) (pairs : List (K × V)) → P (key, val) → AllByRecursion P pairs → AllByRecursion P (put cmp pairs key val)
   all_put P pairs here all = all-append P _ _ (all-filter P _ pairs all) (here, all-filter P _ pairs all)

@@ -1,16 +1,9 @@
-pub mod Attempts
-pub mod Descents
+mod Attempts
+pub mod Crowded
+mod Descents
 mod FirstPairs
-pub mod Fulls
-pub mod Inserts
-pub mod LeafRooms
-pub mod LeafSplits
-pub mod NodeRooms
-pub mod NodeSplits
+mod Inserts
 pub mod RaisedTrees
-pub mod Raises
-pub mod Rebuilds
-pub mod Replants
-pub mod Results
-pub mod Retries
-mod Variants
+mod Raises
+mod Replants
+mod Retries

@@ -6,7 +6,7 @@ use Rattle.tree_leaf.specs.Chain.{IsChain}
 use Rattle.tree_node.specs.Arenas.{TreeArenas}
 use Rattle.tree_node.specs.Tree.{leaves_at}
 use Rattle.tree_node.specs.Whole.{IsTree}
-use Rattle.tree_insert.specs.Splits.{RaisesRoot}
+use Rattle.tree_insert.specs.Roots.{RaisesRoot}
 
 module _ {K V : Type 0} {LEN : ℕ} {cmp : K → K → Ordering} where
   -- it is a whole tree with one level more

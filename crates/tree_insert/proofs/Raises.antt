@@ -15,7 +15,8 @@ use Rattle.tree_node.specs.declared.node.NodeOf.TheVariants.{Internal}
 use Rattle.tree_node.specs.Arenas.{TreeArenas}
 use Rattle.tree_node.specs.Parts.{IsPart, Unchanged}
 use Rattle.tree_node.specs.Shape.{room}
-use Rattle.tree_insert.specs.Splits.{RaisesRoot, SplitsChild}
+use Rattle.tree_insert.specs.Roots.{RaisesRoot}
+use Rattle.tree_split.specs.Splits.{SplitsChild}
 use Rattle.tree_node.specs.Tree.{Stands, walk, leaves_at, nodes_at, children_of}
 use Rattle.tree_node.proofs.Frames.{Agrees, head_here, same_leaves, same_nodes, same_walk, same_stands}
 use Rattle.tree_node.proofs.Lifts.{single_leaves, single_nodes}
@@ -76,7 +77,7 @@ module _ {K V : Type 0} {LEN : ℕ} {cmp : K → K → Ordering} (level : ℕ) (
     parted = rw keyed_none (same_stands cmp (suc level) old mid root agrees None None part.stands);
   }
 
-  pub top_part : IsPart cmp (suc (suc level)) mid id
+  top_part : IsPart cmp (suc (suc level)) mid id
   top_part = record {
     stands = top_stands;
     nodes_once = λ n. rw (top_nodes, times-cons n id) (omega (arith, uses_now n, part.nodes_once n));
@@ -85,18 +86,18 @@ module _ {K V : Type 0} {LEN : ℕ} {cmp : K → K → Ordering} (level : ℕ) (
     chain = rw top_leaves (chain_same old.leaves mid.leaves leaves_stay _ part.chain);
   }
 
-  pub root_inside : 0 < times root (children_of mid.nodes id)
+  root_inside : 0 < times root (children_of mid.nodes id)
   root_inside = rw top_children (head_here root [])
 
   -- the new root has room for a separator
-  pub top_room : IsLen LEN → 6 < room (suc (suc level)) mid id
+  top_room : IsLen LEN → 6 < room (suc (suc level)) mid id
   top_room is_len = rw (gains.updates.changed, last, keyed_none) (by_len is_len)
     where
       by_len : IsLen LEN → 6 < LEN - 0
       by_len (inl seven) = omega (arith, seven)
       by_len (inr fifteen) = omega (arith, fifteen)
 
-  pub raises : IsLen LEN → (new : TreeArenas K V LEN) → SplitsChild cmp (suc (suc level)) mid new id root → RaisesRoot cmp (suc level) old new root id
+  raises : IsLen LEN → (new : TreeArenas K V LEN) → SplitsChild cmp (suc (suc level)) mid new id root → RaisesRoot cmp (suc level) old new root id
   raises is_len new split = record {
     pairs = split.pairs ∙ top_walk;
     stands = split.keeps None None top_stands;
@@ -152,13 +153,3 @@ module _ {K V : Type 0} {LEN : ℕ} {cmp : K → K → Ordering} where
       → top.children ≡ in_order [] → top.unbounded_child ≡ Some root → IsLen LEN → (new : TreeArenas K V LEN) → SplitsChild cmp (depth + 1) mid new id root → RaisesRoot cmp depth old new root id
   raises_at zero deep old reserved mid root id top part keeps gains leaves keyed_none last is_len new split = absurd (omega (arith, deep))
   raises_at (suc level) deep old reserved mid root id top part keeps gains leaves keyed_none last is_len new split = raises level old reserved mid root id top part keeps gains leaves keyed_none last is_len new (rw add-one at split)
-
--- the part under the new root is one, so that a pair is inserted there next
-pub raised_part : {K V : Type 0} {LEN : ℕ} {cmp : K → K → Ordering} (depth : ℕ) (old new : TreeArenas K V LEN) (root id : ℕ) → IsPart cmp depth old root → RaisesRoot cmp depth old new root id → IsPart cmp (suc depth) new id
-raised_part depth old new root id part raised = record {
-  stands = raised.stands;
-  nodes_once = λ n. omega (arith, part.nodes_once n, raised.nodes_counted n);
-  front = part.front;
-  back = part.back;
-  chain = raised.chained part.front part.back part.chain;
-}

@@ -10,11 +10,11 @@ use Rattle.tree_node.specs.Arenas.{TreeArenas}
 use Rattle.tree_insert.specs.Inserts.{Inserts, InsertsUnder, IsNew, asks_split, declined}
 use Rattle.tree_node.specs.Parts.{IsPart, Unchanged}
 use Rattle.tree_node.specs.Shape.{IsCrowded, room, spare}
-use Rattle.tree_insert.specs.Splits.{HasMadeRoom, LacksRoom, SplitsChild}
+use Rattle.tree_split.specs.Splits.{HasMadeRoom, LacksRoom, SplitsChild}
 use Rattle.tree_node.specs.Tree.{HasChildFor, Stands, walk}
 use Rattle.tree_node.proofs.ChildChanges.{child_part, new_walk, old_spare, old_walk}
 use Rattle.tree_node.proofs.Frames.{same_stands, same_walk}
-use Rattle.tree_insert.proofs.Fulls.{crowded_above, crowded_room}
+use Rattle.tree_insert.proofs.Crowded.{crowded_above, crowded_room}
 use Rattle.tree_insert.proofs.Attempts.{attempts, not_crowded, one_attempt, two_attempts}
 use Rattle.tree_insert.proofs.Inserts.{inserted_between, inserts_in_node}
 use Rattle.tree_node.proofs.NodeKinds.{some_child}

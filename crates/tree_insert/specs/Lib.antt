@@ -1,3 +1,2 @@
 pub mod Inserts
 pub mod Roots
-pub mod Splits

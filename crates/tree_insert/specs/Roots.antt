@@ -1,11 +1,26 @@
--- What a retired root becomes that gets a leaf again.
-use Rattle.std.specs.Prelude.{◌≡◌, ◌≢◌, ℕ, [], ◌∷◌, None}
+-- How a tree grows at its root: a full root comes under a new one, and a retired one gets a leaf again.
+use Rattle.std.specs.Prelude.{◌≡◌, ◌≢◌, ℕ, suc, ◌+◌, ◌<◌, List, [], ◌∷◌, ◌++◌, None, IsSome}
 use Rattle.std.specs.declared.cmp.Ordering.{Ordering}
 use Rattle.slab.specs.Slab.{get}
-use Rattle.tree_leaf.specs.Chain.{IsChain}
+use Rattle.tree_leaf.specs.Chain.{IsChain, SameArray}
+use Rattle.tree_leaf.specs.Counting.{times, uses}
 use Rattle.tree_node.specs.Arenas.{TreeArenas}
-use Rattle.tree_node.specs.Tree.{Stands, leaves_at, walk}
-use Rattle.tree_node.specs.Shape.{spare}
+use Rattle.tree_node.specs.Shape.{room, spare}
+use Rattle.tree_node.specs.Tree.{HasChildFor, Stands, leaves_at, nodes_at, walk}
+
+-- The part under the root stands under a new root, one level higher. The new root and each key's child have room, so that the next insert asks for no split.
+pub record RaisesRoot {K V : Type 0} {LEN : ℕ} (cmp : K → K → Ordering) (depth : ℕ) (old new : TreeArenas K V LEN) (root id : ℕ) : Type 0 where
+  pub pairs : walk (suc depth) new id ≡ walk depth old root
+  pub stands : Stands cmp (suc depth) new None id None
+  -- what stands outside the part stays
+  pub nodes_kept : (n : ℕ) → IsSome (get old.nodes n) → times n (nodes_at depth old.nodes root) ≡ 0 → get new.nodes n ≡ get old.nodes n
+  pub leaves_kept : (n : ℕ) → IsSome (get old.leaves n) → times n (leaves_at depth old.nodes root) ≡ 0 → SameArray (get old.leaves n) (get new.leaves n)
+  -- a number is taken where the part gains it
+  pub nodes_counted : (n : ℕ) → uses new.nodes n + times n (nodes_at depth old.nodes root) ≡ uses old.nodes n + times n (nodes_at (suc depth) new.nodes id)
+  pub leaves_counted : (n : ℕ) → uses new.leaves n + times n (leaves_at depth old.nodes root) ≡ uses old.leaves n + times n (leaves_at (suc depth) new.nodes id)
+  pub chained : (front back : List ℕ) → IsChain old.leaves (front ++ (leaves_at depth old.nodes root ++ back)) → IsChain new.leaves (front ++ (leaves_at (suc depth) new.nodes id ++ back))
+  pub roomy : 0 < room (suc depth) new id
+  pub routed : (key : K) (child : ℕ) → HasChildFor cmp key (get new.nodes id) child → 0 < room depth new child
 
 -- A leaf node stands under the number, over an empty leaf that nothing else is linked to.
 pub record Replants {K V : Type 0} {LEN : ℕ} (cmp : K → K → Ordering) (old new : TreeArenas K V LEN) (root : ℕ) : Type 0 where

@@ -5,12 +5,12 @@ ghost use Rattle.tree_insert.specs.Inserts.{InsertsUnder};
 ghost use Rattle.tree_node.specs.Parts.{IsPart, Unchanged};
 ghost use Rattle.tree_node.specs.Tree.{IsRetired};
 
-use crate::leaf_split::make_room;
-use crate::node_split::split_child;
 use tree_array::array::{IndexKey, StoreResult};
 use tree_leaf::arena::NodeId;
 use tree_node::node::{ArenasOf, NodeOf};
 use tree_node::routing::child_place_for;
+use tree_split::leaf_split::make_room;
+use tree_split::node_split::split_child;
 
 /// Inserts a pair under the number of a node of this level. With `UPSERT` it replaces a pair with an equal key.
 ///

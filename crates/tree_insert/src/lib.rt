@@ -1,9 +1,6 @@
-//! Inserts under the number of a node, with the splits that make room, and how a tree grows.
+//! Inserts under the number of a node, and how a tree grows at its root.
 #![tactic(auto)]
 
 pub mod insertion;
-mod keyed_children;
-mod leaf_split;
-pub mod node_split;
 pub mod planting;
 pub mod root;

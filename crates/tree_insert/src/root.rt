@@ -1,19 +1,18 @@
 //! Growth at the root: a level above a full root, or a new leaf under a retired one.
-ghost use Rattle.std.specs.Prelude.{◌≡◌, ◌⊎◌, ◌+◌, ◌^◌, ◌<◌, ◌≤◌, IfOk, IsOk, OnErr};
+ghost use Rattle.std.specs.Prelude.{◌≡◌, ◌⊎◌, ◌+◌, ◌^◌, ◌<◌, IfOk, IsOk, OnErr};
 ghost use Rattle.tree_array.specs.Length.{IsLen};
 ghost use Rattle.tree_leaf.specs.Arena.{HasPlaces};
 ghost use Rattle.tree_node.specs.Parts.{IsPart, Unchanged};
 ghost use Rattle.tree_node.specs.Tree.{IsRetired};
-ghost use Rattle.tree_insert.specs.Roots.{Replants};
-ghost use Rattle.tree_insert.specs.Splits.{RaisesRoot};
+ghost use Rattle.tree_insert.specs.Roots.{RaisesRoot, Replants};
 
-use crate::node_split::split_child;
 use std::alloc::AllocError;
 use tree_leaf::arena::NodeId;
 use tree_leaf::leaf::LeafOf;
 use tree_node::internal_node::InternalNodeOf;
 use tree_node::leaf_node::LeafNodeOf;
 use tree_node::node::{ArenasOf, NodeOf, slots_left};
+use tree_split::node_split::split_child;
 
 /// Makes room at a root, and returns the number of the root that stands then: the next insert under it finds room.
 ///

@@ -16,19 +16,24 @@ pub struct Compared {
 }
 
 impl Compared {
-    pub fn new(alloc: Global) -> Self {
+    pub(crate) fn new(alloc: Global) -> Self {
         Compared {
             index: TreeIndex::new(alloc),
             plain: PlainIndex::new(alloc),
         }
     }
 
-    pub fn index(&self) -> &TreeIndex<u64, u64> {
+    pub(crate) fn index(&self) -> &TreeIndex<u64, u64> {
         &self.index
     }
 
     /// Inserts a pair, and says whether its key was absent.
-    pub fn insert(&mut self, rt: &impl Abort, key: u64, value: u64) -> Result<bool, AllocError> {
+    pub(crate) fn insert(
+        &mut self,
+        rt: &impl Abort,
+        key: u64,
+        value: u64,
+    ) -> Result<bool, AllocError> {
         let answer = self.index.insert_sync(key, value);
         if let Err(InsertError::OutOfMemory(k, v)) = answer {
             assert_eq!(rt; (k, v), (key, value));
@@ -55,7 +60,12 @@ impl Compared {
     }
 
     /// Stores a pair, in place of one whose key equals its own.
-    pub fn upsert(&mut self, rt: &impl Abort, key: u64, value: u64) -> Result<(), AllocError> {
+    pub(crate) fn upsert(
+        &mut self,
+        rt: &impl Abort,
+        key: u64,
+        value: u64,
+    ) -> Result<(), AllocError> {
         if let Err(back) = self.index.upsert_sync(key, value) {
             assert_eq!(rt; back, (key, value));
             self.compare(rt);
@@ -68,7 +78,7 @@ impl Compared {
     }
 
     /// Removes the pair at a key, and says whether there was one.
-    pub fn remove(&mut self, rt: &impl Abort, key: u64) -> bool {
+    pub(crate) fn remove(&mut self, rt: &impl Abort, key: u64) -> bool {
         let removed = self.index.remove_sync(&key);
         assert_eq!(rt; removed, self.plain.remove(&key));
         removed
@@ -76,7 +86,7 @@ impl Compared {
 
     /// Removes the pair at a key if it has this value. The condition is asked once of a key that is present, and
     /// never of an absent one.
-    pub fn remove_if(&mut self, rt: &impl Abort, key: u64, value: u64) {
+    pub(crate) fn remove_if(&mut self, rt: &impl Abort, key: u64, value: u64) {
         let stored = self.plain.peek(&key).copied();
         let mut asked = 0u64;
         let removed = self.index.remove_if_sync(&key, |at_key| {
@@ -91,7 +101,7 @@ impl Compared {
     }
 
     /// Compares what look-ups find at a key.
-    pub fn look_up(&self, rt: &impl Abort, key: u64) {
+    pub(crate) fn look_up(&self, rt: &impl Abort, key: u64) {
         let wanted = self.plain.peek(&key).copied();
         assert_eq!(rt; self.index.peek(&key).copied(), wanted);
         assert_eq!(rt; self.index.contains(&key), wanted.is_some());
@@ -102,13 +112,13 @@ impl Compared {
     }
 
     /// Compares all pairs, and walks the tree.
-    pub fn compare(&self, rt: &impl Abort) {
+    pub(crate) fn compare(&self, rt: &impl Abort) {
         compare(rt, &self.index, self.plain.pairs());
     }
 }
 
 /// Walks the tree of an index, which has these pairs.
-pub fn compare(rt: &impl Abort, index: &TreeIndex<u64, u64>, pairs: &[(u64, u64)]) {
+pub(crate) fn compare(rt: &impl Abort, index: &TreeIndex<u64, u64>, pairs: &[(u64, u64)]) {
     assert_eq!(rt; index.len(), pairs.len());
     assert_eq!(rt; index.is_empty(), pairs.is_empty());
     let (arenas, root) = index.parts();

@@ -1,8 +1,8 @@
 //! The history that a state keeps of its calls.
 use crate::compared::compare;
-use crate::refusals::with_memory;
-use std::alloc::AllocError;
+use std::alloc::{AllocError, Global};
 use std::process::Abort;
+use test_support::refusals::succeeds;
 use tree_index::{Command, IndexKey, InsertError, Reply, SameClone, State};
 
 /// What a command is answered. A refusal leaves the history as long as it was.
@@ -21,56 +21,76 @@ fn applied<K: IndexKey + SameClone, V: SameClone>(
     }
 }
 
+/// A command is answered with this reply.
+fn expect_reply(
+    rt: &impl Abort,
+    state: &mut State<u64, u64>,
+    command: Command<u64, u64>,
+    wanted: Reply<u64>,
+) -> Result<(), AllocError> {
+    let reply = applied(rt, state, command)?;
+    assert!(rt; reply == wanted);
+    Ok(())
+}
+
+/// The history has this command and this reply at a place.
+fn expect_record(
+    rt: &impl Abort,
+    state: &State<u64, u64>,
+    place: usize,
+    command: Command<u64, u64>,
+    reply: Reply<u64>,
+) {
+    let Some(record) = state.history().get(place) else {
+        panic!(rt; "no record")
+    };
+    assert!(rt; record.command == command && record.reply == reply);
+}
+
+fn keeps_its_calls_steps(rt: &impl Abort, alloc: Global) -> Result<(), AllocError> {
+    let mut state = State::new(alloc);
+    expect_reply(rt, &mut state, Command::Insert(1, 10), Reply::Stored)?;
+    expect_reply(rt, &mut state, Command::Insert(1, 11), Reply::Duplicate)?;
+    expect_reply(rt, &mut state, Command::Peek(1), Reply::Found(Some(10)))?;
+    expect_reply(rt, &mut state, Command::Peek(2), Reply::Found(None))?;
+    compare(rt, state.index(), &[(1, 10)]);
+    assert_eq!(rt; state.history().len(), 4);
+    expect_record(rt, &state, 1, Command::Insert(1, 11), Reply::Duplicate);
+    expect_record(rt, &state, 2, Command::Peek(1), Reply::Found(Some(10)));
+    Ok(())
+}
+
 #[test]
 fn keeps_its_calls(rt: HostRuntime) {
-    with_memory(&rt, || {
-        let mut state: State<u64, u64> = State::new(rt.alloc());
-        for (command, wanted) in [
-            (Command::Insert(1, 10), Reply::Stored),
-            (Command::Insert(1, 11), Reply::Duplicate),
-            (Command::Peek(1), Reply::Found(Some(10))),
-            (Command::Peek(2), Reply::Found(None)),
-        ] {
-            let reply = applied(&rt, &mut state, command)?;
-            assert!(rt; reply == wanted);
-        }
-        compare(&rt, state.index(), &[(1, 10)]);
-        let history = state.history();
-        assert_eq!(rt; history.len(), 4);
-        assert!(rt; history[1].command == Command::Insert(1, 11));
-        assert!(rt; history[1].reply == Reply::Duplicate);
-        assert!(rt; history[2].command == Command::Peek(1));
-        assert!(rt; history[2].reply == Reply::Found(Some(10)));
-        Ok(())
-    });
+    assert!(rt; succeeds(|| keeps_its_calls_steps(&rt, rt.alloc())));
+}
+
+/// Stores a pair and removes it, and then stores two more at its key.
+fn edit(rt: &impl Abort, state: &mut State<u64, u64>, key: u64) -> Result<(), AllocError> {
+    expect_reply(rt, state, Command::Upsert(key, 1), Reply::Stored)?;
+    expect_reply(rt, state, Command::Remove(key), Reply::Removed(true))?;
+    expect_reply(rt, state, Command::Remove(key), Reply::Removed(false))?;
+    expect_reply(rt, state, Command::Upsert(key, 2), Reply::Stored)?;
+    expect_reply(rt, state, Command::Upsert(key, 3), Reply::Stored)?;
+    assert_eq!(rt; state.index().peek(&key).copied(), Some(3));
+    Ok(())
+}
+
+fn keeps_edits_steps(rt: &impl Abort, alloc: Global) -> Result<(), AllocError> {
+    let mut state = State::new(alloc);
+    for key in 0..6 {
+        edit(rt, &mut state, key)?;
+    }
+    assert_eq!(rt; state.history().len(), 30);
+    expect_record(rt, &state, 4, Command::Upsert(0, 3), Reply::Stored);
+    expect_record(rt, &state, 6, Command::Remove(1), Reply::Removed(true));
+    expect_record(rt, &state, 7, Command::Remove(1), Reply::Removed(false));
+    Ok(())
 }
 
 #[test]
 fn keeps_edits(rt: HostRuntime) {
-    with_memory(&rt, || {
-        let mut state = State::new(rt.alloc());
-        for key in 0..6 {
-            for (command, wanted) in [
-                (Command::Upsert(key, 1), Reply::Stored),
-                (Command::Remove(key), Reply::Removed(true)),
-                (Command::Remove(key), Reply::Removed(false)),
-                (Command::Upsert(key, 2), Reply::Stored),
-                (Command::Upsert(key, 3), Reply::Stored),
-            ] {
-                let reply = applied(&rt, &mut state, command)?;
-                assert!(rt; reply == wanted);
-            }
-            assert_eq!(rt; state.index().peek(&key).copied(), Some(3));
-        }
-        let history = state.history();
-        assert_eq!(rt; history.len(), 30);
-        assert!(rt; history[4].command == Command::Upsert(0, 3));
-        assert!(rt; history[4].reply == Reply::Stored);
-        assert!(rt; history[6].command == Command::Remove(1));
-        assert!(rt; history[6].reply == Reply::Removed(true));
-        assert!(rt; history[7].reply == Reply::Removed(false));
-        Ok(())
-    });
+    assert!(rt; succeeds(|| keeps_edits_steps(&rt, rt.alloc())));
 }
 
 /// The larger of two keys is inserted first, both are found, and the history has a clone of each.
@@ -91,52 +111,87 @@ fn expect_answers<K: IndexKey + SameClone>(
     Ok(())
 }
 
-#[test]
-fn takes_keys_of_each_type(rt: HostRuntime) {
-    with_memory(&rt, || {
-        let alloc = rt.alloc();
-        expect_answers(&rt, &mut State::new(alloc), 1u8, u8::MAX)?;
-        expect_answers(&rt, &mut State::new(alloc), 1u16, u16::MAX)?;
-        expect_answers(&rt, &mut State::new(alloc), 1u32, u32::MAX)?;
-        expect_answers(&rt, &mut State::new(alloc), 1u64, u64::MAX)?;
-        expect_answers(&rt, &mut State::new(alloc), 1u128, u128::MAX)?;
-        expect_answers(&rt, &mut State::new(alloc), 1usize, usize::MAX)?;
-        expect_answers(&rt, &mut State::new(alloc), 'a', 'é')?;
-        expect_answers(&rt, &mut State::new(alloc), false, true)
-    });
+fn takes_small_keys(rt: &impl Abort, alloc: Global) -> Result<(), AllocError> {
+    expect_answers(rt, &mut State::new(alloc), 1u8, u8::MAX)?;
+    expect_answers(rt, &mut State::new(alloc), 1u16, u16::MAX)?;
+    expect_answers(rt, &mut State::new(alloc), i8::MIN, 1i8)?;
+    expect_answers(rt, &mut State::new(alloc), i16::MIN, 1i16)?;
+    expect_answers(rt, &mut State::new(alloc), 'a', 'é')?;
+    expect_answers(rt, &mut State::new(alloc), false, true)
+}
+
+fn takes_numbers(rt: &impl Abort, alloc: Global) -> Result<(), AllocError> {
+    expect_answers(rt, &mut State::new(alloc), 1u32, u32::MAX)?;
+    expect_answers(rt, &mut State::new(alloc), 1u64, u64::MAX)?;
+    expect_answers(rt, &mut State::new(alloc), 1u128, u128::MAX)?;
+    expect_answers(rt, &mut State::new(alloc), 1usize, usize::MAX)
+}
+
+fn takes_signed_numbers(rt: &impl Abort, alloc: Global) -> Result<(), AllocError> {
+    expect_answers(rt, &mut State::new(alloc), i32::MIN, 1i32)?;
+    expect_answers(rt, &mut State::new(alloc), i64::MIN, 1i64)?;
+    expect_answers(rt, &mut State::new(alloc), i128::MIN, 1i128)?;
+    expect_answers(rt, &mut State::new(alloc), isize::MIN, 1isize)
+}
+
+fn takes_texts(rt: &impl Abort, alloc: Global) -> Result<(), AllocError> {
+    let low = String::from_str(alloc, "a")?;
+    let high = String::from_str(alloc, "ab")?;
+    expect_answers(rt, &mut State::new(alloc), low, high)
 }
 
 #[test]
-fn takes_signed_keys_and_texts(rt: HostRuntime) {
-    with_memory(&rt, || {
-        let alloc = rt.alloc();
-        expect_answers(&rt, &mut State::new(alloc), i8::MIN, 1i8)?;
-        expect_answers(&rt, &mut State::new(alloc), i16::MIN, 1i16)?;
-        expect_answers(&rt, &mut State::new(alloc), i32::MIN, 1i32)?;
-        expect_answers(&rt, &mut State::new(alloc), i64::MIN, 1i64)?;
-        expect_answers(&rt, &mut State::new(alloc), i128::MIN, 1i128)?;
-        expect_answers(&rt, &mut State::new(alloc), isize::MIN, 1isize)?;
-        let low = String::from_str(alloc, "a")?;
-        let high = String::from_str(alloc, "ab")?;
-        expect_answers(&rt, &mut State::new(alloc), low, high)
-    });
+fn takes_keys_of_each_type(rt: HostRuntime) {
+    assert!(rt; succeeds(|| takes_small_keys(&rt, rt.alloc())));
+    assert!(rt; succeeds(|| takes_numbers(&rt, rt.alloc())));
+    assert!(rt; succeeds(|| takes_signed_numbers(&rt, rt.alloc())));
+    assert!(rt; succeeds(|| takes_texts(&rt, rt.alloc())));
+}
+
+/// What a command asks for.
+#[derive(Clone, Copy)]
+enum Kind {
+    Insert,
+    Upsert,
+    Remove,
+    Peek,
+}
+
+/// The command of a kind, over a pair or its key.
+fn command_of(kind: Kind, (key, value): (u64, u64)) -> Command<u64, u64> {
+    match kind {
+        Kind::Insert => Command::Insert(key, value),
+        Kind::Upsert => Command::Upsert(key, value),
+        Kind::Remove => Command::Remove(key),
+        Kind::Peek => Command::Peek(key),
+    }
 }
 
 /// A command that is refused comes back, index and history stay, and the same command again is answered.
-fn apply_twice<F: Fn() -> Command<u64, u64> + Drop>(
+fn apply_twice(
     rt: &impl Abort,
     state: &mut State<u64, u64>,
     pairs: &[(u64, u64)],
-    command: F,
-)
-    requires { F.IsAlwaysCallable command }
-{
+    (kind, pair): (Kind, (u64, u64)),
+) {
     let calls = state.history().len();
-    if let Err(back) = state.apply(command()) {
-        assert!(rt; back == command());
+    if let Err(back) = state.apply(command_of(kind, pair)) {
+        assert!(rt; back == command_of(kind, pair));
         assert_eq!(rt; state.history().len(), calls);
         compare(rt, state.index(), pairs);
-        assert!(rt; state.apply(command()).is_ok());
+        assert!(rt; state.apply(command_of(kind, pair)).is_ok());
+    }
+    assert_eq!(rt; state.history().len().checked_sub(1), Some(calls));
+}
+
+/// A pair that is refused comes back, index and history stay, and the same insert again is answered.
+fn insert_twice(rt: &impl Abort, state: &mut State<u64, u64>, (key, value): (u64, u64)) {
+    let calls = state.history().len();
+    if let Err(refused) = state.insert(key, value) {
+        assert!(rt; refused == InsertError::OutOfMemory(key, value));
+        assert_eq!(rt; state.history().len(), calls);
+        compare(rt, state.index(), &[]);
+        assert!(rt; state.insert(key, value).is_ok());
     }
     assert_eq!(rt; state.history().len().checked_sub(1), Some(calls));
 }
@@ -146,19 +201,12 @@ fn hands_back_what_is_refused(rt: HostRuntime) {
     let mut state: State<u64, u64> = State::new(rt.alloc());
     for key in 0..20 {
         let pair = (key, key + 100);
-        let calls = state.history().len();
-        if let Err(refused) = state.insert(pair.0, pair.1) {
-            assert!(rt; refused == InsertError::OutOfMemory(pair.0, pair.1));
-            assert_eq!(rt; state.history().len(), calls);
-            compare(&rt, state.index(), &[]);
-            assert!(rt; state.insert(pair.0, pair.1).is_ok());
+        insert_twice(&rt, &mut state, pair);
+        for kind in [Kind::Insert, Kind::Peek, Kind::Remove] {
+            apply_twice(&rt, &mut state, &[pair], (kind, pair));
         }
-        assert_eq!(rt; state.history().len().checked_sub(1), Some(calls));
-        apply_twice(&rt, &mut state, &[pair], || Command::Insert(pair.0, 0));
-        apply_twice(&rt, &mut state, &[pair], || Command::Peek(pair.0));
-        apply_twice(&rt, &mut state, &[pair], || Command::Remove(pair.0));
-        apply_twice(&rt, &mut state, &[], || Command::Upsert(pair.0, pair.1));
+        apply_twice(&rt, &mut state, &[], (Kind::Upsert, pair));
         compare(&rt, state.index(), &[pair]);
-        apply_twice(&rt, &mut state, &[pair], || Command::Remove(pair.0));
+        apply_twice(&rt, &mut state, &[pair], (Kind::Remove, pair));
     }
 }

@@ -1,112 +1,140 @@
 //! Worked calls of the index.
 use crate::compared::Compared;
 use crate::keys::Tagged;
-use crate::refusals::with_memory;
-use std::alloc::AllocError;
+use std::alloc::{AllocError, Global};
+use std::process::Abort;
+use test_support::refusals::succeeds;
 use tree_index::{InsertError, TreeIndex};
+
+fn keeps_the_first_of_two_pairs_steps(rt: &impl Abort, alloc: Global) -> Result<(), AllocError> {
+    let mut both = Compared::new(alloc);
+    assert!(rt; both.insert(rt, 1, 10)?);
+    assert!(rt; !both.insert(rt, 1, 11)?);
+    assert_eq!(rt; both.index().peek(&1).copied(), Some(10));
+    assert_eq!(rt; both.index().peek(&2).copied(), None);
+    Ok(())
+}
 
 #[test]
 fn keeps_the_first_of_two_pairs(rt: HostRuntime) {
-    with_memory(&rt, || {
-        let mut both = Compared::new(rt.alloc());
-        assert!(rt; both.insert(&rt, 1, 10)?);
-        assert!(rt; !both.insert(&rt, 1, 11)?);
-        assert_eq!(rt; both.index().peek(&1).copied(), Some(10));
-        assert_eq!(rt; both.index().peek(&2).copied(), None);
-        Ok(())
-    });
+    assert!(rt; succeeds(|| keeps_the_first_of_two_pairs_steps(&rt, rt.alloc())));
+}
+
+/// The index of these pairs.
+fn index_of(alloc: Global, pairs: &[(u64, u64)]) -> Result<TreeIndex<u64, u64>, AllocError> {
+    let mut index = TreeIndex::new(alloc);
+    for (key, value) in pairs {
+        if index.upsert_sync(*key, *value).is_err() {
+            return Err(AllocError);
+        }
+    }
+    Ok(index)
+}
+
+/// Compares what `Debug` writes of an index.
+fn expect_shown(
+    rt: &impl Abort,
+    alloc: Global,
+    index: &TreeIndex<u64, u64>,
+    wanted: &str,
+) -> Result<(), AllocError> {
+    let shown = format!(in alloc; "{index:?}")?;
+    assert!(rt; shown.as_str() == wanted);
+    Ok(())
+}
+
+fn shows_its_depth_and_its_pairs_steps(rt: &impl Abort, alloc: Global) -> Result<(), AllocError> {
+    let none = index_of(alloc, &[])?;
+    expect_shown(rt, alloc, &none, "TreeIndex { depth: 0, entries: [] }")?;
+    let two = index_of(alloc, &[(3, 4), (1, 10)])?;
+    let wanted = "TreeIndex { depth: 1, entries: [(1, 10), (3, 4)] }";
+    expect_shown(rt, alloc, &two, wanted)
 }
 
 #[test]
 fn shows_its_depth_and_its_pairs(rt: HostRuntime) {
-    with_memory(&rt, || {
-        let alloc = rt.alloc();
-        let mut both = Compared::new(alloc);
-        let shown = format!(in alloc; "{:?}", both.index())?;
-        assert_eq!(rt; shown.as_str(), "TreeIndex { depth: 0, entries: [] }");
-        assert!(rt; both.insert(&rt, 3, 4)?);
-        assert!(rt; both.insert(&rt, 1, 10)?);
-        let shown = format!(in alloc; "{:?}", both.index())?;
-        assert_eq!(rt;
-            shown.as_str(),
-            "TreeIndex { depth: 1, entries: [(1, 10), (3, 4)] }"
-        );
-        Ok(())
-    });
+    assert!(rt; succeeds(|| shows_its_depth_and_its_pairs_steps(&rt, rt.alloc())));
+}
+
+/// The key 5 with a tag, which its order doesn't see.
+fn five(tag: char) -> Tagged {
+    Tagged { number: 5, tag }
+}
+
+/// An index whose key 5 was stored under one tag and then under others.
+fn index_of_five(alloc: Global, tags: &[char]) -> Result<TreeIndex<Tagged, char>, AllocError> {
+    let mut index = TreeIndex::new(alloc);
+    for tag in tags {
+        if index.upsert_sync(five(*tag), *tag).is_err() {
+            return Err(AllocError);
+        }
+    }
+    Ok(index)
+}
+
+fn tells_keys_apart_by_their_order_steps(rt: &impl Abort, alloc: Global) -> Result<(), AllocError> {
+    let mut index = index_of_five(alloc, &['a'])?;
+    assert!(rt; index.peek(&five('b')).copied() == Some('a'));
+    let Err(InsertError::Duplicate(key, 'b')) = index.insert_sync(five('b'), 'b') else {
+        panic!(rt; "no duplicate")
+    };
+    assert_eq!(rt; key.tag, 'b');
+    Ok(())
 }
 
 #[test]
 fn tells_keys_apart_by_their_order(rt: HostRuntime) {
-    with_memory(&rt, || {
-        let mut index = TreeIndex::new(rt.alloc());
-        let first = Tagged {
-            number: 5,
-            tag: 'a',
-        };
-        let second = Tagged {
-            number: 5,
-            tag: 'b',
-        };
-        index.insert_sync(first, 1).map_err(|_| AllocError)?;
-        assert_eq!(rt; index.peek(&second).copied(), Some(1));
-        let Err(InsertError::Duplicate(key, 2)) = index.insert_sync(second, 2) else {
-            panic!(rt; "no duplicate")
-        };
-        assert_eq!(rt; key.tag, 'b');
-        Ok(())
-    });
+    assert!(rt; succeeds(|| tells_keys_apart_by_their_order_steps(&rt, rt.alloc())));
+}
+
+fn replaces_the_stored_key_steps(rt: &impl Abort, alloc: Global) -> Result<(), AllocError> {
+    let index = index_of_five(alloc, &['a', 'b'])?;
+    let Some((key, value)) = index.peek_entry(&five('c')) else {
+        panic!(rt; "absent")
+    };
+    assert!(rt; key.tag == 'b' && *value == 'b');
+    assert!(rt; index.contains(&five('c')) && index.len() == 1);
+    Ok(())
 }
 
 #[test]
 fn replaces_the_stored_key(rt: HostRuntime) {
-    with_memory(&rt, || {
-        let mut index = TreeIndex::new(rt.alloc());
-        for (tag, value) in [('a', 1), ('b', 2)] {
-            let key = Tagged { number: 5, tag };
-            index.upsert_sync(key, value).map_err(|_| AllocError)?;
-        }
-        let asked = Tagged {
-            number: 5,
-            tag: 'c',
-        };
-        let Some((key, value)) = index.peek_entry(&asked) else {
-            panic!(rt; "absent")
-        };
-        assert_eq!(rt; (key.tag, *value), ('b', 2));
-        assert!(rt; index.contains(&asked));
-        assert_eq!(rt; index.len(), 1);
-        Ok(())
-    });
+    assert!(rt; succeeds(|| replaces_the_stored_key_steps(&rt, rt.alloc())));
+}
+
+fn says_whether_it_removed_steps(rt: &impl Abort, alloc: Global) -> Result<(), AllocError> {
+    let mut index = index_of(alloc, &[(1, 10)])?;
+    assert!(rt; !index.remove_sync(&2) && !index.is_empty());
+    assert!(rt; index.remove_sync(&1) && index.is_empty());
+    assert!(rt; !index.remove_sync(&1) && !index.contains(&1));
+    Ok(())
 }
 
 #[test]
 fn says_whether_it_removed(rt: HostRuntime) {
-    with_memory(&rt, || {
-        let mut both = Compared::new(rt.alloc());
-        assert!(rt; !both.remove(&rt, 1));
-        both.upsert(&rt, 1, 10)?;
-        assert!(rt; !both.index().is_empty());
-        assert!(rt; both.remove(&rt, 1));
-        assert!(rt; !both.index().contains(&1));
-        assert!(rt; both.index().is_empty());
-        Ok(())
+    assert!(rt; succeeds(|| says_whether_it_removed_steps(&rt, rt.alloc())));
+}
+
+/// Removes the key 1 if it has this value. Returns whether it did, and how often the condition was asked.
+fn remove_one_if(index: &mut TreeIndex<u64, u64>, wanted: u64) -> (bool, u64) {
+    let mut asked = 0u64;
+    let removed = index.remove_if_sync(&1, |value| {
+        asked = asked.saturating_add(1);
+        *value == wanted
     });
+    (removed, asked)
 }
 
 /// The condition is asked once of a key that is present, and never of an absent one.
+fn asks_its_condition_steps(rt: &impl Abort, alloc: Global) -> Result<(), AllocError> {
+    let mut index = index_of(alloc, &[(1, 10)])?;
+    assert!(rt; remove_one_if(&mut index, 0) == (false, 1));
+    assert!(rt; remove_one_if(&mut index, 10) == (true, 1));
+    assert!(rt; remove_one_if(&mut index, 10) == (false, 0));
+    Ok(())
+}
+
 #[test]
 fn asks_its_condition_once(rt: HostRuntime) {
-    with_memory(&rt, || {
-        let mut index = TreeIndex::new(rt.alloc());
-        index.upsert_sync(1, 10).map_err(|_| AllocError)?;
-        for (wanted, removed, times) in [(0, false, 1), (10, true, 1), (10, false, 0)] {
-            let mut asked = 0u64;
-            let answer = index.remove_if_sync(&1, |value| {
-                asked = asked.saturating_add(1);
-                *value == wanted
-            });
-            assert_eq!(rt; (answer, asked), (removed, times));
-        }
-        Ok(())
-    });
+    assert!(rt; succeeds(|| asks_its_condition_steps(&rt, rt.alloc())));
 }

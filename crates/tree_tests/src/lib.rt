@@ -2,10 +2,6 @@
 #![tactic(auto)]
 
 #[cfg(test)]
-mod array;
-#[cfg(test)]
-mod chance;
-#[cfg(test)]
 mod compared;
 #[cfg(test)]
 mod histories;
@@ -14,8 +10,6 @@ mod index;
 #[cfg(test)]
 mod keys;
 #[cfg(test)]
-mod leaf;
-#[cfg(test)]
 mod lines;
 #[cfg(test)]
 mod orders;
@@ -23,8 +17,6 @@ mod orders;
 mod plain;
 #[cfg(test)]
 mod random;
-#[cfg(test)]
-mod refusals;
 #[cfg(test)]
 mod runs;
 #[cfg(test)]

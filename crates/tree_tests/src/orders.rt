@@ -1,9 +1,9 @@
 //! Thousands of keys, put and removed in several orders: compared at the key and beside it after each call, and as a
 //! whole after each hundredth.
 use crate::compared::Compared;
-use crate::refusals::with_memory;
 use std::alloc::{AllocError, Global};
 use std::process::Abort;
+use test_support::refusals::succeeds;
 
 const MANY: u64 = 4000;
 
@@ -69,18 +69,25 @@ fn compare_orders(
     Ok(())
 }
 
+fn keeps_keys_that_come_in_order_steps(rt: &impl Abort, alloc: Global) -> Result<(), AllocError> {
+    compare_orders(rt, alloc, Order::Up, Order::Down)?;
+    compare_orders(rt, alloc, Order::Down, Order::Down)
+}
+
 #[test]
 fn keeps_keys_that_come_in_order(rt: HostRuntime) {
-    with_memory(&rt, || {
-        compare_orders(&rt, rt.alloc(), Order::Up, Order::Down)?;
-        compare_orders(&rt, rt.alloc(), Order::Down, Order::Down)
-    });
+    assert!(rt; succeeds(|| keeps_keys_that_come_in_order_steps(&rt, rt.alloc())));
+}
+
+fn keeps_keys_that_come_in_no_order_steps(
+    rt: &impl Abort,
+    alloc: Global,
+) -> Result<(), AllocError> {
+    compare_orders(rt, alloc, Order::Inward, Order::Scattered)?;
+    compare_orders(rt, alloc, Order::Scattered, Order::Up)
 }
 
 #[test]
 fn keeps_keys_that_come_in_no_order(rt: HostRuntime) {
-    with_memory(&rt, || {
-        compare_orders(&rt, rt.alloc(), Order::Inward, Order::Scattered)?;
-        compare_orders(&rt, rt.alloc(), Order::Scattered, Order::Up)
-    });
+    assert!(rt; succeeds(|| keeps_keys_that_come_in_no_order_steps(&rt, rt.alloc())));
 }

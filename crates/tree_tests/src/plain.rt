@@ -1,7 +1,8 @@
 //! What the plain index answers, on lists worked out by hand.
-use crate::refusals::with_memory;
 use std::alloc::{AllocError, Global};
 use std::ops::Bound;
+use std::process::Abort;
+use test_support::refusals::succeeds;
 use tree_model::{InsertError, PlainIndex, is_above, is_below, range_contains};
 
 /// The index of these keys, each with ten times itself as its value.
@@ -15,88 +16,105 @@ fn index_of(alloc: Global, keys: &[u64]) -> Result<PlainIndex<u64, u64>, AllocEr
     Ok(index)
 }
 
+fn stores_in_key_order_steps(rt: &impl Abort, alloc: Global) -> Result<(), AllocError> {
+    let mut index = index_of(alloc, &[5, 3, 9])?;
+    assert!(rt; index.pairs() == [(3, 30), (5, 50), (9, 90)].as_slice());
+    index.insert(4, 40).map_err(|_| AllocError)?;
+    let again = index.insert(4, 41);
+    assert!(rt; again == Err(InsertError::Duplicate(4, 41)));
+    assert!(rt; index.upsert(4, 42).is_ok());
+    assert!(rt; index.pairs() == [(3, 30), (4, 42), (5, 50), (9, 90)].as_slice());
+    Ok(())
+}
+
+fn finds_pairs_steps(rt: &impl Abort, alloc: Global) -> Result<(), AllocError> {
+    let index = index_of(alloc, &[5, 3, 9, 4])?;
+    assert!(rt; index.peek(&4).copied() == Some(40));
+    assert!(rt; index.peek_entry(&6).is_none());
+    assert!(rt; index.peek_entry(&9).copied() == Some((9, 90)));
+    assert_eq!(rt; index.len(), 4);
+    Ok(())
+}
+
+#[test]
+fn finds_pairs(rt: HostRuntime) {
+    assert!(rt; succeeds(|| finds_pairs_steps(&rt, rt.alloc())));
+}
+
 #[test]
 fn stores_in_key_order(rt: HostRuntime) {
-    with_memory(&rt, || {
-        let mut index = index_of(rt.alloc(), &[5, 3, 9])?;
-        assert_eq!(rt; index.pairs(), [(3, 30), (5, 50), (9, 90)].as_slice());
-        index.insert(4, 40).map_err(|_| AllocError)?;
-        let again = index.insert(4, 41);
-        assert!(rt; again == Err(InsertError::Duplicate(4, 41)));
-        assert!(rt; index.upsert(4, 42).is_ok());
-        assert_eq!(rt;
-            index.pairs(),
-            [(3, 30), (4, 42), (5, 50), (9, 90)].as_slice()
-        );
-        assert_eq!(rt; index.peek(&4).copied(), Some(42));
-        assert_eq!(rt; index.peek_entry(&6).copied(), None);
-        assert_eq!(rt; index.peek_entry(&9).copied(), Some((9, 90)));
-        assert_eq!(rt; index.len(), 4);
-        Ok(())
-    });
+    assert!(rt; succeeds(|| stores_in_key_order_steps(&rt, rt.alloc())));
+}
+
+fn removes_and_clears_steps(rt: &impl Abort, alloc: Global) -> Result<(), AllocError> {
+    let mut index = index_of(alloc, &[1, 2, 3])?;
+    assert!(rt; index.remove(&2));
+    assert!(rt; !index.remove(&2));
+    assert_eq!(rt; index.pairs(), [(1, 10), (3, 30)].as_slice());
+    assert!(rt; !index.is_empty());
+    index.clear();
+    assert!(rt; index.is_empty());
+    Ok(())
 }
 
 #[test]
 fn removes_and_clears(rt: HostRuntime) {
-    with_memory(&rt, || {
-        let mut index = index_of(rt.alloc(), &[1, 2, 3])?;
-        assert!(rt; index.remove(&2));
-        assert!(rt; !index.remove(&2));
-        assert_eq!(rt; index.pairs(), [(1, 10), (3, 30)].as_slice());
-        assert!(rt; !index.is_empty());
-        index.clear();
-        assert!(rt; index.is_empty());
-        Ok(())
-    });
+    assert!(rt; succeeds(|| removes_and_clears_steps(&rt, rt.alloc())));
 }
 
 /// The condition is asked once of a key that is present, and never of an absent one.
-#[test]
-fn removes_by_value(rt: HostRuntime) {
-    with_memory(&rt, || {
-        let mut index = index_of(rt.alloc(), &[1, 2, 3])?;
-        for (key, value, removed, times) in [
-            (2, 0, false, 1),
-            (2, 20, true, 1),
-            (2, 20, false, 0),
-            (3, 10, false, 1),
-        ] {
-            let mut asked = 0u64;
-            let answer = index.remove_if(&key, |stored| {
-                asked = asked.saturating_add(1);
-                *stored == value
-            });
-            assert_eq!(rt; (answer, asked), (removed, times));
-        }
-        assert_eq!(rt; index.pairs(), [(1, 10), (3, 30)].as_slice());
-        Ok(())
-    });
+fn removes_by_value_steps(rt: &impl Abort, alloc: Global) -> Result<(), AllocError> {
+    let mut index = index_of(alloc, &[1, 2, 3])?;
+    for (key, value, removed, times) in [
+        (2, 0, false, 1),
+        (2, 20, true, 1),
+        (2, 20, false, 0),
+        (3, 10, false, 1),
+    ] {
+        let mut asked = 0u64;
+        let answer = index.remove_if(&key, |stored| {
+            asked = asked.saturating_add(1);
+            *stored == value
+        });
+        assert_eq!(rt; (answer, asked), (removed, times));
+    }
+    assert_eq!(rt; index.pairs(), [(1, 10), (3, 30)].as_slice());
+    Ok(())
 }
 
-/// How many of the keys 1 to 5 are left when those within the bounds are removed.
-fn left_by(alloc: Global, low: Bound<&u64>, high: Bound<&u64>) -> Result<usize, AllocError> {
-    let mut index = index_of(alloc, &[1, 2, 3, 4, 5])?;
-    index.remove_range((low, high));
-    Ok(index.len())
+#[test]
+fn removes_by_value(rt: HostRuntime) {
+    assert!(rt; succeeds(|| removes_by_value_steps(&rt, rt.alloc())));
 }
+
+/// So many of the keys 1 to 5 are left when those within the bounds are removed.
+fn expect_left(
+    rt: &impl Abort,
+    alloc: Global,
+    bounds: (Bound<&u64>, Bound<&u64>),
+    left: usize,
+) -> Result<(), AllocError> {
+    let mut index = index_of(alloc, &[1, 2, 3, 4, 5])?;
+    index.remove_range(bounds);
+    assert_eq!(rt; index.len(), left);
+    Ok(())
+}
+
+static BOUNDS: [(Bound<&u64>, Bound<&u64>, usize); 8] = [
+    (Bound::Included(&2), Bound::Included(&4), 2),
+    (Bound::Included(&2), Bound::Excluded(&4), 3),
+    (Bound::Excluded(&2), Bound::Included(&4), 3),
+    (Bound::Excluded(&2), Bound::Excluded(&4), 4),
+    (Bound::Unbounded, Bound::Excluded(&4), 2),
+    (Bound::Excluded(&2), Bound::Unbounded, 2),
+    (Bound::Unbounded, Bound::Unbounded, 0),
+    (Bound::Included(&4), Bound::Included(&2), 5),
+];
 
 #[test]
 fn removes_the_keys_that_meet_both_bounds(rt: HostRuntime) {
-    let (low, high) = (2, 4);
-    for (from, to, left) in [
-        (Bound::Included(&low), Bound::Included(&high), 2),
-        (Bound::Included(&low), Bound::Excluded(&high), 3),
-        (Bound::Excluded(&low), Bound::Included(&high), 3),
-        (Bound::Excluded(&low), Bound::Excluded(&high), 4),
-        (Bound::Unbounded, Bound::Excluded(&high), 2),
-        (Bound::Excluded(&low), Bound::Unbounded, 2),
-        (Bound::Unbounded, Bound::Unbounded, 0),
-        (Bound::Included(&high), Bound::Included(&low), 5),
-    ] {
-        with_memory(&rt, || {
-            assert_eq!(rt; left_by(rt.alloc(), from, to)?, left);
-            Ok(())
-        });
+    for (from, to, left) in &BOUNDS {
+        assert!(rt; succeeds(|| expect_left(&rt, rt.alloc(), (*from, *to), *left)));
     }
 }
 
@@ -108,18 +126,20 @@ fn meets_bounds(rt: HostRuntime) {
     assert!(rt; !is_below(Bound::Excluded(&high), &4));
 }
 
+fn tells_why_a_pair_was_refused_steps(rt: &impl Abort, alloc: Global) -> Result<(), AllocError> {
+    let duplicate: InsertError<u64, u64> = InsertError::Duplicate(1, 10);
+    let refused: InsertError<u64, u64> = InsertError::OutOfMemory(1, 10);
+    let shown = format!(in alloc; "{duplicate}; {refused}; {refused:?}")?;
+    assert_eq!(rt;
+        shown.as_str(),
+        "the key is present; out of memory; OutOfMemory(1, 10)"
+    );
+    Ok(())
+}
+
 #[test]
 fn tells_why_a_pair_was_refused(rt: HostRuntime) {
-    with_memory(&rt, || {
-        let duplicate: InsertError<u64, u64> = InsertError::Duplicate(1, 10);
-        let refused: InsertError<u64, u64> = InsertError::OutOfMemory(1, 10);
-        let shown = format!(in rt.alloc(); "{duplicate}; {refused}; {refused:?}")?;
-        assert_eq!(rt;
-            shown.as_str(),
-            "the key is present; out of memory; OutOfMemory(1, 10)"
-        );
-        Ok(())
-    });
+    assert!(rt; succeeds(|| tells_why_a_pair_was_refused_steps(&rt, rt.alloc())));
 }
 
 /// Whatever request is refused, the pair comes back, the pairs stay, and the same call again answers as it would have.

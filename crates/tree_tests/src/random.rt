@@ -1,34 +1,41 @@
 //! Random calls of an index, each compared.
-use crate::chance::Chance;
 use crate::compared::Compared;
-use crate::refusals::with_memory;
+use std::alloc::{AllocError, Global};
+use std::process::Abort;
+use test_support::chance::Chance;
+use test_support::refusals::succeeds;
 
 /// The keys are below this number.
 const KEYS: u64 = 40;
 
+fn answers_random_calls_as_the_plain_index_steps(
+    rt: &impl Abort,
+    alloc: Global,
+) -> Result<(), AllocError> {
+    let mut both = Compared::new(alloc);
+    let mut chance = Chance::new(1);
+    for _ in 0..600 {
+        let key = chance.below(KEYS);
+        let value = chance.below(3);
+        match chance.below(6) {
+            0 => {
+                let _ = both.remove(rt, key);
+            }
+            1 => both.remove_if(rt, key, value),
+            2 | 3 => {
+                let _ = both.insert(rt, key, value)?;
+            }
+            _ => both.upsert(rt, key, value)?,
+        }
+        for key in 0..KEYS {
+            both.look_up(rt, key);
+        }
+        both.compare(rt);
+    }
+    Ok(())
+}
+
 #[test]
 fn answers_random_calls_as_the_plain_index(rt: HostRuntime) {
-    with_memory(&rt, || {
-        let mut both = Compared::new(rt.alloc());
-        let mut chance = Chance::new(1);
-        for _ in 0..600 {
-            let key = chance.below(KEYS);
-            let value = chance.below(3);
-            match chance.below(6) {
-                0 => {
-                    let _ = both.remove(&rt, key);
-                }
-                1 => both.remove_if(&rt, key, value),
-                2 | 3 => {
-                    let _ = both.insert(&rt, key, value)?;
-                }
-                _ => both.upsert(&rt, key, value)?,
-            }
-            for key in 0..KEYS {
-                both.look_up(&rt, key);
-            }
-            both.compare(&rt);
-        }
-        Ok(())
-    });
+    assert!(rt; succeeds(|| answers_random_calls_as_the_plain_index_steps(&rt, rt.alloc())));
 }

@@ -1,9 +1,9 @@
 //! How deep a tree is, how much room its leaves have, and how many leaves and nodes there are, as the rules of splits and
 //! of removals give it.
 use crate::compared::Compared;
-use crate::refusals::with_memory;
-use std::alloc::AllocError;
+use std::alloc::{AllocError, Global};
 use std::process::Abort;
+use test_support::refusals::succeeds;
 use tree_index::TreeIndexOf;
 
 /// Compares the depth and the spare.
@@ -23,161 +23,195 @@ fn expect_counts(rt: &impl Abort, both: &Compared, leaves: usize, nodes: usize) 
 
 /// A leaf node holds 16 leaves of 15, and the next pair makes a node over two of them. That one holds 15 nodes of 225
 /// pairs and one of 240, and the next pair makes a third level.
+fn grows_by_a_level_when_its_root_is_full_steps(
+    rt: &impl Abort,
+    alloc: Global,
+) -> Result<(), AllocError> {
+    let mut both = Compared::new(alloc);
+    expect_shape(rt, &both, 0, 0);
+    for key in 1..=3616u64 {
+        assert!(rt; both.insert(rt, key, key)?);
+        let depth = match key {
+            1..=240 => 1,
+            241..=3615 => 2,
+            _ => 3,
+        };
+        assert_eq!(rt; both.index().depth(), depth);
+    }
+    assert_eq!(rt; both.index().len(), 3616);
+    expect_counts(rt, &both, 242, 20);
+    Ok(())
+}
+
 #[test]
 fn grows_by_a_level_when_its_root_is_full(rt: HostRuntime) {
-    with_memory(&rt, || {
-        let mut both = Compared::new(rt.alloc());
-        expect_shape(&rt, &both, 0, 0);
-        for key in 1..=3616u64 {
-            assert!(rt; both.insert(&rt, key, key)?);
-            let depth = match key {
-                1..=240 => 1,
-                241..=3615 => 2,
-                _ => 3,
-            };
-            assert_eq!(rt; both.index().depth(), depth);
-        }
-        assert_eq!(rt; both.index().len(), 3616);
-        expect_counts(&rt, &both, 242, 20);
-        Ok(())
-    });
+    assert!(rt; succeeds(|| grows_by_a_level_when_its_root_is_full_steps(&rt, rt.alloc())));
 }
 
 /// With seven slots a leaf node holds 8 leaves of 7, and a node over them 7 nodes of 49 pairs and one of 56.
+fn grows_by_a_level_with_seven_slots_steps(
+    rt: &impl Abort,
+    alloc: Global,
+) -> Result<(), AllocError> {
+    let mut index: TreeIndexOf<u64, u64, 7> = TreeIndexOf::new(alloc);
+    for key in 1..=400u64 {
+        index.insert_sync(key, key).map_err(|_| AllocError)?;
+        let depth = match key {
+            1..=56 => 1,
+            57..=399 => 2,
+            _ => 3,
+        };
+        assert_eq!(rt; index.depth(), depth);
+    }
+    assert_eq!(rt; index.len(), 400);
+    Ok(())
+}
+
 #[test]
 fn grows_by_a_level_with_seven_slots(rt: HostRuntime) {
-    with_memory(&rt, || {
-        let mut index: TreeIndexOf<u64, u64, 7> = TreeIndexOf::new(rt.alloc());
-        for key in 1..=400u64 {
-            index.insert_sync(key, key).map_err(|_| AllocError)?;
-            let depth = match key {
-                1..=56 => 1,
-                57..=399 => 2,
-                _ => 3,
-            };
-            assert_eq!(rt; index.depth(), depth);
-        }
-        assert_eq!(rt; index.len(), 400);
-        Ok(())
-    });
+    assert!(rt; succeeds(|| grows_by_a_level_with_seven_slots_steps(&rt, rt.alloc())));
 }
 
 /// One key takes a slot anew with each value, until its leaf is built anew.
+fn rebuilds_a_leaf_of_spent_slots_steps(rt: &impl Abort, alloc: Global) -> Result<(), AllocError> {
+    let mut both = Compared::new(alloc);
+    for value in 1..=15u64 {
+        both.upsert(rt, 7, value)?;
+    }
+    expect_shape(rt, &both, 1, 0);
+    both.upsert(rt, 7, 16)?;
+    expect_shape(rt, &both, 1, 13);
+    both.look_up(rt, 7);
+    expect_counts(rt, &both, 1, 1);
+    Ok(())
+}
+
 #[test]
 fn rebuilds_a_leaf_of_spent_slots(rt: HostRuntime) {
-    with_memory(&rt, || {
-        let mut both = Compared::new(rt.alloc());
-        for value in 1..=15u64 {
-            both.upsert(&rt, 7, value)?;
-        }
-        expect_shape(&rt, &both, 1, 0);
-        both.upsert(&rt, 7, 16)?;
-        expect_shape(&rt, &both, 1, 13);
-        both.look_up(&rt, 7);
-        expect_counts(&rt, &both, 1, 1);
-        Ok(())
-    });
+    assert!(rt; succeeds(|| rebuilds_a_leaf_of_spent_slots_steps(&rt, rt.alloc())));
 }
 
 /// Where keys come downwards, one of them goes low. Where the first half comes downwards and the others upwards, half
 /// of them do.
+fn divides_a_leaf_where_its_keys_came_steps(
+    rt: &impl Abort,
+    alloc: Global,
+) -> Result<(), AllocError> {
+    let mut down = Compared::new(alloc);
+    let mut both_ways = Compared::new(alloc);
+    for n in 0..=15u64 {
+        assert!(rt; down.insert(rt, 15 - n, n)?);
+        assert!(rt; both_ways.insert(rt, if n < 8 { 7 - n } else { n }, n)?);
+    }
+    expect_shape(rt, &down, 1, 1);
+    expect_shape(rt, &both_ways, 1, 6);
+    Ok(())
+}
+
 #[test]
 fn divides_a_leaf_where_its_keys_came(rt: HostRuntime) {
-    with_memory(&rt, || {
-        let mut down = Compared::new(rt.alloc());
-        let mut both_ways = Compared::new(rt.alloc());
-        for n in 0..=15u64 {
-            assert!(rt; down.insert(&rt, 15 - n, n)?);
-            assert!(rt; both_ways.insert(&rt, if n < 8 { 7 - n } else { n }, n)?);
-        }
-        expect_shape(&rt, &down, 1, 1);
-        expect_shape(&rt, &both_ways, 1, 6);
-        Ok(())
-    });
+    assert!(rt; succeeds(|| divides_a_leaf_where_its_keys_came_steps(&rt, rt.alloc())));
 }
 
 /// Of a keyed leaf that was filled upwards all but one go low, so that one slot of theirs is left. All would go low in
 /// the unbounded leaf alone.
+fn divides_a_keyed_leaf_before_its_last_pair_steps(
+    rt: &impl Abort,
+    alloc: Global,
+) -> Result<(), AllocError> {
+    let mut both = Compared::new(alloc);
+    for n in 0..=15u64 {
+        assert!(rt; both.insert(rt, 10 * n, n)?);
+    }
+    expect_shape(rt, &both, 1, 0);
+    expect_counts(rt, &both, 2, 1);
+    for key in [110, 120, 130, 140] {
+        assert!(rt; both.remove(rt, key));
+    }
+    for key in 111..=115u64 {
+        assert!(rt; both.insert(rt, key, key)?);
+    }
+    expect_shape(rt, &both, 1, 1);
+    expect_counts(rt, &both, 3, 1);
+    Ok(())
+}
+
 #[test]
 fn divides_a_keyed_leaf_before_its_last_pair(rt: HostRuntime) {
-    with_memory(&rt, || {
-        let mut both = Compared::new(rt.alloc());
-        for n in 0..=15u64 {
-            assert!(rt; both.insert(&rt, 10 * n, n)?);
-        }
-        expect_shape(&rt, &both, 1, 0);
-        expect_counts(&rt, &both, 2, 1);
-        for key in [110, 120, 130, 140] {
-            assert!(rt; both.remove(&rt, key));
-        }
-        for key in 111..=115u64 {
-            assert!(rt; both.insert(&rt, key, key)?);
-        }
-        expect_shape(&rt, &both, 1, 1);
-        expect_counts(&rt, &both, 3, 1);
-        Ok(())
-    });
+    assert!(rt; succeeds(|| divides_a_keyed_leaf_before_its_last_pair_steps(&rt, rt.alloc())));
+}
+
+fn plants_anew_under_a_retired_root_steps(
+    rt: &impl Abort,
+    alloc: Global,
+) -> Result<(), AllocError> {
+    let mut both = Compared::new(alloc);
+    assert!(rt; both.insert(rt, 1, 10)?);
+    expect_shape(rt, &both, 1, 14);
+    assert!(rt; both.remove(rt, 1));
+    expect_shape(rt, &both, 1, 0);
+    expect_counts(rt, &both, 0, 1);
+    assert!(rt; both.insert(rt, 2, 20)?);
+    expect_shape(rt, &both, 1, 14);
+    expect_counts(rt, &both, 1, 1);
+    Ok(())
 }
 
 #[test]
 fn plants_anew_under_a_retired_root(rt: HostRuntime) {
-    with_memory(&rt, || {
-        let mut both = Compared::new(rt.alloc());
-        assert!(rt; both.insert(&rt, 1, 10)?);
-        expect_shape(&rt, &both, 1, 14);
-        assert!(rt; both.remove(&rt, 1));
-        expect_shape(&rt, &both, 1, 0);
-        expect_counts(&rt, &both, 0, 1);
-        assert!(rt; both.insert(&rt, 2, 20)?);
-        expect_shape(&rt, &both, 1, 14);
-        expect_counts(&rt, &both, 1, 1);
-        Ok(())
-    });
+    assert!(rt; succeeds(|| plants_anew_under_a_retired_root_steps(&rt, rt.alloc())));
+}
+
+fn drops_leaves_and_lowers_its_root_steps(
+    rt: &impl Abort,
+    alloc: Global,
+) -> Result<(), AllocError> {
+    let mut both = Compared::new(alloc);
+    for key in 0..=240u64 {
+        assert!(rt; both.insert(rt, key, key)?);
+    }
+    expect_shape(rt, &both, 2, 0);
+    expect_counts(rt, &both, 17, 3);
+    for key in 225..=240u64 {
+        assert!(rt; both.remove(rt, key));
+    }
+    expect_shape(rt, &both, 1, 0);
+    expect_counts(rt, &both, 15, 1);
+    Ok(())
 }
 
 #[test]
 fn drops_leaves_and_lowers_its_root(rt: HostRuntime) {
-    with_memory(&rt, || {
-        let mut both = Compared::new(rt.alloc());
-        for key in 0..=240u64 {
-            assert!(rt; both.insert(&rt, key, key)?);
-        }
-        expect_shape(&rt, &both, 2, 0);
-        expect_counts(&rt, &both, 17, 3);
-        for key in 225..=240u64 {
-            assert!(rt; both.remove(&rt, key));
-        }
-        expect_shape(&rt, &both, 1, 0);
-        expect_counts(&rt, &both, 15, 1);
-        Ok(())
-    });
+    assert!(rt; succeeds(|| drops_leaves_and_lowers_its_root_steps(&rt, rt.alloc())));
 }
 
 /// The root over two nodes of depth 2 has one keyed child, of the keys up to 3375. Once the keys above are gone it gives
 /// its place to that child, which has 15 leaf nodes of 225 keys and gives its place up with the last but one of them.
+fn lowers_its_root_from_each_depth_steps(rt: &impl Abort, alloc: Global) -> Result<(), AllocError> {
+    let mut both = Compared::new(alloc);
+    for key in 1..=3616u64 {
+        assert!(rt; both.insert(rt, key, key)?);
+    }
+    for key in (1..=3616u64).rev() {
+        assert!(rt; both.remove(rt, key));
+        let depth = match key {
+            3377..=3616 => 3,
+            227..=3376 => 2,
+            _ => 1,
+        };
+        assert_eq!(rt; both.index().depth(), depth);
+        match key {
+            3601 => expect_counts(rt, &both, 240, 19),
+            3376 => expect_counts(rt, &both, 225, 16),
+            226 => expect_counts(rt, &both, 15, 1),
+            1 => expect_counts(rt, &both, 0, 1),
+            _ => {}
+        }
+    }
+    Ok(())
+}
+
 #[test]
 fn lowers_its_root_from_each_depth(rt: HostRuntime) {
-    with_memory(&rt, || {
-        let mut both = Compared::new(rt.alloc());
-        for key in 1..=3616u64 {
-            assert!(rt; both.insert(&rt, key, key)?);
-        }
-        for key in (1..=3616u64).rev() {
-            assert!(rt; both.remove(&rt, key));
-            let depth = match key {
-                3377..=3616 => 3,
-                227..=3376 => 2,
-                _ => 1,
-            };
-            assert_eq!(rt; both.index().depth(), depth);
-            match key {
-                3601 => expect_counts(&rt, &both, 240, 19),
-                3376 => expect_counts(&rt, &both, 225, 16),
-                226 => expect_counts(&rt, &both, 15, 1),
-                1 => expect_counts(&rt, &both, 0, 1),
-                _ => {}
-            }
-        }
-        Ok(())
-    });
+    assert!(rt; succeeds(|| lowers_its_root_from_each_depth_steps(&rt, rt.alloc())));
 }

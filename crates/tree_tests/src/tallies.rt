@@ -1,13 +1,12 @@
 //! Keys and values that are counted: each is dropped once, and a clone of a key may be refused.
 ghost use Rattle.std.specs.Prelude.{◌≡◌};
-ghost use Rattle.tree_array.specs.Length.{IsLen};
 ghost use Rattle.tree_model.specs.Keys.{equal_numbers};
 
-use crate::chance::Chance;
-use crate::refusals::with_memory;
 use std::alloc::{AllocError, Global};
 use std::cell::Cell;
 use std::process::Abort;
+use test_support::chance::Chance;
+use test_support::refusals::succeeds;
 use tree_index::{InsertError, TreeIndexOf};
 use tree_model::IndexKey;
 
@@ -116,16 +115,33 @@ fn call<'c, const LEN: usize>(
     Ok(())
 }
 
-fn drops_once<const LEN: usize>(rt: &impl Abort, alloc: Global) -> Result<(), AllocError>
-    requires { IsLen LEN }
-{
-    let tally = Tally::new();
-    let mut index: Index<LEN> = TreeIndexOf::new(alloc);
+/// Makes random calls, and counts what is alive after each.
+fn make_calls<'c, const LEN: usize>(
+    rt: &impl Abort,
+    index: &mut Index<'c, LEN>,
+    tally: &'c Tally,
+) -> Result<(), AllocError> {
     let mut chance = Chance::new(1);
     for _ in 0..4000 {
-        call(&mut index, &mut chance, &tally)?;
-        expect_alive(rt, &index, &tally);
+        call(index, &mut chance, tally)?;
+        expect_alive(rt, index, tally);
     }
+    Ok(())
+}
+
+fn drops_with_fifteen_slots(rt: &impl Abort, alloc: Global) -> Result<(), AllocError> {
+    let tally = Tally::new();
+    let mut index: Index<15> = TreeIndexOf::new(alloc);
+    make_calls(rt, &mut index, &tally)?;
+    drop(index);
+    assert_eq!(rt; tally.alive(), 0);
+    Ok(())
+}
+
+fn drops_with_seven_slots(rt: &impl Abort, alloc: Global) -> Result<(), AllocError> {
+    let tally = Tally::new();
+    let mut index: Index<7> = TreeIndexOf::new(alloc);
+    make_calls(rt, &mut index, &tally)?;
     drop(index);
     assert_eq!(rt; tally.alive(), 0);
     Ok(())
@@ -134,49 +150,78 @@ fn drops_once<const LEN: usize>(rt: &impl Abort, alloc: Global) -> Result<(), Al
 /// After inserts, refusals of a duplicate, upserts, removals and splits, and when the index is dropped.
 #[test]
 fn drops_each_key_and_value_once(rt: HostRuntime) {
-    with_memory(&rt, || {
-        drops_once::<7>(&rt, rt.alloc())?;
-        drops_once::<15>(&rt, rt.alloc())
-    });
+    assert!(rt; succeeds(|| drops_with_fifteen_slots(&rt, rt.alloc())));
+    assert!(rt; succeeds(|| drops_with_seven_slots(&rt, rt.alloc())));
 }
 
-/// Inserts descending keys while clones are refused, and again with clones where that refused one. Returns how often
-/// it did.
-fn refused_clones<const LEN: usize>(rt: &impl Abort, alloc: Global) -> Result<u64, AllocError>
-    requires { IsLen LEN }
-{
-    let tally = Tally::new();
-    let mut index: Index<LEN> = TreeIndexOf::new(alloc);
+/// Compares which of the greatest keys are there: all but this one, of those from it on.
+fn expect_absent<'c, const LEN: usize>(
+    rt: &impl Abort,
+    index: &Index<'c, LEN>,
+    tally: &'c Tally,
+    number: u64,
+) {
+    for other in number..300 {
+        let there = index.peek(&Counted::new(other, tally)).is_some();
+        assert!(rt; there == (other != number));
+    }
+}
+
+/// Inserts a key while clones are refused, and again with clones if that refused it. Returns whether it did.
+fn insert_twice<'c, const LEN: usize>(
+    rt: &impl Abort,
+    index: &mut Index<'c, LEN>,
+    tally: &'c Tally,
+    number: u64,
+) -> Result<bool, AllocError> {
+    tally.refuses.set(true);
+    let answer = index.insert_sync(Counted::new(number, tally), Counted::new(number, tally));
+    tally.refuses.set(false);
+    let Err(InsertError::OutOfMemory(key, value)) = answer else {
+        return Ok(false);
+    };
+    assert!(rt; key.number == number && value.number == number);
+    expect_absent(rt, index, tally, number);
+    if index.insert_sync(key, value).is_err() {
+        return Err(AllocError);
+    }
+    Ok(true)
+}
+
+/// Inserts descending keys while clones are refused. Returns how many were refused.
+fn refused_clones<'c, const LEN: usize>(
+    rt: &impl Abort,
+    index: &mut Index<'c, LEN>,
+    tally: &'c Tally,
+) -> Result<u64, AllocError> {
     let mut refused = 0u64;
     for number in (0..300).rev() {
-        let length = index.len();
-        tally.refuses.set(true);
-        let answer = index.insert_sync(Counted::new(number, &tally), Counted::new(number, &tally));
-        tally.refuses.set(false);
-        if let Err(InsertError::OutOfMemory(key, value)) = answer {
-            assert_eq!(rt; (key.number, value.number), (number, number));
-            assert_eq!(rt; index.len(), length);
-            for other in number..300 {
-                let there = index.peek(&Counted::new(other, &tally)).is_some();
-                assert_eq!(rt; there, other != number);
-            }
+        if insert_twice(rt, index, tally, number)? {
             refused = refused.saturating_add(1);
-            if index.insert_sync(key, value).is_err() {
-                return Err(AllocError);
-            }
         }
-        expect_alive(rt, &index, &tally);
+        expect_alive(rt, index, tally);
     }
     assert_eq!(rt; index.len(), 300);
     Ok(refused)
 }
 
+fn refuses_with_fifteen_slots(rt: &impl Abort, alloc: Global) -> Result<(), AllocError> {
+    let tally = Tally::new();
+    let mut index: Index<15> = TreeIndexOf::new(alloc);
+    assert!(rt; refused_clones(rt, &mut index, &tally)? > 15);
+    Ok(())
+}
+
+fn refuses_with_seven_slots(rt: &impl Abort, alloc: Global) -> Result<(), AllocError> {
+    let tally = Tally::new();
+    let mut index: Index<7> = TreeIndexOf::new(alloc);
+    assert!(rt; refused_clones(rt, &mut index, &tally)? > 30);
+    Ok(())
+}
+
 /// An insert that must split clones a separator. Where that is refused, the pair comes back and no pair changed.
 #[test]
 fn hands_back_the_pair_where_a_clone_is_refused(rt: HostRuntime) {
-    with_memory(&rt, || {
-        assert!(rt; refused_clones::<7>(&rt, rt.alloc())? > 30);
-        assert!(rt; refused_clones::<15>(&rt, rt.alloc())? > 15);
-        Ok(())
-    });
+    assert!(rt; succeeds(|| refuses_with_fifteen_slots(&rt, rt.alloc())));
+    assert!(rt; succeeds(|| refuses_with_seven_slots(&rt, rt.alloc())));
 }

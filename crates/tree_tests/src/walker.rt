@@ -124,7 +124,7 @@ fn walk_node<const LEN: usize>(
 
 /// Walks down from a node that is alone in its arenas, and along its leaves. Every number in use is met once, and the
 /// pairs are these.
-pub fn walk<const LEN: usize>(
+pub(crate) fn walk<const LEN: usize>(
     rt: &impl Abort,
     arenas: &ArenasOf<u64, u64, LEN>,
     level: usize,
@@ -176,7 +176,7 @@ fn walk_links<const LEN: usize>(
 }
 
 /// The pair of an entry.
-pub fn copied(entry: Option<(&u64, &u64)>) -> Option<(u64, u64)> {
+pub(crate) fn copied(entry: Option<(&u64, &u64)>) -> Option<(u64, u64)> {
     let (key, value) = entry?;
     Some((*key, *value))
 }

@@ -1,4 +1,6 @@
 pub mod ChildTurns
+pub mod EndSearch
 pub mod EndWalks
+pub mod InTurn
 pub mod LeastFree
-pub mod Turns
+pub mod Under

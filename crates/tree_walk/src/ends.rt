@@ -1,14 +1,18 @@
 //! The least and the greatest entry under the number of a node, at its level.
-ghost use Rattle.std.specs.Prelude.{◌≡◌, ◌<◌, [], ◌∷◌, Some, MatchOption};
+ghost use Rattle.std.specs.Prelude.{◌≡◌, ◌<◌, [], ◌∷◌, MatchOption};
 ghost use Rattle.std.specs.List.{AllByRecursion};
 ghost use Rattle.slab.specs.Slab.{ContainsKey};
+ghost use Rattle.tree_leaf.specs.declared.leaf.stand.Way.{Way};
 ghost use Rattle.tree_leaf.specs.declared.leaf.stand.Way.TheVariants.{On, Back};
+ghost use Rattle.tree_leaf.specs.Ways.{along};
 ghost use Rattle.tree_walk.specs.Ends.{BeginsPart, FindsFirst, IsLinked};
-ghost use Rattle.tree_node.specs.Tree.{StandsOrRetired, in_turn, leaves_at, leaves_of, walk};
+ghost use Rattle.tree_node.specs.Tree.{StandsOrRetired, leaves_at, leaves_of, walk};
 
-use tree_array::array::{ArrayIter, ArrayOf};
+use crate::children::{ChildWalk, ChildrenOf};
+use crate::leaves::array_of;
+use tree_array::array::{ArrayIter, ArrayRevIter};
 use tree_leaf::arena::{LeafId, NodeId};
-use tree_leaf::leaf::{IterOf, RevIterOf};
+use tree_leaf::leaf::{IterOf, LeafOf, LinkedIter, RevIterOf};
 use tree_node::node::{ArenasOf, NodeOf};
 
 /// A walk that stands before the least entry under a number of this level, in its leaf. None where no
@@ -27,8 +31,7 @@ pub fn min_at<'a, K: Ord + Drop, V: Drop, const LEN: usize>(
     requires linked { IsLinked level arenas.now id }
     ensures { MatchOption result (walk level arenas.now id ≡ []) (BeginsPart On level arenas.now id) }
 {
-    let leaf = first_leaf_at(arenas, level, id)?;
-    Some(IterOf::new(arenas, leaf))
+    walk_from_end::<K, V, ArrayIter, LEN>(arenas, level, id)
 }
 
 /// A walk, against the order of keys, that stands before the greatest entry under a number of this level.
@@ -43,55 +46,46 @@ pub fn max_at<'a, K: Ord + Drop, V: Drop, const LEN: usize>(
     requires linked { IsLinked level arenas.now id }
     ensures { MatchOption result (walk level arenas.now id ≡ []) (BeginsPart Back level arenas.now id) }
 {
-    let leaf = last_leaf_at(arenas, level, id)?;
-    Some(RevIterOf::new(arenas, leaf))
+    walk_from_end::<K, V, ArrayRevIter, LEN>(arenas, level, id)
 }
 
-/// The first leaf with an entry, of those under a number of this level.
-fn first_leaf_at<K: Ord + Drop, V: Drop, const LEN: usize>(
+/// A walk that stands before the entry that it comes to first.
+fn walk_from_end<'a, K: Ord + Drop, V: Drop, S: ChildWalk, const LEN: usize>(
+    arenas: &'a ArenasOf<K, V, LEN>,
+    level: usize,
+    id: NodeId,
+) -> Option<LinkedIter<'a, LeafOf<K, V, LEN>, S>>
+    requires node { 0 < level }
+    requires stands { StandsOrRetired K.cmp level arenas.now id }
+    requires linked { IsLinked level arenas.now id }
+    ensures { MatchOption result (walk level arenas.now id ≡ []) (BeginsPart S.way level arenas.now id) }
+{
+    let leaf = end_leaf_at::<K, V, S, LEN>(arenas, level, id)?;
+    Some(LinkedIter::new(arenas, leaf))
+}
+
+/// The leaf with an entry that a walk comes to first, of those under a number of this level.
+fn end_leaf_at<K: Ord + Drop, V: Drop, S: ChildWalk, const LEN: usize>(
     arenas: &ArenasOf<K, V, LEN>,
     level: usize,
     id: NodeId,
 ) -> Option<LeafId>
     requires node { 0 < level }
     requires stands { StandsOrRetired K.cmp level arenas.now id }
-    ensures { FindsFirst On arenas.now.leaves (leaves_at level arenas.now.nodes id) result }
+    ensures { FindsFirst S.way arenas.now.leaves (leaves_at level arenas.now.nodes id) result }
 {
     match arenas.node(id) {
-        NodeOf::Leaf(node) => first_of_leaves(arenas, &node.children, node.unbounded_child?),
-        NodeOf::Internal(node) => {
-            let last = node.unbounded_child?;
-            for slot in ArrayIter::new(&node.children) {
-                let found = first_leaf_at(arenas, level - 1, *node.children.val(slot));
-                if found.is_some() {
-                    return found;
-                }
-            }
-            first_leaf_at(arenas, level - 1, last)
+        NodeOf::Leaf(node) => {
+            let leaves = ChildrenOf::<K, LeafId, S, LEN>::new(&node.children, node.unbounded_child);
+            end_of_leaves(arenas, leaves)
         }
-    }
-}
-
-/// The last leaf with an entry, of those under a number of this level.
-fn last_leaf_at<K: Ord + Drop, V: Drop, const LEN: usize>(
-    arenas: &ArenasOf<K, V, LEN>,
-    level: usize,
-    id: NodeId,
-) -> Option<LeafId>
-    requires node { 0 < level }
-    requires stands { StandsOrRetired K.cmp level arenas.now id }
-    ensures { FindsFirst Back arenas.now.leaves (leaves_at level arenas.now.nodes id) result }
-{
-    match arenas.node(id) {
-        NodeOf::Leaf(node) => last_of_leaves(arenas, &node.children, node.unbounded_child?),
         NodeOf::Internal(node) => {
-            let last = node.unbounded_child?;
-            let found = last_leaf_at(arenas, level - 1, last);
-            if found.is_some() {
-                return found;
-            }
-            for slot in ArrayIter::new(&node.children).rev() {
-                let found = last_leaf_at(arenas, level - 1, *node.children.val(slot));
+            let children = ChildrenOf::<K, NodeId, S, LEN>::new(
+                &node.children,
+                node.unbounded_child,
+            );
+            for child in children {
+                let found = end_leaf_at::<K, V, S, LEN>(arenas, level - 1, child);
                 if found.is_some() {
                     return found;
                 }
@@ -101,39 +95,16 @@ fn last_leaf_at<K: Ord + Drop, V: Drop, const LEN: usize>(
     }
 }
 
-/// The first leaf with an entry, of these keyed ones and then the last.
-fn first_of_leaves<K: Ord + Drop, V: Drop, const LEN: usize>(
+/// The first of these leaves that has an entry.
+fn end_of_leaves<K: Ord + Drop, V: Drop, S: ChildWalk, const LEN: usize>(
     arenas: &ArenasOf<K, V, LEN>,
-    keyed: &ArrayOf<K, LeafId, LEN>,
-    last: LeafId,
+    leaves: ChildrenOf<K, LeafId, S, LEN>,
 ) -> Option<LeafId>
-    requires { AllByRecursion (ContainsKey arenas.now.leaves) (in_turn keyed.now.entries (Some last)) }
-    ensures { FindsFirst On arenas.now.leaves (leaves_of 0 arenas.now.nodes (in_turn keyed.now.entries (Some last))) result }
+    requires { AllByRecursion (ContainsKey arenas.now.leaves) leaves }
+    ensures { FindsFirst S.way arenas.now.leaves (leaves_of 0 arenas.now.nodes (along S.way leaves.entry)) result }
 {
-    for slot in ArrayIter::new(keyed) {
-        let found = with_entry(arenas, *keyed.val(slot));
-        if found.is_some() {
-            return found;
-        }
-    }
-    with_entry(arenas, last)
-}
-
-/// The last leaf with an entry, of these keyed ones and then the last.
-fn last_of_leaves<K: Ord + Drop, V: Drop, const LEN: usize>(
-    arenas: &ArenasOf<K, V, LEN>,
-    keyed: &ArrayOf<K, LeafId, LEN>,
-    last: LeafId,
-) -> Option<LeafId>
-    requires { AllByRecursion (ContainsKey arenas.now.leaves) (in_turn keyed.now.entries (Some last)) }
-    ensures { FindsFirst Back arenas.now.leaves (leaves_of 0 arenas.now.nodes (in_turn keyed.now.entries (Some last))) result }
-{
-    let found = with_entry(arenas, last);
-    if found.is_some() {
-        return found;
-    }
-    for slot in ArrayIter::new(keyed).rev() {
-        let found = with_entry(arenas, *keyed.val(slot));
+    for leaf in leaves {
+        let found = with_entry(arenas, leaf);
         if found.is_some() {
             return found;
         }
@@ -147,10 +118,9 @@ fn with_entry<K: Ord + Drop, V: Drop, const LEN: usize>(
     leaf: LeafId,
 ) -> Option<LeafId>
     requires { ContainsKey arenas.now.leaves leaf }
-    ensures on { FindsFirst On arenas.now.leaves (leaf ∷ []) result }
-    ensures back { FindsFirst Back arenas.now.leaves (leaf ∷ []) result }
+    ensures { (way : Way) → FindsFirst way arenas.now.leaves (leaf ∷ []) result }
 {
-    if arenas.leaf(leaf).array().is_empty() {
+    if array_of(arenas, leaf).is_empty() {
         None
     } else {
         Some(leaf)

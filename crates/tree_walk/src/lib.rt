@@ -1,6 +1,8 @@
 //! Queries on a whole part of a tree: its least and greatest entry, its spare, and its pairs.
 #![tactic(auto)]
 
+mod children;
 pub mod ends;
+mod leaves;
 pub mod listing;
 pub mod spare;

@@ -1,12 +1,12 @@
 //! Writes the entries of a part of a tree, as `Debug` does.
-ghost use Rattle.std.specs.Prelude.{◌<◌, Some};
-ghost use Rattle.std.specs.List.{AllByRecursion};
-ghost use Rattle.slab.specs.Slab.{ContainsKey};
-ghost use Rattle.tree_node.specs.Tree.{StandsOrRetired, in_turn};
+ghost use Rattle.std.specs.Prelude.{◌<◌};
+ghost use Rattle.tree_node.specs.Tree.{StandsOrRetired};
 
+use crate::children::ChildrenOn;
+use crate::leaves::array_of;
 use std::fmt;
 use tree_array::array::{ArrayIter, ArrayOf};
-use tree_leaf::arena::{LeafId, NodeId};
+use tree_leaf::arena::NodeId;
 use tree_node::node::{ArenasOf, NodeOf};
 
 /// Writes the pairs under a number in key order, as `[(1, 10), (3, 4)]`. Returns `Err` if the writer does. Reads
@@ -39,36 +39,16 @@ fn list_pairs<K: Ord + Drop + fmt::Debug, V: Drop + fmt::Debug, W: fmt::Write, c
 {
     match arenas.node(id) {
         NodeOf::Leaf(node) => {
-            let Some(last) = node.unbounded_child else {
-                return;
-            };
-            list_leaves(arenas, &node.children, last, list);
+            for leaf in ChildrenOn::new(&node.children, node.unbounded_child) {
+                list_array(array_of(arenas, leaf), list);
+            }
         }
         NodeOf::Internal(node) => {
-            let Some(last) = node.unbounded_child else {
-                return;
-            };
-            for slot in ArrayIter::new(&node.children) {
-                list_pairs(arenas, level - 1, *node.children.val(slot), list);
+            for child in ChildrenOn::new(&node.children, node.unbounded_child) {
+                list_pairs(arenas, level - 1, child, list);
             }
-            list_pairs(arenas, level - 1, last, list);
         }
     }
-}
-
-/// Adds the pairs of keyed leaves and of the unbounded one.
-fn list_leaves<K: Ord + Drop + fmt::Debug, V: Drop + fmt::Debug, W: fmt::Write, const LEN: usize>(
-    arenas: &ArenasOf<K, V, LEN>,
-    keyed: &ArrayOf<K, LeafId, LEN>,
-    last: LeafId,
-    list: &mut fmt::DebugList<W>,
-)
-    requires { AllByRecursion (ContainsKey arenas.now.leaves) (in_turn keyed.now.entries (Some last)) }
-{
-    for slot in ArrayIter::new(keyed) {
-        list_array(arenas.leaf(*keyed.val(slot)).array(), list);
-    }
-    list_array(arenas.leaf(last).array(), list);
 }
 
 /// Adds the pairs of an array.

@@ -1,6 +1,6 @@
 //! Measures the memory of pairs.
 use crate::keys::Numbers;
-use std::alloc::AllocError;
+use std::alloc::{AllocError, Global};
 use std::rt::Files;
 use std::{fs, io};
 use tree_index::TreeIndex;
@@ -17,19 +17,25 @@ pub struct Footprint {
 /// Stores random pairs of numbers and measures how far the peak resident size grows.
 pub fn measure_footprint(rt: &(impl Files + AllocGlobal), size: usize) -> io::Result<Footprint> {
     let before = greatest_resident(rt)?;
-    let mut source = Numbers::new();
-    let mut index = TreeIndex::new(rt.alloc());
-    for _ in 0..size {
-        let key = source.draw();
-        if index.insert_sync(key, key).is_err() {
-            return Err(AllocError)?;
-        }
-    }
+    let index = index_of(rt.alloc(), size)?;
     let grown = greatest_resident(rt)?.saturating_sub(before);
     Ok(Footprint {
         bytes_a_pair: grown.saturating_mul(1024).checked_div(size).unwrap_or(0),
         checksum: index.len(),
     })
+}
+
+// Returns an index of so many random pairs.
+fn index_of(alloc: Global, size: usize) -> Result<TreeIndex<u64, u64>, AllocError> {
+    let mut source = Numbers::new();
+    let mut index = TreeIndex::new(alloc);
+    for _ in 0..size {
+        let key = source.draw();
+        if index.insert_sync(key, key).is_err() {
+            return Err(AllocError);
+        }
+    }
+    Ok(index)
 }
 
 // Returns the peak resident size of this process in KiB, as Linux reports it.

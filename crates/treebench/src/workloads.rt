@@ -66,9 +66,28 @@ impl Workload {
     }
 }
 
-/// What a workload begins with: an index, the keys stored in it, and the keys to look up or remove. The latter are
-/// looked up once more after all calls.
+/// The keys of a workload over numbers: those that the index holds when it begins, those that it stores, and those that it looks up
+/// or removes. The latter are looked up once more after all calls.
+struct Keys {
+    held: Vec<u64>,
+    coming: Vec<u64>,
+    asked: Vec<u64>,
+}
+
+/// What a workload begins with: an index, the keys to store, and the keys to look up or remove.
 pub type Scene<K> = (TreeIndex<K, u64>, Vec<K>, Vec<K>);
+
+/// Returns an index of the keys held, and the other keys.
+fn scene(alloc: Global, keys: Keys) -> Result<Scene<u64>, AllocError> {
+    let Keys {
+        held,
+        coming,
+        asked,
+    } = keys;
+    let mut index = TreeIndex::new(alloc);
+    insert_all(&mut index, held)?;
+    Ok((index, coming, asked))
+}
 
 /// Returns the scene of a workload over so many numbers.
 pub fn scene_of_numbers(
@@ -80,36 +99,45 @@ pub fn scene_of_numbers(
     let keys = source.list(alloc, size)?;
     let mut order = keys.clone()?;
     source.shuffle(&mut order);
-    let mut index = TreeIndex::new(alloc);
-    let none = Vec::new(alloc);
-    match workload {
-        Workload::InsertAscending => {
-            let coming = ascending(alloc, 0, size)?;
-            let asked = coming.clone()?;
-            Ok((index, coming, asked))
-        }
-        Workload::UpsertRandom => {
-            insert_all(&mut index, keys)?;
-            let coming = order.clone()?;
-            Ok((index, coming, order))
-        }
-        Workload::PeekMiss => {
-            insert_all(&mut index, keys)?;
-            let absent = source.list(alloc, size)?;
-            Ok((index, none, absent))
-        }
-        Workload::PeekHit | Workload::RemoveRandom => {
-            insert_all(&mut index, keys)?;
-            Ok((index, none, order))
-        }
-        Workload::RemoveMiddle => {
-            let mut all = ascending(alloc, 0, size)?;
-            source.shuffle(&mut all);
-            insert_all(&mut index, all)?;
-            let middle = ascending(alloc, size / 4, size - size / 4)?;
-            Ok((index, none, middle))
-        }
-        _ => Ok((index, keys, order)),
+    let keys = match workload {
+        Workload::InsertAscending => ascending_keys(alloc, size)?,
+        Workload::RemoveMiddle => middle_keys(alloc, &mut source, size)?,
+        Workload::PeekMiss => held_keys(alloc, keys, source.list(alloc, size)?),
+        Workload::PeekHit | Workload::RemoveRandom => held_keys(alloc, keys, order),
+        Workload::UpsertRandom => Keys {
+            held: keys,
+            coming: order.clone()?,
+            asked: order,
+        },
+        _ => Keys {
+            held: Vec::new(alloc),
+            coming: keys,
+            asked: order,
+        },
+    };
+    scene(alloc, keys)
+}
+
+fn ascending_keys(alloc: Global, size: usize) -> Result<Keys, AllocError> {
+    Ok(Keys {
+        held: Vec::new(alloc),
+        coming: ascending(alloc, 0, size)?,
+        asked: ascending(alloc, 0, size)?,
+    })
+}
+
+fn middle_keys(alloc: Global, source: &mut Numbers, size: usize) -> Result<Keys, AllocError> {
+    let mut held = ascending(alloc, 0, size)?;
+    source.shuffle(&mut held);
+    let asked = ascending(alloc, size / 4, size - size / 4)?;
+    Ok(held_keys(alloc, held, asked))
+}
+
+fn held_keys(alloc: Global, held: Vec<u64>, asked: Vec<u64>) -> Keys {
+    Keys {
+        held,
+        coming: Vec::new(alloc),
+        asked,
     }
 }
 
@@ -123,14 +151,14 @@ pub fn scene_of_texts(
     let mut numbers = source.list(alloc, size)?;
     let keys = texts(alloc, &numbers)?;
     source.shuffle(&mut numbers);
-    let order = texts(alloc, &numbers)?;
+    let asked = texts(alloc, &numbers)?;
     let mut index = TreeIndex::new(alloc);
     match workload {
         Workload::PeekText => {
             insert_all(&mut index, keys)?;
-            Ok((index, Vec::new(alloc), order))
+            Ok((index, Vec::new(alloc), asked))
         }
-        _ => Ok((index, keys, order)),
+        _ => Ok((index, keys, asked)),
     }
 }
 

@@ -1,9 +1,9 @@
 //! Runs in which a read or a write fails.
 use super::streams::{Failing, Failure, Sink, Source};
-use crate::refusals::with_memory;
 use std::alloc::{AllocError, Global};
 use std::process::Abort;
 use std::test::Fail;
+use test_support::refusals::succeeds;
 use tree_index::TreeIndex;
 use tree_lines::{ToolFault, WriteFailed, run_lines};
 
@@ -48,10 +48,7 @@ fn tells_that_a_read_failed(rt: HostRuntime) {
             let left = (ANSWERS.split_at(answered).0, first, second);
             for passes in from..to {
                 let failing = (Failing { passes, by }, Failing::never());
-                with_memory(
-                    &rt,
-                    || stops_at(&rt, rt.alloc(), failing, ToolFault::Read, left),
-                );
+                assert!(rt; succeeds(|| stops_at(&rt, rt.alloc(), failing, ToolFault::Read, left)));
             }
         }
     }
@@ -65,10 +62,7 @@ fn tells_that_a_write_failed(rt: HostRuntime) {
             let second = if passes < 6 { None } else { Some(20) };
             let left = (ANSWERS.split_at(passes as usize).0, Some(10), second);
             let failing = (Failing::never(), Failing { passes, by });
-            with_memory(
-                &rt,
-                || stops_at(&rt, rt.alloc(), failing, ToolFault::Write, left),
-            );
+            assert!(rt; succeeds(|| stops_at(&rt, rt.alloc(), failing, ToolFault::Write, left)));
         }
     }
 }

@@ -20,7 +20,7 @@ pub struct Failing {
 
 impl Failing {
     /// No call fails that a test makes.
-    pub fn never() -> Failing {
+    pub(crate) fn never() -> Failing {
         Failing {
             passes: u64::MAX,
             by: Failure::Broken,
@@ -52,7 +52,7 @@ pub struct Source<'a> {
 }
 
 impl<'a> Source<'a> {
-    pub fn new(bytes: &'a [u8], piece: usize, failing: Failing) -> Self {
+    pub(crate) fn new(bytes: &'a [u8], piece: usize, failing: Failing) -> Self {
         Source {
             bytes,
             piece,
@@ -83,7 +83,7 @@ pub struct Sink {
 }
 
 impl Sink {
-    pub fn new(piece: usize, failing: Failing) -> Self {
+    pub(crate) fn new(piece: usize, failing: Failing) -> Self {
         Sink {
             taken: [0; 256],
             length: 0,
@@ -93,7 +93,7 @@ impl Sink {
     }
 
     /// Returns the bytes that were taken.
-    pub fn taken(&self) -> &[u8] {
+    pub(crate) fn taken(&self) -> &[u8] {
         &self.taken[..self.length.min(256)]
     }
 }

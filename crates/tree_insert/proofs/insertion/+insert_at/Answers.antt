@@ -1,5 +1,5 @@
 use Rattle.std.proofs.Common.{rules, ◌<◌, ◌-◌, false, inl, arith}
-use Rattle.tree_insert.specs.Splits.{HasMadeRoom, LacksRoom, SplitsChild}
+use Rattle.tree_split.specs.Splits.{HasMadeRoom, LacksRoom, SplitsChild}
 use Rattle.tree_insert.proofs.Attempts.{fewer_below}
 use Rattle.tree_insert.proofs.Descents.{first_level, full_under, has_none, has_some, leaf_full, leaf_stored, leaf_there, refused_below, stored_below, under}
 use Rattle.tree_insert.proofs.Retries.{child_part_at, last_attempt, no_room_either, part_with_room, refused_room, retried, room_by_split, which_still}

@@ -7,7 +7,7 @@ use Rattle.tree_node.specs.declared.node.NodeOf.TheVariants.{Leaf}
 use Rattle.tree_node.proofs.Bare.{has_only, some_slots}
 use Rattle.tree_node.proofs.Unchanged.{unchanged_by_keeping}
 use Rattle.tree_node.proofs.Sizes.{fits}
-use Rattle.tree_insert.proofs.Variants.{children_fit}
+use Rattle.tree_split.proofs.Variants.{children_fit}
 use Rattle.tree_insert.proofs.planting.plant_again.Goals as goal
 
 pub returns-in_default : goal.returns-in_default

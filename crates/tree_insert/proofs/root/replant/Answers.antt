@@ -7,8 +7,8 @@ use Rattle.tree_node.proofs.Bare.{no_children}
 use Rattle.tree_node.proofs.Unchanged.{unchanged_by_keeping}
 use Rattle.tree_node.proofs.Sizes.{fits}
 use Rattle.tree_insert.proofs.Replants.{replants}
-use Rattle.tree_insert.proofs.Results.{on_err}
-use Rattle.tree_insert.proofs.Variants.{children_fit}
+use Rattle.tree_split.proofs.Results.{on_err}
+use Rattle.tree_split.proofs.Variants.{children_fit}
 use Rattle.tree_insert.proofs.root.replant.Goals as goal
 
 pub new-leaf-requires : goal.new-leaf-requires

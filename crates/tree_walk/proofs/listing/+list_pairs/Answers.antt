@@ -1,12 +1,10 @@
-use Rattle.std.proofs.Common.{rules, ◌<◌, ◌-◌, IsSome, Some}
-use Rattle.std.specs.List.{AllByRecursion}
+use Rattle.std.proofs.Common.{rules, ◌∙◌, ◌<◌, ◌-◌}
 use Rattle.slab.specs.Slab.{ContainsKey}
-use Rattle.tree_array.specs.Arrivals.{arrival}
-use Rattle.tree_node.specs.Tree.{StandsOrRetired, in_turn}
-use Rattle.tree_node.proofs.ChildrenStand.{over_leaves, over_nodes}
-use Rattle.tree_walk.proofs.ChildTurns.{begins_over, slot_reachable, child_turn, holds_in_turn, holds_at_last}
+use Rattle.tree_leaf.specs.declared.leaf.stand.Way.TheVariants.{On}
+use Rattle.tree_node.specs.Tree.{StandsOrRetired}
 use Rattle.tree_node.proofs.Levels.{node_at}
 use Rattle.tree_node.proofs.Sizes.{fits}
+use Rattle.tree_walk.proofs.Under.{leaf_node_over, node_over}
 use Rattle.tree_walk.proofs.listing.+list_pairs.Goals as goal
 
 pub node-requires : goal.node-requires
@@ -14,34 +12,28 @@ node-requires g t c =
     let there : ContainsKey c.args.arenas.now.nodes c.args.id = node_at g.K.Ord.cmp c.args.arenas.now c.args.id c.args.level c.requires.node c.requires.stands in
     search rules
 
-pub list_leaves-requires : goal.list_leaves-requires
-list_leaves-requires g t c =
-    let over = over_leaves g.K.Ord.cmp c.args.arenas.now c.args.id c.args.level c.requires.node c.requires.stands c.in-Leaf.node (rw c.in-Leaf.is at c.node.ensures) _ c.in-Some.is in
-    let there : AllByRecursion (ContainsKey c.args.arenas.now.leaves) (in_turn c.in-Leaf.node.children.entries (Some c.in-Some.last)) = over.there in
-    search rules
+pub loop-leaf-init : goal.loop-leaf-init
+loop-leaf-init g t c =
+    (leaf_node_over g.K.Ord.cmp c.args.arenas.now c.args.id c.args.level c.requires.node c.requires.stands On c.into_iter-leaf-iterator.result c.in-Leaf.node (rw c.in-Leaf.is at c.node.ensures) (c.into_iter-leaf-iterator.ensures.into_iter_gives ∙ c.new-leaf-items.ensures)).each
 
-pub loop-slot-init : goal.loop-slot-init
-loop-slot-init g t c = (begins_over c.in-Internal.node.children _ _ _ c.into_iter-slot-iterator.ensures.into_iter_gives c.new-slot-items.ensures.slots c.new-slot-items.ensures.over.slots).0
+pub array_of-requires : goal.array_of-requires
+array_of-requires g t c =
+    let there : ContainsKey c.args.arenas.now.leaves c.in-Some.leaf = (rw c.in-Some.ensures.steps at c.loop-leaf.invariant).0 in
+    search (rules, fits)
 
-pub val-requires : goal.val-requires
-val-requires g t c =
-    let there : IsSome (arrival c.in-Internal.node.children.arrivals c.in-Some-slot.slot) = slot_reachable c.in-Internal.node.children _ _ _ c.loop-slot.invariant c.in-Some-slot.ensures.steps in
-    search rules
+pub loop-leaf-preserved : goal.loop-leaf-preserved
+loop-leaf-preserved g t c = (rw c.in-Some.ensures.steps at c.loop-leaf.invariant).1
+
+pub loop-child-init : goal.loop-child-init
+loop-child-init g t c =
+    (node_over g.K.Ord.cmp c.args.arenas.now c.args.id c.args.level c.requires.node c.requires.stands On c.into_iter-child-iterator.result c.in-Internal.node (rw c.in-Internal.is at c.node.ensures) (c.into_iter-child-iterator.ensures.into_iter_gives ∙ c.new-child-items.ensures)).each
 
 pub list_pairs-requires : goal.list_pairs-requires
 list_pairs-requires g t c κs within =
-    let over = over_nodes g.K.Ord.cmp c.args.arenas.now c.args.id c.args.level c.requires.node c.requires.stands c.in-Internal.node (rw c.in-Internal.is at c.node.ensures) _ c.in-Some-unbounded_child.is in
-    let turn = child_turn c.in-Internal.node.children _ _ _ c.loop-slot.invariant c.in-Some-slot.ensures.steps _ c.val.ensures in
-    let inner : 0 < c.args.level - 1 = over.inner in
-    let stands : StandsOrRetired g.K.Ord.cmp (c.args.level - 1) c.args.arenas.now c.val.result.now = holds_in_turn c.in-Internal.node.children _ _ over.stand _ _ _ turn in
+    let below = (rw c.in-Some-child.ensures.steps at c.loop-child.invariant).0 in
+    let inner : 0 < c.args.level - 1 = below.0 in
+    let stands : StandsOrRetired g.K.Ord.cmp (c.args.level - 1) c.args.arenas.now c.in-Some-child.child = below.1 in
     (search rules, (within.0, (within.1.0, (within.1.1, (search rules, search (rules, fits))))))
 
-pub loop-slot-preserved : goal.loop-slot-preserved
-loop-slot-preserved g t c = (child_turn c.in-Internal.node.children _ _ _ c.loop-slot.invariant c.in-Some-slot.ensures.steps _ c.val.ensures).over
-
-pub list_pairs-requires-in-Internal : goal.list_pairs-requires-in-Internal
-list_pairs-requires-in-Internal g t c κs within =
-    let over = over_nodes g.K.Ord.cmp c.args.arenas.now c.args.id c.args.level c.requires.node c.requires.stands c.in-Internal.node (rw c.in-Internal.is at c.node.ensures) _ c.in-Some-unbounded_child.is in
-    let inner : 0 < c.args.level - 1 = over.inner in
-    let stands : StandsOrRetired g.K.Ord.cmp (c.args.level - 1) c.args.arenas.now c.in-Some-unbounded_child.last = holds_at_last c.in-Internal.node.children _ _ over.stand in
-    (search rules, (within.0, (within.1.0, (within.1.1, (search rules, search (rules, fits))))))
+pub loop-child-preserved : goal.loop-child-preserved
+loop-child-preserved g t c = (rw c.in-Some-child.ensures.steps at c.loop-child.invariant).1

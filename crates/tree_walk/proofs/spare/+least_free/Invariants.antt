@@ -1,11 +1,18 @@
 use Rattle.std.proofs.Common.{◌-◌}
-use Rattle.tree_node.specs.Shape.{leaf_free}
+use Rattle.slab.specs.Slab.{ContainsKey}
+use Rattle.tree_node.specs.Shape.{leaf_free, least}
 use Rattle.tree_node.specs.Tree.{leaves_at}
-use Rattle.tree_walk.proofs.LeastFree.{LeastSoFar}
+use Rattle.tree_walk.proofs.LeastFree.{IsLeft}
+use Rattle.tree_walk.proofs.Under.{StandsBelow}
 use Rattle.tree_walk.proofs.spare.+least_free.Given as goal
 
 abbrev pub decreases-least_free : goal.decreases-least_free
 decreases-least_free g l = l.level
 
-abbrev pub invariant-loop-slot : goal.invariant-loop-slot
-invariant-loop-slot g l = LeastSoFar l.most (leaf_free l.arenas.leaves) (leaves_at (l.level - 1) l.arenas.nodes) l.node.children l.so_far l.slot-iterator
+abbrev pub invariant-loop-leaf : goal.invariant-loop-leaf
+invariant-loop-leaf g l =
+    IsLeft (leaf_free l.arenas.leaves) (leaves_at 0 l.arenas.nodes) (ContainsKey l.arenas.leaves) (least l.fn.most (leaf_free l.arenas.leaves) (leaves_at l.fn.level l.arenas.nodes l.fn.id)) l.so_far l.leaf-iterator
+
+abbrev pub invariant-loop-child : goal.invariant-loop-child
+invariant-loop-child g l =
+    IsLeft (leaf_free l.arenas.leaves) (leaves_at (l.level - 1) l.arenas.nodes) (StandsBelow l.level l.arenas g.K.Ord.cmp) (least l.fn.most (leaf_free l.arenas.leaves) (leaves_at l.fn.level l.arenas.nodes l.fn.id)) l.so_far l.child-iterator

@@ -1,5 +1,6 @@
+use Rattle.std.proofs.Common.{rules}
 use Rattle.tree_node.proofs.Sizes.{fits}
 use Rattle.tree_walk.proofs.spare.free_in.Goals as goal
 
-pub leaf-requires : goal.leaf-requires
-leaf-requires g c = (search fits, (search fits, c.requires))
+pub array_of-array-requires : goal.array_of-array-requires
+array_of-array-requires g c = search (rules, fits)

@@ -1,0 +1,291 @@
+//! What the calls of an array answer, on arrays worked out by hand.
+use super::found::{Found, found, slot_from};
+use super::plain::word;
+use std::ops::Bound;
+use std::process::Abort;
+use std::test::Fail;
+use tree_array::array::{
+    Array, ArrayIter, ArrayOf, ArrayRevIter, DIMENSION, RemoveResult, range_contains,
+};
+
+/// The array in which these keys arrived, each with itself as its value.
+fn of(keys: &[u64]) -> Array<u64, u64> {
+    let mut array = Array::new();
+    for key in keys {
+        let _ = array.insert::<true>(*key, *key);
+    }
+    array
+}
+
+fn small_of(keys: &[u64]) -> ArrayOf<u64, u64, 7> {
+    let mut array = ArrayOf::new();
+    for key in keys {
+        let _ = array.insert::<true>(*key, *key);
+    }
+    array
+}
+
+/// Whether a walk gives these slots and no more.
+fn gives(walk: ArrayIter, slots: &[u8]) -> bool {
+    let mut walk = walk;
+    for slot in slots {
+        if walk.next() != Some(*slot) {
+            return false;
+        }
+    }
+    walk.next().is_none()
+}
+
+/// Whether the marks are these: no entry, no slot to spare, retired.
+fn marks(array: &Array<u64, u64>) -> (bool, bool, bool) {
+    (array.is_empty(), array.is_full(), array.is_retired())
+}
+
+/// The pair of a key, its value, and the slot of the least key from it on.
+type AtKey = (u64, Found);
+
+/// Compares what the searches find.
+fn expect_found(rt: &impl Abort, array: &Array<u64, u64>, rows: &[AtKey]) {
+    for (key, wanted) in rows {
+        assert!(rt; found(array, *key) == *wanted);
+    }
+}
+
+static OF_FIVE_ARRIVALS: [AtKey; 4] = [
+    (9, (Some((9, 90)), Some(90), Some(4))),
+    (6, (None, None, Some(4))),
+    (3, (None, None, Some(3))),
+    (10, (None, None, None)),
+];
+
+#[test]
+fn stores_and_finds(rt: HostRuntime) {
+    let mut array = of(&[5, 3, 9]);
+    assert_eq!(rt; array.len(), 3);
+    assert_eq!(rt; array.remove_if(&3, |_| true), RemoveResult::Success);
+    assert_eq!(rt; word(array.insert::<false>(4, 4)), ("Success", None));
+    assert_eq!(rt; (array.len(), array.free()), (3, 11));
+    assert_eq!(rt; word(array.insert::<true>(9, 90)), ("Success", None));
+    assert_eq!(rt; (array.len(), array.free()), (3, 10));
+    assert_eq!(rt; array.optimal_boundary(), (15, 3, false));
+    expect_found(&rt, &array, &OF_FIVE_ARRIVALS);
+}
+
+#[test]
+fn stores_in_seven_slots(rt: HostRuntime) {
+    let array = small_of(&[6, 2, 4]);
+    assert_eq!(rt; (array.len(), array.free()), (3, 4));
+    assert!(rt; gives(ArrayIter::new(&array), &[1, 2, 0]));
+    assert_eq!(rt; (DIMENSION.len, DIMENSION.bits), (15, 4));
+}
+
+/// The array in which one key arrived fifteen times.
+fn of_one_key(rt: &impl Abort) -> Array<u64, u64> {
+    let mut array = Array::new();
+    for val in 0..15 {
+        assert!(rt; !array.is_full());
+        assert!(rt; word(array.insert::<true>(7, val)) == ("Success", None));
+    }
+    array
+}
+
+static OF_ONE_KEY: [AtKey; 1] = [(7, (Some((7, 14)), Some(14), Some(14)))];
+
+#[test]
+fn one_key_many_times(rt: HostRuntime) {
+    let mut array = of_one_key(&rt);
+    assert_eq!(rt; marks(&array), (false, true, false));
+    assert_eq!(rt;
+        (array.free(), array.optimal_boundary()),
+        (0, (15, 1, false))
+    );
+    assert_eq!(rt; word(array.insert::<true>(7, 70)), ("Full", Some((7, 70))));
+    assert_eq!(rt;
+        word(array.insert::<false>(7, 71)),
+        ("Duplicate", Some((7, 71)))
+    );
+    assert_eq!(rt; word(array.insert::<false>(8, 80)), ("Full", Some((8, 80))));
+    expect_found(&rt, &array, &OF_ONE_KEY);
+}
+
+#[test]
+fn retires(rt: HostRuntime) {
+    let mut array = of(&[5]);
+    assert_eq!(rt; array.remove_if(&5, |_| false), RemoveResult::Fail);
+    assert_eq!(rt; marks(&array), (false, false, false));
+    assert_eq!(rt; array.remove_if(&5, |_| true), RemoveResult::Retired);
+    assert_eq!(rt; array.remove_if(&5, |_| true), RemoveResult::Fail);
+    assert_eq!(rt; marks(&array), (true, true, true));
+    assert_eq!(rt; (array.free(), array.len()), (14, 0));
+    assert_eq!(rt; word(array.insert::<false>(6, 6)), ("Full", Some((6, 6))));
+}
+
+/// Takes the pair of the least key from this one on.
+fn take_from(array: &mut Array<u64, u64>, key: u64) -> Option<(u64, u64, RemoveResult)> {
+    let slot = slot_from(array, key)?;
+    Some(array.take(slot))
+}
+
+#[test]
+fn takes(rt: HostRuntime) {
+    let mut array = of(&[5, 3, 9]);
+    let taken = take_from(&mut array, 2);
+    assert!(rt; taken == Some((3, 3, RemoveResult::Success)));
+    let taken = take_from(&mut array, 5);
+    assert!(rt; taken == Some((5, 5, RemoveResult::Success)));
+    let taken = take_from(&mut array, 5);
+    assert!(rt; taken == Some((9, 9, RemoveResult::Retired)));
+    assert_eq!(rt; slot_from(&array, 0), None);
+}
+
+#[test]
+fn replaces_a_value(rt: HostRuntime) -> Result<(), Fail> {
+    let mut array = of(&[5, 3, 9]);
+    let slot = slot_from(&array, 2).ok_or("a slot")?;
+    assert_eq!(rt; (slot, *array.key(slot), *array.val(slot)), (1, 3, 3));
+    assert_eq!(rt; array.set_val(slot, 30), 3);
+    assert_eq!(rt; found(&array, 3), (Some((3, 30)), Some(30), Some(1)));
+    Ok(())
+}
+
+/// Keys in the order of their arrival, and where their array is to be divided, how many there are, and whether all
+/// came in ascending order.
+type Division<const COUNT: usize> = ([u64; COUNT], (u8, usize, bool));
+
+static DIVISIONS: [Division<15>; 5] = [
+    (
+        [0, 1, 2, 3, 4, 5, 6, 7, 8, 9, 10, 11, 12, 13, 14],
+        (14, 15, true),
+    ),
+    (
+        [14, 13, 12, 11, 10, 9, 8, 7, 6, 5, 4, 3, 2, 1, 0],
+        (1, 15, false),
+    ),
+    (
+        [7, 6, 5, 4, 3, 2, 1, 0, 8, 9, 10, 11, 12, 13, 14],
+        (7, 15, false),
+    ),
+    (
+        [0, 1, 2, 3, 4, 5, 6, 7, 9, 8, 10, 11, 12, 13, 14],
+        (13, 15, false),
+    ),
+    (
+        [14, 13, 12, 11, 10, 8, 9, 7, 6, 5, 4, 3, 2, 1, 0],
+        (2, 15, false),
+    ),
+];
+
+#[test]
+fn boundaries(rt: HostRuntime) {
+    for (keys, wanted) in &DIVISIONS {
+        assert!(rt; of(keys).optimal_boundary() == *wanted);
+    }
+}
+
+static SMALL_DIVISIONS: [Division<7>; 4] = [
+    ([1, 2, 3, 4, 5, 6, 7], (6, 7, true)),
+    ([2, 1, 3, 4, 5, 6, 7], (5, 7, false)),
+    ([6, 2, 4, 1, 7, 3, 5], (3, 7, false)),
+    ([7, 6, 5, 4, 3, 2, 1], (1, 7, false)),
+];
+
+#[test]
+fn boundaries_of_seven_slots(rt: HostRuntime) {
+    for (keys, wanted) in &SMALL_DIVISIONS {
+        assert!(rt; small_of(keys).optimal_boundary() == *wanted);
+    }
+    assert!(rt; small_of(&[1, 2, 3, 4, 5]).optimal_boundary() == (7, 5, false));
+}
+
+static OF_THE_LEAST: [AtKey; 1] = [(3, (Some((3, 3)), Some(3), Some(0)))];
+
+static OF_THE_OTHERS: [AtKey; 2] = [
+    (5, (Some((5, 5)), Some(5), Some(0))),
+    (9, (Some((9, 9)), Some(9), Some(1))),
+];
+
+#[test]
+fn distributes(rt: HostRuntime) {
+    let mut array = of(&[5, 3, 9]);
+    let (mut low, mut high) = (Array::new(), Array::new());
+    array.distribute(1, &mut low, &mut high);
+    assert_eq!(rt; marks(&array), (true, true, true));
+    assert_eq!(rt; (low.free(), high.free()), (14, 13));
+    expect_found(&rt, &low, &OF_THE_LEAST);
+    expect_found(&rt, &high, &OF_THE_OTHERS);
+}
+
+static OF_THE_GREATEST: [AtKey; 1] = [(9, (Some((9, 9)), Some(9), Some(0)))];
+
+#[test]
+fn distributes_apart(rt: HostRuntime) {
+    let mut array = of(&[5, 3, 9]);
+    let (mut low, mut high) = (Array::new(), Array::new());
+    let apart = array.distribute_apart(1, &mut low, &mut high);
+    assert!(rt; apart == Some((5, 5)));
+    assert_eq!(rt; marks(&array), (true, true, true));
+    assert_eq!(rt; (low.free(), high.free()), (14, 14));
+    expect_found(&rt, &low, &OF_THE_LEAST);
+    expect_found(&rt, &high, &OF_THE_GREATEST);
+}
+
+#[test]
+fn distributes_nothing(rt: HostRuntime) {
+    let mut array: Array<u64, u64> = Array::new();
+    let (mut low, mut high) = (Array::new(), Array::new());
+    assert_eq!(rt; array.distribute_apart(0, &mut low, &mut high), None);
+    assert!(rt; array.is_retired());
+    assert_eq!(rt; marks(&low), (true, false, false));
+    assert_eq!(rt; marks(&high), (true, false, false));
+}
+
+#[test]
+fn removes_ranges(rt: HostRuntime) {
+    let mut array = of(&[5, 3, 9, 7]);
+    array.remove_range((Bound::Included(&7), Bound::Excluded(&5)));
+    array.remove_range((Bound::Excluded(&3), Bound::Included(&7)));
+    assert!(rt; gives(ArrayIter::new(&array), &[1, 2]));
+    array.remove_range((Bound::Unbounded, Bound::Unbounded));
+    assert!(rt; array.is_retired());
+    let mut new: Array<u64, u64> = Array::new();
+    new.remove_range((Bound::Unbounded, Bound::Unbounded));
+    assert!(rt; !new.is_retired());
+}
+
+#[test]
+fn meets_bounds(rt: HostRuntime) {
+    assert!(rt; range_contains((Bound::Included(&3), Bound::Excluded(&5)), &4));
+    assert!(rt; !range_contains((Bound::Included(&3), Bound::Excluded(&5)), &5));
+    assert!(rt; !range_contains((Bound::Excluded(&3), Bound::Unbounded), &3));
+}
+
+#[test]
+fn walks(rt: HostRuntime) -> Result<(), Fail> {
+    let array = of(&[5, 3, 9]);
+    let mut walk = ArrayIter::new(&array);
+    assert!(rt; gives(walk.clone()?, &[1, 0, 2]) && walk.slot().is_none());
+    let steps = (walk.next(), walk.next(), walk.next(), walk.next());
+    assert_eq!(rt; steps, (Some(1), Some(0), Some(2), None));
+    assert_eq!(rt; walk.slot(), Some(2));
+    let mut back = walk.rev();
+    let steps = (back.next(), back.next(), back.next(), back.slot());
+    assert_eq!(rt; steps, (Some(0), Some(1), None, Some(1)));
+    back.rewind();
+    assert_eq!(rt; (back.slot(), back.next()), (None, Some(2)));
+    Ok(())
+}
+
+#[test]
+fn turns_about(rt: HostRuntime) -> Result<(), Fail> {
+    let array = of(&[5, 3, 9]);
+    assert_eq!(rt; ArrayRevIter::new(&array).rev().next(), Some(1));
+    assert_eq!(rt; ArrayIter::new(&array).rev().next(), Some(2));
+    let mut back = ArrayRevIter::new(&array);
+    let steps = (back.next(), back.next(), back.next());
+    assert_eq!(rt; steps, (Some(2), Some(0), Some(1)));
+    let mut walk = back.clone()?.rev();
+    assert_eq!(rt; walk.next(), Some(0));
+    walk.rewind();
+    assert_eq!(rt; walk.next(), Some(1));
+    Ok(())
+}

@@ -1,0 +1,7 @@
+//! Tests of arrays, and of leaves in a chain, through their public items.
+#![tactic(auto)]
+
+#[cfg(test)]
+mod array;
+#[cfg(test)]
+mod leaf;

@@ -1,0 +1,5 @@
+//! What the crates of tests share.
+#![tactic(auto)]
+
+pub mod chance;
+pub mod refusals;

@@ -1,0 +1,144 @@
+-- A leaf node that makes room for a key: its leaf is split or built anew.
+use Rattle.std.proofs.Common.{◌≡◌, ◌⊎◌, ℕ, suc, ◌-◌, ◌<◌, ◌≤◌, true, List, ◌∷◌, ◌++◌, length, drop, take, slice_get, Option, Some, None, IsSome, refl, sym, ap, ◌∙◌, arith, sub-one, inl, inr}
+use Rattle.std.specs.declared.cmp.Ordering.{Ordering}
+use Rattle.std.specs.declared.cmp.Ordering.TheVariants.{Equal}
+use Rattle.std.specs.Cmp.{IsTotalOrder}
+use Rattle.slab.specs.Slab.{get, with_value, HasRoomFor}
+use Rattle.slab.proofs.SlabLemmas.{Updates-with_value}
+use Rattle.tree_array.specs.Arrivals.{Arrivals, in_order}
+use Rattle.tree_array.specs.Length.{IsLen, limit}
+use Rattle.tree_leaf.specs.declared.leaf.LeafOf.{LeafOf}
+use Rattle.tree_leaf.specs.Arena.{KeepsBoth, HasPlaces}
+use Rattle.tree_leaf.specs.Chain.{IsChain}
+use Rattle.tree_leaf.specs.Links.{GainsBefore}
+use Rattle.tree_leaf.proofs.Rooms.{rewritten}
+use Rattle.tree_model.specs.Pairs.{IsAbsent}
+use Rattle.tree_node.specs.declared.node.NodeOf.{NodeOf}
+use Rattle.tree_node.specs.Arenas.{TreeArenas}
+use Rattle.tree_node.specs.Parts.{IsPart, PutsChild, Unchanged}
+use Rattle.tree_split.specs.Splits.{HasMadeRoom, IsCut}
+use Rattle.tree_node.specs.Shape.{room}
+use Rattle.tree_node.specs.Tree.{IsAbove, IsUpTo, HasChildFor, HasKind, LeafStands, Stands, keyed, unbounded, child_at, is_from, leaf_entries}
+use Rattle.tree_node.proofs.ChildChanges.{child_part}
+use Rattle.tree_node.proofs.Children.{child_stands}
+use Rattle.tree_split.proofs.LeafSplits.{IsBetween, high_room, leaf_splits_low, low_room}
+use Rattle.tree_node.proofs.LeafWrites.{with_array, array_replaces}
+use Rattle.tree_node.proofs.LowSplits.{GainsLow, absent_here, gains_low}
+use Rattle.tree_node.proofs.Standing.{node_is}
+use Rattle.tree_node.proofs.Places.{IsForKey, high_for, low_for, place_for}
+use Rattle.tree_split.proofs.Rebuilds.{among, leaf_rebuilt, room_made_by_rebuild}
+use Rattle.tree_node.proofs.Unchanged.{chain_same, unchanged_by_keeping}
+
+-- room was made for a key by a new child before the old one
+room_made_for : {K V : Type 0} {LEN : ℕ} {cmp : K → K → Ordering} {Within : Option K → Option K → Type 0} (level : ℕ) (old mid new : TreeArenas K V LEN) (id x y : ℕ) (separator key : K) → GainsLow cmp Within level old mid new id x y separator
+    → HasChildFor cmp key (get old.nodes id) x → ((low high : Option K) → IsAbove cmp low key → IsUpTo cmp key high → Within low high)
+    → (is_from cmp key separator ≡ true → 0 < room level mid y) → 0 < room level mid x → HasMadeRoom cmp (suc level) old new id key
+room_made_for {cmp = cmp} level old mid new id x y separator key gains which fits low_room high_room = record {
+  pairs = gains.pairs;
+  stands = λ low high above up_to s. gains.stands low high (fits low high above up_to) s;
+  replaces = gains.replaces;
+  spends = gains.spends;
+  child = λ child routed. rw sub-one (by_child child (gains.routed key child which routed));
+}
+  where
+    by_child : (child : ℕ) → ((child ≡ y) × (is_from cmp key separator ≡ true)) ⊎ (child ≡ x) → 0 < room level new child
+    by_child child (inl low) = rw low.0 (gains.low_room (low_room low.1))
+    by_child child (inr high) = rw high (gains.high_room high_room)
+
+-- a reserve leaves a leaf as it was read
+pub leaf_read : {K V : Type 0} {LEN : ℕ} (old reserved : TreeArenas K V LEN) → KeepsBoth old reserved → (x : ℕ) (before after : LeafOf K V LEN) → get old.leaves x ≡ Some before → get reserved.leaves x ≡ Some after → before ≡ after
+leaf_read old reserved keeps x before after was is = let both : Some before ≡ Some after = sym was ∙ sym ((unchanged_by_keeping old reserved keeps).leaves x) ∙ is in cc
+
+module _ {K V : Type 0} {LEN : ℕ} {cmp : K → K → Ordering} (o : IsTotalOrder cmp) (old : TreeArenas K V LEN) (id x : ℕ) (key : K) (part : IsPart cmp 1 old id) (which : HasChildFor cmp key (get old.nodes id) x) where
+  stood : Stands cmp 1 old None id None
+  stood = part.stands
+
+  leaf_stood : LeafStands cmp old.leaves None x None
+  leaf_stood = child_stands o 0 old id part.stands key x which
+
+  pub leaf_used : IsSome (get old.leaves x)
+  leaf_used = rw leaf_stood.here refl
+
+  -- a chain runs through the leaf, also where its array is written
+  pub chain_through : (reserved : TreeArenas K V LEN) → KeepsBoth old reserved → (leaf : LeafOf K V LEN) (array : Arrivals K V) → get reserved.leaves x ≡ Some leaf
+      → (front back : List ℕ) × IsChain (with_array reserved x leaf array).leaves (front ++ x ∷ back)
+  chain_through reserved keeps leaf array there =
+      let child = child_part o 0 old id x key part which None None part.stands in
+      let same = unchanged_by_keeping old reserved keeps in
+      (child.front, child.back, (array_replaces reserved x leaf array there).chained child.front child.back (chain_same old.leaves reserved.leaves same.leaves _ child.chain))
+
+  module _ (node : NodeOf K LEN) (was_node : get old.nodes id ≡ Some node) where
+    stood_node : stood.node ≡ node
+    stood_node = node_is 0 old None id None stood node was_node
+
+    last_is : unbounded node ≡ Some stood.last
+    last_is = rw stood_node at stood.last_is
+
+    place : IsForKey cmp key (keyed node).entries stood.last
+    place = place_for o key (keyed node).entries stood.last
+
+    goes : child_at (is_from cmp key) (keyed node).entries stood.last ≡ x
+    goes = let routed : Some (child_at (is_from cmp key) (keyed node).entries stood.last) ≡ Some x = rw (was_node, last_is) at which in cc
+
+    -- the leaf is built anew
+    pub leaf_room_by_rebuild : (leaf : LeafOf K V LEN) → get old.leaves x ≡ Some leaf → IsLen LEN → length leaf.array.entries ≤ limit LEN
+        → HasMadeRoom cmp 1 old (with_array old x leaf (in_order leaf.array.entries)) id key
+    leaf_room_by_rebuild leaf was is_len few =
+        room_made_by_rebuild 0 old (with_array old x leaf (in_order leaf.array.entries)) id x part (leaf_rebuilt old x leaf was is_len few) _ _
+        (among (get old.nodes id) node stood.last x was_node last_is (record { before = place.before; onward = place.onward; split = place.split; child = place.child ∙ goes })) key which
+
+  -- the leaf gave its first entries to a new one
+  module _ (reserved mid : TreeArenas K V LEN) (y count : ℕ) (leaf : LeafOf K V LEN) (high : Arrivals K V) (low : LeafOf K V LEN) (pair : K × V) (separator : K)
+      (keeps : KeepsBoth old reserved) (there : get reserved.leaves x ≡ Some leaf)
+      (high_is : high ≡ in_order (drop count leaf.array.entries)) (low_is : low.array ≡ in_order (take count leaf.array.entries))
+      (gains : GainsBefore (with_array reserved x leaf high) mid x y low)
+      (last_low : slice_get leaf.array.entries (count - 1) ≡ Some pair) (cloned : cmp pair.0 separator ≡ Equal)
+      (cut : IsCut cmp key count (leaf_entries old.leaves x))
+      (node : NodeOf K LEN) (is_node : get mid.nodes id ≡ Some node) where
+    same : Unchanged old reserved
+    same = unchanged_by_keeping old reserved keeps
+
+    pub parent_was : get old.nodes id ≡ Some node
+    parent_was = sym (same.nodes id) ∙ ap (λ nodes. get nodes id) (sym gains.nodes) ∙ is_node
+
+    was : get old.leaves x ≡ Some leaf
+    was = sym (same.leaves x) ∙ there
+
+    cut_here : IsCut cmp key count leaf.array.entries
+    cut_here = rw was at cut
+
+    few : length leaf.array.entries ≤ LEN
+    few = let both : Some leaf_stood.leaf ≡ Some leaf = sym leaf_stood.here ∙ was in let is : leaf_stood.leaf ≡ leaf = cc in rw is at leaf_stood.few
+
+    at : IsForKey cmp key (keyed node).entries (stood).last
+    at = place node parent_was
+
+    pub parent_kind : HasKind 0 node
+    parent_kind = rw (stood_node node parent_was) at stood.kind
+
+    pub separator_is_new : IsAbsent cmp (keyed node).entries separator
+    separator_is_new =
+        absent_here o (IsBetween cmp key) 0 old mid id x y separator part
+        (leaf_splits_low o old reserved mid x y count leaf high low pair separator key same there high_is low_is gains last_low cloned cut_here)
+        node parent_was at.before at.onward stood.last (last_is node parent_was) at.split (at.child ∙ goes node parent_was)
+        (λ low_key high_key inside. (low_for cmp key low_key at.before at.smaller inside.0, high_for cmp key at.onward high_key at.up_to inside.1)) (tt, tt)
+
+    pub leaf_room_by_split : (node' : NodeOf K LEN) → PutsChild cmp node node' separator y → HasMadeRoom cmp 1 old (record mid { nodes = with_value mid.nodes id node' }) id key
+    leaf_room_by_split node' puts =
+        let update = Updates-with_value mid.nodes id node' (rw is_node refl) in
+        room_made_for 0 old mid (record mid { nodes = with_value mid.nodes id node' }) id x y separator key
+        (gains_low o (IsBetween cmp key) 0 old mid id x y separator part
+        (leaf_splits_low o old reserved mid x y count leaf high low pair separator key same there high_is low_is gains last_low cloned cut_here)
+        node parent_was at.before at.onward stood.last (last_is node parent_was) at.split (at.child ∙ goes node parent_was)
+        (λ low_key high_key inside. (low_for cmp key low_key at.before at.smaller inside.0, high_for cmp key at.onward high_key at.up_to inside.1)) (tt, tt)
+        (record mid { nodes = with_value mid.nodes id node' }) node' update.changed puts (λ n differs. update.others n differs) refl)
+        which (λ low_key high_key above up_to. (above, up_to))
+        (low_room o old reserved mid x y count leaf high low pair separator key same there high_is low_is gains last_low cloned cut_here few)
+        (high_room o old reserved mid x y count leaf high low pair separator key same there high_is low_is gains last_low cloned cut_here few)
+
+-- a write in a leaf takes none of the room that was reserved
+pub room_after_write : {K V : Type 0} {LEN : ℕ} (reserved : TreeArenas K V LEN) (x : ℕ) (leaf : LeafOf K V LEN) → get reserved.leaves x ≡ Some leaf → (value : LeafOf K V LEN) → HasPlaces reserved 1 0
+    → HasRoomFor (with_value reserved.leaves x value) 1
+room_after_write reserved x leaf there value places =
+    let room = rewritten reserved.leaves x value (rw there refl) in
+    omega (arith, room.counted, places.leaves)

@@ -1,0 +1,63 @@
+use Rattle.std.proofs.Common.{rules, ◌≡◌, ◌∙◌, ◌<◌, ◌≤◌, length, Some, refl, sym, ap}
+use Rattle.tree_array.specs.Length.{limit}
+use Rattle.tree_node.specs.declared.node.NodeOf.TheVariants.{Leaf}
+use Rattle.tree_split.specs.Splits.{IsCut}
+use Rattle.tree_split.proofs.Fulls.{full_room, not_full_room}
+use Rattle.tree_split.proofs.LeafRooms.{leaf_room_by_rebuild, leaf_used}
+use Rattle.tree_split.proofs.Results.{same_value}
+use Rattle.tree_node.proofs.Sizes.{fits}
+use Rattle.tree_split.proofs.leaf_split.make_room.Goals as goal
+
+pub node-requires : goal.node-requires
+node-requires g c = (search fits, search rules)
+
+pub leaf-requires : goal.leaf-requires
+leaf-requires g c = (search fits, (search fits, leaf_used g.met.K.Ord.total c.args.arenas.now c.args.id c.args.target c.args.key.now c.requires.part c.requires.child))
+
+pub leaf_mut-requires : goal.leaf_mut-requires
+leaf_mut-requires g c = (search fits, (search fits, leaf_used g.met.K.Ord.total c.args.arenas.now c.args.id c.args.target c.args.key.now c.requires.part c.requires.child))
+
+pub returns-in_default-low_count-clause-done : goal.returns-in_default-low_count-clause-done
+returns-in_default-low_count-clause-done g c =
+    let read : c.leaf.result.now ≡ c.leaf_mut.result.now = same_value _ _ (sym c.leaf.ensures ∙ c.leaf_mut.ensures.value) in
+    let few : length c.leaf_mut.result.now.array.entries ≤ limit g.row.LEN = rw (c.array.ensures, read) at c.in_default-low_count.ensures.cut in
+    rw (c.rebuild.ensures, c.array_mut.ensures.value)
+    (leaf_room_by_rebuild g.met.K.Ord.total c.args.arenas.now c.args.id c.args.target c.args.key.now c.requires.part c.requires.child _ c.node.ensures c.leaf_mut.result.now c.leaf_mut.ensures.value c.low_count.ensures.sound.is_len few)
+
+pub returns-then-full-clause-done : goal.returns-then-full-clause-done
+returns-then-full-clause-done g c =
+    let here = c.node.ensures ∙ ap Some c.in-Leaf.is in
+    let many : limit g.row.LEN < length c.leaf.result.now.array.entries = rw c.array.ensures at c.in-Some.ensures.cut.0 in
+    record {
+      full = rw here (full_room (Leaf c.in-Leaf.node) (c.is_full-full.ensures.0 c.if-full.true));
+      many = rw c.leaf.ensures many;
+      unchanged = record { leaves = λ n. refl; nodes = λ n. refl };
+    }
+
+pub split_leaf-requires : goal.split_leaf-requires
+split_leaf-requires g c =
+    let here = c.node.ensures ∙ ap Some c.in-Leaf.is in
+    let cut : IsCut g.K.Ord.cmp c.args.key.now c.in-Some.count c.leaf.result.now.array.entries = rw c.array.ensures at c.in-Some.ensures.cut.1 in (
+      search rules,
+      (
+        search rules,
+        (
+          c.requires.part,
+          (
+            c.low_count.ensures.sound.is_len,
+            (
+              (c.args.key.now, c.requires.child, rw c.leaf.ensures cut),
+              λ node is.
+                  let both : Some node ≡ Some (Leaf c.in-Leaf.node) = sym is ∙ here in
+                  let same : node ≡ Leaf c.in-Leaf.node = cc in
+                  rw same (not_full_room (Leaf c.in-Leaf.node) (λ full. let yes = c.is_full-full.ensures.1 full in let no = c.if-full.false in cc)),
+            ),
+          ),
+        ),
+      ),
+    )
+
+pub returns-clause-done : goal.returns-clause-done
+returns-clause-done g c =
+    let cut : IsCut g.K.Ord.cmp c.args.key.now c.in-Some.count c.leaf.result.now.array.entries = rw c.array.ensures at c.in-Some.ensures.cut.1 in
+    c.in_ok-split_leaf.ensures.done c.args.key.now c.requires.child (rw c.leaf.ensures cut)

@@ -1,0 +1,86 @@
+-- What making room in a part leaves: a child that has none gives its lower part to a new child before it, or is built anew.
+use Rattle.std.specs.Prelude.{◌≡◌, ◌⊎◌, ℕ, suc, ◌+◌, ◌-◌, ◌<◌, ◌≤◌, Bool, true, false, List, [], ◌∷◌, ◌++◌, take, drop, length, Option, Some, None, slice_get}
+use Rattle.std.specs.List.{AllByRecursion}
+use Rattle.std.specs.declared.cmp.Ordering.{Ordering}
+use Rattle.std.specs.declared.cmp.Ordering.TheVariants.{Less}
+use Rattle.slab.specs.Slab.{get}
+use Rattle.tree_array.specs.Arrivals.{Arrivals, boundary, in_order}
+use Rattle.tree_array.specs.Length.{limit}
+use Rattle.tree_leaf.specs.Counting.{times}
+use Rattle.tree_node.specs.declared.node.NodeOf.{NodeOf}
+use Rattle.tree_node.specs.Arenas.{TreeArenas}
+use Rattle.tree_node.specs.Tree.{IsAbove, IsUpTo, HasChildFor, HasKind, Stands, keyed, unbounded, children_of, walk}
+use Rattle.tree_node.specs.Parts.{KeepsBounds, Replaces, Unchanged}
+use Rattle.tree_node.specs.Shape.{held, room}
+
+-- The parent takes no child more, and the child has too many to be built anew. Nothing has changed.
+pub record LacksRoom {K V : Type 0} {LEN : ℕ} (level : ℕ) (old new : TreeArenas K V LEN) (parent target : ℕ) : Type 0 where
+  pub full : room level old parent ≡ 0
+  pub many : limit LEN < held (level - 1) old target
+  pub unchanged : Unchanged old new
+
+-- The child was built anew over its children, of which it had few; or its parent had room, and a new node got the first of them.
+abbrev pub SharesChildren : {K V : Type 0} {LEN : ℕ} → ℕ → TreeArenas K V LEN → TreeArenas K V LEN → ℕ → ℕ → Type 0
+SharesChildren {LEN = LEN} level old new parent target =
+    ((held (level - 1) old target ≤ limit LEN) × (children_of new.nodes target ≡ children_of old.nodes target))
+    ⊎ ((0 < room level old parent) × (low : ℕ) × (get old.nodes low ≡ None) × (children_of old.nodes target ≡ children_of new.nodes low ++ children_of new.nodes target))
+
+module _ {K V : Type 0} {LEN : ℕ} (cmp : K → K → Ordering) where
+  -- The part has the same pairs, between bounds that the key is within, and the child for the key has room.
+  pub record HasMadeRoom (level : ℕ) (old new : TreeArenas K V LEN) (id : ℕ) (key : K) : Type 0 where
+    pub pairs : walk level new id ≡ walk level old id
+    pub stands : (low high : Option K) → IsAbove cmp low key → IsUpTo cmp key high → Stands cmp level old low id high → Stands cmp level new low id high
+    pub replaces : Replaces level old new (id ∷ []) (id ∷ [])
+    -- at most one place of its array is taken
+    pub spends : room level old id ≤ suc (room level new id)
+    -- so that a second insert does not ask for a split
+    pub child : (child : ℕ) → HasChildFor cmp key (get new.nodes id) child → 0 < room (level - 1) new child
+
+  abbrev pub RoomResult : Bool → ℕ → TreeArenas K V LEN → TreeArenas K V LEN → ℕ → ℕ → K → Type 0
+  RoomResult true level old new id target key = HasMadeRoom level old new id key
+  RoomResult false level old new id target key = LacksRoom level old new id target
+
+  -- The child has room now, and the part above it is what it was but for one child more at most, which has room too.
+  pub record SplitsChild (level : ℕ) (old new : TreeArenas K V LEN) (parent target : ℕ) : Type 0 where
+    pub pairs : walk level new parent ≡ walk level old parent
+    pub keeps : KeepsBounds cmp level old new parent
+    pub replaces : Replaces level old new (parent ∷ []) (parent ∷ [])
+    pub spends : room level old parent ≤ suc (room level new parent)
+    pub roomy : 0 < room (level - 1) new target
+    -- the child's children stand in one node or two
+    pub shares : SharesChildren level old new parent target
+    -- a child that the parent didn't have before
+    pub gained : (child : ℕ) → 0 < times child (children_of new.nodes parent) → times child (children_of old.nodes parent) ≡ 0 → 0 < room (level - 1) new child
+    -- a key that belonged to the child belongs to one with room
+    pub routed : (key : K) → HasChildFor cmp key (get old.nodes parent) target → (child : ℕ) → HasChildFor cmp key (get new.nodes parent) child → 0 < room (level - 1) new child
+
+  abbrev pub SplitResult : Bool → ℕ → TreeArenas K V LEN → TreeArenas K V LEN → ℕ → ℕ → Type 0
+  SplitResult true level old new parent target = SplitsChild level old new parent target
+  SplitResult false level old new parent target = LacksRoom level old new parent target
+
+-- A node has given its first keyed children to another one of its kind, with the next one as the unbounded child, whose separator is left over.
+pub record CutsNode {K : Type 0} {LEN : ℕ} (old : NodeOf K LEN) (place : ℕ) (new low : NodeOf K LEN) (separator : K) : Type 0 where
+  pub middle : ℕ
+  pub apart : slice_get (keyed old).entries place ≡ Some (separator, middle)
+  pub low_keyed : keyed low ≡ in_order (take place (keyed old).entries)
+  pub low_last : unbounded low ≡ Some middle
+  pub high_keyed : keyed new ≡ in_order (drop (place + 1) (keyed old).entries)
+  pub high_last : unbounded new ≡ unbounded old
+  pub low_kind : (level : ℕ) → HasKind level old → HasKind level low
+  pub high_kind : (level : ℕ) → HasKind level old → HasKind level new
+
+-- a node has the same children, each of which arrived anew
+pub record RebuildsNode {K : Type 0} {LEN : ℕ} (old new : NodeOf K LEN) : Type 0 where
+  pub rebuilt : keyed new ≡ in_order (keyed old).entries
+  pub last : unbounded new ≡ unbounded old
+  pub kind : (level : ℕ) → HasKind level old → HasKind level new
+
+-- So many first entries make room for the key where they part from the others: some stay, or the key is larger than all.
+pub record IsCut {K V : Type 0} (cmp : K → K → Ordering) (key : K) (count : ℕ) (entries : List (K × V)) : Type 0 where
+  pub some : 0 < count
+  pub within : count ≤ length entries
+  pub stays : (count < length entries) ⊎ AllByRecursion (λ p. cmp p.0 key ≡ Less) entries
+
+-- So many first entries part from the others by the rule: those up to the boundary, or all of the last leaf.
+abbrev pub GoesLow : {K V : Type 0} → (K → K → Ordering) → ℕ → Bool → Arrivals K V → ℕ → Type 0
+GoesLow cmp len last array count = (count ≡ (boundary cmp len array).0) ⊎ ((last ≡ true) × ((boundary cmp len array).2 ≡ true) × (count ≡ (boundary cmp len array).1))

@@ -1,0 +1,45 @@
+-- The children of a node in turn, either way: which they are, and that a step takes the first of those still to come.
+use Rattle.std.proofs.Common.{◌≡◌, ℕ, true, false, List, ◌∷◌, ◌++◌, length, take, reverse, Option, Some, None, is_some, refl, sym, ap, ◌∙◌, arith}
+use Rattle.std.specs.Prelude.{option_to_list}
+use Rattle.std.specs.Iterator.{MakesProgress, item_count}
+use Rattle.std.proofs.lemmas.List.{append-nil, length-map, reverse-append, take_all}
+use Rattle.tree_array.specs.Arrivals.{Arrivals, arrival}
+use Rattle.tree_array.specs.Walk.{Walk, standing}
+use Rattle.tree_leaf.specs.declared.leaf.stand.Way.{Way}
+use Rattle.tree_leaf.specs.declared.leaf.stand.Way.TheVariants.{On, Back}
+use Rattle.tree_leaf.specs.Ways.{StepsOver, along, next_place}
+use Rattle.tree_leaf.proofs.Along.{step_takes}
+use Rattle.tree_walk.specs.Children.{IsOverKeyed, all_children, is_back, keyed_children, to_come}
+use Rattle.tree_walk.proofs.ChildTurns.{child_at}
+
+reverse-option : {X : Type 0} (x : Option X) → reverse (option_to_list x) ≡ option_to_list x
+reverse-option None = refl
+reverse-option (Some x) = refl
+
+-- one child fewer is left
+pub progress : {X : Type 0} {can : List X → Type 0} → ((xs : List X) → can xs) → (old new : List X) (x : X) → old ≡ x ∷ new → MakesProgress can (item_count (λ xs. xs)) old (Some x) new
+progress can old new x is = record { on = λ finite. (can new, tt, rw is (omega arith)); keeps = can new; rests = λ finite. tt }
+
+module _ {K X : Type 0} (keyed : Arrivals K X) where
+  -- before the first step against the order of the keys all are still to come
+  pub all_back : (walk fresh : Walk) (slots : List ℕ) → walk ≡ fresh → fresh ≡ standing slots None → (way : Way) (unbounded : Option X) → is_back way ≡ true
+      → to_come way (keyed_children keyed) walk.at unbounded None ≡ along way (all_children keyed unbounded)
+  all_back walk fresh slots same is On unbounded back = absurd (cc)
+  all_back walk fresh slots same is Back unbounded back =
+      let children : List X = keyed_children keyed in
+      let at_start : walk.at ≡ None = rw (same, is) refl in
+      let all : take (length children) children ≡ children = take_all (length children) children (omega arith) in
+      rw (at_start, all, append-nil (reverse children))
+      (sym (reverse-append children (option_to_list unbounded) ∙ ap (λ ys. ys ++ reverse children) (reverse-option unbounded)))
+
+  as_many : (walk : Walk) → IsOverKeyed keyed walk → length walk.slots ≡ length (keyed_children keyed)
+  as_many walk over = sym (length-map walk.slots (arrival keyed.arrivals)) ∙ ap length over ∙ length-map keyed.entries Some ∙ sym (length-map keyed.entries (λ c. c.1))
+
+  -- a step takes the child in its slot, once no child comes before the keyed ones
+  pub takes_child : (way : Way) (old new : Walk) → IsOverKeyed keyed old → (first last : Option X) → is_some first ≡ false → (slot : ℕ) → StepsOver way old.slots old.at (Some slot) new.at
+      → (child : X) → ((key : K) × (arrival keyed.arrivals slot ≡ Some (key, child))) → to_come way (keyed_children keyed) old.at first last ≡ child ∷ to_come way (keyed_children keyed) new.at first last
+  takes_child way old new over (Some x) last none slot steps child read = absurd (cc)
+  takes_child way old new over None last none slot steps child read =
+      let there = child_at keyed old over (next_place way (length old.slots) old.at) slot steps.1 child read in
+      let on : StepsOver way (keyed_children keyed) old.at (Some child) new.at = rw (← as_many old over) (steps.0, there, steps.2) in
+      rw (step_takes way (keyed_children keyed) old.at new.at child on) refl

@@ -1,0 +1,77 @@
+-- The leaves under a node are those under its children, each of which stands one level below it.
+use Rattle.std.proofs.Common.{◌≡◌, ℕ, zero, suc, ◌-◌, ◌<◌, List, [], ◌∷◌, Option, Some, None, inl, inr, refl, sym, ◌∙◌, arith}
+use Rattle.std.specs.List.{AllByRecursion}
+use Rattle.std.specs.declared.cmp.Ordering.{Ordering}
+use Rattle.slab.specs.Slab.{ContainsKey, get}
+use Rattle.std.proofs.lemmas.List.{reverse-reverse}
+use mathlib.Core.List.{reverse_aux}
+use Rattle.tree_model.proofs.Lists.{all_map}
+use Rattle.tree_leaf.specs.declared.leaf.stand.Way.{Way}
+use Rattle.tree_leaf.specs.declared.leaf.stand.Way.TheVariants.{On, Back}
+use Rattle.tree_leaf.specs.Ways.{along}
+use Rattle.tree_node.specs.declared.internal_node.InternalNodeOf.{InternalNodeOf}
+use Rattle.tree_node.specs.declared.leaf_node.LeafNodeOf.{LeafNodeOf}
+use Rattle.tree_node.specs.declared.node.NodeOf.{NodeOf}
+use Rattle.tree_node.specs.declared.node.NodeOf.TheVariants.{Internal, Leaf}
+use Rattle.tree_node.specs.Arenas.{TreeArenas}
+use Rattle.tree_node.specs.Tree.{IsRetiredNode, StandsOrRetired, keyed, unbounded, leaves_at, leaves_of}
+use Rattle.tree_node.proofs.ChildrenStand.{no_leaves, over_leaves, over_nodes}
+use Rattle.tree_walk.specs.Children.{all_children}
+
+-- what holds of all of a list holds of them in another order
+all_reversed : {X : Type 0} (P : X → Type 0) (xs ys : List X) → AllByRecursion P xs → AllByRecursion P ys → AllByRecursion P (reverse_aux xs ys)
+all_reversed P [] ys first second = second
+all_reversed P (x ∷ xs) ys first second = all_reversed P xs (x ∷ ys) first.1 (first.0, second)
+
+all_along : {X : Type 0} (P : X → Type 0) (way : Way) (xs : List X) → AllByRecursion P xs → AllByRecursion P (along way xs)
+all_along P On xs all = all
+all_along P Back xs all = all_reversed P xs [] all tt
+
+along-twice : (way : Way) (ids : List ℕ) → along way (along way ids) ≡ ids
+along-twice On ids = refl
+along-twice Back ids = reverse-reverse ids
+
+module _ {K V : Type 0} {LEN : ℕ} (level : ℕ) (a : TreeArenas K V LEN) where
+  -- a child of a node over nodes is no leaf, and stands or is retired
+  abbrev pub StandsBelow : (K → K → Ordering) → ℕ → Type 0
+  StandsBelow cmp child = (0 < level - 1) × StandsOrRetired cmp (level - 1) a child
+
+  -- the leaves under the number are those under these children on a way, for each of which this holds
+  pub record IsOver (id below : ℕ) (Holds : ℕ → Type 0) (way : Way) (children : List ℕ) : Type 0 where
+    pub leaves : leaves_at level a.nodes id ≡ leaves_of below a.nodes (along way children)
+    pub each : AllByRecursion Holds children
+
+  -- in the order of the keys or against it
+  turned : (id below : ℕ) (Holds : ℕ → Type 0) (way : Way) (children left : List ℕ) → left ≡ along way children → leaves_at level a.nodes id ≡ leaves_of below a.nodes children → AllByRecursion Holds children
+      → IsOver id below Holds way left
+  turned id below Holds way children left is leaves each = record { leaves = rw (is, along-twice way children) leaves; each = rw is (all_along Holds way children each) }
+
+module _ {K V : Type 0} {LEN : ℕ} (cmp : K → K → Ordering) (a : TreeArenas K V LEN) (id level : ℕ) (inner : 0 < level) (given : StandsOrRetired cmp level a id) (way : Way) (children : List ℕ) where
+  no_keyed : (level : ℕ) → 0 < level → StandsOrRetired cmp level a id → (node : NodeOf K LEN) → get a.nodes id ≡ Some node → unbounded node ≡ None → (keyed node).entries ≡ []
+  no_keyed zero inner given node here none = absurd (omega (arith, inner))
+  no_keyed (suc level) inner (inl s) node here none =
+      let same : Some s.node ≡ Some node = sym s.here ∙ here in
+      let is : s.node ≡ node = cc in
+      absurd (let some = rw (← is, s.last_is) at none in cc)
+  no_keyed (suc level) inner (inr retired) node here none = let r : IsRetiredNode (Some node) = rw here at retired in r.0
+
+  over_none : (below : ℕ) (Holds : ℕ → Type 0) (node : NodeOf K LEN) → get a.nodes id ≡ Some node → unbounded node ≡ None → children ≡ along way (all_children (keyed node) None) → IsOver level a id below Holds way children
+  over_none below Holds node here none is =
+      let empty : all_children (keyed node) None ≡ [] = rw (no_keyed level inner given node here none) refl in
+      turned level a id below Holds way [] children (rw empty at is) (no_leaves cmp a id level inner given node here none) tt
+
+  pub leaf_node_over : (node : LeafNodeOf K LEN) → get a.nodes id ≡ Some (Leaf node) → children ≡ along way (all_children node.children node.unbounded_child) → IsOver level a id 0 (ContainsKey a.leaves) way children
+  leaf_node_over node here = by_last node.unbounded_child refl
+    where
+      by_last : (last : Option ℕ) → node.unbounded_child ≡ last → children ≡ along way (all_children node.children last) → IsOver level a id 0 (ContainsKey a.leaves) way children
+      by_last None none is = over_none 0 (ContainsKey a.leaves) (Leaf node) here none is
+      by_last (Some last) last_is is = let over = over_leaves cmp a id level inner given node here last last_is in turned level a id 0 (ContainsKey a.leaves) way _ children is over.leaves over.there
+
+  pub node_over : (node : InternalNodeOf K LEN) → get a.nodes id ≡ Some (Internal node) → children ≡ along way (all_children node.children node.unbounded_child) → IsOver level a id (level - 1) (StandsBelow level a cmp) way children
+  node_over node here = by_last node.unbounded_child refl
+    where
+      by_last : (last : Option ℕ) → node.unbounded_child ≡ last → children ≡ along way (all_children node.children last) → IsOver level a id (level - 1) (StandsBelow level a cmp) way children
+      by_last None none is = over_none (level - 1) (StandsBelow level a cmp) (Internal node) here none is
+      by_last (Some last) last_is is =
+          let over = over_nodes cmp a id level inner given node here last last_is in
+          turned level a id (level - 1) (StandsBelow level a cmp) way _ children is over.leaves (all_map (λ child t. (over.inner, t)) _ over.stand)

@@ -1,0 +1,14 @@
+use Rattle.std.proofs.Common.{rules, List, ℕ, ◌++◌, ◌∷◌}
+use Rattle.tree_leaf.specs.Chain.{IsChain}
+use Rattle.tree_node.proofs.Sizes.{fits}
+use Rattle.tree_walk.proofs.EndWalks.{leaf_in_chain, begins_there}
+use Rattle.tree_walk.proofs.ends.walk_from_end.Goals as goal
+
+pub new-requires : goal.new-requires
+new-requires g c =
+    let chain : (front back : List ℕ) × IsChain c.args.arenas.now.leaves (front ++ c.in_ok-leaf.leaf ∷ back) =
+    leaf_in_chain g.S.SlotWalk.way c.args.level c.args.arenas.now c.args.id c.in_ok-leaf.leaf c.in_ok-leaf.ensures c.requires.linked in
+    (search rules, (search fits, chain))
+
+pub returns : goal.returns
+returns g c = begins_there g.S.SlotWalk.way c.args.level c.args.arenas.now c.args.id c.in_ok-leaf.leaf c.in_ok-leaf.ensures _ c.new.ensures
