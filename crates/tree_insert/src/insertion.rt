@@ -8,7 +8,7 @@ ghost use Rattle.tree_node.specs.Tree.{IsRetired};
 use tree_array::array::{IndexKey, StoreResult};
 use tree_leaf::arena::NodeId;
 use tree_node::node::{ArenasOf, NodeOf};
-use tree_node::routing::child_place_for;
+use tree_node::routing::child_place_beyond;
 use tree_split::leaf_split::make_room;
 use tree_split::node_split::split_child;
 
@@ -38,9 +38,32 @@ pub fn insert_at<const UPSERT: bool, K: IndexKey, V: Drop, const LEN: usize>(
     ensures inserts { IsPart K.cmp level arenas.old id → InsertsUnder K.cmp UPSERT level arenas.old arenas.new id result key val }
     ensures retired { IsRetired level arenas.old id → (result ≡ Ok (FullResult key val)) × Unchanged arenas.old arenas.new }
 {
+    insert_from::<UPSERT, K, V, LEN>(arenas, level, id, true, key, val)
+}
+
+/// Inserts a pair, as [`insert_at`] does. `rightmost` says that the way down has kept to the unbounded children so far, so
+/// that the key is compared with the last separator first.
+fn insert_from<const UPSERT: bool, K: IndexKey, V: Drop, const LEN: usize>(
+    arenas: &mut ArenasOf<K, V, LEN>,
+    level: usize,
+    id: NodeId,
+    rightmost: bool,
+    key: K,
+    val: V,
+) -> Result<StoreResult<K, V>, (K, V)>
+    requires node { 0 < level }
+    requires part { IsPart K.cmp level arenas.old id ⊎ IsRetired level arenas.old id }
+    ensures inserts { IsPart K.cmp level arenas.old id → InsertsUnder K.cmp UPSERT level arenas.old arenas.new id result key val }
+    ensures retired { IsRetired level arenas.old id → (result ≡ Ok (FullResult key val)) × Unchanged arenas.old arenas.new }
+{
     match arenas.node(id) {
         NodeOf::Leaf(node) => {
-            let Some(place) = child_place_for(&node.children, node.unbounded_child, &key) else {
+            let Some(place) = child_place_beyond(
+                &node.children,
+                node.unbounded_child,
+                &key,
+                rightmost,
+            ) else {
                 return Ok(StoreResult::Full(key, val));
             };
             let leaf = place.child;
@@ -48,23 +71,39 @@ pub fn insert_at<const UPSERT: bool, K: IndexKey, V: Drop, const LEN: usize>(
                 StoreResult::Full(key, val) => match make_room(arenas, id, leaf, &key) {
                     Err(_) => Err((key, val)),
                     Ok(false) => Ok(StoreResult::Full(key, val)),
-                    Ok(true) => insert_at::<UPSERT, K, V, LEN>(arenas, level, id, key, val),
+                    Ok(true) => insert_from::<UPSERT, K, V, LEN>(
+                        arenas, level, id, rightmost, key, val,
+                    ),
                 },
                 answer => Ok(answer),
             }
         }
         NodeOf::Internal(node) => {
-            let Some(place) = child_place_for(&node.children, node.unbounded_child, &key) else {
+            let Some(place) = child_place_beyond(
+                &node.children,
+                node.unbounded_child,
+                &key,
+                rightmost,
+            ) else {
                 return Ok(StoreResult::Full(key, val));
             };
             let child = place.child;
-            match insert_at::<UPSERT, K, V, LEN>(arenas, level - 1, child, key, val) {
+            match insert_from::<UPSERT, K, V, LEN>(
+                arenas,
+                level - 1,
+                child,
+                place.slot.is_none(),
+                key,
+                val,
+            ) {
                 Err(pair) => Err(pair),
                 Ok(answer) => match answer {
                     StoreResult::Full(key, val) => match split_child(arenas, id, child) {
                         Err(_) => Err((key, val)),
                         Ok(false) => Ok(StoreResult::Full(key, val)),
-                        Ok(true) => insert_at::<UPSERT, K, V, LEN>(arenas, level, id, key, val),
+                        Ok(true) => insert_from::<UPSERT, K, V, LEN>(
+                            arenas, level, id, rightmost, key, val,
+                        ),
                     },
                     answer => Ok(answer),
                 },

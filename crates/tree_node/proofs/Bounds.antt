@@ -1,5 +1,5 @@
 -- How many pairs stand under a number at most.
-use Rattle.std.proofs.Common.{◌≡◌, ℕ, zero, suc, ◌+◌, ◌*◌, ◌^◌, ◌≤◌, List, [], ◌∷◌, ◌++◌, map, length, length-append, Option, Some, None, refl, ap, arith, mul-suc}
+use Rattle.std.proofs.Common.{◌≡◌, ℕ, zero, suc, ◌+◌, ◌*◌, ◌^◌, ◌≤◌, List, [], ◌∷◌, ◌++◌, map, length, length-append, Option, None, refl, ap, arith, mul-suc}
 use Rattle.std.proofs.Math.Nat.{mul-le-mul_left, pow-suc, pow-zero}
 use Rattle.std.specs.List.{flat_map, AllByRecursion}
 use Rattle.std.specs.declared.cmp.Ordering.{Ordering}
@@ -10,7 +10,7 @@ use Rattle.slab.specs.Slab.{slab_len}
 use Rattle.tree_leaf.proofs.Pigeonhole.{once_fits}
 use Rattle.tree_node.specs.Arenas.{TreeArenas}
 use Rattle.tree_node.specs.Parts.{IsPart}
-use Rattle.tree_node.specs.Tree.{AreParted, Stands, keyed, leaf_entries, leaves_at, nodes_at, children_of, walk}
+use Rattle.tree_node.specs.Tree.{Stands, keyed, leaf_entries, leaves_at, nodes_at, children_of, walk}
 use Rattle.tree_node.proofs.Bare.{parted_last}
 use Rattle.tree_node.proofs.ChildrenStand.{parted_all}
 

@@ -1,6 +1,7 @@
 pub mod Ascents
 pub mod Bare
 pub mod Between
+pub mod Beyond
 pub mod Boundaries
 pub mod Bounds
 pub mod ChildChanges

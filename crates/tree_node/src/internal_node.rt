@@ -10,8 +10,9 @@ use tree_leaf::arena::NodeId;
 /// an unbounded child for the keys above all separators. A retired node has no child.
 #[derive(Drop)]
 pub struct InternalNodeOf<K: Ord, const LEN: usize> {
-    pub children: ArrayOf<K, NodeId, LEN>,
+    // Beside the order of the keys in memory, since each way down reads both.
     pub unbounded_child: Option<NodeId>,
+    pub children: ArrayOf<K, NodeId, LEN>,
 }
 
 /// The node over fifteen keyed nodes.
@@ -25,8 +26,8 @@ impl<K: Ord + Drop, const LEN: usize> InternalNodeOf<K, LEN> {
         ensures unbounded { result.unbounded_child ≡ Some unbounded }
     {
         InternalNodeOf {
-            children: ArrayOf::new(),
             unbounded_child: Some(unbounded),
+            children: ArrayOf::new(),
         }
     }
 

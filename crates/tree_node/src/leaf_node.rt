@@ -10,8 +10,9 @@ use tree_leaf::arena::LeafId;
 /// an unbounded leaf for the keys above all separators. A retired node has no child.
 #[derive(Drop)]
 pub struct LeafNodeOf<K: Ord, const LEN: usize> {
-    pub children: ArrayOf<K, LeafId, LEN>,
+    // Beside the order of the keys in memory, since each way down reads both.
     pub unbounded_child: Option<LeafId>,
+    pub children: ArrayOf<K, LeafId, LEN>,
 }
 
 /// The node over fifteen keyed leaves.
@@ -25,8 +26,8 @@ impl<K: Ord + Drop, const LEN: usize> LeafNodeOf<K, LEN> {
         ensures unbounded { result.unbounded_child ≡ Some unbounded }
     {
         LeafNodeOf {
-            children: ArrayOf::new(),
             unbounded_child: Some(unbounded),
+            children: ArrayOf::new(),
         }
     }
 

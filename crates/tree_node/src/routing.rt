@@ -1,7 +1,7 @@
 //! Routing: which child of a node a key belongs to.
-ghost use Rattle.std.specs.Prelude.{◌≡◌, ◌+◌, ◌≤◌, MatchOption, IsSome, None, Some};
+ghost use Rattle.std.specs.Prelude.{◌≡◌, ◌+◌, ◌≤◌, MatchOption, IsSome, IsTrue, None, Some};
 ghost use Rattle.std.specs.Option.{ForSome};
-ghost use Rattle.tree_array.specs.Arrivals.{arrival};
+ghost use Rattle.tree_array.specs.Arrivals.{arrival, least_from};
 ghost use Rattle.tree_array.specs.Length.{searched};
 ghost use Rattle.tree_node.specs.Routing.{IsChildAt};
 ghost use Rattle.tree_node.specs.Tree.{child_of};
@@ -49,6 +49,42 @@ pub fn child_place_for<K: Ord + Drop, I: Copy + Drop, const LEN: usize>(
         child: child_at(children, last, slot),
         slot,
     })
+}
+
+/// Returns what [`child_place_for`] does. With `rightmost` it compares the key with the last separator first, and answers
+/// the unbounded child at once if the key is larger: an insert asks so as long as its way down keeps to the unbounded
+/// children, where keys that arrive in ascending order belong. That is at most one comparison more.
+pub fn child_place_beyond<K: Ord + Drop, I: Copy + Drop, const LEN: usize>(
+    children: &ArrayOf<K, I, LEN>,
+    unbounded: Option<I>,
+    key: &K,
+    rightmost: bool,
+) -> Option<ChildPlace<I>>
+    ensures place { MatchOption result (unbounded ≡ None) (λ place. IsChildAt K.cmp key.now children.now unbounded place.child place.slot) }
+    ensures child { MatchOption result (child_of K.cmp key.now children.now.entries unbounded ≡ None) (λ place. child_of K.cmp key.now children.now.entries unbounded ≡ Some place.child) }
+{
+    if !rightmost || !is_beyond(children, key) {
+        return child_place_for(children, unbounded, key);
+    }
+    Some(ChildPlace {
+        child: unbounded?,
+        slot: None,
+    })
+}
+
+/// Returns whether a key is larger than each separator.
+fn is_beyond<K: Ord + Drop, I: Copy + Drop, const LEN: usize>(
+    children: &ArrayOf<K, I, LEN>,
+    key: &K,
+) -> bool
+    ensures { IsTrue result → least_from K.cmp children.now.entries key.now ≡ None }
+{
+    // The contract of `free` says that the keys ascend.
+    let _ = children.free();
+    match children.last_slot() {
+        Some(slot) => key.cmp(children.key(slot)).is_gt(),
+        None => true,
+    }
 }
 
 /// Returns the keyed child in a slot, or the unbounded child if there is no slot.
