@@ -49,8 +49,9 @@ pub fn max_at<'a, K: Ord + Drop, V: Drop, const LEN: usize>(
     walk_from_end::<K, V, ArrayRevIter, LEN>(arenas, level, id)
 }
 
-/// A walk that stands before the entry that it comes to first.
-fn walk_from_end<'a, K: Ord + Drop, V: Drop, S: ChildWalk, const LEN: usize>(
+/// A walk that stands before the entry under a number of this level that it comes to first, either way: what
+/// [`min_at`] and [`max_at`] are.
+pub fn walk_from_end<'a, K: Ord + Drop, V: Drop, S: ChildWalk, const LEN: usize>(
     arenas: &'a ArenasOf<K, V, LEN>,
     level: usize,
     id: NodeId,

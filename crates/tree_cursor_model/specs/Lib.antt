@@ -1,0 +1,4 @@
+pub mod Cursor
+pub mod Located
+pub mod Moves
+pub mod Rest

@@ -1,0 +1,25 @@
+//! The calls of a cursor as values, and their answers.
+
+/// A call of a cursor.
+#[derive(Clone, Copy, Debug, PartialEq, Eq, Drop)]
+pub enum Move {
+    /// Moves the forward end, and returns its pair.
+    Next,
+    /// Moves the backward end, and returns its pair.
+    NextBack,
+    /// Returns the pair of the forward end.
+    Get,
+    /// Returns the pair of the backward end.
+    GetBack,
+    /// Gives the place of the one end that is opened to the other.
+    Flip,
+}
+
+/// What a cursor answers to a call.
+#[derive(Debug, Drop)]
+pub enum Answer<'t, K, V> {
+    /// The pair of an end, if it shows one.
+    Pair(Option<(&'t K, &'t V)>),
+    /// Whether the cursor was flipped.
+    Flag(bool),
+}

@@ -1,0 +1,3 @@
+pub mod Advances
+pub mod LeafFor
+pub mod Seeks

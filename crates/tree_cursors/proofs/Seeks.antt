@@ -1,0 +1,168 @@
+-- A walk that seeks the first pair within a bound: what it has passed, and what is left.
+use Rattle.std.proofs.Common.{◌≡◌, ℕ, true, false, List, [], ◌∷◌, ◌++◌, Option, None, Some, MatchOption, ◌⊎◌, inl, inr, refl, sym, ap, subst, ◌∙◌, append_assoc}
+use mathlib.Core.List.{reverse_aux}
+use Rattle.std.specs.Borrow.{Bor}
+use Rattle.std.specs.List.{AllByRecursion}
+use Rattle.std.specs.declared.cmp.Ordering.{Ordering}
+use Rattle.std.specs.declared.cmp.Ordering.TheVariants.{Less}
+use Rattle.std.specs.declared.ops.Bound.{Bound}
+use Rattle.std.specs.declared.ops.Bound.TheVariants.{Included, Excluded}
+use Rattle.std.specs.Cmp.{IsTotalOrder}
+use Rattle.std.proofs.lemmas.List.{append-nil, reverse-append}
+use Rattle.std.proofs.lemmas.List.Concat.{flat_map-append}
+use Rattle.slab.specs.Slab.{Slab}
+use Rattle.tree_model.proofs.Lists.{all-append, all_map}
+use Rattle.tree_model.proofs.Order.{greater_from_less}
+use Rattle.tree_leaf.specs.declared.leaf.LeafOf.{LeafOf}
+use Rattle.tree_leaf.specs.declared.leaf.stand.Way.{Way}
+use Rattle.tree_leaf.specs.declared.leaf.stand.Way.TheVariants.{On, Back}
+use Rattle.tree_leaf.specs.Chain.{IsChain}
+use Rattle.tree_leaf.specs.Entries.{entries_of, leaf_entries}
+use Rattle.tree_leaf.specs.Rest.{HasTaken, left_of}
+use Rattle.tree_leaf.specs.Walks.{LeafWalk, lent_entry, standing}
+use Rattle.tree_leaf.specs.Ways.{along, beyond}
+use Rattle.tree_leaf.proofs.Along.{all_ahead}
+use Rattle.tree_node.specs.Arenas.{TreeArenas}
+use Rattle.tree_node.specs.Tree.{leaves_at, walk}
+use Rattle.tree_walk.specs.Ends.{BeginsPart, IsLinked, passed}
+use Rattle.tree_cursor_model.specs.Cursor.{meets}
+use Rattle.tree_cursors.specs.Seek.{Advances, IsLeafFor, IsNearest, NoneMeets, Opens, path}
+
+all_reversed : {X : Type 0} (P : X → Type 0) (xs ys : List X) → AllByRecursion P xs → AllByRecursion P ys → AllByRecursion P (reverse_aux xs ys)
+all_reversed P [] ys first second = second
+all_reversed P (x ∷ xs) ys first second = all_reversed P xs (x ∷ ys) first.1 (first.0, second)
+
+all_along : {X : Type 0} (P : X → Type 0) (way : Way) (xs : List X) → AllByRecursion P xs → AllByRecursion P (along way xs)
+all_along P On xs all = all
+all_along P Back xs all = all_reversed P xs [] all tt
+
+-- the bound is at this key
+abbrev pub IsAt : {K : Type 0} → K → Bound K → Type 0
+IsAt key bound = (bound ≡ Included key) ⊎ (bound ≡ Excluded key)
+
+module _ {K V : Type 0} {cmp : K → K → Ordering} (o : IsTotalOrder cmp) (key : K) (bound : Bound K) where
+  -- smaller keys are not within a lower bound, and larger ones not within an upper bound
+  smaller_out : IsAt key bound → (pairs : List (K × V)) → AllByRecursion (λ pair. cmp pair.0 key ≡ Less) pairs → NoneMeets cmp On bound pairs
+  smaller_out (inl included) pairs all = all_map (λ (pair : K × V) (less : cmp pair.0 key ≡ Less). rw (included, greater_from_less o pair.0 key less) refl) pairs all
+  smaller_out (inr excluded) pairs all = all_map (λ (pair : K × V) (less : cmp pair.0 key ≡ Less). rw (excluded, greater_from_less o pair.0 key less) refl) pairs all
+
+  larger_out : IsAt key bound → (pairs : List (K × V)) → AllByRecursion (λ pair. cmp key pair.0 ≡ Less) pairs → NoneMeets cmp Back bound pairs
+  larger_out (inl included) pairs all = all_map (λ (pair : K × V) (more : cmp key pair.0 ≡ Less). rw (included, greater_from_less o key pair.0 more) refl) pairs all
+  larger_out (inr excluded) pairs all = all_map (λ (pair : K × V) (more : cmp key pair.0 ≡ Less). rw (excluded, greater_from_less o key pair.0 more) refl) pairs all
+
+module _ {K V : Type 0} {LEN : ℕ} {cmp : K → K → Ordering} (o : IsTotalOrder cmp) (level : ℕ) (a : TreeArenas K V LEN) (id : ℕ) (way : Way) (key : K) (bound : Bound K) (leaf : ℕ) (is : IsLeafFor cmp level a id key leaf) where
+  -- a walk that stands unopened in the leaf of the bound's key
+  pub opens_at : IsAt key bound → (begun : LeafWalk K V LEN) → begun ≡ standing a.leaves leaf None → Opens cmp way level a id bound begun
+  opens_at at begun same = rw same (record { unopened = refl; front = is.front; back = is.back; parts = is.parts; none_before = by_way way })
+    where
+      by_way : (way : Way) → NoneMeets cmp way bound (entries_of a.leaves (passed way is.front is.back))
+      by_way On = smaller_out o key bound at (entries_of a.leaves is.front) is.smaller
+      by_way Back = larger_out o key bound at (entries_of a.leaves is.back) is.larger
+
+  -- the leaf is in the chain of the part
+  pub leaf_in_chain : IsLinked level a id → (front back : List ℕ) × IsChain a.leaves (front ++ leaf ∷ back)
+  leaf_in_chain linked =
+      let grouped : linked.0 ++ (leaves_at level a.nodes id ++ linked.1) ≡ (linked.0 ++ is.front) ++ leaf ∷ (is.back ++ linked.1) = rw is.parts (simp append_assoc) in
+      (linked.0 ++ is.front, is.back ++ linked.1, subst (IsChain a.leaves) grouped linked.2)
+
+-- a walk that begins the part, without a bound
+pub opens_unbounded : {K V : Type 0} {LEN : ℕ} (cmp : K → K → Ordering) (way : Way) (level : ℕ) (a : TreeArenas K V LEN) (id : ℕ) (bound : Bound K) (result : Option (LeafWalk K V LEN))
+    → MatchOption result (walk level a id ≡ []) (BeginsPart way level a id) → MatchOption result (walk level a id ≡ []) (Opens cmp way level a id bound)
+opens_unbounded cmp way level a id bound None empty = empty
+opens_unbounded cmp way level a id bound (Some begun) begins = record {
+  unopened = begins.unopened;
+  front = begins.leaf.front;
+  back = begins.leaf.back;
+  parts = begins.leaf.parts;
+  none_before = rw begins.leaf.none_passed tt;
+}
+
+module _ {K V : Type 0} {LEN : ℕ} (cmp : K → K → Ordering) (way : Way) (bound : Bound K) (pairs : List (K × V)) (leaves : Slab (LeafOf K V LEN)) (chain : List ℕ) where
+  -- of these pairs the walk has passed some that aren't within the bound, and the others are left
+  pub record IsSought (now : LeafWalk K V LEN) : Type 0 where
+    pub same : now.leaves ≡ leaves
+    pub front : List ℕ
+    pub back : List ℕ
+    pub stands : front ++ now.leaf ∷ back ≡ chain
+    pub before : List (K × V)
+    pub parts : pairs ≡ before ++ left_of way now front back
+    pub none_before : NoneMeets cmp way bound before
+
+  module _ (is_chain : IsChain leaves chain) (old : LeafWalk K V LEN) (sought : IsSought old) where
+    pub old_chain : IsChain old.leaves (sought.front ++ old.leaf ∷ sought.back)
+    old_chain = rw (sought.same, sought.stands) is_chain
+
+    module _ (new : LeafWalk K V LEN) where
+      -- no entry is left
+      pub none_left : Advances way old None new → NoneMeets cmp way bound pairs
+      none_left advances =
+          let took = (advances sought.front sought.back old_chain).0 in
+          rw (sought.parts, took.takes.0, append-nil sought.before) sought.none_before
+
+      module _ (entry : Bor K × Bor V) (advances : Advances way old (Some entry) new) where
+        took : HasTaken way old.leaves (sought.front ++ old.leaf ∷ sought.back) (left_of way old sought.front sought.back) (Some entry) new
+        took = (advances sought.front sought.back old_chain).0
+
+        pub nearest : meets cmp way bound entry.0.now ≡ true → IsNearest cmp way bound pairs leaves chain new
+        nearest met = record {
+          same = took.same ∙ sought.same;
+          front = took.front;
+          back = took.back;
+          stands = took.stands ∙ sought.stands;
+          before = sought.before;
+          pair = lent_entry entry;
+          here = (advances sought.front sought.back old_chain).1;
+          parts = sought.parts ∙ ap (λ (rest : List (K × V)). sought.before ++ rest) took.takes;
+          none_before = sought.none_before;
+          met = met;
+        }
+
+        pub still_sought : meets cmp way bound entry.0.now ≡ false → IsSought new
+        still_sought missed = record {
+          same = took.same ∙ sought.same;
+          front = took.front;
+          back = took.back;
+          stands = took.stands ∙ sought.stands;
+          before = sought.before ++ lent_entry entry ∷ [];
+          parts = sought.parts ∙ ap (λ (rest : List (K × V)). sought.before ++ rest) took.takes ∙ sym (append_assoc sought.before (lent_entry entry ∷ []) (left_of way new took.front took.back));
+          none_before = all-append _ sought.before (lent_entry entry ∷ []) sought.none_before (missed, tt);
+        }
+
+all_front : {X : Type 0} (P : X → Type 0) (xs ys : List X) → AllByRecursion P (xs ++ ys) → AllByRecursion P xs
+all_front P [] ys all = tt
+all_front P (x ∷ xs) ys all = (all.0, all_front P xs ys all.1)
+
+module _ {K V : Type 0} {LEN : ℕ} (cmp : K → K → Ordering) (level : ℕ) (a : TreeArenas K V LEN) (id : ℕ) (bound : Bound K) where
+  -- a part without an entry has none within the bound
+  pub none_in_empty : (way : Way) → walk level a id ≡ [] → NoneMeets cmp way bound (along way (walk level a id))
+  none_in_empty On empty = rw empty tt
+  none_in_empty Back empty = rw empty tt
+
+  -- nor has a part where none is on the whole way
+  pub none_in_part : (way : Way) (front back : List ℕ) → NoneMeets cmp way bound (path way level a id front back) → NoneMeets cmp way bound (along way (walk level a id))
+  none_in_part way front back none = all_front _ (along way (walk level a id)) _ none
+
+  -- where a walk is opened all is left but what its leaf is behind
+  pub opened_sought : (way : Way) (begun : LeafWalk K V LEN) → Opens cmp way level a id bound begun → (front back : List ℕ)
+      → IsSought cmp way bound (path way level a id front back) a.leaves (front ++ (leaves_at level a.nodes id ++ back)) begun
+  opened_sought way begun opens front back = rw opens.unopened (record {
+    same = refl;
+    front = front ++ opens.front;
+    back = opens.back ++ back;
+    stands = rw opens.parts (simp append_assoc);
+    before = along way (entries_of a.leaves (passed way opens.front opens.back));
+    parts = rw (all_ahead way (leaf_entries a.leaves begun.leaf), opens.parts, flat_map-append (leaf_entries a.leaves) opens.front (begun.leaf ∷ opens.back)) (by_way way);
+    none_before = all_along _ way _ opens.none_before;
+  })
+    where
+      by_way : (way : Way)
+          → along way (entries_of a.leaves opens.front ++ (leaf_entries a.leaves begun.leaf ++ entries_of a.leaves opens.back)) ++ along way (entries_of a.leaves (beyond way front back))
+          ≡ along way (entries_of a.leaves (passed way opens.front opens.back)) ++ (along way (leaf_entries a.leaves begun.leaf) ++ along way (entries_of a.leaves (beyond way (front ++ opens.front) (opens.back ++ back))))
+      by_way On = rw (flat_map-append (leaf_entries a.leaves) opens.back back) (simp append_assoc)
+      by_way Back =
+          rw (
+            flat_map-append (leaf_entries a.leaves) front opens.front,
+            reverse-append (entries_of a.leaves opens.front) (leaf_entries a.leaves begun.leaf ++ entries_of a.leaves opens.back),
+            reverse-append (leaf_entries a.leaves begun.leaf) (entries_of a.leaves opens.back),
+            reverse-append (entries_of a.leaves front) (entries_of a.leaves opens.front),
+          ) (simp append_assoc)

@@ -1,0 +1,5 @@
+//! Cursors over a tree in arenas, with two ends.
+#![tactic(auto)]
+
+pub mod seek;
+pub mod way;

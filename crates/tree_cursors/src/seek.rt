@@ -1,0 +1,97 @@
+//! Opens a walk on the first key past a bound, either way.
+ghost use Rattle.std.specs.Prelude.{◌≡◌, ◌<◌, [], MatchOption};
+ghost use Rattle.std.specs.Range.Bound.{bound_map};
+ghost use Rattle.tree_node.specs.Tree.{Stands, StandsOrRetired, walk};
+ghost use Rattle.tree_walk.specs.Ends.{IsLinked};
+ghost use Rattle.tree_cursors.specs.Seek.{Advances, IsLeafFor, Opens, Seeks};
+
+use crate::way::EndWay;
+use std::ops::Bound;
+use tree_leaf::arena::{LeafId, NodeId};
+use tree_leaf::leaf::{LeafOf, LinkedIter, SlotWalk};
+use tree_node::node::{ArenasOf, NodeOf};
+use tree_node::routing::child_place_for;
+use tree_walk::ends::walk_from_end;
+
+/// Opens a walk on the first entry on its way whose key meets a bound, among the entries under a number of this
+/// level and those that the links lead to from there. Returns `None` only if no entry under the number meets the
+/// bound. Descends once, and then makes at most `LEN + 1` comparisons.
+///
+/// The caller must name a well-formed part of a tree, whose leaves are in one chain, or a retired node, here
+/// and below.
+pub fn seek_at<'t, K: Ord + Drop, V: Drop, S: EndWay, const LEN: usize>(
+    arenas: &'t ArenasOf<K, V, LEN>,
+    level: usize,
+    id: NodeId,
+    bound: Bound<&K>,
+) -> Option<LinkedIter<'t, LeafOf<K, V, LEN>, S>>
+    requires node { 0 < level }
+    requires stands { StandsOrRetired K.cmp level arenas.now id }
+    requires linked { IsLinked level arenas.now id }
+    ensures { Seeks K.cmp S.way level arenas.now id (bound_map (λ k. k.now) bound.entry) result }
+{
+    let mut walk = open_at::<K, V, S, LEN>(arenas, level, id, bound)?;
+    while let Some((key, _)) = advance(&mut walk) {
+        if S::meets(bound, key) {
+            return Some(walk);
+        }
+    }
+    None
+}
+
+/// Opens a walk in a leaf before which no entry on the way meets the bound.
+fn open_at<'t, K: Ord + Drop, V: Drop, S: EndWay, const LEN: usize>(
+    arenas: &'t ArenasOf<K, V, LEN>,
+    level: usize,
+    id: NodeId,
+    bound: Bound<&K>,
+) -> Option<LinkedIter<'t, LeafOf<K, V, LEN>, S>>
+    requires node { 0 < level }
+    requires stands { StandsOrRetired K.cmp level arenas.now id }
+    requires linked { IsLinked level arenas.now id }
+    ensures { MatchOption result (walk level arenas.now id ≡ []) (Opens K.cmp S.way level arenas.now id (bound_map (λ k. k.now) bound.entry)) }
+{
+    let key = match bound {
+        Bound::Included(key) => key,
+        Bound::Excluded(key) => key,
+        Bound::Unbounded => return walk_from_end::<K, V, S, LEN>(arenas, level, id),
+    };
+    let leaf = leaf_for(arenas, level, id, key)?;
+    Some(LinkedIter::new(arenas, leaf))
+}
+
+/// Returns the leaf that a key belongs to. Returns `None` if the node is retired.
+fn leaf_for<K: Ord + Drop, V: Drop, const LEN: usize>(
+    arenas: &ArenasOf<K, V, LEN>,
+    level: usize,
+    id: NodeId,
+    key: &K,
+) -> Option<LeafId>
+    requires node { 0 < level }
+    requires stands { StandsOrRetired K.cmp level arenas.now id }
+    ensures { MatchOption result (¬ Stands K.cmp level arenas.now None id None) (IsLeafFor K.cmp level arenas.now id key.now) }
+{
+    match arenas.node(id) {
+        NodeOf::Leaf(node) => {
+            let place = child_place_for(&node.children, node.unbounded_child, key)?;
+            Some(place.child)
+        }
+        NodeOf::Internal(node) => {
+            let place = child_place_for(&node.children, node.unbounded_child, key)?;
+            leaf_for(arenas, level - 1, place.child, key)
+        }
+    }
+}
+
+/// Moves a walk to its next entry, in its leaf or behind a jump, and returns it. Returns `None` where no entry
+/// is left. Compares no keys.
+pub fn advance<'t, K: Ord + Drop, V: Drop, S: SlotWalk, const LEN: usize>(
+    walk: &mut LinkedIter<'t, LeafOf<K, V, LEN>, S>,
+) -> Option<(&'t K, &'t V)>
+    ensures { Advances S.way walk.old result walk.new }
+{
+    match walk.next() {
+        None => walk.jump(),
+        entry => entry,
+    }
+}
