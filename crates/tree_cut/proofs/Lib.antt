@@ -1,0 +1,10 @@
+pub mod Bounds
+pub mod Counts
+pub mod CutLeaves
+pub mod CutLoop
+pub mod Drops
+pub mod Ends
+pub mod Frees
+pub mod OneChild
+pub mod Outside
+pub mod Turns
