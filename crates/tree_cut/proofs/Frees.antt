@@ -179,8 +179,8 @@ module _ {K V : Type 0} {LEN : ℕ} (cmp : K → K → Ordering) where
     pub children_walk : flat_map (walk level b) children ≡ walk (suc level) a id
     children_walk = forest_walk level a b children child_nodes child_leaves ∙ ap (flat_map (walk level a)) (sym children_are) ∙ sym (walk-children level a id)
 
-    pub all_left : AreLeft level b b children children 0 (length (walk (suc level) a id))
-    all_left = record { forest = children_forest; completes = λ final more. more; counted = rw children_walk refl }
+    pub all_left : AreLeft level b b children children 0 (length (flat_map (walk level b) children))
+    all_left = record { forest = children_forest; completes = λ final more. more; counted = omega arith }
 
     pub frees_node : (c : TreeArenas K V LEN) → Frees level b c children → Frees (suc level) a c (id ∷ [])
     frees_node c more =

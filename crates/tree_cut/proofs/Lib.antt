@@ -1,10 +1,5 @@
-pub mod Bounds
 pub mod Counts
-pub mod CutLeaves
-pub mod CutLoop
-pub mod Drops
 pub mod Ends
+pub mod FreeNodes
 pub mod Frees
-pub mod OneChild
-pub mod Outside
 pub mod Turns

@@ -19,7 +19,7 @@ module _ {K V : Type 0} {LEN : ℕ} (cmp : K → K → Ordering) where
   -- The part under a number has lost the keys within the bounds, which were so many, and nothing else. It stands between the bounds that it had.
   pub record CutsUnder (low high : Bound K) (level : ℕ) (old new : TreeArenas K V LEN) (id gone : ℕ) : Type 0 where
     pub pairs : walk level new id ≡ cut cmp (walk level old id) low high
-    pub gone : gone + length (walk level new id) ≡ length (walk level old id)
+    pub counted : gone + length (walk level new id) ≡ length (walk level old id)
     pub stands : KeepsBounds cmp level old new id
     pub replaces : Replaces level old new (id ∷ []) (id ∷ [])
 
@@ -36,13 +36,13 @@ module _ {K V : Type 0} {LEN : ℕ} (cmp : K → K → Ordering) where
   pub record CutsOne (low high : Bound K) (level : ℕ) (old new : TreeArenas K V LEN) (id place gone : ℕ) : Type 0 where
     pub child : ℕ
     pub becomes : ChildBecomes level old new id place child (cut cmp (walk level old child) low high)
-    pub gone : gone + length (cut cmp (walk level old child) low high) ≡ length (walk level old child)
+    pub counted : gone + length (cut cmp (walk level old child) low high) ≡ length (walk level old child)
 
   -- it has been dropped with its pairs, which were so many
   pub record DropsOne (level : ℕ) (old new : TreeArenas K V LEN) (id place gone : ℕ) : Type 0 where
     pub child : ℕ
     pub becomes : ChildBecomes level old new id place child []
-    pub gone : gone ≡ length (walk level old child)
+    pub counted : gone ≡ length (walk level old child)
 
   -- the same of a node of this level
   abbrev pub CutsChild : Bound K → Bound K → ℕ → TreeArenas K V LEN → TreeArenas K V LEN → ℕ → ℕ → ℕ → Type 0

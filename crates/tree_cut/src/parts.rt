@@ -1,6 +1,5 @@
 //! Parts: what stands under a number, and the children of a node by their places.
-ghost use Rattle.std.specs.Prelude.{◌≡◌, ◌<◌, MatchOption, None, Some, length, option_map, slice_get, ℕ};
-ghost use Rattle.std.specs.Option.{ForSome};
+ghost use Rattle.std.specs.Prelude.{◌≡◌, ◌<◌, IsSome, MatchOption, None, Some, length, slice_get, ℕ};
 ghost use Rattle.tree_array.specs.Arrivals.{arrival};
 ghost use Rattle.tree_cut.specs.Places.{keyed_or};
 ghost use Rattle.tree_cut.specs.Parts.{IsAt, part_id};
@@ -18,23 +17,21 @@ pub(crate) enum Part {
 }
 
 /// Returns the child of a node at a place in the order of the keys, counted from 0: a keyed child, or the unbounded one
-/// behind them all.
-pub(crate) fn child_at<K: Ord + Drop, const LEN: usize>(
-    node: &NodeOf<K, LEN>,
-    place: u8,
-) -> Option<Part>
-    ensures child { option_map part_id result ≡ keyed_or (slice_get (keyed node.now).entries place) (unbounded node.now) }
-    ensures kind { ForSome result (λ part. (level : ℕ) → HasKind level node.now → IsAt level part) }
+/// behind them all. The node must have an unbounded child.
+pub(crate) fn child_at<K: Ord + Drop, const LEN: usize>(node: &NodeOf<K, LEN>, place: u8) -> Part
+    requires { IsSome (unbounded node.now) }
+    ensures child { keyed_or (slice_get (keyed node.now).entries place) (unbounded node.now) ≡ Some (part_id result) }
+    ensures kind { (level : ℕ) → HasKind level node.now → IsAt level result }
 {
     match node {
-        NodeOf::Leaf(node) => {
-            let child = id_at(&node.children, node.unbounded_child, place)?;
-            Some(Part::Leaf(child))
-        }
-        NodeOf::Internal(node) => {
-            let child = id_at(&node.children, node.unbounded_child, place)?;
-            Some(Part::Node(child))
-        }
+        NodeOf::Leaf(node) => match id_at(&node.children, node.unbounded_child, place) {
+            Some(id) => Part::Leaf(id),
+            None => unreachable!(),
+        },
+        NodeOf::Internal(node) => match id_at(&node.children, node.unbounded_child, place) {
+            Some(id) => Part::Node(id),
+            None => unreachable!(),
+        },
     }
 }
 
