@@ -1,13 +1,16 @@
 //! Parts that are dropped whole.
 ghost use Rattle.std.specs.Prelude.{◌≡◌, ◌<◌, ◌^◌, [], ◌∷◌, IsSome, None, Some, length, ℕ};
+ghost use Rattle.slab.specs.Slab.{get};
+ghost use Rattle.tree_cut.specs.Cuts.{DropsChild, keyed_of};
 ghost use Rattle.tree_cut.specs.Parts.{Frees, IsAt, IsForest, end_of, part_id};
 ghost use Rattle.tree_node.specs.Parts.{IsPart, Replaces};
 ghost use Rattle.tree_node.specs.Tree.{HasKind, Stands, leaves_at, node_children, unbounded, walk};
 
-use crate::parts::{Part, child_at, keyed_count};
+use crate::parts::{Part, child_at, keyed_count, slot_at};
 use tree_leaf::arena::{LeafId, NodeId};
 use tree_leaf::leaf::splice_link;
 use tree_node::node::{ArenasOf, NodeOf, slots_left};
+use tree_remove::clean_up::take_keyed;
 
 /// The two ends of a part.
 #[derive(Clone, Copy, Drop)]
@@ -16,9 +19,32 @@ pub(crate) enum End {
     Last,
 }
 
+/// Drops the keyed child at a place with all that stands under it, and takes it out of its node. Returns how many pairs
+/// stood there.
+pub(crate) fn drop_child<K: Ord + Drop, V: Drop, const LEN: usize>(
+    arenas: &mut ArenasOf<K, V, LEN>,
+    level: usize,
+    id: NodeId,
+    place: u8,
+) -> u128
+    requires node { 0 < level }
+    requires part { IsPart K.cmp level arenas.old id }
+    requires place { place < length (keyed_of (get arenas.old.nodes id)) }
+    ensures { DropsChild K.cmp level arenas.old arenas.new id place result }
+{
+    let node = arenas.node(id);
+    let Some(slot) = slot_at(node, place) else {
+        unreachable!()
+    };
+    let child = child_at(node, place);
+    let gone = drop_part(arenas, level - 1, &child);
+    take_keyed(arenas, id, slot);
+    gone
+}
+
 /// Drops a part: the leaves on both sides of it become neighbours, and exactly the numbers that it reached are free.
 /// Returns how many pairs stood there.
-pub fn drop_part<K: Ord + Drop, V: Drop, const LEN: usize>(
+fn drop_part<K: Ord + Drop, V: Drop, const LEN: usize>(
     arenas: &mut ArenasOf<K, V, LEN>,
     level: usize,
     part: &Part,
