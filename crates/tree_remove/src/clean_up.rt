@@ -92,7 +92,7 @@ fn only_retired<K: Ord + Drop, V: Drop, const LEN: usize>(
 }
 
 /// Takes a keyed child out of its node, by the slot of its separator. Other children keep their slots.
-fn take_keyed<K: Ord + Drop, V: Drop, const LEN: usize>(
+pub fn take_keyed<K: Ord + Drop, V: Drop, const LEN: usize>(
     arenas: &mut ArenasOf<K, V, LEN>,
     id: NodeId,
     slot: u8,

@@ -1,0 +1,110 @@
+-- Keys and separators beside two bounds.
+use Rattle.std.proofs.Common.{◌≡◌, ◌≢◌, ℕ, zero, suc, ◌+◌, ◌≤◌, ◌<◌, Bool, true, false, not, ◌&&◌, cond, List, [], ◌∷◌, ◌++◌, map, filter, take, drop, length, Option, Some, None, refl, sym, ap, ◌∙◌, arith, inl, inr}
+use Rattle.std.specs.List.{flat_map, AllByRecursion}
+use Rattle.std.specs.declared.cmp.Ordering.{Ordering}
+use Rattle.std.specs.declared.cmp.Ordering.TheVariants.{Less, Equal, Greater}
+use Rattle.std.specs.Ordering.{is_ge, is_le, is_lt}
+use Rattle.std.specs.Cmp.{IsTotalOrder}
+use Rattle.std.specs.declared.ops.Bound.{Bound}
+use Rattle.std.specs.declared.ops.Bound.TheVariants.{Included, Excluded, Unbounded}
+use Rattle.std.proofs.lemmas.List.{drop_all}
+use Rattle.tree_model.specs.Pairs.{cut, meets_lower, meets_upper, within}
+use Rattle.tree_model.proofs.Lists.{all_map}
+use Rattle.tree_model.proofs.Order.{greater_from_less}
+use Rattle.tree_node.specs.Tree.{IsAbove, IsUpTo}
+use Rattle.tree_node.proofs.Lists.{all_yes}
+use Rattle.tree_node.proofs.Order.{less_upto, upto_from_less, upto_from_test, upto_less}
+use Rattle.tree_cut.specs.Places.{BeginsAt, EndsAt, Narrows, PartsAt}
+
+module _ {K : Type 0} {cmp : K → K → Ordering} (o : IsTotalOrder cmp) where
+  not_le : (x y : K) → cmp x y ≡ Less → is_le (cmp y x) ≡ false
+  not_le x y h = rw (greater_from_less o x y h) refl
+
+  not_lt : (x y : K) → cmp x y ≡ Less → is_lt (cmp y x) ≡ false
+  not_lt x y h = rw (greater_from_less o x y h) refl
+
+  module _ {X : Type 0} (key : K) (pairs : List (K × X)) (place : ℕ) (parts : PartsAt cmp key pairs place) where
+    -- what is above a separator that isn't less than the key is above the key
+    over : (s k : K) → is_ge (cmp s key) ≡ true → cmp s k ≡ Less → cmp key k ≡ Less
+    over s k h above = upto_less o key s k (upto_from_test o s key h) above
+
+    pub begins_included : BeginsAt cmp (Included key) pairs place
+    begins_included = record {
+      within = parts.within;
+      missed = all_map (λ c h. not_le c.0 key h) _ parts.smaller;
+      opened = all_map (λ c h k above. upto_from_less o key k (over c.0 k h above)) _ parts.others;
+    }
+
+    pub begins_excluded : BeginsAt cmp (Excluded key) pairs place
+    begins_excluded = record {
+      within = parts.within;
+      missed = all_map (λ c h. not_lt c.0 key h) _ parts.smaller;
+      opened = all_map (λ c h k above. ap is_lt (over c.0 k h above)) _ parts.others;
+    }
+
+    pub ends_included : EndsAt cmp (Included key) pairs place
+    ends_included = record {
+      within = parts.within;
+      met = all_map (λ c h. upto_from_less o c.0 key h) _ parts.smaller;
+      closed = all_map (λ c h k above. not_le key k (over c.0 k h above)) _ parts.others;
+    }
+
+    pub ends_excluded : EndsAt cmp (Excluded key) pairs place
+    ends_excluded = record {
+      within = parts.within;
+      met = all_map (λ c h. ap is_lt h) _ parts.smaller;
+      closed = all_map (λ c h k above. not_lt key k (over c.0 k h above)) _ parts.others;
+    }
+
+  pub begins_open : {X : Type 0} (pairs : List (K × X)) → BeginsAt cmp Unbounded pairs 0
+  begins_open pairs = record { within = omega arith; missed = tt; opened = all_yes (λ c k above. refl) _ }
+
+  pub ends_open : {X : Type 0} (pairs : List (K × X)) (place : ℕ) → place ≡ length pairs → EndsAt cmp Unbounded pairs place
+  ends_open pairs place is = record { within = omega (arith, is); met = all_yes (λ c. refl) _; closed = rw (drop_all place pairs (omega (arith, is))) tt }
+
+  -- a key that meets a lower bound carries it over to each larger key
+  lower_up : (low : Bound K) (k s : K) → meets_lower cmp low k ≡ true → is_le (cmp k s) ≡ true → meets_lower cmp low s ≡ true
+  lower_up (Included low) k s h le = by_order (cmp low k) refl h
+    where
+      by_order : (c : Ordering) → cmp low k ≡ c → is_le c ≡ true → is_le (cmp low s) ≡ true
+      by_order Less e h = upto_from_less o low s (less_upto o low k s e le)
+      by_order Equal e h = ap is_le (o.congr low k s e) ∙ le
+      by_order Greater e h = absurd (cc)
+  lower_up (Excluded low) k s h le = by_order (cmp low k) refl h
+    where
+      by_order : (c : Ordering) → cmp low k ≡ c → is_lt c ≡ true → is_lt (cmp low s) ≡ true
+      by_order Less e h = ap is_lt (less_upto o low k s e le)
+      by_order Equal e h = absurd (cc)
+      by_order Greater e h = absurd (cc)
+  lower_up Unbounded k s h le = refl
+
+  -- and one that meets an upper bound to each smaller one
+  pub upper_down : (high : Bound K) (k s : K) → meets_upper cmp high s ≡ true → is_le (cmp k s) ≡ true → meets_upper cmp high k ≡ true
+  upper_down (Included high) k s h le = by_order (cmp k s) refl le
+    where
+      by_order : (c : Ordering) → cmp k s ≡ c → is_le c ≡ true → is_le (cmp k high) ≡ true
+      by_order Less e le = upto_from_less o k high (less_upto o k s high e h)
+      by_order Equal e le = ap is_le (o.congr k s high e) ∙ h
+      by_order Greater e le = absurd (cc)
+  upper_down (Excluded high) k s h le = by_order (cmp s high) refl h
+    where
+      by_order : (c : Ordering) → cmp s high ≡ c → is_lt c ≡ true → is_lt (cmp k high) ≡ true
+      by_order Less e h = ap is_lt (upto_less o k s high le e)
+      by_order Equal e h = absurd (cc)
+      by_order Greater e h = absurd (cc)
+  upper_down Unbounded k s h le = refl
+
+  -- a key up to a separator that misses the lower bound is outside the bounds, and so is one above what closes them
+  pub key_before : (low high : Bound K) (s k : K) → meets_lower cmp low s ≡ false → is_le (cmp k s) ≡ true → not (within cmp low high k) ≡ true
+  key_before low high s k misses le = by_test (meets_lower cmp low k) refl
+    where
+      by_test : (b : Bool) → meets_lower cmp low k ≡ b → not (b && meets_upper cmp high k) ≡ true
+      by_test true e = absurd (let bad = sym (lower_up low k s e le) ∙ misses in cc)
+      by_test false e = refl
+
+  pub key_after : (low high : Bound K) (k : K) → meets_upper cmp high k ≡ false → not (within cmp low high k) ≡ true
+  key_after low high k misses = rw misses (by_test (meets_lower cmp low k))
+    where
+      by_test : (b : Bool) → not (b && false) ≡ true
+      by_test true = refl
+      by_test false = refl

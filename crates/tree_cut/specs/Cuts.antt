@@ -1,0 +1,54 @@
+-- Parts that lose the keys within two bounds.
+use Rattle.std.specs.Prelude.{◌≡◌, ℕ, zero, suc, ◌+◌, List, [], ◌∷◌, ◌++◌, Option, None, Some, length, take, drop, slice_get}
+use Rattle.std.specs.List.{flat_map}
+use Rattle.std.specs.declared.cmp.Ordering.{Ordering}
+use Rattle.std.specs.declared.ops.Bound.{Bound}
+use Rattle.slab.specs.Slab.{get}
+use Rattle.tree_model.specs.Pairs.{cut}
+use Rattle.tree_node.specs.declared.node.NodeOf.{NodeOf}
+use Rattle.tree_node.specs.Arenas.{TreeArenas}
+use Rattle.tree_node.specs.Parts.{KeepsBounds, Replaces}
+use Rattle.tree_node.specs.Tree.{children_of, keyed, walk}
+
+-- the keyed children of what stands in a slot, by their separators
+abbrev pub keyed_of : {K : Type 0} {LEN : ℕ} → Option (NodeOf K LEN) → List (K × ℕ)
+keyed_of None = []
+keyed_of (Some node) = (keyed node).entries
+
+module _ {K V : Type 0} {LEN : ℕ} (cmp : K → K → Ordering) where
+  -- The part under a number has lost the keys within the bounds, which were so many, and nothing else. It stands between the bounds that it had.
+  pub record CutsUnder (low high : Bound K) (level : ℕ) (old new : TreeArenas K V LEN) (id gone : ℕ) : Type 0 where
+    pub pairs : walk level new id ≡ cut cmp (walk level old id) low high
+    pub counted : gone + length (walk level new id) ≡ length (walk level old id)
+    pub stands : KeepsBounds cmp level old new id
+    pub replaces : Replaces level old new (id ∷ []) (id ∷ [])
+
+  -- Of the pairs under one child of a node these are left, in the place of the child, or none where the child is gone. All else under the node is what it was.
+  pub record ChildBecomes (level : ℕ) (old new : TreeArenas K V LEN) (id place child : ℕ) (left : List (K × V)) : Type 0 where
+    pub here : slice_get (children_of old.nodes id) place ≡ Some child
+    pub front : flat_map (walk level new) (take place (children_of new.nodes id)) ≡ flat_map (walk level old) (take place (children_of old.nodes id))
+    pub back : flat_map (walk level new) (drop place (children_of new.nodes id)) ≡ left ++ flat_map (walk level old) (drop (suc place) (children_of old.nodes id))
+    pub separators : take place (keyed_of (get new.nodes id)) ≡ take place (keyed_of (get old.nodes id))
+    pub stands : KeepsBounds cmp (suc level) old new id
+    pub replaces : Replaces (suc level) old new (id ∷ []) (id ∷ [])
+
+  -- the child has lost the keys within the bounds, which were so many
+  pub record CutsOne (low high : Bound K) (level : ℕ) (old new : TreeArenas K V LEN) (id place gone : ℕ) : Type 0 where
+    pub child : ℕ
+    pub becomes : ChildBecomes level old new id place child (cut cmp (walk level old child) low high)
+    pub counted : gone + length (cut cmp (walk level old child) low high) ≡ length (walk level old child)
+
+  -- it has been dropped with its pairs, which were so many
+  pub record DropsOne (level : ℕ) (old new : TreeArenas K V LEN) (id place gone : ℕ) : Type 0 where
+    pub child : ℕ
+    pub becomes : ChildBecomes level old new id place child []
+    pub counted : gone ≡ length (walk level old child)
+
+  -- the same of a node of this level
+  abbrev pub CutsChild : Bound K → Bound K → ℕ → TreeArenas K V LEN → TreeArenas K V LEN → ℕ → ℕ → ℕ → Type 0
+  CutsChild low high zero old new id place gone = ⊥
+  CutsChild low high (suc level) old new id place gone = CutsOne low high level old new id place gone
+
+  abbrev pub DropsChild : ℕ → TreeArenas K V LEN → TreeArenas K V LEN → ℕ → ℕ → ℕ → Type 0
+  DropsChild zero old new id place gone = ⊥
+  DropsChild (suc level) old new id place gone = DropsOne level old new id place gone

@@ -1,0 +1,3 @@
+pub mod Cuts
+pub mod Parts
+pub mod Places

@@ -1,0 +1,137 @@
+//! Parts that are dropped whole.
+ghost use Rattle.std.specs.Prelude.{◌≡◌, ◌<◌, ◌^◌, [], ◌∷◌, IsSome, None, Some, length, ℕ};
+ghost use Rattle.slab.specs.Slab.{get};
+ghost use Rattle.tree_cut.specs.Cuts.{DropsChild, keyed_of};
+ghost use Rattle.tree_cut.specs.Parts.{Frees, IsAt, IsForest, end_of, part_id};
+ghost use Rattle.tree_node.specs.Parts.{IsPart, Replaces};
+ghost use Rattle.tree_node.specs.Tree.{HasKind, Stands, leaves_at, node_children, unbounded, walk};
+
+use crate::parts::{Part, child_at, keyed_count, slot_at};
+use tree_leaf::arena::{LeafId, NodeId};
+use tree_leaf::leaf::splice_link;
+use tree_node::node::{ArenasOf, NodeOf, slots_left};
+use tree_remove::clean_up::take_keyed;
+
+/// The two ends of a part.
+#[derive(Clone, Copy, Drop)]
+pub(crate) enum End {
+    First,
+    Last,
+}
+
+/// Drops the keyed child at a place with all that stands under it, and takes it out of its node. Returns how many pairs
+/// stood there.
+pub(crate) fn drop_child<K: Ord + Drop, V: Drop, const LEN: usize>(
+    arenas: &mut ArenasOf<K, V, LEN>,
+    level: usize,
+    id: NodeId,
+    place: u8,
+) -> u128
+    requires node { 0 < level }
+    requires part { IsPart K.cmp level arenas.old id }
+    requires place { place < length (keyed_of (get arenas.old.nodes id)) }
+    ensures { DropsChild K.cmp level arenas.old arenas.new id place result }
+{
+    let node = arenas.node(id);
+    let Some(slot) = slot_at(node, place) else {
+        unreachable!()
+    };
+    let child = child_at(node, place);
+    let gone = drop_part(arenas, level - 1, &child);
+    take_keyed(arenas, id, slot);
+    gone
+}
+
+/// Drops a part: the leaves on both sides of it become neighbours, and exactly the numbers that it reached are free.
+/// Returns how many pairs stood there.
+fn drop_part<K: Ord + Drop, V: Drop, const LEN: usize>(
+    arenas: &mut ArenasOf<K, V, LEN>,
+    level: usize,
+    part: &Part,
+) -> u128
+    requires kind { IsAt level part.now }
+    requires part { IsPart K.cmp level arenas.old (part_id part.now) }
+    ensures dropped { Replaces level arenas.old arenas.new (part_id part.now ∷ []) [] }
+    ensures gone { result ≡ length (walk level arenas.old (part_id part.now)) }
+{
+    let first = end_leaf(arenas, level, part, End::First);
+    let last = end_leaf(arenas, level, part, End::Last);
+    let left = arenas.leaf(first).prev();
+    let right = arenas.leaf(last).next();
+    splice_link(arenas, left, right);
+    free_part(arenas, level, part)
+}
+
+/// Returns the first or the last leaf of a part.
+fn end_leaf<K: Ord + Drop, V: Drop, const LEN: usize>(
+    arenas: &ArenasOf<K, V, LEN>,
+    level: usize,
+    part: &Part,
+    end: End,
+) -> LeafId
+    requires kind { IsAt level part.now }
+    requires stands { Stands K.cmp level arenas.now None (part_id part.now) None }
+    ensures { end_of end (leaves_at level arenas.now.nodes (part_id part.now)) ≡ Some result }
+{
+    match part {
+        Part::Leaf(id) => *id,
+        Part::Node(id) => {
+            let id = *id;
+            let child = end_child(arenas.node(id), end);
+            end_leaf(arenas, level - 1, &child, end)
+        }
+    }
+}
+
+/// Returns the first or the last child of a node, which must have an unbounded one.
+fn end_child<K: Ord + Drop, const LEN: usize>(node: &NodeOf<K, LEN>, end: End) -> Part
+    requires { IsSome (unbounded node.now) }
+    ensures child { end_of end (node_children (Some node.now)) ≡ Some (part_id result) }
+    ensures kind { (level : ℕ) → HasKind level node.now → IsAt level result }
+{
+    match end {
+        End::First => child_at(node, 0),
+        End::Last => child_at(node, keyed_count(node)),
+    }
+}
+
+/// Frees exactly the numbers that are reached from a part. Returns how many pairs stood there.
+fn free_part<K: Ord + Drop, V: Drop, const LEN: usize>(
+    arenas: &mut ArenasOf<K, V, LEN>,
+    level: usize,
+    part: &Part,
+) -> u128
+    requires kind { IsAt level part.now }
+    requires forest { IsForest K.cmp level arenas.old (part_id part.now ∷ []) }
+    ensures frees { Frees level arenas.old arenas.new (part_id part.now ∷ []) }
+    ensures gone { result ≡ length (walk level arenas.old (part_id part.now)) }
+{
+    match part {
+        Part::Leaf(id) => arenas.remove_leaf(*id).array().len() as u128,
+        Part::Node(id) => {
+            let id = *id;
+            count_fits(arenas, level, id);
+            let node = arenas.remove_node(id);
+            let mut gone = 0;
+            for place in 0..keyed_count(&node) + 1 {
+                let child = child_at(&node, place);
+                gone += free_part(arenas, level - 1, &child);
+            }
+            gone
+        }
+    }
+}
+
+/// Says that the pairs of a part can be counted. Runs in constant time.
+pub(crate) fn count_fits<K: Ord + Drop, V: Drop, const LEN: usize>(
+    arenas: &ArenasOf<K, V, LEN>,
+    level: usize,
+    id: NodeId,
+)
+    requires node { 0 < level }
+    requires forest { IsForest K.cmp level arenas.now (id ∷ []) }
+    ensures { length (walk level arenas.now id) < 2 ^ 127 }
+{
+    let _slots = slots_left(arenas.node(id));
+    let _leaves = arenas.leaf_count();
+}

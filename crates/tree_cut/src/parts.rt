@@ -1,0 +1,86 @@
+//! Parts: what stands under a number, and the children of a node by their places.
+ghost use Rattle.std.specs.Prelude.{◌≡◌, ◌<◌, IsSome, MatchOption, None, Some, length, slice_get, ℕ};
+ghost use Rattle.tree_array.specs.Arrivals.{arrival};
+ghost use Rattle.tree_cut.specs.Places.{keyed_or};
+ghost use Rattle.tree_cut.specs.Parts.{IsAt, part_id};
+ghost use Rattle.tree_node.specs.Tree.{HasKind, keyed, unbounded};
+
+use tree_array::array::ArrayOf;
+use tree_leaf::arena::{LeafId, NodeId};
+use tree_node::node::NodeOf;
+
+/// The number of a leaf or of a node.
+#[derive(Clone, Copy, Drop)]
+pub(crate) enum Part {
+    Leaf(LeafId),
+    Node(NodeId),
+}
+
+/// Returns the child of a node at a place in the order of the keys, counted from 0: a keyed child, or the unbounded one
+/// behind them all. The node must have an unbounded child.
+pub(crate) fn child_at<K: Ord + Drop, const LEN: usize>(node: &NodeOf<K, LEN>, place: u8) -> Part
+    requires { IsSome (unbounded node.now) }
+    ensures child { keyed_or (slice_get (keyed node.now).entries place) (unbounded node.now) ≡ Some (part_id result) }
+    ensures kind { (level : ℕ) → HasKind level node.now → IsAt level result }
+{
+    match node {
+        NodeOf::Leaf(node) => match id_at(&node.children, node.unbounded_child, place) {
+            Some(id) => Part::Leaf(id),
+            None => unreachable!(),
+        },
+        NodeOf::Internal(node) => match id_at(&node.children, node.unbounded_child, place) {
+            Some(id) => Part::Node(id),
+            None => unreachable!(),
+        },
+    }
+}
+
+/// Returns the keyed child at a place, or else the unbounded one.
+fn id_at<K: Ord + Drop, I: Copy + Drop, const LEN: usize>(
+    children: &ArrayOf<K, I, LEN>,
+    unbounded: Option<I>,
+    place: u8,
+) -> Option<I>
+    ensures { result ≡ keyed_or (slice_get children.now.entries place) unbounded }
+{
+    match children.slot_at(place) {
+        Some(slot) => Some(*children.val(slot)),
+        None => unbounded,
+    }
+}
+
+/// Returns the slot of the keyed child at a place, or `None` behind the last.
+pub(crate) fn slot_at<K: Ord + Drop, const LEN: usize>(
+    node: &NodeOf<K, LEN>,
+    place: u8,
+) -> Option<u8>
+    ensures { MatchOption result (slice_get (keyed node.now).entries place ≡ None)
+        (λ slot. (pair : _) × (arrival (keyed node.now).arrivals slot ≡ Some pair) × (slice_get (keyed node.now).entries place ≡ Some pair)) }
+{
+    match node {
+        NodeOf::Leaf(node) => node.children.slot_at(place),
+        NodeOf::Internal(node) => node.children.slot_at(place),
+    }
+}
+
+/// Returns how many keyed children a node has.
+pub(crate) fn keyed_count<K: Ord + Drop, const LEN: usize>(node: &NodeOf<K, LEN>) -> u8
+    ensures count { result ≡ length (keyed node.now).entries }
+    ensures few { result < 16 }
+{
+    match node {
+        NodeOf::Leaf(node) => count(&node.children),
+        NodeOf::Internal(node) => count(&node.children),
+    }
+}
+
+/// Returns how many entries an array has.
+pub(crate) fn count<K: Ord + Drop, I: Drop, const LEN: usize>(
+    children: &ArrayOf<K, I, LEN>,
+) -> u8
+    ensures count { result ≡ length children.now.entries }
+    ensures few { result < 16 }
+{
+    let _free = children.free();
+    children.len() as u8
+}
