@@ -1,0 +1,1 @@
+//! A cursor over the pairs within two bounds.
