@@ -1,12 +1,11 @@
 -- The place of a walk among the pairs of a tree, and where it goes.
-use Rattle.std.proofs.Common.{◌≡◌, ℕ, zero, ◌+◌, ◌-◌, ◌<◌, ◌≤◌, ◌==◌, cond, Bool, true, false, List, [], ◌∷◌, ◌++◌, length, drop, take, reverse, slice_get, option_map, inl, inr, ◌⊎◌, IfSome, MatchOption, suc, Option, Some, None, refl, sym, ap, subst, ◌∙◌, arith, append_assoc, length-append, length-drop}
+use Rattle.std.proofs.Common.{◌≡◌, ℕ, zero, ◌+◌, ◌<◌, ◌==◌, true, false, List, [], ◌∷◌, ◌++◌, length, drop, take, reverse, slice_get, inl, inr, ◌⊎◌, suc, Option, Some, None, refl, sym, ap, ◌∙◌, arith, length-append, length-drop}
 use Rattle.std.proofs.lemmas.Bool.{cases_eq}
 use Rattle.std.proofs.lemmas.Bool.Decides.{nat_tests}
 use Rattle.std.proofs.lemmas.List.{append-nil, length-reverse, length-take}
 use Rattle.std.proofs.lemmas.List.Concat.{flat_map-append}
 use Rattle.std.proofs.lemmas.Option.{slice_get_within}
 use Rattle.std.specs.Borrow.{Bor}
-use Rattle.std.specs.Cmp.{IsTotalOrder}
 use Rattle.std.specs.declared.cmp.Ordering.{Ordering}
 use Rattle.std.specs.declared.ops.Bound.{Bound}
 use Rattle.slab.specs.Slab.{Slab}
@@ -20,17 +19,15 @@ use Rattle.tree_leaf.specs.Rest.{left_of}
 use Rattle.tree_leaf.specs.Walks.{LeafWalk, here, lent_entry, standing, stood_on}
 use Rattle.tree_leaf.specs.Ways.{ahead, along, beyond, places_left}
 use Rattle.tree_leaf.proofs.Chains.{counted}
-use Rattle.tree_leaf.proofs.Counts.{none_here, one_here, times-cons, uses_le_one}
+use Rattle.tree_leaf.proofs.Counts.{one_here, times-cons, uses_le_one}
 use Rattle.tree_node.specs.Arenas.{TreeArenas}
-use Rattle.tree_node.specs.Tree.{Stands as PartStands, IsRetired, StandsOrRetired, leaves_at, walk}
+use Rattle.tree_node.specs.Tree.{Stands as PartStands, StandsOrRetired, leaves_at, walk}
 use Rattle.tree_node.specs.Whole.{IsRetiredRoot, IsTree, leaves_under, walk_under}
-use Rattle.tree_cursor_model.specs.Cursor.{End, at_place, end_at, exhausted, meets, next_end, place_beside, unopened}
+use Rattle.tree_cursor_model.specs.Cursor.{at_place, exhausted, meets, next_end, unopened}
 use Rattle.tree_cursor_model.proofs.Places.{beside_is, beside_none, first_is, first_none}
-use Rattle.tree_cursors.specs.declared.end.End.{End as TreeEnd}
-use Rattle.tree_cursors.specs.declared.end.End.TheVariants.{Unopened, At, Exhausted}
 use Rattle.tree_walk.specs.Ends.{IsLinked}
-use Rattle.tree_cursors.specs.Seek.{Advances, IsNearest, NoneMeets, Seeks, path}
-use Rattle.tree_cursors.specs.View.{EndStands, Stands, end_of, place_at, place_in, place_of}
+use Rattle.tree_cursors.specs.Seek.{Advances, IsNearest, Seeks, path}
+use Rattle.tree_cursors.specs.View.{Stands, place_at, place_in, place_of}
 
 -- elements of joined lists
 get_left : {X : Type 0} (xs ys : List X) (i : ℕ) (x : X) → slice_get xs i ≡ Some x → slice_get (xs ++ ys) i ≡ Some x
@@ -83,8 +80,14 @@ module _ {K V : Type 0} {LEN : ℕ} (leaves : Slab (LeafOf K V LEN)) (front : Li
     left_is : (way : Way) → length (ahead way (leaf_entries leaves id) (Some i) ++ along way (entries_of leaves (beyond way front back))) ≡ places_left way (length (entries_of leaves (front ++ id ∷ back))) (Some (before + i))
     left_is On =
         let within = slice_get_within (leaf_entries leaves id) i pair is in
-        rw parts (omega (arith, within, length-append (drop (i + 1) (leaf_entries leaves id)) (entries_of leaves back), length-drop (i + 1) (leaf_entries leaves id),
-        length-append (entries_of leaves front) (leaf_entries leaves id ++ entries_of leaves back), length-append (leaf_entries leaves id) (entries_of leaves back)))
+        rw parts (omega (
+          arith,
+          within,
+          length-append (drop (i + 1) (leaf_entries leaves id)) (entries_of leaves back),
+          length-drop (i + 1) (leaf_entries leaves id),
+          length-append (entries_of leaves front) (leaf_entries leaves id ++ entries_of leaves back),
+          length-append (leaf_entries leaves id) (entries_of leaves back),
+        ))
     left_is Back =
         let within = slice_get_within (leaf_entries leaves id) i pair is in
         omega (arith, within, length-append (reverse (take i (leaf_entries leaves id))) (reverse (entries_of leaves front)), length-reverse (take i (leaf_entries leaves id)), length-reverse (entries_of leaves front), length-take i (leaf_entries leaves id))

@@ -2,6 +2,5 @@
 #![tactic(auto)]
 
 pub mod end;
-pub mod range;
 pub mod seek;
 pub mod way;

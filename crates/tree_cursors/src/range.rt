@@ -1,1 +1,0 @@
-//! A cursor over the pairs within two bounds.
