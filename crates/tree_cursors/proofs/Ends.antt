@@ -1,0 +1,194 @@
+-- The place of a walk among the pairs of a tree, and where it goes.
+use Rattle.std.proofs.Common.{◌≡◌, ℕ, zero, ◌+◌, ◌<◌, ◌==◌, true, false, List, [], ◌∷◌, ◌++◌, length, drop, take, reverse, slice_get, inl, inr, ◌⊎◌, suc, Option, Some, None, refl, sym, ap, ◌∙◌, arith, length-append, length-drop}
+use Rattle.std.proofs.lemmas.Bool.{cases_eq}
+use Rattle.std.proofs.lemmas.Bool.Decides.{nat_tests}
+use Rattle.std.proofs.lemmas.List.{append-nil, length-reverse, length-take}
+use Rattle.std.proofs.lemmas.List.Concat.{flat_map-append}
+use Rattle.std.proofs.lemmas.Option.{slice_get_within}
+use Rattle.std.specs.Borrow.{Bor}
+use Rattle.std.specs.declared.cmp.Ordering.{Ordering}
+use Rattle.std.specs.declared.ops.Bound.{Bound}
+use Rattle.slab.specs.Slab.{Slab}
+use Rattle.tree_leaf.specs.declared.leaf.LeafOf.{LeafOf}
+use Rattle.tree_leaf.specs.declared.leaf.stand.Way.{Way}
+use Rattle.tree_leaf.specs.declared.leaf.stand.Way.TheVariants.{On, Back}
+use Rattle.tree_leaf.specs.Chain.{IsChain}
+use Rattle.tree_leaf.specs.Counting.{times}
+use Rattle.tree_leaf.specs.Entries.{entries_of, leaf_entries}
+use Rattle.tree_leaf.specs.Rest.{left_of}
+use Rattle.tree_leaf.specs.Walks.{LeafWalk, here, lent_entry, standing, stood_on}
+use Rattle.tree_leaf.specs.Ways.{ahead, along, beyond, places_left}
+use Rattle.tree_leaf.proofs.Chains.{counted}
+use Rattle.tree_leaf.proofs.Counts.{one_here, times-cons, uses_le_one}
+use Rattle.tree_node.specs.Arenas.{TreeArenas}
+use Rattle.tree_node.specs.Tree.{Stands as PartStands, StandsOrRetired, leaves_at, walk}
+use Rattle.tree_node.specs.Whole.{IsRetiredRoot, IsTree, leaves_under, walk_under}
+use Rattle.tree_cursor_model.specs.Cursor.{at_place, exhausted, meets, next_end, unopened}
+use Rattle.tree_cursor_model.proofs.Places.{beside_is, beside_none, first_is, first_none}
+use Rattle.tree_walk.specs.Ends.{IsLinked}
+use Rattle.tree_cursors.specs.Seek.{Advances, IsNearest, Seeks, path}
+use Rattle.tree_cursors.specs.View.{Stands, place_at, place_in, place_of}
+
+-- elements of joined lists
+get_left : {X : Type 0} (xs ys : List X) (i : ℕ) (x : X) → slice_get xs i ≡ Some x → slice_get (xs ++ ys) i ≡ Some x
+get_left [] ys i x is = absurd (cc)
+get_left (y ∷ xs) ys zero x is = is
+get_left (y ∷ xs) ys (suc i) x is = get_left xs ys i x is
+
+get_right : {X : Type 0} (xs ys : List X) (i n : ℕ) → n ≡ length xs + i → slice_get (xs ++ ys) n ≡ slice_get ys i
+get_right [] ys i n is = ap (slice_get ys) (omega (arith, is))
+get_right (x ∷ xs) ys i zero is = absurd (omega (arith, is))
+get_right (x ∷ xs) ys i (suc n) is = get_right xs ys i n (omega (arith, is))
+
+same_number : (n : ℕ) → (n == n) ≡ true
+same_number n = grind arith
+
+module _ {K V : Type 0} {LEN : ℕ} (leaves : Slab (LeafOf K V LEN)) where
+  -- in a list that a number stands in once, its leaf begins behind the entries of the leaves before
+  place_split : (front : List ℕ) (id : ℕ) (back : List ℕ) (i : ℕ) → times id front ≡ 0 → place_in leaves (front ++ id ∷ back) id i ≡ length (entries_of leaves front) + i
+  place_split [] id back i once = rw (same_number id) (omega arith)
+  place_split (x ∷ front) id back i once = elim (cases_eq id x) [
+    | inl same ↦ absurd (omega (arith, once, times-cons id x front, one_here id x same))
+    | inr differs ↦
+        let no : (x == id) ≡ false = grind (arith, nat_tests, differs) in
+        let rest : times id front ≡ 0 = omega (arith, once, times-cons id x front) in
+        rw (no, place_split front id back i rest) (omega (arith, length-append (leaf_entries leaves x) (entries_of leaves front)))
+  ]
+
+-- where a walk stands among the entries of its chain, and how many are left of it either way
+pub record IsPlaced {K V : Type 0} {LEN : ℕ} (leaves : Slab (LeafOf K V LEN)) (front : List ℕ) (back : List ℕ) (pairs : List (K × V)) (ids : List ℕ) (walk : LeafWalk K V LEN) (pair : K × V) : Type 0 where
+  pub place : ℕ
+  pub place_is : place_at leaves ids walk.leaf walk.at ≡ at_place place
+  pub inside : place < length pairs
+  pub there : slice_get pairs place ≡ Some pair
+  pub left : (way : Way) → length (left_of way walk front back) ≡ places_left way (length pairs) (Some place)
+
+module _ {K V : Type 0} {LEN : ℕ} (leaves : Slab (LeafOf K V LEN)) (front : List ℕ) (id : ℕ) (back : List ℕ) (chain : IsChain leaves (front ++ id ∷ back)) where
+  once_in_front : times id front ≡ 0
+  once_in_front = omega (arith, counted leaves front id back chain id, uses_le_one leaves id, times-cons id id back, one_here id id refl)
+
+  module _ (pair : K × V) (i : ℕ) (is : slice_get (leaf_entries leaves id) i ≡ Some pair) where
+    abbrev before : ℕ
+    before = length (entries_of leaves front)
+
+    parts : entries_of leaves (front ++ id ∷ back) ≡ entries_of leaves front ++ (leaf_entries leaves id ++ entries_of leaves back)
+    parts = flat_map-append (leaf_entries leaves) front (id ∷ back)
+
+    found : slice_get (entries_of leaves (front ++ id ∷ back)) (before + i) ≡ Some pair
+    found = rw (parts, get_right (entries_of leaves front) (leaf_entries leaves id ++ entries_of leaves back) i (before + i) refl) (get_left (leaf_entries leaves id) (entries_of leaves back) i pair is)
+
+    left_is : (way : Way) → length (ahead way (leaf_entries leaves id) (Some i) ++ along way (entries_of leaves (beyond way front back))) ≡ places_left way (length (entries_of leaves (front ++ id ∷ back))) (Some (before + i))
+    left_is On =
+        let within = slice_get_within (leaf_entries leaves id) i pair is in
+        rw parts (omega (
+          arith,
+          within,
+          length-append (drop (i + 1) (leaf_entries leaves id)) (entries_of leaves back),
+          length-drop (i + 1) (leaf_entries leaves id),
+          length-append (entries_of leaves front) (leaf_entries leaves id ++ entries_of leaves back),
+          length-append (leaf_entries leaves id) (entries_of leaves back),
+        ))
+    left_is Back =
+        let within = slice_get_within (leaf_entries leaves id) i pair is in
+        omega (arith, within, length-append (reverse (take i (leaf_entries leaves id))) (reverse (entries_of leaves front)), length-reverse (take i (leaf_entries leaves id)), length-reverse (entries_of leaves front), length-take i (leaf_entries leaves id))
+
+    placed : IsPlaced leaves front back (entries_of leaves (front ++ id ∷ back)) (front ++ id ∷ back) (standing leaves id (Some i)) pair
+    placed = record {
+      place = before + i;
+      place_is = ap at_place (place_split leaves front id back i once_in_front);
+      inside = slice_get_within (entries_of leaves (front ++ id ∷ back)) (before + i) pair found;
+      there = found;
+      left = left_is;
+    }
+
+module _ {K V : Type 0} {LEN : ℕ} (leaves : Slab (LeafOf K V LEN)) (ids : List ℕ) (chain : IsChain leaves ids) where
+  -- a walk that stands on an entry of the chain
+  pub placed_on : (walk : LeafWalk K V LEN) (pair : K × V) → walk.leaves ≡ leaves → (front back : List ℕ) → front ++ walk.leaf ∷ back ≡ ids → stood_on walk ≡ Some pair → IsPlaced leaves front back (entries_of leaves ids) ids walk pair
+  placed_on walk pair same front back stands here = by_place walk.at refl
+    where
+      by_place : (at : Option ℕ) → walk.at ≡ at → IsPlaced leaves front back (entries_of leaves ids) ids walk pair
+      by_place None is = absurd (let none = rw is at here in cc)
+      by_place (Some i) is =
+          let this : walk ≡ standing leaves walk.leaf (Some i) = rw (← same, ← is) refl in
+          let there : slice_get (leaf_entries leaves walk.leaf) i ≡ Some pair = rw (same, is) at here in
+          rw (this, ← stands) (placed leaves front walk.leaf back (rw stands chain) pair i there)
+
+module _ {K V : Type 0} {LEN : ℕ} {cmp : K → K → Ordering} (a : TreeArenas K V LEN) (root : Option (ℕ × ℕ)) (tree : IsTree cmp a root) where
+  pairs_are : walk_under a root ≡ entries_of a.leaves (leaves_under a.nodes root)
+  pairs_are = by_root root
+    where
+      by_root : (root : Option (ℕ × ℕ)) → walk_under a root ≡ entries_of a.leaves (leaves_under a.nodes root)
+      by_root None = refl
+      by_root (Some root) = refl
+
+  -- the place of a walk that stands in the tree
+  pub placed_in : (now : LeafWalk K V LEN) (s : Stands a root now) → IsPlaced a.leaves s.front s.back (walk_under a root) (leaves_under a.nodes root) now s.pair
+  placed_in now s = rw pairs_are (placed_on a.leaves (leaves_under a.nodes root) tree.chain now s.pair s.same s.front s.back s.stands s.here)
+
+  module _ (way : Way) (old : LeafWalk K V LEN) (s : Stands a root old) (new : LeafWalk K V LEN) where
+    pub old_chain : IsChain old.leaves (s.front ++ old.leaf ∷ s.back)
+    old_chain = rw (s.same, s.stands) tree.chain
+
+    -- a walk that goes on stands one place along
+    abbrev pub still_stands : (entry : Bor K × Bor V) → Advances way old (Some entry) new → Stands a root new
+    still_stands entry advances =
+        let next = advances s.front s.back old_chain in
+        record { same = next.0.same ∙ s.same; front = next.0.front; back = next.0.back; stands = next.0.stands ∙ s.stands; pair = lent_entry entry; here = next.1 }
+
+    pub goes_beside : (entry : Bor K × Bor V) → Advances way old (Some entry) new → (bound : Bound K) → place_of a root new ≡ next_end cmp way bound (walk_under a root) (place_of a root old)
+    goes_beside entry advances bound =
+        let next = advances s.front s.back old_chain in
+        let from = placed_in old s in
+        let to = placed_in new (still_stands entry advances) in
+        let fewer : places_left way (length (walk_under a root)) (Some from.place) ≡ suc (places_left way (length (walk_under a root)) (Some to.place)) =
+        sym (from.left way) ∙ ap length next.0.takes ∙ ap (λ n. suc n) (to.left way) in
+        rw (to.place_is, from.place_is, beside_is way (length (walk_under a root)) from.place to.place from.inside to.inside fewer) refl
+
+    -- or it has left the tree
+    pub leaves_tree : Advances way old None new → (bound : Bound K) → exhausted ≡ next_end cmp way bound (walk_under a root) (place_of a root old)
+    leaves_tree advances bound =
+        let next = advances s.front s.back old_chain in
+        let from = placed_in old s in
+        let none : places_left way (length (walk_under a root)) (Some from.place) ≡ 0 = sym (from.left way) ∙ ap length next.0.takes.0 in
+        rw (from.place_is, beside_none way (length (walk_under a root)) from.place none) refl
+
+module _ {K V : Type 0} {LEN : ℕ} {cmp : K → K → Ordering} (a : TreeArenas K V LEN) (id level : ℕ) (tree : IsTree cmp a (Some (id, level))) where
+  pub whole_chain : IsChain a.leaves ([] ++ (leaves_at level a.nodes id ++ []))
+  whole_chain = rw (append-nil (leaves_at level a.nodes id)) tree.chain
+
+  pub root_linked : IsLinked level a id
+  root_linked = ([], [], whole_chain)
+
+  pub root_stands : StandsOrRetired cmp level a id
+  root_stands = by_top tree.top.1
+    where
+      by_top : (PartStands cmp level a None id None ⊎ IsRetiredRoot a id level) → StandsOrRetired cmp level a id
+      by_top (inl s) = inl s
+      by_top (inr retired) = inr (rw retired.0 retired.1)
+
+  path_is : (way : Way) → path way level a id [] [] ≡ along way (walk level a id)
+  path_is On = append-nil (walk level a id)
+  path_is Back = append-nil (reverse (walk level a id))
+
+  module _ (way : Way) (bound : Bound K) where
+    module _ (found : LeafWalk K V LEN) (seeks : Seeks cmp way level a id bound (Some found)) where
+      abbrev nearest : IsNearest cmp way bound (path way level a id [] []) a.leaves ([] ++ (leaves_at level a.nodes id ++ [])) found
+      nearest = seeks [] [] whole_chain
+
+      abbrev pub found_stands : Stands a (Some (id, level)) found
+      found_stands = record {
+        same = nearest.same;
+        front = nearest.front;
+        back = nearest.back;
+        stands = nearest.stands ∙ append-nil (leaves_at level a.nodes id);
+        pair = nearest.pair;
+        here = nearest.here;
+      }
+
+      pub found_first : place_of a (Some (id, level)) found ≡ next_end cmp way bound (walk level a id) unopened
+      found_first =
+          let at = placed_in a (Some (id, level)) tree found found_stands in
+          rw (at.place_is, first_is (λ pair. meets cmp way bound pair.0) way (walk level a id) nearest.before nearest.pair _ at.place (sym (path_is way) ∙ nearest.parts) nearest.none_before nearest.met at.inside (sym (at.left way))) refl
+
+    pub found_none : Seeks cmp way level a id bound None → exhausted ≡ next_end cmp way bound (walk level a id) unopened
+    found_none seeks = rw (first_none (λ pair. meets cmp way bound pair.0) way (walk level a id) (seeks [] [] whole_chain)) refl

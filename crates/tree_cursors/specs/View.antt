@@ -1,0 +1,71 @@
+-- What contracts see of a cursor over a tree.
+use Rattle.std.specs.Prelude.{◌≡◌, ℕ, ◌+◌, ◌==◌, if◌then◌else◌, List, [], ◌∷◌, ◌++◌, length, Option, Some, None}
+use Rattle.std.specs.Borrow.{Bor}
+use Rattle.std.specs.Range.Bound.{bound_map}
+use Rattle.std.specs.declared.cmp.Ordering.{Ordering}
+use Rattle.std.specs.declared.ops.Bound.{Bound}
+use Rattle.slab.specs.Slab.{Slab}
+use Rattle.tree_leaf.specs.Entries.{leaf_entries}
+use Rattle.tree_leaf.specs.Walks.{LeafWalk, stood_on}
+use Rattle.tree_leaf.specs.declared.leaf.LeafOf.{LeafOf}
+use Rattle.tree_node.specs.Arenas.{TreeArenas}
+use Rattle.tree_node.specs.Whole.{IsTree, leaves_under, walk_under}
+use Rattle.tree_cursor_model.specs.Cursor.{Cursor, End, unopened, at_place, exhausted}
+use Rattle.tree_cursors.specs.declared.end.End.{End as TreeEnd}
+use Rattle.tree_cursors.specs.declared.end.End.TheVariants.{Unopened, At, Exhausted}
+
+module _ {K V : Type 0} {LEN : ℕ} where
+  -- where the entry number i of a leaf is among the entries of these leaves
+  abbrev pub place_in : Slab (LeafOf K V LEN) → List ℕ → ℕ → ℕ → ℕ
+  place_in leaves [] id i = i
+  place_in leaves (x ∷ ids) id i = if x == id then i else length (leaf_entries leaves x) + place_in leaves ids id i
+
+  abbrev pub place_at : Slab (LeafOf K V LEN) → List ℕ → ℕ → Option ℕ → End
+  place_at leaves ids id None = unopened
+  place_at leaves ids id (Some i) = at_place (place_in leaves ids id i)
+
+  -- the pair that an end stands on
+  abbrev pub pair_of : TreeEnd (LeafWalk K V LEN) → Option (K × V)
+  pair_of Unopened = None
+  pair_of (At walk) = stood_on walk
+  pair_of Exhausted = None
+
+module _ {K V : Type 0} {LEN : ℕ} (arenas : TreeArenas K V LEN) (root : Option (ℕ × ℕ)) where
+  -- where a walk stands among the pairs of the tree
+  abbrev pub place_of : LeafWalk K V LEN → End
+  place_of walk = place_at arenas.leaves (leaves_under arenas.nodes root) walk.leaf walk.at
+
+  abbrev pub end_of : TreeEnd (LeafWalk K V LEN) → End
+  end_of Unopened = unopened
+  end_of (At walk) = place_of walk
+  end_of Exhausted = exhausted
+
+  -- the walk stands on an entry of a leaf of the tree
+  pub record Stands (walk : LeafWalk K V LEN) : Type 0 where
+    pub same : walk.leaves ≡ arenas.leaves
+    pub front : List ℕ
+    pub back : List ℕ
+    pub stands : front ++ walk.leaf ∷ back ≡ leaves_under arenas.nodes root
+    pub pair : K × V
+    pub here : stood_on walk ≡ Some pair
+
+  abbrev pub EndStands : TreeEnd (LeafWalk K V LEN) → Type 0
+  EndStands Unopened = Unit {0}
+  EndStands (At walk) = Stands walk
+  EndStands Exhausted = Unit {0}
+
+  -- what is seen of a cursor's parts
+  abbrev pub seen : Bound (Bor K) → Bound (Bor K) → TreeEnd (LeafWalk K V LEN) → TreeEnd (LeafWalk K V LEN) → Cursor K V
+  seen low high forward backward = record {
+    pairs = walk_under arenas root;
+    low = bound_map (λ k. k.now) low;
+    high = bound_map (λ k. k.now) high;
+    forward = end_of forward;
+    backward = end_of backward;
+  }
+
+  -- what holds of its parts
+  pub record Kept (cmp : K → K → Ordering) (forward backward : TreeEnd (LeafWalk K V LEN)) : Type 0 where
+    pub tree : IsTree cmp arenas root
+    pub forward_stands : EndStands forward
+    pub backward_stands : EndStands backward

@@ -1,0 +1,111 @@
+//! The ends of a cursor.
+ghost use Rattle.std.specs.Prelude.{◌≡◌, Some};
+ghost use Rattle.std.specs.Ordering.{is_lt};
+ghost use Rattle.std.specs.Range.Bound.{bound_map};
+ghost use Rattle.std.specs.declared.ops.Bound.{Bound as AnyBound};
+ghost use Rattle.tree_leaf.specs.Walks.{stood_on};
+ghost use Rattle.tree_node.specs.Whole.{IsTree, walk_under};
+ghost use Rattle.tree_cursor_model.specs.Cursor.{next_end, unopened};
+ghost use Rattle.tree_cursor_model.specs.Rest.{lent};
+ghost use Rattle.tree_cursors.specs.View.{EndStands, Stands, end_of, pair_of, place_of};
+
+use crate::seek::{advance, seek_at};
+use crate::way::EndWay;
+use std::ops::Bound;
+use tree_leaf::arena::NodeId;
+use tree_leaf::leaf::{LeafOf, LinkedIter, SlotWalk};
+use tree_node::node::ArenasOf;
+
+/// Where an end of a cursor is: it was never moved, it stands on an entry, or it has left the tree.
+#[derive(Drop)]
+pub enum End<W> {
+    Unopened,
+    At(W),
+    Exhausted,
+}
+
+/// Moves an end: one that was never moved to the first key that meets its bound, and any other one entry along.
+/// Descends only for the first move. Makes no comparisons after it.
+pub fn step<'t, K: Ord + Drop, V: Drop, S: EndWay, const LEN: usize>(
+    arenas: &'t ArenasOf<K, V, LEN>,
+    root: Option<(NodeId, usize)>,
+    end: End<LinkedIter<'t, LeafOf<K, V, LEN>, S>>,
+    bound: Bound<&K>,
+) -> End<LinkedIter<'t, LeafOf<K, V, LEN>, S>>
+    requires tree { IsTree K.cmp arenas.now root }
+    requires stands { EndStands arenas.now root end }
+    ensures place { end_of arenas.now root result ≡ next_end K.cmp S.way (bound_map (λ k. k.now) bound.entry) (walk_under arenas.now root) (end_of arenas.now root end.entry) }
+    ensures stands { EndStands arenas.now root result }
+{
+    match end {
+        End::Unopened => first_end(arenas, root, bound),
+        End::At(walk) => next_end(arenas, root, walk),
+        End::Exhausted => End::Exhausted,
+    }
+}
+
+/// Returns where an end goes that was never moved.
+fn first_end<'t, K: Ord + Drop, V: Drop, S: EndWay, const LEN: usize>(
+    arenas: &'t ArenasOf<K, V, LEN>,
+    root: Option<(NodeId, usize)>,
+    bound: Bound<&K>,
+) -> End<LinkedIter<'t, LeafOf<K, V, LEN>, S>>
+    requires { IsTree K.cmp arenas.now root }
+    ensures place { end_of arenas.now root result ≡ next_end K.cmp S.way (bound_map (λ k. k.now) bound.entry) (walk_under arenas.now root) unopened }
+    ensures stands { EndStands arenas.now root result }
+{
+    let Some(top) = root else {
+        return End::Exhausted;
+    };
+    match seek_at::<K, V, S, LEN>(arenas, top.1, top.0, bound) {
+        Some(walk) => End::At(walk),
+        None => End::Exhausted,
+    }
+}
+
+/// Returns where an end goes that stands on an entry.
+fn next_end<'t, K: Ord + Drop, V: Drop, S: SlotWalk, const LEN: usize>(
+    arenas: &'t ArenasOf<K, V, LEN>,
+    root: Option<(NodeId, usize)>,
+    mut walk: LinkedIter<'t, LeafOf<K, V, LEN>, S>,
+) -> End<LinkedIter<'t, LeafOf<K, V, LEN>, S>>
+    requires tree { IsTree K.cmp arenas.now root }
+    requires stands { Stands arenas.now root walk }
+    ensures place { (bound : AnyBound K) → end_of arenas.now root result ≡ next_end K.cmp S.way bound (walk_under arenas.now root) (place_of arenas.now root walk.entry) }
+    ensures stands { EndStands arenas.now root result }
+{
+    match advance(&mut walk) {
+        Some(_) => End::At(walk),
+        None => End::Exhausted,
+    }
+}
+
+/// Returns whether one walk stands on a smaller key than another one. Makes one comparison. The caller must have
+/// walks that stand on entries.
+pub fn comes_before<'t, K: Ord + Drop, V: Drop, S: SlotWalk, T: SlotWalk, const LEN: usize>(
+    walk: &LinkedIter<'t, LeafOf<K, V, LEN>, S>,
+    other: &LinkedIter<'t, LeafOf<K, V, LEN>, T>,
+) -> bool
+    ensures { (first second : _) → stood_on walk.now ≡ Some first → stood_on other.now ≡ Some second → result ≡ is_lt (K.cmp first.0 second.0) }
+{
+    let Some((key, _)) = walk.get() else {
+        return false;
+    };
+    let Some((other_key, _)) = other.get() else {
+        return false;
+    };
+    key.cmp(other_key).is_lt()
+}
+
+/// Returns the pair that an end stands on, if it stands on one. Runs in constant time.
+pub fn pair_on<'t, K: Ord + Drop, V: Drop, S: SlotWalk, const LEN: usize>(
+    end: &End<LinkedIter<'t, LeafOf<K, V, LEN>, S>>,
+) -> Option<(&'t K, &'t V)>
+    ensures { lent result ≡ pair_of end.now }
+{
+    match end {
+        End::At(walk) => walk.get(),
+        End::Unopened => None,
+        End::Exhausted => None,
+    }
+}
