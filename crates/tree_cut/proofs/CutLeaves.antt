@@ -45,3 +45,6 @@ module _ {K V : Type 0} {LEN : ℕ} (cmp : K → K → Ordering) (low high : Bou
         };
     replaces = array_replaces a id leaf array was;
   }
+
+pub range_few : {K V : Type 0} (cmp : K → K → Ordering) (low high : Bound K) (old new : Arrivals K V) → new ≡ without_range cmp old low high → length new.entries ≤ length old.entries
+range_few cmp low high old new is = rw is (cut_few cmp low high old.entries)
