@@ -50,6 +50,7 @@ module _ {K V : Type 0} {LEN : ℕ} (cmp : K → K → Ordering) (low high : Bou
     pub stands : KeepsBounds cmp (suc level) start now id
     pub replaces : Replaces (suc level) start now (id ∷ []) (id ∷ [])
     pub part : IsPart cmp (suc level) now id
+    pub upto : place ≤ last + 1
     pub reach : place ≤ length (keyed_of (get now.nodes id)) + 1
     pub reach_last : place ≤ last → place ≤ length (keyed_of (get now.nodes id))
     pub reach_first : place ≤ first → place ≤ length (keyed_of (get now.nodes id))
@@ -87,6 +88,7 @@ module _ {K V : Type 0} {LEN : ℕ} {cmp : K → K → Ordering} (o : IsTotalOrd
         stands = λ above below t. t;
         replaces = replaces_refl (suc level) a (id ∷ []);
         part = part;
+        upto = omega arith;
         reach = omega (arith, ends.within);
         reach_last = λ few. absurd (omega (arith, few));
         reach_first = λ few. omega (arith, few, begins.within);
@@ -98,7 +100,7 @@ module _ {K V : Type 0} {LEN : ℕ} {cmp : K → K → Ordering} (o : IsTotalOrd
             (backs_outside o low high level a None _ s.last None s.parted last (rw (keyed_are level a id s) at ends.within) (rw (keyed_are level a id s) at ends.closed));
       }
 
-  module _ (level : ℕ) (start now new : TreeArenas K V LEN) (id place gone more : ℕ) (state : CutStateAt cmp low high first last level start now id (suc place) gone) (from : first ≤ place) (to : place ≤ last)
+  module _ (level : ℕ) (start now new : TreeArenas K V LEN) (id place gone more : ℕ) (state : CutStateAt cmp low high first last level start now id (suc place) gone) (from : first ≤ place)
       (lo hi : Bound K) (narrow_low : Narrows low lo place first) (narrow_high : Narrows high hi place last) (cuts : CutsOne cmp lo hi level now new id place more) where
     abbrev s : Stands cmp (suc level) now None id None
     s = state.part.stands
@@ -117,7 +119,7 @@ module _ {K V : Type 0} {LEN : ℕ} {cmp : K → K → Ordering} (o : IsTotalOrd
         narrowed_cut o low high level now (keyed s.node).entries s.last s.parted place cuts.child first last
         (rw (keyed_are level now id s) at within_now)
         (child_first (keyed s.node).entries s.last place cuts.child (rw (children_are level now id s) at cuts.becomes.here) (rw (keyed_are level now id s) at within_now))
-        from to
+        from (omega (arith, state.upto))
         (λ less. rw (keyed_are level now id s) at (state.reach_last less))
         (rw (keyed_are level now id s) at state.opened)
         (rw (keyed_are level now id s) at state.met)
@@ -164,6 +166,7 @@ module _ {K V : Type 0} {LEN : ℕ} {cmp : K → K → Ordering} (o : IsTotalOrd
       stands = λ above below t. cuts.becomes.stands above below (state.stands above below t);
       replaces = replaces_trans (suc level) start now new (id ∷ []) (id ∷ []) (id ∷ []) state.replaces cuts.becomes.replaces;
       part = part_after cmp (suc level) now new id state.part still cuts.becomes.replaces;
+      upto = omega (arith, state.upto);
       reach = omega (arith, within_new);
       reach_last = λ few. within_new;
       reach_first = λ few. within_new;
@@ -199,11 +202,11 @@ module _ {K V : Type 0} {LEN : ℕ} {cmp : K → K → Ordering} (o : IsTotalOrd
   state_few zero start now id place gone state = absurd state
   state_few (suc level) start now id place gone state = omega (arith, state.counted)
 
-  pub steps : (level : ℕ) (start now new : TreeArenas K V LEN) (id place before gone more : ℕ) → CutState cmp low high first last level start now id place gone → suc before ≡ place → first ≤ before → before ≤ last
+  pub steps : (level : ℕ) (start now new : TreeArenas K V LEN) (id place before gone more : ℕ) → CutState cmp low high first last level start now id place gone → suc before ≡ place → first ≤ before
       → (lo hi : Bound K) → Narrows low lo before first → Narrows high hi before last → CutsChild cmp lo hi level now new id before more → CutState cmp low high first last level start new id before (gone + more)
-  steps zero start now new id place before gone more state is from to lo hi narrow_low narrow_high cuts = absurd state
-  steps (suc level) start now new id place before gone more state is from to lo hi narrow_low narrow_high cuts =
-      steps_at level start now new id before gone more (rw (← is) at state) from to lo hi narrow_low narrow_high cuts
+  steps zero start now new id place before gone more state is from lo hi narrow_low narrow_high cuts = absurd state
+  steps (suc level) start now new id place before gone more state is from lo hi narrow_low narrow_high cuts =
+      steps_at level start now new id before gone more (rw (← is) at state) from lo hi narrow_low narrow_high cuts
 
   pub finishes : (level : ℕ) (start now : TreeArenas K V LEN) (id place gone : ℕ) → CutState cmp low high first last level start now id place gone → place ≤ first → CutsUnder cmp low high level start now id gone
   finishes zero start now id place gone state few = absurd state

@@ -1,4 +1,5 @@
 pub mod Bounds
+pub mod ChildCuts
 pub mod Counts
 pub mod CutLeaves
 pub mod CutLoop
@@ -10,4 +11,5 @@ pub mod NodeSteps
 pub mod OneChild
 pub mod Outside
 pub mod Searches
+pub mod Tops
 pub mod Turns

@@ -60,7 +60,7 @@ module _ {K X : Type 0} {cmp : K → K → Ordering} (o : IsTotalOrder cmp) (key
   others_from (c ∷ pairs) zero pair ascending is ge =
       let same : c ≡ pair = cc in
       let here : is_ge (cmp c.0 key) ≡ true = rw same ge in
-      (here, all_map (λ d less. larger_ge c.0 d.0 here less) _ ascending.0)
+      (here, all_map (λ d less. larger_ge o key c.0 d.0 here less) _ ascending.0)
   others_from (c ∷ pairs) (suc place) pair ascending is ge = others_from pairs place pair ascending.1 is ge
 
   reach_of : (pairs : List (K × X)) (place : ℕ) (pair : K × X) → slice_get pairs place ≡ Some pair → place < length pairs

@@ -1,5 +1,5 @@
 //! The places at which a cut of a node begins and ends.
-ghost use Rattle.std.specs.Prelude.{◌≡◌, true};
+ghost use Rattle.std.specs.Prelude.{◌≡◌, ◌<◌, true};
 ghost use Rattle.std.specs.Range.Bound.{bound_map};
 ghost use Rattle.tree_cut.specs.Places.{BeginsAt, EndsAt, Narrows, PartsAt};
 ghost use Rattle.tree_node.specs.Tree.{keyed};
@@ -28,7 +28,8 @@ pub(crate) fn last_place<K: Ord + Drop, const LEN: usize>(
     node: &NodeOf<K, LEN>,
     high: Bound<&K>,
 ) -> u8
-    ensures { EndsAt K.cmp (bound_map (λ k. k.now) high.entry) (keyed node.now).entries result }
+    ensures ends { EndsAt K.cmp (bound_map (λ k. k.now) high.entry) (keyed node.now).entries result }
+    ensures few { result < 16 }
 {
     match high {
         Bound::Included(key) => place_in(node, key),
@@ -39,7 +40,8 @@ pub(crate) fn last_place<K: Ord + Drop, const LEN: usize>(
 
 /// Returns the place of the child that a key belongs to.
 fn place_in<K: Ord + Drop, const LEN: usize>(node: &NodeOf<K, LEN>, key: &K) -> u8
-    ensures { PartsAt K.cmp key.now (keyed node.now).entries result }
+    ensures parts { PartsAt K.cmp key.now (keyed node.now).entries result }
+    ensures few { result < 16 }
 {
     match node {
         NodeOf::Leaf(node) => place_for(&node.children, key),
@@ -52,7 +54,8 @@ fn place_for<K: Ord + Drop, I: Drop, const LEN: usize>(
     children: &ArrayOf<K, I, LEN>,
     key: &K,
 ) -> u8
-    ensures { PartsAt K.cmp key.now children.now.entries result }
+    ensures parts { PartsAt K.cmp key.now children.now.entries result }
+    ensures few { result < 16 }
 {
     let all = count(children);
     let Some(slot) = children.slot_for(key) else {
