@@ -1,20 +1,18 @@
 -- A child that is cut, and dropped if nothing is left of it.
-use Rattle.std.proofs.Common.{sub-one, ◌≡◌, ℕ, zero, suc, ◌-◌, ◌+◌, ◌<◌, ◌≤◌, not, true, List, [], ◌∷◌, ◌++◌, filter, take, drop, length, slice_get, Option, Some, None, IsSome, refl, sym, ap, ◌∙◌, arith}
+use Rattle.std.proofs.Common.{sub-one, ◌≡◌, ℕ, zero, suc, ◌-◌, List, [], ◌∷◌, drop, slice_get, Some, None, refl, sym, ◌∙◌, arith}
 use Rattle.std.specs.List.{flat_map}
 use Rattle.std.specs.declared.cmp.Ordering.{Ordering}
 use Rattle.std.specs.declared.ops.Bound.{Bound}
 use Rattle.std.specs.declared.ops.Bound.TheVariants.{Unbounded}
-use Rattle.std.specs.Cmp.{IsTotalOrder}
 use Rattle.slab.specs.Slab.{get}
-use Rattle.tree_leaf.specs.Counting.{times, uses}
 use Rattle.tree_model.specs.Pairs.{cut}
 use Rattle.tree_node.specs.declared.node.NodeOf.{NodeOf}
 use Rattle.tree_node.specs.Arenas.{TreeArenas}
 use Rattle.tree_node.specs.Parts.{IsPart}
-use Rattle.tree_node.specs.Tree.{Stands, children_of, node_children, walk}
+use Rattle.tree_node.specs.Tree.{children_of, node_children, walk}
 use Rattle.tree_node.proofs.Lifts.{leaves_once_in, single_leaves, single_nodes}
 use Rattle.tree_node.proofs.Steps.{part_after, replaces_trans}
-use Rattle.tree_cut.specs.Cuts.{ChildBecomes, CutsChild, CutsOne, CutsUnder, DropsChild, DropsOne, keyed_of}
+use Rattle.tree_cut.specs.Cuts.{CutsChild, DropsChild}
 use Rattle.tree_cut.specs.Parts.{IsForest}
 use Rattle.tree_cut.proofs.OneChild.{split_here}
 

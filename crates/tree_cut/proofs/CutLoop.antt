@@ -1,20 +1,18 @@
 -- The children of a node that are cut one after another, from behind.
-use Rattle.std.proofs.Common.{sub-one, ◌≡◌, ℕ, zero, suc, ◌+◌, ◌-◌, ◌≤◌, ◌<◌, Bool, true, false, not, cond, List, [], ◌∷◌, ◌++◌, filter, take, drop, length, length-append, slice_get, Option, Some, None, refl, sym, ap, ◌∙◌, arith}
+use Rattle.std.proofs.Common.{◌≡◌, ℕ, zero, suc, ◌+◌, ◌-◌, ◌≤◌, ◌<◌, true, not, List, [], ◌∷◌, ◌++◌, take, drop, length, length-append, Some, None, refl, sym, ap, ◌∙◌, arith}
 use Rattle.std.specs.List.{flat_map, AllByRecursion}
 use Rattle.std.specs.declared.cmp.Ordering.{Ordering}
 use Rattle.std.specs.Cmp.{IsTotalOrder}
 use Rattle.std.specs.declared.ops.Bound.{Bound}
-use Rattle.std.proofs.lemmas.List.{append-nil, take-append-drop}
+use Rattle.std.proofs.lemmas.List.{take-append-drop}
 use Rattle.std.proofs.lemmas.List.Concat.{flat_map-append}
 use Rattle.std.proofs.lemmas.List.Elements.{filter-append}
 use Rattle.slab.specs.Slab.{get}
 use Rattle.tree_model.specs.Pairs.{cut, within}
 use Rattle.tree_model.proofs.Lists.{all-append, all_passed, filter_all}
-use Rattle.tree_node.specs.declared.node.NodeOf.{NodeOf}
 use Rattle.tree_node.specs.Arenas.{TreeArenas}
 use Rattle.tree_node.specs.Parts.{IsPart, KeepsBounds, Replaces}
 use Rattle.tree_node.specs.Tree.{Stands, children_of, in_turn, keyed, walk}
-use Rattle.tree_node.proofs.Standing.{node_is}
 use Rattle.tree_node.proofs.Steps.{part_after, replaces_refl, replaces_trans}
 use Rattle.tree_node.proofs.Walks.{walk-children}
 use Rattle.tree_cut.specs.Cuts.{CutsChild, CutsOne, CutsUnder, keyed_of}
@@ -182,7 +180,7 @@ module _ {K V : Type 0} {LEN : ℕ} {cmp : K → K → Ordering} (o : IsTotalOrd
       let missed : AllByRecursion (Missed cmp low high) (take place (keyed s.node).entries) = rw (take_more first place _ few, keyed_are level now id s) at state.missed in
       let reach : place ≤ length (keyed s.node).entries = rw (keyed_are level now id s) at (state.reach_first few) in
       let front : IsOutside cmp low high (flat_map (walk level now) (take place (children_of now.nodes id))) =
-          rw (children_are level now id s) (fronts_outside o low high level now None _ s.last None s.parted place reach missed) in
+      rw (children_are level now id s) (fronts_outside o low high level now None _ s.last None s.parted place reach missed) in
       let outside : IsOutside cmp low high (walk (suc level) now id) = rw (walk_split level now id s place) (all-append _ _ _ front state.done) in
       record { pairs = sym (cut_outside cmp low high _ outside) ∙ state.pairs; counted = state.counted; stands = state.stands; replaces = state.replaces }
 

@@ -1,16 +1,16 @@
 -- Parts without a pair, as their unbounded children tell.
-use Rattle.std.proofs.Common.{◌≡◌, ℕ, zero, suc, ◌-◌, ◌+◌, List, [], ◌∷◌, ◌++◌, length, slice_get, Option, Some, None, refl, sym, ap, ◌∙◌, arith}
+use Rattle.std.proofs.Common.{◌≡◌, ℕ, ◌-◌, List, [], ◌∷◌, length, slice_get, Some, None, refl, ◌∙◌, arith}
 use Rattle.std.specs.declared.cmp.Ordering.{Ordering}
 use Rattle.std.proofs.lemmas.List.{append-nil}
 use Rattle.slab.specs.Slab.{get}
 use Rattle.tree_leaf.specs.declared.leaf.LeafOf.{LeafOf}
 use Rattle.tree_node.specs.declared.node.NodeOf.{NodeOf}
 use Rattle.tree_node.specs.Arenas.{TreeArenas}
-use Rattle.tree_node.specs.Tree.{Stands, keyed, node_children, unbounded, walk}
+use Rattle.tree_node.specs.Tree.{Stands, keyed, unbounded, walk}
 use Rattle.tree_node.proofs.Children.{walk-leaf}
 use Rattle.tree_node.proofs.Walks.{walk-children}
 use Rattle.tree_cut.specs.Places.{keyed_or}
-use Rattle.tree_cut.proofs.Ends.{StandsAbove, each_stands, last_is}
+use Rattle.tree_cut.proofs.Ends.{StandsAbove, each_stands}
 
 pub empty_leaf : {K V : Type 0} {LEN : ℕ} (a : TreeArenas K V LEN) (id : ℕ) (leaf : LeafOf K V LEN) → get a.leaves id ≡ Some leaf → leaf.array.entries ≡ [] → walk 0 a id ≡ []
 empty_leaf a id leaf here none = walk-leaf a id leaf here ∙ none

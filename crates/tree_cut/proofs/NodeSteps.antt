@@ -1,5 +1,5 @@
 -- A child of a node whose level is a number of the program.
-use Rattle.std.proofs.Common.{sub-one, ◌≡◌, ℕ, zero, suc, ◌-◌, ◌+◌, ◌<◌, ◌≤◌, List, [], ◌∷◌, ◌++◌, length, slice_get, true, is_some, MatchOption, Option, Some, None, IsSome, refl, sym, ap, ◌∙◌, subst, arith}
+use Rattle.std.proofs.Common.{sub-one, ◌≡◌, ℕ, zero, suc, ◌-◌, ◌<◌, ◌≤◌, List, [], ◌∷◌, length, slice_get, true, is_some, MatchOption, Option, Some, None, IsSome, refl, sym, ap, ◌∙◌, subst, arith}
 use Rattle.std.specs.declared.cmp.Ordering.{Ordering}
 use Rattle.std.specs.declared.ops.Bound.{Bound}
 use Rattle.std.specs.Cmp.{IsTotalOrder}
@@ -11,7 +11,7 @@ use Rattle.tree_node.specs.Parts.{IsPart, Replaces}
 use Rattle.tree_node.specs.Tree.{HasKind, Stands, keyed, node_children, unbounded, walk}
 use Rattle.tree_node.proofs.Standing.{node_is}
 use Rattle.tree_remove.specs.CleanUps.{HasChildIn, TakesKeyed}
-use Rattle.tree_cut.specs.Cuts.{CutsChild, CutsOne, CutsUnder, DropsChild, DropsOne, keyed_of}
+use Rattle.tree_cut.specs.Cuts.{CutsChild, CutsUnder, DropsChild}
 use Rattle.tree_cut.specs.Places.{keyed_or}
 use Rattle.tree_cut.proofs.OneChild.{child_part, cut_becomes, drop_becomes, same_node, split_here}
 use Rattle.tree_cut.proofs.Turns.{turn_here}
@@ -59,7 +59,7 @@ module _ {K V : Type 0} {LEN : ℕ} {cmp : K → K → Ordering} (o : IsTotalOrd
     child_listed =
         let last_is : unbounded node ≡ Some here.part.stands.last = ap unbounded (sym here.node_same) ∙ here.part.stands.last_is in
         let at_node : keyed_or (slice_get (keyed node).entries place) (Some here.part.stands.last) ≡ Some child =
-            subst (λ (n : NodeOf K LEN). keyed_or (slice_get (keyed n).entries place) (Some here.part.stands.last) ≡ Some child) here.node_same here.at in
+        subst (λ (n : NodeOf K LEN). keyed_or (slice_get (keyed n).entries place) (Some here.part.stands.last) ≡ Some child) here.node_same here.at in
         let within_node : place ≤ length (keyed node).entries = subst (λ (n : NodeOf K LEN). place ≤ length (keyed n).entries) here.node_same here.within in
         rw last_is (turn_here (keyed node).entries here.part.stands.last place child at_node within_node)
 

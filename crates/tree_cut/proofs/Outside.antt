@@ -1,15 +1,14 @@
 -- Children of a node whose keys are outside two bounds, and keys of one child that need one bound alone.
-use Rattle.std.proofs.Common.{◌≡◌, ◌≢◌, ℕ, zero, suc, ◌+◌, ◌≤◌, ◌<◌, Bool, true, false, not, ◌&&◌, cond, List, [], ◌∷◌, ◌++◌, map, filter, take, drop, length, slice_get, Option, Some, None, refl, sym, ap, ◌∙◌, arith, inl, inr}
+use Rattle.std.proofs.Common.{◌≡◌, ℕ, zero, suc, ◌≤◌, ◌<◌, Bool, true, false, not, cond, List, [], ◌∷◌, filter, take, drop, length, slice_get, Option, Some, None, refl, sym, ap, arith, inl, inr}
 use Rattle.std.specs.List.{flat_map, AllByRecursion}
 use Rattle.std.specs.declared.cmp.Ordering.{Ordering}
 use Rattle.std.specs.declared.cmp.Ordering.TheVariants.{Less}
 use Rattle.std.specs.Cmp.{IsTotalOrder}
 use Rattle.std.specs.declared.ops.Bound.{Bound}
-use Rattle.std.specs.declared.ops.Bound.TheVariants.{Unbounded}
 use Rattle.std.proofs.lemmas.Bool.{cases_eq}
 use Rattle.std.proofs.lemmas.List.{take-append-drop}
 use Rattle.tree_model.specs.Pairs.{cut, meets_lower, meets_upper, within}
-use Rattle.tree_model.proofs.Lists.{all_map, all-append, all_passed, filter_all}
+use Rattle.tree_model.proofs.Lists.{all_map, all-append}
 use Rattle.tree_node.specs.Arenas.{TreeArenas}
 use Rattle.tree_node.specs.Tree.{AreParted, IsAbove, IsUpTo, Stands, in_turn, walk}
 use Rattle.tree_node.proofs.Frames.{all_both}
@@ -140,7 +139,7 @@ module _ {K : Type 0} {cmp : K → K → Ordering} (o : IsTotalOrder cmp) (low h
         | inl same ↦ rw (narrow_low.kept same) refl
         | inr differs ↦
             let lows : meets_lower cmp low k ≡ true =
-                low_opened (take (suc place) pairs) None first place (omega (arith, from, differs)) (reach_taken place pairs within_) opened k (rw (take_less place pairs) above) in
+            low_opened (take (suc place) pairs) None first place (omega (arith, from, differs)) (reach_taken place pairs within_) opened k (rw (take_less place pairs) above) in
             rw (narrow_low.opened differs) (sym lows)
       ]
 
@@ -150,7 +149,7 @@ module _ {K : Type 0} {cmp : K → K → Ordering} (o : IsTotalOrder cmp) (low h
         | inr differs ↦
             let less : place < final = omega (arith, to, differs) in
             let highs : meets_upper cmp high k ≡ true =
-                high_met (take (suc place) pairs) final place less (reach_below place pairs (reach less)) met k (rw (high_at_same pairs place (reach less)) up_to) in
+            high_met (take (suc place) pairs) final place less (reach_below place pairs (reach less)) met k (rw (high_at_same pairs place (reach less)) up_to) in
             rw (narrow_high.opened differs) (sym highs)
       ]
 

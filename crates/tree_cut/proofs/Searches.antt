@@ -1,5 +1,5 @@
 -- The place of the least separator that isn't less than a key, found by its slot.
-use Rattle.std.proofs.Common.{◌≡◌, ℕ, zero, suc, ◌+◌, ◌≤◌, ◌<◌, Bool, true, false, cond, List, [], ◌∷◌, ◌++◌, take, drop, length, slice_get, Option, Some, None, refl, sym, ap, ◌∙◌, arith}
+use Rattle.std.proofs.Common.{◌≡◌, ℕ, zero, suc, ◌+◌, ◌<◌, Bool, true, false, cond, List, [], ◌∷◌, take, drop, length, slice_get, Some, None, refl, sym, ◌∙◌, arith}
 use Rattle.std.specs.List.{AllByRecursion}
 use Rattle.std.specs.declared.cmp.Ordering.{Ordering}
 use Rattle.std.specs.declared.cmp.Ordering.TheVariants.{Less}
@@ -11,7 +11,6 @@ use Rattle.tree_array.specs.Arrivals.{Arrivals, arrival, least_from}
 use Rattle.tree_array.specs.Sound.{IsSound}
 use Rattle.tree_model.specs.Pairs.{IsAscending}
 use Rattle.tree_model.proofs.Lists.{all_map}
-use Rattle.tree_model.proofs.Order.{greater_from_less}
 use Rattle.tree_node.proofs.Order.{less_from_test}
 use Rattle.tree_cut.specs.Places.{PartsAt}
 

@@ -50,10 +50,7 @@ fn place_in<K: Ord + Drop, const LEN: usize>(node: &NodeOf<K, LEN>, key: &K) -> 
 }
 
 /// Returns the place of the least separator that isn't less than a key, or the number of separators if all are.
-fn place_for<K: Ord + Drop, I: Drop, const LEN: usize>(
-    children: &ArrayOf<K, I, LEN>,
-    key: &K,
-) -> u8
+fn place_for<K: Ord + Drop, I: Drop, const LEN: usize>(children: &ArrayOf<K, I, LEN>, key: &K) -> u8
     ensures parts { PartsAt K.cmp key.now children.now.entries result }
     ensures few { result < 16 }
 {

@@ -76,9 +76,7 @@ pub(crate) fn keyed_count<K: Ord + Drop, const LEN: usize>(node: &NodeOf<K, LEN>
 }
 
 /// Returns how many entries an array has.
-pub(crate) fn count<K: Ord + Drop, I: Drop, const LEN: usize>(
-    children: &ArrayOf<K, I, LEN>,
-) -> u8
+pub(crate) fn count<K: Ord + Drop, I: Drop, const LEN: usize>(children: &ArrayOf<K, I, LEN>) -> u8
     ensures count { result ≡ length children.now.entries }
     ensures few { result < 16 }
     ensures sound { IsSound K.cmp LEN children.now }

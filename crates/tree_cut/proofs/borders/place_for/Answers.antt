@@ -1,4 +1,4 @@
-use Rattle.std.proofs.Common.{◌≡◌, ◌+◌, ◌<◌, arith}
+use Rattle.std.proofs.Common.{arith}
 use Rattle.tree_cut.proofs.NodeSteps.{none_past}
 use Rattle.tree_cut.proofs.Searches.{parts_all, parts_here, smaller_next}
 use Rattle.tree_cut.proofs.borders.place_for.Goals as goal

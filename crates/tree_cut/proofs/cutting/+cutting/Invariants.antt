@@ -1,4 +1,4 @@
-use Rattle.std.proofs.Common.{◌+◌, ◌*◌, ◌-◌}
+use Rattle.std.proofs.Common.{◌*◌, ◌-◌}
 use Rattle.std.specs.Range.Bound.{bound_map}
 use Rattle.tree_cut.proofs.CutLoop.{CutState}
 use Rattle.tree_cut.proofs.cutting.+cutting.Given as goal

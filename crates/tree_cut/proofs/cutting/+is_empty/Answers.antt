@@ -1,5 +1,5 @@
-use Rattle.std.proofs.Common.{rules, ◌≡◌, ◌-◌, ◌+◌, ◌<◌, ◌≤◌, None, Some, arith, refl, sym, ap, ◌∙◌, length}
-use Rattle.slab.specs.Slab.{ContainsKey, get}
+use Rattle.std.proofs.Common.{rules, ◌≡◌, ◌-◌, ◌<◌, None, arith, sym, ap, ◌∙◌, length}
+use Rattle.slab.specs.Slab.{ContainsKey}
 use Rattle.tree_array.specs.Arrivals.{Arrivals}
 use Rattle.tree_node.specs.Tree.{Stands, keyed}
 use Rattle.tree_node.proofs.Sizes.{fits}

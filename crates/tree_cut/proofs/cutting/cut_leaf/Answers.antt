@@ -1,6 +1,4 @@
-use Rattle.std.proofs.Common.{rules, ◌≡◌, ◌-◌, ◌+◌, ◌<◌, ◌≤◌, None, Some, arith, refl, sym, ap, ◌∙◌, length}
-use Rattle.slab.specs.Slab.{ContainsKey, get}
-use Rattle.tree_array.specs.Arrivals.{Arrivals}
+use Rattle.std.proofs.Common.{rules, arith, refl}
 use Rattle.tree_node.proofs.Sizes.{fits}
 use Rattle.tree_cut.proofs.CutLeaves.{leaf_cut, range_few}
 use Rattle.tree_cut.proofs.cutting.cut_leaf.Goals as goal

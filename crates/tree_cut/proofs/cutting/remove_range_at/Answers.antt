@@ -1,7 +1,5 @@
-use Rattle.std.proofs.Common.{rules, ◌≡◌, ◌⊎◌, ◌-◌, ◌+◌, ◌<◌, ◌≤◌, None, Some, arith, refl, sym, ap, ◌∙◌, length, inl, inr}
-use Rattle.slab.specs.Slab.{ContainsKey, get}
-use Rattle.tree_node.specs.Parts.{IsPart}
-use Rattle.tree_node.specs.Tree.{IsRetiredNode}
+use Rattle.std.proofs.Common.{rules, None, arith, sym, ap, length}
+use Rattle.slab.specs.Slab.{ContainsKey}
 use Rattle.tree_node.proofs.NodeKinds.{node_used}
 use Rattle.tree_node.proofs.Sizes.{fits}
 use Rattle.tree_remove.proofs.NodeDrops.{retired_children}
