@@ -1,6 +1,5 @@
 -- Keys and separators beside two bounds.
-use Rattle.std.proofs.Common.{◌≡◌, ◌≢◌, ℕ, zero, suc, ◌+◌, ◌≤◌, ◌<◌, Bool, true, false, not, ◌&&◌, cond, List, [], ◌∷◌, ◌++◌, map, filter, take, drop, length, Option, Some, None, refl, sym, ap, ◌∙◌, arith, inl, inr}
-use Rattle.std.specs.List.{flat_map, AllByRecursion}
+use Rattle.std.proofs.Common.{◌≡◌, ℕ, Bool, true, false, not, ◌&&◌, List, length, refl, sym, ap, ◌∙◌, arith}
 use Rattle.std.specs.declared.cmp.Ordering.{Ordering}
 use Rattle.std.specs.declared.cmp.Ordering.TheVariants.{Less, Equal, Greater}
 use Rattle.std.specs.Ordering.{is_ge, is_le, is_lt}
@@ -8,13 +7,12 @@ use Rattle.std.specs.Cmp.{IsTotalOrder}
 use Rattle.std.specs.declared.ops.Bound.{Bound}
 use Rattle.std.specs.declared.ops.Bound.TheVariants.{Included, Excluded, Unbounded}
 use Rattle.std.proofs.lemmas.List.{drop_all}
-use Rattle.tree_model.specs.Pairs.{cut, meets_lower, meets_upper, within}
+use Rattle.tree_model.specs.Pairs.{meets_lower, meets_upper, within}
 use Rattle.tree_model.proofs.Lists.{all_map}
 use Rattle.tree_model.proofs.Order.{greater_from_less}
-use Rattle.tree_node.specs.Tree.{IsAbove, IsUpTo}
 use Rattle.tree_node.proofs.Lists.{all_yes}
 use Rattle.tree_node.proofs.Order.{less_upto, upto_from_less, upto_from_test, upto_less}
-use Rattle.tree_cut.specs.Places.{BeginsAt, EndsAt, Narrows, PartsAt}
+use Rattle.tree_cut.specs.Places.{BeginsAt, EndsAt, PartsAt}
 
 module _ {K : Type 0} {cmp : K → K → Ordering} (o : IsTotalOrder cmp) where
   not_le : (x y : K) → cmp x y ≡ Less → is_le (cmp y x) ≡ false

@@ -1,5 +1,5 @@
 -- A leaf that loses the keys within two bounds.
-use Rattle.std.proofs.Common.{◌≡◌, ℕ, ◌+◌, ◌-◌, ◌≤◌, Bool, true, false, cond, List, [], ◌∷◌, filter, length, Option, Some, None, refl, sym, ap, ◌∙◌, arith}
+use Rattle.std.proofs.Common.{◌≡◌, ℕ, ◌-◌, ◌≤◌, Bool, true, false, cond, List, [], ◌∷◌, filter, length, Some, refl, sym, ap, ◌∙◌, arith}
 use Rattle.std.specs.declared.cmp.Ordering.{Ordering}
 use Rattle.std.specs.declared.ops.Bound.{Bound}
 use Rattle.slab.specs.Slab.{get}
@@ -45,3 +45,6 @@ module _ {K V : Type 0} {LEN : ℕ} (cmp : K → K → Ordering) (low high : Bou
         };
     replaces = array_replaces a id leaf array was;
   }
+
+pub range_few : {K V : Type 0} (cmp : K → K → Ordering) (low high : Bound K) (old new : Arrivals K V) → new ≡ without_range cmp old low high → length new.entries ≤ length old.entries
+range_few cmp low high old new is = rw is (cut_few cmp low high old.entries)

@@ -1,20 +1,18 @@
 -- The children of a node that are cut one after another, from behind.
-use Rattle.std.proofs.Common.{sub-one, ◌≡◌, ℕ, zero, suc, ◌+◌, ◌-◌, ◌≤◌, ◌<◌, Bool, true, false, not, cond, List, [], ◌∷◌, ◌++◌, filter, take, drop, length, length-append, slice_get, Option, Some, None, refl, sym, ap, ◌∙◌, arith}
+use Rattle.std.proofs.Common.{◌≡◌, ℕ, zero, suc, ◌+◌, ◌-◌, ◌≤◌, ◌<◌, true, not, List, [], ◌∷◌, ◌++◌, take, drop, length, length-append, Some, None, refl, sym, ap, ◌∙◌, arith}
 use Rattle.std.specs.List.{flat_map, AllByRecursion}
 use Rattle.std.specs.declared.cmp.Ordering.{Ordering}
 use Rattle.std.specs.Cmp.{IsTotalOrder}
 use Rattle.std.specs.declared.ops.Bound.{Bound}
-use Rattle.std.proofs.lemmas.List.{append-nil, take-append-drop}
+use Rattle.std.proofs.lemmas.List.{take-append-drop}
 use Rattle.std.proofs.lemmas.List.Concat.{flat_map-append}
 use Rattle.std.proofs.lemmas.List.Elements.{filter-append}
 use Rattle.slab.specs.Slab.{get}
 use Rattle.tree_model.specs.Pairs.{cut, within}
 use Rattle.tree_model.proofs.Lists.{all-append, all_passed, filter_all}
-use Rattle.tree_node.specs.declared.node.NodeOf.{NodeOf}
 use Rattle.tree_node.specs.Arenas.{TreeArenas}
 use Rattle.tree_node.specs.Parts.{IsPart, KeepsBounds, Replaces}
 use Rattle.tree_node.specs.Tree.{Stands, children_of, in_turn, keyed, walk}
-use Rattle.tree_node.proofs.Standing.{node_is}
 use Rattle.tree_node.proofs.Steps.{part_after, replaces_refl, replaces_trans}
 use Rattle.tree_node.proofs.Walks.{walk-children}
 use Rattle.tree_cut.specs.Cuts.{CutsChild, CutsOne, CutsUnder, keyed_of}
@@ -42,7 +40,7 @@ module _ {K V : Type 0} (cmp : K → K → Ordering) (low high : Bound K) where
         cut-append middle back,
       ) refl
 
-module _ {K V : Type 0} {LEN : ℕ} {cmp : K → K → Ordering} (o : IsTotalOrder cmp) (low high : Bound K) (first last : ℕ) where
+module _ {K V : Type 0} {LEN : ℕ} (cmp : K → K → Ordering) (low high : Bound K) (first last : ℕ) where
   -- the children from the place on have no key within the bounds any more, and the others are those at the start
   pub record CutStateAt (level : ℕ) (start now : TreeArenas K V LEN) (id place gone : ℕ) : Type 0 where
     pub pairs : cut cmp (walk (suc level) now id) low high ≡ cut cmp (walk (suc level) start id) low high
@@ -50,14 +48,21 @@ module _ {K V : Type 0} {LEN : ℕ} {cmp : K → K → Ordering} (o : IsTotalOrd
     pub stands : KeepsBounds cmp (suc level) start now id
     pub replaces : Replaces (suc level) start now (id ∷ []) (id ∷ [])
     pub part : IsPart cmp (suc level) now id
+    pub upto : place ≤ last + 1
     pub reach : place ≤ length (keyed_of (get now.nodes id)) + 1
     pub reach_last : place ≤ last → place ≤ length (keyed_of (get now.nodes id))
     pub reach_first : place ≤ first → place ≤ length (keyed_of (get now.nodes id))
-    pub missed : AllByRecursion (Missed o low high) (take first (take place (keyed_of (get now.nodes id))))
-    pub opened : AllByRecursion (Opened o low high) (drop first (take place (keyed_of (get now.nodes id))))
-    pub met : AllByRecursion (Met o low high) (take last (take place (keyed_of (get now.nodes id))))
-    pub done : IsOutside o low high (flat_map (walk level now) (drop place (children_of now.nodes id)))
+    pub missed : AllByRecursion (Missed cmp low high) (take first (take place (keyed_of (get now.nodes id))))
+    pub opened : AllByRecursion (Opened cmp low high) (drop first (take place (keyed_of (get now.nodes id))))
+    pub met : AllByRecursion (Met cmp low high) (take last (take place (keyed_of (get now.nodes id))))
+    pub done : IsOutside cmp low high (flat_map (walk level now) (drop place (children_of now.nodes id)))
 
+  -- the same where the level is a number of the program
+  abbrev pub CutState : ℕ → TreeArenas K V LEN → TreeArenas K V LEN → ℕ → ℕ → ℕ → Type 0
+  CutState zero start now id place gone = ⊥
+  CutState (suc level) start now id place gone = CutStateAt level start now id place gone
+
+module _ {K V : Type 0} {LEN : ℕ} {cmp : K → K → Ordering} (o : IsTotalOrder cmp) (low high : Bound K) (first last : ℕ) where
   module _ (level : ℕ) (a : TreeArenas K V LEN) (id : ℕ) (s : Stands cmp (suc level) a None id None) where
     keyed_are : keyed_of (get a.nodes id) ≡ (keyed s.node).entries
     keyed_are = rw s.here refl
@@ -71,7 +76,7 @@ module _ {K V : Type 0} {LEN : ℕ} {cmp : K → K → Ordering} (o : IsTotalOrd
         ∙ ap (flat_map (walk level a)) (sym (take-append-drop place (children_of a.nodes id)))
         ∙ flat_map-append (walk level a) (take place (children_of a.nodes id)) (drop place (children_of a.nodes id))
 
-  starts_at : (level : ℕ) (a : TreeArenas K V LEN) (id : ℕ) → IsPart cmp (suc level) a id → BeginsAt cmp low (keyed_of (get a.nodes id)) first → EndsAt cmp high (keyed_of (get a.nodes id)) last → CutStateAt level a a id (last + 1) 0
+  starts_at : (level : ℕ) (a : TreeArenas K V LEN) (id : ℕ) → IsPart cmp (suc level) a id → BeginsAt cmp low (keyed_of (get a.nodes id)) first → EndsAt cmp high (keyed_of (get a.nodes id)) last → CutStateAt cmp low high first last level a a id (last + 1) 0
   starts_at level a id part begins ends =
       let s : Stands cmp (suc level) a None id None = part.stands in
       let next : last + 1 ≡ suc last = omega arith in
@@ -81,18 +86,19 @@ module _ {K V : Type 0} {LEN : ℕ} {cmp : K → K → Ordering} (o : IsTotalOrd
         stands = λ above below t. t;
         replaces = replaces_refl (suc level) a (id ∷ []);
         part = part;
+        upto = omega arith;
         reach = omega (arith, ends.within);
         reach_last = λ few. absurd (omega (arith, few));
         reach_first = λ few. omega (arith, few, begins.within);
-        missed = all_take_take (Missed o low high) first (last + 1) _ begins.missed;
-        opened = all_drop_take (Opened o low high) first (last + 1) _ begins.opened;
-        met = all_take_take (Met o low high) last (last + 1) _ ends.met;
+        missed = all_take_take (Missed cmp low high) first (last + 1) _ begins.missed;
+        opened = all_drop_take (Opened cmp low high) first (last + 1) _ begins.opened;
+        met = all_take_take (Met cmp low high) last (last + 1) _ ends.met;
         done =
             rw (next, children_are level a id s)
             (backs_outside o low high level a None _ s.last None s.parted last (rw (keyed_are level a id s) at ends.within) (rw (keyed_are level a id s) at ends.closed));
       }
 
-  module _ (level : ℕ) (start now new : TreeArenas K V LEN) (id place gone more : ℕ) (state : CutStateAt level start now id (suc place) gone) (from : first ≤ place) (to : place ≤ last)
+  module _ (level : ℕ) (start now new : TreeArenas K V LEN) (id place gone more : ℕ) (state : CutStateAt cmp low high first last level start now id (suc place) gone) (from : first ≤ place)
       (lo hi : Bound K) (narrow_low : Narrows low lo place first) (narrow_high : Narrows high hi place last) (cuts : CutsOne cmp lo hi level now new id place more) where
     abbrev s : Stands cmp (suc level) now None id None
     s = state.part.stands
@@ -111,7 +117,7 @@ module _ {K V : Type 0} {LEN : ℕ} {cmp : K → K → Ordering} (o : IsTotalOrd
         narrowed_cut o low high level now (keyed s.node).entries s.last s.parted place cuts.child first last
         (rw (keyed_are level now id s) at within_now)
         (child_first (keyed s.node).entries s.last place cuts.child (rw (children_are level now id s) at cuts.becomes.here) (rw (keyed_are level now id s) at within_now))
-        from to
+        from (omega (arith, state.upto))
         (λ less. rw (keyed_are level now id s) at (state.reach_last less))
         (rw (keyed_are level now id s) at state.opened)
         (rw (keyed_are level now id s) at state.met)
@@ -139,7 +145,7 @@ module _ {K V : Type 0} {LEN : ℕ} {cmp : K → K → Ordering} (o : IsTotalOrd
     within_new : place ≤ length (keyed_of (get new.nodes id))
     within_new = taken_reach place separators (keyed_of (get new.nodes id)) cuts.becomes.separators within_now
 
-    pub steps_at : CutStateAt level start new id place (gone + more)
+    pub steps_at : CutStateAt cmp low high first last level start new id place (gone + more)
     steps_at = record {
       pairs = rw (walk_is, cut_middle cmp low high, ← walk_was) state.pairs;
       counted =
@@ -158,52 +164,48 @@ module _ {K V : Type 0} {LEN : ℕ} {cmp : K → K → Ordering} (o : IsTotalOrd
       stands = λ above below t. cuts.becomes.stands above below (state.stands above below t);
       replaces = replaces_trans (suc level) start now new (id ∷ []) (id ∷ []) (id ∷ []) state.replaces cuts.becomes.replaces;
       part = part_after cmp (suc level) now new id state.part still cuts.becomes.replaces;
+      upto = omega (arith, state.upto);
       reach = omega (arith, within_new);
       reach_last = λ few. within_new;
       reach_first = λ few. within_new;
-      missed = rw (← fewer) (all_take_take (Missed o low high) first place (take (suc place) separators) state.missed);
-      opened = rw (← fewer) (all_drop_take (Opened o low high) first place (take (suc place) separators) state.opened);
-      met = rw (← fewer) (all_take_take (Met o low high) last place (take (suc place) separators) state.met);
+      missed = rw (← fewer) (all_take_take (Missed cmp low high) first place (take (suc place) separators) state.missed);
+      opened = rw (← fewer) (all_drop_take (Opened cmp low high) first place (take (suc place) separators) state.opened);
+      met = rw (← fewer) (all_take_take (Met cmp low high) last place (take (suc place) separators) state.met);
       done = rw (cuts.becomes.back, same_cut) (all-append _ (cut cmp (walk level now cuts.child) low high) _ (outside_cut cmp low high (walk level now cuts.child)) state.done);
     }
 
-  finishes_at : (level : ℕ) (start now : TreeArenas K V LEN) (id place gone : ℕ) → CutStateAt level start now id place gone → place ≤ first → CutsUnder cmp low high (suc level) start now id gone
+  finishes_at : (level : ℕ) (start now : TreeArenas K V LEN) (id place gone : ℕ) → CutStateAt cmp low high first last level start now id place gone → place ≤ first → CutsUnder cmp low high (suc level) start now id gone
   finishes_at level start now id place gone state few =
       let s : Stands cmp (suc level) now None id None = state.part.stands in
-      let missed : AllByRecursion (Missed o low high) (take place (keyed s.node).entries) = rw (take_more first place _ few, keyed_are level now id s) at state.missed in
+      let missed : AllByRecursion (Missed cmp low high) (take place (keyed s.node).entries) = rw (take_more first place _ few, keyed_are level now id s) at state.missed in
       let reach : place ≤ length (keyed s.node).entries = rw (keyed_are level now id s) at (state.reach_first few) in
-      let front : IsOutside o low high (flat_map (walk level now) (take place (children_of now.nodes id))) =
-          rw (children_are level now id s) (fronts_outside o low high level now None _ s.last None s.parted place reach missed) in
-      let outside : IsOutside o low high (walk (suc level) now id) = rw (walk_split level now id s place) (all-append _ _ _ front state.done) in
+      let front : IsOutside cmp low high (flat_map (walk level now) (take place (children_of now.nodes id))) =
+      rw (children_are level now id s) (fronts_outside o low high level now None _ s.last None s.parted place reach missed) in
+      let outside : IsOutside cmp low high (walk (suc level) now id) = rw (walk_split level now id s place) (all-append _ _ _ front state.done) in
       record { pairs = sym (cut_outside cmp low high _ outside) ∙ state.pairs; counted = state.counted; stands = state.stands; replaces = state.replaces }
 
-  -- the same where the level is a number of the program
-  abbrev pub CutState : ℕ → TreeArenas K V LEN → TreeArenas K V LEN → ℕ → ℕ → ℕ → Type 0
-  CutState zero start now id place gone = ⊥
-  CutState (suc level) start now id place gone = CutStateAt level start now id place gone
-
-  pub starts : (level : ℕ) (a : TreeArenas K V LEN) (id : ℕ) → 0 < level → IsPart cmp level a id → BeginsAt cmp low (keyed_of (get a.nodes id)) first → EndsAt cmp high (keyed_of (get a.nodes id)) last → CutState level a a id (last + 1) 0
+  pub starts : (level : ℕ) (a : TreeArenas K V LEN) (id : ℕ) → 0 < level → IsPart cmp level a id → BeginsAt cmp low (keyed_of (get a.nodes id)) first → EndsAt cmp high (keyed_of (get a.nodes id)) last → CutState cmp low high first last level a a id (last + 1) 0
   starts zero a id inner part begins ends = absurd (omega (arith, inner))
   starts (suc level) a id inner part begins ends = starts_at level a id part begins ends
 
-  pub state_part : (level : ℕ) (start now : TreeArenas K V LEN) (id place gone : ℕ) → CutState level start now id place gone → IsPart cmp level now id
+  pub state_part : (level : ℕ) (start now : TreeArenas K V LEN) (id place gone : ℕ) → CutState cmp low high first last level start now id place gone → IsPart cmp level now id
   state_part zero start now id place gone state = absurd state
   state_part (suc level) start now id place gone state = state.part
 
-  pub state_reach : (level : ℕ) (start now : TreeArenas K V LEN) (id place gone : ℕ) → CutState level start now id place gone → 0 < place → place - 1 ≤ length (keyed_of (get now.nodes id))
+  pub state_reach : (level : ℕ) (start now : TreeArenas K V LEN) (id place gone : ℕ) → CutState cmp low high first last level start now id place gone → 0 < place → place - 1 ≤ length (keyed_of (get now.nodes id))
   state_reach zero start now id place gone state some = absurd state
   state_reach (suc level) start now id place gone state some = omega (arith, state.reach, some)
 
-  pub state_few : (level : ℕ) (start now : TreeArenas K V LEN) (id place gone : ℕ) → CutState level start now id place gone → gone ≤ length (walk level start id)
+  pub state_few : (level : ℕ) (start now : TreeArenas K V LEN) (id place gone : ℕ) → CutState cmp low high first last level start now id place gone → gone ≤ length (walk level start id)
   state_few zero start now id place gone state = absurd state
   state_few (suc level) start now id place gone state = omega (arith, state.counted)
 
-  pub steps : (level : ℕ) (start now new : TreeArenas K V LEN) (id place before gone more : ℕ) → CutState level start now id place gone → suc before ≡ place → first ≤ before → before ≤ last
-      → (lo hi : Bound K) → Narrows low lo before first → Narrows high hi before last → CutsChild cmp lo hi level now new id before more → CutState level start new id before (gone + more)
-  steps zero start now new id place before gone more state is from to lo hi narrow_low narrow_high cuts = absurd state
-  steps (suc level) start now new id place before gone more state is from to lo hi narrow_low narrow_high cuts =
-      steps_at level start now new id before gone more (rw (← is) at state) from to lo hi narrow_low narrow_high cuts
+  pub steps : (level : ℕ) (start now new : TreeArenas K V LEN) (id place before gone more : ℕ) → CutState cmp low high first last level start now id place gone → suc before ≡ place → first ≤ before
+      → (lo hi : Bound K) → Narrows low lo before first → Narrows high hi before last → CutsChild cmp lo hi level now new id before more → CutState cmp low high first last level start new id before (gone + more)
+  steps zero start now new id place before gone more state is from lo hi narrow_low narrow_high cuts = absurd state
+  steps (suc level) start now new id place before gone more state is from lo hi narrow_low narrow_high cuts =
+      steps_at level start now new id before gone more (rw (← is) at state) from lo hi narrow_low narrow_high cuts
 
-  pub finishes : (level : ℕ) (start now : TreeArenas K V LEN) (id place gone : ℕ) → CutState level start now id place gone → place ≤ first → CutsUnder cmp low high level start now id gone
+  pub finishes : (level : ℕ) (start now : TreeArenas K V LEN) (id place gone : ℕ) → CutState cmp low high first last level start now id place gone → place ≤ first → CutsUnder cmp low high level start now id gone
   finishes zero start now id place gone state few = absurd state
   finishes (suc level) start now id place gone state few = finishes_at level start now id place gone state few

@@ -1,5 +1,5 @@
 -- The first and the last leaf of a part, and of a part that is dropped the leaves beside it.
-use Rattle.std.proofs.Common.{sub-one, ◌≡◌, ℕ, zero, suc, ◌+◌, ◌-◌, ◌<◌, ◌≤◌, List, [], ◌∷◌, ◌++◌, length, slice_get, Option, Some, None, is_some, IsSome, refl, sym, ap, ◌∙◌, arith, append_assoc}
+use Rattle.std.proofs.Common.{sub-one, ◌≡◌, ℕ, zero, suc, ◌-◌, ◌<◌, ◌≤◌, List, [], ◌∷◌, ◌++◌, Some, None, IsSome, refl, sym, ap, ◌∙◌, arith, append_assoc}
 use Rattle.std.specs.List.{flat_map, AllByRecursion}
 use Rattle.std.specs.declared.cmp.Ordering.{Ordering}
 use Rattle.std.proofs.lemmas.List.{append-nil}
@@ -9,12 +9,12 @@ use Rattle.tree_leaf.specs.declared.leaf.LeafOf.{LeafOf}
 use Rattle.tree_leaf.specs.Chain.{IsChain, first_or, last_or}
 use Rattle.tree_leaf.specs.Counting.{times, uses}
 use Rattle.tree_leaf.specs.Links.{Splices}
-use Rattle.tree_leaf.proofs.Chains.{first_or-append, linked_kept, neighbours, next_used, prev_used, same_array_uses}
+use Rattle.tree_leaf.proofs.Chains.{linked_kept, neighbours, next_used, prev_used, same_array_uses}
 use Rattle.tree_leaf.proofs.Counts.{times-append, times-cons, times-nil, one_here, uses_le_one, in_use}
 use Rattle.tree_node.specs.declared.node.NodeOf.{NodeOf}
 use Rattle.tree_node.specs.Arenas.{TreeArenas}
 use Rattle.tree_node.specs.Parts.{IsPart, Replaces}
-use Rattle.tree_node.specs.Tree.{HasKind, Stands, keyed, unbounded, leaves_at, leaves_of, node_children, walk}
+use Rattle.tree_node.specs.Tree.{HasKind, Stands, unbounded, leaves_at, leaves_of, node_children, walk}
 use Rattle.tree_node.proofs.ChildrenStand.{children_stand}
 use Rattle.tree_node.proofs.Frames.{Agrees, same_stands, same_walk}
 use Rattle.tree_node.proofs.Lifts.{single_leaves, single_nodes, leaves_once_in}
@@ -22,7 +22,6 @@ use Rattle.tree_node.proofs.Lists.{all_middle}
 use Rattle.tree_node.proofs.Standing.{node_is}
 use Rattle.tree_cut.specs.declared.dropping.End.{End}
 use Rattle.tree_cut.specs.declared.dropping.End.TheVariants.{First, Last}
-use Rattle.tree_cut.specs.declared.parts.Part.{Part}
 use Rattle.tree_cut.specs.declared.parts.Part.TheVariants.{Leaf, Node}
 use Rattle.tree_cut.specs.Parts.{Frees, IsAt, IsForest, end_of}
 use Rattle.tree_cut.proofs.Frees.{still_once}
@@ -175,8 +174,8 @@ module _ {K V : Type 0} {LEN : ℕ} (cmp : K → K → Ordering) (level : ℕ) (
                 let here : IsChain old.leaves (front ++ (leaves_at level old.nodes id ++ back)) = rw (single_leaves level old.nodes id) at chain in
                 chain_agrees mid.leaves new.leaves (front ++ back)
                 (λ n inside.
-                  frees.leaves_kept n (rw (single_leaves level mid.nodes id, spliced.nodes)
-                    (omega (arith, inside, times-append n front back, here.once n, times-append n front (leaves_at level old.nodes id ++ back), times-append n (leaves_at level old.nodes id) back, uses_le_one old.leaves n))))
+                frees.leaves_kept n (rw (single_leaves level mid.nodes id, spliced.nodes)
+                (omega (arith, inside, times-append n front back, here.once n, times-append n front (leaves_at level old.nodes id ++ back), times-append n (leaves_at level old.nodes id) back, uses_le_one old.leaves n))))
                 (spliced_chain front back here);
           }
 

@@ -1,11 +1,15 @@
 pub mod Bounds
+pub mod ChildCuts
 pub mod Counts
 pub mod CutLeaves
 pub mod CutLoop
+pub mod EmptyParts
 pub mod Ends
 pub mod FreeNodes
 pub mod Frees
 pub mod NodeSteps
 pub mod OneChild
 pub mod Outside
+pub mod Searches
+pub mod Tops
 pub mod Turns

@@ -1,5 +1,5 @@
 -- A child of a node whose level is a number of the program.
-use Rattle.std.proofs.Common.{sub-one, ◌≡◌, ℕ, zero, suc, ◌-◌, ◌+◌, ◌<◌, ◌≤◌, List, [], ◌∷◌, ◌++◌, length, slice_get, Option, Some, None, IsSome, refl, sym, ap, ◌∙◌, subst, arith}
+use Rattle.std.proofs.Common.{sub-one, ◌≡◌, ℕ, zero, suc, ◌-◌, ◌<◌, ◌≤◌, List, [], ◌∷◌, length, slice_get, true, is_some, MatchOption, Option, Some, None, IsSome, refl, sym, ap, ◌∙◌, subst, arith}
 use Rattle.std.specs.declared.cmp.Ordering.{Ordering}
 use Rattle.std.specs.declared.ops.Bound.{Bound}
 use Rattle.std.specs.Cmp.{IsTotalOrder}
@@ -8,12 +8,13 @@ use Rattle.tree_array.specs.Arrivals.{arrival}
 use Rattle.tree_node.specs.declared.node.NodeOf.{NodeOf}
 use Rattle.tree_node.specs.Arenas.{TreeArenas}
 use Rattle.tree_node.specs.Parts.{IsPart, Replaces}
-use Rattle.tree_node.specs.Tree.{HasKind, Stands, keyed, unbounded, walk}
+use Rattle.tree_node.specs.Tree.{HasKind, Stands, keyed, node_children, unbounded, walk}
 use Rattle.tree_node.proofs.Standing.{node_is}
 use Rattle.tree_remove.specs.CleanUps.{HasChildIn, TakesKeyed}
-use Rattle.tree_cut.specs.Cuts.{CutsChild, CutsOne, CutsUnder, DropsChild, DropsOne, keyed_of}
+use Rattle.tree_cut.specs.Cuts.{CutsChild, CutsUnder, DropsChild}
 use Rattle.tree_cut.specs.Places.{keyed_or}
 use Rattle.tree_cut.proofs.OneChild.{child_part, cut_becomes, drop_becomes, same_node, split_here}
+use Rattle.tree_cut.proofs.Turns.{turn_here}
 
 module _ {K V : Type 0} {LEN : ℕ} {cmp : K → K → Ordering} (o : IsTotalOrder cmp) where
   -- a node stands at this level, with its child at a place
@@ -53,6 +54,14 @@ module _ {K V : Type 0} {LEN : ℕ} {cmp : K → K → Ordering} (o : IsTotalOrd
   module _ (level : ℕ) (a : TreeArenas K V LEN) (id place child : ℕ) (node : NodeOf K LEN) (here : ChildAt level a id place child node) where
     pub part_below : IsPart cmp (level - 1) a child
     part_below = rw here.below_is (child_part o here.below a id place child here.part here.at here.within)
+
+    pub child_listed : slice_get (node_children (Some node)) place ≡ Some child
+    child_listed =
+        let last_is : unbounded node ≡ Some here.part.stands.last = ap unbounded (sym here.node_same) ∙ here.part.stands.last_is in
+        let at_node : keyed_or (slice_get (keyed node).entries place) (Some here.part.stands.last) ≡ Some child =
+        subst (λ (n : NodeOf K LEN). keyed_or (slice_get (keyed n).entries place) (Some here.part.stands.last) ≡ Some child) here.node_same here.at in
+        let within_node : place ≤ length (keyed node).entries = subst (λ (n : NodeOf K LEN). place ≤ length (keyed n).entries) here.node_same here.within in
+        rw last_is (turn_here (keyed node).entries here.part.stands.last place child at_node within_node)
 
     pub node_stays : (mid : TreeArenas K V LEN) (ids : List ℕ) → Replaces (level - 1) a mid (child ∷ []) ids → get mid.nodes id ≡ Some node
     node_stays mid ids r =
@@ -96,3 +105,8 @@ keyed_here arrivals pairs last place slot {child} found is =
     let both : Some found.0.1 ≡ Some child = rw found.2 at is in
     let same : found.0.1 ≡ child = cc in
     (found.0.0, rw (← same) found.2, rw (← same) found.1)
+
+-- a slot was read, so a keyed child is there
+pub keyed_reach : {K X : Type 0} (arrivals : List (Option (K × X))) (pairs : List (K × X)) (place : ℕ) (slot : Option ℕ) → MatchOption slot (slice_get pairs place ≡ None) (λ s. (pair : K × X) × (arrival arrivals s ≡ Some pair) × (slice_get pairs place ≡ Some pair)) → is_some slot ≡ true → place < length pairs
+keyed_reach arrivals pairs place None found some = absurd (cc)
+keyed_reach arrivals pairs place (Some slot) found some = (split_here pairs place found.0 found.2).1

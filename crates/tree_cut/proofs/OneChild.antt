@@ -1,11 +1,11 @@
 -- One child of a node is changed, or dropped and taken out: what that makes of the part under the node.
-use Rattle.std.proofs.Common.{◌≡◌, ℕ, zero, suc, ◌+◌, ◌≤◌, ◌<◌, List, [], ◌∷◌, ◌++◌, map, take, drop, length, length-append, slice_get, Option, Some, None, IsSome, refl, sym, ap, ◌∙◌, arith, append_assoc}
-use Rattle.std.specs.List.{flat_map, AllByRecursion}
+use Rattle.std.proofs.Common.{◌≡◌, ℕ, zero, suc, ◌≤◌, ◌<◌, List, [], ◌∷◌, ◌++◌, map, take, drop, length, length-append, slice_get, Option, Some, None, IsSome, refl, sym, ap, ◌∙◌, arith, append_assoc}
+use Rattle.std.specs.List.{AllByRecursion}
 use Rattle.std.specs.declared.cmp.Ordering.{Ordering}
 use Rattle.std.specs.declared.ops.Bound.{Bound}
 use Rattle.std.specs.Cmp.{IsTotalOrder}
 use Rattle.std.proofs.lemmas.Cmp.{tied_itself}
-use Rattle.std.proofs.lemmas.List.{append-nil, map-append, take-append-drop}
+use Rattle.std.proofs.lemmas.List.{map-append, take-append-drop}
 use Rattle.slab.specs.Slab.{get}
 use Rattle.tree_array.specs.Arrivals.{Arrivals, arrival}
 use Rattle.tree_leaf.specs.Counting.{times, uses}
@@ -15,7 +15,7 @@ use Rattle.tree_model.proofs.Lists.{all_map, all-append}
 use Rattle.tree_node.specs.declared.node.NodeOf.{NodeOf}
 use Rattle.tree_node.specs.Arenas.{TreeArenas}
 use Rattle.tree_node.specs.Parts.{IsPart, KeepsBounds, Replaces}
-use Rattle.tree_node.specs.Tree.{AreParted, Stands, children_of, in_turn, keyed, leaves_at, leaves_of, nodes_of, unbounded, walk}
+use Rattle.tree_node.specs.Tree.{AreParted, Stands, children_of, in_turn, keyed, leaves_at, leaves_of, unbounded, walk}
 use Rattle.tree_node.proofs.Between.{without_between}
 use Rattle.tree_node.proofs.ChildrenStand.{children_stand}
 use Rattle.tree_node.proofs.Frames.{parted_map, Agrees, same_stands, same_walk}
@@ -24,7 +24,7 @@ use Rattle.tree_node.proofs.Lists.{all_middle, flat_map_same}
 use Rattle.tree_node.proofs.Standing.{node_is}
 use Rattle.tree_node.proofs.Widens.{parted_without, separators_around, stands_wider}
 use Rattle.tree_remove.specs.CleanUps.{TakesKeyed}
-use Rattle.tree_cut.specs.Cuts.{ChildBecomes, CutsUnder, keyed_of}
+use Rattle.tree_cut.specs.Cuts.{ChildBecomes, CutsUnder}
 use Rattle.tree_cut.specs.Places.{keyed_or}
 use Rattle.tree_cut.proofs.Turns.{earlier_turns, later_turns, turn, turn_here}
 

@@ -1,15 +1,14 @@
 -- Children of a node whose keys are outside two bounds, and keys of one child that need one bound alone.
-use Rattle.std.proofs.Common.{◌≡◌, ◌≢◌, ℕ, zero, suc, ◌+◌, ◌≤◌, ◌<◌, Bool, true, false, not, ◌&&◌, cond, List, [], ◌∷◌, ◌++◌, map, filter, take, drop, length, slice_get, Option, Some, None, refl, sym, ap, ◌∙◌, arith, inl, inr}
+use Rattle.std.proofs.Common.{◌≡◌, ℕ, zero, suc, ◌≤◌, ◌<◌, Bool, true, false, not, cond, List, [], ◌∷◌, filter, take, drop, length, slice_get, Option, Some, None, refl, sym, ap, arith, inl, inr}
 use Rattle.std.specs.List.{flat_map, AllByRecursion}
 use Rattle.std.specs.declared.cmp.Ordering.{Ordering}
 use Rattle.std.specs.declared.cmp.Ordering.TheVariants.{Less}
 use Rattle.std.specs.Cmp.{IsTotalOrder}
 use Rattle.std.specs.declared.ops.Bound.{Bound}
-use Rattle.std.specs.declared.ops.Bound.TheVariants.{Unbounded}
 use Rattle.std.proofs.lemmas.Bool.{cases_eq}
 use Rattle.std.proofs.lemmas.List.{take-append-drop}
 use Rattle.tree_model.specs.Pairs.{cut, meets_lower, meets_upper, within}
-use Rattle.tree_model.proofs.Lists.{all_map, all-append, all_passed, filter_all}
+use Rattle.tree_model.proofs.Lists.{all_map, all-append}
 use Rattle.tree_node.specs.Arenas.{TreeArenas}
 use Rattle.tree_node.specs.Tree.{AreParted, IsAbove, IsUpTo, Stands, in_turn, walk}
 use Rattle.tree_node.proofs.Frames.{all_both}
@@ -63,7 +62,7 @@ child_first [] last (suc place) x is within = absurd (omega (arith, within))
 child_first (c ∷ pairs) last zero x is within = cc
 child_first (c ∷ pairs) last (suc place) x is within = child_first pairs last place x is (omega (arith, within))
 
-module _ {K : Type 0} {cmp : K → K → Ordering} (o : IsTotalOrder cmp) (low high : Bound K) where
+module _ {K : Type 0} (cmp : K → K → Ordering) (low high : Bound K) where
   abbrev pub Missed : K × ℕ → Type 0
   Missed c = meets_lower cmp low c.0 ≡ false
 
@@ -80,14 +79,15 @@ module _ {K : Type 0} {cmp : K → K → Ordering} (o : IsTotalOrder cmp) (low h
   abbrev pub IsOutside : {V : Type 0} → List (K × V) → Type 0
   IsOutside pairs = AllByRecursion (λ p. not (within cmp low high p.0) ≡ true) pairs
 
-  low_opened : (pairs : List (K × ℕ)) (before : Option K) (first place : ℕ) → first < place → place ≤ length pairs → AllByRecursion Opened (drop first pairs) → (k : K) → IsAbove cmp (low_at before (take place pairs)) k → meets_lower cmp low k ≡ true
+module _ {K : Type 0} {cmp : K → K → Ordering} (o : IsTotalOrder cmp) (low high : Bound K) where
+  low_opened : (pairs : List (K × ℕ)) (before : Option K) (first place : ℕ) → first < place → place ≤ length pairs → AllByRecursion (Opened cmp low high) (drop first pairs) → (k : K) → IsAbove cmp (low_at before (take place pairs)) k → meets_lower cmp low k ≡ true
   low_opened [] before first place more within opened k above = absurd (omega (arith, more, within))
   low_opened (c ∷ pairs) before first zero more within opened k above = absurd (omega (arith, more))
   low_opened (c ∷ pairs) before zero (suc zero) more within opened k above = opened.0 k above
   low_opened (c ∷ pairs) before zero (suc (suc place)) more within opened k above = low_opened pairs (Some c.0) zero (suc place) (omega arith) (omega (arith, within)) opened.1 k above
   low_opened (c ∷ pairs) before (suc first) (suc place) more within opened k above = low_opened pairs (Some c.0) first place (omega (arith, more)) (omega (arith, within)) opened k above
 
-  high_met : (pairs : List (K × ℕ)) (last place : ℕ) → place < last → place < length pairs → AllByRecursion Met (take last pairs) → (k : K) → IsUpTo cmp k (high_at (drop place pairs) None) → meets_upper cmp high k ≡ true
+  high_met : (pairs : List (K × ℕ)) (last place : ℕ) → place < last → place < length pairs → AllByRecursion (Met cmp low high) (take last pairs) → (k : K) → IsUpTo cmp k (high_at (drop place pairs) None) → meets_upper cmp high k ≡ true
   high_met [] last place more within met k up_to = absurd (omega (arith, within))
   high_met (c ∷ pairs) zero place more within met k up_to = absurd (omega (arith, more))
   high_met (c ∷ pairs) (suc last) zero more within met k up_to = upper_down o high k c.0 met.0 up_to
@@ -110,7 +110,7 @@ module _ {K : Type 0} {cmp : K → K → Ordering} (o : IsTotalOrder cmp) (low h
 
   module _ {V : Type 0} {LEN : ℕ} (level : ℕ) (a : TreeArenas K V LEN) where
     pub fronts_outside : (before : Option K) (pairs : List (K × ℕ)) (last : ℕ) (after : Option K) → AreParted cmp (Stands cmp level a) before pairs last after → (place : ℕ) → place ≤ length pairs
-        → AllByRecursion Missed (take place pairs) → IsOutside (flat_map (walk level a) (take place (in_turn pairs (Some last))))
+        → AllByRecursion (Missed cmp low high) (take place pairs) → IsOutside cmp low high (flat_map (walk level a) (take place (in_turn pairs (Some last))))
     fronts_outside before pairs last after parted zero within missed = tt
     fronts_outside before [] last after parted (suc place) within missed = absurd (omega (arith, within))
     fronts_outside before (c ∷ pairs) last after parted (suc place) within missed =
@@ -119,7 +119,7 @@ module _ {K : Type 0} {cmp : K → K → Ordering} (o : IsTotalOrder cmp) (low h
         (fronts_outside (Some c.0) pairs last after parted.3 place (omega (arith, within)) missed.1)
 
     pub backs_outside : (before : Option K) (pairs : List (K × ℕ)) (last : ℕ) (after : Option K) → AreParted cmp (Stands cmp level a) before pairs last after → (place : ℕ) → place ≤ length pairs
-        → AllByRecursion Closed (drop place pairs) → IsOutside (flat_map (walk level a) (drop (suc place) (in_turn pairs (Some last))))
+        → AllByRecursion (Closed cmp low high) (drop place pairs) → IsOutside cmp low high (flat_map (walk level a) (drop (suc place) (in_turn pairs (Some last))))
     backs_outside before [] last after parted zero within closed = tt
     backs_outside before [] last after parted (suc place) within closed = absurd (omega (arith, within))
     backs_outside before (c ∷ pairs) last after parted zero within closed =
@@ -129,7 +129,7 @@ module _ {K : Type 0} {cmp : K → K → Ordering} (o : IsTotalOrder cmp) (low h
     -- In one child the bounds that are left to test there say the same as both.
     module _ (pairs : List (K × ℕ)) (last : ℕ) (parted : AreParted cmp (Stands cmp level a) None pairs last None) (place child first final : ℕ) (within_ : place ≤ length pairs) (is : first_child (drop place pairs) last ≡ child)
         (from : first ≤ place) (to : place ≤ final) (reach : place < final → place < length pairs)
-        (opened : AllByRecursion Opened (drop first (take (suc place) pairs))) (met : AllByRecursion Met (take final (take (suc place) pairs)))
+        (opened : AllByRecursion (Opened cmp low high) (drop first (take (suc place) pairs))) (met : AllByRecursion (Met cmp low high) (take final (take (suc place) pairs)))
         (lo hi : Bound K) (narrow_low : Narrows low lo place first) (narrow_high : Narrows high hi place final) where
       stands : Stands cmp level a (low_at None (take place pairs)) child (high_at (drop place pairs) None)
       stands = rw is at (child_between o (Stands cmp level a) None (take place pairs) (drop place pairs) last None (rw (take-append-drop place pairs) parted))
@@ -139,7 +139,7 @@ module _ {K : Type 0} {cmp : K → K → Ordering} (o : IsTotalOrder cmp) (low h
         | inl same ↦ rw (narrow_low.kept same) refl
         | inr differs ↦
             let lows : meets_lower cmp low k ≡ true =
-                low_opened (take (suc place) pairs) None first place (omega (arith, from, differs)) (reach_taken place pairs within_) opened k (rw (take_less place pairs) above) in
+            low_opened (take (suc place) pairs) None first place (omega (arith, from, differs)) (reach_taken place pairs within_) opened k (rw (take_less place pairs) above) in
             rw (narrow_low.opened differs) (sym lows)
       ]
 
@@ -149,7 +149,7 @@ module _ {K : Type 0} {cmp : K → K → Ordering} (o : IsTotalOrder cmp) (low h
         | inr differs ↦
             let less : place < final = omega (arith, to, differs) in
             let highs : meets_upper cmp high k ≡ true =
-                high_met (take (suc place) pairs) final place less (reach_below place pairs (reach less)) met k (rw (high_at_same pairs place (reach less)) up_to) in
+            high_met (take (suc place) pairs) final place less (reach_below place pairs (reach less)) met k (rw (high_at_same pairs place (reach less)) up_to) in
             rw (narrow_high.opened differs) (sym highs)
       ]
 

@@ -1,6 +1,7 @@
 //! Parts: what stands under a number, and the children of a node by their places.
 ghost use Rattle.std.specs.Prelude.{◌≡◌, ◌<◌, IsSome, MatchOption, None, Some, length, slice_get, ℕ};
 ghost use Rattle.tree_array.specs.Arrivals.{arrival};
+ghost use Rattle.tree_array.specs.Sound.{IsSound};
 ghost use Rattle.tree_cut.specs.Places.{keyed_or};
 ghost use Rattle.tree_cut.specs.Parts.{IsAt, part_id};
 ghost use Rattle.tree_node.specs.Tree.{HasKind, keyed, unbounded};
@@ -75,11 +76,10 @@ pub(crate) fn keyed_count<K: Ord + Drop, const LEN: usize>(node: &NodeOf<K, LEN>
 }
 
 /// Returns how many entries an array has.
-pub(crate) fn count<K: Ord + Drop, I: Drop, const LEN: usize>(
-    children: &ArrayOf<K, I, LEN>,
-) -> u8
+pub(crate) fn count<K: Ord + Drop, I: Drop, const LEN: usize>(children: &ArrayOf<K, I, LEN>) -> u8
     ensures count { result ≡ length children.now.entries }
     ensures few { result < 16 }
+    ensures sound { IsSound K.cmp LEN children.now }
 {
     let _free = children.free();
     children.len() as u8

@@ -1,4 +1,4 @@
-use Rattle.std.proofs.Common.{rules, ◌≡◌, ◌-◌, ◌<◌, ◌≤◌, None, arith, refl, sym, ap, ◌∙◌}
+use Rattle.std.proofs.Common.{rules, ◌-◌, ◌<◌, None}
 use Rattle.slab.specs.Slab.{ContainsKey}
 use Rattle.tree_node.specs.Tree.{Stands}
 use Rattle.tree_node.proofs.Sizes.{fits}
@@ -28,7 +28,7 @@ end_leaf-requires g t c κs within =
     let above = stands_above g.K.Ord.cmp c.args.level c.args.arenas.now c.in-Node.id inner (rw c.in-Node.is at c.requires.stands) in
     let kind : IsAt (c.args.level - 1) c.end_child-child.result = c.end_child-child.ensures.kind (c.args.level - 1) (kind_below g.K.Ord.cmp c.args.level c.args.arenas.now c.in-Node.id above c.node.result.now c.node.ensures) in
     let stands : Stands g.K.Ord.cmp (c.args.level - 1) c.args.arenas.now None (part_id c.end_child-child.result) None =
-        end_stands g.K.Ord.cmp c.args.level c.args.arenas.now c.in-Node.id above c.node.result.now c.node.ensures c.args.end (part_id c.end_child-child.result) c.end_child-child.ensures.child in
+    end_stands g.K.Ord.cmp c.args.level c.args.arenas.now c.in-Node.id above c.node.result.now c.node.ensures c.args.end (part_id c.end_child-child.result) c.end_child-child.ensures.child in
     (search rules, (within.0, (within.1, (search rules, (search rules, (search fits, (kind, stands)))))))
 
 pub returns-in-Leaf : goal.returns-in-Leaf

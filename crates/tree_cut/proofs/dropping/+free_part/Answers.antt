@@ -1,4 +1,4 @@
-use Rattle.std.proofs.Common.{rules, ◌≡◌, ◌-◌, ◌+◌, ◌<◌, ◌≤◌, None, arith, refl, sym, ap, ◌∙◌, ◌∷◌, [], length}
+use Rattle.std.proofs.Common.{rules, ◌-◌, ◌<◌, arith, sym, ap, ◌∙◌, ◌∷◌, [], length}
 use Rattle.slab.specs.Slab.{ContainsKey}
 use Rattle.tree_array.specs.Arrivals.{Arrivals}
 use Rattle.tree_node.proofs.Sizes.{fits}
@@ -43,7 +43,7 @@ free_part-gone-requires g t c κs within =
     let inner : 0 < c.args.level = above_leaves c.args.level c.in-Node.id (rw c.in-Node.is at c.requires.kind) in
     let kind : IsAt (c.args.level - 1) c.child_at-child.result = c.child_at-child.ensures.kind (c.args.level - 1) taken.kind in
     let forest : IsForest g.K.Ord.cmp (c.args.level - 1) c.loop-place.arenas (part_id c.child_at-child.result ∷ []) =
-        next_forest g.K.Ord.cmp _ _ _ _ _ _ _ c.loop-place.invariant _ _ (next_left _ _ c.loop-place.place _ taken.has_last c.child_at-child.ensures.child (omega (arith, c.loop-place-test.true, c.keyed_count-place-end.ensures.count))) in
+    next_forest g.K.Ord.cmp _ _ _ _ _ _ _ c.loop-place.invariant _ _ (next_left _ _ c.loop-place.place _ taken.has_last c.child_at-child.ensures.child (omega (arith, c.loop-place-test.true, c.keyed_count-place-end.ensures.count))) in
     (search rules, (within.0, (within.1, (search rules, (search rules, (search fits, (kind, forest)))))))
 
 pub overflow_add-gone : goal.overflow_add-gone

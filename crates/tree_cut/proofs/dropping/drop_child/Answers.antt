@@ -1,8 +1,7 @@
-use Rattle.std.proofs.Common.{rules, ◌≡◌, ◌-◌, ◌+◌, ◌<◌, ◌≤◌, None, Some, arith, refl, sym, ap, ◌∙◌, length}
-use Rattle.slab.specs.Slab.{ContainsKey, get}
+use Rattle.std.proofs.Common.{rules, ◌-◌, arith}
+use Rattle.slab.specs.Slab.{ContainsKey}
 use Rattle.tree_node.specs.Tree.{keyed, unbounded}
 use Rattle.tree_node.proofs.Sizes.{fits}
-use Rattle.tree_cut.specs.Cuts.{keyed_of}
 use Rattle.tree_cut.specs.Parts.{part_id}
 use Rattle.tree_cut.proofs.NodeSteps.{child_at, dropped, keyed_here, node_at, node_used, none_past, part_below, slot_stays}
 use Rattle.tree_cut.proofs.dropping.drop_child.Goals as goal

@@ -1,4 +1,4 @@
-use Rattle.std.proofs.Common.{rules, ◌≡◌, ◌-◌, ◌+◌, ◌<◌, ◌≤◌, None, arith, refl, sym, ap, ◌∙◌, length}
+use Rattle.std.proofs.Common.{rules, sym, ap, ◌∙◌, length}
 use Rattle.slab.specs.Slab.{ContainsKey}
 use Rattle.tree_node.proofs.Sizes.{fits}
 use Rattle.tree_cut.proofs.Ends.{first_used, last_used, left_used, right_used, spliced_forest, spliced_walk, part_dropped}

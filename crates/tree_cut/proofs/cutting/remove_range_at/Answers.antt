@@ -1,0 +1,41 @@
+use Rattle.std.proofs.Common.{rules, None, arith, sym, ap, length}
+use Rattle.slab.specs.Slab.{ContainsKey}
+use Rattle.tree_node.proofs.NodeKinds.{node_used}
+use Rattle.tree_node.proofs.Sizes.{fits}
+use Rattle.tree_remove.proofs.NodeDrops.{retired_children}
+use Rattle.tree_cut.proofs.Tops.{at_node, childless_cut, children_count, retired_node, standing, stands_used}
+use Rattle.tree_cut.proofs.cutting.remove_range_at.Goals as goal
+
+pub node-requires : goal.node-requires
+node-requires g c =
+    let there : ContainsKey c.args.arenas.now.nodes c.args.id = node_used c.args.level c.requires.node c.args.arenas.now c.args.id c.requires.part in
+    search rules
+
+pub returns-then-is_childless-clause-cuts : goal.returns-then-is_childless-clause-cuts
+returns-then-is_childless-clause-cuts g c =
+    childless_cut g.K.Ord.cmp _ _ c.args.level c.args.arenas.now c.args.id c.requires.node (rw c.node.ensures (c.is_childless.ensures.0 c.if-is_childless.true))
+
+pub returns-then-is_childless-clause-left : goal.returns-then-is_childless-clause-left
+returns-then-is_childless-clause-left g c = ap length (sym (retired_children c.args.arenas.now.nodes c.args.id (rw c.node.ensures (c.is_childless.ensures.0 c.if-is_childless.true))))
+
+pub cut_part-pairs-requires : goal.cut_part-pairs-requires
+cut_part-pairs-requires g c =
+    let part = standing g.K.Ord.cmp c.args.level c.args.arenas.now c.args.id c.requires.node c.requires.part (λ retired. let wrong = c.if-is_childless.ensures.1 (rw c.node.ensures at retired) in cc) in
+    (search rules, (search fits, (at_node c.args.level c.args.id c.requires.node, part)))
+
+pub node-requires-2 : goal.node-requires-2
+node-requires-2 g c =
+    let part = standing g.K.Ord.cmp c.args.level c.args.arenas.now c.args.id c.requires.node c.requires.part (λ retired. let wrong = c.if-is_childless.ensures.1 (rw c.node.ensures at retired) in cc) in
+    let there : ContainsKey c.cut_part-pairs.new.arenas.nodes c.args.id = stands_used g.K.Ord.cmp c.args.level c.cut_part-pairs.new.arenas c.args.id c.requires.node (c.cut_part-pairs.ensures.stands None None part.stands) in
+    search rules
+
+pub returns-clause-left : goal.returns-clause-left
+returns-clause-left g c =
+    let part = standing g.K.Ord.cmp c.args.level c.args.arenas.now c.args.id c.requires.node c.requires.part (λ retired. let wrong = c.if-is_childless.ensures.1 (rw c.node.ensures at retired) in cc) in
+    let all = children_count g.K.Ord.cmp c.args.level c.cut_part-pairs.new.arenas c.args.id c.requires.node (c.cut_part-pairs.ensures.stands None None part.stands) c.node-2.result.now c.node-2.ensures in
+    omega (arith, all, c.keyed_count.ensures.count)
+
+pub returns-clause-retired : goal.returns-clause-retired
+returns-clause-retired g c = λ retired.
+    let wrong = c.if-is_childless.ensures.1 (rw c.node.ensures at (retired_node g.K.Ord.cmp c.args.level c.args.arenas.now c.args.id c.requires.node retired)) in
+    absurd (cc)

@@ -1,0 +1,104 @@
+//! The places at which a cut of a node begins and ends.
+ghost use Rattle.std.specs.Prelude.{◌≡◌, ◌<◌, true};
+ghost use Rattle.std.specs.Range.Bound.{bound_map};
+ghost use Rattle.tree_cut.specs.Places.{BeginsAt, EndsAt, Narrows, PartsAt};
+ghost use Rattle.tree_node.specs.Tree.{keyed};
+
+use crate::parts::{count, keyed_count};
+use std::ops::Bound;
+use tree_array::array::ArrayOf;
+use tree_node::node::NodeOf;
+
+/// Returns the place of the first child that may have a key that meets a lower bound. Searches the node's array once.
+pub(crate) fn first_place<K: Ord + Drop, const LEN: usize>(
+    node: &NodeOf<K, LEN>,
+    low: Bound<&K>,
+) -> u8
+    ensures { BeginsAt K.cmp (bound_map (λ k. k.now) low.entry) (keyed node.now).entries result }
+{
+    match low {
+        Bound::Included(key) => place_in(node, key),
+        Bound::Excluded(key) => place_in(node, key),
+        Bound::Unbounded => 0,
+    }
+}
+
+/// Returns the place of the last child that may have a key that meets an upper bound. Searches the node's array once.
+pub(crate) fn last_place<K: Ord + Drop, const LEN: usize>(
+    node: &NodeOf<K, LEN>,
+    high: Bound<&K>,
+) -> u8
+    ensures ends { EndsAt K.cmp (bound_map (λ k. k.now) high.entry) (keyed node.now).entries result }
+    ensures few { result < 16 }
+{
+    match high {
+        Bound::Included(key) => place_in(node, key),
+        Bound::Excluded(key) => place_in(node, key),
+        Bound::Unbounded => keyed_count(node),
+    }
+}
+
+/// Returns the place of the child that a key belongs to.
+fn place_in<K: Ord + Drop, const LEN: usize>(node: &NodeOf<K, LEN>, key: &K) -> u8
+    ensures parts { PartsAt K.cmp key.now (keyed node.now).entries result }
+    ensures few { result < 16 }
+{
+    match node {
+        NodeOf::Leaf(node) => place_for(&node.children, key),
+        NodeOf::Internal(node) => place_for(&node.children, key),
+    }
+}
+
+/// Returns the place of the least separator that isn't less than a key, or the number of separators if all are.
+fn place_for<K: Ord + Drop, I: Drop, const LEN: usize>(children: &ArrayOf<K, I, LEN>, key: &K) -> u8
+    ensures parts { PartsAt K.cmp key.now children.now.entries result }
+    ensures few { result < 16 }
+{
+    let all = count(children);
+    let Some(slot) = children.slot_for(key) else {
+        return all;
+    };
+    for place in 0..all {
+        let Some(at) = children.slot_at(place) else {
+            unreachable!()
+        };
+        if at == slot {
+            return place;
+        }
+    }
+    all
+}
+
+/// Returns the bounds that are left to test in the child at a place: the lower one in the first child, the upper one in
+/// the last, and none between them.
+pub(crate) fn narrowed<'a, K>(
+    bounds: (Bound<&'a K>, Bound<&'a K>),
+    place: u8,
+    first: u8,
+    last: u8,
+) -> (Bound<&'a K>, Bound<&'a K>)
+    ensures low { Narrows (bound_map (λ k. k.now) bounds.entry.0) (bound_map (λ k. k.now) result.0) place first }
+    ensures high { Narrows (bound_map (λ k. k.now) bounds.entry.1) (bound_map (λ k. k.now) result.1) place last }
+{
+    let low = if place == first {
+        bounds.0
+    } else {
+        Bound::Unbounded
+    };
+    let high = if place == last {
+        bounds.1
+    } else {
+        Bound::Unbounded
+    };
+    (low, high)
+}
+
+/// Returns whether neither bound is left to test.
+pub(crate) fn is_open<K>(bounds: (Bound<&K>, Bound<&K>)) -> bool
+    ensures { result ≡ true → (bound_map (λ k. k.now) bounds.entry.0 ≡ Bound.Unbounded) × (bound_map (λ k. k.now) bounds.entry.1 ≡ Bound.Unbounded) }
+{
+    match bounds {
+        (Bound::Unbounded, Bound::Unbounded) => true,
+        _ => false,
+    }
+}
