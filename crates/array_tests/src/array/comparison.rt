@@ -2,12 +2,11 @@
 ghost use Rattle.tree_array.specs.Length.{IsLen};
 
 use super::found::{found, questions, slot_from};
-use super::plain::{Plain, word};
+use super::plain::Plain;
 use std::alloc::{AllocError, Global};
 use std::ops::Bound;
-use std::process::Abort;
 use test_support::chance::Chance;
-use test_support::refusals::succeeds;
+use test_support::refusals::held;
 use tree_array::array::{ArrayIter, ArrayOf, ArrayRevIter, RemoveResult};
 
 /// The keys are below this number.
@@ -32,272 +31,267 @@ fn borrowed(bound: &Bound<u64>) -> Bound<&u64> {
 }
 
 /// Compares the counts and the marks.
-fn compare_shape<const LEN: usize, R: Abort>(
-    rt: &R,
+fn has_shape<const LEN: usize>(
     alloc: Global,
     array: &ArrayOf<u64, u64, LEN>,
     plain: &Plain,
-) -> Result<(), AllocError> {
+) -> Result<bool, AllocError> {
     let (boundary, count, ascends) = array.optimal_boundary();
-    assert_eq!(rt; (boundary as usize, count, ascends), plain.boundary(alloc)?);
-    let marks = (array.is_empty(), array.is_full(), array.is_retired());
-    assert_eq!(rt;
-        marks,
-        (plain.is_empty(), plain.is_full(), plain.is_retired())
-    );
-    assert_eq!(rt; array.free() as usize, plain.free());
-    Ok(())
+    Ok((boundary as usize, count, ascends) == plain.boundary(alloc)?
+        && (array.is_empty(), array.is_full(), array.is_retired()) == plain.marks()
+        && array.free() as usize == plain.free())
 }
 
 /// Compares a walk in key order.
-fn compare_on<const LEN: usize, R: Abort>(
-    rt: &R,
-    array: &ArrayOf<u64, u64, LEN>,
-    entries: &[(u64, u64)],
-) {
+fn walks_on<const LEN: usize>(array: &ArrayOf<u64, u64, LEN>, entries: &[(u64, u64)]) -> bool {
     let mut walk = ArrayIter::new(array);
     for (key, _) in entries {
-        assert!(rt; walk.next() == slot_from(array, *key));
+        if walk.next() != slot_from(array, *key) {
+            return false;
+        }
     }
-    assert!(rt; walk.next().is_none());
+    walk.next().is_none()
 }
 
 /// Compares a walk against key order.
-fn compare_back<const LEN: usize, R: Abort>(
-    rt: &R,
-    array: &ArrayOf<u64, u64, LEN>,
-    entries: &[(u64, u64)],
-) {
+fn walks_back<const LEN: usize>(array: &ArrayOf<u64, u64, LEN>, entries: &[(u64, u64)]) -> bool {
     let mut walk = ArrayRevIter::new(array);
     for (key, _) in entries.iter().rev() {
-        assert!(rt; walk.next() == slot_from(array, *key));
+        if walk.next() != slot_from(array, *key) {
+            return false;
+        }
     }
-    assert!(rt; walk.next().is_none());
+    walk.next().is_none()
+}
+
+/// The pair at a key, and the pair of the least key from it on.
+fn pairs_at(entries: &[(u64, u64)], key: u64) -> (Option<(u64, u64)>, Option<(u64, u64)>) {
+    for pair in entries {
+        if pair.0 == key {
+            return (Some(*pair), Some(*pair));
+        }
+        if pair.0 > key {
+            return (None, Some(*pair));
+        }
+    }
+    (None, None)
 }
 
 /// Compares what the searches find at a key.
-fn compare_at<const LEN: usize, R: Abort>(
-    rt: &R,
+fn finds<const LEN: usize>(
     array: &ArrayOf<u64, u64, LEN>,
     entries: &[(u64, u64)],
     key: u64,
-) {
+) -> bool {
     let (pair, val, slot) = found(array, key);
-    let at_key = entries.iter().copied().find(|pair| pair.0 == key);
-    assert!(rt; pair == at_key && val == at_key.map(|pair| pair.1));
-    let least = entries.iter().copied().find(|pair| pair.0 >= key);
     let at_slot = match slot {
         Some(slot) => Some((*array.key(slot), *array.val(slot))),
         None => None,
     };
-    assert!(rt; at_slot == least);
+    let of_pair = match pair {
+        Some((_, val)) => Some(val),
+        None => None,
+    };
+    val == of_pair && (pair, at_slot) == pairs_at(entries, key)
 }
 
 /// Compares what each call that changes nothing answers.
-fn compare_answers<const LEN: usize, R: Abort>(
-    rt: &R,
+fn answers<const LEN: usize>(
     alloc: Global,
     array: &ArrayOf<u64, u64, LEN>,
     plain: &Plain,
-) -> Result<(), AllocError> {
-    compare_shape(rt, alloc, array, plain)?;
+) -> Result<bool, AllocError> {
     let entries = plain.entries(alloc)?;
-    compare_on(rt, array, &entries);
-    compare_back(rt, array, &entries);
     for key in 0..KEYS {
-        compare_at(rt, array, &entries, key);
+        if !finds(array, &entries, key) {
+            return Ok(false);
+        }
     }
-    Ok(())
+    Ok(walks_on(array, &entries) && walks_back(array, &entries) && has_shape(alloc, array, plain)?)
 }
 
 /// Makes a random call that stores a value.
-fn store<const LEN: usize, R: Abort>(
-    rt: &R,
+fn stores<const LEN: usize>(
     chance: &mut Chance,
     array: &mut ArrayOf<u64, u64, LEN>,
     plain: &mut Plain,
-) -> Result<(), AllocError> {
+) -> Result<bool, AllocError> {
     let (key, val) = (chance.below(KEYS), chance.below(1000));
     match chance.below(4) {
-        0 => {
-            let answer = word(array.insert::<true>(key, val));
-            assert!(rt; answer == plain.insert(true, key, val)?);
-        }
-        1 => set(rt, array, plain, key, val),
-        _ => {
-            let answer = word(array.insert::<false>(key, val));
-            assert!(rt; answer == plain.insert(false, key, val)?);
-        }
+        0 => Ok(array.insert::<true>(key, val) == plain.insert(true, key, val)?),
+        1 => Ok(sets(array, plain, key, val)),
+        _ => Ok(array.insert::<false>(key, val) == plain.insert(false, key, val)?),
     }
-    Ok(())
 }
 
 /// Replaces the value of the least key from this one on.
-fn set<const LEN: usize, R: Abort>(
-    rt: &R,
+fn sets<const LEN: usize>(
     array: &mut ArrayOf<u64, u64, LEN>,
     plain: &mut Plain,
     key: u64,
     val: u64,
-) {
-    if let Some(slot) = slot_from(array, key) {
-        let stored = *array.key(slot);
-        assert!(rt; Some(array.set_val(slot, val)) == plain.value(stored));
-        plain.set(stored, val);
-    }
+) -> bool {
+    let Some(slot) = slot_from(array, key) else {
+        return true;
+    };
+    let stored = *array.key(slot);
+    let stood = plain.value(stored);
+    plain.set(stored, val);
+    Some(array.set_val(slot, val)) == stood
 }
 
 /// Makes a random call that removes.
-fn remove<const LEN: usize, R: Abort>(
-    rt: &R,
+fn removes<const LEN: usize>(
     chance: &mut Chance,
     array: &mut ArrayOf<u64, u64, LEN>,
     plain: &mut Plain,
-) {
+) -> bool {
     match chance.below(3) {
-        0 => remove_if(rt, array, plain, chance.below(KEYS), chance.below(2) == 0),
-        1 => take(rt, array, plain, chance.below(KEYS)),
+        0 => removes_if(array, plain, chance.below(KEYS), chance.below(2) == 0),
+        1 => takes(array, plain, chance.below(KEYS)),
         _ => {
             let (low, high) = (random_bound(chance), random_bound(chance));
             array.remove_range((borrowed(&low), borrowed(&high)));
-            plain.remove_range(low, high);
+            let _ = plain.remove_range(low, high);
+            true
         }
     }
 }
 
 /// Removes a key if the condition, which is asked of its value, says so.
-fn remove_if<const LEN: usize, R: Abort>(
-    rt: &R,
+fn removes_if<const LEN: usize>(
     array: &mut ArrayOf<u64, u64, LEN>,
     plain: &mut Plain,
     key: u64,
     said: bool,
-) {
+) -> bool {
     let stored = plain.value(key);
     let mut asked = None;
     let removal = array.remove_if(&key, |val| {
         asked = Some(*val);
         said
     });
-    assert!(rt; asked == stored);
     let expected = if said {
         plain.remove(key)
     } else {
         RemoveResult::Fail
     };
-    assert!(rt; removal == expected);
+    asked == stored && removal == expected
 }
 
 /// Takes the pair of the least key from this one on.
-fn take<const LEN: usize, R: Abort>(
-    rt: &R,
+fn takes<const LEN: usize>(
     array: &mut ArrayOf<u64, u64, LEN>,
     plain: &mut Plain,
     key: u64,
-) {
-    if let Some(slot) = slot_from(array, key) {
-        let (stored, val, removal) = array.take(slot);
-        assert!(rt; Some(val) == plain.value(stored));
-        assert!(rt; removal == plain.remove(stored));
-    }
-}
-
-/// Whether an array holds these pairs, arrived in ascending order.
-fn holds<const LEN: usize, R: Abort>(
-    rt: &R,
-    alloc: Global,
-    array: &ArrayOf<u64, u64, LEN>,
-    pairs: &[(u64, u64)],
-) -> Result<(), AllocError> {
-    let mut plain = Plain::new(alloc, LEN);
-    for (key, val) in pairs {
-        let _ = plain.insert(false, *key, *val)?;
-    }
-    compare_answers(rt, alloc, array, &plain)
+) -> bool {
+    let Some(slot) = slot_from(array, key) else {
+        return true;
+    };
+    let (stored, val, removal) = array.take(slot);
+    Some(val) == plain.value(stored) && removal == plain.remove(stored)
 }
 
 /// Compares an array with a plain list after each of some random calls, and then its two parts.
-fn compare<const LEN: usize, R: Abort>(rt: &R, alloc: Global, seed: u64) -> Result<(), AllocError>
+fn compare<const LEN: usize>(alloc: Global, seed: u64) -> Result<bool, AllocError>
     requires { IsLen LEN }
 {
     let mut chance = Chance::new(seed);
     let mut array = ArrayOf::<u64, u64, LEN>::new();
     let mut plain = Plain::new(alloc, LEN);
     for _ in 0..2 * LEN {
-        if chance.below(8) < seed % 4 {
-            remove(rt, &mut chance, &mut array, &mut plain);
+        let called = if chance.below(8) < seed % 4 {
+            removes(&mut chance, &mut array, &mut plain)
         } else {
-            store(rt, &mut chance, &mut array, &mut plain)?;
+            stores(&mut chance, &mut array, &mut plain)?
+        };
+        if !called || !answers(alloc, &array, &plain)? {
+            return Ok(false);
         }
-        compare_answers(rt, alloc, &array, &plain)?;
     }
-    let entries = plain.entries(alloc)?;
-    divide(
-        rt,
-        alloc,
-        &mut array,
-        &entries,
-        chance.below(16) as u8,
-        seed % 2 == 0,
-    )
+    let boundary = chance.below(16) as u8;
+    divides(alloc, &mut array, &plain, boundary, seed % 2 == 0)
 }
 
-/// Divides an array that has these entries, with the pair at the boundary given out or not.
-fn divide<const LEN: usize, R: Abort>(
-    rt: &R,
+/// Divides an array, with the pair at the boundary given out or not.
+fn divides<const LEN: usize>(
     alloc: Global,
     array: &mut ArrayOf<u64, u64, LEN>,
-    entries: &[(u64, u64)],
+    plain: &Plain,
     boundary: u8,
     whole: bool,
-) -> Result<(), AllocError>
+) -> Result<bool, AllocError>
     requires { IsLen LEN }
 {
+    let entries = plain.entries(alloc)?;
     let (first, rest) = entries.split_at(entries.len().min(boundary as usize));
     let (mut low, mut high) = (ArrayOf::new(), ArrayOf::new());
-    if whole {
+    let apart = if whole {
         array.distribute(boundary, &mut low, &mut high);
-        holds(rt, alloc, &high, rest)?;
+        0
+    } else if array.distribute_apart(boundary, &mut low, &mut high) == rest.first().copied() {
+        1
     } else {
-        let apart = array.distribute_apart(boundary, &mut low, &mut high);
-        assert!(rt; apart == rest.first().copied());
-        holds(rt, alloc, &high, rest.get(1..).unwrap_or(&[]))?;
+        return Ok(false);
+    };
+    Ok(array.is_retired()
+        && array.is_empty()
+        && has(alloc, &low, first)?
+        && has(alloc, &high, rest.get(apart..).unwrap_or(&[]))?)
+}
+
+/// Whether an array has these pairs, arrived in ascending order.
+fn has<const LEN: usize>(
+    alloc: Global,
+    array: &ArrayOf<u64, u64, LEN>,
+    pairs: &[(u64, u64)],
+) -> Result<bool, AllocError> {
+    let mut plain = Plain::new(alloc, LEN);
+    for (key, val) in pairs {
+        let _ = plain.insert(false, *key, *val)?;
     }
-    assert!(rt; array.is_retired() && array.is_empty());
-    holds(rt, alloc, &low, first)
+    answers(alloc, array, &plain)
 }
 
 #[test]
 fn answers_as_a_plain_list(rt: HostRuntime) {
     for seed in 1..65 {
-        assert!(rt; succeeds(|| compare::<15, _>(&rt, rt.alloc(), seed)));
-        assert!(rt; succeeds(|| compare::<7, _>(&rt, rt.alloc(), seed)));
+        assert!(rt; held(compare::<15>(rt.alloc(), seed), compare::<15>(rt.alloc(), seed)));
+        assert!(rt; held(compare::<7>(rt.alloc(), seed), compare::<7>(rt.alloc(), seed)));
     }
 }
 
-/// Searches of a full array, whose odd keys arrived in random order: at most `most` comparisons for every key, be it stored,
-/// between two that are, or outside.
-fn few_questions<const LEN: usize, R: Abort>(rt: &R, seed: u64, most: u64)
+/// Fills an array with the odd keys below twice its length, which arrive in random order.
+fn full_of_odd_keys<const LEN: usize>(seed: u64) -> ArrayOf<u64, u64, LEN>
     requires { IsLen LEN }
 {
     let mut chance = Chance::new(seed);
-    let mut array = ArrayOf::<u64, u64, LEN>::new();
+    let mut array = ArrayOf::new();
     for _ in 0..2000 {
         let key = chance.below(LEN as u64).wrapping_mul(2).wrapping_add(1);
         let _ = array.insert::<false>(key, key);
     }
-    assert!(rt; array.is_full());
+    array
+}
+
+/// Whether searches of a full array make at most so many comparisons for every key, be it stored, between two that are, or
+/// outside.
+fn asks_at_most<const LEN: usize>(seed: u64, most: u64) -> bool
+    requires { IsLen LEN }
+{
+    let array = full_of_odd_keys::<LEN>(seed);
     for key in 0..2 * LEN as u64 + 1 {
         let (found, asked) = questions(&array, key);
-        assert_eq!(rt; found, key % 2 == 1);
-        assert!(rt; asked <= most);
+        if found != (key % 2 == 1) || asked > most {
+            return false;
+        }
     }
+    array.is_full()
 }
 
 #[test]
 fn asks_few_questions(rt: HostRuntime) {
     for seed in 1..101 {
-        few_questions::<15, _>(&rt, seed, 4);
-        few_questions::<7, _>(&rt, seed, 3);
+        assert!(rt; asks_at_most::<15>(seed, 4) && asks_at_most::<7>(seed, 3));
     }
 }

@@ -1,20 +1,7 @@
 //! A plain list of arrivals, with which the tests compare an array.
-ghost use Rattle.std.specs.Prelude.{◌≡◌};
-
 use std::alloc::{AllocError, Global};
 use std::ops::Bound;
 use tree_array::array::{InsertResult, RemoveResult};
-
-/// A word for what an insert answered, with the pair that came back.
-pub type Answer = (&'static str, Option<(u64, u64)>);
-
-pub(crate) fn word(answer: InsertResult<u64, u64>) -> Answer {
-    match answer {
-        InsertResult::Success => ("Success", None),
-        InsertResult::Duplicate(key, val) => ("Duplicate", Some((key, val))),
-        InsertResult::Full(key, val) => ("Full", Some((key, val))),
-    }
-}
 
 /// The arrivals, each with its pair or spent, and whether the last pair was removed.
 #[derive(Drop)]
@@ -22,6 +9,34 @@ pub struct Plain {
     arrivals: Vec<Option<(u64, u64)>>,
     retired: bool,
     len: usize,
+}
+
+/// Whether a key meets both bounds.
+fn meets(key: u64, low: Bound<u64>, high: Bound<u64>) -> bool {
+    let above = match low {
+        Bound::Included(low) => low <= key,
+        Bound::Excluded(low) => low < key,
+        Bound::Unbounded => true,
+    };
+    let below = match high {
+        Bound::Included(high) => key <= high,
+        Bound::Excluded(high) => key < high,
+        Bound::Unbounded => true,
+    };
+    above && below
+}
+
+/// How many of these pairs have a larger key than the one before.
+fn rises(pairs: &[(u64, u64)]) -> usize {
+    let mut before = None;
+    let mut count = 0usize;
+    for (key, _) in pairs {
+        if before.is_some() && before < Some(*key) {
+            count = count.saturating_add(1);
+        }
+        before = Some(*key);
+    }
+    count
 }
 
 impl Plain {
@@ -34,7 +49,7 @@ impl Plain {
     }
 
     /// The pairs in the order of their arrival.
-    pub(crate) fn reachable(&self, alloc: Global) -> Result<Vec<(u64, u64)>, AllocError> {
+    fn reachable(&self, alloc: Global) -> Result<Vec<(u64, u64)>, AllocError> {
         self.arrivals.iter().copied().flatten().collect(alloc)
     }
 
@@ -49,31 +64,35 @@ impl Plain {
         self.len.saturating_sub(self.arrivals.len())
     }
 
-    pub(crate) fn is_retired(&self) -> bool {
-        self.retired
+    /// Whether there is no pair, no slot to spare, and whether the list is retired.
+    pub(crate) fn marks(&self) -> (bool, bool, bool) {
+        (self.is_empty(), self.is_full(), self.retired)
     }
 
-    pub(crate) fn is_full(&self) -> bool {
+    fn is_full(&self) -> bool {
         self.retired || self.free() == 0
     }
 
-    pub(crate) fn is_empty(&self) -> bool {
-        self.arrivals.iter().all(|arrival| arrival.is_none())
+    fn is_empty(&self) -> bool {
+        for arrival in &self.arrivals {
+            if arrival.is_some() {
+                return false;
+            }
+        }
+        true
     }
 
     /// Where to split, how many pairs there are, and whether they all came in ascending order.
     pub(crate) fn boundary(&self, alloc: Global) -> Result<(usize, usize, bool), AllocError> {
         let pairs = self.reachable(alloc)?;
-        let count = pairs.len();
-        let later = pairs.iter().skip(1);
-        let rises = pairs.iter().zip(later).filter(|(a, b)| a.0 < b.0).count();
+        let (count, rises) = (pairs.len(), rises(&pairs));
         let few = if self.len == 7 { 5 } else { 11 };
         if count <= few {
             Ok((self.len, count, false))
         } else if rises < count / 2 {
-            Ok((rises + 1, count, false))
+            Ok((rises.saturating_add(1), count, false))
         } else {
-            Ok((rises, count, rises.checked_add(1) == Some(self.len)))
+            Ok((rises, count, rises.saturating_add(1) == self.len))
         }
     }
 
@@ -83,16 +102,16 @@ impl Plain {
         upsert: bool,
         key: u64,
         val: u64,
-    ) -> Result<Answer, AllocError> {
+    ) -> Result<InsertResult<u64, u64>, AllocError> {
         if !upsert && self.value(key).is_some() {
-            return Ok(("Duplicate", Some((key, val))));
+            return Ok(InsertResult::Duplicate(key, val));
         }
         if self.is_full() {
-            return Ok(("Full", Some((key, val))));
+            return Ok(InsertResult::Full(key, val));
         }
-        let _ = self.spend(|stored| stored == key);
+        let _ = self.spend(Bound::Included(key), Bound::Included(key));
         self.arrivals.push(Some((key, val)))?;
-        Ok(("Success", None))
+        Ok(InsertResult::Success)
     }
 
     /// The value of a key.
@@ -120,44 +139,25 @@ impl Plain {
 
     /// Removes a key.
     pub(crate) fn remove(&mut self, key: u64) -> RemoveResult {
-        let removal = self.spend(|stored| stored == key);
+        self.remove_range(Bound::Included(key), Bound::Included(key))
+    }
+
+    /// Removes the keys within two bounds.
+    pub(crate) fn remove_range(&mut self, low: Bound<u64>, high: Bound<u64>) -> RemoveResult {
+        let removal = self.spend(low, high);
         if removal == RemoveResult::Retired {
             self.retired = true;
         }
         removal
     }
 
-    /// Removes the keys within two bounds.
-    pub(crate) fn remove_range(&mut self, low: Bound<u64>, high: Bound<u64>) {
-        let removal = self.spend(|key| {
-            let above = match low {
-                Bound::Included(low) => low <= key,
-                Bound::Excluded(low) => low < key,
-                Bound::Unbounded => true,
-            };
-            let below = match high {
-                Bound::Included(high) => key <= high,
-                Bound::Excluded(high) => key < high,
-                Bound::Unbounded => true,
-            };
-            above && below
-        });
-        if removal == RemoveResult::Retired {
-            self.retired = true;
-        }
-    }
-
-    /// Spends the arrivals of which the test says so, and tells whether none is left.
-    fn spend<F: Fn(u64) -> bool + Drop>(&mut self, test: F) -> RemoveResult
-        requires { F.IsAlwaysCallable test }
-    {
+    /// Spends the arrivals within two bounds, and tells whether none is left.
+    fn spend(&mut self, low: Bound<u64>, high: Bound<u64>) -> RemoveResult {
         let mut removal = RemoveResult::Fail;
         for arrival in self.arrivals.iter_mut() {
-            let goes = match arrival {
-                Some((key, _)) => test(*key),
-                None => false,
-            };
-            if goes {
+            if let Some((key, _)) = arrival
+                && meets(*key, low, high)
+            {
                 *arrival = None;
                 removal = RemoveResult::Success;
             }

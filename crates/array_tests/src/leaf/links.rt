@@ -6,8 +6,7 @@ ghost use Rattle.tree_leaf.specs.Chain.{IsChain};
 
 use crate::leaf::chain::Chain;
 use std::alloc::{AllocError, Global};
-use std::process::Abort;
-use test_support::refusals::succeeds;
+use test_support::refusals::held;
 use tree_leaf::arena::{LeafId, SlotsOf};
 use tree_leaf::leaf::{splice_link, unlink};
 
@@ -21,78 +20,68 @@ fn beside<const LEN: usize>(arenas: &SlotsOf<u64, u64, u8, LEN>, id: LeafId) -> 
     (leaf.prev(), leaf.next())
 }
 
-/// Compares what stands beside each of three leaves.
-fn compare<const LEN: usize>(
-    rt: &impl Abort,
+/// Whether these stand beside each of three leaves.
+fn are_beside<const LEN: usize>(
     arenas: &SlotsOf<u64, u64, u8, LEN>,
     first: LeafId,
     second: LeafId,
     third: LeafId,
-    wanted: (Beside, Beside, Beside),
-)
+    wanted: [Beside; 3],
+) -> bool
     requires first { ContainsKey arenas.now.leaves first }
     requires second { ContainsKey arenas.now.leaves second }
     requires third { ContainsKey arenas.now.leaves third }
 {
-    assert_eq!(rt; beside(arenas, first), wanted.0);
-    assert_eq!(rt; beside(arenas, second), wanted.1);
-    assert_eq!(rt; beside(arenas, third), wanted.2);
+    [beside(arenas, first), beside(arenas, second), beside(arenas, third)] == wanted
 }
 
 /// The second of three leaves is taken out of its chain.
 fn without_second<const LEN: usize>(
-    rt: &impl Abort,
     arenas: &mut SlotsOf<u64, u64, u8, LEN>,
     first: LeafId,
     second: LeafId,
     third: LeafId,
-)
+) -> bool
     requires { IsChain arenas.old.leaves (first ∷ second ∷ third ∷ []) }
     ensures first { ContainsKey arenas.new.leaves first }
     ensures second { ContainsKey arenas.new.leaves second }
     ensures third { ContainsKey arenas.new.leaves third }
 {
-    let wanted = (
+    let linked = [
         (None, Some(second)),
         (Some(first), Some(third)),
         (Some(second), None),
-    );
-    compare(rt, arenas, first, second, third, wanted);
+    ];
+    let before = are_beside(arenas, first, second, third, linked);
     unlink(arenas, second);
-    assert_eq!(rt; arenas.leaf_count(), 3);
-    let wanted = (
+    let unlinked = [
         (None, Some(third)),
         (Some(first), Some(third)),
         (Some(first), None),
-    );
-    compare(rt, arenas, first, second, third, wanted);
+    ];
+    before && arenas.leaf_count() == 3 && are_beside(arenas, first, second, third, unlinked)
 }
 
 /// Each of the others is made an end of the chain.
 fn parted<const LEN: usize>(
-    rt: &impl Abort,
     arenas: &mut SlotsOf<u64, u64, u8, LEN>,
     first: LeafId,
     second: LeafId,
     third: LeafId,
-)
+) -> bool
     requires first { ContainsKey arenas.old.leaves first }
     requires second { ContainsKey arenas.old.leaves second }
     requires third { ContainsKey arenas.old.leaves third }
 {
     splice_link(arenas, None, Some(third));
-    let wanted = (
-        (None, Some(third)),
-        (Some(first), Some(third)),
-        (None, None),
-    );
-    compare(rt, arenas, first, second, third, wanted);
+    let begun = [(None, Some(third)), (Some(first), Some(third)), (None, None)];
+    let before = are_beside(arenas, first, second, third, begun);
     splice_link(arenas, Some(first), None);
-    let wanted = ((None, None), (Some(first), Some(third)), (None, None));
-    compare(rt, arenas, first, second, third, wanted);
+    let ended = [(None, None), (Some(first), Some(third)), (None, None)];
+    before && are_beside(arenas, first, second, third, ended)
 }
 
-fn links<const LEN: usize>(rt: &impl Abort, alloc: Global) -> Result<(), AllocError>
+fn links<const LEN: usize>(alloc: Global) -> Result<bool, AllocError>
     requires { IsLen LEN }
 {
     let chain: Chain<LEN> = Chain::of(alloc, &[&[1], &[3], &[5]])?;
@@ -100,17 +89,12 @@ fn links<const LEN: usize>(rt: &impl Abort, alloc: Global) -> Result<(), AllocEr
     let [first, second, third] = ids.as_slice() else {
         return Err(AllocError);
     };
-    without_second(rt, &mut arenas, *first, *second, *third);
-    parted(rt, &mut arenas, *first, *second, *third);
-    Ok(())
-}
-
-fn links_of_either_size_steps(rt: &impl Abort, alloc: Global) -> Result<(), AllocError> {
-    links::<15>(rt, alloc)?;
-    links::<7>(rt, alloc)
+    Ok(without_second(&mut arenas, *first, *second, *third)
+        && parted(&mut arenas, *first, *second, *third))
 }
 
 #[test]
 fn links_of_either_size(rt: HostRuntime) {
-    assert!(rt; succeeds(|| links_of_either_size_steps(&rt, rt.alloc())));
+    assert!(rt; held(links::<15>(rt.alloc()), links::<15>(rt.alloc())));
+    assert!(rt; held(links::<7>(rt.alloc()), links::<7>(rt.alloc())));
 }

@@ -3,11 +3,10 @@ ghost use Rattle.tree_array.specs.Length.{IsLen};
 
 use crate::leaf::chain::{Chain, value_of};
 use crate::leaf::listed::{Listed, Order};
-use crate::leaf::walk::{Call, answer, key_of};
+use crate::leaf::walk::{Call, answers, is_at};
 use std::alloc::{AllocError, Global};
-use std::process::Abort;
 use test_support::chance::Chance;
-use test_support::refusals::succeeds;
+use test_support::refusals::held;
 use tree_array::array::ArrayOf;
 use tree_leaf::leaf::{IterOf, LeafOf, LinkedIter, SlotWalk};
 use tree_model::PlainIndex;
@@ -28,7 +27,9 @@ fn filled<const LEN: usize>(
             .wrapping_mul(16)
             .wrapping_add(index.wrapping_mul(7).wrapping_add(shift) % 16);
         let _ = array.insert::<false>(key, value_of(key));
-        list.insert(key, leaf).map_err(|_| AllocError)?;
+        if list.insert(key, leaf).is_err() {
+            return Err(AllocError);
+        }
     }
     Ok(array)
 }
@@ -69,114 +70,117 @@ fn chain_by_chance<const LEN: usize>(
 
 /// A call on both, and what they stand on then.
 fn step<'t, S: SlotWalk, const LEN: usize>(
-    rt: &impl Abort,
     walk: &mut LinkedIter<'t, LeafOf<u64, u64, LEN>, S>,
     listed: &mut Listed,
     call: Call,
-) {
-    assert_eq!(rt; answer(rt, walk, call), listed.answer(call));
-    assert_eq!(rt; answer(rt, walk, Call::Get), listed.answer(Call::Get));
+) -> bool {
+    answers(walk, call, listed.answer(call)) && answers(walk, Call::Get, listed.answer(Call::Get))
+}
+
+/// A step of a clone, while the walk stays.
+fn clone_steps<'t, S: SlotWalk, const LEN: usize>(
+    walk: &mut LinkedIter<'t, LeafOf<u64, u64, LEN>, S>,
+    listed: &mut Listed,
+) -> Result<bool, AllocError> {
+    let mut other = walk.clone()?;
+    let mut ahead = *listed;
+    Ok(step(&mut other, &mut ahead, Call::Next) && step(walk, listed, Call::Get))
 }
 
 /// Some random calls. One of eight is made on a clone.
 fn steps<'t, S: SlotWalk, const LEN: usize>(
-    rt: &impl Abort,
     chance: &mut Chance,
     walk: &mut LinkedIter<'t, LeafOf<u64, u64, LEN>, S>,
     listed: &mut Listed,
-) -> Result<(), AllocError> {
+) -> Result<bool, AllocError> {
     for _ in 0..chance.below(9) {
-        match chance.below(8) {
-            0 => step(rt, walk, listed, Call::Rewind),
-            1 => {
-                let mut other = walk.clone()?;
-                let mut ahead = *listed;
-                step(rt, &mut other, &mut ahead, Call::Next);
-                step(rt, walk, listed, Call::Get);
-            }
-            2 | 3 => step(rt, walk, listed, Call::Jump),
-            _ => step(rt, walk, listed, Call::Next),
+        let same = match chance.below(8) {
+            0 => step(walk, listed, Call::Rewind),
+            1 => clone_steps(walk, listed)?,
+            2 | 3 => step(walk, listed, Call::Jump),
+            _ => step(walk, listed, Call::Next),
+        };
+        if !same {
+            return Ok(false);
         }
     }
-    Ok(())
+    Ok(true)
 }
 
 /// A walk that goes some steps on, turns about, goes some steps back, and turns about again.
 fn goes_about<const LEN: usize>(
-    rt: &impl Abort,
     chance: &mut Chance,
     walk: IterOf<u64, u64, LEN>,
     mut listed: Listed,
-) -> Result<(), AllocError> {
+) -> Result<bool, AllocError> {
     let mut on = walk;
     for _ in 0..8 {
         listed.order = Order::Ascending;
-        steps(rt, chance, &mut on, &mut listed)?;
-        assert_eq!(rt; on.max_key().copied(), listed.last_key());
+        let same = steps(chance, &mut on, &mut listed)?;
+        if !same || on.max_key().copied() != listed.last_key() {
+            return Ok(false);
+        }
         let mut back = on.rev();
         listed.order = Order::Descending;
-        steps(rt, chance, &mut back, &mut listed)?;
-        assert_eq!(rt; back.min_key().copied(), listed.last_key());
+        let same = steps(chance, &mut back, &mut listed)?;
+        if !same || back.min_key().copied() != listed.last_key() {
+            return Ok(false);
+        }
         on = back.rev();
     }
-    Ok(())
+    Ok(true)
 }
 
-/// Compares all entries in key order.
-fn compare_on<const LEN: usize>(
-    rt: &impl Abort,
-    alloc: Global,
-    chain: &Chain<LEN>,
-    pairs: &[(u64, u64)],
-) -> Result<(), AllocError> {
-    let entries = chain.all_on(alloc, 0)?;
-    assert_eq!(rt; entries.len(), pairs.len());
+/// Whether these are the entries of these keys.
+fn are_of(entries: &[(&u64, &u64)], pairs: &[(u64, u64)]) -> bool {
     for (entry, (key, _)) in entries.iter().zip(pairs) {
-        assert!(rt; key_of(rt, Some(*entry)) == Some(*key));
+        if !is_at(Some(*entry), Some(*key)) {
+            return false;
+        }
     }
-    Ok(())
+    entries.len() == pairs.len()
 }
 
-/// Compares all entries against key order.
-fn compare_back<const LEN: usize>(
-    rt: &impl Abort,
+/// Compares all entries, in key order and against it.
+fn lists<const LEN: usize>(
     alloc: Global,
     chain: &Chain<LEN>,
     pairs: &[(u64, u64)],
-) -> Result<(), AllocError> {
-    let entries = chain.all_back(alloc, 3)?;
-    assert_eq!(rt; entries.len(), pairs.len());
-    for (entry, (key, _)) in entries.iter().zip(pairs.iter().rev()) {
-        assert!(rt; key_of(rt, Some(*entry)) == Some(*key));
-    }
-    Ok(())
+) -> Result<bool, AllocError> {
+    let on = chain.all_on(alloc, 0)?;
+    let mut back = chain.all_back(alloc, 3)?;
+    back.reverse();
+    Ok(are_of(&on, pairs) && are_of(&back, pairs))
 }
 
-fn compare<const LEN: usize>(rt: &impl Abort, alloc: Global, seed: u64) -> Result<(), AllocError>
+/// A walk from the first leaf, and one that goes some steps back from the last one.
+fn walks<const LEN: usize>(
+    chance: &mut Chance,
+    chain: &Chain<LEN>,
+    keys: &[(u64, u64)],
+) -> Result<bool, AllocError> {
+    let listed = Listed::new(keys, 0, Order::Ascending);
+    if !goes_about(chance, chain.walk_on(0)?, listed)? {
+        return Ok(false);
+    }
+    let mut walk = chain.walk_back(3)?;
+    let mut listed = Listed::new(keys, 3, Order::Descending);
+    Ok(steps(chance, &mut walk, &mut listed)? && goes_about(chance, walk.rev(), listed)?)
+}
+
+fn compare<const LEN: usize>(alloc: Global, seed: u64) -> Result<bool, AllocError>
     requires { IsLen LEN }
 {
     let mut chance = Chance::new(seed);
     let mut list = PlainIndex::new(alloc);
     let chain: Chain<LEN> = chain_by_chance(alloc, &mut chance, &mut list)?;
-    let keys = list.pairs();
-    compare_on(rt, alloc, &chain, keys)?;
-    compare_back(rt, alloc, &chain, keys)?;
-    let listed = Listed::new(keys, 0, Order::Ascending);
-    goes_about(rt, &mut chance, chain.walk_on(0)?, listed)?;
-    let mut walk = chain.walk_back(3)?;
-    let mut listed = Listed::new(keys, 3, Order::Descending);
-    steps(rt, &mut chance, &mut walk, &mut listed)?;
-    goes_about(rt, &mut chance, walk.rev(), listed)
+    Ok(lists(alloc, &chain, list.pairs())? && walks(&mut chance, &chain, list.pairs())?)
 }
 
 #[test]
 fn walks_as_over_a_plain_list(rt: HostRuntime) {
     for seed in 1..65 {
-        assert!(rt;
-            succeeds(|| {
-                compare::<15>(&rt, rt.alloc(), seed)?;
-                compare::<7>(&rt, rt.alloc(), seed)
-            })
-        );
+        assert!(rt; held(compare::<15>(rt.alloc(), seed), compare::<15>(rt.alloc(), seed)));
+        assert!(rt; held(compare::<7>(rt.alloc(), seed), compare::<7>(rt.alloc(), seed)));
     }
 }

@@ -1,6 +1,5 @@
 //! Calls on a walk over the leaves of a chain, either way.
 use crate::leaf::chain::value_of;
-use std::process::Abort;
 use tree_leaf::leaf::{LeafOf, LinkedIter, SlotWalk};
 
 /// A call that answers an entry. A rewind answers none.
@@ -12,26 +11,28 @@ pub enum Call {
     Rewind,
 }
 
-/// The key of an entry, which has its value.
-pub(crate) fn key_of(rt: &impl Abort, entry: Option<(&u64, &u64)>) -> Option<u64> {
-    let (key, value) = entry?;
-    assert_eq!(rt; *value, value_of(*key));
-    Some(*key)
+/// Whether an entry is that of a key.
+pub(crate) fn is_at(entry: Option<(&u64, &u64)>, key: Option<u64>) -> bool {
+    match (entry, key) {
+        (Some((stored, value)), Some(key)) => *stored == key && *value == value_of(key),
+        (None, None) => true,
+        _ => false,
+    }
 }
 
-/// The key that a call answers.
-pub(crate) fn answer<'t, S: SlotWalk, const LEN: usize>(
-    rt: &impl Abort,
+/// Whether a call answers the entry of this key.
+pub(crate) fn answers<'t, S: SlotWalk, const LEN: usize>(
     walk: &mut LinkedIter<'t, LeafOf<u64, u64, LEN>, S>,
     call: Call,
-) -> Option<u64> {
+    key: Option<u64>,
+) -> bool {
     match call {
-        Call::Get => key_of(rt, walk.get()),
-        Call::Next => key_of(rt, walk.next()),
-        Call::Jump => key_of(rt, walk.jump()),
+        Call::Get => is_at(walk.get(), key),
+        Call::Next => is_at(walk.next(), key),
+        Call::Jump => is_at(walk.jump(), key),
         Call::Rewind => {
             walk.rewind();
-            None
+            key.is_none()
         }
     }
 }

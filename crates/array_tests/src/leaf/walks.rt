@@ -1,169 +1,163 @@
 //! Walks over linked leaves from every place: steps, jumps and turns.
 use crate::leaf::chain::Chain;
-use crate::leaf::walk::{Call, answer};
+use crate::leaf::walk::{Call, answers};
 use Call::{Get, Jump, Next, Rewind};
 use std::alloc::{AllocError, Global};
-use std::process::Abort;
-use test_support::refusals::succeeds;
-use tree_leaf::leaf::{Leaf, LinkedIter, SlotWalk};
+use test_support::refusals::held;
+use tree_leaf::leaf::{Iter, Leaf, LinkedIter, RevIter, SlotWalk};
 
 /// A call, and the key that it answers.
 type Row = (Call, Option<u64>);
 
-/// A chain of leaves of fifteen slots.
-fn chain_of(alloc: Global, leaves: [&[u64]; 3]) -> Result<Chain<15>, AllocError> {
-    Chain::of(alloc, &leaves)
-}
+/// The key that comes last on the way in the walk's leaf, and calls from there on.
+type Leg = (Option<u64>, &'static [Row]);
 
-/// Each call answers its key.
-fn expect_keys<'t, S: SlotWalk>(
-    rt: &impl Abort,
-    walk: &mut LinkedIter<'t, Leaf<u64, u64>, S>,
-    rows: &[Row],
-) {
-    for (call, wanted) in rows {
-        assert_eq!(rt; answer(rt, walk, *call), *wanted);
+/// Whether each call answers its key.
+fn goes<'t, S: SlotWalk>(walk: &mut LinkedIter<'t, Leaf<u64, u64>, S>, rows: &[Row]) -> bool {
+    for (call, key) in rows {
+        if !answers(walk, *call, *key) {
+            return false;
+        }
     }
+    true
 }
 
-/// A clone is taken on the way, and the walk goes on from there. Then the clone goes on from there too.
-fn expect_apart<'t, S: SlotWalk>(
-    rt: &impl Abort,
-    walk: &mut LinkedIter<'t, Leaf<u64, u64>, S>,
-    [before, after, of_clone]: [&[Row]; 3],
-) -> Result<(), AllocError> {
-    expect_keys(rt, walk, before);
-    let mut other = walk.clone()?;
-    expect_keys(rt, walk, after);
-    expect_keys(rt, &mut other, of_clone);
-    Ok(())
+fn goes_on(walk: &mut Iter<u64, u64>, (last, rows): &Leg) -> bool {
+    walk.max_key().copied() == *last && goes(walk, *rows)
 }
 
-static ON_BEFORE: [Row; 3] = [(Get, None), (Next, Some(1)), (Get, Some(1))];
+fn goes_back(walk: &mut RevIter<u64, u64>, (last, rows): &Leg) -> bool {
+    walk.min_key().copied() == *last && goes(walk, *rows)
+}
 
-static ON_AFTER: [Row; 9] = [
-    (Next, Some(3)),
-    (Next, None),
-    (Next, None),
-    (Get, Some(3)),
-    (Jump, Some(5)),
-    (Get, Some(5)),
-    (Next, None),
-    (Jump, None),
-    (Get, Some(5)),
-];
+static ON_BEFORE: Leg = (Some(3), &[(Get, None), (Next, Some(1)), (Get, Some(1))]);
 
-static ON_OF_CLONE: [Row; 2] = [(Get, Some(1)), (Next, Some(3))];
+static ON_AFTER: Leg = (
+    Some(3),
+    &[
+        (Next, Some(3)),
+        (Next, None),
+        (Next, None),
+        (Get, Some(3)),
+        (Jump, Some(5)),
+        (Get, Some(5)),
+        (Next, None),
+        (Jump, None),
+        (Get, Some(5)),
+    ],
+);
 
-static ON_REWOUND: [Row; 3] = [(Rewind, None), (Get, None), (Next, Some(5))];
+static ON_OF_CLONE: Leg = (Some(3), &[(Get, Some(1)), (Next, Some(3))]);
 
-fn walks_on_steps(rt: &impl Abort, alloc: Global) -> Result<(), AllocError> {
-    let chain = chain_of(alloc, [&[3, 1], &[], &[5]])?;
+static ON_REWOUND: Leg = (Some(5), &[(Rewind, None), (Get, None), (Next, Some(5))]);
+
+/// A clone is taken on the way, and goes on from there as the walk does.
+fn walks_on(alloc: Global) -> Result<bool, AllocError> {
+    let chain: Chain<15> = Chain::of(alloc, &[&[3, 1], &[], &[5]])?;
     let mut walk = chain.walk_on(0)?;
-    assert_eq!(rt; walk.max_key().copied(), Some(3));
-    expect_apart(rt, &mut walk, [&ON_BEFORE, &ON_AFTER, &ON_OF_CLONE])?;
-    assert_eq!(rt; walk.max_key().copied(), Some(5));
-    expect_keys(rt, &mut walk, &ON_REWOUND);
-    Ok(())
+    if !goes_on(&mut walk, &ON_BEFORE) {
+        return Ok(false);
+    }
+    let mut other = walk.clone()?;
+    Ok(goes_on(&mut walk, &ON_AFTER)
+        && goes_on(&mut other, &ON_OF_CLONE)
+        && goes_on(&mut walk, &ON_REWOUND))
 }
 
-#[test]
-fn walks_on(rt: HostRuntime) {
-    assert!(rt; succeeds(|| walks_on_steps(&rt, rt.alloc())));
-}
+static BACK_BEFORE: Leg = (Some(5), &[(Get, None), (Next, Some(7)), (Get, Some(7))]);
 
-static BACK_BEFORE: [Row; 3] = [(Get, None), (Next, Some(7)), (Get, Some(7))];
+static BACK_AFTER: Leg = (
+    Some(5),
+    &[
+        (Next, Some(5)),
+        (Next, None),
+        (Next, None),
+        (Get, Some(5)),
+        (Jump, Some(1)),
+        (Jump, None),
+        (Get, Some(1)),
+    ],
+);
 
-static BACK_AFTER: [Row; 7] = [
-    (Next, Some(5)),
-    (Next, None),
-    (Next, None),
-    (Get, Some(5)),
-    (Jump, Some(1)),
-    (Jump, None),
-    (Get, Some(1)),
-];
+static BACK_OF_CLONE: Leg = (Some(5), &[(Get, Some(7)), (Next, Some(5))]);
 
-static BACK_OF_CLONE: [Row; 2] = [(Get, Some(7)), (Next, Some(5))];
+static BACK_REWOUND: Leg = (Some(1), &[(Rewind, None), (Get, None), (Next, Some(1))]);
 
-static BACK_REWOUND: [Row; 3] = [(Rewind, None), (Get, None), (Next, Some(1))];
-
-fn walks_back_steps(rt: &impl Abort, alloc: Global) -> Result<(), AllocError> {
-    let chain = chain_of(alloc, [&[1], &[], &[7, 5]])?;
+fn walks_back(alloc: Global) -> Result<bool, AllocError> {
+    let chain: Chain<15> = Chain::of(alloc, &[&[1], &[], &[7, 5]])?;
     let mut walk = chain.walk_back(2)?;
-    assert_eq!(rt; walk.min_key().copied(), Some(5));
-    expect_apart(rt, &mut walk, [&BACK_BEFORE, &BACK_AFTER, &BACK_OF_CLONE])?;
-    assert_eq!(rt; walk.min_key().copied(), Some(1));
-    expect_keys(rt, &mut walk, &BACK_REWOUND);
-    Ok(())
+    if !goes_back(&mut walk, &BACK_BEFORE) {
+        return Ok(false);
+    }
+    let mut other = walk.clone()?;
+    Ok(goes_back(&mut walk, &BACK_AFTER)
+        && goes_back(&mut other, &BACK_OF_CLONE)
+        && goes_back(&mut walk, &BACK_REWOUND))
 }
 
 #[test]
-fn walks_back(rt: HostRuntime) {
-    assert!(rt; succeeds(|| walks_back_steps(&rt, rt.alloc())));
+fn walks_either_way(rt: HostRuntime) {
+    assert!(rt; held(walks_on(rt.alloc()), walks_on(rt.alloc())));
+    assert!(rt; held(walks_back(rt.alloc()), walks_back(rt.alloc())));
 }
 
-static TURNED: [[Row; 2]; 4] = [
-    [(Get, None), (Next, Some(2))],
-    [(Get, Some(2)), (Next, None)],
-    [(Next, Some(1)), (Next, None)],
-    [(Get, Some(1)), (Next, Some(2))],
-];
+/// A walk in key order from a place of a chain, which turns about after each leg.
+type Turns = ([&'static [u64]; 3], usize, &'static [(Leg, Leg)]);
 
-fn turns_about_steps(rt: &impl Abort, alloc: Global) -> Result<(), AllocError> {
-    let chain = chain_of(alloc, [&[1, 2], &[], &[5]])?;
-    let mut walk = chain.walk_on(0)?.rev();
-    expect_keys(rt, &mut walk, &TURNED[0]);
-    let mut walk = walk.rev();
-    expect_keys(rt, &mut walk, &TURNED[1]);
-    let mut walk = walk.rev();
-    expect_keys(rt, &mut walk, &TURNED[2]);
-    let mut walk = walk.rev();
-    expect_keys(rt, &mut walk, &TURNED[3]);
-    Ok(())
+static TURNS_ABOUT: Turns = (
+    [&[1, 2], &[], &[5]],
+    0,
+    &[
+        ((Some(2), &[]), (Some(1), &[(Get, None), (Next, Some(2))])),
+        (
+            (Some(2), &[(Get, Some(2)), (Next, None)]),
+            (Some(1), &[(Next, Some(1)), (Next, None)]),
+        ),
+        ((Some(2), &[(Get, Some(1)), (Next, Some(2))]), (Some(1), &[])),
+    ],
+);
+
+static TURNS_IN_AN_EMPTY_LEAF: Turns = (
+    [&[1, 2], &[], &[5]],
+    1,
+    &[
+        ((None, &[(Next, None)]), (None, &[(Next, None)])),
+        ((None, &[]), (None, &[(Jump, Some(2)), (Next, Some(1))])),
+    ],
+);
+
+static JUMPS_OVER_EMPTY_LEAVES_TO_THE_LAST: Turns = (
+    [&[1], &[], &[]],
+    0,
+    &[(
+        (
+            Some(1),
+            &[(Next, Some(1)), (Jump, None), (Get, None), (Jump, None)],
+        ),
+        (
+            None,
+            &[(Next, None), (Jump, Some(1)), (Jump, None), (Get, Some(1))],
+        ),
+    )],
+);
+
+fn turns(alloc: Global, (leaves, place, legs): &Turns) -> Result<bool, AllocError> {
+    let chain: Chain<15> = Chain::of(alloc, leaves)?;
+    let mut walk = chain.walk_on(*place)?;
+    for (on, back) in *legs {
+        let on = goes_on(&mut walk, on);
+        let mut other = walk.rev();
+        if !on || !goes_back(&mut other, back) {
+            return Ok(false);
+        }
+        walk = other.rev();
+    }
+    Ok(true)
 }
 
 #[test]
 fn turns_about(rt: HostRuntime) {
-    assert!(rt; succeeds(|| turns_about_steps(&rt, rt.alloc())));
-}
-
-static FROM_EMPTY: [Row; 2] = [(Jump, Some(2)), (Next, Some(1))];
-
-fn turns_about_in_an_empty_leaf_steps(rt: &impl Abort, alloc: Global) -> Result<(), AllocError> {
-    let chain = chain_of(alloc, [&[1, 2], &[], &[5]])?;
-    let mut walk = chain.walk_on(1)?;
-    expect_keys(rt, &mut walk, &[(Next, None)]);
-    assert_eq!(rt; walk.max_key().copied(), None);
-    let mut walk = walk.rev();
-    expect_keys(rt, &mut walk, &[(Next, None)]);
-    assert_eq!(rt; walk.min_key().copied(), None);
-    expect_keys(rt, &mut walk, &FROM_EMPTY);
-    Ok(())
-}
-
-#[test]
-fn turns_about_in_an_empty_leaf(rt: HostRuntime) {
-    assert!(rt; succeeds(|| turns_about_in_an_empty_leaf_steps(&rt, rt.alloc())));
-}
-
-static OVER_EMPTY: [Row; 4] = [(Next, Some(1)), (Jump, None), (Get, None), (Jump, None)];
-
-static BACK_OVER_EMPTY: [Row; 4] = [(Next, None), (Jump, Some(1)), (Jump, None), (Get, Some(1))];
-
-fn jumps_over_empty_leaves_to_the_last_steps(
-    rt: &impl Abort,
-    alloc: Global,
-) -> Result<(), AllocError> {
-    let chain = chain_of(alloc, [&[1], &[], &[]])?;
-    let mut walk = chain.walk_on(0)?;
-    expect_keys(rt, &mut walk, &OVER_EMPTY);
-    let mut walk = walk.rev();
-    expect_keys(rt, &mut walk, &BACK_OVER_EMPTY);
-    Ok(())
-}
-
-#[test]
-fn jumps_over_empty_leaves_to_the_last(rt: HostRuntime) {
-    assert!(rt; succeeds(|| jumps_over_empty_leaves_to_the_last_steps(&rt, rt.alloc())));
+    for row in [&TURNS_ABOUT, &TURNS_IN_AN_EMPTY_LEAF, &JUMPS_OVER_EMPTY_LEAVES_TO_THE_LAST] {
+        assert!(rt; held(turns(rt.alloc(), row), turns(rt.alloc(), row)));
+    }
 }
