@@ -2,7 +2,6 @@
 use Rattle.std.specs.Prelude.{◌≡◌, ℕ, ◌+◌, Bool, true, List, filter, length, take, drop, slice_get, Option, Some}
 use Rattle.std.specs.Borrow.{Bor}
 use Rattle.std.specs.Option.{option_map}
-use Rattle.std.specs.Iterator.{YieldsFirstBy}
 use Rattle.std.specs.declared.cmp.Ordering.{Ordering}
 use Rattle.tree_model.specs.Pairs.{IsAscending, within}
 use Rattle.tree_leaf.specs.declared.leaf.stand.Way.{Way}
@@ -56,9 +55,8 @@ module _ {K V : Type 0} (cmp : K → K → Ordering) where
 abbrev pub lent : {K V : Type 0} → Option (Bor K × Bor V) → Option (K × V)
 lent item = option_map lent_entry item
 
--- a move takes a cursor s to t and answers r, which is the first of the pairs that were left, or None where none was
+-- a move takes a cursor s to t and answers r
 pub record Moves {K V : Type 0} (cmp : K → K → Ordering) (way : Way) (s : Cursor K V) (r : Option (Bor K × Bor V)) (t : Cursor K V) : Type 0 where
   pub moves : t ≡ moved cmp way s
   pub answers : lent r ≡ shown_apart cmp way t
-  pub sound : IsSound cmp s
-  pub first : YieldsFirstBy lent_entry (rest cmp way) s r t
+  pub ascending : IsAscending cmp s.pairs

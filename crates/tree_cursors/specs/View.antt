@@ -24,6 +24,12 @@ module _ {K V : Type 0} {LEN : ℕ} where
   place_at leaves ids id None = unopened
   place_at leaves ids id (Some i) = at_place (place_in leaves ids id i)
 
+  -- the pair that an end stands on
+  abbrev pub pair_of : TreeEnd (LeafWalk K V LEN) → Option (K × V)
+  pair_of Unopened = None
+  pair_of (At walk) = stood_on walk
+  pair_of Exhausted = None
+
 module _ {K V : Type 0} {LEN : ℕ} (arenas : TreeArenas K V LEN) (root : Option (ℕ × ℕ)) where
   -- where a walk stands among the pairs of the tree
   abbrev pub place_of : LeafWalk K V LEN → End

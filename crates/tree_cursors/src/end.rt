@@ -1,10 +1,13 @@
 //! The ends of a cursor.
-ghost use Rattle.std.specs.Prelude.{◌≡◌};
+ghost use Rattle.std.specs.Prelude.{◌≡◌, Some};
+ghost use Rattle.std.specs.Ordering.{is_lt};
 ghost use Rattle.std.specs.Range.Bound.{bound_map};
 ghost use Rattle.std.specs.declared.ops.Bound.{Bound as AnyBound};
+ghost use Rattle.tree_leaf.specs.Walks.{stood_on};
 ghost use Rattle.tree_node.specs.Whole.{IsTree, walk_under};
 ghost use Rattle.tree_cursor_model.specs.Cursor.{next_end, unopened};
-ghost use Rattle.tree_cursors.specs.View.{EndStands, Stands, end_of, place_of};
+ghost use Rattle.tree_cursor_model.specs.Rest.{lent};
+ghost use Rattle.tree_cursors.specs.View.{EndStands, Stands, end_of, pair_of, place_of};
 
 use crate::seek::{advance, seek_at};
 use crate::way::EndWay;
@@ -74,5 +77,35 @@ fn next_end<'t, K: Ord + Drop, V: Drop, S: SlotWalk, const LEN: usize>(
     match advance(&mut walk) {
         Some(_) => End::At(walk),
         None => End::Exhausted,
+    }
+}
+
+/// Returns whether one walk stands on a smaller key than another one. Makes one comparison. The caller must have
+/// walks that stand on entries.
+pub fn comes_before<'t, K: Ord + Drop, V: Drop, S: SlotWalk, T: SlotWalk, const LEN: usize>(
+    walk: &LinkedIter<'t, LeafOf<K, V, LEN>, S>,
+    other: &LinkedIter<'t, LeafOf<K, V, LEN>, T>,
+) -> bool
+    ensures { (first second : _) → stood_on walk.now ≡ Some first → stood_on other.now ≡ Some second → result ≡ is_lt (K.cmp first.0 second.0) }
+{
+    let Some((key, _)) = walk.get() else {
+        return false;
+    };
+    let Some((other_key, _)) = other.get() else {
+        return false;
+    };
+    key.cmp(other_key).is_lt()
+}
+
+/// Returns the pair that an end stands on, if it stands on one. Runs in constant time.
+pub fn pair_on<'t, K: Ord + Drop, V: Drop, S: SlotWalk, const LEN: usize>(
+    end: &End<LinkedIter<'t, LeafOf<K, V, LEN>, S>>,
+) -> Option<(&'t K, &'t V)>
+    ensures { lent result ≡ pair_of end.now }
+{
+    match end {
+        End::At(walk) => walk.get(),
+        End::Unopened => None,
+        End::Exhausted => None,
     }
 }
