@@ -18,12 +18,14 @@ enum Workload {
     PeekMiss,
     RemoveRandom,
     RemoveMiddle,
+    CutByRetain,
+    CutBySplitOff,
     BuildAndDrop,
     InsertText,
     PeekText,
 }
 
-const ALL: [(Workload, &str); 10] = [
+const ALL: [(Workload, &str); 12] = [
     (Workload::InsertAscending, "insert_ascending"),
     (Workload::InsertRandom, "insert_random"),
     (Workload::UpsertRandom, "upsert_random"),
@@ -31,6 +33,8 @@ const ALL: [(Workload, &str); 10] = [
     (Workload::PeekMiss, "peek_miss"),
     (Workload::RemoveRandom, "remove_random"),
     (Workload::RemoveMiddle, "remove_middle"),
+    (Workload::CutByRetain, "cut_beside_retain"),
+    (Workload::CutBySplitOff, "cut_beside_split_off"),
     (Workload::BuildAndDrop, "build_and_drop"),
     (Workload::InsertText, "insert_text"),
     (Workload::PeekText, "peek_text"),
@@ -103,6 +107,29 @@ fn remove_all<K: Ord>(map: &mut BTreeMap<K, u64>, keys: &[K]) -> u64 {
     removed
 }
 
+/// Removes the keys from the first of the list to the last, each key being looked at.
+fn retain_others<K: Ord>(map: &mut BTreeMap<K, u64>, keys: &[K]) -> u64 {
+    let (Some(first), Some(last)) = (keys.first(), keys.last()) else {
+        return 0;
+    };
+    let before = map.len();
+    map.retain(|key, _| key < first || key > last);
+    (before - map.len()) as u64
+}
+
+/// Removes them by two divisions of the map, and joins the outer parts.
+fn split_off_middle<K: Ord>(map: &mut BTreeMap<K, u64>, keys: &[K]) -> u64 {
+    let (Some(first), Some(last)) = (keys.first(), keys.last()) else {
+        return 0;
+    };
+    let before = map.len();
+    let mut middle = map.split_off(first);
+    let mut behind = middle.split_off(last);
+    behind.remove(last);
+    map.append(&mut behind);
+    (before - map.len()) as u64
+}
+
 struct Scene<K> {
     map: BTreeMap<K, u64>,
     coming: Vec<K>,
@@ -133,6 +160,8 @@ impl<K: Ord> Scene<K> {
             Workload::RemoveRandom | Workload::RemoveMiddle => {
                 remove_all(&mut self.map, &self.asked)
             }
+            Workload::CutByRetain => retain_others(&mut self.map, &self.asked),
+            Workload::CutBySplitOff => split_off_middle(&mut self.map, &self.asked),
             Workload::BuildAndDrop => insert_all(&mut BTreeMap::new(), coming),
             _ => insert_all(&mut self.map, coming),
         }
@@ -160,7 +189,7 @@ fn scene_of_numbers(workload: Workload, size: usize) -> Scene<u64> {
         Workload::UpsertRandom => Scene::filled(keys, order.clone(), order),
         Workload::PeekMiss => Scene::filled(keys, Vec::new(), source.list(size)),
         Workload::PeekHit | Workload::RemoveRandom => Scene::filled(keys, Vec::new(), order),
-        Workload::RemoveMiddle => {
+        Workload::RemoveMiddle | Workload::CutByRetain | Workload::CutBySplitOff => {
             let mut all = ascending(0, size);
             source.shuffle(&mut all);
             Scene::filled(all, Vec::new(), ascending(size / 4, size - size / 4))

@@ -5,6 +5,7 @@ use Rattle.std.specs.Cmp.{IsTotalOrder}
 use Rattle.std.proofs.lemmas.Bool.{cases_lt, cases_eq}
 use Rattle.std.proofs.lemmas.List.{length-set, get_or-set_same, get_or-set_other, get_or_past}
 use Rattle.tree_array.specs.Arrivals.{arrival, reachable, sorted}
+use Rattle.tree_array.specs.Moves.{HasEmptied}
 use Rattle.tree_order.specs.Order.{picked, named}
 use Rattle.tree_cells.specs.Tabled.{IsTabled}
 use Rattle.tree_model.specs.Pairs.{below, above}
@@ -24,12 +25,6 @@ module _ {K V : Type 0} (cmp : K → K → Ordering) where
   spent_from_entries pick made unmade none p = sym (arrival-all pick made unmade p) ∙ all_spent (picked pick made) (sorted_none (reachable (picked pick made)) none) p
 
 module _ {K V : Type 0} where
-  -- the first places' cells hold no pair, and the other places' what they held
-  pub record HasEmptied (old new : List (Option (K × V))) (order count place : ℕ) : Type 0 where
-    pub gone : (i : ℕ) → i < place → arrival new (named order i) ≡ None
-    pub kept : (i : ℕ) → place ≤ i → i < count → arrival new (named order i) ≡ arrival old (named order i)
-    pub others : (p : ℕ) → arrival old p ≡ None → arrival new p ≡ None
-
   pub emptied_none : (old : List (Option (K × V))) (order count : ℕ) → HasEmptied old old order count 0
   emptied_none old order count = record { gone = λ i lt. absurd (omega arith); kept = λ i le lt. refl; others = λ p none. none }
 

@@ -1,6 +1,7 @@
 pub mod Dealt
 mod Emptied
 mod Kept
+mod Moved
 mod Places
 mod Ranges
 mod Removed

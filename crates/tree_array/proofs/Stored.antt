@@ -24,10 +24,10 @@ use Rattle.tree_array.proofs.Seen.{same_arrays, arrivals_seen, spend_seen, spend
 use Rattle.tree_cells.proofs.Tabled.{early, set_at}
 use Rattle.tree_cells.proofs.Walks.{ranked_of}
 
-clamped_early : (count place : ℕ) → place < count → clamped count place ≡ place
+pub clamped_early : (count place : ℕ) → place < count → clamped count place ≡ place
 clamped_early count place lt = grind (arith, nat_tests)
 
-clamped_late : (count place : ℕ) → count ≤ place → clamped count place ≡ count
+pub clamped_late : (count place : ℕ) → count ≤ place → clamped count place ≡ count
 clamped_late count place le = grind (arith, nat_tests)
 
 -- an array with room for an arrival has a slot for it

@@ -2,6 +2,7 @@
 use Rattle.std.proofs.Common.{◌≡◌, ◌⊎◌, ℕ, zero, suc, ◌+◌, ◌*◌, ◌<◌, ◌≤◌, Bool, [], ◌∷◌, Option, Some, None, MatchOption, inl, inr, refl, arith}
 use Rattle.std.proofs.Math.Nat.{mul-le-mul_left}
 use Rattle.std.specs.declared.cmp.Ordering.{Ordering}
+use Rattle.std.specs.declared.ops.Bound.{Bound}
 use Rattle.slab.specs.Slab.{get}
 use Rattle.tree_array.specs.declared.answers.RemoveResult.{RemoveResult}
 use Rattle.tree_array.specs.declared.answers.RemoveResult.TheVariants.{Success, Retired, Fail}
@@ -13,6 +14,8 @@ use Rattle.tree_node.specs.Parts.{IsPart, Unchanged}
 use Rattle.tree_node.specs.Tree.{IsRetired, Stands, StandsOrRetired, leaves_at, nodes_at, walk}
 use Rattle.tree_node.proofs.Bare.{no_children}
 use Rattle.tree_node.proofs.Unchanged.{unchanged_replaces}
+use Rattle.tree_cut.specs.Cuts.{CutsUnder}
+use Rattle.tree_cut.proofs.Tops.{childless_cut, retired_node}
 use Rattle.tree_remove.specs.Removes.{RemovesUnder}
 
 module _ {K V : Type 0} {LEN : ℕ} (a : TreeArenas K V LEN) (id : ℕ) where
@@ -84,6 +87,13 @@ module _ {K V : Type 0} {LEN : ℕ} (cmp : K → K → Ordering) (a : TreeArenas
               replaces = unchanged_replaces level a b same (id ∷ []);
               spare = inr (rw (before, after) (omega arith));
             }
+
+    -- so is a removal of a range
+    pub cut_at : IsPart cmp level a id ⊎ IsRetired level a id → (low high : Bound K) (b : TreeArenas K V LEN) (gone : ℕ) → CutsUnder cmp low high found a b id gone → (IsRetired found a id → b ≡ a) → (gone : ℕ) × CutsUnder cmp low high level a b id gone
+    cut_at (inl part) low high b gone cuts stays = (gone, rw (up part.stands) at cuts)
+    cut_at (inr retired) low high b gone cuts stays =
+        let same : b ≡ a = stays (rw (one retired) (retired_too a id level 1 inner (omega arith) retired)) in
+        (0, rw same (childless_cut cmp low high level a id inner (retired_node cmp level a id inner retired)))
 
   module _ (is : IsFound) where
     pub linked_at : IsLinked level a id → IsLinked found a id

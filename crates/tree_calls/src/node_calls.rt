@@ -1,23 +1,27 @@
 //! The calls that each of the three types of nodes has. They are `final`, so that each is proved once for all types.
 ghost use Rattle.std.proofs.Common.{sym};
 ghost use Rattle.std.proofs.Math.Nat.{le_of_eq, le_of_lt};
-ghost use Rattle.std.specs.Prelude.{◌≡◌, ◌↔◌, ◌⊎◌, ◌+◌, ◌*◌, ◌<◌, ◌≤◌, [], IsTrue, MatchOption, None, Ok, Some, ℕ};
+ghost use Rattle.std.specs.Prelude.{◌≡◌, ◌↔◌, ◌⊎◌, ◌+◌, ◌*◌, ◌<◌, ◌≤◌, [], IsTrue, MatchOption, None, Ok, Some, length, ℕ};
 ghost use Rattle.std.specs.Fn.{FnOnceReturnsAt, FnOnceTakesAt};
 ghost use Rattle.std.specs.Option.{ForSome};
+ghost use Rattle.std.specs.Range.Bound.{bound_map};
 ghost use Rattle.slab.specs.Slab.{get};
 ghost use Rattle.tree_array.specs.Length.{searched};
 ghost use Rattle.tree_array.specs.declared.answers.InsertResult.TheVariants.{Full as PlainlyFull};
 ghost use Rattle.tree_calls.specs.CleanUps.{NeedsCleanUp};
+ghost use Rattle.tree_cut.specs.Cuts.{CutsUnder};
 ghost use Rattle.tree_insert.specs.Inserts.{InsertsPlainly};
 ghost use Rattle.tree_leaf.specs.declared.leaf.stand.Way.TheVariants.{On, Back};
 ghost use Rattle.tree_model.specs.Pairs.{IsAbsent, pair_at};
 ghost use Rattle.tree_walk.specs.Ends.{BeginsPart, IsLinked};
 ghost use Rattle.tree_node.specs.Parts.{IsPart, Unchanged};
-ghost use Rattle.tree_node.specs.Tree.{IsRetired, Stands, StandsOrRetired, walk};
+ghost use Rattle.tree_node.specs.Tree.{IsRetired, Stands, StandsOrRetired, children_of, walk};
 ghost use Rattle.tree_remove.specs.CleanUps.{HasOnlyRetired};
 ghost use Rattle.tree_remove.specs.Removes.{RemovesUnder};
 
+use std::ops::Bound;
 use tree_array::array::{IndexKey, InsertResult, Judge, RemoveResult};
+use tree_cut::cutting::remove_range_at;
 use tree_insert::insertion::insert_at;
 use tree_leaf::arena::NodeId;
 use tree_leaf::leaf::{IterOf, RevIterOf};
@@ -199,6 +203,29 @@ pub trait NodeCalls<K: Ord + Drop, const LEN: usize> {
     {
         let level = level_of(arenas, id);
         remove_at(arenas, level, id, key, condition)
+    }
+
+    /// Removes every pair whose key is within both bounds, and returns how many children the node has left: the keyed
+    /// ones, and one for the unbounded one if there is one. Bounds that contain no key, reversed ones among them, remove
+    /// nothing.
+    ///
+    /// Drops a child whole if all its keys are within the bounds, and a keyed child that loses its last pair. The node
+    /// keeps its unbounded child. Searches at most two arrays per level for each bound, and makes at most two comparisons
+    /// per slot of two leaves, however many pairs it removes. Allocates nothing.
+    final fn remove_range<V: Drop>(
+        arenas: &mut ArenasOf<K, V, LEN>,
+        id: NodeId,
+        bounds: (Bound<&K>, Bound<&K>),
+    ) -> usize
+        ghost level: { ℕ }
+        requires kind { StandsAt level }
+        requires part { IsPart K.cmp level arenas.old id ⊎ IsRetired level arenas.old id }
+        ensures cuts { (gone : ℕ) × CutsUnder K.cmp (bound_map (λ k. k.now) bounds.entry.0) (bound_map (λ k. k.now) bounds.entry.1) level arenas.old arenas.new id gone }
+        ensures left { result ≡ length (children_of arenas.new.nodes id) }
+        ensures retired { IsRetired level arenas.old id → arenas.new ≡ arenas.old }
+    {
+        let level = level_of(arenas, id);
+        remove_range_at(arenas, level, id, bounds).children
     }
 }
 

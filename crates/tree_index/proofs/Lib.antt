@@ -1,3 +1,4 @@
+pub mod Cutting
 pub mod Indexed
 pub mod Numbers
 pub mod Removed

@@ -1,7 +1,7 @@
 -- A run serves as many writes as were spare.
 use Rattle.std.proofs.Common.{ℕ, zero, suc, ◌≤◌, List, [], ◌∷◌, subst, arith}
 use Rattle.tree_model.specs.declared.commands.Command.{Command}
-use Rattle.tree_model.specs.declared.commands.Command.TheVariants.{Insert, Upsert, Remove, Peek}
+use Rattle.tree_model.specs.declared.commands.Command.TheVariants.{Insert, Upsert, Remove, RemoveRange, Clear, Peek}
 use Rattle.tree_model.specs.declared.commands.Reply.{Reply}
 use Rattle.tree_index.specs.Served.{AreServed, SpendsBy}
 
@@ -14,10 +14,14 @@ module _ {K V : Type 0} where
   served_fewer (suc spare) (suc fewer) (Insert k v ∷ commands) [] few served = tt
   served_fewer (suc spare) (suc fewer) (Upsert k v ∷ commands) [] few served = tt
   served_fewer (suc spare) (suc fewer) (Remove k ∷ commands) [] few served = tt
+  served_fewer (suc spare) (suc fewer) (RemoveRange low high ∷ commands) [] few served = tt
+  served_fewer (suc spare) (suc fewer) (Clear ∷ commands) [] few served = tt
   served_fewer (suc spare) (suc fewer) (Peek k ∷ commands) [] few served = tt
   served_fewer (suc spare) (suc fewer) (Insert k v ∷ commands) (reply ∷ replies) few served = (served.0, served_fewer spare fewer commands replies (omega (arith, few)) served.1)
   served_fewer (suc spare) (suc fewer) (Upsert k v ∷ commands) (reply ∷ replies) few served = (served.0, served_fewer spare fewer commands replies (omega (arith, few)) served.1)
   served_fewer (suc spare) (suc fewer) (Remove k ∷ commands) (reply ∷ replies) few served = tt
+  served_fewer (suc spare) (suc fewer) (RemoveRange low high ∷ commands) (reply ∷ replies) few served = tt
+  served_fewer (suc spare) (suc fewer) (Clear ∷ commands) (reply ∷ replies) few served = tt
   served_fewer (suc spare) (suc fewer) (Peek k ∷ commands) (reply ∷ replies) few served = served_fewer (suc spare) (suc fewer) commands replies few served
 
   -- a command and its reply before a run
@@ -29,6 +33,8 @@ module _ {K V : Type 0} where
   served_more (suc old) new (Upsert k v) reply commands replies spends served =
       ((λ refused. absurd (omega (arith, spends.refused refused))), served_fewer new old commands replies (omega (arith, spends.lowers)) served)
   served_more (suc old) new (Remove k) reply commands replies spends served = tt
+  served_more (suc old) new (RemoveRange low high) reply commands replies spends served = tt
+  served_more (suc old) new Clear reply commands replies spends served = tt
   served_more (suc old) new (Peek k) reply commands replies spends served = subst (λ (spare : ℕ). AreServed spare commands replies) spends served
 
 -- no command, no reply

@@ -1,7 +1,7 @@
 -- How many writes of a run are sure to be answered.
 use Rattle.std.specs.Prelude.{◌≡◌, ◌≢◌, ℕ, suc, ◌≤◌, List, ◌∷◌, ⊤}
 use Rattle.tree_model.specs.declared.commands.Command.{Command}
-use Rattle.tree_model.specs.declared.commands.Command.TheVariants.{Insert, Upsert, Remove, Peek}
+use Rattle.tree_model.specs.declared.commands.Command.TheVariants.{Insert, Upsert, Remove, RemoveRange, Clear, Peek}
 use Rattle.tree_model.specs.declared.commands.Reply.{Reply}
 use Rattle.tree_model.specs.declared.commands.Reply.TheVariants.{Refused}
 
@@ -16,9 +16,11 @@ module _ {K V : Type 0} where
   SpendsBy (Insert k v) old new reply = Spends old new reply
   SpendsBy (Upsert k v) old new reply = Spends old new reply
   SpendsBy (Remove k) old new reply = ⊤
+  SpendsBy (RemoveRange low high) old new reply = ⊤
+  SpendsBy Clear old new reply = ⊤
   SpendsBy (Peek k) old new reply = new ≡ old
 
-  -- Of the writes before the first removal, as many as were spare are not refused.
+  -- Of the writes before the first command that removes, as many as were spare are not refused.
   abbrev pub AreServed : ℕ → List (Command K V) → List (Reply V) → Type 0
   AreServed (suc spare) (Insert k v ∷ commands) (reply ∷ replies) = (reply ≢ Refused) × AreServed spare commands replies
   AreServed (suc spare) (Upsert k v ∷ commands) (reply ∷ replies) = (reply ≢ Refused) × AreServed spare commands replies

@@ -1,11 +1,13 @@
 -- What the calls of a tree answer and leave.
-use Rattle.std.specs.Prelude.{◌≡◌, ◌⊎◌, ℕ, suc, ◌-◌, ◌≤◌, Bool, true, false, List, Result, Ok, Err}
+use Rattle.std.specs.Prelude.{◌≡◌, ◌⊎◌, ℕ, suc, ◌+◌, ◌-◌, ◌≤◌, Bool, true, false, List, length, Result, Ok, Err}
 use Rattle.std.specs.declared.cmp.Ordering.{Ordering}
+use Rattle.std.specs.declared.ops.Bound.{Bound}
 use Rattle.tree_array.specs.declared.answers.StoreResult.{StoreResult}
 use Rattle.tree_array.specs.declared.answers.StoreResult.TheVariants.{New as NewKey, Replaced as OldKey, Duplicate as SameKey}
 use Rattle.tree_model.specs.declared.commands.InsertError.{InsertError}
 use Rattle.tree_model.specs.declared.commands.InsertError.TheVariants.{Duplicate, OutOfMemory}
 use Rattle.tree_model.specs.Edits.{RemovesIf}
+use Rattle.tree_model.specs.Pairs.{cut}
 use Rattle.tree_insert.specs.Inserts.{Inserts, declined, refused}
 use Rattle.tree_node.specs.Whole.{IsTree, depth_of, spare_under, walk_under}
 use Rattle.tree_index.specs.declared.tree.Stored.{Stored}
@@ -51,3 +53,9 @@ module _ {K V : Type 0} {LEN : ℕ} where
     -- no leaf loses room, but one that loses its last pair has none
     pub spare : (spare_of new ≡ 0) ⊎ (spare_of old ≤ spare_of new)
     pub kept : removed ≡ false → KeepsShape old new
+
+  -- The pairs whose keys are within the bounds are gone, and there were so many.
+  pub record Cuts (cmp : K → K → Ordering) (low high : Bound K) (old new : Tree K V LEN) (gone : ℕ) : Type 0 where
+    pub whole : IsWhole cmp new
+    pub pairs : pairs_of new ≡ cut cmp (pairs_of old) low high
+    pub counted : gone + length (pairs_of new) ≡ length (pairs_of old)

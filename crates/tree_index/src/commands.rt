@@ -3,7 +3,7 @@ ghost use Rattle.std.specs.Prelude.{◌≡◌, IfOk, OnErr};
 ghost use Rattle.tree_index.specs.Served.{AreServed, SpendsBy};
 ghost use Rattle.tree_model.specs.Runs.{Step, Runs};
 
-use crate::index::TreeIndex;
+use crate::index::TreeIndexOf;
 use std::alloc::AllocError;
 use tree_array::array::{IndexKey, SameClone};
 use tree_model::{Command, InsertError, Reply};
@@ -12,9 +12,9 @@ use tree_model::{Command, InsertError, Reply};
 ///
 /// Returns `Err` if there is no memory for the replies; nothing changed then. A command that is refused memory gets
 /// the reply `Refused` and leaves the pairs as they were, and the run goes on. Of the writes before the first
-/// removal, as many as the index had spare are not refused.
-pub fn run<K: IndexKey, V: SameClone>(
-    index: &mut TreeIndex<K, V>,
+/// command that removes, as many as the index had spare are not refused.
+pub fn run<K: IndexKey, V: SameClone, const LEN: usize>(
+    index: &mut TreeIndexOf<K, V, LEN>,
     commands: Vec<Command<K, V>>,
 ) -> Result<Vec<Reply<V>>, AllocError>
     ensures runs { IfOk result (λ replies. Runs K.cmp V.seen index.old.pairs commands.items replies.items index.new.pairs) }
@@ -29,8 +29,8 @@ pub fn run<K: IndexKey, V: SameClone>(
 }
 
 // Answers one command.
-fn answer<K: IndexKey, V: SameClone>(
-    index: &mut TreeIndex<K, V>,
+fn answer<K: IndexKey, V: SameClone, const LEN: usize>(
+    index: &mut TreeIndexOf<K, V, LEN>,
     command: Command<K, V>,
 ) -> Reply<V>
     ensures step { Step K.cmp V.seen index.old.pairs command result index.new.pairs }
@@ -47,6 +47,14 @@ fn answer<K: IndexKey, V: SameClone>(
             Err(_) => Reply::Refused,
         },
         Command::Remove(key) => Reply::Removed(index.remove_sync(&key)),
+        Command::RemoveRange(low, high) => {
+            index.remove_range_sync((low.as_ref(), high.as_ref()));
+            Reply::Done
+        }
+        Command::Clear => {
+            index.clear();
+            Reply::Done
+        }
         Command::Peek(key) => match index.peek(&key) {
             None => Reply::Found(None),
             Some(value) => match value.clone() {

@@ -2,9 +2,10 @@
 ghost use Rattle.std.specs.Prelude.{◌≡◌, ◌⊎◌, ◌↔◌, IsTrue, ◌+◌, ◌*◌, ◌^◌, ◌-◌, ◌≤◌, Bool, false, true, min, [], length, Some, MatchOption};
 ghost use Rattle.std.specs.Fn.{FnOnceReturnsAt, FnOnceTakesAt};
 ghost use Rattle.std.specs.Option.{ForSome, option_copied, option_map};
+ghost use Rattle.std.specs.Range.Bound.{bound_map};
 ghost use Rattle.tree_array.specs.Length.{IsLen, searched};
 ghost use Rattle.tree_index.specs.Index.{IsTreeOf, KeepsSpare, SpendsInsert, SpendsUpsert, StoresPair};
-ghost use Rattle.tree_model.specs.Pairs.{IsAbsent, IsAscending, IsPresent, pair_at, without};
+ghost use Rattle.tree_model.specs.Pairs.{IsAbsent, IsAscending, IsPresent, cut, pair_at, without};
 ghost use Rattle.tree_model.specs.Edits.{Inserts, RemovesIf, Upserts};
 
 use crate::seek::{Seeks, pair_of};
@@ -12,6 +13,7 @@ use crate::tree::{Stored, Tree};
 use std::alloc::Global;
 use std::fmt;
 use std::marker::Model;
+use std::ops::Bound;
 use tree_array::array::{IndexKey, Judge};
 use tree_leaf::arena::NodeId;
 use tree_model::InsertError;
@@ -31,7 +33,7 @@ pub type TreeIndex<K, V> = TreeIndexOf<K, V, 15>;
 /// Costs are in terms of the depth. An array is searched with at most 4 comparisons among 15 slots, and 3 among 7.
 #[derive(Drop)]
 pub struct TreeIndexOf<K: IndexKey, V: Drop, const LEN: usize> {
-    tree: Tree<K, V, LEN>,
+    pub(crate) tree: Tree<K, V, LEN>,
     len: u128,
 }
 
@@ -125,6 +127,31 @@ impl<K: IndexKey, V: Drop, const LEN: usize> TreeIndexOf<K, V, LEN> {
             self.len -= 1;
         }
         removed
+    }
+
+    /// Removes every pair whose key is within both bounds. Bounds that contain no key, reversed ones among them, remove
+    /// nothing.
+    ///
+    /// Drops the parts of the tree between the bounds whole, each leaf and node of them once. Makes comparisons only at
+    /// the two ends of the range: at most two searches per level and bound, and two comparisons per slot of two leaves,
+    /// however many pairs it removes. Allocates nothing. What [`spare`](TreeIndexOf::spare) says afterwards is not
+    /// promised.
+    pub fn remove_range_sync(&mut self, bounds: (Bound<&K>, Bound<&K>))
+        ensures { self.new.pairs ≡ cut K.cmp self.old.pairs (bound_map (λ k. k.now) bounds.entry.0) (bound_map (λ k. k.now) bounds.entry.1) }
+    {
+        self.len -= self.tree.remove_range(bounds);
+    }
+
+    /// Removes all pairs. The depth is 0 afterwards.
+    ///
+    /// Drops each pair, leaf and node once. Allocates nothing, and keeps the memory of leaves and nodes for later writes.
+    pub fn clear(&mut self)
+        ensures pairs { self.new.pairs ≡ [] }
+        ensures depth { self.new.depth ≡ 0 }
+        ensures spare { self.new.spare ≡ 0 }
+    {
+        self.tree.clear();
+        self.len = 0;
     }
 
     /// Returns the value of a key, or `None` if the key is absent.

@@ -27,6 +27,7 @@
 #![tactic(auto)]
 
 mod commands;
+mod cursors;
 mod index;
 pub mod laws;
 mod seek;
@@ -35,8 +36,13 @@ mod tree;
 
 pub use commands::run;
 pub use index::{TreeIndex, TreeIndexOf};
-pub use state::State;
+pub use state::{State, StateOf};
 pub use tree_array::array::{Judge, KeyJudge, Steps};
+pub use tree_cursor_model::{Answer, Move, ProximityOf};
 pub use tree_leaf::arena::NodeId;
 pub use tree_model::{Command, IndexKey, InsertError, Record, Reply, SameClone};
 pub use tree_node::node::{Arenas, ArenasOf};
+pub use tree_ranges::cursor::{Cursor, run_moves};
+pub use tree_ranges::iter::{Iter, IterOf};
+pub use tree_ranges::locate::Proximity;
+pub use tree_ranges::range::{Range, RangeOf};

@@ -1,27 +1,32 @@
 //! An index with the history of its calls.
 ghost use Rattle.std.specs.Prelude.{◌≡◌, ◌<◌, List, [], ◌∷◌, ◌++◌, vec_len, vec_capacity, IfOk, IfErr, OnErr};
 ghost use Rattle.std.specs.Option.{option_copied, option_map};
+ghost use Rattle.tree_array.specs.Length.{IsLen};
 ghost use Rattle.tree_model.specs.History.{Appends, IsHistoryOf, IsSameKey};
 ghost use Rattle.tree_index.specs.Inserts.{RecordsInsert};
 
-use crate::index::TreeIndex;
+use crate::index::TreeIndexOf;
 use std::alloc::{AllocError, Global};
 use std::fmt;
 use std::marker::Model;
+use std::ops::Bound;
 use tree_array::array::{IndexKey, SameClone};
 use tree_model::{Command, InsertError, Record, Reply};
 
-/// An index with the history of its calls. Contracts see the list of its pairs and the history.
+/// An index of fifteen pairs a leaf with the history of its calls. See [`StateOf`].
+pub type State<K, V> = StateOf<K, V, 15>;
+
+/// An index with the history of its calls. Contracts see the list of its pairs and the history. `LEN` is 7 or 15.
 ///
 /// The type keeps that the history replays to that list: from the empty list, each reply is the one that the list
 /// gives, and none is `Refused`.
 #[derive(Drop)]
-pub struct State<K: IndexKey + SameClone, V: SameClone> {
-    index: TreeIndex<K, V>,
+pub struct StateOf<K: IndexKey + SameClone, V: SameClone, const LEN: usize> {
+    index: TreeIndexOf<K, V, LEN>,
     history: Vec<Record<K, V>>,
 }
 
-impl<K: IndexKey + SameClone, V: SameClone> Model for State<K, V> {
+impl<K: IndexKey + SameClone, V: SameClone, const LEN: usize> Model for StateOf<K, V, LEN> {
     ghost use Rattle.tree_model.specs.History.{Log, IsHistoryOf};
 
     ghost Value = { Log K V };
@@ -31,20 +36,21 @@ impl<K: IndexKey + SameClone, V: SameClone> Model for State<K, V> {
     ghost invariant = { λ a. IsHistoryOf K.cmp K.seen V.seen a.history.items a.index.pairs };
 }
 
-impl<K: IndexKey + SameClone, V: SameClone> State<K, V> {
-    /// Creates an empty index without a history. Allocates nothing.
+impl<K: IndexKey + SameClone, V: SameClone, const LEN: usize> StateOf<K, V, LEN> {
+    /// Creates an empty index without a history. Allocates nothing. The caller must choose 7 or 15 for `LEN`.
     pub fn new(alloc: Global) -> Self
+        requires { IsLen LEN }
         ensures entries { result.entries ≡ [] }
         ensures history { result.history ≡ [] }
     {
-        State {
-            index: TreeIndex::new(alloc),
+        StateOf {
+            index: TreeIndexOf::new(alloc),
             history: Vec::new(alloc),
         }
     }
 
     /// Returns the index, for reading.
-    pub fn index(&self) -> &TreeIndex<K, V>
+    pub fn index(&self) -> &TreeIndexOf<K, V, LEN>
         ensures { result.now.pairs ≡ self.now.entries }
     {
         &self.index
@@ -76,11 +82,13 @@ impl<K: IndexKey + SameClone, V: SameClone> State<K, V> {
             },
             Command::Upsert(key, value) => self.upsert(key, value),
             Command::Remove(key) => self.remove(key),
+            Command::RemoveRange(low, high) => self.remove_range(low, high),
+            Command::Clear => self.clear(),
             Command::Peek(key) => self.look_up(key),
         }
     }
 
-    /// Does what [`apply`](State::apply) does with an insert, and hands the pair back for a duplicate too.
+    /// Does what [`apply`](StateOf::apply) does with an insert, and hands the pair back for a duplicate too.
     ///
     /// After `OutOfMemory` index and history are as they were.
     pub fn insert(&mut self, key: K, value: V) -> Result<(), InsertError<K, V>>
@@ -144,6 +152,38 @@ impl<K: IndexKey + SameClone, V: SameClone> State<K, V> {
         Ok(Reply::Removed(was))
     }
 
+    // Answers a removal of a range. The bounds themselves go into the history.
+    fn remove_range(&mut self, low: Bound<K>, high: Bound<K>) -> Result<Reply<V>, Command<K, V>>
+        ensures ok { IfOk result (Appends K.cmp K.seen V.seen self.old self.new (Command.RemoveRange low high)) }
+        ensures handed_back { IfErr result (λ back. back ≡ Command.RemoveRange low high) }
+        ensures err { OnErr result (self.new ≡ self.old) }
+    {
+        if self.history.reserve(1).is_err() {
+            return Err(Command::RemoveRange(low, high));
+        }
+        self.index.remove_range_sync((low.as_ref(), high.as_ref()));
+        keep(
+            &mut self.history,
+            Command::RemoveRange(low, high),
+            Reply::Done,
+        );
+        Ok(Reply::Done)
+    }
+
+    // Answers a removal of all pairs.
+    fn clear(&mut self) -> Result<Reply<V>, Command<K, V>>
+        ensures ok { IfOk result (Appends K.cmp K.seen V.seen self.old self.new Command.Clear) }
+        ensures handed_back { IfErr result (λ back. back ≡ Command.Clear) }
+        ensures err { OnErr result (self.new ≡ self.old) }
+    {
+        if self.history.reserve(1).is_err() {
+            return Err(Command::Clear);
+        }
+        self.index.clear();
+        keep(&mut self.history, Command::Clear, Reply::Done);
+        Ok(Reply::Done)
+    }
+
     // Answers a look-up. A second clone of what it found goes into the history.
     fn look_up(&mut self, key: K) -> Result<Reply<V>, Command<K, V>>
         ensures ok { IfOk result (Appends K.cmp K.seen V.seen self.old self.new (Command.Peek key)) }
@@ -161,7 +201,7 @@ impl<K: IndexKey + SameClone, V: SameClone> State<K, V> {
     }
 }
 
-impl<K, V> fmt::Debug for State<K, V>
+impl<K, V, const LEN: usize> fmt::Debug for StateOf<K, V, LEN>
 where
     K: IndexKey + SameClone + fmt::Debug,
     V: SameClone + fmt::Debug,

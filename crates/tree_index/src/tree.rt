@@ -2,16 +2,19 @@
 ghost use Rattle.std.specs.Prelude.{◌≡◌, ◌⊎◌, [], ◌+◌, ◌*◌, ◌^◌, ◌<◌, ◌≤◌, length, Bool, MatchOption, None, Some, false};
 ghost use Rattle.std.specs.Fn.{FnOnceReturnsAt, FnOnceTakesAt};
 ghost use Rattle.std.specs.Option.{ForSome};
+ghost use Rattle.std.specs.Range.Bound.{bound_map};
 ghost use Rattle.tree_array.specs.Length.{IsLen, searched};
 ghost use Rattle.tree_model.specs.Pairs.{IsAbsent, pair_at};
 ghost use Rattle.tree_insert.specs.Inserts.{IsNew};
 ghost use Rattle.tree_node.specs.Shape.{room};
 ghost use Rattle.tree_node.specs.Tree.{IsRetired};
 ghost use Rattle.tree_node.specs.Whole.{depth_of, leaves_under};
-ghost use Rattle.tree_index.specs.Trees.{IsWhole, Stores, Takes, pairs_of, spare_of, told};
+ghost use Rattle.tree_index.specs.Trees.{Cuts, IsWhole, Stores, Takes, pairs_of, spare_of, told};
 
 use std::alloc::Global;
+use std::ops::Bound;
 use tree_array::array::{IndexKey, Judge, RemoveResult, StoreResult};
+use tree_cut::cutting::remove_range_at;
 use tree_insert::insertion::insert_at;
 use tree_insert::planting::plant;
 use tree_insert::root::split_root_at;
@@ -147,6 +150,32 @@ impl<K: IndexKey, V: Drop, const LEN: usize> Tree<K, V, LEN> {
                 true
             }
         }
+    }
+
+    /// Removes every pair whose key is within both bounds, and returns how many there were. Reversed bounds contain no
+    /// key.
+    ///
+    /// Drops whole parts of the tree between the bounds. Searches at most two arrays per level for each bound, and makes
+    /// at most two comparisons per slot of two leaves. Allocates nothing.
+    pub fn remove_range(&mut self, bounds: (Bound<&K>, Bound<&K>)) -> u128
+        requires { IsWhole K.cmp self.old }
+        ensures { Cuts K.cmp (bound_map (λ k. k.now) bounds.entry.0) (bound_map (λ k. k.now) bounds.entry.1) self.old self.new result }
+    {
+        let Some((root, depth)) = self.root else {
+            return 0;
+        };
+        let removed = remove_range_at(&mut self.arenas, depth, root, bounds);
+        self.root = lower_root_at(&mut self.arenas, depth, root);
+        removed.pairs
+    }
+
+    /// Removes all pairs. Keeps the memory of the arenas.
+    pub fn clear(&mut self)
+        ensures whole { IsWhole K.cmp self.new }
+        ensures root { self.new.root ≡ None }
+    {
+        self.arenas.clear();
+        self.root = None;
     }
 
     /// Returns the pair with the judge's key. Makes at most 4 comparisons per level and in the leaf with 15 slots,

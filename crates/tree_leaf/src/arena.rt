@@ -2,7 +2,7 @@
 ghost use Rattle.std.specs.Prelude.{◌≡◌, Some};
 ghost use Rattle.std.specs.Borrow.{sem};
 ghost use Rattle.slab.specs.Slab.{ContainsKey, get, slab_len};
-ghost use Rattle.tree_leaf.specs.Arena.{Adds, IsEmpty, Loses, Reserves};
+ghost use Rattle.tree_leaf.specs.Arena.{Adds, HasPlaces, IsEmpty, Loses, Reserves};
 
 use crate::leaf::LeafOf;
 use slab::Slab;
@@ -129,6 +129,16 @@ impl<K: Ord + Drop, V: Drop, N: Drop, const LEN: usize> SlotsOf<K, V, N, LEN> {
         ensures leaves { self.new.leaves ≡ self.old.leaves }
     {
         self.nodes.remove(id.0)
+    }
+
+    /// Drops every leaf and every node. No number is in use afterwards, and the arenas keep their memory: as many
+    /// leaves and nodes as had a place before can be added without allocating. Allocates nothing.
+    pub fn clear(&mut self)
+        ensures empty { IsEmpty self.new }
+        ensures places { HasPlaces self.new self.old.leaves.capacity self.old.nodes.capacity }
+    {
+        self.leaves.clear();
+        self.nodes.clear();
     }
 
     /// Returns how many leaves there are. Runs in constant time.

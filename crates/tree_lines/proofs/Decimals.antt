@@ -1,9 +1,12 @@
 -- Numbers that a word writes.
-use Rattle.std.proofs.Common.{◌≡◌, ℕ, zero, suc, ◌<◌, ◌≤◌, ◌^◌, List, [], ◌∷◌, length, Ok, refl, sym, ap, ◌∙◌, arith}
+use Rattle.std.proofs.Common.{◌≡◌, ℕ, zero, suc, ◌<◌, ◌≤◌, ◌^◌, List, [], ◌∷◌, length, Ok, refl, sym, ap, ◌∙◌, rules, arith}
 use Rattle.std.specs.Fmt.{decimal}
+use Rattle.std.specs.declared.ops.Bound.{Bound}
+use Rattle.std.specs.declared.ops.Bound.TheVariants.{Included, Excluded, Unbounded}
 use Rattle.std.specs.Str.Parse.{AllDigits, ParsesUnsigned, digits_value}
 use Rattle.std.proofs.lemmas.Fmt.{decimal_is_IsNumeral, decimal_digit, first_decimal, length-decimal-le, decimal-digits_value}
 use Rattle.std.proofs.lemmas.Str.Parse.{IsNumeralModel, numerals_by_value, tells_digits, parse_plain, digit_from_value}
+use Rattle.tree_lines.specs.Lines.{FitsBound, bound_text}
 use Rattle.tree_lines.specs.Words.{IsWord, IsPlain}
 
 -- digits contain no space
@@ -15,7 +18,13 @@ IsWord-digits (d ∷ ds) h = ((λ same. let digit = digit_from_value d h.0 in om
 pub IsWord-decimal : (n : ℕ) → n < 2 ^ 64 → IsWord (decimal n)
 IsWord-decimal n small = IsWord-digits (decimal n) (decimal_is_IsNumeral n small).0.1
 
--- it has no sign and no leading zero
+-- and so is a bound
+pub IsWord-bound : (bound : Bound ℕ) → FitsBound bound → IsWord (bound_text bound)
+IsWord-bound (Included n) small = (search rules, IsWord-decimal n small)
+IsWord-bound (Excluded n) small = (search rules, IsWord-decimal n small)
+IsWord-bound Unbounded small = search rules
+
+-- a number has no sign and no leading zero
 plain_by : (n : ℕ) → n < 2 ^ 64 → (ds : List ℕ) → ds ≡ decimal n → IsPlain ds
 plain_by zero small ds e = rw (e, decimal_digit 0 (omega arith)) ((λ same. omega (arith, same)), (λ same. refl))
 plain_by (suc n) small ds e =

@@ -1,6 +1,6 @@
 -- Words of a line.
-use Rattle.std.proofs.Common.{◌≡◌, ℕ, List, [], ◌∷◌, ◌++◌, refl, rules}
-use Rattle.std.specs.Prelude.{codes}
+use Rattle.std.proofs.Common.{◌≡◌, ℕ, List, [], ◌∷◌, ◌++◌, refl, sym, ◌∙◌, append-nil}
+use Rattle.tree_lines.specs.Lines.{behind_spaces}
 use Rattle.tree_lines.specs.Words.{IsWord, IsBehindWord}
 
 -- a text has one first word and one rest
@@ -21,30 +21,10 @@ one_first_word (c ∷ a) (d ∷ b) x y h k p q e =
     let front : a ≡ b = one.0 in
     (cc, one.1)
 
--- the names of requests are words
-pub insert_is_word : IsWord (codes "insert")
-insert_is_word = search rules
-
-pub upsert_is_word : IsWord (codes "upsert")
-upsert_is_word = search rules
-
-pub remove_is_word : IsWord (codes "remove")
-remove_is_word = search rules
-
-pub remove_if_is_word : IsWord (codes "remove_if")
-remove_if_is_word = search rules
-
-pub peek_is_word : IsWord (codes "peek")
-peek_is_word = search rules
-
-pub contains_is_word : IsWord (codes "contains")
-contains_is_word = search rules
-
-pub len_is_word : IsWord (codes "len")
-len_is_word = search rules
-
-pub depth_is_word : IsWord (codes "depth")
-depth_is_word = search rules
-
-pub spare_is_word : IsWord (codes "spare")
-spare_is_word = search rules
+-- and so one first word and one second
+pub one_two_words : (a b x y : List ℕ) → IsWord a → IsWord b → behind_spaces (a ∷ x ∷ []) ≡ behind_spaces (b ∷ y ∷ []) → (a ≡ b) × (x ≡ y)
+one_two_words a b x y h k e =
+    let words : a ++ (32 ∷ x ++ []) ≡ b ++ (32 ∷ y ++ []) = cc in
+    let parts = one_first_word a b (32 ∷ x ++ []) (32 ∷ y ++ []) h k refl refl words in
+    let second : x ++ [] ≡ y ++ [] = cc (parts.1) in
+    (parts.0, sym (append-nil x) ∙ second ∙ append-nil y)

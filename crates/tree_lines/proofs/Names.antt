@@ -3,9 +3,10 @@ use Rattle.std.proofs.Common.{◌≡◌, ℕ, List, false, refl, sym, ◌∙◌}
 use mathlib.Core.Bool.{false≢true}
 use Rattle.std.specs.Prelude.{codes}
 use Rattle.std.specs.Str.{bytes_eq}
+use Rattle.std.specs.declared.ops.Bound.{Bound}
 use Rattle.std.proofs.lemmas.Slice.Eq.{bytes_eq-Decides}
 use Rattle.tree_lines.specs.declared.requests.Request.{Request}
-use Rattle.tree_lines.specs.declared.requests.Request.TheVariants.{Insert, Upsert, Remove, RemoveIf, Peek, Contains, Len, Depth, Spare}
+use Rattle.tree_lines.specs.declared.requests.Request.TheVariants.{Insert, Upsert, Remove, RemoveIf, RemoveRange, Clear, Peek, Contains, Len, Depth, Spare}
 use Rattle.tree_lines.specs.Lines.{name_of}
 
 -- texts that differ somewhere are not equal
@@ -29,6 +30,10 @@ module _ (P : Request → Type 0) where
   only_remove_if each (RemoveIf key value) named = each key value
   only_remove_if each request named = apart (name_of request) (codes "remove_if") refl named
 
+  pub only_remove_range : ((low high : Bound ℕ) → P (RemoveRange low high)) → (request : Request) → name_of request ≡ codes "remove_range" → P request
+  only_remove_range each (RemoveRange low high) named = each low high
+  only_remove_range each request named = apart (name_of request) (codes "remove_range") refl named
+
   pub only_peek : ((key : ℕ) → P (Peek key)) → (request : Request) → name_of request ≡ codes "peek" → P request
   only_peek each (Peek key) named = each key
   only_peek each request named = apart (name_of request) (codes "peek") refl named
@@ -36,15 +41,3 @@ module _ (P : Request → Type 0) where
   pub only_contains : ((key : ℕ) → P (Contains key)) → (request : Request) → name_of request ≡ codes "contains" → P request
   only_contains each (Contains key) named = each key
   only_contains each request named = apart (name_of request) (codes "contains") refl named
-
-  pub only_len : P Len → (request : Request) → name_of request ≡ codes "len" → P request
-  only_len each Len named = each
-  only_len each request named = apart (name_of request) (codes "len") refl named
-
-  pub only_depth : P Depth → (request : Request) → name_of request ≡ codes "depth" → P request
-  only_depth each Depth named = each
-  only_depth each request named = apart (name_of request) (codes "depth") refl named
-
-  pub only_spare : P Spare → (request : Request) → name_of request ≡ codes "spare" → P request
-  only_spare each Spare named = each
-  only_spare each request named = apart (name_of request) (codes "spare") refl named

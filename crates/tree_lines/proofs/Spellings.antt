@@ -1,30 +1,35 @@
 -- The spelling of requests.
-use Rattle.std.proofs.Common.{◌≡◌, ℕ, ◌<◌, ◌≤◌, List, [], ◌∷◌, ◌++◌, length, Option, Some, None, refl, sym, ap, ◌∙◌, length-append, arith}
+use Rattle.std.proofs.Common.{◌≡◌, ℕ, ◌*◌, ◌^◌, ◌<◌, ◌≤◌, List, [], ◌∷◌, ◌++◌, length, Option, Some, None, refl, sym, ap, ◌∙◌, length-append, rules, arith}
 use Rattle.std.specs.Prelude.{nat_le, Bool, true, false}
 use Rattle.std.specs.Fmt.{decimal}
+use Rattle.std.specs.List.{AllByRecursion}
 use Rattle.std.specs.Str.{bytes_eq}
+use Rattle.std.specs.declared.ops.Bound.{Bound}
+use Rattle.std.specs.declared.ops.Bound.TheVariants.{Included, Excluded, Unbounded}
 use mathlib.Core.Bool.{false≢true}
 use Rattle.std.proofs.lemmas.Bool.Decides.{nat_tests}
 use Rattle.std.proofs.lemmas.Slice.Eq.{bytes_eq-Decides}
 use Rattle.tree_lines.specs.declared.requests.Request.{Request}
-use Rattle.tree_lines.specs.declared.requests.Request.TheVariants.{Insert, Upsert, Remove, RemoveIf, Peek, Contains, Len, Depth, Spare}
-use Rattle.tree_lines.specs.Lines.{Fits, name_of, arguments_of, behind_spaces, spelling}
+use Rattle.tree_lines.specs.declared.requests.Request.TheVariants.{Insert, Upsert, Remove, RemoveIf, RemoveRange, Clear, Peek, Contains, Len, Depth, Spare}
+use Rattle.tree_lines.specs.Lines.{Fits, FitsBound, name_of, arguments_of, behind_spaces, bound_text, spelling}
 use Rattle.tree_lines.specs.Words.{IsWord, IsBehindWord, ReadsAs, ReadsArguments}
 use Rattle.tree_lines.specs.Progress.{clip}
-use Rattle.tree_lines.proofs.FirstWords.{one_first_word, insert_is_word, upsert_is_word, remove_is_word, remove_if_is_word, peek_is_word, contains_is_word, depth_is_word, len_is_word, spare_is_word}
+use Rattle.tree_lines.proofs.FirstWords.{one_first_word}
 use Rattle.tree_lines.proofs.Decimals.{length-decimal}
 
 -- the name of a request is a word
 IsWord-name : (request : Request) → IsWord (name_of request)
-IsWord-name (Insert key value) = insert_is_word
-IsWord-name (Upsert key value) = upsert_is_word
-IsWord-name (Remove key) = remove_is_word
-IsWord-name (RemoveIf key value) = remove_if_is_word
-IsWord-name (Peek key) = peek_is_word
-IsWord-name (Contains key) = contains_is_word
-IsWord-name Len = len_is_word
-IsWord-name Depth = depth_is_word
-IsWord-name Spare = spare_is_word
+IsWord-name (Insert key value) = search rules
+IsWord-name (Upsert key value) = search rules
+IsWord-name (Remove key) = search rules
+IsWord-name (RemoveIf key value) = search rules
+IsWord-name (RemoveRange low high) = search rules
+IsWord-name Clear = search rules
+IsWord-name (Peek key) = search rules
+IsWord-name (Contains key) = search rules
+IsWord-name Len = search rules
+IsWord-name Depth = search rules
+IsWord-name Spare = search rules
 
 -- a space follows it, or nothing
 IsBehindWord-spaces : (words : List (List ℕ)) → IsBehindWord (behind_spaces words)
@@ -49,14 +54,30 @@ module _ (line word behind : List ℕ) (is_word : IsWord word) (is_behind : IsBe
 pub not_named : (word name text : List ℕ) → false ≡ bytes_eq word text → text ≡ name → word ≡ name → ⊥
 not_named word name text unequal same e = false≢true (unequal ∙ (bytes_eq-Decides word text).1 (e ∙ sym same))
 
+-- words of up to 21 bytes, each after a space
+length-spaces : (words : List (List ℕ)) → AllByRecursion (λ word. length word ≤ 21) words → length (behind_spaces words) ≤ 22 * length words
+length-spaces [] short = omega arith
+length-spaces (word ∷ words) short = omega (arith, length-append word (behind_spaces words), short.0, length-spaces words short.1)
+
+-- the arguments of a request are such words
+length-number : (n : ℕ) → n < 2 ^ 64 → length (decimal n) ≤ 21
+length-number n small = omega (arith, length-decimal n small)
+
+length-bound : (bound : Bound ℕ) → FitsBound bound → length (bound_text bound) ≤ 21
+length-bound (Included n) small = omega (arith, length-decimal n small)
+length-bound (Excluded n) small = omega (arith, length-decimal n small)
+length-bound Unbounded small = omega arith
+
 -- a request is a short line
 spelling_short : (request : Request) → Fits request → length (spelling request) ≤ 256
-spelling_short (Insert key value) fits = omega (arith, length-decimal key fits.0, length-decimal value fits.1, length-append (decimal key) (32 ∷ decimal value ++ []), length-append (decimal value) [])
-spelling_short (Upsert key value) fits = omega (arith, length-decimal key fits.0, length-decimal value fits.1, length-append (decimal key) (32 ∷ decimal value ++ []), length-append (decimal value) [])
-spelling_short (Remove key) fits = omega (arith, length-decimal key fits, length-append (decimal key) [])
-spelling_short (RemoveIf key value) fits = omega (arith, length-decimal key fits.0, length-decimal value fits.1, length-append (decimal key) (32 ∷ decimal value ++ []), length-append (decimal value) [])
-spelling_short (Peek key) fits = omega (arith, length-decimal key fits, length-append (decimal key) [])
-spelling_short (Contains key) fits = omega (arith, length-decimal key fits, length-append (decimal key) [])
+spelling_short (Insert key value) fits = omega (arith, length-spaces (decimal key ∷ decimal value ∷ []) (length-number key fits.0, (length-number value fits.1, tt)))
+spelling_short (Upsert key value) fits = omega (arith, length-spaces (decimal key ∷ decimal value ∷ []) (length-number key fits.0, (length-number value fits.1, tt)))
+spelling_short (Remove key) fits = omega (arith, length-spaces (decimal key ∷ []) (length-number key fits, tt))
+spelling_short (RemoveIf key value) fits = omega (arith, length-spaces (decimal key ∷ decimal value ∷ []) (length-number key fits.0, (length-number value fits.1, tt)))
+spelling_short (RemoveRange low high) fits = omega (arith, length-spaces (bound_text low ∷ bound_text high ∷ []) (length-bound low fits.0, (length-bound high fits.1, tt)))
+spelling_short Clear fits = omega arith
+spelling_short (Peek key) fits = omega (arith, length-spaces (decimal key ∷ []) (length-number key fits, tt))
+spelling_short (Contains key) fits = omega (arith, length-spaces (decimal key ∷ []) (length-number key fits, tt))
 spelling_short Len fits = omega arith
 spelling_short Depth fits = omega arith
 spelling_short Spare fits = omega arith

@@ -3,10 +3,12 @@ use Rattle.std.specs.Prelude.{◌≡◌, ◌≢◌, ◌⊎◌, ℕ, ◌*◌, ◌
 use Rattle.std.specs.List.{AllByRecursion, flat_map}
 use Rattle.std.specs.Option.{option_map_or}
 use Rattle.std.specs.Ordering.{nat_cmp}
-use Rattle.tree_model.specs.Pairs.{pair_at, put, without}
+use Rattle.std.specs.declared.ops.Bound.{Bound}
+use Rattle.std.specs.declared.ops.Bound.TheVariants.{Included, Excluded, Unbounded}
+use Rattle.tree_model.specs.Pairs.{cut, pair_at, put, without}
 use Rattle.tree_model.specs.Edits.{RemovesIf}
 use Rattle.tree_lines.specs.declared.requests.Request.{Request}
-use Rattle.tree_lines.specs.declared.requests.Request.TheVariants.{Insert, Upsert, Remove, RemoveIf, Peek, Contains, Len, Depth, Spare}
+use Rattle.tree_lines.specs.declared.requests.Request.TheVariants.{Insert, Upsert, Remove, RemoveIf, RemoveRange, Clear, Peek, Contains, Len, Depth, Spare}
 
 -- a line contains no line feed
 abbrev pub IsLine : List ℕ → Type 0
@@ -37,11 +39,19 @@ name_of (Insert key value) = codes "insert"
 name_of (Upsert key value) = codes "upsert"
 name_of (Remove key) = codes "remove"
 name_of (RemoveIf key value) = codes "remove_if"
+name_of (RemoveRange low high) = codes "remove_range"
+name_of Clear = codes "clear"
 name_of (Peek key) = codes "peek"
 name_of (Contains key) = codes "contains"
 name_of Len = codes "len"
 name_of Depth = codes "depth"
 name_of Spare = codes "spare"
+
+-- the spelling of a bound: `[n` includes n, `(n` excludes it, and `-` leaves the end open
+abbrev pub bound_text : Bound ℕ → List ℕ
+bound_text (Included n) = codes "[" ++ decimal n
+bound_text (Excluded n) = codes "(" ++ decimal n
+bound_text Unbounded = codes "-"
 
 -- the other words of a request; a number is written in decimal digits without a leading zero
 abbrev pub arguments_of : Request → List (List ℕ)
@@ -49,6 +59,8 @@ arguments_of (Insert key value) = decimal key ∷ decimal value ∷ []
 arguments_of (Upsert key value) = decimal key ∷ decimal value ∷ []
 arguments_of (Remove key) = decimal key ∷ []
 arguments_of (RemoveIf key value) = decimal key ∷ decimal value ∷ []
+arguments_of (RemoveRange low high) = bound_text low ∷ bound_text high ∷ []
+arguments_of Clear = []
 arguments_of (Peek key) = decimal key ∷ []
 arguments_of (Contains key) = decimal key ∷ []
 arguments_of Len = []
@@ -63,12 +75,20 @@ behind_spaces words = flat_map (λ word. 32 ∷ word) words
 abbrev pub spelling : Request → List ℕ
 spelling request = name_of request ++ behind_spaces (arguments_of request)
 
+-- the number of a bound fits in 64 bits
+abbrev pub FitsBound : Bound ℕ → Type 0
+FitsBound (Included n) = n < 2 ^ 64
+FitsBound (Excluded n) = n < 2 ^ 64
+FitsBound Unbounded = ⊤
+
 -- the numbers of a request fit in 64 bits
 abbrev pub Fits : Request → Type 0
 Fits (Insert key value) = (key < 2 ^ 64) × (value < 2 ^ 64)
 Fits (Upsert key value) = (key < 2 ^ 64) × (value < 2 ^ 64)
 Fits (Remove key) = key < 2 ^ 64
 Fits (RemoveIf key value) = (key < 2 ^ 64) × (value < 2 ^ 64)
+Fits (RemoveRange low high) = FitsBound low × FitsBound high
+Fits Clear = ⊤
 Fits (Peek key) = key < 2 ^ 64
 Fits (Contains key) = key < 2 ^ 64
 Fits Len = ⊤
@@ -93,6 +113,8 @@ Answers old (Insert key value) answer new =
 Answers old (Upsert key value) answer new = ((answer ≡ codes "ok") × (new ≡ put nat_cmp old key value)) ⊎ ((answer ≡ codes "refused") × (new ≡ old))
 Answers old (Remove key) answer new = (answer ≡ truth (is_some (pair_at nat_cmp old key))) × (new ≡ without nat_cmp old key)
 Answers old (RemoveIf key value) answer new = (removed : Bool) × RemovesIf nat_cmp (SaysEqual value) old key removed new × (answer ≡ truth removed)
+Answers old (RemoveRange low high) answer new = (answer ≡ codes "ok") × (new ≡ cut nat_cmp old low high)
+Answers old Clear answer new = (answer ≡ codes "ok") × (new ≡ [])
 Answers old (Contains key) answer new = (answer ≡ truth (is_some (pair_at nat_cmp old key))) × (new ≡ old)
 Answers old Len answer new = (answer ≡ decimal (min (length old) (2 ^ 64 - 1))) × (new ≡ old)
 Answers old Depth answer new = (depth : ℕ) × (length old ≤ 15 * 16 ^ depth) × (answer ≡ decimal depth) × (new ≡ old)

@@ -4,13 +4,13 @@ use Rattle.std.specs.List.{AllByRecursion}
 use Rattle.std.specs.Io.KnownBytes.{Appends}
 use Rattle.tree_lines.specs.declared.requests.Request.{Request}
 use Rattle.tree_lines.specs.declared.answers.Answer.{Answer}
-use Rattle.tree_lines.specs.declared.answers.Answer.TheVariants.{Stored, Duplicate, Refused, Missing, Truth, Unknown, Value}
+use Rattle.tree_lines.specs.declared.answers.Answer.TheVariants.{Done, Duplicate, Refused, Missing, Truth, Unknown, Value}
 use Rattle.tree_lines.specs.Lines.{IsLine, with_feed, text_of, HasLines, last_line, Script, Says, Answers, truth}
 use Rattle.tree_lines.specs.Writing.{IsFront}
 
 -- the text of an answer
 abbrev pub answer_text : Answer → List ℕ
-answer_text Stored = codes "ok"
+answer_text Done = codes "ok"
 answer_text Duplicate = codes "duplicate"
 answer_text Refused = codes "refused"
 answer_text Missing = codes "none"

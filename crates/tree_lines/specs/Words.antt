@@ -1,8 +1,9 @@
 -- The words of a line, and what a parser reads in them.
 use Rattle.std.specs.Prelude.{◌≡◌, ◌≢◌, ℕ, ◌^◌, ◌<◌, List, [], ◌∷◌, Option, Some, None, ⊤, length, decimal, slice_index}
 use Rattle.std.specs.List.{AllByRecursion}
+use Rattle.std.specs.declared.ops.Bound.{Bound}
 use Rattle.tree_lines.specs.declared.requests.Request.{Request}
-use Rattle.tree_lines.specs.Lines.{Fits, name_of, arguments_of, behind_spaces}
+use Rattle.tree_lines.specs.Lines.{Fits, FitsBound, name_of, arguments_of, behind_spaces, bound_text}
 
 -- a word contains no space
 abbrev pub IsWord : List ℕ → Type 0
@@ -34,6 +35,13 @@ FitsWord n = n < 2 ^ 64
 
 abbrev pub BothFit : ℕ × ℕ → Type 0
 BothFit pair = FitsWord pair.0 × FitsWord pair.1
+
+-- two bounds, each after a space
+abbrev pub two_bounds : Bound ℕ × Bound ℕ → List ℕ
+two_bounds bounds = behind_spaces (bound_text bounds.0 ∷ bound_text bounds.1 ∷ [])
+
+abbrev pub BothBoundsFit : Bound ℕ × Bound ℕ → Type 0
+BothBoundsFit bounds = FitsBound bounds.0 × FitsBound bounds.1
 
 -- a word with neither a plus sign nor a leading zero
 abbrev pub IsPlain : List ℕ → Type 0

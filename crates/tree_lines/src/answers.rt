@@ -17,7 +17,7 @@ use tree_index::{InsertError, TreeIndex};
 #[derive(Clone, Copy, Debug)]
 pub enum Answer {
     /// `ok`.
-    Stored,
+    Done,
     /// `duplicate`.
     Duplicate,
     /// `refused`: the index could not allocate.
@@ -50,16 +50,24 @@ fn respond(index: &mut TreeIndex<u64, u64>, request: Option<Request>) -> Answer
     match request {
         None => Answer::Unknown,
         Some(Request::Insert(key, value)) => match index.insert_sync(key, value) {
-            Ok(()) => Answer::Stored,
+            Ok(()) => Answer::Done,
             Err(InsertError::Duplicate(_, _)) => Answer::Duplicate,
             Err(InsertError::OutOfMemory(_, _)) => Answer::Refused,
         },
         Some(Request::Upsert(key, value)) => match index.upsert_sync(key, value) {
-            Ok(()) => Answer::Stored,
+            Ok(()) => Answer::Done,
             Err(_) => Answer::Refused,
         },
         Some(Request::Remove(key)) => Answer::Truth(index.remove_sync(&key)),
         Some(Request::RemoveIf(key, value)) => Answer::Truth(remove_value(index, key, value)),
+        Some(Request::RemoveRange(low, high)) => {
+            index.remove_range_sync((low.as_ref(), high.as_ref()));
+            Answer::Done
+        }
+        Some(Request::Clear) => {
+            index.clear();
+            Answer::Done
+        }
         Some(Request::Contains(key)) => Answer::Truth(index.contains(&key)),
         Some(Request::Len) => Answer::Value(index.len() as u64),
         Some(Request::Depth) => Answer::Value(index.depth() as u64),
@@ -86,7 +94,7 @@ pub fn write_answer<W: Write>(output: &mut W, answer: Answer) -> Result<(), Writ
         (W.contents output.old) (W.contents output.new) result }
 {
     match answer {
-        Answer::Stored => write_whole(output, b"ok\n"),
+        Answer::Done => write_whole(output, b"ok\n"),
         Answer::Duplicate => write_whole(output, b"duplicate\n"),
         Answer::Refused => write_whole(output, b"refused\n"),
         Answer::Missing => write_whole(output, b"none\n"),

@@ -4,6 +4,7 @@
 
 mod answers;
 mod begun_line;
+mod bounds;
 mod lines;
 mod numbers;
 mod requests;

@@ -2,7 +2,7 @@
 ghost use Rattle.std.specs.Prelude.{◌↔◌, IsTrue, decimal};
 ghost use Rattle.tree_lines.specs.Words.{BothFit, FitsWord, IsPlain, ReadsAs, one_number, two_numbers};
 
-use crate::words::{behind_space, first_word};
+use crate::words::{behind_space, two_words_of};
 
 /// Parses a space and a number. Returns `None` if the text is anything else.
 pub fn one_number_of(text: &[u8]) -> Option<u64>
@@ -18,21 +18,12 @@ pub fn one_number_of(text: &[u8]) -> Option<u64>
 pub fn two_numbers_of(text: &[u8]) -> Option<(u64, u64)>
     ensures { ReadsAs BothFit two_numbers text.now result }
 {
-    let Some(words) = behind_space(text) else {
-        return None;
-    };
-    let (word, rest) = first_word(words);
-    let Some(first) = number_of(word) else {
-        return None;
-    };
-    let Some(second) = one_number_of(rest) else {
-        return None;
-    };
-    Some((first, second))
+    let (first, second) = two_words_of(text)?;
+    Some((number_of(first)?, number_of(second)?))
 }
 
-// Parses a number. Returns `None` if the word is anything else or the number exceeds `u64`.
-fn number_of(word: &[u8]) -> Option<u64>
+/// Parses a number. Returns `None` if the word is anything else or the number exceeds `u64`.
+pub fn number_of(word: &[u8]) -> Option<u64>
     ensures { ReadsAs FitsWord decimal word.now result }
 {
     if !is_plain(word) {

@@ -3,8 +3,10 @@ ghost use Rattle.std.specs.Prelude.{codes};
 ghost use Rattle.tree_lines.specs.Lines.{Fits, spelling};
 ghost use Rattle.tree_lines.specs.Words.{ReadsArguments, ReadsAs};
 
+use crate::bounds::two_bounds_of;
 use crate::numbers::{one_number_of, two_numbers_of};
 use crate::words::first_word;
+use std::ops::Bound;
 
 /// A request to an index of `u64` keys and values, as one line spells it.
 #[derive(Clone, Copy, Debug, PartialEq, Eq)]
@@ -17,6 +19,10 @@ pub enum Request {
     Remove(u64),
     /// `remove_if K V`: removes the pair at a key if it has this value.
     RemoveIf(u64, u64),
+    /// `remove_range LO HI`: removes every pair whose key is within both bounds.
+    RemoveRange(Bound<u64>, Bound<u64>),
+    /// `clear`: removes all pairs.
+    Clear,
     /// `peek K`: asks for the value at a key.
     Peek(u64),
     /// `contains K`: asks whether a key is present.
@@ -45,6 +51,12 @@ pub fn request_of(line: &[u8]) -> Option<Request>
     }
     if name == b"remove_if".as_slice() {
         return remove_if_of(arguments);
+    }
+    if name == b"remove_range".as_slice() {
+        return remove_range_of(arguments);
+    }
+    if name == b"clear".as_slice() {
+        return clear_of(arguments);
     }
     if name == b"peek".as_slice() {
         return peek_of(arguments);
@@ -102,6 +114,26 @@ fn remove_if_of(arguments: &[u8]) -> Option<Request>
         Some((key, value)) => Some(Request::RemoveIf(key, value)),
         None => None,
     }
+}
+
+// Parses the arguments of `remove_range`.
+fn remove_range_of(arguments: &[u8]) -> Option<Request>
+    ensures { ReadsArguments (codes "remove_range") arguments.now result }
+{
+    match two_bounds_of(arguments) {
+        Some((low, high)) => Some(Request::RemoveRange(low, high)),
+        None => None,
+    }
+}
+
+// Parses `clear`, which has no arguments.
+fn clear_of(arguments: &[u8]) -> Option<Request>
+    ensures { ReadsArguments (codes "clear") arguments.now result }
+{
+    if arguments.is_empty() {
+        return Some(Request::Clear);
+    }
+    None
 }
 
 // Parses the argument of `peek`.

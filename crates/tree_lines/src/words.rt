@@ -1,5 +1,6 @@
 //! Divides a line into words.
-ghost use Rattle.std.specs.Prelude.{◌≡◌, ◌≢◌, ℕ, List, ◌∷◌, ◌++◌, MatchOption};
+ghost use Rattle.std.specs.Prelude.{◌≡◌, ◌≢◌, ℕ, List, [], ◌∷◌, ◌++◌, MatchOption};
+ghost use Rattle.tree_lines.specs.Lines.{behind_spaces};
 ghost use Rattle.tree_lines.specs.Words.{IsWord, IsBehindWord};
 
 /// Returns the bytes before the first space, and the rest from that space on.
@@ -25,4 +26,14 @@ pub fn behind_space(text: &[u8]) -> Option<&[u8]>
         [b' ', rest @ ..] => Some(rest),
         _ => None,
     }
+}
+
+/// Returns the first word and what follows the second space, if the text has two spaces and one is its first byte, else
+/// `None`.
+pub fn two_words_of(text: &[u8]) -> Option<(&[u8], &[u8])>
+    ensures { MatchOption result ((first second : List ℕ) → IsWord first → text.now ≢ behind_spaces (first ∷ second ∷ []))
+        (λ words. IsWord words.0.now × (text.now ≡ behind_spaces (words.0.now ∷ words.1.now ∷ []))) }
+{
+    let (first, rest) = first_word(behind_space(text)?);
+    Some((first, behind_space(rest)?))
 }

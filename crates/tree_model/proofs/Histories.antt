@@ -1,19 +1,21 @@
 -- A history that an answered command is added to goes on replaying to the entries, and a history replays to one list.
 use Rattle.std.proofs.Common.{◌≡◌, List, [], ◌∷◌, ◌++◌, Option, Some, None, refl, sym, ap, ◌∙◌, subst, rules, Bool, true, false, cond}
-use Rattle.std.specs.Prelude.{filter, option_map, IsSome}
+use Rattle.std.specs.Prelude.{filter, option_map, IsSome, not}
 use Rattle.std.specs.Cmp.{IsTotalOrder}
 use Rattle.std.specs.declared.cmp.Ordering.{Ordering}
 use Rattle.std.specs.declared.cmp.Ordering.TheVariants.{Equal}
-use Rattle.std.specs.Ordering.{is_lt, is_eq, is_gt}
+use Rattle.std.specs.declared.ops.Bound.{Bound}
+use Rattle.std.specs.declared.ops.Bound.TheVariants.{Included, Excluded, Unbounded}
+use Rattle.std.specs.Ordering.{is_lt, is_le, is_eq, is_gt}
 use Rattle.std.proofs.lemmas.Cmp.{alike_right, tied_itself}
 use Rattle.tree_model.specs.declared.commands.Command.{Command}
-use Rattle.tree_model.specs.declared.commands.Command.TheVariants.{Insert, Upsert, Remove, Peek}
+use Rattle.tree_model.specs.declared.commands.Command.TheVariants.{Insert, Upsert, Remove, RemoveRange, Clear, Peek}
 use Rattle.tree_model.specs.declared.commands.Reply.{Reply}
-use Rattle.tree_model.specs.declared.commands.Reply.TheVariants.{Stored, Duplicate, Removed, Found, Refused}
+use Rattle.tree_model.specs.declared.commands.Reply.TheVariants.{Stored, Duplicate, Removed, Done, Found, Refused}
 use Rattle.tree_model.specs.declared.commands.Record.{Record}
-use Rattle.tree_model.specs.Pairs.{below, IsAbsent, IsPresent, pair_at, put, without}
+use Rattle.tree_model.specs.Pairs.{below, IsAbsent, IsPresent, pair_at, put, without, meets_lower, meets_upper, within, cut}
 use Rattle.tree_model.specs.Runs.{Step}
-use Rattle.tree_model.specs.History.{IsAnswered, Replays, IsSameKey, IsSamePairs, IsSameCommand, IsSameReply, IsHistoryOf}
+use Rattle.tree_model.specs.History.{IsAnswered, Replays, IsSameBound, IsSameKey, IsSamePairs, IsSameCommand, IsSameReply, IsHistoryOf}
 
 -- one more record at the end
 Replays-push : {K V S : Type 0} (cmp : K → K → Ordering) (seen : V → S) (old : List (K × V)) (records : List (Record K V)) (mid new : List (K × V)) (r : Record K V) → Replays cmp seen old records mid → IsAnswered r.reply → Step cmp seen mid r.command r.reply new → Replays cmp seen old (records ++ r ∷ []) new
@@ -75,6 +77,28 @@ module _ {K V A B : Type 0} {cmp : K → K → Ordering} (o : IsTotalOrder cmp) 
   present_back : (ps qs : List (K × V)) → IsSamePairs cmp seen_key seen ps qs → IsPresent cmp qs k → IsPresent cmp ps key
   present_back ps qs h = both_some _ _ _ _ (sym (same_at ps qs h))
 
+module _ {K V A B : Type 0} {cmp : K → K → Ordering} (o : IsTotalOrder cmp) (seen_key : K → A) (seen : V → B) where
+  -- clones of a bound are met by the clones of the keys that meet it
+  same_lower : (bound b : Bound K) → IsSameBound cmp seen_key bound b → (x y : K) → IsSameKey cmp seen_key x y → meets_lower cmp bound x ≡ meets_lower cmp b y
+  same_lower (Included key) (Included k) same x y e = ap is_le (same_cmp o seen_key seen x y e key k same.equal)
+  same_lower (Excluded key) (Excluded k) same x y e = ap is_lt (same_cmp o seen_key seen x y e key k same.equal)
+  same_lower Unbounded Unbounded same x y e = refl
+  same_lower bound b same x y e = absurd same
+
+  same_upper : (bound b : Bound K) → IsSameBound cmp seen_key bound b → (x y : K) → IsSameKey cmp seen_key x y → meets_upper cmp bound x ≡ meets_upper cmp b y
+  same_upper (Included key) (Included k) same x y e = ap is_le (same_cmp o seen_key seen key k same x y e.equal)
+  same_upper (Excluded key) (Excluded k) same x y e = ap is_lt (same_cmp o seen_key seen key k same x y e.equal)
+  same_upper Unbounded Unbounded same x y e = refl
+  same_upper bound b same x y e = absurd same
+
+  same-cut : (low l high h : Bound K) → IsSameBound cmp seen_key low l → IsSameBound cmp seen_key high h → (ps qs : List (K × V)) → IsSamePairs cmp seen_key seen ps qs → IsSamePairs cmp seen_key seen (cut cmp ps low high) (cut cmp qs l h)
+  same-cut low l high h same_low same_high [] [] alike = tt
+  same-cut low l high h same_low same_high [] (q ∷ qs) alike = absurd alike
+  same-cut low l high h same_low same_high (p ∷ ps) [] alike = absurd alike
+  same-cut low l high h same_low same_high (p ∷ ps) (q ∷ qs) alike =
+      let again = same-cut low l high h same_low same_high ps qs alike.2 in
+      rw (same_lower low l same_low p.0 q.0 alike.0, same_upper high h same_high p.0 q.0 alike.0) (elim (not (within cmp l h q.0)) as (λ b. IsSamePairs cmp seen_key seen (cond b (p ∷ cut cmp ps low high) (cut cmp ps low high)) (cond b (q ∷ cut cmp qs l h) (cut cmp qs l h))) [ true ↦ (alike.0, alike.1, again) | false ↦ again ])
+
 -- A step on the entries is the same step, of the clones, on what the history replays to.
 abbrev StepsAlike : {K V A B : Type 0} → (K → K → Ordering) → (K → A) → (V → B) → List (K × V) → Command K V → Reply V → List (K × V) → Type 0
 StepsAlike {K} {V} cmp seen_key seen l c r new = (m : List (K × V)) × Step cmp seen l c r m × IsSamePairs cmp seen_key seen new m
@@ -85,6 +109,7 @@ module _ {K V A B : Type 0} {cmp : K → K → Ordering} (o : IsTotalOrder cmp) 
   same_insert value v alike Duplicate Duplicate e step = (l, (present_too o seen_key seen key k same_key old l h step.0, refl), rw step.1 h)
   same_insert value v alike Refused Refused e step = (l, (absent_too o seen_key seen key k same_key old l h step.0, refl), rw step.1 h)
   same_insert value v alike (Removed was) r e step = absurd step
+  same_insert value v alike Done r e step = absurd step
   same_insert value v alike (Found found) r e step = absurd step
   same_insert value v alike reply r e step = absurd e
 
@@ -93,6 +118,7 @@ module _ {K V A B : Type 0} {cmp : K → K → Ordering} (o : IsTotalOrder cmp) 
   same_upsert value v alike Refused Refused e step = (l, refl, rw step h)
   same_upsert value v alike Duplicate r e step = absurd step
   same_upsert value v alike (Removed was) r e step = absurd step
+  same_upsert value v alike Done r e step = absurd step
   same_upsert value v alike (Found found) r e step = absurd step
   same_upsert value v alike reply r e step = absurd e
 
@@ -101,6 +127,7 @@ module _ {K V A B : Type 0} {cmp : K → K → Ordering} (o : IsTotalOrder cmp) 
       (without cmp l k, (((λ yes. present_too o seen_key seen key k same_key old l h (step.0.0 (e ∙ yes))), (λ there. sym e ∙ step.0.1 (present_back o seen_key seen key k same_key old l h there))), refl), rw step.1 (same-without o seen_key seen key k same_key old l h))
   same_remove Stored r e step = absurd step
   same_remove Duplicate r e step = absurd step
+  same_remove Done r e step = absurd step
   same_remove (Found found) r e step = absurd step
   same_remove Refused r e step = absurd step
   same_remove reply r e step = absurd e
@@ -111,12 +138,35 @@ module _ {K V A B : Type 0} {cmp : K → K → Ordering} (o : IsTotalOrder cmp) 
   same_peek Stored r e step = absurd step
   same_peek Duplicate r e step = absurd step
   same_peek (Removed was) r e step = absurd step
+  same_peek Done r e step = absurd step
   same_peek reply r e step = absurd e
+
+module _ {K V A B : Type 0} {cmp : K → K → Ordering} (o : IsTotalOrder cmp) (seen_key : K → A) (seen : V → B) (old new l : List (K × V)) where
+  same_remove_range : IsSamePairs cmp seen_key seen old l → (low f high u : Bound K) → IsSameBound cmp seen_key low f → IsSameBound cmp seen_key high u → (reply r : Reply V) → IsSameReply cmp seen_key seen reply r → Step cmp seen old (RemoveRange low high) reply new
+      → StepsAlike cmp seen_key seen l (RemoveRange f u) r new
+  same_remove_range h low f high u same_low same_high Done Done e step = (cut cmp l f u, refl, rw step (same-cut o seen_key seen low f high u same_low same_high old l h))
+  same_remove_range h low f high u same_low same_high Stored r e step = absurd step
+  same_remove_range h low f high u same_low same_high Duplicate r e step = absurd step
+  same_remove_range h low f high u same_low same_high (Removed was) r e step = absurd step
+  same_remove_range h low f high u same_low same_high (Found found) r e step = absurd step
+  same_remove_range h low f high u same_low same_high Refused r e step = absurd step
+  same_remove_range h low f high u same_low same_high reply r e step = absurd e
+
+  same_clear : (reply r : Reply V) → IsSameReply cmp seen_key seen reply r → Step cmp seen old Clear reply new → StepsAlike cmp seen_key seen l Clear r new
+  same_clear Done Done e step = ([], refl, rw step tt)
+  same_clear Stored r e step = absurd step
+  same_clear Duplicate r e step = absurd step
+  same_clear (Removed was) r e step = absurd step
+  same_clear (Found found) r e step = absurd step
+  same_clear Refused r e step = absurd step
+  same_clear reply r e step = absurd e
 
 same_step : {K V A B : Type 0} {cmp : K → K → Ordering} (o : IsTotalOrder cmp) (seen_key : K → A) (seen : V → B) (old new l : List (K × V)) (command c : Command K V) (reply r : Reply V) → IsSamePairs cmp seen_key seen old l → IsSameCommand cmp seen_key seen command c → IsSameReply cmp seen_key seen reply r → Step cmp seen old command reply new → StepsAlike cmp seen_key seen l c r new
 same_step o seen_key seen old new l (Insert key value) (Insert k v) reply r h same e step = same_insert o seen_key seen old new l h key k same.0 value v same.1 reply r e step
 same_step o seen_key seen old new l (Upsert key value) (Upsert k v) reply r h same e step = same_upsert o seen_key seen old new l h key k same.0 value v same.1 reply r e step
 same_step o seen_key seen old new l (Remove key) (Remove k) reply r h same e step = same_remove o seen_key seen old new l h key k same reply r e step
+same_step o seen_key seen old new l (RemoveRange low high) (RemoveRange f u) reply r h same e step = same_remove_range o seen_key seen old new l h low f high u same.0 same.1 reply r e step
+same_step o seen_key seen old new l Clear Clear reply r h same e step = same_clear o seen_key seen old new l reply r e step
 same_step o seen_key seen old new l (Peek key) (Peek k) reply r h same e step = same_peek o seen_key seen old new l h key k same reply r e step
 same_step o seen_key seen old new l command c reply r h same e step = absurd same
 
@@ -129,6 +179,12 @@ history_grows {cmp = cmp} o seen_key seen history old new command reply kept h s
 -- a key is itself
 pub same_key_itself : {K A : Type 0} {cmp : K → K → Ordering} (o : IsTotalOrder cmp) (seen_key : K → A) (key : K) → IsSameKey cmp seen_key key key
 same_key_itself o seen_key key = record { equal = tied_itself o key; alike = refl }
+
+-- and so is a bound
+pub same_bound_itself : {K A : Type 0} {cmp : K → K → Ordering} (o : IsTotalOrder cmp) (seen_key : K → A) (bound : Bound K) → IsSameBound cmp seen_key bound bound
+same_bound_itself o seen_key (Included key) = same_key_itself o seen_key key
+same_bound_itself o seen_key (Excluded key) = same_key_itself o seen_key key
+same_bound_itself o seen_key Unbounded = tt
 
 -- what is seen of a pair's value
 pub seen_value : {K V B : Type 0} (seen : V → B) (found : Option (K × V)) → option_map seen (option_map (λ pair. pair.1) found) ≡ option_map (λ pair. seen pair.1) found
@@ -143,6 +199,8 @@ one_step cmp seen old l m (Insert k v) Refused h i = h.1 ∙ sym i.1
 one_step cmp seen old l m (Upsert k v) Stored h i = h ∙ sym i
 one_step cmp seen old l m (Upsert k v) Refused h i = h ∙ sym i
 one_step cmp seen old l m (Remove k) (Removed was) h i = h.1 ∙ sym i.1
+one_step cmp seen old l m (RemoveRange low high) Done h i = h ∙ sym i
+one_step cmp seen old l m Clear Done h i = h ∙ sym i
 one_step cmp seen old l m (Peek k) (Found found) h i = h.1 ∙ sym i.1
 one_step cmp seen old l m (Peek k) Refused h i = h.1 ∙ sym i.1
 one_step cmp seen old l m command reply h i = absurd h

@@ -2,10 +2,12 @@
 use Rattle.std.specs.Prelude.{◌≡◌, List, [], ◌∷◌, ◌++◌, ⊤, option_map}
 use Rattle.std.specs.declared.cmp.Ordering.{Ordering}
 use Rattle.std.specs.declared.cmp.Ordering.TheVariants.{Equal}
+use Rattle.std.specs.declared.ops.Bound.{Bound}
+use Rattle.std.specs.declared.ops.Bound.TheVariants.{Included, Excluded, Unbounded}
 use Rattle.tree_model.specs.declared.commands.Command.{Command}
-use Rattle.tree_model.specs.declared.commands.Command.TheVariants.{Insert, Upsert, Remove, Peek}
+use Rattle.tree_model.specs.declared.commands.Command.TheVariants.{Insert, Upsert, Remove, RemoveRange, Clear, Peek}
 use Rattle.tree_model.specs.declared.commands.Reply.{Reply}
-use Rattle.tree_model.specs.declared.commands.Reply.TheVariants.{Stored, Duplicate, Removed, Found, Refused}
+use Rattle.tree_model.specs.declared.commands.Reply.TheVariants.{Stored, Duplicate, Removed, Done, Found, Refused}
 use Rattle.tree_model.specs.declared.commands.Record.{Record}
 use Rattle.tree_model.specs.Runs.{Step}
 
@@ -19,6 +21,7 @@ abbrev pub IsAnswered : {V : Type 0} → Reply V → Type 0
 IsAnswered Stored = ⊤
 IsAnswered Duplicate = ⊤
 IsAnswered (Removed was) = ⊤
+IsAnswered Done = ⊤
 IsAnswered (Found found) = ⊤
 IsAnswered Refused = ⊥
 
@@ -32,6 +35,13 @@ pub record IsSameKey {K A : Type 0} (cmp : K → K → Ordering) (seen_key : K �
   pub equal : cmp key k ≡ Equal
   pub alike : seen_key key ≡ seen_key k
 
+-- bounds of one kind at one key
+abbrev pub IsSameBound : {K A : Type 0} → (K → K → Ordering) → (K → A) → Bound K → Bound K → Type 0
+IsSameBound cmp seen_key (Included key) (Included k) = IsSameKey cmp seen_key key k
+IsSameBound cmp seen_key (Excluded key) (Excluded k) = IsSameKey cmp seen_key key k
+IsSameBound cmp seen_key Unbounded Unbounded = ⊤
+IsSameBound cmp seen_key _ _ = ⊥
+
 module _ {K V A B : Type 0} (cmp : K → K → Ordering) (seen_key : K → A) (seen : V → B) where
   abbrev pub IsSamePairs : List (K × V) → List (K × V) → Type 0
   IsSamePairs [] [] = ⊤
@@ -43,6 +53,8 @@ module _ {K V A B : Type 0} (cmp : K → K → Ordering) (seen_key : K → A) (s
   IsSameCommand (Insert key value) (Insert k v) = IsSameKey cmp seen_key key k × (seen value ≡ seen v)
   IsSameCommand (Upsert key value) (Upsert k v) = IsSameKey cmp seen_key key k × (seen value ≡ seen v)
   IsSameCommand (Remove key) (Remove k) = IsSameKey cmp seen_key key k
+  IsSameCommand (RemoveRange low high) (RemoveRange l h) = IsSameBound cmp seen_key low l × IsSameBound cmp seen_key high h
+  IsSameCommand Clear Clear = ⊤
   IsSameCommand (Peek key) (Peek k) = IsSameKey cmp seen_key key k
   IsSameCommand _ _ = ⊥
 
@@ -50,6 +62,7 @@ module _ {K V A B : Type 0} (cmp : K → K → Ordering) (seen_key : K → A) (s
   IsSameReply Stored Stored = ⊤
   IsSameReply Duplicate Duplicate = ⊤
   IsSameReply (Removed was) (Removed w) = was ≡ w
+  IsSameReply Done Done = ⊤
   IsSameReply (Found found) (Found f) = option_map seen found ≡ option_map seen f
   IsSameReply Refused Refused = ⊤
   IsSameReply _ _ = ⊥

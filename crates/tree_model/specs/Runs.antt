@@ -2,10 +2,10 @@
 use Rattle.std.specs.Prelude.{◌≡◌, ◌↔◌, IsTrue, List, [], ◌∷◌, option_map}
 use Rattle.std.specs.declared.cmp.Ordering.{Ordering}
 use Rattle.tree_model.specs.declared.commands.Command.{Command}
-use Rattle.tree_model.specs.declared.commands.Command.TheVariants.{Insert, Upsert, Remove, Peek}
+use Rattle.tree_model.specs.declared.commands.Command.TheVariants.{Insert, Upsert, Remove, RemoveRange, Clear, Peek}
 use Rattle.tree_model.specs.declared.commands.Reply.{Reply}
-use Rattle.tree_model.specs.declared.commands.Reply.TheVariants.{Stored, Duplicate, Removed, Found, Refused}
-use Rattle.tree_model.specs.Pairs.{IsPresent, IsAbsent, pair_at, put, without}
+use Rattle.tree_model.specs.declared.commands.Reply.TheVariants.{Stored, Duplicate, Removed, Done, Found, Refused}
+use Rattle.tree_model.specs.Pairs.{IsPresent, IsAbsent, pair_at, put, without, cut}
 
 module _ {K V S : Type 0} (cmp : K → K → Ordering) (seen : V → S) where
   -- From old, the command may be answered by the reply, and leaves new.
@@ -16,6 +16,8 @@ module _ {K V S : Type 0} (cmp : K → K → Ordering) (seen : V → S) where
   Step old (Upsert k v) Stored new = new ≡ put cmp old k v
   Step old (Upsert k v) Refused new = new ≡ old
   Step old (Remove k) (Removed was) new = (IsTrue was ↔ IsPresent cmp old k) × (new ≡ without cmp old k)
+  Step old (RemoveRange low high) Done new = new ≡ cut cmp old low high
+  Step old Clear Done new = new ≡ []
   Step old (Peek k) (Found found) new = (option_map seen found ≡ option_map (λ pair. seen pair.1) (pair_at cmp old k)) × (new ≡ old)
   Step old (Peek k) Refused new = IsPresent cmp old k × (new ≡ old)
   Step old _ _ new = ⊥

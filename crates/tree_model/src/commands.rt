@@ -2,6 +2,7 @@
 
 use std::error::Error;
 use std::fmt;
+use std::ops::Bound;
 
 /// A call of an index, as a value.
 #[derive(Debug, PartialEq, Eq, Drop)]
@@ -12,6 +13,10 @@ pub enum Command<K, V> {
     Upsert(K, V),
     /// Removes the pair with a key.
     Remove(K),
+    /// Removes every pair whose key is within both bounds.
+    RemoveRange(Bound<K>, Bound<K>),
+    /// Removes all pairs.
+    Clear,
     /// Looks up a key.
     Peek(K),
 }
@@ -25,6 +30,8 @@ pub enum Reply<V> {
     Duplicate,
     /// Whether a pair was removed.
     Removed(bool),
+    /// No pair is left that was to be removed.
+    Done,
     /// The value of the key, or `None` if the key is absent.
     Found(Option<V>),
     /// An allocation was refused, and nothing changed.

@@ -13,6 +13,9 @@ pub const BEYOND: u8 = 15;
 /// Fifteen places that each hold 1.
 const ONES: u64 = 0x0111_1111_1111_1111;
 
+/// Fifteen places that each name the slot of their own number.
+const IN_TURN: u64 = 0x0edc_ba98_7654_3210;
+
 /// The slot that a place names.
 #[inline]
 pub fn slot_at(order: u64, place: u8) -> u8
@@ -77,6 +80,19 @@ fn filled<const LEN: usize>(places: u64, count: u8) -> u64
     let last = places >> (4 * count - 4);
     let tail = last * (ONES >> (60 - 4 * spare));
     places + ((tail + (15 << (4 * spare))) << (4 * count))
+}
+
+/// The order of entries that stand in the first slots, one after another.
+pub fn in_turn<const LEN: usize>(count: u8) -> u64
+    requires len { IsLen LEN }
+    requires few { count ≤ LEN }
+    ensures same { (i : ℕ) → i < count → named result i ≡ i }
+    ensures filled { 0 < count → IsFilled LEN result count }
+{
+    if count == 0 {
+        return u64::MAX;
+    }
+    filled::<LEN>(first_places(IN_TURN, count), count)
 }
 
 /// The order with a slot let in before the places from `place` on.

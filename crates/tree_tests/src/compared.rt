@@ -1,9 +1,9 @@
 //! An index of numbers beside the plain index.
-use crate::walker::{copied, walk};
 use std::alloc::{AllocError, Global};
 use std::process::Abort;
 use tree_index::{InsertError, TreeIndex};
 use tree_model::PlainIndex;
+use tree_support::{copied, flaws};
 
 /// An index of numbers, and the plain index that answers each call as the index should.
 ///
@@ -117,15 +117,7 @@ impl Compared {
     }
 }
 
-/// Walks the tree of an index, which has these pairs.
+/// Walks the tree of an index, which is whole and has these pairs.
 pub(crate) fn compare(rt: &impl Abort, index: &TreeIndex<u64, u64>, pairs: &[(u64, u64)]) {
-    assert_eq!(rt; index.len(), pairs.len());
-    assert_eq!(rt; index.is_empty(), pairs.is_empty());
-    let (arenas, root) = index.parts();
-    if let Some(root) = root {
-        walk(rt, arenas, index.depth(), root, pairs);
-    } else {
-        assert!(rt; pairs.is_empty());
-        assert_eq!(rt; (arenas.leaf_count(), arenas.node_count()), (0, 0));
-    }
+    assert_eq!(rt; flaws(index, pairs), Ok(()));
 }

@@ -23,5 +23,3 @@ mod runs;
 mod shapes;
 #[cfg(test)]
 mod tallies;
-#[cfg(test)]
-mod walker;

@@ -1,5 +1,6 @@
 //! The calls of a workload: one call per key, and a checksum of the answers.
 use std::alloc::AllocError;
+use std::ops::Bound;
 use tree_index::{IndexKey, TreeIndex};
 
 /// Inserts the keys, each with its place in the list as the value. Returns how many were inserted.
@@ -53,4 +54,14 @@ pub fn remove_all<K: IndexKey>(index: &mut TreeIndex<K, u64>, keys: &[K]) -> u64
         }
     }
     removed
+}
+
+/// Removes the keys from the first of the list to the last by one call. Returns how many were present.
+pub fn cut<K: IndexKey>(index: &mut TreeIndex<K, u64>, keys: &[K]) -> u64 {
+    let (Some(first), Some(last)) = (keys.first(), keys.last()) else {
+        return 0;
+    };
+    let before = index.len();
+    index.remove_range_sync((Bound::Included(first), Bound::Included(last)));
+    before.saturating_sub(index.len()) as u64
 }

@@ -1,5 +1,5 @@
 //! The workloads, and the index and keys that each begins with.
-use crate::calls::{insert_all, peek_all, remove_all, upsert_all};
+use crate::calls::{cut, insert_all, peek_all, remove_all, upsert_all};
 use crate::keys::{Numbers, ascending, texts};
 use std::alloc::{AllocError, Global};
 use tree_index::TreeIndex;
@@ -21,6 +21,10 @@ pub enum Workload {
     RemoveRandom,
     /// Removes the middle half of the keys, in ascending order.
     RemoveMiddle,
+    /// Removes the middle half of the keys by one call, beside `retain` of the standard map.
+    CutBesideRetain,
+    /// Does the same, beside `split_off` and `append` of the standard map.
+    CutBesideSplitOff,
     /// Inserts random keys into an empty index and drops it.
     BuildAndDrop,
     /// Inserts random texts of sixteen bytes into an empty index.
@@ -31,7 +35,7 @@ pub enum Workload {
 
 impl Workload {
     /// Returns the workloads in the order in which they run.
-    pub const ALL: [Workload; 10] = [
+    pub const ALL: [Workload; 12] = [
         Workload::InsertAscending,
         Workload::InsertRandom,
         Workload::UpsertRandom,
@@ -39,6 +43,8 @@ impl Workload {
         Workload::PeekMiss,
         Workload::RemoveRandom,
         Workload::RemoveMiddle,
+        Workload::CutBesideRetain,
+        Workload::CutBesideSplitOff,
         Workload::BuildAndDrop,
         Workload::InsertText,
         Workload::PeekText,
@@ -54,6 +60,8 @@ impl Workload {
             Workload::PeekMiss => "peek_miss",
             Workload::RemoveRandom => "remove_random",
             Workload::RemoveMiddle => "remove_middle",
+            Workload::CutBesideRetain => "cut_beside_retain",
+            Workload::CutBesideSplitOff => "cut_beside_split_off",
             Workload::BuildAndDrop => "build_and_drop",
             Workload::InsertText => "insert_text",
             Workload::PeekText => "peek_text",
@@ -101,7 +109,9 @@ pub fn scene_of_numbers(
     source.shuffle(&mut order);
     let keys = match workload {
         Workload::InsertAscending => ascending_keys(alloc, size)?,
-        Workload::RemoveMiddle => middle_keys(alloc, &mut source, size)?,
+        Workload::RemoveMiddle | Workload::CutBesideRetain | Workload::CutBesideSplitOff => {
+            middle_keys(alloc, &mut source, size)?
+        }
         Workload::PeekMiss => held_keys(alloc, keys, source.list(alloc, size)?),
         Workload::PeekHit | Workload::RemoveRandom => held_keys(alloc, keys, order),
         Workload::UpsertRandom => Keys {
@@ -174,6 +184,7 @@ pub fn run_numbers(
         Workload::UpsertRandom => upsert_all(index, coming),
         Workload::PeekHit | Workload::PeekMiss => Ok(peek_all(index, asked)),
         Workload::RemoveRandom | Workload::RemoveMiddle => Ok(remove_all(index, asked)),
+        Workload::CutBesideRetain | Workload::CutBesideSplitOff => Ok(cut(index, asked)),
         Workload::BuildAndDrop => insert_all(&mut TreeIndex::new(alloc), coming),
         _ => insert_all(index, coming),
     }

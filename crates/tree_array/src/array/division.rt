@@ -1,10 +1,13 @@
 //! How the pairs of an array are divided between two new ones.
-ghost use Rattle.std.specs.Prelude.{◌≡◌, ◌+◌, ◌≤◌, [], ◌∷◌, length, take, drop, slice_get, MatchOption};
-ghost use Rattle.tree_array.specs.Arrivals.{boundary, drained, in_order};
+ghost use Rattle.std.specs.Prelude.{◌≡◌, ℕ, ◌+◌, ◌≤◌, [], List, Option, None, length, take, drop, slice_get};
+ghost use Rattle.tree_array.specs.Arrivals.{arrival, boundary, drained, in_order};
+ghost use Rattle.tree_array.specs.Moves.{HasEmptied, HasInTurn};
 ghost use Rattle.tree_array.specs.Sound.{IsSound};
+ghost use Rattle.tree_cells.specs.Tabled.{IsTabled};
 
 use super::ArrayOf;
-use tree_order::order::count_rises;
+use tree_cells::cells::Cells;
+use tree_order::order::{clamp, count_rises, in_turn, slot_at};
 
 impl<K: Ord + Drop, V: Drop, const LEN: usize> ArrayOf<K, V, LEN> {
     /// Returns where to split: how many entries go low, how many there are, and whether all of `LEN` arrived in
@@ -15,10 +18,11 @@ impl<K: Ord + Drop, V: Drop, const LEN: usize> ArrayOf<K, V, LEN> {
         ensures sound { IsSound K.cmp LEN self.now }
     {
         let count = self.count;
-        let rises = count_rises(self.order, count, self.made);
         if count as usize <= LEN * 3 / 4 {
-            (LEN as u8, count as usize, false)
-        } else if 2 * rises + 1 < count {
+            return (LEN as u8, count as usize, false);
+        }
+        let rises = count_rises(self.order, count, self.made);
+        if 2 * rises + 1 < count {
             (rises + 1, count as usize, false)
         } else {
             (rises, count as usize, rises as usize == LEN - 1)
@@ -34,8 +38,18 @@ impl<K: Ord + Drop, V: Drop, const LEN: usize> ArrayOf<K, V, LEN> {
         ensures high { high.new ≡ in_order (drop boundary self.old.entries) }
         ensures left { self.new ≡ drained self.old }
     {
-        self.move_on(boundary as usize, low);
-        self.move_rest(high);
+        let count = self.count;
+        let cut = clamp(boundary, count);
+        move_places(&mut self.cells, self.order, 0, cut, &mut low.cells);
+        low.order = in_turn::<LEN>(cut);
+        low.made = cut;
+        low.count = cut;
+        move_places(&mut self.cells, self.order, cut, count, &mut high.cells);
+        high.order = in_turn::<LEN>(count - cut);
+        high.made = count - cut;
+        high.count = count - cut;
+        self.count = 0;
+        self.retired = true;
     }
 
     /// Does what [`distribute`](ArrayOf::distribute) does, but returns the entry at place `boundary`, if there is
@@ -53,9 +67,8 @@ impl<K: Ord + Drop, V: Drop, const LEN: usize> ArrayOf<K, V, LEN> {
         ensures high { high.new ≡ in_order (drop (boundary + 1) self.old.entries) }
         ensures left { self.new ≡ drained self.old }
     {
-        self.move_on(boundary as usize, low);
-        let apart = self.take_first();
-        self.move_rest(high);
+        let apart = self.take_place(boundary);
+        self.distribute(boundary, low, high);
         apart
     }
 
@@ -65,47 +78,45 @@ impl<K: Ord + Drop, V: Drop, const LEN: usize> ArrayOf<K, V, LEN> {
         ensures { self.new ≡ in_order self.old.entries }
     {
         let _ = &self.cells;
+        let mut none = ArrayOf::new();
         let mut rebuilt = ArrayOf::new();
-        self.move_rest(&mut rebuilt);
+        self.distribute(0, &mut none, &mut rebuilt);
         *self = rebuilt;
     }
 
-    /// Moves the entries into a new array, and retires this one.
-    fn move_rest(&mut self, to: &mut Self)
-        requires { to.old ≡ in_order [] }
-        ensures moved { to.new ≡ in_order self.old.entries }
-        ensures left { self.new ≡ drained self.old }
-    {
-        self.move_on(LEN, to);
-        self.retired = true;
-    }
-
-    /// Moves up to `count` entries into a new array.
-    fn move_on(&mut self, count: usize, to: &mut Self)
-        requires { to.old ≡ in_order [] }
-        ensures few { length self.old.entries ≤ LEN }
-        ensures moved { to.new ≡ in_order (take count self.old.entries) }
-        ensures left { self.new.entries ≡ drop count self.old.entries }
+    /// Takes the entry at this place, if there is one.
+    fn take_place(&mut self, place: u8) -> Option<(K, V)>
+        ensures taken { result ≡ slice_get self.old.entries place }
+        ensures low { take place self.new.entries ≡ take place self.old.entries }
+        ensures high { drop place self.new.entries ≡ drop (place + 1) self.old.entries }
         ensures arrivals { length self.new.arrivals ≡ length self.old.arrivals }
     {
-        let _ = &self.cells;
-        for _ in 0..count {
-            let Some((key, val)) = self.take_first() else {
-                return;
-            };
-            to.push_last(key, val);
-        }
-    }
-
-    /// Takes the entry with the least key.
-    fn take_first(&mut self) -> Option<(K, V)>
-        ensures taken { MatchOption result ((self.old.entries ≡ []) × (self.new.entries ≡ [])) (λ pair. self.old.entries ≡ pair ∷ self.new.entries) }
-        ensures arrivals { length self.new.arrivals ≡ length self.old.arrivals }
-    {
-        if self.count == 0 {
+        if place >= self.count {
             return None;
         }
-        let (key, val, _) = self.take_at(0);
+        let (key, val, _) = self.take_at(place);
         Some((key, val))
+    }
+}
+
+/// Moves the pairs of the places from `from` up to `end` into the first of other cells, in order. Makes no comparisons.
+fn move_places<K: Ord, V, const LEN: usize>(
+    cells: &mut Cells<K, V, LEN>,
+    order: u64,
+    from: u8,
+    end: u8,
+    to: &mut Cells<K, V, LEN>,
+)
+    requires ends { from ≤ end }
+    requires tabled { (old : List (Option (K × V))) × (made count : ℕ) × IsTabled K.cmp LEN old order made count × (end ≤ count) × HasEmptied old cells.old order count from }
+    requires none { (p : ℕ) → arrival to.old p ≡ None }
+    requires whole { length to.old ≡ LEN }
+    ensures moved { (old : List (Option (K × V))) (made count : ℕ) → IsTabled K.cmp LEN old order made count → end ≤ count → HasEmptied old cells.old order count from → HasEmptied old cells.new order count end × HasInTurn old to.new order from end }
+    ensures left { length cells.new ≡ length cells.old }
+    ensures whole { length to.new ≡ LEN }
+{
+    for place in from..end {
+        let (key, val) = cells.take(slot_at(order, place));
+        to.put(place - from, key, val);
     }
 }

@@ -1,10 +1,9 @@
 //! How an array takes a pair.
-ghost use Rattle.std.specs.Prelude.{◌≡◌, ℕ, ◌<◌, Some, false, length};
-ghost use Rattle.tree_array.specs.Arrivals.{arrival, stored};
+ghost use Rattle.std.specs.Prelude.{◌≡◌, ◌<◌, false, length};
+ghost use Rattle.tree_array.specs.Arrivals.{stored};
 ghost use Rattle.tree_array.specs.Insertion.{IsInsert, IsStore, PartsEntries};
 
 use super::{ArrayOf, InsertResult, StoreResult};
-use std::cmp::Ordering;
 use tree_cells::search::{Place, find_key};
 use tree_order::order::{clamp, inserted, renamed};
 
@@ -51,17 +50,6 @@ impl<K: Ord + Drop, V: Drop, const LEN: usize> ArrayOf<K, V, LEN> {
                 }
             }
         }
-    }
-
-    /// Stores a pair whose key is larger than all.
-    pub(super) fn push_last(&mut self, key: K, val: V)
-        requires room { length self.old.arrivals < LEN }
-        requires live { self.old.retired ≡ false }
-        requires last { (p : ℕ) (e : _) → arrival self.old.arrivals p ≡ Some e → K.cmp key e.0 ≡ Ordering.Greater }
-        ensures { self.new ≡ stored K.cmp self.old key val }
-    {
-        let place = self.count;
-        self.let_in(place, key, val);
     }
 
     /// Stores a pair whose key is larger than those of the first `place` entries and smaller than the others.

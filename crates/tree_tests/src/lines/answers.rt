@@ -102,6 +102,32 @@ fn answers_edits_and_look_ups(rt: HostRuntime) {
     }
 }
 
+static REMOVALS_OF_RANGES: [Row; 4] = [
+    (
+        "insert 1 1\ninsert 2 2\ninsert 3 3\ninsert 4 4\nremove_range [3 [2\nlen\n",
+        "ok\nok\nok\nok\nok\n4\n",
+    ),
+    (
+        "insert 1 1\ninsert 2 2\ninsert 3 3\nremove_range (1 [2\npeek 1\npeek 2\npeek 3\nremove_range - -\nlen\n",
+        "ok\nok\nok\nok\n1\nnone\n3\nok\n0\n",
+    ),
+    (
+        "insert 1 10\ninsert 1 11\ninsert 01 5\nremove_range (1 -\nlen\nclear\ndepth\n",
+        "ok\nduplicate\n?\nok\n1\nok\n0\n",
+    ),
+    (
+        "clear\nupsert 7 1\nremove_range - (7\nlen\nremove_range [18446744073709551615 -\nlen\nclear\nspare\nupsert 7 2\npeek 7",
+        "ok\nok\nok\n1\nok\n1\nok\n0\nok\n2\n",
+    ),
+];
+
+#[test]
+fn answers_removals_of_ranges(rt: HostRuntime) {
+    for row in &REMOVALS_OF_RANGES {
+        assert!(rt; succeeds(|| expect_answers(&rt, rt.alloc(), *row, (256, 256))));
+    }
+}
+
 // A line that is refused memory is answered `refused` and its key stays absent; later lines are answered
 // as ever.
 static STORE_AND_PEEK: [&str; 9] = [

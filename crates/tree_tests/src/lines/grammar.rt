@@ -6,7 +6,7 @@ use std::process::Abort;
 use test_support::refusals::succeeds;
 
 /// None of these lines is a request, not even where it contains one.
-static NO_REQUESTS: [&[u8]; 64] = [
+static NO_REQUESTS: [&[u8]; 81] = [
     b"insert 01 10",
     b"insert 1 010",
     b"insert 00 10",
@@ -56,6 +56,23 @@ static NO_REQUESTS: [&[u8]; 64] = [
     b"remove_if_ 1 10",
     b"remove-if 1 10",
     b"removeif 1 10",
+    b"remove_range",
+    b"remove_range -",
+    b"remove_range - - -",
+    b"remove_range  - -",
+    b"remove_range - - ",
+    b"remove_range 1 2",
+    b"remove_range [1 2",
+    b"remove_range [1] -",
+    b"remove_range [ -",
+    b"remove_range [01 -",
+    b"remove_range (+1 -",
+    b"remove_range -1 -",
+    b"remove_range - )1",
+    b"remove_range - [18446744073709551616",
+    b"clear ",
+    b"clear 1",
+    b"Clear",
     b"contains",
     b"contains 1 1",
     b"contain 1",

@@ -1,19 +1,21 @@
-use Rattle.std.proofs.Common.{◌≡◌, ◌++◌, refl, sym, ◌∙◌}
+use Rattle.std.proofs.Common.{sym, ◌∙◌}
 use Rattle.std.specs.Fmt.{decimal}
-use Rattle.tree_lines.specs.Words.{one_number}
-use Rattle.tree_lines.proofs.FirstWords.{one_first_word}
+use Rattle.tree_lines.proofs.FirstWords.{one_two_words}
 use Rattle.tree_lines.proofs.Decimals.{IsWord-decimal}
 use Rattle.tree_lines.proofs.numbers.two_numbers_of.Goals as goal
 
--- one of the two words is not a number
-pub returns-in_default-number_of : goal.returns-in_default-number_of
-returns-in_default-number_of c = λ pair fits e.
-    let words : c.in-Some.words.now ≡ decimal pair.0 ++ one_number pair.1 = cc (c.in-Some.ensures) in
-    let parts = one_first_word _ _ _ (one_number pair.1) c.first_word.ensures.word (IsWord-decimal pair.0 fits.0) c.first_word.ensures.behind refl (sym c.first_word.ensures.whole ∙ words) in
-    c.in_default-number_of.ensures pair.0 fits.0 parts.0
+-- there are no two words
+pub returns-in_err-first : goal.returns-in_err-first
+returns-in_err-first c = rw c.from_residual.ensures (λ pair fits e. c.in_err-first.ensures (decimal pair.0) (decimal pair.1) (IsWord-decimal pair.0 fits.0) e)
 
-pub returns-in_default-one_number_of : goal.returns-in_default-one_number_of
-returns-in_default-one_number_of c = λ pair fits e.
-    let words : c.in-Some.words.now ≡ decimal pair.0 ++ one_number pair.1 = cc (c.in-Some.ensures) in
-    let parts = one_first_word _ _ _ (one_number pair.1) c.first_word.ensures.word (IsWord-decimal pair.0 fits.0) c.first_word.ensures.behind refl (sym c.first_word.ensures.whole ∙ words) in
-    c.in_default-one_number_of.ensures pair.1 fits.1 parts.1
+-- the first word is not read
+pub returns-in_err-number_of : goal.returns-in_err-number_of
+returns-in_err-number_of c =
+    rw c.from_residual-in_err-number_of.ensures
+    (λ pair fits e. c.in_err-number_of.ensures pair.0 fits.0 (one_two_words _ _ _ (decimal pair.1) c.in_ok-first.ensures.0 (IsWord-decimal pair.0 fits.0) (sym c.in_ok-first.ensures.1 ∙ e)).0)
+
+-- nor is the second one
+pub returns-in_err-number_of-2 : goal.returns-in_err-number_of-2
+returns-in_err-number_of-2 c =
+    rw c.from_residual-in_err-number_of-2.ensures
+    (λ pair fits e. c.in_err-number_of-2.ensures pair.1 fits.1 (one_two_words _ _ _ (decimal pair.1) c.in_ok-first.ensures.0 (IsWord-decimal pair.0 fits.0) (sym c.in_ok-first.ensures.1 ∙ e)).1)

@@ -1,7 +1,7 @@
 use Rattle.std.proofs.Common.{◌≡◌}
 use Rattle.std.specs.Prelude.{codes}
 use Rattle.tree_lines.specs.Lines.{name_of}
-use Rattle.tree_lines.specs.declared.requests.Request.TheVariants.{Insert, Upsert, Remove, RemoveIf, Peek, Contains, Len, Depth, Spare}
+use Rattle.tree_lines.specs.declared.requests.Request.TheVariants.{Insert, Upsert, Remove, RemoveIf, RemoveRange, Clear, Peek, Contains, Len, Depth, Spare}
 use Rattle.tree_lines.proofs.Spellings.{parts_of, reads_when, not_named}
 use Rattle.tree_lines.proofs.requests.request_of.Goals as goal
 
@@ -19,19 +19,25 @@ pub returns-then-eq-4 : goal.returns-then-eq-4
 returns-then-eq-4 c = reads_when c.args.line.now c.first_word.result.0.now c.first_word.result.1.now c.first_word.ensures.word c.first_word.ensures.behind c.first_word.ensures.whole (codes "remove_if") c.as_slice-4.result.now c.if-eq-4.ensures c.as_slice-4.ensures c.remove_if_of.result c.remove_if_of.ensures
 
 pub returns-then-eq-5 : goal.returns-then-eq-5
-returns-then-eq-5 c = reads_when c.args.line.now c.first_word.result.0.now c.first_word.result.1.now c.first_word.ensures.word c.first_word.ensures.behind c.first_word.ensures.whole (codes "peek") c.as_slice-5.result.now c.if-eq-5.ensures c.as_slice-5.ensures c.peek_of.result c.peek_of.ensures
+returns-then-eq-5 c = reads_when c.args.line.now c.first_word.result.0.now c.first_word.result.1.now c.first_word.ensures.word c.first_word.ensures.behind c.first_word.ensures.whole (codes "remove_range") c.as_slice-5.result.now c.if-eq-5.ensures c.as_slice-5.ensures c.remove_range_of.result c.remove_range_of.ensures
 
 pub returns-then-eq-6 : goal.returns-then-eq-6
-returns-then-eq-6 c = reads_when c.args.line.now c.first_word.result.0.now c.first_word.result.1.now c.first_word.ensures.word c.first_word.ensures.behind c.first_word.ensures.whole (codes "contains") c.as_slice-6.result.now c.if-eq-6.ensures c.as_slice-6.ensures c.contains_of.result c.contains_of.ensures
+returns-then-eq-6 c = reads_when c.args.line.now c.first_word.result.0.now c.first_word.result.1.now c.first_word.ensures.word c.first_word.ensures.behind c.first_word.ensures.whole (codes "clear") c.as_slice-6.result.now c.if-eq-6.ensures c.as_slice-6.ensures c.clear_of.result c.clear_of.ensures
 
 pub returns-then-eq-7 : goal.returns-then-eq-7
-returns-then-eq-7 c = reads_when c.args.line.now c.first_word.result.0.now c.first_word.result.1.now c.first_word.ensures.word c.first_word.ensures.behind c.first_word.ensures.whole (codes "len") c.as_slice-7.result.now c.if-eq-7.ensures c.as_slice-7.ensures c.len_of.result c.len_of.ensures
+returns-then-eq-7 c = reads_when c.args.line.now c.first_word.result.0.now c.first_word.result.1.now c.first_word.ensures.word c.first_word.ensures.behind c.first_word.ensures.whole (codes "peek") c.as_slice-7.result.now c.if-eq-7.ensures c.as_slice-7.ensures c.peek_of.result c.peek_of.ensures
 
 pub returns-then-eq-8 : goal.returns-then-eq-8
-returns-then-eq-8 c = reads_when c.args.line.now c.first_word.result.0.now c.first_word.result.1.now c.first_word.ensures.word c.first_word.ensures.behind c.first_word.ensures.whole (codes "depth") c.as_slice-8.result.now c.if-eq-8.ensures c.as_slice-8.ensures c.depth_of.result c.depth_of.ensures
+returns-then-eq-8 c = reads_when c.args.line.now c.first_word.result.0.now c.first_word.result.1.now c.first_word.ensures.word c.first_word.ensures.behind c.first_word.ensures.whole (codes "contains") c.as_slice-8.result.now c.if-eq-8.ensures c.as_slice-8.ensures c.contains_of.result c.contains_of.ensures
 
 pub returns-then-eq-9 : goal.returns-then-eq-9
-returns-then-eq-9 c = reads_when c.args.line.now c.first_word.result.0.now c.first_word.result.1.now c.first_word.ensures.word c.first_word.ensures.behind c.first_word.ensures.whole (codes "spare") c.as_slice-9.result.now c.if-eq-9.ensures c.as_slice-9.ensures c.spare_of.result c.spare_of.ensures
+returns-then-eq-9 c = reads_when c.args.line.now c.first_word.result.0.now c.first_word.result.1.now c.first_word.ensures.word c.first_word.ensures.behind c.first_word.ensures.whole (codes "len") c.as_slice-9.result.now c.if-eq-9.ensures c.as_slice-9.ensures c.len_of.result c.len_of.ensures
+
+pub returns-then-eq-10 : goal.returns-then-eq-10
+returns-then-eq-10 c = reads_when c.args.line.now c.first_word.result.0.now c.first_word.result.1.now c.first_word.ensures.word c.first_word.ensures.behind c.first_word.ensures.whole (codes "depth") c.as_slice-10.result.now c.if-eq-10.ensures c.as_slice-10.ensures c.depth_of.result c.depth_of.ensures
+
+pub returns-then-eq-11 : goal.returns-then-eq-11
+returns-then-eq-11 c = reads_when c.args.line.now c.first_word.result.0.now c.first_word.result.1.now c.first_word.ensures.word c.first_word.ensures.behind c.first_word.ensures.whole (codes "spare") c.as_slice-11.result.now c.if-eq-11.ensures c.as_slice-11.ensures c.spare_of.result c.spare_of.ensures
 
 -- or of none
 pub returns : goal.returns
@@ -43,9 +49,11 @@ returns c = λ request fits e.
       | Upsert key value ↦ not_named word (codes "upsert") c.as_slice-2.result.now c.if-eq-2.ensures c.as_slice-2.ensures
       | Remove key ↦ not_named word (codes "remove") c.as_slice-3.result.now c.if-eq-3.ensures c.as_slice-3.ensures
       | RemoveIf key value ↦ not_named word (codes "remove_if") c.as_slice-4.result.now c.if-eq-4.ensures c.as_slice-4.ensures
-      | Peek key ↦ not_named word (codes "peek") c.as_slice-5.result.now c.if-eq-5.ensures c.as_slice-5.ensures
-      | Contains key ↦ not_named word (codes "contains") c.as_slice-6.result.now c.if-eq-6.ensures c.as_slice-6.ensures
-      | Len ↦ not_named word (codes "len") c.as_slice-7.result.now c.if-eq-7.ensures c.as_slice-7.ensures
-      | Depth ↦ not_named word (codes "depth") c.as_slice-8.result.now c.if-eq-8.ensures c.as_slice-8.ensures
-      | Spare ↦ not_named word (codes "spare") c.as_slice-9.result.now c.if-eq-9.ensures c.as_slice-9.ensures
+      | RemoveRange low high ↦ not_named word (codes "remove_range") c.as_slice-5.result.now c.if-eq-5.ensures c.as_slice-5.ensures
+      | Clear ↦ not_named word (codes "clear") c.as_slice-6.result.now c.if-eq-6.ensures c.as_slice-6.ensures
+      | Peek key ↦ not_named word (codes "peek") c.as_slice-7.result.now c.if-eq-7.ensures c.as_slice-7.ensures
+      | Contains key ↦ not_named word (codes "contains") c.as_slice-8.result.now c.if-eq-8.ensures c.as_slice-8.ensures
+      | Len ↦ not_named word (codes "len") c.as_slice-9.result.now c.if-eq-9.ensures c.as_slice-9.ensures
+      | Depth ↦ not_named word (codes "depth") c.as_slice-10.result.now c.if-eq-10.ensures c.as_slice-10.ensures
+      | Spare ↦ not_named word (codes "spare") c.as_slice-11.result.now c.if-eq-11.ensures c.as_slice-11.ensures
     ] name

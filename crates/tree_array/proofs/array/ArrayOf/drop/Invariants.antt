@@ -1,4 +1,4 @@
-use Rattle.tree_array.proofs.Emptied.{HasEmptied}
+use Rattle.tree_array.specs.Moves.{HasEmptied}
 use Rattle.tree_array.proofs.array.ArrayOf.drop.Given as goal
 
 abbrev pub invariant-loop-place : goal.invariant-loop-place

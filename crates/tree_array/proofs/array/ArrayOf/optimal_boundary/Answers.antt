@@ -34,7 +34,6 @@ overflow_add-rises g c =
 pub returns-then-count-clause-boundary : goal.returns-then-count-clause-boundary
 returns-then-count-clause-boundary g c =
     let count = count_seen g.met.K.Ord.total c.self.invariant.0 _ c.self.view_is in
-    let rises = c.count_rises-rises.ensures ∙ (rises_seen g.met.K.Ord.total c.self.invariant.0 _ c.self.view_is).0 in
     let few : leb c.self.inside.count (g.row.LEN * 3 / 4) ≡ true = within _ _ c.if-count.true in
     rw (count, few) refl
 

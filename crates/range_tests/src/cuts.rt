@@ -1,0 +1,127 @@
+//! Cuts by chance: trees of several sizes that were built in several orders are cut and written to again.
+use crate::both::{Both, Bounds};
+use std::alloc::{AllocError, Global};
+use std::ops::Bound;
+use std::process::Abort;
+use test_support::chance::Chance;
+use test_support::refusals::succeeds;
+use tree_support::separator;
+
+static SIZES: [u64; 10] = [0, 1, 15, 16, 17, 240, 241, 1000, 3616, 5000];
+
+/// So many cuts are made of a tree.
+const CUTS: u64 = 12;
+
+/// The order in which keys come.
+#[derive(Clone, Copy)]
+enum Order {
+    Up,
+    Down,
+    Inward,
+    Scattered,
+}
+
+static ORDERS: [Order; 4] = [Order::Up, Order::Down, Order::Inward, Order::Scattered];
+
+impl Order {
+    /// The n-th key. Keys are even, so that there are absent ones beside each.
+    fn key(self, n: u64, size: u64, chance: &mut Chance) -> u64 {
+        let place = match self {
+            Order::Up => n,
+            Order::Down => size.saturating_sub(n),
+            Order::Inward if n % 2 == 0 => n / 2,
+            Order::Inward => size.saturating_sub(n / 2),
+            Order::Scattered => chance.below(size.saturating_add(1)),
+        };
+        place.saturating_mul(2)
+    }
+}
+
+/// A key that may be there, or one beside it.
+fn key_of(size: u64, chance: &mut Chance) -> u64 {
+    chance.below(size.saturating_mul(2).saturating_add(3))
+}
+
+/// A separator, or a key beside one.
+fn separator_of(both: &Both, size: u64, chance: &mut Chance) -> u64 {
+    let place = chance.below(size / 10 + 1);
+    let Some(parting) = separator(both.index(), place as usize) else {
+        return key_of(size, chance);
+    };
+    match chance.below(3) {
+        0 => parting,
+        1 => parting.saturating_sub(1),
+        _ => parting.saturating_add(1),
+    }
+}
+
+/// A bound of any kind at a key.
+fn bound_at(key: u64, chance: &mut Chance) -> Bound<u64> {
+    match chance.below(7) {
+        0..3 => Bound::Included(key),
+        3..6 => Bound::Excluded(key),
+        _ => Bound::Unbounded,
+    }
+}
+
+/// Bounds that are wide, narrow, equal or reversed.
+fn bounds_of(both: &Both, size: u64, chance: &mut Chance) -> Bounds {
+    let low = if chance.below(2) == 0 {
+        key_of(size, chance)
+    } else {
+        separator_of(both, size, chance)
+    };
+    let high = match chance.below(5) {
+        0 => key_of(size, chance),
+        1 => separator_of(both, size, chance),
+        2 => low.saturating_add(chance.below(40)),
+        3 => low.saturating_add(chance.below(600)),
+        _ => low,
+    };
+    (bound_at(low, chance), bound_at(high, chance))
+}
+
+/// Stores and removes some pairs.
+fn write(
+    rt: &impl Abort,
+    both: &mut Both,
+    size: u64,
+    chance: &mut Chance,
+) -> Result<(), AllocError> {
+    for _ in 0..size / 8 + 20 {
+        let key = key_of(size, chance);
+        if chance.below(4) == 0 {
+            both.remove(rt, key);
+        } else {
+            both.upsert(rt, key, chance.below(100))?;
+        }
+    }
+    both.compare(rt);
+    Ok(())
+}
+
+/// Builds a tree of so many keys, and cuts it again and again.
+fn cut_tree(rt: &impl Abort, alloc: Global, size: u64, order: Order) -> Result<(), AllocError> {
+    let mut both = Both::new(alloc);
+    let mut chance = Chance::new(size);
+    for n in 0..size {
+        let key = order.key(n, size, &mut chance);
+        both.upsert(rt, key, n)?;
+    }
+    for _ in 0..CUTS {
+        let bounds = bounds_of(&both, size, &mut chance);
+        both.cut(rt, bounds);
+        write(rt, &mut both, size, &mut chance)?;
+    }
+    both.cut(rt, (Bound::Unbounded, Bound::Unbounded));
+    write(rt, &mut both, size, &mut chance)
+}
+
+#[test]
+fn cuts_as_the_plain_index_does(rt: HostRuntime) {
+    for size in &SIZES {
+        for order in &ORDERS {
+            assert!(rt; succeeds(|| cut_tree(&rt, rt.alloc(), *size, *order)));
+        }
+    }
+}

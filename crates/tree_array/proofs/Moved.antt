@@ -1,0 +1,143 @@
+-- Pairs that are moved place by place into the cells of a new array.
+use Rattle.std.proofs.Common.{◌≡◌, ◌≢◌, ℕ, ◌+◌, ◌-◌, ◌<◌, ◌≤◌, Bool, true, false, List, [], length, map, take, drop, get_or, set, Option, None, Some, refl, sym, ◌∙◌, ap, inl, inr, arith}
+use Rattle.std.specs.declared.cmp.Ordering.{Ordering}
+use Rattle.std.specs.Cmp.{IsTotalOrder}
+use Rattle.std.proofs.lemmas.Bool.{cases_lt, cases_eq}
+use Rattle.std.proofs.lemmas.List.{drop_all, get_or-drop, get_or-map, get_or-set_other, get_or-set_same, get_or-take, length-drop, length-map, length-take, same_lists, take_all}
+use Rattle.std.proofs.lemmas.Option.{get_or_from_slice_get, none-some}
+use Rattle.tree_array.specs.Arrivals.{Arrivals, arrival, drained, in_order, reachable, sorted}
+use Rattle.tree_array.specs.Moves.{HasEmptied, HasInTurn}
+use Rattle.tree_array.specs.View.{seen}
+use Rattle.tree_cells.specs.Tabled.{IsTabled}
+use Rattle.tree_order.specs.Order.{clamped, named, picked, IsFilled}
+use Rattle.tree_array.proofs.Dealt.{spent_list}
+use Rattle.tree_array.proofs.Emptied.{emptied_all, entries_none}
+use Rattle.tree_array.proofs.Kept.{count_is, entry_place}
+use Rattle.tree_array.proofs.Seen.{arrivals_seen, same_arrays}
+use Rattle.tree_array.proofs.Stored.{clamped_early, clamped_late}
+use Rattle.tree_order.proofs.Picked.{get_or-picked, length-picked}
+use Rattle.tree_cells.proofs.Picks.{arrival-all}
+
+-- a place that is clamped to the entries parts them as it does
+pub cut_same : {X : Type 0} (xs : List X) (count place : ℕ) → length xs ≡ count → (take (clamped count place) xs ≡ take place xs) × (drop (clamped count place) xs ≡ drop place xs)
+cut_same xs count place is = elim (cases_lt place count) [
+  | inl lt ↦ rw (clamped_early count place lt) (refl, refl)
+  | inr ge ↦ rw (clamped_late count place ge) (take_all count xs (omega arith) ∙ sym (take_all place xs (omega arith)), drop_all count xs (omega arith) ∙ sym (drop_all place xs (omega arith)))
+]
+
+pub clamped_within : (count place : ℕ) → clamped count place ≤ count
+clamped_within count place = elim (cases_lt place count) [
+  | inl lt ↦ omega (arith, clamped_early count place lt)
+  | inr ge ↦ omega (arith, clamped_late count place ge)
+]
+
+module _ {K V : Type 0} where
+  -- the cells of an array without arrivals
+  pub none_new : (cmp : K → K → Ordering) (cells : List (Option (K × V))) (made : ℕ) (retired : Bool) (array : Arrivals K V) → seen cmp cells made retired ≡ array → array ≡ in_order [] → ((p : ℕ) → made ≤ p → arrival cells p ≡ None) → (p : ℕ) → arrival cells p ≡ None
+  none_new cmp cells made retired array view_is is unmade p =
+      let no_arrivals : length array.arrivals ≡ 0 = ap (λ (a : Arrivals K V). length a.arrivals) is in
+      unmade p (omega (arith, no_arrivals, ap length (arrivals_seen cmp cells made retired view_is), length-picked (arrival cells) made))
+
+  pub moved_none : (old to : List (Option (K × V))) (order from : ℕ) → ((p : ℕ) → arrival to p ≡ None) → HasInTurn old to order from from
+  moved_none old to order from none = record { here = λ i lt. absurd (omega arith); none = λ i le. none i }
+
+  -- one more pair is moved
+  pub moved_more : {old cells to : List (Option (K × V))} {order count from place : ℕ} → HasEmptied old cells order count place → HasInTurn old to order from place → from ≤ place → place < count → place - from < length to
+      → (pair : K × V) → arrival cells (named order place) ≡ Some pair → HasInTurn old (set to (place - from) (Some pair)) order from (place + 1)
+  moved_more {to} {order} {from} {place} h t from_on lt within pair there = record {
+    here = λ i less. elim (cases_eq i (place - from)) [
+      | inl same ↦
+          let e : from + (place - from) ≡ place = omega arith in
+          rw (same, e) (get_or-set_same to (place - from) (Some pair) None within ∙ sym (sym (h.kept place (omega arith) lt) ∙ there))
+      | inr other ↦ get_or-set_other to (place - from) i (Some pair) None other ∙ t.here i (omega (arith, other))
+    ];
+    none = λ i le.
+        let other : i ≢ place - from = λ e. omega arith in
+        get_or-set_other to (place - from) i (Some pair) None other ∙ t.none i (omega arith);
+  }
+
+module _ {K V : Type 0} {cmp : K → K → Ordering} (o : IsTotalOrder cmp) {len : ℕ} {old : List (Option (K × V))} {order made count : ℕ} (it : IsTabled cmp len old order made count) where
+  abbrev entries : List (K × V)
+  entries = sorted cmp (reachable (picked (arrival old) made))
+
+  module _ (from n end : ℕ) (sum : from + n ≡ end) (few : end ≤ count) {new : List (Option (K × V))} (h : HasInTurn old new order from end) (whole : length new ≡ len) (order' : ℕ) (turn : (i : ℕ) → i < n → named order' i ≡ i) (filled' : 0 < n → IsFilled len order' n) where
+    -- the pair of a place, where it was and where it is
+    record Stands (i : ℕ) : Type 0 where
+      pair : K × V
+      was : arrival old (named order (from + i)) ≡ Some pair
+      is : arrival new i ≡ Some pair
+
+    stands : (i : ℕ) → i < n → Stands i
+    stands i lt =
+        let s = it.in_order.stands (from + i) (omega arith) in
+        record { pair = s.0; was = s.1; is = h.here i (omega arith) ∙ s.1 }
+
+    back : (i : ℕ) (e : K × V) → i < n → arrival new (named order' i) ≡ Some e → arrival old (named order (from + i)) ≡ Some e
+    back i e lt some = sym (h.here i (omega arith)) ∙ (rw (turn i lt) at some)
+
+    pub moved_tabled : IsTabled cmp len new order' n n
+    moved_tabled = record {
+      is_len = it.is_len;
+      whole = whole;
+      few_made = omega (arith, it.few_made, it.few_count);
+      few_count = omega arith;
+      unmade = λ p le. h.none p (omega arith);
+      in_order = record {
+        stands = λ i lt. let s = stands i lt in (s.pair, rw (turn i lt) s.is);
+        ascends = λ i j e f lt small ei fj. it.in_order.ascends (from + i) (from + j) e f (omega arith) (omega arith) (back i e (omega arith) ei) (back j f small fj);
+      };
+      filled = filled';
+      listed = λ p e some. elim (cases_lt p n) [
+        | inl lt ↦ (p, lt, turn p lt)
+        | inr ge ↦ absurd (none-some e (sym (h.none p (omega arith)) ∙ some))
+      ];
+    }
+
+    abbrev part : List (K × V)
+    part = take n (drop from entries)
+
+    length-part : length (take n (drop from entries)) ≡ n
+    length-part = omega (arith, length-take n (drop from entries), length-drop from entries, count_is o it)
+
+    part_at : (k : ℕ) (d : K × V) (lt : k < n) → get_or (take n (drop from entries)) k d ≡ (stands k lt).pair
+    part_at k d lt =
+        let s = stands k lt in
+        get_or-take n (drop from entries) k d lt ∙ get_or-drop from entries k d ∙ get_or_from_slice_get entries (from + k) s.pair d (entry_place o it (from + k) s.pair (omega arith) s.was)
+
+    arrivals_moved : picked (arrival new) n ≡ map Some (take n (drop from entries))
+    arrivals_moved = same_lists _ _ (omega (arith, length-picked (arrival new) n, length-map (take n (drop from entries)) (λ (e : K × V). Some e), length-part)) (λ k d lt.
+        let small : k < n = omega (arith, lt, length-picked (arrival new) n) in
+        let s = stands k small in
+        get_or-picked (arrival new) n k d small ∙ s.is ∙ sym (get_or-map (λ (e : K × V). Some e) (take n (drop from entries)) k s.pair d (omega (arith, length-part)) ∙ ap (λ (e : K × V). Some e) (part_at k s.pair small)))
+
+    entries_moved : sorted cmp (reachable (picked (arrival new) n)) ≡ take n (drop from entries)
+    entries_moved = same_lists _ _ (count_is o moved_tabled ∙ sym length-part) (λ k d lt.
+        let small : k < n = omega (arith, lt, count_is o moved_tabled) in
+        let s = stands k small in
+        get_or_from_slice_get _ k s.pair d (entry_place o moved_tabled k s.pair small (rw (turn k small) s.is)) ∙ sym (part_at k d small))
+
+    pub moved_seen : seen cmp new n false ≡ in_order (take n (drop from entries))
+    moved_seen = same_arrays _ _ _ _ _ _ arrivals_moved refl entries_moved
+
+  -- the array that all pairs left
+  module _ {new : List (Option (K × V))} (h : HasEmptied old new order count count) where
+    none_left : (p : ℕ) → arrival new p ≡ None
+    none_left p = emptied_all o it h (omega arith) p
+
+    pub emptied_tabled : length new ≡ len → IsTabled cmp len new order made 0
+    emptied_tabled whole = record {
+      is_len = it.is_len;
+      whole = whole;
+      few_made = it.few_made;
+      few_count = omega arith;
+      unmade = λ p le. none_left p;
+      in_order = record { stands = λ i lt. absurd (omega arith); ascends = λ i j e f lt small. absurd (omega arith) };
+      filled = λ some. absurd (omega arith);
+      listed = λ p e some. absurd (none-some e (sym (none_left p) ∙ some));
+    }
+
+    pub emptied_seen : (retired : Bool) (array : Arrivals K V) → seen cmp old made retired ≡ array → seen cmp new made true ≡ drained array
+    emptied_seen retired array view_is =
+        let same : length (picked (arrival new) made) ≡ length array.arrivals = omega (arith, length-picked (arrival new) made, length-picked (arrival old) made, ap length (arrivals_seen cmp old made retired view_is)) in
+        let arrivals : picked (arrival new) made ≡ map (λ _. None) array.arrivals = spent_list (picked (arrival new) made) array.arrivals same (λ p. arrival-all (arrival new) made (λ q le. none_left q) p ∙ none_left p) in
+        same_arrays _ _ _ _ _ _ arrivals refl (entries_none cmp (arrival new) made none_left)

@@ -1,0 +1,61 @@
+//! Cursors over the pairs of an index, and where a key is among them.
+ghost use Rattle.std.specs.Prelude.{◌≡◌};
+ghost use Rattle.std.specs.Range.Bound.{bound_map};
+ghost use Rattle.std.specs.declared.ops.Bound.TheVariants.{Unbounded};
+ghost use Rattle.tree_cursor_model.specs.Cursor.{fresh};
+ghost use Rattle.tree_cursor_model.specs.Located.{located};
+
+use crate::index::TreeIndexOf;
+use std::ops::Bound;
+use tree_array::array::IndexKey;
+use tree_cursor_model::ProximityOf;
+use tree_ranges::iter::{IterOf, IterOver};
+use tree_ranges::locate::locate;
+use tree_ranges::range::{RangeOf, RangeOver};
+
+impl<K: IndexKey, V: Drop, const LEN: usize> TreeIndexOf<K, V, LEN> {
+    /// Returns a cursor over all pairs, from both ends. Runs in constant time.
+    ///
+    /// The first move of an end descends once. Each move after it makes no comparison, but for one of the two ends if
+    /// both are opened, and reads the next entry of its leaf or follows one link. Allocates nothing.
+    pub fn iter(&self) -> IterOf<'_, K, V, LEN>
+        ensures { result ≡ fresh self.now.pairs Unbounded Unbounded }
+    {
+        IterOver::new(&self.tree.arenas, self.tree.root)
+    }
+
+    /// Returns a cursor over the pairs whose keys are within both bounds, from both ends. Bounds that contain no key,
+    /// reversed ones among them, give no pair. Runs in constant time.
+    ///
+    /// The moves cost what those of [`iter`](TreeIndexOf::iter) do, and one comparison more, with the bound at which
+    /// the end stops.
+    pub fn range<'t>(&'t self, bounds: (Bound<&'t K>, Bound<&'t K>)) -> RangeOf<'t, K, V, LEN>
+        ensures { result ≡ fresh self.now.pairs (bound_map (λ k. k.now) bounds.entry.0) (bound_map (λ k. k.now) bounds.entry.1) }
+    {
+        RangeOver::new(&self.tree.arenas, self.tree.root, bounds)
+    }
+
+    /// Returns where a key is: present, or which pairs are beside it, with a cursor that stands there. Descends once,
+    /// or twice if every key is smaller. Allocates nothing.
+    pub fn locate(&self, key: &K) -> ProximityOf<IterOf<'_, K, V, LEN>>
+        ensures { result ≡ located K.cmp self.now.pairs key.now }
+    {
+        locate(&self.tree.arenas, self.tree.root, key)
+    }
+}
+
+impl<'t, K: IndexKey, V: Drop, const LEN: usize> IntoIterator for &'t TreeIndexOf<K, V, LEN> {
+    type Item = (&'t K, &'t V);
+
+    type IntoIter = IterOf<'t, K, V, LEN>;
+
+    ghost use Rattle.std.specs.Prelude.{◌≡◌};
+    ghost use Rattle.std.specs.declared.ops.Bound.TheVariants.{Unbounded};
+    ghost use Rattle.tree_cursor_model.specs.Cursor.{fresh};
+
+    ghost into_iter_gives = { λ index cursor. cursor ≡ fresh index.now.pairs Unbounded Unbounded };
+
+    fn into_iter(self) -> IterOf<'t, K, V, LEN> {
+        self.iter()
+    }
+}

@@ -1,0 +1,8 @@
+use Rattle.tree_ranges.proofs.Shown.{element_is, pairs_ascend}
+use Rattle.tree_ranges.proofs.range.RangeOver+K+V+ArenasOf+K+V+LEN+LeafOf+K+V+LEN.get.Goals as goal
+
+pub returns-clause-pair : goal.returns-clause-pair
+returns-clause-pair g c = rw (← c.self.view_is, element_is _ _ c.self.invariant.tree _ c.self.invariant.forward_stands) c.shown.ensures
+
+pub returns-clause-ascending : goal.returns-clause-ascending
+returns-clause-ascending g c = rw (← c.self.view_is) (pairs_ascend _ _ c.self.invariant.tree g.met.K.Ord.total)

@@ -1,0 +1,121 @@
+//! What a cursor asks its two ends.
+ghost use Rattle.std.specs.Prelude.{◌≡◌, is_some};
+ghost use Rattle.std.specs.Range.Bound.{bound_map};
+ghost use Rattle.tree_cursor_model.specs.Cursor.{meets, option_where};
+ghost use Rattle.tree_cursor_model.specs.Rest.{lent};
+ghost use Rattle.tree_cursors.specs.View.{pair_of};
+ghost use Rattle.tree_ranges.specs.Beside.{is_at};
+ghost use Rattle.tree_ranges.specs.Ranged.{TellsApart, is_new};
+
+use std::ops::Bound;
+use tree_cursors::end::{End, comes_before, pair_on};
+use tree_cursors::way::EndWay;
+use tree_leaf::leaf::{IterOf, LeafOf, LinkedIter, RevIterOf, Reversible, SlotWalk, Walked};
+
+/// Returns whether neither end is exhausted, and the forward one stands before the backward one. Makes at most
+/// one comparison. The caller must have ends that stand in one tree.
+pub fn are_apart<'t, K: Ord + Drop, V: Drop, const LEN: usize>(
+    forward: &End<IterOf<'t, K, V, LEN>>,
+    backward: &End<RevIterOf<'t, K, V, LEN>>,
+) -> bool
+    ensures { TellsApart K.cmp forward.now backward.now result }
+{
+    match forward {
+        End::Exhausted => false,
+        End::Unopened => match backward {
+            End::Exhausted => false,
+            End::Unopened => true,
+            End::At(_) => true,
+        },
+        End::At(walk) => match backward {
+            End::Exhausted => false,
+            End::Unopened => true,
+            End::At(other) => comes_before(walk, other),
+        },
+    }
+}
+
+/// Returns the pair that an end stands on, if its key is within the bound at which the other end begins. Makes at
+/// most one comparison.
+pub fn shown<'t, K: Ord + Drop, V: Drop, S: SlotWalk, T: EndWay, const LEN: usize>(
+    end: &End<LinkedIter<'t, LeafOf<K, V, LEN>, S>>,
+    bound: Bound<&K>,
+) -> Option<(&'t K, &'t V)>
+    ensures { lent result ≡ option_where (λ pair. meets K.cmp T.way (bound_map (λ k. k.now) bound.entry) pair.0) (pair_of end.now) }
+{
+    let Some((key, value)) = pair_on(end) else {
+        return None;
+    };
+    if T::meets(bound, key) {
+        Some((key, value))
+    } else {
+        None
+    }
+}
+
+/// Returns whether an end stands on a pair.
+pub fn has_pair<'t, K: Ord + Drop, V: Drop, S: SlotWalk, const LEN: usize>(
+    end: &End<LinkedIter<'t, LeafOf<K, V, LEN>, S>>,
+) -> bool
+    ensures { result ≡ is_some (pair_of end.now) }
+{
+    match pair_on(end) {
+        Some(_) => true,
+        None => false,
+    }
+}
+
+/// Returns whether an end stands on a pair whose key equals this one. Makes at most one comparison.
+pub fn stands_at<'t, K: Ord + Drop, V: Drop, S: SlotWalk, const LEN: usize>(
+    end: &End<LinkedIter<'t, LeafOf<K, V, LEN>, S>>,
+    key: &K,
+) -> bool
+    ensures { result ≡ is_at K.cmp key.now (pair_of end.now) }
+{
+    match pair_on(end) {
+        Some((found, _)) => found.cmp(key).is_eq(),
+        None => false,
+    }
+}
+
+/// Returns whether an end was never moved.
+pub fn is_unopened<W>(end: &End<W>) -> bool
+    ensures { result ≡ is_new end.now }
+{
+    match end {
+        End::Unopened => true,
+        End::At(_) => false,
+        End::Exhausted => false,
+    }
+}
+
+/// Returns the end that goes the other way from the same place.
+pub fn turned<'t, K: Ord + Drop, V: Drop, S: Reversible, const LEN: usize>(
+    end: End<LinkedIter<'t, LeafOf<K, V, LEN>, S>>,
+) -> End<LinkedIter<'t, LeafOf<K, V, LEN>, S::Reverse>>
+    ensures { result ≡ end.entry }
+{
+    match end {
+        End::Unopened => End::Unopened,
+        End::At(walk) => End::At(walk.rev()),
+        End::Exhausted => End::Exhausted,
+    }
+}
+
+/// Returns an end at the same place.
+pub fn again<'t, L: Walked, S: SlotWalk>(
+    end: &End<LinkedIter<'t, L, S>>,
+) -> End<LinkedIter<'t, L, S>>
+    ensures { result ≡ end.now }
+{
+    match end {
+        End::Unopened => End::Unopened,
+        End::At(walk) => {
+            let Ok(same) = walk.clone() else {
+                unreachable!()
+            };
+            End::At(same)
+        }
+        End::Exhausted => End::Exhausted,
+    }
+}

@@ -1,0 +1,61 @@
+//! Laws of cursors, each as the contract of a small function: a cursor that was never moved gives all pairs within
+//! its bounds, in order, from either end.
+ghost use Rattle.std.specs.Prelude.{◌≡◌, IfOk, map, reverse};
+ghost use Rattle.tree_leaf.specs.declared.leaf.stand.Way.TheVariants.{On, Back};
+ghost use Rattle.tree_leaf.specs.Walks.{lent_entry};
+ghost use Rattle.tree_cursor_model.specs.Rest.{Moves};
+ghost use Rattle.tree_ranges.specs.Ranged.{IsFresh, pairs_within};
+
+use crate::cursor::Cursor;
+use std::alloc::{AllocError, Global};
+
+/// Moves the forward end until it gives no pair, and returns what it gave: all pairs within the bounds, in ascending
+/// order. Returns `Err` if memory for the list is refused. The caller must pass a cursor that was never moved.
+pub fn pairs_ascending<'t, K: Ord + Drop + 't, V: Drop + 't, C: Cursor<'t, K, V>>(
+    alloc: Global,
+    cursor: &mut C,
+) -> Result<Vec<(&'t K, &'t V)>, AllocError>
+    requires { IsFresh (C.cursor cursor.old) }
+    ensures { IfOk result (λ pairs. map lent_entry pairs.items ≡ pairs_within K.cmp (C.cursor cursor.old)) }
+{
+    let mut pairs = Vec::new(alloc);
+    while let Some(pair) = forward(cursor) {
+        pairs.push(pair)?;
+    }
+    Ok(pairs)
+}
+
+/// Moves the backward end until it gives no pair, and returns what it gave: all pairs within the bounds, in
+/// descending order. Returns `Err` if memory for the list is refused. The caller must pass a cursor that was never
+/// moved.
+pub fn pairs_descending<'t, K: Ord + Drop + 't, V: Drop + 't, C: Cursor<'t, K, V>>(
+    alloc: Global,
+    cursor: &mut C,
+) -> Result<Vec<(&'t K, &'t V)>, AllocError>
+    requires { IsFresh (C.cursor cursor.old) }
+    ensures { IfOk result (λ pairs. map lent_entry pairs.items ≡ reverse (pairs_within K.cmp (C.cursor cursor.old))) }
+{
+    let mut pairs = Vec::new(alloc);
+    while let Some(pair) = backward(cursor) {
+        pairs.push(pair)?;
+    }
+    Ok(pairs)
+}
+
+/// Moves the forward end.
+fn forward<'t, K: Ord + Drop + 't, V: Drop + 't, C: Cursor<'t, K, V>>(
+    cursor: &mut C,
+) -> Option<(&'t K, &'t V)>
+    ensures { Moves K.cmp On (C.cursor cursor.old) result (C.cursor cursor.new) }
+{
+    cursor.next()
+}
+
+/// Moves the backward end.
+fn backward<'t, K: Ord + Drop + 't, V: Drop + 't, C: Cursor<'t, K, V>>(
+    cursor: &mut C,
+) -> Option<(&'t K, &'t V)>
+    ensures { Moves K.cmp Back (C.cursor cursor.old) result (C.cursor cursor.new) }
+{
+    cursor.next_back()
+}

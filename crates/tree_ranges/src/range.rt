@@ -1,0 +1,257 @@
+//! A cursor over the pairs of a tree within two bounds.
+ghost use Rattle.std.specs.Prelude.{◌≡◌, ⊤};
+ghost use Rattle.std.specs.Iterator.{at_most};
+ghost use Rattle.std.specs.Range.Bound.{bound_map};
+ghost use Rattle.tree_leaf.specs.declared.leaf.stand.Way.TheVariants.{On, Back};
+ghost use Rattle.tree_model.specs.Pairs.{IsAscending};
+ghost use Rattle.tree_node.specs.Whole.{IsTree, walk_under};
+ghost use Rattle.tree_cursor_model.specs.Cursor.{fresh, opened, shown, with_ends};
+ghost use Rattle.tree_cursor_model.specs.Rest.{Moves, lent};
+ghost use Rattle.tree_cursors.specs.View.{Kept, end_of};
+ghost use Rattle.tree_ranges.specs.Ranged.{Flips, moves_left};
+
+use crate::ends::{again, are_apart, is_unopened, shown, turned};
+use std::alloc::AllocError;
+use std::iter::FusedIterator;
+use std::marker::{Model, PhantomData};
+use std::ops::Bound;
+use std::{fmt, mem};
+use tree_array::array::{ArrayIter, ArrayRevIter};
+use tree_cursors::end::{End, step};
+use tree_leaf::arena::NodeId;
+use tree_leaf::leaf::{IterOf as WalkOf, LeafOf, LinkedIter, RevIterOf as RevWalkOf, Walked};
+use tree_node::node::ArenasOf;
+
+/// A type of arenas to go through with a cursor, with what the cursor keeps. It has no methods.
+pub trait Ranged<K, V, L: Walked> {
+    ghost use Rattle.std.specs.Prelude.{ℕ, Option};
+    ghost use Rattle.std.specs.Borrow.{Bor};
+    ghost use Rattle.std.specs.declared.ops.Bound.{Bound as AnyBound};
+    ghost use Rattle.tree_leaf.specs.Walks.{LinkedWalk};
+    ghost use Rattle.tree_cursor_model.specs.Cursor.{Cursor};
+    ghost use Rattle.tree_cursors.specs.declared.end.End.{End as TreeEnd};
+
+    ghost seen: { Self → Option (ℕ × ℕ) → AnyBound (Bor K) → AnyBound (Bor K) → TreeEnd (LinkedWalk L) → TreeEnd (LinkedWalk L) → Cursor K V };
+
+    ghost kept: { Self → Option (ℕ × ℕ) → TreeEnd (LinkedWalk L) → TreeEnd (LinkedWalk L) → Type 0 };
+}
+
+impl<K: Ord + Drop, V: Drop, const LEN: usize> Ranged<K, V, LeafOf<K, V, LEN>>
+    for ArenasOf<K, V, LEN> {
+    ghost use Rattle.tree_cursors.specs.View.{Kept, seen};
+
+    ghost seen = { seen };
+
+    ghost kept = { λ arenas root. Kept arenas root K.cmp };
+}
+
+/// The pairs of a tree within two bounds, from both ends.
+///
+/// Contracts see the list of all pairs, the two bounds and the two ends: each was never moved, stands at a place of
+/// the list, or is exhausted for ever.
+#[derive(Drop)]
+pub struct RangeOver<'t, K, V, A: Ranged<K, V, L>, L: Walked> {
+    arenas: &'t A,
+    root: Option<(NodeId, usize)>,
+    low: Bound<&'t K>,
+    high: Bound<&'t K>,
+    forward: End<LinkedIter<'t, L, ArrayIter>>,
+    backward: End<LinkedIter<'t, L, ArrayRevIter>>,
+    values: PhantomData<V>,
+}
+
+/// The pairs within two bounds, from both ends, with up to `LEN` pairs a leaf.
+pub type RangeOf<'t, K, V, const LEN: usize> = RangeOver<
+    't,
+    K,
+    V,
+    ArenasOf<K, V, LEN>,
+    LeafOf<K, V, LEN>,
+>;
+
+/// The pairs within two bounds, from both ends, with up to fifteen pairs a leaf.
+pub type Range<'t, K, V> = RangeOf<'t, K, V, 15>;
+
+impl<'t, K, V, A: Ranged<K, V, L>, L: Walked> Model for RangeOver<'t, K, V, A, L> {
+    ghost use Rattle.tree_cursor_model.specs.Cursor.{Cursor};
+
+    ghost Value = { Cursor K V };
+
+    ghost view = { λ a. A.seen a.arenas.now a.root a.low a.high a.forward a.backward };
+
+    ghost invariant = { λ a. A.kept a.arenas.now a.root a.forward a.backward };
+}
+
+impl<'t, K: Ord + Drop + 't, V: Drop + 't, const LEN: usize> RangeOver<
+    't,
+    K,
+    V,
+    ArenasOf<K, V, LEN>,
+    LeafOf<K, V, LEN>,
+> {
+    /// Creates a cursor over the pairs of a tree whose keys are within two bounds. Runs in constant time. The
+    /// caller must lend the arenas of a well-formed tree with its root and the root's level.
+    pub fn new(
+        arenas: &'t ArenasOf<K, V, LEN>,
+        root: Option<(NodeId, usize)>,
+        bounds: (Bound<&'t K>, Bound<&'t K>),
+    ) -> Self
+        requires { IsTree K.cmp arenas.now root }
+        ensures { result ≡ fresh (walk_under arenas.now root) (bound_map (λ k. k.now) bounds.entry.0) (bound_map (λ k. k.now) bounds.entry.1) }
+    {
+        let (low, high) = bounds;
+        RangeOver {
+            arenas,
+            root,
+            low,
+            high,
+            forward: End::Unopened,
+            backward: End::Unopened,
+            values: PhantomData,
+        }
+    }
+
+    /// Returns the pair of the forward end, if the end stands on one within the upper bound. Makes at most one
+    /// comparison.
+    pub fn get(&self) -> Option<(&'t K, &'t V)>
+        ensures pair { lent result ≡ shown K.cmp On self.now }
+        ensures ascending { IsAscending K.cmp self.now.pairs }
+    {
+        shown::<K, V, ArrayIter, ArrayRevIter, LEN>(&self.forward, self.high)
+    }
+
+    /// Returns the pair of the backward end, if the end stands on one within the lower bound. Makes at most one
+    /// comparison.
+    pub fn get_back(&self) -> Option<(&'t K, &'t V)>
+        ensures pair { lent result ≡ shown K.cmp Back self.now }
+        ensures ascending { IsAscending K.cmp self.now.pairs }
+    {
+        shown::<K, V, ArrayRevIter, ArrayIter, LEN>(&self.backward, self.low)
+    }
+
+    /// Gives the place of the one end that is opened to the other, and returns `true`, if that end shows a pair.
+    /// Returns `true` and changes nothing if neither end is opened. Otherwise returns `false` and changes nothing.
+    pub fn flip(&mut self) -> bool
+        ensures { Flips K.cmp self.old result self.new }
+    {
+        if is_unopened(&self.forward) {
+            if is_unopened(&self.backward) {
+                return true;
+            }
+            if self.get_back().is_none() {
+                return false;
+            }
+            self.forward = turned(mem::replace(&mut self.backward, End::Unopened));
+            return true;
+        }
+        if !is_unopened(&self.backward) {
+            return false;
+        }
+        if self.get().is_none() {
+            return false;
+        }
+        self.backward = turned(mem::replace(&mut self.forward, End::Unopened));
+        true
+    }
+
+    /// Creates a cursor over all pairs of a tree, with these ends. The caller must pass ends that stand in the tree.
+    pub(crate) fn standing(
+        arenas: &'t ArenasOf<K, V, LEN>,
+        root: Option<(NodeId, usize)>,
+        forward: End<WalkOf<'t, K, V, LEN>>,
+        backward: End<RevWalkOf<'t, K, V, LEN>>,
+    ) -> Self
+        requires { Kept arenas.now root K.cmp forward backward }
+        ensures { result ≡ with_ends (walk_under arenas.now root) (end_of arenas.now root forward.entry) (end_of arenas.now root backward.entry) }
+    {
+        RangeOver {
+            arenas,
+            root,
+            low: Bound::Unbounded,
+            high: Bound::Unbounded,
+            forward,
+            backward,
+            values: PhantomData,
+        }
+    }
+
+    /// Opens both bounds, and keeps both ends.
+    pub(crate) fn opened(self) -> Self
+        ensures { result ≡ opened self.entry }
+    {
+        RangeOver {
+            arenas: self.arenas,
+            root: self.root,
+            low: Bound::Unbounded,
+            high: Bound::Unbounded,
+            forward: self.forward,
+            backward: self.backward,
+            values: PhantomData,
+        }
+    }
+}
+
+impl<'t, K: Ord + Drop + 't, V: Drop + 't, const LEN: usize> Iterator
+    for RangeOver<'t, K, V, ArenasOf<K, V, LEN>, LeafOf<K, V, LEN>> {
+    type Item = (&'t K, &'t V);
+
+    ghost next_gives = { Moves K.cmp On };
+
+    ghost remaining = { λ s. at_most (moves_left s) };
+
+    fn next(&mut self) -> Option<(&'t K, &'t V)> {
+        let old = mem::replace(&mut self.forward, End::Exhausted);
+        self.forward = step(self.arenas, self.root, old, self.low);
+        if are_apart(&self.forward, &self.backward) {
+            self.get()
+        } else {
+            None
+        }
+    }
+}
+
+impl<'t, K: Ord + Drop + 't, V: Drop + 't, const LEN: usize> DoubleEndedIterator
+    for RangeOver<'t, K, V, ArenasOf<K, V, LEN>, LeafOf<K, V, LEN>> {
+    ghost next_back_gives = { Moves K.cmp Back };
+
+    fn next_back(&mut self) -> Option<(&'t K, &'t V)> {
+        let old = mem::replace(&mut self.backward, End::Exhausted);
+        self.backward = step(self.arenas, self.root, old, self.high);
+        if are_apart(&self.forward, &self.backward) {
+            self.get_back()
+        } else {
+            None
+        }
+    }
+}
+
+impl<'t, K: Ord + Drop + 't, V: Drop + 't, const LEN: usize> FusedIterator
+    for RangeOver<'t, K, V, ArenasOf<K, V, LEN>, LeafOf<K, V, LEN>> {}
+
+impl<'t, K, V, A: Ranged<K, V, L>, L: Walked> Clone for RangeOver<'t, K, V, A, L> {
+    ghost is_clone = { λ cursor clone. clone ≡ cursor };
+
+    ghost is_infallible = { λ _. ⊤ };
+
+    fn clone(&self) -> Result<Self, AllocError> {
+        Ok(RangeOver {
+            arenas: self.arenas,
+            root: self.root,
+            low: self.low,
+            high: self.high,
+            forward: again(&self.forward),
+            backward: again(&self.backward),
+            values: PhantomData,
+        })
+    }
+}
+
+impl<'t, K: Ord + Drop + fmt::Debug + 't, V: Drop + fmt::Debug + 't, const LEN: usize> fmt::Debug
+    for RangeOver<'t, K, V, ArenasOf<K, V, LEN>, LeafOf<K, V, LEN>> {
+    fn fmt<W: fmt::Write>(&self, f: &mut fmt::Formatter<W>) -> fmt::Result {
+        f.debug_struct("Range")
+            .field("forward", &self.get())
+            .field("backward", &self.get_back())
+            .finish()
+    }
+}

@@ -1,5 +1,0 @@
-use Rattle.tree_walk.proofs.ChildTurns.{IsOverKeyed}
-use Rattle.tree_tests.proofs.walker.walk_leaves.Given as goal
-
-abbrev pub invariant-loop-slot : goal.invariant-loop-slot
-invariant-loop-slot g l = IsOverKeyed l.keyed l.slot-iterator
