@@ -1,46 +1,15 @@
 //! Cuts by chance: trees of several sizes that were built in several orders are cut and written to again.
-use crate::both::{Both, Bounds};
 use std::alloc::{AllocError, Global};
 use std::ops::Bound;
 use std::process::Abort;
 use test_support::chance::Chance;
 use test_support::refusals::succeeds;
-use tree_support::separator;
+use tree_support::{Both, Bounds, ORDERS, Order, bound_at, grown, key_of, separator};
 
 static SIZES: [u64; 10] = [0, 1, 15, 16, 17, 240, 241, 1000, 3616, 5000];
 
 /// So many cuts are made of a tree.
 const CUTS: u64 = 12;
-
-/// The order in which keys come.
-#[derive(Clone, Copy)]
-enum Order {
-    Up,
-    Down,
-    Inward,
-    Scattered,
-}
-
-static ORDERS: [Order; 4] = [Order::Up, Order::Down, Order::Inward, Order::Scattered];
-
-impl Order {
-    /// The n-th key. Keys are even, so that there are absent ones beside each.
-    fn key(self, n: u64, size: u64, chance: &mut Chance) -> u64 {
-        let place = match self {
-            Order::Up => n,
-            Order::Down => size.saturating_sub(n),
-            Order::Inward if n % 2 == 0 => n / 2,
-            Order::Inward => size.saturating_sub(n / 2),
-            Order::Scattered => chance.below(size.saturating_add(1)),
-        };
-        place.saturating_mul(2)
-    }
-}
-
-/// A key that may be there, or one beside it.
-fn key_of(size: u64, chance: &mut Chance) -> u64 {
-    chance.below(size.saturating_mul(2).saturating_add(3))
-}
 
 /// A separator, or a key beside one.
 fn separator_of(both: &Both, size: u64, chance: &mut Chance) -> u64 {
@@ -52,15 +21,6 @@ fn separator_of(both: &Both, size: u64, chance: &mut Chance) -> u64 {
         0 => parting,
         1 => parting.saturating_sub(1),
         _ => parting.saturating_add(1),
-    }
-}
-
-/// A bound of any kind at a key.
-fn bound_at(key: u64, chance: &mut Chance) -> Bound<u64> {
-    match chance.below(7) {
-        0..3 => Bound::Included(key),
-        3..6 => Bound::Excluded(key),
-        _ => Bound::Unbounded,
     }
 }
 
@@ -102,12 +62,8 @@ fn write(
 
 /// Builds a tree of so many keys, and cuts it again and again.
 fn cut_tree(rt: &impl Abort, alloc: Global, size: u64, order: Order) -> Result<(), AllocError> {
-    let mut both = Both::new(alloc);
     let mut chance = Chance::new(size);
-    for n in 0..size {
-        let key = order.key(n, size, &mut chance);
-        both.upsert(rt, key, n)?;
-    }
+    let mut both = grown(rt, alloc, size, order, &mut chance)?;
     for _ in 0..CUTS {
         let bounds = bounds_of(&both, size, &mut chance);
         both.cut(rt, bounds);

@@ -1,9 +1,9 @@
 //! Worked removals.
-use crate::both::Both;
 use std::alloc::{AllocError, Global};
 use std::ops::Bound;
 use std::process::Abort;
 use test_support::refusals::succeeds;
+use tree_support::Both;
 
 /// Keys that come in ascending order, what is removed one after another with the number of pairs that are left each time,
 /// and keys that are there afterwards and that aren't.

@@ -1,10 +1,15 @@
-//! What the crates of tests of an index share: a walk over its tree, which tells what is wrong with it.
+//! What the crates of tests of an index share: a walk over its tree, which tells what is wrong with it, an index beside
+//! the plain index, and trees of many shapes.
 #![tactic(auto)]
 
+mod both;
 mod flaw;
 mod index;
+mod trees;
 mod walker;
 
+pub use both::{Both, Bounds};
 pub use flaw::Flaw;
 pub use index::{flaws, separator};
+pub use trees::{ORDERS, Order, bound_at, grown, key_of};
 pub use walker::copied;

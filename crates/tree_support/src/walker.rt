@@ -79,7 +79,10 @@ impl Met {
     }
 
     /// The keys of an array.
-    fn keys<V: Drop, const LEN: usize>(&mut self, array: &ArrayOf<u64, V, LEN>) -> Result<(), Flaw> {
+    fn keys<V: Drop, const LEN: usize>(
+        &mut self,
+        array: &ArrayOf<u64, V, LEN>,
+    ) -> Result<(), Flaw> {
         for slot in ArrayIter::new(array) {
             self.key(*array.key(slot))?;
         }
