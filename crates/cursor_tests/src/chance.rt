@@ -1,5 +1,5 @@
 //! Moves by chance of cursors over trees of many shapes, beside a cursor over the plain list.
-use crate::locates::{Near, near};
+use crate::locates::{Place, place_of};
 use crate::plain::PlainCursor;
 use crate::said::make;
 use std::alloc::{AllocError, Global};
@@ -63,19 +63,19 @@ fn move_range(
 }
 
 /// Where a key is among the pairs of a plain list.
-fn near_in(pairs: &[(u64, u64)], key: u64) -> Near {
+fn place_in(pairs: &[(u64, u64)], key: u64) -> Place {
     let mut before = None;
     for (other, value) in pairs {
         let here = Some((*other, *value));
         if *other == key {
-            return Near::Exact(here, None);
+            return Place::Exact(here, None);
         }
         if *other > key {
-            return before.map_or(Near::Larger(here, None), |_| Near::Between(before, here));
+            return before.map_or(Place::Larger(here, None), |_| Place::Between(before, here));
         }
         before = here;
     }
-    before.map_or(Near::Empty, |_| Near::Smaller(None, before))
+    before.map_or(Place::Empty, |_| Place::Smaller(None, before))
 }
 
 /// Opens cursors of each kind on a tree.
@@ -90,7 +90,10 @@ fn open_all(
         let high = bound_at(key_of(size, chance), chance);
         move_range(rt, both, (low, high), chance)?;
         let key = key_of(size, chance);
-        assert_eq!(rt; near(both.index().locate(&key)), near_in(both.pairs(), key));
+        assert_eq!(rt;
+            place_of(both.index().locate(&key)),
+            place_in(both.pairs(), key)
+        );
     }
     Ok(())
 }

@@ -9,7 +9,7 @@ use tree_index::{Proximity, ProximityOf, TreeIndex};
 
 /// Where a key is, and the pairs of both ends.
 #[derive(Clone, Copy, Debug, PartialEq, Eq)]
-pub enum Near {
+pub enum Place {
     Exact(Entry, Entry),
     Between(Entry, Entry),
     Smaller(Entry, Entry),
@@ -18,28 +18,28 @@ pub enum Near {
 }
 
 /// What a look-up of a near key says.
-pub(crate) fn near(place: Proximity<'_, u64, u64>) -> Near {
+pub(crate) fn place_of(place: Proximity<'_, u64, u64>) -> Place {
     match place {
-        ProximityOf::Exact(at) => Near::Exact(numbers(at.get()), numbers(at.get_back())),
-        ProximityOf::Between(at) => Near::Between(numbers(at.get()), numbers(at.get_back())),
-        ProximityOf::Smaller(at) => Near::Smaller(numbers(at.get()), numbers(at.get_back())),
-        ProximityOf::Larger(at) => Near::Larger(numbers(at.get()), numbers(at.get_back())),
-        ProximityOf::Empty => Near::Empty,
+        ProximityOf::Exact(at) => Place::Exact(numbers(at.get()), numbers(at.get_back())),
+        ProximityOf::Between(at) => Place::Between(numbers(at.get()), numbers(at.get_back())),
+        ProximityOf::Smaller(at) => Place::Smaller(numbers(at.get()), numbers(at.get_back())),
+        ProximityOf::Larger(at) => Place::Larger(numbers(at.get()), numbers(at.get_back())),
+        ProximityOf::Empty => Place::Empty,
     }
 }
 
 /// Keys, and where they are among the pairs.
-static NEAR: [(u64, Near); 4] = [
-    (5, Near::Exact(Some((5, 3)), None)),
-    (2, Near::Between(Some((1, 1)), Some((3, 2)))),
-    (8, Near::Smaller(None, Some((7, 4)))),
-    (0, Near::Larger(Some((1, 1)), None)),
+static NEAR: [(u64, Place); 4] = [
+    (5, Place::Exact(Some((5, 3)), None)),
+    (2, Place::Between(Some((1, 1)), Some((3, 2)))),
+    (8, Place::Smaller(None, Some((7, 4)))),
+    (0, Place::Larger(Some((1, 1)), None)),
 ];
 
 fn locates_steps(rt: &impl Abort, alloc: Global) -> Result<(), AllocError> {
     let mut index = index_of(alloc, &[(1, 1), (3, 2), (5, 3), (7, 4)])?;
     for (key, place) in &NEAR {
-        assert_eq!(rt; near(index.locate(key)), *place);
+        assert_eq!(rt; place_of(index.locate(key)), *place);
     }
     let ProximityOf::Between(mut ends) = index.locate(&2) else {
         panic!(rt; "2 is between")
@@ -47,7 +47,7 @@ fn locates_steps(rt: &impl Abort, alloc: Global) -> Result<(), AllocError> {
     assert_eq!(rt; numbers(ends.next()), None);
     assert_eq!(rt; numbers(ends.next_back()), None);
     index.clear();
-    assert_eq!(rt; near(index.locate(&3)), Near::Empty);
+    assert_eq!(rt; place_of(index.locate(&3)), Place::Empty);
     Ok(())
 }
 
@@ -61,7 +61,10 @@ fn locates_after_a_cut_steps(rt: &impl Abort, alloc: Global) -> Result<(), Alloc
     index.remove_range_sync((Bound::Included(&0), Bound::Included(&14)));
     let first = numbers(index.range((Bound::Included(&0), Bound::Unbounded)).next());
     assert_eq!(rt; first, Some((15, 15)));
-    assert_eq!(rt; near(index.locate(&3)), Near::Larger(Some((15, 15)), None));
+    assert_eq!(rt;
+        place_of(index.locate(&3)),
+        Place::Larger(Some((15, 15)), None)
+    );
     Ok(())
 }
 

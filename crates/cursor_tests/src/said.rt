@@ -18,7 +18,7 @@ pub(crate) fn numbers(pair: Option<(&u64, &u64)>) -> Entry {
 }
 
 /// What an answer of a cursor says.
-pub(crate) fn said(answer: &Answer<'_, u64, u64>) -> Said {
+pub(crate) fn said_by(answer: &Answer<'_, u64, u64>) -> Said {
     match answer {
         Answer::Pair(pair) => Said::Pair(numbers(*pair)),
         Answer::Flag(flag) => Said::Flag(*flag),

@@ -1,5 +1,5 @@
 //! Worked walks of cursors.
-use crate::said::{Entry, Said, make, numbers, said};
+use crate::said::{Entry, Said, make, numbers, said_by};
 use std::alloc::{AllocError, Global};
 use std::ops::Bound;
 use std::process::Abort;
@@ -264,7 +264,7 @@ fn expect_at_once<'t, C: Cursor<'t, u64, u64>>(
     let given = run_moves(alloc, cursor, moves)?;
     assert_eq!(rt; given.len(), answers.len());
     for (one, answer) in given.iter().zip(answers) {
-        assert_eq!(rt; said(one), *answer);
+        assert_eq!(rt; said_by(one), *answer);
     }
     Ok(())
 }
