@@ -101,21 +101,20 @@ fn open_all(
 /// Opens cursors on a tree as it was built, without its greatest keys, and after a cut.
 fn walk_tree(rt: &impl Abort, alloc: Global, size: u64, order: Order) -> Result<(), AllocError> {
     let mut chance = Chance::new(size);
-    let mut both = grown(rt, alloc, size, order, &mut chance)?;
+    let mut both = grown(alloc, size, order, &mut chance)?;
     open_all(rt, &both, size, &mut chance)?;
     for key in size..=size.saturating_mul(2) {
-        both.remove(rt, key);
+        both.remove(key);
     }
     open_all(rt, &both, size, &mut chance)?;
     let low = key_of(size, &mut chance);
-    both.cut(
-        rt,
-        (
-            Bound::Excluded(low),
-            Bound::Included(low.saturating_add(size / 3)),
-        ),
-    );
-    open_all(rt, &both, size, &mut chance)
+    both.cut((
+        Bound::Excluded(low),
+        Bound::Included(low.saturating_add(size / 3)),
+    ));
+    open_all(rt, &both, size, &mut chance)?;
+    assert_eq!(rt; both.flaw(), None);
+    Ok(())
 }
 
 #[test]

@@ -42,35 +42,32 @@ fn bounds_of(both: &Both, size: u64, chance: &mut Chance) -> Bounds {
 }
 
 /// Stores and removes some pairs.
-fn write(
-    rt: &impl Abort,
-    both: &mut Both,
-    size: u64,
-    chance: &mut Chance,
-) -> Result<(), AllocError> {
+fn write(both: &mut Both, size: u64, chance: &mut Chance) -> Result<(), AllocError> {
     for _ in 0..size / 8 + 20 {
         let key = key_of(size, chance);
         if chance.below(4) == 0 {
-            both.remove(rt, key);
+            both.remove(key);
         } else {
-            both.upsert(rt, key, chance.below(100))?;
+            both.upsert(key, chance.below(100))?;
         }
     }
-    both.compare(rt);
+    both.compare();
     Ok(())
 }
 
 /// Builds a tree of so many keys, and cuts it again and again.
 fn cut_tree(rt: &impl Abort, alloc: Global, size: u64, order: Order) -> Result<(), AllocError> {
     let mut chance = Chance::new(size);
-    let mut both = grown(rt, alloc, size, order, &mut chance)?;
+    let mut both = grown(alloc, size, order, &mut chance)?;
     for _ in 0..CUTS {
         let bounds = bounds_of(&both, size, &mut chance);
-        both.cut(rt, bounds);
-        write(rt, &mut both, size, &mut chance)?;
+        both.cut(bounds);
+        write(&mut both, size, &mut chance)?;
     }
-    both.cut(rt, (Bound::Unbounded, Bound::Unbounded));
-    write(rt, &mut both, size, &mut chance)
+    both.cut((Bound::Unbounded, Bound::Unbounded));
+    write(&mut both, size, &mut chance)?;
+    assert_eq!(rt; both.flaw(), None);
+    Ok(())
 }
 
 #[test]

@@ -68,19 +68,19 @@ static ROWS: [Row; 6] = [
 ];
 
 /// An index of the keys from the first to the last, which come in ascending order.
-fn ascending(rt: &impl Abort, alloc: Global, first: u64, last: u64) -> Result<Both, AllocError> {
+fn ascending(alloc: Global, first: u64, last: u64) -> Result<Both, AllocError> {
     let mut both = Both::new(alloc);
     for key in first..=last {
-        both.upsert(rt, key, key)?;
+        both.upsert(key, key)?;
     }
     Ok(both)
 }
 
 /// Removes as the row says, and then stores a pair.
 fn expect_row(rt: &impl Abort, alloc: Global, row: &Row) -> Result<(), AllocError> {
-    let mut both = ascending(rt, alloc, row.first, row.last)?;
+    let mut both = ascending(alloc, row.first, row.last)?;
     for (low, high, left) in row.cuts {
-        both.cut(rt, (*low, *high));
+        both.cut((*low, *high));
         assert_eq!(rt; both.index().len(), *left);
     }
     for key in row.present {
@@ -89,9 +89,10 @@ fn expect_row(rt: &impl Abort, alloc: Global, row: &Row) -> Result<(), AllocErro
     for key in row.absent {
         assert!(rt; !both.index().contains(key));
     }
-    both.upsert(rt, 5, 50)?;
+    both.upsert(5, 50)?;
     assert_eq!(rt; both.index().peek(&5).copied(), Some(50));
-    both.compare(rt);
+    both.compare();
+    assert_eq!(rt; both.flaw(), None);
     Ok(())
 }
 
@@ -103,19 +104,20 @@ fn removes_exactly_what_is_within_the_bounds(rt: HostRuntime) {
 }
 
 fn clears_steps(rt: &impl Abort, alloc: Global) -> Result<(), AllocError> {
-    let mut both = ascending(rt, alloc, 1, 1)?;
+    let mut both = ascending(alloc, 1, 1)?;
     assert_eq!(rt; both.index().depth(), 1);
-    both.remove(rt, 1);
+    both.remove(1);
     assert_eq!(rt; (both.index().depth(), both.index().len()), (1, 0));
-    both.clear(rt);
+    both.clear();
     for key in 0..500 {
-        both.upsert(rt, key, key)?;
+        both.upsert(key, key)?;
     }
-    both.clear(rt);
-    both.clear(rt);
-    both.upsert(rt, 1, 10)?;
+    both.clear();
+    both.clear();
+    both.upsert(1, 10)?;
     assert_eq!(rt; (both.index().depth(), both.index().spare()), (1, 14));
-    both.compare(rt);
+    both.compare();
+    assert_eq!(rt; both.flaw(), None);
     Ok(())
 }
 

@@ -1,6 +1,6 @@
-//! What can be wrong with a tree.
+//! What can be wrong with an index.
 
-/// What a walk over a tree found wrong.
+/// What was found wrong.
 #[derive(Clone, Copy, Debug, PartialEq, Eq)]
 pub enum Flaw {
     /// A key is no larger than one before it, or a separator is smaller than a key before it.
@@ -9,12 +9,14 @@ pub enum Flaw {
     EmptyChild,
     /// A leaf isn't linked behind the one before it.
     Link,
-    /// The level of a leaf node isn't 1.
+    /// The level of a leaf node isn't 1, or an index that was cleared has a depth.
     Level,
     /// So many pairs, leaves or nodes were not met.
     Count,
     /// The leaves in a row don't have the pairs.
     Pairs,
+    /// A call was answered otherwise than by the plain index.
+    Answer,
 }
 
 /// Returns the flaw unless this holds.

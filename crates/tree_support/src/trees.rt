@@ -2,7 +2,6 @@
 use crate::both::Both;
 use std::alloc::{AllocError, Global};
 use std::ops::Bound;
-use std::process::Abort;
 use test_support::chance::Chance;
 
 /// The order in which keys come.
@@ -37,7 +36,6 @@ impl Order {
 
 /// Builds a tree of so many keys that come in an order.
 pub fn grown(
-    rt: &impl Abort,
     alloc: Global,
     size: u64,
     order: Order,
@@ -46,7 +44,7 @@ pub fn grown(
     let mut both = Both::new(alloc);
     for n in 0..size {
         let key = order.key(n, size, chance);
-        both.upsert(rt, key, n)?;
+        both.upsert(key, n)?;
     }
     Ok(both)
 }
