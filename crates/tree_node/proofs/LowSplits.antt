@@ -1,5 +1,5 @@
 -- A child that gives its lower part to a new one before it, and the node above it, which is written with the separator.
-use Rattle.std.proofs.Common.{◌≡◌, ◌⊎◌, ℕ, zero, suc, ◌-◌, ◌<◌, ◌≤◌, Bool, true, false, cond, List, [], ◌∷◌, ◌++◌, map, length, length-append, Option, Some, None, refl, sym, ap, ◌∙◌, arith, append_assoc, inl, inr}
+use Rattle.std.proofs.Common.{◌≡◌, ◌⊎◌, ℕ, zero, suc, ◌-◌, ◌<◌, ◌≤◌, min, Bool, true, false, cond, List, [], ◌∷◌, ◌++◌, map, length, length-append, Option, Some, None, refl, sym, ap, ◌∙◌, arith, append_assoc, inl, inr}
 use Rattle.std.specs.List.{AllByRecursion}
 use Rattle.std.specs.declared.cmp.Ordering.{Ordering}
 use Rattle.std.specs.Cmp.{IsTotalOrder}
@@ -14,11 +14,12 @@ use Rattle.tree_model.proofs.Lists.{all_map}
 use Rattle.tree_node.specs.declared.node.NodeOf.{NodeOf}
 use Rattle.tree_node.specs.Arenas.{TreeArenas}
 use Rattle.tree_node.specs.Parts.{IsPart, PutsChild, Replaces}
-use Rattle.tree_node.specs.Shape.{room, slot_room}
+use Rattle.tree_node.specs.Shape.{room, slot_room, spare}
 use Rattle.tree_node.specs.Tree.{AreParted, IsAbove, IsBelow, HasChildFor, Stands, keyed, unbounded, child_at, is_from, walk, leaves_at, children_of}
 use Rattle.tree_node.proofs.Frames.{Agrees, agrees_here, same_stands}
 use Rattle.tree_node.proofs.Lifts.{front_agrees, back_agrees, changed_agree, leaves_once_in, lifted, walk_now, walk_was}
 use Rattle.tree_node.proofs.Places.{first_child, later_children, low_at, high_at, children_at, children_put, routed_by, child_between, separator_absent, separator_put, parted_low}
+use Rattle.tree_node.proofs.Spares.{spares-cons, spares-single, spares_same, spare_split}
 use Rattle.tree_node.proofs.Standing.{node_is}
 
 -- The part under x has become the parts under y and x, in this order, with this separator between them: x keeps its number, and y is new. `Within` says of bounds that the separator fits between them.
@@ -28,12 +29,14 @@ pub record SplitsLow {K V : Type 0} {LEN : ℕ} (cmp : K → K → Ordering) (Wi
   pub lower : (low high : Option K) → Within low high → Stands cmp level old low x high → Stands cmp level new low y (Some separator)
   pub upper : (low high : Option K) → Within low high → Stands cmp level old low x high → Stands cmp level new (Some separator) x high
   pub replaces : Replaces level old new (x ∷ []) (y ∷ (x ∷ []))
+  pub spares : spare level old x ≤ min (spare level new y) (spare level new x)
 
 -- The node above the two has got the new child before the old one, and nothing else of it changed: the pairs are the same, and one slot of its array is taken.
 pub record GainsLow {K V : Type 0} {LEN : ℕ} (cmp : K → K → Ordering) (Within : Option K → Option K → Type 0) (level : ℕ) (old mid new : TreeArenas K V LEN) (id x y : ℕ) (separator : K) : Type 0 where
   pub pairs : walk (suc level) new id ≡ walk (suc level) old id
   pub stands : (low high : Option K) → Within low high → Stands cmp (suc level) old low id high → Stands cmp (suc level) new low id high
   pub replaces : Replaces (suc level) old new (id ∷ []) (id ∷ [])
+  pub spares : spare (suc level) old id ≤ spare (suc level) new id
   pub spends : room (suc level) old id ≤ suc (room (suc level) new id)
   pub low_room : 0 < room level mid y → 0 < room level new y
   pub high_room : 0 < room level mid x → 0 < room level new x
@@ -119,6 +122,21 @@ module _ {K V : Type 0} {LEN : ℕ} {cmp : K → K → Ordering} (o : IsTotalOrd
           append_assoc (walk level mid y) (walk level mid x) [],
         ) refl
 
+    more_spare : spare (suc level) old id ≤ spare (suc level) new id
+    more_spare =
+        omega (
+          arith,
+          splits.spares,
+          spare_split level old id front (x ∷ []) back was,
+          spare_split level new id front (y ∷ (x ∷ [])) back now,
+          spares-single level old x,
+          spares-single level mid x,
+          spares-cons level mid y (x ∷ []),
+          spares_same level mid new (y ∷ (x ∷ [])) changed,
+          spares_same level old new front fronts,
+          spares_same level old new back backs,
+        )
+
     stands_now : (low high : Option K) → Within low high → Stands cmp (suc level) old low id high → Stands cmp (suc level) new low id high
     stands_now low high fits s =
         let inside = inner low high fits in
@@ -194,6 +212,7 @@ module _ {K V : Type 0} {LEN : ℕ} {cmp : K → K → Ordering} (o : IsTotalOrd
       pairs = same_pairs;
       stands = stands_now;
       replaces = replaces_node;
+      spares = more_spare;
       spends = spends_one;
       low_room = new_room;
       high_room = old_room;
