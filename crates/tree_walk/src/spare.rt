@@ -1,12 +1,15 @@
 //! The spare of a part of a tree: how many writes are sure to go into its leaves.
-ghost use Rattle.std.specs.Prelude.{◌≡◌, ◌<◌, Some};
+ghost use Rattle.std.specs.Prelude.{◌≡◌, ◌<◌, Some, if◌then◌else◌};
 ghost use Rattle.slab.specs.Slab.{ContainsKey};
+ghost use Rattle.tree_array.specs.Arrivals.{free};
+ghost use Rattle.tree_array.specs.Sound.{IsSound};
 ghost use Rattle.tree_node.specs.Shape.{leaf_spare, least};
 ghost use Rattle.tree_node.specs.Tree.{StandsOrRetired, leaves_at};
 ghost use Rattle.tree_node.specs.Whole.{spare_under};
 
 use crate::children::ChildrenOn;
 use crate::leaves::array_of;
+use tree_array::array::ArrayOf;
 use tree_leaf::arena::{LeafId, NodeId};
 use tree_node::node::{ArenasOf, NodeOf, slots_left};
 
@@ -70,13 +73,20 @@ fn spare_in<K: Ord + Drop, V: Drop, const LEN: usize>(
     ensures { result ≡ leaf_spare arenas.now.leaves leaf }
 {
     let array = array_of(arenas, leaf);
-    let count = array.len() as u8;
-    let unused = array.free();
-    let free = if array.is_retired() { 0 } else { unused };
-    let rebuilt_up_to = LEN as u8 * 3 / 4;
-    if count + free <= rebuilt_up_to {
-        LEN as u8 - count
+    let count = array.len();
+    let left = slots_left_in(array) as usize;
+    if count + left <= LEN * 3 / 4 {
+        (LEN - count) as u8
     } else {
-        free
+        left as u8
     }
+}
+
+/// Returns how many more pairs an array takes: as many as it has slots never used, or none once it is retired.
+fn slots_left_in<K: Ord + Drop, V: Drop, const LEN: usize>(array: &ArrayOf<K, V, LEN>) -> u8
+    ensures left { result ≡ if array.now.retired then 0 else free LEN array.now }
+    ensures sound { IsSound K.cmp LEN array.now }
+{
+    let unused = array.free();
+    if array.is_retired() { 0 } else { unused }
 }
