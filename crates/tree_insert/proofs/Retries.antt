@@ -10,7 +10,7 @@ use Rattle.tree_array.specs.Length.{limit}
 use Rattle.tree_node.specs.Arenas.{TreeArenas}
 use Rattle.tree_insert.specs.Inserts.{Inserts, InsertsUnder, IsNew, asks_split, declined}
 use Rattle.tree_node.specs.Parts.{IsPart, Unchanged}
-use Rattle.tree_node.specs.Shape.{IsCrowded, held, room, spare}
+use Rattle.tree_node.specs.Shape.{IsCrowded, held, room, slot_keyed, spare}
 use Rattle.tree_split.specs.Splits.{HasMadeRoom, LacksRoom, SplitsChild}
 use Rattle.tree_node.specs.Tree.{HasChildFor, Stands, walk}
 use Rattle.tree_node.proofs.ChildChanges.{child_part, new_walk, old_spare, old_walk}
@@ -135,6 +135,12 @@ module _ {K V : Type 0} {LEN : ℕ} {cmp : K → K → Ordering} (upsert : Bool)
         let after : attempts cmp level made id k ≡ level + level = rw below.same_key (one_attempt cmp level made id child'.0 key child'.1 (room_made.child child'.0 child'.1)) in
         let before : attempts cmp level old id key ≡ level + level + 1 = two_attempts cmp level old id child key below.which (crowded_room cmp (level - 1) old child key below.crowded) in
         omega (arith, after, before)
+
+-- what a node holds are its keyed children
+pub held_above : {K V : Type 0} {LEN : ℕ} (a : TreeArenas K V LEN) (id level : ℕ) → 1 < level → held (level - 1) a id ≡ slot_keyed (get a.nodes id)
+held_above a id zero deep = absurd (omega (arith, deep))
+held_above a id (suc zero) deep = absurd (omega (arith, deep))
+held_above a id (suc (suc level)) deep = rw sub-one refl
 
 -- a split of the key's child makes room for the key
 pub room_by_split : {K V : Type 0} {LEN : ℕ} {cmp : K → K → Ordering} {level : ℕ} {old new : TreeArenas K V LEN} {id child : ℕ} (key : K) → SplitsChild cmp level old new id child → HasChildFor cmp key (get old.nodes id) child → HasMadeRoom cmp level old new id key
