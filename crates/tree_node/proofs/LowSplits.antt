@@ -56,13 +56,13 @@ module _ {K V : Type 0} {LEN : ℕ} {cmp : K → K → Ordering} (o : IsTotalOrd
         let both : Some s.last ≡ Some last = sym s.last_is ∙ rw (node_is level old low id high s node was_node) last_is in
         cc
 
-    parted : AreParted cmp (Stands cmp level old) low (before ++ onward) last high
+    pub parted : AreParted cmp (Stands cmp level old) low (before ++ onward) last high
     parted = rw (node_is level old low id high s node was_node, entries, same_last) at s.parted
 
     child_stood : Stands cmp level old (low_at low before) x (high_at onward high)
     child_stood = rw child at (child_between o (Stands cmp level old) low before onward last high parted)
 
-    separates_here : IsAbove cmp (low_at low before) separator × IsBelow cmp separator (high_at onward high)
+    pub separates_here : IsAbove cmp (low_at low before) separator × IsBelow cmp separator (high_at onward high)
     separates_here = splits.separates (low_at low before) (high_at onward high) (inner low high within) child_stood
 
   -- no child of the node has the separator yet
@@ -77,13 +77,13 @@ module _ {K V : Type 0} {LEN : ℕ} {cmp : K → K → Ordering} (o : IsTotalOrd
     stands_here : Stands cmp (suc level) old None id None
     stands_here = part.stands
 
-    entries_now : (keyed node').entries ≡ before ++ (separator, y) ∷ onward
+    pub entries_now : (keyed node').entries ≡ before ++ (separator, y) ∷ onward
     entries_now =
         let fits = separates_here None None within stands_here in
         ap (λ (a : Arrivals K ℕ). a.entries) puts.put
         ∙ rw entries (separator_put o (Stands cmp level old) separator None before onward last None (parted None None within stands_here) fits.0 fits.1 y)
 
-    last_now : unbounded node' ≡ Some last
+    pub last_now : unbounded node' ≡ Some last
     last_now = puts.last ∙ last_is
 
     abbrev front : List ℕ
@@ -101,13 +101,13 @@ module _ {K V : Type 0} {LEN : ℕ} {cmp : K → K → Ordering} (o : IsTotalOrd
     leaves_once : (n : ℕ) → times n (leaves_at (suc level) old.nodes id) ≤ uses old.leaves n
     leaves_once = leaves_once_in (suc level) old id part
 
-    fronts : AllByRecursion (λ c. Agrees level old new c) front
+    pub fronts : AllByRecursion (λ c. Agrees level old new c) front
     fronts = front_agrees level old mid new id front (x ∷ []) (y ∷ (x ∷ [])) back splits.replaces was now part.nodes_once leaves_once others (rw is_node refl) leaves
 
     backs : AllByRecursion (λ c. Agrees level old new c) back
     backs = back_agrees level old mid new id front (x ∷ []) (y ∷ (x ∷ [])) back splits.replaces was now part.nodes_once leaves_once others (rw is_node refl) leaves
 
-    changed : AllByRecursion (λ c. Agrees level mid new c) (y ∷ (x ∷ []))
+    pub changed : AllByRecursion (λ c. Agrees level mid new c) (y ∷ (x ∷ []))
     changed = changed_agree level old mid new id front (x ∷ []) (y ∷ (x ∷ [])) back splits.replaces was now part.nodes_once leaves_once others (rw is_node refl) leaves
 
     replaces_node : Replaces (suc level) old new (id ∷ []) (id ∷ [])
