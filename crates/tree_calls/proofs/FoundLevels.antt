@@ -85,7 +85,7 @@ module _ {K V : Type 0} {LEN : ℕ} (cmp : K → K → Ordering) (a : TreeArenas
               pairs = (λ pair is. absurd (let was = rw before at is in cc), rw (before, after) refl);
               leaves = same;
               replaces = unchanged_replaces level a b same (id ∷ []);
-              spare = inr (rw (before, after) (omega arith));
+              spare = rw (before, after) (omega arith);
             }
 
     -- so is a removal of a range

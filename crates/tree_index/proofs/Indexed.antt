@@ -17,14 +17,14 @@ use Rattle.tree_node.specs.Arenas.{TreeArenas}
 use Rattle.tree_walk.specs.Ends.{IsLinked}
 use Rattle.tree_insert.specs.Inserts.{Inserts, declined}
 use Rattle.tree_node.specs.Tree.{Stands, StandsOrRetired, leaves_at, walk}
-use Rattle.tree_node.specs.Whole.{IsRetiredRoot, IsTop, depth_of, walk_under}
+use Rattle.tree_node.specs.Whole.{IsRetiredRoot, IsTop, depth_of, leaves_under, walk_under}
 use Rattle.tree_node.proofs.Ascents.{walk_ascends}
 use Rattle.tree_node.proofs.Bare.{no_children}
 use Rattle.tree_index.specs.declared.tree.Stored.{Stored}
 use Rattle.tree_index.specs.declared.tree.Stored.TheVariants.{New as NewKey, Replaced as OldKey}
 use Rattle.tree_index.specs.declared.tree.Tree.{Tree}
 use Rattle.tree_index.proofs.Stored.{stands_or_retired}
-use Rattle.tree_index.specs.Index.{Index, IsTreeOf, IsWritten, SpendsInsert, StoresPair, index_of}
+use Rattle.tree_index.specs.Index.{Index, IsTreeOf, IsWritten, KeepsSpare, SpendsInsert, StoresPair, index_of}
 use Rattle.tree_index.specs.Trees.{IsWhole, Stores, Takes, pairs_of, told}
 
 module _ {K V : Type 0} {LEN : ℕ} {cmp : K → K → Ordering} (o : IsTotalOrder cmp) where
@@ -88,6 +88,15 @@ deep_if_kept {K = K} {V = V} LEN old new same written = by_depth old.depth refl
 -- a removal that removed nothing leaves the index as it was
 pub index_kept : {K V : Type 0} {LEN : ℕ} (cmp : K → K → Ordering) (Says : V → Bool → Type 0) (old new : Tree K V LEN) (key : K) → Takes cmp Says old new key false → index_of new ≡ index_of old
 index_kept cmp Says old new key takes = rw (takes.pairs.1, (takes.kept refl).0, (takes.kept refl).1) refl
+
+-- a tree without a leaf has no pair
+no_pairs : {K V : Type 0} {LEN : ℕ} (a : TreeArenas K V LEN) (root : Option (ℕ × ℕ)) → leaves_under a.nodes root ≡ [] → walk_under a root ≡ []
+no_pairs a None bare = refl
+no_pairs a (Some root) bare = rw bare refl
+
+-- what a removal from the tree leaves of the spare
+pub keeps_spare : {K V : Type 0} {LEN : ℕ} (cmp : K → K → Ordering) (Says : V → Bool → Type 0) (old new : Tree K V LEN) (key : K) (removed : Bool) → Takes cmp Says old new key removed → KeepsSpare (index_of old) (index_of new)
+keeps_spare cmp Says old new key removed takes = elim takes.spare [ inl more ↦ inl more | inr none ↦ inr (no_pairs new.arenas new.root none, rw none refl) ]
 
 -- the index is empty where no pair is counted
 pub empty_by_count : {X : Type 0} (l : List X) (n : ℕ) → n ≡ length l → IsTrue (n == 0) ↔ (l ≡ [])

@@ -100,7 +100,7 @@ module _ {K V : Type 0} {LEN : ℕ} (cmp : K → K → Ordering) where
             whole = rw now (tree_after old.arenas new.arenas id level here ins.replaces (here.top.0, inl stands_now));
             pairs = rw (was, now) ins.pairs;
             lowers = omega (arith, ins.lowers, was_spare, is_spare);
-            spent = λ so. was_spare ∙ ins.spent so;
+            spent = λ so. was_spare ∙ ins.spent so (λ asks. here.top.0);
             first = λ none taken. absurd (omega (arith, here.top.0, ap depth_of was, none));
             kept = λ so. rw (was, now) (refl, spare_unchanged old.arenas new.arenas (Some (id, level)) (ins.unchanged so));
           }
@@ -136,7 +136,7 @@ module _ {K V : Type 0} {LEN : ℕ} (cmp : K → K → Ordering) where
           by_top (inl stands) =
               let ins = rw is at (inserts (tree_part old.arenas id level here stands)) in
               let same = kept (ins.unchanged refl) in
-              let none : spare_of old ≡ 0 = rw was (spare_standing cmp old.arenas id level stands) ∙ ins.spent refl in
+              let none : spare_of old ≡ 0 = rw was (spare_standing cmp old.arenas id level stands) ∙ ins.spent refl (λ asks. here.top.0) in
               record {
                 still_whole = same.2;
                 full = inr (room_unchanged level old.arenas new.arenas id (ins.unchanged refl) ∙ crowded_room cmp level old.arenas id key (ins.full refl));

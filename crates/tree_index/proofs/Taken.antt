@@ -1,5 +1,5 @@
 -- What a removal from a tree comes to.
-use Rattle.std.proofs.Common.{◌≡◌, ◌⊎◌, ℕ, zero, suc, ◌<◌, ◌≤◌, Bool, true, false, [], Some, None, inl, inr, refl, ap, arith}
+use Rattle.std.proofs.Common.{◌≡◌, ◌⊎◌, ℕ, zero, suc, ◌<◌, ◌≤◌, Bool, true, false, [], Some, None, inl, inr, refl, ap, ◌∙◌, arith}
 use Rattle.std.specs.declared.cmp.Ordering.{Ordering}
 use Rattle.slab.specs.Slab.{get}
 use Rattle.tree_array.specs.declared.answers.RemoveResult.{RemoveResult}
@@ -11,7 +11,7 @@ use Rattle.tree_node.specs.Parts.{IsPart}
 use Rattle.tree_node.specs.Tree.{IsOfLevel}
 use Rattle.tree_remove.specs.Removes.{RemovesUnder, TakesOut}
 use Rattle.tree_node.specs.Shape.{spare}
-use Rattle.tree_node.specs.Tree.{IsRetired, Stands, walk}
+use Rattle.tree_node.specs.Tree.{IsRetired, Stands, leaves_at, walk}
 use Rattle.tree_node.specs.Whole.{IsRetiredRoot, IsTree, spare_under}
 use Rattle.tree_node.proofs.Bare.{no_children}
 use Rattle.tree_node.proofs.Steps.{part_after}
@@ -26,7 +26,7 @@ module _ {K V : Type 0} {LEN : ℕ} (cmp : K → K → Ordering) (Says : V → B
   none_taken whole same none = record {
     whole = rw same whole;
     pairs = rw (same, none) ((λ pair found. absurd (cc)), refl);
-    spare = inr (rw same (omega arith));
+    spare = inl (rw same (omega arith));
     kept = λ so. rw same (refl, refl);
   }
 
@@ -39,30 +39,34 @@ module _ {K V : Type 0} {LEN : ℕ} (cmp : K → K → Ordering) (Says : V → B
     kept root r = record {
       whole = rw root (tree_unchanged old.arenas new.arenas old.root r.leaves whole);
       pairs = (rw was r.pairs.0, rw root (walk_unchanged old.arenas new.arenas old.root r.leaves));
-      spare = inr (omega (arith, ap (λ r. spare_under new.arenas r) root, spare_unchanged old.arenas new.arenas old.root r.leaves));
+      spare = inl (omega (arith, ap (λ r. spare_under new.arenas r) root, spare_unchanged old.arenas new.arenas old.root r.leaves));
       kept = λ so. rw root (refl, spare_unchanged old.arenas new.arenas old.root r.leaves);
     }
 
     -- the pair went, and then the root was lowered
     module _ (mid : TreeArenas K V LEN) (result : RemoveResult) (gone : TakesOut cmp Says (walk level old.arenas id) key (walk level mid id)) (r : RemovesUnder cmp Says level old.arenas mid id result key)
-        (spare_mid : (spare_under mid (Some (id, level)) ≡ 0) ⊎ (spare_under old.arenas (Some (id, level)) ≤ spare_under mid (Some (id, level)))) (lowers : LowersRoot cmp level mid new.arenas id new.root) where
+        (spare_mid : (spare_under old.arenas (Some (id, level)) ≤ spare_under mid (Some (id, level))) ⊎ (leaves_at level mid.nodes id ≡ [])) (lowers : LowersRoot cmp level mid new.arenas id new.root) where
       pub lowered : Takes cmp Says old new key true
       lowered = record {
         whole = tree_lowered mid new.arenas id level new.root (nodes_after old.arenas mid id level here r.replaces) (leaves_after old.arenas mid id level here r.replaces) (chain_after old.arenas mid id level here r.replaces) lowers;
         pairs = (gone.pair, rw was gone.was, gone.said, rw (was, lowers.pairs) gone.left);
-        spare = rw (was, spare_lowered cmp mid new.arenas id level new.root lowers) spare_mid;
+        spare = elim spare_mid [
+          | inl more ↦ inl (rw (was, spare_lowered cmp mid new.arenas id level new.root lowers) more)
+          | inr none ↦ inr (lowers.leaves_under ∙ none)
+        ];
         kept = λ so. absurd (cc);
       }
 
     -- the spare of the part after the removal
-    pub spare_kept : (mid : TreeArenas K V LEN) → Stands cmp level old.arenas None id None → Stands cmp level mid None id None → ((spare level mid id ≡ 0) ⊎ (spare level old.arenas id ≤ spare level mid id))
-        → (spare_under mid (Some (id, level)) ≡ 0) ⊎ (spare_under old.arenas (Some (id, level)) ≤ spare_under mid (Some (id, level)))
+    pub spare_kept : (mid : TreeArenas K V LEN) → Stands cmp level old.arenas None id None → Stands cmp level mid None id None → spare level old.arenas id ≤ spare level mid id
+        → spare_under old.arenas (Some (id, level)) ≤ spare_under mid (Some (id, level))
     spare_kept mid before after spares = rw (spare_standing cmp old.arenas id level before, spare_standing cmp mid id level after) spares
 
-    pub spare_gone : (mid : TreeArenas K V LEN) → IsRetired level mid id → spare_under mid (Some (id, level)) ≡ 0
-    spare_gone mid retired = by_level level here.top.0 retired
+    -- a retired root has no leaf
+    pub leaves_gone : (mid : TreeArenas K V LEN) → IsRetired level mid id → leaves_at level mid.nodes id ≡ []
+    leaves_gone mid retired = by_level level here.top.0 retired
       where
-        by_level : (level : ℕ) → 0 < level → IsRetired level mid id → spare_under mid (Some (id, level)) ≡ 0
+        by_level : (level : ℕ) → 0 < level → IsRetired level mid id → leaves_at level mid.nodes id ≡ []
         by_level zero deep retired = absurd (omega (arith, deep))
         by_level (suc level) deep retired = rw (no_children (get mid.nodes id) retired).1 refl
 
@@ -85,11 +89,11 @@ module _ {K V : Type 0} {LEN : ℕ} (cmp : K → K → Ordering) (Says : V → B
       still_part = part_after cmp level old.arenas mid id (tree_part old.arenas id level here before) (r.leaves None None before) r.replaces
 
       pub taken : LowersRoot cmp level mid new.arenas id new.root → Takes cmp Says old new key true
-      taken lowers = lowered mid Success r.pairs r (spare_kept mid before still_part.stands r.spare) lowers
+      taken lowers = lowered mid Success r.pairs r (inl (spare_kept mid before still_part.stands r.spare)) lowers
 
     -- after the last one it is retired
     pub last_taken : (mid : TreeArenas K V LEN) → RemovesUnder cmp Says level old.arenas mid id Retired key → LowersRoot cmp level mid new.arenas id new.root → Takes cmp Says old new key true
-    last_taken mid r lowers = lowered mid Retired r.pairs.0 r (inl (spare_gone mid r.leaves.0)) lowers
+    last_taken mid r lowers = lowered mid Retired r.pairs.0 r (inr (leaves_gone mid r.leaves.0)) lowers
 
 -- the root of a part has the kind of its level
 pub root_level : {K V : Type 0} {LEN : ℕ} {cmp : K → K → Ordering} {a : TreeArenas K V LEN} {id : ℕ} (level : ℕ) → IsPart cmp level a id → IsOfLevel level (get a.nodes id)

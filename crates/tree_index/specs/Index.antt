@@ -1,5 +1,5 @@
 -- What contracts see of an index.
-use Rattle.std.specs.Prelude.{◌≡◌, ◌⊎◌, ℕ, suc, ◌-◌, ◌<◌, ◌≤◌, Bool, true, false, List, Option, None, Result, Ok, Err}
+use Rattle.std.specs.Prelude.{◌≡◌, ◌⊎◌, ℕ, suc, ◌-◌, ◌<◌, ◌≤◌, Bool, true, false, List, [], Option, None, Result, Ok, Err}
 use Rattle.std.specs.Option.{option_map}
 use Rattle.std.specs.declared.cmp.Ordering.{Ordering}
 use Rattle.tree_model.specs.declared.commands.InsertError.{InsertError}
@@ -46,9 +46,9 @@ module _ {K V : Type 0} where
   SpendsUpsert LEN old new (Ok _) = IsWritten LEN old new
   SpendsUpsert LEN old new (Err pair) = old.spare ≡ 0
 
-  -- No leaf lost room, but one that lost its last pair has none.
+  -- No leaf takes fewer writes than before; or none is left, with no pair and nothing spare.
   abbrev pub KeepsSpare : Index K V → Index K V → Type 0
-  KeepsSpare old new = (new.spare ≡ 0) ⊎ (old.spare ≤ new.spare)
+  KeepsSpare old new = (old.spare ≤ new.spare) ⊎ ((new.pairs ≡ []) × (new.spare ≡ 0))
 
 -- The index is a whole tree: these arenas, and this root at the level of its depth.
 pub record IsTreeOf {K V : Type 0} {LEN : ℕ} (cmp : K → K → Ordering) (index : Index K V) (arenas : TreeArenas K V LEN) (root : Option ℕ) : Type 0 where

@@ -1,5 +1,5 @@
 -- What the calls of a tree answer and leave.
-use Rattle.std.specs.Prelude.{◌≡◌, ◌⊎◌, ℕ, suc, ◌+◌, ◌-◌, ◌≤◌, Bool, true, false, List, length, Result, Ok, Err}
+use Rattle.std.specs.Prelude.{◌≡◌, ◌⊎◌, ℕ, suc, ◌+◌, ◌-◌, ◌≤◌, Bool, true, false, List, [], length, Result, Ok, Err}
 use Rattle.std.specs.declared.cmp.Ordering.{Ordering}
 use Rattle.std.specs.declared.ops.Bound.{Bound}
 use Rattle.tree_array.specs.declared.answers.StoreResult.{StoreResult}
@@ -9,7 +9,7 @@ use Rattle.tree_model.specs.declared.commands.InsertError.TheVariants.{Duplicate
 use Rattle.tree_model.specs.Edits.{RemovesIf}
 use Rattle.tree_model.specs.Pairs.{cut}
 use Rattle.tree_insert.specs.Inserts.{Inserts, declined, refused}
-use Rattle.tree_node.specs.Whole.{IsTree, depth_of, spare_under, walk_under}
+use Rattle.tree_node.specs.Whole.{IsTree, depth_of, leaves_under, spare_under, walk_under}
 use Rattle.tree_index.specs.declared.tree.Stored.{Stored}
 use Rattle.tree_index.specs.declared.tree.Stored.TheVariants.{New, Replaced}
 use Rattle.tree_index.specs.declared.tree.Tree.{Tree}
@@ -50,8 +50,8 @@ module _ {K V : Type 0} {LEN : ℕ} where
   pub record Takes (cmp : K → K → Ordering) (Says : V → Bool → Type 0) (old new : Tree K V LEN) (key : K) (removed : Bool) : Type 0 where
     pub whole : IsWhole cmp new
     pub pairs : RemovesIf cmp Says (pairs_of old) key removed (pairs_of new)
-    -- no leaf loses room, but one that loses its last pair has none
-    pub spare : (spare_of new ≡ 0) ⊎ (spare_of old ≤ spare_of new)
+    -- no leaf takes fewer writes than before, or no leaf is left
+    pub spare : (spare_of old ≤ spare_of new) ⊎ (leaves_under new.arenas.nodes new.root ≡ [])
     pub kept : removed ≡ false → KeepsShape old new
 
   -- The pairs whose keys are within the bounds are gone, and there were so many.

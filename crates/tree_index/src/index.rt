@@ -87,7 +87,7 @@ impl<K: IndexKey, V: Drop, const LEN: usize> TreeIndexOf<K, V, LEN> {
     ///
     /// Returns `Err` with the pair if an allocation is refused; the pairs are then as they were. Nothing is refused
     /// while the spare is above 0. Costs what [`insert_sync`](TreeIndexOf::insert_sync) does. A replaced pair leaves
-    /// its slot spent, so an upsert can split a leaf too.
+    /// its slot spent until its leaf is built anew or split.
     pub fn upsert_sync(&mut self, key: K, value: V) -> Result<(), (K, V)>
         ensures pairs { Upserts K.cmp self.old.pairs key value result self.new.pairs }
         ensures spare { SpendsUpsert LEN self.old self.new result }
@@ -223,8 +223,10 @@ impl<K: IndexKey, V: Drop, const LEN: usize> TreeIndexOf<K, V, LEN> {
         }
     }
 
-    /// Returns the least number of slots never used in any leaf: 0 without a leaf, and 0 if one is retired. That many
-    /// writes are sure not to allocate. Reads every node and leaf, and makes no comparisons.
+    /// Returns how many writes are sure not to allocate, whatever their keys: the least number that any leaf takes, and 0
+    /// without a leaf. A leaf takes as many writes as it has slots never used. If it is sure to be built anew in place
+    /// once these are filled, it takes as many as it has slots without a pair. Reads every node and leaf, and makes no
+    /// comparisons.
     pub fn spare(&self) -> u8
         ensures { result ≡ self.now.spare }
     {

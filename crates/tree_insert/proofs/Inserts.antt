@@ -1,5 +1,5 @@
 -- An insert in a leaf, and in the child that a key belongs to.
-use Rattle.std.proofs.Common.{◌≡◌, ℕ, suc, ◌≤◌, Bool, false, List, [], ◌∷◌, ◌++◌, length, length-append, Option, Some, None, Result, Ok, Err, refl, sym, ap, ◌∙◌, arith, inl, inr}
+use Rattle.std.proofs.Common.{◌≡◌, ℕ, suc, ◌-◌, ◌<◌, ◌≤◌, min, Bool, false, List, [], ◌∷◌, ◌++◌, length, length-append, Option, Some, None, Result, Ok, Err, refl, sym, ap, ◌∙◌, arith, inl, inr}
 use Rattle.std.specs.List.{AllByRecursion}
 use Rattle.std.specs.declared.cmp.Ordering.{Ordering}
 use Rattle.std.specs.declared.cmp.Ordering.TheVariants.{Less}
@@ -9,20 +9,22 @@ use Rattle.std.proofs.lemmas.List.{length-map}
 use Rattle.slab.specs.Slab.{get}
 use Rattle.tree_array.specs.declared.answers.StoreResult.{StoreResult}
 use Rattle.tree_array.specs.declared.answers.StoreResult.TheVariants.{New, Replaced, Duplicate, Full}
-use Rattle.tree_array.specs.Arrivals.{Arrivals, spend, spent_at}
+use Rattle.tree_array.specs.Arrivals.{Arrivals, free, spend, spent_at}
 use Rattle.tree_array.specs.Insertion.{IsFull, IsStore, IsStored}
 use Rattle.tree_leaf.specs.declared.leaf.LeafOf.{LeafOf}
 use Rattle.tree_model.specs.Pairs.{AllLarger, put}
 use Rattle.tree_model.proofs.Ascending.{IsAscending-put}
+use Rattle.tree_model.proofs.Lengths.{length-put, without_few}
 use Rattle.tree_model.proofs.Lists.{all-append, all-filter}
 use Rattle.tree_node.specs.Arenas.{TreeArenas}
 use Rattle.tree_insert.specs.Inserts.{Inserts, InsertsUnder, asks_split, declined, refused}
 use Rattle.tree_node.specs.Parts.{IsPart, Unchanged}
-use Rattle.tree_node.specs.Shape.{spare, leaf_free, slot_free}
+use Rattle.tree_node.specs.Shape.{spare, leaf_free, slot_free, slot_spare}
 use Rattle.tree_node.specs.Tree.{HasChildFor, Stands, walk}
 use Rattle.tree_node.proofs.Between.{found_between, put_between}
 use Rattle.tree_node.proofs.ChildChanges.{node_stands, node_replaces, old_spare, new_spare, old_walk, new_walk}
 use Rattle.tree_node.proofs.Children.{walk-leaf}
+use Rattle.tree_node.proofs.LeafSpares.{spare_written}
 use Rattle.tree_node.proofs.LeafWrites.{with_array, here_now, array_replaces, updated}
 use Rattle.tree_node.proofs.Walks.{front_walk_below, back_walk_above}
 use Rattle.tree_split.proofs.Fulls.{none_free}
@@ -40,8 +42,11 @@ module _ {K V : Type 0} {LEN : ℕ} {cmp : K → K → Ordering} (o : IsTotalOrd
   room_was : leaf_free a.leaves id ≡ slot_free (Some leaf)
   room_was = rw was refl
 
-  room_is : leaf_free new.leaves id ≡ slot_free {V = V} {LEN = LEN} (Some (record leaf { array = array }))
-  room_is = rw (here_now a id leaf array was) refl
+  spare_was : spare 0 a id ≡ min (slot_spare (Some leaf)) LEN
+  spare_was = rw was refl
+
+  spare_is : spare 0 new id ≡ min (slot_spare {V = V} {LEN = LEN} (Some (record leaf { array = array }))) LEN
+  spare_is = rw (here_now a id leaf array was) refl
 
   -- the array is what it was, and so is everything
   nothing_changed : array ≡ leaf.array → Unchanged a new
@@ -60,7 +65,7 @@ module _ {K V : Type 0} {LEN : ℕ} {cmp : K → K → Ordering} (o : IsTotalOrd
       record { leaf = record leaf { array = array }; here = here_now a id leaf array was; few = rw (same, ← is) s.few; ascending = rw (same, ← is) s.ascending; above = rw (same, ← is) s.above; up_to = rw (same, ← is) s.up_to }
 
   as_spare : array ≡ leaf.array → spare 0 a id ≤ suc (spare 0 new id)
-  as_spare same = rw (room_was, room_is, same) (omega arith)
+  as_spare same = rw (spare_was, spare_is, same) (omega arith)
 
   no_room : IsFull LEN leaf.array → slot_free {V = V} {LEN = LEN} (Some leaf) ≡ 0
   no_room full = none_free LEN leaf.array full
@@ -85,8 +90,13 @@ module _ {K V : Type 0} {LEN : ℕ} {cmp : K → K → Ordering} (o : IsTotalOrd
           up_to = rw entries (all_put _ leaf.array.entries up_to (rw is at s.up_to));
         };
     replaces = array_replaces a id leaf array was;
-    lowers = rw (room_was, room_is, ins.new_is, ins.room.1) (omega (arith, more));
-    spent = λ so. absurd (let both = sym so ∙ taken in cc);
+    lowers = rw (spare_was, spare_is, ins.new_is, ins.room.1)
+        (omega (
+          arith,
+          spare_written LEN (length leaf.array.entries) (free LEN leaf.array) (length (put cmp leaf.array.entries key val)) (LEN - length (spend cmp leaf.array.arrivals key ++ Some (key, val) ∷ []))
+              (omega (arith, length-put cmp leaf.array.entries key val, without_few cmp leaf.array.entries key)) (omega (arith, more, ins.room.0)),
+        ));
+    spent = λ so deep. absurd (let both = sym so ∙ taken in cc);
     full = λ so. absurd (let both = sym so ∙ no_split in cc);
     unchanged = λ so. absurd (let both = sym so ∙ accepted in cc);
   }
@@ -106,7 +116,7 @@ module _ {K V : Type 0} {LEN : ℕ} {cmp : K → K → Ordering} (o : IsTotalOrd
     stands = λ low high above up_to s. kept ins.back.new_is low high s;
     replaces = array_replaces a id leaf array was;
     lowers = as_spare ins.back.new_is;
-    spent = λ so. absurd (cc);
+    spent = λ so deep. absurd (cc);
     full = λ so. absurd (cc);
     unchanged = λ so. nothing_changed ins.back.new_is;
   }
@@ -115,7 +125,7 @@ module _ {K V : Type 0} {LEN : ℕ} {cmp : K → K → Ordering} (o : IsTotalOrd
     stands = λ low high above up_to s. kept ins.back.new_is low high s;
     replaces = array_replaces a id leaf array was;
     lowers = as_spare ins.back.new_is;
-    spent = λ so. omega (arith, room_was, no_room ins.full);
+    spent = λ so deep. absurd (omega (arith, deep refl));
     full = λ so. room_was ∙ no_room ins.full;
     unchanged = λ so. nothing_changed ins.back.new_is;
   }
@@ -149,7 +159,7 @@ module _ {K V : Type 0} {LEN : ℕ} {cmp : K → K → Ordering} (o : IsTotalOrd
         stands = λ low high above up_to s. node_stands o level old id child key part which low high s new ins.replaces ins.stands above up_to;
         replaces = node_replaces o level old id child key part which None None s new ins.replaces;
         lowers = omega (arith, whole, rest, ins.lowers);
-        spent = λ so. omega (arith, whole, ins.spent so);
+        spent = λ so deep. omega (arith, whole, ins.spent so (λ asks. absurd (let both = sym asks ∙ no_split in cc)));
         full = λ so. absurd (let both = sym so ∙ no_split in cc);
         unchanged = λ so. ins.unchanged so;
       }

@@ -1,5 +1,5 @@
 -- A retired node that becomes a leaf node over an empty leaf.
-use Rattle.std.proofs.Common.{◌≡◌, ◌≢◌, ℕ, zero, suc, ◌<◌, ◌≤◌, [], ◌∷◌, Some, None, inl, inr, refl, arith}
+use Rattle.std.proofs.Common.{◌≡◌, ◌≢◌, ℕ, zero, suc, ◌-◌, ◌<◌, ◌≤◌, [], ◌∷◌, Some, None, inl, inr, refl, arith}
 use Rattle.std.specs.declared.cmp.Ordering.{Ordering}
 use Rattle.std.proofs.lemmas.Bool.{cases_eq}
 use Rattle.slab.specs.Slab.{get}
@@ -7,6 +7,7 @@ use Rattle.tree_array.specs.Arrivals.{in_order}
 use Rattle.tree_leaf.specs.declared.leaf.LeafOf.{LeafOf}
 use Rattle.tree_leaf.specs.Counting.{times, uses}
 use Rattle.tree_leaf.proofs.Counts.{times-nil, times-cons, none_here, one_here, uses_some}
+use Rattle.tree_node.proofs.LeafSpares.{spare_at_least}
 use Rattle.tree_node.specs.declared.node.NodeOf.{NodeOf}
 use Rattle.tree_node.specs.Arenas.{TreeArenas}
 use Rattle.tree_node.specs.Tree.{HasKind, IsRetired, Stands, keyed, unbounded, leaves_at}
@@ -51,7 +52,7 @@ module _ {K V : Type 0} {LEN : ℕ} (cmp : K → K → Ordering) (old new : Tree
     was_free = was_free;
     leaves = leaves_are;
     chain = record { once = once; linked = rw leaf_here ((no_prev, no_next), tt) };
-    unused = rw (leaves_are, leaf_here, array) (omega arith);
+    unused = rw (leaves_are, leaf_here, array) (omega (arith, spare_at_least LEN 0 (LEN - 0)));
     nodes_kept = other_nodes;
     leaves_kept = other_leaves;
   }

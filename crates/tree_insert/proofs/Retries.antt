@@ -1,15 +1,16 @@
 -- An insert that met a full child: what it answers where no room is made, and where it is tried again.
-use Rattle.std.proofs.Common.{◌≡◌, ℕ, zero, suc, ◌+◌, ◌-◌, ◌<◌, Bool, false, List, [], ◌∷◌, None, Result, Ok, Err, refl, sym, ◌∙◌, arith, sub-one}
+use Rattle.std.proofs.Common.{◌≡◌, ℕ, zero, suc, ◌+◌, ◌-◌, ◌<◌, ◌≤◌, Bool, false, List, [], ◌∷◌, None, Result, Ok, Err, refl, sym, ◌∙◌, arith, sub-one}
 use Rattle.std.specs.declared.cmp.Ordering.{Ordering}
 use Rattle.std.specs.Cmp.{IsTotalOrder}
 use Rattle.std.proofs.lemmas.Bool.{false_from_ne_true}
 use Rattle.slab.specs.Slab.{get}
 use Rattle.tree_array.specs.declared.answers.StoreResult.{StoreResult}
 use Rattle.tree_array.specs.declared.answers.StoreResult.TheVariants.{New, Replaced, Duplicate, Full}
+use Rattle.tree_array.specs.Length.{limit}
 use Rattle.tree_node.specs.Arenas.{TreeArenas}
 use Rattle.tree_insert.specs.Inserts.{Inserts, InsertsUnder, IsNew, asks_split, declined}
 use Rattle.tree_node.specs.Parts.{IsPart, Unchanged}
-use Rattle.tree_node.specs.Shape.{IsCrowded, room, spare}
+use Rattle.tree_node.specs.Shape.{IsCrowded, held, room, slot_keyed, spare}
 use Rattle.tree_split.specs.Splits.{HasMadeRoom, LacksRoom, SplitsChild}
 use Rattle.tree_node.specs.Tree.{HasChildFor, Stands, walk}
 use Rattle.tree_node.proofs.ChildChanges.{child_part, new_walk, old_spare, old_walk}
@@ -17,7 +18,9 @@ use Rattle.tree_node.proofs.Frames.{same_stands, same_walk}
 use Rattle.tree_insert.proofs.Crowded.{crowded_above, crowded_room}
 use Rattle.tree_insert.proofs.Attempts.{attempts, not_crowded, one_attempt, two_attempts}
 use Rattle.tree_insert.proofs.Inserts.{inserted_between, inserts_in_node}
+use Rattle.tree_node.proofs.LeafSpares.{leaf_spent}
 use Rattle.tree_node.proofs.NodeKinds.{some_child}
+use Rattle.tree_node.proofs.Spares.{same_spare}
 use Rattle.tree_node.proofs.Steps.{part_after, replaces_trans}
 use Rattle.tree_node.proofs.Unchanged.{unchanged_agrees, unchanged_held, unchanged_part, unchanged_replaces, unchanged_room, unchanged_trans}
 use Rattle.tree_node.proofs.Walks.{front_walk_below, back_walk_above}
@@ -31,7 +34,8 @@ module _ {K V : Type 0} {LEN : ℕ} (cmp : K → K → Ordering) (upsert : Bool)
     pub absent : IsNew cmp upsert (walk level old id) key
     pub same_key : k ≡ key
     pub same_val : v ≡ val
-    pub spent : spare level old id ≡ 0
+    -- nothing is spare, unless the child will be built anew
+    pub spent : limit LEN < held (level - 1) old child → spare level old id ≡ 0
     pub part : IsPart cmp level mid id
 
 -- a new pair that asks for no split is taken, or refused for want of memory
@@ -44,6 +48,9 @@ accepted cmp upsert pairs left key val absent (Ok (Full k v)) ins no_split = abs
 accepted cmp upsert pairs left key val absent (Err pair) ins no_split = refl
 
 module _ {K V : Type 0} {LEN : ℕ} {cmp : K → K → Ordering} (upsert : Bool) (level : ℕ) (old mid : TreeArenas K V LEN) (id child : ℕ) (key : K) (val : V) (k : K) (v : V) (below : IsFullBelow cmp upsert level old mid id child key val k v) where
+  none_spare : limit LEN < held (level - 1) mid child → spare level old id ≡ 0
+  none_spare many = below.spent (rw (unchanged_held (level - 1) old mid below.same child) at many)
+
   -- nothing has changed since
   module _ (new : TreeArenas K V LEN) (still : Unchanged mid new) where
     whole : Unchanged old new
@@ -53,24 +60,24 @@ module _ {K V : Type 0} {LEN : ℕ} {cmp : K → K → Ordering} (upsert : Bool)
     pairs_same = same_walk level old new id (unchanged_agrees level old new whole id)
 
     -- memory was refused
-    pub refused_room : InsertsUnder cmp upsert level old new id (Err (k, v)) key val
-    refused_room = record {
+    pub refused_room : limit LEN < held (level - 1) mid child → InsertsUnder cmp upsert level old new id (Err (k, v)) key val
+    refused_room many = record {
       pairs = (below.absent, below.same_key, below.same_val, pairs_same);
       stands = λ low high above up_to s. same_stands cmp level old new id (unchanged_agrees level old new whole id) low high s;
       replaces = unchanged_replaces level old new whole (id ∷ []);
-      lowers = omega (arith, below.spent);
-      spent = λ so. below.spent;
+      lowers = omega (arith, none_spare many);
+      spent = λ so deep. none_spare many;
       full = λ so. absurd (cc);
       unchanged = λ so. absurd (cc);
     }
 
-    still_full : IsCrowded cmp level old id key → InsertsUnder cmp upsert level old new id (Ok (Full k v)) key val
-    still_full crowded = record {
+    still_full : IsCrowded cmp level old id key → limit LEN < held (level - 1) mid child → InsertsUnder cmp upsert level old new id (Ok (Full k v)) key val
+    still_full crowded many = record {
       pairs = (below.absent, below.same_key, below.same_val, pairs_same);
       stands = λ low high above up_to s. same_stands cmp level old new id (unchanged_agrees level old new whole id) low high s;
       replaces = unchanged_replaces level old new whole (id ∷ []);
-      lowers = omega (arith, below.spent);
-      spent = λ so. below.spent;
+      lowers = omega (arith, none_spare many);
+      spent = λ so deep. none_spare many;
       full = λ so. crowded;
       unchanged = λ so. whole;
     }
@@ -85,6 +92,7 @@ module _ {K V : Type 0} {LEN : ℕ} {cmp : K → K → Ordering} (upsert : Bool)
       still_full new lacks.unchanged
       (crowded_above cmp level deep old id child key
       (sym (unchanged_room level old mid below.same id) ∙ lacks.full) below.which (rw (unchanged_held (level - 1) old mid below.same child) at lacks.many) below.crowded)
+      lacks.many
 
   -- room was made, and the pair inserted
   inserted_again : (made new : TreeArenas K V LEN) (result : Result (StoreResult K V) (K × V)) → HasMadeRoom cmp level mid made id key → InsertsUnder cmp upsert level made new id result key val → asks_split result ≡ false
@@ -92,6 +100,7 @@ module _ {K V : Type 0} {LEN : ℕ} {cmp : K → K → Ordering} (upsert : Bool)
   inserted_again made new result room ins no_split =
       let walked : walk level made id ≡ walk level old id = room.pairs ∙ same_walk level old mid id (unchanged_agrees level old mid below.same id) in
       let pairs : Inserts cmp upsert result (walk level old id) key val (walk level new id) = rw (← walked) ins.pairs in
+      let spares : spare level old id ≤ spare level made id = omega (arith, room.spares, same_spare level old mid id (unchanged_agrees level old mid below.same id)) in
       let taken = accepted cmp upsert (walk level old id) (walk level new id) key val below.absent result pairs no_split in
       record {
         pairs = pairs;
@@ -99,8 +108,8 @@ module _ {K V : Type 0} {LEN : ℕ} {cmp : K → K → Ordering} (upsert : Bool)
             ins.stands low high above up_to (room.stands low high above up_to (same_stands cmp level old mid id (unchanged_agrees level old mid below.same id) low high s));
         replaces = replaces_trans level old made new (id ∷ []) (id ∷ []) (id ∷ [])
             (replaces_trans level old mid made (id ∷ []) (id ∷ []) (id ∷ []) (unchanged_replaces level old mid below.same (id ∷ [])) room.replaces) ins.replaces;
-        lowers = omega (arith, below.spent);
-        spent = λ so. below.spent;
+        lowers = omega (arith, spares, ins.lowers);
+        spent = λ so deep. omega (arith, spares, ins.spent so deep);
         full = λ so. absurd (let both = sym so ∙ no_split in cc);
         unchanged = λ so. absurd (let both = sym so ∙ taken in cc);
       }
@@ -127,12 +136,19 @@ module _ {K V : Type 0} {LEN : ℕ} {cmp : K → K → Ordering} (upsert : Bool)
         let before : attempts cmp level old id key ≡ level + level + 1 = two_attempts cmp level old id child key below.which (crowded_room cmp (level - 1) old child key below.crowded) in
         omega (arith, after, before)
 
+-- what a node holds are its keyed children
+pub held_above : {K V : Type 0} {LEN : ℕ} (a : TreeArenas K V LEN) (id level : ℕ) → 1 < level → held (level - 1) a id ≡ slot_keyed (get a.nodes id)
+held_above a id zero deep = absurd (omega (arith, deep))
+held_above a id (suc zero) deep = absurd (omega (arith, deep))
+held_above a id (suc (suc level)) deep = rw sub-one refl
+
 -- a split of the key's child makes room for the key
 pub room_by_split : {K V : Type 0} {LEN : ℕ} {cmp : K → K → Ordering} {level : ℕ} {old new : TreeArenas K V LEN} {id child : ℕ} (key : K) → SplitsChild cmp level old new id child → HasChildFor cmp key (get old.nodes id) child → HasMadeRoom cmp level old new id key
 room_by_split key split which = record {
   pairs = split.pairs;
   stands = λ low high above up_to s. split.keeps low high s;
   replaces = split.replaces;
+  spares = split.spares;
   spends = split.spends;
   child = split.routed key which;
 }
@@ -152,9 +168,13 @@ module _ {K V : Type 0} {LEN : ℕ} {cmp : K → K → Ordering} (o : IsTotalOrd
         absent = pairs.0;
         same_key = pairs.1;
         same_val = pairs.2;
-        spent = omega (arith, old_spare o level old id child key part which None None s new ins.replaces, ins.spent refl);
+        spent = λ many. omega (arith, old_spare o level old id child key part which None None s new ins.replaces, spent_below level ins (rw sub-one at many));
         part = unchanged_part (suc level) old new (ins.unchanged refl) cmp id part;
       }
+    where
+      spent_below : (level : ℕ) → InsertsUnder cmp upsert level old new child (Ok (Full k v)) key val → limit LEN < held level old child → spare level old child ≡ 0
+      spent_below zero ins many = leaf_spent old child (ins.full refl) many
+      spent_below (suc level) ins many = ins.spent refl (λ asks. omega arith)
 
 -- the same where the level is a number of the program
 module _ {K V : Type 0} {LEN : ℕ} {cmp : K → K → Ordering} (o : IsTotalOrder cmp) (upsert : Bool) where

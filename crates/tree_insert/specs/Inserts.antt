@@ -1,5 +1,5 @@
 -- What an insert under a number answers and leaves.
-use Rattle.std.specs.Prelude.{◌≡◌, ℕ, suc, ◌≤◌, Bool, true, false, List, [], ◌∷◌, Option, Result, Ok, Err}
+use Rattle.std.specs.Prelude.{◌≡◌, ℕ, suc, ◌<◌, ◌≤◌, Bool, true, false, List, [], ◌∷◌, Option, Result, Ok, Err}
 use Rattle.std.specs.declared.cmp.Ordering.{Ordering}
 use Rattle.tree_array.specs.Insertion.{as_insert}
 use Rattle.tree_array.specs.declared.answers.InsertResult.{InsertResult}
@@ -59,9 +59,9 @@ module _ {K V : Type 0} (cmp : K → K → Ordering) (upsert : Bool) where
     -- the part stays between the bounds that it had, if the key is between them
     pub stands : (low high : Option K) → IsAbove cmp low key → IsUpTo cmp key high → Stands cmp level old low id high → Stands cmp level new low id high
     pub replaces : Replaces level old new (id ∷ []) (id ∷ [])
-    -- a write takes one place of a leaf, and is refused only where a leaf has none
+    -- a write takes one of the spare, and is refused only where none is spare; but a leaf by itself asks for a split also where it will be built anew
     pub lowers : spare level old id ≤ suc (spare level new id)
-    pub spent : refused result ≡ true → spare level old id ≡ 0
+    pub spent : refused result ≡ true → (asks_split result ≡ true → 0 < level) → spare level old id ≡ 0
     -- a split is asked for only where no array on the way of the key has room, nor can be built anew
     pub full : asks_split result ≡ true → IsCrowded cmp level old id key
     -- where that is so, or the key is there, nothing has changed

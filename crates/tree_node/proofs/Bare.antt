@@ -1,5 +1,5 @@
 -- A tree without leaves, and one with a single leaf.
-use Rattle.std.proofs.Common.{◌≡◌, ◌≢◌, ◌⊎◌, ℕ, zero, suc, ◌≤◌, List, [], ◌∷◌, ◌++◌, map, Option, Some, None, IsSome, inl, inr, refl, sym, ap, ◌∙◌, arith}
+use Rattle.std.proofs.Common.{◌≡◌, ◌≢◌, ◌⊎◌, ℕ, zero, suc, ◌+◌, ◌-◌, ◌≤◌, List, [], ◌∷◌, ◌++◌, map, Option, Some, None, IsSome, inl, inr, refl, sym, ap, ◌∙◌, arith}
 use Rattle.std.specs.List.{slice_index_or}
 use Rattle.std.specs.declared.cmp.Ordering.{Ordering}
 use Rattle.std.proofs.lemmas.Bool.{cases_eq}
@@ -14,6 +14,7 @@ use Rattle.tree_leaf.proofs.Counts.{times-nil, times-cons, none_here, one_here, 
 use Rattle.tree_node.specs.declared.node.NodeOf.{NodeOf}
 use Rattle.tree_node.specs.Arenas.{TreeArenas}
 use Rattle.tree_node.specs.Tree.{AreParted, HasKind, IsRetiredNode, Stands, keyed, unbounded, leaves_at, nodes_at, leaves_of, node_children}
+use Rattle.tree_node.proofs.LeafSpares.{spare_at_least, spare_within}
 use Rattle.tree_node.specs.Whole.{HasNoOther, HasOnly, IsRetiredRoot, IsTree, leaves_under}
 
 -- a number that isn't in use
@@ -128,7 +129,7 @@ module _ {K V : Type 0} {LEN : ℕ} (cmp : K → K → Ordering) (a : TreeArenas
       });
     };
     pairs = rw (leaves_are, leaf_here, array) refl;
-    spare = rw (leaves_are, leaf_here, array) (omega (arith, some));
+    spare = rw (leaves_are, leaf_here, array) (omega (arith, some, spare_at_least LEN 1 (LEN - 1), spare_within LEN 1 (LEN - 1) (omega (arith, some))));
   }
 
 -- arenas without numbers in use hold the tree without a root

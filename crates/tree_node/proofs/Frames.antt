@@ -44,7 +44,7 @@ module _ {K V : Type 0} {LEN : ℕ} where
   pub agrees_here : (level : ℕ) (a b : TreeArenas K V LEN) (id : ℕ) → Agrees (suc level) a b id → get b.nodes id ≡ get a.nodes id
   agrees_here level a b id same = same.nodes id (head_here id _)
 
-  agrees_below : (level : ℕ) (a b : TreeArenas K V LEN) (id : ℕ) → Agrees (suc level) a b id → AllByRecursion (λ x. Agrees level a b x) (children_of a.nodes id)
+  pub agrees_below : (level : ℕ) (a b : TreeArenas K V LEN) (id : ℕ) → Agrees (suc level) a b id → AllByRecursion (λ x. Agrees level a b x) (children_of a.nodes id)
   agrees_below level a b id same =
       let deeper : (n : ℕ) → 1 ≤ times n (nodes_of level a.nodes (children_of a.nodes id)) → get b.nodes n ≡ get a.nodes n = λ n inside. same.nodes n (rw (times-cons n id) (omega arith)) in
       all_map (λ x both. record { nodes = both.0; leaves = both.1 }) _

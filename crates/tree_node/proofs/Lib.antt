@@ -10,6 +10,7 @@ pub mod ChildrenStand
 pub mod Cuts
 pub mod Depths
 pub mod Frames
+pub mod LeafSpares
 pub mod LeafWrites
 pub mod Levels
 pub mod Lifts

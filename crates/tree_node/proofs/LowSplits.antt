@@ -1,5 +1,5 @@
 -- A child that gives its lower part to a new one before it, and the node above it, which is written with the separator.
-use Rattle.std.proofs.Common.{◌≡◌, ◌⊎◌, ℕ, zero, suc, ◌-◌, ◌<◌, ◌≤◌, Bool, true, false, cond, List, [], ◌∷◌, ◌++◌, map, length, length-append, Option, Some, None, refl, sym, ap, ◌∙◌, arith, append_assoc, inl, inr}
+use Rattle.std.proofs.Common.{◌≡◌, ◌⊎◌, ℕ, zero, suc, ◌-◌, ◌<◌, ◌≤◌, min, Bool, true, false, cond, List, [], ◌∷◌, ◌++◌, map, length, length-append, Option, Some, None, refl, sym, ap, ◌∙◌, arith, append_assoc, inl, inr}
 use Rattle.std.specs.List.{AllByRecursion}
 use Rattle.std.specs.declared.cmp.Ordering.{Ordering}
 use Rattle.std.specs.Cmp.{IsTotalOrder}
@@ -14,11 +14,12 @@ use Rattle.tree_model.proofs.Lists.{all_map}
 use Rattle.tree_node.specs.declared.node.NodeOf.{NodeOf}
 use Rattle.tree_node.specs.Arenas.{TreeArenas}
 use Rattle.tree_node.specs.Parts.{IsPart, PutsChild, Replaces}
-use Rattle.tree_node.specs.Shape.{room, slot_room}
+use Rattle.tree_node.specs.Shape.{room, slot_room, spare}
 use Rattle.tree_node.specs.Tree.{AreParted, IsAbove, IsBelow, HasChildFor, Stands, keyed, unbounded, child_at, is_from, walk, leaves_at, children_of}
 use Rattle.tree_node.proofs.Frames.{Agrees, agrees_here, same_stands}
 use Rattle.tree_node.proofs.Lifts.{front_agrees, back_agrees, changed_agree, leaves_once_in, lifted, walk_now, walk_was}
 use Rattle.tree_node.proofs.Places.{first_child, later_children, low_at, high_at, children_at, children_put, routed_by, child_between, separator_absent, separator_put, parted_low}
+use Rattle.tree_node.proofs.Spares.{spares-cons, spares-single, spares_same, spare_split}
 use Rattle.tree_node.proofs.Standing.{node_is}
 
 -- The part under x has become the parts under y and x, in this order, with this separator between them: x keeps its number, and y is new. `Within` says of bounds that the separator fits between them.
@@ -28,12 +29,14 @@ pub record SplitsLow {K V : Type 0} {LEN : ℕ} (cmp : K → K → Ordering) (Wi
   pub lower : (low high : Option K) → Within low high → Stands cmp level old low x high → Stands cmp level new low y (Some separator)
   pub upper : (low high : Option K) → Within low high → Stands cmp level old low x high → Stands cmp level new (Some separator) x high
   pub replaces : Replaces level old new (x ∷ []) (y ∷ (x ∷ []))
+  pub spares : spare level old x ≤ min (spare level new y) (spare level new x)
 
 -- The node above the two has got the new child before the old one, and nothing else of it changed: the pairs are the same, and one slot of its array is taken.
 pub record GainsLow {K V : Type 0} {LEN : ℕ} (cmp : K → K → Ordering) (Within : Option K → Option K → Type 0) (level : ℕ) (old mid new : TreeArenas K V LEN) (id x y : ℕ) (separator : K) : Type 0 where
   pub pairs : walk (suc level) new id ≡ walk (suc level) old id
   pub stands : (low high : Option K) → Within low high → Stands cmp (suc level) old low id high → Stands cmp (suc level) new low id high
   pub replaces : Replaces (suc level) old new (id ∷ []) (id ∷ [])
+  pub spares : spare (suc level) old id ≤ spare (suc level) new id
   pub spends : room (suc level) old id ≤ suc (room (suc level) new id)
   pub low_room : 0 < room level mid y → 0 < room level new y
   pub high_room : 0 < room level mid x → 0 < room level new x
@@ -53,13 +56,13 @@ module _ {K V : Type 0} {LEN : ℕ} {cmp : K → K → Ordering} (o : IsTotalOrd
         let both : Some s.last ≡ Some last = sym s.last_is ∙ rw (node_is level old low id high s node was_node) last_is in
         cc
 
-    parted : AreParted cmp (Stands cmp level old) low (before ++ onward) last high
+    pub parted : AreParted cmp (Stands cmp level old) low (before ++ onward) last high
     parted = rw (node_is level old low id high s node was_node, entries, same_last) at s.parted
 
     child_stood : Stands cmp level old (low_at low before) x (high_at onward high)
     child_stood = rw child at (child_between o (Stands cmp level old) low before onward last high parted)
 
-    separates_here : IsAbove cmp (low_at low before) separator × IsBelow cmp separator (high_at onward high)
+    pub separates_here : IsAbove cmp (low_at low before) separator × IsBelow cmp separator (high_at onward high)
     separates_here = splits.separates (low_at low before) (high_at onward high) (inner low high within) child_stood
 
   -- no child of the node has the separator yet
@@ -74,13 +77,13 @@ module _ {K V : Type 0} {LEN : ℕ} {cmp : K → K → Ordering} (o : IsTotalOrd
     stands_here : Stands cmp (suc level) old None id None
     stands_here = part.stands
 
-    entries_now : (keyed node').entries ≡ before ++ (separator, y) ∷ onward
+    pub entries_now : (keyed node').entries ≡ before ++ (separator, y) ∷ onward
     entries_now =
         let fits = separates_here None None within stands_here in
         ap (λ (a : Arrivals K ℕ). a.entries) puts.put
         ∙ rw entries (separator_put o (Stands cmp level old) separator None before onward last None (parted None None within stands_here) fits.0 fits.1 y)
 
-    last_now : unbounded node' ≡ Some last
+    pub last_now : unbounded node' ≡ Some last
     last_now = puts.last ∙ last_is
 
     abbrev front : List ℕ
@@ -98,13 +101,13 @@ module _ {K V : Type 0} {LEN : ℕ} {cmp : K → K → Ordering} (o : IsTotalOrd
     leaves_once : (n : ℕ) → times n (leaves_at (suc level) old.nodes id) ≤ uses old.leaves n
     leaves_once = leaves_once_in (suc level) old id part
 
-    fronts : AllByRecursion (λ c. Agrees level old new c) front
+    pub fronts : AllByRecursion (λ c. Agrees level old new c) front
     fronts = front_agrees level old mid new id front (x ∷ []) (y ∷ (x ∷ [])) back splits.replaces was now part.nodes_once leaves_once others (rw is_node refl) leaves
 
     backs : AllByRecursion (λ c. Agrees level old new c) back
     backs = back_agrees level old mid new id front (x ∷ []) (y ∷ (x ∷ [])) back splits.replaces was now part.nodes_once leaves_once others (rw is_node refl) leaves
 
-    changed : AllByRecursion (λ c. Agrees level mid new c) (y ∷ (x ∷ []))
+    pub changed : AllByRecursion (λ c. Agrees level mid new c) (y ∷ (x ∷ []))
     changed = changed_agree level old mid new id front (x ∷ []) (y ∷ (x ∷ [])) back splits.replaces was now part.nodes_once leaves_once others (rw is_node refl) leaves
 
     replaces_node : Replaces (suc level) old new (id ∷ []) (id ∷ [])
@@ -118,6 +121,21 @@ module _ {K V : Type 0} {LEN : ℕ} {cmp : K → K → Ordering} (o : IsTotalOrd
           ← splits.pairs,
           append_assoc (walk level mid y) (walk level mid x) [],
         ) refl
+
+    more_spare : spare (suc level) old id ≤ spare (suc level) new id
+    more_spare =
+        omega (
+          arith,
+          splits.spares,
+          spare_split level old id front (x ∷ []) back was,
+          spare_split level new id front (y ∷ (x ∷ [])) back now,
+          spares-single level old x,
+          spares-single level mid x,
+          spares-cons level mid y (x ∷ []),
+          spares_same level mid new (y ∷ (x ∷ [])) changed,
+          spares_same level old new front fronts,
+          spares_same level old new back backs,
+        )
 
     stands_now : (low high : Option K) → Within low high → Stands cmp (suc level) old low id high → Stands cmp (suc level) new low id high
     stands_now low high fits s =
@@ -194,6 +212,7 @@ module _ {K V : Type 0} {LEN : ℕ} {cmp : K → K → Ordering} (o : IsTotalOrd
       pairs = same_pairs;
       stands = stands_now;
       replaces = replaces_node;
+      spares = more_spare;
       spends = spends_one;
       low_room = new_room;
       high_room = old_room;

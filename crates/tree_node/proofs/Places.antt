@@ -134,7 +134,7 @@ module _ {K : Type 0} {cmp : K → K → Ordering} (o : IsTotalOrder cmp) where
     child_between low (c ∷ rest) onward last high parted = child_between (Some c.0) rest onward last high parted.3
 
     -- a separator above the bound there is above each before it
-    low_above : (s : K) (low : Option K) (before onward : List (K × ℕ)) (last : ℕ) (high : Option K) → AreParted cmp A low (before ++ onward) last high
+    pub low_above : (s : K) (low : Option K) (before onward : List (K × ℕ)) (last : ℕ) (high : Option K) → AreParted cmp A low (before ++ onward) last high
         → IsAbove cmp (low_at low before) s → IsAbove cmp low s × AllByRecursion (λ c. cmp c.0 s ≡ Less) before
     low_above s low [] onward last high parted above = (above, tt)
     low_above s low (c ∷ rest) onward last high parted above =

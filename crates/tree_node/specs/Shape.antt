@@ -1,5 +1,5 @@
 -- How much room there is in a part.
-use Rattle.std.specs.Prelude.{◌≡◌, ℕ, zero, suc, ◌<◌, min, List, [], ◌∷◌, length, Option, Some, None, if◌then◌else◌}
+use Rattle.std.specs.Prelude.{◌≡◌, ℕ, zero, suc, ◌+◌, ◌-◌, ◌<◌, min, leb, List, [], ◌∷◌, length, Option, Some, None, if◌then◌else◌}
 use Rattle.std.specs.declared.cmp.Ordering.{Ordering}
 use Rattle.slab.specs.Slab.{Slab, get}
 use Rattle.tree_array.specs.Arrivals.{free}
@@ -23,6 +23,19 @@ module _ {K V : Type 0} {LEN : ℕ} where
   abbrev pub leaf_free : Slab (LeafOf K V LEN) → ℕ → ℕ
   leaf_free leaves id = slot_free (get leaves id)
 
+-- how many writes, whatever their keys, an array takes that has so many entries and so many free slots: those that fill it, or, where it will be built anew in place by then, those that fill it once it was
+abbrev pub spare_for : ℕ → ℕ → ℕ → ℕ
+spare_for len count room = if leb (count + room) (limit len) then len - count else room
+
+module _ {K V : Type 0} {LEN : ℕ} where
+  -- how many writes are sure to go into the leaf without memory
+  abbrev pub slot_spare : Option (LeafOf K V LEN) → ℕ
+  slot_spare None = 0
+  slot_spare (Some leaf) = spare_for LEN (length leaf.array.entries) (slot_free (Some leaf))
+
+  abbrev pub leaf_spare : Slab (LeafOf K V LEN) → ℕ → ℕ
+  leaf_spare leaves id = slot_spare (get leaves id)
+
 -- how many more children a node takes beside its unbounded one
 abbrev pub children_free : {K : Type 0} {LEN : ℕ} → Option ℕ → NodeOf K LEN → ℕ
 children_free None node = 0
@@ -39,7 +52,7 @@ slot_keyed (Some node) = length (keyed node).entries
 module _ {K V : Type 0} {LEN : ℕ} where
   -- the least that a leaf of the part takes: as many writes go into it without memory
   abbrev pub spare : ℕ → TreeArenas K V LEN → ℕ → ℕ
-  spare level arenas id = least LEN (leaf_free arenas.leaves) (leaves_at level arenas.nodes id)
+  spare level arenas id = least LEN (leaf_spare arenas.leaves) (leaves_at level arenas.nodes id)
 
   -- the room in the array right under the number
   abbrev pub room : ℕ → TreeArenas K V LEN → ℕ → ℕ

@@ -9,7 +9,7 @@ use Rattle.tree_node.specs.declared.node.NodeOf.{NodeOf}
 use Rattle.tree_node.specs.Arenas.{TreeArenas}
 use Rattle.tree_node.specs.Parts.{Unchanged}
 use Rattle.tree_node.specs.Tree.{IsOfLevel}
-use Rattle.tree_node.specs.Shape.{least, leaf_free}
+use Rattle.tree_node.specs.Shape.{least, leaf_spare}
 use Rattle.tree_node.specs.Tree.{IsRetired, Stands, leaves_at, nodes_at, walk}
 
 -- how many levels of nodes there are, none without a root
@@ -32,11 +32,11 @@ module _ {K V : Type 0} {LEN : ℕ} where
   walk_under arenas None = []
   walk_under arenas (Some root) = walk root.1 arenas root.0
 
-  -- the least number of slots never used in a leaf of the tree, where a retired leaf counts as full; 0 without a leaf
+  -- how many writes are sure to go into each leaf of the tree without memory; 0 without a leaf
   abbrev pub spare_under : TreeArenas K V LEN → Option (ℕ × ℕ) → ℕ
   spare_under arenas root =
       if length (leaves_under arenas.nodes root) == 0 then 0
-      else least LEN (leaf_free arenas.leaves) (leaves_under arenas.nodes root)
+      else least LEN (leaf_spare arenas.leaves) (leaves_under arenas.nodes root)
 
   -- a leaf node without a leaf is left as the root
   abbrev pub IsRetiredRoot : TreeArenas K V LEN → ℕ → ℕ → Type 0

@@ -89,11 +89,11 @@ module _ {K V : Type 0} {LEN : ℕ} {cmp : K → K → Ordering} (o : IsTotalOrd
         omega (arith, whole, rest, spares-single level old child, spare_le level old child, spares_same level old new front fronts, spares_same level old new back backs)
 
     pub dropped_success : TakesOut cmp Says (walk level old child) key [] → KeepsBounds cmp (suc level) old new id → RemovesUnder cmp Says (suc level) old new id Success key
-    dropped_success out keeps = record { pairs = takes out; leaves = keeps; replaces = replaces_node; spare = inr more_room }
+    dropped_success out keeps = record { pairs = takes out; leaves = keeps; replaces = replaces_node; spare = more_room }
 
     pub dropped_retired : TakesOut cmp Says (walk level old child) key [] → children_of new.nodes id ≡ [] → IsRetired (suc level) new id × IsOfLevel (suc level) (get new.nodes id) → RemovesUnder cmp Says (suc level) old new id Retired key
     dropped_retired out none retired =
-        record { pairs = (takes out, rw (walk-children level new id, none) refl); leaves = retired; replaces = replaces_node; spare = inr more_room }
+        record { pairs = (takes out, rw (walk-children level new id, none) refl); leaves = retired; replaces = replaces_node; spare = more_room }
 
 module _ {K V : Type 0} {LEN : ℕ} {cmp : K → K → Ordering} (o : IsTotalOrder cmp) (Says : V → Bool → Type 0) (level : ℕ) (old mid new : TreeArenas K V LEN) (id child : ℕ) (key : K)
     (part : IsPart cmp (suc level) old id) (which : HasChildFor cmp key (get old.nodes id) child) (removes : RemovesUnder cmp Says level old mid child Retired key) where

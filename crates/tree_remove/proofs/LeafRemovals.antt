@@ -19,9 +19,10 @@ use Rattle.tree_model.proofs.Lists.{all-append, all-filter}
 use Rattle.tree_node.specs.Arenas.{TreeArenas}
 use Rattle.tree_node.specs.Parts.{KeepsBounds}
 use Rattle.tree_remove.specs.Removes.{RemovesUnder, TakesOut}
-use Rattle.tree_node.specs.Shape.{spare, slot_free}
+use Rattle.tree_node.specs.Shape.{spare, slot_free, slot_spare}
 use Rattle.tree_node.specs.Tree.{IsRetired, walk}
 use Rattle.tree_node.proofs.Children.{walk-leaf}
+use Rattle.tree_node.proofs.LeafSpares.{free_within, spare_removed, spare_retired}
 use Rattle.tree_node.proofs.LeafWrites.{with_array, updated, here_now, array_replaces}
 
 all_without : {K V : Type 0} (cmp : K → K → Ordering) (P : K × V → Type 0) (pairs : List (K × V)) (key : K) → AllByRecursion P pairs → AllByRecursion P (without cmp pairs key)
@@ -38,10 +39,10 @@ module _ {K V : Type 0} {LEN : ℕ} {cmp : K → K → Ordering} (o : IsTotalOrd
   new_walk : walk 0 (with_array a id leaf array) id ≡ array.entries
   new_walk = walk-leaf (with_array a id leaf array) id _ (here_now a id leaf array was)
 
-  room_was : spare 0 a id ≡ min (slot_free (Some leaf)) LEN
+  room_was : spare 0 a id ≡ min (slot_spare (Some leaf)) LEN
   room_was = rw was refl
 
-  room_is : spare 0 (with_array a id leaf array) id ≡ min (slot_free {V = V} {LEN = LEN} (Some (record leaf { array = array }))) LEN
+  room_is : spare 0 (with_array a id leaf array) id ≡ min (slot_spare {V = V} {LEN = LEN} (Some (record leaf { array = array }))) LEN
   room_is = rw (here_now a id leaf array was) refl
 
   -- nothing was removed
@@ -50,7 +51,7 @@ module _ {K V : Type 0} {LEN : ℕ} {cmp : K → K → Ordering} (o : IsTotalOrd
     pairs = rw (old_walk, new_walk, same) (denied, refl);
     leaves = record { leaves = λ n. still n; nodes = λ n. refl };
     replaces = array_replaces a id leaf array was;
-    spare = inr (rw (room_was, room_is, same) (omega arith));
+    spare = rw (room_was, room_is, same) (omega arith);
   }
     where
       still : (n : ℕ) → get (with_array a id leaf array).leaves n ≡ get a.leaves n
@@ -60,7 +61,14 @@ module _ {K V : Type 0} {LEN : ℕ} {cmp : K → K → Ordering} (o : IsTotalOrd
       ]
 
   -- the key was
-  module _ (pair : K × V) (found : pair_at cmp leaf.array.entries key ≡ Some pair) (says : Says pair.1 true) (taken : array ≡ removed cmp leaf.array key) where
+  module _ (pair : K × V) (found : pair_at cmp leaf.array.entries key ≡ Some pair) (says : Says pair.1 true) (taken : array ≡ removed cmp leaf.array key) (none_retired : leaf.array.retired ≡ true → leaf.array.entries ≡ []) where
+    live : leaf.array.retired ≡ false
+    live = by_mark leaf.array.retired refl
+      where
+        by_mark : (b : Bool) → leaf.array.retired ≡ b → b ≡ false
+        by_mark false e = refl
+        by_mark true e = absurd (let clash : None ≡ Some pair = rw (none_retired e) at found in cc)
+
     left : array.entries ≡ without cmp leaf.array.entries key
     left = rw taken refl
 
@@ -94,7 +102,7 @@ module _ {K V : Type 0} {LEN : ℕ} {cmp : K → K → Ordering} (o : IsTotalOrd
               pairs = (takes, new_walk ∙ none);
               leaves = (rw (here_now a id leaf array was) (e, none), tt);
               replaces = array_replaces a id leaf array was;
-              spare = inl (room_is ∙ rw e (omega arith));
+              spare = rw (room_was, room_is, e, none) (omega (arith, spare_retired LEN (length leaf.array.entries) (slot_free {V = V} {LEN = LEN} (Some leaf)) (free_within leaf)));
             })
         by_retired false e =
             let answer : result ≡ Success = is ∙ rw e refl in
@@ -102,12 +110,9 @@ module _ {K V : Type 0} {LEN : ℕ} {cmp : K → K → Ordering} (o : IsTotalOrd
               pairs = takes;
               leaves = keeps_out;
               replaces = array_replaces a id leaf array was;
-              spare = inr (rw (room_was, room_is, e, as_many) (no_less leaf.array.retired (LEN - length leaf.array.arrivals)));
+              spare = rw (room_was, room_is, e, live, as_many)
+                  (omega (arith, spare_removed LEN (length leaf.array.entries) (LEN - length leaf.array.arrivals) (length array.entries) (rw left (without_few cmp leaf.array.entries key))));
             })
-          where
-            no_less : (b : Bool) (n : ℕ) → min (cond b 0 n) LEN ≤ min n LEN
-            no_less true n = omega arith
-            no_less false n = omega arith
 
   -- after `Success` the leaf isn't retired
   pub leaf_settled : (result : RemoveResult) → (IsAbsent cmp leaf.array.entries key → (array ≡ leaf.array) × (result ≡ Fail))
@@ -129,14 +134,14 @@ module _ {K V : Type 0} {LEN : ℕ} {cmp : K → K → Ordering} (o : IsTotalOrd
       by_pair (Some pair) e absent present = told present.0 present.2
 
   -- what an array answers of a removal, of its leaf
-  pub removes_in_leaf : (result : RemoveResult) → (IsAbsent cmp leaf.array.entries key → (array ≡ leaf.array) × (result ≡ Fail))
+  pub removes_in_leaf : (result : RemoveResult) → (leaf.array.retired ≡ true → leaf.array.entries ≡ []) → (IsAbsent cmp leaf.array.entries key → (array ≡ leaf.array) × (result ≡ Fail))
       → IfSome (pair_at cmp leaf.array.entries key) (λ pair. (said : Bool) × Says pair.1 said × IsRemoval cmp leaf.array key said result array)
       → RemovesUnder cmp Says 0 a (with_array a id leaf array) id result key
-  removes_in_leaf result absent present = by_pair (pair_at cmp leaf.array.entries key) refl absent present
+  removes_in_leaf result none_retired absent present = by_pair (pair_at cmp leaf.array.entries key) refl absent present
     where
       told : (pair : K × V) → pair_at cmp leaf.array.entries key ≡ Some pair → (said : Bool) → Says pair.1 said → IsRemoval cmp leaf.array key said result array
           → RemovesUnder cmp Says 0 a (with_array a id leaf array) id result key
-      told pair found true says removal = out pair found says removal.0 result removal.1
+      told pair found true says removal = out pair found says removal.0 none_retired result removal.1
       told pair found false says removal = rw removal.1 (kept removal.0 (λ other is. let both : Some pair ≡ Some other = sym found ∙ is in let same : other ≡ pair = cc in rw same says))
 
       by_pair : (found : Option (K × V)) → pair_at cmp leaf.array.entries key ≡ found

@@ -39,17 +39,12 @@ module _ {K V : Type 0} {LEN : ℕ} {cmp : K → K → Ordering} (o : IsTotalOrd
   abbrev st : Stands cmp (suc level) old None id None
   st = part.stands
 
-  spare_above : Replaces level old new (child ∷ []) (child ∷ []) → (spare level new child ≡ 0) ⊎ (spare level old child ≤ spare level new child)
-      → (spare (suc level) new id ≡ 0) ⊎ (spare (suc level) old id ≤ spare (suc level) new id)
-  spare_above r spares = by_child _ _ _ _ _ _ (old_spare o level old id child key part which None None st new r) (new_spare o level old id child key part which None None st new r) spares
-    where
-      by_child : (a b c d x y : ℕ) → x ≡ min a (min b c) → y ≡ min a (min d c) → (d ≡ 0) ⊎ (b ≤ d) → (y ≡ 0) ⊎ (x ≤ y)
-      by_child a b c d x y was is (inl none) = inl (omega (arith, was, is, none))
-      by_child a b c d x y was is (inr more) = inr (omega (arith, was, is, more))
+  spare_above : Replaces level old new (child ∷ []) (child ∷ []) → spare level old child ≤ spare level new child → spare (suc level) old id ≤ spare (suc level) new id
+  spare_above r spares = omega (arith, old_spare o level old id child key part which None None st new r, new_spare o level old id child key part which None None st new r, spares)
 
   -- the child lost the pair, and stands
   pub kept_above : TakesOut cmp Says (walk level old child) key (walk level new child) → KeepsBounds cmp level old new child → Replaces level old new (child ∷ []) (child ∷ [])
-      → (spare level new child ≡ 0) ⊎ (spare level old child ≤ spare level new child) → RemovesUnder cmp Says (suc level) old new id Success key
+      → spare level old child ≤ spare level new child → RemovesUnder cmp Says (suc level) old new id Success key
   kept_above takes keeps r spares = record {
     pairs =
         rw (old_walk o level old id child key part which None None st new r, new_walk o level old id child key part which None None st new r)
@@ -125,7 +120,7 @@ module _ {K V : Type 0} {LEN : ℕ} (cmp : K → K → Ordering) where
           pairs = (λ pair is. absurd (let found = rw none at is in cc), refl);
           leaves = record { leaves = λ n. refl; nodes = λ n. refl };
           replaces = replaces_refl (suc level) a (id ∷ []);
-          spare = inr (omega arith);
+          spare = omega arith;
         }
 
     -- a retired leaf stays under its node
@@ -161,6 +156,6 @@ module _ {K V : Type 0} {LEN : ℕ} (cmp : K → K → Ordering) where
           pairs = (rw none (rw settles.pairs at removes.pairs), none);
           leaves = (settles.retired, settles.kind);
           replaces = replaces_trans 1 old mid new (id ∷ []) (id ∷ []) (id ∷ []) removes.replaces settles.replaces;
-          spare = inr (omega (arith, all_room, spare_le 1 old id));
+          spare = omega (arith, all_room, spare_le 1 old id);
         }
     removes_settled old mid new id Fail removes settles = absurd settles

@@ -1,5 +1,5 @@
 -- What a removal under a number answers and leaves. `Says` tells what the condition answers of a value.
-use Rattle.std.specs.Prelude.{◌≡◌, ◌⊎◌, ℕ, zero, suc, ◌≤◌, Bool, true, false, List, [], ◌∷◌, Option, None, Some, ⊤}
+use Rattle.std.specs.Prelude.{◌≡◌, ℕ, zero, suc, ◌≤◌, Bool, true, false, List, [], ◌∷◌, Option, None, Some, ⊤}
 use Rattle.std.specs.declared.cmp.Ordering.{Ordering}
 use Rattle.tree_array.specs.declared.answers.RemoveResult.{RemoveResult}
 use Rattle.tree_array.specs.declared.answers.RemoveResult.TheVariants.{Success, Retired, Fail}
@@ -34,5 +34,5 @@ module _ {K V : Type 0} (cmp : K → K → Ordering) (Says : V → Bool → Type
     pub pairs : Removes result (walk level old id) key (walk level new id)
     pub leaves : Leaves result level old new id
     pub replaces : Replaces level old new (id ∷ []) (id ∷ [])
-    -- no leaf loses room, but one that is retired has none
-    pub spare : (spare level new id ≡ 0) ⊎ (spare level old id ≤ spare level new id)
+    -- no leaf takes fewer writes than before
+    pub spare : spare level old id ≤ spare level new id

@@ -79,5 +79,6 @@ fn remove_in_leaf<K: Ord + Drop, V: Drop, F: FnOnce(&V) -> bool + Drop, const LE
     ensures removes { RemovesUnder K.cmp (λ val said. FnOnceReturnsAt F.FnOnce condition val said) 0 arenas.old arenas.new id result key.now }
     ensures settled { result ≡ RemoveResult.Success → IsRetired 0 arenas.new id → ⊥ }
 {
+    prove!(arenas.leaf(id).array().free() as usize <= LEN);
     arenas.leaf_mut(id).array_mut().remove_if(key, condition)
 }

@@ -6,7 +6,8 @@ use Rattle.std.specs.Cmp.{IsTotalOrder}
 use Rattle.slab.specs.Slab.{get, with_value, HasRoomFor}
 use Rattle.slab.proofs.SlabLemmas.{Updates-with_value}
 use Rattle.tree_array.specs.Arrivals.{Arrivals, in_order}
-use Rattle.tree_array.specs.Length.{IsLen, limit}
+use Rattle.tree_array.specs.Length.{limit}
+use Rattle.tree_array.specs.Sound.{IsSound}
 use Rattle.tree_leaf.specs.declared.leaf.LeafOf.{LeafOf}
 use Rattle.tree_leaf.specs.Arena.{KeepsBoth, HasPlaces}
 use Rattle.tree_leaf.specs.Chain.{IsChain}
@@ -37,6 +38,7 @@ room_made_for {cmp = cmp} level old mid new id x y separator key gains which fit
   pairs = gains.pairs;
   stands = λ low high above up_to s. gains.stands low high (fits low high above up_to) s;
   replaces = gains.replaces;
+  spares = gains.spares;
   spends = gains.spends;
   child = λ child routed. rw sub-one (by_child child (gains.routed key child which routed));
 }
@@ -81,10 +83,10 @@ module _ {K V : Type 0} {LEN : ℕ} {cmp : K → K → Ordering} (o : IsTotalOrd
     goes = let routed : Some (child_at (is_from cmp key) (keyed node).entries stood.last) ≡ Some x = rw (was_node, last_is) at which in cc
 
     -- the leaf is built anew
-    pub leaf_room_by_rebuild : (leaf : LeafOf K V LEN) → get old.leaves x ≡ Some leaf → IsLen LEN → length leaf.array.entries ≤ limit LEN
+    pub leaf_room_by_rebuild : (leaf : LeafOf K V LEN) → get old.leaves x ≡ Some leaf → IsSound cmp LEN leaf.array → length leaf.array.entries ≤ limit LEN
         → HasMadeRoom cmp 1 old (with_array old x leaf (in_order leaf.array.entries)) id key
-    leaf_room_by_rebuild leaf was is_len few =
-        room_made_by_rebuild 0 old (with_array old x leaf (in_order leaf.array.entries)) id x part (leaf_rebuilt old x leaf was is_len few) _ _
+    leaf_room_by_rebuild leaf was sound few =
+        room_made_by_rebuild 0 old (with_array old x leaf (in_order leaf.array.entries)) id x part (leaf_rebuilt old x leaf was sound few) _ _
         (among (get old.nodes id) node stood.last x was_node last_is (record { before = place.before; onward = place.onward; split = place.split; child = place.child ∙ goes })) key which
 
   -- the leaf gave its first entries to a new one
@@ -93,7 +95,7 @@ module _ {K V : Type 0} {LEN : ℕ} {cmp : K → K → Ordering} (o : IsTotalOrd
       (high_is : high ≡ in_order (drop count leaf.array.entries)) (low_is : low.array ≡ in_order (take count leaf.array.entries))
       (gains : GainsBefore (with_array reserved x leaf high) mid x y low)
       (last_low : slice_get leaf.array.entries (count - 1) ≡ Some pair) (cloned : cmp pair.0 separator ≡ Equal)
-      (cut : IsCut cmp key count (leaf_entries old.leaves x))
+      (cut : IsCut cmp key count (leaf_entries old.leaves x)) (sound : (leaf : LeafOf K V LEN) → get old.leaves x ≡ Some leaf → IsSound cmp LEN leaf.array)
       (node : NodeOf K LEN) (is_node : get mid.nodes id ≡ Some node) where
     same : Unchanged old reserved
     same = unchanged_by_keeping old reserved keeps
@@ -119,7 +121,7 @@ module _ {K V : Type 0} {LEN : ℕ} {cmp : K → K → Ordering} (o : IsTotalOrd
     pub separator_is_new : IsAbsent cmp (keyed node).entries separator
     separator_is_new =
         absent_here o (IsBetween cmp key) 0 old mid id x y separator part
-        (leaf_splits_low o old reserved mid x y count leaf high low pair separator key same there high_is low_is gains last_low cloned cut_here)
+        (leaf_splits_low o old reserved mid x y count leaf high low pair separator key same there high_is low_is gains last_low cloned cut_here (sound leaf was))
         node parent_was at.before at.onward stood.last (last_is node parent_was) at.split (at.child ∙ goes node parent_was)
         (λ low_key high_key inside. (low_for cmp key low_key at.before at.smaller inside.0, high_for cmp key at.onward high_key at.up_to inside.1)) (tt, tt)
 
@@ -128,7 +130,7 @@ module _ {K V : Type 0} {LEN : ℕ} {cmp : K → K → Ordering} (o : IsTotalOrd
         let update = Updates-with_value mid.nodes id node' (rw is_node refl) in
         room_made_for 0 old mid (record mid { nodes = with_value mid.nodes id node' }) id x y separator key
         (gains_low o (IsBetween cmp key) 0 old mid id x y separator part
-        (leaf_splits_low o old reserved mid x y count leaf high low pair separator key same there high_is low_is gains last_low cloned cut_here)
+        (leaf_splits_low o old reserved mid x y count leaf high low pair separator key same there high_is low_is gains last_low cloned cut_here (sound leaf was))
         node parent_was at.before at.onward stood.last (last_is node parent_was) at.split (at.child ∙ goes node parent_was)
         (λ low_key high_key inside. (low_for cmp key low_key at.before at.smaller inside.0, high_for cmp key at.onward high_key at.up_to inside.1)) (tt, tt)
         (record mid { nodes = with_value mid.nodes id node' }) node' update.changed puts (λ n differs. update.others n differs) refl)

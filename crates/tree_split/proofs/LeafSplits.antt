@@ -1,5 +1,5 @@
 -- A leaf that gives its first entries to a new one before it.
-use Rattle.std.proofs.Common.{◌≡◌, ℕ, ◌+◌, ◌-◌, ◌<◌, ◌≤◌, ◌==◌, true, cond, ◌⊎◌, List, [], ◌∷◌, ◌++◌, length, take, drop, slice_get, Option, Some, None, IsSome, refl, sym, ap, ◌∙◌, arith, append_assoc, inl, inr}
+use Rattle.std.proofs.Common.{◌≡◌, ℕ, ◌+◌, ◌-◌, ◌<◌, ◌≤◌, ◌==◌, min, true, cond, ◌⊎◌, List, [], ◌∷◌, ◌++◌, length, take, drop, slice_get, Option, Some, None, IsSome, refl, sym, ap, ◌∙◌, arith, append_assoc, inl, inr}
 use Rattle.std.specs.List.{AllByRecursion}
 use Rattle.std.specs.declared.cmp.Ordering.{Ordering}
 use Rattle.std.specs.declared.cmp.Ordering.TheVariants.{Less, Equal}
@@ -8,6 +8,7 @@ use Rattle.std.proofs.lemmas.Bool.{cases_eq}
 use Rattle.std.proofs.lemmas.List.{length-map, length-take, length-drop, take-append-drop}
 use Rattle.slab.specs.Slab.{get}
 use Rattle.tree_array.specs.Arrivals.{Arrivals, in_order}
+use Rattle.tree_array.specs.Sound.{IsSound}
 use Rattle.tree_leaf.specs.declared.leaf.LeafOf.{LeafOf}
 use Rattle.tree_leaf.specs.Counting.{uses}
 use Rattle.tree_leaf.specs.Links.{GainsBefore}
@@ -18,11 +19,12 @@ use Rattle.tree_model.proofs.Lists.{all_map, all-append}
 use Rattle.tree_model.proofs.Order.{alike, alike_after}
 use Rattle.tree_node.specs.Arenas.{TreeArenas}
 use Rattle.tree_node.specs.Parts.{Replaces, Unchanged}
-use Rattle.tree_node.specs.Shape.{room}
+use Rattle.tree_node.specs.Shape.{room, spare}
 use Rattle.tree_split.specs.Splits.{IsCut}
 use Rattle.tree_node.specs.Tree.{IsAbove, IsBelow, IsUpTo, LeafStands, is_from}
 use Rattle.tree_node.proofs.Children.{walk-leaf}
 use Rattle.tree_node.proofs.Cuts.{all_front, all_behind, ascending_front, ascending_behind, smaller_front, cut_whole, cut_with}
+use Rattle.tree_node.proofs.LeafSpares.{spare_anew, spare_beside}
 use Rattle.tree_node.proofs.LeafWrites.{with_array, here_now, array_replaces}
 use Rattle.tree_node.proofs.LowSplits.{SplitsLow}
 use Rattle.tree_node.proofs.Order.{less_upto, upto_from_less}
@@ -175,13 +177,26 @@ module _ {K V : Type 0} {LEN : ℕ} {cmp : K → K → Ordering} (o : IsTotalOrd
       (replaces_trans 0 old reserved (with_array reserved x leaf high) (x ∷ []) (x ∷ []) (x ∷ []) (unchanged_replaces 0 old reserved same (x ∷ [])) (array_replaces reserved x leaf high there))
       (gained_replaces (with_array reserved x leaf high) mid x y low gains)
 
-  pub leaf_splits_low : SplitsLow cmp (IsBetween cmp key) 0 old mid x y separator
-  leaf_splits_low = record {
+  more_spare : IsSound cmp LEN leaf.array → spare 0 old x ≤ min (spare 0 mid y) (spare 0 mid x)
+  more_spare sound =
+      omega (
+        arith,
+        cut.within,
+        length-take count leaf.array.entries,
+        length-drop count leaf.array.entries,
+        spare_beside old x leaf was sound.entries_few sound.few,
+        spare_anew mid y _ (take count leaf.array.entries) gains.here low_is,
+        spare_anew mid x high_here.0 upper high_here.1 (high_here.2 ∙ high_is),
+      )
+
+  pub leaf_splits_low : IsSound cmp LEN leaf.array → SplitsLow cmp (IsBetween cmp key) 0 old mid x y separator
+  leaf_splits_low sound = record {
     pairs = rw (walk-leaf old x leaf was, walk-leaf mid y _ gains.here, walk-leaf mid x _ high_here.1, high_here.2, high_entries, ap (λ (a : Arrivals K V). a.entries) low_is) (take-append-drop count leaf.array.entries);
     separates = λ below above within s. (above_low below above s, below_high below above s within.1);
     lower = λ below above within s. low_stands below above s;
     upper = λ below above within s. high_stands below above s;
     replaces = leaf_replaces;
+    spares = more_spare sound;
   }
 
   module _ (few : length leaf.array.entries ≤ LEN) where

@@ -36,6 +36,7 @@ child_split {K = K} {cmp = cmp} level old mid new id x y separator gains fits lo
   pairs = gains.pairs;
   keeps = λ low high s. gains.stands low high (fits low high) s;
   replaces = gains.replaces;
+  spares = gains.spares;
   spends = gains.spends;
   roomy = rw sub-one (gains.high_room high_room);
   gained = λ z inside outside. rw (sub-one, gains.gained z inside outside) (gains.low_room low_room);

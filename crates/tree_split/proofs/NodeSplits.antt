@@ -1,5 +1,5 @@
 -- A node that gives its lower children to a new one before it.
-use Rattle.std.proofs.Common.{◌≡◌, ℕ, suc, ◌+◌, ◌<◌, ◌≤◌, ◌==◌, cond, List, [], ◌∷◌, ◌++◌, map, length, take, drop, Option, Some, None, IsSome, is_some, refl, sym, ap, ◌∙◌, arith, append_assoc, inl, inr}
+use Rattle.std.proofs.Common.{◌≡◌, ℕ, suc, ◌+◌, ◌<◌, ◌≤◌, ◌==◌, min, cond, List, [], ◌∷◌, ◌++◌, map, length, take, drop, Option, Some, None, IsSome, is_some, refl, sym, ap, ◌∙◌, arith, append_assoc, inl, inr}
 use Rattle.std.specs.Bool.{⊤}
 use Rattle.std.specs.List.{AllByRecursion}
 use Rattle.std.specs.declared.cmp.Ordering.{Ordering}
@@ -16,7 +16,7 @@ use Rattle.tree_model.proofs.Lists.{all_map}
 use Rattle.tree_node.specs.declared.node.NodeOf.{NodeOf}
 use Rattle.tree_node.specs.Arenas.{TreeArenas}
 use Rattle.tree_node.specs.Parts.{IsPart, Replaces}
-use Rattle.tree_node.specs.Shape.{room}
+use Rattle.tree_node.specs.Shape.{room, spare}
 use Rattle.tree_split.specs.Splits.{CutsNode}
 use Rattle.tree_node.specs.Tree.{AreParted, IsAbove, IsBelow, Stands, keyed, unbounded, walk, leaves_at, nodes_at, leaves_of, nodes_of, children_of}
 use Rattle.tree_node.proofs.Cuts.{all_front, all_behind, cut_whole}
@@ -24,6 +24,7 @@ use Rattle.tree_node.proofs.Frames.{Agrees, each_part, parted_map, same_leaves, 
 use Rattle.tree_node.proofs.Lifts.{single_leaves, single_nodes}
 use Rattle.tree_node.proofs.Lists.{flat_map_same}
 use Rattle.tree_node.proofs.LowSplits.{SplitsLow}
+use Rattle.tree_node.proofs.Spares.{spares-append, spares_same}
 use Rattle.tree_node.proofs.Standing.{node_is}
 use Rattle.tree_node.proofs.Unchanged.{chain_same}
 use Rattle.tree_node.proofs.Walks.{above_next, walk-children}
@@ -217,6 +218,11 @@ module _ {K V : Type 0} {LEN : ℕ} {cmp : K → K → Ordering} (o : IsTotalOrd
       parted = rw high_entries (parted_map cmp (Stands cmp level old) (Stands cmp level new) (Some separator) upper stood.last high_key (all_map (λ c same. same_stands cmp level old new c same) _ high_agree) parts.3);
     }
 
+  apart_spare : spare (suc level) old x ≤ min (spare (suc level) new y) (spare (suc level) new x)
+  apart_spare =
+      rw (x_children, y_children, now_children)
+      (omega (arith, spares-append level old low_ids high_ids, spares_same level old new low_ids low_agree, spares_same level old new high_ids high_agree))
+
   pub node_splits_low : SplitsLow cmp (λ low high. ⊤) (suc level) old new x y separator
   node_splits_low = record {
     pairs = apart_walk;
@@ -224,6 +230,7 @@ module _ {K V : Type 0} {LEN : ℕ} {cmp : K → K → Ordering} (o : IsTotalOrd
     lower = λ low_key high_key any s. low_stands low_key high_key s;
     upper = λ low_key high_key any s. high_stands low_key high_key s;
     replaces = apart_replaces;
+    spares = apart_spare;
   }
 
   module _ (within : place < length (keyed node).entries) where

@@ -8,6 +8,7 @@ use Rattle.slab.specs.Slab.{get, with_value, Updates}
 use Rattle.slab.proofs.SlabLemmas.{Updates-with_value}
 use Rattle.tree_array.specs.Arrivals.{Arrivals, in_order}
 use Rattle.tree_array.specs.Length.{IsLen, limit}
+use Rattle.tree_array.specs.Sound.{IsSound}
 use Rattle.tree_leaf.specs.declared.leaf.LeafOf.{LeafOf}
 use Rattle.tree_leaf.specs.Counting.{times, uses}
 use Rattle.tree_leaf.proofs.Chains.{same_array_refl}
@@ -16,14 +17,16 @@ use Rattle.tree_model.proofs.Lists.{all_map, all-append}
 use Rattle.tree_node.specs.declared.node.NodeOf.{NodeOf}
 use Rattle.tree_node.specs.Arenas.{TreeArenas}
 use Rattle.tree_node.specs.Parts.{IsPart, KeepsBounds, Replaces}
-use Rattle.tree_node.specs.Shape.{room}
+use Rattle.tree_node.specs.Shape.{room, spare}
 use Rattle.tree_split.specs.Splits.{HasMadeRoom, RebuildsNode, SharesChildren, SplitsChild}
 use Rattle.tree_node.specs.Tree.{HasChildFor, Stands, keyed, unbounded, walk, leaves_at, nodes_at, nodes_of, node_children, children_of}
 use Rattle.tree_node.proofs.Children.{walk-leaf}
 use Rattle.tree_node.proofs.Frames.{Agrees, each_part, parted_map, same_leaves, same_nodes, same_walk, same_stands}
+use Rattle.tree_node.proofs.LeafSpares.{spare_anew, spare_beside}
 use Rattle.tree_node.proofs.LeafWrites.{with_array, here_now, array_replaces}
 use Rattle.tree_node.proofs.Lifts.{node_times, front_agrees, back_agrees, leaves_once_in, lifted, single_leaves, single_nodes, walk_now, walk_was}
 use Rattle.tree_node.proofs.Lists.{flat_map_same}
+use Rattle.tree_node.proofs.Spares.{spares-single, spares_same, spare_split}
 use Rattle.tree_node.proofs.Standing.{node_is}
 use Rattle.tree_node.proofs.Places.{IsAt, children_at, later_children}
 use Rattle.tree_node.proofs.Walks.{walk-children}
@@ -33,6 +36,7 @@ pub record IsRebuilt {K V : Type 0} {LEN : ℕ} (cmp : K → K → Ordering) (le
   pub pairs : walk level new x ≡ walk level old x
   pub keeps : KeepsBounds cmp level old new x
   pub replaces : Replaces level old new (x ∷ []) (x ∷ [])
+  pub spares : spare level old x ≤ spare level new x
   pub roomy : 0 < room level new x
 
 module _ {K V : Type 0} {LEN : ℕ} {cmp : K → K → Ordering} (level : ℕ) (old new : TreeArenas K V LEN) (id x : ℕ) (part : IsPart cmp (suc level) old id) (rebuilt : IsRebuilt cmp level old new x)
@@ -68,6 +72,19 @@ module _ {K V : Type 0} {LEN : ℕ} {cmp : K → K → Ordering} (level : ℕ) (
         rebuilt.pairs,
       ) refl
 
+  same_or_more : spare (suc level) old id ≤ spare (suc level) new id
+  same_or_more =
+      omega (
+        arith,
+        rebuilt.spares,
+        spare_split level old id front (x ∷ []) back was,
+        spare_split level new id front (x ∷ []) back now,
+        spares-single level old x,
+        spares-single level new x,
+        spares_same level old new front fronts,
+        spares_same level old new back backs,
+      )
+
   all_keep : AllByRecursion (λ c. (low high : Option K) → Stands cmp level old low c high → Stands cmp level new low c high) (front ++ (x ∷ [] ++ back))
   all_keep =
       all-append _ front (x ∷ back) (all_map (λ c same. same_stands cmp level old new c same) _ fronts) (rebuilt.keeps, all_map (λ c same. same_stands cmp level old new c same) _ backs)
@@ -89,6 +106,7 @@ module _ {K V : Type 0} {LEN : ℕ} {cmp : K → K → Ordering} (level : ℕ) (
     pairs = same_pairs;
     stands = λ low high above up_to s. keeps_node low high s;
     replaces = replaces_node;
+    spares = same_or_more;
     spends = rw same_node (omega arith);
     child = λ child routed. rw (sub-one, only (get old.nodes id) child which (rw same_node at routed)) rebuilt.roomy;
   }
@@ -103,6 +121,7 @@ module _ {K V : Type 0} {LEN : ℕ} {cmp : K → K → Ordering} (level : ℕ) (
     pairs = same_pairs;
     keeps = keeps_node;
     replaces = replaces_node;
+    spares = same_or_more;
     spends = rw same_node (omega arith);
     roomy = rw sub-one rebuilt.roomy;
     gained = λ z inside outside. absurd (let same = ap (λ slot. times z slot) (was ∙ sym now) in omega (arith, same, inside, outside));
@@ -121,8 +140,8 @@ room_left len count (inr fifteen) few = rw fifteen (let less : count ≤ limit 1
 
 -- a leaf whose array is built anew
 module _ {K V : Type 0} {LEN : ℕ} {cmp : K → K → Ordering} (a : TreeArenas K V LEN) (x : ℕ) (leaf : LeafOf K V LEN) (was : get a.leaves x ≡ Some leaf) where
-  pub leaf_rebuilt : IsLen LEN → length leaf.array.entries ≤ limit LEN → IsRebuilt cmp 0 a (with_array a x leaf (in_order leaf.array.entries)) x
-  leaf_rebuilt is_len few = record {
+  pub leaf_rebuilt : IsSound cmp LEN leaf.array → length leaf.array.entries ≤ limit LEN → IsRebuilt cmp 0 a (with_array a x leaf (in_order leaf.array.entries)) x
+  leaf_rebuilt sound few = record {
     pairs = rw (walk-leaf (with_array a x leaf (in_order leaf.array.entries)) x _ (here_now a x leaf (in_order leaf.array.entries) was), walk-leaf a x leaf was) refl;
     keeps = λ low high s.
         let both : Some s.leaf ≡ Some leaf = sym s.here ∙ was in
@@ -136,7 +155,13 @@ module _ {K V : Type 0} {LEN : ℕ} {cmp : K → K → Ordering} (a : TreeArenas
           up_to = rw is at s.up_to;
         };
     replaces = array_replaces a x leaf (in_order leaf.array.entries) was;
-    roomy = rw (here_now a x leaf (in_order leaf.array.entries) was, length-map leaf.array.entries Some) (room_left LEN (length leaf.array.entries) is_len few);
+    spares =
+        omega (
+          arith,
+          spare_beside a x leaf was sound.entries_few sound.few,
+          spare_anew (with_array a x leaf (in_order leaf.array.entries)) x _ leaf.array.entries (here_now a x leaf (in_order leaf.array.entries) was) refl,
+        );
+    roomy = rw (here_now a x leaf (in_order leaf.array.entries) was, length-map leaf.array.entries Some) (room_left LEN (length leaf.array.entries) sound.is_len few);
   }
 
 -- a node whose array is built anew
@@ -203,5 +228,6 @@ module _ {K V : Type 0} {LEN : ℕ} {cmp : K → K → Ordering} (level : ℕ) (
           leaves_counted = λ n. rw (single_leaves (suc level) new.nodes x, single_leaves (suc level) a.nodes x, leaves_same) refl;
           chained = λ front back chain. rw (single_leaves (suc level) new.nodes x, leaves_same, ← single_leaves (suc level) a.nodes x) chain;
         };
+        spares = rw leaves_same (omega arith);
         roomy = rw (written.changed, rebuilds.last, rw is at stood.last_is, rebuilds.rebuilt, length-map (keyed node).entries Some) (room_left LEN (length (keyed node).entries) is_len few);
       }

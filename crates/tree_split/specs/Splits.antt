@@ -11,7 +11,7 @@ use Rattle.tree_node.specs.declared.node.NodeOf.{NodeOf}
 use Rattle.tree_node.specs.Arenas.{TreeArenas}
 use Rattle.tree_node.specs.Tree.{IsAbove, IsUpTo, HasChildFor, HasKind, Stands, keyed, unbounded, children_of, walk}
 use Rattle.tree_node.specs.Parts.{KeepsBounds, Replaces, Unchanged}
-use Rattle.tree_node.specs.Shape.{held, room}
+use Rattle.tree_node.specs.Shape.{held, room, spare}
 
 -- The parent takes no child more, and the child has too many to be built anew. Nothing has changed.
 pub record LacksRoom {K V : Type 0} {LEN : ℕ} (level : ℕ) (old new : TreeArenas K V LEN) (parent target : ℕ) : Type 0 where
@@ -31,6 +31,8 @@ module _ {K V : Type 0} {LEN : ℕ} (cmp : K → K → Ordering) where
     pub pairs : walk level new id ≡ walk level old id
     pub stands : (low high : Option K) → IsAbove cmp low key → IsUpTo cmp key high → Stands cmp level old low id high → Stands cmp level new low id high
     pub replaces : Replaces level old new (id ∷ []) (id ∷ [])
+    -- as many writes are sure to go into it
+    pub spares : spare level old id ≤ spare level new id
     -- at most one place of its array is taken
     pub spends : room level old id ≤ suc (room level new id)
     -- so that a second insert does not ask for a split
@@ -45,6 +47,7 @@ module _ {K V : Type 0} {LEN : ℕ} (cmp : K → K → Ordering) where
     pub pairs : walk level new parent ≡ walk level old parent
     pub keeps : KeepsBounds cmp level old new parent
     pub replaces : Replaces level old new (parent ∷ []) (parent ∷ [])
+    pub spares : spare level old parent ≤ spare level new parent
     pub spends : room level old parent ≤ suc (room level new parent)
     pub roomy : 0 < room (level - 1) new target
     -- the child's children stand in one node or two

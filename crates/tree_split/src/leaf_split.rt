@@ -27,8 +27,8 @@ use tree_node::node::{ArenasOf, NodeOf};
 ///    key among them becomes the new leaf's separator. The leaf divides at its array's boundary. If it is the unbounded
 ///    one, all its pairs arrived in ascending order and the key is larger than every key in it, all entries move.
 ///
-/// Returns `Err` if memory is refused, also by the clone; nothing has changed then. Allocates at most one leaf. Makes at
-/// most `LEN` comparisons in the put into the node's array, and one beside them.
+/// Returns `Err` if the leaf is to be split and memory is refused, also by the clone; nothing has changed then. Allocates
+/// at most one leaf. Makes at most `LEN` comparisons in the put into the node's array, and one beside them.
 ///
 /// The caller must see that a well-formed leaf node stands under the number, and that the key belongs to the leaf.
 pub fn make_room<K: IndexKey, V: Drop, const LEN: usize>(
@@ -41,6 +41,7 @@ pub fn make_room<K: IndexKey, V: Drop, const LEN: usize>(
     requires child { HasChildFor K.cmp key.now (get arenas.old.nodes id) target }
     ensures done { IfOk result (λ made. RoomResult K.cmp made 1 arenas.old arenas.new id target key.now) }
     ensures err { OnErr result (Unchanged arenas.old arenas.new) }
+    ensures many { OnErr result (limit LEN < length (leaf_entries arenas.old.leaves target)) }
 {
     let NodeOf::Leaf(node) = arenas.node(id) else {
         unreachable!()
@@ -103,7 +104,7 @@ fn split_leaf<K: IndexKey, V: Drop, const LEN: usize>(
     count: u8,
 ) -> Result<(), AllocError>
     requires part { IsPart K.cmp 1 arenas.old id }
-    requires len { IsLen LEN }
+    requires sound { (leaf : _) → get arenas.old.leaves target ≡ Some leaf → IsSound K.cmp LEN leaf.array }
     requires cut { (key : K) × HasChildFor K.cmp key (get arenas.old.nodes id) target × IsCut K.cmp key count (leaf_entries arenas.old.leaves target) }
     requires room { (node : _) → get arenas.old.nodes id ≡ Some node → HasRoom LEN (keyed node) }
     ensures done { IfOk result (λ _. (key : K) → HasChildFor K.cmp key (get arenas.old.nodes id) target → IsCut K.cmp key count (leaf_entries arenas.old.leaves target) → HasMadeRoom K.cmp 1 arenas.old arenas.new id key) }

@@ -7,7 +7,9 @@ ghost use Rattle.tree_array.specs.Sound.{IsSound};
 ghost use Rattle.tree_leaf.specs.Arena.{HasPlaces};
 ghost use Rattle.tree_leaf.specs.Counting.{times};
 ghost use Rattle.tree_model.specs.Pairs.{IsAbsent};
+ghost use Rattle.slab.specs.Slab.{get};
 ghost use Rattle.tree_node.specs.Parts.{IsPart, PutsChild, Unchanged};
+ghost use Rattle.tree_node.specs.Shape.{slot_keyed};
 ghost use Rattle.tree_split.specs.Splits.{CutsNode, RebuildsNode, SplitResult};
 ghost use Rattle.tree_node.specs.Tree.{HasKind, children_of, keyed};
 
@@ -26,8 +28,8 @@ use tree_node::node::{ArenasOf, NodeOf};
 ///    the keyed child at the boundary becomes that node's unbounded child, and its separator becomes the new node's.
 ///    No key is cloned.
 ///
-/// Returns `Err` if memory is refused; nothing has changed then. Allocates at most one node, and isn't refused where one
-/// was reserved. Makes at most `LEN` comparisons, in the put into the parent's array.
+/// Returns `Err` if the target is to be split and memory is refused; nothing has changed then. Allocates at most one node,
+/// and isn't refused where one was reserved. Makes at most `LEN` comparisons, in the put into the parent's array.
 ///
 /// The caller must see that a well-formed part of a tree stands under the parent, that the parent is above the leaf nodes,
 /// and that the target is one of its children.
@@ -40,6 +42,7 @@ pub fn split_child<K: Ord + Drop, V: Drop, const LEN: usize>(
     requires child { 0 < times target (children_of arenas.old.nodes parent) }
     ensures done { (level : ℕ) → 1 < level → IsPart K.cmp level arenas.old parent → IfOk result (λ split. SplitResult K.cmp split level arenas.old arenas.new parent target) }
     ensures err { OnErr result (Unchanged arenas.old arenas.new) }
+    ensures many { OnErr result (limit LEN < slot_keyed (get arenas.old.nodes target)) }
     ensures places { HasPlaces arenas.old 0 1 → IsOk result }
 {
     let full = takes_no_more(arenas.node(parent));

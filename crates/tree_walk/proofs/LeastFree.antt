@@ -1,12 +1,22 @@
 -- The least number over leaves, found as the children above them are gone through in turn.
-use Rattle.std.proofs.Common.{◌≡◌, ℕ, List, [], ◌∷◌, min, sym, ap, ◌∙◌, arith}
+use Rattle.std.proofs.Common.{◌≡◌, ℕ, ◌+◌, ◌-◌, ◌<◌, ◌≤◌, cond, List, [], ◌∷◌, min, sym, ap, ◌∙◌, arith}
 use Rattle.std.specs.List.{flat_map, AllByRecursion}
-use Rattle.tree_node.specs.Shape.{least}
+use Rattle.std.proofs.lemmas.Bool.{le-leb, lt-leb}
+use Rattle.tree_array.specs.Length.{limit}
+use Rattle.tree_node.specs.Shape.{least, spare_for}
 use Rattle.tree_node.proofs.Spares.{least-then}
 
 -- the lesser of a number and that of one leaf
 pub least_of_one : (f : ℕ → ℕ) (so_far leaf free next : ℕ) → next ≡ min so_far free → free ≡ f leaf → next ≡ least so_far f (leaf ∷ [])
 least_of_one f so_far leaf free next is here = omega (arith, is, here)
+
+-- how many writes a leaf takes, by the test of whether it will be built anew
+module _ (len count room : ℕ) where
+  pub spare_small : count + room ≤ limit len → spare_for len count room ≡ len - count
+  spare_small few = ap (λ b. cond {A = ℕ} b (len - count) room) (le-leb (count + room) (limit len) few)
+
+  pub spare_large : limit len < count + room → spare_for len count room ≡ room
+  spare_large many = ap (λ b. cond {A = ℕ} b (len - count) room) (lt-leb (count + room) (limit len) many)
 
 module _ (f : ℕ → ℕ) (g : ℕ → List ℕ) (Holds : ℕ → Type 0) (total : ℕ) where
   -- with the leaves, which `g` says, of the children that are left the least is the total, and this holds of each of them

@@ -1,9 +1,9 @@
 //! The arrays of leaves.
-ghost use Rattle.std.specs.Prelude.{◌≡◌, if◌then◌else◌};
+ghost use Rattle.std.specs.Prelude.{◌≡◌, length, if◌then◌else◌};
 ghost use Rattle.slab.specs.Slab.{ContainsKey};
 ghost use Rattle.tree_array.specs.Arrivals.{free};
 ghost use Rattle.tree_leaf.specs.Entries.{leaf_entries};
-ghost use Rattle.tree_node.specs.Shape.{leaf_free};
+ghost use Rattle.tree_node.specs.Shape.{leaf_spare, spare_for};
 
 use tree_array::array::ArrayOf;
 use tree_leaf::arena::LeafId;
@@ -16,7 +16,7 @@ pub fn array_of<'a, K: Ord + Drop, V: Drop, const LEN: usize>(
 ) -> &'a ArrayOf<K, V, LEN>
     requires { ContainsKey arenas.now.leaves leaf }
     ensures entries { leaf_entries arenas.now.leaves leaf ≡ result.now.entries }
-    ensures free { leaf_free arenas.now.leaves leaf ≡ if result.now.retired then 0 else free LEN result.now }
+    ensures spare { leaf_spare arenas.now.leaves leaf ≡ spare_for LEN (length result.now.entries) (if result.now.retired then 0 else free LEN result.now) }
 {
     arenas.leaf(leaf).array()
 }

@@ -1,3 +1,4 @@
+use Rattle.std.proofs.Common.{◌≡◌, ◌∙◌, true, [], Some, sym}
 use Rattle.tree_node.proofs.Children.{walk-leaf}
 use Rattle.tree_remove.proofs.LeafRemovals.{leaf_settled, removes_in_leaf}
 use Rattle.tree_node.proofs.Sizes.{fits}
@@ -12,7 +13,9 @@ remove_if-requires g c = (search fits, rw c.array_mut.ensures.value (rw (walk-le
 pub returns-clause-removes : goal.returns-clause-removes
 returns-clause-removes g c =
     let asked = rw c.array_mut.ensures.value at c.remove_if.ensures in
-    removes_in_leaf g.met.K.Ord.total _ c.args.arenas.now c.args.id c.leaf_mut.result.now c.remove_if.new.self c.args.key.now c.leaf_mut.ensures.value c.remove_if.result asked.absent asked.present
+    let read : c.leaf.result.now ≡ c.leaf_mut.result.now = let both : Some c.leaf.result.now ≡ Some c.leaf_mut.result.now = sym c.leaf.ensures ∙ c.leaf_mut.ensures.value in cc in
+    let none_retired : c.leaf_mut.result.now.array.retired ≡ true → c.leaf_mut.result.now.array.entries ≡ [] = rw (c.array.ensures, read) at c.free.ensures.sound.none_retired in
+    removes_in_leaf g.met.K.Ord.total _ c.args.arenas.now c.args.id c.leaf_mut.result.now c.remove_if.new.self c.args.key.now c.leaf_mut.ensures.value c.remove_if.result none_retired asked.absent asked.present
 
 pub returns-clause-settled : goal.returns-clause-settled
 returns-clause-settled g c =

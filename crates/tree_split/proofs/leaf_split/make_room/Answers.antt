@@ -1,10 +1,11 @@
 use Rattle.std.proofs.Common.{rules, ◌≡◌, ◌∙◌, ◌<◌, ◌≤◌, length, Some, refl, sym, ap}
 use Rattle.tree_array.specs.Length.{limit}
+use Rattle.tree_array.specs.Sound.{IsSound}
 use Rattle.tree_node.specs.declared.node.NodeOf.TheVariants.{Leaf}
 use Rattle.tree_split.specs.Splits.{IsCut}
 use Rattle.tree_split.proofs.Fulls.{full_room, not_full_room}
 use Rattle.tree_split.proofs.LeafRooms.{leaf_room_by_rebuild, leaf_used}
-use Rattle.tree_split.proofs.Results.{same_value}
+use Rattle.tree_split.proofs.Results.{on_err, same_value}
 use Rattle.tree_node.proofs.Sizes.{fits}
 use Rattle.tree_split.proofs.leaf_split.make_room.Goals as goal
 
@@ -21,8 +22,9 @@ pub returns-in_default-low_count-clause-done : goal.returns-in_default-low_count
 returns-in_default-low_count-clause-done g c =
     let read : c.leaf.result.now ≡ c.leaf_mut.result.now = same_value _ _ (sym c.leaf.ensures ∙ c.leaf_mut.ensures.value) in
     let few : length c.leaf_mut.result.now.array.entries ≤ limit g.row.LEN = rw (c.array.ensures, read) at c.in_default-low_count.ensures.cut in
+    let sound : IsSound g.K.Ord.cmp g.row.LEN c.leaf_mut.result.now.array = rw (c.array.ensures, read) at c.low_count.ensures.sound in
     rw (c.rebuild.ensures, c.array_mut.ensures.value)
-    (leaf_room_by_rebuild g.met.K.Ord.total c.args.arenas.now c.args.id c.args.target c.args.key.now c.requires.part c.requires.child _ c.node.ensures c.leaf_mut.result.now c.leaf_mut.ensures.value c.low_count.ensures.sound.is_len few)
+    (leaf_room_by_rebuild g.met.K.Ord.total c.args.arenas.now c.args.id c.args.target c.args.key.now c.requires.part c.requires.child _ c.node.ensures c.leaf_mut.result.now c.leaf_mut.ensures.value sound few)
 
 pub returns-then-full-clause-done : goal.returns-then-full-clause-done
 returns-then-full-clause-done g c =
@@ -44,7 +46,10 @@ split_leaf-requires g c =
         (
           c.requires.part,
           (
-            c.low_count.ensures.sound.is_len,
+            λ leaf is.
+                let both : Some leaf ≡ Some c.leaf.result.now = sym is ∙ c.leaf.ensures in
+                let same : leaf ≡ c.leaf.result.now = cc in
+                rw (same, ← c.array.ensures) c.low_count.ensures.sound,
             (
               (c.args.key.now, c.requires.child, rw c.leaf.ensures cut),
               λ node is.
@@ -61,3 +66,8 @@ pub returns-clause-done : goal.returns-clause-done
 returns-clause-done g c =
     let cut : IsCut g.K.Ord.cmp c.args.key.now c.in-Some.count c.leaf.result.now.array.entries = rw c.array.ensures at c.in-Some.ensures.cut.1 in
     c.in_ok-split_leaf.ensures.done c.args.key.now c.requires.child (rw c.leaf.ensures cut)
+
+pub returns-in_err-split_leaf-clause-many : goal.returns-in_err-split_leaf-clause-many
+returns-in_err-split_leaf-clause-many g c =
+    let many : limit g.row.LEN < length c.leaf.result.now.array.entries = rw c.array.ensures at c.in-Some.ensures.cut.0 in
+    on_err c.from_residual.result (rw c.leaf.ensures many)

@@ -49,14 +49,14 @@ put_leaf-requires g c =
     let low : c.cut_low.new.low ≡ in_order (take c.args.count c.leaf_mut.result.now.array.entries) = rw c.array_mut.ensures.value at c.cut_low.ensures.low in
     let last : slice_get c.leaf_mut.result.now.array.entries (c.args.count - 1) ≡ Some separator.0 = rw (c.array.ensures, read) at separator.1 in
     let node = parent_was g.met.K.Ord.total c.args.arenas.now c.args.id c.args.target cut.0 c.requires.part cut.1 _ _ _ c.args.count c.leaf_mut.result.now _ _ separator.0 c.in_ok-separator.separator
-    c.in_ok-reserve.ensures.0 c.leaf_mut.ensures.value high low c.in-Ok.ensures last separator.2 cut.2 _ c.node_mut.ensures.value in (
+    c.in_ok-reserve.ensures.0 c.leaf_mut.ensures.value high low c.in-Ok.ensures last separator.2 cut.2 c.requires.sound _ c.node_mut.ensures.value in (
       search (fits, c.requires-raw),
       (
         parent_kind g.met.K.Ord.total c.args.arenas.now c.args.id c.args.target cut.0 c.requires.part cut.1 _ _ _ c.args.count c.leaf_mut.result.now _ _ separator.0 c.in_ok-separator.separator
-            c.in_ok-reserve.ensures.0 c.leaf_mut.ensures.value high low c.in-Ok.ensures last separator.2 cut.2 _ c.node_mut.ensures.value,
+            c.in_ok-reserve.ensures.0 c.leaf_mut.ensures.value high low c.in-Ok.ensures last separator.2 cut.2 c.requires.sound _ c.node_mut.ensures.value,
         (
           separator_is_new g.met.K.Ord.total c.args.arenas.now c.args.id c.args.target cut.0 c.requires.part cut.1 _ _ _ c.args.count c.leaf_mut.result.now _ _ separator.0 c.in_ok-separator.separator
-              c.in_ok-reserve.ensures.0 c.leaf_mut.ensures.value high low c.in-Ok.ensures last separator.2 cut.2 _ c.node_mut.ensures.value,
+              c.in_ok-reserve.ensures.0 c.leaf_mut.ensures.value high low c.in-Ok.ensures last separator.2 cut.2 c.requires.sound _ c.node_mut.ensures.value,
           c.requires.room _ node,
         ),
       ),
@@ -71,14 +71,14 @@ returns-clause-done g c key which cut =
     let low : c.cut_low.new.low ≡ in_order (take c.args.count c.leaf_mut.result.now.array.entries) = rw c.array_mut.ensures.value at c.cut_low.ensures.low in
     let last : slice_get c.leaf_mut.result.now.array.entries (c.args.count - 1) ≡ Some separator.0 = rw (c.array.ensures, read) at separator.1 in
     leaf_room_by_split g.met.K.Ord.total c.args.arenas.now c.args.id c.args.target key c.requires.part which _ _ _ c.args.count c.leaf_mut.result.now _ _ separator.0 c.in_ok-separator.separator
-    c.in_ok-reserve.ensures.0 c.leaf_mut.ensures.value high low c.in-Ok.ensures last separator.2 cut _ c.node_mut.ensures.value _ c.put_leaf.ensures
+    c.in_ok-reserve.ensures.0 c.leaf_mut.ensures.value high low c.in-Ok.ensures last separator.2 cut c.requires.sound _ c.node_mut.ensures.value _ c.put_leaf.ensures
 
 pub returns-in_err-reserve-clause-err : goal.returns-in_err-reserve-clause-err
 returns-in_err-reserve-clause-err g c =
     on_err c.from_residual-in_err-reserve.result (unchanged_by_keeping _ _ c.in_err-reserve.ensures.0)
 
 pub new-low-requires : goal.new-low-requires
-new-low-requires g c = (search fits, c.requires.len)
+new-low-requires g c = (search fits, (c.requires.sound c.leaf.result.now c.leaf.ensures).is_len)
 
 pub cut_low-requires : goal.cut_low-requires
-cut_low-requires g c = (search rules, (c.requires.len, c.array_mut-2.ensures.value ∙ c.new-low.ensures.array))
+cut_low-requires g c = (search rules, ((c.requires.sound c.leaf.result.now c.leaf.ensures).is_len, c.array_mut-2.ensures.value ∙ c.new-low.ensures.array))

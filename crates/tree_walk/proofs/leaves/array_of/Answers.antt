@@ -6,4 +6,4 @@ pub leaf-requires : goal.leaf-requires
 leaf-requires g c = (search fits, (search fits, c.requires))
 
 pub returns : goal.returns
-returns g c = record { entries = rw (c.leaf.ensures, c.array.ensures) refl; free = rw (c.leaf.ensures, c.array.ensures) refl }
+returns g c = record { entries = rw (c.leaf.ensures, c.array.ensures) refl; spare = rw (c.leaf.ensures, c.array.ensures) refl }

@@ -17,8 +17,8 @@ returns-then-is_childless g c =
     let retired = c.is_childless.ensures.0 c.if-is_childless.true in
     rw (no_leaves g.K.Ord.cmp c.args.arenas.now c.args.id c.args.level c.requires.node c.requires.stands _ c.node-node.ensures retired.1) refl
 
-pub overflow_cast-least_free : goal.overflow_cast-least_free
-overflow_cast-least_free g c = Fits-of_lt {w = w8} (omega (arith, len_small _ c.slots_left.ensures.len))
+pub overflow_cast-least_spare : goal.overflow_cast-least_spare
+overflow_cast-least_spare g c = Fits-of_lt {w = w8} (omega (arith, len_small _ c.slots_left.ensures.len))
 
 pub returns : goal.returns
 returns g c =

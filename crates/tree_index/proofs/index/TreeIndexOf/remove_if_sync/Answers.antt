@@ -2,7 +2,7 @@ use Rattle.tree_node.proofs.Sizes.{fits}
 use Rattle.std.proofs.Common.{◌∙◌, ap, arith, sym, length}
 use Rattle.std.specs.Fn.{FnOnceReturnsAt}
 use Rattle.tree_index.specs.Trees.{pairs_of}
-use Rattle.tree_index.proofs.Indexed.{index_kept, one_less, pairs_ascend}
+use Rattle.tree_index.proofs.Indexed.{index_kept, keeps_spare, one_less, pairs_ascend}
 use Rattle.tree_index.proofs.Removed.{removes_surely}
 use Rattle.tree_index.proofs.index.TreeIndexOf.remove_if_sync.Goals as goal
 
@@ -31,10 +31,10 @@ pub returns-else-removed-clause-pairs : goal.returns-else-removed-clause-pairs
 returns-else-removed-clause-pairs g c = rw (← c.self.view_is) c.remove_if-removed.ensures.pairs
 
 pub returns-then-removed-clause-spare : goal.returns-then-removed-clause-spare
-returns-then-removed-clause-spare g c = rw (← c.self.view_is) c.remove_if-removed.ensures.spare
+returns-then-removed-clause-spare g c = rw (← c.self.view_is) (keeps_spare g.K.Ord.cmp _ c.self.inside.tree _ c.args.key.now c.remove_if-removed.result c.remove_if-removed.ensures)
 
 pub returns-else-removed-clause-spare : goal.returns-else-removed-clause-spare
-returns-else-removed-clause-spare g c = rw (← c.self.view_is) c.remove_if-removed.ensures.spare
+returns-else-removed-clause-spare g c = rw (← c.self.view_is) (keeps_spare g.K.Ord.cmp _ c.self.inside.tree _ c.args.key.now c.remove_if-removed.result c.remove_if-removed.ensures)
 
 pub returns-else-removed-clause-kept : goal.returns-else-removed-clause-kept
 returns-else-removed-clause-kept g c = λ none. rw (← c.self.view_is) (index_kept g.K.Ord.cmp _ c.self.inside.tree _ c.args.key.now (rw c.if-removed.false at c.remove_if-removed.ensures))

@@ -1,0 +1,3 @@
+pub mod Arrays
+pub mod Edges
+pub mod Tests

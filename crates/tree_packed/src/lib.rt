@@ -1,0 +1,2 @@
+//! Packed trees: what a tree is that took its keys in ascending order.
+#![tactic(auto)]
