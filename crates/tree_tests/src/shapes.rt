@@ -72,23 +72,76 @@ fn grows_by_a_level_with_seven_slots(rt: HostRuntime) {
     assert!(rt; succeeds(|| grows_by_a_level_with_seven_slots_steps(&rt, rt.alloc())));
 }
 
-/// One key takes a slot anew with each value, until its leaf is built anew.
-fn rebuilds_a_leaf_of_spent_slots_steps(rt: &impl Abort, alloc: Global) -> Result<(), AllocError> {
+/// So many upserts of one key, and the spare then: a leaf that will be built anew has its slots to spare at once.
+static UPSERTS: [(u64, u8); 9] = [
+    (1, 14),
+    (2, 13),
+    (3, 12),
+    (4, 11),
+    (5, 14),
+    (6, 14),
+    (15, 14),
+    (16, 13),
+    (17, 12),
+];
+
+fn upserts_of_one_key_spare_slots_steps(rt: &impl Abort, alloc: Global) -> Result<(), AllocError> {
     let mut both = Compared::new(alloc);
-    for value in 1..=15u64 {
-        both.upsert(rt, 7, value)?;
+    let mut value: u64 = 0;
+    for (count, spare) in &UPSERTS {
+        while value < *count {
+            value += 1;
+            both.upsert(rt, 7, value)?;
+        }
+        expect_shape(rt, &both, 1, *spare);
+        both.look_up(rt, 7);
+        expect_counts(rt, &both, 1, 1);
     }
-    expect_shape(rt, &both, 1, 0);
-    both.upsert(rt, 7, 16)?;
-    expect_shape(rt, &both, 1, 13);
-    both.look_up(rt, 7);
-    expect_counts(rt, &both, 1, 1);
     Ok(())
 }
 
 #[test]
-fn rebuilds_a_leaf_of_spent_slots(rt: HostRuntime) {
-    assert!(rt; succeeds(|| rebuilds_a_leaf_of_spent_slots_steps(&rt, rt.alloc())));
+fn upserts_of_one_key_spare_slots(rt: HostRuntime) {
+    assert!(rt; succeeds(|| upserts_of_one_key_spare_slots_steps(&rt, rt.alloc())));
+}
+
+/// The keys of a leaf that are removed one after another, and the spare then.
+static REMOVALS: [(u64, u8); 4] = [(1, 3), (2, 3), (3, 3), (4, 7)];
+
+fn removals_lower_no_spare_steps(rt: &impl Abort, alloc: Global) -> Result<(), AllocError> {
+    let mut both = Compared::new(alloc);
+    for key in 1..=12u64 {
+        both.upsert(rt, key, key)?;
+    }
+    expect_shape(rt, &both, 1, 3);
+    for (key, spare) in &REMOVALS {
+        both.remove(rt, *key);
+        expect_shape(rt, &both, 1, *spare);
+    }
+    for key in 21..=27u64 {
+        both.upsert(rt, key, key)?;
+    }
+    expect_shape(rt, &both, 1, 0);
+    both.compare(rt);
+    Ok(())
+}
+
+#[test]
+fn removals_lower_no_spare(rt: HostRuntime) {
+    assert!(rt; succeeds(|| removals_lower_no_spare_steps(&rt, rt.alloc())));
+}
+
+fn nothing_is_spare_without_a_leaf_steps(rt: &impl Abort, alloc: Global) -> Result<(), AllocError> {
+    let mut both = Compared::new(alloc);
+    both.upsert(rt, 1, 10)?;
+    both.remove(rt, 1);
+    expect_shape(rt, &both, 1, 0);
+    Ok(())
+}
+
+#[test]
+fn nothing_is_spare_without_a_leaf(rt: HostRuntime) {
+    assert!(rt; succeeds(|| nothing_is_spare_without_a_leaf_steps(&rt, rt.alloc())));
 }
 
 /// Where keys come downwards, one of them goes low. Where the first half comes downwards and the others upwards, half

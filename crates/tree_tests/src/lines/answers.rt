@@ -60,7 +60,11 @@ fn answers_lines(rt: HostRuntime) {
     }
 }
 
-static EDITS_AND_LOOK_UPS: [Row; 8] = [
+static EDITS_AND_LOOK_UPS: [Row; 9] = [
+    (
+        "upsert 7 1\nupsert 7 1\nupsert 7 1\nupsert 7 1\nupsert 7 1\nspare\n",
+        "ok\nok\nok\nok\nok\n14\n",
+    ),
     (
         "upsert 7 1\nupsert 7 2\nremove_if 7 1\nremove_if 7 2\nlen\ndepth\nspare\n",
         "ok\nok\nfalse\ntrue\n0\n1\n0\n",
