@@ -125,3 +125,52 @@ fn goes_on_after_a_refusal_steps(rt: &impl Abort, alloc: Global) -> Result<(), A
 fn goes_on_after_a_refusal(rt: HostRuntime) {
     assert!(rt; succeeds(|| goes_on_after_a_refusal_steps(&rt, rt.alloc())));
 }
+
+/// So many ascending inserts, and the depth then.
+static DEPTHS: [(u64, usize); 9] = [
+    (0, 0),
+    (1, 1),
+    (225, 1),
+    (240, 1),
+    (241, 2),
+    (3615, 2),
+    (3616, 3),
+    (54_240, 3),
+    (54_241, 4),
+];
+
+/// Runs the inserts of the keys from the first to the last.
+fn run_inserts(
+    alloc: Global,
+    index: &mut TreeIndex<u64, u64>,
+    first: u64,
+    last: u64,
+) -> Result<(), AllocError> {
+    let mut commands = Vec::new(alloc);
+    for key in first..=last {
+        commands.push(Command::Insert(key, key))?;
+    }
+    let Ok(replies) = run(index, commands) else {
+        return Err(AllocError);
+    };
+    if replies.iter().any(|reply| matches!(reply, Reply::Refused)) {
+        return Err(AllocError);
+    }
+    Ok(())
+}
+
+fn runs_ascending_inserts_steps(rt: &impl Abort, alloc: Global) -> Result<(), AllocError> {
+    let mut index: TreeIndex<u64, u64> = TreeIndex::new(alloc);
+    let mut stored: u64 = 0;
+    for (count, depth) in &DEPTHS {
+        run_inserts(alloc, &mut index, stored.saturating_add(1), *count)?;
+        stored = *count;
+        assert_eq!(rt; (index.depth(), index.len() as u64), (*depth, stored));
+    }
+    Ok(())
+}
+
+#[test]
+fn runs_ascending_inserts(rt: HostRuntime) {
+    assert!(rt; succeeds(|| runs_ascending_inserts_steps(&rt, rt.alloc())));
+}
