@@ -87,12 +87,12 @@ static UPSERTS: [(u64, u8); 9] = [
 
 fn upserts_of_one_key_spare_slots_steps(rt: &impl Abort, alloc: Global) -> Result<(), AllocError> {
     let mut both = Compared::new(alloc);
-    let mut value: u64 = 0;
+    let mut made: u64 = 0;
     for (count, spare) in &UPSERTS {
-        while value < *count {
-            value += 1;
+        for value in made.saturating_add(1)..=*count {
             both.upsert(rt, 7, value)?;
         }
+        made = *count;
         expect_shape(rt, &both, 1, *spare);
         both.look_up(rt, 7);
         expect_counts(rt, &both, 1, 1);
