@@ -213,3 +213,28 @@ pub fn find_key<K: Ord, V, const LEN: usize>(
 {
     find(cells, order, count, &mut &*key)
 }
+
+/// Where a key stands, as [`find_key`] tells. With `rightmost` the key is compared with the last one first, and a larger key
+/// is done: there belong keys that arrive in ascending order. That is at most one comparison more.
+#[inline]
+pub fn find_key_beyond<K: Ord, V, const LEN: usize>(
+    cells: &Cells<K, V, LEN>,
+    order: u64,
+    count: u8,
+    key: &K,
+    rightmost: bool,
+) -> Place
+    requires len { IsLen LEN }
+    requires few { count ≤ LEN }
+    requires in_order { IsInOrder K.cmp cells.now order count }
+    requires filled { 0 < count → IsFilled LEN order count }
+    ensures { IsPlace K.cmp cells.now order count key.now result }
+{
+    if rightmost && count > 0 {
+        let last = slot_at(order, count - 1);
+        if key.cmp(cells.key(last)).is_gt() {
+            return Place::Before(count, BEYOND);
+        }
+    }
+    find_key(cells, order, count, key)
+}
