@@ -24,7 +24,7 @@ use Rattle.tree_node.proofs.ChildChanges.{child_part}
 use Rattle.tree_node.proofs.Children.{child_stands}
 use Rattle.tree_split.proofs.LeafSplits.{IsBetween, high_room, leaf_splits_low, low_room}
 use Rattle.tree_node.proofs.LeafWrites.{with_array, array_replaces}
-use Rattle.tree_node.proofs.LowSplits.{GainsLow, absent_here, gains_low}
+use Rattle.tree_split.proofs.LowSplits.{GainsLow, absent_here, gains_low}
 use Rattle.tree_node.proofs.Standing.{node_is}
 use Rattle.tree_node.proofs.Places.{IsForKey, high_for, low_for, place_for}
 use Rattle.tree_split.proofs.Rebuilds.{among, leaf_rebuilt, room_made_by_rebuild}

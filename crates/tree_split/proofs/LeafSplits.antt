@@ -26,7 +26,7 @@ use Rattle.tree_node.proofs.Children.{walk-leaf}
 use Rattle.tree_node.proofs.Cuts.{all_front, all_behind, ascending_front, ascending_behind, smaller_front, cut_whole, cut_with}
 use Rattle.tree_node.proofs.LeafSpares.{spare_anew, spare_beside}
 use Rattle.tree_node.proofs.LeafWrites.{with_array, here_now, array_replaces}
-use Rattle.tree_node.proofs.LowSplits.{SplitsLow}
+use Rattle.tree_split.proofs.LowSplits.{SplitsLow}
 use Rattle.tree_node.proofs.Order.{less_upto, upto_from_less}
 use Rattle.tree_node.proofs.Steps.{replaces_trans}
 use Rattle.tree_node.proofs.Unchanged.{unchanged_replaces}

@@ -1,6 +1,8 @@
+mod Boundaries
 pub mod Fulls
 pub mod LeafRooms
 mod LeafSplits
+mod LowSplits
 mod NodeRooms
 mod NodeSplits
 mod Rebuilds

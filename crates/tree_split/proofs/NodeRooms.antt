@@ -21,7 +21,7 @@ use Rattle.tree_node.specs.Shape.{room}
 use Rattle.tree_node.specs.Tree.{AreParted, HasKind, is_from, Stands, keyed, unbounded, children_of, leaves_of, nodes_of}
 use Rattle.tree_node.proofs.Children.{stands_free_low, stands_free_high}
 use Rattle.tree_node.proofs.Lifts.{grouped_as, leaves_are, node_times, single_leaves, single_nodes}
-use Rattle.tree_node.proofs.LowSplits.{GainsLow, SplitsLow, absent_here, gains_low}
+use Rattle.tree_split.proofs.LowSplits.{GainsLow, SplitsLow, absent_here, gains_low}
 use Rattle.tree_node.proofs.Standing.{node_is}
 use Rattle.tree_split.proofs.NodeSplits.{children_shared, high_node_room, low_node_room, node_splits_low}
 use Rattle.tree_node.proofs.Places.{IsAt, child_between, high_at, later_children, low_at, place_of}

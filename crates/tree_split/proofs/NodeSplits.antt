@@ -23,7 +23,7 @@ use Rattle.tree_node.proofs.Cuts.{all_front, all_behind, cut_whole}
 use Rattle.tree_node.proofs.Frames.{Agrees, each_part, parted_map, same_leaves, same_nodes, same_walk, same_stands}
 use Rattle.tree_node.proofs.Lifts.{single_leaves, single_nodes}
 use Rattle.tree_node.proofs.Lists.{flat_map_same}
-use Rattle.tree_node.proofs.LowSplits.{SplitsLow}
+use Rattle.tree_split.proofs.LowSplits.{SplitsLow}
 use Rattle.tree_node.proofs.Spares.{spares-append, spares_same}
 use Rattle.tree_node.proofs.Standing.{node_is}
 use Rattle.tree_node.proofs.Unchanged.{chain_same}

@@ -1,6 +1,6 @@
 use Rattle.std.proofs.Common.{◌≡◌, ◌∙◌, ap, sym, length, arith, inl, inr}
 use Rattle.tree_array.specs.Arrivals.{ascents, reachable}
-use Rattle.tree_node.proofs.Boundaries.{boundary_count, few_by_boundary, many_by_boundary, parted_by}
+use Rattle.tree_split.proofs.Boundaries.{boundary_count, few_by_boundary, many_by_boundary, parted_by}
 use Rattle.tree_split.proofs.leaf_split.low_count.Goals as goal
 
 pub returns-then-boundary-clause-cut : goal.returns-then-boundary-clause-cut
