@@ -5,6 +5,7 @@ mod LeafSplits
 mod LowSplits
 mod NodeRooms
 mod NodeSplits
+mod PackedSplits
 mod Rebuilds
 pub mod Results
 mod SameKinds
