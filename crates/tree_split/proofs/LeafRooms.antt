@@ -30,6 +30,7 @@ use Rattle.tree_split.proofs.LowSplits.{GainsLow, SplitsLow, absent_here, gains_
 use Rattle.tree_split.proofs.PackedSplits.{all_given, packed_split}
 use Rattle.tree_node.proofs.Standing.{node_is}
 use Rattle.tree_node.proofs.Places.{IsForKey, high_for, low_for, place_for}
+use Rattle.tree_split.proofs.Results.{only_child}
 use Rattle.tree_split.proofs.Rebuilds.{among, leaf_rebuilt, room_made_by_rebuild}
 use Rattle.tree_node.proofs.Unchanged.{chain_same, unchanged_by_keeping}
 
@@ -144,7 +145,7 @@ module _ {K V : Type 0} {LEN : ℕ} {cmp : K → K → Ordering} (o : IsTotalOrd
     packed_still : GivesAll cmp old id x count key → (node' : NodeOf K LEN) → PutsChild cmp node node' separator y → (child : ℕ) → KeepsPacked cmp 1 old (record mid { nodes = with_value mid.nodes id node' }) id child key
     packed_still gives node' puts child which' none e =
         let update = Updates-with_value mid.nodes id node' (rw is_node refl) in
-        let at_child : child ≡ x = only_child (get old.nodes id) child which' which in
+        let at_child : child ≡ x = only_child cmp key (get old.nodes id) child x which' which in
         let is : e.node ≡ node = let both : Some e.node ≡ Some node = sym e.here ∙ parent_was in cc in
         let edge : IsPacked cmp (Some key) 0 old x = edge_below o 0 old id x key part which e in
         let all : count ≡ LEN = gives which (rw at_child at none) e in
@@ -154,10 +155,6 @@ module _ {K V : Type 0} {LEN : ℕ} {cmp : K → K → Ordering} (o : IsTotalOrd
         (low_full o old reserved mid x y count leaf high low pair separator key same there high_is low_is gains last_low cloned cut_here edge few all)
         (edge_left o old reserved mid x y count leaf high low pair separator key same there high_is low_is gains last_low cloned cut_here edge few all)
         (separator_smaller o old reserved mid x y count leaf high low pair separator key same there high_is low_is gains last_low cloned cut_here edge few all)
-      where
-        only_child : (slot : Option (NodeOf K LEN)) (child : ℕ) → HasChildFor cmp key slot child → HasChildFor cmp key slot x → child ≡ x
-        only_child None child p q = absurd p
-        only_child (Some node) child p q = let both : Some child ≡ Some x = sym p ∙ q in cc
 
     pub leaf_room_by_split : GivesAll cmp old id x count key → (node' : NodeOf K LEN) → PutsChild cmp node node' separator y → HasMadeRoom cmp 1 old (record mid { nodes = with_value mid.nodes id node' }) id key
     leaf_room_by_split gives node' puts =

@@ -35,6 +35,7 @@ use Rattle.tree_node.proofs.Standing.{node_is}
 use Rattle.tree_node.proofs.Places.{IsAt, children_at, later_children}
 use Rattle.tree_node.proofs.Walks.{walk-children}
 use Rattle.tree_split.proofs.PackedSplits.{all_held}
+use Rattle.tree_split.proofs.Results.{only_child}
 
 -- the child is what it was to all that look for pairs, and has room
 pub record IsRebuilt {K V : Type 0} {LEN : ℕ} (cmp : K → K → Ordering) (level : ℕ) (old new : TreeArenas K V LEN) (x : ℕ) : Type 0 where
@@ -107,14 +108,10 @@ module _ {K V : Type 0} {LEN : ℕ} {cmp : K → K → Ordering} (o : IsTotalOrd
         parted = parted_map cmp (Stands cmp level old) (Stands cmp level new) low _ _ high (rw (← was, s.here, s.last_is) at all_keep) s.parted;
       }
 
-  only : (key : K) (slot : Option (NodeOf K LEN)) (child : ℕ) → HasChildFor cmp key slot x → HasChildFor cmp key slot child → child ≡ x
-  only key None child p q = absurd p
-  only key (Some node) child p q = let both : Some child ≡ Some x = sym q ∙ p in cc
-
   -- which no full child of a packed part is
   not_packed : (key : K) (child : ℕ) → HasChildFor cmp key (get old.nodes id) x → KeepsPacked cmp (suc level) old new id child key
   not_packed key child which which' none e =
-      let same : child ≡ x = only key (get old.nodes id) child which which' in
+      let same : child ≡ x = only_child cmp key (get old.nodes id) child x which' which in
       let here : IsPacked cmp (Some key) level old x = rw same at (edge_below o level old id child key part which' e) in
       let there : room level old child ≡ 0 = rw sub-one at none in
       absurd (omega (arith, rebuilt.unfilled, all_held cmp (Some key) level old None x None (child_stands o level old id part.stands key x which) here (rw same at there)))
@@ -126,7 +123,7 @@ module _ {K V : Type 0} {LEN : ℕ} {cmp : K → K → Ordering} (o : IsTotalOrd
     replaces = replaces_node;
     spares = same_or_more;
     spends = rw same_node (omega arith);
-    child = λ child routed. rw (sub-one, only key (get old.nodes id) child which (rw same_node at routed)) rebuilt.roomy;
+    child = λ child routed. rw (sub-one, only_child cmp key (get old.nodes id) child x (rw same_node at routed) which) rebuilt.roomy;
     packed = λ child. not_packed key child which;
   }
 
