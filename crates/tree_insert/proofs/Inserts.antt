@@ -1,5 +1,5 @@
 -- An insert in a leaf, and in the child that a key belongs to.
-use Rattle.std.proofs.Common.{◌≡◌, ℕ, suc, ◌-◌, ◌<◌, ◌≤◌, min, Bool, false, List, [], ◌∷◌, ◌++◌, length, length-append, Option, Some, None, Result, Ok, Err, refl, sym, ap, ◌∙◌, arith, inl, inr}
+use Rattle.std.proofs.Common.{◌≡◌, ℕ, suc, ◌-◌, ◌≤◌, min, Bool, false, List, [], ◌∷◌, ◌++◌, length, length-append, Option, Some, None, Result, Ok, Err, refl, sym, ap, ◌∙◌, arith, inl, inr}
 use Rattle.std.specs.List.{AllByRecursion}
 use Rattle.std.specs.declared.cmp.Ordering.{Ordering}
 use Rattle.std.specs.declared.cmp.Ordering.TheVariants.{Less}
@@ -17,7 +17,7 @@ use Rattle.tree_model.proofs.Ascending.{IsAscending-put}
 use Rattle.tree_model.proofs.Lengths.{length-put, without_few}
 use Rattle.tree_model.proofs.Lists.{all-append, all-filter}
 use Rattle.tree_node.specs.Arenas.{TreeArenas}
-use Rattle.tree_insert.specs.Inserts.{Inserts, InsertsUnder, asks_split, declined, refused, stores}
+use Rattle.tree_insert.specs.Inserts.{Inserts, InsertsUnder, asks_split, declined, refused}
 use Rattle.tree_node.specs.Parts.{IsPart, Unchanged}
 use Rattle.tree_node.specs.Shape.{spare, leaf_free, slot_free, slot_spare}
 use Rattle.tree_node.specs.Tree.{HasChildFor, Stands, walk}

@@ -13,7 +13,6 @@ use Rattle.tree_node.specs.Parts.{IsPart, Unchanged}
 use Rattle.tree_node.specs.Shape.{IsCrowded, held, room, slot_keyed, spare}
 use Rattle.tree_split.specs.Splits.{HasMadeRoom, LacksRoom, SplitsChild}
 use Rattle.tree_node.specs.Tree.{HasChildFor, Stands, walk}
-use Rattle.tree_packed.specs.Packed.{IsPacked}
 use Rattle.tree_packed.proofs.Edges.{same_packed}
 use Rattle.tree_split.proofs.Results.{only_child}
 use Rattle.tree_node.proofs.ChildChanges.{child_part, new_walk, old_spare, old_walk}
@@ -128,7 +127,6 @@ module _ {K V : Type 0} {LEN : ℕ} {cmp : K → K → Ordering} (upsert : Bool)
 
       child_full : room (level - 1) mid child ≡ 0
       child_full = unchanged_room (level - 1) old mid below.same child ∙ crowded_room cmp (level - 1) old child key below.crowded
-
 
   module _ (deep : 0 < level) (made : TreeArenas K V LEN) (made_room : HasMadeRoom cmp level mid made id k) where
     room_made : HasMadeRoom cmp level mid made id key
