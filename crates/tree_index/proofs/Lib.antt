@@ -1,6 +1,7 @@
 pub mod Cutting
 pub mod Indexed
 pub mod Numbers
+pub mod Packs
 pub mod Removed
 pub mod Rooms
 pub mod Served
