@@ -1,3 +1,4 @@
+pub mod Climbs
 pub mod Cutting
 pub mod Indexed
 pub mod Numbers

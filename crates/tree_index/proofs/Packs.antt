@@ -1,15 +1,14 @@
 -- What a store leaves of a packed tree.
-use Rattle.std.proofs.Common.{◌≡◌, ℕ, suc, ◌<◌, Bool, true, Some, None, Result, arith}
+use Rattle.std.proofs.Common.{◌≡◌, ℕ, suc, Bool, true, Some, None, Result, arith}
 use Rattle.std.specs.List.{AllByRecursion}
 use Rattle.std.specs.declared.cmp.Ordering.{Ordering}
 use Rattle.std.specs.declared.cmp.Ordering.TheVariants.{Less}
 use Rattle.std.specs.Cmp.{IsTotalOrder}
-use Rattle.slab.specs.Slab.{get}
 use Rattle.tree_array.specs.declared.answers.StoreResult.{StoreResult}
 use Rattle.tree_insert.specs.Inserts.{InsertsUnder, stores}
 use Rattle.tree_insert.specs.Roots.{RaisesRoot}
 use Rattle.tree_node.specs.Arenas.{TreeArenas}
-use Rattle.tree_node.specs.Shape.{room, slot_keyed}
+use Rattle.tree_node.specs.Shape.{room}
 use Rattle.tree_node.specs.Tree.{Stands, walk}
 use Rattle.tree_packed.specs.Packed.{IsPacked, packed_under}
 use Rattle.tree_packed.proofs.Edges.{packed_beyond}

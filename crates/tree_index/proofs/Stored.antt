@@ -78,7 +78,7 @@ module _ {K V : Type 0} {LEN : ℕ} (cmp : K → K → Ordering) where
       pairs = rw (bare_pairs old bare) (refl, rw root only.pairs);
       lowers = omega (arith, bare_spare old bare);
       spent = λ so. absurd (cc);
-      first = λ none taken. (rw root refl, rw root only.spare, rw root (packed_anew cmp new.arenas id packed), rw (root, only.pairs) refl);
+      first = λ none taken. (rw root refl, rw root only.spare, rw root (packed_anew cmp new.arenas id packed), bare_pairs old bare);
       kept = λ so. absurd (cc);
       packed = λ so smaller was. rw root (packed_anew cmp new.arenas id packed);
     }

@@ -33,10 +33,10 @@ abbrev pub IsShallow : ℕ → ℕ → ℕ → Type 0
 IsShallow LEN count depth = (depth ≤ 1) ⊎ (LEN ^ depth < count)
 
 module _ {K V : Type 0} where
-  -- A write took at most one slot of a leaf. The first one made a tree of one level, with its pair alone. A packed index isn't deep.
+  -- A write took at most one slot of a leaf. The first one, before which there was no pair, made a packed tree of one level. A packed index isn't deep.
   pub record IsWritten (LEN : ℕ) (old new : Index K V) : Type 0 where
     pub lowers : old.spare ≤ suc new.spare
-    pub first : old.depth ≡ 0 → (new.depth ≡ 1) × (new.spare ≡ LEN - 1) × (new.packed ≡ true) × (length new.pairs ≡ 1)
+    pub first : old.depth ≡ 0 → (new.depth ≡ 1) × (new.spare ≡ LEN - 1) × (new.packed ≡ true) × (old.pairs ≡ [])
     pub shallow : new.packed ≡ true → IsShallow LEN (length new.pairs) new.depth
 
   -- An index that is packed stays so, where the key is larger than all.

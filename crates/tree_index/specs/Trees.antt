@@ -47,8 +47,8 @@ module _ {K V : Type 0} {LEN : ℕ} where
     -- a write takes at most one slot of a leaf, and is refused only where one has none
     pub lowers : spare_of old ≤ suc (spare_of new)
     pub spent : refused result ≡ true → spare_of old ≡ 0
-    -- the first one makes a tree of one level, with its pair alone
-    pub first : depth_of old.root ≡ 0 → refused result ≡ false → (depth_of new.root ≡ 1) × (spare_of new ≡ LEN - 1) × (packed_of cmp new ≡ true) × (length (pairs_of new) ≡ 1)
+    -- the first one, before which there was no pair, makes a packed tree of one level
+    pub first : depth_of old.root ≡ 0 → refused result ≡ false → (depth_of new.root ≡ 1) × (spare_of new ≡ LEN - 1) × (packed_of cmp new ≡ true) × (pairs_of old ≡ [])
     -- one with a key larger than all keeps the tree packed
     pub packed : stores result ≡ true → AllByRecursion (λ p. cmp p.0 key ≡ Less) (pairs_of old) → packed_of cmp old ≡ true → packed_of cmp new ≡ true
     -- a duplicate leaves the tree as it was

@@ -182,11 +182,12 @@ impl<K: IndexKey, V: Drop, const LEN: usize> TreeIndexOf<K, V, LEN> {
         pair_of(self, key)
     }
 
-    /// Returns the pair with the judge's key, as it is stored. Asks the judge at most `4 * (depth + 1)` times with 15
-    /// pairs a leaf, and `3 * (depth + 1)` times with 7.
+    /// Returns the pair with the judge's key, as it is stored. The judge keeps its key, and is asked at most
+    /// `4 * (depth + 1)` times with 15 pairs a leaf, and `3 * (depth + 1)` times with 7.
     pub fn peek_entry_by<J: Judge<K>>(&self, judge: &mut J) -> Option<(&K, &V)>
         ensures found { MatchOption result (IsAbsent K.cmp self.now.pairs (J.key judge.old))
             (λ pair. pair_at K.cmp self.now.pairs (J.key judge.old) ≡ Some (pair.0.now, pair.1.now)) }
+        ensures same_key { J.key judge.new ≡ J.key judge.old }
         ensures counted { J.count judge.new ≤ J.count judge.old + LEN * (self.now.depth + 1) }
         ensures halved { J.count judge.new ≤ J.count judge.old + searched LEN * (self.now.depth + 1) }
         ensures ascending { IsAscending K.cmp self.now.pairs }
