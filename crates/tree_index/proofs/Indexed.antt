@@ -23,8 +23,9 @@ use Rattle.tree_node.proofs.Bare.{no_children}
 use Rattle.tree_index.specs.declared.tree.Stored.{Stored}
 use Rattle.tree_index.specs.declared.tree.Stored.TheVariants.{New as NewKey, Replaced as OldKey}
 use Rattle.tree_index.specs.declared.tree.Tree.{Tree}
+use Rattle.tree_packed.proofs.Tests.{packed_depth}
 use Rattle.tree_index.proofs.Stored.{stands_or_retired}
-use Rattle.tree_index.specs.Index.{Index, IsTreeOf, IsWritten, KeepsSpare, SpendsInsert, StoresPair, index_of}
+use Rattle.tree_index.specs.Index.{Index, IsTreeOf, IsWritten, KeepsPacked, KeepsSpare, SpendsInsert, StoresPair, index_of}
 use Rattle.tree_index.specs.Trees.{IsWhole, Stores, Takes, pairs_of, told}
 
 module _ {K V : Type 0} {LEN : ℕ} {cmp : K → K → Ordering} (o : IsTotalOrder cmp) where
@@ -69,12 +70,13 @@ module _ {K V : Type 0} {LEN : ℕ} (cmp : K → K → Ordering) (upsert : Bool)
   pairs_kept (OutOfMemory k v) stores = stores.pairs.3
 
   -- what a store in the tree is to the index
-  pub stores_pair : (result : Result Stored (InsertError K V)) → Stores cmp upsert old new key val (told result) → StoresPair cmp upsert LEN (index_of old) (index_of new) key val result
+  pub stores_pair : (result : Result Stored (InsertError K V)) → Stores cmp upsert old new key val (told result) → StoresPair cmp upsert LEN (index_of cmp old) (index_of cmp new) key val result
   stores_pair result stores = record {
     pairs = stores.pairs;
     spent = stores.spent;
-    written = λ taken. record { lowers = stores.lowers; first = λ none. stores.first none taken };
-    kept = λ so. rw (as_it_was (told result) so stores.pairs, (stores.kept so).0, (stores.kept so).1) refl;
+    written = λ taken. record { lowers = stores.lowers; first = λ none. stores.first none taken; shallow = λ so. packed_depth cmp new.arenas new.root so };
+    kept = λ so. rw (as_it_was (told result) so stores.pairs, (stores.kept so).0, (stores.kept so).1, (stores.kept so).2) refl;
+    packed = stores.packed;
   }
 
 -- a write that changed nothing met a tree with a root
@@ -86,8 +88,8 @@ deep_if_kept {K = K} {V = V} LEN old new same written = by_depth old.depth refl
     by_depth (suc depth) deep = omega arith
 
 -- a removal that removed nothing leaves the index as it was
-pub index_kept : {K V : Type 0} {LEN : ℕ} (cmp : K → K → Ordering) (Says : V → Bool → Type 0) (old new : Tree K V LEN) (key : K) → Takes cmp Says old new key false → index_of new ≡ index_of old
-index_kept cmp Says old new key takes = rw (takes.pairs.1, (takes.kept refl).0, (takes.kept refl).1) refl
+pub index_kept : {K V : Type 0} {LEN : ℕ} (cmp : K → K → Ordering) (Says : V → Bool → Type 0) (old new : Tree K V LEN) (key : K) → Takes cmp Says old new key false → index_of cmp new ≡ index_of cmp old
+index_kept cmp Says old new key takes = rw (takes.pairs.1, (takes.kept refl).0, (takes.kept refl).1, (takes.kept refl).2) refl
 
 -- a tree without a leaf has no pair
 no_pairs : {K V : Type 0} {LEN : ℕ} (a : TreeArenas K V LEN) (root : Option (ℕ × ℕ)) → leaves_under a.nodes root ≡ [] → walk_under a root ≡ []
@@ -95,7 +97,7 @@ no_pairs a None bare = refl
 no_pairs a (Some root) bare = rw bare refl
 
 -- what a removal from the tree leaves of the spare
-pub keeps_spare : {K V : Type 0} {LEN : ℕ} (cmp : K → K → Ordering) (Says : V → Bool → Type 0) (old new : Tree K V LEN) (key : K) (removed : Bool) → Takes cmp Says old new key removed → KeepsSpare (index_of old) (index_of new)
+pub keeps_spare : {K V : Type 0} {LEN : ℕ} (cmp : K → K → Ordering) (Says : V → Bool → Type 0) (old new : Tree K V LEN) (key : K) (removed : Bool) → Takes cmp Says old new key removed → KeepsSpare (index_of cmp old) (index_of cmp new)
 keeps_spare cmp Says old new key removed takes = elim takes.spare [ inl more ↦ inl more | inr none ↦ inr (no_pairs new.arenas new.root none, rw none refl) ]
 
 -- the index is empty where no pair is counted
@@ -108,11 +110,12 @@ pub pair_is : {A B : Type 0} (pair : A × B) (a : A) (b : B) → pair.0 ≡ a �
 pair_is (x, y) a b first second = rw (first, second) refl
 
 -- what is lent of an index is its tree
-pub is_tree_of : {K V : Type 0} {LEN : ℕ} (cmp : K → K → Ordering) (tree : Tree K V LEN) (root : Option ℕ) → option_map (λ id. (id, depth_of tree.root)) root ≡ tree.root → IsWhole cmp tree → IsTreeOf cmp (index_of tree) tree.arenas root
+pub is_tree_of : {K V : Type 0} {LEN : ℕ} (cmp : K → K → Ordering) (tree : Tree K V LEN) (root : Option ℕ) → option_map (λ id. (id, depth_of tree.root)) root ≡ tree.root → IsWhole cmp tree → IsTreeOf cmp (index_of cmp tree) tree.arenas root
 is_tree_of cmp tree root same whole = record {
   tree = rw same whole;
   pairs = rw same refl;
   spare = rw same refl;
+  packed = rw same refl;
   rootless = λ none. let gone : tree.root ≡ None = sym same ∙ ap (option_map (λ id. (id, depth_of tree.root))) none in rw gone refl;
 }
 
@@ -130,17 +133,17 @@ walks_from cmp index arenas root is =
 
 -- what a store is to an insert, which replaces no pair, and to an upsert, which finds no duplicate
 module _ {K V : Type 0} (LEN : ℕ) (cmp : K → K → Ordering) (old new : Index K V) (key : K) (val : V) where
-  pub inserted : (stored : Stored) → StoresPair cmp false LEN old new key val (Ok stored) → IsAbsent cmp old.pairs key × (new.pairs ≡ put cmp old.pairs key val) × IsWritten LEN old new
-  inserted NewKey stores = (stores.pairs.0, stores.pairs.1, stores.written refl)
+  pub inserted : (stored : Stored) → StoresPair cmp false LEN old new key val (Ok stored) → IsAbsent cmp old.pairs key × (new.pairs ≡ put cmp old.pairs key val) × IsWritten LEN old new × KeepsPacked cmp old new key
+  inserted NewKey stores = (stores.pairs.0, stores.pairs.1, stores.written refl, stores.packed refl)
   inserted OldKey stores = absurd (let no : false ≡ true = stores.pairs.0 in cc)
 
   pub not_inserted : (error : InsertError K V) → StoresPair cmp false LEN old new key val (Err error) → InsertsPair cmp {T = Unit {0}} old.pairs key val (Err error) new.pairs × SpendsInsert {T = Unit {0}} LEN old new (Err error)
   not_inserted (SameKey k v) stores = ((stores.pairs.1, stores.pairs.2, stores.pairs.3, stores.pairs.4), (deep_if_kept LEN old new (stores.kept refl) (stores.written refl), stores.kept refl))
   not_inserted (OutOfMemory k v) stores = ((stores.pairs.0 refl, stores.pairs.1, stores.pairs.2, stores.pairs.3), stores.spent refl)
 
-  pub upserted : (stored : Stored) → StoresPair cmp true LEN old new key val (Ok stored) → (new.pairs ≡ put cmp old.pairs key val) × IsWritten LEN old new
-  upserted NewKey stores = (stores.pairs.1, stores.written refl)
-  upserted OldKey stores = (stores.pairs.2, stores.written refl)
+  pub upserted : (stored : Stored) → StoresPair cmp true LEN old new key val (Ok stored) → (new.pairs ≡ put cmp old.pairs key val) × IsWritten LEN old new × KeepsPacked cmp old new key
+  upserted NewKey stores = (stores.pairs.1, stores.written refl, stores.packed refl)
+  upserted OldKey stores = (stores.pairs.2, stores.written refl, stores.packed refl)
 
   pub not_upserted : (k : K) (v : V) → StoresPair cmp true LEN old new key val (Err (OutOfMemory k v)) → (◌≡◌ {A = K × V} (k, v) (key, val)) × (new.pairs ≡ old.pairs) × (old.spare ≡ 0)
   not_upserted k v stores = (pair_is (k, v) key val stores.pairs.1 stores.pairs.2, stores.pairs.3, stores.spent refl)

@@ -1,6 +1,8 @@
+pub mod Climbs
 pub mod Cutting
 pub mod Indexed
 pub mod Numbers
+pub mod Packs
 pub mod Removed
 pub mod Rooms
 pub mod Served

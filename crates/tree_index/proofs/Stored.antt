@@ -1,13 +1,16 @@
 -- What a store in a tree comes to: the first pair, a pair under the root, and a pair after the root has grown.
-use Rattle.std.proofs.Common.{◌≡◌, ◌⊎◌, ℕ, zero, suc, ◌<◌, Bool, false, List, [], Option, Some, None, IsSome, Result, Ok, Err, inl, inr, refl, sym, ap, ◌∙◌, arith}
+use Rattle.std.proofs.Common.{◌≡◌, ◌⊎◌, ℕ, zero, suc, ◌<◌, Bool, true, false, List, [], Option, Some, None, IsSome, Result, Ok, Err, inl, inr, refl, sym, ap, ◌∙◌, arith}
+use Rattle.std.specs.List.{AllByRecursion}
 use Rattle.std.specs.declared.cmp.Ordering.{Ordering}
+use Rattle.std.specs.declared.cmp.Ordering.TheVariants.{Less}
+use Rattle.std.specs.Cmp.{IsTotalOrder}
 use Rattle.std.proofs.lemmas.Bool.{false_from_ne_true}
 use Rattle.slab.specs.Slab.{get}
 use Rattle.tree_model.specs.Pairs.{IsAbsent, IsPresent}
 use Rattle.tree_array.specs.declared.answers.StoreResult.{StoreResult}
 use Rattle.tree_array.specs.declared.answers.StoreResult.TheVariants.{New, Replaced, Duplicate, Full}
 use Rattle.tree_node.specs.Arenas.{TreeArenas}
-use Rattle.tree_insert.specs.Inserts.{Inserts, InsertsUnder, IsNew, asks_split, declined}
+use Rattle.tree_insert.specs.Inserts.{Inserts, InsertsUnder, IsNew, asks_split, declined, stores}
 use Rattle.tree_node.specs.Parts.{IsPart, Unchanged}
 use Rattle.tree_node.specs.Shape.{room, spare}
 use Rattle.tree_insert.specs.Roots.{RaisesRoot}
@@ -22,7 +25,10 @@ use Rattle.tree_model.specs.declared.commands.InsertError.TheVariants.{Duplicate
 use Rattle.tree_index.specs.declared.tree.Stored.{Stored as TreeStored}
 use Rattle.tree_index.specs.declared.tree.Stored.TheVariants.{New as NewKey, Replaced as OldKey}
 use Rattle.tree_index.specs.declared.tree.Tree.{Tree}
-use Rattle.tree_index.specs.Trees.{IsWhole, Stores, pairs_of, spare_of, told}
+use Rattle.tree_packed.specs.Packed.{IsPacked}
+use Rattle.tree_packed.proofs.Tests.{packed_unchanged}
+use Rattle.tree_index.specs.Trees.{IsWhole, Stores, packed_of, pairs_of, spare_of, told}
+use Rattle.tree_index.proofs.Packs.{packed_anew, packed_raised, packed_under_root}
 
 -- a tree always finds room
 pub never_full : {K V : Type 0} (result : Result TreeStored (InsertError K V)) → asks_split (told result) ≡ false
@@ -30,6 +36,10 @@ never_full (Ok NewKey) = refl
 never_full (Ok OldKey) = refl
 never_full (Err (Declined key val)) = refl
 never_full (Err (OutOfMemory key val)) = refl
+
+-- a tree that is packed stays so, where the pair was stored, and its key is larger than all
+abbrev pub KeepsTreePacked : {K V : Type 0} {LEN : ℕ} → (K → K → Ordering) → Tree K V LEN → Tree K V LEN → K → Result (StoreResult K V) (K × V) → Type 0
+KeepsTreePacked cmp old new key result = stores result ≡ true → AllByRecursion (λ p. cmp p.0 key ≡ Less) (pairs_of old) → packed_of cmp old ≡ true → packed_of cmp new ≡ true
 
 module _ {K V : Type 0} (cmp : K → K → Ordering) (upsert : Bool) where
   -- a pair that is new is no duplicate
@@ -62,14 +72,15 @@ module _ {K V : Type 0} {LEN : ℕ} (cmp : K → K → Ordering) where
 
   module _ (upsert : Bool) (old new : Tree K V LEN) (key : K) (val : V) where
     -- the first pair
-    pub stored_first : (id : ℕ) → leaves_under old.arenas.nodes old.root ≡ [] → new.root ≡ Some (id, 1) → HasOnly cmp new.arenas id key val → Stores cmp upsert old new key val (Ok New)
-    stored_first id bare root only = record {
+    pub stored_first : (id : ℕ) → leaves_under old.arenas.nodes old.root ≡ [] → new.root ≡ Some (id, 1) → HasOnly cmp new.arenas id key val → IsPacked cmp None 1 new.arenas id → Stores cmp upsert old new key val (Ok New)
+    stored_first id bare root only packed = record {
       whole = rw root only.tree;
       pairs = rw (bare_pairs old bare) (refl, rw root only.pairs);
       lowers = omega (arith, bare_spare old bare);
       spent = λ so. absurd (cc);
-      first = λ none taken. (rw root refl, rw root only.spare);
+      first = λ none taken. (rw root refl, rw root only.spare, rw root (packed_anew cmp new.arenas id packed), bare_pairs old bare);
       kept = λ so. absurd (cc);
+      packed = λ so smaller was. rw root (packed_anew cmp new.arenas id packed);
     }
 
     pub not_stored_first : (pair : K × V) → IsWhole cmp old → leaves_under old.arenas.nodes old.root ≡ [] → new.root ≡ old.root → Unchanged old.arenas new.arenas → pair.0 ≡ key → pair.1 ≡ val
@@ -81,6 +92,7 @@ module _ {K V : Type 0} {LEN : ℕ} (cmp : K → K → Ordering) where
       spent = λ so. bare_spare old bare;
       first = λ none taken. absurd (cc);
       kept = λ so. absurd (cc);
+      packed = λ so. absurd (cc);
     }
 
     -- a pair under the root
@@ -90,8 +102,8 @@ module _ {K V : Type 0} {LEN : ℕ} (cmp : K → K → Ordering) where
       here : IsWhole cmp (record old { root = Some (id, level) })
       here = rw was at whole
 
-      under : Stands cmp level old.arenas None id None → asks_split result ≡ false → Stores cmp upsert old new key val result
-      under stands no_split =
+      under : IsTotalOrder cmp → Stands cmp level old.arenas None id None → asks_split result ≡ false → Stores cmp upsert old new key val result
+      under o stands no_split =
           let ins = inserts (tree_part old.arenas id level here stands) in
           let stands_now = ins.stands None None tt tt stands in
           let was_spare : spare_of old ≡ spare level old.arenas id = rw was (spare_standing cmp old.arenas id level stands) in
@@ -102,14 +114,15 @@ module _ {K V : Type 0} {LEN : ℕ} (cmp : K → K → Ordering) where
             lowers = omega (arith, ins.lowers, was_spare, is_spare);
             spent = λ so. was_spare ∙ ins.spent so (λ asks. here.top.0);
             first = λ none taken. absurd (omega (arith, here.top.0, ap depth_of was, none));
-            kept = λ so. rw (was, now) (refl, spare_unchanged old.arenas new.arenas (Some (id, level)) (ins.unchanged so));
+            kept = λ so. rw (was, now) (refl, spare_unchanged old.arenas new.arenas (Some (id, level)) (ins.unchanged so), packed_unchanged cmp old.arenas new.arenas (Some (id, level)) (ins.unchanged so));
+            packed = λ so smaller packed. rw now (packed_under_root o upsert old.arenas new.arenas id level key val result stands (rw was at packed) (rw was at smaller) ins so);
           }
 
-      pub stored_under : asks_split result ≡ false → Stores cmp upsert old new key val result
-      stored_under no_split = by_top here.top.1
+      pub stored_under : IsTotalOrder cmp → asks_split result ≡ false → Stores cmp upsert old new key val result
+      stored_under o no_split = by_top here.top.1
         where
           by_top : (Stands cmp level old.arenas None id None ⊎ IsRetiredRoot old.arenas id level) → Stores cmp upsert old new key val result
-          by_top (inl stands) = under stands no_split
+          by_top (inl stands) = under o stands no_split
           by_top (inr gone) =
               let full = retired (rw gone.0 gone.1) in
               absurd (let both : asks_split {K = K} {V = V} (Ok (Full key val)) ≡ false = rw full.0 at no_split in cc)
@@ -122,15 +135,21 @@ module _ {K V : Type 0} {LEN : ℕ} (cmp : K → K → Ordering) where
         pub spent : spare_of new ≡ 0
         pub was_spent : spare_of old ≡ 0
         pub pairs : pairs_of new ≡ pairs_of old
+        pub packed : packed_of cmp new ≡ packed_of cmp old
         pub same_key : k ≡ key
         pub same_val : v ≡ val
 
       pub no_room : (k : K) (v : V) → result ≡ Ok (Full k v) → NoRoom k v
       no_room k v is = by_top here.top.1
         where
-          kept : Unchanged old.arenas new.arenas → (pairs_of new ≡ pairs_of old) × (spare_of new ≡ spare_of old) × IsWhole cmp new
+          kept : Unchanged old.arenas new.arenas → (pairs_of new ≡ pairs_of old) × (spare_of new ≡ spare_of old) × (packed_of cmp new ≡ packed_of cmp old) × IsWhole cmp new
           kept same =
-              rw (was, now) (walk_unchanged old.arenas new.arenas (Some (id, level)) same, spare_unchanged old.arenas new.arenas (Some (id, level)) same, tree_unchanged old.arenas new.arenas (Some (id, level)) same here)
+              rw (was, now) (
+                walk_unchanged old.arenas new.arenas (Some (id, level)) same,
+                spare_unchanged old.arenas new.arenas (Some (id, level)) same,
+                packed_unchanged cmp old.arenas new.arenas (Some (id, level)) same,
+                tree_unchanged old.arenas new.arenas (Some (id, level)) same here,
+              )
 
           by_top : (Stands cmp level old.arenas None id None ⊎ IsRetiredRoot old.arenas id level) → NoRoom k v
           by_top (inl stands) =
@@ -138,12 +157,13 @@ module _ {K V : Type 0} {LEN : ℕ} (cmp : K → K → Ordering) where
               let same = kept (ins.unchanged refl) in
               let none : spare_of old ≡ 0 = rw was (spare_standing cmp old.arenas id level stands) ∙ ins.spent refl (λ asks. here.top.0) in
               record {
-                still_whole = same.2;
+                still_whole = same.3;
                 full = inr (room_unchanged level old.arenas new.arenas id (ins.unchanged refl) ∙ crowded_room cmp level old.arenas id key (ins.full refl));
                 absent = λ inserts_only. rw (same.0, was, ins.pairs.1) (ins.pairs.0 inserts_only);
                 spent = same.1 ∙ none;
                 was_spent = none;
                 pairs = same.0;
+                packed = same.2;
                 same_key = ins.pairs.1;
                 same_val = ins.pairs.2;
               }
@@ -154,26 +174,28 @@ module _ {K V : Type 0} {LEN : ℕ} (cmp : K → K → Ordering) where
               let bare : leaves_under old.arenas.nodes old.root ≡ [] = rw (was, gone.0, (no_children (get old.arenas.nodes id) gone.1).1) refl in
               let both : Ok (Full key val) ≡ Ok (Full k v) = sym told.0 ∙ is in
               record {
-                still_whole = same.2;
+                still_whole = same.3;
                 full = inl (retired_unchanged level old.arenas new.arenas id told.1 at_level);
                 absent = λ inserts_only. rw (same.0, bare_pairs old bare) refl;
                 spent = same.1 ∙ bare_spare old bare;
                 was_spent = bare_spare old bare;
                 pairs = same.0;
+                packed = same.2;
                 same_key = cc;
                 same_val = cc;
               }
 
   -- the root has grown, and then the pair was stored
   pub stored_grown : (upsert : Bool) (old mid new : Tree K V LEN) (key : K) (val : V) (result : Result (StoreResult K V) (K × V)) → spare_of old ≡ 0 → 0 < depth_of old.root → IsNew cmp upsert (pairs_of old) key
-      → pairs_of mid ≡ pairs_of old → asks_split result ≡ false → Stores cmp upsert mid new key val result → Stores cmp upsert old new key val result
-  stored_grown upsert old mid new key val result spent deep absent pairs no_split stores = record {
-    whole = stores.whole;
-    pairs = rw pairs at stores.pairs;
+      → pairs_of mid ≡ pairs_of old → asks_split result ≡ false → Stores cmp upsert mid new key val result → KeepsTreePacked cmp old new key result → Stores cmp upsert old new key val result
+  stored_grown upsert old mid new key val result spent deep absent pairs no_split stored packed = record {
+    whole = stored.whole;
+    packed = packed;
+    pairs = rw pairs at stored.pairs;
     lowers = omega (arith, spent);
     spent = λ so. spent;
     first = λ none taken. absurd (omega (arith, none, deep));
-    kept = λ so. absurd (let no : declined result ≡ false = not_declined cmp upsert result (pairs_of old) (pairs_of new) key val absent (rw pairs at stores.pairs) no_split in cc);
+    kept = λ so. absurd (let no : declined result ≡ false = not_declined cmp upsert result (pairs_of old) (pairs_of new) key val absent (rw pairs at stored.pairs) no_split in cc);
   }
 
   -- the root could not grow for want of memory
@@ -186,6 +208,7 @@ module _ {K V : Type 0} {LEN : ℕ} (cmp : K → K → Ordering) where
     spent = λ so. spent;
     first = λ none taken. absurd (cc);
     kept = λ so. absurd (cc);
+    packed = λ so. absurd (cc);
   }
 
   -- what is known of the root of a tree
@@ -227,6 +250,15 @@ module _ {K V : Type 0} {LEN : ℕ} (cmp : K → K → Ordering) where
       by_top (inl stands) = tree_part a id level tree stands
       by_top (inr gone) = absurd (kept gone.1)
 
+  -- where it has no room, it has no room as a part
+  pub full_root : (a : TreeArenas K V LEN) (id level : ℕ) → IsTree cmp a (Some (id, level)) → (IsRetiredNode (get a.nodes id) → ⊥) → IsRetired level a id ⊎ (room level a id ≡ 0) → IsPart cmp level a id × (room level a id ≡ 0)
+  full_root a id level tree kept full = (root_part a id level tree kept, by_level level tree.top.0 full)
+    where
+      by_level : (level : ℕ) → 0 < level → IsRetired level a id ⊎ (room level a id ≡ 0) → room level a id ≡ 0
+      by_level zero deep full = absurd (omega (arith, deep))
+      by_level (suc level) deep (inl retired) = absurd (kept retired)
+      by_level (suc level) deep (inr none) = none
+
   -- the root was split under a new one, and then the pair was inserted there
   module _ (upsert : Bool) (old mid new : Tree K V LEN) (key : K) (val : V) (result : Result (StoreResult K V) (K × V)) (root top depth : ℕ) (was : old.root ≡ Some (root, depth))
       (between : mid.root ≡ Some (top, suc depth)) (now : new.root ≡ Some (top, suc depth)) (whole : IsWhole cmp old) (raised : RaisesRoot cmp depth old.arenas mid.arenas root top)
@@ -241,7 +273,9 @@ module _ {K V : Type 0} {LEN : ℕ} (cmp : K → K → Ordering) where
     pub takes_it : asks_split result ≡ false
     takes_it = false_from_ne_true (asks_split result) (λ asks. omega (arith, raised.roomy, crowded_room cmp (suc depth) mid.arenas top key ((inserts (tree_part mid.arenas top (suc depth) raised_whole raised.stands)).full asks)))
 
-    pub stored_raised : spare_of old ≡ 0 → IsNew cmp upsert (pairs_of old) key → Stores cmp upsert old new key val result
-    stored_raised spent absent =
+    pub stored_raised : IsTotalOrder cmp → IsPart cmp depth old.arenas root × (room depth old.arenas root ≡ 0) → spare_of old ≡ 0 → IsNew cmp upsert (pairs_of old) key → Stores cmp upsert old new key val result
+    stored_raised o full spent absent =
         stored_grown upsert old mid new key val result spent (rw was here_before.top.0) absent (rw (was, between) raised.pairs) takes_it
-        (stored_under upsert mid new key val top (suc depth) result between now (rw between raised_whole) inserts retired takes_it)
+        (stored_under upsert mid new key val top (suc depth) result between now (rw between raised_whole) inserts retired o takes_it)
+        (λ so smaller packed. rw now
+        (packed_raised o upsert old.arenas new.arenas root depth key val result full.0.stands (rw was at packed) (rw was at smaller) mid.arenas top raised full.1 (inserts (tree_part mid.arenas top (suc depth) raised_whole raised.stands)) so))

@@ -16,6 +16,7 @@ use Rattle.tree_node.specs.Whole.{IsRetiredRoot, IsTree, spare_under}
 use Rattle.tree_node.proofs.Bare.{no_children}
 use Rattle.tree_node.proofs.Steps.{part_after}
 use Rattle.tree_node.proofs.Whole.{chain_after, leaves_after, nodes_after, spare_standing, spare_unchanged, tree_part, tree_unchanged, walk_unchanged}
+use Rattle.tree_packed.proofs.Tests.{packed_unchanged}
 use Rattle.tree_remove.proofs.LoweredTrees.{spare_lowered, tree_lowered}
 use Rattle.tree_index.specs.declared.tree.Tree.{Tree}
 use Rattle.tree_index.specs.Trees.{IsWhole, Takes}
@@ -27,7 +28,7 @@ module _ {K V : Type 0} {LEN : ℕ} (cmp : K → K → Ordering) (Says : V → B
     whole = rw same whole;
     pairs = rw (same, none) ((λ pair found. absurd (cc)), refl);
     spare = inl (rw same (omega arith));
-    kept = λ so. rw same (refl, refl);
+    kept = λ so. rw same (refl, refl, refl);
   }
 
   module _ (id level : ℕ) (was : old.root ≡ Some (id, level)) (whole : IsWhole cmp old) where
@@ -40,7 +41,7 @@ module _ {K V : Type 0} {LEN : ℕ} (cmp : K → K → Ordering) (Says : V → B
       whole = rw root (tree_unchanged old.arenas new.arenas old.root r.leaves whole);
       pairs = (rw was r.pairs.0, rw root (walk_unchanged old.arenas new.arenas old.root r.leaves));
       spare = inl (omega (arith, ap (λ r. spare_under new.arenas r) root, spare_unchanged old.arenas new.arenas old.root r.leaves));
-      kept = λ so. rw root (refl, spare_unchanged old.arenas new.arenas old.root r.leaves);
+      kept = λ so. rw root (refl, spare_unchanged old.arenas new.arenas old.root r.leaves, packed_unchanged cmp old.arenas new.arenas old.root r.leaves);
     }
 
     -- the pair went, and then the root was lowered

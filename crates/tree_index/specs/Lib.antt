@@ -1,3 +1,4 @@
+pub mod Climbs
 pub mod Index
 pub mod Inserts
 pub mod Served

@@ -1,5 +1,6 @@
 //! Lists of commands.
 ghost use Rattle.std.specs.Prelude.{◌≡◌, IfOk, OnErr};
+ghost use Rattle.tree_index.specs.Climbs.{Climbs, PacksBy};
 ghost use Rattle.tree_index.specs.Served.{AreServed, SpendsBy};
 ghost use Rattle.tree_model.specs.Runs.{Step, Runs};
 
@@ -12,13 +13,16 @@ use tree_model::{Command, InsertError, Reply};
 ///
 /// Returns `Err` if there is no memory for the replies; nothing changed then. A command that is refused memory gets
 /// the reply `Refused` and leaves the pairs as they were, and the run goes on. Of the writes before the first
-/// command that removes, as many as the index had spare are not refused.
+/// command that removes, as many as the index had spare are not refused. Where all commands are inserts of ascending
+/// keys into an index without a tree, and none is refused, the depth is at most 1, or there are more than `LEN^depth`
+/// of them.
 pub fn run<K: IndexKey, V: SameClone, const LEN: usize>(
     index: &mut TreeIndexOf<K, V, LEN>,
     commands: Vec<Command<K, V>>,
 ) -> Result<Vec<Reply<V>>, AllocError>
     ensures runs { IfOk result (λ replies. Runs K.cmp V.seen index.old.pairs commands.items replies.items index.new.pairs) }
     ensures spare { IfOk result (λ replies. AreServed index.old.spare commands.items replies.items) }
+    ensures depth { IfOk result (λ replies. Climbs K.cmp LEN commands.items replies.items index.old index.new) }
     ensures err { OnErr result (index.new ≡ index.old) }
 {
     let mut replies = Vec::with_capacity(*commands.allocator(), commands.len())?;
@@ -35,6 +39,7 @@ fn answer<K: IndexKey, V: SameClone, const LEN: usize>(
 ) -> Reply<V>
     ensures step { Step K.cmp V.seen index.old.pairs command result index.new.pairs }
     ensures spare { SpendsBy command index.old.spare index.new.spare result }
+    ensures packed { PacksBy K.cmp LEN command index.old index.new result }
 {
     match command {
         Command::Insert(key, value) => match index.insert_sync(key, value) {

@@ -1,10 +1,10 @@
 //! The index.
-ghost use Rattle.std.specs.Prelude.{◌≡◌, ◌⊎◌, ◌↔◌, IsTrue, ◌+◌, ◌*◌, ◌^◌, ◌-◌, ◌≤◌, Bool, false, true, min, [], length, Some, MatchOption};
+ghost use Rattle.std.specs.Prelude.{◌≡◌, ◌⊎◌, ◌↔◌, IsTrue, ◌+◌, ◌*◌, ◌^◌, ◌-◌, ◌≤◌, Bool, false, true, min, [], length, IfOk, Some, MatchOption};
 ghost use Rattle.std.specs.Fn.{FnOnceReturnsAt, FnOnceTakesAt};
 ghost use Rattle.std.specs.Option.{ForSome, option_copied, option_map};
 ghost use Rattle.std.specs.Range.Bound.{bound_map};
 ghost use Rattle.tree_array.specs.Length.{IsLen, searched};
-ghost use Rattle.tree_index.specs.Index.{IsTreeOf, KeepsSpare, SpendsInsert, SpendsUpsert, StoresPair};
+ghost use Rattle.tree_index.specs.Index.{IsShallow, IsTreeOf, KeepsPacked, KeepsSpare, SpendsInsert, SpendsUpsert, StoresPair};
 ghost use Rattle.tree_model.specs.Pairs.{IsAbsent, IsAscending, IsPresent, cut, pair_at, without};
 ghost use Rattle.tree_model.specs.Edits.{Inserts, RemovesIf, Upserts};
 
@@ -28,7 +28,8 @@ pub type TreeIndex<K, V> = TreeIndexOf<K, V, 15>;
 /// a node. `LEN` is 7 or 15.
 ///
 /// Contracts see the list of its pairs, strictly ascending by key; its depth, which is the number of levels of nodes;
-/// and its spare, which is how many writes are sure not to allocate.
+/// its spare, which is how many writes are sure not to allocate; and whether it is packed, which is as full as can be
+/// along the right edge of its tree. Pairs that arrive in ascending order leave it so.
 ///
 /// Costs are in terms of the depth. An array is searched with at most 4 comparisons among 15 slots, and 3 among 7.
 #[derive(Drop)]
@@ -45,7 +46,7 @@ impl<K: IndexKey, V: Drop, const LEN: usize> Model for TreeIndexOf<K, V, LEN> {
 
     ghost Value = { Index K V };
 
-    ghost view = { λ a. index_of a.tree };
+    ghost view = { λ a. index_of K.cmp a.tree };
 
     ghost invariant = { λ a. IsLen LEN × IsWhole K.cmp a.tree × (a.len ≡ length (pairs_of a.tree)) };
 }
@@ -57,6 +58,7 @@ impl<K: IndexKey, V: Drop, const LEN: usize> TreeIndexOf<K, V, LEN> {
         ensures pairs { result.pairs ≡ [] }
         ensures depth { result.depth ≡ 0 }
         ensures spare { result.spare ≡ 0 }
+        ensures packed { result.packed ≡ true }
     {
         TreeIndexOf {
             tree: Tree::new(alloc),
@@ -76,6 +78,7 @@ impl<K: IndexKey, V: Drop, const LEN: usize> TreeIndexOf<K, V, LEN> {
     pub fn insert_sync(&mut self, key: K, value: V) -> Result<(), InsertError<K, V>>
         ensures pairs { Inserts K.cmp self.old.pairs key value result self.new.pairs }
         ensures spare { SpendsInsert LEN self.old self.new result }
+        ensures packed { IfOk result (λ _. KeepsPacked K.cmp self.old self.new key) }
     {
         match self.store::<false>(key, value) {
             Ok(_) => Ok(()),
@@ -91,6 +94,7 @@ impl<K: IndexKey, V: Drop, const LEN: usize> TreeIndexOf<K, V, LEN> {
     pub fn upsert_sync(&mut self, key: K, value: V) -> Result<(), (K, V)>
         ensures pairs { Upserts K.cmp self.old.pairs key value result self.new.pairs }
         ensures spare { SpendsUpsert LEN self.old self.new result }
+        ensures packed { IfOk result (λ _. KeepsPacked K.cmp self.old self.new key) }
     {
         match self.store::<true>(key, value) {
             Ok(_) => Ok(()),
@@ -149,6 +153,7 @@ impl<K: IndexKey, V: Drop, const LEN: usize> TreeIndexOf<K, V, LEN> {
         ensures pairs { self.new.pairs ≡ [] }
         ensures depth { self.new.depth ≡ 0 }
         ensures spare { self.new.spare ≡ 0 }
+        ensures packed { self.new.packed ≡ true }
     {
         self.tree.clear();
         self.len = 0;
@@ -177,11 +182,12 @@ impl<K: IndexKey, V: Drop, const LEN: usize> TreeIndexOf<K, V, LEN> {
         pair_of(self, key)
     }
 
-    /// Returns the pair with the judge's key, as it is stored. Asks the judge at most `4 * (depth + 1)` times with 15
-    /// pairs a leaf, and `3 * (depth + 1)` times with 7.
+    /// Returns the pair with the judge's key, as it is stored. The judge keeps its key, and is asked at most
+    /// `4 * (depth + 1)` times with 15 pairs a leaf, and `3 * (depth + 1)` times with 7.
     pub fn peek_entry_by<J: Judge<K>>(&self, judge: &mut J) -> Option<(&K, &V)>
         ensures found { MatchOption result (IsAbsent K.cmp self.now.pairs (J.key judge.old))
             (λ pair. pair_at K.cmp self.now.pairs (J.key judge.old) ≡ Some (pair.0.now, pair.1.now)) }
+        ensures same_key { J.key judge.new ≡ J.key judge.old }
         ensures counted { J.count judge.new ≤ J.count judge.old + LEN * (self.now.depth + 1) }
         ensures halved { J.count judge.new ≤ J.count judge.old + searched LEN * (self.now.depth + 1) }
         ensures ascending { IsAscending K.cmp self.now.pairs }
@@ -211,11 +217,13 @@ impl<K: IndexKey, V: Drop, const LEN: usize> TreeIndexOf<K, V, LEN> {
     }
 
     /// Returns the number of levels of nodes: 0 without a root, and 1 if the root is a leaf node. At depth *d* there
-    /// are at most `LEN * (LEN + 1)^d` pairs, and none at depth 0. Runs in constant time.
+    /// are at most `LEN * (LEN + 1)^d` pairs, and none at depth 0. Where *d* is above 1 and the index is packed, there are
+    /// more than `LEN^d`. Runs in constant time.
     pub fn depth(&self) -> usize
         ensures depth { result ≡ self.now.depth }
         ensures none { self.now.depth ≡ 0 → self.now.pairs ≡ [] }
         ensures bound { length self.now.pairs ≤ LEN * (LEN + 1) ^ self.now.depth }
+        ensures packed { self.now.packed ≡ true → IsShallow LEN (length self.now.pairs) self.now.depth }
     {
         match self.tree.root {
             Some((_, depth)) => depth,

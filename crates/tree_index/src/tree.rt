@@ -183,6 +183,7 @@ impl<K: IndexKey, V: Drop, const LEN: usize> Tree<K, V, LEN> {
     pub fn search<J: Judge<K>>(&self, judge: &mut J) -> Option<(&K, &V)>
         requires { IsWhole K.cmp self.now }
         ensures found { MatchOption result (IsAbsent K.cmp (pairs_of self.now) (J.key judge.old)) (λ pair. pair_at K.cmp (pairs_of self.now) (J.key judge.old) ≡ Some (pair.0.now, pair.1.now)) }
+        ensures same_key { J.key judge.new ≡ J.key judge.old }
         ensures counted { J.count judge.new ≤ J.count judge.old + LEN * (depth_of self.now.root + 1) }
         ensures halved { J.count judge.new ≤ J.count judge.old + searched LEN * (depth_of self.now.root + 1) }
     {

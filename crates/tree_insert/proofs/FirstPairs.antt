@@ -1,12 +1,20 @@
--- The first pair of an array.
-use Rattle.std.proofs.Common.{◌≡◌, ℕ, false, [], ◌∷◌, refl, ◌∙◌, inl, inr, arith}
+-- The first pair of an array, and of a tree.
+use Rattle.std.proofs.Common.{◌≡◌, ℕ, false, [], ◌∷◌, None, Some, refl, ◌∙◌, inl, inr, arith}
 use mathlib.Core.Bool.{false≢true}
 use Rattle.std.specs.declared.cmp.Ordering.{Ordering}
+use Rattle.std.specs.Cmp.{IsTotalOrder}
+use Rattle.slab.specs.Slab.{get}
 use Rattle.tree_array.specs.Arrivals.{Arrivals, in_order}
 use Rattle.tree_array.specs.Insertion.{IsInsert}
 use Rattle.tree_array.specs.Length.{IsLen}
 use Rattle.tree_array.specs.declared.answers.InsertResult.{InsertResult}
 use Rattle.tree_array.specs.declared.answers.InsertResult.TheVariants.{Success, Duplicate, Full}
+use Rattle.tree_leaf.specs.declared.leaf.LeafOf.{LeafOf}
+use Rattle.tree_node.specs.declared.node.NodeOf.{NodeOf}
+use Rattle.tree_node.specs.Arenas.{TreeArenas}
+use Rattle.tree_node.specs.Tree.{keyed, unbounded}
+use Rattle.tree_packed.specs.Packed.{IsPacked}
+use Rattle.tree_packed.proofs.Arrays.{packed_in_order}
 
 -- a new array takes a pair, and has no other
 pub first_stored : {K V : Type 0} (cmp : K → K → Ordering) (len : ℕ) (key : K) (val : V) (result : InsertResult K V) (old new : Arrivals K V) → IsLen len → old ≡ in_order [] → IsInsert cmp len false old key val result new → new ≡ in_order ((key, val) ∷ [])
@@ -16,3 +24,17 @@ first_stored cmp len key val (Full k v) old new is_len empty h = elim (rw empty 
   | inl none ↦ elim is_len [ inl seven ↦ absurd (omega (arith, none, seven)) | inr fifteen ↦ absurd (omega (arith, none, fifteen)) ]
   | inr retired ↦ absurd cc
 ]
+
+-- a leaf node over a leaf with one pair is packed
+pub packed_first : {K V : Type 0} {LEN : ℕ} {cmp : K → K → Ordering} → IsTotalOrder cmp → (a : TreeArenas K V LEN) (id : ℕ) (node : NodeOf K LEN) (leaf : ℕ) (slot : LeafOf K V LEN) (key : K) (val : V) → get a.nodes id ≡ Some node → keyed node ≡ in_order []
+    → unbounded node ≡ Some leaf → get a.leaves leaf ≡ Some slot → slot.array ≡ in_order ((key, val) ∷ []) → IsPacked cmp None 1 a id
+packed_first o a id node leaf slot key val here none last there one = record {
+  node = node;
+  here = here;
+  packed = packed_in_order o (keyed node) [] none;
+  keys = rw none tt;
+  full = rw none tt;
+  last = leaf;
+  last_is = last;
+  edge = record { leaf = slot; here = there; packed = packed_in_order o slot.array ((key, val) ∷ []) one; ends = rw one (omega arith) };
+}

@@ -1,5 +1,5 @@
 -- An insert in a leaf, and in the child that a key belongs to.
-use Rattle.std.proofs.Common.{◌≡◌, ℕ, suc, ◌-◌, ◌<◌, ◌≤◌, min, Bool, false, List, [], ◌∷◌, ◌++◌, length, length-append, Option, Some, None, Result, Ok, Err, refl, sym, ap, ◌∙◌, arith, inl, inr}
+use Rattle.std.proofs.Common.{◌≡◌, ℕ, suc, ◌-◌, ◌≤◌, min, Bool, false, List, [], ◌∷◌, ◌++◌, length, length-append, Option, Some, None, Result, Ok, Err, refl, sym, ap, ◌∙◌, arith, inl, inr}
 use Rattle.std.specs.List.{AllByRecursion}
 use Rattle.std.specs.declared.cmp.Ordering.{Ordering}
 use Rattle.std.specs.declared.cmp.Ordering.TheVariants.{Less}
@@ -22,11 +22,14 @@ use Rattle.tree_node.specs.Parts.{IsPart, Unchanged}
 use Rattle.tree_node.specs.Shape.{spare, leaf_free, slot_free, slot_spare}
 use Rattle.tree_node.specs.Tree.{HasChildFor, Stands, walk}
 use Rattle.tree_node.proofs.Between.{found_between, put_between}
-use Rattle.tree_node.proofs.ChildChanges.{node_stands, node_replaces, old_spare, new_spare, old_walk, new_walk}
+use Rattle.tree_node.proofs.ChildChanges.{node_stands, node_replaces, old_spare, new_spare, old_walk, new_walk, same_node}
 use Rattle.tree_node.proofs.Children.{walk-leaf}
 use Rattle.tree_node.proofs.LeafSpares.{spare_written}
 use Rattle.tree_node.proofs.LeafWrites.{with_array, here_now, array_replaces, updated}
 use Rattle.tree_node.proofs.Walks.{front_walk_below, back_walk_above}
+use Rattle.tree_packed.specs.Packed.{IsPacked}
+use Rattle.tree_packed.proofs.Arrays.{packed_stored, put_beyond}
+use Rattle.tree_packed.proofs.Edges.{edge_below, packed_above}
 use Rattle.tree_split.proofs.Fulls.{none_free}
 
 module _ {K V : Type 0} {LEN : ℕ} {cmp : K → K → Ordering} (o : IsTotalOrder cmp) (upsert : Bool) (a : TreeArenas K V LEN) (id : ℕ) (leaf : LeafOf K V LEN) (array : Arrivals K V) (key : K) (val : V) (was : get a.leaves id ≡ Some leaf) where
@@ -99,10 +102,23 @@ module _ {K V : Type 0} {LEN : ℕ} {cmp : K → K → Ordering} (o : IsTotalOrd
     spent = λ so deep. absurd (let both = sym so ∙ taken in cc);
     full = λ so. absurd (let both = sym so ∙ no_split in cc);
     unchanged = λ so. absurd (let both = sym so ∙ accepted in cc);
+    packed = λ so e. (packed_put e, omega arith);
   }
     where
       entries : array.entries ≡ put cmp leaf.array.entries key val
       entries = rw ins.new_is refl
+
+      packed_put : IsPacked cmp (Some key) 0 a id → IsPacked cmp None 0 new id
+      packed_put e =
+          let both : Some e.leaf ≡ Some leaf = sym e.here ∙ was in
+          let is : e.leaf ≡ leaf = cc in
+          let smaller : AllByRecursion (λ p. cmp p.0 key ≡ Less) leaf.array.entries = rw is at e.ends in
+          record {
+            leaf = record leaf { array = array };
+            here = here_now a id leaf array was;
+            packed = rw ins.new_is (packed_stored o leaf.array key val (rw is at e.packed) smaller);
+            ends = rw (entries, put_beyond o leaf.array.entries key val smaller) (omega (arith, length-append leaf.array.entries ((key, val) ∷ [])));
+          }
 
       more : length (spend cmp leaf.array.arrivals key ++ Some (key, val) ∷ []) ≡ suc (length leaf.array.arrivals)
       more = omega (arith, length-append (spend cmp leaf.array.arrivals key) (Some (key, val) ∷ []), length-map leaf.array.arrivals (spent_at cmp key))
@@ -119,6 +135,7 @@ module _ {K V : Type 0} {LEN : ℕ} {cmp : K → K → Ordering} (o : IsTotalOrd
     spent = λ so deep. absurd (cc);
     full = λ so. absurd (cc);
     unchanged = λ so. nothing_changed ins.back.new_is;
+    packed = λ so. absurd (cc);
   }
   inserts_in_leaf (Full k v) ins = record {
     pairs = rw (walk_was, walk_is) (ins.absent, ins.back.same_key, ins.back.same_val, ap (λ (x : Arrivals K V). x.entries) ins.back.new_is);
@@ -128,6 +145,7 @@ module _ {K V : Type 0} {LEN : ℕ} {cmp : K → K → Ordering} (o : IsTotalOrd
     spent = λ so deep. absurd (omega (arith, deep refl));
     full = λ so. room_was ∙ no_room ins.full;
     unchanged = λ so. nothing_changed ins.back.new_is;
+    packed = λ so. absurd (cc);
   }
 
 module _ {K V : Type 0} {cmp : K → K → Ordering} (o : IsTotalOrder cmp) (upsert : Bool) (key : K) (val : V) (front old new back : List (K × V))
@@ -162,4 +180,8 @@ module _ {K V : Type 0} {LEN : ℕ} {cmp : K → K → Ordering} (o : IsTotalOrd
         spent = λ so deep. omega (arith, whole, ins.spent so (λ asks. absurd (let both = sym asks ∙ no_split in cc)));
         full = λ so. absurd (let both = sym so ∙ no_split in cc);
         unchanged = λ so. ins.unchanged so;
+        packed = λ so e. (
+          packed_above o level old id child key part which e new ins.replaces None (λ s less. tt) (ins.packed so (edge_below o level old id child key part which e)).0,
+          rw (same_node o level old id child key part which None None s new ins.replaces) (omega arith),
+        );
       }

@@ -18,7 +18,9 @@ use Rattle.tree_node.specs.Shape.{room}
 use Rattle.tree_insert.specs.Roots.{RaisesRoot}
 use Rattle.tree_split.specs.Splits.{SplitsChild}
 use Rattle.tree_node.specs.Tree.{Stands, walk, leaves_at, nodes_at, children_of}
-use Rattle.tree_node.proofs.Frames.{Agrees, head_here, same_leaves, same_nodes, same_walk, same_stands}
+use Rattle.tree_packed.specs.Packed.{IsPacked}
+use Rattle.tree_packed.proofs.Edges.{same_packed}
+use Rattle.tree_node.proofs.Frames.{Agrees, agrees_here, head_here, same_leaves, same_nodes, same_walk, same_stands}
 use Rattle.tree_node.proofs.Lifts.{single_leaves, single_nodes}
 use Rattle.tree_node.proofs.Unchanged.{chain_same, unchanged_by_keeping}
 use Rattle.tree_node.proofs.Walks.{walk-children}
@@ -97,6 +99,22 @@ module _ {K V : Type 0} {LEN : ℕ} {cmp : K → K → Ordering} (level : ℕ) (
       by_len (inl seven) = omega (arith, seven)
       by_len (inr fifteen) = omega (arith, fifteen)
 
+  room_stays : room (suc level) old root ≡ 0 → room (suc level) mid root ≡ 0
+  room_stays none = rw (agrees_here level old mid root agrees) none
+
+  -- with the packed part as its only child, the new root is packed too
+  top_packed : (key : K) → IsPacked cmp (Some key) (suc level) old root → IsPacked cmp (Some key) (suc (suc level)) mid id
+  top_packed key e = record {
+    node = Internal top;
+    here = gains.updates.changed;
+    packed = rw keyed_none refl;
+    keys = rw keyed_none tt;
+    full = rw keyed_none tt;
+    last = root;
+    last_is = last;
+    edge = same_packed cmp (Some key) (suc level) old mid root agrees e;
+  }
+
   raises : IsLen LEN → (new : TreeArenas K V LEN) → SplitsChild cmp (suc (suc level)) mid new id root → RaisesRoot cmp (suc level) old new root id
   raises is_len new split = record {
     pairs = split.pairs ∙ top_walk;
@@ -130,6 +148,9 @@ module _ {K V : Type 0} {LEN : ℕ} {cmp : K → K → Ordering} (level : ℕ) (
     chained = λ front back chain.
         rw (single_leaves (suc (suc level)) new.nodes id) at (split.replaces.chained front back (rw (single_leaves (suc (suc level)) mid.nodes id, top_leaves) (chain_same old.leaves mid.leaves leaves_stay _ chain)));
     roomy = omega (arith, split.spends, top_room is_len);
+    packed = λ key none e.
+        let more = split.packed key (rw (gains.updates.changed, last, keyed_none) refl) (rw sub-one (room_stays none)) (top_packed key e) in
+        (more.0, omega (arith, more.1));
     routed = λ key child which. rw sub-one at (split.routed key (rw (gains.updates.changed, last, keyed_none) refl) child which);
   }
 

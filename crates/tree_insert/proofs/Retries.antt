@@ -1,5 +1,5 @@
 -- An insert that met a full child: what it answers where no room is made, and where it is tried again.
-use Rattle.std.proofs.Common.{◌≡◌, ℕ, zero, suc, ◌+◌, ◌-◌, ◌<◌, ◌≤◌, Bool, false, List, [], ◌∷◌, None, Result, Ok, Err, refl, sym, ◌∙◌, arith, sub-one}
+use Rattle.std.proofs.Common.{◌≡◌, ℕ, zero, suc, ◌+◌, ◌-◌, ◌<◌, ◌≤◌, Bool, false, List, [], ◌∷◌, None, Some, Result, Ok, Err, refl, sym, ap, ◌∙◌, arith, sub-one}
 use Rattle.std.specs.declared.cmp.Ordering.{Ordering}
 use Rattle.std.specs.Cmp.{IsTotalOrder}
 use Rattle.std.proofs.lemmas.Bool.{false_from_ne_true}
@@ -13,6 +13,8 @@ use Rattle.tree_node.specs.Parts.{IsPart, Unchanged}
 use Rattle.tree_node.specs.Shape.{IsCrowded, held, room, slot_keyed, spare}
 use Rattle.tree_split.specs.Splits.{HasMadeRoom, LacksRoom, SplitsChild}
 use Rattle.tree_node.specs.Tree.{HasChildFor, Stands, walk}
+use Rattle.tree_packed.proofs.Edges.{same_packed}
+use Rattle.tree_split.proofs.Results.{only_child}
 use Rattle.tree_node.proofs.ChildChanges.{child_part, new_walk, old_spare, old_walk}
 use Rattle.tree_node.proofs.Frames.{same_stands, same_walk}
 use Rattle.tree_insert.proofs.Crowded.{crowded_above, crowded_room}
@@ -69,6 +71,7 @@ module _ {K V : Type 0} {LEN : ℕ} {cmp : K → K → Ordering} (upsert : Bool)
       spent = λ so deep. none_spare many;
       full = λ so. absurd (cc);
       unchanged = λ so. absurd (cc);
+      packed = λ so. absurd (cc);
     }
 
     still_full : IsCrowded cmp level old id key → limit LEN < held (level - 1) mid child → InsertsUnder cmp upsert level old new id (Ok (Full k v)) key val
@@ -80,6 +83,7 @@ module _ {K V : Type 0} {LEN : ℕ} {cmp : K → K → Ordering} (upsert : Bool)
       spent = λ so deep. none_spare many;
       full = λ so. crowded;
       unchanged = λ so. whole;
+      packed = λ so. absurd (cc);
     }
 
   -- the child is there still, for the key that came back
@@ -97,22 +101,32 @@ module _ {K V : Type 0} {LEN : ℕ} {cmp : K → K → Ordering} (upsert : Bool)
   -- room was made, and the pair inserted
   inserted_again : (made new : TreeArenas K V LEN) (result : Result (StoreResult K V) (K × V)) → HasMadeRoom cmp level mid made id key → InsertsUnder cmp upsert level made new id result key val → asks_split result ≡ false
       → InsertsUnder cmp upsert level old new id result key val
-  inserted_again made new result room ins no_split =
-      let walked : walk level made id ≡ walk level old id = room.pairs ∙ same_walk level old mid id (unchanged_agrees level old mid below.same id) in
+  inserted_again made new result roomy ins no_split =
+      let walked : walk level made id ≡ walk level old id = roomy.pairs ∙ same_walk level old mid id (unchanged_agrees level old mid below.same id) in
       let pairs : Inserts cmp upsert result (walk level old id) key val (walk level new id) = rw (← walked) ins.pairs in
-      let spares : spare level old id ≤ spare level made id = omega (arith, room.spares, same_spare level old mid id (unchanged_agrees level old mid below.same id)) in
+      let spares : spare level old id ≤ spare level made id = omega (arith, roomy.spares, same_spare level old mid id (unchanged_agrees level old mid below.same id)) in
       let taken = accepted cmp upsert (walk level old id) (walk level new id) key val below.absent result pairs no_split in
       record {
         pairs = pairs;
         stands = λ low high above up_to s.
-            ins.stands low high above up_to (room.stands low high above up_to (same_stands cmp level old mid id (unchanged_agrees level old mid below.same id) low high s));
+            ins.stands low high above up_to (roomy.stands low high above up_to (same_stands cmp level old mid id (unchanged_agrees level old mid below.same id) low high s));
         replaces = replaces_trans level old made new (id ∷ []) (id ∷ []) (id ∷ [])
-            (replaces_trans level old mid made (id ∷ []) (id ∷ []) (id ∷ []) (unchanged_replaces level old mid below.same (id ∷ [])) room.replaces) ins.replaces;
+            (replaces_trans level old mid made (id ∷ []) (id ∷ []) (id ∷ []) (unchanged_replaces level old mid below.same (id ∷ [])) roomy.replaces) ins.replaces;
         lowers = omega (arith, spares, ins.lowers);
         spent = λ so deep. omega (arith, spares, ins.spent so deep);
         full = λ so. absurd (let both = sym so ∙ no_split in cc);
         unchanged = λ so. absurd (let both = sym so ∙ taken in cc);
+        packed = λ so e.
+            let more = roomy.packed child below_which child_full (same_packed cmp (Some key) level old mid id (unchanged_agrees level old mid below.same id) e) in
+            let done = ins.packed so more.0 in
+            (done.0, omega (arith, more.1, done.1, ap slot_keyed (below.same.nodes id)));
       }
+    where
+      below_which : HasChildFor cmp key (get mid.nodes id) child
+      below_which = rw (below.same.nodes id) below.which
+
+      child_full : room (level - 1) mid child ≡ 0
+      child_full = unchanged_room (level - 1) old mid below.same child ∙ crowded_room cmp (level - 1) old child key below.crowded
 
   module _ (deep : 0 < level) (made : TreeArenas K V LEN) (made_room : HasMadeRoom cmp level mid made id k) where
     room_made : HasMadeRoom cmp level mid made id key
@@ -144,13 +158,16 @@ held_above a id (suc (suc level)) deep = rw sub-one refl
 
 -- a split of the key's child makes room for the key
 pub room_by_split : {K V : Type 0} {LEN : ℕ} {cmp : K → K → Ordering} {level : ℕ} {old new : TreeArenas K V LEN} {id child : ℕ} (key : K) → SplitsChild cmp level old new id child → HasChildFor cmp key (get old.nodes id) child → HasMadeRoom cmp level old new id key
-room_by_split key split which = record {
+room_by_split {cmp = cmp} {level = level} {old = old} {id = id} {child = child} key split which = record {
   pairs = split.pairs;
   stands = λ low high above up_to s. split.keeps low high s;
   replaces = split.replaces;
   spares = split.spares;
   spends = split.spends;
   child = split.routed key which;
+  packed = λ other which' none e.
+      let same : other ≡ child = only_child cmp key (get old.nodes id) other child which' which in
+      split.packed key which (rw same at none) e;
 }
 
 module _ {K V : Type 0} {LEN : ℕ} {cmp : K → K → Ordering} (o : IsTotalOrder cmp) (upsert : Bool) (level : ℕ) (old new : TreeArenas K V LEN) (id child : ℕ) (key : K) (val : V) where

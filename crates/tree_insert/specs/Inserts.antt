@@ -1,6 +1,7 @@
 -- What an insert under a number answers and leaves.
-use Rattle.std.specs.Prelude.{◌≡◌, ℕ, suc, ◌<◌, ◌≤◌, Bool, true, false, List, [], ◌∷◌, Option, Result, Ok, Err}
+use Rattle.std.specs.Prelude.{◌≡◌, ℕ, suc, ◌<◌, ◌≤◌, Bool, true, false, List, [], ◌∷◌, Option, None, Some, Result, Ok, Err}
 use Rattle.std.specs.declared.cmp.Ordering.{Ordering}
+use Rattle.slab.specs.Slab.{get}
 use Rattle.tree_array.specs.Insertion.{as_insert}
 use Rattle.tree_array.specs.declared.answers.InsertResult.{InsertResult}
 use Rattle.tree_array.specs.declared.answers.StoreResult.{StoreResult}
@@ -9,7 +10,8 @@ use Rattle.tree_model.specs.Pairs.{IsAbsent, IsPresent, put}
 use Rattle.tree_node.specs.Arenas.{TreeArenas}
 use Rattle.tree_node.specs.Tree.{IsAbove, IsUpTo, Stands, walk}
 use Rattle.tree_node.specs.Parts.{Replaces, Unchanged}
-use Rattle.tree_node.specs.Shape.{IsCrowded, spare}
+use Rattle.tree_node.specs.Shape.{IsCrowded, slot_keyed, spare}
+use Rattle.tree_packed.specs.Packed.{IsPacked}
 
 module _ {K V : Type 0} where
   -- there was no room, in the arrays or in memory
@@ -19,6 +21,14 @@ module _ {K V : Type 0} where
   refused (Ok (Duplicate k v)) = false
   refused (Ok (Full k v)) = true
   refused (Err pair) = true
+
+  -- the pair was stored
+  abbrev pub stores : Result (StoreResult K V) (K × V) → Bool
+  stores (Ok New) = true
+  stores (Ok Replaced) = true
+  stores (Ok (Duplicate k v)) = false
+  stores (Ok (Full k v)) = false
+  stores (Err pair) = false
 
   -- a split is asked for
   abbrev pub asks_split : Result (StoreResult K V) (K × V) → Bool
@@ -66,6 +76,8 @@ module _ {K V : Type 0} (cmp : K → K → Ordering) (upsert : Bool) where
     pub full : asks_split result ≡ true → IsCrowded cmp level old id key
     -- where that is so, or the key is there, nothing has changed
     pub unchanged : declined result ≡ true → Unchanged old new
+    -- a key larger than all keeps the part packed, and the keyed children that it had
+    pub packed : stores result ≡ true → IsPacked cmp (Some key) level old id → IsPacked cmp None level new id × (slot_keyed (get old.nodes id) ≤ slot_keyed (get new.nodes id))
 
   -- The same with the plain answer, which doesn't tell a new key from a replaced one.
   pub record InsertsPlainly {LEN : ℕ} (level : ℕ) (old new : TreeArenas K V LEN) (id : ℕ) (result : Result (InsertResult K V) (K × V)) (key : K) (val : V) : Type 0 where

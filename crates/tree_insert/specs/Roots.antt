@@ -1,12 +1,13 @@
 -- How a tree grows at its root: a full root comes under a new one, and a retired one gets a leaf again.
-use Rattle.std.specs.Prelude.{◌≡◌, ◌≢◌, ℕ, suc, ◌+◌, ◌<◌, List, [], ◌∷◌, ◌++◌, None, IsSome}
+use Rattle.std.specs.Prelude.{◌≡◌, ◌≢◌, ℕ, suc, ◌+◌, ◌<◌, List, [], ◌∷◌, ◌++◌, None, Some, IsSome}
 use Rattle.std.specs.declared.cmp.Ordering.{Ordering}
 use Rattle.slab.specs.Slab.{get}
 use Rattle.tree_leaf.specs.Chain.{IsChain, SameArray}
 use Rattle.tree_leaf.specs.Counting.{times, uses}
 use Rattle.tree_node.specs.Arenas.{TreeArenas}
-use Rattle.tree_node.specs.Shape.{room, spare}
+use Rattle.tree_node.specs.Shape.{room, slot_keyed, spare}
 use Rattle.tree_node.specs.Tree.{HasChildFor, Stands, leaves_at, nodes_at, walk}
+use Rattle.tree_packed.specs.Packed.{IsPacked}
 
 -- The part under the root stands under a new root, one level higher. The new root and each key's child have room, so that the next insert asks for no split.
 pub record RaisesRoot {K V : Type 0} {LEN : ℕ} (cmp : K → K → Ordering) (depth : ℕ) (old new : TreeArenas K V LEN) (root id : ℕ) : Type 0 where
@@ -21,6 +22,8 @@ pub record RaisesRoot {K V : Type 0} {LEN : ℕ} (cmp : K → K → Ordering) (d
   pub chained : (front back : List ℕ) → IsChain old.leaves (front ++ (leaves_at depth old.nodes root ++ back)) → IsChain new.leaves (front ++ (leaves_at (suc depth) new.nodes id ++ back))
   pub roomy : 0 < room (suc depth) new id
   pub routed : (key : K) (child : ℕ) → HasChildFor cmp key (get new.nodes id) child → 0 < room depth new child
+  -- a packed part that was full, with the key beyond its edge, is so under the new root, as the first of its keyed children
+  pub packed : (key : K) → room depth old root ≡ 0 → IsPacked cmp (Some key) depth old root → IsPacked cmp (Some key) (suc depth) new id × (0 < slot_keyed (get new.nodes id))
 
 -- A leaf node stands under the number, over an empty leaf that nothing else is linked to.
 pub record Replants {K V : Type 0} {LEN : ℕ} (cmp : K → K → Ordering) (old new : TreeArenas K V LEN) (root : ℕ) : Type 0 where

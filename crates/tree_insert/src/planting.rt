@@ -1,8 +1,9 @@
 //! The first pair of a tree.
-ghost use Rattle.std.specs.Prelude.{◌≡◌, [], ◌∷◌, None};
+ghost use Rattle.std.specs.Prelude.{◌≡◌, [], ◌∷◌, None, IfOk};
 ghost use Rattle.tree_array.specs.Arrivals.{in_order};
 ghost use Rattle.tree_array.specs.Length.{IsLen};
 ghost use Rattle.tree_node.specs.Whole.{HasNoOther, IsTree, Plants, leaves_under};
+ghost use Rattle.tree_packed.specs.Packed.{IsPacked};
 
 use tree_leaf::arena::NodeId;
 use tree_leaf::leaf::LeafOf;
@@ -25,7 +26,8 @@ pub fn plant<K: Ord + Drop, V: Drop, const LEN: usize>(
     requires len { IsLen LEN }
     requires tree { IsTree K.cmp arenas.old root }
     requires bare { leaves_under arenas.old.nodes root ≡ [] }
-    ensures { Plants K.cmp arenas.old arenas.new key val result }
+    ensures plants { Plants K.cmp arenas.old arenas.new key val result }
+    ensures packed { IfOk result (λ id. IsPacked K.cmp None 1 arenas.new id) }
 {
     match root {
         None => plant_root(arenas, key, val),
@@ -41,7 +43,8 @@ fn plant_root<K: Ord + Drop, V: Drop, const LEN: usize>(
 ) -> Result<NodeId, (K, V)>
     requires len { IsLen LEN }
     requires tree { IsTree K.cmp arenas.old None }
-    ensures { Plants K.cmp arenas.old arenas.new key val result }
+    ensures plants { Plants K.cmp arenas.old arenas.new key val result }
+    ensures packed { IfOk result (λ id. IsPacked K.cmp None 1 arenas.new id) }
 {
     let Ok(()) = arenas.reserve(1, 1) else {
         return Err((key, val));
@@ -64,7 +67,8 @@ fn plant_again<K: Ord + Drop, V: Drop, const LEN: usize>(
 ) -> Result<NodeId, (K, V)>
     requires len { IsLen LEN }
     requires retired { HasNoOther arenas.old root }
-    ensures { Plants K.cmp arenas.old arenas.new key val result }
+    ensures plants { Plants K.cmp arenas.old arenas.new key val result }
+    ensures packed { IfOk result (λ id. IsPacked K.cmp None 1 arenas.new id) }
 {
     let Ok(()) = arenas.reserve(1, 0) else {
         return Err((key, val));

@@ -2,7 +2,6 @@ pub mod Ascents
 pub mod Bare
 pub mod Between
 pub mod Beyond
-pub mod Boundaries
 pub mod Bounds
 pub mod ChildChanges
 pub mod Children
@@ -15,7 +14,6 @@ pub mod LeafWrites
 pub mod Levels
 pub mod Lifts
 pub mod Lists
-pub mod LowSplits
 pub mod NodeKinds
 pub mod Order
 pub mod Places

@@ -1,5 +1,5 @@
 -- A leaf node that makes room for a key: its leaf is split or built anew.
-use Rattle.std.proofs.Common.{◌≡◌, ◌⊎◌, ℕ, suc, ◌-◌, ◌<◌, ◌≤◌, true, List, ◌∷◌, ◌++◌, length, drop, take, slice_get, Option, Some, None, IsSome, refl, sym, ap, ◌∙◌, arith, sub-one, inl, inr}
+use Rattle.std.proofs.Common.{◌≡◌, ◌⊎◌, ℕ, suc, ◌-◌, ◌<◌, ◌≤◌, Bool, true, List, ◌∷◌, ◌++◌, length, drop, take, slice_get, Option, Some, None, IsSome, refl, sym, ap, ◌∙◌, arith, sub-one, inl, inr}
 use Rattle.std.specs.declared.cmp.Ordering.{Ordering}
 use Rattle.std.specs.declared.cmp.Ordering.TheVariants.{Equal}
 use Rattle.std.specs.Cmp.{IsTotalOrder}
@@ -17,24 +17,29 @@ use Rattle.tree_model.specs.Pairs.{IsAbsent}
 use Rattle.tree_node.specs.declared.node.NodeOf.{NodeOf}
 use Rattle.tree_node.specs.Arenas.{TreeArenas}
 use Rattle.tree_node.specs.Parts.{IsPart, PutsChild, Unchanged}
-use Rattle.tree_split.specs.Splits.{HasMadeRoom, IsCut}
+use Rattle.tree_packed.specs.Packed.{IsPacked}
+use Rattle.tree_packed.proofs.Edges.{edge_below, last_child}
+use Rattle.tree_split.specs.Splits.{GivesAll, HasMadeRoom, IsCut, KeepsPacked, low_part}
 use Rattle.tree_node.specs.Shape.{room}
 use Rattle.tree_node.specs.Tree.{IsAbove, IsUpTo, HasChildFor, HasKind, LeafStands, Stands, keyed, unbounded, child_at, is_from, leaf_entries}
 use Rattle.tree_node.proofs.ChildChanges.{child_part}
 use Rattle.tree_node.proofs.Children.{child_stands}
-use Rattle.tree_split.proofs.LeafSplits.{IsBetween, high_room, leaf_splits_low, low_room}
+use Rattle.tree_split.proofs.LeafSplits.{IsBetween, edge_left, high_room, leaf_splits_low, low_full, low_room, separator_smaller}
 use Rattle.tree_node.proofs.LeafWrites.{with_array, array_replaces}
-use Rattle.tree_node.proofs.LowSplits.{GainsLow, absent_here, gains_low}
+use Rattle.tree_split.proofs.LowSplits.{GainsLow, SplitsLow, absent_here, gains_low}
+use Rattle.tree_split.proofs.PackedSplits.{all_given, packed_split}
 use Rattle.tree_node.proofs.Standing.{node_is}
 use Rattle.tree_node.proofs.Places.{IsForKey, high_for, low_for, place_for}
+use Rattle.tree_split.proofs.Results.{only_child}
 use Rattle.tree_split.proofs.Rebuilds.{among, leaf_rebuilt, room_made_by_rebuild}
 use Rattle.tree_node.proofs.Unchanged.{chain_same, unchanged_by_keeping}
 
 -- room was made for a key by a new child before the old one
 room_made_for : {K V : Type 0} {LEN : ℕ} {cmp : K → K → Ordering} {Within : Option K → Option K → Type 0} (level : ℕ) (old mid new : TreeArenas K V LEN) (id x y : ℕ) (separator key : K) → GainsLow cmp Within level old mid new id x y separator
     → HasChildFor cmp key (get old.nodes id) x → ((low high : Option K) → IsAbove cmp low key → IsUpTo cmp key high → Within low high)
-    → (is_from cmp key separator ≡ true → 0 < room level mid y) → 0 < room level mid x → HasMadeRoom cmp (suc level) old new id key
-room_made_for {cmp = cmp} level old mid new id x y separator key gains which fits low_room high_room = record {
+    → (is_from cmp key separator ≡ true → 0 < room level mid y) → 0 < room level mid x → ((child : ℕ) → KeepsPacked cmp (suc level) old new id child key) → HasMadeRoom cmp (suc level) old new id key
+room_made_for {cmp = cmp} level old mid new id x y separator key gains which fits low_room high_room packed = record {
+  packed = packed;
   pairs = gains.pairs;
   stands = λ low high above up_to s. gains.stands low high (fits low high above up_to) s;
   replaces = gains.replaces;
@@ -86,8 +91,18 @@ module _ {K V : Type 0} {LEN : ℕ} {cmp : K → K → Ordering} (o : IsTotalOrd
     pub leaf_room_by_rebuild : (leaf : LeafOf K V LEN) → get old.leaves x ≡ Some leaf → IsSound cmp LEN leaf.array → length leaf.array.entries ≤ limit LEN
         → HasMadeRoom cmp 1 old (with_array old x leaf (in_order leaf.array.entries)) id key
     leaf_room_by_rebuild leaf was sound few =
-        room_made_by_rebuild 0 old (with_array old x leaf (in_order leaf.array.entries)) id x part (leaf_rebuilt old x leaf was sound few) _ _
+        room_made_by_rebuild o 0 old (with_array old x leaf (in_order leaf.array.entries)) id x part (leaf_rebuilt old x leaf was sound few) _ _
         (among (get old.nodes id) node stood.last x was_node last_is (record { before = place.before; onward = place.onward; split = place.split; child = place.child ∙ goes })) key which
+
+  -- the last leaf of a packed part, which is full, gives all
+  pub gives_all : (leaf : LeafOf K V LEN) → get old.leaves x ≡ Some leaf → IsSound cmp LEN leaf.array → (node : NodeOf K LEN) → get old.nodes id ≡ Some node → (last : Bool) → (unbounded node ≡ Some x → last ≡ true)
+      → (count : ℕ) → count ≡ low_part cmp LEN last leaf.array key → GivesAll cmp old id x count key
+  gives_all leaf was sound node was_node last is_last count rule which' none e =
+      let edge : IsPacked cmp (Some key) 0 old x = edge_below o 0 old id x key part which e in
+      let same_leaf : edge.leaf ≡ leaf = let both : Some edge.leaf ≡ Some leaf = sym edge.here ∙ was in cc in
+      let same_node : e.node ≡ node = let both : Some e.node ≡ Some node = sym e.here ∙ was_node in cc in
+      let yes : last ≡ true = is_last (rw same_node at (e.last_is ∙ ap Some (sym (last_child o 0 old id x key part which e)))) in
+      rule ∙ rw yes (all_given o LEN leaf.array key sound (rw same_leaf at edge.packed) (rw was at none) (rw same_leaf at edge.ends))
 
   -- the leaf gave its first entries to a new one
   module _ (reserved mid : TreeArenas K V LEN) (y count : ℕ) (leaf : LeafOf K V LEN) (high : Arrivals K V) (low : LeafOf K V LEN) (pair : K × V) (separator : K)
@@ -118,25 +133,41 @@ module _ {K V : Type 0} {LEN : ℕ} {cmp : K → K → Ordering} (o : IsTotalOrd
     pub parent_kind : HasKind 0 node
     parent_kind = rw (stood_node node parent_was) at stood.kind
 
+    splits_low : SplitsLow cmp (IsBetween cmp key) 0 old mid x y separator
+    splits_low = leaf_splits_low o old reserved mid x y count leaf high low pair separator key same there high_is low_is gains last_low cloned cut_here (sound leaf was)
+
     pub separator_is_new : IsAbsent cmp (keyed node).entries separator
     separator_is_new =
-        absent_here o (IsBetween cmp key) 0 old mid id x y separator part
-        (leaf_splits_low o old reserved mid x y count leaf high low pair separator key same there high_is low_is gains last_low cloned cut_here (sound leaf was))
+        absent_here o (IsBetween cmp key) 0 old mid id x y separator part splits_low
         node parent_was at.before at.onward stood.last (last_is node parent_was) at.split (at.child ∙ goes node parent_was)
         (λ low_key high_key inside. (low_for cmp key low_key at.before at.smaller inside.0, high_for cmp key at.onward high_key at.up_to inside.1)) (tt, tt)
 
-    pub leaf_room_by_split : (node' : NodeOf K LEN) → PutsChild cmp node node' separator y → HasMadeRoom cmp 1 old (record mid { nodes = with_value mid.nodes id node' }) id key
-    leaf_room_by_split node' puts =
+    packed_still : GivesAll cmp old id x count key → (node' : NodeOf K LEN) → PutsChild cmp node node' separator y → (child : ℕ) → KeepsPacked cmp 1 old (record mid { nodes = with_value mid.nodes id node' }) id child key
+    packed_still gives node' puts child which' none e =
+        let update = Updates-with_value mid.nodes id node' (rw is_node refl) in
+        let at_child : child ≡ x = only_child cmp key (get old.nodes id) child x which' which in
+        let is : e.node ≡ node = let both : Some e.node ≡ Some node = sym e.here ∙ parent_was in cc in
+        let edge : IsPacked cmp (Some key) 0 old x = edge_below o 0 old id x key part which e in
+        let all : count ≡ LEN = gives which (rw at_child at none) e in
+        packed_split o (IsBetween cmp key) 0 old mid id x y separator key part splits_low which e
+        (λ low_key high_key inside. (low_for cmp key low_key (keyed e.node).entries e.keys inside.0, inside.1)) (tt, tt)
+        (record mid { nodes = with_value mid.nodes id node' }) node' update.changed (rw is puts) (λ n differs. update.others n differs) refl
+        (low_full o old reserved mid x y count leaf high low pair separator key same there high_is low_is gains last_low cloned cut_here edge few all)
+        (edge_left o old reserved mid x y count leaf high low pair separator key same there high_is low_is gains last_low cloned cut_here edge few all)
+        (separator_smaller o old reserved mid x y count leaf high low pair separator key same there high_is low_is gains last_low cloned cut_here edge few all)
+
+    pub leaf_room_by_split : GivesAll cmp old id x count key → (node' : NodeOf K LEN) → PutsChild cmp node node' separator y → HasMadeRoom cmp 1 old (record mid { nodes = with_value mid.nodes id node' }) id key
+    leaf_room_by_split gives node' puts =
         let update = Updates-with_value mid.nodes id node' (rw is_node refl) in
         room_made_for 0 old mid (record mid { nodes = with_value mid.nodes id node' }) id x y separator key
-        (gains_low o (IsBetween cmp key) 0 old mid id x y separator part
-        (leaf_splits_low o old reserved mid x y count leaf high low pair separator key same there high_is low_is gains last_low cloned cut_here (sound leaf was))
+        (gains_low o (IsBetween cmp key) 0 old mid id x y separator part splits_low
         node parent_was at.before at.onward stood.last (last_is node parent_was) at.split (at.child ∙ goes node parent_was)
         (λ low_key high_key inside. (low_for cmp key low_key at.before at.smaller inside.0, high_for cmp key at.onward high_key at.up_to inside.1)) (tt, tt)
         (record mid { nodes = with_value mid.nodes id node' }) node' update.changed puts (λ n differs. update.others n differs) refl)
         which (λ low_key high_key above up_to. (above, up_to))
         (low_room o old reserved mid x y count leaf high low pair separator key same there high_is low_is gains last_low cloned cut_here few)
         (high_room o old reserved mid x y count leaf high low pair separator key same there high_is low_is gains last_low cloned cut_here few)
+        (packed_still gives node' puts)
 
 -- a write in a leaf takes none of the room that was reserved
 pub room_after_write : {K V : Type 0} {LEN : ℕ} (reserved : TreeArenas K V LEN) (x : ℕ) (leaf : LeafOf K V LEN) → get reserved.leaves x ≡ Some leaf → (value : LeafOf K V LEN) → HasPlaces reserved 1 0

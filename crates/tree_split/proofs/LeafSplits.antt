@@ -1,5 +1,5 @@
 -- A leaf that gives its first entries to a new one before it.
-use Rattle.std.proofs.Common.{◌≡◌, ℕ, ◌+◌, ◌-◌, ◌<◌, ◌≤◌, ◌==◌, min, true, cond, ◌⊎◌, List, [], ◌∷◌, ◌++◌, length, take, drop, slice_get, Option, Some, None, IsSome, refl, sym, ap, ◌∙◌, arith, append_assoc, inl, inr}
+use Rattle.std.proofs.Common.{◌≡◌, ℕ, ◌+◌, ◌-◌, ◌<◌, ◌≤◌, ◌==◌, ◌^◌, min, true, cond, ◌⊎◌, List, [], ◌∷◌, ◌++◌, length, take, drop, slice_get, Option, Some, None, IsSome, refl, sym, ap, ◌∙◌, arith, append_assoc, inl, inr}
 use Rattle.std.specs.List.{AllByRecursion}
 use Rattle.std.specs.declared.cmp.Ordering.{Ordering}
 use Rattle.std.specs.declared.cmp.Ordering.TheVariants.{Less, Equal}
@@ -20,13 +20,16 @@ use Rattle.tree_model.proofs.Order.{alike, alike_after}
 use Rattle.tree_node.specs.Arenas.{TreeArenas}
 use Rattle.tree_node.specs.Parts.{Replaces, Unchanged}
 use Rattle.tree_node.specs.Shape.{room, spare}
+use Rattle.tree_packed.specs.Packed.{IsPacked}
+use Rattle.tree_packed.proofs.Arrays.{packed_in_order}
 use Rattle.tree_split.specs.Splits.{IsCut}
-use Rattle.tree_node.specs.Tree.{IsAbove, IsBelow, IsUpTo, LeafStands, is_from}
+use Rattle.tree_node.specs.Tree.{IsAbove, IsBelow, IsUpTo, LeafStands, is_from, walk}
 use Rattle.tree_node.proofs.Children.{walk-leaf}
 use Rattle.tree_node.proofs.Cuts.{all_front, all_behind, ascending_front, ascending_behind, smaller_front, cut_whole, cut_with}
 use Rattle.tree_node.proofs.LeafSpares.{spare_anew, spare_beside}
 use Rattle.tree_node.proofs.LeafWrites.{with_array, here_now, array_replaces}
-use Rattle.tree_node.proofs.LowSplits.{SplitsLow}
+use Rattle.tree_split.proofs.LowSplits.{SplitsLow}
+use Rattle.tree_split.proofs.PackedSplits.{one_power}
 use Rattle.tree_node.proofs.Order.{less_upto, upto_from_less}
 use Rattle.tree_node.proofs.Steps.{replaces_trans}
 use Rattle.tree_node.proofs.Unchanged.{unchanged_replaces}
@@ -214,3 +217,25 @@ module _ {K V : Type 0} {LEN : ℕ} {cmp : K → K → Ordering} (o : IsTotalOrd
             let smaller = (all_behind (λ p. cmp p.0 key ≡ Less) lower (pair ∷ upper) (rw whole at beyond)).0 in
             let less = alike o separator pair.0 key Less (o.antisymm separator pair.0 ∙ rw cloned refl) smaller in
             absurd (let no = rw less at from in cc)
+
+  -- all its entries go from the last leaf of a packed part
+  module _ (e : IsPacked cmp (Some key) 0 old x) (few : length leaf.array.entries ≤ LEN) (all : count ≡ LEN) where
+    same_leaf : e.leaf ≡ leaf
+    same_leaf = let both : Some e.leaf ≡ Some leaf = sym e.here ∙ was in cc
+
+    smaller : AllByRecursion (λ p. cmp p.0 key ≡ Less) (lower ++ (pair ∷ upper))
+    smaller = rw (same_leaf, whole) at e.ends
+
+    pub edge_left : IsPacked cmp (Some key) 0 mid x
+    edge_left = record {
+      leaf = high_here.0;
+      here = high_here.1;
+      packed = rw high_here.2 (packed_in_order o high upper high_is);
+      ends = rw (high_here.2, high_entries) (all_behind _ lower (pair ∷ upper) smaller).1;
+    }
+
+    pub low_full : length (walk 0 mid y) ≡ LEN ^ 1
+    low_full = rw (walk-leaf mid y _ gains.here, low_is) (rw (one_power LEN) (omega (arith, length-take count leaf.array.entries, cut.within, few, all)))
+
+    pub separator_smaller : cmp separator key ≡ Less
+    separator_smaller = alike o separator pair.0 key Less (o.antisymm separator pair.0 ∙ rw cloned refl) (all_behind _ lower (pair ∷ upper) smaller).0

@@ -5,8 +5,10 @@ use Rattle.std.specs.declared.cmp.Ordering.{Ordering}
 use Rattle.std.specs.Cmp.{IsTotalOrder}
 use Rattle.slab.specs.Slab.{get, with_value, HasRoomFor, Updates}
 use Rattle.slab.proofs.SlabLemmas.{Updates-with_value}
+use Rattle.tree_array.specs.Arrivals.{boundary}
 use Rattle.tree_array.specs.Insertion.{HasRoom}
 use Rattle.tree_array.specs.Length.{IsLen, limit}
+use Rattle.tree_array.specs.Sound.{IsSound}
 use Rattle.tree_leaf.specs.Arena.{Gains, KeepsBoth, HasPlaces}
 use Rattle.tree_leaf.specs.Counting.{times, uses}
 use Rattle.tree_leaf.proofs.Counts.{times-cons, one_here, uses_le_one}
@@ -16,23 +18,27 @@ use Rattle.tree_node.specs.declared.node.NodeOf.{NodeOf}
 use Rattle.tree_node.specs.declared.node.NodeOf.TheVariants.{Internal, Leaf}
 use Rattle.tree_node.specs.Arenas.{TreeArenas}
 use Rattle.tree_node.specs.Parts.{IsPart, PutsChild, Unchanged}
-use Rattle.tree_split.specs.Splits.{CutsNode, RebuildsNode, SharesChildren, SplitsChild}
+use Rattle.tree_packed.specs.Packed.{IsPacked}
+use Rattle.tree_packed.proofs.Edges.{edge_below}
+use Rattle.tree_split.specs.Splits.{CutsNode, KeepsPacked, RebuildsNode, SharesChildren, SplitsChild}
 use Rattle.tree_node.specs.Shape.{room}
 use Rattle.tree_node.specs.Tree.{AreParted, HasKind, is_from, Stands, keyed, unbounded, children_of, leaves_of, nodes_of}
 use Rattle.tree_node.proofs.Children.{stands_free_low, stands_free_high}
 use Rattle.tree_node.proofs.Lifts.{grouped_as, leaves_are, node_times, single_leaves, single_nodes}
-use Rattle.tree_node.proofs.LowSplits.{GainsLow, SplitsLow, absent_here, gains_low}
+use Rattle.tree_split.proofs.LowSplits.{GainsLow, SplitsLow, absent_here, gains_low}
 use Rattle.tree_node.proofs.Standing.{node_is}
-use Rattle.tree_split.proofs.NodeSplits.{children_shared, high_node_room, low_node_room, node_splits_low}
+use Rattle.tree_split.proofs.NodeSplits.{children_shared, edge_left, high_node_room, low_full, low_node_room, node_splits_low, separator_smaller}
+use Rattle.tree_split.proofs.PackedSplits.{packed_split}
 use Rattle.tree_node.proofs.Places.{IsAt, child_between, high_at, later_children, low_at, place_of}
 use Rattle.tree_split.proofs.Rebuilds.{among, node_rebuilt, same_children, split_by_rebuild}
 use Rattle.tree_node.proofs.Unchanged.{unchanged_by_keeping}
 
 -- a child was split where the separator fits between all bounds
 child_split : {K V : Type 0} {LEN : ℕ} {cmp : K → K → Ordering} {Within : Option K → Option K → Type 0} (level : ℕ) (old mid new : TreeArenas K V LEN) (id x y : ℕ) (separator : K) → GainsLow cmp Within level old mid new id x y separator
-    → ((low high : Option K) → Within low high) → 0 < room level mid y → 0 < room level mid x → SharesChildren (suc level) old new id x → SplitsChild cmp (suc level) old new id x
-child_split {K = K} {cmp = cmp} level old mid new id x y separator gains fits low_room high_room shares = record {
+    → ((low high : Option K) → Within low high) → 0 < room level mid y → 0 < room level mid x → SharesChildren (suc level) old new id x → ((key : K) → KeepsPacked cmp (suc level) old new id x key) → SplitsChild cmp (suc level) old new id x
+child_split {K = K} {cmp = cmp} level old mid new id x y separator gains fits low_room high_room shares packed = record {
   shares = shares;
+  packed = packed;
   pairs = gains.pairs;
   keeps = λ low high s. gains.stands low high (fits low high) s;
   replaces = gains.replaces;
@@ -125,14 +131,14 @@ module _ {K V : Type 0} {LEN : ℕ} {cmp : K → K → Ordering} (o : IsTotalOrd
   pub split_anew : (node node' : NodeOf K LEN) → get old.nodes x ≡ Some node → RebuildsNode node node' → IsLen LEN → length (keyed node).entries ≤ limit LEN
       → SplitsChild cmp (suc (suc level)) old (record old { nodes = with_value old.nodes x node' }) parent x
   split_anew node node' was_child rebuilds is_len few =
-      split_by_rebuild (suc level) old (record old { nodes = with_value old.nodes x node' }) parent x part (node_rebuilt level old x child_part node node' was_child rebuilds is_len few) front back was
+      split_by_rebuild o (suc level) old (record old { nodes = with_value old.nodes x node' }) parent x part (node_rebuilt level old x child_part node node' was_child rebuilds is_len few) front back was
       (inl (rw (sub-one, was_child) few, same_children level old x child_part node node' was_child rebuilds))
 
   -- it gave its lower children to a new one
   module _ (reserved mid : TreeArenas K V LEN) (y place : ℕ) (node high low : NodeOf K LEN) (separator : K)
       (keeps : KeepsBoth old reserved) (there : get reserved.nodes x ≡ Some node) (cuts : CutsNode node place high low separator)
       (gains : Gains (with_value reserved.nodes x high) mid.nodes y low) (leaves : mid.leaves ≡ reserved.leaves)
-      (within : place < length (keyed node).entries) where
+      (within : place < length (keyed node).entries) (sound : IsSound cmp LEN (keyed node)) (rule : place ≡ (boundary cmp LEN (keyed node)).0) where
     same : Unchanged old reserved
     same = unchanged_by_keeping old reserved keeps
 
@@ -201,6 +207,18 @@ module _ {K V : Type 0} {LEN : ℕ} {cmp : K → K → Ordering} (o : IsTotalOrd
                 (children_shared o level old mid x y separator child_part node low high was_child was_free gains.updates.changed high_here others (λ n. rw leaves (same.leaves n)) place cuts),
           )
 
+      packed_still : (above' : NodeOf K LEN) → PutsChild cmp above above' separator y → (key : K) → KeepsPacked cmp (suc (suc level)) old (record mid { nodes = with_value mid.nodes parent above' }) parent x key
+      packed_still above' puts key which none e =
+          let update = Updates-with_value mid.nodes parent above' (rw is_above refl) in
+          let is : e.node ≡ above = let both : Some e.node ≡ Some above = sym e.here ∙ above_was in cc in
+          let edge : IsPacked cmp (Some key) (suc level) old x = edge_below o (suc level) old parent x key part which e in
+          let full : room (suc level) old x ≡ 0 = rw sub-one at none in
+          packed_split o (λ low high. ⊤) (suc level) old mid parent x y separator key part splits which e (λ low_key high_key any. tt) tt
+          (record mid { nodes = with_value mid.nodes parent above' }) above' update.changed (rw is puts) (λ n differs. update.others n differs) refl
+          (low_full o level old mid x y separator child_part node low high was_child was_free gains.updates.changed high_here others (λ n. rw leaves (same.leaves n)) place cuts key edge full sound.is_len sound.ascending rule)
+          (edge_left o level old mid x y separator child_part node low high was_child was_free gains.updates.changed high_here others (λ n. rw leaves (same.leaves n)) place cuts key edge full sound.is_len sound.ascending rule)
+          (separator_smaller o level old mid x y separator child_part node low high was_child was_free gains.updates.changed high_here others (λ n. rw leaves (same.leaves n)) place cuts key edge full sound.is_len sound.ascending rule)
+
       pub split_in_two : (above' : NodeOf K LEN) → HasRoom LEN (keyed above) → PutsChild cmp above above' separator y → SplitsChild cmp (suc (suc level)) old (record mid { nodes = with_value mid.nodes parent above' }) parent x
       split_in_two above' some puts =
           let update = Updates-with_value mid.nodes parent above' (rw is_above refl) in
@@ -211,3 +229,4 @@ module _ {K V : Type 0} {LEN : ℕ} {cmp : K → K → Ordering} (o : IsTotalOrd
           (low_node_room o level old mid x y separator child_part node low high was_child was_free gains.updates.changed high_here others (λ n. rw leaves (same.leaves n)) place cuts within)
           (high_node_room o level old mid x y separator child_part node low high was_child was_free gains.updates.changed high_here others (λ n. rw leaves (same.leaves n)) place cuts within)
           (shared above' some)
+          (packed_still above' puts)

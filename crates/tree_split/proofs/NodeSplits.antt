@@ -1,29 +1,37 @@
 -- A node that gives its lower children to a new one before it.
-use Rattle.std.proofs.Common.{◌≡◌, ℕ, suc, ◌+◌, ◌<◌, ◌≤◌, ◌==◌, min, cond, List, [], ◌∷◌, ◌++◌, map, length, take, drop, Option, Some, None, IsSome, is_some, refl, sym, ap, ◌∙◌, arith, append_assoc, inl, inr}
+use Rattle.std.proofs.Common.{◌≡◌, ℕ, suc, ◌+◌, ◌<◌, ◌≤◌, ◌==◌, ◌^◌, min, cond, List, [], ◌∷◌, ◌++◌, map, length, length-append, take, drop, Option, Some, None, IsSome, is_some, refl, sym, ap, ◌∙◌, arith, append_assoc, inl, inr}
 use Rattle.std.specs.Bool.{⊤}
 use Rattle.std.specs.List.{AllByRecursion}
 use Rattle.std.specs.declared.cmp.Ordering.{Ordering}
+use Rattle.std.specs.declared.cmp.Ordering.TheVariants.{Less}
 use Rattle.std.specs.Cmp.{IsTotalOrder}
+use Rattle.std.proofs.Math.Nat.{pow-suc}
 use Rattle.std.proofs.lemmas.Bool.{cases_eq}
 use Rattle.std.proofs.lemmas.List.{map-append, length-map, length-take, length-drop}
 use Rattle.std.proofs.lemmas.List.Concat.{flat_map-append}
 use Rattle.slab.specs.Slab.{get}
-use Rattle.tree_array.specs.Arrivals.{Arrivals}
+use Rattle.tree_array.specs.Arrivals.{Arrivals, boundary}
+use Rattle.tree_array.specs.Length.{IsLen}
 use Rattle.tree_leaf.specs.Counting.{times, uses}
 use Rattle.tree_leaf.proofs.Chains.{same_array_refl}
 use Rattle.tree_leaf.proofs.Counts.{times-append, times-cons, one_here, none_here, uses_le_one, uses_some, uses_none, uses_same, in_use}
+use Rattle.tree_model.specs.Pairs.{IsAscending}
 use Rattle.tree_model.proofs.Lists.{all_map}
 use Rattle.tree_node.specs.declared.node.NodeOf.{NodeOf}
 use Rattle.tree_node.specs.Arenas.{TreeArenas}
 use Rattle.tree_node.specs.Parts.{IsPart, Replaces}
 use Rattle.tree_node.specs.Shape.{room, spare}
+use Rattle.tree_packed.specs.Packed.{IsPacked}
+use Rattle.tree_packed.proofs.Arrays.{limit_below, packed_boundary, packed_in_order}
+use Rattle.tree_packed.proofs.Edges.{counts_same, full_length, same_packed}
 use Rattle.tree_split.specs.Splits.{CutsNode}
 use Rattle.tree_node.specs.Tree.{AreParted, IsAbove, IsBelow, Stands, keyed, unbounded, walk, leaves_at, nodes_at, leaves_of, nodes_of, children_of}
 use Rattle.tree_node.proofs.Cuts.{all_front, all_behind, cut_whole}
 use Rattle.tree_node.proofs.Frames.{Agrees, each_part, parted_map, same_leaves, same_nodes, same_walk, same_stands}
 use Rattle.tree_node.proofs.Lifts.{single_leaves, single_nodes}
 use Rattle.tree_node.proofs.Lists.{flat_map_same}
-use Rattle.tree_node.proofs.LowSplits.{SplitsLow}
+use Rattle.tree_split.proofs.LowSplits.{SplitsLow}
+use Rattle.tree_split.proofs.PackedSplits.{all_held}
 use Rattle.tree_node.proofs.Spares.{spares-append, spares_same}
 use Rattle.tree_node.proofs.Standing.{node_is}
 use Rattle.tree_node.proofs.Unchanged.{chain_same}
@@ -243,3 +251,65 @@ module _ {K V : Type 0} {LEN : ℕ} {cmp : K → K → Ordering} (o : IsTotalOrd
 
     pub high_node_room : 0 < room (suc level) new x
     high_node_room = rw (high_here, cuts.high_last, last_is, cuts.high_keyed, length-map upper Some, length-drop (place + 1) (keyed node).entries) (omega (arith, within, few_here))
+
+  -- the last child of a packed part, which is full: the new one is as full as can be, and this one goes on with the edge
+  module _ (key : K) (e : IsPacked cmp (Some key) (suc level) old x) (none : room (suc level) old x ≡ 0) (is_len : IsLen LEN) (ascending : IsAscending cmp (keyed node).entries) (rule : place ≡ (boundary cmp LEN (keyed node)).0) where
+    same_node : e.node ≡ node
+    same_node = let both : Some e.node ≡ Some node = sym e.here ∙ was in cc
+
+    all_there : length (keyed node).entries ≡ LEN
+    all_there = let all : length (keyed e.node).entries ≡ LEN = rw e.here at (all_held cmp (Some key) (suc level) old None x None part.stands e none) in rw same_node at all
+
+    abbrev low_pairs : List (K × ℕ)
+    low_pairs = lower ++ (separator, cuts.middle) ∷ []
+
+    low_count : length low_pairs ≡ LEN
+    low_count =
+        omega (
+          arith,
+          length-append lower ((separator, cuts.middle) ∷ []),
+          length-take place (keyed node).entries,
+          all_there,
+          rule,
+          limit_below LEN is_len,
+          (packed_boundary o LEN (keyed node) is_len (rw same_node at e.packed) ascending all_there).0,
+        )
+
+    two_parts : (keyed node).entries ≡ low_pairs ++ upper
+    two_parts = whole ∙ sym (append_assoc lower ((separator, cuts.middle) ∷ []) upper)
+
+    same_ids : map (λ c. c.1) low_pairs ≡ low_ids
+    same_ids = map-append (λ (c : K × ℕ). c.1) lower ((separator, cuts.middle) ∷ [])
+
+    full_before : AllByRecursion (λ c. length (walk level old c.1) ≡ LEN ^ suc level) (low_pairs ++ upper)
+    full_before = rw (same_node, two_parts) at e.full
+
+    smaller : AllByRecursion (λ c. IsBelow cmp c.0 (Some key)) (low_pairs ++ upper)
+    smaller = rw (same_node, two_parts) at e.keys
+
+    all_ids : (size : ℕ) (pairs : List (K × ℕ)) → AllByRecursion (λ c. length (walk level new c.1) ≡ size) pairs → AllByRecursion (λ id. length (walk level new id) ≡ size) (map (λ c. c.1) pairs)
+    all_ids size [] all = tt
+    all_ids size (c ∷ rest) all = (all.0, all_ids size rest all.1)
+
+    pub low_full : length (walk (suc level) new y) ≡ LEN ^ suc (suc level)
+    low_full =
+        let counted = counts_same level old new (LEN ^ suc level) low_pairs (rw same_ids low_agree) (all_front _ low_pairs upper full_before) in
+        let length_is = full_length (walk level new) (LEN ^ suc level) (map (λ c. c.1) low_pairs) (all_ids (LEN ^ suc level) low_pairs counted) in
+        rw (walk-children level new y, y_children, ← same_ids) (length_is ∙ rw (length-map low_pairs (λ c. c.1), low_count) (sym (pow-suc LEN (suc level))))
+
+    pub edge_left : IsPacked cmp (Some key) (suc level) new x
+    edge_left =
+        let last_same : e.last ≡ stood.last = let both : Some e.last ≡ Some stood.last = sym e.last_is ∙ rw same_node last_is in cc in
+        record {
+          node = high;
+          here = high_here;
+          packed = packed_in_order o (keyed high) upper cuts.high_keyed;
+          keys = rw high_entries (all_behind _ low_pairs upper smaller);
+          full = rw high_entries (counts_same level old new (LEN ^ suc level) upper (all_front _ (map (λ c. c.1) upper) (stood.last ∷ []) high_agree) (all_behind _ low_pairs upper full_before));
+          last = stood.last;
+          last_is = cuts.high_last ∙ last_is;
+          edge = same_packed cmp (Some key) level old new stood.last (all_behind _ (map (λ c. c.1) upper) (stood.last ∷ []) high_agree).0 (rw last_same at e.edge);
+        }
+
+    pub separator_smaller : cmp separator key ≡ Less
+    separator_smaller = (all_behind _ lower ((separator, cuts.middle) ∷ []) (all_front _ low_pairs upper smaller)).0

@@ -2,6 +2,7 @@
 use Rattle.std.proofs.Common.{◌≡◌, ℕ, suc, ◌-◌, ◌<◌, ◌≤◌, List, [], ◌∷◌, ◌++◌, map, length, Option, Some, None, is_some, refl, sym, ap, ◌∙◌, arith, sub-one, inl, inr}
 use Rattle.std.specs.List.{AllByRecursion}
 use Rattle.std.specs.declared.cmp.Ordering.{Ordering}
+use Rattle.std.specs.Cmp.{IsTotalOrder}
 use Rattle.std.proofs.lemmas.Bool.{cases_eq}
 use Rattle.std.proofs.lemmas.List.{length-map}
 use Rattle.slab.specs.Slab.{get, with_value, Updates}
@@ -17,10 +18,13 @@ use Rattle.tree_model.proofs.Lists.{all_map, all-append}
 use Rattle.tree_node.specs.declared.node.NodeOf.{NodeOf}
 use Rattle.tree_node.specs.Arenas.{TreeArenas}
 use Rattle.tree_node.specs.Parts.{IsPart, KeepsBounds, Replaces}
-use Rattle.tree_node.specs.Shape.{room, spare}
-use Rattle.tree_split.specs.Splits.{HasMadeRoom, RebuildsNode, SharesChildren, SplitsChild}
+use Rattle.tree_node.specs.Shape.{held, room, spare}
+use Rattle.tree_packed.specs.Packed.{IsPacked}
+use Rattle.tree_packed.proofs.Arrays.{limit_below}
+use Rattle.tree_packed.proofs.Edges.{edge_below}
+use Rattle.tree_split.specs.Splits.{HasMadeRoom, KeepsPacked, RebuildsNode, SharesChildren, SplitsChild}
 use Rattle.tree_node.specs.Tree.{HasChildFor, Stands, keyed, unbounded, walk, leaves_at, nodes_at, nodes_of, node_children, children_of}
-use Rattle.tree_node.proofs.Children.{walk-leaf}
+use Rattle.tree_node.proofs.Children.{child_stands, walk-leaf}
 use Rattle.tree_node.proofs.Frames.{Agrees, each_part, parted_map, same_leaves, same_nodes, same_walk, same_stands}
 use Rattle.tree_node.proofs.LeafSpares.{spare_anew, spare_beside}
 use Rattle.tree_node.proofs.LeafWrites.{with_array, here_now, array_replaces}
@@ -30,6 +34,8 @@ use Rattle.tree_node.proofs.Spares.{spares-single, spares_same, spare_split}
 use Rattle.tree_node.proofs.Standing.{node_is}
 use Rattle.tree_node.proofs.Places.{IsAt, children_at, later_children}
 use Rattle.tree_node.proofs.Walks.{walk-children}
+use Rattle.tree_split.proofs.PackedSplits.{all_held}
+use Rattle.tree_split.proofs.Results.{only_child}
 
 -- the child is what it was to all that look for pairs, and has room
 pub record IsRebuilt {K V : Type 0} {LEN : ℕ} (cmp : K → K → Ordering) (level : ℕ) (old new : TreeArenas K V LEN) (x : ℕ) : Type 0 where
@@ -38,8 +44,9 @@ pub record IsRebuilt {K V : Type 0} {LEN : ℕ} (cmp : K → K → Ordering) (le
   pub replaces : Replaces level old new (x ∷ []) (x ∷ [])
   pub spares : spare level old x ≤ spare level new x
   pub roomy : 0 < room level new x
+  pub unfilled : held level old x < LEN
 
-module _ {K V : Type 0} {LEN : ℕ} {cmp : K → K → Ordering} (level : ℕ) (old new : TreeArenas K V LEN) (id x : ℕ) (part : IsPart cmp (suc level) old id) (rebuilt : IsRebuilt cmp level old new x)
+module _ {K V : Type 0} {LEN : ℕ} {cmp : K → K → Ordering} (o : IsTotalOrder cmp) (level : ℕ) (old new : TreeArenas K V LEN) (id x : ℕ) (part : IsPart cmp (suc level) old id) (rebuilt : IsRebuilt cmp level old new x)
     (front back : List ℕ) (was : children_of old.nodes id ≡ front ++ (x ∷ [] ++ back)) where
   stood : Stands cmp (suc level) old None id None
   stood = part.stands
@@ -101,6 +108,14 @@ module _ {K V : Type 0} {LEN : ℕ} {cmp : K → K → Ordering} (level : ℕ) (
         parted = parted_map cmp (Stands cmp level old) (Stands cmp level new) low _ _ high (rw (← was, s.here, s.last_is) at all_keep) s.parted;
       }
 
+  -- which no full child of a packed part is
+  not_packed : (key : K) (child : ℕ) → HasChildFor cmp key (get old.nodes id) x → KeepsPacked cmp (suc level) old new id child key
+  not_packed key child which which' none e =
+      let same : child ≡ x = only_child cmp key (get old.nodes id) child x which' which in
+      let here : IsPacked cmp (Some key) level old x = rw same at (edge_below o level old id child key part which' e) in
+      let there : room level old child ≡ 0 = rw sub-one at none in
+      absurd (omega (arith, rebuilt.unfilled, all_held cmp (Some key) level old None x None (child_stands o level old id part.stands key x which) here (rw same at there)))
+
   pub room_made_by_rebuild : (key : K) → HasChildFor cmp key (get old.nodes id) x → HasMadeRoom cmp (suc level) old new id key
   room_made_by_rebuild key which = record {
     pairs = same_pairs;
@@ -108,12 +123,9 @@ module _ {K V : Type 0} {LEN : ℕ} {cmp : K → K → Ordering} (level : ℕ) (
     replaces = replaces_node;
     spares = same_or_more;
     spends = rw same_node (omega arith);
-    child = λ child routed. rw (sub-one, only (get old.nodes id) child which (rw same_node at routed)) rebuilt.roomy;
+    child = λ child routed. rw (sub-one, only_child cmp key (get old.nodes id) child x (rw same_node at routed) which) rebuilt.roomy;
+    packed = λ child. not_packed key child which;
   }
-    where
-      only : (slot : Option (NodeOf K LEN)) (child : ℕ) → HasChildFor cmp key slot x → HasChildFor cmp key slot child → child ≡ x
-      only None child p q = absurd p
-      only (Some node) child p q = let both : Some child ≡ Some x = sym q ∙ p in cc
 
   pub split_by_rebuild : SharesChildren (suc level) old new id x → SplitsChild cmp (suc level) old new id x
   split_by_rebuild shares = record {
@@ -126,6 +138,7 @@ module _ {K V : Type 0} {LEN : ℕ} {cmp : K → K → Ordering} (level : ℕ) (
     roomy = rw sub-one rebuilt.roomy;
     gained = λ z inside outside. absurd (let same = ap (λ slot. times z slot) (was ∙ sym now) in omega (arith, same, inside, outside));
     routed = λ key which z routed. (room_made_by_rebuild key which).child z routed;
+    packed = λ key which. not_packed key x which which;
   }
 
 -- the children of a node with a place among them
@@ -162,6 +175,7 @@ module _ {K V : Type 0} {LEN : ℕ} {cmp : K → K → Ordering} (a : TreeArenas
           spare_anew (with_array a x leaf (in_order leaf.array.entries)) x _ leaf.array.entries (here_now a x leaf (in_order leaf.array.entries) was) refl,
         );
     roomy = rw (here_now a x leaf (in_order leaf.array.entries) was, length-map leaf.array.entries Some) (room_left LEN (length leaf.array.entries) sound.is_len few);
+    unfilled = rw was (omega (arith, few, limit_below LEN sound.is_len));
   }
 
 -- a node whose array is built anew
@@ -230,4 +244,5 @@ module _ {K V : Type 0} {LEN : ℕ} {cmp : K → K → Ordering} (level : ℕ) (
         };
         spares = rw leaves_same (omega arith);
         roomy = rw (written.changed, rebuilds.last, rw is at stood.last_is, rebuilds.rebuilt, length-map (keyed node).entries Some) (room_left LEN (length (keyed node).entries) is_len few);
+        unfilled = rw was (omega (arith, few, limit_below LEN is_len));
       }

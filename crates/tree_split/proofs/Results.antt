@@ -1,6 +1,9 @@
--- What is known of a result by its arm.
-use Rattle.std.proofs.Common.{◌≡◌, Some, Result, Ok, Err}
+-- What is known of a result by its arm, and of what was read twice.
+use Rattle.std.proofs.Common.{◌≡◌, ℕ, Option, None, Some, Result, Ok, Err, sym, ◌∙◌}
+use Rattle.std.specs.declared.cmp.Ordering.{Ordering}
 use Rattle.std.specs.Result.{IfOk, MatchResult, OnErr}
+use Rattle.tree_node.specs.declared.node.NodeOf.{NodeOf}
+use Rattle.tree_node.specs.Tree.{HasChildFor}
 
 -- what holds anyway holds after an error
 pub on_err : {T E : Type 0} {P : Type 0} (result : Result T E) → P → OnErr result P
@@ -15,3 +18,8 @@ of_success P Q R (Err e) h known = tt
 -- what was read twice is the same
 pub same_value : {A : Type 0} (x y : A) → Some x ≡ Some y → x ≡ y
 same_value x y both = cc
+
+-- a key belongs to one child
+pub only_child : {K : Type 0} {LEN : ℕ} (cmp : K → K → Ordering) (key : K) (slot : Option (NodeOf K LEN)) (child x : ℕ) → HasChildFor cmp key slot child → HasChildFor cmp key slot x → child ≡ x
+only_child cmp key None child x p q = absurd p
+only_child cmp key (Some node) child x p q = let both : Some child ≡ Some x = sym p ∙ q in cc

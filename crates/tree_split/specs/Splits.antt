@@ -1,8 +1,9 @@
 -- What making room in a part leaves: a child that has none gives its lower part to a new child before it, or is built anew.
-use Rattle.std.specs.Prelude.{◌≡◌, ◌⊎◌, ℕ, suc, ◌+◌, ◌-◌, ◌<◌, ◌≤◌, Bool, true, false, List, [], ◌∷◌, ◌++◌, take, drop, length, Option, Some, None, slice_get}
+use Rattle.std.specs.Prelude.{◌≡◌, ◌⊎◌, ℕ, suc, ◌+◌, ◌-◌, ◌<◌, ◌≤◌, ◌&&◌, Bool, true, false, List, [], ◌∷◌, ◌++◌, take, drop, length, Option, Some, None, slice_get, if◌then◌else◌}
 use Rattle.std.specs.List.{AllByRecursion}
 use Rattle.std.specs.declared.cmp.Ordering.{Ordering}
 use Rattle.std.specs.declared.cmp.Ordering.TheVariants.{Less}
+use Rattle.std.specs.Ordering.{is_lt}
 use Rattle.slab.specs.Slab.{get}
 use Rattle.tree_array.specs.Arrivals.{Arrivals, boundary, in_order}
 use Rattle.tree_array.specs.Length.{limit}
@@ -11,7 +12,8 @@ use Rattle.tree_node.specs.declared.node.NodeOf.{NodeOf}
 use Rattle.tree_node.specs.Arenas.{TreeArenas}
 use Rattle.tree_node.specs.Tree.{IsAbove, IsUpTo, HasChildFor, HasKind, Stands, keyed, unbounded, children_of, walk}
 use Rattle.tree_node.specs.Parts.{KeepsBounds, Replaces, Unchanged}
-use Rattle.tree_node.specs.Shape.{held, room, spare}
+use Rattle.tree_node.specs.Shape.{held, room, slot_keyed, spare}
+use Rattle.tree_packed.specs.Packed.{IsPacked}
 
 -- The parent takes no child more, and the child has too many to be built anew. Nothing has changed.
 pub record LacksRoom {K V : Type 0} {LEN : ℕ} (level : ℕ) (old new : TreeArenas K V LEN) (parent target : ℕ) : Type 0 where
@@ -26,6 +28,12 @@ SharesChildren {LEN = LEN} level old new parent target =
     ⊎ ((0 < room level old parent) × (low : ℕ) × (get old.nodes low ≡ None) × (children_of old.nodes target ≡ children_of new.nodes low ++ children_of new.nodes target))
 
 module _ {K V : Type 0} {LEN : ℕ} (cmp : K → K → Ordering) where
+  -- A part that is packed, with the key beyond its edge, stays so where the key's child was full, and has a keyed child more.
+  abbrev pub KeepsPacked : ℕ → TreeArenas K V LEN → TreeArenas K V LEN → ℕ → ℕ → K → Type 0
+  KeepsPacked level old new id child key =
+      HasChildFor cmp key (get old.nodes id) child → room (level - 1) old child ≡ 0 → IsPacked cmp (Some key) level old id
+      → IsPacked cmp (Some key) level new id × (slot_keyed (get old.nodes id) < slot_keyed (get new.nodes id))
+
   -- The part has the same pairs, between bounds that the key is within, and the child for the key has room.
   pub record HasMadeRoom (level : ℕ) (old new : TreeArenas K V LEN) (id : ℕ) (key : K) : Type 0 where
     pub pairs : walk level new id ≡ walk level old id
@@ -37,6 +45,7 @@ module _ {K V : Type 0} {LEN : ℕ} (cmp : K → K → Ordering) where
     pub spends : room level old id ≤ suc (room level new id)
     -- so that a second insert does not ask for a split
     pub child : (child : ℕ) → HasChildFor cmp key (get new.nodes id) child → 0 < room (level - 1) new child
+    pub packed : (child : ℕ) → KeepsPacked level old new id child key
 
   abbrev pub RoomResult : Bool → ℕ → TreeArenas K V LEN → TreeArenas K V LEN → ℕ → ℕ → K → Type 0
   RoomResult true level old new id target key = HasMadeRoom level old new id key
@@ -56,6 +65,7 @@ module _ {K V : Type 0} {LEN : ℕ} (cmp : K → K → Ordering) where
     pub gained : (child : ℕ) → 0 < times child (children_of new.nodes parent) → times child (children_of old.nodes parent) ≡ 0 → 0 < room (level - 1) new child
     -- a key that belonged to the child belongs to one with room
     pub routed : (key : K) → HasChildFor cmp key (get old.nodes parent) target → (child : ℕ) → HasChildFor cmp key (get new.nodes parent) child → 0 < room (level - 1) new child
+    pub packed : (key : K) → KeepsPacked level old new parent target key
 
   abbrev pub SplitResult : Bool → ℕ → TreeArenas K V LEN → TreeArenas K V LEN → ℕ → ℕ → Type 0
   SplitResult true level old new parent target = SplitsChild level old new parent target
@@ -84,6 +94,17 @@ pub record IsCut {K V : Type 0} (cmp : K → K → Ordering) (key : K) (count : 
   pub within : count ≤ length entries
   pub stays : (count < length entries) ⊎ AllByRecursion (λ p. cmp p.0 key ≡ Less) entries
 
--- So many first entries part from the others by the rule: those up to the boundary, or all of the last leaf.
-abbrev pub GoesLow : {K V : Type 0} → (K → K → Ordering) → ℕ → Bool → Arrivals K V → ℕ → Type 0
-GoesLow cmp len last array count = (count ≡ (boundary cmp len array).0) ⊎ ((last ≡ true) × ((boundary cmp len array).2 ≡ true) × (count ≡ (boundary cmp len array).1))
+-- the key is larger than each of these keys
+abbrev pub is_beyond : {K V : Type 0} → (K → K → Ordering) → K → List (K × V) → Bool
+is_beyond cmp key [] = true
+is_beyond cmp key (p ∷ rest) = is_lt (cmp p.0 key) && is_beyond cmp key rest
+
+-- How many first entries part from the others for a key: those up to the boundary; but all of the last leaf, where they arrived in ascending order and the key is beyond them.
+abbrev pub low_part : {K V : Type 0} → (K → K → Ordering) → ℕ → Bool → Arrivals K V → K → ℕ
+low_part cmp len last array key =
+    let cut = boundary cmp len array in
+    if last && (cut.2 && is_beyond cmp key array.entries) then cut.1 else cut.0
+
+-- the last leaf of a packed part gives all its entries, where it is full and the key is beyond them
+abbrev pub GivesAll : {K V : Type 0} {LEN : ℕ} → (K → K → Ordering) → TreeArenas K V LEN → ℕ → ℕ → ℕ → K → Type 0
+GivesAll {LEN = LEN} cmp arenas id target count key = HasChildFor cmp key (get arenas.nodes id) target → room 0 arenas target ≡ 0 → IsPacked cmp (Some key) 1 arenas id → count ≡ LEN

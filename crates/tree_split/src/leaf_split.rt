@@ -8,7 +8,7 @@ ghost use Rattle.tree_array.specs.Length.{IsLen, limit};
 ghost use Rattle.tree_array.specs.Sound.{IsSound};
 ghost use Rattle.tree_model.specs.Pairs.{IsAbsent};
 ghost use Rattle.tree_node.specs.Parts.{IsPart, PutsChild, Unchanged};
-ghost use Rattle.tree_split.specs.Splits.{GoesLow, HasMadeRoom, IsCut, RoomResult};
+ghost use Rattle.tree_split.specs.Splits.{GivesAll, HasMadeRoom, IsCut, RoomResult, is_beyond as all_smaller, low_part};
 ghost use Rattle.tree_node.specs.Tree.{HasChildFor, HasKind, keyed, leaf_entries};
 
 use crate::keyed_children::put_keyed;
@@ -68,7 +68,7 @@ fn low_count<K: Ord + Drop, V: Drop, const LEN: usize>(
     last: bool,
 ) -> Option<u8>
     ensures cut { MatchOption result (length array.now.entries ≤ limit LEN) (λ count. (limit LEN < length array.now.entries) × IsCut K.cmp key.now count array.now.entries) }
-    ensures rule { IfSome result (λ count. GoesLow K.cmp LEN last array.now count) }
+    ensures rule { IfSome result (λ count. count ≡ low_part K.cmp LEN last array.now key.now) }
     ensures sound { IsSound K.cmp LEN array.now }
 {
     let (boundary, count, ascended) = array.optimal_boundary();
@@ -84,7 +84,7 @@ fn low_count<K: Ord + Drop, V: Drop, const LEN: usize>(
 /// Returns true if the key is larger than every key in the array. Makes at most one comparison.
 fn is_beyond<K: Ord + Drop, V: Drop, const LEN: usize>(array: &ArrayOf<K, V, LEN>, key: &K) -> bool
     requires { IsSound K.cmp LEN array.now }
-    ensures { IsTrue result → AllByRecursion (λ p. K.cmp p.0 key.now ≡ Ordering.Less) array.now.entries }
+    ensures { result ≡ all_smaller K.cmp key.now array.now.entries }
 {
     match array.last_slot() {
         Some(slot) => array.key(slot).cmp(key).is_lt(),
@@ -107,7 +107,7 @@ fn split_leaf<K: IndexKey, V: Drop, const LEN: usize>(
     requires sound { (leaf : _) → get arenas.old.leaves target ≡ Some leaf → IsSound K.cmp LEN leaf.array }
     requires cut { (key : K) × HasChildFor K.cmp key (get arenas.old.nodes id) target × IsCut K.cmp key count (leaf_entries arenas.old.leaves target) }
     requires room { (node : _) → get arenas.old.nodes id ≡ Some node → HasRoom LEN (keyed node) }
-    ensures done { IfOk result (λ _. (key : K) → HasChildFor K.cmp key (get arenas.old.nodes id) target → IsCut K.cmp key count (leaf_entries arenas.old.leaves target) → HasMadeRoom K.cmp 1 arenas.old arenas.new id key) }
+    ensures done { IfOk result (λ _. (key : K) → HasChildFor K.cmp key (get arenas.old.nodes id) target → IsCut K.cmp key count (leaf_entries arenas.old.leaves target) → GivesAll K.cmp arenas.old id target count key → HasMadeRoom K.cmp 1 arenas.old arenas.new id key) }
     ensures err { OnErr result (Unchanged arenas.old arenas.new) }
 {
     let separator = separator_at(arenas.leaf(target).array(), count - 1)?;

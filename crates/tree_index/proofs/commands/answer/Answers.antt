@@ -21,3 +21,6 @@ returns-in-Ok-clone-clause-step g c =
 
 pub returns-clause-step : goal.returns-clause-step
 returns-clause-step g c = rw c.in-Peek.is (some_pair _ _ c.in-Some.ensures.found, refl)
+
+pub returns-in-Ok-clause-packed : goal.returns-in-Ok-clause-packed
+returns-in-Ok-clause-packed g c = rw c.in-Insert.is (c.in-Ok.ensures.spare, c.in-Ok.ensures.packed)

@@ -1,5 +1,5 @@
 use Rattle.std.proofs.Common.{arith, refl, ap, ◌∙◌}
-use Rattle.slab.specs.Slab.{ContainsKey, Slab, get}
+use Rattle.slab.specs.Slab.{ContainsKey, Slab, get, with_value}
 use Rattle.slab.proofs.SlabLemmas.{Updates-with_value}
 use Rattle.tree_array.specs.Arrivals.{Arrivals}
 use Rattle.tree_leaf.specs.Arena.{HasPlaces}
@@ -8,10 +8,11 @@ use Rattle.tree_node.proofs.Bare.{has_only, some_slots}
 use Rattle.tree_node.proofs.Unchanged.{unchanged_by_keeping}
 use Rattle.tree_node.proofs.Sizes.{fits}
 use Rattle.tree_split.proofs.Variants.{children_fit}
+use Rattle.tree_insert.proofs.FirstPairs.{packed_first}
 use Rattle.tree_insert.proofs.planting.plant_again.Goals as goal
 
-pub returns-in_default : goal.returns-in_default
-returns-in_default g c =
+pub returns-in_default-clause-plants : goal.returns-in_default-clause-plants
+returns-in_default-clause-plants g c =
     let kept = unchanged_by_keeping c.args.arenas.now c.reserve.new.self c.in_default.ensures.0 in
     let fewer : HasPlaces c.args.arenas.now 1 1 → HasPlaces c.args.arenas.now 1 0 = λ had. record { leaves = had.leaves; nodes = omega (arith, had.nodes) } in
     (kept, refl, refl, λ had. c.in_default.ensures.1 (fewer had))
@@ -28,8 +29,8 @@ node_mut-requires g c =
     let there : ContainsKey c.add_leaf.new.self.nodes c.args.root = rw (c.add_leaf.ensures.nodes, kept.nodes c.args.root) c.requires.retired.here in
     (search fits, there)
 
-pub returns : goal.returns
-returns g c =
+pub returns-clause-plants : goal.returns-clause-plants
+returns-clause-plants g c =
     let kept = unchanged_by_keeping c.args.arenas.now c.reserve.new.self c.in-Ok.ensures.0 in
     let leaf = c.in-Ok-add_leaf.ensures.leaves in
     let node = Updates-with_value c.add_leaf.new.self.nodes c.args.root (Leaf c.new.result) (rw (c.add_leaf.ensures.nodes, kept.nodes c.args.root) c.requires.retired.here) in
@@ -44,3 +45,9 @@ drop-node_mut-requires g c = search children_fit
 
 pub drop-requires-2 : goal.drop-requires-2
 drop-requires-2 g c = search children_fit
+
+pub returns-clause-packed : goal.returns-clause-packed
+returns-clause-packed g c =
+    let kept = unchanged_by_keeping c.args.arenas.now c.reserve.new.self c.in-Ok.ensures.0 in
+    let node = Updates-with_value c.add_leaf.new.self.nodes c.args.root (Leaf c.new.result) (rw (c.add_leaf.ensures.nodes, kept.nodes c.args.root) c.requires.retired.here) in
+    packed_first g.met.K.Ord.total (record c.add_leaf.new.self { nodes = with_value c.add_leaf.new.self.nodes c.args.root (Leaf c.new.result) }) c.args.root (Leaf c.new.result) c.in-Ok-add_leaf.leaf c.leaf_with.result c.args.key c.args.val node.changed c.new.ensures.keyed c.new.ensures.unbounded c.in-Ok-add_leaf.ensures.leaves.updates.changed c.leaf_with.ensures.array

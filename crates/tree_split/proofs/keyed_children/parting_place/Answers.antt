@@ -1,5 +1,5 @@
 use Rattle.std.proofs.Common.{◌∙◌, ap, sym}
-use Rattle.tree_node.proofs.Boundaries.{few_by_boundary, many_by_boundary, parted_by}
+use Rattle.tree_split.proofs.Boundaries.{few_by_boundary, many_by_boundary, parted_by}
 use Rattle.tree_split.proofs.keyed_children.parting_place.Goals as goal
 
 pub returns-then-boundary-clause-place : goal.returns-then-boundary-clause-place

@@ -1,31 +1,31 @@
-use Rattle.std.proofs.Common.{◌≡◌, ◌∙◌, List, [], ◌∷◌, ◌++◌, Option, Some, refl, sym}
-use Rattle.std.specs.Bool.{IsTrue}
+use Rattle.std.proofs.Common.{◌≡◌, ◌⊎◌, ◌∙◌, false, List, [], ◌∷◌, ◌++◌, Option, Some, refl, sym, inl, inr}
 use Rattle.std.specs.List.{AllByRecursion}
 use Rattle.std.specs.declared.cmp.Ordering.{Ordering}
 use Rattle.std.specs.declared.cmp.Ordering.TheVariants.{Less, Equal, Greater}
 use Rattle.std.specs.Ordering.{is_lt}
 use Rattle.std.specs.Cmp.{IsTotalOrder}
 use Rattle.tree_model.specs.Pairs.{IsAscending}
-use Rattle.tree_model.proofs.Lists.{all_map, all-append}
+use Rattle.tree_model.proofs.Lists.{all_map}
 use Rattle.tree_node.proofs.Cuts.{smaller_front}
+use Rattle.tree_split.specs.Splits.{is_beyond}
+use Rattle.tree_split.proofs.PackedSplits.{beyond_last}
 use Rattle.tree_split.proofs.leaf_split.is_beyond.Goals as goal
 
-less_than : (r : Ordering) → IsTrue (is_lt r) → r ≡ Less
-less_than Less h = refl
-less_than Equal h = absurd (cc)
-less_than Greater h = absurd (cc)
-
--- all are smaller where the greatest is
-all_smaller : {K V : Type 0} {cmp : K → K → Ordering} → IsTotalOrder cmp → (entries front : List (K × V)) (pair read : K × V) {slot : Option (K × V)} (key : K) → IsAscending cmp entries → entries ≡ front ++ pair ∷ []
-    → slot ≡ Some pair → slot ≡ Some read → cmp read.0 key ≡ Less → AllByRecursion (λ p. cmp p.0 key ≡ Less) entries
-all_smaller {cmp = cmp} o entries front pair read key ascends are was is less =
+-- the greatest key decides
+by_greatest : {K V : Type 0} {cmp : K → K → Ordering} → IsTotalOrder cmp → (entries front : List (K × V)) (pair read : K × V) {slot : Option (K × V)} (key : K) → IsAscending cmp entries → entries ≡ front ++ pair ∷ []
+    → slot ≡ Some pair → slot ≡ Some read → is_lt (cmp read.0 key) ≡ is_beyond cmp key entries
+by_greatest {cmp = cmp} o entries front pair read key ascends are was is =
     let both : Some pair ≡ Some read = sym was ∙ is in
     let same : pair ≡ read = cc in
-    let last : cmp pair.0 key ≡ Less = rw same less in
-    rw are (all-append _ front (pair ∷ []) (all_map (λ p below. o.trans p.0 pair.0 key below last) front (smaller_front cmp front pair [] (rw are at ascends))) (last, tt))
+    rw (are, ← same) (sym (beyond_last cmp key front pair (by_order (cmp pair.0 key) refl)))
+  where
+    by_order : (r : Ordering) → cmp pair.0 key ≡ r → AllByRecursion (λ p. cmp p.0 key ≡ Less) front ⊎ (is_lt (cmp pair.0 key) ≡ false)
+    by_order Less less = inl (all_map (λ p below. o.trans p.0 pair.0 key below less) front (smaller_front cmp front pair [] (rw are at ascends)))
+    by_order Equal same = inr (rw same refl)
+    by_order Greater more = inr (rw more refl)
 
 pub returns-in-Some : goal.returns-in-Some
-returns-in-Some g c so =
+returns-in-Some g c =
     let last = c.in-Some.ensures in
-    all_smaller g.met.K.Ord.total c.args.array.now.entries last.2 last.0 (c.key.result.now, c.key.ensures.0) c.args.key.now c.requires.ascending last.3 last.1 c.key.ensures.1
-    (sym c.cmp.ensures ∙ less_than c.cmp.result (rw c.is_lt.ensures at so))
+    c.is_lt.ensures ∙ rw c.cmp.ensures
+    (by_greatest g.met.K.Ord.total c.args.array.now.entries last.2 last.0 (c.key.result.now, c.key.ensures.0) c.args.key.now c.requires.ascending last.3 last.1 c.key.ensures.1)

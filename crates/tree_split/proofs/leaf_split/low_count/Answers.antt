@@ -1,6 +1,7 @@
 use Rattle.std.proofs.Common.{◌≡◌, ◌∙◌, ap, sym, length, arith, inl, inr}
 use Rattle.tree_array.specs.Arrivals.{ascents, reachable}
-use Rattle.tree_node.proofs.Boundaries.{boundary_count, few_by_boundary, many_by_boundary, parted_by}
+use Rattle.tree_split.proofs.Boundaries.{boundary_count, few_by_boundary, many_by_boundary, parted_by}
+use Rattle.tree_split.proofs.PackedSplits.{all_beyond}
 use Rattle.tree_split.proofs.leaf_split.low_count.Goals as goal
 
 pub returns-then-boundary-clause-cut : goal.returns-then-boundary-clause-cut
@@ -19,4 +20,4 @@ returns-then-is_beyond-clause-cut g c =
     let told = c.optimal_boundary-boundary.ensures.boundary in
     let many = many_by_boundary g.K.Ord.cmp g.row.LEN c.args.array.now (λ at_len. c.if-boundary.false (ap (λ b. b.0) told ∙ at_len)) in
     let all : c.optimal_boundary-boundary.result.1 ≡ length c.args.array.now.entries = ap (λ b. b.1) told ∙ boundary_count g.row.LEN (length c.args.array.now.entries) (ascents g.K.Ord.cmp (reachable c.args.array.now.arrivals)) in
-    rw all (many, record { some = omega (arith, many); within = omega arith; stays = inr (c.is_beyond.ensures c.if-is_beyond.true) })
+    rw all (many, record { some = omega (arith, many); within = omega arith; stays = inr (all_beyond g.K.Ord.cmp c.args.key.now c.args.array.now.entries (sym c.is_beyond.ensures ∙ c.if-is_beyond.true)) })

@@ -1,13 +1,17 @@
-use Rattle.std.proofs.Common.{rules, ◌≡◌, ◌∙◌, ◌<◌, ◌≤◌, length, Some, refl, sym, ap}
+use Rattle.std.proofs.Common.{rules, ◌≡◌, ◌∙◌, ◌<◌, ◌≤◌, ◌==◌, ℕ, true, length, arith, Some, refl, sym, ap}
+use Rattle.std.proofs.lemmas.Bool.Decides.{nat_tests}
 use Rattle.tree_array.specs.Length.{limit}
 use Rattle.tree_array.specs.Sound.{IsSound}
 use Rattle.tree_node.specs.declared.node.NodeOf.TheVariants.{Leaf}
-use Rattle.tree_split.specs.Splits.{IsCut}
+use Rattle.tree_split.specs.Splits.{IsCut, low_part}
 use Rattle.tree_split.proofs.Fulls.{full_room, not_full_room}
-use Rattle.tree_split.proofs.LeafRooms.{leaf_room_by_rebuild, leaf_used}
+use Rattle.tree_split.proofs.LeafRooms.{gives_all, leaf_room_by_rebuild, leaf_used}
 use Rattle.tree_split.proofs.Results.{on_err, same_value}
 use Rattle.tree_node.proofs.Sizes.{fits}
 use Rattle.tree_split.proofs.leaf_split.make_room.Goals as goal
+
+equal_itself : (n : ℕ) → (n == n) ≡ true
+equal_itself n = let same : n ≤ n = omega arith in grind (arith, nat_tests)
 
 pub node-requires : goal.node-requires
 node-requires g c = (search fits, search rules)
@@ -65,7 +69,11 @@ split_leaf-requires g c =
 pub returns-clause-done : goal.returns-clause-done
 returns-clause-done g c =
     let cut : IsCut g.K.Ord.cmp c.args.key.now c.in-Some.count c.leaf.result.now.array.entries = rw c.array.ensures at c.in-Some.ensures.cut.1 in
+    let rule : c.in-Some.count ≡ low_part g.K.Ord.cmp g.row.LEN c.eq-last.result c.leaf.result.now.array c.args.key.now = rw c.array.ensures at c.in-Some.ensures.rule in
+    let sound : IsSound g.K.Ord.cmp g.row.LEN c.leaf.result.now.array = rw c.array.ensures at c.low_count.ensures.sound in
     c.in_ok-split_leaf.ensures.done c.args.key.now c.requires.child (rw c.leaf.ensures cut)
+    (gives_all g.met.K.Ord.total c.args.arenas.now c.args.id c.args.target c.args.key.now c.requires.part c.requires.child c.leaf.result.now c.leaf.ensures sound (Leaf c.in-Leaf.node) (c.node.ensures ∙ ap Some c.in-Leaf.is)
+    c.eq-last.result (λ at_last. c.eq-last.ensures ∙ rw at_last (equal_itself c.args.target)) c.in-Some.count rule)
 
 pub returns-in_err-split_leaf-clause-many : goal.returns-in_err-split_leaf-clause-many
 returns-in_err-split_leaf-clause-many g c =

@@ -16,3 +16,6 @@ returns-clause-depth g c = rw c.clear.ensures.root refl
 
 pub returns-clause-spare : goal.returns-clause-spare
 returns-clause-spare g c = rw c.clear.ensures.root refl
+
+pub returns-clause-packed : goal.returns-clause-packed
+returns-clause-packed g c = rw c.clear.ensures.root refl

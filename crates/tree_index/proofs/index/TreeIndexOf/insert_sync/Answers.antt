@@ -12,3 +12,6 @@ returns-in-Err-clause-pairs g c = (not_inserted g.row.LEN g.K.Ord.cmp _ _ c.args
 
 pub returns-in-Err-clause-spare : goal.returns-in-Err-clause-spare
 returns-in-Err-clause-spare g c = (not_inserted g.row.LEN g.K.Ord.cmp _ _ c.args.key c.args.value c.in-Err.error c.in-Err.ensures).1
+
+pub returns-in-Ok-clause-packed : goal.returns-in-Ok-clause-packed
+returns-in-Ok-clause-packed g c = (inserted g.row.LEN g.K.Ord.cmp _ _ c.args.key c.args.value c.in-Ok.field-0 c.in-Ok.ensures).3

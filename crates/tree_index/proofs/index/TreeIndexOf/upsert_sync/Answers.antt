@@ -20,3 +20,6 @@ returns-in-Err-OutOfMemory-clause-spare g c =
 pub returns-in-Err-Duplicate : goal.returns-in-Err-Duplicate
 returns-in-Err-Duplicate g c =
     absurd (no_duplicate g.row.LEN g.K.Ord.cmp _ _ c.args.key c.args.value c.in-Err-Duplicate.key c.in-Err-Duplicate.value (rw c.in-Err-Duplicate.field-0-is at c.in-Err-Duplicate.ensures))
+
+pub returns-in-Ok-clause-packed : goal.returns-in-Ok-clause-packed
+returns-in-Ok-clause-packed g c = (upserted g.row.LEN g.K.Ord.cmp _ _ c.args.key c.args.value c.in-Ok.field-0 c.in-Ok.ensures).2
