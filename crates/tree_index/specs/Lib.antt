@@ -1,4 +1,6 @@
+pub mod Copies
 pub mod Index
 pub mod Inserts
+pub mod Readers
 pub mod Served
 pub mod Trees
