@@ -6,3 +6,4 @@ pub mod Rooms
 pub mod Served
 pub mod Stored
 pub mod Taken
+pub mod Walked
