@@ -1,3 +1,4 @@
+pub mod Copied
 pub mod Cutting
 pub mod Indexed
 pub mod Numbers

@@ -1,8 +1,8 @@
 //! Copies of an index.
-ghost use Rattle.std.specs.Prelude.{◌≡◌, ◌++◌, ◌∷◌, [], IfOk};
+ghost use Rattle.std.specs.Prelude.{◌≡◌, [], IfOk};
 ghost use Rattle.std.specs.List.{AllZip};
 ghost use Rattle.tree_cursor_model.specs.Rest.{HasBegun, rest};
-ghost use Rattle.tree_index.specs.Copies.{AllSmaller, IsPairClone, Appends};
+ghost use Rattle.tree_index.specs.Copies.{AllSmaller, Appends, IsPairClone};
 ghost use Rattle.tree_leaf.specs.declared.leaf.stand.Way.TheVariants.{On};
 ghost use Rattle.tree_model.specs.Pairs.{IsAscending};
 
@@ -26,11 +26,12 @@ impl<K: IndexKey, V: Drop + Clone, const LEN: usize> TreeIndexOf<K, V, LEN> {
         Ok(copy)
     }
 
-    /// Appends clones of the pairs that a cursor has left.
+    /// Appends clones of the pairs that a cursor has left. The index must be empty.
     fn append_clones(&mut self, pairs: IterOf<'_, K, V, LEN>) -> Result<(), AllocError>
         requires begun { HasBegun K.cmp On pairs }
+        requires ascending { IsAscending K.cmp (rest K.cmp On pairs) }
         requires empty { self.old.pairs ≡ [] }
-        ensures { IfOk result (λ _. AllZip (IsPairClone K.is_clone V.is_clone) (rest K.cmp On pairs) self.new.pairs) }
+        ensures { IfOk result (λ _. AllZip (IsPairClone K.is_clone V.is_clone) (rest K.cmp On pairs.entry) self.new.pairs) }
     {
         let mut pairs = pairs;
         while let Some((key, value)) = pairs.next() {
