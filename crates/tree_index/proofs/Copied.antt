@@ -10,6 +10,11 @@ use Rattle.tree_model.proofs.Lists.{all-append, all_map, filter_all, filter_none
 use Rattle.tree_model.proofs.Order.{alike_after}
 use Rattle.tree_index.specs.Copies.{AllSmaller}
 
+-- all is behind nothing
+pub behind_nothing : {K V : Type 0} (cmp : K → K → Ordering) (rest : List (K × V)) → AllByRecursion (λ pair. AllSmaller {V = V} cmp [] pair.0) rest
+behind_nothing cmp [] = tt
+behind_nothing cmp (pair ∷ rest) = (tt, behind_nothing cmp rest)
+
 -- a key behind all of a list is absent, and its pair goes behind it
 module _ {K V : Type 0} (cmp : K → K → Ordering) (l : List (K × V)) (k : K) (smaller : AllSmaller cmp l k) where
   pub absent_behind : pair_at cmp l k ≡ None
