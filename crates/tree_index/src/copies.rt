@@ -10,7 +10,7 @@ use crate::index::TreeIndexOf;
 use std::alloc::{AllocError, Global};
 use tree_array::array::IndexKey;
 use tree_model::InsertError;
-use tree_ranges::iter::IterOf;
+use tree_ranges::iter::{IterOf, IterOver};
 
 impl<K: IndexKey, V: Drop + Clone, const LEN: usize> TreeIndexOf<K, V, LEN> {
     /// Returns a copy: an index of a clone of each key with a clone of its value, in the same order.
@@ -21,8 +21,9 @@ impl<K: IndexKey, V: Drop + Clone, const LEN: usize> TreeIndexOf<K, V, LEN> {
     pub fn try_clone(&self, alloc: Global) -> Result<Self, AllocError>
         ensures { IfOk result (λ copy. AllZip (IsPairClone K.is_clone V.is_clone) self.now.pairs copy.pairs) }
     {
+        let pairs = IterOver::new(&self.tree.arenas, self.tree.root);
         let mut copy = TreeIndexOf::new(alloc);
-        copy.append_clones(self.iter())?;
+        copy.append_clones(pairs)?;
         Ok(copy)
     }
 
