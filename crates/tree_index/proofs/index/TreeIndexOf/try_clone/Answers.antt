@@ -14,8 +14,7 @@ new-copy-requires g c = (search fits, c.self.invariant.0)
 
 pub append_clones-requires : goal.append_clones-requires
 append_clones-requires g c =
-    let left = all_left g.K.Ord.cmp (pairs_of c.self.inside.tree) in
-    (
+    let left = all_left g.K.Ord.cmp (pairs_of c.self.inside.tree) in (
       search fits,
       (search fits, (search fits, (search fits, (rw c.new-pairs.ensures tt, (rw (c.new-pairs.ensures, left) (pairs_ascend g.met.K.Ord.total c.self.inside.tree c.self.invariant.1), c.new-copy.ensures.pairs))))),
     )
