@@ -40,9 +40,7 @@ fn compares_other_trees_steps(rt: &impl Abort, alloc: Global) -> Result<(), Allo
         let grown = grown(alloc, 200, order, &mut chance)?;
         let mut ascending: TreeIndex<u64, u64> = TreeIndex::new(alloc);
         for (key, value) in grown.pairs() {
-            ascending
-                .insert_sync(*key, *value)
-                .map_err(|_| AllocError)?;
+            ascending.insert_sync(*key, *value).map_err(|_| AllocError)?;
         }
         assert!(rt; *grown.index() == ascending);
         let Some((last, value)) = grown.pairs().last() else {
