@@ -21,11 +21,18 @@ enum Workload {
     CutByRetain,
     CutBySplitOff,
     BuildAndDrop,
+    WalkAscending,
+    WalkBackAscending,
+    WalkRandom,
+    WalkBackRandom,
+    RangesOf100,
+    Nearest,
+    CloneAndDrop,
     InsertText,
     PeekText,
 }
 
-const ALL: [(Workload, &str); 12] = [
+const ALL: [(Workload, &str); 19] = [
     (Workload::InsertAscending, "insert_ascending"),
     (Workload::InsertRandom, "insert_random"),
     (Workload::UpsertRandom, "upsert_random"),
@@ -36,6 +43,13 @@ const ALL: [(Workload, &str); 12] = [
     (Workload::CutByRetain, "cut_beside_retain"),
     (Workload::CutBySplitOff, "cut_beside_split_off"),
     (Workload::BuildAndDrop, "build_and_drop"),
+    (Workload::WalkAscending, "walk_ascending"),
+    (Workload::WalkBackAscending, "walk_back_ascending"),
+    (Workload::WalkRandom, "walk_random"),
+    (Workload::WalkBackRandom, "walk_back_random"),
+    (Workload::RangesOf100, "ranges_of_100"),
+    (Workload::Nearest, "nearest"),
+    (Workload::CloneAndDrop, "clone_and_drop"),
     (Workload::InsertText, "insert_text"),
     (Workload::PeekText, "peek_text"),
 ];
@@ -91,10 +105,31 @@ fn peek_all<K: Ord>(map: &BTreeMap<K, u64>, keys: &[K]) -> u64 {
     let mut sum = 0u64;
     for key in keys {
         if let Some(value) = map.get(key) {
-            sum = sum.wrapping_mul(31).wrapping_add(*value).wrapping_add(1);
+            sum = summed(sum, *value);
         }
     }
     sum
+}
+
+fn summed(sum: u64, value: u64) -> u64 {
+    sum.wrapping_mul(31).wrapping_add(value).wrapping_add(1)
+}
+
+fn walk<'m>(values: impl Iterator<Item = &'m u64>) -> u64 {
+    values.fold(0, |sum, value| summed(sum, *value))
+}
+
+fn walk_ranges<K: Ord>(map: &BTreeMap<K, u64>, keys: &[K]) -> u64 {
+    walk(keys.iter().flat_map(|key| map.range(key..).take(100).map(|(_, value)| value)))
+}
+
+/// The values of the nearest smaller key and of the nearest larger one, no key being there.
+fn locate_all<K: Ord>(map: &BTreeMap<K, u64>, keys: &[K]) -> u64 {
+    walk(keys.iter().flat_map(|key| {
+        let smaller = map.range(..key).next_back();
+        let larger = map.range(key..).next();
+        smaller.into_iter().chain(larger).map(|(_, value)| value)
+    }))
 }
 
 fn remove_all<K: Ord>(map: &mut BTreeMap<K, u64>, keys: &[K]) -> u64 {
@@ -136,7 +171,7 @@ struct Scene<K> {
     asked: Vec<K>,
 }
 
-impl<K: Ord> Scene<K> {
+impl<K: Ord + Clone> Scene<K> {
     fn empty(coming: Vec<K>, asked: Vec<K>) -> Self {
         Scene {
             map: BTreeMap::new(),
@@ -163,6 +198,11 @@ impl<K: Ord> Scene<K> {
             Workload::CutByRetain => retain_others(&mut self.map, &self.asked),
             Workload::CutBySplitOff => split_off_middle(&mut self.map, &self.asked),
             Workload::BuildAndDrop => insert_all(&mut BTreeMap::new(), coming),
+            Workload::WalkAscending | Workload::WalkRandom => walk(self.map.values()),
+            Workload::WalkBackAscending | Workload::WalkBackRandom => walk(self.map.values().rev()),
+            Workload::RangesOf100 => walk_ranges(&self.map, &self.asked),
+            Workload::Nearest => locate_all(&self.map, &self.asked),
+            Workload::CloneAndDrop => self.map.clone().len() as u64,
             _ => insert_all(&mut self.map, coming),
         }
     }
@@ -187,8 +227,21 @@ fn scene_of_numbers(workload: Workload, size: usize) -> Scene<u64> {
     match workload {
         Workload::InsertAscending => Scene::empty(ascending(0, size), ascending(0, size)),
         Workload::UpsertRandom => Scene::filled(keys, order.clone(), order),
-        Workload::PeekMiss => Scene::filled(keys, Vec::new(), source.list(size)),
-        Workload::PeekHit | Workload::RemoveRandom => Scene::filled(keys, Vec::new(), order),
+        Workload::WalkAscending | Workload::WalkBackAscending => {
+            Scene::filled(ascending(0, size), Vec::new(), ascending(0, size))
+        }
+        Workload::RangesOf100 => {
+            order.truncate(size.div_ceil(100));
+            Scene::filled(keys, Vec::new(), order)
+        }
+        Workload::PeekMiss | Workload::Nearest => {
+            Scene::filled(keys, Vec::new(), source.list(size))
+        }
+        Workload::PeekHit
+        | Workload::RemoveRandom
+        | Workload::WalkRandom
+        | Workload::WalkBackRandom
+        | Workload::CloneAndDrop => Scene::filled(keys, Vec::new(), order),
         Workload::RemoveMiddle | Workload::CutByRetain | Workload::CutBySplitOff => {
             let mut all = ascending(0, size);
             source.shuffle(&mut all);

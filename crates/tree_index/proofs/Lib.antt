@@ -1,4 +1,5 @@
 pub mod Climbs
+pub mod Copied
 pub mod Cutting
 pub mod Indexed
 pub mod Numbers
@@ -8,3 +9,4 @@ pub mod Rooms
 pub mod Served
 pub mod Stored
 pub mod Taken
+pub mod Walked

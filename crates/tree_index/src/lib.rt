@@ -27,9 +27,12 @@
 #![tactic(auto)]
 
 mod commands;
+mod copies;
 mod cursors;
+mod equality;
 mod index;
 pub mod laws;
+mod readers;
 mod seek;
 mod state;
 mod tree;

@@ -1,5 +1,7 @@
 //! The workloads, and the index and keys that each begins with.
-use crate::calls::{cut, insert_all, peek_all, remove_all, upsert_all};
+use crate::calls::{
+    cut, insert_all, locate_all, peek_all, remove_all, upsert_all, walk, walk_back, walk_ranges,
+};
 use crate::keys::{Numbers, ascending, texts};
 use std::alloc::{AllocError, Global};
 use tree_index::TreeIndex;
@@ -27,6 +29,20 @@ pub enum Workload {
     CutBesideSplitOff,
     /// Inserts random keys into an empty index and drops it.
     BuildAndDrop,
+    /// Walks over all pairs in ascending order, after ascending inserts.
+    WalkAscending,
+    /// Walks over all pairs in descending order, after ascending inserts.
+    WalkBackAscending,
+    /// Walks over all pairs in ascending order, after random inserts.
+    WalkRandom,
+    /// Walks over all pairs in descending order, after random inserts.
+    WalkBackRandom,
+    /// Walks over 100 pairs from each of a hundredth of the keys on, in random order.
+    RangesOf100,
+    /// Looks up the pairs beside each of as many absent keys.
+    Nearest,
+    /// Copies an index that was filled by random inserts, and drops the copy.
+    CloneAndDrop,
     /// Inserts random texts of sixteen bytes into an empty index.
     InsertText,
     /// Looks up each of such texts, in another order.
@@ -35,7 +51,7 @@ pub enum Workload {
 
 impl Workload {
     /// Returns the workloads in the order in which they run.
-    pub const ALL: [Workload; 12] = [
+    pub const ALL: [Workload; 19] = [
         Workload::InsertAscending,
         Workload::InsertRandom,
         Workload::UpsertRandom,
@@ -46,6 +62,13 @@ impl Workload {
         Workload::CutBesideRetain,
         Workload::CutBesideSplitOff,
         Workload::BuildAndDrop,
+        Workload::WalkAscending,
+        Workload::WalkBackAscending,
+        Workload::WalkRandom,
+        Workload::WalkBackRandom,
+        Workload::RangesOf100,
+        Workload::Nearest,
+        Workload::CloneAndDrop,
         Workload::InsertText,
         Workload::PeekText,
     ];
@@ -63,6 +86,13 @@ impl Workload {
             Workload::CutBesideRetain => "cut_beside_retain",
             Workload::CutBesideSplitOff => "cut_beside_split_off",
             Workload::BuildAndDrop => "build_and_drop",
+            Workload::WalkAscending => "walk_ascending",
+            Workload::WalkBackAscending => "walk_back_ascending",
+            Workload::WalkRandom => "walk_random",
+            Workload::WalkBackRandom => "walk_back_random",
+            Workload::RangesOf100 => "ranges_of_100",
+            Workload::Nearest => "nearest",
+            Workload::CloneAndDrop => "clone_and_drop",
             Workload::InsertText => "insert_text",
             Workload::PeekText => "peek_text",
         }
@@ -112,8 +142,22 @@ pub fn scene_of_numbers(
         Workload::RemoveMiddle | Workload::CutBesideRetain | Workload::CutBesideSplitOff => {
             middle_keys(alloc, &mut source, size)?
         }
-        Workload::PeekMiss => held_keys(alloc, keys, source.list(alloc, size)?),
-        Workload::PeekHit | Workload::RemoveRandom => held_keys(alloc, keys, order),
+        Workload::WalkAscending | Workload::WalkBackAscending => {
+            let Keys { coming, asked, .. } = ascending_keys(alloc, size)?;
+            held_keys(alloc, coming, asked)
+        }
+        Workload::RangesOf100 => {
+            order.truncate(size.div_ceil(100));
+            held_keys(alloc, keys, order)
+        }
+        Workload::PeekMiss | Workload::Nearest => {
+            held_keys(alloc, keys, source.list(alloc, size)?)
+        }
+        Workload::PeekHit
+        | Workload::RemoveRandom
+        | Workload::WalkRandom
+        | Workload::WalkBackRandom
+        | Workload::CloneAndDrop => held_keys(alloc, keys, order),
         Workload::UpsertRandom => Keys {
             held: keys,
             coming: order.clone()?,
@@ -186,6 +230,11 @@ pub fn run_numbers(
         Workload::RemoveRandom | Workload::RemoveMiddle => Ok(remove_all(index, asked)),
         Workload::CutBesideRetain | Workload::CutBesideSplitOff => Ok(cut(index, asked)),
         Workload::BuildAndDrop => insert_all(&mut TreeIndex::new(alloc), coming),
+        Workload::WalkAscending | Workload::WalkRandom => Ok(walk(index)),
+        Workload::WalkBackAscending | Workload::WalkBackRandom => Ok(walk_back(index)),
+        Workload::RangesOf100 => Ok(walk_ranges(index, asked)),
+        Workload::Nearest => Ok(locate_all(index, asked)),
+        Workload::CloneAndDrop => Ok(index.try_clone(alloc)?.len() as u64),
         _ => insert_all(index, coming),
     }
 }

@@ -1,0 +1,33 @@
+//! Worked look-ups that pass the pair to a reader.
+use crate::index_of;
+use std::alloc::{AllocError, Global};
+use std::process::Abort;
+use test_support::refusals::succeeds;
+
+/// Keys, what a reader that adds key and value returns, and how often it is called.
+static READS: [(u64, Option<u64>, u64); 2] = [(1, Some(11), 1), (2, None, 0)];
+
+/// The reader is called once with a pair that is present, and never for an absent key.
+fn reads_steps(rt: &impl Abort, alloc: Global) -> Result<(), AllocError> {
+    let index = index_of(alloc, &[(1, 10)])?;
+    for (key, sum, times) in &READS {
+        let mut calls = 0u64;
+        let peeked = index.peek_with(key, |key, value| {
+            calls = calls.saturating_add(1);
+            key.saturating_add(*value)
+        });
+        assert_eq!(rt; (peeked, calls), (*sum, *times));
+        let mut calls = 0u64;
+        let read = index.read_sync(key, |key, value| {
+            calls = calls.saturating_add(1);
+            key.saturating_add(*value)
+        });
+        assert_eq!(rt; (read, calls), (*sum, *times));
+    }
+    Ok(())
+}
+
+#[test]
+fn reads(rt: HostRuntime) {
+    assert!(rt; succeeds(|| reads_steps(&rt, rt.alloc())));
+}

@@ -1,0 +1,40 @@
+-- Clones that are appended in ascending order.
+use Rattle.std.proofs.Common.{◌≡◌, List, [], ◌∷◌, ◌++◌, None, refl, sym, ◌∙◌}
+use Rattle.std.specs.Cmp.{IsTotalOrder}
+use Rattle.std.specs.List.{AllByRecursion}
+use Rattle.std.specs.Ordering.{is_eq, is_gt, is_lt}
+use Rattle.std.specs.declared.cmp.Ordering.{Ordering}
+use Rattle.std.specs.declared.cmp.Ordering.TheVariants.{Less, Equal}
+use Rattle.tree_model.specs.Pairs.{AllLarger, pair_at, put}
+use Rattle.tree_model.proofs.Lists.{all-append, all_map, filter_all, filter_none, find_none}
+use Rattle.tree_model.proofs.Order.{alike_after}
+use Rattle.tree_index.specs.Copies.{AllSmaller}
+
+-- all is behind nothing
+pub behind_nothing : {K V : Type 0} (cmp : K → K → Ordering) (rest : List (K × V)) → AllByRecursion (λ pair. AllSmaller {V = V} cmp [] pair.0) rest
+behind_nothing cmp [] = tt
+behind_nothing cmp (pair ∷ rest) = (tt, behind_nothing cmp rest)
+
+-- a key behind all of a list is absent, and its pair goes behind it
+module _ {K V : Type 0} (cmp : K → K → Ordering) (l : List (K × V)) (k : K) (smaller : AllSmaller cmp l k) where
+  pub absent_behind : pair_at cmp l k ≡ None
+  absent_behind = find_none (λ pair. is_eq (cmp pair.0 k)) l (all_map (λ pair less. rw less refl) l smaller)
+
+  pub put_behind : (v : V) → put cmp l k v ≡ l ++ (k, v) ∷ []
+  put_behind v =
+      rw (
+        filter_all (λ pair. is_lt (cmp pair.0 k)) l (all_map (λ pair less. rw less refl) l smaller),
+        filter_none (λ pair. is_gt (cmp pair.0 k)) l (all_map (λ pair less. rw less refl) l smaller),
+      ) refl
+
+module _ {K V : Type 0} {cmp : K → K → Ordering} (o : IsTotalOrder cmp) where
+  -- a clone of the key is behind it too
+  pub clone_behind : (l : List (K × V)) (k clone : K) → cmp k clone ≡ Equal → AllSmaller cmp l k → AllSmaller cmp l clone
+  clone_behind l k clone same smaller = all_map (λ pair less. alike_after o k clone pair.0 Less same less) l smaller
+
+  -- what is copied stays smaller than the pairs that follow
+  pub behind_copied : (copied : List (K × V)) (k : K) (clone : K × V) → cmp k clone.0 ≡ Equal → (rest : List (K × V)) → AllLarger cmp k rest → AllByRecursion (λ pair. AllSmaller cmp copied pair.0) rest
+      → AllByRecursion (λ pair. AllSmaller cmp (copied ++ clone ∷ []) pair.0) rest
+  behind_copied copied k clone same [] larger smaller = tt
+  behind_copied copied k clone same (pair ∷ rest) larger smaller =
+      (all-append (λ earlier. cmp earlier.0 pair.0 ≡ Less) copied (clone ∷ []) smaller.0 (sym (o.congr k clone.0 pair.0 same) ∙ larger.0, tt), behind_copied copied k clone same rest larger.1 smaller.1)

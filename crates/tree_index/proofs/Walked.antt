@@ -1,0 +1,29 @@
+-- Cursors that take all pairs of an index.
+use Rattle.std.proofs.Common.{◌≡◌, Bool, true, false, Option, Some, None, List, [], ◌∷◌, Bor, refl, ◌∙◌}
+use Rattle.std.specs.Prelude.{is_some, not}
+use Rattle.std.specs.Cmp.Lexicographic.{pointwise}
+use Rattle.std.specs.List.{AllByRecursion}
+use Rattle.std.specs.declared.cmp.Ordering.{Ordering}
+use Rattle.std.specs.declared.ops.Bound.TheVariants.{Unbounded}
+use Rattle.tree_model.proofs.Lists.{filter_all}
+use Rattle.tree_leaf.specs.declared.leaf.stand.Way.TheVariants.{On}
+use Rattle.tree_leaf.specs.Rest.{TakesFirst}
+use Rattle.tree_cursor_model.specs.Cursor.{fresh}
+use Rattle.tree_cursor_model.specs.Rest.{rest}
+use Rattle.tree_ranges.proofs.Yields.{rest_fresh}
+
+all_pass : {X : Type 0} (xs : List X) → AllByRecursion (λ x. true ≡ true) xs
+all_pass [] = tt
+all_pass (x ∷ xs) = (refl, all_pass xs)
+
+module _ {K V : Type 0} where
+  -- a new cursor over all pairs has all of them left
+  pub all_left : (cmp : K → K → Ordering) (pairs : List (K × V)) → rest cmp On (fresh pairs Unbounded Unbounded) ≡ pairs
+  all_left cmp pairs = rest_fresh cmp (fresh pairs Unbounded Unbounded) (record { forward = refl; backward = refl }) On ∙ filter_all (λ pair. true) pairs (all_pass pairs)
+
+  -- where the first list has ended, the second agrees with it if it gives no pair
+  pub ends_both : (agree : K × V → K × V → Bool) (left right after : List (K × V)) (next : Option (Bor K × Bor V)) (none : Bool) → left ≡ [] → TakesFirst right next after → is_some next ≡ not none → none ≡ pointwise agree left right
+  ends_both agree left right after None true ended takes told = rw (ended, takes.0) refl
+  ends_both agree left right after None false ended takes told = absurd (cc)
+  ends_both agree left right after (Some pair) true ended takes told = absurd (cc)
+  ends_both agree left right after (Some pair) false ended takes told = rw (ended, takes) refl

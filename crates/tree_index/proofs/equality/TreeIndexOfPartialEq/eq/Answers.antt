@@ -1,0 +1,23 @@
+use Rattle.std.proofs.Common.{◌≡◌, false, nat_eq, min, sym, ap, ◌∙◌, arith}
+use Rattle.std.specs.Cmp.Lexicographic.{unequal}
+use Rattle.std.proofs.lemmas.Bool.Decides.{nat_tests}
+use Rattle.tree_node.proofs.Sizes.{fits}
+use Rattle.tree_index.proofs.Walked.{all_left}
+use Rattle.tree_index.proofs.equality.TreeIndexOfPartialEq.eq.Goals as goal
+
+pub iter-requires : goal.iter-requires
+iter-requires g c = (search fits, (search fits, (search fits, search fits)))
+
+pub iter-requires-then-len : goal.iter-requires-then-len
+iter-requires-then-len g c = (search fits, (search fits, (search fits, search fits)))
+
+pub are_same-requires : goal.are_same-requires
+are_same-requires g c = (search fits, (search fits, (search fits, (rw c.iter.ensures tt, rw c.iter-then-len.ensures tt))))
+
+pub returns-then-len : goal.returns-then-len
+returns-then-len g c = rw (c.iter.ensures, c.iter-then-len.ensures, all_left g.K.Ord.cmp c.args.self.now.pairs, all_left g.K.Ord.cmp c.args.other.now.pairs) at c.are_same.ensures
+
+pub returns-else-len : goal.returns-else-len
+returns-else-len g c =
+    let differ : nat_eq c.len.result c.len-2.result ≡ false = grind (arith, nat_tests) in
+    rw differ (sym (unequal _ _ _ (λ same. c.if-len.false (c.len.ensures ∙ ap (λ n. min n 18446744073709551615) same ∙ sym c.len-2.ensures))))

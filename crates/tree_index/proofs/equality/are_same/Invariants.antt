@@ -1,0 +1,20 @@
+use Rattle.std.proofs.Common.{◌≡◌}
+use Rattle.std.specs.Prelude.{◌&&◌}
+use Rattle.std.specs.Cmp.Lexicographic.{pointwise}
+use Rattle.tree_leaf.specs.declared.leaf.stand.Way.TheVariants.{On}
+use Rattle.tree_cursor_model.specs.Rest.{HasBegun, rest}
+use Rattle.tree_ranges.specs.Ranged.{moves_left}
+use Rattle.tree_index.proofs.equality.are_same.Given as goal
+
+-- what is left agrees where all did
+abbrev pub invariant-loop-pair : goal.invariant-loop-pair
+invariant-loop-pair g l =
+    let agree = pointwise (λ p q. g.K.PartialEq.eq p.0 q.0 && g.V.PartialEq.eq p.1 q.1) in
+    record {
+      first : HasBegun g.K.Ord.cmp On l.left;
+      second : HasBegun g.K.Ord.cmp On l.right;
+      same : agree (rest g.K.Ord.cmp On l.left) (rest g.K.Ord.cmp On l.right) ≡ agree (rest g.K.Ord.cmp On l.initial.left) (rest g.K.Ord.cmp On l.initial.right);
+    }
+
+abbrev pub decreases-loop-pair : goal.decreases-loop-pair
+decreases-loop-pair g l = moves_left l.left
