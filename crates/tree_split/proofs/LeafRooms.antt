@@ -6,6 +6,7 @@ use Rattle.std.specs.Cmp.{IsTotalOrder}
 use Rattle.slab.specs.Slab.{get, with_value, HasRoomFor}
 use Rattle.slab.proofs.SlabLemmas.{Updates-with_value}
 use Rattle.tree_array.specs.Arrivals.{Arrivals, in_order}
+use Rattle.tree_array.specs.Insertion.{HasRoom}
 use Rattle.tree_array.specs.Length.{limit}
 use Rattle.tree_array.specs.Sound.{IsSound}
 use Rattle.tree_leaf.specs.declared.leaf.LeafOf.{LeafOf}
@@ -19,13 +20,13 @@ use Rattle.tree_node.specs.Arenas.{TreeArenas}
 use Rattle.tree_node.specs.Parts.{IsPart, PutsChild, Unchanged}
 use Rattle.tree_packed.specs.Packed.{IsPacked}
 use Rattle.tree_packed.proofs.Edges.{edge_below, last_child}
-use Rattle.tree_split.specs.Splits.{GivesAll, HasMadeRoom, IsCut, KeepsPacked, low_part}
+use Rattle.tree_split.specs.Splits.{GivesAll, GivesFirst, HasMadeRoom, IsCut, KeepsPacked, SharesEntries, is_at, is_last, leaf_part, low_part}
 use Rattle.tree_node.specs.Shape.{room}
 use Rattle.tree_node.specs.Tree.{IsAbove, IsUpTo, HasChildFor, HasKind, LeafStands, Stands, keyed, unbounded, child_at, is_from, leaf_entries}
 use Rattle.tree_node.proofs.ChildChanges.{child_part}
 use Rattle.tree_node.proofs.Children.{child_stands}
-use Rattle.tree_split.proofs.LeafSplits.{IsBetween, edge_left, high_room, leaf_splits_low, low_full, low_room, separator_smaller}
-use Rattle.tree_node.proofs.LeafWrites.{with_array, array_replaces}
+use Rattle.tree_split.proofs.LeafSplits.{IsBetween, edge_left, entries_given, high_room, leaf_splits_low, low_full, low_room, separator_smaller}
+use Rattle.tree_node.proofs.LeafWrites.{with_array, array_replaces, here_now}
 use Rattle.tree_split.proofs.LowSplits.{GainsLow, SplitsLow, absent_here, gains_low}
 use Rattle.tree_split.proofs.PackedSplits.{all_given, packed_split}
 use Rattle.tree_node.proofs.Standing.{node_is}
@@ -84,10 +85,24 @@ module _ {K V : Type 0} {LEN : ℕ} {cmp : K → K → Ordering} (o : IsTotalOrd
     place : IsForKey cmp key (keyed node).entries stood.last
     place = place_for o key (keyed node).entries stood.last
 
+    -- the node takes one more
+    pub room_there : HasRoom LEN (keyed node) → 0 < room 1 old id
+    room_there some = rw (was_node, last_is, some.1) some.0
+
+    -- its leaf gave so many first entries to a new one
+    pub entries_parted : (new : TreeArenas K V LEN) (leaf : LeafOf K V LEN) → get old.leaves x ≡ Some leaf → (last : Bool) → last ≡ is_at (unbounded node) x → (count : ℕ) → count ≡ low_part cmp LEN last leaf.array key → HasRoom LEN (keyed node)
+        → GivesFirst old new x count → SharesEntries cmp old new id x key
+    entries_parted new leaf was last is count rule some gives =
+        let same : count ≡ leaf_part cmp (is_last (get old.nodes id) x) (get old.leaves x) key = rw (was_node, was, ← is) rule in
+        inr (room_there some, rw same at gives)
+
     goes : child_at (is_from cmp key) (keyed node).entries stood.last ≡ x
     goes = let routed : Some (child_at (is_from cmp key) (keyed node).entries stood.last) ≡ Some x = rw (was_node, last_is) at which in cc
 
     -- the leaf is built anew
+    pub entries_kept : (leaf : LeafOf K V LEN) → get old.leaves x ≡ Some leaf → length leaf.array.entries ≤ limit LEN → SharesEntries cmp old (with_array old x leaf (in_order leaf.array.entries)) id x key
+    entries_kept leaf was few = inl (rw was few, rw (was, here_now old x leaf (in_order leaf.array.entries) was) refl)
+
     pub leaf_room_by_rebuild : (leaf : LeafOf K V LEN) → get old.leaves x ≡ Some leaf → IsSound cmp LEN leaf.array → length leaf.array.entries ≤ limit LEN
         → HasMadeRoom cmp 1 old (with_array old x leaf (in_order leaf.array.entries)) id key
     leaf_room_by_rebuild leaf was sound few =
@@ -155,6 +170,9 @@ module _ {K V : Type 0} {LEN : ℕ} {cmp : K → K → Ordering} (o : IsTotalOrd
         (low_full o old reserved mid x y count leaf high low pair separator key same there high_is low_is gains last_low cloned cut_here edge few all)
         (edge_left o old reserved mid x y count leaf high low pair separator key same there high_is low_is gains last_low cloned cut_here edge few all)
         (separator_smaller o old reserved mid x y count leaf high low pair separator key same there high_is low_is gains last_low cloned cut_here edge few all)
+
+    pub entries_shared : GivesFirst old mid x count
+    entries_shared = entries_given o old reserved mid x y count leaf high low pair separator key same there high_is low_is gains last_low cloned cut_here
 
     pub leaf_room_by_split : GivesAll cmp old id x count key → (node' : NodeOf K LEN) → PutsChild cmp node node' separator y → HasMadeRoom cmp 1 old (record mid { nodes = with_value mid.nodes id node' }) id key
     leaf_room_by_split gives node' puts =

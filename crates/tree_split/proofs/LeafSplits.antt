@@ -22,12 +22,12 @@ use Rattle.tree_node.specs.Parts.{Replaces, Unchanged}
 use Rattle.tree_node.specs.Shape.{room, spare}
 use Rattle.tree_packed.specs.Packed.{IsPacked}
 use Rattle.tree_packed.proofs.Arrays.{packed_in_order}
-use Rattle.tree_split.specs.Splits.{IsCut}
-use Rattle.tree_node.specs.Tree.{IsAbove, IsBelow, IsUpTo, LeafStands, is_from, walk}
+use Rattle.tree_split.specs.Splits.{GivesFirst, IsCut}
+use Rattle.tree_node.specs.Tree.{IsAbove, IsBelow, IsUpTo, LeafStands, is_from, leaf_entries, walk}
 use Rattle.tree_node.proofs.Children.{walk-leaf}
 use Rattle.tree_node.proofs.Cuts.{all_front, all_behind, ascending_front, ascending_behind, smaller_front, cut_whole, cut_with}
 use Rattle.tree_node.proofs.LeafSpares.{spare_anew, spare_beside}
-use Rattle.tree_node.proofs.LeafWrites.{with_array, here_now, array_replaces}
+use Rattle.tree_node.proofs.LeafWrites.{with_array, here_now, array_replaces, updated}
 use Rattle.tree_split.proofs.LowSplits.{SplitsLow}
 use Rattle.tree_split.proofs.PackedSplits.{one_power}
 use Rattle.tree_node.proofs.Order.{less_upto, upto_from_less}
@@ -217,6 +217,24 @@ module _ {K V : Type 0} {LEN : ℕ} {cmp : K → K → Ordering} (o : IsTotalOrd
             let smaller = (all_behind (λ p. cmp p.0 key ≡ Less) lower (pair ∷ upper) (rw whole at beyond)).0 in
             let less = alike o separator pair.0 key Less (o.antisymm separator pair.0 ∙ rw cloned refl) smaller in
             absurd (let no = rw less at from in cc)
+
+  -- the new leaf has the first entries
+  pub entries_given : GivesFirst old mid x count
+  entries_given = (
+    y,
+    sym (same.leaves y) ∙ sym ((updated reserved x leaf high there).others y (λ at_x. not_x (sym at_x))) ∙ gains.was_free,
+    rw (gains.here, low_is) (omega (arith, length-take count leaf.array.entries, cut.within)),
+    whole_now ∙ sym (take-append-drop count leaf.array.entries) ∙ sym (rw (low_now, high_now) refl),
+  )
+    where
+      whole_now : leaf_entries old.leaves x ≡ leaf.array.entries
+      whole_now = rw was refl
+
+      low_now : leaf_entries mid.leaves y ≡ take count leaf.array.entries
+      low_now = rw gains.here (ap (λ (a : Arrivals K V). a.entries) low_is)
+
+      high_now : leaf_entries mid.leaves x ≡ drop count leaf.array.entries
+      high_now = rw high_here.1 (ap (λ (a : Arrivals K V). a.entries) high_here.2 ∙ high_entries)
 
   -- all its entries go from the last leaf of a packed part
   module _ (e : IsPacked cmp (Some key) 0 old x) (few : length leaf.array.entries ≤ LEN) (all : count ≡ LEN) where

@@ -27,7 +27,7 @@ use Rattle.tree_node.proofs.Children.{stands_free_low, stands_free_high}
 use Rattle.tree_node.proofs.Lifts.{grouped_as, leaves_are, node_times, single_leaves, single_nodes}
 use Rattle.tree_split.proofs.LowSplits.{GainsLow, SplitsLow, absent_here, gains_low}
 use Rattle.tree_node.proofs.Standing.{node_is}
-use Rattle.tree_split.proofs.NodeSplits.{children_shared, edge_left, high_node_room, low_full, low_node_room, node_splits_low, separator_smaller}
+use Rattle.tree_split.proofs.NodeSplits.{children_given, children_shared, edge_left, high_node_room, low_full, low_node_room, node_splits_low, separator_smaller}
 use Rattle.tree_split.proofs.PackedSplits.{packed_split}
 use Rattle.tree_node.proofs.Places.{IsAt, child_between, high_at, later_children, low_at, place_of}
 use Rattle.tree_split.proofs.Rebuilds.{among, node_rebuilt, same_children, split_by_rebuild}
@@ -35,7 +35,7 @@ use Rattle.tree_node.proofs.Unchanged.{unchanged_by_keeping}
 
 -- a child was split where the separator fits between all bounds
 child_split : {K V : Type 0} {LEN : ℕ} {cmp : K → K → Ordering} {Within : Option K → Option K → Type 0} (level : ℕ) (old mid new : TreeArenas K V LEN) (id x y : ℕ) (separator : K) → GainsLow cmp Within level old mid new id x y separator
-    → ((low high : Option K) → Within low high) → 0 < room level mid y → 0 < room level mid x → SharesChildren (suc level) old new id x → ((key : K) → KeepsPacked cmp (suc level) old new id x key) → SplitsChild cmp (suc level) old new id x
+    → ((low high : Option K) → Within low high) → 0 < room level mid y → 0 < room level mid x → SharesChildren cmp (suc level) old new id x → ((key : K) → KeepsPacked cmp (suc level) old new id x key) → SplitsChild cmp (suc level) old new id x
 child_split {K = K} {cmp = cmp} level old mid new id x y separator gains fits low_room high_room shares packed = record {
   shares = shares;
   packed = packed;
@@ -196,13 +196,14 @@ module _ {K V : Type 0} {LEN : ℕ} {cmp : K → K → Ordering} (o : IsTotalOrd
       y_not_parent : y ≡ parent → ⊥
       y_not_parent same_id = let none : get old.nodes parent ≡ None = rw (sym same_id) was_free in let some = stood.here in cc
 
-      shared : (above' : NodeOf K LEN) → HasRoom LEN (keyed above) → SharesChildren (suc (suc level)) old (record mid { nodes = with_value mid.nodes parent above' }) parent x
+      shared : (above' : NodeOf K LEN) → HasRoom LEN (keyed above) → SharesChildren cmp (suc (suc level)) old (record mid { nodes = with_value mid.nodes parent above' }) parent x
       shared above' some =
           let update = Updates-with_value mid.nodes parent above' (rw is_above refl) in
           inr (
             room_there some,
             y,
             was_free,
+            rw (update.others y y_not_parent, was_child, ← rule) (children_given o level old mid x y separator child_part node low high was_child was_free gains.updates.changed high_here others (λ n. rw leaves (same.leaves n)) place cuts within),
             rw (update.others y y_not_parent, update.others x (λ same_id. not_parent (sym same_id)))
                 (children_shared o level old mid x y separator child_part node low high was_child was_free gains.updates.changed high_here others (λ n. rw leaves (same.leaves n)) place cuts),
           )

@@ -242,6 +242,19 @@ module _ {K V : Type 0} {LEN : ℕ} {cmp : K → K → Ordering} (o : IsTotalOrd
   }
 
   module _ (within : place < length (keyed node).entries) where
+    -- the new one has those up to the one at the place
+    pub children_given : length (children_of new.nodes y) ≡ suc place
+    children_given =
+        rw y_children (
+        omega (
+          arith,
+          within,
+          length-append (map (λ (c : K × ℕ). c.1) lower) (cuts.middle ∷ []),
+          length-map lower (λ c. c.1),
+          length-take place (keyed node).entries,
+        )
+        )
+
     few_here : length (keyed node).entries ≤ LEN
     few_here = few_entries None None stood
 

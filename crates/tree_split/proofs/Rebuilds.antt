@@ -127,7 +127,7 @@ module _ {K V : Type 0} {LEN : ℕ} {cmp : K → K → Ordering} (o : IsTotalOrd
     packed = λ child. not_packed key child which;
   }
 
-  pub split_by_rebuild : SharesChildren (suc level) old new id x → SplitsChild cmp (suc level) old new id x
+  pub split_by_rebuild : SharesChildren cmp (suc level) old new id x → SplitsChild cmp (suc level) old new id x
   split_by_rebuild shares = record {
     shares = shares;
     pairs = same_pairs;

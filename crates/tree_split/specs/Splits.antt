@@ -1,5 +1,5 @@
 -- What making room in a part leaves: a child that has none gives its lower part to a new child before it, or is built anew.
-use Rattle.std.specs.Prelude.{◌≡◌, ◌⊎◌, ℕ, suc, ◌+◌, ◌-◌, ◌<◌, ◌≤◌, ◌&&◌, Bool, true, false, List, [], ◌∷◌, ◌++◌, take, drop, length, Option, Some, None, slice_get, if◌then◌else◌}
+use Rattle.std.specs.Prelude.{◌≡◌, ◌⊎◌, ℕ, suc, ◌+◌, ◌-◌, ◌<◌, ◌≤◌, ◌==◌, ◌&&◌, Bool, true, false, List, [], ◌∷◌, ◌++◌, take, drop, length, Option, Some, None, slice_get, if◌then◌else◌}
 use Rattle.std.specs.List.{AllByRecursion}
 use Rattle.std.specs.declared.cmp.Ordering.{Ordering}
 use Rattle.std.specs.declared.cmp.Ordering.TheVariants.{Less}
@@ -7,10 +7,11 @@ use Rattle.std.specs.Ordering.{is_lt}
 use Rattle.slab.specs.Slab.{get}
 use Rattle.tree_array.specs.Arrivals.{Arrivals, boundary, in_order}
 use Rattle.tree_array.specs.Length.{limit}
+use Rattle.tree_leaf.specs.declared.leaf.LeafOf.{LeafOf}
 use Rattle.tree_leaf.specs.Counting.{times}
 use Rattle.tree_node.specs.declared.node.NodeOf.{NodeOf}
 use Rattle.tree_node.specs.Arenas.{TreeArenas}
-use Rattle.tree_node.specs.Tree.{IsAbove, IsUpTo, HasChildFor, HasKind, Stands, keyed, unbounded, children_of, walk}
+use Rattle.tree_node.specs.Tree.{IsAbove, IsUpTo, HasChildFor, HasKind, Stands, keyed, unbounded, children_of, leaf_entries, walk}
 use Rattle.tree_node.specs.Parts.{KeepsBounds, Replaces, Unchanged}
 use Rattle.tree_node.specs.Shape.{held, room, slot_keyed, spare}
 use Rattle.tree_packed.specs.Packed.{IsPacked}
@@ -21,11 +22,18 @@ pub record LacksRoom {K V : Type 0} {LEN : ℕ} (level : ℕ) (old new : TreeAre
   pub many : limit LEN < held (level - 1) old target
   pub unchanged : Unchanged old new
 
--- The child was built anew over its children, of which it had few; or its parent had room, and a new node got the first of them.
-abbrev pub SharesChildren : {K V : Type 0} {LEN : ℕ} → ℕ → TreeArenas K V LEN → TreeArenas K V LEN → ℕ → ℕ → Type 0
-SharesChildren {LEN = LEN} level old new parent target =
+-- the boundary of a node's array
+abbrev pub node_boundary : {K : Type 0} {LEN : ℕ} → (K → K → Ordering) → Option (NodeOf K LEN) → ℕ
+node_boundary cmp None = 0
+node_boundary {LEN = LEN} cmp (Some node) = (boundary cmp LEN (keyed node)).0
+
+-- The child was built anew over its children, of which it had few; or its parent had room, and a new node got the first of them, up to the one at the boundary.
+abbrev pub SharesChildren : {K V : Type 0} {LEN : ℕ} → (K → K → Ordering) → ℕ → TreeArenas K V LEN → TreeArenas K V LEN → ℕ → ℕ → Type 0
+SharesChildren {LEN = LEN} cmp level old new parent target =
     ((held (level - 1) old target ≤ limit LEN) × (children_of new.nodes target ≡ children_of old.nodes target))
-    ⊎ ((0 < room level old parent) × (low : ℕ) × (get old.nodes low ≡ None) × (children_of old.nodes target ≡ children_of new.nodes low ++ children_of new.nodes target))
+    ⊎ ((0 < room level old parent)
+    × (low : ℕ) × (get old.nodes low ≡ None) × (length (children_of new.nodes low) ≡ suc (node_boundary cmp (get old.nodes target)))
+    × (children_of old.nodes target ≡ children_of new.nodes low ++ children_of new.nodes target))
 
 module _ {K V : Type 0} {LEN : ℕ} (cmp : K → K → Ordering) where
   -- A part that is packed, with the key beyond its edge, stays so where the key's child was full, and has a keyed child more.
@@ -60,7 +68,7 @@ module _ {K V : Type 0} {LEN : ℕ} (cmp : K → K → Ordering) where
     pub spends : room level old parent ≤ suc (room level new parent)
     pub roomy : 0 < room (level - 1) new target
     -- the child's children stand in one node or two
-    pub shares : SharesChildren level old new parent target
+    pub shares : SharesChildren cmp level old new parent target
     -- a child that the parent didn't have before
     pub gained : (child : ℕ) → 0 < times child (children_of new.nodes parent) → times child (children_of old.nodes parent) ≡ 0 → 0 < room (level - 1) new child
     -- a key that belonged to the child belongs to one with room
@@ -104,6 +112,31 @@ abbrev pub low_part : {K V : Type 0} → (K → K → Ordering) → ℕ → Bool
 low_part cmp len last array key =
     let cut = boundary cmp len array in
     if last && (cut.2 && is_beyond cmp key array.entries) then cut.1 else cut.0
+
+-- whether this is the unbounded child
+abbrev pub is_at : Option ℕ → ℕ → Bool
+is_at None child = false
+is_at (Some last) child = last == child
+
+abbrev pub is_last : {K : Type 0} {LEN : ℕ} → Option (NodeOf K LEN) → ℕ → Bool
+is_last None child = false
+is_last (Some node) child = is_at (unbounded node) child
+
+-- how many first entries of the leaf part from the others for a key
+abbrev pub leaf_part : {K V : Type 0} {LEN : ℕ} → (K → K → Ordering) → Bool → Option (LeafOf K V LEN) → K → ℕ
+leaf_part cmp last None key = 0
+leaf_part {LEN = LEN} cmp last (Some leaf) key = low_part cmp LEN last leaf.array key
+
+-- a new leaf got so many first entries
+abbrev pub GivesFirst : {K V : Type 0} {LEN : ℕ} → TreeArenas K V LEN → TreeArenas K V LEN → ℕ → ℕ → Type 0
+GivesFirst old new target count =
+    (low : ℕ) × (get old.leaves low ≡ None) × (length (leaf_entries new.leaves low) ≡ count) × (leaf_entries old.leaves target ≡ leaf_entries new.leaves low ++ leaf_entries new.leaves target)
+
+-- The leaf was built anew with its entries, of which it had few; or its node had room, and a new leaf got the first of them, by the rule.
+abbrev pub SharesEntries : {K V : Type 0} {LEN : ℕ} → (K → K → Ordering) → TreeArenas K V LEN → TreeArenas K V LEN → ℕ → ℕ → K → Type 0
+SharesEntries {LEN = LEN} cmp old new id target key =
+    ((held 0 old target ≤ limit LEN) × (leaf_entries new.leaves target ≡ leaf_entries old.leaves target))
+    ⊎ ((0 < room 1 old id) × GivesFirst old new target (leaf_part cmp (is_last (get old.nodes id) target) (get old.leaves target) key))
 
 -- the last leaf of a packed part gives all its entries, where it is full and the key is beyond them
 abbrev pub GivesAll : {K V : Type 0} {LEN : ℕ} → (K → K → Ordering) → TreeArenas K V LEN → ℕ → ℕ → ℕ → K → Type 0

@@ -8,7 +8,7 @@ ghost use Rattle.tree_array.specs.Length.{IsLen, limit};
 ghost use Rattle.tree_array.specs.Sound.{IsSound};
 ghost use Rattle.tree_model.specs.Pairs.{IsAbsent};
 ghost use Rattle.tree_node.specs.Parts.{IsPart, PutsChild, Unchanged};
-ghost use Rattle.tree_split.specs.Splits.{GivesAll, HasMadeRoom, IsCut, RoomResult, is_beyond as all_smaller, low_part};
+ghost use Rattle.tree_split.specs.Splits.{GivesAll, GivesFirst, HasMadeRoom, IsCut, RoomResult, SharesEntries, is_beyond as all_smaller, low_part};
 ghost use Rattle.tree_node.specs.Tree.{HasChildFor, HasKind, keyed, leaf_entries};
 
 use crate::keyed_children::put_keyed;
@@ -42,6 +42,7 @@ pub fn make_room<K: IndexKey, V: Drop, const LEN: usize>(
     ensures done { IfOk result (λ made. RoomResult K.cmp made 1 arenas.old arenas.new id target key.now) }
     ensures err { OnErr result (Unchanged arenas.old arenas.new) }
     ensures many { OnErr result (limit LEN < length (leaf_entries arenas.old.leaves target)) }
+    ensures shares { IfOk result (λ made. IsTrue made → SharesEntries K.cmp arenas.old arenas.new id target key.now) }
 {
     let NodeOf::Leaf(node) = arenas.node(id) else {
         unreachable!()
@@ -108,6 +109,7 @@ fn split_leaf<K: IndexKey, V: Drop, const LEN: usize>(
     requires cut { (key : K) × HasChildFor K.cmp key (get arenas.old.nodes id) target × IsCut K.cmp key count (leaf_entries arenas.old.leaves target) }
     requires room { (node : _) → get arenas.old.nodes id ≡ Some node → HasRoom LEN (keyed node) }
     ensures done { IfOk result (λ _. (key : K) → HasChildFor K.cmp key (get arenas.old.nodes id) target → IsCut K.cmp key count (leaf_entries arenas.old.leaves target) → GivesAll K.cmp arenas.old id target count key → HasMadeRoom K.cmp 1 arenas.old arenas.new id key) }
+    ensures shares { IfOk result (λ _. GivesFirst arenas.old arenas.new target count) }
     ensures err { OnErr result (Unchanged arenas.old arenas.new) }
 {
     let separator = separator_at(arenas.leaf(target).array(), count - 1)?;

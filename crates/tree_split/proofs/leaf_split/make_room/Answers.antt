@@ -1,11 +1,12 @@
-use Rattle.std.proofs.Common.{rules, ◌≡◌, ◌∙◌, ◌<◌, ◌≤◌, ◌==◌, ℕ, true, length, arith, Some, refl, sym, ap}
+use Rattle.std.proofs.Common.{rules, ◌≡◌, ◌∙◌, ◌<◌, ◌≤◌, ◌==◌, ℕ, true, length, arith, Option, None, Some, refl, sym, ap}
 use Rattle.std.proofs.lemmas.Bool.Decides.{nat_tests}
+use Rattle.std.specs.Option.{option_eq}
 use Rattle.tree_array.specs.Length.{limit}
 use Rattle.tree_array.specs.Sound.{IsSound}
 use Rattle.tree_node.specs.declared.node.NodeOf.TheVariants.{Leaf}
-use Rattle.tree_split.specs.Splits.{IsCut, low_part}
+use Rattle.tree_split.specs.Splits.{IsCut, is_at, low_part}
 use Rattle.tree_split.proofs.Fulls.{full_room, not_full_room}
-use Rattle.tree_split.proofs.LeafRooms.{gives_all, leaf_room_by_rebuild, leaf_used}
+use Rattle.tree_split.proofs.LeafRooms.{entries_kept, entries_parted, gives_all, leaf_room_by_rebuild, leaf_used}
 use Rattle.tree_split.proofs.Results.{on_err, same_value}
 use Rattle.tree_node.proofs.Sizes.{fits}
 use Rattle.tree_split.proofs.leaf_split.make_room.Goals as goal
@@ -79,3 +80,23 @@ pub returns-in_err-split_leaf-clause-many : goal.returns-in_err-split_leaf-claus
 returns-in_err-split_leaf-clause-many g c =
     let many : limit g.row.LEN < length c.leaf.result.now.array.entries = rw c.array.ensures at c.in-Some.ensures.cut.0 in
     on_err c.from_residual.result (rw c.leaf.ensures many)
+
+-- the leaf is the unbounded child where the node says so
+told_last : (found : Option ℕ) (child : ℕ) → option_eq ◌==◌ found (Some child) ≡ is_at found child
+told_last None child = refl
+told_last (Some last) child = refl
+
+pub returns-in_default-low_count-clause-shares : goal.returns-in_default-low_count-clause-shares
+returns-in_default-low_count-clause-shares g c = λ made.
+    let read : c.leaf.result.now ≡ c.leaf_mut.result.now = same_value _ _ (sym c.leaf.ensures ∙ c.leaf_mut.ensures.value) in
+    let few : length c.leaf_mut.result.now.array.entries ≤ limit g.row.LEN = rw (c.array.ensures, read) at c.in_default-low_count.ensures.cut in
+    rw (c.rebuild.ensures, c.array_mut.ensures.value)
+    (entries_kept g.met.K.Ord.total c.args.arenas.now c.args.id c.args.target c.args.key.now c.requires.part c.requires.child _ c.node.ensures c.leaf_mut.result.now c.leaf_mut.ensures.value few)
+
+pub returns-clause-shares : goal.returns-clause-shares
+returns-clause-shares g c = λ made.
+    let rule : c.in-Some.count ≡ low_part g.K.Ord.cmp g.row.LEN c.eq-last.result c.leaf.result.now.array c.args.key.now = rw c.array.ensures at c.in-Some.ensures.rule in
+    let last : c.eq-last.result ≡ is_at c.in-Leaf.node.unbounded_child c.args.target = c.eq-last.ensures ∙ told_last c.in-Leaf.node.unbounded_child c.args.target in
+    let some = not_full_room (Leaf c.in-Leaf.node) (λ full. let yes = c.is_full-full.ensures.1 full in let no = c.if-full.false in cc) in
+    entries_parted g.met.K.Ord.total c.args.arenas.now c.args.id c.args.target c.args.key.now c.requires.part c.requires.child (Leaf c.in-Leaf.node) (c.node.ensures ∙ ap Some c.in-Leaf.is)
+    c.split_leaf.new.arenas c.leaf.result.now c.leaf.ensures c.eq-last.result last c.in-Some.count rule some c.in_ok-split_leaf.ensures.shares
