@@ -143,8 +143,8 @@ pub fn scene_of_numbers(
             middle_keys(alloc, &mut source, size)?
         }
         Workload::WalkAscending | Workload::WalkBackAscending => {
-            let Keys { coming, asked, .. } = ascending_keys(alloc, size)?;
-            held_keys(alloc, coming, asked)
+            let asked = ascending(alloc, 0, size)?;
+            held_keys(alloc, asked.clone()?, asked)
         }
         Workload::RangesOf100 => {
             order.truncate(size.div_ceil(100));
