@@ -3,6 +3,7 @@ pub mod Decimals
 pub mod Spellings
 pub mod Names
 pub mod Writes
+pub mod Pieces
 pub mod Scripts
 pub mod Steps
 pub mod Endings

@@ -1,7 +1,7 @@
 //! Writes pairs out of an index, one by one.
-ghost use Rattle.std.specs.Prelude.{◌≡◌, ◌++◌, Bool, if◌then◌else◌, [], ◌∷◌, reverse};
-ghost use Rattle.tree_lines.specs.Lines.{inside, near_text, pair_text, pairs_text, with_feed};
-ghost use Rattle.tree_lines.specs.Pairs.{parted_text, told_text};
+ghost use Rattle.std.specs.Prelude.{◌≡◌, ◌++◌, Bool, if◌then◌else◌, [], ◌∷◌, map, reverse};
+ghost use Rattle.tree_lines.specs.Lines.{behind_spaces, inside, near_text, pair_text, pairs_text, with_feed};
+ghost use Rattle.tree_lines.specs.Pairs.{listed, parted_text, told_text};
 ghost use Rattle.tree_lines.specs.Writing.{Writes};
 ghost use Rattle.tree_cursor_model.specs.Rest.{lent};
 
@@ -23,9 +23,8 @@ pub fn write_ascending<W: Write>(
     ensures { Writes (with_feed (pairs_text (inside low high index.now.pairs)))
         (W.contents output.old) (W.contents output.new) result }
 {
-    let mut pairs = index.range((low.as_ref(), high.as_ref()));
     let mut is_first = true;
-    while let Some((key, value)) = pairs.next() {
+    for (key, value) in index.range((low.as_ref(), high.as_ref())) {
         write_pair(output, is_first, *key, *value)?;
         is_first = false;
     }
@@ -80,17 +79,24 @@ fn write_told<W: Write>(
     first: Option<(&u64, &u64)>,
     second: Option<(&u64, &u64)>,
 ) -> Result<(), WriteFailed>
-    ensures { Writes (with_feed (told_text word.now (lent first) (lent second)))
+    ensures { Writes (with_feed (told_text word.now (lent first.entry) (lent second.entry)))
         (W.contents output.old) (W.contents output.new) result }
 {
     write_whole(output, word)?;
-    if let Some((key, value)) = first {
-        write_pair(output, false, *key, *value)?;
-    }
-    if let Some((key, value)) = second {
-        write_pair(output, false, *key, *value)?;
-    }
+    write_if_any(output, first)?;
+    write_if_any(output, second)?;
     write_whole(output, b"\n")
+}
+
+// Writes a pair behind a space, or nothing if there is none.
+fn write_if_any<W: Write>(output: &mut W, pair: Option<(&u64, &u64)>) -> Result<(), WriteFailed>
+    ensures { Writes (behind_spaces (map pair_text (listed (lent pair.entry))))
+        (W.contents output.old) (W.contents output.new) result }
+{
+    match pair {
+        Some((key, value)) => write_pair(output, false, *key, *value),
+        None => Ok(()),
+    }
 }
 
 // Writes a pair, behind a space unless it is the first of its line.
