@@ -4,6 +4,7 @@ pub mod Spellings
 pub mod Names
 pub mod Writes
 pub mod Pieces
+pub mod Located
 pub mod Scripts
 pub mod Steps
 pub mod Endings
