@@ -1,9 +1,7 @@
-use Rattle.std.proofs.Common.{List, ℕ, sym, subst, ◌∙◌}
+use Rattle.std.proofs.Common.{sym, subst, ◌∙◌}
 use Rattle.std.specs.Ordering.{nat_cmp}
 use Rattle.tree_model.specs.Pairs.{IsAscending}
 use Rattle.tree_cursor_model.specs.declared.proximity.ProximityOf.TheVariants.{Exact, Between, Smaller, Larger}
-use Rattle.tree_lines.specs.Lines.{with_feed}
-use Rattle.tree_lines.specs.Writing.{Writes}
 use Rattle.tree_lines.proofs.Located.{tells_near}
 use Rattle.tree_lines.proofs.pairs.write_near.Goals as goal
 
