@@ -3,6 +3,8 @@ pub mod Decimals
 pub mod Spellings
 pub mod Names
 pub mod Writes
+pub mod Pieces
+pub mod Located
 pub mod Scripts
 pub mod Steps
 pub mod Endings

@@ -6,7 +6,7 @@ use Rattle.std.specs.Str.{bytes_eq}
 use Rattle.std.specs.declared.ops.Bound.{Bound}
 use Rattle.std.proofs.lemmas.Slice.Eq.{bytes_eq-Decides}
 use Rattle.tree_lines.specs.declared.requests.Request.{Request}
-use Rattle.tree_lines.specs.declared.requests.Request.TheVariants.{Insert, Upsert, Remove, RemoveIf, RemoveRange, Clear, Peek, Contains, Len, Depth, Spare}
+use Rattle.tree_lines.specs.declared.requests.Request.TheVariants.{Insert, Upsert, Remove, RemoveIf, RemoveRange, Clear, Peek, Contains, Len, Depth, Spare, Iter, Back, Range, Locate}
 use Rattle.tree_lines.specs.Lines.{name_of}
 
 -- texts that differ somewhere are not equal
@@ -41,3 +41,11 @@ module _ (P : Request → Type 0) where
   pub only_contains : ((key : ℕ) → P (Contains key)) → (request : Request) → name_of request ≡ codes "contains" → P request
   only_contains each (Contains key) named = each key
   only_contains each request named = apart (name_of request) (codes "contains") refl named
+
+  pub only_range : ((low high : Bound ℕ) → P (Range low high)) → (request : Request) → name_of request ≡ codes "range" → P request
+  only_range each (Range low high) named = each low high
+  only_range each request named = apart (name_of request) (codes "range") refl named
+
+  pub only_locate : ((key : ℕ) → P (Locate key)) → (request : Request) → name_of request ≡ codes "locate" → P request
+  only_locate each (Locate key) named = each key
+  only_locate each request named = apart (name_of request) (codes "locate") refl named

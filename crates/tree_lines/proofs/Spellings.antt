@@ -10,7 +10,7 @@ use mathlib.Core.Bool.{false≢true}
 use Rattle.std.proofs.lemmas.Bool.Decides.{nat_tests}
 use Rattle.std.proofs.lemmas.Slice.Eq.{bytes_eq-Decides}
 use Rattle.tree_lines.specs.declared.requests.Request.{Request}
-use Rattle.tree_lines.specs.declared.requests.Request.TheVariants.{Insert, Upsert, Remove, RemoveIf, RemoveRange, Clear, Peek, Contains, Len, Depth, Spare}
+use Rattle.tree_lines.specs.declared.requests.Request.TheVariants.{Insert, Upsert, Remove, RemoveIf, RemoveRange, Clear, Peek, Contains, Len, Depth, Spare, Iter, Back, Range, Locate}
 use Rattle.tree_lines.specs.Lines.{Fits, FitsBound, name_of, arguments_of, behind_spaces, bound_text, spelling}
 use Rattle.tree_lines.specs.Words.{IsWord, IsBehindWord, ReadsAs, ReadsArguments}
 use Rattle.tree_lines.specs.Progress.{clip}
@@ -30,6 +30,10 @@ IsWord-name (Contains key) = search rules
 IsWord-name Len = search rules
 IsWord-name Depth = search rules
 IsWord-name Spare = search rules
+IsWord-name Iter = search rules
+IsWord-name Back = search rules
+IsWord-name (Range low high) = search rules
+IsWord-name (Locate key) = search rules
 
 -- a space follows it, or nothing
 IsBehindWord-spaces : (words : List (List ℕ)) → IsBehindWord (behind_spaces words)
@@ -81,6 +85,10 @@ spelling_short (Contains key) fits = omega (arith, length-spaces (decimal key �
 spelling_short Len fits = omega arith
 spelling_short Depth fits = omega arith
 spelling_short Spare fits = omega arith
+spelling_short Iter fits = omega arith
+spelling_short Back fits = omega arith
+spelling_short (Range low high) fits = omega (arith, length-spaces (bound_text low ∷ bound_text high ∷ []) (length-bound low fits.0, (length-bound high fits.1, tt)))
+spelling_short (Locate key) fits = omega (arith, length-spaces (decimal key ∷ []) (length-number key fits, tt))
 
 -- a line of which nothing is kept is longer than 256 bytes
 long_by : (b : Bool) (line : List ℕ) → nat_le (length line) 256 ≡ b → clip line ≡ None → 256 < length line

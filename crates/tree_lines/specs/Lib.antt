@@ -1,4 +1,5 @@
 pub mod Lines
+pub mod Pairs
 pub mod Words
 pub mod Writing
 pub mod Progress

@@ -1,14 +1,14 @@
 -- The lines of a text, the spelling of a request, the answer to a line, and scripts of lines.
-use Rattle.std.specs.Prelude.{◌≡◌, ◌≢◌, ◌⊎◌, ℕ, ◌*◌, ◌-◌, ◌^◌, ◌<◌, ◌≤◌, min, Bool, true, false, nat_eq, List, [], ◌∷◌, ◌++◌, length, MatchOption, is_some, ⊤, codes, decimal}
+use Rattle.std.specs.Prelude.{◌≡◌, ◌≢◌, ◌⊎◌, ℕ, ◌*◌, ◌-◌, ◌^◌, ◌<◌, ◌≤◌, min, Bool, true, false, nat_eq, List, [], ◌∷◌, ◌++◌, filter, length, map, reverse, slice_get, Option, Some, None, MatchOption, is_some, ⊤, codes, decimal}
 use Rattle.std.specs.List.{AllByRecursion, flat_map}
 use Rattle.std.specs.Option.{option_map_or}
 use Rattle.std.specs.Ordering.{nat_cmp}
 use Rattle.std.specs.declared.ops.Bound.{Bound}
 use Rattle.std.specs.declared.ops.Bound.TheVariants.{Included, Excluded, Unbounded}
-use Rattle.tree_model.specs.Pairs.{cut, pair_at, put, without}
+use Rattle.tree_model.specs.Pairs.{above, below, cut, pair_at, put, within, without}
 use Rattle.tree_model.specs.Edits.{RemovesIf}
 use Rattle.tree_lines.specs.declared.requests.Request.{Request}
-use Rattle.tree_lines.specs.declared.requests.Request.TheVariants.{Insert, Upsert, Remove, RemoveIf, RemoveRange, Clear, Peek, Contains, Len, Depth, Spare}
+use Rattle.tree_lines.specs.declared.requests.Request.TheVariants.{Insert, Upsert, Remove, RemoveIf, RemoveRange, Clear, Peek, Contains, Len, Depth, Spare, Iter, Back, Range, Locate}
 
 -- a line contains no line feed
 abbrev pub IsLine : List ℕ → Type 0
@@ -46,6 +46,10 @@ name_of (Contains key) = codes "contains"
 name_of Len = codes "len"
 name_of Depth = codes "depth"
 name_of Spare = codes "spare"
+name_of Iter = codes "iter"
+name_of Back = codes "back"
+name_of (Range low high) = codes "range"
+name_of (Locate key) = codes "locate"
 
 -- the spelling of a bound: `[n` includes n, `(n` excludes it, and `-` leaves the end open
 abbrev pub bound_text : Bound ℕ → List ℕ
@@ -66,6 +70,10 @@ arguments_of (Contains key) = decimal key ∷ []
 arguments_of Len = []
 arguments_of Depth = []
 arguments_of Spare = []
+arguments_of Iter = []
+arguments_of Back = []
+arguments_of (Range low high) = bound_text low ∷ bound_text high ∷ []
+arguments_of (Locate key) = decimal key ∷ []
 
 -- words, each after one space
 abbrev pub behind_spaces : List (List ℕ) → List ℕ
@@ -94,6 +102,10 @@ Fits (Contains key) = key < 2 ^ 64
 Fits Len = ⊤
 Fits Depth = ⊤
 Fits Spare = ⊤
+Fits Iter = ⊤
+Fits Back = ⊤
+Fits (Range low high) = FitsBound low × FitsBound high
+Fits (Locate key) = key < 2 ^ 64
 
 -- the spelling of a truth value
 abbrev pub truth : Bool → List ℕ
@@ -103,6 +115,38 @@ truth false = codes "false"
 -- the condition that compares a stored value with this one
 abbrev pub SaysEqual : ℕ → ℕ → Bool → Type 0
 SaysEqual value stored said = said ≡ nat_eq stored value
+
+-- the spelling of a pair, and of pairs parted by one space
+abbrev pub pair_text : ℕ × ℕ → List ℕ
+pair_text pair = decimal pair.0 ++ 61 ∷ decimal pair.1
+
+abbrev pub pairs_text : List (ℕ × ℕ) → List ℕ
+pairs_text [] = []
+pairs_text (pair ∷ pairs) = pair_text pair ++ behind_spaces (map pair_text pairs)
+
+-- the pairs whose keys are within both bounds
+abbrev pub inside : Bound ℕ → Bound ℕ → List (ℕ × ℕ) → List (ℕ × ℕ)
+inside low high pairs = filter (λ pair. within nat_cmp low high pair.0) pairs
+
+abbrev pub first_pair : List (ℕ × ℕ) → Option (ℕ × ℕ)
+first_pair pairs = slice_get pairs 0
+
+abbrev pub last_pair : List (ℕ × ℕ) → Option (ℕ × ℕ)
+last_pair pairs = slice_get pairs (length pairs - 1)
+
+-- the nearest pairs of an absent key: the last of the smaller ones, and the first of the larger ones
+abbrev pub beside_text : Option (ℕ × ℕ) → Option (ℕ × ℕ) → List ℕ
+beside_text None None = codes "empty"
+beside_text None (Some larger) = codes "larger" ++ behind_spaces (pair_text larger ∷ [])
+beside_text (Some smaller) None = codes "smaller" ++ behind_spaces (pair_text smaller ∷ [])
+beside_text (Some smaller) (Some larger) = codes "between" ++ behind_spaces (pair_text smaller ∷ pair_text larger ∷ [])
+
+-- where a key is among pairs
+abbrev pub near_text : List (ℕ × ℕ) → ℕ → List ℕ
+near_text pairs key =
+    option_map_or (λ pair. codes "exact" ++ behind_spaces (pair_text pair ∷ []))
+    (pair_at nat_cmp pairs key)
+    (beside_text (last_pair (below nat_cmp pairs key)) (first_pair (above nat_cmp pairs key)))
 
 -- The answer to a request over the pairs `old`, which become `new`.
 abbrev pub Answers : List (ℕ × ℕ) → Request → List ℕ → List (ℕ × ℕ) → Type 0
@@ -119,6 +163,10 @@ Answers old (Contains key) answer new = (answer ≡ truth (is_some (pair_at nat_
 Answers old Len answer new = (answer ≡ decimal (min (length old) (2 ^ 64 - 1))) × (new ≡ old)
 Answers old Depth answer new = (depth : ℕ) × (length old ≤ 15 * 16 ^ depth) × (answer ≡ decimal depth) × (new ≡ old)
 Answers old Spare answer new = (spare : ℕ) × (answer ≡ decimal spare) × (new ≡ old)
+Answers old Iter answer new = (answer ≡ pairs_text old) × (new ≡ old)
+Answers old Back answer new = (answer ≡ pairs_text (reverse old)) × (new ≡ old)
+Answers old (Range low high) answer new = (answer ≡ pairs_text (inside low high old)) × (new ≡ old)
+Answers old (Locate key) answer new = (answer ≡ near_text old key) × (new ≡ old)
 Answers old (Peek key) answer new = (answer ≡ option_map_or (λ pair. decimal pair.1) (pair_at nat_cmp old key) (codes "none")) × (new ≡ old)
 
 -- The answer to a line. A line that is not a request is answered with a question mark and changes nothing.

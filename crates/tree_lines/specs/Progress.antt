@@ -1,22 +1,25 @@
 -- The effect of bytes that are read: answers that are written, and a line that is begun.
-use Rattle.std.specs.Prelude.{◌≡◌, ◌≢◌, ℕ, List, [], ◌∷◌, ◌++◌, Option, Some, None, Result, Ok, Err, length, nat_le, if◌then◌else◌, codes, decimal}
+use Rattle.std.specs.Prelude.{◌≡◌, ◌≢◌, ℕ, List, [], ◌∷◌, ◌++◌, Option, Some, None, Result, Ok, Err, length, reverse, nat_le, if◌then◌else◌, codes, decimal}
 use Rattle.std.specs.List.{AllByRecursion}
 use Rattle.std.specs.Io.KnownBytes.{Appends}
 use Rattle.tree_lines.specs.declared.requests.Request.{Request}
 use Rattle.tree_lines.specs.declared.answers.Answer.{Answer}
-use Rattle.tree_lines.specs.declared.answers.Answer.TheVariants.{Done, Duplicate, Refused, Missing, Truth, Unknown, Value}
-use Rattle.tree_lines.specs.Lines.{IsLine, with_feed, text_of, HasLines, last_line, Script, Says, Answers, truth}
+use Rattle.tree_lines.specs.declared.answers.Answer.TheVariants.{Done, Duplicate, Refused, Missing, Truth, Unknown, Value, Ascending, Descending, Near}
+use Rattle.tree_lines.specs.Lines.{IsLine, with_feed, text_of, HasLines, last_line, Script, Says, Answers, truth, pairs_text, inside, near_text}
 use Rattle.tree_lines.specs.Writing.{IsFront}
 
--- the text of an answer
-abbrev pub answer_text : Answer → List ℕ
-answer_text Done = codes "ok"
-answer_text Duplicate = codes "duplicate"
-answer_text Refused = codes "refused"
-answer_text Missing = codes "none"
-answer_text (Truth answer) = truth answer
-answer_text Unknown = codes "?"
-answer_text (Value n) = decimal n
+-- the text of an answer, by the pairs of the index that gave it
+abbrev pub answer_text : List (ℕ × ℕ) → Answer → List ℕ
+answer_text pairs Done = codes "ok"
+answer_text pairs Duplicate = codes "duplicate"
+answer_text pairs Refused = codes "refused"
+answer_text pairs Missing = codes "none"
+answer_text pairs (Truth answer) = truth answer
+answer_text pairs Unknown = codes "?"
+answer_text pairs (Value n) = decimal n
+answer_text pairs (Ascending low high) = pairs_text (inside low high pairs)
+answer_text pairs Descending = pairs_text (reverse pairs)
+answer_text pairs (Near key) = near_text pairs key
 
 -- The answer to a request; `None` stands for a line that is not a request.
 abbrev pub Responds : List (ℕ × ℕ) → Option Request → List ℕ → List (ℕ × ℕ) → Type 0

@@ -7,10 +7,12 @@ ghost use Rattle.tree_lines.specs.Progress.{answer_text, clip, Responds};
 ghost use Rattle.tree_lines.specs.Writing.{Writes};
 
 use crate::begun_line::BegunLine;
+use crate::pairs::{write_ascending, write_descending, write_near};
 use crate::requests::{Request, request_of};
 use crate::short_text::ShortText;
 use crate::writing::{WriteFailed, write_whole};
 use std::io::Write;
+use std::ops::Bound;
 use tree_index::{InsertError, TreeIndex};
 
 /// The answer to a line.
@@ -30,12 +32,18 @@ pub enum Answer {
     Unknown,
     /// A number in decimal digits.
     Value(u64),
+    /// The pairs whose keys are within both bounds, in ascending order.
+    Ascending(Bound<u64>, Bound<u64>),
+    /// All pairs, in descending order.
+    Descending,
+    /// Where a key is, present or between which pairs.
+    Near(u64),
 }
 
 /// Applies the request of a line and returns the answer.
 pub fn answer_to(index: &mut TreeIndex<u64, u64>, line: &BegunLine) -> Answer
     ensures { (begun : List ℕ) → line.now ≡ clip begun →
-        Says index.old.pairs begun (answer_text result) index.new.pairs }
+        Says index.old.pairs begun (answer_text index.new.pairs result) index.new.pairs }
 {
     let Some(text) = line.text() else {
         return Answer::Unknown;
@@ -45,7 +53,7 @@ pub fn answer_to(index: &mut TreeIndex<u64, u64>, line: &BegunLine) -> Answer
 
 // Applies a request and returns the answer; `None` stands for a line that is not a request.
 fn respond(index: &mut TreeIndex<u64, u64>, request: Option<Request>) -> Answer
-    ensures { Responds index.old.pairs request (answer_text result) index.new.pairs }
+    ensures { Responds index.old.pairs request (answer_text index.new.pairs result) index.new.pairs }
 {
     match request {
         None => Answer::Unknown,
@@ -72,6 +80,10 @@ fn respond(index: &mut TreeIndex<u64, u64>, request: Option<Request>) -> Answer
         Some(Request::Len) => Answer::Value(index.len() as u64),
         Some(Request::Depth) => Answer::Value(index.depth() as u64),
         Some(Request::Spare) => Answer::Value(u64::from(index.spare())),
+        Some(Request::Iter) => Answer::Ascending(Bound::Unbounded, Bound::Unbounded),
+        Some(Request::Back) => Answer::Descending,
+        Some(Request::Range(low, high)) => Answer::Ascending(low, high),
+        Some(Request::Locate(key)) => Answer::Near(key),
         Some(Request::Peek(key)) => match index.peek(&key) {
             Some(value) => Answer::Value(*value),
             None => Answer::Missing,
@@ -86,11 +98,15 @@ fn remove_value(index: &mut TreeIndex<u64, u64>, key: u64, value: u64) -> bool
     index.remove_if_sync(&key, |stored| *stored == value)
 }
 
-/// Writes an answer and a line feed.
+/// Writes an answer and a line feed. Pairs are written one by one out of the index that gave the answer.
 ///
 /// Returns `Err` if a write fails; part of the line may have been written.
-pub fn write_answer<W: Write>(output: &mut W, answer: Answer) -> Result<(), WriteFailed>
-    ensures { Writes (with_feed (answer_text answer))
+pub fn write_answer<W: Write>(
+    output: &mut W,
+    index: &TreeIndex<u64, u64>,
+    answer: Answer,
+) -> Result<(), WriteFailed>
+    ensures { Writes (with_feed (answer_text index.now.pairs answer))
         (W.contents output.old) (W.contents output.new) result }
 {
     match answer {
@@ -107,5 +123,8 @@ pub fn write_answer<W: Write>(output: &mut W, answer: Answer) -> Result<(), Writ
             text.push_number_front(n);
             write_whole(output, text.as_bytes())
         }
+        Answer::Ascending(low, high) => write_ascending(output, index, low, high),
+        Answer::Descending => write_descending(output, index),
+        Answer::Near(key) => write_near(output, index, key),
     }
 }

@@ -7,6 +7,7 @@ mod begun_line;
 mod bounds;
 mod lines;
 mod numbers;
+mod pairs;
 mod requests;
 mod short_text;
 mod words;

@@ -84,7 +84,8 @@ fn end_lines<W: Write>(
     if line.is_empty() {
         return Ok(());
     }
-    write_answer(output, answer_to(index, line))
+    let answer = answer_to(index, line);
+    write_answer(output, index, answer)
 }
 
 // Takes the bytes one after another.
@@ -118,7 +119,7 @@ fn feed<W: Write>(
         return Ok(());
     }
     let answer = answer_to(index, line);
-    write_answer(output, answer)?;
+    write_answer(output, index, answer)?;
     line.clear();
     Ok(())
 }

@@ -33,6 +33,14 @@ pub enum Request {
     Depth,
     /// `spare`: asks how many writes are sure not to allocate.
     Spare,
+    /// `iter`: asks for all pairs, in ascending order.
+    Iter,
+    /// `back`: asks for all pairs, in descending order.
+    Back,
+    /// `range LO HI`: asks for the pairs whose keys are within both bounds, in ascending order.
+    Range(Bound<u64>, Bound<u64>),
+    /// `locate K`: asks where a key is, present or between which pairs.
+    Locate(u64),
 }
 
 /// Parses a line. Returns `None` if it is not the spelling of a request.
@@ -72,6 +80,18 @@ pub fn request_of(line: &[u8]) -> Option<Request>
     }
     if name == b"spare".as_slice() {
         return spare_of(arguments);
+    }
+    if name == b"iter".as_slice() {
+        return iter_of(arguments);
+    }
+    if name == b"back".as_slice() {
+        return back_of(arguments);
+    }
+    if name == b"range".as_slice() {
+        return range_of(arguments);
+    }
+    if name == b"locate".as_slice() {
+        return locate_of(arguments);
     }
     None
 }
@@ -184,4 +204,44 @@ fn spare_of(arguments: &[u8]) -> Option<Request>
         return Some(Request::Spare);
     }
     None
+}
+
+// Parses `iter`, which has no arguments.
+fn iter_of(arguments: &[u8]) -> Option<Request>
+    ensures { ReadsArguments (codes "iter") arguments.now result }
+{
+    if arguments.is_empty() {
+        return Some(Request::Iter);
+    }
+    None
+}
+
+// Parses `back`, which has no arguments.
+fn back_of(arguments: &[u8]) -> Option<Request>
+    ensures { ReadsArguments (codes "back") arguments.now result }
+{
+    if arguments.is_empty() {
+        return Some(Request::Back);
+    }
+    None
+}
+
+// Parses the arguments of `range`.
+fn range_of(arguments: &[u8]) -> Option<Request>
+    ensures { ReadsArguments (codes "range") arguments.now result }
+{
+    match two_bounds_of(arguments) {
+        Some((low, high)) => Some(Request::Range(low, high)),
+        None => None,
+    }
+}
+
+// Parses the argument of `locate`.
+fn locate_of(arguments: &[u8]) -> Option<Request>
+    ensures { ReadsArguments (codes "locate") arguments.now result }
+{
+    match one_number_of(arguments) {
+        Some(key) => Some(Request::Locate(key)),
+        None => None,
+    }
 }

@@ -3,12 +3,12 @@ ghost use Rattle.std.specs.Prelude.{◌≡◌, ◌+◌, ◌<◌, ◌≤◌, [], 
 
 use std::marker::Model;
 
-/// A text of at most 21 bytes, enough for the digits of a `u64` and a line feed.
+/// A text of at most 42 bytes, enough for a space and the digits of two `u64` with a byte between them.
 ///
 /// It grows at its front, since the last digit of a number is computed first.
 #[derive(Drop)]
 pub struct ShortText {
-    bytes: [u8; 21],
+    bytes: [u8; 42],
     start: usize,
 }
 
@@ -19,7 +19,7 @@ impl Model for ShortText {
 
     ghost view = { λ a. drop a.start a.bytes };
 
-    ghost invariant = { λ a. a.start ≤ 21 };
+    ghost invariant = { λ a. a.start ≤ 42 };
 }
 
 impl ShortText {
@@ -28,8 +28,8 @@ impl ShortText {
         ensures { result ≡ [] }
     {
         ShortText {
-            bytes: [0; 21],
-            start: 21,
+            bytes: [0; 42],
+            start: 42,
         }
     }
 
@@ -42,7 +42,7 @@ impl ShortText {
 
     /// Prepends a byte. The caller must leave room for it.
     pub fn push_front(&mut self, byte: u8)
-        requires { length self.old < 21 }
+        requires { length self.old < 42 }
         ensures { self.new ≡ byte ∷ self.old }
     {
         self.start -= 1;
@@ -51,7 +51,7 @@ impl ShortText {
 
     /// Prepends the decimal digits of a number. The caller must leave room for twenty digits.
     pub fn push_number_front(&mut self, n: u64)
-        requires { length self.old + 20 ≤ 21 }
+        requires { length self.old + 20 ≤ 42 }
         ensures { self.new ≡ decimal n ++ self.old }
     {
         let mut rest = n;

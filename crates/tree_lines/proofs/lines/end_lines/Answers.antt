@@ -11,4 +11,4 @@ returns-then-is_empty g c = ends_empty c.args.line.now c.args.index.now.pairs (g
 -- the begun line was answered
 pub returns : goal.returns
 returns g c =
-    ends_line c.args.line.now c.args.index.now.pairs c.answer_to.new.index.pairs (answer_text c.answer_to.result) _ _ (λ e. false≢true (c.if-is_empty.ensures.1 e)) c.answer_to.ensures c.write_answer.result c.write_answer.ensures
+    ends_line c.args.line.now c.args.index.now.pairs c.answer_to-answer.new.index.pairs (answer_text c.answer_to-answer.new.index.pairs c.answer_to-answer.result) _ _ (λ e. false≢true (c.if-is_empty.ensures.1 e)) c.answer_to-answer.ensures c.write_answer.result c.write_answer.ensures

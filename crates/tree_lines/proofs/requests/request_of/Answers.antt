@@ -1,7 +1,7 @@
 use Rattle.std.proofs.Common.{◌≡◌}
 use Rattle.std.specs.Prelude.{codes}
 use Rattle.tree_lines.specs.Lines.{name_of}
-use Rattle.tree_lines.specs.declared.requests.Request.TheVariants.{Insert, Upsert, Remove, RemoveIf, RemoveRange, Clear, Peek, Contains, Len, Depth, Spare}
+use Rattle.tree_lines.specs.declared.requests.Request.TheVariants.{Insert, Upsert, Remove, RemoveIf, RemoveRange, Clear, Peek, Contains, Len, Depth, Spare, Iter, Back, Range, Locate}
 use Rattle.tree_lines.proofs.Spellings.{parts_of, reads_when, not_named}
 use Rattle.tree_lines.proofs.requests.request_of.Goals as goal
 
@@ -39,6 +39,18 @@ returns-then-eq-10 c = reads_when c.args.line.now c.first_word.result.0.now c.fi
 pub returns-then-eq-11 : goal.returns-then-eq-11
 returns-then-eq-11 c = reads_when c.args.line.now c.first_word.result.0.now c.first_word.result.1.now c.first_word.ensures.word c.first_word.ensures.behind c.first_word.ensures.whole (codes "spare") c.as_slice-11.result.now c.if-eq-11.ensures c.as_slice-11.ensures c.spare_of.result c.spare_of.ensures
 
+pub returns-then-eq-12 : goal.returns-then-eq-12
+returns-then-eq-12 c = reads_when c.args.line.now c.first_word.result.0.now c.first_word.result.1.now c.first_word.ensures.word c.first_word.ensures.behind c.first_word.ensures.whole (codes "iter") c.as_slice-12.result.now c.if-eq-12.ensures c.as_slice-12.ensures c.iter_of.result c.iter_of.ensures
+
+pub returns-then-eq-13 : goal.returns-then-eq-13
+returns-then-eq-13 c = reads_when c.args.line.now c.first_word.result.0.now c.first_word.result.1.now c.first_word.ensures.word c.first_word.ensures.behind c.first_word.ensures.whole (codes "back") c.as_slice-13.result.now c.if-eq-13.ensures c.as_slice-13.ensures c.back_of.result c.back_of.ensures
+
+pub returns-then-eq-14 : goal.returns-then-eq-14
+returns-then-eq-14 c = reads_when c.args.line.now c.first_word.result.0.now c.first_word.result.1.now c.first_word.ensures.word c.first_word.ensures.behind c.first_word.ensures.whole (codes "range") c.as_slice-14.result.now c.if-eq-14.ensures c.as_slice-14.ensures c.range_of.result c.range_of.ensures
+
+pub returns-then-eq-15 : goal.returns-then-eq-15
+returns-then-eq-15 c = reads_when c.args.line.now c.first_word.result.0.now c.first_word.result.1.now c.first_word.ensures.word c.first_word.ensures.behind c.first_word.ensures.whole (codes "locate") c.as_slice-15.result.now c.if-eq-15.ensures c.as_slice-15.ensures c.locate_of.result c.locate_of.ensures
+
 -- or of none
 pub returns : goal.returns
 returns c = λ request fits e.
@@ -56,4 +68,8 @@ returns c = λ request fits e.
       | Len ↦ not_named word (codes "len") c.as_slice-9.result.now c.if-eq-9.ensures c.as_slice-9.ensures
       | Depth ↦ not_named word (codes "depth") c.as_slice-10.result.now c.if-eq-10.ensures c.as_slice-10.ensures
       | Spare ↦ not_named word (codes "spare") c.as_slice-11.result.now c.if-eq-11.ensures c.as_slice-11.ensures
+      | Iter ↦ not_named word (codes "iter") c.as_slice-12.result.now c.if-eq-12.ensures c.as_slice-12.ensures
+      | Back ↦ not_named word (codes "back") c.as_slice-13.result.now c.if-eq-13.ensures c.as_slice-13.ensures
+      | Range low high ↦ not_named word (codes "range") c.as_slice-14.result.now c.if-eq-14.ensures c.as_slice-14.ensures
+      | Locate key ↦ not_named word (codes "locate") c.as_slice-15.result.now c.if-eq-15.ensures c.as_slice-15.ensures
     ] name

@@ -6,7 +6,7 @@ use Rattle.tree_lines.proofs.short_text.ShortText.push_number_front.Given as goa
 abbrev pub invariant-loop-rest : goal.invariant-loop-rest
 invariant-loop-rest l = record {
   put : decimal l.n ++ l.fn.self ≡ decimal l.rest ++ l.self;
-  room : length (decimal l.rest) + length l.self ≤ 21;
+  room : length (decimal l.rest) + length l.self ≤ 42;
   small : l.rest < 2 ^ 64;
 }
 

@@ -1,0 +1,15 @@
+use Rattle.std.proofs.Common.{◌≡◌, ℕ, List, Option, Some, ap, refl}
+use Rattle.std.specs.declared.ops.Bound.TheVariants.{Unbounded}
+use Rattle.tree_lines.specs.declared.requests.Request.{Request}
+use Rattle.tree_lines.specs.declared.requests.Request.TheVariants.{Iter}
+use Rattle.tree_lines.specs.Lines.{inside, pairs_text}
+use Rattle.tree_lines.specs.Progress.{Responds}
+use Rattle.tree_lines.proofs.Pieces.{within_open}
+use Rattle.tree_lines.proofs.answers.respond.Goals as goal
+
+-- all pairs are within open bounds
+responds_all : (old : List (ℕ × ℕ)) (asked : Option Request) (request : Request) → asked ≡ Some request → request ≡ Iter → Responds old asked (pairs_text (inside Unbounded Unbounded old)) old
+responds_all old asked request is same = rw (is, same) (ap pairs_text (within_open old), refl)
+
+pub returns-in-Some-Iter : goal.returns-in-Some-Iter
+returns-in-Some-Iter c = responds_all c.args.index.now.pairs c.args.request c.in-Some-Iter.field-0 c.in-Some-Iter.is (rw c.in-Some-Iter.is at c.in-Some-Iter.field-0-is)

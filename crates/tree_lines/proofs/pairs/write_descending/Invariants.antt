@@ -1,0 +1,13 @@
+use Rattle.std.specs.Prelude.{reverse}
+use Rattle.tree_leaf.specs.declared.leaf.stand.Way.TheVariants.{Back}
+use Rattle.tree_ranges.specs.Ranged.{moves_left}
+use Rattle.tree_lines.specs.Lines.{pairs_text, with_feed}
+use Rattle.tree_lines.proofs.Pieces.{IsLineBegun}
+use Rattle.tree_lines.proofs.pairs.write_descending.Given as goal
+
+-- the pairs that the cursor has still to give are left of the line
+abbrev pub invariant-loop-key : goal.invariant-loop-key
+invariant-loop-key g l = IsLineBegun Back (with_feed (pairs_text (reverse l.fn.index.pairs))) (g.W.Write.contents l.fn.output) (g.W.Write.contents l.output) l.is_first l.pairs
+
+abbrev pub decreases-loop-key : goal.decreases-loop-key
+decreases-loop-key g l = moves_left l.pairs
