@@ -116,7 +116,7 @@ truth false = codes "false"
 abbrev pub SaysEqual : ℕ → ℕ → Bool → Type 0
 SaysEqual value stored said = said ≡ nat_eq stored value
 
--- the spelling of a pair, and of pairs parted by one space
+-- the spelling of a pair, in which 61 is the equals sign, and of pairs parted by one space
 abbrev pub pair_text : ℕ × ℕ → List ℕ
 pair_text pair = decimal pair.0 ++ 61 ∷ decimal pair.1
 
@@ -128,6 +128,7 @@ pairs_text (pair ∷ pairs) = pair_text pair ++ behind_spaces (map pair_text pai
 abbrev pub inside : Bound ℕ → Bound ℕ → List (ℕ × ℕ) → List (ℕ × ℕ)
 inside low high pairs = filter (λ pair. within nat_cmp low high pair.0) pairs
 
+-- the first pair and the last, if there is one
 abbrev pub first_pair : List (ℕ × ℕ) → Option (ℕ × ℕ)
 first_pair pairs = slice_get pairs 0
 

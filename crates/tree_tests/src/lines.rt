@@ -1,5 +1,6 @@
 //! Lines of requests through the engine.
 mod answers;
+mod cursors;
 mod faults;
 mod grammar;
 mod streams;
@@ -7,7 +8,7 @@ mod streams;
 use std::alloc::{AllocError, Global};
 use std::io::Read;
 use std::process::Abort;
-use streams::{Failing, Sink};
+use streams::{Failing, Sink, Source};
 use tree_index::TreeIndex;
 use tree_lines::run_lines;
 
@@ -32,4 +33,20 @@ fn answered<R: Read + Drop>(
         return Err(AllocError);
     }
     Ok(output)
+}
+
+/// Lines, and the answers to them.
+type Row = (&'static str, &'static str);
+
+/// The answers to these lines are these, where so many bytes are read and written at a time.
+fn expect_answers(
+    rt: &impl Abort,
+    alloc: Global,
+    (lines, wanted): Row,
+    (read, written): (usize, usize),
+) -> Result<(), AllocError> {
+    let input = Source::new(lines.as_bytes(), read, Failing::never());
+    let output = answered(rt, alloc, input, written)?;
+    assert_eq!(rt; output.taken(), wanted.as_bytes());
+    Ok(())
 }

@@ -1,14 +1,9 @@
 //! The answers to requests, in whatever pieces the lines come and the answers go.
-use super::answered;
-use super::streams::{Failing, Sink, Source};
-use std::alloc::{AllocError, Global};
-use std::process::Abort;
+use super::streams::{Failing, Sink};
+use super::{Row, expect_answers};
 use test_support::refusals::succeeds;
 use tree_index::TreeIndex;
 use tree_lines::run_lines;
-
-/// Lines, and the answers to them.
-type Row = (&'static str, &'static str);
 
 static INSERTS_AND_LOOK_UPS: [Row; 10] = [
     ("insert 1 10\npeek 1\n", "ok\n10\n"),
@@ -37,19 +32,6 @@ static INSERTS_AND_LOOK_UPS: [Row; 10] = [
         "ok\nduplicate\nok\n10\nfalse\nfalse\ntrue\n1\n1\n13\n",
     ),
 ];
-
-/// The answers to these lines are these, where so many bytes are read and written at a time.
-fn expect_answers(
-    rt: &impl Abort,
-    alloc: Global,
-    (lines, wanted): Row,
-    (read, written): (usize, usize),
-) -> Result<(), AllocError> {
-    let input = Source::new(lines.as_bytes(), read, Failing::never());
-    let output = answered(rt, alloc, input, written)?;
-    assert_eq!(rt; output.taken(), wanted.as_bytes());
-    Ok(())
-}
 
 #[test]
 fn answers_lines(rt: HostRuntime) {
