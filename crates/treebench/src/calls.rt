@@ -85,7 +85,7 @@ pub fn walk_back(index: &TreeIndex<u64, u64>) -> u64 {
 }
 
 /// Returns a checksum of the values of the 100 pairs from each of the keys on.
-pub fn walk_ranges(index: &TreeIndex<u64, u64>, keys: &[u64]) -> u64 {
+pub fn walk_ranges<'t>(index: &'t TreeIndex<u64, u64>, keys: &'t [u64]) -> u64 {
     let mut sum = 0u64;
     for key in keys {
         let pairs = index.range((Bound::Included(key), Bound::Unbounded));
