@@ -178,12 +178,13 @@ pub(crate) fn split_root<const LEVEL: usize, const HIGHER: usize, const LEN: usi
 }
 
 /// Splits a retired root, and says whether it kept its number. `Ok(false)` if it isn't retired.
-fn replant<const LEN: usize>(
+fn replant<const LEVEL: usize, const LEN: usize>(
     arenas: &mut ArenasOf<u64, u64, LEN>,
     root: NodeId,
 ) -> Result<bool, AllocError>
-    requires { IsPlanted nat_cmp 1 arenas.old root }
-    ensures { IsPlanted nat_cmp 1 arenas.new root }
+    requires leaf_node { LEVEL ≡ 1 }
+    requires planted { IsPlanted nat_cmp LEVEL arenas.old root }
+    ensures { IsPlanted nat_cmp LEVEL arenas.new root }
 {
     if NodeOf::is_retired(arenas, root) {
         Ok(NodeOf::split_root(arenas, root)? == root)
@@ -196,7 +197,7 @@ fn replant<const LEN: usize>(
 pub(crate) fn replants<const LEN: usize>(
     tree: &mut Planted<NodeOf<u64, LEN>, 1, LEN>,
 ) -> Result<bool, AllocError> {
-    replant(&mut tree.arenas, tree.root)
+    replant::<1, LEN>(&mut tree.arenas, tree.root)
 }
 
 /// Cleans up at a root, and returns the root then.
