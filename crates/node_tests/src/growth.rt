@@ -100,13 +100,16 @@ fn grows<const LEN: usize>(
 fn grows_on<const LEN: usize>(
     tree: Planted<NodeOf<u64, LEN>, 2, LEN>,
     steps: &[Step],
-    (leaves, nodes): Left,
-) -> Result<bool, AllocError> {
+    left: Left,
+) -> Result<bool, AllocError>
+    requires { IsLen LEN }
+{
     let mut tree = split_root::<2, 3, LEN>(tree)?;
     if !tree.split_last()? {
         return Ok(false);
     }
     let mut tree = tree.through_node();
+    let (leaves, nodes) = left;
     Ok(take(&mut tree, &[steps])? && cleanup_root(tree) == (Some(true), leaves, nodes))
 }
 

@@ -1,0 +1,26 @@
+use Rattle.std.proofs.Common.{rules, inl, inr}
+use Rattle.node_tests.proofs.growth.grows.Goals as goal
+
+pub through_node-requires : goal.through_node-requires
+through_node-requires g c = elim c.requires [
+    | inl seven ↦ rw seven (search rules)
+    | inr fifteen ↦ rw fifteen (search rules)
+  ]
+
+pub split_root-requires : goal.split_root-requires
+split_root-requires g c = elim c.requires [
+    | inl seven ↦ rw seven (search rules)
+    | inr fifteen ↦ rw fifteen (search rules)
+  ]
+
+pub through_node-requires-2 : goal.through_node-requires-2
+through_node-requires-2 g c = elim c.requires [
+    | inl seven ↦ rw seven (search rules)
+    | inr fifteen ↦ rw fifteen (search rules)
+  ]
+
+pub grows_on-requires : goal.grows_on-requires
+grows_on-requires g c = elim c.requires [
+    | inl seven ↦ rw seven (search rules)
+    | inr fifteen ↦ rw fifteen (search rules)
+  ]
