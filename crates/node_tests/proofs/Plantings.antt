@@ -10,6 +10,8 @@ use Rattle.tree_array.specs.declared.answers.InsertResult.{InsertResult}
 use Rattle.tree_array.specs.declared.answers.InsertResult.TheVariants.{Full}
 use Rattle.tree_array.specs.declared.answers.RemoveResult.{RemoveResult}
 use Rattle.tree_array.specs.declared.answers.RemoveResult.TheVariants.{Success, Retired, Fail}
+use Rattle.std.specs.declared.ops.Bound.{Bound}
+use Rattle.tree_cut.specs.Cuts.{CutsUnder}
 use Rattle.tree_insert.specs.Inserts.{InsertsPlainly}
 use Rattle.tree_insert.specs.Roots.{RaisesRoot, Replants}
 use Rattle.tree_split.specs.Splits.{LacksRoom, SplitResult, SplitsChild}
@@ -130,6 +132,11 @@ module _ {K V : Type 0} {LEN : ℕ} (cmp : K → K → Ordering) (level : ℕ) (
     planted_by_removal Fail planted removes = unchanged_planted removes.leaves planted
     planted_by_removal Success (inl part) removes = inl (part_after cmp level old new id part (removes.leaves None None part.stands) removes.replaces)
     planted_by_removal Success (inr gone) removes = absurd (let was = rw (walk-retired level old id gone.0) at removes.pairs.was in cc)
+
+  module _ (low high : Bound K) where
+    pub planted_by_cut : (gone : ℕ) → IsPlanted cmp level old id → CutsUnder cmp low high level old new id gone → (IsRetired level old id → new ≡ old) → IsPlanted cmp level new id
+    planted_by_cut gone (inl part) cuts retired = inl (part_after cmp level old new id part (cuts.stands None None part.stands) cuts.replaces)
+    planted_by_cut gone (inr bare) cuts retired = rw (retired bare.0) (inr bare)
 
 -- what is planted can be looked up in, and walked from either end
 module _ {K V : Type 0} {LEN : ℕ} (cmp : K → K → Ordering) (a : TreeArenas K V LEN) (id : ℕ) where

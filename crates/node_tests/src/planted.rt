@@ -9,6 +9,7 @@ ghost use Rattle.node_tests.specs.Planted.{IsPlanted};
 use crate::searches::Searched;
 use std::alloc::{AllocError, Global};
 use std::marker::{Model, PhantomData};
+use std::ops::Bound;
 use tree_array::array::{InsertResult, Judge, RemoveResult};
 use tree_calls::internal_node_calls::InternalNodeCalls;
 use tree_calls::node_calls::NodeCalls;
@@ -81,6 +82,11 @@ where
         requires { F.IsAlwaysCallable condition }
     {
         N::remove_if(&mut self.arenas, self.root, key, condition)
+    }
+
+    /// How many children the root has left.
+    pub(crate) fn remove_range(&mut self, low: Bound<&u64>, high: Bound<&u64>) -> usize {
+        N::remove_range(&mut self.arenas, self.root, (low, high))
     }
 
     /// The entry that a walk in key order comes to first.

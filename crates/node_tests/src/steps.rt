@@ -3,6 +3,7 @@ use crate::planted::Planted;
 use crate::searches::finds;
 use Told::{Duplicate, Full, Success};
 use std::alloc::AllocError;
+use std::ops::Bound;
 use tree_array::array::{InsertResult, RemoveResult};
 use tree_calls::node_calls::NodeCalls;
 
@@ -32,6 +33,8 @@ pub(crate) enum Step {
     Upsert(u64, u64, u64, Told),
     /// Removes the keys from the last to the first, where they have this value.
     Remove(u64, u64, u64, RemoveResult),
+    /// Removes the keys within both bounds, and this many children are left at the root.
+    RemoveRange(Bound<u64>, Bound<u64>, usize),
     /// Finds the value at a key.
     Find(u64, Option<u64>),
     /// Finds the first pair and the last one.
@@ -69,6 +72,9 @@ fn answers<N: NodeCalls<u64, LEN> + Drop, const LEVEL: usize, const LEN: usize>(
             inserts::<true, N, LEVEL, LEN>(tree, *first, *last, *more, told)
         }
         Step::Remove(first, last, more, told) => Ok(removes(tree, *first, *last, *more, told)),
+        Step::RemoveRange(low, high, left) => {
+            Ok(tree.remove_range(low.as_ref(), high.as_ref()) == *left)
+        }
         Step::Find(key, val) => Ok(finds(tree, *key, *val)),
         Step::Ends(first, last) => Ok(tree.first() == *first && tree.last() == *last),
         Step::Shape(depth, leaves, nodes) => Ok(tree.shape() == (*depth, *leaves, *nodes)),
