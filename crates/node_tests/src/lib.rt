@@ -1,4 +1,4 @@
-//! Tests of the calls of the three types of nodes, each with ample memory at keys of a concrete type.
+//! Tests of the calls of the three types of nodes, each at keys of a concrete type.
 #![tactic(auto)]
 
 #[cfg(test)]
@@ -6,9 +6,9 @@ mod calls;
 #[cfg(test)]
 mod growth;
 #[cfg(test)]
-mod held;
-#[cfg(test)]
 mod planted;
+#[cfg(test)]
+mod ranges;
 #[cfg(test)]
 mod searches;
 #[cfg(test)]

@@ -4,6 +4,7 @@ ghost use Rattle.std.specs.Ordering.{nat_cmp};
 ghost use Rattle.slab.specs.Slab.{get};
 ghost use Rattle.tree_node.specs.Parts.{IsPart};
 ghost use Rattle.tree_node.specs.Tree.{IsOfLevel, IsRetired};
+ghost use Rattle.tree_array.specs.Length.{IsLen};
 ghost use Rattle.node_tests.specs.Planted.{IsPlanted};
 
 use crate::searches::Searched;
@@ -181,6 +182,18 @@ pub(crate) fn split_root<const LEVEL: usize, const HIGHER: usize, const LEN: usi
         root,
         calls: PhantomData,
     })
+}
+
+/// A leaf node over one leaf, which holds this pair alone, under an internal root.
+pub(crate) fn raised<const LEN: usize>(
+    alloc: Global,
+    key: u64,
+    val: u64,
+) -> Result<Planted<InternalNodeOf<u64, LEN>, 2, LEN>, AllocError>
+    requires { IsLen LEN }
+{
+    let tree = Planted::<NodeOf<u64, LEN>, 1, LEN>::new(alloc, key, val)?;
+    split_root::<1, 2, LEN>(tree)
 }
 
 /// Splits a retired root, and says whether it kept its number. `Ok(false)` if it isn't retired.

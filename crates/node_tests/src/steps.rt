@@ -4,6 +4,7 @@ use crate::searches::finds;
 use Told::{Duplicate, Full, Success};
 use std::alloc::AllocError;
 use std::ops::Bound;
+use std::process::Abort;
 use tree_array::array::{InsertResult, RemoveResult};
 use tree_calls::node_calls::NodeCalls;
 
@@ -45,21 +46,19 @@ pub(crate) enum Step {
     Marks(bool, bool),
 }
 
-/// Whether the tree gives the answers of these steps in turn.
+/// Takes the steps in turn, each with its answer. `Err` if memory is refused.
 pub(crate) fn take<N: NodeCalls<u64, LEN> + Drop, const LEVEL: usize, const LEN: usize>(
+    rt: &impl Abort,
     tree: &mut Planted<N, LEVEL, LEN>,
-    stages: &[&[Step]],
-) -> Result<bool, AllocError> {
-    for steps in stages {
-        for step in *steps {
-            if !answers(tree, step)? {
-                return Ok(false);
-            }
-        }
+    steps: &[Step],
+) -> Result<(), AllocError> {
+    for step in steps {
+        assert!(rt; answers(tree, step)?);
     }
-    Ok(true)
+    Ok(())
 }
 
+/// Whether the tree answers the step so.
 fn answers<N: NodeCalls<u64, LEN> + Drop, const LEVEL: usize, const LEN: usize>(
     tree: &mut Planted<N, LEVEL, LEN>,
     step: &Step,
