@@ -59,8 +59,12 @@ fn leaf_node<const LEN: usize>(rt: &impl Abort, alloc: Global) -> Result<(), All
 
 #[test]
 fn a_leaf_node_answers(rt: HostRuntime) {
-    assert!(rt; succeeds(|| leaf_node::<15>(&rt, rt.alloc())));
-    assert!(rt; succeeds(|| leaf_node::<7>(&rt, rt.alloc())));
+    assert!(rt;
+        succeeds(|| {
+            leaf_node::<15>(&rt, rt.alloc())?;
+            leaf_node::<7>(&rt, rt.alloc())
+        })
+    );
 }
 
 fn internal_node<const LEN: usize>(rt: &impl Abort, alloc: Global) -> Result<(), AllocError>
@@ -74,8 +78,12 @@ fn internal_node<const LEN: usize>(rt: &impl Abort, alloc: Global) -> Result<(),
 
 #[test]
 fn an_internal_node_answers(rt: HostRuntime) {
-    assert!(rt; succeeds(|| internal_node::<15>(&rt, rt.alloc())));
-    assert!(rt; succeeds(|| internal_node::<7>(&rt, rt.alloc())));
+    assert!(rt;
+        succeeds(|| {
+            internal_node::<15>(&rt, rt.alloc())?;
+            internal_node::<7>(&rt, rt.alloc())
+        })
+    );
 }
 
 /// A clean-up keeps a leaf node as the root, retired or not.
@@ -104,10 +112,14 @@ fn either_internal_node<const LEN: usize>(rt: &impl Abort, alloc: Global) -> Res
 
 #[test]
 fn a_node_of_either_kind_answers(rt: HostRuntime) {
-    assert!(rt; succeeds(|| either_leaf_node::<15>(&rt, rt.alloc())));
-    assert!(rt; succeeds(|| either_leaf_node::<7>(&rt, rt.alloc())));
-    assert!(rt; succeeds(|| either_internal_node::<15>(&rt, rt.alloc())));
-    assert!(rt; succeeds(|| either_internal_node::<7>(&rt, rt.alloc())));
+    assert!(rt;
+        succeeds(|| {
+            either_leaf_node::<15>(&rt, rt.alloc())?;
+            either_leaf_node::<7>(&rt, rt.alloc())?;
+            either_internal_node::<15>(&rt, rt.alloc())?;
+            either_internal_node::<7>(&rt, rt.alloc())
+        })
+    );
 }
 
 /// A leaf node stays the root, and an internal node without keyed children gives its place to its child.
@@ -123,8 +135,12 @@ fn cleaned<const LEN: usize>(rt: &impl Abort, alloc: Global) -> Result<(), Alloc
 
 #[test]
 fn a_clean_up_leaves_a_leaf_node(rt: HostRuntime) {
-    assert!(rt; succeeds(|| cleaned::<15>(&rt, rt.alloc())));
-    assert!(rt; succeeds(|| cleaned::<7>(&rt, rt.alloc())));
+    assert!(rt;
+        succeeds(|| {
+            cleaned::<15>(&rt, rt.alloc())?;
+            cleaned::<7>(&rt, rt.alloc())
+        })
+    );
 }
 
 /// The only pair is gone.
@@ -154,6 +170,10 @@ fn retired_root<const LEN: usize>(rt: &impl Abort, alloc: Global) -> Result<(), 
 
 #[test]
 fn a_retired_root_is_planted_anew(rt: HostRuntime) {
-    assert!(rt; succeeds(|| retired_root::<15>(&rt, rt.alloc())));
-    assert!(rt; succeeds(|| retired_root::<7>(&rt, rt.alloc())));
+    assert!(rt;
+        succeeds(|| {
+            retired_root::<15>(&rt, rt.alloc())?;
+            retired_root::<7>(&rt, rt.alloc())
+        })
+    );
 }

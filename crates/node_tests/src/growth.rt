@@ -118,8 +118,12 @@ fn grows<const LEN: usize>(
 
 #[test]
 fn grows_to_three_levels(rt: HostRuntime) {
-    assert!(rt; succeeds(|| grows::<15>(&rt, rt.alloc(), &LARGE)));
-    assert!(rt; succeeds(|| grows::<7>(&rt, rt.alloc(), &SMALL)));
+    assert!(rt;
+        succeeds(|| {
+            grows::<15>(&rt, rt.alloc(), &LARGE)?;
+            grows::<7>(&rt, rt.alloc(), &SMALL)
+        })
+    );
 }
 
 static FULL: [Step; 2] = [
@@ -162,6 +166,10 @@ fn divides<const LEN: usize>(
 
 #[test]
 fn divides_a_full_child(rt: HostRuntime) {
-    assert!(rt; succeeds(|| divides::<15>(&rt, rt.alloc(), &FULL, &DIVIDED)));
-    assert!(rt; succeeds(|| divides::<7>(&rt, rt.alloc(), &SMALL_FULL, &SMALL_DIVIDED)));
+    assert!(rt;
+        succeeds(|| {
+            divides::<15>(&rt, rt.alloc(), &FULL, &DIVIDED)?;
+            divides::<7>(&rt, rt.alloc(), &SMALL_FULL, &SMALL_DIVIDED)
+        })
+    );
 }

@@ -53,8 +53,12 @@ fn drops_leaves<const LEN: usize>(
 
 #[test]
 fn drops_leaves_within_the_bounds(rt: HostRuntime) {
-    assert!(rt; succeeds(|| drops_leaves::<15>(&rt, rt.alloc(), &LEAVES)));
-    assert!(rt; succeeds(|| drops_leaves::<7>(&rt, rt.alloc(), &SMALL_LEAVES)));
+    assert!(rt;
+        succeeds(|| {
+            drops_leaves::<15>(&rt, rt.alloc(), &LEAVES)?;
+            drops_leaves::<7>(&rt, rt.alloc(), &SMALL_LEAVES)
+        })
+    );
 }
 
 /// Of the children of 225 pairs each, and one of 240, all go but the first and the last, and then the first.
@@ -106,6 +110,10 @@ fn drops_nodes<const LEN: usize>(
 
 #[test]
 fn drops_nodes_within_the_bounds(rt: HostRuntime) {
-    assert!(rt; succeeds(|| drops_nodes::<15>(&rt, rt.alloc(), &NODES, 16)));
-    assert!(rt; succeeds(|| drops_nodes::<7>(&rt, rt.alloc(), &SMALL_NODES, 8)));
+    assert!(rt;
+        succeeds(|| {
+            drops_nodes::<15>(&rt, rt.alloc(), &NODES, 16)?;
+            drops_nodes::<7>(&rt, rt.alloc(), &SMALL_NODES, 8)
+        })
+    );
 }

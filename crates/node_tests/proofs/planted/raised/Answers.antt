@@ -3,6 +3,6 @@ use Rattle.node_tests.proofs.planted.raised.Goals as goal
 
 pub split_root-requires : goal.split_root-requires
 split_root-requires g c = elim c.requires [
-    | inl seven ↦ rw seven (search rules)
-    | inr fifteen ↦ rw fifteen (search rules)
-  ]
+  | inl seven ↦ rw seven (search rules)
+  | inr fifteen ↦ rw fifteen (search rules)
+]
