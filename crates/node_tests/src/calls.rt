@@ -1,7 +1,7 @@
 //! Each call on a few pairs.
 ghost use Rattle.tree_array.specs.Length.{IsLen};
 
-use crate::planted::{Planted, cleanup_root, raised, replants};
+use crate::planted::{Planted, cleanup_root, internal_root, replants};
 use crate::steps::{Step, Told, take};
 use std::alloc::{AllocError, Global};
 use std::ops::Bound;
@@ -70,7 +70,7 @@ fn a_leaf_node_answers(rt: HostRuntime) {
 fn internal_node<const LEN: usize>(rt: &impl Abort, alloc: Global) -> Result<(), AllocError>
     requires { IsLen LEN }
 {
-    let mut tree = raised::<LEN>(alloc, 10, 11)?;
+    let mut tree = internal_root::<LEN>(alloc, 10, 11)?;
     take(rt, &mut tree, &INTERNAL_NODE)?;
     take(rt, &mut tree, &FEW)?;
     take(rt, &mut tree, &RETIRED_INTERNAL_NODE)
@@ -94,7 +94,7 @@ fn either_leaf_node<const LEN: usize>(rt: &impl Abort, alloc: Global) -> Result<
     take(rt, &mut tree, &LEAF_NODE)?;
     take(rt, &mut tree, &FEW)?;
     take(rt, &mut tree, &RETIRED_LEAF_NODE)?;
-    assert!(rt; cleanup_root(tree) == (Some(false), 0, 1));
+    assert_eq!(rt; cleanup_root(tree), (Some(false), 0, 1));
     Ok(())
 }
 
@@ -102,11 +102,11 @@ fn either_leaf_node<const LEN: usize>(rt: &impl Abort, alloc: Global) -> Result<
 fn either_internal_node<const LEN: usize>(rt: &impl Abort, alloc: Global) -> Result<(), AllocError>
     requires { IsLen LEN }
 {
-    let mut tree = raised::<LEN>(alloc, 10, 11)?.through_node();
+    let mut tree = internal_root::<LEN>(alloc, 10, 11)?.through_node();
     take(rt, &mut tree, &INTERNAL_NODE)?;
     take(rt, &mut tree, &FEW)?;
     take(rt, &mut tree, &RETIRED_INTERNAL_NODE)?;
-    assert!(rt; cleanup_root(tree) == (None, 0, 0));
+    assert_eq!(rt; cleanup_root(tree), (None, 0, 0));
     Ok(())
 }
 
@@ -127,9 +127,9 @@ fn cleaned<const LEN: usize>(rt: &impl Abort, alloc: Global) -> Result<(), Alloc
     requires { IsLen LEN }
 {
     let low = Planted::<NodeOf<u64, LEN>, 1, LEN>::new(alloc, 10, 11)?;
-    assert!(rt; cleanup_root(low) == (Some(false), 1, 1));
-    let high = raised::<LEN>(alloc, 10, 11)?;
-    assert!(rt; cleanup_root(high.through_node()) == (Some(true), 1, 1));
+    assert_eq!(rt; cleanup_root(low), (Some(false), 1, 1));
+    let high = internal_root::<LEN>(alloc, 10, 11)?;
+    assert_eq!(rt; cleanup_root(high.through_node()), (Some(true), 1, 1));
     Ok(())
 }
 

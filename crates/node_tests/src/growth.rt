@@ -2,7 +2,7 @@
 //! leaf nodes takes `LEN` of them with `LEN` leaves each and one with `LEN + 1`.
 ghost use Rattle.tree_array.specs.Length.{IsLen};
 
-use crate::planted::{Planted, cleanup_root, raised, split_root};
+use crate::planted::{Planted, cleanup_root, internal_root, split_root};
 use crate::steps::{Step, Told, take};
 use std::alloc::{AllocError, Global};
 use std::process::Abort;
@@ -112,7 +112,10 @@ fn grows<const LEN: usize>(
     assert!(rt; tree.split_last()?);
     let mut tree = tree.through_node();
     take(rt, &mut tree, growth.third)?;
-    assert!(rt; cleanup_root(tree) == (Some(true), growth.leaves, growth.nodes));
+    assert_eq!(rt;
+        cleanup_root(tree),
+        (Some(true), growth.leaves, growth.nodes)
+    );
     Ok(())
 }
 
@@ -158,7 +161,7 @@ fn divides<const LEN: usize>(
 ) -> Result<(), AllocError>
     requires { IsLen LEN }
 {
-    let mut tree = raised::<LEN>(alloc, 1, 1)?;
+    let mut tree = internal_root::<LEN>(alloc, 1, 1)?;
     take(rt, &mut tree, full)?;
     assert!(rt; tree.split_last()?);
     take(rt, &mut tree, divided)

@@ -85,7 +85,7 @@ where
         N::remove_if(&mut self.arenas, self.root, key, condition)
     }
 
-    /// How many children the root has left.
+    /// Removes the pairs whose keys are within the bounds, and returns how many children the root has left.
     pub(crate) fn remove_range(&mut self, low: Bound<&u64>, high: Bound<&u64>) -> usize {
         N::remove_range(&mut self.arenas, self.root, (low, high))
     }
@@ -150,7 +150,7 @@ where
     }
 }
 
-/// Splits a root, and returns the root then. `Err` if memory is refused, or if the root is retired.
+/// Splits a root, and returns the new root. `Err` if memory is refused, or if the root is retired.
 fn raise<const LEVEL: usize, const LEN: usize>(
     arenas: &mut ArenasOf<u64, u64, LEN>,
     root: NodeId,
@@ -165,7 +165,7 @@ fn raise<const LEVEL: usize, const LEN: usize>(
     NodeOf::split_root(arenas, root)
 }
 
-/// The tree after its root was split. `Err` if memory is refused, or if the root is retired.
+/// Splits the root, and returns the tree of one more level. `Err` if memory is refused, or if the root is retired.
 pub(crate) fn split_root<const LEVEL: usize, const HIGHER: usize, const LEN: usize>(
     tree: Planted<NodeOf<u64, LEN>, LEVEL, LEN>,
 ) -> Result<Planted<InternalNodeOf<u64, LEN>, HIGHER, LEN>, AllocError>
@@ -184,8 +184,8 @@ pub(crate) fn split_root<const LEVEL: usize, const HIGHER: usize, const LEN: usi
     })
 }
 
-/// A leaf node over one leaf, which holds this pair alone, under an internal root.
-pub(crate) fn raised<const LEN: usize>(
+/// An internal root over one leaf node, under which one leaf holds this pair alone.
+pub(crate) fn internal_root<const LEN: usize>(
     alloc: Global,
     key: u64,
     val: u64,
@@ -219,7 +219,7 @@ pub(crate) fn replants<const LEN: usize>(
     replant::<1, LEN>(&mut tree.arenas, tree.root)
 }
 
-/// Cleans up at a root, and returns the root then.
+/// Cleans up at a root, and returns the new root.
 fn lower<const LEVEL: usize, const LEN: usize>(
     arenas: &mut ArenasOf<u64, u64, LEN>,
     root: NodeId,
@@ -231,7 +231,8 @@ fn lower<const LEVEL: usize, const LEN: usize>(
     NodeOf::cleanup_root(arenas, root)
 }
 
-/// Whether another root or the same one is left by a clean-up, if there is one, and how many leaves and nodes.
+/// Cleans up at the root. Returns whether the root moved, or `None` if no root is left, and how many leaves and nodes there
+/// are then.
 pub(crate) fn cleanup_root<const LEVEL: usize, const LEN: usize>(
     tree: Planted<NodeOf<u64, LEN>, LEVEL, LEN>,
 ) -> (Option<bool>, usize, usize) {

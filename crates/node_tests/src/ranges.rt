@@ -1,7 +1,7 @@
 //! Removals of ranges that drop children whole, under a root of ascending keys from 1 on.
 ghost use Rattle.tree_array.specs.Length.{IsLen};
 
-use crate::planted::{Planted, cleanup_root, raised};
+use crate::planted::{Planted, cleanup_root, internal_root};
 use crate::steps::{Step, Told, take};
 use std::alloc::{AllocError, Global};
 use std::ops::Bound;
@@ -102,9 +102,9 @@ fn drops_nodes<const LEN: usize>(
 ) -> Result<(), AllocError>
     requires { IsLen LEN }
 {
-    let mut tree = raised::<LEN>(alloc, 1, 1)?;
+    let mut tree = internal_root::<LEN>(alloc, 1, 1)?;
     take(rt, &mut tree, steps)?;
-    assert!(rt; cleanup_root(tree.through_node()) == (Some(true), leaves, 1));
+    assert_eq!(rt; cleanup_root(tree.through_node()), (Some(true), leaves, 1));
     Ok(())
 }
 

@@ -26,21 +26,22 @@ impl Told {
     }
 }
 
-/// A call, or several, and the answer. The value at a key is the key and so much more.
+/// A call, or several of one kind, and what each should answer. The third number of those that take one is how much the
+/// value at a key is larger than the key.
 pub(crate) enum Step {
     /// Inserts the keys from the first to the last.
     Insert(u64, u64, u64, Told),
     /// Inserts them in place of what is at equal keys.
     Upsert(u64, u64, u64, Told),
-    /// Removes the keys from the last to the first, where they have this value.
+    /// Removes the keys from the last to the first, on the condition that they have this value.
     Remove(u64, u64, u64, RemoveResult),
-    /// Removes the keys within both bounds, and this many children are left at the root.
+    /// Removes the keys within both bounds. The root has this many children left.
     RemoveRange(Bound<u64>, Bound<u64>, usize),
     /// Finds the value at a key.
     Find(u64, Option<u64>),
     /// Finds the first pair and the last one.
     Ends(Option<(u64, u64)>, Option<(u64, u64)>),
-    /// Tells the depth, and there are so many leaves and nodes.
+    /// Tells the depth, and counts the leaves and the nodes in the arenas.
     Shape(usize, usize, usize),
     /// Tells whether the root is retired, and whether its child may take its place.
     Marks(bool, bool),

@@ -1,5 +1,5 @@
 use Rattle.node_tests.proofs.Plantings.{planted_new}
-use Rattle.std.proofs.Common.{refl, sym}
+use Rattle.std.proofs.Common.{refl}
 use Rattle.std.specs.Ordering.{nat_cmp}
 use Rattle.tree_node.proofs.Bare.{empty_tree}
 use Rattle.tree_node.proofs.Sizes.{fits}

@@ -1,6 +1,5 @@
 use Rattle.std.proofs.Common.{sym}
 use Rattle.node_tests.proofs.Plantings.{planted_stands, internal_part, planted_by_split}
-use Rattle.std.proofs.Common.{rules}
 use Rattle.std.specs.Ordering.{nat_cmp}
 use Rattle.tree_node.proofs.Levels.{node_at}
 use Rattle.tree_node.proofs.Sizes.{fits}

@@ -1,5 +1,5 @@
 use Rattle.std.proofs.Common.{rules, inl, inr}
-use Rattle.node_tests.proofs.planted.raised.Goals as goal
+use Rattle.node_tests.proofs.planted.internal_root.Goals as goal
 
 pub split_root-requires : goal.split_root-requires
 split_root-requires g c = elim c.requires [
