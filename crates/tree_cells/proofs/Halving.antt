@@ -79,6 +79,18 @@ module _ {K V : Type 0} {cmp : K → K → Ordering} (o : IsTotalOrder cmp) {cel
     less_after e f h (inl less) = o.trans key e.0 f.0 h less
     less_after e f h (inr same) = rw (← same) h
 
+    -- a key larger than the last stands behind all
+    pub beyond_last : (e : K × V) → arrival cells (named order (count - 1)) ≡ Some e → cmp key e.0 ≡ Greater → IsPlace cmp cells order count key (Before count 15)
+    beyond_last e there greater = inr (
+      omega arith,
+      refl,
+      record {
+        within = omega arith;
+        smaller = λ i f lt at_i. greater_before f e greater (rises i (count - 1) f e (omega arith) (omega arith) at_i there);
+        larger = λ i f le lt. absurd (omega arith);
+      },
+    )
+
     pub window_all : len ≤ 15 → IsWindow cmp cells order key len 0 order 0 len
     window_all small = record {
       reach = omega arith;

@@ -7,8 +7,12 @@ ghost use Rattle.tree_cells.specs.Tabled.{IsInOrder};
 
 use crate::cells::Cells;
 use crate::judge::Asks;
+use std::cmp::Ordering;
 use std::mem::size_of_val;
 use tree_order::order::{BEYOND, slot_at};
+
+/// Keys of more bytes are compared with a branch for each answer: so a processor reads on before a dear comparison has answered.
+const WIDE: usize = 16;
 
 /// Where a key stands in the order of an array.
 #[derive(Clone, Copy)]
@@ -82,7 +86,7 @@ pub fn find<K: Ord, V, By, A: Asks<K, By>, const LEN: usize>(
     if count == 0 {
         return Place::Before(0, BEYOND);
     }
-    let ends_early = size_of_val(cells.key(slot_at(order, 0))) > 16;
+    let ends_early = size_of_val(cells.key(slot_at(order, 0))) > WIDE;
     let window = begin(cells, order, count, asked);
     if ends_early && window.met > 0 {
         return window.end(7);
@@ -157,7 +161,27 @@ fn halve<K: Ord, V, By, A: Asks<K, By>, const LEN: usize>(
     ensures same_key { A.key asked.new ≡ A.key asked.old }
     ensures counted { A.count asked.new ≤ A.count asked.old + 1 }
 {
-    let answer = asked.ask(cells.key(slot_at(window.rest, half)));
+    let stored = cells.key(slot_at(window.rest, half));
+    let answer = asked.ask(stored);
+    if size_of_val(stored) > WIDE {
+        return match answer {
+            Ordering::Less => window,
+            Ordering::Equal => Window {
+                order: window.order,
+                count: window.count,
+                place: window.place,
+                rest: window.rest,
+                met: window.met + 1,
+            },
+            Ordering::Greater => Window {
+                order: window.order,
+                count: window.count,
+                place: window.place + half + 1,
+                rest: window.rest >> (4 * half + 4),
+                met: window.met,
+            },
+        };
+    }
     let met = window.met + answer.is_eq() as u8;
     let (place, rest) = if answer.is_gt() {
         (window.place + half + 1, window.rest >> (4 * half + 4))
@@ -188,4 +212,29 @@ pub fn find_key<K: Ord, V, const LEN: usize>(
     ensures { IsPlace K.cmp cells.now order count key.now result }
 {
     find(cells, order, count, &mut &*key)
+}
+
+/// Where a key stands, as [`find_key`] tells. With `rightmost` the key is compared with the last one first, and a larger key
+/// is done: there belong keys that arrive in ascending order. That is at most one comparison more.
+#[inline]
+pub fn find_key_beyond<K: Ord, V, const LEN: usize>(
+    cells: &Cells<K, V, LEN>,
+    order: u64,
+    count: u8,
+    key: &K,
+    rightmost: bool,
+) -> Place
+    requires len { IsLen LEN }
+    requires few { count ≤ LEN }
+    requires in_order { IsInOrder K.cmp cells.now order count }
+    requires filled { 0 < count → IsFilled LEN order count }
+    ensures { IsPlace K.cmp cells.now order count key.now result }
+{
+    if rightmost && count > 0 {
+        let last = slot_at(order, count - 1);
+        if key.cmp(cells.key(last)).is_gt() {
+            return Place::Before(count, BEYOND);
+        }
+    }
+    find_key(cells, order, count, key)
 }

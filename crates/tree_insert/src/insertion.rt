@@ -67,7 +67,12 @@ fn insert_from<const UPSERT: bool, K: IndexKey, V: Drop, const LEN: usize>(
                 return Ok(StoreResult::Full(key, val));
             };
             let leaf = place.child;
-            match arenas.leaf_mut(leaf).array_mut().store::<UPSERT>(key, val) {
+            let rightmost_leaf = rightmost && place.slot.is_none();
+            match arenas.leaf_mut(leaf).array_mut().store::<UPSERT>(
+                rightmost_leaf,
+                key,
+                val,
+            ) {
                 StoreResult::Full(key, val) => match make_room(arenas, id, leaf, &key) {
                     Err(_) => Err((key, val)),
                     Ok(false) => Ok(StoreResult::Full(key, val)),

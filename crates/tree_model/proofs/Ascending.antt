@@ -17,7 +17,7 @@ less_from_test Less h = refl
 less_from_test Equal h = cc
 less_from_test Greater h = cc
 
-greater_from_test : (c : Ordering) → is_gt c ≡ true → c ≡ Greater
+pub greater_from_test : (c : Ordering) → is_gt c ≡ true → c ≡ Greater
 greater_from_test Less h = cc
 greater_from_test Equal h = cc
 greater_from_test Greater h = refl

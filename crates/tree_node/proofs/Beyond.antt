@@ -10,11 +10,6 @@ use Rattle.tree_model.specs.Pairs.{IsAscending, AllLarger}
 use Rattle.tree_model.proofs.Lists.{find_none}
 use Rattle.tree_model.proofs.Order.{less_from_greater}
 
-pub greater_of : (answer : Ordering) → IsTrue (is_gt answer) → answer ≡ Greater
-greater_of Greater h = refl
-greater_of Equal h = absurd (cc)
-greater_of Less h = absurd (cc)
-
 module _ {K X : Type 0} {cmp : K → K → Ordering} (o : IsTotalOrder cmp) (key : K) where
   last_larger : (a : K) (front : List (K × X)) (last : K × X) → AllLarger cmp a (front ++ last ∷ []) → cmp a last.0 ≡ Less
   last_larger a [] last h = h.0

@@ -4,7 +4,7 @@ ghost use Rattle.tree_array.specs.Arrivals.{stored};
 ghost use Rattle.tree_array.specs.Insertion.{IsInsert, IsStore, PartsEntries};
 
 use super::{ArrayOf, InsertResult, StoreResult};
-use tree_cells::search::{Place, find_key};
+use tree_cells::search::{Place, find_key_beyond};
 use tree_order::order::{clamp, inserted, renamed};
 
 impl<K: Ord + Drop, V: Drop, const LEN: usize> ArrayOf<K, V, LEN> {
@@ -17,14 +17,20 @@ impl<K: Ord + Drop, V: Drop, const LEN: usize> ArrayOf<K, V, LEN> {
     pub fn insert<const UPSERT: bool>(&mut self, key: K, val: V) -> InsertResult<K, V>
         ensures { IsInsert K.cmp LEN UPSERT self.old key val result self.new }
     {
-        self.store::<UPSERT>(key, val).into_insert()
+        self.store::<UPSERT>(false, key, val).into_insert()
     }
 
-    /// Does what [`insert`](ArrayOf::insert) does, and tells whether the key is new.
-    pub fn store<const UPSERT: bool>(&mut self, key: K, val: V) -> StoreResult<K, V>
+    /// Does what [`insert`](ArrayOf::insert) does, and tells whether the key is new. With `rightmost` it compares the key
+    /// with the last one first: where that is smaller, this is the only comparison, and else there is one more.
+    pub fn store<const UPSERT: bool>(
+        &mut self,
+        rightmost: bool,
+        key: K,
+        val: V,
+    ) -> StoreResult<K, V>
         ensures { IsStore K.cmp LEN UPSERT self.old key val result self.new }
     {
-        match find_key(&self.cells, self.order, self.count, &key) {
+        match find_key_beyond(&self.cells, self.order, self.count, &key, rightmost) {
             Place::At(place, slot) => {
                 if !UPSERT {
                     StoreResult::Duplicate(key, val)
