@@ -9,6 +9,10 @@ const REQUESTS: &[u8] = b"insert 1 10\npeek 1\ninsert 2 20\npeek 2";
 
 const ANSWERS: &[u8] = b"ok\n10\nok\n20\n";
 
+const WALKS: &[u8] = b"insert 2 2\ninsert 1 1\niter\nback\nrange (1 -\nrange [2 (2\nlocate 3\n";
+
+const PAIRS: &[u8] = b"ok\nok\n1=1 2=2\n2=2 1=1\n2=2\n\nsmaller 2=2\n";
+
 // A stream of which each read and each write fails.
 #[derive(Clone, Copy)]
 struct Broken(ErrorKind);
@@ -53,6 +57,7 @@ fn ends_at_the_end_of_the_input(rt: HostRuntime) {
         (b"".as_slice(), b"".as_slice()),
         (b"insert 1 10\npeek 1\n", b"ok\n10\n"),
         (REQUESTS, ANSWERS),
+        (WALKS, PAIRS),
     ] {
         let once = || ends_with(rt.alloc(), input, 64, (0, answers));
         assert!(rt; once() || once(), "{input:?}");
@@ -73,9 +78,11 @@ fn tells_that_a_read_failed(rt: HostRuntime) {
 // A slice that is full takes no byte.
 #[test]
 fn tells_that_a_write_failed(rt: HostRuntime) {
-    for room in 0..ANSWERS.len() {
-        let once = || ends_with(rt.alloc(), REQUESTS, room, (2, ANSWERS.split_at(room).0));
-        assert!(rt; once() || once(), "with room for {room}");
+    for (requests, answers) in [(REQUESTS, ANSWERS), (WALKS, PAIRS)] {
+        for room in 0..answers.len() {
+            let once = || ends_with(rt.alloc(), requests, room, (2, answers.split_at(room).0));
+            assert!(rt; once() || once(), "with room for {room}");
+        }
     }
     for kind in [ErrorKind::Other, ErrorKind::Interrupted] {
         let broken = Broken(kind);
