@@ -16,6 +16,7 @@ use Rattle.tree_node.proofs.Bare.{no_children}
 use Rattle.tree_node.proofs.Unchanged.{unchanged_replaces}
 use Rattle.tree_cut.specs.Cuts.{CutsUnder}
 use Rattle.tree_cut.proofs.Tops.{childless_cut, retired_node}
+use Rattle.tree_ranges.specs.Approximate.{Approximates}
 use Rattle.tree_remove.specs.Removes.{RemovesUnder}
 
 module _ {K V : Type 0} {LEN : ℕ} (a : TreeArenas K V LEN) (id : ℕ) where
@@ -103,6 +104,11 @@ module _ {K V : Type 0} {LEN : ℕ} (cmp : K → K → Ordering) (a : TreeArenas
     pub begins_at : (way : Way) (result : Option (LeafWalk K V LEN)) → MatchOption result (walk found a id ≡ []) (BeginsPart way found a id) → MatchOption result (walk level a id ≡ []) (BeginsPart way level a id)
     begins_at way None nothing = rw is.leaves at nothing
     begins_at way (Some begun) begins = record { unopened = begins.unopened; leaf = rw is.leaves at begins.leaf; entry = rw is.leaves at begins.entry }
+
+    -- a walk that stands near a key in the part does so at either level
+    pub approximates_at : (way : Way) (bound : Bound K) (result : Option (LeafWalk K V LEN)) → Approximates cmp way found a id bound result → Approximates cmp way level a id bound result
+    approximates_at way bound None none = rw is.leaves at none
+    approximates_at way bound (Some opened) near = record { same = near.same; front = near.front; pair = near.pair; back = near.back; parts = rw is.leaves at near.parts; here = near.here; met = near.met }
 
     -- no more is asked than at the greater level
     pub within_level : (len asked most : ℕ) → asked ≤ most + len * (found + 1) → asked ≤ most + len * (level + 1)

@@ -1,10 +1,11 @@
 //! The calls that each of the three types of nodes has. They are `final`, so that each is proved once for all types.
 ghost use Rattle.std.proofs.Common.{sym};
 ghost use Rattle.std.proofs.Math.Nat.{le_of_eq, le_of_lt};
-ghost use Rattle.std.specs.Prelude.{◌≡◌, ◌↔◌, ◌⊎◌, ◌+◌, ◌*◌, ◌<◌, ◌≤◌, [], IsTrue, MatchOption, None, Ok, Some, length, ℕ};
+ghost use Rattle.std.specs.Prelude.{◌≡◌, ◌↔◌, ◌⊎◌, ◌+◌, ◌*◌, ◌<◌, ◌≤◌, [], IsTrue, MatchOption, None, Ok, Some, length, if◌then◌else◌, ℕ};
 ghost use Rattle.std.specs.Fn.{FnOnceReturnsAt, FnOnceTakesAt};
 ghost use Rattle.std.specs.Option.{ForSome};
 ghost use Rattle.std.specs.Range.Bound.{bound_map};
+ghost use Rattle.std.specs.declared.ops.Bound.TheVariants.{Included};
 ghost use Rattle.slab.specs.Slab.{get};
 ghost use Rattle.tree_array.specs.Length.{searched};
 ghost use Rattle.tree_array.specs.declared.answers.InsertResult.TheVariants.{Full as PlainlyFull};
@@ -16,6 +17,7 @@ ghost use Rattle.tree_model.specs.Pairs.{IsAbsent, pair_at};
 ghost use Rattle.tree_walk.specs.Ends.{BeginsPart, IsLinked};
 ghost use Rattle.tree_node.specs.Parts.{IsPart, Unchanged};
 ghost use Rattle.tree_node.specs.Tree.{IsRetired, Stands, StandsOrRetired, children_of, walk};
+ghost use Rattle.tree_ranges.specs.Approximate.{Approximates};
 ghost use Rattle.tree_remove.specs.CleanUps.{HasOnlyRetired};
 ghost use Rattle.tree_remove.specs.Removes.{RemovesUnder};
 
@@ -30,6 +32,7 @@ use tree_node::internal_node::InternalNodeOf;
 use tree_node::leaf_node::LeafNodeOf;
 use tree_node::look_ups::search_at;
 use tree_node::node::{ArenasOf, NodeOf};
+use tree_ranges::approximate::approximate_at;
 use tree_remove::removal::remove_at;
 use tree_walk::ends::{max_at, min_at};
 
@@ -115,6 +118,26 @@ pub trait NodeCalls<K: Ord + Drop, const LEN: usize> {
     {
         let level = level_of(arenas, id);
         max_at(arenas, level, id)
+    }
+
+    /// Opens a walk in key order on the entry under the node that is nearest to a key: the greatest whose key isn't larger,
+    /// if `LE` is `true`, and the least whose key isn't smaller, if it is `false`. Returns `None` only if no entry there
+    /// has such a key. Descends twice, and allocates nothing.
+    ///
+    /// The leaves under the node must be in one chain.
+    final fn approximate<'a, const LE: bool, V: Drop>(
+        arenas: &'a ArenasOf<K, V, LEN>,
+        id: NodeId,
+        key: &K,
+    ) -> Option<IterOf<'a, K, V, LEN>>
+        ghost level: { ℕ }
+        requires kind { StandsAt level }
+        requires stands { StandsOrRetired K.cmp level arenas.now id }
+        requires linked { IsLinked level arenas.now id }
+        ensures { Approximates K.cmp (if LE then Back else On) level arenas.now id (Included key.now) result }
+    {
+        let level = level_of(arenas, id);
+        approximate_at::<K, V, LE, LEN>(arenas, level, id, key)
     }
 
     /// Returns how many levels of nodes the part has, the node's own among them: 1 for a retired node. Makes no
