@@ -1,0 +1,13 @@
+use Rattle.node_tests.proofs.Plantings.{planted_stands}
+use Rattle.std.proofs.Common.{rules}
+use Rattle.std.specs.Ordering.{nat_cmp}
+use Rattle.tree_node.proofs.Sizes.{fits}
+use Rattle.node_tests.proofs.planted.PlantedSearched.search.Goals as goal
+
+pub search_entry-requires : goal.search_entry-requires
+search_entry-requires g c κs within =
+    (within.0, (search rules, (search rules, (search rules, (search fits, (search fits, (search fits, (c.self.invariant.0, planted_stands nat_cmp c.self.inside.arenas c.self.inside.root g.row.LEVEL c.self.invariant.1))))))))
+
+pub search_value-val-requires : goal.search_value-val-requires
+search_value-val-requires g c κs within =
+    (within.0, (search rules, (search rules, (search rules, (search fits, (search fits, (search fits, (c.self.invariant.0, planted_stands nat_cmp c.self.inside.arenas c.self.inside.root g.row.LEVEL c.self.invariant.1))))))))

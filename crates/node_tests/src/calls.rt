@@ -1,0 +1,179 @@
+//! Each call on a few pairs.
+ghost use Rattle.tree_array.specs.Length.{IsLen};
+
+use crate::planted::{Planted, cleanup_root, internal_root, replants};
+use crate::steps::{Step, Told, take};
+use std::alloc::{AllocError, Global};
+use std::ops::Bound;
+use std::process::Abort;
+use test_support::refusals::succeeds;
+use tree_array::array::RemoveResult;
+use tree_node::leaf_node::LeafNodeOf;
+use tree_node::node::NodeOf;
+
+/// The calls of a root over one leaf, which holds the pair (10, 11) at first, until the root is retired. If the root is
+/// an internal node, the leaf node below it is dropped then.
+static FEW: [Step; 24] = [
+    Step::Insert(20, 20, 2, Told::Success),
+    Step::Insert(20, 20, 3, Told::Duplicate),
+    Step::Find(20, Some(22)),
+    Step::Upsert(20, 20, 4, Told::Success),
+    Step::Find(20, Some(24)),
+    Step::Find(10, Some(11)),
+    Step::Find(15, None),
+    Step::RemoveRange(Bound::Excluded(10), Bound::Excluded(20), 1),
+    Step::RemoveRange(Bound::Included(20), Bound::Included(10), 1),
+    Step::Ends(Some((10, 11)), Some((20, 24))),
+    Step::Remove(15, 15, 1, RemoveResult::Fail),
+    Step::Remove(10, 10, 4, RemoveResult::Fail),
+    Step::Remove(10, 10, 1, RemoveResult::Success),
+    Step::Find(10, None),
+    Step::Ends(Some((20, 24)), Some((20, 24))),
+    Step::Remove(20, 20, 4, RemoveResult::Retired),
+    Step::Shape(1, 0, 1),
+    Step::Insert(20, 20, 4, Told::Full),
+    Step::Upsert(20, 20, 4, Told::Full),
+    Step::Remove(20, 20, 4, RemoveResult::Fail),
+    Step::RemoveRange(Bound::Unbounded, Bound::Unbounded, 0),
+    Step::Find(20, None),
+    Step::Ends(None, None),
+    Step::Shape(1, 0, 1),
+];
+
+static LEAF_NODE: [Step; 2] = [Step::Shape(1, 1, 1), Step::Marks(false, false)];
+
+static RETIRED_LEAF_NODE: [Step; 1] = [Step::Marks(true, false)];
+
+static INTERNAL_NODE: [Step; 2] = [Step::Shape(2, 1, 2), Step::Marks(false, true)];
+
+static RETIRED_INTERNAL_NODE: [Step; 1] = [Step::Marks(true, true)];
+
+fn leaf_node<const LEN: usize>(rt: &impl Abort, alloc: Global) -> Result<(), AllocError>
+    requires { IsLen LEN }
+{
+    let mut tree = Planted::<LeafNodeOf<u64, LEN>, 1, LEN>::new(alloc, 10, 11)?;
+    take(rt, &mut tree, &LEAF_NODE)?;
+    take(rt, &mut tree, &FEW)?;
+    take(rt, &mut tree, &RETIRED_LEAF_NODE)
+}
+
+#[test]
+fn a_leaf_node_answers(rt: HostRuntime) {
+    assert!(rt;
+        succeeds(|| {
+            leaf_node::<15>(&rt, rt.alloc())?;
+            leaf_node::<7>(&rt, rt.alloc())
+        })
+    );
+}
+
+fn internal_node<const LEN: usize>(rt: &impl Abort, alloc: Global) -> Result<(), AllocError>
+    requires { IsLen LEN }
+{
+    let mut tree = internal_root::<LEN>(alloc, 10, 11)?;
+    take(rt, &mut tree, &INTERNAL_NODE)?;
+    take(rt, &mut tree, &FEW)?;
+    take(rt, &mut tree, &RETIRED_INTERNAL_NODE)
+}
+
+#[test]
+fn an_internal_node_answers(rt: HostRuntime) {
+    assert!(rt;
+        succeeds(|| {
+            internal_node::<15>(&rt, rt.alloc())?;
+            internal_node::<7>(&rt, rt.alloc())
+        })
+    );
+}
+
+/// A clean-up keeps a leaf node as the root, retired or not.
+fn either_leaf_node<const LEN: usize>(rt: &impl Abort, alloc: Global) -> Result<(), AllocError>
+    requires { IsLen LEN }
+{
+    let mut tree = Planted::<NodeOf<u64, LEN>, 1, LEN>::new(alloc, 10, 11)?;
+    take(rt, &mut tree, &LEAF_NODE)?;
+    take(rt, &mut tree, &FEW)?;
+    take(rt, &mut tree, &RETIRED_LEAF_NODE)?;
+    assert_eq!(rt; cleanup_root(tree), (Some(false), 0, 1));
+    Ok(())
+}
+
+/// It drops a retired internal node.
+fn either_internal_node<const LEN: usize>(rt: &impl Abort, alloc: Global) -> Result<(), AllocError>
+    requires { IsLen LEN }
+{
+    let mut tree = internal_root::<LEN>(alloc, 10, 11)?.through_node();
+    take(rt, &mut tree, &INTERNAL_NODE)?;
+    take(rt, &mut tree, &FEW)?;
+    take(rt, &mut tree, &RETIRED_INTERNAL_NODE)?;
+    assert_eq!(rt; cleanup_root(tree), (None, 0, 0));
+    Ok(())
+}
+
+#[test]
+fn a_node_of_either_kind_answers(rt: HostRuntime) {
+    assert!(rt;
+        succeeds(|| {
+            either_leaf_node::<15>(&rt, rt.alloc())?;
+            either_leaf_node::<7>(&rt, rt.alloc())?;
+            either_internal_node::<15>(&rt, rt.alloc())?;
+            either_internal_node::<7>(&rt, rt.alloc())
+        })
+    );
+}
+
+/// A leaf node stays the root, and an internal node without keyed children gives its place to its child.
+fn cleaned<const LEN: usize>(rt: &impl Abort, alloc: Global) -> Result<(), AllocError>
+    requires { IsLen LEN }
+{
+    let low = Planted::<NodeOf<u64, LEN>, 1, LEN>::new(alloc, 10, 11)?;
+    assert_eq!(rt; cleanup_root(low), (Some(false), 1, 1));
+    let high = internal_root::<LEN>(alloc, 10, 11)?;
+    assert_eq!(rt; cleanup_root(high.through_node()), (Some(true), 1, 1));
+    Ok(())
+}
+
+#[test]
+fn a_clean_up_leaves_a_leaf_node(rt: HostRuntime) {
+    assert!(rt;
+        succeeds(|| {
+            cleaned::<15>(&rt, rt.alloc())?;
+            cleaned::<7>(&rt, rt.alloc())
+        })
+    );
+}
+
+/// The only pair is gone.
+static RETIRED: [Step; 2] = [
+    Step::Remove(10, 10, 1, RemoveResult::Retired),
+    Step::Shape(1, 0, 1),
+];
+
+/// The retired leaf node got an empty leaf, and takes pairs again.
+static PLANTED_ANEW: [Step; 6] = [
+    Step::Shape(1, 1, 1),
+    Step::Marks(false, false),
+    Step::Ends(None, None),
+    Step::Insert(20, 20, 2, Told::Success),
+    Step::Find(20, Some(22)),
+    Step::Ends(Some((20, 22)), Some((20, 22))),
+];
+
+fn retired_root<const LEN: usize>(rt: &impl Abort, alloc: Global) -> Result<(), AllocError>
+    requires { IsLen LEN }
+{
+    let mut tree = Planted::<NodeOf<u64, LEN>, 1, LEN>::new(alloc, 10, 11)?;
+    take(rt, &mut tree, &RETIRED)?;
+    assert!(rt; replants(&mut tree)?);
+    take(rt, &mut tree, &PLANTED_ANEW)
+}
+
+#[test]
+fn a_retired_root_is_planted_anew(rt: HostRuntime) {
+    assert!(rt;
+        succeeds(|| {
+            retired_root::<15>(&rt, rt.alloc())?;
+            retired_root::<7>(&rt, rt.alloc())
+        })
+    );
+}

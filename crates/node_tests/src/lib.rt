@@ -1,0 +1,15 @@
+//! Tests of the calls of the three types of nodes, each at keys of a concrete type.
+#![tactic(auto)]
+
+#[cfg(test)]
+mod calls;
+#[cfg(test)]
+mod growth;
+#[cfg(test)]
+mod planted;
+#[cfg(test)]
+mod ranges;
+#[cfg(test)]
+mod searches;
+#[cfg(test)]
+mod steps;
