@@ -138,8 +138,8 @@ static DIVIDED: [Step; 5] = [
     Step::Shape(2, 16, 3),
     Step::Find(225, Some(225)),
     Step::Find(226, Some(226)),
-    Step::Insert(241, 255, 0, Told::Success),
-    Step::Shape(2, 17, 3),
+    Step::Insert(241, 465, 0, Told::Success),
+    Step::Shape(2, 31, 3),
 ];
 
 static SMALL_FULL: [Step; 2] = [Step::Insert(2, 56, 0, Told::Success), Step::Shape(2, 8, 2)];
@@ -148,11 +148,12 @@ static SMALL_DIVIDED: [Step; 5] = [
     Step::Shape(2, 8, 3),
     Step::Find(49, Some(49)),
     Step::Find(50, Some(50)),
-    Step::Insert(57, 63, 0, Told::Success),
-    Step::Shape(2, 9, 3),
+    Step::Insert(57, 105, 0, Told::Success),
+    Step::Shape(2, 15, 3),
 ];
 
-/// Fills the one child of a root, and splits it: a new node takes all of its leaves but the last.
+/// Fills the one child of a root, and splits it: a new node takes all of its leaves but the last. So there is room for as
+/// many leaves more before another node is needed.
 fn divides<const LEN: usize>(
     rt: &impl Abort,
     alloc: Global,
