@@ -16,8 +16,8 @@ impl<K: IndexKey, V: Drop + Clone, const LEN: usize> TreeIndexOf<K, V, LEN> {
     /// Returns a copy: an index of a clone of each key with a clone of its value, in the same order.
     ///
     /// Returns `Err` if an allocation is refused, one of a clone among them; nothing of the copy is left then. Inserts
-    /// the clones in ascending order, so that each is compared with the last separator of a node alone, until it comes
-    /// to the last leaf.
+    /// the clones in ascending order, so that each is compared with the last separator of each node on its way and the
+    /// last key of the last leaf alone.
     pub fn try_clone(&self, alloc: Global) -> Result<Self, AllocError>
         ensures { IfOk result (λ copy. AllZip (IsPairClone K.is_clone V.is_clone) self.now.pairs copy.pairs) }
     {
