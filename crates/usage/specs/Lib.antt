@@ -1,1 +1,2 @@
 pub mod Price
+pub mod Walks

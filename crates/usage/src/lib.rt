@@ -7,10 +7,12 @@ ghost use Rattle.std.specs.Ordering.{nat_cmp};
 ghost use Rattle.tree_model.specs.Pairs.{pair_at};
 
 mod keys;
+mod walks;
 
 pub use keys::Price;
 use tree_index::{InsertError, Judge, TreeIndex};
 use tree_model::laws::edits_are_found;
+pub use walks::{ends_within, highest_price, price_at_or_below};
 
 /// Offers a price for an item. Returns the price that stands, which is the first one offered.
 ///
