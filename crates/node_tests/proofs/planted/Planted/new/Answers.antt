@@ -11,4 +11,4 @@ plant-requires g c =
 
 pub invariant_of-result : goal.invariant_of-result
 invariant_of-result g c =
-    (c.requires.kind, planted_new nat_cmp g.row.LEVEL c.plant.new.arenas c.in-Ok.root c.requires.level c.in-Ok.ensures.tree)
+    (c.requires.kind, planted_new nat_cmp g.row.LEVEL c.plant.new.arenas c.in-Ok.root c.requires.level c.in-Ok.ensures.plants.tree)
