@@ -13,7 +13,15 @@ use tree_index::TreeIndex;
 use tree_support::Asked;
 
 /// Whether a judge of the key finds a pair.
-fn is_found<'c, L: Ledger>(index: &TreeIndex<Asked<'c>, u64>, key: &Asked<'c>, blank: Blank) -> bool
+fn is_found<'c>(index: &TreeIndex<Asked<'c>, u64>, key: &Asked<'c>) -> bool {
+    is_found_by::<Brand>(index, key, Blank::new(1))
+}
+
+fn is_found_by<'c, L: Ledger>(
+    index: &TreeIndex<Asked<'c>, u64>,
+    key: &Asked<'c>,
+    blank: Blank,
+) -> bool
     requires name { blank.name ≡ L.name }
     requires parts { blank.parts ≡ L.parts }
     requires some { 0 < L.parts }
@@ -38,7 +46,7 @@ fn look_up<'c>(
     assert!(rt; counter.replace(0) <= most);
     assert!(rt; index.contains(&key) == there);
     assert!(rt; counter.replace(0) <= most);
-    assert!(rt; is_found::<Brand>(index, &key, Blank::new(1)) == there);
+    assert!(rt; is_found(index, &key) == there);
     assert!(rt; counter.get() <= most);
 }
 
@@ -101,7 +109,11 @@ impl<J: Judge<u64>> Judge<u64> for Recording<J> {
 }
 
 /// The key that a judge of the key finds, and the one that the judge was asked and found equal.
-fn found_and_asked<L: Ledger>(
+fn found_and_asked(index: &TreeIndex<u64, u64>, key: u64) -> (Option<u64>, Option<u64>) {
+    found_and_asked_by::<Brand>(index, key, Blank::new(1))
+}
+
+fn found_and_asked_by<L: Ledger>(
     index: &TreeIndex<u64, u64>,
     key: u64,
     blank: Blank,
@@ -129,7 +141,7 @@ fn asks_the_key_it_finds_steps(rt: &impl Abort, alloc: Global) -> Result<(), All
     for key in 0..=483u64 {
         let there = (2..=482).contains(&key) && key % 2 == 0;
         let wanted = if there { Some(key) } else { None };
-        let told = found_and_asked::<Brand>(&index, key, Blank::new(1));
+        let told = found_and_asked(&index, key);
         assert!(rt; told == (wanted, wanted));
     }
     Ok(())
