@@ -16,7 +16,10 @@ fn comparisons(
 ) -> Result<u64, AllocError> {
     let mut index: TreeIndex<Asked, u64> = TreeIndex::new(alloc);
     for number in 1..=last {
-        if index.insert_sync(Asked::new(number, counter), number).is_err() {
+        if index
+            .insert_sync(Asked::new(number, counter), number)
+            .is_err()
+        {
             return Err(AllocError);
         }
     }

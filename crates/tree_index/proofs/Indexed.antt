@@ -25,7 +25,7 @@ use Rattle.tree_index.specs.declared.tree.Stored.TheVariants.{New as NewKey, Rep
 use Rattle.tree_index.specs.declared.tree.Tree.{Tree}
 use Rattle.tree_packed.proofs.Tests.{packed_depth}
 use Rattle.tree_index.proofs.Stored.{stands_or_retired}
-use Rattle.tree_index.specs.Index.{Index, IsTreeOf, IsWritten, KeepsPacked, KeepsSpare, SpendsInsert, StoresPair, index_of}
+use Rattle.tree_index.specs.Index.{Index, IsTreeOf, IsWritten, StaysPacked, KeepsSpare, SpendsInsert, StoresPair, index_of}
 use Rattle.tree_index.specs.Trees.{IsWhole, Stores, Takes, pairs_of, told}
 
 module _ {K V : Type 0} {LEN : ℕ} {cmp : K → K → Ordering} (o : IsTotalOrder cmp) where
@@ -133,7 +133,7 @@ walks_from cmp index arenas root is =
 
 -- what a store is to an insert, which replaces no pair, and to an upsert, which finds no duplicate
 module _ {K V : Type 0} (LEN : ℕ) (cmp : K → K → Ordering) (old new : Index K V) (key : K) (val : V) where
-  pub inserted : (stored : Stored) → StoresPair cmp false LEN old new key val (Ok stored) → IsAbsent cmp old.pairs key × (new.pairs ≡ put cmp old.pairs key val) × IsWritten LEN old new × KeepsPacked cmp old new key
+  pub inserted : (stored : Stored) → StoresPair cmp false LEN old new key val (Ok stored) → IsAbsent cmp old.pairs key × (new.pairs ≡ put cmp old.pairs key val) × IsWritten LEN old new × StaysPacked cmp old new key
   inserted NewKey stores = (stores.pairs.0, stores.pairs.1, stores.written refl, stores.packed refl)
   inserted OldKey stores = absurd (let no : false ≡ true = stores.pairs.0 in cc)
 
@@ -141,7 +141,7 @@ module _ {K V : Type 0} (LEN : ℕ) (cmp : K → K → Ordering) (old new : Inde
   not_inserted (SameKey k v) stores = ((stores.pairs.1, stores.pairs.2, stores.pairs.3, stores.pairs.4), (deep_if_kept LEN old new (stores.kept refl) (stores.written refl), stores.kept refl))
   not_inserted (OutOfMemory k v) stores = ((stores.pairs.0 refl, stores.pairs.1, stores.pairs.2, stores.pairs.3), stores.spent refl)
 
-  pub upserted : (stored : Stored) → StoresPair cmp true LEN old new key val (Ok stored) → (new.pairs ≡ put cmp old.pairs key val) × IsWritten LEN old new × KeepsPacked cmp old new key
+  pub upserted : (stored : Stored) → StoresPair cmp true LEN old new key val (Ok stored) → (new.pairs ≡ put cmp old.pairs key val) × IsWritten LEN old new × StaysPacked cmp old new key
   upserted NewKey stores = (stores.pairs.1, stores.written refl, stores.packed refl)
   upserted OldKey stores = (stores.pairs.2, stores.written refl, stores.packed refl)
 

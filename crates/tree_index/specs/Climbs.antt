@@ -7,12 +7,12 @@ use Rattle.tree_model.specs.declared.commands.Command.TheVariants.{Insert}
 use Rattle.tree_model.specs.declared.commands.Reply.{Reply}
 use Rattle.tree_model.specs.declared.commands.Reply.TheVariants.{Duplicate, Refused, Stored}
 use Rattle.tree_model.specs.Pairs.{IsAscending}
-use Rattle.tree_index.specs.Index.{Index, IsShallow, IsWritten, KeepsPacked}
+use Rattle.tree_index.specs.Index.{Index, IsShallow, IsWritten, StaysPacked}
 
 module _ {K V : Type 0} (cmp : K → K → Ordering) (LEN : ℕ) where
   -- what an insert does to a packed index
   abbrev pub PacksBy : Command K V → Index K V → Index K V → Reply V → Type 0
-  PacksBy (Insert k v) old new Stored = IsWritten LEN old new × KeepsPacked cmp old new k
+  PacksBy (Insert k v) old new Stored = IsWritten LEN old new × StaysPacked cmp old new k
   PacksBy (Insert k v) old new Duplicate = 0 < old.depth
   PacksBy _ old new reply = ⊤
 

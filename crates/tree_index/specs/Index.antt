@@ -40,8 +40,8 @@ module _ {K V : Type 0} where
     pub shallow : new.packed ≡ true → IsShallow LEN (length new.pairs) new.depth
 
   -- An index that is packed stays so, where the key is larger than all.
-  abbrev pub KeepsPacked : (K → K → Ordering) → Index K V → Index K V → K → Type 0
-  KeepsPacked cmp old new key = AllByRecursion (λ p. cmp p.0 key ≡ Less) old.pairs → old.packed ≡ true → new.packed ≡ true
+  abbrev pub StaysPacked : (K → K → Ordering) → Index K V → Index K V → K → Type 0
+  StaysPacked cmp old new key = AllByRecursion (λ p. cmp p.0 key ≡ Less) old.pairs → old.packed ≡ true → new.packed ≡ true
 
   -- The pair is stored, or it comes back for a duplicate or for want of memory.
   pub record StoresPair (cmp : K → K → Ordering) (upsert : Bool) (LEN : ℕ) (old new : Index K V) (key : K) (val : V) (result : Result Stored (InsertError K V)) : Type 0 where
@@ -49,7 +49,7 @@ module _ {K V : Type 0} where
     pub spent : refused (told result) ≡ true → old.spare ≡ 0
     pub written : refused (told result) ≡ false → IsWritten LEN old new
     pub kept : declined (told result) ≡ true → new ≡ old
-    pub packed : stores (told result) ≡ true → KeepsPacked cmp old new key
+    pub packed : stores (told result) ≡ true → StaysPacked cmp old new key
 
   -- What an insert and an upsert do to depth and spare: a pair that is stored takes at most one of the spare, a duplicate changes nothing, and a pair is refused only where none is spare.
   abbrev pub SpendsInsert : {T : Type 0} → ℕ → Index K V → Index K V → Result T (InsertError K V) → Type 0

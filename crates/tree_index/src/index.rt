@@ -4,7 +4,7 @@ ghost use Rattle.std.specs.Fn.{FnOnceReturnsAt, FnOnceTakesAt};
 ghost use Rattle.std.specs.Option.{ForSome, option_copied, option_map};
 ghost use Rattle.std.specs.Range.Bound.{bound_map};
 ghost use Rattle.tree_array.specs.Length.{IsLen, searched};
-ghost use Rattle.tree_index.specs.Index.{IsShallow, IsTreeOf, KeepsPacked, KeepsSpare, SpendsInsert, SpendsUpsert, StoresPair};
+ghost use Rattle.tree_index.specs.Index.{IsShallow, IsTreeOf, StaysPacked, KeepsSpare, SpendsInsert, SpendsUpsert, StoresPair};
 ghost use Rattle.tree_model.specs.Pairs.{IsAbsent, IsAscending, IsPresent, cut, pair_at, without};
 ghost use Rattle.tree_model.specs.Edits.{Inserts, RemovesIf, Upserts};
 
@@ -78,7 +78,7 @@ impl<K: IndexKey, V: Drop, const LEN: usize> TreeIndexOf<K, V, LEN> {
     pub fn insert_sync(&mut self, key: K, value: V) -> Result<(), InsertError<K, V>>
         ensures pairs { Inserts K.cmp self.old.pairs key value result self.new.pairs }
         ensures spare { SpendsInsert LEN self.old self.new result }
-        ensures packed { IfOk result (λ _. KeepsPacked K.cmp self.old self.new key) }
+        ensures packed { IfOk result (λ _. StaysPacked K.cmp self.old self.new key) }
     {
         match self.store::<false>(key, value) {
             Ok(_) => Ok(()),
@@ -94,7 +94,7 @@ impl<K: IndexKey, V: Drop, const LEN: usize> TreeIndexOf<K, V, LEN> {
     pub fn upsert_sync(&mut self, key: K, value: V) -> Result<(), (K, V)>
         ensures pairs { Upserts K.cmp self.old.pairs key value result self.new.pairs }
         ensures spare { SpendsUpsert LEN self.old self.new result }
-        ensures packed { IfOk result (λ _. KeepsPacked K.cmp self.old self.new key) }
+        ensures packed { IfOk result (λ _. StaysPacked K.cmp self.old self.new key) }
     {
         match self.store::<true>(key, value) {
             Ok(_) => Ok(()),

@@ -24,7 +24,7 @@ use Rattle.tree_node.proofs.Standing.{node_is}
 use Rattle.tree_packed.specs.Packed.{IsPacked, is_packed_array}
 use Rattle.tree_packed.proofs.Arrays.{both_of, packed_boundary, packed_full, packed_marks, packed_stored}
 use Rattle.tree_packed.proofs.Edges.{counts_same, last_child, same_packed}
-use Rattle.tree_split.specs.Splits.{is_beyond, low_part}
+use Rattle.tree_split.specs.Splits.{all_smaller, low_part}
 use Rattle.tree_split.proofs.Boundaries.{boundary_count}
 use Rattle.tree_split.proofs.LowSplits.{SplitsLow, changed, entries_now, fronts, parted, separates_here}
 
@@ -54,16 +54,16 @@ less_from Greater so = absurd (cc)
 
 module _ {K V : Type 0} (cmp : K → K → Ordering) (key : K) where
   -- a key that is beyond all is larger than each, and the other way round
-  pub beyond_all : (pairs : List (K × V)) → AllByRecursion (λ p. cmp p.0 key ≡ Less) pairs → is_beyond cmp key pairs ≡ true
+  pub beyond_all : (pairs : List (K × V)) → AllByRecursion (λ p. cmp p.0 key ≡ Less) pairs → all_smaller cmp key pairs ≡ true
   beyond_all [] smaller = refl
   beyond_all (p ∷ rest) smaller = both_true (ap is_lt smaller.0) (beyond_all rest smaller.1)
 
-  pub all_beyond : (pairs : List (K × V)) → is_beyond cmp key pairs ≡ true → AllByRecursion (λ p. cmp p.0 key ≡ Less) pairs
+  pub all_beyond : (pairs : List (K × V)) → all_smaller cmp key pairs ≡ true → AllByRecursion (λ p. cmp p.0 key ≡ Less) pairs
   all_beyond [] so = tt
-  all_beyond (p ∷ rest) so = let both = both_of (is_lt (cmp p.0 key)) (is_beyond cmp key rest) so in (less_from (cmp p.0 key) both.0, all_beyond rest both.1)
+  all_beyond (p ∷ rest) so = let both = both_of (is_lt (cmp p.0 key)) (all_smaller cmp key rest) so in (less_from (cmp p.0 key) both.0, all_beyond rest both.1)
 
   -- the last of them decides
-  pub beyond_last : (front : List (K × V)) (pair : K × V) → AllByRecursion (λ p. cmp p.0 key ≡ Less) front ⊎ (is_lt (cmp pair.0 key) ≡ false) → is_beyond cmp key (front ++ pair ∷ []) ≡ is_lt (cmp pair.0 key)
+  pub beyond_last : (front : List (K × V)) (pair : K × V) → AllByRecursion (λ p. cmp p.0 key ≡ Less) front ⊎ (is_lt (cmp pair.0 key) ≡ false) → all_smaller cmp key (front ++ pair ∷ []) ≡ is_lt (cmp pair.0 key)
   beyond_last [] pair known = and_true (is_lt (cmp pair.0 key))
     where
       and_true : (b : Bool) → (b && true) ≡ b

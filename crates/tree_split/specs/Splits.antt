@@ -102,16 +102,16 @@ pub record IsCut {K V : Type 0} (cmp : K → K → Ordering) (key : K) (count : 
   pub within : count ≤ length entries
   pub stays : (count < length entries) ⊎ AllByRecursion (λ p. cmp p.0 key ≡ Less) entries
 
--- the key is larger than each of these keys
-abbrev pub is_beyond : {K V : Type 0} → (K → K → Ordering) → K → List (K × V) → Bool
-is_beyond cmp key [] = true
-is_beyond cmp key (p ∷ rest) = is_lt (cmp p.0 key) && is_beyond cmp key rest
+-- each of these keys is smaller than the key
+abbrev pub all_smaller : {K V : Type 0} → (K → K → Ordering) → K → List (K × V) → Bool
+all_smaller cmp key [] = true
+all_smaller cmp key (p ∷ rest) = is_lt (cmp p.0 key) && all_smaller cmp key rest
 
 -- How many first entries part from the others for a key: those up to the boundary; but all of the last leaf, where they arrived in ascending order and the key is beyond them.
 abbrev pub low_part : {K V : Type 0} → (K → K → Ordering) → ℕ → Bool → Arrivals K V → K → ℕ
 low_part cmp len last array key =
     let cut = boundary cmp len array in
-    if last && (cut.2 && is_beyond cmp key array.entries) then cut.1 else cut.0
+    if last && (cut.2 && all_smaller cmp key array.entries) then cut.1 else cut.0
 
 -- whether this is the unbounded child
 abbrev pub is_at : Option ℕ → ℕ → Bool

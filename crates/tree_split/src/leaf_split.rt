@@ -8,7 +8,7 @@ ghost use Rattle.tree_array.specs.Length.{IsLen, limit};
 ghost use Rattle.tree_array.specs.Sound.{IsSound};
 ghost use Rattle.tree_model.specs.Pairs.{IsAbsent};
 ghost use Rattle.tree_node.specs.Parts.{IsPart, PutsChild, Unchanged};
-ghost use Rattle.tree_split.specs.Splits.{GivesAll, GivesFirst, HasMadeRoom, IsCut, RoomResult, SharesEntries, is_beyond as all_smaller, low_part};
+ghost use Rattle.tree_split.specs.Splits.{GivesAll, GivesFirst, HasMadeRoom, IsCut, RoomResult, SharesEntries, all_smaller, low_part};
 ghost use Rattle.tree_node.specs.Tree.{HasChildFor, HasKind, keyed, leaf_entries};
 
 use crate::keyed_children::put_keyed;

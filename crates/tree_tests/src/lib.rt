@@ -12,8 +12,6 @@ mod keys;
 #[cfg(test)]
 mod lines;
 #[cfg(test)]
-mod look_ups;
-#[cfg(test)]
 mod orders;
 #[cfg(test)]
 mod plain;

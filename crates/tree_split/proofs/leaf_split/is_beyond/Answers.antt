@@ -7,13 +7,13 @@ use Rattle.std.specs.Cmp.{IsTotalOrder}
 use Rattle.tree_model.specs.Pairs.{IsAscending}
 use Rattle.tree_model.proofs.Lists.{all_map}
 use Rattle.tree_node.proofs.Cuts.{smaller_front}
-use Rattle.tree_split.specs.Splits.{is_beyond}
+use Rattle.tree_split.specs.Splits.{all_smaller}
 use Rattle.tree_split.proofs.PackedSplits.{beyond_last}
 use Rattle.tree_split.proofs.leaf_split.is_beyond.Goals as goal
 
 -- the greatest key decides
 by_greatest : {K V : Type 0} {cmp : K → K → Ordering} → IsTotalOrder cmp → (entries front : List (K × V)) (pair read : K × V) {slot : Option (K × V)} (key : K) → IsAscending cmp entries → entries ≡ front ++ pair ∷ []
-    → slot ≡ Some pair → slot ≡ Some read → is_lt (cmp read.0 key) ≡ is_beyond cmp key entries
+    → slot ≡ Some pair → slot ≡ Some read → is_lt (cmp read.0 key) ≡ all_smaller cmp key entries
 by_greatest {cmp = cmp} o entries front pair read key ascends are was is =
     let both : Some pair ≡ Some read = sym was ∙ is in
     let same : pair ≡ read = cc in
