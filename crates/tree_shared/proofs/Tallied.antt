@@ -1,8 +1,8 @@
 -- A history that an answered command is added to: its tally, and the kind of the reply.
-use Rattle.std.proofs.Common.{◌≡◌, ℕ, ◌+◌, Bool, true, false, cond, List, [], ◌∷◌, ◌++◌, length, Option, Some, None, refl, sym, ap, ◌∙◌, arith, length-append}
+use Rattle.std.proofs.Common.{◌≡◌, ℕ, ◌+◌, ◌<◌, ◌^◌, Bool, true, false, cond, List, [], ◌∷◌, ◌++◌, length, Option, Some, None, refl, sym, ap, ◌∙◌, arith, length-append}
 use Rattle.std.specs.Prelude.{sum_by, count_by, option_map}
 use Rattle.std.specs.declared.cmp.Ordering.{Ordering}
-use Rattle.std.proofs.lemmas.List.Sums.{sum_by-append}
+use Rattle.std.proofs.lemmas.List.Sums.{count_by-le-length, sum_by-append}
 use Rattle.tree_model.specs.declared.commands.Command.{Command}
 use Rattle.tree_model.specs.declared.commands.Command.TheVariants.{Insert, Upsert, Remove, RemoveRange, Clear, Peek}
 use Rattle.tree_model.specs.declared.commands.Reply.{Reply}
@@ -10,6 +10,7 @@ use Rattle.tree_model.specs.declared.commands.Reply.TheVariants.{Stored, Duplica
 use Rattle.tree_model.specs.declared.commands.Record.{Record}
 use Rattle.tree_model.specs.Runs.{Step}
 use Rattle.tree_model.specs.History.{Log, IsAnswered, IsSameReply, Appends}
+use Rattle.tree_shared.specs.Ledgers.{Fits}
 use Rattle.tree_shared.specs.Replies.{is_reply_to}
 use Rattle.tree_shared.specs.declared.tally.Tally.{Tally}
 use Rattle.tree_shared.specs.Tallies.{is_refused, is_stored, is_removed, is_found, is_done, tally, tally_of, raised}
@@ -78,3 +79,13 @@ reply_kind cmp seen old new command reply step a = absurd step
 
 pub kind_of : {K V A B : Type 0} (cmp : K → K → Ordering) (seen_key : K → A) (seen : V → B) (old new : Log K V) (command : Command K V) (reply : Reply V) → Appends cmp seen_key seen old new command reply → is_reply_to command reply ≡ true
 kind_of cmp seen_key seen old new command reply a = reply_kind cmp seen old.entries new.entries command reply a.step a.answered
+
+-- no number of a tally is larger than that of the calls
+pub fits_tally : {K V : Type 0} → (h : List (Record K V)) → length h < 2 ^ 64 → Fits (tally h)
+fits_tally {K} {V} h short = (
+  short,
+  omega (arith, short, count_by-le-length (λ (r : Record K V). is_stored r.reply) h),
+  omega (arith, short, count_by-le-length (λ (r : Record K V). is_removed r.reply) h),
+  omega (arith, short, count_by-le-length (λ (r : Record K V). is_found r.reply) h),
+  omega (arith, short, count_by-le-length (λ (r : Record K V). is_done r.reply) h),
+)

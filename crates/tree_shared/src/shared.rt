@@ -231,9 +231,9 @@ impl<
             };
             return Err(UnclosedOf::PassMissing(shared, passes));
         }
+        let (index, history) = state.into_parts();
         let Books { ledgers } = books;
         let tally = ledgers.take_all(&workers, passes);
-        let (index, history) = state.into_parts();
         Ok(ClosedOf {
             index,
             history,
