@@ -25,7 +25,7 @@ loop-i-preserved g c = record {
 }
 
 pub new-requires : goal.new-requires
-new-requires g c = (search (fits, c.requires-raw.0), c.requires.len)
+new-requires g c = (search (fits, c.requires-raw.1.1.1.1.1.1.1.1.0), c.requires.len)
 
 pub invariant_of-locked-2 : goal.invariant_of-locked-2
 invariant_of-locked-2 g c = record { tallied = c.loop-i.invariant.totals ∙ ap (λ h. tally h) (sym c.new.ensures.history) }
