@@ -1,6 +1,6 @@
 -- A history that an answered command is added to: its tally, and the kind of the reply.
 use Rattle.std.proofs.Common.{◌≡◌, ℕ, ◌+◌, ◌<◌, ◌^◌, Bool, true, false, cond, List, [], ◌∷◌, ◌++◌, length, Option, Some, None, refl, sym, ap, ◌∙◌, arith, length-append}
-use Rattle.std.specs.Prelude.{sum_by, count_by, option_map}
+use Rattle.std.specs.Prelude.{sum_by, count_by, option_map, Result, Ok, Err}
 use Rattle.std.specs.declared.cmp.Ordering.{Ordering}
 use Rattle.std.proofs.lemmas.List.Sums.{count_by-le-length, sum_by-append}
 use Rattle.tree_model.specs.declared.commands.Command.{Command}
@@ -8,12 +8,15 @@ use Rattle.tree_model.specs.declared.commands.Command.TheVariants.{Insert, Upser
 use Rattle.tree_model.specs.declared.commands.Reply.{Reply}
 use Rattle.tree_model.specs.declared.commands.Reply.TheVariants.{Stored, Duplicate, Removed, Done, Found, Refused}
 use Rattle.tree_model.specs.declared.commands.Record.{Record}
+use Rattle.tree_model.specs.declared.commands.InsertError.{InsertError}
+use Rattle.tree_model.specs.declared.commands.InsertError.TheVariants as fault
 use Rattle.tree_model.specs.Runs.{Step}
 use Rattle.tree_model.specs.History.{Log, IsAnswered, IsSameReply, Appends}
+use Rattle.tree_index.specs.Inserts.{RecordsInsert}
 use Rattle.tree_shared.specs.Ledgers.{Fits}
 use Rattle.tree_shared.specs.Replies.{is_reply_to}
 use Rattle.tree_shared.specs.declared.tally.Tally.{Tally}
-use Rattle.tree_shared.specs.Tallies.{is_refused, is_stored, is_removed, is_found, is_done, tally, tally_of, raised}
+use Rattle.tree_shared.specs.Tallies.{is_refused, is_stored, is_removed, is_found, is_done, tally, tally_of, raised, reply_of_insert}
 
 -- an answer is no refusal
 pub not_refused : {V : Type 0} → (r : Reply V) → IsAnswered r → is_refused r ≡ false
@@ -89,3 +92,20 @@ fits_tally {K} {V} h short = (
   omega (arith, short, count_by-le-length (λ (r : Record K V). is_found r.reply) h),
   omega (arith, short, count_by-le-length (λ (r : Record K V). is_done r.reply) h),
 )
+
+-- an answered insert: the books that were raised by its reply tally the history
+pub insert_tallied : {K V A B : Type 0} (cmp : K → K → Ordering) (seen_key : K → A) (seen : V → B) (old new : Log K V) (k : K) (v : V) (answer : Result (Unit {0}) (InsertError K V)) → RecordsInsert cmp seen_key seen old new k v answer
+    → (reply : Reply V) (books raised_books : Tally) → reply_of_insert answer ≡ reply → books ≡ tally old.history → raised_books ≡ raised books reply → is_refused reply ≡ false → raised_books ≡ tally new.history
+insert_tallied {V} cmp seen_key seen old new k v (Ok _) records reply books raised_books e tallied rises answered =
+    rises ∙ ap (λ r. raised books r) (sym e) ∙ ap (λ t. raised {V = V} t Stored) tallied ∙ sym (tally_next cmp seen_key seen old new (Insert k v) Stored records)
+insert_tallied {V} cmp seen_key seen old new k v (Err (fault.Duplicate key value)) records reply books raised_books e tallied rises answered =
+    rises ∙ ap (λ r. raised books r) (sym e) ∙ ap (λ t. raised {V = V} t Duplicate) tallied ∙ sym (tally_next cmp seen_key seen old new (Insert k v) Duplicate records.0)
+insert_tallied cmp seen_key seen old new k v (Err (fault.OutOfMemory key value)) records reply books raised_books e tallied rises answered =
+    let contradiction : true ≡ false = ap (λ r. is_refused r) e ∙ answered in
+    cc
+
+-- a refused insert changed nothing
+pub insert_kept : {K V A B : Type 0} (cmp : K → K → Ordering) (seen_key : K → A) (seen : V → B) (old new : Log K V) (k : K) (v : V) (answer : Result (Unit {0}) (InsertError K V)) → RecordsInsert cmp seen_key seen old new k v answer → is_refused (reply_of_insert {V = V} answer) ≡ true → new ≡ old
+insert_kept cmp seen_key seen old new k v (Ok _) records e = cc
+insert_kept cmp seen_key seen old new k v (Err (fault.Duplicate key value)) records e = cc
+insert_kept cmp seen_key seen old new k v (Err (fault.OutOfMemory key value)) records e = records.0

@@ -1,0 +1,1 @@
+//! Refusals under the lock.
