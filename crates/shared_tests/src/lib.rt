@@ -2,8 +2,6 @@
 #![tactic(auto)]
 
 #[cfg(test)]
-mod brittle;
-#[cfg(test)]
 mod closing;
 #[cfg(test)]
 mod one_worker;

@@ -117,7 +117,7 @@ impl Scenario for SameKeys {
         assert_eq!(rt; closed.tally, wanted);
         assert_eq!(rt; closed.index.len(), 100);
         assert!(rt; replays(alloc, &closed.history, 100)?);
-        let Some((_, [first, second])) = closed.history.split_last_chunk() else {
+        let Some((_, [first, second])) = closed.history.split_last_chunk::<2>() else {
             panic!(rt; "no calls")
         };
         assert!(rt; first.command == Command::Peek(50) && first.reply == Reply::Found(Some(50)));

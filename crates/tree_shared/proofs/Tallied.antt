@@ -2,6 +2,7 @@
 use Rattle.std.proofs.Common.{◌≡◌, ℕ, ◌+◌, ◌<◌, ◌^◌, Bool, true, false, cond, List, [], ◌∷◌, ◌++◌, length, Option, Some, None, refl, sym, ap, ◌∙◌, arith, length-append}
 use Rattle.std.specs.Prelude.{sum_by, count_by, option_map, Result, Ok, Err}
 use Rattle.std.specs.declared.cmp.Ordering.{Ordering}
+use Rattle.std.specs.declared.ops.Bound.{Bound}
 use Rattle.std.proofs.lemmas.List.Sums.{count_by-le-length, sum_by-append}
 use Rattle.tree_model.specs.declared.commands.Command.{Command}
 use Rattle.tree_model.specs.declared.commands.Command.TheVariants.{Insert, Upsert, Remove, RemoveRange, Clear, Peek}
@@ -16,7 +17,7 @@ use Rattle.tree_index.specs.Inserts.{RecordsInsert}
 use Rattle.tree_shared.specs.Ledgers.{Fits}
 use Rattle.tree_shared.specs.Replies.{is_reply_to}
 use Rattle.tree_shared.specs.declared.tally.Tally.{Tally}
-use Rattle.tree_shared.specs.Tallies.{is_refused, is_stored, is_removed, is_found, is_done, tally, tally_of, raised, reply_of_insert}
+use Rattle.tree_shared.specs.Tallies.{is_refused, is_stored, is_removed, is_found, is_done, found_value, tally, tally_of, raised, reply_of_insert}
 
 -- an answer is no refusal
 pub not_refused : {V : Type 0} → (r : Reply V) → IsAnswered r → is_refused r ≡ false
@@ -39,7 +40,7 @@ tally-push {K} {V} h x e =
     λ i. tally_of (calls i) (stored i) (removed i) (found i) (done i)
 
 -- a reply and a clone of it raise the same
-same_raise : {K V A B : Type 0} (cmp : K → K → Ordering) (seen_key : K → A) (seen : V → B) (t : Tally) (reply r : Reply V) → IsSameReply cmp seen_key seen reply r → raised t r ≡ raised t reply
+pub same_raise : {K V A B : Type 0} (cmp : K → K → Ordering) (seen_key : K → A) (seen : V → B) (t : Tally) (reply r : Reply V) → IsSameReply cmp seen_key seen reply r → raised t r ≡ raised t reply
 same_raise cmp seen_key seen t Stored Stored e = refl
 same_raise cmp seen_key seen t Duplicate Duplicate e = refl
 same_raise {V} cmp seen_key seen t (Removed was) (Removed w) e = ap (λ (b : Bool). raised {V = V} t (Removed b)) (sym e)
@@ -52,7 +53,7 @@ same_raise cmp seen_key seen t Refused Refused e = refl
 same_raise cmp seen_key seen t reply r e = absurd e
 
 -- and so is a clone of it
-same_answered : {K V A B : Type 0} (cmp : K → K → Ordering) (seen_key : K → A) (seen : V → B) (reply r : Reply V) → IsSameReply cmp seen_key seen reply r → IsAnswered reply → is_refused r ≡ false
+pub same_answered : {K V A B : Type 0} (cmp : K → K → Ordering) (seen_key : K → A) (seen : V → B) (reply r : Reply V) → IsSameReply cmp seen_key seen reply r → IsAnswered reply → is_refused r ≡ false
 same_answered cmp seen_key seen Stored Stored e a = refl
 same_answered cmp seen_key seen Duplicate Duplicate e a = refl
 same_answered cmp seen_key seen (Removed was) (Removed w) e a = refl
@@ -109,3 +110,44 @@ pub insert_kept : {K V A B : Type 0} (cmp : K → K → Ordering) (seen_key : K 
 insert_kept cmp seen_key seen old new k v (Ok _) records e = cc
 insert_kept cmp seen_key seen old new k v (Err (fault.Duplicate key value)) records e = cc
 insert_kept cmp seen_key seen old new k v (Err (fault.OutOfMemory key value)) records e = records.0
+
+-- the reply to a command of each kind
+pub upsert_reply : {K V : Type 0} (k : K) (v : V) (r : Reply V) → is_reply_to (Upsert k v) r ≡ true → r ≡ Stored
+upsert_reply k v Stored e = refl
+upsert_reply k v Duplicate e = cc
+upsert_reply k v (Removed was) e = cc
+upsert_reply k v Done e = cc
+upsert_reply k v (Found found) e = cc
+upsert_reply k v Refused e = cc
+
+pub remove_reply : {K V : Type 0} (k : K) (r : Reply V) → is_reply_to (Remove k) r ≡ true → r ≡ Removed (is_removed r)
+remove_reply k Stored e = cc
+remove_reply k Duplicate e = cc
+remove_reply k (Removed was) e = refl
+remove_reply k Done e = cc
+remove_reply k (Found found) e = cc
+remove_reply k Refused e = cc
+
+pub range_reply : {K V : Type 0} (low high : Bound K) (r : Reply V) → is_reply_to (RemoveRange low high) r ≡ true → r ≡ Done
+range_reply low high Stored e = cc
+range_reply low high Duplicate e = cc
+range_reply low high (Removed was) e = cc
+range_reply low high Done e = refl
+range_reply low high (Found found) e = cc
+range_reply low high Refused e = cc
+
+pub clear_reply : {K V : Type 0} (r : Reply V) → is_reply_to {K = K} Clear r ≡ true → r ≡ Done
+clear_reply Stored e = cc
+clear_reply Duplicate e = cc
+clear_reply (Removed was) e = cc
+clear_reply Done e = refl
+clear_reply (Found found) e = cc
+clear_reply Refused e = cc
+
+pub peek_reply : {K V : Type 0} (k : K) (r : Reply V) → is_reply_to (Peek k) r ≡ true → r ≡ Found (found_value r)
+peek_reply k Stored e = cc
+peek_reply k Duplicate e = cc
+peek_reply k (Removed was) e = cc
+peek_reply k Done e = cc
+peek_reply k (Found found) e = refl
+peek_reply k Refused e = cc

@@ -1,5 +1,5 @@
 -- What calls came to, in numbers, and what a reply adds to them.
-use Rattle.std.specs.Prelude.{ℕ, ◌+◌, Bool, true, false, cond, List, length, sum_by, count_by, Option, Some, Result, Ok, Err}
+use Rattle.std.specs.Prelude.{ℕ, ◌+◌, Bool, true, false, cond, List, length, sum_by, count_by, Option, Some, None, Result, Ok, Err}
 use Rattle.tree_model.specs.declared.commands.Reply.{Reply}
 use Rattle.tree_model.specs.declared.commands.Reply.TheVariants.{Stored, Duplicate, Removed, Done, Found, Refused}
 use Rattle.tree_model.specs.declared.commands.Record.{Record}
@@ -22,6 +22,10 @@ is_removed _ = false
 abbrev pub is_found : {V : Type 0} → Reply V → Bool
 is_found (Found (Some v)) = true
 is_found _ = false
+
+abbrev pub found_value : {V : Type 0} → Reply V → Option V
+found_value (Found found) = found
+found_value _ = None
 
 abbrev pub is_done : {V : Type 0} → Reply V → Bool
 is_done Done = true

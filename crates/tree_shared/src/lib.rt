@@ -5,6 +5,7 @@
 #![tactic(auto)]
 
 mod blanks;
+mod calls;
 mod closing;
 mod column;
 mod count;

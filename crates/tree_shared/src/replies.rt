@@ -1,6 +1,6 @@
 //! What a reply raises in a tally.
 ghost use Rattle.std.specs.Prelude.{◌≡◌};
-ghost use Rattle.tree_shared.specs.Tallies.{is_stored, is_removed, is_found, is_done};
+ghost use Rattle.tree_shared.specs.Tallies.{is_stored, is_removed, is_found, is_done, found_value};
 
 use tree_index::Reply;
 
@@ -30,4 +30,14 @@ pub fn is_done<V>(reply: &Reply<V>) -> bool
     ensures { result ≡ is_done reply.now }
 {
     matches!(reply, Reply::Done)
+}
+
+/// Returns the value that was found. Answers `None` to a reply of another kind.
+pub fn found_value<V: Drop>(reply: Reply<V>) -> Option<V>
+    ensures { result ≡ found_value reply }
+{
+    match reply {
+        Reply::Found(value) => value,
+        _ => None,
+    }
 }

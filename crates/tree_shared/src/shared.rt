@@ -16,7 +16,7 @@ use std::marker::PhantomData;
 use std::ops::Bound;
 use std::sync::ledger::Ledger;
 use std::sync::{Mutex, Wait};
-use tree_index::{Command, IndexKey, InsertError, Record, Reply, SameClone, StateOf, TreeIndexOf};
+use tree_index::{IndexKey, InsertError, Record, SameClone, StateOf, TreeIndexOf};
 
 /// An index of fifteen pairs a leaf that threads share by reference. See [`SharedTreeIndexOf`].
 pub type SharedTreeIndex<K, V, C, S, M, F, D> = SharedTreeIndexOf<K, V, C, S, M, F, D, 15>;
@@ -119,13 +119,7 @@ impl<
         ensures counted { pass.new ≡ raised {V = V} pass.old (reply_of_upsert result) }
         ensures pair { IfErr result (λ pair. pair ≡ (key, value)) }
     {
-        let command = Command::Upsert(key, value);
-        match self.locked.lock(rt).apply(pass, command) {
-            Ok(Reply::Stored) => Ok(()),
-            Ok(_) => unreachable!(),
-            Err(Command::Upsert(key, value)) => Err((key, value)),
-            Err(_) => unreachable!(),
-        }
+        self.locked.lock(rt).upsert(pass, key, value)
     }
 
     /// Removes the pair with a key. Returns whether there was one.
@@ -140,12 +134,8 @@ impl<
         requires { pass.old.calls < u64.MAX }
         ensures { pass.new ≡ raised {V = V} pass.old (reply_of_remove result) }
     {
-        let command = Command::Remove(key.clone()?);
-        match self.locked.lock(rt).apply(pass, command) {
-            Ok(Reply::Removed(was)) => Ok(was),
-            Ok(_) => unreachable!(),
-            Err(_) => Err(AllocError),
-        }
+        let key = key.clone()?;
+        self.locked.lock(rt).remove(pass, key)
     }
 
     /// Removes every pair whose key is within both bounds.
@@ -160,12 +150,8 @@ impl<
         requires { pass.old.calls < u64.MAX }
         ensures { pass.new ≡ raised {V = V} pass.old (reply_of_removal result) }
     {
-        let command = Command::RemoveRange(cloned_bound(bounds.0)?, cloned_bound(bounds.1)?);
-        match self.locked.lock(rt).apply(pass, command) {
-            Ok(Reply::Done) => Ok(()),
-            Ok(_) => unreachable!(),
-            Err(_) => Err(AllocError),
-        }
+        let (low, high) = (cloned_bound(bounds.0)?, cloned_bound(bounds.1)?);
+        self.locked.lock(rt).remove_range(pass, low, high)
     }
 
     /// Removes all pairs.
@@ -175,11 +161,7 @@ impl<
         requires { pass.old.calls < u64.MAX }
         ensures { pass.new ≡ raised {V = V} pass.old (reply_of_removal result) }
     {
-        match self.locked.lock(rt).apply(pass, Command::Clear) {
-            Ok(Reply::Done) => Ok(()),
-            Ok(_) => unreachable!(),
-            Err(_) => Err(AllocError),
-        }
+        self.locked.lock(rt).clear(pass)
     }
 
     /// Returns a clone of the value of a key.
@@ -194,12 +176,8 @@ impl<
         requires { pass.old.calls < u64.MAX }
         ensures { pass.new ≡ raised {V = V} pass.old (reply_of_peek result) }
     {
-        let command = Command::Peek(key.clone()?);
-        match self.locked.lock(rt).apply(pass, command) {
-            Ok(Reply::Found(value)) => Ok(value),
-            Ok(_) => unreachable!(),
-            Err(_) => Err(AllocError),
-        }
+        let key = key.clone()?;
+        self.locked.lock(rt).peek(pass, key)
     }
 
     /// Ends the sharing, with every pass. Allocates nothing.
