@@ -136,13 +136,13 @@ range_reply low high Done e = refl
 range_reply low high (Found found) e = cc
 range_reply low high Refused e = cc
 
-pub clear_reply : {K V : Type 0} (r : Reply V) → is_reply_to {K = K} Clear r ≡ true → r ≡ Done
-clear_reply Stored e = cc
-clear_reply Duplicate e = cc
-clear_reply (Removed was) e = cc
-clear_reply Done e = refl
-clear_reply (Found found) e = cc
-clear_reply Refused e = cc
+pub clear_reply : (K : Type 0) {V : Type 0} (r : Reply V) → is_reply_to {K = K} Clear r ≡ true → r ≡ Done
+clear_reply K Stored e = cc
+clear_reply K Duplicate e = cc
+clear_reply K (Removed was) e = cc
+clear_reply K Done e = refl
+clear_reply K (Found found) e = cc
+clear_reply K Refused e = cc
 
 pub peek_reply : {K V : Type 0} (k : K) (r : Reply V) → is_reply_to (Peek k) r ≡ true → r ≡ Found (found_value r)
 peek_reply k Stored e = cc
