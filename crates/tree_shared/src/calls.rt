@@ -18,8 +18,7 @@ impl<
     M: Ledger,
     F: Ledger,
     D: Ledger,
-    const LEN: usize,
-> Locked<K, V, C, S, M, F, D, LEN> {
+> Locked<K, V, C, S, M, F, D> {
     /// Stores a pair. Returns `Err` with the pair if an allocation is refused; nothing changed then.
     pub fn upsert(
         &mut self,

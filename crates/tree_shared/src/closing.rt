@@ -1,31 +1,25 @@
 //! What is left when the sharing of an index ends.
 
 use crate::pass::Pass;
-use crate::shared::SharedTreeIndexOf;
+use crate::shared::SharedTreeIndex;
 use crate::tally::Tally;
 use std::sync::ledger::Ledger;
-use tree_index::{IndexKey, Record, SameClone, TreeIndexOf};
+use tree_index::{IndexKey, Record, SameClone, TreeIndex};
 
-/// What a closed index of fifteen pairs a leaf leaves. See [`ClosedOf`].
-pub type Closed<K, V> = ClosedOf<K, V, 15>;
-
-/// What a closed index leaves. `LEN` is 7 or 15.
+/// What a closed index leaves.
 #[derive(Drop)]
-pub struct ClosedOf<K: IndexKey, V: Drop, const LEN: usize> {
+pub struct Closed<K: IndexKey, V: Drop> {
     /// The index.
-    pub index: TreeIndexOf<K, V, LEN>,
+    pub index: TreeIndex<K, V>,
     /// The answered commands in order, each with its reply.
     pub history: Vec<Record<K, V>>,
     /// The tally of the history.
     pub tally: Tally,
 }
 
-/// Why an index of fifteen pairs a leaf was not closed. See [`UnclosedOf`].
-pub type Unclosed<K, V, C, S, M, F, D> = UnclosedOf<K, V, C, S, M, F, D, 15>;
-
-/// Why an index was not closed. Hands everything back. `LEN` is 7 or 15.
+/// Why an index was not closed. Hands everything back.
 #[derive(Drop)]
-pub enum UnclosedOf<
+pub enum Unclosed<
     K: IndexKey + SameClone,
     V: SameClone,
     C: Ledger,
@@ -33,11 +27,10 @@ pub enum UnclosedOf<
     M: Ledger,
     F: Ledger,
     D: Ledger,
-    const LEN: usize,
 > {
     /// A pass is absent.
     PassMissing(
-        SharedTreeIndexOf<K, V, C, S, M, F, D, LEN>,
+        SharedTreeIndex<K, V, C, S, M, F, D>,
         Vec<Pass<C, S, M, F, D>>,
     ),
 }

@@ -17,7 +17,7 @@ mod shared;
 mod tally;
 
 pub use blanks::Blanks;
-pub use closing::{Closed, ClosedOf, Unclosed, UnclosedOf};
+pub use closing::{Closed, Unclosed};
 pub use pass::Pass;
-pub use shared::{SharedTreeIndex, SharedTreeIndexOf};
+pub use shared::SharedTreeIndex;
 pub use tally::Tally;

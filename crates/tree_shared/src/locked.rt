@@ -8,9 +8,9 @@ ghost use Rattle.tree_shared.specs.Replies.{is_reply_to};
 use crate::ledgers::{Books, Workers};
 use crate::pass::Pass;
 use std::sync::ledger::Ledger;
-use tree_index::{Command, IndexKey, InsertError, Reply, SameClone, StateOf};
+use tree_index::{Command, IndexKey, InsertError, Reply, SameClone, State};
 
-/// What lies under the lock: the state, and the books that tally its history. `LEN` is 7 or 15.
+/// What lies under the lock: the state, and the books that tally its history.
 #[derive(Drop)]
 pub struct Locked<
     K: IndexKey + SameClone,
@@ -20,9 +20,8 @@ pub struct Locked<
     M: Ledger,
     F: Ledger,
     D: Ledger,
-    const LEN: usize,
 > {
-    pub(crate) state: StateOf<K, V, LEN>,
+    pub(crate) state: State<K, V>,
     pub(crate) books: Books<C, S, M, F, D>,
     pub(crate) workers: Workers<C, S, M, F, D>,
     ghost tallied: { books ≡ tally state.history },
@@ -36,8 +35,7 @@ impl<
     M: Ledger,
     F: Ledger,
     D: Ledger,
-    const LEN: usize,
-> Locked<K, V, C, S, M, F, D, LEN> {
+> Locked<K, V, C, S, M, F, D> {
     /// Answers a command, and counts its reply in the books and in the pass.
     ///
     /// Returns `Err` with the command if an allocation is refused; nothing changed then.

@@ -1,13 +1,12 @@
 //! An index that threads share.
 ghost use Rattle.std.specs.Prelude.{◌≡◌, ◌+◌, ◌<◌, All, vec_len, IfOk, IfErr, OnErr};
-ghost use Rattle.tree_array.specs.Length.{IsLen};
 ghost use Rattle.tree_model.specs.History.{IsHistoryOf, IsSameBound};
 ghost use Rattle.tree_shared.specs.Ledgers.{IsBlankFor};
 ghost use Rattle.tree_shared.specs.Tallies.{none, raised, sum_of, tally, pair_of, reply_of_insert, reply_of_upsert, reply_of_remove, reply_of_removal, reply_of_peek};
 ghost use Rattle.std.specs.Range.Bound.{bound_map};
 
 use crate::blanks::Blanks;
-use crate::closing::{ClosedOf, UnclosedOf};
+use crate::closing::{Closed, Unclosed};
 use crate::ledgers::{Books, Ledgers, Workers};
 use crate::locked::Locked;
 use crate::pass::Pass;
@@ -16,17 +15,14 @@ use std::marker::PhantomData;
 use std::ops::Bound;
 use std::sync::ledger::Ledger;
 use std::sync::{Mutex, Wait};
-use tree_index::{IndexKey, InsertError, Record, SameClone, StateOf, TreeIndexOf};
+use tree_index::{IndexKey, InsertError, Record, SameClone, State, TreeIndex};
 
-/// An index of fifteen pairs a leaf that threads share by reference. See [`SharedTreeIndexOf`].
-pub type SharedTreeIndex<K, V, C, S, M, F, D> = SharedTreeIndexOf<K, V, C, S, M, F, D, 15>;
-
-/// An index that threads share by reference, each with a pass of its own. `LEN` is 7 or 15.
+/// An index that threads share by reference, each with a pass of its own.
 ///
 /// One lock guards the index, the history of its calls and the tally of the history, and each call takes it once. A
 /// call is counted in the pass it is made by.
 #[derive(Drop)]
-pub struct SharedTreeIndexOf<
+pub struct SharedTreeIndex<
     K: IndexKey + SameClone,
     V: SameClone,
     C: Ledger,
@@ -34,9 +30,8 @@ pub struct SharedTreeIndexOf<
     M: Ledger,
     F: Ledger,
     D: Ledger,
-    const LEN: usize,
 > {
-    locked: Mutex<Locked<K, V, C, S, M, F, D, LEN>>,
+    locked: Mutex<Locked<K, V, C, S, M, F, D>>,
 }
 
 impl<
@@ -47,18 +42,15 @@ impl<
     M: Ledger,
     F: Ledger,
     D: Ledger,
-    const LEN: usize,
-> SharedTreeIndexOf<K, V, C, S, M, F, D, LEN> {
+> SharedTreeIndex<K, V, C, S, M, F, D> {
     /// Creates an empty index, and a pass for each worker, which has counted nothing.
     ///
-    /// Returns `Err` if an allocation is refused. The caller must choose 7 or 15 for `LEN`, and make the blanks for as
-    /// many workers.
+    /// Returns `Err` if an allocation is refused. The caller must make the blanks for as many workers.
     pub fn new(
         alloc: Global,
         workers: usize,
         blanks: Blanks,
     ) -> Result<(Self, Vec<Pass<C, S, M, F, D>>), AllocError>
-        requires len { IsLen LEN }
         requires calls { IsBlankFor workers blanks.calls C.name C.parts }
         requires stored { IsBlankFor workers blanks.stored S.name S.parts }
         requires removed { IsBlankFor workers blanks.removed M.name M.parts }
@@ -77,11 +69,11 @@ impl<
             of: PhantomData,
         };
         let locked = Locked {
-            state: StateOf::new(alloc),
+            state: State::new(alloc),
             books: Books { ledgers },
             workers,
         };
-        let shared = SharedTreeIndexOf {
+        let shared = SharedTreeIndex {
             locked: Mutex::new(locked),
         };
         Ok((shared, passes))
@@ -186,12 +178,12 @@ impl<
     pub fn close(
         self,
         passes: Vec<Pass<C, S, M, F, D>>,
-    ) -> Result<ClosedOf<K, V, LEN>, UnclosedOf<K, V, C, S, M, F, D, LEN>>
+    ) -> Result<Closed<K, V>, Unclosed<K, V, C, S, M, F, D>>
         ensures replays { IfOk result (λ closed. IsHistoryOf K.cmp K.seen V.seen closed.history.items closed.index.pairs) }
         ensures tally { IfOk result (λ closed. closed.tally ≡ tally closed.history.items) }
         ensures passes { IfOk result (λ closed. closed.tally ≡ sum_of passes.items) }
         ensures missing { OnErr result (vec_len passes + 1 < C.parts) }
-        ensures given_back { IfErr result (λ e. (shared : _) × (e ≡ UnclosedOf.PassMissing shared passes)) }
+        ensures given_back { IfErr result (λ e. (shared : _) × (e ≡ Unclosed.PassMissing shared passes)) }
     {
         let Locked {
             state,
@@ -204,15 +196,15 @@ impl<
                 books,
                 workers,
             };
-            let shared = SharedTreeIndexOf {
+            let shared = SharedTreeIndex {
                 locked: Mutex::new(locked),
             };
-            return Err(UnclosedOf::PassMissing(shared, passes));
+            return Err(Unclosed::PassMissing(shared, passes));
         }
         let (index, history) = state.into_parts();
         let Books { ledgers } = books;
         let tally = ledgers.take_all(&workers, passes);
-        Ok(ClosedOf {
+        Ok(Closed {
             index,
             history,
             tally,
@@ -220,7 +212,7 @@ impl<
     }
 
     /// Ends the sharing without the passes. Returns the index and the history. Allocates nothing.
-    pub fn into_parts(self) -> (TreeIndexOf<K, V, LEN>, Vec<Record<K, V>>)
+    pub fn into_parts(self) -> (TreeIndex<K, V>, Vec<Record<K, V>>)
         ensures { IsHistoryOf K.cmp K.seen V.seen result.1.items result.0.pairs }
     {
         self.locked.into_inner().state.into_parts()

@@ -1,6 +1,6 @@
 use Rattle.std.specs.Prelude.{◌≡◌, ◌+◌, vec_len, All}
 use Rattle.tree_shared.specs.Tallies.{none}
-use Rattle.tree_shared.proofs.shared.SharedTreeIndexOf.new.Given as goal
+use Rattle.tree_shared.proofs.shared.SharedTreeIndex.new.Given as goal
 
 abbrev pub invariant-loop-i : goal.invariant-loop-i
 invariant-loop-i g l = record {

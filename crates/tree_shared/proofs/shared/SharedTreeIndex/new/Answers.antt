@@ -1,10 +1,10 @@
-use Rattle.std.proofs.Common.{◌≡◌, ap, ◌∙◌, sym, rules, arith}
+use Rattle.std.proofs.Common.{◌≡◌, inr, refl, ap, ◌∙◌, sym, rules, arith}
 use Rattle.std.proofs.lemmas.List.Elements.{All-push}
 use Rattle.tree_node.proofs.Sizes.{fits}
 use Rattle.tree_shared.specs.Ledgers.{Standing}
 use Rattle.tree_shared.specs.Tallies.{none, tally}
 use Rattle.tree_shared.specs.declared.tally.Tally.{Tally}
-use Rattle.tree_shared.proofs.shared.SharedTreeIndexOf.new.Goals as goal
+use Rattle.tree_shared.proofs.shared.SharedTreeIndex.new.Goals as goal
 
 pub loop-i-init : goal.loop-i-init
 loop-i-init g c = record {
@@ -25,7 +25,7 @@ loop-i-preserved g c = record {
 }
 
 pub new-requires : goal.new-requires
-new-requires g c = (search (fits, c.requires-raw.1.1.1.1.1.1.1.1.0), c.requires.len)
+new-requires g c = (search (fits, c.requires-raw.1.1.1.1.1.1.1.0), inr refl)
 
 pub invariant_of-locked-2 : goal.invariant_of-locked-2
 invariant_of-locked-2 g c = record { tallied = c.loop-i.invariant.totals ∙ ap (λ h. tally h) (sym c.new.ensures.history) }
