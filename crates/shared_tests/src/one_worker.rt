@@ -40,7 +40,7 @@ impl Scenario for EachCall {
         shared.upsert(rt, pass, 1, 11).map_err(|_| AllocError)?;
         assert!(rt; shared.remove(rt, pass, &2)?);
         assert!(rt; !shared.remove(rt, pass, &2)?);
-        shared.remove_range(rt, pass, (Bound::Included(&3), Bound::Unbounded))?;
+        shared.remove_range(rt, pass, (Bound::Included(3), Bound::Unbounded))?;
         assert_eq!(rt; shared.peek(rt, pass, &1)?, Some(11));
         shared.clear(rt, pass)?;
         assert_eq!(rt; shared.peek(rt, pass, &1)?, None);

@@ -93,8 +93,6 @@ impl Scenario for Refusals {
         };
         assert!(rt; key.number == 1 && back.number == 11);
         assert!(rt; shared.remove(rt, pass, &value(1)).is_err());
-        let from = value(1);
-        assert!(rt; shared.remove_range(rt, pass, (Bound::Included(&from), Bound::Unbounded)).is_err());
         assert!(rt; shared.peek(rt, pass, &value(1)).is_err());
         assert_eq!(rt; pass.tally(), before);
         switch.set(false);

@@ -20,12 +20,7 @@ impl<
     D: Ledger,
 > Locked<K, V, C, S, M, F, D> {
     /// Stores a pair. Returns `Err` with the pair if an allocation is refused; nothing changed then.
-    pub fn upsert(
-        &mut self,
-        pass: &mut Pass<C, S, M, F, D>,
-        key: K,
-        value: V,
-    ) -> Result<(), (K, V)>
+    pub fn upsert(&mut self, pass: &mut Pass<C, S, M, F, D>, key: K, value: V) -> Result<(), (K, V)>
         requires { pass.old.calls < u64.MAX }
         ensures counted { pass.new ≡ raised {V = V} pass.old (reply_of_upsert result) }
         ensures pair { IfErr result (λ pair. pair ≡ (key, value)) }
@@ -52,12 +47,12 @@ impl<
     pub fn remove_range(
         &mut self,
         pass: &mut Pass<C, S, M, F, D>,
-        low: Bound<K>,
-        high: Bound<K>,
+        bounds: (Bound<K>, Bound<K>),
     ) -> Result<(), AllocError>
         requires { pass.old.calls < u64.MAX }
         ensures { pass.new ≡ raised {V = V} pass.old (reply_of_removal result) }
     {
+        let (low, high) = bounds;
         match self.apply(pass, Command::RemoveRange(low, high)) {
             Ok(_) => Ok(()),
             Err(_) => Err(AllocError),

@@ -29,8 +29,5 @@ pub enum Unclosed<
     D: Ledger,
 > {
     /// A pass is absent.
-    PassMissing(
-        SharedTreeIndex<K, V, C, S, M, F, D>,
-        Vec<Pass<C, S, M, F, D>>,
-    ),
+    PassMissing(SharedTreeIndex<K, V, C, S, M, F, D>, Vec<Pass<C, S, M, F, D>>),
 }

@@ -1,9 +1,8 @@
 //! An index that threads share.
 ghost use Rattle.std.specs.Prelude.{◌≡◌, ◌+◌, ◌<◌, All, vec_len, IfOk, IfErr, OnErr};
-ghost use Rattle.tree_model.specs.History.{IsHistoryOf, IsSameBound};
+ghost use Rattle.tree_model.specs.History.{IsHistoryOf};
 ghost use Rattle.tree_shared.specs.Ledgers.{IsBlankFor};
 ghost use Rattle.tree_shared.specs.Tallies.{none, raised, sum_of, tally, pair_of, reply_of_insert, reply_of_upsert, reply_of_remove, reply_of_removal, reply_of_peek};
-ghost use Rattle.std.specs.Range.Bound.{bound_map};
 
 use crate::blanks::Blanks;
 use crate::closing::{Closed, Unclosed};
@@ -132,18 +131,18 @@ impl<
 
     /// Removes every pair whose key is within both bounds.
     ///
-    /// Returns `Err` if an allocation is refused; nothing changed then. Clones the bounds before it takes the lock.
+    /// Returns `Err` if an allocation is refused; nothing changed then, and the bounds are dropped. The bounds themselves go
+    /// into the history.
     pub fn remove_range<R: Wait>(
         &self,
         rt: &R,
         pass: &mut Pass<C, S, M, F, D>,
-        bounds: (Bound<&K>, Bound<&K>),
+        bounds: (Bound<K>, Bound<K>),
     ) -> Result<(), AllocError>
         requires { pass.old.calls < u64.MAX }
         ensures { pass.new ≡ raised {V = V} pass.old (reply_of_removal result) }
     {
-        let (low, high) = (cloned_bound(bounds.0)?, cloned_bound(bounds.1)?);
-        self.locked.lock(rt).remove_range(pass, low, high)
+        self.locked.lock(rt).remove_range(pass, bounds)
     }
 
     /// Removes all pairs.
@@ -216,16 +215,5 @@ impl<
         ensures { IsHistoryOf K.cmp K.seen V.seen result.1.items result.0.pairs }
     {
         self.locked.into_inner().state.into_parts()
-    }
-}
-
-// Clones a bound.
-fn cloned_bound<K: IndexKey + SameClone>(bound: Bound<&K>) -> Result<Bound<K>, AllocError>
-    ensures { IfOk result (λ copy. IsSameBound K.cmp K.seen (bound_map (λ k. k.now) bound.entry) copy) }
-{
-    match bound {
-        Bound::Included(key) => Ok(Bound::Included(key.clone()?)),
-        Bound::Excluded(key) => Ok(Bound::Excluded(key.clone()?)),
-        Bound::Unbounded => Ok(Bound::Unbounded),
     }
 }
