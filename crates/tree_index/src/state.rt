@@ -65,6 +65,15 @@ impl<K: IndexKey + SameClone, V: SameClone, const LEN: usize> StateOf<K, V, LEN>
         &self.history
     }
 
+    /// Returns the index and the history. Allocates nothing.
+    pub fn into_parts(self) -> (TreeIndexOf<K, V, LEN>, Vec<Record<K, V>>)
+        ensures entries { result.0.pairs ≡ self.entries }
+        ensures calls { result.1.items ≡ self.history }
+        ensures replays { IsHistoryOf K.cmp K.seen V.seen self.history self.entries }
+    {
+        (self.index, self.history)
+    }
+
     /// Answers a command, and appends a clone of it with its reply to the history.
     ///
     /// Returns `Err` with the command if an allocation is refused; index and history are then as they were. The room

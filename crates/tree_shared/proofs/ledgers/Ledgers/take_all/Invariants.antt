@@ -1,0 +1,11 @@
+use Rattle.std.specs.Prelude.{◌≡◌, ◌+◌, ◌≤◌, length}
+use Rattle.tree_shared.specs.Tallies.{sum_of}
+use Rattle.tree_shared.proofs.ledgers.Ledgers.take_all.Given as goal
+
+abbrev pub invariant-loop-pass : goal.invariant-loop-pass
+invariant-loop-pass g l = record {
+  parts : l.self.parts ≡ 1 + length l.yielded;
+  kept : l.self.kept ≡ sum_of l.yielded;
+  within : l.self.parts ≤ g.C.Ledger.parts;
+  totals : l.self.totals ≡ l.initial.self.totals;
+}

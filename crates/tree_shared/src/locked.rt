@@ -1,0 +1,92 @@
+//! What lies under the lock of a shared index.
+ghost use Rattle.std.specs.Prelude.{◌≡◌, ◌<◌, true, IfOk, IfErr, OnErr};
+ghost use Rattle.tree_model.specs.History.{Appends};
+ghost use Rattle.tree_index.specs.Inserts.{RecordsInsert};
+ghost use Rattle.tree_shared.specs.Tallies.{raised, tally, reply_of_insert, pair_of};
+ghost use Rattle.tree_shared.specs.Replies.{is_reply_to};
+
+use crate::ledgers::{Books, Workers};
+use crate::pass::Pass;
+use std::sync::ledger::Ledger;
+use tree_index::{Command, IndexKey, InsertError, Reply, SameClone, State};
+
+/// What lies under the lock: the state, and the books that tally its history.
+#[derive(Drop)]
+pub struct Locked<
+    K: IndexKey + SameClone,
+    V: SameClone,
+    C: Ledger,
+    S: Ledger,
+    M: Ledger,
+    F: Ledger,
+    D: Ledger,
+> {
+    pub(crate) state: State<K, V>,
+    pub(crate) books: Books<C, S, M, F, D>,
+    pub(crate) workers: Workers<C, S, M, F, D>,
+    ghost tallied: { books ≡ tally state.history },
+}
+
+impl<
+    K: IndexKey + SameClone,
+    V: SameClone,
+    C: Ledger,
+    S: Ledger,
+    M: Ledger,
+    F: Ledger,
+    D: Ledger,
+> Locked<K, V, C, S, M, F, D> {
+    /// Answers a command, and counts its reply in the books and in the pass.
+    ///
+    /// Returns `Err` with the command if an allocation is refused; nothing changed then.
+    pub fn apply(
+        &mut self,
+        pass: &mut Pass<C, S, M, F, D>,
+        command: Command<K, V>,
+    ) -> Result<Reply<V>, Command<K, V>>
+        requires room { pass.old.calls < u64.MAX }
+        ensures ok { IfOk result (Appends K.cmp K.seen V.seen self.old.state self.new.state command) }
+        ensures kind { IfOk result (λ reply. is_reply_to command reply ≡ true) }
+        ensures handed_back { IfErr result (λ back. back ≡ command) }
+        ensures counted { IfOk result (λ reply. pass.new ≡ raised pass.old reply) }
+        ensures kept { OnErr result (self.new.state ≡ self.old.state) }
+        ensures uncounted { OnErr result (pass.new ≡ pass.old) }
+    {
+        let Locked {
+            state,
+            books,
+            workers: _,
+        } = self;
+        let reply = state.apply(command)?;
+        books.count(pass, &reply);
+        Ok(reply)
+    }
+
+    /// Answers an insert, and counts its reply in the books and in the pass.
+    ///
+    /// Returns `Err` with the pair for a duplicate too. After `OutOfMemory` nothing changed.
+    pub fn insert(
+        &mut self,
+        pass: &mut Pass<C, S, M, F, D>,
+        key: K,
+        value: V,
+    ) -> Result<(), InsertError<K, V>>
+        requires room { pass.old.calls < u64.MAX }
+        ensures records { RecordsInsert K.cmp K.seen V.seen self.old.state self.new.state key value result }
+        ensures pair { IfErr result (λ e. pair_of e ≡ (key, value)) }
+        ensures counted { pass.new ≡ raised {V = V} pass.old (reply_of_insert result) }
+    {
+        let Locked {
+            state,
+            books,
+            workers: _,
+        } = self;
+        let outcome = state.insert(key, value);
+        match &outcome {
+            Ok(()) => books.count::<V>(pass, &Reply::Stored),
+            Err(InsertError::Duplicate(_, _)) => books.count::<V>(pass, &Reply::Duplicate),
+            Err(InsertError::OutOfMemory(_, _)) => {}
+        }
+        outcome
+    }
+}
