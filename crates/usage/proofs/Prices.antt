@@ -54,7 +54,8 @@ filter_turned test (x ∷ xs) = rw (reverse_onto xs x [], filter-append test (re
 rest_turned : (c : Cursor ℕ ℕ) → rest nat_cmp Back c ≡ reverse (rest nat_cmp On c)
 rest_turned c = filter_turned (λ pair. within nat_cmp c.low c.high pair.0) (between c)
 
-module _ (c s t : Cursor ℕ ℕ) (new : IsFresh c) where
+-- the ends of the pairs within the bounds
+module _ (c s : Cursor ℕ ℕ) (new : IsFresh c) where
   pub ends_none : Moves nat_cmp On c None s → pairs_within nat_cmp c ≡ []
   ends_none moves = sym (rest_fresh nat_cmp c new On) ∙ (takes_first nat_cmp_total On c s None moves (fresh_begun nat_cmp c new On)).1.0
 
@@ -65,12 +66,12 @@ module _ (c s t : Cursor ℕ ℕ) (new : IsFresh c) where
     back_begun : HasBegun nat_cmp Back s
     back_begun = rw moves.moves (fresh_begun nat_cmp c new Back)
 
-    pub ends_one : Moves nat_cmp Back s None t → AreEnds (pairs_within nat_cmp c) (Some ((lent_entry first).0, (lent_entry first).0))
-    ends_one back =
+    pub ends_one : (t : Cursor ℕ ℕ) → Moves nat_cmp Back s None t → AreEnds (pairs_within nat_cmp c) (Some ((lent_entry first).0, (lent_entry first).0))
+    ends_one t back =
         let none : reverse (rest nat_cmp On s) ≡ [] = sym (rest_turned s) ∙ (takes_first nat_cmp_total Back s t None back back_begun).1.0 in
         rw (parts, reverse_onto (rest nat_cmp On s) (lent_entry first) [], none) (refl, refl)
 
-    pub ends_two : (last : Bor ℕ × Bor ℕ) → Moves nat_cmp Back s (Some last) t → AreEnds (pairs_within nat_cmp c) (Some ((lent_entry first).0, (lent_entry last).0))
-    ends_two last back =
+    pub ends_two : (t : Cursor ℕ ℕ) (last : Bor ℕ × Bor ℕ) → Moves nat_cmp Back s (Some last) t → AreEnds (pairs_within nat_cmp c) (Some ((lent_entry first).0, (lent_entry last).0))
+    ends_two t last back =
         let some : reverse (rest nat_cmp On s) ≡ lent_entry last ∷ rest nat_cmp Back t = sym (rest_turned s) ∙ (takes_first nat_cmp_total Back s t (Some last) back back_begun).1 in
         rw (parts, reverse_onto (rest nat_cmp On s) (lent_entry first) [], some) (refl, refl)
