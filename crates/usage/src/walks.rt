@@ -15,7 +15,9 @@ pub fn highest_price(prices: &TreeIndex<u64, u64>) -> u64
 {
     let mut highest = 0;
     for (_, price) in prices {
-        highest = highest.max(*price);
+        if *price > highest {
+            highest = *price;
+        }
     }
     highest
 }

@@ -1,18 +1,21 @@
-use Rattle.std.proofs.Common.{rules, ◌≡◌, filter, ℕ, ◌+◌, ◌-◌, ◌*◌, ◌<◌, ◌≤◌, length, ◌/◌, ◌%◌, Bool, true, false, nat_eq, nat_lt, List, [], ◌∷◌, ◌++◌, slice_index_or, slice_set, bit_and, bit_or, Fits, w8, w32, w64, Bor, MutBor}
-use Rattle.std.specs.Option.{option_map}
-use Rattle.std.specs.Ordering.{nat_cmp}
-use Rattle.tree_cursor_model.specs.Located.{located}
-use Rattle.usage.specs.Walks.{AreEnds, at_or_below, highest}
+use Rattle.std.proofs.Common.{refl}
+use Rattle.usage.proofs.Prices.{ends_none, ends_one, ends_two}
 use Rattle.usage.proofs.walks.ends_within.Goals as goal
 
--- src/walks.rt:32:22
+-- no item is within the bounds
 pub returns-in_err-first : goal.returns-in_err-first
-returns-in_err-first c = ?
+returns-in_err-first c =
+    rw (c.from_residual.ensures, ← c.as_ref.ensures, ← c.as_ref-2.ensures)
+    (ends_none _ _ (record { forward = refl; backward = refl }) (rw c.range-offers.ensures at c.in_err-first.ensures.steps))
 
--- src/walks.rt:24:1
+-- more than one is
 pub returns-in-Some : goal.returns-in-Some
-returns-in-Some c = ?
+returns-in-Some c =
+    rw (← c.as_ref.ensures, ← c.as_ref-2.ensures)
+    (ends_two _ _ (record { forward = refl; backward = refl }) _ (rw c.range-offers.ensures at c.in_ok-first.ensures.steps) _ _ c.in-Some.ensures.steps)
 
--- src/walks.rt:24:1
+-- or one is
 pub returns-in-None : goal.returns-in-None
-returns-in-None c = ?
+returns-in-None c =
+    rw (← c.as_ref.ensures, ← c.as_ref-2.ensures)
+    (ends_one _ _ (record { forward = refl; backward = refl }) _ (rw c.range-offers.ensures at c.in_ok-first.ensures.steps) _ c.in-None.ensures.steps)

@@ -1,18 +1,18 @@
-use Rattle.std.proofs.Common.{rules, ◌≡◌, filter, ℕ, ◌+◌, ◌-◌, ◌*◌, ◌<◌, ◌≤◌, length, ◌/◌, ◌%◌, Bool, true, false, nat_eq, nat_lt, List, [], ◌∷◌, ◌++◌, slice_index_or, slice_set, bit_and, bit_or, Fits, w8, w32, w64, Bor, MutBor}
-use Rattle.std.specs.Option.{option_map}
-use Rattle.std.specs.Ordering.{nat_cmp}
-use Rattle.tree_cursor_model.specs.Located.{located}
-use Rattle.usage.specs.Walks.{AreEnds, at_or_below, highest}
+use Rattle.std.proofs.Common.{arith}
+use Rattle.usage.proofs.Prices.{highest_all, highest_more, highest_none}
 use Rattle.usage.proofs.walks.highest_price.Goals as goal
 
--- src/walks.rt:17:5
 pub loop-price-init : goal.loop-price-init
-loop-price-init c = ?
+loop-price-init c = rw c.into_iter-price-iterator.ensures.into_iter_gives (highest_none c.args.prices.now.pairs)
 
--- src/walks.rt:17:5
-pub loop-price-preserved : goal.loop-price-preserved
-loop-price-preserved c = ?
-
--- src/walks.rt:13:1
+-- no price was left
 pub returns : goal.returns
-returns c = ?
+returns c = highest_all _ _ _ _ c.loop-price.invariant c.in-None.ensures.steps
+
+-- the offer is higher
+pub loop-price-preserved-then-price-highest : goal.loop-price-preserved-then-price-highest
+loop-price-preserved-then-price-highest c = highest_more _ _ _ _ c.loop-price.invariant _ c.in-Some.ensures.steps _ (omega (arith, c.if-price-highest.true))
+
+-- or it isn't
+pub loop-price-preserved : goal.loop-price-preserved
+loop-price-preserved c = highest_more _ _ _ _ c.loop-price.invariant _ c.in-Some.ensures.steps _ (omega (arith, c.if-price-highest.false))
