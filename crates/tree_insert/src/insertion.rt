@@ -68,11 +68,11 @@ fn insert_from<const UPSERT: bool, K: IndexKey, V: Drop, const LEN: usize>(
             };
             let leaf = place.child;
             let rightmost_leaf = rightmost && place.slot.is_none();
-            match arenas.leaf_mut(leaf).array_mut().store::<UPSERT>(
-                rightmost_leaf,
-                key,
-                val,
-            ) {
+            match arenas
+                .leaf_mut(leaf)
+                .array_mut()
+                .store::<UPSERT>(rightmost_leaf, key, val)
+            {
                 StoreResult::Full(key, val) => match make_room(arenas, id, leaf, &key) {
                     Err(_) => Err((key, val)),
                     Ok(false) => Ok(StoreResult::Full(key, val)),
