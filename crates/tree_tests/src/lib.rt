@@ -12,6 +12,8 @@ mod keys;
 #[cfg(test)]
 mod lines;
 #[cfg(test)]
+mod look_ups;
+#[cfg(test)]
 mod orders;
 #[cfg(test)]
 mod plain;
