@@ -6,6 +6,7 @@ mod Places
 mod Ranges
 mod Removed
 mod Seen
+mod Stepped
 mod Stored
 mod Taken
 mod Valued

@@ -27,7 +27,7 @@ use Rattle.tree_cursor_model.specs.Cursor.{at_place, exhausted, meets, next_end,
 use Rattle.tree_cursor_model.proofs.Places.{beside_is, beside_none, first_is, first_none}
 use Rattle.tree_walk.specs.Ends.{IsLinked}
 use Rattle.tree_cursors.specs.Seek.{Advances, IsNearest, Seeks, path}
-use Rattle.tree_cursors.specs.View.{Stands, place_at, place_in, place_of}
+use Rattle.tree_cursors.specs.View.{GoesOn, Stands, place_at, place_in, place_of}
 
 -- elements of joined lists
 get_left : {X : Type 0} (xs ys : List X) (i : ℕ) (x : X) → slice_get xs i ≡ Some x → slice_get (xs ++ ys) i ≡ Some x
@@ -151,6 +151,11 @@ module _ {K V : Type 0} {LEN : ℕ} {cmp : K → K → Ordering} (a : TreeArenas
         let from = placed_in old s in
         let none : places_left way (length (walk_under a root)) (Some from.place) ≡ 0 = sym (from.left way) ∙ ap length next.0.takes.0 in
         rw (from.place_is, beside_none way (length (walk_under a root)) from.place none) refl
+
+    -- either way
+    pub goes_on : (result : Option (Bor K × Bor V)) → Advances way old result new → GoesOn a root cmp way old result new
+    goes_on None advances = λ bound. leaves_tree advances bound
+    goes_on (Some entry) advances = λ bound. (goes_beside entry advances bound, still_stands entry advances, (still_stands entry advances).here)
 
 module _ {K V : Type 0} {LEN : ℕ} {cmp : K → K → Ordering} (a : TreeArenas K V LEN) (id level : ℕ) (tree : IsTree cmp a (Some (id, level))) where
   pub whole_chain : IsChain a.leaves ([] ++ (leaves_at level a.nodes id ++ []))

@@ -1,16 +1,17 @@
 -- What contracts see of a cursor over a tree.
-use Rattle.std.specs.Prelude.{◌≡◌, ℕ, ◌+◌, ◌==◌, if◌then◌else◌, List, [], ◌∷◌, ◌++◌, length, Option, Some, None}
+use Rattle.std.specs.Prelude.{◌≡◌, ℕ, ◌+◌, ◌==◌, if◌then◌else◌, List, [], ◌∷◌, ◌++◌, length, Option, Some, None, MatchOption}
 use Rattle.std.specs.Borrow.{Bor}
 use Rattle.std.specs.Range.Bound.{bound_map}
 use Rattle.std.specs.declared.cmp.Ordering.{Ordering}
 use Rattle.std.specs.declared.ops.Bound.{Bound}
 use Rattle.slab.specs.Slab.{Slab}
 use Rattle.tree_leaf.specs.Entries.{leaf_entries}
-use Rattle.tree_leaf.specs.Walks.{LeafWalk, stood_on}
+use Rattle.tree_leaf.specs.Walks.{LeafWalk, lent_entry, stood_on}
 use Rattle.tree_leaf.specs.declared.leaf.LeafOf.{LeafOf}
+use Rattle.tree_leaf.specs.declared.leaf.stand.Way.{Way}
 use Rattle.tree_node.specs.Arenas.{TreeArenas}
 use Rattle.tree_node.specs.Whole.{IsTree, leaves_under, walk_under}
-use Rattle.tree_cursor_model.specs.Cursor.{Cursor, End, unopened, at_place, exhausted}
+use Rattle.tree_cursor_model.specs.Cursor.{Cursor, End, next_end, unopened, at_place, exhausted}
 use Rattle.tree_cursors.specs.declared.end.End.{End as TreeEnd}
 use Rattle.tree_cursors.specs.declared.end.End.TheVariants.{Unopened, At, Exhausted}
 
@@ -53,6 +54,13 @@ module _ {K V : Type 0} {LEN : ℕ} (arenas : TreeArenas K V LEN) (root : Option
   EndStands Unopened = Unit {0}
   EndStands (At walk) = Stands walk
   EndStands Exhausted = Unit {0}
+
+  -- a walk that stood on an entry now stands on the next one on its way, which is the result, or there is none
+  abbrev pub GoesOn : (K → K → Ordering) → Way → LeafWalk K V LEN → Option (Bor K × Bor V) → LeafWalk K V LEN → Type 0
+  GoesOn cmp way old result new =
+      (bound : Bound K)
+      → MatchOption result (exhausted ≡ next_end cmp way bound (walk_under arenas root) (place_of old))
+      (λ entry. (place_of new ≡ next_end cmp way bound (walk_under arenas root) (place_of old)) × Stands new × (stood_on new ≡ Some (lent_entry entry)))
 
   -- what is seen of a cursor's parts
   abbrev pub seen : Bound (Bor K) → Bound (Bor K) → TreeEnd (LeafWalk K V LEN) → TreeEnd (LeafWalk K V LEN) → Cursor K V

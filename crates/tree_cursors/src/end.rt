@@ -7,7 +7,7 @@ ghost use Rattle.tree_leaf.specs.Walks.{stood_on};
 ghost use Rattle.tree_node.specs.Whole.{IsTree, walk_under};
 ghost use Rattle.tree_cursor_model.specs.Cursor.{next_end, unopened};
 ghost use Rattle.tree_cursor_model.specs.Rest.{lent};
-ghost use Rattle.tree_cursors.specs.View.{EndStands, Stands, end_of, pair_of, place_of};
+ghost use Rattle.tree_cursors.specs.View.{EndStands, GoesOn, Stands, end_of, pair_of};
 
 use crate::seek::{advance, seek_at};
 use crate::way::EndWay;
@@ -24,24 +24,53 @@ pub enum End<W> {
     Exhausted,
 }
 
-/// Moves an end: one that was never moved to the first key that meets its bound, and any other one entry along.
-/// Descends only for the first move. Makes no comparisons after it.
+/// Moves an end in place, and returns the pair that it then stands on: one that was never moved goes to the first key
+/// that meets its bound, and any other one entry along. Descends only for the first move. Makes no comparisons after it.
+#[inline(always)]
 pub fn step<'t, K: Ord + Drop, V: Drop, S: EndWay, const LEN: usize>(
     arenas: &'t ArenasOf<K, V, LEN>,
     root: Option<(NodeId, usize)>,
-    end: End<LinkedIter<'t, LeafOf<K, V, LEN>, S>>,
+    end: &mut End<LinkedIter<'t, LeafOf<K, V, LEN>, S>>,
     bound: Bound<&K>,
-) -> End<LinkedIter<'t, LeafOf<K, V, LEN>, S>>
+) -> Option<(&'t K, &'t V)>
     requires tree { IsTree K.cmp arenas.now root }
-    requires stands { EndStands arenas.now root end }
-    ensures place { end_of arenas.now root result ≡ next_end K.cmp S.way (bound_map (λ k. k.now) bound.entry) (walk_under arenas.now root) (end_of arenas.now root end.entry) }
-    ensures stands { EndStands arenas.now root result }
+    requires stands { EndStands arenas.now root end.old }
+    ensures place { end_of arenas.now root end.new ≡ next_end K.cmp S.way (bound_map (λ k. k.now) bound.entry) (walk_under arenas.now root) (end_of arenas.now root end.old) }
+    ensures stands { EndStands arenas.now root end.new }
+    ensures pair { lent result ≡ pair_of end.new }
 {
     match end {
-        End::Unopened => first_end(arenas, root, bound),
-        End::At(walk) => next_end(arenas, root, walk),
-        End::Exhausted => End::Exhausted,
+        End::Unopened => {
+            let (key, value) = open(arenas, root, end, bound)?;
+            Some((key, value))
+        }
+        End::At(walk) => match next_entry(arenas, root, walk) {
+            Some((key, value)) => Some((key, value)),
+            None => {
+                *end = End::Exhausted;
+                None
+            }
+        },
+        End::Exhausted => None,
     }
+}
+
+/// Moves an end in place that was never moved, and returns the pair that it then stands on. Stays out of the way of the
+/// moves after the first.
+#[inline(never)]
+fn open<'t, K: Ord + Drop, V: Drop, S: EndWay, const LEN: usize>(
+    arenas: &'t ArenasOf<K, V, LEN>,
+    root: Option<(NodeId, usize)>,
+    end: &mut End<LinkedIter<'t, LeafOf<K, V, LEN>, S>>,
+    bound: Bound<&K>,
+) -> Option<(&'t K, &'t V)>
+    requires { IsTree K.cmp arenas.now root }
+    ensures place { end_of arenas.now root end.new ≡ next_end K.cmp S.way (bound_map (λ k. k.now) bound.entry) (walk_under arenas.now root) unopened }
+    ensures stands { EndStands arenas.now root end.new }
+    ensures pair { lent result ≡ pair_of end.new }
+{
+    *end = first_end(arenas, root, bound);
+    pair_on(end)
 }
 
 /// Returns where an end goes that was never moved.
@@ -63,25 +92,23 @@ fn first_end<'t, K: Ord + Drop, V: Drop, S: EndWay, const LEN: usize>(
     }
 }
 
-/// Returns where an end goes that stands on an entry.
-fn next_end<'t, K: Ord + Drop, V: Drop, S: SlotWalk, const LEN: usize>(
+/// Moves a walk that stands on an entry to the next one, and returns that. Returns `None` if the walk has left the tree.
+#[inline(always)]
+fn next_entry<'t, K: Ord + Drop, V: Drop, S: SlotWalk, const LEN: usize>(
     arenas: &'t ArenasOf<K, V, LEN>,
     root: Option<(NodeId, usize)>,
-    mut walk: LinkedIter<'t, LeafOf<K, V, LEN>, S>,
-) -> End<LinkedIter<'t, LeafOf<K, V, LEN>, S>>
+    walk: &mut LinkedIter<'t, LeafOf<K, V, LEN>, S>,
+) -> Option<(&'t K, &'t V)>
     requires tree { IsTree K.cmp arenas.now root }
-    requires stands { Stands arenas.now root walk }
-    ensures place { (bound : AnyBound K) → end_of arenas.now root result ≡ next_end K.cmp S.way bound (walk_under arenas.now root) (place_of arenas.now root walk.entry) }
-    ensures stands { EndStands arenas.now root result }
+    requires stands { Stands arenas.now root walk.old }
+    ensures { GoesOn arenas.now root K.cmp S.way walk.old result walk.new }
 {
-    match advance(&mut walk) {
-        Some(_) => End::At(walk),
-        None => End::Exhausted,
-    }
+    advance(walk)
 }
 
 /// Returns whether one walk stands on a smaller key than another one. Makes one comparison. The caller must have
 /// walks that stand on entries.
+#[inline(never)]
 pub fn comes_before<'t, K: Ord + Drop, V: Drop, S: SlotWalk, T: SlotWalk, const LEN: usize>(
     walk: &LinkedIter<'t, LeafOf<K, V, LEN>, S>,
     other: &LinkedIter<'t, LeafOf<K, V, LEN>, T>,

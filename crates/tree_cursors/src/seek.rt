@@ -85,13 +85,17 @@ fn leaf_for<K: Ord + Drop, V: Drop, const LEN: usize>(
 
 /// Moves a walk to its next entry, in its leaf or behind a jump, and returns it. Returns `None` where no entry
 /// is left. Compares no keys.
+#[inline(always)]
 pub fn advance<'t, K: Ord + Drop, V: Drop, S: SlotWalk, const LEN: usize>(
     walk: &mut LinkedIter<'t, LeafOf<K, V, LEN>, S>,
 ) -> Option<(&'t K, &'t V)>
     ensures { Advances S.way walk.old result walk.new }
 {
     match walk.next() {
-        None => walk.jump(),
-        entry => entry,
+        Some((key, value)) => Some((key, value)),
+        None => {
+            let (key, value) = walk.jump()?;
+            Some((key, value))
+        }
     }
 }

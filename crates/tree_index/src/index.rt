@@ -73,8 +73,8 @@ impl<K: IndexKey, V: Drop, const LEN: usize> TreeIndexOf<K, V, LEN> {
     /// 0.
     ///
     /// Descends once and searches one array per level and the leaf. If the leaf has a free slot, allocates nothing.
-    /// If an array on the path is full, the descent restarts at its level, and the insert allocates at most one leaf,
-    /// one node per level and a new root.
+    /// If the leaf is full, it descends once more; where that splits an array, it searches again from its level on, and
+    /// allocates at most one leaf, one node per level and a new root.
     pub fn insert_sync(&mut self, key: K, value: V) -> Result<(), InsertError<K, V>>
         ensures pairs { Inserts K.cmp self.old.pairs key value result self.new.pairs }
         ensures spare { SpendsInsert LEN self.old self.new result }
@@ -105,7 +105,8 @@ impl<K: IndexKey, V: Drop, const LEN: usize> TreeIndexOf<K, V, LEN> {
 
     /// Removes the pair with a key. Returns whether there was one.
     ///
-    /// Descends once and searches one array per level and the leaf. Allocates nothing.
+    /// Descends once and searches one array per level and the leaf, and twice where the leaf has one pair alone. Allocates
+    /// nothing.
     pub fn remove_sync(&mut self, key: &K) -> bool
         ensures answer { IsTrue result ↔ IsPresent K.cmp self.old.pairs key.now }
         ensures left { self.new.pairs ≡ without K.cmp self.old.pairs key.now }

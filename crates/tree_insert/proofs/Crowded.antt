@@ -1,8 +1,9 @@
 -- Where no room can be made on the way of a key.
-use Rattle.std.proofs.Common.{◌≡◌, ℕ, zero, suc, ◌-◌, ◌<◌, arith, sub-one}
+use Rattle.std.proofs.Common.{◌≡◌, ℕ, zero, suc, ◌-◌, ◌<◌, arith, inl, inr, sub-one}
 use Rattle.std.specs.declared.cmp.Ordering.{Ordering}
 use Rattle.slab.specs.Slab.{get}
 use Rattle.tree_array.specs.Length.{limit}
+use Rattle.tree_insert.specs.Inserts.{HasToDivide}
 use Rattle.tree_node.specs.Arenas.{TreeArenas}
 use Rattle.tree_node.specs.Shape.{IsCrowded, held, room}
 use Rattle.tree_node.specs.Tree.{HasChildFor}
@@ -18,3 +19,21 @@ module _ {K V : Type 0} {LEN : ℕ} (cmp : K → K → Ordering) where
       → IsCrowded cmp (level - 1) a child key → IsCrowded cmp level a id key
   crowded_above zero deep a id child key none which many crowded = absurd (omega (arith, deep))
   crowded_above (suc level) deep a id child key none which many crowded = (none, child, which, rw sub-one at many, rw sub-one at crowded)
+
+  -- the child for the key is full, and has too many to be built anew
+  pub child_divides : (level : ℕ) → 0 < level → (a : TreeArenas K V LEN) (id child : ℕ) (key : K) → HasChildFor cmp key (get a.nodes id) child → room (level - 1) a child ≡ 0 → limit LEN < held (level - 1) a child
+      → HasToDivide cmp level a id key
+  child_divides zero deep a id child key which none many = absurd (omega (arith, deep))
+  child_divides (suc level) deep a id child key which none many = (child, which, inl (rw sub-one at none, rw sub-one at many))
+
+  -- An insert that was tried again meets a full child below only where there was one before: the child for the key has room by now.
+  pub divides_before : (level : ℕ) → 0 < level → (old made : TreeArenas K V LEN) (id child : ℕ) (key : K) → HasChildFor cmp key (get old.nodes id) child → IsCrowded cmp (level - 1) old child key
+      → ((c : ℕ) → HasChildFor cmp key (get made.nodes id) c → 0 < room (level - 1) made c) → HasToDivide cmp level made id key → HasToDivide cmp level old id key
+  divides_before zero deep old made id child key which crowded some divides = absurd (omega (arith, deep))
+  divides_before (suc zero) deep old made id child key which crowded some divides = elim divides.2 [
+    | inl full ↦ absurd (let more : 0 < room zero made divides.0 = some divides.0 divides.1 in omega (arith, more, full.0))
+    | inr below ↦ absurd below
+  ]
+  divides_before (suc (suc level)) deep old made id child key which crowded some divides =
+      let full : IsCrowded cmp (suc level) old child key = rw sub-one at crowded in
+      (child, which, inr (full.1, full.2, inl (crowded_room level old full.1 key full.4, full.3)))

@@ -6,6 +6,7 @@ use Rattle.std.specs.declared.cmp.Ordering.TheVariants.{Less}
 use Rattle.std.specs.Cmp.{IsTotalOrder}
 use Rattle.std.proofs.lemmas.Bool.{cases_eq}
 use Rattle.std.proofs.lemmas.List.{length-map}
+use Rattle.std.proofs.lemmas.Result.{on_err_weaker}
 use Rattle.slab.specs.Slab.{get}
 use Rattle.tree_array.specs.declared.answers.StoreResult.{StoreResult}
 use Rattle.tree_array.specs.declared.answers.StoreResult.TheVariants.{New, Replaced, Duplicate, Full}
@@ -101,6 +102,7 @@ module _ {K V : Type 0} {LEN : ℕ} {cmp : K → K → Ordering} (o : IsTotalOrd
         ));
     spent = λ so deep. absurd (let both = sym so ∙ taken in cc);
     full = λ so. absurd (let both = sym so ∙ no_split in cc);
+    divided = tt;
     unchanged = λ so. absurd (let both = sym so ∙ accepted in cc);
     packed = λ so e. (packed_put e, omega arith);
   }
@@ -134,6 +136,7 @@ module _ {K V : Type 0} {LEN : ℕ} {cmp : K → K → Ordering} (o : IsTotalOrd
     lowers = as_spare ins.back.new_is;
     spent = λ so deep. absurd (cc);
     full = λ so. absurd (cc);
+    divided = tt;
     unchanged = λ so. nothing_changed ins.back.new_is;
     packed = λ so. absurd (cc);
   }
@@ -144,6 +147,7 @@ module _ {K V : Type 0} {LEN : ℕ} {cmp : K → K → Ordering} (o : IsTotalOrd
     lowers = as_spare ins.back.new_is;
     spent = λ so deep. absurd (omega (arith, deep refl));
     full = λ so. room_was ∙ no_room ins.full;
+    divided = tt;
     unchanged = λ so. nothing_changed ins.back.new_is;
     packed = λ so. absurd (cc);
   }
@@ -179,6 +183,7 @@ module _ {K V : Type 0} {LEN : ℕ} {cmp : K → K → Ordering} (o : IsTotalOrd
         lowers = omega (arith, whole, rest, ins.lowers);
         spent = λ so deep. omega (arith, whole, ins.spent so (λ asks. absurd (let both = sym asks ∙ no_split in cc)));
         full = λ so. absurd (let both = sym so ∙ no_split in cc);
+        divided = on_err_weaker result (λ below. (child, which, inr below)) ins.divided;
         unchanged = λ so. ins.unchanged so;
         packed = λ so e. (
           packed_above o level old id child key part which e new ins.replaces None (λ s less. tt) (ins.packed so (edge_below o level old id child key part which e)).0,

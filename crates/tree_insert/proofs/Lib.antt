@@ -7,3 +7,4 @@ pub mod RaisedTrees
 mod Raises
 mod Replants
 mod Retries
+mod Ways

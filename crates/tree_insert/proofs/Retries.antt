@@ -3,6 +3,7 @@ use Rattle.std.proofs.Common.{◌≡◌, ℕ, zero, suc, ◌+◌, ◌-◌, ◌<�
 use Rattle.std.specs.declared.cmp.Ordering.{Ordering}
 use Rattle.std.specs.Cmp.{IsTotalOrder}
 use Rattle.std.proofs.lemmas.Bool.{false_from_ne_true}
+use Rattle.std.proofs.lemmas.Result.{on_err_weaker}
 use Rattle.slab.specs.Slab.{get}
 use Rattle.tree_array.specs.declared.answers.StoreResult.{StoreResult}
 use Rattle.tree_array.specs.declared.answers.StoreResult.TheVariants.{New, Replaced, Duplicate, Full}
@@ -17,7 +18,7 @@ use Rattle.tree_packed.proofs.Edges.{same_packed}
 use Rattle.tree_split.proofs.Results.{only_child}
 use Rattle.tree_node.proofs.ChildChanges.{child_part, new_walk, old_spare, old_walk}
 use Rattle.tree_node.proofs.Frames.{same_stands, same_walk}
-use Rattle.tree_insert.proofs.Crowded.{crowded_above, crowded_room}
+use Rattle.tree_insert.proofs.Crowded.{child_divides, crowded_above, crowded_room, divides_before}
 use Rattle.tree_insert.proofs.Attempts.{attempts, not_crowded, one_attempt, two_attempts}
 use Rattle.tree_insert.proofs.Inserts.{inserted_between, inserts_in_node}
 use Rattle.tree_node.proofs.LeafSpares.{leaf_spent}
@@ -62,14 +63,15 @@ module _ {K V : Type 0} {LEN : ℕ} {cmp : K → K → Ordering} (upsert : Bool)
     pairs_same = same_walk level old new id (unchanged_agrees level old new whole id)
 
     -- memory was refused
-    pub refused_room : limit LEN < held (level - 1) mid child → InsertsUnder cmp upsert level old new id (Err (k, v)) key val
-    refused_room many = record {
+    pub refused_room : 0 < level → limit LEN < held (level - 1) mid child → InsertsUnder cmp upsert level old new id (Err (k, v)) key val
+    refused_room deep many = record {
       pairs = (below.absent, below.same_key, below.same_val, pairs_same);
       stands = λ low high above up_to s. same_stands cmp level old new id (unchanged_agrees level old new whole id) low high s;
       replaces = unchanged_replaces level old new whole (id ∷ []);
       lowers = omega (arith, none_spare many);
       spent = λ so deep. none_spare many;
       full = λ so. absurd (cc);
+      divided = child_divides cmp level deep old id child key below.which (crowded_room cmp (level - 1) old child key below.crowded) (rw (unchanged_held (level - 1) old mid below.same child) at many);
       unchanged = λ so. absurd (cc);
       packed = λ so. absurd (cc);
     }
@@ -82,6 +84,7 @@ module _ {K V : Type 0} {LEN : ℕ} {cmp : K → K → Ordering} (upsert : Bool)
       lowers = omega (arith, none_spare many);
       spent = λ so deep. none_spare many;
       full = λ so. crowded;
+      divided = tt;
       unchanged = λ so. whole;
       packed = λ so. absurd (cc);
     }
@@ -99,9 +102,9 @@ module _ {K V : Type 0} {LEN : ℕ} {cmp : K → K → Ordering} (upsert : Bool)
       lacks.many
 
   -- room was made, and the pair inserted
-  inserted_again : (made new : TreeArenas K V LEN) (result : Result (StoreResult K V) (K × V)) → HasMadeRoom cmp level mid made id key → InsertsUnder cmp upsert level made new id result key val → asks_split result ≡ false
+  inserted_again : 0 < level → (made new : TreeArenas K V LEN) (result : Result (StoreResult K V) (K × V)) → HasMadeRoom cmp level mid made id key → InsertsUnder cmp upsert level made new id result key val → asks_split result ≡ false
       → InsertsUnder cmp upsert level old new id result key val
-  inserted_again made new result roomy ins no_split =
+  inserted_again deep made new result roomy ins no_split =
       let walked : walk level made id ≡ walk level old id = roomy.pairs ∙ same_walk level old mid id (unchanged_agrees level old mid below.same id) in
       let pairs : Inserts cmp upsert result (walk level old id) key val (walk level new id) = rw (← walked) ins.pairs in
       let spares : spare level old id ≤ spare level made id = omega (arith, roomy.spares, same_spare level old mid id (unchanged_agrees level old mid below.same id)) in
@@ -115,6 +118,7 @@ module _ {K V : Type 0} {LEN : ℕ} {cmp : K → K → Ordering} (upsert : Bool)
         lowers = omega (arith, spares, ins.lowers);
         spent = λ so deep. omega (arith, spares, ins.spent so deep);
         full = λ so. absurd (let both = sym so ∙ no_split in cc);
+        divided = on_err_weaker result (divides_before cmp level deep old made id child key below.which below.crowded roomy.child) ins.divided;
         unchanged = λ so. absurd (let both = sym so ∙ taken in cc);
         packed = λ so e.
             let more = roomy.packed child below_which child_full (same_packed cmp (Some key) level old mid id (unchanged_agrees level old mid below.same id) e) in
@@ -140,7 +144,7 @@ module _ {K V : Type 0} {LEN : ℕ} {cmp : K → K → Ordering} (upsert : Bool)
     pub retried : (new : TreeArenas K V LEN) (result : Result (StoreResult K V) (K × V)) → InsertsUnder cmp upsert level made new id result k v → InsertsUnder cmp upsert level old new id result key val
     retried new result inserts =
         let ins : InsertsUnder cmp upsert level made new id result key val = rw (below.same_key, below.same_val) at inserts in
-        inserted_again made new result room_made ins (false_from_ne_true (asks_split result) (λ asks. not_crowded cmp level deep made id key room_made.child (ins.full asks)))
+        inserted_again deep made new result room_made ins (false_from_ne_true (asks_split result) (λ asks. not_crowded cmp level deep made id key room_made.child (ins.full asks)))
 
     -- this insert needs no second attempt
     pub last_attempt : attempts cmp level made id k < attempts cmp level old id key

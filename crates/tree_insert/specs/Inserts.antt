@@ -1,16 +1,18 @@
 -- What an insert under a number answers and leaves.
-use Rattle.std.specs.Prelude.{◌≡◌, ℕ, suc, ◌<◌, ◌≤◌, Bool, true, false, List, [], ◌∷◌, Option, None, Some, Result, Ok, Err}
+use Rattle.std.specs.Prelude.{◌≡◌, ◌⊎◌, ℕ, zero, suc, ◌<◌, ◌≤◌, Bool, true, false, List, [], ◌∷◌, Option, None, Some, Result, Ok, Err}
 use Rattle.std.specs.declared.cmp.Ordering.{Ordering}
+use Rattle.std.specs.Result.{OnErr}
 use Rattle.slab.specs.Slab.{get}
 use Rattle.tree_array.specs.Insertion.{as_insert}
+use Rattle.tree_array.specs.Length.{limit}
 use Rattle.tree_array.specs.declared.answers.InsertResult.{InsertResult}
 use Rattle.tree_array.specs.declared.answers.StoreResult.{StoreResult}
 use Rattle.tree_array.specs.declared.answers.StoreResult.TheVariants.{New, Replaced, Duplicate, Full}
 use Rattle.tree_model.specs.Pairs.{IsAbsent, IsPresent, put}
 use Rattle.tree_node.specs.Arenas.{TreeArenas}
-use Rattle.tree_node.specs.Tree.{IsAbove, IsUpTo, Stands, walk}
+use Rattle.tree_node.specs.Tree.{HasChildFor, IsAbove, IsUpTo, Stands, walk}
 use Rattle.tree_node.specs.Parts.{Replaces, Unchanged}
-use Rattle.tree_node.specs.Shape.{IsCrowded, slot_keyed, spare}
+use Rattle.tree_node.specs.Shape.{IsCrowded, held, room, slot_keyed, spare}
 use Rattle.tree_packed.specs.Packed.{IsPacked}
 
 module _ {K V : Type 0} where
@@ -51,6 +53,13 @@ module _ {K V : Type 0} where
   plain_answer (Ok answer) = Ok (as_insert answer)
   plain_answer (Err pair) = Err pair
 
+module _ {K V : Type 0} (cmp : K → K → Ordering) where
+  -- A leaf or a node below the number, on the way of the key, has to be divided: its array has no room, and too many to be built anew.
+  abbrev pub HasToDivide : {LEN : ℕ} → ℕ → TreeArenas K V LEN → ℕ → K → Type 0
+  HasToDivide zero arenas id key = ⊥
+  HasToDivide {LEN = LEN} (suc level) arenas id key =
+      (child : ℕ) × HasChildFor cmp key (get arenas.nodes id) child × (((room level arenas child ≡ 0) × (limit LEN < held level arenas child)) ⊎ HasToDivide level arenas child key)
+
 module _ {K V : Type 0} (cmp : K → K → Ordering) (upsert : Bool) where
   -- no pair with the key is there, where one would have been found first
   abbrev pub IsNew : List (K × V) → K → Type 0
@@ -74,6 +83,8 @@ module _ {K V : Type 0} (cmp : K → K → Ordering) (upsert : Bool) where
     pub spent : refused result ≡ true → (asks_split result ≡ true → 0 < level) → spare level old id ≡ 0
     -- a split is asked for only where no array on the way of the key has room, nor can be built anew
     pub full : asks_split result ≡ true → IsCrowded cmp level old id key
+    -- memory is wanted, and so refused, only where a leaf or a node has to be divided
+    pub divided : OnErr result (HasToDivide cmp level old id key)
     -- where that is so, or the key is there, nothing has changed
     pub unchanged : declined result ≡ true → Unchanged old new
     -- a key larger than all keeps the part packed, and the keyed children that it had

@@ -7,6 +7,7 @@ ghost use Rattle.tree_node.specs.Tree.{IsRetired};
 
 use tree_array::array::{IndexKey, StoreResult};
 use tree_leaf::arena::NodeId;
+use tree_node::descent::leaf_for;
 use tree_node::node::{ArenasOf, NodeOf};
 use tree_node::routing::child_place_beyond;
 use tree_split::leaf_split::make_room;
@@ -17,13 +18,14 @@ use tree_split::node_split::split_child;
 /// - Returns `Duplicate` if an equal key is there and `UPSERT` is false, even if no slot is free.
 /// - Returns `Full` if a child has to be split and the node has no slot for the separator, so that its parent must split
 ///   the node first, or if the node is retired.
-/// - Returns `Err` if memory is refused. Arrays may have been split by then, but the entries are what they were.
+/// - Returns `Err` if a leaf or a node on the way of the key has to be split and memory is refused. Arrays may have been
+///   split by then, but the entries are what they were.
 ///
 /// Each of the three hands the pair back; the first two leave everything unchanged.
 ///
-/// Makes at most `LEN` comparisons in each node on the path and in the leaf. If a child is split or built anew, the
-/// descent restarts at its parent, once. Allocates one leaf and one node a level at most. A split of a leaf clones one
-/// key.
+/// Makes at most `LEN` comparisons in each node on the path and in the leaf. If the leaf is full, the descent restarts; if
+/// a child is split or built anew, it restarts at its parent, once more. Allocates one leaf and one node a level at most.
+/// A split of a leaf clones one key.
 ///
 /// The caller must see that a well-formed part of a tree, or a retired node, stands under the number.
 pub fn insert_at<const UPSERT: bool, K: IndexKey, V: Drop, const LEN: usize>(
@@ -38,11 +40,22 @@ pub fn insert_at<const UPSERT: bool, K: IndexKey, V: Drop, const LEN: usize>(
     ensures inserts { IsPart K.cmp level arenas.old id → InsertsUnder K.cmp UPSERT level arenas.old arenas.new id result key val }
     ensures retired { IsRetired level arenas.old id → (result ≡ Ok (FullResult key val)) × Unchanged arenas.old arenas.new }
 {
-    insert_from::<UPSERT, K, V, LEN>(arenas, level, id, true, key, val)
+    let Some(place) = leaf_for(arenas, level, id, &key, true) else {
+        return Ok(StoreResult::Full(key, val));
+    };
+    if arenas.leaf(place.leaf).array().is_full() {
+        return insert_from::<UPSERT, K, V, LEN>(arenas, level, id, true, key, val);
+    }
+    Ok(
+        arenas
+            .leaf_mut(place.leaf)
+            .array_mut()
+            .store::<UPSERT>(place.rightmost, key, val),
+    )
 }
 
-/// Inserts a pair, as [`insert_at`] does. `rightmost` says that the way down has kept to the unbounded children so far, so
-/// that the key is compared with the last separator first.
+/// Inserts a pair, as [`insert_at`] does, with a way back on which full children are split. `rightmost` says that the way
+/// down has kept to the unbounded children so far, so that the key is compared with the last separator first.
 fn insert_from<const UPSERT: bool, K: IndexKey, V: Drop, const LEN: usize>(
     arenas: &mut ArenasOf<K, V, LEN>,
     level: usize,

@@ -14,5 +14,6 @@ mod words;
 mod writing;
 
 pub use lines::{ToolFault, run_lines};
+pub use numbers::number_of;
 pub use requests::Request;
-pub use writing::{WriteFailed, write_whole};
+pub use writing::{WriteFailed, write_number, write_whole};

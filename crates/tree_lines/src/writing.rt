@@ -1,6 +1,8 @@
 //! Writes that are whole or fail.
+ghost use Rattle.std.specs.Prelude.{decimal};
 ghost use Rattle.tree_lines.specs.Writing.{Writes};
 
+use crate::short_text::ShortText;
 use std::error::Error;
 use std::fmt;
 use std::io::Write;
@@ -34,4 +36,15 @@ pub fn write_whole<W: Write>(output: &mut W, bytes: &[u8]) -> Result<(), WriteFa
         rest = left;
     }
     Ok(())
+}
+
+/// Writes the decimal digits of a number.
+///
+/// Returns `Err` if a write fails; some of the digits may have been written. Allocates nothing.
+pub fn write_number<W: Write>(output: &mut W, n: u64) -> Result<(), WriteFailed>
+    ensures { Writes (decimal n) (W.contents output.old) (W.contents output.new) result }
+{
+    let mut text = ShortText::new();
+    text.push_number_front(n);
+    write_whole(output, text.as_bytes())
 }

@@ -69,14 +69,6 @@ module _ {K V : Type 0} {LEN : ℕ} {cmp : K → K → Ordering} (level : ℕ) (
       none None r h = r
       none (Some node) r h = let no_child = rw r.1 at h in cc
 
-  -- and one without is, so that its walk is empty
-  pub nothing_under : StandsOrRetired cmp (suc level) a id → (k : K) (node : NodeOf K LEN) → get a.nodes id ≡ Some node → child_of cmp k (keyed node).entries (unbounded node) ≡ None → walk (suc level) a id ≡ []
-  nothing_under (inl s) k node here none =
-      let same : Some s.node ≡ Some node = sym s.here ∙ here in
-      let is : s.node ≡ node = cc in
-      absurd (let some = rw (← is, s.last_is) at none in cc)
-  nothing_under (inr retired) k node here none = let r = rw here at retired in rw (here, r.0, r.1) refl
-
 module _ {K V : Type 0} {LEN : ℕ} (a : TreeArenas K V LEN) (id : ℕ) where
   -- a leaf that stands is there, and its walk is its entries
   pub leaf_there : {cmp : K → K → Ordering} (low high : Option K) → Stands cmp 0 a low id high → IsSome (get a.leaves id)

@@ -1,5 +1,5 @@
 -- What the kind of a node says of its level, and where a key is found under a node of either kind.
-use Rattle.std.proofs.Common.{◌≡◌, ℕ, zero, suc, ◌+◌, ◌-◌, ◌*◌, ◌<◌, ◌≤◌, [], Some, None, IsSome, inl, refl, sym, subst, ◌∙◌, arith, add-one, sub-one, mul-suc}
+use Rattle.std.proofs.Common.{◌≡◌, ℕ, zero, suc, ◌+◌, ◌-◌, ◌*◌, ◌<◌, ◌≤◌, List, [], Option, Some, None, IsSome, MatchOption, inl, inr, refl, sym, subst, ◌∙◌, arith, add-one, sub-one, mul-suc}
 use Rattle.std.specs.declared.cmp.Ordering.{Ordering}
 use Rattle.std.specs.Cmp.{IsTotalOrder}
 use Rattle.slab.specs.Slab.{get}
@@ -11,7 +11,8 @@ use Rattle.tree_node.specs.declared.node.NodeOf.{NodeOf}
 use Rattle.tree_node.specs.declared.node.NodeOf.TheVariants.{Internal, Leaf}
 use Rattle.tree_node.specs.Arenas.{TreeArenas}
 use Rattle.tree_node.specs.Tree.{keyed, unbounded, child_of, HasChildFor, HasKind, IsRetired, IsRetiredNode, Stands, StandsOrRetired, walk}
-use Rattle.tree_node.proofs.Children.{node_there, stands_over, child_stands, nothing_under, leaf_there, walk-leaf}
+use Rattle.tree_node.specs.Ways.{HoldsFor}
+use Rattle.tree_node.proofs.Children.{node_there, stands_over, child_stands, leaf_there, walk-leaf}
 use Rattle.tree_node.proofs.Walks.{found_in_child}
 
 module _ {K V : Type 0} {LEN : ℕ} (cmp : K → K → Ordering) (a : TreeArenas K V LEN) (id : ℕ) where
@@ -31,11 +32,6 @@ module _ {K V : Type 0} {LEN : ℕ} (cmp : K → K → Ordering) (a : TreeArenas
   retired_at zero inner node here = absurd (omega (arith, inner))
   retired_at (suc level) inner node here = rw here (λ retired. retired, λ retired. retired)
 
-  pub nothing_at : (level : ℕ) → 0 < level → StandsOrRetired cmp level a id → (k : K) (node : NodeOf K LEN) → get a.nodes id ≡ Some node
-      → child_of cmp k (keyed node).entries (unbounded node) ≡ None → walk level a id ≡ []
-  nothing_at zero inner given k node here none = absurd (omega (arith, inner))
-  nothing_at (suc level) inner given k node here none = nothing_under level a id given k node here none
-
 module _ {K V : Type 0} {LEN : ℕ} {cmp : K → K → Ordering} (o : IsTotalOrder cmp) (a : TreeArenas K V LEN) (id : ℕ) (k : K) (child : ℕ) where
   -- a key is found in this leaf
   pub record FoundInLeaf (level : ℕ) : Type 0 where
@@ -45,6 +41,7 @@ module _ {K V : Type 0} {LEN : ℕ} {cmp : K → K → Ordering} (o : IsTotalOrd
   -- or under this node, one level below
   pub record FoundBelow (level : ℕ) : Type 0 where
     pub inner : 0 < level - 1
+    pub whole : Stands cmp (level - 1) a None child None
     pub stands : StandsOrRetired cmp (level - 1) a child
     pub found : pair_at cmp (walk level a id) k ≡ pair_at cmp (walk (level - 1) a child) k
 
@@ -57,6 +54,7 @@ module _ {K V : Type 0} {LEN : ℕ} {cmp : K → K → Ordering} (o : IsTotalOrd
   below : (level : ℕ) → Stands cmp (suc (suc level)) a None id None → HasChildFor cmp k (get a.nodes id) child → FoundBelow (suc (suc level))
   below level s routed = record {
     inner = omega arith;
+    whole = rw sub-one (child_stands o (suc level) a id s k child routed);
     stands = rw sub-one (inl (child_stands o (suc level) a id s k child routed));
     found = rw sub-one (found_in_child o (suc level) a None id None s k child routed);
   }
@@ -80,11 +78,69 @@ module _ {K V : Type 0} {LEN : ℕ} {cmp : K → K → Ordering} (o : IsTotalOrd
   found_below (suc (suc level)) inner given node here chosen =
       let routed = routes (Internal node) here chosen in below level (stands_over (suc level) a id given k child routed) routed
 
--- one array is asked at each level, and the leaf
-pub two_asked : (len level x y z : ℕ) → 0 < level → y ≤ x + len → z ≤ y + len → z ≤ x + len * (level + 1)
-two_asked len zero x y z inner first second = absurd (omega (arith, inner))
-two_asked len (suc level) x y z inner first second = rw (add-one, mul-suc, mul-suc) (omega arith)
+module _ {K V : Type 0} {LEN : ℕ} (cmp : K → K → Ordering) (a : TreeArenas K V LEN) (id : ℕ) where
+  -- what stands isn't retired
+  stands_not_retired : (level : ℕ) → 0 < level → Stands cmp level a None id None → IsRetired level a id → ⊥
+  stands_not_retired zero inner s retired = omega (arith, inner)
+  stands_not_retired (suc level) inner s retired =
+      let none = (rw s.here at retired).1 in
+      let some = s.last_is in
+      cc
 
-pub one_more_asked : (len level x y z : ℕ) → 0 < level → y ≤ x + len → z ≤ y + len * (level - 1 + 1) → z ≤ x + len * (level + 1)
+  -- and has a child for each key
+  pub childless : (level : ℕ) → 0 < level → StandsOrRetired cmp level a id → (k : K) (node : NodeOf K LEN) → get a.nodes id ≡ Some node → child_of cmp k (keyed node).entries (unbounded node) ≡ None → IsRetired level a id
+  childless level inner (inr retired) k node here none = retired
+  childless zero inner (inl s) k node here none = absurd (omega (arith, inner))
+  childless (suc level) inner (inl s) k node here none =
+      let same : Some s.node ≡ Some node = sym s.here ∙ here in
+      let is : s.node ≡ node = cc in
+      let gone : child_of cmp k (keyed node).entries (Some s.last) ≡ None = rw (rw is at s.last_is) at none in
+      absurd (cc)
+
+module _ {K V : Type 0} {LEN : ℕ} (a : TreeArenas K V LEN) (id : ℕ) where
+  -- what is retired has no pair
+  pub retired_walk : (level : ℕ) → 0 < level → IsRetired level a id → walk level a id ≡ []
+  retired_walk zero inner retired = absurd (omega (arith, inner))
+  retired_walk (suc level) inner retired = by_node (get a.nodes id) refl retired
+    where
+      by_node : (found : Option (NodeOf K LEN)) → get a.nodes id ≡ found → IsRetiredNode found → walk (suc level) a id ≡ []
+      by_node None here retired = absurd retired
+      by_node (Some node) here retired = rw (here, retired.0, retired.1) refl
+
+module _ {K V : Type 0} {LEN : ℕ} (cmp : K → K → Ordering) (k : K) where
+  holds : (pairs : List (K × V)) (found : Option (LeafOf K V LEN)) → IsSome found → ((leaf : LeafOf K V LEN) → found ≡ Some leaf → pair_at cmp pairs k ≡ pair_at cmp leaf.array.entries k) → HoldsFor cmp k pairs found
+  holds pairs None there same = absurd (cc)
+  holds pairs (Some leaf) there same = same leaf refl
+
+module _ {K V : Type 0} {LEN : ℕ} {cmp : K → K → Ordering} (o : IsTotalOrder cmp) (a : TreeArenas K V LEN) (id : ℕ) (k : K) (level : ℕ) (inner : 0 < level) (given : StandsOrRetired cmp level a id) where
+  -- the leaf under a leaf node
+  pub leaf_found : (node : LeafNodeOf K LEN) → get a.nodes id ≡ Some (Leaf node) → (found : Option ℕ) → found ≡ child_of cmp k node.children.entries node.unbounded_child
+      → MatchOption found (IsRetired level a id) (λ leaf. IsSome (get a.leaves leaf) × HoldsFor cmp k (walk level a id) (get a.leaves leaf))
+  leaf_found node here None none = childless cmp a id level inner given k (Leaf node) here (sym none)
+  leaf_found node here (Some leaf) chosen =
+      let in_it = found_in_leaf o a id k leaf level inner given node here (sym chosen) in
+      (in_it.here, holds cmp k (walk level a id) (get a.leaves leaf) in_it.here in_it.found)
+
+  -- and one that was found further down
+  pub passed_up : (node : InternalNodeOf K LEN) → get a.nodes id ≡ Some (Internal node) → (child : ℕ) → child_of cmp k node.children.entries node.unbounded_child ≡ Some child → (found : Option ℕ)
+      → MatchOption found (IsRetired (level - 1) a child) (λ leaf. IsSome (get a.leaves leaf) × HoldsFor cmp k (walk (level - 1) a child) (get a.leaves leaf))
+      → MatchOption found (IsRetired level a id) (λ leaf. IsSome (get a.leaves leaf) × HoldsFor cmp k (walk level a id) (get a.leaves leaf))
+  passed_up node here child chosen None retired =
+      let below = found_below o a id k child level inner given node here chosen in
+      absurd (stands_not_retired cmp a child (level - 1) below.inner below.whole retired)
+  passed_up node here child chosen (Some leaf) (there, same) =
+      let below = found_below o a id k child level inner given node here chosen in
+      (there, below.found ∙ same)
+
+-- one array is asked at each level
+pub one_asked : (len level x y : ℕ) → 0 < level → y ≤ x + len → y ≤ x + len * level
+one_asked len zero x y inner asked = absurd (omega (arith, inner))
+one_asked len (suc level) x y inner asked = rw mul-suc (omega (arith, asked))
+
+pub one_more_asked : (len level x y z : ℕ) → 0 < level → y ≤ x + len → z ≤ y + len * (level - 1) → z ≤ x + len * level
 one_more_asked len zero x y z inner first second = absurd (omega (arith, inner))
-one_more_asked len (suc level) x y z inner first second = rw (add-one, mul-suc) (omega (arith, rw (sub-one, add-one) at second))
+one_more_asked len (suc level) x y z inner first second = rw mul-suc (omega (arith, first, rw sub-one at second))
+
+-- and the leaf
+pub leaf_asked : (len level x y z : ℕ) → y ≤ x + len * level → z ≤ y + len → z ≤ x + len * (level + 1)
+leaf_asked len level x y z first second = rw (add-one, mul-suc) (omega (arith, first, second))

@@ -24,5 +24,6 @@ pub mod Standing
 pub mod Steps
 pub mod Unchanged
 pub mod Walks
+pub mod Ways
 pub mod Whole
 pub mod Widens

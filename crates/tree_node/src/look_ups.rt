@@ -1,13 +1,15 @@
 //! Look-ups under the number of a node, at its level.
-ghost use Rattle.std.specs.Prelude.{◌≡◌, ◌+◌, ◌*◌, ◌≤◌, ◌<◌, Some, MatchOption};
+ghost use Rattle.std.specs.Prelude.{◌≡◌, ◌+◌, ◌*◌, ◌≤◌, ◌<◌, IsSome, Some, MatchOption};
+ghost use Rattle.slab.specs.Slab.{get};
 ghost use Rattle.tree_array.specs.Length.{searched};
 ghost use Rattle.tree_model.specs.Pairs.{IsAbsent, pair_at};
-ghost use Rattle.tree_node.specs.Tree.{StandsOrRetired, walk};
+ghost use Rattle.tree_node.specs.Tree.{IsRetired, StandsOrRetired, walk};
+ghost use Rattle.tree_node.specs.Ways.{HoldsFor};
 
 use crate::node::{ArenasOf, NodeOf};
 use crate::routing::child_for;
 use tree_array::array::Judge;
-use tree_leaf::arena::NodeId;
+use tree_leaf::arena::{LeafId, NodeId};
 
 /// Returns the pair with the judge's key under a number, or `None` if the key is absent. Makes at most
 /// `4 * (level + 1)` comparisons with 15 slots, and `3 * (level + 1)` with 7.
@@ -26,14 +28,34 @@ pub fn search_at<'a, K: Ord + Drop, V: Drop, J: Judge<K>, const LEN: usize>(
     ensures counted { J.count judge.new ≤ J.count judge.old + LEN * (level + 1) }
     ensures halved { J.count judge.new ≤ J.count judge.old + searched LEN * (level + 1) }
 {
+    let Some(leaf) = leaf_by(arenas, level, id, judge) else {
+        return None;
+    };
+    arenas.leaf(leaf).array().search_entry(judge)
+}
+
+/// Returns the leaf that the judge's key belongs to under a number, or `None` if the node is retired. Makes at most
+/// `4 * level` comparisons with 15 slots, and `3 * level` with 7.
+fn leaf_by<K: Ord + Drop, V: Drop, J: Judge<K>, const LEN: usize>(
+    arenas: &ArenasOf<K, V, LEN>,
+    level: usize,
+    id: NodeId,
+    judge: &mut J,
+) -> Option<LeafId>
+    requires node { 0 < level }
+    requires stands { StandsOrRetired K.cmp level arenas.now id }
+    ensures found { MatchOption result (IsRetired level arenas.now id) (λ leaf. IsSome (get arenas.now.leaves leaf) × HoldsFor K.cmp (J.key judge.old) (walk level arenas.now id) (get arenas.now.leaves leaf)) }
+    ensures same_key { J.key judge.new ≡ J.key judge.old }
+    ensures counted { J.count judge.new ≤ J.count judge.old + LEN * level }
+    ensures halved { J.count judge.new ≤ J.count judge.old + searched LEN * level }
+{
     match arenas.node(id) {
-        NodeOf::Leaf(node) => {
-            let child = child_for(&node.children, node.unbounded_child, judge)?;
-            arenas.leaf(child).array().search_entry(judge)
-        }
+        NodeOf::Leaf(node) => child_for(&node.children, node.unbounded_child, judge),
         NodeOf::Internal(node) => {
-            let child = child_for(&node.children, node.unbounded_child, judge)?;
-            search_at(arenas, level - 1, child, judge)
+            let Some(child) = child_for(&node.children, node.unbounded_child, judge) else {
+                return None;
+            };
+            leaf_by(arenas, level - 1, child, judge)
         }
     }
 }

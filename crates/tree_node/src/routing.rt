@@ -72,6 +72,26 @@ pub fn child_place_beyond<K: Ord + Drop, I: Copy + Drop, const LEN: usize>(
     })
 }
 
+/// Returns the child that a key belongs to, where `unbounded` is the unbounded one, and whether it is that one by a way
+/// that was `rightmost` so far. With `rightmost` it compares the key with the last separator first, as
+/// [`child_place_beyond`] does.
+pub fn child_beyond<K: Ord + Drop, I: Copy + Drop, const LEN: usize>(
+    children: &ArrayOf<K, I, LEN>,
+    unbounded: I,
+    key: &K,
+    rightmost: bool,
+) -> (I, bool)
+    ensures { child_of K.cmp key.now children.now.entries (Some unbounded) ≡ Some result.0 }
+{
+    if rightmost && is_beyond(children, key) {
+        return (unbounded, true);
+    }
+    match children.slot_for(key) {
+        Some(slot) => (*children.val(slot), false),
+        None => (unbounded, rightmost),
+    }
+}
+
 /// Returns whether a key is larger than each separator.
 fn is_beyond<K: Ord + Drop, I: Copy + Drop, const LEN: usize>(
     children: &ArrayOf<K, I, LEN>,

@@ -162,19 +162,6 @@ pub fn place_of(order: u64, count: u8, slot: u8) -> u8
     unreachable!()
 }
 
-/// The slots that the first places name, in their order.
-pub fn slots(order: u64, count: u8) -> [u8; MOST]
-    requires { count ≤ 15 }
-    ensures whole { length result ≡ 15 }
-    ensures listed { take count result ≡ names order count }
-{
-    let mut slots = [0; MOST];
-    for place in 0..count {
-        slots[place as usize] = slot_at(order, place);
-    }
-    slots
-}
-
 /// The rank of each slot: one more than its place, or 0 where no place names it.
 pub fn ranks(order: u64, count: u8) -> [u8; MOST]
     requires few { count ≤ 15 }

@@ -14,6 +14,7 @@ use tree_leaf::leaf::{IterOf, LeafOf, LinkedIter, RevIterOf, Reversible, SlotWal
 
 /// Returns whether neither end is exhausted, and the forward one stands before the backward one. Makes at most
 /// one comparison. The caller must have ends that stand in one tree.
+#[inline(always)]
 pub fn are_apart<'t, K: Ord + Drop, V: Drop, const LEN: usize>(
     forward: &End<IterOf<'t, K, V, LEN>>,
     backward: &End<RevIterOf<'t, K, V, LEN>>,
@@ -43,9 +44,18 @@ pub fn shown<'t, K: Ord + Drop, V: Drop, S: SlotWalk, T: EndWay, const LEN: usiz
 ) -> Option<(&'t K, &'t V)>
     ensures { lent result ≡ option_where (λ pair. meets K.cmp T.way (bound_map (λ k. k.now) bound.entry) pair.0) (pair_of end.now) }
 {
-    let Some((key, value)) = pair_on(end) else {
-        return None;
-    };
+    within::<K, V, T>(pair_on(end), bound)
+}
+
+/// Returns a pair if its key is within the bound at which an end of this way begins. Makes at most one comparison.
+#[inline(always)]
+pub fn within<'t, K: Ord, V, T: EndWay>(
+    pair: Option<(&'t K, &'t V)>,
+    bound: Bound<&K>,
+) -> Option<(&'t K, &'t V)>
+    ensures { lent result ≡ option_where (λ pair. meets K.cmp T.way (bound_map (λ k. k.now) bound.entry) pair.0) (lent pair.entry) }
+{
+    let (key, value) = pair?;
     if T::meets(bound, key) {
         Some((key, value))
     } else {

@@ -89,7 +89,9 @@ fn end_from<'t, K: Ord + Drop, V: Drop, const LEN: usize>(
     ensures place { end_of arenas.now root result ≡ next_end K.cmp On (Included key.now) (walk_under arenas.now root) unopened }
     ensures stands { EndStands arenas.now root result }
 {
-    step(arenas, root, End::Unopened, Bound::Included(key))
+    let mut end = End::Unopened;
+    let _ = step(arenas, root, &mut end, Bound::Included(key));
+    end
 }
 
 /// Returns the end that stands on the last key.
@@ -102,7 +104,9 @@ fn last_end<'t, K: Ord + Drop + 't, V: Drop + 't, const LEN: usize>(
     ensures stands { EndStands arenas.now root result }
 {
     let open: Bound<&'t K> = Bound::Unbounded;
-    step(arenas, root, End::Unopened, open)
+    let mut end = End::Unopened;
+    let _ = step(arenas, root, &mut end, open);
+    end
 }
 
 /// Returns the end that stands one entry before another end.
@@ -117,5 +121,7 @@ fn end_before<'t, K: Ord + Drop + 't, V: Drop + 't, const LEN: usize>(
     ensures stands { EndStands arenas.now root result }
 {
     let open: Bound<&'t K> = Bound::Unbounded;
-    step(arenas, root, turned(again(end)), open)
+    let mut end = turned(again(end));
+    let _ = step(arenas, root, &mut end, open);
+    end
 }

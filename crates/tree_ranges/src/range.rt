@@ -10,7 +10,7 @@ ghost use Rattle.tree_cursor_model.specs.Rest.{Moves, lent};
 ghost use Rattle.tree_cursors.specs.View.{Kept, end_of};
 ghost use Rattle.tree_ranges.specs.Ranged.{Flips, moves_left};
 
-use crate::ends::{again, are_apart, is_unopened, shown, turned};
+use crate::ends::{again, are_apart, is_unopened, shown, turned, within};
 use std::alloc::AllocError;
 use std::iter::FusedIterator;
 use std::marker::{Model, PhantomData};
@@ -199,14 +199,13 @@ impl<'t, K: Ord + Drop + 't, V: Drop + 't, const LEN: usize> Iterator
 
     ghost remaining = { λ s. at_most (moves_left s) };
 
+    #[inline]
     fn next(&mut self) -> Option<(&'t K, &'t V)> {
-        let old = mem::replace(&mut self.forward, End::Exhausted);
-        self.forward = step(self.arenas, self.root, old, self.low);
-        if are_apart(&self.forward, &self.backward) {
-            self.get()
-        } else {
-            None
+        let pair = step(self.arenas, self.root, &mut self.forward, self.low);
+        if !are_apart(&self.forward, &self.backward) {
+            return None;
         }
+        within::<K, V, ArrayRevIter>(pair, self.high)
     }
 }
 
@@ -214,14 +213,13 @@ impl<'t, K: Ord + Drop + 't, V: Drop + 't, const LEN: usize> DoubleEndedIterator
     for RangeOver<'t, K, V, ArenasOf<K, V, LEN>, LeafOf<K, V, LEN>> {
     ghost next_back_gives = { Moves K.cmp Back };
 
+    #[inline]
     fn next_back(&mut self) -> Option<(&'t K, &'t V)> {
-        let old = mem::replace(&mut self.backward, End::Exhausted);
-        self.backward = step(self.arenas, self.root, old, self.high);
-        if are_apart(&self.forward, &self.backward) {
-            self.get_back()
-        } else {
-            None
+        let pair = step(self.arenas, self.root, &mut self.backward, self.high);
+        if !are_apart(&self.forward, &self.backward) {
+            return None;
         }
+        within::<K, V, ArrayIter>(pair, self.low)
     }
 }
 

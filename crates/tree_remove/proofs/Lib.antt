@@ -11,3 +11,4 @@ pub mod NodeRemovals
 pub mod NodeWrites
 pub mod OnlyLeaves
 pub mod Splits
+pub mod Ways

@@ -12,6 +12,7 @@ ghost use Rattle.tree_node.specs.Tree.{IsRetired, walk};
 use crate::clean_up::{drop_child_node, drop_keyed_leaf, retire_if_empty};
 use tree_array::array::RemoveResult;
 use tree_leaf::arena::{LeafId, NodeId};
+use tree_node::descent::leaf_for;
 use tree_node::node::{ArenasOf, NodeOf};
 use tree_node::routing::child_place_for;
 
@@ -25,6 +26,30 @@ use tree_node::routing::child_place_for;
 /// The caller must see that a well-formed part of a tree, or a retired node, stands under the number, and that the
 /// condition may be called on the value at the key.
 pub fn remove_at<K: Ord + Drop, V: Drop, F: FnOnce(&V) -> bool + Drop, const LEN: usize>(
+    arenas: &mut ArenasOf<K, V, LEN>,
+    level: usize,
+    id: NodeId,
+    key: &K,
+    condition: F,
+) -> RemoveResult
+    requires node { 0 < level }
+    requires part { IsPart K.cmp level arenas.old id ⊎ IsRetired level arenas.old id }
+    requires callable { ForSome (pair_at K.cmp (walk level arenas.old id) key.now) (λ pair. FnOnceTakesAt F.FnOnce condition pair.1) }
+    ensures removes { RemovesUnder K.cmp (λ val said. FnOnceReturnsAt F.FnOnce condition val said) level arenas.old arenas.new id result key.now }
+    ensures settled { level ≡ 1 → result ≡ RemoveResult.Success → HasOnlyRetired arenas.new id → ⊥ }
+{
+    let Some(place) = leaf_for(arenas, level, id, key, false) else {
+        return RemoveResult::Fail;
+    };
+    if arenas.leaf(place.leaf).array().len() <= 1 {
+        return remove_from(arenas, level, id, key, condition);
+    }
+    remove_in_leaf(arenas, place.leaf, key, condition)
+}
+
+/// Removes a pair, as [`remove_at`] does, with a way back on which retired children are dropped. A leaf with one pair alone
+/// is retired by its removal.
+fn remove_from<K: Ord + Drop, V: Drop, F: FnOnce(&V) -> bool + Drop, const LEN: usize>(
     arenas: &mut ArenasOf<K, V, LEN>,
     level: usize,
     id: NodeId,
@@ -58,7 +83,7 @@ pub fn remove_at<K: Ord + Drop, V: Drop, F: FnOnce(&V) -> bool + Drop, const LEN
             let Some(place) = child_place_for(&node.children, node.unbounded_child, key) else {
                 return RemoveResult::Fail;
             };
-            match remove_at(arenas, level - 1, place.child, key, condition) {
+            match remove_from(arenas, level - 1, place.child, key, condition) {
                 RemoveResult::Retired => drop_child_node(arenas, id, place.child, place.slot),
                 RemoveResult::Success => RemoveResult::Success,
                 RemoveResult::Fail => RemoveResult::Fail,

@@ -1,3 +1,5 @@
+pub mod Counted
 pub mod Ledgers
 pub mod Replies
+pub mod Schedules
 pub mod Tallies

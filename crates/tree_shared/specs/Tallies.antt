@@ -95,6 +95,11 @@ abbrev pub reply_of_peek : {V E : Type 0} → Result (Option V) E → Reply V
 reply_of_peek (Ok found) = Found found
 reply_of_peek (Err _) = Refused
 
+-- of `State::apply`
+abbrev pub reply_of_apply : {V E : Type 0} → Result (Reply V) E → Reply V
+reply_of_apply (Ok reply) = reply
+reply_of_apply (Err _) = Refused
+
 -- the pair that an insert hands back
 abbrev pub pair_of : {K V : Type 0} → InsertError K V → K × V
 pair_of (fault.Duplicate k v) = (k, v)

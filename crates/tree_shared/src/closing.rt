@@ -1,25 +1,31 @@
 //! What is left when the sharing of an index ends.
 
 use crate::pass::Pass;
-use crate::shared::SharedTreeIndex;
+use crate::shared::SharedTreeIndexOf;
 use crate::tally::Tally;
 use std::sync::ledger::Ledger;
-use tree_index::{IndexKey, Record, SameClone, TreeIndex};
+use tree_index::{IndexKey, Record, SameClone, TreeIndexOf};
 
-/// What a closed index leaves.
+/// What a closed index of fifteen pairs a leaf leaves. See [`ClosedOf`].
+pub type Closed<K, V> = ClosedOf<K, V, 15>;
+
+/// What a closed index leaves. `LEN` is 7 or 15.
 #[derive(Drop)]
-pub struct Closed<K: IndexKey, V: Drop> {
+pub struct ClosedOf<K: IndexKey, V: Drop, const LEN: usize> {
     /// The index.
-    pub index: TreeIndex<K, V>,
+    pub index: TreeIndexOf<K, V, LEN>,
     /// The answered commands in order, each with its reply.
     pub history: Vec<Record<K, V>>,
     /// The tally of the history.
     pub tally: Tally,
 }
 
-/// Why an index was not closed. Hands everything back.
+/// Why an index of fifteen pairs a leaf was not closed. See [`UnclosedOf`].
+pub type Unclosed<K, V, C, S, M, F, D> = UnclosedOf<K, V, C, S, M, F, D, 15>;
+
+/// Why an index was not closed. Hands everything back. `LEN` is 7 or 15.
 #[derive(Drop)]
-pub enum Unclosed<
+pub enum UnclosedOf<
     K: IndexKey + SameClone,
     V: SameClone,
     C: Ledger,
@@ -27,7 +33,8 @@ pub enum Unclosed<
     M: Ledger,
     F: Ledger,
     D: Ledger,
+    const LEN: usize,
 > {
     /// A pass is absent.
-    PassMissing(SharedTreeIndex<K, V, C, S, M, F, D>, Vec<Pass<C, S, M, F, D>>),
+    PassMissing(SharedTreeIndexOf<K, V, C, S, M, F, D, LEN>, Vec<Pass<C, S, M, F, D>>),
 }

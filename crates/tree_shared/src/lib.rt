@@ -5,7 +5,6 @@
 #![tactic(auto)]
 
 mod blanks;
-mod calls;
 mod closing;
 mod column;
 mod count;
@@ -13,11 +12,14 @@ mod ledgers;
 mod locked;
 mod pass;
 mod replies;
+mod schedule;
+mod serves;
 mod shared;
 mod tally;
 
 pub use blanks::Blanks;
-pub use closing::{Closed, Unclosed};
+pub use closing::{Closed, ClosedOf, Unclosed, UnclosedOf};
 pub use pass::Pass;
-pub use shared::SharedTreeIndex;
+pub use schedule::run_schedule;
+pub use shared::{SharedTreeIndex, SharedTreeIndexOf};
 pub use tally::Tally;

@@ -2,15 +2,17 @@
 ghost use Rattle.std.specs.Prelude.{◌≡◌, ◌<◌, true, IfOk, IfErr, OnErr};
 ghost use Rattle.tree_model.specs.History.{Appends};
 ghost use Rattle.tree_index.specs.Inserts.{RecordsInsert};
+ghost use Rattle.tree_shared.specs.Counted.{IsCounted, IsInsertCounted};
 ghost use Rattle.tree_shared.specs.Tallies.{raised, tally, reply_of_insert, pair_of};
 ghost use Rattle.tree_shared.specs.Replies.{is_reply_to};
 
 use crate::ledgers::{Books, Workers};
 use crate::pass::Pass;
+use crate::serves::Serves;
 use std::sync::ledger::Ledger;
-use tree_index::{Command, IndexKey, InsertError, Reply, SameClone, State};
+use tree_index::{Command, IndexKey, InsertError, Reply, SameClone, StateOf};
 
-/// What lies under the lock: the state, and the books that tally its history.
+/// What lies under the lock: the state, and the books that tally its history. `LEN` is 7 or 15.
 #[derive(Drop)]
 pub struct Locked<
     K: IndexKey + SameClone,
@@ -20,8 +22,9 @@ pub struct Locked<
     M: Ledger,
     F: Ledger,
     D: Ledger,
+    const LEN: usize,
 > {
-    pub(crate) state: State<K, V>,
+    pub(crate) state: StateOf<K, V, LEN>,
     pub(crate) books: Books<C, S, M, F, D>,
     pub(crate) workers: Workers<C, S, M, F, D>,
     ghost tallied: { books ≡ tally state.history },
@@ -35,7 +38,8 @@ impl<
     M: Ledger,
     F: Ledger,
     D: Ledger,
-> Locked<K, V, C, S, M, F, D> {
+    const LEN: usize,
+> Locked<K, V, C, S, M, F, D, LEN> {
     /// Answers a command, and counts its reply in the books and in the pass.
     ///
     /// Returns `Err` with the command if an allocation is refused; nothing changed then.
@@ -88,5 +92,50 @@ impl<
             Err(InsertError::OutOfMemory(_, _)) => {}
         }
         outcome
+    }
+}
+
+impl<
+    K: IndexKey + SameClone,
+    V: SameClone,
+    C: Ledger,
+    S: Ledger,
+    M: Ledger,
+    F: Ledger,
+    D: Ledger,
+    const LEN: usize,
+> Serves<Command<K, V>, Result<Reply<V>, Command<K, V>>, C, S, M, F, D>
+    for Locked<K, V, C, S, M, F, D, LEN> {
+    ghost counts = { λ command answer old new. IsCounted command answer old new };
+
+    fn serve(
+        &mut self,
+        pass: &mut Pass<C, S, M, F, D>,
+        command: Command<K, V>,
+    ) -> Result<Reply<V>, Command<K, V>> {
+        self.apply(pass, command)
+    }
+}
+
+impl<
+    K: IndexKey + SameClone,
+    V: SameClone,
+    C: Ledger,
+    S: Ledger,
+    M: Ledger,
+    F: Ledger,
+    D: Ledger,
+    const LEN: usize,
+> Serves<(K, V), Result<(), InsertError<K, V>>, C, S, M, F, D>
+    for Locked<K, V, C, S, M, F, D, LEN> {
+    ghost counts = { λ pair answer old new. IsInsertCounted pair answer old new };
+
+    fn serve(
+        &mut self,
+        pass: &mut Pass<C, S, M, F, D>,
+        pair: (K, V),
+    ) -> Result<(), InsertError<K, V>> {
+        let (key, value) = pair;
+        self.insert(pass, key, value)
     }
 }

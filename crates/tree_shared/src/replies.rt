@@ -1,8 +1,15 @@
 //! What a reply raises in a tally.
 ghost use Rattle.std.specs.Prelude.{◌≡◌};
-ghost use Rattle.tree_shared.specs.Tallies.{is_stored, is_removed, is_found, is_done, found_value};
+ghost use Rattle.tree_shared.specs.Tallies.{is_refused, is_stored, is_removed, is_found, is_done, found_value};
 
 use tree_index::Reply;
+
+/// Returns whether the command was refused.
+pub fn is_refused<V>(reply: &Reply<V>) -> bool
+    ensures { result ≡ is_refused reply.now }
+{
+    matches!(reply, Reply::Refused)
+}
 
 /// Returns whether a pair was stored.
 pub fn is_stored<V>(reply: &Reply<V>) -> bool

@@ -1,27 +1,35 @@
 //! An index that threads share.
-ghost use Rattle.std.specs.Prelude.{◌≡◌, ◌+◌, ◌<◌, All, vec_len, IfOk, IfErr, OnErr};
-ghost use Rattle.tree_model.specs.History.{IsHistoryOf};
+ghost use Rattle.std.specs.Prelude.{◌≡◌, ◌+◌, ◌<◌, All, true, vec_len, IfOk, IfErr, OnErr};
+ghost use Rattle.tree_array.specs.Length.{IsLen};
+ghost use Rattle.tree_model.specs.History.{IsHistoryOf, IsSameBound};
 ghost use Rattle.tree_shared.specs.Ledgers.{IsBlankFor};
+ghost use Rattle.tree_shared.specs.Replies.{is_reply_to};
 ghost use Rattle.tree_shared.specs.Tallies.{none, raised, sum_of, tally, pair_of, reply_of_insert, reply_of_upsert, reply_of_remove, reply_of_removal, reply_of_peek};
+ghost use Rattle.std.specs.Range.Bound.{bound_map};
 
 use crate::blanks::Blanks;
-use crate::closing::{Closed, Unclosed};
+use crate::closing::{ClosedOf, UnclosedOf};
 use crate::ledgers::{Books, Ledgers, Workers};
 use crate::locked::Locked;
 use crate::pass::Pass;
+use crate::replies::{found_value, is_removed};
+use crate::serves::serve;
 use std::alloc::{AllocError, Global};
 use std::marker::PhantomData;
 use std::ops::Bound;
 use std::sync::ledger::Ledger;
 use std::sync::{Mutex, Wait};
-use tree_index::{IndexKey, InsertError, Record, SameClone, State, TreeIndex};
+use tree_index::{Command, IndexKey, InsertError, Record, Reply, SameClone, StateOf, TreeIndexOf};
 
-/// An index that threads share by reference, each with a pass of its own.
+/// An index of fifteen pairs a leaf that threads share by reference. See [`SharedTreeIndexOf`].
+pub type SharedTreeIndex<K, V, C, S, M, F, D> = SharedTreeIndexOf<K, V, C, S, M, F, D, 15>;
+
+/// An index that threads share by reference, each with a pass of its own. `LEN` is 7 or 15.
 ///
 /// One lock guards the index, the history of its calls and the tally of the history, and each call takes it once. A
 /// call is counted in the pass it is made by.
 #[derive(Drop)]
-pub struct SharedTreeIndex<
+pub struct SharedTreeIndexOf<
     K: IndexKey + SameClone,
     V: SameClone,
     C: Ledger,
@@ -29,8 +37,9 @@ pub struct SharedTreeIndex<
     M: Ledger,
     F: Ledger,
     D: Ledger,
+    const LEN: usize,
 > {
-    locked: Mutex<Locked<K, V, C, S, M, F, D>>,
+    locked: Mutex<Locked<K, V, C, S, M, F, D, LEN>>,
 }
 
 impl<
@@ -41,15 +50,18 @@ impl<
     M: Ledger,
     F: Ledger,
     D: Ledger,
-> SharedTreeIndex<K, V, C, S, M, F, D> {
+    const LEN: usize,
+> SharedTreeIndexOf<K, V, C, S, M, F, D, LEN> {
     /// Creates an empty index, and a pass for each worker, which has counted nothing.
     ///
-    /// Returns `Err` if an allocation is refused. The caller must make the blanks for as many workers.
+    /// Returns `Err` if an allocation is refused. The caller must choose 7 or 15 for `LEN`, and make the blanks for as
+    /// many workers.
     pub fn new(
         alloc: Global,
         workers: usize,
         blanks: Blanks,
     ) -> Result<(Self, Vec<Pass<C, S, M, F, D>>), AllocError>
+        requires len { IsLen LEN }
         requires calls { IsBlankFor workers blanks.calls C.name C.parts }
         requires stored { IsBlankFor workers blanks.stored S.name S.parts }
         requires removed { IsBlankFor workers blanks.removed M.name M.parts }
@@ -68,11 +80,11 @@ impl<
             of: PhantomData,
         };
         let locked = Locked {
-            state: State::new(alloc),
+            state: StateOf::new(alloc),
             books: Books { ledgers },
             workers,
         };
-        let shared = SharedTreeIndex {
+        let shared = SharedTreeIndexOf {
             locked: Mutex::new(locked),
         };
         Ok((shared, passes))
@@ -93,7 +105,7 @@ impl<
         ensures counted { pass.new ≡ raised {V = V} pass.old (reply_of_insert result) }
         ensures pair { IfErr result (λ e. pair_of e ≡ (key, value)) }
     {
-        self.locked.lock(rt).insert(pass, key, value)
+        serve(&self.locked, rt, pass, (key, value))
     }
 
     /// Stores a pair. A pair with an equal key is replaced, key and value.
@@ -110,7 +122,11 @@ impl<
         ensures counted { pass.new ≡ raised {V = V} pass.old (reply_of_upsert result) }
         ensures pair { IfErr result (λ pair. pair ≡ (key, value)) }
     {
-        self.locked.lock(rt).upsert(pass, key, value)
+        match self.apply(rt, pass, Command::Upsert(key, value)) {
+            Ok(_) => Ok(()),
+            Err(Command::Upsert(key, value)) => Err((key, value)),
+            Err(_) => unreachable!(),
+        }
     }
 
     /// Removes the pair with a key. Returns whether there was one.
@@ -125,24 +141,31 @@ impl<
         requires { pass.old.calls < u64.MAX }
         ensures { pass.new ≡ raised {V = V} pass.old (reply_of_remove result) }
     {
-        let key = key.clone()?;
-        self.locked.lock(rt).remove(pass, key)
+        let copy = key.clone()?;
+        match self.apply(rt, pass, Command::Remove(copy)) {
+            Ok(reply) => Ok(is_removed(&reply)),
+            Err(_) => Err(AllocError),
+        }
     }
 
     /// Removes every pair whose key is within both bounds.
     ///
-    /// Returns `Err` if an allocation is refused; nothing changed then, and the bounds are dropped. The bounds themselves go
-    /// into the history.
+    /// Returns `Err` if an allocation is refused; nothing changed then. Clones the bounds before it takes the lock.
     pub fn remove_range<R: Wait>(
         &self,
         rt: &R,
         pass: &mut Pass<C, S, M, F, D>,
-        bounds: (Bound<K>, Bound<K>),
+        bounds: (Bound<&K>, Bound<&K>),
     ) -> Result<(), AllocError>
         requires { pass.old.calls < u64.MAX }
         ensures { pass.new ≡ raised {V = V} pass.old (reply_of_removal result) }
     {
-        self.locked.lock(rt).remove_range(pass, bounds)
+        let low = cloned_bound(bounds.0)?;
+        let high = cloned_bound(bounds.1)?;
+        match self.apply(rt, pass, Command::RemoveRange(low, high)) {
+            Ok(_) => Ok(()),
+            Err(_) => Err(AllocError),
+        }
     }
 
     /// Removes all pairs.
@@ -152,7 +175,10 @@ impl<
         requires { pass.old.calls < u64.MAX }
         ensures { pass.new ≡ raised {V = V} pass.old (reply_of_removal result) }
     {
-        self.locked.lock(rt).clear(pass)
+        match self.apply(rt, pass, Command::Clear) {
+            Ok(_) => Ok(()),
+            Err(_) => Err(AllocError),
+        }
     }
 
     /// Returns a clone of the value of a key.
@@ -167,8 +193,27 @@ impl<
         requires { pass.old.calls < u64.MAX }
         ensures { pass.new ≡ raised {V = V} pass.old (reply_of_peek result) }
     {
-        let key = key.clone()?;
-        self.locked.lock(rt).peek(pass, key)
+        let copy = key.clone()?;
+        match self.apply(rt, pass, Command::Peek(copy)) {
+            Ok(reply) => Ok(found_value(reply)),
+            Err(_) => Err(AllocError),
+        }
+    }
+
+    // Answers a command under the lock. Returns `Err` with the command if an allocation is refused.
+    fn apply<R: Wait>(
+        &self,
+        rt: &R,
+        pass: &mut Pass<C, S, M, F, D>,
+        command: Command<K, V>,
+    ) -> Result<Reply<V>, Command<K, V>>
+        requires { pass.old.calls < u64.MAX }
+        ensures kind { IfOk result (λ reply. is_reply_to command reply ≡ true) }
+        ensures handed_back { IfErr result (λ back. back ≡ command) }
+        ensures counted { IfOk result (λ reply. pass.new ≡ raised pass.old reply) }
+        ensures uncounted { OnErr result (pass.new ≡ pass.old) }
+    {
+        serve(&self.locked, rt, pass, command)
     }
 
     /// Ends the sharing, with every pass. Allocates nothing.
@@ -177,12 +222,12 @@ impl<
     pub fn close(
         self,
         passes: Vec<Pass<C, S, M, F, D>>,
-    ) -> Result<Closed<K, V>, Unclosed<K, V, C, S, M, F, D>>
+    ) -> Result<ClosedOf<K, V, LEN>, UnclosedOf<K, V, C, S, M, F, D, LEN>>
         ensures replays { IfOk result (λ closed. IsHistoryOf K.cmp K.seen V.seen closed.history.items closed.index.pairs) }
         ensures tally { IfOk result (λ closed. closed.tally ≡ tally closed.history.items) }
         ensures passes { IfOk result (λ closed. closed.tally ≡ sum_of passes.items) }
         ensures missing { OnErr result (vec_len passes + 1 < C.parts) }
-        ensures given_back { IfErr result (λ e. (shared : _) × (e ≡ Unclosed.PassMissing shared passes)) }
+        ensures given_back { IfErr result (λ e. (shared : _) × (e ≡ UnclosedOf.PassMissing shared passes)) }
     {
         let Locked {
             state,
@@ -195,15 +240,15 @@ impl<
                 books,
                 workers,
             };
-            let shared = SharedTreeIndex {
+            let shared = SharedTreeIndexOf {
                 locked: Mutex::new(locked),
             };
-            return Err(Unclosed::PassMissing(shared, passes));
+            return Err(UnclosedOf::PassMissing(shared, passes));
         }
         let (index, history) = state.into_parts();
         let Books { ledgers } = books;
         let tally = ledgers.take_all(&workers, passes);
-        Ok(Closed {
+        Ok(ClosedOf {
             index,
             history,
             tally,
@@ -211,9 +256,20 @@ impl<
     }
 
     /// Ends the sharing without the passes. Returns the index and the history. Allocates nothing.
-    pub fn into_parts(self) -> (TreeIndex<K, V>, Vec<Record<K, V>>)
+    pub fn into_parts(self) -> (TreeIndexOf<K, V, LEN>, Vec<Record<K, V>>)
         ensures { IsHistoryOf K.cmp K.seen V.seen result.1.items result.0.pairs }
     {
         self.locked.into_inner().state.into_parts()
+    }
+}
+
+// Clones a bound.
+fn cloned_bound<K: IndexKey + SameClone>(bound: Bound<&K>) -> Result<Bound<K>, AllocError>
+    ensures { IfOk result (λ copy. IsSameBound K.cmp K.seen (bound_map (λ k. k.now) bound.entry) copy) }
+{
+    match bound {
+        Bound::Included(key) => Ok(Bound::Included(key.clone()?)),
+        Bound::Excluded(key) => Ok(Bound::Excluded(key.clone()?)),
+        Bound::Unbounded => Ok(Bound::Unbounded),
     }
 }

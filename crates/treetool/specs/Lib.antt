@@ -1,1 +1,2 @@
+pub mod Storm
 pub mod Tool

@@ -9,7 +9,7 @@ use Rattle.tree_lines.specs.Runs.{RunsLines}
 abbrev pub usage_line : List ℕ
 usage_line = with_feed (codes "usage: treetool [storm W N]")
 
--- With arguments the usage line was written, or a prefix of it if a write failed, and the status is 1.
+-- With other arguments the usage line was written, or a prefix of it if a write failed, and the status is 1.
 abbrev pub RefusesArguments : Option (List ℕ) → Option (List ℕ) → ℕ → Type 0
 RefusesArguments contents contents' status =
     (written : List ℕ) × Appends contents contents' written × ((written ≡ usage_line) ⊎ IsFront written usage_line) × (status ≡ 1)

@@ -1,7 +1,10 @@
 //! Reads requests to an ordered index from standard input, one a line, and writes an answer line to
-//! each.
+//! each; or lets threads fill a shared index.
 #![tactic(auto)]
 
+mod storm;
+#[cfg(test)]
+mod storm_tests;
 #[cfg(test)]
 mod tests;
 mod tool;
@@ -14,7 +17,8 @@ fn main(rt: HostRuntime) -> ExitCode {
     let Ok(arguments) = arguments(&rt) else {
         return ExitCode::from(2);
     };
-    ExitCode::from(tool::tool(rt.alloc(), &arguments, rt.stdin(), rt.stdout(), rt.stderr()))
+    let (input, output, errors) = (rt.stdin(), rt.stdout(), rt.stderr());
+    ExitCode::from(tool::tool(&rt, rt.alloc(), &arguments, input, output, errors))
 }
 
 // Returns the arguments after the program's name.

@@ -1,9 +1,11 @@
 //! The exit statuses of the program and what it writes, also where a read or a write fails.
 use crate::tool::tool;
-use std::alloc::Global;
+use std::alloc::{AllocError, Global};
 use std::io;
 use std::io::{Cursor, ErrorKind, Read, Write};
+use std::sync::Wait;
 use std::test::Fail;
+use std::thread::Threads;
 
 const REQUESTS: &[u8] = b"insert 1 10\npeek 1\ninsert 2 20\npeek 2";
 
@@ -35,9 +37,10 @@ impl Write for Broken {
 
 // Whether the program, with room for some bytes of output, ends with this status, writes these
 // answers and shows no error.
-fn ends_with<R: Read + Drop>(
+fn ends_with<R: Threads + Wait + Sync, I: Read + Drop>(
+    rt: &R,
     alloc: Global,
-    input: R,
+    input: I,
     room: usize,
     (status, answers): (u8, &[u8]),
 ) -> bool {
@@ -45,7 +48,7 @@ fn ends_with<R: Read + Drop>(
     let mut output = Cursor::new(&mut memory[..room.min(64)]);
     let mut shown = [0; 64];
     let mut errors = Cursor::new(&mut shown[..]);
-    let ended = tool(alloc, &[], input, &mut output, &mut errors);
+    let ended = tool(rt, alloc, &[], input, &mut output, &mut errors);
     let (written, silent) = (output.position() as usize, errors.position() == 0);
     ended == status && silent && &memory[..written.min(64)] == answers
 }
@@ -59,7 +62,7 @@ fn ends_at_the_end_of_the_input(rt: HostRuntime) {
         (REQUESTS, ANSWERS),
         (WALKS, PAIRS),
     ] {
-        let once = || ends_with(rt.alloc(), input, 64, (0, answers));
+        let once = || ends_with(&rt, rt.alloc(), input, 64, (0, answers));
         assert!(rt; once() || once(), "{input:?}");
     }
 }
@@ -69,7 +72,7 @@ fn tells_that_a_read_failed(rt: HostRuntime) {
     for kind in [ErrorKind::Other, ErrorKind::Interrupted] {
         for (count, answered) in [(0, 0), (11, 0), (12, 3), (18, 3), (19, 6), (31, 9), (37, 9)] {
             let (input, answers) = (REQUESTS.split_at(count).0, ANSWERS.split_at(answered).0);
-            let once = || ends_with(rt.alloc(), input.chain(Broken(kind)), 64, (2, answers));
+            let once = || ends_with(&rt, rt.alloc(), input.chain(Broken(kind)), 64, (2, answers));
             assert!(rt; once() || once(), "{kind:?} after {count}");
         }
     }
@@ -80,37 +83,71 @@ fn tells_that_a_read_failed(rt: HostRuntime) {
 fn tells_that_a_write_failed(rt: HostRuntime) {
     for (requests, answers) in [(REQUESTS, ANSWERS), (WALKS, PAIRS)] {
         for room in 0..answers.len() {
-            let once = || ends_with(rt.alloc(), requests, room, (2, answers.split_at(room).0));
+            let part = answers.split_at(room).0;
+            let once = || ends_with(&rt, rt.alloc(), requests, room, (2, part));
             assert!(rt; once() || once(), "with room for {room}");
         }
     }
     for kind in [ErrorKind::Other, ErrorKind::Interrupted] {
         let broken = Broken(kind);
-        assert_eq!(rt; tool(rt.alloc(), &[], REQUESTS, broken, broken), 2);
+        assert_eq!(rt; tool(&rt, rt.alloc(), &[], REQUESTS, broken, broken), 2);
     }
 }
+
+// The words of a line.
+pub(crate) fn words_of(alloc: Global, line: &str) -> Result<Vec<String>, AllocError> {
+    let mut words = Vec::new(alloc);
+    for word in line.split(' ') {
+        words.push(String::from_str(alloc, word)?)?;
+    }
+    Ok(words)
+}
+
+static UNKNOWN: [&str; 14] = [
+    "x",
+    "",
+    "-h",
+    "storm",
+    "storm 2",
+    "storm 2 5 1",
+    "storm 0 5",
+    "storm 65 1",
+    "storm 02 5",
+    "storm 2 05",
+    "storm +2 5",
+    "storm 2 100001",
+    "Storm 2 5",
+    "2 5 storm",
+];
 
 #[test]
 fn shows_the_usage(rt: HostRuntime) -> Result<(), Fail> {
     let usage = b"usage: treetool [storm W N]\n".as_slice();
-    for word in ["x", "", "-h"] {
-        let text = || String::from_str(rt.alloc(), word);
-        let arguments = [text().or_else(|_| text())?];
+    for line in &UNKNOWN {
+        let arguments = words_of(rt.alloc(), line).or_else(|_| words_of(rt.alloc(), line))?;
         for (room, shown) in [(64, usage), (0, b""), (3, b"usa")] {
             let mut input = REQUESTS;
             let mut taken = [0; 64];
             let mut output = Cursor::new(&mut taken[..]);
             let mut memory = [0; 64];
             let mut errors = Cursor::new(&mut memory[..room]);
-            let status = tool(rt.alloc(), &arguments, &mut input, &mut output, &mut errors);
-            assert_eq!(rt; status, 1);
-            assert_eq!(rt; input, REQUESTS);
-            assert_eq!(rt; output.position(), 0);
+            let status = tool(
+                &rt,
+                rt.alloc(),
+                &arguments,
+                &mut input,
+                &mut output,
+                &mut errors,
+            );
+            assert!(rt; status == 1 && input == REQUESTS && output.position() == 0);
             let written = errors.position() as usize;
-            assert_eq!(rt; &memory[..written.min(64)], shown);
+            assert!(rt; &memory[..written.min(64)] == shown, "{line}");
         }
         let broken = Broken(ErrorKind::Other);
-        assert_eq!(rt; tool(rt.alloc(), &arguments, REQUESTS, broken, broken), 1);
+        assert_eq!(rt;
+            tool(&rt, rt.alloc(), &arguments, REQUESTS, broken, broken),
+            1
+        );
     }
     Ok(())
 }

@@ -1,1 +1,2 @@
+mod Nearest
 pub mod Prices

@@ -3,7 +3,7 @@ ghost use Rattle.std.specs.Prelude.{◌≡◌, filter};
 ghost use Rattle.std.specs.Option.{option_map};
 ghost use Rattle.std.specs.Ordering.{nat_cmp};
 ghost use Rattle.tree_model.specs.Pairs.{within};
-ghost use Rattle.tree_cursor_model.specs.Located.{located};
+ghost use Rattle.tree_cursor_model.specs.Rest.{lent};
 ghost use Rattle.usage.specs.Walks.{AreEnds, at_or_below, highest};
 
 use std::ops::Bound;
@@ -40,17 +40,21 @@ pub fn ends_within(
 
 /// Returns the price of the item, or that of the nearest smaller one.
 pub fn price_at_or_below(prices: &TreeIndex<u64, u64>, item: u64) -> Option<u64>
-    ensures { result ≡ option_map (λ pair. pair.1) (at_or_below (located nat_cmp prices.now.pairs item)) }
+    ensures { result ≡ option_map (λ pair. pair.1) (at_or_below prices.now.pairs item) }
 {
-    let offer = match prices.locate(&item) {
-        ProximityOf::Exact(at) => at.get(),
-        ProximityOf::Between(at) => at.get(),
-        ProximityOf::Smaller(at) => at.get_back(),
+    match prices.locate(&item) {
+        ProximityOf::Exact(at) => price_of(at.get()),
+        ProximityOf::Between(at) => price_of(at.get()),
+        ProximityOf::Smaller(at) => price_of(at.get_back()),
         ProximityOf::Larger(_) => None,
         ProximityOf::Empty => None,
-    };
-    match offer {
-        Some((_, price)) => Some(*price),
-        None => None,
     }
+}
+
+/// Returns the price of an offer, if there is one.
+fn price_of(offer: Option<(&u64, &u64)>) -> Option<u64>
+    ensures { result ≡ option_map (λ pair. pair.1) (lent offer.entry) }
+{
+    let (_, price) = offer?;
+    Some(*price)
 }

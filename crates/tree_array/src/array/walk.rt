@@ -1,12 +1,12 @@
 //! Walks over the slots of an array, in the order of their keys and against it.
-ghost use Rattle.std.specs.Prelude.{◌≡◌, None, ⊤, option_and_then, slice_get};
+ghost use Rattle.std.specs.Prelude.{◌≡◌, None, ⊤, length, option_and_then, slice_get};
 ghost use Rattle.tree_array.specs.Arrivals.{slots_in_order};
-ghost use Rattle.tree_array.specs.Walk.{IsOver, StepsBack, StepsOn, left_back, left_on, standing};
+ghost use Rattle.tree_array.specs.Walk.{IsOver, StepsBack, StepsOn, left_back, left_on, place_ahead, places_behind, standing};
 
 use super::ArrayOf;
 use std::alloc::AllocError;
 use std::marker::Model;
-use tree_order::order::{MOST, slots};
+use tree_order::order::slot_at;
 
 /// A walk over the reachable slots of an array in ascending order of their keys. It is of the array as
 /// it stood when the walk was made. A slot is named by the number of its arrival.
@@ -14,7 +14,7 @@ use tree_order::order::{MOST, slots};
 /// A `next` that returns `None` keeps the place.
 #[derive(Drop)]
 pub struct ArrayIter {
-    order: [u8; MOST],
+    order: u64,
     count: u8,
     at: Option<u8>,
 }
@@ -26,15 +26,16 @@ pub struct ArrayRevIter {
 }
 
 impl Model for ArrayIter {
-    ghost use Rattle.std.specs.Prelude.{◌≡◌, ◌≤◌, ◌<◌, length, take};
+    ghost use Rattle.std.specs.Prelude.{◌≤◌, ◌<◌};
     ghost use Rattle.std.specs.Option.{ForSome};
     ghost use Rattle.tree_array.specs.Walk.{Walk, standing};
+    ghost use Rattle.tree_order.specs.Order.{names};
 
     ghost Value = { Walk };
 
-    ghost view = { λ a. standing (take a.count a.order) a.at };
+    ghost view = { λ a. standing (names a.order a.count) a.at };
 
-    ghost invariant = { λ a. (length a.order ≡ 15) × (a.count ≤ 15) × ForSome a.at (λ place. place < a.count) };
+    ghost invariant = { λ a. (a.count ≤ 15) × ForSome a.at (λ place. place < a.count) };
 }
 
 impl Model for ArrayRevIter {
@@ -52,7 +53,7 @@ impl ArrayIter {
         ensures over { IsOver K.cmp LEN array.now result }
     {
         ArrayIter {
-            order: slots(array.order, array.count),
+            order: array.order,
             count: array.count,
             at: None,
         }
@@ -63,7 +64,43 @@ impl ArrayIter {
         ensures { result ≡ option_and_then (slice_get self.now.slots) self.now.at }
     {
         let place = self.at?;
-        Some(self.order[place as usize])
+        Some(slot_at(self.order, place))
+    }
+
+    /// Returns the place that a walk in the order of the keys goes to.
+    #[inline]
+    fn place_ahead(&self) -> u8
+        ensures { result ≡ place_ahead self.now.at }
+    {
+        match self.at {
+            None => 0,
+            Some(place) => place + 1,
+        }
+    }
+
+    /// Returns how many places lie ahead of a walk against the order of the keys.
+    #[inline]
+    fn places_behind(&self) -> u8
+        ensures { result ≡ places_behind (length self.now.slots) self.now.at }
+    {
+        match self.at {
+            None => self.count,
+            Some(place) => place,
+        }
+    }
+
+    /// Goes one slot back. Returns `None` and keeps its place before the first slot.
+    #[inline]
+    fn step_back(&mut self) -> Option<u8>
+        ensures { StepsBack self.old result self.new }
+    {
+        let behind = self.places_behind();
+        if behind > 0 {
+            self.at = Some(behind - 1);
+            Some(slot_at(self.order, behind - 1))
+        } else {
+            None
+        }
     }
 
     /// Goes back to before the first slot.
@@ -119,14 +156,12 @@ impl Iterator for ArrayIter {
 
     ghost remaining = { left_on };
 
+    #[inline]
     fn next(&mut self) -> Option<u8> {
-        let place = match self.at {
-            None => 0,
-            Some(place) => place + 1,
-        };
+        let place = self.place_ahead();
         if place < self.count {
             self.at = Some(place);
-            Some(self.order[place as usize])
+            Some(slot_at(self.order, place))
         } else {
             None
         }
@@ -140,17 +175,9 @@ impl Iterator for ArrayRevIter {
 
     ghost remaining = { left_back };
 
+    #[inline]
     fn next(&mut self) -> Option<u8> {
-        let behind = match self.walk.at {
-            None => self.walk.count,
-            Some(place) => place,
-        };
-        if behind > 0 {
-            self.walk.at = Some(behind - 1);
-            Some(self.walk.order[behind as usize - 1])
-        } else {
-            None
-        }
+        self.walk.step_back()
     }
 }
 

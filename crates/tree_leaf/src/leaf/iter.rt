@@ -70,6 +70,7 @@ impl<'t, K: Ord + Drop, V: Drop, S: SlotWalk, const LEN: usize> LinkedIter<
 
     /// Returns the entry that the iterator stands on, or `None` before the first `next` in a leaf. Runs in
     /// constant time.
+    #[inline]
     pub fn get(&self) -> Option<(&'t K, &'t V)>
         ensures { option_map lent_entry result ≡ stood_on self.now }
     {
@@ -80,6 +81,7 @@ impl<'t, K: Ord + Drop, V: Drop, S: SlotWalk, const LEN: usize> LinkedIter<
     /// Goes to the next leaf on the way that has an entry, and returns the first entry there. Where none
     /// has one, returns `None` and stands unopened in the last leaf on the way, or stays where it is if
     /// that is the last. Runs in the number of the leaves passed.
+    #[inline(never)]
     pub fn jump(&mut self) -> Option<(&'t K, &'t V)>
         ensures { Jumps S.way self.old result self.new }
     {
@@ -152,6 +154,7 @@ impl<'t, K: Ord + Drop, V: Drop, S: SlotWalk, const LEN: usize> Iterator
 
     ghost remaining = { left_in_leaf S.way };
 
+    #[inline]
     fn next(&mut self) -> Option<(&'t K, &'t V)> {
         let slot = self.slots.step()?;
         Some(self.stand.entry(slot))

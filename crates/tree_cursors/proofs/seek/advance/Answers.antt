@@ -1,8 +1,12 @@
+use Rattle.std.proofs.Common.{None, Some}
 use Rattle.tree_cursors.proofs.Advances.{advanced, advanced_by_jump}
 use Rattle.tree_cursors.proofs.seek.advance.Goals as goal
 
-pub returns-in-None : goal.returns-in-None
-returns-in-None g c = advanced_by_jump _ c.args.walk.now c.next.new.self _ _ c.in-None.ensures.steps c.jump.ensures
+pub returns-in-Some : goal.returns-in-Some
+returns-in-Some g c = advanced _ c.args.walk.now c.next.new.self (Some (c.in-Some.key, c.in-Some.value)) (λ none. absurd (cc)) c.in-Some.ensures.steps
 
-pub returns-in_default : goal.returns-in_default
-returns-in_default g c = advanced _ c.args.walk.now _ _ c.in_default.not-None c.next.ensures.steps
+pub returns-in_err-key-in-None : goal.returns-in_err-key-in-None
+returns-in_err-key-in-None g c = rw c.from_residual.ensures (advanced_by_jump _ c.args.walk.now c.next.new.self c.jump.new.self None c.in-None.ensures.steps c.in_err-key-in-None.ensures)
+
+pub returns-in_ok-key-in-None : goal.returns-in_ok-key-in-None
+returns-in_ok-key-in-None g c = advanced_by_jump _ c.args.walk.now c.next.new.self c.jump.new.self (Some (c.in_ok-key-in-None.key, c.in_ok-key-in-None.value)) c.in-None.ensures.steps c.in_ok-key-in-None.ensures

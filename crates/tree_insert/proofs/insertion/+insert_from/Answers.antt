@@ -70,7 +70,7 @@ returns-in-Err-clause-inserts g t c part =
     let goes = under g.K.Ord.cmp c.args.level c.requires.node c.args.arenas.now c.args.id c.args.key (Leaf c.in-Leaf.node) (rw c.in-Leaf.is at c.node.ensures) c.in-Some.place.child (rw c.in-Some.is at c.child_place_beyond.ensures.child) c.requires.part in
     let below = leaf_full g.met.K.Ord.total _ c.args.level c.requires.node c.args.arenas.now c.args.id c.in-Some.place.child c.args.key c.args.val c.in-Leaf.node (rw c.in-Leaf.is at c.node.ensures) goes c.leaf_mut.result.now c.leaf_mut.ensures.value c.store.new.self c.store.result (rw c.array_mut.ensures.value at c.store.ensures) c.in-Full.key c.in-Full.val c.in-Full.is in
     let one = first_level g.met.K.Ord.total false c.args.level c.requires.node c.args.arenas.now c.args.id c.in-Some.place.child c.args.key c.args.val c.in-Leaf.node (rw c.in-Leaf.is at c.node.ensures) goes in
-    refused_room _ c.args.level _ _ c.args.id c.in-Some.place.child c.args.key c.args.val _ _ below c.make_room.new.arenas c.in-Err.ensures.err (rw one c.in-Err.ensures.many)
+    refused_room _ c.args.level _ _ c.args.id c.in-Some.place.child c.args.key c.args.val _ _ below c.make_room.new.arenas c.in-Err.ensures.err c.requires.node (rw one c.in-Err.ensures.many)
 
 pub returns-in-Err-clause-retired : goal.returns-in-Err-clause-retired
 returns-in-Err-clause-retired g t c retired = absurd (has_none g.K.Ord.cmp c.args.level c.requires.node c.args.arenas.now c.args.id c.args.key (Leaf c.in-Leaf.node) (rw c.in-Leaf.is at c.node.ensures) c.in-Some.place.child (rw c.in-Some.is at c.child_place_beyond.ensures.child) retired)
@@ -118,7 +118,7 @@ returns-in-Err-split_child-clause-inserts g t c part =
     let goes = under g.K.Ord.cmp c.args.level c.requires.node c.args.arenas.now c.args.id c.args.key (Internal c.in-Internal.node) (rw c.in-Internal.is at c.node.ensures) c.in-Some-child_place_beyond.place.child (rw c.in-Some-child_place_beyond.is at c.child_place_beyond-in-Internal.ensures.child) c.requires.part in
     let below = full_under g.met.K.Ord.total _ c.args.level c.requires.node c.args.arenas.now c.insert_from-in-Internal.new.arenas c.args.id c.in-Some-child_place_beyond.place.child c.args.key c.args.val goes c.insert_from-in-Internal.result c.insert_from-in-Internal.ensures.inserts c.in-Full-answer.key c.in-Full-answer.val (rw c.in-Full-answer.is at c.in-Ok.is) in
     let inner = inner_level c.args.level c.requires.node c.args.arenas.now c.args.id goes.part c.in-Internal.node (rw c.in-Internal.is at c.node.ensures) in
-    refused_room _ c.args.level _ _ c.args.id c.in-Some-child_place_beyond.place.child c.args.key c.args.val _ _ below c.split_child.new.arenas c.in-Err-split_child.ensures.err (rw (held_above _ _ c.args.level inner) c.in-Err-split_child.ensures.many)
+    refused_room _ c.args.level _ _ c.args.id c.in-Some-child_place_beyond.place.child c.args.key c.args.val _ _ below c.split_child.new.arenas c.in-Err-split_child.ensures.err c.requires.node (rw (held_above _ _ c.args.level inner) c.in-Err-split_child.ensures.many)
 
 pub returns-in-Err-split_child-clause-retired : goal.returns-in-Err-split_child-clause-retired
 returns-in-Err-split_child-clause-retired g t c retired = absurd (has_none g.K.Ord.cmp c.args.level c.requires.node c.args.arenas.now c.args.id c.args.key (Internal c.in-Internal.node) (rw c.in-Internal.is at c.node.ensures) c.in-Some-child_place_beyond.place.child (rw c.in-Some-child_place_beyond.is at c.child_place_beyond-in-Internal.ensures.child) retired)

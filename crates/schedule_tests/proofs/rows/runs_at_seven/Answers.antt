@@ -1,0 +1,12 @@
+use Rattle.std.proofs.Common.{ℕ, nat_cmp, arith}
+use Rattle.schedule_tests.proofs.Rooms.{zeros_have_room}
+use Rattle.schedule_tests.proofs.rows.runs_at_seven.Goals as goal
+
+pub run_schedule-requires : goal.run_schedule-requires
+run_schedule-requires g c = (
+  omega arith,
+  (
+    c.in_ok-commands.ensures.workers,
+    zeros_have_room nat_cmp (λ (n : ℕ). n) (λ (n : ℕ). n) c.new-state.result.entries c.in_ok-commands.commands.items c.in_ok-commands.ensures.few,
+  ),
+)

@@ -1,0 +1,5 @@
+//! Tests of schedules of several workers' commands.
+#![tactic(auto)]
+
+#[cfg(test)]
+mod rows;

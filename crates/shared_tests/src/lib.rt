@@ -1,0 +1,17 @@
+//! Tests of the shared index: its calls by one worker and by many threads, its refusals and its end; and of workers at a gate.
+#![tactic(auto)]
+
+#[cfg(test)]
+mod closing;
+#[cfg(test)]
+mod gates;
+#[cfg(test)]
+mod one_worker;
+#[cfg(test)]
+mod refusals;
+#[cfg(test)]
+mod replay;
+#[cfg(test)]
+mod scenario;
+#[cfg(test)]
+mod threads;

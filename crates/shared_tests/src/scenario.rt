@@ -1,0 +1,86 @@
+//! Scenarios over a shared index, and the one place where its five ledgers are named.
+ghost use Rattle.std.specs.Prelude.{◌≡◌, ◌<◌};
+ghost use Rattle.tree_shared.specs.Ledgers.{IsBlankFor};
+
+use crate::closing::{closes_with_all_passes, closes_without_workers, parts_while_a_pass_is_out};
+use crate::one_worker::each_call;
+use crate::refusals::refused_calls;
+use crate::threads::{eight_race, two_insert};
+use std::alloc::{AllocError, Global};
+use std::marker::Brand;
+use std::process::Abort;
+use std::sync::Wait;
+use std::sync::ledger::Ledger;
+use std::thread::Threads;
+use std::time::Clock;
+use tree_index::InsertError;
+use tree_shared::{Blanks, SharedTreeIndex};
+
+/// What a test does with a shared index.
+#[derive(Clone, Copy)]
+pub(crate) enum Scenario {
+    NoWorker,
+    PassAbsent,
+    Parts,
+    EachCall,
+    Refusals,
+    TwoInsert,
+    EightRace,
+}
+
+/// Plays a scenario for so many workers, with ledgers of its own.
+pub(crate) fn play<R: Threads + Wait + Clock + Abort + Sync>(
+    rt: &R,
+    alloc: Global,
+    workers: usize,
+    scenario: Scenario,
+) -> Result<(), AllocError>
+    requires { workers < usize.MAX }
+{
+    let blanks = Blanks::new(workers);
+    play_with::<Brand, Brand, Brand, Brand, Brand, R>(rt, alloc, workers, scenario, blanks)
+}
+
+fn play_with<
+    C: Ledger + Send + Sync,
+    S: Ledger + Send + Sync,
+    M: Ledger + Send + Sync,
+    F: Ledger + Send + Sync,
+    D: Ledger + Send + Sync,
+    R: Threads + Wait + Clock + Abort + Sync,
+>(
+    rt: &R,
+    alloc: Global,
+    workers: usize,
+    scenario: Scenario,
+    blanks: Blanks,
+) -> Result<(), AllocError>
+    requires calls { IsBlankFor workers blanks.calls C.name C.parts }
+    requires stored { IsBlankFor workers blanks.stored S.name S.parts }
+    requires removed { IsBlankFor workers blanks.removed M.name M.parts }
+    requires found { IsBlankFor workers blanks.found F.name F.parts }
+    requires done { IsBlankFor workers blanks.done D.name D.parts }
+{
+    if let Scenario::Refusals = scenario {
+        return refused_calls::<C, S, M, F, D, R>(rt, alloc, workers, blanks);
+    }
+    let (shared, passes) = SharedTreeIndex::<u64, u64, C, S, M, F, D>::new(alloc, workers, blanks)?;
+    match scenario {
+        Scenario::NoWorker => closes_without_workers(rt, shared, passes),
+        Scenario::PassAbsent => closes_with_all_passes(rt, shared, passes),
+        Scenario::Parts => parts_while_a_pass_is_out(rt, shared, passes),
+        Scenario::EachCall => each_call(rt, shared, passes),
+        Scenario::TwoInsert => two_insert(rt, alloc, shared, passes),
+        Scenario::EightRace => eight_race(rt, alloc, shared, passes),
+        Scenario::Refusals => Ok(()),
+    }
+}
+
+/// Whether a pair was stored. An insert that is refused ends the steps of a test.
+pub(crate) fn stored(outcome: Result<(), InsertError<u64, u64>>) -> Result<bool, AllocError> {
+    match outcome {
+        Ok(()) => Ok(true),
+        Err(InsertError::Duplicate(_, _)) => Ok(false),
+        Err(InsertError::OutOfMemory(_, _)) => Err(AllocError),
+    }
+}

@@ -1,0 +1,8 @@
+use Rattle.tree_node.proofs.Ways.{Descends}
+use Rattle.tree_node.proofs.descent.leaf_for.Given as goal
+
+abbrev pub invariant-loop-above : goal.invariant-loop-above
+invariant-loop-above g l = Descends g.K.Ord.cmp l.arenas l.key l.level l.fn.id l.at l.above
+
+abbrev pub decreases-loop-above : goal.decreases-loop-above
+decreases-loop-above g l = l.above

@@ -1,0 +1,35 @@
+use Rattle.std.proofs.Common.{rules, ◌<◌, length}
+use Rattle.tree_node.specs.Tree.{walk}
+use Rattle.tree_node.proofs.Children.{walk-leaf}
+use Rattle.tree_node.proofs.Sizes.{fits}
+use Rattle.tree_remove.proofs.Descents.{leaf_at}
+use Rattle.tree_remove.proofs.Ways.{fails_at, found_on_way, leaf_on_way, not_emptied, removes_on_way, settled_on_way}
+use Rattle.tree_remove.proofs.removal.remove_at.Goals as goal
+
+pub returns-in_default-clause-removes : goal.returns-in_default-clause-removes
+returns-in_default-clause-removes g c = fails_at g.K.Ord.cmp _ c.args.key.now c.args.level c.requires.node c.args.arenas.now c.args.id c.in_default.ensures.way
+
+pub leaf-requires : goal.leaf-requires
+leaf-requires g c =
+    let part = leaf_on_way g.met.K.Ord.total c.args.arenas.now c.args.key.now c.in-Some.place.leaf c.args.level c.requires.node c.args.id c.in-Some.place.node c.in-Some.ensures.child.0 c.in-Some.ensures.way c.in-Some.ensures.child.1 in
+    (search fits, (search fits, leaf_at c.args.arenas.now c.in-Some.place.leaf part))
+
+pub remove_in_leaf-requires : goal.remove_in_leaf-requires
+remove_in_leaf-requires g c =
+    let part = leaf_on_way g.met.K.Ord.total c.args.arenas.now c.args.key.now c.in-Some.place.leaf c.args.level c.requires.node c.args.id c.in-Some.place.node c.in-Some.ensures.child.0 c.in-Some.ensures.way c.in-Some.ensures.child.1 in
+    let found = found_on_way g.met.K.Ord.total c.args.arenas.now c.args.key.now c.in-Some.place.leaf c.args.level c.requires.node c.args.id c.in-Some.place.node c.in-Some.ensures.child.0 c.in-Some.ensures.way c.in-Some.ensures.child.1 in
+    (search fits, (search fits, (leaf_at c.args.arenas.now c.in-Some.place.leaf part, rw found at c.requires.callable)))
+
+pub returns-clause-removes : goal.returns-clause-removes
+returns-clause-removes g c =
+    let part = leaf_on_way g.met.K.Ord.total c.args.arenas.now c.args.key.now c.in-Some.place.leaf c.args.level c.requires.node c.args.id c.in-Some.place.node c.in-Some.ensures.child.0 c.in-Some.ensures.way c.in-Some.ensures.child.1 in
+    let some : 1 < c.len.result = search rules in
+    let many : 1 < length (walk 0 c.args.arenas.now c.in-Some.place.leaf) = rw (walk-leaf c.args.arenas.now c.in-Some.place.leaf c.leaf.result.now c.leaf.ensures, ← c.array.ensures, ← c.len.ensures) some in
+    removes_on_way g.met.K.Ord.total _ c.args.arenas.now _ c.args.key.now c.in-Some.place.leaf c.remove_in_leaf.result
+    (not_emptied g.met.K.Ord.total _ c.args.arenas.now _ c.args.key.now c.in-Some.place.leaf c.remove_in_leaf.result part many c.remove_in_leaf.ensures.removes) c.remove_in_leaf.ensures.removes
+    c.args.level c.requires.node c.args.id c.in-Some.place.node c.in-Some.ensures.child.0 c.in-Some.ensures.way c.in-Some.ensures.child.1
+
+pub returns-clause-settled : goal.returns-clause-settled
+returns-clause-settled g c one success =
+    settled_on_way g.met.K.Ord.total c.args.key.now c.args.arenas.now c.remove_in_leaf.new.arenas c.args.level c.args.id c.in-Some.place.node c.in-Some.place.leaf one c.in-Some.ensures.child.0 c.in-Some.ensures.way c.in-Some.ensures.child.1
+    c.remove_in_leaf.ensures.removes.replaces (c.remove_in_leaf.ensures.settled success)

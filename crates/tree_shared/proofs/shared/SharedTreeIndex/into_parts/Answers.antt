@@ -1,5 +1,0 @@
-use Rattle.tree_node.proofs.Sizes.{fits}
-use Rattle.tree_shared.proofs.shared.SharedTreeIndex.into_parts.Goals as goal
-
-pub into_parts-requires : goal.into_parts-requires
-into_parts-requires g c = (search fits, search fits)

@@ -1,0 +1,5 @@
+use Rattle.tree_node.proofs.Sizes.{fits}
+use Rattle.tree_shared.proofs.shared.SharedTreeIndexOf.into_parts.Goals as goal
+
+pub into_parts-requires : goal.into_parts-requires
+into_parts-requires g c = (search fits, search fits)

@@ -1,0 +1,7 @@
+use Rattle.std.proofs.Common.{◌≡◌, ap, ◌∙◌}
+use Rattle.tree_shared.specs.Tallies.{raised}
+use Rattle.tree_shared.proofs.Tallied.{range_reply}
+use Rattle.tree_shared.proofs.shared.SharedTreeIndexOf.remove_range.Goals as goal
+
+pub returns-in-Ok : goal.returns-in-Ok
+returns-in-Ok g c = c.in-Ok.ensures.counted ∙ ap (λ r. raised c.args.pass.now r) (range_reply c.in_ok-low.low c.in_ok-high.high c.in-Ok.field-0 c.in-Ok.ensures.kind)

@@ -1,0 +1,38 @@
+//! What a lock guards, as a call sees it that takes the lock.
+ghost use Rattle.std.specs.Prelude.{◌<◌};
+ghost use Rattle.tree_shared.specs.declared.tally.Tally.{Tally};
+
+use crate::pass::Pass;
+use std::sync::ledger::Ledger;
+use std::sync::{Mutex, Wait};
+
+/// What answers requests, and counts the answers in the pass of the worker that asks.
+///
+/// A call that takes the lock knows what it guards by this trait alone, so it speaks of no number of slots.
+pub trait Serves<Q, A, C: Ledger, S: Ledger, M: Ledger, F: Ledger, D: Ledger>: Drop {
+    // What an answer to a request makes of the pass's tally.
+    ghost counts: { Q → A → Tally → Tally → Type 0 };
+
+    /// Answers a request.
+    fn serve(&mut self, pass: &mut Pass<C, S, M, F, D>, request: Q) -> A
+        requires { pass.old.calls < u64.MAX }
+        ensures { counts request result pass.old pass.new };
+}
+
+/// Takes the lock, and answers a request under it.
+pub fn serve<
+    Q,
+    A,
+    C: Ledger,
+    S: Ledger,
+    M: Ledger,
+    F: Ledger,
+    D: Ledger,
+    T: Serves<Q, A, C, S, M, F, D>,
+    R: Wait,
+>(lock: &Mutex<T>, rt: &R, pass: &mut Pass<C, S, M, F, D>, request: Q) -> A
+    requires { pass.old.calls < u64.MAX }
+    ensures { T.counts request result pass.old pass.new }
+{
+    lock.lock(rt).serve(pass, request)
+}

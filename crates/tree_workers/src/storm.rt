@@ -1,0 +1,101 @@
+//! Workers that insert the same pairs at once.
+ghost use Rattle.std.specs.Prelude.{◌≡◌, ◌≤◌, IfOk};
+ghost use Rattle.std.specs.Ordering.{nat_cmp};
+ghost use Rattle.tree_model.specs.History.{IsHistoryOf};
+ghost use Rattle.tree_shared.specs.Ledgers.{IsBlankFor};
+ghost use Rattle.tree_shared.specs.Tallies.{tally};
+
+use crate::gate::Gate;
+use crate::workers::run_all;
+use std::alloc::{AllocError, AllocFailed, Global};
+use std::marker::Brand;
+use std::sync::Wait;
+use std::sync::ledger::Ledger;
+use std::thread::{SpawnError, Threads};
+use tree_shared::{Blanks, Closed, SharedTreeIndex};
+
+/// Why a storm left no closed index.
+#[derive(Clone, Copy, PartialEq, Eq, Debug, Drop)]
+pub enum StormError {
+    /// Memory or a thread was refused.
+    Refused,
+    /// The gate stopped a worker.
+    GateStopped,
+}
+
+impl From<AllocError> for StormError {
+    fn from(_refused: AllocError) -> StormError {
+        StormError::Refused
+    }
+}
+
+impl<T: Drop> From<AllocFailed<T>> for StormError {
+    fn from(_refused: AllocFailed<T>) -> StormError {
+        StormError::Refused
+    }
+}
+
+impl<T: Drop> From<SpawnError<T>> for StormError {
+    fn from(_refused: SpawnError<T>) -> StormError {
+        StormError::Refused
+    }
+}
+
+/// Lets each worker insert the pairs (1, 1) to (n, n) in ascending order, through a pass and in a thread of its own,
+/// and closes the index once all have ended.
+///
+/// Before each call a worker asks `gate`, and stops where that answers `false`; after the call it tells it. A call that
+/// is refused memory is left, and the worker goes on.
+///
+/// Returns `Refused` if memory or a thread is refused otherwise, and else `GateStopped` if the gate stopped a worker.
+/// The caller must ask for 1 to 64 workers.
+pub fn run_workers<R: Threads + Wait + Sync, G: Gate + Sync>(
+    rt: &R,
+    alloc: Global,
+    workers: usize,
+    n: u64,
+    gate: &G,
+) -> Result<Closed<u64, u64>, StormError>
+    requires { (1 ≤ workers) × (workers ≤ 64) }
+    ensures replays { IfOk result (λ closed. IsHistoryOf nat_cmp (λ n. n) (λ n. n) closed.history.items closed.index.pairs) }
+    ensures tally { IfOk result (λ closed. closed.tally ≡ tally closed.history.items) }
+{
+    let blanks = Blanks::new(workers);
+    run_with::<Brand, Brand, Brand, Brand, Brand, R, G>(rt, alloc, workers, n, gate, blanks)
+}
+
+// Makes the index with these blanks, and closes it.
+fn run_with<
+    C: Ledger + Send + Sync,
+    S: Ledger + Send + Sync,
+    M: Ledger + Send + Sync,
+    F: Ledger + Send + Sync,
+    D: Ledger + Send + Sync,
+    R: Threads + Wait + Sync,
+    G: Gate + Sync,
+>(
+    rt: &R,
+    alloc: Global,
+    workers: usize,
+    n: u64,
+    gate: &G,
+    blanks: Blanks,
+) -> Result<Closed<u64, u64>, StormError>
+    requires calls { IsBlankFor workers blanks.calls C.name C.parts }
+    requires stored { IsBlankFor workers blanks.stored S.name S.parts }
+    requires removed { IsBlankFor workers blanks.removed M.name M.parts }
+    requires found { IsBlankFor workers blanks.found F.name F.parts }
+    requires done { IsBlankFor workers blanks.done D.name D.parts }
+    ensures replays { IfOk result (λ closed. IsHistoryOf nat_cmp (λ n. n) (λ n. n) closed.history.items closed.index.pairs) }
+    ensures tally { IfOk result (λ closed. closed.tally ≡ tally closed.history.items) }
+{
+    let (shared, passes) = SharedTreeIndex::<u64, u64, C, S, M, F, D>::new(alloc, workers, blanks)?;
+    let (passes, stopped) = run_all(rt, alloc, &shared, passes, n, gate)?;
+    if stopped {
+        return Err(StormError::GateStopped);
+    }
+    match shared.close(passes) {
+        Ok(closed) => Ok(closed),
+        Err(_) => unreachable!(),
+    }
+}
