@@ -2,6 +2,7 @@
 ghost use Rattle.std.specs.Prelude.{◌≡◌, All};
 ghost use Rattle.tree_shared.specs.Tallies.{none};
 
+use crate::closed::closed_with;
 use crate::scenario::{Scenario, play, stored};
 use std::alloc::AllocError;
 use std::process::Abort;
@@ -23,7 +24,7 @@ pub(crate) fn closes_without_workers<
     shared: SharedTreeIndex<u64, u64, C, S, M, F, D>,
     passes: Vec<Pass<C, S, M, F, D>>,
 ) -> Result<(), AllocError> {
-    let Ok(closed) = shared.close(passes) else {
+    let Some(closed) = closed_with(shared, passes) else {
         panic!(rt; "not closed")
     };
     assert!(rt;
@@ -69,7 +70,7 @@ pub(crate) fn closes_with_all_passes<
     };
     assert!(rt; passes.len() == 1);
     passes.push(kept)?;
-    let Ok(closed) = shared.close(passes) else {
+    let Some(closed) = closed_with(shared, passes) else {
         panic!(rt; "not closed")
     };
     assert!(rt;

@@ -1,6 +1,7 @@
 //! Tests of the shared index: its calls by one worker and by many threads, its refusals and its end; and of workers at a gate.
 #![tactic(auto)]
 
+pub mod closed;
 #[cfg(test)]
 mod closing;
 #[cfg(test)]

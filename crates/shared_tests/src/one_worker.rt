@@ -2,6 +2,7 @@
 ghost use Rattle.std.specs.Prelude.{◌≡◌, All};
 ghost use Rattle.tree_shared.specs.Tallies.{none};
 
+use crate::closed::closed_with;
 use crate::scenario::{Scenario, play, stored};
 use std::alloc::AllocError;
 use std::ops::Bound;
@@ -33,7 +34,7 @@ pub(crate) fn each_call<C: Ledger, S: Ledger, M: Ledger, F: Ledger, D: Ledger, R
     assert!(rt; shared.peek(rt, pass, &1)? == Some(11));
     shared.clear(rt, pass)?;
     assert!(rt; shared.peek(rt, pass, &1)? == None);
-    let Ok(closed) = shared.close(passes) else {
+    let Some(closed) = closed_with(shared, passes) else {
         panic!(rt; "not closed")
     };
     assert!(rt;

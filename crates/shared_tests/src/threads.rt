@@ -1,4 +1,5 @@
 //! Threads that share an index.
+use crate::closed::closed_with;
 use crate::replay::replays;
 use crate::scenario::{Scenario, play, stored};
 use std::alloc::{AllocError, Global};
@@ -115,7 +116,7 @@ pub(crate) fn two_insert<
     assert!(rt; pass.tally().calls == 100);
     assert!(rt; shared.peek(rt, pass, &50)? == Some(50));
     assert!(rt; shared.peek(rt, pass, &101)? == None);
-    let Ok(closed) = shared.close(passes) else {
+    let Some(closed) = closed_with(shared, passes) else {
         panic!(rt; "not closed")
     };
     let wanted = Tally {
@@ -177,7 +178,7 @@ pub(crate) fn eight_race<
     for racer in &racers {
         assert!(rt; !racer.served || racer.pass.tally().calls == 300);
     }
-    let Ok(closed) = shared.close(passes_of(alloc, racers)?) else {
+    let Some(closed) = closed_with(shared, passes_of(alloc, racers)?) else {
         panic!(rt; "not closed")
     };
     assert!(rt; closed.tally.calls == 2400 && closed.tally.stored >= 900);

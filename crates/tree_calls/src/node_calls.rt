@@ -30,7 +30,7 @@ use tree_leaf::leaf::{IterOf, RevIterOf};
 use tree_node::depth::level_of;
 use tree_node::internal_node::InternalNodeOf;
 use tree_node::leaf_node::LeafNodeOf;
-use tree_node::look_ups::search_at;
+use tree_descent::look_ups::search_at;
 use tree_node::node::{ArenasOf, NodeOf};
 use tree_ranges::approximate::approximate_at;
 use tree_remove::removal::remove_at;

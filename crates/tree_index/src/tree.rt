@@ -20,7 +20,7 @@ use tree_insert::planting::plant;
 use tree_insert::root::split_root_at;
 use tree_leaf::arena::NodeId;
 use tree_model::InsertError;
-use tree_node::look_ups::search_at;
+use tree_descent::look_ups::search_at;
 use tree_node::node::ArenasOf;
 use tree_remove::lowering::lower_root_at;
 use tree_remove::removal::remove_at;

@@ -12,9 +12,9 @@ use Rattle.tree_insert.proofs.Inserts.{inserts_in_node}
 use Rattle.tree_node.specs.Arenas.{TreeArenas}
 use Rattle.tree_node.specs.Parts.{IsPart}
 use Rattle.tree_node.specs.Tree.{HasChildFor}
-use Rattle.tree_node.specs.Ways.{IsOnWay}
+use Rattle.tree_descent.specs.Ways.{IsOnWay}
 use Rattle.tree_node.proofs.ChildChanges.{child_part}
-use Rattle.tree_node.proofs.Ways.{part_on_way}
+use Rattle.tree_descent.proofs.Ways.{part_on_way}
 use Rattle.tree_split.proofs.LeafRooms.{leaf_used}
 
 module _ {K V : Type 0} {LEN : ℕ} {cmp : K → K → Ordering} (o : IsTotalOrder cmp) (upsert : Bool) (old new : TreeArenas K V LEN) (leaf : ℕ) (key : K) (val : V) (result : Result (StoreResult K V) (K × V))

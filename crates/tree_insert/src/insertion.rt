@@ -7,7 +7,7 @@ ghost use Rattle.tree_node.specs.Tree.{IsRetired};
 
 use tree_array::array::{IndexKey, StoreResult};
 use tree_leaf::arena::NodeId;
-use tree_node::descent::leaf_for;
+use tree_descent::descent::leaf_for;
 use tree_node::node::{ArenasOf, NodeOf};
 use tree_node::routing::child_place_beyond;
 use tree_split::leaf_split::make_room;

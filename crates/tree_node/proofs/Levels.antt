@@ -11,7 +11,6 @@ use Rattle.tree_node.specs.declared.node.NodeOf.{NodeOf}
 use Rattle.tree_node.specs.declared.node.NodeOf.TheVariants.{Internal, Leaf}
 use Rattle.tree_node.specs.Arenas.{TreeArenas}
 use Rattle.tree_node.specs.Tree.{keyed, unbounded, child_of, HasChildFor, HasKind, IsRetired, IsRetiredNode, Stands, StandsOrRetired, walk}
-use Rattle.tree_node.specs.Ways.{HoldsFor}
 use Rattle.tree_node.proofs.Children.{node_there, stands_over, child_stands, leaf_there, walk-leaf}
 use Rattle.tree_node.proofs.Walks.{found_in_child}
 
@@ -80,7 +79,7 @@ module _ {K V : Type 0} {LEN : ℕ} {cmp : K → K → Ordering} (o : IsTotalOrd
 
 module _ {K V : Type 0} {LEN : ℕ} (cmp : K → K → Ordering) (a : TreeArenas K V LEN) (id : ℕ) where
   -- what stands isn't retired
-  stands_not_retired : (level : ℕ) → 0 < level → Stands cmp level a None id None → IsRetired level a id → ⊥
+  pub stands_not_retired : (level : ℕ) → 0 < level → Stands cmp level a None id None → IsRetired level a id → ⊥
   stands_not_retired zero inner s retired = omega (arith, inner)
   stands_not_retired (suc level) inner s retired =
       let none = (rw s.here at retired).1 in
@@ -106,41 +105,3 @@ module _ {K V : Type 0} {LEN : ℕ} (a : TreeArenas K V LEN) (id : ℕ) where
       by_node : (found : Option (NodeOf K LEN)) → get a.nodes id ≡ found → IsRetiredNode found → walk (suc level) a id ≡ []
       by_node None here retired = absurd retired
       by_node (Some node) here retired = rw (here, retired.0, retired.1) refl
-
-module _ {K V : Type 0} {LEN : ℕ} (cmp : K → K → Ordering) (k : K) where
-  holds : (pairs : List (K × V)) (found : Option (LeafOf K V LEN)) → IsSome found → ((leaf : LeafOf K V LEN) → found ≡ Some leaf → pair_at cmp pairs k ≡ pair_at cmp leaf.array.entries k) → HoldsFor cmp k pairs found
-  holds pairs None there same = absurd (cc)
-  holds pairs (Some leaf) there same = same leaf refl
-
-module _ {K V : Type 0} {LEN : ℕ} {cmp : K → K → Ordering} (o : IsTotalOrder cmp) (a : TreeArenas K V LEN) (id : ℕ) (k : K) (level : ℕ) (inner : 0 < level) (given : StandsOrRetired cmp level a id) where
-  -- the leaf under a leaf node
-  pub leaf_found : (node : LeafNodeOf K LEN) → get a.nodes id ≡ Some (Leaf node) → (found : Option ℕ) → found ≡ child_of cmp k node.children.entries node.unbounded_child
-      → MatchOption found (IsRetired level a id) (λ leaf. IsSome (get a.leaves leaf) × HoldsFor cmp k (walk level a id) (get a.leaves leaf))
-  leaf_found node here None none = childless cmp a id level inner given k (Leaf node) here (sym none)
-  leaf_found node here (Some leaf) chosen =
-      let in_it = found_in_leaf o a id k leaf level inner given node here (sym chosen) in
-      (in_it.here, holds cmp k (walk level a id) (get a.leaves leaf) in_it.here in_it.found)
-
-  -- and one that was found further down
-  pub passed_up : (node : InternalNodeOf K LEN) → get a.nodes id ≡ Some (Internal node) → (child : ℕ) → child_of cmp k node.children.entries node.unbounded_child ≡ Some child → (found : Option ℕ)
-      → MatchOption found (IsRetired (level - 1) a child) (λ leaf. IsSome (get a.leaves leaf) × HoldsFor cmp k (walk (level - 1) a child) (get a.leaves leaf))
-      → MatchOption found (IsRetired level a id) (λ leaf. IsSome (get a.leaves leaf) × HoldsFor cmp k (walk level a id) (get a.leaves leaf))
-  passed_up node here child chosen None retired =
-      let below = found_below o a id k child level inner given node here chosen in
-      absurd (stands_not_retired cmp a child (level - 1) below.inner below.whole retired)
-  passed_up node here child chosen (Some leaf) (there, same) =
-      let below = found_below o a id k child level inner given node here chosen in
-      (there, below.found ∙ same)
-
--- one array is asked at each level
-pub one_asked : (len level x y : ℕ) → 0 < level → y ≤ x + len → y ≤ x + len * level
-one_asked len zero x y inner asked = absurd (omega (arith, inner))
-one_asked len (suc level) x y inner asked = rw mul-suc (omega (arith, asked))
-
-pub one_more_asked : (len level x y z : ℕ) → 0 < level → y ≤ x + len → z ≤ y + len * (level - 1) → z ≤ x + len * level
-one_more_asked len zero x y z inner first second = absurd (omega (arith, inner))
-one_more_asked len (suc level) x y z inner first second = rw mul-suc (omega (arith, first, rw sub-one at second))
-
--- and the leaf
-pub leaf_asked : (len level x y z : ℕ) → y ≤ x + len * level → z ≤ y + len → z ≤ x + len * (level + 1)
-leaf_asked len level x y z first second = rw (add-one, mul-suc) (omega (arith, first, second))

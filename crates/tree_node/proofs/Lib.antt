@@ -24,6 +24,5 @@ pub mod Standing
 pub mod Steps
 pub mod Unchanged
 pub mod Walks
-pub mod Ways
 pub mod Whole
 pub mod Widens

@@ -4,5 +4,4 @@ pub mod Parts
 pub mod Routing
 pub mod Shape
 pub mod Tree
-pub mod Ways
 pub mod Whole

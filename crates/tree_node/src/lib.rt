@@ -3,9 +3,7 @@
 #![tactic(auto)]
 
 pub mod depth;
-pub mod descent;
 pub mod internal_node;
 pub mod leaf_node;
-pub mod look_ups;
 pub mod node;
 pub mod routing;

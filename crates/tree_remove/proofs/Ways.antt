@@ -10,11 +10,11 @@ use Rattle.tree_model.proofs.Lengths.{without_present}
 use Rattle.tree_node.specs.Arenas.{TreeArenas}
 use Rattle.tree_node.specs.Parts.{IsPart, Replaces}
 use Rattle.tree_node.specs.Tree.{HasChildFor, IsRetired, Stands, walk}
-use Rattle.tree_node.specs.Ways.{IsOnWay}
+use Rattle.tree_descent.specs.Ways.{IsOnWay}
 use Rattle.tree_node.proofs.ChildChanges.{child_part}
 use Rattle.tree_node.proofs.Children.{walk-leaf}
 use Rattle.tree_node.proofs.Walks.{found_in_child}
-use Rattle.tree_node.proofs.Ways.{part_on_way}
+use Rattle.tree_descent.proofs.Ways.{part_on_way}
 use Rattle.tree_remove.specs.CleanUps.{HasOnlyRetired}
 use Rattle.tree_remove.specs.Removes.{RemovesUnder}
 use Rattle.tree_remove.proofs.NodeRemovals.{fails_above, fails_retired, settled_above, succeeds_above}

@@ -3,7 +3,7 @@ use Rattle.tree_array.specs.Insertion.{IsFull}
 use Rattle.tree_insert.proofs.Inserts.{inserts_in_leaf}
 use Rattle.tree_insert.proofs.Ways.{inserts_on_way, leaf_on_way, takes_one}
 use Rattle.tree_node.proofs.Sizes.{fits}
-use Rattle.tree_node.proofs.Ways.{part_not_retired}
+use Rattle.tree_descent.proofs.Ways.{part_not_retired}
 use Rattle.tree_insert.proofs.insertion.insert_at.Goals as goal
 
 pub returns-in_default-clause-inserts : goal.returns-in_default-clause-inserts

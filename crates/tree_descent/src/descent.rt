@@ -1,12 +1,12 @@
 //! The way down from a node to the leaf that a key belongs to.
 ghost use Rattle.std.specs.Prelude.{◌≡◌, ◌⊎◌, ◌-◌, ◌<◌, MatchOption};
 ghost use Rattle.slab.specs.Slab.{get};
-ghost use Rattle.tree_node.specs.Ways.{IsOnWay};
+ghost use Rattle.tree_descent.specs.Ways.{IsOnWay};
 ghost use Rattle.tree_node.specs.Parts.{IsPart};
 ghost use Rattle.tree_node.specs.Tree.{HasChildFor, IsRetired};
 
-use crate::node::{ArenasOf, NodeOf};
-use crate::routing::child_beyond;
+use tree_node::node::{ArenasOf, NodeOf};
+use tree_node::routing::child_beyond;
 use tree_leaf::arena::{LeafId, NodeId};
 
 /// The leaf that a key belongs to.

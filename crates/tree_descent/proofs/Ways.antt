@@ -8,7 +8,7 @@ use Rattle.tree_node.specs.declared.leaf_node.LeafNodeOf.{LeafNodeOf}
 use Rattle.tree_node.specs.declared.node.NodeOf.{NodeOf}
 use Rattle.tree_node.specs.declared.node.NodeOf.TheVariants.{Internal, Leaf}
 use Rattle.tree_node.specs.Arenas.{TreeArenas}
-use Rattle.tree_node.specs.Ways.{IsOnWay}
+use Rattle.tree_descent.specs.Ways.{IsOnWay}
 use Rattle.tree_node.specs.Parts.{IsPart}
 use Rattle.tree_node.specs.Tree.{HasChildFor, HasKind, IsRetired, Stands, child_of, keyed, unbounded}
 use Rattle.tree_node.proofs.ChildChanges.{child_part}

@@ -3,8 +3,10 @@ use Rattle.slab.specs.Slab.{ContainsKey}
 use Rattle.tree_array.specs.Length.{searched}
 use Rattle.tree_node.specs.declared.node.NodeOf.TheVariants.{Internal}
 use Rattle.tree_node.specs.Tree.{StandsOrRetired}
-use Rattle.tree_node.proofs.Levels.{childless, found_below, leaf_found, node_at, one_asked, one_more_asked, passed_up}
-use Rattle.tree_node.proofs.look_ups.+leaf_by.Goals as goal
+use Rattle.tree_node.proofs.Levels.{childless, found_below, node_at}
+use Rattle.tree_descent.proofs.Asked.{one_asked, one_more_asked}
+use Rattle.tree_descent.proofs.Found.{leaf_found, passed_up}
+use Rattle.tree_descent.proofs.look_ups.+leaf_by.Goals as goal
 
 pub node-requires : goal.node-requires
 node-requires g t c =

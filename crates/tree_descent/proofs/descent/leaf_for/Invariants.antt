@@ -1,5 +1,5 @@
-use Rattle.tree_node.proofs.Ways.{Descends}
-use Rattle.tree_node.proofs.descent.leaf_for.Given as goal
+use Rattle.tree_descent.proofs.Ways.{Descends}
+use Rattle.tree_descent.proofs.descent.leaf_for.Given as goal
 
 abbrev pub invariant-loop-above : goal.invariant-loop-above
 invariant-loop-above g l = Descends g.K.Ord.cmp l.arenas l.key l.level l.fn.id l.at l.above

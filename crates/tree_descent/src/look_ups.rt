@@ -4,10 +4,10 @@ ghost use Rattle.slab.specs.Slab.{get};
 ghost use Rattle.tree_array.specs.Length.{searched};
 ghost use Rattle.tree_model.specs.Pairs.{IsAbsent, pair_at};
 ghost use Rattle.tree_node.specs.Tree.{IsRetired, StandsOrRetired, walk};
-ghost use Rattle.tree_node.specs.Ways.{HoldsFor};
+ghost use Rattle.tree_descent.specs.Ways.{HoldsFor};
 
-use crate::node::{ArenasOf, NodeOf};
-use crate::routing::child_for;
+use tree_node::node::{ArenasOf, NodeOf};
+use tree_node::routing::child_for;
 use tree_array::array::Judge;
 use tree_leaf::arena::{LeafId, NodeId};
 

@@ -1,8 +1,9 @@
 use Rattle.std.proofs.Common.{rules, refl}
 use Rattle.tree_array.specs.Length.{searched}
-use Rattle.tree_node.proofs.Levels.{leaf_asked, retired_walk}
+use Rattle.tree_node.proofs.Levels.{retired_walk}
+use Rattle.tree_descent.proofs.Asked.{leaf_asked}
 use Rattle.tree_node.proofs.Sizes.{fits}
-use Rattle.tree_node.proofs.look_ups.search_at.Goals as goal
+use Rattle.tree_descent.proofs.look_ups.search_at.Goals as goal
 
 pub returns-in_default-clause-found : goal.returns-in_default-clause-found
 returns-in_default-clause-found g c = rw (retired_walk c.args.arenas.now c.args.id c.args.level c.requires.node c.in_default.ensures.found) refl

@@ -1,0 +1,3 @@
+pub mod Asked
+pub mod Found
+pub mod Ways
