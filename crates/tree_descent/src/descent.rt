@@ -5,9 +5,9 @@ ghost use Rattle.tree_descent.specs.Ways.{IsOnWay};
 ghost use Rattle.tree_node.specs.Parts.{IsPart};
 ghost use Rattle.tree_node.specs.Tree.{HasChildFor, IsRetired};
 
+use tree_leaf::arena::{LeafId, NodeId};
 use tree_node::node::{ArenasOf, NodeOf};
 use tree_node::routing::child_beyond;
-use tree_leaf::arena::{LeafId, NodeId};
 
 /// The leaf that a key belongs to.
 #[derive(Drop)]
@@ -45,7 +45,7 @@ pub fn leaf_for<K: Ord + Drop, V: Drop, const LEN: usize>(
         let NodeOf::Internal(node) = arenas.node(at) else {
             return None;
         };
-        let Some(unbounded) = node.unbounded_child else {
+        let Some(unbounded) = &node.unbounded_child else {
             return None;
         };
         let (child, is_last) = child_beyond(&node.children, unbounded, key, last);
@@ -56,7 +56,7 @@ pub fn leaf_for<K: Ord + Drop, V: Drop, const LEN: usize>(
     let NodeOf::Leaf(node) = arenas.node(at) else {
         return None;
     };
-    let Some(unbounded) = node.unbounded_child else {
+    let Some(unbounded) = &node.unbounded_child else {
         return None;
     };
     let (leaf, is_last) = child_beyond(&node.children, unbounded, key, last);

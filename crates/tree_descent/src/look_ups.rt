@@ -6,10 +6,10 @@ ghost use Rattle.tree_model.specs.Pairs.{IsAbsent, pair_at};
 ghost use Rattle.tree_node.specs.Tree.{IsRetired, StandsOrRetired, walk};
 ghost use Rattle.tree_descent.specs.Ways.{HoldsFor};
 
-use tree_node::node::{ArenasOf, NodeOf};
-use tree_node::routing::child_for;
 use tree_array::array::Judge;
 use tree_leaf::arena::{LeafId, NodeId};
+use tree_node::node::{ArenasOf, NodeOf};
+use tree_node::routing::child_for;
 
 /// Returns the pair with the judge's key under a number, or `None` if the key is absent. Makes at most
 /// `4 * (level + 1)` comparisons with 15 slots, and `3 * (level + 1)` with 7.
@@ -50,9 +50,9 @@ fn leaf_by<K: Ord + Drop, V: Drop, J: Judge<K>, const LEN: usize>(
     ensures halved { J.count judge.new ≤ J.count judge.old + searched LEN * level }
 {
     match arenas.node(id) {
-        NodeOf::Leaf(node) => child_for(&node.children, node.unbounded_child, judge),
+        NodeOf::Leaf(node) => child_for(&node.children, &node.unbounded_child, judge),
         NodeOf::Internal(node) => {
-            let Some(child) = child_for(&node.children, node.unbounded_child, judge) else {
+            let Some(child) = child_for(&node.children, &node.unbounded_child, judge) else {
                 return None;
             };
             leaf_by(arenas, level - 1, child, judge)
