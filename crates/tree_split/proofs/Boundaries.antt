@@ -34,7 +34,7 @@ module _ (len count rises : ℕ) where
           (omega (arith, more, least, many), fewer)
 
 module _ {K V : Type 0} (cmp : K → K → Ordering) where
-  ascents_below : (pair : K × V) (pairs : List (K × V)) → ascents cmp (pair ∷ pairs) ≤ length pairs
+  pub ascents_below : (pair : K × V) (pairs : List (K × V)) → ascents cmp (pair ∷ pairs) ≤ length pairs
   ascents_below pair [] = omega arith
   ascents_below pair (next ∷ pairs) = by_test (is_lt (cmp pair.0 next.0)) (ascents_below next pairs)
     where

@@ -1,3 +1,4 @@
+mod Ascended
 mod Boundaries
 pub mod Fulls
 pub mod LeafRooms

@@ -113,6 +113,10 @@ low_part cmp len last array key =
     let cut = boundary cmp len array in
     if last && (cut.2 && all_smaller cmp key array.entries) then cut.1 else cut.0
 
+-- as many entries as there are slots go only where they arrived in ascending order
+abbrev pub GoesWhole : {K V : Type 0} → ℕ → Arrivals K V → ℕ → Type 0
+GoesWhole len array count = count ≡ len → array ≡ in_order array.entries
+
 -- whether this is the unbounded child
 abbrev pub is_at : Option ℕ → ℕ → Bool
 is_at None child = false

@@ -4,16 +4,17 @@ ghost use Rattle.std.specs.List.{AllByRecursion};
 ghost use Rattle.slab.specs.Slab.{get};
 ghost use Rattle.tree_array.specs.Arrivals.{in_order};
 ghost use Rattle.tree_array.specs.Insertion.{HasRoom};
-ghost use Rattle.tree_array.specs.Length.{IsLen, limit};
+ghost use Rattle.tree_array.specs.Length.{limit};
 ghost use Rattle.tree_array.specs.Sound.{IsSound};
 ghost use Rattle.tree_model.specs.Pairs.{IsAbsent};
 ghost use Rattle.tree_node.specs.Parts.{IsPart, PutsChild, Unchanged};
-ghost use Rattle.tree_split.specs.Splits.{GivesAll, GivesFirst, HasMadeRoom, IsCut, RoomResult, SharesEntries, all_smaller, low_part};
+ghost use Rattle.tree_split.specs.Splits.{GivesAll, GivesFirst, GoesWhole, HasMadeRoom, IsCut, RoomResult, SharesEntries, all_smaller, low_part};
 ghost use Rattle.tree_node.specs.Tree.{HasChildFor, HasKind, keyed, leaf_entries};
 
 use crate::keyed_children::put_keyed;
 use std::alloc::AllocError;
 use std::cmp::Ordering;
+use std::mem;
 use tree_array::array::{ArrayOf, IndexKey};
 use tree_leaf::arena::{LeafId, NodeId};
 use tree_leaf::leaf::{LeafOf, add_before};
@@ -70,6 +71,7 @@ fn low_count<K: Ord + Drop, V: Drop, const LEN: usize>(
 ) -> Option<u8>
     ensures cut { MatchOption result (length array.now.entries ≤ limit LEN) (λ count. (limit LEN < length array.now.entries) × IsCut K.cmp key.now count array.now.entries) }
     ensures rule { IfSome result (λ count. count ≡ low_part K.cmp LEN last array.now key.now) }
+    ensures whole { IfSome result (λ count. GoesWhole LEN array.now count) }
     ensures sound { IsSound K.cmp LEN array.now }
 {
     let (boundary, count, ascended) = array.optimal_boundary();
@@ -106,6 +108,7 @@ fn split_leaf<K: IndexKey, V: Drop, const LEN: usize>(
 ) -> Result<(), AllocError>
     requires part { IsPart K.cmp 1 arenas.old id }
     requires sound { (leaf : _) → get arenas.old.leaves target ≡ Some leaf → IsSound K.cmp LEN leaf.array }
+    requires whole { (leaf : _) → get arenas.old.leaves target ≡ Some leaf → GoesWhole LEN leaf.array count }
     requires cut { (key : K) × HasChildFor K.cmp key (get arenas.old.nodes id) target × IsCut K.cmp key count (leaf_entries arenas.old.leaves target) }
     requires room { (node : _) → get arenas.old.nodes id ≡ Some node → HasRoom LEN (keyed node) }
     ensures done { IfOk result (λ _. (key : K) → HasChildFor K.cmp key (get arenas.old.nodes id) target → IsCut K.cmp key count (leaf_entries arenas.old.leaves target) → GivesAll K.cmp arenas.old id target count key → HasMadeRoom K.cmp 1 arenas.old arenas.new id key) }
@@ -138,16 +141,22 @@ fn separator_at<K: IndexKey, V: Drop, const LEN: usize>(
 }
 
 /// Moves the first `count` entries into `low`, which is new. The entries of both arrays arrive anew, in ascending order.
+/// All `LEN` entries arrived so already: then the two arrays change places, and no pair is moved by itself.
 fn cut_low<K: Ord + Drop, V: Drop, const LEN: usize>(
     array: &mut ArrayOf<K, V, LEN>,
     count: u8,
     low: &mut ArrayOf<K, V, LEN>,
 )
-    requires len { IsLen LEN }
+    requires sound { IsSound K.cmp LEN array.old }
+    requires whole { GoesWhole LEN array.old count }
     requires new { low.old ≡ in_order [] }
     ensures low { low.new ≡ in_order (take count array.old.entries) }
     ensures high { array.new ≡ in_order (drop count array.old.entries) }
 {
+    if count as usize == LEN {
+        mem::swap(array, low);
+        return;
+    }
     let mut high = ArrayOf::new();
     array.distribute(count, low, &mut high);
     *array = high;

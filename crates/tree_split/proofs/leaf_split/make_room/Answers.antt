@@ -56,11 +56,17 @@ split_leaf-requires g c =
                 let same : leaf ≡ c.leaf.result.now = cc in
                 rw (same, ← c.array.ensures) c.low_count.ensures.sound,
             (
-              (c.args.key.now, c.requires.child, rw c.leaf.ensures cut),
-              λ node is.
-                  let both : Some node ≡ Some (Leaf c.in-Leaf.node) = sym is ∙ here in
-                  let same : node ≡ Leaf c.in-Leaf.node = cc in
-                  rw same (not_full_room (Leaf c.in-Leaf.node) (λ full. let yes = c.is_full-full.ensures.1 full in let no = c.if-full.false in cc)),
+              λ leaf is.
+                  let both : Some leaf ≡ Some c.leaf.result.now = sym is ∙ c.leaf.ensures in
+                  let same : leaf ≡ c.leaf.result.now = cc in
+                  rw (same, ← c.array.ensures) c.in-Some.ensures.whole,
+              (
+                (c.args.key.now, c.requires.child, rw c.leaf.ensures cut),
+                λ node is.
+                    let both : Some node ≡ Some (Leaf c.in-Leaf.node) = sym is ∙ here in
+                    let same : node ≡ Leaf c.in-Leaf.node = cc in
+                    rw same (not_full_room (Leaf c.in-Leaf.node) (λ full. let yes = c.is_full-full.ensures.1 full in let no = c.if-full.false in cc)),
+              ),
             ),
           ),
         ),

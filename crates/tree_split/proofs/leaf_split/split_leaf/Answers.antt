@@ -93,4 +93,12 @@ pub new-low-requires : goal.new-low-requires
 new-low-requires g c = (search fits, (c.requires.sound c.leaf.result.now c.leaf.ensures).is_len)
 
 pub cut_low-requires : goal.cut_low-requires
-cut_low-requires g c = (search rules, ((c.requires.sound c.leaf.result.now c.leaf.ensures).is_len, c.array_mut-2.ensures.value ∙ c.new-low.ensures.array))
+cut_low-requires g c =
+    let read : c.leaf.result.now ≡ c.leaf_mut.result.now =
+    leaf_read c.args.arenas.now c.reserve.new.self c.in_ok-reserve.ensures.0 c.args.target c.leaf.result.now c.leaf_mut.result.now c.leaf.ensures c.leaf_mut.ensures.value in (
+      search rules,
+      (
+        rw (c.array_mut.ensures.value, ← read) (c.requires.sound c.leaf.result.now c.leaf.ensures),
+        (rw (c.array_mut.ensures.value, ← read) (c.requires.whole c.leaf.result.now c.leaf.ensures), c.array_mut-2.ensures.value ∙ c.new-low.ensures.array),
+      ),
+    )
