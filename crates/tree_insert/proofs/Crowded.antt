@@ -1,12 +1,14 @@
 -- Where no room can be made on the way of a key.
-use Rattle.std.proofs.Common.{◌≡◌, ℕ, zero, suc, ◌-◌, ◌<◌, arith, inl, inr, sub-one}
+use Rattle.std.proofs.Common.{◌≡◌, ℕ, zero, suc, ◌-◌, ◌<◌, sym, ◌∙◌, arith, inl, inr, sub-one}
 use Rattle.std.specs.declared.cmp.Ordering.{Ordering}
 use Rattle.slab.specs.Slab.{get}
 use Rattle.tree_array.specs.Length.{limit}
 use Rattle.tree_insert.specs.Inserts.{HasToDivide}
 use Rattle.tree_node.specs.Arenas.{TreeArenas}
+use Rattle.tree_node.specs.Parts.{Unchanged}
 use Rattle.tree_node.specs.Shape.{IsCrowded, held, room}
 use Rattle.tree_node.specs.Tree.{HasChildFor}
+use Rattle.tree_node.proofs.Unchanged.{unchanged_held, unchanged_room}
 
 module _ {K V : Type 0} {LEN : ℕ} (cmp : K → K → Ordering) where
   -- the array right under the number has none
@@ -37,3 +39,26 @@ module _ {K V : Type 0} {LEN : ℕ} (cmp : K → K → Ordering) where
   divides_before (suc (suc level)) deep old made id child key which crowded some divides =
       let full : IsCrowded cmp (suc level) old child key = rw sub-one at crowded in
       (child, which, inr (full.1, full.2, inl (crowded_room level old full.1 key full.4, full.3)))
+
+  -- where nothing has changed since, it was so before
+  module _ (old new : TreeArenas K V LEN) (same : Unchanged old new) where
+    pub crowded_still : (level : ℕ) (id : ℕ) (key : K) → IsCrowded cmp level new id key → IsCrowded cmp level old id key
+    crowded_still zero id key crowded = sym (unchanged_room zero old new same id) ∙ crowded
+    crowded_still (suc level) id key crowded = (
+      sym (unchanged_room (suc level) old new same id) ∙ crowded.0,
+      crowded.1,
+      rw (same.nodes id) at crowded.2,
+      rw (unchanged_held level old new same crowded.1) at crowded.3,
+      crowded_still level crowded.1 key crowded.4,
+    )
+
+    pub divides_still : (level : ℕ) (id : ℕ) (key : K) → HasToDivide cmp level new id key → HasToDivide cmp level old id key
+    divides_still zero id key divides = divides
+    divides_still (suc level) id key divides = (
+      divides.0,
+      rw (same.nodes id) at divides.1,
+      elim divides.2 [
+        | inl full ↦ inl (sym (unchanged_room level old new same divides.0) ∙ full.0, rw (unchanged_held level old new same divides.0) at full.1)
+        | inr below ↦ inr (divides_still level divides.0 key below)
+      ],
+    )

@@ -1,25 +1,17 @@
 -- An insert that goes down from a node: the part that stands there, and what its arms come to.
-use Rattle.std.proofs.Common.{◌≡◌, ◌⊎◌, ℕ, ◌-◌, ◌<◌, Bool, false, IsSome, None, Some, Result, Ok, Err, inl, inr, refl}
+use Rattle.std.proofs.Common.{◌≡◌, ◌⊎◌, ℕ, ◌-◌, ◌<◌, Bool, false, None, Some, Result, Ok, Err, inl, inr, refl}
 use Rattle.std.specs.declared.cmp.Ordering.{Ordering}
 use Rattle.std.specs.Cmp.{IsTotalOrder}
 use Rattle.slab.specs.Slab.{get}
 use Rattle.tree_array.specs.declared.answers.StoreResult.{StoreResult}
 use Rattle.tree_array.specs.declared.answers.StoreResult.TheVariants.{New, Replaced, Duplicate, Full}
-use Rattle.tree_array.specs.Arrivals.{Arrivals}
-use Rattle.tree_array.specs.Insertion.{IsStore}
-use Rattle.tree_leaf.specs.declared.leaf.LeafOf.{LeafOf}
 use Rattle.tree_insert.specs.Inserts.{InsertsUnder, asks_split}
-use Rattle.tree_insert.proofs.Inserts.{inserts_in_leaf}
-use Rattle.tree_split.proofs.LeafRooms.{leaf_used}
 use Rattle.tree_insert.proofs.Retries.{IsFullBelow, child_part_at, full_below_at, inserts_in_node_at}
-use Rattle.tree_node.specs.declared.leaf_node.LeafNodeOf.{LeafNodeOf}
 use Rattle.tree_node.specs.declared.node.NodeOf.{NodeOf}
-use Rattle.tree_node.specs.declared.node.NodeOf.TheVariants.{Leaf}
 use Rattle.tree_node.specs.Arenas.{TreeArenas}
 use Rattle.tree_node.specs.Parts.{IsPart}
 use Rattle.tree_node.specs.Tree.{HasChildFor, IsRetired, child_of, keyed, unbounded}
-use Rattle.tree_node.proofs.LeafWrites.{with_array}
-use Rattle.tree_node.proofs.NodeKinds.{outer_level, retired_node, some_child}
+use Rattle.tree_node.proofs.NodeKinds.{retired_node, some_child}
 
 module _ {K V : Type 0} {LEN : ℕ} (cmp : K → K → Ordering) (level : ℕ) (a : TreeArenas K V LEN) (id child : ℕ) (key : K) where
   -- a part stands there, with this child for the key
@@ -47,30 +39,11 @@ module _ {K V : Type 0} {LEN : ℕ} (cmp : K → K → Ordering) (level : ℕ) (
       cc
 
 -- an answer that isn't `Full` asks for no split
-no_split : {K V : Type 0} (answer : StoreResult K V) → ((k : K) (v : V) → answer ≡ Full k v → ⊥) → asks_split {K = K} {V = V} (Ok answer) ≡ false
+pub no_split : {K V : Type 0} (answer : StoreResult K V) → ((k : K) (v : V) → answer ≡ Full k v → ⊥) → asks_split {K = K} {V = V} (Ok answer) ≡ false
 no_split New not = refl
 no_split Replaced not = refl
 no_split (Duplicate k v) not = refl
 no_split (Full k v) not = absurd (not k v refl)
-
--- the leaf that the key belongs to was asked to store the pair
-module _ {K V : Type 0} {LEN : ℕ} {cmp : K → K → Ordering} (o : IsTotalOrder cmp) (upsert : Bool) (level : ℕ) (deep : 0 < level) (a : TreeArenas K V LEN) (id leaf : ℕ) (key : K) (val : V)
-    (node : LeafNodeOf K LEN) (here : get a.nodes id ≡ Some (Leaf node)) (goes : IsUnder cmp level a id leaf key) where
-  pub first_level : level ≡ 1
-  first_level = outer_level level deep a id goes.part node here
-
-  pub leaf_there : IsSome (get a.leaves leaf)
-  leaf_there = leaf_used o a id leaf key (rw first_level at goes.part) goes.which
-
-  module _ (slot : LeafOf K V LEN) (there : get a.leaves leaf ≡ Some slot) (array : Arrivals K V) (answer : StoreResult K V) (stores : IsStore cmp LEN upsert slot.array key val answer array) where
-    in_leaf : InsertsUnder cmp upsert (level - 1) a (with_array a leaf slot array) leaf (Ok answer) key val
-    in_leaf = rw first_level (inserts_in_leaf o upsert a leaf slot array key val there answer stores)
-
-    pub leaf_stored : ((k : K) (v : V) → answer ≡ Full k v → ⊥) → InsertsUnder cmp upsert level a (with_array a leaf slot array) id (Ok answer) key val
-    leaf_stored not_full = inserts_in_node_at o upsert level deep a (with_array a leaf slot array) id leaf key val (Ok answer) goes.part goes.which in_leaf (no_split answer not_full)
-
-    pub leaf_full : (k : K) (v : V) → answer ≡ Full k v → IsFullBelow cmp upsert level a (with_array a leaf slot array) id leaf key val k v
-    leaf_full k v is = full_below_at o upsert level deep a (with_array a leaf slot array) id leaf key val k v goes.part goes.which (rw is at in_leaf)
 
 -- the pair was inserted under the node that the key belongs to
 module _ {K V : Type 0} {LEN : ℕ} {cmp : K → K → Ordering} (o : IsTotalOrder cmp) (upsert : Bool) (level : ℕ) (deep : 0 < level) (a b : TreeArenas K V LEN) (id child : ℕ) (key : K) (val : V)

@@ -176,7 +176,7 @@ room_by_split {cmp = cmp} {level = level} {old = old} {id = id} {child = child} 
 
 module _ {K V : Type 0} {LEN : ℕ} {cmp : K → K → Ordering} (o : IsTotalOrder cmp) (upsert : Bool) (level : ℕ) (old new : TreeArenas K V LEN) (id child : ℕ) (key : K) (val : V) where
   -- the child answered that it is full
-  full_below : (k : K) (v : V) → IsPart cmp (suc level) old id → HasChildFor cmp key (get old.nodes id) child → InsertsUnder cmp upsert level old new child (Ok (Full k v)) key val → IsFullBelow cmp upsert (suc level) old new id child key val k v
+  pub full_below : (k : K) (v : V) → IsPart cmp (suc level) old id → HasChildFor cmp key (get old.nodes id) child → InsertsUnder cmp upsert level old new child (Ok (Full k v)) key val → IsFullBelow cmp upsert (suc level) old new id child key val k v
   full_below k v part which ins =
       let s : Stands cmp (suc level) old None id None = part.stands in
       let pairs : Inserts cmp upsert (Ok (Full k v)) (walk (suc level) old id) key val (walk (suc level) new id) =

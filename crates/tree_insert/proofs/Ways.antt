@@ -1,4 +1,4 @@
--- An insert in the leaf that a key belongs to, seen from the node where its way starts.
+-- An insert in the leaf that a key belongs to, or under its leaf node, seen from the node where the way starts.
 use Rattle.std.proofs.Common.{◌≡◌, ℕ, zero, suc, ◌-◌, ◌<◌, Bool, false, None, IsSome, Result, Ok, refl, arith, sub-one}
 use Rattle.std.specs.declared.cmp.Ordering.{Ordering}
 use Rattle.std.specs.Cmp.{IsTotalOrder}
@@ -17,18 +17,6 @@ use Rattle.tree_node.proofs.ChildChanges.{child_part}
 use Rattle.tree_descent.proofs.Ways.{part_on_way}
 use Rattle.tree_split.proofs.LeafRooms.{leaf_used}
 
-module _ {K V : Type 0} {LEN : ℕ} {cmp : K → K → Ordering} (o : IsTotalOrder cmp) (upsert : Bool) (old new : TreeArenas K V LEN) (leaf : ℕ) (key : K) (val : V) (result : Result (StoreResult K V) (K × V))
-    (inserts : InsertsUnder cmp upsert 0 old new leaf result key val) (no_split : asks_split result ≡ false) where
-  on_way : (steps : ℕ) (id node : ℕ) → IsPart cmp (suc steps) old id → IsOnWay cmp key steps old id node → HasChildFor cmp key (get old.nodes node) leaf → InsertsUnder cmp upsert (suc steps) old new id result key val
-  on_way zero id node part way which = inserts_in_node o upsert 0 old new id leaf key val result part (rw way which) inserts no_split
-  on_way (suc steps) id node part way which =
-      inserts_in_node o upsert (suc steps) old new id way.0 key val result part way.1 (on_way steps way.0 node (child_part o (suc steps) old id way.0 key part way.1 None None part.stands) way.2 which) no_split
-
-  -- an insert in the leaf is one under the node
-  pub inserts_on_way : (level : ℕ) → 0 < level → (id node : ℕ) → IsPart cmp level old id → IsOnWay cmp key (level - 1) old id node → HasChildFor cmp key (get old.nodes node) leaf → InsertsUnder cmp upsert level old new id result key val
-  inserts_on_way zero deep id node part way which = absurd (omega (arith, deep))
-  inserts_on_way (suc level) deep id node part way which = on_way level id node part (rw sub-one at way) which
-
 module _ {K V : Type 0} {LEN : ℕ} {cmp : K → K → Ordering} (o : IsTotalOrder cmp) (a : TreeArenas K V LEN) (key : K) where
   -- the node over the leaf is a part
   pub node_on_way : (level : ℕ) → 0 < level → (id node : ℕ) → IsPart cmp level a id → IsOnWay cmp key (level - 1) a id node → IsPart cmp 1 a node
@@ -38,6 +26,24 @@ module _ {K V : Type 0} {LEN : ℕ} {cmp : K → K → Ordering} (o : IsTotalOrd
   -- and the leaf is there
   pub leaf_on_way : (level : ℕ) → 0 < level → (id node leaf : ℕ) → IsPart cmp level a id → IsOnWay cmp key (level - 1) a id node → HasChildFor cmp key (get a.nodes node) leaf → IsSome (get a.leaves leaf)
   leaf_on_way level deep id node leaf part way which = leaf_used o a node leaf key (node_on_way level deep id node part way) which
+
+module _ {K V : Type 0} {LEN : ℕ} {cmp : K → K → Ordering} (o : IsTotalOrder cmp) (upsert : Bool) (old new : TreeArenas K V LEN) (key : K) (val : V) (result : Result (StoreResult K V) (K × V)) (no_split : asks_split result ≡ false) where
+  module _ (node : ℕ) (inserts : InsertsUnder cmp upsert 1 old new node result key val) where
+    on_way : (steps : ℕ) (id : ℕ) → IsPart cmp (suc steps) old id → IsOnWay cmp key steps old id node → InsertsUnder cmp upsert (suc steps) old new id result key val
+    on_way zero id part way = rw way inserts
+    on_way (suc steps) id part way =
+        inserts_in_node o upsert (suc steps) old new id way.0 key val result part way.1 (on_way steps way.0 (child_part o (suc steps) old id way.0 key part way.1 None None part.stands) way.2) no_split
+
+    -- an insert under the leaf node is one under the node where its way starts
+    pub inserts_at_node : (level : ℕ) → 0 < level → (id : ℕ) → IsPart cmp level old id → IsOnWay cmp key (level - 1) old id node → InsertsUnder cmp upsert level old new id result key val
+    inserts_at_node zero deep id part way = absurd (omega (arith, deep))
+    inserts_at_node (suc level) deep id part way = on_way level id part (rw sub-one at way)
+
+  -- and so is one in the leaf
+  pub inserts_on_way : (leaf : ℕ) → InsertsUnder cmp upsert 0 old new leaf result key val → (level : ℕ) → 0 < level → (id node : ℕ) → IsPart cmp level old id → IsOnWay cmp key (level - 1) old id node → HasChildFor cmp key (get old.nodes node) leaf
+      → InsertsUnder cmp upsert level old new id result key val
+  inserts_on_way leaf inserts level deep id node part way which =
+      inserts_at_node node (inserts_in_node o upsert 0 old new node leaf key val result (node_on_way o old key level deep id node part way) which inserts no_split) level deep id part way
 
 -- an array that isn't full takes the pair, or has the key
 module _ {K V : Type 0} (cmp : K → K → Ordering) (len : ℕ) (upsert : Bool) (old new : Arrivals K V) (key : K) (val : V) (room : IsFull len old → ⊥) where

@@ -1,15 +1,17 @@
 //! Inserts under the number of a node, at its level.
-ghost use Rattle.std.specs.Prelude.{◌≡◌, ◌⊎◌, ◌<◌, Ok};
+ghost use Rattle.std.specs.Prelude.{◌≡◌, ◌⊎◌, ◌<◌, ℕ, Ok};
+ghost use Rattle.slab.specs.Slab.{get};
 ghost use Rattle.tree_array.specs.declared.answers.StoreResult.TheVariants.{Full as FullResult};
 ghost use Rattle.tree_insert.specs.Inserts.{InsertsUnder};
 ghost use Rattle.tree_node.specs.Parts.{IsPart, Unchanged};
-ghost use Rattle.tree_node.specs.Tree.{IsRetired};
+ghost use Rattle.tree_node.specs.Shape.{room};
+ghost use Rattle.tree_node.specs.Tree.{HasChildFor, IsRetired};
 
 use tree_array::array::{IndexKey, StoreResult};
-use tree_leaf::arena::NodeId;
 use tree_descent::descent::leaf_for;
-use tree_node::node::{ArenasOf, NodeOf};
-use tree_node::routing::child_place_beyond;
+use tree_leaf::arena::{LeafId, NodeId};
+use tree_node::node::{ArenasOf, ArenasOf, NodeOf, NodeOf};
+use tree_node::routing::{child_beyond, child_beyond, child_place_beyond, child_place_beyond};
 use tree_split::leaf_split::make_room;
 use tree_split::node_split::split_child;
 
@@ -23,9 +25,10 @@ use tree_split::node_split::split_child;
 ///
 /// Each of the three hands the pair back; the first two leave everything unchanged.
 ///
-/// Makes at most `LEN` comparisons in each node on the path and in the leaf. If the leaf is full, the descent restarts; if
-/// a child is split or built anew, it restarts at its parent, once more. Allocates one leaf and one node a level at most.
-/// A split of a leaf clones one key.
+/// Makes at most `LEN` comparisons in each node on the path and in the leaf. If the leaf is full and its leaf node has
+/// room, the leaf is split or built anew and the descent restarts at that node: three times as many comparisons in the
+/// node and the leaf at most, and one beside them. Otherwise it restarts at the top and, once a child is split or built
+/// anew, at the child's parent. Allocates one leaf and one node a level at most. A split of a leaf clones one key.
 ///
 /// The caller must see that a well-formed part of a tree, or a retired node, stands under the number.
 pub fn insert_at<const UPSERT: bool, K: IndexKey, V: Drop, const LEN: usize>(
@@ -43,15 +46,84 @@ pub fn insert_at<const UPSERT: bool, K: IndexKey, V: Drop, const LEN: usize>(
     let Some(place) = leaf_for(arenas, level, id, &key, true) else {
         return Ok(StoreResult::Full(key, val));
     };
-    if arenas.leaf(place.leaf).array().is_full() {
-        return insert_from::<UPSERT, K, V, LEN>(arenas, level, id, true, key, val);
+    if !arenas.leaf(place.leaf).array().is_full() {
+        return Ok(
+            arenas
+                .leaf_mut(place.leaf)
+                .array_mut()
+                .store::<UPSERT>(place.rightmost, key, val),
+        );
     }
-    Ok(
-        arenas
-            .leaf_mut(place.leaf)
-            .array_mut()
-            .store::<UPSERT>(place.rightmost, key, val),
-    )
+    match insert_under_leaf_node::<UPSERT, K, V, LEN>(
+        arenas,
+        place.node,
+        place.leaf,
+        place.rightmost,
+        key,
+        val,
+    ) {
+        Err(pair) => Err(pair),
+        Ok(answer) => match answer {
+            StoreResult::Full(key, val) => insert_from::<UPSERT, K, V, LEN>(
+                arenas, level, id, true, key, val,
+            ),
+            answer => Ok(answer),
+        },
+    }
+}
+
+/// Inserts a pair, as [`insert_at`] does, under a leaf node in the leaf that its key belongs to. If the leaf is full, it
+/// is split or built anew first, and the key is routed again from the node. `rightmost` says that the way down has kept
+/// to the unbounded children.
+fn insert_under_leaf_node<const UPSERT: bool, K: IndexKey, V: Drop, const LEN: usize>(
+    arenas: &mut ArenasOf<K, V, LEN>,
+    id: NodeId,
+    leaf: LeafId,
+    rightmost: bool,
+    key: K,
+    val: V,
+) -> Result<StoreResult<K, V>, (K, V)>
+    requires part { IsPart K.cmp 1 arenas.old id }
+    requires child { HasChildFor K.cmp key (get arenas.old.nodes id) leaf }
+    ensures { InsertsUnder K.cmp UPSERT 1 arenas.old arenas.new id result key val }
+{
+    match arenas
+        .leaf_mut(leaf)
+        .array_mut()
+        .store::<UPSERT>(rightmost, key, val)
+    {
+        StoreResult::Full(key, val) => match make_room(arenas, id, leaf, &key) {
+            Err(_) => Err((key, val)),
+            Ok(false) => Ok(StoreResult::Full(key, val)),
+            Ok(true) => Ok(store_under::<UPSERT, K, V, LEN>(arenas, id, rightmost, key, val)),
+        },
+        answer => Ok(answer),
+    }
+}
+
+/// Stores a pair under a leaf node in the leaf that its key belongs to, which has room.
+fn store_under<const UPSERT: bool, K: IndexKey, V: Drop, const LEN: usize>(
+    arenas: &mut ArenasOf<K, V, LEN>,
+    id: NodeId,
+    rightmost: bool,
+    key: K,
+    val: V,
+) -> StoreResult<K, V>
+    requires part { IsPart K.cmp 1 arenas.old id }
+    requires roomy { (leaf : ℕ) → HasChildFor K.cmp key (get arenas.old.nodes id) leaf → 0 < room 0 arenas.old leaf }
+    ensures { InsertsUnder K.cmp UPSERT 1 arenas.old arenas.new id (Ok result) key val }
+{
+    let NodeOf::Leaf(node) = arenas.node(id) else {
+        unreachable!()
+    };
+    let Some(unbounded) = &node.unbounded_child else {
+        unreachable!()
+    };
+    let (leaf, last) = child_beyond(&node.children, unbounded, &key, rightmost);
+    arenas
+        .leaf_mut(leaf)
+        .array_mut()
+        .store::<UPSERT>(last, key, val)
 }
 
 /// Inserts a pair, as [`insert_at`] does, with a way back on which full children are split. `rightmost` says that the way
@@ -80,21 +152,8 @@ fn insert_from<const UPSERT: bool, K: IndexKey, V: Drop, const LEN: usize>(
                 return Ok(StoreResult::Full(key, val));
             };
             let leaf = place.child;
-            let rightmost_leaf = rightmost && place.slot.is_none();
-            match arenas
-                .leaf_mut(leaf)
-                .array_mut()
-                .store::<UPSERT>(rightmost_leaf, key, val)
-            {
-                StoreResult::Full(key, val) => match make_room(arenas, id, leaf, &key) {
-                    Err(_) => Err((key, val)),
-                    Ok(false) => Ok(StoreResult::Full(key, val)),
-                    Ok(true) => insert_from::<UPSERT, K, V, LEN>(
-                        arenas, level, id, rightmost, key, val,
-                    ),
-                },
-                answer => Ok(answer),
-            }
+            let last = rightmost && place.slot.is_none();
+            insert_under_leaf_node::<UPSERT, K, V, LEN>(arenas, id, leaf, last, key, val)
         }
         NodeOf::Internal(node) => {
             let Some(place) = child_place_beyond(
