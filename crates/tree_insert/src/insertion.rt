@@ -10,8 +10,8 @@ ghost use Rattle.tree_node.specs.Tree.{HasChildFor, IsRetired};
 use tree_array::array::{IndexKey, StoreResult};
 use tree_descent::descent::leaf_for;
 use tree_leaf::arena::{LeafId, NodeId};
-use tree_node::node::{ArenasOf, ArenasOf, NodeOf, NodeOf};
-use tree_node::routing::{child_beyond, child_beyond, child_place_beyond, child_place_beyond};
+use tree_node::node::{ArenasOf, NodeOf};
+use tree_node::routing::{child_beyond, child_place_beyond};
 use tree_split::leaf_split::make_room;
 use tree_split::node_split::split_child;
 
