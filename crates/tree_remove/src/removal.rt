@@ -11,8 +11,8 @@ ghost use Rattle.tree_node.specs.Tree.{IsRetired, walk};
 
 use crate::clean_up::{drop_child_node, drop_keyed_leaf, retire_if_empty};
 use tree_array::array::RemoveResult;
-use tree_leaf::arena::{LeafId, NodeId};
 use tree_descent::descent::leaf_for;
+use tree_leaf::arena::{LeafId, NodeId};
 use tree_node::node::{ArenasOf, NodeOf};
 use tree_node::routing::child_place_for;
 
