@@ -141,7 +141,7 @@ fn separator_at<K: IndexKey, V: Drop, const LEN: usize>(
 }
 
 /// Moves the first `count` entries into `low`, which is new. The entries of both arrays arrive anew, in ascending order.
-/// All `LEN` entries arrived so already: then the two arrays change places, and no pair is moved by itself.
+/// If all `LEN` entries move, they arrived so already, and the two arrays are swapped instead.
 fn cut_low<K: Ord + Drop, V: Drop, const LEN: usize>(
     array: &mut ArrayOf<K, V, LEN>,
     count: u8,
