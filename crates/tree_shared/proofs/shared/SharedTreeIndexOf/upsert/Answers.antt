@@ -1,0 +1,8 @@
+use Rattle.tree_node.proofs.Sizes.{fits}
+use Rattle.tree_shared.proofs.shared.SharedTreeIndexOf.upsert.Goals as goal
+
+pub serve-requires-room-T-Serves : goal.serve-requires-room-T-Serves
+serve-requires-room-T-Serves g c κs within = search fits
+
+pub serve-requires-room-T-Destruct : goal.serve-requires-room-T-Destruct
+serve-requires-room-T-Destruct g c κs within = search fits
