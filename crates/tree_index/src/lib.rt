@@ -32,6 +32,7 @@ mod cursors;
 mod equality;
 mod index;
 pub mod laws;
+mod prepared;
 mod readers;
 mod seek;
 mod state;
@@ -39,6 +40,7 @@ mod tree;
 
 pub use commands::run;
 pub use index::{TreeIndex, TreeIndexOf};
+pub use prepared::PreparedPair;
 pub use state::{State, StateOf};
 pub use tree_array::array::{Judge, KeyJudge, Steps};
 pub use tree_cursor_model::{Answer, Move, ProximityOf};

@@ -2,10 +2,11 @@
 ghost use Rattle.std.specs.Prelude.{◌≡◌, ◌<◌, List, [], ◌∷◌, ◌++◌, vec_len, vec_capacity, IfOk, IfErr, OnErr};
 ghost use Rattle.std.specs.Option.{option_copied, option_map};
 ghost use Rattle.tree_array.specs.Length.{IsLen};
-ghost use Rattle.tree_model.specs.History.{Appends, IsHistoryOf, IsSameKey};
+ghost use Rattle.tree_model.specs.History.{Appends, IsHistoryOf};
 ghost use Rattle.tree_index.specs.Inserts.{RecordsInsert};
 
 use crate::index::TreeIndexOf;
+use crate::prepared::PreparedPair;
 use std::alloc::{AllocError, Global};
 use std::fmt;
 use std::marker::Model;
@@ -103,12 +104,25 @@ impl<K: IndexKey + SameClone, V: SameClone, const LEN: usize> StateOf<K, V, LEN>
     pub fn insert(&mut self, key: K, value: V) -> Result<(), InsertError<K, V>>
         ensures { RecordsInsert K.cmp K.seen V.seen self.old self.new key value result }
     {
+        match PreparedPair::new(key, value) {
+            Ok(pair) => self.insert_prepared(pair),
+            Err((key, value)) => Err(InsertError::OutOfMemory(key, value)),
+        }
+    }
+
+    /// Does what [`insert`](StateOf::insert) does, with a pair whose clones for the history are made.
+    pub fn insert_prepared(&mut self, pair: PreparedPair<K, V>) -> Result<(), InsertError<K, V>>
+        ensures { RecordsInsert K.cmp K.seen V.seen self.old self.new pair.0 pair.1 result }
+    {
+        let PreparedPair {
+            key,
+            value,
+            kept_key,
+            kept_value,
+        } = pair;
         if self.history.reserve(1).is_err() {
             return Err(InsertError::OutOfMemory(key, value));
         }
-        let Ok((kept_key, kept_value)) = cloned_pair(&key, &value) else {
-            return Err(InsertError::OutOfMemory(key, value));
-        };
         match self.index.insert_sync(key, value) {
             Ok(()) => {
                 let kept = Command::Insert(kept_key, kept_value);
@@ -130,21 +144,40 @@ impl<K: IndexKey + SameClone, V: SameClone, const LEN: usize> StateOf<K, V, LEN>
         ensures handed_back { IfErr result (λ back. back ≡ Command.Upsert key value) }
         ensures err { OnErr result (self.new ≡ self.old) }
     {
-        if self.history.reserve(1).is_err() {
-            return Err(Command::Upsert(key, value));
-        }
-        let Ok((kept_key, kept_value)) = cloned_pair(&key, &value) else {
-            return Err(Command::Upsert(key, value));
+        let pair = match PreparedPair::new(key, value) {
+            Ok(pair) => pair,
+            Err((key, value)) => return Err(Command::Upsert(key, value)),
         };
-        if let Err((key, value)) = self.index.upsert_sync(key, value) {
-            return Err(Command::Upsert(key, value));
+        match self.upsert_prepared(pair) {
+            Ok(()) => Ok(Reply::Stored),
+            Err((key, value)) => Err(Command::Upsert(key, value)),
         }
+    }
+
+    /// Does what [`apply`](StateOf::apply) does with an upsert, with a pair whose clones for the history are made.
+    ///
+    /// Returns `Err` with the pair if an allocation is refused; index and history are then as they were.
+    pub fn upsert_prepared(&mut self, pair: PreparedPair<K, V>) -> Result<(), (K, V)>
+        ensures ok { IfOk result (λ _. Appends K.cmp K.seen V.seen self.old self.new (Command.Upsert pair.0 pair.1) Reply.Stored) }
+        ensures handed_back { IfErr result (λ back. back ≡ pair) }
+        ensures err { OnErr result (self.new ≡ self.old) }
+    {
+        let PreparedPair {
+            key,
+            value,
+            kept_key,
+            kept_value,
+        } = pair;
+        if self.history.reserve(1).is_err() {
+            return Err((key, value));
+        }
+        self.index.upsert_sync(key, value)?;
         keep(
             &mut self.history,
             Command::Upsert(kept_key, kept_value),
             Reply::Stored,
         );
-        Ok(Reply::Stored)
+        Ok(())
     }
 
     // Answers a removal. The key itself goes into the history.
@@ -234,17 +267,6 @@ fn two_clones<V: SameClone>(value: Option<&V>) -> Result<(Option<V>, Option<V>),
         None => Ok((None, None)),
         Some(value) => Ok((Some(value.clone()?), Some(value.clone()?))),
     }
-}
-
-// Clones a key and a value.
-fn cloned_pair<K: IndexKey + SameClone, V: SameClone>(
-    key: &K,
-    value: &V,
-) -> Result<(K, V), AllocError>
-    ensures key { IfOk result (λ pair. IsSameKey K.cmp K.seen key.now pair.0) }
-    ensures value { IfOk result (λ pair. V.seen value.now ≡ V.seen pair.1) }
-{
-    Ok((key.clone()?, value.clone()?))
 }
 
 // Appends a record. The caller must see that there is room.

@@ -112,14 +112,6 @@ insert_kept cmp seen_key seen old new k v (Err (fault.Duplicate key value)) reco
 insert_kept cmp seen_key seen old new k v (Err (fault.OutOfMemory key value)) records e = records.0
 
 -- the reply to a command of each kind
-pub upsert_reply : {K V : Type 0} (k : K) (v : V) (r : Reply V) → is_reply_to (Upsert k v) r ≡ true → r ≡ Stored
-upsert_reply k v Stored e = refl
-upsert_reply k v Duplicate e = cc
-upsert_reply k v (Removed was) e = cc
-upsert_reply k v Done e = cc
-upsert_reply k v (Found found) e = cc
-upsert_reply k v Refused e = cc
-
 pub remove_reply : {K V : Type 0} (k : K) (r : Reply V) → is_reply_to (Remove k) r ≡ true → r ≡ Removed (is_removed r)
 remove_reply k Stored e = cc
 remove_reply k Duplicate e = cc

@@ -4,7 +4,7 @@ use Rattle.tree_model.specs.declared.commands.Command.{Command}
 use Rattle.tree_model.specs.declared.commands.InsertError.{InsertError}
 use Rattle.tree_model.specs.declared.commands.Reply.{Reply}
 use Rattle.tree_shared.specs.Replies.{is_reply_to}
-use Rattle.tree_shared.specs.Tallies.{raised, pair_of, reply_of_insert}
+use Rattle.tree_shared.specs.Tallies.{raised, pair_of, reply_of_insert, reply_of_upsert}
 use Rattle.tree_shared.specs.declared.tally.Tally.{Tally}
 
 -- A reply is of the command's kind, and counted. A refused command comes back, and nothing is counted.
@@ -18,3 +18,8 @@ pub record IsCounted {K V : Type 0} (command : Command K V) (answer : Result (Re
 pub record IsInsertCounted {K V : Type 0} (pair : K × V) (answer : Result (Unit {0}) (InsertError K V)) (old new : Tally) : Type 0 where
   pub handed_back : IfErr answer (λ e. pair_of e ≡ pair)
   pub counted : new ≡ raised {V = V} old (reply_of_insert answer)
+
+-- An upsert is counted as stored, or the pair comes back and nothing is counted.
+pub record IsUpsertCounted {K V : Type 0} (pair : K × V) (answer : Result (Unit {0}) (K × V)) (old new : Tally) : Type 0 where
+  pub handed_back : IfErr answer (λ back. back ≡ pair)
+  pub counted : new ≡ raised {V = V} old (reply_of_upsert answer)

@@ -2,15 +2,15 @@
 ghost use Rattle.std.specs.Prelude.{◌≡◌, ◌<◌, true, IfOk, IfErr, OnErr};
 ghost use Rattle.tree_model.specs.History.{Appends};
 ghost use Rattle.tree_index.specs.Inserts.{RecordsInsert};
-ghost use Rattle.tree_shared.specs.Counted.{IsCounted, IsInsertCounted};
-ghost use Rattle.tree_shared.specs.Tallies.{raised, tally, reply_of_insert, pair_of};
+ghost use Rattle.tree_shared.specs.Counted.{IsCounted, IsInsertCounted, IsUpsertCounted};
+ghost use Rattle.tree_shared.specs.Tallies.{raised, tally, reply_of_insert, reply_of_upsert, pair_of};
 ghost use Rattle.tree_shared.specs.Replies.{is_reply_to};
 
 use crate::ledgers::{Books, Workers};
 use crate::pass::Pass;
 use crate::serves::Serves;
 use std::sync::ledger::Ledger;
-use tree_index::{Command, IndexKey, InsertError, Reply, SameClone, StateOf};
+use tree_index::{Command, IndexKey, InsertError, PreparedPair, Reply, SameClone, StateOf};
 
 /// What lies under the lock: the state, and the books that tally its history. `LEN` is 7 or 15.
 #[derive(Drop)]
@@ -72,12 +72,11 @@ impl<
     pub fn insert(
         &mut self,
         pass: &mut Pass<C, S, M, F, D>,
-        key: K,
-        value: V,
+        pair: PreparedPair<K, V>,
     ) -> Result<(), InsertError<K, V>>
         requires room { pass.old.calls < u64.MAX }
-        ensures records { RecordsInsert K.cmp K.seen V.seen self.old.state self.new.state key value result }
-        ensures pair { IfErr result (λ e. pair_of e ≡ (key, value)) }
+        ensures records { RecordsInsert K.cmp K.seen V.seen self.old.state self.new.state pair.0 pair.1 result }
+        ensures pair { IfErr result (λ e. pair_of e ≡ pair) }
         ensures counted { pass.new ≡ raised {V = V} pass.old (reply_of_insert result) }
     {
         let Locked {
@@ -85,13 +84,37 @@ impl<
             books,
             workers: _,
         } = self;
-        let outcome = state.insert(key, value);
+        let outcome = state.insert_prepared(pair);
         match &outcome {
             Ok(()) => books.count::<V>(pass, &Reply::Stored),
             Err(InsertError::Duplicate(_, _)) => books.count::<V>(pass, &Reply::Duplicate),
             Err(InsertError::OutOfMemory(_, _)) => {}
         }
         outcome
+    }
+
+    /// Answers an upsert, and counts its reply in the books and in the pass.
+    ///
+    /// Returns `Err` with the pair if an allocation is refused; nothing changed then.
+    pub fn upsert(
+        &mut self,
+        pass: &mut Pass<C, S, M, F, D>,
+        pair: PreparedPair<K, V>,
+    ) -> Result<(), (K, V)>
+        requires room { pass.old.calls < u64.MAX }
+        ensures ok { IfOk result (λ _. Appends K.cmp K.seen V.seen self.old.state self.new.state (Command.Upsert pair.0 pair.1) Reply.Stored) }
+        ensures pair { IfErr result (λ back. back ≡ pair) }
+        ensures counted { pass.new ≡ raised {V = V} pass.old (reply_of_upsert result) }
+        ensures kept { OnErr result (self.new.state ≡ self.old.state) }
+    {
+        let Locked {
+            state,
+            books,
+            workers: _,
+        } = self;
+        state.upsert_prepared(pair)?;
+        books.count::<V>(pass, &Reply::Stored);
+        Ok(())
     }
 }
 
@@ -126,16 +149,37 @@ impl<
     F: Ledger,
     D: Ledger,
     const LEN: usize,
-> Serves<(K, V), Result<(), InsertError<K, V>>, C, S, M, F, D>
+> Serves<PreparedPair<K, V>, Result<(), InsertError<K, V>>, C, S, M, F, D>
     for Locked<K, V, C, S, M, F, D, LEN> {
     ghost counts = { λ pair answer old new. IsInsertCounted pair answer old new };
 
     fn serve(
         &mut self,
         pass: &mut Pass<C, S, M, F, D>,
-        pair: (K, V),
+        pair: PreparedPair<K, V>,
     ) -> Result<(), InsertError<K, V>> {
-        let (key, value) = pair;
-        self.insert(pass, key, value)
+        self.insert(pass, pair)
+    }
+}
+
+impl<
+    K: IndexKey + SameClone,
+    V: SameClone,
+    C: Ledger,
+    S: Ledger,
+    M: Ledger,
+    F: Ledger,
+    D: Ledger,
+    const LEN: usize,
+> Serves<PreparedPair<K, V>, Result<(), (K, V)>, C, S, M, F, D>
+    for Locked<K, V, C, S, M, F, D, LEN> {
+    ghost counts = { λ pair answer old new. IsUpsertCounted pair answer old new };
+
+    fn serve(
+        &mut self,
+        pass: &mut Pass<C, S, M, F, D>,
+        pair: PreparedPair<K, V>,
+    ) -> Result<(), (K, V)> {
+        self.upsert(pass, pair)
     }
 }

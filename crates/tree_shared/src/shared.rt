@@ -19,7 +19,9 @@ use std::marker::PhantomData;
 use std::ops::Bound;
 use std::sync::ledger::Ledger;
 use std::sync::{Mutex, Wait};
-use tree_index::{Command, IndexKey, InsertError, Record, Reply, SameClone, StateOf, TreeIndexOf};
+use tree_index::{
+    Command, IndexKey, InsertError, PreparedPair, Record, Reply, SameClone, StateOf, TreeIndexOf,
+};
 
 /// An index of fifteen pairs a leaf that threads share by reference. See [`SharedTreeIndexOf`].
 pub type SharedTreeIndex<K, V, C, S, M, F, D> = SharedTreeIndexOf<K, V, C, S, M, F, D, 15>;
@@ -93,7 +95,8 @@ impl<
     /// Stores a pair if its key is absent.
     ///
     /// Returns `Duplicate` if the key is present, and `OutOfMemory` if an allocation is refused, for the pair or for
-    /// the history, also where the key is present. Both hand the pair back. After `OutOfMemory` nothing changed.
+    /// the history, also where the key is present. Both hand the pair back. After `OutOfMemory` nothing changed. Clones
+    /// the pair before it takes the lock.
     pub fn insert<R: Wait>(
         &self,
         rt: &R,
@@ -105,12 +108,16 @@ impl<
         ensures counted { pass.new ≡ raised {V = V} pass.old (reply_of_insert result) }
         ensures pair { IfErr result (λ e. pair_of e ≡ (key, value)) }
     {
-        serve(&self.locked, rt, pass, (key, value))
+        match PreparedPair::new(key, value) {
+            Ok(pair) => serve(&self.locked, rt, pass, pair),
+            Err((key, value)) => Err(InsertError::OutOfMemory(key, value)),
+        }
     }
 
     /// Stores a pair. A pair with an equal key is replaced, key and value.
     ///
-    /// Returns `Err` with the pair if an allocation is refused; nothing changed then.
+    /// Returns `Err` with the pair if an allocation is refused; nothing changed then. Clones the pair before it takes
+    /// the lock.
     pub fn upsert<R: Wait>(
         &self,
         rt: &R,
@@ -122,11 +129,8 @@ impl<
         ensures counted { pass.new ≡ raised {V = V} pass.old (reply_of_upsert result) }
         ensures pair { IfErr result (λ pair. pair ≡ (key, value)) }
     {
-        match self.apply(rt, pass, Command::Upsert(key, value)) {
-            Ok(_) => Ok(()),
-            Err(Command::Upsert(key, value)) => Err((key, value)),
-            Err(_) => unreachable!(),
-        }
+        let pair = PreparedPair::new(key, value)?;
+        serve(&self.locked, rt, pass, pair)
     }
 
     /// Removes the pair with a key. Returns whether there was one.
