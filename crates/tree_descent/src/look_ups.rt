@@ -15,8 +15,6 @@ use tree_node::routing::child_for;
 /// `4 * (level + 1)` comparisons with 15 slots, and `3 * (level + 1)` with 7.
 ///
 /// The caller must name a well-formed part of a tree at this level, or a retired node.
-// Inlined into a caller's loop, the search of the leaf would branch on each comparison.
-#[inline(never)]
 pub fn search_at<'a, K: Ord + Drop, V: Drop, J: Judge<K>, const LEN: usize>(
     arenas: &'a ArenasOf<K, V, LEN>,
     level: usize,
