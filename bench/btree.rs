@@ -1,5 +1,8 @@
 //! The workloads of `crates/treebench` over `std::collections::BTreeMap`: the same keys, the same arguments, the same
-//! lines of output.
+//! lines of output. With `shared` first, those of `crates/sharebench`.
+mod shared;
+
+use shared::Load;
 use std::collections::BTreeMap;
 use std::env::args;
 use std::fs::read_to_string;
@@ -308,6 +311,10 @@ fn show_memory(size: usize) {
     println!("memory {} {}", (grown * 1024).checked_div(size).unwrap_or(0), map.len());
 }
 
+fn load_of(keys: &str, threads: &str, calls: &str) -> Option<Load> {
+    Load::new(keys.parse().ok()?, threads.parse().ok()?, calls.parse().ok()?)
+}
+
 fn main() {
     let words: Vec<String> = args().skip(1).collect();
     let number = |word: &String| word.parse().ok();
@@ -323,8 +330,14 @@ fn main() {
                 return show_times(keys, repeats);
             }
         }
+        [first] if first == "shared" => return shared::show_few(),
+        [first, keys, threads, calls] if first == "shared" => {
+            if let Some(load) = load_of(keys, threads, calls) {
+                return shared::show_time(load);
+            }
+        }
         _ => {}
     }
-    eprintln!("usage: btree [KEYS REPEATS | memory KEYS]");
+    eprintln!("usage: btree [KEYS REPEATS | memory KEYS | shared | shared KEYS THREADS CALLS]");
     exit(1);
 }

@@ -1,0 +1,6 @@
+use Rattle.std.specs.Prelude.{◌≡◌, length, vec_len}
+use Rattle.sharebench.proofs.threads.fn.run_all.scope.Given as goal
+
+-- a pass of each thread that was joined
+abbrev pub invariant-loop-handle : goal.invariant-loop-handle
+invariant-loop-handle g l = vec_len l.back ≡ length l.yielded

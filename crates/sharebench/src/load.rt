@@ -1,0 +1,77 @@
+//! What threads call with: keys and random numbers, the same in every run.
+ghost use Rattle.std.specs.Prelude.{◌≤◌};
+
+/// How many threads there are, and how many keys and calls each of them has.
+///
+/// The keys of a thread are those whose remainder by the number of threads is the thread's number. No other thread
+/// calls with them, so that each reply is the same whatever the schedule.
+#[derive(Clone, Copy)]
+pub struct Load {
+    pub threads: usize,
+    pub keys: u64,
+    pub calls: u64,
+    ghost threads_within: { (1 ≤ threads) × (threads ≤ 64) },
+    ghost some_keys: { 1 ≤ keys },
+}
+
+impl Load {
+    /// Divides keys and calls evenly among threads. Returns `None` unless there are 1 to 64 threads.
+    pub fn new(keys: u64, threads: usize, calls: u64) -> Option<Load> {
+        if threads < 1 || threads > 64 {
+            return None;
+        }
+        let parts = threads as u64;
+        Some(Load {
+            threads,
+            keys: (keys / parts).max(1),
+            calls: calls / parts,
+        })
+    }
+
+    /// Returns the number of calls that all threads make.
+    pub fn all_calls(&self) -> u64 {
+        self.calls.wrapping_mul(self.threads as u64)
+    }
+
+    /// Returns the key of a thread at a place. Places beyond its last key begin again at the first.
+    pub fn key(&self, thread: usize, place: u64) -> u64 {
+        (place % self.keys)
+            .wrapping_mul(self.threads as u64)
+            .wrapping_add(thread as u64)
+    }
+}
+
+/// A 64-bit xorshift generator.
+#[derive(Drop)]
+pub struct Numbers {
+    last: u64,
+}
+
+impl Numbers {
+    /// Creates the generator of a thread.
+    pub fn new(thread: usize) -> Numbers {
+        Numbers {
+            last: (thread as u64)
+                .wrapping_add(1)
+                .wrapping_mul(0x9e37_79b9_7f4a_7c15),
+        }
+    }
+
+    /// Returns the next number.
+    pub fn draw(&mut self) -> u64 {
+        let mut next = self.last;
+        next ^= next << 13;
+        next ^= next >> 7;
+        next ^= next << 17;
+        self.last = next;
+        next
+    }
+
+    /// Shuffles a list.
+    pub fn shuffle(&mut self, keys: &mut [u64]) {
+        for place in 1..keys.len() {
+            let other = self.draw() % (place as u64 + 1);
+            keys.swap(place, other as usize);
+        }
+    }
+}
