@@ -65,10 +65,10 @@ pub fn claim_both<C: Shared, S: Shared, M: Shared, F: Shared, D: Shared, R: Thre
     };
     join(
         rt,
-        || -> ()
+        ||
             requires { one.now ≡ none }
         { claim(rt, &owners, one, 1, numbers) },
-        || -> ()
+        ||
             requires { two.now ≡ none }
         { claim(rt, &owners, two, 2, numbers) },
     );
