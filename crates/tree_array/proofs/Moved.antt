@@ -1,13 +1,14 @@
 -- Pairs that are moved place by place into the cells of a new array.
-use Rattle.std.proofs.Common.{◌≡◌, ◌≢◌, ℕ, ◌+◌, ◌-◌, ◌<◌, ◌≤◌, Bool, true, false, List, [], length, map, take, drop, get_or, set, Option, None, Some, refl, sym, ◌∙◌, ap, inl, inr, arith}
+use Rattle.std.proofs.Common.{◌≡◌, ◌≢◌, ℕ, ◌+◌, ◌-◌, ◌<◌, ◌≤◌, Bool, true, false, List, [], length, map, take, drop, get_or, Option, None, Some, IsSome, refl, sym, ◌∙◌, ap, subst, inl, inr, arith}
 use Rattle.std.specs.declared.cmp.Ordering.{Ordering}
 use Rattle.std.specs.Cmp.{IsTotalOrder}
-use Rattle.std.proofs.lemmas.Bool.{cases_lt, cases_eq}
-use Rattle.std.proofs.lemmas.List.{drop_all, get_or-drop, get_or-map, get_or-set_other, get_or-set_same, get_or-take, length-drop, length-map, length-take, same_lists, take_all}
+use Rattle.std.proofs.lemmas.Bool.{cases_lt}
+use Rattle.std.proofs.lemmas.List.{drop_all, get_or-drop, get_or-map, get_or-take, length-drop, length-map, length-take, same_lists, take_all}
 use Rattle.std.proofs.lemmas.Option.{get_or_from_slice_get, none-some}
 use Rattle.tree_array.specs.Arrivals.{Arrivals, arrival, drained, in_order, reachable, sorted}
-use Rattle.tree_array.specs.Moves.{HasEmptied, HasInTurn}
+use Rattle.tree_array.specs.Moves.{HasEmptied}
 use Rattle.tree_array.specs.View.{seen}
+use Rattle.tree_cells.specs.Moves.{HasInTurn, HasLeft}
 use Rattle.tree_cells.specs.Tabled.{IsTabled}
 use Rattle.tree_order.specs.Order.{clamped, named, picked, IsFilled}
 use Rattle.tree_array.proofs.Dealt.{spent_list}
@@ -17,6 +18,7 @@ use Rattle.tree_array.proofs.Seen.{arrivals_seen, same_arrays}
 use Rattle.tree_array.proofs.Stored.{clamped_early, clamped_late}
 use Rattle.tree_order.proofs.Picked.{get_or-picked, length-picked}
 use Rattle.tree_cells.proofs.Picks.{arrival-all}
+use Rattle.tree_cells.proofs.Tabled.{places_apart}
 
 -- a place that is clamped to the entries parts them as it does
 pub cut_same : {X : Type 0} (xs : List X) (count place : ℕ) → length xs ≡ count → (take (clamped count place) xs ≡ take place xs) × (drop (clamped count place) xs ≡ drop place xs)
@@ -37,24 +39,6 @@ module _ {K V : Type 0} where
   none_new cmp cells made retired array view_is is unmade p =
       let no_arrivals : length array.arrivals ≡ 0 = ap (λ (a : Arrivals K V). length a.arrivals) is in
       unmade p (omega (arith, no_arrivals, ap length (arrivals_seen cmp cells made retired view_is), length-picked (arrival cells) made))
-
-  pub moved_none : (old to : List (Option (K × V))) (order from : ℕ) → ((p : ℕ) → arrival to p ≡ None) → HasInTurn old to order from from
-  moved_none old to order from none = record { here = λ i lt. absurd (omega arith); none = λ i le. none i }
-
-  -- one more pair is moved
-  pub moved_more : {old cells to : List (Option (K × V))} {order count from place : ℕ} → HasEmptied old cells order count place → HasInTurn old to order from place → from ≤ place → place < count → place - from < length to
-      → (pair : K × V) → arrival cells (named order place) ≡ Some pair → HasInTurn old (set to (place - from) (Some pair)) order from (place + 1)
-  moved_more {to} {order} {from} {place} h t from_on lt within pair there = record {
-    here = λ i less. elim (cases_eq i (place - from)) [
-      | inl same ↦
-          let e : from + (place - from) ≡ place = omega arith in
-          rw (same, e) (get_or-set_same to (place - from) (Some pair) None within ∙ sym (sym (h.kept place (omega arith) lt) ∙ there))
-      | inr other ↦ get_or-set_other to (place - from) i (Some pair) None other ∙ t.here i (omega (arith, other))
-    ];
-    none = λ i le.
-        let other : i ≢ place - from = λ e. omega arith in
-        get_or-set_other to (place - from) i (Some pair) None other ∙ t.none i (omega arith);
-  }
 
 module _ {K V : Type 0} {cmp : K → K → Ordering} (o : IsTotalOrder cmp) {len : ℕ} {old : List (Option (K × V))} {order made count : ℕ} (it : IsTabled cmp len old order made count) where
   abbrev entries : List (K × V)
@@ -118,6 +102,26 @@ module _ {K V : Type 0} {cmp : K → K → Ordering} (o : IsTotalOrder cmp) {len
 
     pub moved_seen : seen cmp new n false ≡ in_order (take n (drop from entries))
     moved_seen = same_arrays _ _ _ _ _ _ arrivals_moved refl entries_moved
+
+  -- the pairs of some more places leave
+  module _ {cells : List (Option (K × V))} {from end : ℕ} (few : end ≤ count) (h : HasEmptied old cells order count from) where
+    pub left_stands : (i : ℕ) → from ≤ i → i < end → IsSome (arrival cells (named order i))
+    left_stands i le lt = let s = it.in_order.stands i (omega arith) in subst IsSome (sym (h.kept i le (omega arith) ∙ s.1)) refl
+
+    pub emptied_run : {new : List (Option (K × V))} → from ≤ end → HasLeft cells new order from end → HasEmptied old new order count end
+    emptied_run ends left = record {
+      gone = λ i lt. elim (cases_lt i from) [
+        | inl early ↦ left.others (named order i) (λ j le less. places_apart o it.in_order j i (omega arith) (omega arith) (λ e. omega arith)) ∙ h.gone i early
+        | inr le ↦ left.gone i le lt
+      ];
+      kept = λ i le lt. left.others (named order i) (λ j on less. places_apart o it.in_order j i (omega arith) lt (λ e. omega arith)) ∙ h.kept i (omega arith) lt;
+      others = λ p none.
+          let away : (j : ℕ) → from ≤ j → j < end → named order j ≢ p = λ j le lt is. (let s = it.in_order.stands j (omega arith) in none-some s.0 (sym none ∙ ap (arrival old) (sym is) ∙ s.1)) in
+          left.others p away ∙ h.others p none;
+    }
+
+    pub in_turn_run : {new : List (Option (K × V))} → HasInTurn cells new order from end → HasInTurn old new order from end
+    in_turn_run turn = record { here = λ i lt. turn.here i lt ∙ h.kept (from + i) (omega arith) (omega arith); none = turn.none }
 
   -- the array that all pairs left
   module _ {new : List (Option (K × V))} (h : HasEmptied old new order count count) where

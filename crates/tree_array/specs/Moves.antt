@@ -1,5 +1,5 @@
--- Pairs that leave the cells of an array place by place, and the cells that they come to.
-use Rattle.std.specs.Prelude.{◌≡◌, ℕ, ◌+◌, ◌<◌, ◌≤◌, List, Option, None}
+-- Pairs that leave the cells of an array place by place.
+use Rattle.std.specs.Prelude.{◌≡◌, ℕ, ◌<◌, ◌≤◌, List, Option, None}
 use Rattle.tree_array.specs.Arrivals.{arrival}
 use Rattle.tree_order.specs.Order.{named}
 
@@ -9,8 +9,3 @@ module _ {K V : Type 0} where
     pub gone : (i : ℕ) → i < place → arrival new (named order i) ≡ None
     pub kept : (i : ℕ) → place ≤ i → i < count → arrival new (named order i) ≡ arrival old (named order i)
     pub others : (p : ℕ) → arrival old p ≡ None → arrival new p ≡ None
-
-  -- the first cells hold the pairs of the places from one up to another, in turn, and no other cell holds one
-  pub record HasInTurn (old new : List (Option (K × V))) (order from end : ℕ) : Type 0 where
-    pub here : (i : ℕ) → from + i < end → arrival new i ≡ arrival old (named order (from + i))
-    pub none : (i : ℕ) → end ≤ from + i → arrival new i ≡ None

@@ -2,6 +2,7 @@ pub mod Entries
 pub mod Found
 pub mod Halving
 pub mod LeastFrom
+pub mod Moves
 pub mod Picks
 pub mod RankOrder
 pub mod Rises

@@ -27,6 +27,11 @@ module _ {K V : Type 0} where
   zipped_at (key ∷ keys) (val ∷ vals) zero e = refl
   zipped_at (key ∷ keys) (val ∷ vals) (suc p) e = zipped_at keys vals p (omega (arith, e))
 
+  pub length-zipped : (keys : List (Option K)) (vals : List (Option V)) → length keys ≡ length vals → length (zipped keys vals) ≡ length keys
+  length-zipped [] vals e = refl
+  length-zipped (key ∷ keys) [] e = absurd (omega (arith, e))
+  length-zipped (key ∷ keys) (val ∷ vals) e = omega (arith, length-zipped keys vals (omega (arith, e)))
+
   pub zipped_set : (keys : List (Option K)) (vals : List (Option V)) (p : ℕ) (key : Option K) (val : Option V) → length keys ≡ length vals → zipped (set keys p key) (set vals p val) ≡ set (zipped keys vals) p (pair_up key val)
   zipped_set [] vals p k v e = refl
   zipped_set (key ∷ keys) [] p k v e = absurd (omega (arith, e))

@@ -1,5 +1,6 @@
 pub mod Arrivals
 pub mod Cells
+pub mod Moves
 pub mod Place
 pub mod Ranked
 pub mod Tabled

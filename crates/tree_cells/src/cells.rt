@@ -1,7 +1,10 @@
 //! The cells of an array, keys apart from values. No byte says which cells hold a pair: the order of the array does.
-ghost use Rattle.std.specs.Prelude.{◌≡◌, ℕ, ◌<◌, None, Some, IsSome, replicate, slice_set};
+ghost use Rattle.std.specs.Prelude.{◌≡◌, ◌≢◌, ℕ, ◌<◌, ◌≤◌, None, Some, IsSome, length, replicate, slice_set};
 ghost use Rattle.tree_cells.specs.Arrivals.{arrival};
+ghost use Rattle.tree_cells.specs.Moves.{HasInTurn, HasLeft};
+ghost use Rattle.tree_order.specs.Order.{named};
 
+use crate::gather::gather;
 use std::marker::Model;
 use std::mem;
 use tree_slots::row::Row;
@@ -82,6 +85,33 @@ impl<K, V, const LEN: usize> Cells<K, V, LEN> {
     {
         match &mut self.rows {
             Some((keys, vals)) => (keys.take(cell as usize), vals.take(cell as usize)),
+            None => unreachable!(),
+        }
+    }
+
+    /// Moves the pairs of the places from `from` up to `end` of an order into the first cells of new ones, in turn. The
+    /// caller must know that each of these places names a pair, and that no two name the same.
+    pub fn take_places(&mut self, order: u64, from: u8, end: u8) -> Self
+        requires few { end ≤ LEN }
+        requires places { end ≤ 15 }
+        requires stands { (i : ℕ) → from ≤ i → i < end → IsSome (arrival self.old (named order i)) }
+        requires apart { (i j : ℕ) → from ≤ i → i < j → j < end → named order i ≢ named order j }
+        ensures turn { HasInTurn self.old result order from end }
+        ensures left { HasLeft self.old self.new order from end }
+        ensures same { length self.new ≡ length self.old }
+        ensures whole { length result ≡ LEN }
+    {
+        if from >= end {
+            return Cells::new();
+        }
+        match &mut self.rows {
+            Some((keys, vals)) => {
+                let rows = (
+                    gather(keys, order, from, end),
+                    gather(vals, order, from, end),
+                );
+                Cells { rows: Some(rows) }
+            }
             None => unreachable!(),
         }
     }

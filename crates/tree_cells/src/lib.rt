@@ -2,5 +2,6 @@
 #![tactic(auto)]
 
 pub mod cells;
+mod gather;
 pub mod judge;
 pub mod search;

@@ -11,7 +11,7 @@ use tree_array::array::{IndexKey, StoreResult};
 use tree_descent::descent::leaf_for;
 use tree_leaf::arena::{LeafId, NodeId};
 use tree_node::node::{ArenasOf, NodeOf};
-use tree_node::routing::{child_beyond, child_place_beyond};
+use tree_node::routing::child_place_beyond;
 use tree_split::leaf_split::make_room;
 use tree_split::node_split::split_child;
 
@@ -116,12 +116,17 @@ fn store_under<const UPSERT: bool, K: IndexKey, V: Drop, const LEN: usize>(
     let NodeOf::Leaf(node) = arenas.node(id) else {
         unreachable!()
     };
-    let Some(unbounded) = &node.unbounded_child else {
+    let Some(place) = child_place_beyond(
+        &node.children,
+        node.unbounded_child,
+        &key,
+        rightmost,
+    ) else {
         unreachable!()
     };
-    let (leaf, last) = child_beyond(&node.children, unbounded, &key, rightmost);
+    let last = rightmost && place.slot.is_none();
     arenas
-        .leaf_mut(leaf)
+        .leaf_mut(place.child)
         .array_mut()
         .store::<UPSERT>(last, key, val)
 }

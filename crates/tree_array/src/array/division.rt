@@ -1,13 +1,15 @@
 //! How the pairs of an array are divided between two new ones.
 ghost use Rattle.std.specs.Prelude.{◌≡◌, ℕ, ◌+◌, ◌≤◌, [], List, Option, None, length, take, drop, slice_get};
 ghost use Rattle.tree_array.specs.Arrivals.{arrival, boundary, drained, in_order};
-ghost use Rattle.tree_array.specs.Moves.{HasEmptied, HasInTurn};
+ghost use Rattle.tree_array.specs.Moves.{HasEmptied};
 ghost use Rattle.tree_array.specs.Sound.{IsSound};
+ghost use Rattle.tree_cells.specs.Moves.{HasInTurn};
 ghost use Rattle.tree_cells.specs.Tabled.{IsTabled};
 
 use super::ArrayOf;
+use std::mem;
 use tree_cells::cells::Cells;
-use tree_order::order::{clamp, count_rises, in_turn, slot_at};
+use tree_order::order::{clamp, count_rises, in_turn};
 
 impl<K: Ord + Drop, V: Drop, const LEN: usize> ArrayOf<K, V, LEN> {
     /// Returns where to split: how many entries go low, how many there are, and whether all of `LEN` arrived in
@@ -115,8 +117,6 @@ fn move_places<K: Ord, V, const LEN: usize>(
     ensures left { length cells.new ≡ length cells.old }
     ensures whole { length to.new ≡ LEN }
 {
-    for place in from..end {
-        let (key, val) = cells.take(slot_at(order, place));
-        to.put(place - from, key, val);
-    }
+    let moved = cells.take_places(order, from, end);
+    mem::replace(to, moved).discard();
 }
