@@ -1,4 +1,5 @@
 mod Filled
+mod InTurn
 pub mod Picked
 pub mod Slots
 mod Word

@@ -1,6 +1,6 @@
 //! The order of an array: four bits of a word for each place, which name the slot of the entry there. The places
 //! behind the entries repeat the last name, and the place behind all slots holds [`BEYOND`].
-ghost use Rattle.std.specs.Prelude.{◌≡◌, ◌≢◌, ℕ, ◌+◌, ◌-◌, ◌*◌, ◌^◌, ◌<◌, ◌≤◌, length, slice_index_or, take};
+ghost use Rattle.std.specs.Prelude.{◌≡◌, ◌≢◌, ℕ, IsTrue, ◌+◌, ◌-◌, ◌*◌, ◌^◌, ◌<◌, ◌≤◌, length, slice_index_or, take};
 ghost use Rattle.tree_order.specs.Length.{IsLen};
 ghost use Rattle.tree_order.specs.Order.{clamped, named, names, rank_in, rises_in, IsFilled};
 
@@ -176,6 +176,14 @@ pub fn ranks(order: u64, count: u8) -> [u8; MOST]
     ranks
 }
 
+/// Whether the entries stand in the first slots, one after another, as those do that arrived in ascending order.
+fn is_in_turn(order: u64, count: u8) -> bool
+    requires { count ≤ 15 }
+    ensures { IsTrue result → (i : ℕ) → i < count → named order i ≡ i }
+{
+    first_places(order, count) == first_places(IN_TURN, count)
+}
+
 /// How many slots have a higher rank than the one with a rank before them.
 pub fn count_rises(order: u64, count: u8, made: u8) -> u8
     requires few { count ≤ 15 }
@@ -183,6 +191,9 @@ pub fn count_rises(order: u64, count: u8, made: u8) -> u8
     requires made { made ≤ 15 }
     ensures { result ≡ rises_in (rank_in (named order) count) made }
 {
+    if count > 0 && count == made && is_in_turn(order, count) {
+        return count - 1;
+    }
     let ranks = ranks(order, count);
     let mut rises = 0;
     let mut previous = MOST as u8;
