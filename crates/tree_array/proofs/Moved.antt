@@ -34,11 +34,15 @@ clamped_within count place = elim (cases_lt place count) [
 ]
 
 module _ {K V : Type 0} where
-  -- the cells of an array without arrivals
-  pub none_new : (cmp : K → K → Ordering) (cells : List (Option (K × V))) (made : ℕ) (retired : Bool) (array : Arrivals K V) → seen cmp cells made retired ≡ array → array ≡ in_order [] → ((p : ℕ) → made ≤ p → arrival cells p ≡ None) → (p : ℕ) → arrival cells p ≡ None
-  none_new cmp cells made retired array view_is is unmade p =
-      let no_arrivals : length array.arrivals ≡ 0 = ap (λ (a : Arrivals K V). length a.arrivals) is in
-      unmade p (omega (arith, no_arrivals, ap length (arrivals_seen cmp cells made retired view_is), length-picked (arrival cells) made))
+  -- an array without arrivals
+  module _ (cmp : K → K → Ordering) (cells : List (Option (K × V))) (made : ℕ) (retired : Bool) (array : Arrivals K V) (view_is : seen cmp cells made retired ≡ array) (is : array ≡ in_order []) where
+    pub none_made : made ≡ 0
+    none_made =
+        let no_arrivals : length array.arrivals ≡ 0 = ap (λ (a : Arrivals K V). length a.arrivals) is in
+        omega (arith, no_arrivals, ap length (arrivals_seen cmp cells made retired view_is), length-picked (arrival cells) made)
+
+    pub none_new : ((p : ℕ) → made ≤ p → arrival cells p ≡ None) → (p : ℕ) → arrival cells p ≡ None
+    none_new unmade p = unmade p (omega (arith, none_made))
 
 module _ {K V : Type 0} {cmp : K → K → Ordering} (o : IsTotalOrder cmp) {len : ℕ} {old : List (Option (K × V))} {order made count : ℕ} (it : IsTabled cmp len old order made count) where
   abbrev entries : List (K × V)
@@ -123,25 +127,25 @@ module _ {K V : Type 0} {cmp : K → K → Ordering} (o : IsTotalOrder cmp) {len
     pub in_turn_run : {new : List (Option (K × V))} → HasInTurn cells new order from end → HasInTurn old new order from end
     in_turn_run turn = record { here = λ i lt. turn.here i lt ∙ h.kept (from + i) (omega arith) (omega arith); none = turn.none }
 
-  -- the array that all pairs left
-  module _ {new : List (Option (K × V))} (h : HasEmptied old new order count count) where
-    none_left : (p : ℕ) → arrival new p ≡ None
-    none_left p = emptied_all o it h (omega arith) p
+  pub none_left : {new : List (Option (K × V))} → HasEmptied old new order count count → (p : ℕ) → arrival new p ≡ None
+  none_left h p = emptied_all o it h (omega arith) p
 
-    pub emptied_tabled : length new ≡ len → IsTabled cmp len new order made 0
-    emptied_tabled whole = record {
+  -- the array that all pairs left, by whatever order its cells are named
+  module _ (new : List (Option (K × V))) (none : (p : ℕ) → arrival new p ≡ None) where
+    pub emptied_tabled : (order' : ℕ) → length new ≡ len → IsTabled cmp len new order' made 0
+    emptied_tabled order' whole = record {
       is_len = it.is_len;
       whole = whole;
       few_made = it.few_made;
       few_count = omega arith;
-      unmade = λ p le. none_left p;
+      unmade = λ p le. none p;
       in_order = record { stands = λ i lt. absurd (omega arith); ascends = λ i j e f lt small. absurd (omega arith) };
       filled = λ some. absurd (omega arith);
-      listed = λ p e some. absurd (none-some e (sym (none_left p) ∙ some));
+      listed = λ p e some. absurd (none-some e (sym (none p) ∙ some));
     }
 
     pub emptied_seen : (retired : Bool) (array : Arrivals K V) → seen cmp old made retired ≡ array → seen cmp new made true ≡ drained array
     emptied_seen retired array view_is =
         let same : length (picked (arrival new) made) ≡ length array.arrivals = omega (arith, length-picked (arrival new) made, length-picked (arrival old) made, ap length (arrivals_seen cmp old made retired view_is)) in
-        let arrivals : picked (arrival new) made ≡ map (λ _. None) array.arrivals = spent_list (picked (arrival new) made) array.arrivals same (λ p. arrival-all (arrival new) made (λ q le. none_left q) p ∙ none_left p) in
-        same_arrays _ _ _ _ _ _ arrivals refl (entries_none cmp (arrival new) made none_left)
+        let arrivals : picked (arrival new) made ≡ map (λ _. None) array.arrivals = spent_list (picked (arrival new) made) array.arrivals same (λ p. arrival-all (arrival new) made (λ q le. none q) p ∙ none p) in
+        same_arrays _ _ _ _ _ _ arrivals refl (entries_none cmp (arrival new) made none)

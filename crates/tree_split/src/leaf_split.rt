@@ -157,9 +157,7 @@ fn cut_low<K: Ord + Drop, V: Drop, const LEN: usize>(
         mem::swap(array, low);
         return;
     }
-    let mut high = ArrayOf::new();
-    array.distribute(count, low, &mut high);
-    *array = high;
+    array.divide(count, low);
 }
 
 /// Puts a leaf under its separator into a leaf node.

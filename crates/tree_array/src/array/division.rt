@@ -31,6 +31,28 @@ impl<K: Ord + Drop, V: Drop, const LEN: usize> ArrayOf<K, V, LEN> {
         }
     }
 
+    /// Moves the first `boundary` entries into `low`, which must be new, and keeps the others. The entries of both arrays
+    /// arrive anew, in ascending order, so that no slot is spent. Makes no comparisons.
+    pub fn divide(&mut self, boundary: u8, low: &mut Self)
+        requires { low.old ≡ in_order [] }
+        ensures low { low.new ≡ in_order (take boundary self.old.entries) }
+        ensures high { self.new ≡ in_order (drop boundary self.old.entries) }
+    {
+        let count = self.count;
+        let cut = clamp(boundary, count);
+        move_places(&mut self.cells, self.order, 0, cut, &mut low.cells);
+        low.order = in_turn::<LEN>(cut);
+        low.made = cut;
+        low.count = cut;
+        let mut high = Cells::new();
+        move_places(&mut self.cells, self.order, cut, count, &mut high);
+        mem::replace(&mut self.cells, high).discard();
+        self.order = in_turn::<LEN>(count - cut);
+        self.made = count - cut;
+        self.count = count - cut;
+        self.retired = false;
+    }
+
     /// Moves the first `boundary` entries into `low` and the others into `high`, arriving in ascending order.
     /// Afterwards this array is empty and retired. `low` and `high` must be new. Makes no comparisons.
     pub fn distribute(&mut self, boundary: u8, low: &mut Self, high: &mut Self)
@@ -40,17 +62,10 @@ impl<K: Ord + Drop, V: Drop, const LEN: usize> ArrayOf<K, V, LEN> {
         ensures high { high.new ≡ in_order (drop boundary self.old.entries) }
         ensures left { self.new ≡ drained self.old }
     {
-        let count = self.count;
-        let cut = clamp(boundary, count);
-        move_places(&mut self.cells, self.order, 0, cut, &mut low.cells);
-        low.order = in_turn::<LEN>(cut);
-        low.made = cut;
-        low.count = cut;
-        move_places(&mut self.cells, self.order, cut, count, &mut high.cells);
-        high.order = in_turn::<LEN>(count - cut);
-        high.made = count - cut;
-        high.count = count - cut;
-        self.count = 0;
+        let made = self.made;
+        self.divide(boundary, low);
+        mem::swap(self, high);
+        self.made = made;
         self.retired = true;
     }
 
@@ -81,9 +96,7 @@ impl<K: Ord + Drop, V: Drop, const LEN: usize> ArrayOf<K, V, LEN> {
     {
         let _ = &self.cells;
         let mut none = ArrayOf::new();
-        let mut rebuilt = ArrayOf::new();
-        self.distribute(0, &mut none, &mut rebuilt);
-        *self = rebuilt;
+        self.divide(0, &mut none);
     }
 
     /// Takes the entry at this place, if there is one.
