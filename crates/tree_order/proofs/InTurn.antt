@@ -2,7 +2,7 @@
 use Rattle.std.proofs.Common.{◌≡◌, ℕ, zero, suc, ◌+◌, ◌-◌, ◌<◌, ◌≤◌, refl, ◌∙◌, inl, inr, below_more, arith}
 use Rattle.std.proofs.lemmas.Bool.{cases_eq}
 use Rattle.std.proofs.lemmas.Bool.Decides.{nat_tests}
-use Rattle.tree_order.specs.Order.{last_rank, named, rank_in, rises_in}
+use Rattle.tree_order.specs.Order.{named, rank_in, rises_in}
 
 -- the first places name their own numbers
 abbrev Turns : ℕ → Type 0

@@ -1,4 +1,4 @@
-use Rattle.std.proofs.Common.{◌≡◌, ℕ, ◌-◌, ◌≤◌, List, None, false, take, drop, refl, sym, ◌∙◌, ap, rules, arith}
+use Rattle.std.proofs.Common.{◌≡◌, ◌-◌, ◌≤◌, List, None, false, take, drop, sym, ◌∙◌, ap, rules, arith}
 use Rattle.std.proofs.lemmas.List.{length-drop, length-replicate, take_all}
 use mathlib.Core.Bool.{false≢true}
 use Rattle.tree_array.specs.Arrivals.{Arrivals, in_order}

@@ -1,4 +1,4 @@
-use Rattle.std.proofs.Common.{◌≡◌, ◌≢◌, ◌<◌, sym, arith, rules}
+use Rattle.std.proofs.Common.{arith, rules}
 use Rattle.tree_array.proofs.Moved.{emptied_run, in_turn_run, left_stands}
 use Rattle.tree_cells.proofs.Tabled.{few_places, places_apart}
 use Rattle.tree_array.proofs.array.division.move_places.Goals as goal

@@ -1,4 +1,4 @@
-use Rattle.std.proofs.Common.{◌≡◌, length, sym, ◌∙◌, ap, arith}
+use Rattle.std.proofs.Common.{length, sym, ◌∙◌, ap, arith}
 use Rattle.tree_order.specs.Order.{named}
 use Rattle.tree_cells.proofs.Moves.{alike_in_turn, alike_left, none_stands, pairs_in_turn, pairs_left}
 use Rattle.tree_cells.proofs.Sizes.{steps}
