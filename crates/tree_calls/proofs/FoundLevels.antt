@@ -67,6 +67,10 @@ module _ {K V : Type 0} {LEN : ℕ} (cmp : K → K → Ordering) (a : TreeArenas
     part_found (inl part) = rw (up part.stands) (inl part)
     part_found (inr retired) = rw (one retired) (inr (retired_too a id level 1 inner (omega arith) retired))
 
+    -- so the part may be changed at the level that is found
+    pub may_change : IsPart cmp level a id ⊎ IsRetired level a id → (0 < found) × (IsPart cmp found a id ⊎ IsRetired found a id)
+    may_change there = ((is_found (given_at cmp a id level there)).inner, part_found there)
+
     -- a removal under the node is the same at either level, since nothing is removed under a retired one
     pub removed_at : IsPart cmp level a id ⊎ IsRetired level a id → (Says : V → Bool → Type 0) (b : TreeArenas K V LEN) (result : RemoveResult) (key : K) → RemovesUnder cmp Says found a b id result key → RemovesUnder cmp Says level a b id result key
     removed_at (inl part) Says b result key removes = rw (up part.stands) at removes
@@ -97,8 +101,9 @@ module _ {K V : Type 0} {LEN : ℕ} (cmp : K → K → Ordering) (a : TreeArenas
         (0, rw same (childless_cut cmp low high level a id inner (retired_node cmp level a id inner retired)))
 
   module _ (is : IsFound) where
-    pub linked_at : IsLinked level a id → IsLinked found a id
-    linked_at linked = (linked.0, linked.1, rw is.leaves linked.2)
+    -- a walk may begin under the node at the level that is found
+    pub may_begin : IsLinked level a id → (0 < found) × (StandsOrRetired cmp found a id × IsLinked found a id)
+    may_begin linked = (is.inner, (is.stands, (linked.0, linked.1, rw is.leaves linked.2)))
 
     -- a walk that begins a part begins it at either level
     pub begins_at : (way : Way) (result : Option (LeafWalk K V LEN)) → MatchOption result (walk found a id ≡ []) (BeginsPart way found a id) → MatchOption result (walk level a id ≡ []) (BeginsPart way level a id)

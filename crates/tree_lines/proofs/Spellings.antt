@@ -10,9 +10,9 @@ use mathlib.Core.Bool.{false≢true}
 use Rattle.std.proofs.lemmas.Bool.Decides.{nat_tests}
 use Rattle.std.proofs.lemmas.Slice.Eq.{bytes_eq-Decides}
 use Rattle.tree_lines.specs.declared.requests.Request.{Request}
-use Rattle.tree_lines.specs.declared.requests.Request.TheVariants.{Insert, Upsert, Remove, RemoveIf, RemoveRange, Clear, Peek, Contains, Len, Depth, Spare, Iter, Back, Range, Locate}
+use Rattle.tree_lines.specs.declared.requests.Request.TheVariants.{Insert, Upsert, Remove, RemoveIf, RemoveRange, Peek, Contains, Range, Locate}
 use Rattle.tree_lines.specs.Lines.{Fits, FitsBound, name_of, arguments_of, behind_spaces, bound_text, spelling}
-use Rattle.tree_lines.specs.Words.{IsWord, IsBehindWord, ReadsAs, ReadsArguments}
+use Rattle.tree_lines.specs.Words.{BothBoundsFit, BothFit, IsWord, IsBehindWord, ReadsAs, ReadsArguments, one_number, two_bounds, two_numbers}
 use Rattle.tree_lines.specs.Progress.{clip}
 use Rattle.tree_lines.proofs.FirstWords.{one_first_word}
 use Rattle.tree_lines.proofs.Decimals.{length-decimal}
@@ -20,20 +20,7 @@ use Rattle.tree_lines.proofs.Decimals.{length-decimal}
 -- the name of a request is a word
 IsWord-name : (request : Request) → IsWord (name_of request)
 IsWord-name (Insert key value) = search rules
-IsWord-name (Upsert key value) = search rules
-IsWord-name (Remove key) = search rules
-IsWord-name (RemoveIf key value) = search rules
-IsWord-name (RemoveRange low high) = search rules
-IsWord-name Clear = search rules
-IsWord-name (Peek key) = search rules
-IsWord-name (Contains key) = search rules
-IsWord-name Len = search rules
-IsWord-name Depth = search rules
-IsWord-name Spare = search rules
-IsWord-name Iter = search rules
-IsWord-name Back = search rules
-IsWord-name (Range low high) = search rules
-IsWord-name (Locate key) = search rules
+IsWord-name request = search rules
 
 -- a space follows it, or nothing
 IsBehindWord-spaces : (words : List (List ℕ)) → IsBehindWord (behind_spaces words)
@@ -72,23 +59,27 @@ length-bound (Included n) small = omega (arith, length-decimal n small)
 length-bound (Excluded n) small = omega (arith, length-decimal n small)
 length-bound Unbounded small = omega arith
 
+one_short : (n : ℕ) → n < 2 ^ 64 → length (one_number n) ≤ 22
+one_short n small = omega (arith, length-spaces (decimal n ∷ []) (length-number n small, tt))
+
+two_short : (pair : ℕ × ℕ) → BothFit pair → length (two_numbers pair) ≤ 44
+two_short pair fits = omega (arith, length-spaces (decimal pair.0 ∷ decimal pair.1 ∷ []) (length-number pair.0 fits.0, (length-number pair.1 fits.1, tt)))
+
+bounds_short : (bounds : Bound ℕ × Bound ℕ) → BothBoundsFit bounds → length (two_bounds bounds) ≤ 44
+bounds_short bounds fits = omega (arith, length-spaces (bound_text bounds.0 ∷ bound_text bounds.1 ∷ []) (length-bound bounds.0 fits.0, (length-bound bounds.1 fits.1, tt)))
+
 -- a request is a short line
 spelling_short : (request : Request) → Fits request → length (spelling request) ≤ 256
-spelling_short (Insert key value) fits = omega (arith, length-spaces (decimal key ∷ decimal value ∷ []) (length-number key fits.0, (length-number value fits.1, tt)))
-spelling_short (Upsert key value) fits = omega (arith, length-spaces (decimal key ∷ decimal value ∷ []) (length-number key fits.0, (length-number value fits.1, tt)))
-spelling_short (Remove key) fits = omega (arith, length-spaces (decimal key ∷ []) (length-number key fits, tt))
-spelling_short (RemoveIf key value) fits = omega (arith, length-spaces (decimal key ∷ decimal value ∷ []) (length-number key fits.0, (length-number value fits.1, tt)))
-spelling_short (RemoveRange low high) fits = omega (arith, length-spaces (bound_text low ∷ bound_text high ∷ []) (length-bound low fits.0, (length-bound high fits.1, tt)))
-spelling_short Clear fits = omega arith
-spelling_short (Peek key) fits = omega (arith, length-spaces (decimal key ∷ []) (length-number key fits, tt))
-spelling_short (Contains key) fits = omega (arith, length-spaces (decimal key ∷ []) (length-number key fits, tt))
-spelling_short Len fits = omega arith
-spelling_short Depth fits = omega arith
-spelling_short Spare fits = omega arith
-spelling_short Iter fits = omega arith
-spelling_short Back fits = omega arith
-spelling_short (Range low high) fits = omega (arith, length-spaces (bound_text low ∷ bound_text high ∷ []) (length-bound low fits.0, (length-bound high fits.1, tt)))
-spelling_short (Locate key) fits = omega (arith, length-spaces (decimal key ∷ []) (length-number key fits, tt))
+spelling_short (Insert key value) fits = omega (arith, two_short (key, value) fits)
+spelling_short (Upsert key value) fits = omega (arith, two_short (key, value) fits)
+spelling_short (Remove key) fits = omega (arith, one_short key fits)
+spelling_short (RemoveIf key value) fits = omega (arith, two_short (key, value) fits)
+spelling_short (RemoveRange low high) fits = omega (arith, bounds_short (low, high) fits)
+spelling_short (Peek key) fits = omega (arith, one_short key fits)
+spelling_short (Contains key) fits = omega (arith, one_short key fits)
+spelling_short (Range low high) fits = omega (arith, bounds_short (low, high) fits)
+spelling_short (Locate key) fits = omega (arith, one_short key fits)
+spelling_short request fits = omega arith
 
 -- a line of which nothing is kept is longer than 256 bytes
 long_by : (b : Bool) (line : List ℕ) → nat_le (length line) 256 ≡ b → clip line ≡ None → 256 < length line

@@ -1,6 +1,6 @@
 //! Parses the request that a line spells.
-ghost use Rattle.std.specs.Prelude.{codes};
-ghost use Rattle.tree_lines.specs.Lines.{Fits, spelling};
+ghost use Rattle.std.specs.Prelude.{◌≡◌, [], codes};
+ghost use Rattle.tree_lines.specs.Lines.{Fits, arguments_of, name_of, spelling};
 ghost use Rattle.tree_lines.specs.Words.{ReadsArguments, ReadsAs};
 
 use crate::bounds::two_bounds_of;
@@ -64,7 +64,7 @@ pub fn request_of(line: &[u8]) -> Option<Request>
         return remove_range_of(arguments);
     }
     if name == b"clear".as_slice() {
-        return clear_of(arguments);
+        return without_arguments(Request::Clear, arguments);
     }
     if name == b"peek".as_slice() {
         return peek_of(arguments);
@@ -73,25 +73,36 @@ pub fn request_of(line: &[u8]) -> Option<Request>
         return contains_of(arguments);
     }
     if name == b"len".as_slice() {
-        return len_of(arguments);
+        return without_arguments(Request::Len, arguments);
     }
     if name == b"depth".as_slice() {
-        return depth_of(arguments);
+        return without_arguments(Request::Depth, arguments);
     }
     if name == b"spare".as_slice() {
-        return spare_of(arguments);
+        return without_arguments(Request::Spare, arguments);
     }
     if name == b"iter".as_slice() {
-        return iter_of(arguments);
+        return without_arguments(Request::Iter, arguments);
     }
     if name == b"back".as_slice() {
-        return back_of(arguments);
+        return without_arguments(Request::Back, arguments);
     }
     if name == b"range".as_slice() {
         return range_of(arguments);
     }
     if name == b"locate".as_slice() {
         return locate_of(arguments);
+    }
+    None
+}
+
+// Returns the request, which has no arguments, if its line has none.
+fn without_arguments(request: Request, arguments: &[u8]) -> Option<Request>
+    requires { arguments_of request ≡ [] }
+    ensures { ReadsArguments (name_of request) arguments.now result }
+{
+    if arguments.is_empty() {
+        return Some(request);
     }
     None
 }
@@ -146,16 +157,6 @@ fn remove_range_of(arguments: &[u8]) -> Option<Request>
     }
 }
 
-// Parses `clear`, which has no arguments.
-fn clear_of(arguments: &[u8]) -> Option<Request>
-    ensures { ReadsArguments (codes "clear") arguments.now result }
-{
-    if arguments.is_empty() {
-        return Some(Request::Clear);
-    }
-    None
-}
-
 // Parses the argument of `peek`.
 fn peek_of(arguments: &[u8]) -> Option<Request>
     ensures { ReadsArguments (codes "peek") arguments.now result }
@@ -174,56 +175,6 @@ fn contains_of(arguments: &[u8]) -> Option<Request>
         Some(key) => Some(Request::Contains(key)),
         None => None,
     }
-}
-
-// Parses `len`, which has no arguments.
-fn len_of(arguments: &[u8]) -> Option<Request>
-    ensures { ReadsArguments (codes "len") arguments.now result }
-{
-    if arguments.is_empty() {
-        return Some(Request::Len);
-    }
-    None
-}
-
-// Parses `depth`, which has no arguments.
-fn depth_of(arguments: &[u8]) -> Option<Request>
-    ensures { ReadsArguments (codes "depth") arguments.now result }
-{
-    if arguments.is_empty() {
-        return Some(Request::Depth);
-    }
-    None
-}
-
-// Parses `spare`, which has no arguments.
-fn spare_of(arguments: &[u8]) -> Option<Request>
-    ensures { ReadsArguments (codes "spare") arguments.now result }
-{
-    if arguments.is_empty() {
-        return Some(Request::Spare);
-    }
-    None
-}
-
-// Parses `iter`, which has no arguments.
-fn iter_of(arguments: &[u8]) -> Option<Request>
-    ensures { ReadsArguments (codes "iter") arguments.now result }
-{
-    if arguments.is_empty() {
-        return Some(Request::Iter);
-    }
-    None
-}
-
-// Parses `back`, which has no arguments.
-fn back_of(arguments: &[u8]) -> Option<Request>
-    ensures { ReadsArguments (codes "back") arguments.now result }
-{
-    if arguments.is_empty() {
-        return Some(Request::Back);
-    }
-    None
 }
 
 // Parses the arguments of `range`.

@@ -11,29 +11,25 @@ use Rattle.tree_node.specs.declared.node.NodeOf.{NodeOf}
 use Rattle.tree_node.specs.declared.node.NodeOf.TheVariants.{Internal, Leaf}
 use Rattle.tree_node.specs.Arenas.{TreeArenas}
 use Rattle.tree_node.specs.Parts.{IsPart}
-use Rattle.tree_node.specs.Tree.{HasChildFor, HasKind, IsRetired, IsRetiredNode, Stands, child_at, children_of, is_from, keyed}
+use Rattle.tree_node.specs.Tree.{HasChildFor, IsRetired, IsRetiredNode, Stands, child_at, children_of, is_from, keyed}
 use Rattle.tree_node.proofs.ChildChanges.{front, back, was}
 use Rattle.tree_node.proofs.Children.{node_there}
 use Rattle.tree_node.proofs.Frames.{head_here}
+use Rattle.tree_node.proofs.Levels.{kind_of}
 use Rattle.tree_node.proofs.Standing.{node_is}
 
 module _ {K V : Type 0} {LEN : ℕ} {cmp : K → K → Ordering} where
-  kind_at : (level : ℕ) (a : TreeArenas K V LEN) (id : ℕ) → IsPart cmp (suc level) a id → (node : NodeOf K LEN) → get a.nodes id ≡ Some node → HasKind level node
-  kind_at level a id part node here =
-      let s : Stands cmp (suc level) a None id None = part.stands in
-      rw (node_is level a None id None s node here) at s.kind
-
   -- a node over nodes is above the first level
   pub inner_level : (level : ℕ) → 0 < level → (a : TreeArenas K V LEN) (id : ℕ) → IsPart cmp level a id → (node : InternalNodeOf K LEN) → get a.nodes id ≡ Some (Internal node) → 1 < level
   inner_level zero deep a id part node here = absurd (omega (arith, deep))
-  inner_level (suc zero) deep a id part node here = absurd (kind_at zero a id part (Internal node) here)
+  inner_level (suc zero) deep a id part node here = absurd (kind_of cmp a id 0 (Internal node) part.stands here)
   inner_level (suc (suc level)) deep a id part node here = omega arith
 
   -- and one over leaves is at it
   pub outer_level : (level : ℕ) → 0 < level → (a : TreeArenas K V LEN) (id : ℕ) → IsPart cmp level a id → (node : LeafNodeOf K LEN) → get a.nodes id ≡ Some (Leaf node) → level ≡ 1
   outer_level zero deep a id part node here = absurd (omega (arith, deep))
   outer_level (suc zero) deep a id part node here = refl
-  outer_level (suc (suc level)) deep a id part node here = absurd (kind_at (suc level) a id part (Leaf node) here)
+  outer_level (suc (suc level)) deep a id part node here = absurd (kind_of cmp a id (suc level) (Leaf node) part.stands here)
 
   -- a node that stands has a child for each key
   pub some_child : (level : ℕ) → 0 < level → (a : TreeArenas K V LEN) (id : ℕ) → IsPart cmp level a id → (key : K) → (child : ℕ) × HasChildFor cmp key (get a.nodes id) child

@@ -13,7 +13,7 @@ pub node-requires : goal.node-requires
 node-requires g c = (search fits, node_used c.args.depth c.requires.node c.args.arenas.now c.args.root (inl c.requires.part))
 
 pub new-top-requires : goal.new-top-requires
-new-top-requires g c = (search (rules, fits, c.requires-raw), c.slots_left.ensures.len)
+new-top-requires g c = (search (rules, fits), c.slots_left.ensures.len)
 
 pub add_node-requires : goal.add_node-requires
 add_node-requires g c = search fits

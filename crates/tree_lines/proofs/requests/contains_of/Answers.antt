@@ -1,8 +1,6 @@
-use Rattle.std.proofs.Common.{◌≡◌}
-use Rattle.tree_lines.specs.Lines.{Fits, arguments_of, behind_spaces}
-use Rattle.tree_lines.proofs.Names.{only_contains}
+use Rattle.tree_lines.proofs.Names.{unread_contains}
 use Rattle.tree_lines.proofs.requests.contains_of.Goals as goal
 
 -- the argument is not a number
 pub returns-in-None : goal.returns-in-None
-returns-in-None c = λ request fits e. only_contains (λ r. Fits r → c.args.arguments.now ≡ behind_spaces (arguments_of r) → ⊥) (λ key fits e. c.in-None.ensures key fits e) request fits.1 fits.0 e
+returns-in-None c = unread_contains c.args.arguments.now c.in-None.ensures

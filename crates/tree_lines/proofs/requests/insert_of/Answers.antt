@@ -1,8 +1,6 @@
-use Rattle.std.proofs.Common.{◌≡◌}
-use Rattle.tree_lines.specs.Lines.{Fits, arguments_of, behind_spaces}
-use Rattle.tree_lines.proofs.Names.{only_insert}
+use Rattle.tree_lines.proofs.Names.{unread_insert}
 use Rattle.tree_lines.proofs.requests.insert_of.Goals as goal
 
 -- the arguments are not two numbers
 pub returns-in-None : goal.returns-in-None
-returns-in-None c = λ request fits e. only_insert (λ r. Fits r → c.args.arguments.now ≡ behind_spaces (arguments_of r) → ⊥) (λ key value fits e. c.in-None.ensures (key, value) fits e) request fits.1 fits.0 e
+returns-in-None c = unread_insert c.args.arguments.now c.in-None.ensures

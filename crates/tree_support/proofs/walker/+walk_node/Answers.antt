@@ -34,7 +34,7 @@ walk_node-requires g t c κs within =
     let turn = child_turn c.children-children.result.now _ _ _ c.loop-slot.invariant c.in-Some-slot.ensures.steps _ c.val.ensures in
     let inner : 0 < c.args.level - 1 = over.inner in
     let stands : StandsOrRetired nat_cmp (c.args.level - 1) c.args.arenas.now c.val.result.now = holds_in_turn c.children-children.result.now _ _ (rw (← c.children-children.ensures) at over.stand) _ _ _ turn in
-    (search rules, (within, (search rules, (search (fits, c.requires-raw), (search (fits, c.requires-raw), (inner, stands))))))
+    (search rules, (within, (search rules, (search fits, (search fits, (inner, stands))))))
 
 pub loop-slot-preserved : goal.loop-slot-preserved
 loop-slot-preserved g t c = (child_turn c.children-children.result.now _ _ _ c.loop-slot.invariant c.in-Some-slot.ensures.steps _ c.val.ensures).over
@@ -44,4 +44,4 @@ walk_node-requires-in-Internal g t c κs within =
     let over = over_nodes nat_cmp c.args.arenas.now c.args.id c.args.level c.requires.node c.requires.stands c.in-Internal.node (rw c.in-Internal.is at c.node.ensures) _ (sym c.unbounded_child-in-Internal.ensures ∙ c.in-Some-unbounded_child.is) in
     let inner : 0 < c.args.level - 1 = over.inner in
     let stands : StandsOrRetired nat_cmp (c.args.level - 1) c.args.arenas.now c.in-Some-unbounded_child.last = holds_at_last c.children-children.result.now _ _ (rw (← c.children-children.ensures) at over.stand) in
-    (search rules, (within, (search rules, (search (fits, c.requires-raw), (search (fits, c.requires-raw), (inner, stands))))))
+    (search rules, (within, (search rules, (search fits, (search fits, (inner, stands))))))

@@ -1,25 +1,17 @@
 use Rattle.std.proofs.Common.{rules, ◌<◌}
-use Rattle.tree_walk.specs.Ends.{IsLinked}
-use Rattle.tree_node.specs.Tree.{StandsOrRetired}
 use Rattle.tree_node.proofs.Sizes.{fits}
-use Rattle.tree_calls.proofs.FoundLevels.{is_found, linked_at, approximates_at}
+use Rattle.tree_calls.proofs.FoundLevels.{is_found, may_begin, approximates_at}
 use Rattle.tree_calls.proofs.node_calls.NodeCalls.approximate.Goals as goal
 
 pub level_of-level-requires : goal.level_of-level-requires
 level_of-level-requires g c κs within =
-    let inner : 0 < g.level = g.Self.NodeCalls.above_leaves g.level (assumption c.requires) in
-    let given : StandsOrRetired g.K.Ord.cmp g.level c.args.arenas.now c.args.id = assumption c.requires in
-    (within.0, (within.1, (search rules, (search rules, (search fits, (inner, given))))))
+    (within.0, (within.1, (search rules, (search rules, (search fits, (g.Self.NodeCalls.above_leaves g.level (assumption c.requires), assumption c.requires))))))
 
 pub approximate_at-requires : goal.approximate_at-requires
 approximate_at-requires g c =
     let inner : 0 < g.level = g.Self.NodeCalls.above_leaves g.level (assumption c.requires) in
     let found = is_found g.K.Ord.cmp c.args.arenas.now c.args.id g.level c.level_of-level.result inner c.level_of-level.ensures.stands c.level_of-level.ensures.retired (assumption c.requires) in
-    let linked : IsLinked g.level c.args.arenas.now c.args.id = assumption c.requires in
-    let low : 0 < c.level_of-level.result = found.inner in
-    let stands : StandsOrRetired g.K.Ord.cmp c.level_of-level.result c.args.arenas.now c.args.id = found.stands in
-    let linked_low : IsLinked c.level_of-level.result c.args.arenas.now c.args.id = linked_at _ _ _ _ _ found linked in
-    search rules
+    (search rules, (search rules, (search fits, may_begin _ _ _ _ _ found (assumption c.requires))))
 
 pub returns : goal.returns
 returns g c =

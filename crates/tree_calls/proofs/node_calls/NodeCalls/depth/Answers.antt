@@ -1,10 +1,7 @@
-use Rattle.std.proofs.Common.{rules, ◌<◌}
-use Rattle.tree_node.specs.Tree.{StandsOrRetired}
+use Rattle.std.proofs.Common.{rules}
 use Rattle.tree_node.proofs.Sizes.{fits}
 use Rattle.tree_calls.proofs.node_calls.NodeCalls.depth.Goals as goal
 
 pub level_of-requires : goal.level_of-requires
 level_of-requires g c κs within =
-    let inner : 0 < g.level = g.Self.NodeCalls.above_leaves g.level (assumption c.requires) in
-    let given : StandsOrRetired g.K.Ord.cmp g.level c.args.arenas.now c.args.id = assumption c.requires in
-    (within.0, (within.1, (search rules, (search rules, (search fits, (inner, given))))))
+    (within.0, (within.1, (search rules, (search rules, (search fits, (g.Self.NodeCalls.above_leaves g.level (assumption c.requires), assumption c.requires))))))

@@ -1,27 +1,18 @@
-use Rattle.std.proofs.Common.{rules, arith, ◌≡◌, ◌⊎◌, Ok, Err, ◌<◌, refl, ap}
+use Rattle.std.proofs.Common.{rules, arith, ◌≡◌, Ok, Err, ◌<◌, refl, ap}
 use Rattle.std.proofs.lemmas.Result.{err_from_is_err_and}
 use Rattle.tree_array.specs.declared.answers.StoreResult.TheVariants.{Full}
-use Rattle.tree_node.specs.Parts.{IsPart}
-use Rattle.tree_node.specs.Tree.{IsRetired, StandsOrRetired}
 use Rattle.tree_node.proofs.Sizes.{fits}
-use Rattle.tree_calls.proofs.FoundLevels.{given_at, is_found, part_found, retired_too}
+use Rattle.tree_calls.proofs.FoundLevels.{given_at, may_change, retired_too}
 use Rattle.tree_calls.proofs.node_calls.NodeCalls.insert.Goals as goal
 
 pub level_of-level-requires : goal.level_of-level-requires
 level_of-level-requires g c κs within =
-    let inner : 0 < g.level = g.Self.NodeCalls.above_leaves g.level (assumption c.requires) in
-    let given : StandsOrRetired g.K.Ord.cmp g.level c.args.arenas.now c.args.id = given_at g.K.Ord.cmp c.args.arenas.now c.args.id g.level (assumption c.requires) in
-    (within.0, (within.1, (search rules, (search rules, (search fits, (inner, given))))))
+    (within.0, (within.1, (search rules, (search rules, (search fits, (g.Self.NodeCalls.above_leaves g.level (assumption c.requires), given_at g.K.Ord.cmp c.args.arenas.now c.args.id g.level (assumption c.requires)))))))
 
 pub insert_at-requires : goal.insert_at-requires
 insert_at-requires g c =
-    let inner : 0 < g.level = g.Self.NodeCalls.above_leaves g.level (assumption c.requires) in
-    let there : IsPart g.K.Ord.cmp g.level c.args.arenas.now c.args.id ⊎ IsRetired g.level c.args.arenas.now c.args.id = assumption c.requires in
-    let found = is_found g.K.Ord.cmp c.args.arenas.now c.args.id g.level c.level_of-level.result inner c.level_of-level.ensures.stands c.level_of-level.ensures.retired (given_at g.K.Ord.cmp c.args.arenas.now c.args.id g.level there) in
-    let low : 0 < c.level_of-level.result = found.inner in
-    let part : IsPart g.K.Ord.cmp c.level_of-level.result c.args.arenas.now c.args.id ⊎ IsRetired c.level_of-level.result c.args.arenas.now c.args.id =
-    part_found g.K.Ord.cmp c.args.arenas.now c.args.id g.level c.level_of-level.result inner c.level_of-level.ensures.stands c.level_of-level.ensures.retired there in
-    search rules
+    let inner = g.Self.NodeCalls.above_leaves g.level (assumption c.requires) in
+    (search rules, (search fits, may_change g.K.Ord.cmp c.args.arenas.now c.args.id g.level c.level_of-level.result inner c.level_of-level.ensures.stands c.level_of-level.ensures.retired (assumption c.requires)))
 
 pub returns-in_err-answer-clause-inserts : goal.returns-in_err-answer-clause-inserts
 returns-in_err-answer-clause-inserts g c part =

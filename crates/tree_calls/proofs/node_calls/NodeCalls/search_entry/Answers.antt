@@ -7,9 +7,7 @@ use Rattle.tree_calls.proofs.node_calls.NodeCalls.search_entry.Goals as goal
 
 pub level_of-level-requires : goal.level_of-level-requires
 level_of-level-requires g c κs within =
-    let inner : 0 < g.level = g.Self.NodeCalls.above_leaves g.level (assumption c.requires) in
-    let given : StandsOrRetired g.K.Ord.cmp g.level c.args.arenas.now c.args.id = assumption c.requires in
-    (within.0, (within.1, (search rules, (search rules, (search fits, (inner, given))))))
+    (within.0, (within.1, (search rules, (search rules, (search fits, (g.Self.NodeCalls.above_leaves g.level (assumption c.requires), assumption c.requires))))))
 
 pub search_at-requires : goal.search_at-requires
 search_at-requires g c =

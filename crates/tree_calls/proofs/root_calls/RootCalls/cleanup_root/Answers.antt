@@ -1,35 +1,23 @@
-use Rattle.std.proofs.Common.{rules, ◌⊎◌, ◌<◌}
-use Rattle.slab.specs.Slab.{get}
-use Rattle.tree_node.specs.Parts.{IsPart}
-use Rattle.tree_node.specs.Tree.{IsOfLevel, IsRetired}
+use Rattle.std.proofs.Common.{rules}
 use Rattle.tree_node.proofs.Sizes.{fits}
 use Rattle.tree_calls.proofs.FoundRoots.{root_found, lowered_at}
 use Rattle.tree_calls.proofs.root_calls.RootCalls.cleanup_root.Goals as goal
 
 pub level_of_root-level-requires : goal.level_of_root-level-requires
 level_of_root-level-requires g c κs within =
-    let inner : 0 < g.level = assumption c.requires in
-    let there : IsPart g.K.Ord.cmp g.level c.args.arenas.now c.args.root ⊎ IsRetired g.level c.args.arenas.now c.args.root = assumption c.requires in
-    let kind : IsOfLevel g.level (get c.args.arenas.now.nodes c.args.root) = assumption c.requires in
-    (within.0, (within.1, (search rules, (search rules, (search fits, (inner, (there, kind)))))))
+    (within.0, (within.1, (search rules, (search rules, (search fits, (assumption c.requires, (assumption c.requires, assumption c.requires)))))))
 
 pub lower_root_at-requires : goal.lower_root_at-requires
 lower_root_at-requires g c =
-    let inner : 0 < g.level = assumption c.requires in
-    let there : IsPart g.K.Ord.cmp g.level c.args.arenas.now c.args.root ⊎ IsRetired g.level c.args.arenas.now c.args.root = assumption c.requires in
     let found = c.level_of_root-level.ensures in
-    (search rules, (search fits, (found.node, (root_found g.K.Ord.cmp c.args.arenas.now c.args.root g.level c.level_of_root-level.result inner found.node found.level there, found.kind))))
+    (search rules, (search fits, (found.node, (root_found g.K.Ord.cmp c.args.arenas.now c.args.root g.level c.level_of_root-level.result (assumption c.requires) found.node found.level (assumption c.requires), found.kind))))
 
 pub returns-in_err-id : goal.returns-in_err-id
 returns-in_err-id g c =
-    let inner : 0 < g.level = assumption c.requires in
-    let there : IsPart g.K.Ord.cmp g.level c.args.arenas.now c.args.root ⊎ IsRetired g.level c.args.arenas.now c.args.root = assumption c.requires in
     let found = c.level_of_root-level.ensures in
-    rw c.from_residual.ensures (lowered_at g.K.Ord.cmp c.args.arenas.now c.args.root g.level c.level_of_root-level.result inner found.node found.level there _ _ (rw c.in_err-id.was at c.lower_root_at.ensures))
+    rw c.from_residual.ensures (lowered_at g.K.Ord.cmp c.args.arenas.now c.args.root g.level c.level_of_root-level.result (assumption c.requires) found.node found.level (assumption c.requires) _ _ (rw c.in_err-id.was at c.lower_root_at.ensures))
 
 pub returns : goal.returns
 returns g c =
-    let inner : 0 < g.level = assumption c.requires in
-    let there : IsPart g.K.Ord.cmp g.level c.args.arenas.now c.args.root ⊎ IsRetired g.level c.args.arenas.now c.args.root = assumption c.requires in
     let found = c.level_of_root-level.ensures in
-    (_, lowered_at g.K.Ord.cmp c.args.arenas.now c.args.root g.level c.level_of_root-level.result inner found.node found.level there _ _ (rw c.in_ok-id.was at c.lower_root_at.ensures))
+    (_, lowered_at g.K.Ord.cmp c.args.arenas.now c.args.root g.level c.level_of_root-level.result (assumption c.requires) found.node found.level (assumption c.requires) _ _ (rw c.in_ok-id.was at c.lower_root_at.ensures))

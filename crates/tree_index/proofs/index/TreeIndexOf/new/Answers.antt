@@ -2,4 +2,4 @@ use Rattle.tree_node.proofs.Sizes.{fits}
 use Rattle.tree_index.proofs.index.TreeIndexOf.new.Goals as goal
 
 pub new-requires : goal.new-requires
-new-requires g c = search (fits, c.requires-raw)
+new-requires g c = search fits
