@@ -68,12 +68,21 @@ impl<K, V, const LEN: usize> Cells<K, V, LEN> {
                 keys.put(cell as usize, key);
                 vals.put(cell as usize, val);
             }
-            None => {
-                let rows = (Row::with(cell as usize, key), Row::with(cell as usize, val));
-                if let Some((_keys, _vals)) = mem::replace(&mut self.rows, Some(rows)) {
-                    unreachable!()
-                }
-            }
+            None => self.begin(cell, key, val),
+        }
+    }
+
+    /// Makes the rows, with a first pair in a cell. Its own function, so that a put into rows that are there is short.
+    #[inline(never)]
+    fn begin(&mut self, cell: u8, key: K, val: V)
+        requires within { cell < LEN }
+        requires bare { self.old ≡ replicate LEN None }
+        ensures { self.new ≡ slice_set self.old cell (Some (key, val)) }
+    {
+        let rows = (Row::with(cell as usize, key), Row::with(cell as usize, val));
+        if let Some((keys, vals)) = mem::replace(&mut self.rows, Some(rows)) {
+            keys.discard();
+            vals.discard();
         }
     }
 

@@ -26,6 +26,7 @@ pub struct LeafPlace {
 /// 3 among 7, and with `rightmost` one more at one level. Changes nothing, and so needs no way back.
 ///
 /// The caller must see that a well-formed part of a tree, or a retired node, stands under the number.
+#[inline(always)]
 pub fn leaf_for<K: Ord + Drop, V: Drop, const LEN: usize>(
     arenas: &ArenasOf<K, V, LEN>,
     level: usize,

@@ -257,6 +257,7 @@ impl<K: IndexKey, V: Drop, const LEN: usize> TreeIndexOf<K, V, LEN> {
     }
 
     /// Stores a pair and counts it. With `UPSERT` it replaces the pair with an equal key.
+    #[inline(always)]
     fn store<const UPSERT: bool>(&mut self, key: K, value: V) -> Result<Stored, InsertError<K, V>>
         ensures { StoresPair K.cmp UPSERT LEN self.old self.new key value result }
     {

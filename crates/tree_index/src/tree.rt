@@ -57,6 +57,7 @@ impl<K: IndexKey, V: Drop, const LEN: usize> Tree<K, V, LEN> {
     ///
     /// Returns `Err` with the pair if an equal key is there and `UPSERT` is false, or if memory is refused. Makes at
     /// most `LEN` comparisons a level and in the leaf; if the leaf is full, it descends once more.
+    #[inline(always)]
     pub fn store<const UPSERT: bool>(&mut self, key: K, val: V) -> Result<Stored, InsertError<K, V>>
         requires len { IsLen LEN }
         requires whole { IsWhole K.cmp self.old }

@@ -31,6 +31,7 @@ use tree_split::node_split::split_child;
 /// anew, at the child's parent. Allocates one leaf and one node a level at most. A split of a leaf clones one key.
 ///
 /// The caller must see that a well-formed part of a tree, or a retired node, stands under the number.
+#[inline(always)]
 pub fn insert_at<const UPSERT: bool, K: IndexKey, V: Drop, const LEN: usize>(
     arenas: &mut ArenasOf<K, V, LEN>,
     level: usize,
@@ -116,12 +117,8 @@ fn store_under<const UPSERT: bool, K: IndexKey, V: Drop, const LEN: usize>(
     let NodeOf::Leaf(node) = arenas.node(id) else {
         unreachable!()
     };
-    let Some(place) = child_place_beyond(
-        &node.children,
-        node.unbounded_child,
-        &key,
-        rightmost,
-    ) else {
+    let Some(place) = child_place_beyond(&node.children, node.unbounded_child, &key, rightmost)
+    else {
         unreachable!()
     };
     let last = rightmost && place.slot.is_none();

@@ -77,6 +77,7 @@ pub fn child_place_beyond<K: Ord + Drop, I: Copy + Drop, const LEN: usize>(
 /// Returns the child that a key belongs to, where `unbounded` is the unbounded one, and whether it is that one by a way
 /// that was `rightmost` so far. With `rightmost` it compares the key with the last separator first, as
 /// [`child_place_beyond`] does.
+#[inline(always)]
 pub fn child_beyond<K: Ord + Drop, I: Copy + Drop, const LEN: usize>(
     children: &ArrayOf<K, I, LEN>,
     unbounded: &I,

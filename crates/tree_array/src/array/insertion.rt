@@ -22,6 +22,7 @@ impl<K: Ord + Drop, V: Drop, const LEN: usize> ArrayOf<K, V, LEN> {
 
     /// Does what [`insert`](ArrayOf::insert) does, and tells whether the key is new. With `rightmost` it compares the key
     /// with the last one first: where that is smaller, this is the only comparison, and else there is one more.
+    #[inline(always)]
     pub fn store<const UPSERT: bool>(
         &mut self,
         rightmost: bool,
@@ -59,6 +60,7 @@ impl<K: Ord + Drop, V: Drop, const LEN: usize> ArrayOf<K, V, LEN> {
     }
 
     /// Stores a pair whose key is larger than those of the first `place` entries and smaller than the others.
+    #[inline(always)]
     fn let_in(&mut self, place: u8, key: K, val: V)
         requires room { length self.old.arrivals < LEN }
         requires live { self.old.retired ≡ false }

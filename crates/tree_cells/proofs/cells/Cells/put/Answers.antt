@@ -1,6 +1,6 @@
-use Rattle.std.proofs.Common.{Some, set, refl, ◌∙◌, ap, rules}
+use Rattle.std.proofs.Common.{Some, refl, rules}
 use Rattle.tree_cells.proofs.Sizes.{steps}
-use Rattle.tree_cells.proofs.Zips.{as_seen, has_none, pairs_set, stay_alike, first_seen, first_alike}
+use Rattle.tree_cells.proofs.Zips.{as_seen, has_none, pairs_set, stay_alike}
 use Rattle.tree_cells.proofs.cells.Cells.put.Goals as goal
 
 pub put-requires : goal.put-requires
@@ -21,17 +21,8 @@ invariant_of-self g c =
     let seen = as_seen rows.keys.slots rows.vals.slots _ _ (rw rows.is at c.self.view_is) rows.keys.whole rows.vals.whole in
     rw (c.put.ensures, c.put-in-Some.ensures) (stay_alike seen (rw rows.is at c.self.invariant) c.args.cell (Some c.args.key) (Some c.args.val) refl)
 
-pub invariant_of-self-in_default : goal.invariant_of-self-in_default
-invariant_of-self-in_default g c =
-    rw (c.replace.ensures.after, c.with.ensures, c.with-in-None.ensures) (first_alike g.row.LEN c.args.cell c.args.key c.args.val)
-
 pub returns-in-Some : goal.returns-in-Some
 returns-in-Some g c =
     let rows = c.in-Some in
     let seen = as_seen rows.keys.slots rows.vals.slots _ _ (rw rows.is at c.self.view_is) rows.keys.whole rows.vals.whole in
     rw (c.put.ensures, c.put-in-Some.ensures) (pairs_set seen c.args.cell (Some c.args.key) (Some c.args.val))
-
-pub returns-in_default : goal.returns-in_default
-returns-in_default g c =
-    let none = rw c.in-None.is at c.self.view_is in
-    rw (c.replace.ensures.after, c.with.ensures, c.with-in-None.ensures) (first_seen g.row.LEN c.args.cell c.args.key c.args.val ∙ ap (λ pairs. set pairs c.args.cell (Some (c.args.key, c.args.val))) none)
