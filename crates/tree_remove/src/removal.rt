@@ -93,6 +93,7 @@ fn remove_from<K: Ord + Drop, V: Drop, F: FnOnce(&V) -> bool + Drop, const LEN: 
 }
 
 /// Removes the pair with an equal key from a leaf, if the condition says yes of its value.
+#[inline(always)]
 fn remove_in_leaf<K: Ord + Drop, V: Drop, F: FnOnce(&V) -> bool + Drop, const LEN: usize>(
     arenas: &mut ArenasOf<K, V, LEN>,
     id: LeafId,
