@@ -1,5 +1,5 @@
 -- Values that leave the slots of a row place by place and stand in another row in turn, and pairs that do so with them.
-use Rattle.std.proofs.Common.{◌≡◌, ◌≢◌, ◌⊎◌, ℕ, zero, suc, ◌+◌, ◌-◌, ◌<◌, ◌≤◌, List, length, set, replicate, get_or, Option, None, Some, IsSome, is_some, refl, sym, ◌∙◌, ap, subst, inl, inr, arith}
+use Rattle.std.proofs.Common.{◌≡◌, ◌≢◌, ◌⊎◌, ℕ, zero, suc, ◌+◌, ◌-◌, ◌<◌, ◌≤◌, List, length, set, replicate, get_or, Option, None, Some, IsSome, is_some, refl, sym, ◌∙◌, ap, inl, inr, arith}
 use mathlib.Core.Bool.{false≢true}
 use Rattle.std.proofs.lemmas.Bool.{cases_lt, cases_eq}
 use Rattle.std.proofs.lemmas.List.{length-set, length-replicate, get_or-replicate, get_or-set_same, get_or-set_other, get_or_past}
@@ -83,11 +83,9 @@ module _ {X : Type 0} where
         get_or-set_other to (place - from) i (Some x) None other ∙ t.none i (omega arith);
   }
 
-  pub turn_first : (old : List (Option X)) (order from len : ℕ) → 0 < len → (x : X) → get_or old (named order from) None ≡ Some x → HasInTurn old (set (replicate len None) 0 (Some x)) order from (from + 1)
-  turn_first old order from len some x there =
-      let first : from - from ≡ 0 = omega arith in
-      let within : from - from < length (replicate {A = Option X} len None) = omega (arith, length-replicate {A = Option X} len None) in
-      subst (λ (p : ℕ). HasInTurn old (set (replicate len None) p (Some x)) order from (from + 1)) first (turn_more (none_in_turn old _ order from (none_replicated len)) (omega arith) within x there)
+-- what the same `Some` holds is the same
+pub inside : {X : Type 0} {x y : X} → Some x ≡ Some y → x ≡ y
+inside {x} e = ap (λ (o : Option _). elim o [ None ↦ x | Some z ↦ z ]) e
 
 -- no pair stands where there are no rows
 pub none_stands : {X : Type 0} (n p : ℕ) (xs : List (Option X)) → replicate n None ≡ xs → IsSome (get_or xs p None) → ⊥

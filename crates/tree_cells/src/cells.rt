@@ -98,28 +98,34 @@ impl<K, V, const LEN: usize> Cells<K, V, LEN> {
         }
     }
 
-    /// Moves the pairs of the places from `from` up to `end` of an order into the first cells of new ones, in turn. The
-    /// caller must know that each of these places names a pair, and that no two name the same.
-    pub fn take_places(&mut self, order: u64, from: u8, end: u8) -> Self
+    /// Moves the pairs of the places from `from` up to `end` of an order into the first of other cells, in turn. The caller
+    /// must know that each of these places names a pair, that no two name the same, and that the other cells hold none.
+    pub fn take_places(&mut self, order: u64, from: u8, end: u8, to: &mut Self)
         requires few { end ≤ LEN }
         requires places { end ≤ 15 }
         requires stands { (i : ℕ) → from ≤ i → i < end → IsSome (arrival self.old (named order i)) }
         requires apart { (i j : ℕ) → from ≤ i → i < j → j < end → named order i ≢ named order j }
-        ensures turn { HasInTurn self.old result order from end }
+        requires none { (p : ℕ) → arrival to.old p ≡ None }
+        requires whole { length to.old ≡ LEN }
+        ensures turn { HasInTurn self.old to.new order from end }
         ensures left { HasLeft self.old self.new order from end }
         ensures same { length self.new ≡ length self.old }
-        ensures whole { length result ≡ LEN }
+        ensures whole { length to.new ≡ LEN }
     {
         if from >= end {
-            return Cells::new();
+            return;
         }
         match &mut self.rows {
             Some((keys, vals)) => {
-                let rows = (
-                    gather(keys, order, from, end),
-                    gather(vals, order, from, end),
-                );
-                Cells { rows: Some(rows) }
+                let spare = (keys.spare(), vals.spare());
+                let rows = mem::replace(&mut to.rows, Some(spare));
+                Cells { rows }.discard();
+                if let Some((to_keys, to_vals)) = &mut to.rows {
+                    gather(keys, order, from, end, to_keys);
+                    gather(vals, order, from, end, to_vals);
+                } else {
+                    unreachable!()
+                }
             }
             None => unreachable!(),
         }

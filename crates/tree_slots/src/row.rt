@@ -9,7 +9,7 @@ use std::mem::ManuallyDrop;
 ///
 /// As with a [`Slot`], no byte says which slots own a value, and a row is not dropped by itself: it ends by
 /// [`discard`](Row::discard), which wants every slot empty. Each call runs in constant time but
-/// [`with`](Row::with), which copies one value's bytes into each slot.
+/// [`with`](Row::with) and [`spare`](Row::spare), which copy one slot's bytes into each slot.
 pub struct Row<T, const LEN: usize> {
     slots: [Slot<T>; LEN],
     ghost whole: { length slots ≡ LEN },
@@ -59,6 +59,20 @@ impl<T, const LEN: usize> Row<T, LEN> {
             { blank.more() },
         );
         Row { slots }
+    }
+
+    /// A row without a value, whose bytes are copies of the first slot's. This row stays what it was.
+    pub fn spare(&mut self) -> Self
+        requires { 0 < LEN }
+        ensures empty { result.slots ≡ replicate LEN None }
+        ensures same { self.new.slots ≡ self.old.slots }
+    {
+        let mut blank = Blank {
+            slot: self.slots[0].spare(),
+        };
+        let row = Self::empty(&mut blank);
+        blank.discard();
+        row
     }
 
     /// The value of a slot. The caller must know that there is one.

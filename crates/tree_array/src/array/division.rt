@@ -130,6 +130,5 @@ fn move_places<K: Ord, V, const LEN: usize>(
     ensures left { length cells.new ≡ length cells.old }
     ensures whole { length to.new ≡ LEN }
 {
-    let moved = cells.take_places(order, from, end);
-    mem::replace(to, moved).discard();
+    cells.take_places(order, from, end, to);
 }

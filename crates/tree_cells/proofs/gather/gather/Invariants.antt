@@ -3,6 +3,6 @@ use Rattle.tree_cells.proofs.gather.gather.Given as goal
 
 abbrev pub invariant-loop-place : goal.invariant-loop-place
 invariant-loop-place g l = record {
-  turn : HasInTurn l.fn.row.slots l.gathered.slots l.order l.from l.place;
+  turn : HasInTurn l.fn.row.slots l.to.slots l.order l.from l.place;
   left : HasLeft l.fn.row.slots l.row.slots l.order l.from l.place;
 }
