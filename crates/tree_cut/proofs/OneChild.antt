@@ -19,7 +19,7 @@ use Rattle.tree_node.specs.Tree.{AreParted, Stands, children_of, in_turn, keyed,
 use Rattle.tree_node.proofs.Between.{without_between}
 use Rattle.tree_node.proofs.ChildrenStand.{children_stand}
 use Rattle.tree_node.proofs.Frames.{parted_map, Agrees, same_stands, same_walk}
-use Rattle.tree_node.proofs.Lifts.{back_agrees, front_agrees, grouped_as, leaves_are, leaves_once_in, lifted, node_times, single_leaves, single_nodes}
+use Rattle.tree_node.proofs.Lifts.{back_agrees, child_is_part, front_agrees, grouped_as, leaves_are, leaves_once_in, lifted, node_stays, node_times, single_leaves, single_nodes}
 use Rattle.tree_node.proofs.Lists.{all_middle, flat_map_same}
 use Rattle.tree_node.proofs.Standing.{node_is}
 use Rattle.tree_node.proofs.Widens.{parted_without, separators_around, stands_wider}
@@ -89,24 +89,11 @@ module _ {K V : Type 0} {LEN : ℕ} {cmp : K → K → Ordering} (o : IsTotalOrd
 
     -- the child is a part itself
     pub child_part : IsPart cmp level old child
-    child_part = record {
-      stands = all_middle (λ x. Stands cmp level old None x None) front child back each_stands;
-      nodes_once = λ n. omega (arith, part.nodes_once n, node_times level old.nodes id front (child ∷ []) back was n, ap (times n) (single_nodes level old.nodes child));
-      front = part.front ++ leaves_of level old.nodes front;
-      back = leaves_of level old.nodes back ++ part.back;
-      chain =
-          rw (
-            ← single_leaves level old.nodes child,
-            ← grouped_as part.front (leaves_of level old.nodes front) (leaves_of level old.nodes (child ∷ [])) (leaves_of level old.nodes back) part.back,
-            ← leaves_are level old.nodes id front (child ∷ []) back was,
-          ) part.chain;
-    }
+    child_part = child_is_part level old id part front child back was (all_middle (λ x. Stands cmp level old None x None) front child back each_stands)
 
     -- the node stays while its child is changed or dropped
     pub same_node : (mid : TreeArenas K V LEN) (ids : List ℕ) → Replaces level old mid (child ∷ []) ids → get mid.nodes id ≡ get old.nodes id
-    same_node mid ids r =
-        r.nodes_kept id (rw st.here refl)
-        (omega (arith, node_times level old.nodes id front (child ∷ []) back was id, one_here id id refl, part.nodes_once id, uses_le_one old.nodes id))
+    same_node = node_stays level old id part front child back was
 
     -- the node at other bounds
     module _ (low high : Option K) (s : Stands cmp (suc level) old low id high) where

@@ -7,6 +7,7 @@ use Rattle.tree_array.specs.Arrivals.{in_order}
 use Rattle.tree_leaf.specs.declared.leaf.LeafOf.{LeafOf}
 use Rattle.tree_leaf.specs.Counting.{times, uses}
 use Rattle.tree_leaf.proofs.Counts.{times-nil, times-cons, none_here, one_here, uses_some}
+use Rattle.tree_node.proofs.Bare.{over_one}
 use Rattle.tree_node.proofs.LeafSpares.{spare_at_least}
 use Rattle.tree_node.specs.declared.node.NodeOf.{NodeOf}
 use Rattle.tree_node.specs.Arenas.{TreeArenas}
@@ -21,22 +22,7 @@ module _ {K V : Type 0} {LEN : ℕ} (cmp : K → K → Ordering) (old new : Tree
   leaves_are = rw (here, no_keyed, last_is) refl
 
   stands : Stands cmp 1 new None id None
-  stands = record {
-    node = node;
-    here = here;
-    kind = kind;
-    last = last;
-    last_is = last_is;
-    few = rw no_keyed (omega arith);
-    parted = rw no_keyed (record {
-      leaf = leaf;
-      here = leaf_here;
-      few = rw array (omega arith);
-      ascending = rw array tt;
-      above = rw array tt;
-      up_to = rw array tt;
-    });
-  }
+  stands = over_one cmp new id node last here kind no_keyed last_is (record { leaf = leaf; here = leaf_here; few = rw array (omega arith); ascending = rw array tt; above = rw array tt; up_to = rw array tt })
 
   once : (n : ℕ) → times n (last ∷ []) ≤ uses new.leaves n
   once n = elim (cases_eq n last) [

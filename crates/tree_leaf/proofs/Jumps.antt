@@ -11,7 +11,7 @@ use Rattle.tree_leaf.specs.declared.leaf.stand.Way.{Way}
 use Rattle.tree_leaf.specs.declared.leaf.stand.Way.TheVariants.{On, Back}
 use Rattle.tree_leaf.specs.Entries.{leaf_entries, entries_of}
 use Rattle.tree_leaf.specs.Walks.{LeafWalk, Steps, first_of, first_on, jumped, lent_entry, standing}
-use Rattle.tree_leaf.specs.Ways.{StepsOver, along, beyond, landing, leaves_on, next_place}
+use Rattle.tree_leaf.specs.Ways.{along, beyond, landing, leaves_on, next_place}
 use Rattle.tree_leaf.proofs.Along.{all_ahead, all_left, along-flat_map, along-nil, along_empty, first_along, first_place, first_step, step_takes}
 
 pub not_none : {X : Type 0} (x : X) (xs : List X) → (length (x ∷ xs) == 0) ≡ false

@@ -1,5 +1,5 @@
 -- A tree without leaves, and one with a single leaf.
-use Rattle.std.proofs.Common.{◌≡◌, ◌≢◌, ◌⊎◌, ℕ, zero, suc, ◌+◌, ◌-◌, ◌≤◌, List, [], ◌∷◌, ◌++◌, map, Option, Some, None, IsSome, inl, inr, refl, sym, ap, ◌∙◌, arith}
+use Rattle.std.proofs.Common.{◌≡◌, ◌≢◌, ◌⊎◌, ℕ, zero, suc, ◌-◌, ◌≤◌, List, [], ◌∷◌, ◌++◌, map, Option, Some, None, IsSome, inl, inr, refl, sym, ap, ◌∙◌, arith}
 use Rattle.std.specs.List.{slice_index_or}
 use Rattle.std.specs.declared.cmp.Ordering.{Ordering}
 use Rattle.std.proofs.lemmas.Bool.{cases_eq}
@@ -82,6 +82,11 @@ pub some_slots : (len : ℕ) → IsLen len → 1 ≤ len
 some_slots len (inl seven) = omega (arith, seven)
 some_slots len (inr fifteen) = omega (arith, fifteen)
 
+-- a leaf node over one leaf
+pub over_one : {K V : Type 0} {LEN : ℕ} (cmp : K → K → Ordering) (a : TreeArenas K V LEN) (id : ℕ) (node : NodeOf K LEN) (last : ℕ) → get a.nodes id ≡ Some node → HasKind 0 node → (keyed node).entries ≡ [] → unbounded node ≡ Some last
+    → Stands cmp 0 a None last None → Stands cmp 1 a None id None
+over_one cmp a id node last here kind no_keyed last_is leaf = record { node = node; here = here; kind = kind; last = last; last_is = last_is; few = rw no_keyed (omega arith); parted = rw no_keyed leaf }
+
 -- a leaf node over one leaf, and nothing else
 module _ {K V : Type 0} {LEN : ℕ} (cmp : K → K → Ordering) (a : TreeArenas K V LEN) (id : ℕ) (node : NodeOf K LEN) (last : ℕ) (leaf : LeafOf K V LEN) (key : K) (val : V)
     (here : get a.nodes id ≡ Some node) (kind : HasKind 0 node) (no_keyed : (keyed node).entries ≡ []) (last_is : unbounded node ≡ Some last)
@@ -100,22 +105,14 @@ module _ {K V : Type 0} {LEN : ℕ} (cmp : K → K → Ordering) (a : TreeArenas
   ]
 
   stands : Stands cmp 1 a None id None
-  stands = record {
-    node = node;
-    here = here;
-    kind = kind;
-    last = last;
-    last_is = last_is;
-    few = rw no_keyed (omega arith);
-    parted = rw no_keyed (record {
-      leaf = leaf;
-      here = leaf_here;
-      few = rw array (omega (arith, some));
-      ascending = rw array (tt, tt);
-      above = rw array (tt, tt);
-      up_to = rw array (tt, tt);
-    });
-  }
+  stands = over_one cmp a id node last here kind no_keyed last_is (record {
+    leaf = leaf;
+    here = leaf_here;
+    few = rw array (omega (arith, some));
+    ascending = rw array (tt, tt);
+    above = rw array (tt, tt);
+    up_to = rw array (tt, tt);
+  })
 
   pub has_only : HasOnly cmp a id key val
   has_only = record {

@@ -1,20 +1,19 @@
 -- The child that a key belongs to is changed and keeps its number: what that makes of the part under the node.
-use Rattle.std.proofs.Common.{◌≡◌, ℕ, suc, ◌≤◌, min, Bool, true, false, cond, List, [], ◌∷◌, ◌++◌, map, Option, Some, refl, ap, ◌∙◌, arith}
+use Rattle.std.proofs.Common.{◌≡◌, ℕ, suc, ◌≤◌, min, Bool, true, false, cond, List, [], ◌∷◌, ◌++◌, map, Option, Some, refl, ◌∙◌}
 use Rattle.std.specs.List.{flat_map, AllByRecursion}
 use Rattle.std.specs.declared.cmp.Ordering.{Ordering}
 use Rattle.std.specs.Cmp.{IsTotalOrder}
 use Rattle.std.proofs.lemmas.List.{append-nil}
 use Rattle.slab.specs.Slab.{get}
 use Rattle.tree_leaf.specs.Counting.{times, uses}
-use Rattle.tree_leaf.proofs.Counts.{one_here, uses_le_one}
 use Rattle.tree_model.proofs.Lists.{all_map, all-append}
 use Rattle.tree_node.specs.Arenas.{TreeArenas}
 use Rattle.tree_node.specs.Parts.{IsPart, KeepsBounds, Replaces}
 use Rattle.tree_node.specs.Shape.{spare}
-use Rattle.tree_node.specs.Tree.{IsAbove, IsUpTo, AreParted, keyed, child_at, front_at, back_at, is_from, HasChildFor, Stands, walk, leaves_at, leaves_of, children_of}
+use Rattle.tree_node.specs.Tree.{IsAbove, IsUpTo, AreParted, keyed, child_at, front_at, back_at, is_from, HasChildFor, Stands, walk, leaves_at, children_of}
 use Rattle.tree_node.proofs.Children.{child_stands}
 use Rattle.tree_node.proofs.Frames.{parted_map, Agrees, same_stands}
-use Rattle.tree_node.proofs.Lifts.{node_times, leaves_are, leaves_once_in, grouped_as, front_agrees, back_agrees, lifted, single_leaves, single_nodes, walk_now, walk_was}
+use Rattle.tree_node.proofs.Lifts.{child_is_part, node_stays, leaves_once_in, front_agrees, back_agrees, lifted, walk_now, walk_was}
 use Rattle.tree_node.proofs.Order.{upto_from_test, less_from_test}
 use Rattle.tree_node.proofs.Spares.{spares, spares_same, spare_split, spares-single}
 use Rattle.tree_node.proofs.Walks.{child_is, children_split}
@@ -65,24 +64,11 @@ module _ {K V : Type 0} {LEN : ℕ} {cmp : K → K → Ordering} (o : IsTotalOrd
 
     -- the child is a part itself
     pub child_part : IsPart cmp level old child
-    child_part = record {
-      stands = child_stands o level old id part.stands k child which;
-      nodes_once = λ n. omega (arith, part.nodes_once n, node_times level old.nodes id front (child ∷ []) back was n, ap (times n) (single_nodes level old.nodes child));
-      front = part.front ++ leaves_of level old.nodes front;
-      back = leaves_of level old.nodes back ++ part.back;
-      chain =
-          rw (
-            ← single_leaves level old.nodes child,
-            ← grouped_as part.front (leaves_of level old.nodes front) (leaves_of level old.nodes (child ∷ [])) (leaves_of level old.nodes back) part.back,
-            ← leaves_are level old.nodes id front (child ∷ []) back was,
-          ) part.chain;
-    }
+    child_part = child_is_part level old id part front child back was (child_stands o level old id part.stands k child which)
 
     module _ (new : TreeArenas K V LEN) (replaces : Replaces level old new (child ∷ []) (child ∷ [])) where
       pub same_node : get new.nodes id ≡ get old.nodes id
-      same_node =
-          replaces.nodes_kept id (rw s.here refl)
-          (omega (arith, node_times level old.nodes id front (child ∷ []) back was id, one_here id id refl, part.nodes_once id, uses_le_one old.nodes id))
+      same_node = node_stays level old id part front child back was new (child ∷ []) replaces
 
       pub now : children_of new.nodes id ≡ front ++ (child ∷ [] ++ back)
       now = rw same_node was

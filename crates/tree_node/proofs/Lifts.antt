@@ -1,5 +1,5 @@
 -- A change of some children of a node is a change of the part under the node.
-use Rattle.std.proofs.Common.{◌≡◌, ℕ, suc, ◌+◌, ◌≤◌, ◌==◌, cond, List, [], ◌∷◌, ◌++◌, is_some, IsSome, refl, ap, ◌∙◌, arith, append_assoc, inl, inr}
+use Rattle.std.proofs.Common.{◌≡◌, ℕ, suc, ◌+◌, ◌≤◌, ◌==◌, cond, List, [], ◌∷◌, ◌++◌, None, is_some, IsSome, refl, ap, ◌∙◌, arith, append_assoc, inl, inr}
 use Rattle.std.specs.List.{flat_map, AllByRecursion}
 use Rattle.std.specs.declared.cmp.Ordering.{Ordering}
 use Rattle.std.proofs.lemmas.Bool.{cases_eq}
@@ -14,7 +14,7 @@ use Rattle.tree_model.proofs.Lists.{all_map}
 use Rattle.tree_node.specs.declared.node.NodeOf.{NodeOf}
 use Rattle.tree_node.specs.Arenas.{TreeArenas}
 use Rattle.tree_node.specs.Parts.{IsPart, Replaces}
-use Rattle.tree_node.specs.Tree.{leaves_at, nodes_at, leaves_of, nodes_of, children_of, walk}
+use Rattle.tree_node.specs.Tree.{Stands, leaves_at, nodes_at, leaves_of, nodes_of, children_of, walk}
 use Rattle.tree_node.proofs.Frames.{each_part, all_both, Agrees, same_leaves, same_nodes, same_walk}
 use Rattle.tree_node.proofs.Lists.{flat_map_same}
 use Rattle.tree_node.proofs.Walks.{walk-children}
@@ -195,3 +195,27 @@ module _ {K V : Type 0} {LEN : ℕ} (level : ℕ) (old mid new : TreeArenas K V 
         rw (leaves, single_leaves (suc level) new.nodes id, new_leaves, grouped_as before (leaves_of level old.nodes front) (leaves_of level mid.nodes ids') (leaves_of level old.nodes back) after)
         (r.chained (before ++ leaves_of level old.nodes front) (leaves_of level old.nodes back ++ after) grouped);
   }
+
+-- one child of a node
+module _ {K V : Type 0} {LEN : ℕ} {cmp : K → K → Ordering} (level : ℕ) (old : TreeArenas K V LEN) (id : ℕ) (part : IsPart cmp (suc level) old id) (front : List ℕ) (child : ℕ) (back : List ℕ)
+    (was : children_of old.nodes id ≡ front ++ (child ∷ [] ++ back)) where
+  -- the child is a part itself
+  pub child_is_part : Stands cmp level old None child None → IsPart cmp level old child
+  child_is_part stands = record {
+    stands = stands;
+    nodes_once = λ n. omega (arith, part.nodes_once n, node_times level old.nodes id front (child ∷ []) back was n, ap (times n) (single_nodes level old.nodes child));
+    front = part.front ++ leaves_of level old.nodes front;
+    back = leaves_of level old.nodes back ++ part.back;
+    chain =
+        rw (
+          ← single_leaves level old.nodes child,
+          ← grouped_as part.front (leaves_of level old.nodes front) (leaves_of level old.nodes (child ∷ [])) (leaves_of level old.nodes back) part.back,
+          ← leaves_are level old.nodes id front (child ∷ []) back was,
+        ) part.chain;
+  }
+
+  -- the node stays while its child is changed or dropped
+  pub node_stays : (new : TreeArenas K V LEN) (ids : List ℕ) → Replaces level old new (child ∷ []) ids → get new.nodes id ≡ get old.nodes id
+  node_stays new ids r =
+      r.nodes_kept id (rw part.stands.here refl)
+      (omega (arith, node_times level old.nodes id front (child ∷ []) back was id, one_here id id refl, part.nodes_once id, uses_le_one old.nodes id))

@@ -1,5 +1,5 @@
 -- Parts that are packed along their right edge: what keeps them so, and how many pairs they have.
-use Rattle.std.proofs.Common.{◌≡◌, ℕ, zero, suc, ◌+◌, ◌*◌, ◌<◌, ◌≤◌, ◌^◌, Bool, true, false, List, [], ◌∷◌, ◌++◌, map, length, length-append, Option, Some, None, refl, sym, ap, ◌∙◌, arith, mul-suc}
+use Rattle.std.proofs.Common.{◌≡◌, ℕ, zero, suc, ◌*◌, ◌<◌, ◌≤◌, ◌^◌, List, [], ◌∷◌, ◌++◌, map, length, length-append, Option, Some, None, refl, sym, ap, ◌∙◌, arith, mul-suc}
 use Rattle.std.specs.List.{flat_map, AllByRecursion}
 use Rattle.std.specs.declared.cmp.Ordering.{Ordering}
 use Rattle.std.specs.declared.cmp.Ordering.TheVariants.{Less}
@@ -11,7 +11,7 @@ use Rattle.tree_leaf.specs.Chain.{SameArray}
 use Rattle.tree_model.proofs.Lists.{all_map}
 use Rattle.tree_node.specs.Arenas.{TreeArenas}
 use Rattle.tree_node.specs.Parts.{IsPart, Replaces}
-use Rattle.tree_node.specs.Tree.{AreParted, HasChildFor, IsAbove, IsBelow, Stands, back_at, child_at, front_at, is_from, keyed, walk}
+use Rattle.tree_node.specs.Tree.{AreParted, HasChildFor, IsAbove, IsBelow, Stands, child_at, front_at, is_from, keyed, walk}
 use Rattle.tree_node.proofs.Bare.{parted_last}
 use Rattle.tree_node.proofs.ChildChanges.{fronts, same_node}
 use Rattle.tree_node.proofs.Children.{walk-leaf}

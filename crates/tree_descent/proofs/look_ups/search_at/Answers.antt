@@ -1,4 +1,4 @@
-use Rattle.std.proofs.Common.{rules, refl}
+use Rattle.std.proofs.Common.{refl}
 use Rattle.tree_array.specs.Length.{searched}
 use Rattle.tree_node.proofs.Levels.{retired_walk}
 use Rattle.tree_descent.proofs.Asked.{leaf_asked}

@@ -1,4 +1,4 @@
-use Rattle.std.proofs.Common.{rules, ◌≡◌, ◌≤◌, ◌<◌, ◌+◌, ◌∙◌, length, arith, w8, sym}
+use Rattle.std.proofs.Common.{rules, ◌∙◌, arith, w8, sym}
 use Rattle.std.proofs.Math.Facts.{Fits-of_lt}
 use Rattle.tree_order.proofs.Slots.{len_small}
 use Rattle.tree_node.proofs.Sizes.{fits}
