@@ -1,5 +1,5 @@
 -- A child that lost its last pair is dropped and taken out of its node: what that makes of the part under the node.
-use Rattle.std.proofs.Common.{◌≡◌, ℕ, suc, ◌≤◌, Bool, List, [], ◌∷◌, ◌++◌, map, Option, Some, None, IsSome, refl, sym, ap, ◌∙◌, arith, append_assoc, inr, length, length-append}
+use Rattle.std.proofs.Common.{◌≡◌, ℕ, suc, ◌≤◌, Bool, List, [], ◌∷◌, ◌++◌, map, Option, Some, None, IsSome, refl, sym, ap, ◌∙◌, arith, append_assoc, length, length-append}
 use Rattle.std.specs.List.{flat_map, AllByRecursion}
 use Rattle.std.specs.declared.cmp.Ordering.{Ordering}
 use Rattle.std.specs.Cmp.{IsTotalOrder}

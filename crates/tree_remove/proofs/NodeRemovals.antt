@@ -1,5 +1,5 @@
 -- A removal in the child that a key belongs to, of the part under its node, where the child stays.
-use Rattle.std.proofs.Common.{◌≡◌, ℕ, zero, suc, Bool, List, [], ◌∷◌, ◌++◌, Option, Some, None, refl, ◌∙◌, sym, arith, inl, inr, ◌⊎◌, ◌≤◌, min}
+use Rattle.std.proofs.Common.{◌≡◌, ℕ, zero, suc, Bool, List, [], ◌∷◌, ◌++◌, Option, Some, None, refl, ◌∙◌, sym, arith, inl, inr, ◌⊎◌, ◌≤◌}
 use Rattle.std.specs.List.{AllByRecursion}
 use Rattle.std.specs.declared.cmp.Ordering.{Ordering}
 use Rattle.std.specs.declared.cmp.Ordering.TheVariants.{Less}
@@ -11,7 +11,7 @@ use Rattle.tree_leaf.specs.declared.leaf.LeafOf.{LeafOf}
 use Rattle.tree_model.specs.Pairs.{AllLarger}
 use Rattle.tree_node.specs.Arenas.{TreeArenas}
 use Rattle.tree_remove.specs.CleanUps.{HasOnlyRetired, RetiresIfEmpty}
-use Rattle.tree_node.specs.Parts.{IsPart, KeepsBounds, Replaces, Unchanged}
+use Rattle.tree_node.specs.Parts.{IsPart, KeepsBounds, Replaces}
 use Rattle.tree_remove.specs.Removes.{RemovesUnder, TakesOut}
 use Rattle.tree_node.specs.Shape.{spare}
 use Rattle.tree_node.specs.Tree.{HasChildFor, Stands, IsRetired, IsRetiredLeaf, leaves_at, slot_entries, walk}

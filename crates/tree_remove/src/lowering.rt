@@ -16,6 +16,7 @@ use tree_node::node::{ArenasOf, NodeOf};
 /// comparisons and allocates nothing.
 ///
 /// The caller must see that a well-formed part of a tree, or a retired node, stands under the number.
+#[inline(always)]
 pub fn lower_root_at<K: Ord + Drop, V: Drop, const LEN: usize>(
     arenas: &mut ArenasOf<K, V, LEN>,
     level: usize,
@@ -31,10 +32,33 @@ pub fn lower_root_at<K: Ord + Drop, V: Drop, const LEN: usize>(
             if !node.children.is_empty() {
                 return Some((root, level));
             }
-            let below = node.unbounded_child;
-            let _ = arenas.remove_node(root);
-            lower_root_at(arenas, level - 1, below?)
+            lower_from(arenas, level, root)
         }
         NodeOf::Leaf(_) => Some((root, level)),
+    }
+}
+
+/// Does what [`lower_root_at`] does, for as many levels as it takes. Its own function, so that a root that stays, as most
+/// do, costs a removal no call.
+fn lower_from<K: Ord + Drop, V: Drop, const LEN: usize>(
+    arenas: &mut ArenasOf<K, V, LEN>,
+    level: usize,
+    top: NodeId,
+) -> Option<(NodeId, usize)>
+    requires node { 0 < level }
+    requires part { IsPart K.cmp level arenas.old top ⊎ IsRetired level arenas.old top }
+    requires kind { IsOfLevel level (get arenas.old.nodes top) }
+    ensures { LowersRoot K.cmp level arenas.old arenas.new top result }
+{
+    match arenas.node(top) {
+        NodeOf::Internal(node) => {
+            if !node.children.is_empty() {
+                return Some((top, level));
+            }
+            let below = node.unbounded_child;
+            let _ = arenas.remove_node(top);
+            lower_from(arenas, level - 1, below?)
+        }
+        NodeOf::Leaf(_) => Some((top, level)),
     }
 }

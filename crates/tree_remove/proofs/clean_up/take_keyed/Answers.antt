@@ -1,7 +1,6 @@
 use Rattle.std.proofs.Common.{rules, IsSome, refl}
 use Rattle.slab.specs.Slab.{ContainsKey}
 use Rattle.tree_array.specs.Arrivals.{arrival}
-use Rattle.tree_node.proofs.Sizes.{fits}
 use Rattle.tree_remove.proofs.NodeWrites.{has_node, leaf_keyed_taken, internal_keyed_taken}
 use Rattle.tree_remove.proofs.clean_up.take_keyed.Goals as goal
 

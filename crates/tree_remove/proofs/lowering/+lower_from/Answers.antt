@@ -6,32 +6,32 @@ use Rattle.tree_node.specs.Tree.{IsRetired}
 use Rattle.tree_node.proofs.NodeKinds.{node_used}
 use Rattle.tree_remove.proofs.Lowerings.{leaf_node_stays, keyed_stays, retired_gone, over_one, of_level}
 use Rattle.tree_node.proofs.Sizes.{fits}
-use Rattle.tree_remove.proofs.lowering.+lower_root_at.Goals as goal
+use Rattle.tree_remove.proofs.lowering.+lower_from.Goals as goal
 
 pub node-requires : goal.node-requires
 node-requires g t c =
-    let there : ContainsKey c.args.arenas.now.nodes c.args.root = node_used c.args.level c.requires.node c.args.arenas.now c.args.root c.requires.part in
+    let there : ContainsKey c.args.arenas.now.nodes c.args.top = node_used c.args.level c.requires.node c.args.arenas.now c.args.top c.requires.part in
     search rules
 
 pub returns-then-not-is_empty : goal.returns-then-not-is_empty
 returns-then-not-is_empty g t c =
-    keyed_stays g.K.Ord.cmp c.args.arenas.now c.args.root c.args.level c.requires.node c.requires.part c.in-Internal.node (rw c.in-Internal.is at c.node.ensures)
+    keyed_stays g.K.Ord.cmp c.args.arenas.now c.args.top c.args.level c.requires.node c.requires.part c.in-Internal.node (rw c.in-Internal.is at c.node.ensures)
     (λ none. let both : false ≡ true = sym c.if-not-is_empty.true ∙ c.is_empty.ensures.1 none in cc)
 
 pub remove_node-requires : goal.remove_node-requires
 remove_node-requires g t c =
-    let there : ContainsKey c.args.arenas.now.nodes c.args.root = node_used c.args.level c.requires.node c.args.arenas.now c.args.root c.requires.part in
+    let there : ContainsKey c.args.arenas.now.nodes c.args.top = node_used c.args.level c.requires.node c.args.arenas.now c.args.top c.requires.part in
     search rules
 
 pub returns-in_err-below-in-Internal : goal.returns-in_err-below-in-Internal
 returns-in_err-below-in-Internal g t c =
     rw c.from_residual.ensures
-    (retired_gone g.K.Ord.cmp c.args.arenas.now c.args.root c.remove_node.new.self c.in-Internal.node _ (rw c.in-Internal.is at c.node.ensures) c.remove_node.ensures.nodes c.remove_node.ensures.leaves c.args.level c.requires.node c.requires.part
+    (retired_gone g.K.Ord.cmp c.args.arenas.now c.args.top c.remove_node.new.self c.in-Internal.node _ (rw c.in-Internal.is at c.node.ensures) c.remove_node.ensures.nodes c.remove_node.ensures.leaves c.args.level c.requires.node c.requires.part
     c.in_err-below-in-Internal.was)
 
-pub lower_root_at-requires : goal.lower_root_at-requires
-lower_root_at-requires g t c κs within =
-    let over = over_one g.K.Ord.cmp c.args.arenas.now c.args.root c.remove_node.new.self c.in-Internal.node _ c.in_ok-below-in-Internal.field-0 c.args.level (rw c.in-Internal.is at c.node.ensures) c.remove_node.ensures.nodes c.remove_node.ensures.leaves
+pub lower_from-requires : goal.lower_from-requires
+lower_from-requires g t c κs within =
+    let over = over_one g.K.Ord.cmp c.args.arenas.now c.args.top c.remove_node.new.self c.in-Internal.node _ c.in_ok-below-in-Internal.field-0 c.args.level (rw c.in-Internal.is at c.node.ensures) c.remove_node.ensures.nodes c.remove_node.ensures.leaves
     c.requires.node c.requires.part c.requires.kind (c.is_empty.ensures.0 c.if-not-is_empty.false) c.in_ok-below-in-Internal.was in
     let inner : 0 < c.args.level - 1 = rw over.level_below (omega arith) in
     let part : IsPart g.K.Ord.cmp (c.args.level - 1) c.remove_node.new.self c.in_ok-below-in-Internal.field-0 ⊎ IsRetired (c.args.level - 1) c.remove_node.new.self c.in_ok-below-in-Internal.field-0 = rw over.level_below (inl over.part) in
@@ -40,9 +40,9 @@ lower_root_at-requires g t c κs within =
 
 pub returns-in_ok-below-in-Internal : goal.returns-in_ok-below-in-Internal
 returns-in_ok-below-in-Internal g t c =
-    let over = over_one g.K.Ord.cmp c.args.arenas.now c.args.root c.remove_node.new.self c.in-Internal.node _ c.in_ok-below-in-Internal.field-0 c.args.level (rw c.in-Internal.is at c.node.ensures) c.remove_node.ensures.nodes c.remove_node.ensures.leaves
+    let over = over_one g.K.Ord.cmp c.args.arenas.now c.args.top c.remove_node.new.self c.in-Internal.node _ c.in_ok-below-in-Internal.field-0 c.args.level (rw c.in-Internal.is at c.node.ensures) c.remove_node.ensures.nodes c.remove_node.ensures.leaves
     c.requires.node c.requires.part c.requires.kind (c.is_empty.ensures.0 c.if-not-is_empty.false) c.in_ok-below-in-Internal.was in
-    rw over.level_is (over.on _ _ (rw over.level_below at c.lower_root_at.ensures))
+    rw over.level_is (over.on _ _ (rw over.level_below at c.lower_from.ensures))
 
 pub returns-in-Leaf : goal.returns-in-Leaf
-returns-in-Leaf g t c = leaf_node_stays g.K.Ord.cmp c.args.arenas.now c.args.root c.args.level c.requires.node c.requires.part c.requires.kind _ (rw c.in-Leaf.is at c.node.ensures)
+returns-in-Leaf g t c = leaf_node_stays g.K.Ord.cmp c.args.arenas.now c.args.top c.args.level c.requires.node c.requires.part c.requires.kind _ (rw c.in-Leaf.is at c.node.ensures)
