@@ -135,7 +135,7 @@ struct Numbers {
 impl Numbers {
     fn new(thread: u64) -> Self {
         Numbers {
-            last: (thread + 1).wrapping_mul(0x9e37_79b9_7f4a_7c15),
+            last: (thread + 1).wrapping_mul(0x9e37_79b9_7f4a_7c15) | 1,
         }
     }
 

@@ -1,6 +1,8 @@
 //! What threads call with: keys and random numbers, the same in every run.
 ghost use Rattle.std.specs.Prelude.{◌≤◌};
 
+use test_support::chance::Chance;
+
 /// How many threads there are, and how many keys and calls each of them has.
 ///
 /// The keys of a thread are those whose remainder by the number of threads is the thread's number. No other thread
@@ -41,37 +43,7 @@ impl Load {
     }
 }
 
-/// A 64-bit xorshift generator.
-#[derive(Drop)]
-pub struct Numbers {
-    last: u64,
-}
-
-impl Numbers {
-    /// Creates the generator of a thread.
-    pub fn new(thread: usize) -> Numbers {
-        Numbers {
-            last: (thread as u64)
-                .wrapping_add(1)
-                .wrapping_mul(0x9e37_79b9_7f4a_7c15),
-        }
-    }
-
-    /// Returns the next number.
-    pub fn draw(&mut self) -> u64 {
-        let mut next = self.last;
-        next ^= next << 13;
-        next ^= next >> 7;
-        next ^= next << 17;
-        self.last = next;
-        next
-    }
-
-    /// Shuffles a list.
-    pub fn shuffle(&mut self, keys: &mut [u64]) {
-        for place in 1..keys.len() {
-            let other = self.draw() % (place as u64 + 1);
-            keys.swap(place, other as usize);
-        }
-    }
+/// Returns the source of a thread's random numbers.
+pub fn source(thread: usize) -> Chance {
+    Chance::new((thread as u64).wrapping_add(1))
 }

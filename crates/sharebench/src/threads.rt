@@ -2,7 +2,7 @@
 ghost use Rattle.std.specs.Prelude.{◌≡◌, ◌+◌, ◌<◌, ◌≤◌, All, IfOk, vec_len};
 ghost use Rattle.tree_shared.specs.Tallies.{none};
 
-use crate::load::{Load, Numbers};
+use crate::load::{Load, source};
 use std::alloc::{AllocError, Global};
 use std::sync::Wait;
 use std::sync::ledger::Ledger;
@@ -45,7 +45,7 @@ fn work<C: Ledger, S: Ledger, M: Ledger, F: Ledger, D: Ledger, R: Wait>(
 ) -> Pass<C, S, M, F, D>
     requires { pass ≡ none }
 {
-    let mut source = Numbers::new(thread);
+    let mut source = source(thread);
     for _done in 0..load.calls {
         let number = source.draw();
         call(rt, shared, &mut pass, load.key(thread, number / 4), number);
@@ -77,7 +77,7 @@ fn held_keys(alloc: Global, load: Load) -> Result<Vec<u64>, AllocError> {
             keys.push(load.key(thread, place))?;
         }
     }
-    Numbers::new(load.threads).shuffle(&mut keys);
+    source(load.threads).shuffle(&mut keys);
     Ok(keys)
 }
 

@@ -1,4 +1,4 @@
-//! What the crates of tests share.
+//! What the crates of tests and the benchmarks share.
 #![tactic(auto)]
 
 pub mod chance;

@@ -1,9 +1,9 @@
 //! The history that a state keeps of its calls.
-use crate::compared::compare;
 use std::alloc::{AllocError, Global};
 use std::process::Abort;
 use test_support::refusals::succeeds;
 use tree_index::{Command, IndexKey, InsertError, Reply, SameClone, State};
+use tree_support::flaws;
 
 /// What a command is answered. A refusal leaves the history as long as it was.
 fn applied<K: IndexKey + SameClone, V: SameClone>(
@@ -53,7 +53,7 @@ fn keeps_its_calls_steps(rt: &impl Abort, alloc: Global) -> Result<(), AllocErro
     expect_reply(rt, &mut state, Command::Insert(1, 11), Reply::Duplicate)?;
     expect_reply(rt, &mut state, Command::Peek(1), Reply::Found(Some(10)))?;
     expect_reply(rt, &mut state, Command::Peek(2), Reply::Found(None))?;
-    compare(rt, state.index(), &[(1, 10)]);
+    assert_eq!(rt; flaws(state.index(), &[(1, 10)]), Ok(()));
     assert_eq!(rt; state.history().len(), 4);
     expect_record(rt, &state, 1, Command::Insert(1, 11), Reply::Duplicate);
     expect_record(rt, &state, 2, Command::Peek(1), Reply::Found(Some(10)));
@@ -178,7 +178,7 @@ fn apply_twice(
     if let Err(back) = state.apply(command_of(kind, pair)) {
         assert!(rt; back == command_of(kind, pair));
         assert_eq!(rt; state.history().len(), calls);
-        compare(rt, state.index(), pairs);
+        assert_eq!(rt; flaws(state.index(), pairs), Ok(()));
         assert!(rt; state.apply(command_of(kind, pair)).is_ok());
     }
     assert_eq!(rt; state.history().len().checked_sub(1), Some(calls));
@@ -190,7 +190,7 @@ fn insert_twice(rt: &impl Abort, state: &mut State<u64, u64>, (key, value): (u64
     if let Err(refused) = state.insert(key, value) {
         assert!(rt; refused == InsertError::OutOfMemory(key, value));
         assert_eq!(rt; state.history().len(), calls);
-        compare(rt, state.index(), &[]);
+        assert_eq!(rt; flaws(state.index(), &[]), Ok(()));
         assert!(rt; state.insert(key, value).is_ok());
     }
     assert_eq!(rt; state.history().len().checked_sub(1), Some(calls));
@@ -206,7 +206,7 @@ fn hands_back_what_is_refused(rt: HostRuntime) {
             apply_twice(&rt, &mut state, &[pair], (kind, pair));
         }
         apply_twice(&rt, &mut state, &[], (Kind::Upsert, pair));
-        compare(&rt, state.index(), &[pair]);
+        assert_eq!(rt; flaws(state.index(), &[pair]), Ok(()));
         apply_twice(&rt, &mut state, &[pair], (Kind::Remove, pair));
     }
 }

@@ -1,17 +1,18 @@
 //! Worked calls of the index.
-use crate::compared::Compared;
 use crate::keys::Tagged;
 use std::alloc::{AllocError, Global};
 use std::process::Abort;
 use test_support::refusals::succeeds;
 use tree_index::{InsertError, TreeIndex};
+use tree_support::Both;
 
 fn keeps_the_first_of_two_pairs_steps(rt: &impl Abort, alloc: Global) -> Result<(), AllocError> {
-    let mut both = Compared::new(alloc);
-    assert!(rt; both.insert(rt, 1, 10)?);
-    assert!(rt; !both.insert(rt, 1, 11)?);
+    let mut both = Both::new(alloc);
+    assert!(rt; both.insert(1, 10)?);
+    assert!(rt; !both.insert(1, 11)?);
     assert_eq!(rt; both.index().peek(&1).copied(), Some(10));
     assert_eq!(rt; both.index().peek(&2).copied(), None);
+    assert_eq!(rt; both.flaw(), None);
     Ok(())
 }
 

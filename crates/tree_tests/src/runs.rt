@@ -1,9 +1,9 @@
 //! Lists of commands that an index answers.
-use crate::compared::compare;
 use std::alloc::{AllocError, Global};
 use std::process::Abort;
 use test_support::refusals::succeeds;
 use tree_index::{Command, IndexKey, Reply, SameClone, TreeIndex, run};
+use tree_support::flaws;
 
 /// The replies of an index that was empty, if no command was refused. A run that was refused left the index empty.
 fn replied<K: IndexKey, V: SameClone>(
@@ -45,7 +45,7 @@ fn runs_edits_steps(rt: &impl Abort, alloc: Global) -> Result<(), AllocError> {
         Reply::Found(None),
     ];
     assert!(rt; replies.as_slice() == wanted.as_slice());
-    compare(rt, &index, &[(3, 30)]);
+    assert_eq!(rt; flaws(&index, &[(3, 30)]), Ok(()));
     Ok(())
 }
 

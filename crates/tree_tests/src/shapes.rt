@@ -1,13 +1,14 @@
 //! How deep a tree is, how much room its leaves have, and how many leaves and nodes there are, as the rules of splits and
 //! of removals give it.
-use crate::compared::Compared;
 use std::alloc::{AllocError, Global};
 use std::process::Abort;
 use test_support::refusals::succeeds;
 use tree_index::TreeIndexOf;
+use tree_support::Both;
 
-/// Compares the depth and the spare.
-fn expect_shape(rt: &impl Abort, both: &Compared, depth: usize, spare: u8) {
+/// Compares the depth and the spare. No call before was answered otherwise than by the plain index.
+fn expect_shape(rt: &impl Abort, both: &Both, depth: usize, spare: u8) {
+    assert_eq!(rt; both.flaw(), None);
     assert_eq!(rt;
         (both.index().depth(), both.index().spare()),
         (depth, spare)
@@ -15,10 +16,11 @@ fn expect_shape(rt: &impl Abort, both: &Compared, depth: usize, spare: u8) {
 }
 
 /// Compares the numbers of leaves and nodes.
-fn expect_counts(rt: &impl Abort, both: &Compared, leaves: usize, nodes: usize) {
+fn expect_counts(rt: &impl Abort, both: &mut Both, leaves: usize, nodes: usize) {
     let (arenas, _) = both.index().parts();
     assert_eq!(rt; (arenas.leaf_count(), arenas.node_count()), (leaves, nodes));
-    both.compare(rt);
+    both.compare();
+    assert_eq!(rt; both.flaw(), None);
 }
 
 /// A leaf node holds 16 leaves of 15, and the next pair makes a node over two of them. That one holds 15 nodes of 225
@@ -27,10 +29,10 @@ fn grows_by_a_level_when_its_root_is_full_steps(
     rt: &impl Abort,
     alloc: Global,
 ) -> Result<(), AllocError> {
-    let mut both = Compared::new(alloc);
+    let mut both = Both::new(alloc);
     expect_shape(rt, &both, 0, 0);
     for key in 1..=3616u64 {
-        assert!(rt; both.insert(rt, key, key)?);
+        assert!(rt; both.insert(key, key)?);
         let depth = match key {
             1..=240 => 1,
             241..=3615 => 2,
@@ -39,7 +41,7 @@ fn grows_by_a_level_when_its_root_is_full_steps(
         assert_eq!(rt; both.index().depth(), depth);
     }
     assert_eq!(rt; both.index().len(), 3616);
-    expect_counts(rt, &both, 242, 20);
+    expect_counts(rt, &mut both, 242, 20);
     Ok(())
 }
 
@@ -86,16 +88,16 @@ static UPSERTS: [(u64, u8); 9] = [
 ];
 
 fn upserts_of_one_key_spare_slots_steps(rt: &impl Abort, alloc: Global) -> Result<(), AllocError> {
-    let mut both = Compared::new(alloc);
+    let mut both = Both::new(alloc);
     let mut made: u64 = 0;
     for (count, spare) in &UPSERTS {
         for value in made.saturating_add(1)..=*count {
-            both.upsert(rt, 7, value)?;
+            both.upsert(7, value)?;
         }
         made = *count;
         expect_shape(rt, &both, 1, *spare);
-        both.look_up(rt, 7);
-        expect_counts(rt, &both, 1, 1);
+        both.look_up(7);
+        expect_counts(rt, &mut both, 1, 1);
     }
     Ok(())
 }
@@ -109,20 +111,20 @@ fn upserts_of_one_key_spare_slots(rt: HostRuntime) {
 static REMOVALS: [(u64, u8); 4] = [(1, 3), (2, 3), (3, 3), (4, 7)];
 
 fn removals_lower_no_spare_steps(rt: &impl Abort, alloc: Global) -> Result<(), AllocError> {
-    let mut both = Compared::new(alloc);
+    let mut both = Both::new(alloc);
     for key in 1..=12u64 {
-        both.upsert(rt, key, key)?;
+        both.upsert(key, key)?;
     }
     expect_shape(rt, &both, 1, 3);
     for (key, spare) in &REMOVALS {
-        both.remove(rt, *key);
+        both.remove(*key);
         expect_shape(rt, &both, 1, *spare);
     }
     for key in 21..=27u64 {
-        both.upsert(rt, key, key)?;
+        both.upsert(key, key)?;
     }
+    both.compare();
     expect_shape(rt, &both, 1, 0);
-    both.compare(rt);
     Ok(())
 }
 
@@ -132,9 +134,9 @@ fn removals_lower_no_spare(rt: HostRuntime) {
 }
 
 fn nothing_is_spare_without_a_leaf_steps(rt: &impl Abort, alloc: Global) -> Result<(), AllocError> {
-    let mut both = Compared::new(alloc);
-    both.upsert(rt, 1, 10)?;
-    both.remove(rt, 1);
+    let mut both = Both::new(alloc);
+    both.upsert(1, 10)?;
+    both.remove(1);
     expect_shape(rt, &both, 1, 0);
     Ok(())
 }
@@ -150,11 +152,11 @@ fn divides_a_leaf_where_its_keys_came_steps(
     rt: &impl Abort,
     alloc: Global,
 ) -> Result<(), AllocError> {
-    let mut down = Compared::new(alloc);
-    let mut both_ways = Compared::new(alloc);
+    let mut down = Both::new(alloc);
+    let mut both_ways = Both::new(alloc);
     for n in 0..=15u64 {
-        assert!(rt; down.insert(rt, 15 - n, n)?);
-        assert!(rt; both_ways.insert(rt, if n < 8 { 7 - n } else { n }, n)?);
+        assert!(rt; down.insert(15 - n, n)?);
+        assert!(rt; both_ways.insert(if n < 8 { 7 - n } else { n }, n)?);
     }
     expect_shape(rt, &down, 1, 1);
     expect_shape(rt, &both_ways, 1, 6);
@@ -172,20 +174,20 @@ fn divides_a_keyed_leaf_before_its_last_pair_steps(
     rt: &impl Abort,
     alloc: Global,
 ) -> Result<(), AllocError> {
-    let mut both = Compared::new(alloc);
+    let mut both = Both::new(alloc);
     for n in 0..=15u64 {
-        assert!(rt; both.insert(rt, 10 * n, n)?);
+        assert!(rt; both.insert(10 * n, n)?);
     }
     expect_shape(rt, &both, 1, 0);
-    expect_counts(rt, &both, 2, 1);
+    expect_counts(rt, &mut both, 2, 1);
     for key in [110, 120, 130, 140] {
-        assert!(rt; both.remove(rt, key));
+        assert!(rt; both.remove(key));
     }
     for key in 111..=115u64 {
-        assert!(rt; both.insert(rt, key, key)?);
+        assert!(rt; both.insert(key, key)?);
     }
     expect_shape(rt, &both, 1, 1);
-    expect_counts(rt, &both, 3, 1);
+    expect_counts(rt, &mut both, 3, 1);
     Ok(())
 }
 
@@ -198,15 +200,15 @@ fn plants_anew_under_a_retired_root_steps(
     rt: &impl Abort,
     alloc: Global,
 ) -> Result<(), AllocError> {
-    let mut both = Compared::new(alloc);
-    assert!(rt; both.insert(rt, 1, 10)?);
+    let mut both = Both::new(alloc);
+    assert!(rt; both.insert(1, 10)?);
     expect_shape(rt, &both, 1, 14);
-    assert!(rt; both.remove(rt, 1));
+    assert!(rt; both.remove(1));
     expect_shape(rt, &both, 1, 0);
-    expect_counts(rt, &both, 0, 1);
-    assert!(rt; both.insert(rt, 2, 20)?);
+    expect_counts(rt, &mut both, 0, 1);
+    assert!(rt; both.insert(2, 20)?);
     expect_shape(rt, &both, 1, 14);
-    expect_counts(rt, &both, 1, 1);
+    expect_counts(rt, &mut both, 1, 1);
     Ok(())
 }
 
@@ -219,17 +221,17 @@ fn drops_leaves_and_lowers_its_root_steps(
     rt: &impl Abort,
     alloc: Global,
 ) -> Result<(), AllocError> {
-    let mut both = Compared::new(alloc);
+    let mut both = Both::new(alloc);
     for key in 0..=240u64 {
-        assert!(rt; both.insert(rt, key, key)?);
+        assert!(rt; both.insert(key, key)?);
     }
     expect_shape(rt, &both, 2, 0);
-    expect_counts(rt, &both, 17, 3);
+    expect_counts(rt, &mut both, 17, 3);
     for key in 225..=240u64 {
-        assert!(rt; both.remove(rt, key));
+        assert!(rt; both.remove(key));
     }
     expect_shape(rt, &both, 1, 0);
-    expect_counts(rt, &both, 15, 1);
+    expect_counts(rt, &mut both, 15, 1);
     Ok(())
 }
 
@@ -241,12 +243,12 @@ fn drops_leaves_and_lowers_its_root(rt: HostRuntime) {
 /// The root over two nodes of depth 2 has one keyed child, of the keys up to 3375. Once the keys above are gone it gives
 /// its place to that child, which has 15 leaf nodes of 225 keys and gives its place up with the last but one of them.
 fn lowers_its_root_from_each_depth_steps(rt: &impl Abort, alloc: Global) -> Result<(), AllocError> {
-    let mut both = Compared::new(alloc);
+    let mut both = Both::new(alloc);
     for key in 1..=3616u64 {
-        assert!(rt; both.insert(rt, key, key)?);
+        assert!(rt; both.insert(key, key)?);
     }
     for key in (1..=3616u64).rev() {
-        assert!(rt; both.remove(rt, key));
+        assert!(rt; both.remove(key));
         let depth = match key {
             3377..=3616 => 3,
             227..=3376 => 2,
@@ -254,10 +256,10 @@ fn lowers_its_root_from_each_depth_steps(rt: &impl Abort, alloc: Global) -> Resu
         };
         assert_eq!(rt; both.index().depth(), depth);
         match key {
-            3601 => expect_counts(rt, &both, 240, 19),
-            3376 => expect_counts(rt, &both, 225, 16),
-            226 => expect_counts(rt, &both, 15, 1),
-            1 => expect_counts(rt, &both, 0, 1),
+            3601 => expect_counts(rt, &mut both, 240, 19),
+            3376 => expect_counts(rt, &mut both, 225, 16),
+            226 => expect_counts(rt, &mut both, 15, 1),
+            1 => expect_counts(rt, &mut both, 0, 1),
             _ => {}
         }
     }

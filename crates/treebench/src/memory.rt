@@ -1,5 +1,5 @@
 //! Measures the memory of pairs.
-use crate::keys::Numbers;
+use crate::keys::source;
 use std::alloc::{AllocError, Global};
 use std::rt::Files;
 use std::{fs, io};
@@ -27,7 +27,7 @@ pub fn measure_footprint(rt: &(impl Files + AllocGlobal), size: usize) -> io::Re
 
 // Returns an index of so many random pairs.
 fn index_of(alloc: Global, size: usize) -> Result<TreeIndex<u64, u64>, AllocError> {
-    let mut source = Numbers::new();
+    let mut source = source();
     let mut index = TreeIndex::new(alloc);
     for _ in 0..size {
         let key = source.draw();

@@ -2,8 +2,9 @@
 use crate::calls::{
     cut, insert_all, locate_all, peek_all, remove_all, upsert_all, walk, walk_back, walk_ranges,
 };
-use crate::keys::{Numbers, ascending, texts};
+use crate::keys::{ascending, source, texts};
 use std::alloc::{AllocError, Global};
+use test_support::chance::Chance;
 use tree_index::TreeIndex;
 
 /// A workload.
@@ -133,7 +134,7 @@ pub fn scene_of_numbers(
     workload: Workload,
     size: usize,
 ) -> Result<Scene<u64>, AllocError> {
-    let mut source = Numbers::new();
+    let mut source = source();
     let keys = source.list(alloc, size)?;
     let mut order = keys.clone()?;
     source.shuffle(&mut order);
@@ -180,7 +181,7 @@ fn ascending_keys(alloc: Global, size: usize) -> Result<Keys, AllocError> {
     })
 }
 
-fn middle_keys(alloc: Global, source: &mut Numbers, size: usize) -> Result<Keys, AllocError> {
+fn middle_keys(alloc: Global, source: &mut Chance, size: usize) -> Result<Keys, AllocError> {
     let mut held = ascending(alloc, 0, size)?;
     source.shuffle(&mut held);
     let asked = ascending(alloc, size / 4, size - size / 4)?;
@@ -201,7 +202,7 @@ pub fn scene_of_texts(
     workload: Workload,
     size: usize,
 ) -> Result<Scene<String>, AllocError> {
-    let mut source = Numbers::new();
+    let mut source = source();
     let mut numbers = source.list(alloc, size)?;
     let keys = texts(alloc, &numbers)?;
     source.shuffle(&mut numbers);

@@ -1,6 +1,5 @@
 //! What the calls of an array answer, on arrays worked out by hand.
 use super::found::{Found, found, slot_from};
-use super::plain::word;
 use std::ops::Bound;
 use std::process::Abort;
 use std::test::Fail;
@@ -63,9 +62,9 @@ fn stores_and_finds(rt: HostRuntime) {
     let mut array = of(&[5, 3, 9]);
     assert_eq!(rt; array.len(), 3);
     assert_eq!(rt; array.remove_if(&3, |_| true), RemoveResult::Success);
-    assert_eq!(rt; word(array.insert::<false>(4, 4)), ("Success", None));
+    assert_eq!(rt; array.insert::<false>(4, 4), InsertResult::Success);
     assert_eq!(rt; (array.len(), array.free()), (3, 11));
-    assert_eq!(rt; word(array.insert::<true>(9, 90)), ("Success", None));
+    assert_eq!(rt; array.insert::<true>(9, 90), InsertResult::Success);
     assert_eq!(rt; (array.len(), array.free()), (3, 10));
     assert_eq!(rt; array.optimal_boundary(), (15, 3, false));
     expect_found(&rt, &array, &OF_FIVE_ARRIVALS);
@@ -84,7 +83,7 @@ fn of_one_key(rt: &impl Abort) -> Array<u64, u64> {
     let mut array = Array::new();
     for val in 0..15 {
         assert!(rt; !array.is_full());
-        assert!(rt; word(array.insert::<true>(7, val)) == ("Success", None));
+        assert!(rt; array.insert::<true>(7, val) == InsertResult::Success);
     }
     array
 }
@@ -99,12 +98,12 @@ fn one_key_many_times(rt: HostRuntime) {
         (array.free(), array.optimal_boundary()),
         (0, (15, 1, false))
     );
-    assert_eq!(rt; word(array.insert::<true>(7, 70)), ("Full", Some((7, 70))));
+    assert_eq!(rt; array.insert::<true>(7, 70), InsertResult::Full(7, 70));
     assert_eq!(rt;
-        word(array.insert::<false>(7, 71)),
-        ("Duplicate", Some((7, 71)))
+        array.insert::<false>(7, 71),
+        InsertResult::Duplicate(7, 71)
     );
-    assert_eq!(rt; word(array.insert::<false>(8, 80)), ("Full", Some((8, 80))));
+    assert_eq!(rt; array.insert::<false>(8, 80), InsertResult::Full(8, 80));
     expect_found(&rt, &array, &OF_ONE_KEY);
 }
 
@@ -117,7 +116,7 @@ fn retires(rt: HostRuntime) {
     assert_eq!(rt; array.remove_if(&5, |_| true), RemoveResult::Fail);
     assert_eq!(rt; marks(&array), (true, true, true));
     assert_eq!(rt; (array.free(), array.len()), (14, 0));
-    assert_eq!(rt; word(array.insert::<false>(6, 6)), ("Full", Some((6, 6))));
+    assert_eq!(rt; array.insert::<false>(6, 6), InsertResult::Full(6, 6));
 }
 
 /// Takes the pair of the least key from this one on.

@@ -2,7 +2,7 @@
 ghost use Rattle.tree_array.specs.Length.{IsLen};
 
 use super::found::{found, questions, slot_from};
-use super::plain::{Plain, word};
+use super::plain::Plain;
 use std::alloc::{AllocError, Global};
 use std::ops::Bound;
 use std::process::Abort;
@@ -120,12 +120,12 @@ fn store<const LEN: usize, R: Abort>(
     let (key, val) = (chance.below(KEYS), chance.below(1000));
     match chance.below(4) {
         0 => {
-            let answer = word(array.insert::<true>(key, val));
+            let answer = array.insert::<true>(key, val);
             assert!(rt; answer == plain.insert(true, key, val)?);
         }
         1 => set(rt, array, plain, key, val),
         _ => {
-            let answer = word(array.insert::<false>(key, val));
+            let answer = array.insert::<false>(key, val);
             assert!(rt; answer == plain.insert(false, key, val)?);
         }
     }

@@ -5,17 +5,6 @@ use std::alloc::{AllocError, Global};
 use std::ops::Bound;
 use tree_array::array::{InsertResult, RemoveResult};
 
-/// A word for what an insert answered, with the pair that came back.
-pub type Answer = (&'static str, Option<(u64, u64)>);
-
-pub(crate) fn word(answer: InsertResult<u64, u64>) -> Answer {
-    match answer {
-        InsertResult::Success => ("Success", None),
-        InsertResult::Duplicate(key, val) => ("Duplicate", Some((key, val))),
-        InsertResult::Full(key, val) => ("Full", Some((key, val))),
-    }
-}
-
 /// The arrivals, each with its pair or spent, and whether the last pair was removed.
 #[derive(Drop)]
 pub struct Plain {
@@ -83,16 +72,16 @@ impl Plain {
         upsert: bool,
         key: u64,
         val: u64,
-    ) -> Result<Answer, AllocError> {
+    ) -> Result<InsertResult<u64, u64>, AllocError> {
         if !upsert && self.value(key).is_some() {
-            return Ok(("Duplicate", Some((key, val))));
+            return Ok(InsertResult::Duplicate(key, val));
         }
         if self.is_full() {
-            return Ok(("Full", Some((key, val))));
+            return Ok(InsertResult::Full(key, val));
         }
         let _ = self.spend(|stored| stored == key);
         self.arrivals.push(Some((key, val)))?;
-        Ok(("Success", None))
+        Ok(InsertResult::Success)
     }
 
     /// The value of a key.
