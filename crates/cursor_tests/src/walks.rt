@@ -5,6 +5,7 @@ use std::ops::Bound;
 use std::process::Abort;
 use test_support::refusals::succeeds;
 use tree_index::{Cursor, Iter, Move, Range, TreeIndex, run_moves};
+use tree_ranges::laws::{pairs_ascending, pairs_descending};
 
 /// Pairs in the order in which they come, the bounds of a range over them, its moves with their answers, and then those
 /// of the cursor over all pairs that is made of it.
@@ -364,4 +365,20 @@ fn passes_an_empty_leaf_steps(rt: &impl Abort, alloc: Global) -> Result<(), Allo
 #[test]
 fn passes_an_empty_last_leaf(rt: HostRuntime) {
     assert!(rt; succeeds(|| passes_an_empty_leaf_steps(&rt, rt.alloc())));
+}
+
+fn lists_pairs_steps(rt: &impl Abort, alloc: Global) -> Result<(), AllocError> {
+    let index = ascending(alloc, 1, 40)?;
+    let bounds = (Bound::Excluded(&14), Bound::Included(&17));
+    let up = pairs_ascending(alloc, &mut index.range(bounds))?;
+    assert!(rt; up.as_slice() == [(&15, &15), (&16, &16), (&17, &17)].as_slice());
+    let down = pairs_descending(alloc, &mut index.range(bounds))?;
+    assert!(rt; down.as_slice() == [(&17, &17), (&16, &16), (&15, &15)].as_slice());
+    assert_eq!(rt; pairs_ascending(alloc, &mut index.iter())?.len(), 40);
+    Ok(())
+}
+
+#[test]
+fn lists_pairs_either_way(rt: HostRuntime) {
+    assert!(rt; succeeds(|| lists_pairs_steps(&rt, rt.alloc())));
 }

@@ -102,10 +102,7 @@ impl Both {
         let contains = self.index.contains(&key);
         self.keep(expect(found == expected, Flaw::Answer));
         self.keep(expect(contains == expected.is_some(), Flaw::Answer));
-        self.keep(expect(
-            entry == expected.map(|value| (key, value)),
-            Flaw::Answer,
-        ));
+        self.keep(expect(entry == expected.map(|value| (key, value)), Flaw::Answer));
     }
 
     /// Removes the pairs whose keys are within the bounds.

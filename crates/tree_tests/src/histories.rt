@@ -2,7 +2,7 @@
 use std::alloc::{AllocError, Global};
 use std::process::Abort;
 use test_support::refusals::succeeds;
-use tree_index::{Command, IndexKey, InsertError, Reply, SameClone, State};
+use tree_index::{Command, IndexKey, InsertError, PreparedPair, Reply, SameClone, State};
 use tree_support::flaws;
 
 /// What a command is answered. A refusal leaves the history as long as it was.
@@ -63,6 +63,34 @@ fn keeps_its_calls_steps(rt: &impl Abort, alloc: Global) -> Result<(), AllocErro
 #[test]
 fn keeps_its_calls(rt: HostRuntime) {
     assert!(rt; succeeds(|| keeps_its_calls_steps(&rt, rt.alloc())));
+}
+
+/// A pair with the clones that a history keeps of it.
+fn prepared(key: u64, value: u64) -> Result<PreparedPair<u64, u64>, AllocError> {
+    PreparedPair::new(key, value).map_err(|_| AllocError)
+}
+
+fn records_prepared_pairs_steps(rt: &impl Abort, alloc: Global) -> Result<(), AllocError> {
+    let mut state = State::new(alloc);
+    let stored = state.insert_prepared(prepared(1, 10)?);
+    stored.map_err(|_| AllocError)?;
+    let again = state.insert_prepared(prepared(1, 11)?);
+    let Err(InsertError::Duplicate(1, 11)) = again else {
+        return Err(AllocError);
+    };
+    let stored = state.upsert_prepared(prepared(1, 12)?);
+    stored.map_err(|_| AllocError)?;
+    assert_eq!(rt; flaws(state.index(), &[(1, 12)]), Ok(()));
+    assert_eq!(rt; state.history().len(), 3);
+    expect_record(rt, &state, 0, Command::Insert(1, 10), Reply::Stored);
+    expect_record(rt, &state, 1, Command::Insert(1, 11), Reply::Duplicate);
+    expect_record(rt, &state, 2, Command::Upsert(1, 12), Reply::Stored);
+    Ok(())
+}
+
+#[test]
+fn records_prepared_pairs(rt: HostRuntime) {
+    assert!(rt; succeeds(|| records_prepared_pairs_steps(&rt, rt.alloc())));
 }
 
 /// Stores a pair and removes it, and then stores two more at its key.

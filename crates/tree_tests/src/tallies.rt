@@ -4,6 +4,7 @@ ghost use Rattle.tree_model.specs.Keys.{equal_numbers};
 
 use std::alloc::{AllocError, Global};
 use std::cell::Cell;
+use std::ops::Bound;
 use std::process::Abort;
 use test_support::chance::Chance;
 use test_support::refusals::succeeds;
@@ -27,8 +28,9 @@ impl Tally {
         }
     }
 
-    fn alive(&self) -> u64 {
-        self.made.get().saturating_sub(self.dropped.get())
+    /// Whether so many are alive, and each of the others was dropped once.
+    fn has_alive(&self, alive: usize) -> bool {
+        self.made.get() == self.dropped.get().saturating_add(alive as u64)
     }
 }
 
@@ -80,7 +82,7 @@ fn expect_alive<const LEN: usize>(rt: &impl Abort, index: &Index<'_, LEN>, tally
     let (arenas, _) = index.parts();
     let separators = arenas.leaf_count().saturating_sub(1);
     let held = index.len().saturating_mul(2).saturating_add(separators);
-    assert_eq!(rt; tally.alive(), held as u64);
+    assert!(rt; tally.has_alive(held));
 }
 
 /// Makes one random call. Returns `Err` if memory was refused.
@@ -91,8 +93,8 @@ fn call<'c, const LEN: usize>(
 ) -> Result<(), AllocError> {
     let number = chance.below(300);
     let key = Counted::new(number, tally);
-    match chance.below(8) {
-        0..3 => {
+    match chance.below(40) {
+        0..16 => {
             if let Err(InsertError::OutOfMemory(_, _)) = index.insert_sync(
                 key,
                 Counted::new(number, tally),
@@ -100,14 +102,19 @@ fn call<'c, const LEN: usize>(
                 return Err(AllocError);
             }
         }
-        3..5 => {
+        16..26 => {
             if index.upsert_sync(key, Counted::new(number, tally)).is_err() {
                 return Err(AllocError);
             }
         }
-        5 => {
+        26..31 => {
             let _ = index.remove_if_sync(&key, |value| value.number % 2 == 0);
         }
+        31 => {
+            let end = Counted::new(number.saturating_add(40), tally);
+            index.remove_range_sync((Bound::Included(&key), Bound::Excluded(&end)));
+        }
+        32 if number < 100 => index.clear(),
         _ => {
             let _ = index.remove_sync(&key);
         }
@@ -123,8 +130,9 @@ fn make_calls<'c, const LEN: usize>(
 ) -> Result<(), AllocError> {
     let mut chance = Chance::new(1);
     for _ in 0..4000 {
-        call(index, &mut chance, tally)?;
+        let outcome = call(index, &mut chance, tally);
         expect_alive(rt, index, tally);
+        outcome?;
     }
     Ok(())
 }
@@ -143,14 +151,16 @@ fn use_seven_slots(rt: &impl Abort, alloc: Global, tally: &Tally) -> Result<(), 
 
 fn drops_once(rt: &impl Abort, alloc: Global) -> Result<(), AllocError> {
     let tally = Tally::new();
-    use_fifteen_slots(rt, alloc, &tally)?;
-    assert_eq!(rt; tally.alive(), 0);
-    use_seven_slots(rt, alloc, &tally)?;
-    assert_eq!(rt; tally.alive(), 0);
-    Ok(())
+    let outcome = use_fifteen_slots(rt, alloc, &tally);
+    assert!(rt; tally.has_alive(0));
+    outcome?;
+    let outcome = use_seven_slots(rt, alloc, &tally);
+    assert!(rt; tally.has_alive(0));
+    outcome
 }
 
-/// After inserts, refusals of a duplicate, upserts, removals and splits, and when the index is dropped.
+/// After inserts, refusals of a duplicate and of memory, upserts, removals, splits and cuts, and when the index is
+/// dropped.
 #[test]
 fn drops_each_key_and_value_once(rt: HostRuntime) {
     assert!(rt; succeeds(|| drops_once(&rt, rt.alloc())));
@@ -169,17 +179,33 @@ fn expect_absent<'c, const LEN: usize>(
     }
 }
 
-/// Inserts a key while clones are refused, and again with clones if that refused it. Returns whether it did.
-fn insert_twice<'c, const LEN: usize>(
+/// Stores an absent key, by an insert if it is even and else by an upsert. Returns the pair if memory was refused.
+fn store<'c, const LEN: usize>(
+    index: &mut Index<'c, LEN>,
+    tally: &'c Tally,
+    number: u64,
+) -> Option<(Counted<'c>, Counted<'c>)> {
+    let (key, value) = (Counted::new(number, tally), Counted::new(number, tally));
+    if number % 2 == 1 {
+        return index.upsert_sync(key, value).err();
+    }
+    match index.insert_sync(key, value) {
+        Err(InsertError::OutOfMemory(key, value)) => Some((key, value)),
+        _ => None,
+    }
+}
+
+/// Stores a key while clones are refused, and again with clones if that refused it. Returns whether it did.
+fn store_twice<'c, const LEN: usize>(
     rt: &impl Abort,
     index: &mut Index<'c, LEN>,
     tally: &'c Tally,
     number: u64,
 ) -> Result<bool, AllocError> {
     tally.refuses.set(true);
-    let answer = index.insert_sync(Counted::new(number, tally), Counted::new(number, tally));
+    let refused = store(index, tally, number);
     tally.refuses.set(false);
-    let Err(InsertError::OutOfMemory(key, value)) = answer else {
+    let Some((key, value)) = refused else {
         return Ok(false);
     };
     assert!(rt; key.number == number && value.number == number);
@@ -190,7 +216,7 @@ fn insert_twice<'c, const LEN: usize>(
     Ok(true)
 }
 
-/// Inserts descending keys while clones are refused. Returns how many were refused.
+/// Stores descending keys while clones are refused. Returns how many were refused.
 fn refused_clones<'c, const LEN: usize>(
     rt: &impl Abort,
     index: &mut Index<'c, LEN>,
@@ -198,7 +224,7 @@ fn refused_clones<'c, const LEN: usize>(
 ) -> Result<u64, AllocError> {
     let mut refused = 0u64;
     for number in (0..300).rev() {
-        if insert_twice(rt, index, tally, number)? {
+        if store_twice(rt, index, tally, number)? {
             refused = refused.saturating_add(1);
         }
         expect_alive(rt, index, tally);
@@ -207,23 +233,31 @@ fn refused_clones<'c, const LEN: usize>(
     Ok(refused)
 }
 
-fn refuses_with_fifteen_slots(rt: &impl Abort, alloc: Global) -> Result<(), AllocError> {
-    let tally = Tally::new();
+/// Fills an index of fifteen slots while clones are refused, and drops it.
+fn fill_fifteen_slots(rt: &impl Abort, alloc: Global, tally: &Tally) -> Result<u64, AllocError> {
     let mut index: Index<15> = TreeIndexOf::new(alloc);
-    assert!(rt; refused_clones(rt, &mut index, &tally)? > 15);
-    Ok(())
+    refused_clones(rt, &mut index, tally)
 }
 
-fn refuses_with_seven_slots(rt: &impl Abort, alloc: Global) -> Result<(), AllocError> {
-    let tally = Tally::new();
+/// Fills an index of seven slots while clones are refused, and drops it.
+fn fill_seven_slots(rt: &impl Abort, alloc: Global, tally: &Tally) -> Result<u64, AllocError> {
     let mut index: Index<7> = TreeIndexOf::new(alloc);
-    assert!(rt; refused_clones(rt, &mut index, &tally)? > 30);
+    refused_clones(rt, &mut index, tally)
+}
+
+fn refuses_clones(rt: &impl Abort, alloc: Global) -> Result<(), AllocError> {
+    let tally = Tally::new();
+    let refused = fill_fifteen_slots(rt, alloc, &tally);
+    assert!(rt; tally.has_alive(0));
+    assert!(rt; refused? > 15);
+    let refused = fill_seven_slots(rt, alloc, &tally);
+    assert!(rt; tally.has_alive(0));
+    assert!(rt; refused? > 30);
     Ok(())
 }
 
-/// An insert that must split clones a separator. Where that is refused, the pair comes back and no pair changed.
+/// A write that must split clones a separator. Where that is refused, the pair comes back and no pair changed.
 #[test]
 fn hands_back_the_pair_where_a_clone_is_refused(rt: HostRuntime) {
-    assert!(rt; succeeds(|| refuses_with_fifteen_slots(&rt, rt.alloc())));
-    assert!(rt; succeeds(|| refuses_with_seven_slots(&rt, rt.alloc())));
+    assert!(rt; succeeds(|| refuses_clones(&rt, rt.alloc())));
 }

@@ -4,7 +4,7 @@ use std::ops::Bound;
 use std::process::Abort;
 use std::test::Fail;
 use tree_array::array::{
-    Array, ArrayIter, ArrayOf, ArrayRevIter, DIMENSION, RemoveResult, range_contains,
+    Array, ArrayIter, ArrayOf, ArrayRevIter, DIMENSION, InsertResult, RemoveResult, range_contains,
 };
 
 /// The array in which these keys arrived, each with itself as its value.
@@ -181,10 +181,13 @@ fn boundaries(rt: HostRuntime) {
     }
 }
 
-static SMALL_DIVISIONS: [Division<7>; 4] = [
+static SMALL_DIVISIONS: [Division<7>; 7] = [
     ([1, 2, 3, 4, 5, 6, 7], (6, 7, true)),
     ([2, 1, 3, 4, 5, 6, 7], (5, 7, false)),
+    ([6, 2, 4, 7, 1, 3, 5], (4, 7, false)),
     ([6, 2, 4, 1, 7, 3, 5], (3, 7, false)),
+    ([6, 2, 4, 1, 7, 5, 3], (3, 7, false)),
+    ([7, 6, 5, 4, 3, 1, 2], (2, 7, false)),
     ([7, 6, 5, 4, 3, 2, 1], (1, 7, false)),
 ];
 

@@ -46,6 +46,7 @@ fn compare_shape<const LEN: usize, R: Abort>(
         (plain.is_empty(), plain.is_full(), plain.is_retired())
     );
     assert_eq!(rt; array.free() as usize, plain.free());
+    assert_eq!(rt; array.len() as usize, count);
     Ok(())
 }
 
