@@ -26,8 +26,8 @@ use Rattle.tree_node.proofs.Levels.{kind_of}
 use Rattle.tree_node.proofs.Steps.{part_after}
 use Rattle.tree_node.proofs.Unchanged.{unchanged_part}
 use Rattle.tree_node.proofs.Whole.{tree_part}
+use Rattle.tree_node.proofs.Standing.{retired_children}
 use Rattle.tree_remove.specs.Removes.{RemovesUnder}
-use Rattle.tree_remove.proofs.NodeDrops.{retired_children}
 use Rattle.tree_remove.proofs.NodeRemovals.{walk-retired}
 use Rattle.tree_walk.specs.Ends.{IsLinked}
 use Rattle.node_tests.specs.Planted.{IsPlanted}

@@ -10,8 +10,8 @@ use Rattle.std.proofs.lemmas.List.{length-map, nil_from_length}
 use Rattle.std.proofs.lemmas.Option.{same_Some, slice_get_within}
 use Rattle.tree_array.specs.Arrivals.{Arrivals, arrival, ascents, reachable, numbered, sorted, stored}
 use Rattle.tree_array.specs.Insertion.{HasRoom}
-use Rattle.tree_order.specs.Order.{picked, named, names, rank_in, rises_in}
-use Rattle.tree_cells.specs.Ranked.{IsRanked}
+use Rattle.tree_order.specs.Order.{picked, named, names, ordinal_in, rises_in}
+use Rattle.tree_cells.specs.Ordinals.{HasOrdinals}
 use Rattle.tree_array.specs.Sound.{IsSound}
 use Rattle.tree_cells.specs.Tabled.{IsMarked, IsTabled}
 use Rattle.tree_array.specs.View.{seen}
@@ -22,11 +22,11 @@ use Rattle.tree_cells.proofs.Entries.{all-reachable}
 use Rattle.tree_order.proofs.Picked.{length-picked, slice_get-picked}
 use Rattle.tree_cells.proofs.Picks.{arrival-all, reachable_few}
 use Rattle.tree_array.proofs.Places.{entry_at, last_entry}
-use Rattle.tree_cells.proofs.RankOrder.{one_arrival}
+use Rattle.tree_cells.proofs.OrdinalOrder.{one_arrival}
 use Rattle.tree_cells.proofs.Rises.{counted_all}
 use Rattle.tree_order.proofs.Slots.{len_small}
 use Rattle.tree_cells.proofs.Sorted.{IsAscending-sorted, pair_at-sorted, all-sorted, values-sorted}
-use Rattle.tree_cells.proofs.Walks.{ranked_of, slots_named}
+use Rattle.tree_cells.proofs.Walks.{ordinals_of, slots_named}
 
 -- ---- the slots of the entries
 module _ {K V : Type 0} where
@@ -86,7 +86,7 @@ module _ {K V : Type 0} {cmp : K → K → Ordering} (o : IsTotalOrder cmp) wher
       other q f some false h = refl
       other q f some true h = absurd (omega (arith, distinct (suc q) 0 f e some refl (equal_from_test _ h)))
 
-  module _ {pick : ℕ → Option (K × V)} {rank : ℕ → ℕ} {made : ℕ} (it : IsRanked cmp pick rank made) where
+  module _ {pick : ℕ → Option (K × V)} {ordinal : ℕ → ℕ} {made : ℕ} (it : HasOrdinals cmp pick ordinal made) where
     pub distinct_picked : IsDistinct (picked pick made)
     distinct_picked p q e f here there = one_arrival it p q e f (sym (arrival-all pick made it.unmade p) ∙ here) (sym (arrival-all pick made it.unmade q) ∙ there)
 
@@ -105,12 +105,12 @@ module _ {K V : Type 0} {cmp : K → K → Ordering} (o : IsTotalOrder cmp) {len
   sound retired marked = record {
     is_len = it.is_len;
     few = omega (arith, it.few_made, length-picked (arrival cells) made);
-    distinct = distinct_picked o (ranked_of o it);
+    distinct = distinct_picked o (ordinals_of o it);
     sorted_arrivals = refl;
     ascending = IsAscending-sorted o (reachable arrivals);
     slots = slots-sorted cmp arrivals;
-    count = length-sorted o arrivals (distinct_picked o (ranked_of o it));
-    entries_few = omega (arith, length-sorted o arrivals (distinct_picked o (ranked_of o it)), reachable_few arrivals);
+    count = length-sorted o arrivals (distinct_picked o (ordinals_of o it));
+    entries_few = omega (arith, length-sorted o arrivals (distinct_picked o (ordinals_of o it)), reachable_few arrivals);
     none_retired = λ is_retired. nil_from_length _ (count_is ∙ marked is_retired);
   }
 
@@ -143,11 +143,11 @@ module _ {K V : Type 0} {cmp : K → K → Ordering} (o : IsTotalOrder cmp) {len
       let s = it.in_order.stands i lt in
       (lt, s.1 ∙ ap (λ (f : K × V). Some f) (same_Some s.0 e (sym (entry_place i s.0 lt s.1) ∙ there)))
 
-  -- the rises of ranks are the ascents of keys
-  pub rises_seen : (retired : Bool) {array : Arrivals K V} → seen cmp cells made retired ≡ array → (rises_in (rank_in (named order) count) made ≡ ascents cmp (reachable array.arrivals)) × (rises_in (rank_in (named order) count) made ≤ count)
+  -- the rises of ordinals are the ascents of keys
+  pub rises_seen : (retired : Bool) {array : Arrivals K V} → seen cmp cells made retired ≡ array → (rises_in (ordinal_in (named order) count) made ≡ ascents cmp (reachable array.arrivals)) × (rises_in (ordinal_in (named order) count) made ≤ count)
   rises_seen retired view_is =
-      let counted = counted_all (ranked_of o it) (omega (arith, it.few_made, len_small len it.is_len)) made in
-      (counted.risen ∙ ap (λ (a : Arrivals K V). ascents cmp (reachable a.arrivals)) view_is, omega (arith, counted.fewer, length-sorted o arrivals (distinct_picked o (ranked_of o it)), count_is))
+      let counted = counted_all (ordinals_of o it) (omega (arith, it.few_made, len_small len it.is_len)) made in
+      (counted.risen ∙ ap (λ (a : Arrivals K V). ascents cmp (reachable a.arrivals)) view_is, omega (arith, counted.fewer, length-sorted o arrivals (distinct_picked o (ordinals_of o it)), count_is))
 
   -- so contracts see them
   module _ (retired : Bool) {array : Arrivals K V} (view_is : seen cmp cells made retired ≡ array) where

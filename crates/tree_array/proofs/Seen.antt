@@ -8,7 +8,7 @@ use Rattle.std.proofs.lemmas.Bool.{cases_eq}
 use Rattle.tree_array.specs.Arrivals.{Arrivals, arrival, reachable, sorted, spent_at, spend}
 use Rattle.tree_cells.specs.Tabled.{IsSetAt, IsTabled}
 use Rattle.tree_order.specs.Order.{picked, named}
-use Rattle.tree_cells.specs.Ranked.{IsRanked}
+use Rattle.tree_cells.specs.Ordinals.{HasOrdinals}
 use Rattle.tree_array.specs.View.{seen}
 use Rattle.tree_model.proofs.LookUps.{equal_from_test}
 use Rattle.tree_cells.proofs.Found.{one_place}
@@ -40,7 +40,7 @@ module _ {K V : Type 0} (cmp : K → K → Ordering) (cells : List (Option (K ×
     listed_seen p some = let e = some_of (arrival cells p) (reachable_seen p some) in it.listed p e.0 e.1
 
 -- a key that compares as another is spent where that is
-module _ {K V : Type 0} {cmp : K → K → Ordering} (o : IsTotalOrder cmp) {pick : ℕ → Option (K × V)} {rank : ℕ → ℕ} {made : ℕ} (it : IsRanked cmp pick rank made) (key : K) where
+module _ {K V : Type 0} {cmp : K → K → Ordering} (o : IsTotalOrder cmp) {pick : ℕ → Option (K × V)} {ordinal : ℕ → ℕ} {made : ℕ} (it : HasOrdinals cmp pick ordinal made) (key : K) where
   -- each arrival but that of the key stays
   spent_others : (old : ℕ) (before : K × V) → pick old ≡ Some before → cmp before.0 key ≡ Equal → (p : ℕ) → p ≢ old → spent_at cmp key (pick p) ≡ pick p
   spent_others old before at_old same p differs = go (pick p) refl

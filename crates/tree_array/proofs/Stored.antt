@@ -22,7 +22,7 @@ use Rattle.tree_order.proofs.Picked.{length-picked, picked-next}
 use Rattle.tree_cells.proofs.Picks.{picked_same}
 use Rattle.tree_array.proofs.Seen.{same_arrays, arrivals_seen, spend_seen, spend_absent}
 use Rattle.tree_cells.proofs.Tabled.{early, set_at}
-use Rattle.tree_cells.proofs.Walks.{ranked_of}
+use Rattle.tree_cells.proofs.Walks.{ordinals_of}
 
 pub clamped_early : (count place : ℕ) → place < count → clamped count place ≡ place
 clamped_early count place lt = grind (arith, nat_tests)
@@ -90,7 +90,7 @@ module _ {K V : Type 0} {cmp : K → K → Ordering} (o : IsTotalOrder cmp) {len
         let put = set_at cells made (Some (key, val)) (omega (arith, it.whole)) in
         stored_seen (set cells made (Some (key, val)))
         (picked_same (arrival cells) (arrival (set cells made (Some (key, val)))) made (λ p lt. let differs : p ≢ made = λ e. omega arith in put.others p differs)
-        ∙ spend_absent o (ranked_of o it) key (λ p e some. other_key o it parts p e some))
+        ∙ spend_absent o (ordinals_of o it) key (λ p e some. other_key o it parts p e some))
         put.here
 
     -- a pair whose key an older arrival has
@@ -101,5 +101,5 @@ module _ {K V : Type 0} {cmp : K → K → Ordering} (o : IsTotalOrder cmp) {len
         let put = set_at (set cells (named order i) None) made (Some (key, val)) (omega (arith, it.whole, length-set cells (named order i) None)) in
         stored_seen (set (set cells (named order i) None) made (Some (key, val)))
         (picked_same (arrival (set cells (named order i) None)) (arrival (set (set cells (named order i) None) made (Some (key, val)))) made (λ p lt. let differs : p ≢ made = λ e. omega arith in put.others p differs)
-        ∙ spend_seen o (ranked_of o it) key (arrival (set cells (named order i) None)) (named order i) h.pair h.there (tied_back o key h.pair.0 h.same) spent)
+        ∙ spend_seen o (ordinals_of o it) key (arrival (set cells (named order i) None)) (named order i) h.pair h.there (tied_back o key h.pair.0 h.same) spent)
         put.here

@@ -20,7 +20,7 @@ use Rattle.tree_order.proofs.Picked.{length-picked}
 use Rattle.tree_array.proofs.Seen.{same_arrays}
 use Rattle.tree_cells.proofs.Sorted.{IsAscending-sorted, pair_at-sorted}
 use Rattle.tree_cells.proofs.Tabled.{set_at, valued_tabled}
-use Rattle.tree_cells.proofs.Walks.{ranked_of}
+use Rattle.tree_cells.proofs.Walks.{ordinals_of}
 
 -- a list whose element at one place is set
 pub picked_set : {K V : Type 0} (pick pick' : ℕ → Option (K × V)) (made slot : ℕ) (pair : K × V) → slot < made → IsSetAt pick pick' slot (Some pair) → picked pick' made ≡ set (picked pick made) slot (Some pair)
@@ -70,7 +70,7 @@ module _ {K V : Type 0} {cmp : K → K → Ordering} (o : IsTotalOrder cmp) {len
       (λ other. go other (is_eq (cmp key other)) refl ∙ sym (pair_at-put o other (sorted cmp (reachable (picked pick made))) key new))
     where
       go : (other : K) (b : Bool) → is_eq (cmp key other) ≡ b → pair_at cmp (sorted cmp (reachable (picked pick' made))) other ≡ (if is_eq (cmp key other) then Some (key, new) else pair_at cmp (sorted cmp (reachable (picked pick made))) other)
-      go other true h = rw h (found_at o (ranked_of o (valued_tabled o it slot key old new there)) other slot (key, new) change.here (tied_back o key other (equal_from_test _ h)))
+      go other true h = rw h (found_at o (ordinals_of o (valued_tabled o it slot key old new there)) other slot (key, new) change.here (tied_back o key other (equal_from_test _ h)))
       go other false h =
           rw h
           (pair_at-sorted o other (reachable (picked pick' made))

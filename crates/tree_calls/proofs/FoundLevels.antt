@@ -12,8 +12,8 @@ use Rattle.tree_node.specs.Arenas.{TreeArenas}
 use Rattle.tree_walk.specs.Ends.{BeginsPart, IsLinked}
 use Rattle.tree_node.specs.Parts.{IsPart, Unchanged}
 use Rattle.tree_node.specs.Tree.{IsRetired, Stands, StandsOrRetired, leaves_at, nodes_at, walk}
-use Rattle.tree_node.proofs.Bare.{no_children}
 use Rattle.tree_node.proofs.Unchanged.{unchanged_replaces}
+use Rattle.tree_node.proofs.Standing.{no_children}
 use Rattle.tree_cut.specs.Cuts.{CutsUnder}
 use Rattle.tree_cut.proofs.Tops.{childless_cut, retired_node}
 use Rattle.tree_ranges.specs.Approximate.{Approximates}

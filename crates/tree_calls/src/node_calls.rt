@@ -182,8 +182,8 @@ pub trait NodeCalls<K: Ord + Drop, const LEN: usize> {
     /// has to be split and the node has no room for one more, so that its parent must make room in it. Neither changes
     /// anything. Returns `Err` if memory is refused; the entries are then what they were. Each of them hands the pair back.
     ///
-    /// Makes at most `LEN` comparisons per level and in the leaf; if an array on the path is full, the descent restarts
-    /// at its level. Allocates one leaf or node for each one that is split.
+    /// Makes at most 4 comparisons per level and in the leaf (3 among 7 slots); if an array on the path is full, the descent
+    /// restarts at its level. Allocates one leaf or node for each one that is split.
     final fn insert<const UPSERT: bool, V: Drop>(
         arenas: &mut ArenasOf<K, V, LEN>,
         id: NodeId,

@@ -11,7 +11,7 @@ use Rattle.tree_cells.specs.Arrivals.{arrival, reachable, sorted}
 use Rattle.tree_order.specs.Order.{picked}
 use Rattle.tree_cells.specs.Place.{Parts, IsPlace}
 use Rattle.tree_cells.specs.declared.search.Place.TheVariants.{Before}
-use Rattle.tree_cells.specs.Ranked.{IsRanked}
+use Rattle.tree_cells.specs.Ordinals.{HasOrdinals}
 use Rattle.tree_cells.specs.Tabled.{IsTabled}
 use Rattle.tree_model.specs.Pairs.{pair_at}
 use Rattle.tree_model.proofs.Lists.{find_none}
@@ -19,7 +19,7 @@ use Rattle.tree_model.proofs.LookUps.{equal_from_test}
 use Rattle.tree_model.proofs.Order.{greater_from_less, less_from_greater}
 use Rattle.tree_cells.proofs.Entries.{all-reachable}
 use Rattle.tree_cells.proofs.Picks.{arrival-all}
-use Rattle.tree_cells.proofs.RankOrder.{one_arrival}
+use Rattle.tree_cells.proofs.OrdinalOrder.{one_arrival}
 use Rattle.tree_cells.proofs.Sorted.{pair_at-sorted}
 
 suc_injective : (m n : ℕ) → suc m ≡ suc n → m ≡ n
@@ -38,7 +38,7 @@ module _ {K V : Type 0} (cmp : K → K → Ordering) (key : K) where
       go true h rest = absurd (omega (arith, one 0 f refl h))
       go false h rest = rw h rest
 
-module _ {K V : Type 0} {cmp : K → K → Ordering} (o : IsTotalOrder cmp) {pick : ℕ → Option (K × V)} {rank : ℕ → ℕ} {made : ℕ} (it : IsRanked cmp pick rank made) where
+module _ {K V : Type 0} {cmp : K → K → Ordering} (o : IsTotalOrder cmp) {pick : ℕ → Option (K × V)} {ordinal : ℕ → ℕ} {made : ℕ} (it : HasOrdinals cmp pick ordinal made) where
   -- another arrival with a key is the same
   pub one_place : (key : K) (p q : ℕ) (e f : K × V) → pick p ≡ Some e → pick q ≡ Some f → cmp e.0 key ≡ Equal → cmp f.0 key ≡ Equal → q ≡ p
   one_place key p q e f here there same alike = one_arrival it q p f e there here (o.congr f.0 key e.0 alike ∙ tied_back o e.0 key same)

@@ -13,7 +13,7 @@ use Rattle.tree_order.specs.Order.{picked, named}
 use Rattle.tree_cells.specs.Place.{Parts, IsPlace, slot_of}
 use Rattle.tree_cells.specs.declared.search.Place.{Place}
 use Rattle.tree_cells.specs.declared.search.Place.TheVariants.{At, Before}
-use Rattle.tree_cells.specs.Ranked.{IsRanked}
+use Rattle.tree_cells.specs.Ordinals.{HasOrdinals}
 use Rattle.tree_cells.specs.Tabled.{IsTabled}
 use Rattle.tree_model.specs.Pairs.{IsAscending, AllLarger, pair_at}
 use Rattle.tree_model.proofs.Lists.{find_none}
@@ -22,7 +22,7 @@ use Rattle.tree_model.proofs.Order.{greater_from_less, less_from_greater}
 use Rattle.tree_cells.proofs.Entries.{all-reachable}
 use Rattle.tree_cells.proofs.Found.{found_at}
 use Rattle.tree_cells.proofs.Picks.{arrival-all}
-use Rattle.tree_cells.proofs.Walks.{ranked_of}
+use Rattle.tree_cells.proofs.Walks.{ordinals_of}
 use Rattle.tree_order.proofs.Slots.{len_small}
 use Rattle.tree_cells.proofs.Sorted.{IsAscending-sorted, all-sorted}
 use Rattle.tree_cells.proofs.Tabled.{early}
@@ -55,7 +55,7 @@ module _ {K V : Type 0} {cmp : K → K → Ordering} (o : IsTotalOrder cmp) (key
       go false p Less q rest = rw p (rest (rw q at there) least.1)
       go false p Greater q rest = rw p (rest (rw q at there) least.1)
 
-  module _ {pick : ℕ → Option (K × V)} {rank : ℕ → ℕ} {made : ℕ} (it : IsRanked cmp pick rank made) where
+  module _ {pick : ℕ → Option (K × V)} {ordinal : ℕ → ℕ} {made : ℕ} (it : HasOrdinals cmp pick ordinal made) where
     -- what holds of each arrival holds of each entry
     all_entries : (P : K × V → Type 0) → ((p : ℕ) (e : K × V) → pick p ≡ Some e → P e) → AllByRecursion P (sorted cmp (reachable (picked pick made)))
     all_entries P each = all-sorted cmp P (reachable (picked pick made)) (all-reachable P (picked pick made) (λ p e some. each p e (sym (arrival-all pick made it.unmade p) ∙ some)))
@@ -73,7 +73,7 @@ module _ {K V : Type 0} {cmp : K → K → Ordering} (o : IsTotalOrder cmp) (key
   module _ {len : ℕ} {cells : List (Option (K × V))} {order made count : ℕ} (it : IsTabled cmp len cells order made count) {low : ℕ} (parts : Parts cmp cells order count key low) where
     -- the entry at the place that parts them
     pub least_above : low < count → (e : K × V) → arrival cells (named order low) ≡ Some e → least_from cmp (sorted cmp (reachable (picked (arrival cells) made))) key ≡ Some e
-    least_above lt e some = first_entry (ranked_of o it) (named order low) e some (ap is_ge (greater_from_less o key e.0 (parts.larger low e (omega arith) lt some))) (λ q f there from. after q f there from)
+    least_above lt e some = first_entry (ordinals_of o it) (named order low) e some (ap is_ge (greater_from_less o key e.0 (parts.larger low e (omega arith) lt some))) (λ q f there from. after q f there from)
       where
         after : (q : ℕ) (f : K × V) → arrival cells q ≡ Some f → is_ge (cmp f.0 key) ≡ true → is_le (cmp e.0 f.0) ≡ true
         after q f there from =
@@ -87,14 +87,14 @@ module _ {K V : Type 0} {cmp : K → K → Ordering} (o : IsTotalOrder cmp) (key
 
     -- no entry, where all are smaller
     pub least_none : count ≤ low → least_from cmp (sorted cmp (reachable (picked (arrival cells) made))) key ≡ None
-    least_none all = find_none _ (sorted cmp (reachable (picked (arrival cells) made))) (all_entries (ranked_of o it) _ (λ p e some.
+    least_none all = find_none _ (sorted cmp (reachable (picked (arrival cells) made))) (all_entries (ordinals_of o it) _ (λ p e some.
         let i = it.listed p e some in
         ap is_ge (less_from_greater o key e.0 (parts.smaller i.0 e (omega (arith, i.1)) (ap (arrival cells) i.2 ∙ some)))))
 
   -- what the slot of a place says of the least entry
   pub least_of : {len : ℕ} {cells : List (Option (K × V))} {order made count : ℕ} (it : IsTabled cmp len cells order made count) (place : Place) → IsPlace cmp cells order count key place → ((slot_of place < 15 → (e : K × V) × (arrival cells (slot_of place) ≡ Some e) × (least_from cmp (sorted cmp (reachable (picked (arrival cells) made))) key ≡ Some e)) × (15 ≤ slot_of place → least_from cmp (sorted cmp (reachable (picked (arrival cells) made))) key ≡ None))
   least_of {cells = cells} {order = order} it (At p s) h = (
-    λ lt. (h.0.pair, ap (arrival cells) (sym h.1) ∙ h.0.there, least_at (ranked_of o it) (named order p) h.0.pair h.0.there h.0.same),
+    λ lt. (h.0.pair, ap (arrival cells) (sym h.1) ∙ h.0.there, least_at (ordinals_of o it) (named order p) h.0.pair h.0.there h.0.same),
     λ le. absurd (omega (arith, h.1, early o it p h.0.early, it.few_made, len_small _ it.is_len)),
   )
   least_of {cells = cells} {order = order} it (Before p s) (inl here) =

@@ -3,8 +3,8 @@ pub mod Found
 pub mod Halving
 pub mod LeastFrom
 pub mod Moves
+pub mod OrdinalOrder
 pub mod Picks
-pub mod RankOrder
 pub mod Rises
 pub mod Sizes
 pub mod Sorted

@@ -65,10 +65,6 @@ module _ {K V : Type 0} where
   reachable_few (Some e ∷ arrivals) = omega (arith, reachable_few arrivals)
 
 -- ---- what a test of an arrival says
-pub some_from_test : {A : Type 0} (o : Option A) → is_some o ≡ true → (a : A) × (o ≡ Some a)
-some_from_test None h = absurd (false≢true h)
-some_from_test (Some a) h = (a, refl)
-
 pub none_from_test : {A : Type 0} (o : Option A) → is_some o ≡ false → o ≡ None
 none_from_test None h = refl
 none_from_test (Some a) h = absurd (false≢true (sym h))

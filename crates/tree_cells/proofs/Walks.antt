@@ -1,4 +1,4 @@
--- The ranks that an order gives, and the slots in the order of their keys.
+-- The ordinals that an order gives, and the slots in the order of their keys.
 use Rattle.std.proofs.Common.{◌≡◌, ◌≢◌, ◌⊎◌, ℕ, zero, suc, ◌+◌, ◌<◌, ◌≤◌, Bool, true, false, cond, map, find, List, [], ◌∷◌, ◌++◌, Option, Some, None, IsSome, refl, sym, ◌∙◌, ap, inl, inr, subst, arith}
 use Rattle.std.specs.List.{AllByRecursion, Contains}
 use Rattle.std.specs.declared.cmp.Ordering.{Ordering}
@@ -15,12 +15,13 @@ use Rattle.tree_model.proofs.Lists.{all_map, all-append}
 use Rattle.tree_model.proofs.Order.{greater_from_less}
 use Rattle.tree_model.proofs.LookUps.{equal_from_test}
 use Rattle.tree_cells.specs.Arrivals.{arrival, numbered, sorted}
-use Rattle.tree_order.specs.Order.{named, names, rank_in, picked}
-use Rattle.tree_cells.specs.Ranked.{IsRising, IsOrder, IsRanked}
+use Rattle.tree_order.specs.Order.{named, names, ordinal_in, picked}
+use Rattle.tree_cells.specs.Ordinals.{IsRising, IsOrder, HasOrdinals}
 use Rattle.tree_cells.specs.Tabled.{IsTabled}
 use Rattle.tree_cells.proofs.Picks.{arrival-all, cases_option, made_early}
 use Rattle.tree_order.proofs.Picked.{get_or-picked, length-picked}
-use Rattle.tree_cells.proofs.RankOrder.{nat_cmp_less, nat_cmp_equal, nat_cmp_greater, one_arrival}
+use Rattle.tree_order.proofs.InTurn.{ordinal_here, ordinal_before}
+use Rattle.tree_cells.proofs.OrdinalOrder.{nat_cmp_less, nat_cmp_equal, nat_cmp_greater, one_arrival}
 use Rattle.tree_cells.proofs.Sorted.{IsAscending-sorted, all-sorted, pair_at-sorted}
 use Rattle.tree_cells.proofs.Tabled.{early, places_apart, stands_some}
 
@@ -42,9 +43,9 @@ module _ {X : Type 0} where
   holds : (P : X → Type 0) (xs : List X) (y : X) → AllByRecursion P xs → Contains xs y → P y
   holds P xs y all h = All-contains P xs y (All-from_recursion P xs all) h
 
-module _ (rank : ℕ → ℕ) where
-  -- two lists of the same arrivals, both in the order of ranks, are one
-  rising_same : (xs ys : List ℕ) → IsRising rank xs → IsRising rank ys → ((p : ℕ) → Contains xs p → Contains ys p) → ((p : ℕ) → Contains ys p → Contains xs p) → xs ≡ ys
+module _ (ordinal : ℕ → ℕ) where
+  -- two lists of the same arrivals, both in the order of ordinals, are one
+  rising_same : (xs ys : List ℕ) → IsRising ordinal xs → IsRising ordinal ys → ((p : ℕ) → Contains xs p → Contains ys p) → ((p : ℕ) → Contains ys p → Contains xs p) → xs ≡ ys
   rising_same [] [] h i to from = refl
   rising_same [] (y ∷ ys) h i to from = absurd (none_contained y (from y (0, omega arith, refl)))
   rising_same (x ∷ xs) [] h i to from = absurd (none_contained x (to x (0, omega arith, refl)))
@@ -54,11 +55,11 @@ module _ (rank : ℕ → ℕ) where
       ∙ ap (λ (rest : List ℕ). y ∷ rest)
       (rising_same xs ys h.1 i.1
       (λ p there. elim (contained y p ys (to p (later x p xs there))) [
-        | inl here ↦ absurd (omega (arith, holds _ xs p h.0 there, ap rank (one ∙ here)))
+        | inl here ↦ absurd (omega (arith, holds _ xs p h.0 there, ap ordinal (one ∙ here)))
         | inr rest ↦ rest
       ])
       (λ p there. elim (contained x p xs (from p (later y p ys there))) [
-        | inl here ↦ absurd (omega (arith, holds _ ys p i.0 there, ap rank (sym one ∙ here)))
+        | inl here ↦ absurd (omega (arith, holds _ ys p i.0 there, ap ordinal (sym one ∙ here)))
         | inr rest ↦ rest
       ]))
     where
@@ -71,11 +72,11 @@ module _ (rank : ℕ → ℕ) where
         ]
       ]
 
-  pub one_order : (made : ℕ) (xs ys : List ℕ) → IsOrder rank made xs → IsOrder rank made ys → xs ≡ ys
+  pub one_order : (made : ℕ) (xs ys : List ℕ) → IsOrder ordinal made xs → IsOrder ordinal made ys → xs ≡ ys
   one_order made xs ys h i =
       rising_same xs ys h.rising i.rising
-      (λ p there. let r = holds _ xs p h.ranked there in i.every p r.0 r.1)
-      (λ p there. let r = holds _ ys p i.ranked there in h.every p r.0 r.1)
+      (λ p there. let r = holds _ xs p h.named there in i.every p r.0 r.1)
+      (λ p there. let r = holds _ ys p i.named there in h.every p r.0 r.1)
 
 module _ {K V : Type 0} where
   -- each number is that of a reachable arrival beside its key
@@ -126,27 +127,27 @@ module _ {K V : Type 0} where
   abbrev IsPicked : (ℕ → Option (K × V)) → K × ℕ → Type 0
   IsPicked pick slot = (val : V) × (pick slot.1 ≡ Some (slot.0, val))
 
-module _ {K V : Type 0} {cmp : K → K → Ordering} {pick : ℕ → Option (K × V)} {rank : ℕ → ℕ} {made : ℕ} (it : IsRanked cmp pick rank made) where
+module _ {K V : Type 0} {cmp : K → K → Ordering} {pick : ℕ → Option (K × V)} {ordinal : ℕ → ℕ} {made : ℕ} (it : HasOrdinals cmp pick ordinal made) where
   all_by_key : AllByRecursion (IsPicked pick) (by_key cmp pick made)
   all_by_key =
       all-sorted cmp (IsPicked pick) (numbered 0 (picked pick made))
       (all_map (λ slot h. (h.1, ap pick (let e : slot.1 ≡ h.0 = omega (arith, h.2) in e) ∙ sym (arrival-all pick made it.unmade h.0) ∙ h.3)) (numbered 0 (picked pick made)) (all_numbered 0 (picked pick made)))
 
-  -- keys ascend as their ranks
-  ranks_later : (slot : K × ℕ) (slots : List (K × ℕ)) → IsPicked pick slot → AllLarger cmp slot.0 slots → AllByRecursion (IsPicked pick) slots → AllByRecursion (λ q. rank slot.1 < rank q) (map (λ slot. slot.1) slots)
-  ranks_later slot [] h larger all = tt
-  ranks_later slot (next ∷ slots) h larger all =
-      (ranked (rank slot.1) (rank next.1) Less (sym larger.0 ∙ it.order slot.1 next.1 (slot.0, h.0) (next.0, all.0.0) h.1 all.0.1), ranks_later slot slots h larger.1 all.1)
+  -- keys ascend as their ordinals
+  ordinals_later : (slot : K × ℕ) (slots : List (K × ℕ)) → IsPicked pick slot → AllLarger cmp slot.0 slots → AllByRecursion (IsPicked pick) slots → AllByRecursion (λ q. ordinal slot.1 < ordinal q) (map (λ slot. slot.1) slots)
+  ordinals_later slot [] h larger all = tt
+  ordinals_later slot (next ∷ slots) h larger all =
+      (ranked (ordinal slot.1) (ordinal next.1) Less (sym larger.0 ∙ it.order slot.1 next.1 (slot.0, h.0) (next.0, all.0.0) h.1 all.0.1), ordinals_later slot slots h larger.1 all.1)
 
-  ranks_rise : (slots : List (K × ℕ)) → IsAscending cmp slots → AllByRecursion (IsPicked pick) slots → IsRising rank (map (λ slot. slot.1) slots)
-  ranks_rise [] ascending all = tt
-  ranks_rise (slot ∷ slots) ascending all = (ranks_later slot slots all.0 ascending.0 all.1, ranks_rise slots ascending.1 all.1)
+  ordinals_rise : (slots : List (K × ℕ)) → IsAscending cmp slots → AllByRecursion (IsPicked pick) slots → IsRising ordinal (map (λ slot. slot.1) slots)
+  ordinals_rise [] ascending all = tt
+  ordinals_rise (slot ∷ slots) ascending all = (ordinals_later slot slots all.0 ascending.0 all.1, ordinals_rise slots ascending.1 all.1)
 
-  all_ranked : (slots : List (K × ℕ)) → AllByRecursion (IsPicked pick) slots → AllByRecursion (λ p. (p < made) × (0 < rank p)) (map (λ slot. slot.1) slots)
-  all_ranked [] all = tt
-  all_ranked (slot ∷ slots) all = ((made_early pick made it.unmade slot.1 (slot.0, all.0.0) all.0.1, it.ranked slot.1 (slot.0, all.0.0) all.0.1), all_ranked slots all.1)
+  all_ordinal : (slots : List (K × ℕ)) → AllByRecursion (IsPicked pick) slots → AllByRecursion (λ p. (p < made) × (0 < ordinal p)) (map (λ slot. slot.1) slots)
+  all_ordinal [] all = tt
+  all_ordinal (slot ∷ slots) all = ((made_early pick made it.unmade slot.1 (slot.0, all.0.0) all.0.1, it.some slot.1 (slot.0, all.0.0) all.0.1), all_ordinal slots all.1)
 
-module _ {K V : Type 0} {cmp : K → K → Ordering} (o : IsTotalOrder cmp) {pick : ℕ → Option (K × V)} {rank : ℕ → ℕ} {made : ℕ} (it : IsRanked cmp pick rank made) where
+module _ {K V : Type 0} {cmp : K → K → Ordering} (o : IsTotalOrder cmp) {pick : ℕ → Option (K × V)} {ordinal : ℕ → ℕ} {made : ℕ} (it : HasOrdinals cmp pick ordinal made) where
   -- each reachable arrival is among the slots in order
   slot_there : (p : ℕ) (e : K × V) → pick p ≡ Some e → Contains (map (λ slot. slot.1) (by_key cmp pick made)) p
   slot_there p e there =
@@ -157,114 +158,108 @@ module _ {K V : Type 0} {cmp : K → K → Ordering} (o : IsTotalOrder cmp) {pic
       let same : hit.0.1 ≡ p = one_arrival it hit.0.1 p (hit.0.0, own.0) e own.1 there (equal_from_test _ found.1) in
       subst (Contains (map (λ slot. slot.1) (by_key cmp pick made))) same (mapped_contained (λ slot. slot.1) (by_key cmp pick made) hit.0 found.0)
 
-  pub slots_order : IsOrder rank made (map (λ slot. slot.1) (by_key cmp pick made))
+  pub slots_order : IsOrder ordinal made (map (λ slot. slot.1) (by_key cmp pick made))
   slots_order = record {
-    rising = ranks_rise it (by_key cmp pick made) (IsAscending-sorted o (numbered 0 (picked pick made))) (all_by_key it);
-    ranked = all_ranked it (by_key cmp pick made) (all_by_key it);
+    rising = ordinals_rise it (by_key cmp pick made) (IsAscending-sorted o (numbered 0 (picked pick made))) (all_by_key it);
+    named = all_ordinal it (by_key cmp pick made) (all_by_key it);
     every = λ p lt pos. elim (cases_option (pick p)) [
-      | inl none ↦ absurd (omega (arith, it.unranked p none))
+      | inl none ↦ absurd (omega (arith, it.spent p none))
       | inr some ↦ slot_there p some.0 some.1
     ];
   }
 
--- ---- the ranks that an order gives
-rank_here : (name : ℕ → ℕ) (n p : ℕ) → name n ≡ p → rank_in name (suc n) p ≡ n + 1
-rank_here name n p same = grind (arith, nat_tests)
-
-rank_before : (name : ℕ → ℕ) (n p : ℕ) → name n ≢ p → rank_in name (suc n) p ≡ rank_in name n p
-rank_before name n p differs = grind (arith, nat_tests)
-
-rank_le : (name : ℕ → ℕ) (n p : ℕ) → rank_in name n p ≤ n
-rank_le name zero p = omega arith
-rank_le name (suc n) p = elim (cases_eq (name n) p) [
-  | inl same ↦ omega (arith, rank_here name n p same)
-  | inr differs ↦ omega (arith, rank_before name n p differs, rank_le name n p)
+-- ---- the ordinals that an order gives
+ordinal_le : (name : ℕ → ℕ) (n p : ℕ) → ordinal_in name n p ≤ n
+ordinal_le name zero p = omega arith
+ordinal_le name (suc n) p = elim (cases_eq (name n) p) [
+  | inl same ↦ omega (arith, ordinal_here name n p same)
+  | inr differs ↦ omega (arith, ordinal_before name n p differs, ordinal_le name n p)
 ]
 
--- a slot with a rank is named by a place
-pub rank_place : (name : ℕ → ℕ) (n p : ℕ) → 0 < rank_in name n p → (i : ℕ) × (i < n) × (name i ≡ p)
-rank_place name zero p pos = absurd (omega arith)
-rank_place name (suc n) p pos = elim (cases_eq (name n) p) [
+-- a slot with an ordinal is named by a place
+pub ordinal_place : (name : ℕ → ℕ) (n p : ℕ) → 0 < ordinal_in name n p → (i : ℕ) × (i < n) × (name i ≡ p)
+ordinal_place name zero p pos = absurd (omega arith)
+ordinal_place name (suc n) p pos = elim (cases_eq (name n) p) [
   | inl same ↦ (n, omega arith, same)
-  | inr differs ↦ let i = rank_place name n p (omega (arith, rank_before name n p differs)) in (i.0, omega (arith, i.1), i.2)
+  | inr differs ↦ let i = ordinal_place name n p (omega (arith, ordinal_before name n p differs)) in (i.0, omega (arith, i.1), i.2)
 ]
 
--- the rank of the slot that a place names
-rank_is : (name : ℕ → ℕ) (n i : ℕ) → i < n → ((j : ℕ) → j < n → j ≢ i → name j ≢ name i) → rank_in name n (name i) ≡ i + 1
-rank_is name zero i lt apart = absurd (omega arith)
-rank_is name (suc n) i lt apart = elim (cases_eq n i) [
-  | inl same ↦ rank_here name n (name i) (ap name same) ∙ ap (λ (q : ℕ). q + 1) same
-  | inr differs ↦ rank_before name n (name i) (apart n (omega arith) differs) ∙ rank_is name n i (omega arith) (λ j early. apart j (omega arith))
+-- the ordinal of the slot that a place names
+ordinal_is : (name : ℕ → ℕ) (n i : ℕ) → i < n → ((j : ℕ) → j < n → j ≢ i → name j ≢ name i) → ordinal_in name n (name i) ≡ i + 1
+ordinal_is name zero i lt apart = absurd (omega arith)
+ordinal_is name (suc n) i lt apart = elim (cases_eq n i) [
+  | inl same ↦ ordinal_here name n (name i) (ap name same) ∙ ap (λ (q : ℕ). q + 1) same
+  | inr differs ↦ ordinal_before name n (name i) (apart n (omega arith) differs) ∙ ordinal_is name n i (omega arith) (λ j early. apart j (omega arith))
 ]
 
-rising_push : (rank : ℕ → ℕ) (xs : List ℕ) (p : ℕ) → IsRising rank xs → AllByRecursion (λ q. rank q < rank p) xs → IsRising rank (xs ++ p ∷ [])
-rising_push rank [] p h all = (tt, tt)
-rising_push rank (x ∷ xs) p h all = (all-append _ xs (p ∷ []) h.0 (all.0, tt), rising_push rank xs p h.1 all.1)
+rising_push : (ordinal : ℕ → ℕ) (xs : List ℕ) (p : ℕ) → IsRising ordinal xs → AllByRecursion (λ q. ordinal q < ordinal p) xs → IsRising ordinal (xs ++ p ∷ [])
+rising_push ordinal [] p h all = (tt, tt)
+rising_push ordinal (x ∷ xs) p h all = (all-append _ xs (p ∷ []) h.0 (all.0, tt), rising_push ordinal xs p h.1 all.1)
 
 module _ {K V : Type 0} {cmp : K → K → Ordering} (o : IsTotalOrder cmp) {len : ℕ} {cells : List (Option (K × V))} {order made count : ℕ} (it : IsTabled cmp len cells order made count) where
-  abbrev rank : ℕ → ℕ
-  rank p = rank_in (named order) count p
+  abbrev ordinal : ℕ → ℕ
+  ordinal p = ordinal_in (named order) count p
 
-  rank_named : (i : ℕ) → i < count → rank (named order i) ≡ i + 1
-  rank_named i lt = rank_is (named order) count i lt (λ j early differs. places_apart o it.in_order j i early lt differs)
+  ordinal_named : (i : ℕ) → i < count → ordinal (named order i) ≡ i + 1
+  ordinal_named i lt = ordinal_is (named order) count i lt (λ j early differs. places_apart o it.in_order j i early lt differs)
 
-  rank_listed : (p : ℕ) (e : K × V) → arrival cells p ≡ Some e → (i : ℕ) × (i < count) × (arrival cells (named order i) ≡ Some e) × (named order i ≡ p) × (rank p ≡ i + 1)
-  rank_listed p e some = let i = it.listed p e some in (i.0, i.1, ap (arrival cells) i.2 ∙ some, i.2, ap rank (sym i.2) ∙ rank_named i.0 i.1)
+  ordinal_listed : (p : ℕ) (e : K × V) → arrival cells p ≡ Some e → (i : ℕ) × (i < count) × (arrival cells (named order i) ≡ Some e) × (named order i ≡ p) × (ordinal p ≡ i + 1)
+  ordinal_listed p e some = let i = it.listed p e some in (i.0, i.1, ap (arrival cells) i.2 ∙ some, i.2, ap ordinal (sym i.2) ∙ ordinal_named i.0 i.1)
 
-  pub ranked_of : IsRanked cmp (arrival cells) (rank_in (named order) count) made
-  ranked_of = record {
+  pub ordinals_of : HasOrdinals cmp (arrival cells) (ordinal_in (named order) count) made
+  ordinals_of = record {
     unmade = it.unmade;
-    unranked = λ p none. elim (cases_lt 0 (rank p)) [
-      | inl pos ↦ let i = rank_place (named order) count p pos in let s = it.in_order.stands i.0 i.1 in absurd (none-some s.0 (sym none ∙ ap (arrival cells) (sym i.2) ∙ s.1))
-      | inr no_rank ↦ omega arith
+    spent = λ p none. elim (cases_lt 0 (ordinal p)) [
+      | inl pos ↦ let i = ordinal_place (named order) count p pos in let s = it.in_order.stands i.0 i.1 in absurd (none-some s.0 (sym none ∙ ap (arrival cells) (sym i.2) ∙ s.1))
+      | inr no_ordinal ↦ omega arith
     ];
-    ranked = λ p e some. let i = rank_listed p e some in omega (arith, i.4);
-    bound = λ p e some. omega (arith, rank_le (named order) count p, it.few_count);
+    some = λ p e some. let i = ordinal_listed p e some in omega (arith, i.4);
+    bound = λ p e some. omega (arith, ordinal_le (named order) count p, it.few_count);
     order = λ p q e f here there.
-        let i = rank_listed p e here in
-        let j = rank_listed q f there in
+        let i = ordinal_listed p e here in
+        let j = ordinal_listed q f there in
         rw (i.4, j.4) (elim (cases_order i.0 j.0) [
           | inl same ↦ let one : e ≡ f = same_Some e f (sym i.2 ∙ ap (λ (n : ℕ). arrival cells (named order n)) same ∙ j.2) in rw one (tied_itself o f.0) ∙ sym (nat_cmp_equal (i.0 + 1) (j.0 + 1) (omega arith))
           | inr (inl less) ↦ it.in_order.ascends i.0 j.0 e f less j.1 i.2 j.2 ∙ sym (nat_cmp_less (i.0 + 1) (j.0 + 1) (omega arith))
           | inr (inr more) ↦ greater_from_less o f.0 e.0 (it.in_order.ascends j.0 i.0 f e more i.1 j.2 i.2) ∙ sym (nat_cmp_greater (i.0 + 1) (j.0 + 1) (omega arith))
         ]);
     apart = λ p q e f here there same.
-        let i = rank_listed p e here in
-        let j = rank_listed q f there in
+        let i = ordinal_listed p e here in
+        let j = ordinal_listed q f there in
         let one : i.0 ≡ j.0 = omega (arith, i.4, j.4) in
         sym i.3 ∙ ap (named order) one ∙ j.3;
   }
 
-  names_rising : (n : ℕ) → n ≤ count → IsRising rank (picked (named order) n) × AllByRecursion (λ p. rank p ≤ n) (picked (named order) n)
+  names_rising : (n : ℕ) → n ≤ count → IsRising ordinal (picked (named order) n) × AllByRecursion (λ p. ordinal p ≤ n) (picked (named order) n)
   names_rising zero le = (tt, tt)
   names_rising (suc n) le =
       let rest = names_rising n (omega arith) in
-      let here = rank_named n (omega arith) in (
-        rising_push rank (picked (named order) n) (named order n) rest.0 (all_map (λ p few. omega (arith, few, here)) (picked (named order) n) rest.1),
+      let here = ordinal_named n (omega arith) in (
+        rising_push ordinal (picked (named order) n) (named order n) rest.0 (all_map (λ p few. omega (arith, few, here)) (picked (named order) n) rest.1),
         all-append _ (picked (named order) n) (named order n ∷ []) (all_map (λ p few. omega (arith, few)) (picked (named order) n) rest.1) (omega (arith, here), tt),
       )
 
-  names_ranked : (n : ℕ) → n ≤ count → AllByRecursion (λ p. (p < made) × (0 < rank p)) (picked (named order) n)
-  names_ranked zero le = tt
-  names_ranked (suc n) le = all-append _ (picked (named order) n) (named order n ∷ []) (names_ranked n (omega arith)) ((early o it n (omega arith), omega (arith, rank_named n (omega arith))), tt)
+  names_ordinal : (n : ℕ) → n ≤ count → AllByRecursion (λ p. (p < made) × (0 < ordinal p)) (picked (named order) n)
+  names_ordinal zero le = tt
+  names_ordinal (suc n) le = all-append _ (picked (named order) n) (named order n ∷ []) (names_ordinal n (omega arith)) ((early o it n (omega arith), omega (arith, ordinal_named n (omega arith))), tt)
 
-  names_order : IsOrder rank made (names order count)
+  names_order : IsOrder ordinal made (names order count)
   names_order = record {
     rising = (names_rising count (omega arith)).0;
-    ranked = names_ranked count (omega arith);
-    every = λ p lt pos. let i = rank_place (named order) count p pos in (i.0, omega (arith, i.1, length-picked (named order) count), get_or-picked (named order) count i.0 p i.1 ∙ i.2);
+    named = names_ordinal count (omega arith);
+    every = λ p lt pos. let i = ordinal_place (named order) count p pos in (i.0, omega (arith, i.1, length-picked (named order) count), get_or-picked (named order) count i.0 p i.1 ∙ i.2);
   }
 
   -- the slots in the order of their keys are those that the places name
   pub slots_named : map (λ slot. slot.1) (sorted cmp (numbered 0 (picked (arrival cells) made))) ≡ names order count
-  slots_named = one_order rank made _ _ (slots_order o ranked_of) names_order
+  slots_named = one_order ordinal made _ _ (slots_order o ordinals_of) names_order
 
-  -- a slot with a rank holds a pair, and one without a rank holds none
-  pub live_some : (p : ℕ) → 0 < rank_in (named order) count p → IsSome (arrival cells p)
-  live_some p pos = let i = rank_place (named order) count p pos in subst (λ (q : ℕ). IsSome (arrival cells q)) i.2 (stands_some it.in_order i.0 i.1)
+  -- a slot with an ordinal holds a pair, and one without an ordinal holds none
+  pub live_some : (p : ℕ) → 0 < ordinal_in (named order) count p → IsSome (arrival cells p)
+  live_some p pos = let i = ordinal_place (named order) count p pos in subst (λ (q : ℕ). IsSome (arrival cells q)) i.2 (stands_some it.in_order i.0 i.1)
 
-  pub live_none : (p : ℕ) → rank_in (named order) count p ≡ 0 → arrival cells p ≡ None
-  live_none p no_rank = elim (cases_option (arrival cells p)) [
+  pub live_none : (p : ℕ) → ordinal_in (named order) count p ≡ 0 → arrival cells p ≡ None
+  live_none p no_ordinal = elim (cases_option (arrival cells p)) [
     | inl none ↦ none
-    | inr some ↦ absurd (omega (arith, ranked_of.ranked p some.0 some.1, no_rank))
+    | inr some ↦ absurd (omega (arith, ordinals_of.some p some.0 some.1, no_ordinal))
   ]

@@ -4,11 +4,8 @@ use mathlib.Core.Bool.{false≢true}
 use Rattle.std.proofs.lemmas.Bool.{cases_eq, cases_lt}
 use Rattle.std.proofs.lemmas.List.{get_or-set_same, get_or-set_other, get_or_past, length-set, length-replicate}
 use Rattle.tree_cells.specs.Arrivals.{arrival}
+use Rattle.tree_cells.proofs.Picks.{some_of}
 use Rattle.tree_cells.specs.Cells.{pair_up, zipped, AreFilledAlike}
-
-some_value : {A : Type 0} (o : Option A) → IsSome o → (a : A) × (o ≡ Some a)
-some_value None h = absurd (false≢true h)
-some_value (Some a) h = (a, refl)
 
 same_set : {A : Type 0} (xs : List (Option A)) (p : ℕ) (x : A) → get_or xs p None ≡ Some x → set xs p (Some x) ≡ xs
 same_set [] p x h = refl
@@ -84,10 +81,10 @@ module _ {K V : Type 0} where
     has_both p some = key_some keys vals p rows.same (subst (λ (q : List (Option (K × V))). IsSome (arrival q p)) (sym rows.view) some)
 
     pub key_there : (p : ℕ) → IsSome (arrival pairs p) → (key : K) × (get_or keys p None ≡ Some key)
-    key_there p some = some_value (get_or keys p None) (has_both p some).0
+    key_there p some = some_of (get_or keys p None) (has_both p some).0
 
     pub val_there : (p : ℕ) → IsSome (arrival pairs p) → (val : V) × (get_or vals p None ≡ Some val)
-    val_there p some = some_value (get_or vals p None) (has_both p some).1
+    val_there p some = some_of (get_or vals p None) (has_both p some).1
 
     pub is_pair : (p : ℕ) (key : K) (val : V) → get_or keys p None ≡ Some key → get_or vals p None ≡ Some val → arrival pairs p ≡ Some (key, val)
     is_pair p key val k v = ap (λ (q : List (Option (K × V))). arrival q p) (sym rows.view) ∙ paired keys vals p key val rows.same k v

@@ -1,6 +1,6 @@
 pub mod Arrivals
 pub mod Cells
 pub mod Moves
+pub mod Ordinals
 pub mod Place
-pub mod Ranked
 pub mod Tabled

@@ -15,11 +15,8 @@ use Rattle.tree_model.proofs.Order.{greater_from_less}
 use Rattle.tree_leaf.specs.declared.leaf.stand.Way.{Way}
 use Rattle.tree_leaf.specs.declared.leaf.stand.Way.TheVariants.{On, Back}
 use Rattle.tree_leaf.specs.Ways.{along, places_left}
+use Rattle.tree_leaf.proofs.Along.{all_reversed}
 use Rattle.tree_cursor_model.specs.Cursor.{first_place, greatest_place, least_place, place_beside}
-
-all_reversed : {X : Type 0} (P : X → Type 0) (xs ys : List X) → AllByRecursion P xs → AllByRecursion P ys → AllByRecursion P (reverse_aux xs ys)
-all_reversed P [] ys first second = second
-all_reversed P (x ∷ xs) ys first second = all_reversed P xs (x ∷ ys) first.1 (first.0, second)
 
 module _ {X : Type 0} (test : X → Bool) where
   abbrev pub Fail : List X → Type 0

@@ -21,20 +21,12 @@ use Rattle.tree_leaf.specs.Entries.{entries_of, leaf_entries}
 use Rattle.tree_leaf.specs.Rest.{HasTaken, left_of}
 use Rattle.tree_leaf.specs.Walks.{LeafWalk, lent_entry, standing}
 use Rattle.tree_leaf.specs.Ways.{along, beyond}
-use Rattle.tree_leaf.proofs.Along.{all_ahead}
+use Rattle.tree_leaf.proofs.Along.{all_ahead, all_along}
 use Rattle.tree_node.specs.Arenas.{TreeArenas}
 use Rattle.tree_node.specs.Tree.{leaves_at, walk}
 use Rattle.tree_walk.specs.Ends.{BeginsPart, IsLinked, passed}
 use Rattle.tree_cursor_model.specs.Cursor.{meets}
 use Rattle.tree_cursors.specs.Seek.{Advances, IsLeafFor, IsNearest, NoneMeets, Opens, path}
-
-all_reversed : {X : Type 0} (P : X → Type 0) (xs ys : List X) → AllByRecursion P xs → AllByRecursion P ys → AllByRecursion P (reverse_aux xs ys)
-all_reversed P [] ys first second = second
-all_reversed P (x ∷ xs) ys first second = all_reversed P xs (x ∷ ys) first.1 (first.0, second)
-
-all_along : {X : Type 0} (P : X → Type 0) (way : Way) (xs : List X) → AllByRecursion P xs → AllByRecursion P (along way xs)
-all_along P On xs all = all
-all_along P Back xs all = all_reversed P xs [] all tt
 
 -- the bound is at this key
 abbrev pub IsAt : {K : Type 0} → K → Bound K → Type 0
@@ -58,12 +50,6 @@ module _ {K V : Type 0} {LEN : ℕ} {cmp : K → K → Ordering} (o : IsTotalOrd
       by_way : (way : Way) → NoneMeets cmp way bound (entries_of a.leaves (passed way is.front is.back))
       by_way On = smaller_out o key bound at (entries_of a.leaves is.front) is.smaller
       by_way Back = larger_out o key bound at (entries_of a.leaves is.back) is.larger
-
-  -- the leaf is in the chain of the part
-  pub leaf_in_chain : IsLinked level a id → (front back : List ℕ) × IsChain a.leaves (front ++ leaf ∷ back)
-  leaf_in_chain linked =
-      let grouped : linked.0 ++ (leaves_at level a.nodes id ++ linked.1) ≡ (linked.0 ++ is.front) ++ leaf ∷ (is.back ++ linked.1) = rw is.parts (simp append_assoc) in
-      (linked.0 ++ is.front, is.back ++ linked.1, subst (IsChain a.leaves) grouped linked.2)
 
 -- a walk that begins the part, without a bound
 pub opens_unbounded : {K V : Type 0} {LEN : ℕ} (cmp : K → K → Ordering) (way : Way) (level : ℕ) (a : TreeArenas K V LEN) (id : ℕ) (bound : Bound K) (result : Option (LeafWalk K V LEN))

@@ -8,10 +8,9 @@ use Rattle.tree_node.specs.declared.node.NodeOf.{NodeOf}
 use Rattle.tree_node.specs.Arenas.{TreeArenas}
 use Rattle.tree_node.specs.Parts.{IsPart}
 use Rattle.tree_node.specs.Tree.{IsRetired, IsRetiredNode, Stands, children_of, keyed, walk}
-use Rattle.tree_node.proofs.Standing.{node_is}
+use Rattle.tree_node.proofs.Standing.{node_is, no_children}
 use Rattle.tree_node.proofs.Steps.{replaces_refl}
 use Rattle.tree_node.proofs.Walks.{walk-children}
-use Rattle.tree_remove.proofs.NodeDrops.{retired_children}
 use Rattle.tree_cut.specs.declared.parts.Part.TheVariants.{Node}
 use Rattle.tree_cut.specs.Cuts.{CutsUnder}
 use Rattle.tree_cut.specs.Parts.{IsAt}
@@ -25,7 +24,7 @@ module _ {K V : Type 0} {LEN : ℕ} (cmp : K → K → Ordering) where
   pub childless_cut : (low high : Bound K) (level : ℕ) (a : TreeArenas K V LEN) (id : ℕ) → 0 < level → IsRetiredNode (get a.nodes id) → CutsUnder cmp low high level a a id 0
   childless_cut low high zero a id inner retired = absurd (omega (arith, inner))
   childless_cut low high (suc level) a id inner retired =
-      let none : walk (suc level) a id ≡ [] = walk-children level a id ∙ rw (retired_children a.nodes id retired) refl in
+      let none : walk (suc level) a id ≡ [] = walk-children level a id ∙ rw ((no_children (get a.nodes id) retired).1) refl in
       record { pairs = rw none refl; counted = omega arith; stands = λ above below s. s; replaces = replaces_refl (suc level) a (id ∷ []) }
 
   pub standing : (level : ℕ) (a : TreeArenas K V LEN) (id : ℕ) → 0 < level → IsPart cmp level a id ⊎ IsRetired level a id → (IsRetiredNode (get a.nodes id) → ⊥) → IsPart cmp level a id

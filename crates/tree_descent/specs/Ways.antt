@@ -3,9 +3,10 @@ use Rattle.std.specs.Prelude.{◌≡◌, ℕ, zero, suc, List, Option}
 use Rattle.std.specs.declared.cmp.Ordering.{Ordering}
 use Rattle.slab.specs.Slab.{get}
 use Rattle.tree_leaf.specs.declared.leaf.LeafOf.{LeafOf}
+use Rattle.tree_leaf.specs.Entries.{slot_entries}
 use Rattle.tree_model.specs.Pairs.{pair_at}
 use Rattle.tree_node.specs.Arenas.{TreeArenas}
-use Rattle.tree_node.specs.Tree.{HasChildFor, slot_entries}
+use Rattle.tree_node.specs.Tree.{HasChildFor}
 
 module _ {K V : Type 0} {LEN : ℕ} (cmp : K → K → Ordering) (key : K) where
   -- so many steps down, each to the child for the key, lead from one number to another

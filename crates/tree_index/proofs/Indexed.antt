@@ -19,7 +19,7 @@ use Rattle.tree_insert.specs.Inserts.{Inserts, declined}
 use Rattle.tree_node.specs.Tree.{Stands, StandsOrRetired, leaves_at, walk}
 use Rattle.tree_node.specs.Whole.{IsRetiredRoot, IsTop, depth_of, leaves_under, walk_under}
 use Rattle.tree_node.proofs.Ascents.{walk_ascends}
-use Rattle.tree_node.proofs.Bare.{no_children}
+use Rattle.tree_node.proofs.Standing.{no_children}
 use Rattle.tree_index.specs.declared.tree.Stored.{Stored}
 use Rattle.tree_index.specs.declared.tree.Stored.TheVariants.{New as NewKey, Replaced as OldKey}
 use Rattle.tree_index.specs.declared.tree.Tree.{Tree}

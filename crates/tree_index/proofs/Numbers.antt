@@ -8,8 +8,8 @@ use Rattle.tree_leaf.proofs.Pigeonhole.{once_fits}
 use Rattle.tree_node.specs.Arenas.{TreeArenas}
 use Rattle.tree_node.specs.Tree.{Stands, leaves_at, walk}
 use Rattle.tree_node.specs.Whole.{IsRetiredRoot, IsTree, depth_of, walk_under}
-use Rattle.tree_node.proofs.Bare.{no_children}
 use Rattle.tree_node.proofs.Bounds.{entries_few, walk_few}
+use Rattle.tree_node.proofs.Standing.{no_children}
 
 module _ {K V : Type 0} {LEN : ℕ} (cmp : K → K → Ordering) (a : TreeArenas K V LEN) where
   retired_empty : (id level : ℕ) → IsRetiredRoot a id level → walk level a id ≡ []

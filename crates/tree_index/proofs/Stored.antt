@@ -16,9 +16,9 @@ use Rattle.tree_node.specs.Shape.{room, spare}
 use Rattle.tree_insert.specs.Roots.{RaisesRoot}
 use Rattle.tree_node.specs.Tree.{IsRetired, IsRetiredNode, Stands, StandsOrRetired, leaves_at}
 use Rattle.tree_node.specs.Whole.{HasOnly, IsRetiredRoot, IsTree, depth_of, leaves_under, walk_under}
-use Rattle.tree_node.proofs.Bare.{no_children}
 use Rattle.tree_insert.proofs.Crowded.{crowded_room}
 use Rattle.tree_node.proofs.Whole.{spare_standing, spare_unchanged, tree_after, tree_part, tree_unchanged, walk_unchanged}
+use Rattle.tree_node.proofs.Standing.{no_children}
 use Rattle.tree_insert.proofs.RaisedTrees.{tree_raised}
 use Rattle.tree_model.specs.declared.commands.InsertError.{InsertError}
 use Rattle.tree_model.specs.declared.commands.InsertError.TheVariants.{Duplicate as Declined, OutOfMemory}

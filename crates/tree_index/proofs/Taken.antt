@@ -13,9 +13,9 @@ use Rattle.tree_remove.specs.Removes.{RemovesUnder, TakesOut}
 use Rattle.tree_node.specs.Shape.{spare}
 use Rattle.tree_node.specs.Tree.{IsRetired, Stands, leaves_at, walk}
 use Rattle.tree_node.specs.Whole.{IsRetiredRoot, IsTree, spare_under}
-use Rattle.tree_node.proofs.Bare.{no_children}
 use Rattle.tree_node.proofs.Steps.{part_after}
 use Rattle.tree_node.proofs.Whole.{chain_after, leaves_after, nodes_after, spare_standing, spare_unchanged, tree_part, tree_unchanged, walk_unchanged}
+use Rattle.tree_node.proofs.Standing.{no_children}
 use Rattle.tree_packed.proofs.Tests.{packed_unchanged}
 use Rattle.tree_remove.proofs.LoweredTrees.{spare_lowered, tree_lowered}
 use Rattle.tree_index.specs.declared.tree.Tree.{Tree}

@@ -56,7 +56,8 @@ impl<K: IndexKey, V: Drop, const LEN: usize> Tree<K, V, LEN> {
     /// Stores a pair. With `UPSERT` it replaces the pair with an equal key.
     ///
     /// Returns `Err` with the pair if an equal key is there and `UPSERT` is false, or if memory is refused. Makes at
-    /// most `LEN` comparisons a level and in the leaf; if the leaf is full, it descends once more.
+    /// most 4 comparisons a level and in the leaf (3 among 7 slots), and one more in all. If the leaf is full, it searches
+    /// the leaf and its node once more, or descends once more.
     #[inline(always)]
     pub fn store<const UPSERT: bool>(&mut self, key: K, val: V) -> Result<Stored, InsertError<K, V>>
         requires len { IsLen LEN }
@@ -130,7 +131,7 @@ impl<K: IndexKey, V: Drop, const LEN: usize> Tree<K, V, LEN> {
     }
 
     /// Removes the pair at a key where the condition says so of its value, and says whether it did. At most
-    /// `LEN` comparisons a level and in the leaf, and no memory.
+    /// 4 comparisons a level and in the leaf (3 among 7 slots), and no memory.
     pub fn remove_if<F: FnOnce(&V) -> bool + Drop>(&mut self, key: &K, condition: F) -> bool
         requires whole { IsWhole K.cmp self.old }
         requires callable { ForSome (pair_at K.cmp (pairs_of self.old) key.now) (λ pair. FnOnceTakesAt F.FnOnce condition pair.1) }

@@ -115,8 +115,8 @@ module _ {K V : Type 0} {LEN : ℕ} {cmp : K → K → Ordering} (level : ℕ) (
     edge = same_packed cmp (Some key) (suc level) old mid root agrees e;
   }
 
-  raises : IsLen LEN → (new : TreeArenas K V LEN) → SplitsChild cmp (suc (suc level)) mid new id root → RaisesRoot cmp (suc level) old new root id
-  raises is_len new split = record {
+  raises : IsLen LEN → (new : TreeArenas K V LEN) → SplitsChild cmp (suc (suc level)) mid new id root → ((n : ℕ) → get new.leaves n ≡ get mid.leaves n) → RaisesRoot cmp (suc level) old new root id
+  raises is_len new split others = record {
     pairs = split.pairs ∙ top_walk;
     stands = split.keeps None None top_stands;
     nodes_kept = λ n used outside.
@@ -124,8 +124,7 @@ module _ {K V : Type 0} {LEN : ℕ} {cmp : K → K → Ordering} (level : ℕ) (
         split.replaces.nodes_kept n (rw (nodes_stay n differs) used)
         (omega (arith, outside, ap (times n) (single_nodes (suc (suc level)) mid.nodes id), ap (times n) top_nodes, times-cons n id (nodes_at (suc level) old.nodes root), none_here n id differs))
         ∙ nodes_stay n differs;
-    leaves_kept = λ n used outside.
-        rw (leaves_stay n) at (split.replaces.leaves_kept n (rw (leaves_stay n) used) (omega (arith, outside, ap (times n) (single_leaves (suc (suc level)) mid.nodes id), ap (times n) top_leaves)));
+    leaves_kept = λ n. others n ∙ leaves_stay n;
     nodes_counted = λ n.
         omega (
           arith,
@@ -171,6 +170,6 @@ module _ {K V : Type 0} {LEN : ℕ} {cmp : K → K → Ordering} where
       omega (arith, some, zero_room)
 
   pub raises_at : (depth : ℕ) → 0 < depth → (old reserved mid : TreeArenas K V LEN) (root id : ℕ) (top : InternalNodeOf K LEN) → IsPart cmp depth old root → KeepsBoth old reserved → Gains reserved.nodes mid.nodes id (Internal top) → mid.leaves ≡ reserved.leaves
-      → top.children ≡ in_order [] → top.unbounded_child ≡ Some root → IsLen LEN → (new : TreeArenas K V LEN) → SplitsChild cmp (depth + 1) mid new id root → RaisesRoot cmp depth old new root id
-  raises_at zero deep old reserved mid root id top part keeps gains leaves keyed_none last is_len new split = absurd (omega (arith, deep))
-  raises_at (suc level) deep old reserved mid root id top part keeps gains leaves keyed_none last is_len new split = raises level old reserved mid root id top part keeps gains leaves keyed_none last is_len new (rw add-one at split)
+      → top.children ≡ in_order [] → top.unbounded_child ≡ Some root → IsLen LEN → (new : TreeArenas K V LEN) → SplitsChild cmp (depth + 1) mid new id root → ((n : ℕ) → get new.leaves n ≡ get mid.leaves n) → RaisesRoot cmp depth old new root id
+  raises_at zero deep old reserved mid root id top part keeps gains leaves keyed_none last is_len new split others = absurd (omega (arith, deep))
+  raises_at (suc level) deep old reserved mid root id top part keeps gains leaves keyed_none last is_len new split others = raises level old reserved mid root id top part keeps gains leaves keyed_none last is_len new (rw add-one at split) others

@@ -2,7 +2,7 @@
 use Rattle.std.specs.Prelude.{◌≡◌, ◌≢◌, ℕ, suc, ◌+◌, ◌<◌, List, [], ◌∷◌, ◌++◌, None, Some, IsSome}
 use Rattle.std.specs.declared.cmp.Ordering.{Ordering}
 use Rattle.slab.specs.Slab.{get}
-use Rattle.tree_leaf.specs.Chain.{IsChain, SameArray}
+use Rattle.tree_leaf.specs.Chain.{IsChain}
 use Rattle.tree_leaf.specs.Counting.{times, uses}
 use Rattle.tree_node.specs.Arenas.{TreeArenas}
 use Rattle.tree_node.specs.Shape.{room, slot_keyed, spare}
@@ -13,9 +13,9 @@ use Rattle.tree_packed.specs.Packed.{IsPacked}
 pub record RaisesRoot {K V : Type 0} {LEN : ℕ} (cmp : K → K → Ordering) (depth : ℕ) (old new : TreeArenas K V LEN) (root id : ℕ) : Type 0 where
   pub pairs : walk (suc depth) new id ≡ walk depth old root
   pub stands : Stands cmp (suc depth) new None id None
-  -- what stands outside the part stays
+  -- each node outside the part stays, and each leaf
   pub nodes_kept : (n : ℕ) → IsSome (get old.nodes n) → times n (nodes_at depth old.nodes root) ≡ 0 → get new.nodes n ≡ get old.nodes n
-  pub leaves_kept : (n : ℕ) → IsSome (get old.leaves n) → times n (leaves_at depth old.nodes root) ≡ 0 → SameArray (get old.leaves n) (get new.leaves n)
+  pub leaves_kept : (n : ℕ) → get new.leaves n ≡ get old.leaves n
   -- a number is taken where the part gains it
   pub nodes_counted : (n : ℕ) → uses new.nodes n + times n (nodes_at depth old.nodes root) ≡ uses old.nodes n + times n (nodes_at (suc depth) new.nodes id)
   pub leaves_counted : (n : ℕ) → uses new.leaves n + times n (leaves_at depth old.nodes root) ≡ uses old.leaves n + times n (leaves_at (suc depth) new.nodes id)

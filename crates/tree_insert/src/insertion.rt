@@ -25,10 +25,10 @@ use tree_split::node_split::split_child;
 ///
 /// Each of the three hands the pair back; the first two leave everything unchanged.
 ///
-/// Makes at most `LEN` comparisons in each node on the path and in the leaf. If the leaf is full and its leaf node has
-/// room, the leaf is split or built anew and the descent restarts at that node: three times as many comparisons in the
-/// node and the leaf at most, and one beside them. Otherwise it restarts at the top and, once a child is split or built
-/// anew, at the child's parent. Allocates one leaf and one node a level at most. A split of a leaf clones one key.
+/// Makes at most 4 comparisons in each node on the path and in the leaf (3 among 7 slots), and one more in all. If the
+/// leaf is full and its leaf node has room, the leaf is split or built anew: the leaf and the node are searched once more,
+/// with two comparisons beside. Otherwise the descent restarts at the top and, once a child is split or built anew, at the
+/// child's parent. Allocates one leaf and one node a level at most. A split of a leaf clones one key.
 ///
 /// The caller must see that a well-formed part of a tree, or a retired node, stands under the number.
 #[inline(always)]
@@ -52,7 +52,7 @@ pub fn insert_at<const UPSERT: bool, K: IndexKey, V: Drop, const LEN: usize>(
             arenas
                 .leaf_mut(place.leaf)
                 .array_mut()
-                .store::<UPSERT>(place.rightmost, key, val),
+                .store_beyond::<UPSERT>(place.rightmost, key, val),
         );
     }
     match insert_under_leaf_node::<UPSERT, K, V, LEN>(
@@ -74,8 +74,7 @@ pub fn insert_at<const UPSERT: bool, K: IndexKey, V: Drop, const LEN: usize>(
 }
 
 /// Inserts a pair, as [`insert_at`] does, under a leaf node in the leaf that its key belongs to. If the leaf is full, it
-/// is split or built anew first, and the key is routed again from the node. `rightmost` says that the way down has kept
-/// to the unbounded children.
+/// is split or built anew first. `rightmost` says that the way down has kept to the unbounded children.
 fn insert_under_leaf_node<const UPSERT: bool, K: IndexKey, V: Drop, const LEN: usize>(
     arenas: &mut ArenasOf<K, V, LEN>,
     id: NodeId,
@@ -91,41 +90,20 @@ fn insert_under_leaf_node<const UPSERT: bool, K: IndexKey, V: Drop, const LEN: u
     match arenas
         .leaf_mut(leaf)
         .array_mut()
-        .store::<UPSERT>(rightmost, key, val)
+        .store_beyond::<UPSERT>(rightmost, key, val)
     {
         StoreResult::Full(key, val) => match make_room(arenas, id, leaf, &key) {
             Err(_) => Err((key, val)),
-            Ok(false) => Ok(StoreResult::Full(key, val)),
-            Ok(true) => Ok(store_under::<UPSERT, K, V, LEN>(arenas, id, rightmost, key, val)),
+            Ok(None) => Ok(StoreResult::Full(key, val)),
+            Ok(Some(home)) => Ok(
+                arenas
+                    .leaf_mut(home)
+                    .array_mut()
+                    .store::<UPSERT>(key, val),
+            ),
         },
         answer => Ok(answer),
     }
-}
-
-/// Stores a pair under a leaf node in the leaf that its key belongs to, which has room.
-fn store_under<const UPSERT: bool, K: IndexKey, V: Drop, const LEN: usize>(
-    arenas: &mut ArenasOf<K, V, LEN>,
-    id: NodeId,
-    rightmost: bool,
-    key: K,
-    val: V,
-) -> StoreResult<K, V>
-    requires part { IsPart K.cmp 1 arenas.old id }
-    requires roomy { (leaf : ℕ) → HasChildFor K.cmp key (get arenas.old.nodes id) leaf → 0 < room 0 arenas.old leaf }
-    ensures { InsertsUnder K.cmp UPSERT 1 arenas.old arenas.new id (Ok result) key val }
-{
-    let NodeOf::Leaf(node) = arenas.node(id) else {
-        unreachable!()
-    };
-    let Some(place) = child_place_beyond(&node.children, node.unbounded_child, &key, rightmost)
-    else {
-        unreachable!()
-    };
-    let last = rightmost && place.slot.is_none();
-    arenas
-        .leaf_mut(place.child)
-        .array_mut()
-        .store::<UPSERT>(last, key, val)
 }
 
 /// Inserts a pair, as [`insert_at`] does, with a way back on which full children are split. `rightmost` says that the way

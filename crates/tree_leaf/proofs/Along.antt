@@ -1,6 +1,7 @@
 -- A list that a walk steps through from either end: what lies ahead of it, and what a step takes of that.
 use Rattle.std.proofs.Common.{◌≡◌, ℕ, zero, suc, ◌+◌, ◌-◌, ◌<◌, List, [], ◌∷◌, ◌++◌, length, drop, take, reverse, slice_get, get_or, Option, Some, None, refl, sym, ap, ◌∙◌, arith, add-one}
-use Rattle.std.specs.List.{flat_map}
+use mathlib.Core.List.{reverse_aux}
+use Rattle.std.specs.List.{flat_map, AllByRecursion}
 use Rattle.std.proofs.lemmas.Grind.{reverse_onto}
 use Rattle.std.proofs.lemmas.List.{append-nil, drop_all, length-reverse, reverse-append, reverse-reverse, take_all}
 use Rattle.std.proofs.lemmas.List.Concat.{flat_map-append}
@@ -21,6 +22,15 @@ ends : {X : Type 0} (xs : List X) (place : ℕ) (x : X) → slice_get xs place �
 ends [] place x is = absurd (cc)
 ends (y ∷ xs) zero x is = let same : y ≡ x = cc in rw same refl
 ends (y ∷ xs) (suc place) x is = ap (λ zs. y ∷ zs) (ends xs place x is)
+
+-- what holds of all of a list holds of them in another order
+pub all_reversed : {X : Type 0} (P : X → Type 0) (xs ys : List X) → AllByRecursion P xs → AllByRecursion P ys → AllByRecursion P (reverse_aux xs ys)
+all_reversed P [] ys first second = second
+all_reversed P (x ∷ xs) ys first second = all_reversed P xs (x ∷ ys) first.1 (first.0, second)
+
+pub all_along : {X : Type 0} (P : X → Type 0) (way : Way) (xs : List X) → AllByRecursion P xs → AllByRecursion P (along way xs)
+all_along P On xs all = all
+all_along P Back xs all = all_reversed P xs [] all tt
 
 pub along-nil : (X : Type 0) (way : Way) → along {X = X} way [] ≡ []
 along-nil X On = refl

@@ -12,7 +12,7 @@ use Rattle.tree_model.proofs.Lists.{all_map, all-append, all-filter, all_passed}
 use Rattle.tree_model.proofs.LookUps.{larger_trans}
 
 -- an answer that a test takes for smaller, or for larger, is that
-less_from_test : (c : Ordering) → is_lt c ≡ true → c ≡ Less
+pub less_from_test : (c : Ordering) → is_lt c ≡ true → c ≡ Less
 less_from_test Less h = refl
 less_from_test Equal h = cc
 less_from_test Greater h = cc

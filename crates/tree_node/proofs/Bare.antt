@@ -13,9 +13,10 @@ use Rattle.tree_leaf.specs.Counting.{times, uses}
 use Rattle.tree_leaf.proofs.Counts.{times-nil, times-cons, none_here, one_here, uses_none, uses_some}
 use Rattle.tree_node.specs.declared.node.NodeOf.{NodeOf}
 use Rattle.tree_node.specs.Arenas.{TreeArenas}
-use Rattle.tree_node.specs.Tree.{AreParted, HasKind, IsRetiredNode, Stands, keyed, unbounded, leaves_at, nodes_at, leaves_of, node_children}
+use Rattle.tree_node.specs.Tree.{AreParted, HasKind, IsRetiredNode, Stands, keyed, unbounded, leaves_at, nodes_at, leaves_of}
 use Rattle.tree_node.proofs.LeafSpares.{spare_at_least, spare_within}
 use Rattle.tree_node.specs.Whole.{HasNoOther, HasOnly, IsRetiredRoot, IsTree, leaves_under}
+use Rattle.tree_node.proofs.Standing.{no_children}
 
 -- a number that isn't in use
 pub free_number : {T : Type 0} (arena : Slab T) (n : ℕ) → uses arena n ≡ 0 → get arena n ≡ None
@@ -47,10 +48,6 @@ module _ {K V : Type 0} {LEN : ℕ} (cmp : K → K → Ordering) (a : TreeArenas
       first_empty : (xs : List ℕ) → xs ++ [] ≡ [] → xs ≡ []
       first_empty [] e = refl
       first_empty (x ∷ xs) e = absurd (cc)
-
-pub no_children : {K : Type 0} {LEN : ℕ} (slot : Option (NodeOf K LEN)) → IsRetiredNode slot → IsSome slot × (node_children slot ≡ [])
-no_children None retired = absurd retired
-no_children (Some node) retired = (refl, rw (retired.0, retired.1) refl)
 
 module _ {K V : Type 0} {LEN : ℕ} {cmp : K → K → Ordering} (a : TreeArenas K V LEN) where
   -- a tree without leaves has no number in use but that of a retired leaf node

@@ -8,9 +8,10 @@ use Rattle.std.proofs.lemmas.List.Concat.{flat_map-append}
 use Rattle.tree_model.proofs.Lists.{all-append}
 use Rattle.slab.specs.Slab.{slab_len}
 use Rattle.tree_leaf.proofs.Pigeonhole.{once_fits}
+use Rattle.tree_leaf.specs.Entries.{leaf_entries}
 use Rattle.tree_node.specs.Arenas.{TreeArenas}
 use Rattle.tree_node.specs.Parts.{IsPart}
-use Rattle.tree_node.specs.Tree.{Stands, keyed, leaf_entries, leaves_at, nodes_at, children_of, walk}
+use Rattle.tree_node.specs.Tree.{Stands, keyed, leaves_at, nodes_at, children_of, walk}
 use Rattle.tree_node.proofs.Bare.{parted_last}
 use Rattle.tree_node.proofs.ChildrenStand.{parted_all}
 

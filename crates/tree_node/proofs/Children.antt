@@ -10,6 +10,7 @@ use Rattle.tree_node.specs.Arenas.{TreeArenas}
 use Rattle.tree_node.specs.Tree.{AreParted, child_at, is_from, HasChildFor, Stands, IsRetiredNode, StandsOrRetired, walk}
 use Rattle.tree_node.proofs.Lists.{all_yes}
 use Rattle.tree_node.proofs.Walks.{child_is}
+use Rattle.tree_node.proofs.Standing.{no_children}
 
 module _ {K : Type 0} (cmp : K → K → Ordering) (Child : Option K → ℕ → Option K → Type 0) where
   parted_free_low : ((low : Option K) (id : ℕ) (high : Option K) → Child low id high → Child None id high)
@@ -54,11 +55,7 @@ module _ {K V : Type 0} {LEN : ℕ} {cmp : K → K → Ordering} (level : ℕ) (
   -- a node is there
   pub node_there : StandsOrRetired cmp (suc level) a id → IsSome (get a.nodes id)
   node_there (inl s) = rw s.here refl
-  node_there (inr retired) = some (get a.nodes id) retired
-    where
-      some : (slot : Option (NodeOf K LEN)) → IsRetiredNode slot → IsSome slot
-      some None r = absurd r
-      some (Some node) r = refl
+  node_there (inr retired) = (no_children (get a.nodes id) retired).0
 
   -- a node with a child for a key is not retired
   pub stands_over : StandsOrRetired cmp (suc level) a id → (k : K) (child : ℕ) → HasChildFor cmp k (get a.nodes id) child → Stands cmp (suc level) a None id None

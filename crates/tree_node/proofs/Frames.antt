@@ -7,9 +7,10 @@ use Rattle.tree_leaf.specs.declared.leaf.LeafOf.{LeafOf}
 use Rattle.tree_leaf.specs.Chain.{SameArray}
 use Rattle.tree_leaf.specs.Counting.{times}
 use Rattle.tree_leaf.proofs.Counts.{times-append, times-cons, one_here}
+use Rattle.tree_leaf.specs.Entries.{slot_entries}
 use Rattle.tree_model.proofs.Lists.{all_map}
 use Rattle.tree_node.specs.Arenas.{TreeArenas}
-use Rattle.tree_node.specs.Tree.{AreParted, LeafStands, Stands, walk, slot_entries, leaves_at, nodes_at, nodes_of, children_of}
+use Rattle.tree_node.specs.Tree.{AreParted, LeafStands, Stands, walk, leaves_at, nodes_at, nodes_of, children_of}
 use Rattle.tree_node.proofs.Lists.{flat_map_same}
 
 -- a number that heads a list is in it

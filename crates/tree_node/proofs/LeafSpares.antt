@@ -6,9 +6,9 @@ use Rattle.slab.specs.Slab.{get}
 use Rattle.tree_array.specs.Length.{limit}
 use Rattle.tree_array.specs.Arrivals.{free, in_order}
 use Rattle.tree_leaf.specs.declared.leaf.LeafOf.{LeafOf}
+use Rattle.tree_leaf.specs.Entries.{slot_entries}
 use Rattle.tree_node.specs.Arenas.{TreeArenas}
 use Rattle.tree_node.specs.Shape.{held, room, slot_free, slot_spare, spare, spare_for}
-use Rattle.tree_node.specs.Tree.{slot_entries}
 
 -- the free slots of a leaf hold no entry
 pub free_beside : {K V : Type 0} {LEN : ℕ} (leaf : LeafOf K V LEN) → length leaf.array.entries ≤ length leaf.array.arrivals → length leaf.array.arrivals ≤ LEN

@@ -1,5 +1,5 @@
 -- What the kind of a node says of its level, and where a key is found under a node of either kind.
-use Rattle.std.proofs.Common.{◌≡◌, ℕ, zero, suc, ◌-◌, ◌<◌, [], Option, Some, None, IsSome, inl, inr, refl, sym, subst, ◌∙◌, arith, sub-one}
+use Rattle.std.proofs.Common.{◌≡◌, ℕ, zero, suc, ◌-◌, ◌<◌, [], Option, Some, None, IsSome, inl, inr, refl, sym, ◌∙◌, arith, sub-one}
 use Rattle.std.specs.declared.cmp.Ordering.{Ordering}
 use Rattle.std.specs.Cmp.{IsTotalOrder}
 use Rattle.slab.specs.Slab.{get}
@@ -13,14 +13,12 @@ use Rattle.tree_node.specs.Arenas.{TreeArenas}
 use Rattle.tree_node.specs.Tree.{keyed, unbounded, child_of, HasChildFor, HasKind, IsRetired, IsRetiredNode, Stands, StandsOrRetired, walk}
 use Rattle.tree_node.proofs.Children.{node_there, stands_over, child_stands, leaf_there, walk-leaf}
 use Rattle.tree_node.proofs.Walks.{found_in_child}
+use Rattle.tree_node.proofs.Standing.{node_is}
 
 module _ {K V : Type 0} {LEN : ℕ} (cmp : K → K → Ordering) (a : TreeArenas K V LEN) (id : ℕ) where
   -- a node that stands has the kind of its level
   pub kind_of : (level : ℕ) (node : NodeOf K LEN) → Stands cmp (suc level) a None id None → get a.nodes id ≡ Some node → HasKind level node
-  kind_of level node s here =
-      let same : Some s.node ≡ Some node = sym s.here ∙ here in
-      let is : s.node ≡ node = cc in
-      subst (λ n. HasKind level n) is s.kind
+  kind_of level node s here = rw (node_is level a None id None s node here) at s.kind
 
   pub node_at : (level : ℕ) → 0 < level → StandsOrRetired cmp level a id → IsSome (get a.nodes id)
   node_at zero inner given = absurd (omega (arith, inner))

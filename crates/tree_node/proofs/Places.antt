@@ -86,6 +86,11 @@ module _ {K : Type 0} where
       by_test true old later = old
       by_test false old later = later old
 
+  -- the child of a key whose test no separator before the place passes
+  pub chosen_past : (test : K → Bool) (before onward : List (K × ℕ)) (last : ℕ) → AllByRecursion (λ c. test c.0 ≡ false) before → child_at test (before ++ onward) last ≡ child_at test onward last
+  chosen_past test [] onward last none = refl
+  chosen_past test (c ∷ rest) onward last none = rw none.0 (chosen_past test rest onward last none.1)
+
   module _ (cmp : K → K → Ordering) where
     -- the key is at most the separator at the place, if one is there
     abbrev pub IsUpToFirst : K → List (K × ℕ) → Type 0

@@ -2,6 +2,7 @@
 use Rattle.std.proofs.Common.{◌≡◌, ℕ, Bool, true, false, cond, List, [], ◌∷◌, Option, Some, None, MatchOption, refl, sym, ap, ◌∙◌}
 use Rattle.std.specs.declared.cmp.Ordering.{Ordering}
 use Rattle.tree_array.specs.Arrivals.{Arrivals, arrival, least_from}
+use Rattle.tree_node.specs.Routing.{IsSlotFor}
 use Rattle.tree_node.specs.Tree.{child_at, child_of, is_from}
 
 module _ {K X : Type 0} (cmp : K → K → Ordering) (k : K) where
@@ -40,7 +41,6 @@ module _ {K X : Type 0} (cmp : K → K → Ordering) (k : K) where
 
   -- the child that was read from where the search of the separators ended
   pub routed_at : (children : Arrivals K X) (last child : X) (slot : Option ℕ)
-      → MatchOption slot (least_from cmp children.entries k ≡ None) (λ s. (pair : K × X) × (arrival children.arrivals s ≡ Some pair) × (least_from cmp children.entries k ≡ Some pair))
-      → MatchOption slot (child ≡ last) (λ s. (separator : K) × (arrival children.arrivals s ≡ Some (separator, child))) → child_of cmp k children.entries (Some last) ≡ Some child
+      → IsSlotFor cmp k children slot → MatchOption slot (child ≡ last) (λ s. (separator : K) × (arrival children.arrivals s ≡ Some (separator, child))) → child_of cmp k children.entries (Some last) ≡ Some child
   routed_at children last child None past is = routed_past children.entries last past ∙ ap Some (sym is)
   routed_at children last child (Some s) found read = sym (routed_by_slot children.entries last found.0 (read.0, child) found.1 read.1 found.2)

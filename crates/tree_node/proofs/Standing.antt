@@ -1,12 +1,17 @@
 -- What stands under a number.
-use Rattle.std.proofs.Common.{◌≡◌, ℕ, suc, Option, Some, sym, ◌∙◌}
+use Rattle.std.proofs.Common.{◌≡◌, ℕ, suc, [], Option, None, Some, IsSome, refl, sym, ◌∙◌}
 use Rattle.std.specs.declared.cmp.Ordering.{Ordering}
 use Rattle.slab.specs.Slab.{get}
 use Rattle.tree_node.specs.declared.node.NodeOf.{NodeOf}
 use Rattle.tree_node.specs.Arenas.{TreeArenas}
-use Rattle.tree_node.specs.Tree.{Stands}
+use Rattle.tree_node.specs.Tree.{IsRetiredNode, Stands, node_children}
 
 -- the node that stands under a number is the one there
 pub node_is : {K V : Type 0} {LEN : ℕ} {cmp : K → K → Ordering} (level : ℕ) (a : TreeArenas K V LEN) (low : Option K) (id : ℕ) (high : Option K) (s : Stands cmp (suc level) a low id high)
     (node : NodeOf K LEN) → get a.nodes id ≡ Some node → s.node ≡ node
 node_is level a low id high s node was = let both : Some s.node ≡ Some node = sym s.here ∙ was in cc
+
+-- a retired node has no child
+pub no_children : {K : Type 0} {LEN : ℕ} (slot : Option (NodeOf K LEN)) → IsRetiredNode slot → IsSome slot × (node_children slot ≡ [])
+no_children None retired = absurd retired
+no_children (Some node) retired = (refl, rw (retired.0, retired.1) refl)

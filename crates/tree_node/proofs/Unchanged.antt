@@ -7,10 +7,11 @@ use Rattle.tree_leaf.specs.Arena.{KeepsBoth}
 use Rattle.tree_leaf.specs.Chain.{IsChain}
 use Rattle.tree_leaf.proofs.Chains.{linked_kept, same_array_refl}
 use Rattle.tree_leaf.proofs.Counts.{uses_same}
+use Rattle.tree_leaf.specs.Entries.{slot_entries}
 use Rattle.tree_node.specs.Arenas.{TreeArenas}
 use Rattle.tree_node.specs.Parts.{IsPart, Replaces, Unchanged}
 use Rattle.tree_node.specs.Shape.{held, room, slot_free, slot_keyed, slot_room}
-use Rattle.tree_node.specs.Tree.{leaves_of, nodes_of, leaves_at, nodes_at, slot_entries}
+use Rattle.tree_node.specs.Tree.{leaves_of, nodes_of, leaves_at, nodes_at}
 use Rattle.tree_node.proofs.Frames.{Agrees, same_leaves, same_nodes, same_stands}
 use Rattle.tree_node.proofs.Lists.{all_yes, flat_map_same}
 use Rattle.tree_node.proofs.Steps.{part_after}

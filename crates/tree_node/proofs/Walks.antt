@@ -6,10 +6,11 @@ use Rattle.std.specs.declared.cmp.Ordering.TheVariants.{Less}
 use Rattle.std.specs.Cmp.{IsTotalOrder}
 use Rattle.std.proofs.lemmas.List.Concat.{flat_map-append}
 use Rattle.slab.specs.Slab.{get}
+use Rattle.tree_leaf.specs.Entries.{leaf_entries}
 use Rattle.tree_model.specs.Pairs.{AllLarger, pair_at}
 use Rattle.tree_model.proofs.Lists.{all_map, all-append}
 use Rattle.tree_node.specs.Arenas.{TreeArenas}
-use Rattle.tree_node.specs.Tree.{IsAbove, IsUpTo, IsBelow, AreParted, keyed, child_at, front_at, back_at, is_from, HasChildFor, Stands, walk, leaf_entries, leaves_at, children_of}
+use Rattle.tree_node.specs.Tree.{IsAbove, IsUpTo, IsBelow, AreParted, keyed, child_at, front_at, back_at, is_from, HasChildFor, Stands, walk, leaves_at, children_of}
 use Rattle.tree_node.proofs.Between.{found_between}
 use Rattle.tree_node.proofs.Lists.{flat_map-flat_map}
 use Rattle.tree_node.proofs.Order.{upto_less, upto_from_less, upto_from_test, less_from_test}

@@ -5,9 +5,10 @@ use Rattle.slab.specs.Slab.{Slab, get}
 use Rattle.tree_array.specs.Arrivals.{free}
 use Rattle.tree_array.specs.Length.{limit}
 use Rattle.tree_leaf.specs.declared.leaf.LeafOf.{LeafOf}
+use Rattle.tree_leaf.specs.Entries.{leaf_entries}
 use Rattle.tree_node.specs.declared.node.NodeOf.{NodeOf}
 use Rattle.tree_node.specs.Arenas.{TreeArenas}
-use Rattle.tree_node.specs.Tree.{HasChildFor, keyed, unbounded, leaf_entries, leaves_at}
+use Rattle.tree_node.specs.Tree.{HasChildFor, keyed, unbounded, leaves_at}
 
 -- the least of these numbers, and `most` where there is none
 abbrev pub least : ℕ → (ℕ → ℕ) → List ℕ → ℕ

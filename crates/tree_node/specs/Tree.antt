@@ -8,6 +8,7 @@ use Rattle.slab.specs.Slab.{Slab, get}
 use Rattle.tree_model.specs.Pairs.{IsAscending}
 use Rattle.tree_array.specs.Arrivals.{Arrivals}
 use Rattle.tree_leaf.specs.declared.leaf.LeafOf.{LeafOf}
+use Rattle.tree_leaf.specs.Entries.{leaf_entries}
 use Rattle.tree_node.specs.declared.node.NodeOf.{NodeOf}
 use Rattle.tree_node.specs.declared.node.NodeOf.TheVariants.{Internal, Leaf}
 use Rattle.tree_node.specs.Arenas.{TreeArenas}
@@ -66,14 +67,6 @@ IsOfLevel (suc level) None = ⊥
 IsOfLevel (suc level) (Some node) = HasKind level node
 
 module _ {K V : Type 0} {LEN : ℕ} where
-  -- the entries of the leaf under a number
-  abbrev pub slot_entries : Option (LeafOf K V LEN) → List (K × V)
-  slot_entries None = []
-  slot_entries (Some leaf) = leaf.array.entries
-
-  abbrev pub leaf_entries : Slab (LeafOf K V LEN) → ℕ → List (K × V)
-  leaf_entries leaves id = slot_entries (get leaves id)
-
   -- the walk of what stands under a number of this level: the entries of its leaves in turn
   abbrev pub walk : ℕ → TreeArenas K V LEN → ℕ → List (K × V)
   walk level arenas id = flat_map (leaf_entries arenas.leaves) (leaves_at level arenas.nodes id)

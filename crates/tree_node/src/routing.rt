@@ -3,7 +3,7 @@ ghost use Rattle.std.specs.Prelude.{◌≡◌, ◌+◌, ◌≤◌, MatchOption, 
 ghost use Rattle.std.specs.Option.{ForSome};
 ghost use Rattle.tree_array.specs.Arrivals.{arrival, least_from};
 ghost use Rattle.tree_array.specs.Length.{searched};
-ghost use Rattle.tree_node.specs.Routing.{IsChildAt};
+ghost use Rattle.tree_node.specs.Routing.{IsChildAt, IsSlotFor};
 ghost use Rattle.tree_node.specs.Tree.{child_of};
 
 use tree_array::array::{ArrayOf, Judge};
@@ -45,17 +45,13 @@ pub fn child_place_for<K: Ord + Drop, I: Copy + Drop, const LEN: usize>(
     ensures place { MatchOption result (unbounded ≡ None) (λ place. IsChildAt K.cmp key.now children.now unbounded place.child place.slot) }
     ensures child { MatchOption result (child_of K.cmp key.now children.now.entries unbounded ≡ None) (λ place. child_of K.cmp key.now children.now.entries unbounded ≡ Some place.child) }
 {
-    let last = unbounded?;
-    let slot = children.slot_for(key);
-    Some(ChildPlace {
-        child: *child_at(children, &last, slot),
-        slot,
-    })
+    child_place_beyond(children, unbounded, key, false)
 }
 
 /// Returns what [`child_place_for`] does. With `rightmost` it compares the key with the last separator first, and answers
 /// the unbounded child at once if the key is larger: an insert asks so as long as its way down keeps to the unbounded
 /// children, where keys that arrive in ascending order belong. That is at most one comparison more.
+#[inline]
 pub fn child_place_beyond<K: Ord + Drop, I: Copy + Drop, const LEN: usize>(
     children: &ArrayOf<K, I, LEN>,
     unbounded: Option<I>,
@@ -65,18 +61,16 @@ pub fn child_place_beyond<K: Ord + Drop, I: Copy + Drop, const LEN: usize>(
     ensures place { MatchOption result (unbounded ≡ None) (λ place. IsChildAt K.cmp key.now children.now unbounded place.child place.slot) }
     ensures child { MatchOption result (child_of K.cmp key.now children.now.entries unbounded ≡ None) (λ place. child_of K.cmp key.now children.now.entries unbounded ≡ Some place.child) }
 {
-    if !rightmost || !is_beyond(children, key) {
-        return child_place_for(children, unbounded, key);
-    }
+    let last = unbounded?;
+    let slot = slot_beyond(children, key, rightmost);
     Some(ChildPlace {
-        child: unbounded?,
-        slot: None,
+        child: *child_at(children, &last, slot),
+        slot,
     })
 }
 
 /// Returns the child that a key belongs to, where `unbounded` is the unbounded one, and whether it is that one by a way
-/// that was `rightmost` so far. With `rightmost` it compares the key with the last separator first, as
-/// [`child_place_beyond`] does.
+/// that was `rightmost` so far. Compares as [`child_place_beyond`] does.
 #[inline(always)]
 pub fn child_beyond<K: Ord + Drop, I: Copy + Drop, const LEN: usize>(
     children: &ArrayOf<K, I, LEN>,
@@ -86,14 +80,27 @@ pub fn child_beyond<K: Ord + Drop, I: Copy + Drop, const LEN: usize>(
 ) -> (I, bool)
     ensures { child_of K.cmp key.now children.now.entries (Some unbounded.now) ≡ Some result.0 }
 {
-    if rightmost && is_beyond(children, key) {
-        return (*unbounded, true);
-    }
-    let slot = children.slot_for(key);
+    let slot = slot_beyond(children, key, rightmost);
     (
         *child_at(children, unbounded, slot),
         rightmost && slot.is_none(),
     )
+}
+
+/// Returns the slot of the least separator that a key doesn't exceed, or `None` if it is larger than each. With
+/// `rightmost` it compares the key with the last separator first.
+#[inline(always)]
+fn slot_beyond<K: Ord + Drop, I: Copy + Drop, const LEN: usize>(
+    children: &ArrayOf<K, I, LEN>,
+    key: &K,
+    rightmost: bool,
+) -> Option<u8>
+    ensures { IsSlotFor K.cmp key.now children.now result }
+{
+    if rightmost && is_beyond(children, key) {
+        return None;
+    }
+    children.slot_for(key)
 }
 
 /// Returns whether a key is larger than each separator.

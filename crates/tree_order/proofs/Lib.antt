@@ -1,5 +1,5 @@
 mod Filled
-mod InTurn
+pub mod InTurn
 pub mod Picked
 pub mod Slots
 mod Word

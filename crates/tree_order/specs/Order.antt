@@ -24,16 +24,16 @@ abbrev pub clamped : ℕ → ℕ → ℕ
 clamped count place = if ltb place count then place else count
 
 -- one more than the last of the first places that names a slot, or 0
-abbrev pub rank_in : (ℕ → ℕ) → ℕ → ℕ → ℕ
-rank_in name zero slot = 0
-rank_in name (suc n) slot = if name n == slot then n + 1 else rank_in name n slot
+abbrev pub ordinal_in : (ℕ → ℕ) → ℕ → ℕ → ℕ
+ordinal_in name zero slot = 0
+ordinal_in name (suc n) slot = if name n == slot then n + 1 else ordinal_in name n slot
 
--- the rank of the last of the first slots that has one, and 15 where none has
-abbrev pub last_rank : (ℕ → ℕ) → ℕ → ℕ
-last_rank rank zero = 15
-last_rank rank (suc n) = if rank n == 0 then last_rank rank n else rank n
+-- the ordinal of the last of the first slots that has one, and 15 where none has
+abbrev pub last_ordinal : (ℕ → ℕ) → ℕ → ℕ
+last_ordinal ordinal zero = 15
+last_ordinal ordinal (suc n) = if ordinal n == 0 then last_ordinal ordinal n else ordinal n
 
--- how many of the first slots have a higher rank than the last one before that has one
+-- how many of the first slots have a higher ordinal than the last one before that has one
 abbrev pub rises_in : (ℕ → ℕ) → ℕ → ℕ
-rises_in rank zero = 0
-rises_in rank (suc n) = rises_in rank n + (if ltb (last_rank rank n) (rank n) then 1 else 0)
+rises_in ordinal zero = 0
+rises_in ordinal (suc n) = rises_in ordinal n + (if ltb (last_ordinal ordinal n) (ordinal n) then 1 else 0)

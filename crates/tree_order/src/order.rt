@@ -2,7 +2,7 @@
 //! behind the entries repeat the last name, and the place behind all slots holds [`BEYOND`].
 ghost use Rattle.std.specs.Prelude.{◌≡◌, ◌≢◌, ℕ, IsTrue, ◌+◌, ◌-◌, ◌*◌, ◌^◌, ◌<◌, ◌≤◌, length, slice_index_or, take};
 ghost use Rattle.tree_order.specs.Length.{IsLen};
-ghost use Rattle.tree_order.specs.Order.{clamped, named, names, rank_in, rises_in, IsFilled};
+ghost use Rattle.tree_order.specs.Order.{clamped, named, names, ordinal_in, rises_in, IsFilled};
 
 /// No array has more slots.
 pub const MOST: usize = 15;
@@ -162,18 +162,18 @@ pub fn place_of(order: u64, count: u8, slot: u8) -> u8
     unreachable!()
 }
 
-/// The rank of each slot: one more than its place, or 0 where no place names it.
-pub fn ranks(order: u64, count: u8) -> [u8; MOST]
+/// The ordinal of each slot: one more than its place, or 0 where no place names it.
+pub fn ordinals(order: u64, count: u8) -> [u8; MOST]
     requires few { count ≤ 15 }
     requires within { (i : ℕ) → i < count → named order i < 15 }
     ensures whole { length result ≡ 15 }
-    ensures ranks { (p : ℕ) → p < 15 → slice_index_or result p 0 ≡ rank_in (named order) count p }
+    ensures ordinals { (p : ℕ) → p < 15 → slice_index_or result p 0 ≡ ordinal_in (named order) count p }
 {
-    let mut ranks = [0; MOST];
+    let mut ordinals = [0; MOST];
     for place in 0..count {
-        ranks[slot_at(order, place) as usize] = place + 1;
+        ordinals[slot_at(order, place) as usize] = place + 1;
     }
-    ranks
+    ordinals
 }
 
 /// Whether the entries stand in the first slots, one after another, as those do that arrived in ascending order.
@@ -184,26 +184,26 @@ fn is_in_turn(order: u64, count: u8) -> bool
     first_places(order, count) == first_places(IN_TURN, count)
 }
 
-/// How many slots have a higher rank than the one with a rank before them.
+/// How many slots have a higher ordinal than the one with an ordinal before them.
 pub fn count_rises(order: u64, count: u8, made: u8) -> u8
     requires few { count ≤ 15 }
     requires within { (i : ℕ) → i < count → named order i < 15 }
     requires made { made ≤ 15 }
-    ensures { result ≡ rises_in (rank_in (named order) count) made }
+    ensures { result ≡ rises_in (ordinal_in (named order) count) made }
 {
     if count > 0 && count == made && is_in_turn(order, count) {
         return count - 1;
     }
-    let ranks = ranks(order, count);
+    let ordinals = ordinals(order, count);
     let mut rises = 0;
     let mut previous = MOST as u8;
     for slot in 0..made {
-        let rank = ranks[slot as usize];
-        if previous < rank {
+        let ordinal = ordinals[slot as usize];
+        if previous < ordinal {
             rises += 1;
         }
-        if rank > 0 {
-            previous = rank;
+        if ordinal > 0 {
+            previous = ordinal;
         }
     }
     rises

@@ -10,7 +10,7 @@ use Rattle.tree_node.specs.Arenas.{TreeArenas}
 use Rattle.tree_node.specs.Tree.{Stands as PartStands, walk}
 use Rattle.tree_node.specs.Whole.{IsRetiredRoot, IsTop, IsTree, walk_under}
 use Rattle.tree_node.proofs.Ascents.{walk_ascends}
-use Rattle.tree_node.proofs.Bare.{no_children}
+use Rattle.tree_node.proofs.Standing.{no_children}
 use Rattle.tree_cursor_model.specs.Cursor.{are_apart, element_at, is_unopened}
 use Rattle.tree_cursor_model.proofs.Places.{places_compare}
 use Rattle.tree_cursors.specs.declared.end.End.{End as TreeEnd}

@@ -18,6 +18,7 @@ use Rattle.std.proofs.lemmas.Option.{slice_get_within}
 use Rattle.tree_model.specs.Pairs.{IsAscending, within}
 use Rattle.tree_model.proofs.Lists.{filter_none}
 use Rattle.tree_model.proofs.Order.{alike, alike_after}
+use Rattle.tree_model.proofs.Ascending.{less_from_test}
 use Rattle.tree_leaf.specs.declared.leaf.stand.Way.{Way}
 use Rattle.tree_leaf.specs.declared.leaf.stand.Way.TheVariants.{On, Back}
 use Rattle.tree_leaf.specs.Rest.{TakesFirst}
@@ -69,11 +70,6 @@ module _ {K : Type 0} {cmp : K → K → Ordering} (o : IsTotalOrder cmp) where
       by_way : (way : Way) → Later cmp way x y → meets cmp (opposite way) bound y ≡ true → meets cmp (opposite way) bound x ≡ true
       by_way On later met = persists Back bound y x later met
       by_way Back later met = persists On bound y x later met
-
-less_of : (r : Ordering) → is_lt r ≡ true → r ≡ Less
-less_of Less is = refl
-less_of Equal is = absurd (cc)
-less_of Greater is = absurd (cc)
 
 -- what was left, what was answered and what is left
 abbrev pub Splits : {X : Type 0} → List X → Option X → List X → Type 0
@@ -182,7 +178,7 @@ module _ {K V : Type 0} {cmp : K → K → Ordering} (o : IsTotalOrder cmp) (l :
   pub less : (i j : ℕ) (x y : K × V) → i < j → slice_get l i ≡ Some x → slice_get l j ≡ Some y → cmp x.0 y.0 ≡ Less
   less i j x y lt at_i at_j =
       let test : ltb i j ≡ true = grind (arith, nat_tests) in
-      less_of (cmp x.0 y.0) (places_compare o l i j x y ascending at_i at_j ∙ test)
+      less_from_test (cmp x.0 y.0) (places_compare o l i j x y ascending at_i at_j ∙ test)
 
   out_below : (x : K × V) → above x ≡ false → inside x ≡ false
   out_below x missed = rw missed refl

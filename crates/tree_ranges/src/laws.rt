@@ -1,13 +1,14 @@
 //! Laws of cursors, each as the contract of a small function: a cursor that was never moved gives all pairs within
 //! its bounds, in order, from either end.
 ghost use Rattle.std.specs.Prelude.{◌≡◌, IfOk, map, reverse};
-ghost use Rattle.tree_leaf.specs.declared.leaf.stand.Way.TheVariants.{On, Back};
 ghost use Rattle.tree_leaf.specs.Walks.{lent_entry};
+ghost use Rattle.tree_leaf.specs.Ways.{along};
 ghost use Rattle.tree_cursor_model.specs.Rest.{Moves};
 ghost use Rattle.tree_ranges.specs.Ranged.{IsFresh, pairs_within};
 
 use crate::cursor::Cursor;
 use std::alloc::{AllocError, Global};
+use tree_leaf::leaf::stand::Way;
 
 /// Moves the forward end until it gives no pair, and returns what it gave: all pairs within the bounds, in ascending
 /// order. Returns `Err` if memory for the list is refused. The caller must pass a cursor that was never moved.
@@ -18,11 +19,7 @@ pub fn pairs_ascending<'t, K: Ord + Drop + 't, V: Drop + 't, C: Cursor<'t, K, V>
     requires { IsFresh (C.cursor cursor.old) }
     ensures { IfOk result (λ pairs. map lent_entry pairs.items ≡ pairs_within K.cmp (C.cursor cursor.old)) }
 {
-    let mut pairs = Vec::new(alloc);
-    while let Some(pair) = forward(cursor) {
-        pairs.push(pair)?;
-    }
-    Ok(pairs)
+    pairs_along(alloc, Way::On, cursor)
 }
 
 /// Moves the backward end until it gives no pair, and returns what it gave: all pairs within the bounds, in
@@ -35,27 +32,35 @@ pub fn pairs_descending<'t, K: Ord + Drop + 't, V: Drop + 't, C: Cursor<'t, K, V
     requires { IsFresh (C.cursor cursor.old) }
     ensures { IfOk result (λ pairs. map lent_entry pairs.items ≡ reverse (pairs_within K.cmp (C.cursor cursor.old))) }
 {
+    pairs_along(alloc, Way::Back, cursor)
+}
+
+/// Moves the end of a way until it gives no pair, and returns what it gave: all pairs within the bounds, in the order of
+/// the way.
+fn pairs_along<'t, K: Ord + Drop + 't, V: Drop + 't, C: Cursor<'t, K, V>>(
+    alloc: Global,
+    way: Way,
+    cursor: &mut C,
+) -> Result<Vec<(&'t K, &'t V)>, AllocError>
+    requires { IsFresh (C.cursor cursor.old) }
+    ensures { IfOk result (λ pairs. map lent_entry pairs.items ≡ along way (pairs_within K.cmp (C.cursor cursor.old))) }
+{
     let mut pairs = Vec::new(alloc);
-    while let Some(pair) = backward(cursor) {
+    while let Some(pair) = step(way, cursor) {
         pairs.push(pair)?;
     }
     Ok(pairs)
 }
 
-/// Moves the forward end.
-fn forward<'t, K: Ord + Drop + 't, V: Drop + 't, C: Cursor<'t, K, V>>(
+/// Moves the end of a way.
+fn step<'t, K: Ord + Drop + 't, V: Drop + 't, C: Cursor<'t, K, V>>(
+    way: Way,
     cursor: &mut C,
 ) -> Option<(&'t K, &'t V)>
-    ensures { Moves K.cmp On (C.cursor cursor.old) result (C.cursor cursor.new) }
+    ensures { Moves K.cmp way (C.cursor cursor.old) result (C.cursor cursor.new) }
 {
-    cursor.next()
-}
-
-/// Moves the backward end.
-fn backward<'t, K: Ord + Drop + 't, V: Drop + 't, C: Cursor<'t, K, V>>(
-    cursor: &mut C,
-) -> Option<(&'t K, &'t V)>
-    ensures { Moves K.cmp Back (C.cursor cursor.old) result (C.cursor cursor.new) }
-{
-    cursor.next_back()
+    match way {
+        Way::On => cursor.next(),
+        Way::Back => cursor.next_back(),
+    }
 }

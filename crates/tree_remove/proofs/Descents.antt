@@ -23,14 +23,8 @@ use Rattle.tree_node.proofs.Frames.{head_here}
 use Rattle.tree_node.proofs.Lifts.{node_times, single_nodes}
 use Rattle.tree_remove.proofs.NodeRemovals.{fails_retired}
 use Rattle.tree_node.proofs.Routes.{routed_to, routed_past}
-
-module _ {K V : Type 0} {LEN : ℕ} {cmp : K → K → Ordering} (a : TreeArenas K V LEN) (id : ℕ) where
-  -- the node of a part, and its kind
-  node_same : (level : ℕ) (s : Stands cmp (suc level) a None id None) (node : NodeOf K LEN) → get a.nodes id ≡ Some node → s.node ≡ node
-  node_same level s node here = let both : Some s.node ≡ Some node = sym s.here ∙ here in cc
-
-  kind_here : (level : ℕ) → Stands cmp (suc level) a None id None → (node : NodeOf K LEN) → get a.nodes id ≡ Some node → HasKind level node
-  kind_here level s node here = rw (node_same level s node here) at s.kind
+use Rattle.tree_node.proofs.Standing.{node_is}
+use Rattle.tree_node.proofs.Levels.{kind_of}
 
 module _ {K V : Type 0} {LEN : ℕ} (cmp : K → K → Ordering) (Says : V → Bool → Type 0) (a : TreeArenas K V LEN) (id : ℕ) (key : K) where
   -- a node without a child is retired
@@ -38,7 +32,7 @@ module _ {K V : Type 0} {LEN : ℕ} (cmp : K → K → Ordering) (Says : V → B
   fails_childless zero inner given node here none = absurd (omega (arith, inner))
   fails_childless (suc level) inner (inl part) node here none =
       let s : Stands cmp (suc level) a None id None = part.stands in
-      let both : None ≡ Some s.last = sym none ∙ ap unbounded (sym (node_same a id level s node here)) ∙ s.last_is in
+      let both : None ≡ Some s.last = sym none ∙ ap unbounded (sym (node_is level a None id None s node here)) ∙ s.last_is in
       absurd (cc)
   fails_childless (suc level) inner (inr retired) node here none = fails_retired cmp Says key level a id retired
 
@@ -83,21 +77,21 @@ module _ {K V : Type 0} {LEN : ℕ} {cmp : K → K → Ordering} (o : IsTotalOrd
   under_leaf_node slot zero inner given node here place = absurd (omega (arith, inner))
   under_leaf_node slot (suc level) inner (inr retired) node here place = absurd (not_retired slot level (Leaf node) here place retired)
   under_leaf_node slot (suc zero) inner (inl part) node here place =
-      record { level_is = refl; part = part; which = rw here (goes_to slot (Leaf node) place); place = rw (node_same a id 0 part.stands (Leaf node) here) place }
-  under_leaf_node slot (suc (suc level)) inner (inl part) node here place = absurd (kind_here a id (suc level) part.stands (Leaf node) here)
+      record { level_is = refl; part = part; which = rw here (goes_to slot (Leaf node) place); place = rw (node_is 0 a None id None part.stands (Leaf node) here) place }
+  under_leaf_node slot (suc (suc level)) inner (inl part) node here place = absurd (kind_of cmp a id (suc level) (Leaf node) part.stands here)
 
   pub under_internal : (slot : Option ℕ) (level : ℕ) → 0 < level → IsPart cmp level a id ⊎ IsRetired level a id → (node : InternalNodeOf K LEN) → get a.nodes id ≡ Some (Internal node)
       → IsChildAt cmp key node.children node.unbounded_child child slot → UnderInternal slot level
   under_internal slot zero inner given node here place = absurd (omega (arith, inner))
   under_internal slot (suc level) inner (inr retired) node here place = absurd (not_retired slot level (Internal node) here place retired)
-  under_internal slot (suc zero) inner (inl part) node here place = absurd (kind_here a id 0 part.stands (Internal node) here)
+  under_internal slot (suc zero) inner (inl part) node here place = absurd (kind_of cmp a id 0 (Internal node) part.stands here)
   under_internal slot (suc (suc below)) inner (inl part) node here place = record {
     below = below;
     level_is = refl;
     level_below = sub-one (suc (suc below));
     part = part;
     which = rw here (goes_to slot (Internal node) place);
-    place = rw (node_same a id (suc below) part.stands (Internal node) here) place;
+    place = rw (node_is (suc below) a None id None part.stands (Internal node) here) place;
   }
 
   module _ (level : ℕ) (part : IsPart cmp (suc level) a id) (which : HasChildFor cmp key (get a.nodes id) child) where

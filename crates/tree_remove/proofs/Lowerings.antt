@@ -18,9 +18,10 @@ use Rattle.tree_node.specs.Tree.{IsOfLevel}
 use Rattle.tree_node.specs.Tree.{IsRetired, Stands, children_of, leaves_at, nodes_at, unbounded, walk}
 use Rattle.tree_node.proofs.Frames.{Agrees, same_leaves, same_nodes, same_stands}
 use Rattle.tree_node.proofs.Lifts.{single_nodes}
+use Rattle.tree_node.proofs.Standing.{no_children}
 use Rattle.tree_remove.proofs.Losses.{lost_counted}
 use Rattle.tree_remove.proofs.OnlyLeaves.{only_stands}
-use Rattle.tree_remove.proofs.NodeDrops.{node_dropped, retired_children}
+use Rattle.tree_remove.proofs.NodeDrops.{node_dropped}
 
 module _ {K V : Type 0} {LEN : ℕ} (cmp : K → K → Ordering) (a : TreeArenas K V LEN) (root : ℕ) where
   stays : (level : ℕ) → IsRoot cmp a root level → LowersRoot cmp level a a root (Some (root, level))
@@ -52,7 +53,7 @@ module _ {K V : Type 0} {LEN : ℕ} (cmp : K → K → Ordering) (a : TreeArenas
         let clash : None ≡ Some s.last = sym none ∙ ap unbounded (sym same) ∙ s.last_is in
         absurd (cc)
     retired_gone (suc level) inner (inr retired) none =
-        let no_leaf : leaves_at (suc level) a.nodes root ≡ [] = rw (retired_children a.nodes root retired) refl in
+        let no_leaf : leaves_at (suc level) a.nodes root ≡ [] = rw ((no_children (get a.nodes root) retired).1) refl in
         let dropped : Replaces (suc level) a b (root ∷ []) [] = node_dropped level a b root gone retired loses leaves in
         record {
           stands = tt;

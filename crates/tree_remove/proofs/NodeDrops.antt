@@ -10,23 +10,16 @@ use Rattle.tree_node.specs.Arenas.{TreeArenas}
 use Rattle.tree_node.specs.Parts.{Replaces}
 use Rattle.tree_node.specs.Tree.{children_of, node_children, leaves_at, nodes_at, IsRetiredNode}
 use Rattle.tree_node.proofs.Lifts.{single_leaves, single_nodes}
+use Rattle.tree_node.proofs.Standing.{no_children}
 use Rattle.tree_remove.proofs.Losses.{lost_counted}
-
--- a retired node has no child
-pub retired_children : {K : Type 0} {LEN : ℕ} (nodes : Slab (NodeOf K LEN)) (id : ℕ) → IsRetiredNode (get nodes id) → children_of nodes id ≡ []
-retired_children {K} {LEN} nodes id retired = none (get nodes id) retired
-  where
-    none : (found : Option (NodeOf K LEN)) → IsRetiredNode found → node_children found ≡ []
-    none None r = absurd r
-    none (Some node) r = rw (r.0, r.1) refl
 
 module _ {K V : Type 0} {LEN : ℕ} (level : ℕ) (old new : TreeArenas K V LEN) (id : ℕ) (node : NodeOf K LEN) (retired : IsRetiredNode (get old.nodes id))
     (loses : Loses old.nodes new.nodes id node) (leaves : new.leaves ≡ old.leaves) where
   no_leaf : leaves_at (suc level) old.nodes id ≡ []
-  no_leaf = rw (retired_children old.nodes id retired) refl
+  no_leaf = rw ((no_children (get old.nodes id) retired).1) refl
 
   only_itself : (n : ℕ) → times n (nodes_at (suc level) old.nodes id) ≡ cond (id == n) 1 0
-  only_itself n = rw (times-cons n id, retired_children old.nodes id retired, times-nil n) (omega arith)
+  only_itself n = rw (times-cons n id, (no_children (get old.nodes id) retired).1, times-nil n) (omega arith)
 
   -- the part that it was is no part any more
   pub node_dropped : Replaces (suc level) old new (id ∷ []) []

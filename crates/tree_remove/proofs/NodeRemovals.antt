@@ -8,21 +8,22 @@ use Rattle.slab.specs.Slab.{get}
 use Rattle.tree_array.specs.declared.answers.RemoveResult.{RemoveResult}
 use Rattle.tree_array.specs.declared.answers.RemoveResult.TheVariants.{Success, Retired, Fail}
 use Rattle.tree_leaf.specs.declared.leaf.LeafOf.{LeafOf}
+use Rattle.tree_leaf.specs.Entries.{slot_entries}
 use Rattle.tree_model.specs.Pairs.{AllLarger}
 use Rattle.tree_node.specs.Arenas.{TreeArenas}
 use Rattle.tree_remove.specs.CleanUps.{HasOnlyRetired, RetiresIfEmpty}
 use Rattle.tree_node.specs.Parts.{IsPart, KeepsBounds, Replaces}
 use Rattle.tree_remove.specs.Removes.{RemovesUnder, TakesOut}
 use Rattle.tree_node.specs.Shape.{spare}
-use Rattle.tree_node.specs.Tree.{HasChildFor, Stands, IsRetired, IsRetiredLeaf, leaves_at, slot_entries, walk}
+use Rattle.tree_node.specs.Tree.{HasChildFor, Stands, IsRetired, IsRetiredLeaf, leaves_at, walk}
 use Rattle.tree_node.proofs.Between.{found_between, without_between}
 use Rattle.tree_node.proofs.ChildChanges.{node_keeps, node_replaces, now, old_spare, new_spare, old_walk, new_walk}
 use Rattle.tree_node.proofs.Frames.{same_stands}
 use Rattle.tree_node.proofs.Unchanged.{unchanged_agrees}
-use Rattle.tree_remove.proofs.NodeDrops.{retired_children}
 use Rattle.tree_node.proofs.Spares.{spare_le}
 use Rattle.tree_node.proofs.Steps.{part_after, replaces_refl, replaces_trans}
 use Rattle.tree_node.proofs.Walks.{walk-children, front_walk_below, back_walk_above}
+use Rattle.tree_node.proofs.Standing.{no_children}
 
 -- what is taken out between smaller and larger keys is taken out of all
 pub taken_between : {K V : Type 0} {cmp : K → K → Ordering} (o : IsTotalOrder cmp) (Says : V → Bool → Type 0) (key : K) (front old new back : List (K × V))
@@ -83,7 +84,7 @@ module _ {K V : Type 0} {LEN : ℕ} where
   -- what is retired has no pair
   pub walk-retired : (level : ℕ) (a : TreeArenas K V LEN) (id : ℕ) → IsRetired level a id → walk level a id ≡ []
   walk-retired zero a id retired = rw (no_entries (get a.leaves id) retired) refl
-  walk-retired (suc level) a id retired = rw (walk-children level a id, retired_children a.nodes id retired) refl
+  walk-retired (suc level) a id retired = rw (walk-children level a id, (no_children (get a.nodes id) retired).1) refl
 
   -- a leaf node isn't left with a retired leaf alone where its own clean-up succeeds
   pub settled_if_empty : (old new : TreeArenas K V LEN) (id : ℕ) (result : RemoveResult) → RetiresIfEmpty old new id result → result ≡ Success → HasOnlyRetired new id → ⊥
@@ -149,7 +150,7 @@ module _ {K V : Type 0} {LEN : ℕ} (cmp : K → K → Ordering) where
     pub removes_settled : (old mid new : TreeArenas K V LEN) (id : ℕ) (result : RemoveResult) → RemovesUnder cmp Says 1 old mid id Success key → RetiresIfEmpty mid new id result → RemovesUnder cmp Says 1 old new id result key
     removes_settled old mid new id Success removes settles = rw settles.0 removes
     removes_settled old mid new id Retired removes settles =
-        let no_leaf : leaves_at 1 new.nodes id ≡ [] = rw (retired_children new.nodes id settles.retired) refl in
+        let no_leaf : leaves_at 1 new.nodes id ≡ [] = rw ((no_children (get new.nodes id) settles.retired).1) refl in
         let none : walk 1 new id ≡ [] = rw no_leaf refl in
         let all_room : spare 1 new id ≡ LEN = rw no_leaf refl in
         record {

@@ -22,14 +22,10 @@ module _ {K : Type 0} {LEN : ℕ} where
   internal_kind n m zero kind = kind
   internal_kind n m (suc level) kind = tt
 
-  -- a node that has a child in a slot is there, and so is a retired one
+  -- a node that has a child in a slot is there
   pub has_node : (found : Option (NodeOf K LEN)) (slot : Option ℕ) → HasChildIn found slot → IsSome found
   has_node None slot has = absurd has
   has_node (Some node) slot has = refl
-
-  pub has_retired : (found : Option (NodeOf K LEN)) → IsRetiredNode found → IsSome found
-  has_retired None retired = absurd retired
-  has_retired (Some node) retired = refl
 
   module _ (cmp : K → K → Ordering) (a : Slab (NodeOf K LEN)) (id : ℕ) where
     -- the keyed child of a slot was taken out of its array

@@ -13,6 +13,7 @@ use Rattle.tree_model.specs.Pairs.{AllLarger, IsAscending, put}
 use Rattle.tree_model.proofs.Lists.{all_map, filter_all, filter_none}
 use Rattle.tree_model.proofs.LookUps.{larger_trans}
 use Rattle.tree_model.proofs.Order.{greater_from_less}
+use Rattle.tree_cells.proofs.Picks.{reachable_few}
 use Rattle.tree_split.proofs.Boundaries.{ascents_below}
 
 -- where the boundary says so, all neighbours ascend
@@ -25,11 +26,6 @@ all_rise len count rises told = by_tests (leb count (limit len)) (ltb (2 * rises
     by_tests false false told = grind (arith, nat_tests)
 
 module _ {K V : Type 0} where
-  reachable_few : (arrivals : List (Option (K × V))) → length (reachable arrivals) ≤ length arrivals
-  reachable_few [] = omega arith
-  reachable_few (None ∷ arrivals) = omega (arith, reachable_few arrivals)
-  reachable_few (Some pair ∷ arrivals) = omega (arith, reachable_few arrivals)
-
   -- arrivals of which none is spent
   none_spent : (arrivals : List (Option (K × V))) → length arrivals ≤ length (reachable arrivals) → arrivals ≡ map Some (reachable arrivals)
   none_spent [] all = refl

@@ -1,8 +1,10 @@
 -- A leaf node that makes room for a key: its leaf is split or built anew.
-use Rattle.std.proofs.Common.{◌≡◌, ◌⊎◌, ℕ, suc, ◌-◌, ◌<◌, ◌≤◌, Bool, true, List, ◌∷◌, ◌++◌, length, drop, take, slice_get, Option, Some, None, IsSome, refl, sym, ap, ◌∙◌, arith, sub-one, inl, inr}
+use Rattle.std.proofs.Common.{◌≡◌, ◌⊎◌, ℕ, suc, ◌-◌, ◌<◌, ◌≤◌, Bool, true, List, ◌∷◌, ◌++◌, length, drop, take, slice_get, Option, Some, None, IsSome, refl, sym, ap, ◌∙◌, arith, sub-one, inl, inr, false, if◌then◌else◌}
 use Rattle.std.specs.declared.cmp.Ordering.{Ordering}
 use Rattle.std.specs.declared.cmp.Ordering.TheVariants.{Equal}
 use Rattle.std.specs.Cmp.{IsTotalOrder}
+use Rattle.std.specs.List.{AllByRecursion}
+use Rattle.std.specs.Ordering.{is_ge}
 use Rattle.slab.specs.Slab.{get, with_value, HasRoomFor}
 use Rattle.slab.proofs.SlabLemmas.{Updates-with_value}
 use Rattle.tree_array.specs.Arrivals.{Arrivals, in_order}
@@ -14,7 +16,9 @@ use Rattle.tree_leaf.specs.Arena.{KeepsBoth, HasPlaces}
 use Rattle.tree_leaf.specs.Chain.{IsChain}
 use Rattle.tree_leaf.specs.Links.{GainsBefore}
 use Rattle.tree_leaf.proofs.Rooms.{rewritten}
+use Rattle.tree_leaf.specs.Entries.{leaf_entries}
 use Rattle.tree_model.specs.Pairs.{IsAbsent}
+use Rattle.tree_model.proofs.Lists.{all_map}
 use Rattle.tree_node.specs.declared.node.NodeOf.{NodeOf}
 use Rattle.tree_node.specs.Arenas.{TreeArenas}
 use Rattle.tree_node.specs.Parts.{IsPart, PutsChild, Unchanged}
@@ -22,15 +26,15 @@ use Rattle.tree_packed.specs.Packed.{IsPacked}
 use Rattle.tree_packed.proofs.Edges.{edge_below, last_child}
 use Rattle.tree_split.specs.Splits.{GivesAll, GivesFirst, HasMadeRoom, IsCut, KeepsPacked, SharesEntries, is_at, is_last, leaf_part, low_part}
 use Rattle.tree_node.specs.Shape.{room}
-use Rattle.tree_node.specs.Tree.{IsAbove, IsUpTo, HasChildFor, HasKind, LeafStands, Stands, keyed, unbounded, child_at, is_from, leaf_entries}
+use Rattle.tree_node.specs.Tree.{IsAbove, IsUpTo, HasChildFor, HasKind, LeafStands, Stands, keyed, unbounded, child_at, is_from}
 use Rattle.tree_node.proofs.ChildChanges.{child_part}
 use Rattle.tree_node.proofs.Children.{child_stands}
 use Rattle.tree_split.proofs.LeafSplits.{IsBetween, edge_left, entries_given, high_room, leaf_splits_low, low_full, low_room, separator_smaller}
 use Rattle.tree_node.proofs.LeafWrites.{with_array, array_replaces, here_now}
-use Rattle.tree_split.proofs.LowSplits.{GainsLow, SplitsLow, absent_here, gains_low}
+use Rattle.tree_split.proofs.LowSplits.{GainsLow, SplitsLow, absent_here, gains_low, entries_now, last_now}
 use Rattle.tree_split.proofs.PackedSplits.{all_given, packed_split}
 use Rattle.tree_node.proofs.Standing.{node_is}
-use Rattle.tree_node.proofs.Places.{IsForKey, high_for, low_for, place_for}
+use Rattle.tree_node.proofs.Places.{IsForKey, high_for, low_for, place_for, chosen_past}
 use Rattle.tree_split.proofs.Results.{only_child}
 use Rattle.tree_split.proofs.Rebuilds.{among, leaf_rebuilt, room_made_by_rebuild}
 use Rattle.tree_node.proofs.Unchanged.{chain_same, unchanged_by_keeping}
@@ -186,6 +190,28 @@ module _ {K V : Type 0} {LEN : ℕ} {cmp : K → K → Ordering} (o : IsTotalOrd
         (low_room o old reserved mid x y count leaf high low pair separator key same there high_is low_is gains last_low cloned cut_here few)
         (high_room o old reserved mid x y count leaf high low pair separator key same there high_is low_is gains last_low cloned cut_here few)
         (packed_still gives node' puts)
+
+    -- the key belongs to the new leaf up to the separator, and to the old one beyond it
+    pub home_by_split : (node' : NodeOf K LEN) → PutsChild cmp node node' separator y
+        → HasChildFor cmp key (get (with_value mid.nodes id node') id) (if◌then◌else◌ (is_from cmp key separator) y x)
+    home_by_split node' puts =
+        let update = Updates-with_value mid.nodes id node' (rw is_node refl) in
+        let none : AllByRecursion (λ c. is_from cmp key c.0 ≡ false) at.before = all_map (λ c less. ap is_ge less) at.before at.smaller in
+        let old_home : child_at (is_from cmp key) at.onward (stood).last ≡ x =
+            sym (chosen_past (is_from cmp key) at.before at.onward (stood).last none) ∙ rw (← at.split) (goes node parent_was) in
+        rw (
+          update.changed,
+          last_now o (IsBetween cmp key) 0 old mid id x y separator part splits_low
+          node parent_was at.before at.onward stood.last (last_is node parent_was) at.split (at.child ∙ goes node parent_was)
+          (λ low_key high_key inside. (low_for cmp key low_key at.before at.smaller inside.0, high_for cmp key at.onward high_key at.up_to inside.1)) (tt, tt)
+          (record mid { nodes = with_value mid.nodes id node' }) node' update.changed puts (λ n differs. update.others n differs) refl,
+          entries_now o (IsBetween cmp key) 0 old mid id x y separator part splits_low
+          node parent_was at.before at.onward stood.last (last_is node parent_was) at.split (at.child ∙ goes node parent_was)
+          (λ low_key high_key inside. (low_for cmp key low_key at.before at.smaller inside.0, high_for cmp key at.onward high_key at.up_to inside.1)) (tt, tt)
+          (record mid { nodes = with_value mid.nodes id node' }) node' update.changed puts (λ n differs. update.others n differs) refl,
+          chosen_past (is_from cmp key) at.before ((separator, y) ∷ at.onward) (stood).last none,
+          old_home,
+        ) refl
 
 -- a write in a leaf takes none of the room that was reserved
 pub room_after_write : {K V : Type 0} {LEN : ℕ} (reserved : TreeArenas K V LEN) (x : ℕ) (leaf : LeafOf K V LEN) → get reserved.leaves x ≡ Some leaf → (value : LeafOf K V LEN) → HasPlaces reserved 1 0

@@ -14,6 +14,7 @@ use Rattle.tree_leaf.specs.Counting.{uses}
 use Rattle.tree_leaf.specs.Links.{GainsBefore}
 use Rattle.tree_leaf.proofs.Chains.{same_array_uses}
 use Rattle.tree_leaf.proofs.Counts.{times-cons, one_here, none_here, uses_some, uses_none}
+use Rattle.tree_leaf.specs.Entries.{leaf_entries}
 use Rattle.tree_model.specs.Pairs.{AllLarger, IsAscending}
 use Rattle.tree_model.proofs.Lists.{all_map, all-append}
 use Rattle.tree_model.proofs.Order.{alike, alike_after}
@@ -23,7 +24,7 @@ use Rattle.tree_node.specs.Shape.{room, spare}
 use Rattle.tree_packed.specs.Packed.{IsPacked}
 use Rattle.tree_packed.proofs.Arrays.{packed_in_order}
 use Rattle.tree_split.specs.Splits.{GivesFirst, IsCut}
-use Rattle.tree_node.specs.Tree.{IsAbove, IsBelow, IsUpTo, LeafStands, is_from, leaf_entries, walk}
+use Rattle.tree_node.specs.Tree.{IsAbove, IsBelow, IsUpTo, LeafStands, is_from, walk}
 use Rattle.tree_node.proofs.Children.{walk-leaf}
 use Rattle.tree_node.proofs.Cuts.{all_front, all_behind, ascending_front, ascending_behind, smaller_front, cut_whole, cut_with}
 use Rattle.tree_node.proofs.LeafSpares.{spare_anew, spare_beside}

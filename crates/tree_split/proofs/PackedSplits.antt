@@ -13,6 +13,7 @@ use Rattle.slab.specs.Slab.{get}
 use Rattle.tree_array.specs.Arrivals.{Arrivals, ascents, free, reachable}
 use Rattle.tree_array.specs.Sound.{IsSound}
 use Rattle.tree_model.proofs.Lists.{all-append}
+use Rattle.tree_model.proofs.Ascending.{less_from_test}
 use Rattle.tree_node.specs.declared.node.NodeOf.{NodeOf}
 use Rattle.tree_node.specs.Arenas.{TreeArenas}
 use Rattle.tree_node.specs.Parts.{IsPart, PutsChild}
@@ -47,11 +48,6 @@ module _ {K V : Type 0} {LEN : ℕ} (cmp : K → K → Ordering) (beyond : Optio
       let few : length (keyed e.node).entries ≤ LEN = rw (node_is level a low x high s e.node e.here) at s.few in
       rw e.here (packed_full cmp LEN (keyed e.node) e.packed (free_none cmp LEN (keyed e.node) e.packed (rw (e.here, e.last_is) at none)) few)
 
-less_from : (r : Ordering) → is_lt r ≡ true → r ≡ Less
-less_from Less so = refl
-less_from Equal so = absurd (cc)
-less_from Greater so = absurd (cc)
-
 module _ {K V : Type 0} (cmp : K → K → Ordering) (key : K) where
   -- a key that is beyond all is larger than each, and the other way round
   pub beyond_all : (pairs : List (K × V)) → AllByRecursion (λ p. cmp p.0 key ≡ Less) pairs → all_smaller cmp key pairs ≡ true
@@ -60,7 +56,7 @@ module _ {K V : Type 0} (cmp : K → K → Ordering) (key : K) where
 
   pub all_beyond : (pairs : List (K × V)) → all_smaller cmp key pairs ≡ true → AllByRecursion (λ p. cmp p.0 key ≡ Less) pairs
   all_beyond [] so = tt
-  all_beyond (p ∷ rest) so = let both = both_of (is_lt (cmp p.0 key)) (all_smaller cmp key rest) so in (less_from (cmp p.0 key) both.0, all_beyond rest both.1)
+  all_beyond (p ∷ rest) so = let both = both_of (is_lt (cmp p.0 key)) (all_smaller cmp key rest) so in (less_from_test (cmp p.0 key) both.0, all_beyond rest both.1)
 
   -- the last of them decides
   pub beyond_last : (front : List (K × V)) (pair : K × V) → AllByRecursion (λ p. cmp p.0 key ≡ Less) front ⊎ (is_lt (cmp pair.0 key) ≡ false) → all_smaller cmp key (front ++ pair ∷ []) ≡ is_lt (cmp pair.0 key)

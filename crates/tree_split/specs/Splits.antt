@@ -9,9 +9,10 @@ use Rattle.tree_array.specs.Arrivals.{Arrivals, boundary, in_order}
 use Rattle.tree_array.specs.Length.{limit}
 use Rattle.tree_leaf.specs.declared.leaf.LeafOf.{LeafOf}
 use Rattle.tree_leaf.specs.Counting.{times}
+use Rattle.tree_leaf.specs.Entries.{leaf_entries}
 use Rattle.tree_node.specs.declared.node.NodeOf.{NodeOf}
 use Rattle.tree_node.specs.Arenas.{TreeArenas}
-use Rattle.tree_node.specs.Tree.{IsAbove, IsUpTo, HasChildFor, HasKind, Stands, keyed, unbounded, children_of, leaf_entries, walk}
+use Rattle.tree_node.specs.Tree.{IsAbove, IsUpTo, HasChildFor, HasKind, Stands, keyed, unbounded, children_of, walk}
 use Rattle.tree_node.specs.Parts.{KeepsBounds, Replaces, Unchanged}
 use Rattle.tree_node.specs.Shape.{held, room, slot_keyed, spare}
 use Rattle.tree_packed.specs.Packed.{IsPacked}
@@ -55,9 +56,10 @@ module _ {K V : Type 0} {LEN : ℕ} (cmp : K → K → Ordering) where
     pub child : (child : ℕ) → HasChildFor cmp key (get new.nodes id) child → 0 < room (level - 1) new child
     pub packed : (child : ℕ) → KeepsPacked level old new id child key
 
-  abbrev pub RoomResult : Bool → ℕ → TreeArenas K V LEN → TreeArenas K V LEN → ℕ → ℕ → K → Type 0
-  RoomResult true level old new id target key = HasMadeRoom level old new id key
-  RoomResult false level old new id target key = LacksRoom level old new id target
+  -- the child that the key belongs to now, or none where no room could be made
+  abbrev pub RoomResult : Option ℕ → ℕ → TreeArenas K V LEN → TreeArenas K V LEN → ℕ → ℕ → K → Type 0
+  RoomResult (Some home) level old new id target key = HasMadeRoom level old new id key × HasChildFor cmp key (get new.nodes id) home
+  RoomResult None level old new id target key = LacksRoom level old new id target
 
   -- The child has room now, and the part above it is what it was but for one child more at most, which has room too.
   pub record SplitsChild (level : ℕ) (old new : TreeArenas K V LEN) (parent target : ℕ) : Type 0 where

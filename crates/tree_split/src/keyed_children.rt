@@ -25,7 +25,8 @@ pub(crate) fn parting_place<K: Ord + Drop, I: Drop, const LEN: usize>(
     }
 }
 
-/// Puts a child under its separator, which is new in the array. Makes at most `LEN` comparisons.
+/// Puts a child under its separator, which is new in the array. Makes at most 4 comparisons (3 among 7
+/// slots).
 pub(crate) fn put_keyed<K: Ord + Drop, I: Drop, const LEN: usize>(
     children: &mut ArrayOf<K, I, LEN>,
     separator: K,

@@ -1,15 +1,16 @@
 //! Splits and rebuilds of the leaves under a leaf node.
-ghost use Rattle.std.specs.Prelude.{◌≡◌, ◌<◌, ◌≤◌, [], IfOk, IfSome, MatchOption, OnErr, IsTrue, Some, take, drop, length, slice_get};
+ghost use Rattle.std.specs.Prelude.{◌≡◌, ◌<◌, ◌≤◌, [], IfOk, IfSome, IsSome, MatchOption, OnErr, Some, if◌then◌else◌, take, drop, length, slice_get};
 ghost use Rattle.std.specs.List.{AllByRecursion};
 ghost use Rattle.slab.specs.Slab.{get};
+ghost use Rattle.tree_leaf.specs.Entries.{leaf_entries};
 ghost use Rattle.tree_array.specs.Arrivals.{in_order};
 ghost use Rattle.tree_array.specs.Insertion.{HasRoom};
 ghost use Rattle.tree_array.specs.Length.{limit};
 ghost use Rattle.tree_array.specs.Sound.{IsSound};
 ghost use Rattle.tree_model.specs.Pairs.{IsAbsent};
 ghost use Rattle.tree_node.specs.Parts.{IsPart, PutsChild, Unchanged};
-ghost use Rattle.tree_split.specs.Splits.{GivesAll, GivesFirst, GoesWhole, HasMadeRoom, IsCut, RoomResult, SharesEntries, all_smaller, low_part};
-ghost use Rattle.tree_node.specs.Tree.{HasChildFor, HasKind, keyed, leaf_entries};
+ghost use Rattle.tree_split.specs.Splits.{GivesAll, GivesFirst, GoesWhole, IsCut, RoomResult, SharesEntries, all_smaller, low_part};
+ghost use Rattle.tree_node.specs.Tree.{HasChildFor, HasKind, is_from, keyed};
 
 use crate::keyed_children::put_keyed;
 use std::alloc::AllocError;
@@ -20,16 +21,17 @@ use tree_leaf::arena::{LeafId, NodeId};
 use tree_leaf::leaf::{LeafOf, add_before};
 use tree_node::node::{ArenasOf, NodeOf};
 
-/// Makes room for a key in the leaf that the key belongs to. The first rule that applies decides:
+/// Makes room for a key in the leaf that the key belongs to, and returns the leaf that it belongs to then. The first rule
+/// that applies decides:
 ///
 /// 1. If at most three quarters of the leaf's slots hold entries, its array is built anew in place.
-/// 2. If the node has no slot for another separator, returns false; nothing has changed.
+/// 2. If the node has no slot for another separator, returns `None`; nothing has changed.
 /// 3. Otherwise the leaf is split: its first entries move to a new leaf, linked before it, and a clone of the greatest
 ///    key among them becomes the new leaf's separator. The leaf divides at its array's boundary. If it is the unbounded
 ///    one, all its pairs arrived in ascending order and the key is larger than every key in it, all entries move.
 ///
 /// Returns `Err` if the leaf is to be split and memory is refused, also by the clone; nothing has changed then. Allocates
-/// at most one leaf. Makes at most `LEN` comparisons in the put into the node's array, and one beside them.
+/// at most one leaf. Makes at most 4 comparisons in the put into the node's array (3 among 7 slots), and two beside them.
 ///
 /// The caller must see that a well-formed leaf node stands under the number, and that the key belongs to the leaf.
 pub fn make_room<K: IndexKey, V: Drop, const LEN: usize>(
@@ -37,13 +39,13 @@ pub fn make_room<K: IndexKey, V: Drop, const LEN: usize>(
     id: NodeId,
     target: LeafId,
     key: &K,
-) -> Result<bool, AllocError>
+) -> Result<Option<LeafId>, AllocError>
     requires part { IsPart K.cmp 1 arenas.old id }
     requires child { HasChildFor K.cmp key.now (get arenas.old.nodes id) target }
     ensures done { IfOk result (λ made. RoomResult K.cmp made 1 arenas.old arenas.new id target key.now) }
     ensures err { OnErr result (Unchanged arenas.old arenas.new) }
     ensures many { OnErr result (limit LEN < length (leaf_entries arenas.old.leaves target)) }
-    ensures shares { IfOk result (λ made. IsTrue made → SharesEntries K.cmp arenas.old arenas.new id target key.now) }
+    ensures shares { IfOk result (λ made. IsSome made → SharesEntries K.cmp arenas.old arenas.new id target key.now) }
 {
     let NodeOf::Leaf(node) = arenas.node(id) else {
         unreachable!()
@@ -52,13 +54,13 @@ pub fn make_room<K: IndexKey, V: Drop, const LEN: usize>(
     let full = node.children.is_full();
     let Some(count) = low_count(arenas.leaf(target).array(), key, last) else {
         arenas.leaf_mut(target).array_mut().rebuild();
-        return Ok(true);
+        return Ok(Some(target));
     };
     if full {
-        return Ok(false);
+        return Ok(None);
     }
-    split_leaf(arenas, id, target, count)?;
-    Ok(true)
+    let home = split_leaf(arenas, id, target, key, count)?;
+    Ok(Some(home))
 }
 
 /// Returns how many of the first entries move when the leaf is split for a key, or `None` if the array is built anew
@@ -96,7 +98,7 @@ fn is_beyond<K: Ord + Drop, V: Drop, const LEN: usize>(array: &ArrayOf<K, V, LEN
 }
 
 /// Splits a leaf: its first `count` entries move to a new leaf, linked before it, under a clone of the greatest key among
-/// them.
+/// them. Returns the one of the two that the key belongs to.
 ///
 /// Returns `Err` if memory is refused, also by the clone; nothing has changed then, since the place for the leaf is
 /// reserved and the key cloned before an entry moves.
@@ -104,14 +106,16 @@ fn split_leaf<K: IndexKey, V: Drop, const LEN: usize>(
     arenas: &mut ArenasOf<K, V, LEN>,
     id: NodeId,
     target: LeafId,
+    key: &K,
     count: u8,
-) -> Result<(), AllocError>
+) -> Result<LeafId, AllocError>
     requires part { IsPart K.cmp 1 arenas.old id }
+    requires child { HasChildFor K.cmp key.now (get arenas.old.nodes id) target }
     requires sound { (leaf : _) → get arenas.old.leaves target ≡ Some leaf → IsSound K.cmp LEN leaf.array }
     requires whole { (leaf : _) → get arenas.old.leaves target ≡ Some leaf → GoesWhole LEN leaf.array count }
-    requires cut { (key : K) × HasChildFor K.cmp key (get arenas.old.nodes id) target × IsCut K.cmp key count (leaf_entries arenas.old.leaves target) }
+    requires cut { IsCut K.cmp key.now count (leaf_entries arenas.old.leaves target) }
     requires room { (node : _) → get arenas.old.nodes id ≡ Some node → HasRoom LEN (keyed node) }
-    ensures done { IfOk result (λ _. (key : K) → HasChildFor K.cmp key (get arenas.old.nodes id) target → IsCut K.cmp key count (leaf_entries arenas.old.leaves target) → GivesAll K.cmp arenas.old id target count key → HasMadeRoom K.cmp 1 arenas.old arenas.new id key) }
+    ensures done { IfOk result (λ home. GivesAll K.cmp arenas.old id target count key.now → RoomResult K.cmp (Some home) 1 arenas.old arenas.new id target key.now) }
     ensures shares { IfOk result (λ _. GivesFirst arenas.old arenas.new target count) }
     ensures err { OnErr result (Unchanged arenas.old arenas.new) }
 {
@@ -122,8 +126,16 @@ fn split_leaf<K: IndexKey, V: Drop, const LEN: usize>(
     let Ok(low_id) = add_before(arenas, target, low) else {
         unreachable!()
     };
+    let home = side_for(key, &separator, low_id, target);
     put_leaf(arenas.node_mut(id), separator, low_id);
-    Ok(())
+    Ok(home)
+}
+
+/// Returns the lower of two leaves if the key is at most the separator between them, else the upper one.
+fn side_for<K: Ord>(key: &K, separator: &K, low: LeafId, high: LeafId) -> LeafId
+    ensures { result ≡ (if is_from K.cmp key.now separator.now then low else high) }
+{
+    if separator.cmp(key).is_ge() { low } else { high }
 }
 
 /// Returns a clone of the key at this place in key order.

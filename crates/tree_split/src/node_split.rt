@@ -29,7 +29,8 @@ use tree_node::node::{ArenasOf, NodeOf};
 ///    No key is cloned.
 ///
 /// Returns `Err` if the target is to be split and memory is refused; nothing has changed then. Allocates at most one node,
-/// and isn't refused where one was reserved. Makes at most `LEN` comparisons, in the put into the parent's array.
+/// and isn't refused where one was reserved. Makes at most 4 comparisons (3 among 7 slots), in the put into the parent's
+/// array. No leaf changes.
 ///
 /// The caller must see that a well-formed part of a tree stands under the parent, that the parent is above the leaf nodes,
 /// and that the target is one of its children.
@@ -41,6 +42,7 @@ pub fn split_child<K: Ord + Drop, V: Drop, const LEN: usize>(
     requires part { (level : ℕ) × (1 < level) × IsPart K.cmp level arenas.old parent }
     requires child { 0 < times target (children_of arenas.old.nodes parent) }
     ensures done { (level : ℕ) → 1 < level → IsPart K.cmp level arenas.old parent → IfOk result (λ split. SplitResult K.cmp split level arenas.old arenas.new parent target) }
+    ensures leaves { (n : ℕ) → get arenas.new.leaves n ≡ get arenas.old.leaves n }
     ensures err { OnErr result (Unchanged arenas.old arenas.new) }
     ensures many { OnErr result (limit LEN < slot_keyed (get arenas.old.nodes target)) }
     ensures places { HasPlaces arenas.old 0 1 → IsOk result }

@@ -37,12 +37,14 @@ module _ {K V : Type 0} {LEN : ℕ} (leaves : Slab (LeafOf K V LEN)) where
       by_way On none = rw none (sym (first-append (leaf_entries leaves id) (entries_of leaves is.back) is.entry))
       by_way Back none = rw (none, append-nil (leaf_entries leaves id)) (sym (last-append (entries_of leaves is.front) (leaf_entries leaves id) is.entry))
 
-module _ {K V : Type 0} {LEN : ℕ} (way : Way) (level : ℕ) (a : TreeArenas K V LEN) (id leaf : ℕ) (is : IsFirstOn way a.leaves (leaves_at level a.nodes id) leaf) where
-  pub leaf_in_chain : IsLinked level a id → (front back : List ℕ) × IsChain a.leaves (front ++ leaf ∷ back)
-  leaf_in_chain linked =
-      let grouped : linked.0 ++ (leaves_at level a.nodes id ++ linked.1) ≡ (linked.0 ++ is.front) ++ leaf ∷ (is.back ++ linked.1) = rw is.parts (simp append_assoc) in
-      (linked.0 ++ is.front, is.back ++ linked.1, subst (IsChain a.leaves) grouped linked.2)
+-- a leaf of a part is in the chain of the part
+pub leaf_in_chain : {K V : Type 0} {LEN : ℕ} (level : ℕ) (a : TreeArenas K V LEN) (id leaf : ℕ) (front back : List ℕ)
+    → leaves_at level a.nodes id ≡ front ++ leaf ∷ back → IsLinked level a id → (before behind : List ℕ) × IsChain a.leaves (before ++ leaf ∷ behind)
+leaf_in_chain level a id leaf front back parts linked =
+    let grouped : linked.0 ++ (leaves_at level a.nodes id ++ linked.1) ≡ (linked.0 ++ front) ++ leaf ∷ (back ++ linked.1) = rw parts (simp append_assoc) in
+    (linked.0 ++ front, back ++ linked.1, subst (IsChain a.leaves) grouped linked.2)
 
+module _ {K V : Type 0} {LEN : ℕ} (way : Way) (level : ℕ) (a : TreeArenas K V LEN) (id leaf : ℕ) (is : IsFirstOn way a.leaves (leaves_at level a.nodes id) leaf) where
   pub begins_there : (begun : LeafWalk K V LEN) → begun ≡ standing a.leaves leaf None → BeginsPart way level a id begun
   begins_there begun same = rw same (record {
     unopened = refl;

@@ -9,6 +9,7 @@ use Rattle.tree_model.proofs.Lists.{all_map}
 use Rattle.tree_leaf.specs.declared.leaf.stand.Way.{Way}
 use Rattle.tree_leaf.specs.declared.leaf.stand.Way.TheVariants.{On, Back}
 use Rattle.tree_leaf.specs.Ways.{along}
+use Rattle.tree_leaf.proofs.Along.{all_along}
 use Rattle.tree_node.specs.declared.internal_node.InternalNodeOf.{InternalNodeOf}
 use Rattle.tree_node.specs.declared.leaf_node.LeafNodeOf.{LeafNodeOf}
 use Rattle.tree_node.specs.declared.node.NodeOf.{NodeOf}
@@ -17,15 +18,6 @@ use Rattle.tree_node.specs.Arenas.{TreeArenas}
 use Rattle.tree_node.specs.Tree.{IsRetiredNode, StandsOrRetired, keyed, unbounded, leaves_at, leaves_of}
 use Rattle.tree_node.proofs.ChildrenStand.{no_leaves, over_leaves, over_nodes}
 use Rattle.tree_walk.specs.Children.{all_children}
-
--- what holds of all of a list holds of them in another order
-all_reversed : {X : Type 0} (P : X → Type 0) (xs ys : List X) → AllByRecursion P xs → AllByRecursion P ys → AllByRecursion P (reverse_aux xs ys)
-all_reversed P [] ys first second = second
-all_reversed P (x ∷ xs) ys first second = all_reversed P xs (x ∷ ys) first.1 (first.0, second)
-
-all_along : {X : Type 0} (P : X → Type 0) (way : Way) (xs : List X) → AllByRecursion P xs → AllByRecursion P (along way xs)
-all_along P On xs all = all
-all_along P Back xs all = all_reversed P xs [] all tt
 
 along-twice : (way : Way) (ids : List ℕ) → along way (along way ids) ≡ ids
 along-twice On ids = refl

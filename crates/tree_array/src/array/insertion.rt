@@ -17,13 +17,20 @@ impl<K: Ord + Drop, V: Drop, const LEN: usize> ArrayOf<K, V, LEN> {
     pub fn insert<const UPSERT: bool>(&mut self, key: K, val: V) -> InsertResult<K, V>
         ensures { IsInsert K.cmp LEN UPSERT self.old key val result self.new }
     {
-        self.store::<UPSERT>(false, key, val).into_insert()
+        self.store::<UPSERT>(key, val).into_insert()
     }
 
-    /// Does what [`insert`](ArrayOf::insert) does, and tells whether the key is new. With `rightmost` it compares the key
-    /// with the last one first: where that is smaller, this is the only comparison, and else there is one more.
+    /// Does what [`insert`](ArrayOf::insert) does, and tells whether the key is new.
+    pub fn store<const UPSERT: bool>(&mut self, key: K, val: V) -> StoreResult<K, V>
+        ensures { IsStore K.cmp LEN UPSERT self.old key val result self.new }
+    {
+        self.store_beyond::<UPSERT>(false, key, val)
+    }
+
+    /// Does what [`store`](ArrayOf::store) does. With `rightmost` it compares the key with the last one first: where that
+    /// is smaller, this is the only comparison, and else there is one more.
     #[inline(always)]
-    pub fn store<const UPSERT: bool>(
+    pub fn store_beyond<const UPSERT: bool>(
         &mut self,
         rightmost: bool,
         key: K,

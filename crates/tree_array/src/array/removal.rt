@@ -11,7 +11,7 @@ use super::{ArrayOf, RemoveResult};
 use std::ops::Bound;
 use tree_cells::search::{Place, find_key};
 use tree_model::range_contains;
-use tree_order::order::{place_of, ranks, removed as removed_from, slot_at};
+use tree_order::order::{place_of, ordinals, removed as removed_from, slot_at};
 
 impl<K: Ord + Drop, V: Drop, const LEN: usize> ArrayOf<K, V, LEN> {
     /// Takes the pair of a slot, which must be reachable and is then spent. Returns `Retired` with the last
@@ -79,9 +79,9 @@ impl<K: Ord + Drop, V: Drop, const LEN: usize> ArrayOf<K, V, LEN> {
         ensures { self.new ≡ without_range K.cmp self.old
             (bound_map (λ key. key.now) bounds.entry.0) (bound_map (λ key. key.now) bounds.entry.1) }
     {
-        let ranks = ranks(self.order, self.count);
+        let ordinals = ordinals(self.order, self.count);
         for slot in 0..self.made {
-            if ranks[slot as usize] > 0 && range_contains(bounds, self.key(slot)) {
+            if ordinals[slot as usize] > 0 && range_contains(bounds, self.key(slot)) {
                 let _ = self.take(slot);
             }
         }

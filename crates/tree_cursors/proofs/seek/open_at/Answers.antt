@@ -1,9 +1,10 @@
 use Rattle.std.proofs.Common.{rules, refl, inl, inr, List, ℕ, ◌++◌, ◌∷◌}
 use Rattle.std.specs.Range.Bound.{bound_map}
+use Rattle.tree_walk.proofs.EndWalks.{leaf_in_chain}
 use Rattle.tree_leaf.specs.Chain.{IsChain}
 use Rattle.tree_node.proofs.Sizes.{fits}
 use Rattle.tree_cursors.proofs.LeafFor.{retired_walk}
-use Rattle.tree_cursors.proofs.Seeks.{IsAt, leaf_in_chain, opens_at, opens_unbounded}
+use Rattle.tree_cursors.proofs.Seeks.{IsAt, opens_at, opens_unbounded}
 use Rattle.tree_cursors.proofs.seek.open_at.Goals as goal
 use Rattle.tree_cursors.proofs.seek.open_at.Goals.{in-Included, in-Excluded}
 
@@ -16,7 +17,8 @@ returns-in_err-leaf g c = rw c.from_residual.ensures (retired_walk g.K.Ord.cmp c
 pub new-requires : goal.new-requires
 new-requires g c =
     let chain : (front back : List ℕ) × IsChain c.args.arenas.now.leaves (front ++ c.in_ok-leaf.leaf ∷ back) =
-    leaf_in_chain g.met.K.Ord.total c.args.level c.args.arenas.now c.args.id g.S.SlotWalk.way c.match-bound.key.now (bound_map (λ k. k.now) c.args.bound) c.in_ok-leaf.leaf c.in_ok-leaf.ensures c.requires.linked in
+    let is = c.in_ok-leaf.ensures in
+    leaf_in_chain c.args.level c.args.arenas.now c.args.id c.in_ok-leaf.leaf is.front is.back is.parts c.requires.linked in
     (search rules, (search fits, chain))
 
 pub returns : goal.returns

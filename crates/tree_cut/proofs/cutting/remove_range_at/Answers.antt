@@ -2,7 +2,7 @@ use Rattle.std.proofs.Common.{rules, None, arith, sym, ap, length}
 use Rattle.slab.specs.Slab.{ContainsKey}
 use Rattle.tree_node.proofs.NodeKinds.{node_used}
 use Rattle.tree_node.proofs.Sizes.{fits}
-use Rattle.tree_remove.proofs.NodeDrops.{retired_children}
+use Rattle.tree_node.proofs.Standing.{no_children}
 use Rattle.tree_cut.proofs.Tops.{at_node, childless_cut, children_count, retired_node, standing, stands_used}
 use Rattle.tree_cut.proofs.cutting.remove_range_at.Goals as goal
 
@@ -16,7 +16,7 @@ returns-then-is_childless-clause-cuts g c =
     childless_cut g.K.Ord.cmp _ _ c.args.level c.args.arenas.now c.args.id c.requires.node (rw c.node.ensures (c.is_childless.ensures.0 c.if-is_childless.true))
 
 pub returns-then-is_childless-clause-left : goal.returns-then-is_childless-clause-left
-returns-then-is_childless-clause-left g c = ap length (sym (retired_children c.args.arenas.now.nodes c.args.id (rw c.node.ensures (c.is_childless.ensures.0 c.if-is_childless.true))))
+returns-then-is_childless-clause-left g c = ap length (sym (no_children (get c.args.arenas.now.nodes c.args.id) (rw c.node.ensures (c.is_childless.ensures.0 c.if-is_childless.true))).1)
 
 pub cut_part-pairs-requires : goal.cut_part-pairs-requires
 cut_part-pairs-requires g c =

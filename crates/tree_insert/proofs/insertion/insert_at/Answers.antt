@@ -21,12 +21,12 @@ leaf_mut-requires g c =
 
 pub returns-then-not-is_full-clause-inserts : goal.returns-then-not-is_full-clause-inserts
 returns-then-not-is_full-clause-inserts g c part =
-    let stores = rw c.array_mut.ensures.value at c.store.ensures in
+    let stores = rw c.array_mut.ensures.value at c.store_beyond.ensures in
     let both : Some c.leaf.result.now ≡ Some c.leaf_mut.result.now = sym c.leaf.ensures ∙ c.leaf_mut.ensures.value in
     let read : c.leaf.result.now ≡ c.leaf_mut.result.now = cc in
     let room : IsFull g.row.LEN c.leaf_mut.result.now.array → ⊥ = λ full. absurd (let both : false ≡ true = sym c.if-not-is_full.true ∙ c.is_full.ensures.1 (rw (c.array.ensures, read) full) in cc) in
-    inserts_on_way g.met.K.Ord.total _ c.args.arenas.now _ c.args.key c.args.val _ (takes_one g.K.Ord.cmp g.row.LEN _ c.leaf_mut.result.now.array c.store.new.self c.args.key c.args.val room c.store.result stores)
-    c.in-Some.place.leaf (inserts_in_leaf g.met.K.Ord.total _ c.args.arenas.now c.in-Some.place.leaf c.leaf_mut.result.now c.store.new.self c.args.key c.args.val c.leaf_mut.ensures.value c.store.result stores)
+    inserts_on_way g.met.K.Ord.total _ c.args.arenas.now _ c.args.key c.args.val _ (takes_one g.K.Ord.cmp g.row.LEN _ c.leaf_mut.result.now.array c.store_beyond.new.self c.args.key c.args.val room c.store_beyond.result stores)
+    c.in-Some.place.leaf (inserts_in_leaf g.met.K.Ord.total _ c.args.arenas.now c.in-Some.place.leaf c.leaf_mut.result.now c.store_beyond.new.self c.args.key c.args.val c.leaf_mut.ensures.value c.store_beyond.result stores)
     c.args.level c.requires.node c.args.id c.in-Some.place.node part c.in-Some.ensures.way c.in-Some.ensures.child.1
 
 pub returns-then-not-is_full-clause-retired : goal.returns-then-not-is_full-clause-retired

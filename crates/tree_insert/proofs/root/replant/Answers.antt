@@ -3,9 +3,9 @@ use Rattle.slab.specs.Slab.{ContainsKey, Slab, get}
 use Rattle.slab.proofs.SlabLemmas.{Updates-with_value}
 use Rattle.tree_array.specs.Arrivals.{Arrivals}
 use Rattle.tree_node.specs.declared.node.NodeOf.TheVariants.{Leaf}
-use Rattle.tree_node.proofs.Bare.{no_children}
 use Rattle.tree_node.proofs.Unchanged.{unchanged_by_keeping}
 use Rattle.tree_node.proofs.Sizes.{fits}
+use Rattle.tree_node.proofs.Standing.{no_children}
 use Rattle.tree_insert.proofs.Replants.{replants}
 use Rattle.tree_split.proofs.Results.{on_err}
 use Rattle.tree_split.proofs.Variants.{children_fit}

@@ -48,7 +48,7 @@ pub returns-clause-done : goal.returns-clause-done
 returns-clause-done g c =
     let top = top_part_at c.args.depth c.requires.node c.args.arenas.now c.reserve.new.self c.add_node.new.self c.args.root c.in-Ok.id c.new-top.result c.requires.part c.in_ok-reserve.ensures.0 c.in-Ok.ensures.nodes c.in-Ok.ensures.leaves c.new-top.ensures.keyed c.new-top.ensures.unbounded in
     let split = rw c.in-Ok-true.field-0-test at (c.in-Ok-true.ensures.done (c.args.depth + 1) (omega (arith, c.requires.node)) top.0) in
-    raises_at c.args.depth c.requires.node c.args.arenas.now c.reserve.new.self c.add_node.new.self c.args.root c.in-Ok.id c.new-top.result c.requires.part c.in_ok-reserve.ensures.0 c.in-Ok.ensures.nodes c.in-Ok.ensures.leaves c.new-top.ensures.keyed c.new-top.ensures.unbounded c.slots_left.ensures.len c.split_child.new.arenas split
+    raises_at c.args.depth c.requires.node c.args.arenas.now c.reserve.new.self c.add_node.new.self c.args.root c.in-Ok.id c.new-top.result c.requires.part c.in_ok-reserve.ensures.0 c.in-Ok.ensures.nodes c.in-Ok.ensures.leaves c.new-top.ensures.keyed c.new-top.ensures.unbounded c.slots_left.ensures.len c.split_child.new.arenas split c.split_child.ensures.leaves
 
 pub returns-in_err-reserve-clause-err : goal.returns-in_err-reserve-clause-err
 returns-in_err-reserve-clause-err g c = on_err c.from_residual.result (unchanged_by_keeping _ _ c.in_err-reserve.ensures.0)

@@ -1,6 +1,5 @@
-use Rattle.std.proofs.Common.{rules}
-use Rattle.tree_node.proofs.Routes.{routed_past}
+use Rattle.tree_node.proofs.Routes.{routed_at}
 use Rattle.tree_node.proofs.routing.child_place_beyond.Goals as goal
 
 pub returns-clause-child : goal.returns-clause-child
-returns-clause-child g c = rw c.in_ok-unbounded.was (routed_past g.K.Ord.cmp c.args.key.now c.args.children.now.entries c.in_ok-unbounded.field-0 (search (rules, c.is_beyond.ensures, c.if-not-is_beyond.false)))
+returns-clause-child g c = rw c.in_ok-last.was (routed_at g.K.Ord.cmp c.args.key.now c.args.children.now c.in_ok-last.last c.child_at.result.now c.slot_beyond-slot.result c.slot_beyond-slot.ensures c.child_at.ensures)

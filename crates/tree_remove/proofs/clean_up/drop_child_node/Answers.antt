@@ -1,12 +1,13 @@
 use Rattle.std.proofs.Common.{ℕ, refl, rules}
 use Rattle.slab.specs.Slab.{ContainsKey}
+use Rattle.tree_node.proofs.Standing.{no_children}
 use Rattle.tree_remove.proofs.NodeDrops.{node_dropped}
-use Rattle.tree_remove.proofs.NodeWrites.{has_node, has_retired}
+use Rattle.tree_remove.proofs.NodeWrites.{has_node}
 use Rattle.tree_remove.proofs.clean_up.drop_child_node.Goals as goal
 
 pub remove_node-requires : goal.remove_node-requires
 remove_node-requires g c =
-    let there : ContainsKey c.args.arenas.now.nodes c.args.child = has_retired _ c.requires.retired in
+    let there : ContainsKey c.args.arenas.now.nodes c.args.child = (no_children _ c.requires.retired).0 in
     search rules
 
 pub take_keyed-requires : goal.take_keyed-requires

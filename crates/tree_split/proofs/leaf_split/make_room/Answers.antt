@@ -28,8 +28,10 @@ returns-in_default-low_count-clause-done g c =
     let read : c.leaf.result.now ≡ c.leaf_mut.result.now = same_value _ _ (sym c.leaf.ensures ∙ c.leaf_mut.ensures.value) in
     let few : length c.leaf_mut.result.now.array.entries ≤ limit g.row.LEN = rw (c.array.ensures, read) at c.in_default-low_count.ensures.cut in
     let sound : IsSound g.K.Ord.cmp g.row.LEN c.leaf_mut.result.now.array = rw (c.array.ensures, read) at c.low_count.ensures.sound in
-    rw (c.rebuild.ensures, c.array_mut.ensures.value)
-    (leaf_room_by_rebuild g.met.K.Ord.total c.args.arenas.now c.args.id c.args.target c.args.key.now c.requires.part c.requires.child _ c.node.ensures c.leaf_mut.result.now c.leaf_mut.ensures.value sound few)
+    rw (c.rebuild.ensures, c.array_mut.ensures.value) (
+      leaf_room_by_rebuild g.met.K.Ord.total c.args.arenas.now c.args.id c.args.target c.args.key.now c.requires.part c.requires.child _ c.node.ensures c.leaf_mut.result.now c.leaf_mut.ensures.value sound few,
+      c.requires.child,
+    )
 
 pub returns-then-full-clause-done : goal.returns-then-full-clause-done
 returns-then-full-clause-done g c =
@@ -46,31 +48,22 @@ split_leaf-requires g c =
     let here = c.node.ensures ∙ ap Some c.in-Leaf.is in
     let cut : IsCut g.K.Ord.cmp c.args.key.now c.in-Some.count c.leaf.result.now.array.entries = rw c.array.ensures at c.in-Some.ensures.cut.1 in (
       search rules,
-      (
-        search rules,
-        (
-          c.requires.part,
-          (
-            λ leaf is.
-                let both : Some leaf ≡ Some c.leaf.result.now = sym is ∙ c.leaf.ensures in
-                let same : leaf ≡ c.leaf.result.now = cc in
-                rw (same, ← c.array.ensures) c.low_count.ensures.sound,
-            (
-              λ leaf is.
-                  let both : Some leaf ≡ Some c.leaf.result.now = sym is ∙ c.leaf.ensures in
-                  let same : leaf ≡ c.leaf.result.now = cc in
-                  rw (same, ← c.array.ensures) c.in-Some.ensures.whole,
-              (
-                (c.args.key.now, c.requires.child, rw c.leaf.ensures cut),
-                λ node is.
-                    let both : Some node ≡ Some (Leaf c.in-Leaf.node) = sym is ∙ here in
-                    let same : node ≡ Leaf c.in-Leaf.node = cc in
-                    rw same (not_full_room (Leaf c.in-Leaf.node) (λ full. let yes = c.is_full-full.ensures.1 full in let no = c.if-full.false in cc)),
-              ),
-            ),
-          ),
-        ),
-      ),
+      search rules,
+      c.requires.part,
+      c.requires.child,
+      λ leaf is.
+          let both : Some leaf ≡ Some c.leaf.result.now = sym is ∙ c.leaf.ensures in
+          let same : leaf ≡ c.leaf.result.now = cc in
+          rw (same, ← c.array.ensures) c.low_count.ensures.sound,
+      λ leaf is.
+          let both : Some leaf ≡ Some c.leaf.result.now = sym is ∙ c.leaf.ensures in
+          let same : leaf ≡ c.leaf.result.now = cc in
+          rw (same, ← c.array.ensures) c.in-Some.ensures.whole,
+      rw c.leaf.ensures cut,
+      λ node is.
+          let both : Some node ≡ Some (Leaf c.in-Leaf.node) = sym is ∙ here in
+          let same : node ≡ Leaf c.in-Leaf.node = cc in
+          rw same (not_full_room (Leaf c.in-Leaf.node) (λ full. let yes = c.is_full-full.ensures.1 full in let no = c.if-full.false in cc)),
     )
 
 pub returns-clause-done : goal.returns-clause-done
@@ -78,12 +71,12 @@ returns-clause-done g c =
     let cut : IsCut g.K.Ord.cmp c.args.key.now c.in-Some.count c.leaf.result.now.array.entries = rw c.array.ensures at c.in-Some.ensures.cut.1 in
     let rule : c.in-Some.count ≡ low_part g.K.Ord.cmp g.row.LEN c.eq-last.result c.leaf.result.now.array c.args.key.now = rw c.array.ensures at c.in-Some.ensures.rule in
     let sound : IsSound g.K.Ord.cmp g.row.LEN c.leaf.result.now.array = rw c.array.ensures at c.low_count.ensures.sound in
-    c.in_ok-split_leaf.ensures.done c.args.key.now c.requires.child (rw c.leaf.ensures cut)
+    c.in_ok-home.ensures.done
     (gives_all g.met.K.Ord.total c.args.arenas.now c.args.id c.args.target c.args.key.now c.requires.part c.requires.child c.leaf.result.now c.leaf.ensures sound (Leaf c.in-Leaf.node) (c.node.ensures ∙ ap Some c.in-Leaf.is)
     c.eq-last.result (λ at_last. c.eq-last.ensures ∙ rw at_last (equal_itself c.args.target)) c.in-Some.count rule)
 
-pub returns-in_err-split_leaf-clause-many : goal.returns-in_err-split_leaf-clause-many
-returns-in_err-split_leaf-clause-many g c =
+pub returns-in_err-home-clause-many : goal.returns-in_err-home-clause-many
+returns-in_err-home-clause-many g c =
     let many : limit g.row.LEN < length c.leaf.result.now.array.entries = rw c.array.ensures at c.in-Some.ensures.cut.0 in
     on_err c.from_residual.result (rw c.leaf.ensures many)
 
@@ -105,4 +98,4 @@ returns-clause-shares g c = λ made.
     let last : c.eq-last.result ≡ is_at c.in-Leaf.node.unbounded_child c.args.target = c.eq-last.ensures ∙ told_last c.in-Leaf.node.unbounded_child c.args.target in
     let some = not_full_room (Leaf c.in-Leaf.node) (λ full. let yes = c.is_full-full.ensures.1 full in let no = c.if-full.false in cc) in
     entries_parted g.met.K.Ord.total c.args.arenas.now c.args.id c.args.target c.args.key.now c.requires.part c.requires.child (Leaf c.in-Leaf.node) (c.node.ensures ∙ ap Some c.in-Leaf.is)
-    c.split_leaf.new.arenas c.leaf.result.now c.leaf.ensures c.eq-last.result last c.in-Some.count rule some c.in_ok-split_leaf.ensures.shares
+    c.split_leaf.new.arenas c.leaf.result.now c.leaf.ensures c.eq-last.result last c.in-Some.count rule some c.in_ok-home.ensures.shares

@@ -2,7 +2,7 @@ use Rattle.std.proofs.Common.{rules, ◌≡◌, ◌-◌, ◌∙◌, drop, take, 
 use Rattle.slab.specs.Slab.{ContainsKey}
 use Rattle.tree_array.specs.Arrivals.{in_order}
 use Rattle.tree_node.specs.Tree.{Stands}
-use Rattle.tree_split.proofs.LeafRooms.{chain_through, entries_shared, leaf_read, leaf_room_by_split, leaf_used, parent_kind, parent_was, room_after_write, separator_is_new}
+use Rattle.tree_split.proofs.LeafRooms.{chain_through, entries_shared, home_by_split, leaf_read, leaf_room_by_split, leaf_used, parent_kind, parent_was, room_after_write, separator_is_new}
 use Rattle.tree_split.proofs.Results.{on_err}
 use Rattle.tree_node.proofs.Sizes.{fits}
 use Rattle.tree_node.proofs.Unchanged.{unchanged_by_keeping}
@@ -10,24 +10,20 @@ use Rattle.tree_split.proofs.leaf_split.split_leaf.Goals as goal
 
 pub leaf-requires : goal.leaf-requires
 leaf-requires g c =
-    let cut = c.requires.cut in
-    (search fits, (search fits, leaf_used g.met.K.Ord.total c.args.arenas.now c.args.id c.args.target cut.0 c.requires.part cut.1))
+    (search fits, (search fits, leaf_used g.met.K.Ord.total c.args.arenas.now c.args.id c.args.target c.args.key.now c.requires.part c.requires.child))
 
 pub separator_at-requires : goal.separator_at-requires
 separator_at-requires g c =
-    let cut = c.requires.cut in
-    let here = rw c.leaf.ensures at cut.2 in
+    let here = rw c.leaf.ensures at c.requires.cut in
     (search rules, rw c.array.ensures (omega (arith, here.some, here.within)))
 
 pub leaf_mut-requires : goal.leaf_mut-requires
 leaf_mut-requires g c =
-    let cut = c.requires.cut in
-    (search fits, (search fits, rw c.in_ok-reserve.ensures.0.leaves.slots (leaf_used g.met.K.Ord.total c.args.arenas.now c.args.id c.args.target cut.0 c.requires.part cut.1)))
+    (search fits, (search fits, rw c.in_ok-reserve.ensures.0.leaves.slots (leaf_used g.met.K.Ord.total c.args.arenas.now c.args.id c.args.target c.args.key.now c.requires.part c.requires.child)))
 
 pub add_before-requires : goal.add_before-requires
 add_before-requires g c =
-    let cut = c.requires.cut in
-    (search (rules, c.requires-raw), (search (fits, c.requires-raw), chain_through g.met.K.Ord.total c.args.arenas.now c.args.id c.args.target cut.0 c.requires.part cut.1 _ c.in_ok-reserve.ensures.0 c.leaf_mut.result.now _ c.leaf_mut.ensures.value))
+    (search (rules, c.requires-raw), (search (fits, c.requires-raw), chain_through g.met.K.Ord.total c.args.arenas.now c.args.id c.args.target c.args.key.now c.requires.part c.requires.child _ c.in_ok-reserve.ensures.0 c.leaf_mut.result.now _ c.leaf_mut.ensures.value))
 
 pub unreachable-requires : goal.unreachable-requires
 unreachable-requires g c =
@@ -41,49 +37,51 @@ node_mut-requires g c =
 
 pub put_leaf-requires : goal.put_leaf-requires
 put_leaf-requires g c =
-    let cut = c.requires.cut in
     let separator = c.in_ok-separator.ensures in
     let read : c.leaf.result.now ≡ c.leaf_mut.result.now =
     leaf_read c.args.arenas.now c.reserve.new.self c.in_ok-reserve.ensures.0 c.args.target c.leaf.result.now c.leaf_mut.result.now c.leaf.ensures c.leaf_mut.ensures.value in
     let high : c.cut_low.new.array ≡ in_order (drop c.args.count c.leaf_mut.result.now.array.entries) = rw c.array_mut.ensures.value at c.cut_low.ensures.high in
     let low : c.cut_low.new.low ≡ in_order (take c.args.count c.leaf_mut.result.now.array.entries) = rw c.array_mut.ensures.value at c.cut_low.ensures.low in
     let last : slice_get c.leaf_mut.result.now.array.entries (c.args.count - 1) ≡ Some separator.0 = rw (c.array.ensures, read) at separator.1 in
-    let node = parent_was g.met.K.Ord.total c.args.arenas.now c.args.id c.args.target cut.0 c.requires.part cut.1 _ _ _ c.args.count c.leaf_mut.result.now _ _ separator.0 c.in_ok-separator.separator
-    c.in_ok-reserve.ensures.0 c.leaf_mut.ensures.value high low c.in-Ok.ensures last separator.2 cut.2 c.requires.sound _ c.node_mut.ensures.value in (
+    let node = parent_was g.met.K.Ord.total c.args.arenas.now c.args.id c.args.target c.args.key.now c.requires.part c.requires.child _ _ _ c.args.count c.leaf_mut.result.now _ _ separator.0 c.in_ok-separator.separator
+    c.in_ok-reserve.ensures.0 c.leaf_mut.ensures.value high low c.in-Ok.ensures last separator.2 c.requires.cut c.requires.sound _ c.node_mut.ensures.value in (
       search (fits, c.requires-raw),
       (
-        parent_kind g.met.K.Ord.total c.args.arenas.now c.args.id c.args.target cut.0 c.requires.part cut.1 _ _ _ c.args.count c.leaf_mut.result.now _ _ separator.0 c.in_ok-separator.separator
-            c.in_ok-reserve.ensures.0 c.leaf_mut.ensures.value high low c.in-Ok.ensures last separator.2 cut.2 c.requires.sound _ c.node_mut.ensures.value,
+        parent_kind g.met.K.Ord.total c.args.arenas.now c.args.id c.args.target c.args.key.now c.requires.part c.requires.child _ _ _ c.args.count c.leaf_mut.result.now _ _ separator.0 c.in_ok-separator.separator
+            c.in_ok-reserve.ensures.0 c.leaf_mut.ensures.value high low c.in-Ok.ensures last separator.2 c.requires.cut c.requires.sound _ c.node_mut.ensures.value,
         (
-          separator_is_new g.met.K.Ord.total c.args.arenas.now c.args.id c.args.target cut.0 c.requires.part cut.1 _ _ _ c.args.count c.leaf_mut.result.now _ _ separator.0 c.in_ok-separator.separator
-              c.in_ok-reserve.ensures.0 c.leaf_mut.ensures.value high low c.in-Ok.ensures last separator.2 cut.2 c.requires.sound _ c.node_mut.ensures.value,
+          separator_is_new g.met.K.Ord.total c.args.arenas.now c.args.id c.args.target c.args.key.now c.requires.part c.requires.child _ _ _ c.args.count c.leaf_mut.result.now _ _ separator.0 c.in_ok-separator.separator
+              c.in_ok-reserve.ensures.0 c.leaf_mut.ensures.value high low c.in-Ok.ensures last separator.2 c.requires.cut c.requires.sound _ c.node_mut.ensures.value,
           c.requires.room _ node,
         ),
       ),
     )
 
 pub returns-clause-done : goal.returns-clause-done
-returns-clause-done g c key which cut gives =
+returns-clause-done g c = λ gives.
     let separator = c.in_ok-separator.ensures in
     let read : c.leaf.result.now ≡ c.leaf_mut.result.now =
     leaf_read c.args.arenas.now c.reserve.new.self c.in_ok-reserve.ensures.0 c.args.target c.leaf.result.now c.leaf_mut.result.now c.leaf.ensures c.leaf_mut.ensures.value in
     let high : c.cut_low.new.array ≡ in_order (drop c.args.count c.leaf_mut.result.now.array.entries) = rw c.array_mut.ensures.value at c.cut_low.ensures.high in
     let low : c.cut_low.new.low ≡ in_order (take c.args.count c.leaf_mut.result.now.array.entries) = rw c.array_mut.ensures.value at c.cut_low.ensures.low in
     let last : slice_get c.leaf_mut.result.now.array.entries (c.args.count - 1) ≡ Some separator.0 = rw (c.array.ensures, read) at separator.1 in
-    leaf_room_by_split g.met.K.Ord.total c.args.arenas.now c.args.id c.args.target key c.requires.part which _ _ _ c.args.count c.leaf_mut.result.now _ _ separator.0 c.in_ok-separator.separator
-    c.in_ok-reserve.ensures.0 c.leaf_mut.ensures.value high low c.in-Ok.ensures last separator.2 cut c.requires.sound _ c.node_mut.ensures.value gives _ c.put_leaf.ensures
+    (
+      leaf_room_by_split g.met.K.Ord.total c.args.arenas.now c.args.id c.args.target c.args.key.now c.requires.part c.requires.child _ _ _ c.args.count c.leaf_mut.result.now _ _ separator.0 c.in_ok-separator.separator
+      c.in_ok-reserve.ensures.0 c.leaf_mut.ensures.value high low c.in-Ok.ensures last separator.2 c.requires.cut c.requires.sound _ c.node_mut.ensures.value gives _ c.put_leaf.ensures,
+      rw c.side_for-home.ensures (home_by_split g.met.K.Ord.total c.args.arenas.now c.args.id c.args.target c.args.key.now c.requires.part c.requires.child _ _ _ c.args.count c.leaf_mut.result.now _ _ separator.0 c.in_ok-separator.separator
+      c.in_ok-reserve.ensures.0 c.leaf_mut.ensures.value high low c.in-Ok.ensures last separator.2 c.requires.cut c.requires.sound _ c.node_mut.ensures.value _ c.put_leaf.ensures),
+    )
 
 pub returns-clause-shares : goal.returns-clause-shares
 returns-clause-shares g c =
-    let cut = c.requires.cut in
     let separator = c.in_ok-separator.ensures in
     let read : c.leaf.result.now ≡ c.leaf_mut.result.now =
     leaf_read c.args.arenas.now c.reserve.new.self c.in_ok-reserve.ensures.0 c.args.target c.leaf.result.now c.leaf_mut.result.now c.leaf.ensures c.leaf_mut.ensures.value in
     let high : c.cut_low.new.array ≡ in_order (drop c.args.count c.leaf_mut.result.now.array.entries) = rw c.array_mut.ensures.value at c.cut_low.ensures.high in
     let low : c.cut_low.new.low ≡ in_order (take c.args.count c.leaf_mut.result.now.array.entries) = rw c.array_mut.ensures.value at c.cut_low.ensures.low in
     let last : slice_get c.leaf_mut.result.now.array.entries (c.args.count - 1) ≡ Some separator.0 = rw (c.array.ensures, read) at separator.1 in
-    entries_shared g.met.K.Ord.total c.args.arenas.now c.args.id c.args.target cut.0 c.requires.part cut.1 _ _ _ c.args.count c.leaf_mut.result.now _ _ separator.0 c.in_ok-separator.separator
-    c.in_ok-reserve.ensures.0 c.leaf_mut.ensures.value high low c.in-Ok.ensures last separator.2 cut.2 c.requires.sound _ c.node_mut.ensures.value
+    entries_shared g.met.K.Ord.total c.args.arenas.now c.args.id c.args.target c.args.key.now c.requires.part c.requires.child _ _ _ c.args.count c.leaf_mut.result.now _ _ separator.0 c.in_ok-separator.separator
+    c.in_ok-reserve.ensures.0 c.leaf_mut.ensures.value high low c.in-Ok.ensures last separator.2 c.requires.cut c.requires.sound _ c.node_mut.ensures.value
 
 pub returns-in_err-reserve-clause-err : goal.returns-in_err-reserve-clause-err
 returns-in_err-reserve-clause-err g c =

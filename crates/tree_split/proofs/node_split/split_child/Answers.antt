@@ -127,3 +127,9 @@ drop-requires g c = search children_fit
 
 pub drop-requires-in_default-add_node-2 : goal.drop-requires-in_default-add_node-2
 drop-requires-in_default-add_node-2 g c = search children_fit
+
+pub returns-in_err-reserve-clause-leaves : goal.returns-in_err-reserve-clause-leaves
+returns-in_err-reserve-clause-leaves g c n = (unchanged_by_keeping _ _ c.in_err-reserve.ensures.0).leaves n
+
+pub returns-clause-leaves : goal.returns-clause-leaves
+returns-clause-leaves g c n = rw (c.in-Ok.ensures.leaves) ((unchanged_by_keeping _ _ c.in_ok-reserve.ensures.0).leaves n)

@@ -5,7 +5,7 @@ use Rattle.tree_array.specs.Arrivals.{Arrivals, arrival, removed}
 use Rattle.tree_cells.proofs.Found.{found_at, before_none}
 use Rattle.tree_array.proofs.Kept.{count_seen, entry_seen}
 use Rattle.tree_array.proofs.Removed.{removed_alike}
-use Rattle.tree_cells.proofs.Walks.{ranked_of}
+use Rattle.tree_cells.proofs.Walks.{ordinals_of}
 use Rattle.tree_array.proofs.array.ArrayOf.remove_if.Goals as goal
 
 pub pair-requires : goal.pair-requires
@@ -16,7 +16,7 @@ pair-requires g c =
 pub condition-requires : goal.condition-requires
 condition-requires g c =
     let place = c.in-At.ensures in
-    let found = found_at g.met.K.Ord.total (ranked_of g.met.K.Ord.total c.self.invariant.0) c.args.key.now _ _ place.0.there place.0.same in
+    let found = found_at g.met.K.Ord.total (ordinals_of g.met.K.Ord.total c.self.invariant.0) c.args.key.now _ _ place.0.there place.0.same in
     let same = same_Some _ _ (sym place.0.there ∙ ap (arrival c.self.inside.cells) place.1 ∙ c.pair.ensures) in
     c.requires place.0.pair (rw (← c.self.view_is) found) c.pair.result.1 (ap (λ (e : _ × _). e.1) (sym same))
 
@@ -28,7 +28,7 @@ take_at-removal-requires g c =
 pub returns-then-condition-clause-absent : goal.returns-then-condition-clause-absent
 returns-then-condition-clause-absent g c none =
     let place = c.in-At.ensures in
-    let found = found_at g.met.K.Ord.total (ranked_of g.met.K.Ord.total c.self.invariant.0) c.args.key.now _ _ place.0.there place.0.same in
+    let found = found_at g.met.K.Ord.total (ordinals_of g.met.K.Ord.total c.self.invariant.0) c.args.key.now _ _ place.0.there place.0.same in
     absurd (none-some place.0.pair (sym (rw (← c.self.view_is) at none) ∙ found))
 
 pub returns-then-condition-clause-present : goal.returns-then-condition-clause-present
@@ -36,7 +36,7 @@ returns-then-condition-clause-present g c =
     let o = g.met.K.Ord.total in
     let it = c.self.invariant.0 in
     let place = c.in-At.ensures in
-    let found = found_at o (ranked_of o it) c.args.key.now _ _ place.0.there place.0.same in
+    let found = found_at o (ordinals_of o it) c.args.key.now _ _ place.0.there place.0.same in
     let same = same_Some _ _ (sym place.0.there ∙ ap (arrival c.self.inside.cells) place.1 ∙ c.pair.ensures) in
     let taken = same_Some _ _ (sym (entry_seen o it _ c.self.view_is c.in-At.place _ place.0.early place.0.there) ∙ c.take_at-removal.ensures.pair) in
     let alike : g.K.Ord.cmp c.args.key.now c.take_at-removal.result.0 ≡ Equal = subst (λ (e : _ × _). g.K.Ord.cmp c.args.key.now e.0 ≡ Equal) taken place.0.same in
@@ -50,7 +50,7 @@ returns-then-condition-clause-present g c =
 pub returns-else-condition-clause-present : goal.returns-else-condition-clause-present
 returns-else-condition-clause-present g c =
     let place = c.in-At.ensures in
-    let found = found_at g.met.K.Ord.total (ranked_of g.met.K.Ord.total c.self.invariant.0) c.args.key.now _ _ place.0.there place.0.same in
+    let found = found_at g.met.K.Ord.total (ordinals_of g.met.K.Ord.total c.self.invariant.0) c.args.key.now _ _ place.0.there place.0.same in
     let same = same_Some _ _ (sym place.0.there ∙ ap (arrival c.self.inside.cells) place.1 ∙ c.pair.ensures) in
     rw (← c.self.view_is, found) (false, (c.pair.result.1, c.if-condition.ensures, ap (λ (e : _ × _). e.1) (sym same)), (refl, refl))
 

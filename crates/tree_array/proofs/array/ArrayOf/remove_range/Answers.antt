@@ -10,10 +10,10 @@ use Rattle.tree_order.proofs.Slots.{len_small}
 use Rattle.tree_cells.proofs.Tabled.{early}
 use Rattle.tree_cells.proofs.Walks.{live_some, live_none}
 use Rattle.tree_array.proofs.array.ArrayOf.remove_range.Goals as goal
-use Rattle.tree_array.proofs.array.ArrayOf.remove_range.Goals.{then-ranks-slot-gt0+then-range_contains, else-ranks-slot-gt0, else-ranks-slot-gt0-via-then-ranks-slot-gt0+else-range_contains, else-ranks-slot-gt0-via-else-ranks-slot-gt0}
+use Rattle.tree_array.proofs.array.ArrayOf.remove_range.Goals.{then-ordinals-slot-gt0+then-range_contains, else-ordinals-slot-gt0, else-ordinals-slot-gt0-via-then-ordinals-slot-gt0+else-range_contains, else-ordinals-slot-gt0-via-else-ordinals-slot-gt0}
 
-pub ranks-ranks-requires-clause-within : goal.ranks-ranks-requires-clause-within
-ranks-ranks-requires-clause-within g c = λ i lt.
+pub ordinals-ordinals-requires-clause-within : goal.ordinals-ordinals-requires-clause-within
+ordinals-ordinals-requires-clause-within g c = λ i lt.
     let it = c.self.invariant.0 in
     omega (arith, early g.met.K.Ord.total it i lt, it.few_made, len_small g.row.LEN it.is_len)
 
@@ -26,7 +26,7 @@ key-requires g c =
     let it = c.self.invariant.0 in
     let slot = c.loop-slot.slot in
     let within : slot < 15 = omega (arith, c.loop-slot-test.true, it.few_made, len_small g.row.LEN it.is_len) in
-    let there = live_some g.met.K.Ord.total it slot (omega (arith, c.ranks-ranks.ensures.ranks slot within, c.if-ranks-slot-gt0.true)) in
+    let there = live_some g.met.K.Ord.total it slot (omega (arith, c.ordinals-ordinals.ensures.ordinals slot within, c.if-ordinals-slot-gt0.true)) in
     (search rules, subst IsSome (sym (c.loop-slot.invariant.rest slot (omega arith) ∙ arrival_seen _ _ _ _ c.self.view_is it slot)) there)
 
 pub loop-slot-preserved : goal.loop-slot-preserved
@@ -37,17 +37,17 @@ loop-slot-preserved g c =
     let so_far = c.loop-slot.invariant in
     let slot = c.loop-slot.slot in
     let within : slot < 15 = omega (arith, c.loop-slot-test.true, it.few_made, len_small g.row.LEN it.is_len) in
-    let rank = c.ranks-ranks.ensures.ranks slot within in
-    elim c.if-ranks-slot-gt0.branch [
-      | then-ranks-slot-gt0+then-range_contains w ↦
+    let ordinal = c.ordinals-ordinals.ensures.ordinals slot within in
+    elim c.if-ordinals-slot-gt0.branch [
+      | then-ordinals-slot-gt0+then-range_contains w ↦
           let taken = w.take.ensures in
           let pair = same_Some _ _ (sym taken.pair ∙ w.key.ensures.1) in
           let same : w.take.result.0 ≡ w.key.result.now = ap (λ (pair : _ × _). pair.0) pair in
           rw w.self-is (cut_taken o _ _ kept so_far w.take.result.0 w.take.result.1 taken.pair (rw same (sym w.if-range_contains.ensures)) taken.left)
-      | else-ranks-slot-gt0 w ↦ elim w.else-ranks-slot-gt0.branch [
-        | else-ranks-slot-gt0-via-then-ranks-slot-gt0+else-range_contains w' ↦ rw w.self-is (cut_kept o _ _ kept so_far (rw w'.key.ensures.1 (kept_outside g.K.Ord.cmp _ _ _ _ (sym w'.if-range_contains.ensures))))
-        | else-ranks-slot-gt0-via-else-ranks-slot-gt0 w' ↦
-            let none : arrival c.loop-slot.self.arrivals slot ≡ None = so_far.rest slot (omega arith) ∙ arrival_seen _ _ _ _ c.self.view_is it slot ∙ live_none o it slot (omega (arith, rank, w'.if-ranks-slot-gt0.false)) in
+      | else-ordinals-slot-gt0 w ↦ elim w.else-ordinals-slot-gt0.branch [
+        | else-ordinals-slot-gt0-via-then-ordinals-slot-gt0+else-range_contains w' ↦ rw w.self-is (cut_kept o _ _ kept so_far (rw w'.key.ensures.1 (kept_outside g.K.Ord.cmp _ _ _ _ (sym w'.if-range_contains.ensures))))
+        | else-ordinals-slot-gt0-via-else-ordinals-slot-gt0 w' ↦
+            let none : arrival c.loop-slot.self.arrivals slot ≡ None = so_far.rest slot (omega arith) ∙ arrival_seen _ _ _ _ c.self.view_is it slot ∙ live_none o it slot (omega (arith, ordinal, w'.if-ordinals-slot-gt0.false)) in
             rw w.self-is (cut_kept o _ _ kept so_far (rw none refl))
       ]
     ]

@@ -2,7 +2,7 @@ use Rattle.std.proofs.Common.{IsSome, sym, subst, refl, ◌∙◌, ap, rules, ar
 use Rattle.tree_array.specs.Arrivals.{arrival}
 use Rattle.tree_cells.proofs.Found.{found_at, before_none}
 use Rattle.tree_cells.proofs.Halving.{searched_few}
-use Rattle.tree_cells.proofs.Walks.{ranked_of}
+use Rattle.tree_cells.proofs.Walks.{ordinals_of}
 use Rattle.tree_array.proofs.array.ArrayOf.search_entry.Goals as goal
 
 pub pair-requires : goal.pair-requires
@@ -13,7 +13,7 @@ pair-requires g c =
 pub returns-in-At-clause-found : goal.returns-in-At-clause-found
 returns-in-At-clause-found g c =
     let place = c.in-At.ensures.place in
-    rw (← c.self.view_is) (found_at g.met.K.Ord.total (ranked_of g.met.K.Ord.total c.self.invariant.0) _ _ _ place.0.there place.0.same ∙ sym place.0.there ∙ ap (arrival c.self.inside.cells) place.1 ∙ c.pair.ensures)
+    rw (← c.self.view_is) (found_at g.met.K.Ord.total (ordinals_of g.met.K.Ord.total c.self.invariant.0) _ _ _ place.0.there place.0.same ∙ sym place.0.there ∙ ap (arrival c.self.inside.cells) place.1 ∙ c.pair.ensures)
 
 pub returns-in-At-clause-counted : goal.returns-in-At-clause-counted
 returns-in-At-clause-counted g c = omega (arith, c.in-At.ensures.counted, searched_few g.row.LEN c.self.invariant.0.is_len)

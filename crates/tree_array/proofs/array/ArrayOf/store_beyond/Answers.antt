@@ -11,8 +11,8 @@ use Rattle.tree_array.proofs.Seen.{retired_seen}
 use Rattle.tree_order.proofs.Slots.{len_small}
 use Rattle.tree_array.proofs.Stored.{made_early, moved_seen, parts_before, parts_entries, room_from_not_full}
 use Rattle.tree_cells.proofs.Tabled.{moved_tabled}
-use Rattle.tree_cells.proofs.Walks.{ranked_of}
-use Rattle.tree_array.proofs.array.ArrayOf.store.Goals as goal
+use Rattle.tree_cells.proofs.Walks.{ordinals_of}
+use Rattle.tree_array.proofs.array.ArrayOf.store_beyond.Goals as goal
 
 -- ---- a place has the key
 pub renamed-order-requires-clause-slot : goal.renamed-order-requires-clause-slot
@@ -57,7 +57,7 @@ returns-else-is_full g c =
         few = stored_few g.K.Ord.cmp g.row.LEN _ c.args.key c.args.val _ new_is room (subst (IsSound g.K.Ord.cmp g.row.LEN) c.self.view_is (sound o it _ c.self.invariant.1)).entries_few;
       },
       true_from_ne_false _ (λ h. grind (arith, nat_tests, c.if-not-this.false)),
-      rw (← c.self.view_is, found_at o (ranked_of o it) c.args.key _ _ place.0.there place.0.same) refl,
+      rw (← c.self.view_is, found_at o (ordinals_of o it) c.args.key _ _ place.0.there place.0.same) refl,
     )
 
 pub returns-then-not-this : goal.returns-then-not-this
@@ -66,7 +66,7 @@ returns-then-not-this g c =
     record {
       back = record { new_is = refl; same_key = refl; same_val = refl };
       only_insert = rw c.if-not-this.true refl;
-      present = rw (← c.self.view_is, found_at g.met.K.Ord.total (ranked_of g.met.K.Ord.total c.self.invariant.0) c.args.key _ _ place.0.there place.0.same) refl;
+      present = rw (← c.self.view_is, found_at g.met.K.Ord.total (ordinals_of g.met.K.Ord.total c.self.invariant.0) c.args.key _ _ place.0.there place.0.same) refl;
     }
 
 pub returns-then-is_full : goal.returns-then-is_full
