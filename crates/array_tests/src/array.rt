@@ -4,3 +4,4 @@ mod comparison;
 mod drops;
 mod found;
 mod plain;
+mod questions;

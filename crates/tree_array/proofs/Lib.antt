@@ -1,3 +1,4 @@
+pub mod Arrivals
 pub mod Dealt
 mod Emptied
 mod Kept

@@ -13,7 +13,7 @@ pub struct Dimension {
 pub const DIMENSION: Dimension = Dimension { len: 15, bits: 4 };
 
 /// What an insert answers.
-#[derive(Debug, PartialEq, Eq, Drop)]
+#[derive(Clone, Copy, Debug, PartialEq, Eq, Drop)]
 pub enum InsertResult<K, V> {
     /// The pair was stored.
     Success,
@@ -24,7 +24,7 @@ pub enum InsertResult<K, V> {
 }
 
 /// What a store answers: an [`InsertResult`] that tells a new key from one that was there.
-#[derive(Debug, PartialEq, Eq, Drop)]
+#[derive(Clone, Copy, Debug, PartialEq, Eq, Drop)]
 pub enum StoreResult<K, V> {
     /// The pair was stored, and its key is new.
     New,

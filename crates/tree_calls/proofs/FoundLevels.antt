@@ -43,6 +43,12 @@ pub given_at : {K V : Type 0} {LEN : ℕ} (cmp : K → K → Ordering) (a : Tree
 given_at cmp a id level (inl part) = inl part.stands
 given_at cmp a id level (inr retired) = inr retired
 
+-- what is a part or retired is so at the level that is found
+pub found_part : {K V : Type 0} {LEN : ℕ} (cmp : K → K → Ordering) (a : TreeArenas K V LEN) (id level found : ℕ) → 0 < level → 0 < found → (IsPart cmp level a id → found ≡ level)
+    → IsPart cmp level a id ⊎ IsRetired level a id → IsPart cmp found a id ⊎ IsRetired found a id
+found_part cmp a id level found inner low up (inl part) = rw (up part) (inl part)
+found_part cmp a id level found inner low up (inr retired) = inr (retired_too a id level found inner low retired)
+
 module _ {K V : Type 0} {LEN : ℕ} (cmp : K → K → Ordering) (a : TreeArenas K V LEN) (id level found : ℕ) where
   pub record IsFound : Type 0 where
     pub inner : 0 < found
@@ -64,8 +70,7 @@ module _ {K V : Type 0} {LEN : ℕ} (cmp : K → K → Ordering) (a : TreeArenas
         }
 
     pub part_found : IsPart cmp level a id ⊎ IsRetired level a id → IsPart cmp found a id ⊎ IsRetired found a id
-    part_found (inl part) = rw (up part.stands) (inl part)
-    part_found (inr retired) = rw (one retired) (inr (retired_too a id level 1 inner (omega arith) retired))
+    part_found there = found_part cmp a id level found inner (is_found (given_at cmp a id level there)).inner (λ part. up part.stands) there
 
     -- so the part may be changed at the level that is found
     pub may_change : IsPart cmp level a id ⊎ IsRetired level a id → (0 < found) × (IsPart cmp found a id ⊎ IsRetired found a id)

@@ -17,10 +17,6 @@ over_nodes (suc zero) high slot node here = absurd (omega (arith, high))
 over_nodes (suc (suc level)) high slot node here = rw here tt
 
 module _ {K V : Type 0} {LEN : ℕ} (cmp : K → K → Ordering) (a : TreeArenas K V LEN) (id level found : ℕ) (inner : 0 < level) (low : 0 < found) (up : IsPart cmp level a id → found ≡ level) where
-  pub root_found : IsPart cmp level a id ⊎ IsRetired level a id → IsPart cmp found a id ⊎ IsRetired found a id
-  root_found (inl part) = rw (up part) (inl part)
-  root_found (inr retired) = inr (retired_too a id level found inner low retired)
-
   pub lowered_at : IsPart cmp level a id ⊎ IsRetired level a id → (b : TreeArenas K V LEN) (result : Option (ℕ × ℕ)) → LowersRoot cmp found a b id result → LowersRoot cmp level a b id result
   lowered_at (inl part) b result lowers = rw (up part) at lowers
   lowered_at (inr retired) b result lowers =

@@ -3,7 +3,7 @@ use Rattle.std.specs.Prelude.{◌≡◌, ℕ, zero, suc, List, Option}
 use Rattle.std.specs.declared.cmp.Ordering.{Ordering}
 use Rattle.slab.specs.Slab.{get}
 use Rattle.tree_leaf.specs.declared.leaf.LeafOf.{LeafOf}
-use Rattle.tree_leaf.specs.Entries.{slot_entries}
+use Rattle.tree_leaf.specs.Entries.{found_entries}
 use Rattle.tree_model.specs.Pairs.{pair_at}
 use Rattle.tree_node.specs.Arenas.{TreeArenas}
 use Rattle.tree_node.specs.Tree.{HasChildFor}
@@ -16,4 +16,4 @@ module _ {K V : Type 0} {LEN : ℕ} (cmp : K → K → Ordering) (key : K) where
 
   -- the key is in the leaf's entries where it is among these pairs, and with the same value
   abbrev pub HoldsFor : List (K × V) → Option (LeafOf K V LEN) → Type 0
-  HoldsFor pairs found = pair_at cmp pairs key ≡ pair_at cmp (slot_entries found) key
+  HoldsFor pairs found = pair_at cmp pairs key ≡ pair_at cmp (found_entries found) key

@@ -10,7 +10,7 @@ use Rattle.tree_array.specs.declared.answers.StoreResult.{StoreResult}
 use Rattle.tree_array.specs.declared.answers.StoreResult.TheVariants.{New, Replaced, Duplicate, Full}
 use Rattle.tree_model.specs.declared.commands.InsertError.{InsertError}
 use Rattle.tree_model.specs.declared.commands.InsertError.TheVariants.{Duplicate as SameKey, OutOfMemory}
-use Rattle.tree_model.specs.Edits.{Inserts as InsertsPair}
+use Rattle.tree_model.specs.Edits.{Inserts as InsertsPair, handed_back}
 use Rattle.tree_model.specs.Pairs.{IsAbsent, IsAscending, IsPresent, pair_at, put}
 use Rattle.tree_model.proofs.Lengths.{length-put, without_absent, without_present}
 use Rattle.tree_node.specs.Arenas.{TreeArenas}
@@ -145,8 +145,12 @@ module _ {K V : Type 0} (LEN : ℕ) (cmp : K → K → Ordering) (old new : Inde
   upserted NewKey stores = (stores.pairs.1, stores.written refl, stores.packed refl)
   upserted OldKey stores = (stores.pairs.2, stores.written refl, stores.packed refl)
 
-  pub not_upserted : (k : K) (v : V) → StoresPair cmp true LEN old new key val (Err (OutOfMemory k v)) → (◌≡◌ {A = K × V} (k, v) (key, val)) × (new.pairs ≡ old.pairs) × (old.spare ≡ 0)
+  not_upserted : (k : K) (v : V) → StoresPair cmp true LEN old new key val (Err (OutOfMemory k v)) → (◌≡◌ {A = K × V} (k, v) (key, val)) × (new.pairs ≡ old.pairs) × (old.spare ≡ 0)
   not_upserted k v stores = (pair_is (k, v) key val stores.pairs.1 stores.pairs.2, stores.pairs.3, stores.spent refl)
 
-  pub no_duplicate : (k : K) (v : V) → StoresPair cmp true LEN old new key val (Err (SameKey k v)) → ⊥
+  no_duplicate : (k : K) (v : V) → StoresPair cmp true LEN old new key val (Err (SameKey k v)) → ⊥
   no_duplicate k v stores = let no : true ≡ false = stores.pairs.0 in cc
+
+  pub upsert_refused : (error : InsertError K V) → StoresPair cmp true LEN old new key val (Err error) → (handed_back error ≡ (key, val)) × (new.pairs ≡ old.pairs) × (old.spare ≡ 0)
+  upsert_refused (OutOfMemory k v) stores = not_upserted k v stores
+  upsert_refused (SameKey k v) stores = absurd (no_duplicate k v stores)

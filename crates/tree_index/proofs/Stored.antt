@@ -19,6 +19,7 @@ use Rattle.tree_node.specs.Whole.{HasOnly, IsRetiredRoot, IsTree, depth_of, leav
 use Rattle.tree_insert.proofs.Crowded.{crowded_room}
 use Rattle.tree_node.proofs.Whole.{spare_standing, spare_unchanged, tree_after, tree_part, tree_unchanged, walk_unchanged}
 use Rattle.tree_node.proofs.Standing.{no_children}
+use Rattle.tree_node.proofs.Levels.{node_at}
 use Rattle.tree_insert.proofs.RaisedTrees.{tree_raised}
 use Rattle.tree_model.specs.declared.commands.InsertError.{InsertError}
 use Rattle.tree_model.specs.declared.commands.InsertError.TheVariants.{Duplicate as Declined, OutOfMemory}
@@ -227,12 +228,7 @@ module _ {K V : Type 0} {LEN : ℕ} (cmp : K → K → Ordering) where
       by_top (inr gone) = inr (rw gone.0 gone.1)
 
   pub root_there : (a : TreeArenas K V LEN) (id level : ℕ) → IsTree cmp a (Some (id, level)) → IsSome (get a.nodes id)
-  root_there a id level tree = by_level level tree.top.0 tree.top.1
-    where
-      by_level : (level : ℕ) → 0 < level → (Stands cmp level a None id None ⊎ IsRetiredRoot a id level) → IsSome (get a.nodes id)
-      by_level zero deep top = absurd (omega (arith, deep))
-      by_level (suc level) deep (inl stands) = rw stands.here refl
-      by_level (suc level) deep (inr gone) = (no_children (get a.nodes id) gone.1).0
+  root_there a id level tree = node_at cmp a id level tree.top.0 (stands_or_retired a id level tree)
 
   -- a root without a child has no leaf
   pub childless_root : (a : TreeArenas K V LEN) (id level : ℕ) → IsTree cmp a (Some (id, level)) → IsRetiredNode (get a.nodes id) → leaves_at level a.nodes id ≡ []

@@ -98,8 +98,7 @@ impl<K: IndexKey, V: Drop, const LEN: usize> TreeIndexOf<K, V, LEN> {
     {
         match self.store::<true>(key, value) {
             Ok(_) => Ok(()),
-            Err(InsertError::OutOfMemory(key, value)) => Err((key, value)),
-            Err(InsertError::Duplicate(key, value)) => Err((key, value)),
+            Err(refused) => Err(refused.into_pair()),
         }
     }
 

@@ -45,7 +45,7 @@ impl<K: IndexKey + SameClone, V: SameClone> PreparedPair<K, V> {
     }
 }
 
-// Clones a key and a value.
+/// Clones a key and a value.
 fn cloned_pair<K: IndexKey + SameClone, V: SameClone>(
     key: &K,
     value: &V,

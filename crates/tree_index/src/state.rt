@@ -32,7 +32,7 @@ impl<K: IndexKey + SameClone, V: SameClone, const LEN: usize> Model for StateOf<
 
     ghost Value = { Log K V };
 
-    ghost view = { λ a. record { entries = a.index.pairs; history = a.history.items } };
+    ghost view = { λ a. record { pairs = a.index.pairs; history = a.history.items } };
 
     ghost invariant = { λ a. IsHistoryOf K.cmp K.seen V.seen a.history.items a.index.pairs };
 }
@@ -41,7 +41,7 @@ impl<K: IndexKey + SameClone, V: SameClone, const LEN: usize> StateOf<K, V, LEN>
     /// Creates an empty index without a history. Allocates nothing. The caller must choose 7 or 15 for `LEN`.
     pub fn new(alloc: Global) -> Self
         requires { IsLen LEN }
-        ensures entries { result.entries ≡ [] }
+        ensures pairs { result.pairs ≡ [] }
         ensures history { result.history ≡ [] }
     {
         StateOf {
@@ -52,7 +52,7 @@ impl<K: IndexKey + SameClone, V: SameClone, const LEN: usize> StateOf<K, V, LEN>
 
     /// Returns the index, for reading.
     pub fn index(&self) -> &TreeIndexOf<K, V, LEN>
-        ensures { result.now.pairs ≡ self.now.entries }
+        ensures { result.now.pairs ≡ self.now.pairs }
     {
         &self.index
     }
@@ -61,16 +61,16 @@ impl<K: IndexKey + SameClone, V: SameClone, const LEN: usize> StateOf<K, V, LEN>
     /// passed.
     pub fn history(&self) -> &[Record<K, V>]
         ensures calls { result.now ≡ self.now.history }
-        ensures replays { IsHistoryOf K.cmp K.seen V.seen self.now.history self.now.entries }
+        ensures replays { IsHistoryOf K.cmp K.seen V.seen self.now.history self.now.pairs }
     {
         &self.history
     }
 
     /// Returns the index and the history. Allocates nothing.
     pub fn into_parts(self) -> (TreeIndexOf<K, V, LEN>, Vec<Record<K, V>>)
-        ensures entries { result.0.pairs ≡ self.entries }
+        ensures pairs { result.0.pairs ≡ self.pairs }
         ensures calls { result.1.items ≡ self.history }
-        ensures replays { IsHistoryOf K.cmp K.seen V.seen self.history self.entries }
+        ensures replays { IsHistoryOf K.cmp K.seen V.seen self.history self.pairs }
     {
         (self.index, self.history)
     }

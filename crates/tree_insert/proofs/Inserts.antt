@@ -20,7 +20,7 @@ use Rattle.tree_model.proofs.Lists.{all-append, all-filter}
 use Rattle.tree_node.specs.Arenas.{TreeArenas}
 use Rattle.tree_insert.specs.Inserts.{Inserts, InsertsUnder, asks_split, declined, refused}
 use Rattle.tree_node.specs.Parts.{IsPart, Unchanged}
-use Rattle.tree_node.specs.Shape.{spare, leaf_free, slot_free, slot_spare}
+use Rattle.tree_node.specs.Shape.{spare, leaf_free, found_free, found_spare}
 use Rattle.tree_node.specs.Tree.{HasChildFor, Stands, walk}
 use Rattle.tree_node.proofs.Between.{found_between, put_between}
 use Rattle.tree_node.proofs.ChildChanges.{node_stands, node_replaces, old_spare, new_spare, old_walk, new_walk, same_node}
@@ -43,13 +43,13 @@ module _ {K V : Type 0} {LEN : ℕ} {cmp : K → K → Ordering} (o : IsTotalOrd
   walk_is : walk 0 new id ≡ array.entries
   walk_is = walk-leaf new id _ (here_now a id leaf array was)
 
-  room_was : leaf_free a.leaves id ≡ slot_free (Some leaf)
+  room_was : leaf_free a.leaves id ≡ found_free (Some leaf)
   room_was = rw was refl
 
-  spare_was : spare 0 a id ≡ min (slot_spare (Some leaf)) LEN
+  spare_was : spare 0 a id ≡ min (found_spare (Some leaf)) LEN
   spare_was = rw was refl
 
-  spare_is : spare 0 new id ≡ min (slot_spare {V = V} {LEN = LEN} (Some (record leaf { array = array }))) LEN
+  spare_is : spare 0 new id ≡ min (found_spare {V = V} {LEN = LEN} (Some (record leaf { array = array }))) LEN
   spare_is = rw (here_now a id leaf array was) refl
 
   -- the array is what it was, and so is everything
@@ -71,7 +71,7 @@ module _ {K V : Type 0} {LEN : ℕ} {cmp : K → K → Ordering} (o : IsTotalOrd
   as_spare : array ≡ leaf.array → spare 0 a id ≤ suc (spare 0 new id)
   as_spare same = rw (spare_was, spare_is, same) (omega arith)
 
-  no_room : IsFull LEN leaf.array → slot_free {V = V} {LEN = LEN} (Some leaf) ≡ 0
+  no_room : IsFull LEN leaf.array → found_free {V = V} {LEN = LEN} (Some leaf) ≡ 0
   no_room full = none_free LEN leaf.array full
 
   all_put : (P : K × V → Type 0) (pairs : List (K × V)) → P (key, val) → AllByRecursion P pairs → AllByRecursion P (put cmp pairs key val)

@@ -14,7 +14,7 @@ use Rattle.tree_insert.proofs.Retries.{IsFullBelow, full_below}
 use Rattle.tree_insert.proofs.Ways.{takes_one}
 use Rattle.tree_node.specs.Arenas.{TreeArenas}
 use Rattle.tree_node.specs.Parts.{IsPart}
-use Rattle.tree_node.specs.Shape.{room, slot_free}
+use Rattle.tree_node.specs.Shape.{room, found_free}
 use Rattle.tree_node.specs.Tree.{HasChildFor}
 use Rattle.tree_node.proofs.LeafWrites.{with_array}
 use Rattle.tree_split.proofs.Fulls.{none_free}
@@ -39,6 +39,6 @@ module _ {K V : Type 0} {LEN : ℕ} {cmp : K → K → Ordering} (o : IsTotalOrd
       where
         not_full : IsFull LEN slot.array → ⊥
         not_full full =
-            let none : slot_free {V = V} {LEN = LEN} (Some slot) ≡ 0 = none_free LEN slot.array full in
-            let more : 0 < slot_free {V = V} {LEN = LEN} (Some slot) = rw there at some in
+            let none : found_free {V = V} {LEN = LEN} (Some slot) ≡ 0 = none_free LEN slot.array full in
+            let more : 0 < found_free {V = V} {LEN = LEN} (Some slot) = rw there at some in
             omega (arith, none, more)

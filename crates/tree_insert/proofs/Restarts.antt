@@ -8,7 +8,7 @@ use Rattle.tree_insert.specs.Inserts.{InsertsUnder}
 use Rattle.tree_insert.proofs.Crowded.{crowded_still, divides_still}
 use Rattle.tree_node.specs.Arenas.{TreeArenas}
 use Rattle.tree_node.specs.Parts.{IsPart, Unchanged}
-use Rattle.tree_node.specs.Shape.{slot_keyed, spare}
+use Rattle.tree_node.specs.Shape.{found_keyed, spare}
 use Rattle.tree_node.proofs.Frames.{Agrees, same_stands, same_walk}
 use Rattle.tree_node.proofs.Spares.{same_spare}
 use Rattle.tree_node.proofs.Steps.{replaces_trans}
@@ -33,7 +33,7 @@ module _ {K V : Type 0} {LEN : ℕ} {cmp : K → K → Ordering} (upsert : Bool)
           unchanged = λ so. unchanged_trans old mid new same (ins.unchanged so);
           packed = λ so e.
               let done = ins.packed so (same_packed cmp (Some key) level old mid id agrees e) in
-              (done.0, omega (arith, done.1, ap slot_keyed (same.nodes id)));
+              (done.0, omega (arith, done.1, ap found_keyed (same.nodes id)));
         }
 
   -- the leaf node answered that it is full

@@ -11,7 +11,7 @@ use Rattle.tree_array.specs.Length.{limit}
 use Rattle.tree_node.specs.Arenas.{TreeArenas}
 use Rattle.tree_insert.specs.Inserts.{Inserts, InsertsUnder, IsNew, asks_split, declined}
 use Rattle.tree_node.specs.Parts.{IsPart, Unchanged}
-use Rattle.tree_node.specs.Shape.{IsCrowded, held, room, slot_keyed, spare}
+use Rattle.tree_node.specs.Shape.{IsCrowded, held, room, found_keyed, spare}
 use Rattle.tree_split.specs.Splits.{HasMadeRoom, LacksRoom, SplitsChild}
 use Rattle.tree_node.specs.Tree.{HasChildFor, Stands, walk}
 use Rattle.tree_packed.proofs.Edges.{same_packed}
@@ -123,7 +123,7 @@ module _ {K V : Type 0} {LEN : ℕ} {cmp : K → K → Ordering} (upsert : Bool)
         packed = λ so e.
             let more = roomy.packed child below_which child_full (same_packed cmp (Some key) level old mid id (unchanged_agrees level old mid below.same id) e) in
             let done = ins.packed so more.0 in
-            (done.0, omega (arith, more.1, done.1, ap slot_keyed (below.same.nodes id)));
+            (done.0, omega (arith, more.1, done.1, ap found_keyed (below.same.nodes id)));
       }
     where
       below_which : HasChildFor cmp key (get mid.nodes id) child
@@ -155,7 +155,7 @@ module _ {K V : Type 0} {LEN : ℕ} {cmp : K → K → Ordering} (upsert : Bool)
         omega (arith, after, before)
 
 -- what a node holds are its keyed children
-pub held_above : {K V : Type 0} {LEN : ℕ} (a : TreeArenas K V LEN) (id level : ℕ) → 1 < level → held (level - 1) a id ≡ slot_keyed (get a.nodes id)
+pub held_above : {K V : Type 0} {LEN : ℕ} (a : TreeArenas K V LEN) (id level : ℕ) → 1 < level → held (level - 1) a id ≡ found_keyed (get a.nodes id)
 held_above a id zero deep = absurd (omega (arith, deep))
 held_above a id (suc zero) deep = absurd (omega (arith, deep))
 held_above a id (suc (suc level)) deep = rw sub-one refl

@@ -12,7 +12,7 @@ use Rattle.tree_model.specs.Pairs.{IsAbsent, IsPresent, put}
 use Rattle.tree_node.specs.Arenas.{TreeArenas}
 use Rattle.tree_node.specs.Tree.{HasChildFor, IsAbove, IsUpTo, Stands, walk}
 use Rattle.tree_node.specs.Parts.{Replaces, Unchanged}
-use Rattle.tree_node.specs.Shape.{IsCrowded, held, room, slot_keyed, spare}
+use Rattle.tree_node.specs.Shape.{IsCrowded, held, room, found_keyed, spare}
 use Rattle.tree_packed.specs.Packed.{IsPacked}
 
 module _ {K V : Type 0} where
@@ -88,7 +88,7 @@ module _ {K V : Type 0} (cmp : K → K → Ordering) (upsert : Bool) where
     -- where that is so, or the key is there, nothing has changed
     pub unchanged : declined result ≡ true → Unchanged old new
     -- a key larger than all keeps the part packed, and the keyed children that it had
-    pub packed : stores result ≡ true → IsPacked cmp (Some key) level old id → IsPacked cmp None level new id × (slot_keyed (get old.nodes id) ≤ slot_keyed (get new.nodes id))
+    pub packed : stores result ≡ true → IsPacked cmp (Some key) level old id → IsPacked cmp None level new id × (found_keyed (get old.nodes id) ≤ found_keyed (get new.nodes id))
 
   -- The same with the plain answer, which doesn't tell a new key from a replaced one.
   pub record InsertsPlainly {LEN : ℕ} (level : ℕ) (old new : TreeArenas K V LEN) (id : ℕ) (result : Result (InsertResult K V) (K × V)) (key : K) (val : V) : Type 0 where

@@ -5,7 +5,7 @@ use Rattle.slab.specs.Slab.{get}
 use Rattle.tree_leaf.specs.Chain.{IsChain}
 use Rattle.tree_leaf.specs.Counting.{times, uses}
 use Rattle.tree_node.specs.Arenas.{TreeArenas}
-use Rattle.tree_node.specs.Shape.{room, slot_keyed, spare}
+use Rattle.tree_node.specs.Shape.{room, found_keyed, spare}
 use Rattle.tree_node.specs.Tree.{HasChildFor, Stands, leaves_at, nodes_at, walk}
 use Rattle.tree_packed.specs.Packed.{IsPacked}
 
@@ -23,7 +23,7 @@ pub record RaisesRoot {K V : Type 0} {LEN : ℕ} (cmp : K → K → Ordering) (d
   pub roomy : 0 < room (suc depth) new id
   pub routed : (key : K) (child : ℕ) → HasChildFor cmp key (get new.nodes id) child → 0 < room depth new child
   -- a packed part that was full, with the key beyond its edge, is so under the new root, as the first of its keyed children
-  pub packed : (key : K) → room depth old root ≡ 0 → IsPacked cmp (Some key) depth old root → IsPacked cmp (Some key) (suc depth) new id × (0 < slot_keyed (get new.nodes id))
+  pub packed : (key : K) → room depth old root ≡ 0 → IsPacked cmp (Some key) depth old root → IsPacked cmp (Some key) (suc depth) new id × (0 < found_keyed (get new.nodes id))
 
 -- A leaf node stands under the number, over an empty leaf that nothing else is linked to.
 pub record Replants {K V : Type 0} {LEN : ℕ} (cmp : K → K → Ordering) (old new : TreeArenas K V LEN) (root : ℕ) : Type 0 where

@@ -13,7 +13,7 @@ use Rattle.tree_model.specs.Runs.{Step}
 
 -- an index and its history
 pub record Log (K V : Type 0) : Type 0 where
-  pub entries : List (K × V)
+  pub pairs : List (K × V)
   pub history : List (Record K V)
 
 -- the command took effect
@@ -67,15 +67,15 @@ module _ {K V A B : Type 0} (cmp : K → K → Ordering) (seen_key : K → A) (s
   IsSameReply Refused Refused = ⊤
   IsSameReply _ _ = ⊥
 
-  -- The history replays from the empty list, and the list that it replays to is that of the entries.
-  pub record IsHistoryOf (history : List (Record K V)) (entries : List (K × V)) : Type 0 where
+  -- The history replays from the empty list, and the list that it replays to is that of the pairs.
+  pub record IsHistoryOf (history : List (Record K V)) (pairs : List (K × V)) : Type 0 where
     pub replayed : List (K × V)
     pub replays : Replays cmp seen [] history replayed
-    pub same : IsSamePairs entries replayed
+    pub same : IsSamePairs pairs replayed
 
   -- The command was answered by the reply, and both went into the history.
   pub record Appends (old new : Log K V) (command : Command K V) (reply : Reply V) : Type 0 where
-    pub step : Step cmp seen old.entries command reply new.entries
+    pub step : Step cmp seen old.pairs command reply new.pairs
     pub answered : IsAnswered reply
     pub kept : Record K V
     pub appended : new.history ≡ old.history ++ kept ∷ []

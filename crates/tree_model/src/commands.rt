@@ -1,11 +1,13 @@
 //! The commands of an index, its replies, and the record of both in a history.
+ghost use Rattle.std.specs.Prelude.{◌≡◌};
+ghost use Rattle.tree_model.specs.Edits.{handed_back};
 
 use std::error::Error;
 use std::fmt;
 use std::ops::Bound;
 
 /// A call of an index, as a value.
-#[derive(Debug, PartialEq, Eq, Drop)]
+#[derive(Clone, Copy, Debug, PartialEq, Eq, Drop)]
 pub enum Command<K, V> {
     /// Stores a pair if its key is absent.
     Insert(K, V),
@@ -22,7 +24,7 @@ pub enum Command<K, V> {
 }
 
 /// The reply to a command.
-#[derive(Debug, PartialEq, Eq, Drop)]
+#[derive(Clone, Copy, Debug, PartialEq, Eq, Drop)]
 pub enum Reply<V> {
     /// The pair was stored.
     Stored,
@@ -39,7 +41,7 @@ pub enum Reply<V> {
 }
 
 /// A command in a history, with its reply.
-#[derive(Debug, PartialEq, Eq, Drop)]
+#[derive(Clone, Copy, Debug, PartialEq, Eq, Drop)]
 pub struct Record<K, V> {
     /// The command.
     pub command: Command<K, V>,
@@ -48,12 +50,24 @@ pub struct Record<K, V> {
 }
 
 /// The error of an insert. It hands the pair back.
-#[derive(Debug, PartialEq, Eq, Drop)]
+#[derive(Clone, Copy, Debug, PartialEq, Eq, Drop)]
 pub enum InsertError<K, V> {
     /// The key is present.
     Duplicate(K, V),
     /// The key is absent, and an allocation for the pair was refused.
     OutOfMemory(K, V),
+}
+
+impl<K, V> InsertError<K, V> {
+    /// Returns the pair that was not stored.
+    pub fn into_pair(self) -> (K, V)
+        ensures { result ≡ handed_back self }
+    {
+        match self {
+            InsertError::Duplicate(key, value) => (key, value),
+            InsertError::OutOfMemory(key, value) => (key, value),
+        }
+    }
 }
 
 impl<K, V> fmt::Display for InsertError<K, V> {

@@ -7,7 +7,7 @@ use Rattle.tree_leaf.specs.declared.leaf.LeafOf.{LeafOf}
 use Rattle.tree_leaf.specs.Chain.{SameArray}
 use Rattle.tree_leaf.specs.Counting.{times}
 use Rattle.tree_leaf.proofs.Counts.{times-append, times-cons, one_here}
-use Rattle.tree_leaf.specs.Entries.{slot_entries}
+use Rattle.tree_leaf.specs.Entries.{found_entries}
 use Rattle.tree_model.proofs.Lists.{all_map}
 use Rattle.tree_node.specs.Arenas.{TreeArenas}
 use Rattle.tree_node.specs.Tree.{AreParted, LeafStands, Stands, walk, leaves_at, nodes_at, nodes_of, children_of}
@@ -63,7 +63,7 @@ module _ {K V : Type 0} {LEN : ℕ} where
   same_nodes (suc level) a b id same =
       rw (agrees_here level a b id same) (ap (λ xs. id ∷ xs) (flat_map_same _ _ _ (all_map (λ x below. same_nodes level a b x below) _ (agrees_below level a b id same))))
 
-  same_entries : (old new : Option (LeafOf K V LEN)) → SameArray old new → slot_entries new ≡ slot_entries old
+  same_entries : (old new : Option (LeafOf K V LEN)) → SameArray old new → found_entries new ≡ found_entries old
   same_entries None new same = rw same refl
   same_entries (Some leaf) new same = rw (same.1, same.2) refl
 

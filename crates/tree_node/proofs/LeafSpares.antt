@@ -6,20 +6,20 @@ use Rattle.slab.specs.Slab.{get}
 use Rattle.tree_array.specs.Length.{limit}
 use Rattle.tree_array.specs.Arrivals.{free, in_order}
 use Rattle.tree_leaf.specs.declared.leaf.LeafOf.{LeafOf}
-use Rattle.tree_leaf.specs.Entries.{slot_entries}
+use Rattle.tree_leaf.specs.Entries.{found_entries}
 use Rattle.tree_node.specs.Arenas.{TreeArenas}
-use Rattle.tree_node.specs.Shape.{held, room, slot_free, slot_spare, spare, spare_for}
+use Rattle.tree_node.specs.Shape.{held, room, found_free, found_spare, spare, spare_for}
 
 -- the free slots of a leaf hold no entry
 pub free_beside : {K V : Type 0} {LEN : ℕ} (leaf : LeafOf K V LEN) → length leaf.array.entries ≤ length leaf.array.arrivals → length leaf.array.arrivals ≤ LEN
-    → length leaf.array.entries + slot_free {V = V} {LEN = LEN} (Some leaf) ≤ LEN
+    → length leaf.array.entries + found_free {V = V} {LEN = LEN} (Some leaf) ≤ LEN
 free_beside {LEN = LEN} leaf reachable few = by_mark leaf.array.retired
   where
     by_mark : (b : Bool) → length leaf.array.entries + cond b 0 (free LEN leaf.array) ≤ LEN
     by_mark true = omega (arith, reachable, few)
     by_mark false = omega (arith, reachable, few)
 
-pub free_within : {K V : Type 0} {LEN : ℕ} (leaf : LeafOf K V LEN) → slot_free {V = V} {LEN = LEN} (Some leaf) ≤ LEN
+pub free_within : {K V : Type 0} {LEN : ℕ} (leaf : LeafOf K V LEN) → found_free {V = V} {LEN = LEN} (Some leaf) ≤ LEN
 free_within {LEN = LEN} leaf = by_mark leaf.array.retired
   where
     by_mark : (b : Bool) → cond b 0 (free LEN leaf.array) ≤ LEN
@@ -73,9 +73,9 @@ module _ (len : ℕ) where
 
 -- a full leaf that is to be split takes none
 module _ {K V : Type 0} {LEN : ℕ} where
-  slot_spent : (found : Option (LeafOf K V LEN)) → slot_free found ≡ 0 → limit LEN < length (slot_entries found) → min (slot_spare found) LEN ≡ 0
+  slot_spent : (found : Option (LeafOf K V LEN)) → found_free found ≡ 0 → limit LEN < length (found_entries found) → min (found_spare found) LEN ≡ 0
   slot_spent None none many = absurd (omega (arith, many))
-  slot_spent (Some leaf) none many = omega (arith, spare_none LEN (length leaf.array.entries) (slot_free {V = V} {LEN = LEN} (Some leaf)) none many)
+  slot_spent (Some leaf) none many = omega (arith, spare_none LEN (length leaf.array.entries) (found_free {V = V} {LEN = LEN} (Some leaf)) none many)
 
   pub leaf_spent : (a : TreeArenas K V LEN) (id : ℕ) → room 0 a id ≡ 0 → limit LEN < held 0 a id → spare 0 a id ≡ 0
   leaf_spent a id none many = slot_spent (get a.leaves id) none many
@@ -84,7 +84,7 @@ module _ {K V : Type 0} {LEN : ℕ} where
   pub spare_beside : (a : TreeArenas K V LEN) (id : ℕ) (leaf : LeafOf K V LEN) → get a.leaves id ≡ Some leaf → length leaf.array.entries ≤ length leaf.array.arrivals → length leaf.array.arrivals ≤ LEN
       → spare 0 a id ≤ LEN - length leaf.array.entries
   spare_beside a id leaf here reachable few =
-      rw here (omega (arith, spare_within LEN (length leaf.array.entries) (slot_free {V = V} {LEN = LEN} (Some leaf)) (free_beside leaf reachable few)))
+      rw here (omega (arith, spare_within LEN (length leaf.array.entries) (found_free {V = V} {LEN = LEN} (Some leaf)) (free_beside leaf reachable few)))
 
   -- and one that was built anew takes as many
   pub spare_anew : (a : TreeArenas K V LEN) (id : ℕ) (leaf : LeafOf K V LEN) (entries : List (K × V)) → get a.leaves id ≡ Some leaf → leaf.array ≡ in_order entries → LEN - length entries ≤ spare 0 a id

@@ -5,7 +5,7 @@ use Rattle.std.proofs.lemmas.List.Concat.{flat_map-append}
 use Rattle.tree_leaf.specs.declared.leaf.LeafOf.{LeafOf}
 use Rattle.tree_leaf.specs.Chain.{SameArray}
 use Rattle.tree_node.specs.Arenas.{TreeArenas}
-use Rattle.tree_node.specs.Shape.{slot_spare, leaf_spare, least, spare}
+use Rattle.tree_node.specs.Shape.{found_spare, leaf_spare, least, spare}
 use Rattle.tree_node.specs.Tree.{leaves_at, leaves_of, children_of}
 use Rattle.tree_node.proofs.Frames.{each_of, Agrees, same_leaves}
 use Rattle.tree_node.proofs.Lifts.{single_leaves}
@@ -31,15 +31,15 @@ least_same most f g [] same = refl
 least_same most f g (x ∷ xs) same = rw (same.0, least_same most f g xs same.1) refl
 
 module _ {K V : Type 0} {LEN : ℕ} where
-  slot_spare_same : (old new : Option (LeafOf K V LEN)) → SameArray old new → slot_spare new ≡ slot_spare old
-  slot_spare_same None new same = rw same refl
-  slot_spare_same (Some leaf) new same = rw (same.1, same.2) refl
+  found_spare_same : (old new : Option (LeafOf K V LEN)) → SameArray old new → found_spare new ≡ found_spare old
+  found_spare_same None new same = rw same refl
+  found_spare_same (Some leaf) new same = rw (same.1, same.2) refl
 
   -- a part that stays has the same room
   pub same_spare : (level : ℕ) (a b : TreeArenas K V LEN) (id : ℕ) → Agrees level a b id → spare level b id ≡ spare level a id
   same_spare level a b id same =
       rw (same_leaves level a b id same)
-      (least_same LEN _ _ _ (each_of (leaves_at level a.nodes id) (λ n inside. slot_spare_same _ _ (same.leaves n inside))))
+      (least_same LEN _ _ _ (each_of (leaves_at level a.nodes id) (λ n inside. found_spare_same _ _ (same.leaves n inside))))
 
   -- the least room of several parts
   abbrev pub spares : ℕ → TreeArenas K V LEN → List ℕ → ℕ

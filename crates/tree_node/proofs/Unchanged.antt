@@ -7,10 +7,10 @@ use Rattle.tree_leaf.specs.Arena.{KeepsBoth}
 use Rattle.tree_leaf.specs.Chain.{IsChain}
 use Rattle.tree_leaf.proofs.Chains.{linked_kept, same_array_refl}
 use Rattle.tree_leaf.proofs.Counts.{uses_same}
-use Rattle.tree_leaf.specs.Entries.{slot_entries}
+use Rattle.tree_leaf.specs.Entries.{found_entries}
 use Rattle.tree_node.specs.Arenas.{TreeArenas}
 use Rattle.tree_node.specs.Parts.{IsPart, Replaces, Unchanged}
-use Rattle.tree_node.specs.Shape.{held, room, slot_free, slot_keyed, slot_room}
+use Rattle.tree_node.specs.Shape.{held, room, found_free, found_keyed, found_room}
 use Rattle.tree_node.specs.Tree.{leaves_of, nodes_of, leaves_at, nodes_at}
 use Rattle.tree_node.proofs.Frames.{Agrees, same_leaves, same_nodes, same_stands}
 use Rattle.tree_node.proofs.Lists.{all_yes, flat_map_same}
@@ -55,9 +55,9 @@ module _ {K V : Type 0} {LEN : ℕ} where
         part_after cmp level old new id part (same_stands cmp level old new id (unchanged_agrees id) None None part.stands) (unchanged_replaces (id ∷ []))
 
   pub unchanged_room : (level : ℕ) (old new : TreeArenas K V LEN) → Unchanged old new → (id : ℕ) → room level new id ≡ room level old id
-  unchanged_room zero old new same id = ap slot_free (same.leaves id)
-  unchanged_room (suc level) old new same id = ap slot_room (same.nodes id)
+  unchanged_room zero old new same id = ap found_free (same.leaves id)
+  unchanged_room (suc level) old new same id = ap found_room (same.nodes id)
 
   pub unchanged_held : (level : ℕ) (old new : TreeArenas K V LEN) → Unchanged old new → (id : ℕ) → held level new id ≡ held level old id
-  unchanged_held zero old new same id = ap (λ leaf. length (slot_entries leaf)) (same.leaves id)
-  unchanged_held (suc level) old new same id = ap slot_keyed (same.nodes id)
+  unchanged_held zero old new same id = ap (λ leaf. length (found_entries leaf)) (same.leaves id)
+  unchanged_held (suc level) old new same id = ap found_keyed (same.nodes id)

@@ -17,12 +17,12 @@ least most f (id ∷ ids) = min (f id) (least most f ids)
 
 module _ {K V : Type 0} {LEN : ℕ} where
   -- how many more pairs the leaf takes, which are none once it is retired
-  abbrev pub slot_free : Option (LeafOf K V LEN) → ℕ
-  slot_free None = 0
-  slot_free (Some leaf) = if leaf.array.retired then 0 else free LEN leaf.array
+  abbrev pub found_free : Option (LeafOf K V LEN) → ℕ
+  found_free None = 0
+  found_free (Some leaf) = if leaf.array.retired then 0 else free LEN leaf.array
 
   abbrev pub leaf_free : Slab (LeafOf K V LEN) → ℕ → ℕ
-  leaf_free leaves id = slot_free (get leaves id)
+  leaf_free leaves id = found_free (get leaves id)
 
 -- how many writes, whatever their keys, an array takes that has so many entries and so many free slots: those that fill it, or, where it will be built anew in place by then, those that fill it once it was
 abbrev pub spare_for : ℕ → ℕ → ℕ → ℕ
@@ -30,25 +30,25 @@ spare_for len count room = if leb (count + room) (limit len) then len - count el
 
 module _ {K V : Type 0} {LEN : ℕ} where
   -- how many writes are sure to go into the leaf without memory
-  abbrev pub slot_spare : Option (LeafOf K V LEN) → ℕ
-  slot_spare None = 0
-  slot_spare (Some leaf) = spare_for LEN (length leaf.array.entries) (slot_free (Some leaf))
+  abbrev pub found_spare : Option (LeafOf K V LEN) → ℕ
+  found_spare None = 0
+  found_spare (Some leaf) = spare_for LEN (length leaf.array.entries) (found_free (Some leaf))
 
   abbrev pub leaf_spare : Slab (LeafOf K V LEN) → ℕ → ℕ
-  leaf_spare leaves id = slot_spare (get leaves id)
+  leaf_spare leaves id = found_spare (get leaves id)
 
 -- how many more children a node takes beside its unbounded one
 abbrev pub children_free : {K : Type 0} {LEN : ℕ} → Option ℕ → NodeOf K LEN → ℕ
 children_free None node = 0
 children_free {LEN = LEN} (Some last) node = if (keyed node).retired then 0 else free LEN (keyed node)
 
-abbrev pub slot_room : {K : Type 0} {LEN : ℕ} → Option (NodeOf K LEN) → ℕ
-slot_room None = 0
-slot_room (Some node) = children_free (unbounded node) node
+abbrev pub found_room : {K : Type 0} {LEN : ℕ} → Option (NodeOf K LEN) → ℕ
+found_room None = 0
+found_room (Some node) = children_free (unbounded node) node
 
-abbrev pub slot_keyed : {K : Type 0} {LEN : ℕ} → Option (NodeOf K LEN) → ℕ
-slot_keyed None = 0
-slot_keyed (Some node) = length (keyed node).entries
+abbrev pub found_keyed : {K : Type 0} {LEN : ℕ} → Option (NodeOf K LEN) → ℕ
+found_keyed None = 0
+found_keyed (Some node) = length (keyed node).entries
 
 module _ {K V : Type 0} {LEN : ℕ} where
   -- the least that a leaf of the part takes: as many writes go into it without memory
@@ -58,12 +58,12 @@ module _ {K V : Type 0} {LEN : ℕ} where
   -- the room in the array right under the number
   abbrev pub room : ℕ → TreeArenas K V LEN → ℕ → ℕ
   room zero arenas id = leaf_free arenas.leaves id
-  room (suc level) arenas id = slot_room (get arenas.nodes id)
+  room (suc level) arenas id = found_room (get arenas.nodes id)
 
   -- how many entries, or keyed children, that array has
   abbrev pub held : ℕ → TreeArenas K V LEN → ℕ → ℕ
   held zero arenas id = length (leaf_entries arenas.leaves id)
-  held (suc level) arenas id = slot_keyed (get arenas.nodes id)
+  held (suc level) arenas id = found_keyed (get arenas.nodes id)
 
   -- no array on the way of the key has room, and each below the number has too many to be built anew
   abbrev pub IsCrowded : (K → K → Ordering) → ℕ → TreeArenas K V LEN → ℕ → K → Type 0

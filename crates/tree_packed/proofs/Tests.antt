@@ -11,7 +11,7 @@ use Rattle.tree_leaf.specs.declared.leaf.LeafOf.{LeafOf}
 use Rattle.tree_node.specs.declared.node.NodeOf.{NodeOf}
 use Rattle.tree_node.specs.Arenas.{TreeArenas}
 use Rattle.tree_node.specs.Parts.{Unchanged}
-use Rattle.tree_node.specs.Shape.{slot_keyed}
+use Rattle.tree_node.specs.Shape.{found_keyed}
 use Rattle.tree_node.specs.Tree.{keyed, unbounded, walk}
 use Rattle.tree_node.specs.Whole.{depth_of, walk_under}
 use Rattle.tree_node.proofs.Lists.{all_yes}
@@ -92,21 +92,21 @@ module _ {K V : Type 0} {LEN : ℕ} (cmp : K → K → Ordering) where
       (both_true (full_to (λ child. length (walk level a child)) (LEN ^ suc level) (keyed e.node).entries e.full) (rw e.last_is (packed_to level a e.last e.edge))))
 
   -- a root that passes it is packed, and has a keyed child from depth 2 on
-  pub root_from : (a : TreeArenas K V LEN) (id level : ℕ) → packed_under cmp a (Some (id, level)) ≡ true → IsPacked cmp None level a id × (1 < level → 0 < slot_keyed (get a.nodes id))
+  pub root_from : (a : TreeArenas K V LEN) (id level : ℕ) → packed_under cmp a (Some (id, level)) ≡ true → IsPacked cmp None level a id × (1 < level → 0 < found_keyed (get a.nodes id))
   root_from a id level so =
-      let both = both_of (packed_at cmp level a id) (leb level 1 || not (slot_keyed (get a.nodes id) == 0)) so in
-      (packed_from level a id both.0, λ deep. some_from (slot_keyed (get a.nodes id)) (by_test (leb level 1) (lt-leb level 1 deep) both.1))
+      let both = both_of (packed_at cmp level a id) (leb level 1 || not (found_keyed (get a.nodes id) == 0)) so in
+      (packed_from level a id both.0, λ deep. some_from (found_keyed (get a.nodes id)) (by_test (leb level 1) (lt-leb level 1 deep) both.1))
     where
-      by_test : (low : Bool) → low ≡ false → (low || not (slot_keyed (get a.nodes id) == 0)) ≡ true → not (slot_keyed (get a.nodes id) == 0) ≡ true
+      by_test : (low : Bool) → low ≡ false → (low || not (found_keyed (get a.nodes id) == 0)) ≡ true → not (found_keyed (get a.nodes id) == 0) ≡ true
       by_test true deep so = absurd (cc)
       by_test false deep so = so
 
-  pub root_to : (a : TreeArenas K V LEN) (id level : ℕ) → IsPacked cmp None level a id → (1 < level → 0 < slot_keyed (get a.nodes id)) → packed_under cmp a (Some (id, level)) ≡ true
+  pub root_to : (a : TreeArenas K V LEN) (id level : ℕ) → IsPacked cmp None level a id → (1 < level → 0 < found_keyed (get a.nodes id)) → packed_under cmp a (Some (id, level)) ≡ true
   root_to a id level packed some = both_true (packed_to level a id packed) (by_level (leb level 1) refl)
     where
-      by_level : (low : Bool) → leb level 1 ≡ low → (low || not (slot_keyed (get a.nodes id) == 0)) ≡ true
+      by_level : (low : Bool) → leb level 1 ≡ low → (low || not (found_keyed (get a.nodes id) == 0)) ≡ true
       by_level true is = refl
-      by_level false is = some_to (slot_keyed (get a.nodes id)) (some (let deep : 1 < level = grind (arith, nat_tests) in deep))
+      by_level false is = some_to (found_keyed (get a.nodes id)) (some (let deep : 1 < level = grind (arith, nat_tests) in deep))
 
   -- a tree in which nothing changed is packed as it was
   pub packed_unchanged : (a b : TreeArenas K V LEN) (root : Option (ℕ × ℕ)) → Unchanged a b → packed_under cmp b root ≡ packed_under cmp a root
@@ -123,7 +123,7 @@ module _ {K V : Type 0} {LEN : ℕ} (cmp : K → K → Ordering) where
   packed_depth a None so = inl (omega arith)
   packed_depth a (Some root) so = let is = root_from a root.0 root.1 so in by_level root.1 is.0 is.1
     where
-      by_level : (level : ℕ) → IsPacked cmp None level a root.0 → (1 < level → 0 < slot_keyed (get a.nodes root.0)) → (level ≤ 1) ⊎ (LEN ^ level < length (walk level a root.0))
+      by_level : (level : ℕ) → IsPacked cmp None level a root.0 → (1 < level → 0 < found_keyed (get a.nodes root.0)) → (level ≤ 1) ⊎ (LEN ^ level < length (walk level a root.0))
       by_level zero e some = inl (omega arith)
       by_level (suc zero) e some = inl (omega arith)
       by_level (suc (suc level)) e some = inr (packed_bound cmp (suc level) a root.0 e (rw e.here at (some (omega arith))))

@@ -8,7 +8,7 @@ use Rattle.tree_array.specs.Arrivals.{Arrivals}
 use Rattle.tree_leaf.specs.declared.leaf.LeafOf.{LeafOf}
 use Rattle.tree_node.specs.declared.node.NodeOf.{NodeOf}
 use Rattle.tree_node.specs.Arenas.{TreeArenas}
-use Rattle.tree_node.specs.Shape.{slot_keyed}
+use Rattle.tree_node.specs.Shape.{found_keyed}
 use Rattle.tree_node.specs.Tree.{IsBelow, keyed, unbounded, walk}
 
 module _ {K : Type 0} (cmp : K → K → Ordering) where
@@ -79,4 +79,4 @@ module _ {K : Type 0} (cmp : K → K → Ordering) where
   -- Whether a whole tree is packed: from depth 2 on its root has a keyed child too. A tree without a root is packed.
   abbrev pub packed_under : {V : Type 0} {LEN : ℕ} → TreeArenas K V LEN → Option (ℕ × ℕ) → Bool
   packed_under arenas None = true
-  packed_under arenas (Some root) = packed_at root.1 arenas root.0 && (leb root.1 1 || not (slot_keyed (get arenas.nodes root.0) == 0))
+  packed_under arenas (Some root) = packed_at root.1 arenas root.0 && (leb root.1 1 || not (found_keyed (get arenas.nodes root.0) == 0))

@@ -27,7 +27,7 @@ use Rattle.tree_node.proofs.Frames.{parted_map, Agrees, same_stands}
 use Rattle.tree_node.proofs.Lifts.{front_agrees, back_agrees, lifted, node_times, walk_now, walk_was}
 use Rattle.tree_remove.proofs.NodeRemovals.{taken_between}
 use Rattle.tree_node.proofs.Spares.{spares_same, spare_split, spares-single, spare_le}
-use Rattle.tree_remove.proofs.Splits.{SplitAt, split_at, past_all}
+use Rattle.tree_remove.proofs.ChildSides.{HasSides, sides_at, past_all}
 use Rattle.tree_node.proofs.Steps.{replaces_trans}
 use Rattle.tree_node.proofs.Walks.{walk-children, front_walk_below, back_walk_above}
 use Rattle.tree_node.proofs.Widens.{parted_without, parted_moved, stands_wider, stands_higher, separators_around}
@@ -131,8 +131,8 @@ module _ {K V : Type 0} {LEN : ℕ} {cmp : K → K → Ordering} (o : IsTotalOrd
         let both : Some drops.takes.pair ≡ Some (place.0, child) = sym there ∙ place.1 in
         cc
 
-    split : SplitAt cmp key (keyed top.node).entries top.last (place.0, child)
-    split = split_at cmp key (keyed top.node).entries top.last (place.0, child) place.2
+    split : HasSides cmp key (keyed top.node).entries top.last (place.0, child)
+    split = sides_at cmp key (keyed top.node).entries top.last (place.0, child) place.2
 
     parted_around : (low high : Option K) → Stands cmp (suc level) old low id high → AreParted cmp (Stands cmp level old) low (split.before ++ (place.0, child) ∷ split.after) top.last high
     parted_around low high s = rw split.pairs_are at (parted_top low high s)

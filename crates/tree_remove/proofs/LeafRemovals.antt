@@ -19,7 +19,7 @@ use Rattle.tree_model.proofs.Lists.{all-append, all-filter}
 use Rattle.tree_node.specs.Arenas.{TreeArenas}
 use Rattle.tree_node.specs.Parts.{KeepsBounds}
 use Rattle.tree_remove.specs.Removes.{RemovesUnder, TakesOut}
-use Rattle.tree_node.specs.Shape.{spare, slot_free, slot_spare}
+use Rattle.tree_node.specs.Shape.{spare, found_free, found_spare}
 use Rattle.tree_node.specs.Tree.{IsRetired, walk}
 use Rattle.tree_node.proofs.Children.{walk-leaf}
 use Rattle.tree_node.proofs.LeafSpares.{free_within, spare_removed, spare_retired}
@@ -39,10 +39,10 @@ module _ {K V : Type 0} {LEN : ℕ} {cmp : K → K → Ordering} (o : IsTotalOrd
   new_walk : walk 0 (with_array a id leaf array) id ≡ array.entries
   new_walk = walk-leaf (with_array a id leaf array) id _ (here_now a id leaf array was)
 
-  room_was : spare 0 a id ≡ min (slot_spare (Some leaf)) LEN
+  room_was : spare 0 a id ≡ min (found_spare (Some leaf)) LEN
   room_was = rw was refl
 
-  room_is : spare 0 (with_array a id leaf array) id ≡ min (slot_spare {V = V} {LEN = LEN} (Some (record leaf { array = array }))) LEN
+  room_is : spare 0 (with_array a id leaf array) id ≡ min (found_spare {V = V} {LEN = LEN} (Some (record leaf { array = array }))) LEN
   room_is = rw (here_now a id leaf array was) refl
 
   -- nothing was removed
@@ -102,7 +102,7 @@ module _ {K V : Type 0} {LEN : ℕ} {cmp : K → K → Ordering} (o : IsTotalOrd
               pairs = (takes, new_walk ∙ none);
               leaves = (rw (here_now a id leaf array was) (e, none), tt);
               replaces = array_replaces a id leaf array was;
-              spare = rw (room_was, room_is, e, none) (omega (arith, spare_retired LEN (length leaf.array.entries) (slot_free {V = V} {LEN = LEN} (Some leaf)) (free_within leaf)));
+              spare = rw (room_was, room_is, e, none) (omega (arith, spare_retired LEN (length leaf.array.entries) (found_free {V = V} {LEN = LEN} (Some leaf)) (free_within leaf)));
             })
         by_retired false e =
             let answer : result ≡ Success = is ∙ rw e refl in

@@ -1,4 +1,5 @@
 pub mod ChildDrops
+pub mod ChildSides
 pub mod Descents
 pub mod EmptyNodes
 pub mod LeafDrops
@@ -10,5 +11,4 @@ pub mod NodeDrops
 pub mod NodeRemovals
 pub mod NodeWrites
 pub mod OnlyLeaves
-pub mod Splits
 pub mod Ways

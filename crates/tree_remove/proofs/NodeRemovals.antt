@@ -8,7 +8,7 @@ use Rattle.slab.specs.Slab.{get}
 use Rattle.tree_array.specs.declared.answers.RemoveResult.{RemoveResult}
 use Rattle.tree_array.specs.declared.answers.RemoveResult.TheVariants.{Success, Retired, Fail}
 use Rattle.tree_leaf.specs.declared.leaf.LeafOf.{LeafOf}
-use Rattle.tree_leaf.specs.Entries.{slot_entries}
+use Rattle.tree_leaf.specs.Entries.{found_entries}
 use Rattle.tree_model.specs.Pairs.{AllLarger}
 use Rattle.tree_node.specs.Arenas.{TreeArenas}
 use Rattle.tree_remove.specs.CleanUps.{HasOnlyRetired, RetiresIfEmpty}
@@ -77,7 +77,7 @@ one_only (a ∷ []) x back same = absurd (cc)
 one_only (a ∷ (c ∷ front)) x back same = absurd (cc)
 
 module _ {K V : Type 0} {LEN : ℕ} where
-  no_entries : (found : Option (LeafOf K V LEN)) → IsRetiredLeaf found → slot_entries found ≡ []
+  no_entries : (found : Option (LeafOf K V LEN)) → IsRetiredLeaf found → found_entries found ≡ []
   no_entries None retired = absurd retired
   no_entries (Some leaf) retired = retired.1
 

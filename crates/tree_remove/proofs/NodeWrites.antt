@@ -10,15 +10,15 @@ use Rattle.tree_node.specs.declared.leaf_node.LeafNodeOf.{LeafNodeOf}
 use Rattle.tree_node.specs.declared.node.NodeOf.{NodeOf}
 use Rattle.tree_node.specs.declared.node.NodeOf.TheVariants.{Internal, Leaf}
 use Rattle.tree_remove.specs.CleanUps.{HasChildIn, MovesLast, TakesKeyed, TakesUnbounded}
-use Rattle.tree_node.specs.Tree.{HasKind, IsRetiredNode}
+use Rattle.tree_node.specs.Tree.{HasKind, keyed, unbounded}
 
 module _ {K : Type 0} {LEN : ℕ} where
   -- two nodes of a kind are so at the same levels
-  leaf_kind : (n m : LeafNodeOf K LEN) (level : ℕ) → HasKind level (Leaf n) → HasKind level (Leaf m)
+  pub leaf_kind : (n m : LeafNodeOf K LEN) (level : ℕ) → HasKind level (Leaf n) → HasKind level (Leaf m)
   leaf_kind n m zero kind = tt
   leaf_kind n m (suc level) kind = kind
 
-  internal_kind : (n m : InternalNodeOf K LEN) (level : ℕ) → HasKind level (Internal n) → HasKind level (Internal m)
+  pub internal_kind : (n m : InternalNodeOf K LEN) (level : ℕ) → HasKind level (Internal n) → HasKind level (Internal m)
   internal_kind n m zero kind = kind
   internal_kind n m (suc level) kind = tt
 
@@ -27,30 +27,16 @@ module _ {K : Type 0} {LEN : ℕ} where
   has_node None slot has = absurd has
   has_node (Some node) slot has = refl
 
-  module _ (cmp : K → K → Ordering) (a : Slab (NodeOf K LEN)) (id : ℕ) where
+  module _ (cmp : K → K → Ordering) (a : Slab (NodeOf K LEN)) (id : ℕ) (n m : NodeOf K LEN) (here : get a id ≡ Some n) (kind : (level : ℕ) → HasKind level n → HasKind level m) where
     -- the keyed child of a slot was taken out of its array
-    pub leaf_keyed_taken : (n m : LeafNodeOf K LEN) (slot : ℕ) (pair : K × ℕ) → get a id ≡ Some (Leaf n) → arrival n.children.arrivals slot ≡ Some pair
-        → m.children ≡ removed cmp n.children pair.0 → m.unbounded_child ≡ n.unbounded_child → TakesKeyed cmp a (with_value a id (Leaf m)) id slot
-    leaf_keyed_taken n m slot pair here there others same = record {
-      node = Leaf n;
-      left = Leaf m;
+    pub keyed_taken : (slot : ℕ) (pair : K × ℕ) → arrival (keyed n).arrivals slot ≡ Some pair → keyed m ≡ removed cmp (keyed n) pair.0 → unbounded m ≡ unbounded n
+        → TakesKeyed cmp a (with_value a id m) id slot
+    keyed_taken slot pair there others same = record {
+      node = n;
+      left = m;
       was = here;
-      updates = Updates-with_value a id (Leaf m) (rw here refl);
-      kind = leaf_kind n m;
-      pair = pair;
-      there = there;
-      others = others;
-      same_unbounded = same;
-    }
-
-    pub internal_keyed_taken : (n m : InternalNodeOf K LEN) (slot : ℕ) (pair : K × ℕ) → get a id ≡ Some (Internal n) → arrival n.children.arrivals slot ≡ Some pair
-        → m.children ≡ removed cmp n.children pair.0 → m.unbounded_child ≡ n.unbounded_child → TakesKeyed cmp a (with_value a id (Internal m)) id slot
-    internal_keyed_taken n m slot pair here there others same = record {
-      node = Internal n;
-      left = Internal m;
-      was = here;
-      updates = Updates-with_value a id (Internal m) (rw here refl);
-      kind = internal_kind n m;
+      updates = Updates-with_value a id m (rw here refl);
+      kind = kind;
       pair = pair;
       there = there;
       others = others;
@@ -58,12 +44,5 @@ module _ {K : Type 0} {LEN : ℕ} where
     }
 
     -- the last keyed child was moved to the place of the unbounded one
-    pub leaf_unbounded_taken : (n m : LeafNodeOf K LEN) (result : RemoveResult) → get a id ≡ Some (Leaf n)
-        → MovesLast cmp n.children m.children m.unbounded_child result → TakesUnbounded cmp a (with_value a id (Leaf m)) id result
-    leaf_unbounded_taken n m result here moves =
-        record { node = Leaf n; left = Leaf m; was = here; updates = Updates-with_value a id (Leaf m) (rw here refl); kind = leaf_kind n m; moves = moves }
-
-    pub internal_unbounded_taken : (n m : InternalNodeOf K LEN) (result : RemoveResult) → get a id ≡ Some (Internal n)
-        → MovesLast cmp n.children m.children m.unbounded_child result → TakesUnbounded cmp a (with_value a id (Internal m)) id result
-    internal_unbounded_taken n m result here moves =
-        record { node = Internal n; left = Internal m; was = here; updates = Updates-with_value a id (Internal m) (rw here refl); kind = internal_kind n m; moves = moves }
+    pub unbounded_taken : (result : RemoveResult) → MovesLast cmp (keyed n) (keyed m) (unbounded m) result → TakesUnbounded cmp a (with_value a id m) id result
+    unbounded_taken result moves = record { node = n; left = m; was = here; updates = Updates-with_value a id m (rw here refl); kind = kind; moves = moves }

@@ -90,7 +90,7 @@ module _ {K V A B : Type 0} (cmp : K → K → Ordering) (seen_key : K → A) (s
   -- what one command left
   pub record Left (old new : Log K V) (worker : ℕ) (command : Command K V) (answer : Result (Reply V) (Command K V)) : Type 0 where
     pub one : Option (Record K V)
-    pub runs : RunsSchedule cmp seen_key seen old.entries ((worker, command) ∷ []) (one ∷ []) new.entries
+    pub runs : RunsSchedule cmp seen_key seen old.pairs ((worker, command) ∷ []) (one ∷ []) new.pairs
     pub appended : new.history ≡ old.history ++ records (one ∷ [])
     pub counted : cond (is_err answer) 1 0 ≡ count_by is_none (one ∷ [])
     pub rises : (t : Tally) → raised t (reply_of_apply answer) ≡ plus t (tally (records (one ∷ [])))
@@ -98,14 +98,14 @@ module _ {K V A B : Type 0} (cmp : K → K → Ordering) (seen_key : K → A) (s
   pub left : (old new : Log K V) (worker : ℕ) (command : Command K V) (answer : Result (Reply V) (Command K V)) → IfOk answer (Appends cmp seen_key seen old new command) → OnErr answer (new ≡ old) → Left old new worker command answer
   left old new worker command (Ok reply) ok err = record {
     one = Some ok.kept;
-    runs = (new.entries, reply, ok.step, ok.answered, ok.same_command, ok.same_reply, refl);
+    runs = (new.pairs, reply, ok.step, ok.answered, ok.same_command, ok.same_reply, refl);
     appended = ok.appended;
     counted = refl;
     rises = λ t. sym (same_raise cmp seen_key seen t reply ok.kept.reply ok.same_reply) ∙ raised_one t ok.kept (same_answered cmp seen_key seen reply ok.kept.reply ok.same_reply ok.answered);
   }
   left old new worker command (Err back) ok err = record {
     one = None;
-    runs = ap (λ l. l.entries) err;
+    runs = ap (λ l. l.pairs) err;
     appended = ap (λ l. l.history) err ∙ sym (append-nil old.history);
     counted = refl;
     rises = λ t. grind (arith, common_steps);
@@ -153,33 +153,33 @@ module _ {K V A B : Type 0} (cmp : K → K → Ordering) (seen_key : K → A) (s
       → Ran cmp seen_key seen (ss ++ (worker, command) ∷ []) old tallies new us' n'
   ran_next ss old mid new tallies us us' n n' worker command answer t ran next within rises sets counts = record {
     kept = ran.kept ++ next.one ∷ [];
-    runs = runs-append old.entries mid.entries new.entries ss ((worker, command) ∷ []) ran.kept (next.one ∷ []) ran.runs next.runs;
+    runs = runs-append old.pairs mid.pairs new.pairs ss ((worker, command) ∷ []) ran.kept (next.one ∷ []) ran.runs next.runs;
     appended = next.appended ∙ ap (λ h. h ++ records (next.one ∷ [])) ran.appended ∙ append_assoc old.history (records ran.kept) (records (next.one ∷ [])) ∙ ap (λ h. old.history ++ h) (sym (records-append ran.kept (next.one ∷ [])));
     taken_out = counts ∙ omega (arith, next.counted, ran.taken_out, sum_by-append (λ (k : Option (Record K V)). cond (is_none k) 1 0) ran.kept (next.one ∷ []));
     tallied = λ v b.
         ap (λ ts. slice_index_or ts v none) sets
         ∙ tallied_next tallies us (records_of v ss ran.kept) worker v command next.one t (ran.tallied v b) within (rises ∙ next.rises (slice_index_or us worker none))
-        ∙ ap (λ rs. plus (slice_index_or tallies v none) (tally rs)) (sym (own-append v old.entries mid.entries ss ((worker, command) ∷ []) ran.kept (next.one ∷ []) ran.runs));
+        ∙ ap (λ rs. plus (slice_index_or tallies v none) (tally rs)) (sym (own-append v old.pairs mid.pairs ss ((worker, command) ∷ []) ran.kept (next.one ∷ []) ran.runs));
   }
 
   pub refused_within : (ss : List (ℕ × Command K V)) (old new : Log K V) (tallies us : List Tally) (n : ℕ) → Ran cmp seen_key seen ss old tallies new us n → n ≤ length ss
-  refused_within ss old new tallies us n ran = omega (arith, ran.taken_out, count_by-le-length is_none ran.kept, as_many old.entries new.entries ss ran.kept ran.runs)
+  refused_within ss old new tallies us n ran = omega (arith, ran.taken_out, count_by-le-length is_none ran.kept, as_many old.pairs new.pairs ss ran.kept ran.runs)
 
   -- one command more leaves no number too large
   pub next_fits : (whole ss rest : List (ℕ × Command K V)) (old mid new : Log K V) (tallies us : List Tally) (n worker : ℕ) (command : Command K V) (answer : Result (Reply V) (Command K V))
-      → FitsEachRun cmp seen_key seen old.entries whole tallies → (ss ++ (worker, command) ∷ []) ++ rest ≡ whole → worker < length tallies → Ran cmp seen_key seen ss old tallies mid us n → Left mid new worker command answer → Fits (raised (slice_index_or us worker none) (reply_of_apply answer))
+      → FitsEachRun cmp seen_key seen old.pairs whole tallies → (ss ++ (worker, command) ∷ []) ++ rest ≡ whole → worker < length tallies → Ran cmp seen_key seen ss old tallies mid us n → Left mid new worker command answer → Fits (raised (slice_index_or us worker none) (reply_of_apply answer))
   next_fits whole ss rest old mid new tallies us n worker command answer fits e within ran next =
       let kept : List (Option (Record K V)) = ran.kept ++ next.one ∷ [] in
       let own : List (Record K V) = records_of worker ss ran.kept in
-      let runs = runs-append old.entries mid.entries new.entries ss ((worker, command) ∷ []) ran.kept (next.one ∷ []) ran.runs next.runs in
-      let records_are : records_of worker (ss ++ (worker, command) ∷ []) kept ≡ own ++ records (next.one ∷ []) = own-append worker old.entries mid.entries ss ((worker, command) ∷ []) ran.kept (next.one ∷ []) ran.runs ∙ ap (λ rs. own ++ rs) (own_one worker worker command next.one (eqb_same worker)) in
+      let runs = runs-append old.pairs mid.pairs new.pairs ss ((worker, command) ∷ []) ran.kept (next.one ∷ []) ran.runs next.runs in
+      let records_are : records_of worker (ss ++ (worker, command) ∷ []) kept ≡ own ++ records (next.one ∷ []) = own-append worker old.pairs mid.pairs ss ((worker, command) ∷ []) ran.kept (next.one ∷ []) ran.runs ∙ ap (λ rs. own ++ rs) (own_one worker worker command next.one (eqb_same worker)) in
       let same : plus (slice_index_or tallies worker none) (tally (records_of worker (ss ++ (worker, command) ∷ []) kept)) ≡ raised (slice_index_or us worker none) (reply_of_apply answer) =
       ap (λ rs. plus (slice_index_or tallies worker none) (tally rs)) records_are
       ∙ ap (λ (u : Tally). plus (slice_index_or tallies worker none) u) (tally-append own (records (next.one ∷ [])))
       ∙ sym (plus_assoc (slice_index_or tallies worker none) (tally own) (tally (records (next.one ∷ []))))
       ∙ ap (λ (u : Tally). plus u (tally (records (next.one ∷ [])))) (sym (ran.tallied worker within))
       ∙ sym (next.rises (slice_index_or us worker none)) in
-      subst (λ (t : Tally). Fits t) same (front_fits old.entries new.entries whole (ss ++ (worker, command) ∷ []) rest kept tallies worker fits e within runs)
+      subst (λ (t : Tally). Fits t) same (front_fits old.pairs new.pairs whole (ss ++ (worker, command) ∷ []) rest kept tallies worker fits e within runs)
 
 -- the next one of a list of which all have P
 pub next_has : {X : Type 0} (P : X → Type 0) (x : X) (xs ys : List X) → ys ≡ x ∷ xs → All P ys → P x

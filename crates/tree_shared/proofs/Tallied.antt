@@ -82,7 +82,7 @@ reply_kind cmp seen old new command Refused step a = absurd a
 reply_kind cmp seen old new command reply step a = absurd step
 
 pub kind_of : {K V A B : Type 0} (cmp : K → K → Ordering) (seen_key : K → A) (seen : V → B) (old new : Log K V) (command : Command K V) (reply : Reply V) → Appends cmp seen_key seen old new command reply → is_reply_to command reply ≡ true
-kind_of cmp seen_key seen old new command reply a = reply_kind cmp seen old.entries new.entries command reply a.step a.answered
+kind_of cmp seen_key seen old new command reply a = reply_kind cmp seen old.pairs new.pairs command reply a.step a.answered
 
 -- no number of a tally is larger than that of the calls
 pub fits_tally : {K V : Type 0} → (h : List (Record K V)) → length h < 2 ^ 64 → Fits (tally h)

@@ -43,7 +43,7 @@ module _ {K V A B : Type 0} (cmp : K → K → Ordering) (seen_key : K → A) (s
   -- The schedule ran. Its records were appended, as many commands were refused, and each worker's tally rose by that of its own records.
   pub record Ran (schedule : List (ℕ × Command K V)) (old : Log K V) (tallies : List Tally) (new : Log K V) (raised_tallies : List Tally) (refused : ℕ) : Type 0 where
     pub kept : List (Option (Record K V))
-    pub runs : RunsSchedule old.entries schedule kept new.entries
+    pub runs : RunsSchedule old.pairs schedule kept new.pairs
     pub appended : new.history ≡ old.history ++ records kept
     pub taken_out : refused ≡ count_by is_none kept
     pub tallied : (worker : ℕ) → worker < length tallies → slice_index_or raised_tallies worker none ≡ plus (slice_index_or tallies worker none) (tally (records_of worker schedule kept))

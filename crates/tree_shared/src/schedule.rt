@@ -38,7 +38,7 @@ pub fn run_schedule<K: IndexKey + SameClone, V: SameClone, const LEN: usize>(
     tallies: &mut [Tally],
 ) -> usize
     requires workers { All (λ entry. entry.0 < length tallies.old) schedule.items }
-    requires room { FitsEachRun K.cmp K.seen V.seen state.old.entries schedule.items tallies.old }
+    requires room { FitsEachRun K.cmp K.seen V.seen state.old.pairs schedule.items tallies.old }
     ensures { Ran K.cmp K.seen V.seen schedule.items state.old tallies.old state.new tallies.new result }
 {
     let mut refused = 0;

@@ -13,7 +13,7 @@ use Rattle.tree_model.specs.Pairs.{AllLarger, IsAscending, put}
 use Rattle.tree_model.proofs.Lists.{all_map, filter_all, filter_none}
 use Rattle.tree_model.proofs.LookUps.{larger_trans}
 use Rattle.tree_model.proofs.Order.{greater_from_less}
-use Rattle.tree_cells.proofs.Picks.{reachable_few}
+use Rattle.tree_array.proofs.Arrivals.{reachable_few}
 use Rattle.tree_split.proofs.Boundaries.{ascents_below}
 
 -- where the boundary says so, all neighbours ascend

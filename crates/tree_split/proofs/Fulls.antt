@@ -3,7 +3,7 @@ use Rattle.std.proofs.Common.{◌≡◌, ℕ, zero, suc, ◌<◌, Bool, true, fa
 use Rattle.tree_array.specs.Arrivals.{Arrivals, free}
 use Rattle.tree_array.specs.Insertion.{HasRoom, IsFull}
 use Rattle.tree_node.specs.declared.node.NodeOf.{NodeOf}
-use Rattle.tree_node.specs.Shape.{children_free, slot_room}
+use Rattle.tree_node.specs.Shape.{children_free, found_room}
 use Rattle.tree_node.specs.Tree.{keyed, unbounded}
 
 -- a full array takes nothing more
@@ -17,7 +17,7 @@ none_free LEN array (inr retired) = rw retired refl
 
 module _ {K : Type 0} {LEN : ℕ} (node : NodeOf K LEN) where
   -- a full array of children is no room
-  pub full_room : IsFull LEN (keyed node) → slot_room (Some node) ≡ 0
+  pub full_room : IsFull LEN (keyed node) → found_room (Some node) ≡ 0
   full_room full = by_last (unbounded node)
     where
       by_last : (last : Option ℕ) → children_free last node ≡ 0

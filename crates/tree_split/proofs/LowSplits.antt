@@ -14,7 +14,7 @@ use Rattle.tree_model.proofs.Lists.{all_map}
 use Rattle.tree_node.specs.declared.node.NodeOf.{NodeOf}
 use Rattle.tree_node.specs.Arenas.{TreeArenas}
 use Rattle.tree_node.specs.Parts.{IsPart, PutsChild, Replaces}
-use Rattle.tree_node.specs.Shape.{room, slot_room, spare}
+use Rattle.tree_node.specs.Shape.{room, found_room, spare}
 use Rattle.tree_node.specs.Tree.{AreParted, IsAbove, IsBelow, HasChildFor, Stands, keyed, unbounded, child_at, is_from, walk, leaves_at, children_of}
 use Rattle.tree_node.proofs.Frames.{Agrees, agrees_here, same_stands}
 use Rattle.tree_node.proofs.Lifts.{front_agrees, back_agrees, changed_agree, leaves_once_in, lifted, walk_now, walk_was}
@@ -170,7 +170,7 @@ module _ {K V : Type 0} {LEN : ℕ} {cmp : K → K → Ordering} (o : IsTotalOrd
 
     same_room : (lev z : ℕ) → Agrees lev mid new z → room lev new z ≡ room lev mid z
     same_room zero z same = rw leaves refl
-    same_room (suc lev) z same = ap slot_room (agrees_here lev mid new z same)
+    same_room (suc lev) z same = ap found_room (agrees_here lev mid new z same)
 
     new_room : 0 < room level mid y → 0 < room level new y
     new_room some = rw (same_room level y changed.0) some

@@ -4,7 +4,7 @@ use Rattle.std.specs.Prelude.{◌&&◌}
 use Rattle.std.specs.List.{AllByRecursion}
 use Rattle.std.specs.Ordering.{is_lt}
 use Rattle.std.specs.declared.cmp.Ordering.{Ordering}
-use Rattle.std.specs.declared.cmp.Ordering.TheVariants.{Less, Equal, Greater}
+use Rattle.std.specs.declared.cmp.Ordering.TheVariants.{Less}
 use Rattle.std.specs.Cmp.{IsTotalOrder}
 use Rattle.std.specs.Cmp.Derive.{both_true}
 use Rattle.std.proofs.Math.Nat.{pow-suc, pow-zero}
@@ -17,7 +17,7 @@ use Rattle.tree_model.proofs.Ascending.{less_from_test}
 use Rattle.tree_node.specs.declared.node.NodeOf.{NodeOf}
 use Rattle.tree_node.specs.Arenas.{TreeArenas}
 use Rattle.tree_node.specs.Parts.{IsPart, PutsChild}
-use Rattle.tree_node.specs.Shape.{held, room, slot_keyed}
+use Rattle.tree_node.specs.Shape.{held, room, found_keyed}
 use Rattle.tree_node.specs.Tree.{AreParted, HasChildFor, Stands, keyed, walk}
 use Rattle.tree_node.proofs.Frames.{Agrees, same_walk}
 use Rattle.tree_node.proofs.Places.{low_above, low_at}
@@ -115,7 +115,7 @@ module _ {K V : Type 0} {LEN : ℕ} {cmp : K → K → Ordering} (o : IsTotalOrd
   two = changed o Within level old mid id x y separator part splits e.node e.here lower [] e.last e.last_is whole at_last inner within new node' is_node puts others leaves
 
   -- it stays packed, and has a keyed child more
-  pub packed_split : IsPacked cmp (Some key) (suc level) new id × (slot_keyed (get old.nodes id) < slot_keyed (get new.nodes id))
+  pub packed_split : IsPacked cmp (Some key) (suc level) new id × (found_keyed (get old.nodes id) < found_keyed (get new.nodes id))
   packed_split = (
     record {
       node = node';

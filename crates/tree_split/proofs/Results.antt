@@ -1,5 +1,5 @@
 -- What is known of a result by its arm, and of what was read twice.
-use Rattle.std.proofs.Common.{◌≡◌, ℕ, Option, None, Some, Result, Ok, Err, sym, ◌∙◌}
+use Rattle.std.proofs.Common.{◌≡◌, ℕ, Option, None, Some, Result, Ok, Err, sym, subst, ◌∙◌}
 use Rattle.std.specs.declared.cmp.Ordering.{Ordering}
 use Rattle.std.specs.Result.{IfOk, MatchResult, OnErr}
 use Rattle.tree_node.specs.declared.node.NodeOf.{NodeOf}
@@ -18,6 +18,9 @@ of_success P Q R (Err e) h known = tt
 -- what was read twice is the same
 pub same_value : {A : Type 0} (x y : A) → Some x ≡ Some y → x ≡ y
 same_value x y both = cc
+
+pub of_value : {A : Type 0} (found : Option A) (x : A) → found ≡ Some x → (P : A → Type 0) → P x → (y : A) → found ≡ Some y → P y
+of_value found x is P known y read = subst P (same_value x y (sym is ∙ read)) known
 
 -- a key belongs to one child
 pub only_child : {K : Type 0} {LEN : ℕ} (cmp : K → K → Ordering) (key : K) (slot : Option (NodeOf K LEN)) (child x : ℕ) → HasChildFor cmp key slot child → HasChildFor cmp key slot x → child ≡ x

@@ -14,7 +14,7 @@ use Rattle.tree_node.specs.declared.node.NodeOf.{NodeOf}
 use Rattle.tree_node.specs.Arenas.{TreeArenas}
 use Rattle.tree_node.specs.Tree.{IsAbove, IsUpTo, HasChildFor, HasKind, Stands, keyed, unbounded, children_of, walk}
 use Rattle.tree_node.specs.Parts.{KeepsBounds, Replaces, Unchanged}
-use Rattle.tree_node.specs.Shape.{held, room, slot_keyed, spare}
+use Rattle.tree_node.specs.Shape.{held, room, found_keyed, spare}
 use Rattle.tree_packed.specs.Packed.{IsPacked}
 
 -- The parent takes no child more, and the child has too many to be built anew. Nothing has changed.
@@ -41,7 +41,7 @@ module _ {K V : Type 0} {LEN : ℕ} (cmp : K → K → Ordering) where
   abbrev pub KeepsPacked : ℕ → TreeArenas K V LEN → TreeArenas K V LEN → ℕ → ℕ → K → Type 0
   KeepsPacked level old new id child key =
       HasChildFor cmp key (get old.nodes id) child → room (level - 1) old child ≡ 0 → IsPacked cmp (Some key) level old id
-      → IsPacked cmp (Some key) level new id × (slot_keyed (get old.nodes id) < slot_keyed (get new.nodes id))
+      → IsPacked cmp (Some key) level new id × (found_keyed (get old.nodes id) < found_keyed (get new.nodes id))
 
   -- The part has the same pairs, between bounds that the key is within, and the child for the key has room.
   pub record HasMadeRoom (level : ℕ) (old new : TreeArenas K V LEN) (id : ℕ) (key : K) : Type 0 where

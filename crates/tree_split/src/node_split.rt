@@ -9,7 +9,7 @@ ghost use Rattle.tree_leaf.specs.Counting.{times};
 ghost use Rattle.tree_model.specs.Pairs.{IsAbsent};
 ghost use Rattle.slab.specs.Slab.{get};
 ghost use Rattle.tree_node.specs.Parts.{IsPart, PutsChild, Unchanged};
-ghost use Rattle.tree_node.specs.Shape.{slot_keyed};
+ghost use Rattle.tree_node.specs.Shape.{found_keyed};
 ghost use Rattle.tree_split.specs.Splits.{CutsNode, RebuildsNode, SplitResult};
 ghost use Rattle.tree_node.specs.Tree.{HasKind, children_of, keyed};
 
@@ -44,7 +44,7 @@ pub fn split_child<K: Ord + Drop, V: Drop, const LEN: usize>(
     ensures done { (level : ℕ) → 1 < level → IsPart K.cmp level arenas.old parent → IfOk result (λ split. SplitResult K.cmp split level arenas.old arenas.new parent target) }
     ensures leaves { (n : ℕ) → get arenas.new.leaves n ≡ get arenas.old.leaves n }
     ensures err { OnErr result (Unchanged arenas.old arenas.new) }
-    ensures many { OnErr result (limit LEN < slot_keyed (get arenas.old.nodes target)) }
+    ensures many { OnErr result (limit LEN < found_keyed (get arenas.old.nodes target)) }
     ensures places { HasPlaces arenas.old 0 1 → IsOk result }
 {
     let full = takes_no_more(arenas.node(parent));

@@ -1,7 +1,9 @@
 //! Arrays after random calls, each answer compared with that of a plain list.
+ghost use Rattle.std.specs.Prelude.{IsSome};
+ghost use Rattle.tree_array.specs.Arrivals.{arrival};
 ghost use Rattle.tree_array.specs.Length.{IsLen};
 
-use super::found::{found, questions, slot_from};
+use super::found::{found, slot_from};
 use super::plain::Plain;
 use std::alloc::{AllocError, Global};
 use std::ops::Bound;
@@ -88,10 +90,37 @@ fn compare_at<const LEN: usize, R: Abort>(
     assert!(rt; pair == at_key && val == at_key.map(|pair| pair.1));
     let least = entries.iter().copied().find(|pair| pair.0 >= key);
     let at_slot = match slot {
-        Some(slot) => Some((*array.key(slot), *array.val(slot))),
+        Some(slot) => Some(pair_in(array, slot)),
         None => None,
     };
     assert!(rt; at_slot == least);
+}
+
+/// The pair in a slot.
+fn pair_in<const LEN: usize>(array: &ArrayOf<u64, u64, LEN>, slot: u8) -> (u64, u64)
+    requires { IsSome (arrival array.now.arrivals slot) }
+{
+    (*array.key(slot), *array.val(slot))
+}
+
+/// Compares the entry at each place, and the last one.
+fn compare_places<const LEN: usize, R: Abort>(
+    rt: &R,
+    array: &ArrayOf<u64, u64, LEN>,
+    entries: &[(u64, u64)],
+) {
+    for place in 0..16 {
+        let at_place = match array.slot_at(place) {
+            Some(slot) => Some(pair_in(array, slot)),
+            None => None,
+        };
+        assert!(rt; at_place == entries.get(place as usize).copied());
+    }
+    let last = match array.last_slot() {
+        Some(slot) => Some(pair_in(array, slot)),
+        None => None,
+    };
+    assert!(rt; last == entries.last().copied());
 }
 
 /// Compares what each call that changes nothing answers.
@@ -105,6 +134,7 @@ fn compare_answers<const LEN: usize, R: Abort>(
     let entries = plain.entries(alloc)?;
     compare_on(rt, array, &entries);
     compare_back(rt, array, &entries);
+    compare_places(rt, array, &entries);
     for key in 0..KEYS {
         compare_at(rt, array, &entries, key);
     }
@@ -233,36 +263,55 @@ fn compare<const LEN: usize, R: Abort>(rt: &R, alloc: Global, seed: u64) -> Resu
         compare_answers(rt, alloc, &array, &plain)?;
     }
     let entries = plain.entries(alloc)?;
-    divide(
-        rt,
-        alloc,
-        &mut array,
-        &entries,
-        chance.below(16) as u8,
-        seed % 2 == 0,
-    )
+    let boundary = chance.below(16) as u8;
+    match seed / 4 % 4 {
+        0 => distribute(rt, alloc, &mut array, &entries, boundary, false),
+        1 => distribute(rt, alloc, &mut array, &entries, boundary, true),
+        2 => divide(rt, alloc, &mut array, &entries, boundary),
+        _ => {
+            array.rebuild();
+            holds(rt, alloc, &array, &entries)
+        }
+    }
 }
 
-/// Divides an array that has these entries, with the pair at the boundary given out or not.
+/// Divides an array that has these entries, which keeps those from the boundary on.
 fn divide<const LEN: usize, R: Abort>(
     rt: &R,
     alloc: Global,
     array: &mut ArrayOf<u64, u64, LEN>,
     entries: &[(u64, u64)],
     boundary: u8,
-    whole: bool,
+) -> Result<(), AllocError>
+    requires { IsLen LEN }
+{
+    let (first, rest) = entries.split_at(entries.len().min(boundary as usize));
+    let mut low = ArrayOf::new();
+    array.divide(boundary, &mut low);
+    holds(rt, alloc, &low, first)?;
+    holds(rt, alloc, array, rest)
+}
+
+/// Distributes an array that has these entries, with the pair at the boundary given out or not.
+fn distribute<const LEN: usize, R: Abort>(
+    rt: &R,
+    alloc: Global,
+    array: &mut ArrayOf<u64, u64, LEN>,
+    entries: &[(u64, u64)],
+    boundary: u8,
+    apart: bool,
 ) -> Result<(), AllocError>
     requires { IsLen LEN }
 {
     let (first, rest) = entries.split_at(entries.len().min(boundary as usize));
     let (mut low, mut high) = (ArrayOf::new(), ArrayOf::new());
-    if whole {
+    if apart {
+        let pair = array.distribute_apart(boundary, &mut low, &mut high);
+        assert!(rt; pair == rest.first().copied());
+        holds(rt, alloc, &high, rest.get(1..).unwrap_or(&[]))?;
+    } else {
         array.distribute(boundary, &mut low, &mut high);
         holds(rt, alloc, &high, rest)?;
-    } else {
-        let apart = array.distribute_apart(boundary, &mut low, &mut high);
-        assert!(rt; apart == rest.first().copied());
-        holds(rt, alloc, &high, rest.get(1..).unwrap_or(&[]))?;
     }
     assert!(rt; array.is_retired() && array.is_empty());
     holds(rt, alloc, &low, first)
@@ -276,29 +325,3 @@ fn answers_as_a_plain_list(rt: HostRuntime) {
     }
 }
 
-/// Searches of a full array, whose odd keys arrived in random order: at most `most` comparisons for every key, be it stored,
-/// between two that are, or outside.
-fn few_questions<const LEN: usize, R: Abort>(rt: &R, seed: u64, most: u64)
-    requires { IsLen LEN }
-{
-    let mut chance = Chance::new(seed);
-    let mut array = ArrayOf::<u64, u64, LEN>::new();
-    for _ in 0..2000 {
-        let key = chance.below(LEN as u64).wrapping_mul(2).wrapping_add(1);
-        let _ = array.insert::<false>(key, key);
-    }
-    assert!(rt; array.is_full());
-    for key in 0..2 * LEN as u64 + 1 {
-        let (found, asked) = questions(&array, key);
-        assert_eq!(rt; found, key % 2 == 1);
-        assert!(rt; asked <= most);
-    }
-}
-
-#[test]
-fn asks_few_questions(rt: HostRuntime) {
-    for seed in 1..101 {
-        few_questions::<15, _>(&rt, seed, 4);
-        few_questions::<7, _>(&rt, seed, 3);
-    }
-}

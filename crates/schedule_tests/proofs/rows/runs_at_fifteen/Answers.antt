@@ -7,6 +7,6 @@ run_schedule-requires g c = (
   omega arith,
   (
     c.in_ok-commands.ensures.workers,
-    zeros_have_room nat_cmp (λ (n : ℕ). n) (λ (n : ℕ). n) c.new-state.result.entries c.in_ok-commands.commands.items c.in_ok-commands.ensures.few,
+    zeros_have_room nat_cmp (λ (n : ℕ). n) (λ (n : ℕ). n) c.new-state.result.pairs c.in_ok-commands.commands.items c.in_ok-commands.ensures.few,
   ),
 )

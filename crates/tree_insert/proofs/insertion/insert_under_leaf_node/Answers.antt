@@ -16,8 +16,8 @@ make_room-requires g c =
     let below = leaf_full g.met.K.Ord.total _ c.args.arenas.now c.args.id c.args.leaf c.args.key c.args.val c.requires.part c.requires.child c.leaf_mut.result.now c.leaf_mut.ensures.value c.store_beyond.new.self c.store_beyond.result (rw c.array_mut.ensures.value at c.store_beyond.ensures) c.in-Full.key c.in-Full.val c.in-Full.is in
     (search fits, (search fits, (below.part, which_still _ 1 _ _ c.args.id c.args.leaf c.args.key c.args.val _ _ below)))
 
-pub leaf_mut-requires-2 : goal.leaf_mut-requires-2
-leaf_mut-requires-2 g c =
+pub leaf_mut-requires-in-Ok-Some : goal.leaf_mut-requires-in-Ok-Some
+leaf_mut-requires-in-Ok-Some g c =
     let below = leaf_full g.met.K.Ord.total _ c.args.arenas.now c.args.id c.args.leaf c.args.key c.args.val c.requires.part c.requires.child c.leaf_mut.result.now c.leaf_mut.ensures.value c.store_beyond.new.self c.store_beyond.result (rw c.array_mut.ensures.value at c.store_beyond.ensures) c.in-Full.key c.in-Full.val c.in-Full.is in
     let made : RoomResult g.K.Ord.cmp (Some c.in-Ok-Some.home) 1 (with_array c.args.arenas.now c.args.leaf c.leaf_mut.result.now c.store_beyond.new.self) c.make_room.new.arenas c.args.id c.args.leaf c.in-Full.key = rw c.in-Ok-Some.field-0-is at c.in-Ok-Some.ensures.done in
     let part = part_with_room _ 1 _ _ c.args.id c.args.leaf c.args.key c.args.val _ _ below (omega arith) c.make_room.new.arenas made.0 in
@@ -34,7 +34,7 @@ returns-in-Ok-Some g c =
     let made : RoomResult g.K.Ord.cmp (Some c.in-Ok-Some.home) 1 (with_array c.args.arenas.now c.args.leaf c.leaf_mut.result.now c.store_beyond.new.self) c.make_room.new.arenas c.args.id c.args.leaf c.in-Full.key = rw c.in-Ok-Some.field-0-is at c.in-Ok-Some.ensures.done in
     let part = part_with_room _ 1 _ _ c.args.id c.args.leaf c.args.key c.args.val _ _ below (omega arith) c.make_room.new.arenas made.0 in
     retried _ 1 _ _ c.args.id c.args.leaf c.args.key c.args.val _ _ below (omega arith) c.make_room.new.arenas made.0 _ _
-    (room_stored g.met.K.Ord.total _ c.make_room.new.arenas c.args.id c.in-Ok-Some.home c.in-Full.key c.in-Full.val part made.1 c.leaf_mut-2.result.now c.leaf_mut-2.ensures.value c.store.new.self c.store.result (rw c.array_mut-2.ensures.value at c.store.ensures) (made.0.child c.in-Ok-Some.home made.1))
+    (room_stored g.met.K.Ord.total _ c.make_room.new.arenas c.args.id c.in-Ok-Some.home c.in-Full.key c.in-Full.val part made.1 c.leaf_mut-in-Ok-Some.result.now c.leaf_mut-in-Ok-Some.ensures.value c.store.new.self c.store.result (rw c.array_mut-in-Ok-Some.ensures.value at c.store.ensures) (made.0.child c.in-Ok-Some.home made.1))
 
 pub returns-in-Ok-None : goal.returns-in-Ok-None
 returns-in-Ok-None g c =

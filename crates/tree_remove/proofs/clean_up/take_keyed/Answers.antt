@@ -1,7 +1,8 @@
 use Rattle.std.proofs.Common.{rules, IsSome, refl}
 use Rattle.slab.specs.Slab.{ContainsKey}
 use Rattle.tree_array.specs.Arrivals.{arrival}
-use Rattle.tree_remove.proofs.NodeWrites.{has_node, leaf_keyed_taken, internal_keyed_taken}
+use Rattle.tree_node.specs.declared.node.NodeOf.TheVariants.{Internal, Leaf}
+use Rattle.tree_remove.proofs.NodeWrites.{has_node, internal_kind, keyed_taken, leaf_kind}
 use Rattle.tree_remove.proofs.clean_up.take_keyed.Goals as goal
 
 pub node_mut-requires : goal.node_mut-requires
@@ -21,8 +22,8 @@ take-requires-in-Internal g c =
 
 pub returns-in-Leaf-clause-nodes : goal.returns-in-Leaf-clause-nodes
 returns-in-Leaf-clause-nodes g c =
-    leaf_keyed_taken g.K.Ord.cmp c.args.arenas.now.nodes c.args.id c.in-Leaf.node _ _ _ (rw c.in-Leaf.is at c.node_mut.ensures.value) c.take.ensures.pair c.take.ensures.left refl
+    keyed_taken g.K.Ord.cmp c.args.arenas.now.nodes c.args.id (Leaf c.in-Leaf.node) _ (rw c.in-Leaf.is at c.node_mut.ensures.value) (leaf_kind c.in-Leaf.node _) _ _ c.take.ensures.pair c.take.ensures.left refl
 
 pub returns-in-Internal-clause-nodes : goal.returns-in-Internal-clause-nodes
 returns-in-Internal-clause-nodes g c =
-    internal_keyed_taken g.K.Ord.cmp c.args.arenas.now.nodes c.args.id c.in-Internal.node _ _ _ (rw c.in-Internal.is at c.node_mut.ensures.value) c.take-in-Internal.ensures.pair c.take-in-Internal.ensures.left refl
+    keyed_taken g.K.Ord.cmp c.args.arenas.now.nodes c.args.id (Internal c.in-Internal.node) _ (rw c.in-Internal.is at c.node_mut.ensures.value) (internal_kind c.in-Internal.node _) _ _ c.take-in-Internal.ensures.pair c.take-in-Internal.ensures.left refl

@@ -1,14 +1,17 @@
 use Rattle.std.proofs.Common.{rules, ◌≡◌, ◌∙◌, ◌<◌, ◌≤◌, ◌==◌, ℕ, true, length, arith, Option, None, Some, refl, sym, ap}
 use Rattle.std.proofs.lemmas.Bool.Decides.{nat_tests}
 use Rattle.std.specs.Option.{option_eq}
+use Rattle.slab.specs.Slab.{get}
 use Rattle.tree_array.specs.Length.{limit}
 use Rattle.tree_array.specs.Sound.{IsSound}
+use Rattle.tree_array.specs.Insertion.{HasRoom}
 use Rattle.tree_node.specs.declared.node.NodeOf.TheVariants.{Leaf}
-use Rattle.tree_split.specs.Splits.{IsCut, is_at, low_part}
+use Rattle.tree_split.specs.Splits.{IsCut, is_at, low_part, GoesWhole}
 use Rattle.tree_split.proofs.Fulls.{full_room, not_full_room}
 use Rattle.tree_split.proofs.LeafRooms.{entries_kept, entries_parted, gives_all, leaf_room_by_rebuild, leaf_used}
-use Rattle.tree_split.proofs.Results.{on_err, same_value}
+use Rattle.tree_split.proofs.Results.{on_err, same_value, of_value}
 use Rattle.tree_node.proofs.Sizes.{fits}
+use Rattle.tree_node.specs.Tree.{keyed}
 use Rattle.tree_split.proofs.leaf_split.make_room.Goals as goal
 
 equal_itself : (n : ℕ) → (n == n) ≡ true
@@ -46,24 +49,25 @@ returns-then-full-clause-done g c =
 pub split_leaf-requires : goal.split_leaf-requires
 split_leaf-requires g c =
     let here = c.node.ensures ∙ ap Some c.in-Leaf.is in
-    let cut : IsCut g.K.Ord.cmp c.args.key.now c.in-Some.count c.leaf.result.now.array.entries = rw c.array.ensures at c.in-Some.ensures.cut.1 in (
+    let cut : IsCut g.K.Ord.cmp c.args.key.now c.in-Some.count c.leaf.result.now.array.entries = rw c.array.ensures at c.in-Some.ensures.cut.1 in
+    let some = not_full_room (Leaf c.in-Leaf.node) (λ full. let yes = c.is_full-full.ensures.1 full in let no = c.if-full.false in cc) in (
       search rules,
-      search rules,
-      c.requires.part,
-      c.requires.child,
-      λ leaf is.
-          let both : Some leaf ≡ Some c.leaf.result.now = sym is ∙ c.leaf.ensures in
-          let same : leaf ≡ c.leaf.result.now = cc in
-          rw (same, ← c.array.ensures) c.low_count.ensures.sound,
-      λ leaf is.
-          let both : Some leaf ≡ Some c.leaf.result.now = sym is ∙ c.leaf.ensures in
-          let same : leaf ≡ c.leaf.result.now = cc in
-          rw (same, ← c.array.ensures) c.in-Some.ensures.whole,
-      rw c.leaf.ensures cut,
-      λ node is.
-          let both : Some node ≡ Some (Leaf c.in-Leaf.node) = sym is ∙ here in
-          let same : node ≡ Leaf c.in-Leaf.node = cc in
-          rw same (not_full_room (Leaf c.in-Leaf.node) (λ full. let yes = c.is_full-full.ensures.1 full in let no = c.if-full.false in cc)),
+      (
+        search rules,
+        (
+          c.requires.part,
+          (
+            c.requires.child,
+            (
+              of_value (get c.args.arenas.now.leaves c.args.target) c.leaf.result.now c.leaf.ensures (λ leaf. IsSound g.K.Ord.cmp g.row.LEN leaf.array) (rw (← c.array.ensures) c.low_count.ensures.sound),
+              (
+                of_value (get c.args.arenas.now.leaves c.args.target) c.leaf.result.now c.leaf.ensures (λ leaf. GoesWhole g.row.LEN leaf.array c.in-Some.count) (rw (← c.array.ensures) c.in-Some.ensures.whole),
+                (rw c.leaf.ensures cut, of_value (get c.args.arenas.now.nodes c.args.id) (Leaf c.in-Leaf.node) here (λ node. HasRoom g.row.LEN (keyed node)) some),
+              ),
+            ),
+          ),
+        ),
+      ),
     )
 
 pub returns-clause-done : goal.returns-clause-done

@@ -1,6 +1,7 @@
 use Rattle.std.proofs.Common.{rules}
 use Rattle.tree_node.proofs.Sizes.{fits}
-use Rattle.tree_calls.proofs.FoundRoots.{root_found, lowered_at}
+use Rattle.tree_calls.proofs.FoundLevels.{found_part}
+use Rattle.tree_calls.proofs.FoundRoots.{lowered_at}
 use Rattle.tree_calls.proofs.root_calls.RootCalls.cleanup_root.Goals as goal
 
 pub level_of_root-level-requires : goal.level_of_root-level-requires
@@ -10,7 +11,7 @@ level_of_root-level-requires g c κs within =
 pub lower_root_at-requires : goal.lower_root_at-requires
 lower_root_at-requires g c =
     let found = c.level_of_root-level.ensures in
-    (search rules, (search fits, (found.node, (root_found g.K.Ord.cmp c.args.arenas.now c.args.root g.level c.level_of_root-level.result (assumption c.requires) found.node found.level (assumption c.requires), found.kind))))
+    (search rules, (search fits, (found.node, (found_part g.K.Ord.cmp c.args.arenas.now c.args.root g.level c.level_of_root-level.result (assumption c.requires) found.node found.level (assumption c.requires), found.kind))))
 
 pub returns-in_err-id : goal.returns-in_err-id
 returns-in_err-id g c =

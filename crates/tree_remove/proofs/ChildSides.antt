@@ -6,18 +6,18 @@ use Rattle.tree_node.specs.Tree.{front_at, back_at, is_from}
 
 module _ {K X : Type 0} (cmp : K → K → Ordering) (k : K) where
   -- a keyed child has some before it and some behind it
-  pub record SplitAt (pairs : List (K × X)) (last : X) (pair : K × X) : Type 0 where
+  pub record HasSides (pairs : List (K × X)) (last : X) (pair : K × X) : Type 0 where
     pub before : List (K × X)
     pub after : List (K × X)
     pub pairs_are : pairs ≡ before ++ pair ∷ after
     pub front_is : front_at (is_from cmp k) pairs ≡ map (λ c. c.1) before
     pub back_is : back_at (is_from cmp k) pairs last ≡ map (λ c. c.1) after ++ last ∷ []
 
-  pub split_at : (pairs : List (K × X)) (last : X) (pair : K × X) → least_from cmp pairs k ≡ Some pair → SplitAt pairs last pair
-  split_at [] last pair h = absurd (cc)
-  split_at (c ∷ rest) last pair h = by_test (is_from cmp k c.0) refl (split_at rest last pair) h
+  pub sides_at : (pairs : List (K × X)) (last : X) (pair : K × X) → least_from cmp pairs k ≡ Some pair → HasSides pairs last pair
+  sides_at [] last pair h = absurd (cc)
+  sides_at (c ∷ rest) last pair h = by_test (is_from cmp k c.0) refl (sides_at rest last pair) h
     where
-      by_test : (b : Bool) → is_from cmp k c.0 ≡ b → (least_from cmp rest k ≡ Some pair → SplitAt rest last pair) → cond b (Some c) (least_from cmp rest k) ≡ Some pair → SplitAt (c ∷ rest) last pair
+      by_test : (b : Bool) → is_from cmp k c.0 ≡ b → (least_from cmp rest k ≡ Some pair → HasSides rest last pair) → cond b (Some c) (least_from cmp rest k) ≡ Some pair → HasSides (c ∷ rest) last pair
       by_test true from later h =
           let same : c ≡ pair = cc in
           record { before = []; after = rest; pairs_are = rw same refl; front_is = rw from refl; back_is = rw from refl }
