@@ -1,7 +1,7 @@
 //! Tests whose steps are taken again where memory was refused.
 use std::alloc::AllocError;
 
-/// Whether the steps of a test succeed, at once or, where memory was refused on the way, the second time.
+/// Returns whether the steps of a test succeed, at once or, where memory was refused on the way, the second time.
 ///
 /// At most one request for memory of a test is refused: none in an ordinary run, the Nth with `--fail-alloc N`. So the
 /// steps answer as with ample memory at one of two times, and a call that refuses without need fails the test.

@@ -37,7 +37,7 @@ pub enum StoreResult<K, V> {
 }
 
 impl<K, V> StoreResult<K, V> {
-    /// The answer without what was there before.
+    /// Returns the answer without what was there before.
     pub fn into_insert(self) -> InsertResult<K, V>
         ensures { result ≡ as_insert self }
     {

@@ -26,14 +26,14 @@ impl<K, V, const LEN: usize> Model for Cells<K, V, LEN> {
 }
 
 impl<K, V, const LEN: usize> Cells<K, V, LEN> {
-    /// Cells without a pair.
+    /// Creates cells without a pair.
     pub fn new() -> Self
         ensures { result ≡ replicate LEN None }
     {
         Cells { rows: None }
     }
 
-    /// The key of a cell. The caller must know that it holds a pair.
+    /// Returns the key of a cell. The caller must know that it holds a pair.
     #[inline]
     pub fn key(&self, cell: u8) -> &K
         requires { IsSome (arrival self.now cell) }
@@ -45,7 +45,7 @@ impl<K, V, const LEN: usize> Cells<K, V, LEN> {
         }
     }
 
-    /// The pair of a cell. The caller must know that it holds one.
+    /// Returns the pair of a cell. The caller must know that it holds one.
     #[inline]
     pub fn pair(&self, cell: u8) -> (&K, &V)
         requires { IsSome (arrival self.now cell) }

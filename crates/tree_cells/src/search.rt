@@ -24,7 +24,7 @@ pub enum Place {
 }
 
 impl Place {
-    /// The slot of the entry, or [`BEYOND`] behind all entries.
+    /// Returns the slot of the entry, or [`BEYOND`] behind all entries.
     pub fn slot(self) -> u8
         ensures { result ≡ slot_of self }
     {
@@ -48,7 +48,7 @@ struct Window {
 }
 
 impl Window {
-    /// The place of the equal key, which was met at the end of the window.
+    /// Returns the place of the equal key, which was met at the end of the window.
     fn end(self, width: u8) -> Place
         requires some { 0 < self.count }
         requires within { self.place + width < 15 }
@@ -64,7 +64,7 @@ impl Window {
     }
 }
 
-/// Where the key of the asked stands. At most 4 comparisons among 15 slots, and 3 among 7.
+/// Finds where the key of the asked stands. Makes at most 4 comparisons among 15 slots, and 3 among 7.
 ///
 /// A search for a small key makes them all, and has no branch on what one of them answers. For a key of more
 /// than 16 bytes an equal one ends the search.
@@ -108,7 +108,7 @@ pub fn find<K: Ord, V, By, A: Asks<K, By>, const LEN: usize>(
     }
 }
 
-/// A window of seven places.
+/// Begins with a window of seven places.
 #[inline(always)]
 fn begin<K: Ord, V, By, A: Asks<K, By>, const LEN: usize>(
     cells: &Cells<K, V, LEN>,
@@ -197,7 +197,7 @@ fn halve<K: Ord, V, By, A: Asks<K, By>, const LEN: usize>(
     }
 }
 
-/// Where a key stands, with comparisons that nobody counts.
+/// Finds where a key stands, with comparisons that nobody counts.
 #[inline]
 pub fn find_key<K: Ord, V, const LEN: usize>(
     cells: &Cells<K, V, LEN>,
@@ -214,8 +214,8 @@ pub fn find_key<K: Ord, V, const LEN: usize>(
     find(cells, order, count, &mut &*key)
 }
 
-/// Where a key stands, as [`find_key`] tells. With `rightmost` the key is compared with the last one first, and a larger key
-/// is done: there belong keys that arrive in ascending order. That is at most one comparison more.
+/// Finds where a key stands, as [`find_key`] does. With `rightmost` it compares the key with the last one first, and a
+/// larger key is done: there belong keys that arrive in ascending order. That is at most one comparison more.
 #[inline]
 pub fn find_key_beyond<K: Ord, V, const LEN: usize>(
     cells: &Cells<K, V, LEN>,

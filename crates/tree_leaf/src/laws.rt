@@ -9,8 +9,8 @@ use crate::arena::{LeafId, SlotsOf};
 use crate::leaf::{IterOf, LeafOf, LinkedIter, RevIterOf, SlotWalk};
 use std::alloc::{AllocError, Global};
 
-/// The next entry of an iterator, in its leaf or behind a jump: the first that is left on its way. `None`
-/// where none is left.
+/// Returns the next entry of an iterator, in its leaf or behind a jump: the first that is left on its way. Returns
+/// `None` if none is left.
 pub fn next_or_jump<'t, K: Ord + Drop, V: Drop, S: SlotWalk, const LEN: usize>(
     walk: &mut LinkedIter<'t, LeafOf<K, V, LEN>, S>,
 ) -> Option<(&'t K, &'t V)>
@@ -22,7 +22,7 @@ pub fn next_or_jump<'t, K: Ord + Drop, V: Drop, S: SlotWalk, const LEN: usize>(
     }
 }
 
-/// All entries that are left of an iterator, in the order of its way. Returns `Err` if memory for the list
+/// Returns all entries that are left of an iterator, in the order of its way. Returns `Err` if memory for the list
 /// is refused. The caller must have an iterator that stands in a leaf of a chain.
 pub fn entries_left<'t, K: Ord + Drop, V: Drop, S: SlotWalk, const LEN: usize>(
     alloc: Global,
@@ -38,7 +38,7 @@ pub fn entries_left<'t, K: Ord + Drop, V: Drop, S: SlotWalk, const LEN: usize>(
     Ok(entries)
 }
 
-/// All entries of a leaf and of those behind it, in ascending order. Returns `Err` if memory for the list
+/// Returns all entries of a leaf and of those behind it, in ascending order. Returns `Err` if memory for the list
 /// is refused. The caller must name a leaf of a chain.
 pub fn entries_on<'t, K: Ord + Drop, V: Drop, N: Drop, const LEN: usize>(
     alloc: Global,
@@ -51,7 +51,7 @@ pub fn entries_on<'t, K: Ord + Drop, V: Drop, N: Drop, const LEN: usize>(
     entries_left(alloc, IterOf::new(arenas, id))
 }
 
-/// All entries of a leaf and of those before it, in descending order. Returns `Err` if memory for the list
+/// Returns all entries of a leaf and of those before it, in descending order. Returns `Err` if memory for the list
 /// is refused. The caller must name a leaf of a chain.
 pub fn entries_back<'t, K: Ord + Drop, V: Drop, N: Drop, const LEN: usize>(
     alloc: Global,

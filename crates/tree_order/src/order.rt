@@ -4,7 +4,7 @@ ghost use Rattle.std.specs.Prelude.{◌≡◌, ◌≢◌, ℕ, IsTrue, ◌+◌, 
 ghost use Rattle.tree_order.specs.Length.{IsLen};
 ghost use Rattle.tree_order.specs.Order.{clamped, named, names, ordinal_in, rises_in, IsFilled};
 
-/// No array has more slots.
+/// The greatest number of slots of an array.
 pub const MOST: usize = 15;
 
 /// The name that stands behind all slots.
@@ -16,7 +16,7 @@ const ONES: u64 = 0x0111_1111_1111_1111;
 /// Fifteen places that each name the slot of their own number.
 const IN_TURN: u64 = 0x0edc_ba98_7654_3210;
 
-/// The slot that a place names.
+/// Returns the slot that a place names.
 #[inline]
 pub fn slot_at(order: u64, place: u8) -> u8
     requires { place < 16 }
@@ -25,7 +25,7 @@ pub fn slot_at(order: u64, place: u8) -> u8
     (order >> (4 * place) & 15) as u8
 }
 
-/// The first places alone.
+/// Keeps the first places alone.
 fn first_places(order: u64, count: u8) -> u64
     requires { count ≤ 15 }
     ensures small { result < 2 ^ (4 * count) }
@@ -35,7 +35,7 @@ fn first_places(order: u64, count: u8) -> u64
     order - (order >> bits << bits)
 }
 
-/// The places with a slot let in before those from `place` on.
+/// Lets a slot in before the places from `place` on.
 fn let_in(order: u64, place: u8, count: u8, slot: u8) -> u64
     requires place { place ≤ count }
     requires room { count < 15 }
@@ -52,7 +52,7 @@ fn let_in(order: u64, place: u8, count: u8, slot: u8) -> u64
     low + ((high * 16 + slot as u64) << bits)
 }
 
-/// The places without one of them.
+/// Takes one of the places out.
 fn let_out(order: u64, place: u8, count: u8) -> u64
     requires place { place < count }
     requires few { count ≤ 15 }
@@ -67,7 +67,7 @@ fn let_out(order: u64, place: u8, count: u8) -> u64
     low + ((high >> 4) << bits)
 }
 
-/// The order of an array with these places alone.
+/// Fills the places behind these, as an array's order has them.
 fn filled<const LEN: usize>(places: u64, count: u8) -> u64
     requires len { IsLen LEN }
     requires some { 0 < count }
@@ -82,7 +82,7 @@ fn filled<const LEN: usize>(places: u64, count: u8) -> u64
     places + ((tail + (15 << (4 * spare))) << (4 * count))
 }
 
-/// The order of entries that stand in the first slots, one after another.
+/// Returns the order of entries that stand in the first slots, one after another.
 pub fn in_turn<const LEN: usize>(count: u8) -> u64
     requires len { IsLen LEN }
     requires few { count ≤ LEN }
@@ -95,7 +95,7 @@ pub fn in_turn<const LEN: usize>(count: u8) -> u64
     filled::<LEN>(first_places(IN_TURN, count), count)
 }
 
-/// The order with a slot let in before the places from `place` on.
+/// Returns the order with a slot let in before the places from `place` on.
 pub fn inserted<const LEN: usize>(order: u64, place: u8, count: u8, slot: u8) -> u64
     requires len { IsLen LEN }
     requires place { place ≤ count }
@@ -110,7 +110,7 @@ pub fn inserted<const LEN: usize>(order: u64, place: u8, count: u8, slot: u8) ->
     filled::<LEN>(places, count + 1)
 }
 
-/// The order without one of its places.
+/// Returns the order without one of its places.
 pub fn removed<const LEN: usize>(order: u64, place: u8, count: u8) -> u64
     requires len { IsLen LEN }
     requires place { place < count }
@@ -126,7 +126,7 @@ pub fn removed<const LEN: usize>(order: u64, place: u8, count: u8) -> u64
     filled::<LEN>(places, count - 1)
 }
 
-/// The order with another slot at a place.
+/// Returns the order with another slot at a place.
 pub fn renamed<const LEN: usize>(order: u64, place: u8, count: u8, slot: u8) -> u64
     requires len { IsLen LEN }
     requires place { place < count }
@@ -140,14 +140,14 @@ pub fn renamed<const LEN: usize>(order: u64, place: u8, count: u8, slot: u8) -> 
     filled::<LEN>(let_in(others, place, count - 1, slot), count)
 }
 
-/// The place, or the one behind the last entry where it lies behind that.
+/// Returns the place, or the one behind the last entry if it lies behind that.
 pub fn clamp(place: u8, count: u8) -> u8
     ensures { result ≡ clamped count place }
 {
     if place < count { place } else { count }
 }
 
-/// The place that names a slot. The caller must know that there is one.
+/// Returns the place that names a slot, by a walk over the places. The caller must know that there is one.
 pub fn place_of(order: u64, count: u8, slot: u8) -> u8
     requires few { count ≤ 15 }
     requires there { (i : ℕ) × (i < count) × (named order i ≡ slot) }
@@ -162,7 +162,7 @@ pub fn place_of(order: u64, count: u8, slot: u8) -> u8
     unreachable!()
 }
 
-/// The ordinal of each slot: one more than its place, or 0 where no place names it.
+/// Returns the ordinal of each slot: one more than its place, or 0 if no place names it.
 pub fn ordinals(order: u64, count: u8) -> [u8; MOST]
     requires few { count ≤ 15 }
     requires within { (i : ℕ) → i < count → named order i < 15 }
@@ -176,7 +176,7 @@ pub fn ordinals(order: u64, count: u8) -> [u8; MOST]
     ordinals
 }
 
-/// Whether the entries stand in the first slots, one after another, as those do that arrived in ascending order.
+/// Returns whether the entries stand in the first slots, one after another, as those do that arrived in ascending order.
 fn is_in_turn(order: u64, count: u8) -> bool
     requires { count ≤ 15 }
     ensures { IsTrue result → (i : ℕ) → i < count → named order i ≡ i }
@@ -184,7 +184,7 @@ fn is_in_turn(order: u64, count: u8) -> bool
     first_places(order, count) == first_places(IN_TURN, count)
 }
 
-/// How many slots have a higher ordinal than the one with an ordinal before them.
+/// Counts the slots that have a higher ordinal than the last slot before them that has one.
 pub fn count_rises(order: u64, count: u8, made: u8) -> u8
     requires few { count ≤ 15 }
     requires within { (i : ℕ) → i < count → named order i < 15 }

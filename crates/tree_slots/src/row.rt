@@ -35,7 +35,7 @@ impl<T> Blank<T> {
 }
 
 impl<T, const LEN: usize> Row<T, LEN> {
-    /// A row that owns one value, in the slot `index`.
+    /// Creates a row that owns one value, in the slot `index`.
     pub fn with(index: usize, value: T) -> Self
         requires { index < LEN }
         ensures { result.slots ≡ slice_set (replicate LEN None) index (Some value) }
@@ -61,7 +61,7 @@ impl<T, const LEN: usize> Row<T, LEN> {
         Row { slots }
     }
 
-    /// A row without a value, whose bytes are copies of the first slot's. This row stays what it was.
+    /// Creates a row without a value, whose bytes are copies of the first slot's. This row stays what it was.
     pub fn spare(&mut self) -> Self
         requires { 0 < LEN }
         ensures empty { result.slots ≡ replicate LEN None }
@@ -75,7 +75,7 @@ impl<T, const LEN: usize> Row<T, LEN> {
         row
     }
 
-    /// The value of a slot. The caller must know that there is one.
+    /// Returns the value of a slot. The caller must know that there is one.
     pub fn get(&self, index: usize) -> &T
         requires { IsSome (slice_index_or self.now.slots index None) }
         ensures { slice_index_or self.now.slots index None ≡ Some result.now }

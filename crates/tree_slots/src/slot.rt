@@ -30,7 +30,7 @@ impl<T> Move for Slot<T> {
 impl<T> Slot<T> {
     ghost use Rattle.std.specs.Prelude.{◌≡◌, Some, None, IsSome};
 
-    /// A slot that owns a value.
+    /// Creates a slot that owns a value.
     pub fn full(value: T) -> Self
         ensures { result ≡ Some value }
     {
@@ -46,7 +46,7 @@ impl<T> Slot<T> {
         value
     }
 
-    /// An empty slot. It gets a copy of the bytes of this one, which stays what it was.
+    /// Creates an empty slot. It gets a copy of the bytes of this one, which stays what it was.
     pub fn spare(&mut self) -> Self
         ensures empty { result ≡ None }
         ensures same { self.new ≡ self.old }
@@ -55,7 +55,7 @@ impl<T> Slot<T> {
         unsafe { place.read() }
     }
 
-    /// The value. The caller must know that there is one.
+    /// Returns the value. The caller must know that there is one.
     pub fn get(&self) -> &T
         requires { IsSome self.now }
         ensures { self.now ≡ Some result.now }

@@ -15,11 +15,11 @@ use tree_leaf::arena::{LeafId, NodeId};
 use tree_leaf::leaf::{IterOf, LeafOf, LinkedIter, RevIterOf};
 use tree_node::node::{ArenasOf, NodeOf};
 
-/// A walk that stands before the least entry under a number of this level, in its leaf. None where no
-/// entry is there. No comparisons; it reads one array a level, and those of the leaves without an entry
+/// Returns a walk that stands before the least entry under a number of this level, in its leaf, or `None` if no
+/// entry is there. Makes no comparisons. Reads one array a level, and those of the leaves without an entry
 /// before that one.
 ///
-/// Caller's condition, here and below: a well-formed part of a tree stands there, whose leaves are in
+/// The caller must see, here and below, that a well-formed part of a tree stands there, whose leaves are in
 /// one chain, or a retired node.
 pub fn min_at<'a, K: Ord + Drop, V: Drop, const LEN: usize>(
     arenas: &'a ArenasOf<K, V, LEN>,
@@ -34,7 +34,7 @@ pub fn min_at<'a, K: Ord + Drop, V: Drop, const LEN: usize>(
     walk_from_end::<K, V, ArrayIter, LEN>(arenas, level, id)
 }
 
-/// A walk, against the order of keys, that stands before the greatest entry under a number of this level.
+/// Returns a walk, against the order of keys, that stands before the greatest entry under a number of this level.
 /// The mirror of [`min_at`].
 pub fn max_at<'a, K: Ord + Drop, V: Drop, const LEN: usize>(
     arenas: &'a ArenasOf<K, V, LEN>,
@@ -49,8 +49,8 @@ pub fn max_at<'a, K: Ord + Drop, V: Drop, const LEN: usize>(
     walk_from_end::<K, V, ArrayRevIter, LEN>(arenas, level, id)
 }
 
-/// A walk that stands before the entry under a number of this level that it comes to first, either way: what
-/// [`min_at`] and [`max_at`] are.
+/// Returns a walk, either way, that stands before the entry under a number of this level that it comes to first: what
+/// [`min_at`] and [`max_at`] return.
 pub fn walk_from_end<'a, K: Ord + Drop, V: Drop, S: ChildWalk, const LEN: usize>(
     arenas: &'a ArenasOf<K, V, LEN>,
     level: usize,
@@ -65,7 +65,7 @@ pub fn walk_from_end<'a, K: Ord + Drop, V: Drop, S: ChildWalk, const LEN: usize>
     Some(LinkedIter::new(arenas, leaf))
 }
 
-/// The leaf with an entry that a walk comes to first, of those under a number of this level.
+/// Returns the leaf with an entry that a walk comes to first, of those under a number of this level.
 fn end_leaf_at<K: Ord + Drop, V: Drop, S: ChildWalk, const LEN: usize>(
     arenas: &ArenasOf<K, V, LEN>,
     level: usize,
@@ -96,7 +96,7 @@ fn end_leaf_at<K: Ord + Drop, V: Drop, S: ChildWalk, const LEN: usize>(
     }
 }
 
-/// The first of these leaves that has an entry.
+/// Returns the first of these leaves that has an entry.
 fn end_of_leaves<K: Ord + Drop, V: Drop, S: ChildWalk, const LEN: usize>(
     arenas: &ArenasOf<K, V, LEN>,
     leaves: ChildrenOf<K, LeafId, S, LEN>,
@@ -113,7 +113,7 @@ fn end_of_leaves<K: Ord + Drop, V: Drop, S: ChildWalk, const LEN: usize>(
     None
 }
 
-/// The leaf, if it has an entry.
+/// Returns the leaf if it has an entry.
 fn with_entry<K: Ord + Drop, V: Drop, const LEN: usize>(
     arenas: &ArenasOf<K, V, LEN>,
     leaf: LeafId,
