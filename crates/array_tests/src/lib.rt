@@ -1,7 +1,11 @@
-//! Tests of arrays, and of leaves in a chain, through their public items.
+//! Tests of slots, of arrays, and of leaves in a chain, through their public items.
 #![tactic(auto)]
 
 #[cfg(test)]
 mod array;
 #[cfg(test)]
 mod leaf;
+#[cfg(test)]
+mod slots;
+#[cfg(test)]
+mod token;

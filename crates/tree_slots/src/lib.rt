@@ -3,5 +3,3 @@
 
 pub mod row;
 pub mod slot;
-#[cfg(test)]
-mod tests;

@@ -1,23 +1,14 @@
 //! Every value that an array took is dropped once.
+use crate::token::Token;
 use std::cell::Cell;
 use std::ops::Bound;
 use tree_array::array::{Array, ArrayOf, RemoveResult};
-
-/// Counts where it is dropped.
-struct Token<'c>(&'c Cell<u64>);
-
-impl Drop for Token<'_> {
-    fn drop(self) {
-        self.0.set(self.0.get().saturating_add(1));
-        let Token(_) = self;
-    }
-}
 
 /// An array with these keys.
 fn of<'c>(keys: &[u64], drops: &'c Cell<u64>) -> Array<u64, Token<'c>> {
     let mut array = ArrayOf::new();
     for key in keys {
-        let _ = array.insert::<false>(*key, Token(drops));
+        let _ = array.insert::<false>(*key, Token::new(0, drops));
     }
     array
 }
@@ -35,9 +26,9 @@ fn with_the_array(rt: HostRuntime) {
 fn with_what_is_refused_replaced_or_removed(rt: HostRuntime) {
     let drops = Cell::new(0);
     let mut array = of(&[5, 3, 9, 7], &drops);
-    drop(array.insert::<false>(3, Token(&drops)));
+    drop(array.insert::<false>(3, Token::new(0, &drops)));
     assert_eq!(rt; drops.get(), 1);
-    drop(array.insert::<true>(3, Token(&drops)));
+    drop(array.insert::<true>(3, Token::new(0, &drops)));
     assert_eq!(rt; drops.get(), 2);
     assert_eq!(rt; array.remove_if(&9, |_| true), RemoveResult::Success);
     assert_eq!(rt; drops.get(), 3);

@@ -1,4 +1,4 @@
-use Rattle.std.proofs.Common.{rules, arith, Some}
+use Rattle.std.proofs.Common.{arith, Some}
 use Rattle.tree_split.specs.Splits.{LacksRoom, RoomResult}
 use Rattle.tree_split.proofs.LeafRooms.{leaf_used}
 use Rattle.tree_insert.proofs.Descents.{no_split}

@@ -1,21 +1,12 @@
 //! The sizes of slots and rows, and what they drop.
-use crate::row::Row;
-use crate::slot::Slot;
+use crate::token::Token;
 use std::alloc::AllocError;
 use std::cell::Cell;
 use std::marker::{Send, Sync};
 use std::mem::size_of;
 use std::test::Fail;
-
-/// Counts where it is dropped.
-struct Token<'c>(u64, &'c Cell<u64>);
-
-impl Drop for Token<'_> {
-    fn drop(self) {
-        self.1.set(self.1.get().saturating_add(1));
-        let Token(_, _) = self;
-    }
-}
+use tree_slots::row::Row;
+use tree_slots::slot::Slot;
 
 fn goes_to_threads<T: Send + Sync>(_sent: &T) {}
 
@@ -31,19 +22,19 @@ fn sizes(rt: HostRuntime) {
 #[test]
 fn a_slot_drops_its_values_once(rt: HostRuntime) {
     let drops = Cell::new(0);
-    let mut slot = Slot::full(Token(1, &drops));
+    let mut slot = Slot::full(Token::new(1, &drops));
     let number = Slot::full(1);
     goes_to_threads(&number);
     assert_eq!(rt; number.into_inner(), 1);
     let mut other = slot.spare();
-    assert_eq!(rt; (slot.get().0, drops.get()), (1, 0));
+    assert_eq!(rt; (slot.get().number, drops.get()), (1, 0));
     let first = slot.take();
-    assert_eq!(rt; (first.0, drops.get()), (1, 0));
+    assert_eq!(rt; (first.number, drops.get()), (1, 0));
     drop(first);
     assert_eq!(rt; drops.get(), 1);
-    other.put(Token(2, &drops));
-    let second = other.replace(Token(3, &drops));
-    assert_eq!(rt; (second.0, other.get().0, drops.get()), (2, 3, 1));
+    other.put(Token::new(2, &drops));
+    let second = other.replace(Token::new(3, &drops));
+    assert_eq!(rt; (second.number, other.get().number, drops.get()), (2, 3, 1));
     drop(second);
     drop(other.into_inner());
     assert_eq!(rt; drops.get(), 3);
@@ -54,16 +45,16 @@ fn a_slot_drops_its_values_once(rt: HostRuntime) {
 #[test]
 fn a_row_drops_its_values_once(rt: HostRuntime) {
     let drops = Cell::new(0);
-    let mut row: Row<Token, 3> = Row::with(1, Token(10, &drops));
-    row.put(2, Token(20, &drops));
-    row.put(0, Token(30, &drops));
-    assert_eq!(rt; (row.get(0).0, row.get(1).0, row.get(2).0), (30, 10, 20));
-    drop(row.replace(2, Token(40, &drops)));
-    assert_eq!(rt; (row.get(2).0, drops.get()), (40, 1));
+    let mut row: Row<Token, 3> = Row::with(1, Token::new(10, &drops));
+    row.put(2, Token::new(20, &drops));
+    row.put(0, Token::new(30, &drops));
+    assert_eq!(rt; (row.get(0).number, row.get(1).number, row.get(2).number), (30, 10, 20));
+    drop(row.replace(2, Token::new(40, &drops)));
+    assert_eq!(rt; (row.get(2).number, drops.get()), (40, 1));
     drop(row.take(1));
     assert_eq!(rt; drops.get(), 2);
-    row.put(1, Token(50, &drops));
-    assert_eq!(rt; (row.take(0).0, row.take(1).0, row.take(2).0), (30, 50, 40));
+    row.put(1, Token::new(50, &drops));
+    assert_eq!(rt; (row.take(0).number, row.take(1).number, row.take(2).number), (30, 50, 40));
     assert_eq!(rt; drops.get(), 5);
     row.discard();
     assert_eq!(rt; drops.get(), 5);
