@@ -48,13 +48,19 @@ fn a_row_drops_its_values_once(rt: HostRuntime) {
     let mut row: Row<Token, 3> = Row::with(1, Token::new(10, &drops));
     row.put(2, Token::new(20, &drops));
     row.put(0, Token::new(30, &drops));
-    assert_eq!(rt; (row.get(0).number, row.get(1).number, row.get(2).number), (30, 10, 20));
+    assert_eq!(rt;
+        (row.get(0).number, row.get(1).number, row.get(2).number),
+        (30, 10, 20)
+    );
     drop(row.replace(2, Token::new(40, &drops)));
     assert_eq!(rt; (row.get(2).number, drops.get()), (40, 1));
     drop(row.take(1));
     assert_eq!(rt; drops.get(), 2);
     row.put(1, Token::new(50, &drops));
-    assert_eq!(rt; (row.take(0).number, row.take(1).number, row.take(2).number), (30, 50, 40));
+    assert_eq!(rt;
+        (row.take(0).number, row.take(1).number, row.take(2).number),
+        (30, 50, 40)
+    );
     assert_eq!(rt; drops.get(), 5);
     row.discard();
     assert_eq!(rt; drops.get(), 5);

@@ -95,12 +95,7 @@ fn insert_under_leaf_node<const UPSERT: bool, K: IndexKey, V: Drop, const LEN: u
         StoreResult::Full(key, val) => match make_room(arenas, id, leaf, &key) {
             Err(_) => Err((key, val)),
             Ok(None) => Ok(StoreResult::Full(key, val)),
-            Ok(Some(home)) => Ok(
-                arenas
-                    .leaf_mut(home)
-                    .array_mut()
-                    .store::<UPSERT>(key, val),
-            ),
+            Ok(Some(home)) => Ok(arenas.leaf_mut(home).array_mut().store::<UPSERT>(key, val)),
         },
         answer => Ok(answer),
     }

@@ -16,7 +16,7 @@ use Rattle.tree_node.specs.Routing.{IsChildAt}
 use Rattle.tree_remove.specs.CleanUps.{HasChildIn}
 use Rattle.tree_node.specs.Parts.{IsPart, Replaces}
 use Rattle.tree_remove.specs.Removes.{RemovesUnder}
-use Rattle.tree_node.specs.Tree.{HasChildFor, HasKind, IsRetired, Stands, child_of, keyed, nodes_at, unbounded}
+use Rattle.tree_node.specs.Tree.{HasChildFor, IsRetired, Stands, child_of, keyed, nodes_at, unbounded}
 use Rattle.tree_node.proofs.ChildChanges.{child_part, same_node, was}
 use Rattle.tree_node.proofs.Children.{leaf_there}
 use Rattle.tree_node.proofs.Frames.{head_here}

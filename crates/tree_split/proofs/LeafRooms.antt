@@ -198,17 +198,17 @@ module _ {K V : Type 0} {LEN : ℕ} {cmp : K → K → Ordering} (o : IsTotalOrd
         let update = Updates-with_value mid.nodes id node' (rw is_node refl) in
         let none : AllByRecursion (λ c. is_from cmp key c.0 ≡ false) at.before = all_map (λ c less. ap is_ge less) at.before at.smaller in
         let old_home : child_at (is_from cmp key) at.onward (stood).last ≡ x =
-            sym (chosen_past (is_from cmp key) at.before at.onward (stood).last none) ∙ rw (← at.split) (goes node parent_was) in
+        sym (chosen_past (is_from cmp key) at.before at.onward (stood).last none) ∙ rw (← at.split) (goes node parent_was) in
         rw (
           update.changed,
           last_now o (IsBetween cmp key) 0 old mid id x y separator part splits_low
-          node parent_was at.before at.onward stood.last (last_is node parent_was) at.split (at.child ∙ goes node parent_was)
-          (λ low_key high_key inside. (low_for cmp key low_key at.before at.smaller inside.0, high_for cmp key at.onward high_key at.up_to inside.1)) (tt, tt)
-          (record mid { nodes = with_value mid.nodes id node' }) node' update.changed puts (λ n differs. update.others n differs) refl,
+              node parent_was at.before at.onward stood.last (last_is node parent_was) at.split (at.child ∙ goes node parent_was)
+              (λ low_key high_key inside. (low_for cmp key low_key at.before at.smaller inside.0, high_for cmp key at.onward high_key at.up_to inside.1)) (tt, tt)
+              (record mid { nodes = with_value mid.nodes id node' }) node' update.changed puts (λ n differs. update.others n differs) refl,
           entries_now o (IsBetween cmp key) 0 old mid id x y separator part splits_low
-          node parent_was at.before at.onward stood.last (last_is node parent_was) at.split (at.child ∙ goes node parent_was)
-          (λ low_key high_key inside. (low_for cmp key low_key at.before at.smaller inside.0, high_for cmp key at.onward high_key at.up_to inside.1)) (tt, tt)
-          (record mid { nodes = with_value mid.nodes id node' }) node' update.changed puts (λ n differs. update.others n differs) refl,
+              node parent_was at.before at.onward stood.last (last_is node parent_was) at.split (at.child ∙ goes node parent_was)
+              (λ low_key high_key inside. (low_for cmp key low_key at.before at.smaller inside.0, high_for cmp key at.onward high_key at.up_to inside.1)) (tt, tt)
+              (record mid { nodes = with_value mid.nodes id node' }) node' update.changed puts (λ n differs. update.others n differs) refl,
           chosen_past (is_from cmp key) at.before ((separator, y) ∷ at.onward) (stood).last none,
           old_home,
         ) refl

@@ -135,7 +135,11 @@ fn split_leaf<K: IndexKey, V: Drop, const LEN: usize>(
 fn side_for<K: Ord>(key: &K, separator: &K, low: LeafId, high: LeafId) -> LeafId
     ensures { result ≡ (if is_from K.cmp key.now separator.now then low else high) }
 {
-    if separator.cmp(key).is_ge() { low } else { high }
+    if separator.cmp(key).is_ge() {
+        low
+    } else {
+        high
+    }
 }
 
 /// Returns a clone of the key at this place in key order.

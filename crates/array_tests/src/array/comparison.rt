@@ -324,4 +324,3 @@ fn answers_as_a_plain_list(rt: HostRuntime) {
         assert!(rt; succeeds(|| compare::<7, _>(&rt, rt.alloc(), seed)));
     }
 }
-

@@ -11,7 +11,7 @@ use super::{ArrayOf, RemoveResult};
 use std::ops::Bound;
 use tree_cells::search::{Place, find_key};
 use tree_model::range_contains;
-use tree_order::order::{place_of, ordinals, removed as removed_from, slot_at};
+use tree_order::order::{ordinals, place_of, removed as removed_from, slot_at};
 
 impl<K: Ord + Drop, V: Drop, const LEN: usize> ArrayOf<K, V, LEN> {
     /// Takes the pair of a slot, which must be reachable and is then spent. Returns `Retired` with the last

@@ -64,12 +64,11 @@ returns-clause-done g c = λ gives.
     leaf_read c.args.arenas.now c.reserve.new.self c.in_ok-reserve.ensures.0 c.args.target c.leaf.result.now c.leaf_mut.result.now c.leaf.ensures c.leaf_mut.ensures.value in
     let high : c.cut_low.new.array ≡ in_order (drop c.args.count c.leaf_mut.result.now.array.entries) = rw c.array_mut.ensures.value at c.cut_low.ensures.high in
     let low : c.cut_low.new.low ≡ in_order (take c.args.count c.leaf_mut.result.now.array.entries) = rw c.array_mut.ensures.value at c.cut_low.ensures.low in
-    let last : slice_get c.leaf_mut.result.now.array.entries (c.args.count - 1) ≡ Some separator.0 = rw (c.array.ensures, read) at separator.1 in
-    (
+    let last : slice_get c.leaf_mut.result.now.array.entries (c.args.count - 1) ≡ Some separator.0 = rw (c.array.ensures, read) at separator.1 in (
       leaf_room_by_split g.met.K.Ord.total c.args.arenas.now c.args.id c.args.target c.args.key.now c.requires.part c.requires.child _ _ _ c.args.count c.leaf_mut.result.now _ _ separator.0 c.in_ok-separator.separator
-      c.in_ok-reserve.ensures.0 c.leaf_mut.ensures.value high low c.in-Ok.ensures last separator.2 c.requires.cut c.requires.sound _ c.node_mut.ensures.value gives _ c.put_leaf.ensures,
+          c.in_ok-reserve.ensures.0 c.leaf_mut.ensures.value high low c.in-Ok.ensures last separator.2 c.requires.cut c.requires.sound _ c.node_mut.ensures.value gives _ c.put_leaf.ensures,
       rw c.side_for-home.ensures (home_by_split g.met.K.Ord.total c.args.arenas.now c.args.id c.args.target c.args.key.now c.requires.part c.requires.child _ _ _ c.args.count c.leaf_mut.result.now _ _ separator.0 c.in_ok-separator.separator
-      c.in_ok-reserve.ensures.0 c.leaf_mut.ensures.value high low c.in-Ok.ensures last separator.2 c.requires.cut c.requires.sound _ c.node_mut.ensures.value _ c.put_leaf.ensures),
+          c.in_ok-reserve.ensures.0 c.leaf_mut.ensures.value high low c.in-Ok.ensures last separator.2 c.requires.cut c.requires.sound _ c.node_mut.ensures.value _ c.put_leaf.ensures),
     )
 
 pub returns-clause-shares : goal.returns-clause-shares
