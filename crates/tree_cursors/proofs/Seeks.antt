@@ -1,6 +1,5 @@
 -- A walk that seeks the first pair within a bound: what it has passed, and what is left.
-use Rattle.std.proofs.Common.{◌≡◌, ℕ, true, false, List, [], ◌∷◌, ◌++◌, Option, None, Some, MatchOption, ◌⊎◌, inl, inr, refl, sym, ap, subst, ◌∙◌, append_assoc}
-use mathlib.Core.List.{reverse_aux}
+use Rattle.std.proofs.Common.{◌≡◌, ℕ, true, false, List, [], ◌∷◌, ◌++◌, Option, None, Some, MatchOption, ◌⊎◌, inl, inr, refl, sym, ap, ◌∙◌, append_assoc}
 use Rattle.std.specs.Borrow.{Bor}
 use Rattle.std.specs.List.{AllByRecursion}
 use Rattle.std.specs.declared.cmp.Ordering.{Ordering}
@@ -24,7 +23,7 @@ use Rattle.tree_leaf.specs.Ways.{along, beyond}
 use Rattle.tree_leaf.proofs.Along.{all_ahead, all_along}
 use Rattle.tree_node.specs.Arenas.{TreeArenas}
 use Rattle.tree_node.specs.Tree.{leaves_at, walk}
-use Rattle.tree_walk.specs.Ends.{BeginsPart, IsLinked, passed}
+use Rattle.tree_walk.specs.Ends.{BeginsPart, passed}
 use Rattle.tree_cursor_model.specs.Cursor.{meets}
 use Rattle.tree_cursors.specs.Seek.{Advances, IsLeafFor, IsNearest, NoneMeets, Opens, path}
 
