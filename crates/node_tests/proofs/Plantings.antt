@@ -26,7 +26,7 @@ use Rattle.tree_node.proofs.Levels.{kind_of}
 use Rattle.tree_node.proofs.Steps.{part_after}
 use Rattle.tree_node.proofs.Unchanged.{unchanged_part}
 use Rattle.tree_node.proofs.Whole.{tree_part}
-use Rattle.tree_node.proofs.Standing.{retired_children}
+use Rattle.tree_node.proofs.Standing.{no_children}
 use Rattle.tree_remove.specs.Removes.{RemovesUnder}
 use Rattle.tree_remove.proofs.NodeRemovals.{walk-retired}
 use Rattle.tree_walk.specs.Ends.{IsLinked}
@@ -152,7 +152,7 @@ module _ {K V : Type 0} {LEN : ℕ} (cmp : K → K → Ordering) (a : TreeArenas
   planted_linked level inner (inl part) = (part.front, part.back, part.chain)
   planted_linked zero inner (inr gone) = absurd (omega (arith, inner))
   planted_linked (suc level) inner (inr gone) =
-      let none : leaves_at (suc level) a.nodes id ≡ [] = rw (retired_children a.nodes id gone.0) refl in
+      let none : leaves_at (suc level) a.nodes id ≡ [] = rw (no_children (get a.nodes id) gone.0).1 refl in
       let chain : IsChain a.leaves [] = record { once = λ n. rw (times-nil n) (omega arith); linked = tt } in
       ([], [], rw none chain)
 

@@ -9,17 +9,16 @@ use Rattle.std.proofs.lemmas.List.{map-append, take-append-drop}
 use Rattle.slab.specs.Slab.{get}
 use Rattle.tree_array.specs.Arrivals.{Arrivals, arrival}
 use Rattle.tree_leaf.specs.Counting.{times, uses}
-use Rattle.tree_leaf.proofs.Counts.{one_here, uses_le_one}
 use Rattle.tree_model.specs.Pairs.{cut, without}
 use Rattle.tree_model.proofs.Lists.{all_map, all-append}
 use Rattle.tree_node.specs.declared.node.NodeOf.{NodeOf}
 use Rattle.tree_node.specs.Arenas.{TreeArenas}
 use Rattle.tree_node.specs.Parts.{IsPart, KeepsBounds, Replaces}
-use Rattle.tree_node.specs.Tree.{AreParted, Stands, children_of, in_turn, keyed, leaves_at, leaves_of, unbounded, walk}
+use Rattle.tree_node.specs.Tree.{AreParted, Stands, children_of, in_turn, keyed, leaves_at, unbounded, walk}
 use Rattle.tree_node.proofs.Between.{without_between}
 use Rattle.tree_node.proofs.ChildrenStand.{children_stand}
 use Rattle.tree_node.proofs.Frames.{parted_map, Agrees, same_stands, same_walk}
-use Rattle.tree_node.proofs.Lifts.{back_agrees, child_is_part, front_agrees, grouped_as, leaves_are, leaves_once_in, lifted, node_stays, node_times, single_leaves, single_nodes}
+use Rattle.tree_node.proofs.Lifts.{back_agrees, child_is_part, front_agrees, leaves_once_in, lifted, node_stays}
 use Rattle.tree_node.proofs.Lists.{all_middle, flat_map_same}
 use Rattle.tree_node.proofs.Standing.{node_is}
 use Rattle.tree_node.proofs.Widens.{parted_without, separators_around, stands_wider}

@@ -1,5 +1,4 @@
 pub mod Ended
-pub mod EndedBack
 pub mod Flips
 pub mod Moving
 pub mod Nearest

@@ -55,6 +55,11 @@ pub record IsFresh {K V : Type 0} (c : Cursor K V) : Type 0 where
 abbrev pub pairs_within : {K V : Type 0} → (K → K → Ordering) → Cursor K V → List (K × V)
 pairs_within cmp c = filter (λ pair. within cmp c.low c.high pair.0) c.pairs
 
+-- the way of the backward end, or of the forward one
+abbrev pub way_of : Bool → Way
+way_of false = On
+way_of true = Back
+
 -- an end that is at a place is at one of the list
 abbrev pub StandsInside : {X : Type 0} → List X → End → Type 0
 StandsInside l unopened = Unit {0}

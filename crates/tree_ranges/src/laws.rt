@@ -4,11 +4,10 @@ ghost use Rattle.std.specs.Prelude.{◌≡◌, IfOk, map, reverse};
 ghost use Rattle.tree_leaf.specs.Walks.{lent_entry};
 ghost use Rattle.tree_leaf.specs.Ways.{along};
 ghost use Rattle.tree_cursor_model.specs.Rest.{Moves};
-ghost use Rattle.tree_ranges.specs.Ranged.{IsFresh, pairs_within};
+ghost use Rattle.tree_ranges.specs.Ranged.{IsFresh, pairs_within, way_of};
 
 use crate::cursor::Cursor;
 use std::alloc::{AllocError, Global};
-use tree_leaf::leaf::stand::Way;
 
 /// Moves the forward end until it gives no pair, and returns what it gave: all pairs within the bounds, in ascending
 /// order. Returns `Err` if memory for the list is refused. The caller must pass a cursor that was never moved.
@@ -19,7 +18,7 @@ pub fn pairs_ascending<'t, K: Ord + Drop + 't, V: Drop + 't, C: Cursor<'t, K, V>
     requires { IsFresh (C.cursor cursor.old) }
     ensures { IfOk result (λ pairs. map lent_entry pairs.items ≡ pairs_within K.cmp (C.cursor cursor.old)) }
 {
-    pairs_along(alloc, Way::On, cursor)
+    pairs_along(alloc, false, cursor)
 }
 
 /// Moves the backward end until it gives no pair, and returns what it gave: all pairs within the bounds, in
@@ -32,35 +31,36 @@ pub fn pairs_descending<'t, K: Ord + Drop + 't, V: Drop + 't, C: Cursor<'t, K, V
     requires { IsFresh (C.cursor cursor.old) }
     ensures { IfOk result (λ pairs. map lent_entry pairs.items ≡ reverse (pairs_within K.cmp (C.cursor cursor.old))) }
 {
-    pairs_along(alloc, Way::Back, cursor)
+    pairs_along(alloc, true, cursor)
 }
 
-/// Moves the end of a way until it gives no pair, and returns what it gave: all pairs within the bounds, in the order of
-/// the way.
+/// Moves one end, the backward one or the forward one, until it gives no pair, and returns what it gave: all pairs within
+/// the bounds, in the order of its way.
 fn pairs_along<'t, K: Ord + Drop + 't, V: Drop + 't, C: Cursor<'t, K, V>>(
     alloc: Global,
-    way: Way,
+    backward: bool,
     cursor: &mut C,
 ) -> Result<Vec<(&'t K, &'t V)>, AllocError>
     requires { IsFresh (C.cursor cursor.old) }
-    ensures { IfOk result (λ pairs. map lent_entry pairs.items ≡ along way (pairs_within K.cmp (C.cursor cursor.old))) }
+    ensures { IfOk result (λ pairs. map lent_entry pairs.items ≡ along (way_of backward) (pairs_within K.cmp (C.cursor cursor.old))) }
 {
     let mut pairs = Vec::new(alloc);
-    while let Some(pair) = step(way, cursor) {
+    while let Some(pair) = step(backward, cursor) {
         pairs.push(pair)?;
     }
     Ok(pairs)
 }
 
-/// Moves the end of a way.
+/// Moves one end.
 fn step<'t, K: Ord + Drop + 't, V: Drop + 't, C: Cursor<'t, K, V>>(
-    way: Way,
+    backward: bool,
     cursor: &mut C,
 ) -> Option<(&'t K, &'t V)>
-    ensures { Moves K.cmp way (C.cursor cursor.old) result (C.cursor cursor.new) }
+    ensures { Moves K.cmp (way_of backward) (C.cursor cursor.old) result (C.cursor cursor.new) }
 {
-    match way {
-        Way::On => cursor.next(),
-        Way::Back => cursor.next_back(),
+    if backward {
+        cursor.next_back()
+    } else {
+        cursor.next()
     }
 }

@@ -1,5 +1,5 @@
 use Rattle.std.proofs.Common.{rules, None, arith, sym, ap, length}
-use Rattle.slab.specs.Slab.{ContainsKey}
+use Rattle.slab.specs.Slab.{ContainsKey, get}
 use Rattle.tree_node.proofs.NodeKinds.{node_used}
 use Rattle.tree_node.proofs.Sizes.{fits}
 use Rattle.tree_node.proofs.Standing.{no_children}
