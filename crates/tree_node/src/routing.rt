@@ -80,7 +80,11 @@ pub fn child_beyond<K: Ord + Drop, I: Copy + Drop, const LEN: usize>(
 ) -> (I, bool)
     ensures { child_of K.cmp key.now children.now.entries (Some unbounded.now) ≡ Some result.0 }
 {
-    let slot = slot_beyond(children, key, rightmost);
+    // Answered at once, so that the choice below stays one of places in memory.
+    if rightmost && is_beyond(children, key) {
+        return (*unbounded, true);
+    }
+    let slot = children.slot_for(key);
     (
         *child_at(children, unbounded, slot),
         rightmost && slot.is_none(),

@@ -1,4 +1,4 @@
-use Rattle.std.proofs.Common.{List, ◌++◌}
+use Rattle.std.proofs.Common.{◌++◌}
 use Rattle.std.specs.List.{AllByRecursion, AllZip}
 use Rattle.tree_leaf.specs.declared.leaf.stand.Way.TheVariants.{On}
 use Rattle.tree_model.specs.Pairs.{IsAscending}

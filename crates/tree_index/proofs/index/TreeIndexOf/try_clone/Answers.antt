@@ -1,4 +1,3 @@
-use Rattle.tree_leaf.specs.declared.leaf.stand.Way.TheVariants.{On}
 use Rattle.tree_node.proofs.Sizes.{fits}
 use Rattle.tree_split.proofs.Variants.{children_fit}
 use Rattle.tree_index.specs.Trees.{pairs_of}
