@@ -1,10 +1,13 @@
 //! How often a search of an array asks.
+ghost use Rattle.std.specs.Prelude.{◌≡◌, ◌<◌};
 ghost use Rattle.tree_array.specs.Length.{IsLen};
 
-use super::found::questions;
+use std::cmp::Ordering;
+use std::marker::Brand;
 use std::process::Abort;
+use std::sync::ledger::{Blank, Ledger};
 use test_support::chance::Chance;
-use tree_array::array::ArrayOf;
+use tree_array::array::{ArrayOf, Judge, KeyJudge, Steps};
 
 /// A type with a key for each number, in the order of the numbers.
 trait Numbered: Ord + Drop {
@@ -38,6 +41,73 @@ impl Numbered for Wide {
     }
 }
 
+/// A judge, whose questions the test counts beside it.
+#[derive(Drop)]
+struct Watching<J> {
+    judge: J,
+    asked: u64,
+}
+
+impl<K: Ord, J: Judge<K>> Judge<K> for Watching<J> {
+    ghost key = { λ watching. J.key watching.judge };
+
+    ghost count = { λ watching. J.count watching.judge };
+
+    fn judge(&mut self, stored: &K) -> Ordering {
+        self.asked = self.asked.saturating_add(1);
+        self.judge.judge(stored)
+    }
+}
+
+/// An array that is searched for keys of a type.
+trait Searched<K: Ord> {
+    /// Whether no slot is free.
+    fn is_filled(&self) -> bool;
+
+    /// Whether a search finds the judge's key.
+    fn finds<J: Judge<K>>(&self, judge: &mut J) -> bool;
+}
+
+impl<const LEN: usize> Searched<u64> for ArrayOf<u64, u64, LEN> {
+    fn is_filled(&self) -> bool {
+        self.is_full()
+    }
+
+    fn finds<J: Judge<u64>>(&self, judge: &mut J) -> bool {
+        self.search_entry(judge).is_some()
+    }
+}
+
+impl<const LEN: usize> Searched<Wide> for ArrayOf<Wide, u64, LEN> {
+    fn is_filled(&self) -> bool {
+        self.is_full()
+    }
+
+    fn finds<J: Judge<Wide>>(&self, judge: &mut J) -> bool {
+        self.search_entry(judge).is_some()
+    }
+}
+
+/// Whether one search finds the key, and how often it asked.
+fn questions<K: Ord, S: Searched<K>>(searched: &S, key: &K) -> (bool, u64) {
+    questions_by::<K, S, Brand>(searched, key, Blank::new(1))
+}
+
+fn questions_by<K: Ord, S: Searched<K>, L: Ledger>(
+    searched: &S,
+    key: &K,
+    blank: Blank,
+) -> (bool, u64)
+    requires name { blank.name ≡ L.name }
+    requires parts { blank.parts ≡ L.parts }
+    requires some { 0 < L.parts }
+{
+    let judge: KeyJudge<K, L> = KeyJudge::new(key, Steps::new(blank));
+    let mut watching = Watching { judge, asked: 0 };
+    let found = searched.finds(&mut watching);
+    (found, watching.asked)
+}
+
 /// How many questions lead to a place by halving: one to the middle, two to the middle of each half, and so on.
 fn questions_to(place: u64, most: u64) -> u64 {
     let mut left = most;
@@ -52,35 +122,59 @@ fn questions_to(place: u64, most: u64) -> u64 {
     left
 }
 
-/// Searches a full array, whose odd keys arrived in random order, for every key: those that are stored, those between two
-/// of them, and those outside.
-fn asks<K: Numbered, const LEN: usize, R: Abort>(rt: &R, seed: u64, most: u64)
+/// A full array of numbers, whose odd keys arrived in random order.
+fn narrow<const LEN: usize>(seed: u64) -> ArrayOf<u64, u64, LEN>
     requires { IsLen LEN }
 {
     let mut chance = Chance::new(seed);
-    let mut array = ArrayOf::<K, u64, LEN>::new();
+    let mut array = ArrayOf::new();
     for _ in 0..2000 {
-        let number = chance.below(LEN as u64).wrapping_mul(2).wrapping_add(1);
-        let _ = array.insert::<false>(K::numbered(number), number);
+        let number = odd_number(&mut chance, LEN);
+        let _ = array.insert::<false>(number, number);
     }
-    assert!(rt; array.is_full());
-    for number in 0..2 * LEN as u64 + 1 {
+    array
+}
+
+/// The same of wide keys.
+fn wide<const LEN: usize>(seed: u64) -> ArrayOf<Wide, u64, LEN>
+    requires { IsLen LEN }
+{
+    let mut chance = Chance::new(seed);
+    let mut array = ArrayOf::new();
+    for _ in 0..2000 {
+        let number = odd_number(&mut chance, LEN);
+        let _ = array.insert::<false>(Wide::numbered(number), number);
+    }
+    array
+}
+
+/// One of as many odd numbers as an array has slots.
+fn odd_number(chance: &mut Chance, len: usize) -> u64
+    requires { IsLen len }
+{
+    chance.below(len as u64).wrapping_mul(2).wrapping_add(1)
+}
+
+/// Searches a full array of odd keys for every key: those that are stored, those between two of them, and those outside.
+fn asks<K: Numbered, S: Searched<K>, R: Abort>(rt: &R, array: &S, len: u64, most: u64) {
+    assert!(rt; array.is_filled());
+    for number in 0..len.wrapping_mul(2).wrapping_add(1) {
         let stored = number % 2 == 1;
         let wanted = if stored && K::ends_early() {
             questions_to(number / 2, most)
         } else {
             most
         };
-        assert_eq!(rt; questions(&array, &K::numbered(number)), (stored, wanted));
+        assert_eq!(rt; questions(array, &K::numbered(number)), (stored, wanted));
     }
 }
 
 #[test]
 fn asks_few_questions(rt: HostRuntime) {
     for seed in 1..101 {
-        asks::<u64, 15, _>(&rt, seed, 4);
-        asks::<u64, 7, _>(&rt, seed, 3);
-        asks::<Wide, 15, _>(&rt, seed, 4);
-        asks::<Wide, 7, _>(&rt, seed, 3);
+        asks(&rt, &narrow::<15>(seed), 15, 4);
+        asks(&rt, &narrow::<7>(seed), 7, 3);
+        asks(&rt, &wide::<15>(seed), 15, 4);
+        asks(&rt, &wide::<7>(seed), 7, 3);
     }
 }
