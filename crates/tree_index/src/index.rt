@@ -73,8 +73,9 @@ impl<K: IndexKey, V: Drop, const LEN: usize> TreeIndexOf<K, V, LEN> {
     /// 0.
     ///
     /// Descends once and searches one array per level and the leaf. If the leaf has a free slot, allocates nothing.
-    /// If the leaf is full, it descends once more; where that splits an array, it searches again from its level on, and
-    /// allocates at most one leaf, one node per level and a new root.
+    /// If the leaf is full, searches the leaf and the node above it once more. If that node is full too, descends once
+    /// more; where that splits an array, searches again from its level on. Allocates at most one leaf, one node per level
+    /// and a new root.
     pub fn insert_sync(&mut self, key: K, value: V) -> Result<(), InsertError<K, V>>
         ensures pairs { Inserts K.cmp self.old.pairs key value result self.new.pairs }
         ensures spare { SpendsInsert LEN self.old self.new result }
