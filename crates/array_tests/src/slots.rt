@@ -5,6 +5,7 @@ use std::cell::Cell;
 use std::marker::{Send, Sync};
 use std::mem::size_of;
 use std::test::Fail;
+use test_support::expect::expect_eq;
 use tree_slots::row::Row;
 use tree_slots::slot::Slot;
 
@@ -12,9 +13,9 @@ fn goes_to_threads<T: Send + Sync>(_sent: &T) {}
 
 #[test]
 fn sizes(rt: HostRuntime) {
-    assert_eq!(rt; size_of::<Slot<u8>>(), 1);
-    assert_eq!(rt; size_of::<Slot<u64>>(), 8);
-    assert_eq!(rt; size_of::<Slot<String>>(), size_of::<String>());
+    expect_eq(&rt, size_of::<Slot<u8>>(), 1);
+    expect_eq(&rt, size_of::<Slot<u64>>(), 8);
+    expect_eq(&rt, size_of::<Slot<String>>(), size_of::<String>());
     assert_eq!(rt; size_of::<Row<u64, 15>>(), 120);
     assert_eq!(rt; size_of::<Row<(u64, u8), 7>>(), 112);
 }
@@ -25,21 +26,25 @@ fn a_slot_drops_its_values_once(rt: HostRuntime) {
     let mut slot = Slot::full(Token::new(1, &drops));
     let number = Slot::full(1);
     goes_to_threads(&number);
-    assert_eq!(rt; number.into_inner(), 1);
+    expect_eq(&rt, number.into_inner(), 1);
     let mut other = slot.spare();
-    assert_eq!(rt; (slot.get().number, drops.get()), (1, 0));
+    expect_eq(&rt, (slot.get().number, drops.get()), (1, 0));
     let first = slot.take();
-    assert_eq!(rt; (first.number, drops.get()), (1, 0));
+    expect_eq(&rt, (first.number, drops.get()), (1, 0));
     drop(first);
-    assert_eq!(rt; drops.get(), 1);
+    expect_eq(&rt, drops.get(), 1);
     other.put(Token::new(2, &drops));
     let second = other.replace(Token::new(3, &drops));
-    assert_eq!(rt; (second.number, other.get().number, drops.get()), (2, 3, 1));
+    expect_eq(
+        &rt,
+        (second.number, other.get().number, drops.get()),
+        (2, 3, 1),
+    );
     drop(second);
     drop(other.into_inner());
-    assert_eq!(rt; drops.get(), 3);
+    expect_eq(&rt, drops.get(), 3);
     slot.discard();
-    assert_eq!(rt; drops.get(), 3);
+    expect_eq(&rt, drops.get(), 3);
 }
 
 #[test]
@@ -48,22 +53,24 @@ fn a_row_drops_its_values_once(rt: HostRuntime) {
     let mut row: Row<Token, 3> = Row::with(1, Token::new(10, &drops));
     row.put(2, Token::new(20, &drops));
     row.put(0, Token::new(30, &drops));
-    assert_eq!(rt;
+    expect_eq(
+        &rt,
         (row.get(0).number, row.get(1).number, row.get(2).number),
-        (30, 10, 20)
+        (30, 10, 20),
     );
     drop(row.replace(2, Token::new(40, &drops)));
-    assert_eq!(rt; (row.get(2).number, drops.get()), (40, 1));
+    expect_eq(&rt, (row.get(2).number, drops.get()), (40, 1));
     drop(row.take(1));
-    assert_eq!(rt; drops.get(), 2);
+    expect_eq(&rt, drops.get(), 2);
     row.put(1, Token::new(50, &drops));
-    assert_eq!(rt;
+    expect_eq(
+        &rt,
         (row.take(0).number, row.take(1).number, row.take(2).number),
-        (30, 50, 40)
+        (30, 50, 40),
     );
-    assert_eq!(rt; drops.get(), 5);
+    expect_eq(&rt, drops.get(), 5);
     row.discard();
-    assert_eq!(rt; drops.get(), 5);
+    expect_eq(&rt, drops.get(), 5);
 }
 
 fn named(rt: &HostRuntime, number: u64) -> Result<String, AllocError> {
@@ -84,9 +91,10 @@ fn texts(rt: HostRuntime) -> Result<(), Fail> {
     let eight = row.take(1);
     let seven = row.take(0);
     row.discard();
-    assert_eq!(rt;
+    expect_eq(
+        &rt,
         (seven.as_str(), eight.as_str()),
-        ("the name of 7", "the name of 8")
+        ("the name of 7", "the name of 8"),
     );
     Ok(())
 }

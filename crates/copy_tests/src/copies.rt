@@ -4,6 +4,7 @@ use std::alloc::{AllocError, Global};
 use std::ops::Bound;
 use std::process::Abort;
 use test_support::chance::Chance;
+use test_support::expect::expect_eq;
 use test_support::refusals::succeeds;
 use tree_index::{TreeIndex, TreeIndexOf};
 use tree_support::{ORDERS, flaws, grown};
@@ -15,7 +16,7 @@ fn changes_the_copy_alone_steps(rt: &impl Abort, alloc: Global) -> Result<(), Al
     assert!(rt; index == copy);
     assert!(rt; copy.remove_sync(&1));
     assert!(rt; index != copy);
-    assert_eq!(rt; (index.len(), copy.len()), (2, 1));
+    expect_eq(rt, (index.len(), copy.len()), (2, 1));
     Ok(())
 }
 
@@ -60,7 +61,7 @@ fn copies_texts_steps(rt: &impl Abort, alloc: Global) -> Result<(), AllocError> 
     }
     let copy = index.try_clone(alloc)?;
     assert!(rt; copy == index);
-    assert_eq!(rt; copy.len(), 40);
+    expect_eq(rt, copy.len(), 40);
     Ok(())
 }
 
@@ -77,7 +78,7 @@ fn copies_small_leaves_steps(rt: &impl Abort, alloc: Global) -> Result<(), Alloc
     }
     let copy = index.try_clone(alloc)?;
     assert!(rt; copy == index);
-    assert_eq!(rt; (copy.len(), copy.depth()), (100, 2));
+    expect_eq(rt, (copy.len(), copy.depth()), (100, 2));
     Ok(())
 }
 

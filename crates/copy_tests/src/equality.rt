@@ -3,6 +3,7 @@ use crate::index_of;
 use std::alloc::{AllocError, Global};
 use std::process::Abort;
 use test_support::chance::Chance;
+use test_support::expect::expect_eq;
 use test_support::refusals::succeeds;
 use tree_index::TreeIndex;
 use tree_support::{ORDERS, grown};
@@ -22,7 +23,7 @@ fn compares_steps(rt: &impl Abort, alloc: Global) -> Result<(), AllocError> {
     for (first, second, same) in &ROWS {
         let first = index_of(alloc, first)?;
         let second = index_of(alloc, second)?;
-        assert_eq!(rt; (first == second, second == first), (*same, *same));
+        expect_eq(rt, (first == second, second == first), (*same, *same));
         assert!(rt; first == first);
     }
     Ok(())

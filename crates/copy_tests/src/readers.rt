@@ -2,6 +2,7 @@
 use crate::index_of;
 use std::alloc::{AllocError, Global};
 use std::process::Abort;
+use test_support::expect::expect_eq;
 use test_support::refusals::succeeds;
 
 /// Keys, what a reader that adds key and value returns, and how often it is called.
@@ -16,13 +17,13 @@ fn reads_steps(rt: &impl Abort, alloc: Global) -> Result<(), AllocError> {
             calls = calls.saturating_add(1);
             key.saturating_add(*value)
         });
-        assert_eq!(rt; (peeked, calls), (*sum, *times));
+        expect_eq(rt, (peeked, calls), (*sum, *times));
         let mut calls = 0u64;
         let read = index.read_sync(key, |key, value| {
             calls = calls.saturating_add(1);
             key.saturating_add(*value)
         });
-        assert_eq!(rt; (read, calls), (*sum, *times));
+        expect_eq(rt, (read, calls), (*sum, *times));
     }
     Ok(())
 }

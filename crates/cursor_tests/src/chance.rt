@@ -6,6 +6,7 @@ use std::alloc::{AllocError, Global};
 use std::ops::Bound;
 use std::process::Abort;
 use test_support::chance::Chance;
+use test_support::expect::expect_eq;
 use test_support::refusals::succeeds;
 use tree_index::{Cursor, Iter, Move};
 use tree_support::{Both, Bounds, ORDERS, Order, bound_at, grown, key_of};
@@ -39,7 +40,7 @@ fn move_both<'t, C: Cursor<'t, u64, u64>>(
     for _ in 0..MOVES {
         let place = chance.below(8) as usize;
         let step = STEPS.get(place).copied().unwrap_or(Move::Flip);
-        assert_eq!(rt; make(cursor, step), plain.make(step));
+        expect_eq(rt, make(cursor, step), plain.make(step));
     }
 }
 
@@ -90,9 +91,10 @@ fn open_all(
         let high = bound_at(key_of(size, chance), chance);
         move_range(rt, both, (low, high), chance)?;
         let key = key_of(size, chance);
-        assert_eq!(rt;
+        expect_eq(
+            rt,
             place_of(both.index().locate(&key)),
-            place_in(both.pairs(), key)
+            place_in(both.pairs(), key),
         );
     }
     Ok(())
@@ -113,7 +115,7 @@ fn walk_tree(rt: &impl Abort, alloc: Global, size: u64, order: Order) -> Result<
         Bound::Included(low.saturating_add(size / 3)),
     ));
     open_all(rt, &both, size, &mut chance)?;
-    assert_eq!(rt; both.flaw(), None);
+    expect_eq(rt, both.flaw(), None);
     Ok(())
 }
 

@@ -4,6 +4,7 @@ use crate::walks::{ascending, index_of};
 use std::alloc::{AllocError, Global};
 use std::ops::Bound;
 use std::process::Abort;
+use test_support::expect::expect_eq;
 use test_support::refusals::succeeds;
 use tree_index::{Proximity, ProximityOf, TreeIndex};
 
@@ -39,15 +40,15 @@ static NEAR: [(u64, Place); 4] = [
 fn locates_steps(rt: &impl Abort, alloc: Global) -> Result<(), AllocError> {
     let mut index = index_of(alloc, &[(1, 1), (3, 2), (5, 3), (7, 4)])?;
     for (key, place) in &NEAR {
-        assert_eq!(rt; place_of(index.locate(key)), *place);
+        expect_eq(rt, place_of(index.locate(key)), *place);
     }
     let ProximityOf::Between(mut ends) = index.locate(&2) else {
         panic!(rt; "2 is between")
     };
-    assert_eq!(rt; numbers(ends.next()), None);
-    assert_eq!(rt; numbers(ends.next_back()), None);
+    expect_eq(rt, numbers(ends.next()), None);
+    expect_eq(rt, numbers(ends.next_back()), None);
     index.clear();
-    assert_eq!(rt; place_of(index.locate(&3)), Place::Empty);
+    expect_eq(rt, place_of(index.locate(&3)), Place::Empty);
     Ok(())
 }
 
@@ -60,10 +61,11 @@ fn locates_after_a_cut_steps(rt: &impl Abort, alloc: Global) -> Result<(), Alloc
     let mut index: TreeIndex<u64, u64> = ascending(alloc, 0, 15)?;
     index.remove_range_sync((Bound::Included(&0), Bound::Included(&14)));
     let first = numbers(index.range((Bound::Included(&0), Bound::Unbounded)).next());
-    assert_eq!(rt; first, Some((15, 15)));
-    assert_eq!(rt;
+    expect_eq(rt, first, Some((15, 15)));
+    expect_eq(
+        rt,
         place_of(index.locate(&3)),
-        Place::Larger(Some((15, 15)), None)
+        Place::Larger(Some((15, 15)), None),
     );
     Ok(())
 }

@@ -3,27 +3,31 @@ use crate::walks::index_of;
 use std::alloc::{AllocError, Global};
 use std::ops::Bound;
 use std::process::Abort;
+use test_support::expect::expect_eq;
 use test_support::refusals::succeeds;
 
 fn texts_steps(rt: &impl Abort, alloc: Global) -> Result<(), AllocError> {
     let index = index_of(alloc, &[(1, 1), (3, 2)])?;
     let between = format!(in alloc; "{:?}", index.locate(&2))?;
-    assert_eq!(rt;
+    expect_eq(
+        rt,
         between.as_str(),
-        "Between(Iter { forward: Some((1, 1)), backward: Some((3, 2)) })"
+        "Between(Iter { forward: Some((1, 1)), backward: Some((3, 2)) })",
     );
     let exact = format!(in alloc; "{:?}", index.locate(&3))?;
-    assert_eq!(rt;
+    expect_eq(
+        rt,
         exact.as_str(),
-        "Exact(Iter { forward: Some((3, 2)), backward: None })"
+        "Exact(Iter { forward: Some((3, 2)), backward: None })",
     );
     let larger = index_of(alloc, &[(1, 10), (3, 4)])?;
     let mut iter = larger.iter();
     iter.next();
     let begun = format!(in alloc; "{:?}", iter)?;
-    assert_eq!(rt;
+    expect_eq(
+        rt,
         begun.as_str(),
-        "Iter { forward: Some((1, 10)), backward: None }"
+        "Iter { forward: Some((1, 10)), backward: None }",
     );
     Ok(())
 }
@@ -36,9 +40,13 @@ fn shows_both_ends(rt: HostRuntime) {
 fn texts_of_nothing_steps(rt: &impl Abort, alloc: Global) -> Result<(), AllocError> {
     let index = index_of(alloc, &[])?;
     let empty = format!(in alloc; "{:?}", index.locate(&9))?;
-    assert_eq!(rt; empty.as_str(), "Empty");
+    expect_eq(rt, empty.as_str(), "Empty");
     let range = format!(in alloc; "{:?}", index.range((Bound::Unbounded, Bound::Unbounded)))?;
-    assert_eq!(rt; range.as_str(), "Range { forward: None, backward: None }");
+    expect_eq(
+        rt,
+        range.as_str(),
+        "Range { forward: None, backward: None }",
+    );
     Ok(())
 }
 

@@ -3,6 +3,7 @@ use crate::said::{Entry, Said, make, numbers, said_by};
 use std::alloc::{AllocError, Global};
 use std::ops::Bound;
 use std::process::Abort;
+use test_support::expect::expect_eq;
 use test_support::refusals::succeeds;
 use tree_index::{Cursor, Iter, Move, Range, TreeIndex, run_moves};
 use tree_ranges::laws::{pairs_ascending, pairs_descending};
@@ -250,7 +251,7 @@ fn expect<'t, C: Cursor<'t, u64, u64>>(
     answers: &[Said],
 ) {
     for (step, answer) in moves.iter().zip(answers) {
-        assert_eq!(rt; make(cursor, *step), *answer);
+        expect_eq(rt, make(cursor, *step), *answer);
     }
 }
 
@@ -263,9 +264,9 @@ fn expect_at_once<'t, C: Cursor<'t, u64, u64>>(
     answers: &[Said],
 ) -> Result<(), AllocError> {
     let given = run_moves(alloc, cursor, moves)?;
-    assert_eq!(rt; given.len(), answers.len());
+    expect_eq(rt, given.len(), answers.len());
     for (one, answer) in given.iter().zip(answers) {
-        assert_eq!(rt; said_by(one), *answer);
+        expect_eq(rt, said_by(one), *answer);
     }
     Ok(())
 }
@@ -319,13 +320,13 @@ fn counts_steps(rt: &impl Abort, alloc: Global) -> Result<(), AllocError> {
         for _pair in index.range((low.as_ref(), high.as_ref())) {
             counted = counted.saturating_add(1);
         }
-        assert_eq!(rt; counted, *count);
+        expect_eq(rt, counted, *count);
     }
     let mut sum: u64 = 0;
     for (key, value) in &index {
         sum = sum.saturating_add(*key).saturating_add(*value);
     }
-    assert_eq!(rt; sum, 90);
+    expect_eq(rt, sum, 90);
     Ok(())
 }
 
@@ -338,10 +339,10 @@ fn meets_at_a_leaf_steps(rt: &impl Abort, alloc: Global) -> Result<(), AllocErro
     let index = ascending(alloc, 1, 40)?;
     let mut range = index.range((Bound::Excluded(&14), Bound::Excluded(&17)));
     let mut other = range.clone()?;
-    assert_eq!(rt; numbers(range.next()), Some((15, 15)));
-    assert_eq!(rt; numbers(range.next()), Some((16, 16)));
-    assert_eq!(rt; numbers(range.next()), None);
-    assert_eq!(rt; numbers(other.next_back()), Some((16, 16)));
+    expect_eq(rt, numbers(range.next()), Some((15, 15)));
+    expect_eq(rt, numbers(range.next()), Some((16, 16)));
+    expect_eq(rt, numbers(range.next()), None);
+    expect_eq(rt, numbers(other.next_back()), Some((16, 16)));
     Ok(())
 }
 
@@ -358,7 +359,7 @@ fn passes_an_empty_leaf_steps(rt: &impl Abort, alloc: Global) -> Result<(), Allo
             .range((Bound::Unbounded, Bound::Unbounded))
             .next_back(),
     );
-    assert_eq!(rt; last, Some((14, 14)));
+    expect_eq(rt, last, Some((14, 14)));
     Ok(())
 }
 
@@ -371,10 +372,18 @@ fn lists_pairs_steps(rt: &impl Abort, alloc: Global) -> Result<(), AllocError> {
     let index = ascending(alloc, 1, 40)?;
     let bounds = (Bound::Excluded(&14), Bound::Included(&17));
     let up = pairs_ascending(alloc, &mut index.range(bounds))?;
-    assert!(rt; up.as_slice() == [(&15, &15), (&16, &16), (&17, &17)].as_slice());
+    expect_eq(
+        rt,
+        up.as_slice(),
+        [(&15, &15), (&16, &16), (&17, &17)].as_slice(),
+    );
     let down = pairs_descending(alloc, &mut index.range(bounds))?;
-    assert!(rt; down.as_slice() == [(&17, &17), (&16, &16), (&15, &15)].as_slice());
-    assert_eq!(rt; pairs_ascending(alloc, &mut index.iter())?.len(), 40);
+    expect_eq(
+        rt,
+        down.as_slice(),
+        [(&17, &17), (&16, &16), (&15, &15)].as_slice(),
+    );
+    expect_eq(rt, pairs_ascending(alloc, &mut index.iter())?.len(), 40);
     Ok(())
 }
 

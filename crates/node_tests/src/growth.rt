@@ -6,6 +6,7 @@ use crate::planted::{Planted, cleanup_root, internal_root, split_root};
 use crate::steps::{Step, Told, take};
 use std::alloc::{AllocError, Global};
 use std::process::Abort;
+use test_support::expect::expect_eq;
 use test_support::refusals::succeeds;
 use tree_array::array::RemoveResult;
 use tree_node::leaf_node::LeafNodeOf;
@@ -112,9 +113,10 @@ fn grows<const LEN: usize>(
     assert!(rt; tree.split_last()?);
     let mut tree = tree.through_node();
     take(rt, &mut tree, growth.third)?;
-    assert_eq!(rt;
+    expect_eq(
+        rt,
         cleanup_root(tree),
-        (Some(true), growth.leaves, growth.nodes)
+        (Some(true), growth.leaves, growth.nodes),
     );
     Ok(())
 }

@@ -2,6 +2,7 @@
 use std::alloc::{AllocError, Global};
 use std::ops::Bound;
 use std::process::Abort;
+use test_support::expect::expect_eq;
 use test_support::refusals::succeeds;
 use tree_index::{Command, Reply, State, TreeIndex, run};
 
@@ -42,8 +43,8 @@ fn runs_removals_steps(rt: &impl Abort, alloc: Global) -> Result<(), AllocError>
     if replies.iter().any(|reply| matches!(reply, Reply::Refused)) {
         return Err(AllocError);
     }
-    assert!(rt; replies.as_slice() == REPLIES.as_slice());
-    assert_eq!(rt; (index.len(), index.depth()), (0, 0));
+    expect_eq(rt, replies.as_slice(), REPLIES.as_slice());
+    expect_eq(rt, (index.len(), index.depth()), (0, 0));
     Ok(())
 }
 
@@ -56,14 +57,18 @@ fn keeps_removals_steps(rt: &impl Abort, alloc: Global) -> Result<(), AllocError
     let mut state: State<u64, u64> = State::new(alloc);
     for (command, reply) in commands(alloc)?.into_iter().zip(REPLIES.iter()) {
         match state.apply(command) {
-            Ok(answer) => assert!(rt; answer == *reply),
+            Ok(answer) => expect_eq(rt, answer, *reply),
             Err(_) => return Err(AllocError),
         }
     }
     let Some(record) = state.history().get(6) else {
         panic!(rt; "no record")
     };
-    assert!(rt; record.command == Command::RemoveRange(Bound::Included(2), Bound::Unbounded));
+    expect_eq(
+        rt,
+        record.command,
+        Command::RemoveRange(Bound::Included(2), Bound::Unbounded),
+    );
     assert!(rt; record.reply == Reply::Done && state.history().len() == 10);
     Ok(())
 }

@@ -3,6 +3,7 @@ use std::alloc::{AllocError, Global};
 use std::ops::Bound;
 use std::process::Abort;
 use test_support::chance::Chance;
+use test_support::expect::expect_eq;
 use test_support::refusals::succeeds;
 use tree_support::{Both, Bounds, ORDERS, Order, bound_at, grown, key_of, separator};
 
@@ -66,7 +67,7 @@ fn cut_tree(rt: &impl Abort, alloc: Global, size: u64, order: Order) -> Result<(
     }
     both.cut((Bound::Unbounded, Bound::Unbounded));
     write(&mut both, size, &mut chance)?;
-    assert_eq!(rt; both.flaw(), None);
+    expect_eq(rt, both.flaw(), None);
     Ok(())
 }
 

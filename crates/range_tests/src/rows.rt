@@ -2,6 +2,7 @@
 use std::alloc::{AllocError, Global};
 use std::ops::Bound;
 use std::process::Abort;
+use test_support::expect::expect_eq;
 use test_support::refusals::succeeds;
 use tree_support::Both;
 
@@ -81,7 +82,7 @@ fn expect_row(rt: &impl Abort, alloc: Global, row: &Row) -> Result<(), AllocErro
     let mut both = ascending(alloc, row.first, row.last)?;
     for (low, high, left) in row.cuts {
         both.cut((*low, *high));
-        assert_eq!(rt; both.index().len(), *left);
+        expect_eq(rt, both.index().len(), *left);
     }
     for key in row.present {
         assert!(rt; both.index().contains(key));
@@ -90,9 +91,9 @@ fn expect_row(rt: &impl Abort, alloc: Global, row: &Row) -> Result<(), AllocErro
         assert!(rt; !both.index().contains(key));
     }
     both.upsert(5, 50)?;
-    assert_eq!(rt; both.index().peek(&5).copied(), Some(50));
+    expect_eq(rt, both.index().peek(&5).copied(), Some(50));
     both.compare();
-    assert_eq!(rt; both.flaw(), None);
+    expect_eq(rt, both.flaw(), None);
     Ok(())
 }
 
@@ -105,9 +106,9 @@ fn removes_exactly_what_is_within_the_bounds(rt: HostRuntime) {
 
 fn clears_steps(rt: &impl Abort, alloc: Global) -> Result<(), AllocError> {
     let mut both = ascending(alloc, 1, 1)?;
-    assert_eq!(rt; both.index().depth(), 1);
+    expect_eq(rt, both.index().depth(), 1);
     both.remove(1);
-    assert_eq!(rt; (both.index().depth(), both.index().len()), (1, 0));
+    expect_eq(rt, (both.index().depth(), both.index().len()), (1, 0));
     both.clear();
     for key in 0..500 {
         both.upsert(key, key)?;
@@ -115,9 +116,9 @@ fn clears_steps(rt: &impl Abort, alloc: Global) -> Result<(), AllocError> {
     both.clear();
     both.clear();
     both.upsert(1, 10)?;
-    assert_eq!(rt; (both.index().depth(), both.index().spare()), (1, 14));
+    expect_eq(rt, (both.index().depth(), both.index().spare()), (1, 14));
     both.compare();
-    assert_eq!(rt; both.flaw(), None);
+    expect_eq(rt, both.flaw(), None);
     Ok(())
 }
 

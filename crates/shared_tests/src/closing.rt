@@ -8,6 +8,7 @@ use std::alloc::AllocError;
 use std::process::Abort;
 use std::sync::Wait;
 use std::sync::ledger::Ledger;
+use test_support::expect::expect_eq;
 use test_support::refusals::succeeds;
 use tree_shared::{Pass, SharedTreeIndex, Tally, Unclosed};
 
@@ -27,15 +28,16 @@ pub(crate) fn closes_without_workers<
     let Some(closed) = closed_with(shared, passes) else {
         panic!(rt; "not closed")
     };
-    assert!(rt;
-        closed.tally
-            == Tally {
-                calls: 0,
-                stored: 0,
-                removed: 0,
-                found: 0,
-                done: 0
-            }
+    expect_eq(
+        rt,
+        closed.tally,
+        Tally {
+            calls: 0,
+            stored: 0,
+            removed: 0,
+            found: 0,
+            done: 0,
+        },
     );
     assert!(rt; closed.history.is_empty());
     Ok(())
@@ -68,22 +70,23 @@ pub(crate) fn closes_with_all_passes<
     let Err(Unclosed::PassMissing(shared, mut passes)) = shared.close(passes) else {
         panic!(rt; "closed without a pass")
     };
-    assert!(rt; passes.len() == 1);
+    expect_eq(rt, passes.len(), 1);
     passes.push(kept)?;
     let Some(closed) = closed_with(shared, passes) else {
         panic!(rt; "not closed")
     };
-    assert!(rt;
-        closed.tally
-            == Tally {
-                calls: 1,
-                stored: 1,
-                removed: 0,
-                found: 0,
-                done: 0
-            }
+    expect_eq(
+        rt,
+        closed.tally,
+        Tally {
+            calls: 1,
+            stored: 1,
+            removed: 0,
+            found: 0,
+            done: 0,
+        },
     );
-    assert!(rt; closed.index.len() == 1);
+    expect_eq(rt, closed.index.len(), 1);
     Ok(())
 }
 
@@ -112,7 +115,7 @@ pub(crate) fn parts_while_a_pass_is_out<
     };
     assert!(rt; stored(shared.insert(rt, pass, 1, 10))?);
     let (index, history) = shared.into_parts();
-    assert!(rt; index.peek(&1).copied() == Some(10));
+    expect_eq(rt, index.peek(&1).copied(), Some(10));
     assert!(rt; index.len() == 1 && history.len() == 1);
     Ok(())
 }

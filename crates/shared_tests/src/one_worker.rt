@@ -9,6 +9,7 @@ use std::ops::Bound;
 use std::process::Abort;
 use std::sync::Wait;
 use std::sync::ledger::Ledger;
+use test_support::expect::expect_eq;
 use test_support::refusals::succeeds;
 use tree_index::{Command, Record, Reply};
 use tree_shared::{Pass, SharedTreeIndex, Tally};
@@ -31,21 +32,22 @@ pub(crate) fn each_call<C: Ledger, S: Ledger, M: Ledger, F: Ledger, D: Ledger, R
     assert!(rt; shared.remove(rt, pass, &2)?);
     assert!(rt; !shared.remove(rt, pass, &2)?);
     shared.remove_range(rt, pass, (Bound::Included(&3), Bound::Unbounded))?;
-    assert!(rt; shared.peek(rt, pass, &1)? == Some(11));
+    expect_eq(rt, shared.peek(rt, pass, &1)?, Some(11));
     shared.clear(rt, pass)?;
-    assert!(rt; shared.peek(rt, pass, &1)? == None);
+    expect_eq(rt, shared.peek(rt, pass, &1)?, None);
     let Some(closed) = closed_with(shared, passes) else {
         panic!(rt; "not closed")
     };
-    assert!(rt;
-        closed.tally
-            == Tally {
-                calls: 10,
-                stored: 4,
-                removed: 1,
-                found: 1,
-                done: 2
-            }
+    expect_eq(
+        rt,
+        closed.tally,
+        Tally {
+            calls: 10,
+            stored: 4,
+            removed: 1,
+            found: 1,
+            done: 2,
+        },
     );
     assert!(rt; closed.index.is_empty());
     assert!(rt; are_the_calls(&closed.history));

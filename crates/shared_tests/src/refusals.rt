@@ -10,6 +10,7 @@ use std::cell::Cell;
 use std::process::Abort;
 use std::sync::Wait;
 use std::sync::ledger::Ledger;
+use test_support::expect::expect_eq;
 use test_support::refusals::succeeds;
 use tree_index::{IndexKey, InsertError, SameClone};
 use tree_shared::{Blanks, SharedTreeIndex, Tally};
@@ -114,15 +115,16 @@ pub(crate) fn refused_calls<C: Ledger, S: Ledger, M: Ledger, F: Ledger, D: Ledge
     let Ok(closed) = shared.close(passes) else {
         panic!(rt; "not closed")
     };
-    assert!(rt;
-        closed.tally
-            == Tally {
-                calls: 3,
-                stored: 1,
-                removed: 0,
-                found: 1,
-                done: 0
-            }
+    expect_eq(
+        rt,
+        closed.tally,
+        Tally {
+            calls: 3,
+            stored: 1,
+            removed: 0,
+            found: 1,
+            done: 0,
+        },
     );
     assert!(rt; closed.history.len() == 3 && closed.index.len() == 1);
     Ok(())

@@ -10,6 +10,7 @@ use std::sync::ledger::Ledger;
 use std::thread;
 use std::thread::Threads;
 use std::time::{Clock, Duration};
+use test_support::expect::expect_eq;
 use test_support::refusals::succeeds;
 use tree_index::{Command, Record, Reply};
 use tree_shared::{Pass, SharedTreeIndex, Tally};
@@ -113,9 +114,9 @@ pub(crate) fn two_insert<
     let Some(pass) = passes.get_mut(0) else {
         panic!(rt; "no pass")
     };
-    assert!(rt; pass.tally().calls == 100);
-    assert!(rt; shared.peek(rt, pass, &50)? == Some(50));
-    assert!(rt; shared.peek(rt, pass, &101)? == None);
+    expect_eq(rt, pass.tally().calls, 100);
+    expect_eq(rt, shared.peek(rt, pass, &50)?, Some(50));
+    expect_eq(rt, shared.peek(rt, pass, &101)?, None);
     let Some(closed) = closed_with(shared, passes) else {
         panic!(rt; "not closed")
     };
@@ -126,8 +127,8 @@ pub(crate) fn two_insert<
         found: 1,
         done: 0,
     };
-    assert!(rt; closed.tally == wanted);
-    assert!(rt; closed.index.len() == 100);
+    expect_eq(rt, closed.tally, wanted);
+    expect_eq(rt, closed.index.len(), 100);
     assert!(rt; replays(alloc, &closed.history, 100)?);
     assert!(rt; ends_with_look_ups(&closed.history));
     Ok(())
@@ -188,7 +189,7 @@ pub(crate) fn eight_race<
         assert!(rt; has_calls_of(&closed.history, number));
     }
     for key in 1..=100 {
-        assert!(rt; removals(&closed.history, key) == 8);
+        expect_eq(rt, removals(&closed.history, key), 8);
     }
     Ok(())
 }

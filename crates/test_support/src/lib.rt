@@ -2,4 +2,5 @@
 #![tactic(auto)]
 
 pub mod chance;
+pub mod expect;
 pub mod refusals;

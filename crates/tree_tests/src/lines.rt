@@ -9,6 +9,7 @@ use std::alloc::{AllocError, Global};
 use std::io::Read;
 use std::process::Abort;
 use streams::{Failing, Sink, Source};
+use test_support::expect::expect_eq;
 use tree_index::TreeIndex;
 use tree_lines::run_lines;
 
@@ -24,7 +25,7 @@ fn answered<R: Read + Drop>(
 ) -> Result<Sink, AllocError> {
     let mut output = Sink::new(piece, Failing::never());
     let mut index = TreeIndex::new(alloc);
-    assert_eq!(rt; run_lines(&mut index, &mut input, &mut output), Ok(()));
+    expect_eq(rt, run_lines(&mut index, &mut input, &mut output), Ok(()));
     if output
         .taken()
         .windows(7)
@@ -47,6 +48,6 @@ fn expect_answers(
 ) -> Result<(), AllocError> {
     let input = Source::new(lines.as_bytes(), read, Failing::never());
     let output = answered(rt, alloc, input, written)?;
-    assert_eq!(rt; output.taken(), wanted.as_bytes());
+    expect_eq(rt, output.taken(), wanted.as_bytes());
     Ok(())
 }

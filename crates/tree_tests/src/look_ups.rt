@@ -7,6 +7,7 @@ use std::cmp::Ordering;
 use std::marker::Brand;
 use std::process::Abort;
 use std::sync::ledger::{Blank, Ledger};
+use test_support::expect::expect_eq;
 use test_support::refusals::succeeds;
 use tree_array::array::{Judge, KeyJudge, Steps};
 use tree_index::TreeIndex;
@@ -56,15 +57,23 @@ fn look_up<'c>(
     counter.set(0);
     let there = index.peek(&key).is_some();
     assert!(rt; counter.replace(0) <= most);
-    assert!(rt; index.peek_entry(&key).is_some() == there);
+    expect_eq(rt, index.peek_entry(&key).is_some(), there);
     assert!(rt; counter.replace(0) <= most);
-    assert!(rt; index.contains(&key) == there);
+    expect_eq(rt, index.contains(&key), there);
     assert!(rt; counter.replace(0) <= most);
-    assert!(rt; index.peek_with(&key, |_, value| *value).is_some() == there);
+    expect_eq(
+        rt,
+        index.peek_with(&key, |_, value| *value).is_some(),
+        there,
+    );
     assert!(rt; counter.replace(0) <= most);
-    assert!(rt; index.read_sync(&key, |_, value| *value).is_some() == there);
+    expect_eq(
+        rt,
+        index.read_sync(&key, |_, value| *value).is_some(),
+        there,
+    );
     assert!(rt; counter.replace(0) <= most);
-    assert!(rt; is_found(index, &key) == there);
+    expect_eq(rt, is_found(index, &key), there);
     assert!(rt; counter.get() <= most);
 }
 
@@ -127,7 +136,7 @@ fn compares_once_a_level_steps(rt: &impl Abort, alloc: Global) -> Result<(), All
         let comparisons = insert_last(&mut index, &counter, number)?;
         assert!(rt; !has_room || comparisons <= levels);
     }
-    assert_eq!(rt; index.depth(), 3);
+    expect_eq(rt, index.depth(), 3);
     Ok(())
 }
 
@@ -190,7 +199,7 @@ fn asks_the_key_it_finds_steps(rt: &impl Abort, alloc: Global) -> Result<(), All
         let there = (2..=482).contains(&key) && key % 2 == 0;
         let wanted = if there { Some(key) } else { None };
         let told = found_and_asked(&index, key);
-        assert!(rt; told == (there, wanted));
+        expect_eq(rt, told, (there, wanted));
     }
     Ok(())
 }

@@ -2,6 +2,7 @@
 //! whole after each hundredth.
 use std::alloc::{AllocError, Global};
 use std::process::Abort;
+use test_support::expect::expect_eq;
 use test_support::refusals::succeeds;
 use tree_support::{Both, Order};
 
@@ -49,7 +50,7 @@ fn compare_orders(
         compare_at(&mut both, n, key);
     }
     both.compare();
-    assert_eq!(rt; both.flaw(), None);
+    expect_eq(rt, both.flaw(), None);
     Ok(())
 }
 

@@ -2,6 +2,7 @@
 use std::alloc::{AllocError, Global};
 use std::process::Abort;
 use test_support::chance::Chance;
+use test_support::expect::expect_eq;
 use test_support::refusals::succeeds;
 use tree_support::Both;
 
@@ -32,7 +33,7 @@ fn answers_random_calls_as_the_plain_index_steps(
         }
         both.compare();
     }
-    assert_eq!(rt; both.flaw(), None);
+    expect_eq(rt, both.flaw(), None);
     Ok(())
 }
 

@@ -7,6 +7,7 @@ use std::cell::Cell;
 use std::ops::Bound;
 use std::process::Abort;
 use test_support::chance::Chance;
+use test_support::expect::expect_eq;
 use test_support::refusals::succeeds;
 use tree_index::{InsertError, TreeIndexOf};
 use tree_model::IndexKey;
@@ -175,7 +176,7 @@ fn expect_absent<'c, const LEN: usize>(
 ) {
     for other in number..300 {
         let there = index.peek(&Counted::new(other, tally)).is_some();
-        assert!(rt; there == (other != number));
+        expect_eq(rt, there, (other != number));
     }
 }
 
@@ -229,7 +230,7 @@ fn refused_clones<'c, const LEN: usize>(
         }
         expect_alive(rt, index, tally);
     }
-    assert_eq!(rt; index.len(), 300);
+    expect_eq(rt, index.len(), 300);
     Ok(refused)
 }
 

@@ -3,6 +3,7 @@ use super::found::{Found, found, slot_from};
 use std::ops::Bound;
 use std::process::Abort;
 use std::test::Fail;
+use test_support::expect::expect_eq;
 use tree_array::array::{
     Array, ArrayIter, ArrayOf, ArrayRevIter, DIMENSION, InsertResult, RemoveResult, range_contains,
 };
@@ -46,7 +47,7 @@ type AtKey = (u64, Found);
 /// Compares what the searches find.
 fn expect_found(rt: &impl Abort, array: &Array<u64, u64>, rows: &[AtKey]) {
     for (key, wanted) in rows {
-        assert!(rt; found(array, *key) == *wanted);
+        expect_eq(rt, found(array, *key), *wanted);
     }
 }
 
@@ -60,22 +61,22 @@ static OF_FIVE_ARRIVALS: [AtKey; 4] = [
 #[test]
 fn stores_and_finds(rt: HostRuntime) {
     let mut array = of(&[5, 3, 9]);
-    assert_eq!(rt; array.len(), 3);
-    assert_eq!(rt; array.remove_if(&3, |_| true), RemoveResult::Success);
-    assert_eq!(rt; array.insert::<false>(4, 4), InsertResult::Success);
-    assert_eq!(rt; (array.len(), array.free()), (3, 11));
-    assert_eq!(rt; array.insert::<true>(9, 90), InsertResult::Success);
-    assert_eq!(rt; (array.len(), array.free()), (3, 10));
-    assert_eq!(rt; array.optimal_boundary(), (15, 3, false));
+    expect_eq(&rt, array.len(), 3);
+    expect_eq(&rt, array.remove_if(&3, |_| true), RemoveResult::Success);
+    expect_eq(&rt, array.insert::<false>(4, 4), InsertResult::Success);
+    expect_eq(&rt, (array.len(), array.free()), (3, 11));
+    expect_eq(&rt, array.insert::<true>(9, 90), InsertResult::Success);
+    expect_eq(&rt, (array.len(), array.free()), (3, 10));
+    expect_eq(&rt, array.optimal_boundary(), (15, 3, false));
     expect_found(&rt, &array, &OF_FIVE_ARRIVALS);
 }
 
 #[test]
 fn stores_in_seven_slots(rt: HostRuntime) {
     let array = small_of(&[6, 2, 4]);
-    assert_eq!(rt; (array.len(), array.free()), (3, 4));
+    expect_eq(&rt, (array.len(), array.free()), (3, 4));
     assert!(rt; gives(ArrayIter::new(&array), &[1, 2, 0]));
-    assert_eq!(rt; (DIMENSION.len, DIMENSION.bits), (15, 4));
+    expect_eq(&rt, (DIMENSION.len, DIMENSION.bits), (15, 4));
 }
 
 /// The array in which one key arrived fifteen times.
@@ -83,7 +84,7 @@ fn of_one_key(rt: &impl Abort) -> Array<u64, u64> {
     let mut array = Array::new();
     for val in 0..15 {
         assert!(rt; !array.is_full());
-        assert!(rt; array.insert::<true>(7, val) == InsertResult::Success);
+        expect_eq(rt, array.insert::<true>(7, val), InsertResult::Success);
     }
     array
 }
@@ -93,30 +94,32 @@ static OF_ONE_KEY: [AtKey; 1] = [(7, (Some((7, 14)), Some(14), Some(14)))];
 #[test]
 fn one_key_many_times(rt: HostRuntime) {
     let mut array = of_one_key(&rt);
-    assert_eq!(rt; marks(&array), (false, true, false));
-    assert_eq!(rt;
+    expect_eq(&rt, marks(&array), (false, true, false));
+    expect_eq(
+        &rt,
         (array.free(), array.optimal_boundary()),
-        (0, (15, 1, false))
+        (0, (15, 1, false)),
     );
-    assert_eq!(rt; array.insert::<true>(7, 70), InsertResult::Full(7, 70));
-    assert_eq!(rt;
+    expect_eq(&rt, array.insert::<true>(7, 70), InsertResult::Full(7, 70));
+    expect_eq(
+        &rt,
         array.insert::<false>(7, 71),
-        InsertResult::Duplicate(7, 71)
+        InsertResult::Duplicate(7, 71),
     );
-    assert_eq!(rt; array.insert::<false>(8, 80), InsertResult::Full(8, 80));
+    expect_eq(&rt, array.insert::<false>(8, 80), InsertResult::Full(8, 80));
     expect_found(&rt, &array, &OF_ONE_KEY);
 }
 
 #[test]
 fn retires(rt: HostRuntime) {
     let mut array = of(&[5]);
-    assert_eq!(rt; array.remove_if(&5, |_| false), RemoveResult::Fail);
-    assert_eq!(rt; marks(&array), (false, false, false));
-    assert_eq!(rt; array.remove_if(&5, |_| true), RemoveResult::Retired);
-    assert_eq!(rt; array.remove_if(&5, |_| true), RemoveResult::Fail);
-    assert_eq!(rt; marks(&array), (true, true, true));
-    assert_eq!(rt; (array.free(), array.len()), (14, 0));
-    assert_eq!(rt; array.insert::<false>(6, 6), InsertResult::Full(6, 6));
+    expect_eq(&rt, array.remove_if(&5, |_| false), RemoveResult::Fail);
+    expect_eq(&rt, marks(&array), (false, false, false));
+    expect_eq(&rt, array.remove_if(&5, |_| true), RemoveResult::Retired);
+    expect_eq(&rt, array.remove_if(&5, |_| true), RemoveResult::Fail);
+    expect_eq(&rt, marks(&array), (true, true, true));
+    expect_eq(&rt, (array.free(), array.len()), (14, 0));
+    expect_eq(&rt, array.insert::<false>(6, 6), InsertResult::Full(6, 6));
 }
 
 /// Takes the pair of the least key from this one on.
@@ -129,21 +132,21 @@ fn take_from(array: &mut Array<u64, u64>, key: u64) -> Option<(u64, u64, RemoveR
 fn takes(rt: HostRuntime) {
     let mut array = of(&[5, 3, 9]);
     let taken = take_from(&mut array, 2);
-    assert!(rt; taken == Some((3, 3, RemoveResult::Success)));
+    expect_eq(&rt, taken, Some((3, 3, RemoveResult::Success)));
     let taken = take_from(&mut array, 5);
-    assert!(rt; taken == Some((5, 5, RemoveResult::Success)));
+    expect_eq(&rt, taken, Some((5, 5, RemoveResult::Success)));
     let taken = take_from(&mut array, 5);
-    assert!(rt; taken == Some((9, 9, RemoveResult::Retired)));
-    assert_eq!(rt; slot_from(&array, 0), None);
+    expect_eq(&rt, taken, Some((9, 9, RemoveResult::Retired)));
+    expect_eq(&rt, slot_from(&array, 0), None);
 }
 
 #[test]
 fn replaces_a_value(rt: HostRuntime) -> Result<(), Fail> {
     let mut array = of(&[5, 3, 9]);
     let slot = slot_from(&array, 2).ok_or("a slot")?;
-    assert_eq!(rt; (slot, *array.key(slot), *array.val(slot)), (1, 3, 3));
-    assert_eq!(rt; array.set_val(slot, 30), 3);
-    assert_eq!(rt; found(&array, 3), (Some((3, 30)), Some(30), Some(1)));
+    expect_eq(&rt, (slot, *array.key(slot), *array.val(slot)), (1, 3, 3));
+    expect_eq(&rt, array.set_val(slot, 30), 3);
+    expect_eq(&rt, found(&array, 3), (Some((3, 30)), Some(30), Some(1)));
     Ok(())
 }
 
@@ -177,7 +180,7 @@ static DIVISIONS: [Division<15>; 5] = [
 #[test]
 fn boundaries(rt: HostRuntime) {
     for (keys, wanted) in &DIVISIONS {
-        assert!(rt; of(keys).optimal_boundary() == *wanted);
+        expect_eq(&rt, of(keys).optimal_boundary(), *wanted);
     }
 }
 
@@ -194,9 +197,13 @@ static SMALL_DIVISIONS: [Division<7>; 7] = [
 #[test]
 fn boundaries_of_seven_slots(rt: HostRuntime) {
     for (keys, wanted) in &SMALL_DIVISIONS {
-        assert!(rt; small_of(keys).optimal_boundary() == *wanted);
+        expect_eq(&rt, small_of(keys).optimal_boundary(), *wanted);
     }
-    assert!(rt; small_of(&[1, 2, 3, 4, 5]).optimal_boundary() == (7, 5, false));
+    expect_eq(
+        &rt,
+        small_of(&[1, 2, 3, 4, 5]).optimal_boundary(),
+        (7, 5, false),
+    );
 }
 
 static OF_THE_LEAST: [AtKey; 1] = [(3, (Some((3, 3)), Some(3), Some(0)))];
@@ -211,8 +218,8 @@ fn distributes(rt: HostRuntime) {
     let mut array = of(&[5, 3, 9]);
     let (mut low, mut high) = (Array::new(), Array::new());
     array.distribute(1, &mut low, &mut high);
-    assert_eq!(rt; marks(&array), (true, true, true));
-    assert_eq!(rt; (low.free(), high.free()), (14, 13));
+    expect_eq(&rt, marks(&array), (true, true, true));
+    expect_eq(&rt, (low.free(), high.free()), (14, 13));
     expect_found(&rt, &low, &OF_THE_LEAST);
     expect_found(&rt, &high, &OF_THE_OTHERS);
 }
@@ -224,9 +231,9 @@ fn distributes_apart(rt: HostRuntime) {
     let mut array = of(&[5, 3, 9]);
     let (mut low, mut high) = (Array::new(), Array::new());
     let apart = array.distribute_apart(1, &mut low, &mut high);
-    assert!(rt; apart == Some((5, 5)));
-    assert_eq!(rt; marks(&array), (true, true, true));
-    assert_eq!(rt; (low.free(), high.free()), (14, 14));
+    expect_eq(&rt, apart, Some((5, 5)));
+    expect_eq(&rt, marks(&array), (true, true, true));
+    expect_eq(&rt, (low.free(), high.free()), (14, 14));
     expect_found(&rt, &low, &OF_THE_LEAST);
     expect_found(&rt, &high, &OF_THE_GREATEST);
 }
@@ -235,10 +242,10 @@ fn distributes_apart(rt: HostRuntime) {
 fn distributes_nothing(rt: HostRuntime) {
     let mut array: Array<u64, u64> = Array::new();
     let (mut low, mut high) = (Array::new(), Array::new());
-    assert_eq!(rt; array.distribute_apart(0, &mut low, &mut high), None);
+    expect_eq(&rt, array.distribute_apart(0, &mut low, &mut high), None);
     assert!(rt; array.is_retired());
-    assert_eq!(rt; marks(&low), (true, false, false));
-    assert_eq!(rt; marks(&high), (true, false, false));
+    expect_eq(&rt, marks(&low), (true, false, false));
+    expect_eq(&rt, marks(&high), (true, false, false));
 }
 
 #[test]
@@ -267,27 +274,27 @@ fn walks(rt: HostRuntime) -> Result<(), Fail> {
     let mut walk = ArrayIter::new(&array);
     assert!(rt; gives(walk.clone()?, &[1, 0, 2]) && walk.slot().is_none());
     let steps = (walk.next(), walk.next(), walk.next(), walk.next());
-    assert_eq!(rt; steps, (Some(1), Some(0), Some(2), None));
-    assert_eq!(rt; walk.slot(), Some(2));
+    expect_eq(&rt, steps, (Some(1), Some(0), Some(2), None));
+    expect_eq(&rt, walk.slot(), Some(2));
     let mut back = walk.rev();
     let steps = (back.next(), back.next(), back.next(), back.slot());
-    assert_eq!(rt; steps, (Some(0), Some(1), None, Some(1)));
+    expect_eq(&rt, steps, (Some(0), Some(1), None, Some(1)));
     back.rewind();
-    assert_eq!(rt; (back.slot(), back.next()), (None, Some(2)));
+    expect_eq(&rt, (back.slot(), back.next()), (None, Some(2)));
     Ok(())
 }
 
 #[test]
 fn turns_about(rt: HostRuntime) -> Result<(), Fail> {
     let array = of(&[5, 3, 9]);
-    assert_eq!(rt; ArrayRevIter::new(&array).rev().next(), Some(1));
-    assert_eq!(rt; ArrayIter::new(&array).rev().next(), Some(2));
+    expect_eq(&rt, ArrayRevIter::new(&array).rev().next(), Some(1));
+    expect_eq(&rt, ArrayIter::new(&array).rev().next(), Some(2));
     let mut back = ArrayRevIter::new(&array);
     let steps = (back.next(), back.next(), back.next());
-    assert_eq!(rt; steps, (Some(2), Some(0), Some(1)));
+    expect_eq(&rt, steps, (Some(2), Some(0), Some(1)));
     let mut walk = back.clone()?.rev();
-    assert_eq!(rt; walk.next(), Some(0));
+    expect_eq(&rt, walk.next(), Some(0));
     walk.rewind();
-    assert_eq!(rt; walk.next(), Some(1));
+    expect_eq(&rt, walk.next(), Some(1));
     Ok(())
 }

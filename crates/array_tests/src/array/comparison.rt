@@ -9,6 +9,7 @@ use std::alloc::{AllocError, Global};
 use std::ops::Bound;
 use std::process::Abort;
 use test_support::chance::Chance;
+use test_support::expect::expect_eq;
 use test_support::refusals::succeeds;
 use tree_array::array::{ArrayIter, ArrayOf, ArrayRevIter, RemoveResult};
 
@@ -41,14 +42,19 @@ fn compare_shape<const LEN: usize, R: Abort>(
     plain: &Plain,
 ) -> Result<(), AllocError> {
     let (boundary, count, ascends) = array.optimal_boundary();
-    assert_eq!(rt; (boundary as usize, count, ascends), plain.boundary(alloc)?);
-    let marks = (array.is_empty(), array.is_full(), array.is_retired());
-    assert_eq!(rt;
-        marks,
-        (plain.is_empty(), plain.is_full(), plain.is_retired())
+    expect_eq(
+        rt,
+        (boundary as usize, count, ascends),
+        plain.boundary(alloc)?,
     );
-    assert_eq!(rt; array.free() as usize, plain.free());
-    assert_eq!(rt; array.len() as usize, count);
+    let marks = (array.is_empty(), array.is_full(), array.is_retired());
+    expect_eq(
+        rt,
+        marks,
+        (plain.is_empty(), plain.is_full(), plain.is_retired()),
+    );
+    expect_eq(rt, array.free() as usize, plain.free());
+    expect_eq(rt, array.len() as usize, count);
     Ok(())
 }
 
@@ -60,7 +66,7 @@ fn compare_on<const LEN: usize, R: Abort>(
 ) {
     let mut walk = ArrayIter::new(array);
     for (key, _) in entries {
-        assert!(rt; walk.next() == slot_from(array, *key));
+        expect_eq(rt, walk.next(), slot_from(array, *key));
     }
     assert!(rt; walk.next().is_none());
 }
@@ -73,7 +79,7 @@ fn compare_back<const LEN: usize, R: Abort>(
 ) {
     let mut walk = ArrayRevIter::new(array);
     for (key, _) in entries.iter().rev() {
-        assert!(rt; walk.next() == slot_from(array, *key));
+        expect_eq(rt, walk.next(), slot_from(array, *key));
     }
     assert!(rt; walk.next().is_none());
 }
@@ -93,7 +99,7 @@ fn compare_at<const LEN: usize, R: Abort>(
         Some(slot) => Some(pair_in(array, slot)),
         None => None,
     };
-    assert!(rt; at_slot == least);
+    expect_eq(rt, at_slot, least);
 }
 
 /// The pair in a slot.
@@ -114,13 +120,13 @@ fn compare_places<const LEN: usize, R: Abort>(
             Some(slot) => Some(pair_in(array, slot)),
             None => None,
         };
-        assert!(rt; at_place == entries.get(place as usize).copied());
+        expect_eq(rt, at_place, entries.get(place as usize).copied());
     }
     let last = match array.last_slot() {
         Some(slot) => Some(pair_in(array, slot)),
         None => None,
     };
-    assert!(rt; last == entries.last().copied());
+    expect_eq(rt, last, entries.last().copied());
 }
 
 /// Compares what each call that changes nothing answers.
@@ -152,12 +158,12 @@ fn store<const LEN: usize, R: Abort>(
     match chance.below(4) {
         0 => {
             let answer = array.insert::<true>(key, val);
-            assert!(rt; answer == plain.insert(true, key, val)?);
+            expect_eq(rt, answer, plain.insert(true, key, val)?);
         }
         1 => set(rt, array, plain, key, val),
         _ => {
             let answer = array.insert::<false>(key, val);
-            assert!(rt; answer == plain.insert(false, key, val)?);
+            expect_eq(rt, answer, plain.insert(false, key, val)?);
         }
     }
     Ok(())
@@ -173,7 +179,7 @@ fn set<const LEN: usize, R: Abort>(
 ) {
     if let Some(slot) = slot_from(array, key) {
         let stored = *array.key(slot);
-        assert!(rt; Some(array.set_val(slot, val)) == plain.value(stored));
+        expect_eq(rt, Some(array.set_val(slot, val)), plain.value(stored));
         plain.set(stored, val);
     }
 }
@@ -210,13 +216,13 @@ fn remove_if<const LEN: usize, R: Abort>(
         asked = Some(*val);
         said
     });
-    assert!(rt; asked == stored);
+    expect_eq(rt, asked, stored);
     let expected = if said {
         plain.remove(key)
     } else {
         RemoveResult::Fail
     };
-    assert!(rt; removal == expected);
+    expect_eq(rt, removal, expected);
 }
 
 /// Takes the pair of the least key from this one on.
@@ -228,8 +234,8 @@ fn take<const LEN: usize, R: Abort>(
 ) {
     if let Some(slot) = slot_from(array, key) {
         let (stored, val, removal) = array.take(slot);
-        assert!(rt; Some(val) == plain.value(stored));
-        assert!(rt; removal == plain.remove(stored));
+        expect_eq(rt, Some(val), plain.value(stored));
+        expect_eq(rt, removal, plain.remove(stored));
     }
 }
 
@@ -307,7 +313,7 @@ fn distribute<const LEN: usize, R: Abort>(
     let (mut low, mut high) = (ArrayOf::new(), ArrayOf::new());
     if apart {
         let pair = array.distribute_apart(boundary, &mut low, &mut high);
-        assert!(rt; pair == rest.first().copied());
+        expect_eq(rt, pair, rest.first().copied());
         holds(rt, alloc, &high, rest.get(1..).unwrap_or(&[]))?;
     } else {
         array.distribute(boundary, &mut low, &mut high);

@@ -2,6 +2,7 @@
 use crate::token::Token;
 use std::cell::Cell;
 use std::ops::Bound;
+use test_support::expect::expect_eq;
 use tree_array::array::{Array, ArrayOf, RemoveResult};
 
 /// An array with these keys.
@@ -17,9 +18,9 @@ fn of<'c>(keys: &[u64], drops: &'c Cell<u64>) -> Array<u64, Token<'c>> {
 fn with_the_array(rt: HostRuntime) {
     let drops = Cell::new(0);
     drop(of(&[], &drops));
-    assert_eq!(rt; drops.get(), 0);
+    expect_eq(&rt, drops.get(), 0);
     drop(of(&[4, 8, 2, 6, 7, 1, 3, 5, 9, 15, 12, 14, 13, 10, 11], &drops));
-    assert_eq!(rt; drops.get(), 15);
+    expect_eq(&rt, drops.get(), 15);
 }
 
 #[test]
@@ -27,17 +28,17 @@ fn with_what_is_refused_replaced_or_removed(rt: HostRuntime) {
     let drops = Cell::new(0);
     let mut array = of(&[5, 3, 9, 7], &drops);
     drop(array.insert::<false>(3, Token::new(0, &drops)));
-    assert_eq!(rt; drops.get(), 1);
+    expect_eq(&rt, drops.get(), 1);
     drop(array.insert::<true>(3, Token::new(0, &drops)));
-    assert_eq!(rt; drops.get(), 2);
-    assert_eq!(rt; array.remove_if(&9, |_| true), RemoveResult::Success);
-    assert_eq!(rt; drops.get(), 3);
+    expect_eq(&rt, drops.get(), 2);
+    expect_eq(&rt, array.remove_if(&9, |_| true), RemoveResult::Success);
+    expect_eq(&rt, drops.get(), 3);
     array.rebuild();
-    assert_eq!(rt; (array.len(), drops.get()), (3, 3));
+    expect_eq(&rt, (array.len(), drops.get()), (3, 3));
     array.remove_range((Bound::Included(&4), Bound::Unbounded));
-    assert_eq!(rt; (array.len(), drops.get()), (1, 5));
+    expect_eq(&rt, (array.len(), drops.get()), (1, 5));
     drop(array);
-    assert_eq!(rt; drops.get(), 6);
+    expect_eq(&rt, drops.get(), 6);
 }
 
 #[test]
@@ -47,11 +48,11 @@ fn of_two_halves(rt: HostRuntime) {
     let mut low = ArrayOf::new();
     let mut high = ArrayOf::new();
     drop(array.distribute_apart(2, &mut low, &mut high));
-    assert_eq!(rt; (low.len(), high.len(), drops.get()), (2, 2, 1));
+    expect_eq(&rt, (low.len(), high.len(), drops.get()), (2, 2, 1));
     drop(array);
-    assert_eq!(rt; drops.get(), 1);
+    expect_eq(&rt, drops.get(), 1);
     drop(low);
-    assert_eq!(rt; drops.get(), 3);
+    expect_eq(&rt, drops.get(), 3);
     drop(high);
-    assert_eq!(rt; drops.get(), 5);
+    expect_eq(&rt, drops.get(), 5);
 }

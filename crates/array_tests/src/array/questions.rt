@@ -7,6 +7,7 @@ use std::marker::Brand;
 use std::process::Abort;
 use std::sync::ledger::{Blank, Ledger};
 use test_support::chance::Chance;
+use test_support::expect::expect_eq;
 use tree_array::array::{ArrayOf, Judge, KeyJudge, Steps};
 
 /// A type with a key for each number, in the order of the numbers.
@@ -165,7 +166,7 @@ fn asks<K: Numbered, S: Searched<K>, R: Abort>(rt: &R, array: &S, len: u64, most
         } else {
             most
         };
-        assert_eq!(rt; questions(array, &K::numbered(number)), (stored, wanted));
+        expect_eq(rt, questions(array, &K::numbered(number)), (stored, wanted));
     }
 }
 

@@ -1,6 +1,7 @@
 //! Arenas: each call with ample memory, and what a refusal leaves.
 use std::alloc::{AllocError, Global};
 use std::process::Abort;
+use test_support::expect::expect_eq;
 use test_support::refusals::succeeds;
 use tree_leaf::arena::{Slots, SlotsOf};
 use tree_leaf::leaf::{Leaf, LeafOf};
@@ -21,9 +22,9 @@ fn leaves_come_and_go(rt: &impl Abort, alloc: Global) -> Result<(), AllocError> 
     assert!(rt; first != second && counts(&arenas) == (2, 0));
     let _ = arenas.leaf_mut(first).array_mut().insert::<false>(1, 10);
     assert!(rt; arenas.leaf(second).array().is_empty());
-    assert_eq!(rt; arenas.remove_leaf(first).array().free(), 14);
-    assert_eq!(rt; arenas.remove_leaf(second).array().free(), 15);
-    assert_eq!(rt; counts(&arenas), (0, 0));
+    expect_eq(rt, arenas.remove_leaf(first).array().free(), 14);
+    expect_eq(rt, arenas.remove_leaf(second).array().free(), 15);
+    expect_eq(rt, counts(&arenas), (0, 0));
     Ok(())
 }
 
@@ -32,10 +33,10 @@ fn nodes_come_and_go(rt: &impl Abort, alloc: Global) -> Result<(), AllocError> {
     let Ok(node) = arenas.add_node(7) else {
         return Err(AllocError);
     };
-    assert_eq!(rt; (counts(&arenas), *arenas.node(node)), ((0, 1), 7));
+    expect_eq(rt, (counts(&arenas), *arenas.node(node)), ((0, 1), 7));
     *arenas.node_mut(node) = 8;
-    assert_eq!(rt; arenas.remove_node(node), 8);
-    assert_eq!(rt; counts(&arenas), (0, 0));
+    expect_eq(rt, arenas.remove_node(node), 8);
+    expect_eq(rt, counts(&arenas), (0, 0));
     Ok(())
 }
 
@@ -43,14 +44,14 @@ fn nodes_come_and_go(rt: &impl Abort, alloc: Global) -> Result<(), AllocError> {
 fn reserved_places_serve(rt: &impl Abort, alloc: Global) -> Result<(), AllocError> {
     let mut arenas: Slots<u64, u64, u8> = Slots::new(alloc);
     arenas.reserve(1, 1)?;
-    assert_eq!(rt; counts(&arenas), (0, 0));
+    expect_eq(rt, counts(&arenas), (0, 0));
     let Ok(_) = arenas.add_leaf(Leaf::new()) else {
         unreachable!()
     };
     let Ok(_) = arenas.add_node(7) else {
         unreachable!()
     };
-    assert_eq!(rt; counts(&arenas), (1, 1));
+    expect_eq(rt, counts(&arenas), (1, 1));
     Ok(())
 }
 
@@ -66,7 +67,7 @@ fn adds_leaf(rt: &impl Abort, arenas: &mut SlotsOf<u64, u64, u8, 7>) -> bool {
     match arenas.add_leaf(LeafOf::new()) {
         Ok(_) => true,
         Err(leaf) => {
-            assert_eq!(rt; leaf.array().free(), 7);
+            expect_eq(rt, leaf.array().free(), 7);
             false
         }
     }
@@ -77,7 +78,7 @@ fn adds_node(rt: &impl Abort, arenas: &mut SlotsOf<u64, u64, u8, 7>) -> bool {
     match arenas.add_node(9) {
         Ok(_) => true,
         Err(node) => {
-            assert_eq!(rt; node, 9);
+            expect_eq(rt, node, 9);
             false
         }
     }
@@ -88,10 +89,10 @@ fn adds_node(rt: &impl Abort, arenas: &mut SlotsOf<u64, u64, u8, 7>) -> bool {
 fn refusals_change_nothing(rt: HostRuntime) {
     let mut arenas: SlotsOf<u64, u64, u8, 7> = SlotsOf::new(rt.alloc());
     let reserves = arenas.reserve(1, 1).is_ok();
-    assert_eq!(rt; (arenas.leaf_count(), arenas.node_count()), (0, 0));
+    expect_eq(&rt, (arenas.leaf_count(), arenas.node_count()), (0, 0));
     let leaf = adds_leaf(&rt, &mut arenas);
     let node = adds_node(&rt, &mut arenas);
     assert!(rt; if reserves { leaf && node } else { leaf || node });
     let counts = (arenas.leaf_count(), arenas.node_count());
-    assert_eq!(rt; counts, (leaf as usize, node as usize));
+    expect_eq(&rt, counts, (leaf as usize, node as usize));
 }

@@ -7,6 +7,7 @@ ghost use Rattle.tree_leaf.specs.Chain.{IsChain};
 use crate::leaf::chain::Chain;
 use std::alloc::{AllocError, Global};
 use std::process::Abort;
+use test_support::expect::expect_eq;
 use test_support::refusals::succeeds;
 use tree_leaf::arena::{LeafId, SlotsOf};
 use tree_leaf::leaf::{splice_link, unlink};
@@ -34,9 +35,9 @@ fn compare<const LEN: usize>(
     requires second { ContainsKey arenas.now.leaves second }
     requires third { ContainsKey arenas.now.leaves third }
 {
-    assert_eq!(rt; beside(arenas, first), wanted.0);
-    assert_eq!(rt; beside(arenas, second), wanted.1);
-    assert_eq!(rt; beside(arenas, third), wanted.2);
+    expect_eq(rt, beside(arenas, first), wanted.0);
+    expect_eq(rt, beside(arenas, second), wanted.1);
+    expect_eq(rt, beside(arenas, third), wanted.2);
 }
 
 /// The second of three leaves is taken out of its chain.
@@ -59,7 +60,7 @@ fn without_second<const LEN: usize>(
     );
     compare(rt, arenas, first, second, third, wanted);
     unlink(arenas, second);
-    assert_eq!(rt; arenas.leaf_count(), 3);
+    expect_eq(rt, arenas.leaf_count(), 3);
     let wanted = (
         (None, Some(third)),
         (Some(first), Some(third)),

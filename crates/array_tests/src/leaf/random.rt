@@ -7,6 +7,7 @@ use crate::leaf::walk::{Call, answer, key_of};
 use std::alloc::{AllocError, Global};
 use std::process::Abort;
 use test_support::chance::Chance;
+use test_support::expect::expect_eq;
 use test_support::refusals::succeeds;
 use tree_array::array::ArrayOf;
 use tree_leaf::leaf::{IterOf, LeafOf, LinkedIter, SlotWalk};
@@ -74,8 +75,8 @@ fn step<'t, S: SlotWalk, const LEN: usize>(
     listed: &mut Listed,
     call: Call,
 ) {
-    assert_eq!(rt; answer(rt, walk, call), listed.answer(call));
-    assert_eq!(rt; answer(rt, walk, Call::Get), listed.answer(Call::Get));
+    expect_eq(rt, answer(rt, walk, call), listed.answer(call));
+    expect_eq(rt, answer(rt, walk, Call::Get), listed.answer(Call::Get));
 }
 
 /// Some random calls. One of eight is made on a clone.
@@ -112,11 +113,11 @@ fn goes_about<const LEN: usize>(
     for _ in 0..8 {
         listed.order = Order::Ascending;
         steps(rt, chance, &mut on, &mut listed)?;
-        assert_eq!(rt; on.max_key().copied(), listed.last_key());
+        expect_eq(rt, on.max_key().copied(), listed.last_key());
         let mut back = on.rev();
         listed.order = Order::Descending;
         steps(rt, chance, &mut back, &mut listed)?;
-        assert_eq!(rt; back.min_key().copied(), listed.last_key());
+        expect_eq(rt, back.min_key().copied(), listed.last_key());
         on = back.rev();
     }
     Ok(())
@@ -130,9 +131,9 @@ fn compare_on<const LEN: usize>(
     pairs: &[(u64, u64)],
 ) -> Result<(), AllocError> {
     let entries = chain.all_on(alloc, 0)?;
-    assert_eq!(rt; entries.len(), pairs.len());
+    expect_eq(rt, entries.len(), pairs.len());
     for (entry, (key, _)) in entries.iter().zip(pairs) {
-        assert!(rt; key_of(rt, Some(*entry)) == Some(*key));
+        expect_eq(rt, key_of(rt, Some(*entry)), Some(*key));
     }
     Ok(())
 }
@@ -145,9 +146,9 @@ fn compare_back<const LEN: usize>(
     pairs: &[(u64, u64)],
 ) -> Result<(), AllocError> {
     let entries = chain.all_back(alloc, 3)?;
-    assert_eq!(rt; entries.len(), pairs.len());
+    expect_eq(rt, entries.len(), pairs.len());
     for (entry, (key, _)) in entries.iter().zip(pairs.iter().rev()) {
-        assert!(rt; key_of(rt, Some(*entry)) == Some(*key));
+        expect_eq(rt, key_of(rt, Some(*entry)), Some(*key));
     }
     Ok(())
 }

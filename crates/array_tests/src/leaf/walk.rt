@@ -1,6 +1,7 @@
 //! Calls on a walk over the leaves of a chain, either way.
 use crate::leaf::chain::value_of;
 use std::process::Abort;
+use test_support::expect::expect_eq;
 use tree_leaf::leaf::{LeafOf, LinkedIter, SlotWalk};
 
 /// A call that answers an entry. A rewind answers none.
@@ -15,7 +16,7 @@ pub enum Call {
 /// The key of an entry, which has its value.
 pub(crate) fn key_of(rt: &impl Abort, entry: Option<(&u64, &u64)>) -> Option<u64> {
     let (key, value) = entry?;
-    assert_eq!(rt; *value, value_of(*key));
+    expect_eq(rt, *value, value_of(*key));
     Some(*key)
 }
 

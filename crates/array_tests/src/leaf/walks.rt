@@ -4,6 +4,7 @@ use crate::leaf::walk::{Call, answer};
 use Call::{Get, Jump, Next, Rewind};
 use std::alloc::{AllocError, Global};
 use std::process::Abort;
+use test_support::expect::expect_eq;
 use test_support::refusals::succeeds;
 use tree_leaf::leaf::{Leaf, LinkedIter, SlotWalk};
 
@@ -22,7 +23,7 @@ fn expect_keys<'t, S: SlotWalk>(
     rows: &[Row],
 ) {
     for (call, wanted) in rows {
-        assert_eq!(rt; answer(rt, walk, *call), *wanted);
+        expect_eq(rt, answer(rt, walk, *call), *wanted);
     }
 }
 
@@ -60,9 +61,9 @@ static ON_REWOUND: [Row; 3] = [(Rewind, None), (Get, None), (Next, Some(5))];
 fn walks_on_steps(rt: &impl Abort, alloc: Global) -> Result<(), AllocError> {
     let chain = chain_of(alloc, [&[3, 1], &[], &[5]])?;
     let mut walk = chain.walk_on(0)?;
-    assert_eq!(rt; walk.max_key().copied(), Some(3));
+    expect_eq(rt, walk.max_key().copied(), Some(3));
     expect_apart(rt, &mut walk, [&ON_BEFORE, &ON_AFTER, &ON_OF_CLONE])?;
-    assert_eq!(rt; walk.max_key().copied(), Some(5));
+    expect_eq(rt, walk.max_key().copied(), Some(5));
     expect_keys(rt, &mut walk, &ON_REWOUND);
     Ok(())
 }
@@ -91,9 +92,9 @@ static BACK_REWOUND: [Row; 3] = [(Rewind, None), (Get, None), (Next, Some(1))];
 fn walks_back_steps(rt: &impl Abort, alloc: Global) -> Result<(), AllocError> {
     let chain = chain_of(alloc, [&[1], &[], &[7, 5]])?;
     let mut walk = chain.walk_back(2)?;
-    assert_eq!(rt; walk.min_key().copied(), Some(5));
+    expect_eq(rt, walk.min_key().copied(), Some(5));
     expect_apart(rt, &mut walk, [&BACK_BEFORE, &BACK_AFTER, &BACK_OF_CLONE])?;
-    assert_eq!(rt; walk.min_key().copied(), Some(1));
+    expect_eq(rt, walk.min_key().copied(), Some(1));
     expect_keys(rt, &mut walk, &BACK_REWOUND);
     Ok(())
 }
@@ -134,10 +135,10 @@ fn turns_about_in_an_empty_leaf_steps(rt: &impl Abort, alloc: Global) -> Result<
     let chain = chain_of(alloc, [&[1, 2], &[], &[5]])?;
     let mut walk = chain.walk_on(1)?;
     expect_keys(rt, &mut walk, &[(Next, None)]);
-    assert_eq!(rt; walk.max_key().copied(), None);
+    expect_eq(rt, walk.max_key().copied(), None);
     let mut walk = walk.rev();
     expect_keys(rt, &mut walk, &[(Next, None)]);
-    assert_eq!(rt; walk.min_key().copied(), None);
+    expect_eq(rt, walk.min_key().copied(), None);
     expect_keys(rt, &mut walk, &FROM_EMPTY);
     Ok(())
 }

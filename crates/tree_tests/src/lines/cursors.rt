@@ -3,6 +3,7 @@ use super::streams::{Failing, Failure, Sink, Source};
 use super::{Row, expect_answers};
 use std::alloc::{AllocError, Global};
 use std::process::Abort;
+use test_support::expect::expect_eq;
 use test_support::refusals::succeeds;
 use tree_index::TreeIndex;
 use tree_lines::{ToolFault, run_lines};
@@ -100,20 +101,22 @@ fn breaks_off_anywhere(
                 by,
             },
         );
-        assert_eq!(rt;
+        expect_eq(
+            rt,
             run_lines(&mut index, &mut input, &mut output),
-            Err(ToolFault::Write)
+            Err(ToolFault::Write),
         );
-        assert_eq!(rt; output.taken(), wanted.as_bytes().split_at(passes).0);
-        assert_eq!(rt; index.len(), 20);
+        expect_eq(rt, output.taken(), wanted.as_bytes().split_at(passes).0);
+        expect_eq(rt, index.len(), 20);
     }
     let mut output = Sink::new(256, Failing::never());
-    assert_eq!(rt;
+    expect_eq(
+        rt,
         run_lines(&mut index, &mut lines.as_bytes(), &mut output),
-        Ok(())
+        Ok(()),
     );
     assert!(rt; output.taken().starts_with(wanted.as_bytes()));
-    assert_eq!(rt; index.len(), 19);
+    expect_eq(rt, index.len(), 19);
     Ok(())
 }
 
@@ -146,13 +149,14 @@ fn reads_up_to_a_fault(
             },
         );
         let mut output = Sink::new(256, Failing::never());
-        assert_eq!(rt;
+        expect_eq(
+            rt,
             run_lines(&mut index, &mut input, &mut output),
-            Err(ToolFault::Read)
+            Err(ToolFault::Read),
         );
         let answers = if passes < answered { "" } else { wanted };
-        assert_eq!(rt; output.taken(), answers.as_bytes());
-        assert_eq!(rt; index.len(), 20);
+        expect_eq(rt, output.taken(), answers.as_bytes());
+        expect_eq(rt, index.len(), 20);
     }
     Ok(())
 }

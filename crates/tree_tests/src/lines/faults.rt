@@ -3,6 +3,7 @@ use super::streams::{Failing, Failure, Sink, Source};
 use std::alloc::{AllocError, Global};
 use std::process::Abort;
 use std::test::Fail;
+use test_support::expect::expect_eq;
 use test_support::refusals::succeeds;
 use tree_index::TreeIndex;
 use tree_lines::{ToolFault, WriteFailed, run_lines};
@@ -25,13 +26,17 @@ fn stops_at(
     let mut input = Source::new(REQUESTS, 1, reads);
     let mut output = Sink::new(1, writes);
     let mut index = TreeIndex::new(alloc);
-    assert_eq!(rt; run_lines(&mut index, &mut input, &mut output), Err(fault));
+    expect_eq(
+        rt,
+        run_lines(&mut index, &mut input, &mut output),
+        Err(fault),
+    );
     let found = (index.peek(&1).copied(), index.peek(&2).copied());
     if found.0 < first || found.1 < second {
         return Err(AllocError);
     }
-    assert_eq!(rt; found, (first, second));
-    assert_eq!(rt; output.taken(), answers);
+    expect_eq(rt, found, (first, second));
+    expect_eq(rt, output.taken(), answers);
     Ok(())
 }
 
@@ -72,9 +77,10 @@ fn shows_faults(rt: HostRuntime) -> Result<(), Fail> {
     let (read, write) = (ToolFault::Read, ToolFault::Write);
     let shown = || format!(in rt.alloc(); "{read}, {write}, {write:?}, {WriteFailed}");
     let text = shown().or_else(|_| shown())?;
-    assert_eq!(rt;
+    expect_eq(
+        &rt,
         text.as_str(),
-        "a read failed, a write failed, Write, a write failed"
+        "a read failed, a write failed, Write, a write failed",
     );
     Ok(())
 }

@@ -3,6 +3,7 @@ use super::answered;
 use std::alloc::{AllocError, Global};
 use std::io::Read;
 use std::process::Abort;
+use test_support::expect::expect_eq;
 use test_support::refusals::succeeds;
 
 /// None of these lines is a request, not even where it contains one.
@@ -131,7 +132,7 @@ fn expect_too_long(
     let line = before.as_bytes().chain(middle).chain(behind.as_bytes());
     let input = b"insert 1 10\n".as_slice().chain(line);
     let output = answered(rt, alloc, input, 256)?;
-    assert_eq!(rt; output.taken(), b"ok\n?\n10\n".as_slice());
+    expect_eq(rt, output.taken(), b"ok\n?\n10\n".as_slice());
     Ok(())
 }
 
