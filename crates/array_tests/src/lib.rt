@@ -4,6 +4,8 @@
 #[cfg(test)]
 mod array;
 #[cfg(test)]
+mod expect;
+#[cfg(test)]
 mod leaf;
 #[cfg(test)]
 mod slots;

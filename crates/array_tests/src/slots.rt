@@ -1,11 +1,11 @@
 //! The sizes of slots and rows, and what they drop.
+use crate::expect::expect_eq;
 use crate::token::Token;
 use std::alloc::AllocError;
 use std::cell::Cell;
 use std::marker::{Send, Sync};
 use std::mem::size_of;
 use std::test::Fail;
-use test_support::expect::expect_eq;
 use tree_slots::row::Row;
 use tree_slots::slot::Slot;
 

@@ -1,10 +1,10 @@
 //! Copies of an index.
+use crate::expect::expect_eq;
 use crate::index_of;
 use std::alloc::{AllocError, Global};
 use std::ops::Bound;
 use std::process::Abort;
 use test_support::chance::Chance;
-use test_support::expect::expect_eq;
 use test_support::refusals::succeeds;
 use tree_index::{TreeIndex, TreeIndexOf};
 use tree_support::{ORDERS, flaws, grown};

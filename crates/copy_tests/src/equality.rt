@@ -1,9 +1,9 @@
 //! Worked comparisons of two indexes.
+use crate::expect::expect_eq;
 use crate::index_of;
 use std::alloc::{AllocError, Global};
 use std::process::Abort;
 use test_support::chance::Chance;
-use test_support::expect::expect_eq;
 use test_support::refusals::succeeds;
 use tree_index::TreeIndex;
 use tree_support::{ORDERS, grown};

@@ -6,6 +6,8 @@ mod copies;
 #[cfg(test)]
 mod equality;
 #[cfg(test)]
+mod expect;
+#[cfg(test)]
 mod readers;
 
 #[cfg(test)]

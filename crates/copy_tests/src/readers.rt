@@ -1,8 +1,8 @@
 //! Worked look-ups that pass the pair to a reader.
+use crate::expect::expect_eq;
 use crate::index_of;
 use std::alloc::{AllocError, Global};
 use std::process::Abort;
-use test_support::expect::expect_eq;
 use test_support::refusals::succeeds;
 
 /// Keys, what a reader that adds key and value returns, and how often it is called.

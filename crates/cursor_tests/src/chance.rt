@@ -1,4 +1,5 @@
 //! Moves by chance of cursors over trees of many shapes, beside a cursor over the plain list.
+use crate::expect::expect_eq;
 use crate::locates::{Place, place_of};
 use crate::plain::PlainCursor;
 use crate::said::make;
@@ -6,7 +7,6 @@ use std::alloc::{AllocError, Global};
 use std::ops::Bound;
 use std::process::Abort;
 use test_support::chance::Chance;
-use test_support::expect::expect_eq;
 use test_support::refusals::succeeds;
 use tree_index::{Cursor, Iter, Move};
 use tree_support::{Both, Bounds, ORDERS, Order, bound_at, grown, key_of};

@@ -5,6 +5,8 @@
 #[cfg(test)]
 mod chance;
 #[cfg(test)]
+mod expect;
+#[cfg(test)]
 mod locates;
 #[cfg(test)]
 mod plain;

@@ -1,10 +1,10 @@
 //! Worked look-ups of near keys.
+use crate::expect::expect_eq;
 use crate::said::{Entry, numbers};
 use crate::walks::{ascending, index_of};
 use std::alloc::{AllocError, Global};
 use std::ops::Bound;
 use std::process::Abort;
-use test_support::expect::expect_eq;
 use test_support::refusals::succeeds;
 use tree_index::{Proximity, ProximityOf, TreeIndex};
 

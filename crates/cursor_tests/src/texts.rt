@@ -1,9 +1,9 @@
 //! The texts of cursors.
+use crate::expect::expect_eq;
 use crate::walks::index_of;
 use std::alloc::{AllocError, Global};
 use std::ops::Bound;
 use std::process::Abort;
-use test_support::expect::expect_eq;
 use test_support::refusals::succeeds;
 
 fn texts_steps(rt: &impl Abort, alloc: Global) -> Result<(), AllocError> {

@@ -1,9 +1,9 @@
 //! Worked walks of cursors.
+use crate::expect::expect_eq;
 use crate::said::{Entry, Said, make, numbers, said_by};
 use std::alloc::{AllocError, Global};
 use std::ops::Bound;
 use std::process::Abort;
-use test_support::expect::expect_eq;
 use test_support::refusals::succeeds;
 use tree_index::{Cursor, Iter, Move, Range, TreeIndex, run_moves};
 use tree_ranges::laws::{pairs_ascending, pairs_descending};

@@ -6,7 +6,6 @@ use crate::steps::{Step, Told, take};
 use std::alloc::{AllocError, Global};
 use std::ops::Bound;
 use std::process::Abort;
-use test_support::expect::expect_eq;
 use test_support::refusals::succeeds;
 use tree_array::array::RemoveResult;
 use tree_node::leaf_node::LeafNodeOf;
@@ -95,7 +94,7 @@ fn either_leaf_node<const LEN: usize>(rt: &impl Abort, alloc: Global) -> Result<
     take(rt, &mut tree, &LEAF_NODE)?;
     take(rt, &mut tree, &FEW)?;
     take(rt, &mut tree, &RETIRED_LEAF_NODE)?;
-    expect_eq(rt, cleanup_root(tree), (Some(false), 0, 1));
+    assert_eq!(rt; cleanup_root(tree), (Some(false), 0, 1));
     Ok(())
 }
 
@@ -107,7 +106,7 @@ fn either_internal_node<const LEN: usize>(rt: &impl Abort, alloc: Global) -> Res
     take(rt, &mut tree, &INTERNAL_NODE)?;
     take(rt, &mut tree, &FEW)?;
     take(rt, &mut tree, &RETIRED_INTERNAL_NODE)?;
-    expect_eq(rt, cleanup_root(tree), (None, 0, 0));
+    assert_eq!(rt; cleanup_root(tree), (None, 0, 0));
     Ok(())
 }
 
@@ -128,9 +127,9 @@ fn cleaned<const LEN: usize>(rt: &impl Abort, alloc: Global) -> Result<(), Alloc
     requires { IsLen LEN }
 {
     let low = Planted::<NodeOf<u64, LEN>, 1, LEN>::new(alloc, 10, 11)?;
-    expect_eq(rt, cleanup_root(low), (Some(false), 1, 1));
+    assert_eq!(rt; cleanup_root(low), (Some(false), 1, 1));
     let high = internal_root::<LEN>(alloc, 10, 11)?;
-    expect_eq(rt, cleanup_root(high.through_node()), (Some(true), 1, 1));
+    assert_eq!(rt; cleanup_root(high.through_node()), (Some(true), 1, 1));
     Ok(())
 }
 

@@ -6,7 +6,6 @@ use crate::planted::{Planted, cleanup_root, internal_root, split_root};
 use crate::steps::{Step, Told, take};
 use std::alloc::{AllocError, Global};
 use std::process::Abort;
-use test_support::expect::expect_eq;
 use test_support::refusals::succeeds;
 use tree_array::array::RemoveResult;
 use tree_node::leaf_node::LeafNodeOf;
@@ -113,10 +112,9 @@ fn grows<const LEN: usize>(
     assert!(rt; tree.split_last()?);
     let mut tree = tree.through_node();
     take(rt, &mut tree, growth.third)?;
-    expect_eq(
-        rt,
+    assert_eq!(rt;
         cleanup_root(tree),
-        (Some(true), growth.leaves, growth.nodes),
+        (Some(true), growth.leaves, growth.nodes)
     );
     Ok(())
 }

@@ -6,7 +6,6 @@ use crate::steps::{Step, Told, take};
 use std::alloc::{AllocError, Global};
 use std::ops::Bound;
 use std::process::Abort;
-use test_support::expect::expect_eq;
 use test_support::refusals::succeeds;
 use tree_node::leaf_node::LeafNodeOf;
 
@@ -105,11 +104,7 @@ fn drops_nodes<const LEN: usize>(
 {
     let mut tree = internal_root::<LEN>(alloc, 1, 1)?;
     take(rt, &mut tree, steps)?;
-    expect_eq(
-        rt,
-        cleanup_root(tree.through_node()),
-        (Some(true), leaves, 1),
-    );
+    assert_eq!(rt; cleanup_root(tree.through_node()), (Some(true), leaves, 1));
     Ok(())
 }
 

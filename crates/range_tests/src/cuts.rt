@@ -1,9 +1,9 @@
 //! Cuts by chance: trees of several sizes that were built in several orders are cut and written to again.
+use crate::expect::expect_eq;
 use std::alloc::{AllocError, Global};
 use std::ops::Bound;
 use std::process::Abort;
 use test_support::chance::Chance;
-use test_support::expect::expect_eq;
 use test_support::refusals::succeeds;
 use tree_support::{Both, Bounds, ORDERS, Order, bound_at, grown, key_of, separator};
 

@@ -9,4 +9,6 @@ mod counted;
 #[cfg(test)]
 mod cuts;
 #[cfg(test)]
+mod expect;
+#[cfg(test)]
 mod rows;

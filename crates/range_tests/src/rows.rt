@@ -1,8 +1,8 @@
 //! Worked removals.
+use crate::expect::expect_eq;
 use std::alloc::{AllocError, Global};
 use std::ops::Bound;
 use std::process::Abort;
-use test_support::expect::expect_eq;
 use test_support::refusals::succeeds;
 use tree_support::Both;
 

@@ -3,7 +3,6 @@ ghost use Rattle.std.specs.Prelude.{◌≡◌, ◌<◌, All, length, IfOk};
 
 use std::alloc::{AllocError, Global};
 use std::process::Abort;
-use test_support::expect::expect_eq;
 use test_support::refusals::succeeds;
 use tree_index::{Command, Record, Reply, State, StateOf};
 use tree_shared::{Tally, run_schedule};
@@ -72,7 +71,7 @@ fn runs_at_fifteen(rt: &impl Abort, alloc: Global) -> Result<(), AllocError> {
     if run_schedule(&mut state, commands, &mut tallies) > 0 {
         return Err(AllocError);
     }
-    expect_eq(rt, tallies, TALLIES);
+    assert!(rt; tallies == TALLIES);
     assert!(rt; are_the_replies(state.history()));
     assert!(rt; state.index().is_empty());
     Ok(())
@@ -85,7 +84,7 @@ fn runs_at_seven(rt: &impl Abort, alloc: Global) -> Result<(), AllocError> {
     if run_schedule(&mut state, commands, &mut tallies) > 0 {
         return Err(AllocError);
     }
-    expect_eq(rt, tallies, TALLIES);
+    assert!(rt; tallies == TALLIES);
     assert!(rt; are_the_replies(state.history()));
     assert!(rt; state.index().is_empty());
     Ok(())

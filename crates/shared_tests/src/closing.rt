@@ -3,12 +3,12 @@ ghost use Rattle.std.specs.Prelude.{◌≡◌, All};
 ghost use Rattle.tree_shared.specs.Tallies.{none};
 
 use crate::closed::closed_with;
+use crate::expect::expect_eq;
 use crate::scenario::{Scenario, play, stored};
 use std::alloc::AllocError;
 use std::process::Abort;
 use std::sync::Wait;
 use std::sync::ledger::Ledger;
-use test_support::expect::expect_eq;
 use test_support::refusals::succeeds;
 use tree_shared::{Pass, SharedTreeIndex, Tally, Unclosed};
 

@@ -3,13 +3,13 @@ ghost use Rattle.std.specs.Prelude.{◌≡◌, All};
 ghost use Rattle.tree_shared.specs.Tallies.{none};
 
 use crate::closed::closed_with;
+use crate::expect::expect_eq;
 use crate::scenario::{Scenario, play, stored};
 use std::alloc::AllocError;
 use std::ops::Bound;
 use std::process::Abort;
 use std::sync::Wait;
 use std::sync::ledger::Ledger;
-use test_support::expect::expect_eq;
 use test_support::refusals::succeeds;
 use tree_index::{Command, Record, Reply};
 use tree_shared::{Pass, SharedTreeIndex, Tally};

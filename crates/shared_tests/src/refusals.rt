@@ -4,13 +4,13 @@ ghost use Rattle.std.proofs.Common.{rules, sym};
 ghost use Rattle.tree_model.specs.Keys.{equal_numbers};
 ghost use Rattle.tree_shared.specs.Ledgers.{IsBlankFor};
 
+use crate::expect::expect_eq;
 use crate::scenario::{Scenario, play};
 use std::alloc::{AllocError, Global};
 use std::cell::Cell;
 use std::process::Abort;
 use std::sync::Wait;
 use std::sync::ledger::Ledger;
-use test_support::expect::expect_eq;
 use test_support::refusals::succeeds;
 use tree_index::{IndexKey, InsertError, SameClone};
 use tree_shared::{Blanks, SharedTreeIndex, Tally};

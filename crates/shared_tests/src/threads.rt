@@ -1,5 +1,6 @@
 //! Threads that share an index.
 use crate::closed::closed_with;
+use crate::expect::expect_eq;
 use crate::replay::replays;
 use crate::scenario::{Scenario, play, stored};
 use std::alloc::{AllocError, Global};
@@ -10,7 +11,6 @@ use std::sync::ledger::Ledger;
 use std::thread;
 use std::thread::Threads;
 use std::time::{Clock, Duration};
-use test_support::expect::expect_eq;
 use test_support::refusals::succeeds;
 use tree_index::{Command, Record, Reply};
 use tree_shared::{Pass, SharedTreeIndex, Tally};

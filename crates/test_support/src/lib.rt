@@ -2,5 +2,4 @@
 #![tactic(auto)]
 
 pub mod chance;
-pub mod expect;
 pub mod refusals;

@@ -1,7 +1,7 @@
 //! The history that a state keeps of its calls.
+use crate::expect::expect_eq;
 use std::alloc::{AllocError, Global};
 use std::process::Abort;
-use test_support::expect::expect_eq;
 use test_support::refusals::succeeds;
 use tree_index::{Command, IndexKey, InsertError, PreparedPair, Reply, SameClone, State};
 use tree_support::flaws;

@@ -1,8 +1,8 @@
 //! Worked calls of the index.
+use crate::expect::expect_eq;
 use crate::keys::Tagged;
 use std::alloc::{AllocError, Global};
 use std::process::Abort;
-use test_support::expect::expect_eq;
 use test_support::refusals::succeeds;
 use tree_index::{InsertError, TreeIndex};
 use tree_support::Both;

@@ -5,11 +5,11 @@ mod faults;
 mod grammar;
 mod streams;
 
+use crate::expect::expect_eq;
 use std::alloc::{AllocError, Global};
 use std::io::Read;
 use std::process::Abort;
 use streams::{Failing, Sink, Source};
-use test_support::expect::expect_eq;
 use tree_index::TreeIndex;
 use tree_lines::run_lines;
 

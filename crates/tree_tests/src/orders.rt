@@ -1,8 +1,8 @@
 //! Thousands of keys, put and removed in several orders: compared at the key and beside it after each call, and as a
 //! whole after each hundredth.
+use crate::expect::expect_eq;
 use std::alloc::{AllocError, Global};
 use std::process::Abort;
-use test_support::expect::expect_eq;
 use test_support::refusals::succeeds;
 use tree_support::{Both, Order};
 

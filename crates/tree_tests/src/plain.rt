@@ -1,8 +1,8 @@
 //! What the plain index answers, on lists worked out by hand.
+use crate::expect::expect_eq;
 use std::alloc::{AllocError, Global};
 use std::ops::Bound;
 use std::process::Abort;
-use test_support::expect::expect_eq;
 use test_support::refusals::succeeds;
 use tree_model::{InsertError, PlainIndex, is_above, is_below, range_contains};
 

@@ -1,7 +1,7 @@
 //! Lists of commands that an index answers.
+use crate::expect::expect_eq;
 use std::alloc::{AllocError, Global};
 use std::process::Abort;
-use test_support::expect::expect_eq;
 use test_support::refusals::succeeds;
 use tree_index::{Command, IndexKey, Reply, SameClone, TreeIndex, run};
 use tree_support::flaws;

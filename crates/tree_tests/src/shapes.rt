@@ -1,8 +1,8 @@
 //! How deep a tree is, how much room its leaves have, and how many leaves and nodes there are, as the rules of splits and
 //! of removals give it.
+use crate::expect::expect_eq;
 use std::alloc::{AllocError, Global};
 use std::process::Abort;
-use test_support::expect::expect_eq;
 use test_support::refusals::succeeds;
 use tree_index::TreeIndexOf;
 use tree_support::Both;

@@ -2,12 +2,12 @@
 ghost use Rattle.std.specs.Prelude.{◌≡◌};
 ghost use Rattle.tree_model.specs.Keys.{equal_numbers};
 
+use crate::expect::expect_eq;
 use std::alloc::{AllocError, Global};
 use std::cell::Cell;
 use std::ops::Bound;
 use std::process::Abort;
 use test_support::chance::Chance;
-use test_support::expect::expect_eq;
 use test_support::refusals::succeeds;
 use tree_index::{InsertError, TreeIndexOf};
 use tree_model::IndexKey;

@@ -1,9 +1,9 @@
 //! What the calls of an array answer, on arrays worked out by hand.
 use super::found::{Found, found, slot_from};
+use crate::expect::expect_eq;
 use std::ops::Bound;
 use std::process::Abort;
 use std::test::Fail;
-use test_support::expect::expect_eq;
 use tree_array::array::{
     Array, ArrayIter, ArrayOf, ArrayRevIter, DIMENSION, InsertResult, RemoveResult, range_contains,
 };

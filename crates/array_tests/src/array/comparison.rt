@@ -5,11 +5,11 @@ ghost use Rattle.tree_array.specs.Length.{IsLen};
 
 use super::found::{found, slot_from};
 use super::plain::Plain;
+use crate::expect::expect_eq;
 use std::alloc::{AllocError, Global};
 use std::ops::Bound;
 use std::process::Abort;
 use test_support::chance::Chance;
-use test_support::expect::expect_eq;
 use test_support::refusals::succeeds;
 use tree_array::array::{ArrayIter, ArrayOf, ArrayRevIter, RemoveResult};
 

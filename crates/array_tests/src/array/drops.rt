@@ -1,8 +1,8 @@
 //! Every value that an array took is dropped once.
+use crate::expect::expect_eq;
 use crate::token::Token;
 use std::cell::Cell;
 use std::ops::Bound;
-use test_support::expect::expect_eq;
 use tree_array::array::{Array, ArrayOf, RemoveResult};
 
 /// An array with these keys.

@@ -2,12 +2,12 @@
 ghost use Rattle.std.specs.Prelude.{◌≡◌, ◌<◌};
 ghost use Rattle.tree_array.specs.Length.{IsLen};
 
+use crate::expect::expect_eq;
 use std::cmp::Ordering;
 use std::marker::Brand;
 use std::process::Abort;
 use std::sync::ledger::{Blank, Ledger};
 use test_support::chance::Chance;
-use test_support::expect::expect_eq;
 use tree_array::array::{ArrayOf, Judge, KeyJudge, Steps};
 
 /// A type with a key for each number, in the order of the numbers.

@@ -1,7 +1,7 @@
 //! Arenas: each call with ample memory, and what a refusal leaves.
+use crate::expect::expect_eq;
 use std::alloc::{AllocError, Global};
 use std::process::Abort;
-use test_support::expect::expect_eq;
 use test_support::refusals::succeeds;
 use tree_leaf::arena::{Slots, SlotsOf};
 use tree_leaf::leaf::{Leaf, LeafOf};

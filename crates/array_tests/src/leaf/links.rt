@@ -4,10 +4,10 @@ ghost use Rattle.slab.specs.Slab.{ContainsKey};
 ghost use Rattle.tree_array.specs.Length.{IsLen};
 ghost use Rattle.tree_leaf.specs.Chain.{IsChain};
 
+use crate::expect::expect_eq;
 use crate::leaf::chain::Chain;
 use std::alloc::{AllocError, Global};
 use std::process::Abort;
-use test_support::expect::expect_eq;
 use test_support::refusals::succeeds;
 use tree_leaf::arena::{LeafId, SlotsOf};
 use tree_leaf::leaf::{splice_link, unlink};

@@ -1,13 +1,13 @@
 //! Random walks over random chains, each answer compared with that of a plain list.
 ghost use Rattle.tree_array.specs.Length.{IsLen};
 
+use crate::expect::expect_eq;
 use crate::leaf::chain::{Chain, value_of};
 use crate::leaf::listed::{Listed, Order};
 use crate::leaf::walk::{Call, answer, key_of};
 use std::alloc::{AllocError, Global};
 use std::process::Abort;
 use test_support::chance::Chance;
-use test_support::expect::expect_eq;
 use test_support::refusals::succeeds;
 use tree_array::array::ArrayOf;
 use tree_leaf::leaf::{IterOf, LeafOf, LinkedIter, SlotWalk};
@@ -153,21 +153,51 @@ fn compare_back<const LEN: usize>(
     Ok(())
 }
 
+/// A walk in key order, from the first leaf.
+fn walks_on<const LEN: usize>(
+    rt: &impl Abort,
+    chance: &mut Chance,
+    chain: &Chain<LEN>,
+    pairs: &[(u64, u64)],
+) -> Result<(), AllocError> {
+    let listed = Listed::new(pairs, 0, Order::Ascending);
+    goes_about(rt, chance, chain.walk_on(0)?, listed)
+}
+
+/// A walk against key order, from the last leaf, which then turns about.
+fn walks_back<const LEN: usize>(
+    rt: &impl Abort,
+    chance: &mut Chance,
+    chain: &Chain<LEN>,
+    pairs: &[(u64, u64)],
+) -> Result<(), AllocError> {
+    let mut walk = chain.walk_back(3)?;
+    let mut listed = Listed::new(pairs, 3, Order::Descending);
+    steps(rt, chance, &mut walk, &mut listed)?;
+    goes_about(rt, chance, walk.rev(), listed)
+}
+
+/// Compares a chain with the list of its pairs.
+fn compare_with<const LEN: usize>(
+    rt: &impl Abort,
+    alloc: Global,
+    chance: &mut Chance,
+    chain: &Chain<LEN>,
+    pairs: &[(u64, u64)],
+) -> Result<(), AllocError> {
+    compare_on(rt, alloc, chain, pairs)?;
+    compare_back(rt, alloc, chain, pairs)?;
+    walks_on(rt, chance, chain, pairs)?;
+    walks_back(rt, chance, chain, pairs)
+}
+
 fn compare<const LEN: usize>(rt: &impl Abort, alloc: Global, seed: u64) -> Result<(), AllocError>
     requires { IsLen LEN }
 {
     let mut chance = Chance::new(seed);
     let mut list = PlainIndex::new(alloc);
     let chain: Chain<LEN> = chain_by_chance(alloc, &mut chance, &mut list)?;
-    let keys = list.pairs();
-    compare_on(rt, alloc, &chain, keys)?;
-    compare_back(rt, alloc, &chain, keys)?;
-    let listed = Listed::new(keys, 0, Order::Ascending);
-    goes_about(rt, &mut chance, chain.walk_on(0)?, listed)?;
-    let mut walk = chain.walk_back(3)?;
-    let mut listed = Listed::new(keys, 3, Order::Descending);
-    steps(rt, &mut chance, &mut walk, &mut listed)?;
-    goes_about(rt, &mut chance, walk.rev(), listed)
+    compare_with(rt, alloc, &mut chance, &chain, list.pairs())
 }
 
 #[test]

@@ -1,7 +1,7 @@
 //! Calls on a walk over the leaves of a chain, either way.
+use crate::expect::expect_eq;
 use crate::leaf::chain::value_of;
 use std::process::Abort;
-use test_support::expect::expect_eq;
 use tree_leaf::leaf::{LeafOf, LinkedIter, SlotWalk};
 
 /// A call that answers an entry. A rewind answers none.

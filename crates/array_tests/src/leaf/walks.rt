@@ -1,10 +1,10 @@
 //! Walks over linked leaves from every place: steps, jumps and turns.
+use crate::expect::expect_eq;
 use crate::leaf::chain::Chain;
 use crate::leaf::walk::{Call, answer};
 use Call::{Get, Jump, Next, Rewind};
 use std::alloc::{AllocError, Global};
 use std::process::Abort;
-use test_support::expect::expect_eq;
 use test_support::refusals::succeeds;
 use tree_leaf::leaf::{Leaf, LinkedIter, SlotWalk};
 

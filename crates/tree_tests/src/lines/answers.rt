@@ -1,7 +1,7 @@
 //! The answers to requests, in whatever pieces the lines come and the answers go.
 use super::streams::{Failing, Sink};
 use super::{Row, expect_answers};
-use test_support::expect::expect_eq;
+use crate::expect::expect_eq;
 use test_support::refusals::succeeds;
 use tree_index::TreeIndex;
 use tree_lines::run_lines;

@@ -1,9 +1,9 @@
 //! Lines that are answered by cursors: pairs in order, and where a key is.
 use super::streams::{Failing, Failure, Sink, Source};
 use super::{Row, expect_answers};
+use crate::expect::expect_eq;
 use std::alloc::{AllocError, Global};
 use std::process::Abort;
-use test_support::expect::expect_eq;
 use test_support::refusals::succeeds;
 use tree_index::TreeIndex;
 use tree_lines::{ToolFault, run_lines};

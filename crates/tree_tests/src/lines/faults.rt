@@ -1,9 +1,9 @@
 //! Runs in which a read or a write fails.
 use super::streams::{Failing, Failure, Sink, Source};
+use crate::expect::expect_eq;
 use std::alloc::{AllocError, Global};
 use std::process::Abort;
 use std::test::Fail;
-use test_support::expect::expect_eq;
 use test_support::refusals::succeeds;
 use tree_index::TreeIndex;
 use tree_lines::{ToolFault, WriteFailed, run_lines};

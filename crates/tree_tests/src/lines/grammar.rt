@@ -1,9 +1,9 @@
 //! Lines that are requests and lines that are not.
 use super::answered;
+use crate::expect::expect_eq;
 use std::alloc::{AllocError, Global};
 use std::io::Read;
 use std::process::Abort;
-use test_support::expect::expect_eq;
 use test_support::refusals::succeeds;
 
 /// None of these lines is a request, not even where it contains one.
