@@ -3,5 +3,6 @@ mod calls;
 mod comparison;
 mod drops;
 mod found;
+mod places;
 mod plain;
 mod questions;

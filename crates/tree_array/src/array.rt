@@ -133,6 +133,3 @@ impl<K: Ord + Drop, V: Drop, const LEN: usize> ArrayOf<K, V, LEN> {
         self.cells.pair(slot).1
     }
 }
-
-#[cfg(test)]
-mod tests;
