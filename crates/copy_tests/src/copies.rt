@@ -1,21 +1,21 @@
 //! Copies of an index.
 use crate::expect::expect_eq;
-use crate::index_of;
+use crate::{are_equal, index_of};
 use std::alloc::{AllocError, Global};
 use std::ops::Bound;
 use std::process::Abort;
 use test_support::chance::Chance;
 use test_support::refusals::succeeds;
 use tree_index::{TreeIndex, TreeIndexOf};
-use tree_support::{ORDERS, flaws, grown};
+use tree_support::{Both, ORDERS, flaws, grown};
 
 /// A copy is an index of its own.
 fn changes_the_copy_alone_steps(rt: &impl Abort, alloc: Global) -> Result<(), AllocError> {
     let index = index_of(alloc, &[(1, 1), (2, 2)])?;
     let mut copy = index.try_clone(alloc)?;
-    assert!(rt; index == copy);
-    assert!(rt; copy.remove_sync(&1));
-    assert!(rt; index != copy);
+    expect_eq(rt, are_equal(&index, &copy), true);
+    expect_eq(rt, copy.remove_sync(&1), true);
+    expect_eq(rt, are_equal(&index, &copy), false);
     expect_eq(rt, (index.len(), copy.len()), (2, 1));
     Ok(())
 }
@@ -28,19 +28,24 @@ fn changes_the_copy_alone(rt: HostRuntime) {
 /// How many pairs the trees have that are copied.
 static SIZES: [u64; 6] = [0, 1, 16, 17, 250, 600];
 
-/// Copies of trees of many shapes, also after a cut, are whole and have the pairs in order. The source stays as it was,
-/// also where memory was refused.
+/// A copy is whole and has the pairs in order. The source stays as it was, also where memory was refused.
+fn expect_copy(rt: &impl Abort, alloc: Global, both: &Both) -> Result<(), AllocError> {
+    let copied = both.index().try_clone(alloc);
+    expect_eq(rt, flaws(both.index(), both.pairs()), Ok(()));
+    let copy = copied?;
+    expect_eq(rt, flaws(&copy, both.pairs()), Ok(()));
+    expect_eq(rt, are_equal(&copy, both.index()), true);
+    Ok(())
+}
+
+/// Copies of trees of many shapes, also after a cut.
 fn copies_trees_steps(rt: &impl Abort, alloc: Global) -> Result<(), AllocError> {
     let mut chance = Chance::new(27);
     for order in ORDERS {
         for size in SIZES {
             let mut both = grown(alloc, size, order, &mut chance)?;
             both.cut((Bound::Included(size / 2), Bound::Excluded(size)));
-            let copied = both.index().try_clone(alloc);
-            assert!(rt; flaws(both.index(), both.pairs()).is_ok());
-            let copy = copied?;
-            assert!(rt; flaws(&copy, both.pairs()).is_ok());
-            assert!(rt; copy == *both.index());
+            expect_copy(rt, alloc, &both)?;
         }
     }
     Ok(())
@@ -51,16 +56,22 @@ fn copies_trees(rt: HostRuntime) {
     assert!(rt; succeeds(|| copies_trees_steps(&rt, rt.alloc())));
 }
 
-/// Clones of keys and values that allocate can be refused too.
-fn copies_texts_steps(rt: &impl Abort, alloc: Global) -> Result<(), AllocError> {
-    let mut index: TreeIndex<String, String> = TreeIndex::new(alloc);
+/// An index of forty texts.
+fn index_of_texts(alloc: Global) -> Result<TreeIndex<String, String>, AllocError> {
+    let mut index = TreeIndex::new(alloc);
     for number in 0..40u64 {
         let key = format!(in alloc; "key {number}")?;
         let value = format!(in alloc; "value {number}")?;
         index.insert_sync(key, value).map_err(|_| AllocError)?;
     }
+    Ok(index)
+}
+
+/// Clones of keys and values that allocate can be refused too.
+fn copies_texts_steps(rt: &impl Abort, alloc: Global) -> Result<(), AllocError> {
+    let index = index_of_texts(alloc)?;
     let copy = index.try_clone(alloc)?;
-    assert!(rt; copy == index);
+    expect_eq(rt, are_equal(&copy, &index), true);
     expect_eq(rt, copy.len(), 40);
     Ok(())
 }
@@ -77,7 +88,7 @@ fn copies_small_leaves_steps(rt: &impl Abort, alloc: Global) -> Result<(), Alloc
         index.insert_sync(key, key).map_err(|_| AllocError)?;
     }
     let copy = index.try_clone(alloc)?;
-    assert!(rt; copy == index);
+    expect_eq(rt, are_equal(&copy, &index), true);
     expect_eq(rt, (copy.len(), copy.depth()), (100, 2));
     Ok(())
 }

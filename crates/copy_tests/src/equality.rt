@@ -1,6 +1,6 @@
 //! Worked comparisons of two indexes.
 use crate::expect::expect_eq;
-use crate::index_of;
+use crate::{are_equal, index_of};
 use std::alloc::{AllocError, Global};
 use std::process::Abort;
 use test_support::chance::Chance;
@@ -34,23 +34,30 @@ fn compares(rt: HostRuntime) {
     assert!(rt; succeeds(|| compares_steps(&rt, rt.alloc())));
 }
 
-/// An index that was built in another order, with another tree, is equal until a value differs.
+/// An index that was built in ascending order, with another tree, is equal until a value differs.
+fn compare_with_ascending(
+    rt: &impl Abort,
+    alloc: Global,
+    index: &TreeIndex<u64, u64>,
+    pairs: &[(u64, u64)],
+) -> Result<(), AllocError> {
+    let mut ascending = index_of(alloc, pairs)?;
+    expect_eq(rt, are_equal(index, &ascending), true);
+    let Some((last, value)) = pairs.last() else {
+        panic!(rt; "no pair")
+    };
+    ascending
+        .upsert_sync(*last, value.wrapping_add(1))
+        .map_err(|_| AllocError)?;
+    expect_eq(rt, are_equal(index, &ascending), false);
+    Ok(())
+}
+
 fn compares_other_trees_steps(rt: &impl Abort, alloc: Global) -> Result<(), AllocError> {
     let mut chance = Chance::new(7);
     for order in ORDERS {
-        let grown = grown(alloc, 200, order, &mut chance)?;
-        let mut ascending: TreeIndex<u64, u64> = TreeIndex::new(alloc);
-        for (key, value) in grown.pairs() {
-            ascending.insert_sync(*key, *value).map_err(|_| AllocError)?;
-        }
-        assert!(rt; *grown.index() == ascending);
-        let Some((last, value)) = grown.pairs().last() else {
-            panic!(rt; "no pair")
-        };
-        ascending
-            .upsert_sync(*last, value.wrapping_add(1))
-            .map_err(|_| AllocError)?;
-        assert!(rt; *grown.index() != ascending);
+        let both = grown(alloc, 200, order, &mut chance)?;
+        compare_with_ascending(rt, alloc, both.index(), both.pairs())?;
     }
     Ok(())
 }

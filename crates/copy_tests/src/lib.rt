@@ -13,7 +13,7 @@ mod readers;
 #[cfg(test)]
 use std::alloc::{AllocError, Global};
 #[cfg(test)]
-use tree_index::TreeIndex;
+use tree_index::{IndexKey, TreeIndex, TreeIndexOf};
 
 /// Returns an index of pairs that are inserted in this order.
 #[cfg(test)]
@@ -23,4 +23,13 @@ fn index_of(alloc: Global, pairs: &[(u64, u64)]) -> Result<TreeIndex<u64, u64>, 
         index.insert_sync(*key, *value).map_err(|_| AllocError)?;
     }
     Ok(index)
+}
+
+/// Returns whether two indexes are equal.
+#[cfg(test)]
+fn are_equal<K: IndexKey, V: PartialEq + Drop, const LEN: usize>(
+    first: &TreeIndexOf<K, V, LEN>,
+    second: &TreeIndexOf<K, V, LEN>,
+) -> bool {
+    first == second
 }

@@ -287,14 +287,24 @@ fn expect_range(
     expect_at_once(rt, alloc, &mut opened, row.opened_moves, row.opened_answers)
 }
 
+fn expect_iter(
+    rt: &impl Abort,
+    alloc: Global,
+    iter: Iter<'_, u64, u64>,
+    row: &Row,
+) -> Result<(), AllocError> {
+    let mut stepped = iter.clone()?;
+    expect(rt, &mut stepped, row.moves, row.answers);
+    let mut iter = iter;
+    expect_at_once(rt, alloc, &mut iter, row.moves, row.answers)
+}
+
 fn expect_row(rt: &impl Abort, alloc: Global, row: &Row) -> Result<(), AllocError> {
     let index = index_of(alloc, row.pairs)?;
     let (low, high) = &row.bounds;
     expect_range(rt, alloc, index.range((low.as_ref(), high.as_ref())), row)?;
     if row.bounds == (Bound::Unbounded, Bound::Unbounded) {
-        let mut iter = index.iter();
-        expect(rt, &mut iter.clone()?, row.moves, row.answers);
-        expect_at_once(rt, alloc, &mut iter, row.moves, row.answers)?;
+        expect_iter(rt, alloc, index.iter(), row)?;
     }
     Ok(())
 }
@@ -335,15 +345,21 @@ fn counts_what_is_within_the_bounds(rt: HostRuntime) {
     assert!(rt; succeeds(|| counts_steps(&rt, rt.alloc())));
 }
 
-fn meets_at_a_leaf_steps(rt: &impl Abort, alloc: Global) -> Result<(), AllocError> {
-    let index = ascending(alloc, 1, 40)?;
-    let mut range = index.range((Bound::Excluded(&14), Bound::Excluded(&17)));
+/// A range over two keys in two leaves, and a clone of it.
+fn expect_two_keys(rt: &impl Abort, range: Range<'_, u64, u64>) -> Result<(), AllocError> {
     let mut other = range.clone()?;
+    let mut range = range;
     expect_eq(rt, numbers(range.next()), Some((15, 15)));
     expect_eq(rt, numbers(range.next()), Some((16, 16)));
     expect_eq(rt, numbers(range.next()), None);
     expect_eq(rt, numbers(other.next_back()), Some((16, 16)));
     Ok(())
+}
+
+fn meets_at_a_leaf_steps(rt: &impl Abort, alloc: Global) -> Result<(), AllocError> {
+    let index = ascending(alloc, 1, 40)?;
+    let range = index.range((Bound::Excluded(&14), Bound::Excluded(&17)));
+    expect_two_keys(rt, range)
 }
 
 #[test]
