@@ -3,7 +3,6 @@ ghost use Rattle.std.specs.Prelude.{◌≡◌, All};
 ghost use Rattle.tree_shared.specs.Tallies.{none};
 
 use crate::closed::closed_with;
-use crate::expect::expect_eq;
 use crate::scenario::{Scenario, play, stored};
 use std::alloc::AllocError;
 use std::process::Abort;
@@ -28,16 +27,15 @@ pub(crate) fn closes_without_workers<
     let Some(closed) = closed_with(shared, passes) else {
         panic!(rt; "not closed")
     };
-    expect_eq(
-        rt,
-        closed.tally,
-        Tally {
-            calls: 0,
-            stored: 0,
-            removed: 0,
-            found: 0,
-            done: 0,
-        },
+    assert!(rt;
+        closed.tally
+            == Tally {
+                calls: 0,
+                stored: 0,
+                removed: 0,
+                found: 0,
+                done: 0
+            }
     );
     assert!(rt; closed.history.is_empty());
     Ok(())
@@ -70,23 +68,22 @@ pub(crate) fn closes_with_all_passes<
     let Err(Unclosed::PassMissing(shared, mut passes)) = shared.close(passes) else {
         panic!(rt; "closed without a pass")
     };
-    expect_eq(rt, passes.len(), 1);
+    assert!(rt; passes.len() == 1);
     passes.push(kept)?;
     let Some(closed) = closed_with(shared, passes) else {
         panic!(rt; "not closed")
     };
-    expect_eq(
-        rt,
-        closed.tally,
-        Tally {
-            calls: 1,
-            stored: 1,
-            removed: 0,
-            found: 0,
-            done: 0,
-        },
+    assert!(rt;
+        closed.tally
+            == Tally {
+                calls: 1,
+                stored: 1,
+                removed: 0,
+                found: 0,
+                done: 0
+            }
     );
-    expect_eq(rt, closed.index.len(), 1);
+    assert!(rt; closed.index.len() == 1);
     Ok(())
 }
 
@@ -115,7 +112,7 @@ pub(crate) fn parts_while_a_pass_is_out<
     };
     assert!(rt; stored(shared.insert(rt, pass, 1, 10))?);
     let (index, history) = shared.into_parts();
-    expect_eq(rt, index.peek(&1).copied(), Some(10));
+    assert!(rt; index.peek(&1).copied() == Some(10));
     assert!(rt; index.len() == 1 && history.len() == 1);
     Ok(())
 }

@@ -5,8 +5,6 @@ pub mod closed;
 #[cfg(test)]
 mod closing;
 #[cfg(test)]
-mod expect;
-#[cfg(test)]
 mod gates;
 #[cfg(test)]
 mod one_worker;

@@ -3,7 +3,6 @@ ghost use Rattle.std.specs.Prelude.{◌≡◌, All};
 ghost use Rattle.tree_shared.specs.Tallies.{none};
 
 use crate::closed::closed_with;
-use crate::expect::expect_eq;
 use crate::scenario::{Scenario, play, stored};
 use std::alloc::AllocError;
 use std::ops::Bound;
@@ -32,22 +31,21 @@ pub(crate) fn each_call<C: Ledger, S: Ledger, M: Ledger, F: Ledger, D: Ledger, R
     assert!(rt; shared.remove(rt, pass, &2)?);
     assert!(rt; !shared.remove(rt, pass, &2)?);
     shared.remove_range(rt, pass, (Bound::Included(&3), Bound::Unbounded))?;
-    expect_eq(rt, shared.peek(rt, pass, &1)?, Some(11));
+    assert!(rt; shared.peek(rt, pass, &1)? == Some(11));
     shared.clear(rt, pass)?;
-    expect_eq(rt, shared.peek(rt, pass, &1)?, None);
+    assert!(rt; shared.peek(rt, pass, &1)? == None);
     let Some(closed) = closed_with(shared, passes) else {
         panic!(rt; "not closed")
     };
-    expect_eq(
-        rt,
-        closed.tally,
-        Tally {
-            calls: 10,
-            stored: 4,
-            removed: 1,
-            found: 1,
-            done: 2,
-        },
+    assert!(rt;
+        closed.tally
+            == Tally {
+                calls: 10,
+                stored: 4,
+                removed: 1,
+                found: 1,
+                done: 2
+            }
     );
     assert!(rt; closed.index.is_empty());
     assert!(rt; are_the_calls(&closed.history));

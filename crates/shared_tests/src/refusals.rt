@@ -4,7 +4,6 @@ ghost use Rattle.std.proofs.Common.{rules, sym};
 ghost use Rattle.tree_model.specs.Keys.{equal_numbers};
 ghost use Rattle.tree_shared.specs.Ledgers.{IsBlankFor};
 
-use crate::expect::expect_eq;
 use crate::scenario::{Scenario, play};
 use std::alloc::{AllocError, Global};
 use std::cell::Cell;
@@ -115,16 +114,15 @@ pub(crate) fn refused_calls<C: Ledger, S: Ledger, M: Ledger, F: Ledger, D: Ledge
     let Ok(closed) = shared.close(passes) else {
         panic!(rt; "not closed")
     };
-    expect_eq(
-        rt,
-        closed.tally,
-        Tally {
-            calls: 3,
-            stored: 1,
-            removed: 0,
-            found: 1,
-            done: 0,
-        },
+    assert!(rt;
+        closed.tally
+            == Tally {
+                calls: 3,
+                stored: 1,
+                removed: 0,
+                found: 1,
+                done: 0
+            }
     );
     assert!(rt; closed.history.len() == 3 && closed.index.len() == 1);
     Ok(())

@@ -1,6 +1,5 @@
 //! Threads that share an index.
 use crate::closed::closed_with;
-use crate::expect::expect_eq;
 use crate::replay::replays;
 use crate::scenario::{Scenario, play, stored};
 use std::alloc::{AllocError, Global};
@@ -114,9 +113,9 @@ pub(crate) fn two_insert<
     let Some(pass) = passes.get_mut(0) else {
         panic!(rt; "no pass")
     };
-    expect_eq(rt, pass.tally().calls, 100);
-    expect_eq(rt, shared.peek(rt, pass, &50)?, Some(50));
-    expect_eq(rt, shared.peek(rt, pass, &101)?, None);
+    assert!(rt; pass.tally().calls == 100);
+    assert!(rt; shared.peek(rt, pass, &50)? == Some(50));
+    assert!(rt; shared.peek(rt, pass, &101)? == None);
     let Some(closed) = closed_with(shared, passes) else {
         panic!(rt; "not closed")
     };
@@ -127,8 +126,8 @@ pub(crate) fn two_insert<
         found: 1,
         done: 0,
     };
-    expect_eq(rt, closed.tally, wanted);
-    expect_eq(rt, closed.index.len(), 100);
+    assert!(rt; closed.tally == wanted);
+    assert!(rt; closed.index.len() == 100);
     assert!(rt; replays(alloc, &closed.history, 100)?);
     assert!(rt; ends_with_look_ups(&closed.history));
     Ok(())
@@ -189,7 +188,7 @@ pub(crate) fn eight_race<
         assert!(rt; has_calls_of(&closed.history, number));
     }
     for key in 1..=100 {
-        expect_eq(rt, removals(&closed.history, key), 8);
+        assert!(rt; removals(&closed.history, key) == 8);
     }
     Ok(())
 }
