@@ -1,5 +1,4 @@
 //! The history that a state keeps of its calls.
-use crate::expect::expect_eq;
 use std::alloc::{AllocError, Global};
 use std::process::Abort;
 use test_support::refusals::succeeds;
@@ -16,7 +15,7 @@ fn applied<K: IndexKey + SameClone, V: SameClone>(
     match state.apply(command) {
         Ok(reply) => Ok(reply),
         Err(_) => {
-            expect_eq(rt, state.history().len(), before);
+            assert_eq!(rt; state.history().len(), before);
             Err(AllocError)
         }
     }
@@ -30,7 +29,7 @@ fn expect_reply(
     wanted: Reply<u64>,
 ) -> Result<(), AllocError> {
     let reply = applied(rt, state, command)?;
-    expect_eq(rt, reply, wanted);
+    assert!(rt; reply == wanted);
     Ok(())
 }
 
@@ -54,8 +53,8 @@ fn keeps_its_calls_steps(rt: &impl Abort, alloc: Global) -> Result<(), AllocErro
     expect_reply(rt, &mut state, Command::Insert(1, 11), Reply::Duplicate)?;
     expect_reply(rt, &mut state, Command::Peek(1), Reply::Found(Some(10)))?;
     expect_reply(rt, &mut state, Command::Peek(2), Reply::Found(None))?;
-    expect_eq(rt, flaws(state.index(), &[(1, 10)]), Ok(()));
-    expect_eq(rt, state.history().len(), 4);
+    assert_eq!(rt; flaws(state.index(), &[(1, 10)]), Ok(()));
+    assert_eq!(rt; state.history().len(), 4);
     expect_record(rt, &state, 1, Command::Insert(1, 11), Reply::Duplicate);
     expect_record(rt, &state, 2, Command::Peek(1), Reply::Found(Some(10)));
     Ok(())
@@ -81,8 +80,8 @@ fn records_prepared_pairs_steps(rt: &impl Abort, alloc: Global) -> Result<(), Al
     };
     let stored = state.upsert_prepared(prepared(1, 12)?);
     stored.map_err(|_| AllocError)?;
-    expect_eq(rt, flaws(state.index(), &[(1, 12)]), Ok(()));
-    expect_eq(rt, state.history().len(), 3);
+    assert_eq!(rt; flaws(state.index(), &[(1, 12)]), Ok(()));
+    assert_eq!(rt; state.history().len(), 3);
     expect_record(rt, &state, 0, Command::Insert(1, 10), Reply::Stored);
     expect_record(rt, &state, 1, Command::Insert(1, 11), Reply::Duplicate);
     expect_record(rt, &state, 2, Command::Upsert(1, 12), Reply::Stored);
@@ -101,7 +100,7 @@ fn edit(rt: &impl Abort, state: &mut State<u64, u64>, key: u64) -> Result<(), Al
     expect_reply(rt, state, Command::Remove(key), Reply::Removed(false))?;
     expect_reply(rt, state, Command::Upsert(key, 2), Reply::Stored)?;
     expect_reply(rt, state, Command::Upsert(key, 3), Reply::Stored)?;
-    expect_eq(rt, state.index().peek(&key).copied(), Some(3));
+    assert_eq!(rt; state.index().peek(&key).copied(), Some(3));
     Ok(())
 }
 
@@ -110,7 +109,7 @@ fn keeps_edits_steps(rt: &impl Abort, alloc: Global) -> Result<(), AllocError> {
     for key in 0..6 {
         edit(rt, &mut state, key)?;
     }
-    expect_eq(rt, state.history().len(), 30);
+    assert_eq!(rt; state.history().len(), 30);
     expect_record(rt, &state, 4, Command::Upsert(0, 3), Reply::Stored);
     expect_record(rt, &state, 6, Command::Remove(1), Reply::Removed(true));
     expect_record(rt, &state, 7, Command::Remove(1), Reply::Removed(false));
@@ -131,12 +130,12 @@ fn expect_answers<K: IndexKey + SameClone>(
 ) -> Result<(), AllocError> {
     let asked = low.clone()?;
     let stored = applied(rt, state, Command::Insert(high, true))?;
-    expect_eq(rt, stored, Reply::Stored);
+    assert!(rt; stored == Reply::Stored);
     let stored = applied(rt, state, Command::Insert(low, false))?;
-    expect_eq(rt, stored, Reply::Stored);
+    assert!(rt; stored == Reply::Stored);
     let found = applied(rt, state, Command::Peek(asked))?;
-    expect_eq(rt, found, Reply::Found(Some(false)));
-    expect_eq(rt, state.history().len(), 3);
+    assert!(rt; found == Reply::Found(Some(false)));
+    assert_eq!(rt; state.history().len(), 3);
     Ok(())
 }
 
@@ -205,24 +204,24 @@ fn apply_twice(
 ) {
     let calls = state.history().len();
     if let Err(back) = state.apply(command_of(kind, pair)) {
-        expect_eq(rt, back, command_of(kind, pair));
-        expect_eq(rt, state.history().len(), calls);
-        expect_eq(rt, flaws(state.index(), pairs), Ok(()));
+        assert!(rt; back == command_of(kind, pair));
+        assert_eq!(rt; state.history().len(), calls);
+        assert_eq!(rt; flaws(state.index(), pairs), Ok(()));
         assert!(rt; state.apply(command_of(kind, pair)).is_ok());
     }
-    expect_eq(rt, state.history().len().checked_sub(1), Some(calls));
+    assert_eq!(rt; state.history().len().checked_sub(1), Some(calls));
 }
 
 /// A pair that is refused comes back, index and history stay, and the same insert again is answered.
 fn insert_twice(rt: &impl Abort, state: &mut State<u64, u64>, (key, value): (u64, u64)) {
     let calls = state.history().len();
     if let Err(refused) = state.insert(key, value) {
-        expect_eq(rt, refused, InsertError::OutOfMemory(key, value));
-        expect_eq(rt, state.history().len(), calls);
-        expect_eq(rt, flaws(state.index(), &[]), Ok(()));
+        assert!(rt; refused == InsertError::OutOfMemory(key, value));
+        assert_eq!(rt; state.history().len(), calls);
+        assert_eq!(rt; flaws(state.index(), &[]), Ok(()));
         assert!(rt; state.insert(key, value).is_ok());
     }
-    expect_eq(rt, state.history().len().checked_sub(1), Some(calls));
+    assert_eq!(rt; state.history().len().checked_sub(1), Some(calls));
 }
 
 #[test]
@@ -235,7 +234,7 @@ fn hands_back_what_is_refused(rt: HostRuntime) {
             apply_twice(&rt, &mut state, &[pair], (kind, pair));
         }
         apply_twice(&rt, &mut state, &[], (Kind::Upsert, pair));
-        expect_eq(&rt, flaws(state.index(), &[pair]), Ok(()));
+        assert_eq!(rt; flaws(state.index(), &[pair]), Ok(()));
         apply_twice(&rt, &mut state, &[pair], (Kind::Remove, pair));
     }
 }

@@ -1,5 +1,4 @@
 //! Worked calls of the index.
-use crate::expect::expect_eq;
 use crate::keys::Tagged;
 use std::alloc::{AllocError, Global};
 use std::process::Abort;
@@ -11,9 +10,9 @@ fn keeps_the_first_of_two_pairs_steps(rt: &impl Abort, alloc: Global) -> Result<
     let mut both = Both::new(alloc);
     assert!(rt; both.insert(1, 10)?);
     assert!(rt; !both.insert(1, 11)?);
-    expect_eq(rt, both.index().peek(&1).copied(), Some(10));
-    expect_eq(rt, both.index().peek(&2).copied(), None);
-    expect_eq(rt, both.flaw(), None);
+    assert_eq!(rt; both.index().peek(&1).copied(), Some(10));
+    assert_eq!(rt; both.index().peek(&2).copied(), None);
+    assert_eq!(rt; both.flaw(), None);
     Ok(())
 }
 
@@ -41,7 +40,7 @@ fn expect_shown(
     wanted: &str,
 ) -> Result<(), AllocError> {
     let shown = format!(in alloc; "{index:?}")?;
-    expect_eq(rt, shown.as_str(), wanted);
+    assert!(rt; shown.as_str() == wanted);
     Ok(())
 }
 
@@ -76,11 +75,11 @@ fn index_of_five(alloc: Global, tags: &[char]) -> Result<TreeIndex<Tagged, char>
 
 fn tells_keys_apart_by_their_order_steps(rt: &impl Abort, alloc: Global) -> Result<(), AllocError> {
     let mut index = index_of_five(alloc, &['a'])?;
-    expect_eq(rt, index.peek(&five('b')).copied(), Some('a'));
+    assert!(rt; index.peek(&five('b')).copied() == Some('a'));
     let Err(InsertError::Duplicate(key, 'b')) = index.insert_sync(five('b'), 'b') else {
         panic!(rt; "no duplicate")
     };
-    expect_eq(rt, key.tag, 'b');
+    assert_eq!(rt; key.tag, 'b');
     Ok(())
 }
 
@@ -130,9 +129,9 @@ fn remove_one_if(index: &mut TreeIndex<u64, u64>, wanted: u64) -> (bool, u64) {
 /// The condition is asked once of a key that is present, and never of an absent one.
 fn asks_its_condition_steps(rt: &impl Abort, alloc: Global) -> Result<(), AllocError> {
     let mut index = index_of(alloc, &[(1, 10)])?;
-    expect_eq(rt, remove_one_if(&mut index, 0), (false, 1));
-    expect_eq(rt, remove_one_if(&mut index, 10), (true, 1));
-    expect_eq(rt, remove_one_if(&mut index, 10), (false, 0));
+    assert!(rt; remove_one_if(&mut index, 0) == (false, 1));
+    assert!(rt; remove_one_if(&mut index, 10) == (true, 1));
+    assert!(rt; remove_one_if(&mut index, 10) == (false, 0));
     Ok(())
 }
 

@@ -5,7 +5,6 @@ mod faults;
 mod grammar;
 mod streams;
 
-use crate::expect::expect_eq;
 use std::alloc::{AllocError, Global};
 use std::io::Read;
 use std::process::Abort;
@@ -25,7 +24,7 @@ fn answered<R: Read + Drop>(
 ) -> Result<Sink, AllocError> {
     let mut output = Sink::new(piece, Failing::never());
     let mut index = TreeIndex::new(alloc);
-    expect_eq(rt, run_lines(&mut index, &mut input, &mut output), Ok(()));
+    assert_eq!(rt; run_lines(&mut index, &mut input, &mut output), Ok(()));
     if output
         .taken()
         .windows(7)
@@ -48,6 +47,6 @@ fn expect_answers(
 ) -> Result<(), AllocError> {
     let input = Source::new(lines.as_bytes(), read, Failing::never());
     let output = answered(rt, alloc, input, written)?;
-    expect_eq(rt, output.taken(), wanted.as_bytes());
+    assert_eq!(rt; output.taken(), wanted.as_bytes());
     Ok(())
 }

@@ -1,7 +1,6 @@
 //! What look-ups compare: how often, and which keys.
 ghost use Rattle.std.specs.Prelude.{◌≡◌, ◌<◌};
 
-use crate::expect::expect_eq;
 use std::alloc::{AllocError, Global};
 use std::cell::Cell;
 use std::cmp::Ordering;
@@ -57,23 +56,15 @@ fn look_up<'c>(
     counter.set(0);
     let there = index.peek(&key).is_some();
     assert!(rt; counter.replace(0) <= most);
-    expect_eq(rt, index.peek_entry(&key).is_some(), there);
+    assert!(rt; index.peek_entry(&key).is_some() == there);
     assert!(rt; counter.replace(0) <= most);
-    expect_eq(rt, index.contains(&key), there);
+    assert!(rt; index.contains(&key) == there);
     assert!(rt; counter.replace(0) <= most);
-    expect_eq(
-        rt,
-        index.peek_with(&key, |_, value| *value).is_some(),
-        there,
-    );
+    assert!(rt; index.peek_with(&key, |_, value| *value).is_some() == there);
     assert!(rt; counter.replace(0) <= most);
-    expect_eq(
-        rt,
-        index.read_sync(&key, |_, value| *value).is_some(),
-        there,
-    );
+    assert!(rt; index.read_sync(&key, |_, value| *value).is_some() == there);
     assert!(rt; counter.replace(0) <= most);
-    expect_eq(rt, is_found(index, &key), there);
+    assert!(rt; is_found(index, &key) == there);
     assert!(rt; counter.get() <= most);
 }
 
@@ -136,7 +127,7 @@ fn compares_once_a_level_steps(rt: &impl Abort, alloc: Global) -> Result<(), All
         let comparisons = insert_last(&mut index, &counter, number)?;
         assert!(rt; !has_room || comparisons <= levels);
     }
-    expect_eq(rt, index.depth(), 3);
+    assert_eq!(rt; index.depth(), 3);
     Ok(())
 }
 
@@ -199,7 +190,7 @@ fn asks_the_key_it_finds_steps(rt: &impl Abort, alloc: Global) -> Result<(), All
         let there = (2..=482).contains(&key) && key % 2 == 0;
         let wanted = if there { Some(key) } else { None };
         let told = found_and_asked(&index, key);
-        expect_eq(rt, told, (there, wanted));
+        assert!(rt; told == (there, wanted));
     }
     Ok(())
 }

@@ -1,6 +1,5 @@
 //! Thousands of keys, put and removed in several orders: compared at the key and beside it after each call, and as a
 //! whole after each hundredth.
-use crate::expect::expect_eq;
 use std::alloc::{AllocError, Global};
 use std::process::Abort;
 use test_support::refusals::succeeds;
@@ -50,7 +49,7 @@ fn compare_orders(
         compare_at(&mut both, n, key);
     }
     both.compare();
-    expect_eq(rt, both.flaw(), None);
+    assert_eq!(rt; both.flaw(), None);
     Ok(())
 }
 

@@ -1,5 +1,4 @@
 //! What the plain index answers, on lists worked out by hand.
-use crate::expect::expect_eq;
 use std::alloc::{AllocError, Global};
 use std::ops::Bound;
 use std::process::Abort;
@@ -19,25 +18,21 @@ fn index_of(alloc: Global, keys: &[u64]) -> Result<PlainIndex<u64, u64>, AllocEr
 
 fn stores_in_key_order_steps(rt: &impl Abort, alloc: Global) -> Result<(), AllocError> {
     let mut index = index_of(alloc, &[5, 3, 9])?;
-    expect_eq(rt, index.pairs(), [(3, 30), (5, 50), (9, 90)].as_slice());
+    assert!(rt; index.pairs() == [(3, 30), (5, 50), (9, 90)].as_slice());
     index.insert(4, 40).map_err(|_| AllocError)?;
     let again = index.insert(4, 41);
-    expect_eq(rt, again, Err(InsertError::Duplicate(4, 41)));
+    assert!(rt; again == Err(InsertError::Duplicate(4, 41)));
     assert!(rt; index.upsert(4, 42).is_ok());
-    expect_eq(
-        rt,
-        index.pairs(),
-        [(3, 30), (4, 42), (5, 50), (9, 90)].as_slice(),
-    );
+    assert!(rt; index.pairs() == [(3, 30), (4, 42), (5, 50), (9, 90)].as_slice());
     Ok(())
 }
 
 fn finds_pairs_steps(rt: &impl Abort, alloc: Global) -> Result<(), AllocError> {
     let index = index_of(alloc, &[5, 3, 9, 4])?;
-    expect_eq(rt, index.peek(&4).copied(), Some(40));
+    assert!(rt; index.peek(&4).copied() == Some(40));
     assert!(rt; index.peek_entry(&6).is_none());
-    expect_eq(rt, index.peek_entry(&9).copied(), Some((9, 90)));
-    expect_eq(rt, index.len(), 4);
+    assert!(rt; index.peek_entry(&9).copied() == Some((9, 90)));
+    assert_eq!(rt; index.len(), 4);
     Ok(())
 }
 
@@ -55,7 +50,7 @@ fn removes_and_clears_steps(rt: &impl Abort, alloc: Global) -> Result<(), AllocE
     let mut index = index_of(alloc, &[1, 2, 3])?;
     assert!(rt; index.remove(&2));
     assert!(rt; !index.remove(&2));
-    expect_eq(rt, index.pairs(), [(1, 10), (3, 30)].as_slice());
+    assert_eq!(rt; index.pairs(), [(1, 10), (3, 30)].as_slice());
     assert!(rt; !index.is_empty());
     index.clear();
     assert!(rt; index.is_empty());
@@ -81,9 +76,9 @@ fn removes_by_value_steps(rt: &impl Abort, alloc: Global) -> Result<(), AllocErr
             asked = asked.saturating_add(1);
             *stored == value
         });
-        expect_eq(rt, (answer, asked), (removed, times));
+        assert_eq!(rt; (answer, asked), (removed, times));
     }
-    expect_eq(rt, index.pairs(), [(1, 10), (3, 30)].as_slice());
+    assert_eq!(rt; index.pairs(), [(1, 10), (3, 30)].as_slice());
     Ok(())
 }
 
@@ -101,7 +96,7 @@ fn expect_left(
 ) -> Result<(), AllocError> {
     let mut index = index_of(alloc, &[1, 2, 3, 4, 5])?;
     index.remove_range(bounds);
-    expect_eq(rt, index.len(), left);
+    assert_eq!(rt; index.len(), left);
     Ok(())
 }
 
@@ -135,10 +130,9 @@ fn tells_why_a_pair_was_refused_steps(rt: &impl Abort, alloc: Global) -> Result<
     let duplicate: InsertError<u64, u64> = InsertError::Duplicate(1, 10);
     let refused: InsertError<u64, u64> = InsertError::OutOfMemory(1, 10);
     let shown = format!(in alloc; "{duplicate}; {refused}; {refused:?}")?;
-    expect_eq(
-        rt,
+    assert_eq!(rt;
         shown.as_str(),
-        "the key is present; out of memory; OutOfMemory(1, 10)",
+        "the key is present; out of memory; OutOfMemory(1, 10)"
     );
     Ok(())
 }
@@ -155,11 +149,11 @@ fn hands_back_what_is_refused(rt: HostRuntime) {
     for key in 0..20 {
         let before = index.len();
         if let Err(refused) = index.upsert(key, key + 100) {
-            expect_eq(&rt, refused, (key, key + 100));
-            expect_eq(&rt, index.len(), before);
+            assert_eq!(rt; refused, (key, key + 100));
+            assert_eq!(rt; index.len(), before);
             assert!(rt; index.upsert(key, key + 100).is_ok());
         }
-        expect_eq(&rt, index.len().checked_sub(1), Some(before));
-        expect_eq(&rt, index.peek(&key).copied(), Some(key + 100));
+        assert_eq!(rt; index.len().checked_sub(1), Some(before));
+        assert_eq!(rt; index.peek(&key).copied(), Some(key + 100));
     }
 }

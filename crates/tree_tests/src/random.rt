@@ -1,5 +1,4 @@
 //! Random calls of an index, each compared.
-use crate::expect::expect_eq;
 use std::alloc::{AllocError, Global};
 use std::process::Abort;
 use test_support::chance::Chance;
@@ -33,7 +32,7 @@ fn answers_random_calls_as_the_plain_index_steps(
         }
         both.compare();
     }
-    expect_eq(rt, both.flaw(), None);
+    assert_eq!(rt; both.flaw(), None);
     Ok(())
 }
 

@@ -1,6 +1,5 @@
 //! How deep a tree is, how much room its leaves have, and how many leaves and nodes there are, as the rules of splits and
 //! of removals give it.
-use crate::expect::expect_eq;
 use std::alloc::{AllocError, Global};
 use std::process::Abort;
 use test_support::refusals::succeeds;
@@ -9,24 +8,19 @@ use tree_support::Both;
 
 /// Compares the depth and the spare. No call before was answered otherwise than by the plain index.
 fn expect_shape(rt: &impl Abort, both: &Both, depth: usize, spare: u8) {
-    expect_eq(rt, both.flaw(), None);
-    expect_eq(
-        rt,
+    assert_eq!(rt; both.flaw(), None);
+    assert_eq!(rt;
         (both.index().depth(), both.index().spare()),
-        (depth, spare),
+        (depth, spare)
     );
 }
 
 /// Compares the numbers of leaves and nodes.
 fn expect_counts(rt: &impl Abort, both: &mut Both, leaves: usize, nodes: usize) {
     let (arenas, _) = both.index().parts();
-    expect_eq(
-        rt,
-        (arenas.leaf_count(), arenas.node_count()),
-        (leaves, nodes),
-    );
+    assert_eq!(rt; (arenas.leaf_count(), arenas.node_count()), (leaves, nodes));
     both.compare();
-    expect_eq(rt, both.flaw(), None);
+    assert_eq!(rt; both.flaw(), None);
 }
 
 /// A leaf node holds 16 leaves of 15, and the next pair makes a node over two of them. That one holds 15 nodes of 225
@@ -44,9 +38,9 @@ fn grows_by_a_level_when_its_root_is_full_steps(
             241..=3615 => 2,
             _ => 3,
         };
-        expect_eq(rt, both.index().depth(), depth);
+        assert_eq!(rt; both.index().depth(), depth);
     }
-    expect_eq(rt, both.index().len(), 3616);
+    assert_eq!(rt; both.index().len(), 3616);
     expect_counts(rt, &mut both, 242, 20);
     Ok(())
 }
@@ -69,9 +63,9 @@ fn grows_by_a_level_with_seven_slots_steps(
             57..=399 => 2,
             _ => 3,
         };
-        expect_eq(rt, index.depth(), depth);
+        assert_eq!(rt; index.depth(), depth);
     }
-    expect_eq(rt, index.len(), 400);
+    assert_eq!(rt; index.len(), 400);
     Ok(())
 }
 
@@ -260,7 +254,7 @@ fn lowers_its_root_from_each_depth_steps(rt: &impl Abort, alloc: Global) -> Resu
             227..=3376 => 2,
             _ => 1,
         };
-        expect_eq(rt, both.index().depth(), depth);
+        assert_eq!(rt; both.index().depth(), depth);
         match key {
             3601 => expect_counts(rt, &mut both, 240, 19),
             3376 => expect_counts(rt, &mut both, 225, 16),

@@ -2,7 +2,6 @@
 ghost use Rattle.std.specs.Prelude.{◌≡◌};
 ghost use Rattle.tree_model.specs.Keys.{equal_numbers};
 
-use crate::expect::expect_eq;
 use std::alloc::{AllocError, Global};
 use std::cell::Cell;
 use std::ops::Bound;
@@ -176,7 +175,7 @@ fn expect_absent<'c, const LEN: usize>(
 ) {
     for other in number..300 {
         let there = index.peek(&Counted::new(other, tally)).is_some();
-        expect_eq(rt, there, (other != number));
+        assert!(rt; there == (other != number));
     }
 }
 
@@ -230,7 +229,7 @@ fn refused_clones<'c, const LEN: usize>(
         }
         expect_alive(rt, index, tally);
     }
-    expect_eq(rt, index.len(), 300);
+    assert_eq!(rt; index.len(), 300);
     Ok(refused)
 }
 

@@ -1,7 +1,6 @@
 //! The answers to requests, in whatever pieces the lines come and the answers go.
 use super::streams::{Failing, Sink};
 use super::{Row, expect_answers};
-use crate::expect::expect_eq;
 use test_support::refusals::succeeds;
 use tree_index::TreeIndex;
 use tree_lines::run_lines;
@@ -135,7 +134,7 @@ fn answers_that_memory_is_refused(rt: HostRuntime) {
     for lines in &STORE_AND_PEEK {
         let mut input = lines.as_bytes();
         let mut output = Sink::new(256, Failing::never());
-        expect_eq(&rt, run_lines(&mut index, &mut input, &mut output), Ok(()));
+        assert_eq!(rt; run_lines(&mut index, &mut input, &mut output), Ok(()));
         let answers = output.taken();
         assert!(rt; answers == b"ok\n10\n".as_slice() || answers == b"refused\nnone\n".as_slice());
     }

@@ -1,7 +1,6 @@
 //! Lines that are answered by cursors: pairs in order, and where a key is.
 use super::streams::{Failing, Failure, Sink, Source};
 use super::{Row, expect_answers};
-use crate::expect::expect_eq;
 use std::alloc::{AllocError, Global};
 use std::process::Abort;
 use test_support::refusals::succeeds;
@@ -101,22 +100,20 @@ fn breaks_off_anywhere(
                 by,
             },
         );
-        expect_eq(
-            rt,
+        assert_eq!(rt;
             run_lines(&mut index, &mut input, &mut output),
-            Err(ToolFault::Write),
+            Err(ToolFault::Write)
         );
-        expect_eq(rt, output.taken(), wanted.as_bytes().split_at(passes).0);
-        expect_eq(rt, index.len(), 20);
+        assert_eq!(rt; output.taken(), wanted.as_bytes().split_at(passes).0);
+        assert_eq!(rt; index.len(), 20);
     }
     let mut output = Sink::new(256, Failing::never());
-    expect_eq(
-        rt,
+    assert_eq!(rt;
         run_lines(&mut index, &mut lines.as_bytes(), &mut output),
-        Ok(()),
+        Ok(())
     );
     assert!(rt; output.taken().starts_with(wanted.as_bytes()));
-    expect_eq(rt, index.len(), 19);
+    assert_eq!(rt; index.len(), 19);
     Ok(())
 }
 
@@ -149,14 +146,13 @@ fn reads_up_to_a_fault(
             },
         );
         let mut output = Sink::new(256, Failing::never());
-        expect_eq(
-            rt,
+        assert_eq!(rt;
             run_lines(&mut index, &mut input, &mut output),
-            Err(ToolFault::Read),
+            Err(ToolFault::Read)
         );
         let answers = if passes < answered { "" } else { wanted };
-        expect_eq(rt, output.taken(), answers.as_bytes());
-        expect_eq(rt, index.len(), 20);
+        assert_eq!(rt; output.taken(), answers.as_bytes());
+        assert_eq!(rt; index.len(), 20);
     }
     Ok(())
 }

@@ -1,6 +1,5 @@
 //! Runs in which a read or a write fails.
 use super::streams::{Failing, Failure, Sink, Source};
-use crate::expect::expect_eq;
 use std::alloc::{AllocError, Global};
 use std::process::Abort;
 use std::test::Fail;
@@ -26,17 +25,13 @@ fn stops_at(
     let mut input = Source::new(REQUESTS, 1, reads);
     let mut output = Sink::new(1, writes);
     let mut index = TreeIndex::new(alloc);
-    expect_eq(
-        rt,
-        run_lines(&mut index, &mut input, &mut output),
-        Err(fault),
-    );
+    assert_eq!(rt; run_lines(&mut index, &mut input, &mut output), Err(fault));
     let found = (index.peek(&1).copied(), index.peek(&2).copied());
     if found.0 < first || found.1 < second {
         return Err(AllocError);
     }
-    expect_eq(rt, found, (first, second));
-    expect_eq(rt, output.taken(), answers);
+    assert_eq!(rt; found, (first, second));
+    assert_eq!(rt; output.taken(), answers);
     Ok(())
 }
 
@@ -77,10 +72,9 @@ fn shows_faults(rt: HostRuntime) -> Result<(), Fail> {
     let (read, write) = (ToolFault::Read, ToolFault::Write);
     let shown = || format!(in rt.alloc(); "{read}, {write}, {write:?}, {WriteFailed}");
     let text = shown().or_else(|_| shown())?;
-    expect_eq(
-        &rt,
+    assert_eq!(rt;
         text.as_str(),
-        "a read failed, a write failed, Write, a write failed",
+        "a read failed, a write failed, Write, a write failed"
     );
     Ok(())
 }

@@ -1,6 +1,5 @@
 //! Lines that are requests and lines that are not.
 use super::answered;
-use crate::expect::expect_eq;
 use std::alloc::{AllocError, Global};
 use std::io::Read;
 use std::process::Abort;
@@ -132,7 +131,7 @@ fn expect_too_long(
     let line = before.as_bytes().chain(middle).chain(behind.as_bytes());
     let input = b"insert 1 10\n".as_slice().chain(line);
     let output = answered(rt, alloc, input, 256)?;
-    expect_eq(rt, output.taken(), b"ok\n?\n10\n".as_slice());
+    assert_eq!(rt; output.taken(), b"ok\n?\n10\n".as_slice());
     Ok(())
 }
 
