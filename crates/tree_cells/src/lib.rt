@@ -4,4 +4,5 @@
 pub mod cells;
 mod gather;
 pub mod judge;
+mod lazy_row;
 pub mod search;
