@@ -1,10 +1,11 @@
 -- Values that leave the slots of a row place by place and stand in another row in turn, and pairs that do so with them.
-use Rattle.std.proofs.Common.{◌≡◌, ◌≢◌, ◌⊎◌, ℕ, zero, suc, ◌+◌, ◌-◌, ◌<◌, ◌≤◌, List, length, set, replicate, get_or, Option, None, Some, IsSome, is_some, refl, sym, ◌∙◌, ap, inl, inr, arith}
+use Rattle.std.proofs.Common.{◌≡◌, ◌≢◌, ◌⊎◌, ℕ, false, zero, suc, ◌+◌, ◌-◌, ◌<◌, ◌≤◌, List, length, set, replicate, get_or, Option, None, Some, IsSome, is_some, refl, sym, ◌∙◌, ap, inl, inr, arith}
 use mathlib.Core.Bool.{false≢true}
 use Rattle.std.proofs.lemmas.Bool.{cases_lt, cases_eq}
 use Rattle.std.proofs.lemmas.List.{length-set, length-replicate, get_or-replicate, get_or-set_same, get_or-set_other, get_or_past}
 use Rattle.tree_cells.specs.Arrivals.{arrival}
-use Rattle.tree_cells.specs.Cells.{pair_up, zipped, AreRows}
+use Rattle.tree_slots.specs.declared.row.Row.{Row}
+use Rattle.tree_cells.specs.Cells.{pair_up, slots_of, zipped, AreRows}
 use Rattle.tree_cells.specs.Moves.{HasInTurn, HasLeft}
 use Rattle.tree_order.specs.Order.{named}
 use Rattle.tree_cells.proofs.Zips.{as_long, zipped_at}
@@ -83,9 +84,10 @@ module _ {X : Type 0} where
         get_or-set_other to (place - from) i (Some x) None other ∙ t.none i (omega arith);
   }
 
--- what the same `Some` holds is the same
-pub inside : {X : Type 0} {x y : X} → Some x ≡ Some y → x ≡ y
-inside {x} e = ap (λ (o : Option _). elim o [ None ↦ x | Some z ↦ z ]) e
+-- no slot of a row that isn't made holds a value
+pub unmade : {T : Type 0} (len : ℕ) (row : Option (Row T len)) → is_some row ≡ false → replicate len None ≡ slots_of len row
+unmade len None none = refl
+unmade len (Some row) none = absurd (false≢true (sym none))
 
 -- no pair stands where there are no rows
 pub none_stands : {X : Type 0} (n p : ℕ) (xs : List (Option X)) → replicate n None ≡ xs → IsSome (get_or xs p None) → ⊥

@@ -4,26 +4,26 @@ ghost use Rattle.tree_cells.specs.Arrivals.{arrival};
 ghost use Rattle.tree_cells.specs.Moves.{HasInTurn, HasLeft};
 ghost use Rattle.tree_order.specs.Order.{named};
 
-use crate::lazy_row::LazyRow;
+use crate::late_row::{self, LateRow};
 use std::marker::Model;
 
 /// The cells, each with a pair or none. There are no rows before the first pair, whose bytes then fill them.
 ///
 /// Each row begins in memory with a tag that says whether it is made, so that of the values lies behind the keys.
 pub struct Cells<K, V, const LEN: usize> {
-    keys: LazyRow<K, LEN>,
-    vals: LazyRow<V, LEN>,
+    keys: LateRow<K, LEN>,
+    vals: LateRow<V, LEN>,
 }
 
 impl<K, V, const LEN: usize> Model for Cells<K, V, LEN> {
     ghost use Rattle.std.specs.Prelude.{List, Option};
-    ghost use Rattle.tree_cells.specs.Cells.{zipped, AreRows};
+    ghost use Rattle.tree_cells.specs.Cells.{slots_of, zipped, AreRows};
 
     ghost Value = { List (Option (K × V)) };
 
-    ghost view = { λ c. zipped c.keys c.vals };
+    ghost view = { λ c. zipped (slots_of LEN c.keys) (slots_of LEN c.vals) };
 
-    ghost invariant = { λ c. AreRows LEN c.keys c.vals };
+    ghost invariant = { λ c. AreRows LEN (slots_of LEN c.keys) (slots_of LEN c.vals) };
 }
 
 impl<K, V, const LEN: usize> Cells<K, V, LEN> {
@@ -32,8 +32,8 @@ impl<K, V, const LEN: usize> Cells<K, V, LEN> {
         ensures { result ≡ replicate LEN None }
     {
         Cells {
-            keys: LazyRow::new(),
-            vals: LazyRow::new(),
+            keys: None,
+            vals: None,
         }
     }
 
@@ -45,10 +45,10 @@ impl<K, V, const LEN: usize> Cells<K, V, LEN> {
     {
         // The tag of the values lies in the middle of the cells. Reading it has a processor fetch the memory there while
         // it searches the first keys.
-        if self.vals.is_bare() {
+        if self.vals.is_none() {
             unreachable!()
         }
-        self.keys.get(cell as usize)
+        late_row::get(&self.keys, cell as usize)
     }
 
     /// Returns the pair of a cell. The caller must know that it holds one.
@@ -57,7 +57,10 @@ impl<K, V, const LEN: usize> Cells<K, V, LEN> {
         requires { IsSome (arrival self.now cell) }
         ensures { arrival self.now cell ≡ Some (result.0.now, result.1.now) }
     {
-        (self.keys.get(cell as usize), self.vals.get(cell as usize))
+        (
+            late_row::get(&self.keys, cell as usize),
+            late_row::get(&self.vals, cell as usize),
+        )
     }
 
     /// Puts a pair into a cell. The caller must know that it holds none.
@@ -66,8 +69,8 @@ impl<K, V, const LEN: usize> Cells<K, V, LEN> {
         requires empty { arrival self.old cell ≡ None }
         ensures { self.new ≡ slice_set self.old cell (Some (key, val)) }
     {
-        self.keys.put(cell as usize, key);
-        self.vals.put(cell as usize, val);
+        late_row::put(&mut self.keys, cell as usize, key);
+        late_row::put(&mut self.vals, cell as usize, val);
     }
 
     /// Takes the pair of a cell. The caller must know that it holds one.
@@ -76,7 +79,10 @@ impl<K, V, const LEN: usize> Cells<K, V, LEN> {
         ensures pair { arrival self.old cell ≡ Some result }
         ensures spent { self.new ≡ slice_set self.old cell None }
     {
-        (self.keys.take(cell as usize), self.vals.take(cell as usize))
+        (
+            late_row::take(&mut self.keys, cell as usize),
+            late_row::take(&mut self.vals, cell as usize),
+        )
     }
 
     /// Moves the pairs of the places from `from` up to `end` of an order into the first of other cells, in turn. The caller
@@ -96,8 +102,8 @@ impl<K, V, const LEN: usize> Cells<K, V, LEN> {
         if from >= end {
             return;
         }
-        self.keys.take_places(order, from, end, &mut to.keys);
-        self.vals.take_places(order, from, end, &mut to.vals);
+        late_row::take_places(&mut self.keys, order, from, end, &mut to.keys);
+        late_row::take_places(&mut self.vals, order, from, end, &mut to.vals);
     }
 
     /// Replaces the value of a cell and returns the old one. The caller must know that it holds a pair.
@@ -106,7 +112,7 @@ impl<K, V, const LEN: usize> Cells<K, V, LEN> {
         ensures { (key : K) × (arrival self.old cell ≡ Some (key, result))
             × (self.new ≡ slice_set self.old cell (Some (key, val))) }
     {
-        self.vals.replace(cell as usize, val)
+        late_row::replace(&mut self.vals, cell as usize, val)
     }
 
     /// Ends cells that hold no pair. The caller must know that they hold none.
@@ -114,7 +120,7 @@ impl<K, V, const LEN: usize> Cells<K, V, LEN> {
         requires { (p : ℕ) → arrival self p ≡ None }
     {
         let Cells { keys, vals } = self;
-        keys.discard();
-        vals.discard();
+        late_row::discard(keys);
+        late_row::discard(vals);
     }
 }

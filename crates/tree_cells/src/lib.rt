@@ -4,5 +4,5 @@
 pub mod cells;
 mod gather;
 pub mod judge;
-mod lazy_row;
+mod late_row;
 pub mod search;

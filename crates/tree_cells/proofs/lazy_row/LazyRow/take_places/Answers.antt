@@ -1,8 +1,0 @@
-use Rattle.std.proofs.Common.{arith}
-use Rattle.tree_order.specs.Order.{named}
-use Rattle.tree_cells.proofs.Moves.{none_stands}
-use Rattle.tree_cells.proofs.lazy_row.LazyRow.take_places.Goals as goal
-
-pub unreachable-requires-in-None : goal.unreachable-requires-in-None
-unreachable-requires-in-None g c =
-    none_stands g.row.LEN (named c.args.order c.args.from) c.args.self.now (rw c.in-None.is at c.self.view_is) (c.requires.stands c.args.from (omega arith) c.requires.some)
