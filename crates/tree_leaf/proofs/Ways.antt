@@ -1,18 +1,33 @@
 -- The way that links lead from a leaf: which leaves they pass, that it ends, and where a jump lands.
-use Rattle.std.proofs.Common.{is_some, ◌≡◌, ℕ, zero, suc, ◌<◌, ◌≤◌, ◌==◌, Bool, true, false, List, [], ◌∷◌, ◌++◌, length, Option, Some, None, IsSome, refl, sym, ◌∙◌, IsTrue, ◌↔◌, arith, length-append}
+use Rattle.std.proofs.Common.{is_some, ◌≡◌, ℕ, zero, suc, ◌<◌, ◌≤◌, ◌==◌, Bool, true, false, List, [], ◌∷◌, ◌++◌, length, Option, Some, None, IsSome, option_map, refl, sym, ap, ◌∙◌, IsTrue, ◌↔◌, arith, length-append}
 use mathlib.Core.List.{reverse_aux}
 use Rattle.std.proofs.lemmas.Bool.Decides.{nat_tests}
 use Rattle.std.proofs.lemmas.List.{length-reverse}
 use Rattle.slab.specs.Slab.{Slab, get}
 use Rattle.tree_leaf.specs.declared.leaf.LeafOf.{LeafOf}
+use Rattle.tree_leaf.specs.declared.leaf.stand.Beside.{Beside}
 use Rattle.tree_leaf.specs.declared.leaf.stand.Way.{Way}
 use Rattle.tree_leaf.specs.declared.leaf.stand.Way.TheVariants.{On, Back}
 use Rattle.tree_leaf.specs.Chain.{first_or, last_or, IsBetween, AreLinked, IsChain}
 use Rattle.tree_leaf.specs.Entries.{leaf_entries}
-use Rattle.tree_leaf.specs.Ways.{leaves_on, beside, landing}
+use Rattle.tree_leaf.specs.Ways.{leaves_on, beside, landing, seen, seen_at}
 use Rattle.tree_leaf.proofs.Chains.{linked_left, linked_right, neighbours}
 use Rattle.std.proofs.lemmas.List.Sums.{count_by-le-length}
 use Rattle.tree_leaf.proofs.Pigeonhole.{once_fits}
+
+-- the number of the leaf that is seen
+abbrev pub number_of : Option Beside → Option ℕ
+number_of ahead = option_map (λ next. next.id) ahead
+
+module _ {K V : Type 0} {LEN : ℕ} (leaves : Slab (LeafOf K V LEN)) where
+  -- what is seen of a leaf keeps its number
+  pub number_seen : (next : Option ℕ) → number_of (seen leaves next) ≡ next
+  number_seen None = refl
+  number_seen (Some id) = refl
+
+  -- what is seen of a leaf tells whether it has an entry
+  pub empty_seen : (next : Beside) → Some next ≡ seen leaves (Some next.id) → (length (leaf_entries leaves next.id) == 0) ≡ next.is_empty
+  empty_seen next looked = let same : next ≡ seen_at leaves next.id = cc in sym (ap (λ n. n.is_empty) same)
 
 module _ {K V : Type 0} {LEN : ℕ} (leaves : Slab (LeafOf K V LEN)) (way : Way) where
   -- the links lead from this number through these leaves to the end
@@ -58,6 +73,13 @@ module _ {K V : Type 0} {LEN : ℕ} (leaves : Slab (LeafOf K V LEN)) (way : Way)
     pub few : length left ≤ length leaves.slots
     pub same : landing leaves None start ≡ landing leaves passed left
 
+  -- it has passed leaves without entries, and sees the one ahead
+  abbrev pub Sees : List ℕ → Option ℕ → Option Beside → Type 0
+  Sees start passed ahead = (ahead ≡ seen leaves (number_of ahead)) × Passed start passed (number_of ahead)
+
+  pub sees : (start : List ℕ) (passed next : Option ℕ) (ahead : Option Beside) → ahead ≡ seen leaves next → Passed start passed next → Sees start passed ahead
+  sees start passed next ahead looked now = rw (looked, number_seen leaves next) (refl, now)
+
   -- the leaf that is next is in use
   pub next_there : (id : ℕ) (start : List ℕ) (passed : Option ℕ) → Passed start passed (Some id) → IsSome (get leaves id)
   next_there id start passed now = by_left now.left now.leads
@@ -66,30 +88,31 @@ module _ {K V : Type 0} {LEN : ℕ} (leaves : Slab (LeafOf K V LEN)) (way : Way)
       by_left [] leads = absurd (cc)
       by_left (x ∷ ids) leads = let same : id ≡ x = cc in rw (same, leads.1.1) refl
 
-  -- it lands there if that leaf has an entry
-  pub lands : (id : ℕ) (start : List ℕ) (passed : Option ℕ) → Passed start passed (Some id) → (length (leaf_entries leaves id) == 0) ≡ false → Some id ≡ landing leaves None start
-  lands id start passed now filled = sym (now.same ∙ by_left now.left now.leads)
-    where
-      by_left : (ids : List ℕ) → Leads (Some id) ids → landing leaves passed ids ≡ Some id
-      by_left [] leads = absurd (cc)
-      by_left (x ∷ ids) leads = let same : x ≡ id = cc in rw (same, filled) refl
+  module _ (start : List ℕ) (passed : Option ℕ) (next : Beside) (now : Sees start passed (Some next)) where
+    -- it lands in the leaf that it sees if that has an entry
+    pub lands : next.is_empty ≡ false → Some next.id ≡ landing leaves None start
+    lands filled = sym (now.1.same ∙ by_left now.1.left now.1.leads)
+      where
+        by_left : (ids : List ℕ) → Leads (Some next.id) ids → landing leaves passed ids ≡ Some next.id
+        by_left [] leads = absurd (cc)
+        by_left (x ∷ ids) leads = let same : x ≡ next.id = cc in rw (same, empty_seen leaves next now.0 ∙ filled) refl
 
-  -- else it passes the leaf
-  pub passes : (id : ℕ) (leaf : LeafOf K V LEN) (start : List ℕ) (passed : Option ℕ) → Passed start passed (Some id) → get leaves id ≡ Some leaf → (length (leaf_entries leaves id) == 0) ≡ true → Passed start (Some id) (beside way leaf)
-  passes id leaf start passed now here empty = by_left now.left now.leads now.few now.same
-    where
-      by_left : (ids : List ℕ) → Leads (Some id) ids → length ids ≤ length leaves.slots → landing leaves None start ≡ landing leaves passed ids → Passed start (Some id) (beside way leaf)
-      by_left [] leads few same = absurd (cc)
-      by_left (x ∷ ids) leads few same =
-          let same_id : x ≡ id = cc in
-          let both : Some leads.1.0 ≡ Some leaf = sym leads.1.1 ∙ rw (← same_id) at here in
-          let same_leaf : leads.1.0 ≡ leaf = cc in
-          record {
-            left = ids;
-            leads = rw same_leaf at leads.1.2;
-            few = omega arith;
-            same = rw (same_id, empty) at same;
-          }
+    -- else it passes the leaf
+    pub passes : (leaf : LeafOf K V LEN) → get leaves next.id ≡ Some leaf → next.is_empty ≡ true → Passed start (Some next.id) (beside way leaf)
+    passes leaf here empty = by_left now.1.left now.1.leads now.1.few now.1.same
+      where
+        by_left : (ids : List ℕ) → Leads (Some next.id) ids → length ids ≤ length leaves.slots → landing leaves None start ≡ landing leaves passed ids → Passed start (Some next.id) (beside way leaf)
+        by_left [] leads few same = absurd (cc)
+        by_left (x ∷ ids) leads few same =
+            let same_id : x ≡ next.id = cc in
+            let both : Some leads.1.0 ≡ Some leaf = sym leads.1.1 ∙ rw (← same_id) at here in
+            let same_leaf : leads.1.0 ≡ leaf = cc in
+            record {
+              left = ids;
+              leads = rw same_leaf at leads.1.2;
+              few = omega arith;
+              same = rw (same_id, empty_seen leaves next now.0 ∙ empty) at same;
+            }
 
   -- at the end it lands in the last leaf
   pub lands_last : (start : List ℕ) (passed next : Option ℕ) → Passed start passed next → next ≡ None → passed ≡ landing leaves None start

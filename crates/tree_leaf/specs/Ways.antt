@@ -1,8 +1,9 @@
 -- Which way a walk goes: how it sees a list and steps through it, and which leaves the links lead it to.
-use Rattle.std.specs.Prelude.{◌≡◌, ℕ, ◌-◌, ◌<◌, ◌==◌, if◌then◌else◌, List, [], ◌∷◌, length, drop, take, reverse, Option, Some, MatchOption, slice_get}
+use Rattle.std.specs.Prelude.{◌≡◌, ℕ, ◌-◌, ◌<◌, ◌==◌, if◌then◌else◌, List, [], ◌∷◌, length, drop, take, reverse, Option, Some, MatchOption, option_map, slice_get}
 use Rattle.slab.specs.Slab.{Slab}
 use Rattle.tree_array.specs.Walk.{place_ahead, places_behind}
 use Rattle.tree_leaf.specs.declared.leaf.LeafOf.{LeafOf}
+use Rattle.tree_leaf.specs.declared.leaf.stand.Beside.{Beside}
 use Rattle.tree_leaf.specs.declared.leaf.stand.Way.{Way}
 use Rattle.tree_leaf.specs.declared.leaf.stand.Way.TheVariants.{On, Back}
 use Rattle.tree_leaf.specs.Entries.{leaf_entries}
@@ -51,6 +52,14 @@ module _ {K V : Type 0} {LEN : ℕ} where
   abbrev pub beside : Way → LeafOf K V LEN → Option ℕ
   beside On leaf = leaf.next
   beside Back leaf = leaf.prev
+
+  -- what a walk keeps of the leaf under this number
+  abbrev pub seen_at : Slab (LeafOf K V LEN) → ℕ → Beside
+  seen_at leaves id = record { id = id; is_empty = length (leaf_entries leaves id) == 0 }
+
+  -- the same where there may be no leaf
+  abbrev pub seen : Slab (LeafOf K V LEN) → Option ℕ → Option Beside
+  seen leaves id = option_map (seen_at leaves) id
 
   -- the first of these leaves that has an entry, else the last, else what was before them
   abbrev pub landing : Slab (LeafOf K V LEN) → Option ℕ → List ℕ → Option ℕ

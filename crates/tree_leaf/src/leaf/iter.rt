@@ -35,13 +35,14 @@ pub type RevIterOf<'t, K, V, const LEN: usize> = LinkedIter<'t, LeafOf<K, V, LEN
 pub type RevIter<'t, K, V> = RevIterOf<'t, K, V, 15>;
 
 impl<'t, L: Walked, S: SlotWalk> Model for LinkedIter<'t, L, S> {
+    ghost use Rattle.std.specs.Prelude.{◌≡◌};
     ghost use Rattle.tree_leaf.specs.Walks.{LinkedWalk, standing};
 
     ghost Value = { LinkedWalk L };
 
     ghost view = { λ a. standing a.stand.leaves.now a.stand.id (S.walk a.slots).at };
 
-    ghost invariant = { λ a. L.stands a.stand.leaves.now a.stand.id a.stand.leaf.now (S.walk a.slots) };
+    ghost invariant = { λ a. L.stands a.stand.leaves.now a.stand.id a.stand.leaf.now (S.walk a.slots) × (a.stand.ahead ≡ L.ahead S.way a.stand.leaves.now a.stand.leaf.now) };
 }
 
 impl<'t, K: Ord + Drop, V: Drop, S: SlotWalk, const LEN: usize> LinkedIter<
@@ -63,7 +64,7 @@ impl<'t, K: Ord + Drop, V: Drop, S: SlotWalk, const LEN: usize> LinkedIter<
         requires { (front back : _) × IsChain leaves.now (front ++ id ∷ back) }
         ensures { result ≡ standing leaves.now id None }
     {
-        let stand = Stand::at(leaves, id);
+        let stand = Stand::at(leaves, id, S::way());
         let slots = S::at(ArrayIter::new(stand.leaf.array()));
         LinkedIter { stand, slots }
     }
@@ -119,8 +120,9 @@ impl<'t, K: Ord + Drop, V: Drop, S: Reversible, const LEN: usize> LinkedIter<
     pub fn rev(self) -> LinkedIter<'t, LeafOf<K, V, LEN>, S::Reverse>
         ensures { result ≡ self.entry }
     {
+        let stand = Stand::at(self.stand.leaves, self.stand.id, S::Reverse::way());
         LinkedIter {
-            stand: self.stand,
+            stand,
             slots: self.slots.rev(),
         }
     }

@@ -1,10 +1,11 @@
 //! The leaf that an iterator stands in, and the leaves that it is linked to.
 ghost use Rattle.std.specs.Prelude.{◌≡◌, ◌++◌, ◌∷◌, None, Some, IsSome, List, ℕ};
+ghost use Rattle.std.specs.Option.{ForSome};
 ghost use Rattle.slab.specs.Slab.{ContainsKey, get};
 ghost use Rattle.tree_array.specs.Arrivals.{arrival};
 ghost use Rattle.tree_leaf.specs.Chain.{IsChain};
 ghost use Rattle.tree_leaf.specs.Walks.{lent_entry};
-ghost use Rattle.tree_leaf.specs.Ways.{beside, landing, leaves_on};
+ghost use Rattle.tree_leaf.specs.Ways.{beside, landing, leaves_on, seen};
 
 use crate::arena::LeafId;
 use crate::leaf::LeafOf;
@@ -12,17 +13,24 @@ use slab::Slab;
 
 /// A type of leaves to iterate over, with what an iterator over them keeps. It has no methods.
 pub trait Walked {
-    ghost use Rattle.std.specs.Prelude.{ℕ};
+    ghost use Rattle.std.specs.Prelude.{ℕ, Option};
     ghost use Rattle.slab.specs.Slab.{Slab as Slots};
     ghost use Rattle.tree_array.specs.Walk.{Walk};
+    ghost use Rattle.tree_leaf.specs.declared.leaf.stand.Beside.{Beside};
+    ghost use Rattle.tree_leaf.specs.declared.leaf.stand.Way.{Way};
 
     ghost stands: { Slots Self → ℕ → Self → Walk → Type 0 };
+
+    ghost ahead: { Way → Slots Self → Self → Option Beside };
 }
 
 impl<K: Ord, V, const LEN: usize> Walked for LeafOf<K, V, LEN> {
     ghost use Rattle.tree_leaf.specs.Walks.{IsStand};
+    ghost use Rattle.tree_leaf.specs.Ways.{beside, seen};
 
     ghost stands = { IsStand };
+
+    ghost ahead = { λ way leaves leaf. seen leaves (beside way leaf) };
 }
 
 /// The way of an iterator through the links: on to larger keys, or back to smaller ones.
@@ -32,26 +40,24 @@ pub enum Way {
     Back,
 }
 
-/// The leaf that an iterator stands in, and all leaves.
+/// What an iterator keeps of the leaf ahead, the one beside its leaf on its way. It looks there as soon as it comes
+/// into a leaf, so that the memory of the leaf ahead is on its way while the entries here are read.
+#[derive(Clone, Copy)]
+pub struct Beside {
+    pub id: LeafId,
+    pub is_empty: bool,
+}
+
+/// The leaf that an iterator stands in, all leaves, and the leaf ahead on its way.
 #[derive(Drop)]
 pub struct Stand<'t, L> {
     pub leaves: &'t Slab<L>,
     pub id: LeafId,
     pub leaf: &'t L,
+    pub ahead: Option<Beside>,
 }
 
 impl<'t, L> Stand<'t, L> {
-    /// Stands in the leaf under a number. The caller must name a number in use.
-    pub fn at(leaves: &'t Slab<L>, id: LeafId) -> Self
-        requires { ContainsKey leaves.now id }
-        ensures leaves { result.leaves.now ≡ leaves.now }
-        ensures id { result.id ≡ id }
-        ensures leaf { get leaves.now id ≡ Some result.leaf.now }
-    {
-        let leaf = &leaves[id.0];
-        Stand { leaves, id, leaf }
-    }
-
     /// Stands in the same leaf once more.
     pub fn again(&self) -> Self
         ensures { result ≡ self.now }
@@ -60,11 +66,31 @@ impl<'t, L> Stand<'t, L> {
             leaves: self.leaves,
             id: self.id,
             leaf: self.leaf,
+            ahead: self.ahead,
         }
     }
 }
 
 impl<'t, K: Ord + Drop, V: Drop, const LEN: usize> Stand<'t, LeafOf<K, V, LEN>> {
+    /// Stands in the leaf under a number, and looks up the leaf beside it on the way. The caller must name a
+    /// leaf of a chain.
+    pub fn at(leaves: &'t Slab<LeafOf<K, V, LEN>>, id: LeafId, way: Way) -> Self
+        requires { (front back : _) × IsChain leaves.now (front ++ id ∷ back) }
+        ensures leaves { result.leaves.now ≡ leaves.now }
+        ensures id { result.id ≡ id }
+        ensures leaf { get leaves.now id ≡ Some result.leaf.now }
+        ensures ahead { result.ahead ≡ seen leaves.now (beside way result.leaf.now) }
+    {
+        let leaf = &leaves[id.0];
+        let ahead = look_up(leaves, leaf.beside(way));
+        Stand {
+            leaves,
+            id,
+            leaf,
+            ahead,
+        }
+    }
+
     /// Returns the entry of a slot. The caller must name a reachable slot.
     pub fn entry(&self, slot: u8) -> (&'t K, &'t V)
         requires { IsSome (arrival self.now.leaf.now.array.arrivals slot) }
@@ -78,20 +104,34 @@ impl<'t, K: Ord + Drop, V: Drop, const LEN: usize> Stand<'t, LeafOf<K, V, LEN>> 
     pub fn landing(&self, way: Way) -> Option<LeafId>
         requires leaf { get self.now.leaves.now self.now.id ≡ Some self.now.leaf.now }
         requires chain { (front back : _) × IsChain self.now.leaves.now (front ++ self.now.id ∷ back) }
+        requires ahead { self.now.ahead ≡ seen self.now.leaves.now (beside way self.now.leaf.now) }
         ensures { (front back : List ℕ) → IsChain self.now.leaves.now (front ++ self.now.id ∷ back) → result ≡ landing self.now.leaves.now None (leaves_on way front back) }
     {
         let mut passed = None;
-        let mut next = self.leaf.beside(way);
-        while let Some(id) = next {
-            let leaf = &self.leaves[id.0];
-            if !leaf.array().is_empty() {
-                return next;
+        let mut ahead = self.ahead;
+        while let Some(next) = ahead {
+            let id = next.id;
+            if !next.is_empty {
+                return Some(id);
             }
-            passed = next;
-            next = leaf.beside(way);
+            passed = Some(id);
+            ahead = look_up(self.leaves, self.leaves[id.0].beside(way));
         }
         passed
     }
+}
+
+/// Looks up the leaf under a number, if there is a number. The caller must name one in use.
+fn look_up<K: Ord + Drop, V: Drop, const LEN: usize>(
+    leaves: &Slab<LeafOf<K, V, LEN>>,
+    id: Option<LeafId>,
+) -> Option<Beside>
+    requires { ForSome id (ContainsKey leaves.now) }
+    ensures { result ≡ seen leaves.now id }
+{
+    let id = id?;
+    let is_empty = leaves[id.0].array().is_empty();
+    Some(Beside { id, is_empty })
 }
 
 impl<K: Ord + Drop, V: Drop, const LEN: usize> LeafOf<K, V, LEN> {

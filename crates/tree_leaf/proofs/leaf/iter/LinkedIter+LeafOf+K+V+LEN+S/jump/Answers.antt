@@ -7,8 +7,8 @@ returns-in_err-id g c = rw (← c.self.view_is, c.from_residual.ensures) (λ fro
 
 pub in_leaf-requires : goal.in_leaf-requires
 in_leaf-requires g c =
-    let chain = c.self.invariant.chain in
-    let parted = way_parts _ c.self.invariant.front c.self.inside.stand.id c.self.invariant.back c.in_ok-id.id (lands_in c.self.inside.stand.leaves.now _ _ (sym (c.landing.ensures _ _ chain) ∙ c.in_ok-id.was)) in
+    let chain = c.self.invariant.0.chain in
+    let parted = way_parts _ c.self.invariant.0.front c.self.inside.stand.id c.self.invariant.0.back c.in_ok-id.id (lands_in c.self.inside.stand.leaves.now _ _ (sym (c.landing.ensures _ _ chain) ∙ c.in_ok-id.was)) in
     (search rules, (parted.front, parted.back, rw parted.parts at chain))
 
 pub returns : goal.returns

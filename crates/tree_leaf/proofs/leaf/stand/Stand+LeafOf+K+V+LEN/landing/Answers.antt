@@ -1,28 +1,32 @@
-use Rattle.std.proofs.Common.{◌∙◌}
-use Rattle.tree_leaf.proofs.Ways.{none_passed, next_there, lands, passes, lands_last, hops_fall, empty_by_test}
+use Rattle.std.proofs.Common.{rules, ◌∙◌, ap, sym}
+use Rattle.std.proofs.lemmas.Bool.{not-false, not-true}
+use Rattle.tree_leaf.proofs.Ways.{hops_fall, lands, lands_last, next_there, none_passed, number_of, number_seen, passes, sees}
 use Rattle.tree_leaf.proofs.leaf.stand.Stand+LeafOf+K+V+LEN.landing.Goals as goal
 
-pub loop-next-init : goal.loop-next-init
-loop-next-init g c = λ front back chain. rw c.beside-next.ensures (none_passed _ c.args.way front _ back _ chain c.requires.leaf)
+pub loop-ahead-init : goal.loop-ahead-init
+loop-ahead-init g c = λ front back chain. sees _ _ _ _ _ _ c.requires.ahead (none_passed _ c.args.way front _ back _ chain c.requires.leaf)
 
-pub index-leaf-requires : goal.index-leaf-requires
-index-leaf-requires g c = rw c.id.view_is (next_there _ _ _ _ _ (rw c.in-Some.is at (c.loop-next.invariant _ _ c.requires.chain.2)))
+pub index-requires : goal.index-requires
+index-requires g c = rw c.id.view_is (next_there _ _ _ _ _ (rw c.in-Some.is at (c.loop-ahead.invariant _ _ c.requires.chain.2)).1)
 
-pub returns-then-not-is_empty : goal.returns-then-not-is_empty
-returns-then-not-is_empty g c = λ front back chain.
-    let here = rw c.id.view_is at c.index-leaf.ensures in
-    lands _ _ _ _ _ (rw c.in-Some.is at (c.loop-next.invariant front back chain)) (empty_by_test c.args.self.now.leaves.now c.in-Some.id _ _ here (rw c.array.ensures at c.is_empty.ensures) ∙ c.if-not-is_empty.true)
+pub returns-then-not-next : goal.returns-then-not-next
+returns-then-not-next g c = λ front back chain. lands _ _ _ _ _ (rw c.in-Some.is at (c.loop-ahead.invariant front back chain)) (not-true _ c.if-not-next.true)
 
-pub loop-next-smaller : goal.loop-next-smaller
-loop-next-smaller g c =
-    let here = rw c.id.view_is at c.index-leaf.ensures in
-    let now = rw c.in-Some.is at (c.loop-next.invariant _ _ c.requires.chain.2) in
-    rw (c.in-Some.is, c.beside-next-in-Some.ensures) (hops_fall _ _ _ _ now.left now.leads here now.few)
+pub look_up-ahead-requires : goal.look_up-ahead-requires
+look_up-ahead-requires g c =
+    let now = rw c.in-Some.is at (c.loop-ahead.invariant _ _ c.requires.chain.2) in
+    let passed = passes _ _ _ _ _ now _ (rw c.id.view_is at c.index.ensures) (not-false _ c.if-not-next.false) in
+    (search rules, λ id is. next_there _ _ _ _ _ (rw (sym c.beside.ensures ∙ is) at passed))
 
-pub loop-next-preserved : goal.loop-next-preserved
-loop-next-preserved g c = λ front back chain.
-    let here = rw c.id.view_is at c.index-leaf.ensures in
-    rw c.beside-next-in-Some.ensures (passes _ _ _ _ _ _ (rw c.in-Some.is at (c.loop-next.invariant front back chain)) here (empty_by_test c.args.self.now.leaves.now c.in-Some.id _ _ here (rw c.array.ensures at c.is_empty.ensures) ∙ c.if-not-is_empty.false))
+pub loop-ahead-smaller : goal.loop-ahead-smaller
+loop-ahead-smaller g c =
+    let now = (rw c.in-Some.is at (c.loop-ahead.invariant _ _ c.requires.chain.2)).1 in
+    rw (c.in-Some.is, c.look_up-ahead.ensures, c.beside.ensures, number_seen c.args.self.now.leaves.now _) (hops_fall _ _ _ _ now.left now.leads (rw c.id.view_is at c.index.ensures) now.few)
+
+pub loop-ahead-preserved : goal.loop-ahead-preserved
+loop-ahead-preserved g c = λ front back chain.
+    let now = rw c.in-Some.is at (c.loop-ahead.invariant front back chain) in
+    sees _ _ _ _ _ _ c.look_up-ahead.ensures (rw c.beside.ensures (passes _ _ _ _ _ now _ (rw c.id.view_is at c.index.ensures) (not-false _ c.if-not-next.false)))
 
 pub returns : goal.returns
-returns g c = λ front back chain. lands_last _ _ _ _ _ (c.loop-next.invariant front back chain) c.in_default.is
+returns g c = λ front back chain. lands_last _ _ _ _ _ (c.loop-ahead.invariant front back chain).1 (ap number_of c.in_default.is)
