@@ -1,5 +1,5 @@
 -- The way that links lead from a leaf: which leaves they pass, that it ends, and where a jump lands.
-use Rattle.std.proofs.Common.{is_some, ◌≡◌, ℕ, zero, suc, ◌<◌, ◌≤◌, ◌==◌, Bool, true, false, List, [], ◌∷◌, ◌++◌, length, Option, Some, None, IsSome, option_map, refl, sym, ap, ◌∙◌, IsTrue, ◌↔◌, arith, length-append}
+use Rattle.std.proofs.Common.{is_some, ◌≡◌, ℕ, zero, suc, ◌<◌, ◌≤◌, ◌==◌, true, false, List, [], ◌∷◌, ◌++◌, length, Option, Some, None, IsSome, option_map, refl, sym, ap, ◌∙◌, arith, length-append}
 use mathlib.Core.List.{reverse_aux}
 use Rattle.std.proofs.lemmas.Bool.Decides.{nat_tests}
 use Rattle.std.proofs.lemmas.List.{length-reverse}
@@ -26,8 +26,15 @@ module _ {K V : Type 0} {LEN : ℕ} (leaves : Slab (LeafOf K V LEN)) where
   number_seen (Some id) = refl
 
   -- what is seen of a leaf tells whether it has an entry
-  pub empty_seen : (next : Beside) → Some next ≡ seen leaves (Some next.id) → (length (leaf_entries leaves next.id) == 0) ≡ next.is_empty
-  empty_seen next looked = let same : next ≡ seen_at leaves next.id = cc in sym (ap (λ n. n.is_empty) same)
+  module _ (next : Beside) (looked : Some next ≡ seen leaves (Some next.id)) where
+    counted : length (leaf_entries leaves next.id) ≡ next.len
+    counted = let same : next ≡ seen_at leaves next.id = cc in sym (ap (λ n. n.len) same)
+
+    filled_seen : 0 < next.len → (length (leaf_entries leaves next.id) == 0) ≡ false
+    filled_seen filled = grind (arith, nat_tests, counted)
+
+    empty_seen : next.len ≤ 0 → (length (leaf_entries leaves next.id) == 0) ≡ true
+    empty_seen empty = grind (arith, nat_tests, counted)
 
 module _ {K V : Type 0} {LEN : ℕ} (leaves : Slab (LeafOf K V LEN)) (way : Way) where
   -- the links lead from this number through these leaves to the end
@@ -90,15 +97,15 @@ module _ {K V : Type 0} {LEN : ℕ} (leaves : Slab (LeafOf K V LEN)) (way : Way)
 
   module _ (start : List ℕ) (passed : Option ℕ) (next : Beside) (now : Sees start passed (Some next)) where
     -- it lands in the leaf that it sees if that has an entry
-    pub lands : next.is_empty ≡ false → Some next.id ≡ landing leaves None start
+    pub lands : 0 < next.len → Some next.id ≡ landing leaves None start
     lands filled = sym (now.1.same ∙ by_left now.1.left now.1.leads)
       where
         by_left : (ids : List ℕ) → Leads (Some next.id) ids → landing leaves passed ids ≡ Some next.id
         by_left [] leads = absurd (cc)
-        by_left (x ∷ ids) leads = let same : x ≡ next.id = cc in rw (same, empty_seen leaves next now.0 ∙ filled) refl
+        by_left (x ∷ ids) leads = let same : x ≡ next.id = cc in rw (same, filled_seen leaves next now.0 filled) refl
 
     -- else it passes the leaf
-    pub passes : (leaf : LeafOf K V LEN) → get leaves next.id ≡ Some leaf → next.is_empty ≡ true → Passed start (Some next.id) (beside way leaf)
+    pub passes : (leaf : LeafOf K V LEN) → get leaves next.id ≡ Some leaf → next.len ≤ 0 → Passed start (Some next.id) (beside way leaf)
     passes leaf here empty = by_left now.1.left now.1.leads now.1.few now.1.same
       where
         by_left : (ids : List ℕ) → Leads (Some next.id) ids → length ids ≤ length leaves.slots → landing leaves None start ≡ landing leaves passed ids → Passed start (Some next.id) (beside way leaf)
@@ -111,7 +118,7 @@ module _ {K V : Type 0} {LEN : ℕ} (leaves : Slab (LeafOf K V LEN)) (way : Way)
               left = ids;
               leads = rw same_leaf at leads.1.2;
               few = omega arith;
-              same = rw (same_id, empty_seen leaves next now.0 ∙ empty) at same;
+              same = rw (same_id, empty_seen leaves next now.0 empty) at same;
             }
 
   -- at the end it lands in the last leaf
@@ -159,12 +166,3 @@ module _ {K V : Type 0} {LEN : ℕ} (leaves : Slab (LeafOf K V LEN)) where
     few = way_fits way front id back chain;
     same = refl;
   }
-
-  -- what the test of a leaf's array tells of its entries
-  pub empty_by_test : (id : ℕ) (leaf : LeafOf K V LEN) (test : Bool) → get leaves id ≡ Some leaf → IsTrue test ↔ (leaf.array.entries ≡ []) → (length (leaf_entries leaves id) == 0) ≡ test
-  empty_by_test id leaf test here tells = rw here (by_test test leaf.array.entries tells)
-    where
-      by_test : (b : Bool) (entries : List (K × V)) → IsTrue b ↔ (entries ≡ []) → (length entries == 0) ≡ b
-      by_test true entries h = rw (h.0 refl) refl
-      by_test false [] h = absurd (let bad = h.1 refl in cc)
-      by_test false (x ∷ entries) h = grind (arith, nat_tests)

@@ -55,7 +55,7 @@ module _ {K V : Type 0} {LEN : ℕ} where
 
   -- what a walk keeps of the leaf under this number
   abbrev pub seen_at : Slab (LeafOf K V LEN) → ℕ → Beside
-  seen_at leaves id = record { id = id; is_empty = length (leaf_entries leaves id) == 0 }
+  seen_at leaves id = record { id = id; len = length (leaf_entries leaves id) }
 
   -- the same where there may be no leaf
   abbrev pub seen : Slab (LeafOf K V LEN) → Option ℕ → Option Beside

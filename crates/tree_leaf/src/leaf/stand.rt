@@ -40,12 +40,13 @@ pub enum Way {
     Back,
 }
 
-/// What an iterator keeps of the leaf ahead, the one beside its leaf on its way. It looks there as soon as it comes
-/// into a leaf, so that the memory of the leaf ahead is on its way while the entries here are read.
+/// What an iterator keeps of the leaf ahead, the one beside its leaf on its way: the number, and how many entries
+/// it has. The iterator looks there as soon as it comes into a leaf, so that the memory of the leaf ahead is on its
+/// way while the entries here are read.
 #[derive(Clone, Copy)]
 pub struct Beside {
     pub id: LeafId,
-    pub is_empty: bool,
+    pub len: usize,
 }
 
 /// The leaf that an iterator stands in, all leaves, and the leaf ahead on its way.
@@ -111,7 +112,7 @@ impl<'t, K: Ord + Drop, V: Drop, const LEN: usize> Stand<'t, LeafOf<K, V, LEN>> 
         let mut ahead = self.ahead;
         while let Some(next) = ahead {
             let id = next.id;
-            if !next.is_empty {
+            if next.len > 0 {
                 return Some(id);
             }
             passed = Some(id);
@@ -130,8 +131,8 @@ fn look_up<K: Ord + Drop, V: Drop, const LEN: usize>(
     ensures { result ≡ seen leaves.now id }
 {
     let id = id?;
-    let is_empty = leaves[id.0].array().is_empty();
-    Some(Beside { id, is_empty })
+    let len = leaves[id.0].array().len();
+    Some(Beside { id, len })
 }
 
 impl<K: Ord + Drop, V: Drop, const LEN: usize> LeafOf<K, V, LEN> {
