@@ -42,11 +42,6 @@ searched_few len (inr fifteen) = grind (arith, nat_tests)
 pub searched_some : (len : ℕ) → (3 ≤ searched len) × (searched len ≤ 4)
 searched_some len = (grind (arith, nat_tests), grind (arith, nat_tests))
 
--- the end of a window in which an equal key was met is a place of one of the slots
-pub within_slots : {K V : Type 0} {cmp : K → K → Ordering} {cells : List (Option (K × V))} {order : ℕ} {key : K} {len place rest met width : ℕ} → IsLen len → IsWindow cmp cells order key len place rest met width → 0 < met → place + width < 15
-within_slots (inl seven) window some = omega (arith, seven, (window.equal some).0)
-within_slots (inr fifteen) window some = omega (arith, fifteen, (window.equal some).0)
-
 module _ {K V : Type 0} {cmp : K → K → Ordering} (o : IsTotalOrder cmp) {cells : List (Option (K × V))} {len order count : ℕ} (it : IsInOrder cmp cells order count) (filled : IsFilled len order count) (some : 0 < count) (few : count ≤ len) where
   -- the place of the entry that a place names, which is the last behind them
   clamp : (i : ℕ) → i < len → (j : ℕ) × (j < count) × (named order i ≡ named order j) × (((i < count) × (j ≡ i)) ⊎ ((count ≤ i) × (j ≡ count - 1)))

@@ -1,14 +1,13 @@
 -- Values that leave the slots of a row place by place and stand in another row in turn, and pairs that do so with them.
-use Rattle.std.proofs.Common.{◌≡◌, ◌≢◌, ◌⊎◌, ℕ, false, zero, suc, ◌+◌, ◌-◌, ◌<◌, ◌≤◌, List, length, set, replicate, get_or, Option, None, Some, IsSome, is_some, refl, sym, ◌∙◌, ap, inl, inr, arith}
+use Rattle.std.proofs.Common.{◌≡◌, ◌≢◌, ◌⊎◌, ℕ, zero, suc, ◌+◌, ◌-◌, ◌<◌, ◌≤◌, List, length, set, replicate, get_or, Option, None, Some, IsSome, is_some, refl, sym, ◌∙◌, ap, inl, inr, arith}
 use mathlib.Core.Bool.{false≢true}
 use Rattle.std.proofs.lemmas.Bool.{cases_lt, cases_eq}
 use Rattle.std.proofs.lemmas.List.{length-set, length-replicate, get_or-replicate, get_or-set_same, get_or-set_other, get_or_past}
 use Rattle.tree_cells.specs.Arrivals.{arrival}
-use Rattle.tree_slots.specs.declared.row.Row.{Row}
-use Rattle.tree_cells.specs.Cells.{pair_up, slots_of, zipped, AreRows}
+use Rattle.tree_cells.specs.Cells.{pair_up, zipped, AreFilledAlike}
 use Rattle.tree_cells.specs.Moves.{HasInTurn, HasLeft}
 use Rattle.tree_order.specs.Order.{named}
-use Rattle.tree_cells.proofs.Zips.{as_long, zipped_at}
+use Rattle.tree_cells.proofs.Zips.{AreSeenAs, zipped_at}
 
 -- one of the places names a slot, or none does
 module _ (order from p : ℕ) where
@@ -84,53 +83,44 @@ module _ {X : Type 0} where
         get_or-set_other to (place - from) i (Some x) None other ∙ t.none i (omega arith);
   }
 
--- no slot of a row that isn't made holds a value
-pub unmade : {T : Type 0} (len : ℕ) (row : Option (Row T len)) → is_some row ≡ false → replicate len None ≡ slots_of len row
-unmade len None none = refl
-unmade len (Some row) none = absurd (false≢true (sym none))
+-- what the same `Some` holds is the same
+pub inside : {X : Type 0} {x y : X} → Some x ≡ Some y → x ≡ y
+inside {x} e = ap (λ (o : Option _). elim o [ None ↦ x | Some z ↦ z ]) e
 
 -- no pair stands where there are no rows
 pub none_stands : {X : Type 0} (n p : ℕ) (xs : List (Option X)) → replicate n None ≡ xs → IsSome (get_or xs p None) → ⊥
 none_stands n p xs is some = false≢true (sym (ap is_some (ap (λ (ys : List (Option _)). get_or ys p None) (sym is) ∙ none_replicated n p)) ∙ some)
 
-module _ {K V : Type 0} {len : ℕ} {keys : List (Option K)} {vals : List (Option V)} {pairs : List (Option (K × V))} (rows : AreRows len keys vals) (view : zipped keys vals ≡ pairs) where
+module _ {K V : Type 0} {keys : List (Option K)} {vals : List (Option V)} {pairs : List (Option (K × V))} (rows : AreSeenAs keys vals pairs) where
   paired_at : (p : ℕ) → arrival pairs p ≡ pair_up (get_or keys p None) (get_or vals p None)
-  paired_at p = ap (λ (q : List (Option (K × V))). arrival q p) (sym view) ∙ zipped_at keys vals p (as_long rows view)
+  paired_at p = ap (λ (q : List (Option (K × V))). arrival q p) (sym rows.view) ∙ zipped_at keys vals p rows.same
 
-  module _ {keys' : List (Option K)} {vals' : List (Option V)} (keys_whole : length keys' ≡ len) (vals_whole : length vals' ≡ len) {order from end : ℕ} where
+  module _ {keys' : List (Option K)} {vals' : List (Option V)} (same' : length keys' ≡ length vals') {order from end : ℕ} where
     -- pairs stand in turn where their keys and their values do
     pub pairs_in_turn : HasInTurn keys keys' order from end → HasInTurn vals vals' order from end → HasInTurn pairs (zipped keys' vals') order from end
     pairs_in_turn k v = record {
-      here = λ i lt. zipped_at keys' vals' i (keys_whole ∙ sym vals_whole) ∙ rw (k.here i lt, v.here i lt) (sym (paired_at (named order (from + i))));
-      none = λ i le. zipped_at keys' vals' i (keys_whole ∙ sym vals_whole) ∙ rw (k.none i le) refl;
+      here = λ i lt. zipped_at keys' vals' i same' ∙ rw (k.here i lt, v.here i lt) (sym (paired_at (named order (from + i))));
+      none = λ i le. zipped_at keys' vals' i same' ∙ rw (k.none i le) refl;
     }
 
-    pub rows_in_turn : HasInTurn keys keys' order from end → HasInTurn vals vals' order from end → AreRows len keys' vals'
-    rows_in_turn k v = record {
-      keys_whole = keys_whole;
-      vals_whole = vals_whole;
-      filled = record {
-        alike = λ i. elim (cases_lt (from + i) end) [
-          | inl lt ↦ rw (k.here i lt, v.here i lt) (rows.filled.alike (named order (from + i)))
-          | inr ge ↦ rw (k.none i ge, v.none i ge) refl
-        ];
-      };
+    pub alike_in_turn : AreFilledAlike keys vals → HasInTurn keys keys' order from end → HasInTurn vals vals' order from end → AreFilledAlike keys' vals'
+    alike_in_turn it k v = record {
+      alike = λ i. elim (cases_lt (from + i) end) [
+        | inl lt ↦ rw (k.here i lt, v.here i lt) (it.alike (named order (from + i)))
+        | inr ge ↦ rw (k.none i ge, v.none i ge) refl
+      ];
     }
 
     pub pairs_left : HasLeft keys keys' order from end → HasLeft vals vals' order from end → HasLeft pairs (zipped keys' vals') order from end
     pairs_left k v = record {
-      gone = λ i le lt. zipped_at keys' vals' (named order i) (keys_whole ∙ sym vals_whole) ∙ rw (k.gone i le lt) refl;
-      others = λ p away. zipped_at keys' vals' p (keys_whole ∙ sym vals_whole) ∙ rw (k.others p away, v.others p away) (sym (paired_at p));
+      gone = λ i le lt. zipped_at keys' vals' (named order i) same' ∙ rw (k.gone i le lt) refl;
+      others = λ p away. zipped_at keys' vals' p same' ∙ rw (k.others p away, v.others p away) (sym (paired_at p));
     }
 
-    pub rows_left : HasLeft keys keys' order from end → HasLeft vals vals' order from end → AreRows len keys' vals'
-    rows_left k v = record {
-      keys_whole = keys_whole;
-      vals_whole = vals_whole;
-      filled = record {
-        alike = λ p. elim (named_or_not order from p end) [
-          | inl (i, le, lt, is) ↦ rw (sym is, k.gone i le lt, v.gone i le lt) refl
-          | inr away ↦ rw (k.others p away, v.others p away) (rows.filled.alike p)
-        ];
-      };
+    pub alike_left : AreFilledAlike keys vals → HasLeft keys keys' order from end → HasLeft vals vals' order from end → AreFilledAlike keys' vals'
+    alike_left it k v = record {
+      alike = λ p. elim (named_or_not order from p end) [
+        | inl (i, le, lt, is) ↦ rw (sym is, k.gone i le lt, v.gone i le lt) refl
+        | inr away ↦ rw (k.others p away, v.others p away) (it.alike p)
+      ];
     }

@@ -5,7 +5,7 @@ use Rattle.std.proofs.lemmas.Bool.{cases_eq, cases_lt}
 use Rattle.std.proofs.lemmas.List.{get_or-set_same, get_or-set_other, get_or_past, length-set, length-replicate}
 use Rattle.tree_cells.specs.Arrivals.{arrival}
 use Rattle.tree_cells.proofs.Picks.{some_of}
-use Rattle.tree_cells.specs.Cells.{pair_up, zipped, AreFilledAlike, AreRows}
+use Rattle.tree_cells.specs.Cells.{pair_up, zipped, AreFilledAlike}
 
 same_set : {A : Type 0} (xs : List (Option A)) (p : ℕ) (x : A) → get_or xs p None ≡ Some x → set xs p (Some x) ≡ xs
 same_set [] p x h = refl
@@ -68,16 +68,17 @@ module _ {K V : Type 0} where
       ];
     }
 
-  -- two rows, and the pairs that contracts see of them
-  module _ {len : ℕ} {keys : List (Option K)} {vals : List (Option V)} {pairs : List (Option (K × V))} (rows : AreRows len keys vals) (view : zipped keys vals ≡ pairs) where
-    pub as_long : length keys ≡ length vals
-    as_long = rows.keys_whole ∙ sym rows.vals_whole
+  -- two rows, as contracts see them
+  pub record AreSeenAs (keys : List (Option K)) (vals : List (Option V)) (pairs : List (Option (K × V))) : Type 0 where
+    pub view : zipped keys vals ≡ pairs
+    pub same : length keys ≡ length vals
 
-    pub pairs_long : length pairs ≡ len
-    pairs_long = ap length (sym view) ∙ length-zipped keys vals as_long ∙ rows.keys_whole
+  pub as_seen : (keys : List (Option K)) (vals : List (Option V)) (pairs : List (Option (K × V))) (len : ℕ) → zipped keys vals ≡ pairs → length keys ≡ len → length vals ≡ len → AreSeenAs keys vals pairs
+  as_seen keys vals pairs len view whole whole' = record { view = view; same = whole ∙ sym whole' }
 
+  module _ {keys : List (Option K)} {vals : List (Option V)} {pairs : List (Option (K × V))} (rows : AreSeenAs keys vals pairs) where
     pub has_both : (p : ℕ) → IsSome (arrival pairs p) → IsSome (get_or keys p None) × IsSome (get_or vals p None)
-    has_both p some = key_some keys vals p as_long (subst (λ (q : List (Option (K × V))). IsSome (arrival q p)) (sym view) some)
+    has_both p some = key_some keys vals p rows.same (subst (λ (q : List (Option (K × V))). IsSome (arrival q p)) (sym rows.view) some)
 
     pub key_there : (p : ℕ) → IsSome (arrival pairs p) → (key : K) × (get_or keys p None ≡ Some key)
     key_there p some = some_of (get_or keys p None) (has_both p some).0
@@ -86,32 +87,34 @@ module _ {K V : Type 0} where
     val_there p some = some_of (get_or vals p None) (has_both p some).1
 
     pub is_pair : (p : ℕ) (key : K) (val : V) → get_or keys p None ≡ Some key → get_or vals p None ≡ Some val → arrival pairs p ≡ Some (key, val)
-    is_pair p key val k v = ap (λ (q : List (Option (K × V))). arrival q p) (sym view) ∙ paired keys vals p key val as_long k v
-
-    pub has_none : (p : ℕ) → arrival pairs p ≡ None → (get_or keys p None ≡ None) × (get_or vals p None ≡ None)
-    has_none p none = none_there keys vals as_long rows.filled p (ap (λ (q : List (Option (K × V))). arrival q p) view ∙ none)
+    is_pair p key val k v = ap (λ (q : List (Option (K × V))). arrival q p) (sym rows.view) ∙ paired keys vals p key val rows.same k v
 
     pub pairs_set : (p : ℕ) (key : Option K) (val : Option V) → zipped (set keys p key) (set vals p val) ≡ set pairs p (pair_up key val)
-    pairs_set p key val = zipped_set keys vals p key val as_long ∙ ap (λ (q : List (Option (K × V))). set q p (pair_up key val)) view
-
-    pub rows_set : (p : ℕ) (key : Option K) (val : Option V) → is_some key ≡ is_some val → AreRows len (set keys p key) (set vals p val)
-    rows_set p key val same = record {
-      keys_whole = length-set keys p key ∙ rows.keys_whole;
-      vals_whole = length-set vals p val ∙ rows.vals_whole;
-      filled = alike_set keys vals as_long rows.filled p key val same;
-    }
+    pairs_set p key val = zipped_set keys vals p key val rows.same ∙ ap (λ (q : List (Option (K × V))). set q p (pair_up key val)) rows.view
 
     -- another value, where there is a key
     pub val_set : (p : ℕ) (key : K) (val : V) → get_or keys p None ≡ Some key → zipped keys (set vals p (Some val)) ≡ set pairs p (Some (key, val))
     val_set p key val h = ap (λ (q : List (Option K)). zipped q (set vals p (Some val))) (sym (same_set keys p key h)) ∙ pairs_set p (Some key) (Some val)
 
-    pub rows_val : (p : ℕ) (key : K) (val : V) → get_or keys p None ≡ Some key → AreRows len keys (set vals p (Some val))
-    rows_val p key val h = subst (λ (q : List (Option K)). AreRows len q (set vals p (Some val))) (same_set keys p key h) (rows_set p (Some key) (Some val) refl)
+    module _ (it : AreFilledAlike keys vals) where
+      pub val_alike : (p : ℕ) (key : K) (val : V) → get_or keys p None ≡ Some key → AreFilledAlike keys (set vals p (Some val))
+      val_alike p key val h = subst (λ (q : List (Option K)). AreFilledAlike q (set vals p (Some val))) (same_set keys p key h) (alike_set keys vals rows.same it p (Some key) (Some val) refl)
 
-  -- ---- rows without a pair
+      pub has_none : (p : ℕ) → arrival pairs p ≡ None → (get_or keys p None ≡ None) × (get_or vals p None ≡ None)
+      has_none p none = none_there keys vals rows.same it p (ap (λ (q : List (Option (K × V))). arrival q p) rows.view ∙ none)
+
+      pub stay_alike : (p : ℕ) (key : Option K) (val : Option V) → is_some key ≡ is_some val → AreFilledAlike (set keys p key) (set vals p val)
+      stay_alike = alike_set keys vals rows.same it
+
+  -- ---- rows that hold one pair
   pub zipped_none : (n : ℕ) → zipped {K = K} {V = V} (replicate n None) (replicate n None) ≡ replicate n None
   zipped_none zero = refl
   zipped_none (suc n) = ap (λ (q : List (Option (K × V))). None ∷ q) (zipped_none n)
 
-  pub rows_none : (n : ℕ) → AreRows {K = K} {V = V} n (replicate n None) (replicate n None)
-  rows_none n = record { keys_whole = length-replicate n None; vals_whole = length-replicate n None; filled = record { alike = alike_none K V n } }
+  pub first_seen : (n p : ℕ) (key : K) (val : V) → zipped (set (replicate n None) p (Some key)) (set (replicate n None) p (Some val)) ≡ set (replicate n None) p (Some (key, val))
+  first_seen n p key val =
+      zipped_set (replicate n None) (replicate n None) p (Some key) (Some val) (length-replicate n None ∙ sym (length-replicate n None))
+      ∙ ap (λ (q : List (Option (K × V))). set q p (Some (key, val))) (zipped_none n)
+
+  pub first_alike : (n p : ℕ) (key : K) (val : V) → AreFilledAlike (set (replicate n None) p (Some key)) (set (replicate n None) p (Some val))
+  first_alike n p key val = alike_set (replicate n None) (replicate n None) (length-replicate n None ∙ sym (length-replicate n None)) (record { alike = alike_none K V n }) p (Some key) (Some val) refl

@@ -4,26 +4,25 @@ ghost use Rattle.tree_cells.specs.Arrivals.{arrival};
 ghost use Rattle.tree_cells.specs.Moves.{HasInTurn, HasLeft};
 ghost use Rattle.tree_order.specs.Order.{named};
 
-use crate::late_row::{self, LateRow};
+use crate::gather::gather;
 use std::marker::Model;
+use std::mem;
+use tree_slots::row::Row;
 
 /// The cells, each with a pair or none. There are no rows before the first pair, whose bytes then fill them.
-///
-/// Each row begins in memory with a tag that says whether it is made, so that of the values lies behind the keys.
 pub struct Cells<K, V, const LEN: usize> {
-    keys: LateRow<K, LEN>,
-    vals: LateRow<V, LEN>,
+    rows: Option<(Row<K, LEN>, Row<V, LEN>)>,
 }
 
 impl<K, V, const LEN: usize> Model for Cells<K, V, LEN> {
-    ghost use Rattle.std.specs.Prelude.{List, Option};
-    ghost use Rattle.tree_cells.specs.Cells.{slots_of, zipped, AreRows};
+    ghost use Rattle.std.specs.Prelude.{List, Option, MatchOption, ⊤};
+    ghost use Rattle.tree_cells.specs.Cells.{zipped, seen_cells, AreFilledAlike};
 
     ghost Value = { List (Option (K × V)) };
 
-    ghost view = { λ c. zipped (slots_of LEN c.keys) (slots_of LEN c.vals) };
+    ghost view = { λ c. seen_cells LEN (λ rows. zipped rows.0.slots rows.1.slots) c.rows };
 
-    ghost invariant = { λ c. AreRows LEN (slots_of LEN c.keys) (slots_of LEN c.vals) };
+    ghost invariant = { λ c. MatchOption c.rows ⊤ (λ rows. AreFilledAlike rows.0.slots rows.1.slots) };
 }
 
 impl<K, V, const LEN: usize> Cells<K, V, LEN> {
@@ -31,10 +30,7 @@ impl<K, V, const LEN: usize> Cells<K, V, LEN> {
     pub fn new() -> Self
         ensures { result ≡ replicate LEN None }
     {
-        Cells {
-            keys: None,
-            vals: None,
-        }
+        Cells { rows: None }
     }
 
     /// Returns the key of a cell. The caller must know that it holds a pair.
@@ -43,12 +39,10 @@ impl<K, V, const LEN: usize> Cells<K, V, LEN> {
         requires { IsSome (arrival self.now cell) }
         ensures { (val : V) × (arrival self.now cell ≡ Some (result.now, val)) }
     {
-        // The tag of the values lies in the middle of the cells. Reading it has a processor fetch the memory there while
-        // it searches the first keys.
-        if self.vals.is_none() {
-            unreachable!()
+        match &self.rows {
+            Some((keys, _)) => keys.get(cell as usize),
+            None => unreachable!(),
         }
-        late_row::get(&self.keys, cell as usize)
     }
 
     /// Returns the pair of a cell. The caller must know that it holds one.
@@ -57,10 +51,10 @@ impl<K, V, const LEN: usize> Cells<K, V, LEN> {
         requires { IsSome (arrival self.now cell) }
         ensures { arrival self.now cell ≡ Some (result.0.now, result.1.now) }
     {
-        (
-            late_row::get(&self.keys, cell as usize),
-            late_row::get(&self.vals, cell as usize),
-        )
+        match &self.rows {
+            Some((keys, vals)) => (keys.get(cell as usize), vals.get(cell as usize)),
+            None => unreachable!(),
+        }
     }
 
     /// Puts a pair into a cell. The caller must know that it holds none.
@@ -69,8 +63,27 @@ impl<K, V, const LEN: usize> Cells<K, V, LEN> {
         requires empty { arrival self.old cell ≡ None }
         ensures { self.new ≡ slice_set self.old cell (Some (key, val)) }
     {
-        late_row::put(&mut self.keys, cell as usize, key);
-        late_row::put(&mut self.vals, cell as usize, val);
+        match &mut self.rows {
+            Some((keys, vals)) => {
+                keys.put(cell as usize, key);
+                vals.put(cell as usize, val);
+            }
+            None => self.begin(cell, key, val),
+        }
+    }
+
+    /// Makes the rows, with a first pair in a cell. Its own function, so that a put into rows that are there is short.
+    #[inline(never)]
+    fn begin(&mut self, cell: u8, key: K, val: V)
+        requires within { cell < LEN }
+        requires bare { self.old ≡ replicate LEN None }
+        ensures { self.new ≡ slice_set self.old cell (Some (key, val)) }
+    {
+        let rows = (Row::with(cell as usize, key), Row::with(cell as usize, val));
+        if let Some((keys, vals)) = mem::replace(&mut self.rows, Some(rows)) {
+            keys.discard();
+            vals.discard();
+        }
     }
 
     /// Takes the pair of a cell. The caller must know that it holds one.
@@ -79,10 +92,10 @@ impl<K, V, const LEN: usize> Cells<K, V, LEN> {
         ensures pair { arrival self.old cell ≡ Some result }
         ensures spent { self.new ≡ slice_set self.old cell None }
     {
-        (
-            late_row::take(&mut self.keys, cell as usize),
-            late_row::take(&mut self.vals, cell as usize),
-        )
+        match &mut self.rows {
+            Some((keys, vals)) => (keys.take(cell as usize), vals.take(cell as usize)),
+            None => unreachable!(),
+        }
     }
 
     /// Moves the pairs of the places from `from` up to `end` of an order into the first of other cells, in turn. The caller
@@ -102,8 +115,20 @@ impl<K, V, const LEN: usize> Cells<K, V, LEN> {
         if from >= end {
             return;
         }
-        late_row::take_places(&mut self.keys, order, from, end, &mut to.keys);
-        late_row::take_places(&mut self.vals, order, from, end, &mut to.vals);
+        match &mut self.rows {
+            Some((keys, vals)) => {
+                let spare = (keys.spare(), vals.spare());
+                let rows = mem::replace(&mut to.rows, Some(spare));
+                Cells { rows }.discard();
+                if let Some((to_keys, to_vals)) = &mut to.rows {
+                    gather(keys, order, from, end, to_keys);
+                    gather(vals, order, from, end, to_vals);
+                } else {
+                    unreachable!()
+                }
+            }
+            None => unreachable!(),
+        }
     }
 
     /// Replaces the value of a cell and returns the old one. The caller must know that it holds a pair.
@@ -112,15 +137,20 @@ impl<K, V, const LEN: usize> Cells<K, V, LEN> {
         ensures { (key : K) × (arrival self.old cell ≡ Some (key, result))
             × (self.new ≡ slice_set self.old cell (Some (key, val))) }
     {
-        late_row::replace(&mut self.vals, cell as usize, val)
+        match &mut self.rows {
+            Some((_, vals)) => vals.replace(cell as usize, val),
+            None => unreachable!(),
+        }
     }
 
     /// Ends cells that hold no pair. The caller must know that they hold none.
     pub fn discard(self)
         requires { (p : ℕ) → arrival self p ≡ None }
     {
-        let Cells { keys, vals } = self;
-        late_row::discard(keys);
-        late_row::discard(vals);
+        let Cells { rows } = self;
+        if let Some((keys, vals)) = rows {
+            keys.discard();
+            vals.discard();
+        }
     }
 }

@@ -4,5 +4,4 @@
 pub mod cells;
 mod gather;
 pub mod judge;
-mod late_row;
 pub mod search;

@@ -21,14 +21,6 @@ same_place find (a ∷ xs) [] same place x is = absurd (cc)
 same_place find (a ∷ xs) (y ∷ ys) same zero x is = let this : x ≡ a = cc in (y, rw this (cc), refl)
 same_place find (a ∷ xs) (y ∷ ys) same (suc place) x is = let rest : map find xs ≡ map Some ys = cc in same_place find xs ys rest place x is
 
--- of two lists of one length, where one has no place the other has none
-no_place : {X Y : Type 0} (xs : List X) (ys : List Y) → length xs ≡ length ys → (place : ℕ) → slice_get xs place ≡ None → slice_get ys place ≡ None
-no_place [] [] same place none = slice_get_past [] place (omega arith)
-no_place [] (y ∷ ys) same place none = absurd (omega (arith, same))
-no_place (x ∷ xs) [] same place none = absurd (omega (arith, same))
-no_place (x ∷ xs) (y ∷ ys) same zero none = absurd (cc)
-no_place (x ∷ xs) (y ∷ ys) same (suc place) none = no_place xs ys (omega (arith, same)) place none
-
 module _ {K V : Type 0} {LEN : ℕ} (leaves : Slab (LeafOf K V LEN)) (id : ℕ) (leaf : LeafOf K V LEN) (slots : Walk) (stand : IsStand leaves id leaf slots) where
   entries_here : leaf_entries leaves id ≡ leaf.array.entries
   entries_here = rw stand.there refl
@@ -59,14 +51,6 @@ module _ {K V : Type 0} {LEN : ℕ} (leaves : Slab (LeafOf K V LEN)) (id : ℕ) 
       by_place : (at : Option ℕ) → option_and_then (slice_get slots.slots) at ≡ Some slot → Some read ≡ stood_on (standing leaves id at)
       by_place None e = absurd (cc)
       by_place (Some place) e = sym (entry_read place slot read e found)
-
-  -- a walk that has no slot stands on no entry
-  pub stood_none : option_and_then (slice_get slots.slots) slots.at ≡ None → None ≡ stood_on (standing leaves id slots.at)
-  stood_none none = by_place slots.at none
-    where
-      by_place : (at : Option ℕ) → option_and_then (slice_get slots.slots) at ≡ None → None ≡ stood_on (standing leaves id at)
-      by_place None e = refl
-      by_place (Some place) e = sym (no_place slots.slots (leaf_entries leaves id) as_many place e)
 
   pub stood_reachable : (slot : ℕ) → option_and_then (slice_get slots.slots) slots.at ≡ Some slot → IsSome (arrival leaf.array.arrivals slot)
   stood_reachable slot is = by_place slots.at is

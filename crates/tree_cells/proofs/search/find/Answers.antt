@@ -1,7 +1,5 @@
-use Rattle.std.proofs.Common.{◌≡◌, ◌<◌, sym, subst, IsSome, arith, rules}
-use Rattle.tree_cells.specs.Arrivals.{arrival}
-use Rattle.tree_cells.proofs.Halving.{end_placed, place_equal, place_apart, searched_some, within_slots}
-use Rattle.tree_cells.proofs.Tabled.{stands_some}
+use Rattle.std.proofs.Common.{◌≡◌, ◌<◌, arith, rules}
+use Rattle.tree_cells.proofs.Halving.{end_placed, place_equal, place_apart, searched_some}
 use Rattle.tree_cells.proofs.search.find.Goals as goal
 
 pub returns-then-window-gt0-clause-place : goal.returns-then-window-gt0-clause-place
@@ -108,22 +106,3 @@ returns-else-window-gt0-4-clause-place g c =
 pub returns-else-window-gt0-4-clause-counted : goal.returns-else-window-gt0-4-clause-counted
 returns-else-window-gt0-4-clause-counted g c =
     omega (arith, c.begin-window.ensures.counted, c.halve-window.ensures.counted, c.halve-window-2.ensures.counted, c.halve-window-3.ensures.counted, searched_some g.row.LEN)
-
-pub key-requires : goal.key-requires
-key-requires g c =
-    let some : 0 < c.args.count = omega (arith, c.if-count-eq0.false) in
-    (search rules, subst (λ p. IsSome (arrival c.args.cells.now p)) (sym c.slot_at.ensures) (stands_some c.requires.in_order 0 some))
-
-pub begin-window-requires : goal.begin-window-requires
-begin-window-requires g c =
-    let some : 0 < c.args.count = omega (arith, c.if-count-eq0.false) in
-    (search rules, (c.requires.len, (some, (c.requires.few, (c.requires.in_order, c.requires.filled some)))))
-
-pub end-requires-clause-within : goal.end-requires-clause-within
-end-requires-clause-within g c = within_slots c.requires.len c.begin-window.ensures.window c.if-window-gt0.true
-
-pub end-requires-then-window-gt0-2-clause-within : goal.end-requires-then-window-gt0-2-clause-within
-end-requires-then-window-gt0-2-clause-within g c = within_slots c.requires.len c.halve-window.ensures.window c.if-window-gt0-2.true
-
-pub end-requires-then-window-gt0-3-clause-within : goal.end-requires-then-window-gt0-3-clause-within
-end-requires-then-window-gt0-3-clause-within g c = within_slots c.requires.len c.halve-window-2.ensures.window c.if-window-gt0-3.true

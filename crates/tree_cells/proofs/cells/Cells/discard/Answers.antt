@@ -1,9 +1,15 @@
 use Rattle.tree_cells.proofs.Sizes.{steps}
-use Rattle.tree_cells.proofs.Zips.{has_none}
+use Rattle.tree_cells.proofs.Zips.{as_seen, has_none}
 use Rattle.tree_cells.proofs.cells.Cells.discard.Goals as goal
 
 pub discard-requires : goal.discard-requires
-discard-requires g c = (search steps, λ p. (has_none c.self.invariant c.self.view_is p (c.requires p)).0)
+discard-requires g c =
+    let rows = c.in-Some in
+    let seen = as_seen rows.keys.slots rows.vals.slots _ _ (rw rows.is at c.self.view_is) rows.keys.whole rows.vals.whole in
+    (search steps, λ p. (has_none seen (rw rows.is at c.self.invariant) p (c.requires p)).0)
 
-pub discard-requires-2 : goal.discard-requires-2
-discard-requires-2 g c = (search steps, λ p. (has_none c.self.invariant c.self.view_is p (c.requires p)).1)
+pub discard-requires-in-Some : goal.discard-requires-in-Some
+discard-requires-in-Some g c =
+    let rows = c.in-Some in
+    let seen = as_seen rows.keys.slots rows.vals.slots _ _ (rw rows.is at c.self.view_is) rows.keys.whole rows.vals.whole in
+    (search steps, λ p. (has_none seen (rw rows.is at c.self.invariant) p (c.requires p)).1)

@@ -1,12 +1,21 @@
 use Rattle.tree_cells.proofs.Sizes.{steps}
-use Rattle.tree_cells.proofs.Zips.{has_both, is_pair}
+use Rattle.tree_cells.proofs.Zips.{as_seen, has_both, is_pair}
 use Rattle.tree_cells.proofs.cells.Cells.pair.Goals as goal
 
 pub get-requires : goal.get-requires
-get-requires g c = (search steps, (has_both c.self.invariant c.self.view_is c.args.cell c.requires).0)
+get-requires g c =
+    let rows = c.in-Some in
+    let seen = as_seen rows.keys.slots rows.vals.slots _ _ (rw rows.is at c.self.view_is) rows.keys.whole rows.vals.whole in
+    (search steps, (has_both seen c.args.cell c.requires).0)
 
-pub get-requires-2 : goal.get-requires-2
-get-requires-2 g c = (search steps, (has_both c.self.invariant c.self.view_is c.args.cell c.requires).1)
+pub get-requires-in-Some : goal.get-requires-in-Some
+get-requires-in-Some g c =
+    let rows = c.in-Some in
+    let seen = as_seen rows.keys.slots rows.vals.slots _ _ (rw rows.is at c.self.view_is) rows.keys.whole rows.vals.whole in
+    (search steps, (has_both seen c.args.cell c.requires).1)
 
 pub returns : goal.returns
-returns g c = is_pair c.self.invariant c.self.view_is c.args.cell _ _ c.get.ensures c.get-2.ensures
+returns g c =
+    let rows = c.in-Some in
+    let seen = as_seen rows.keys.slots rows.vals.slots _ _ (rw rows.is at c.self.view_is) rows.keys.whole rows.vals.whole in
+    is_pair seen c.args.cell _ _ c.get.ensures c.get-in-Some.ensures

@@ -1,16 +1,28 @@
 use Rattle.std.proofs.Common.{Some, refl, rules}
 use Rattle.tree_cells.proofs.Sizes.{steps}
-use Rattle.tree_cells.proofs.Zips.{has_none, pairs_set, rows_set}
+use Rattle.tree_cells.proofs.Zips.{as_seen, has_none, pairs_set, stay_alike}
 use Rattle.tree_cells.proofs.cells.Cells.put.Goals as goal
 
 pub put-requires : goal.put-requires
-put-requires g c = (search steps, (search rules, (has_none c.self.invariant c.self.view_is c.args.cell c.requires.empty).0))
+put-requires g c =
+    let rows = c.in-Some in
+    let seen = as_seen rows.keys.slots rows.vals.slots _ _ (rw rows.is at c.self.view_is) rows.keys.whole rows.vals.whole in
+    (search steps, (search rules, (has_none seen (rw rows.is at c.self.invariant) c.args.cell c.requires.empty).0))
 
-pub put-requires-2 : goal.put-requires-2
-put-requires-2 g c = (search steps, (search rules, (has_none c.self.invariant c.self.view_is c.args.cell c.requires.empty).1))
+pub put-requires-in-Some : goal.put-requires-in-Some
+put-requires-in-Some g c =
+    let rows = c.in-Some in
+    let seen = as_seen rows.keys.slots rows.vals.slots _ _ (rw rows.is at c.self.view_is) rows.keys.whole rows.vals.whole in
+    (search steps, (search rules, (has_none seen (rw rows.is at c.self.invariant) c.args.cell c.requires.empty).1))
 
 pub invariant_of-self : goal.invariant_of-self
-invariant_of-self g c = rw (c.put.ensures, c.put-2.ensures) (rows_set c.self.invariant c.self.view_is c.args.cell (Some c.args.key) (Some c.args.val) refl)
+invariant_of-self g c =
+    let rows = c.in-Some in
+    let seen = as_seen rows.keys.slots rows.vals.slots _ _ (rw rows.is at c.self.view_is) rows.keys.whole rows.vals.whole in
+    rw (c.put.ensures, c.put-in-Some.ensures) (stay_alike seen (rw rows.is at c.self.invariant) c.args.cell (Some c.args.key) (Some c.args.val) refl)
 
-pub returns : goal.returns
-returns g c = rw (c.put.ensures, c.put-2.ensures) (pairs_set c.self.invariant c.self.view_is c.args.cell (Some c.args.key) (Some c.args.val))
+pub returns-in-Some : goal.returns-in-Some
+returns-in-Some g c =
+    let rows = c.in-Some in
+    let seen = as_seen rows.keys.slots rows.vals.slots _ _ (rw rows.is at c.self.view_is) rows.keys.whole rows.vals.whole in
+    rw (c.put.ensures, c.put-in-Some.ensures) (pairs_set seen c.args.cell (Some c.args.key) (Some c.args.val))

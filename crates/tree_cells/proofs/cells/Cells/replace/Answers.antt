@@ -1,16 +1,23 @@
 use Rattle.tree_cells.proofs.Sizes.{steps}
-use Rattle.tree_cells.proofs.Zips.{has_both, is_pair, key_there, rows_val, val_set}
+use Rattle.tree_cells.proofs.Zips.{as_seen, has_both, is_pair, key_there, val_set, val_alike}
 use Rattle.tree_cells.proofs.cells.Cells.replace.Goals as goal
 
 pub replace-requires : goal.replace-requires
-replace-requires g c = (search steps, (has_both c.self.invariant c.self.view_is c.args.cell c.requires).1)
+replace-requires g c =
+    let rows = c.in-Some in
+    let seen = as_seen rows.field-0-0.slots rows.vals.slots _ _ (rw rows.is at c.self.view_is) rows.field-0-0.whole rows.vals.whole in
+    (search steps, (has_both seen c.args.cell c.requires).1)
 
 pub invariant_of-self : goal.invariant_of-self
 invariant_of-self g c =
-    let key = key_there c.self.invariant c.self.view_is c.args.cell c.requires in
-    rw c.replace.ensures.after (rows_val c.self.invariant c.self.view_is c.args.cell key.0 c.args.val key.1)
+    let rows = c.in-Some in
+    let seen = as_seen rows.field-0-0.slots rows.vals.slots _ _ (rw rows.is at c.self.view_is) rows.field-0-0.whole rows.vals.whole in
+    let key = key_there seen c.args.cell c.requires in
+    rw c.replace.ensures.after (val_alike seen (rw rows.is at c.self.invariant) c.args.cell key.0 c.args.val key.1)
 
 pub returns : goal.returns
 returns g c =
-    let key = key_there c.self.invariant c.self.view_is c.args.cell c.requires in
-    (key.0, is_pair c.self.invariant c.self.view_is c.args.cell key.0 _ key.1 c.replace.ensures.before, rw c.replace.ensures.after (val_set c.self.invariant c.self.view_is c.args.cell key.0 c.args.val key.1))
+    let rows = c.in-Some in
+    let seen = as_seen rows.field-0-0.slots rows.vals.slots _ _ (rw rows.is at c.self.view_is) rows.field-0-0.whole rows.vals.whole in
+    let key = key_there seen c.args.cell c.requires in
+    (key.0, is_pair seen c.args.cell key.0 _ key.1 c.replace.ensures.before, rw c.replace.ensures.after (val_set seen c.args.cell key.0 c.args.val key.1))

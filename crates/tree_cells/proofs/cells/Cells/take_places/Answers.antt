@@ -1,32 +1,58 @@
-use Rattle.std.proofs.Common.{sym, ◌∙◌, arith}
+use Rattle.std.proofs.Common.{None, length, get_or, sym, ◌∙◌, ap, arith}
 use Rattle.tree_order.specs.Order.{named}
-use Rattle.tree_cells.proofs.Moves.{pairs_in_turn, pairs_left, rows_in_turn, rows_left}
+use Rattle.tree_cells.proofs.Moves.{alike_in_turn, alike_left, inside, none_replicated, none_stands, pairs_in_turn, pairs_left}
 use Rattle.tree_cells.proofs.Sizes.{steps}
-use Rattle.tree_cells.proofs.Zips.{has_both, has_none, length-zipped, pairs_long}
+use Rattle.tree_cells.proofs.Zips.{as_seen, has_both, length-zipped}
 use Rattle.tree_cells.proofs.cells.Cells.take_places.Goals as goal
 
-pub take_places-requires : goal.take_places-requires
-take_places-requires g c =
-    (search steps, (omega (arith, c.if-from-end.false), (c.requires.few, (c.requires.places, ((λ i le lt. (has_both c.self.invariant c.self.view_is (named c.args.order i) (c.requires.stands i le lt)).0), (c.requires.apart, λ p. (has_none c.to.invariant c.to.view_is p (c.requires.none p)).0))))))
+pub gather-requires : goal.gather-requires
+gather-requires g c =
+    let rows = c.in-Some in
+    let seen = as_seen rows.keys.slots rows.vals.slots _ _ (rw rows.is at c.self.view_is) rows.keys.whole rows.vals.whole in
+    let to = ap (λ rows. rows.0.slots) (inside (sym c.replace-rows.ensures.after ∙ c.in-Some-rows.is)) in
+    (search steps, (omega (arith, c.if-from-end.false), (c.requires.few, (c.requires.places, ((λ i le lt. rw c.spare.ensures.same (has_both seen (named c.args.order i) (c.requires.stands i le lt)).0), (c.requires.apart, λ p. ap (λ slots. get_or slots p None) (sym to ∙ c.spare.ensures.empty) ∙ none_replicated g.row.LEN p))))))
 
-pub take_places-requires-2 : goal.take_places-requires-2
-take_places-requires-2 g c =
-    (search steps, (omega (arith, c.if-from-end.false), (c.requires.few, (c.requires.places, ((λ i le lt. (has_both c.self.invariant c.self.view_is (named c.args.order i) (c.requires.stands i le lt)).1), (c.requires.apart, λ p. (has_none c.to.invariant c.to.view_is p (c.requires.none p)).1))))))
-
-pub invariant_of-self : goal.invariant_of-self
-invariant_of-self g c = rows_left c.self.invariant c.self.view_is c.take_places.ensures.whole c.take_places-2.ensures.whole c.take_places.ensures.left c.take_places-2.ensures.left
+pub gather-requires-in-Some-rows : goal.gather-requires-in-Some-rows
+gather-requires-in-Some-rows g c =
+    let rows = c.in-Some in
+    let seen = as_seen rows.keys.slots rows.vals.slots _ _ (rw rows.is at c.self.view_is) rows.keys.whole rows.vals.whole in
+    let to = ap (λ rows. rows.1.slots) (inside (sym c.replace-rows.ensures.after ∙ c.in-Some-rows.is)) in
+    (search steps, (omega (arith, c.if-from-end.false), (c.requires.few, (c.requires.places, ((λ i le lt. rw c.spare-in-Some.ensures.same (has_both seen (named c.args.order i) (c.requires.stands i le lt)).1), (c.requires.apart, λ p. ap (λ slots. get_or slots p None) (sym to ∙ c.spare-in-Some.ensures.empty) ∙ none_replicated g.row.LEN p))))))
 
 pub invariant_of-to : goal.invariant_of-to
-invariant_of-to g c = rows_in_turn c.self.invariant c.self.view_is c.take_places.ensures.whole_there c.take_places-2.ensures.whole_there c.take_places.ensures.turn c.take_places-2.ensures.turn
+invariant_of-to g c =
+    let rows = c.in-Some in
+    let seen = as_seen rows.keys.slots rows.vals.slots _ _ (rw rows.is at c.self.view_is) rows.keys.whole rows.vals.whole in
+    alike_in_turn seen (c.gather.new.to.whole ∙ sym c.gather-in-Some-rows.new.to.whole) (rw rows.is at c.self.invariant) (rw c.spare.ensures.same at c.gather.ensures.turn) (rw c.spare-in-Some.ensures.same at c.gather-in-Some-rows.ensures.turn)
+
+pub unreachable-requires-in-None : goal.unreachable-requires-in-None
+unreachable-requires-in-None g c =
+    none_stands g.row.LEN (named c.args.order c.args.from) c.args.self.now (rw c.in-None.is at c.self.view_is) (c.requires.stands c.args.from (omega arith) c.if-from-end.false)
+
+pub invariant_of-self : goal.invariant_of-self
+invariant_of-self g c =
+    let rows = c.in-Some in
+    let seen = as_seen rows.keys.slots rows.vals.slots _ _ (rw rows.is at c.self.view_is) rows.keys.whole rows.vals.whole in
+    alike_left seen (c.gather.new.row.whole ∙ sym c.gather-in-Some-rows.new.row.whole) (rw rows.is at c.self.invariant) (rw c.spare.ensures.same at c.gather.ensures.left) (rw c.spare-in-Some.ensures.same at c.gather-in-Some-rows.ensures.left)
 
 pub returns-clause-turn : goal.returns-clause-turn
-returns-clause-turn g c = pairs_in_turn c.self.invariant c.self.view_is c.take_places.ensures.whole_there c.take_places-2.ensures.whole_there c.take_places.ensures.turn c.take_places-2.ensures.turn
+returns-clause-turn g c =
+    let rows = c.in-Some in
+    let seen = as_seen rows.keys.slots rows.vals.slots _ _ (rw rows.is at c.self.view_is) rows.keys.whole rows.vals.whole in
+    pairs_in_turn seen (c.gather.new.to.whole ∙ sym c.gather-in-Some-rows.new.to.whole) (rw c.spare.ensures.same at c.gather.ensures.turn) (rw c.spare-in-Some.ensures.same at c.gather-in-Some-rows.ensures.turn)
 
 pub returns-clause-left : goal.returns-clause-left
-returns-clause-left g c = pairs_left c.self.invariant c.self.view_is c.take_places.ensures.whole c.take_places-2.ensures.whole c.take_places.ensures.left c.take_places-2.ensures.left
+returns-clause-left g c =
+    let rows = c.in-Some in
+    let seen = as_seen rows.keys.slots rows.vals.slots _ _ (rw rows.is at c.self.view_is) rows.keys.whole rows.vals.whole in
+    pairs_left seen (c.gather.new.row.whole ∙ sym c.gather-in-Some-rows.new.row.whole) (rw c.spare.ensures.same at c.gather.ensures.left) (rw c.spare-in-Some.ensures.same at c.gather-in-Some-rows.ensures.left)
 
 pub returns-clause-same : goal.returns-clause-same
-returns-clause-same g c = length-zipped _ _ (c.take_places.ensures.whole ∙ sym c.take_places-2.ensures.whole) ∙ c.take_places.ensures.whole ∙ sym (pairs_long c.self.invariant c.self.view_is)
+returns-clause-same g c =
+    let rows = c.in-Some in
+    let before = length-zipped rows.keys.slots rows.vals.slots (rows.keys.whole ∙ sym rows.vals.whole) ∙ rows.keys.whole in
+    let after = length-zipped _ _ (c.gather.new.row.whole ∙ sym c.gather-in-Some-rows.new.row.whole) ∙ c.gather.new.row.whole in
+    after ∙ sym before ∙ ap length (rw rows.is at c.self.view_is)
 
 pub returns-clause-whole : goal.returns-clause-whole
-returns-clause-whole g c = length-zipped _ _ (c.take_places.ensures.whole_there ∙ sym c.take_places-2.ensures.whole_there) ∙ c.take_places.ensures.whole_there
+returns-clause-whole g c = length-zipped _ _ (c.gather.new.to.whole ∙ sym c.gather-in-Some-rows.new.to.whole) ∙ c.gather.new.to.whole

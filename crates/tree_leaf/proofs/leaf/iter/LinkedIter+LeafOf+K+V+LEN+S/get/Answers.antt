@@ -1,5 +1,5 @@
 use Rattle.std.proofs.Common.{rules, ◌∙◌, sym}
-use Rattle.tree_leaf.proofs.Steps.{stood_none, stood_reachable, stood_read}
+use Rattle.tree_leaf.proofs.Steps.{stood_reachable, stood_read}
 use Rattle.tree_leaf.proofs.leaf.iter.LinkedIter+LeafOf+K+V+LEN+S.get.Goals as goal
 
 pub entry-requires : goal.entry-requires
@@ -7,6 +7,3 @@ entry-requires g c = (search rules, stood_reachable _ _ _ _ c.self.invariant.0 _
 
 pub returns : goal.returns
 returns g c = rw (← c.self.view_is) (stood_read _ _ _ _ c.self.invariant.0 _ _ (sym c.slot.ensures ∙ c.in_ok-slot.was) c.entry.ensures)
-
-pub returns-in_err-slot : goal.returns-in_err-slot
-returns-in_err-slot g c = rw (c.from_residual.ensures, ← c.self.view_is) (stood_none _ _ _ _ c.self.invariant.0 (sym c.slot.ensures ∙ c.in_err-slot.was))
