@@ -120,7 +120,7 @@ impl<'t, K: Ord + Drop + 't, V: Drop + 't, const LEN: usize> Iterator
 
     ghost remaining = { λ s. at_most (moves_left s) };
 
-    #[inline]
+    #[inline(always)]
     fn next(&mut self) -> Option<(&'t K, &'t V)> {
         self.range.next()
     }
@@ -130,7 +130,7 @@ impl<'t, K: Ord + Drop + 't, V: Drop + 't, const LEN: usize> DoubleEndedIterator
     for IterOver<'t, K, V, ArenasOf<K, V, LEN>, LeafOf<K, V, LEN>> {
     ghost next_back_gives = { Moves K.cmp Back };
 
-    #[inline]
+    #[inline(always)]
     fn next_back(&mut self) -> Option<(&'t K, &'t V)> {
         self.range.next_back()
     }

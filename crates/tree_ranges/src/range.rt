@@ -199,7 +199,7 @@ impl<'t, K: Ord + Drop + 't, V: Drop + 't, const LEN: usize> Iterator
 
     ghost remaining = { λ s. at_most (moves_left s) };
 
-    #[inline]
+    #[inline(always)]
     fn next(&mut self) -> Option<(&'t K, &'t V)> {
         let pair = step(self.arenas, self.root, &mut self.forward, self.low);
         if !are_apart(&self.forward, &self.backward) {
@@ -213,7 +213,7 @@ impl<'t, K: Ord + Drop + 't, V: Drop + 't, const LEN: usize> DoubleEndedIterator
     for RangeOver<'t, K, V, ArenasOf<K, V, LEN>, LeafOf<K, V, LEN>> {
     ghost next_back_gives = { Moves K.cmp Back };
 
-    #[inline]
+    #[inline(always)]
     fn next_back(&mut self) -> Option<(&'t K, &'t V)> {
         let pair = step(self.arenas, self.root, &mut self.backward, self.high);
         if !are_apart(&self.forward, &self.backward) {
