@@ -24,7 +24,7 @@ pub use walk::{ArrayIter, ArrayRevIter};
 /// the order of their keys.
 ///
 /// A pair that is stored takes the next slot. A pair that is removed or replaced is dropped, and its
-/// slot stays spent. An array whose last pair was removed is retired and takes no more.
+/// slot stays spent. An array whose last pair was removed is retired, and takes no more until it is rebuilt.
 /// Keys stand apart from values, and one word keeps the order of the keys. No call allocates.
 pub struct ArrayOf<K: Ord, V, const LEN: usize> {
     order: u64,
@@ -89,7 +89,7 @@ impl<K: Ord + Drop, V: Drop, const LEN: usize> ArrayOf<K, V, LEN> {
         LEN as u8 - made
     }
 
-    /// Returns whether the last pair was removed. Such an array stays empty.
+    /// Returns whether the last pair was removed. Such an array stays empty until it is rebuilt.
     pub fn is_retired(&self) -> bool
         ensures { result ≡ self.now.retired }
     {

@@ -17,7 +17,8 @@ impl<K: IndexKey, V: Drop, const LEN: usize> TreeIndexOf<K, V, LEN> {
     /// Returns a cursor over all pairs, from both ends. Runs in constant time.
     ///
     /// The first move of an end descends once. Each move after it makes no comparison, but for one of the two ends if
-    /// both are opened, and reads the next entry of its leaf or follows one link. Allocates nothing.
+    /// both are opened, and reads the next entry of its leaf or follows links up to the next leaf with an entry. Allocates
+    /// nothing.
     pub fn iter(&self) -> IterOf<'_, K, V, LEN>
         ensures { result ≡ fresh self.now.pairs Unbounded Unbounded }
     {

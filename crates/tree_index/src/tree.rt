@@ -130,8 +130,9 @@ impl<K: IndexKey, V: Drop, const LEN: usize> Tree<K, V, LEN> {
         }
     }
 
-    /// Removes the pair at a key where the condition says so of its value, and says whether it did. At most
-    /// 4 comparisons a level and in the leaf (3 among 7 slots), and no memory.
+    /// Removes the pair at a key where the condition says so of its value, and says whether it did. Makes at most
+    /// 4 comparisons a level and in the leaf (3 among 7 slots), and twice as many if the pair is the last of its leaf.
+    /// Allocates nothing.
     pub fn remove_if<F: FnOnce(&V) -> bool + Drop>(&mut self, key: &K, condition: F) -> bool
         requires whole { IsWhole K.cmp self.old }
         requires callable { ForSome (pair_at K.cmp (pairs_of self.old) key.now) (λ pair. FnOnceTakesAt F.FnOnce condition pair.1) }

@@ -122,8 +122,8 @@ fn is_beyond<K: Ord + Drop, I: Copy + Drop, const LEN: usize>(
     }
 }
 
-/// Returns the keyed child in a slot, or the unbounded child if there is no slot. Lends it, so that the processor chooses
-/// a place in memory and reads it once, with no branch to guess.
+/// Returns the keyed child in a slot, or the unbounded child if there is no slot. Lends it, so that a place in memory is
+/// chosen and read once.
 #[inline]
 fn child_at<'a, K: Ord + Drop, I: Copy + Drop, const LEN: usize>(
     children: &'a ArrayOf<K, I, LEN>,
