@@ -9,7 +9,7 @@ use crate::cells::Cells;
 use crate::judge::Asks;
 use std::cmp::Ordering;
 use std::mem::size_of_val;
-use tree_order::order::{BEYOND, slot_at};
+use tree_order::order::{BEYOND, last_slot, slot_at};
 
 /// Keys of more bytes are compared with a branch for each answer: so a processor reads on before a dear comparison has answered.
 const WIDE: usize = 16;
@@ -231,7 +231,7 @@ pub fn find_key_beyond<K: Ord, V, const LEN: usize>(
     ensures { IsPlace K.cmp cells.now order count key.now result }
 {
     if rightmost && count > 0 {
-        let last = slot_at(order, count - 1);
+        let last = last_slot::<LEN>(order, count);
         if key.cmp(cells.key(last)).is_gt() {
             return Place::Before(count, BEYOND);
         }

@@ -7,7 +7,7 @@ ghost use Rattle.tree_node.specs.Tree.{HasChildFor, IsRetired};
 
 use tree_leaf::arena::{LeafId, NodeId};
 use tree_node::node::{ArenasOf, NodeOf};
-use tree_node::routing::child_beyond;
+use tree_node::routing::{child_by_key, is_beyond};
 
 /// The leaf that a key belongs to.
 #[derive(Drop)]
@@ -42,6 +42,20 @@ pub fn leaf_for<K: Ord + Drop, V: Drop, const LEN: usize>(
     let mut at = id;
     let mut above = level - 1;
     let mut last = rightmost;
+    while rightmost && above > 0 {
+        let NodeOf::Internal(node) = arenas.node(at) else {
+            return None;
+        };
+        let Some(unbounded) = &node.unbounded_child else {
+            return None;
+        };
+        if !is_beyond(&node.children, key) {
+            last = false;
+            break;
+        }
+        at = *unbounded;
+        above -= 1;
+    }
     while above > 0 {
         let NodeOf::Internal(node) = arenas.node(at) else {
             return None;
@@ -49,9 +63,7 @@ pub fn leaf_for<K: Ord + Drop, V: Drop, const LEN: usize>(
         let Some(unbounded) = &node.unbounded_child else {
             return None;
         };
-        let (child, is_last) = child_beyond(&node.children, unbounded, key, last);
-        at = child;
-        last = is_last;
+        at = child_by_key(&node.children, unbounded, key);
         above -= 1;
     }
     let NodeOf::Leaf(node) = arenas.node(at) else {
@@ -60,10 +72,16 @@ pub fn leaf_for<K: Ord + Drop, V: Drop, const LEN: usize>(
     let Some(unbounded) = &node.unbounded_child else {
         return None;
     };
-    let (leaf, is_last) = child_beyond(&node.children, unbounded, key, last);
+    if last && is_beyond(&node.children, key) {
+        return Some(LeafPlace {
+            node: at,
+            leaf: *unbounded,
+            rightmost: true,
+        });
+    }
     Some(LeafPlace {
         node: at,
-        leaf,
-        rightmost: is_last,
+        leaf: child_by_key(&node.children, unbounded, key),
+        rightmost: false,
     })
 }

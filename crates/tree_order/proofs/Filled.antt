@@ -1,8 +1,9 @@
 -- The places behind the last entry, which repeat its name.
-use Rattle.std.proofs.Common.{◌≡◌, ℕ, zero, suc, ◌+◌, ◌-◌, ◌*◌, ◌/◌, ◌%◌, ◌^◌, ◌<◌, ◌≤◌, refl, sym, ◌∙◌, ap, lit<, arith}
+use Rattle.std.proofs.Common.{◌≡◌, ◌≢◌, ℕ, zero, suc, ◌+◌, ◌-◌, ◌*◌, ◌/◌, ◌%◌, ◌^◌, ◌<◌, ◌≤◌, refl, sym, ◌∙◌, ap, subst, inl, inr, lit<, arith}
+use Rattle.std.proofs.lemmas.Bool.{cases_order}
 use Rattle.std.proofs.lemmas.Nat.{pow_pos, pow-add, shr-shr, shr_split, shr_below, shl_whole, mod_below}
-use Rattle.std.proofs.Math.Nat.{add-zero, mul-le-mul_right, pow-le-pow_right, mod-eq_of_lt}
-use Rattle.tree_order.specs.Order.{named, IsFilled}
+use Rattle.std.proofs.Math.Nat.{mul-le-mul_right, pow-le-pow_right}
+use Rattle.tree_order.specs.Order.{named}
 use Rattle.tree_order.proofs.Word.{named_low, named_high, named_first, named_next, joined_small}
 
 -- so many places that each hold 1
@@ -63,70 +64,49 @@ module _ (order count : ℕ) (few : count ≤ 15) (fits : order < 2 ^ 64) where
   pub first_same : (i : ℕ) → i < count → named (order % 2 ^ (4 * count)) i ≡ named order i
   first_same i lt = sym (named_low (order / 2 ^ (4 * count)) (order % 2 ^ (4 * count)) count i lt) ∙ ap (λ (w : ℕ). named w i) (shr_split order (4 * count))
 
--- ---- the word of an array with these places
-module _ (len places count : ℕ) (small_len : len ≤ 15) (few : count ≤ len) (some : 0 < count) (small : places < 2 ^ (4 * count)) where
-  abbrev last : ℕ
-  last = places / 2 ^ (4 * count - 4)
+-- ---- places behind which nothing stands
+pub closed_same : (len places i : ℕ) → len ≤ 15 → i < len → named (places + 15 * 2 ^ (4 * len) % 2 ^ 64) i ≡ named places i
+closed_same len places i few lt =
+    let whole : 15 * 2 ^ (4 * len) % 2 ^ 64 ≡ 15 * 2 ^ (4 * len) = shl_whole 15 4 (4 * len) 64 (lit< tt) (omega arith) in
+    let turned : places + 15 * 2 ^ (4 * len) ≡ 15 * 2 ^ (4 * len) + places = omega arith in
+    rw whole (ap (λ (w : ℕ). named w i) turned ∙ named_low 15 places len i lt)
 
-  abbrev pub high : ℕ
-  high = last * ones (len - count) + 15 * 2 ^ (4 * (len - count))
+-- ---- places behind which one slot is named
+module _ (len places count slot : ℕ) (small_len : len ≤ 15) (few : count ≤ len) (small : places < 2 ^ (4 * count)) (slot_small : slot < 16) where
+  abbrev pub tail : ℕ
+  tail = slot * ones (len - count)
 
-  pub last_small : last < 16
-  last_small = let e : 4 + (4 * count - 4) ≡ 4 * count = omega arith in shr_below places 4 (4 * count - 4) (rw e small)
+  pub tail_whole : slot * (76861433640456465 / 2 ^ (60 - 4 * (len - count))) * 2 ^ (4 * count) % 2 ^ 64 ≡ tail * 2 ^ (4 * count)
+  tail_whole = rw (ones_left (len - count) (omega arith)) (shl_whole tail (4 * (len - count)) (4 * count) 64 (tail_small slot (len - count) slot_small) (omega arith))
 
-  last_named : named places (count - 1) ≡ last
-  last_named = let e : 4 * (count - 1) ≡ 4 * count - 4 = omega arith in rw e (mod-eq_of_lt last_small)
+  pub word_small : places + tail * 2 ^ (4 * count) < 2 ^ (4 * len)
+  word_small =
+      let e : len - count + count ≡ len = omega arith in
+      subst (λ (n : ℕ). places + tail * 2 ^ (4 * count) < 2 ^ (4 * n)) e (omega (arith, joined_small tail places (len - count) count (tail_small slot (len - count) slot_small) small))
 
-  pub tail_fits : last * ones (len - count) < 2 ^ 64
-  tail_fits =
-      let le : 2 ^ (4 * (len - count)) ≤ 2 ^ 64 = pow-le-pow_right (omega arith) {i = 4 * (len - count)} {j = 64} (omega arith) in
-      omega (arith, tail_small last (len - count) last_small)
+  pub word_fits : places + tail * 2 ^ (4 * count) < 2 ^ 64
+  word_fits = let le : 2 ^ (4 * len) ≤ 2 ^ 64 = pow-le-pow_right (omega arith) {i = 4 * len} {j = 64} (omega arith) in omega (arith, word_small)
 
-  pub mark_whole : 15 * 2 ^ (4 * (len - count)) % 2 ^ 64 ≡ 15 * 2 ^ (4 * (len - count))
-  mark_whole = shl_whole 15 4 (4 * (len - count)) 64 (lit< tt) (omega arith)
-
-  high_small : high < 2 ^ (4 * (1 + (len - count)))
-  high_small = omega (arith, joined_small 15 (last * ones (len - count)) 1 (len - count) (lit< tt) (tail_small last (len - count) last_small))
-
-  pub high_fits : high < 2 ^ 64
-  high_fits =
-      let le : 2 ^ (4 * (1 + (len - count))) ≤ 2 ^ 64 = pow-le-pow_right (omega arith) {i = 4 * (1 + (len - count))} {j = 64} (omega arith) in
-      omega (arith, high_small)
-
-  pub high_whole : high * 2 ^ (4 * count) % 2 ^ 64 ≡ high * 2 ^ (4 * count)
-  high_whole = shl_whole high (4 * (1 + (len - count))) (4 * count) 64 high_small (omega arith)
-
-  pub word_fits : places + high * 2 ^ (4 * count) < 2 ^ 64
-  word_fits =
-      let n = 4 * (1 + (len - count) + count) in
-      let le : 2 ^ (4 * (1 + (len - count) + count)) ≤ 2 ^ 64 = pow-le-pow_right (omega arith) {i = 4 * (1 + (len - count) + count)} {j = 64} (omega arith) in
-      omega (arith, joined_small high places (1 + (len - count)) count high_small small)
-
-  turned : places + high * 2 ^ (4 * count) ≡ high * 2 ^ (4 * count) + places
+  turned : places + tail * 2 ^ (4 * count) ≡ tail * 2 ^ (4 * count) + places
   turned = omega arith
 
-  high_turned : high ≡ 15 * 2 ^ (4 * (len - count)) + last * ones (len - count)
-  high_turned = omega arith
+  pub word_same : (i : ℕ) → i < count → named (places + tail * 2 ^ (4 * count)) i ≡ named places i
+  word_same i lt = ap (λ (w : ℕ). named w i) turned ∙ named_low tail places count i lt
 
-  pub word_same : (i : ℕ) → i < count → named (places + high * 2 ^ (4 * count)) i ≡ named places i
-  word_same i lt = ap (λ (w : ℕ). named w i) turned ∙ named_low high places count i lt
+  pub word_tail : (i : ℕ) → count ≤ i → i < len → named (places + tail * 2 ^ (4 * count)) i ≡ slot
+  word_tail i le lt =
+      let e : i ≡ count + (i - count) = omega arith in
+      ap (named (places + tail * 2 ^ (4 * count))) e ∙ ap (λ (w : ℕ). named w (count + (i - count))) turned
+      ∙ named_high tail places count (i - count) small ∙ tail_named slot (len - count) (i - count) slot_small (omega arith)
 
-  behind : (j : ℕ) → named (places + high * 2 ^ (4 * count)) (count + j) ≡ named (15 * 2 ^ (4 * (len - count)) + last * ones (len - count)) j
-  behind j = ap (λ (w : ℕ). named w (count + j)) turned ∙ named_high high places count j small ∙ ap (λ (w : ℕ). named w j) high_turned
-
-  tail_is : (j : ℕ) → j < len - count → named (places + high * 2 ^ (4 * count)) (count + j) ≡ last
-  tail_is j lt = behind j ∙ named_low 15 (last * ones (len - count)) (len - count) j lt ∙ tail_named last (len - count) j last_small lt
-
-  mark_is : named (places + high * 2 ^ (4 * count)) (count + (len - count)) ≡ 15
-  mark_is =
-      behind (len - count)
-      ∙ ap (named (15 * 2 ^ (4 * (len - count)) + last * ones (len - count))) (sym (add-zero (len - count)))
-      ∙ named_high 15 (last * ones (len - count)) (len - count) 0 (tail_small last (len - count) last_small)
-
-  pub word_filled : IsFilled len (places + high * 2 ^ (4 * count)) count
-  word_filled = record {
-    tail = λ i le lt.
-        let e : i ≡ count + (i - count) = omega arith in
-        ap (named (places + high * 2 ^ (4 * count))) e ∙ tail_is (i - count) (omega arith) ∙ sym (word_same (count - 1) (omega arith) ∙ last_named);
-    beyond = let e : len ≡ count + (len - count) = omega arith in ap (named (places + high * 2 ^ (4 * count))) e ∙ mark_is;
-  }
+-- a place that is taken out and let in again moves no other
+pub beside : (order out put : ℕ → ℕ) (place : ℕ) → ((i : ℕ) → i < place → out i ≡ order i) → ((i : ℕ) → place ≤ i → out i ≡ order (i + 1))
+    → ((i : ℕ) → i < place → put i ≡ out i) → ((i : ℕ) → place ≤ i → put (i + 1) ≡ out i) → (i : ℕ) → i ≢ place → put i ≡ order i
+beside order out put place out_below out_above put_below put_above i differs =
+    elim (cases_order i place) [
+      | inl same ↦ absurd (differs same)
+      | inr (inl less) ↦ put_below i less ∙ out_below i less
+      | inr (inr more) ↦
+          let e : i ≡ i - 1 + 1 = omega arith in
+          ap put e ∙ put_above (i - 1) (omega arith) ∙ out_above (i - 1) (omega arith) ∙ ap order (sym e)
+    ]

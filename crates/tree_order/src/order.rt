@@ -25,6 +25,18 @@ pub fn slot_at(order: u64, place: u8) -> u8
     (order >> (4 * place) & 15) as u8
 }
 
+/// Returns the slot of the last of so many entries. The last place names it too, so that no shift waits for their count.
+#[inline]
+pub fn last_slot<const LEN: usize>(order: u64, count: u8) -> u8
+    requires len { IsLen LEN }
+    requires some { 0 < count }
+    requires few { count ≤ LEN }
+    requires filled { IsFilled LEN order count }
+    ensures { result ≡ named order (count - 1) }
+{
+    slot_at(order, LEN as u8 - 1)
+}
+
 /// Keeps the first places alone.
 fn first_places(order: u64, count: u8) -> u64
     requires { count ≤ 15 }
@@ -67,6 +79,31 @@ fn let_out(order: u64, place: u8, count: u8) -> u64
     low + ((high >> 4) << bits)
 }
 
+/// Says behind all places that nothing stands there.
+fn closed<const LEN: usize>(places: u64) -> u64
+    requires len { IsLen LEN }
+    requires small { places < 2 ^ (4 * LEN) }
+    ensures same { (i : ℕ) → i < LEN → named result i ≡ named places i }
+    ensures beyond { named result LEN ≡ 15 }
+{
+    places + ((BEYOND as u64) << (4 * LEN))
+}
+
+/// Puts the name of a slot at each place from `count` on.
+fn extended<const LEN: usize>(places: u64, count: u8, slot: u8) -> u64
+    requires len { IsLen LEN }
+    requires few { count ≤ LEN }
+    requires slot { slot < 16 }
+    requires small { places < 2 ^ (4 * count) }
+    ensures same { (i : ℕ) → i < count → named result i ≡ named places i }
+    ensures tail { (i : ℕ) → count ≤ i → i < LEN → named result i ≡ slot }
+    ensures beyond { named result LEN ≡ 15 }
+{
+    let spare = LEN as u8 - count;
+    let tail = slot as u64 * (ONES >> (60 - 4 * spare));
+    closed::<LEN>(places + (tail << (4 * count)))
+}
+
 /// Fills the places behind these, as an array's order has them.
 fn filled<const LEN: usize>(places: u64, count: u8) -> u64
     requires len { IsLen LEN }
@@ -76,10 +113,7 @@ fn filled<const LEN: usize>(places: u64, count: u8) -> u64
     ensures same { (i : ℕ) → i < count → named result i ≡ named places i }
     ensures filled { IsFilled LEN result count }
 {
-    let spare = LEN as u8 - count;
-    let last = places >> (4 * count - 4);
-    let tail = last * (ONES >> (60 - 4 * spare));
-    places + ((tail + (15 << (4 * spare))) << (4 * count))
+    extended::<LEN>(places, count, slot_at(places, count - 1))
 }
 
 /// Returns the order of entries that stand in the first slots, one after another.
@@ -101,13 +135,18 @@ pub fn inserted<const LEN: usize>(order: u64, place: u8, count: u8, slot: u8) ->
     requires place { place ≤ count }
     requires room { count < LEN }
     requires slot { slot < 16 }
+    requires filled { 0 < count → IsFilled LEN order count }
     ensures here { named result place ≡ slot }
     ensures below { (i : ℕ) → i < place → named result i ≡ named order i }
     ensures above { (i : ℕ) → place ≤ i → i < count → named result (i + 1) ≡ named order i }
     ensures filled { IsFilled LEN result (count + 1) }
 {
-    let places = let_in(first_places(order, count), place, count, slot);
-    filled::<LEN>(places, count + 1)
+    if place == count {
+        return extended::<LEN>(first_places(order, count), count, slot);
+    }
+    // The last name stays the last, and the places behind it repeat it still.
+    let places = first_places(order, LEN as u8 - 1);
+    closed::<LEN>(let_in(places, place, LEN as u8 - 1, slot))
 }
 
 /// Returns the order without one of its places.
@@ -115,6 +154,7 @@ pub fn removed<const LEN: usize>(order: u64, place: u8, count: u8) -> u64
     requires len { IsLen LEN }
     requires place { place < count }
     requires few { count ≤ LEN }
+    requires filled { IsFilled LEN order count }
     ensures below { (i : ℕ) → i < place → named result i ≡ named order i }
     ensures above { (i : ℕ) → place ≤ i → i + 1 < count → named result i ≡ named order (i + 1) }
     ensures filled { 1 < count → IsFilled LEN result (count - 1) }
@@ -122,8 +162,12 @@ pub fn removed<const LEN: usize>(order: u64, place: u8, count: u8) -> u64
     if count == 1 {
         return u64::MAX;
     }
-    let places = let_out(first_places(order, count), place, count);
-    filled::<LEN>(places, count - 1)
+    let last = count - 1;
+    if place == last {
+        return filled::<LEN>(first_places(order, last), last);
+    }
+    let places = let_out(first_places(order, LEN as u8), place, LEN as u8);
+    extended::<LEN>(places, LEN as u8 - 1, last_slot::<LEN>(order, count))
 }
 
 /// Returns the order with another slot at a place.
@@ -132,12 +176,17 @@ pub fn renamed<const LEN: usize>(order: u64, place: u8, count: u8, slot: u8) -> 
     requires place { place < count }
     requires few { count ≤ LEN }
     requires slot { slot < 16 }
+    requires filled { IsFilled LEN order count }
     ensures here { named result place ≡ slot }
     ensures others { (i : ℕ) → i < count → i ≢ place → named result i ≡ named order i }
     ensures filled { IsFilled LEN result count }
 {
-    let others = let_out(first_places(order, count), place, count);
-    filled::<LEN>(let_in(others, place, count - 1, slot), count)
+    let last = count - 1;
+    if place == last {
+        return extended::<LEN>(first_places(order, last), last, slot);
+    }
+    let others = let_out(first_places(order, LEN as u8), place, LEN as u8);
+    closed::<LEN>(let_in(others, place, LEN as u8 - 1, slot))
 }
 
 /// Returns the place, or the one behind the last entry if it lies behind that.

@@ -7,7 +7,7 @@ ghost use Rattle.tree_model.specs.Pairs.{IsAbsent, pair_at};
 use super::ArrayOf;
 use tree_cells::judge::{Asks, Judge};
 use tree_cells::search::{Place, find};
-use tree_order::order::{BEYOND, slot_at};
+use tree_order::order::{BEYOND, last_slot, slot_at};
 
 impl<K: Ord + Drop, V: Drop, const LEN: usize> ArrayOf<K, V, LEN> {
     /// Returns the pair with the judge's key, or `None` if the key is absent. Makes at most 4 comparisons
@@ -82,7 +82,7 @@ impl<K: Ord + Drop, V: Drop, const LEN: usize> ArrayOf<K, V, LEN> {
         if self.count == 0 {
             return None;
         }
-        Some(slot_at(self.order, self.count - 1))
+        Some(last_slot::<LEN>(self.order, self.count))
     }
 
     /// Returns the slot of the least key that isn't less than that of the asked.

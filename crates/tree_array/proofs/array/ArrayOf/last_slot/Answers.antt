@@ -13,4 +13,4 @@ returns g c =
     let it = c.self.invariant.0 in
     let some : 0 < c.self.inside.count = omega (arith, c.if-self-eq0.false) in
     let last = last_place g.met.K.Ord.total it some in
-    (last.0, arrival_seen _ _ _ _ c.self.view_is it c.slot_at.result ∙ ap (arrival c.self.inside.cells) c.slot_at.ensures ∙ last.1, last.2, rw (← c.self.view_is) last.3)
+    (last.0, arrival_seen _ _ _ _ c.self.view_is it c.last_slot.result ∙ ap (arrival c.self.inside.cells) c.last_slot.ensures ∙ last.1, last.2, rw (← c.self.view_is) last.3)

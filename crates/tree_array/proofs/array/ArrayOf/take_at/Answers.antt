@@ -15,6 +15,11 @@ removed-order-requires-clause-place g c =
     let few = count_seen g.met.K.Ord.total c.self.invariant.0 _ c.self.view_is in
     omega (arith, c.requires, few)
 
+pub removed-order-requires-clause-filled : goal.removed-order-requires-clause-filled
+removed-order-requires-clause-filled g c =
+    let few = count_seen g.met.K.Ord.total c.self.invariant.0 _ c.self.view_is in
+    c.self.invariant.0.filled (omega (arith, c.requires, few))
+
 pub take-key-requires : goal.take-key-requires
 take-key-requires g c =
     let few = count_seen g.met.K.Ord.total c.self.invariant.0 _ c.self.view_is in
