@@ -8,7 +8,7 @@ returns-clause-filled g c =
     let before : c.args.place < c.args.count = omega (arith, r.place, c.if-place-count.false) in
     let was = r.filled (omega (arith, before)) in
     let later : (i : ℕ) → c.args.place ≤ i → i < g.row.LEN - 1 → named c.closed.result (i + 1) ≡ named c.args.order i =
-        λ i le lt. c.closed.ensures.same (i + 1) (omega (arith, lt)) ∙ c.let_in.ensures.above i le ∙ c.first_places-places.ensures.same i lt
+    λ i le lt. c.closed.ensures.same (i + 1) (omega (arith, lt)) ∙ c.let_in.ensures.above i le ∙ c.first_places-places.ensures.same i lt
     in
     record {
       tail = λ i le lt.
