@@ -1,4 +1,4 @@
-use Rattle.std.proofs.Common.{rules, ◌≡◌, ◌<◌, IsSome, ◌∙◌, sym}
+use Rattle.std.proofs.Common.{rules, ◌≡◌, ◌<◌, IsSome}
 use Rattle.slab.specs.Slab.{get}
 use Rattle.tree_node.specs.declared.node.NodeOf.TheVariants.{Internal, Leaf}
 use Rattle.tree_node.proofs.Routes.{routed_past}
