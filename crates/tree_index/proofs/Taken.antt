@@ -9,12 +9,12 @@ use Rattle.tree_node.specs.Arenas.{TreeArenas}
 use Rattle.tree_remove.specs.Lowering.{LowersRoot}
 use Rattle.tree_node.specs.Parts.{IsPart}
 use Rattle.tree_node.specs.Tree.{IsOfLevel}
-use Rattle.tree_remove.specs.Removes.{RemovesUnder, TakesOut}
+use Rattle.tree_remove.specs.Removes.{RemovesUnder, TakesOut, removal_told}
 use Rattle.tree_node.specs.Shape.{spare}
 use Rattle.tree_node.specs.Tree.{IsRetired, Stands, leaves_at, walk}
 use Rattle.tree_node.specs.Whole.{IsRetiredRoot, IsTree, spare_under}
 use Rattle.tree_node.proofs.Steps.{part_after}
-use Rattle.tree_node.proofs.Whole.{chain_after, leaves_after, nodes_after, spare_standing, spare_unchanged, tree_part, tree_unchanged, walk_unchanged}
+use Rattle.tree_node.proofs.Whole.{chain_after, leaves_after, nodes_after, spare_standing, spare_unchanged, tree_after, tree_part, tree_unchanged, walk_unchanged}
 use Rattle.tree_node.proofs.Standing.{no_children}
 use Rattle.tree_packed.proofs.Tests.{packed_unchanged}
 use Rattle.tree_remove.proofs.LoweredTrees.{spare_lowered, tree_lowered}
@@ -91,6 +91,23 @@ module _ {K V : Type 0} {LEN : ℕ} (cmp : K → K → Ordering) (Says : V → B
 
       pub taken : LowersRoot cmp level mid new.arenas id new.root → Takes cmp Says old new key true
       taken lowers = lowered mid Success r.pairs r (inl (spare_kept mid before still_part.stands r.spare)) lowers
+
+    -- it went, and the root stays
+    taken_beside : new.root ≡ old.root → RemovesUnder cmp Says level old.arenas new.arenas id Success key → Takes cmp Says old new key true
+    taken_beside root r =
+        let still : new.root ≡ Some (id, level) = root ∙ was in
+        let part = still_part new.arenas r in
+        record {
+          whole = rw still (tree_after old.arenas new.arenas id level here r.replaces (here.top.0, inl part.stands));
+          pairs = (r.pairs.pair, rw was r.pairs.was, r.pairs.said, rw (was, still) r.pairs.left);
+          spare = inl (rw (was, still) (spare_kept new.arenas (before new.arenas r) part.stands r.spare));
+          kept = λ so. absurd (cc);
+        }
+
+    -- either, by the answer
+    pub told_taken : new.root ≡ old.root → (removed : Bool) → RemovesUnder cmp Says level old.arenas new.arenas id (removal_told removed) key → Takes cmp Says old new key removed
+    told_taken root true r = taken_beside root r
+    told_taken root false r = kept root r
 
     -- after the last one it is retired
     pub last_taken : (mid : TreeArenas K V LEN) → RemovesUnder cmp Says level old.arenas mid id Retired key → LowersRoot cmp level mid new.arenas id new.root → Takes cmp Says old new key true

@@ -23,7 +23,7 @@ use tree_leaf::arena::NodeId;
 use tree_model::InsertError;
 use tree_node::node::ArenasOf;
 use tree_remove::lowering::lower_root_at;
-use tree_remove::removal::remove_at;
+use tree_remove::removal::{remove_beside, remove_from};
 
 /// Whether the key of a pair that was stored is new.
 #[derive(Drop)]
@@ -141,7 +141,27 @@ impl<K: IndexKey, V: Drop, const LEN: usize> Tree<K, V, LEN> {
         let Some((root, depth)) = self.root else {
             return false;
         };
-        match remove_at(&mut self.arenas, depth, root, key, condition) {
+        match remove_beside(&mut self.arenas, depth, root, key, condition) {
+            Ok(removed) => removed,
+            Err(condition) => self.remove_alone(root, depth, key, condition),
+        }
+    }
+
+    /// Does what [`remove_if`](Tree::remove_if) does, with a leaf that the removal may retire.
+    #[inline(never)]
+    fn remove_alone<F: FnOnce(&V) -> bool + Drop>(
+        &mut self,
+        root: NodeId,
+        depth: usize,
+        key: &K,
+        condition: F,
+    ) -> bool
+        requires whole { IsWhole K.cmp self.old }
+        requires root { self.old.root ≡ Some (root, depth) }
+        requires callable { ForSome (pair_at K.cmp (pairs_of self.old) key.now) (λ pair. FnOnceTakesAt F.FnOnce condition pair.1) }
+        ensures { Takes K.cmp (FnOnceReturnsAt F.FnOnce condition) self.old self.new key.now result }
+    {
+        match remove_from(&mut self.arenas, depth, root, key, condition) {
             RemoveResult::Fail => false,
             RemoveResult::Success => {
                 self.root = lower_root_at(&mut self.arenas, depth, root);

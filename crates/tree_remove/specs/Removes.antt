@@ -10,6 +10,11 @@ use Rattle.tree_node.specs.Tree.{IsOfLevel, IsRetired, walk}
 use Rattle.tree_node.specs.Parts.{KeepsBounds, Replaces, Unchanged}
 use Rattle.tree_node.specs.Shape.{spare}
 
+-- what a removal answers that leaves its leaf a pair
+abbrev pub removal_told : Bool → RemoveResult
+removal_told true = Success
+removal_told false = Fail
+
 module _ {K V : Type 0} (cmp : K → K → Ordering) (Says : V → Bool → Type 0) where
   -- the pair with the key, of which the condition says yes, is gone
   pub record TakesOut (old : List (K × V)) (key : K) (new : List (K × V)) : Type 0 where

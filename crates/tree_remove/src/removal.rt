@@ -1,12 +1,12 @@
 //! Removals under the number of a node, at its level.
-ghost use Rattle.std.specs.Prelude.{◌≡◌, ◌⊎◌, ◌<◌};
+ghost use Rattle.std.specs.Prelude.{◌≡◌, ◌⊎◌, ◌<◌, true, IfErr, IfOk, Ok};
 ghost use Rattle.std.specs.Fn.{FnOnceReturnsAt, FnOnceTakesAt};
 ghost use Rattle.std.specs.Option.{ForSome};
 ghost use Rattle.tree_model.specs.Pairs.{pair_at};
 ghost use Rattle.slab.specs.Slab.{ContainsKey};
 ghost use Rattle.tree_remove.specs.CleanUps.{HasOnlyRetired};
 ghost use Rattle.tree_node.specs.Parts.{IsPart};
-ghost use Rattle.tree_remove.specs.Removes.{RemovesUnder};
+ghost use Rattle.tree_remove.specs.Removes.{RemovesUnder, removal_told};
 ghost use Rattle.tree_node.specs.Tree.{IsRetired, walk};
 
 use crate::clean_up::{drop_child_node, drop_keyed_leaf, retire_if_empty};
@@ -38,18 +38,48 @@ pub fn remove_at<K: Ord + Drop, V: Drop, F: FnOnce(&V) -> bool + Drop, const LEN
     ensures removes { RemovesUnder K.cmp (λ val said. FnOnceReturnsAt F.FnOnce condition val said) level arenas.old arenas.new id result key.now }
     ensures settled { level ≡ 1 → result ≡ RemoveResult.Success → HasOnlyRetired arenas.new id → ⊥ }
 {
+    match remove_beside(arenas, level, id, key, condition) {
+        Ok(true) => RemoveResult::Success,
+        Ok(false) => RemoveResult::Fail,
+        Err(condition) => remove_from(arenas, level, id, key, condition),
+    }
+}
+
+/// Removes a pair, as [`remove_at`] does, whose leaf has another one, so that no node changes. Returns whether it did.
+///
+/// Returns `Err` with the condition, and changes nothing, if the leaf that the key belongs to has one pair alone or none.
+#[inline(always)]
+pub fn remove_beside<K: Ord + Drop, V: Drop, F: FnOnce(&V) -> bool + Drop, const LEN: usize>(
+    arenas: &mut ArenasOf<K, V, LEN>,
+    level: usize,
+    id: NodeId,
+    key: &K,
+    condition: F,
+) -> Result<bool, F>
+    requires node { 0 < level }
+    requires part { IsPart K.cmp level arenas.old id ⊎ IsRetired level arenas.old id }
+    requires callable { ForSome (pair_at K.cmp (walk level arenas.old id) key.now) (λ pair. FnOnceTakesAt F.FnOnce condition pair.1) }
+    ensures removes { IfOk result (λ removed. RemovesUnder K.cmp (λ val said. FnOnceReturnsAt F.FnOnce condition val said) level arenas.old arenas.new id (removal_told removed) key.now) }
+    ensures settled { result ≡ Ok true → level ≡ 1 → HasOnlyRetired arenas.new id → ⊥ }
+    ensures handed_back { IfErr result (λ back. (back ≡ condition) × (arenas.new ≡ arenas.old)) }
+{
     let Some(place) = leaf_for(arenas, level, id, key, false) else {
-        return RemoveResult::Fail;
+        return Ok(false);
     };
     if arenas.leaf(place.leaf).array().len() <= 1 {
-        return remove_from(arenas, level, id, key, condition);
+        return Err(condition);
     }
-    remove_in_leaf(arenas, place.leaf, key, condition)
+    match remove_in_leaf(arenas, place.leaf, key, condition) {
+        RemoveResult::Success => Ok(true),
+        RemoveResult::Fail => Ok(false),
+        // Of two pairs one is left.
+        RemoveResult::Retired => unreachable!(),
+    }
 }
 
 /// Removes a pair, as [`remove_at`] does, with a way back on which retired children are dropped. A leaf with one pair alone
 /// is retired by its removal.
-fn remove_from<K: Ord + Drop, V: Drop, F: FnOnce(&V) -> bool + Drop, const LEN: usize>(
+pub fn remove_from<K: Ord + Drop, V: Drop, F: FnOnce(&V) -> bool + Drop, const LEN: usize>(
     arenas: &mut ArenasOf<K, V, LEN>,
     level: usize,
     id: NodeId,

@@ -1,35 +1,22 @@
-use Rattle.std.proofs.Common.{rules, ◌<◌, length}
-use Rattle.tree_node.specs.Tree.{walk}
-use Rattle.tree_node.proofs.Children.{walk-leaf}
+use Rattle.std.proofs.Common.{Ok, ap}
 use Rattle.tree_node.proofs.Sizes.{fits}
-use Rattle.tree_remove.proofs.Descents.{leaf_at}
-use Rattle.tree_remove.proofs.Ways.{fails_at, found_on_way, leaf_on_way, not_emptied, removes_on_way, settled_on_way}
 use Rattle.tree_remove.proofs.removal.remove_at.Goals as goal
 
-pub returns-in_default-clause-removes : goal.returns-in_default-clause-removes
-returns-in_default-clause-removes g c = fails_at g.K.Ord.cmp _ c.args.key.now c.args.level c.requires.node c.args.arenas.now c.args.id c.in_default.ensures.way
+pub remove_from-requires : goal.remove_from-requires
+remove_from-requires g c =
+    let same = c.in-Err.ensures.handed_back in
+    (search fits, (search fits, (c.requires.node, (rw same.1 c.requires.part, rw (same.1, same.0) c.requires.callable))))
 
-pub leaf-requires : goal.leaf-requires
-leaf-requires g c =
-    let part = leaf_on_way g.met.K.Ord.total c.args.arenas.now c.args.key.now c.in-Some.place.leaf c.args.level c.requires.node c.args.id c.in-Some.place.node c.in-Some.ensures.child.0 c.in-Some.ensures.way c.in-Some.ensures.child.1 in
-    (search fits, (search fits, leaf_at c.args.arenas.now c.in-Some.place.leaf part))
+pub returns-in-Ok-true-clause-removes : goal.returns-in-Ok-true-clause-removes
+returns-in-Ok-true-clause-removes g c = rw c.in-Ok-true.field-0-test at c.in-Ok-true.ensures.removes
 
-pub remove_in_leaf-requires : goal.remove_in_leaf-requires
-remove_in_leaf-requires g c =
-    let part = leaf_on_way g.met.K.Ord.total c.args.arenas.now c.args.key.now c.in-Some.place.leaf c.args.level c.requires.node c.args.id c.in-Some.place.node c.in-Some.ensures.child.0 c.in-Some.ensures.way c.in-Some.ensures.child.1 in
-    let found = found_on_way g.met.K.Ord.total c.args.arenas.now c.args.key.now c.in-Some.place.leaf c.args.level c.requires.node c.args.id c.in-Some.place.node c.in-Some.ensures.child.0 c.in-Some.ensures.way c.in-Some.ensures.child.1 in
-    (search fits, (search fits, (leaf_at c.args.arenas.now c.in-Some.place.leaf part, rw found at c.requires.callable)))
+pub returns-in-Ok-true-clause-settled : goal.returns-in-Ok-true-clause-settled
+returns-in-Ok-true-clause-settled g c one success = c.in-Ok-true.ensures.settled (ap Ok c.in-Ok-true.field-0-test) one
 
-pub returns-clause-removes : goal.returns-clause-removes
-returns-clause-removes g c =
-    let part = leaf_on_way g.met.K.Ord.total c.args.arenas.now c.args.key.now c.in-Some.place.leaf c.args.level c.requires.node c.args.id c.in-Some.place.node c.in-Some.ensures.child.0 c.in-Some.ensures.way c.in-Some.ensures.child.1 in
-    let some : 1 < c.len.result = search rules in
-    let many : 1 < length (walk 0 c.args.arenas.now c.in-Some.place.leaf) = rw (walk-leaf c.args.arenas.now c.in-Some.place.leaf c.leaf.result.now c.leaf.ensures, ← c.array.ensures, ← c.len.ensures) some in
-    removes_on_way g.met.K.Ord.total _ c.args.arenas.now _ c.args.key.now c.in-Some.place.leaf c.remove_in_leaf.result
-    (not_emptied g.met.K.Ord.total _ c.args.arenas.now _ c.args.key.now c.in-Some.place.leaf c.remove_in_leaf.result part many c.remove_in_leaf.ensures.removes) c.remove_in_leaf.ensures.removes
-    c.args.level c.requires.node c.args.id c.in-Some.place.node c.in-Some.ensures.child.0 c.in-Some.ensures.way c.in-Some.ensures.child.1
+pub returns-in-Ok-false-clause-removes : goal.returns-in-Ok-false-clause-removes
+returns-in-Ok-false-clause-removes g c = rw c.in-Ok-false.field-0-test at c.in-Ok-false.ensures.removes
 
-pub returns-clause-settled : goal.returns-clause-settled
-returns-clause-settled g c one success =
-    settled_on_way g.met.K.Ord.total c.args.key.now c.args.arenas.now c.remove_in_leaf.new.arenas c.args.level c.args.id c.in-Some.place.node c.in-Some.place.leaf one c.in-Some.ensures.child.0 c.in-Some.ensures.way c.in-Some.ensures.child.1
-    c.remove_in_leaf.ensures.removes.replaces (c.remove_in_leaf.ensures.settled success)
+pub returns-in-Err-clause-removes : goal.returns-in-Err-clause-removes
+returns-in-Err-clause-removes g c =
+    let same = c.in-Err.ensures.handed_back in
+    rw (same.0, same.1) at c.remove_from.ensures.removes
