@@ -9,6 +9,7 @@ use Rattle.slab.specs.Slab.{get}
 use Rattle.tree_model.specs.Pairs.{IsAbsent, IsPresent}
 use Rattle.tree_array.specs.declared.answers.StoreResult.{StoreResult}
 use Rattle.tree_array.specs.declared.answers.StoreResult.TheVariants.{New, Replaced, Duplicate, Full}
+use Rattle.tree_descent.proofs.Ways.{part_not_retired}
 use Rattle.tree_node.specs.Arenas.{TreeArenas}
 use Rattle.tree_insert.specs.Inserts.{Inserts, InsertsUnder, IsNew, asks_split, declined, stores}
 use Rattle.tree_node.specs.Parts.{IsPart, Unchanged}
@@ -37,6 +38,14 @@ never_full (Ok NewKey) = refl
 never_full (Ok OldKey) = refl
 never_full (Err (Declined key val)) = refl
 never_full (Err (OutOfMemory key val)) = refl
+
+-- what is answered for a retired root is the answer of the tree
+pub answered : {K V R U : Type 0} {answer full : StoreResult K V} → (R → (answer ≡ full) × U) → R → (◌≡◌ {A = Result (StoreResult K V) (K × V)} (Ok answer) (Ok full)) × U
+answered told retired = let it = told retired in (ap Ok it.0, it.1)
+
+-- and a part isn't retired
+pub not_retired : {R K V : Type 0} {LEN : ℕ} {cmp : K → K → Ordering} (o : IsTotalOrder cmp) (a : TreeArenas K V LEN) (key : K) (level id : ℕ) → 0 < level → IsPart cmp level a id → IsRetired level a id → R
+not_retired o a key level id deep part retired = absurd (part_not_retired o a key level deep id part retired)
 
 -- a tree that is packed stays so, where the pair was stored, and its key is larger than all
 abbrev pub KeepsTreePacked : {K V : Type 0} {LEN : ℕ} → (K → K → Ordering) → Tree K V LEN → Tree K V LEN → K → Result (StoreResult K V) (K × V) → Type 0

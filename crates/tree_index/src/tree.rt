@@ -5,7 +5,7 @@ ghost use Rattle.std.specs.Option.{ForSome};
 ghost use Rattle.std.specs.Range.Bound.{bound_map};
 ghost use Rattle.tree_array.specs.Length.{IsLen, searched};
 ghost use Rattle.tree_model.specs.Pairs.{IsAbsent, pair_at};
-ghost use Rattle.tree_insert.specs.Inserts.{IsNew};
+ghost use Rattle.tree_insert.specs.Inserts.{IsNew, LeadsTo};
 ghost use Rattle.tree_node.specs.Shape.{room};
 ghost use Rattle.tree_node.specs.Tree.{IsRetired};
 ghost use Rattle.tree_node.specs.Whole.{depth_of, leaves_under};
@@ -16,7 +16,7 @@ use std::ops::Bound;
 use tree_array::array::{IndexKey, Judge, RemoveResult, StoreResult};
 use tree_cut::cutting::remove_range_at;
 use tree_descent::look_ups::search_at;
-use tree_insert::insertion::insert_at;
+use tree_insert::insertion::{Crowded, insert_at, insert_crowded, insert_with_room};
 use tree_insert::planting::plant;
 use tree_insert::root::split_root_at;
 use tree_leaf::arena::NodeId;
@@ -67,7 +67,33 @@ impl<K: IndexKey, V: Drop, const LEN: usize> Tree<K, V, LEN> {
         let Some((root, depth)) = self.root else {
             return self.store_first(key, val);
         };
-        match insert_at::<UPSERT, K, V, LEN>(&mut self.arenas, depth, root, key, val) {
+        match insert_with_room::<UPSERT, K, V, LEN>(&mut self.arenas, depth, root, key, val) {
+            Err(crowded) => self.store_crowded::<UPSERT>(root, depth, crowded),
+            Ok(answer) => match answer {
+                StoreResult::New => Ok(Stored::New),
+                StoreResult::Replaced => Ok(Stored::Replaced),
+                StoreResult::Duplicate(key, val) => Err(InsertError::Duplicate(key, val)),
+                StoreResult::Full(key, val) => self.store_grown::<UPSERT>(root, depth, key, val),
+            },
+        }
+    }
+
+    /// Stores a pair for which its leaf has no room. Its own function, so that a pair for which there is room is stored
+    /// without a place for this one's answer.
+    #[inline(never)]
+    fn store_crowded<const UPSERT: bool>(
+        &mut self,
+        root: NodeId,
+        depth: usize,
+        crowded: Crowded<K, V>,
+    ) -> Result<Stored, InsertError<K, V>>
+        requires len { IsLen LEN }
+        requires whole { IsWhole K.cmp self.old }
+        requires root { self.old.root ≡ Some (root, depth) }
+        requires way { LeadsTo K.cmp depth self.old.arenas root crowded.key crowded.place.node crowded.place.leaf }
+        ensures { Stores K.cmp UPSERT self.old self.new crowded.key crowded.val (told result) }
+    {
+        match insert_crowded::<UPSERT, K, V, LEN>(&mut self.arenas, depth, root, crowded) {
             Err((key, val)) => Err(InsertError::OutOfMemory(key, val)),
             Ok(answer) => match answer {
                 StoreResult::New => Ok(Stored::New),

@@ -1,19 +1,27 @@
 //! Inserts under the number of a node, at its level.
-ghost use Rattle.std.specs.Prelude.{◌≡◌, ◌⊎◌, ◌<◌, ℕ, Ok};
+ghost use Rattle.std.specs.Prelude.{◌≡◌, ◌⊎◌, ◌<◌, ℕ, IfErr, IfOk, Ok};
 ghost use Rattle.slab.specs.Slab.{get};
 ghost use Rattle.tree_array.specs.declared.answers.StoreResult.TheVariants.{Full as FullResult};
-ghost use Rattle.tree_insert.specs.Inserts.{InsertsUnder};
+ghost use Rattle.tree_insert.specs.Inserts.{InsertsUnder, LeadsTo};
 ghost use Rattle.tree_node.specs.Parts.{IsPart, Unchanged};
 ghost use Rattle.tree_node.specs.Shape.{room};
 ghost use Rattle.tree_node.specs.Tree.{HasChildFor, IsRetired};
 
 use tree_array::array::{IndexKey, StoreResult};
-use tree_descent::descent::leaf_for;
+use tree_descent::descent::{LeafPlace, leaf_for};
 use tree_leaf::arena::{LeafId, NodeId};
 use tree_node::node::{ArenasOf, NodeOf};
 use tree_node::routing::child_place_beyond;
 use tree_split::leaf_split::make_room;
 use tree_split::node_split::split_child;
+
+/// A pair for which the leaf that its key belongs to has no room.
+#[derive(Drop)]
+pub struct Crowded<K, V> {
+    pub place: LeafPlace,
+    pub key: K,
+    pub val: V,
+}
 
 /// Inserts a pair under the number of a node of this level. With `UPSERT` it replaces a pair with an equal key.
 ///
@@ -44,17 +52,58 @@ pub fn insert_at<const UPSERT: bool, K: IndexKey, V: Drop, const LEN: usize>(
     ensures inserts { IsPart K.cmp level arenas.old id → InsertsUnder K.cmp UPSERT level arenas.old arenas.new id result key val }
     ensures retired { IsRetired level arenas.old id → (result ≡ Ok (FullResult key val)) × Unchanged arenas.old arenas.new }
 {
+    match insert_with_room::<UPSERT, K, V, LEN>(arenas, level, id, key, val) {
+        Ok(answer) => Ok(answer),
+        Err(crowded) => insert_crowded::<UPSERT, K, V, LEN>(arenas, level, id, crowded),
+    }
+}
+
+/// Inserts a pair, as [`insert_at`] does, if the leaf that its key belongs to has room. No node changes.
+///
+/// Returns `Err` with the pair and the leaf, and changes nothing, if the leaf has no room. Returns `Full` if the node is
+/// retired.
+#[inline(always)]
+pub fn insert_with_room<const UPSERT: bool, K: IndexKey, V: Drop, const LEN: usize>(
+    arenas: &mut ArenasOf<K, V, LEN>,
+    level: usize,
+    id: NodeId,
+    key: K,
+    val: V,
+) -> Result<StoreResult<K, V>, Crowded<K, V>>
+    requires node { 0 < level }
+    requires part { IsPart K.cmp level arenas.old id ⊎ IsRetired level arenas.old id }
+    ensures inserts { IfOk result (λ answer. IsPart K.cmp level arenas.old id → InsertsUnder K.cmp UPSERT level arenas.old arenas.new id (Ok answer) key val) }
+    ensures retired { IfOk result (λ answer. IsRetired level arenas.old id → (answer ≡ FullResult key val) × Unchanged arenas.old arenas.new) }
+    ensures crowded { IfErr result (λ back. (arenas.new ≡ arenas.old) × (back.key ≡ key) × (back.val ≡ val) × LeadsTo K.cmp level arenas.old id key back.place.node back.place.leaf) }
+{
     let Some(place) = leaf_for(arenas, level, id, &key, true) else {
         return Ok(StoreResult::Full(key, val));
     };
-    if !arenas.leaf(place.leaf).array().is_full() {
-        return Ok(
-            arenas
-                .leaf_mut(place.leaf)
-                .array_mut()
-                .store_beyond::<UPSERT>(place.rightmost, key, val),
-        );
+    if arenas.leaf(place.leaf).array().is_full() {
+        return Err(Crowded { place, key, val });
     }
+    Ok(
+        arenas
+            .leaf_mut(place.leaf)
+            .array_mut()
+            .store_beyond::<UPSERT>(place.rightmost, key, val),
+    )
+}
+
+/// Inserts a pair, as [`insert_at`] does, for which its leaf has no room. The caller must see that the way of the key leads
+/// to that leaf.
+#[inline(never)]
+pub fn insert_crowded<const UPSERT: bool, K: IndexKey, V: Drop, const LEN: usize>(
+    arenas: &mut ArenasOf<K, V, LEN>,
+    level: usize,
+    id: NodeId,
+    crowded: Crowded<K, V>,
+) -> Result<StoreResult<K, V>, (K, V)>
+    requires node { 0 < level }
+    requires way { LeadsTo K.cmp level arenas.old id crowded.key crowded.place.node crowded.place.leaf }
+    ensures { InsertsUnder K.cmp UPSERT level arenas.old arenas.new id result crowded.key crowded.val }
+{
+    let Crowded { place, key, val } = crowded;
     match insert_under_leaf_node::<UPSERT, K, V, LEN>(
         arenas,
         place.node,
