@@ -53,6 +53,7 @@ impl<K: Ord + Drop, V: Drop, const LEN: usize> ArrayOf<K, V, LEN> {
 
     /// Returns the slot of the least key that isn't less than this one, or `None` if all are. Makes at most
     /// 4 comparisons (3 among 7 slots), which no judge counts.
+    #[inline(always)]
     pub fn slot_for(&self, key: &K) -> Option<u8>
         ensures { MatchOption result (least_from K.cmp self.now.entries key.now ≡ None)
             (λ slot. (pair : _) × (arrival self.now.arrivals slot ≡ Some pair)
