@@ -5,7 +5,8 @@ ghost use Rattle.std.specs.Option.{ForSome};
 ghost use Rattle.std.specs.Range.Bound.{bound_map};
 ghost use Rattle.tree_array.specs.Length.{IsLen, searched};
 ghost use Rattle.tree_model.specs.Pairs.{IsAbsent, pair_at};
-ghost use Rattle.tree_insert.specs.Inserts.{IsNew, LeadsTo};
+ghost use Rattle.tree_descent.specs.Ways.{LeadsTo};
+ghost use Rattle.tree_insert.specs.Inserts.{IsNew};
 ghost use Rattle.tree_node.specs.Shape.{room};
 ghost use Rattle.tree_node.specs.Tree.{IsRetired};
 ghost use Rattle.tree_node.specs.Whole.{depth_of, leaves_under};
@@ -78,8 +79,7 @@ impl<K: IndexKey, V: Drop, const LEN: usize> Tree<K, V, LEN> {
         }
     }
 
-    /// Stores a pair for which its leaf has no room. Its own function, so that a pair for which there is room is stored
-    /// without a place for this one's answer.
+    /// Stores a pair for which its leaf has no room. Its own function, so that the common insert stays short.
     #[inline(never)]
     fn store_crowded<const UPSERT: bool>(
         &mut self,
@@ -90,7 +90,7 @@ impl<K: IndexKey, V: Drop, const LEN: usize> Tree<K, V, LEN> {
         requires len { IsLen LEN }
         requires whole { IsWhole K.cmp self.old }
         requires root { self.old.root ≡ Some (root, depth) }
-        requires way { LeadsTo K.cmp depth self.old.arenas root crowded.key crowded.place.node crowded.place.leaf }
+        requires way { LeadsTo K.cmp crowded.key depth self.old.arenas root crowded.place.node crowded.place.leaf }
         ensures { Stores K.cmp UPSERT self.old self.new crowded.key crowded.val (told result) }
     {
         match insert_crowded::<UPSERT, K, V, LEN>(&mut self.arenas, depth, root, crowded) {

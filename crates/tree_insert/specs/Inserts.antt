@@ -1,5 +1,5 @@
 -- What an insert under a number answers and leaves.
-use Rattle.std.specs.Prelude.{◌≡◌, ◌⊎◌, ℕ, zero, suc, ◌-◌, ◌<◌, ◌≤◌, Bool, true, false, List, [], ◌∷◌, Option, None, Some, Result, Ok, Err}
+use Rattle.std.specs.Prelude.{◌≡◌, ◌⊎◌, ℕ, zero, suc, ◌<◌, ◌≤◌, Bool, true, false, List, [], ◌∷◌, Option, None, Some, Result, Ok, Err}
 use Rattle.std.specs.declared.cmp.Ordering.{Ordering}
 use Rattle.std.specs.Result.{OnErr}
 use Rattle.slab.specs.Slab.{get}
@@ -9,10 +9,9 @@ use Rattle.tree_array.specs.declared.answers.InsertResult.{InsertResult}
 use Rattle.tree_array.specs.declared.answers.StoreResult.{StoreResult}
 use Rattle.tree_array.specs.declared.answers.StoreResult.TheVariants.{New, Replaced, Duplicate, Full}
 use Rattle.tree_model.specs.Pairs.{IsAbsent, IsPresent, put}
-use Rattle.tree_descent.specs.Ways.{IsOnWay}
 use Rattle.tree_node.specs.Arenas.{TreeArenas}
 use Rattle.tree_node.specs.Tree.{HasChildFor, IsAbove, IsUpTo, Stands, walk}
-use Rattle.tree_node.specs.Parts.{IsPart, Replaces, Unchanged}
+use Rattle.tree_node.specs.Parts.{Replaces, Unchanged}
 use Rattle.tree_node.specs.Shape.{IsCrowded, held, room, found_keyed, spare}
 use Rattle.tree_packed.specs.Packed.{IsPacked}
 
@@ -60,10 +59,6 @@ module _ {K V : Type 0} (cmp : K → K → Ordering) where
   HasToDivide zero arenas id key = ⊥
   HasToDivide {LEN = LEN} (suc level) arenas id key =
       (child : ℕ) × HasChildFor cmp key (get arenas.nodes id) child × (((room level arenas child ≡ 0) × (limit LEN < held level arenas child)) ⊎ HasToDivide level arenas child key)
-
-  -- the way of the key leads from a part to this leaf, under this leaf node
-  abbrev pub LeadsTo : {LEN : ℕ} → ℕ → TreeArenas K V LEN → ℕ → K → ℕ → ℕ → Type 0
-  LeadsTo level arenas id key node leaf = IsPart cmp level arenas id × IsOnWay cmp key (level - 1) arenas id node × HasChildFor cmp key (get arenas.nodes node) leaf
 
 module _ {K V : Type 0} (cmp : K → K → Ordering) (upsert : Bool) where
   -- no pair with the key is there, where one would have been found first

@@ -2,7 +2,8 @@
 ghost use Rattle.std.specs.Prelude.{◌≡◌, ◌⊎◌, ◌<◌, ℕ, IfErr, IfOk, Ok};
 ghost use Rattle.slab.specs.Slab.{get};
 ghost use Rattle.tree_array.specs.declared.answers.StoreResult.TheVariants.{Full as FullResult};
-ghost use Rattle.tree_insert.specs.Inserts.{InsertsUnder, LeadsTo};
+ghost use Rattle.tree_descent.specs.Ways.{LeadsTo};
+ghost use Rattle.tree_insert.specs.Inserts.{InsertsUnder};
 ghost use Rattle.tree_node.specs.Parts.{IsPart, Unchanged};
 ghost use Rattle.tree_node.specs.Shape.{room};
 ghost use Rattle.tree_node.specs.Tree.{HasChildFor, IsRetired};
@@ -74,7 +75,8 @@ pub fn insert_with_room<const UPSERT: bool, K: IndexKey, V: Drop, const LEN: usi
     requires part { IsPart K.cmp level arenas.old id ⊎ IsRetired level arenas.old id }
     ensures inserts { IfOk result (λ answer. IsPart K.cmp level arenas.old id → InsertsUnder K.cmp UPSERT level arenas.old arenas.new id (Ok answer) key val) }
     ensures retired { IfOk result (λ answer. IsRetired level arenas.old id → (answer ≡ FullResult key val) × Unchanged arenas.old arenas.new) }
-    ensures crowded { IfErr result (λ back. (arenas.new ≡ arenas.old) × (back.key ≡ key) × (back.val ≡ val) × LeadsTo K.cmp level arenas.old id key back.place.node back.place.leaf) }
+    ensures crowded { IfErr result (λ back. (arenas.new ≡ arenas.old) × (back.key ≡ key) × (back.val ≡ val) × LeadsTo K.cmp key level arenas.old id back.place.node back.place.leaf) }
+    ensures full { IfErr result (λ back. room 0 arenas.old back.place.leaf ≡ 0) }
 {
     let Some(place) = leaf_for(arenas, level, id, &key, true) else {
         return Ok(StoreResult::Full(key, val));
@@ -100,7 +102,7 @@ pub fn insert_crowded<const UPSERT: bool, K: IndexKey, V: Drop, const LEN: usize
     crowded: Crowded<K, V>,
 ) -> Result<StoreResult<K, V>, (K, V)>
     requires node { 0 < level }
-    requires way { LeadsTo K.cmp level arenas.old id crowded.key crowded.place.node crowded.place.leaf }
+    requires way { LeadsTo K.cmp crowded.key level arenas.old id crowded.place.node crowded.place.leaf }
     ensures { InsertsUnder K.cmp UPSERT level arenas.old arenas.new id result crowded.key crowded.val }
 {
     let Crowded { place, key, val } = crowded;

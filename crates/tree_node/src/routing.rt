@@ -1,5 +1,5 @@
 //! Routing: which child of a node a key belongs to.
-ghost use Rattle.std.specs.Prelude.{◌≡◌, ◌+◌, ◌≤◌, MatchOption, IsSome, IsTrue, None, Some};
+ghost use Rattle.std.specs.Prelude.{◌≡◌, ◌↔◌, ◌+◌, ◌≤◌, MatchOption, IsSome, IsTrue, None, Some};
 ghost use Rattle.std.specs.Option.{ForSome};
 ghost use Rattle.tree_array.specs.Arrivals.{arrival, least_from};
 ghost use Rattle.tree_array.specs.Length.{searched};
@@ -105,7 +105,7 @@ pub fn is_beyond<K: Ord + Drop, I: Copy + Drop, const LEN: usize>(
     children: &ArrayOf<K, I, LEN>,
     key: &K,
 ) -> bool
-    ensures { IsTrue result → least_from K.cmp children.now.entries key.now ≡ None }
+    ensures { IsTrue result ↔ (least_from K.cmp children.now.entries key.now ≡ None) }
 {
     // The contract of `free` says that the keys ascend.
     let _ = children.free();

@@ -1,9 +1,10 @@
 //! Removals under the number of a node, at its level.
-ghost use Rattle.std.specs.Prelude.{◌≡◌, ◌⊎◌, ◌<◌, true, IfErr, IfOk, Ok};
+ghost use Rattle.std.specs.Prelude.{◌≡◌, ◌⊎◌, ◌<◌, ◌≤◌, ℕ, true, length, IfErr, IfOk, Ok};
 ghost use Rattle.std.specs.Fn.{FnOnceReturnsAt, FnOnceTakesAt};
 ghost use Rattle.std.specs.Option.{ForSome};
 ghost use Rattle.tree_model.specs.Pairs.{pair_at};
 ghost use Rattle.slab.specs.Slab.{ContainsKey};
+ghost use Rattle.tree_descent.specs.Ways.{LeadsTo};
 ghost use Rattle.tree_remove.specs.CleanUps.{HasOnlyRetired};
 ghost use Rattle.tree_node.specs.Parts.{IsPart};
 ghost use Rattle.tree_remove.specs.Removes.{RemovesUnder, removal_told};
@@ -62,6 +63,7 @@ pub fn remove_beside<K: Ord + Drop, V: Drop, F: FnOnce(&V) -> bool + Drop, const
     ensures removes { IfOk result (λ removed. RemovesUnder K.cmp (λ val said. FnOnceReturnsAt F.FnOnce condition val said) level arenas.old arenas.new id (removal_told removed) key.now) }
     ensures settled { result ≡ Ok true → level ≡ 1 → HasOnlyRetired arenas.new id → ⊥ }
     ensures handed_back { IfErr result (λ back. (back ≡ condition) × (arenas.new ≡ arenas.old)) }
+    ensures alone { IfErr result (λ back. (node : ℕ) × (leaf : ℕ) × LeadsTo K.cmp key.now level arenas.old id node leaf × (length (walk 0 arenas.old leaf) ≤ 1)) }
 {
     let Some(place) = leaf_for(arenas, level, id, key, false) else {
         return Ok(false);

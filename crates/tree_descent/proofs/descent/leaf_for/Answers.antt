@@ -68,7 +68,7 @@ returns-in_default-unbounded_child-2-clause-child g c =
 pub loop-node-preserved : goal.loop-node-preserved
 loop-node-preserved g c =
     let more : 0 < c.loop-node.above = search rules in
-    let past = routed_past g.K.Ord.cmp c.args.key.now c.in-Internal.node.children.entries c.in-Some.unbounded (c.is_beyond.ensures c.if-not-is_beyond.false) in
+    let past = routed_past g.K.Ord.cmp c.args.key.now c.in-Internal.node.children.entries c.in-Some.unbounded (c.is_beyond.ensures.0 c.if-not-is_beyond.false) in
     goes_down g.met.K.Ord.total c.args.arenas.now c.args.key.now c.args.level c.args.id c.loop-node.at c.loop-node.above (Internal c.in-Internal.node) (rw c.in-Internal.is at c.node.ensures) c.in-Some.unbounded c.in-Some.unbounded c.in-Some.is past more c.loop-node.invariant
 
 pub loop-above-preserved : goal.loop-above-preserved
@@ -97,13 +97,13 @@ returns-in_default-unbounded_child-3-clause-child g c =
 pub returns-then-is_beyond-clause-way : goal.returns-then-is_beyond-clause-way
 returns-then-is_beyond-clause-way g c =
     let bottom : c.loop-above.above ≡ 0 = search rules in
-    let past = routed_past g.K.Ord.cmp c.args.key.now c.in-Leaf.node.children.entries c.in-Some-unbounded_child-2.unbounded (c.is_beyond-then-last.ensures c.if-is_beyond.true) in
+    let past = routed_past g.K.Ord.cmp c.args.key.now c.in-Leaf.node.children.entries c.in-Some-unbounded_child-2.unbounded (c.is_beyond-then-last.ensures.0 c.if-is_beyond.true) in
     (arrives g.met.K.Ord.total c.args.arenas.now c.args.key.now c.args.level c.args.id c.loop-above.at c.loop-above.above (Leaf c.in-Leaf.node) (rw c.in-Leaf.is at c.node-2.ensures) c.in-Some-unbounded_child-2.unbounded c.in-Some-unbounded_child-2.unbounded c.in-Some-unbounded_child-2.is past bottom c.loop-above.invariant).0
 
 pub returns-then-is_beyond-clause-child : goal.returns-then-is_beyond-clause-child
 returns-then-is_beyond-clause-child g c =
     let bottom : c.loop-above.above ≡ 0 = search rules in
-    let past = routed_past g.K.Ord.cmp c.args.key.now c.in-Leaf.node.children.entries c.in-Some-unbounded_child-2.unbounded (c.is_beyond-then-last.ensures c.if-is_beyond.true) in
+    let past = routed_past g.K.Ord.cmp c.args.key.now c.in-Leaf.node.children.entries c.in-Some-unbounded_child-2.unbounded (c.is_beyond-then-last.ensures.0 c.if-is_beyond.true) in
     (arrives g.met.K.Ord.total c.args.arenas.now c.args.key.now c.args.level c.args.id c.loop-above.at c.loop-above.above (Leaf c.in-Leaf.node) (rw c.in-Leaf.is at c.node-2.ensures) c.in-Some-unbounded_child-2.unbounded c.in-Some-unbounded_child-2.unbounded c.in-Some-unbounded_child-2.is past bottom c.loop-above.invariant).1
 
 pub returns-clause-way : goal.returns-clause-way

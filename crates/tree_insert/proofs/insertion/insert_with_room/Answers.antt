@@ -4,6 +4,7 @@ use Rattle.tree_insert.proofs.Inserts.{inserts_in_leaf}
 use Rattle.tree_insert.proofs.Ways.{inserts_on_way, leaf_on_way, takes_one}
 use Rattle.tree_node.proofs.Sizes.{fits}
 use Rattle.tree_descent.proofs.Ways.{part_not_retired}
+use Rattle.tree_split.proofs.Fulls.{none_free}
 use Rattle.tree_insert.proofs.insertion.insert_with_room.Goals as goal
 
 pub returns-in_default-clause-inserts : goal.returns-in_default-clause-inserts
@@ -19,6 +20,9 @@ leaf_mut-requires g c =
 
 pub returns-then-is_full-clause-crowded : goal.returns-then-is_full-clause-crowded
 returns-then-is_full-clause-crowded g c = (refl, refl, refl, (c.in-Some.ensures.child.0, c.in-Some.ensures.way, c.in-Some.ensures.child.1))
+
+pub returns-then-is_full-clause-full : goal.returns-then-is_full-clause-full
+returns-then-is_full-clause-full g c = rw c.leaf.ensures (none_free g.row.LEN c.leaf.result.now.array (rw c.array.ensures at c.is_full.ensures.0 c.if-is_full.true))
 
 pub returns-clause-inserts : goal.returns-clause-inserts
 returns-clause-inserts g c part =
