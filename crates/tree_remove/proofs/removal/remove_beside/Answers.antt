@@ -27,8 +27,8 @@ unreachable-requires g c =
     let many : 1 < length (walk 0 c.args.arenas.now c.in-Some.place.leaf) = rw (walk-leaf c.args.arenas.now c.in-Some.place.leaf c.leaf.result.now c.leaf.ensures, ← c.array.ensures, ← c.len.ensures) c.if-len-le1.false in
     not_emptied g.met.K.Ord.total _ c.args.arenas.now _ c.args.key.now c.in-Some.place.leaf c.remove_in_leaf.result part many c.remove_in_leaf.ensures.removes c.in-Retired.is
 
-pub returns-then-le1-clause-alone : goal.returns-then-le1-clause-alone
-returns-then-le1-clause-alone g c = (
+pub returns-then-len-le1-clause-alone : goal.returns-then-len-le1-clause-alone
+returns-then-len-le1-clause-alone g c = (
   c.in-Some.place.node,
   c.in-Some.place.leaf,
   (c.in-Some.ensures.child.0, c.in-Some.ensures.way, c.in-Some.ensures.child.1),
