@@ -1,25 +1,9 @@
-//! Worked calls of the index.
+//! Worked calls of the index, and its texts.
 use crate::keys::Tagged;
 use std::alloc::{AllocError, Global};
 use std::process::Abort;
 use test_support::refusals::succeeds;
 use tree_index::{InsertError, TreeIndex};
-use tree_support::Both;
-
-fn keeps_the_first_of_two_pairs_steps(rt: &impl Abort, alloc: Global) -> Result<(), AllocError> {
-    let mut both = Both::new(alloc);
-    assert!(rt; both.insert(1, 10)?);
-    assert!(rt; !both.insert(1, 11)?);
-    assert_eq!(rt; both.index().peek(&1).copied(), Some(10));
-    assert_eq!(rt; both.index().peek(&2).copied(), None);
-    assert_eq!(rt; both.flaw(), None);
-    Ok(())
-}
-
-#[test]
-fn keeps_the_first_of_two_pairs(rt: HostRuntime) {
-    assert!(rt; succeeds(|| keeps_the_first_of_two_pairs_steps(&rt, rt.alloc())));
-}
 
 /// The index of these pairs.
 fn index_of(alloc: Global, pairs: &[(u64, u64)]) -> Result<TreeIndex<u64, u64>, AllocError> {
@@ -32,29 +16,61 @@ fn index_of(alloc: Global, pairs: &[(u64, u64)]) -> Result<TreeIndex<u64, u64>, 
     Ok(index)
 }
 
-/// Compares what `Debug` writes of an index.
+fn keeps_the_first_of_two_pairs_steps(rt: &impl Abort, alloc: Global) -> Result<(), AllocError> {
+    let mut index: TreeIndex<u64, u64> = TreeIndex::new(alloc);
+    if index.insert_sync(1, 10).is_err() {
+        return Err(AllocError);
+    }
+    assert!(rt; index.insert_sync(1, 11) == Err(InsertError::Duplicate(1, 11)));
+    assert!(rt; index.peek(&1).copied() == Some(10));
+    Ok(())
+}
+
+#[test]
+fn keeps_the_first_of_two_pairs(rt: HostRuntime) {
+    assert!(rt; succeeds(|| keeps_the_first_of_two_pairs_steps(&rt, rt.alloc())));
+}
+
+/// Pairs, and the text of their index.
+static TEXTS: [(&[(u64, u64)], &str); 2] = [
+    (&[], "TreeIndex { depth: 0, entries: [] }"),
+    (
+        &[(3, 4), (1, 10)],
+        "TreeIndex { depth: 1, entries: [(1, 10), (3, 4)] }",
+    ),
+];
+
+/// Compares what `Debug` writes of the index of these pairs.
 fn expect_shown(
     rt: &impl Abort,
     alloc: Global,
-    index: &TreeIndex<u64, u64>,
+    pairs: &[(u64, u64)],
     wanted: &str,
 ) -> Result<(), AllocError> {
+    let index = index_of(alloc, pairs)?;
     let shown = format!(in alloc; "{index:?}")?;
     assert!(rt; shown.as_str() == wanted);
     Ok(())
 }
 
-fn shows_its_depth_and_its_pairs_steps(rt: &impl Abort, alloc: Global) -> Result<(), AllocError> {
-    let none = index_of(alloc, &[])?;
-    expect_shown(rt, alloc, &none, "TreeIndex { depth: 0, entries: [] }")?;
-    let two = index_of(alloc, &[(3, 4), (1, 10)])?;
-    let wanted = "TreeIndex { depth: 1, entries: [(1, 10), (3, 4)] }";
-    expect_shown(rt, alloc, &two, wanted)
+#[test]
+fn shows_its_depth_and_its_pairs(rt: HostRuntime) {
+    for (pairs, text) in &TEXTS {
+        assert!(rt; succeeds(|| expect_shown(&rt, rt.alloc(), *pairs, *text)));
+    }
+}
+
+fn tells_why_a_pair_was_refused_steps(rt: &impl Abort, alloc: Global) -> Result<(), AllocError> {
+    let duplicate: InsertError<u64, u64> = InsertError::Duplicate(1, 10);
+    let refused: InsertError<u64, u64> = InsertError::OutOfMemory(1, 10);
+    let shown = format!(in alloc; "{duplicate}; {refused}; {refused:?}")?;
+    assert!(rt; shown.as_str() == "the key is present; out of memory; OutOfMemory(1, 10)");
+    Ok(())
 }
 
 #[test]
-fn shows_its_depth_and_its_pairs(rt: HostRuntime) {
-    assert!(rt; succeeds(|| shows_its_depth_and_its_pairs_steps(&rt, rt.alloc())));
+fn tells_why_a_pair_was_refused(rt: HostRuntime) {
+    assert!(rt; succeeds(|| tells_why_a_pair_was_refused_steps(&rt, rt.alloc())));
 }
 
 /// The key 5 with a tag, which its order doesn't see.
@@ -62,39 +78,15 @@ fn five(tag: char) -> Tagged {
     Tagged { number: 5, tag }
 }
 
-/// An index whose key 5 was stored under one tag and then under others.
-fn index_of_five(alloc: Global, tags: &[char]) -> Result<TreeIndex<Tagged, char>, AllocError> {
-    let mut index = TreeIndex::new(alloc);
-    for tag in tags {
-        if index.upsert_sync(five(*tag), *tag).is_err() {
+fn replaces_the_stored_key_steps(rt: &impl Abort, alloc: Global) -> Result<(), AllocError> {
+    let mut index: TreeIndex<Tagged, u64> = TreeIndex::new(alloc);
+    for (tag, value) in [('a', 1), ('b', 2)] {
+        if index.upsert_sync(five(tag), value).is_err() {
             return Err(AllocError);
         }
     }
-    Ok(index)
-}
-
-fn tells_keys_apart_by_their_order_steps(rt: &impl Abort, alloc: Global) -> Result<(), AllocError> {
-    let mut index = index_of_five(alloc, &['a'])?;
-    assert!(rt; index.peek(&five('b')).copied() == Some('a'));
-    let Err(InsertError::Duplicate(key, 'b')) = index.insert_sync(five('b'), 'b') else {
-        panic!(rt; "no duplicate")
-    };
-    assert_eq!(rt; key.tag, 'b');
-    Ok(())
-}
-
-#[test]
-fn tells_keys_apart_by_their_order(rt: HostRuntime) {
-    assert!(rt; succeeds(|| tells_keys_apart_by_their_order_steps(&rt, rt.alloc())));
-}
-
-fn replaces_the_stored_key_steps(rt: &impl Abort, alloc: Global) -> Result<(), AllocError> {
-    let index = index_of_five(alloc, &['a', 'b'])?;
-    let Some((key, value)) = index.peek_entry(&five('c')) else {
-        panic!(rt; "absent")
-    };
-    assert!(rt; key.tag == 'b' && *value == 'b');
-    assert!(rt; index.contains(&five('c')) && index.len() == 1);
+    let entry = index.peek_entry(&five('c'));
+    assert!(rt; entry.is_some_and(|(key, value)| key.tag == 'b' && *value == 2));
     Ok(())
 }
 
@@ -104,10 +96,12 @@ fn replaces_the_stored_key(rt: HostRuntime) {
 }
 
 fn says_whether_it_removed_steps(rt: &impl Abort, alloc: Global) -> Result<(), AllocError> {
-    let mut index = index_of(alloc, &[(1, 10)])?;
-    assert!(rt; !index.remove_sync(&2) && !index.is_empty());
-    assert!(rt; index.remove_sync(&1) && index.is_empty());
-    assert!(rt; !index.remove_sync(&1) && !index.contains(&1));
+    let mut index: TreeIndex<u64, u64> = TreeIndex::new(alloc);
+    assert!(rt; !index.remove_sync(&1));
+    if index.insert_sync(1, 10).is_err() {
+        return Err(AllocError);
+    }
+    assert!(rt; index.remove_sync(&1));
     Ok(())
 }
 
@@ -116,22 +110,21 @@ fn says_whether_it_removed(rt: HostRuntime) {
     assert!(rt; succeeds(|| says_whether_it_removed_steps(&rt, rt.alloc())));
 }
 
-/// Removes the key 1 if it has this value. Returns whether it did, and how often the condition was asked.
-fn remove_one_if(index: &mut TreeIndex<u64, u64>, wanted: u64) -> (bool, u64) {
-    let mut asked = 0u64;
-    let removed = index.remove_if_sync(&1, |value| {
-        asked = asked.saturating_add(1);
-        *value == wanted
-    });
-    (removed, asked)
-}
+/// Values that the condition wants of the key 1, in turn, whether the pair is removed, and how often the condition is
+/// asked.
+static CONDITIONS: [(u64, bool, u64); 3] = [(0, false, 1), (10, true, 1), (10, false, 0)];
 
 /// The condition is asked once of a key that is present, and never of an absent one.
 fn asks_its_condition_steps(rt: &impl Abort, alloc: Global) -> Result<(), AllocError> {
     let mut index = index_of(alloc, &[(1, 10)])?;
-    assert!(rt; remove_one_if(&mut index, 0) == (false, 1));
-    assert!(rt; remove_one_if(&mut index, 10) == (true, 1));
-    assert!(rt; remove_one_if(&mut index, 10) == (false, 0));
+    for (wanted, removes, times) in &CONDITIONS {
+        let mut asked = 0u64;
+        let removed = index.remove_if_sync(&1, |value| {
+            asked = asked.saturating_add(1);
+            *value == *wanted
+        });
+        assert!(rt; removed == *removes && asked == *times);
+    }
     Ok(())
 }
 

@@ -1,4 +1,4 @@
-//! Tests of all layers through their public items: worked examples, and calls in many orders compared with a plain list.
+//! Tests of the index, its histories and its lines through their public items, where no contract says what they show.
 #![tactic(auto)]
 
 #[cfg(test)]
@@ -12,11 +12,9 @@ mod lines;
 #[cfg(test)]
 mod look_ups;
 #[cfg(test)]
-mod orders;
+mod refusals;
 #[cfg(test)]
-mod plain;
-#[cfg(test)]
-mod random;
+mod removals;
 #[cfg(test)]
 mod runs;
 #[cfg(test)]

@@ -105,39 +105,6 @@ fn compares_few_keys(rt: HostRuntime) {
     assert!(rt; succeeds(|| compares_few_keys_steps(&rt, rt.alloc())));
 }
 
-/// Inserts a key that is larger than all, and returns how many comparisons that made.
-fn insert_last<'c>(
-    index: &mut TreeIndex<Asked<'c>, u64>,
-    counter: &'c Cell<u64>,
-    number: u64,
-) -> Result<u64, AllocError> {
-    counter.set(0);
-    match index.insert_sync(Asked::new(number, counter), number) {
-        Ok(()) => Ok(counter.get()),
-        Err(_) => Err(AllocError),
-    }
-}
-
-fn compares_once_a_level_steps(rt: &impl Abort, alloc: Global) -> Result<(), AllocError> {
-    let counter = Cell::new(0);
-    let mut index: TreeIndex<Asked, u64> = TreeIndex::new(alloc);
-    for number in 1..=3700u64 {
-        let levels = (index.depth() as u64).saturating_add(1);
-        let has_room = index.spare() > 0;
-        let comparisons = insert_last(&mut index, &counter, number)?;
-        assert!(rt; !has_room || comparisons <= levels);
-    }
-    assert_eq!(rt; index.depth(), 3);
-    Ok(())
-}
-
-/// A key that is larger than all, whose leaf has room, is compared with the last separator of each node and the last
-/// key of the leaf.
-#[test]
-fn compares_once_a_level_in_ascending_order(rt: HostRuntime) {
-    assert!(rt; succeeds(|| compares_once_a_level_steps(&rt, rt.alloc())));
-}
-
 /// A judge, and the stored key that it found equal to its own.
 #[derive(Drop)]
 struct Recording<J> {

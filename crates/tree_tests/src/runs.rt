@@ -1,86 +1,52 @@
 //! Lists of commands that an index answers.
 use std::alloc::{AllocError, Global};
+use std::ops::Bound;
 use std::process::Abort;
 use test_support::refusals::succeeds;
-use tree_index::{Command, IndexKey, Reply, SameClone, TreeIndex, run};
-use tree_support::flaws;
+use tree_index::{Command, Reply, TreeIndex, run};
 
-/// The replies of an index that was empty, if no command was refused. A run that was refused left the index empty.
-fn replied<K: IndexKey, V: SameClone>(
-    rt: &impl Abort,
-    index: &mut TreeIndex<K, V>,
-    commands: Vec<Command<K, V>>,
-) -> Result<Vec<Reply<V>>, AllocError> {
-    let Ok(replies) = run(index, commands) else {
-        assert!(rt; index.is_empty());
-        return Err(AllocError);
-    };
-    if replies.iter().any(|reply| matches!(reply, Reply::Refused)) {
-        return Err(AllocError);
+/// Commands of every kind, and the reply to each by an index that was empty.
+static COMMANDS: [(Command<u64, u64>, Reply<u64>); 10] = [
+    (Command::Insert(1, 10), Reply::Stored),
+    (Command::Insert(1, 11), Reply::Duplicate),
+    (Command::Upsert(1, 12), Reply::Stored),
+    (Command::Peek(1), Reply::Found(Some(12))),
+    (Command::Remove(2), Reply::Removed(false)),
+    (Command::Insert(3, 30), Reply::Stored),
+    (
+        Command::RemoveRange(Bound::Included(2), Bound::Unbounded),
+        Reply::Done,
+    ),
+    (Command::Remove(1), Reply::Removed(true)),
+    (Command::Peek(1), Reply::Found(None)),
+    (Command::Clear, Reply::Done),
+];
+
+/// Runs the commands over a new index. Returns `Err` if memory is refused.
+fn replies(alloc: Global) -> Result<Vec<Reply<u64>>, AllocError> {
+    let mut commands = Vec::new(alloc);
+    for (command, _) in &COMMANDS {
+        commands.push(*command)?;
     }
-    Ok(replies)
-}
-
-fn runs_edits_steps(rt: &impl Abort, alloc: Global) -> Result<(), AllocError> {
     let mut index: TreeIndex<u64, u64> = TreeIndex::new(alloc);
-    let commands = vec![in alloc;
-        Command::Insert(1, 10),
-        Command::Insert(1, 11),
-        Command::Upsert(1, 12),
-        Command::Peek(1),
-        Command::Remove(2),
-        Command::Upsert(3, 30),
-        Command::Remove(1),
-        Command::Peek(1),
-    ]?;
-    let replies = replied(rt, &mut index, commands)?;
-    let wanted = [
-        Reply::Stored,
-        Reply::Duplicate,
-        Reply::Stored,
-        Reply::Found(Some(12)),
-        Reply::Removed(false),
-        Reply::Stored,
-        Reply::Removed(true),
-        Reply::Found(None),
-    ];
-    assert!(rt; replies.as_slice() == wanted.as_slice());
-    assert_eq!(rt; flaws(&index, &[(3, 30)]), Ok(()));
+    run(&mut index, commands).map_err(|_| AllocError)
+}
+
+fn runs_every_command_steps(rt: &impl Abort, alloc: Global) -> Result<(), AllocError> {
+    let replies = replies(alloc)?;
+    assert!(rt; replies.len() == COMMANDS.len());
+    for (reply, (_, wanted)) in replies.iter().zip(&COMMANDS) {
+        if *reply == Reply::Refused {
+            return Err(AllocError);
+        }
+        assert!(rt; *reply == *wanted);
+    }
     Ok(())
 }
 
 #[test]
-fn runs_edits(rt: HostRuntime) {
-    assert!(rt; succeeds(|| runs_edits_steps(&rt, rt.alloc())));
-}
-
-fn commands_over_texts(alloc: Global) -> Result<Vec<Command<String, String>>, AllocError> {
-    let commands = vec![in alloc;
-        Command::Insert(String::from_str(alloc, "b")?, String::from_str(alloc, "x")?),
-        Command::Insert(String::from_str(alloc, "b")?, String::from_str(alloc, "y")?),
-        Command::Peek(String::from_str(alloc, "b")?),
-        Command::Peek(String::from_str(alloc, "c")?),
-    ]?;
-    Ok(commands)
-}
-
-fn runs_commands_over_texts_steps(rt: &impl Abort, alloc: Global) -> Result<(), AllocError> {
-    let mut index = TreeIndex::new(alloc);
-    let replies = replied(rt, &mut index, commands_over_texts(alloc)?)?;
-    assert_eq!(rt; replies.len(), 4);
-    assert!(rt; matches!(&replies[0], Reply::Stored));
-    assert!(rt; matches!(&replies[1], Reply::Duplicate));
-    let Reply::Found(Some(found)) = &replies[2] else {
-        panic!(rt; "not found")
-    };
-    assert_eq!(rt; found.as_str(), "x");
-    assert!(rt; matches!(&replies[3], Reply::Found(None)));
-    Ok(())
-}
-
-#[test]
-fn runs_commands_over_texts(rt: HostRuntime) {
-    assert!(rt; succeeds(|| runs_commands_over_texts_steps(&rt, rt.alloc())));
+fn runs_every_command(rt: HostRuntime) {
+    assert!(rt; succeeds(|| runs_every_command_steps(&rt, rt.alloc())));
 }
 
 /// Runs an upsert of a value at the key 1, and a look-up of it. Returns whether it was stored; if not, the value that
