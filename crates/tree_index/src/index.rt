@@ -18,7 +18,6 @@ use tree_array::array::{IndexKey, Judge};
 use tree_leaf::arena::NodeId;
 use tree_model::InsertError;
 use tree_node::node::ArenasOf;
-use tree_walk::listing::list_at;
 use tree_walk::spare::spare_at;
 
 /// An ordered index of pairs of a key and a value, with fifteen pairs a leaf. See [`TreeIndexOf`].
@@ -294,10 +293,7 @@ impl<K: IndexKey + fmt::Debug, V: Drop + fmt::Debug, const LEN: usize> fmt::Debu
     fn fmt<W: fmt::Write>(&self, f: &mut fmt::Formatter<W>) -> fmt::Result {
         let depth = self.depth();
         write!(f, "TreeIndex {{ depth: {depth}, entries: ")?;
-        match self.tree.root {
-            Some((root, depth)) => list_at(&self.tree.arenas, depth, root, f)?,
-            None => write!(f, "[]")?,
-        }
+        f.debug_list().entries(self).finish()?;
         write!(f, " }}")
     }
 }

@@ -1,8 +1,7 @@
-//! Queries on a whole part of a tree: its least and greatest entry, its spare, and its pairs.
+//! Queries on a whole part of a tree: its least and greatest entry, and its spare.
 #![tactic(auto)]
 
 pub mod children;
 pub mod ends;
 mod leaves;
-pub mod listing;
 pub mod spare;

@@ -1,0 +1,21 @@
+"""What crates.txt says of the crates of this repository, and where their edits are."""
+import os
+
+TOP = os.path.dirname(os.path.dirname(os.path.abspath(__file__)))
+
+
+def below_each():
+    """The crates that crates.txt names, each with those of this repository that it stands on."""
+    found = {}
+    with open(os.path.join(TOP, "crates.txt"), encoding="utf-8") as lines:
+        for line in lines:
+            name, colon, below = line.partition("#")[0].partition(":")
+            if colon:
+                found[name.split()[0]] = below.split()
+    return {name: [it for it in below if it in found] for name, below in found.items()}
+
+
+def edits_of(crate, folder):
+    """The names of the edits in a folder of a crate, `must-fail` or `wrong-bodies`."""
+    path = os.path.join(TOP, "crates", crate, folder)
+    return sorted(it for it in os.listdir(path) if it.endswith(".edit")) if os.path.isdir(path) else []

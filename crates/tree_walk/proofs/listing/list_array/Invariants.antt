@@ -1,5 +1,0 @@
-use Rattle.tree_walk.proofs.ChildTurns.{IsOverKeyed}
-use Rattle.tree_walk.proofs.listing.list_array.Given as goal
-
-abbrev pub invariant-loop-slot : goal.invariant-loop-slot
-invariant-loop-slot g l = IsOverKeyed l.array l.slot-iterator
