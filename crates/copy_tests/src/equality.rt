@@ -1,15 +1,15 @@
 //! Worked comparisons of two indexes.
-use crate::expect::expect_eq;
-use crate::{are_equal, index_of};
+use crate::index_of;
 use std::alloc::{AllocError, Global};
 use std::process::Abort;
-use test_support::chance::Chance;
 use test_support::refusals::succeeds;
 use tree_index::TreeIndex;
-use tree_support::{ORDERS, grown};
+
+/// The pairs of an index.
+type Pairs = &'static [(u64, u64)];
 
 /// Pairs of two indexes in the order in which they are inserted, and whether the indexes are equal.
-static ROWS: [(&[(u64, u64)], &[(u64, u64)], bool); 7] = [
+static ROWS: [(Pairs, Pairs, bool); 7] = [
     (&[(1, 1), (2, 2)], &[(2, 2), (1, 1)], true),
     (&[(1, 10)], &[(1, 11)], false),
     (&[(1, 10)], &[(2, 10)], false),
@@ -19,50 +19,36 @@ static ROWS: [(&[(u64, u64)], &[(u64, u64)], bool); 7] = [
     (&[(1, 1), (2, 2)], &[(1, 1), (2, 3)], false),
 ];
 
-fn compares_steps(rt: &impl Abort, alloc: Global) -> Result<(), AllocError> {
-    for (first, second, same) in &ROWS {
-        let first = index_of(alloc, first)?;
-        let second = index_of(alloc, second)?;
-        expect_eq(rt, (first == second, second == first), (*same, *same));
-        assert!(rt; first == first);
-    }
+/// Whether two indexes are equal, one way round and the other, and whether the first one equals itself.
+fn compared(first: &TreeIndex<u64, u64>, second: &TreeIndex<u64, u64>) -> (bool, bool, bool) {
+    (first == second, second == first, first == first)
+}
+
+/// Compares an index with that of these pairs.
+fn expect_compared(
+    rt: &impl Abort,
+    alloc: Global,
+    first: &TreeIndex<u64, u64>,
+    pairs: Pairs,
+    same: bool,
+) -> Result<(), AllocError> {
+    let second = index_of(alloc, pairs)?;
+    assert!(rt; compared(first, &second) == (same, same, true));
     Ok(())
+}
+
+fn compares_steps(
+    rt: &impl Abort,
+    alloc: Global,
+    (pairs, others, same): (Pairs, Pairs, bool),
+) -> Result<(), AllocError> {
+    let first = index_of(alloc, pairs)?;
+    expect_compared(rt, alloc, &first, others, same)
 }
 
 #[test]
 fn compares(rt: HostRuntime) {
-    assert!(rt; succeeds(|| compares_steps(&rt, rt.alloc())));
-}
-
-/// An index that was built in ascending order, with another tree, is equal until a value differs.
-fn compare_with_ascending(
-    rt: &impl Abort,
-    alloc: Global,
-    index: &TreeIndex<u64, u64>,
-    pairs: &[(u64, u64)],
-) -> Result<(), AllocError> {
-    let mut ascending = index_of(alloc, pairs)?;
-    expect_eq(rt, are_equal(index, &ascending), true);
-    let Some((last, value)) = pairs.last() else {
-        panic!(rt; "no pair")
-    };
-    ascending
-        .upsert_sync(*last, value.wrapping_add(1))
-        .map_err(|_| AllocError)?;
-    expect_eq(rt, are_equal(index, &ascending), false);
-    Ok(())
-}
-
-fn compares_other_trees_steps(rt: &impl Abort, alloc: Global) -> Result<(), AllocError> {
-    let mut chance = Chance::new(7);
-    for order in ORDERS {
-        let both = grown(alloc, 200, order, &mut chance)?;
-        compare_with_ascending(rt, alloc, both.index(), both.pairs())?;
+    for row in &ROWS {
+        assert!(rt; succeeds(|| compares_steps(&rt, rt.alloc(), *row)));
     }
-    Ok(())
-}
-
-#[test]
-fn compares_other_trees(rt: HostRuntime) {
-    assert!(rt; succeeds(|| compares_other_trees_steps(&rt, rt.alloc())));
 }

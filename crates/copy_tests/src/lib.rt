@@ -6,8 +6,6 @@ mod copies;
 #[cfg(test)]
 mod equality;
 #[cfg(test)]
-mod expect;
-#[cfg(test)]
 mod readers;
 
 #[cfg(test)]
@@ -20,7 +18,9 @@ use tree_index::{IndexKey, TreeIndex, TreeIndexOf};
 fn index_of(alloc: Global, pairs: &[(u64, u64)]) -> Result<TreeIndex<u64, u64>, AllocError> {
     let mut index = TreeIndex::new(alloc);
     for (key, value) in pairs {
-        index.insert_sync(*key, *value).map_err(|_| AllocError)?;
+        if index.insert_sync(*key, *value).is_err() {
+            return Err(AllocError);
+        }
     }
     Ok(index)
 }

@@ -1,13 +1,13 @@
 //! The texts of cursors.
-use crate::expect::expect_eq;
 use crate::walks::index_of;
 use std::alloc::{AllocError, Global};
 use std::fmt::Debug;
 use std::ops::Bound;
 use std::process::Abort;
 use test_support::refusals::succeeds;
+use tree_index::TreeIndex;
 
-/// The text of what is shown.
+/// Compares what `Debug` writes.
 fn expect_text<T: Debug>(
     rt: &impl Abort,
     alloc: Global,
@@ -15,16 +15,31 @@ fn expect_text<T: Debug>(
     wanted: &str,
 ) -> Result<(), AllocError> {
     let text = format!(in alloc; "{shown:?}")?;
-    expect_eq(rt, text.as_str(), wanted);
+    assert!(rt; text.as_str() == wanted);
     Ok(())
 }
 
+/// Pairs, a key, and the text of where it is.
+static PLACES: [(&[(u64, u64)], u64, &str); 3] = [
+    (
+        &[(1, 1), (3, 2)],
+        2,
+        "Between(Iter { forward: Some((1, 1)), backward: Some((3, 2)) })",
+    ),
+    (
+        &[(1, 1), (3, 2)],
+        3,
+        "Exact(Iter { forward: Some((3, 2)), backward: None })",
+    ),
+    (&[], 9, "Empty"),
+];
+
 fn texts_of_places_steps(rt: &impl Abort, alloc: Global) -> Result<(), AllocError> {
-    let index = index_of(alloc, &[(1, 1), (3, 2)])?;
-    let between = "Between(Iter { forward: Some((1, 1)), backward: Some((3, 2)) })";
-    expect_text(rt, alloc, &index.locate(&2), between)?;
-    let exact = "Exact(Iter { forward: Some((3, 2)), backward: None })";
-    expect_text(rt, alloc, &index.locate(&3), exact)
+    for (pairs, key, text) in &PLACES {
+        let index = index_of(alloc, pairs)?;
+        expect_text(rt, alloc, &index.locate(key), text)?;
+    }
+    Ok(())
 }
 
 #[test]
@@ -32,12 +47,21 @@ fn shows_where_a_key_is(rt: HostRuntime) {
     assert!(rt; succeeds(|| texts_of_places_steps(&rt, rt.alloc())));
 }
 
-fn text_of_a_begun_walk_steps(rt: &impl Abort, alloc: Global) -> Result<(), AllocError> {
-    let index = index_of(alloc, &[(1, 10), (3, 4)])?;
+/// The text of a walk that has made its first move.
+fn expect_begun(
+    rt: &impl Abort,
+    alloc: Global,
+    index: &TreeIndex<u64, u64>,
+) -> Result<(), AllocError> {
     let mut iter = index.iter();
     iter.next();
     let begun = "Iter { forward: Some((1, 10)), backward: None }";
     expect_text(rt, alloc, &iter, begun)
+}
+
+fn text_of_a_begun_walk_steps(rt: &impl Abort, alloc: Global) -> Result<(), AllocError> {
+    let index = index_of(alloc, &[(1, 10), (3, 4)])?;
+    expect_begun(rt, alloc, &index)
 }
 
 #[test]
@@ -45,15 +69,13 @@ fn shows_both_ends(rt: HostRuntime) {
     assert!(rt; succeeds(|| text_of_a_begun_walk_steps(&rt, rt.alloc())));
 }
 
-fn texts_of_nothing_steps(rt: &impl Abort, alloc: Global) -> Result<(), AllocError> {
+fn text_of_nothing_steps(rt: &impl Abort, alloc: Global) -> Result<(), AllocError> {
     let index = index_of(alloc, &[])?;
-    expect_text(rt, alloc, &index.locate(&9), "Empty")?;
     let range = index.range((Bound::Unbounded, Bound::Unbounded));
-    let unopened = "Range { forward: None, backward: None }";
-    expect_text(rt, alloc, &range, unopened)
+    expect_text(rt, alloc, &range, "Range { forward: None, backward: None }")
 }
 
 #[test]
 fn shows_nothing_of_an_empty_index(rt: HostRuntime) {
-    assert!(rt; succeeds(|| texts_of_nothing_steps(&rt, rt.alloc())));
+    assert!(rt; succeeds(|| text_of_nothing_steps(&rt, rt.alloc())));
 }

@@ -1,12 +1,10 @@
 //! Worked walks of cursors.
-use crate::expect::expect_eq;
-use crate::said::{Entry, Said, make, numbers, said_by};
+use crate::said::{Said, make, numbers, said_by};
 use std::alloc::{AllocError, Global};
 use std::ops::Bound;
 use std::process::Abort;
 use test_support::refusals::succeeds;
-use tree_index::{Cursor, Iter, Move, Range, TreeIndex, run_moves};
-use tree_ranges::laws::{pairs_ascending, pairs_descending};
+use tree_index::{Cursor, Iter, Move, ProximityOf, Range, TreeIndex, run_moves};
 
 /// Pairs in the order in which they come, the bounds of a range over them, its moves with their answers, and then those
 /// of the cursor over all pairs that is made of it.
@@ -251,7 +249,7 @@ fn expect<'t, C: Cursor<'t, u64, u64>>(
     answers: &[Said],
 ) {
     for (step, answer) in moves.iter().zip(answers) {
-        expect_eq(rt, make(cursor, *step), *answer);
+        assert!(rt; make(cursor, *step) == *answer);
     }
 }
 
@@ -264,55 +262,69 @@ fn expect_at_once<'t, C: Cursor<'t, u64, u64>>(
     answers: &[Said],
 ) -> Result<(), AllocError> {
     let given = run_moves(alloc, cursor, moves)?;
-    expect_eq(rt, given.len(), answers.len());
+    assert!(rt; given.len() == answers.len());
     for (one, answer) in given.iter().zip(answers) {
-        expect_eq(rt, said_by(one), *answer);
+        assert!(rt; said_by(one) == *answer);
     }
     Ok(())
 }
 
-fn expect_range(
+/// Makes the moves of a row by a range, and those of the cursor that is made of it.
+fn expect_stepped(rt: &impl Abort, range: Range<'_, u64, u64>, row: &Row) {
+    let mut range = range;
+    expect(rt, &mut range, row.moves, row.answers);
+    let mut opened = Iter::from(range);
+    expect(rt, &mut opened, row.opened_moves, row.opened_answers);
+}
+
+/// Makes the same moves, each list at once.
+fn expect_range_at_once(
     rt: &impl Abort,
     alloc: Global,
     range: Range<'_, u64, u64>,
     row: &Row,
 ) -> Result<(), AllocError> {
-    let mut stepped = range.clone()?;
-    expect(rt, &mut stepped, row.moves, row.answers);
-    let mut opened = Iter::from(stepped);
-    expect(rt, &mut opened, row.opened_moves, row.opened_answers);
     let mut range = range;
     expect_at_once(rt, alloc, &mut range, row.moves, row.answers)?;
     let mut opened = Iter::from(range);
     expect_at_once(rt, alloc, &mut opened, row.opened_moves, row.opened_answers)
 }
 
+/// Makes the moves of a row over all pairs by a cursor, one by one and at once.
 fn expect_iter(
     rt: &impl Abort,
     alloc: Global,
-    iter: Iter<'_, u64, u64>,
+    index: &TreeIndex<u64, u64>,
     row: &Row,
 ) -> Result<(), AllocError> {
-    let mut stepped = iter.clone()?;
-    expect(rt, &mut stepped, row.moves, row.answers);
-    let mut iter = iter;
-    expect_at_once(rt, alloc, &mut iter, row.moves, row.answers)
+    expect(rt, &mut index.iter(), row.moves, row.answers);
+    expect_at_once(rt, alloc, &mut index.iter(), row.moves, row.answers)
 }
 
-fn expect_row(rt: &impl Abort, alloc: Global, row: &Row) -> Result<(), AllocError> {
-    let index = index_of(alloc, row.pairs)?;
-    let (low, high) = &row.bounds;
-    expect_range(rt, alloc, index.range((low.as_ref(), high.as_ref())), row)?;
+fn expect_row(
+    rt: &impl Abort,
+    alloc: Global,
+    index: &TreeIndex<u64, u64>,
+    row: &Row,
+) -> Result<(), AllocError> {
+    let bounds = (row.bounds.0.as_ref(), row.bounds.1.as_ref());
+    expect_stepped(rt, index.range(bounds), row);
+    expect_range_at_once(rt, alloc, index.range(bounds), row)?;
     if row.bounds == (Bound::Unbounded, Bound::Unbounded) {
-        expect_iter(rt, alloc, index.iter(), row)?;
+        expect_iter(rt, alloc, index, row)?;
     }
     Ok(())
+}
+
+fn walks_steps(rt: &impl Abort, alloc: Global, row: &Row) -> Result<(), AllocError> {
+    let index = index_of(alloc, row.pairs)?;
+    expect_row(rt, alloc, &index, row)
 }
 
 #[test]
 fn walks_as_the_rows_say(rt: HostRuntime) {
     for row in &ROWS {
-        assert!(rt; succeeds(|| expect_row(&rt, rt.alloc(), row)));
+        assert!(rt; succeeds(|| walks_steps(&rt, rt.alloc(), row)));
     }
 }
 
@@ -323,20 +335,30 @@ static COUNTS: [(Bound<u64>, Bound<u64>, usize); 3] = [
     (Bound::Included(4), Bound::Included(8), 5),
 ];
 
-fn counts_steps(rt: &impl Abort, alloc: Global) -> Result<(), AllocError> {
-    let index = ascending(alloc, 1, 9)?;
-    for (low, high, count) in &COUNTS {
-        let mut counted: usize = 0;
-        for _pair in index.range((low.as_ref(), high.as_ref())) {
-            counted = counted.saturating_add(1);
-        }
-        expect_eq(rt, counted, *count);
+/// How many pairs a loop over a range gives.
+fn count(range: Range<'_, u64, u64>) -> usize {
+    let mut counted: usize = 0;
+    for _pair in range {
+        counted = counted.saturating_add(1);
     }
+    counted
+}
+
+/// The sum of the keys and values that a loop over an index gives.
+fn sum(index: &TreeIndex<u64, u64>) -> u64 {
     let mut sum: u64 = 0;
-    for (key, value) in &index {
+    for (key, value) in index {
         sum = sum.saturating_add(*key).saturating_add(*value);
     }
-    expect_eq(rt, sum, 90);
+    sum
+}
+
+fn counts_steps(rt: &impl Abort, alloc: Global) -> Result<(), AllocError> {
+    let index = ascending(alloc, 1, 9)?;
+    for (low, high, wanted) in &COUNTS {
+        assert!(rt; count(index.range((low.as_ref(), high.as_ref()))) == *wanted);
+    }
+    assert!(rt; sum(&index) == 90);
     Ok(())
 }
 
@@ -345,14 +367,14 @@ fn counts_what_is_within_the_bounds(rt: HostRuntime) {
     assert!(rt; succeeds(|| counts_steps(&rt, rt.alloc())));
 }
 
-/// A range over two keys in two leaves, and a clone of it.
+/// Moves a range over two keys in two leaves to its end, and then a clone of it.
 fn expect_two_keys(rt: &impl Abort, range: Range<'_, u64, u64>) -> Result<(), AllocError> {
     let mut other = range.clone()?;
     let mut range = range;
-    expect_eq(rt, numbers(range.next()), Some((15, 15)));
-    expect_eq(rt, numbers(range.next()), Some((16, 16)));
-    expect_eq(rt, numbers(range.next()), None);
-    expect_eq(rt, numbers(other.next_back()), Some((16, 16)));
+    assert!(rt; numbers(range.next()) == Some((15, 15)));
+    assert!(rt; numbers(range.next()) == Some((16, 16)));
+    assert!(rt; numbers(range.next()).is_none());
+    assert!(rt; numbers(other.next_back()) == Some((16, 16)));
     Ok(())
 }
 
@@ -370,12 +392,8 @@ fn a_clone_moves_alone(rt: HostRuntime) {
 fn passes_an_empty_leaf_steps(rt: &impl Abort, alloc: Global) -> Result<(), AllocError> {
     let mut index = ascending(alloc, 0, 15)?;
     assert!(rt; index.remove_sync(&15));
-    let last: Entry = numbers(
-        index
-            .range((Bound::Unbounded, Bound::Unbounded))
-            .next_back(),
-    );
-    expect_eq(rt, last, Some((14, 14)));
+    let mut range = index.range((Bound::Unbounded, Bound::Unbounded));
+    assert!(rt; numbers(range.next_back()) == Some((14, 14)));
     Ok(())
 }
 
@@ -384,26 +402,25 @@ fn passes_an_empty_last_leaf(rt: HostRuntime) {
     assert!(rt; succeeds(|| passes_an_empty_leaf_steps(&rt, rt.alloc())));
 }
 
-fn lists_pairs_steps(rt: &impl Abort, alloc: Global) -> Result<(), AllocError> {
-    let index = ascending(alloc, 1, 40)?;
-    let bounds = (Bound::Excluded(&14), Bound::Included(&17));
-    let up = pairs_ascending(alloc, &mut index.range(bounds))?;
-    expect_eq(
-        rt,
-        up.as_slice(),
-        [(&15, &15), (&16, &16), (&17, &17)].as_slice(),
-    );
-    let down = pairs_descending(alloc, &mut index.range(bounds))?;
-    expect_eq(
-        rt,
-        down.as_slice(),
-        [(&17, &17), (&16, &16), (&15, &15)].as_slice(),
-    );
-    expect_eq(rt, pairs_ascending(alloc, &mut index.iter())?.len(), 40);
+/// The moves of a cursor between two pairs, which has left the list at both ends.
+fn expect_between(rt: &impl Abort, index: &TreeIndex<u64, u64>) {
+    let ProximityOf::Between(ends) = index.locate(&2) else {
+        panic!(rt; "2 is between")
+    };
+    let mut ends = ends;
+    assert!(rt; numbers(ends.get()) == Some((1, 1)));
+    assert!(rt; numbers(ends.get_back()) == Some((3, 2)));
+    assert!(rt; numbers(ends.next()).is_none());
+    assert!(rt; numbers(ends.next_back()).is_none());
+}
+
+fn locates_steps(rt: &impl Abort, alloc: Global) -> Result<(), AllocError> {
+    let index = index_of(alloc, &[(1, 1), (3, 2), (5, 3), (7, 4)])?;
+    expect_between(rt, &index);
     Ok(())
 }
 
 #[test]
-fn lists_pairs_either_way(rt: HostRuntime) {
-    assert!(rt; succeeds(|| lists_pairs_steps(&rt, rt.alloc())));
+fn stands_between_two_pairs(rt: HostRuntime) {
+    assert!(rt; succeeds(|| locates_steps(&rt, rt.alloc())));
 }
