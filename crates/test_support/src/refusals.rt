@@ -10,15 +10,3 @@ pub fn succeeds<F: Fn() -> Result<(), AllocError> + Drop>(steps: F) -> bool
 {
     steps().is_ok() || steps().is_ok()
 }
-
-#[cfg(test)]
-mod tests {
-    use super::succeeds;
-    use std::alloc::AllocError;
-
-    #[test]
-    fn tells_what_the_steps_return(rt: HostRuntime) {
-        assert!(rt; succeeds(|| Ok(())));
-        assert!(rt; !succeeds(|| Err(AllocError)));
-    }
-}

@@ -9,17 +9,15 @@ pub enum Flaw {
     EmptyChild,
     /// A leaf isn't linked behind the one before it.
     Link,
-    /// The level of a leaf node isn't 1, or an index that was cleared has a depth.
+    /// The level of a leaf node isn't 1.
     Level,
     /// So many pairs, leaves or nodes were not met.
     Count,
     /// The leaves in a row don't have the pairs.
     Pairs,
-    /// A call was answered otherwise than by the plain index.
-    Answer,
 }
 
 /// Returns the flaw unless this holds.
-pub fn expect(holds: bool, flaw: Flaw) -> Result<(), Flaw> {
+pub(crate) fn expect(holds: bool, flaw: Flaw) -> Result<(), Flaw> {
     if holds { Ok(()) } else { Err(flaw) }
 }

@@ -1,6 +1,6 @@
 //! Walks over the tree of an index.
 use crate::flaw::{Flaw, expect};
-use crate::walker::{separator_at, walk};
+use crate::walker::walk;
 use tree_index::TreeIndex;
 
 /// Walks the tree of an index, down its levels and along its leaves. Returns `Err` if it isn't whole or its pairs aren't
@@ -19,10 +19,4 @@ pub fn flaws(index: &TreeIndex<u64, u64>, pairs: &[(u64, u64)]) -> Result<(), Fl
         arenas.leaf_count() == 0 && arenas.node_count() == 0,
         Flaw::Count,
     )
-}
-
-/// Returns a separator of the tree, counted in key order, or `None` if there are no more than so many.
-pub fn separator(index: &TreeIndex<u64, u64>, place: usize) -> Option<u64> {
-    let (arenas, root) = index.parts();
-    separator_at(arenas, index.depth(), root?, place)
 }

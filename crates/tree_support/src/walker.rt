@@ -13,32 +13,25 @@ use tree_leaf::leaf::{IterOf, LeafOf, RevIterOf};
 use tree_node::node::{ArenasOf, NodeOf};
 use tree_walk::ends::{max_at, min_at};
 
-/// What a walk down has met: so many leaves, nodes, pairs and separators, the greatest key or separator, and the last
-/// leaf; and the separator at a place.
+/// What a walk down has met: so many leaves, nodes and pairs, the greatest key or separator, and the last leaf.
 #[derive(Drop)]
 struct Met {
     leaves: usize,
     nodes: usize,
     pairs: usize,
-    separators: usize,
     low: Option<u64>,
     leaf: Option<LeafId>,
-    place: usize,
-    at_place: Option<u64>,
 }
 
 impl Met {
-    /// Nothing yet. The separator at this place is looked for.
-    fn new(place: usize) -> Self {
+    /// Nothing yet.
+    fn new() -> Self {
         Met {
             leaves: 0,
             nodes: 0,
             pairs: 0,
-            separators: 0,
             low: None,
             leaf: None,
-            place,
-            at_place: None,
         }
     }
 
@@ -58,11 +51,7 @@ impl Met {
             expect(low <= separator, Flaw::Order)?;
         }
         expect(before < self.pairs, Flaw::EmptyChild)?;
-        if self.separators == self.place {
-            self.at_place = Some(separator);
-        }
         self.low = Some(separator);
-        self.separators = self.separators.saturating_add(1);
         Ok(())
     }
 
@@ -152,28 +141,13 @@ pub(crate) fn walk<const LEN: usize>(
     requires stands { StandsOrRetired nat_cmp level arenas.now id }
     requires linked { IsLinked level arenas.now id }
 {
-    let mut met = Met::new(0);
+    let mut met = Met::new();
     walk_node(arenas, level, id, &mut met)?;
     expect(met.pairs == pairs.len(), Flaw::Count)?;
     expect(met.leaves == arenas.leaf_count(), Flaw::Count)?;
     expect(met.nodes == arenas.node_count(), Flaw::Count)?;
     expect(lists_forward(arenas, level, id, pairs), Flaw::Pairs)?;
     expect(lists_backward(arenas, level, id, pairs), Flaw::Pairs)
-}
-
-/// The separator at a place under a node, in key order, if there are more than so many.
-pub(crate) fn separator_at<const LEN: usize>(
-    arenas: &ArenasOf<u64, u64, LEN>,
-    level: usize,
-    id: NodeId,
-    place: usize,
-) -> Option<u64>
-    requires node { 0 < level }
-    requires stands { StandsOrRetired nat_cmp level arenas.now id }
-{
-    let mut met = Met::new(place);
-    let _ = walk_node(arenas, level, id, &mut met);
-    met.at_place
 }
 
 /// Whether the leaves of a part, walked on, have these pairs.
@@ -221,7 +195,7 @@ fn lists_backward<const LEN: usize>(
 }
 
 /// The pair of an entry.
-pub fn copied(entry: Option<(&u64, &u64)>) -> Option<(u64, u64)> {
+fn copied(entry: Option<(&u64, &u64)>) -> Option<(u64, u64)> {
     let (key, value) = entry?;
     Some((*key, *value))
 }

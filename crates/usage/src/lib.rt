@@ -37,31 +37,3 @@ pub fn price_by<J: Judge<u64>>(prices: &TreeIndex<u64, u64>, judge: &mut J) -> O
     let (_, price) = prices.peek_entry_by(judge)?;
     Some(*price)
 }
-
-#[cfg(test)]
-mod tests {
-    use super::*;
-
-    #[test]
-    fn keeps_the_first_price(rt: HostRuntime) {
-        let mut prices = TreeIndex::new(rt.alloc());
-        let mut told = offer(&mut prices, 7, 100);
-        if told.is_none() {
-            // The index could not allocate, and no price stands.
-            assert!(rt; prices.is_empty());
-            told = offer(&mut prices, 7, 100);
-        }
-        assert_eq!(rt; told, Some(100));
-        assert_eq!(rt; offer(&mut prices, 7, 90), Some(100));
-    }
-
-    #[test]
-    fn orders_items_by_price(rt: HostRuntime) {
-        let mut items: TreeIndex<Price, &str> = TreeIndex::new(rt.alloc());
-        let dear = items.insert_sync(Price { cents: 900 }, "dear").is_ok();
-        let cheap = items.insert_sync(Price { cents: 100 }, "cheap").is_ok();
-        let found = items.peek(&Price { cents: 100 }).copied();
-        assert_eq!(rt; found, if cheap { Some("cheap") } else { None });
-        assert_eq!(rt; items.len(), dear as usize + cheap as usize);
-    }
-}
