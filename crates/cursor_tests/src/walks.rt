@@ -223,7 +223,9 @@ pub(crate) fn index_of(
 ) -> Result<TreeIndex<u64, u64>, AllocError> {
     let mut index = TreeIndex::new(alloc);
     for (key, value) in pairs {
-        index.insert_sync(*key, *value).map_err(|_| AllocError)?;
+        if index.insert_sync(*key, *value).is_err() {
+            return Err(AllocError);
+        }
     }
     Ok(index)
 }
@@ -236,7 +238,9 @@ pub(crate) fn ascending(
 ) -> Result<TreeIndex<u64, u64>, AllocError> {
     let mut index = TreeIndex::new(alloc);
     for key in first..=last {
-        index.insert_sync(key, key).map_err(|_| AllocError)?;
+        if index.insert_sync(key, key).is_err() {
+            return Err(AllocError);
+        }
     }
     Ok(index)
 }

@@ -29,7 +29,10 @@ fn replies(alloc: Global) -> Result<Vec<Reply<u64>>, AllocError> {
         commands.push(*command)?;
     }
     let mut index: TreeIndex<u64, u64> = TreeIndex::new(alloc);
-    run(&mut index, commands).map_err(|_| AllocError)
+    match run(&mut index, commands) {
+        Ok(replies) => Ok(replies),
+        Err(_) => Err(AllocError),
+    }
 }
 
 fn runs_every_command_steps(rt: &impl Abort, alloc: Global) -> Result<(), AllocError> {
