@@ -1,5 +1,5 @@
 //! The workloads of `crates/treebench` over `std::collections::BTreeMap`: the same keys, the same arguments, the same
-//! lines of output. With `shared` first, those of `crates/sharebench`.
+//! lines of output. With `shared` first, those of `bench/sharebench`.
 mod shared;
 
 use shared::Load;
@@ -247,7 +247,7 @@ fn scene_of_numbers(workload: Workload, size: usize) -> Scene<u64> {
         | Workload::CloneAndDrop => Scene::filled(keys, Vec::new(), order),
         Workload::RemoveMiddle | Workload::CutByRetain | Workload::CutBySplitOff => {
             let mut all = ascending(0, size);
-            source.shuffle(&mut all);
+            Numbers::new().shuffle(&mut all);
             Scene::filled(all, Vec::new(), ascending(size / 4, size - size / 4))
         }
         _ => Scene::empty(keys, order),

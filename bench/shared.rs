@@ -1,4 +1,4 @@
-//! The calls of `crates/sharebench` over a `Mutex` of `BTreeMap` that keeps the same history: the same keys, the same
+//! The calls of `bench/sharebench` over a `Mutex` of `BTreeMap` that keeps the same history: the same keys, the same
 //! arguments, the same lines of output.
 use std::collections::BTreeMap;
 use std::collections::btree_map::Entry;

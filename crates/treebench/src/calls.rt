@@ -1,7 +1,53 @@
 //! The calls of a workload: one call per key, and a checksum of the answers.
-use std::alloc::AllocError;
+use crate::workloads::Calls;
+use std::alloc::{AllocError, Global};
 use std::ops::Bound;
 use tree_index::{IndexKey, ProximityOf, TreeIndex};
+
+/// Makes the calls that store the keys given. Returns how many were inserted.
+pub fn store(
+    alloc: Global,
+    calls: Calls,
+    index: &mut TreeIndex<u64, u64>,
+    given: Vec<u64>,
+) -> Result<u64, AllocError> {
+    match calls {
+        Calls::BuildAndDrop => build_and_drop(alloc, given),
+        _ => insert_all(index, given),
+    }
+}
+
+/// Makes the calls that change the pairs at the keys asked for, or else those that look at them. Returns a checksum of
+/// the answers.
+pub fn answer(
+    alloc: Global,
+    calls: Calls,
+    index: &mut TreeIndex<u64, u64>,
+    asked: &[u64],
+) -> Result<u64, AllocError> {
+    match calls {
+        Calls::Upsert => upsert_all(index, asked),
+        Calls::Remove => Ok(remove_all(index, asked)),
+        Calls::Cut => Ok(cut(index, asked)),
+        _ => look(alloc, calls, index, asked),
+    }
+}
+
+fn look(
+    alloc: Global,
+    calls: Calls,
+    index: &TreeIndex<u64, u64>,
+    asked: &[u64],
+) -> Result<u64, AllocError> {
+    match calls {
+        Calls::Walk => Ok(walk(index)),
+        Calls::WalkBack => Ok(walk_back(index)),
+        Calls::Ranges => Ok(walk_ranges(index, asked)),
+        Calls::Nearest => Ok(locate_all(index, asked)),
+        Calls::CloneAndDrop => clone_and_drop(alloc, index),
+        _ => Ok(peek_all(index, asked)),
+    }
+}
 
 /// Inserts the keys, each with its place in the list as the value. Returns how many were inserted.
 pub fn insert_all<K: IndexKey>(
@@ -18,14 +64,16 @@ pub fn insert_all<K: IndexKey>(
     Ok(stored)
 }
 
-/// Upserts the keys, each with its place in the list as the value. Returns how many were stored.
-pub fn upsert_all<K: IndexKey>(
-    index: &mut TreeIndex<K, u64>,
-    keys: Vec<K>,
-) -> Result<u64, AllocError> {
+fn build_and_drop(alloc: Global, keys: Vec<u64>) -> Result<u64, AllocError> {
+    let mut index = TreeIndex::new(alloc);
+    insert_all(&mut index, keys)
+}
+
+// Upserts the keys, each with its place in the list as the value. Returns how many were stored.
+fn upsert_all(index: &mut TreeIndex<u64, u64>, keys: &[u64]) -> Result<u64, AllocError> {
     let mut stored = 0u64;
     for key in keys {
-        if index.upsert_sync(key, stored).is_err() {
+        if index.upsert_sync(*key, stored).is_err() {
             return Err(AllocError);
         }
         stored = stored.wrapping_add(1);
@@ -45,8 +93,8 @@ pub fn peek_all<K: IndexKey>(index: &TreeIndex<K, u64>, keys: &[K]) -> u64 {
     sum
 }
 
-/// Removes the keys. Returns how many were present.
-pub fn remove_all<K: IndexKey>(index: &mut TreeIndex<K, u64>, keys: &[K]) -> u64 {
+// Removes the keys. Returns how many were present.
+fn remove_all(index: &mut TreeIndex<u64, u64>, keys: &[u64]) -> u64 {
     let mut removed = 0u64;
     for key in keys {
         if index.remove_sync(key) {
@@ -56,8 +104,8 @@ pub fn remove_all<K: IndexKey>(index: &mut TreeIndex<K, u64>, keys: &[K]) -> u64
     removed
 }
 
-/// Removes the keys from the first of the list to the last by one call. Returns how many were present.
-pub fn cut<K: IndexKey>(index: &mut TreeIndex<K, u64>, keys: &[K]) -> u64 {
+// Removes the keys from the first of the list to the last by one call. Returns how many were present.
+fn cut(index: &mut TreeIndex<u64, u64>, keys: &[u64]) -> u64 {
     let (Some(first), Some(last)) = (keys.first(), keys.last()) else {
         return 0;
     };
@@ -66,8 +114,8 @@ pub fn cut<K: IndexKey>(index: &mut TreeIndex<K, u64>, keys: &[K]) -> u64 {
     before.saturating_sub(index.len()) as u64
 }
 
-/// Returns a checksum of the values of all pairs, in ascending order of their keys.
-pub fn walk(index: &TreeIndex<u64, u64>) -> u64 {
+// Returns a checksum of the values of all pairs, in ascending order of their keys.
+fn walk(index: &TreeIndex<u64, u64>) -> u64 {
     let mut sum = 0u64;
     for (_, value) in index {
         sum = summed(sum, *value);
@@ -75,8 +123,8 @@ pub fn walk(index: &TreeIndex<u64, u64>) -> u64 {
     sum
 }
 
-/// Returns a checksum of the values of all pairs, in descending order of their keys.
-pub fn walk_back(index: &TreeIndex<u64, u64>) -> u64 {
+// Returns a checksum of the values of all pairs, in descending order of their keys.
+fn walk_back(index: &TreeIndex<u64, u64>) -> u64 {
     let mut sum = 0u64;
     for (_, value) in index.iter().rev() {
         sum = summed(sum, *value);
@@ -84,37 +132,65 @@ pub fn walk_back(index: &TreeIndex<u64, u64>) -> u64 {
     sum
 }
 
-/// Returns a checksum of the values of the 100 pairs from each of the keys on.
-pub fn walk_ranges<'t>(index: &'t TreeIndex<u64, u64>, keys: &'t [u64]) -> u64 {
+// Returns a checksum of the values of the 100 pairs from each of the keys on.
+fn walk_ranges<'t>(index: &'t TreeIndex<u64, u64>, keys: &'t [u64]) -> u64 {
     let mut sum = 0u64;
     for key in keys {
-        let pairs = index.range((Bound::Included(key), Bound::Unbounded));
-        for (_, value) in pairs.take(100) {
-            sum = summed(sum, *value);
-        }
+        sum = walk_range(index, key, sum);
     }
     sum
 }
 
-/// Returns a checksum of the values beside each of the keys, none of which is present: of the nearest smaller key and
-/// of the nearest larger one.
-pub fn locate_all(index: &TreeIndex<u64, u64>, keys: &[u64]) -> u64 {
-    let mut sum = 0u64;
-    for key in keys {
-        let (smaller, larger) = match index.locate(key) {
-            ProximityOf::Between(at) => (at.get(), at.get_back()),
-            ProximityOf::Smaller(at) => (at.get_back(), None),
-            ProximityOf::Larger(at) => (None, at.get()),
-            ProximityOf::Exact(_) | ProximityOf::Empty => (None, None),
-        };
-        for (_, value) in smaller.into_iter().chain(larger) {
-            sum = summed(sum, *value);
-        }
+// Takes the values of the 100 pairs from a key on into a checksum.
+fn walk_range<'t>(index: &'t TreeIndex<u64, u64>, key: &'t u64, sum: u64) -> u64 {
+    let mut sum = sum;
+    let pairs = index.range((Bound::Included(key), Bound::Unbounded));
+    for (_, value) in pairs.take(100) {
+        sum = summed(sum, *value);
     }
     sum
 }
 
-/// Takes a value into a checksum.
+// Returns a checksum of the values beside each of the keys, none of which is present: of the nearest smaller key and of
+// the nearest larger one.
+fn locate_all(index: &TreeIndex<u64, u64>, keys: &[u64]) -> u64 {
+    let mut sum = 0u64;
+    for key in keys {
+        let (smaller, larger) = beside(index, key);
+        sum = summed_where(summed_where(sum, smaller), larger);
+    }
+    sum
+}
+
+// Returns the values of the nearest smaller key and of the nearest larger one.
+fn beside(index: &TreeIndex<u64, u64>, key: &u64) -> (Option<u64>, Option<u64>) {
+    match index.locate(key) {
+        ProximityOf::Between(at) => (value_of(at.get()), value_of(at.get_back())),
+        ProximityOf::Smaller(at) => (value_of(at.get_back()), None),
+        ProximityOf::Larger(at) => (None, value_of(at.get())),
+        ProximityOf::Exact(_) | ProximityOf::Empty => (None, None),
+    }
+}
+
+fn value_of(pair: Option<(&u64, &u64)>) -> Option<u64> {
+    let (_, value) = pair?;
+    Some(*value)
+}
+
+fn clone_and_drop(alloc: Global, index: &TreeIndex<u64, u64>) -> Result<u64, AllocError> {
+    let copy = index.try_clone(alloc)?;
+    Ok(copy.len() as u64)
+}
+
+// Takes a value into a checksum.
 fn summed(sum: u64, value: u64) -> u64 {
     sum.wrapping_mul(31).wrapping_add(value).wrapping_add(1)
+}
+
+// Takes a value into a checksum, where there is one.
+fn summed_where(sum: u64, value: Option<u64>) -> u64 {
+    match value {
+        Some(value) => summed(sum, value),
+        None => sum,
+    }
 }

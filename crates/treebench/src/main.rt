@@ -13,7 +13,7 @@ mod workloads;
 
 use crate::measure::{measure, measure_least};
 use crate::memory::measure_footprint;
-use crate::workloads::Workload;
+use crate::workloads::WORKLOADS;
 use std::process::ExitCode;
 use std::rt::{Clock, Env, Files};
 use std::{env, io};
@@ -71,9 +71,9 @@ fn requested(words: &[String]) -> Option<Request> {
 }
 
 fn show_checksums(rt: &(impl Clock + AllocGlobal + Print)) -> io::Result<()> {
-    for workload in Workload::ALL {
-        let measured = measure(rt, workload, FEW)?;
-        println!(rt; "{} {:016x}", workload.name(), measured.checksum)?;
+    for (name, set, calls) in WORKLOADS {
+        let measured = measure(rt, set, calls, FEW)?;
+        println!(rt; "{name} {:016x}", measured.checksum)?;
     }
     Ok(())
 }
@@ -83,12 +83,11 @@ fn show_times(
     keys: usize,
     repeats: usize,
 ) -> io::Result<()> {
-    for workload in Workload::ALL {
-        let least = measure_least(rt, workload, keys, repeats)?;
+    for (name, set, calls) in WORKLOADS {
+        let least = measure_least(rt, set, calls, keys, repeats)?;
         let tenths = least.tenths_a_call();
         println!(rt;
-            "{} {}.{} {:016x}",
-            workload.name(),
+            "{name} {}.{} {:016x}",
             tenths / 10,
             tenths % 10,
             least.checksum

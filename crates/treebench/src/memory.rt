@@ -1,6 +1,6 @@
 //! Measures the memory of pairs.
 use crate::keys::source;
-use std::alloc::{AllocError, Global};
+use std::alloc::AllocError;
 use std::rt::Files;
 use std::{fs, io};
 use tree_index::TreeIndex;
@@ -17,7 +17,18 @@ pub struct Footprint {
 /// Stores random pairs of numbers and measures how far the peak resident size grows.
 pub fn measure_footprint(rt: &(impl Files + AllocGlobal), size: usize) -> io::Result<Footprint> {
     let before = greatest_resident(rt)?;
-    let index = index_of(rt.alloc(), size)?;
+    let mut index = TreeIndex::new(rt.alloc());
+    footprint_in(rt, before, &mut index, size)
+}
+
+// Stores the pairs in an empty index, before which the peak resident size was so many KiB.
+fn footprint_in(
+    rt: &(impl Files + AllocGlobal),
+    before: usize,
+    index: &mut TreeIndex<u64, u64>,
+    size: usize,
+) -> io::Result<Footprint> {
+    fill(index, size)?;
     let grown = greatest_resident(rt)?.saturating_sub(before);
     Ok(Footprint {
         bytes_a_pair: grown.saturating_mul(1024).checked_div(size).unwrap_or(0),
@@ -25,30 +36,32 @@ pub fn measure_footprint(rt: &(impl Files + AllocGlobal), size: usize) -> io::Re
     })
 }
 
-// Returns an index of so many random pairs.
-fn index_of(alloc: Global, size: usize) -> Result<TreeIndex<u64, u64>, AllocError> {
+// Stores so many random pairs.
+fn fill(index: &mut TreeIndex<u64, u64>, size: usize) -> Result<(), AllocError> {
     let mut source = source();
-    let mut index = TreeIndex::new(alloc);
     for _ in 0..size {
         let key = source.draw();
         if index.insert_sync(key, key).is_err() {
             return Err(AllocError);
         }
     }
-    Ok(index)
+    Ok(())
 }
 
 // Returns the peak resident size of this process in KiB, as Linux reports it.
 fn greatest_resident(rt: &(impl Files + AllocGlobal)) -> io::Result<usize> {
     let status = fs::read_to_string(rt, "/proc/self/status")?;
+    match peak_in(&status) {
+        Some(size) => Ok(size),
+        None => Err(io::ErrorKind::Unsupported.into()),
+    }
+}
+
+fn peak_in(status: &str) -> Option<usize> {
     for line in status.lines() {
-        if let Some(rest) = line.strip_prefix("VmHWM:") {
-            if let Some(size) = rest.trim().strip_suffix(" kB") {
-                if let Ok(size) = size.parse() {
-                    return Ok(size);
-                }
-            }
+        if let Some(size) = line.strip_prefix("VmHWM:") {
+            return size.trim().strip_suffix(" kB")?.parse().ok();
         }
     }
-    Err(io::ErrorKind::Unsupported.into())
+    None
 }
