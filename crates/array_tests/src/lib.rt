@@ -1,12 +1,12 @@
-//! Tests of slots, of arrays, and of leaves in a chain, through their public items.
+//! Tests of slots, of arrays, and of the arenas of leaves and nodes, through their public items.
 #![tactic(auto)]
 
+#[cfg(test)]
+mod arenas;
 #[cfg(test)]
 mod array;
 #[cfg(test)]
 mod expect;
-#[cfg(test)]
-mod leaf;
 #[cfg(test)]
 mod slots;
 #[cfg(test)]

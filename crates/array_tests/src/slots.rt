@@ -1,11 +1,9 @@
 //! The sizes of slots and rows, and what they drop.
 use crate::expect::expect_eq;
 use crate::token::Token;
-use std::alloc::AllocError;
 use std::cell::Cell;
 use std::marker::{Send, Sync};
 use std::mem::size_of;
-use std::test::Fail;
 use tree_slots::row::Row;
 use tree_slots::slot::Slot;
 
@@ -71,30 +69,4 @@ fn a_row_drops_its_values_once(rt: HostRuntime) {
     expect_eq(&rt, drops.get(), 5);
     row.discard();
     expect_eq(&rt, drops.get(), 5);
-}
-
-fn named(rt: &HostRuntime, number: u64) -> Result<String, AllocError> {
-    format!(in rt.alloc(); "the name of {number}")
-}
-
-#[test]
-fn texts(rt: HostRuntime) -> Result<(), Fail> {
-    let mut row: Row<String, 2> = Row::with(0, named(&rt, 7)?);
-    match named(&rt, 8) {
-        Ok(name) => row.put(1, name),
-        Err(error) => {
-            drop(row.take(0));
-            row.discard();
-            return Err(error.into());
-        }
-    }
-    let eight = row.take(1);
-    let seven = row.take(0);
-    row.discard();
-    expect_eq(
-        &rt,
-        (seven.as_str(), eight.as_str()),
-        ("the name of 7", "the name of 8"),
-    );
-    Ok(())
 }

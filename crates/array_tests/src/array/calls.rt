@@ -1,12 +1,8 @@
 //! What the calls of an array answer, on arrays worked out by hand.
-use super::found::{Found, found, slot_from};
+use super::found::{Found, found};
 use crate::expect::expect_eq;
-use std::ops::Bound;
 use std::process::Abort;
-use std::test::Fail;
-use tree_array::array::{
-    Array, ArrayIter, ArrayOf, ArrayRevIter, DIMENSION, InsertResult, RemoveResult, range_contains,
-};
+use tree_array::array::{Array, ArrayOf, DIMENSION, InsertResult, RemoveResult};
 
 /// The array in which these keys arrived, each with itself as its value.
 fn of(keys: &[u64]) -> Array<u64, u64> {
@@ -23,17 +19,6 @@ fn small_of(keys: &[u64]) -> ArrayOf<u64, u64, 7> {
         let _ = array.insert::<true>(*key, *key);
     }
     array
-}
-
-/// Whether a walk gives these slots and no more.
-fn gives(walk: ArrayIter, slots: &[u8]) -> bool {
-    let mut walk = walk;
-    for slot in slots {
-        if walk.next() != Some(*slot) {
-            return false;
-        }
-    }
-    walk.next().is_none()
 }
 
 /// Whether the marks are these: no entry, no slot to spare, retired.
@@ -75,7 +60,6 @@ fn stores_and_finds(rt: HostRuntime) {
 fn stores_in_seven_slots(rt: HostRuntime) {
     let array = small_of(&[6, 2, 4]);
     expect_eq(&rt, (array.len(), array.free()), (3, 4));
-    assert!(rt; gives(ArrayIter::new(&array), &[1, 2, 0]));
     expect_eq(&rt, (DIMENSION.len, DIMENSION.bits), (15, 4));
 }
 
@@ -120,34 +104,6 @@ fn retires(rt: HostRuntime) {
     expect_eq(&rt, marks(&array), (true, true, true));
     expect_eq(&rt, (array.free(), array.len()), (14, 0));
     expect_eq(&rt, array.insert::<false>(6, 6), InsertResult::Full(6, 6));
-}
-
-/// Takes the pair of the least key from this one on.
-fn take_from(array: &mut Array<u64, u64>, key: u64) -> Option<(u64, u64, RemoveResult)> {
-    let slot = slot_from(array, key)?;
-    Some(array.take(slot))
-}
-
-#[test]
-fn takes(rt: HostRuntime) {
-    let mut array = of(&[5, 3, 9]);
-    let taken = take_from(&mut array, 2);
-    expect_eq(&rt, taken, Some((3, 3, RemoveResult::Success)));
-    let taken = take_from(&mut array, 5);
-    expect_eq(&rt, taken, Some((5, 5, RemoveResult::Success)));
-    let taken = take_from(&mut array, 5);
-    expect_eq(&rt, taken, Some((9, 9, RemoveResult::Retired)));
-    expect_eq(&rt, slot_from(&array, 0), None);
-}
-
-#[test]
-fn replaces_a_value(rt: HostRuntime) -> Result<(), Fail> {
-    let mut array = of(&[5, 3, 9]);
-    let slot = slot_from(&array, 2).ok_or("a slot")?;
-    expect_eq(&rt, (slot, *array.key(slot), *array.val(slot)), (1, 3, 3));
-    expect_eq(&rt, array.set_val(slot, 30), 3);
-    expect_eq(&rt, found(&array, 3), (Some((3, 30)), Some(30), Some(1)));
-    Ok(())
 }
 
 /// Keys in the order of their arrival, and where their array is to be divided, how many there are, and whether all
@@ -236,65 +192,4 @@ fn distributes_apart(rt: HostRuntime) {
     expect_eq(&rt, (low.free(), high.free()), (14, 14));
     expect_found(&rt, &low, &OF_THE_LEAST);
     expect_found(&rt, &high, &OF_THE_GREATEST);
-}
-
-#[test]
-fn distributes_nothing(rt: HostRuntime) {
-    let mut array: Array<u64, u64> = Array::new();
-    let (mut low, mut high) = (Array::new(), Array::new());
-    expect_eq(&rt, array.distribute_apart(0, &mut low, &mut high), None);
-    assert!(rt; array.is_retired());
-    expect_eq(&rt, marks(&low), (true, false, false));
-    expect_eq(&rt, marks(&high), (true, false, false));
-}
-
-#[test]
-fn removes_ranges(rt: HostRuntime) {
-    let mut array = of(&[5, 3, 9, 7]);
-    array.remove_range((Bound::Included(&7), Bound::Excluded(&5)));
-    array.remove_range((Bound::Excluded(&3), Bound::Included(&7)));
-    assert!(rt; gives(ArrayIter::new(&array), &[1, 2]));
-    array.remove_range((Bound::Unbounded, Bound::Unbounded));
-    assert!(rt; array.is_retired());
-    let mut new: Array<u64, u64> = Array::new();
-    new.remove_range((Bound::Unbounded, Bound::Unbounded));
-    assert!(rt; !new.is_retired());
-}
-
-#[test]
-fn meets_bounds(rt: HostRuntime) {
-    assert!(rt; range_contains((Bound::Included(&3), Bound::Excluded(&5)), &4));
-    assert!(rt; !range_contains((Bound::Included(&3), Bound::Excluded(&5)), &5));
-    assert!(rt; !range_contains((Bound::Excluded(&3), Bound::Unbounded), &3));
-}
-
-#[test]
-fn walks(rt: HostRuntime) -> Result<(), Fail> {
-    let array = of(&[5, 3, 9]);
-    let mut walk = ArrayIter::new(&array);
-    assert!(rt; gives(walk.clone()?, &[1, 0, 2]) && walk.slot().is_none());
-    let steps = (walk.next(), walk.next(), walk.next(), walk.next());
-    expect_eq(&rt, steps, (Some(1), Some(0), Some(2), None));
-    expect_eq(&rt, walk.slot(), Some(2));
-    let mut back = walk.rev();
-    let steps = (back.next(), back.next(), back.next(), back.slot());
-    expect_eq(&rt, steps, (Some(0), Some(1), None, Some(1)));
-    back.rewind();
-    expect_eq(&rt, (back.slot(), back.next()), (None, Some(2)));
-    Ok(())
-}
-
-#[test]
-fn turns_about(rt: HostRuntime) -> Result<(), Fail> {
-    let array = of(&[5, 3, 9]);
-    expect_eq(&rt, ArrayRevIter::new(&array).rev().next(), Some(1));
-    expect_eq(&rt, ArrayIter::new(&array).rev().next(), Some(2));
-    let mut back = ArrayRevIter::new(&array);
-    let steps = (back.next(), back.next(), back.next());
-    expect_eq(&rt, steps, (Some(2), Some(0), Some(1)));
-    let mut walk = back.clone()?.rev();
-    expect_eq(&rt, walk.next(), Some(0));
-    walk.rewind();
-    expect_eq(&rt, walk.next(), Some(1));
-    Ok(())
 }
