@@ -1,46 +1,58 @@
 """Shrinks a script that shows a difference to a short one that still does.
 
-Candidates are tried many at a time, since a build stands before each set of them.
+Candidates are tried many at a time, since a build may stand before each set of them.
 """
 import re
+from itertools import combinations
 
 SETS = 20
-HALVES = 60
-SINGLES = 150
+LINES = 60_000
+PAIRS = 11
+SINGLES = 60
+SHARES = (0.02, 0.05, 0.1, 0.2, 0.3, 0.5, 0.7, 0.8, 0.9)
 
 
-def shortest(script, shows, random):
-    """The shortest list of lines found that `shows` says yes of, of which each single line is needed.
+def shortest(scripts, shows, random):
+    """The shortest list of lines found that `shows` says yes of, or None if it never does.
 
-    `shows` takes a list of scripts and says of each whether it shows a difference.
+    `shows` takes a list of scripts and says of each whether it shows a difference. The search begins with some scripts, and ends
+    where no line can be left out, nor a pair of lines of a very short script.
     """
+    found = None
+    tried = list(scripts)
+    for script in sorted(scripts, key=len)[:3]:
+        tried += candidates(script, random)
     for _ in range(SETS):
-        found = first_shown(candidates(script, random), shows)
-        if found is None:
-            break
-        script = found
-    return first_shown([with_small_numbers(script)], shows) or script
+        shorter = first_shown(tried, shows)
+        if shorter is None:
+            return found
+        found = shorter
+        tried = candidates(found, random)
+    return found
 
 
 def first_shown(scripts, shows):
-    """The shortest of some scripts that shows a difference, or None."""
-    scripts = sorted(scripts, key=len)
-    return next((script for script, shown in zip(scripts, shows(scripts)) if shown), None)
+    """The shortest of some scripts that shows a difference, or None. The longest are not tried where there are many lines."""
+    few, lines = [], 0
+    for script in sorted(scripts, key=len):
+        if not few or lines + len(script) <= LINES:
+            few.append(script)
+            lines += len(script)
+    return next((script for script, shown in zip(few, shows(few)) if shown), None) if few else None
 
 
 def candidates(script, random):
-    """Scripts with some of the lines: without a stretch of them, and with a part drawn by chance."""
+    """Scripts with some of the lines: without a stretch of them, and with a share of them that is drawn by chance."""
     length = len(script)
-    made = []
-    size = length // 2
-    while size > 1 and len(made) < HALVES:
-        made += [script[:start] + script[start + size :] for start in range(0, length, size)]
-        size //= 2
+    made = [[line for line in script if random.random() < share] for share in SHARES for _ in range(5)]
+    for size in (length // 2, length // 4, length // 8, length // 16):
+        if size > 1:
+            made += [script[:start] + script[start + size :] for start in range(0, length, size)]
     if length <= SINGLES:
         made += [script[:place] + script[place + 1 :] for place in range(length)]
-        made += [script[:one] + script[one + 1 : other] + script[other + 1 :] for one in range(length) for other in range(one + 1, length) if length <= 14]
-    for share in (0.05, 0.1, 0.2, 0.3, 0.5, 0.7, 0.8, 0.9):
-        made += [[line for line in script if random.random() < share] for _ in range(8)]
+    if length <= PAIRS:
+        for one, other in combinations(range(length), 2):
+            made.append(script[:one] + script[one + 1 : other] + script[other + 1 :])
     return [it for it in made if 0 < len(it) < length]
 
 
