@@ -7,8 +7,9 @@ from itertools import combinations
 
 SETS = 20
 LINES = 60_000
-PAIRS = 11
-SINGLES = 60
+PAIRS = 40
+SINGLES = 300
+DRAWS = 60
 SHARES = (0.02, 0.05, 0.1, 0.2, 0.3, 0.5, 0.7, 0.8, 0.9)
 
 
@@ -32,19 +33,27 @@ def shortest(scripts, shows, random):
 
 
 def first_shown(scripts, shows):
-    """The shortest of some scripts that shows a difference, or None. The longest are not tried where there are many lines."""
-    few, lines = [], 0
-    for script in sorted(scripts, key=len):
-        if not few or lines + len(script) <= LINES:
-            few.append(script)
-            lines += len(script)
-    return next((script for script, shown in zip(few, shows(few)) if shown), None) if few else None
+    """The shortest of some scripts that shows a difference, or None. Short ones are tried before long ones."""
+    waiting = sorted(scripts, key=len)
+    while waiting:
+        count, lines = 0, 0
+        while count < len(waiting) and (count == 0 or lines + len(waiting[count]) <= LINES):
+            lines += len(waiting[count])
+            count += 1
+        few, waiting = waiting[:count], waiting[count:]
+        for script, shown in zip(few, shows(few)):
+            if shown:
+                return script
+    return None
 
 
 def candidates(script, random):
     """Scripts with some of the lines: without a stretch of them, and with a share of them that is drawn by chance."""
     length = len(script)
-    made = [[line for line in script if random.random() < share] for share in SHARES for _ in range(5)]
+    made = []
+    for share in SHARES:
+        draws = LINES // len(SHARES) // max(1, int(share * length))
+        made += [[line for line in script if random.random() < share] for _ in range(max(3, min(DRAWS, draws)))]
     for size in (length // 2, length // 4, length // 8, length // 16):
         if size > 1:
             made += [script[:start] + script[start + size :] for start in range(0, length, size)]
