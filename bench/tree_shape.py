@@ -138,7 +138,7 @@ class TreeShape:
         node.add_before(place, keys[end - 1], self.counted(Array(keys[:end])))
 
     def make_room(self, node, place):
-        """Splits a full child of a node over nodes, which has no spent slots here; false where the node has no room for a separator."""
+        """Splits a full child of a node over nodes; false where the node has no room for a separator. No slot of it is spent."""
         child = node.child(place)
         if node.array.is_full():
             return False
