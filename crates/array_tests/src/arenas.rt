@@ -11,33 +11,37 @@ fn counts(arenas: &Slots<u64, u64, u8>) -> (usize, usize) {
     (arenas.leaf_count(), arenas.node_count())
 }
 
-fn leaves_come_and_go(rt: &impl Abort, alloc: Global) -> Result<(), AllocError> {
-    let mut arenas: Slots<u64, u64, u8> = Slots::new(alloc);
+fn leaves_come_and_go(rt: &impl Abort, arenas: &mut Slots<u64, u64, u8>) -> Result<(), AllocError> {
     let Ok(first) = arenas.add_leaf(Leaf::new()) else {
         return Err(AllocError);
     };
     let Ok(second) = arenas.add_leaf(Leaf::new()) else {
         return Err(AllocError);
     };
-    assert!(rt; first != second && counts(&arenas) == (2, 0));
+    assert!(rt; first != second && counts(arenas) == (2, 0));
     let _ = arenas.leaf_mut(first).array_mut().insert::<false>(1, 10);
     assert!(rt; arenas.leaf(second).array().is_empty());
     expect_eq(rt, arenas.remove_leaf(first).array().free(), 14);
     expect_eq(rt, arenas.remove_leaf(second).array().free(), 15);
-    expect_eq(rt, counts(&arenas), (0, 0));
+    expect_eq(rt, counts(arenas), (0, 0));
     Ok(())
 }
 
-fn nodes_come_and_go(rt: &impl Abort, alloc: Global) -> Result<(), AllocError> {
-    let mut arenas: Slots<u64, u64, u8> = Slots::new(alloc);
+fn nodes_come_and_go(rt: &impl Abort, arenas: &mut Slots<u64, u64, u8>) -> Result<(), AllocError> {
     let Ok(node) = arenas.add_node(7) else {
         return Err(AllocError);
     };
-    expect_eq(rt, (counts(&arenas), *arenas.node(node)), ((0, 1), 7));
+    expect_eq(rt, (counts(arenas), *arenas.node(node)), ((0, 1), 7));
     *arenas.node_mut(node) = 8;
     expect_eq(rt, arenas.remove_node(node), 8);
-    expect_eq(rt, counts(&arenas), (0, 0));
+    expect_eq(rt, counts(arenas), (0, 0));
     Ok(())
+}
+
+fn come_and_go(rt: &impl Abort, alloc: Global) -> Result<(), AllocError> {
+    let mut arenas = Slots::new(alloc);
+    leaves_come_and_go(rt, &mut arenas)?;
+    nodes_come_and_go(rt, &mut arenas)
 }
 
 /// Where places are reserved, no more memory is asked for.
@@ -57,9 +61,12 @@ fn reserved_places_serve(rt: &impl Abort, alloc: Global) -> Result<(), AllocErro
 
 #[test]
 fn numbers_come_and_go(rt: HostRuntime) {
-    assert!(rt; succeeds(|| leaves_come_and_go(&rt, rt.alloc())));
-    assert!(rt; succeeds(|| nodes_come_and_go(&rt, rt.alloc())));
-    assert!(rt; succeeds(|| reserved_places_serve(&rt, rt.alloc())));
+    assert!(rt;
+        succeeds(|| {
+            come_and_go(&rt, rt.alloc())?;
+            reserved_places_serve(&rt, rt.alloc())
+        })
+    );
 }
 
 /// Whether a leaf was added. One that was refused comes back.
