@@ -4,8 +4,10 @@ use Rattle.std.specs.declared.cmp.Ordering.{Ordering}
 use Rattle.std.proofs.lemmas.Bool.{cases_eq, false≢true}
 use Rattle.slab.specs.Slab.{Slab, get}
 use Rattle.tree_leaf.specs.Chain.{IsChain}
+use Rattle.tree_leaf.specs.declared.leaf.LeafOf.{LeafOf}
 use Rattle.tree_leaf.specs.Counting.{times, uses}
 use Rattle.tree_leaf.proofs.Counts.{none_here, one_here, times-append, times-cons, times-nil, uses_some}
+use Rattle.tree_array.specs.Arrivals.{in_order}
 use Rattle.tree_array.specs.declared.answers.InsertResult.{InsertResult}
 use Rattle.tree_array.specs.declared.answers.InsertResult.TheVariants.{Full}
 use Rattle.tree_array.specs.declared.answers.RemoveResult.{RemoveResult}
@@ -20,26 +22,19 @@ use Rattle.tree_node.specs.declared.node.NodeOf.{NodeOf}
 use Rattle.tree_node.specs.declared.node.NodeOf.TheVariants.{Internal}
 use Rattle.tree_node.specs.Arenas.{TreeArenas}
 use Rattle.tree_node.specs.Parts.{IsPart, Unchanged}
-use Rattle.tree_node.specs.Tree.{IsOfLevel, IsRetired, StandsOrRetired, children_of, leaves_at, nodes_at}
-use Rattle.tree_node.specs.Whole.{IsTree}
+use Rattle.tree_node.specs.Tree.{IsOfLevel, HasKind, IsRetired, StandsOrRetired, children_of, keyed, leaves_at, nodes_at, unbounded}
 use Rattle.tree_node.proofs.Levels.{kind_of}
 use Rattle.tree_node.proofs.Steps.{part_after}
 use Rattle.tree_node.proofs.Unchanged.{unchanged_part}
-use Rattle.tree_node.proofs.Whole.{tree_part}
+use Rattle.tree_node.proofs.Bare.{over_one}
 use Rattle.tree_node.proofs.Standing.{no_children}
 use Rattle.tree_remove.specs.Removes.{RemovesUnder}
 use Rattle.tree_remove.proofs.NodeRemovals.{walk-retired}
 use Rattle.tree_walk.specs.Ends.{IsLinked}
 use Rattle.node_tests.specs.Planted.{IsPlanted}
 
--- a root that stands is planted, and so is what a split makes of it
+-- what a split makes of a root that stands is planted
 module _ {K V : Type 0} {LEN : ℕ} (cmp : K → K → Ordering) where
-  pub planted_new : (level : ℕ) (a : TreeArenas K V LEN) (id : ℕ) → level ≡ 1 → IsTree cmp a (Some (id, 1)) → IsPlanted cmp level a id
-  planted_new level a id lowest tree = rw lowest (elim tree.top.1 [
-    | inl stands ↦ inl (tree_part a id 1 tree stands)
-    | inr retired ↦ inr (retired.1, retired.2)
-  ])
-
   pub part_planted : (level : ℕ) (a : TreeArenas K V LEN) (id : ℕ) → (IsRetired level a id → ⊥) → IsPlanted cmp level a id → IsPart cmp level a id
   part_planted level a id stands (inl part) = part
   part_planted level a id stands (inr gone) = absurd (stands gone.0)
@@ -70,6 +65,31 @@ used_once nodes id there n =
       | inl same ↦ omega (arith, alone, times-cons n id [], times-nil n, one_here n id same, uses_some nodes n (rw same there))
       | inr differs ↦ omega (arith, alone, times-cons n id [], times-nil n, none_here n id differs)
     ]
+
+-- a leaf node over one empty leaf
+module _ {K V : Type 0} {LEN : ℕ} (cmp : K → K → Ordering) (a : TreeArenas K V LEN) (id last : ℕ) (node : NodeOf K LEN) (leaf : LeafOf K V LEN)
+    (here : get a.nodes id ≡ Some node) (kind : HasKind 0 node) (no_keyed : (keyed node).entries ≡ []) (last_is : unbounded node ≡ Some last)
+    (leaf_here : get a.leaves last ≡ Some leaf) (array : leaf.array ≡ in_order []) (no_prev : leaf.prev ≡ None) (no_next : leaf.next ≡ None) where
+  leaves_are : leaves_at 1 a.nodes id ≡ last ∷ []
+  leaves_are = rw (here, no_keyed, last_is) refl
+
+  leaf_once : (n : ℕ) → times n (last ∷ []) ≤ uses a.leaves n
+  leaf_once n = elim (cases_eq n last) [
+    | inl same ↦ omega (arith, times-cons n last [], times-nil n, one_here n last same, uses_some a.leaves n (rw (same, leaf_here) refl))
+    | inr differs ↦ omega (arith, times-cons n last [], times-nil n, none_here n last differs)
+  ]
+
+  chained : IsChain a.leaves (last ∷ [])
+  chained = record { once = leaf_once; linked = rw leaf_here ((no_prev, no_next), tt) }
+
+  pub planted_over_one : IsPlanted cmp 1 a id
+  planted_over_one = inl (record {
+    stands = over_one cmp a id node last here kind no_keyed last_is (record { leaf = leaf; here = leaf_here; few = rw array (omega arith); ascending = rw array tt; above = rw array tt; up_to = rw array tt });
+    nodes_once = used_once a.nodes id (rw here refl);
+    front = [];
+    back = [];
+    chain = rw leaves_are chained;
+  })
 
 module _ {K V : Type 0} {LEN : ℕ} (cmp : K → K → Ordering) (a b : TreeArenas K V LEN) (root : ℕ) where
   pub replanted : Replants cmp a b root → IsPlanted cmp 1 b root

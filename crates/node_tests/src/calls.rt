@@ -1,7 +1,7 @@
 //! Each call on a few pairs.
 ghost use Rattle.tree_array.specs.Length.{IsLen};
 
-use crate::planted::{Planted, cleanup_root, internal_root, replants};
+use crate::planted::{Numbers, internal_root, replants};
 use crate::steps::{Step, Told, take};
 use std::alloc::{AllocError, Global};
 use std::ops::Bound;
@@ -9,11 +9,11 @@ use std::process::Abort;
 use test_support::refusals::succeeds;
 use tree_array::array::RemoveResult;
 use tree_node::leaf_node::LeafNodeOf;
-use tree_node::node::NodeOf;
 
-/// The calls of a root over one leaf, which holds the pair (10, 11) at first, until the root is retired. If the root is
-/// an internal node, the leaf node below it is dropped then.
-static FEW: [Step; 24] = [
+/// The calls of a root over one empty leaf, until the root is retired. If the root is an internal node, the leaf node
+/// below it is dropped then.
+static FEW: [Step; 25] = [
+    Step::Insert(10, 10, 1, Told::Success),
     Step::Insert(20, 20, 2, Told::Success),
     Step::Insert(20, 20, 3, Told::Duplicate),
     Step::Find(20, Some(22)),
@@ -51,10 +51,8 @@ static RETIRED_INTERNAL_NODE: [Step; 1] = [Step::Marks(true, true)];
 fn leaf_node<const LEN: usize>(rt: &impl Abort, alloc: Global) -> Result<(), AllocError>
     requires { IsLen LEN }
 {
-    let mut tree = Planted::<LeafNodeOf<u64, LEN>, 1, LEN>::new(alloc, 10, 11)?;
-    take(rt, &mut tree, &LEAF_NODE)?;
-    take(rt, &mut tree, &FEW)?;
-    take(rt, &mut tree, &RETIRED_LEAF_NODE)
+    let mut tree = Numbers::<LeafNodeOf<u64, LEN>, 1, LEN>::new(alloc)?;
+    take(rt, &mut tree, &[&LEAF_NODE, &FEW, &RETIRED_LEAF_NODE])
 }
 
 #[test]
@@ -70,10 +68,12 @@ fn a_leaf_node_answers(rt: HostRuntime) {
 fn internal_node<const LEN: usize>(rt: &impl Abort, alloc: Global) -> Result<(), AllocError>
     requires { IsLen LEN }
 {
-    let mut tree = internal_root::<LEN>(alloc, 10, 11)?;
-    take(rt, &mut tree, &INTERNAL_NODE)?;
-    take(rt, &mut tree, &FEW)?;
-    take(rt, &mut tree, &RETIRED_INTERNAL_NODE)
+    let mut tree = internal_root::<LEN>(alloc)?;
+    take(
+        rt,
+        &mut tree,
+        &[&INTERNAL_NODE, &FEW, &RETIRED_INTERNAL_NODE],
+    )
 }
 
 #[test]
@@ -86,65 +86,9 @@ fn an_internal_node_answers(rt: HostRuntime) {
     );
 }
 
-/// A clean-up keeps a leaf node as the root, retired or not.
-fn either_leaf_node<const LEN: usize>(rt: &impl Abort, alloc: Global) -> Result<(), AllocError>
-    requires { IsLen LEN }
-{
-    let mut tree = Planted::<NodeOf<u64, LEN>, 1, LEN>::new(alloc, 10, 11)?;
-    take(rt, &mut tree, &LEAF_NODE)?;
-    take(rt, &mut tree, &FEW)?;
-    take(rt, &mut tree, &RETIRED_LEAF_NODE)?;
-    assert_eq!(rt; cleanup_root(tree), (Some(false), 0, 1));
-    Ok(())
-}
-
-/// It drops a retired internal node.
-fn either_internal_node<const LEN: usize>(rt: &impl Abort, alloc: Global) -> Result<(), AllocError>
-    requires { IsLen LEN }
-{
-    let mut tree = internal_root::<LEN>(alloc, 10, 11)?.through_node();
-    take(rt, &mut tree, &INTERNAL_NODE)?;
-    take(rt, &mut tree, &FEW)?;
-    take(rt, &mut tree, &RETIRED_INTERNAL_NODE)?;
-    assert_eq!(rt; cleanup_root(tree), (None, 0, 0));
-    Ok(())
-}
-
-#[test]
-fn a_node_of_either_kind_answers(rt: HostRuntime) {
-    assert!(rt;
-        succeeds(|| {
-            either_leaf_node::<15>(&rt, rt.alloc())?;
-            either_leaf_node::<7>(&rt, rt.alloc())?;
-            either_internal_node::<15>(&rt, rt.alloc())?;
-            either_internal_node::<7>(&rt, rt.alloc())
-        })
-    );
-}
-
-/// A leaf node stays the root, and an internal node without keyed children gives its place to its child.
-fn cleaned<const LEN: usize>(rt: &impl Abort, alloc: Global) -> Result<(), AllocError>
-    requires { IsLen LEN }
-{
-    let low = Planted::<NodeOf<u64, LEN>, 1, LEN>::new(alloc, 10, 11)?;
-    assert_eq!(rt; cleanup_root(low), (Some(false), 1, 1));
-    let high = internal_root::<LEN>(alloc, 10, 11)?;
-    assert_eq!(rt; cleanup_root(high.through_node()), (Some(true), 1, 1));
-    Ok(())
-}
-
-#[test]
-fn a_clean_up_leaves_a_leaf_node(rt: HostRuntime) {
-    assert!(rt;
-        succeeds(|| {
-            cleaned::<15>(&rt, rt.alloc())?;
-            cleaned::<7>(&rt, rt.alloc())
-        })
-    );
-}
-
 /// The only pair is gone.
-static RETIRED: [Step; 2] = [
+static RETIRED: [Step; 3] = [
+    Step::Insert(10, 10, 1, Told::Success),
     Step::Remove(10, 10, 1, RemoveResult::Retired),
     Step::Shape(1, 0, 1),
 ];
@@ -162,10 +106,17 @@ static PLANTED_ANEW: [Step; 6] = [
 fn retired_root<const LEN: usize>(rt: &impl Abort, alloc: Global) -> Result<(), AllocError>
     requires { IsLen LEN }
 {
-    let mut tree = Planted::<NodeOf<u64, LEN>, 1, LEN>::new(alloc, 10, 11)?;
-    take(rt, &mut tree, &RETIRED)?;
-    assert!(rt; replants(&mut tree)?);
-    take(rt, &mut tree, &PLANTED_ANEW)
+    let mut tree = Numbers::<LeafNodeOf<u64, LEN>, 1, LEN>::new(alloc)?;
+    plants_anew(rt, &mut tree)
+}
+
+fn plants_anew<const LEN: usize>(
+    rt: &impl Abort,
+    tree: &mut Numbers<LeafNodeOf<u64, LEN>, 1, LEN>,
+) -> Result<(), AllocError> {
+    take(rt, tree, &[&RETIRED])?;
+    assert!(rt; replants(tree)?);
+    take(rt, tree, &[&PLANTED_ANEW])
 }
 
 #[test]

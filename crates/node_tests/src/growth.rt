@@ -2,15 +2,17 @@
 //! leaf nodes takes `LEN` of them with `LEN` leaves each and one with `LEN + 1`.
 ghost use Rattle.tree_array.specs.Length.{IsLen};
 
-use crate::planted::{Planted, cleanup_root, internal_root, split_root};
+use crate::planted::{Numbers, cleanup_root, internal_root, split_root};
 use crate::steps::{Step, Told, take};
 use std::alloc::{AllocError, Global};
 use std::process::Abort;
 use test_support::refusals::succeeds;
 use tree_array::array::RemoveResult;
+use tree_node::internal_node::InternalNodeOf;
 use tree_node::leaf_node::LeafNodeOf;
+use tree_node::node::NodeOf;
 
-/// What a tree answers as it grows from the pair (1, 1) to three levels, and how many leaves and nodes a clean-up leaves
+/// What a tree answers as it grows from one empty leaf to three levels, and how many leaves and nodes a clean-up leaves
 /// of it.
 struct Growth {
     /// Until the leaf node that is the root is full.
@@ -27,7 +29,7 @@ struct Growth {
 /// stand under one child of the root of three levels. It has no other once those above are gone.
 static LARGE: Growth = Growth {
     first: &[
-        Step::Insert(2, 240, 0, Told::Success),
+        Step::Insert(1, 240, 0, Told::Success),
         Step::Shape(1, 16, 1),
         Step::Insert(241, 241, 7, Told::Full),
         Step::Upsert(241, 241, 7, Told::Full),
@@ -63,7 +65,7 @@ static LARGE: Growth = Growth {
 /// under one child of the root of three levels.
 static SMALL: Growth = Growth {
     first: &[
-        Step::Insert(2, 56, 0, Told::Success),
+        Step::Insert(1, 56, 0, Told::Success),
         Step::Shape(1, 8, 1),
         Step::Insert(57, 57, 7, Told::Full),
         Step::Upsert(57, 57, 7, Told::Full),
@@ -95,7 +97,6 @@ static SMALL: Growth = Growth {
     nodes: 8,
 };
 
-/// The last child of a full root over leaf nodes can't be split. Under the root of three levels there is room for it.
 fn grows<const LEN: usize>(
     rt: &impl Abort,
     alloc: Global,
@@ -103,15 +104,34 @@ fn grows<const LEN: usize>(
 ) -> Result<(), AllocError>
     requires { IsLen LEN }
 {
-    let mut tree = Planted::<LeafNodeOf<u64, LEN>, 1, LEN>::new(alloc, 1, 1)?;
-    take(rt, &mut tree, growth.first)?;
-    let mut tree = split_root::<1, 2, LEN>(tree.through_node())?;
-    take(rt, &mut tree, growth.second)?;
+    let mut tree = Numbers::<LeafNodeOf<u64, LEN>, 1, LEN>::new(alloc)?;
+    take(rt, &mut tree, &[growth.first])?;
+    grows_higher(rt, split_root(tree)?, growth)
+}
+
+/// The last child of a full root over leaf nodes can't be split. Under a new root there is room for it.
+fn grows_higher<const LEN: usize>(
+    rt: &impl Abort,
+    tree: Numbers<InternalNodeOf<u64, LEN>, 2, LEN>,
+    growth: &Growth,
+) -> Result<(), AllocError>
+    requires { IsLen LEN }
+{
+    let mut tree = tree;
+    take(rt, &mut tree, &[growth.second])?;
     assert!(rt; !tree.split_last()?);
-    let mut tree = split_root::<2, 3, LEN>(tree.through_node())?;
+    shrinks(rt, split_root(tree)?, growth)
+}
+
+/// Splits the last child of a root of three levels, and removes keys until one child is left.
+fn shrinks<const LEN: usize>(
+    rt: &impl Abort,
+    tree: Numbers<NodeOf<u64, LEN>, 3, LEN>,
+    growth: &Growth,
+) -> Result<(), AllocError> {
+    let mut tree = tree;
     assert!(rt; tree.split_last()?);
-    let mut tree = tree.through_node();
-    take(rt, &mut tree, growth.third)?;
+    take(rt, &mut tree, &[growth.third])?;
     assert_eq!(rt;
         cleanup_root(tree),
         (Some(true), growth.leaves, growth.nodes)
@@ -129,8 +149,29 @@ fn grows_to_three_levels(rt: HostRuntime) {
     );
 }
 
+/// A leaf node of fifteen slots over 240 ascending keys, which go one by one.
+static FILLED_AND_EMPTIED: [Step; 7] = [
+    Step::Insert(0, 239, 0, Told::Success),
+    Step::Insert(240, 240, 7, Told::Full),
+    Step::Shape(1, 16, 1),
+    Step::Insert(100, 100, 7, Told::Duplicate),
+    Step::Drain(0, 238, RemoveResult::Success),
+    Step::Drain(239, 239, RemoveResult::Retired),
+    Step::Shape(1, 0, 1),
+];
+
+fn fills_and_empties(rt: &impl Abort, alloc: Global) -> Result<(), AllocError> {
+    let mut tree = Numbers::<LeafNodeOf<u64, 15>, 1, 15>::new(alloc)?;
+    take(rt, &mut tree, &[&FILLED_AND_EMPTIED])
+}
+
+#[test]
+fn a_leaf_node_fills_and_empties(rt: HostRuntime) {
+    assert!(rt; succeeds(|| fills_and_empties(&rt, rt.alloc())));
+}
+
 static FULL: [Step; 2] = [
-    Step::Insert(2, 240, 0, Told::Success),
+    Step::Insert(1, 240, 0, Told::Success),
     Step::Shape(2, 16, 2),
 ];
 
@@ -142,7 +183,7 @@ static DIVIDED: [Step; 5] = [
     Step::Shape(2, 31, 3),
 ];
 
-static SMALL_FULL: [Step; 2] = [Step::Insert(2, 56, 0, Told::Success), Step::Shape(2, 8, 2)];
+static SMALL_FULL: [Step; 2] = [Step::Insert(1, 56, 0, Told::Success), Step::Shape(2, 8, 2)];
 
 static SMALL_DIVIDED: [Step; 5] = [
     Step::Shape(2, 8, 3),
@@ -162,10 +203,19 @@ fn divides<const LEN: usize>(
 ) -> Result<(), AllocError>
     requires { IsLen LEN }
 {
-    let mut tree = internal_root::<LEN>(alloc, 1, 1)?;
-    take(rt, &mut tree, full)?;
+    let mut tree = internal_root::<LEN>(alloc)?;
+    divides_last(rt, &mut tree, full, divided)
+}
+
+fn divides_last<const LEN: usize>(
+    rt: &impl Abort,
+    tree: &mut Numbers<InternalNodeOf<u64, LEN>, 2, LEN>,
+    full: &[Step],
+    divided: &[Step],
+) -> Result<(), AllocError> {
+    take(rt, tree, &[full])?;
     assert!(rt; tree.split_last()?);
-    take(rt, &mut tree, divided)
+    take(rt, tree, &[divided])
 }
 
 #[test]

@@ -8,8 +8,8 @@ mod growth;
 #[cfg(test)]
 mod planted;
 #[cfg(test)]
-mod ranges;
-#[cfg(test)]
 mod searches;
 #[cfg(test)]
 mod steps;
+#[cfg(test)]
+mod texts;

@@ -11,55 +11,66 @@ use crate::searches::Searched;
 use std::alloc::{AllocError, Global};
 use std::marker::{Model, PhantomData};
 use std::ops::Bound;
-use tree_array::array::{InsertResult, Judge, RemoveResult};
+use tree_array::array::{IndexKey, InsertResult, Judge, RemoveResult};
 use tree_calls::internal_node_calls::InternalNodeCalls;
 use tree_calls::node_calls::NodeCalls;
 use tree_calls::root_calls::RootCalls;
-use tree_insert::planting::plant;
 use tree_leaf::arena::NodeId;
+use tree_leaf::leaf::LeafOf;
 use tree_node::internal_node::InternalNodeOf;
+use tree_node::leaf_node::LeafNodeOf;
 use tree_node::node::{ArenasOf, NodeOf};
 
 /// A tree that is called through the node type `N`. Its root stands at this level, or is retired.
 #[derive(Drop)]
-pub(crate) struct Planted<N: NodeCalls<u64, LEN> + Drop, const LEVEL: usize, const LEN: usize> {
-    arenas: ArenasOf<u64, u64, LEN>,
+pub(crate) struct Planted<
+    K: IndexKey,
+    V: Drop,
+    N: NodeCalls<K, LEN> + Drop,
+    const LEVEL: usize,
+    const LEN: usize,
+> {
+    arenas: ArenasOf<K, V, LEN>,
     root: NodeId,
     calls: PhantomData<N>,
 }
 
-impl<N, const LEVEL: usize, const LEN: usize> Model for Planted<N, LEVEL, LEN>
+/// A tree of numbers.
+pub(crate) type Numbers<N, const LEVEL: usize, const LEN: usize> = Planted<u64, u64, N, LEVEL, LEN>;
+
+impl<K, V, N, const LEVEL: usize, const LEN: usize> Model for Planted<K, V, N, LEVEL, LEN>
 where
-    N: NodeCalls<u64, LEN> + Drop,
+    K: IndexKey,
+    V: Drop,
+    N: NodeCalls<K, LEN> + Drop,
 {
     ghost use Rattle.std.specs.Prelude.{⊤};
-    ghost use Rattle.std.specs.Ordering.{nat_cmp};
     ghost use Rattle.node_tests.specs.Planted.{IsPlanted};
 
     ghost Value = { ⊤ };
 
     ghost view = { λ _. tt };
 
-    ghost invariant = { λ a. N.StandsAt LEVEL × IsPlanted nat_cmp LEVEL a.arenas a.root };
+    ghost invariant = { λ a. N.StandsAt LEVEL × IsPlanted K.cmp LEVEL a.arenas a.root };
 }
 
-impl<N, const LEVEL: usize, const LEN: usize> Planted<N, LEVEL, LEN>
+impl<K, V, N, const LEVEL: usize, const LEN: usize> Planted<K, V, N, LEVEL, LEN>
 where
-    N: NodeCalls<u64, LEN> + Drop,
+    K: IndexKey,
+    V: Drop,
+    N: NodeCalls<K, LEN> + Drop,
 {
     ghost use Rattle.std.specs.Prelude.{◌≡◌};
     ghost use Rattle.tree_array.specs.Length.{IsLen};
 
-    /// A leaf node over one leaf, which holds this pair alone.
-    pub(crate) fn new(alloc: Global, key: u64, val: u64) -> Result<Self, AllocError>
+    /// A leaf node over one empty leaf.
+    pub(crate) fn new(alloc: Global) -> Result<Self, AllocError>
         requires len { IsLen LEN }
         requires level { LEVEL ≡ 1 }
         requires kind { N.StandsAt LEVEL }
     {
         let mut arenas = ArenasOf::new(alloc);
-        let Ok(root) = plant(&mut arenas, None, key, val) else {
-            return Err(AllocError);
-        };
+        let root = first_root(&mut arenas)?;
         Ok(Planted {
             arenas,
             root,
@@ -69,22 +80,27 @@ where
 
     pub(crate) fn insert<const UPSERT: bool>(
         &mut self,
-        key: u64,
-        val: u64,
-    ) -> Result<InsertResult<u64, u64>, (u64, u64)> {
-        N::insert::<UPSERT, u64>(&mut self.arenas, self.root, key, val)
+        key: K,
+        val: V,
+    ) -> Result<InsertResult<K, V>, (K, V)> {
+        N::insert::<UPSERT, V>(&mut self.arenas, self.root, key, val)
     }
 
-    pub(crate) fn remove_if<F: FnOnce(&u64) -> bool + Drop>(
+    pub(crate) fn remove_if<F: FnOnce(&V) -> bool + Drop>(
         &mut self,
-        key: &u64,
+        key: &K,
         condition: F,
     ) -> RemoveResult
-        requires { F.IsAlwaysCallable condition }
+        requires callable { F.IsAlwaysCallable condition }
     {
         N::remove_if(&mut self.arenas, self.root, key, condition)
     }
+}
 
+impl<N, const LEVEL: usize, const LEN: usize> Numbers<N, LEVEL, LEN>
+where
+    N: NodeCalls<u64, LEN> + Drop,
+{
     /// Removes the pairs whose keys are within the bounds, and returns how many children the root has left.
     pub(crate) fn remove_range(&mut self, low: Bound<&u64>, high: Bound<&u64>) -> usize {
         N::remove_range(&mut self.arenas, self.root, (low, high))
@@ -114,16 +130,6 @@ where
         (retired, N::cleanup_needed(&self.arenas, self.root))
     }
 
-    /// The same tree, called through `Node`.
-    pub(crate) fn through_node(self) -> Planted<NodeOf<u64, LEN>, LEVEL, LEN> {
-        let Planted { arenas, root, .. } = self;
-        Planted {
-            arenas,
-            root,
-            calls: PhantomData,
-        }
-    }
-
     /// Makes room in the unbounded child of an internal root, and says whether it could.
     pub(crate) fn split_last(&mut self) -> Result<bool, AllocError> {
         let NodeOf::Internal(node) = self.arenas.node(self.root) else {
@@ -136,7 +142,7 @@ where
     }
 }
 
-impl<N, const LEVEL: usize, const LEN: usize> Searched for Planted<N, LEVEL, LEN>
+impl<N, const LEVEL: usize, const LEN: usize> Searched for Numbers<N, LEVEL, LEN>
 where
     N: NodeCalls<u64, LEN> + Drop,
 {
@@ -148,6 +154,22 @@ where
         let val = N::search_value(&self.arenas, self.root, judge);
         (pair, val.copied())
     }
+}
+
+/// Adds a leaf node over one empty leaf to empty arenas.
+fn first_root<K: IndexKey, V: Drop, const LEN: usize>(
+    arenas: &mut ArenasOf<K, V, LEN>,
+) -> Result<NodeId, AllocError>
+    requires len { IsLen LEN }
+    ensures { IfOk result (λ id. IsPlanted K.cmp 1 arenas.new id) }
+{
+    let Ok(leaf) = arenas.add_leaf(LeafOf::new()) else {
+        return Err(AllocError);
+    };
+    let Ok(root) = arenas.add_node(NodeOf::Leaf(LeafNodeOf::new(leaf))) else {
+        return Err(AllocError);
+    };
+    Ok(root)
 }
 
 /// Splits a root, and returns the new root. `Err` if memory is refused, or if the root is retired.
@@ -165,11 +187,16 @@ fn raise<const LEVEL: usize, const LEN: usize>(
     NodeOf::split_root(arenas, root)
 }
 
-/// Splits the root, and returns the tree of one more level. `Err` if memory is refused, or if the root is retired.
-pub(crate) fn split_root<const LEVEL: usize, const HIGHER: usize, const LEN: usize>(
-    tree: Planted<NodeOf<u64, LEN>, LEVEL, LEN>,
-) -> Result<Planted<InternalNodeOf<u64, LEN>, HIGHER, LEN>, AllocError>
-    requires { HIGHER ≡ LEVEL + 1 }
+/// Splits the root, and returns the tree of one more level, to be called through `M`. `Err` if memory is refused, or if
+/// the root is retired.
+pub(crate) fn split_root<N, M, const LEVEL: usize, const HIGHER: usize, const LEN: usize>(
+    tree: Numbers<N, LEVEL, LEN>,
+) -> Result<Numbers<M, HIGHER, LEN>, AllocError>
+where
+    N: NodeCalls<u64, LEN> + Drop,
+    M: NodeCalls<u64, LEN> + Drop,
+    requires level { HIGHER ≡ LEVEL + 1 }
+    requires kind { M.StandsAt HIGHER }
 {
     let Planted {
         mut arenas,
@@ -184,16 +211,14 @@ pub(crate) fn split_root<const LEVEL: usize, const HIGHER: usize, const LEN: usi
     })
 }
 
-/// An internal root over one leaf node, under which one leaf holds this pair alone.
+/// An internal root over one leaf node, under which one leaf stands empty.
 pub(crate) fn internal_root<const LEN: usize>(
     alloc: Global,
-    key: u64,
-    val: u64,
-) -> Result<Planted<InternalNodeOf<u64, LEN>, 2, LEN>, AllocError>
+) -> Result<Numbers<InternalNodeOf<u64, LEN>, 2, LEN>, AllocError>
     requires { IsLen LEN }
 {
-    let tree = Planted::<NodeOf<u64, LEN>, 1, LEN>::new(alloc, key, val)?;
-    split_root::<1, 2, LEN>(tree)
+    let tree = Numbers::<LeafNodeOf<u64, LEN>, 1, LEN>::new(alloc)?;
+    split_root(tree)
 }
 
 /// Splits a retired root, and says whether it kept its number. `Ok(false)` if it isn't retired.
@@ -214,7 +239,7 @@ fn replant<const LEVEL: usize, const LEN: usize>(
 
 /// Splits a leaf node that is a retired root, and says whether it kept its number. `Ok(false)` if it isn't retired.
 pub(crate) fn replants<const LEN: usize>(
-    tree: &mut Planted<NodeOf<u64, LEN>, 1, LEN>,
+    tree: &mut Numbers<LeafNodeOf<u64, LEN>, 1, LEN>,
 ) -> Result<bool, AllocError> {
     replant::<1, LEN>(&mut tree.arenas, tree.root)
 }
@@ -233,9 +258,12 @@ fn lower<const LEVEL: usize, const LEN: usize>(
 
 /// Cleans up at the root. Returns whether the root moved, or `None` if no root is left, and how many leaves and nodes there
 /// are then.
-pub(crate) fn cleanup_root<const LEVEL: usize, const LEN: usize>(
-    tree: Planted<NodeOf<u64, LEN>, LEVEL, LEN>,
-) -> (Option<bool>, usize, usize) {
+pub(crate) fn cleanup_root<N, const LEVEL: usize, const LEN: usize>(
+    tree: Numbers<N, LEVEL, LEN>,
+) -> (Option<bool>, usize, usize)
+where
+    N: NodeCalls<u64, LEN> + Drop,
+{
     let Planted {
         mut arenas,
         root,

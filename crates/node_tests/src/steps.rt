@@ -1,5 +1,5 @@
 //! Calls of a tree in rows, each with its answer.
-use crate::planted::Planted;
+use crate::planted::Numbers;
 use crate::searches::finds;
 use Told::{Duplicate, Full, Success};
 use std::alloc::AllocError;
@@ -35,6 +35,8 @@ pub(crate) enum Step {
     Upsert(u64, u64, u64, Told),
     /// Removes the keys from the last to the first, on the condition that they have this value.
     Remove(u64, u64, u64, RemoveResult),
+    /// Removes the keys from the first to the last, whatever their values.
+    Drain(u64, u64, RemoveResult),
     /// Removes the keys within both bounds. The root has this many children left.
     RemoveRange(Bound<u64>, Bound<u64>, usize),
     /// Finds the value at a key.
@@ -47,21 +49,23 @@ pub(crate) enum Step {
     Marks(bool, bool),
 }
 
-/// Takes the steps in turn, each with its answer. `Err` if memory is refused.
+/// Takes the steps of each list in turn, each with its answer. `Err` if memory is refused.
 pub(crate) fn take<N: NodeCalls<u64, LEN> + Drop, const LEVEL: usize, const LEN: usize>(
     rt: &impl Abort,
-    tree: &mut Planted<N, LEVEL, LEN>,
-    steps: &[Step],
+    tree: &mut Numbers<N, LEVEL, LEN>,
+    lists: &[&[Step]],
 ) -> Result<(), AllocError> {
-    for step in steps {
-        assert!(rt; answers(tree, step)?);
+    for steps in lists {
+        for step in *steps {
+            assert!(rt; answers(tree, step)?);
+        }
     }
     Ok(())
 }
 
 /// Whether the tree answers the step so.
 fn answers<N: NodeCalls<u64, LEN> + Drop, const LEVEL: usize, const LEN: usize>(
-    tree: &mut Planted<N, LEVEL, LEN>,
+    tree: &mut Numbers<N, LEVEL, LEN>,
     step: &Step,
 ) -> Result<bool, AllocError> {
     match step {
@@ -72,6 +76,7 @@ fn answers<N: NodeCalls<u64, LEN> + Drop, const LEVEL: usize, const LEN: usize>(
             inserts::<true, N, LEVEL, LEN>(tree, *first, *last, *more, told)
         }
         Step::Remove(first, last, more, told) => Ok(removes(tree, *first, *last, *more, told)),
+        Step::Drain(first, last, told) => Ok(drains(tree, *first, *last, told)),
         Step::RemoveRange(low, high, left) => {
             Ok(tree.remove_range(low.as_ref(), high.as_ref()) == *left)
         }
@@ -84,7 +89,7 @@ fn answers<N: NodeCalls<u64, LEN> + Drop, const LEVEL: usize, const LEN: usize>(
 
 /// Whether each insert answers this. Where memory is refused, the pair comes back.
 fn inserts<const UPSERT: bool, N: NodeCalls<u64, LEN> + Drop, const LEVEL: usize, const LEN: usize>(
-    tree: &mut Planted<N, LEVEL, LEN>,
+    tree: &mut Numbers<N, LEVEL, LEN>,
     first: u64,
     last: u64,
     more: u64,
@@ -103,7 +108,7 @@ fn inserts<const UPSERT: bool, N: NodeCalls<u64, LEN> + Drop, const LEVEL: usize
 
 /// Whether each removal answers this.
 fn removes<N: NodeCalls<u64, LEN> + Drop, const LEVEL: usize, const LEN: usize>(
-    tree: &mut Planted<N, LEVEL, LEN>,
+    tree: &mut Numbers<N, LEVEL, LEN>,
     first: u64,
     last: u64,
     more: u64,
@@ -112,6 +117,21 @@ fn removes<N: NodeCalls<u64, LEN> + Drop, const LEVEL: usize, const LEN: usize>(
     for key in (first..=last).rev() {
         let val = key.wrapping_add(more);
         if tree.remove_if(&key, |at_key| *at_key == val) != *told {
+            return false;
+        }
+    }
+    true
+}
+
+/// Whether each removal of a key answers this, in ascending order.
+fn drains<N: NodeCalls<u64, LEN> + Drop, const LEVEL: usize, const LEN: usize>(
+    tree: &mut Numbers<N, LEVEL, LEN>,
+    first: u64,
+    last: u64,
+    told: &RemoveResult,
+) -> bool {
+    for key in first..=last {
+        if tree.remove_if(&key, |_| true) != *told {
             return false;
         }
     }

@@ -7,32 +7,8 @@ split_root-requires g c = elim c.requires [
   | inr fifteen ↦ rw fifteen (search rules)
 ]
 
-pub split_root-requires-2 : goal.split_root-requires-2
-split_root-requires-2 g c = elim c.requires [
-  | inl seven ↦ rw seven (search rules)
-  | inr fifteen ↦ rw fifteen (search rules)
-]
-
-pub through_node-requires : goal.through_node-requires
-through_node-requires g c = elim c.requires [
-  | inl seven ↦ rw seven (search rules)
-  | inr fifteen ↦ rw fifteen (search rules)
-]
-
-pub through_node-requires-2 : goal.through_node-requires-2
-through_node-requires-2 g c = elim c.requires [
-  | inl seven ↦ rw seven (search rules)
-  | inr fifteen ↦ rw fifteen (search rules)
-]
-
-pub through_node-tree-requires : goal.through_node-tree-requires
-through_node-tree-requires g c = elim c.requires [
-  | inl seven ↦ rw seven (search rules)
-  | inr fifteen ↦ rw fifteen (search rules)
-]
-
-pub cleanup_root-requires : goal.cleanup_root-requires
-cleanup_root-requires g c = elim c.requires [
+pub grows_higher-requires : goal.grows_higher-requires
+grows_higher-requires g c = elim c.requires [
   | inl seven ↦ rw seven (search rules)
   | inr fifteen ↦ rw fifteen (search rules)
 ]

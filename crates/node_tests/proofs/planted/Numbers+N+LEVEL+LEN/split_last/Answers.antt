@@ -3,7 +3,7 @@ use Rattle.node_tests.proofs.Plantings.{planted_stands, internal_part, planted_b
 use Rattle.std.specs.Ordering.{nat_cmp}
 use Rattle.tree_node.proofs.Levels.{node_at}
 use Rattle.tree_node.proofs.Sizes.{fits}
-use Rattle.node_tests.proofs.planted.Planted.split_last.Goals as goal
+use Rattle.node_tests.proofs.planted.Numbers+N+LEVEL+LEN.split_last.Goals as goal
 
 pub node-requires : goal.node-requires
 node-requires g c =

@@ -1,4 +1,4 @@
-use Rattle.node_tests.proofs.planted.Planted.marks.Given as goal
+use Rattle.node_tests.proofs.planted.Numbers+N+LEVEL+LEN.marks.Given as goal
 
 abbrev pub ghost-is_retired : goal.ghost-is_retired
 ghost-is_retired g a = g.row.LEVEL

@@ -1,4 +1,4 @@
-use Rattle.node_tests.proofs.planted.PlantedSearched.search.Given as goal
+use Rattle.node_tests.proofs.planted.NumbersSearched.search.Given as goal
 
 abbrev pub ghost-search_entry : goal.ghost-search_entry
 ghost-search_entry g a = g.row.LEVEL

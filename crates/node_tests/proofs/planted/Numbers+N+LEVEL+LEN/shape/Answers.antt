@@ -2,7 +2,7 @@ use Rattle.node_tests.proofs.Plantings.{planted_stands}
 use Rattle.std.proofs.Common.{rules}
 use Rattle.std.specs.Ordering.{nat_cmp}
 use Rattle.tree_node.proofs.Sizes.{fits}
-use Rattle.node_tests.proofs.planted.Planted.shape.Goals as goal
+use Rattle.node_tests.proofs.planted.Numbers+N+LEVEL+LEN.shape.Goals as goal
 
 pub depth-depth-requires : goal.depth-depth-requires
 depth-depth-requires g c κs within =

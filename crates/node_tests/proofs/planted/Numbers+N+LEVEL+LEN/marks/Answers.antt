@@ -2,7 +2,7 @@ use Rattle.node_tests.proofs.Plantings.{planted_stands}
 use Rattle.std.proofs.Common.{rules}
 use Rattle.std.specs.Ordering.{nat_cmp}
 use Rattle.tree_node.proofs.Sizes.{fits}
-use Rattle.node_tests.proofs.planted.Planted.marks.Goals as goal
+use Rattle.node_tests.proofs.planted.Numbers+N+LEVEL+LEN.marks.Goals as goal
 
 pub is_retired-retired-requires : goal.is_retired-retired-requires
 is_retired-retired-requires g c κs within =

@@ -2,7 +2,7 @@ use Rattle.node_tests.proofs.Plantings.{planted_stands}
 use Rattle.std.proofs.Common.{rules}
 use Rattle.std.specs.Ordering.{nat_cmp}
 use Rattle.tree_node.proofs.Sizes.{fits}
-use Rattle.node_tests.proofs.planted.PlantedSearched.search.Goals as goal
+use Rattle.node_tests.proofs.planted.NumbersSearched.search.Goals as goal
 
 pub search_entry-requires : goal.search_entry-requires
 search_entry-requires g c κs within =

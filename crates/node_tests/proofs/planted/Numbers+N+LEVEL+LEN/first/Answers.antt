@@ -2,7 +2,7 @@ use Rattle.node_tests.proofs.Plantings.{planted_stands, planted_linked}
 use Rattle.std.proofs.Common.{rules}
 use Rattle.std.specs.Ordering.{nat_cmp}
 use Rattle.tree_node.proofs.Sizes.{fits}
-use Rattle.node_tests.proofs.planted.Planted.first.Goals as goal
+use Rattle.node_tests.proofs.planted.Numbers+N+LEVEL+LEN.first.Goals as goal
 
 pub min-requires : goal.min-requires
 min-requires g c κs within =

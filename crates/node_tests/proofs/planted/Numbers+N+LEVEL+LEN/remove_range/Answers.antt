@@ -2,7 +2,7 @@ use Rattle.node_tests.proofs.Plantings.{planted_given, planted_by_cut}
 use Rattle.std.proofs.Common.{rules}
 use Rattle.std.specs.Ordering.{nat_cmp}
 use Rattle.tree_node.proofs.Sizes.{fits}
-use Rattle.node_tests.proofs.planted.Planted.remove_range.Goals as goal
+use Rattle.node_tests.proofs.planted.Numbers+N+LEVEL+LEN.remove_range.Goals as goal
 
 pub remove_range-requires : goal.remove_range-requires
 remove_range-requires g c κs within =

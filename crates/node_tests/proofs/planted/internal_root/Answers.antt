@@ -1,8 +1,0 @@
-use Rattle.std.proofs.Common.{rules, inl, inr}
-use Rattle.node_tests.proofs.planted.internal_root.Goals as goal
-
-pub split_root-requires : goal.split_root-requires
-split_root-requires g c = elim c.requires [
-  | inl seven ↦ rw seven (search rules)
-  | inr fifteen ↦ rw fifteen (search rules)
-]
