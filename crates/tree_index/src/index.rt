@@ -293,7 +293,12 @@ impl<K: IndexKey + fmt::Debug, V: Drop + fmt::Debug, const LEN: usize> fmt::Debu
     fn fmt<W: fmt::Write>(&self, f: &mut fmt::Formatter<W>) -> fmt::Result {
         let depth = self.depth();
         write!(f, "TreeIndex {{ depth: {depth}, entries: ")?;
-        f.debug_list().entries(self).finish()?;
+        let mut list = f.debug_list();
+        let mut pairs = self.iter();
+        while let Some(pair) = pairs.next() {
+            list.entry(&pair);
+        }
+        list.finish()?;
         write!(f, " }}")
     }
 }
