@@ -32,6 +32,11 @@ use Rattle.tree_cursors.specs.declared.end.End.{End}
 use Rattle.tree_cursors.specs.declared.end.End.TheVariants.{Unopened, At, Exhausted}
 use Rattle.tree_cursors.specs.View.{EndStands, GoesOn, Stands, end_of, place_at, place_in, place_of}
 
+-- without a pair an end goes nowhere
+pub goes_nowhere : {K : Type 0} (V : Type 0) (cmp : K → K → Ordering) (way : Way) (bound : Bound K) → exhausted ≡ next_end {V = V} cmp way bound [] unopened
+goes_nowhere V cmp On bound = refl
+goes_nowhere V cmp Back bound = refl
+
 -- elements of joined lists
 get_left : {X : Type 0} (xs ys : List X) (i : ℕ) (x : X) → slice_get xs i ≡ Some x → slice_get (xs ++ ys) i ≡ Some x
 get_left [] ys i x is = absurd (cc)
