@@ -128,7 +128,7 @@ pub(crate) fn two_insert<
     };
     assert!(rt; closed.tally == wanted);
     assert!(rt; closed.index.len() == 100);
-    assert!(rt; replays(alloc, &closed.history, 100)?);
+    assert!(rt; replays(alloc, &closed.history, &closed.index)?);
     assert!(rt; ends_with_look_ups(&closed.history));
     Ok(())
 }
@@ -183,7 +183,7 @@ pub(crate) fn eight_race<
     };
     assert!(rt; closed.tally.calls == 2400 && closed.tally.stored >= 900);
     assert!(rt; closed.index.is_empty());
-    assert!(rt; replays(alloc, &closed.history, 0)?);
+    assert!(rt; replays(alloc, &closed.history, &closed.index)?);
     for number in 0..8 {
         assert!(rt; has_calls_of(&closed.history, number));
     }
