@@ -17,10 +17,10 @@ use tree_index::Command;
 use tree_shared::{Pass, SharedTreeIndex};
 
 impl<C: Ledger, S: Ledger, M: Ledger, F: Ledger, D: Ledger> Racer<C, S, M, F, D> {
-    // Removes and inserts the keys from 1 to 40 in turn, ten times.
+    // Removes and inserts the keys from 1 to 40 in turn, fifty times.
     fn write<R: Wait>(mut self, rt: &R, shared: &SharedTreeIndex<u64, u64, C, S, M, F, D>) -> Self {
-        for step in 0..400 {
-            if self.pass.tally().calls > 1000 {
+        for step in 0..2000 {
+            if self.pass.tally().calls > 10_000 {
                 break;
             }
             let key = step % 40 + 1;
@@ -30,10 +30,10 @@ impl<C: Ledger, S: Ledger, M: Ledger, F: Ledger, D: Ledger> Racer<C, S, M, F, D>
         self
     }
 
-    // Removes the keys above 10 up to 30, 200 times, and after each tenth time all.
+    // Removes the keys above 10 up to 30, 2,000 times, and after each tenth time all.
     fn cut<R: Wait>(mut self, rt: &R, shared: &SharedTreeIndex<u64, u64, C, S, M, F, D>) -> Self {
-        for step in 1..=200u64 {
-            if self.pass.tally().calls > 1000 {
+        for step in 1..=2000u64 {
+            if self.pass.tally().calls > 10_000 {
                 break;
             }
             let bounds = (Bound::Excluded(&10), Bound::Included(&30));
@@ -77,10 +77,10 @@ pub(crate) fn range_race<
     let Some(closed) = closed_with(shared, passes_of(alloc, racers)?) else {
         panic!(rt; "not closed")
     };
-    assert!(rt; closed.tally.calls == 2620 && closed.tally.done == 220);
+    assert!(rt; closed.tally.calls == 14_200 && closed.tally.done == 2_200);
     let cut = Command::RemoveRange(Bound::Excluded(10), Bound::Included(30));
-    assert!(rt; count(&closed.history, &cut) == 200);
-    assert!(rt; count(&closed.history, &Command::Clear) == 20);
+    assert!(rt; count(&closed.history, &cut) == 2_000);
+    assert!(rt; count(&closed.history, &Command::Clear) == 200);
     assert!(rt; replays(alloc, &closed.history, &closed.index)?);
     Ok(())
 }
