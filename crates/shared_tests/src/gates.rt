@@ -158,13 +158,13 @@ impl<R: Clock> Gate for Relay<R> {
         if worker == 1 && call == 2 {
             self.went_on.store(true, Ordering::SeqCst);
         }
-        worker != 1 || call != 1 || is_raised(&self.rt, &self.told, 10_000)
+        worker != 1 || call != 1 || is_raised(&self.rt, &self.told, 3_000)
     }
 
     fn after(&self, worker: usize, call: u64) {
         if worker == 0 && call == 2 {
             self.told.store(true, Ordering::SeqCst);
-            is_raised(&self.rt, &self.went_on, 10_000);
+            is_raised(&self.rt, &self.went_on, 3_000);
         }
     }
 }

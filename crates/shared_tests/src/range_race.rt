@@ -66,7 +66,8 @@ pub(crate) fn range_race<
         rt,
         racers(alloc, passes)?,
         &|racer| {
-            assert!(rt; all_meet(rt, &here, 4));
+            let mut racer = racer;
+            racer.served = all_meet(rt, &here, 4);
             if racer.number < 3 {
                 racer.write(rt, index)
             } else {
