@@ -301,6 +301,11 @@ module _ {K V : Type 0} {cmp : K → K → Ordering} (o : IsTotalOrder cmp) wher
   ended way [] c ascending held = tt
   ended way (m ∷ moves) c ascending held = (after_none way m moves c ascending held, ended way moves (after cmp m c) (ascends_after cmp m c ascending) (holds_after cmp way m c held))
 
+  -- what holds of the cursor before the first move, told by the first move
+  pub inside_from : (i : ℕ) (start now : Cursor K V) → (i ≡ 0 → now ≡ start) → (1 ≤ i → StandsInside start.pairs start.backward) → StandsInside now.pairs now.backward → StandsInside start.pairs start.backward
+  inside_from zero start now first later inside = rw (first refl) at inside
+  inside_from (suc i) start now first later inside = later (omega arith)
+
   -- the same once all moves are made
   pub ended_all : (way : Way) (moves : List Move) (i : ℕ) (start now : Cursor K V) (given : List (Told K V)) → given ++ answers cmp (drop i moves) now ≡ answers cmp moves start → length moves ≤ i
       → (1 ≤ i → IsAscending cmp start.pairs) → (1 ≤ i → Holds way start.pairs (end_on way start)) → Ended (move_on way) moves given
