@@ -9,8 +9,6 @@ mod gates;
 #[cfg(test)]
 mod one_worker;
 #[cfg(test)]
-mod range_race;
-#[cfg(test)]
 mod refusals;
 #[cfg(test)]
 mod replay;

@@ -4,7 +4,6 @@ ghost use Rattle.tree_shared.specs.Ledgers.{IsBlankFor};
 
 use crate::closing::{closes_with_all_passes, closes_without_workers, parts_while_a_pass_is_out};
 use crate::one_worker::each_call;
-use crate::range_race::range_race;
 use crate::refusals::refused_calls;
 use crate::threads::{eight_race, two_insert};
 use std::alloc::{AllocError, Global};
@@ -27,7 +26,6 @@ pub(crate) enum Scenario {
     Refusals,
     TwoInsert,
     EightRace,
-    RangeRace,
 }
 
 /// Plays a scenario for so many workers, with ledgers of its own.
@@ -74,7 +72,6 @@ fn play_with<
         Scenario::EachCall => each_call(rt, shared, passes),
         Scenario::TwoInsert => two_insert(rt, alloc, shared, passes),
         Scenario::EightRace => eight_race(rt, alloc, shared, passes),
-        Scenario::RangeRace => range_race(rt, alloc, shared, passes),
         Scenario::Refusals => Ok(()),
     }
 }

@@ -159,12 +159,10 @@ static CUTS: [Cut; 2] = [(241, 225, 2, 1), (3616, 3375, 3, 2)];
 static SMALL_CUTS: [Cut; 2] = [(57, 49, 2, 1), (400, 343, 3, 2)];
 
 /// Whether a cut leaves this depth.
-fn leaves_depth<const LEN: usize>(
-    alloc: Global,
-    (last, cut, grown, left): Cut,
-) -> Result<bool, AllocError>
+fn leaves_depth<const LEN: usize>(alloc: Global, row: Cut) -> Result<bool, AllocError>
     requires { IsLen LEN }
 {
+    let (last, cut, grown, left) = row;
     let mut index: TreeIndexOf<u64, u64, LEN> = TreeIndexOf::new(alloc);
     grow(&mut index, 1, last)?;
     let before = index.depth();
