@@ -1,8 +1,5 @@
 //! How deep a tree is, and how many leaves and nodes it has, as the rules of splits and of removals give it.
-ghost use Rattle.tree_array.specs.Length.{IsLen};
-
 use std::alloc::{AllocError, Global};
-use std::ops::Bound;
 use std::process::Abort;
 use test_support::refusals::succeeds;
 use tree_index::{TreeIndex, TreeIndexOf};
@@ -148,40 +145,4 @@ fn drops_leaves_and_lowers_its_root(rt: HostRuntime) {
     for row in &ROWS {
         assert!(rt; succeeds(|| expect_row(&rt, rt.alloc(), row)));
     }
-}
-
-/// Ascending keys from 1 on up to a number, the greatest key that is cut off, and the depths before and after.
-type Cut = (u64, u64, usize, usize);
-
-/// What is left stands under the unbounded child of the root alone, which takes the root's place.
-static CUTS: [Cut; 2] = [(241, 225, 2, 1), (3616, 3375, 3, 2)];
-
-static SMALL_CUTS: [Cut; 2] = [(57, 49, 2, 1), (400, 343, 3, 2)];
-
-/// Whether a cut leaves this depth.
-fn leaves_depth<const LEN: usize>(alloc: Global, row: Cut) -> Result<bool, AllocError>
-    requires { IsLen LEN }
-{
-    let (last, cut, grown, left) = row;
-    let mut index: TreeIndexOf<u64, u64, LEN> = TreeIndexOf::new(alloc);
-    grow(&mut index, 1, last)?;
-    let before = index.depth();
-    index.remove_range_sync((Bound::Unbounded, Bound::Included(&cut)));
-    let rest = index.len() as u64;
-    Ok(before == grown && index.depth() == left && rest == last.saturating_sub(cut))
-}
-
-fn cuts_leave_depths(rt: &impl Abort, alloc: Global) -> Result<(), AllocError> {
-    for row in &CUTS {
-        assert!(rt; leaves_depth::<15>(alloc, *row)?);
-    }
-    for row in &SMALL_CUTS {
-        assert!(rt; leaves_depth::<7>(alloc, *row)?);
-    }
-    Ok(())
-}
-
-#[test]
-fn a_cut_lowers_its_root(rt: HostRuntime) {
-    assert!(rt; succeeds(|| cuts_leave_depths(&rt, rt.alloc())));
 }
