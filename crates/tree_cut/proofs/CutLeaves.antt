@@ -44,6 +44,7 @@ module _ {K V : Type 0} {LEN : ℕ} (cmp : K → K → Ordering) (low high : Bou
           up_to = rw entries (all-filter _ _ leaf.array.entries (rw same at s.up_to));
         };
     replaces = array_replaces a id leaf array was;
+    no_empty = λ before. tt;
   }
 
 pub range_few : {K V : Type 0} (cmp : K → K → Ordering) (low high : Bound K) (old new : Arrivals K V) → new ≡ without_range cmp old low high → length new.entries ≤ length old.entries

@@ -15,7 +15,7 @@ use Rattle.tree_node.specs.Parts.{IsPart, KeepsBounds, Replaces}
 use Rattle.tree_node.specs.Tree.{Stands, children_of, in_turn, keyed, walk}
 use Rattle.tree_node.proofs.Steps.{part_after, replaces_refl, replaces_trans}
 use Rattle.tree_node.proofs.Walks.{walk-children}
-use Rattle.tree_cut.specs.Cuts.{CutsChild, CutsOne, CutsUnder, keyed_of}
+use Rattle.tree_cut.specs.Cuts.{CutsChild, CutsOne, CutsUnder, HasNoEmpty, keyed_of}
 use Rattle.tree_cut.specs.Places.{BeginsAt, EndsAt, Narrows}
 use Rattle.tree_cut.proofs.OneChild.{split_here}
 use Rattle.tree_cut.proofs.Outside.{IsOutside, Met, Missed, Opened, all_drop_take, all_take_take, backs_outside, child_first, fronts_outside, narrowed_cut, take_less, take_more, taken_reach}
@@ -47,6 +47,7 @@ module _ {K V : Type 0} {LEN : ℕ} (cmp : K → K → Ordering) (low high : Bou
     pub counted : gone + length (walk (suc level) now id) ≡ length (walk (suc level) start id)
     pub stands : KeepsBounds cmp (suc level) start now id
     pub replaces : Replaces (suc level) start now (id ∷ []) (id ∷ [])
+    pub no_empty : HasNoEmpty (suc level) start id → HasNoEmpty (suc level) now id
     pub part : IsPart cmp (suc level) now id
     pub upto : place ≤ last + 1
     pub reach : place ≤ length (keyed_of (get now.nodes id)) + 1
@@ -85,6 +86,7 @@ module _ {K V : Type 0} {LEN : ℕ} {cmp : K → K → Ordering} (o : IsTotalOrd
         counted = omega arith;
         stands = λ above below t. t;
         replaces = replaces_refl (suc level) a (id ∷ []);
+        no_empty = λ before. before;
         part = part;
         upto = omega arith;
         reach = omega (arith, ends.within);
@@ -99,7 +101,8 @@ module _ {K V : Type 0} {LEN : ℕ} {cmp : K → K → Ordering} (o : IsTotalOrd
       }
 
   module _ (level : ℕ) (start now new : TreeArenas K V LEN) (id place gone more : ℕ) (state : CutStateAt cmp low high first last level start now id (suc place) gone) (from : first ≤ place)
-      (lo hi : Bound K) (narrow_low : Narrows low lo place first) (narrow_high : Narrows high hi place last) (cuts : CutsOne cmp lo hi level now new id place more) where
+      (lo hi : Bound K) (narrow_low : Narrows low lo place first) (narrow_high : Narrows high hi place last) (cuts : CutsOne cmp lo hi level now new id place more)
+      (no_empty : HasNoEmpty (suc level) now id → HasNoEmpty (suc level) new id) where
     abbrev s : Stands cmp (suc level) now None id None
     s = state.part.stands
 
@@ -163,6 +166,7 @@ module _ {K V : Type 0} {LEN : ℕ} {cmp : K → K → Ordering} (o : IsTotalOrd
           );
       stands = λ above below t. cuts.becomes.stands above below (state.stands above below t);
       replaces = replaces_trans (suc level) start now new (id ∷ []) (id ∷ []) (id ∷ []) state.replaces cuts.becomes.replaces;
+      no_empty = λ before. no_empty (state.no_empty before);
       part = part_after cmp (suc level) now new id state.part still cuts.becomes.replaces;
       upto = omega (arith, state.upto);
       reach = omega (arith, within_new);
@@ -182,7 +186,7 @@ module _ {K V : Type 0} {LEN : ℕ} {cmp : K → K → Ordering} (o : IsTotalOrd
       let front : IsOutside cmp low high (flat_map (walk level now) (take place (children_of now.nodes id))) =
       rw (children_are level now id s) (fronts_outside o low high level now None _ s.last None s.parted place reach missed) in
       let outside : IsOutside cmp low high (walk (suc level) now id) = rw (walk_split level now id s place) (all-append _ _ _ front state.done) in
-      record { pairs = sym (cut_outside cmp low high _ outside) ∙ state.pairs; counted = state.counted; stands = state.stands; replaces = state.replaces }
+      record { pairs = sym (cut_outside cmp low high _ outside) ∙ state.pairs; counted = state.counted; stands = state.stands; replaces = state.replaces; no_empty = state.no_empty }
 
   pub starts : (level : ℕ) (a : TreeArenas K V LEN) (id : ℕ) → 0 < level → IsPart cmp level a id → BeginsAt cmp low (keyed_of (get a.nodes id)) first → EndsAt cmp high (keyed_of (get a.nodes id)) last → CutState cmp low high first last level a a id (last + 1) 0
   starts zero a id inner part begins ends = absurd (omega (arith, inner))
@@ -201,10 +205,10 @@ module _ {K V : Type 0} {LEN : ℕ} {cmp : K → K → Ordering} (o : IsTotalOrd
   state_few (suc level) start now id place gone state = omega (arith, state.counted)
 
   pub steps : (level : ℕ) (start now new : TreeArenas K V LEN) (id place before gone more : ℕ) → CutState cmp low high first last level start now id place gone → suc before ≡ place → first ≤ before
-      → (lo hi : Bound K) → Narrows low lo before first → Narrows high hi before last → CutsChild cmp lo hi level now new id before more → CutState cmp low high first last level start new id before (gone + more)
-  steps zero start now new id place before gone more state is from lo hi narrow_low narrow_high cuts = absurd state
-  steps (suc level) start now new id place before gone more state is from lo hi narrow_low narrow_high cuts =
-      steps_at level start now new id before gone more (rw (← is) at state) from lo hi narrow_low narrow_high cuts
+      → (lo hi : Bound K) → Narrows low lo before first → Narrows high hi before last → CutsChild cmp lo hi level now new id before more → (HasNoEmpty level now id → HasNoEmpty level new id) → CutState cmp low high first last level start new id before (gone + more)
+  steps zero start now new id place before gone more state is from lo hi narrow_low narrow_high cuts no_empty = absurd state
+  steps (suc level) start now new id place before gone more state is from lo hi narrow_low narrow_high cuts no_empty =
+      steps_at level start now new id before gone more (rw (← is) at state) from lo hi narrow_low narrow_high cuts no_empty
 
   pub finishes : (level : ℕ) (start now : TreeArenas K V LEN) (id place gone : ℕ) → CutState cmp low high first last level start now id place gone → place ≤ first → CutsUnder cmp low high level start now id gone
   finishes zero start now id place gone state few = absurd state

@@ -7,6 +7,7 @@ pub mod EmptyParts
 pub mod Ends
 pub mod FreeNodes
 pub mod Frees
+pub mod NoEmpty
 pub mod NodeSteps
 pub mod OneChild
 pub mod Outside

@@ -1,5 +1,5 @@
 -- A child of a node whose level is a number of the program.
-use Rattle.std.proofs.Common.{sub-one, ◌≡◌, ℕ, zero, suc, ◌-◌, ◌<◌, ◌≤◌, List, [], ◌∷◌, length, slice_get, true, is_some, MatchOption, Option, Some, None, IsSome, refl, sym, ap, ◌∙◌, subst, arith}
+use Rattle.std.proofs.Common.{sub-one, ◌≡◌, ℕ, zero, suc, ◌-◌, ◌<◌, ◌≤◌, List, [], ◌∷◌, length, slice_get, true, false, is_some, MatchOption, Option, Some, None, IsSome, refl, sym, ap, ◌∙◌, subst, arith}
 use Rattle.std.specs.declared.cmp.Ordering.{Ordering}
 use Rattle.std.specs.declared.ops.Bound.{Bound}
 use Rattle.std.specs.Cmp.{IsTotalOrder}
@@ -11,9 +11,9 @@ use Rattle.tree_node.specs.Parts.{IsPart, Replaces}
 use Rattle.tree_node.specs.Tree.{HasKind, Stands, keyed, node_children, unbounded, walk}
 use Rattle.tree_node.proofs.Standing.{node_is}
 use Rattle.tree_remove.specs.CleanUps.{HasChildIn, TakesKeyed}
-use Rattle.tree_cut.specs.Cuts.{CutsChild, CutsUnder, DropsChild}
+use Rattle.tree_cut.specs.Cuts.{CutsChild, CutsUnder, DropsChild, HasNoEmpty, HasNoEmptyBut, HasPair}
 use Rattle.tree_cut.specs.Places.{keyed_or}
-use Rattle.tree_cut.proofs.OneChild.{child_part, cut_becomes, drop_becomes, same_node, split_here}
+use Rattle.tree_cut.proofs.OneChild.{child_no_empty, child_part, cut_becomes, cut_no_empty, cut_others, drop_becomes, drop_no_empty, same_node, split_here}
 use Rattle.tree_cut.proofs.Turns.{turn_here}
 
 module _ {K V : Type 0} {LEN : ℕ} {cmp : K → K → Ordering} (o : IsTotalOrder cmp) where
@@ -55,6 +55,9 @@ module _ {K V : Type 0} {LEN : ℕ} {cmp : K → K → Ordering} (o : IsTotalOrd
     pub part_below : IsPart cmp (level - 1) a child
     part_below = rw here.below_is (child_part o here.below a id place child here.part here.at here.within)
 
+    pub none_below : HasNoEmpty level a id → HasNoEmpty (level - 1) a child
+    none_below before = rw here.below_is (child_no_empty o here.below a id place child here.part here.at here.within (rw here.level_is at before))
+
     pub child_listed : slice_get (node_children (Some node)) place ≡ Some child
     child_listed =
         let last_is : unbounded node ≡ Some here.part.stands.last = ap unbounded (sym here.node_same) ∙ here.part.stands.last_is in
@@ -82,6 +85,14 @@ module _ {K V : Type 0} {LEN : ℕ} {cmp : K → K → Ordering} (o : IsTotalOrd
             counted = rw here.below_is at many;
           })
 
+      pub none_after_drop : (mid new : TreeArenas K V LEN) → Replaces (level - 1) a mid (child ∷ []) [] → TakesKeyed cmp mid.nodes new.nodes id slot → new.leaves ≡ mid.leaves
+          → HasNoEmptyBut level a id place → HasNoEmpty level new id
+      none_after_drop mid new r takes leaves others =
+          let there_ : slice_get (keyed here.part.stands.node).entries place ≡ Some (separator, child) = subst (λ (n : NodeOf K LEN). slice_get (keyed n).entries place ≡ Some (separator, child)) (sym here.node_same) there in
+          let read_ : arrival (keyed here.part.stands.node).arrivals slot ≡ Some (separator, child) = subst (λ (n : NodeOf K LEN). arrival (keyed n).arrivals slot ≡ Some (separator, child)) (sym here.node_same) read in
+          rw here.level_is
+          (drop_no_empty o here.below a id place child here.part here.at here.within separator slot there_ read_ mid new (rw here.below_is at r) takes leaves (rw here.level_is at others))
+
     -- what is left of a child that was cut
     pub cut_one : (low high : Bound K) (new : TreeArenas K V LEN) (gone : ℕ) → CutsUnder cmp low high (level - 1) a new child gone → CutsChild cmp low high level a new id place gone
     cut_one low high new gone cuts =
@@ -91,6 +102,19 @@ module _ {K V : Type 0} {LEN : ℕ} {cmp : K → K → Ordering} (o : IsTotalOrd
           becomes = cut_becomes o here.below a id place child here.part here.at here.within low high new gone under;
           counted = rw (← under.pairs) under.counted;
         })
+
+    module _ (low high : Bound K) (new : TreeArenas K V LEN) (gone : ℕ) (cuts : CutsUnder cmp low high (level - 1) a new child gone) where
+      under_cuts : CutsUnder cmp low high here.below a new child gone
+      under_cuts = rw here.below_is at cuts
+
+      pub none_beside : HasNoEmpty level a id → HasNoEmptyBut level new id place
+      none_beside before = rw here.level_is (cut_others o here.below a id place child here.part here.at here.within low high new gone under_cuts (rw here.level_is at before))
+
+      pub none_after_cut : HasNoEmpty level a id → ((c : K × ℕ) → slice_get (keyed node).entries place ≡ Some c → HasPair (level - 1) new child) → HasNoEmpty level new id
+      none_after_cut before has_pair =
+          rw here.level_is
+          (cut_no_empty o here.below a id place child here.part here.at here.within low high new gone under_cuts (rw here.level_is at before)
+          (λ c found. rw here.below_is at (has_pair c (subst (λ (n : NodeOf K LEN). slice_get (keyed n).entries place ≡ Some c) here.node_same found))))
 
 -- a keyed child is at each place before the last
 pub none_past : {X : Type 0} (xs : List X) (place : ℕ) → place < length xs → slice_get xs place ≡ None → ⊥
@@ -110,3 +134,8 @@ keyed_here arrivals pairs last place slot {child} found is =
 pub keyed_reach : {K X : Type 0} (arrivals : List (Option (K × X))) (pairs : List (K × X)) (place : ℕ) (slot : Option ℕ) → MatchOption slot (slice_get pairs place ≡ None) (λ s. (pair : K × X) × (arrival arrivals s ≡ Some pair) × (slice_get pairs place ≡ Some pair)) → is_some slot ≡ true → place < length pairs
 keyed_reach arrivals pairs place None found some = absurd (cc)
 keyed_reach arrivals pairs place (Some slot) found some = (split_here pairs place found.0 found.2).1
+
+-- no slot was read, so none is
+pub unkeyed : {K X : Type 0} (arrivals : List (Option (K × X))) (pairs : List (K × X)) (place : ℕ) (slot : Option ℕ) → MatchOption slot (slice_get pairs place ≡ None) (λ s. (pair : K × X) × (arrival arrivals s ≡ Some pair) × (slice_get pairs place ≡ Some pair)) → is_some slot ≡ false → slice_get pairs place ≡ None
+unkeyed arrivals pairs place None found none = found
+unkeyed arrivals pairs place (Some slot) found none = absurd (cc)

@@ -23,8 +23,9 @@ use Rattle.tree_node.proofs.Lists.{all_middle, flat_map_same}
 use Rattle.tree_node.proofs.Standing.{node_is}
 use Rattle.tree_node.proofs.Widens.{parted_without, separators_around, stands_wider}
 use Rattle.tree_remove.specs.CleanUps.{TakesKeyed}
-use Rattle.tree_cut.specs.Cuts.{ChildBecomes, CutsUnder}
+use Rattle.tree_cut.specs.Cuts.{ChildBecomes, CutsUnder, HasNoEmpty, HasPair, OthersHaveNoEmpty}
 use Rattle.tree_cut.specs.Places.{keyed_or}
+use Rattle.tree_cut.proofs.NoEmpty.{all_at, all_drop, all_take, and_one, keyed_dropped, keyed_taken, no_empty_same, pairs_same}
 use Rattle.tree_cut.proofs.Turns.{earlier_turns, later_turns, turn, turn_here}
 
 -- what stands before a place, and what comes there instead
@@ -94,6 +95,12 @@ module _ {K V : Type 0} {LEN : ℕ} {cmp : K → K → Ordering} (o : IsTotalOrd
     pub same_node : (mid : TreeArenas K V LEN) (ids : List ℕ) → Replaces level old mid (child ∷ []) ids → get mid.nodes id ≡ get old.nodes id
     same_node = node_stays level old id part front child back was
 
+    pub child_listed : slice_get all place ≡ Some child
+    child_listed = turn_here pairs st.last place child at within
+
+    pub child_no_empty : HasNoEmpty (suc level) old id → HasNoEmpty level old child
+    child_no_empty none_empty = all_at (HasNoEmpty level old) all place child child_listed (rw children_are at none_empty.1)
+
     -- the node at other bounds
     module _ (low high : Option K) (s : Stands cmp (suc level) old low id high) where
       node_same : s.node ≡ st.node
@@ -130,7 +137,7 @@ module _ {K V : Type 0} {LEN : ℕ} {cmp : K → K → Ordering} (o : IsTotalOrd
 
       pub cut_becomes : ChildBecomes cmp level old new id place child (cut cmp (walk level old child) low_bound high_bound)
       cut_becomes = record {
-        here = rw children_are (turn_here pairs st.last place child at within);
+        here = rw children_are child_listed;
         front = rw (kept_node, children_are) (flat_map_same (walk level new) (walk level old) front (all_map (λ x same. same_walk level old new x same) _ fronts));
         back =
             rw (
@@ -152,6 +159,32 @@ module _ {K V : Type 0} {LEN : ℕ} {cmp : K → K → Ordering} (o : IsTotalOrd
         };
         replaces = lifted level old new new id front (child ∷ []) (child ∷ []) back cuts.replaces was now part.nodes_once leaves_once (λ n differs. refl) here refl;
       }
+
+      pub cut_others : HasNoEmpty (suc level) old id → OthersHaveNoEmpty level new id place
+      cut_others none_empty =
+          let pair_each : AllByRecursion (λ c. HasPair level old c.1) pairs = rw st.here at none_empty.0 in
+          let each : AllByRecursion (HasNoEmpty level old) all = rw children_are at none_empty.1 in
+          record {
+            keyed_before = rw (kept_node, st.here) (pairs_same level old new (take place pairs) (keyed_taken (Agrees level old new) pairs st.last place fronts) (all_take _ place pairs pair_each));
+            keyed_behind = rw (kept_node, st.here) (pairs_same level old new (drop (suc place) pairs) (keyed_dropped (Agrees level old new) pairs st.last (suc place) backs) (all_drop _ (suc place) pairs pair_each));
+            before = rw (kept_node, children_are) (no_empty_same level old new front fronts (all_take _ place all each));
+            behind = rw (kept_node, children_are) (no_empty_same level old new back backs (all_drop _ (suc place) all each));
+          }
+
+      -- the child has a pair left, if it is a keyed one
+      pub cut_no_empty : HasNoEmpty (suc level) old id → ((c : K × ℕ) → slice_get pairs place ≡ Some c → HasPair level new child) → HasNoEmpty (suc level) new id
+      cut_no_empty none_empty has_pair =
+          and_one level new id place (cut_others none_empty)
+          (λ c is.
+          let found : slice_get pairs place ≡ Some c = rw (kept_node, st.here) at is in
+          let both : Some c.1 ≡ Some child = rw found at at in
+          let same : c.1 ≡ child = cc in
+          rw same (has_pair c found))
+          (λ x is.
+          let found : slice_get all place ≡ Some x = rw (kept_node, children_are) at is in
+          let both : Some x ≡ Some child = sym found ∙ child_listed in
+          let same : x ≡ child = cc in
+          rw same (cuts.no_empty (child_no_empty none_empty)))
 
     -- the child is dropped, and taken out by the slot of its separator
     module _ (separator : K) (slot : ℕ) (there : slice_get pairs place ≡ Some (separator, child)) (read : arrival (keyed st.node).arrivals slot ≡ Some (separator, child))
@@ -217,7 +250,7 @@ module _ {K V : Type 0} {LEN : ℕ} {cmp : K → K → Ordering} (o : IsTotalOrd
 
       pub drop_becomes : ChildBecomes cmp level old new id place child []
       drop_becomes = record {
-        here = rw children_are (turn_here pairs st.last place child at within);
+        here = rw children_are child_listed;
         front =
             rw (gone_now, take_front place all back in_reach, children_are)
             (flat_map_same (walk level new) (walk level old) front (all_map (λ x same. same_walk level old new x same) _ gone_fronts));
@@ -238,3 +271,15 @@ module _ {K V : Type 0} {LEN : ℕ} {cmp : K → K → Ordering} (o : IsTotalOrd
         };
         replaces = lifted level old mid new id front (child ∷ []) [] back r was gone_now part.nodes_once leaves_once takes.updates.others gone_here leaves;
       }
+
+      pub drop_no_empty : OthersHaveNoEmpty level old id place → HasNoEmpty (suc level) new id
+      drop_no_empty others =
+          let pair_before : AllByRecursion (λ c. HasPair level old c.1) before = rw st.here at others.keyed_before in
+          let pair_after : AllByRecursion (λ c. HasPair level old c.1) after = rw st.here at others.keyed_behind in (
+            rw (takes.updates.changed, left_are)
+                (all-append _ before after
+                (pairs_same level old new before (keyed_taken (Agrees level old new) pairs st.last place gone_fronts) pair_before)
+                (pairs_same level old new after (keyed_dropped (Agrees level old new) pairs st.last (suc place) gone_backs) pair_after)),
+            rw gone_now
+                (all-append _ front back (no_empty_same level old new front gone_fronts (rw children_are at others.before)) (no_empty_same level old new back gone_backs (rw children_are at others.behind))),
+          )

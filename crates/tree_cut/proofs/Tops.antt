@@ -25,7 +25,7 @@ module _ {K V : Type 0} {LEN : ℕ} (cmp : K → K → Ordering) where
   childless_cut low high zero a id inner retired = absurd (omega (arith, inner))
   childless_cut low high (suc level) a id inner retired =
       let none : walk (suc level) a id ≡ [] = walk-children level a id ∙ rw ((no_children (get a.nodes id) retired).1) refl in
-      record { pairs = rw none refl; counted = omega arith; stands = λ above below s. s; replaces = replaces_refl (suc level) a (id ∷ []) }
+      record { pairs = rw none refl; counted = omega arith; stands = λ above below s. s; replaces = replaces_refl (suc level) a (id ∷ []); no_empty = λ before. before }
 
   pub standing : (level : ℕ) (a : TreeArenas K V LEN) (id : ℕ) → 0 < level → IsPart cmp level a id ⊎ IsRetired level a id → (IsRetiredNode (get a.nodes id) → ⊥) → IsPart cmp level a id
   standing level a id inner (inl part) stays = part

@@ -1,6 +1,6 @@
 -- Parts that lose the keys within two bounds.
-use Rattle.std.specs.Prelude.{◌≡◌, ℕ, zero, suc, ◌+◌, List, [], ◌∷◌, ◌++◌, Option, None, Some, length, take, drop, slice_get}
-use Rattle.std.specs.List.{flat_map}
+use Rattle.std.specs.Prelude.{◌≡◌, ◌≢◌, ℕ, zero, suc, ◌+◌, List, [], ◌∷◌, ◌++◌, Option, None, Some, length, take, drop, slice_get, ⊤}
+use Rattle.std.specs.List.{flat_map, AllByRecursion}
 use Rattle.std.specs.declared.cmp.Ordering.{Ordering}
 use Rattle.std.specs.declared.ops.Bound.{Bound}
 use Rattle.slab.specs.Slab.{get}
@@ -15,6 +15,27 @@ abbrev pub keyed_of : {K : Type 0} {LEN : ℕ} → Option (NodeOf K LEN) → Lis
 keyed_of None = []
 keyed_of (Some node) = (keyed node).entries
 
+module _ {K V : Type 0} {LEN : ℕ} where
+  abbrev pub HasPair : ℕ → TreeArenas K V LEN → ℕ → Type 0
+  HasPair level arenas id = walk level arenas id ≢ []
+
+  -- no keyed child under the number is empty, at any level
+  abbrev pub HasNoEmpty : ℕ → TreeArenas K V LEN → ℕ → Type 0
+  HasNoEmpty zero arenas id = ⊤
+  HasNoEmpty (suc level) arenas id =
+      AllByRecursion (λ c. HasPair level arenas c.1) (keyed_of (get arenas.nodes id)) × AllByRecursion (HasNoEmpty level arenas) (children_of arenas.nodes id)
+
+  -- the same of a node but for what stands at a place among its children
+  pub record OthersHaveNoEmpty (level : ℕ) (arenas : TreeArenas K V LEN) (id place : ℕ) : Type 0 where
+    pub keyed_before : AllByRecursion (λ c. HasPair level arenas c.1) (take place (keyed_of (get arenas.nodes id)))
+    pub keyed_behind : AllByRecursion (λ c. HasPair level arenas c.1) (drop (suc place) (keyed_of (get arenas.nodes id)))
+    pub before : AllByRecursion (HasNoEmpty level arenas) (take place (children_of arenas.nodes id))
+    pub behind : AllByRecursion (HasNoEmpty level arenas) (drop (suc place) (children_of arenas.nodes id))
+
+  abbrev pub HasNoEmptyBut : ℕ → TreeArenas K V LEN → ℕ → ℕ → Type 0
+  HasNoEmptyBut zero arenas id place = ⊤
+  HasNoEmptyBut (suc level) arenas id place = OthersHaveNoEmpty level arenas id place
+
 module _ {K V : Type 0} {LEN : ℕ} (cmp : K → K → Ordering) where
   -- The part under a number has lost the keys within the bounds, which were so many, and nothing else. It stands between the bounds that it had.
   pub record CutsUnder (low high : Bound K) (level : ℕ) (old new : TreeArenas K V LEN) (id gone : ℕ) : Type 0 where
@@ -22,6 +43,8 @@ module _ {K V : Type 0} {LEN : ℕ} (cmp : K → K → Ordering) where
     pub counted : gone + length (walk level new id) ≡ length (walk level old id)
     pub stands : KeepsBounds cmp level old new id
     pub replaces : Replaces level old new (id ∷ []) (id ∷ [])
+    -- a keyed child that is left empty is gone
+    pub no_empty : HasNoEmpty level old id → HasNoEmpty level new id
 
   -- Of the pairs under one child of a node these are left, in the place of the child, or none where the child is gone. All else under the node is what it was.
   pub record ChildBecomes (level : ℕ) (old new : TreeArenas K V LEN) (id place child : ℕ) (left : List (K × V)) : Type 0 where

@@ -2,7 +2,7 @@
 ghost use Rattle.std.specs.Prelude.{◌≡◌, ◌⊎◌, ◌<◌, ◌≤◌, [], None, true, length};
 ghost use Rattle.std.specs.Range.Bound.{bound_map};
 ghost use Rattle.slab.specs.Slab.{ContainsKey, get};
-ghost use Rattle.tree_cut.specs.Cuts.{CutsChild, CutsUnder, keyed_of};
+ghost use Rattle.tree_cut.specs.Cuts.{CutsChild, CutsUnder, HasNoEmpty, keyed_of};
 ghost use Rattle.tree_cut.specs.Parts.{IsAt, part_id};
 ghost use Rattle.tree_node.specs.Parts.{IsPart};
 ghost use Rattle.tree_node.specs.Tree.{IsRetired, Stands, children_of, walk};
@@ -106,7 +106,8 @@ fn cut_child<K: Ord + Drop, V: Drop, const LEN: usize>(
     requires node { 0 < level }
     requires part { IsPart K.cmp level arenas.old id }
     requires place { place ≤ length (keyed_of (get arenas.old.nodes id)) }
-    ensures { CutsChild K.cmp (bound_map (λ k. k.now) bounds.entry.0) (bound_map (λ k. k.now) bounds.entry.1) level arenas.old arenas.new id place result }
+    ensures cuts { CutsChild K.cmp (bound_map (λ k. k.now) bounds.entry.0) (bound_map (λ k. k.now) bounds.entry.1) level arenas.old arenas.new id place result }
+    ensures no_empty { HasNoEmpty level arenas.old id → HasNoEmpty level arenas.new id }
 {
     let node = arenas.node(id);
     let keyed = slot_at(node, place).is_some();
@@ -144,7 +145,8 @@ fn is_empty<K: Ord + Drop, V: Drop, const LEN: usize>(
 ) -> bool
     requires kind { IsAt level part.now }
     requires stands { Stands K.cmp level arenas.now None (part_id part.now) None }
-    ensures { result ≡ true → walk level arenas.now (part_id part.now) ≡ [] }
+    ensures empty { result ≡ true → walk level arenas.now (part_id part.now) ≡ [] }
+    ensures told { HasNoEmpty level arenas.now (part_id part.now) → walk level arenas.now (part_id part.now) ≡ [] → result ≡ true }
 {
     match part {
         Part::Leaf(id) => arenas.leaf(*id).array().is_empty(),

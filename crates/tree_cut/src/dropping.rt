@@ -1,7 +1,7 @@
 //! Parts that are dropped whole.
 ghost use Rattle.std.specs.Prelude.{◌≡◌, ◌<◌, ◌^◌, [], ◌∷◌, IsSome, None, Some, length, ℕ};
 ghost use Rattle.slab.specs.Slab.{get};
-ghost use Rattle.tree_cut.specs.Cuts.{DropsChild, keyed_of};
+ghost use Rattle.tree_cut.specs.Cuts.{DropsChild, HasNoEmpty, HasNoEmptyBut, keyed_of};
 ghost use Rattle.tree_cut.specs.Parts.{Frees, IsAt, IsForest, end_of, part_id};
 ghost use Rattle.tree_node.specs.Parts.{IsPart, Replaces};
 ghost use Rattle.tree_node.specs.Tree.{HasKind, Stands, leaves_at, node_children, unbounded, walk};
@@ -30,7 +30,8 @@ pub(crate) fn drop_child<K: Ord + Drop, V: Drop, const LEN: usize>(
     requires node { 0 < level }
     requires part { IsPart K.cmp level arenas.old id }
     requires place { place < length (keyed_of (get arenas.old.nodes id)) }
-    ensures { DropsChild K.cmp level arenas.old arenas.new id place result }
+    ensures drops { DropsChild K.cmp level arenas.old arenas.new id place result }
+    ensures no_empty { HasNoEmptyBut level arenas.old id place → HasNoEmpty level arenas.new id }
 {
     let node = arenas.node(id);
     let Some(slot) = slot_at(node, place) else {
