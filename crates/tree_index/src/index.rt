@@ -34,10 +34,17 @@ pub type SmallTreeIndex<K, V> = TreeIndexOf<K, V, 7>;
 /// along the right edge of its tree. Pairs that arrive in ascending order leave it so.
 ///
 /// Costs are in terms of the depth. An array is searched with at most 4 comparisons among 15 slots, and 3 among 7.
-#[derive(Drop)]
 pub struct TreeIndexOf<K: IndexKey, V: Drop, const LEN: usize> {
     pub(crate) tree: Tree<K, V, LEN>,
     len: u128,
+}
+
+// Written out for the reason that the drop of a tree is.
+impl<K: IndexKey, V: Drop, const LEN: usize> Drop for TreeIndexOf<K, V, LEN> {
+    fn drop(self) {
+        let TreeIndexOf { tree, len: _ } = self;
+        drop(tree);
+    }
 }
 
 impl<K: IndexKey, V: Drop, const LEN: usize> Model for TreeIndexOf<K, V, LEN> {

@@ -21,10 +21,18 @@ pub type State<K, V> = StateOf<K, V, 15>;
 ///
 /// The type keeps that the history replays to that list: from the empty list, each reply is the one that the list
 /// gives, and none is `Refused`.
-#[derive(Drop)]
 pub struct StateOf<K: IndexKey + SameClone, V: SameClone, const LEN: usize> {
     index: TreeIndexOf<K, V, LEN>,
     history: Vec<Record<K, V>>,
+}
+
+// Written out for the reason that the drop of a tree is.
+impl<K: IndexKey + SameClone, V: SameClone, const LEN: usize> Drop for StateOf<K, V, LEN> {
+    fn drop(self) {
+        let StateOf { index, history } = self;
+        drop(index);
+        drop(history);
+    }
 }
 
 impl<K: IndexKey + SameClone, V: SameClone, const LEN: usize> Model for StateOf<K, V, LEN> {
@@ -72,7 +80,8 @@ impl<K: IndexKey + SameClone, V: SameClone, const LEN: usize> StateOf<K, V, LEN>
         ensures calls { result.1.items ≡ self.history }
         ensures replays { IsHistoryOf K.cmp K.seen V.seen self.history self.pairs }
     {
-        (self.index, self.history)
+        let StateOf { index, history } = self;
+        (index, history)
     }
 
     /// Answers a command, and appends a clone of it with its reply to the history.

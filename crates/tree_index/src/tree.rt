@@ -36,10 +36,17 @@ pub enum Stored {
 }
 
 /// A tree: its arenas, and its root with the root's level, if there is one.
-#[derive(Drop)]
 pub struct Tree<K: IndexKey, V: Drop, const LEN: usize> {
     pub(crate) arenas: ArenasOf<K, V, LEN>,
     pub(crate) root: Option<(NodeId, usize)>,
+}
+
+// Written out, so that it is proved here and not once more in each crate that drops a tree inside another type.
+impl<K: IndexKey, V: Drop, const LEN: usize> Drop for Tree<K, V, LEN> {
+    fn drop(self) {
+        let Tree { arenas, root: _ } = self;
+        drop(arenas);
+    }
 }
 
 impl<K: IndexKey, V: Drop, const LEN: usize> Tree<K, V, LEN> {

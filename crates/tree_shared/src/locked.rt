@@ -13,7 +13,6 @@ use std::sync::ledger::Ledger;
 use tree_index::{Command, IndexKey, InsertError, PreparedPair, Reply, SameClone, StateOf};
 
 /// What lies under the lock: the state, and the books that tally its history. `LEN` is 7 or 15.
-#[derive(Drop)]
 pub struct Locked<
     K: IndexKey + SameClone,
     V: SameClone,
@@ -30,6 +29,29 @@ pub struct Locked<
     ghost tallied: { books ≡ tally state.history },
 }
 
+// Written out, so that it is proved here and not once more in each crate that shares an index.
+impl<
+    K: IndexKey + SameClone,
+    V: SameClone,
+    C: Ledger,
+    S: Ledger,
+    M: Ledger,
+    F: Ledger,
+    D: Ledger,
+    const LEN: usize,
+> Drop for Locked<K, V, C, S, M, F, D, LEN> {
+    fn drop(self) {
+        let Locked {
+            state,
+            books,
+            workers,
+        } = self;
+        drop(state);
+        drop(books);
+        drop(workers);
+    }
+}
+
 impl<
     K: IndexKey + SameClone,
     V: SameClone,
@@ -40,6 +62,25 @@ impl<
     D: Ledger,
     const LEN: usize,
 > Locked<K, V, C, S, M, F, D, LEN> {
+    /// Returns the state, the books that tally its history, and what is known of the workers.
+    pub fn into_parts(
+        self,
+    ) -> (
+        StateOf<K, V, LEN>,
+        Books<C, S, M, F, D>,
+        Workers<C, S, M, F, D>,
+    )
+        ensures parts { (result.0 ≡ self.state) × (result.1 ≡ self.books) × (result.2 ≡ self.workers) }
+        ensures tallied { result.1 ≡ tally result.0.history }
+    {
+        let Locked {
+            state,
+            books,
+            workers,
+        } = self;
+        (state, books, workers)
+    }
+
     /// Answers a command, and counts its reply in the books and in the pass.
     ///
     /// Returns `Err` with the command if an allocation is refused; nothing changed then.

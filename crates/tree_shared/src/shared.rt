@@ -233,11 +233,7 @@ impl<
         ensures missing { OnErr result (vec_len passes + 1 < C.parts) }
         ensures given_back { IfErr result (λ e. (shared : _) × (e ≡ UnclosedOf.PassMissing shared passes)) }
     {
-        let Locked {
-            state,
-            books,
-            workers,
-        } = self.locked.into_inner();
+        let (state, books, workers) = self.locked.into_inner().into_parts();
         if passes.len() < workers.number {
             let locked = Locked {
                 state,
@@ -263,7 +259,8 @@ impl<
     pub fn into_parts(self) -> (TreeIndexOf<K, V, LEN>, Vec<Record<K, V>>)
         ensures { IsHistoryOf K.cmp K.seen V.seen result.1.items result.0.pairs }
     {
-        self.locked.into_inner().state.into_parts()
+        let (state, _books, _workers) = self.locked.into_inner().into_parts();
+        state.into_parts()
     }
 }
 

@@ -1,4 +1,4 @@
-use Rattle.std.proofs.Common.{◌≡◌, sym, ap, ◌∙◌}
+use Rattle.std.proofs.Common.{sym, ap, ◌∙◌}
 use Rattle.tree_model.specs.declared.commands.Command.TheVariants.{Upsert}
 use Rattle.tree_model.specs.declared.commands.Reply.TheVariants.{Stored}
 use Rattle.tree_node.proofs.Sizes.{fits}

@@ -1,4 +1,4 @@
-use Rattle.std.proofs.Common.{◌≡◌, ap, ◌∙◌, sym}
+use Rattle.std.proofs.Common.{ap, ◌∙◌, sym}
 use Rattle.tree_model.specs.declared.commands.Reply.TheVariants.{Found}
 use Rattle.tree_shared.specs.Tallies.{raised}
 use Rattle.tree_shared.proofs.Tallied.{peek_reply}

@@ -1,4 +1,4 @@
-use Rattle.std.proofs.Common.{◌≡◌, ap, ◌∙◌}
+use Rattle.std.proofs.Common.{ap, ◌∙◌}
 use Rattle.tree_shared.specs.Tallies.{raised}
 use Rattle.tree_shared.proofs.Tallied.{range_reply}
 use Rattle.tree_shared.proofs.shared.SharedTreeIndexOf.remove_range.Goals as goal

@@ -1,5 +1,5 @@
 use Rattle.tree_node.proofs.Sizes.{fits}
-use Rattle.tree_shared.proofs.tree_shared++locked++Locked+Destruct.drop.Goals as goal
+use Rattle.tree_index.proofs.state.StateOf.drop.Goals as goal
 
 pub drop-requires : goal.drop-requires
 drop-requires g c = search fits

@@ -1,5 +1,5 @@
 use Rattle.tree_node.proofs.Sizes.{fits}
-use Rattle.sharebench.proofs.tree_index++state++StateOf+Destruct.drop.Goals as goal
+use Rattle.tree_index.proofs.index.TreeIndexOf.drop.Goals as goal
 
 pub drop-requires : goal.drop-requires
 drop-requires g c = search fits

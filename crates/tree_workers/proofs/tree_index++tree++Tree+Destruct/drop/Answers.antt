@@ -1,5 +1,0 @@
-use Rattle.tree_node.proofs.Sizes.{fits}
-use Rattle.tree_workers.proofs.tree_index++tree++Tree+Destruct.drop.Goals as goal
-
-pub drop-requires-room-N-Destruct : goal.drop-requires-room-N-Destruct
-drop-requires-room-N-Destruct g c κs within = search fits
