@@ -1,5 +1,5 @@
 -- The lines of a text, the spelling of a request, the answer to a line, and scripts of lines.
-use Rattle.std.specs.Prelude.{◌≡◌, ◌≢◌, ◌⊎◌, ℕ, ◌*◌, ◌-◌, ◌^◌, ◌<◌, ◌≤◌, min, Bool, true, false, nat_eq, List, [], ◌∷◌, ◌++◌, filter, length, map, reverse, slice_get, Option, Some, None, MatchOption, is_some, ⊤, codes, decimal}
+use Rattle.std.specs.Prelude.{◌≡◌, ◌≢◌, ◌⊎◌, ℕ, ◌+◌, ◌*◌, ◌-◌, ◌^◌, ◌<◌, ◌≤◌, min, Bool, true, false, nat_eq, List, [], ◌∷◌, ◌++◌, filter, length, map, reverse, slice_get, Option, Some, None, MatchOption, is_some, ⊤, codes, decimal}
 use Rattle.std.specs.List.{AllByRecursion, flat_map}
 use Rattle.std.specs.Option.{option_map_or}
 use Rattle.std.specs.Ordering.{nat_cmp}
@@ -149,36 +149,38 @@ near_text pairs key =
     (pair_at nat_cmp pairs key)
     (beside_text (last_pair (below nat_cmp pairs key)) (first_pair (above nat_cmp pairs key)))
 
--- The answer to a request over the pairs `old`, which become `new`.
-abbrev pub Answers : List (ℕ × ℕ) → Request → List ℕ → List (ℕ × ℕ) → Type 0
-Answers old (Insert key value) answer new =
-    MatchOption (pair_at nat_cmp old key)
-    (((answer ≡ codes "ok") × (new ≡ put nat_cmp old key value)) ⊎ ((answer ≡ codes "refused") × (new ≡ old)))
-    (λ _. (answer ≡ codes "duplicate") × (new ≡ old))
-Answers old (Upsert key value) answer new = ((answer ≡ codes "ok") × (new ≡ put nat_cmp old key value)) ⊎ ((answer ≡ codes "refused") × (new ≡ old))
-Answers old (Remove key) answer new = (answer ≡ truth (is_some (pair_at nat_cmp old key))) × (new ≡ without nat_cmp old key)
-Answers old (RemoveIf key value) answer new = (removed : Bool) × RemovesIf nat_cmp (SaysEqual value) old key removed new × (answer ≡ truth removed)
-Answers old (RemoveRange low high) answer new = (answer ≡ codes "ok") × (new ≡ cut nat_cmp old low high)
-Answers old Clear answer new = (answer ≡ codes "ok") × (new ≡ [])
-Answers old (Contains key) answer new = (answer ≡ truth (is_some (pair_at nat_cmp old key))) × (new ≡ old)
-Answers old Len answer new = (answer ≡ decimal (min (length old) (2 ^ 64 - 1))) × (new ≡ old)
-Answers old Depth answer new = (depth : ℕ) × (length old ≤ 15 * 16 ^ depth) × (answer ≡ decimal depth) × (new ≡ old)
-Answers old Spare answer new = (spare : ℕ) × (answer ≡ decimal spare) × (new ≡ old)
-Answers old Iter answer new = (answer ≡ pairs_text old) × (new ≡ old)
-Answers old Back answer new = (answer ≡ pairs_text (reverse old)) × (new ≡ old)
-Answers old (Range low high) answer new = (answer ≡ pairs_text (inside low high old)) × (new ≡ old)
-Answers old (Locate key) answer new = (answer ≡ near_text old key) × (new ≡ old)
-Answers old (Peek key) answer new = (answer ≡ option_map_or (λ pair. decimal pair.1) (pair_at nat_cmp old key) (codes "none")) × (new ≡ old)
+-- over an index of `LEN` pairs a leaf
+module _ (LEN : ℕ) where
+  -- The answer to a request over the pairs `old`, which become `new`.
+  abbrev pub Answers : List (ℕ × ℕ) → Request → List ℕ → List (ℕ × ℕ) → Type 0
+  Answers old (Insert key value) answer new =
+      MatchOption (pair_at nat_cmp old key)
+      (((answer ≡ codes "ok") × (new ≡ put nat_cmp old key value)) ⊎ ((answer ≡ codes "refused") × (new ≡ old)))
+      (λ _. (answer ≡ codes "duplicate") × (new ≡ old))
+  Answers old (Upsert key value) answer new = ((answer ≡ codes "ok") × (new ≡ put nat_cmp old key value)) ⊎ ((answer ≡ codes "refused") × (new ≡ old))
+  Answers old (Remove key) answer new = (answer ≡ truth (is_some (pair_at nat_cmp old key))) × (new ≡ without nat_cmp old key)
+  Answers old (RemoveIf key value) answer new = (removed : Bool) × RemovesIf nat_cmp (SaysEqual value) old key removed new × (answer ≡ truth removed)
+  Answers old (RemoveRange low high) answer new = (answer ≡ codes "ok") × (new ≡ cut nat_cmp old low high)
+  Answers old Clear answer new = (answer ≡ codes "ok") × (new ≡ [])
+  Answers old (Contains key) answer new = (answer ≡ truth (is_some (pair_at nat_cmp old key))) × (new ≡ old)
+  Answers old Len answer new = (answer ≡ decimal (min (length old) (2 ^ 64 - 1))) × (new ≡ old)
+  Answers old Depth answer new = (depth : ℕ) × (length old ≤ LEN * (LEN + 1) ^ depth) × (answer ≡ decimal depth) × (new ≡ old)
+  Answers old Spare answer new = (spare : ℕ) × (answer ≡ decimal spare) × (new ≡ old)
+  Answers old Iter answer new = (answer ≡ pairs_text old) × (new ≡ old)
+  Answers old Back answer new = (answer ≡ pairs_text (reverse old)) × (new ≡ old)
+  Answers old (Range low high) answer new = (answer ≡ pairs_text (inside low high old)) × (new ≡ old)
+  Answers old (Locate key) answer new = (answer ≡ near_text old key) × (new ≡ old)
+  Answers old (Peek key) answer new = (answer ≡ option_map_or (λ pair. decimal pair.1) (pair_at nat_cmp old key) (codes "none")) × (new ≡ old)
 
--- The answer to a line. A line that is not a request is answered with a question mark and changes nothing.
-abbrev pub Says : List (ℕ × ℕ) → List ℕ → List ℕ → List (ℕ × ℕ) → Type 0
-Says old line answer new =
-    ((request : Request) × Fits request × (line ≡ spelling request) × Answers old request answer new)
-    ⊎ (((request : Request) → Fits request → line ≢ spelling request) × (answer ≡ codes "?") × (new ≡ old))
+  -- The answer to a line. A line that is not a request is answered with a question mark and changes nothing.
+  abbrev pub Says : List (ℕ × ℕ) → List ℕ → List ℕ → List (ℕ × ℕ) → Type 0
+  Says old line answer new =
+      ((request : Request) × Fits request × (line ≡ spelling request) × Answers old request answer new)
+      ⊎ (((request : Request) → Fits request → line ≢ spelling request) × (answer ≡ codes "?") × (new ≡ old))
 
--- The lines are answered one after another.
-abbrev pub Script : List (ℕ × ℕ) → List (List ℕ) → List (List ℕ) → List (ℕ × ℕ) → Type 0
-Script old [] [] new = new ≡ old
-Script old (line ∷ lines) (answer ∷ answers) new = (mid : List (ℕ × ℕ)) × Says old line answer mid × Script mid lines answers new
-Script old [] (answer ∷ answers) new = ⊥
-Script old (line ∷ lines) [] new = ⊥
+  -- The lines are answered one after another.
+  abbrev pub Script : List (ℕ × ℕ) → List (List ℕ) → List (List ℕ) → List (ℕ × ℕ) → Type 0
+  Script old [] [] new = new ≡ old
+  Script old (line ∷ lines) (answer ∷ answers) new = (mid : List (ℕ × ℕ)) × Says old line answer mid × Script mid lines answers new
+  Script old [] (answer ∷ answers) new = ⊥
+  Script old (line ∷ lines) [] new = ⊥

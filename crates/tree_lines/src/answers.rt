@@ -13,7 +13,7 @@ use crate::short_text::ShortText;
 use crate::writing::{WriteFailed, write_whole};
 use std::io::Write;
 use std::ops::Bound;
-use tree_index::{InsertError, TreeIndex};
+use tree_index::{InsertError, TreeIndexOf};
 
 /// The answer to a line.
 #[derive(Clone, Copy, Debug)]
@@ -41,9 +41,12 @@ pub enum Answer {
 }
 
 /// Applies the request of a line and returns the answer.
-pub fn answer_to(index: &mut TreeIndex<u64, u64>, line: &BegunLine) -> Answer
+pub fn answer_to<const LEN: usize>(
+    index: &mut TreeIndexOf<u64, u64, LEN>,
+    line: &BegunLine,
+) -> Answer
     ensures { (begun : List ℕ) → line.now ≡ clip begun →
-        Says index.old.pairs begun (answer_text index.new.pairs result) index.new.pairs }
+        Says LEN index.old.pairs begun (answer_text index.new.pairs result) index.new.pairs }
 {
     let Some(text) = line.text() else {
         return Answer::Unknown;
@@ -52,8 +55,11 @@ pub fn answer_to(index: &mut TreeIndex<u64, u64>, line: &BegunLine) -> Answer
 }
 
 // Applies a request and returns the answer; `None` stands for a line that is not a request.
-fn respond(index: &mut TreeIndex<u64, u64>, request: Option<Request>) -> Answer
-    ensures { Responds index.old.pairs request (answer_text index.new.pairs result) index.new.pairs }
+fn respond<const LEN: usize>(
+    index: &mut TreeIndexOf<u64, u64, LEN>,
+    request: Option<Request>,
+) -> Answer
+    ensures { Responds LEN index.old.pairs request (answer_text index.new.pairs result) index.new.pairs }
 {
     match request {
         None => Answer::Unknown,
@@ -92,7 +98,11 @@ fn respond(index: &mut TreeIndex<u64, u64>, request: Option<Request>) -> Answer
 }
 
 // Removes the pair at a key if it has this value, and returns whether it did.
-fn remove_value(index: &mut TreeIndex<u64, u64>, key: u64, value: u64) -> bool
+fn remove_value<const LEN: usize>(
+    index: &mut TreeIndexOf<u64, u64, LEN>,
+    key: u64,
+    value: u64,
+) -> bool
     ensures { RemovesIf nat_cmp (SaysEqual value) index.old.pairs key result index.new.pairs }
 {
     index.remove_if_sync(&key, |stored| *stored == value)
@@ -101,9 +111,9 @@ fn remove_value(index: &mut TreeIndex<u64, u64>, key: u64, value: u64) -> bool
 /// Writes an answer and a line feed. Pairs are written one by one out of the index that gave the answer.
 ///
 /// Returns `Err` if a write fails; part of the line may have been written.
-pub fn write_answer<W: Write>(
+pub fn write_answer<W: Write, const LEN: usize>(
     output: &mut W,
-    index: &TreeIndex<u64, u64>,
+    index: &TreeIndexOf<u64, u64, LEN>,
     answer: Answer,
 ) -> Result<(), WriteFailed>
     ensures { Writes (with_feed (answer_text index.now.pairs answer))

@@ -9,7 +9,7 @@ use crate::writing::WriteFailed;
 use std::error::Error;
 use std::fmt;
 use std::io::{Read, Write};
-use tree_index::TreeIndex;
+use tree_index::TreeIndexOf;
 
 /// Why [`run_lines`] stopped before the end of its input.
 #[derive(Clone, Copy, Debug, PartialEq, Eq)]
@@ -44,12 +44,12 @@ impl Error for ToolFault {}
 ///
 /// Reads at most 256 bytes at a time. The engine allocates nothing; an insert or an upsert may
 /// allocate in the index.
-pub fn run_lines<R: Read, W: Write>(
-    index: &mut TreeIndex<u64, u64>,
+pub fn run_lines<R: Read, W: Write, const LEN: usize>(
+    index: &mut TreeIndexOf<u64, u64, LEN>,
     input: &mut R,
     output: &mut W,
 ) -> Result<(), ToolFault>
-    ensures { RunsLines index.old.pairs index.new.pairs (R.remaining input.old) (R.remaining input.new)
+    ensures { RunsLines LEN index.old.pairs index.new.pairs (R.remaining input.old) (R.remaining input.new)
         (W.contents output.old) (W.contents output.new) result }
 {
     let mut line = BegunLine::new();
@@ -73,12 +73,12 @@ pub fn run_lines<R: Read, W: Write>(
 }
 
 // Answers the last line, which no line feed ended, unless it is empty.
-fn end_lines<W: Write>(
-    index: &mut TreeIndex<u64, u64>,
+fn end_lines<W: Write, const LEN: usize>(
+    index: &mut TreeIndexOf<u64, u64, LEN>,
     line: &BegunLine,
     output: &mut W,
 ) -> Result<(), WriteFailed>
-    ensures { EndsInput line.now index.old.pairs index.new.pairs
+    ensures { EndsInput LEN line.now index.old.pairs index.new.pairs
         (W.contents output.old) (W.contents output.new) result }
 {
     if line.is_empty() {
@@ -89,13 +89,13 @@ fn end_lines<W: Write>(
 }
 
 // Takes the bytes one after another.
-fn feed_all<W: Write>(
-    index: &mut TreeIndex<u64, u64>,
+fn feed_all<W: Write, const LEN: usize>(
+    index: &mut TreeIndexOf<u64, u64, LEN>,
     line: &mut BegunLine,
     bytes: &[u8],
     output: &mut W,
 ) -> Result<(), WriteFailed>
-    ensures { Feeds line.old index.old.pairs bytes.now line.new index.new.pairs
+    ensures { Feeds LEN line.old index.old.pairs bytes.now line.new index.new.pairs
         (W.contents output.old) (W.contents output.new) result }
 {
     for byte in bytes {
@@ -105,13 +105,13 @@ fn feed_all<W: Write>(
 }
 
 // Takes a byte. A line feed ends the line, which is then answered.
-fn feed<W: Write>(
-    index: &mut TreeIndex<u64, u64>,
+fn feed<W: Write, const LEN: usize>(
+    index: &mut TreeIndexOf<u64, u64, LEN>,
     line: &mut BegunLine,
     byte: u8,
     output: &mut W,
 ) -> Result<(), WriteFailed>
-    ensures { Feeds line.old index.old.pairs (byte ∷ []) line.new index.new.pairs
+    ensures { Feeds LEN line.old index.old.pairs (byte ∷ []) line.new index.new.pairs
         (W.contents output.old) (W.contents output.new) result }
 {
     if byte != b'\n' {

@@ -9,14 +9,14 @@ use crate::short_text::ShortText;
 use crate::writing::{WriteFailed, write_whole};
 use std::io::Write;
 use std::ops::Bound;
-use tree_index::{ProximityOf, TreeIndex};
+use tree_index::{ProximityOf, TreeIndexOf};
 
 /// Writes the pairs whose keys are within both bounds, in ascending order, and a line feed.
 ///
 /// Returns `Err` if a write fails; part of the line may have been written. Allocates nothing.
-pub fn write_ascending<W: Write>(
+pub fn write_ascending<W: Write, const LEN: usize>(
     output: &mut W,
-    index: &TreeIndex<u64, u64>,
+    index: &TreeIndexOf<u64, u64, LEN>,
     low: Bound<u64>,
     high: Bound<u64>,
 ) -> Result<(), WriteFailed>
@@ -34,9 +34,9 @@ pub fn write_ascending<W: Write>(
 /// Writes all pairs, in descending order, and a line feed.
 ///
 /// Returns `Err` if a write fails; part of the line may have been written. Allocates nothing.
-pub fn write_descending<W: Write>(
+pub fn write_descending<W: Write, const LEN: usize>(
     output: &mut W,
-    index: &TreeIndex<u64, u64>,
+    index: &TreeIndexOf<u64, u64, LEN>,
 ) -> Result<(), WriteFailed>
     ensures { Writes (with_feed (pairs_text (reverse index.now.pairs)))
         (W.contents output.old) (W.contents output.new) result }
@@ -53,9 +53,9 @@ pub fn write_descending<W: Write>(
 /// Writes where a key is, with its pair or those beside it, and a line feed.
 ///
 /// Returns `Err` if a write fails; part of the line may have been written. Allocates nothing.
-pub fn write_near<W: Write>(
+pub fn write_near<W: Write, const LEN: usize>(
     output: &mut W,
-    index: &TreeIndex<u64, u64>,
+    index: &TreeIndexOf<u64, u64, LEN>,
     key: u64,
 ) -> Result<(), WriteFailed>
     ensures { Writes (with_feed (near_text index.now.pairs key))

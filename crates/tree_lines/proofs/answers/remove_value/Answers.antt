@@ -4,4 +4,4 @@ use Rattle.tree_lines.proofs.answers.remove_value.Goals as goal
 
 -- the closure compares the value at the key with the one asked for
 pub returns : goal.returns
-returns c = search (rules, removes_if_says)
+returns g c = search (rules, removes_if_says)

@@ -8,8 +8,8 @@ use Rattle.tree_lines.proofs.Pieces.{within_open}
 use Rattle.tree_lines.proofs.answers.respond.Goals as goal
 
 -- all pairs are within open bounds
-responds_all : (old : List (ℕ × ℕ)) (asked : Option Request) (request : Request) → asked ≡ Some request → request ≡ Iter → Responds old asked (pairs_text (inside Unbounded Unbounded old)) old
-responds_all old asked request is same = rw (is, same) (ap pairs_text (within_open old), refl)
+responds_all : (LEN : ℕ) (old : List (ℕ × ℕ)) (asked : Option Request) (request : Request) → asked ≡ Some request → request ≡ Iter → Responds LEN old asked (pairs_text (inside Unbounded Unbounded old)) old
+responds_all LEN old asked request is same = rw (is, same) (ap pairs_text (within_open old), refl)
 
 pub returns-in-Some-Iter : goal.returns-in-Some-Iter
-returns-in-Some-Iter c = responds_all c.args.index.now.pairs c.args.request c.in-Some-Iter.field-0 c.in-Some-Iter.is (rw c.in-Some-Iter.is at c.in-Some-Iter.field-0-is)
+returns-in-Some-Iter g c = responds_all g.row.LEN c.args.index.now.pairs c.args.request c.in-Some-Iter.field-0 c.in-Some-Iter.is (rw c.in-Some-Iter.is at c.in-Some-Iter.field-0-is)

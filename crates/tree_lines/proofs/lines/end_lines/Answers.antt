@@ -6,9 +6,9 @@ use Rattle.tree_lines.proofs.lines.end_lines.Goals as goal
 
 -- no line is begun
 pub returns-then-is_empty : goal.returns-then-is_empty
-returns-then-is_empty g c = ends_empty c.args.line.now c.args.index.now.pairs (g.W.Write.contents c.args.output.now) (c.if-is_empty.ensures.0 refl)
+returns-then-is_empty g c = ends_empty g.row.LEN c.args.line.now c.args.index.now.pairs (g.W.Write.contents c.args.output.now) (c.if-is_empty.ensures.0 refl)
 
 -- the begun line was answered
 pub returns : goal.returns
 returns g c =
-    ends_line c.args.line.now c.args.index.now.pairs c.answer_to-answer.new.index.pairs (answer_text c.answer_to-answer.new.index.pairs c.answer_to-answer.result) _ _ (λ e. false≢true (c.if-is_empty.ensures.1 e)) c.answer_to-answer.ensures c.write_answer.result c.write_answer.ensures
+    ends_line g.row.LEN c.args.line.now c.args.index.now.pairs c.answer_to-answer.new.index.pairs (answer_text c.answer_to-answer.new.index.pairs c.answer_to-answer.result) _ _ (λ e. false≢true (c.if-is_empty.ensures.1 e)) c.answer_to-answer.ensures c.write_answer.result c.write_answer.ensures

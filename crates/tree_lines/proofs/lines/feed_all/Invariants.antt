@@ -8,5 +8,5 @@ abbrev pub invariant-loop-byte : goal.invariant-loop-byte
 invariant-loop-byte g l = record {
   written : List ℕ;
   out : Appends (g.W.Write.contents l.fn.output) (g.W.Write.contents l.output) written;
-  carried : Carries l.fn.line l.fn.index.pairs (take l.byte-index l.bytes) written l.line l.index.pairs;
+  carried : Carries g.row.LEN l.fn.line l.fn.index.pairs (take l.byte-index l.bytes) written l.line l.index.pairs;
 }

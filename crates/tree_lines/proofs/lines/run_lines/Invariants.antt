@@ -11,5 +11,5 @@ invariant-loop g l = record {
   written : List ℕ;
   taken : Consumes (g.R.Read.remaining l.fn.input) (g.R.Read.remaining l.input) read;
   out : Appends (g.W.Write.contents l.fn.output) (g.W.Write.contents l.output) written;
-  carried : Carries (Some []) l.fn.index.pairs read written l.line l.index.pairs;
+  carried : Carries g.row.LEN (Some []) l.fn.index.pairs read written l.line l.index.pairs;
 }

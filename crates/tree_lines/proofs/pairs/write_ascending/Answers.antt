@@ -2,6 +2,7 @@ use Rattle.std.proofs.Common.{refl}
 use Rattle.std.proofs.lemmas.Result.{err_from_is_err_and}
 use Rattle.tree_leaf.specs.declared.leaf.stand.Way.TheVariants.{On}
 use Rattle.tree_lines.proofs.Pieces.{line_ends, line_fails, line_goes_on, line_of_all}
+use Rattle.tree_node.proofs.Sizes.{fits}
 use Rattle.tree_lines.proofs.pairs.write_ascending.Goals as goal
 
 pub loop-key-init : goal.loop-key-init
@@ -22,3 +23,9 @@ loop-key-preserved g c = line_goes_on On _ _ _ _ _ _ _ c.loop-key.invariant _ c.
 -- no pair was left
 pub returns : goal.returns
 returns g c = line_ends On _ _ _ _ _ _ _ c.loop-key.invariant c.in-None.ensures.steps _ c.write_whole.ensures
+
+pub range-key-items-requires : goal.range-key-items-requires
+range-key-items-requires g c = (search fits, (search fits, (search fits, search fits)))
+
+pub next-requires : goal.next-requires
+next-requires g c = (search fits, (search fits, (search fits, tt)))

@@ -3,6 +3,7 @@ use Rattle.std.proofs.lemmas.Result.{err_from_is_err_and}
 use Rattle.tree_leaf.specs.declared.leaf.stand.Way.TheVariants.{Back}
 use Rattle.tree_ranges.proofs.Moving.{comes_nearer}
 use Rattle.tree_lines.proofs.Pieces.{line_ends, line_fails, line_goes_on, line_back_of_all}
+use Rattle.tree_node.proofs.Sizes.{fits}
 use Rattle.tree_lines.proofs.pairs.write_descending.Goals as goal
 
 pub loop-key-init : goal.loop-key-init
@@ -24,3 +25,9 @@ loop-key-preserved g c = line_goes_on Back _ _ _ _ _ _ _ c.loop-key.invariant _ 
 -- no pair was left
 pub returns : goal.returns
 returns g c = line_ends Back _ _ _ _ _ _ _ c.loop-key.invariant c.in_default.ensures.steps _ c.write_whole.ensures
+
+pub iter-pairs-requires : goal.iter-pairs-requires
+iter-pairs-requires g c = (search fits, (search fits, (search fits, search fits)))
+
+pub next_back-requires : goal.next_back-requires
+next_back-requires g c = (search fits, (search fits, (search fits, tt)))
