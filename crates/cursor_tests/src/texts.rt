@@ -44,7 +44,7 @@ fn texts_of_places_steps(rt: &impl Abort, alloc: Global) -> Result<(), AllocErro
 
 #[test]
 fn shows_where_a_key_is(rt: HostRuntime) {
-    assert!(rt; succeeds(|| texts_of_places_steps(&rt, rt.alloc())));
+    assert!(rt; succeeds(rt.alloc(), || texts_of_places_steps(&rt, rt.alloc())));
 }
 
 /// The text of a walk that has made its first move.
@@ -66,7 +66,7 @@ fn text_of_a_begun_walk_steps(rt: &impl Abort, alloc: Global) -> Result<(), Allo
 
 #[test]
 fn shows_both_ends(rt: HostRuntime) {
-    assert!(rt; succeeds(|| text_of_a_begun_walk_steps(&rt, rt.alloc())));
+    assert!(rt; succeeds(rt.alloc(), || text_of_a_begun_walk_steps(&rt, rt.alloc())));
 }
 
 fn text_of_nothing_steps(rt: &impl Abort, alloc: Global) -> Result<(), AllocError> {
@@ -77,5 +77,5 @@ fn text_of_nothing_steps(rt: &impl Abort, alloc: Global) -> Result<(), AllocErro
 
 #[test]
 fn shows_nothing_of_an_empty_index(rt: HostRuntime) {
-    assert!(rt; succeeds(|| text_of_nothing_steps(&rt, rt.alloc())));
+    assert!(rt; succeeds(rt.alloc(), || text_of_nothing_steps(&rt, rt.alloc())));
 }

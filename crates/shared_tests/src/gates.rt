@@ -123,7 +123,7 @@ fn gate_needs_two_workers(rt: HostRuntime) {
             Err(StormError::GateStopped) => panic!(rt; "the workers did not meet"),
         }
     };
-    assert!(rt; succeeds(steps));
+    assert!(rt; succeeds(rt.alloc(), steps));
 }
 
 // One worker waits in vain, and stops.
@@ -134,5 +134,5 @@ fn gate_stops_a_worker_alone(rt: HostRuntime) {
         Err(StormError::Refused) => Err(AllocError),
         Err(StormError::GateStopped) => Ok(()),
     };
-    assert!(rt; succeeds(steps));
+    assert!(rt; succeeds(rt.alloc(), steps));
 }

@@ -14,6 +14,8 @@ mod look_ups;
 #[cfg(test)]
 mod refusals;
 #[cfg(test)]
+mod refused_shapes;
+#[cfg(test)]
 mod removals;
 #[cfg(test)]
 mod runs;

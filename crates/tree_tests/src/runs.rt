@@ -1,4 +1,5 @@
 //! Lists of commands that an index answers.
+use crate::refusals::ample;
 use std::alloc::{AllocError, Global};
 use std::ops::Bound;
 use std::process::Abort;
@@ -49,7 +50,31 @@ fn runs_every_command_steps(rt: &impl Abort, alloc: Global) -> Result<(), AllocE
 
 #[test]
 fn runs_every_command(rt: HostRuntime) {
-    assert!(rt; succeeds(|| runs_every_command_steps(&rt, rt.alloc())));
+    assert!(rt; succeeds(rt.alloc(), || runs_every_command_steps(&rt, rt.alloc())));
+}
+
+/// Runs two commands over a new index. Where the room for the replies is refused, so is the run. Where memory for the pair
+/// is, so is the first command. The same commands are answered then.
+fn runs_twice_steps(rt: &impl Abort, alloc: Global) -> Result<(), AllocError> {
+    let mut index: TreeIndex<u64, u64> = TreeIndex::new(alloc);
+    let mut refused = false;
+    for _ in 0..2 {
+        let commands = vec![in alloc; Command::Insert(1, 10), Command::Peek(1)]?;
+        if let Ok(replies) = run(&mut index, commands) {
+            if replies.as_slice() == [Reply::Stored, Reply::Found(Some(10))].as_slice() {
+                return ample(refused);
+            }
+            assert!(rt; replies.as_slice() == [Reply::Refused, Reply::Found(None)].as_slice());
+        }
+        assert!(rt; index.is_empty());
+        refused = true;
+    }
+    Err(AllocError)
+}
+
+#[test]
+fn runs_again_what_was_refused(rt: HostRuntime) {
+    assert!(rt; succeeds(rt.alloc(), || runs_twice_steps(&rt, rt.alloc())));
 }
 
 /// Runs an upsert of a value at the key 1, and a look-up of it. Returns whether it was stored; if not, the value that
@@ -92,7 +117,12 @@ fn goes_on_after_a_refusal_steps(rt: &impl Abort, alloc: Global) -> Result<(), A
 
 #[test]
 fn goes_on_after_a_refusal(rt: HostRuntime) {
-    assert!(rt; succeeds(|| goes_on_after_a_refusal_steps(&rt, rt.alloc())));
+    assert!(rt;
+        succeeds(
+            rt.alloc(),
+            || goes_on_after_a_refusal_steps(&rt, rt.alloc())
+        )
+    );
 }
 
 /// So many ascending inserts, and the depth then.
@@ -141,5 +171,5 @@ fn runs_ascending_inserts_steps(rt: &impl Abort, alloc: Global) -> Result<(), Al
 
 #[test]
 fn runs_ascending_inserts(rt: HostRuntime) {
-    assert!(rt; succeeds(|| runs_ascending_inserts_steps(&rt, rt.alloc())));
+    assert!(rt; succeeds(rt.alloc(), || runs_ascending_inserts_steps(&rt, rt.alloc())));
 }

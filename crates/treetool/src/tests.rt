@@ -4,7 +4,6 @@ use std::alloc::{AllocError, Global};
 use std::io;
 use std::io::{Cursor, ErrorKind, Read, Write};
 use std::sync::Wait;
-use std::test::Fail;
 use std::thread::Threads;
 
 const REQUESTS: &[u8] = b"insert 1 10\npeek 1\ninsert 2 20\npeek 2";
@@ -53,7 +52,19 @@ fn ends_with<R: Threads + Wait + Sync, I: Read + Drop>(
     ended == status && silent && &memory[..written.min(64)] == answers
 }
 
-// A run that memory was refused answers otherwise, so it is made once more.
+// Whether this holds, at once or the second time: a run that is refused memory answers otherwise. Where both were refused
+// some, a request of this function is refused too.
+pub(crate) fn holds<F: Fn() -> bool + Drop>(alloc: Global, once: F) -> bool
+    requires { F.IsAlwaysCallable once }
+{
+    once() || once() || is_out_of_memory(alloc)
+}
+
+// Whether a small request for memory is refused.
+fn is_out_of_memory(alloc: Global) -> bool {
+    Vec::<u8>::with_capacity(alloc, 1).is_err()
+}
+
 #[test]
 fn ends_at_the_end_of_the_input(rt: HostRuntime) {
     for (input, answers) in [
@@ -63,7 +74,7 @@ fn ends_at_the_end_of_the_input(rt: HostRuntime) {
         (WALKS, PAIRS),
     ] {
         let once = || ends_with(&rt, rt.alloc(), input, 64, (0, answers));
-        assert!(rt; once() || once(), "{input:?}");
+        assert!(rt; holds(rt.alloc(), once), "{input:?}");
     }
 }
 
@@ -73,7 +84,7 @@ fn tells_that_a_read_failed(rt: HostRuntime) {
         for (count, answered) in [(0, 0), (11, 0), (12, 3), (18, 3), (19, 6), (31, 9), (37, 9)] {
             let (input, answers) = (REQUESTS.split_at(count).0, ANSWERS.split_at(answered).0);
             let once = || ends_with(&rt, rt.alloc(), input.chain(Broken(kind)), 64, (2, answers));
-            assert!(rt; once() || once(), "{kind:?} after {count}");
+            assert!(rt; holds(rt.alloc(), once), "{kind:?} after {count}");
         }
     }
 }
@@ -85,7 +96,7 @@ fn tells_that_a_write_failed(rt: HostRuntime) {
         for room in 0..answers.len() {
             let part = answers.split_at(room).0;
             let once = || ends_with(&rt, rt.alloc(), requests, room, (2, part));
-            assert!(rt; once() || once(), "with room for {room}");
+            assert!(rt; holds(rt.alloc(), once), "with room for {room}");
         }
     }
     for kind in [ErrorKind::Other, ErrorKind::Interrupted] {
@@ -121,10 +132,14 @@ static UNKNOWN: [&str; 14] = [
 ];
 
 #[test]
-fn shows_the_usage(rt: HostRuntime) -> Result<(), Fail> {
+fn shows_the_usage(rt: HostRuntime) {
     let usage = b"usage: treetool [storm W N]\n".as_slice();
     for line in &UNKNOWN {
-        let arguments = words_of(rt.alloc(), line).or_else(|_| words_of(rt.alloc(), line))?;
+        let Ok(arguments) = words_of(rt.alloc(), line).or_else(|_| words_of(rt.alloc(), line))
+        else {
+            assert!(rt; is_out_of_memory(rt.alloc()));
+            return;
+        };
         for (room, shown) in [(64, usage), (0, b""), (3, b"usa")] {
             let mut input = REQUESTS;
             let mut taken = [0; 64];
@@ -149,5 +164,4 @@ fn shows_the_usage(rt: HostRuntime) -> Result<(), Fail> {
             1
         );
     }
-    Ok(())
 }

@@ -122,7 +122,12 @@ fn tells_that_a_read_failed(rt: HostRuntime) {
         for by in [Failure::Broken, Failure::Interrupted] {
             for passes in 0..=script.lines.len() as u64 {
                 let failing = Failing { passes, by };
-                assert!(rt; succeeds(|| expect_read_fails(&rt, rt.alloc(), script, failing)));
+                assert!(rt;
+                    succeeds(
+                        rt.alloc(),
+                        || expect_read_fails(&rt, rt.alloc(), script, failing)
+                    )
+                );
             }
         }
     }
@@ -148,7 +153,12 @@ fn tells_that_a_write_failed(rt: HostRuntime) {
         for by in [Failure::Broken, Failure::Interrupted, Failure::Stalled] {
             for passes in 0..script.answers.len() as u64 {
                 let failing = Failing { passes, by };
-                assert!(rt; succeeds(|| expect_write_fails(&rt, rt.alloc(), script, failing)));
+                assert!(rt;
+                    succeeds(
+                        rt.alloc(),
+                        || expect_write_fails(&rt, rt.alloc(), script, failing)
+                    )
+                );
             }
         }
     }
