@@ -47,7 +47,7 @@ fn shows_where_a_key_is(rt: HostRuntime) {
     assert!(rt; succeeds(rt.alloc(), || texts_of_places_steps(&rt, rt.alloc())));
 }
 
-/// The text of a walk that has made its first move.
+/// The texts of a walk that has made its first move, and of a range that has made one from each end.
 fn expect_begun(
     rt: &impl Abort,
     alloc: Global,
@@ -56,17 +56,24 @@ fn expect_begun(
     let mut iter = index.iter();
     iter.next();
     let begun = "Iter { forward: Some((1, 10)), backward: None }";
-    expect_text(rt, alloc, &iter, begun)
+    expect_text(rt, alloc, &iter, begun)?;
+    let mut range = index.range((Bound::Included(&1), Bound::Excluded(&5)));
+    range.next();
+    let begun = "Range { forward: Some((1, 10)), backward: None }";
+    expect_text(rt, alloc, &range, begun)?;
+    range.next_back();
+    let both = "Range { forward: Some((1, 10)), backward: Some((3, 4)) }";
+    expect_text(rt, alloc, &range, both)
 }
 
-fn text_of_a_begun_walk_steps(rt: &impl Abort, alloc: Global) -> Result<(), AllocError> {
+fn texts_of_begun_walks_steps(rt: &impl Abort, alloc: Global) -> Result<(), AllocError> {
     let index = index_of(alloc, &[(1, 10), (3, 4)])?;
     expect_begun(rt, alloc, &index)
 }
 
 #[test]
 fn shows_both_ends(rt: HostRuntime) {
-    assert!(rt; succeeds(rt.alloc(), || text_of_a_begun_walk_steps(&rt, rt.alloc())));
+    assert!(rt; succeeds(rt.alloc(), || texts_of_begun_walks_steps(&rt, rt.alloc())));
 }
 
 fn text_of_nothing_steps(rt: &impl Abort, alloc: Global) -> Result<(), AllocError> {

@@ -1,5 +1,5 @@
 //! Worked walks of cursors.
-use crate::said::{Said, make, numbers, said_by};
+use crate::said::{Entry, Said, make, numbers, said_by};
 use std::alloc::{AllocError, Global};
 use std::ops::Bound;
 use std::process::Abort;
@@ -17,7 +17,7 @@ struct Row {
     opened_answers: &'static [Said],
 }
 
-static ROWS: [Row; 12] = [
+static ROWS: [Row; 11] = [
     Row {
         pairs: &[(1, 2), (3, 4)],
         bounds: (Bound::Unbounded, Bound::Unbounded),
@@ -201,16 +201,8 @@ static ROWS: [Row; 12] = [
     Row {
         pairs: &[(1, 1), (2, 2), (3, 3), (4, 4)],
         bounds: (Bound::Included(4), Bound::Excluded(2)),
-        moves: &[Move::Next],
-        answers: &[Said::Pair(None)],
-        opened_moves: &[],
-        opened_answers: &[],
-    },
-    Row {
-        pairs: &[(1, 1), (2, 2), (3, 3), (4, 4)],
-        bounds: (Bound::Included(4), Bound::Excluded(2)),
-        moves: &[Move::NextBack],
-        answers: &[Said::Pair(None)],
+        moves: &[Move::Next, Move::NextBack],
+        answers: &[Said::Pair(None), Said::Pair(None)],
         opened_moves: &[],
         opened_answers: &[],
     },
@@ -412,12 +404,26 @@ fn a_clone_moves_alone(rt: HostRuntime) {
     assert!(rt; succeeds(rt.alloc(), || meets_at_a_leaf_steps(&rt, rt.alloc())));
 }
 
+/// The last pair that a fresh range over all pairs gives.
+fn last(index: &TreeIndex<u64, u64>) -> Entry {
+    let mut range = index.range((Bound::Unbounded, Bound::Unbounded));
+    numbers(range.next_back())
+}
+
+/// Removes the only key of the last leaf, and then stores a larger one.
+fn expect_last_leaf(rt: &impl Abort, index: &mut TreeIndex<u64, u64>) -> Result<(), AllocError> {
+    assert!(rt; index.remove_sync(&15));
+    assert!(rt; index.spare() == 0 && last(index) == Some((14, 14)));
+    if index.insert_sync(16, 0).is_err() {
+        return Err(AllocError);
+    }
+    assert!(rt; last(index) == Some((16, 0)));
+    Ok(())
+}
+
 fn passes_an_empty_leaf_steps(rt: &impl Abort, alloc: Global) -> Result<(), AllocError> {
     let mut index = ascending(alloc, 0, 15)?;
-    assert!(rt; index.remove_sync(&15));
-    let mut range = index.range((Bound::Unbounded, Bound::Unbounded));
-    assert!(rt; numbers(range.next_back()) == Some((14, 14)));
-    Ok(())
+    expect_last_leaf(rt, &mut index)
 }
 
 #[test]

@@ -12,7 +12,7 @@ use tree_node::leaf_node::LeafNodeOf;
 
 /// The calls of a root over one empty leaf, until the root is retired. If the root is an internal node, the leaf node
 /// below it is dropped then.
-static FEW: [Step; 25] = [
+static FEW: [Step; 29] = [
     Step::Insert(10, 10, 1, Told::Success),
     Step::Insert(20, 20, 2, Told::Success),
     Step::Insert(20, 20, 3, Told::Duplicate),
@@ -24,6 +24,9 @@ static FEW: [Step; 25] = [
     Step::RemoveRange(Bound::Excluded(10), Bound::Excluded(20), 1),
     Step::RemoveRange(Bound::Included(20), Bound::Included(10), 1),
     Step::Ends(Some((10, 11)), Some((20, 24))),
+    Step::Near(9, None, Some((10, 11))),
+    Step::Near(15, Some((10, 11)), Some((20, 24))),
+    Step::Near(21, Some((20, 24)), None),
     Step::Remove(15, 15, 1, RemoveResult::Fail),
     Step::Remove(10, 10, 4, RemoveResult::Fail),
     Step::Remove(10, 10, 1, RemoveResult::Success),
@@ -36,6 +39,7 @@ static FEW: [Step; 25] = [
     Step::Remove(20, 20, 4, RemoveResult::Fail),
     Step::RemoveRange(Bound::Unbounded, Bound::Unbounded, 0),
     Step::Find(20, None),
+    Step::Near(20, None, None),
     Step::Ends(None, None),
     Step::Shape(1, 0, 1),
 ];

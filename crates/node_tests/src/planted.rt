@@ -120,6 +120,12 @@ where
         Some((*key, *val))
     }
 
+    /// The entry nearest to a key: at or below it with `LE`, and at or above it without.
+    pub(crate) fn near<const LE: bool>(&self, key: u64) -> Option<(u64, u64)> {
+        let (key, val) = N::approximate::<LE, u64>(&self.arenas, self.root, &key)?.get()?;
+        Some((*key, *val))
+    }
+
     /// The depth, and how many leaves and nodes there are.
     pub(crate) fn shape(&self) -> (usize, usize, usize) {
         let depth = N::depth(&self.arenas, self.root);

@@ -43,6 +43,8 @@ pub(crate) enum Step {
     Find(u64, Option<u64>),
     /// Finds the first pair and the last one.
     Ends(Option<(u64, u64)>, Option<(u64, u64)>),
+    /// Finds the pair nearest to a key, at or below it and at or above it.
+    Near(u64, Option<(u64, u64)>, Option<(u64, u64)>),
     /// Tells the depth, and counts the leaves and the nodes in the arenas.
     Shape(usize, usize, usize),
     /// Tells whether the root is retired, and whether its child may take its place.
@@ -82,6 +84,9 @@ fn answers<N: NodeCalls<u64, LEN> + Drop, const LEVEL: usize, const LEN: usize>(
         }
         Step::Find(key, val) => Ok(finds(tree, *key, *val)),
         Step::Ends(first, last) => Ok(tree.first() == *first && tree.last() == *last),
+        Step::Near(key, below, above) => {
+            Ok(tree.near::<true>(*key) == *below && tree.near::<false>(*key) == *above)
+        }
         Step::Shape(depth, leaves, nodes) => Ok(tree.shape() == (*depth, *leaves, *nodes)),
         Step::Marks(retired, cleanup) => Ok(tree.marks() == (*retired, *cleanup)),
     }

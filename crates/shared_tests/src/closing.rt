@@ -9,6 +9,7 @@ use std::process::Abort;
 use std::sync::Wait;
 use std::sync::ledger::Ledger;
 use test_support::refusals::succeeds;
+use tree_index::{Command, Reply};
 use tree_shared::{Pass, SharedTreeIndex, Tally, Unclosed};
 
 /// With no worker nothing is counted.
@@ -46,7 +47,7 @@ fn nothing_is_counted_without_workers(rt: HostRuntime) {
     assert!(rt; succeeds(rt.alloc(), || play(&rt, rt.alloc(), 0, Scenario::NoWorker)));
 }
 
-/// With one of two passes the index comes back, and with both it is closed.
+/// With the pass of the only call, one of two, the index comes back, and with both it is closed.
 pub(crate) fn closes_with_all_passes<
     C: Ledger,
     S: Ledger,
@@ -61,15 +62,21 @@ pub(crate) fn closes_with_all_passes<
 ) -> Result<(), AllocError>
     requires { All (λ pass. pass ≡ none) passes.items }
 {
-    let Some(mut kept) = passes.pop() else {
+    let Some(idle) = passes.pop() else {
         panic!(rt; "no pass")
     };
-    assert!(rt; stored(shared.insert(rt, &mut kept, 1, 10))?);
+    let Some(pass) = passes.get_mut(0) else {
+        panic!(rt; "one pass alone")
+    };
+    assert!(rt; stored(shared.insert(rt, pass, 1, 10))?);
     let Err(Unclosed::PassMissing(shared, mut passes)) = shared.close(passes) else {
         panic!(rt; "closed without a pass")
     };
-    assert!(rt; passes.len() == 1);
-    passes.push(kept)?;
+    let [pass] = passes.as_slice() else {
+        panic!(rt; "not the one pass")
+    };
+    assert!(rt; pass.tally().calls == 1);
+    passes.push(idle)?;
     let Some(closed) = closed_with(shared, passes) else {
         panic!(rt; "not closed")
     };
@@ -118,7 +125,11 @@ pub(crate) fn parts_while_a_pass_is_out<
     assert!(rt; stored(shared.insert(rt, pass, 1, 10))?);
     let (index, history) = shared.into_parts();
     assert!(rt; index.peek(&1).copied() == Some(10));
-    assert!(rt; index.len() == 1 && history.len() == 1);
+    let [record] = history.as_slice() else {
+        panic!(rt; "not the one call")
+    };
+    assert!(rt; record.command == Command::Insert(1, 10) && record.reply == Reply::Stored);
+    assert!(rt; index.len() == 1);
     Ok(())
 }
 

@@ -1,10 +1,27 @@
-//! Workers that must meet.
-use std::alloc::AllocError;
+//! Workers at a gate.
+ghost use Rattle.std.specs.Prelude.{◌≤◌};
+
+use std::alloc::{AllocError, Global};
+use std::process::Abort;
+use std::sync::Wait;
 use std::sync::atomic::{AtomicBool, AtomicU64, Ordering};
 use std::thread;
+use std::thread::Threads;
 use std::time::{Clock, Duration};
 use test_support::refusals::succeeds;
-use tree_workers::{Gate, StormError, run_workers};
+use tree_index::{Command, Record};
+use tree_workers::{Gate, OpenGate, StormError, run_workers};
+
+// Waits for a flag, at most so many milliseconds. Returns whether it was raised.
+fn is_raised<R: Clock>(rt: &R, flag: &AtomicBool, patience: u64) -> bool {
+    for _ in 0..patience {
+        if flag.load(Ordering::SeqCst) {
+            return true;
+        }
+        thread::sleep(rt, Duration::from_millis(1));
+    }
+    false
+}
 
 // What a worker asked its gate and told it.
 #[derive(Drop)]
@@ -73,16 +90,6 @@ impl<R: Clock> Meeting<R> {
         }
     }
 
-    fn waits_for(&self, other: &Turns) -> bool {
-        for _ in 0..self.patience {
-            if other.is_here.load(Ordering::SeqCst) {
-                return true;
-            }
-            thread::sleep(&self.rt, Duration::from_millis(1));
-        }
-        false
-    }
-
     // Whether both workers told so many calls, each by turns.
     fn saw(&self, calls: u64) -> bool {
         self.is_in_turn.load(Ordering::SeqCst)
@@ -96,7 +103,7 @@ impl<R: Clock> Gate for Meeting<R> {
         let (own, other) = self.turns(worker);
         self.note(own.asks(call));
         own.is_here.store(true, Ordering::SeqCst);
-        call != 1 || self.waits_for(other)
+        call != 1 || is_raised(&self.rt, &other.is_here, self.patience)
     }
 
     fn after(&self, worker: usize, call: u64) {
@@ -135,4 +142,106 @@ fn gate_stops_a_worker_alone(rt: HostRuntime) {
         Err(StormError::GateStopped) => Ok(()),
     };
     assert!(rt; succeeds(rt.alloc(), steps));
+}
+
+// Lets the second worker begin once the first has told its second call, and holds the first there until the second asks
+// for its own second call.
+#[derive(Drop)]
+struct Relay<R> {
+    rt: R,
+    told: AtomicBool,
+    went_on: AtomicBool,
+}
+
+impl<R: Clock> Gate for Relay<R> {
+    fn before(&self, worker: usize, call: u64) -> bool {
+        if worker == 1 && call == 2 {
+            self.went_on.store(true, Ordering::SeqCst);
+        }
+        worker != 1 || call != 1 || is_raised(&self.rt, &self.told, 3_000)
+    }
+
+    fn after(&self, worker: usize, call: u64) {
+        if worker == 0 && call == 2 {
+            self.told.store(true, Ordering::SeqCst);
+            is_raised(&self.rt, &self.went_on, 3_000);
+        }
+    }
+}
+
+// Whether a history inserts these keys, each as its own value, in this order.
+fn inserts(history: &[Record<u64, u64>], keys: &[u64]) -> bool {
+    for (record, key) in history.iter().zip(keys) {
+        if record.command != Command::Insert(*key, *key) {
+            return false;
+        }
+    }
+    history.len() == keys.len()
+}
+
+// The inserts of a storm are these, in this order. Returns `Err` if one is refused, or a thread.
+fn expect_inserts<R: Threads + Wait + Abort + Sync, G: Gate + Sync>(
+    rt: &R,
+    alloc: Global,
+    workers: usize,
+    n: u64,
+    gate: &G,
+    keys: &[u64],
+) -> Result<(), AllocError>
+    requires { (1 ≤ workers) × (workers ≤ 64) }
+{
+    match run_workers(rt, alloc, workers, n, gate) {
+        Ok(closed) => {
+            if closed.history.len() < keys.len() {
+                return Err(AllocError);
+            }
+            assert!(rt; inserts(&closed.history, keys));
+            Ok(())
+        }
+        Err(StormError::Refused) => Err(AllocError),
+        Err(StormError::GateStopped) => panic!(rt; "the gate stopped a worker"),
+    }
+}
+
+#[test]
+fn a_worker_inserts_in_ascending_order(rt: HostRuntime) {
+    let keys = [1, 2, 3, 4, 5];
+    assert!(rt; succeeds(rt.alloc(), || expect_inserts(&rt, rt.alloc(), 1, 5, &OpenGate, &keys)));
+}
+
+#[test]
+fn a_call_is_told_once_it_is_answered(rt: HostRuntime) {
+    let steps = || {
+        let gate = Relay {
+            rt,
+            told: AtomicBool::new(false),
+            went_on: AtomicBool::new(false),
+        };
+        expect_inserts(&rt, rt.alloc(), 2, 2, &gate, &[1, 2, 1, 2])
+    };
+    assert!(rt; succeeds(steps));
+}
+
+// Stops this worker at its second call.
+#[derive(Clone, Copy)]
+struct Stop(usize);
+
+impl Gate for Stop {
+    fn before(&self, worker: usize, call: u64) -> bool {
+        worker != self.0 || call < 2
+    }
+
+    fn after(&self, _worker: usize, _call: u64) {}
+}
+
+#[test]
+fn tells_of_any_worker_that_stopped(rt: HostRuntime) {
+    for worker in 0..3 {
+        let steps = || match run_workers(&rt, rt.alloc(), 3, 5, &Stop(worker)) {
+            Ok(_) => panic!(rt; "the stop of worker {worker} was not told"),
+            Err(StormError::Refused) => Err(AllocError),
+            Err(StormError::GateStopped) => Ok(()),
+        };
+        assert!(rt; succeeds(steps));
+    }
 }

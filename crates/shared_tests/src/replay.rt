@@ -1,42 +1,55 @@
-//! A history of calls on single keys, replayed on the plain index.
+//! A history, replayed on the ordered map of the standard library.
 use std::alloc::{AllocError, Global};
-use tree_index::{Command, InsertError, Record, Reply};
-use tree_model::PlainIndex;
+use std::collections::BTreeMap;
+use std::ops::RangeBounds;
+use tree_index::{Command, Record, Reply, TreeIndex};
 
-/// Returns whether each command of a history is answered by its reply on a plain index that is empty at first, and
-/// leaves as many pairs.
+/// Returns whether a map that is empty at first gives each command the reply in the history, and then has the pairs of
+/// the index.
 pub(crate) fn replays(
     alloc: Global,
     history: &[Record<u64, u64>],
-    left: usize,
+    index: &TreeIndex<u64, u64>,
 ) -> Result<bool, AllocError> {
-    let mut plain = PlainIndex::new(alloc);
+    let mut map = BTreeMap::new(alloc);
     for record in history {
-        match reply_of(&mut plain, &record.command)? {
-            Some(reply) if reply == record.reply => {}
-            _ => return Ok(false),
+        if reply_of(&mut map, &record.command)? != record.reply {
+            return Ok(false);
         }
     }
-    Ok(plain.len() == left)
+    Ok(has_the_pairs(&map, index))
 }
 
-// The reply to a command on a single key.
+// The reply to a command.
 fn reply_of(
-    plain: &mut PlainIndex<u64, u64>,
+    map: &mut BTreeMap<u64, u64>,
     command: &Command<u64, u64>,
-) -> Result<Option<Reply<u64>>, AllocError> {
-    Ok(Some(match command {
-        Command::Insert(key, value) => match plain.insert(*key, *value) {
-            Ok(()) => Reply::Stored,
-            Err(InsertError::Duplicate(_, _)) => Reply::Duplicate,
-            Err(InsertError::OutOfMemory(_, _)) => return Err(AllocError),
-        },
-        Command::Upsert(key, value) => {
-            plain.upsert(*key, *value).map_err(|_| AllocError)?;
+) -> Result<Reply<u64>, AllocError> {
+    Ok(match command {
+        Command::Insert(key, _) if map.contains_key(key) => Reply::Duplicate,
+        Command::Insert(key, value) | Command::Upsert(key, value) => {
+            map.insert(*key, *value).map_err(|_| AllocError)?;
             Reply::Stored
         }
-        Command::Remove(key) => Reply::Removed(plain.remove(key)),
-        Command::Peek(key) => Reply::Found(plain.peek(key).copied()),
-        Command::RemoveRange(_, _) | Command::Clear => return Ok(None),
-    }))
+        Command::Remove(key) => Reply::Removed(map.remove(key).is_some()),
+        Command::RemoveRange(low, high) => {
+            map.retain(|key, _| !(*low, *high).contains(key));
+            Reply::Done
+        }
+        Command::Clear => {
+            map.clear();
+            Reply::Done
+        }
+        Command::Peek(key) => Reply::Found(map.get(key).copied()),
+    })
+}
+
+// Whether a map has the pairs of an index.
+fn has_the_pairs(map: &BTreeMap<u64, u64>, index: &TreeIndex<u64, u64>) -> bool {
+    for (pair, wanted) in map.iter().zip(index.iter()) {
+        if pair != wanted {
+            return false;
+        }
+    }
+    map.len() == index.len()
 }

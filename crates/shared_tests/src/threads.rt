@@ -14,12 +14,12 @@ use test_support::refusals::succeeds;
 use tree_index::{Command, Record, Reply};
 use tree_shared::{Pass, SharedTreeIndex, Tally};
 
-// A worker with its number, and whether each of its calls was answered.
+/// A worker with its number, and whether each of its calls was answered.
 #[derive(Drop)]
-struct Racer<C: Ledger, S: Ledger, M: Ledger, F: Ledger, D: Ledger> {
-    number: u64,
-    pass: Pass<C, S, M, F, D>,
-    served: bool,
+pub(crate) struct Racer<C: Ledger, S: Ledger, M: Ledger, F: Ledger, D: Ledger> {
+    pub(crate) number: u64,
+    pub(crate) pass: Pass<C, S, M, F, D>,
+    pub(crate) served: bool,
 }
 
 impl<C: Ledger, S: Ledger, M: Ledger, F: Ledger, D: Ledger> Racer<C, S, M, F, D> {
@@ -49,8 +49,8 @@ impl<C: Ledger, S: Ledger, M: Ledger, F: Ledger, D: Ledger> Racer<C, S, M, F, D>
     }
 }
 
-// A racer for each pass, numbered from 0.
-fn racers<C: Ledger, S: Ledger, M: Ledger, F: Ledger, D: Ledger>(
+/// A racer for each pass, numbered from 0.
+pub(crate) fn racers<C: Ledger, S: Ledger, M: Ledger, F: Ledger, D: Ledger>(
     alloc: Global,
     passes: Vec<Pass<C, S, M, F, D>>,
 ) -> Result<Vec<Racer<C, S, M, F, D>>, AllocError> {
@@ -66,8 +66,8 @@ fn racers<C: Ledger, S: Ledger, M: Ledger, F: Ledger, D: Ledger>(
     Ok(racers)
 }
 
-// The passes of racers, or an error if a call of one was refused.
-fn passes_of<C: Ledger, S: Ledger, M: Ledger, F: Ledger, D: Ledger>(
+/// The passes of racers, or an error if a call of one was refused.
+pub(crate) fn passes_of<C: Ledger, S: Ledger, M: Ledger, F: Ledger, D: Ledger>(
     alloc: Global,
     racers: Vec<Racer<C, S, M, F, D>>,
 ) -> Result<Vec<Pass<C, S, M, F, D>>, AllocError> {
@@ -84,9 +84,9 @@ fn passes_of<C: Ledger, S: Ledger, M: Ledger, F: Ledger, D: Ledger>(
 // What is added to the number of threads where one waited in vain.
 const TOO_LATE: u64 = 1 << 32;
 
-// Waits a while for as many threads as there are racers. Returns whether they all came: where a thread or its memory is
-// refused, its racer comes once another has raced.
-fn all_meet<R: Clock>(rt: &R, here: &AtomicU64, racers: u64) -> bool {
+/// Waits a while for as many threads as there are racers. Returns whether they all came: where a thread or its memory is
+/// refused, its racer comes once another has raced.
+pub(crate) fn all_meet<R: Clock>(rt: &R, here: &AtomicU64, racers: u64) -> bool {
     here.fetch_add(1, Ordering::SeqCst);
     for _ in 0..3_000 {
         let came = here.load(Ordering::SeqCst);
@@ -134,7 +134,7 @@ pub(crate) fn two_insert<
     };
     assert!(rt; closed.tally == wanted);
     assert!(rt; closed.index.len() == 100);
-    assert!(rt; replays(alloc, &closed.history, 100)?);
+    assert!(rt; replays(alloc, &closed.history, &closed.index)?);
     assert!(rt; ends_with_look_ups(&closed.history));
     Ok(())
 }
@@ -190,12 +190,12 @@ pub(crate) fn eight_race<
     };
     assert!(rt; closed.tally.calls == 2400 && closed.tally.stored >= 900);
     assert!(rt; closed.index.is_empty());
-    assert!(rt; replays(alloc, &closed.history, 0)?);
+    assert!(rt; replays(alloc, &closed.history, &closed.index)?);
     for number in 0..8 {
         assert!(rt; has_calls_of(&closed.history, number));
     }
     for key in 1..=100 {
-        assert!(rt; removals(&closed.history, key) == 8);
+        assert!(rt; count(&closed.history, &Command::Remove(key)) == 8);
     }
     Ok(())
 }
@@ -223,12 +223,11 @@ fn has_calls_of(history: &[Record<u64, u64>], number: u64) -> bool {
     inserted == 100 && upserted == 100
 }
 
-// How many removals of a key the history has.
-fn removals(history: &[Record<u64, u64>], key: u64) -> usize {
-    let wanted = Command::Remove(key);
+/// How often the history has a command.
+pub(crate) fn count(history: &[Record<u64, u64>], command: &Command<u64, u64>) -> usize {
     history
         .iter()
-        .filter(|record| record.command == wanted)
+        .filter(|record| record.command == *command)
         .count()
 }
 

@@ -1,5 +1,6 @@
 //! How an internal node makes room in a child node.
-ghost use Rattle.std.specs.Prelude.{◌<◌, IfOk, IsOk, OnErr, ℕ};
+ghost use Rattle.std.specs.Prelude.{◌≡◌, ◌<◌, IfOk, IsOk, OnErr, ℕ};
+ghost use Rattle.slab.specs.Slab.{get};
 ghost use Rattle.tree_leaf.specs.Arena.{HasPlaces};
 ghost use Rattle.tree_leaf.specs.Counting.{times};
 ghost use Rattle.tree_node.specs.Parts.{IsPart, Unchanged};
@@ -22,7 +23,7 @@ pub trait InternalNodeCalls<K: Ord + Drop, const LEN: usize> {
     ///    comes from the child, so that no key is cloned.
     ///
     /// Returns `Err` if memory is refused, and then nothing changed; never if a place for one more node was reserved.
-    /// Makes no comparisons but those of the insert into the parent. Allocates at most one node.
+    /// Makes no comparisons but those of the insert into the parent. Allocates at most one node. No leaf changes.
     ///
     /// The caller must give the number of an internal node under which a well-formed part of a tree stands, and a
     /// child of it.
@@ -34,6 +35,7 @@ pub trait InternalNodeCalls<K: Ord + Drop, const LEN: usize> {
         requires part { (level : ℕ) × (1 < level) × IsPart K.cmp level arenas.old parent }
         requires child { 0 < times target (children_of arenas.old.nodes parent) }
         ensures done { (level : ℕ) → 1 < level → IsPart K.cmp level arenas.old parent → IfOk result (λ split. SplitResult K.cmp split level arenas.old arenas.new parent target) }
+        ensures leaves { (n : ℕ) → get arenas.new.leaves n ≡ get arenas.old.leaves n }
         ensures err { OnErr result (Unchanged arenas.old arenas.new) }
         ensures places { HasPlaces arenas.old 0 1 → IsOk result }
     {

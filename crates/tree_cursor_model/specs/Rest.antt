@@ -1,5 +1,5 @@
 -- What a cursor has still to give, and what holds of every cursor.
-use Rattle.std.specs.Prelude.{◌≡◌, ℕ, ◌+◌, Bool, true, List, filter, length, take, drop, slice_get, Option, Some}
+use Rattle.std.specs.Prelude.{◌≡◌, ℕ, ◌+◌, ◌<◌, Bool, true, List, filter, length, take, drop, slice_get, Option, Some}
 use Rattle.std.specs.Borrow.{Bor}
 use Rattle.std.specs.Option.{option_map}
 use Rattle.std.specs.declared.cmp.Ordering.{Ordering}
@@ -29,6 +29,12 @@ module _ {K V : Type 0} where
   -- the pairs between the ends
   abbrev pub between : Cursor K V → List (K × V)
   between c = piece c.pairs (from_end (length c.pairs) c.forward) (until_end (length c.pairs) c.backward)
+
+-- an end that is at a place is at one of the list
+abbrev pub StandsInside : {X : Type 0} → List X → End → Type 0
+StandsInside xs unopened = Unit {0}
+StandsInside xs (at_place i) = i < length xs
+StandsInside xs exhausted = Unit {0}
 
 -- an end that is at a place stands on an element that passes
 abbrev pub StandsWhere : {X : Type 0} → (X → Bool) → List X → End → Type 0
@@ -60,3 +66,4 @@ pub record Moves {K V : Type 0} (cmp : K → K → Ordering) (way : Way) (s : Cu
   pub moves : t ≡ moved cmp way s
   pub answers : lent r ≡ shown_apart cmp way t
   pub ascending : IsAscending cmp s.pairs
+  pub inside : StandsInside s.pairs s.backward

@@ -24,10 +24,18 @@ use Rattle.tree_node.specs.Arenas.{TreeArenas}
 use Rattle.tree_node.specs.Tree.{Stands as PartStands, StandsOrRetired, leaves_at, walk}
 use Rattle.tree_node.specs.Whole.{IsRetiredRoot, IsTree, leaves_under, walk_under}
 use Rattle.tree_cursor_model.specs.Cursor.{at_place, exhausted, meets, next_end, unopened}
+use Rattle.tree_cursor_model.specs.Rest.{StandsInside}
 use Rattle.tree_cursor_model.proofs.Places.{beside_is, beside_none, first_is, first_none}
 use Rattle.tree_walk.specs.Ends.{IsLinked}
 use Rattle.tree_cursors.specs.Seek.{Advances, IsNearest, Seeks, path}
-use Rattle.tree_cursors.specs.View.{GoesOn, Stands, place_at, place_in, place_of}
+use Rattle.tree_cursors.specs.declared.end.End.{End}
+use Rattle.tree_cursors.specs.declared.end.End.TheVariants.{Unopened, At, Exhausted}
+use Rattle.tree_cursors.specs.View.{EndStands, GoesOn, Stands, end_of, place_at, place_in, place_of}
+
+-- without a pair an end goes nowhere
+pub goes_nowhere : {K : Type 0} (V : Type 0) (cmp : K → K → Ordering) (way : Way) (bound : Bound K) → exhausted ≡ next_end {V = V} cmp way bound [] unopened
+goes_nowhere V cmp On bound = refl
+goes_nowhere V cmp Back bound = refl
 
 -- elements of joined lists
 get_left : {X : Type 0} (xs ys : List X) (i : ℕ) (x : X) → slice_get xs i ≡ Some x → slice_get (xs ++ ys) i ≡ Some x
@@ -124,6 +132,12 @@ module _ {K V : Type 0} {LEN : ℕ} {cmp : K → K → Ordering} (a : TreeArenas
   -- the place of a walk that stands in the tree
   pub placed_in : (now : LeafWalk K V LEN) (s : Stands a root now) → IsPlaced a.leaves s.front s.back (walk_under a root) (leaves_under a.nodes root) now s.pair
   placed_in now s = rw pairs_are (placed_on a.leaves (leaves_under a.nodes root) tree.chain now s.pair s.same s.front s.back s.stands s.here)
+
+  -- an end that stands in the tree is at one of its places
+  pub end_inside : (end : End (LeafWalk K V LEN)) → EndStands a root end → StandsInside (walk_under a root) (end_of a root end)
+  end_inside Unopened s = tt
+  end_inside (At walk) s = let placed = placed_in walk s in rw placed.place_is placed.inside
+  end_inside Exhausted s = tt
 
   module _ (way : Way) (old : LeafWalk K V LEN) (s : Stands a root old) (new : LeafWalk K V LEN) where
     pub old_chain : IsChain old.leaves (s.front ++ old.leaf ∷ s.back)

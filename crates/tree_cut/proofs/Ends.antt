@@ -10,11 +10,13 @@ use Rattle.tree_leaf.specs.Chain.{IsChain, first_or, last_or}
 use Rattle.tree_leaf.specs.Counting.{times, uses}
 use Rattle.tree_leaf.specs.Links.{Splices}
 use Rattle.tree_leaf.proofs.Chains.{linked_kept, neighbours, next_used, prev_used, same_array_uses}
+use Rattle.tree_leaf.proofs.Splices.{untouched_leaf}
 use Rattle.tree_leaf.proofs.Counts.{times-append, times-cons, times-nil, one_here, uses_le_one, in_use}
 use Rattle.tree_node.specs.declared.node.NodeOf.{NodeOf}
 use Rattle.tree_node.specs.Arenas.{TreeArenas}
 use Rattle.tree_node.specs.Parts.{IsPart, Replaces}
 use Rattle.tree_node.specs.Tree.{HasKind, Stands, unbounded, leaves_at, leaves_of, node_children, walk}
+use Rattle.tree_node.proofs.Beside.{apart_from_fewer, not_before, not_behind}
 use Rattle.tree_node.proofs.ChildrenStand.{children_stand}
 use Rattle.tree_node.proofs.Frames.{Agrees, same_stands, same_walk}
 use Rattle.tree_node.proofs.Lifts.{single_leaves, single_nodes, leaves_once_in}
@@ -128,11 +130,17 @@ module _ {K V : Type 0} {LEN : ℕ} (cmp : K → K → Ordering) (level : ℕ) (
       let split : front ++ (leaves_at level old.nodes id ++ back) ≡ (front ++ is_last.0) ++ last ∷ back = rw is_last.1 (simp append_assoc) in
       rw split at chain
 
+  first_inside : 1 ≤ times first (leaves_at level old.nodes id)
+  first_inside = omega (arith, ap (times first) is_first.1, times-cons first first is_first.0, one_here first first refl)
+
+  last_inside : 1 ≤ times last (leaves_at level old.nodes id)
+  last_inside = omega (arith, ap (times last) is_last.1, times-append last is_last.0 (last ∷ []), times-cons last last [], one_here last last refl)
+
   pub first_used : IsSome (get old.leaves first)
-  first_used = in_use old.leaves first (omega (arith, leaves_once first, ap (times first) is_first.1, times-cons first first is_first.0, one_here first first refl))
+  first_used = in_use old.leaves first (omega (arith, leaves_once first, first_inside))
 
   pub last_used : IsSome (get old.leaves last)
-  last_used = in_use old.leaves last (omega (arith, leaves_once last, ap (times last) is_last.1, times-append last is_last.0 (last ∷ []), times-cons last last [], one_here last last refl))
+  last_used = in_use old.leaves last (omega (arith, leaves_once last, last_inside))
 
   module _ (leaf_first leaf_last : LeafOf K V LEN) (first_here : get old.leaves first ≡ Some leaf_first) (last_here : get old.leaves last ≡ Some leaf_last) where
     pub left_used : (n : ℕ) → leaf_first.prev ≡ Some n → IsSome (get old.leaves n)
@@ -168,6 +176,13 @@ module _ {K V : Type 0} {LEN : ℕ} (cmp : K → K → Ordering) (level : ℕ) (
           record {
             nodes_kept = λ n used outside. frees.nodes_kept n (rw spliced.nodes outside) ∙ ap (λ (s : Slab (NodeOf K LEN)). get s n) spliced.nodes;
             leaves_kept = λ n used outside. rw (frees.leaves_kept n (rw spliced.nodes outside)) (spliced.kept n);
+            links_kept = λ n leaf apart.
+                let here = apart_from_fewer old.leaves (leaves_of level old.nodes (id ∷ [])) (leaves_at level old.nodes id) (λ m outside. rw single_leaves at outside) n leaf apart in
+                frees.leaves_kept n (rw spliced.nodes apart.outside)
+                ∙ untouched_leaf _ _ _ _ _ spliced.next_changed spliced.prev_changed n
+                (not_before old.leaves n leaf apart.here part.front first (is_first.0 ++ part.back) (from_first part.front part.back part.chain) leaf_first first_here (leaves_at level old.nodes id) first_inside here)
+                (not_behind old.leaves n leaf apart.here (part.front ++ is_last.0) last part.back (to_last part.front part.back part.chain) leaf_last last_here (leaves_at level old.nodes id) last_inside here)
+                ∙ apart.here;
             nodes_counted = λ n. let balance = rw spliced.nodes at (frees.nodes_counted n) in omega (arith, balance, times-nil n);
             leaves_counted = λ n. let balance = rw spliced.nodes at (frees.leaves_counted n) in omega (arith, balance, times-nil n, same_array_uses old.leaves mid.leaves n (spliced.kept n));
             chained = λ front back chain.

@@ -24,6 +24,7 @@ module _ {K V : Type 0} {LEN : ℕ} (cmp : K → K → Ordering) (low high : Bou
     whole = rw same whole;
     pairs = rw (same, none) refl;
     counted = rw (same, none) refl;
+    settled = rw (same, none) tt;
   }
 
   module _ (id level : ℕ) (was : old.root ≡ Some (id, level)) (whole : IsWhole cmp old) (mid : TreeArenas K V LEN) (gone : ℕ) (cuts : CutsUnder cmp low high level old.arenas mid id gone) where
@@ -53,4 +54,5 @@ module _ {K V : Type 0} {LEN : ℕ} (cmp : K → K → Ordering) (low high : Bou
       whole = tree_lowered mid new.arenas id level new.root (nodes_after old.arenas mid id level here cuts.replaces) (leaves_after old.arenas mid id level here cuts.replaces) (chain_after old.arenas mid id level here cuts.replaces) lowers;
       pairs = rw (was, lowers.pairs) cuts.pairs;
       counted = rw (was, lowers.pairs) cuts.counted;
+      settled = lowers.stands;
     }

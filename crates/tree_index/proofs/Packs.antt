@@ -35,6 +35,6 @@ module _ {K V : Type 0} {LEN : ℕ} {cmp : K → K → Ordering} (o : IsTotalOrd
   pub packed_raised : (mid : TreeArenas K V LEN) (top : ℕ) → RaisesRoot cmp level a mid id top → room level a id ≡ 0 → InsertsUnder cmp upsert (suc level) mid b top result key val → stores result ≡ true
       → packed_under cmp b (Some (top, suc level)) ≡ true
   packed_raised mid top raised full ins so =
-      let more = raised.packed key full beyond_edge in
+      let more = raised.packed (Some key) full beyond_edge in
       let done = ins.packed so more.0 in
       root_to cmp b top (suc level) done.0 (λ deep. omega (arith, more.1, done.1))

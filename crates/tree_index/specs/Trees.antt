@@ -13,6 +13,7 @@ use Rattle.tree_model.specs.Pairs.{cut}
 use Rattle.tree_insert.specs.Inserts.{Inserts, declined, refused, stores}
 use Rattle.tree_node.specs.Whole.{IsTree, depth_of, leaves_under, spare_under, walk_under}
 use Rattle.tree_packed.specs.Packed.{packed_under}
+use Rattle.tree_remove.specs.Lowering.{IsRootIfAny}
 use Rattle.tree_index.specs.declared.tree.Stored.{Stored}
 use Rattle.tree_index.specs.declared.tree.Stored.TheVariants.{New, Replaced}
 use Rattle.tree_index.specs.declared.tree.Tree.{Tree}
@@ -67,3 +68,5 @@ module _ {K V : Type 0} {LEN : ℕ} where
     pub whole : IsWhole cmp new
     pub pairs : pairs_of new ≡ cut cmp (pairs_of old) low high
     pub counted : gone + length (pairs_of new) ≡ length (pairs_of old)
+    -- a root above the leaf nodes has a keyed child
+    pub settled : IsRootIfAny cmp new.arenas new.root

@@ -45,6 +45,7 @@ pub struct Tree<K: IndexKey, V: Drop, const LEN: usize> {
 impl<K: IndexKey, V: Drop, const LEN: usize> Tree<K, V, LEN> {
     /// Creates an empty tree. Allocates nothing.
     pub fn new(alloc: Global) -> Self
+        requires { IsLen LEN }
         ensures whole { IsWhole K.cmp result }
         ensures root { result.root ≡ None }
     {

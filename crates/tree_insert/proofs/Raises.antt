@@ -1,5 +1,5 @@
 -- A root that comes under a new one, in which it is split.
-use Rattle.std.proofs.Common.{◌≡◌, ℕ, zero, suc, ◌+◌, ◌-◌, ◌<◌, ◌==◌, cond, [], ◌∷◌, Some, None, is_some, refl, sym, ap, ◌∙◌, arith, add-one, sub-one, inl, inr}
+use Rattle.std.proofs.Common.{◌≡◌, ℕ, zero, suc, ◌+◌, ◌-◌, ◌<◌, ◌==◌, cond, [], ◌∷◌, Option, Some, None, is_some, refl, sym, ap, ◌∙◌, arith, add-one, sub-one, inl, inr}
 use Rattle.std.specs.declared.cmp.Ordering.{Ordering}
 use Rattle.std.proofs.lemmas.Bool.{cases_eq}
 use Rattle.std.proofs.lemmas.List.{append-nil}
@@ -103,8 +103,8 @@ module _ {K V : Type 0} {LEN : ℕ} {cmp : K → K → Ordering} (level : ℕ) (
   room_stays none = rw (agrees_here level old mid root agrees) none
 
   -- with the packed part as its only child, the new root is packed too
-  top_packed : (key : K) → IsPacked cmp (Some key) (suc level) old root → IsPacked cmp (Some key) (suc (suc level)) mid id
-  top_packed key e = record {
+  top_packed : (beyond : Option K) → IsPacked cmp beyond (suc level) old root → IsPacked cmp beyond (suc (suc level)) mid id
+  top_packed beyond e = record {
     node = Internal top;
     here = gains.updates.changed;
     packed = rw keyed_none refl;
@@ -112,7 +112,7 @@ module _ {K V : Type 0} {LEN : ℕ} {cmp : K → K → Ordering} (level : ℕ) (
     full = rw keyed_none tt;
     last = root;
     last_is = last;
-    edge = same_packed cmp (Some key) (suc level) old mid root agrees e;
+    edge = same_packed cmp beyond (suc level) old mid root agrees e;
   }
 
   raises : IsLen LEN → (new : TreeArenas K V LEN) → SplitsChild cmp (suc (suc level)) mid new id root → ((n : ℕ) → get new.leaves n ≡ get mid.leaves n) → RaisesRoot cmp (suc level) old new root id
@@ -147,8 +147,8 @@ module _ {K V : Type 0} {LEN : ℕ} {cmp : K → K → Ordering} (level : ℕ) (
     chained = λ front back chain.
         rw (single_leaves (suc (suc level)) new.nodes id) at (split.replaces.chained front back (rw (single_leaves (suc (suc level)) mid.nodes id, top_leaves) (chain_same old.leaves mid.leaves leaves_stay _ chain)));
     roomy = omega (arith, split.spends, top_room is_len);
-    packed = λ key none e.
-        let more = split.packed key (rw (gains.updates.changed, last, keyed_none) refl) (rw sub-one (room_stays none)) (top_packed key e) in
+    packed = λ beyond none e.
+        let more = split.packed beyond (rw gains.updates.changed last) (rw sub-one (room_stays none)) (top_packed beyond e) in
         (more.0, omega (arith, more.1));
     routed = λ key child which. rw sub-one at (split.routed key (rw (gains.updates.changed, last, keyed_none) refl) child which);
   }

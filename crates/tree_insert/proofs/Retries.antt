@@ -14,8 +14,8 @@ use Rattle.tree_node.specs.Parts.{IsPart, Unchanged}
 use Rattle.tree_node.specs.Shape.{IsCrowded, held, room, found_keyed, spare}
 use Rattle.tree_split.specs.Splits.{HasMadeRoom, LacksRoom, SplitsChild}
 use Rattle.tree_node.specs.Tree.{HasChildFor, Stands, walk}
-use Rattle.tree_packed.proofs.Edges.{same_packed}
-use Rattle.tree_split.proofs.Results.{only_child}
+use Rattle.tree_packed.specs.Packed.{HasLast}
+use Rattle.tree_packed.proofs.Edges.{last_for, one_last, same_packed}
 use Rattle.tree_node.proofs.ChildChanges.{child_part, new_walk, old_spare, old_walk}
 use Rattle.tree_node.proofs.Frames.{same_stands, same_walk}
 use Rattle.tree_insert.proofs.Crowded.{child_divides, crowded_above, crowded_room, divides_before}
@@ -121,7 +121,8 @@ module _ {K V : Type 0} {LEN : ℕ} {cmp : K → K → Ordering} (upsert : Bool)
         divided = on_err_weaker result (divides_before cmp level deep old made id child key below.which below.crowded roomy.child) ins.divided;
         unchanged = λ so. absurd (let both = sym so ∙ taken in cc);
         packed = λ so e.
-            let more = roomy.packed child below_which child_full (same_packed cmp (Some key) level old mid id (unchanged_agrees level old mid below.same id) e) in
+            let before = same_packed cmp (Some key) level old mid id (unchanged_agrees level old mid below.same id) e in
+            let more = roomy.packed child (last_for cmp level deep mid id child key below_which before) child_full before in
             let done = ins.packed so more.0 in
             (done.0, omega (arith, more.1, done.1, ap found_keyed (below.same.nodes id)));
       }
@@ -161,17 +162,18 @@ held_above a id (suc zero) deep = absurd (omega (arith, deep))
 held_above a id (suc (suc level)) deep = rw sub-one refl
 
 -- a split of the key's child makes room for the key
-pub room_by_split : {K V : Type 0} {LEN : ℕ} {cmp : K → K → Ordering} {level : ℕ} {old new : TreeArenas K V LEN} {id child : ℕ} (key : K) → SplitsChild cmp level old new id child → HasChildFor cmp key (get old.nodes id) child → HasMadeRoom cmp level old new id key
-room_by_split {cmp = cmp} {level = level} {old = old} {id = id} {child = child} key split which = record {
+pub room_by_split : {K V : Type 0} {LEN : ℕ} {cmp : K → K → Ordering} {level : ℕ} {old new : TreeArenas K V LEN} {id child : ℕ} (key : K) → 0 < level → SplitsChild cmp level old new id child → HasChildFor cmp key (get old.nodes id) child → HasMadeRoom cmp level old new id key
+room_by_split {cmp = cmp} {level = level} {old = old} {id = id} {child = child} key deep split which = record {
   pairs = split.pairs;
   stands = λ low high above up_to s. split.keeps low high s;
   replaces = split.replaces;
   spares = split.spares;
   spends = split.spends;
   child = split.routed key which;
-  packed = λ other which' none e.
-      let same : other ≡ child = only_child cmp key (get old.nodes id) other child which' which in
-      split.packed key which (rw same at none) e;
+  packed = λ other last none e.
+      let at_child : HasLast (get old.nodes id) child = last_for cmp level deep old id child key which e in
+      let same : other ≡ child = one_last (get old.nodes id) other child last at_child in
+      split.packed (Some key) at_child (rw same at none) e;
 }
 
 module _ {K V : Type 0} {LEN : ℕ} {cmp : K → K → Ordering} (o : IsTotalOrder cmp) (upsert : Bool) (level : ℕ) (old new : TreeArenas K V LEN) (id child : ℕ) (key : K) (val : V) where

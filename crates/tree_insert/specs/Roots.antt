@@ -1,5 +1,5 @@
 -- How a tree grows at its root: a full root comes under a new one, and a retired one gets a leaf again.
-use Rattle.std.specs.Prelude.{◌≡◌, ◌≢◌, ℕ, suc, ◌+◌, ◌<◌, List, [], ◌∷◌, ◌++◌, None, Some, IsSome}
+use Rattle.std.specs.Prelude.{◌≡◌, ◌≢◌, ℕ, suc, ◌+◌, ◌<◌, List, [], ◌∷◌, ◌++◌, Option, None, IsSome}
 use Rattle.std.specs.declared.cmp.Ordering.{Ordering}
 use Rattle.slab.specs.Slab.{get}
 use Rattle.tree_leaf.specs.Chain.{IsChain}
@@ -22,8 +22,8 @@ pub record RaisesRoot {K V : Type 0} {LEN : ℕ} (cmp : K → K → Ordering) (d
   pub chained : (front back : List ℕ) → IsChain old.leaves (front ++ (leaves_at depth old.nodes root ++ back)) → IsChain new.leaves (front ++ (leaves_at (suc depth) new.nodes id ++ back))
   pub roomy : 0 < room (suc depth) new id
   pub routed : (key : K) (child : ℕ) → HasChildFor cmp key (get new.nodes id) child → 0 < room depth new child
-  -- a packed part that was full, with the key beyond its edge, is so under the new root, as the first of its keyed children
-  pub packed : (key : K) → room depth old root ≡ 0 → IsPacked cmp (Some key) depth old root → IsPacked cmp (Some key) (suc depth) new id × (0 < found_keyed (get new.nodes id))
+  -- a packed part that was full is so under the new root, which has a keyed child
+  pub packed : (beyond : Option K) → room depth old root ≡ 0 → IsPacked cmp beyond depth old root → IsPacked cmp beyond (suc depth) new id × (0 < found_keyed (get new.nodes id))
 
 -- A leaf node stands under the number, over an empty leaf that nothing else is linked to.
 pub record Replants {K V : Type 0} {LEN : ℕ} (cmp : K → K → Ordering) (old new : TreeArenas K V LEN) (root : ℕ) : Type 0 where

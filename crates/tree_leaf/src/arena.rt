@@ -28,10 +28,12 @@ pub struct SlotsOf<K: Ord, V, N, const LEN: usize> {
 pub type Slots<K, V, N> = SlotsOf<K, V, N, 15>;
 
 impl<K: Ord + Drop, V: Drop, N: Drop, const LEN: usize> SlotsOf<K, V, N, LEN> {
+    ghost use Rattle.tree_array.specs.Length.{IsLen};
     ghost use Rattle.tree_leaf.specs.Lending.{lends_leaf, lends_node};
 
-    /// Creates arenas with no number in use. Allocates nothing.
+    /// Creates arenas with no number in use. Allocates nothing. The caller must choose 7 or 15 for `LEN`.
     pub fn new(alloc: Global) -> Self
+        requires { IsLen LEN }
         ensures { IsEmpty result }
     {
         SlotsOf {

@@ -1,5 +1,5 @@
 -- A leaf whose array is written and whose links stay.
-use Rattle.std.proofs.Common.{◌≡◌, ℕ, List, [], ◌∷◌, Option, Some, None, is_some, refl, ap, arith, inl, inr}
+use Rattle.std.proofs.Common.{◌≡◌, ℕ, List, [], ◌∷◌, Option, Some, None, is_some, refl, ap, ◌∙◌, arith, inl, inr}
 use Rattle.std.proofs.lemmas.Bool.{cases_eq}
 use Rattle.slab.specs.Slab.{get, with_value, Updates}
 use Rattle.slab.proofs.SlabLemmas.{Updates-with_value}
@@ -46,6 +46,7 @@ module _ {K V : Type 0} {LEN : ℕ} (a : TreeArenas K V LEN) (id : ℕ) (leaf : 
     nodes_kept = λ n used outside. refl;
     leaves_kept = λ n used outside.
         rw (updated.others n (λ same. omega (arith, times-cons n id [], one_here n id same, outside))) (same_array_refl (get a.leaves n));
+    links_kept = λ n other apart. updated.others n (λ same. omega (arith, times-cons n id [], one_here n id same, apart.outside)) ∙ apart.here;
     nodes_counted = λ n. refl;
     leaves_counted = λ n. rw (uses_stay n) refl;
     chained = λ front back chain. record { once = λ n. rw (uses_stay n) (chain.once n); linked = chain_stays None _ None chain.linked };

@@ -1,5 +1,6 @@
 pub mod Ascents
 pub mod Bare
+pub mod Beside
 pub mod Between
 pub mod Beyond
 pub mod Bounds

@@ -15,6 +15,7 @@ use Rattle.tree_node.specs.declared.node.NodeOf.{NodeOf}
 use Rattle.tree_node.specs.Arenas.{TreeArenas}
 use Rattle.tree_node.specs.Parts.{IsPart, Replaces}
 use Rattle.tree_node.specs.Tree.{Stands, leaves_at, nodes_at, leaves_of, nodes_of, children_of, walk}
+use Rattle.tree_node.proofs.Beside.{apart_from_fewer}
 use Rattle.tree_node.proofs.Frames.{each_part, all_both, Agrees, same_leaves, same_nodes, same_walk}
 use Rattle.tree_node.proofs.Lists.{flat_map_same}
 use Rattle.tree_node.proofs.Walks.{walk-children}
@@ -186,6 +187,10 @@ module _ {K V : Type 0} {LEN : ℕ} (level : ℕ) (old mid new : TreeArenas K V 
     leaves_kept = λ n used outside.
         let none : times n (leaves_at (suc level) old.nodes id) ≡ 0 = rw single_leaves at outside in
         rw leaves (r.leaves_kept n used (omega (arith, leaves_split n, none)));
+    links_kept = λ n leaf apart.
+        let fewer : (m : ℕ) → times m (leaves_of (suc level) old.nodes (id ∷ [])) ≡ 0 → times m (leaves_of level old.nodes ids) ≡ 0 =
+        λ m outside. let none : times m (leaves_at (suc level) old.nodes id) ≡ 0 = rw single_leaves at outside in omega (arith, leaves_split m, none) in
+        rw leaves (r.links_kept n leaf (apart_from_fewer old.leaves (leaves_of (suc level) old.nodes (id ∷ [])) (leaves_of level old.nodes ids) fewer n leaf apart));
     nodes_counted = λ n. rw (single_nodes (suc level) old.nodes id, single_nodes (suc level) new.nodes id) (omega (arith, uses_counted n, nodes_split n, new_nodes_split n));
     leaves_counted = λ n. rw (single_leaves (suc level) old.nodes id, single_leaves (suc level) new.nodes id, leaves) (omega (arith, r.leaves_counted n, leaves_split n, new_leaves_split n));
     chained = λ before after chain.

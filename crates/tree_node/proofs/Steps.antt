@@ -1,5 +1,5 @@
 -- Two changes of a part, one after the other.
-use Rattle.std.proofs.Common.{ℕ, ◌≤◌, List, [], ◌∷◌, None, refl, ap, ◌∙◌, arith}
+use Rattle.std.proofs.Common.{◌≡◌, ℕ, ◌≤◌, List, [], ◌∷◌, None, IsSome, refl, ap, ◌∙◌, arith}
 use Rattle.std.specs.declared.cmp.Ordering.{Ordering}
 use Rattle.slab.specs.Slab.{get}
 use Rattle.tree_leaf.specs.Counting.{times, uses}
@@ -7,7 +7,8 @@ use Rattle.tree_leaf.proofs.Chains.{same_array_refl, same_array_trans}
 use Rattle.tree_leaf.proofs.Counts.{uses_le_one, uses_some, in_use}
 use Rattle.tree_node.specs.Arenas.{TreeArenas}
 use Rattle.tree_node.specs.Parts.{IsPart, Replaces}
-use Rattle.tree_node.specs.Tree.{Stands}
+use Rattle.tree_node.specs.Tree.{Stands, leaves_of}
+use Rattle.tree_node.proofs.Beside.{apart_after}
 use Rattle.tree_node.proofs.Lifts.{single_leaves, single_nodes}
 
 module _ {K V : Type 0} {LEN : ℕ} where
@@ -17,19 +18,27 @@ module _ {K V : Type 0} {LEN : ℕ} where
         let same = first.nodes_kept n used outside in
         second.nodes_kept n (rw same used) (omega (arith, first.nodes_counted n, outside, uses_some a.nodes n used, uses_le_one b.nodes n)) ∙ same;
     leaves_kept = λ n used outside.
-        let same = first.leaves_kept n used outside in
-        let still : 1 ≤ uses b.leaves n = omega (arith, first.leaves_counted n, outside, uses_some a.leaves n used) in
-        same_array_trans _ _ _ same (second.leaves_kept n (in_use b.leaves n still) (omega (arith, first.leaves_counted n, outside, uses_some a.leaves n used, uses_le_one b.leaves n)));
+        let still = still_outside n used outside in
+        same_array_trans _ _ _ (first.leaves_kept n used outside) (second.leaves_kept n still.0 still.1);
+    links_kept = λ n leaf apart.
+        let same = first.links_kept n leaf apart in
+        second.links_kept n leaf (apart_after a.leaves b.leaves (leaves_of level a.nodes xs) (leaves_of level b.nodes ys) still_outside n leaf same apart);
     nodes_counted = λ n. omega (arith, first.nodes_counted n, second.nodes_counted n);
     leaves_counted = λ n. omega (arith, first.leaves_counted n, second.leaves_counted n);
     chained = λ front back chain. second.chained front back (first.chained front back chain);
   }
+    where
+      still_outside : (m : ℕ) → IsSome (get a.leaves m) → times m (leaves_of level a.nodes xs) ≡ 0 → IsSome (get b.leaves m) × (times m (leaves_of level b.nodes ys) ≡ 0)
+      still_outside m used outside =
+          let still : 1 ≤ uses b.leaves m = omega (arith, first.leaves_counted m, outside, uses_some a.leaves m used) in
+          (in_use b.leaves m still, omega (arith, first.leaves_counted m, outside, uses_some a.leaves m used, uses_le_one b.leaves m))
 
   -- a part that doesn't change
   pub replaces_refl : (level : ℕ) (a : TreeArenas K V LEN) (xs : List ℕ) → Replaces level a a xs xs
   replaces_refl level a xs = record {
     nodes_kept = λ n used outside. refl;
     leaves_kept = λ n used outside. same_array_refl (get a.leaves n);
+    links_kept = λ n leaf apart. apart.here;
     nodes_counted = λ n. refl;
     leaves_counted = λ n. refl;
     chained = λ front back chain. chain;

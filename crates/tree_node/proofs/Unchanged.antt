@@ -45,6 +45,7 @@ module _ {K V : Type 0} {LEN : ℕ} where
     unchanged_replaces ids = record {
       nodes_kept = λ n used outside. same.nodes n;
       leaves_kept = λ n used outside. rw (same.leaves n) (same_array_refl (get old.leaves n));
+      links_kept = λ n leaf apart. same.leaves n ∙ apart.here;
       nodes_counted = λ n. rw (nodes_stay ids, uses_same old.nodes new.nodes n (ap is_some (same.nodes n))) refl;
       leaves_counted = λ n. rw (leaves_stay ids, uses_same old.leaves new.leaves n (ap is_some (same.leaves n))) refl;
       chained = λ front back chain. rw (leaves_stay ids) (chain_same old.leaves new.leaves same.leaves _ chain);

@@ -1,8 +1,9 @@
 -- Parts of a tree in arenas, and how a call changes one. A part is what stands under some numbers of one level.
-use Rattle.std.specs.Prelude.{◌≡◌, ℕ, ◌+◌, ◌≤◌, List, ◌++◌, length, Option, None, IsSome}
+use Rattle.std.specs.Prelude.{◌≡◌, ℕ, ◌+◌, ◌≤◌, List, ◌++◌, length, Option, None, Some, IsSome, ⊤}
 use Rattle.std.specs.declared.cmp.Ordering.{Ordering}
-use Rattle.slab.specs.Slab.{get}
+use Rattle.slab.specs.Slab.{Slab, get}
 use Rattle.tree_array.specs.Arrivals.{stored}
+use Rattle.tree_leaf.specs.declared.leaf.LeafOf.{LeafOf}
 use Rattle.tree_leaf.specs.Chain.{IsChain, SameArray}
 use Rattle.tree_leaf.specs.Counting.{times, uses}
 use Rattle.tree_node.specs.declared.node.NodeOf.{NodeOf}
@@ -10,11 +11,24 @@ use Rattle.tree_node.specs.Arenas.{TreeArenas}
 use Rattle.tree_node.specs.Tree.{HasKind, keyed, unbounded, leaves_at, nodes_at, leaves_of, nodes_of, Stands}
 
 module _ {K V : Type 0} {LEN : ℕ} where
-  -- The part under the numbers `ids` has become the part under `ids'`, and nothing else has changed but links.
+  -- the link leads to a leaf that is none of these, if it leads to one
+  abbrev pub LeadsOutside : Slab (LeafOf K V LEN) → List ℕ → Option ℕ → Type 0
+  LeadsOutside leaves ids None = ⊤
+  LeadsOutside leaves ids (Some n) = IsSome (get leaves n) × (times n ids ≡ 0)
+
+  -- the leaf is none of these, nor beside one
+  pub record StandsApart (leaves : Slab (LeafOf K V LEN)) (ids : List ℕ) (n : ℕ) (leaf : LeafOf K V LEN) : Type 0 where
+    pub here : get leaves n ≡ Some leaf
+    pub outside : times n ids ≡ 0
+    pub prev : LeadsOutside leaves ids leaf.prev
+    pub next : LeadsOutside leaves ids leaf.next
+
+  -- The part under the numbers `ids` has become the part under `ids'`, and nothing else has changed but the links of the two leaves beside it.
   pub record Replaces (level : ℕ) (old new : TreeArenas K V LEN) (ids ids' : List ℕ) : Type 0 where
     -- what stands outside the part stays
     pub nodes_kept : (n : ℕ) → IsSome (get old.nodes n) → times n (nodes_of level old.nodes ids) ≡ 0 → get new.nodes n ≡ get old.nodes n
     pub leaves_kept : (n : ℕ) → IsSome (get old.leaves n) → times n (leaves_of level old.nodes ids) ≡ 0 → SameArray (get old.leaves n) (get new.leaves n)
+    pub links_kept : (n : ℕ) (leaf : LeafOf K V LEN) → StandsApart old.leaves (leaves_of level old.nodes ids) n leaf → get new.leaves n ≡ Some leaf
     -- a number is taken where the part gains it, and freed where the part loses it
     pub nodes_counted : (n : ℕ) → uses new.nodes n + times n (nodes_of level old.nodes ids) ≡ uses old.nodes n + times n (nodes_of level new.nodes ids')
     pub leaves_counted : (n : ℕ) → uses new.leaves n + times n (leaves_of level old.nodes ids) ≡ uses old.leaves n + times n (leaves_of level new.nodes ids')

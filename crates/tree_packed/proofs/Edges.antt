@@ -11,15 +11,16 @@ use Rattle.tree_leaf.specs.Chain.{SameArray}
 use Rattle.tree_model.proofs.Lists.{all_map}
 use Rattle.tree_node.specs.Arenas.{TreeArenas}
 use Rattle.tree_node.specs.Parts.{IsPart, Replaces}
+use Rattle.tree_node.specs.declared.node.NodeOf.{NodeOf}
 use Rattle.tree_node.specs.Tree.{AreParted, HasChildFor, IsAbove, IsBelow, Stands, child_at, front_at, is_from, keyed, walk}
 use Rattle.tree_node.proofs.Bare.{parted_last}
 use Rattle.tree_node.proofs.ChildChanges.{fronts, same_node}
-use Rattle.tree_node.proofs.Children.{walk-leaf}
+use Rattle.tree_node.proofs.Children.{stands_free_low, walk-leaf}
 use Rattle.tree_node.proofs.Cuts.{all_behind, all_front}
 use Rattle.tree_node.proofs.Frames.{Agrees, agrees_below, agrees_here, head_here, same_walk}
 use Rattle.tree_node.proofs.Standing.{node_is}
 use Rattle.tree_node.proofs.Walks.{above_next, walk-children, walk_above}
-use Rattle.tree_packed.specs.Packed.{IsPacked, IsPackedLeaf}
+use Rattle.tree_packed.specs.Packed.{HasLast, IsPacked, IsPackedLeaf}
 
 module _ {K V : Type 0} {LEN : ℕ} where
   -- children that stay have as many pairs as before
@@ -57,6 +58,35 @@ module _ {K X : Type 0} (cmp : K → K → Ordering) (k : K) where
   pub all_before : (pairs : List (K × X)) → AllByRecursion (λ c. IsBelow cmp c.0 (Some k)) pairs → front_at (is_from cmp k) pairs ≡ map (λ c. c.1) pairs
   all_before [] smaller = refl
   all_before (c ∷ rest) smaller = rw smaller.0 (ap (λ xs. c.1 ∷ xs) (all_before rest smaller.1))
+
+pub one_last : {K : Type 0} {LEN : ℕ} (slot : Option (NodeOf K LEN)) (x y : ℕ) → HasLast slot x → HasLast slot y → x ≡ y
+one_last None x y first second = absurd first
+one_last (Some node) x y first second = let both : Some x ≡ Some y = sym first ∙ second in cc
+
+module _ {K V : Type 0} {LEN : ℕ} (cmp : K → K → Ordering) where
+  -- a key beyond the edge belongs to the last child
+  pub last_for : (level : ℕ) → 0 < level → (old : TreeArenas K V LEN) (id child : ℕ) (k : K) → HasChildFor cmp k (get old.nodes id) child → IsPacked cmp (Some k) level old id → HasLast (get old.nodes id) child
+  last_for zero deep old id child k which e = absurd (omega (arith, deep))
+  last_for (suc level) deep old id child k which e =
+      let routed : Some (child_at (is_from cmp k) (keyed e.node).entries e.last) ≡ Some child = rw (e.here, e.last_is) at which in
+      rw e.here (e.last_is ∙ ap Some (sym (goes_last cmp k (keyed e.node).entries e.last e.keys)) ∙ routed)
+
+  module _ (level : ℕ) (old : TreeArenas K V LEN) (id child : ℕ) (last : HasLast (get old.nodes id) child) where
+    -- the last child of a packed part is packed
+    module _ (beyond : Option K) (e : IsPacked cmp beyond (suc level) old id) where
+      pub at_last : e.last ≡ child
+      at_last = let both : Some e.last ≡ Some child = sym e.last_is ∙ rw e.here at last in cc
+
+      pub edge_of : IsPacked cmp beyond level old child
+      edge_of = rw at_last at e.edge
+
+    -- and stands by itself
+    pub last_stands : Stands cmp (suc level) old None id None → Stands cmp level old None child None
+    last_stands s =
+        let both : Some s.last ≡ Some child = sym s.last_is ∙ rw s.here at last in
+        let same : s.last ≡ child = cc in
+        let below = parted_last cmp old (Stands cmp level old) None (keyed s.node).entries child None (rw same at s.parted) in
+        stands_free_low cmp level old below.0 child None below.1
 
 module _ {K V : Type 0} {LEN : ℕ} {cmp : K → K → Ordering} (o : IsTotalOrder cmp) (level : ℕ) (old : TreeArenas K V LEN) (id child : ℕ) (k : K)
     (part : IsPart cmp (suc level) old id) (which : HasChildFor cmp k (get old.nodes id) child) (e : IsPacked cmp (Some k) (suc level) old id) where

@@ -53,6 +53,11 @@ module _ {K : Type 0} (cmp : K → K → Ordering) where
     IsPacked zero arenas id = IsPackedLeaf arenas.leaves id
     IsPacked {LEN = LEN} (suc level) arenas id = IsPackedNode (IsPacked level arenas) (λ child. length (walk level arenas child)) (LEN ^ suc level) arenas.nodes id
 
+-- this child is the last of the node, which no separator bounds
+abbrev pub HasLast : {K : Type 0} {LEN : ℕ} → Option (NodeOf K LEN) → ℕ → Type 0
+HasLast None child = ⊥
+HasLast (Some node) child = unbounded node ≡ Some child
+
 -- The same as a test.
 abbrev pub all_full : {K : Type 0} → (ℕ → ℕ) → ℕ → List (K × ℕ) → Bool
 all_full size_of size [] = true

@@ -16,7 +16,7 @@ use Rattle.tree_cursor_model.specs.declared.moves.Move.{Move}
 use Rattle.tree_cursor_model.specs.declared.moves.Move.TheVariants.{Next, NextBack, Get, GetBack, Flip}
 use Rattle.tree_cursor_model.specs.Cursor.{Cursor, End, unopened, at_place, exhausted, are_apart, bound_on, can_turn, element_at, end_at, end_on, flipped, greatest_place, is_unopened, meets, moved, next_end, option_where, place_beside, shown, turned}
 use Rattle.tree_cursor_model.specs.Moves.{AllNone, Ended, Told, after, answer, answers, move_on, pair}
-use Rattle.tree_ranges.specs.Ranged.{StandsInside}
+use Rattle.tree_cursor_model.specs.Rest.{StandsInside}
 use Rattle.tree_ranges.proofs.Flips.{flipped_keeps}
 use Rattle.tree_ranges.proofs.Nearest.{get_none}
 use Rattle.tree_ranges.proofs.Yields.{greatest_some, less, stops}
@@ -301,11 +301,16 @@ module _ {K V : Type 0} {cmp : K → K → Ordering} (o : IsTotalOrder cmp) wher
   ended way [] c ascending held = tt
   ended way (m ∷ moves) c ascending held = (after_none way m moves c ascending held, ended way moves (after cmp m c) (ascends_after cmp m c ascending) (holds_after cmp way m c held))
 
+  -- what holds of the cursor before the first move, told by the first move
+  pub inside_from : (i : ℕ) (start now : Cursor K V) → (i ≡ 0 → now ≡ start) → (1 ≤ i → StandsInside start.pairs start.backward) → StandsInside now.pairs now.backward → StandsInside start.pairs start.backward
+  inside_from zero start now first later inside = rw (first refl) at inside
+  inside_from (suc i) start now first later inside = later (omega arith)
+
   -- the same once all moves are made
   pub ended_all : (way : Way) (moves : List Move) (i : ℕ) (start now : Cursor K V) (given : List (Told K V)) → given ++ answers cmp (drop i moves) now ≡ answers cmp moves start → length moves ≤ i
-      → (1 ≤ i → IsAscending cmp start.pairs) → Holds way start.pairs (end_on way start) → Ended (move_on way) moves given
+      → (1 ≤ i → IsAscending cmp start.pairs) → (1 ≤ i → Holds way start.pairs (end_on way start)) → Ended (move_on way) moves given
   ended_all way [] i start now given is all ascending held = tt
   ended_all way (m ∷ moves) i start now given is all ascending held =
       let none : drop i (m ∷ moves) ≡ [] = drop_of_length-le (m ∷ moves) all in
       let same : given ≡ answers cmp (m ∷ moves) start = sym (append-nil given) ∙ rw none at is in
-      rw same (ended way (m ∷ moves) start (ascending (omega (arith, all))) held)
+      rw same (ended way (m ∷ moves) start (ascending (omega (arith, all))) (held (omega (arith, all))))

@@ -13,6 +13,7 @@ use Rattle.tree_cursors.specs.declared.end.End.{End as TreeEnd}
 use Rattle.tree_cursors.specs.declared.end.End.TheVariants.{Unopened}
 use Rattle.tree_cursors.specs.View.{Kept, seen}
 use Rattle.tree_ranges.specs.Ranged.{Flips, IsOpen, is_new}
+use Rattle.tree_cursors.proofs.Ends.{end_inside}
 use Rattle.tree_ranges.proofs.Shown.{new_is, pairs_ascend}
 
 module _ {K V : Type 0} (cmp : K → K → Ordering) (c : Cursor K V) where
@@ -50,7 +51,7 @@ module _ {K V : Type 0} {LEN : ℕ} {cmp : K → K → Ordering} (o : IsTotalOrd
   new_back new is = new_is a root kept.tree b kept.backward_stands ∙ is
 
   flips : (d : Cursor K V) (r : Bool) → (d ≡ flipped cmp c) × (r ≡ can_flip cmp c) → Flips cmp c r d
-  flips d r is = record { cursor = is.0; answer = is.1; ascending = pairs_ascend a root kept.tree o }
+  flips d r is = record { cursor = is.0; answer = is.1; ascending = pairs_ascend a root kept.tree o; inside = end_inside a root kept.tree _ kept.backward_stands }
 
   pub flips_new : is_new f ≡ true → is_new b ≡ true → Flips cmp c true c
   flips_new f_is b_is = flips c true (both_new cmp c (new_on true f_is) (new_back true b_is))

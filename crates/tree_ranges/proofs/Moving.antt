@@ -12,30 +12,33 @@ use Rattle.tree_leaf.specs.declared.leaf.stand.Way.TheVariants.{On, Back}
 use Rattle.tree_leaf.specs.Walks.{LeafWalk, lent_entry}
 use Rattle.tree_leaf.specs.Ways.{opposite}
 use Rattle.tree_node.specs.Arenas.{TreeArenas}
-use Rattle.tree_node.specs.Whole.{IsTree, walk_under}
+use Rattle.tree_node.specs.Whole.{walk_under}
 use Rattle.tree_cursor_model.specs.Cursor.{Cursor, End, unopened, at_place, exhausted, are_apart, bound_on, element_at, end_at, end_on, first_place, meets, moved, next_end, option_where, place_beside, shown, shown_apart}
 use Rattle.tree_cursor_model.specs.Rest.{Moves, lent}
 use Rattle.tree_cursors.specs.declared.end.End.{End as TreeEnd}
-use Rattle.tree_cursors.specs.View.{end_of, seen}
+use Rattle.tree_cursors.specs.View.{Kept, end_of, seen}
+use Rattle.tree_cursors.proofs.Ends.{end_inside}
 use Rattle.tree_ranges.specs.Ranged.{end_left, moves_left}
 use Rattle.tree_ranges.proofs.Shown.{pairs_ascend}
 
-module _ {K V : Type 0} {LEN : ℕ} {cmp : K → K → Ordering} (o : IsTotalOrder cmp) (a : TreeArenas K V LEN) (root : Option (ℕ × ℕ)) (low high : Bound (Bor K)) (tree : IsTree cmp a root) (r : Option (Bor K × Bor V)) where
+module _ {K V : Type 0} {LEN : ℕ} {cmp : K → K → Ordering} (o : IsTotalOrder cmp) (a : TreeArenas K V LEN) (root : Option (ℕ × ℕ)) (low high : Bound (Bor K)) (r : Option (Bor K × Bor V)) where
   -- the forward end has moved, and the backward one
-  pub moves_on : (f new b : TreeEnd (LeafWalk K V LEN)) → end_of a root new ≡ next_end cmp On (bound_map (λ k. k.now) low) (walk_under a root) (end_of a root f)
+  pub moves_on : (f new b : TreeEnd (LeafWalk K V LEN)) → Kept a root cmp f b → end_of a root new ≡ next_end cmp On (bound_map (λ k. k.now) low) (walk_under a root) (end_of a root f)
       → lent r ≡ shown_apart cmp On (seen a root low high new b) → Moves cmp On (seen a root low high f b) r (seen a root low high new b)
-  moves_on f new b place answers = record {
+  moves_on f new b kept place answers = record {
     moves = ap (λ (e : End). record (seen a root low high f b) { forward = e }) place;
     answers = answers;
-    ascending = pairs_ascend a root tree o;
+    ascending = pairs_ascend a root kept.tree o;
+    inside = end_inside a root kept.tree b kept.backward_stands;
   }
 
-  pub moves_back : (f b new : TreeEnd (LeafWalk K V LEN)) → end_of a root new ≡ next_end cmp Back (bound_map (λ k. k.now) high) (walk_under a root) (end_of a root b)
+  pub moves_back : (f b new : TreeEnd (LeafWalk K V LEN)) → Kept a root cmp f b → end_of a root new ≡ next_end cmp Back (bound_map (λ k. k.now) high) (walk_under a root) (end_of a root b)
       → lent r ≡ shown_apart cmp Back (seen a root low high f new) → Moves cmp Back (seen a root low high f b) r (seen a root low high f new)
-  moves_back f b new place answers = record {
+  moves_back f b new kept place answers = record {
     moves = ap (λ (e : End). record (seen a root low high f b) { backward = e }) place;
     answers = answers;
-    ascending = pairs_ascend a root tree o;
+    ascending = pairs_ascend a root kept.tree o;
+    inside = end_inside a root kept.tree b kept.backward_stands;
   }
 
 module _ {K V : Type 0} (cmp : K → K → Ordering) (way : Way) (c : Cursor K V) where

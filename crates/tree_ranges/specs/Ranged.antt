@@ -1,5 +1,5 @@
 -- What the ends of a cursor are to one another.
-use Rattle.std.specs.Prelude.{◌≡◌, ℕ, ◌+◌, ◌<◌, Bool, true, false, List, filter, length, Option, Some}
+use Rattle.std.specs.Prelude.{◌≡◌, ℕ, ◌+◌, Bool, true, false, List, filter, length, Option, Some}
 use Rattle.std.specs.declared.cmp.Ordering.{Ordering}
 use Rattle.std.specs.declared.ops.Bound.TheVariants.{Unbounded}
 use Rattle.tree_model.specs.Pairs.{IsAscending, within}
@@ -9,6 +9,7 @@ use Rattle.tree_leaf.specs.Walks.{LeafWalk}
 use Rattle.tree_leaf.specs.Ways.{places_left}
 use Rattle.tree_node.specs.Arenas.{TreeArenas}
 use Rattle.tree_cursor_model.specs.Cursor.{Cursor, End, unopened, at_place, exhausted, are_apart, can_flip, flipped}
+use Rattle.tree_cursor_model.specs.Rest.{StandsInside}
 use Rattle.tree_cursors.specs.declared.end.End.{End as TreeEnd}
 use Rattle.tree_cursors.specs.declared.end.End.TheVariants.{Unopened, At, Exhausted}
 use Rattle.tree_cursors.specs.View.{Kept, end_of}
@@ -30,6 +31,7 @@ pub record Flips {K V : Type 0} (cmp : K → K → Ordering) (s : Cursor K V) (r
   pub cursor : t ≡ flipped cmp s
   pub answer : r ≡ can_flip cmp s
   pub ascending : IsAscending cmp s.pairs
+  pub inside : StandsInside s.pairs s.backward
 
 -- how many places of a list of this length an end has still to come to at most
 abbrev pub end_left : Way → ℕ → End → ℕ
@@ -59,9 +61,3 @@ pairs_within cmp c = filter (λ pair. within cmp c.low c.high pair.0) c.pairs
 abbrev pub way_of : Bool → Way
 way_of false = On
 way_of true = Back
-
--- an end that is at a place is at one of the list
-abbrev pub StandsInside : {X : Type 0} → List X → End → Type 0
-StandsInside l unopened = Unit {0}
-StandsInside l (at_place i) = i < length l
-StandsInside l exhausted = Unit {0}

@@ -6,8 +6,8 @@ ghost use Rattle.tree_model.specs.Pairs.{IsAscending};
 ghost use Rattle.tree_cursor_model.specs.declared.moves.Move.TheVariants.{Next, NextBack};
 ghost use Rattle.tree_cursor_model.specs.Cursor.{Cursor as Seen, shown};
 ghost use Rattle.tree_cursor_model.specs.Moves.{Ended, after, after_all, answer, answers, told};
-ghost use Rattle.tree_cursor_model.specs.Rest.{Moves, lent};
-ghost use Rattle.tree_ranges.specs.Ranged.{Flips, StandsInside};
+ghost use Rattle.tree_cursor_model.specs.Rest.{Moves, StandsInside, lent};
+ghost use Rattle.tree_ranges.specs.Ranged.{Flips};
 
 use crate::iter::IterOver;
 use crate::range::RangeOver;
@@ -23,12 +23,14 @@ pub trait Cursor<'t, K: Ord + Drop + 't, V: Drop + 't>: DoubleEndedIterator<Item
     /// Returns the pair of the forward end, if the end stands on one within the upper bound.
     fn get(&self) -> Option<(&'t K, &'t V)>
         ensures pair { lent result ≡ shown K.cmp On (cursor self.now) }
-        ensures ascending { IsAscending K.cmp (cursor self.now).pairs };
+        ensures ascending { IsAscending K.cmp (cursor self.now).pairs }
+        ensures inside { StandsInside (cursor self.now).pairs (cursor self.now).backward };
 
     /// Returns the pair of the backward end, if the end stands on one within the lower bound.
     fn get_back(&self) -> Option<(&'t K, &'t V)>
         ensures pair { lent result ≡ shown K.cmp Back (cursor self.now) }
-        ensures ascending { IsAscending K.cmp (cursor self.now).pairs };
+        ensures ascending { IsAscending K.cmp (cursor self.now).pairs }
+        ensures inside { StandsInside (cursor self.now).pairs (cursor self.now).backward };
 
     /// Gives the place of the one end that is opened to the other, and returns `true`, if that end shows a pair.
     /// Returns `true` and changes nothing if neither end is opened. Otherwise returns `false` and changes nothing.
@@ -102,6 +104,7 @@ fn make_move<'t, K: Ord + Drop + 't, V: Drop + 't, C: Cursor<'t, K, V>>(
     ensures answer { told result ≡ answer K.cmp step (C.cursor cursor.old) }
     ensures cursor { C.cursor cursor.new ≡ after K.cmp step (C.cursor cursor.old) }
     ensures ascending { IsAscending K.cmp (C.cursor cursor.old).pairs }
+    ensures inside { StandsInside (C.cursor cursor.old).pairs (C.cursor cursor.old).backward }
 {
     match step {
         Move::Next => Answer::Pair(cursor.next()),
@@ -122,7 +125,7 @@ pub fn run_moves<'t, K: Ord + Drop + 't, V: Drop + 't, C: Cursor<'t, K, V>>(
 ) -> Result<Vec<Answer<'t, K, V>>, AllocError>
     ensures answers { IfOk result (λ given. map told given.items ≡ answers K.cmp moves.now (C.cursor cursor.old)) }
     ensures ended { IfOk result (λ given. Ended Next moves.now (map told given.items)) }
-    ensures ended_back { IfOk result (λ given. StandsInside (C.cursor cursor.old).pairs (C.cursor cursor.old).backward → Ended NextBack moves.now (map told given.items)) }
+    ensures ended_back { IfOk result (λ given. Ended NextBack moves.now (map told given.items)) }
     ensures cursor { OnOk result (C.cursor cursor.new ≡ after_all K.cmp moves.now (C.cursor cursor.old)) }
     ensures err { OnErr result (cursor.new ≡ cursor.old) }
 {

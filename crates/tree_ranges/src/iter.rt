@@ -6,7 +6,7 @@ ghost use Rattle.tree_leaf.specs.declared.leaf.stand.Way.TheVariants.{On, Back};
 ghost use Rattle.tree_model.specs.Pairs.{IsAscending};
 ghost use Rattle.tree_node.specs.Whole.{IsTree, walk_under};
 ghost use Rattle.tree_cursor_model.specs.Cursor.{fresh, opened, shown, with_ends};
-ghost use Rattle.tree_cursor_model.specs.Rest.{Moves, lent};
+ghost use Rattle.tree_cursor_model.specs.Rest.{Moves, StandsInside, lent};
 ghost use Rattle.tree_cursors.specs.View.{Kept, end_of};
 ghost use Rattle.tree_ranges.specs.Ranged.{Flips, IsOpen, moves_left};
 
@@ -90,6 +90,7 @@ impl<'t, K: Ord + Drop + 't, V: Drop + 't, const LEN: usize> IterOver<
         ensures pair { lent result ≡ shown K.cmp On self.now }
         ensures bounds { IsOpen self.now }
         ensures ascending { IsAscending K.cmp self.now.pairs }
+        ensures inside { StandsInside self.now.pairs self.now.backward }
     {
         self.range.get()
     }
@@ -99,6 +100,7 @@ impl<'t, K: Ord + Drop + 't, V: Drop + 't, const LEN: usize> IterOver<
         ensures pair { lent result ≡ shown K.cmp Back self.now }
         ensures bounds { IsOpen self.now }
         ensures ascending { IsAscending K.cmp self.now.pairs }
+        ensures inside { StandsInside self.now.pairs self.now.backward }
     {
         self.range.get_back()
     }

@@ -6,7 +6,7 @@ ghost use Rattle.tree_leaf.specs.declared.leaf.stand.Way.TheVariants.{On, Back};
 ghost use Rattle.tree_model.specs.Pairs.{IsAscending};
 ghost use Rattle.tree_node.specs.Whole.{IsTree, walk_under};
 ghost use Rattle.tree_cursor_model.specs.Cursor.{fresh, opened, shown, with_ends};
-ghost use Rattle.tree_cursor_model.specs.Rest.{Moves, lent};
+ghost use Rattle.tree_cursor_model.specs.Rest.{Moves, StandsInside, lent};
 ghost use Rattle.tree_cursors.specs.View.{Kept, end_of};
 ghost use Rattle.tree_ranges.specs.Ranged.{Flips, moves_left};
 
@@ -116,6 +116,7 @@ impl<'t, K: Ord + Drop + 't, V: Drop + 't, const LEN: usize> RangeOver<
     pub fn get(&self) -> Option<(&'t K, &'t V)>
         ensures pair { lent result ≡ shown K.cmp On self.now }
         ensures ascending { IsAscending K.cmp self.now.pairs }
+        ensures inside { StandsInside self.now.pairs self.now.backward }
     {
         shown::<K, V, ArrayIter, ArrayRevIter, LEN>(&self.forward, self.high)
     }
@@ -125,6 +126,7 @@ impl<'t, K: Ord + Drop + 't, V: Drop + 't, const LEN: usize> RangeOver<
     pub fn get_back(&self) -> Option<(&'t K, &'t V)>
         ensures pair { lent result ≡ shown K.cmp Back self.now }
         ensures ascending { IsAscending K.cmp self.now.pairs }
+        ensures inside { StandsInside self.now.pairs self.now.backward }
     {
         shown::<K, V, ArrayRevIter, ArrayIter, LEN>(&self.backward, self.low)
     }

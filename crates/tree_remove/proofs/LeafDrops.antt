@@ -8,9 +8,11 @@ use Rattle.tree_leaf.specs.Chain.{IsChain}
 use Rattle.tree_leaf.specs.Counting.{times, uses}
 use Rattle.tree_leaf.specs.Links.{Unlinks}
 use Rattle.tree_leaf.proofs.Chains.{linked_kept, same_array_uses}
+use Rattle.tree_leaf.proofs.Splices.{untouched_leaf}
 use Rattle.tree_leaf.proofs.Counts.{times-append, times-cons, times-nil, one_here, none_here, uses_le_one, uses_some, uses_none, uses_same}
 use Rattle.tree_node.specs.Arenas.{TreeArenas}
 use Rattle.tree_node.specs.Parts.{Replaces}
+use Rattle.tree_node.proofs.Beside.{not_before, not_behind}
 
 module _ {K V : Type 0} {LEN : ℕ} (old mid new : TreeArenas K V LEN) (id : ℕ) (leaf : LeafOf K V LEN) (unlinks : Unlinks old mid id) (loses : Loses mid.leaves new.leaves id leaf) (nodes : new.nodes ≡ mid.nodes) where
   nodes_same : new.nodes ≡ old.nodes
@@ -47,11 +49,18 @@ module _ {K V : Type 0} {LEN : ℕ} (old mid new : TreeArenas K V LEN) (id : ℕ
       }
 
   -- the part that it was is no part any more
-  pub leaf_dropped : Replaces 0 old new (id ∷ []) []
-  leaf_dropped = record {
+  pub leaf_dropped : (front back : List ℕ) → IsChain old.leaves (front ++ id ∷ back) → Replaces 0 old new (id ∷ []) []
+  leaf_dropped front back chain = record {
     nodes_kept = λ n used outside. rw nodes_same refl;
     leaves_kept = λ n used outside.
         rw (loses.updates.others n (λ same. omega (arith, times-cons n id [], one_here n id same, outside))) (unlinks.splices.kept n);
+    links_kept = λ n other apart.
+        let itself : 1 ≤ times id (id ∷ []) = omega (arith, times-cons id id [], one_here id id refl) in
+        loses.updates.others n (λ same. omega (arith, times-cons n id [], one_here n id same, apart.outside))
+        ∙ untouched_leaf _ _ _ _ _ unlinks.splices.next_changed unlinks.splices.prev_changed n
+        (not_before old.leaves n other apart.here front id back chain unlinks.leaf unlinks.here (id ∷ []) itself apart)
+        (not_behind old.leaves n other apart.here front id back chain unlinks.leaf unlinks.here (id ∷ []) itself apart)
+        ∙ apart.here;
     nodes_counted = λ n. rw nodes_same refl;
     leaves_counted = counted;
     chained = chain_without;

@@ -28,6 +28,7 @@ module _ {K V : Type 0} {LEN : ℕ} (level : ℕ) (old new : TreeArenas K V LEN)
         let none : times n (nodes_at (suc level) old.nodes id) ≡ 0 = rw single_nodes at outside in
         loses.updates.others n (λ same. omega (arith, only_itself n, none, one_here n id same));
     leaves_kept = λ n used outside. rw leaves (same_array_refl (get old.leaves n));
+    links_kept = λ n leaf apart. rw leaves apart.here;
     nodes_counted = λ n. rw (single_nodes (suc level) old.nodes id) (omega (arith, only_itself n, lost_counted old.nodes new.nodes id node loses n, times-nil n));
     leaves_counted = λ n. rw (single_leaves (suc level) old.nodes id, no_leaf, leaves) refl;
     chained = λ front back chain. rw leaves (rw (single_leaves (suc level) old.nodes id, no_leaf) at chain);

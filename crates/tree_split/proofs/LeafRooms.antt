@@ -22,8 +22,8 @@ use Rattle.tree_model.proofs.Lists.{all_map}
 use Rattle.tree_node.specs.declared.node.NodeOf.{NodeOf}
 use Rattle.tree_node.specs.Arenas.{TreeArenas}
 use Rattle.tree_node.specs.Parts.{IsPart, PutsChild, Unchanged}
-use Rattle.tree_packed.specs.Packed.{IsPacked}
-use Rattle.tree_packed.proofs.Edges.{edge_below, last_child}
+use Rattle.tree_packed.specs.Packed.{HasLast, IsPacked}
+use Rattle.tree_packed.proofs.Edges.{edge_below, last_child, last_for, one_last}
 use Rattle.tree_split.specs.Splits.{GivesAll, GivesFirst, HasMadeRoom, IsCut, KeepsPacked, SharesEntries, is_at, is_last, leaf_part, low_part}
 use Rattle.tree_node.specs.Shape.{room}
 use Rattle.tree_node.specs.Tree.{IsAbove, IsUpTo, HasChildFor, HasKind, LeafStands, Stands, keyed, unbounded, child_at, is_from}
@@ -35,14 +35,13 @@ use Rattle.tree_split.proofs.LowSplits.{GainsLow, SplitsLow, absent_here, gains_
 use Rattle.tree_split.proofs.PackedSplits.{all_given, packed_split}
 use Rattle.tree_node.proofs.Standing.{node_is}
 use Rattle.tree_node.proofs.Places.{IsForKey, high_for, low_for, place_for, chosen_past}
-use Rattle.tree_split.proofs.Results.{only_child}
 use Rattle.tree_split.proofs.Rebuilds.{among, leaf_rebuilt, room_made_by_rebuild}
 use Rattle.tree_node.proofs.Unchanged.{chain_same, unchanged_by_keeping}
 
 -- room was made for a key by a new child before the old one
 room_made_for : {K V : Type 0} {LEN : ℕ} {cmp : K → K → Ordering} {Within : Option K → Option K → Type 0} (level : ℕ) (old mid new : TreeArenas K V LEN) (id x y : ℕ) (separator key : K) → GainsLow cmp Within level old mid new id x y separator
     → HasChildFor cmp key (get old.nodes id) x → ((low high : Option K) → IsAbove cmp low key → IsUpTo cmp key high → Within low high)
-    → (is_from cmp key separator ≡ true → 0 < room level mid y) → 0 < room level mid x → ((child : ℕ) → KeepsPacked cmp (suc level) old new id child key) → HasMadeRoom cmp (suc level) old new id key
+    → (is_from cmp key separator ≡ true → 0 < room level mid y) → 0 < room level mid x → ((child : ℕ) → KeepsPacked cmp (Some key) (suc level) old new id child) → HasMadeRoom cmp (suc level) old new id key
 room_made_for {cmp = cmp} level old mid new id x y separator key gains which fits low_room high_room packed = record {
   packed = packed;
   pairs = gains.pairs;
@@ -71,13 +70,15 @@ module _ {K V : Type 0} {LEN : ℕ} {cmp : K → K → Ordering} (o : IsTotalOrd
   pub leaf_used : IsSome (get old.leaves x)
   leaf_used = rw leaf_stood.here refl
 
+  child_placed : IsPart cmp 0 old x
+  child_placed = child_part o 0 old id x key part which None None part.stands
+
   -- a chain runs through the leaf, also where its array is written
   pub chain_through : (reserved : TreeArenas K V LEN) → KeepsBoth old reserved → (leaf : LeafOf K V LEN) (array : Arrivals K V) → get reserved.leaves x ≡ Some leaf
       → (front back : List ℕ) × IsChain (with_array reserved x leaf array).leaves (front ++ x ∷ back)
   chain_through reserved keeps leaf array there =
-      let child = child_part o 0 old id x key part which None None part.stands in
       let same = unchanged_by_keeping old reserved keeps in
-      (child.front, child.back, (array_replaces reserved x leaf array there).chained child.front child.back (chain_same old.leaves reserved.leaves same.leaves _ child.chain))
+      (child_placed.front, child_placed.back, (array_replaces reserved x leaf array there).chained child_placed.front child_placed.back (chain_same old.leaves reserved.leaves same.leaves _ child_placed.chain))
 
   module _ (node : NodeOf K LEN) (was_node : get old.nodes id ≡ Some node) where
     stood_node : stood.node ≡ node
@@ -153,7 +154,7 @@ module _ {K V : Type 0} {LEN : ℕ} {cmp : K → K → Ordering} (o : IsTotalOrd
     parent_kind = rw (stood_node node parent_was) at stood.kind
 
     splits_low : SplitsLow cmp (IsBetween cmp key) 0 old mid x y separator
-    splits_low = leaf_splits_low o old reserved mid x y count leaf high low pair separator key same there high_is low_is gains last_low cloned cut_here (sound leaf was)
+    splits_low = leaf_splits_low o old reserved mid x y count leaf high low pair separator key same there high_is low_is gains last_low cloned cut_here (sound leaf was) child_placed.front child_placed.back child_placed.chain
 
     pub separator_is_new : IsAbsent cmp (keyed node).entries separator
     separator_is_new =
@@ -161,14 +162,15 @@ module _ {K V : Type 0} {LEN : ℕ} {cmp : K → K → Ordering} (o : IsTotalOrd
         node parent_was at.before at.onward stood.last (last_is node parent_was) at.split (at.child ∙ goes node parent_was)
         (λ low_key high_key inside. (low_for cmp key low_key at.before at.smaller inside.0, high_for cmp key at.onward high_key at.up_to inside.1)) (tt, tt)
 
-    packed_still : GivesAll cmp old id x count key → (node' : NodeOf K LEN) → PutsChild cmp node node' separator y → (child : ℕ) → KeepsPacked cmp 1 old (record mid { nodes = with_value mid.nodes id node' }) id child key
-    packed_still gives node' puts child which' none e =
+    packed_still : GivesAll cmp old id x count key → (node' : NodeOf K LEN) → PutsChild cmp node node' separator y → (child : ℕ) → KeepsPacked cmp (Some key) 1 old (record mid { nodes = with_value mid.nodes id node' }) id child
+    packed_still gives node' puts child last' none e =
         let update = Updates-with_value mid.nodes id node' (rw is_node refl) in
-        let at_child : child ≡ x = only_child cmp key (get old.nodes id) child x which' which in
+        let last : HasLast (get old.nodes id) x = last_for cmp 1 (omega arith) old id x key which e in
+        let at_child : child ≡ x = one_last (get old.nodes id) child x last' last in
         let is : e.node ≡ node = let both : Some e.node ≡ Some node = sym e.here ∙ parent_was in cc in
         let edge : IsPacked cmp (Some key) 0 old x = edge_below o 0 old id x key part which e in
         let all : count ≡ LEN = gives which (rw at_child at none) e in
-        packed_split o (IsBetween cmp key) 0 old mid id x y separator key part splits_low which e
+        packed_split o (IsBetween cmp key) 0 old mid id x y separator (Some key) part splits_low last e
         (λ low_key high_key inside. (low_for cmp key low_key (keyed e.node).entries e.keys inside.0, inside.1)) (tt, tt)
         (record mid { nodes = with_value mid.nodes id node' }) node' update.changed (rw is puts) (λ n differs. update.others n differs) refl
         (low_full o old reserved mid x y count leaf high low pair separator key same there high_is low_is gains last_low cloned cut_here edge few all)

@@ -10,7 +10,8 @@ use Rattle.slab.specs.Slab.{get}
 use Rattle.tree_array.specs.Arrivals.{Arrivals, in_order}
 use Rattle.tree_array.specs.Sound.{IsSound}
 use Rattle.tree_leaf.specs.declared.leaf.LeafOf.{LeafOf}
-use Rattle.tree_leaf.specs.Counting.{uses}
+use Rattle.tree_leaf.specs.Chain.{IsChain}
+use Rattle.tree_leaf.specs.Counting.{times, uses}
 use Rattle.tree_leaf.specs.Links.{GainsBefore}
 use Rattle.tree_leaf.proofs.Chains.{same_array_uses}
 use Rattle.tree_leaf.proofs.Counts.{times-cons, one_here, none_here, uses_some, uses_none}
@@ -25,6 +26,7 @@ use Rattle.tree_packed.specs.Packed.{IsPacked}
 use Rattle.tree_packed.proofs.Arrays.{packed_in_order}
 use Rattle.tree_split.specs.Splits.{GivesFirst, IsCut}
 use Rattle.tree_node.specs.Tree.{IsAbove, IsBelow, IsUpTo, LeafStands, is_from, walk}
+use Rattle.tree_node.proofs.Beside.{not_before}
 use Rattle.tree_node.proofs.Children.{walk-leaf}
 use Rattle.tree_node.proofs.Cuts.{all_front, all_behind, ascending_front, ascending_behind, smaller_front, cut_whole, cut_with}
 use Rattle.tree_node.proofs.LeafSpares.{spare_anew, spare_beside}
@@ -53,10 +55,15 @@ module _ {K V : Type 0} {LEN : ℕ} (old new : TreeArenas K V LEN) (x y : ℕ) (
     | inr differs ↦ omega (arith, same_array_uses old.leaves new.leaves n (gains.kept n differs), none_here n y differs)
   ]
 
-  gained_replaces : Replaces 0 old new (x ∷ []) (y ∷ (x ∷ []))
-  gained_replaces = record {
+  gained_replaces : (front back : List ℕ) → IsChain old.leaves (front ++ x ∷ back) → Replaces 0 old new (x ∷ []) (y ∷ (x ∷ []))
+  gained_replaces front back chain = record {
     nodes_kept = λ n used outside. rw gains.nodes refl;
     leaves_kept = λ n used outside. gains.kept n (not_new n used);
+    links_kept = λ n other apart.
+        let itself : 1 ≤ times x (x ∷ []) = omega (arith, times-cons x x [], one_here x x refl) in
+        gains.others n (not_new n (rw apart.here refl)) (λ same. omega (arith, times-cons n x [], one_here n x same, apart.outside))
+        (not_before old.leaves n other apart.here front x back chain gains.after gains.was (x ∷ []) itself apart)
+        ∙ apart.here;
     nodes_counted = λ n. rw gains.nodes refl;
     leaves_counted = λ n. omega (arith, uses_now n, times-cons n x [], times-cons n y (x ∷ []));
     chained = gains.chained;
@@ -175,11 +182,14 @@ module _ {K V : Type 0} {LEN : ℕ} {cmp : K → K → Ordering} (o : IsTotalOrd
             let smaller = (all_behind (λ p. cmp p.0 key ≡ Less) lower (pair ∷ upper) (rw whole at beyond)).0 in
             less_upto o separator key bound (separator_below key smaller) up
 
-  leaf_replaces : Replaces 0 old mid (x ∷ []) (y ∷ (x ∷ []))
-  leaf_replaces =
+  leaf_written : Replaces 0 old (with_array reserved x leaf high) (x ∷ []) (x ∷ [])
+  leaf_written = replaces_trans 0 old reserved (with_array reserved x leaf high) (x ∷ []) (x ∷ []) (x ∷ []) (unchanged_replaces 0 old reserved same (x ∷ [])) (array_replaces reserved x leaf high there)
+
+  leaf_replaces : (front back : List ℕ) → IsChain old.leaves (front ++ x ∷ back) → Replaces 0 old mid (x ∷ []) (y ∷ (x ∷ []))
+  leaf_replaces front back chain =
       replaces_trans 0 old (with_array reserved x leaf high) mid (x ∷ []) (x ∷ []) (y ∷ (x ∷ []))
-      (replaces_trans 0 old reserved (with_array reserved x leaf high) (x ∷ []) (x ∷ []) (x ∷ []) (unchanged_replaces 0 old reserved same (x ∷ [])) (array_replaces reserved x leaf high there))
-      (gained_replaces (with_array reserved x leaf high) mid x y low gains)
+      leaf_written
+      (gained_replaces (with_array reserved x leaf high) mid x y low gains front back (leaf_written.chained front back chain))
 
   more_spare : IsSound cmp LEN leaf.array → spare 0 old x ≤ min (spare 0 mid y) (spare 0 mid x)
   more_spare sound =
@@ -193,13 +203,13 @@ module _ {K V : Type 0} {LEN : ℕ} {cmp : K → K → Ordering} (o : IsTotalOrd
         spare_anew mid x high_here.0 upper high_here.1 (high_here.2 ∙ high_is),
       )
 
-  pub leaf_splits_low : IsSound cmp LEN leaf.array → SplitsLow cmp (IsBetween cmp key) 0 old mid x y separator
-  leaf_splits_low sound = record {
+  pub leaf_splits_low : IsSound cmp LEN leaf.array → (front back : List ℕ) → IsChain old.leaves (front ++ x ∷ back) → SplitsLow cmp (IsBetween cmp key) 0 old mid x y separator
+  leaf_splits_low sound front back chain = record {
     pairs = rw (walk-leaf old x leaf was, walk-leaf mid y _ gains.here, walk-leaf mid x _ high_here.1, high_here.2, high_entries, ap (λ (a : Arrivals K V). a.entries) low_is) (take-append-drop count leaf.array.entries);
     separates = λ below above within s. (above_low below above s, below_high below above s within.1);
     lower = λ below above within s. low_stands below above s;
     upper = λ below above within s. high_stands below above s;
-    replaces = leaf_replaces;
+    replaces = leaf_replaces front back chain;
     spares = more_spare sound;
   }
 

@@ -19,7 +19,7 @@ use Rattle.tree_node.specs.declared.node.NodeOf.TheVariants.{Internal, Leaf}
 use Rattle.tree_node.specs.Arenas.{TreeArenas}
 use Rattle.tree_node.specs.Parts.{IsPart, PutsChild, Unchanged}
 use Rattle.tree_packed.specs.Packed.{IsPacked}
-use Rattle.tree_packed.proofs.Edges.{edge_below}
+use Rattle.tree_packed.proofs.Edges.{edge_of}
 use Rattle.tree_split.specs.Splits.{CutsNode, KeepsPacked, RebuildsNode, SharesChildren, SplitsChild}
 use Rattle.tree_node.specs.Shape.{room}
 use Rattle.tree_node.specs.Tree.{AreParted, HasKind, is_from, Stands, keyed, unbounded, children_of, leaves_of, nodes_of}
@@ -35,7 +35,7 @@ use Rattle.tree_node.proofs.Unchanged.{unchanged_by_keeping}
 
 -- a child was split where the separator fits between all bounds
 child_split : {K V : Type 0} {LEN : ℕ} {cmp : K → K → Ordering} {Within : Option K → Option K → Type 0} (level : ℕ) (old mid new : TreeArenas K V LEN) (id x y : ℕ) (separator : K) → GainsLow cmp Within level old mid new id x y separator
-    → ((low high : Option K) → Within low high) → 0 < room level mid y → 0 < room level mid x → SharesChildren cmp (suc level) old new id x → ((key : K) → KeepsPacked cmp (suc level) old new id x key) → SplitsChild cmp (suc level) old new id x
+    → ((low high : Option K) → Within low high) → 0 < room level mid y → 0 < room level mid x → SharesChildren cmp (suc level) old new id x → ((beyond : Option K) → KeepsPacked cmp beyond (suc level) old new id x) → SplitsChild cmp (suc level) old new id x
 child_split {K = K} {cmp = cmp} level old mid new id x y separator gains fits low_room high_room shares packed = record {
   shares = shares;
   packed = packed;
@@ -208,17 +208,17 @@ module _ {K V : Type 0} {LEN : ℕ} {cmp : K → K → Ordering} (o : IsTotalOrd
                 (children_shared o level old mid x y separator child_part node low high was_child was_free gains.updates.changed high_here others (λ n. rw leaves (same.leaves n)) place cuts),
           )
 
-      packed_still : (above' : NodeOf K LEN) → PutsChild cmp above above' separator y → (key : K) → KeepsPacked cmp (suc (suc level)) old (record mid { nodes = with_value mid.nodes parent above' }) parent x key
-      packed_still above' puts key which none e =
+      packed_still : (above' : NodeOf K LEN) → PutsChild cmp above above' separator y → (beyond : Option K) → KeepsPacked cmp beyond (suc (suc level)) old (record mid { nodes = with_value mid.nodes parent above' }) parent x
+      packed_still above' puts beyond last none e =
           let update = Updates-with_value mid.nodes parent above' (rw is_above refl) in
           let is : e.node ≡ above = let both : Some e.node ≡ Some above = sym e.here ∙ above_was in cc in
-          let edge : IsPacked cmp (Some key) (suc level) old x = edge_below o (suc level) old parent x key part which e in
+          let edge : IsPacked cmp beyond (suc level) old x = edge_of cmp (suc level) old parent x last beyond e in
           let full : room (suc level) old x ≡ 0 = rw sub-one at none in
-          packed_split o (λ low high. ⊤) (suc level) old mid parent x y separator key part splits which e (λ low_key high_key any. tt) tt
+          packed_split o (λ low high. ⊤) (suc level) old mid parent x y separator beyond part splits last e (λ low_key high_key any. tt) tt
           (record mid { nodes = with_value mid.nodes parent above' }) above' update.changed (rw is puts) (λ n differs. update.others n differs) refl
-          (low_full o level old mid x y separator child_part node low high was_child was_free gains.updates.changed high_here others (λ n. rw leaves (same.leaves n)) place cuts key edge full sound.is_len sound.ascending rule)
-          (edge_left o level old mid x y separator child_part node low high was_child was_free gains.updates.changed high_here others (λ n. rw leaves (same.leaves n)) place cuts key edge full sound.is_len sound.ascending rule)
-          (separator_smaller o level old mid x y separator child_part node low high was_child was_free gains.updates.changed high_here others (λ n. rw leaves (same.leaves n)) place cuts key edge full sound.is_len sound.ascending rule)
+          (low_full o level old mid x y separator child_part node low high was_child was_free gains.updates.changed high_here others (λ n. rw leaves (same.leaves n)) place cuts beyond edge full sound.is_len sound.ascending rule)
+          (edge_left o level old mid x y separator child_part node low high was_child was_free gains.updates.changed high_here others (λ n. rw leaves (same.leaves n)) place cuts beyond edge full sound.is_len sound.ascending rule)
+          (separator_smaller o level old mid x y separator child_part node low high was_child was_free gains.updates.changed high_here others (λ n. rw leaves (same.leaves n)) place cuts beyond edge full sound.is_len sound.ascending rule)
 
       pub split_in_two : (above' : NodeOf K LEN) → HasRoom LEN (keyed above) → PutsChild cmp above above' separator y → SplitsChild cmp (suc (suc level)) old (record mid { nodes = with_value mid.nodes parent above' }) parent x
       split_in_two above' some puts =

@@ -185,6 +185,7 @@ module _ {K V : Type 0} {LEN : ℕ} {cmp : K → K → Ordering} (o : IsTotalOrd
   apart_replaces = record {
     nodes_kept = λ n used outside. others n (λ same. omega (arith, outside, old_times n, one_here n x same)) (not_new n used);
     leaves_kept = λ n used outside. rw (leaves n) (same_array_refl (get old.leaves n));
+    links_kept = λ n leaf apart. leaves n ∙ apart.here;
     nodes_counted = λ n. omega (arith, uses_now n, old_times n, new_times n);
     leaves_counted = λ n. rw (apart_leaves, uses_same old.leaves new.leaves n (ap is_some (leaves n))) refl;
     chained = λ front back chain. rw apart_leaves (chain_same old.leaves new.leaves leaves _ chain);
@@ -266,12 +267,12 @@ module _ {K V : Type 0} {LEN : ℕ} {cmp : K → K → Ordering} (o : IsTotalOrd
     high_node_room = rw (high_here, cuts.high_last, last_is, cuts.high_keyed, length-map upper Some, length-drop (place + 1) (keyed node).entries) (omega (arith, within, few_here))
 
   -- the last child of a packed part, which is full: the new one is as full as can be, and this one goes on with the edge
-  module _ (key : K) (e : IsPacked cmp (Some key) (suc level) old x) (none : room (suc level) old x ≡ 0) (is_len : IsLen LEN) (ascending : IsAscending cmp (keyed node).entries) (rule : place ≡ (boundary cmp LEN (keyed node)).0) where
+  module _ (beyond : Option K) (e : IsPacked cmp beyond (suc level) old x) (none : room (suc level) old x ≡ 0) (is_len : IsLen LEN) (ascending : IsAscending cmp (keyed node).entries) (rule : place ≡ (boundary cmp LEN (keyed node)).0) where
     same_node : e.node ≡ node
     same_node = let both : Some e.node ≡ Some node = sym e.here ∙ was in cc
 
     all_there : length (keyed node).entries ≡ LEN
-    all_there = let all : length (keyed e.node).entries ≡ LEN = rw e.here at (all_held cmp (Some key) (suc level) old None x None part.stands e none) in rw same_node at all
+    all_there = let all : length (keyed e.node).entries ≡ LEN = rw e.here at (all_held cmp beyond (suc level) old None x None part.stands e none) in rw same_node at all
 
     abbrev low_pairs : List (K × ℕ)
     low_pairs = lower ++ (separator, cuts.middle) ∷ []
@@ -297,7 +298,7 @@ module _ {K V : Type 0} {LEN : ℕ} {cmp : K → K → Ordering} (o : IsTotalOrd
     full_before : AllByRecursion (λ c. length (walk level old c.1) ≡ LEN ^ suc level) (low_pairs ++ upper)
     full_before = rw (same_node, two_parts) at e.full
 
-    smaller : AllByRecursion (λ c. IsBelow cmp c.0 (Some key)) (low_pairs ++ upper)
+    smaller : AllByRecursion (λ c. IsBelow cmp c.0 beyond) (low_pairs ++ upper)
     smaller = rw (same_node, two_parts) at e.keys
 
     all_ids : (size : ℕ) (pairs : List (K × ℕ)) → AllByRecursion (λ c. length (walk level new c.1) ≡ size) pairs → AllByRecursion (λ id. length (walk level new id) ≡ size) (map (λ c. c.1) pairs)
@@ -310,7 +311,7 @@ module _ {K V : Type 0} {LEN : ℕ} {cmp : K → K → Ordering} (o : IsTotalOrd
         let length_is = full_length (walk level new) (LEN ^ suc level) (map (λ c. c.1) low_pairs) (all_ids (LEN ^ suc level) low_pairs counted) in
         rw (walk-children level new y, y_children, ← same_ids) (length_is ∙ rw (length-map low_pairs (λ c. c.1), low_count) (sym (pow-suc LEN (suc level))))
 
-    pub edge_left : IsPacked cmp (Some key) (suc level) new x
+    pub edge_left : IsPacked cmp beyond (suc level) new x
     edge_left =
         let last_same : e.last ≡ stood.last = let both : Some e.last ≡ Some stood.last = sym e.last_is ∙ rw same_node last_is in cc in
         record {
@@ -321,8 +322,8 @@ module _ {K V : Type 0} {LEN : ℕ} {cmp : K → K → Ordering} (o : IsTotalOrd
           full = rw high_entries (counts_same level old new (LEN ^ suc level) upper (all_front _ (map (λ c. c.1) upper) (stood.last ∷ []) high_agree) (all_behind _ low_pairs upper full_before));
           last = stood.last;
           last_is = cuts.high_last ∙ last_is;
-          edge = same_packed cmp (Some key) level old new stood.last (all_behind _ (map (λ c. c.1) upper) (stood.last ∷ []) high_agree).0 (rw last_same at e.edge);
+          edge = same_packed cmp beyond level old new stood.last (all_behind _ (map (λ c. c.1) upper) (stood.last ∷ []) high_agree).0 (rw last_same at e.edge);
         }
 
-    pub separator_smaller : cmp separator key ≡ Less
+    pub separator_smaller : IsBelow cmp separator beyond
     separator_smaller = (all_behind _ lower ((separator, cuts.middle) ∷ []) (all_front _ low_pairs upper smaller)).0

@@ -18,13 +18,13 @@ use Rattle.tree_node.specs.declared.node.NodeOf.{NodeOf}
 use Rattle.tree_node.specs.Arenas.{TreeArenas}
 use Rattle.tree_node.specs.Parts.{IsPart, PutsChild}
 use Rattle.tree_node.specs.Shape.{held, room, found_keyed}
-use Rattle.tree_node.specs.Tree.{AreParted, HasChildFor, Stands, keyed, walk}
+use Rattle.tree_node.specs.Tree.{AreParted, IsBelow, Stands, keyed, walk}
 use Rattle.tree_node.proofs.Frames.{Agrees, same_walk}
 use Rattle.tree_node.proofs.Places.{low_above, low_at}
 use Rattle.tree_node.proofs.Standing.{node_is}
-use Rattle.tree_packed.specs.Packed.{IsPacked, is_packed_array}
+use Rattle.tree_packed.specs.Packed.{HasLast, IsPacked, is_packed_array}
 use Rattle.tree_packed.proofs.Arrays.{both_of, packed_boundary, packed_full, packed_marks, packed_stored}
-use Rattle.tree_packed.proofs.Edges.{counts_same, last_child, same_packed}
+use Rattle.tree_packed.proofs.Edges.{at_last, counts_same, same_packed}
 use Rattle.tree_split.specs.Splits.{all_smaller, low_part}
 use Rattle.tree_split.proofs.Boundaries.{boundary_count}
 use Rattle.tree_split.proofs.LowSplits.{SplitsLow, changed, entries_now, fronts, parted, separates_here}
@@ -81,41 +81,41 @@ module _ {K V : Type 0} {cmp : K → K → Ordering} where
       let cut = packed_boundary o len array sound.is_len packed sound.ascending full in
       rw (cut.1, beyond_all cmp key array.entries smaller) (boundary_count len (length array.entries) (ascents cmp (reachable array.arrivals)) ∙ full)
 
-module _ {K V : Type 0} {LEN : ℕ} {cmp : K → K → Ordering} (o : IsTotalOrder cmp) (Within : Option K → Option K → Type 0) (level : ℕ) (old mid : TreeArenas K V LEN) (id x y : ℕ) (separator key : K)
-    (part : IsPart cmp (suc level) old id) (splits : SplitsLow cmp Within level old mid x y separator) (which : HasChildFor cmp key (get old.nodes id) x) (e : IsPacked cmp (Some key) (suc level) old id)
+module _ {K V : Type 0} {LEN : ℕ} {cmp : K → K → Ordering} (o : IsTotalOrder cmp) (Within : Option K → Option K → Type 0) (level : ℕ) (old mid : TreeArenas K V LEN) (id x y : ℕ) (separator : K) (beyond : Option K)
+    (part : IsPart cmp (suc level) old id) (splits : SplitsLow cmp Within level old mid x y separator) (last : HasLast (get old.nodes id) x) (e : IsPacked cmp beyond (suc level) old id)
     (inner : (low high : Option K) → Within low high → Within (low_at low (keyed e.node).entries) high) (within : Within None None)
     (new : TreeArenas K V LEN) (node' : NodeOf K LEN) (is_node : get new.nodes id ≡ Some node') (puts : PutsChild cmp e.node node' separator y)
     (others : (n : ℕ) → (n ≡ id → ⊥) → get new.nodes n ≡ get mid.nodes n) (leaves : new.leaves ≡ mid.leaves)
-    (full : length (walk level mid y) ≡ LEN ^ suc level) (edge : IsPacked cmp (Some key) level mid x) (less : cmp separator key ≡ Less) where
+    (full : length (walk level mid y) ≡ LEN ^ suc level) (edge : IsPacked cmp beyond level mid x) (less : IsBelow cmp separator beyond) where
   abbrev lower : List (K × ℕ)
   lower = (keyed e.node).entries
 
   whole : lower ≡ lower ++ []
   whole = sym (append-nil lower)
 
-  at_last : e.last ≡ x
-  at_last = sym (last_child o level old id x key part which e)
+  ends : e.last ≡ x
+  ends = at_last cmp level old id x last beyond e
 
   stood : Stands cmp (suc level) old None id None
   stood = part.stands
 
   entries_are : (keyed node').entries ≡ lower ++ (separator, y) ∷ []
-  entries_are = entries_now o Within level old mid id x y separator part splits e.node e.here lower [] e.last e.last_is whole at_last inner within new node' is_node puts others leaves
+  entries_are = entries_now o Within level old mid id x y separator part splits e.node e.here lower [] e.last e.last_is whole ends inner within new node' is_node puts others leaves
 
   smaller : AllByRecursion (λ c. cmp c.0 separator ≡ Less) lower
   smaller =
-      let between : AreParted cmp (Stands cmp level old) None (lower ++ []) e.last None = parted o Within level old mid id x y separator part splits e.node e.here lower [] e.last e.last_is whole at_last inner None None within stood in
+      let between : AreParted cmp (Stands cmp level old) None (lower ++ []) e.last None = parted o Within level old mid id x y separator part splits e.node e.here lower [] e.last e.last_is whole ends inner None None within stood in
       (low_above o (Stands cmp level old) separator None lower [] e.last None between
-      (separates_here o Within level old mid id x y separator part splits e.node e.here lower [] e.last e.last_is whole at_last inner None None within stood).0).1
+      (separates_here o Within level old mid id x y separator part splits e.node e.here lower [] e.last e.last_is whole ends inner None None within stood).0).1
 
   kept : AllByRecursion (λ c. Agrees level old new c) (map (λ c. c.1) lower)
-  kept = fronts o Within level old mid id x y separator part splits e.node e.here lower [] e.last e.last_is whole at_last inner within new node' is_node puts others leaves
+  kept = fronts o Within level old mid id x y separator part splits e.node e.here lower [] e.last e.last_is whole ends inner within new node' is_node puts others leaves
 
   two : AllByRecursion (λ c. Agrees level mid new c) (y ∷ (x ∷ []))
-  two = changed o Within level old mid id x y separator part splits e.node e.here lower [] e.last e.last_is whole at_last inner within new node' is_node puts others leaves
+  two = changed o Within level old mid id x y separator part splits e.node e.here lower [] e.last e.last_is whole ends inner within new node' is_node puts others leaves
 
   -- it stays packed, and has a keyed child more
-  pub packed_split : IsPacked cmp (Some key) (suc level) new id × (found_keyed (get old.nodes id) < found_keyed (get new.nodes id))
+  pub packed_split : IsPacked cmp beyond (suc level) new id × (found_keyed (get old.nodes id) < found_keyed (get new.nodes id))
   packed_split = (
     record {
       node = node';
@@ -124,8 +124,8 @@ module _ {K V : Type 0} {LEN : ℕ} {cmp : K → K → Ordering} (o : IsTotalOrd
       keys = rw entries_are (all-append _ lower ((separator, y) ∷ []) e.keys (less, tt));
       full = rw entries_are (all-append _ lower ((separator, y) ∷ []) (counts_same level old new (LEN ^ suc level) lower kept e.full) (ap length (same_walk level mid new y two.0) ∙ full, tt));
       last = x;
-      last_is = puts.last ∙ e.last_is ∙ ap Some at_last;
-      edge = same_packed cmp (Some key) level mid new x two.1.0 edge;
+      last_is = puts.last ∙ e.last_is ∙ ap Some ends;
+      edge = same_packed cmp beyond level mid new x two.1.0 edge;
     },
     rw (e.here, is_node, entries_are) (omega (arith, length-append lower ((separator, y) ∷ []))),
   )

@@ -19,12 +19,12 @@ use Rattle.tree_node.specs.declared.node.NodeOf.{NodeOf}
 use Rattle.tree_node.specs.Arenas.{TreeArenas}
 use Rattle.tree_node.specs.Parts.{IsPart, KeepsBounds, Replaces}
 use Rattle.tree_node.specs.Shape.{held, room, spare}
-use Rattle.tree_packed.specs.Packed.{IsPacked}
+use Rattle.tree_packed.specs.Packed.{HasLast, IsPacked}
 use Rattle.tree_packed.proofs.Arrays.{limit_below}
-use Rattle.tree_packed.proofs.Edges.{edge_below}
+use Rattle.tree_packed.proofs.Edges.{edge_of, last_for, last_stands, one_last}
 use Rattle.tree_split.specs.Splits.{HasMadeRoom, KeepsPacked, RebuildsNode, SharesChildren, SplitsChild}
 use Rattle.tree_node.specs.Tree.{HasChildFor, Stands, keyed, unbounded, walk, leaves_at, nodes_at, nodes_of, node_children, children_of}
-use Rattle.tree_node.proofs.Children.{child_stands, walk-leaf}
+use Rattle.tree_node.proofs.Children.{walk-leaf}
 use Rattle.tree_node.proofs.Frames.{Agrees, each_part, parted_map, same_leaves, same_nodes, same_walk, same_stands}
 use Rattle.tree_node.proofs.LeafSpares.{spare_anew, spare_beside}
 use Rattle.tree_node.proofs.LeafWrites.{with_array, here_now, array_replaces}
@@ -109,12 +109,11 @@ module _ {K V : Type 0} {LEN : ℕ} {cmp : K → K → Ordering} (o : IsTotalOrd
       }
 
   -- which no full child of a packed part is
-  not_packed : (key : K) (child : ℕ) → HasChildFor cmp key (get old.nodes id) x → KeepsPacked cmp (suc level) old new id child key
-  not_packed key child which which' none e =
-      let same : child ≡ x = only_child cmp key (get old.nodes id) child x which' which in
-      let here : IsPacked cmp (Some key) level old x = rw same at (edge_below o level old id child key part which' e) in
-      let there : room level old child ≡ 0 = rw sub-one at none in
-      absurd (omega (arith, rebuilt.unfilled, all_held cmp (Some key) level old None x None (child_stands o level old id part.stands key x which) here (rw same at there)))
+  not_packed : (beyond : Option K) → KeepsPacked cmp beyond (suc level) old new id x
+  not_packed beyond last none e =
+      let here : IsPacked cmp beyond level old x = edge_of cmp level old id x last beyond e in
+      let there : room level old x ≡ 0 = rw sub-one at none in
+      absurd (omega (arith, rebuilt.unfilled, all_held cmp beyond level old None x None (last_stands cmp level old id x last part.stands) here there))
 
   pub room_made_by_rebuild : (key : K) → HasChildFor cmp key (get old.nodes id) x → HasMadeRoom cmp (suc level) old new id key
   room_made_by_rebuild key which = record {
@@ -124,7 +123,10 @@ module _ {K V : Type 0} {LEN : ℕ} {cmp : K → K → Ordering} (o : IsTotalOrd
     spares = same_or_more;
     spends = rw same_node (omega arith);
     child = λ child routed. rw (sub-one, only_child cmp key (get old.nodes id) child x (rw same_node at routed) which) rebuilt.roomy;
-    packed = λ child. not_packed key child which;
+    packed = λ child last none e.
+        let at_x : HasLast (get old.nodes id) x = last_for cmp (suc level) (omega arith) old id x key which e in
+        let same : child ≡ x = one_last (get old.nodes id) child x last at_x in
+        not_packed (Some key) at_x (rw same at none) e;
   }
 
   pub split_by_rebuild : SharesChildren cmp (suc level) old new id x → SplitsChild cmp (suc level) old new id x
@@ -138,7 +140,7 @@ module _ {K V : Type 0} {LEN : ℕ} {cmp : K → K → Ordering} (o : IsTotalOrd
     roomy = rw sub-one rebuilt.roomy;
     gained = λ z inside outside. absurd (let same = ap (λ slot. times z slot) (was ∙ sym now) in omega (arith, same, inside, outside));
     routed = λ key which z routed. (room_made_by_rebuild key which).child z routed;
-    packed = λ key which. not_packed key x which which;
+    packed = not_packed;
   }
 
 -- the children of a node with a place among them
@@ -238,6 +240,7 @@ module _ {K V : Type 0} {LEN : ℕ} {cmp : K → K → Ordering} (level : ℕ) (
               written.others n (λ same.
               omega (arith, outside, one_here n x same, times-cons n x (nodes_of level a.nodes (children_of a.nodes x)), ap (times n) (single_nodes (suc level) a.nodes x)));
           leaves_kept = λ n used outside. same_array_refl (get a.leaves n);
+          links_kept = λ n leaf apart. apart.here;
           nodes_counted = λ n. rw (uses_stay n, single_nodes (suc level) new.nodes x, single_nodes (suc level) a.nodes x, nodes_same) refl;
           leaves_counted = λ n. rw (single_leaves (suc level) new.nodes x, single_leaves (suc level) a.nodes x, leaves_same) refl;
           chained = λ front back chain. rw (single_leaves (suc level) new.nodes x, leaves_same, ← single_leaves (suc level) a.nodes x) chain;

@@ -15,7 +15,7 @@ use Rattle.tree_node.specs.Arenas.{TreeArenas}
 use Rattle.tree_node.specs.Tree.{IsAbove, IsUpTo, HasChildFor, HasKind, Stands, keyed, unbounded, children_of, walk}
 use Rattle.tree_node.specs.Parts.{KeepsBounds, Replaces, Unchanged}
 use Rattle.tree_node.specs.Shape.{held, room, found_keyed, spare}
-use Rattle.tree_packed.specs.Packed.{IsPacked}
+use Rattle.tree_packed.specs.Packed.{HasLast, IsPacked}
 
 -- The parent takes no child more, and the child has too many to be built anew. Nothing has changed.
 pub record LacksRoom {K V : Type 0} {LEN : ℕ} (level : ℕ) (old new : TreeArenas K V LEN) (parent target : ℕ) : Type 0 where
@@ -37,11 +37,11 @@ SharesChildren {LEN = LEN} cmp level old new parent target =
     × (children_of old.nodes target ≡ children_of new.nodes low ++ children_of new.nodes target))
 
 module _ {K V : Type 0} {LEN : ℕ} (cmp : K → K → Ordering) where
-  -- A part that is packed, with the key beyond its edge, stays so where the key's child was full, and has a keyed child more.
-  abbrev pub KeepsPacked : ℕ → TreeArenas K V LEN → TreeArenas K V LEN → ℕ → ℕ → K → Type 0
-  KeepsPacked level old new id child key =
-      HasChildFor cmp key (get old.nodes id) child → room (level - 1) old child ≡ 0 → IsPacked cmp (Some key) level old id
-      → IsPacked cmp (Some key) level new id × (found_keyed (get old.nodes id) < found_keyed (get new.nodes id))
+  -- A part that is packed stays so where its last child was full, and has a keyed child more.
+  abbrev pub KeepsPacked : Option K → ℕ → TreeArenas K V LEN → TreeArenas K V LEN → ℕ → ℕ → Type 0
+  KeepsPacked beyond level old new id child =
+      HasLast (get old.nodes id) child → room (level - 1) old child ≡ 0 → IsPacked cmp beyond level old id
+      → IsPacked cmp beyond level new id × (found_keyed (get old.nodes id) < found_keyed (get new.nodes id))
 
   -- The part has the same pairs, between bounds that the key is within, and the child for the key has room.
   pub record HasMadeRoom (level : ℕ) (old new : TreeArenas K V LEN) (id : ℕ) (key : K) : Type 0 where
@@ -54,7 +54,8 @@ module _ {K V : Type 0} {LEN : ℕ} (cmp : K → K → Ordering) where
     pub spends : room level old id ≤ suc (room level new id)
     -- so that a second insert does not ask for a split
     pub child : (child : ℕ) → HasChildFor cmp key (get new.nodes id) child → 0 < room (level - 1) new child
-    pub packed : (child : ℕ) → KeepsPacked level old new id child key
+    -- with the key beyond its edge
+    pub packed : (child : ℕ) → KeepsPacked (Some key) level old new id child
 
   -- the child that the key belongs to now, or none where no room could be made
   abbrev pub RoomResult : Option ℕ → ℕ → TreeArenas K V LEN → TreeArenas K V LEN → ℕ → ℕ → K → Type 0
@@ -75,7 +76,8 @@ module _ {K V : Type 0} {LEN : ℕ} (cmp : K → K → Ordering) where
     pub gained : (child : ℕ) → 0 < times child (children_of new.nodes parent) → times child (children_of old.nodes parent) ≡ 0 → 0 < room (level - 1) new child
     -- a key that belonged to the child belongs to one with room
     pub routed : (key : K) → HasChildFor cmp key (get old.nodes parent) target → (child : ℕ) → HasChildFor cmp key (get new.nodes parent) child → 0 < room (level - 1) new child
-    pub packed : (key : K) → KeepsPacked level old new parent target key
+    -- with or without a key beyond its edge
+    pub packed : (beyond : Option K) → KeepsPacked beyond level old new parent target
 
   abbrev pub SplitResult : Bool → ℕ → TreeArenas K V LEN → TreeArenas K V LEN → ℕ → ℕ → Type 0
   SplitResult true level old new parent target = SplitsChild level old new parent target

@@ -117,12 +117,26 @@ fn expect_shape(rt: &impl Abort, index: &TreeIndex<u64, u64>, (depth, leaves, no
     assert!(rt; index.depth() == depth && counts(index) == (leaves, nodes));
 }
 
+/// An index of one level has no pair, and then takes one.
+fn expect_begun_anew(rt: &impl Abort, index: &mut TreeIndex<u64, u64>) -> Result<(), AllocError> {
+    assert!(rt; index.len() == 0);
+    if index.insert_sync(1, 1).is_err() {
+        return Err(AllocError);
+    }
+    assert!(rt; index.depth() == 1 && index.spare() == 14 && index.len() == 1);
+    Ok(())
+}
+
 fn expect_row(rt: &impl Abort, alloc: Global, row: &Row) -> Result<(), AllocError> {
     let mut index: TreeIndex<u64, u64> = TreeIndex::new(alloc);
     grow(&mut index, row.keys.0, row.keys.1)?;
     expect_shape(rt, &index, row.grown);
     shrink(&mut index, row);
     expect_shape(rt, &index, row.left);
+    let (_, leaves, _) = row.left;
+    if leaves == 0 {
+        expect_begun_anew(rt, &mut index)?;
+    }
     Ok(())
 }
 

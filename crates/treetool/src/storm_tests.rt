@@ -6,13 +6,17 @@ use std::io::Cursor;
 use std::sync::Wait;
 use std::thread::Threads;
 
-static STORMS: [(&str, &str); 6] = [
+static STORMS: [(&str, &str); 7] = [
     ("storm 2 100", "calls 200 stored 100 length 100\n"),
     ("storm 2 0", "calls 0 stored 0 length 0\n"),
     ("storm 3 50", "calls 150 stored 50 length 50\n"),
     ("storm 64 1", "calls 64 stored 1 length 1\n"),
     ("storm 64 1000", "calls 64000 stored 1000 length 1000\n"),
     ("storm 1 2000", "calls 2000 stored 2000 length 2000\n"),
+    (
+        "storm 1 100000",
+        "calls 100000 stored 100000 length 100000\n",
+    ),
 ];
 
 // A status, and a text.

@@ -1,4 +1,6 @@
 //! The exit statuses of the program and what it writes, also where a read or a write fails.
+ghost use Rattle.std.specs.Prelude.{◌≤◌, IfOk};
+
 use crate::tool::tool;
 use std::alloc::{AllocError, Global};
 use std::io;
@@ -6,49 +8,106 @@ use std::io::{Cursor, ErrorKind, Read, Write};
 use std::sync::Wait;
 use std::thread::Threads;
 
-const REQUESTS: &[u8] = b"insert 1 10\npeek 1\ninsert 2 20\npeek 2";
+// Lines, and the answers to them.
+static SCRIPTS: [(&str, &str); 5] = [
+    ("", ""),
+    ("insert 1 10\npeek 1\n", "ok\n10\n"),
+    (
+        "insert 1 10\npeek 1\ninsert 2 20\npeek 2",
+        "ok\n10\nok\n20\n",
+    ),
+    (
+        "insert 2 2\ninsert 1 1\niter\nback\nrange (1 -\nrange [2 (2\nlocate 3\n",
+        "ok\nok\n1=1 2=2\n2=2 1=1\n2=2\n\nsmaller 2=2\n",
+    ),
+    (LINES, ANSWERS),
+];
 
-const ANSWERS: &[u8] = b"ok\n10\nok\n20\n";
+const LINES: &str =
+    "insert 1 10\ninsert 1 11\nrange [0 (1\ninsert 01 5\nlocate 9\nremove_range (1 -\nlen\nclear\nlocate 9\ndepth\n";
 
-const WALKS: &[u8] = b"insert 2 2\ninsert 1 1\niter\nback\nrange (1 -\nrange [2 (2\nlocate 3\n";
+const ANSWERS: &str = "ok\nduplicate\n\n?\nsmaller 1=10\nok\n1\nok\nempty\n0\n";
 
-const PAIRS: &[u8] = b"ok\nok\n1=1 2=2\n2=2 1=1\n2=2\n\nsmaller 2=2\n";
+// How the calls of a stream go: each moves so many bytes at most, and so many pass. Later ones fail, or move no byte.
+#[derive(Clone, Copy, Debug)]
+struct Calls {
+    piece: usize,
+    passes: u64,
+    failure: Option<ErrorKind>,
+}
 
-// A stream of which each read and each write fails.
-#[derive(Clone, Copy)]
-struct Broken(ErrorKind);
+impl Calls {
+    // Calls that all pass.
+    fn all() -> Self {
+        Calls {
+            piece: 256,
+            passes: u64::MAX,
+            failure: None,
+        }
+    }
 
-impl Read for Broken {
-    fn read(&mut self, _buf: &mut [u8]) -> io::Result<usize> {
-        Err(io::Error::from(self.0))
+    // Counts a call. Returns how many bytes of its buffer it may move.
+    fn next(&mut self, length: usize) -> io::Result<usize>
+        ensures { IfOk result (λ count. count ≤ length) }
+    {
+        if self.passes > 0 {
+            self.passes -= 1;
+            return Ok(self.piece.min(length));
+        }
+        match self.failure {
+            Some(kind) => Err(io::Error::from(kind)),
+            None => Ok(0),
+        }
     }
 }
 
-impl Write for Broken {
-    fn write(&mut self, _buf: &[u8]) -> io::Result<usize> {
-        Err(io::Error::from(self.0))
+// A stream with such calls.
+#[derive(Drop)]
+struct Stream<S> {
+    inner: S,
+    calls: Calls,
+}
+
+impl<S: Read> Read for Stream<S> {
+    fn read(&mut self, buf: &mut [u8]) -> io::Result<usize> {
+        let count = self.calls.next(buf.len())?;
+        self.inner.read(&mut buf[..count])
+    }
+}
+
+impl<S: Write> Write for Stream<S> {
+    fn write(&mut self, buf: &[u8]) -> io::Result<usize> {
+        let count = self.calls.next(buf.len())?;
+        self.inner.write(&buf[..count])
     }
 
     fn flush(&mut self) -> io::Result<()> {
-        Ok(())
+        self.inner.flush()
     }
 }
 
-// Whether the program, with room for some bytes of output, ends with this status, writes these
-// answers and shows no error.
-fn ends_with<R: Threads + Wait + Sync, I: Read + Drop>(
+// Whether the program, over these lines and with such reads and writes, ends with this status, writes these answers and
+// shows no error.
+fn ends_with<R: Threads + Wait + Sync>(
     rt: &R,
     alloc: Global,
-    input: I,
-    room: usize,
+    lines: &str,
+    (reads, writes): (Calls, Calls),
     (status, answers): (u8, &[u8]),
 ) -> bool {
+    let input = Stream {
+        inner: lines.as_bytes(),
+        calls: reads,
+    };
     let mut memory = [0; 64];
-    let mut output = Cursor::new(&mut memory[..room.min(64)]);
+    let mut output = Stream {
+        inner: Cursor::new(&mut memory[..]),
+        calls: writes,
+    };
     let mut shown = [0; 64];
     let mut errors = Cursor::new(&mut shown[..]);
     let ended = tool(rt, alloc, &[], input, &mut output, &mut errors);
-    let (written, silent) = (output.position() as usize, errors.position() == 0);
+    let (written, silent) = (output.inner.position() as usize, errors.position() == 0);
     ended == status && silent && &memory[..written.min(64)] == answers
 }
 
@@ -67,41 +126,74 @@ fn is_out_of_memory(alloc: Global) -> bool {
 
 #[test]
 fn ends_at_the_end_of_the_input(rt: HostRuntime) {
-    for (input, answers) in [
-        (b"".as_slice(), b"".as_slice()),
-        (b"insert 1 10\npeek 1\n", b"ok\n10\n"),
-        (REQUESTS, ANSWERS),
-        (WALKS, PAIRS),
-    ] {
-        let once = || ends_with(&rt, rt.alloc(), input, 64, (0, answers));
-        assert!(rt; holds(rt.alloc(), once), "{input:?}");
+    let byte_by_byte = Calls {
+        piece: 1,
+        ..Calls::all()
+    };
+    for (lines, answers) in &SCRIPTS {
+        for calls in [Calls::all(), byte_by_byte] {
+            let ended = (0, answers.as_bytes());
+            let once = || ends_with(&rt, rt.alloc(), lines, (calls, calls), ended);
+            assert!(rt; holds(rt.alloc(), once), "{lines:?}");
+        }
     }
 }
 
+// The number of line feeds.
+fn count_lines(text: &[u8]) -> usize {
+    text.iter().filter(|byte| **byte == b'\n').count()
+}
+
+// The answers to the lines that a line feed ends within so many bytes.
+fn answers_within(bytes: usize) -> &'static [u8] {
+    let (lines, answers) = (LINES.as_bytes(), ANSWERS.as_bytes());
+    let read = count_lines(lines.get(..bytes).unwrap_or(lines));
+    for length in 0..answers.len() {
+        let front = answers.split_at(length).0;
+        if count_lines(front) == read {
+            return front;
+        }
+    }
+    answers
+}
+
+// Where the read that finds no more bytes passes, the program ends well.
 #[test]
 fn tells_that_a_read_failed(rt: HostRuntime) {
-    for kind in [ErrorKind::Other, ErrorKind::Interrupted] {
-        for (count, answered) in [(0, 0), (11, 0), (12, 3), (18, 3), (19, 6), (31, 9), (37, 9)] {
-            let (input, answers) = (REQUESTS.split_at(count).0, ANSWERS.split_at(answered).0);
-            let once = || ends_with(&rt, rt.alloc(), input.chain(Broken(kind)), 64, (2, answers));
-            assert!(rt; holds(rt.alloc(), once), "{kind:?} after {count}");
+    for failure in [ErrorKind::Other, ErrorKind::Interrupted] {
+        for piece in [1usize, 2, 256] {
+            for passes in 0..=LINES.len() {
+                let reads = Calls {
+                    piece,
+                    passes: passes as u64,
+                    failure: Some(failure),
+                };
+                let is_whole = passes.saturating_sub(1).saturating_mul(piece) >= LINES.len();
+                let answers = answers_within(passes.saturating_mul(piece));
+                let ended = (if is_whole { 0 } else { 2 }, answers);
+                let once = || ends_with(&rt, rt.alloc(), LINES, (reads, Calls::all()), ended);
+                assert!(rt; holds(rt.alloc(), once), "{reads:?}");
+            }
         }
     }
 }
 
-// A slice that is full takes no byte.
 #[test]
 fn tells_that_a_write_failed(rt: HostRuntime) {
-    for (requests, answers) in [(REQUESTS, ANSWERS), (WALKS, PAIRS)] {
-        for room in 0..answers.len() {
-            let part = answers.split_at(room).0;
-            let once = || ends_with(&rt, rt.alloc(), requests, room, (2, part));
-            assert!(rt; holds(rt.alloc(), once), "with room for {room}");
+    for (lines, answers) in &SCRIPTS {
+        for failure in [None, Some(ErrorKind::Other), Some(ErrorKind::Interrupted)] {
+            for passes in 0..answers.len() {
+                let writes = Calls {
+                    piece: 1,
+                    passes: passes as u64,
+                    failure,
+                };
+                let calls = (Calls::all(), writes);
+                let ended = (2, answers.as_bytes().split_at(passes).0);
+                let once = || ends_with(&rt, rt.alloc(), lines, calls, ended);
+                assert!(rt; holds(rt.alloc(), once), "{writes:?}");
+            }
         }
-    }
-    for kind in [ErrorKind::Other, ErrorKind::Interrupted] {
-        let broken = Broken(kind);
-        assert_eq!(rt; tool(&rt, rt.alloc(), &[], REQUESTS, broken, broken), 2);
     }
 }
 
@@ -131,37 +223,46 @@ static UNKNOWN: [&str; 14] = [
     "2 5 storm",
 ];
 
+// Whether these arguments, with so many writes of a byte to the errors that pass, have status 1 and show this. The input
+// is not read, and nothing is written to the output.
+fn shows<R: Threads + Wait + Sync>(
+    rt: &R,
+    alloc: Global,
+    arguments: &[String],
+    passes: u64,
+    failure: Option<ErrorKind>,
+    shown: &[u8],
+) -> bool {
+    let mut input = LINES.as_bytes();
+    let mut taken = [0; 64];
+    let mut output = Cursor::new(&mut taken[..]);
+    let mut memory = [0; 64];
+    let mut errors = Stream {
+        inner: Cursor::new(&mut memory[..]),
+        calls: Calls {
+            piece: 1,
+            passes,
+            failure,
+        },
+    };
+    let status = tool(rt, alloc, arguments, &mut input, &mut output, &mut errors);
+    let written = errors.inner.position() as usize;
+    status == 1
+        && input == LINES.as_bytes()
+        && output.position() == 0
+        && &memory[..written.min(64)] == shown
+}
+
 #[test]
 fn shows_the_usage(rt: HostRuntime) {
     let usage = b"usage: treetool [storm W N]\n".as_slice();
     for line in &UNKNOWN {
-        let Ok(arguments) = words_of(rt.alloc(), line).or_else(|_| words_of(rt.alloc(), line))
-        else {
-            assert!(rt; is_out_of_memory(rt.alloc()));
-            return;
-        };
-        for (room, shown) in [(64, usage), (0, b""), (3, b"usa")] {
-            let mut input = REQUESTS;
-            let mut taken = [0; 64];
-            let mut output = Cursor::new(&mut taken[..]);
-            let mut memory = [0; 64];
-            let mut errors = Cursor::new(&mut memory[..room]);
-            let status = tool(
-                &rt,
-                rt.alloc(),
-                &arguments,
-                &mut input,
-                &mut output,
-                &mut errors,
-            );
-            assert!(rt; status == 1 && input == REQUESTS && output.position() == 0);
-            let written = errors.position() as usize;
-            assert!(rt; &memory[..written.min(64)] == shown, "{line}");
+        let arguments = words_of(rt.alloc(), line).or_else(|_| words_of(rt.alloc(), line))?;
+        for (passes, shown) in [(64, usage), (0, b""), (3, b"usa")] {
+            for failure in [None, Some(ErrorKind::Other)] {
+                let holds = shows(&rt, rt.alloc(), &arguments, passes, failure, shown);
+                assert!(rt; holds, "{line}");
+            }
         }
-        let broken = Broken(ErrorKind::Other);
-        assert_eq!(rt;
-            tool(&rt, rt.alloc(), &arguments, REQUESTS, broken, broken),
-            1
-        );
     }
 }

@@ -1,64 +1,49 @@
 //! Runs in which a read or a write fails.
 use super::streams::{Failing, Failure, Sink, Source};
 use std::alloc::{AllocError, Global};
-use std::process::Abort;
 use std::test::Fail;
 use test_support::refusals::succeeds;
 use tree_index::TreeIndex;
 use tree_lines::{ToolFault, WriteFailed, run_lines};
 
-/// The values at the keys 1 to 3.
-type Values = [Option<u64>; 3];
-
-/// Lines, the answers to them, and the values before the first line and after each.
+/// Lines, the answers to them, and the pairs before the first line and after each, as `iter` answers them.
 struct Script {
     lines: &'static [u8],
     answers: &'static [u8],
-    values: &'static [Values],
+    pairs: &'static [&'static str],
 }
 
 static SCRIPTS: [Script; 3] = [
     Script {
         lines: b"insert 1 10\ninsert 2 20\ninsert 3 30\n",
         answers: b"ok\nok\nok\n",
-        values: &[
-            [None, None, None],
-            [Some(10), None, None],
-            [Some(10), Some(20), None],
-            [Some(10), Some(20), Some(30)],
-        ],
+        pairs: &["\n", "1=10\n", "1=10 2=20\n", "1=10 2=20 3=30\n"],
     },
     Script {
         lines: b"insert 1 10\ninsert 1 11\nrange [0 (1\ninsert 01 5\nlocate 9\nremove_range (1 -\nlen\nclear\nlocate 9\ndepth\n",
         answers: b"ok\nduplicate\n\n?\nsmaller 1=10\nok\n1\nok\nempty\n0\n",
-        values: &[
-            [None, None, None],
-            [Some(10), None, None],
-            [Some(10), None, None],
-            [Some(10), None, None],
-            [Some(10), None, None],
-            [Some(10), None, None],
-            [Some(10), None, None],
-            [Some(10), None, None],
-            [None, None, None],
-            [None, None, None],
-            [None, None, None],
+        pairs: &[
+            "\n", "1=10\n", "1=10\n", "1=10\n", "1=10\n", "1=10\n", "1=10\n", "1=10\n", "\n", "\n",
+            "\n",
         ],
     },
     Script {
         lines: b"insert 1 10\ninsert 3 30\nback\nlocate 2\nremove 3\nrange - -\n",
         answers: b"ok\nok\n3=30 1=10\nbetween 1=10 3=30\ntrue\n1=10\n",
-        values: &[
-            [None, None, None],
-            [Some(10), None, None],
-            [Some(10), None, Some(30)],
-            [Some(10), None, Some(30)],
-            [Some(10), None, Some(30)],
-            [Some(10), None, None],
-            [Some(10), None, None],
+        pairs: &[
+            "\n",
+            "1=10\n",
+            "1=10 3=30\n",
+            "1=10 3=30\n",
+            "1=10 3=30\n",
+            "1=10\n",
+            "1=10\n",
         ],
     },
 ];
+
+/// How many bytes a call moves at most: one, two, or more than a script has.
+static PIECES: [usize; 3] = [1, 2, 256];
 
 /// The number of line feeds.
 fn count_lines(bytes: &[u8]) -> usize {
@@ -71,23 +56,32 @@ fn count_lines(bytes: &[u8]) -> usize {
     count
 }
 
-/// Runs the lines, where reads and writes of a byte each fail so. Returns how it ended, what went out, and the values.
-fn run_script(
-    alloc: Global,
-    lines: &[u8],
-    reads: Failing,
-    writes: Failing,
-) -> (Result<(), ToolFault>, Sink, Values) {
-    let mut input = Source::new(lines, 1, reads);
-    let mut output = Sink::new(1, writes);
+/// How a run ended, what went out, and the pairs that it left.
+#[derive(Drop)]
+struct Ended {
+    outcome: Result<(), ToolFault>,
+    output: Sink,
+    pairs: Sink,
+}
+
+impl Ended {
+    /// Whether these pairs are left.
+    fn has_left(&self, pairs: Option<&&'static str>) -> bool {
+        pairs.is_some_and(|text| text.as_bytes() == self.pairs.taken())
+    }
+}
+
+/// Runs the lines of a reader over a new index.
+fn run(alloc: Global, mut input: Source<'_>, mut output: Sink) -> Ended {
     let mut index: TreeIndex<u64, u64> = TreeIndex::new(alloc);
     let outcome = run_lines(&mut index, &mut input, &mut output);
-    let values = [
-        index.peek(&1).copied(),
-        index.peek(&2).copied(),
-        index.peek(&3).copied(),
-    ];
-    (outcome, output, values)
+    let (mut walk, mut pairs) = (b"iter\n".as_slice(), Sink::new(256, Failing::never()));
+    let _ = run_lines(&mut index, &mut walk, &mut pairs);
+    Ended {
+        outcome,
+        output,
+        pairs,
+    }
 }
 
 /// `Ok` if this holds. What is refused memory may fail once.
@@ -95,24 +89,33 @@ fn wanted(holds: bool) -> Result<(), AllocError> {
     if holds { Ok(()) } else { Err(AllocError) }
 }
 
-/// Each line that a line feed ended before the failed read is applied and answered, and no other one.
+/// Each line that a line feed ended before the failed read is applied and answered, and no other one. A run ends well
+/// where the read that finds no more bytes passes.
 fn expect_read_fails(
-    rt: &impl Abort,
     alloc: Global,
     script: &Script,
+    piece: usize,
     failing: Failing,
 ) -> Result<(), AllocError> {
-    let (outcome, output, values) = run_script(alloc, script.lines, failing, Failing::never());
-    assert!(rt; outcome == Err(ToolFault::Read));
-    let read = script.lines.get(..failing.passes as usize).unwrap_or(&[]);
-    let lines = count_lines(read);
-    let answers = output.taken();
-    let is_whole = answers.is_empty() || answers.ends_with(b"\n");
+    let input = Source::new(script.lines, piece, failing);
+    let ended = run(alloc, input, Sink::new(1, Failing::never()));
+    let passes = failing.passes as usize;
+    let is_whole = passes.saturating_sub(1).saturating_mul(piece) >= script.lines.len();
+    let outcome = if is_whole {
+        Ok(())
+    } else {
+        Err(ToolFault::Read)
+    };
+    let given = passes.saturating_mul(piece);
+    let lines = count_lines(script.lines.get(..given).unwrap_or(script.lines));
+    let answers = ended.output.taken();
+    let are_lines = answers.is_empty() || answers.ends_with(b"\n");
     wanted(
-        is_whole
+        ended.outcome == outcome
+            && are_lines
             && script.answers.starts_with(answers)
             && count_lines(answers) == lines
-            && script.values.get(lines) == Some(&values),
+            && ended.has_left(script.pairs.get(lines)),
     )
 }
 
@@ -120,45 +123,59 @@ fn expect_read_fails(
 fn tells_that_a_read_failed(rt: HostRuntime) {
     for script in &SCRIPTS {
         for by in [Failure::Broken, Failure::Interrupted] {
-            for passes in 0..=script.lines.len() as u64 {
-                let failing = Failing { passes, by };
-                assert!(rt;
-                    succeeds(
-                        rt.alloc(),
-                        || expect_read_fails(&rt, rt.alloc(), script, failing)
-                    )
-                );
+            for piece in &PIECES {
+                for passes in 0..=script.lines.len() as u64 {
+                    let failing = Failing { passes, by };
+                    assert!(rt;
+                        succeeds(rt.alloc(), || expect_read_fails(rt.alloc(), script, *piece, failing)),
+                        "{by:?} after {passes} reads of {piece}"
+                    );
+                }
             }
         }
     }
 }
 
-/// Each line before the one whose answer broke off is applied and answered; that one is applied.
+/// Each line before the one whose answer broke off is applied and answered; that one is applied. A run whose writes all
+/// pass ends well.
 fn expect_write_fails(
-    rt: &impl Abort,
     alloc: Global,
     script: &Script,
+    piece: usize,
     failing: Failing,
 ) -> Result<(), AllocError> {
-    let (outcome, output, values) = run_script(alloc, script.lines, Failing::never(), failing);
-    assert!(rt; outcome == Err(ToolFault::Write));
-    let answers = script.answers.get(..failing.passes as usize).unwrap_or(&[]);
-    let applied = count_lines(answers).saturating_add(1);
-    wanted(output.taken() == answers && script.values.get(applied) == Some(&values))
+    let input = Source::new(script.lines, 1, Failing::never());
+    let ended = run(alloc, input, Sink::new(piece, failing));
+    let answers = ended.output.taken();
+    let answered = count_lines(answers);
+    let is_whole = answers.len() == script.answers.len();
+    let (outcome, applied) = if is_whole {
+        (Ok(()), answered)
+    } else {
+        (Err(ToolFault::Write), answered.saturating_add(1))
+    };
+    let taken = answers.len() as u64;
+    let is_in_place = is_whole || taken == failing.passes || piece > 1 && taken > failing.passes;
+    wanted(
+        ended.outcome == outcome
+            && is_in_place
+            && script.answers.starts_with(answers)
+            && ended.has_left(script.pairs.get(applied)),
+    )
 }
 
 #[test]
 fn tells_that_a_write_failed(rt: HostRuntime) {
     for script in &SCRIPTS {
         for by in [Failure::Broken, Failure::Interrupted, Failure::Stalled] {
-            for passes in 0..script.answers.len() as u64 {
-                let failing = Failing { passes, by };
-                assert!(rt;
-                    succeeds(
-                        rt.alloc(),
-                        || expect_write_fails(&rt, rt.alloc(), script, failing)
-                    )
-                );
+            for piece in &PIECES {
+                for passes in 0..script.answers.len() as u64 {
+                    let failing = Failing { passes, by };
+                    assert!(rt;
+                        succeeds(rt.alloc(), || expect_write_fails(rt.alloc(), script, *piece, failing)),
+                        "{by:?} after {passes} writes of {piece}"
+                    );
+                }
             }
         }
     }

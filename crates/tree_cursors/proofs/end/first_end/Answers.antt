@@ -3,7 +3,7 @@ use Rattle.std.specs.Range.Bound.{bound_map}
 use Rattle.tree_node.specs.Tree.{StandsOrRetired}
 use Rattle.tree_node.proofs.Sizes.{fits}
 use Rattle.tree_walk.specs.Ends.{IsLinked}
-use Rattle.tree_cursors.proofs.Ends.{found_first, found_none, found_stands, root_linked, root_stands}
+use Rattle.tree_cursors.proofs.Ends.{found_first, found_none, found_stands, goes_nowhere, root_linked, root_stands}
 use Rattle.tree_cursors.proofs.end.first_end.Goals as goal
 
 pub seek_at-requires : goal.seek_at-requires
@@ -28,3 +28,12 @@ pub returns-in-None-clause-place : goal.returns-in-None-clause-place
 returns-in-None-clause-place g c =
     let tree = rw c.in-Some.is at c.requires in
     rw c.in-Some.is (found_none c.args.arenas.now c.in-Some.top.0 c.in-Some.top.1 tree g.S.SlotWalk.way (bound_map (λ k. k.now) c.args.bound) c.in-None.ensures)
+
+pub returns-in_default-clause-place : goal.returns-in_default-clause-place
+returns-in_default-clause-place g c = rw c.in_default.is (goes_nowhere _ g.K.Ord.cmp g.S.SlotWalk.way (bound_map (λ k. k.now) c.args.bound))
+
+pub returns-in_default-clause-stands : goal.returns-in_default-clause-stands
+returns-in_default-clause-stands g c = tt
+
+pub returns-in-None-clause-stands : goal.returns-in-None-clause-stands
+returns-in-None-clause-stands g c = tt

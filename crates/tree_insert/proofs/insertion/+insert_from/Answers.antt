@@ -53,7 +53,7 @@ insert_from-requires-in-Ok-true g t c κs within =
     let below = full_under g.met.K.Ord.total _ c.args.level c.requires.node c.args.arenas.now c.insert_from.new.arenas c.args.id c.in-Some-child_place_beyond.place.child c.args.key c.args.val goes c.insert_from.result c.insert_from.ensures.inserts c.in-Full.key c.in-Full.val (rw c.in-Full.is at c.in-Ok.is) in
     let inner = inner_level c.args.level c.requires.node c.args.arenas.now c.args.id goes.part c.in-Internal.node (rw c.in-Internal.is at c.node.ensures) in
     let split : SplitsChild g.K.Ord.cmp c.args.level c.insert_from.new.arenas c.split_child.new.arenas c.args.id c.in-Some-child_place_beyond.place.child = rw c.in-Ok-true.field-0-test at (c.in-Ok-true.ensures.done c.args.level inner below.part) in
-    let made = room_by_split c.in-Full.key split (which_still _ c.args.level _ _ c.args.id c.in-Some-child_place_beyond.place.child c.args.key c.args.val _ _ below) in
+    let made = room_by_split c.in-Full.key c.requires.node split (which_still _ c.args.level _ _ c.args.id c.in-Some-child_place_beyond.place.child c.args.key c.args.val _ _ below) in
     let less = last_attempt _ c.args.level _ _ c.args.id c.in-Some-child_place_beyond.place.child c.args.key c.args.val _ _ below c.requires.node c.split_child.new.arenas made in
     (omega (arith, less), (search rules, (within.0, (within.1, (search rules, (search (rules, c.requires-raw), (search (fits, c.requires-raw), (c.requires.node, inl (part_with_room _ c.args.level _ _ c.args.id c.in-Some-child_place_beyond.place.child c.args.key c.args.val _ _ below c.requires.node c.split_child.new.arenas made)))))))))
 
@@ -81,7 +81,7 @@ returns-in-Ok-true-clause-inserts g t c part =
     let below = full_under g.met.K.Ord.total _ c.args.level c.requires.node c.args.arenas.now c.insert_from.new.arenas c.args.id c.in-Some-child_place_beyond.place.child c.args.key c.args.val goes c.insert_from.result c.insert_from.ensures.inserts c.in-Full.key c.in-Full.val (rw c.in-Full.is at c.in-Ok.is) in
     let inner = inner_level c.args.level c.requires.node c.args.arenas.now c.args.id goes.part c.in-Internal.node (rw c.in-Internal.is at c.node.ensures) in
     let split : SplitsChild g.K.Ord.cmp c.args.level c.insert_from.new.arenas c.split_child.new.arenas c.args.id c.in-Some-child_place_beyond.place.child = rw c.in-Ok-true.field-0-test at (c.in-Ok-true.ensures.done c.args.level inner below.part) in
-    let made = room_by_split c.in-Full.key split (which_still _ c.args.level _ _ c.args.id c.in-Some-child_place_beyond.place.child c.args.key c.args.val _ _ below) in
+    let made = room_by_split c.in-Full.key c.requires.node split (which_still _ c.args.level _ _ c.args.id c.in-Some-child_place_beyond.place.child c.args.key c.args.val _ _ below) in
     retried _ c.args.level _ _ c.args.id c.in-Some-child_place_beyond.place.child c.args.key c.args.val _ _ below c.requires.node c.split_child.new.arenas made c.insert_from-in-Ok-true.new.arenas c.insert_from-in-Ok-true.result
     (c.insert_from-in-Ok-true.ensures.inserts (part_with_room _ c.args.level _ _ c.args.id c.in-Some-child_place_beyond.place.child c.args.key c.args.val _ _ below c.requires.node c.split_child.new.arenas made))
 

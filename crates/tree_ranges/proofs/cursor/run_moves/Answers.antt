@@ -1,11 +1,29 @@
+use Rattle.std.proofs.Common.{◌≡◌, ◌≤◌, ◌+◌, length, arith}
+use Rattle.std.proofs.lemmas.Grind.{common_steps}
+use Rattle.tree_model.specs.Pairs.{IsAscending}
+use Rattle.tree_cursor_model.specs.Moves.{after_all, answers, told}
+use Rattle.tree_cursor_model.specs.Rest.{StandsInside}
 use Rattle.tree_leaf.specs.declared.leaf.stand.Way.TheVariants.{On, Back}
-use Rattle.tree_ranges.proofs.Ended.{ended_all}
+use Rattle.tree_ranges.proofs.Ended.{ended_all, inside_from}
 use Rattle.tree_ranges.proofs.cursor.run_moves.Goals as goal
 
 pub returns-clause-ended : goal.returns-clause-ended
 returns-clause-ended g c =
-    ended_all g.met.K.Ord.total On c.args.moves.now c.loop-step.step-index (g.C.Cursor.cursor c.args.cursor.now) (g.C.Cursor.cursor c.loop-step.cursor) _ c.loop-step.invariant.answered c.loop-step-test.false c.loop-step.invariant.ascending tt
+    ended_all g.met.K.Ord.total On c.args.moves.now c.loop-step.step-index (g.C.Cursor.cursor c.args.cursor.now) (g.C.Cursor.cursor c.loop-step.cursor) _ c.loop-step.invariant.answered c.loop-step-test.false c.loop-step.invariant.ascending (λ _. tt)
 
 pub returns-clause-ended_back : goal.returns-clause-ended_back
-returns-clause-ended_back g c = λ inside.
-    ended_all g.met.K.Ord.total Back c.args.moves.now c.loop-step.step-index (g.C.Cursor.cursor c.args.cursor.now) (g.C.Cursor.cursor c.loop-step.cursor) _ c.loop-step.invariant.answered c.loop-step-test.false c.loop-step.invariant.ascending inside
+returns-clause-ended_back g c =
+    ended_all g.met.K.Ord.total Back c.args.moves.now c.loop-step.step-index (g.C.Cursor.cursor c.args.cursor.now) (g.C.Cursor.cursor c.loop-step.cursor) _ c.loop-step.invariant.answered c.loop-step-test.false c.loop-step.invariant.ascending c.loop-step.invariant.inside
+
+pub loop-step-preserved : goal.loop-step-preserved
+loop-step-preserved g c =
+    record {
+      answered = grind (arith, common_steps);
+      ended = grind (arith, common_steps);
+      same = grind (arith, common_steps);
+      ascending = grind (arith, common_steps);
+      first = λ none. absurd (omega (arith, none));
+      inside = λ some. inside_from g.met.K.Ord.total c.loop-step.step-index (g.C.Cursor.cursor c.args.cursor.now) (g.C.Cursor.cursor c.loop-step.cursor) c.loop-step.invariant.first c.loop-step.invariant.inside c.make_move.ensures.inside;
+      within = grind (arith, common_steps);
+      room = grind (arith, common_steps);
+    }

@@ -1,5 +1,6 @@
 use Rattle.std.proofs.Common.{◌≡◌, ◌+◌, ◌-◌, ◌≤◌, ◌++◌, length, vec_len, vec_capacity, drop, map}
 use Rattle.tree_model.specs.Pairs.{IsAscending}
+use Rattle.tree_cursor_model.specs.Rest.{StandsInside}
 use Rattle.tree_cursor_model.specs.Moves.{after_all, answers, told}
 use Rattle.tree_ranges.proofs.cursor.run_moves.Given as goal
 
@@ -12,6 +13,8 @@ invariant-loop-step g l =
       ended : after_all g.K.Ord.cmp (drop l.step-index l.moves) (Seen l.cursor) ≡ after_all g.K.Ord.cmp l.moves (Seen l.fn.cursor);
       same : (Seen l.cursor).pairs ≡ (Seen l.fn.cursor).pairs;
       ascending : 1 ≤ l.step-index → IsAscending g.K.Ord.cmp (Seen l.fn.cursor).pairs;
+      first : l.step-index ≡ 0 → Seen l.cursor ≡ Seen l.fn.cursor;
+      inside : 1 ≤ l.step-index → StandsInside (Seen l.fn.cursor).pairs (Seen l.fn.cursor).backward;
       within : l.step-index ≤ length l.moves;
       room : vec_len l.given + (length l.moves - l.step-index) ≤ vec_capacity l.given;
     }

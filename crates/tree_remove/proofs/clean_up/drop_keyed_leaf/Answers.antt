@@ -16,7 +16,7 @@ take_keyed-requires g c = (search rules, (search fits, rw (c.remove_leaf.ensures
 pub returns : goal.returns
 returns g c = record {
   between = c.remove_leaf.new.self;
-  dropped = leaf_dropped _ _ _ c.args.child _ c.unlink.ensures c.remove_leaf.ensures.leaves c.remove_leaf.ensures.nodes;
+  dropped = leaf_dropped _ _ _ c.args.child _ c.unlink.ensures c.remove_leaf.ensures.leaves c.remove_leaf.ensures.nodes _ _ c.requires.linked.2;
   takes = c.take_keyed.ensures.nodes;
   leaves = c.take_keyed.ensures.leaves;
 }

@@ -19,7 +19,7 @@ returns g c =
     let only = rw c.in-Some.is at c.only_retired.ensures in
     emptied g.K.Ord.cmp c.args.arenas.now c.take_unbounded.new.arenas c.args.id c.in-Some.last c.take_unbounded.result c.requires only (record {
       between = c.remove_leaf.new.self;
-      dropped = leaf_dropped _ _ _ c.in-Some.last _ c.unlink.ensures c.remove_leaf.ensures.leaves c.remove_leaf.ensures.nodes;
+      dropped = leaf_dropped _ _ _ c.in-Some.last _ c.unlink.ensures c.remove_leaf.ensures.leaves c.remove_leaf.ensures.nodes c.requires.front c.requires.back (rw only.0 at c.requires.chain);
       takes = c.take_unbounded.ensures.nodes;
       leaves = c.take_unbounded.ensures.leaves;
     })

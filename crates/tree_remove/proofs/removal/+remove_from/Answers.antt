@@ -16,13 +16,34 @@ node-requires g t c =
     let there : ContainsKey c.args.arenas.now.nodes c.args.id = node_used c.args.level c.requires.node c.args.arenas.now c.args.id c.requires.part in
     search rules
 
+pub node-requires-room-N-Destruct : goal.node-requires-room-N-Destruct
+node-requires-room-N-Destruct g t c κs within = search fits
+
+pub child_place_for-requires : goal.child_place_for-requires
+child_place_for-requires g t c = search rules
+
+pub drop-condition-requires : goal.drop-condition-requires
+drop-condition-requires g t c κs within = search rules
+
 pub returns-in_default-clause-removes : goal.returns-in_default-clause-removes
 returns-in_default-clause-removes g t c =
     fails_childless g.K.Ord.cmp _ c.args.arenas.now c.args.id c.args.key.now c.args.level c.requires.node c.requires.part (Leaf c.in-Leaf.node) (rw c.in-Leaf.is at c.node.ensures) (rw c.in_default.is at c.child_place_for.ensures.place)
 
+pub returns-in_default-clause-settled : goal.returns-in_default-clause-settled
+returns-in_default-clause-settled g t c = λ one success only. (cc)
+
+pub child_place_for-requires-in-Internal : goal.child_place_for-requires-in-Internal
+child_place_for-requires-in-Internal g t c = search rules
+
+pub drop-condition-requires-in_default-child_place_for : goal.drop-condition-requires-in_default-child_place_for
+drop-condition-requires-in_default-child_place_for g t c κs within = search rules
+
 pub returns-in_default-child_place_for-clause-removes : goal.returns-in_default-child_place_for-clause-removes
 returns-in_default-child_place_for-clause-removes g t c =
     fails_childless g.K.Ord.cmp _ c.args.arenas.now c.args.id c.args.key.now c.args.level c.requires.node c.requires.part (Internal c.in-Internal.node) (rw c.in-Internal.is at c.node.ensures) (rw c.in_default-child_place_for.is at c.child_place_for-in-Internal.ensures.place)
+
+pub returns-in_default-child_place_for-clause-settled : goal.returns-in_default-child_place_for-clause-settled
+returns-in_default-child_place_for-clause-settled g t c = λ one success only. (cc)
 
 pub remove_in_leaf-requires : goal.remove_in_leaf-requires
 remove_in_leaf-requires g t c =
@@ -96,6 +117,9 @@ returns-in-Fail-clause-removes g t c =
     c.in-Leaf.node (rw c.in-Leaf.is at c.node.ensures) (rw c.in-Some.is at c.child_place_for.ensures.place) in
     rw under.level_is (fails_above g.met.K.Ord.total _ 0 _ _ c.args.id c.in-Some.place.child c.args.key.now under.part under.which (rw c.in-Fail.is at c.remove_in_leaf.ensures.removes))
 
+pub overflow_sub-level : goal.overflow_sub-level
+overflow_sub-level g t c = omega (arith, c.requires.node)
+
 pub remove_from-requires : goal.remove_from-requires
 remove_from-requires g t c κs within =
     let under = under_internal g.met.K.Ord.total c.args.arenas.now c.args.id c.args.key.now c.in-Some-child_place_for.place.child c.in-Some-child_place_for.place.slot c.args.level c.requires.node c.requires.part
@@ -160,6 +184,9 @@ returns-in-Success-clause-settled g t c =
     let removes = rw c.in-Success.is at c.remove_in_leaf.ensures.removes in
     λ one success. settled_above g.met.K.Ord.total c.args.key.now c.args.arenas.now c.remove_in_leaf.new.arenas c.args.id c.in-Some.place.child under.part under.which removes.replaces (c.remove_in_leaf.ensures.settled c.in-Success.is)
 
+pub returns-in-Fail-clause-settled : goal.returns-in-Fail-clause-settled
+returns-in-Fail-clause-settled g t c = λ one success only. (cc)
+
 pub returns-in-Retired-remove_from-clause-settled : goal.returns-in-Retired-remove_from-clause-settled
 returns-in-Retired-remove_from-clause-settled g t c =
     let under = under_internal g.met.K.Ord.total c.args.arenas.now c.args.id c.args.key.now c.in-Some-child_place_for.place.child c.in-Some-child_place_for.place.slot c.args.level c.requires.node c.requires.part
@@ -171,3 +198,6 @@ returns-in-Success-remove_from-clause-settled g t c =
     let under = under_internal g.met.K.Ord.total c.args.arenas.now c.args.id c.args.key.now c.in-Some-child_place_for.place.child c.in-Some-child_place_for.place.slot c.args.level c.requires.node c.requires.part
     c.in-Internal.node (rw c.in-Internal.is at c.node.ensures) (rw c.in-Some-child_place_for.is at c.child_place_for-in-Internal.ensures.place) in
     λ one success. let clash : suc (suc under.below) ≡ 1 = sym under.level_is ∙ one in omega (arith, clash)
+
+pub returns-in-Fail-remove_from-clause-settled : goal.returns-in-Fail-remove_from-clause-settled
+returns-in-Fail-remove_from-clause-settled g t c = λ one success only. (cc)

@@ -2,6 +2,9 @@ use Rattle.tree_node.proofs.Sizes.{fits}
 use Rattle.tree_split.proofs.Variants.{children_fit}
 use Rattle.node_tests.proofs.planted.Planted.new.Goals as goal
 
+pub new-arenas-requires : goal.new-arenas-requires
+new-arenas-requires g c = (search fits, c.requires.len)
+
 pub new-arenas-requires-room-N-Destruct : goal.new-arenas-requires-room-N-Destruct
 new-arenas-requires-room-N-Destruct g c κs within = search fits
 
