@@ -12,6 +12,9 @@ pub struct Dimension {
 /// The dimension of [`Array`](crate::array::Array).
 pub const DIMENSION: Dimension = Dimension { len: 15, bits: 4 };
 
+/// The dimension of an array of seven slots.
+pub const SMALL_DIMENSION: Dimension = Dimension { len: 7, bits: 4 };
+
 /// What an insert answers.
 #[derive(Clone, Copy, Debug, PartialEq, Eq, Drop)]
 pub enum InsertResult<K, V> {

@@ -5,7 +5,9 @@ ghost use Rattle.tree_array.specs.Insertion.{IsFull};
 ghost use Rattle.tree_array.specs.Length.{IsLen};
 ghost use Rattle.tree_array.specs.Sound.{IsSound};
 
-pub use crate::answers::{DIMENSION, Dimension, InsertResult, RemoveResult, StoreResult};
+pub use crate::answers::{
+    DIMENSION, Dimension, InsertResult, RemoveResult, SMALL_DIMENSION, StoreResult,
+};
 use std::marker::Model;
 use tree_cells::cells::Cells;
 pub use tree_cells::judge::{Judge, KeyJudge, Steps};

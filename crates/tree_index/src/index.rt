@@ -23,6 +23,9 @@ use tree_walk::spare::spare_at;
 /// An ordered index of pairs of a key and a value, with fifteen pairs a leaf. See [`TreeIndexOf`].
 pub type TreeIndex<K, V> = TreeIndexOf<K, V, 15>;
 
+/// An ordered index with seven pairs a leaf. See [`TreeIndexOf`].
+pub type SmallTreeIndex<K, V> = TreeIndexOf<K, V, 7>;
+
 /// An ordered index of pairs of a key and a value: a B-plus tree with up to `LEN` pairs a leaf and `LEN + 1` children
 /// a node. `LEN` is 7 or 15.
 ///

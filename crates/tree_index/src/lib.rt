@@ -39,7 +39,7 @@ mod state;
 mod tree;
 
 pub use commands::run;
-pub use index::{TreeIndex, TreeIndexOf};
+pub use index::{SmallTreeIndex, TreeIndex, TreeIndexOf};
 pub use prepared::PreparedPair;
 pub use state::{State, StateOf};
 pub use tree_array::array::{Judge, KeyJudge, Steps};
