@@ -3,8 +3,8 @@ use Rattle.tree_index.proofs.Indexed.{walks_from}
 use Rattle.tree_node.proofs.Sizes.{fits}
 use Rattle.tree_support.proofs.index.flaws.Goals as goal
 
-pub parts-requires : goal.parts-requires
-parts-requires g c = search fits
+pub parts-root-requires : goal.parts-root-requires
+parts-root-requires g c = search fits
 
 pub walk-requires : goal.walk-requires
 walk-requires g c =
