@@ -13,6 +13,6 @@ pub fn succeeds<F: Fn() -> Result<(), AllocError> + Drop>(alloc: Global, steps: 
 }
 
 /// Returns whether a small request is refused.
-fn is_out_of_memory(alloc: Global) -> bool {
+pub fn is_out_of_memory(alloc: Global) -> bool {
     Vec::<u8>::with_capacity(alloc, 1).is_err()
 }
