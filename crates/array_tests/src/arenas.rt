@@ -1,8 +1,11 @@
 //! Arenas: each call with ample memory, and what a refusal leaves.
+ghost use Rattle.tree_array.specs.Length.{IsLen};
+
 use crate::expect::expect_eq;
 use std::alloc::{AllocError, Global};
 use std::process::Abort;
 use test_support::refusals::succeeds;
+use tree_array::array::InsertResult;
 use tree_leaf::arena::{Slots, SlotsOf};
 use tree_leaf::leaf::{Leaf, LeafOf};
 
@@ -62,44 +65,107 @@ fn reserved_places_serve(rt: &impl Abort, alloc: Global) -> Result<(), AllocErro
 #[test]
 fn numbers_come_and_go(rt: HostRuntime) {
     assert!(rt;
-        succeeds(|| {
+        succeeds(rt.alloc(), || {
             come_and_go(&rt, rt.alloc())?;
             reserved_places_serve(&rt, rt.alloc())
         })
     );
 }
 
-/// Whether a leaf was added. One that was refused comes back.
-fn adds_leaf(rt: &impl Abort, arenas: &mut SlotsOf<u64, u64, u8, 7>) -> bool {
-    match arenas.add_leaf(LeafOf::new()) {
-        Ok(_) => true,
-        Err(leaf) => {
-            expect_eq(rt, leaf.array().free(), 7);
-            false
-        }
-    }
+/// A leaf with a pair of this key.
+fn leaf_of<const LEN: usize>(key: u64) -> LeafOf<u64, u64, LEN>
+    requires { IsLen LEN }
+{
+    let mut leaf = LeafOf::new();
+    let _ = leaf.array_mut().insert::<false>(key, 10);
+    leaf
 }
 
-/// Whether a node was added. One that was refused comes back.
-fn adds_node(rt: &impl Abort, arenas: &mut SlotsOf<u64, u64, u8, 7>) -> bool {
-    match arenas.add_node(9) {
-        Ok(_) => true,
-        Err(node) => {
-            expect_eq(rt, node, 9);
-            false
-        }
-    }
+/// Whether a leaf has a pair with this key, and no other one.
+fn has_alone<const LEN: usize>(leaf: &mut LeafOf<u64, u64, LEN>, key: u64) -> bool {
+    leaf.array_mut().insert::<false>(key, 0) == InsertResult::Duplicate(key, 0)
+        && (leaf.array().free() as usize).checked_add(1) == Some(LEN)
 }
 
-/// Of these requests one at most is refused.
+/// Arenas whose nodes are numbers.
+type Places<const LEN: usize> = SlotsOf<u64, u64, u64, LEN>;
+
+/// Adds a leaf. One that is refused comes back, and is added then.
+fn adds_leaf<const LEN: usize>(
+    rt: &impl Abort,
+    arenas: &mut Places<LEN>,
+    number: u64,
+) -> Result<(), AllocError>
+    requires { IsLen LEN }
+{
+    let counts = (arenas.leaf_count(), arenas.node_count());
+    let Err(mut back) = arenas.add_leaf(leaf_of(number)) else {
+        return Ok(());
+    };
+    assert!(rt; has_alone(&mut back, number));
+    assert!(rt; (arenas.leaf_count(), arenas.node_count()) == counts);
+    let _ = arenas.add_leaf(back).map_err(|_| AllocError)?;
+    Err(AllocError)
+}
+
+/// Adds a node. One that is refused comes back, and is added then.
+fn adds_node<const LEN: usize>(
+    rt: &impl Abort,
+    arenas: &mut Places<LEN>,
+    number: u64,
+) -> Result<(), AllocError> {
+    let counts = (arenas.leaf_count(), arenas.node_count());
+    let Err(back) = arenas.add_node(number) else {
+        return Ok(());
+    };
+    assert!(rt; back == number);
+    assert!(rt; (arenas.leaf_count(), arenas.node_count()) == counts);
+    let _ = arenas.add_node(back).map_err(|_| AllocError)?;
+    Err(AllocError)
+}
+
+/// Reserves places. Where that is refused, there are as many leaves and nodes as before, and it succeeds then.
+fn reserves<const LEN: usize>(rt: &impl Abort, arenas: &mut Places<LEN>) -> Result<(), AllocError> {
+    let counts = (arenas.leaf_count(), arenas.node_count());
+    let outcome = arenas.reserve(3, 3);
+    assert!(rt; (arenas.leaf_count(), arenas.node_count()) == counts);
+    if outcome.is_err() {
+        arenas.reserve(3, 3)?;
+    }
+    outcome
+}
+
+/// Adds nine leaves and nodes, and reserves places for three of them.
+fn refusals_change_nothing_steps<const LEN: usize>(
+    rt: &impl Abort,
+    alloc: Global,
+) -> Result<(), AllocError>
+    requires { IsLen LEN }
+{
+    let mut arenas: Places<LEN> = SlotsOf::new(alloc);
+    let mut outcome = Ok(());
+    for number in 0..9 {
+        if number == 3 {
+            outcome = outcome.and(reserves(rt, &mut arenas));
+        }
+        outcome = outcome.and(adds_leaf(rt, &mut arenas, number));
+        outcome = outcome.and(adds_node(rt, &mut arenas, number));
+    }
+    outcome
+}
+
 #[test]
 fn refusals_change_nothing(rt: HostRuntime) {
-    let mut arenas: SlotsOf<u64, u64, u8, 7> = SlotsOf::new(rt.alloc());
-    let reserves = arenas.reserve(1, 1).is_ok();
-    expect_eq(&rt, (arenas.leaf_count(), arenas.node_count()), (0, 0));
-    let leaf = adds_leaf(&rt, &mut arenas);
-    let node = adds_node(&rt, &mut arenas);
-    assert!(rt; if reserves { leaf && node } else { leaf || node });
-    let counts = (arenas.leaf_count(), arenas.node_count());
-    expect_eq(&rt, counts, (leaf as usize, node as usize));
+    assert!(rt;
+        succeeds(
+            rt.alloc(),
+            || refusals_change_nothing_steps::<15>(&rt, rt.alloc())
+        )
+    );
+    assert!(rt;
+        succeeds(
+            rt.alloc(),
+            || refusals_change_nothing_steps::<7>(&rt, rt.alloc())
+        )
+    );
 }

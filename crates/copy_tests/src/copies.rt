@@ -12,8 +12,8 @@ fn changes_alone(index: &TreeIndex<u64, u64>, copy: &mut TreeIndex<u64, u64>) ->
     was_equal && removed && !are_equal(index, copy) && (index.len(), copy.len()) == (2, 1)
 }
 
-/// Copies the index, which a refusal leaves as it was, and changes the copy.
-fn expect_alone(
+/// Copies the index and changes the copy. A refusal leaves the index as it was.
+fn copies_alone(
     rt: &impl Abort,
     alloc: Global,
     index: &TreeIndex<u64, u64>,
@@ -25,6 +25,19 @@ fn expect_alone(
     Ok(())
 }
 
+/// Copies the index, also after a refusal.
+fn expect_alone(
+    rt: &impl Abort,
+    alloc: Global,
+    index: &TreeIndex<u64, u64>,
+) -> Result<(), AllocError> {
+    if copies_alone(rt, alloc, index).is_ok() {
+        return Ok(());
+    }
+    copies_alone(rt, alloc, index)?;
+    Err(AllocError)
+}
+
 fn changes_the_copy_alone_steps(rt: &impl Abort, alloc: Global) -> Result<(), AllocError> {
     let index = index_of(alloc, &[(1, 1), (2, 2)])?;
     expect_alone(rt, alloc, &index)
@@ -32,7 +45,21 @@ fn changes_the_copy_alone_steps(rt: &impl Abort, alloc: Global) -> Result<(), Al
 
 #[test]
 fn changes_the_copy_alone(rt: HostRuntime) {
-    assert!(rt; succeeds(|| changes_the_copy_alone_steps(&rt, rt.alloc())));
+    assert!(rt; succeeds(rt.alloc(), || changes_the_copy_alone_steps(&rt, rt.alloc())));
+}
+
+/// Copies an index of one pair. A refusal leaves the pair.
+fn leaves_its_source_steps(rt: &impl Abort, alloc: Global) -> Result<(), AllocError> {
+    let index = index_of(alloc, &[(1, 10)])?;
+    let copied = index.try_clone(alloc).map(|copy| copy.len());
+    assert!(rt; index.peek(&1).copied() == Some(10));
+    assert!(rt; copied? == 1);
+    Ok(())
+}
+
+#[test]
+fn leaves_its_source(rt: HostRuntime) {
+    assert!(rt; succeeds(rt.alloc(), || leaves_its_source_steps(&rt, rt.alloc())));
 }
 
 /// An index of forty texts.
@@ -48,8 +75,8 @@ fn index_of_texts(alloc: Global) -> Result<TreeIndex<String, String>, AllocError
     Ok(index)
 }
 
-/// The copy of an index is equal to it.
-fn expect_equal_texts(
+/// Copies the index. The copy is equal to it.
+fn copies_equal_texts(
     rt: &impl Abort,
     alloc: Global,
     index: &TreeIndex<String, String>,
@@ -57,6 +84,19 @@ fn expect_equal_texts(
     let copy = index.try_clone(alloc)?;
     assert!(rt; are_equal(&copy, index) && copy.len() == 40);
     Ok(())
+}
+
+/// Copies the index, also after a refusal.
+fn expect_equal_texts(
+    rt: &impl Abort,
+    alloc: Global,
+    index: &TreeIndex<String, String>,
+) -> Result<(), AllocError> {
+    if copies_equal_texts(rt, alloc, index).is_ok() {
+        return Ok(());
+    }
+    copies_equal_texts(rt, alloc, index)?;
+    Err(AllocError)
 }
 
 /// Clones of keys and values that allocate can be refused too.
@@ -67,7 +107,7 @@ fn copies_texts_steps(rt: &impl Abort, alloc: Global) -> Result<(), AllocError> 
 
 #[test]
 fn copies_texts(rt: HostRuntime) {
-    assert!(rt; succeeds(|| copies_texts_steps(&rt, rt.alloc())));
+    assert!(rt; succeeds(rt.alloc(), || copies_texts_steps(&rt, rt.alloc())));
 }
 
 /// An index of the keys from 0 to 99, with seven pairs a leaf.
@@ -81,8 +121,8 @@ fn small_index(alloc: Global) -> Result<TreeIndexOf<u64, u64, 7>, AllocError> {
     Ok(index)
 }
 
-/// The copy of an index is equal to it, and as deep.
-fn expect_equal_leaves(
+/// Copies the index. The copy is equal to it, and as deep.
+fn copies_leaves(
     rt: &impl Abort,
     alloc: Global,
     index: &TreeIndexOf<u64, u64, 7>,
@@ -90,6 +130,19 @@ fn expect_equal_leaves(
     let copy = index.try_clone(alloc)?;
     assert!(rt; are_equal(&copy, index) && copy.len() == 100 && copy.depth() == 2);
     Ok(())
+}
+
+/// Copies the index, also after a refusal.
+fn expect_equal_leaves(
+    rt: &impl Abort,
+    alloc: Global,
+    index: &TreeIndexOf<u64, u64, 7>,
+) -> Result<(), AllocError> {
+    if copies_leaves(rt, alloc, index).is_ok() {
+        return Ok(());
+    }
+    copies_leaves(rt, alloc, index)?;
+    Err(AllocError)
 }
 
 /// An index with seven pairs a leaf is copied by the same text.
@@ -100,5 +153,5 @@ fn copies_small_leaves_steps(rt: &impl Abort, alloc: Global) -> Result<(), Alloc
 
 #[test]
 fn copies_small_leaves(rt: HostRuntime) {
-    assert!(rt; succeeds(|| copies_small_leaves_steps(&rt, rt.alloc())));
+    assert!(rt; succeeds(rt.alloc(), || copies_small_leaves_steps(&rt, rt.alloc())));
 }

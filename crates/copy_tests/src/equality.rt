@@ -49,6 +49,6 @@ fn compares_steps(
 #[test]
 fn compares(rt: HostRuntime) {
     for row in &ROWS {
-        assert!(rt; succeeds(|| compares_steps(&rt, rt.alloc(), *row)));
+        assert!(rt; succeeds(rt.alloc(), || compares_steps(&rt, rt.alloc(), *row)));
     }
 }

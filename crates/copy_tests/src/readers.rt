@@ -40,5 +40,5 @@ fn reads_steps(rt: &impl Abort, alloc: Global) -> Result<(), AllocError> {
 
 #[test]
 fn reads(rt: HostRuntime) {
-    assert!(rt; succeeds(|| reads_steps(&rt, rt.alloc())));
+    assert!(rt; succeeds(rt.alloc(), || reads_steps(&rt, rt.alloc())));
 }

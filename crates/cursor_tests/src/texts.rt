@@ -44,7 +44,7 @@ fn texts_of_places_steps(rt: &impl Abort, alloc: Global) -> Result<(), AllocErro
 
 #[test]
 fn shows_where_a_key_is(rt: HostRuntime) {
-    assert!(rt; succeeds(|| texts_of_places_steps(&rt, rt.alloc())));
+    assert!(rt; succeeds(rt.alloc(), || texts_of_places_steps(&rt, rt.alloc())));
 }
 
 /// The texts of a walk that has made its first move, and of a range that has made one from each end.
@@ -73,7 +73,7 @@ fn texts_of_begun_walks_steps(rt: &impl Abort, alloc: Global) -> Result<(), Allo
 
 #[test]
 fn shows_both_ends(rt: HostRuntime) {
-    assert!(rt; succeeds(|| texts_of_begun_walks_steps(&rt, rt.alloc())));
+    assert!(rt; succeeds(rt.alloc(), || texts_of_begun_walks_steps(&rt, rt.alloc())));
 }
 
 fn text_of_nothing_steps(rt: &impl Abort, alloc: Global) -> Result<(), AllocError> {
@@ -84,5 +84,5 @@ fn text_of_nothing_steps(rt: &impl Abort, alloc: Global) -> Result<(), AllocErro
 
 #[test]
 fn shows_nothing_of_an_empty_index(rt: HostRuntime) {
-    assert!(rt; succeeds(|| text_of_nothing_steps(&rt, rt.alloc())));
+    assert!(rt; succeeds(rt.alloc(), || text_of_nothing_steps(&rt, rt.alloc())));
 }

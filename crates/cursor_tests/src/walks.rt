@@ -249,7 +249,7 @@ fn expect<'t, C: Cursor<'t, u64, u64>>(
     }
 }
 
-/// Makes the moves at once, which answer so.
+/// Makes the moves at once, which answer so, also after a refusal.
 fn expect_at_once<'t, C: Cursor<'t, u64, u64>>(
     rt: &impl Abort,
     alloc: Global,
@@ -257,7 +257,26 @@ fn expect_at_once<'t, C: Cursor<'t, u64, u64>>(
     moves: &[Move],
     answers: &[Said],
 ) -> Result<(), AllocError> {
-    let given = run_moves(alloc, cursor, moves)?;
+    if makes_at_once(rt, alloc, cursor, moves, answers).is_ok() {
+        return Ok(());
+    }
+    makes_at_once(rt, alloc, cursor, moves, answers)?;
+    Err(AllocError)
+}
+
+/// Makes the moves at once, which answer so. A refusal moves nothing.
+fn makes_at_once<'t, C: Cursor<'t, u64, u64>>(
+    rt: &impl Abort,
+    alloc: Global,
+    cursor: &mut C,
+    moves: &[Move],
+    answers: &[Said],
+) -> Result<(), AllocError> {
+    let stood = (make(cursor, Move::Get), make(cursor, Move::GetBack));
+    let Ok(given) = run_moves(alloc, cursor, moves) else {
+        assert!(rt; (make(cursor, Move::Get), make(cursor, Move::GetBack)) == stood);
+        return Err(AllocError);
+    };
     assert!(rt; given.len() == answers.len());
     for (one, answer) in given.iter().zip(answers) {
         assert!(rt; said_by(one) == *answer);
@@ -320,7 +339,7 @@ fn walks_steps(rt: &impl Abort, alloc: Global, row: &Row) -> Result<(), AllocErr
 #[test]
 fn walks_as_the_rows_say(rt: HostRuntime) {
     for row in &ROWS {
-        assert!(rt; succeeds(|| walks_steps(&rt, rt.alloc(), row)));
+        assert!(rt; succeeds(rt.alloc(), || walks_steps(&rt, rt.alloc(), row)));
     }
 }
 
@@ -360,7 +379,7 @@ fn counts_steps(rt: &impl Abort, alloc: Global) -> Result<(), AllocError> {
 
 #[test]
 fn counts_what_is_within_the_bounds(rt: HostRuntime) {
-    assert!(rt; succeeds(|| counts_steps(&rt, rt.alloc())));
+    assert!(rt; succeeds(rt.alloc(), || counts_steps(&rt, rt.alloc())));
 }
 
 /// Moves a range over two keys in two leaves to its end, and then a clone of it.
@@ -382,7 +401,7 @@ fn meets_at_a_leaf_steps(rt: &impl Abort, alloc: Global) -> Result<(), AllocErro
 
 #[test]
 fn a_clone_moves_alone(rt: HostRuntime) {
-    assert!(rt; succeeds(|| meets_at_a_leaf_steps(&rt, rt.alloc())));
+    assert!(rt; succeeds(rt.alloc(), || meets_at_a_leaf_steps(&rt, rt.alloc())));
 }
 
 /// The last pair that a fresh range over all pairs gives.
@@ -409,7 +428,7 @@ fn passes_an_empty_leaf_steps(rt: &impl Abort, alloc: Global) -> Result<(), Allo
 
 #[test]
 fn passes_an_empty_last_leaf(rt: HostRuntime) {
-    assert!(rt; succeeds(|| passes_an_empty_leaf_steps(&rt, rt.alloc())));
+    assert!(rt; succeeds(rt.alloc(), || passes_an_empty_leaf_steps(&rt, rt.alloc())));
 }
 
 /// The moves of a cursor between two pairs, which has left the list at both ends.
@@ -432,5 +451,5 @@ fn locates_steps(rt: &impl Abort, alloc: Global) -> Result<(), AllocError> {
 
 #[test]
 fn stands_between_two_pairs(rt: HostRuntime) {
-    assert!(rt; succeeds(|| locates_steps(&rt, rt.alloc())));
+    assert!(rt; succeeds(rt.alloc(), || locates_steps(&rt, rt.alloc())));
 }

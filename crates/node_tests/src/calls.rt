@@ -62,7 +62,7 @@ fn leaf_node<const LEN: usize>(rt: &impl Abort, alloc: Global) -> Result<(), All
 #[test]
 fn a_leaf_node_answers(rt: HostRuntime) {
     assert!(rt;
-        succeeds(|| {
+        succeeds(rt.alloc(), || {
             leaf_node::<15>(&rt, rt.alloc())?;
             leaf_node::<7>(&rt, rt.alloc())
         })
@@ -83,7 +83,7 @@ fn internal_node<const LEN: usize>(rt: &impl Abort, alloc: Global) -> Result<(),
 #[test]
 fn an_internal_node_answers(rt: HostRuntime) {
     assert!(rt;
-        succeeds(|| {
+        succeeds(rt.alloc(), || {
             internal_node::<15>(&rt, rt.alloc())?;
             internal_node::<7>(&rt, rt.alloc())
         })
@@ -126,7 +126,7 @@ fn plants_anew<const LEN: usize>(
 #[test]
 fn a_retired_root_is_planted_anew(rt: HostRuntime) {
     assert!(rt;
-        succeeds(|| {
+        succeeds(rt.alloc(), || {
             retired_root::<15>(&rt, rt.alloc())?;
             retired_root::<7>(&rt, rt.alloc())
         })

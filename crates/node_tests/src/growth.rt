@@ -176,7 +176,7 @@ fn shrinks<const LEN: usize>(
 #[test]
 fn grows_to_three_levels(rt: HostRuntime) {
     assert!(rt;
-        succeeds(|| {
+        succeeds(rt.alloc(), || {
             grows::<15>(&rt, rt.alloc(), &LARGE)?;
             grows::<7>(&rt, rt.alloc(), &SMALL)
         })
@@ -201,7 +201,7 @@ fn fills_and_empties(rt: &impl Abort, alloc: Global) -> Result<(), AllocError> {
 
 #[test]
 fn a_leaf_node_fills_and_empties(rt: HostRuntime) {
-    assert!(rt; succeeds(|| fills_and_empties(&rt, rt.alloc())));
+    assert!(rt; succeeds(rt.alloc(), || fills_and_empties(&rt, rt.alloc())));
 }
 
 static FULL: [Step; 2] = [
@@ -255,7 +255,7 @@ fn divides_last<const LEN: usize>(
 #[test]
 fn divides_a_full_child(rt: HostRuntime) {
     assert!(rt;
-        succeeds(|| {
+        succeeds(rt.alloc(), || {
             divides::<15>(&rt, rt.alloc(), &FULL, &DIVIDED)?;
             divides::<7>(&rt, rt.alloc(), &SMALL_FULL, &SMALL_DIVIDED)
         })

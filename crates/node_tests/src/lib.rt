@@ -8,6 +8,8 @@ mod growth;
 #[cfg(test)]
 mod planted;
 #[cfg(test)]
+mod refusals;
+#[cfg(test)]
 mod searches;
 #[cfg(test)]
 mod steps;

@@ -1,5 +1,5 @@
 //! A tree in arenas of its own, under the number of its root.
-ghost use Rattle.std.specs.Prelude.{◌≡◌, ◌⊎◌, ◌+◌, ◌<◌, IfOk};
+ghost use Rattle.std.specs.Prelude.{◌≡◌, ◌⊎◌, ◌+◌, ◌<◌, IfOk, OnErr};
 ghost use Rattle.std.specs.Ordering.{nat_cmp};
 ghost use Rattle.slab.specs.Slab.{get};
 ghost use Rattle.tree_node.specs.Parts.{IsPart};
@@ -11,6 +11,7 @@ use crate::searches::Searched;
 use std::alloc::{AllocError, Global};
 use std::marker::{Model, PhantomData};
 use std::ops::Bound;
+use std::process::Abort;
 use tree_array::array::{IndexKey, InsertResult, Judge, RemoveResult};
 use tree_calls::internal_node_calls::InternalNodeCalls;
 use tree_calls::node_calls::NodeCalls;
@@ -20,6 +21,7 @@ use tree_leaf::leaf::LeafOf;
 use tree_node::internal_node::InternalNodeOf;
 use tree_node::leaf_node::LeafNodeOf;
 use tree_node::node::{ArenasOf, NodeOf};
+use tree_support::walk;
 
 /// A tree that is called through the node type `N`. Its root stands at this level, or is retired.
 #[derive(Drop)]
@@ -136,6 +138,11 @@ where
         (retired, N::cleanup_needed(&self.arenas, self.root))
     }
 
+    /// Whether the tree is whole and has these pairs.
+    pub(crate) fn has_pairs(&self, pairs: &[(u64, u64)]) -> bool {
+        walk(&self.arenas, LEVEL, self.root, pairs).is_ok()
+    }
+
     /// Makes room in the unbounded child of an internal root, and says whether it could.
     pub(crate) fn split_last(&mut self) -> Result<bool, AllocError> {
         let NodeOf::Internal(node) = self.arenas.node(self.root) else {
@@ -185,12 +192,32 @@ fn raise<const LEVEL: usize, const LEN: usize>(
 ) -> Result<NodeId, AllocError>
     requires node { 0 < LEVEL }
     requires planted { IsPlanted nat_cmp LEVEL arenas.old root }
-    ensures { IfOk result (λ id. IsPlanted nat_cmp (LEVEL + 1) arenas.new id) }
+    ensures raised { IfOk result (λ id. IsPlanted nat_cmp (LEVEL + 1) arenas.new id) }
+    ensures stands { OnErr result (IsPlanted nat_cmp LEVEL arenas.new root) }
 {
     if NodeOf::is_retired(arenas, root) {
         return Err(AllocError);
     }
     NodeOf::split_root(arenas, root)
+}
+
+/// Splits a root over these pairs, at once or the second time, and returns the new root, and whether memory was refused
+/// once. The tree was whole then, with its pairs.
+fn raise_twice<const LEVEL: usize, const LEN: usize>(
+    rt: &impl Abort,
+    arenas: &mut ArenasOf<u64, u64, LEN>,
+    root: NodeId,
+    pairs: &[(u64, u64)],
+) -> Result<(NodeId, bool), AllocError>
+    requires node { 0 < LEVEL }
+    requires planted { IsPlanted nat_cmp LEVEL arenas.old root }
+    ensures { IfOk result (λ told. IsPlanted nat_cmp (LEVEL + 1) arenas.new told.0) }
+{
+    if let Ok(id) = raise::<LEVEL, LEN>(arenas, root) {
+        return Ok((id, false));
+    }
+    assert!(rt; walk(arenas, LEVEL, root, pairs).is_ok());
+    Ok((raise::<LEVEL, LEN>(arenas, root)?, true))
 }
 
 /// Splits the root, and returns the tree of one more level, to be called through `M`. `Err` if memory is refused, or if
@@ -215,6 +242,33 @@ where
         root,
         calls: PhantomData,
     })
+}
+
+/// Does what `split_root` does with a tree of these pairs, at once or the second time. Returns whether memory was refused
+/// once, too.
+pub(crate) fn split_root_twice<N, M, const LEVEL: usize, const HIGHER: usize, const LEN: usize>(
+    rt: &impl Abort,
+    tree: Numbers<N, LEVEL, LEN>,
+    pairs: &[(u64, u64)],
+) -> Result<(Numbers<M, HIGHER, LEN>, bool), AllocError>
+where
+    N: NodeCalls<u64, LEN> + Drop,
+    M: NodeCalls<u64, LEN> + Drop,
+    requires level { HIGHER ≡ LEVEL + 1 }
+    requires kind { M.StandsAt HIGHER }
+{
+    let Planted {
+        mut arenas,
+        root,
+        ..
+    } = tree;
+    let (root, refused) = raise_twice::<LEVEL, LEN>(rt, &mut arenas, root, pairs)?;
+    let tree = Planted {
+        arenas,
+        root,
+        calls: PhantomData,
+    };
+    Ok((tree, refused))
 }
 
 /// An internal root over one leaf node, under which one leaf stands empty.

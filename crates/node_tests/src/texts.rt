@@ -83,5 +83,5 @@ fn leaf_node(rt: &impl Abort, alloc: Global) -> Result<(), AllocError> {
 
 #[test]
 fn a_leaf_node_of_texts_answers(rt: HostRuntime) {
-    assert!(rt; succeeds(|| leaf_node(&rt, rt.alloc())));
+    assert!(rt; succeeds(rt.alloc(), || leaf_node(&rt, rt.alloc())));
 }

@@ -64,11 +64,20 @@ fn are_the_replies(history: &[Record<u64, u64>]) -> bool {
     history.len() == REPLIES.len()
 }
 
+// Whether each command of the schedule was refused, or stands in the history and in a tally.
+fn are_all_told(refused: usize, history: &[Record<u64, u64>], tallies: &[Tally; 2]) -> bool {
+    let [first, second] = tallies;
+    let calls = first.calls.saturating_add(second.calls);
+    history.len() as u64 == calls && history.len().saturating_add(refused) == REPLIES.len()
+}
+
 fn runs_at_fifteen(rt: &impl Abort, alloc: Global) -> Result<(), AllocError> {
     let mut state: State<u64, u64> = State::new(alloc);
     let mut tallies = [NONE, NONE];
     let commands = schedule(alloc)?;
-    if run_schedule(&mut state, commands, &mut tallies) > 0 {
+    let refused = run_schedule(&mut state, commands, &mut tallies);
+    assert!(rt; are_all_told(refused, state.history(), &tallies));
+    if refused > 0 {
         return Err(AllocError);
     }
     assert!(rt; tallies == TALLIES);
@@ -81,7 +90,9 @@ fn runs_at_seven(rt: &impl Abort, alloc: Global) -> Result<(), AllocError> {
     let mut state: StateOf<u64, u64, 7> = StateOf::new(alloc);
     let mut tallies = [NONE, NONE];
     let commands = schedule(alloc)?;
-    if run_schedule(&mut state, commands, &mut tallies) > 0 {
+    let refused = run_schedule(&mut state, commands, &mut tallies);
+    assert!(rt; are_all_told(refused, state.history(), &tallies));
+    if refused > 0 {
         return Err(AllocError);
     }
     assert!(rt; tallies == TALLIES);
@@ -92,6 +103,6 @@ fn runs_at_seven(rt: &impl Abort, alloc: Global) -> Result<(), AllocError> {
 
 #[test]
 fn runs_in_order(rt: HostRuntime) {
-    assert!(rt; succeeds(|| runs_at_fifteen(&rt, rt.alloc())));
-    assert!(rt; succeeds(|| runs_at_seven(&rt, rt.alloc())));
+    assert!(rt; succeeds(rt.alloc(), || runs_at_fifteen(&rt, rt.alloc())));
+    assert!(rt; succeeds(rt.alloc(), || runs_at_seven(&rt, rt.alloc())));
 }

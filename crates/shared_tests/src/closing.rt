@@ -44,7 +44,7 @@ pub(crate) fn closes_without_workers<
 
 #[test]
 fn nothing_is_counted_without_workers(rt: HostRuntime) {
-    assert!(rt; succeeds(|| play(&rt, rt.alloc(), 0, Scenario::NoWorker)));
+    assert!(rt; succeeds(rt.alloc(), || play(&rt, rt.alloc(), 0, Scenario::NoWorker)));
 }
 
 /// With the pass of the only call, one of two, the index comes back, and with both it is closed.
@@ -96,7 +96,12 @@ pub(crate) fn closes_with_all_passes<
 
 #[test]
 fn comes_back_without_a_pass(rt: HostRuntime) {
-    assert!(rt; succeeds(|| play(&rt, rt.alloc(), 2, Scenario::PassAbsent)));
+    assert!(rt;
+        succeeds(
+            rt.alloc(),
+            || play(&rt, rt.alloc(), 2, Scenario::PassAbsent)
+        )
+    );
 }
 
 /// The index and its history, while a pass is out.
@@ -130,5 +135,5 @@ pub(crate) fn parts_while_a_pass_is_out<
 
 #[test]
 fn ends_while_a_pass_is_out(rt: HostRuntime) {
-    assert!(rt; succeeds(|| play(&rt, rt.alloc(), 1, Scenario::Parts)));
+    assert!(rt; succeeds(rt.alloc(), || play(&rt, rt.alloc(), 1, Scenario::Parts)));
 }

@@ -130,7 +130,7 @@ fn gate_needs_two_workers(rt: HostRuntime) {
             Err(StormError::GateStopped) => panic!(rt; "the workers did not meet"),
         }
     };
-    assert!(rt; succeeds(steps));
+    assert!(rt; succeeds(rt.alloc(), steps));
 }
 
 // One worker waits in vain, and stops.
@@ -141,7 +141,7 @@ fn gate_stops_a_worker_alone(rt: HostRuntime) {
         Err(StormError::Refused) => Err(AllocError),
         Err(StormError::GateStopped) => Ok(()),
     };
-    assert!(rt; succeeds(steps));
+    assert!(rt; succeeds(rt.alloc(), steps));
 }
 
 // Lets the second worker begin once the first has told its second call, and holds the first there until the second asks
@@ -206,7 +206,7 @@ fn expect_inserts<R: Threads + Wait + Abort + Sync, G: Gate + Sync>(
 #[test]
 fn a_worker_inserts_in_ascending_order(rt: HostRuntime) {
     let keys = [1, 2, 3, 4, 5];
-    assert!(rt; succeeds(|| expect_inserts(&rt, rt.alloc(), 1, 5, &OpenGate, &keys)));
+    assert!(rt; succeeds(rt.alloc(), || expect_inserts(&rt, rt.alloc(), 1, 5, &OpenGate, &keys)));
 }
 
 #[test]

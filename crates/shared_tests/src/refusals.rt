@@ -130,5 +130,5 @@ pub(crate) fn refused_calls<C: Ledger, S: Ledger, M: Ledger, F: Ledger, D: Ledge
 
 #[test]
 fn refusals_leave_no_trace(rt: HostRuntime) {
-    assert!(rt; succeeds(|| play(&rt, rt.alloc(), 1, Scenario::Refusals)));
+    assert!(rt; succeeds(rt.alloc(), || play(&rt, rt.alloc(), 1, Scenario::Refusals)));
 }

@@ -81,15 +81,21 @@ pub(crate) fn passes_of<C: Ledger, S: Ledger, M: Ledger, F: Ledger, D: Ledger>(
     Ok(passes)
 }
 
-/// Waits a while for as many threads as there are racers. Returns whether they all came.
+// What is added to the number of threads where one waited in vain.
+const TOO_LATE: u64 = 1 << 32;
+
+/// Waits a while for as many threads as there are racers. Returns whether they all came: where a thread or its memory is
+/// refused, its racer comes once another has raced.
 pub(crate) fn all_meet<R: Clock>(rt: &R, here: &AtomicU64, racers: u64) -> bool {
     here.fetch_add(1, Ordering::SeqCst);
-    for _ in 0..10_000 {
-        if here.load(Ordering::SeqCst) >= racers {
-            return true;
+    for _ in 0..3_000 {
+        let came = here.load(Ordering::SeqCst);
+        if came >= racers {
+            return came < TOO_LATE;
         }
         thread::sleep(rt, Duration::from_millis(1));
     }
+    here.fetch_add(TOO_LATE, Ordering::SeqCst);
     false
 }
 
@@ -148,7 +154,7 @@ fn ends_with_look_ups(history: &[Record<u64, u64>]) -> bool {
 
 #[test]
 fn two_threads_insert_the_same_keys(rt: HostRuntime) {
-    assert!(rt; succeeds(|| play(&rt, rt.alloc(), 2, Scenario::TwoInsert)));
+    assert!(rt; succeeds(rt.alloc(), || play(&rt, rt.alloc(), 2, Scenario::TwoInsert)));
 }
 
 /// Eight threads meet, and then insert, upsert and remove the same keys.
@@ -171,7 +177,8 @@ pub(crate) fn eight_race<
         rt,
         racers(alloc, passes)?,
         &|racer| {
-            assert!(rt; all_meet(rt, &here, 8));
+            let mut racer = racer;
+            racer.served = all_meet(rt, &here, 8);
             racer.race(rt, index)
         },
     )?;
@@ -226,5 +233,5 @@ pub(crate) fn count(history: &[Record<u64, u64>], command: &Command<u64, u64>) -
 
 #[test]
 fn eight_threads_race(rt: HostRuntime) {
-    assert!(rt; succeeds(|| play(&rt, rt.alloc(), 8, Scenario::EightRace)));
+    assert!(rt; succeeds(rt.alloc(), || play(&rt, rt.alloc(), 8, Scenario::EightRace)));
 }

@@ -1,4 +1,4 @@
-//! What the tests of an index share: a walk over its tree, which tells what is wrong with it, and keys that count their
+//! What the tests of an index and of its nodes share: a walk over a tree, which tells what is wrong with it, and keys that count their
 //! comparisons.
 #![tactic(auto)]
 
@@ -10,3 +10,4 @@ mod walker;
 pub use asked::Asked;
 pub use flaw::Flaw;
 pub use index::flaws;
+pub use walker::walk;

@@ -129,9 +129,9 @@ fn walk_node<V: Drop, const LEN: usize>(
     }
 }
 
-/// Walks down from a node that is alone in its arenas, and along its leaves. Every number in use is met once, and the
-/// pairs are these.
-pub(crate) fn walk<const LEN: usize>(
+/// Walks down from a node that is alone in its arenas, and along its leaves. Returns `Err` unless every number in use is met
+/// once and the pairs are these.
+pub fn walk<const LEN: usize>(
     arenas: &ArenasOf<u64, u64, LEN>,
     level: usize,
     id: NodeId,

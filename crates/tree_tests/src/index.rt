@@ -28,7 +28,12 @@ fn keeps_the_first_of_two_pairs_steps(rt: &impl Abort, alloc: Global) -> Result<
 
 #[test]
 fn keeps_the_first_of_two_pairs(rt: HostRuntime) {
-    assert!(rt; succeeds(|| keeps_the_first_of_two_pairs_steps(&rt, rt.alloc())));
+    assert!(rt;
+        succeeds(
+            rt.alloc(),
+            || keeps_the_first_of_two_pairs_steps(&rt, rt.alloc())
+        )
+    );
 }
 
 /// Pairs, and the text of their index.
@@ -56,7 +61,7 @@ fn expect_shown(
 #[test]
 fn shows_its_depth_and_its_pairs(rt: HostRuntime) {
     for (pairs, text) in &TEXTS {
-        assert!(rt; succeeds(|| expect_shown(&rt, rt.alloc(), *pairs, *text)));
+        assert!(rt; succeeds(rt.alloc(), || expect_shown(&rt, rt.alloc(), *pairs, *text)));
     }
 }
 
@@ -70,7 +75,12 @@ fn tells_why_a_pair_was_refused_steps(rt: &impl Abort, alloc: Global) -> Result<
 
 #[test]
 fn tells_why_a_pair_was_refused(rt: HostRuntime) {
-    assert!(rt; succeeds(|| tells_why_a_pair_was_refused_steps(&rt, rt.alloc())));
+    assert!(rt;
+        succeeds(
+            rt.alloc(),
+            || tells_why_a_pair_was_refused_steps(&rt, rt.alloc())
+        )
+    );
 }
 
 /// The key 5 with a tag, which its order doesn't see.
@@ -92,7 +102,12 @@ fn replaces_the_stored_key_steps(rt: &impl Abort, alloc: Global) -> Result<(), A
 
 #[test]
 fn replaces_the_stored_key(rt: HostRuntime) {
-    assert!(rt; succeeds(|| replaces_the_stored_key_steps(&rt, rt.alloc())));
+    assert!(rt;
+        succeeds(
+            rt.alloc(),
+            || replaces_the_stored_key_steps(&rt, rt.alloc())
+        )
+    );
 }
 
 fn says_whether_it_removed_steps(rt: &impl Abort, alloc: Global) -> Result<(), AllocError> {
@@ -107,7 +122,12 @@ fn says_whether_it_removed_steps(rt: &impl Abort, alloc: Global) -> Result<(), A
 
 #[test]
 fn says_whether_it_removed(rt: HostRuntime) {
-    assert!(rt; succeeds(|| says_whether_it_removed_steps(&rt, rt.alloc())));
+    assert!(rt;
+        succeeds(
+            rt.alloc(),
+            || says_whether_it_removed_steps(&rt, rt.alloc())
+        )
+    );
 }
 
 /// Values that the condition wants of the key 1, in turn, whether the pair is removed, and how often the condition is
@@ -130,5 +150,5 @@ fn asks_its_condition_steps(rt: &impl Abort, alloc: Global) -> Result<(), AllocE
 
 #[test]
 fn asks_its_condition_once(rt: HostRuntime) {
-    assert!(rt; succeeds(|| asks_its_condition_steps(&rt, rt.alloc())));
+    assert!(rt; succeeds(rt.alloc(), || asks_its_condition_steps(&rt, rt.alloc())));
 }

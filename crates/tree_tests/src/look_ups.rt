@@ -102,7 +102,7 @@ fn compares_few_keys_steps(rt: &impl Abort, alloc: Global) -> Result<(), AllocEr
 /// At most one array a level is searched, and the leaf, with at most four comparisons each.
 #[test]
 fn compares_few_keys(rt: HostRuntime) {
-    assert!(rt; succeeds(|| compares_few_keys_steps(&rt, rt.alloc())));
+    assert!(rt; succeeds(rt.alloc(), || compares_few_keys_steps(&rt, rt.alloc())));
 }
 
 /// A judge, and the stored key that it found equal to its own.
@@ -165,5 +165,5 @@ fn asks_the_key_it_finds_steps(rt: &impl Abort, alloc: Global) -> Result<(), All
 /// A look-up that finds a pair has asked its judge of that very key, and one that finds none has asked of no equal key.
 #[test]
 fn asks_the_key_it_finds(rt: HostRuntime) {
-    assert!(rt; succeeds(|| asks_the_key_it_finds_steps(&rt, rt.alloc())));
+    assert!(rt; succeeds(rt.alloc(), || asks_the_key_it_finds_steps(&rt, rt.alloc())));
 }

@@ -26,5 +26,10 @@ fn compares_at_the_borders_steps(rt: &impl Abort, alloc: Global) -> Result<(), A
 /// Of 3,616 keys 3,150 go, and the two borders alone are compared.
 #[test]
 fn compares_at_the_borders_alone(rt: HostRuntime) {
-    assert!(rt; succeeds(|| compares_at_the_borders_steps(&rt, rt.alloc())));
+    assert!(rt;
+        succeeds(
+            rt.alloc(),
+            || compares_at_the_borders_steps(&rt, rt.alloc())
+        )
+    );
 }

@@ -49,50 +49,7 @@ fn runs_every_command_steps(rt: &impl Abort, alloc: Global) -> Result<(), AllocE
 
 #[test]
 fn runs_every_command(rt: HostRuntime) {
-    assert!(rt; succeeds(|| runs_every_command_steps(&rt, rt.alloc())));
-}
-
-/// Runs an upsert of a value at the key 1, and a look-up of it. Returns whether it was stored; if not, the value that
-/// stood there stands.
-fn upsert_and_peek(
-    rt: &impl Abort,
-    alloc: Global,
-    index: &mut TreeIndex<u64, u64>,
-    value: u64,
-    stood: Option<u64>,
-) -> Result<bool, AllocError> {
-    let commands = vec![in alloc; Command::Upsert(1, value), Command::Peek(1)]?;
-    let Ok(replies) = run(index, commands) else {
-        return Ok(false);
-    };
-    let [first, second] = replies.as_slice() else {
-        panic!(rt; "not two replies")
-    };
-    let stored = *first == Reply::Stored;
-    assert!(rt; stored || *first == Reply::Refused);
-    assert!(rt; *second == Reply::Found(if stored { Some(value) } else { stood }));
-    Ok(stored)
-}
-
-/// Each command of a run is answered, or refused and without effect. Of three runs one at most is refused, or a command of it.
-fn goes_on_after_a_refusal_steps(rt: &impl Abort, alloc: Global) -> Result<(), AllocError> {
-    let mut index: TreeIndex<u64, u64> = TreeIndex::new(alloc);
-    let mut refused = 0u64;
-    let mut at_key = None;
-    for value in [10, 11, 12] {
-        if upsert_and_peek(rt, alloc, &mut index, value, at_key)? {
-            at_key = Some(value);
-        } else {
-            refused = refused.saturating_add(1);
-        }
-        assert!(rt; index.peek(&1).copied() == at_key);
-    }
-    if refused > 0 { Err(AllocError) } else { Ok(()) }
-}
-
-#[test]
-fn goes_on_after_a_refusal(rt: HostRuntime) {
-    assert!(rt; succeeds(|| goes_on_after_a_refusal_steps(&rt, rt.alloc())));
+    assert!(rt; succeeds(rt.alloc(), || runs_every_command_steps(&rt, rt.alloc())));
 }
 
 /// So many ascending inserts, and the depth then.
@@ -115,7 +72,8 @@ fn run_inserts(
     first: u64,
     last: u64,
 ) -> Result<(), AllocError> {
-    let mut commands = Vec::new(alloc);
+    let count = last.saturating_sub(first).saturating_add(1);
+    let mut commands = Vec::with_capacity(alloc, count as usize)?;
     for key in first..=last {
         commands.push(Command::Insert(key, key))?;
     }
@@ -141,5 +99,5 @@ fn runs_ascending_inserts_steps(rt: &impl Abort, alloc: Global) -> Result<(), Al
 
 #[test]
 fn runs_ascending_inserts(rt: HostRuntime) {
-    assert!(rt; succeeds(|| runs_ascending_inserts_steps(&rt, rt.alloc())));
+    assert!(rt; succeeds(rt.alloc(), || runs_ascending_inserts_steps(&rt, rt.alloc())));
 }

@@ -43,7 +43,7 @@ fn grows_with_seven_slots_steps(rt: &impl Abort, alloc: Global) -> Result<(), Al
 
 #[test]
 fn grows_by_a_level_with_seven_slots(rt: HostRuntime) {
-    assert!(rt; succeeds(|| grows_with_seven_slots_steps(&rt, rt.alloc())));
+    assert!(rt; succeeds(rt.alloc(), || grows_with_seven_slots_steps(&rt, rt.alloc())));
 }
 
 /// The numbers of leaves and nodes.
@@ -143,6 +143,6 @@ fn expect_row(rt: &impl Abort, alloc: Global, row: &Row) -> Result<(), AllocErro
 #[test]
 fn drops_leaves_and_lowers_its_root(rt: HostRuntime) {
     for row in &ROWS {
-        assert!(rt; succeeds(|| expect_row(&rt, rt.alloc(), row)));
+        assert!(rt; succeeds(rt.alloc(), || expect_row(&rt, rt.alloc(), row)));
     }
 }

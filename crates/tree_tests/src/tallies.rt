@@ -163,7 +163,7 @@ fn drops_once(rt: &impl Abort, alloc: Global) -> Result<(), AllocError> {
 /// dropped.
 #[test]
 fn drops_each_key_and_value_once(rt: HostRuntime) {
-    assert!(rt; succeeds(|| drops_once(&rt, rt.alloc())));
+    assert!(rt; succeeds(rt.alloc(), || drops_once(&rt, rt.alloc())));
 }
 
 /// Compares which of the greatest keys are there: all but this one, of those from it on.
@@ -259,5 +259,5 @@ fn refuses_clones(rt: &impl Abort, alloc: Global) -> Result<(), AllocError> {
 /// A write that must split clones a separator. Where that is refused, the pair comes back and no pair changed.
 #[test]
 fn hands_back_the_pair_where_a_clone_is_refused(rt: HostRuntime) {
-    assert!(rt; succeeds(|| refuses_clones(&rt, rt.alloc())));
+    assert!(rt; succeeds(rt.alloc(), || refuses_clones(&rt, rt.alloc())));
 }

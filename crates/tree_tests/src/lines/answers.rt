@@ -65,7 +65,7 @@ fn answers_lines(rt: HostRuntime) {
     for row in &ROWS {
         for pieces in [(256, 256), (1, 256), (256, 1), (7, 2)] {
             assert!(rt;
-                succeeds(|| expect_answers(rt.alloc(), *row, pieces)),
+                succeeds(rt.alloc(), || expect_answers(rt.alloc(), *row, pieces)),
                 "at {row:?}"
             );
         }
@@ -96,4 +96,25 @@ fn answers_that_memory_is_refused(rt: HostRuntime) {
         let answers = output.taken();
         assert!(rt; answers == b"ok\n10\n".as_slice() || answers == b"refused\nnone\n".as_slice());
     }
+}
+
+/// An insert and a look-up, and both again; the answers with memory, where the first insert is refused it, and where both
+/// are.
+static TWICE: (&str, [&str; 3]) = (
+    "insert 1 10\npeek 1\ninsert 1 10\npeek 1\n",
+    [
+        "ok\n10\nduplicate\n10\n",
+        "refused\nnone\nok\n10\n",
+        "refused\nnone\nrefused\nnone\n",
+    ],
+);
+
+#[test]
+fn answers_again_what_was_refused(rt: HostRuntime) {
+    let mut index: TreeIndex<u64, u64> = TreeIndex::new(rt.alloc());
+    let (lines, answers) = TWICE;
+    let mut input = lines.as_bytes();
+    let mut output = Sink::new(256, Failing::never());
+    assert!(rt; run_lines(&mut index, &mut input, &mut output) == Ok(()));
+    assert!(rt; answers.iter().any(|it| it.as_bytes() == output.taken()));
 }

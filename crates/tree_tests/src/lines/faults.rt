@@ -1,7 +1,7 @@
 //! Runs in which a read or a write fails.
 use super::streams::{Failing, Failure, Sink, Source};
 use std::alloc::{AllocError, Global};
-use std::test::Fail;
+use std::process::Abort;
 use test_support::refusals::succeeds;
 use tree_index::TreeIndex;
 use tree_lines::{ToolFault, WriteFailed, run_lines};
@@ -71,12 +71,12 @@ impl Ended {
     }
 }
 
-/// Runs the lines of a reader over a new index.
-fn run(alloc: Global, mut input: Source<'_>, mut output: Sink) -> Ended {
-    let mut index: TreeIndex<u64, u64> = TreeIndex::new(alloc);
-    let outcome = run_lines(&mut index, &mut input, &mut output);
+/// Runs the lines of a reader over an index, which is cleared first.
+fn run(index: &mut TreeIndex<u64, u64>, mut input: Source<'_>, mut output: Sink) -> Ended {
+    index.clear();
+    let outcome = run_lines(index, &mut input, &mut output);
     let (mut walk, mut pairs) = (b"iter\n".as_slice(), Sink::new(256, Failing::never()));
-    let _ = run_lines(&mut index, &mut walk, &mut pairs);
+    let _ = run_lines(index, &mut walk, &mut pairs);
     Ended {
         outcome,
         output,
@@ -84,21 +84,21 @@ fn run(alloc: Global, mut input: Source<'_>, mut output: Sink) -> Ended {
     }
 }
 
-/// `Ok` if this holds. What is refused memory may fail once.
-fn wanted(holds: bool) -> Result<(), AllocError> {
-    if holds { Ok(()) } else { Err(AllocError) }
+/// Stores a pair, so that the index allocates no more for a script.
+fn prepare(index: &mut TreeIndex<u64, u64>) -> Result<(), AllocError> {
+    index.upsert_sync(1, 1).map_err(|_| AllocError)
 }
 
-/// Each line that a line feed ended before the failed read is applied and answered, and no other one. A run ends well
-/// where the read that finds no more bytes passes.
-fn expect_read_fails(
-    alloc: Global,
+/// Whether each line that a line feed ended before the failed read is applied and answered, and no other one. A run ends
+/// well where the read that finds no more bytes passes.
+fn shows_a_failed_read(
+    index: &mut TreeIndex<u64, u64>,
     script: &Script,
     piece: usize,
     failing: Failing,
-) -> Result<(), AllocError> {
+) -> bool {
     let input = Source::new(script.lines, piece, failing);
-    let ended = run(alloc, input, Sink::new(1, Failing::never()));
+    let ended = run(index, input, Sink::new(1, Failing::never()));
     let passes = failing.passes as usize;
     let is_whole = passes.saturating_sub(1).saturating_mul(piece) >= script.lines.len();
     let outcome = if is_whole {
@@ -110,42 +110,52 @@ fn expect_read_fails(
     let lines = count_lines(script.lines.get(..given).unwrap_or(script.lines));
     let answers = ended.output.taken();
     let are_lines = answers.is_empty() || answers.ends_with(b"\n");
-    wanted(
-        ended.outcome == outcome
-            && are_lines
-            && script.answers.starts_with(answers)
-            && count_lines(answers) == lines
-            && ended.has_left(script.pairs.get(lines)),
-    )
+    ended.outcome == outcome
+        && are_lines
+        && script.answers.starts_with(answers)
+        && count_lines(answers) == lines
+        && ended.has_left(script.pairs.get(lines))
 }
 
-#[test]
-fn tells_that_a_read_failed(rt: HostRuntime) {
-    for script in &SCRIPTS {
-        for by in [Failure::Broken, Failure::Interrupted] {
-            for piece in &PIECES {
-                for passes in 0..=script.lines.len() as u64 {
-                    let failing = Failing { passes, by };
-                    assert!(rt;
-                        succeeds(|| expect_read_fails(rt.alloc(), script, *piece, failing)),
-                        "{by:?} after {passes} reads of {piece}"
-                    );
-                }
+/// Fails each read of a script in turn.
+fn fail_reads(rt: &impl Abort, index: &mut TreeIndex<u64, u64>, script: &Script) {
+    for by in [Failure::Broken, Failure::Interrupted] {
+        for piece in &PIECES {
+            for passes in 0..=script.lines.len() as u64 {
+                let failing = Failing { passes, by };
+                assert!(rt;
+                    shows_a_failed_read(index, script, *piece, failing),
+                    "{by:?} after {passes} reads of {piece}"
+                );
             }
         }
     }
 }
 
-/// Each line before the one whose answer broke off is applied and answered; that one is applied. A run whose writes all
-/// pass ends well.
-fn expect_write_fails(
-    alloc: Global,
+fn read_fails_steps(rt: &impl Abort, alloc: Global) -> Result<(), AllocError> {
+    let mut index: TreeIndex<u64, u64> = TreeIndex::new(alloc);
+    prepare(&mut index)?;
+    for script in &SCRIPTS {
+        fail_reads(rt, &mut index, script);
+    }
+    Ok(())
+}
+
+#[test]
+fn tells_that_a_read_failed(rt: HostRuntime) {
+    assert!(rt; succeeds(rt.alloc(), || read_fails_steps(&rt, rt.alloc())));
+}
+
+/// Whether each line before the one whose answer broke off is applied and answered, and that one is applied. A run whose
+/// writes all pass ends well.
+fn shows_a_failed_write(
+    index: &mut TreeIndex<u64, u64>,
     script: &Script,
     piece: usize,
     failing: Failing,
-) -> Result<(), AllocError> {
+) -> bool {
     let input = Source::new(script.lines, 1, Failing::never());
-    let ended = run(alloc, input, Sink::new(piece, failing));
+    let ended = run(index, input, Sink::new(piece, failing));
     let answers = ended.output.taken();
     let answered = count_lines(answers);
     let is_whole = answers.len() == script.answers.len();
@@ -156,36 +166,49 @@ fn expect_write_fails(
     };
     let taken = answers.len() as u64;
     let is_in_place = is_whole || taken == failing.passes || piece > 1 && taken > failing.passes;
-    wanted(
-        ended.outcome == outcome
-            && is_in_place
-            && script.answers.starts_with(answers)
-            && ended.has_left(script.pairs.get(applied)),
-    )
+    ended.outcome == outcome
+        && is_in_place
+        && script.answers.starts_with(answers)
+        && ended.has_left(script.pairs.get(applied))
 }
 
-#[test]
-fn tells_that_a_write_failed(rt: HostRuntime) {
-    for script in &SCRIPTS {
-        for by in [Failure::Broken, Failure::Interrupted, Failure::Stalled] {
-            for piece in &PIECES {
-                for passes in 0..script.answers.len() as u64 {
-                    let failing = Failing { passes, by };
-                    assert!(rt;
-                        succeeds(|| expect_write_fails(rt.alloc(), script, *piece, failing)),
-                        "{by:?} after {passes} writes of {piece}"
-                    );
-                }
+/// Fails each write of a script in turn.
+fn fail_writes(rt: &impl Abort, index: &mut TreeIndex<u64, u64>, script: &Script) {
+    for by in [Failure::Broken, Failure::Interrupted, Failure::Stalled] {
+        for piece in &PIECES {
+            for passes in 0..script.answers.len() as u64 {
+                let failing = Failing { passes, by };
+                assert!(rt;
+                    shows_a_failed_write(index, script, *piece, failing),
+                    "{by:?} after {passes} writes of {piece}"
+                );
             }
         }
     }
 }
 
+fn write_fails_steps(rt: &impl Abort, alloc: Global) -> Result<(), AllocError> {
+    let mut index: TreeIndex<u64, u64> = TreeIndex::new(alloc);
+    prepare(&mut index)?;
+    for script in &SCRIPTS {
+        fail_writes(rt, &mut index, script);
+    }
+    Ok(())
+}
+
 #[test]
-fn shows_faults(rt: HostRuntime) -> Result<(), Fail> {
+fn tells_that_a_write_failed(rt: HostRuntime) {
+    assert!(rt; succeeds(rt.alloc(), || write_fails_steps(&rt, rt.alloc())));
+}
+
+fn shows_faults_steps(rt: &impl Abort, alloc: Global) -> Result<(), AllocError> {
     let (read, write) = (ToolFault::Read, ToolFault::Write);
-    let shown = || format!(in rt.alloc(); "{read}, {write}, {write:?}, {WriteFailed}");
-    let text = shown().or_else(|_| shown())?;
+    let text = format!(in alloc; "{read}, {write}, {write:?}, {WriteFailed}")?;
     assert!(rt; text.as_str() == "a read failed, a write failed, Write, a write failed");
     Ok(())
+}
+
+#[test]
+fn shows_faults(rt: HostRuntime) {
+    assert!(rt; succeeds(rt.alloc(), || shows_faults_steps(&rt, rt.alloc())));
 }

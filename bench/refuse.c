@@ -1,0 +1,83 @@
+// Stands before the allocator of a test program that `rt try --test` builds, and refuses what it is told to refuse.
+// bench/refusals links it in.
+//
+// A Rattle program asks for memory in rattle_alloc and rattle_realloc of the toolchain, which call malloc and realloc, and
+// for threads by pthread_create. These requests are counted. What the C library asks for itself isn't, nor what comes
+// before main. `rt try` links AddressSanitizer in, which lets others take the place of the functions below.
+//
+// REFUSE_AT=N refuses the Nth request alone, and REFUSE_FROM=N each from the Nth on. The counts stand in the file
+// REFUSALS while the program runs, so that they are there however it ends. Where there is no file KEPT, the program copies
+// itself there in place of running.
+#include <errno.h>
+#include <fcntl.h>
+#include <pthread.h>
+#include <stdatomic.h>
+#include <stdio.h>
+#include <stdlib.h>
+#include <sys/mman.h>
+#include <unistd.h>
+
+extern const char rattle_alloc[], rattle_dealloc[], __executable_start[], etext[];
+extern void *___interceptor_malloc(size_t);
+extern void *___interceptor_realloc(void *, size_t);
+extern void ___interceptor_free(void *);
+extern int ___interceptor_pthread_create(pthread_t *, const pthread_attr_t *, void *(*)(void *), void *);
+
+// Requests, those of them that were refused, and blocks that the program has and didn't give back.
+struct counts {
+    atomic_long requests, refused, held;
+};
+
+static struct counts own, *counts = &own;
+static long at, from;
+
+// Counts a request, and says whether it is refused.
+static int refuses(void) {
+    long number = ++counts->requests;
+    int is_refused = number == at || (from > 0 && number >= from);
+    counts->refused += is_refused;
+    return is_refused;
+}
+
+// Whether rattle_alloc or rattle_realloc asks: rattle_dealloc stands behind them.
+static int asks(const char *caller) { return caller >= rattle_alloc && caller < rattle_dealloc; }
+
+void *__interceptor_malloc(size_t size) {
+    int is_counted = asks(__builtin_return_address(0));
+    void *block = is_counted && refuses() ? NULL : ___interceptor_malloc(size);
+    counts->held += is_counted && block;
+    return block;
+}
+
+void *__interceptor_realloc(void *block, size_t size) {
+    return asks(__builtin_return_address(0)) && refuses() ? NULL : ___interceptor_realloc(block, size);
+}
+
+void __interceptor_free(void *block) {
+    const char *caller = __builtin_return_address(0);
+    counts->held -= block && caller >= __executable_start && caller < etext;
+    ___interceptor_free(block);
+}
+
+int __interceptor_pthread_create(pthread_t *made, const pthread_attr_t *how, void *(*body)(void *), void *given) {
+    return refuses() ? EAGAIN : ___interceptor_pthread_create(made, how, body, given);
+}
+
+// Copies the program, and ends it.
+static void keep(const char *program) {
+    static char block[1 << 16];
+    int in = open(program, O_RDONLY), out = open(KEPT ".part", O_WRONLY | O_CREAT | O_TRUNC, 0755);
+    ssize_t length;
+    while ((length = read(in, block, sizeof block)) > 0 && write(out, block, length) == length)
+        ;
+    _exit(length != 0 || rename(KEPT ".part", KEPT) != 0);
+}
+
+__attribute__((constructor)) static void start(int count, char **words) {
+    const char *alone = getenv("REFUSE_AT"), *first = getenv("REFUSE_FROM"), *file = getenv("REFUSALS");
+    if (count > 0 && access(KEPT, F_OK) != 0) keep(words[0]);
+    if (file) counts = mmap(NULL, sizeof own, PROT_READ | PROT_WRITE, MAP_SHARED, open(file, O_RDWR), 0);
+    if (counts == MAP_FAILED) abort();
+    at = alone ? atol(alone) : 0;
+    from = first ? atol(first) : 0;
+}

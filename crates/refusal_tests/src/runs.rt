@@ -1,0 +1,88 @@
+//! Lists of commands that are refused memory, whole or one of their commands.
+use crate::writes::{ample, ascending};
+use std::alloc::{AllocError, Global};
+use std::process::Abort;
+use test_support::refusals::{is_out_of_memory, succeeds};
+use tree_index::{Command, Reply, TreeIndex, run};
+use tree_support::flaws;
+
+/// Whether an insert and a look-up of the key were answered. Else the insert was refused, and the look-up found none.
+fn are_answered(rt: &impl Abort, replies: &[Reply<u64>], key: u64) -> bool {
+    if replies == [Reply::Stored, Reply::Found(Some(key))].as_slice() {
+        return true;
+    }
+    assert!(rt; replies == [Reply::Refused, Reply::Found(None)].as_slice());
+    false
+}
+
+/// Runs an insert and a look-up of an absent key over an index of these pairs. Returns whether the pair was stored. Where
+/// the room for the replies is refused, so is the run; where memory for the pair is, so is the insert. The index stands then.
+fn run_once(
+    rt: &impl Abort,
+    alloc: Global,
+    index: &mut TreeIndex<u64, u64>,
+    pairs: &[(u64, u64)],
+    key: u64,
+) -> Result<bool, AllocError> {
+    let commands = vec![in alloc; Command::Insert(key, key), Command::Peek(key)]?;
+    let is_stored = match run(index, commands) {
+        Ok(replies) => are_answered(rt, &replies, key),
+        Err(_) => false,
+    };
+    assert!(rt; is_stored || flaws(index, pairs).is_ok());
+    Ok(is_stored)
+}
+
+/// Runs both at once or the second time. Returns whether they were refused once. `Err` if they were refused both times, so
+/// that there is no memory.
+fn run_twice(
+    rt: &impl Abort,
+    alloc: Global,
+    index: &mut TreeIndex<u64, u64>,
+    pairs: &[(u64, u64)],
+    key: u64,
+) -> Result<bool, AllocError> {
+    if run_once(rt, alloc, index, pairs, key)? {
+        return Ok(false);
+    }
+    if run_once(rt, alloc, index, pairs, key)? {
+        return Ok(true);
+    }
+    assert!(rt; is_out_of_memory(alloc));
+    Err(AllocError)
+}
+
+/// So many ascending keys that the next one makes a leaf and a root, splits a leaf, splits a node over leaves, and splits a
+/// node over nodes.
+static COUNTS: [u64; 4] = [0, 15, 240, 3615];
+
+/// Stores pairs in an index.
+fn fill(index: &mut TreeIndex<u64, u64>, pairs: &[(u64, u64)]) -> Result<(), AllocError> {
+    for (key, value) in pairs {
+        index.upsert_sync(*key, *value).map_err(|_| AllocError)?;
+    }
+    Ok(())
+}
+
+fn runs_over(
+    rt: &impl Abort,
+    alloc: Global,
+    pairs: &[(u64, u64)],
+    key: u64,
+) -> Result<(), AllocError> {
+    let mut index: TreeIndex<u64, u64> = TreeIndex::new(alloc);
+    fill(&mut index, pairs)?;
+    ample(run_twice(rt, alloc, &mut index, pairs, key)?)
+}
+
+fn runs_steps(rt: &impl Abort, alloc: Global, count: u64) -> Result<(), AllocError> {
+    let pairs = ascending(alloc, count)?;
+    runs_over(rt, alloc, &pairs, count.saturating_add(1))
+}
+
+#[test]
+fn runs_again_what_was_refused(rt: HostRuntime) {
+    for count in &COUNTS {
+        assert!(rt; succeeds(rt.alloc(), || runs_steps(&rt, rt.alloc(), *count)));
+    }
+}
