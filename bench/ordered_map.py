@@ -36,12 +36,13 @@ def bound_of(word):
 
 
 class OrderedMap:
-    """The pairs of an index, with the shape of its tree while it is known."""
+    """The pairs of an index with so many slots a leaf, with the shape of its tree while it is known."""
 
-    def __init__(self):
+    def __init__(self, slots):
+        self.slots = slots
         self.keys = []
         self.values = {}
-        self.shape = TreeShape()
+        self.shape = TreeShape(slots)
 
     def answer(self, line):
         """Applies a line and gives its answer; None where the rules leave the answer open."""
@@ -81,7 +82,7 @@ class OrderedMap:
         return b"ok"
 
     def clear(self):
-        self.__init__()
+        self.__init__(self.slots)
         return b"ok"
 
     def drop(self, first, end):

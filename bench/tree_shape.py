@@ -4,23 +4,24 @@ It knows no values, and no removals. Each array is its entries in key order and 
 """
 from bisect import bisect_left
 
-SLOTS = 15
-LIMIT = 11
+# The most entries with which a full array is not divided, for each number of slots.
+LIMITS = {15: 11, 7: 5}
 
 
 class Array:
     """An array of keys with a fixed number of slots."""
 
-    def __init__(self, keys=()):
+    def __init__(self, slots, keys=()):
+        self.slots = slots
         self.keys = list(keys)
         self.arrivals = list(keys)
 
     def is_full(self):
-        return len(self.arrivals) == SLOTS
+        return len(self.arrivals) == self.slots
 
     def divides(self):
         """Whether a split is due once no slot is free."""
-        return len(self.keys) > LIMIT
+        return len(self.keys) > LIMITS[self.slots]
 
     def add(self, key):
         """Takes a slot for a key; where the key is present, the slot that it had is spent."""
@@ -43,20 +44,20 @@ class Array:
 
     def is_ascending(self):
         """Whether all slots hold an entry, and these arrived in ascending order."""
-        return self.rises() == SLOTS - 1
+        return self.rises() == self.slots - 1
 
     def spare(self):
         """How many writes are sure to find a slot here, or a rebuild in place."""
-        unused = SLOTS - len(self.arrivals)
-        return SLOTS - len(self.keys) if len(self.keys) + unused <= LIMIT else unused
+        unused = self.slots - len(self.arrivals)
+        return self.slots - len(self.keys) if len(self.keys) + unused <= LIMITS[self.slots] else unused
 
 
 class Node:
     """A node over leaves or nodes: a keyed child for each separator, in their order, and the unbounded child."""
 
-    def __init__(self, level, keys, children, unbounded):
+    def __init__(self, level, array, children, unbounded):
         self.level = level
-        self.array = Array(keys)
+        self.array = array
         self.children = children
         self.unbounded = unbounded
 
@@ -80,11 +81,16 @@ class Node:
 
 
 class TreeShape:
-    """The nodes and leaves of an index into which keys were written."""
+    """The nodes and leaves of an index, with so many slots in each array, into which keys were written."""
 
-    def __init__(self):
+    def __init__(self, slots):
+        self.slots = slots
         self.root = None
-        self.spares = [0] * (SLOTS + 1)
+        self.spares = [0] * (slots + 1)
+
+    def array(self, keys=()):
+        """An array into which these keys came in ascending order."""
+        return Array(self.slots, keys)
 
     def depth(self):
         return self.root.level if self.root else 0
@@ -96,9 +102,9 @@ class TreeShape:
     def write(self, key):
         """Writes a key that is absent, or replaces one that is present."""
         if self.root is None:
-            self.root = Node(1, (), [], self.counted(Array()))
+            self.root = Node(1, self.array(), [], self.counted(self.array()))
         while not self.write_below(self.root, key):
-            self.root = Node(self.root.level + 1, (), [], self.root)
+            self.root = Node(self.root.level + 1, self.array(), [], self.root)
             self.make_room(self.root, 0)
 
     def write_below(self, node, key):
@@ -129,13 +135,13 @@ class TreeShape:
         keys = leaf.keys
         self.spares[leaf.spare()] -= 1
         if not leaf.divides():
-            node.put_child(place, self.counted(Array(keys)))
+            node.put_child(place, self.counted(self.array(keys)))
             return
         is_last = place == len(node.children)
         whole = leaf.is_ascending() and is_last and key > keys[-1]
-        end = SLOTS if whole else leaf.boundary()
-        node.put_child(place, self.counted(Array(keys[end:])))
-        node.add_before(place, keys[end - 1], self.counted(Array(keys[:end])))
+        end = self.slots if whole else leaf.boundary()
+        node.put_child(place, self.counted(self.array(keys[end:])))
+        node.add_before(place, keys[end - 1], self.counted(self.array(keys[:end])))
 
     def make_room(self, node, place):
         """Splits a full child of a node over nodes; false where the node has no room for a separator. No slot of it is spent."""
@@ -143,8 +149,8 @@ class TreeShape:
         if node.array.is_full():
             return False
         keys, children, end = child.array.keys, child.children, child.array.boundary()
-        lower = Node(child.level, keys[:end], children[:end], children[end])
-        node.put_child(place, Node(child.level, keys[end + 1 :], children[end + 1 :], child.unbounded))
+        lower = Node(child.level, self.array(keys[:end]), children[:end], children[end])
+        node.put_child(place, Node(child.level, self.array(keys[end + 1 :]), children[end + 1 :], child.unbounded))
         node.add_before(place, keys[end], lower)
         return True
 

@@ -13,6 +13,25 @@ TOP = os.path.dirname(os.path.dirname(os.path.abspath(__file__)))
 SECONDS = 600
 
 
+class Tool(NamedTuple):
+    """A built `treetool`, or crates/treetool where none is given, and whether it has the index of seven slots."""
+
+    program: str | None = None
+    small: bool = False
+
+    def slots(self):
+        """How many slots an array of its index has."""
+        return 7 if self.small else 15
+
+    def arguments(self):
+        """The arguments after the program's name."""
+        return ["--small"] if self.small else []
+
+    def runs(self, scripts):
+        """Runs the program once on each script, and gives each run."""
+        return [run(self, script) for script in scripts] if self.program else tries(self, scripts)
+
+
 class Ran(NamedTuple):
     """What a run wrote to standard output, and how it ended: `status=0` where all is well."""
 
@@ -20,18 +39,13 @@ class Ran(NamedTuple):
     end: str
 
 
-def runs(scripts, program=None):
-    """Runs the program, or crates/treetool as `rt try` builds it, once on each script, and gives each run."""
-    return [run(program, script) for script in scripts] if program else tries(scripts)
-
-
-def run(program, script):
+def run(tool, script):
     """Runs a built program on a script."""
-    done = subprocess.run([program], input=script, stdout=subprocess.PIPE, timeout=SECONDS, check=False)
+    done = subprocess.run([tool.program, *tool.arguments()], input=script, stdout=subprocess.PIPE, timeout=SECONDS, check=False)
     return Ran(done.stdout, f"status={done.returncode}")
 
 
-def tries(scripts):
+def tries(tool, scripts):
     """Builds crates/treetool by `rt try`, and runs it on each script."""
     with tempfile.TemporaryDirectory(prefix="treetool-") as folder:
         names = [f"{place:06}" for place in range(len(scripts))]
@@ -41,6 +55,7 @@ def tries(scripts):
                 file.write(script)
         with open(os.path.join(folder, "output"), "w+b") as output:
             command = ["rt", "try", "--seconds", str(SECONDS), "--cases", os.path.join(folder, "cases")]
+            command += ["--", *tool.arguments()]
             home = os.path.join(TOP, "crates", "treetool")
             done = subprocess.run(command, cwd=home, stdout=output, stderr=subprocess.PIPE, check=False)
             output.seek(0)

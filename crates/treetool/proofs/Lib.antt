@@ -1,1 +1,2 @@
 pub mod Storms
+pub mod Tasks

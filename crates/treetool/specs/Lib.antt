@@ -1,2 +1,3 @@
 pub mod Storm
+pub mod Tasks
 pub mod Tool

@@ -5,6 +5,7 @@
 mod storm;
 #[cfg(test)]
 mod storm_tests;
+mod task;
 #[cfg(test)]
 mod tests;
 mod tool;

@@ -206,7 +206,32 @@ pub(crate) fn words_of(alloc: Global, line: &str) -> Result<Vec<String>, AllocEr
     Ok(words)
 }
 
-static UNKNOWN: [&str; 14] = [
+// Whether the program with the argument `--small` answers these lines so and ends well.
+fn answers_in_small<R: Threads + Wait + Sync>(
+    rt: &R,
+    alloc: Global,
+    lines: &str,
+    answers: &str,
+) -> Result<bool, AllocError> {
+    let arguments = words_of(alloc, "--small")?;
+    let mut memory = [0; 64];
+    let mut output = Cursor::new(&mut memory[..]);
+    let mut shown = [0; 64];
+    let mut errors = Cursor::new(&mut shown[..]);
+    let input = lines.as_bytes();
+    let ended = tool(rt, alloc, &arguments, input, &mut output, &mut errors);
+    let (written, silent) = (output.position() as usize, errors.position() == 0);
+    Ok(ended == 0 && silent && &memory[..written.min(64)] == answers.as_bytes())
+}
+
+#[test]
+fn answers_over_leaves_of_seven(rt: HostRuntime) {
+    let (lines, answers) = ("insert 1 10\nspare\ndepth\npeek 1\n", "ok\n6\n1\n10\n");
+    let once = || answers_in_small(&rt, rt.alloc(), lines, answers) == Ok(true);
+    assert!(rt; once() || once());
+}
+
+static UNKNOWN: [&str; 22] = [
     "x",
     "",
     "-h",
@@ -221,6 +246,14 @@ static UNKNOWN: [&str; 14] = [
     "storm 2 100001",
     "Storm 2 5",
     "2 5 storm",
+    "small",
+    "--smal",
+    "--smalls",
+    "-small",
+    "--Small",
+    "--small --small",
+    "--small storm 1 1",
+    "storm 1 1 --small",
 ];
 
 // Whether these arguments, with so many writes of a byte to the errors that pass, have status 1 and show this. The input
@@ -255,7 +288,8 @@ fn shows<R: Threads + Wait + Sync>(
 
 #[test]
 fn shows_the_usage(rt: HostRuntime) {
-    let usage = b"usage: treetool [storm W N]\n".as_slice();
+    let usage = b"usage: treetool [--small | storm W N]
+".as_slice();
     for line in &UNKNOWN {
         let arguments = words_of(rt.alloc(), line).or_else(|_| words_of(rt.alloc(), line))?;
         for (passes, shown) in [(64, usage), (0, b""), (3, b"usa")] {

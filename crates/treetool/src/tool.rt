@@ -1,21 +1,26 @@
 //! The program over streams that are passed to it.
-ghost use Rattle.std.specs.Prelude.{◌≡◌, ◌⊎◌, ◌<◌, Some, None, length, map};
+ghost use Rattle.std.specs.Prelude.{◌≡◌, ◌⊎◌, Some, None, map};
 ghost use Rattle.std.specs.String.{string_bytes};
-ghost use Rattle.treetool.specs.Storm.{AsksForStorm, RunsStorm};
-ghost use Rattle.treetool.specs.Tool.{RefusesArguments, RunsTool};
+ghost use Rattle.tree_array.specs.Length.{IsLen};
+ghost use Rattle.treetool.specs.Storm.{RunsStorm};
+ghost use Rattle.treetool.specs.Tasks.{AsksFor};
+ghost use Rattle.treetool.specs.Tool.{AnswersLines, RefusesArguments};
+ghost use Rattle.treetool.specs.declared.task.Task.TheVariants.{Lines, SmallLines, Storm};
 
-use crate::storm::{run_storm, storm_of};
+use crate::storm::run_storm;
+use crate::task::{Task, task_of};
 use std::alloc::Global;
 use std::io::{Read, Write};
 use std::sync::Wait;
 use std::thread::Threads;
-use tree_index::TreeIndex;
+use tree_index::TreeIndexOf;
 use tree_lines::{run_lines, write_whole};
 
 /// Runs the program and returns its exit status. `arguments` are those after the program's name.
 ///
-/// Without arguments it answers the requests of `input` over an index that is empty at first. The
-/// status is 0 at the end of the input and 2 if a read or a write fails.
+/// Without arguments it answers the requests of `input` over an index that is empty at first, with fifteen pairs a leaf;
+/// with the argument `--small` it does so with seven. The status is 0 at the end of the input and 2 if a read or a
+/// write fails.
 ///
 /// With the arguments of a storm it runs the storm and writes its line to `output`. The status is 0 then, 2 if
 /// the write fails, and 3, with the line `refused`, if the workers got no memory or no thread.
@@ -29,9 +34,10 @@ pub fn tool<R: Threads + Wait + Sync, I: Read + Drop, W: Write + Drop, E: Write 
     mut output: W,
     mut errors: E,
 ) -> u8
-    ensures usage { 0 < length arguments.now → AsksForStorm (map string_bytes arguments.now) None → result ≡ 1 }
-    ensures storm { (storm : _) → AsksForStorm (map string_bytes arguments.now) (Some storm) → (result ≡ 0) ⊎ (result ≡ 2) ⊎ (result ≡ 3) }
-    ensures lines { length arguments.now ≡ 0 → (result ≡ 0) ⊎ (result ≡ 2) }
+    ensures lines { AsksFor (map string_bytes arguments.now) (Some Lines) → (result ≡ 0) ⊎ (result ≡ 2) }
+    ensures small { AsksFor (map string_bytes arguments.now) (Some SmallLines) → (result ≡ 0) ⊎ (result ≡ 2) }
+    ensures storm { (workers pairs : _) → AsksFor (map string_bytes arguments.now) (Some (Storm workers pairs)) → (result ≡ 0) ⊎ (result ≡ 2) ⊎ (result ≡ 3) }
+    ensures usage { AsksFor (map string_bytes arguments.now) None → result ≡ 1 }
 {
     run_tool(rt, alloc, arguments, &mut input, &mut output, &mut errors)
 }
@@ -45,30 +51,46 @@ fn run_tool<R: Threads + Wait + Sync, I: Read, W: Write, E: Write>(
     output: &mut W,
     errors: &mut E,
 ) -> u8
-    // With arguments, the input stays as it is. Of a storm its line is written, and nothing to the errors.
-    ensures unread { 0 < length arguments.now → input.new ≡ input.old }
-    ensures storm { (storm : _) → AsksForStorm (map string_bytes arguments.now) (Some storm) →
-        RunsStorm (W.contents output.old) (W.contents output.new) result × (errors.new ≡ errors.old) }
+    // Lines are answered over an index of the size that is asked for, and nothing is written to the errors.
+    ensures lines { AsksFor (map string_bytes arguments.now) (Some Lines) →
+        AnswersLines 15 (I.remaining input.old) (I.remaining input.new)
+        (W.contents output.old) (W.contents output.new) result × (errors.new ≡ errors.old) }
+    ensures small { AsksFor (map string_bytes arguments.now) (Some SmallLines) →
+        AnswersLines 7 (I.remaining input.old) (I.remaining input.new)
+        (W.contents output.old) (W.contents output.new) result × (errors.new ≡ errors.old) }
 
-    // Other arguments are refused, and nothing is written to the output.
-    ensures usage { 0 < length arguments.now → AsksForStorm (map string_bytes arguments.now) None →
-        RefusesArguments (E.contents errors.old) (E.contents errors.new) result }
-    ensures unwritten { 0 < length arguments.now → AsksForStorm (map string_bytes arguments.now) None → output.new ≡ output.old }
+    // Of a storm its line is written. The input is not read, and nothing is written to the errors.
+    ensures storm { (workers pairs : _) → AsksFor (map string_bytes arguments.now) (Some (Storm workers pairs)) →
+        RunsStorm (W.contents output.old) (W.contents output.new) result
+        × (input.new ≡ input.old) × (errors.new ≡ errors.old) }
 
-    // Without any, the lines are answered and nothing is written to the errors.
-    ensures lines { length arguments.now ≡ 0 →
-        RunsTool (I.remaining input.old) (I.remaining input.new)
-        (W.contents output.old) (W.contents output.new) result }
-    ensures silent { length arguments.now ≡ 0 → errors.new ≡ errors.old }
+    // Other arguments are refused. The input is not read, and nothing is written to the output.
+    ensures usage { AsksFor (map string_bytes arguments.now) None →
+        RefusesArguments (E.contents errors.old) (E.contents errors.new) result
+        × (input.new ≡ input.old) × (output.new ≡ output.old) }
 {
-    if let Some((workers, pairs)) = storm_of(arguments) {
-        return run_storm(rt, alloc, workers, pairs, output);
+    match task_of(arguments) {
+        Some(Task::Lines) => answer_lines::<_, _, 15>(alloc, input, output),
+        Some(Task::SmallLines) => answer_lines::<_, _, 7>(alloc, input, output),
+        Some(Task::Storm(workers, pairs)) => run_storm(rt, alloc, workers, pairs, output),
+        None => {
+            let _ = write_whole(errors, b"usage: treetool [--small | storm W N]\n");
+            1
+        }
     }
-    if !arguments.is_empty() {
-        let _ = write_whole(errors, b"usage: treetool [storm W N]\n");
-        return 1;
-    }
-    let mut index: TreeIndex<u64, u64> = TreeIndex::new(alloc);
+}
+
+// Answers lines over a new index, and returns the exit status.
+fn answer_lines<I: Read, W: Write, const LEN: usize>(
+    alloc: Global,
+    input: &mut I,
+    output: &mut W,
+) -> u8
+    requires { IsLen LEN }
+    ensures { AnswersLines LEN (I.remaining input.old) (I.remaining input.new)
+        (W.contents output.old) (W.contents output.new) result }
+{
+    let mut index: TreeIndexOf<u64, u64, LEN> = TreeIndexOf::new(alloc);
     match run_lines(&mut index, input, output) {
         Ok(()) => 0,
         Err(_) => 2,

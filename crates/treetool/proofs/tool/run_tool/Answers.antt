@@ -1,33 +1,62 @@
-use Rattle.treetool.specs.Tool.{usage_line}
+use Rattle.std.proofs.Common.{map, Some, None, refl}
+use Rattle.std.specs.String.{string_bytes}
 use Rattle.tree_lines.proofs.Writes.{written_of}
-use Rattle.std.proofs.Common.{◌≡◌, ℕ, List, [], Option, Result, Err, refl, subst}
-use Rattle.tree_lines.specs.declared.lines.ToolFault.{ToolFault}
-use Rattle.tree_lines.specs.Runs.{RunsLines}
+use Rattle.treetool.specs.declared.task.Task.TheVariants.{Lines, SmallLines, Storm}
+use Rattle.treetool.specs.Tool.{usage_line}
+use Rattle.treetool.proofs.Tasks.{asks_no_other}
 use Rattle.treetool.proofs.tool.run_tool.Goals as goal
 
--- the usage line was written, as far as it could be
-pub returns-then-not-is_empty-clause-usage : goal.returns-then-not-is_empty-clause-usage
-returns-then-not-is_empty-clause-usage g c = λ some none.
+-- lines were asked for
+pub returns-in-Some-Lines : goal.returns-in-Some-Lines
+returns-in-Some-Lines g c =
+    let words = map string_bytes c.args.arguments.now in
+    let told = c.in-Some-Lines.field-0 in
+    let is = c.in-Some-Lines.field-0-is in
+    let asked = c.in-Some-Lines.ensures in
+    record {
+      lines = λ asks. (c.answer_lines.ensures, refl);
+      small = λ asks. asks_no_other words (Some told) (Some SmallLines) asked asks (λ same. cc (same, is));
+      storm = λ workers pairs asks. asks_no_other words (Some told) (Some (Storm workers pairs)) asked asks (λ same. cc (same, is));
+      usage = λ asks. asks_no_other words (Some told) None asked asks (λ same. cc (same));
+    }
+
+-- or lines over leaves of seven pairs
+pub returns-in-Some-SmallLines : goal.returns-in-Some-SmallLines
+returns-in-Some-SmallLines g c =
+    let words = map string_bytes c.args.arguments.now in
+    let told = c.in-Some-SmallLines.field-0 in
+    let is = c.in-Some-SmallLines.field-0-is in
+    let asked = c.in-Some-SmallLines.ensures in
+    record {
+      lines = λ asks. asks_no_other words (Some told) (Some Lines) asked asks (λ same. cc (same, is));
+      small = λ asks. (c.answer_lines-in-Some-SmallLines.ensures, refl);
+      storm = λ workers pairs asks. asks_no_other words (Some told) (Some (Storm workers pairs)) asked asks (λ same. cc (same, is));
+      usage = λ asks. asks_no_other words (Some told) None asked asks (λ same. cc (same));
+    }
+
+-- or a storm
+pub returns-in-Some-Storm : goal.returns-in-Some-Storm
+returns-in-Some-Storm g c =
+    let words = map string_bytes c.args.arguments.now in
+    let told = c.in-Some-Storm.field-0 in
+    let is = c.in-Some-Storm.field-0-is in
+    let asked = c.in-Some-Storm.ensures in
+    record {
+      lines = λ asks. asks_no_other words (Some told) (Some Lines) asked asks (λ same. cc (same, is));
+      small = λ asks. asks_no_other words (Some told) (Some SmallLines) asked asks (λ same. cc (same, is));
+      storm = λ workers pairs asks. (c.run_storm.ensures, refl, refl);
+      usage = λ asks. asks_no_other words (Some told) None asked asks (λ same. cc (same));
+    }
+
+-- or nothing: the usage line was written, as far as it could be
+pub returns-in-None : goal.returns-in-None
+returns-in-None g c =
+    let words = map string_bytes c.args.arguments.now in
+    let asked = c.in-None.ensures in
     let wrote = written_of usage_line (g.E.Write.contents c.args.errors.now) (g.E.Write.contents c.write_whole.new.output) c.write_whole.result c.write_whole.ensures in
-    (wrote.0, wrote.1, wrote.2, refl)
-
--- a storm was asked for
-pub returns-in-Some-clause-usage : goal.returns-in-Some-clause-usage
-returns-in-Some-clause-usage g c = λ some none. absurd (none (c.in-Some.workers, c.in-Some.pairs) c.in-Some.ensures.0 c.in-Some.ensures.1)
-
-pub returns-in-Some-clause-unwritten : goal.returns-in-Some-clause-unwritten
-returns-in-Some-clause-unwritten g c = λ some none. absurd (none (c.in-Some.workers, c.in-Some.pairs) c.in-Some.ensures.0 c.in-Some.ensures.1)
-
--- the index was empty
-over_empty : (old new : List (ℕ × ℕ)) (remaining remaining' contents contents' : Option (List ℕ)) (result : Result (Unit {0}) ToolFault) → old ≡ [] → RunsLines old new remaining remaining' contents contents' result
-    → RunsLines [] new remaining remaining' contents contents' result
-over_empty old new remaining remaining' contents contents' result empty runs = subst (λ (start : List (ℕ × ℕ)). RunsLines start new remaining remaining' contents contents' result) empty runs
-
-pub returns-clause-lines : goal.returns-clause-lines
-returns-clause-lines g c none = (
-  Err c.in-Err.field-0,
-  c.run_lines.new.index.pairs,
-  over_empty c.new-index.result.pairs c.run_lines.new.index.pairs (g.I.Read.remaining c.args.input.now) (g.I.Read.remaining c.run_lines.new.input) (g.W.Write.contents c.args.output.now) (g.W.Write.contents c.run_lines.new.output) (Err c.in-Err.field-0)
-      c.new-index.ensures.pairs c.in-Err.ensures,
-  refl,
-)
+    record {
+      lines = λ asks. asks_no_other words None (Some Lines) asked asks (λ same. cc (same));
+      small = λ asks. asks_no_other words None (Some SmallLines) asked asks (λ same. cc (same));
+      storm = λ workers pairs asks. asks_no_other words None (Some (Storm workers pairs)) asked asks (λ same. cc (same));
+      usage = λ asks. ((wrote.0, wrote.1, wrote.2, refl), refl, refl);
+    }
