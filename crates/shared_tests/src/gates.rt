@@ -112,22 +112,65 @@ impl<R: Clock> Gate for Meeting<R> {
     }
 }
 
-// Workers that ran one after another would be stopped here.
+// Whether a small request for memory is refused.
+fn is_out_of_memory(alloc: Global) -> bool {
+    Vec::<u8>::with_capacity(alloc, 1).is_err()
+}
+
+// Returns the history of a storm that no gate stops. Its index and its tally fit it, and one refusal takes one call at most.
+// Returns `Err` if memory or a thread is refused before the calls.
+fn history_of<R: Threads + Wait + Abort + Sync, G: Gate + Sync>(
+    rt: &R,
+    alloc: Global,
+    workers: usize,
+    n: u64,
+    gate: &G,
+) -> Result<Vec<Record<u64, u64>>, AllocError>
+    requires { (1 ≤ workers) × (workers ≤ 64) }
+{
+    match run_workers(rt, alloc, workers, n, gate) {
+        Ok(closed) => {
+            let (calls, all) = (closed.tally.calls, n.saturating_mul(workers as u64));
+            assert!(rt;
+                calls == all || calls.checked_add(1) == Some(all) || is_out_of_memory(alloc)
+            );
+            assert!(rt; calls < all || closed.tally.stored == n);
+            assert!(rt; closed.tally.stored == closed.index.len() as u64);
+            Ok(closed.history)
+        }
+        Err(StormError::Refused) => Err(AllocError),
+        Err(StormError::GateStopped) => panic!(rt; "the gate stopped a worker"),
+    }
+}
+
+// Sees that the gate stops a storm.
+fn expect_stop<R: Threads + Wait + Abort + Sync, G: Gate + Sync>(
+    rt: &R,
+    alloc: Global,
+    workers: usize,
+    n: u64,
+    gate: &G,
+) -> Result<(), AllocError>
+    requires { (1 ≤ workers) × (workers ≤ 64) }
+{
+    match run_workers(rt, alloc, workers, n, gate) {
+        Ok(_) => panic!(rt; "no stop was told"),
+        Err(StormError::Refused) => Err(AllocError),
+        Err(StormError::GateStopped) => Ok(()),
+    }
+}
+
+// Workers that ran one after another would be stopped here. If both have started, they make all their calls, refused or not.
 #[test]
 fn gate_needs_two_workers(rt: HostRuntime) {
     let steps = || {
         let gate = Meeting::new(rt, 10_000);
-        match run_workers(&rt, rt.alloc(), 2, 100, &gate) {
-            Ok(closed) => {
-                assert!(rt; gate.saw(100));
-                if closed.tally.calls < 200 {
-                    return Err(AllocError);
-                }
-                assert!(rt; closed.tally.stored == 100 && closed.index.len() == 100);
-                Ok(())
-            }
-            Err(StormError::Refused) => Err(AllocError),
-            Err(StormError::GateStopped) => panic!(rt; "the workers did not meet"),
+        let history = history_of(&rt, rt.alloc(), 2, 100, &gate)?;
+        assert!(rt; gate.saw(100));
+        if history.len() < 200 {
+            Err(AllocError)
+        } else {
+            Ok(())
         }
     };
     assert!(rt; succeeds(rt.alloc(), steps));
@@ -136,11 +179,7 @@ fn gate_needs_two_workers(rt: HostRuntime) {
 // One worker waits in vain, and stops.
 #[test]
 fn gate_stops_a_worker_alone(rt: HostRuntime) {
-    let steps = || match run_workers(&rt, rt.alloc(), 1, 3, &Meeting::new(rt, 5)) {
-        Ok(_) => panic!(rt; "a worker met itself"),
-        Err(StormError::Refused) => Err(AllocError),
-        Err(StormError::GateStopped) => Ok(()),
-    };
+    let steps = || expect_stop(&rt, rt.alloc(), 1, 3, &Meeting::new(rt, 5));
     assert!(rt; succeeds(rt.alloc(), steps));
 }
 
@@ -179,7 +218,7 @@ fn inserts(history: &[Record<u64, u64>], keys: &[u64]) -> bool {
     history.len() == keys.len()
 }
 
-// The inserts of a storm are these, in this order. Returns `Err` if one is refused, or a thread.
+// Sees that the inserts of a storm are these, in this order. Returns `Err` if one is refused, or a thread.
 fn expect_inserts<R: Threads + Wait + Abort + Sync, G: Gate + Sync>(
     rt: &R,
     alloc: Global,
@@ -190,23 +229,23 @@ fn expect_inserts<R: Threads + Wait + Abort + Sync, G: Gate + Sync>(
 ) -> Result<(), AllocError>
     requires { (1 ≤ workers) × (workers ≤ 64) }
 {
-    match run_workers(rt, alloc, workers, n, gate) {
-        Ok(closed) => {
-            if closed.history.len() < keys.len() {
-                return Err(AllocError);
-            }
-            assert!(rt; inserts(&closed.history, keys));
-            Ok(())
-        }
-        Err(StormError::Refused) => Err(AllocError),
-        Err(StormError::GateStopped) => panic!(rt; "the gate stopped a worker"),
+    let history = history_of(rt, alloc, workers, n, gate)?;
+    if history.len() < keys.len() {
+        return Err(AllocError);
     }
+    assert!(rt; inserts(&history, keys));
+    Ok(())
 }
 
 #[test]
 fn a_worker_inserts_in_ascending_order(rt: HostRuntime) {
     let keys = [1, 2, 3, 4, 5];
-    assert!(rt; succeeds(rt.alloc(), || expect_inserts(&rt, rt.alloc(), 1, 5, &OpenGate, &keys)));
+    assert!(rt;
+        succeeds(
+            rt.alloc(),
+            || expect_inserts(&rt, rt.alloc(), 1, 5, &OpenGate, &keys)
+        )
+    );
 }
 
 #[test]
@@ -219,7 +258,7 @@ fn a_call_is_told_once_it_is_answered(rt: HostRuntime) {
         };
         expect_inserts(&rt, rt.alloc(), 2, 2, &gate, &[1, 2, 1, 2])
     };
-    assert!(rt; succeeds(steps));
+    assert!(rt; succeeds(rt.alloc(), steps));
 }
 
 // Stops this worker at its second call.
@@ -237,11 +276,7 @@ impl Gate for Stop {
 #[test]
 fn tells_of_any_worker_that_stopped(rt: HostRuntime) {
     for worker in 0..3 {
-        let steps = || match run_workers(&rt, rt.alloc(), 3, 5, &Stop(worker)) {
-            Ok(_) => panic!(rt; "the stop of worker {worker} was not told"),
-            Err(StormError::Refused) => Err(AllocError),
-            Err(StormError::GateStopped) => Ok(()),
-        };
-        assert!(rt; succeeds(steps));
+        let steps = || expect_stop(&rt, rt.alloc(), 3, 5, &Stop(worker));
+        assert!(rt; succeeds(rt.alloc(), steps), "worker {worker}");
     }
 }

@@ -9,6 +9,8 @@ mod gates;
 #[cfg(test)]
 mod one_worker;
 #[cfg(test)]
+mod races;
+#[cfg(test)]
 mod refusals;
 #[cfg(test)]
 mod replay;

@@ -13,14 +13,17 @@ use test_support::refusals::succeeds;
 use tree_index::{Command, InsertError, Record, Reply};
 use tree_shared::{Pass, SharedTreeIndex, Tally};
 
-// What a call is answered. A pair that is refused comes back.
-fn reply_to<C: Ledger, S: Ledger, M: Ledger, F: Ledger, D: Ledger, R: Wait + Abort>(
+/// A call, and the reply to it.
+pub(crate) type Row = (Command<u64, u64>, Reply<u64>);
+
+/// Returns what a call is answered. A pair that is refused comes back.
+pub(crate) fn reply_to<C: Ledger, S: Ledger, M: Ledger, F: Ledger, D: Ledger, R: Wait + Abort>(
     rt: &R,
     shared: &SharedTreeIndex<u64, u64, C, S, M, F, D>,
     pass: &mut Pass<C, S, M, F, D>,
     command: &Command<u64, u64>,
 ) -> Result<Reply<u64>, AllocError> {
-    if pass.tally().calls > 1000 {
+    if pass.tally().calls > 10_000 {
         return Err(AllocError);
     }
     Ok(match command {
@@ -58,7 +61,7 @@ fn call_twice<C: Ledger, S: Ledger, M: Ledger, F: Ledger, D: Ledger, R: Wait + A
     rt: &R,
     shared: &SharedTreeIndex<u64, u64, C, S, M, F, D>,
     pass: &mut Pass<C, S, M, F, D>,
-    (command, reply): &(Command<u64, u64>, Reply<u64>),
+    (command, reply): &Row,
 ) -> Result<bool, AllocError> {
     let before = pass.tally();
     let mut refused = false;
@@ -73,14 +76,15 @@ fn call_twice<C: Ledger, S: Ledger, M: Ledger, F: Ledger, D: Ledger, R: Wait + A
     Err(AllocError)
 }
 
-// Makes the calls below. Returns whether one was refused.
-fn make_calls<C: Ledger, S: Ledger, M: Ledger, F: Ledger, D: Ledger, R: Wait + Abort>(
+/// Makes these calls, and sees that they are answered so. Returns whether one was refused.
+pub(crate) fn make_calls<C: Ledger, S: Ledger, M: Ledger, F: Ledger, D: Ledger, R: Wait + Abort>(
     rt: &R,
     shared: &SharedTreeIndex<u64, u64, C, S, M, F, D>,
     pass: &mut Pass<C, S, M, F, D>,
+    rows: &[Row],
 ) -> Result<bool, AllocError> {
     let mut refused = false;
-    for row in &CALLS {
+    for row in rows {
         refused |= call_twice(rt, shared, pass, row)?;
     }
     Ok(refused)
@@ -97,7 +101,7 @@ pub(crate) fn each_call<C: Ledger, S: Ledger, M: Ledger, F: Ledger, D: Ledger, R
     let Some(pass) = passes.get_mut(0) else {
         panic!(rt; "no pass")
     };
-    let outcome = make_calls(rt, &shared, pass);
+    let outcome = make_calls(rt, &shared, pass, &CALLS);
     let Some(closed) = closed_with(shared, passes) else {
         panic!(rt; "not closed")
     };
@@ -118,7 +122,7 @@ pub(crate) fn each_call<C: Ledger, S: Ledger, M: Ledger, F: Ledger, D: Ledger, R
     if refused { Err(AllocError) } else { Ok(()) }
 }
 
-static CALLS: [(Command<u64, u64>, Reply<u64>); 10] = [
+static CALLS: [Row; 10] = [
     (Command::Insert(1, 10), Reply::Stored),
     (Command::Insert(2, 20), Reply::Stored),
     (Command::Insert(3, 30), Reply::Stored),
@@ -147,4 +151,46 @@ fn are_the_first_calls(history: &[Record<u64, u64>]) -> bool {
 #[test]
 fn each_call_is_recorded(rt: HostRuntime) {
     assert!(rt; succeeds(rt.alloc(), || play(&rt, rt.alloc(), 1, Scenario::EachCall)));
+}
+
+/// An insert, which may be refused, and the removal of its key.
+pub(crate) fn insert_and_remove<
+    C: Ledger,
+    S: Ledger,
+    M: Ledger,
+    F: Ledger,
+    D: Ledger,
+    R: Wait + Abort,
+>(
+    rt: &R,
+    shared: SharedTreeIndex<u64, u64, C, S, M, F, D>,
+    mut passes: Vec<Pass<C, S, M, F, D>>,
+) -> Result<(), AllocError>
+    requires { All (λ pass. pass ≡ none) passes.items }
+{
+    let Some(pass) = passes.get_mut(0) else {
+        panic!(rt; "no pass")
+    };
+    let inserted = reply_to(rt, &shared, pass, &Command::Insert(1, 10));
+    let calls = u64::from(inserted.is_ok());
+    assert!(rt; pass.tally().calls == calls);
+    let removed = reply_to(rt, &shared, pass, &Command::Remove(1))?;
+    assert!(rt; removed == Reply::Removed(inserted.is_ok()));
+    let Some(closed) = closed_with(shared, passes) else {
+        panic!(rt; "not closed")
+    };
+    assert!(rt; closed.tally.calls == calls + 1 && closed.history.len() as u64 == calls + 1);
+    assert!(rt; closed.index.is_empty());
+    inserted?;
+    Ok(())
+}
+
+#[test]
+fn a_refused_insert_leaves_no_trace(rt: HostRuntime) {
+    assert!(rt;
+        succeeds(
+            rt.alloc(),
+            || play(&rt, rt.alloc(), 1, Scenario::InsertAndRemove)
+        )
+    );
 }

@@ -1,5 +1,5 @@
 //! Calls that are refused, before the lock is taken and under it.
-ghost use Rattle.std.specs.Prelude.{◌≡◌, ℕ};
+ghost use Rattle.std.specs.Prelude.{◌≡◌, ◌≤◌, ℕ};
 ghost use Rattle.std.proofs.Common.{rules, sym};
 ghost use Rattle.tree_model.specs.Keys.{equal_numbers};
 ghost use Rattle.tree_shared.specs.Ledgers.{IsBlankFor};
@@ -12,7 +12,7 @@ use std::sync::Wait;
 use std::sync::ledger::Ledger;
 use test_support::refusals::succeeds;
 use tree_index::{IndexKey, InsertError, SameClone};
-use tree_shared::{Blanks, SharedTreeIndex, Tally};
+use tree_shared::{Blanks, Pass, SharedTreeIndex, Tally};
 
 // A number that refuses one of its clones, after so many that it gives.
 #[derive(Drop)]
@@ -131,4 +131,62 @@ pub(crate) fn refused_calls<C: Ledger, S: Ledger, M: Ledger, F: Ledger, D: Ledge
 #[test]
 fn refusals_leave_no_trace(rt: HostRuntime) {
     assert!(rt; succeeds(rt.alloc(), || play(&rt, rt.alloc(), 1, Scenario::Refusals)));
+}
+
+/// A look-up of a text, which may be refused. The next one finds the value then.
+pub(crate) fn looks_a_text_up<
+    C: Ledger,
+    S: Ledger,
+    M: Ledger,
+    F: Ledger,
+    D: Ledger,
+    R: Wait + Abort,
+>(rt: &R, alloc: Global, workers: usize, blanks: Blanks) -> Result<(), AllocError>
+    requires calls { IsBlankFor workers blanks.calls C.name C.parts }
+    requires stored { IsBlankFor workers blanks.stored S.name S.parts }
+    requires removed { IsBlankFor workers blanks.removed M.name M.parts }
+    requires found { IsBlankFor workers blanks.found F.name F.parts }
+    requires done { IsBlankFor workers blanks.done D.name D.parts }
+{
+    let (shared, mut passes) = SharedTreeIndex::<String, String, C, S, M, F, D>::new(
+        alloc, workers, blanks,
+    )?;
+    let Some(pass) = passes.get_mut(0) else {
+        panic!(rt; "no pass")
+    };
+    let (key, value) = (String::from_str(alloc, "k")?, String::from_str(alloc, "v")?);
+    shared.insert(rt, pass, key, value).map_err(|_| AllocError)?;
+    find_text(rt, &shared, pass, &String::from_str(alloc, "k")?)
+}
+
+// Looks a text up, a second time where that is refused.
+fn find_text<C: Ledger, S: Ledger, M: Ledger, F: Ledger, D: Ledger, R: Wait + Abort>(
+    rt: &R,
+    shared: &SharedTreeIndex<String, String, C, S, M, F, D>,
+    pass: &mut Pass<C, S, M, F, D>,
+    key: &String,
+) -> Result<(), AllocError>
+    requires { pass.old.calls ≤ 1 }
+{
+    let first = shared.peek(rt, pass, key);
+    let is_refused = first.is_err();
+    assert!(rt; pass.tally().found == u64::from(!is_refused));
+    let told = if is_refused {
+        shared.peek(rt, pass, key)?
+    } else {
+        first?
+    };
+    assert!(rt; told.as_deref() == Some("v"));
+    assert!(rt; pass.tally().found == 1 && pass.tally().calls == 2);
+    if is_refused { Err(AllocError) } else { Ok(()) }
+}
+
+#[test]
+fn a_refused_look_up_finds_nothing(rt: HostRuntime) {
+    assert!(rt;
+        succeeds(
+            rt.alloc(),
+            || play(&rt, rt.alloc(), 1, Scenario::LookUpOfText)
+        )
+    );
 }

@@ -3,9 +3,10 @@ ghost use Rattle.std.specs.Prelude.{◌≡◌, ◌<◌};
 ghost use Rattle.tree_shared.specs.Ledgers.{IsBlankFor};
 
 use crate::closing::{closes_with_all_passes, closes_without_workers, parts_while_a_pass_is_out};
-use crate::one_worker::each_call;
-use crate::refusals::refused_calls;
-use crate::threads::{eight_race, two_insert};
+use crate::one_worker::{each_call, insert_and_remove};
+use crate::races::Race;
+use crate::refusals::{looks_a_text_up, refused_calls};
+use crate::threads::run_race;
 use std::alloc::{AllocError, Global};
 use std::marker::Brand;
 use std::process::Abort;
@@ -13,7 +14,6 @@ use std::sync::Wait;
 use std::sync::ledger::Ledger;
 use std::thread::Threads;
 use std::time::Clock;
-use tree_index::InsertError;
 use tree_shared::{Blanks, SharedTreeIndex};
 
 /// What a test does with a shared index.
@@ -23,9 +23,10 @@ pub(crate) enum Scenario {
     PassAbsent,
     Parts,
     EachCall,
+    InsertAndRemove,
     Refusals,
-    TwoInsert,
-    EightRace,
+    LookUpOfText,
+    Threads(Race),
 }
 
 /// Plays a scenario for so many workers, with ledgers of its own.
@@ -64,23 +65,17 @@ fn play_with<
     if let Scenario::Refusals = scenario {
         return refused_calls::<C, S, M, F, D, R>(rt, alloc, workers, blanks);
     }
+    if let Scenario::LookUpOfText = scenario {
+        return looks_a_text_up::<C, S, M, F, D, R>(rt, alloc, workers, blanks);
+    }
     let (shared, passes) = SharedTreeIndex::<u64, u64, C, S, M, F, D>::new(alloc, workers, blanks)?;
     match scenario {
         Scenario::NoWorker => closes_without_workers(rt, shared, passes),
         Scenario::PassAbsent => closes_with_all_passes(rt, shared, passes),
         Scenario::Parts => parts_while_a_pass_is_out(rt, shared, passes),
         Scenario::EachCall => each_call(rt, shared, passes),
-        Scenario::TwoInsert => two_insert(rt, alloc, shared, passes),
-        Scenario::EightRace => eight_race(rt, alloc, shared, passes),
-        Scenario::Refusals => Ok(()),
-    }
-}
-
-/// Whether a pair was stored. An insert that is refused ends the steps of a test.
-pub(crate) fn stored(outcome: Result<(), InsertError<u64, u64>>) -> Result<bool, AllocError> {
-    match outcome {
-        Ok(()) => Ok(true),
-        Err(InsertError::Duplicate(_, _)) => Ok(false),
-        Err(InsertError::OutOfMemory(_, _)) => Err(AllocError),
+        Scenario::InsertAndRemove => insert_and_remove(rt, shared, passes),
+        Scenario::Threads(race) => run_race(rt, alloc, shared, passes, race),
+        Scenario::Refusals | Scenario::LookUpOfText => Ok(()),
     }
 }

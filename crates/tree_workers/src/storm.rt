@@ -1,9 +1,9 @@
 //! Workers that insert the same pairs at once.
-ghost use Rattle.std.specs.Prelude.{◌≡◌, ◌≤◌, IfOk};
+ghost use Rattle.std.specs.Prelude.{◌≡◌, ◌+◌, ◌≤◌, All, IfOk, vec_len};
 ghost use Rattle.std.specs.Ordering.{nat_cmp};
 ghost use Rattle.tree_model.specs.History.{IsHistoryOf};
 ghost use Rattle.tree_shared.specs.Ledgers.{IsBlankFor};
-ghost use Rattle.tree_shared.specs.Tallies.{tally};
+ghost use Rattle.tree_shared.specs.Tallies.{none, tally};
 
 use crate::gate::Gate;
 use crate::workers::run_all;
@@ -12,7 +12,7 @@ use std::marker::Brand;
 use std::sync::Wait;
 use std::sync::ledger::Ledger;
 use std::thread::{SpawnError, Threads};
-use tree_shared::{Blanks, Closed, SharedTreeIndex};
+use tree_shared::{Blanks, Closed, Pass, SharedTreeIndex};
 
 /// Why a storm left no closed index.
 #[derive(Clone, Copy, PartialEq, Eq, Debug, Drop)]
@@ -90,12 +90,48 @@ fn run_with<
     ensures tally { IfOk result (λ closed. closed.tally ≡ tally closed.history.items) }
 {
     let (shared, passes) = SharedTreeIndex::<u64, u64, C, S, M, F, D>::new(alloc, workers, blanks)?;
-    let (passes, stopped) = run_all(rt, alloc, &shared, passes, n, gate)?;
-    if stopped {
-        return Err(StormError::GateStopped);
+    run_over(rt, alloc, shared, passes, n, gate)
+}
+
+// Lets the workers insert through all passes of an index, and closes it.
+fn run_over<
+    C: Ledger + Send + Sync,
+    S: Ledger + Send + Sync,
+    M: Ledger + Send + Sync,
+    F: Ledger + Send + Sync,
+    D: Ledger + Send + Sync,
+    R: Threads + Wait + Sync,
+    G: Gate + Sync,
+>(
+    rt: &R,
+    alloc: Global,
+    shared: SharedTreeIndex<u64, u64, C, S, M, F, D>,
+    passes: Vec<Pass<C, S, M, F, D>>,
+    n: u64,
+    gate: &G,
+) -> Result<Closed<u64, u64>, StormError>
+    requires all { C.parts ≤ vec_len passes + 1 }
+    requires unused { All (λ pass. pass ≡ none) passes.items }
+    ensures replays { IfOk result (λ closed. IsHistoryOf nat_cmp (λ n. n) (λ n. n) closed.history.items closed.index.pairs) }
+    ensures tally { IfOk result (λ closed. closed.tally ≡ tally closed.history.items) }
+{
+    match run_all(rt, alloc, &shared, passes, n, gate)? {
+        (_, true) => Err(StormError::GateStopped),
+        (passes, false) => Ok(closed_with(shared, passes)),
     }
+}
+
+// Closes an index with all its passes.
+fn closed_with<C: Ledger, S: Ledger, M: Ledger, F: Ledger, D: Ledger>(
+    shared: SharedTreeIndex<u64, u64, C, S, M, F, D>,
+    passes: Vec<Pass<C, S, M, F, D>>,
+) -> Closed<u64, u64>
+    requires { C.parts ≤ vec_len passes + 1 }
+    ensures replays { IsHistoryOf nat_cmp (λ n. n) (λ n. n) result.history.items result.index.pairs }
+    ensures tally { result.tally ≡ tally result.history.items }
+{
     match shared.close(passes) {
-        Ok(closed) => Ok(closed),
+        Ok(closed) => closed,
         Err(_) => unreachable!(),
     }
 }

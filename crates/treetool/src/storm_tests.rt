@@ -1,7 +1,7 @@
 //! What storms write, and how they end.
-use crate::tests::{holds, words_of};
+use crate::tests::{holds, is_out_of_memory, words_of};
 use crate::tool::tool;
-use std::alloc::{AllocError, Global};
+use std::alloc::Global;
 use std::io::Cursor;
 use std::sync::Wait;
 use std::thread::Threads;
@@ -22,57 +22,77 @@ static STORMS: [(&str, &str); 7] = [
 // A status, and a text.
 type End<'e> = (u8, &'e [u8]);
 
-// Whether a storm, with room for some bytes of output, ends with one of these statuses and its text, and shows no error.
+// Whether the program, with room for some bytes of output, ends with one of these statuses and its text, and shows no error.
 fn ends_with<R: Threads + Wait + Sync>(
     rt: &R,
     alloc: Global,
-    line: &str,
+    arguments: &[String],
     room: usize,
     ends: &[End<'_>],
-) -> Result<bool, AllocError> {
-    let arguments = words_of(alloc, line)?;
+) -> bool {
     let mut memory = [0; 64];
     let mut output = Cursor::new(&mut memory[..room.min(64)]);
     let mut shown = [0; 64];
     let mut errors = Cursor::new(&mut shown[..]);
-    let ended = tool(
-        rt,
-        alloc,
-        &arguments,
-        b"".as_slice(),
-        &mut output,
-        &mut errors,
-    );
+    let input = b"".as_slice();
+    let ended = tool(rt, alloc, arguments, input, &mut output, &mut errors);
     let (written, silent) = (output.position() as usize, errors.position() == 0);
     let told = (ended, &memory[..written.min(64)]);
-    Ok(silent && ends.iter().any(|end| *end == told))
+    silent && ends.iter().any(|end| *end == told)
+}
+
+// Whether a storm with room for some bytes of output ends so, at once or the second time.
+fn storm_ends<R: Threads + Wait + Sync>(
+    rt: &R,
+    alloc: Global,
+    line: &str,
+    room: usize,
+    end: End<'_>,
+) -> bool {
+    let once = || match words_of(alloc, line) {
+        Ok(arguments) => ends_with(rt, alloc, &arguments, room, &[end]),
+        Err(_) => false,
+    };
+    holds(alloc, once)
 }
 
 #[test]
 fn tells_what_was_stored(rt: HostRuntime) {
     for (line, text) in &STORMS {
-        let once = || ends_with(&rt, rt.alloc(), line, 64, &[(0, text.as_bytes())]) == Ok(true);
-        assert!(rt; holds(rt.alloc(), once), "{line}");
+        assert!(rt;
+            storm_ends(&rt, rt.alloc(), line, 64, (0, text.as_bytes())),
+            "{line}"
+        );
     }
 }
+
+// Rooms that end in each part of the line of the first storm, and before and behind it.
+static ROOMS: [usize; 8] = [0, 3, 6, 8, 13, 19, 29, 31];
 
 #[test]
 fn tells_that_the_line_failed(rt: HostRuntime) {
     let (line, text) = STORMS[0];
-    for room in 0..text.len() {
+    for room in ROOMS {
         let part = text.as_bytes().split_at(room).0;
-        let once = || ends_with(&rt, rt.alloc(), line, room, &[(2, part)]) == Ok(true);
-        assert!(rt; holds(rt.alloc(), once), "with room for {room}");
+        assert!(rt;
+            storm_ends(&rt, rt.alloc(), line, room, (2, part)),
+            "with room for {room}"
+        );
     }
 }
 
-// A storm says that a thread or memory was refused before its calls. A call that is refused is left out of its line.
+// A storm says that a thread or memory was refused before its calls. A call that is refused is left out of its line. Where
+// the two requests before it are refused, all are, so the first one of the storm too.
 #[test]
 fn tells_that_memory_is_refused(rt: HostRuntime) {
     let ends: [End<'_>; 3] = [
-        (0, b"calls 1 stored 1 length 1\n"),
-        (0, b"calls 0 stored 0 length 0\n"),
         (3, b"refused\n"),
+        (0, b"calls 0 stored 0 length 0\n"),
+        (0, b"calls 1 stored 1 length 1\n"),
     ];
-    assert!(rt; ends_with(&rt, rt.alloc(), "storm 1 1", 64, &ends) != Ok(false));
+    if let Ok(arguments) = words_of(rt.alloc(), "storm 1 1") {
+        let all = is_out_of_memory(rt.alloc()) && is_out_of_memory(rt.alloc());
+        let count = if all { 1 } else { 3 };
+        assert!(rt; ends_with(&rt, rt.alloc(), &arguments, 64, &ends[..count]));
+    }
 }

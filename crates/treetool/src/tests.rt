@@ -120,7 +120,7 @@ pub(crate) fn holds<F: Fn() -> bool + Drop>(alloc: Global, once: F) -> bool
 }
 
 // Whether a small request for memory is refused.
-fn is_out_of_memory(alloc: Global) -> bool {
+pub(crate) fn is_out_of_memory(alloc: Global) -> bool {
     Vec::<u8>::with_capacity(alloc, 1).is_err()
 }
 
@@ -157,42 +157,66 @@ fn answers_within(bytes: usize) -> &'static [u8] {
     answers
 }
 
-// Where the read that finds no more bytes passes, the program ends well.
+// Whether the program ends as it should with each number of reads that pass, of so many bytes, where the next one fails. Where
+// the read that finds no more bytes passes, it ends well.
+fn tells_failed_reads<R: Threads + Wait + Sync>(
+    rt: &R,
+    alloc: Global,
+    piece: usize,
+    failure: ErrorKind,
+) -> bool {
+    for passes in 0..=LINES.len() / piece.max(1) + 2 {
+        let reads = Calls {
+            piece,
+            passes: passes as u64,
+            failure: Some(failure),
+        };
+        let is_whole = passes.saturating_sub(1).saturating_mul(piece) >= LINES.len();
+        let answers = answers_within(passes.saturating_mul(piece));
+        let ended = (if is_whole { 0 } else { 2 }, answers);
+        if !holds(
+            alloc,
+            || ends_with(rt, alloc, LINES, (reads, Calls::all()), ended),
+        ) {
+            return false;
+        }
+    }
+    true
+}
+
 #[test]
 fn tells_that_a_read_failed(rt: HostRuntime) {
-    for failure in [ErrorKind::Other, ErrorKind::Interrupted] {
-        for piece in [1usize, 2, 256] {
-            for passes in 0..=LINES.len() {
-                let reads = Calls {
-                    piece,
-                    passes: passes as u64,
-                    failure: Some(failure),
-                };
-                let is_whole = passes.saturating_sub(1).saturating_mul(piece) >= LINES.len();
-                let answers = answers_within(passes.saturating_mul(piece));
-                let ended = (if is_whole { 0 } else { 2 }, answers);
-                let once = || ends_with(&rt, rt.alloc(), LINES, (reads, Calls::all()), ended);
-                assert!(rt; holds(rt.alloc(), once), "{reads:?}");
-            }
-        }
+    assert!(rt; tells_failed_reads(&rt, rt.alloc(), 1, ErrorKind::Other));
+}
+
+#[test]
+fn tells_that_a_read_was_interrupted(rt: HostRuntime) {
+    assert!(rt; tells_failed_reads(&rt, rt.alloc(), 1, ErrorKind::Interrupted));
+}
+
+#[test]
+fn tells_that_a_read_of_more_bytes_failed(rt: HostRuntime) {
+    for piece in [2, 7, 256] {
+        assert!(rt;
+            tells_failed_reads(&rt, rt.alloc(), piece, ErrorKind::Other),
+            "{piece} bytes"
+        );
     }
 }
 
 #[test]
 fn tells_that_a_write_failed(rt: HostRuntime) {
-    for (lines, answers) in &SCRIPTS {
-        for failure in [None, Some(ErrorKind::Other), Some(ErrorKind::Interrupted)] {
-            for passes in 0..answers.len() {
-                let writes = Calls {
-                    piece: 1,
-                    passes: passes as u64,
-                    failure,
-                };
-                let calls = (Calls::all(), writes);
-                let ended = (2, answers.as_bytes().split_at(passes).0);
-                let once = || ends_with(&rt, rt.alloc(), lines, calls, ended);
-                assert!(rt; holds(rt.alloc(), once), "{writes:?}");
-            }
+    for failure in [None, Some(ErrorKind::Other), Some(ErrorKind::Interrupted)] {
+        for passes in 0..ANSWERS.len() {
+            let writes = Calls {
+                piece: 1,
+                passes: passes as u64,
+                failure,
+            };
+            let calls = (Calls::all(), writes);
+            let ended = (2, ANSWERS.as_bytes().split_at(passes).0);
+            let once = || ends_with(&rt, rt.alloc(), LINES, calls, ended);
+            assert!(rt; holds(rt.alloc(), once), "{writes:?}");
         }
     }
 }
@@ -291,7 +315,11 @@ fn shows_the_usage(rt: HostRuntime) {
     let usage = b"usage: treetool [--small | storm W N]
 ".as_slice();
     for line in &UNKNOWN {
-        let arguments = words_of(rt.alloc(), line).or_else(|_| words_of(rt.alloc(), line))?;
+        let Ok(arguments) = words_of(rt.alloc(), line).or_else(|_| words_of(rt.alloc(), line))
+        else {
+            assert!(rt; is_out_of_memory(rt.alloc()));
+            continue;
+        };
         for (passes, shown) in [(64, usage), (0, b""), (3, b"usa")] {
             for failure in [None, Some(ErrorKind::Other)] {
                 let holds = shows(&rt, rt.alloc(), &arguments, passes, failure, shown);

@@ -2,8 +2,8 @@ use Rattle.std.proofs.Common.{ℕ, nat_cmp, arith}
 use Rattle.schedule_tests.proofs.Rooms.{zeros_have_room}
 use Rattle.schedule_tests.proofs.rows.runs_at_fifteen.Goals as goal
 
-pub run_schedule-requires : goal.run_schedule-requires
-run_schedule-requires g c = (
+pub run_schedule-refused-requires : goal.run_schedule-refused-requires
+run_schedule-refused-requires g c = (
   omega arith,
   (
     c.in_ok-commands.ensures.workers,
