@@ -48,11 +48,6 @@ module _ {K V : Type 0} {LEN : ℕ} (cmp : K → K → Ordering) where
     chain = raised.chained part.front part.back part.chain;
   }))
 
-  pub raised_result : {E : Type 0} (level : ℕ) (a b : TreeArenas K V LEN) (root : ℕ) (result : Result ℕ E) → IsPart cmp level a root → IfOk result (λ id. RaisesRoot cmp level a b root id × (level + 1 < 2 ^ 64))
-      → IfOk result (λ id. IsPlanted cmp (level + 1) b id)
-  raised_result level a b root (Ok id) part raised = raised_planted level a b root id part raised.0
-  raised_result level a b root (Err e) part raised = tt
-
 -- a retired root that was split is a leaf node over one leaf
 no_nodes_below : {K : Type 0} {LEN : ℕ} (nodes : Slab (NodeOf K LEN)) (ids : List ℕ) → flat_map (nodes_at 0 nodes) ids ≡ []
 no_nodes_below nodes [] = refl
@@ -126,6 +121,10 @@ module _ {K V : Type 0} {LEN : ℕ} (cmp : K → K → Ordering) where
   planted_by_split level old new id last (Err e) high part done err = inl (unchanged_part level old new err cmp id part)
 
 -- what a call told of a root
+pub told_err : {A E : Type 0} {P : Type 0} (result : Result A E) → P → OnErr result P
+told_err (Ok a) holds = tt
+told_err (Err e) holds = holds
+
 pub not_so : {P : Type 0} (told : Bool) → told ≡ false → (IsTrue told ↔ P) → P → ⊥
 not_so told denied says there = let holds : told ≡ true = says.1 there in absurd (false≢true (sym denied ∙ holds))
 

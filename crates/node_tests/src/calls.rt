@@ -1,14 +1,9 @@
 //! Each call on a few pairs.
-ghost use Rattle.tree_array.specs.Length.{IsLen};
-
-use crate::planted::{Numbers, internal_root, replants};
-use crate::steps::{Step, Told, take};
-use std::alloc::{AllocError, Global};
+use crate::plays::plays;
+use crate::steps::{Step, Told};
 use std::ops::Bound;
-use std::process::Abort;
 use test_support::refusals::succeeds;
 use tree_array::array::RemoveResult;
-use tree_node::leaf_node::LeafNodeOf;
 
 /// The calls of a root over one empty leaf, until the root is retired. If the root is an internal node, the leaf node
 /// below it is dropped then.
@@ -46,59 +41,10 @@ static FEW: [Step; 29] = [
 
 static LEAF_NODE: [Step; 2] = [Step::Shape(1, 1, 1), Step::Marks(false, false)];
 
-static RETIRED_LEAF_NODE: [Step; 1] = [Step::Marks(true, false)];
-
-static INTERNAL_NODE: [Step; 2] = [Step::Shape(2, 1, 2), Step::Marks(false, true)];
-
-static RETIRED_INTERNAL_NODE: [Step; 1] = [Step::Marks(true, true)];
-
-fn leaf_node<const LEN: usize>(rt: &impl Abort, alloc: Global) -> Result<(), AllocError>
-    requires { IsLen LEN }
-{
-    let mut tree = Numbers::<LeafNodeOf<u64, LEN>, 1, LEN>::new(alloc)?;
-    take(rt, &mut tree, &[&LEAF_NODE, &FEW, &RETIRED_LEAF_NODE])
-}
-
-#[test]
-fn a_leaf_node_answers(rt: HostRuntime) {
-    assert!(rt;
-        succeeds(rt.alloc(), || {
-            leaf_node::<15>(&rt, rt.alloc())?;
-            leaf_node::<7>(&rt, rt.alloc())
-        })
-    );
-}
-
-fn internal_node<const LEN: usize>(rt: &impl Abort, alloc: Global) -> Result<(), AllocError>
-    requires { IsLen LEN }
-{
-    let mut tree = internal_root::<LEN>(alloc)?;
-    take(
-        rt,
-        &mut tree,
-        &[&INTERNAL_NODE, &FEW, &RETIRED_INTERNAL_NODE],
-    )
-}
-
-#[test]
-fn an_internal_node_answers(rt: HostRuntime) {
-    assert!(rt;
-        succeeds(rt.alloc(), || {
-            internal_node::<15>(&rt, rt.alloc())?;
-            internal_node::<7>(&rt, rt.alloc())
-        })
-    );
-}
-
-/// The only pair is gone.
-static RETIRED: [Step; 3] = [
-    Step::Insert(10, 10, 1, Told::Success),
-    Step::Remove(10, 10, 1, RemoveResult::Retired),
-    Step::Shape(1, 0, 1),
-];
-
-/// The retired leaf node got an empty leaf, and takes pairs again.
-static PLANTED_ANEW: [Step; 6] = [
+/// A retired leaf node gets an empty leaf, and takes pairs again.
+static PLANTED_ANEW: [Step; 8] = [
+    Step::Marks(true, false),
+    Step::SplitRoot(true),
     Step::Shape(1, 1, 1),
     Step::Marks(false, false),
     Step::Ends(None, None),
@@ -107,28 +53,38 @@ static PLANTED_ANEW: [Step; 6] = [
     Step::Ends(Some((20, 22)), Some((20, 22))),
 ];
 
-fn retired_root<const LEN: usize>(rt: &impl Abort, alloc: Global) -> Result<(), AllocError>
-    requires { IsLen LEN }
-{
-    let mut tree = Numbers::<LeafNodeOf<u64, LEN>, 1, LEN>::new(alloc)?;
-    plants_anew(rt, &mut tree)
-}
+static INTERNAL_NODE: [Step; 3] = [
+    Step::SplitRoot(false),
+    Step::Shape(2, 1, 2),
+    Step::Marks(false, true),
+];
 
-fn plants_anew<const LEN: usize>(
-    rt: &impl Abort,
-    tree: &mut Numbers<LeafNodeOf<u64, LEN>, 1, LEN>,
-) -> Result<(), AllocError> {
-    take(rt, tree, &[&RETIRED])?;
-    assert!(rt; replants(tree)?);
-    take(rt, tree, &[&PLANTED_ANEW])
+static RETIRED_INTERNAL_NODE: [Step; 1] = [Step::Marks(true, true)];
+
+#[test]
+fn a_leaf_node_answers(rt: HostRuntime) {
+    assert!(rt;
+        succeeds(rt.alloc(), || {
+            plays::<15>(&rt, rt.alloc(), &[&LEAF_NODE, &FEW, &PLANTED_ANEW])?;
+            plays::<7>(&rt, rt.alloc(), &[&LEAF_NODE, &FEW, &PLANTED_ANEW])
+        })
+    );
 }
 
 #[test]
-fn a_retired_root_is_planted_anew(rt: HostRuntime) {
+fn an_internal_node_answers(rt: HostRuntime) {
     assert!(rt;
         succeeds(rt.alloc(), || {
-            retired_root::<15>(&rt, rt.alloc())?;
-            retired_root::<7>(&rt, rt.alloc())
+            plays::<15>(
+                &rt,
+                rt.alloc(),
+                &[&INTERNAL_NODE, &FEW, &RETIRED_INTERNAL_NODE]
+            )?;
+            plays::<7>(
+                &rt,
+                rt.alloc(),
+                &[&INTERNAL_NODE, &FEW, &RETIRED_INTERNAL_NODE]
+            )
         })
     );
 }

@@ -8,10 +8,12 @@ mod growth;
 #[cfg(test)]
 mod planted;
 #[cfg(test)]
-mod refusals;
+mod plays;
 #[cfg(test)]
 mod searches;
 #[cfg(test)]
 mod steps;
+#[cfg(test)]
+mod stored;
 #[cfg(test)]
 mod texts;

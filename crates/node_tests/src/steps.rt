@@ -1,12 +1,20 @@
 //! Calls of a tree in rows, each with its answer.
-use crate::planted::Numbers;
+ghost use Rattle.std.specs.Ordering.{nat_cmp};
+ghost use Rattle.node_tests.specs.Planted.{IsPlanted};
+
+use crate::planted::{
+    Through, ends, has_pairs, insert, marks, near, remove_if, remove_range, shape, split_last,
+};
 use crate::searches::finds;
+use crate::stored::Stored;
 use Told::{Duplicate, Full, Success};
 use std::alloc::AllocError;
 use std::ops::Bound;
 use std::process::Abort;
 use tree_array::array::{InsertResult, RemoveResult};
 use tree_calls::node_calls::NodeCalls;
+use tree_leaf::arena::NodeId;
+use tree_node::node::ArenasOf;
 
 /// What an insert answers. The pair that isn't stored comes back.
 pub(crate) enum Told {
@@ -37,8 +45,12 @@ pub(crate) enum Step {
     Remove(u64, u64, u64, RemoveResult),
     /// Removes the keys from the first to the last, whatever their values.
     Drain(u64, u64, RemoveResult),
-    /// Removes the keys within both bounds. The root has this many children left.
+    /// Removes the keys within both bounds, which there are none of. The root has this many children left.
     RemoveRange(Bound<u64>, Bound<u64>, usize),
+    /// Makes room in the unbounded child of the root, if it can.
+    SplitLast(bool),
+    /// Splits the root, and tells whether it keeps its number.
+    SplitRoot(bool),
     /// Finds the value at a key.
     Find(u64, Option<u64>),
     /// Finds the first pair and the last one.
@@ -49,96 +61,206 @@ pub(crate) enum Step {
     Shape(usize, usize, usize),
     /// Tells whether the root is retired, and whether its child may take its place.
     Marks(bool, bool),
-}
-
-/// Takes the steps of each list in turn, each with its answer. `Err` if memory is refused.
-pub(crate) fn take<N: NodeCalls<u64, LEN> + Drop, const LEVEL: usize, const LEN: usize>(
-    rt: &impl Abort,
-    tree: &mut Numbers<N, LEVEL, LEN>,
-    lists: &[&[Step]],
-) -> Result<(), AllocError> {
-    for steps in lists {
-        for step in *steps {
-            assert!(rt; answers(tree, step)?);
-        }
-    }
-    Ok(())
+    /// Cleans up at the root, which is the last step. Tells whether the root moved, and counts the leaves and the nodes.
+    CleanUp(bool, usize, usize),
 }
 
 /// Whether the tree answers the step so.
-fn answers<N: NodeCalls<u64, LEN> + Drop, const LEVEL: usize, const LEN: usize>(
-    tree: &mut Numbers<N, LEVEL, LEN>,
+pub(crate) fn answers<N: NodeCalls<u64, LEN>, const LEVEL: usize, const LEN: usize>(
+    rt: &impl Abort,
+    arenas: &mut ArenasOf<u64, u64, LEN>,
+    root: NodeId,
     step: &Step,
-) -> Result<bool, AllocError> {
+    stored: &mut Stored,
+) -> Result<bool, AllocError>
+    requires kind { N.StandsAt LEVEL }
+    requires planted { IsPlanted nat_cmp LEVEL arenas.old root }
+    ensures { IsPlanted nat_cmp LEVEL arenas.new root }
+{
     match step {
         Step::Insert(first, last, more, told) => {
-            inserts::<false, N, LEVEL, LEN>(tree, *first, *last, *more, told)
+            inserts::<N, false, LEVEL, LEN>(rt, arenas, root, (*first, *last, *more), told, stored)
         }
         Step::Upsert(first, last, more, told) => {
-            inserts::<true, N, LEVEL, LEN>(tree, *first, *last, *more, told)
+            inserts::<N, true, LEVEL, LEN>(rt, arenas, root, (*first, *last, *more), told, stored)
         }
-        Step::Remove(first, last, more, told) => Ok(removes(tree, *first, *last, *more, told)),
-        Step::Drain(first, last, told) => Ok(drains(tree, *first, *last, told)),
+        Step::Remove(first, last, more, told) => Ok(removes::<N, LEVEL, LEN>(
+            arenas,
+            root,
+            (*first, *last, *more),
+            told,
+            stored,
+        )),
+        Step::Drain(first, last, told) => {
+            Ok(drains::<N, LEVEL, LEN>(arenas, root, (*first, *last), told, stored))
+        }
         Step::RemoveRange(low, high, left) => {
-            Ok(tree.remove_range(low.as_ref(), high.as_ref()) == *left)
+            let children = remove_range::<N, LEVEL, LEN>(arenas, root, low.as_ref(), high.as_ref());
+            Ok(children == *left)
         }
-        Step::Find(key, val) => Ok(finds(tree, *key, *val)),
-        Step::Ends(first, last) => Ok(tree.first() == *first && tree.last() == *last),
-        Step::Near(key, below, above) => {
-            Ok(tree.near::<true>(*key) == *below && tree.near::<false>(*key) == *above)
-        }
-        Step::Shape(depth, leaves, nodes) => Ok(tree.shape() == (*depth, *leaves, *nodes)),
-        Step::Marks(retired, cleanup) => Ok(tree.marks() == (*retired, *cleanup)),
+        Step::SplitLast(told) => Ok(splits::<N, LEVEL, LEN>(rt, arenas, root, stored)? == *told),
+        _ => Ok(shows::<N, LEVEL, LEN>(arenas, root, step)),
     }
 }
 
-/// Whether each insert answers this. Where memory is refused, the pair comes back.
-fn inserts<const UPSERT: bool, N: NodeCalls<u64, LEN> + Drop, const LEVEL: usize, const LEN: usize>(
-    tree: &mut Numbers<N, LEVEL, LEN>,
-    first: u64,
-    last: u64,
-    more: u64,
+/// Whether the tree answers a step so that changes nothing.
+fn shows<N: NodeCalls<u64, LEN>, const LEVEL: usize, const LEN: usize>(
+    arenas: &ArenasOf<u64, u64, LEN>,
+    root: NodeId,
+    step: &Step,
+) -> bool
+    requires kind { N.StandsAt LEVEL }
+    requires planted { IsPlanted nat_cmp LEVEL arenas.now root }
+{
+    match step {
+        Step::Find(key, val) => finds::<Through<N, LEVEL>, _>(arenas, root, *key, *val),
+        Step::Ends(first, last) => ends::<N, LEVEL, LEN>(arenas, root) == (*first, *last),
+        Step::Near(key, below, above) => {
+            near::<N, true, LEVEL, LEN>(arenas, root, *key) == *below
+                && near::<N, false, LEVEL, LEN>(arenas, root, *key) == *above
+        }
+        Step::Shape(depth, leaves, nodes) => {
+            shape::<N, LEVEL, LEN>(arenas, root) == (*depth, *leaves, *nodes)
+        }
+        Step::Marks(retired, cleanup) => {
+            marks::<N, LEVEL, LEN>(arenas, root) == (*retired, *cleanup)
+        }
+        _ => false,
+    }
+}
+
+/// Whether each insert answers this.
+fn inserts<N: NodeCalls<u64, LEN>, const UPSERT: bool, const LEVEL: usize, const LEN: usize>(
+    rt: &impl Abort,
+    arenas: &mut ArenasOf<u64, u64, LEN>,
+    root: NodeId,
+    keys: (u64, u64, u64),
     told: &Told,
-) -> Result<bool, AllocError> {
+    stored: &mut Stored,
+) -> Result<bool, AllocError>
+    requires kind { N.StandsAt LEVEL }
+    requires planted { IsPlanted nat_cmp LEVEL arenas.old root }
+    ensures { IsPlanted nat_cmp LEVEL arenas.new root }
+{
+    let (first, last, more) = keys;
     for key in first..=last {
         let val = key.wrapping_add(more);
-        match tree.insert::<UPSERT>(key, val) {
-            Ok(answer) if answer == told.of(key, val) => {}
-            Err(back) if back == (key, val) => return Err(AllocError),
-            _ => return Ok(false),
+        let answer = inserts_twice::<N, UPSERT, LEVEL, LEN>(rt, arenas, root, (key, val), stored)?;
+        if answer != told.of(key, val) {
+            return Ok(false);
+        }
+        if answer == InsertResult::Success {
+            stored.put(key, val)?;
         }
     }
     Ok(true)
 }
 
-/// Whether each removal answers this.
-fn removes<N: NodeCalls<u64, LEN> + Drop, const LEVEL: usize, const LEN: usize>(
-    tree: &mut Numbers<N, LEVEL, LEN>,
-    first: u64,
-    last: u64,
-    more: u64,
+/// Inserts a pair, at once or the second time.
+fn inserts_twice<N: NodeCalls<u64, LEN>, const UPSERT: bool, const LEVEL: usize, const LEN: usize>(
+    rt: &impl Abort,
+    arenas: &mut ArenasOf<u64, u64, LEN>,
+    root: NodeId,
+    pair: (u64, u64),
+    stored: &mut Stored,
+) -> Result<InsertResult<u64, u64>, AllocError>
+    requires kind { N.StandsAt LEVEL }
+    requires planted { IsPlanted nat_cmp LEVEL arenas.old root }
+    ensures { IsPlanted nat_cmp LEVEL arenas.new root }
+{
+    if let Ok(answer) = inserts_once::<N, UPSERT, LEVEL, LEN>(rt, arenas, root, pair, stored) {
+        return Ok(answer);
+    }
+    stored.refuse();
+    inserts_once::<N, UPSERT, LEVEL, LEN>(rt, arenas, root, pair, stored)
+}
+
+/// Inserts a pair. One that is refused comes back, and the tree has the pairs that it had.
+fn inserts_once<N: NodeCalls<u64, LEN>, const UPSERT: bool, const LEVEL: usize, const LEN: usize>(
+    rt: &impl Abort,
+    arenas: &mut ArenasOf<u64, u64, LEN>,
+    root: NodeId,
+    pair: (u64, u64),
+    stored: &Stored,
+) -> Result<InsertResult<u64, u64>, AllocError>
+    requires kind { N.StandsAt LEVEL }
+    requires planted { IsPlanted nat_cmp LEVEL arenas.old root }
+    ensures { IsPlanted nat_cmp LEVEL arenas.new root }
+{
+    match insert::<N, u64, u64, UPSERT, LEVEL, LEN>(arenas, root, pair.0, pair.1) {
+        Ok(answer) => Ok(answer),
+        Err(back) => {
+            assert!(rt; back == pair && has_pairs(arenas, LEVEL, root, stored.pairs()));
+            Err(AllocError)
+        }
+    }
+}
+
+/// Makes room in the unbounded child of the root, at once or the second time. Returns whether it could.
+fn splits<N: NodeCalls<u64, LEN>, const LEVEL: usize, const LEN: usize>(
+    rt: &impl Abort,
+    arenas: &mut ArenasOf<u64, u64, LEN>,
+    root: NodeId,
+    stored: &mut Stored,
+) -> Result<bool, AllocError>
+    requires kind { N.StandsAt LEVEL }
+    requires planted { IsPlanted nat_cmp LEVEL arenas.old root }
+    ensures { IsPlanted nat_cmp LEVEL arenas.new root }
+{
+    if let Ok(split) = split_last::<LEVEL, LEN>(arenas, root) {
+        return Ok(split);
+    }
+    assert!(rt; has_pairs(arenas, LEVEL, root, stored.pairs()));
+    stored.refuse();
+    split_last::<LEVEL, LEN>(arenas, root)
+}
+
+/// Whether each removal answers this, in descending order.
+fn removes<N: NodeCalls<u64, LEN>, const LEVEL: usize, const LEN: usize>(
+    arenas: &mut ArenasOf<u64, u64, LEN>,
+    root: NodeId,
+    keys: (u64, u64, u64),
     told: &RemoveResult,
-) -> bool {
+    stored: &mut Stored,
+) -> bool
+    requires kind { N.StandsAt LEVEL }
+    requires planted { IsPlanted nat_cmp LEVEL arenas.old root }
+    ensures { IsPlanted nat_cmp LEVEL arenas.new root }
+{
+    let (first, last, more) = keys;
     for key in (first..=last).rev() {
         let val = key.wrapping_add(more);
-        if tree.remove_if(&key, |at_key| *at_key == val) != *told {
+        let answer = remove_if::<N, u64, u64, _, LEVEL, LEN>(arenas, root, &key, |at_key| {
+            *at_key == val
+        });
+        if answer != *told {
             return false;
+        }
+        if answer != RemoveResult::Fail {
+            stored.remove(key);
         }
     }
     true
 }
 
 /// Whether each removal of a key answers this, in ascending order.
-fn drains<N: NodeCalls<u64, LEN> + Drop, const LEVEL: usize, const LEN: usize>(
-    tree: &mut Numbers<N, LEVEL, LEN>,
-    first: u64,
-    last: u64,
+fn drains<N: NodeCalls<u64, LEN>, const LEVEL: usize, const LEN: usize>(
+    arenas: &mut ArenasOf<u64, u64, LEN>,
+    root: NodeId,
+    keys: (u64, u64),
     told: &RemoveResult,
-) -> bool {
-    for key in first..=last {
-        if tree.remove_if(&key, |_| true) != *told {
+    stored: &mut Stored,
+) -> bool
+    requires kind { N.StandsAt LEVEL }
+    requires planted { IsPlanted nat_cmp LEVEL arenas.old root }
+    ensures { IsPlanted nat_cmp LEVEL arenas.new root }
+{
+    for key in keys.0..=keys.1 {
+        let answer = remove_if::<N, u64, u64, _, LEVEL, LEN>(arenas, root, &key, |_| true);
+        if answer != *told {
             return false;
         }
+        stored.remove(key);
     }
     true
 }

@@ -1,13 +1,18 @@
 //! A leaf node of texts.
-use crate::planted::Planted;
+ghost use Rattle.std.specs.Prelude.{string_cmp};
+ghost use Rattle.node_tests.specs.Planted.{IsPlanted};
+
+use crate::planted::{first_root, insert, remove_if};
 use std::alloc::{AllocError, Global};
 use std::process::Abort;
 use test_support::refusals::succeeds;
 use tree_array::array::{InsertResult, RemoveResult};
+use tree_leaf::arena::NodeId;
 use tree_node::leaf_node::LeafNode;
+use tree_node::node::Arenas;
 
-/// A leaf node with texts as its keys and values.
-type Texts = Planted<String, String, LeafNode<String>, 1, 15>;
+/// Arenas of texts, whose leaf nodes are called.
+type Texts = Arenas<String, String>;
 
 /// A call on a key, and what it should answer.
 enum Step {
@@ -30,55 +35,84 @@ static STEPS: [Step; 6] = [
 
 /// What an insert answers. `Err` if memory is refused.
 fn inserted(
-    tree: &mut Texts,
+    texts: &mut Texts,
+    root: NodeId,
     alloc: Global,
     key: &str,
     val: &str,
-) -> Result<InsertResult<String, String>, AllocError> {
+) -> Result<InsertResult<String, String>, AllocError>
+    requires { IsPlanted string_cmp 1 texts.old root }
+    ensures { IsPlanted string_cmp 1 texts.new root }
+{
     let key = String::from_str(alloc, key)?;
     let val = String::from_str(alloc, val)?;
-    match tree.insert::<false>(key, val) {
-        Ok(answer) => Ok(answer),
-        Err(_) => Err(AllocError),
-    }
+    let answer = insert::<LeafNode<String>, String, String, false, 1, 15>(texts, root, key, val);
+    answer.map_err(|_| AllocError)
 }
 
 /// What a removal answers, on the condition that the value is this one.
 fn removed(
-    tree: &mut Texts,
+    texts: &mut Texts,
+    root: NodeId,
     alloc: Global,
     key: &str,
     val: Option<&str>,
-) -> Result<RemoveResult, AllocError> {
+) -> Result<RemoveResult, AllocError>
+    requires { IsPlanted string_cmp 1 texts.old root }
+    ensures { IsPlanted string_cmp 1 texts.new root }
+{
     let key = String::from_str(alloc, key)?;
-    Ok(tree.remove_if(&key, |at_key| match val {
-        Some(val) => at_key.as_str() == val,
-        None => true,
-    }))
+    Ok(remove_if::<LeafNode<String>, String, String, _, 1, 15>(
+        texts,
+        root,
+        &key,
+        |at_key| match val {
+            Some(val) => at_key.as_str() == val,
+            None => true,
+        },
+    ))
 }
 
-/// Whether the tree answers the step so.
-fn answers(tree: &mut Texts, alloc: Global, step: &Step) -> Result<bool, AllocError> {
+/// Whether the leaf node answers the step so.
+fn answers(texts: &mut Texts, root: NodeId, alloc: Global, step: &Step) -> Result<bool, AllocError>
+    requires { IsPlanted string_cmp 1 texts.old root }
+    ensures { IsPlanted string_cmp 1 texts.new root }
+{
     match step {
         Step::Stores(key, val) => {
-            Ok(matches!(inserted(tree, alloc, key, val)?, InsertResult::Success))
+            Ok(matches!(
+                inserted(texts, root, alloc, key, val)?,
+                InsertResult::Success
+            ))
         }
-        Step::IsFull(key, val) => match inserted(tree, alloc, key, val)? {
+        Step::IsFull(key, val) => match inserted(texts, root, alloc, key, val)? {
             InsertResult::Full(full_key, full_val) => {
                 Ok(full_key.as_str() == *key && full_val.as_str() == *val)
             }
             _ => Ok(false),
         },
-        Step::Removes(key, val, told) => Ok(removed(tree, alloc, key, *val)? == *told),
+        Step::Removes(key, val, told) => Ok(removed(texts, root, alloc, key, *val)? == *told),
     }
 }
 
-fn leaf_node(rt: &impl Abort, alloc: Global) -> Result<(), AllocError> {
-    let mut tree = Texts::new(alloc)?;
+fn takes_steps(
+    rt: &impl Abort,
+    texts: &mut Texts,
+    root: NodeId,
+    alloc: Global,
+) -> Result<(), AllocError>
+    requires { IsPlanted string_cmp 1 texts.old root }
+{
     for step in &STEPS {
-        assert!(rt; answers(&mut tree, alloc, step)?);
+        assert!(rt; answers(texts, root, alloc, step)?);
     }
     Ok(())
+}
+
+fn leaf_node(rt: &impl Abort, alloc: Global) -> Result<(), AllocError> {
+    let mut texts = Texts::new(alloc);
+    let root = first_root(&mut texts)?;
+    takes_steps(rt, &mut texts, root, alloc)
 }
 
 #[test]

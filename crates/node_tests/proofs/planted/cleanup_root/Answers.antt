@@ -5,5 +5,4 @@ use Rattle.node_tests.proofs.planted.cleanup_root.Goals as goal
 
 pub lower-requires : goal.lower-requires
 lower-requires g c =
-    let planted = c.tree.invariant.1 in
-    (search fits, (search fits, (g.N.NodeCalls.above_leaves g.row.LEVEL c.tree.invariant.0, (planted_given nat_cmp _ _ g.row.LEVEL planted, planted_kind nat_cmp _ _ g.row.LEVEL planted))))
+    (search fits, (search fits, (c.requires.node, (planted_given nat_cmp c.args.arenas.now c.args.root g.row.LEVEL c.requires.planted, planted_kind nat_cmp c.args.arenas.now c.args.root g.row.LEVEL c.requires.planted))))

@@ -1,9 +1,0 @@
-use Rattle.node_tests.proofs.Plantings.{planted_stands}
-use Rattle.std.proofs.Common.{rules}
-use Rattle.std.specs.Ordering.{nat_cmp}
-use Rattle.tree_node.proofs.Sizes.{fits}
-use Rattle.node_tests.proofs.planted.Numbers+N+LEVEL+LEN.shape.Goals as goal
-
-pub depth-depth-requires : goal.depth-depth-requires
-depth-depth-requires g c κs within =
-    (within, (search rules, (search rules, (search rules, (search fits, (search fits, (c.self.invariant.0, planted_stands nat_cmp c.self.inside.arenas c.self.inside.root g.row.LEVEL c.self.invariant.1)))))))

@@ -1,0 +1,6 @@
+use Rattle.std.specs.Ordering.{nat_cmp}
+use Rattle.node_tests.specs.Planted.{IsPlanted}
+use Rattle.node_tests.proofs.steps.removes.Given as goal
+
+abbrev pub invariant-loop-key : goal.invariant-loop-key
+invariant-loop-key g l = IsPlanted nat_cmp g.row.LEVEL l.arenas l.root
