@@ -1,5 +1,5 @@
 -- What stands under the root of a tree that a test plants, and what calls leave of it.
-use Rattle.std.proofs.Common.{◌≡◌, ◌↔◌, ◌⊎◌, Bool, IsTrue, true, false, Result, Ok, Err, IfOk, OnErr, ℕ, zero, suc, ◌<◌, ◌+◌, ◌^◌, ◌≤◌, [], ◌∷◌, Some, None, refl, sym, ◌∙◌, arith, add-one, ap, map, flat_map, IsSome, List, inl, inr}
+use Rattle.std.proofs.Common.{◌≡◌, ◌↔◌, ◌⊎◌, Bool, IsTrue, true, false, Result, Ok, Err, IfOk, OnErr, ℕ, zero, suc, ◌<◌, ◌+◌, ◌≤◌, [], ◌∷◌, Some, None, refl, sym, ◌∙◌, arith, add-one, ap, map, flat_map, IsSome, List, inl, inr}
 use Rattle.std.specs.declared.cmp.Ordering.{Ordering}
 use Rattle.std.proofs.lemmas.Bool.{cases_eq, false≢true}
 use Rattle.slab.specs.Slab.{Slab, get}

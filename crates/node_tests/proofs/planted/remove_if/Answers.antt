@@ -1,6 +1,5 @@
 use Rattle.node_tests.proofs.Plantings.{planted_given, planted_by_removal}
 use Rattle.std.proofs.Common.{rules}
-use Rattle.std.specs.Ordering.{nat_cmp}
 use Rattle.tree_node.proofs.Sizes.{fits}
 use Rattle.node_tests.proofs.planted.remove_if.Goals as goal
 
