@@ -1,7 +1,6 @@
 //! The program over streams that are passed to it.
-ghost use Rattle.std.specs.Prelude.{◌≡◌, ◌⊎◌, Some, None, map};
+ghost use Rattle.std.specs.Prelude.{◌≡◌, ◌⊎◌, [], Some, None, map};
 ghost use Rattle.std.specs.String.{string_bytes};
-ghost use Rattle.tree_array.specs.Length.{IsLen};
 ghost use Rattle.treetool.specs.Storm.{RunsStorm};
 ghost use Rattle.treetool.specs.Tasks.{AsksFor};
 ghost use Rattle.treetool.specs.Tool.{AnswersLines, RefusesArguments};
@@ -13,7 +12,7 @@ use std::alloc::Global;
 use std::io::{Read, Write};
 use std::sync::Wait;
 use std::thread::Threads;
-use tree_index::TreeIndexOf;
+use tree_index::{SmallTreeIndex, TreeIndex, TreeIndexOf};
 use tree_lines::{run_lines, write_whole};
 
 /// Runs the program and returns its exit status. `arguments` are those after the program's name.
@@ -70,8 +69,8 @@ fn run_tool<R: Threads + Wait + Sync, I: Read, W: Write, E: Write>(
         × (input.new ≡ input.old) × (output.new ≡ output.old) }
 {
     match task_of(arguments) {
-        Some(Task::Lines) => answer_lines::<_, _, 15>(alloc, input, output),
-        Some(Task::SmallLines) => answer_lines::<_, _, 7>(alloc, input, output),
+        Some(Task::Lines) => answer_lines(alloc, input, output),
+        Some(Task::SmallLines) => answer_small_lines(alloc, input, output),
         Some(Task::Storm(workers, pairs)) => run_storm(rt, alloc, workers, pairs, output),
         None => {
             let _ = write_whole(errors, b"usage: treetool [--small | storm W N]\n");
@@ -80,18 +79,36 @@ fn run_tool<R: Threads + Wait + Sync, I: Read, W: Write, E: Write>(
     }
 }
 
-// Answers lines over a new index, and returns the exit status.
-fn answer_lines<I: Read, W: Write, const LEN: usize>(
-    alloc: Global,
+// Answers lines over a new index of fifteen pairs a leaf, and returns the exit status.
+fn answer_lines<I: Read, W: Write>(alloc: Global, input: &mut I, output: &mut W) -> u8
+    ensures { AnswersLines 15 (I.remaining input.old) (I.remaining input.new)
+        (W.contents output.old) (W.contents output.new) result }
+{
+    let mut index: TreeIndex<u64, u64> = TreeIndex::new(alloc);
+    answer_over(&mut index, input, output)
+}
+
+// Does so over one of seven pairs a leaf.
+fn answer_small_lines<I: Read, W: Write>(alloc: Global, input: &mut I, output: &mut W) -> u8
+    ensures { AnswersLines 7 (I.remaining input.old) (I.remaining input.new)
+        (W.contents output.old) (W.contents output.new) result }
+{
+    let mut index: SmallTreeIndex<u64, u64> = SmallTreeIndex::new(alloc);
+    answer_over(&mut index, input, output)
+}
+
+// Answers lines over an index that is empty, and returns the exit status. An index of a number of slots that isn't known can
+// be borrowed here, but not made: its proof would have to say how large it is.
+fn answer_over<I: Read, W: Write, const LEN: usize>(
+    index: &mut TreeIndexOf<u64, u64, LEN>,
     input: &mut I,
     output: &mut W,
 ) -> u8
-    requires { IsLen LEN }
+    requires { index.old.pairs ≡ [] }
     ensures { AnswersLines LEN (I.remaining input.old) (I.remaining input.new)
         (W.contents output.old) (W.contents output.new) result }
 {
-    let mut index: TreeIndexOf<u64, u64, LEN> = TreeIndexOf::new(alloc);
-    match run_lines(&mut index, input, output) {
+    match run_lines(index, input, output) {
         Ok(()) => 0,
         Err(_) => 2,
     }

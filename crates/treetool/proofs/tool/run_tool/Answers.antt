@@ -29,7 +29,7 @@ returns-in-Some-SmallLines g c =
     let asked = c.in-Some-SmallLines.ensures in
     record {
       lines = λ asks. asks_no_other words (Some told) (Some Lines) asked asks (λ same. cc (same, is));
-      small = λ asks. (c.answer_lines-in-Some-SmallLines.ensures, refl);
+      small = λ asks. (c.answer_small_lines.ensures, refl);
       storm = λ workers pairs asks. asks_no_other words (Some told) (Some (Storm workers pairs)) asked asks (λ same. cc (same, is));
       usage = λ asks. asks_no_other words (Some told) None asked asks (λ same. cc (same));
     }
