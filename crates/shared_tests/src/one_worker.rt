@@ -1,25 +1,34 @@
 //! The calls of one worker.
 ghost use Rattle.std.specs.Prelude.{◌≡◌, All};
+ghost use Rattle.tree_shared.specs.Ledgers.{IsBlankFor};
 ghost use Rattle.tree_shared.specs.Tallies.{none};
 
 use crate::closed::closed_with;
 use crate::scenario::{Scenario, play};
-use std::alloc::AllocError;
+use std::alloc::{AllocError, Global};
 use std::ops::Bound;
 use std::process::Abort;
 use std::sync::Wait;
 use std::sync::ledger::Ledger;
 use test_support::refusals::succeeds;
 use tree_index::{Command, InsertError, Record, Reply};
-use tree_shared::{Pass, SharedTreeIndex, Tally};
+use tree_shared::{Blanks, Pass, SharedTreeIndex, SharedTreeIndexOf, Tally};
 
 /// A call, and the reply to it.
 pub(crate) type Row = (Command<u64, u64>, Reply<u64>);
 
 /// Returns what a call is answered. A pair that is refused comes back.
-pub(crate) fn reply_to<C: Ledger, S: Ledger, M: Ledger, F: Ledger, D: Ledger, R: Wait + Abort>(
+pub(crate) fn reply_to<
+    C: Ledger,
+    S: Ledger,
+    M: Ledger,
+    F: Ledger,
+    D: Ledger,
+    R: Wait + Abort,
+    const LEN: usize,
+>(
     rt: &R,
-    shared: &SharedTreeIndex<u64, u64, C, S, M, F, D>,
+    shared: &SharedTreeIndexOf<u64, u64, C, S, M, F, D, LEN>,
     pass: &mut Pass<C, S, M, F, D>,
     command: &Command<u64, u64>,
 ) -> Result<Reply<u64>, AllocError> {
@@ -57,9 +66,17 @@ pub(crate) fn reply_to<C: Ledger, S: Ledger, M: Ledger, F: Ledger, D: Ledger, R:
 
 // Makes a call, at once or the second time. Returns whether it was refused once; the pass counted nothing then. `Err` if it
 // was refused both times.
-fn call_twice<C: Ledger, S: Ledger, M: Ledger, F: Ledger, D: Ledger, R: Wait + Abort>(
+fn call_twice<
+    C: Ledger,
+    S: Ledger,
+    M: Ledger,
+    F: Ledger,
+    D: Ledger,
+    R: Wait + Abort,
+    const LEN: usize,
+>(
     rt: &R,
-    shared: &SharedTreeIndex<u64, u64, C, S, M, F, D>,
+    shared: &SharedTreeIndexOf<u64, u64, C, S, M, F, D, LEN>,
     pass: &mut Pass<C, S, M, F, D>,
     (command, reply): &Row,
 ) -> Result<bool, AllocError> {
@@ -77,9 +94,17 @@ fn call_twice<C: Ledger, S: Ledger, M: Ledger, F: Ledger, D: Ledger, R: Wait + A
 }
 
 /// Makes these calls, and sees that they are answered so. Returns whether one was refused.
-pub(crate) fn make_calls<C: Ledger, S: Ledger, M: Ledger, F: Ledger, D: Ledger, R: Wait + Abort>(
+pub(crate) fn make_calls<
+    C: Ledger,
+    S: Ledger,
+    M: Ledger,
+    F: Ledger,
+    D: Ledger,
+    R: Wait + Abort,
+    const LEN: usize,
+>(
     rt: &R,
-    shared: &SharedTreeIndex<u64, u64, C, S, M, F, D>,
+    shared: &SharedTreeIndexOf<u64, u64, C, S, M, F, D, LEN>,
     pass: &mut Pass<C, S, M, F, D>,
     rows: &[Row],
 ) -> Result<bool, AllocError> {
@@ -91,9 +116,17 @@ pub(crate) fn make_calls<C: Ledger, S: Ledger, M: Ledger, F: Ledger, D: Ledger, 
 }
 
 /// Each call, and the history that they leave, in which a refused call has no record.
-pub(crate) fn each_call<C: Ledger, S: Ledger, M: Ledger, F: Ledger, D: Ledger, R: Wait + Abort>(
+pub(crate) fn each_call<
+    C: Ledger,
+    S: Ledger,
+    M: Ledger,
+    F: Ledger,
+    D: Ledger,
+    R: Wait + Abort,
+    const LEN: usize,
+>(
     rt: &R,
-    shared: SharedTreeIndex<u64, u64, C, S, M, F, D>,
+    shared: SharedTreeIndexOf<u64, u64, C, S, M, F, D, LEN>,
     mut passes: Vec<Pass<C, S, M, F, D>>,
 ) -> Result<(), AllocError>
     requires { All (λ pass. pass ≡ none) passes.items }
@@ -148,9 +181,32 @@ fn are_the_first_calls(history: &[Record<u64, u64>]) -> bool {
     history.len() <= CALLS.len()
 }
 
+/// The same with seven pairs a leaf.
+pub(crate) fn each_small_call<
+    C: Ledger,
+    S: Ledger,
+    M: Ledger,
+    F: Ledger,
+    D: Ledger,
+    R: Wait + Abort,
+>(rt: &R, alloc: Global, workers: usize, blanks: Blanks) -> Result<(), AllocError>
+    requires calls { IsBlankFor workers blanks.calls C.name C.parts }
+    requires stored { IsBlankFor workers blanks.stored S.name S.parts }
+    requires removed { IsBlankFor workers blanks.removed M.name M.parts }
+    requires found { IsBlankFor workers blanks.found F.name F.parts }
+    requires done { IsBlankFor workers blanks.done D.name D.parts }
+{
+    let (shared, passes) = SharedTreeIndexOf::<u64, u64, C, S, M, F, D, 7>::new(
+        alloc, workers, blanks,
+    )?;
+    each_call(rt, shared, passes)
+}
+
 #[test]
 fn each_call_is_recorded(rt: HostRuntime) {
-    assert!(rt; succeeds(rt.alloc(), || play(&rt, rt.alloc(), 1, Scenario::EachCall)));
+    for scenario in [Scenario::EachCall, Scenario::EachSmallCall] {
+        assert!(rt; succeeds(rt.alloc(), || play(&rt, rt.alloc(), 1, scenario)));
+    }
 }
 
 /// An insert, which may be refused, and the removal of its key.
