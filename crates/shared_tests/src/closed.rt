@@ -5,13 +5,13 @@ ghost use Rattle.tree_model.specs.History.{IsHistoryOf};
 ghost use Rattle.tree_shared.specs.Tallies.{sum_of};
 
 use std::sync::ledger::Ledger;
-use tree_shared::{ClosedOf, Pass, SharedTreeIndexOf};
+use tree_shared::{Closed, Pass, SharedTreeIndex};
 
 /// Closes a shared index with its passes. Returns `None` if a pass is absent; the index and the passes end then.
-pub fn closed_with<C: Ledger, S: Ledger, M: Ledger, F: Ledger, D: Ledger, const LEN: usize>(
-    shared: SharedTreeIndexOf<u64, u64, C, S, M, F, D, LEN>,
+pub fn closed_with<C: Ledger, S: Ledger, M: Ledger, F: Ledger, D: Ledger>(
+    shared: SharedTreeIndex<u64, u64, C, S, M, F, D>,
     passes: Vec<Pass<C, S, M, F, D>>,
-) -> Option<ClosedOf<u64, u64, LEN>>
+) -> Option<Closed<u64, u64>>
     ensures replays { IfSome result (λ closed. IsHistoryOf nat_cmp (λ n. n) (λ n. n) closed.history.items closed.index.pairs) }
     ensures tally { IfSome result (λ closed. closed.tally ≡ sum_of passes.items) }
     ensures missing { IfNone result (vec_len passes + 1 < C.parts) }

@@ -1,18 +1,17 @@
 //! The calls of one worker.
 ghost use Rattle.std.specs.Prelude.{◌≡◌, All};
-ghost use Rattle.tree_shared.specs.Ledgers.{IsBlankFor};
 ghost use Rattle.tree_shared.specs.Tallies.{none};
 
 use crate::closed::closed_with;
 use crate::scenario::{Scenario, play};
-use std::alloc::{AllocError, Global};
+use std::alloc::AllocError;
 use std::ops::Bound;
 use std::process::Abort;
 use std::sync::Wait;
 use std::sync::ledger::Ledger;
 use test_support::refusals::succeeds;
 use tree_index::{Command, InsertError, Record, Reply};
-use tree_shared::{Blanks, Pass, SharedTreeIndex, SharedTreeIndexOf, Tally};
+use tree_shared::{Pass, SharedTreeIndex, SharedTreeIndexOf, Tally};
 
 /// A call, and the reply to it.
 pub(crate) type Row = (Command<u64, u64>, Reply<u64>);
@@ -115,34 +114,19 @@ pub(crate) fn make_calls<
     Ok(refused)
 }
 
-/// Each call, and the history that they leave, in which a refused call has no record.
-pub(crate) fn each_call<
-    C: Ledger,
-    S: Ledger,
-    M: Ledger,
-    F: Ledger,
-    D: Ledger,
-    R: Wait + Abort,
-    const LEN: usize,
->(
-    rt: &R,
-    shared: SharedTreeIndexOf<u64, u64, C, S, M, F, D, LEN>,
-    mut passes: Vec<Pass<C, S, M, F, D>>,
-) -> Result<(), AllocError>
-    requires { All (λ pass. pass ≡ none) passes.items }
-{
-    let Some(pass) = passes.get_mut(0) else {
-        panic!(rt; "no pass")
-    };
-    let outcome = make_calls(rt, &shared, pass, &CALLS);
-    let Some(closed) = closed_with(shared, passes) else {
-        panic!(rt; "not closed")
-    };
-    assert!(rt; are_the_first_calls(&closed.history));
-    assert!(rt; closed.tally.calls == closed.history.len() as u64);
+/// What the calls below leave, as far as they were answered: a history in which a refused call has no record.
+fn expect_recorded(
+    rt: &impl Abort,
+    history: &[Record<u64, u64>],
+    tally: Tally,
+    is_empty: bool,
+    outcome: Result<bool, AllocError>,
+) -> Result<(), AllocError> {
+    assert!(rt; are_the_first_calls(history));
+    assert!(rt; tally.calls == history.len() as u64);
     let refused = outcome?;
     assert!(rt;
-        closed.tally
+        tally
             == Tally {
                 calls: 10,
                 stored: 4,
@@ -151,8 +135,27 @@ pub(crate) fn each_call<
                 done: 2
             }
     );
-    assert!(rt; closed.index.is_empty());
+    assert!(rt; is_empty);
     if refused { Err(AllocError) } else { Ok(()) }
+}
+
+/// Each call.
+pub(crate) fn each_call<C: Ledger, S: Ledger, M: Ledger, F: Ledger, D: Ledger, R: Wait + Abort>(
+    rt: &R,
+    shared: SharedTreeIndex<u64, u64, C, S, M, F, D>,
+    mut passes: Vec<Pass<C, S, M, F, D>>,
+) -> Result<(), AllocError>
+    requires { All (λ pass. pass ≡ none) passes.items }
+{
+    let Some(pass) = passes.get_mut(0) else {
+        panic!(rt; "no pass")
+    };
+    let outcome = make_calls(rt, &shared, pass, &CALLS);
+    let Ok(closed) = shared.close(passes) else {
+        panic!(rt; "not closed")
+    };
+    let is_empty = closed.index.is_empty();
+    expect_recorded(rt, &closed.history, closed.tally, is_empty, outcome)
 }
 
 static CALLS: [Row; 10] = [
@@ -181,7 +184,7 @@ fn are_the_first_calls(history: &[Record<u64, u64>]) -> bool {
     history.len() <= CALLS.len()
 }
 
-/// The same with seven pairs a leaf.
+/// Each call over an index of seven pairs a leaf.
 pub(crate) fn each_small_call<
     C: Ledger,
     S: Ledger,
@@ -189,17 +192,22 @@ pub(crate) fn each_small_call<
     F: Ledger,
     D: Ledger,
     R: Wait + Abort,
->(rt: &R, alloc: Global, workers: usize, blanks: Blanks) -> Result<(), AllocError>
-    requires calls { IsBlankFor workers blanks.calls C.name C.parts }
-    requires stored { IsBlankFor workers blanks.stored S.name S.parts }
-    requires removed { IsBlankFor workers blanks.removed M.name M.parts }
-    requires found { IsBlankFor workers blanks.found F.name F.parts }
-    requires done { IsBlankFor workers blanks.done D.name D.parts }
+>(
+    rt: &R,
+    shared: SharedTreeIndexOf<u64, u64, C, S, M, F, D, 7>,
+    mut passes: Vec<Pass<C, S, M, F, D>>,
+) -> Result<(), AllocError>
+    requires { All (λ pass. pass ≡ none) passes.items }
 {
-    let (shared, passes) = SharedTreeIndexOf::<u64, u64, C, S, M, F, D, 7>::new(
-        alloc, workers, blanks,
-    )?;
-    each_call(rt, shared, passes)
+    let Some(pass) = passes.get_mut(0) else {
+        panic!(rt; "no pass")
+    };
+    let outcome = make_calls(rt, &shared, pass, &CALLS);
+    let Ok(closed) = shared.close(passes) else {
+        panic!(rt; "not closed")
+    };
+    let is_empty = closed.index.is_empty();
+    expect_recorded(rt, &closed.history, closed.tally, is_empty, outcome)
 }
 
 #[test]

@@ -14,7 +14,7 @@ use std::sync::Wait;
 use std::sync::ledger::Ledger;
 use std::thread::Threads;
 use std::time::Clock;
-use tree_shared::{Blanks, SharedTreeIndex};
+use tree_shared::{Blanks, SharedTreeIndex, SharedTreeIndexOf};
 
 /// What a test does with a shared index.
 #[derive(Clone, Copy)]
@@ -70,7 +70,10 @@ fn play_with<
         return looks_a_text_up::<C, S, M, F, D, R>(rt, alloc, workers, blanks);
     }
     if let Scenario::EachSmallCall = scenario {
-        return each_small_call::<C, S, M, F, D, R>(rt, alloc, workers, blanks);
+        let (shared, passes) = SharedTreeIndexOf::<u64, u64, C, S, M, F, D, 7>::new(
+            alloc, workers, blanks,
+        )?;
+        return each_small_call(rt, shared, passes);
     }
     let (shared, passes) = SharedTreeIndex::<u64, u64, C, S, M, F, D>::new(alloc, workers, blanks)?;
     match scenario {
