@@ -1,5 +1,5 @@
 //! The texts of cursors.
-use crate::walks::index_of;
+use crate::walks::fill;
 use std::alloc::{AllocError, Global};
 use std::fmt::Debug;
 use std::ops::Bound;
@@ -36,7 +36,8 @@ static PLACES: [(&[(u64, u64)], u64, &str); 3] = [
 
 fn texts_of_places_steps(rt: &impl Abort, alloc: Global) -> Result<(), AllocError> {
     for (pairs, key, text) in &PLACES {
-        let index = index_of(alloc, pairs)?;
+        let mut index: TreeIndex<u64, u64> = TreeIndex::new(alloc);
+        fill(&mut index, pairs)?;
         expect_text(rt, alloc, &index.locate(key), text)?;
     }
     Ok(())
@@ -67,7 +68,8 @@ fn expect_begun(
 }
 
 fn texts_of_begun_walks_steps(rt: &impl Abort, alloc: Global) -> Result<(), AllocError> {
-    let index = index_of(alloc, &[(1, 10), (3, 4)])?;
+    let mut index: TreeIndex<u64, u64> = TreeIndex::new(alloc);
+    fill(&mut index, &[(1, 10), (3, 4)])?;
     expect_begun(rt, alloc, &index)
 }
 
@@ -77,7 +79,7 @@ fn shows_both_ends(rt: HostRuntime) {
 }
 
 fn text_of_nothing_steps(rt: &impl Abort, alloc: Global) -> Result<(), AllocError> {
-    let index = index_of(alloc, &[])?;
+    let index: TreeIndex<u64, u64> = TreeIndex::new(alloc);
     let range = index.range((Bound::Unbounded, Bound::Unbounded));
     expect_text(rt, alloc, &range, "Range { forward: None, backward: None }")
 }

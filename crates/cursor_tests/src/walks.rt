@@ -4,7 +4,9 @@ use std::alloc::{AllocError, Global};
 use std::ops::Bound;
 use std::process::Abort;
 use test_support::refusals::succeeds;
-use tree_index::{Cursor, Iter, Move, ProximityOf, Range, TreeIndex, run_moves};
+use tree_index::{
+    Cursor, IterOf, Move, ProximityOf, RangeOf, SmallTreeIndex, TreeIndex, TreeIndexOf, run_moves,
+};
 
 /// Pairs in the order in which they come, the bounds of a range over them, its moves with their answers, and then those
 /// of the cursor over all pairs that is made of it.
@@ -208,33 +210,31 @@ static ROWS: [Row; 11] = [
     },
 ];
 
-/// An index with these pairs.
-pub(crate) fn index_of(
-    alloc: Global,
+/// Stores pairs in an index.
+pub(crate) fn fill<const LEN: usize>(
+    index: &mut TreeIndexOf<u64, u64, LEN>,
     pairs: &[(u64, u64)],
-) -> Result<TreeIndex<u64, u64>, AllocError> {
-    let mut index = TreeIndex::new(alloc);
+) -> Result<(), AllocError> {
     for (key, value) in pairs {
         if index.insert_sync(*key, *value).is_err() {
             return Err(AllocError);
         }
     }
-    Ok(index)
+    Ok(())
 }
 
-/// An index with the keys from the first to the last, each its own value.
-pub(crate) fn ascending(
-    alloc: Global,
+/// Stores the keys from the first to the last, each its own value.
+fn ascend<const LEN: usize>(
+    index: &mut TreeIndexOf<u64, u64, LEN>,
     first: u64,
     last: u64,
-) -> Result<TreeIndex<u64, u64>, AllocError> {
-    let mut index = TreeIndex::new(alloc);
+) -> Result<(), AllocError> {
     for key in first..=last {
         if index.insert_sync(key, key).is_err() {
             return Err(AllocError);
         }
     }
-    Ok(index)
+    Ok(())
 }
 
 /// Makes the moves, which answer so.
@@ -285,43 +285,44 @@ fn makes_at_once<'t, C: Cursor<'t, u64, u64>>(
 }
 
 /// Makes the moves of a row by a range, and those of the cursor that is made of it.
-fn expect_stepped(rt: &impl Abort, range: Range<'_, u64, u64>, row: &Row) {
+fn expect_stepped<const LEN: usize>(rt: &impl Abort, range: RangeOf<'_, u64, u64, LEN>, row: &Row) {
     let mut range = range;
     expect(rt, &mut range, row.moves, row.answers);
-    let mut opened = Iter::from(range);
+    let mut opened = IterOf::from(range);
     expect(rt, &mut opened, row.opened_moves, row.opened_answers);
 }
 
 /// Makes the same moves, each list at once.
-fn expect_range_at_once(
+fn expect_range_at_once<const LEN: usize>(
     rt: &impl Abort,
     alloc: Global,
-    range: Range<'_, u64, u64>,
+    range: RangeOf<'_, u64, u64, LEN>,
     row: &Row,
 ) -> Result<(), AllocError> {
     let mut range = range;
     expect_at_once(rt, alloc, &mut range, row.moves, row.answers)?;
-    let mut opened = Iter::from(range);
+    let mut opened = IterOf::from(range);
     expect_at_once(rt, alloc, &mut opened, row.opened_moves, row.opened_answers)
 }
 
 /// Makes the moves of a row over all pairs by a cursor, one by one and at once.
-fn expect_iter(
+fn expect_iter<const LEN: usize>(
     rt: &impl Abort,
     alloc: Global,
-    index: &TreeIndex<u64, u64>,
+    index: &TreeIndexOf<u64, u64, LEN>,
     row: &Row,
 ) -> Result<(), AllocError> {
     expect(rt, &mut index.iter(), row.moves, row.answers);
     expect_at_once(rt, alloc, &mut index.iter(), row.moves, row.answers)
 }
 
-fn expect_row(
+fn expect_row<const LEN: usize>(
     rt: &impl Abort,
     alloc: Global,
-    index: &TreeIndex<u64, u64>,
+    index: &mut TreeIndexOf<u64, u64, LEN>,
     row: &Row,
 ) -> Result<(), AllocError> {
+    fill(index, row.pairs)?;
     let bounds = (row.bounds.0.as_ref(), row.bounds.1.as_ref());
     expect_stepped(rt, index.range(bounds), row);
     expect_range_at_once(rt, alloc, index.range(bounds), row)?;
@@ -332,14 +333,20 @@ fn expect_row(
 }
 
 fn walks_steps(rt: &impl Abort, alloc: Global, row: &Row) -> Result<(), AllocError> {
-    let index = index_of(alloc, row.pairs)?;
-    expect_row(rt, alloc, &index, row)
+    let mut index: TreeIndex<u64, u64> = TreeIndex::new(alloc);
+    expect_row(rt, alloc, &mut index, row)
+}
+
+fn small_walks_steps(rt: &impl Abort, alloc: Global, row: &Row) -> Result<(), AllocError> {
+    let mut index: SmallTreeIndex<u64, u64> = SmallTreeIndex::new(alloc);
+    expect_row(rt, alloc, &mut index, row)
 }
 
 #[test]
 fn walks_as_the_rows_say(rt: HostRuntime) {
     for row in &ROWS {
         assert!(rt; succeeds(rt.alloc(), || walks_steps(&rt, rt.alloc(), row)));
+        assert!(rt; succeeds(rt.alloc(), || small_walks_steps(&rt, rt.alloc(), row)));
     }
 }
 
@@ -351,7 +358,7 @@ static COUNTS: [(Bound<u64>, Bound<u64>, usize); 3] = [
 ];
 
 /// How many pairs a loop over a range gives.
-fn count(range: Range<'_, u64, u64>) -> usize {
+fn count<const LEN: usize>(range: RangeOf<'_, u64, u64, LEN>) -> usize {
     let mut counted: usize = 0;
     for _pair in range {
         counted = counted.saturating_add(1);
@@ -360,7 +367,7 @@ fn count(range: Range<'_, u64, u64>) -> usize {
 }
 
 /// The sum of the keys and values that a loop over an index gives.
-fn sum(index: &TreeIndex<u64, u64>) -> u64 {
+fn sum<const LEN: usize>(index: &TreeIndexOf<u64, u64, LEN>) -> u64 {
     let mut sum: u64 = 0;
     for (key, value) in index {
         sum = sum.saturating_add(*key).saturating_add(*value);
@@ -368,22 +375,40 @@ fn sum(index: &TreeIndex<u64, u64>) -> u64 {
     sum
 }
 
-fn counts_steps(rt: &impl Abort, alloc: Global) -> Result<(), AllocError> {
-    let index = ascending(alloc, 1, 9)?;
+/// Counts the keys from 1 to 9 within bounds.
+fn expect_counts<const LEN: usize>(
+    rt: &impl Abort,
+    index: &mut TreeIndexOf<u64, u64, LEN>,
+) -> Result<(), AllocError> {
+    ascend(index, 1, 9)?;
     for (low, high, wanted) in &COUNTS {
         assert!(rt; count(index.range((low.as_ref(), high.as_ref()))) == *wanted);
     }
-    assert!(rt; sum(&index) == 90);
+    assert!(rt; sum(index) == 90);
     Ok(())
+}
+
+fn counts_steps(rt: &impl Abort, alloc: Global) -> Result<(), AllocError> {
+    let mut index: TreeIndex<u64, u64> = TreeIndex::new(alloc);
+    expect_counts(rt, &mut index)
+}
+
+fn small_counts_steps(rt: &impl Abort, alloc: Global) -> Result<(), AllocError> {
+    let mut index: SmallTreeIndex<u64, u64> = SmallTreeIndex::new(alloc);
+    expect_counts(rt, &mut index)
 }
 
 #[test]
 fn counts_what_is_within_the_bounds(rt: HostRuntime) {
     assert!(rt; succeeds(rt.alloc(), || counts_steps(&rt, rt.alloc())));
+    assert!(rt; succeeds(rt.alloc(), || small_counts_steps(&rt, rt.alloc())));
 }
 
 /// Moves a range over two keys in two leaves to its end, and then a clone of it.
-fn expect_two_keys(rt: &impl Abort, range: Range<'_, u64, u64>) -> Result<(), AllocError> {
+fn expect_two_keys<const LEN: usize>(
+    rt: &impl Abort,
+    range: RangeOf<'_, u64, u64, LEN>,
+) -> Result<(), AllocError> {
     let mut other = range.clone()?;
     let mut range = range;
     assert!(rt; numbers(range.next()) == Some((15, 15)));
@@ -394,7 +419,8 @@ fn expect_two_keys(rt: &impl Abort, range: Range<'_, u64, u64>) -> Result<(), Al
 }
 
 fn meets_at_a_leaf_steps(rt: &impl Abort, alloc: Global) -> Result<(), AllocError> {
-    let index = ascending(alloc, 1, 40)?;
+    let mut index: TreeIndex<u64, u64> = TreeIndex::new(alloc);
+    ascend(&mut index, 1, 40)?;
     let range = index.range((Bound::Excluded(&14), Bound::Excluded(&17)));
     expect_two_keys(rt, range)
 }
@@ -405,34 +431,50 @@ fn a_clone_moves_alone(rt: HostRuntime) {
 }
 
 /// The last pair that a fresh range over all pairs gives.
-fn last(index: &TreeIndex<u64, u64>) -> Entry {
+fn last<const LEN: usize>(index: &TreeIndexOf<u64, u64, LEN>) -> Entry {
     let mut range = index.range((Bound::Unbounded, Bound::Unbounded));
     numbers(range.next_back())
 }
 
-/// Removes the only key of the last leaf, and then stores a larger one.
-fn expect_last_leaf(rt: &impl Abort, index: &mut TreeIndex<u64, u64>) -> Result<(), AllocError> {
-    assert!(rt; index.remove_sync(&15));
-    assert!(rt; index.spare() == 0 && last(index) == Some((14, 14)));
-    if index.insert_sync(16, 0).is_err() {
+/// Fills a leaf with the keys below this one and a new leaf with it, removes it, and then stores a larger one.
+fn expect_last_leaf<const LEN: usize>(
+    rt: &impl Abort,
+    index: &mut TreeIndexOf<u64, u64, LEN>,
+    key: u64,
+) -> Result<(), AllocError> {
+    ascend(index, 0, key)?;
+    assert!(rt; index.remove_sync(&key));
+    let (before, behind) = (key.saturating_sub(1), key.saturating_add(1));
+    assert!(rt; index.spare() == 0 && last(index) == Some((before, before)));
+    if index.insert_sync(behind, 0).is_err() {
         return Err(AllocError);
     }
-    assert!(rt; last(index) == Some((16, 0)));
+    assert!(rt; last(index) == Some((behind, 0)));
     Ok(())
 }
 
 fn passes_an_empty_leaf_steps(rt: &impl Abort, alloc: Global) -> Result<(), AllocError> {
-    let mut index = ascending(alloc, 0, 15)?;
-    expect_last_leaf(rt, &mut index)
+    let mut index: TreeIndex<u64, u64> = TreeIndex::new(alloc);
+    expect_last_leaf(rt, &mut index, 15)
+}
+
+fn passes_a_small_leaf_steps(rt: &impl Abort, alloc: Global) -> Result<(), AllocError> {
+    let mut index: SmallTreeIndex<u64, u64> = SmallTreeIndex::new(alloc);
+    expect_last_leaf(rt, &mut index, 7)
 }
 
 #[test]
 fn passes_an_empty_last_leaf(rt: HostRuntime) {
     assert!(rt; succeeds(rt.alloc(), || passes_an_empty_leaf_steps(&rt, rt.alloc())));
+    assert!(rt; succeeds(rt.alloc(), || passes_a_small_leaf_steps(&rt, rt.alloc())));
 }
 
 /// The moves of a cursor between two pairs, which has left the list at both ends.
-fn expect_between(rt: &impl Abort, index: &TreeIndex<u64, u64>) {
+fn expect_between<const LEN: usize>(
+    rt: &impl Abort,
+    index: &mut TreeIndexOf<u64, u64, LEN>,
+) -> Result<(), AllocError> {
+    fill(index, &[(1, 1), (3, 2), (5, 3), (7, 4)])?;
     let ProximityOf::Between(ends) = index.locate(&2) else {
         panic!(rt; "2 is between")
     };
@@ -441,15 +483,21 @@ fn expect_between(rt: &impl Abort, index: &TreeIndex<u64, u64>) {
     assert!(rt; numbers(ends.get_back()) == Some((3, 2)));
     assert!(rt; numbers(ends.next()).is_none());
     assert!(rt; numbers(ends.next_back()).is_none());
+    Ok(())
 }
 
 fn locates_steps(rt: &impl Abort, alloc: Global) -> Result<(), AllocError> {
-    let index = index_of(alloc, &[(1, 1), (3, 2), (5, 3), (7, 4)])?;
-    expect_between(rt, &index);
-    Ok(())
+    let mut index: TreeIndex<u64, u64> = TreeIndex::new(alloc);
+    expect_between(rt, &mut index)
+}
+
+fn small_locates_steps(rt: &impl Abort, alloc: Global) -> Result<(), AllocError> {
+    let mut index: SmallTreeIndex<u64, u64> = SmallTreeIndex::new(alloc);
+    expect_between(rt, &mut index)
 }
 
 #[test]
 fn stands_between_two_pairs(rt: HostRuntime) {
     assert!(rt; succeeds(rt.alloc(), || locates_steps(&rt, rt.alloc())));
+    assert!(rt; succeeds(rt.alloc(), || small_locates_steps(&rt, rt.alloc())));
 }

@@ -3,7 +3,7 @@ use crate::writes::{ample, ascending};
 use std::alloc::{AllocError, Global};
 use std::process::Abort;
 use test_support::refusals::{is_out_of_memory, succeeds};
-use tree_index::{Command, Reply, TreeIndex, run};
+use tree_index::{Command, Reply, SmallTreeIndex, TreeIndex, TreeIndexOf, run};
 use tree_support::flaws;
 
 /// Whether an insert and a look-up of the key were answered. Else the insert was refused, and the look-up found none.
@@ -17,10 +17,10 @@ fn are_answered(rt: &impl Abort, replies: &[Reply<u64>], key: u64) -> bool {
 
 /// Runs an insert and a look-up of an absent key over an index of these pairs. Returns whether the pair was stored. Where
 /// the room for the replies is refused, so is the run; where memory for the pair is, so is the insert. The index stands then.
-fn run_once(
+fn run_once<const LEN: usize>(
     rt: &impl Abort,
     alloc: Global,
-    index: &mut TreeIndex<u64, u64>,
+    index: &mut TreeIndexOf<u64, u64, LEN>,
     pairs: &[(u64, u64)],
     key: u64,
 ) -> Result<bool, AllocError> {
@@ -35,10 +35,10 @@ fn run_once(
 
 /// Runs both at once or the second time. Returns whether they were refused once. `Err` if they were refused both times, so
 /// that there is no memory.
-fn run_twice(
+fn run_twice<const LEN: usize>(
     rt: &impl Abort,
     alloc: Global,
-    index: &mut TreeIndex<u64, u64>,
+    index: &mut TreeIndexOf<u64, u64, LEN>,
     pairs: &[(u64, u64)],
     key: u64,
 ) -> Result<bool, AllocError> {
@@ -56,33 +56,45 @@ fn run_twice(
 /// node over nodes.
 static COUNTS: [u64; 4] = [0, 15, 240, 3615];
 
-/// Stores pairs in an index.
-fn fill(index: &mut TreeIndex<u64, u64>, pairs: &[(u64, u64)]) -> Result<(), AllocError> {
-    for (key, value) in pairs {
-        index.upsert_sync(*key, *value).map_err(|_| AllocError)?;
-    }
-    Ok(())
-}
+/// The same with seven pairs a leaf.
+static SMALL_COUNTS: [u64; 4] = [0, 7, 56, 399];
 
-fn runs_over(
+/// Stores pairs in an empty index, and runs both commands over it.
+fn run_over<const LEN: usize>(
     rt: &impl Abort,
     alloc: Global,
+    index: &mut TreeIndexOf<u64, u64, LEN>,
     pairs: &[(u64, u64)],
     key: u64,
 ) -> Result<(), AllocError> {
-    let mut index: TreeIndex<u64, u64> = TreeIndex::new(alloc);
-    fill(&mut index, pairs)?;
-    ample(run_twice(rt, alloc, &mut index, pairs, key)?)
+    for (key, value) in pairs {
+        index.upsert_sync(*key, *value).map_err(|_| AllocError)?;
+    }
+    ample(run_twice(rt, alloc, index, pairs, key)?)
 }
 
 fn runs_steps(rt: &impl Abort, alloc: Global, count: u64) -> Result<(), AllocError> {
     let pairs = ascending(alloc, count)?;
-    runs_over(rt, alloc, &pairs, count.saturating_add(1))
+    let mut index: TreeIndex<u64, u64> = TreeIndex::new(alloc);
+    run_over(rt, alloc, &mut index, &pairs, count.saturating_add(1))
+}
+
+fn small_runs_steps(rt: &impl Abort, alloc: Global, count: u64) -> Result<(), AllocError> {
+    let pairs = ascending(alloc, count)?;
+    let mut index: SmallTreeIndex<u64, u64> = SmallTreeIndex::new(alloc);
+    run_over(rt, alloc, &mut index, &pairs, count.saturating_add(1))
 }
 
 #[test]
 fn runs_again_what_was_refused(rt: HostRuntime) {
     for count in &COUNTS {
         assert!(rt; succeeds(rt.alloc(), || runs_steps(&rt, rt.alloc(), *count)));
+    }
+}
+
+#[test]
+fn runs_again_what_was_refused_with_few_slots(rt: HostRuntime) {
+    for count in &SMALL_COUNTS {
+        assert!(rt; succeeds(rt.alloc(), || small_runs_steps(&rt, rt.alloc(), *count)));
     }
 }

@@ -11,15 +11,23 @@ use std::sync::Wait;
 use std::sync::ledger::Ledger;
 use test_support::refusals::succeeds;
 use tree_index::{Command, InsertError, Record, Reply};
-use tree_shared::{Pass, SharedTreeIndex, Tally};
+use tree_shared::{Pass, SharedTreeIndex, SharedTreeIndexOf, Tally};
 
 /// A call, and the reply to it.
 pub(crate) type Row = (Command<u64, u64>, Reply<u64>);
 
 /// Returns what a call is answered. A pair that is refused comes back.
-pub(crate) fn reply_to<C: Ledger, S: Ledger, M: Ledger, F: Ledger, D: Ledger, R: Wait + Abort>(
+pub(crate) fn reply_to<
+    C: Ledger,
+    S: Ledger,
+    M: Ledger,
+    F: Ledger,
+    D: Ledger,
+    R: Wait + Abort,
+    const LEN: usize,
+>(
     rt: &R,
-    shared: &SharedTreeIndex<u64, u64, C, S, M, F, D>,
+    shared: &SharedTreeIndexOf<u64, u64, C, S, M, F, D, LEN>,
     pass: &mut Pass<C, S, M, F, D>,
     command: &Command<u64, u64>,
 ) -> Result<Reply<u64>, AllocError> {
@@ -57,9 +65,17 @@ pub(crate) fn reply_to<C: Ledger, S: Ledger, M: Ledger, F: Ledger, D: Ledger, R:
 
 // Makes a call, at once or the second time. Returns whether it was refused once; the pass counted nothing then. `Err` if it
 // was refused both times.
-fn call_twice<C: Ledger, S: Ledger, M: Ledger, F: Ledger, D: Ledger, R: Wait + Abort>(
+fn call_twice<
+    C: Ledger,
+    S: Ledger,
+    M: Ledger,
+    F: Ledger,
+    D: Ledger,
+    R: Wait + Abort,
+    const LEN: usize,
+>(
     rt: &R,
-    shared: &SharedTreeIndex<u64, u64, C, S, M, F, D>,
+    shared: &SharedTreeIndexOf<u64, u64, C, S, M, F, D, LEN>,
     pass: &mut Pass<C, S, M, F, D>,
     (command, reply): &Row,
 ) -> Result<bool, AllocError> {
@@ -77,9 +93,17 @@ fn call_twice<C: Ledger, S: Ledger, M: Ledger, F: Ledger, D: Ledger, R: Wait + A
 }
 
 /// Makes these calls, and sees that they are answered so. Returns whether one was refused.
-pub(crate) fn make_calls<C: Ledger, S: Ledger, M: Ledger, F: Ledger, D: Ledger, R: Wait + Abort>(
+pub(crate) fn make_calls<
+    C: Ledger,
+    S: Ledger,
+    M: Ledger,
+    F: Ledger,
+    D: Ledger,
+    R: Wait + Abort,
+    const LEN: usize,
+>(
     rt: &R,
-    shared: &SharedTreeIndex<u64, u64, C, S, M, F, D>,
+    shared: &SharedTreeIndexOf<u64, u64, C, S, M, F, D, LEN>,
     pass: &mut Pass<C, S, M, F, D>,
     rows: &[Row],
 ) -> Result<bool, AllocError> {
@@ -90,7 +114,32 @@ pub(crate) fn make_calls<C: Ledger, S: Ledger, M: Ledger, F: Ledger, D: Ledger, 
     Ok(refused)
 }
 
-/// Each call, and the history that they leave, in which a refused call has no record.
+/// What the calls below leave, as far as they were answered: a history in which a refused call has no record.
+fn expect_recorded(
+    rt: &impl Abort,
+    history: &[Record<u64, u64>],
+    tally: Tally,
+    is_empty: bool,
+    outcome: Result<bool, AllocError>,
+) -> Result<(), AllocError> {
+    assert!(rt; are_the_first_calls(history));
+    assert!(rt; tally.calls == history.len() as u64);
+    let refused = outcome?;
+    assert!(rt;
+        tally
+            == Tally {
+                calls: 10,
+                stored: 4,
+                removed: 1,
+                found: 1,
+                done: 2
+            }
+    );
+    assert!(rt; is_empty);
+    if refused { Err(AllocError) } else { Ok(()) }
+}
+
+/// Each call.
 pub(crate) fn each_call<C: Ledger, S: Ledger, M: Ledger, F: Ledger, D: Ledger, R: Wait + Abort>(
     rt: &R,
     shared: SharedTreeIndex<u64, u64, C, S, M, F, D>,
@@ -102,24 +151,11 @@ pub(crate) fn each_call<C: Ledger, S: Ledger, M: Ledger, F: Ledger, D: Ledger, R
         panic!(rt; "no pass")
     };
     let outcome = make_calls(rt, &shared, pass, &CALLS);
-    let Some(closed) = closed_with(shared, passes) else {
+    let Ok(closed) = shared.close(passes) else {
         panic!(rt; "not closed")
     };
-    assert!(rt; are_the_first_calls(&closed.history));
-    assert!(rt; closed.tally.calls == closed.history.len() as u64);
-    let refused = outcome?;
-    assert!(rt;
-        closed.tally
-            == Tally {
-                calls: 10,
-                stored: 4,
-                removed: 1,
-                found: 1,
-                done: 2
-            }
-    );
-    assert!(rt; closed.index.is_empty());
-    if refused { Err(AllocError) } else { Ok(()) }
+    let is_empty = closed.index.is_empty();
+    expect_recorded(rt, &closed.history, closed.tally, is_empty, outcome)
 }
 
 static CALLS: [Row; 10] = [
@@ -148,9 +184,37 @@ fn are_the_first_calls(history: &[Record<u64, u64>]) -> bool {
     history.len() <= CALLS.len()
 }
 
+/// Each call over an index of seven pairs a leaf.
+pub(crate) fn each_small_call<
+    C: Ledger,
+    S: Ledger,
+    M: Ledger,
+    F: Ledger,
+    D: Ledger,
+    R: Wait + Abort,
+>(
+    rt: &R,
+    shared: SharedTreeIndexOf<u64, u64, C, S, M, F, D, 7>,
+    mut passes: Vec<Pass<C, S, M, F, D>>,
+) -> Result<(), AllocError>
+    requires { All (λ pass. pass ≡ none) passes.items }
+{
+    let Some(pass) = passes.get_mut(0) else {
+        panic!(rt; "no pass")
+    };
+    let outcome = make_calls(rt, &shared, pass, &CALLS);
+    let Ok(closed) = shared.close(passes) else {
+        panic!(rt; "not closed")
+    };
+    let is_empty = closed.index.is_empty();
+    expect_recorded(rt, &closed.history, closed.tally, is_empty, outcome)
+}
+
 #[test]
 fn each_call_is_recorded(rt: HostRuntime) {
-    assert!(rt; succeeds(rt.alloc(), || play(&rt, rt.alloc(), 1, Scenario::EachCall)));
+    for scenario in [Scenario::EachCall, Scenario::EachSmallCall] {
+        assert!(rt; succeeds(rt.alloc(), || play(&rt, rt.alloc(), 1, scenario)));
+    }
 }
 
 /// An insert, which may be refused, and the removal of its key.

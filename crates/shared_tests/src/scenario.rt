@@ -3,7 +3,7 @@ ghost use Rattle.std.specs.Prelude.{◌≡◌, ◌<◌};
 ghost use Rattle.tree_shared.specs.Ledgers.{IsBlankFor};
 
 use crate::closing::{closes_with_all_passes, closes_without_workers, parts_while_a_pass_is_out};
-use crate::one_worker::{each_call, insert_and_remove};
+use crate::one_worker::{each_call, each_small_call, insert_and_remove};
 use crate::races::Race;
 use crate::refusals::{looks_a_text_up, refused_calls};
 use crate::threads::run_race;
@@ -14,7 +14,7 @@ use std::sync::Wait;
 use std::sync::ledger::Ledger;
 use std::thread::Threads;
 use std::time::Clock;
-use tree_shared::{Blanks, SharedTreeIndex};
+use tree_shared::{Blanks, SharedTreeIndex, SharedTreeIndexOf};
 
 /// What a test does with a shared index.
 #[derive(Clone, Copy)]
@@ -23,6 +23,7 @@ pub(crate) enum Scenario {
     PassAbsent,
     Parts,
     EachCall,
+    EachSmallCall,
     InsertAndRemove,
     Refusals,
     LookUpOfText,
@@ -68,6 +69,12 @@ fn play_with<
     if let Scenario::LookUpOfText = scenario {
         return looks_a_text_up::<C, S, M, F, D, R>(rt, alloc, workers, blanks);
     }
+    if let Scenario::EachSmallCall = scenario {
+        let (shared, passes) = SharedTreeIndexOf::<u64, u64, C, S, M, F, D, 7>::new(
+            alloc, workers, blanks,
+        )?;
+        return each_small_call(rt, shared, passes);
+    }
     let (shared, passes) = SharedTreeIndex::<u64, u64, C, S, M, F, D>::new(alloc, workers, blanks)?;
     match scenario {
         Scenario::NoWorker => closes_without_workers(rt, shared, passes),
@@ -76,6 +83,6 @@ fn play_with<
         Scenario::EachCall => each_call(rt, shared, passes),
         Scenario::InsertAndRemove => insert_and_remove(rt, shared, passes),
         Scenario::Threads(race) => run_race(rt, alloc, shared, passes, race),
-        Scenario::Refusals | Scenario::LookUpOfText => Ok(()),
+        Scenario::Refusals | Scenario::LookUpOfText | Scenario::EachSmallCall => Ok(()),
     }
 }

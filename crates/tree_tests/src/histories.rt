@@ -2,7 +2,7 @@
 use std::alloc::{AllocError, Global};
 use std::process::Abort;
 use test_support::refusals::succeeds;
-use tree_index::{Command, Reply, State};
+use tree_index::{Command, Reply, State, StateOf};
 
 /// Calls of a new state, and the reply to each.
 static CALLS: [(Command<u64, u64>, Reply<u64>); 4] = [
@@ -12,27 +12,36 @@ static CALLS: [(Command<u64, u64>, Reply<u64>); 4] = [
     (Command::Peek(2), Reply::Found(None)),
 ];
 
-/// The history has these calls with their replies.
-fn expect_calls(rt: &impl Abort, state: &State<u64, u64>) {
-    assert!(rt; state.history().len() == CALLS.len());
-    for (record, (command, reply)) in state.history().iter().zip(&CALLS) {
-        assert!(rt; record.command == *command && record.reply == *reply);
-    }
-}
-
-fn keeps_its_calls_steps(rt: &impl Abort, alloc: Global) -> Result<(), AllocError> {
-    let mut state: State<u64, u64> = State::new(alloc);
+/// Makes the calls of a new state. The history has them with their replies then.
+fn expect_calls<const LEN: usize>(
+    rt: &impl Abort,
+    state: &mut StateOf<u64, u64, LEN>,
+) -> Result<(), AllocError> {
     for (command, reply) in &CALLS {
         match state.apply(*command) {
             Ok(told) => assert!(rt; told == *reply),
             Err(_) => return Err(AllocError),
         }
     }
-    expect_calls(rt, &state);
+    assert!(rt; state.history().len() == CALLS.len());
+    for (record, (command, reply)) in state.history().iter().zip(&CALLS) {
+        assert!(rt; record.command == *command && record.reply == *reply);
+    }
     Ok(())
+}
+
+fn keeps_its_calls_steps(rt: &impl Abort, alloc: Global) -> Result<(), AllocError> {
+    let mut state: State<u64, u64> = State::new(alloc);
+    expect_calls(rt, &mut state)
+}
+
+fn keeps_its_small_calls_steps(rt: &impl Abort, alloc: Global) -> Result<(), AllocError> {
+    let mut state: StateOf<u64, u64, 7> = StateOf::new(alloc);
+    expect_calls(rt, &mut state)
 }
 
 #[test]
 fn keeps_its_calls(rt: HostRuntime) {
     assert!(rt; succeeds(rt.alloc(), || keeps_its_calls_steps(&rt, rt.alloc())));
+    assert!(rt; succeeds(rt.alloc(), || keeps_its_small_calls_steps(&rt, rt.alloc())));
 }

@@ -3,7 +3,7 @@ use crate::keys::Tagged;
 use std::alloc::{AllocError, Global};
 use std::process::Abort;
 use test_support::refusals::succeeds;
-use tree_index::{InsertError, TreeIndex};
+use tree_index::{InsertError, SmallTreeIndex, TreeIndex, TreeIndexOf};
 
 /// The index of these pairs.
 fn index_of(alloc: Global, pairs: &[(u64, u64)]) -> Result<TreeIndex<u64, u64>, AllocError> {
@@ -16,8 +16,11 @@ fn index_of(alloc: Global, pairs: &[(u64, u64)]) -> Result<TreeIndex<u64, u64>, 
     Ok(index)
 }
 
-fn keeps_the_first_of_two_pairs_steps(rt: &impl Abort, alloc: Global) -> Result<(), AllocError> {
-    let mut index: TreeIndex<u64, u64> = TreeIndex::new(alloc);
+/// An insert of a key that is present keeps the first pair.
+fn keeps_the_first<const LEN: usize>(
+    rt: &impl Abort,
+    index: &mut TreeIndexOf<u64, u64, LEN>,
+) -> Result<(), AllocError> {
     if index.insert_sync(1, 10).is_err() {
         return Err(AllocError);
     }
@@ -26,14 +29,67 @@ fn keeps_the_first_of_two_pairs_steps(rt: &impl Abort, alloc: Global) -> Result<
     Ok(())
 }
 
+/// A removal says whether the key was present.
+fn says_whether_it_removed<const LEN: usize>(
+    rt: &impl Abort,
+    index: &mut TreeIndexOf<u64, u64, LEN>,
+) -> Result<(), AllocError> {
+    assert!(rt; !index.remove_sync(&1));
+    if index.insert_sync(1, 10).is_err() {
+        return Err(AllocError);
+    }
+    assert!(rt; index.remove_sync(&1));
+    Ok(())
+}
+
+/// Values that the condition wants of the key 1, in turn, whether the pair is removed, and how often the condition is
+/// asked.
+static CONDITIONS: [(u64, bool, u64); 3] = [(0, false, 1), (10, true, 1), (10, false, 0)];
+
+/// The condition is asked once of a key that is present, and never of an absent one.
+fn asks_its_condition_once<const LEN: usize>(
+    rt: &impl Abort,
+    index: &mut TreeIndexOf<u64, u64, LEN>,
+) -> Result<(), AllocError> {
+    if index.insert_sync(1, 10).is_err() {
+        return Err(AllocError);
+    }
+    for (wanted, removes, times) in &CONDITIONS {
+        let mut asked = 0u64;
+        let removed = index.remove_if_sync(&1, |value| {
+            asked = asked.saturating_add(1);
+            *value == *wanted
+        });
+        assert!(rt; removed == *removes && asked == *times);
+    }
+    Ok(())
+}
+
+fn expect_calls<const LEN: usize>(
+    rt: &impl Abort,
+    index: &mut TreeIndexOf<u64, u64, LEN>,
+) -> Result<(), AllocError> {
+    keeps_the_first(rt, index)?;
+    index.clear();
+    says_whether_it_removed(rt, index)?;
+    index.clear();
+    asks_its_condition_once(rt, index)
+}
+
+fn calls_steps(rt: &impl Abort, alloc: Global) -> Result<(), AllocError> {
+    let mut index: TreeIndex<u64, u64> = TreeIndex::new(alloc);
+    expect_calls(rt, &mut index)
+}
+
+fn small_calls_steps(rt: &impl Abort, alloc: Global) -> Result<(), AllocError> {
+    let mut index: SmallTreeIndex<u64, u64> = SmallTreeIndex::new(alloc);
+    expect_calls(rt, &mut index)
+}
+
 #[test]
-fn keeps_the_first_of_two_pairs(rt: HostRuntime) {
-    assert!(rt;
-        succeeds(
-            rt.alloc(),
-            || keeps_the_first_of_two_pairs_steps(&rt, rt.alloc())
-        )
-    );
+fn answers_inserts_and_removals(rt: HostRuntime) {
+    assert!(rt; succeeds(rt.alloc(), || calls_steps(&rt, rt.alloc())));
+    assert!(rt; succeeds(rt.alloc(), || small_calls_steps(&rt, rt.alloc())));
 }
 
 /// Pairs, and the text of their index.
@@ -88,8 +144,11 @@ fn five(tag: char) -> Tagged {
     Tagged { number: 5, tag }
 }
 
-fn replaces_the_stored_key_steps(rt: &impl Abort, alloc: Global) -> Result<(), AllocError> {
-    let mut index: TreeIndex<Tagged, u64> = TreeIndex::new(alloc);
+/// An upsert replaces the stored key as well as its value.
+fn replaces_the_key<const LEN: usize>(
+    rt: &impl Abort,
+    index: &mut TreeIndexOf<Tagged, u64, LEN>,
+) -> Result<(), AllocError> {
     for (tag, value) in [('a', 1), ('b', 2)] {
         if index.upsert_sync(five(tag), value).is_err() {
             return Err(AllocError);
@@ -100,55 +159,18 @@ fn replaces_the_stored_key_steps(rt: &impl Abort, alloc: Global) -> Result<(), A
     Ok(())
 }
 
+fn replaces_the_key_steps(rt: &impl Abort, alloc: Global) -> Result<(), AllocError> {
+    let mut index: TreeIndex<Tagged, u64> = TreeIndex::new(alloc);
+    replaces_the_key(rt, &mut index)
+}
+
+fn replaces_a_small_key_steps(rt: &impl Abort, alloc: Global) -> Result<(), AllocError> {
+    let mut index: SmallTreeIndex<Tagged, u64> = SmallTreeIndex::new(alloc);
+    replaces_the_key(rt, &mut index)
+}
+
 #[test]
 fn replaces_the_stored_key(rt: HostRuntime) {
-    assert!(rt;
-        succeeds(
-            rt.alloc(),
-            || replaces_the_stored_key_steps(&rt, rt.alloc())
-        )
-    );
-}
-
-fn says_whether_it_removed_steps(rt: &impl Abort, alloc: Global) -> Result<(), AllocError> {
-    let mut index: TreeIndex<u64, u64> = TreeIndex::new(alloc);
-    assert!(rt; !index.remove_sync(&1));
-    if index.insert_sync(1, 10).is_err() {
-        return Err(AllocError);
-    }
-    assert!(rt; index.remove_sync(&1));
-    Ok(())
-}
-
-#[test]
-fn says_whether_it_removed(rt: HostRuntime) {
-    assert!(rt;
-        succeeds(
-            rt.alloc(),
-            || says_whether_it_removed_steps(&rt, rt.alloc())
-        )
-    );
-}
-
-/// Values that the condition wants of the key 1, in turn, whether the pair is removed, and how often the condition is
-/// asked.
-static CONDITIONS: [(u64, bool, u64); 3] = [(0, false, 1), (10, true, 1), (10, false, 0)];
-
-/// The condition is asked once of a key that is present, and never of an absent one.
-fn asks_its_condition_steps(rt: &impl Abort, alloc: Global) -> Result<(), AllocError> {
-    let mut index = index_of(alloc, &[(1, 10)])?;
-    for (wanted, removes, times) in &CONDITIONS {
-        let mut asked = 0u64;
-        let removed = index.remove_if_sync(&1, |value| {
-            asked = asked.saturating_add(1);
-            *value == *wanted
-        });
-        assert!(rt; removed == *removes && asked == *times);
-    }
-    Ok(())
-}
-
-#[test]
-fn asks_its_condition_once(rt: HostRuntime) {
-    assert!(rt; succeeds(rt.alloc(), || asks_its_condition_steps(&rt, rt.alloc())));
+    assert!(rt; succeeds(rt.alloc(), || replaces_the_key_steps(&rt, rt.alloc())));
+    assert!(rt; succeeds(rt.alloc(), || replaces_a_small_key_steps(&rt, rt.alloc())));
 }

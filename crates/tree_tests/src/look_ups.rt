@@ -9,7 +9,7 @@ use std::process::Abort;
 use std::sync::ledger::{Blank, Ledger};
 use test_support::refusals::succeeds;
 use tree_array::array::{Judge, KeyJudge, Steps};
-use tree_index::TreeIndex;
+use tree_index::{SmallTreeIndex, TreeIndex, TreeIndexOf};
 use tree_support::Asked;
 
 /// What a judge looks a key up in.
@@ -18,13 +18,13 @@ trait LookedUp<K: Ord> {
     fn finds<J: Judge<K>>(&self, judge: &mut J) -> bool;
 }
 
-impl<'c> LookedUp<Asked<'c>> for TreeIndex<Asked<'c>, u64> {
+impl<'c, const LEN: usize> LookedUp<Asked<'c>> for TreeIndexOf<Asked<'c>, u64, LEN> {
     fn finds<J: Judge<Asked<'c>>>(&self, judge: &mut J) -> bool {
         self.peek_entry_by(judge).is_some()
     }
 }
 
-impl LookedUp<u64> for TreeIndex<u64, u64> {
+impl<const LEN: usize> LookedUp<u64> for TreeIndexOf<u64, u64, LEN> {
     fn finds<J: Judge<u64>>(&self, judge: &mut J) -> bool {
         self.peek_entry_by(judge).is_some()
     }
@@ -45,9 +45,9 @@ fn is_found_by<K: Ord, I: LookedUp<K>, L: Ledger>(index: &I, key: &K, blank: Bla
 }
 
 /// Makes each look-up of a number, which compare it at most so often.
-fn look_up<'c>(
+fn look_up<'c, const LEN: usize>(
     rt: &impl Abort,
-    index: &TreeIndex<Asked<'c>, u64>,
+    index: &TreeIndexOf<Asked<'c>, u64, LEN>,
     counter: &'c Cell<u64>,
     number: u64,
     most: u64,
@@ -68,41 +68,77 @@ fn look_up<'c>(
     assert!(rt; counter.get() <= most);
 }
 
+/// How many pairs an index has when it is looked up in, and how many comparisons an array takes at most.
+struct Sizes {
+    counts: [u64; 3],
+    most: u64,
+}
+
+static SIZES: Sizes = Sizes {
+    counts: [1, 241, 3616],
+    most: 4,
+};
+
+/// The same with seven pairs a leaf.
+static SMALL_SIZES: Sizes = Sizes {
+    counts: [1, 57, 400],
+    most: 3,
+};
+
 /// Looks up each key of an index of the even numbers up to the last, and those beside it.
-fn look_up_all<'c>(
+fn look_up_all<'c, const LEN: usize>(
     rt: &impl Abort,
-    index: &TreeIndex<Asked<'c>, u64>,
+    index: &TreeIndexOf<Asked<'c>, u64, LEN>,
     counter: &'c Cell<u64>,
     last: u64,
+    most: u64,
 ) {
     let levels = (index.depth() as u64).saturating_add(1);
     for number in 1..=last.saturating_add(1) {
-        look_up(rt, index, counter, number, levels.saturating_mul(4));
+        look_up(rt, index, counter, number, levels.saturating_mul(most));
     }
 }
 
-fn compares_few_keys_steps(rt: &impl Abort, alloc: Global) -> Result<(), AllocError> {
-    let counter = Cell::new(0);
-    let mut index: TreeIndex<Asked, u64> = TreeIndex::new(alloc);
-    for number in 1..=3616u64 {
+/// Stores even numbers, and looks all up at each of the sizes.
+fn compares_few<'c, const LEN: usize>(
+    rt: &impl Abort,
+    index: &mut TreeIndexOf<Asked<'c>, u64, LEN>,
+    counter: &'c Cell<u64>,
+    sizes: &Sizes,
+) -> Result<(), AllocError> {
+    let [_, _, count] = sizes.counts;
+    for number in 1..=count {
         let last = number.saturating_mul(2);
         if index
-            .insert_sync(Asked::new(last, &counter), number)
+            .insert_sync(Asked::new(last, counter), number)
             .is_err()
         {
             return Err(AllocError);
         }
-        if matches!(number, 1 | 241 | 3616) {
-            look_up_all(rt, &index, &counter, last);
+        if sizes.counts.contains(&number) {
+            look_up_all(rt, index, counter, last, sizes.most);
         }
     }
     Ok(())
 }
 
-/// At most one array a level is searched, and the leaf, with at most four comparisons each.
+fn compares_few_keys_steps(rt: &impl Abort, alloc: Global) -> Result<(), AllocError> {
+    let counter = Cell::new(0);
+    let mut index: TreeIndex<Asked, u64> = TreeIndex::new(alloc);
+    compares_few(rt, &mut index, &counter, &SIZES)
+}
+
+fn compares_fewer_keys_steps(rt: &impl Abort, alloc: Global) -> Result<(), AllocError> {
+    let counter = Cell::new(0);
+    let mut index: SmallTreeIndex<Asked, u64> = SmallTreeIndex::new(alloc);
+    compares_few(rt, &mut index, &counter, &SMALL_SIZES)
+}
+
+/// At most one array a level is searched, and the leaf, with at most four comparisons each among 15 slots, and three among 7.
 #[test]
 fn compares_few_keys(rt: HostRuntime) {
     assert!(rt; succeeds(rt.alloc(), || compares_few_keys_steps(&rt, rt.alloc())));
+    assert!(rt; succeeds(rt.alloc(), || compares_fewer_keys_steps(&rt, rt.alloc())));
 }
 
 /// A judge, and the stored key that it found equal to its own.
@@ -146,8 +182,11 @@ fn found_and_asked_by<I: LookedUp<u64>, L: Ledger>(
     (found, recording.equal)
 }
 
-fn asks_the_key_it_finds_steps(rt: &impl Abort, alloc: Global) -> Result<(), AllocError> {
-    let mut index: TreeIndex<u64, u64> = TreeIndex::new(alloc);
+/// Stores the even numbers up to 482, and looks all numbers up.
+fn asks_the_key<const LEN: usize>(
+    rt: &impl Abort,
+    index: &mut TreeIndexOf<u64, u64, LEN>,
+) -> Result<(), AllocError> {
     for number in 1..=241u64 {
         if index.insert_sync(number.saturating_mul(2), number).is_err() {
             return Err(AllocError);
@@ -156,14 +195,25 @@ fn asks_the_key_it_finds_steps(rt: &impl Abort, alloc: Global) -> Result<(), All
     for key in 0..=483u64 {
         let there = (2..=482).contains(&key) && key % 2 == 0;
         let wanted = if there { Some(key) } else { None };
-        let told = found_and_asked(&index, key);
+        let told = found_and_asked(index, key);
         assert!(rt; told == (there, wanted));
     }
     Ok(())
+}
+
+fn asks_the_key_it_finds_steps(rt: &impl Abort, alloc: Global) -> Result<(), AllocError> {
+    let mut index: TreeIndex<u64, u64> = TreeIndex::new(alloc);
+    asks_the_key(rt, &mut index)
+}
+
+fn asks_the_small_key_steps(rt: &impl Abort, alloc: Global) -> Result<(), AllocError> {
+    let mut index: SmallTreeIndex<u64, u64> = SmallTreeIndex::new(alloc);
+    asks_the_key(rt, &mut index)
 }
 
 /// A look-up that finds a pair has asked its judge of that very key, and one that finds none has asked of no equal key.
 #[test]
 fn asks_the_key_it_finds(rt: HostRuntime) {
     assert!(rt; succeeds(rt.alloc(), || asks_the_key_it_finds_steps(&rt, rt.alloc())));
+    assert!(rt; succeeds(rt.alloc(), || asks_the_small_key_steps(&rt, rt.alloc())));
 }

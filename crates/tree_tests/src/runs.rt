@@ -3,7 +3,7 @@ use std::alloc::{AllocError, Global};
 use std::ops::Bound;
 use std::process::Abort;
 use test_support::refusals::succeeds;
-use tree_index::{Command, Reply, TreeIndex, run};
+use tree_index::{Command, Reply, SmallTreeIndex, TreeIndex, TreeIndexOf, run};
 
 /// Commands of every kind, and the reply to each by an index that was empty.
 static COMMANDS: [(Command<u64, u64>, Reply<u64>); 10] = [
@@ -23,20 +23,22 @@ static COMMANDS: [(Command<u64, u64>, Reply<u64>); 10] = [
 ];
 
 /// Runs the commands over a new index. Returns `Err` if memory is refused.
-fn replies(alloc: Global) -> Result<Vec<Reply<u64>>, AllocError> {
+fn replies<const LEN: usize>(
+    alloc: Global,
+    index: &mut TreeIndexOf<u64, u64, LEN>,
+) -> Result<Vec<Reply<u64>>, AllocError> {
     let mut commands = Vec::new(alloc);
     for (command, _) in &COMMANDS {
         commands.push(*command)?;
     }
-    let mut index: TreeIndex<u64, u64> = TreeIndex::new(alloc);
-    match run(&mut index, commands) {
+    match run(index, commands) {
         Ok(replies) => Ok(replies),
         Err(_) => Err(AllocError),
     }
 }
 
-fn runs_every_command_steps(rt: &impl Abort, alloc: Global) -> Result<(), AllocError> {
-    let replies = replies(alloc)?;
+/// Compares the replies with the wanted ones.
+fn expect_replies(rt: &impl Abort, replies: &[Reply<u64>]) -> Result<(), AllocError> {
     assert!(rt; replies.len() == COMMANDS.len());
     for (reply, (_, wanted)) in replies.iter().zip(&COMMANDS) {
         if *reply == Reply::Refused {
@@ -47,9 +49,25 @@ fn runs_every_command_steps(rt: &impl Abort, alloc: Global) -> Result<(), AllocE
     Ok(())
 }
 
+fn runs_every_command_steps(rt: &impl Abort, alloc: Global) -> Result<(), AllocError> {
+    let mut index: TreeIndex<u64, u64> = TreeIndex::new(alloc);
+    expect_replies(rt, &replies(alloc, &mut index)?)
+}
+
+fn runs_every_small_command_steps(rt: &impl Abort, alloc: Global) -> Result<(), AllocError> {
+    let mut index: SmallTreeIndex<u64, u64> = SmallTreeIndex::new(alloc);
+    expect_replies(rt, &replies(alloc, &mut index)?)
+}
+
 #[test]
 fn runs_every_command(rt: HostRuntime) {
     assert!(rt; succeeds(rt.alloc(), || runs_every_command_steps(&rt, rt.alloc())));
+    assert!(rt;
+        succeeds(
+            rt.alloc(),
+            || runs_every_small_command_steps(&rt, rt.alloc())
+        )
+    );
 }
 
 /// So many ascending inserts, and the depth then.

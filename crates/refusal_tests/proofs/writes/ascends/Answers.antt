@@ -3,3 +3,9 @@ use Rattle.refusal_tests.proofs.writes.ascends.Goals as goal
 
 pub iter-walk-requires : goal.iter-walk-requires
 iter-walk-requires g c = search fits
+
+pub next-requires : goal.next-requires
+next-requires g c = search fits
+
+pub next-requires-2 : goal.next-requires-2
+next-requires-2 g c = search fits

@@ -3,3 +3,9 @@ use Rattle.refusal_tests.proofs.writes.descends.Goals as goal
 
 pub iter-walk-requires : goal.iter-walk-requires
 iter-walk-requires g c = search fits
+
+pub next_back-requires : goal.next_back-requires
+next_back-requires g c = search fits
+
+pub next_back-requires-2 : goal.next_back-requires-2
+next_back-requires-2 g c = search fits

@@ -1,0 +1,17 @@
+use Rattle.tree_node.proofs.Sizes.{fits}
+use Rattle.cursor_tests.proofs.walks.expect_between.Goals as goal
+
+pub locate-requires : goal.locate-requires
+locate-requires g c = search fits
+
+pub get-requires : goal.get-requires
+get-requires g c = search fits
+
+pub get_back-requires : goal.get_back-requires
+get_back-requires g c = search fits
+
+pub next-requires : goal.next-requires
+next-requires g c = search fits
+
+pub next_back-requires : goal.next_back-requires
+next_back-requires g c = search fits

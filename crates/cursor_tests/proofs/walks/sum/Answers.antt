@@ -1,0 +1,8 @@
+use Rattle.tree_node.proofs.Sizes.{fits}
+use Rattle.cursor_tests.proofs.walks.sum.Goals as goal
+
+pub into_iter-key-iterator-requires : goal.into_iter-key-iterator-requires
+into_iter-key-iterator-requires g c = search fits
+
+pub next-requires : goal.next-requires
+next-requires g c = search fits

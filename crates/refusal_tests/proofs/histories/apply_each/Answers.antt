@@ -1,0 +1,8 @@
+use Rattle.tree_node.proofs.Sizes.{fits}
+use Rattle.refusal_tests.proofs.histories.apply_each.Goals as goal
+
+pub index-requires : goal.index-requires
+index-requires g c = search fits
+
+pub flaws-requires : goal.flaws-requires
+flaws-requires g c = search fits
