@@ -1,0 +1,8 @@
+use Rattle.tree_node.proofs.Sizes.{fits}
+use Rattle.cursor_tests.proofs.walks.expect_counts.Goals as goal
+
+pub range-requires : goal.range-requires
+range-requires g c = search fits
+
+pub count-requires : goal.count-requires
+count-requires g c = search fits

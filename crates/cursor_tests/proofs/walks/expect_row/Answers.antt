@@ -1,0 +1,14 @@
+use Rattle.tree_node.proofs.Sizes.{fits}
+use Rattle.cursor_tests.proofs.walks.expect_row.Goals as goal
+
+pub expect_range_at_once-requires : goal.expect_range_at_once-requires
+expect_range_at_once-requires g c = search fits
+
+pub expect_stepped-requires : goal.expect_stepped-requires
+expect_stepped-requires g c = search fits
+
+pub range-requires : goal.range-requires
+range-requires g c = search fits
+
+pub range-requires-2 : goal.range-requires-2
+range-requires-2 g c = search fits
