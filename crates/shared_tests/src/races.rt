@@ -7,7 +7,7 @@ use std::alloc::{AllocError, Global};
 use std::ops::Bound;
 use std::process::Abort;
 use tree_index::{Command, Record, Reply};
-use tree_shared::{Closed, Tally};
+use tree_shared::{ClosedOf, Tally};
 
 /// What racers do.
 #[derive(Clone, Copy)]
@@ -143,10 +143,10 @@ fn ends_with(history: &[Record<u64, u64>], rows: &[Row]) -> bool {
 
 /// Sees that the history that a race leaves replays to the index, and that it has what was called. Returns `Err` if a call
 /// was refused, or a request of its own.
-pub(crate) fn expect_left<R: Abort>(
+pub(crate) fn expect_left<R: Abort, const LEN: usize>(
     rt: &R,
     alloc: Global,
-    closed: &Closed<u64, u64>,
+    closed: &ClosedOf<u64, u64, LEN>,
     race: Race,
     served: bool,
 ) -> Result<(), AllocError> {

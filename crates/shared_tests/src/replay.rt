@@ -2,14 +2,14 @@
 use std::alloc::{AllocError, Global};
 use std::collections::BTreeMap;
 use std::ops::RangeBounds;
-use tree_index::{Command, Record, Reply, TreeIndex};
+use tree_index::{Command, Record, Reply, TreeIndexOf};
 
 /// Returns whether a map that is empty at first gives each command the reply in the history, and then has the pairs of
 /// the index.
-pub(crate) fn replays(
+pub(crate) fn replays<const LEN: usize>(
     alloc: Global,
     history: &[Record<u64, u64>],
-    index: &TreeIndex<u64, u64>,
+    index: &TreeIndexOf<u64, u64, LEN>,
 ) -> Result<bool, AllocError> {
     let mut map = BTreeMap::new(alloc);
     for record in history {
@@ -45,7 +45,10 @@ fn reply_of(
 }
 
 // Whether a map has the pairs of an index.
-fn has_the_pairs(map: &BTreeMap<u64, u64>, index: &TreeIndex<u64, u64>) -> bool {
+fn has_the_pairs<const LEN: usize>(
+    map: &BTreeMap<u64, u64>,
+    index: &TreeIndexOf<u64, u64, LEN>,
+) -> bool {
     for (pair, wanted) in map.iter().zip(index.iter()) {
         if pair != wanted {
             return false;

@@ -6,7 +6,7 @@ use crate::closing::{closes_with_all_passes, closes_without_workers, parts_while
 use crate::one_worker::{each_call, each_small_call, insert_and_remove};
 use crate::races::Race;
 use crate::refusals::{looks_a_text_up, refused_calls};
-use crate::threads::run_race;
+use crate::threads::{run_race, run_small_race};
 use std::alloc::{AllocError, Global};
 use std::marker::Brand;
 use std::process::Abort;
@@ -28,6 +28,7 @@ pub(crate) enum Scenario {
     Refusals,
     LookUpOfText,
     Threads(Race),
+    SmallThreads(Race),
 }
 
 /// Plays a scenario for so many workers, with ledgers of its own.
@@ -69,11 +70,14 @@ fn play_with<
     if let Scenario::LookUpOfText = scenario {
         return looks_a_text_up::<C, S, M, F, D, R>(rt, alloc, workers, blanks);
     }
-    if let Scenario::EachSmallCall = scenario {
+    if let Scenario::EachSmallCall | Scenario::SmallThreads(_) = scenario {
         let (shared, passes) = SharedTreeIndexOf::<u64, u64, C, S, M, F, D, 7>::new(
             alloc, workers, blanks,
         )?;
-        return each_small_call(rt, shared, passes);
+        return match scenario {
+            Scenario::SmallThreads(race) => run_small_race(rt, alloc, shared, passes, race),
+            _ => each_small_call(rt, shared, passes),
+        };
     }
     let (shared, passes) = SharedTreeIndex::<u64, u64, C, S, M, F, D>::new(alloc, workers, blanks)?;
     match scenario {
@@ -83,6 +87,6 @@ fn play_with<
         Scenario::EachCall => each_call(rt, shared, passes),
         Scenario::InsertAndRemove => insert_and_remove(rt, shared, passes),
         Scenario::Threads(race) => run_race(rt, alloc, shared, passes, race),
-        Scenario::Refusals | Scenario::LookUpOfText | Scenario::EachSmallCall => Ok(()),
+        _ => Ok(()),
     }
 }

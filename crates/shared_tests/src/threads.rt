@@ -12,7 +12,7 @@ use std::thread;
 use std::thread::Threads;
 use std::time::{Clock, Duration};
 use test_support::refusals::succeeds;
-use tree_shared::{Pass, SharedTreeIndex};
+use tree_shared::{Pass, SharedTreeIndex, SharedTreeIndexOf};
 
 // A thread's number and pass, and whether each of its calls was answered.
 #[derive(Drop)]
@@ -24,10 +24,10 @@ struct Racer<C: Ledger, S: Ledger, M: Ledger, F: Ledger, D: Ledger> {
 
 impl<C: Ledger, S: Ledger, M: Ledger, F: Ledger, D: Ledger> Racer<C, S, M, F, D> {
     // Makes its calls.
-    fn run<R: Wait + Abort>(
+    fn run<R: Wait + Abort, const LEN: usize>(
         mut self,
         rt: &R,
-        shared: &SharedTreeIndex<u64, u64, C, S, M, F, D>,
+        shared: &SharedTreeIndexOf<u64, u64, C, S, M, F, D, LEN>,
         race: Race,
     ) -> Self {
         for made in 0..race.calls(self.number) {
@@ -96,10 +96,11 @@ fn raced<
     F: Ledger + Send + Sync,
     D: Ledger + Send + Sync,
     R: Threads + Wait + Clock + Abort + Sync,
+    const LEN: usize,
 >(
     rt: &R,
     alloc: Global,
-    shared: &SharedTreeIndex<u64, u64, C, S, M, F, D>,
+    shared: &SharedTreeIndexOf<u64, u64, C, S, M, F, D, LEN>,
     passes: Vec<Pass<C, S, M, F, D>>,
     race: Race,
 ) -> Result<(Vec<Pass<C, S, M, F, D>>, bool), AllocError> {
@@ -141,25 +142,55 @@ pub(crate) fn run_race<
     expect_left(rt, alloc, &closed, race, served)
 }
 
+/// The same over an index of seven pairs a leaf.
+pub(crate) fn run_small_race<
+    C: Ledger + Send + Sync,
+    S: Ledger + Send + Sync,
+    M: Ledger + Send + Sync,
+    F: Ledger + Send + Sync,
+    D: Ledger + Send + Sync,
+    R: Threads + Wait + Clock + Abort + Sync,
+>(
+    rt: &R,
+    alloc: Global,
+    shared: SharedTreeIndexOf<u64, u64, C, S, M, F, D, 7>,
+    passes: Vec<Pass<C, S, M, F, D>>,
+    race: Race,
+) -> Result<(), AllocError> {
+    let (mut passes, mut served) = raced(rt, alloc, &shared, passes, race)?;
+    if let Some(pass) = passes.get_mut(0) {
+        served &= make_calls(rt, &shared, pass, race.last_calls()) == Ok(false);
+    }
+    let Ok(closed) = shared.close(passes) else {
+        panic!(rt; "not closed")
+    };
+    expect_left(rt, alloc, &closed, race, served)
+}
+
 // Plays a race, a second time where memory is refused.
-fn holds<R: Threads + Wait + Clock + Abort + Sync>(rt: &R, alloc: Global, race: Race) -> bool {
-    succeeds(
-        alloc,
-        || play(rt, alloc, race.racers(), Scenario::Threads(race)),
-    )
+fn holds<R: Threads + Wait + Clock + Abort + Sync>(
+    rt: &R,
+    alloc: Global,
+    race: Race,
+    scenario: Scenario,
+) -> bool {
+    succeeds(alloc, || play(rt, alloc, race.racers(), scenario))
 }
 
 #[test]
 fn two_threads_insert_the_same_keys(rt: HostRuntime) {
-    assert!(rt; holds(&rt, rt.alloc(), Race::Inserts));
+    let race = Race::Inserts;
+    for scenario in [Scenario::Threads(race), Scenario::SmallThreads(race)] {
+        assert!(rt; holds(&rt, rt.alloc(), race, scenario));
+    }
 }
 
 #[test]
 fn eight_threads_race(rt: HostRuntime) {
-    assert!(rt; holds(&rt, rt.alloc(), Race::Edits));
+    assert!(rt; holds(&rt, rt.alloc(), Race::Edits, Scenario::Threads(Race::Edits)));
 }
 
 #[test]
 fn a_range_is_removed_under_its_writers(rt: HostRuntime) {
-    assert!(rt; holds(&rt, rt.alloc(), Race::Cuts));
+    assert!(rt; holds(&rt, rt.alloc(), Race::Cuts, Scenario::Threads(Race::Cuts)));
 }
