@@ -6,9 +6,11 @@ ghost use Rattle.std.specs.Option.{option_map};
 ghost use Rattle.std.specs.Ordering.{nat_cmp};
 ghost use Rattle.tree_model.specs.Pairs.{pair_at};
 
+mod holders;
 mod keys;
 mod walks;
 
+pub use holders::{if_wanted, parts_of_market};
 pub use keys::Price;
 use tree_index::{InsertError, Judge, TreeIndex};
 use tree_model::laws::edits_are_found;
