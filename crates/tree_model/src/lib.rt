@@ -4,11 +4,10 @@
 
 mod bounds;
 mod commands;
+mod compound_keys;
 mod keys;
 pub mod laws;
-mod plain;
 
 pub use bounds::{is_above, is_below, range_contains};
 pub use commands::{Command, InsertError, Record, Reply};
 pub use keys::{IndexKey, SameClone};
-pub use plain::PlainIndex;

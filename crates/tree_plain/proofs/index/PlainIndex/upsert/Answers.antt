@@ -1,8 +1,8 @@
 use Rattle.std.proofs.Common.{sym, subst}
 use Rattle.tree_model.specs.Pairs.{IsAscending}
 use Rattle.tree_model.proofs.Ascending.{IsAscending-put}
-use Rattle.tree_model.proofs.Searches.{set-put}
-use Rattle.tree_model.proofs.plain.PlainIndex.upsert.Goals as goal
+use Rattle.tree_plain.proofs.Searches.{set-put}
+use Rattle.tree_plain.proofs.index.PlainIndex.upsert.Goals as goal
 
 -- the pair takes the place of the one with its key
 pub invariant_of-self : goal.invariant_of-self

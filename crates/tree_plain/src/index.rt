@@ -1,17 +1,16 @@
-//! A plain index over one ascending vector, which tests compare the tree with.
+//! An index over one ascending vector.
 ghost use Rattle.std.specs.Prelude.{◌≡◌, ◌≤◌, ◌↔◌, IsTrue, List, [], length, IfOk, IfErr, OnErr};
 ghost use Rattle.std.specs.Fn.{FnOnceReturnsAt, FnOnceTakesAt};
 ghost use Rattle.std.specs.Option.{ForSome, option_copied, option_map};
 ghost use Rattle.std.specs.Range.Bound.{bound_map};
 ghost use Rattle.tree_model.specs.Pairs.{IsAbsent, IsAscending, IsPresent, pair_at, without, cut};
 ghost use Rattle.tree_model.specs.Edits.{Inserts, RemovesIf, Upserts};
-ghost use Rattle.tree_model.specs.Places.{IsPlace, IsGap};
+ghost use Rattle.tree_plain.specs.Places.{IsPlace, IsGap};
 
-use crate::bounds::range_contains;
-use crate::commands::InsertError;
 use std::alloc::Global;
 use std::marker::Model;
 use std::ops::Bound;
+use tree_model::{InsertError, range_contains};
 
 /// An ordered index over one ascending vector of pairs. Contracts see the list of its pairs.
 ///

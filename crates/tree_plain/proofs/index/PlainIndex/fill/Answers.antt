@@ -1,8 +1,8 @@
 use Rattle.std.proofs.Common.{sym, ◌∙◌, subst}
 use Rattle.tree_model.specs.Pairs.{IsAscending}
 use Rattle.tree_model.proofs.Ascending.{IsAscending-put}
-use Rattle.tree_model.proofs.Searches.{insert-put}
-use Rattle.tree_model.proofs.plain.PlainIndex.fill.Goals as goal
+use Rattle.tree_plain.proofs.Searches.{insert-put}
+use Rattle.tree_plain.proofs.index.PlainIndex.fill.Goals as goal
 
 -- the pair goes into its gap
 pub invariant_of-self-2 : goal.invariant_of-self-2

@@ -1,8 +1,8 @@
 use Rattle.std.proofs.Common.{refl, sym, ◌∙◌, subst}
 use Rattle.tree_model.specs.Pairs.{IsAscending}
 use Rattle.tree_model.proofs.Ascending.{IsAscending-without}
-use Rattle.tree_model.proofs.Searches.{remove-without, place_present}
-use Rattle.tree_model.proofs.plain.PlainIndex.remove.Goals as goal
+use Rattle.tree_plain.proofs.Searches.{remove-without, place_present}
+use Rattle.tree_plain.proofs.index.PlainIndex.remove.Goals as goal
 
 -- the pair is gone from its place
 pub invariant_of-self : goal.invariant_of-self

@@ -1,7 +1,7 @@
 use Rattle.std.proofs.Common.{◌≡◌, rules}
 use Rattle.std.proofs.lemmas.Fn.{answers_by}
-use Rattle.tree_model.proofs.Searches.{searched}
-use Rattle.tree_model.proofs.plain.PlainIndex.place_of.Goals as goal
+use Rattle.tree_plain.proofs.Searches.{searched}
+use Rattle.tree_plain.proofs.index.PlainIndex.place_of.Goals as goal
 
 -- the closure compares a pair's key with the key
 pub returns-clause-found : goal.returns-clause-found

@@ -3,7 +3,7 @@ use Rattle.std.specs.Range.Bound.{bound_map}
 use Rattle.std.proofs.lemmas.Fn.{filter_same}
 use Rattle.tree_model.specs.Pairs.{IsAscending, cut}
 use Rattle.tree_model.proofs.Ascending.{IsAscending-cut}
-use Rattle.tree_model.proofs.plain.PlainIndex.remove_range.Goals as goal
+use Rattle.tree_plain.proofs.index.PlainIndex.remove_range.Goals as goal
 
 -- the closure asks whether a key is outside the bounds
 pub invariant_of-self : goal.invariant_of-self

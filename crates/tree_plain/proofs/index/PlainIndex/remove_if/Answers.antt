@@ -2,8 +2,8 @@ use Rattle.std.proofs.Common.{refl, sym, ◌∙◌, ap, subst}
 use Rattle.std.proofs.lemmas.Option.{same_Some}
 use Rattle.tree_model.specs.Pairs.{IsAscending}
 use Rattle.tree_model.proofs.Ascending.{IsAscending-without}
-use Rattle.tree_model.proofs.Searches.{remove-without, pair_read}
-use Rattle.tree_model.proofs.plain.PlainIndex.remove_if.Goals as goal
+use Rattle.tree_plain.proofs.Searches.{remove-without, pair_read}
+use Rattle.tree_plain.proofs.index.PlainIndex.remove_if.Goals as goal
 
 -- the condition is asked of the value at the key
 pub condition-requires : goal.condition-requires

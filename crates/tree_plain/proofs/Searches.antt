@@ -10,7 +10,7 @@ use Rattle.std.proofs.lemmas.Cmp.{tied_back}
 use Rattle.std.proofs.lemmas.List.Elements.{All-from_recursion, recursion_from_All}
 use Rattle.std.proofs.lemmas.Option.{slice_get_read}
 use Rattle.tree_model.specs.Pairs.{IsAscending, IsPresent, pair_at, put, without}
-use Rattle.tree_model.specs.Places.{IsPlace, IsGap}
+use Rattle.tree_plain.specs.Places.{IsPlace, IsGap}
 use Rattle.tree_model.proofs.Order.{greater_from_less, less_from_greater, alike, alike_after}
 use Rattle.tree_model.proofs.Lists.{all_map, filter_none, filter_all, find_none}
 
