@@ -12,7 +12,7 @@ ghost use Rattle.tree_array.specs.declared.answers.InsertResult.TheVariants.{Ful
 ghost use Rattle.tree_calls.specs.CleanUps.{NeedsCleanUp};
 ghost use Rattle.tree_cut.specs.Cuts.{CutsUnder};
 ghost use Rattle.tree_insert.specs.Inserts.{InsertsPlainly};
-ghost use Rattle.tree_leaf.specs.declared.leaf.stand.Way.TheVariants.{On, Back};
+ghost use Rattle.tree_chain.specs.declared.stand.Way.TheVariants.{On, Back};
 ghost use Rattle.tree_model.specs.Pairs.{IsAbsent, pair_at};
 ghost use Rattle.tree_walk.specs.Ends.{BeginsPart, IsLinked};
 ghost use Rattle.tree_node.specs.Parts.{IsPart, Unchanged};
@@ -23,11 +23,11 @@ ghost use Rattle.tree_remove.specs.Removes.{RemovesUnder};
 
 use std::ops::Bound;
 use tree_array::array::{IndexKey, InsertResult, Judge, RemoveResult};
+use tree_chain::{IterOf, RevIterOf};
 use tree_cut::cutting::remove_range_at;
 use tree_descent::look_ups::search_at;
 use tree_insert::insertion::insert_at;
 use tree_leaf::arena::NodeId;
-use tree_leaf::leaf::{IterOf, RevIterOf};
 use tree_node::depth::level_of;
 use tree_node::internal_node::InternalNodeOf;
 use tree_node::leaf_node::LeafNodeOf;

@@ -1,8 +1,8 @@
 -- Moves of a cursor, one after another.
 use Rattle.std.specs.Prelude.{◌≡◌, Bool, List, [], ◌∷◌, Option, None}
 use Rattle.std.specs.declared.cmp.Ordering.{Ordering}
-use Rattle.tree_leaf.specs.declared.leaf.stand.Way.{Way}
-use Rattle.tree_leaf.specs.declared.leaf.stand.Way.TheVariants.{On, Back}
+use Rattle.tree_chain.specs.declared.stand.Way.{Way}
+use Rattle.tree_chain.specs.declared.stand.Way.TheVariants.{On, Back}
 use Rattle.tree_cursor_model.specs.declared.moves.Move.{Move}
 use Rattle.tree_cursor_model.specs.declared.moves.Move.TheVariants.{Next, NextBack, Get, GetBack, Flip}
 use Rattle.tree_cursor_model.specs.declared.moves.Answer.{Answer}

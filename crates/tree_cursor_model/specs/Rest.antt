@@ -4,10 +4,10 @@ use Rattle.std.specs.Borrow.{Bor}
 use Rattle.std.specs.Option.{option_map}
 use Rattle.std.specs.declared.cmp.Ordering.{Ordering}
 use Rattle.tree_model.specs.Pairs.{IsAscending, within}
-use Rattle.tree_leaf.specs.declared.leaf.stand.Way.{Way}
-use Rattle.tree_leaf.specs.declared.leaf.stand.Way.TheVariants.{On, Back}
-use Rattle.tree_leaf.specs.Walks.{lent_entry}
-use Rattle.tree_leaf.specs.Ways.{along}
+use Rattle.tree_chain.specs.declared.stand.Way.{Way}
+use Rattle.tree_chain.specs.declared.stand.Way.TheVariants.{On, Back}
+use Rattle.tree_chain.specs.Walks.{lent_entry}
+use Rattle.tree_chain.specs.Ways.{along}
 use Rattle.tree_cursor_model.specs.Cursor.{Cursor, End, unopened, at_place, exhausted, bound_on, end_on, meets, moved, shown_apart}
 
 -- the place behind a forward end, and the place of a backward end

@@ -10,14 +10,14 @@ use Rattle.std.specs.declared.cmp.Ordering.{Ordering}
 use Rattle.std.specs.declared.ops.Bound.{Bound}
 use Rattle.slab.specs.Slab.{Slab}
 use Rattle.tree_leaf.specs.declared.leaf.LeafOf.{LeafOf}
-use Rattle.tree_leaf.specs.declared.leaf.stand.Way.{Way}
-use Rattle.tree_leaf.specs.declared.leaf.stand.Way.TheVariants.{On, Back}
+use Rattle.tree_chain.specs.declared.stand.Way.{Way}
+use Rattle.tree_chain.specs.declared.stand.Way.TheVariants.{On, Back}
 use Rattle.tree_leaf.specs.Chain.{IsChain}
 use Rattle.tree_leaf.specs.Counting.{times}
 use Rattle.tree_leaf.specs.Entries.{entries_of, leaf_entries}
-use Rattle.tree_leaf.specs.Rest.{left_of}
-use Rattle.tree_leaf.specs.Walks.{LeafWalk, here, lent_entry, standing, stood_on}
-use Rattle.tree_leaf.specs.Ways.{ahead, along, beyond, places_left}
+use Rattle.tree_chain.specs.Rest.{left_of}
+use Rattle.tree_chain.specs.Walks.{LeafWalk, here, lent_entry, standing, stood_on}
+use Rattle.tree_chain.specs.Ways.{ahead, along, beyond, places_left}
 use Rattle.tree_leaf.proofs.Chains.{counted}
 use Rattle.tree_leaf.proofs.Counts.{one_here, times-cons, uses_le_one}
 use Rattle.tree_node.specs.Arenas.{TreeArenas}

@@ -3,7 +3,7 @@ ghost use Rattle.std.specs.Prelude.{◌≡◌, Some};
 ghost use Rattle.std.specs.Ordering.{is_lt};
 ghost use Rattle.std.specs.Range.Bound.{bound_map};
 ghost use Rattle.std.specs.declared.ops.Bound.{Bound as AnyBound};
-ghost use Rattle.tree_leaf.specs.Walks.{stood_on};
+ghost use Rattle.tree_chain.specs.Walks.{stood_on};
 ghost use Rattle.tree_node.specs.Whole.{IsTree, walk_under};
 ghost use Rattle.tree_cursor_model.specs.Cursor.{next_end, unopened};
 ghost use Rattle.tree_cursor_model.specs.Rest.{lent};
@@ -12,8 +12,9 @@ ghost use Rattle.tree_cursors.specs.View.{EndStands, GoesOn, Stands, end_of, pai
 use crate::seek::{advance, seek_at};
 use crate::way::EndWay;
 use std::ops::Bound;
+use tree_chain::{LinkedIter, SlotWalk};
 use tree_leaf::arena::NodeId;
-use tree_leaf::leaf::{LeafOf, LinkedIter, SlotWalk};
+use tree_leaf::leaf::LeafOf;
 use tree_node::node::ArenasOf;
 
 /// Where an end of a cursor is: it was never moved, it stands on an entry, or it has left the tree.

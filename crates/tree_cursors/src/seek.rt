@@ -7,8 +7,9 @@ ghost use Rattle.tree_cursors.specs.Seek.{Advances, IsLeafFor, Opens, Seeks};
 
 use crate::way::EndWay;
 use std::ops::Bound;
+use tree_chain::{LinkedIter, SlotWalk};
 use tree_leaf::arena::{LeafId, NodeId};
-use tree_leaf::leaf::{LeafOf, LinkedIter, SlotWalk};
+use tree_leaf::leaf::LeafOf;
 use tree_node::node::{ArenasOf, NodeOf};
 use tree_node::routing::child_place_for;
 use tree_walk::ends::walk_from_end;

@@ -5,7 +5,7 @@ ghost use Rattle.tree_cursor_model.specs.Cursor.{meets};
 
 use std::ops::Bound;
 use tree_array::array::{ArrayIter, ArrayRevIter};
-use tree_leaf::leaf::Reversible;
+use tree_chain::Reversible;
 use tree_model::{is_above, is_below};
 use tree_walk::children::ChildWalk;
 

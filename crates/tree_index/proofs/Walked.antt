@@ -6,8 +6,8 @@ use Rattle.std.specs.List.{AllByRecursion}
 use Rattle.std.specs.declared.cmp.Ordering.{Ordering}
 use Rattle.std.specs.declared.ops.Bound.TheVariants.{Unbounded}
 use Rattle.tree_model.proofs.Lists.{filter_all}
-use Rattle.tree_leaf.specs.declared.leaf.stand.Way.TheVariants.{On}
-use Rattle.tree_leaf.specs.Rest.{TakesFirst}
+use Rattle.tree_chain.specs.declared.stand.Way.TheVariants.{On}
+use Rattle.tree_chain.specs.Rest.{TakesFirst}
 use Rattle.tree_cursor_model.specs.Cursor.{fresh}
 use Rattle.tree_cursor_model.specs.Rest.{rest}
 use Rattle.tree_ranges.proofs.Yields.{rest_fresh}

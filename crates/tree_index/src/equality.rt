@@ -3,7 +3,7 @@ ghost use Rattle.std.specs.Prelude.{◌≡◌, ◌&&◌};
 ghost use Rattle.std.specs.Cmp.Lexicographic.{pointwise, lists_equiv, lists_per};
 ghost use Rattle.std.specs.Cmp.{and_equiv, and_per, on_equiv, on_per};
 ghost use Rattle.tree_cursor_model.specs.Rest.{HasBegun, rest};
-ghost use Rattle.tree_leaf.specs.declared.leaf.stand.Way.TheVariants.{On};
+ghost use Rattle.tree_chain.specs.declared.stand.Way.TheVariants.{On};
 
 use crate::index::TreeIndexOf;
 use tree_array::array::IndexKey;

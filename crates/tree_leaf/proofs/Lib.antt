@@ -1,11 +1,6 @@
 pub mod Additions
-pub mod Along
 pub mod Chains
 pub mod Counts
-pub mod Jumps
 pub mod Pigeonhole
-pub mod Rests
 pub mod Rooms
 pub mod Splices
-pub mod Steps
-pub mod Ways

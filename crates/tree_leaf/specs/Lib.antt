@@ -4,6 +4,3 @@ pub mod Counting
 pub mod Entries
 pub mod Lending
 pub mod Links
-pub mod Rest
-pub mod Walks
-pub mod Ways

@@ -16,7 +16,7 @@ pub use ids::{LeafId, NodeId};
 /// that is removed.
 #[derive(Drop)]
 pub struct SlotsOf<K: Ord, V, N, const LEN: usize> {
-    pub(crate) leaves: Slab<LeafOf<K, V, LEN>>,
+    leaves: Slab<LeafOf<K, V, LEN>>,
     nodes: Slab<N>,
     /// Always `None`. With it and `no_node` the type shows that a leaf and a node fit into memory, which
     /// each call on them requires.
@@ -77,12 +77,19 @@ impl<K: Ord + Drop, V: Drop, N: Drop, const LEN: usize> SlotsOf<K, V, N, LEN> {
         }
     }
 
+    /// Returns the arena of the leaves alone. Runs in constant time.
+    pub fn leaves(&self) -> &Slab<LeafOf<K, V, LEN>>
+        ensures { result.now ≡ self.now.leaves }
+    {
+        &self.leaves
+    }
+
     /// Returns the leaf under a number. Runs in constant time. The caller must name a number in use.
     pub fn leaf(&self, id: LeafId) -> &LeafOf<K, V, LEN>
         requires { ContainsKey self.now.leaves id }
         ensures { get self.now.leaves id ≡ Some result.now }
     {
-        &self.leaves[id.0]
+        leaf_at(&self.leaves, id)
     }
 
     /// Returns the leaf under a number for writing. Runs in constant time. The caller must name a number
@@ -156,4 +163,12 @@ impl<K: Ord + Drop, V: Drop, N: Drop, const LEN: usize> SlotsOf<K, V, N, LEN> {
     {
         self.nodes.len()
     }
+}
+
+/// Returns the leaf under a number of an arena of leaves. Runs in constant time. The caller must name a number in use.
+pub fn leaf_at<K: Ord + Drop, V: Drop, const LEN: usize>(leaves: &Slab<LeafOf<K, V, LEN>>, id: LeafId) -> &LeafOf<K, V, LEN>
+    requires { ContainsKey leaves.now id }
+    ensures { get leaves.now id ≡ Some result.now }
+{
+    &leaves[id.0]
 }

@@ -5,17 +5,11 @@ ghost use Rattle.tree_array.specs.Arrivals.{arrival, in_order};
 ghost use Rattle.tree_array.specs.Length.{IsLen};
 
 use crate::arena::LeafId;
-use tree_array::array::{ArrayIter, ArrayOf};
+use tree_array::array::ArrayOf;
 
-mod iter;
 mod links;
-mod slot_walk;
-mod stand;
 
-pub use iter::{Iter, IterOf, LinkedIter, RevIter, RevIterOf};
 pub use links::{add_before, splice_link, unlink};
-pub use slot_walk::{Reversible, SlotWalk};
-pub use stand::Walked;
 
 /// A leaf: an array of `LEN` slots, 7 or 15, and the numbers of the leaves before and after it.
 #[derive(Drop)]
@@ -75,8 +69,8 @@ impl<K: Ord + Drop, V: Drop, const LEN: usize> LeafOf<K, V, LEN> {
         self.next
     }
 
-    /// Returns the entry of a slot. The caller must name a reachable slot.
-    fn entry(&self, slot: u8) -> (&K, &V)
+    /// Returns the entry of a slot. Runs in constant time. The caller must name a reachable slot.
+    pub fn entry(&self, slot: u8) -> (&K, &V)
         requires { IsSome (arrival self.now.array.arrivals slot) }
         ensures { arrival self.now.array.arrivals slot ≡ Some (result.0.now, result.1.now) }
     {

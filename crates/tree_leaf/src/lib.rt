@@ -1,6 +1,5 @@
-//! Leaves and nodes under numbers, and leaves linked into one chain that is walked either way.
+//! Leaves and nodes under numbers, and the links that make leaves one chain.
 #![tactic(auto)]
 
 pub mod arena;
-pub mod laws;
 pub mod leaf;

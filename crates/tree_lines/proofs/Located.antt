@@ -11,7 +11,7 @@ use Rattle.std.proofs.lemmas.Cmp.{nat_cmp_total, tied_back}
 use Rattle.tree_model.specs.Pairs.{AllLarger, IsAscending, above, below, pair_at}
 use Rattle.tree_model.proofs.Lists.{all_map, filter_all, filter_none, find_none}
 use Rattle.tree_model.proofs.Order.{alike, greater_from_less, less_from_greater}
-use Rattle.tree_leaf.specs.declared.leaf.stand.Way.TheVariants.{On, Back}
+use Rattle.tree_chain.specs.declared.stand.Way.TheVariants.{On, Back}
 use Rattle.tree_cursor_model.specs.declared.proximity.ProximityOf.{ProximityOf}
 use Rattle.tree_cursor_model.specs.declared.proximity.ProximityOf.TheVariants.{Exact, Between, Smaller, Larger, Empty}
 use Rattle.tree_cursor_model.specs.Cursor.{Cursor, at_place, shown, unopened, with_ends}

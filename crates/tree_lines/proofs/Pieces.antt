@@ -6,10 +6,10 @@ use Rattle.std.specs.Ordering.{nat_cmp}
 use Rattle.std.specs.declared.ops.Bound.TheVariants.{Unbounded}
 use Rattle.std.proofs.KnownBytes.{Appends-nil, Appends-trans}
 use Rattle.std.proofs.lemmas.Cmp.{nat_cmp_total}
-use Rattle.tree_leaf.specs.declared.leaf.stand.Way.{Way}
-use Rattle.tree_leaf.specs.declared.leaf.stand.Way.TheVariants.{Back}
-use Rattle.tree_leaf.specs.Walks.{lent_entry}
-use Rattle.tree_leaf.specs.Ways.{along}
+use Rattle.tree_chain.specs.declared.stand.Way.{Way}
+use Rattle.tree_chain.specs.declared.stand.Way.TheVariants.{Back}
+use Rattle.tree_chain.specs.Walks.{lent_entry}
+use Rattle.tree_chain.specs.Ways.{along}
 use Rattle.tree_cursor_model.specs.Cursor.{Cursor, fresh}
 use Rattle.tree_cursor_model.specs.Rest.{HasBegun, Moves, rest}
 use Rattle.tree_ranges.specs.Ranged.{IsFresh, pairs_within}

@@ -4,8 +4,8 @@ use Rattle.std.specs.Prelude.{is_some, not}
 use Rattle.std.specs.Cmp.{IsTotalOrder}
 use Rattle.std.specs.declared.cmp.Ordering.{Ordering}
 use Rattle.std.specs.declared.ops.Bound.{Bound}
-use Rattle.tree_leaf.specs.declared.leaf.stand.Way.TheVariants.{On, Back}
-use Rattle.tree_leaf.specs.Walks.{LeafWalk}
+use Rattle.tree_chain.specs.declared.stand.Way.TheVariants.{On, Back}
+use Rattle.tree_chain.specs.Walks.{LeafWalk}
 use Rattle.tree_node.specs.Arenas.{TreeArenas}
 use Rattle.tree_cursor_model.specs.Cursor.{Cursor, End, can_flip, can_turn, flipped, is_unopened, shown, turned}
 use Rattle.tree_cursor_model.specs.Rest.{lent}

@@ -7,10 +7,10 @@ use Rattle.std.specs.Range.Bound.{bound_map}
 use Rattle.std.specs.declared.cmp.Ordering.{Ordering}
 use Rattle.std.specs.declared.ops.Bound.{Bound}
 use Rattle.std.proofs.lemmas.Option.{slice_get_within}
-use Rattle.tree_leaf.specs.declared.leaf.stand.Way.{Way}
-use Rattle.tree_leaf.specs.declared.leaf.stand.Way.TheVariants.{On, Back}
-use Rattle.tree_leaf.specs.Walks.{LeafWalk, lent_entry}
-use Rattle.tree_leaf.specs.Ways.{opposite}
+use Rattle.tree_chain.specs.declared.stand.Way.{Way}
+use Rattle.tree_chain.specs.declared.stand.Way.TheVariants.{On, Back}
+use Rattle.tree_chain.specs.Walks.{LeafWalk, lent_entry}
+use Rattle.tree_chain.specs.Ways.{opposite}
 use Rattle.tree_node.specs.Arenas.{TreeArenas}
 use Rattle.tree_node.specs.Whole.{walk_under}
 use Rattle.tree_cursor_model.specs.Cursor.{Cursor, End, unopened, at_place, exhausted, are_apart, bound_on, element_at, end_at, end_on, first_place, meets, moved, next_end, option_where, place_beside, shown, shown_apart}

@@ -5,7 +5,7 @@ use Rattle.std.specs.Ordering.{is_lt}
 use Rattle.std.specs.declared.cmp.Ordering.{Ordering}
 use Rattle.slab.specs.Slab.{get}
 use Rattle.tree_model.specs.Pairs.{IsAscending}
-use Rattle.tree_leaf.specs.Walks.{LeafWalk, stood_on}
+use Rattle.tree_chain.specs.Walks.{LeafWalk, stood_on}
 use Rattle.tree_node.specs.Arenas.{TreeArenas}
 use Rattle.tree_node.specs.Tree.{Stands as PartStands, walk}
 use Rattle.tree_node.specs.Whole.{IsRetiredRoot, IsTop, IsTree, walk_under}

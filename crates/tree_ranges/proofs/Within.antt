@@ -11,10 +11,10 @@ use Rattle.std.proofs.lemmas.Bool.Decides.{nat_tests}
 use Rattle.std.proofs.lemmas.List.{reverse-reverse}
 use Rattle.std.proofs.lemmas.Option.{slice_get_within}
 use Rattle.tree_model.specs.Pairs.{IsAscending}
-use Rattle.tree_leaf.specs.declared.leaf.stand.Way.{Way}
-use Rattle.tree_leaf.specs.declared.leaf.stand.Way.TheVariants.{On, Back}
-use Rattle.tree_leaf.specs.Walks.{LeafWalk, Steps, here, lent_entry}
-use Rattle.tree_leaf.specs.Ways.{StepsOver, along, opposite}
+use Rattle.tree_chain.specs.declared.stand.Way.{Way}
+use Rattle.tree_chain.specs.declared.stand.Way.TheVariants.{On, Back}
+use Rattle.tree_chain.specs.Walks.{LeafWalk, Steps, here, lent_entry}
+use Rattle.tree_chain.specs.Ways.{StepsOver, along, opposite}
 use Rattle.tree_node.specs.Arenas.{TreeArenas}
 use Rattle.slab.specs.Slab.{get}
 use Rattle.tree_node.specs.declared.node.NodeOf.{NodeOf}

@@ -2,8 +2,8 @@
 use Rattle.std.specs.Prelude.{◌≡◌, ℕ, true, List, ◌∷◌, ◌++◌, Option, Some, MatchOption}
 use Rattle.std.specs.declared.cmp.Ordering.{Ordering}
 use Rattle.std.specs.declared.ops.Bound.{Bound}
-use Rattle.tree_leaf.specs.declared.leaf.stand.Way.{Way}
-use Rattle.tree_leaf.specs.Walks.{LeafWalk, stood_on}
+use Rattle.tree_chain.specs.declared.stand.Way.{Way}
+use Rattle.tree_chain.specs.Walks.{LeafWalk, stood_on}
 use Rattle.tree_node.specs.Arenas.{TreeArenas}
 use Rattle.tree_node.specs.Tree.{walk}
 use Rattle.tree_cursor_model.specs.Cursor.{meets}

@@ -3,7 +3,7 @@ use Rattle.std.specs.Prelude.{Bool, false, if◌then◌else◌, List, Option, No
 use Rattle.std.specs.Ordering.{is_eq}
 use Rattle.std.specs.declared.cmp.Ordering.{Ordering}
 use Rattle.std.specs.declared.ops.Bound.TheVariants.{Unbounded}
-use Rattle.tree_leaf.specs.declared.leaf.stand.Way.TheVariants.{Back}
+use Rattle.tree_chain.specs.declared.stand.Way.TheVariants.{Back}
 use Rattle.tree_cursor_model.specs.declared.proximity.ProximityOf.{ProximityOf}
 use Rattle.tree_cursor_model.specs.declared.proximity.ProximityOf.TheVariants.{Between, Smaller, Larger, Empty}
 use Rattle.tree_cursor_model.specs.Cursor.{Cursor, End, unopened, element_at, next_end, with_ends}

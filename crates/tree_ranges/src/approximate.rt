@@ -2,8 +2,8 @@
 ghost use Rattle.std.specs.Prelude.{◌≡◌, ◌<◌, if◌then◌else◌};
 ghost use Rattle.std.specs.Option.{option_map};
 ghost use Rattle.std.specs.declared.ops.Bound.TheVariants.{Included};
-ghost use Rattle.tree_leaf.specs.declared.leaf.stand.Way.TheVariants.{On, Back};
-ghost use Rattle.tree_leaf.specs.Ways.{opposite};
+ghost use Rattle.tree_chain.specs.declared.stand.Way.TheVariants.{On, Back};
+ghost use Rattle.tree_chain.specs.Ways.{opposite};
 ghost use Rattle.tree_node.specs.Tree.{StandsOrRetired, walk};
 ghost use Rattle.tree_walk.specs.Ends.{IsLinked, first_on};
 ghost use Rattle.tree_cursor_model.specs.Rest.{lent};
@@ -11,10 +11,11 @@ ghost use Rattle.tree_ranges.specs.Approximate.{Approximates};
 
 use std::ops::Bound;
 use tree_array::array::{ArrayIter, ArrayRevIter};
+use tree_chain::{IterOf, LinkedIter};
 use tree_cursors::seek::seek_at;
 use tree_cursors::way::EndWay;
 use tree_leaf::arena::NodeId;
-use tree_leaf::leaf::{IterOf, LeafOf, LinkedIter};
+use tree_leaf::leaf::LeafOf;
 use tree_node::node::ArenasOf;
 use tree_walk::children::ChildWalk;
 use tree_walk::ends::walk_from_end;

@@ -1,7 +1,7 @@
 //! What both cursors can do, and many moves at once.
 ghost use Rattle.std.specs.Prelude.{◌≡◌, IfOk, OnErr, OnOk, Option, map};
 ghost use Rattle.std.specs.Borrow.{Bor};
-ghost use Rattle.tree_leaf.specs.declared.leaf.stand.Way.TheVariants.{On, Back};
+ghost use Rattle.tree_chain.specs.declared.stand.Way.TheVariants.{On, Back};
 ghost use Rattle.tree_model.specs.Pairs.{IsAscending};
 ghost use Rattle.tree_cursor_model.specs.declared.moves.Move.TheVariants.{Next, NextBack};
 ghost use Rattle.tree_cursor_model.specs.Cursor.{Cursor as Seen, shown};

@@ -8,9 +8,10 @@ ghost use Rattle.tree_ranges.specs.Beside.{is_at};
 ghost use Rattle.tree_ranges.specs.Ranged.{TellsApart, is_new};
 
 use std::ops::Bound;
+use tree_chain::{IterOf, LinkedIter, RevIterOf, Reversible, SlotWalk, Walked};
 use tree_cursors::end::{End, comes_before, pair_on};
 use tree_cursors::way::EndWay;
-use tree_leaf::leaf::{IterOf, LeafOf, LinkedIter, RevIterOf, Reversible, SlotWalk, Walked};
+use tree_leaf::leaf::LeafOf;
 
 /// Returns whether neither end is exhausted, and the forward one stands before the backward one. Makes at most
 /// one comparison. The caller must have ends that stand in one tree.

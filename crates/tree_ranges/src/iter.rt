@@ -2,7 +2,7 @@
 ghost use Rattle.std.specs.Prelude.{◌≡◌, ⊤};
 ghost use Rattle.std.specs.Iterator.{at_most};
 ghost use Rattle.std.specs.declared.ops.Bound.TheVariants.{Unbounded};
-ghost use Rattle.tree_leaf.specs.declared.leaf.stand.Way.TheVariants.{On, Back};
+ghost use Rattle.tree_chain.specs.declared.stand.Way.TheVariants.{On, Back};
 ghost use Rattle.tree_model.specs.Pairs.{IsAscending};
 ghost use Rattle.tree_node.specs.Whole.{IsTree, walk_under};
 ghost use Rattle.tree_cursor_model.specs.Cursor.{fresh, opened, shown, with_ends};
@@ -16,9 +16,10 @@ use std::fmt;
 use std::iter::FusedIterator;
 use std::marker::Model;
 use std::ops::Bound;
+use tree_chain::{IterOf as WalkOf, RevIterOf as RevWalkOf, Walked};
 use tree_cursors::end::End;
 use tree_leaf::arena::NodeId;
-use tree_leaf::leaf::{IterOf as WalkOf, LeafOf, RevIterOf as RevWalkOf, Walked};
+use tree_leaf::leaf::LeafOf;
 use tree_node::node::ArenasOf;
 
 /// All pairs of a tree, from both ends.

@@ -1,7 +1,7 @@
 //! Where a key is among the pairs of a tree.
 ghost use Rattle.std.specs.Prelude.{◌≡◌};
 ghost use Rattle.std.specs.declared.ops.Bound.TheVariants.{Included, Unbounded};
-ghost use Rattle.tree_leaf.specs.declared.leaf.stand.Way.TheVariants.{On, Back};
+ghost use Rattle.tree_chain.specs.declared.stand.Way.TheVariants.{On, Back};
 ghost use Rattle.tree_node.specs.Whole.{IsTree, walk_under};
 ghost use Rattle.tree_cursor_model.specs.Cursor.{next_end, unopened};
 ghost use Rattle.tree_cursor_model.specs.Located.{located};
@@ -11,10 +11,10 @@ ghost use Rattle.tree_ranges.specs.Beside.{located_beside, located_past};
 use crate::ends::{again, has_pair, stands_at, turned};
 use crate::iter::{IterOf, IterOver};
 use std::ops::Bound;
+use tree_chain::{IterOf as WalkOf, RevIterOf as RevWalkOf};
 use tree_cursor_model::ProximityOf;
 use tree_cursors::end::{End, step};
 use tree_leaf::arena::NodeId;
-use tree_leaf::leaf::{IterOf as WalkOf, RevIterOf as RevWalkOf};
 use tree_node::node::ArenasOf;
 
 /// Where a key is among pairs, with fifteen pairs a leaf.

@@ -2,7 +2,7 @@
 ghost use Rattle.std.specs.Prelude.{◌≡◌, ⊤};
 ghost use Rattle.std.specs.Iterator.{at_most};
 ghost use Rattle.std.specs.Range.Bound.{bound_map};
-ghost use Rattle.tree_leaf.specs.declared.leaf.stand.Way.TheVariants.{On, Back};
+ghost use Rattle.tree_chain.specs.declared.stand.Way.TheVariants.{On, Back};
 ghost use Rattle.tree_model.specs.Pairs.{IsAscending};
 ghost use Rattle.tree_node.specs.Whole.{IsTree, walk_under};
 ghost use Rattle.tree_cursor_model.specs.Cursor.{fresh, opened, shown, with_ends};
@@ -17,9 +17,10 @@ use std::marker::{Model, PhantomData};
 use std::ops::Bound;
 use std::{fmt, mem};
 use tree_array::array::{ArrayIter, ArrayRevIter};
+use tree_chain::{IterOf as WalkOf, LinkedIter, RevIterOf as RevWalkOf, Walked};
 use tree_cursors::end::{End, step};
 use tree_leaf::arena::NodeId;
-use tree_leaf::leaf::{IterOf as WalkOf, LeafOf, LinkedIter, RevIterOf as RevWalkOf, Walked};
+use tree_leaf::leaf::LeafOf;
 use tree_node::node::ArenasOf;
 
 /// A type of arenas to go through with a cursor, with what the cursor keeps. It has no methods.
@@ -27,7 +28,7 @@ pub trait Ranged<K, V, L: Walked> {
     ghost use Rattle.std.specs.Prelude.{ℕ, Option};
     ghost use Rattle.std.specs.Borrow.{Bor};
     ghost use Rattle.std.specs.declared.ops.Bound.{Bound as AnyBound};
-    ghost use Rattle.tree_leaf.specs.Walks.{LinkedWalk};
+    ghost use Rattle.tree_chain.specs.Walks.{LinkedWalk};
     ghost use Rattle.tree_cursor_model.specs.Cursor.{Cursor};
     ghost use Rattle.tree_cursors.specs.declared.end.End.{End as TreeEnd};
 

@@ -8,8 +8,9 @@ ghost use Rattle.tree_walk.specs.Ends.{IsLinked};
 
 use crate::flaw::{Flaw, expect};
 use tree_array::array::{ArrayIter, ArrayOf};
+use tree_chain::{IterOf, RevIterOf};
 use tree_leaf::arena::{LeafId, NodeId};
-use tree_leaf::leaf::{IterOf, LeafOf, RevIterOf};
+use tree_leaf::leaf::LeafOf;
 use tree_node::node::{ArenasOf, NodeOf};
 use tree_walk::ends::{max_at, min_at};
 

@@ -4,7 +4,7 @@ use Rattle.std.specs.List.{AllByRecursion}
 use Rattle.std.proofs.lemmas.Option.{slice_get-map}
 use Rattle.tree_array.specs.Arrivals.{Arrivals, arrival}
 use Rattle.tree_array.specs.Walk.{Walk, StepsOn, place_ahead, standing}
-use Rattle.tree_leaf.proofs.Steps.{same_place}
+use Rattle.tree_chain.proofs.Steps.{same_place}
 use Rattle.tree_node.specs.Tree.{in_turn}
 use Rattle.tree_node.proofs.Lists.{all_middle}
 pub use Rattle.tree_walk.specs.Children.{IsOverKeyed, keyed_children}

@@ -4,11 +4,11 @@ use Rattle.std.proofs.lemmas.List.{append-nil}
 use Rattle.std.proofs.lemmas.List.Concat.{flat_map-append}
 use Rattle.slab.specs.Slab.{Slab}
 use Rattle.tree_leaf.specs.declared.leaf.LeafOf.{LeafOf}
-use Rattle.tree_leaf.specs.declared.leaf.stand.Way.{Way}
-use Rattle.tree_leaf.specs.declared.leaf.stand.Way.TheVariants.{On, Back}
+use Rattle.tree_chain.specs.declared.stand.Way.{Way}
+use Rattle.tree_chain.specs.declared.stand.Way.TheVariants.{On, Back}
 use Rattle.tree_leaf.specs.Chain.{IsChain}
 use Rattle.tree_leaf.specs.Entries.{leaf_entries, entries_of}
-use Rattle.tree_leaf.specs.Walks.{LeafWalk, standing, first_of, last_of}
+use Rattle.tree_chain.specs.Walks.{LeafWalk, standing, first_of, last_of}
 use Rattle.tree_node.specs.Arenas.{TreeArenas}
 use Rattle.tree_walk.specs.Ends.{BeginsPart, IsFirstOn, IsLinked, first_on, passed}
 use Rattle.tree_node.specs.Tree.{leaves_at}

@@ -2,9 +2,9 @@
 use Rattle.std.specs.Prelude.{◌≡◌, ℕ, Bool, true, false, List, ◌++◌, map, Option, Some, option_to_list}
 use Rattle.tree_array.specs.Arrivals.{Arrivals, arrival}
 use Rattle.tree_array.specs.Walk.{Walk}
-use Rattle.tree_leaf.specs.declared.leaf.stand.Way.{Way}
-use Rattle.tree_leaf.specs.declared.leaf.stand.Way.TheVariants.{On, Back}
-use Rattle.tree_leaf.specs.Ways.{ahead}
+use Rattle.tree_chain.specs.declared.stand.Way.{Way}
+use Rattle.tree_chain.specs.declared.stand.Way.TheVariants.{On, Back}
+use Rattle.tree_chain.specs.Ways.{ahead}
 
 -- the way against the order of the keys, on which the unbounded child comes first
 abbrev pub is_back : Way → Bool

@@ -1,12 +1,12 @@
 //! The children of a node in turn, in the order of their keys or against it.
 ghost use Rattle.std.specs.Prelude.{◌≡◌};
 ghost use Rattle.std.specs.Iterator.{YieldsFirst, item_count};
-ghost use Rattle.tree_leaf.specs.Ways.{along};
+ghost use Rattle.tree_chain.specs.Ways.{along};
 ghost use Rattle.tree_walk.specs.Children.{all_children};
 
 use std::marker::Model;
 use tree_array::array::{ArrayIter, ArrayOf, ArrayRevIter};
-use tree_leaf::leaf::SlotWalk;
+use tree_chain::SlotWalk;
 
 /// An iterator over the slots of an array that goes through the keyed children of a node.
 pub trait ChildWalk: SlotWalk {

@@ -2,17 +2,18 @@
 ghost use Rattle.std.specs.Prelude.{◌≡◌, ◌<◌, [], ◌∷◌, MatchOption};
 ghost use Rattle.std.specs.List.{AllByRecursion};
 ghost use Rattle.slab.specs.Slab.{ContainsKey};
-ghost use Rattle.tree_leaf.specs.declared.leaf.stand.Way.{Way};
-ghost use Rattle.tree_leaf.specs.declared.leaf.stand.Way.TheVariants.{On, Back};
-ghost use Rattle.tree_leaf.specs.Ways.{along};
+ghost use Rattle.tree_chain.specs.declared.stand.Way.{Way};
+ghost use Rattle.tree_chain.specs.declared.stand.Way.TheVariants.{On, Back};
+ghost use Rattle.tree_chain.specs.Ways.{along};
 ghost use Rattle.tree_walk.specs.Ends.{BeginsPart, FindsFirst, IsLinked};
 ghost use Rattle.tree_node.specs.Tree.{StandsOrRetired, leaves_at, leaves_of, walk};
 
 use crate::children::{ChildWalk, ChildrenOf};
 use crate::leaves::array_of;
 use tree_array::array::{ArrayIter, ArrayRevIter};
+use tree_chain::{IterOf, LinkedIter, RevIterOf};
 use tree_leaf::arena::{LeafId, NodeId};
-use tree_leaf::leaf::{IterOf, LeafOf, LinkedIter, RevIterOf};
+use tree_leaf::leaf::LeafOf;
 use tree_node::node::{ArenasOf, NodeOf};
 
 /// Returns a walk that stands before the least entry under a number of this level, in its leaf, or `None` if no

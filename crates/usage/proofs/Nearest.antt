@@ -11,8 +11,8 @@ use Rattle.tree_model.specs.Pairs.{AllLarger, IsAscending, below, pair_at}
 use Rattle.tree_model.proofs.Lists.{all_map, filter_none}
 use Rattle.tree_model.proofs.LookUps.{none_larger}
 use Rattle.tree_model.proofs.Order.{greater_from_less}
-use Rattle.tree_leaf.specs.Walks.{last_of}
-use Rattle.tree_leaf.specs.declared.leaf.stand.Way.TheVariants.{On, Back}
+use Rattle.tree_chain.specs.Walks.{last_of}
+use Rattle.tree_chain.specs.declared.stand.Way.TheVariants.{On, Back}
 use Rattle.tree_cursor_model.specs.declared.proximity.ProximityOf.TheVariants.{Exact, Between, Smaller, Larger, Empty}
 use Rattle.tree_cursor_model.specs.Cursor.{Cursor, at_place, option_where, shown, unopened, with_ends}
 use Rattle.tree_cursor_model.specs.Located.{located, located_at}

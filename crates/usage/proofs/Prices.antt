@@ -6,8 +6,8 @@ use Rattle.std.specs.declared.ops.Bound.TheVariants.{Unbounded}
 use Rattle.std.proofs.lemmas.Cmp.{nat_cmp_total}
 use Rattle.std.proofs.lemmas.Grind.{reverse_onto}
 use Rattle.std.proofs.lemmas.List.Elements.{filter-append}
-use Rattle.tree_leaf.specs.declared.leaf.stand.Way.TheVariants.{On, Back}
-use Rattle.tree_leaf.specs.Walks.{lent_entry}
+use Rattle.tree_chain.specs.declared.stand.Way.TheVariants.{On, Back}
+use Rattle.tree_chain.specs.Walks.{lent_entry}
 use Rattle.tree_model.specs.Pairs.{within}
 use Rattle.tree_cursor_model.specs.Cursor.{Cursor, fresh}
 use Rattle.tree_cursor_model.specs.Rest.{HasBegun, Moves, between, rest}

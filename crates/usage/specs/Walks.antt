@@ -2,7 +2,7 @@
 use Rattle.std.specs.Prelude.{◌≡◌, ℕ, max, List, [], ◌∷◌, reverse, slice_get, Option, Some, None}
 use Rattle.std.specs.Option.{option_map, option_or}
 use Rattle.std.specs.Ordering.{nat_cmp}
-use Rattle.tree_leaf.specs.Walks.{last_of}
+use Rattle.tree_chain.specs.Walks.{last_of}
 use Rattle.tree_model.specs.Pairs.{below, pair_at}
 
 abbrev pub highest : List (ℕ × ℕ) → ℕ

@@ -1,5 +1,5 @@
 use Rattle.std.proofs.Common.{sym}
-use Rattle.tree_leaf.proofs.Rests.{count_falls}
+use Rattle.tree_chain.proofs.Rests.{count_falls}
 use Rattle.tree_cursors.proofs.Seeks.{nearest, none_in_empty, none_in_part, none_left, old_chain, opened_sought, still_sought}
 use Rattle.tree_cursors.proofs.seek.seek_at.Goals as goal
 

@@ -1,6 +1,6 @@
 use Rattle.std.proofs.Common.{◌++◌, List, ℕ}
 use Rattle.std.specs.Range.Bound.{bound_map}
-use Rattle.tree_leaf.proofs.Rests.{count_left}
+use Rattle.tree_chain.proofs.Rests.{count_left}
 use Rattle.tree_leaf.specs.Chain.{IsChain}
 use Rattle.tree_node.specs.Tree.{leaves_at}
 use Rattle.tree_cursors.specs.Seek.{path}

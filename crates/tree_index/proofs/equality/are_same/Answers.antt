@@ -1,5 +1,5 @@
 use Rattle.std.proofs.Common.{◌∙◌, sym}
-use Rattle.tree_leaf.specs.declared.leaf.stand.Way.TheVariants.{On}
+use Rattle.tree_chain.specs.declared.stand.Way.TheVariants.{On}
 use Rattle.tree_ranges.proofs.Yields.{takes_first}
 use Rattle.tree_index.proofs.Walked.{ends_both}
 use Rattle.tree_index.proofs.equality.are_same.Goals as goal

@@ -1,7 +1,7 @@
 use Rattle.std.proofs.Common.{◌≡◌}
 use Rattle.std.specs.Prelude.{◌&&◌}
 use Rattle.std.specs.Cmp.Lexicographic.{pointwise}
-use Rattle.tree_leaf.specs.declared.leaf.stand.Way.TheVariants.{On}
+use Rattle.tree_chain.specs.declared.stand.Way.TheVariants.{On}
 use Rattle.tree_cursor_model.specs.Rest.{HasBegun, rest}
 use Rattle.tree_ranges.specs.Ranged.{moves_left}
 use Rattle.tree_index.proofs.equality.are_same.Given as goal

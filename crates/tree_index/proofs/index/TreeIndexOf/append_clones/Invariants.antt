@@ -1,6 +1,6 @@
 use Rattle.std.proofs.Common.{◌++◌}
 use Rattle.std.specs.List.{AllByRecursion, AllZip}
-use Rattle.tree_leaf.specs.declared.leaf.stand.Way.TheVariants.{On}
+use Rattle.tree_chain.specs.declared.stand.Way.TheVariants.{On}
 use Rattle.tree_model.specs.Pairs.{IsAscending}
 use Rattle.tree_cursor_model.specs.Rest.{HasBegun, rest}
 use Rattle.tree_ranges.specs.Ranged.{moves_left}

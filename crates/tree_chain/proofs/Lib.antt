@@ -1,0 +1,5 @@
+pub mod Along
+pub mod Jumps
+pub mod Rests
+pub mod Steps
+pub mod Ways

@@ -1,0 +1,105 @@
+-- The slots that a walk goes through, and the entries of the leaf that it stands in.
+use Rattle.std.proofs.Common.{◌≡◌, ℕ, zero, suc, List, [], ◌∷◌, map, length, slice_get, Option, Some, None, IsSome, option_and_then, option_map, refl, sym, ap, ◌∙◌, arith}
+use Rattle.std.proofs.lemmas.List.{length-map}
+use Rattle.std.proofs.lemmas.Option.{slice_get_past}
+use Rattle.std.specs.Borrow.{Bor}
+use Rattle.std.specs.Iterator.{MakesProgress}
+use Rattle.slab.specs.Slab.{Slab}
+use Rattle.tree_array.specs.Arrivals.{arrival}
+use Rattle.tree_array.specs.Walk.{Walk, standing as array_standing}
+use Rattle.tree_leaf.specs.declared.leaf.LeafOf.{LeafOf}
+use Rattle.tree_chain.specs.declared.stand.Way.{Way}
+use Rattle.tree_leaf.specs.Entries.{leaf_entries}
+use Rattle.tree_chain.specs.Walks.{LeafWalk, IsStand, Steps, first_on, here, left_in_leaf, lent_entry, standing, stood_on}
+use Rattle.tree_chain.specs.Ways.{StepsOver, next_place}
+use Rattle.tree_chain.proofs.Along.{all_left, fewer_left, first_place}
+
+-- one place of two lists of which one lists what the other names
+pub same_place : {X Y : Type 0} (find : X → Option Y) (xs : List X) (ys : List Y) → map find xs ≡ map Some ys → (place : ℕ) (x : X) → slice_get xs place ≡ Some x → (y : Y) × (find x ≡ Some y) × (slice_get ys place ≡ Some y)
+same_place find [] ys same place x is = absurd (cc)
+same_place find (a ∷ xs) [] same place x is = absurd (cc)
+same_place find (a ∷ xs) (y ∷ ys) same zero x is = let this : x ≡ a = cc in (y, rw this (cc), refl)
+same_place find (a ∷ xs) (y ∷ ys) same (suc place) x is = let rest : map find xs ≡ map Some ys = cc in same_place find xs ys rest place x is
+
+module _ {K V : Type 0} {LEN : ℕ} (leaves : Slab (LeafOf K V LEN)) (id : ℕ) (leaf : LeafOf K V LEN) (slots : Walk) (stand : IsStand leaves id leaf slots) where
+  entries_here : leaf_entries leaves id ≡ leaf.array.entries
+  entries_here = rw stand.there refl
+
+  -- there are as many slots as entries
+  as_many : length slots.slots ≡ length (leaf_entries leaves id)
+  as_many = rw entries_here (sym (length-map slots.slots (arrival leaf.array.arrivals)) ∙ ap length stand.slots_are ∙ length-map leaf.array.entries Some)
+
+  -- the slot at a place is that of the entry at this place
+  entry_at : (place slot : ℕ) → slice_get slots.slots place ≡ Some slot → (entry : K × V) × (arrival leaf.array.arrivals slot ≡ Some entry) × (slice_get (leaf_entries leaves id) place ≡ Some entry)
+  entry_at place slot is = rw entries_here (same_place (arrival leaf.array.arrivals) slots.slots leaf.array.entries stand.slots_are place slot is)
+
+  pub slot_reachable : (place slot : ℕ) → slice_get slots.slots place ≡ Some slot → IsSome (arrival leaf.array.arrivals slot)
+  slot_reachable place slot is = rw (entry_at place slot is).1 refl
+
+  -- what is read from a slot is the entry at its place
+  entry_read : (place slot : ℕ) (read : K × V) → slice_get slots.slots place ≡ Some slot → arrival leaf.array.arrivals slot ≡ Some read → slice_get (leaf_entries leaves id) place ≡ Some read
+  entry_read place slot read is found =
+      let there = entry_at place slot is in
+      let both : Some there.0 ≡ Some read = sym there.1 ∙ found in
+      let same : there.0 ≡ read = cc in
+      rw same at there.2
+
+  -- the entry that the walk stands on, read from its slot
+  pub stood_read : (slot : ℕ) (read : K × V) → option_and_then (slice_get slots.slots) slots.at ≡ Some slot → arrival leaf.array.arrivals slot ≡ Some read → Some read ≡ stood_on (standing leaves id slots.at)
+  stood_read slot read is found = by_place slots.at is
+    where
+      by_place : (at : Option ℕ) → option_and_then (slice_get slots.slots) at ≡ Some slot → Some read ≡ stood_on (standing leaves id at)
+      by_place None e = absurd (cc)
+      by_place (Some place) e = sym (entry_read place slot read e found)
+
+  pub stood_reachable : (slot : ℕ) → option_and_then (slice_get slots.slots) slots.at ≡ Some slot → IsSome (arrival leaf.array.arrivals slot)
+  stood_reachable slot is = by_place slots.at is
+    where
+      by_place : (at : Option ℕ) → option_and_then (slice_get slots.slots) at ≡ Some slot → IsSome (arrival leaf.array.arrivals slot)
+      by_place None e = absurd (cc)
+      by_place (Some place) e = slot_reachable place slot e
+
+  -- a step through the slots is one through the entries, to the entry that is read from the slot
+  pub step_read : (way : Way) (new : Option ℕ) (slot : ℕ) (read : K × V) → StepsOver way slots.slots slots.at (Some slot) new → arrival leaf.array.arrivals slot ≡ Some read → StepsOver way (leaf_entries leaves id) slots.at (Some read) new
+  step_read way new slot read steps found =
+      let there = entry_read _ slot read steps.1 found in
+      rw (← as_many) (steps.0, there, steps.2)
+
+  pub none_read : (way : Way) (new : Option ℕ) → StepsOver way slots.slots slots.at None new → StepsOver way (leaf_entries leaves id) slots.at None new
+  none_read way new steps = rw (← as_many) steps
+
+  -- a walk over the same slots, before the first
+  module _ (all : Walk) (fresh : all ≡ array_standing slots.slots None) where
+    pub all_slots : IsStand leaves id leaf all
+    all_slots = record {
+      there = stand.there;
+      front = stand.front;
+      back = stand.back;
+      chain = stand.chain;
+      slots_are = rw (ap (λ (walk : Walk). walk.slots) fresh) stand.slots_are;
+    }
+
+module _ {K V : Type 0} {LEN : ℕ} (leaves : Slab (LeafOf K V LEN)) (id : ℕ) (leaf : LeafOf K V LEN) (slots all : Walk) (stand : IsStand leaves id leaf slots) (fresh : all ≡ array_standing slots.slots None) (way : Way) (new : Option ℕ) where
+  -- the first step from before the first slot reads the entry that comes first on the way, and there is none where the leaf has no entry
+  pub first_read : (slot : ℕ) (read : K × V) → StepsOver way all.slots all.at (Some slot) new → arrival leaf.array.arrivals slot ≡ Some read → Some read.0 ≡ option_map (λ entry. entry.0) (first_on way (leaf_entries leaves id))
+  first_read slot read steps found =
+      let at_start : all.at ≡ None = ap (λ (walk : Walk). walk.at) fresh in
+      let there = rw at_start at (step_read leaves id leaf all (all_slots leaves id leaf slots stand all fresh) way new slot read steps found) in
+      rw (first_place way (leaf_entries leaves id), there.1) refl
+
+  pub none_first : {X : Type 0} (key : K × V → X) → StepsOver way all.slots all.at None new → None ≡ option_map key (first_on way (leaf_entries leaves id))
+  none_first key steps =
+      let at_start : all.at ≡ None = ap (λ (walk : Walk). walk.at) fresh in
+      let there = rw at_start at (none_read leaves id leaf all (all_slots leaves id leaf slots stand all fresh) way new steps) in
+      let empty : length (leaf_entries leaves id) ≡ 0 = sym (all_left way (length (leaf_entries leaves id))) ∙ there.0 in
+      rw (first_place way (leaf_entries leaves id), slice_get_past (leaf_entries leaves id) (next_place way (length (leaf_entries leaves id)) None) (omega (arith, empty))) refl
+
+module _ {K V : Type 0} {LEN : ℕ} where
+  -- each step leaves fewer
+  pub progress : {can : LeafWalk K V LEN → Type 0} → ((walk : LeafWalk K V LEN) → can walk) → (way : Way) (s t : LeafWalk K V LEN) (r : Option (Bor K × Bor V)) → Steps way s r t → MakesProgress can (left_in_leaf way) s r t
+  progress can way s t None steps = record { on = λ finite. tt; keeps = tt; rests = λ finite. tt }
+  progress can way s t (Some entry) steps = record {
+    on = λ finite. (can t, tt, rw steps.0 (fewer_left way (here s) s.at t.at (lent_entry entry) steps.1));
+    keeps = can t;
+    rests = λ finite. tt;
+  }

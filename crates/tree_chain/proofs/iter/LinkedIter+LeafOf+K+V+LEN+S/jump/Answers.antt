@@ -1,0 +1,15 @@
+use Rattle.std.proofs.Common.{rules, refl, ◌∙◌, sym}
+use Rattle.tree_chain.proofs.Jumps.{jumps, lands_in, stays, way_parts}
+use Rattle.tree_chain.proofs.iter.LinkedIter+LeafOf+K+V+LEN+S.jump.Goals as goal
+
+pub returns-in_err-id : goal.returns-in_err-id
+returns-in_err-id g c = rw (← c.self.view_is, c.from_residual.ensures) (λ front back chain. stays c.self.inside.stand.leaves.now g.S.SlotWalk.way _ front back (rw c.way.ensures at (sym (c.landing.ensures front back chain) ∙ c.in_err-id.was)))
+
+pub in_leaf-requires : goal.in_leaf-requires
+in_leaf-requires g c =
+    let chain = c.self.invariant.0.chain in
+    let parted = way_parts _ c.self.invariant.0.front c.self.inside.stand.id c.self.invariant.0.back c.in_ok-id.id (lands_in c.self.inside.stand.leaves.now _ _ (sym (c.landing.ensures _ _ chain) ∙ c.in_ok-id.was)) in
+    (search rules, (parted.front, parted.back, rw parted.parts at chain))
+
+pub returns : goal.returns
+returns g c = rw (← c.self.view_is) (λ front back chain. jumps c.self.inside.stand.leaves.now g.S.SlotWalk.way _ _ _ front back _ _ refl (rw c.way.ensures at (sym (c.landing.ensures front back chain) ∙ c.in_ok-id.was)) (c.drop.view_is ∙ c.in_leaf.ensures) c.next.ensures.steps)

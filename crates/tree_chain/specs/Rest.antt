@@ -1,0 +1,52 @@
+-- What is left of a walk on its way through a chain, and that a walk with its jumps takes it entry by entry.
+use Rattle.std.specs.Prelude.{◌≡◌, ℕ, List, [], ◌∷◌, ◌++◌, map, reverse, Option, None, Some}
+use Rattle.std.specs.Borrow.{Bor}
+use Rattle.slab.specs.Slab.{Slab}
+use Rattle.tree_leaf.specs.declared.leaf.LeafOf.{LeafOf}
+use Rattle.tree_chain.specs.declared.stand.Way.{Way}
+use Rattle.tree_chain.specs.declared.stand.Way.TheVariants.{On, Back}
+use Rattle.tree_leaf.specs.Chain.{IsChain}
+use Rattle.tree_leaf.specs.Entries.{entries_of}
+use Rattle.tree_chain.specs.Walks.{LeafWalk, here, lent_entry}
+use Rattle.tree_chain.specs.Ways.{ahead, along, beyond}
+
+-- the first entry is taken and the others are left, or there was none
+abbrev pub TakesFirst : {K V : Type 0} → List (K × V) → Option (Bor K × Bor V) → List (K × V) → Type 0
+TakesFirst left None rest = (left ≡ []) × (rest ≡ [])
+TakesFirst left (Some entry) rest = left ≡ lent_entry entry ∷ rest
+
+module _ {K V : Type 0} {LEN : ℕ} where
+  -- of the entries of a chain, in which these leaves stand before the walk's leaf and behind it, those that lie ahead of the walk, in its order
+  abbrev pub left_of : Way → LeafWalk K V LEN → List ℕ → List ℕ → List (K × V)
+  left_of way walk front back = ahead way (here walk) walk.at ++ along way (entries_of walk.leaves (beyond way front back))
+
+  -- the entries of a leaf and of all leaves that the way leads to from it
+  abbrev pub whole_way : Way → Slab (LeafOf K V LEN) → List ℕ → ℕ → List ℕ → List (K × V)
+  whole_way On leaves front id back = entries_of leaves (id ∷ back)
+  whole_way Back leaves front id back = reverse (entries_of leaves (front ++ id ∷ []))
+
+  -- the walk stands in a leaf of the chain, and of what was left it has taken the first entry
+  pub record HasTaken (way : Way) (leaves : Slab (LeafOf K V LEN)) (chain : List ℕ) (left : List (K × V)) (result : Option (Bor K × Bor V)) (new : LeafWalk K V LEN) : Type 0 where
+    pub same : new.leaves ≡ leaves
+    pub front : List ℕ
+    pub back : List ℕ
+    pub stands : front ++ new.leaf ∷ back ≡ chain
+    pub takes : TakesFirst left result (left_of way new front back)
+
+  -- over every chain that the leaf is in
+  abbrev pub Takes : Way → LeafWalk K V LEN → Option (Bor K × Bor V) → LeafWalk K V LEN → Type 0
+  Takes way old result new =
+      (front back : List ℕ) → IsChain old.leaves (front ++ old.leaf ∷ back)
+      → HasTaken way old.leaves (front ++ old.leaf ∷ back) (left_of way old front back) result new
+
+  -- these are all that is left of a walk, in order
+  abbrev pub AreLeft : Way → LeafWalk K V LEN → List (Bor K × Bor V) → Type 0
+  AreLeft way walk entries =
+      (front back : List ℕ) → IsChain walk.leaves (front ++ walk.leaf ∷ back)
+      → map lent_entry entries ≡ left_of way walk front back
+
+  -- these are all entries of a leaf and of the leaves that the way leads to from it, in order
+  abbrev pub AreOnTheWay : Way → Slab (LeafOf K V LEN) → ℕ → List (Bor K × Bor V) → Type 0
+  AreOnTheWay way leaves id entries =
+      (front back : List ℕ) → IsChain leaves (front ++ id ∷ back)
+      → map lent_entry entries ≡ whole_way way leaves front id back

@@ -1,0 +1,148 @@
+//! The leaf that an iterator stands in, and the leaves that it is linked to.
+ghost use Rattle.std.specs.Prelude.{◌≡◌, ◌++◌, ◌∷◌, None, Some, IsSome, List, ℕ};
+ghost use Rattle.std.specs.Option.{ForSome};
+ghost use Rattle.slab.specs.Slab.{ContainsKey, get};
+ghost use Rattle.tree_array.specs.Arrivals.{arrival};
+ghost use Rattle.tree_leaf.specs.Chain.{IsChain};
+ghost use Rattle.tree_chain.specs.Walks.{lent_entry};
+ghost use Rattle.tree_chain.specs.Ways.{beside, landing, leaves_on, seen};
+
+use slab::Slab;
+use tree_leaf::arena::{LeafId, leaf_at};
+use tree_leaf::leaf::LeafOf;
+
+/// A type of leaves to iterate over, with what an iterator over them keeps. It has no methods.
+pub trait Walked {
+    ghost use Rattle.std.specs.Prelude.{ℕ, Option};
+    ghost use Rattle.slab.specs.Slab.{Slab as Slots};
+    ghost use Rattle.tree_array.specs.Walk.{Walk};
+    ghost use Rattle.tree_chain.specs.declared.stand.Beside.{Beside};
+    ghost use Rattle.tree_chain.specs.declared.stand.Way.{Way};
+
+    ghost stands: { Slots Self → ℕ → Self → Walk → Type 0 };
+
+    ghost ahead: { Way → Slots Self → Self → Option Beside };
+}
+
+impl<K: Ord, V, const LEN: usize> Walked for LeafOf<K, V, LEN> {
+    ghost use Rattle.tree_chain.specs.Walks.{IsStand};
+    ghost use Rattle.tree_chain.specs.Ways.{beside, seen};
+
+    ghost stands = { IsStand };
+
+    ghost ahead = { λ way leaves leaf. seen leaves (beside way leaf) };
+}
+
+/// The way of an iterator through the links: on to larger keys, or back to smaller ones.
+#[derive(Clone, Copy)]
+pub enum Way {
+    On,
+    Back,
+}
+
+/// What an iterator keeps of the leaf ahead, the one beside its leaf on its way: the number, and how many entries
+/// it has. The iterator looks there as soon as it comes into a leaf, so that the memory of the leaf ahead is on its
+/// way while the entries here are read.
+#[derive(Clone, Copy)]
+pub struct Beside {
+    pub id: LeafId,
+    pub len: usize,
+}
+
+/// The leaf that an iterator stands in, all leaves, and the leaf ahead on its way.
+#[derive(Drop)]
+pub struct Stand<'t, L> {
+    pub leaves: &'t Slab<L>,
+    pub id: LeafId,
+    pub leaf: &'t L,
+    pub ahead: Option<Beside>,
+}
+
+impl<'t, L> Stand<'t, L> {
+    /// Stands in the same leaf once more.
+    pub fn again(&self) -> Self
+        ensures { result ≡ self.now }
+    {
+        Stand {
+            leaves: self.leaves,
+            id: self.id,
+            leaf: self.leaf,
+            ahead: self.ahead,
+        }
+    }
+}
+
+impl<'t, K: Ord + Drop, V: Drop, const LEN: usize> Stand<'t, LeafOf<K, V, LEN>> {
+    /// Stands in the leaf under a number, and looks up the leaf beside it on the way. The caller must name a
+    /// leaf of a chain.
+    pub fn at(leaves: &'t Slab<LeafOf<K, V, LEN>>, id: LeafId, way: Way) -> Self
+        requires { (front back : _) × IsChain leaves.now (front ++ id ∷ back) }
+        ensures leaves { result.leaves.now ≡ leaves.now }
+        ensures id { result.id ≡ id }
+        ensures leaf { get leaves.now id ≡ Some result.leaf.now }
+        ensures ahead { result.ahead ≡ seen leaves.now (beside way result.leaf.now) }
+    {
+        let leaf = leaf_at(leaves, id);
+        let ahead = look_up(leaves, leaf.beside(way));
+        Stand {
+            leaves,
+            id,
+            leaf,
+            ahead,
+        }
+    }
+
+    /// Returns the entry of a slot. The caller must name a reachable slot.
+    pub fn entry(&self, slot: u8) -> (&'t K, &'t V)
+        requires { IsSome (arrival self.now.leaf.now.array.arrivals slot) }
+        ensures { arrival self.now.leaf.now.array.arrivals slot ≡ Some (lent_entry result) }
+    {
+        self.leaf.entry(slot)
+    }
+
+    /// Returns where a jump lands: the next leaf on the way that has an entry, or else the last leaf on the
+    /// way. Returns `None` where no leaf follows. Runs in the number of leaves passed.
+    pub fn landing(&self, way: Way) -> Option<LeafId>
+        requires leaf { get self.now.leaves.now self.now.id ≡ Some self.now.leaf.now }
+        requires chain { (front back : _) × IsChain self.now.leaves.now (front ++ self.now.id ∷ back) }
+        requires ahead { self.now.ahead ≡ seen self.now.leaves.now (beside way self.now.leaf.now) }
+        ensures { (front back : List ℕ) → IsChain self.now.leaves.now (front ++ self.now.id ∷ back) → result ≡ landing self.now.leaves.now None (leaves_on way front back) }
+    {
+        let mut passed = None;
+        let mut ahead = self.ahead;
+        while let Some(next) = ahead {
+            let id = next.id;
+            if next.len > 0 {
+                return Some(id);
+            }
+            passed = Some(id);
+            ahead = look_up(self.leaves, leaf_at(self.leaves, id).beside(way));
+        }
+        passed
+    }
+}
+
+/// Looks up the leaf under a number, if there is a number. The caller must name one in use.
+fn look_up<K: Ord + Drop, V: Drop, const LEN: usize>(
+    leaves: &Slab<LeafOf<K, V, LEN>>,
+    id: Option<LeafId>,
+) -> Option<Beside>
+    requires { ForSome id (ContainsKey leaves.now) }
+    ensures { result ≡ seen leaves.now id }
+{
+    let id = id?;
+    let len = leaf_at(leaves, id).array().len();
+    Some(Beside { id, len })
+}
+
+impl<K: Ord + Drop, V: Drop, const LEN: usize> LeafOf<K, V, LEN> {
+    /// Returns the leaf beside this one on the way.
+    fn beside(&self, way: Way) -> Option<LeafId>
+        ensures { result ≡ beside way self.now }
+    {
+        match way {
+            Way::On => self.next(),
+            Way::Back => self.prev(),
+        }
+    }
+}
