@@ -4,7 +4,8 @@ use std::alloc::{AllocError, Global};
 use std::ops::Bound;
 use std::process::Abort;
 use test_support::refusals::{is_out_of_memory, succeeds};
-use tree_index::{Command, InsertError, Reply, State, StateOf};
+use tree_index::{Command, InsertError, Reply};
+use tree_state::{State, StateOf};
 use tree_support::flaws;
 
 /// Whether so many calls are in the history, and the index is whole and has these pairs.

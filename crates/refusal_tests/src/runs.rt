@@ -3,7 +3,8 @@ use crate::writes::{ample, ascending};
 use std::alloc::{AllocError, Global};
 use std::process::Abort;
 use test_support::refusals::{is_out_of_memory, succeeds};
-use tree_index::{Command, Reply, SmallTreeIndex, TreeIndex, TreeIndexOf, run};
+use tree_index::{Command, Reply, SmallTreeIndex, TreeIndex, TreeIndexOf};
+use tree_runs::run;
 use tree_support::flaws;
 
 /// Whether an insert and a look-up of the key were answered. Else the insert was refused, and the look-up found none.

@@ -4,9 +4,9 @@ use Rattle.std.specs.Prelude.{slice_index_or}
 use Rattle.std.specs.declared.cmp.Ordering.{Ordering}
 use Rattle.tree_model.specs.declared.commands.Command.{Command}
 use Rattle.tree_shared.specs.declared.tally.Tally.{Tally}
-use Rattle.tree_shared.specs.Schedules.{HasRoom, FitsEachRun}
+use Rattle.tree_runs.specs.Schedules.{HasRoom, FitsEachRun}
 use Rattle.tree_shared.specs.Tallies.{none}
-use Rattle.tree_shared.proofs.Schedules.{fits_each_run}
+use Rattle.tree_runs.proofs.Schedules.{fits_each_run}
 
 zero_at : (worker : ℕ) → slice_index_or (none ∷ none ∷ []) worker none ≡ none
 zero_at zero = refl

@@ -4,8 +4,10 @@ ghost use Rattle.std.specs.Prelude.{◌≡◌, ◌<◌, All, length, IfOk};
 use std::alloc::{AllocError, Global};
 use std::process::Abort;
 use test_support::refusals::succeeds;
-use tree_index::{Command, Record, Reply, State, StateOf};
-use tree_shared::{Tally, run_schedule};
+use tree_index::{Command, Record, Reply};
+use tree_runs::run_schedule;
+use tree_shared::Tally;
+use tree_state::{State, StateOf};
 
 const NONE: Tally = Tally {
     calls: 0,

@@ -1,12 +1,9 @@
-pub mod Climbs
 pub mod Copied
 pub mod Cutting
 pub mod Indexed
 pub mod Numbers
 pub mod Packs
 pub mod Removed
-pub mod Rooms
-pub mod Served
 pub mod Stored
 pub mod Taken
 pub mod Walked

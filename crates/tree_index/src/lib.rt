@@ -26,22 +26,15 @@
 //! Both stand whole in the crate `usage`, where they are proved.
 #![tactic(auto)]
 
-mod commands;
 mod copies;
 mod cursors;
 mod equality;
 mod index;
-pub mod laws;
-mod prepared;
 mod readers;
 mod seek;
-mod state;
 mod tree;
 
-pub use commands::run;
 pub use index::{SmallTreeIndex, TreeIndex, TreeIndexOf};
-pub use prepared::PreparedPair;
-pub use state::{State, StateOf};
 pub use tree_array::array::{Judge, KeyJudge, Steps};
 pub use tree_cursor_model::{Answer, Move, ProximityOf};
 pub use tree_leaf::arena::NodeId;

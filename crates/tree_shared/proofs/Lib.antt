@@ -1,2 +1,1 @@
-pub mod Schedules
 pub mod Tallied

@@ -13,7 +13,7 @@ use Rattle.tree_model.specs.declared.commands.InsertError.{InsertError}
 use Rattle.tree_model.specs.declared.commands.InsertError.TheVariants as fault
 use Rattle.tree_model.specs.Runs.{Step}
 use Rattle.tree_model.specs.History.{Log, IsAnswered, IsSameReply, Appends}
-use Rattle.tree_index.specs.Inserts.{RecordsInsert}
+use Rattle.tree_state.specs.Inserts.{RecordsInsert}
 use Rattle.tree_shared.specs.Ledgers.{Fits}
 use Rattle.tree_shared.specs.Replies.{is_reply_to}
 use Rattle.tree_shared.specs.declared.tally.Tally.{Tally}

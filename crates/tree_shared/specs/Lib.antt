@@ -1,5 +1,4 @@
 pub mod Counted
 pub mod Ledgers
 pub mod Replies
-pub mod Schedules
 pub mod Tallies

@@ -1,7 +1,7 @@
 //! What lies under the lock of a shared index.
 ghost use Rattle.std.specs.Prelude.{◌≡◌, ◌<◌, true, IfOk, IfErr, OnErr};
 ghost use Rattle.tree_model.specs.History.{Appends};
-ghost use Rattle.tree_index.specs.Inserts.{RecordsInsert};
+ghost use Rattle.tree_state.specs.Inserts.{RecordsInsert};
 ghost use Rattle.tree_shared.specs.Counted.{IsCounted, IsInsertCounted, IsUpsertCounted};
 ghost use Rattle.tree_shared.specs.Tallies.{raised, tally, reply_of_insert, reply_of_upsert, pair_of};
 ghost use Rattle.tree_shared.specs.Replies.{is_reply_to};
@@ -10,7 +10,8 @@ use crate::ledgers::{Books, Workers};
 use crate::pass::Pass;
 use crate::serves::Serves;
 use std::sync::ledger::Ledger;
-use tree_index::{Command, IndexKey, InsertError, PreparedPair, Reply, SameClone, StateOf};
+use tree_index::{Command, IndexKey, InsertError, Reply, SameClone};
+use tree_state::{PreparedPair, StateOf};
 
 /// What lies under the lock: the state, and the books that tally its history. `LEN` is 7 or 15.
 pub struct Locked<

@@ -19,9 +19,8 @@ use std::marker::PhantomData;
 use std::ops::Bound;
 use std::sync::ledger::Ledger;
 use std::sync::{Mutex, Wait};
-use tree_index::{
-    Command, IndexKey, InsertError, PreparedPair, Record, Reply, SameClone, StateOf, TreeIndexOf,
-};
+use tree_index::{Command, IndexKey, InsertError, Record, Reply, SameClone, TreeIndexOf};
+use tree_state::{PreparedPair, StateOf};
 
 /// An index of fifteen pairs a leaf that threads share by reference. See [`SharedTreeIndexOf`].
 pub type SharedTreeIndex<K, V, C, S, M, F, D> = SharedTreeIndexOf<K, V, C, S, M, F, D, 15>;

@@ -2,7 +2,8 @@
 use std::alloc::{AllocError, Global};
 use std::process::Abort;
 use test_support::refusals::succeeds;
-use tree_index::{Command, Reply, State, StateOf};
+use tree_index::{Command, Reply};
+use tree_state::{State, StateOf};
 
 /// Calls of a new state, and the reply to each.
 static CALLS: [(Command<u64, u64>, Reply<u64>); 4] = [

@@ -3,7 +3,8 @@ use std::alloc::{AllocError, Global};
 use std::ops::Bound;
 use std::process::Abort;
 use test_support::refusals::succeeds;
-use tree_index::{Command, Reply, SmallTreeIndex, TreeIndex, TreeIndexOf, run};
+use tree_index::{Command, Reply, SmallTreeIndex, TreeIndex, TreeIndexOf};
+use tree_runs::run;
 
 /// Commands of every kind, and the reply to each by an index that was empty.
 static COMMANDS: [(Command<u64, u64>, Reply<u64>); 10] = [

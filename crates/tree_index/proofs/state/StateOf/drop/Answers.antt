@@ -1,5 +1,0 @@
-use Rattle.tree_node.proofs.Sizes.{fits}
-use Rattle.tree_index.proofs.state.StateOf.drop.Goals as goal
-
-pub drop-requires : goal.drop-requires
-drop-requires g c = search fits

@@ -1,6 +1,0 @@
-use Rattle.std.proofs.Common.{subst}
-use Rattle.tree_index.specs.Inserts.{RecordsInsert}
-use Rattle.tree_index.proofs.state.StateOf.insert.Goals as goal
-
-pub returns-in-Ok : goal.returns-in-Ok
-returns-in-Ok g c = subst (λ (p : g.row.K.Denot × g.row.V.Denot). RecordsInsert g.K.Ord.cmp g.K.SameClone.seen g.V.SameClone.seen c.args.self.now c.insert_prepared.new.self p.0 p.1 c.insert_prepared.result) c.in-Ok.ensures.pair c.insert_prepared.ensures

@@ -1,8 +1,0 @@
-use Rattle.tree_node.proofs.Sizes.{fits}
-use Rattle.tree_index.proofs.state.StateOfDebug.fmt.Goals as goal
-
-pub index-requires : goal.index-requires
-index-requires g c = search fits
-
-pub write-requires-room-D-Display : goal.write-requires-room-D-Display
-write-requires-room-D-Display g c κs within = search fits

@@ -1,0 +1,3 @@
+pub mod Climbs
+pub mod Schedules
+pub mod Served
