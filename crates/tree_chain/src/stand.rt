@@ -83,7 +83,7 @@ impl<'t, K: Ord + Drop, V: Drop, const LEN: usize> Stand<'t, LeafOf<K, V, LEN>> 
         ensures ahead { result.ahead ≡ seen leaves.now (beside way result.leaf.now) }
     {
         let leaf = leaf_at(leaves, id);
-        let ahead = look_up(leaves, leaf.beside(way));
+        let ahead = look_up(leaves, link(leaf, way));
         Stand {
             leaves,
             id,
@@ -116,7 +116,7 @@ impl<'t, K: Ord + Drop, V: Drop, const LEN: usize> Stand<'t, LeafOf<K, V, LEN>> 
                 return Some(id);
             }
             passed = Some(id);
-            ahead = look_up(self.leaves, leaf_at(self.leaves, id).beside(way));
+            ahead = look_up(self.leaves, link(leaf_at(self.leaves, id), way));
         }
         passed
     }
@@ -135,14 +135,12 @@ fn look_up<K: Ord + Drop, V: Drop, const LEN: usize>(
     Some(Beside { id, len })
 }
 
-impl<K: Ord + Drop, V: Drop, const LEN: usize> LeafOf<K, V, LEN> {
-    /// Returns the leaf beside this one on the way.
-    fn beside(&self, way: Way) -> Option<LeafId>
-        ensures { result ≡ beside way self.now }
-    {
-        match way {
-            Way::On => self.next(),
-            Way::Back => self.prev(),
-        }
+/// Returns the leaf that a leaf links to on the way.
+fn link<K: Ord + Drop, V: Drop, const LEN: usize>(leaf: &LeafOf<K, V, LEN>, way: Way) -> Option<LeafId>
+    ensures { result ≡ beside way leaf.now }
+{
+    match way {
+        Way::On => leaf.next(),
+        Way::Back => leaf.prev(),
     }
 }
