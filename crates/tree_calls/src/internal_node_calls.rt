@@ -11,7 +11,7 @@ use std::alloc::AllocError;
 use tree_leaf::arena::NodeId;
 use tree_node::internal_node::InternalNodeOf;
 use tree_node::node::ArenasOf;
-use tree_split::node_split::split_child;
+use tree_node_split::split_child;
 
 /// The calls on the number of an internal node alone.
 pub trait InternalNodeCalls<K: Ord + Drop, const LEN: usize> {

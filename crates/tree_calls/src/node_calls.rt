@@ -18,7 +18,7 @@ ghost use Rattle.tree_walk.specs.Ends.{BeginsPart, IsLinked};
 ghost use Rattle.tree_node.specs.Parts.{IsPart, Unchanged};
 ghost use Rattle.tree_node.specs.Tree.{IsRetired, Stands, StandsOrRetired, children_of, walk};
 ghost use Rattle.tree_ranges.specs.Approximate.{Approximates};
-ghost use Rattle.tree_remove.specs.CleanUps.{HasOnlyRetired};
+ghost use Rattle.tree_clean_up.specs.CleanUps.{HasOnlyRetired};
 ghost use Rattle.tree_remove.specs.Removes.{RemovesUnder};
 
 use std::ops::Bound;

@@ -20,7 +20,7 @@ use Rattle.tree_node.proofs.Lifts.{single_nodes, single_leaves}
 use Rattle.tree_node.proofs.Lists.{flat_map_same}
 use Rattle.tree_node.proofs.Standing.{node_is}
 use Rattle.tree_node.proofs.Walks.{walk-children}
-use Rattle.tree_remove.proofs.Losses.{lost_counted}
+use Rattle.tree_clean_up.proofs.Losses.{lost_counted}
 use Rattle.tree_cut.specs.Parts.{IsForest, Frees}
 
 -- numbers that stay the same are in use as often

@@ -10,7 +10,7 @@ use Rattle.tree_node.specs.Arenas.{TreeArenas}
 use Rattle.tree_node.specs.Parts.{IsPart, Replaces}
 use Rattle.tree_node.specs.Tree.{HasKind, Stands, keyed, node_children, unbounded, walk}
 use Rattle.tree_node.proofs.Standing.{node_is}
-use Rattle.tree_remove.specs.CleanUps.{HasChildIn, TakesKeyed}
+use Rattle.tree_clean_up.specs.CleanUps.{HasChildIn, TakesKeyed}
 use Rattle.tree_cut.specs.Cuts.{CutsChild, CutsUnder, DropsChild, HasNoEmpty, HasNoEmptyBut, HasPair}
 use Rattle.tree_cut.specs.Places.{keyed_or}
 use Rattle.tree_cut.proofs.OneChild.{child_no_empty, child_part, cut_becomes, cut_no_empty, cut_others, drop_becomes, drop_no_empty, same_node, split_here}

@@ -7,10 +7,10 @@ ghost use Rattle.tree_node.specs.Parts.{IsPart, Replaces};
 ghost use Rattle.tree_node.specs.Tree.{HasKind, Stands, leaves_at, node_children, unbounded, walk};
 
 use crate::parts::{Part, child_at, keyed_count, slot_at};
+use tree_clean_up::take_keyed;
 use tree_leaf::arena::{LeafId, NodeId};
 use tree_leaf::leaf::splice_link;
 use tree_node::node::{ArenasOf, NodeOf, slots_left};
-use tree_remove::clean_up::take_keyed;
 
 /// The two ends of a part.
 #[derive(Clone, Copy, Drop)]

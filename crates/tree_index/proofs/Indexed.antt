@@ -20,13 +20,13 @@ use Rattle.tree_node.specs.Tree.{Stands, StandsOrRetired, leaves_at, walk}
 use Rattle.tree_node.specs.Whole.{IsRetiredRoot, IsTop, depth_of, leaves_under, walk_under}
 use Rattle.tree_node.proofs.Ascents.{walk_ascends}
 use Rattle.tree_node.proofs.Standing.{no_children}
-use Rattle.tree_index.specs.declared.tree.Stored.{Stored}
-use Rattle.tree_index.specs.declared.tree.Stored.TheVariants.{New as NewKey, Replaced as OldKey}
-use Rattle.tree_index.specs.declared.tree.Tree.{Tree}
-use Rattle.tree_packed.proofs.Tests.{packed_depth}
-use Rattle.tree_index.proofs.Stored.{stands_or_retired}
+use Rattle.tree_root.specs.declared.tree.Stored.{Stored}
+use Rattle.tree_root.specs.declared.tree.Stored.TheVariants.{New as NewKey, Replaced as OldKey}
+use Rattle.tree_root.specs.declared.tree.Tree.{Tree}
+use Rattle.tree_split.proofs.Tests.{packed_depth}
+use Rattle.tree_root.proofs.Stored.{stands_or_retired}
 use Rattle.tree_index.specs.Index.{Index, IsTreeOf, IsWritten, StaysPacked, KeepsSpare, SpendsInsert, StoresPair, index_of}
-use Rattle.tree_index.specs.Trees.{IsWhole, Stores, Takes, pairs_of, told}
+use Rattle.tree_root.specs.Trees.{IsWhole, Stores, Takes, pairs_of, told}
 
 module _ {K V : Type 0} {LEN : ℕ} {cmp : K → K → Ordering} (o : IsTotalOrder cmp) where
   pub pairs_ascend : (tree : Tree K V LEN) → IsWhole cmp tree → IsAscending cmp (pairs_of tree)

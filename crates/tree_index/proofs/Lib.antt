@@ -1,9 +1,4 @@
 pub mod Copied
-pub mod Cutting
 pub mod Indexed
-pub mod Numbers
-pub mod Packs
 pub mod Removed
-pub mod Stored
-pub mod Taken
 pub mod Walked

@@ -9,10 +9,10 @@ use Rattle.tree_model.specs.declared.commands.InsertError.TheVariants.{Duplicate
 use Rattle.tree_node.specs.Arenas.{TreeArenas}
 use Rattle.tree_insert.specs.Inserts.{Inserts, declined, refused, stores}
 use Rattle.tree_node.specs.Whole.{IsTree, depth_of, spare_under, walk_under}
-use Rattle.tree_index.specs.declared.tree.Stored.{Stored}
-use Rattle.tree_index.specs.declared.tree.Tree.{Tree}
-use Rattle.tree_packed.specs.Packed.{packed_under}
-use Rattle.tree_index.specs.Trees.{packed_of, pairs_of, spare_of, told}
+use Rattle.tree_root.specs.declared.tree.Stored.{Stored}
+use Rattle.tree_root.specs.declared.tree.Tree.{Tree}
+use Rattle.tree_split.specs.Packed.{packed_under}
+use Rattle.tree_root.specs.Trees.{packed_of, pairs_of, spare_of, told}
 
 pub record Index (K V : Type 0) : Type 0 where
   -- the pairs, strictly ascending by key

@@ -1,4 +1,3 @@
 pub mod Copies
 pub mod Index
 pub mod Readers
-pub mod Trees

@@ -9,7 +9,6 @@ ghost use Rattle.tree_model.specs.Pairs.{IsAbsent, IsAscending, IsPresent, cut, 
 ghost use Rattle.tree_model.specs.Edits.{Inserts, RemovesIf, Upserts};
 
 use crate::seek::{Seeks, pair_of};
-use crate::tree::{Stored, Tree};
 use std::alloc::Global;
 use std::fmt;
 use std::marker::Model;
@@ -18,6 +17,7 @@ use tree_array::array::{IndexKey, Judge};
 use tree_leaf::arena::NodeId;
 use tree_model::InsertError;
 use tree_node::node::ArenasOf;
+use tree_root::{Stored, Tree};
 use tree_walk::spare::spare_at;
 
 /// An ordered index of pairs of a key and a value, with fifteen pairs a leaf. See [`TreeIndexOf`].
@@ -51,7 +51,7 @@ impl<K: IndexKey, V: Drop, const LEN: usize> Model for TreeIndexOf<K, V, LEN> {
     ghost use Rattle.std.specs.Prelude.{◌≡◌, length};
     ghost use Rattle.tree_array.specs.Length.{IsLen};
     ghost use Rattle.tree_index.specs.Index.{Index, index_of};
-    ghost use Rattle.tree_index.specs.Trees.{IsWhole, pairs_of};
+    ghost use Rattle.tree_root.specs.Trees.{IsWhole, pairs_of};
 
     ghost Value = { Index K V };
 

@@ -32,7 +32,6 @@ mod equality;
 mod index;
 mod readers;
 mod seek;
-mod tree;
 
 pub use index::{SmallTreeIndex, TreeIndex, TreeIndexOf};
 pub use tree_array::array::{Judge, KeyJudge, Steps};

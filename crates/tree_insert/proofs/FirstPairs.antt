@@ -13,8 +13,8 @@ use Rattle.tree_leaf.specs.declared.leaf.LeafOf.{LeafOf}
 use Rattle.tree_node.specs.declared.node.NodeOf.{NodeOf}
 use Rattle.tree_node.specs.Arenas.{TreeArenas}
 use Rattle.tree_node.specs.Tree.{keyed, unbounded}
-use Rattle.tree_packed.specs.Packed.{IsPacked}
-use Rattle.tree_packed.proofs.Arrays.{packed_in_order}
+use Rattle.tree_split.specs.Packed.{IsPacked}
+use Rattle.tree_split.proofs.Arrays.{packed_in_order}
 
 -- a new array takes a pair, and has no other
 pub first_stored : {K V : Type 0} (cmp : K → K → Ordering) (len : ℕ) (key : K) (val : V) (result : InsertResult K V) (old new : Arrivals K V) → IsLen len → old ≡ in_order [] → IsInsert cmp len false old key val result new → new ≡ in_order ((key, val) ∷ [])

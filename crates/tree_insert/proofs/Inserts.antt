@@ -28,9 +28,9 @@ use Rattle.tree_node.proofs.Children.{walk-leaf}
 use Rattle.tree_node.proofs.LeafSpares.{spare_written}
 use Rattle.tree_node.proofs.LeafWrites.{with_array, here_now, array_replaces, updated}
 use Rattle.tree_node.proofs.Walks.{front_walk_below, back_walk_above}
-use Rattle.tree_packed.specs.Packed.{IsPacked}
-use Rattle.tree_packed.proofs.Arrays.{packed_stored, put_beyond}
-use Rattle.tree_packed.proofs.Edges.{edge_below, packed_above}
+use Rattle.tree_split.specs.Packed.{IsPacked}
+use Rattle.tree_split.proofs.Arrays.{packed_stored, put_beyond}
+use Rattle.tree_split.proofs.Edges.{edge_below, packed_above}
 use Rattle.tree_split.proofs.Fulls.{none_free}
 
 module _ {K V : Type 0} {LEN : ℕ} {cmp : K → K → Ordering} (o : IsTotalOrder cmp) (upsert : Bool) (a : TreeArenas K V LEN) (id : ℕ) (leaf : LeafOf K V LEN) (array : Arrivals K V) (key : K) (val : V) (was : get a.leaves id ≡ Some leaf) where

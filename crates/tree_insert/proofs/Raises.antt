@@ -18,8 +18,8 @@ use Rattle.tree_node.specs.Shape.{room}
 use Rattle.tree_insert.specs.Roots.{RaisesRoot}
 use Rattle.tree_split.specs.Splits.{SplitsChild}
 use Rattle.tree_node.specs.Tree.{Stands, walk, leaves_at, nodes_at, children_of}
-use Rattle.tree_packed.specs.Packed.{IsPacked}
-use Rattle.tree_packed.proofs.Edges.{same_packed}
+use Rattle.tree_split.specs.Packed.{IsPacked}
+use Rattle.tree_split.proofs.Edges.{same_packed}
 use Rattle.tree_node.proofs.Frames.{Agrees, agrees_here, head_here, same_leaves, same_nodes, same_walk, same_stands}
 use Rattle.tree_node.proofs.Lifts.{single_leaves, single_nodes}
 use Rattle.tree_node.proofs.Unchanged.{chain_same, unchanged_by_keeping}

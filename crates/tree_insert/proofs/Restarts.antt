@@ -13,7 +13,7 @@ use Rattle.tree_node.proofs.Frames.{Agrees, same_stands, same_walk}
 use Rattle.tree_node.proofs.Spares.{same_spare}
 use Rattle.tree_node.proofs.Steps.{replaces_trans}
 use Rattle.tree_node.proofs.Unchanged.{unchanged_agrees, unchanged_part, unchanged_replaces, unchanged_trans}
-use Rattle.tree_packed.proofs.Edges.{same_packed}
+use Rattle.tree_split.proofs.Edges.{same_packed}
 
 module _ {K V : Type 0} {LEN : ℕ} {cmp : K → K → Ordering} (upsert : Bool) (old mid : TreeArenas K V LEN) (key : K) (val : V) where
   module _ (same : Unchanged old mid) (level id : ℕ) where

@@ -14,8 +14,8 @@ use Rattle.tree_node.specs.Parts.{IsPart, Unchanged}
 use Rattle.tree_node.specs.Shape.{IsCrowded, held, room, found_keyed, spare}
 use Rattle.tree_split.specs.Splits.{HasMadeRoom, LacksRoom, SplitsChild}
 use Rattle.tree_node.specs.Tree.{HasChildFor, Stands, walk}
-use Rattle.tree_packed.specs.Packed.{HasLast}
-use Rattle.tree_packed.proofs.Edges.{last_for, one_last, same_packed}
+use Rattle.tree_split.specs.Packed.{HasLast}
+use Rattle.tree_split.proofs.Edges.{last_for, one_last, same_packed}
 use Rattle.tree_node.proofs.ChildChanges.{child_part, new_walk, old_spare, old_walk}
 use Rattle.tree_node.proofs.Frames.{same_stands, same_walk}
 use Rattle.tree_insert.proofs.Crowded.{child_divides, crowded_above, crowded_room, divides_before}

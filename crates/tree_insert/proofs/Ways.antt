@@ -15,7 +15,7 @@ use Rattle.tree_node.specs.Tree.{HasChildFor}
 use Rattle.tree_descent.specs.Ways.{IsOnWay}
 use Rattle.tree_node.proofs.ChildChanges.{child_part}
 use Rattle.tree_descent.proofs.Ways.{part_on_way}
-use Rattle.tree_split.proofs.LeafRooms.{leaf_used}
+use Rattle.tree_leaf_split.proofs.LeafRooms.{leaf_used}
 
 module _ {K V : Type 0} {LEN : ℕ} {cmp : K → K → Ordering} (o : IsTotalOrder cmp) (a : TreeArenas K V LEN) (key : K) where
   -- the node over the leaf is a part

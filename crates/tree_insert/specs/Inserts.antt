@@ -13,7 +13,7 @@ use Rattle.tree_node.specs.Arenas.{TreeArenas}
 use Rattle.tree_node.specs.Tree.{HasChildFor, IsAbove, IsUpTo, Stands, walk}
 use Rattle.tree_node.specs.Parts.{Replaces, Unchanged}
 use Rattle.tree_node.specs.Shape.{IsCrowded, held, room, found_keyed, spare}
-use Rattle.tree_packed.specs.Packed.{IsPacked}
+use Rattle.tree_split.specs.Packed.{IsPacked}
 
 module _ {K V : Type 0} where
   -- there was no room, in the arrays or in memory

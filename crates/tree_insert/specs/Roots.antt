@@ -7,7 +7,7 @@ use Rattle.tree_leaf.specs.Counting.{times, uses}
 use Rattle.tree_node.specs.Arenas.{TreeArenas}
 use Rattle.tree_node.specs.Shape.{room, found_keyed, spare}
 use Rattle.tree_node.specs.Tree.{HasChildFor, Stands, leaves_at, nodes_at, walk}
-use Rattle.tree_packed.specs.Packed.{IsPacked}
+use Rattle.tree_split.specs.Packed.{IsPacked}
 
 -- The part under the root stands under a new root, one level higher. The new root and each key's child have room, so that the next insert asks for no split.
 pub record RaisesRoot {K V : Type 0} {LEN : ℕ} (cmp : K → K → Ordering) (depth : ℕ) (old new : TreeArenas K V LEN) (root id : ℕ) : Type 0 where

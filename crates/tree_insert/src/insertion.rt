@@ -11,10 +11,10 @@ ghost use Rattle.tree_node.specs.Tree.{HasChildFor, IsRetired};
 use tree_array::array::{IndexKey, StoreResult};
 use tree_descent::descent::{LeafPlace, leaf_for};
 use tree_leaf::arena::{LeafId, NodeId};
+use tree_leaf_split::make_room;
 use tree_node::node::{ArenasOf, NodeOf};
 use tree_node::routing::child_place_beyond;
-use tree_split::leaf_split::make_room;
-use tree_split::node_split::split_child;
+use tree_node_split::split_child;
 
 /// A pair for which the leaf that its key belongs to has no room.
 #[derive(Drop)]

@@ -3,7 +3,7 @@ ghost use Rattle.std.specs.Prelude.{◌≡◌, [], ◌∷◌, None, IfOk};
 ghost use Rattle.tree_array.specs.Arrivals.{in_order};
 ghost use Rattle.tree_array.specs.Length.{IsLen};
 ghost use Rattle.tree_node.specs.Whole.{HasNoOther, IsTree, Plants, leaves_under};
-ghost use Rattle.tree_packed.specs.Packed.{IsPacked};
+ghost use Rattle.tree_split.specs.Packed.{IsPacked};
 
 use tree_leaf::arena::NodeId;
 use tree_leaf::leaf::LeafOf;

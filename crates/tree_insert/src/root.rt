@@ -12,7 +12,7 @@ use tree_leaf::leaf::LeafOf;
 use tree_node::internal_node::InternalNodeOf;
 use tree_node::leaf_node::LeafNodeOf;
 use tree_node::node::{ArenasOf, NodeOf, slots_left};
-use tree_split::node_split::split_child;
+use tree_node_split::split_child;
 
 /// Makes room at a root, and returns the number of the root that stands then: the next insert under it finds room.
 ///

@@ -15,7 +15,7 @@ use Rattle.tree_model.proofs.Lists.{all_map, all-append}
 use Rattle.tree_node.specs.declared.node.NodeOf.{NodeOf}
 use Rattle.tree_node.specs.Arenas.{TreeArenas}
 use Rattle.tree_node.specs.Routing.{IsChildAt}
-use Rattle.tree_remove.specs.CleanUps.{DropsChild, DropsKeyed, DropsUnbounded}
+use Rattle.tree_clean_up.specs.CleanUps.{DropsChild, DropsKeyed, DropsUnbounded}
 use Rattle.tree_node.specs.Parts.{IsPart, KeepsBounds, Replaces}
 use Rattle.tree_node.specs.Tree.{IsOfLevel}
 use Rattle.tree_remove.specs.Removes.{RemovesUnder, TakesOut}

@@ -13,7 +13,7 @@ use Rattle.tree_node.specs.declared.node.NodeOf.{NodeOf}
 use Rattle.tree_node.specs.declared.node.NodeOf.TheVariants.{Internal, Leaf}
 use Rattle.tree_node.specs.Arenas.{TreeArenas}
 use Rattle.tree_node.specs.Routing.{IsChildAt}
-use Rattle.tree_remove.specs.CleanUps.{HasChildIn}
+use Rattle.tree_clean_up.specs.CleanUps.{HasChildIn}
 use Rattle.tree_node.specs.Parts.{IsPart, Replaces}
 use Rattle.tree_remove.specs.Removes.{RemovesUnder}
 use Rattle.tree_node.specs.Tree.{HasChildFor, IsRetired, Stands, child_of, keyed, nodes_at, unbounded}

@@ -1,14 +1,8 @@
 pub mod ChildDrops
 pub mod ChildSides
 pub mod Descents
-pub mod EmptyNodes
-pub mod LeafDrops
 pub mod LeafRemovals
-pub mod Losses
 pub mod LoweredTrees
 pub mod Lowerings
-pub mod NodeDrops
 pub mod NodeRemovals
-pub mod NodeWrites
-pub mod OnlyLeaves
 pub mod Ways

@@ -19,9 +19,9 @@ use Rattle.tree_node.specs.Tree.{IsRetired, Stands, children_of, leaves_at, node
 use Rattle.tree_node.proofs.Frames.{Agrees, same_leaves, same_nodes, same_stands}
 use Rattle.tree_node.proofs.Lifts.{single_nodes}
 use Rattle.tree_node.proofs.Standing.{no_children}
-use Rattle.tree_remove.proofs.Losses.{lost_counted}
-use Rattle.tree_remove.proofs.OnlyLeaves.{only_stands}
-use Rattle.tree_remove.proofs.NodeDrops.{node_dropped}
+use Rattle.tree_clean_up.proofs.Losses.{lost_counted}
+use Rattle.tree_clean_up.proofs.OnlyLeaves.{only_stands}
+use Rattle.tree_clean_up.proofs.NodeDrops.{node_dropped}
 
 module _ {K V : Type 0} {LEN : ℕ} (cmp : K → K → Ordering) (a : TreeArenas K V LEN) (root : ℕ) where
   stays : (level : ℕ) → IsRoot cmp a root level → LowersRoot cmp level a a root (Some (root, level))

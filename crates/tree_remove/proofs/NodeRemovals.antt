@@ -8,21 +8,21 @@ use Rattle.slab.specs.Slab.{get}
 use Rattle.tree_array.specs.declared.answers.RemoveResult.{RemoveResult}
 use Rattle.tree_array.specs.declared.answers.RemoveResult.TheVariants.{Success, Retired, Fail}
 use Rattle.tree_leaf.specs.declared.leaf.LeafOf.{LeafOf}
-use Rattle.tree_leaf.specs.Entries.{found_entries}
 use Rattle.tree_model.specs.Pairs.{AllLarger}
 use Rattle.tree_node.specs.Arenas.{TreeArenas}
-use Rattle.tree_remove.specs.CleanUps.{HasOnlyRetired, RetiresIfEmpty}
+use Rattle.tree_clean_up.specs.CleanUps.{HasOnlyRetired, RetiresIfEmpty}
 use Rattle.tree_node.specs.Parts.{IsPart, KeepsBounds, Replaces}
 use Rattle.tree_remove.specs.Removes.{RemovesUnder, TakesOut}
 use Rattle.tree_node.specs.Shape.{spare}
 use Rattle.tree_node.specs.Tree.{HasChildFor, Stands, IsRetired, IsRetiredLeaf, leaves_at, walk}
+use Rattle.tree_clean_up.proofs.Retired.{walk-retired}
 use Rattle.tree_node.proofs.Between.{found_between, without_between}
 use Rattle.tree_node.proofs.ChildChanges.{node_keeps, node_replaces, now, old_spare, new_spare, old_walk, new_walk}
 use Rattle.tree_node.proofs.Frames.{same_stands}
 use Rattle.tree_node.proofs.Unchanged.{unchanged_agrees}
 use Rattle.tree_node.proofs.Spares.{spare_le}
 use Rattle.tree_node.proofs.Steps.{part_after, replaces_refl, replaces_trans}
-use Rattle.tree_node.proofs.Walks.{walk-children, front_walk_below, back_walk_above}
+use Rattle.tree_node.proofs.Walks.{front_walk_below, back_walk_above}
 use Rattle.tree_node.proofs.Standing.{no_children}
 
 -- what is taken out between smaller and larger keys is taken out of all
@@ -77,15 +77,6 @@ one_only (a ∷ []) x back same = absurd (cc)
 one_only (a ∷ (c ∷ front)) x back same = absurd (cc)
 
 module _ {K V : Type 0} {LEN : ℕ} where
-  no_entries : (found : Option (LeafOf K V LEN)) → IsRetiredLeaf found → found_entries found ≡ []
-  no_entries None retired = absurd retired
-  no_entries (Some leaf) retired = retired.1
-
-  -- what is retired has no pair
-  pub walk-retired : (level : ℕ) (a : TreeArenas K V LEN) (id : ℕ) → IsRetired level a id → walk level a id ≡ []
-  walk-retired zero a id retired = rw (no_entries (get a.leaves id) retired) refl
-  walk-retired (suc level) a id retired = rw (walk-children level a id, (no_children (get a.nodes id) retired).1) refl
-
   -- a leaf node isn't left with a retired leaf alone where its own clean-up succeeds
   pub settled_if_empty : (old new : TreeArenas K V LEN) (id : ℕ) (result : RemoveResult) → RetiresIfEmpty old new id result → result ≡ Success → HasOnlyRetired new id → ⊥
   settled_if_empty old new id Success settles success = rw settles.0 settles.1

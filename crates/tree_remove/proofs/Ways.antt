@@ -15,7 +15,7 @@ use Rattle.tree_node.proofs.ChildChanges.{child_part}
 use Rattle.tree_node.proofs.Children.{walk-leaf}
 use Rattle.tree_node.proofs.Walks.{found_in_child}
 use Rattle.tree_descent.proofs.Ways.{part_on_way}
-use Rattle.tree_remove.specs.CleanUps.{HasOnlyRetired}
+use Rattle.tree_clean_up.specs.CleanUps.{HasOnlyRetired}
 use Rattle.tree_remove.specs.Removes.{RemovesUnder}
 use Rattle.tree_remove.proofs.NodeRemovals.{fails_above, fails_retired, settled_above, succeeds_above}
 

@@ -1,3 +1,2 @@
-pub mod CleanUps
 pub mod Lowering
 pub mod Removes

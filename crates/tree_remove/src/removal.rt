@@ -5,13 +5,13 @@ ghost use Rattle.std.specs.Option.{ForSome};
 ghost use Rattle.tree_model.specs.Pairs.{pair_at};
 ghost use Rattle.slab.specs.Slab.{ContainsKey};
 ghost use Rattle.tree_descent.specs.Ways.{LeadsTo};
-ghost use Rattle.tree_remove.specs.CleanUps.{HasOnlyRetired};
+ghost use Rattle.tree_clean_up.specs.CleanUps.{HasOnlyRetired};
 ghost use Rattle.tree_node.specs.Parts.{IsPart};
 ghost use Rattle.tree_remove.specs.Removes.{RemovesUnder, removal_told};
 ghost use Rattle.tree_node.specs.Tree.{IsRetired, walk};
 
-use crate::clean_up::{drop_child_node, drop_keyed_leaf, retire_if_empty};
 use tree_array::array::RemoveResult;
+use tree_clean_up::{drop_child_node, drop_keyed_leaf, retire_if_empty};
 use tree_descent::descent::leaf_for;
 use tree_leaf::arena::{LeafId, NodeId};
 use tree_node::node::{ArenasOf, NodeOf};

@@ -13,7 +13,7 @@ use Rattle.tree_model.specs.Pairs.{AllLarger, IsAbsent, IsAscending}
 use Rattle.tree_model.specs.Runs.{Step}
 use Rattle.tree_model.proofs.Lists.{all_map, all-append}
 use Rattle.tree_node.proofs.Between.{found_between}
-use Rattle.tree_packed.proofs.Arrays.{put_beyond}
+use Rattle.tree_split.proofs.Arrays.{put_beyond}
 use Rattle.tree_runs.specs.Climbs.{PacksBy}
 use Rattle.tree_index.specs.Index.{Index, IsShallow}
 

@@ -1,13 +1,12 @@
-mod Ascended
-mod Boundaries
+pub mod Arrays
+pub mod Ascended
+pub mod Boundaries
+pub mod Edges
 pub mod Fulls
-pub mod LeafRooms
-mod LeafSplits
-mod LowSplits
-mod NodeRooms
-mod NodeSplits
-mod PackedSplits
-mod Rebuilds
+pub mod LowSplits
+pub mod PackedSplits
+pub mod Rebuilds
 pub mod Results
-mod SameKinds
+pub mod SameKinds
+pub mod Tests
 pub mod Variants

@@ -22,9 +22,9 @@ use Rattle.tree_node.specs.Tree.{AreParted, IsBelow, Stands, keyed, walk}
 use Rattle.tree_node.proofs.Frames.{Agrees, same_walk}
 use Rattle.tree_node.proofs.Places.{low_above, low_at}
 use Rattle.tree_node.proofs.Standing.{node_is}
-use Rattle.tree_packed.specs.Packed.{HasLast, IsPacked, is_packed_array}
-use Rattle.tree_packed.proofs.Arrays.{both_of, packed_boundary, packed_full, packed_marks, packed_stored}
-use Rattle.tree_packed.proofs.Edges.{at_last, counts_same, same_packed}
+use Rattle.tree_split.specs.Packed.{HasLast, IsPacked, is_packed_array}
+use Rattle.tree_split.proofs.Arrays.{both_of, packed_boundary, packed_full, packed_marks, packed_stored}
+use Rattle.tree_split.proofs.Edges.{at_last, counts_same, same_packed}
 use Rattle.tree_split.specs.Splits.{all_smaller, low_part}
 use Rattle.tree_split.proofs.Boundaries.{boundary_count}
 use Rattle.tree_split.proofs.LowSplits.{SplitsLow, changed, entries_now, fronts, parted, separates_here}

@@ -15,7 +15,7 @@ use Rattle.tree_node.specs.Arenas.{TreeArenas}
 use Rattle.tree_node.specs.Tree.{IsAbove, IsUpTo, HasChildFor, HasKind, Stands, keyed, unbounded, children_of, walk}
 use Rattle.tree_node.specs.Parts.{KeepsBounds, Replaces, Unchanged}
 use Rattle.tree_node.specs.Shape.{held, room, found_keyed, spare}
-use Rattle.tree_packed.specs.Packed.{HasLast, IsPacked}
+use Rattle.tree_split.specs.Packed.{HasLast, IsPacked}
 
 -- The parent takes no child more, and the child has too many to be built anew. Nothing has changed.
 pub record LacksRoom {K V : Type 0} {LEN : ℕ} (level : ℕ) (old new : TreeArenas K V LEN) (parent target : ℕ) : Type 0 where

@@ -10,7 +10,7 @@ use tree_array::array::ArrayOf;
 
 /// Returns the place of the child at which the array divides, which is its boundary, or `None` if the array is built anew
 /// instead.
-pub(crate) fn parting_place<K: Ord + Drop, I: Drop, const LEN: usize>(
+pub fn parting_place<K: Ord + Drop, I: Drop, const LEN: usize>(
     children: &ArrayOf<K, I, LEN>,
 ) -> Option<u8>
     ensures place { MatchOption result (length children.now.entries ≤ limit LEN) (λ place. (limit LEN < length children.now.entries) × (place < length children.now.entries)) }
@@ -27,7 +27,7 @@ pub(crate) fn parting_place<K: Ord + Drop, I: Drop, const LEN: usize>(
 
 /// Puts a child under its separator, which is new in the array. Makes at most 4 comparisons (3 among 7
 /// slots).
-pub(crate) fn put_keyed<K: Ord + Drop, I: Drop, const LEN: usize>(
+pub fn put_keyed<K: Ord + Drop, I: Drop, const LEN: usize>(
     children: &mut ArrayOf<K, I, LEN>,
     separator: K,
     child: I,
@@ -42,7 +42,7 @@ pub(crate) fn put_keyed<K: Ord + Drop, I: Drop, const LEN: usize>(
 
 /// Takes out the children up to this place: returns the separator of the one at the place, an array of those before it,
 /// and the child itself. The children of both arrays arrive anew, in ascending order.
-pub(crate) fn cut_keyed<K: Ord + Drop, I: Drop, const LEN: usize>(
+pub fn cut_keyed<K: Ord + Drop, I: Drop, const LEN: usize>(
     children: &mut ArrayOf<K, I, LEN>,
     place: u8,
 ) -> (K, ArrayOf<K, I, LEN>, I)

@@ -1,6 +1,7 @@
-//! Splits: a full leaf or node gives its lower part to a new one before it, or is built anew.
+//! What splits of leaves and of nodes share: what a split answers and leaves, how the children of a node are divided, and
+//! what a packed tree is, one that took its keys in ascending order.
 #![tactic(auto)]
 
 mod keyed_children;
-pub mod leaf_split;
-pub mod node_split;
+
+pub use keyed_children::{cut_keyed, parting_place, put_keyed};

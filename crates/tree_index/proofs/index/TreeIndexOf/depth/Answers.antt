@@ -1,5 +1,5 @@
-use Rattle.tree_index.proofs.Numbers.{pairs_bound}
-use Rattle.tree_packed.proofs.Tests.{packed_depth}
+use Rattle.tree_root.proofs.Numbers.{pairs_bound}
+use Rattle.tree_split.proofs.Tests.{packed_depth}
 use Rattle.tree_index.proofs.index.TreeIndexOf.depth.Goals as goal
 
 pub returns-in-Some-clause-bound : goal.returns-in-Some-clause-bound

@@ -1,7 +1,7 @@
 use Rattle.tree_node.proofs.Sizes.{fits}
 use Rattle.std.proofs.Common.{◌∙◌, ap, arith, sym, length}
 use Rattle.std.specs.Fn.{FnOnceReturnsAt}
-use Rattle.tree_index.specs.Trees.{pairs_of}
+use Rattle.tree_root.specs.Trees.{pairs_of}
 use Rattle.tree_index.proofs.Indexed.{index_kept, keeps_spare, one_less, pairs_ascend}
 use Rattle.tree_index.proofs.Removed.{removes_surely}
 use Rattle.tree_index.proofs.index.TreeIndexOf.remove_if_sync.Goals as goal

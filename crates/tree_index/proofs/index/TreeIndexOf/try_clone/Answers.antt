@@ -1,5 +1,5 @@
 use Rattle.tree_node.proofs.Sizes.{fits}
-use Rattle.tree_index.specs.Trees.{pairs_of}
+use Rattle.tree_root.specs.Trees.{pairs_of}
 use Rattle.tree_index.proofs.Indexed.{pairs_ascend}
 use Rattle.tree_index.proofs.Walked.{all_left}
 use Rattle.tree_index.proofs.index.TreeIndexOf.try_clone.Goals as goal

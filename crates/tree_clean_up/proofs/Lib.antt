@@ -1,0 +1,7 @@
+pub mod EmptyNodes
+pub mod LeafDrops
+pub mod Losses
+pub mod NodeDrops
+pub mod NodeWrites
+pub mod OnlyLeaves
+pub mod Retired

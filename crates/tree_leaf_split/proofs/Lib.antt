@@ -1,0 +1,2 @@
+pub mod LeafRooms
+pub mod LeafSplits

@@ -1,0 +1,190 @@
+//! Splits and rebuilds of the leaves under a leaf node.
+ghost use Rattle.std.specs.Prelude.{◌≡◌, ◌<◌, ◌≤◌, [], IfOk, IfSome, IsSome, MatchOption, OnErr, Some, if◌then◌else◌, take, drop, length, slice_get};
+ghost use Rattle.std.specs.List.{AllByRecursion};
+ghost use Rattle.slab.specs.Slab.{get};
+ghost use Rattle.tree_leaf.specs.Entries.{leaf_entries};
+ghost use Rattle.tree_array.specs.Arrivals.{in_order};
+ghost use Rattle.tree_array.specs.Insertion.{HasRoom};
+ghost use Rattle.tree_array.specs.Length.{limit};
+ghost use Rattle.tree_array.specs.Sound.{IsSound};
+ghost use Rattle.tree_model.specs.Pairs.{IsAbsent};
+ghost use Rattle.tree_node.specs.Parts.{IsPart, PutsChild, Unchanged};
+ghost use Rattle.tree_split.specs.Splits.{GivesAll, GivesFirst, GoesWhole, IsCut, RoomResult, SharesEntries, all_smaller, low_part};
+ghost use Rattle.tree_node.specs.Tree.{HasChildFor, HasKind, is_from, keyed};
+
+use std::alloc::AllocError;
+use std::cmp::Ordering;
+use std::mem;
+use tree_array::array::{ArrayOf, IndexKey};
+use tree_leaf::arena::{LeafId, NodeId};
+use tree_leaf::leaf::{LeafOf, add_before};
+use tree_node::node::{ArenasOf, NodeOf};
+use tree_split::put_keyed;
+
+/// Makes room for a key in the leaf that the key belongs to, and returns the leaf that it belongs to then. The first rule
+/// that applies decides:
+///
+/// 1. If at most three quarters of the leaf's slots hold entries, its array is built anew in place.
+/// 2. If the node has no slot for another separator, returns `None`; nothing has changed.
+/// 3. Otherwise the leaf is split: its first entries move to a new leaf, linked before it, and a clone of the greatest
+///    key among them becomes the new leaf's separator. The leaf divides at its array's boundary. If it is the unbounded
+///    one, all its pairs arrived in ascending order and the key is larger than every key in it, all entries move.
+///
+/// Returns `Err` if the leaf is to be split and memory is refused, also by the clone; nothing has changed then. Allocates
+/// at most one leaf. Makes at most 4 comparisons in the put into the node's array (3 among 7 slots), and two beside them.
+///
+/// The caller must see that a well-formed leaf node stands under the number, and that the key belongs to the leaf.
+pub fn make_room<K: IndexKey, V: Drop, const LEN: usize>(
+    arenas: &mut ArenasOf<K, V, LEN>,
+    id: NodeId,
+    target: LeafId,
+    key: &K,
+) -> Result<Option<LeafId>, AllocError>
+    requires part { IsPart K.cmp 1 arenas.old id }
+    requires child { HasChildFor K.cmp key.now (get arenas.old.nodes id) target }
+    ensures done { IfOk result (λ made. RoomResult K.cmp made 1 arenas.old arenas.new id target key.now) }
+    ensures err { OnErr result (Unchanged arenas.old arenas.new) }
+    ensures many { OnErr result (limit LEN < length (leaf_entries arenas.old.leaves target)) }
+    ensures shares { IfOk result (λ made. IsSome made → SharesEntries K.cmp arenas.old arenas.new id target key.now) }
+{
+    let NodeOf::Leaf(node) = arenas.node(id) else {
+        unreachable!()
+    };
+    let last = node.unbounded_child == Some(target);
+    let full = node.children.is_full();
+    let Some(count) = low_count(arenas.leaf(target).array(), key, last) else {
+        arenas.leaf_mut(target).array_mut().rebuild();
+        return Ok(Some(target));
+    };
+    if full {
+        return Ok(None);
+    }
+    let home = split_leaf(arenas, id, target, key, count)?;
+    Ok(Some(home))
+}
+
+/// Returns how many of the first entries move when the leaf is split for a key, or `None` if the array is built anew
+/// instead. `last` says whether the leaf is the unbounded one. Compares the key only where a last leaf was filled in
+/// ascending order.
+fn low_count<K: Ord + Drop, V: Drop, const LEN: usize>(
+    array: &ArrayOf<K, V, LEN>,
+    key: &K,
+    last: bool,
+) -> Option<u8>
+    ensures cut { MatchOption result (length array.now.entries ≤ limit LEN) (λ count. (limit LEN < length array.now.entries) × IsCut K.cmp key.now count array.now.entries) }
+    ensures rule { IfSome result (λ count. count ≡ low_part K.cmp LEN last array.now key.now) }
+    ensures whole { IfSome result (λ count. GoesWhole LEN array.now count) }
+    ensures sound { IsSound K.cmp LEN array.now }
+{
+    let (boundary, count, ascended) = array.optimal_boundary();
+    if boundary as usize == LEN {
+        None
+    } else if ascended && last && is_beyond(array, key) {
+        Some(count as u8)
+    } else {
+        Some(boundary)
+    }
+}
+
+/// Returns true if the key is larger than every key in the array. Makes at most one comparison.
+fn is_beyond<K: Ord + Drop, V: Drop, const LEN: usize>(array: &ArrayOf<K, V, LEN>, key: &K) -> bool
+    requires { IsSound K.cmp LEN array.now }
+    ensures { result ≡ all_smaller K.cmp key.now array.now.entries }
+{
+    match array.last_slot() {
+        Some(slot) => array.key(slot).cmp(key).is_lt(),
+        None => true,
+    }
+}
+
+/// Splits a leaf: its first `count` entries move to a new leaf, linked before it, under a clone of the greatest key among
+/// them. Returns the one of the two that the key belongs to.
+///
+/// Returns `Err` if memory is refused, also by the clone; nothing has changed then, since the place for the leaf is
+/// reserved and the key cloned before an entry moves.
+fn split_leaf<K: IndexKey, V: Drop, const LEN: usize>(
+    arenas: &mut ArenasOf<K, V, LEN>,
+    id: NodeId,
+    target: LeafId,
+    key: &K,
+    count: u8,
+) -> Result<LeafId, AllocError>
+    requires part { IsPart K.cmp 1 arenas.old id }
+    requires child { HasChildFor K.cmp key.now (get arenas.old.nodes id) target }
+    requires sound { (leaf : _) → get arenas.old.leaves target ≡ Some leaf → IsSound K.cmp LEN leaf.array }
+    requires whole { (leaf : _) → get arenas.old.leaves target ≡ Some leaf → GoesWhole LEN leaf.array count }
+    requires cut { IsCut K.cmp key.now count (leaf_entries arenas.old.leaves target) }
+    requires room { (node : _) → get arenas.old.nodes id ≡ Some node → HasRoom LEN (keyed node) }
+    ensures done { IfOk result (λ home. GivesAll K.cmp arenas.old id target count key.now → RoomResult K.cmp (Some home) 1 arenas.old arenas.new id target key.now) }
+    ensures shares { IfOk result (λ _. GivesFirst arenas.old arenas.new target count) }
+    ensures err { OnErr result (Unchanged arenas.old arenas.new) }
+{
+    let separator = separator_at(arenas.leaf(target).array(), count - 1)?;
+    arenas.reserve(1, 0)?;
+    let mut low = LeafOf::new();
+    cut_low(arenas.leaf_mut(target).array_mut(), count, low.array_mut());
+    let Ok(low_id) = add_before(arenas, target, low) else {
+        unreachable!()
+    };
+    let home = side_for(key, &separator, low_id, target);
+    put_leaf(arenas.node_mut(id), separator, low_id);
+    Ok(home)
+}
+
+/// Returns the lower of two leaves if the key is at most the separator between them, else the upper one.
+fn side_for<K: Ord>(key: &K, separator: &K, low: LeafId, high: LeafId) -> LeafId
+    ensures { result ≡ (if is_from K.cmp key.now separator.now then low else high) }
+{
+    if separator.cmp(key).is_ge() {
+        low
+    } else {
+        high
+    }
+}
+
+/// Returns a clone of the key at this place in key order.
+fn separator_at<K: IndexKey, V: Drop, const LEN: usize>(
+    array: &ArrayOf<K, V, LEN>,
+    place: u8,
+) -> Result<K, AllocError>
+    requires { place < length array.now.entries }
+    ensures { IfOk result (λ key. (pair : _) × (slice_get array.now.entries place ≡ Some pair) × (K.cmp pair.0 key ≡ Ordering.Equal)) }
+{
+    match array.slot_at(place) {
+        Some(slot) => array.key(slot).clone(),
+        None => unreachable!(),
+    }
+}
+
+/// Moves the first `count` entries into `low`, which is new. The entries of both arrays arrive anew, in ascending order.
+/// If all `LEN` entries move, they arrived so already, and the two arrays are swapped instead.
+fn cut_low<K: Ord + Drop, V: Drop, const LEN: usize>(
+    array: &mut ArrayOf<K, V, LEN>,
+    count: u8,
+    low: &mut ArrayOf<K, V, LEN>,
+)
+    requires sound { IsSound K.cmp LEN array.old }
+    requires whole { GoesWhole LEN array.old count }
+    requires new { low.old ≡ in_order [] }
+    ensures low { low.new ≡ in_order (take count array.old.entries) }
+    ensures high { array.new ≡ in_order (drop count array.old.entries) }
+{
+    if count as usize == LEN {
+        mem::swap(array, low);
+        return;
+    }
+    array.divide(count, low);
+}
+
+/// Puts a leaf under its separator into a leaf node.
+fn put_leaf<K: Ord + Drop, const LEN: usize>(node: &mut NodeOf<K, LEN>, separator: K, leaf: LeafId)
+    requires kind { HasKind 0 node.old }
+    requires absent { IsAbsent K.cmp (keyed node.old).entries separator }
+    requires room { HasRoom LEN (keyed node.old) }
+    ensures { PutsChild K.cmp node.old node.new separator leaf }
+{
+    match node {
+        NodeOf::Leaf(node) => put_keyed(&mut node.children, separator, leaf),
+        NodeOf::Internal(_) => unreachable!(),
+    }
+}

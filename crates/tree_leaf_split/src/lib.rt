@@ -1,0 +1,6 @@
+//! Room for one more pair in a full leaf: it gives its lower part to a new leaf before it, or is built anew.
+#![tactic(auto)]
+
+mod leaf_split;
+
+pub use leaf_split::make_room;

@@ -1,0 +1,2 @@
+pub mod NodeRooms
+pub mod NodeSplits

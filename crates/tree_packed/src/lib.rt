@@ -1,2 +1,0 @@
-//! Packed trees: what a tree is that took its keys in ascending order.
-#![tactic(auto)]

@@ -1,0 +1,5 @@
+pub mod Cutting
+pub mod Numbers
+pub mod Packs
+pub mod Stored
+pub mod Taken

@@ -1,0 +1,119 @@
+-- What a removal from a tree comes to.
+use Rattle.std.proofs.Common.{◌≡◌, ◌⊎◌, ℕ, zero, suc, ◌<◌, ◌≤◌, Bool, true, false, [], Some, None, inl, inr, refl, ap, ◌∙◌, arith}
+use Rattle.std.specs.declared.cmp.Ordering.{Ordering}
+use Rattle.slab.specs.Slab.{get}
+use Rattle.tree_array.specs.declared.answers.RemoveResult.{RemoveResult}
+use Rattle.tree_array.specs.declared.answers.RemoveResult.TheVariants.{Success, Retired, Fail}
+use Rattle.tree_model.specs.Pairs.{pair_at}
+use Rattle.tree_node.specs.Arenas.{TreeArenas}
+use Rattle.tree_remove.specs.Lowering.{LowersRoot}
+use Rattle.tree_node.specs.Parts.{IsPart}
+use Rattle.tree_node.specs.Tree.{IsOfLevel}
+use Rattle.tree_remove.specs.Removes.{RemovesUnder, TakesOut, removal_told}
+use Rattle.tree_node.specs.Shape.{spare}
+use Rattle.tree_node.specs.Tree.{IsRetired, Stands, leaves_at, walk}
+use Rattle.tree_node.specs.Whole.{IsRetiredRoot, IsTree, spare_under}
+use Rattle.tree_node.proofs.Steps.{part_after}
+use Rattle.tree_node.proofs.Whole.{chain_after, leaves_after, nodes_after, spare_standing, spare_unchanged, tree_after, tree_part, tree_unchanged, walk_unchanged}
+use Rattle.tree_node.proofs.Standing.{no_children}
+use Rattle.tree_split.proofs.Tests.{packed_unchanged}
+use Rattle.tree_remove.proofs.LoweredTrees.{spare_lowered, tree_lowered}
+use Rattle.tree_root.specs.declared.tree.Tree.{Tree}
+use Rattle.tree_root.specs.Trees.{IsWhole, Takes}
+
+module _ {K V : Type 0} {LEN : ℕ} (cmp : K → K → Ordering) (Says : V → Bool → Type 0) (old new : Tree K V LEN) (key : K) where
+  -- without a root there is no key
+  pub none_taken : IsWhole cmp old → new ≡ old → old.root ≡ None → Takes cmp Says old new key false
+  none_taken whole same none = record {
+    whole = rw same whole;
+    pairs = rw (same, none) ((λ pair found. absurd (cc)), refl);
+    spare = inl (rw same (omega arith));
+    kept = λ so. rw same (refl, refl, refl);
+  }
+
+  module _ (id level : ℕ) (was : old.root ≡ Some (id, level)) (whole : IsWhole cmp old) where
+    here : IsTree cmp old.arenas (Some (id, level))
+    here = rw was at whole
+
+    -- nothing was removed, and nothing has changed
+    pub kept : new.root ≡ old.root → RemovesUnder cmp Says level old.arenas new.arenas id Fail key → Takes cmp Says old new key false
+    kept root r = record {
+      whole = rw root (tree_unchanged old.arenas new.arenas old.root r.leaves whole);
+      pairs = (rw was r.pairs.0, rw root (walk_unchanged old.arenas new.arenas old.root r.leaves));
+      spare = inl (omega (arith, ap (λ r. spare_under new.arenas r) root, spare_unchanged old.arenas new.arenas old.root r.leaves));
+      kept = λ so. rw root (refl, spare_unchanged old.arenas new.arenas old.root r.leaves, packed_unchanged cmp old.arenas new.arenas old.root r.leaves);
+    }
+
+    -- the pair went, and then the root was lowered
+    module _ (mid : TreeArenas K V LEN) (result : RemoveResult) (gone : TakesOut cmp Says (walk level old.arenas id) key (walk level mid id)) (r : RemovesUnder cmp Says level old.arenas mid id result key)
+        (spare_mid : (spare_under old.arenas (Some (id, level)) ≤ spare_under mid (Some (id, level))) ⊎ (leaves_at level mid.nodes id ≡ [])) (lowers : LowersRoot cmp level mid new.arenas id new.root) where
+      pub lowered : Takes cmp Says old new key true
+      lowered = record {
+        whole = tree_lowered mid new.arenas id level new.root (nodes_after old.arenas mid id level here r.replaces) (leaves_after old.arenas mid id level here r.replaces) (chain_after old.arenas mid id level here r.replaces) lowers;
+        pairs = (gone.pair, rw was gone.was, gone.said, rw (was, lowers.pairs) gone.left);
+        spare = elim spare_mid [
+          | inl more ↦ inl (rw (was, spare_lowered cmp mid new.arenas id level new.root lowers) more)
+          | inr none ↦ inr (lowers.leaves_under ∙ none)
+        ];
+        kept = λ so. absurd (cc);
+      }
+
+    -- the spare of the part after the removal
+    pub spare_kept : (mid : TreeArenas K V LEN) → Stands cmp level old.arenas None id None → Stands cmp level mid None id None → spare level old.arenas id ≤ spare level mid id
+        → spare_under old.arenas (Some (id, level)) ≤ spare_under mid (Some (id, level))
+    spare_kept mid before after spares = rw (spare_standing cmp old.arenas id level before, spare_standing cmp mid id level after) spares
+
+    -- a retired root has no leaf
+    pub leaves_gone : (mid : TreeArenas K V LEN) → IsRetired level mid id → leaves_at level mid.nodes id ≡ []
+    leaves_gone mid retired = by_level level here.top.0 retired
+      where
+        by_level : (level : ℕ) → 0 < level → IsRetired level mid id → leaves_at level mid.nodes id ≡ []
+        by_level zero deep retired = absurd (omega (arith, deep))
+        by_level (suc level) deep retired = rw (no_children (get mid.nodes id) retired).1 refl
+
+    -- a root from which a pair went stands
+    pub stood : (pair : K × V) → pair_at cmp (walk level old.arenas id) key ≡ Some pair → Stands cmp level old.arenas None id None
+    stood pair found = by_top here.top.1
+      where
+        by_top : (Stands cmp level old.arenas None id None ⊎ IsRetiredRoot old.arenas id level) → Stands cmp level old.arenas None id None
+        by_top (inl stands) = stands
+        by_top (inr gone) =
+            let empty : walk level old.arenas id ≡ [] = rw (gone.0, (no_children (get old.arenas.nodes id) gone.1).1) refl in
+            absurd (let both : None ≡ Some pair = rw empty at found in cc)
+
+    -- after a pair went that wasn't the last one, the root stands
+    module _ (mid : TreeArenas K V LEN) (r : RemovesUnder cmp Says level old.arenas mid id Success key) where
+      before : Stands cmp level old.arenas None id None
+      before = stood r.pairs.pair r.pairs.was
+
+      pub still_part : IsPart cmp level mid id
+      still_part = part_after cmp level old.arenas mid id (tree_part old.arenas id level here before) (r.leaves None None before) r.replaces
+
+      pub taken : LowersRoot cmp level mid new.arenas id new.root → Takes cmp Says old new key true
+      taken lowers = lowered mid Success r.pairs r (inl (spare_kept mid before still_part.stands r.spare)) lowers
+
+    -- it went, and the root stays
+    taken_beside : new.root ≡ old.root → RemovesUnder cmp Says level old.arenas new.arenas id Success key → Takes cmp Says old new key true
+    taken_beside root r =
+        let still : new.root ≡ Some (id, level) = root ∙ was in
+        let part = still_part new.arenas r in
+        record {
+          whole = rw still (tree_after old.arenas new.arenas id level here r.replaces (here.top.0, inl part.stands));
+          pairs = (r.pairs.pair, rw was r.pairs.was, r.pairs.said, rw (was, still) r.pairs.left);
+          spare = inl (rw (was, still) (spare_kept new.arenas (before new.arenas r) part.stands r.spare));
+          kept = λ so. absurd (cc);
+        }
+
+    -- either, by the answer
+    pub told_taken : new.root ≡ old.root → (removed : Bool) → RemovesUnder cmp Says level old.arenas new.arenas id (removal_told removed) key → Takes cmp Says old new key removed
+    told_taken root true r = taken_beside root r
+    told_taken root false r = kept root r
+
+    -- after the last one it is retired
+    pub last_taken : (mid : TreeArenas K V LEN) → RemovesUnder cmp Says level old.arenas mid id Retired key → LowersRoot cmp level mid new.arenas id new.root → Takes cmp Says old new key true
+    last_taken mid r lowers = lowered mid Retired r.pairs.0 r (inr (leaves_gone mid r.leaves.0)) lowers
+
+-- the root of a part has the kind of its level
+pub root_level : {K V : Type 0} {LEN : ℕ} {cmp : K → K → Ordering} {a : TreeArenas K V LEN} {id : ℕ} (level : ℕ) → IsPart cmp level a id → IsOfLevel level (get a.nodes id)
+root_level zero part = tt
+root_level (suc level) part = rw part.stands.here part.stands.kind

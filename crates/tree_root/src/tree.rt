@@ -1,0 +1,259 @@
+//! The tree that an index stands on.
+ghost use Rattle.std.specs.Prelude.{◌≡◌, ◌⊎◌, [], ◌+◌, ◌*◌, ◌^◌, ◌<◌, ◌≤◌, length, Bool, MatchOption, None, Some, false};
+ghost use Rattle.std.specs.Fn.{FnOnceReturnsAt, FnOnceTakesAt};
+ghost use Rattle.std.specs.Option.{ForSome};
+ghost use Rattle.std.specs.Range.Bound.{bound_map};
+ghost use Rattle.tree_array.specs.Length.{IsLen, searched};
+ghost use Rattle.tree_model.specs.Pairs.{IsAbsent, pair_at};
+ghost use Rattle.tree_descent.specs.Ways.{LeadsTo};
+ghost use Rattle.tree_insert.specs.Inserts.{IsNew};
+ghost use Rattle.tree_node.specs.Shape.{room};
+ghost use Rattle.tree_node.specs.Tree.{IsRetired};
+ghost use Rattle.tree_node.specs.Whole.{depth_of, leaves_under};
+ghost use Rattle.tree_root.specs.Trees.{Cuts, IsWhole, Stores, Takes, pairs_of, spare_of, told};
+
+use std::alloc::Global;
+use std::ops::Bound;
+use tree_array::array::{IndexKey, Judge, RemoveResult, StoreResult};
+use tree_cut::cutting::remove_range_at;
+use tree_descent::look_ups::search_at;
+use tree_insert::insertion::{Crowded, insert_at, insert_crowded, insert_with_room};
+use tree_insert::planting::plant;
+use tree_insert::root::split_root_at;
+use tree_leaf::arena::NodeId;
+use tree_model::InsertError;
+use tree_node::node::ArenasOf;
+use tree_remove::lowering::lower_root_at;
+use tree_remove::removal::{remove_beside, remove_from};
+
+/// Whether the key of a pair that was stored is new.
+#[derive(Drop)]
+pub enum Stored {
+    /// No pair had an equal key.
+    New,
+    /// The pair stands in place of one with an equal key.
+    Replaced,
+}
+
+/// A tree: its arenas, and its root with the root's level, if there is one.
+pub struct Tree<K: IndexKey, V: Drop, const LEN: usize> {
+    pub arenas: ArenasOf<K, V, LEN>,
+    pub root: Option<(NodeId, usize)>,
+}
+
+// Written out, so that it is proved here and not once more in each crate that drops a tree inside another type.
+impl<K: IndexKey, V: Drop, const LEN: usize> Drop for Tree<K, V, LEN> {
+    fn drop(self) {
+        let Tree { arenas, root: _ } = self;
+        drop(arenas);
+    }
+}
+
+impl<K: IndexKey, V: Drop, const LEN: usize> Tree<K, V, LEN> {
+    /// Creates an empty tree. Allocates nothing.
+    pub fn new(alloc: Global) -> Self
+        requires { IsLen LEN }
+        ensures whole { IsWhole K.cmp result }
+        ensures root { result.root ≡ None }
+    {
+        Tree {
+            arenas: ArenasOf::new(alloc),
+            root: None,
+        }
+    }
+
+    /// Stores a pair. With `UPSERT` it replaces the pair with an equal key.
+    ///
+    /// Returns `Err` with the pair if an equal key is there and `UPSERT` is false, or if memory is refused. Makes at
+    /// most 4 comparisons a level and in the leaf (3 among 7 slots), and one more in all. If the leaf is full, it searches
+    /// the leaf and its node once more, or descends once more.
+    #[inline(always)]
+    pub fn store<const UPSERT: bool>(&mut self, key: K, val: V) -> Result<Stored, InsertError<K, V>>
+        requires len { IsLen LEN }
+        requires whole { IsWhole K.cmp self.old }
+        ensures { Stores K.cmp UPSERT self.old self.new key val (told result) }
+    {
+        let Some((root, depth)) = self.root else {
+            return self.store_first(key, val);
+        };
+        match insert_with_room::<UPSERT, K, V, LEN>(&mut self.arenas, depth, root, key, val) {
+            Err(crowded) => self.store_crowded::<UPSERT>(root, depth, crowded),
+            Ok(answer) => match answer {
+                StoreResult::New => Ok(Stored::New),
+                StoreResult::Replaced => Ok(Stored::Replaced),
+                StoreResult::Duplicate(key, val) => Err(InsertError::Duplicate(key, val)),
+                StoreResult::Full(key, val) => self.store_grown::<UPSERT>(root, depth, key, val),
+            },
+        }
+    }
+
+    /// Stores a pair for which its leaf has no room. Its own function, so that the common insert stays short.
+    #[inline(never)]
+    fn store_crowded<const UPSERT: bool>(
+        &mut self,
+        root: NodeId,
+        depth: usize,
+        crowded: Crowded<K, V>,
+    ) -> Result<Stored, InsertError<K, V>>
+        requires len { IsLen LEN }
+        requires whole { IsWhole K.cmp self.old }
+        requires root { self.old.root ≡ Some (root, depth) }
+        requires way { LeadsTo K.cmp crowded.key depth self.old.arenas root crowded.place.node crowded.place.leaf }
+        ensures { Stores K.cmp UPSERT self.old self.new crowded.key crowded.val (told result) }
+    {
+        match insert_crowded::<UPSERT, K, V, LEN>(&mut self.arenas, depth, root, crowded) {
+            Err((key, val)) => Err(InsertError::OutOfMemory(key, val)),
+            Ok(answer) => match answer {
+                StoreResult::New => Ok(Stored::New),
+                StoreResult::Replaced => Ok(Stored::Replaced),
+                StoreResult::Duplicate(key, val) => Err(InsertError::Duplicate(key, val)),
+                StoreResult::Full(key, val) => self.store_grown::<UPSERT>(root, depth, key, val),
+            },
+        }
+    }
+
+    /// Stores the first pair.
+    fn store_first(&mut self, key: K, val: V) -> Result<Stored, InsertError<K, V>>
+        requires len { IsLen LEN }
+        requires whole { IsWhole K.cmp self.old }
+        requires bare { leaves_under self.old.arenas.nodes self.old.root ≡ [] }
+        ensures { (upsert : Bool) → Stores K.cmp upsert self.old self.new key val (told result) }
+    {
+        match plant(&mut self.arenas, self.root, key, val) {
+            Err((key, val)) => Err(InsertError::OutOfMemory(key, val)),
+            Ok(root) => {
+                self.root = Some((root, 1));
+                Ok(Stored::New)
+            }
+        }
+    }
+
+    /// Stores a pair for which the root has no room: a retired root gets the pair as its only one, and any other is
+    /// split under a new root.
+    fn store_grown<const UPSERT: bool>(
+        &mut self,
+        root: NodeId,
+        depth: usize,
+        key: K,
+        val: V,
+    ) -> Result<Stored, InsertError<K, V>>
+        requires len { IsLen LEN }
+        requires whole { IsWhole K.cmp self.old }
+        requires root { self.old.root ≡ Some (root, depth) }
+        requires full { IsRetired depth self.old.arenas root ⊎ (room depth self.old.arenas root ≡ 0) }
+        requires new { IsNew K.cmp UPSERT (pairs_of self.old) key }
+        requires spent { spare_of self.old ≡ 0 }
+        ensures { Stores K.cmp UPSERT self.old self.new key val (told result) }
+    {
+        if self.arenas.node(root).is_childless() {
+            return self.store_first(key, val);
+        }
+        let Ok(top) = split_root_at(&mut self.arenas, depth, root) else {
+            return Err(InsertError::OutOfMemory(key, val));
+        };
+        self.root = Some((top, depth + 1));
+        match insert_at::<UPSERT, K, V, LEN>(&mut self.arenas, depth + 1, top, key, val) {
+            Err((key, val)) => Err(InsertError::OutOfMemory(key, val)),
+            Ok(answer) => match answer {
+                StoreResult::New => Ok(Stored::New),
+                StoreResult::Replaced => Ok(Stored::Replaced),
+                StoreResult::Duplicate(key, val) => Err(InsertError::Duplicate(key, val)),
+                // The new root has room, and so has the child of each key.
+                StoreResult::Full(_, _) => unreachable!(),
+            },
+        }
+    }
+
+    /// Removes the pair at a key where the condition says so of its value, and says whether it did. Makes at most
+    /// 4 comparisons a level and in the leaf (3 among 7 slots), and twice as many if the pair is the last of its leaf.
+    /// Allocates nothing.
+    pub fn remove_if<F: FnOnce(&V) -> bool + Drop>(&mut self, key: &K, condition: F) -> bool
+        requires whole { IsWhole K.cmp self.old }
+        requires callable { ForSome (pair_at K.cmp (pairs_of self.old) key.now) (λ pair. FnOnceTakesAt F.FnOnce condition pair.1) }
+        ensures { Takes K.cmp (FnOnceReturnsAt F.FnOnce condition) self.old self.new key.now result }
+    {
+        let Some((root, depth)) = self.root else {
+            return false;
+        };
+        match remove_beside(&mut self.arenas, depth, root, key, condition) {
+            Ok(removed) => removed,
+            Err(condition) => self.remove_alone(root, depth, key, condition),
+        }
+    }
+
+    /// Does what [`remove_if`](Tree::remove_if) does, with a leaf that the removal may retire.
+    #[inline(never)]
+    fn remove_alone<F: FnOnce(&V) -> bool + Drop>(
+        &mut self,
+        root: NodeId,
+        depth: usize,
+        key: &K,
+        condition: F,
+    ) -> bool
+        requires whole { IsWhole K.cmp self.old }
+        requires root { self.old.root ≡ Some (root, depth) }
+        requires callable { ForSome (pair_at K.cmp (pairs_of self.old) key.now) (λ pair. FnOnceTakesAt F.FnOnce condition pair.1) }
+        ensures { Takes K.cmp (FnOnceReturnsAt F.FnOnce condition) self.old self.new key.now result }
+    {
+        match remove_from(&mut self.arenas, depth, root, key, condition) {
+            RemoveResult::Fail => false,
+            RemoveResult::Success => {
+                self.root = lower_root_at(&mut self.arenas, depth, root);
+                true
+            }
+            RemoveResult::Retired => {
+                self.root = lower_root_at(&mut self.arenas, depth, root);
+                true
+            }
+        }
+    }
+
+    /// Removes every pair whose key is within both bounds, and returns how many there were. Reversed bounds contain no
+    /// key.
+    ///
+    /// Drops whole parts of the tree between the bounds. Searches at most two arrays per level for each bound, and makes
+    /// at most two comparisons per slot of two leaves. Allocates nothing.
+    pub fn remove_range(&mut self, bounds: (Bound<&K>, Bound<&K>)) -> u128
+        requires { IsWhole K.cmp self.old }
+        ensures { Cuts K.cmp (bound_map (λ k. k.now) bounds.entry.0) (bound_map (λ k. k.now) bounds.entry.1) self.old self.new result }
+    {
+        let Some((root, depth)) = self.root else {
+            return 0;
+        };
+        let removed = remove_range_at(&mut self.arenas, depth, root, bounds);
+        self.root = lower_root_at(&mut self.arenas, depth, root);
+        removed.pairs
+    }
+
+    /// Removes all pairs. Keeps the memory of the arenas.
+    pub fn clear(&mut self)
+        ensures whole { IsWhole K.cmp self.new }
+        ensures root { self.new.root ≡ None }
+    {
+        self.arenas.clear();
+        self.root = None;
+    }
+
+    /// Returns the pair with the judge's key. Makes at most 4 comparisons per level and in the leaf with 15 slots,
+    /// and 3 with 7.
+    pub fn search<J: Judge<K>>(&self, judge: &mut J) -> Option<(&K, &V)>
+        requires { IsWhole K.cmp self.now }
+        ensures found { MatchOption result (IsAbsent K.cmp (pairs_of self.now) (J.key judge.old)) (λ pair. pair_at K.cmp (pairs_of self.now) (J.key judge.old) ≡ Some (pair.0.now, pair.1.now)) }
+        ensures same_key { J.key judge.new ≡ J.key judge.old }
+        ensures counted { J.count judge.new ≤ J.count judge.old + LEN * (depth_of self.now.root + 1) }
+        ensures halved { J.count judge.new ≤ J.count judge.old + searched LEN * (depth_of self.now.root + 1) }
+    {
+        let (root, depth) = self.root?;
+        search_at(&self.arenas, depth, root, judge)
+    }
+
+    /// Returns how many slots the leaves have, which is at least the number of pairs. Runs in constant time.
+    pub fn slots(&self) -> u128
+        requires len { IsLen LEN }
+        requires whole { IsWhole K.cmp self.now }
+        ensures slots { length (pairs_of self.now) ≤ result }
+        ensures small { result < 2 ^ 127 }
+    {
+        LEN as u128 * self.arenas.leaf_count() as u128
+    }
+}
