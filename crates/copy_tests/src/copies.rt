@@ -1,12 +1,26 @@
 //! Copies of an index.
-use crate::{are_equal, index_of};
+use crate::{are_equal, index_of, small_index_of};
 use std::alloc::{AllocError, Global};
 use std::process::Abort;
 use test_support::refusals::succeeds;
-use tree_index::{TreeIndex, TreeIndexOf};
+use tree_index::{SmallTreeIndex, TreeIndex, TreeIndexOf};
 
-/// Removes a key of a copy. Returns whether the copy was equal before and isn't now, and has a pair less.
-fn changes_alone(index: &TreeIndex<u64, u64>, copy: &mut TreeIndex<u64, u64>) -> bool {
+/// Copies an index, and once more where memory was refused.
+fn copies_again<F: Fn() -> Result<(), AllocError> + Drop>(copies: F) -> Result<(), AllocError>
+    requires { F.IsAlwaysCallable copies }
+{
+    if copies().is_ok() {
+        return Ok(());
+    }
+    copies()?;
+    Err(AllocError)
+}
+
+/// Removes a key of a copy of two pairs. Returns whether the copy was equal before and isn't now, and has a pair less.
+fn changes_alone<const LEN: usize>(
+    index: &TreeIndexOf<u64, u64, LEN>,
+    copy: &mut TreeIndexOf<u64, u64, LEN>,
+) -> bool {
     let was_equal = are_equal(index, copy);
     let removed = copy.remove_sync(&1);
     was_equal && removed && !are_equal(index, copy) && (index.len(), copy.len()) == (2, 1)
@@ -25,27 +39,48 @@ fn copies_alone(
     Ok(())
 }
 
-/// Copies the index, also after a refusal.
-fn expect_alone(
-    rt: &impl Abort,
-    alloc: Global,
-    index: &TreeIndex<u64, u64>,
-) -> Result<(), AllocError> {
-    if copies_alone(rt, alloc, index).is_ok() {
-        return Ok(());
-    }
-    copies_alone(rt, alloc, index)?;
-    Err(AllocError)
-}
-
 fn changes_the_copy_alone_steps(rt: &impl Abort, alloc: Global) -> Result<(), AllocError> {
     let index = index_of(alloc, &[(1, 1), (2, 2)])?;
-    expect_alone(rt, alloc, &index)
+    copies_again(|| copies_alone(rt, alloc, &index))
 }
 
 #[test]
 fn changes_the_copy_alone(rt: HostRuntime) {
     assert!(rt; succeeds(rt.alloc(), || changes_the_copy_alone_steps(&rt, rt.alloc())));
+}
+
+/// Does what [`copies_alone`] does, with seven pairs a leaf.
+fn copies_small_alone(
+    rt: &impl Abort,
+    alloc: Global,
+    index: &SmallTreeIndex<u64, u64>,
+) -> Result<(), AllocError> {
+    let copied = index.try_clone(alloc);
+    assert!(rt; index.peek(&1).copied() == Some(1) && index.len() == 2);
+    let mut copy = copied?;
+    assert!(rt; changes_alone(index, &mut copy));
+    Ok(())
+}
+
+/// Copies the index that this one is equal to.
+fn compares_and_copies(
+    rt: &impl Abort,
+    alloc: Global,
+    index: &SmallTreeIndex<u64, u64>,
+) -> Result<(), AllocError> {
+    let other = small_index_of(alloc, &[(2, 2), (1, 1)])?;
+    assert!(rt; are_equal(index, &other) && are_equal(&other, index));
+    copies_small_alone(rt, alloc, index)
+}
+
+fn changes_the_small_copy_alone_steps(rt: &impl Abort, alloc: Global) -> Result<(), AllocError> {
+    let index = small_index_of(alloc, &[(1, 1), (2, 2)])?;
+    copies_again(|| compares_and_copies(rt, alloc, &index))
+}
+
+#[test]
+fn changes_the_small_copy_alone(rt: HostRuntime) {
+    assert!(rt; succeeds(rt.alloc(), || changes_the_small_copy_alone_steps(&rt, rt.alloc())));
 }
 
 /// Copies an index of one pair. A refusal leaves the pair.
@@ -86,23 +121,10 @@ fn copies_equal_texts(
     Ok(())
 }
 
-/// Copies the index, also after a refusal.
-fn expect_equal_texts(
-    rt: &impl Abort,
-    alloc: Global,
-    index: &TreeIndex<String, String>,
-) -> Result<(), AllocError> {
-    if copies_equal_texts(rt, alloc, index).is_ok() {
-        return Ok(());
-    }
-    copies_equal_texts(rt, alloc, index)?;
-    Err(AllocError)
-}
-
 /// Clones of keys and values that allocate can be refused too.
 fn copies_texts_steps(rt: &impl Abort, alloc: Global) -> Result<(), AllocError> {
     let index = index_of_texts(alloc)?;
-    expect_equal_texts(rt, alloc, &index)
+    copies_again(|| copies_equal_texts(rt, alloc, &index))
 }
 
 #[test]
@@ -111,8 +133,8 @@ fn copies_texts(rt: HostRuntime) {
 }
 
 /// An index of the keys from 0 to 99, with seven pairs a leaf.
-fn small_index(alloc: Global) -> Result<TreeIndexOf<u64, u64, 7>, AllocError> {
-    let mut index: TreeIndexOf<u64, u64, 7> = TreeIndexOf::new(alloc);
+fn small_index(alloc: Global) -> Result<SmallTreeIndex<u64, u64>, AllocError> {
+    let mut index: SmallTreeIndex<u64, u64> = TreeIndexOf::new(alloc);
     for key in 0..100u64 {
         if index.insert_sync(key, key).is_err() {
             return Err(AllocError);
@@ -125,30 +147,17 @@ fn small_index(alloc: Global) -> Result<TreeIndexOf<u64, u64, 7>, AllocError> {
 fn copies_leaves(
     rt: &impl Abort,
     alloc: Global,
-    index: &TreeIndexOf<u64, u64, 7>,
+    index: &SmallTreeIndex<u64, u64>,
 ) -> Result<(), AllocError> {
     let copy = index.try_clone(alloc)?;
     assert!(rt; are_equal(&copy, index) && copy.len() == 100 && copy.depth() == 2);
     Ok(())
 }
 
-/// Copies the index, also after a refusal.
-fn expect_equal_leaves(
-    rt: &impl Abort,
-    alloc: Global,
-    index: &TreeIndexOf<u64, u64, 7>,
-) -> Result<(), AllocError> {
-    if copies_leaves(rt, alloc, index).is_ok() {
-        return Ok(());
-    }
-    copies_leaves(rt, alloc, index)?;
-    Err(AllocError)
-}
-
 /// An index with seven pairs a leaf is copied by the same text.
 fn copies_small_leaves_steps(rt: &impl Abort, alloc: Global) -> Result<(), AllocError> {
     let index = small_index(alloc)?;
-    expect_equal_leaves(rt, alloc, &index)
+    copies_again(|| copies_leaves(rt, alloc, &index))
 }
 
 #[test]

@@ -1,6 +1,7 @@
 //! What the ledgers of a shared index are made from.
 ghost use Rattle.std.specs.Prelude.{◌≡◌, ◌+◌, ◌<◌};
 
+use std::fmt;
 use std::sync::ledger::Blank;
 
 /// A blank for each of the five ledgers of a shared index.
@@ -36,5 +37,11 @@ impl Blanks {
             found: Blank::new(parts),
             done: Blank::new(parts),
         }
+    }
+}
+
+impl fmt::Debug for Blanks {
+    fn fmt<W: fmt::Write>(&self, f: &mut fmt::Formatter<W>) -> fmt::Result {
+        write!(f, "Blanks {{ .. }}")
     }
 }

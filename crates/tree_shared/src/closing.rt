@@ -3,6 +3,8 @@
 use crate::pass::Pass;
 use crate::shared::SharedTreeIndexOf;
 use crate::tally::Tally;
+use std::error::Error;
+use std::fmt;
 use std::sync::ledger::Ledger;
 use tree_index::{IndexKey, Record, SameClone, TreeIndexOf};
 
@@ -38,3 +40,57 @@ pub enum UnclosedOf<
     /// A pass is absent.
     PassMissing(SharedTreeIndexOf<K, V, C, S, M, F, D, LEN>, Vec<Pass<C, S, M, F, D>>),
 }
+
+impl<K: IndexKey + fmt::Debug, V: Drop + fmt::Debug, const LEN: usize> fmt::Debug for ClosedOf<K, V, LEN> {
+    fn fmt<W: fmt::Write>(&self, f: &mut fmt::Formatter<W>) -> fmt::Result {
+        write!(
+            f,
+            "Closed {{ index: {:?}, history: {:?}, tally: {:?} }}",
+            &self.index,
+            self.history.as_slice(),
+            &self.tally
+        )
+    }
+}
+
+impl<K, V, C, S, M, F, D, const LEN: usize> fmt::Debug for UnclosedOf<K, V, C, S, M, F, D, LEN>
+where
+    K: IndexKey + SameClone,
+    V: SameClone,
+    C: Ledger,
+    S: Ledger,
+    M: Ledger,
+    F: Ledger,
+    D: Ledger,
+{
+    fn fmt<W: fmt::Write>(&self, f: &mut fmt::Formatter<W>) -> fmt::Result {
+        let UnclosedOf::PassMissing(shared, passes) = self;
+        write!(f, "PassMissing({shared:?}, {:?})", passes.as_slice())
+    }
+}
+
+impl<K, V, C, S, M, F, D, const LEN: usize> fmt::Display for UnclosedOf<K, V, C, S, M, F, D, LEN>
+where
+    K: IndexKey + SameClone,
+    V: SameClone,
+    C: Ledger,
+    S: Ledger,
+    M: Ledger,
+    F: Ledger,
+    D: Ledger,
+{
+    fn fmt<W: fmt::Write>(&self, f: &mut fmt::Formatter<W>) -> fmt::Result {
+        write!(f, "a pass is missing")
+    }
+}
+
+impl<K, V, C, S, M, F, D, const LEN: usize> Error for UnclosedOf<K, V, C, S, M, F, D, LEN>
+where
+    K: IndexKey + SameClone,
+    V: SameClone,
+    C: Ledger,
+    S: Ledger,
+    M: Ledger,
+    F: Ledger,
+    D: Ledger,
+{}

@@ -5,6 +5,7 @@ ghost use Rattle.tree_shared.specs.declared.tally.Tally.{Tally};
 
 use crate::count::Count;
 use crate::tally::Tally;
+use std::fmt;
 use std::marker::Model;
 use std::sync::ledger::Ledger;
 
@@ -42,5 +43,12 @@ impl<C: Ledger, S: Ledger, M: Ledger, F: Ledger, D: Ledger> Pass<C, S, M, F, D> 
             found: self.found.get(),
             done: self.done.get(),
         }
+    }
+}
+
+impl<C: Ledger, S: Ledger, M: Ledger, F: Ledger, D: Ledger> fmt::Debug for Pass<C, S, M, F, D> {
+    fn fmt<W: fmt::Write>(&self, f: &mut fmt::Formatter<W>) -> fmt::Result {
+        let tally = self.tally();
+        write!(f, "Pass {{ tally: {tally:?} }}")
     }
 }

@@ -15,6 +15,7 @@ use crate::pass::Pass;
 use crate::replies::{found_value, is_removed};
 use crate::serves::serve;
 use std::alloc::{AllocError, Global};
+use std::fmt;
 use std::marker::PhantomData;
 use std::ops::Bound;
 use std::sync::ledger::Ledger;
@@ -271,5 +272,22 @@ fn cloned_bound<K: IndexKey + SameClone>(bound: Bound<&K>) -> Result<Bound<K>, A
         Bound::Included(key) => Ok(Bound::Included(key.clone()?)),
         Bound::Excluded(key) => Ok(Bound::Excluded(key.clone()?)),
         Bound::Unbounded => Ok(Bound::Unbounded),
+    }
+}
+
+/// Takes no lock, and so shows no pair.
+impl<K, V, C, S, M, F, D, const LEN: usize> fmt::Debug
+    for SharedTreeIndexOf<K, V, C, S, M, F, D, LEN>
+where
+    K: IndexKey + SameClone,
+    V: SameClone,
+    C: Ledger,
+    S: Ledger,
+    M: Ledger,
+    F: Ledger,
+    D: Ledger,
+{
+    fn fmt<W: fmt::Write>(&self, f: &mut fmt::Formatter<W>) -> fmt::Result {
+        write!(f, "SharedTreeIndex {{ .. }}")
     }
 }

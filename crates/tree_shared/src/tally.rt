@@ -7,7 +7,7 @@ use crate::replies::{is_done, is_found, is_refused, is_removed, is_stored};
 use tree_index::{Command, Reply};
 
 /// What calls of an index came to. Counts no call that was refused.
-#[derive(Clone, Copy, PartialEq, Eq, Debug, Drop)]
+#[derive(Clone, Copy, PartialEq, Eq, Debug, Default, Drop)]
 pub struct Tally {
     /// The calls that were answered.
     pub calls: u64,

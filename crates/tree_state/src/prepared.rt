@@ -3,6 +3,7 @@ ghost use Rattle.std.specs.Prelude.{◌≡◌, IfOk, IfErr};
 ghost use Rattle.tree_model.specs.History.{IsSameKey};
 
 use std::alloc::AllocError;
+use std::fmt;
 use std::marker::Model;
 use tree_index::{IndexKey, SameClone};
 
@@ -42,6 +43,12 @@ impl<K: IndexKey + SameClone, V: SameClone> PreparedPair<K, V> {
             kept_key,
             kept_value,
         })
+    }
+}
+
+impl<K: IndexKey + SameClone + fmt::Debug, V: SameClone + fmt::Debug> fmt::Debug for PreparedPair<K, V> {
+    fn fmt<W: fmt::Write>(&self, f: &mut fmt::Formatter<W>) -> fmt::Result {
+        write!(f, "PreparedPair({:?}, {:?})", &self.key, &self.value)
     }
 }
 

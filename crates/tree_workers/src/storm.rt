@@ -8,6 +8,8 @@ ghost use Rattle.tree_shared.specs.Tallies.{none, tally};
 use crate::gate::Gate;
 use crate::workers::run_all;
 use std::alloc::{AllocError, AllocFailed, Global};
+use std::error::Error;
+use std::fmt;
 use std::marker::Brand;
 use std::sync::Wait;
 use std::sync::ledger::Ledger;
@@ -22,6 +24,17 @@ pub enum StormError {
     /// The gate stopped a worker.
     GateStopped,
 }
+
+impl fmt::Display for StormError {
+    fn fmt<W: fmt::Write>(&self, f: &mut fmt::Formatter<W>) -> fmt::Result {
+        match self {
+            StormError::Refused => write!(f, "memory or a thread was refused"),
+            StormError::GateStopped => write!(f, "the gate stopped a worker"),
+        }
+    }
+}
+
+impl Error for StormError {}
 
 impl From<AllocError> for StormError {
     fn from(_refused: AllocError) -> StormError {
