@@ -3,11 +3,10 @@ use Rattle.tree_leaf.proofs.Chains.{chain_used}
 use Rattle.tree_chain.proofs.Ways.{next_there, none_passed}
 use Rattle.tree_chain.proofs.stand.Stand+LeafOf+K+V+LEN.at.Goals as goal
 
-pub index-leaf-requires : goal.index-leaf-requires
-index-leaf-requires g c = rw c.id.view_is (chain_used _ _ _ _ c.requires.2)
+pub leaf_at-leaf-requires : goal.leaf_at-leaf-requires
+leaf_at-leaf-requires g c = (search rules, chain_used _ _ _ _ c.requires.2)
 
 pub look_up-ahead-requires : goal.look_up-ahead-requires
 look_up-ahead-requires g c =
-    let here = rw c.id.view_is at c.index-leaf.ensures in
-    let now = none_passed _ c.args.way _ _ _ _ c.requires.2 here in
-    (search rules, λ id is. next_there _ _ _ _ _ (rw (sym c.beside.ensures ∙ is) at now))
+    let now = none_passed _ c.args.way _ _ _ _ c.requires.2 c.leaf_at-leaf.ensures in
+    (search rules, λ id is. next_there _ _ _ _ _ (rw (sym c.link.ensures ∙ is) at now))
