@@ -24,7 +24,7 @@ use Rattle.tree_root.specs.declared.tree.Stored.{Stored}
 use Rattle.tree_root.specs.declared.tree.Stored.TheVariants.{New as NewKey, Replaced as OldKey}
 use Rattle.tree_root.specs.declared.tree.Tree.{Tree}
 use Rattle.tree_split.proofs.Tests.{packed_depth}
-use Rattle.tree_root.proofs.Stored.{stands_or_retired}
+use Rattle.tree_root.proofs.Storing.{stands_or_retired}
 use Rattle.tree_index.specs.Index.{Index, IsTreeOf, IsWritten, StaysPacked, KeepsSpare, SpendsInsert, StoresPair, index_of}
 use Rattle.tree_root.specs.Trees.{IsWhole, Stores, Takes, pairs_of, told}
 

@@ -1,4 +1,5 @@
 pub mod Copied
 pub mod Indexed
+pub mod Nearest
 pub mod Removed
 pub mod Walked

@@ -1,3 +1,4 @@
 pub mod Copies
 pub mod Index
+pub mod Nearest
 pub mod Readers

@@ -39,7 +39,7 @@ pub struct TreeIndexOf<K: IndexKey, V: Drop, const LEN: usize> {
     len: u128,
 }
 
-// Written out for the reason that the drop of a tree is.
+// Written out for the reason that the drop of `Tree` in `tree_root` is.
 impl<K: IndexKey, V: Drop, const LEN: usize> Drop for TreeIndexOf<K, V, LEN> {
     fn drop(self) {
         let TreeIndexOf { tree, len: _ } = self;

@@ -1,5 +1,4 @@
-//! An ordered index that answers as one strictly ascending list of pairs, and a state that keeps the history of its
-//! calls.
+//! An ordered index that answers as one strictly ascending list of pairs.
 //!
 //! A type of the caller's own is a key once it has an `impl IndexKey`, whose one law says that a clone compares equal
 //! to its source:
@@ -30,6 +29,7 @@ mod copies;
 mod cursors;
 mod equality;
 mod index;
+mod nearest;
 mod readers;
 mod seek;
 

@@ -14,7 +14,7 @@ use Rattle.tree_remove.specs.Lowering.{LowersRoot}
 use Rattle.tree_remove.proofs.LoweredTrees.{tree_lowered}
 use Rattle.tree_root.specs.declared.tree.Tree.{Tree}
 use Rattle.tree_root.specs.Trees.{Cuts, IsWhole}
-use Rattle.tree_root.proofs.Stored.{part_or_retired}
+use Rattle.tree_root.proofs.Storing.{part_or_retired}
 use Rattle.tree_root.proofs.Taken.{root_level}
 
 module _ {K V : Type 0} {LEN : ℕ} (cmp : K → K → Ordering) (low high : Bound K) (old new : Tree K V LEN) where

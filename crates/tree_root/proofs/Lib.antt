@@ -1,5 +1,5 @@
 pub mod Cutting
 pub mod Numbers
 pub mod Packs
-pub mod Stored
+pub mod Storing
 pub mod Taken

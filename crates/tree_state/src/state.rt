@@ -24,7 +24,7 @@ pub struct StateOf<K: IndexKey + SameClone, V: SameClone, const LEN: usize> {
     history: Vec<Record<K, V>>,
 }
 
-// Written out for the reason that the drop of a tree is.
+// Written out for the reason that the drop of `Tree` in `tree_root` is.
 impl<K: IndexKey + SameClone, V: SameClone, const LEN: usize> Drop for StateOf<K, V, LEN> {
     fn drop(self) {
         let StateOf { index, history } = self;

@@ -1,2 +1,1 @@
-mod Nearest
 pub mod Prices

@@ -4,7 +4,8 @@ ghost use Rattle.std.specs.Option.{option_map};
 ghost use Rattle.std.specs.Ordering.{nat_cmp};
 ghost use Rattle.tree_model.specs.Pairs.{within};
 ghost use Rattle.tree_cursor_model.specs.Rest.{lent};
-ghost use Rattle.usage.specs.Walks.{AreEnds, at_or_below, highest};
+ghost use Rattle.tree_index.specs.Nearest.{at_or_below};
+ghost use Rattle.usage.specs.Walks.{AreEnds, highest};
 
 use std::ops::Bound;
 use tree_index::{ProximityOf, TreeIndex};
@@ -40,7 +41,7 @@ pub fn ends_within(
 
 /// Returns the price of the item, or that of the nearest smaller one.
 pub fn price_at_or_below(prices: &TreeIndex<u64, u64>, item: u64) -> Option<u64>
-    ensures { result ≡ option_map (λ pair. pair.1) (at_or_below prices.now.pairs item) }
+    ensures { result ≡ option_map (λ pair. pair.1) (at_or_below nat_cmp prices.now.pairs item) }
 {
     match prices.locate(&item) {
         ProximityOf::Exact(at) => price_of(at.get()),

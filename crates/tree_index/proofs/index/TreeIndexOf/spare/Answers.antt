@@ -1,6 +1,6 @@
 use Rattle.tree_node.proofs.Sizes.{fits}
 use Rattle.std.proofs.Common.{refl}
-use Rattle.tree_root.proofs.Stored.{stands_or_retired}
+use Rattle.tree_root.proofs.Storing.{stands_or_retired}
 use Rattle.tree_index.proofs.index.TreeIndexOf.spare.Goals as goal
 
 pub spare_at-requires : goal.spare_at-requires

@@ -2,4 +2,4 @@ use Rattle.tree_index.proofs.Nearest.{begins}
 use Rattle.tree_index.proofs.nearest.TreeIndexOf.first.Goals as goal
 
 pub returns : goal.returns
-returns g c = rw c.iter.ensures at rw c.next.ensures.moves at c.next.ensures.answers
+returns g c = rw (c.next.ensures.steps.moves, c.iter.ensures, begins g.K.Ord.cmp _) at c.next.ensures.steps.answers

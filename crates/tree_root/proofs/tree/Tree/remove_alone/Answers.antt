@@ -1,6 +1,6 @@
 use Rattle.std.proofs.Common.{inl, inr, refl}
 use Rattle.tree_node.proofs.Sizes.{fits}
-use Rattle.tree_root.proofs.Stored.{part_or_retired}
+use Rattle.tree_root.proofs.Storing.{part_or_retired}
 use Rattle.tree_root.proofs.Taken.{kept, last_taken, root_level, still_part, taken}
 use Rattle.tree_root.proofs.tree.Tree.remove_alone.Goals as goal
 

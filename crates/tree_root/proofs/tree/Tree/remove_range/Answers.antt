@@ -1,7 +1,7 @@
 use Rattle.std.proofs.Common.{refl}
 use Rattle.tree_node.proofs.Sizes.{fits}
 use Rattle.tree_root.proofs.Cutting.{none_cut, still, was_cut}
-use Rattle.tree_root.proofs.Stored.{part_or_retired}
+use Rattle.tree_root.proofs.Storing.{part_or_retired}
 use Rattle.tree_root.proofs.tree.Tree.remove_range.Goals as goal
 
 pub remove_range_at-removed-requires : goal.remove_range_at-removed-requires

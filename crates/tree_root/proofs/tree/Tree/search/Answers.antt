@@ -1,5 +1,5 @@
 use Rattle.tree_node.proofs.Sizes.{fits}
-use Rattle.tree_root.proofs.Stored.{stands_or_retired}
+use Rattle.tree_root.proofs.Storing.{stands_or_retired}
 use Rattle.tree_root.proofs.tree.Tree.search.Goals as goal
 
 pub search_at-requires : goal.search_at-requires

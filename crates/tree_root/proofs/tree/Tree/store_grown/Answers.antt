@@ -4,7 +4,7 @@ use Rattle.tree_node.proofs.Sizes.{fits}
 use Rattle.tree_node.specs.Tree.{IsRetiredNode}
 use Rattle.slab.specs.Slab.{ContainsKey, get}
 use Rattle.tree_insert.proofs.RaisedTrees.{tree_raised}
-use Rattle.tree_root.proofs.Stored.{childless_root, full_root, not_grown, part_or_retired, root_part, root_there, stored_raised, takes_it}
+use Rattle.tree_root.proofs.Storing.{childless_root, full_root, not_grown, part_or_retired, root_part, root_there, stored_raised, takes_it}
 use Rattle.tree_root.proofs.tree.Tree.store_grown.Goals as goal
 
 pub node-requires : goal.node-requires

@@ -1,0 +1,12 @@
+use Rattle.std.proofs.Common.{◌∙◌}
+use Rattle.tree_index.proofs.Nearest.{between_above, exact_above, larger_above}
+use Rattle.tree_index.proofs.nearest.TreeIndexOf.at_or_above.Goals as goal
+
+pub returns-in-Exact : goal.returns-in-Exact
+returns-in-Exact g c = c.get.ensures.pair ∙ exact_above g.met.K.Ord.total _ _ c.in-Exact.at c.get.ensures.ascending c.in-Exact.ensures
+
+pub returns-in-Between : goal.returns-in-Between
+returns-in-Between g c = c.get_back.ensures.pair ∙ between_above g.met.K.Ord.total _ _ c.in-Between.at c.get_back.ensures.ascending c.in-Between.ensures
+
+pub returns-in-Larger : goal.returns-in-Larger
+returns-in-Larger g c = c.get-in-Larger.ensures.pair ∙ larger_above g.met.K.Ord.total _ _ c.in-Larger.at c.get-in-Larger.ensures.ascending c.in-Larger.ensures

@@ -1,0 +1,12 @@
+use Rattle.std.proofs.Common.{◌∙◌}
+use Rattle.tree_index.proofs.Nearest.{between_below, exact_below, smaller_below}
+use Rattle.tree_index.proofs.nearest.TreeIndexOf.at_or_below.Goals as goal
+
+pub returns-in-Exact : goal.returns-in-Exact
+returns-in-Exact g c = c.get.ensures.pair ∙ exact_below g.met.K.Ord.total _ _ c.in-Exact.at c.get.ensures.ascending c.in-Exact.ensures
+
+pub returns-in-Between : goal.returns-in-Between
+returns-in-Between g c = c.get-in-Between.ensures.pair ∙ between_below g.met.K.Ord.total _ _ c.in-Between.at c.get-in-Between.ensures.ascending c.in-Between.ensures
+
+pub returns-in-Smaller : goal.returns-in-Smaller
+returns-in-Smaller g c = c.get_back.ensures.pair ∙ smaller_below g.met.K.Ord.total _ _ c.in-Smaller.at c.get_back.ensures.ascending c.in-Smaller.ensures
