@@ -1,6 +1,8 @@
-//! Tests of cursors: worked walks, nearest keys and texts.
+//! Tests of cursors: worked walks, the nearest pairs and texts.
 #![tactic(auto)]
 
+#[cfg(test)]
+mod nearest;
 #[cfg(test)]
 mod said;
 #[cfg(test)]
