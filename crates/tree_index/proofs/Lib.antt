@@ -1,5 +1,5 @@
+pub mod Beside
 pub mod Copied
 pub mod Indexed
-pub mod Nearest
 pub mod Removed
 pub mod Walked

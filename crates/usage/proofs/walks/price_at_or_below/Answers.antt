@@ -1,7 +1,7 @@
 use Rattle.std.proofs.Common.{ℕ, Option, ap, ◌∙◌}
 use Rattle.std.specs.Option.{option_map}
 use Rattle.std.proofs.lemmas.Cmp.{nat_cmp_total}
-use Rattle.tree_index.proofs.Nearest.{between_below, exact_below, smaller_below}
+use Rattle.tree_index.proofs.Beside.{between_below, exact_below, smaller_below}
 use Rattle.usage.proofs.walks.price_at_or_below.Goals as goal
 
 pub returns-in-Exact : goal.returns-in-Exact

@@ -1,5 +1,5 @@
-use Rattle.tree_index.proofs.Nearest.{begins_back}
-use Rattle.tree_index.proofs.nearest.TreeIndexOf.last.Goals as goal
+use Rattle.tree_index.proofs.Beside.{begins_back}
+use Rattle.tree_index.proofs.index.TreeIndexOf.last.Goals as goal
 
 pub returns : goal.returns
 returns g c = rw (c.next_back.ensures.steps.moves, c.iter.ensures, begins_back g.K.Ord.cmp _) at c.next_back.ensures.steps.answers

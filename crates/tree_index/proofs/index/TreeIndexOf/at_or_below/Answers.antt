@@ -1,6 +1,6 @@
 use Rattle.std.proofs.Common.{◌∙◌}
-use Rattle.tree_index.proofs.Nearest.{between_below, exact_below, smaller_below}
-use Rattle.tree_index.proofs.nearest.TreeIndexOf.at_or_below.Goals as goal
+use Rattle.tree_index.proofs.Beside.{between_below, exact_below, smaller_below}
+use Rattle.tree_index.proofs.index.TreeIndexOf.at_or_below.Goals as goal
 
 pub returns-in-Exact : goal.returns-in-Exact
 returns-in-Exact g c = c.get.ensures.pair ∙ exact_below g.met.K.Ord.total _ _ c.in-Exact.at c.get.ensures.ascending c.in-Exact.ensures
