@@ -1,5 +1,5 @@
 -- The pair at an end of a list, and the pair at a key or beside it, by the place that a look-up tells.
-use Rattle.std.proofs.Common.{◌≡◌, ℕ, zero, suc, ◌-◌, ◌==◌, ◌<◌, Bool, true, false, if◌then◌else◌, List, [], ◌∷◌, length, slice_get, Option, Some, None, refl, ap, ◌∙◌, arith}
+use Rattle.std.proofs.Common.{◌≡◌, ℕ, zero, suc, ◌+◌, ◌-◌, ◌==◌, ◌<◌, ◌≤◌, Bool, true, false, if◌then◌else◌, List, [], ◌∷◌, length, slice_get, Option, Some, None, refl, ap, sym, ◌∙◌, arith}
 use Rattle.std.specs.Prelude.{is_some}
 use Rattle.std.specs.Cmp.{IsTotalOrder}
 use Rattle.std.specs.Option.{option_or}
@@ -38,7 +38,9 @@ module _ {K V : Type 0} (cmp : K → K → Ordering) where
 
   pub begins_back : (pairs : List (K × V)) → shown_apart cmp Back (moved cmp Back (fresh pairs Unbounded Unbounded)) ≡ last_of pairs
   begins_back [] = refl
-  begins_back (pair ∷ pairs) = rw (greatest pair pairs) (where_open (slice_get (pair ∷ pairs) (length pairs)))
+  begins_back (pair ∷ pairs) =
+      let last : length pairs ≡ suc (length pairs) - 1 = omega arith in
+      rw (greatest pair pairs) (where_open (slice_get (pair ∷ pairs) (length pairs)) ∙ ap (λ i. slice_get (pair ∷ pairs) i) last)
 
 module _ {K V : Type 0} {cmp : K → K → Ordering} (o : IsTotalOrder cmp) (k : K) where
   all_above : (x : K × V) (xs : List (K × V)) → AllLarger cmp x.0 xs → is_le (cmp k x.0) ≡ true → AllLarger cmp k xs
@@ -88,10 +90,18 @@ or_second : {X : Type 0} (first second : Option X) → is_some first ≡ false �
 or_second None second none = refl
 or_second (Some found) second none = absurd (cc)
 
+or_neither : {X : Type 0} (first second : Option X) → is_some first ≡ false → second ≡ None → None ≡ option_or first second
+or_neither None second none neither = sym neither
+or_neither (Some found) second none neither = absurd (cc)
+
+no_elements : {X : Type 0} (xs : List X) → length xs ≡ 0 → xs ≡ []
+no_elements [] none = refl
+no_elements (x ∷ xs) none = absurd (omega (arith, none))
+
 -- what each answer of a look-up tells
 module _ {K V : Type 0} (l : List (K × V)) (n : ℕ) (at : Cursor K V) where
   -- by whether the list is empty, whether the key is in it, and whether it belongs before all pairs or behind them
-  told : Bool → Bool → Bool → Bool → ProximityOf (Cursor K V)
+  abbrev told : Bool → Bool → Bool → Bool → ProximityOf (Cursor K V)
   told empty present first last =
       if empty then Empty
       else if present then Exact (with_ends l (at_place n) unopened)
@@ -113,11 +123,11 @@ module _ {K V : Type 0} (l : List (K × V)) (n : ℕ) (at : Cursor K V) where
   between_tells false false false true is = absurd (cc)
   between_tells false false false false is = (refl, refl, cc)
 
-  smaller_tells : (empty present first last : Bool) → Smaller at ≡ told empty present first last → (present ≡ false) × (first ≡ false) × (at ≡ with_ends l unopened (at_place (n - 1)))
+  smaller_tells : (empty present first last : Bool) → Smaller at ≡ told empty present first last → (present ≡ false) × (first ≡ false) × (last ≡ true) × (at ≡ with_ends l unopened (at_place (n - 1)))
   smaller_tells true present first last is = absurd (cc)
   smaller_tells false true first last is = absurd (cc)
   smaller_tells false false true last is = absurd (cc)
-  smaller_tells false false false true is = (refl, refl, cc)
+  smaller_tells false false false true is = (refl, refl, refl, cc)
   smaller_tells false false false false is = absurd (cc)
 
   larger_tells : (empty present first last : Bool) → Larger at ≡ told empty present first last → (present ≡ false) × (first ≡ true) × (at ≡ with_ends l (at_place 0) unopened)
@@ -127,12 +137,30 @@ module _ {K V : Type 0} (l : List (K × V)) (n : ℕ) (at : Cursor K V) where
   larger_tells false false false true is = absurd (cc)
   larger_tells false false false false is = absurd (cc)
 
+  empty_tells : (empty present first last : Bool) → Empty ≡ told empty present first last → empty ≡ true
+  empty_tells true present first last is = refl
+  empty_tells false true first last is = absurd (cc)
+  empty_tells false false true last is = absurd (cc)
+  empty_tells false false false true is = absurd (cc)
+  empty_tells false false false false is = absurd (cc)
+
+-- the pairs below a key and those above it are no more than all
+beside_all : {K V : Type 0} (cmp : K → K → Ordering) (k : K) (l : List (K × V)) → length (below cmp l k) + length (above cmp l k) ≤ length l
+beside_all cmp k [] = omega arith
+beside_all {K} {V} cmp k (x ∷ xs) = by_order (cmp x.0 k) refl (beside_all cmp k xs)
+  where
+    by_order : (r : Ordering) → cmp x.0 k ≡ r → length (below cmp xs k) + length (above cmp xs k) ≤ length xs
+        → length (below cmp (x ∷ xs) k) + length (above cmp (x ∷ xs) k) ≤ suc (length xs)
+    by_order Less h few = rw h (omega (arith, few))
+    by_order Equal h few = rw h (omega (arith, few))
+    by_order Greater h few = rw h (omega (arith, few))
+
 module _ {K V : Type 0} {cmp : K → K → Ordering} (o : IsTotalOrder cmp) (l : List (K × V)) (k : K) where
   -- how many keys are smaller, and whether the key is present
-  smaller_keys : ℕ
+  abbrev smaller_keys : ℕ
   smaller_keys = length (below cmp l k)
 
-  is_present : Bool
+  abbrev is_present : Bool
   is_present = is_some (pair_at cmp l k)
 
   last_below : IsAscending cmp l → (smaller_keys == 0) ≡ false → slice_get l (smaller_keys - 1) ≡ last_of (below cmp l k)
@@ -169,11 +197,34 @@ module _ {K V : Type 0} {cmp : K → K → Ordering} (o : IsTotalOrder cmp) (l :
     pub smaller_below : Smaller at ≡ located cmp l k → shown cmp Back at ≡ at_or_below cmp l k
     smaller_below is =
         let tells = smaller_tells l smaller_keys at (length l == 0) is_present (smaller_keys == 0) (smaller_keys == length l) is in
-        let ascends : IsAscending cmp l = rw tells.2 at ascending in
-        rw tells.2 (where_open (slice_get l (smaller_keys - 1)) ∙ last_below ascends tells.1 ∙ or_second (pair_at cmp l k) (last_of (below cmp l k)) tells.0)
+        let ascends : IsAscending cmp l = rw tells.3 at ascending in
+        rw tells.3 (where_open (slice_get l (smaller_keys - 1)) ∙ last_below ascends tells.1 ∙ or_second (pair_at cmp l k) (last_of (below cmp l k)) tells.0)
 
     pub larger_above : Larger at ≡ located cmp l k → shown cmp On at ≡ at_or_above cmp l k
     larger_above is =
         let tells = larger_tells l smaller_keys at (length l == 0) is_present (smaller_keys == 0) (smaller_keys == length l) is in
         let ascends : IsAscending cmp l = rw tells.2 at ascending in
         rw tells.2 (where_open (slice_get l 0) ∙ first_above ascends tells.0 tells.1 ∙ or_second (pair_at cmp l k) (first_of (above cmp l k)) tells.0)
+
+  pub smaller_above : (at : Cursor K V) → Smaller at ≡ located cmp l k → None ≡ at_or_above cmp l k
+  smaller_above at is =
+      let tells = smaller_tells l smaller_keys at (length l == 0) is_present (smaller_keys == 0) (smaller_keys == length l) is in
+      let all : smaller_keys ≡ length l = grind (arith, nat_tests, tells.2) in
+      let none : above cmp l k ≡ [] = no_elements (above cmp l k) (omega (arith, all, beside_all cmp k l)) in
+      or_neither (pair_at cmp l k) (first_of (above cmp l k)) tells.0 (rw none refl)
+
+  pub larger_below : (at : Cursor K V) → Larger at ≡ located cmp l k → None ≡ at_or_below cmp l k
+  larger_below at is =
+      let tells = larger_tells l smaller_keys at (length l == 0) is_present (smaller_keys == 0) (smaller_keys == length l) is in
+      let none : below cmp l k ≡ [] = no_elements (below cmp l k) (grind (arith, nat_tests, tells.1)) in
+      or_neither (pair_at cmp l k) (last_of (below cmp l k)) tells.0 (rw none refl)
+
+  -- where there is no pair
+  empty_list : Empty ≡ located cmp l k → l ≡ []
+  empty_list is = no_elements l (let empty = empty_tells l smaller_keys (with_ends l unopened unopened) (length l == 0) is_present (smaller_keys == 0) (smaller_keys == length l) is in grind (arith, nat_tests, empty))
+
+  pub empty_below : Empty ≡ located cmp l k → None ≡ at_or_below cmp l k
+  empty_below is = rw (empty_list is) refl
+
+  pub empty_above : Empty ≡ located cmp l k → None ≡ at_or_above cmp l k
+  empty_above is = rw (empty_list is) refl

@@ -1,5 +1,6 @@
 use Rattle.std.proofs.Common.{◌∙◌}
-use Rattle.tree_index.proofs.Beside.{between_above, exact_above, larger_above}
+use Rattle.tree_node.proofs.Sizes.{fits}
+use Rattle.tree_index.proofs.Beside.{between_above, empty_above, exact_above, larger_above, smaller_above}
 use Rattle.tree_index.proofs.index.TreeIndexOf.at_or_above.Goals as goal
 
 pub returns-in-Exact : goal.returns-in-Exact
@@ -10,3 +11,21 @@ returns-in-Between g c = c.get_back.ensures.pair ∙ between_above g.met.K.Ord.t
 
 pub returns-in-Larger : goal.returns-in-Larger
 returns-in-Larger g c = c.get-in-Larger.ensures.pair ∙ larger_above g.met.K.Ord.total _ _ c.in-Larger.at c.get-in-Larger.ensures.ascending c.in-Larger.ensures
+
+pub returns-in-Smaller : goal.returns-in-Smaller
+returns-in-Smaller g c = smaller_above g.met.K.Ord.total _ _ _ c.in-Smaller.ensures
+
+pub returns-in-Empty : goal.returns-in-Empty
+returns-in-Empty g c = empty_above g.met.K.Ord.total _ _ c.in-Empty.ensures
+
+pub locate-requires : goal.locate-requires
+locate-requires g c = search fits
+
+pub get-requires : goal.get-requires
+get-requires g c = search fits
+
+pub get_back-requires : goal.get_back-requires
+get_back-requires g c = search fits
+
+pub get-requires-in-Larger : goal.get-requires-in-Larger
+get-requires-in-Larger g c = search fits
