@@ -64,8 +64,8 @@ where
     D: Ledger,
 {
     fn fmt<W: fmt::Write>(&self, f: &mut fmt::Formatter<W>) -> fmt::Result {
-        let UnclosedOf::PassMissing(shared, passes) = self;
-        write!(f, "PassMissing({shared:?}, {:?})", passes.as_slice())
+        let UnclosedOf::PassMissing(_, passes) = self;
+        write!(f, "PassMissing(SharedTreeIndex {{ .. }}, {:?})", passes.as_slice())
     }
 }
 

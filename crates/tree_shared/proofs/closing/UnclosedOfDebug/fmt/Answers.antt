@@ -1,5 +1,0 @@
-use Rattle.tree_node.proofs.Sizes.{fits}
-use Rattle.tree_shared.proofs.closing.UnclosedOfDebug.fmt.Goals as goal
-
-pub write-requires-room-D-Display : goal.write-requires-room-D-Display
-write-requires-room-D-Display g c κs within = search fits
