@@ -1,2 +1,3 @@
 pub mod Price
+pub mod Records
 pub mod Walks
