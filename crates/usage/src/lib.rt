@@ -1,4 +1,4 @@
-//! A caller of the library, and a key type of its own, as the README shows them.
+//! Callers of the library and a key type of their own, as docs/USING.md shows them.
 #![tactic(auto)]
 
 ghost use Rattle.std.specs.Prelude.{◌≡◌, ◌+◌, ◌*◌, ◌≤◌, Some, IfSome, IfNone};

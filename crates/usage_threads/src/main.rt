@@ -1,4 +1,4 @@
-//! Two threads that claim numbers in one shared index, as the README shows them, and a storm of eight workers.
+//! Two threads that claim numbers in one shared index, as docs/USING.md shows them, and a storm of eight workers.
 //!
 //! Prints a line of each: the calls that were answered, the pairs that were stored and the pairs that are there.
 #![tactic(auto)]
