@@ -24,7 +24,8 @@ impl From<(u64, u64)> for Refusal {
 ///
 /// Returns `Err` if the sum is too large or an allocation is refused. The balances are then as they were.
 pub fn deposit(balances: &mut TreeIndex<u64, u64>, account: u64, amount: u64) -> Result<(), Refusal>
-    ensures stored { OnOk result (balances.new.pairs ≡ put nat_cmp balances.old.pairs account (balance_of balances.old.pairs account + amount)) }
+    ensures stored { OnOk result (balances.new.pairs ≡
+        put nat_cmp balances.old.pairs account (balance_of balances.old.pairs account + amount)) }
     ensures refused { OnErr result (balances.new.pairs ≡ balances.old.pairs) }
 {
     let old = balances.peek(&account).copied().unwrap_or(0);
@@ -35,7 +36,8 @@ pub fn deposit(balances: &mut TreeIndex<u64, u64>, account: u64, amount: u64) ->
 
 /// Closes an account if its balance is 0. Returns whether it did.
 pub fn close(balances: &mut TreeIndex<u64, u64>, account: u64) -> bool
-    ensures { RemovesIf nat_cmp (λ balance said. said ≡ nat_eq balance 0) balances.old.pairs account result balances.new.pairs }
+    ensures { RemovesIf nat_cmp (λ balance said. said ≡ nat_eq balance 0)
+        balances.old.pairs account result balances.new.pairs }
 {
     balances.remove_if_sync(&account, |balance| *balance == 0)
 }
