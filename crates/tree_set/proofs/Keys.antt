@@ -1,5 +1,5 @@
 -- The keys of a list of pairs, and of its edits.
-use Rattle.std.proofs.Common.{◌≡◌, ◌↔◌, IsTrue, Bool, true, false, cond, List, [], ◌∷◌, ◌++◌, map, filter, find, Option, Some, None, Ok, Err, Bor, refl, sym, ap, ◌∙◌, inl, inr}
+use Rattle.std.proofs.Common.{◌≡◌, ◌↔◌, IsTrue, Bool, true, false, cond, List, [], ◌∷◌, filter, find, Option, Some, None, Ok, Err, Bor, refl, sym, ap, ◌∙◌, inl, inr}
 use Rattle.std.specs.Prelude.{MatchOption, is_some, not, ◌&&◌, ◌||◌}
 use Rattle.std.specs.Option.{option_copied, option_map}
 use Rattle.std.specs.List.{AllByRecursion, AllZip, list_any}

@@ -3,15 +3,14 @@ use Rattle.std.proofs.Common.{◌≡◌, Bool, true, false, cond, List, [], ◌�
 use Rattle.std.specs.Prelude.{MatchOption, not, ◌&&◌, ◌||◌}
 use Rattle.std.specs.Cmp.{IsTotalOrder}
 use Rattle.std.specs.Iterator.{YieldsFirstRef}
-use Rattle.std.specs.List.{AllByRecursion, list_any}
+use Rattle.std.specs.List.{AllByRecursion}
 use Rattle.std.specs.Ordering.{is_eq, match_ordering}
-use Rattle.std.specs.Set.{merge_step, sorted_merge}
 use Rattle.std.specs.declared.cmp.Ordering.{Ordering}
 use Rattle.std.specs.declared.cmp.Ordering.TheVariants.{Less, Equal, Greater}
 use Rattle.std.proofs.lemmas.Cmp.{alike_right, tied_back}
 use Rattle.std.proofs.Math.Bool.{and_comm, or-false}
 use Rattle.std.proofs.lemmas.Map.Views.{any-filter_same}
-use Rattle.tree_model.proofs.Lists.{all-filter, all_map, filter_all, filter_none}
+use Rattle.tree_model.proofs.Lists.{all-filter, all_map, filter_none}
 use Rattle.tree_model.proofs.LookUps.{equal_from_test}
 use Rattle.tree_model.proofs.Order.{alike, greater_from_less, less_from_greater}
 use Rattle.tree_set.specs.Merges.{AreAscending, difference, intersection, union}

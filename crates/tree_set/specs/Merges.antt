@@ -1,5 +1,5 @@
 -- The elements of either of two ascending lists, of both, and of the first alone.
-use Rattle.std.specs.Prelude.{Bool, true, not, List, filter}
+use Rattle.std.specs.Prelude.{true, not, List, filter}
 use Rattle.std.specs.Set.{sorted_merge}
 use Rattle.std.specs.declared.cmp.Ordering.{Ordering}
 use Rattle.tree_set.specs.Sets.{IsAscending, has}

@@ -10,7 +10,8 @@ impl<K: IndexKey, const LEN: usize> TreeSetOf<K, LEN> {
     /// Returns a copy: a set of a clone of each element, in the same order.
     ///
     /// Returns `Err` if an allocation is refused, one of a clone among them. Nothing of the copy is left then. Inserts
-    /// the clones in ascending order, as [`try_clone`](TreeIndexOf::try_clone) of the index does.
+    /// the clones in ascending order, so that each is compared with the last separator of each node on its way and the
+    /// last element of the last leaf alone.
     pub fn try_clone(&self, alloc: Global) -> Result<Self, AllocError>
         ensures { IfOk result (λ copy. AllZip K.is_clone self.now copy) }
     {

@@ -13,7 +13,7 @@ use tree_ranges::range::Ranged;
 
 /// The elements of the first of two sets that the second has too, in ascending order.
 ///
-/// A move makes one comparison for each element that it passes in either set. Allocates nothing.
+/// A move makes at most one comparison between the sets for each element that it passes. Allocates nothing.
 #[derive(Drop)]
 pub struct IntersectionOver<'t, K: Ord, A: Ranged<K, (), L>, L: Walked> {
     pub(crate) first: Ahead<'t, K, A, L>,

@@ -27,8 +27,9 @@ pub type SmallTreeSet<K> = TreeSetOf<K, 7>;
 
 /// An ordered set: the keys of an index whose values are `()`. `LEN` is 7 or 15.
 ///
-/// Contracts see the list of its elements, strictly ascending. A call costs what the call of the index costs that it
-/// makes, in terms of the index's depth.
+/// Contracts see the list of its elements, strictly ascending.
+///
+/// Costs are in terms of the index's depth, as those of [`TreeIndexOf`] are.
 pub struct TreeSetOf<K: IndexKey, const LEN: usize> {
     pub(crate) index: TreeIndexOf<K, (), LEN>,
 }
@@ -138,7 +139,8 @@ impl<K: IndexKey, const LEN: usize> TreeSetOf<K, LEN> {
 
     /// Returns the elements in ascending order, from both ends. Runs in constant time.
     ///
-    /// The first move of an end descends once, and each move after it takes constant time as a rule. Allocates nothing.
+    /// The first move of an end descends once. Each move after it reads the next element of its leaf, or follows links up
+    /// to the next leaf with an element, and makes at most one comparison. Allocates nothing.
     pub fn iter(&self) -> Elements<'_, K, LEN>
         ensures { result ≡ self.now }
     {
@@ -157,7 +159,8 @@ impl<K: IndexKey, const LEN: usize> TreeSetOf<K, LEN> {
 
     /// Returns the elements that this set or the other has, in ascending order. Of two equal ones it gives this set's.
     ///
-    /// Descends once in each set. A move makes one comparison, and one move in each set at most. Allocates nothing.
+    /// Descends once in each set. A move makes at most one comparison between the sets, and at most one move in each.
+    /// Allocates nothing.
     pub fn union<'t>(&'t self, other: &'t Self) -> Union<'t, K, LEN>
         ensures merged { result ≡ union K.cmp self.now other.now }
         ensures elements { (k : K) → has K.cmp result k ≡ (has K.cmp self.now k || has K.cmp other.now k) }
@@ -171,8 +174,8 @@ impl<K: IndexKey, const LEN: usize> TreeSetOf<K, LEN> {
 
     /// Returns the elements of this set that the other has too, in ascending order.
     ///
-    /// Descends once in each set. A move makes one comparison for each element that it passes in either set. Allocates
-    /// nothing.
+    /// Descends once in each set. A move makes at most one comparison between the sets for each element that it passes
+    /// in either. Allocates nothing.
     pub fn intersection<'t>(&'t self, other: &'t Self) -> Intersection<'t, K, LEN>
         ensures common { result ≡ intersection K.cmp self.now other.now }
         ensures elements { (k : K) → has K.cmp result k ≡ (has K.cmp self.now k && has K.cmp other.now k) }

@@ -12,7 +12,7 @@ use tree_ranges::range::Ranged;
 
 /// The elements of either of two sets, in ascending order. Of two equal ones it gives that of the first set.
 ///
-/// A move makes one comparison, and one move in each set at most. Allocates nothing.
+/// A move makes at most one comparison between the sets, and at most one move in each. Allocates nothing.
 #[derive(Drop)]
 pub struct UnionOver<'t, K: Ord, A: Ranged<K, (), L>, L: Walked> {
     pub(crate) first: Ahead<'t, K, A, L>,

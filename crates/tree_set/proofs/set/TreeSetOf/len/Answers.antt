@@ -1,5 +1,4 @@
 use Rattle.tree_node.proofs.Sizes.{fits}
-use Rattle.std.proofs.Common.{refl, ap, ◌∙◌}
 use Rattle.std.proofs.lemmas.List.{length-map}
 use Rattle.tree_set.proofs.set.TreeSetOf.len.Goals as goal
 
