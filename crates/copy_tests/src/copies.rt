@@ -80,7 +80,12 @@ fn changes_the_small_copy_alone_steps(rt: &impl Abort, alloc: Global) -> Result<
 
 #[test]
 fn changes_the_small_copy_alone(rt: HostRuntime) {
-    assert!(rt; succeeds(rt.alloc(), || changes_the_small_copy_alone_steps(&rt, rt.alloc())));
+    assert!(rt;
+        succeeds(
+            rt.alloc(),
+            || changes_the_small_copy_alone_steps(&rt, rt.alloc())
+        )
+    );
 }
 
 /// Copies an index of one pair. A refusal leaves the pair.

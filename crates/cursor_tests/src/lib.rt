@@ -2,6 +2,8 @@
 #![tactic(auto)]
 
 #[cfg(test)]
+mod keys;
+#[cfg(test)]
 mod nearest;
 #[cfg(test)]
 mod said;

@@ -105,6 +105,11 @@ fn finds_the_nearest_among_seven_steps(
 #[test]
 fn finds_the_nearest_among_seven(rt: HostRuntime) {
     for len in [0, 1, 7, 8, 57, 400] {
-        assert!(rt; succeeds(rt.alloc(), || finds_the_nearest_among_seven_steps(&rt, rt.alloc(), len)));
+        assert!(rt;
+            succeeds(
+                rt.alloc(),
+                || finds_the_nearest_among_seven_steps(&rt, rt.alloc(), len)
+            )
+        );
     }
 }

@@ -1,4 +1,4 @@
-//! Leaves that are linked into one chain, walked either way.
+//! Walks over the entries of leaves that are linked into one chain, either way.
 #![tactic(auto)]
 
 mod iter;

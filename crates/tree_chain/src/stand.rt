@@ -136,7 +136,10 @@ fn look_up<K: Ord + Drop, V: Drop, const LEN: usize>(
 }
 
 /// Returns the leaf that a leaf links to on the way.
-fn link<K: Ord + Drop, V: Drop, const LEN: usize>(leaf: &LeafOf<K, V, LEN>, way: Way) -> Option<LeafId>
+fn link<K: Ord + Drop, V: Drop, const LEN: usize>(
+    leaf: &LeafOf<K, V, LEN>,
+    way: Way,
+) -> Option<LeafId>
     ensures { result ≡ beside way leaf.now }
 {
     match way {

@@ -14,7 +14,8 @@ use tree_leaf::arena::{LeafId, NodeId};
 use tree_leaf::leaf::unlink;
 use tree_node::node::{ArenasOf, NodeOf};
 
-/// Drops a keyed leaf and takes it out of its node, by the slot of its separator.
+/// Drops a keyed leaf and takes it out of its node, by the slot of its separator. The caller must name a leaf of a chain,
+/// and the slot of a keyed child.
 pub fn drop_keyed_leaf<K: Ord + Drop, V: Drop, const LEN: usize>(
     arenas: &mut ArenasOf<K, V, LEN>,
     id: NodeId,
@@ -31,7 +32,8 @@ pub fn drop_keyed_leaf<K: Ord + Drop, V: Drop, const LEN: usize>(
 }
 
 /// Drops a retired child of an internal node and takes it out of the node: by the slot of its separator if it is a keyed
-/// child, and as the unbounded child without one.
+/// child, and as the unbounded child without one. The caller must name a retired node other than this one, and the slot
+/// of a keyed child, if any.
 pub fn drop_child_node<K: Ord + Drop, V: Drop, const LEN: usize>(
     arenas: &mut ArenasOf<K, V, LEN>,
     id: NodeId,
@@ -53,7 +55,8 @@ pub fn drop_child_node<K: Ord + Drop, V: Drop, const LEN: usize>(
     }
 }
 
-/// Drops the unbounded leaf of a leaf node if it is retired and there is no keyed leaf. The node is retired then.
+/// Drops the unbounded leaf of a leaf node if it is retired and there is no keyed leaf. The node is retired then. The caller
+/// must name a well-formed leaf node.
 pub fn retire_if_empty<K: Ord + Drop, V: Drop, const LEN: usize>(
     arenas: &mut ArenasOf<K, V, LEN>,
     id: NodeId,
@@ -91,7 +94,8 @@ fn only_retired<K: Ord + Drop, V: Drop, const LEN: usize>(
     Some(last)
 }
 
-/// Takes a keyed child out of its node, by the slot of its separator. Other children keep their slots.
+/// Takes a keyed child out of its node, by the slot of its separator. Other children keep their slots. The caller must name
+/// the slot of a keyed child.
 pub fn take_keyed<K: Ord + Drop, V: Drop, const LEN: usize>(
     arenas: &mut ArenasOf<K, V, LEN>,
     id: NodeId,

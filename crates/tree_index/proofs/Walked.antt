@@ -12,7 +12,7 @@ use Rattle.tree_cursor_model.specs.Cursor.{fresh}
 use Rattle.tree_cursor_model.specs.Rest.{rest}
 use Rattle.tree_ranges.proofs.Yields.{rest_fresh}
 
-all_pass : {X : Type 0} (xs : List X) → AllByRecursion (λ x. true ≡ true) xs
+pub all_pass : {X : Type 0} (xs : List X) → AllByRecursion (λ x. true ≡ true) xs
 all_pass [] = tt
 all_pass (x ∷ xs) = (refl, all_pass xs)
 

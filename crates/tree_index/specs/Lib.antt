@@ -1,4 +1,6 @@
 pub mod Copies
+pub mod Hashed
 pub mod Index
+pub mod Keys
 pub mod Nearest
 pub mod Readers

@@ -28,12 +28,16 @@
 mod copies;
 mod cursors;
 mod equality;
+mod hash;
 mod index;
+mod keys;
 mod nearest;
+mod order;
 mod readers;
 mod seek;
 
 pub use index::{SmallTreeIndex, TreeIndex, TreeIndexOf};
+pub use keys::{Keys, KeysOf, Values, ValuesOf};
 pub use tree_array::array::{Judge, KeyJudge, Steps};
 pub use tree_cursor_model::{Answer, Move, ProximityOf};
 pub use tree_leaf::arena::NodeId;

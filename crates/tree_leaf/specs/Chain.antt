@@ -1,4 +1,4 @@
--- The chain of links between leaves, walked either way.
+-- The chain of links between leaves.
 use Rattle.std.specs.Prelude.{◌≡◌, ℕ, ◌≤◌, List, [], ◌∷◌, Option, Some, None, ⊤}
 use Rattle.slab.specs.Slab.{Slab, get}
 use Rattle.tree_leaf.specs.declared.leaf.LeafOf.{LeafOf}

@@ -166,7 +166,10 @@ impl<K: Ord + Drop, V: Drop, N: Drop, const LEN: usize> SlotsOf<K, V, N, LEN> {
 }
 
 /// Returns the leaf under a number of an arena of leaves. Runs in constant time. The caller must name a number in use.
-pub fn leaf_at<K: Ord + Drop, V: Drop, const LEN: usize>(leaves: &Slab<LeafOf<K, V, LEN>>, id: LeafId) -> &LeafOf<K, V, LEN>
+pub fn leaf_at<K: Ord + Drop, V: Drop, const LEN: usize>(
+    leaves: &Slab<LeafOf<K, V, LEN>>,
+    id: LeafId,
+) -> &LeafOf<K, V, LEN>
     requires { ContainsKey leaves.now id }
     ensures { get leaves.now id ≡ Some result.now }
 {

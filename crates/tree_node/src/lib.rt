@@ -1,5 +1,4 @@
-//! Trees of nodes over linked leaves, kept in arenas under numbers: what a tree is, how a key finds its child, and
-//! look-ups.
+//! Trees of nodes over linked leaves, kept in arenas under numbers: what a tree is, and how a key finds its child.
 #![tactic(auto)]
 
 pub mod depth;

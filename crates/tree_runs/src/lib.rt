@@ -1,8 +1,8 @@
 //! Lists of commands, and schedules of several workers' commands, which one thread answers in turn.
 #![tactic(auto)]
 
-mod run;
+mod commands;
 mod schedule;
 
-pub use run::run;
+pub use commands::run;
 pub use schedule::run_schedule;

@@ -41,7 +41,8 @@ pub enum UnclosedOf<
     PassMissing(SharedTreeIndexOf<K, V, C, S, M, F, D, LEN>, Vec<Pass<C, S, M, F, D>>),
 }
 
-impl<K: IndexKey + fmt::Debug, V: Drop + fmt::Debug, const LEN: usize> fmt::Debug for ClosedOf<K, V, LEN> {
+impl<K: IndexKey + fmt::Debug, V: Drop + fmt::Debug, const LEN: usize> fmt::Debug
+    for ClosedOf<K, V, LEN> {
     fn fmt<W: fmt::Write>(&self, f: &mut fmt::Formatter<W>) -> fmt::Result {
         write!(
             f,
@@ -65,7 +66,11 @@ where
 {
     fn fmt<W: fmt::Write>(&self, f: &mut fmt::Formatter<W>) -> fmt::Result {
         let UnclosedOf::PassMissing(_, passes) = self;
-        write!(f, "PassMissing(SharedTreeIndex {{ .. }}, {:?})", passes.as_slice())
+        write!(
+            f,
+            "PassMissing(SharedTreeIndex {{ .. }}, {:?})",
+            passes.as_slice()
+        )
     }
 }
 

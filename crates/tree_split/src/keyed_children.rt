@@ -25,8 +25,8 @@ pub fn parting_place<K: Ord + Drop, I: Drop, const LEN: usize>(
     }
 }
 
-/// Puts a child under its separator, which is new in the array. Makes at most 4 comparisons (3 among 7
-/// slots).
+/// Puts a child under its separator. Makes at most 4 comparisons (3 among 7 slots). The caller must pass a separator that
+/// is new in an array with room.
 pub fn put_keyed<K: Ord + Drop, I: Drop, const LEN: usize>(
     children: &mut ArrayOf<K, I, LEN>,
     separator: K,
@@ -41,7 +41,8 @@ pub fn put_keyed<K: Ord + Drop, I: Drop, const LEN: usize>(
 }
 
 /// Takes out the children up to this place: returns the separator of the one at the place, an array of those before it,
-/// and the child itself. The children of both arrays arrive anew, in ascending order.
+/// and the child itself. The children of both arrays arrive anew, in ascending order. The caller must name the place of a
+/// child.
 pub fn cut_keyed<K: Ord + Drop, I: Drop, const LEN: usize>(
     children: &mut ArrayOf<K, I, LEN>,
     place: u8,

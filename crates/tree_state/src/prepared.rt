@@ -46,7 +46,8 @@ impl<K: IndexKey + SameClone, V: SameClone> PreparedPair<K, V> {
     }
 }
 
-impl<K: IndexKey + SameClone + fmt::Debug, V: SameClone + fmt::Debug> fmt::Debug for PreparedPair<K, V> {
+impl<K: IndexKey + SameClone + fmt::Debug, V: SameClone + fmt::Debug> fmt::Debug
+    for PreparedPair<K, V> {
     fn fmt<W: fmt::Write>(&self, f: &mut fmt::Formatter<W>) -> fmt::Result {
         write!(f, "PreparedPair({:?}, {:?})", &self.key, &self.value)
     }

@@ -3,7 +3,7 @@ use Rattle.std.specs.Vec.Iter.{into_iter_items}
 use Rattle.std.proofs.lemmas.List.{nil_from_length}
 use Rattle.tree_runs.proofs.Climbs.{climbs}
 use Rattle.tree_runs.proofs.Served.{none_served, served_more}
-use Rattle.tree_runs.proofs.run.run.Goals as goal
+use Rattle.tree_runs.proofs.commands.run.Goals as goal
 
 one_more : {X : Type 0} (xs : List X) (x : X) (ys : List X) → (xs ++ x ∷ []) ++ ys ≡ xs ++ x ∷ ys
 one_more xs x ys = simp append_assoc

@@ -3,7 +3,7 @@ use Rattle.std.specs.Vec.Iter.{into_iter_items, into_iter_len}
 use Rattle.tree_model.specs.Runs.{Runs}
 use Rattle.tree_runs.specs.Served.{AreServed}
 use Rattle.tree_runs.proofs.Climbs.{Leads}
-use Rattle.tree_runs.proofs.run.run.Given as goal
+use Rattle.tree_runs.proofs.commands.run.Given as goal
 
 -- a run of the commands that are left completes the replies so far to a run of all
 abbrev pub invariant-loop-command : goal.invariant-loop-command

@@ -1,7 +1,7 @@
 use Rattle.std.proofs.Common.{◌≡◌, true, Some, is_some, Option, None, refl, sym, ap, ◌∙◌}
 use Rattle.std.specs.Option.{option_map}
 use Rattle.tree_model.proofs.Histories.{seen_value}
-use Rattle.tree_runs.proofs.run.answer.Goals as goal
+use Rattle.tree_runs.proofs.commands.answer.Goals as goal
 
 -- where the value of a pair is found, there is a pair
 some_pair : {K V : Type 0} (value : V) (found : Option (K × V)) → Some value ≡ option_map (λ pair. pair.1) found → is_some found ≡ true

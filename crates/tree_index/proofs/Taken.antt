@@ -1,0 +1,71 @@
+-- Walks over the keys of an index, or over its values.
+use Rattle.std.proofs.Common.{◌≡◌, ◌+◌, true, List, [], ◌∷◌, ◌++◌, map, reverse, Option, Some, None, Bor, length, refl, sym, ap, ◌∙◌, arith}
+use Rattle.std.specs.Prelude.{⊤}
+use Rattle.std.specs.Cmp.{IsTotalOrder}
+use Rattle.std.specs.Iterator.{MakesProgress, at_most}
+use Rattle.std.specs.Map.Iter.{TakesFirst, TakesLast}
+use Rattle.std.specs.declared.cmp.Ordering.{Ordering}
+use Rattle.std.proofs.lemmas.Grind.{reverse_onto}
+use Rattle.std.proofs.lemmas.List.{length-append, map_push, reverse-reverse}
+use Rattle.tree_model.proofs.Lists.{filter_all}
+use Rattle.tree_chain.specs.declared.stand.Way.TheVariants.{On, Back}
+use Rattle.tree_chain.specs.Rest.{TakesFirst as TakesEntry}
+use Rattle.tree_chain.specs.Walks.{lent_entry}
+use Rattle.tree_cursor_model.specs.Cursor.{Cursor}
+use Rattle.tree_cursor_model.specs.Rest.{Moves, between, rest}
+use Rattle.tree_ranges.specs.Ranged.{IsOpen}
+use Rattle.tree_ranges.proofs.Yields.{takes_first}
+use Rattle.tree_index.specs.Keys.{GoesThroughAll}
+use Rattle.tree_index.proofs.Walked.{all_pass}
+
+-- what is taken from either end leaves less
+module _ {A X : Type 0} (shows : A → X) (s t : List X) where
+  pub first_progress : (r : Option A) → TakesFirst shows s r t → MakesProgress (λ _. ⊤) (λ xs. at_most (length xs)) s r t
+  first_progress None takes = record { on = λ _. tt; keeps = tt; rests = λ _. tt }
+  first_progress (Some x) takes = record { on = λ _. (tt, tt, omega (arith, ap length takes)); keeps = tt; rests = λ _. tt }
+
+  pub last_progress : (r : Option A) → TakesLast shows s r t → MakesProgress (λ _. ⊤) (λ xs. at_most (length xs)) s r t
+  last_progress None takes = record { on = λ _. tt; keeps = tt; rests = λ _. tt }
+  last_progress (Some x) takes = record { on = λ _. (tt, tt, omega (arith, ap length takes ∙ length-append t (shows x ∷ []))); keeps = tt; rests = λ _. tt }
+
+module _ {K V : Type 0} (cmp : K → K → Ordering) where
+  -- the way back gives what the way on does, in reverse
+  rest_back : (c : Cursor K V) → IsOpen c → rest cmp Back c ≡ reverse (rest cmp On c)
+  rest_back c bounds =
+      rw (bounds.low, bounds.high) (
+      filter_all (λ pair. true) (reverse (between c)) (all_pass (reverse (between c)))
+      ∙ ap reverse (sym (filter_all (λ pair. true) (between c) (all_pass (between c))))
+      )
+
+module _ {K V X : Type 0} {cmp : K → K → Ordering} (o : IsTotalOrder cmp) (f : K × V → X) (s t : Cursor K V) (goes : GoesThroughAll cmp s) where
+  mapped_first : (left after : List (K × V)) (r : Option (Bor K × Bor V)) → TakesEntry left r after → TakesFirst (λ pair. f (lent_entry pair)) (map f left) r (map f after)
+  mapped_first left after None takes = rw takes.0 (refl, rw takes.1 refl)
+  mapped_first left after (Some pair) takes = rw takes refl
+
+  mapped_last : (left after : List (K × V)) (r : Option (Bor K × Bor V)) → TakesEntry (reverse left) r (reverse after) → TakesLast (λ pair. f (lent_entry pair)) (map f left) r (map f after)
+  mapped_last left after None takes =
+      let none = sym (reverse-reverse left) ∙ ap reverse takes.0 in
+      let none_after = sym (reverse-reverse after) ∙ ap reverse takes.1 in
+      rw none (refl, rw none_after refl)
+  mapped_last left after (Some pair) takes =
+      let pushed : left ≡ after ++ lent_entry pair ∷ [] =
+      sym (reverse-reverse left) ∙ ap reverse takes ∙ reverse_onto (reverse after) (lent_entry pair) [] ∙ ap (λ xs. xs ++ lent_entry pair ∷ []) (reverse-reverse after) in
+      rw pushed (map_push f after (lent_entry pair))
+
+  -- a move on takes the first that is left
+  pub goes_on : (r : Option (Bor K × Bor V)) → Moves cmp On s r t → GoesThroughAll cmp t × TakesFirst (λ pair. f (lent_entry pair)) (map f (rest cmp On s)) r (map f (rest cmp On t))
+  goes_on r moves =
+      let step = takes_first o On s t r moves goes.forward in
+      let bounds : IsOpen t = rw moves.moves (record { low = goes.bounds.low; high = goes.bounds.high }) in (
+        record { bounds = bounds; forward = step.0; backward = rw moves.moves goes.backward },
+        mapped_first (rest cmp On s) (rest cmp On t) r step.1,
+      )
+
+  -- and a move back the last
+  pub goes_back : (r : Option (Bor K × Bor V)) → Moves cmp Back s r t → GoesThroughAll cmp t × TakesLast (λ pair. f (lent_entry pair)) (map f (rest cmp On s)) r (map f (rest cmp On t))
+  goes_back r moves =
+      let step = takes_first o Back s t r moves goes.backward in
+      let bounds : IsOpen t = rw moves.moves (record { low = goes.bounds.low; high = goes.bounds.high }) in (
+        record { bounds = bounds; forward = rw moves.moves goes.forward; backward = step.0 },
+        mapped_last (rest cmp On s) (rest cmp On t) r (rw (rest_back cmp s goes.bounds, rest_back cmp t bounds) at step.1),
+      )

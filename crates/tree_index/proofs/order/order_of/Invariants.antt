@@ -1,0 +1,20 @@
+use Rattle.std.proofs.Common.{◌≡◌}
+use Rattle.std.specs.Cmp.Lexicographic.{slice_partial_cmp}
+use Rattle.std.specs.Ordering.{partial_ordering_then}
+use Rattle.tree_chain.specs.declared.stand.Way.TheVariants.{On}
+use Rattle.tree_cursor_model.specs.Rest.{HasBegun, rest}
+use Rattle.tree_ranges.specs.Ranged.{moves_left}
+use Rattle.tree_index.proofs.order.order_of.Given as goal
+
+-- what is left has the order that all had
+abbrev pub invariant-loop-pair : goal.invariant-loop-pair
+invariant-loop-pair g l =
+    let order = slice_partial_cmp (λ p q. partial_ordering_then (g.K.PartialOrd.partial_cmp p.0 q.0) (g.V.PartialOrd.partial_cmp p.1 q.1)) in
+    record {
+      first : HasBegun g.K.Ord.cmp On l.left;
+      second : HasBegun g.K.Ord.cmp On l.right;
+      same : order (rest g.K.Ord.cmp On l.left) (rest g.K.Ord.cmp On l.right) ≡ order (rest g.K.Ord.cmp On l.initial.left) (rest g.K.Ord.cmp On l.initial.right);
+    }
+
+abbrev pub decreases-loop-pair : goal.decreases-loop-pair
+decreases-loop-pair g l = moves_left l.left

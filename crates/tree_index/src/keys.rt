@@ -1,0 +1,179 @@
+//! The keys of an index, or its values, in the order of the keys.
+ghost use Rattle.std.specs.Prelude.{◌≡◌, length, map, ⊤};
+ghost use Rattle.std.specs.Iterator.{at_most};
+ghost use Rattle.std.specs.Map.Iter.{TakesFirst, TakesLast, deref};
+
+use crate::index::TreeIndexOf;
+use std::alloc::AllocError;
+use std::iter::FusedIterator;
+use std::marker::Model;
+use tree_array::array::IndexKey;
+use tree_chain::Walked;
+use tree_leaf::leaf::LeafOf;
+use tree_node::node::ArenasOf;
+use tree_ranges::iter::IterOver;
+use tree_ranges::range::Ranged;
+
+/// The keys of an index in ascending order, from both ends.
+///
+/// Contracts see the list of the keys that neither end has given yet. A move costs what that of
+/// [`iter`](TreeIndexOf::iter) does.
+#[derive(Drop)]
+pub struct KeysOver<'t, K: Ord, V, A: Ranged<K, V, L>, L: Walked> {
+    pairs: IterOver<'t, K, V, A, L>,
+}
+
+/// The keys of an index in ascending order, from both ends, with up to `LEN` pairs a leaf.
+pub type KeysOf<'t, K, V, const LEN: usize> = KeysOver<
+    't,
+    K,
+    V,
+    ArenasOf<K, V, LEN>,
+    LeafOf<K, V, LEN>,
+>;
+
+/// The keys of an index in ascending order, from both ends, with up to fifteen pairs a leaf.
+pub type Keys<'t, K, V> = KeysOf<'t, K, V, 15>;
+
+impl<'t, K: Ord, V, A: Ranged<K, V, L>, L: Walked> Model for KeysOver<'t, K, V, A, L> {
+    ghost use Rattle.std.specs.Prelude.{List};
+    ghost use Rattle.tree_index.specs.Keys.{GoesThroughAll, keys_left};
+
+    ghost Value = { List K };
+
+    ghost view = { λ a. keys_left K.cmp a.pairs };
+
+    ghost invariant = { λ a. GoesThroughAll K.cmp a.pairs };
+}
+
+impl<'t, K: Ord + Drop + 't, V: Drop + 't, const LEN: usize> Iterator for KeysOf<'t, K, V, LEN> {
+    type Item = &'t K;
+
+    ghost next_gives = { TakesFirst deref };
+
+    ghost remaining = { λ s. at_most (length s) };
+
+    fn next(&mut self) -> Option<&'t K> {
+        match self.pairs.next() {
+            Some((key, _)) => Some(key),
+            None => None,
+        }
+    }
+}
+
+impl<'t, K: Ord + Drop + 't, V: Drop + 't, const LEN: usize> DoubleEndedIterator
+    for KeysOf<'t, K, V, LEN> {
+    ghost next_back_gives = { TakesLast deref };
+
+    fn next_back(&mut self) -> Option<&'t K> {
+        match self.pairs.next_back() {
+            Some((key, _)) => Some(key),
+            None => None,
+        }
+    }
+}
+
+impl<'t, K: Ord + Drop + 't, V: Drop + 't, const LEN: usize> FusedIterator
+    for KeysOf<'t, K, V, LEN> {}
+
+impl<'t, K: Ord, V, A: Ranged<K, V, L>, L: Walked> Clone for KeysOver<'t, K, V, A, L> {
+    ghost is_clone = { λ keys clone. clone ≡ keys };
+
+    ghost is_infallible = { λ _. ⊤ };
+
+    fn clone(&self) -> Result<Self, AllocError> {
+        Ok(KeysOver {
+            pairs: self.pairs.clone()?,
+        })
+    }
+}
+
+/// The values of an index in ascending order of their keys, from both ends.
+///
+/// Contracts see the list of the values that neither end has given yet. A move costs what that of
+/// [`iter`](TreeIndexOf::iter) does.
+#[derive(Drop)]
+pub struct ValuesOver<'t, K: Ord, V, A: Ranged<K, V, L>, L: Walked> {
+    pairs: IterOver<'t, K, V, A, L>,
+}
+
+/// The values of an index in ascending order of their keys, from both ends, with up to `LEN` pairs a leaf.
+pub type ValuesOf<'t, K, V, const LEN: usize> = ValuesOver<
+    't,
+    K,
+    V,
+    ArenasOf<K, V, LEN>,
+    LeafOf<K, V, LEN>,
+>;
+
+/// The values of an index in ascending order of their keys, from both ends, with up to fifteen pairs a leaf.
+pub type Values<'t, K, V> = ValuesOf<'t, K, V, 15>;
+
+impl<'t, K: Ord, V, A: Ranged<K, V, L>, L: Walked> Model for ValuesOver<'t, K, V, A, L> {
+    ghost use Rattle.std.specs.Prelude.{List};
+    ghost use Rattle.tree_index.specs.Keys.{GoesThroughAll, values_left};
+
+    ghost Value = { List V };
+
+    ghost view = { λ a. values_left K.cmp a.pairs };
+
+    ghost invariant = { λ a. GoesThroughAll K.cmp a.pairs };
+}
+
+impl<'t, K: Ord + Drop + 't, V: Drop + 't, const LEN: usize> Iterator for ValuesOf<'t, K, V, LEN> {
+    type Item = &'t V;
+
+    ghost next_gives = { TakesFirst deref };
+
+    ghost remaining = { λ s. at_most (length s) };
+
+    fn next(&mut self) -> Option<&'t V> {
+        match self.pairs.next() {
+            Some((_, value)) => Some(value),
+            None => None,
+        }
+    }
+}
+
+impl<'t, K: Ord + Drop + 't, V: Drop + 't, const LEN: usize> DoubleEndedIterator
+    for ValuesOf<'t, K, V, LEN> {
+    ghost next_back_gives = { TakesLast deref };
+
+    fn next_back(&mut self) -> Option<&'t V> {
+        match self.pairs.next_back() {
+            Some((_, value)) => Some(value),
+            None => None,
+        }
+    }
+}
+
+impl<'t, K: Ord + Drop + 't, V: Drop + 't, const LEN: usize> FusedIterator
+    for ValuesOf<'t, K, V, LEN> {}
+
+impl<'t, K: Ord, V, A: Ranged<K, V, L>, L: Walked> Clone for ValuesOver<'t, K, V, A, L> {
+    ghost is_clone = { λ values clone. clone ≡ values };
+
+    ghost is_infallible = { λ _. ⊤ };
+
+    fn clone(&self) -> Result<Self, AllocError> {
+        Ok(ValuesOver {
+            pairs: self.pairs.clone()?,
+        })
+    }
+}
+
+impl<K: IndexKey, V: Drop, const LEN: usize> TreeIndexOf<K, V, LEN> {
+    /// Returns the keys in ascending order, from both ends. Runs in constant time and allocates nothing.
+    pub fn keys(&self) -> KeysOf<'_, K, V, LEN>
+        ensures { result ≡ map (λ pair. pair.0) self.now.pairs }
+    {
+        KeysOver { pairs: self.iter() }
+    }
+
+    /// Returns the values in ascending order of their keys, from both ends. Runs in constant time and allocates nothing.
+    pub fn values(&self) -> ValuesOf<'_, K, V, LEN>
+        ensures { result ≡ map (λ pair. pair.1) self.now.pairs }
+    {
+        ValuesOver { pairs: self.iter() }
+    }
+}

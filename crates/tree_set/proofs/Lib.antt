@@ -1,0 +1,4 @@
+pub mod Firsts
+pub mod Keys
+pub mod Moves
+pub mod Merged

@@ -1,0 +1,13 @@
+use Rattle.std.proofs.Common.{refl, ◌∙◌}
+use Rattle.tree_set.proofs.Merged.{alone_ascends, alone_elements}
+use Rattle.tree_set.proofs.set.TreeSetOf.difference.Goals as goal
+
+pub returns : goal.returns
+returns g c =
+    let first = c.new.ensures.same ∙ c.iter.ensures in
+    let second = c.new-2.ensures.same ∙ c.iter-2.ensures in
+    rw (first, second) (record {
+      alone = refl;
+      elements = λ k. alone_elements g.met.K.Ord.total c.args.self.now c.args.other.now k;
+      ascending = alone_ascends g.met.K.Ord.total c.args.self.now c.args.other.now (rw first at c.new.ensures.ascending);
+    })

@@ -1,0 +1,5 @@
+use Rattle.tree_node.proofs.Sizes.{fits}
+use Rattle.tree_set.proofs.set.TreeSetOf.drop.Goals as goal
+
+pub drop-requires : goal.drop-requires
+drop-requires g c = search fits

@@ -1,0 +1,14 @@
+use Rattle.tree_node.proofs.Sizes.{fits}
+use Rattle.tree_set.proofs.Keys.{last_key}
+use Rattle.std.proofs.Common.{ap, ◌∙◌}
+use Rattle.std.specs.Option.{option_map}
+use Rattle.tree_set.proofs.set.TreeSetOf.last.Goals as goal
+
+pub last-requires : goal.last-requires
+last-requires g c = search fits
+
+pub returns-in_err-element : goal.returns-in_err-element
+returns-in_err-element g c = rw (c.from_residual.ensures, ← c.self.view_is) (ap (option_map (λ p. p.0)) c.in_err-element.ensures ∙ last_key c.self.inside.index.pairs)
+
+pub returns : goal.returns
+returns g c = rw (← c.self.view_is) (ap (option_map (λ p. p.0)) c.in_ok-element.ensures ∙ last_key c.self.inside.index.pairs)

@@ -1,0 +1,9 @@
+use Rattle.tree_node.proofs.Sizes.{fits}
+use Rattle.std.proofs.Common.{refl}
+use Rattle.tree_set.proofs.set.TreeSetOf.new.Goals as goal
+
+pub new-requires : goal.new-requires
+new-requires g c = (search fits, c.requires)
+
+pub returns : goal.returns
+returns g c = rw c.new.ensures.pairs refl

@@ -1,0 +1,13 @@
+use Rattle.std.proofs.Common.{refl, ◌∙◌}
+use Rattle.tree_set.proofs.Merged.{union_ascends, union_elements}
+use Rattle.tree_set.proofs.set.TreeSetOf.union.Goals as goal
+
+pub returns : goal.returns
+returns g c =
+    let first = c.new.ensures.same ∙ c.iter.ensures in
+    let second = c.new-2.ensures.same ∙ c.iter-2.ensures in
+    rw (first, second) (record {
+      merged = refl;
+      elements = λ k. union_elements g.met.K.Ord.total k c.args.self.now c.args.other.now;
+      ascending = union_ascends g.met.K.Ord.total c.args.self.now c.args.other.now (rw first at c.new.ensures.ascending) (rw second at c.new-2.ensures.ascending);
+    })

@@ -1,0 +1,22 @@
+-- The elements of either of two ascending lists, of both, and of the first alone.
+use Rattle.std.specs.Prelude.{true, not, List, filter}
+use Rattle.std.specs.Set.{sorted_merge}
+use Rattle.std.specs.declared.cmp.Ordering.{Ordering}
+use Rattle.tree_set.specs.Sets.{IsAscending, has}
+
+module _ {K : Type 0} (cmp : K → K → Ordering) (xs ys : List K) where
+  -- both lists merged. Of two equal elements it has that of the first.
+  abbrev pub union : List K
+  union = sorted_merge cmp true xs ys
+
+  -- the elements of the first list that the second has
+  abbrev pub intersection : List K
+  intersection = filter (λ x. has cmp ys x) xs
+
+  -- the elements of the first list that the second lacks
+  abbrev pub difference : List K
+  difference = filter (λ x. not (has cmp ys x)) xs
+
+  pub record AreAscending : Type 0 where
+    pub first : IsAscending cmp xs
+    pub second : IsAscending cmp ys

@@ -1,0 +1,21 @@
+//! Copies of a set.
+ghost use Rattle.std.specs.Prelude.{IfOk};
+ghost use Rattle.std.specs.List.{AllZip};
+
+use crate::set::TreeSetOf;
+use std::alloc::{AllocError, Global};
+use tree_index::IndexKey;
+
+impl<K: IndexKey, const LEN: usize> TreeSetOf<K, LEN> {
+    /// Returns a copy: a set of a clone of each element, in the same order.
+    ///
+    /// Returns `Err` if an allocation is refused, one of a clone among them. Nothing of the copy is left then. Inserts
+    /// the clones in ascending order, so that each is compared with the last separator of each node on its way and the
+    /// last element of the last leaf alone.
+    pub fn try_clone(&self, alloc: Global) -> Result<Self, AllocError>
+        ensures { IfOk result (λ copy. AllZip K.is_clone self.now copy) }
+    {
+        let index = self.index.try_clone(alloc)?;
+        Ok(TreeSetOf { index })
+    }
+}

@@ -1,0 +1,92 @@
+//! The elements of a set, from both ends.
+ghost use Rattle.std.specs.Prelude.{◌≡◌};
+ghost use Rattle.std.specs.Iterator.{YieldsFirstRef, YieldsLastRef, item_count};
+ghost use Rattle.tree_ranges.specs.Ranged.{IsFresh, pairs_within};
+ghost use Rattle.tree_set.specs.Sets.{IsAscending, keys_of};
+
+use std::iter::FusedIterator;
+use std::marker::Model;
+use tree_chain::Walked;
+use tree_leaf::leaf::LeafOf;
+use tree_node::node::ArenasOf;
+use tree_ranges::range::{RangeOf, RangeOver, Ranged};
+
+/// The elements that a cursor over pairs has still to give, from both ends.
+///
+/// Contracts see the list of these elements, in ascending order.
+#[derive(Drop)]
+pub struct ElementsOver<'t, K: Ord, A: Ranged<K, (), L>, L: Walked> {
+    pairs: RangeOver<'t, K, (), A, L>,
+}
+
+/// The elements of a set or of a range of it, with up to `LEN` elements a leaf.
+pub type Elements<'t, K, const LEN: usize> = ElementsOver<
+    't,
+    K,
+    ArenasOf<K, (), LEN>,
+    LeafOf<K, (), LEN>,
+>;
+
+impl<'t, K: Ord, A: Ranged<K, (), L>, L: Walked> Model for ElementsOver<'t, K, A, L> {
+    ghost use Rattle.std.specs.Prelude.{List};
+    ghost use Rattle.tree_set.specs.Elements.{HasBegunBoth, left_of};
+
+    ghost Value = { List K };
+
+    ghost view = { λ a. left_of K.cmp a.pairs };
+
+    ghost invariant = { λ a. HasBegunBoth K.cmp a.pairs };
+}
+
+impl<'t, K: Ord + Drop + 't, const LEN: usize> ElementsOver<
+    't,
+    K,
+    ArenasOf<K, (), LEN>,
+    LeafOf<K, (), LEN>,
+> {
+    /// Returns the elements of the pairs of a cursor that was never moved. Runs in constant time.
+    pub(crate) fn new(pairs: RangeOf<'t, K, (), LEN>) -> Self
+        requires { IsFresh pairs }
+        ensures { result ≡ keys_of (pairs_within K.cmp pairs.entry) }
+    {
+        ElementsOver { pairs }
+    }
+
+    /// Takes the first element, and tells that the elements ascend.
+    #[inline(always)]
+    pub(crate) fn take_first(&mut self) -> Option<&'t K>
+        ensures taken { YieldsFirstRef (λ s. s) self.old result self.new }
+        ensures ascending { IsAscending K.cmp self.old }
+    {
+        let (element, _) = self.pairs.next()?;
+        Some(element)
+    }
+}
+
+impl<'t, K: Ord + Drop + 't, const LEN: usize> Iterator
+    for ElementsOver<'t, K, ArenasOf<K, (), LEN>, LeafOf<K, (), LEN>> {
+    type Item = &'t K;
+
+    ghost next_gives = { YieldsFirstRef (λ s. s) };
+
+    ghost remaining = { item_count (λ s. s) };
+
+    #[inline(always)]
+    fn next(&mut self) -> Option<&'t K> {
+        self.take_first()
+    }
+}
+
+impl<'t, K: Ord + Drop + 't, const LEN: usize> DoubleEndedIterator
+    for ElementsOver<'t, K, ArenasOf<K, (), LEN>, LeafOf<K, (), LEN>> {
+    ghost next_back_gives = { YieldsLastRef (λ s. s) };
+
+    #[inline(always)]
+    fn next_back(&mut self) -> Option<&'t K> {
+        let (element, _) = self.pairs.next_back()?;
+        Some(element)
+    }
+}
+
+impl<'t, K: Ord + Drop + 't, const LEN: usize> FusedIterator
+    for ElementsOver<'t, K, ArenasOf<K, (), LEN>, LeafOf<K, (), LEN>> {}

@@ -1,0 +1,243 @@
+//! The set.
+ghost use Rattle.std.specs.Prelude.{◌≡◌, ◌↔◌, IsTrue, ◌^◌, ◌-◌, ◌&&◌, ◌||◌, min, not, filter, [], length};
+ghost use Rattle.std.specs.Option.{option_copied};
+ghost use Rattle.std.specs.Range.Bound.{bound_map};
+ghost use Rattle.tree_array.specs.Length.{IsLen};
+ghost use Rattle.tree_chain.specs.Walks.{first_of, last_of};
+ghost use Rattle.tree_model.specs.Pairs.{within};
+ghost use Rattle.tree_set.specs.Merges.{difference, intersection, union};
+ghost use Rattle.tree_set.specs.Sets.{Inserts, IsAscending, cut, element_at, has, without};
+
+use crate::ahead::Ahead;
+use crate::difference::{Difference, DifferenceOver};
+use crate::elements::{Elements, ElementsOver};
+use crate::intersection::{Intersection, IntersectionOver};
+use crate::union::{Union, UnionOver};
+use std::alloc::Global;
+use std::fmt;
+use std::marker::Model;
+use std::ops::Bound;
+use tree_index::{IndexKey, InsertError, TreeIndexOf};
+
+/// An ordered set with up to fifteen elements a leaf. See [`TreeSetOf`].
+pub type TreeSet<K> = TreeSetOf<K, 15>;
+
+/// An ordered set with up to seven elements a leaf. See [`TreeSetOf`].
+pub type SmallTreeSet<K> = TreeSetOf<K, 7>;
+
+/// An ordered set: the keys of an index whose values are `()`. `LEN` is 7 or 15.
+///
+/// Contracts see the list of its elements, strictly ascending.
+///
+/// Costs are in terms of the index's depth, as those of [`TreeIndexOf`] are.
+pub struct TreeSetOf<K: IndexKey, const LEN: usize> {
+    pub(crate) index: TreeIndexOf<K, (), LEN>,
+}
+
+// Written out for the reason that the drop of a tree is.
+impl<K: IndexKey, const LEN: usize> Drop for TreeSetOf<K, LEN> {
+    fn drop(self) {
+        let TreeSetOf { index } = self;
+        drop(index);
+    }
+}
+
+impl<K: IndexKey, const LEN: usize> Model for TreeSetOf<K, LEN> {
+    ghost use Rattle.std.specs.Prelude.{List};
+    ghost use Rattle.tree_set.specs.Sets.{keys_of};
+
+    ghost Value = { List K };
+
+    ghost view = { λ a. keys_of a.index.pairs };
+}
+
+impl<K: IndexKey, const LEN: usize> TreeSetOf<K, LEN> {
+    /// Creates an empty set. Allocates nothing. The caller must choose 7 or 15 for `LEN`.
+    pub fn new(alloc: Global) -> Self
+        requires { IsLen LEN }
+        ensures { result ≡ [] }
+    {
+        TreeSetOf {
+            index: TreeIndexOf::new(alloc),
+        }
+    }
+
+    /// Stores an element, unless an equal one is present, which stays as it was. Returns whether the element is new.
+    ///
+    /// Returns `Err` with the element if it is new and an allocation is refused. The set is then as it was. Costs what
+    /// [`insert_sync`](TreeIndexOf::insert_sync) does: a descent, and where the leaf is full a second one at most.
+    pub fn insert(&mut self, element: K) -> Result<bool, K>
+        ensures { Inserts K.cmp self.old element result self.new }
+    {
+        match self.index.insert_sync(element, ()) {
+            Ok(()) => Ok(true),
+            Err(InsertError::Duplicate(_, _)) => Ok(false),
+            Err(InsertError::OutOfMemory(element, _)) => Err(element),
+        }
+    }
+
+    /// Removes an element. Returns whether it was present.
+    ///
+    /// Costs what [`remove_sync`](TreeIndexOf::remove_sync) does: a descent. Allocates nothing.
+    pub fn remove(&mut self, element: &K) -> bool
+        ensures answer { result ≡ has K.cmp self.old element.now }
+        ensures left { self.new ≡ without K.cmp self.old element.now }
+    {
+        self.index.remove_sync(element)
+    }
+
+    /// Removes every element within both bounds. Bounds that contain no element, reversed ones among them, remove
+    /// nothing.
+    ///
+    /// Drops the parts of the tree between the bounds whole, and makes comparisons only at the two ends of the range,
+    /// as [`remove_range_sync`](TreeIndexOf::remove_range_sync) does. Allocates nothing.
+    pub fn remove_range(&mut self, bounds: (Bound<&K>, Bound<&K>))
+        ensures { self.new ≡ cut K.cmp self.old (bound_map (λ k. k.now) bounds.entry.0) (bound_map (λ k. k.now) bounds.entry.1) }
+    {
+        self.index.remove_range_sync(bounds);
+    }
+
+    /// Removes all elements. Drops each once. Allocates nothing, and keeps the memory of the tree for later inserts.
+    pub fn clear(&mut self)
+        ensures { self.new ≡ [] }
+    {
+        self.index.clear();
+    }
+
+    /// Returns the element that equals the given one, as it is stored.
+    ///
+    /// Makes at most `4 * (depth + 1)` comparisons with 15 elements a leaf, and `3 * (depth + 1)` with 7. Allocates
+    /// nothing.
+    pub fn get(&self, element: &K) -> Option<&K>
+        ensures found { option_copied result ≡ element_at K.cmp self.now element.now }
+        ensures ascending { IsAscending K.cmp self.now }
+    {
+        let (found, _) = self.index.peek_entry(element)?;
+        Some(found)
+    }
+
+    /// Returns whether an element is present. Costs what [`get`](TreeSetOf::get) does.
+    pub fn contains(&self, element: &K) -> bool
+        ensures { result ≡ has K.cmp self.now element.now }
+    {
+        self.index.contains(element)
+    }
+
+    /// Returns the number of elements, or `usize::MAX` if there are more. Runs in constant time.
+    pub fn len(&self) -> usize
+        ensures { result ≡ min (length self.now) (2 ^ 64 - 1) }
+    {
+        self.index.len()
+    }
+
+    /// Returns whether the set is empty. Runs in constant time.
+    pub fn is_empty(&self) -> bool
+        ensures { IsTrue result ↔ (self.now ≡ []) }
+    {
+        self.index.is_empty()
+    }
+
+    /// Returns the elements in ascending order, from both ends. Runs in constant time.
+    ///
+    /// The first move of an end descends once. Each move after it reads the next element of its leaf, or follows links up
+    /// to the next leaf with an element, and makes at most one comparison. Allocates nothing.
+    pub fn iter(&self) -> Elements<'_, K, LEN>
+        ensures { result ≡ self.now }
+    {
+        ElementsOver::new(self.index.range((Bound::Unbounded, Bound::Unbounded)))
+    }
+
+    /// Returns the elements within both bounds in ascending order, from both ends. Bounds that contain no element,
+    /// reversed ones among them, give none. Runs in constant time.
+    ///
+    /// The moves cost what those of [`iter`](TreeSetOf::iter) do, and one comparison more.
+    pub fn range<'t>(&'t self, bounds: (Bound<&'t K>, Bound<&'t K>)) -> Elements<'t, K, LEN>
+        ensures { result ≡ filter (within K.cmp (bound_map (λ k. k.now) bounds.entry.0) (bound_map (λ k. k.now) bounds.entry.1)) self.now }
+    {
+        ElementsOver::new(self.index.range(bounds))
+    }
+
+    /// Returns the elements that this set or the other has, in ascending order. Of two equal ones it gives this set's.
+    ///
+    /// Descends once in each set. A move makes at most one comparison between the sets, and at most one move in each.
+    /// Allocates nothing.
+    pub fn union<'t>(&'t self, other: &'t Self) -> Union<'t, K, LEN>
+        ensures merged { result ≡ union K.cmp self.now other.now }
+        ensures elements { (k : K) → has K.cmp result k ≡ (has K.cmp self.now k || has K.cmp other.now k) }
+        ensures ascending { IsAscending K.cmp result }
+    {
+        UnionOver {
+            first: Ahead::new(self.iter()),
+            second: Ahead::new(other.iter()),
+        }
+    }
+
+    /// Returns the elements of this set that the other has too, in ascending order.
+    ///
+    /// Descends once in each set. A move makes at most one comparison between the sets for each element that it passes
+    /// in either. Allocates nothing.
+    pub fn intersection<'t>(&'t self, other: &'t Self) -> Intersection<'t, K, LEN>
+        ensures common { result ≡ intersection K.cmp self.now other.now }
+        ensures elements { (k : K) → has K.cmp result k ≡ (has K.cmp self.now k && has K.cmp other.now k) }
+        ensures ascending { IsAscending K.cmp result }
+    {
+        IntersectionOver {
+            first: Ahead::new(self.iter()),
+            second: Ahead::new(other.iter()),
+        }
+    }
+
+    /// Returns the elements of this set that the other lacks, in ascending order. Costs what
+    /// [`intersection`](TreeSetOf::intersection) does.
+    pub fn difference<'t>(&'t self, other: &'t Self) -> Difference<'t, K, LEN>
+        ensures alone { result ≡ difference K.cmp self.now other.now }
+        ensures elements { (k : K) → has K.cmp result k ≡ (has K.cmp self.now k && not (has K.cmp other.now k)) }
+        ensures ascending { IsAscending K.cmp result }
+    {
+        DifferenceOver {
+            first: Ahead::new(self.iter()),
+            second: Ahead::new(other.iter()),
+        }
+    }
+
+    /// Returns the smallest element, or `None` if the set is empty. Descends once, and makes no comparison.
+    pub fn first(&self) -> Option<&K>
+        ensures { option_copied result ≡ first_of self.now }
+    {
+        let (element, _) = self.index.first()?;
+        Some(element)
+    }
+
+    /// Returns the largest element, or `None` if the set is empty. Descends once, and makes no comparison.
+    pub fn last(&self) -> Option<&K>
+        ensures { option_copied result ≡ last_of self.now }
+    {
+        let (element, _) = self.index.last()?;
+        Some(element)
+    }
+}
+
+impl<'t, K: IndexKey, const LEN: usize> IntoIterator for &'t TreeSetOf<K, LEN> {
+    type Item = &'t K;
+
+    type IntoIter = Elements<'t, K, LEN>;
+
+    ghost use Rattle.std.specs.Prelude.{◌≡◌};
+
+    ghost into_iter_gives = { λ set elements. elements ≡ set.now };
+
+    fn into_iter(self) -> Elements<'t, K, LEN> {
+        self.iter()
+    }
+}
+
+impl<K: IndexKey + fmt::Debug, const LEN: usize> fmt::Debug for TreeSetOf<K, LEN> {
+    fn fmt<W: fmt::Write>(&self, f: &mut fmt::Formatter<W>) -> fmt::Result {
+        let mut set = f.debug_set();
+        let mut elements = self.iter();
+        while let Some(element) = elements.next() {
+            set.entry(element);
+        }
+        set.finish()
+    }
+}
