@@ -1,7 +1,9 @@
 pub mod Beside
 pub mod Compared
 pub mod Copied
+pub mod Ended
 pub mod Indexed
+pub mod Refused
 pub mod Removed
 pub mod Taken
 pub mod Walked

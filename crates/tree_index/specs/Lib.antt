@@ -4,3 +4,4 @@ pub mod Index
 pub mod Keys
 pub mod Nearest
 pub mod Readers
+pub mod Retained

@@ -30,13 +30,17 @@ mod cursors;
 mod equality;
 mod hash;
 mod index;
+mod into_iter;
 mod keys;
 mod nearest;
 mod order;
 mod readers;
+mod retain;
 mod seek;
+mod takes;
 
 pub use index::{SmallTreeIndex, TreeIndex, TreeIndexOf};
+pub use into_iter::{IntoIter, IntoIterOf};
 pub use keys::{Keys, KeysOf, Values, ValuesOf};
 pub use tree_array::array::{Judge, KeyJudge, Steps};
 pub use tree_cursor_model::{Answer, Move, ProximityOf};

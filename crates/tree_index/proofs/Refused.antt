@@ -1,0 +1,110 @@
+-- How the pairs that a test refuses go one by one.
+use Rattle.std.proofs.Common.{◌≡◌, ℕ, ◌+◌, ◌*◌, ◌<◌, Bool, true, false, List, [], ◌∷◌, ◌++◌, filter, length, Option, Some, None, refl, sym, ap, ◌∙◌, arith, append-nil, append_assoc}
+use Rattle.std.specs.Borrow.{Bor}
+use Rattle.std.specs.Fn.{Mut}
+use Rattle.std.specs.Cmp.{IsTotalOrder}
+use Rattle.std.specs.List.{AllByRecursion}
+use Rattle.std.specs.Ordering.{is_lt}
+use Rattle.std.specs.declared.cmp.Ordering.{Ordering}
+use Rattle.std.specs.declared.cmp.Ordering.TheVariants.{Less, Equal, Greater}
+use Rattle.std.specs.declared.ops.Bound.TheVariants.{Excluded, Unbounded}
+use Rattle.std.proofs.lemmas.Cmp.{tied_itself}
+use Rattle.std.proofs.lemmas.List.{filter-append}
+use Rattle.tree_model.specs.Pairs.{AllLarger, IsAscending, meets_lower, without}
+use Rattle.tree_model.proofs.Lists.{all_map, all-append, filter_all, filter_none}
+use Rattle.tree_model.proofs.Order.{greater_from_less}
+use Rattle.tree_node.proofs.Between.{without_between}
+use Rattle.tree_index.proofs.Walked.{all_pass}
+use Rattle.tree_index.specs.Retained.{AnswersAt, Passes, Refuses, Retains}
+
+-- the sides of a pair in an ascending list
+module _ {K V : Type 0} {cmp : K → K → Ordering} where
+  larger_at : (x : K) (front : List (K × V)) (p : K × V) (back : List (K × V)) → AllLarger cmp x (front ++ p ∷ back) → cmp x p.0 ≡ Less
+  larger_at x [] p back larger = larger.0
+  larger_at x (q ∷ front) p back larger = larger_at x front p back larger.1
+
+  pub smaller_front : (front : List (K × V)) (p : K × V) (back : List (K × V)) → IsAscending cmp (front ++ p ∷ back) → AllByRecursion (λ q. cmp q.0 p.0 ≡ Less) front
+  smaller_front [] p back ascending = tt
+  smaller_front (q ∷ front) p back ascending = (larger_at q.0 front p back ascending.0, smaller_front front p back ascending.1)
+
+  pub larger_back : (front : List (K × V)) (p : K × V) (back : List (K × V)) → IsAscending cmp (front ++ p ∷ back) → AllLarger cmp p.0 back
+  larger_back [] p back ascending = ascending.0
+  larger_back (q ∷ front) p back ascending = larger_back front p back ascending.1
+
+module _ {K V : Type 0} {cmp : K → K → Ordering} (o : IsTotalOrder cmp) where
+  -- the pairs behind a key
+  pub behind : (key : K) (front back : List (K × V)) → AllByRecursion (λ q. cmp q.0 key ≡ Less) front → AllLarger cmp key back → filter (λ pair. meets_lower cmp (Excluded key) pair.0) (front ++ back) ≡ back
+  behind key front back smaller larger =
+      rw (
+        filter-append,
+        filter_none (λ pair. is_lt (cmp key pair.0)) front (all_map (λ q h. ap is_lt (greater_from_less o q.0 key h)) front smaller),
+        filter_all (λ pair. is_lt (cmp key pair.0)) back (all_map (λ q h. ap is_lt h) back larger),
+      ) refl
+
+  -- a list without one of its pairs
+  pub without_it : (front : List (K × V)) (p : K × V) (back : List (K × V)) → IsAscending cmp (front ++ p ∷ back) → without cmp (front ++ p ∷ back) p.0 ≡ front ++ back
+  without_it front p back ascending =
+      without_between o p.0 front (p ∷ []) back (smaller_front front p back ascending) (larger_back front p back ascending) ∙ rw (tied_itself o p.0) refl
+
+-- all pairs are from an open bound on
+pub from_open : {K V : Type 0} (cmp : K → K → Ordering) (pairs : List (K × V)) → filter (λ pair. meets_lower cmp Unbounded pair.0) pairs ≡ pairs
+from_open cmp pairs = filter_all (λ pair. true) pairs (all_pass pairs)
+
+module _ {F K V : Type 0} (calls : Mut F (Bor K × (Bor V × Unit {0})) Bool) where
+  -- a test that says yes of all leaves all
+  pub retains_all : (f : F) (pairs : List (K × V)) (f' : F) → Passes calls f pairs f' → Retains calls f pairs pairs
+  retains_all f [] f' passed = refl
+  retains_all f (p ∷ pairs) f' passed = (true, (passed.0, (pairs, (passed.1, (retains_all passed.0 pairs f' passed.2, refl)))))
+
+  -- one that says no of a pair leaves those before it, and what it leaves of those behind it
+  pub retains_on : (f : F) (front : List (K × V)) (g : F) (pair : K × V) (f' : F) (back left : List (K × V)) → Passes calls f front g → AnswersAt calls g pair false f' → Retains calls f' back left
+      → Retains calls f (front ++ pair ∷ back) (front ++ left)
+  retains_on f [] g pair f' back left passed refused rest = (false, (f', (left, (rw passed refused, (rest, refl)))))
+  retains_on f (p ∷ front) g pair f' back left passed refused rest =
+      (true, (passed.0, (front ++ left, (passed.1, (retains_on passed.0 front g pair f' back left passed.2 refused rest, refl)))))
+
+  module _ {cmp : K → K → Ordering} (o : IsTotalOrder cmp) (start : F) (old : List (K × V)) where
+    -- A pair was refused. Those in front of it stay, and of those behind it the test is still to be asked.
+    pub record IsUnderWay (f : F) (key : K) (now : List (K × V)) : Type 0 where
+      pub front : List (K × V)
+      pub back : List (K × V)
+      pub parts : now ≡ front ++ back
+      pub smaller : AllByRecursion (λ q. cmp q.0 key ≡ Less) front
+      pub larger : AllLarger cmp key back
+      pub completes : (left : List (K × V)) → Retains calls f back left → Retains calls start old (front ++ left)
+
+    -- the first one
+    pub begins : (f : F) (pair : K × V) (now : List (K × V)) → IsAscending cmp old → Refuses calls start old pair f → now ≡ without cmp old pair.0 → IsUnderWay f pair.0 now
+    begins f pair now ascending r left =
+        let ascends : IsAscending cmp (r.front ++ pair ∷ r.back) = rw r.split at ascending in
+        record {
+          front = r.front;
+          back = r.back;
+          parts = left ∙ rw r.split (without_it o r.front pair r.back ascends);
+          smaller = smaller_front r.front pair r.back ascends;
+          larger = larger_back r.front pair r.back ascends;
+          completes = λ rest h. rw r.split (retains_on start r.front r.between pair f r.back rest r.passed r.refused h);
+        }
+
+    module _ (f g : F) (key : K) (now : List (K × V)) (on : IsUnderWay f key now) where
+      still_behind : filter (λ pair. meets_lower cmp (Excluded key) pair.0) now ≡ on.back
+      still_behind = rw on.parts (behind o key on.front on.back on.smaller on.larger)
+
+      -- a further one
+      pub goes_further : (pair : K × V) (new : List (K × V)) → IsAscending cmp now → Refuses calls f (filter (λ pair. meets_lower cmp (Excluded key) pair.0) now) pair g → new ≡ without cmp now pair.0 → IsUnderWay g pair.0 new
+      goes_further pair new ascending r left =
+          let split : on.back ≡ r.front ++ pair ∷ r.back = sym still_behind ∙ r.split in
+          let parts : now ≡ (on.front ++ r.front) ++ pair ∷ r.back = on.parts ∙ rw (split, append_assoc on.front r.front (pair ∷ r.back)) refl in
+          let ascends : IsAscending cmp ((on.front ++ r.front) ++ pair ∷ r.back) = rw parts at ascending in
+          record {
+            front = on.front ++ r.front;
+            back = r.back;
+            parts = left ∙ rw parts (without_it o (on.front ++ r.front) pair r.back ascends);
+            smaller = smaller_front (on.front ++ r.front) pair r.back ascends;
+            larger = larger_back (on.front ++ r.front) pair r.back ascends;
+            completes = λ rest h. rw (append_assoc on.front r.front rest) (on.completes (r.front ++ rest) (rw split (retains_on f r.front r.between pair g r.back rest r.passed r.refused h)));
+          }
+
+      -- no further one
+      pub is_done : Passes calls f (filter (λ pair. meets_lower cmp (Excluded key) pair.0) now) g → Retains calls start old now
+      is_done passed = rw on.parts (on.completes on.back (retains_all f on.back g (rw still_behind at passed)))

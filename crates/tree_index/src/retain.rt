@@ -1,0 +1,77 @@
+//! Removals of all pairs that a test refuses.
+ghost use Rattle.std.specs.Prelude.{◌≡◌, filter, MatchOption};
+ghost use Rattle.std.specs.Range.Bound.{bound_map};
+ghost use Rattle.tree_index.specs.Retained.{Passes, Refuses, Retains};
+ghost use Rattle.tree_model.specs.Pairs.{IsAscending, meets_lower, without};
+
+use crate::index::TreeIndexOf;
+use std::ops::Bound;
+use tree_array::array::IndexKey;
+
+impl<K: IndexKey, V: Drop, const LEN: usize> TreeIndexOf<K, V, LEN> {
+    /// Removes each pair of which `keep` returns `false`. Calls it once on each pair, in ascending order of the keys.
+    ///
+    /// A pair that stays costs a move of a cursor. A pair that is removed costs what
+    /// [`take_sync`](TreeIndexOf::take_sync) does, and a descent to the pair after it. Allocates nothing.
+    pub fn retain_sync<F: FnMut(&K, &V) -> bool + Drop>(&mut self, keep: F)
+        requires { F.IsAlwaysCallable keep }
+        ensures { Retains F.FnMut keep self.old.pairs self.new.pairs }
+    {
+        let (mut keep, mut refused) = self.take_refused(Bound::Unbounded, keep);
+        while let Some((key, _)) = refused {
+            let (next_keep, next) = self.take_refused(Bound::Excluded(&key), keep);
+            keep = next_keep;
+            refused = next;
+        }
+    }
+
+    /// Removes the first pair from a bound on of which `keep` returns `false`. Returns it with the test, or `None` if there
+    /// is no such pair.
+    fn take_refused<F: FnMut(&K, &V) -> bool + Drop>(
+        &mut self,
+        low: Bound<&K>,
+        keep: F,
+    ) -> (F, Option<(K, V)>)
+        requires { F.IsAlwaysCallable keep }
+        ensures callable { F.IsAlwaysCallable result.0 }
+        ensures ascending { IsAscending K.cmp self.old.pairs }
+        ensures refused { MatchOption result.1
+            (Passes F.FnMut keep (filter (λ pair. meets_lower K.cmp (bound_map (λ k. k.now) low.entry) pair.0) self.old.pairs) result.0)
+            (λ pair. Refuses F.FnMut keep (filter (λ pair. meets_lower K.cmp (bound_map (λ k. k.now) low.entry) pair.0) self.old.pairs) pair result.0) }
+        ensures left { MatchOption result.1 (self.new.pairs ≡ self.old.pairs) (λ pair. self.new.pairs ≡ without K.cmp self.old.pairs pair.0) }
+    {
+        let (keep, refused) = self.first_refused(low, keep);
+        let Some(key) = refused else {
+            return (keep, None);
+        };
+        let Some(place) = self.tree.entry_for(key) else {
+            unreachable!()
+        };
+        let pair = self.tree.take_entry(place);
+        self.len -= 1;
+        (keep, Some(pair))
+    }
+
+    /// Returns the key of the first pair from a bound on of which `keep` returns `false`, with the test.
+    fn first_refused<F: FnMut(&K, &V) -> bool + Drop>(
+        &self,
+        low: Bound<&K>,
+        keep: F,
+    ) -> (F, Option<&K>)
+        requires { F.IsAlwaysCallable keep }
+        ensures callable { F.IsAlwaysCallable result.0 }
+        ensures ascending { IsAscending K.cmp self.now.pairs }
+        ensures refused { MatchOption result.1
+            (Passes F.FnMut keep (filter (λ pair. meets_lower K.cmp (bound_map (λ k. k.now) low.entry) pair.0) self.now.pairs) result.0)
+            (λ key. (value : V) × Refuses F.FnMut keep (filter (λ pair. meets_lower K.cmp (bound_map (λ k. k.now) low.entry) pair.0) self.now.pairs) (key.now, value) result.0) }
+    {
+        let mut keep = keep;
+        let mut pairs = self.range((low, Bound::Unbounded));
+        while let Some((key, value)) = pairs.next() {
+            if !keep(key, value) {
+                return (keep, Some(key));
+            }
+        }
+        (keep, None)
+    }
+}
