@@ -36,7 +36,7 @@ pub type SmallTreeIndex<K, V> = TreeIndexOf<K, V, 7>;
 /// Costs are in terms of the depth. An array is searched with at most 4 comparisons among 15 slots, and 3 among 7.
 pub struct TreeIndexOf<K: IndexKey, V: Drop, const LEN: usize> {
     pub(crate) tree: Tree<K, V, LEN>,
-    len: u128,
+    pub(crate) len: u128,
 }
 
 // Written out for the reason that the drop of `Tree` in `tree_root` is.

@@ -53,11 +53,11 @@ impl<K: IndexKey, V: Drop, const LEN: usize> TreeIndexOf<K, V, LEN> {
     }
 
     /// Returns the key of the first pair from a bound on of which `keep` returns `false`, with the test.
-    fn first_refused<F: FnMut(&K, &V) -> bool + Drop>(
-        &self,
-        low: Bound<&K>,
+    fn first_refused<'t, F: FnMut(&K, &V) -> bool + Drop>(
+        &'t self,
+        low: Bound<&'t K>,
         keep: F,
-    ) -> (F, Option<&K>)
+    ) -> (F, Option<&'t K>)
         requires { F.IsAlwaysCallable keep }
         ensures callable { F.IsAlwaysCallable result.0 }
         ensures ascending { IsAscending K.cmp self.now.pairs }

@@ -1,5 +1,5 @@
 -- What a removal from a tree comes to.
-use Rattle.std.proofs.Common.{◌≡◌, ◌⊎◌, ℕ, zero, suc, ◌<◌, ◌≤◌, Bool, true, false, [], Some, None, inl, inr, refl, sym, ap, ◌∙◌, arith}
+use Rattle.std.proofs.Common.{◌≡◌, ◌⊎◌, ℕ, zero, suc, ◌<◌, ◌≤◌, Bool, true, false, [], Option, Some, None, inl, inr, refl, sym, ap, ◌∙◌, arith}
 use Rattle.std.specs.declared.cmp.Ordering.{Ordering}
 use Rattle.slab.specs.Slab.{get}
 use Rattle.tree_array.specs.declared.answers.RemoveResult.{RemoveResult}
@@ -13,14 +13,15 @@ use Rattle.tree_remove.specs.Removes.{RemovesUnder, TakesOut, removal_told}
 use Rattle.tree_remove.specs.Takes.{IsEntry, stored_at}
 use Rattle.tree_node.specs.Shape.{spare}
 use Rattle.tree_node.specs.Tree.{IsRetired, Stands, leaves_at, walk}
-use Rattle.tree_node.specs.Whole.{IsRetiredRoot, IsTree, spare_under}
+use Rattle.tree_node.specs.Whole.{IsRetiredRoot, IsTree, spare_under, walk_under}
 use Rattle.tree_node.proofs.Steps.{part_after}
 use Rattle.tree_node.proofs.Whole.{chain_after, leaves_after, nodes_after, spare_standing, spare_unchanged, tree_after, tree_part, tree_unchanged, walk_unchanged}
 use Rattle.tree_node.proofs.Standing.{no_children}
 use Rattle.tree_split.proofs.Tests.{packed_unchanged}
 use Rattle.tree_remove.proofs.LoweredTrees.{spare_lowered, tree_lowered}
 use Rattle.tree_root.specs.declared.tree.Tree.{Tree}
-use Rattle.tree_root.specs.Trees.{IsWhole, Takes}
+use Rattle.tree_root.specs.Trees.{IsStored, IsStoredUnder, IsWhole, Takes, pairs_of}
+use Rattle.tree_remove.specs.declared.entries.EntryPlace.{EntryPlace}
 
 -- the root of a part has the kind of its level
 pub root_level : {K V : Type 0} {LEN : ℕ} {cmp : K → K → Ordering} {a : TreeArenas K V LEN} {id : ℕ} (level : ℕ) → IsPart cmp level a id → IsOfLevel level (get a.nodes id)
@@ -139,3 +140,11 @@ module _ {K V : Type 0} {LEN : ℕ} {cmp : K → K → Ordering} (level : ℕ) (
 
   pub found_again : pair_at cmp (walk level a id) taken.0 ≡ Some taken
   found_again = rw same_stored entry.found
+
+-- a pair that is stored is found at its key
+pub stored_found : {K V : Type 0} {LEN : ℕ} (cmp : K → K → Ordering) (tree : Tree K V LEN) (place : EntryPlace) (pair : K × V) → IsStored cmp tree place pair → pair_at cmp (pairs_of tree) pair.0 ≡ Some pair
+stored_found cmp tree place pair stored = by_root tree.root stored
+  where
+    by_root : (root : Option (ℕ × ℕ)) → IsStoredUnder cmp tree.arenas root place pair → pair_at cmp (walk_under tree.arenas root) pair.0 ≡ Some pair
+    by_root None stored = absurd stored
+    by_root (Some root) stored = stored.found
