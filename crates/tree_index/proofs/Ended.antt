@@ -98,11 +98,11 @@ module _ {K V : Type 0} {cmp : K → K → Ordering} (o : IsTotalOrder cmp) wher
         let front : new ≡ split.0 = left ∙ ap (λ (l : List (K × V)). without cmp l taken.0) split.1 ∙ without_last split.0 taken (rw split.1 at ascending) in
         split.1 ∙ ap (λ (front : List (K × V)). front ++ taken ∷ []) (sym front)
 
-  -- the place of a pair that is first or last
-  pub end_is_stored : {LEN : ℕ} (tree : Tree K V LEN) (result : Option EntryPlace) (end : K × V) (which : Option (K × V)) → which ≡ Some end → pair_at cmp (pairs_of tree) end.0 ≡ Some end
-      → MatchOption result (IsAbsent cmp (pairs_of tree) end.0) (λ place. (pair : K × V) × (cmp pair.0 end.0 ≡ Equal) × IsStored cmp tree place pair)
-      → MatchOption result (pairs_of tree ≡ []) (λ place. (pair : K × V) × (which ≡ Some pair) × IsStored cmp tree place pair)
-  end_is_stored tree None end which is there absent = absurd (let clash : None ≡ Some end = sym absent ∙ there in cc)
-  end_is_stored tree (Some place) end which is there found =
-      let same : found.0 ≡ end = found_alike (pairs_of tree) found.0 end found.1 (stored_found cmp tree place found.0 found.2) there in
-      (found.0, rw same is, found.2)
+  -- the place of a pair of which B holds
+  pub stored_where : {LEN : ℕ} (tree : Tree K V LEN) (result : Option EntryPlace) (pair : K × V) (A : Type 0) (B : K × V → Type 0) → B pair → pair_at cmp (pairs_of tree) pair.0 ≡ Some pair
+      → MatchOption result (IsAbsent cmp (pairs_of tree) pair.0) (λ place. (found : K × V) × (cmp found.0 pair.0 ≡ Equal) × IsStored cmp tree place found)
+      → MatchOption result A (λ place. (found : K × V) × B found × IsStored cmp tree place found)
+  stored_where tree None pair A B holds there absent = absurd (let clash : None ≡ Some pair = sym absent ∙ there in cc)
+  stored_where tree (Some place) pair A B holds there found =
+      let same : found.0 ≡ pair = found_alike (pairs_of tree) found.0 pair found.1 (stored_found cmp tree place found.0 found.2) there in
+      (found.0, rw same holds, found.2)

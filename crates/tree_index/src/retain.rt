@@ -1,12 +1,17 @@
 //! Removals of all pairs that a test refuses.
 ghost use Rattle.std.specs.Prelude.{◌≡◌, filter, MatchOption};
 ghost use Rattle.std.specs.Range.Bound.{bound_map};
+ghost use Rattle.std.specs.declared.ops.Bound.TheVariants.{Unbounded};
 ghost use Rattle.tree_index.specs.Retained.{Passes, Refuses, Retains};
-ghost use Rattle.tree_model.specs.Pairs.{IsAscending, meets_lower, without};
+ghost use Rattle.tree_model.specs.Pairs.{IsAscending, within, without};
+ghost use Rattle.tree_root.specs.Trees.{IsStored, IsWhole, pairs_of};
 
 use crate::index::TreeIndexOf;
 use std::ops::Bound;
 use tree_array::array::IndexKey;
+use tree_ranges::range::RangeOver;
+use tree_remove::entries::EntryPlace;
+use tree_root::Tree;
 
 impl<K: IndexKey, V: Drop, const LEN: usize> TreeIndexOf<K, V, LEN> {
     /// Removes each pair of which `keep` returns `false`. Calls it once on each pair, in ascending order of the keys.
@@ -36,42 +41,39 @@ impl<K: IndexKey, V: Drop, const LEN: usize> TreeIndexOf<K, V, LEN> {
         ensures callable { F.IsAlwaysCallable result.0 }
         ensures ascending { IsAscending K.cmp self.old.pairs }
         ensures refused { MatchOption result.1
-            (Passes F.FnMut keep (filter (λ pair. meets_lower K.cmp (bound_map (λ k. k.now) low.entry) pair.0) self.old.pairs) result.0)
-            (λ pair. Refuses F.FnMut keep (filter (λ pair. meets_lower K.cmp (bound_map (λ k. k.now) low.entry) pair.0) self.old.pairs) pair result.0) }
+            (Passes F.FnMut keep (filter (λ pair. within K.cmp (bound_map (λ k. k.now) low.entry) Unbounded pair.0) self.old.pairs) result.0)
+            (λ pair. Refuses F.FnMut keep (filter (λ pair. within K.cmp (bound_map (λ k. k.now) low.entry) Unbounded pair.0) self.old.pairs) pair result.0) }
         ensures left { MatchOption result.1 (self.new.pairs ≡ self.old.pairs) (λ pair. self.new.pairs ≡ without K.cmp self.old.pairs pair.0) }
     {
-        let (keep, refused) = self.first_refused(low, keep);
-        let Some(key) = refused else {
+        let (keep, place) = refused_place(&self.tree, low, keep);
+        let Some(place) = place else {
             return (keep, None);
-        };
-        let Some(place) = self.tree.entry_for(key) else {
-            unreachable!()
         };
         let pair = self.tree.take_entry(place);
         self.len -= 1;
         (keep, Some(pair))
     }
+}
 
-    /// Returns the key of the first pair from a bound on of which `keep` returns `false`, with the test.
-    fn first_refused<'t, F: FnMut(&K, &V) -> bool + Drop>(
-        &'t self,
-        low: Bound<&'t K>,
-        keep: F,
-    ) -> (F, Option<&'t K>)
-        requires { F.IsAlwaysCallable keep }
-        ensures callable { F.IsAlwaysCallable result.0 }
-        ensures ascending { IsAscending K.cmp self.now.pairs }
-        ensures refused { MatchOption result.1
-            (Passes F.FnMut keep (filter (λ pair. meets_lower K.cmp (bound_map (λ k. k.now) low.entry) pair.0) self.now.pairs) result.0)
-            (λ key. (value : V) × Refuses F.FnMut keep (filter (λ pair. meets_lower K.cmp (bound_map (λ k. k.now) low.entry) pair.0) self.now.pairs) (key.now, value) result.0) }
-    {
-        let mut keep = keep;
-        let mut pairs = self.range((low, Bound::Unbounded));
-        while let Some((key, value)) = pairs.next() {
-            if !keep(key, value) {
-                return (keep, Some(key));
-            }
+/// Returns where the first pair from a bound on is stored of which `keep` returns `false`, with the test.
+fn refused_place<'t, K: IndexKey, V: Drop, F: FnMut(&K, &V) -> bool + Drop, const LEN: usize>(
+    tree: &'t Tree<K, V, LEN>,
+    low: Bound<&'t K>,
+    keep: F,
+) -> (F, Option<EntryPlace>)
+    requires whole { IsWhole K.cmp tree.now }
+    requires callable { F.IsAlwaysCallable keep }
+    ensures callable { F.IsAlwaysCallable result.0 }
+    ensures refused { MatchOption result.1
+        (Passes F.FnMut keep (filter (λ pair. within K.cmp (bound_map (λ k. k.now) low.entry) Unbounded pair.0) (pairs_of tree.now)) result.0)
+        (λ place. (pair : K × V) × Refuses F.FnMut keep (filter (λ pair. within K.cmp (bound_map (λ k. k.now) low.entry) Unbounded pair.0) (pairs_of tree.now)) pair result.0 × IsStored K.cmp tree.now place pair) }
+{
+    let mut keep = keep;
+    let mut pairs = RangeOver::new(&tree.arenas, tree.root, (low, Bound::Unbounded));
+    while let Some((key, value)) = pairs.next() {
+        if !keep(key, value) {
+            return (keep, tree.entry_for(key));
         }
-        (keep, None)
     }
+    (keep, None)
 }

@@ -1,9 +1,9 @@
-use Rattle.std.proofs.Common.{◌≡◌, Some, sym}
+use Rattle.std.proofs.Common.{◌≡◌, [], Some, sym}
 use Rattle.tree_chain.specs.Walks.{last_of}
 use Rattle.tree_node.proofs.Sizes.{fits}
 use Rattle.tree_root.specs.Trees.{pairs_of}
 use Rattle.tree_index.proofs.Beside.{begins_back}
-use Rattle.tree_index.proofs.Ended.{end_is_stored, last_found, none_last_of}
+use Rattle.tree_index.proofs.Ended.{stored_where, last_found, none_last_of}
 use Rattle.tree_index.proofs.Indexed.{pairs_ascend}
 use Rattle.tree_index.proofs.takes.last_place.Goals as goal
 
@@ -23,4 +23,4 @@ returns-in_err-key g c =
 pub returns : goal.returns
 returns g c =
     let is : last_of (pairs_of c.args.tree.now) ≡ Some (c.in_ok-key.key.now, c.in_ok-key.field-0-1.now) = sym (rw (c.in_ok-key.ensures.steps.moves, c.new.ensures, begins_back g.K.Ord.cmp _) at c.in_ok-key.ensures.steps.answers) in
-    end_is_stored g.met.K.Ord.total c.args.tree.now c.entry_for.result (c.in_ok-key.key.now, c.in_ok-key.field-0-1.now) (last_of (pairs_of c.args.tree.now)) is (last_found g.met.K.Ord.total (pairs_of c.args.tree.now) _ (pairs_ascend g.met.K.Ord.total c.args.tree.now c.requires) is) c.entry_for.ensures
+    stored_where g.met.K.Ord.total c.args.tree.now c.entry_for.result (c.in_ok-key.key.now, c.in_ok-key.field-0-1.now) (pairs_of c.args.tree.now ≡ []) (λ pair. last_of (pairs_of c.args.tree.now) ≡ Some pair) is (last_found g.met.K.Ord.total (pairs_of c.args.tree.now) _ (pairs_ascend g.met.K.Ord.total c.args.tree.now c.requires) is) c.entry_for.ensures
