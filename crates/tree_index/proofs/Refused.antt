@@ -14,6 +14,7 @@ use Rattle.std.proofs.lemmas.Cmp.{tied_itself}
 use Rattle.std.proofs.lemmas.List.Elements.{filter-append}
 use Rattle.tree_model.specs.Pairs.{AllLarger, IsAscending, pair_at, within, without}
 use Rattle.tree_model.proofs.Lists.{all_map, all_passed, filter_all, filter_none, find_kept}
+use Rattle.tree_model.proofs.Lengths.{without_present}
 use Rattle.tree_model.proofs.Ascending.{IsAscending-filter}
 use Rattle.tree_model.proofs.LookUps.{found_first, same_within}
 use Rattle.tree_model.proofs.Order.{greater_from_less}
@@ -23,7 +24,7 @@ use Rattle.tree_cursor_model.specs.Cursor.{Cursor, fresh}
 use Rattle.tree_cursor_model.specs.Rest.{rest}
 use Rattle.tree_ranges.proofs.Yields.{rest_fresh}
 use Rattle.tree_index.proofs.Walked.{all_pass}
-use Rattle.tree_index.specs.Retained.{AnswersAt, Passes, Refuses, Retains}
+use Rattle.tree_index.specs.Retained.{AnswersAt, Passes, Refuses, Retains, low_behind}
 
 -- the sides of a pair in an ascending list
 module _ {K V : Type 0} (cmp : K → K → Ordering) where
@@ -120,7 +121,7 @@ module _ {F K V : Type 0} (calls : Mut F (Bor K × (Bor V × Unit {0})) Bool) wh
   retains_on f (p ∷ front) g pair f' back left passed refused rest =
       (true, passed.0, front ++ left, passed.1, retains_on passed.0 front g pair f' back left passed.2 refused rest, refl)
 
-  module _ {cmp : K → K → Ordering} (o : IsTotalOrder cmp) (start : F) (old : List (K × V)) where
+  module _ (cmp : K → K → Ordering) (start : F) (old : List (K × V)) where
     -- A pair was refused. Those in front of it stay, and of those behind it the test is still to be asked.
     pub record IsUnderWay (f : F) (key : K) (now : List (K × V)) : Type 0 where
       pub front : List (K × V)
@@ -130,8 +131,14 @@ module _ {F K V : Type 0} (calls : Mut F (Bor K × (Bor V × Unit {0})) Bool) wh
       pub larger : AllLarger cmp key back
       pub completes : (left : List (K × V)) → Retains calls f back left → Retains calls start old (front ++ left)
 
+    -- before the first one, or behind one that is gone
+    abbrev pub IsAsked : Option (K × V) → F → List (K × V) → Type 0
+    IsAsked None f now = (f ≡ start) × (now ≡ old)
+    IsAsked (Some gone) f now = IsUnderWay f gone.0 now
+
+  module _ {cmp : K → K → Ordering} (o : IsTotalOrder cmp) (start : F) (old : List (K × V)) where
     -- the first one
-    pub begins : (f : F) (pair : K × V) (now : List (K × V)) → IsAscending cmp old → Refuses calls start old pair f → now ≡ without cmp old pair.0 → IsUnderWay f pair.0 now
+    pub begins : (f : F) (pair : K × V) (now : List (K × V)) → IsAscending cmp old → Refuses calls start old pair f → now ≡ without cmp old pair.0 → IsUnderWay cmp start old f pair.0 now
     begins f pair now ascending r left =
         let ascends : IsAscending cmp (r.front ++ pair ∷ r.back) = rw r.split at ascending in
         record {
@@ -143,12 +150,12 @@ module _ {F K V : Type 0} (calls : Mut F (Bor K × (Bor V × Unit {0})) Bool) wh
           completes = λ rest h. rw r.split (retains_on start r.front r.between pair f r.back rest r.passed r.refused h);
         }
 
-    module _ (f g : F) (key : K) (now : List (K × V)) (on : IsUnderWay f key now) where
+    module _ (f g : F) (key : K) (now : List (K × V)) (on : IsUnderWay cmp start old f key now) where
       still_behind : filter (λ pair. within cmp (Excluded key) Unbounded pair.0) now ≡ on.back
       still_behind = rw on.parts (behind o key on.front on.back on.smaller on.larger)
 
       -- a further one
-      pub goes_further : (pair : K × V) (new : List (K × V)) → IsAscending cmp now → Refuses calls f (filter (λ pair. within cmp (Excluded key) Unbounded pair.0) now) pair g → new ≡ without cmp now pair.0 → IsUnderWay g pair.0 new
+      pub goes_further : (pair : K × V) (new : List (K × V)) → IsAscending cmp now → Refuses calls f (filter (λ pair. within cmp (Excluded key) Unbounded pair.0) now) pair g → new ≡ without cmp now pair.0 → IsUnderWay cmp start old g pair.0 new
       goes_further pair new ascending r left =
           let split : on.back ≡ r.front ++ pair ∷ r.back = sym still_behind ∙ r.split in
           let parts : now ≡ (on.front ++ r.front) ++ pair ∷ r.back = on.parts ∙ rw (split, append_assoc on.front r.front (pair ∷ r.back)) refl in
@@ -165,3 +172,20 @@ module _ {F K V : Type 0} (calls : Mut F (Bor K × (Bor V × Unit {0})) Bool) wh
       -- no further one
       pub is_done : Passes calls f (filter (λ pair. within cmp (Excluded key) Unbounded pair.0) now) g → Retains calls start old now
       is_done passed = rw on.parts (on.completes on.back (retains_all f on.back g (rw still_behind at passed)))
+
+    module _ (f g : F) (now : List (K × V)) where
+      pub asks_on : (gone : Option (K × V)) → IsAsked cmp start old gone f now → (pair : K × V) (new : List (K × V)) → IsAscending cmp now → Refuses calls f (filter (λ pair. within cmp (low_behind gone) Unbounded pair.0) now) pair g → new ≡ without cmp now pair.0
+          → IsAsked cmp start old (Some pair) g new
+      asks_on None asked pair new ascending r left =
+          begins g pair new (rw asked.1 at ascending) (rw (asked.0, asked.1, from_open cmp old) at r) (left ∙ ap (λ (l : List (K × V)). without cmp l pair.0) asked.1)
+      asks_on (Some gone) on pair new ascending r left = goes_further f g gone.0 now on pair new ascending r left
+
+      pub asks_no_more : (gone : Option (K × V)) → IsAsked cmp start old gone f now → Passes calls f (filter (λ pair. within cmp (low_behind gone) Unbounded pair.0) now) g → Retains calls start old now
+      asks_no_more None asked passed = rw asked.1 (retains_all start old g (rw (asked.0, asked.1, from_open cmp old) at passed))
+      asks_no_more (Some gone) on passed = is_done f g gone.0 now on passed
+
+    -- each one makes the list shorter
+    pub one_fewer : (f g : F) (low : Bound K) (now new : List (K × V)) (pair : K × V) → IsAscending cmp now → Refuses calls f (filter (λ pair. within cmp low Unbounded pair.0) now) pair g → new ≡ without cmp now pair.0 → length new < length now
+    one_fewer f g low now new pair ascending r left =
+        let present = found_within o low now r.front pair r.back ascending r.split in
+        omega (arith, ap length left, without_present o now pair.0 ascending (rw present refl))

@@ -1,8 +1,15 @@
 -- What is left of a list of pairs of which a test was asked. A test is a closure, which each call may change.
-use Rattle.std.specs.Prelude.{◌≡◌, Bool, true, false, List, [], ◌∷◌, ◌++◌, if◌then◌else◌}
+use Rattle.std.specs.Prelude.{◌≡◌, Bool, true, false, List, [], ◌∷◌, ◌++◌, if◌then◌else◌, Option, None, Some}
 use Rattle.std.specs.Borrow.{Bor}
+use Rattle.std.specs.declared.ops.Bound.{Bound}
+use Rattle.std.specs.declared.ops.Bound.TheVariants.{Excluded, Unbounded}
 use Rattle.std.specs.Fn.{Called, Mut}
 use Rattle.std.specs.List.{FoldsTo}
+
+-- the bound behind a pair, if there is one
+abbrev pub low_behind : {K V : Type 0} → Option (K × V) → Bound K
+low_behind None = Unbounded
+low_behind (Some pair) = Excluded pair.0
 
 module _ {F K V : Type 0} (calls : Mut F (Bor K × (Bor V × Unit {0})) Bool) where
   -- a call of the test at the pair may return this, and leave f'

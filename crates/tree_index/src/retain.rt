@@ -2,7 +2,7 @@
 ghost use Rattle.std.specs.Prelude.{◌≡◌, filter, MatchOption};
 ghost use Rattle.std.specs.Range.Bound.{bound_map};
 ghost use Rattle.std.specs.declared.ops.Bound.TheVariants.{Unbounded};
-ghost use Rattle.tree_index.specs.Retained.{Passes, Refuses, Retains};
+ghost use Rattle.tree_index.specs.Retained.{Passes, Refuses, Retains, low_behind};
 ghost use Rattle.tree_model.specs.Pairs.{IsAscending, within, without};
 ghost use Rattle.tree_root.specs.Trees.{IsStored, IsWhole, pairs_of};
 
@@ -22,36 +22,50 @@ impl<K: IndexKey, V: Drop, const LEN: usize> TreeIndexOf<K, V, LEN> {
         requires { F.IsAlwaysCallable keep }
         ensures { Retains F.FnMut keep self.old.pairs self.new.pairs }
     {
-        let (mut keep, mut refused) = self.take_refused(Bound::Unbounded, keep);
-        while let Some((key, _)) = refused {
-            let (next_keep, next) = self.take_refused(Bound::Excluded(&key), keep);
-            keep = next_keep;
-            refused = next;
+        let mut keep = keep;
+        let mut gone = None;
+        loop {
+            let (next, refused) = self.take_refused(&gone, keep);
+            let Some(pair) = refused else {
+                return;
+            };
+            keep = next;
+            gone = Some(pair);
         }
     }
 
-    /// Removes the first pair from a bound on of which `keep` returns `false`. Returns it with the test, or `None` if there
-    /// is no such pair.
+    /// Removes the first pair behind one that is gone, or the first of all, of which `keep` returns `false`. Returns it with
+    /// the test, or `None` if there is no such pair.
     fn take_refused<F: FnMut(&K, &V) -> bool + Drop>(
         &mut self,
-        low: Bound<&K>,
+        gone: &Option<(K, V)>,
         keep: F,
     ) -> (F, Option<(K, V)>)
         requires { F.IsAlwaysCallable keep }
         ensures callable { F.IsAlwaysCallable result.0 }
         ensures ascending { IsAscending K.cmp self.old.pairs }
         ensures refused { MatchOption result.1
-            (Passes F.FnMut keep (filter (λ pair. within K.cmp (bound_map (λ k. k.now) low.entry) Unbounded pair.0) self.old.pairs) result.0)
-            (λ pair. Refuses F.FnMut keep (filter (λ pair. within K.cmp (bound_map (λ k. k.now) low.entry) Unbounded pair.0) self.old.pairs) pair result.0) }
+            (Passes F.FnMut keep (filter (λ pair. within K.cmp (low_behind gone.now) Unbounded pair.0) self.old.pairs) result.0)
+            (λ pair. Refuses F.FnMut keep (filter (λ pair. within K.cmp (low_behind gone.now) Unbounded pair.0) self.old.pairs) pair result.0) }
         ensures left { MatchOption result.1 (self.new.pairs ≡ self.old.pairs) (λ pair. self.new.pairs ≡ without K.cmp self.old.pairs pair.0) }
     {
-        let (keep, place) = refused_place(&self.tree, low, keep);
+        let (keep, place) = refused_place(&self.tree, bound_behind(gone), keep);
         let Some(place) = place else {
             return (keep, None);
         };
         let pair = self.tree.take_entry(place);
         self.len -= 1;
         (keep, Some(pair))
+    }
+}
+
+/// Returns the bound behind a pair, which is open if there is none.
+fn bound_behind<K, V>(gone: &Option<(K, V)>) -> Bound<&K>
+    ensures { bound_map (λ k. k.now) result ≡ low_behind gone.now }
+{
+    match gone {
+        Some((key, _)) => Bound::Excluded(key),
+        None => Bound::Unbounded,
     }
 }
 
