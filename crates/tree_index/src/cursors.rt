@@ -21,10 +21,10 @@ impl<K: IndexKey, V: Drop, const LEN: usize> TreeIndexOf<K, V, LEN> {
     /// nothing.
     ///
     /// ```
-    /// let mut iter = index.iter();
-    /// iter.next();
-    /// let begun = "Iter { forward: Some((1, 10)), backward: None }";
-    /// expect_text(rt, alloc, &iter, begun)?;
+    /// let mut left = asks.iter();
+    /// left.next()?;
+    /// let (price, _) = left.next()?;
+    /// Some(*price)
     /// ```
     pub fn iter(&self) -> IterOf<'_, K, V, LEN>
         ensures { result ≡ fresh self.now.pairs Unbounded Unbounded }

@@ -16,7 +16,7 @@ mod samples;
 mod stock;
 mod walks;
 
-pub use book::{ask_from, best_ask, best_bid, cancel};
+pub use book::{ask_from, best_ask, best_bid, cancel, second_ask};
 pub use guests::{invitation, invite, next_to_ask};
 pub use holders::{if_wanted, parts_of_market};
 pub use keys::Price;
