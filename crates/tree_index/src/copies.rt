@@ -18,6 +18,17 @@ impl<K: IndexKey, V: Drop + Clone, const LEN: usize> TreeIndexOf<K, V, LEN> {
     /// Returns `Err` if an allocation is refused, one of a clone among them; nothing of the copy is left then. Inserts
     /// the clones in ascending order, so that each is compared with the last separator of each node on its way and the
     /// last key of the last leaf alone.
+    ///
+    /// ```
+    /// pub fn snapshot(
+    ///     samples: &TreeIndex<u64, u64>,
+    ///     alloc: Global,
+    /// ) -> Result<TreeIndex<u64, u64>, AllocError>
+    ///     ensures { IfOk result (λ copy. copy.pairs ≡ samples.now.pairs) }
+    /// {
+    ///     samples.try_clone(alloc)
+    /// }
+    /// ```
     pub fn try_clone(&self, alloc: Global) -> Result<Self, AllocError>
         ensures { IfOk result (λ copy. AllZip (IsPairClone K.is_clone V.is_clone) self.now.pairs copy.pairs) }
     {

@@ -12,6 +12,11 @@ impl<K: IndexKey, const LEN: usize> TreeSetOf<K, LEN> {
     /// Returns `Err` if an allocation is refused, one of a clone among them. Nothing of the copy is left then. Inserts
     /// the clones in ascending order, so that each is compared with the last separator of each node on its way and the
     /// last element of the last leaf alone.
+    ///
+    /// ```
+    /// let mut second = first.try_clone(alloc)?;
+    /// assert!(rt; *first == second);
+    /// ```
     pub fn try_clone(&self, alloc: Global) -> Result<Self, AllocError>
         ensures { IfOk result (λ copy. AllZip K.is_clone self.now copy) }
     {

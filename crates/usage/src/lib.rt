@@ -7,19 +7,23 @@ ghost use Rattle.std.specs.Ordering.{nat_cmp};
 ghost use Rattle.tree_model.specs.Pairs.{pair_at};
 
 mod book;
+mod guests;
 mod holders;
 mod keys;
 mod records;
 mod registry;
 mod samples;
+mod stock;
 mod walks;
 
-pub use book::{ask_from, best_ask, best_bid, cancel};
+pub use book::{ask_from, best_ask, best_bid, cancel, second_ask};
+pub use guests::{invitation, invite, next_to_ask};
 pub use holders::{if_wanted, parts_of_market};
 pub use keys::Price;
 pub use records::{Refusal, close, deposit};
 pub use registry::{Registry, names_registered, register, register_both};
-pub use samples::{forget_before, snapshot, store_spare};
+pub use samples::{forget_before, snapshot, store_if_spare, store_spare};
+pub use stock::{article_up_to, first_article, is_sold, pieces, sell_out, withdraw};
 use tree_index::{InsertError, Judge, TreeIndex};
 use tree_model::laws::edits_are_found;
 pub use walks::{ends_within, highest_price, price_at_or_below};
