@@ -2,6 +2,9 @@ pub mod Beside
 pub mod Compared
 pub mod Copied
 pub mod Indexed
+pub mod Present
+pub mod Puts
 pub mod Removed
+pub mod Sorted
 pub mod Taken
 pub mod Walked

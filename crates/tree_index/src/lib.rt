@@ -25,6 +25,7 @@
 //! Both stand whole in the crate `usage`, where they are proved.
 #![tactic(auto)]
 
+mod collects;
 mod copies;
 mod cursors;
 mod equality;
@@ -33,9 +34,11 @@ mod index;
 mod keys;
 mod nearest;
 mod order;
+mod peek_or_insert;
 mod readers;
 mod seek;
 
+pub use collects::FromSortedError;
 pub use index::{SmallTreeIndex, TreeIndex, TreeIndexOf};
 pub use keys::{Keys, KeysOf, Values, ValuesOf};
 pub use tree_array::array::{Judge, KeyJudge, Steps};
