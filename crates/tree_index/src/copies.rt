@@ -64,3 +64,12 @@ impl<K: IndexKey, V: Drop + Clone, const LEN: usize> TreeIndexOf<K, V, LEN> {
         }
     }
 }
+
+/// Does what [`try_clone`](TreeIndexOf::try_clone) does, with the allocator of the index.
+impl<K: IndexKey, V: Drop + Clone, const LEN: usize> Clone for TreeIndexOf<K, V, LEN> {
+    ghost is_clone = { λ index copy. AllZip (IsPairClone K.is_clone V.is_clone) index.pairs copy.pairs };
+
+    fn clone(&self) -> Result<Self, AllocError> {
+        self.try_clone(self.alloc)
+    }
+}

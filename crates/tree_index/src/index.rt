@@ -37,12 +37,18 @@ pub type SmallTreeIndex<K, V> = TreeIndexOf<K, V, 7>;
 pub struct TreeIndexOf<K: IndexKey, V: Drop, const LEN: usize> {
     pub(crate) tree: Tree<K, V, LEN>,
     pub(crate) len: u128,
+    /// What the tree allocates with, for clones. It takes no bytes.
+    pub(crate) alloc: Global,
 }
 
 // Written out for the reason that the drop of `Tree` in `tree_root` is.
 impl<K: IndexKey, V: Drop, const LEN: usize> Drop for TreeIndexOf<K, V, LEN> {
     fn drop(self) {
-        let TreeIndexOf { tree, len: _ } = self;
+        let TreeIndexOf {
+            tree,
+            len: _,
+            alloc: _,
+        } = self;
         drop(tree);
     }
 }
@@ -79,6 +85,7 @@ impl<K: IndexKey, V: Drop, const LEN: usize> TreeIndexOf<K, V, LEN> {
         TreeIndexOf {
             tree: Tree::new(alloc),
             len: 0,
+            alloc,
         }
     }
 

@@ -26,6 +26,7 @@
 //! Both stand whole in the crate `usage`, where they are proved.
 #![tactic(auto)]
 
+mod collects;
 mod copies;
 mod cursors;
 mod equality;
@@ -35,11 +36,13 @@ mod into_iter;
 mod keys;
 mod nearest;
 mod order;
+mod peek_or_insert;
 mod readers;
 mod retain;
 mod seek;
 mod takes;
 
+pub use collects::FromSortedError;
 pub use index::{SmallTreeIndex, TreeIndex, TreeIndexOf};
 pub use into_iter::{IntoIter, IntoIterOf};
 pub use keys::{Keys, KeysOf, Values, ValuesOf};
