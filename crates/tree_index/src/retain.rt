@@ -18,6 +18,10 @@ impl<K: IndexKey, V: Drop, const LEN: usize> TreeIndexOf<K, V, LEN> {
     ///
     /// A pair that stays costs a move of a cursor. A pair that is removed costs what
     /// [`take_sync`](TreeIndexOf::take_sync) does, and a descent to the pair after it. Allocates nothing.
+    ///
+    /// ```
+    /// offers.retain_sync(|_, quantity| *quantity > 0);
+    /// ```
     pub fn retain_sync<F: FnMut(&K, &V) -> bool + Drop>(&mut self, keep: F)
         requires { F.IsAlwaysCallable keep }
         ensures { Retains F.FnMut keep self.old.pairs self.new.pairs }

@@ -53,6 +53,10 @@ impl<K: IndexKey, V: Drop, const LEN: usize> TreeIndexOf<K, V, LEN> {
 
     /// Removes the pair with the largest key and returns it, or `None` if there is no pair. Costs what
     /// [`pop_first`](TreeIndexOf::pop_first) does.
+    ///
+    /// ```
+    /// bids.pop_last()
+    /// ```
     pub fn pop_last(&mut self) -> Option<(K, V)>
         ensures pairs { TakesLast (λ pair. pair) self.old.pairs result self.new.pairs }
         ensures spare { KeepsSpare self.old self.new }

@@ -5,8 +5,7 @@ ghost use Rattle.std.specs.Ordering.{nat_cmp};
 ghost use Rattle.tree_chain.specs.Walks.{first_of, last_of};
 ghost use Rattle.tree_cursor_model.specs.Rest.{lent};
 ghost use Rattle.tree_index.specs.Nearest.{at_or_above};
-ghost use Rattle.std.specs.Map.Iter.{TakesFirst};
-ghost use Rattle.tree_model.specs.Pairs.{cut, pair_at, without};
+ghost use Rattle.tree_model.specs.Pairs.{cut};
 
 use std::ops::Bound;
 use tree_index::TreeIndex;
@@ -49,20 +48,4 @@ pub fn cancel(offers: &mut TreeIndex<u64, u64>, low: u64, high: u64)
     ensures { offers.new.pairs ≡ cut nat_cmp offers.old.pairs (Bound.Included low) (Bound.Included high) }
 {
     offers.remove_range_sync((Bound::Included(&low), Bound::Included(&high)));
-}
-
-/// Fills the lowest ask: removes it and returns its price and quantity, or `None` if there is no ask.
-pub fn fill(asks: &mut TreeIndex<u64, u64>) -> Option<(u64, u64)>
-    ensures { TakesFirst (λ ask. ask) asks.old.pairs result asks.new.pairs }
-{
-    asks.pop_first()
-}
-
-/// Takes back the offer at a price, and returns its quantity, or `None` if there is none.
-pub fn take_back(offers: &mut TreeIndex<u64, u64>, price: u64) -> Option<u64>
-    ensures quantity { result ≡ option_map (λ offer. offer.1) (pair_at nat_cmp offers.old.pairs price) }
-    ensures left { offers.new.pairs ≡ without nat_cmp offers.old.pairs price }
-{
-    let (_, quantity) = offers.take_sync(&price)?;
-    Some(quantity)
 }

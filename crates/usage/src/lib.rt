@@ -7,6 +7,7 @@ ghost use Rattle.std.specs.Ordering.{nat_cmp};
 ghost use Rattle.tree_model.specs.Pairs.{pair_at};
 
 mod book;
+mod fills;
 mod guests;
 mod holders;
 mod keys;
@@ -17,6 +18,7 @@ mod stock;
 mod walks;
 
 pub use book::{ask_from, best_ask, best_bid, cancel, second_ask};
+pub use fills::{fill, fill_bid, remove_filled, take_back};
 pub use guests::{invitation, invite, next_to_ask};
 pub use holders::{if_wanted, parts_of_market};
 pub use keys::Price;
