@@ -41,6 +41,7 @@ mod seek;
 pub use collects::FromSortedError;
 pub use index::{SmallTreeIndex, TreeIndex, TreeIndexOf};
 pub use keys::{Keys, KeysOf, Values, ValuesOf};
+pub use seek::Seeks;
 pub use tree_array::array::{Judge, KeyJudge, Steps};
 pub use tree_cursor_model::{Answer, Move, ProximityOf};
 pub use tree_leaf::arena::NodeId;
