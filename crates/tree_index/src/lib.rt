@@ -46,6 +46,7 @@ pub use collects::FromSortedError;
 pub use index::{SmallTreeIndex, TreeIndex, TreeIndexOf};
 pub use into_iter::{IntoIter, IntoIterOf};
 pub use keys::{Keys, KeysOf, Values, ValuesOf};
+pub use seek::Seeks;
 pub use tree_array::array::{Judge, KeyJudge, Steps};
 pub use tree_cursor_model::{Answer, Move, ProximityOf};
 pub use tree_leaf::arena::NodeId;

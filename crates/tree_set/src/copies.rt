@@ -24,3 +24,13 @@ impl<K: IndexKey, const LEN: usize> TreeSetOf<K, LEN> {
         Ok(TreeSetOf { index })
     }
 }
+
+/// Does what [`try_clone`](TreeSetOf::try_clone) does, with the allocator of the set.
+impl<K: IndexKey, const LEN: usize> Clone for TreeSetOf<K, LEN> {
+    ghost is_clone = { λ set copy. AllZip K.is_clone set copy };
+
+    fn clone(&self) -> Result<Self, AllocError> {
+        let index = self.index.clone()?;
+        Ok(TreeSetOf { index })
+    }
+}

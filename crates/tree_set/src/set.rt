@@ -5,13 +5,14 @@ ghost use Rattle.std.specs.Range.Bound.{bound_map};
 ghost use Rattle.tree_array.specs.Length.{IsLen};
 ghost use Rattle.tree_chain.specs.Walks.{first_of, last_of};
 ghost use Rattle.tree_model.specs.Pairs.{within};
-ghost use Rattle.tree_set.specs.Merges.{difference, intersection, union};
+ghost use Rattle.tree_set.specs.Merges.{difference, intersection, symmetric_difference, union};
 ghost use Rattle.tree_set.specs.Sets.{Inserts, IsAscending, cut, element_at, has, without};
 
 use crate::ahead::Ahead;
 use crate::difference::{Difference, DifferenceOver};
 use crate::elements::{Elements, ElementsOver};
 use crate::intersection::{Intersection, IntersectionOver};
+use crate::symmetric_difference::{SymmetricDifference, SymmetricDifferenceOver};
 use crate::union::{Union, UnionOver};
 use std::alloc::Global;
 use std::fmt;
@@ -274,6 +275,19 @@ impl<K: IndexKey, const LEN: usize> TreeSetOf<K, LEN> {
         ensures ascending { IsAscending K.cmp result }
     {
         DifferenceOver {
+            first: Ahead::new(self.iter()),
+            second: Ahead::new(other.iter()),
+        }
+    }
+
+    /// Returns the elements that one of the two sets has and the other lacks, in ascending order. Costs what
+    /// [`intersection`](TreeSetOf::intersection) does.
+    pub fn symmetric_difference<'t>(&'t self, other: &'t Self) -> SymmetricDifference<'t, K, LEN>
+        ensures apart { result ≡ symmetric_difference K.cmp self.now other.now }
+        ensures elements { (k : K) → has K.cmp result k ≡ ((has K.cmp self.now k && not (has K.cmp other.now k)) || (has K.cmp other.now k && not (has K.cmp self.now k))) }
+        ensures ascending { IsAscending K.cmp result }
+    {
+        SymmetricDifferenceOver {
             first: Ahead::new(self.iter()),
             second: Ahead::new(other.iter()),
         }
