@@ -1,0 +1,5 @@
+mod Boxed
+mod Filled
+mod Joined
+mod Walking
+mod Words
