@@ -4,3 +4,4 @@ pub mod Held
 pub mod Opened
 pub mod Owned
 pub mod Pairs
+pub mod Sorted
