@@ -1,0 +1,6 @@
+mod Boxed
+mod Filled
+mod Joined
+mod Sorted
+mod Walking
+mod Words

@@ -1,0 +1,57 @@
+-- Pairs that arrive in the order of their keys.
+use Rattle.std.proofs.Common.{◌≡◌, ℕ, suc, ◌<◌, false, Bor, List, [], ◌∷◌, ◌++◌, length, map, take, drop, Option, None, Some, refl, sym, ap, ◌∙◌}
+use Rattle.std.specs.Option.{option_or}
+use Rattle.std.specs.Prelude.{find, is_some}
+use Rattle.std.proofs.Math.ListN.{get_or}
+use Rattle.std.proofs.Math.Seq.{drop-cons}
+use Rattle.std.proofs.lemmas.List.{map-append, take-append-drop}
+use Rattle.tree_cursor_model.specs.Rest.{lent}
+use Rattle.std.specs.Ordering.{is_eq, is_gt}
+use Rattle.std.specs.declared.cmp.Ordering.{Ordering}
+use Rattle.std.specs.declared.cmp.Ordering.TheVariants.{Less, Equal, Greater}
+use Rattle.tree_index.specs.Copies.{AllSmaller}
+use Rattle.tree_index.specs.Nearest.{at_or_above}
+use Rattle.tree_index.proofs.Copied.{absent_behind}
+use Rattle.tree_model.specs.Pairs.{AllLarger, IsAscending}
+use Rattle.tree_model.proofs.Lists.{all_map, filter_none}
+
+-- whether something is lent
+pub lent_none : {K V : Type 0} (r : Option (Bor K × Bor V)) → lent r ≡ None → is_some r ≡ false
+lent_none None none = refl
+lent_none (Some pair) none = absurd (cc)
+
+pub none_lent : {K V : Type 0} (r : Option (Bor K × Bor V)) → is_some r ≡ false → lent r ≡ None
+none_lent None none = refl
+none_lent (Some pair) none = absurd (cc)
+
+-- a list around one of its places
+pub around : {X Y : Type 0} (f : X → Y) (xs : List X) (at : ℕ) (d : X) → at < length xs → map f xs ≡ map f (take at xs) ++ f (get_or xs at d) ∷ map f (drop (suc at) xs)
+around f xs at d lt = ap (map f) (sym (take-append-drop at xs)) ∙ map-append f (take at xs) (drop at xs) ∙ ap (λ ys. map f (take at xs) ++ map f ys) (drop-cons xs at d lt)
+
+module _ {K V : Type 0} (cmp : K → K → Ordering) where
+  some_or : (at : Option (K × V)) (x : K × V) → option_or at (Some x) ≡ None → ⊥
+  some_or None x none = absurd (cc)
+  some_or (Some y) x none = absurd (cc)
+
+  -- where no pair is at a key or above it, all are smaller
+  pub none_above : (l : List (K × V)) (k : K) → at_or_above cmp l k ≡ None → AllSmaller cmp l k
+  none_above [] k none = tt
+  none_above (pair ∷ l) k none = by (cmp pair.0 k) refl (none_above l k)
+    where
+      by : (c : Ordering) → cmp pair.0 k ≡ c → (at_or_above cmp l k ≡ None → AllSmaller cmp l k) → AllSmaller cmp (pair ∷ l) k
+      by Less is rest = (is, rest (rw is at none))
+      by Equal is rest = absurd (let found = rw is at none in cc)
+      by Greater is rest = absurd (some_or (find (λ p. is_eq (cmp p.0 k)) l) pair (rw is at none))
+
+  -- and the other way round
+  pub all_below : (l : List (K × V)) (k : K) → AllSmaller cmp l k → at_or_above cmp l k ≡ None
+  all_below l k smaller = rw (absent_behind cmp l k smaller, filter_none (λ pair. is_gt (cmp pair.0 k)) l (all_map (λ pair less. rw less refl) l smaller)) refl
+
+  -- in ascending order what comes before a pair is smaller
+  pub before_smaller : (xs : List (K × V)) (pair : K × V) (ys : List (K × V)) → IsAscending cmp (xs ++ pair ∷ ys) → AllSmaller cmp xs pair.0
+  before_smaller [] pair ys ascending = tt
+  before_smaller (x ∷ xs) pair ys ascending = (behind xs ascending.0, before_smaller xs pair ys ascending.1)
+    where
+      behind : (zs : List (K × V)) → AllLarger cmp x.0 (zs ++ pair ∷ ys) → cmp x.0 pair.0 ≡ Less
+      behind [] larger = larger.0
+      behind (z ∷ zs) larger = behind zs larger.1

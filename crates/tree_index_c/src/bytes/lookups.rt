@@ -1,0 +1,187 @@
+//! Look-ups in an index whose keys are strings of bytes.
+ghost use Rattle.std.specs.Prelude.{◌≡◌, Some};
+ghost use Rattle.std.specs.Cmp.Lexicographic.{slice_cmp};
+ghost use Rattle.std.specs.Option.{option_map};
+ghost use Rattle.std.specs.Ordering.{nat_cmp};
+ghost use Rattle.tree_chain.specs.Walks.{first_of, last_of};
+ghost use Rattle.tree_index.specs.Nearest.{at_or_above, at_or_below};
+ghost use Rattle.tree_index_c.specs.Answers.{Says, Writes};
+ghost use Rattle.tree_index_c.specs.Entries.{FindsEntry, WritesEntry};
+ghost use Rattle.tree_index_c.specs.Held.{OnBytes, held};
+ghost use Rattle.tree_model.specs.Pairs.{IsAbsent, IsPresent, pair_at};
+
+use crate::byte_key::{ByteKey, find};
+use crate::entry::{Entry, write_entry};
+use crate::handle::Handle;
+use crate::status::{MISFIT, NO, NO_MEMORY, YES};
+use crate::store::Store;
+use std::alloc::Global;
+
+/// Writes the value of a key. Copies nothing.
+#[unsafe(no_mangle)]
+pub extern "C" fn tree_index_bytes_peek(
+    alloc: Global,
+    handle: &mut Handle,
+    key: &[u8],
+    value: &mut u64,
+) -> u8
+    ensures { OnBytes (λ old answer new. Writes (option_map (λ pair. pair.1) (pair_at (slice_cmp nat_cmp) old.pairs key.now)) answer value.old value.new × (new ≡ old)) (held handle.old) result (held handle.new) }
+{
+    let Some(store) = handle.take(alloc) else {
+        return MISFIT;
+    };
+    let answer = peek(&store, key, value);
+    *handle = Handle::leading_to(store);
+    answer
+}
+
+/// Answers whether a key is present. Copies nothing.
+#[unsafe(no_mangle)]
+pub extern "C" fn tree_index_bytes_contains(alloc: Global, handle: &mut Handle, key: &[u8]) -> u8
+    ensures { OnBytes (λ old answer new. Says (IsPresent (slice_cmp nat_cmp) old.pairs key.now) (IsAbsent (slice_cmp nat_cmp) old.pairs key.now) answer × (new ≡ old)) (held handle.old) result (held handle.new) }
+{
+    let Some(store) = handle.take(alloc) else {
+        return MISFIT;
+    };
+    let answer = contains(&store, key);
+    *handle = Handle::leading_to(store);
+    answer
+}
+
+/// Writes the pair with the smallest key.
+#[unsafe(no_mangle)]
+pub extern "C" fn tree_index_bytes_first(
+    alloc: Global,
+    handle: &mut Handle,
+    key: &mut [u8],
+    entry: &mut Entry,
+) -> u8
+    ensures { OnBytes (λ old answer new. WritesEntry (first_of old.pairs) answer key.old key.new entry.old entry.new × (new ≡ old)) (held handle.old) result (held handle.new) }
+{
+    let Some(store) = handle.take(alloc) else {
+        return MISFIT;
+    };
+    let answer = first(&store, key, entry);
+    *handle = Handle::leading_to(store);
+    answer
+}
+
+/// Writes the pair with the largest key.
+#[unsafe(no_mangle)]
+pub extern "C" fn tree_index_bytes_last(
+    alloc: Global,
+    handle: &mut Handle,
+    key: &mut [u8],
+    entry: &mut Entry,
+) -> u8
+    ensures { OnBytes (λ old answer new. WritesEntry (last_of old.pairs) answer key.old key.new entry.old entry.new × (new ≡ old)) (held handle.old) result (held handle.new) }
+{
+    let Some(store) = handle.take(alloc) else {
+        return MISFIT;
+    };
+    let answer = last(&store, key, entry);
+    *handle = Handle::leading_to(store);
+    answer
+}
+
+/// Writes the pair with a key, or else the one with the next smaller key. Copies the key meanwhile.
+#[unsafe(no_mangle)]
+pub extern "C" fn tree_index_bytes_at_or_below(
+    alloc: Global,
+    handle: &mut Handle,
+    sought: &[u8],
+    key: &mut [u8],
+    entry: &mut Entry,
+) -> u8
+    ensures { OnBytes (λ old answer new. FindsEntry (at_or_below (slice_cmp nat_cmp) old.pairs sought.now) answer key.old key.new entry.old entry.new × (new ≡ old)) (held handle.old) result (held handle.new) }
+{
+    let Some(store) = handle.take(alloc) else {
+        return MISFIT;
+    };
+    let answer = below(&store, alloc, sought, key, entry);
+    *handle = Handle::leading_to(store);
+    answer
+}
+
+/// Writes the pair with a key, or else the one with the next larger key. Copies the key meanwhile.
+#[unsafe(no_mangle)]
+pub extern "C" fn tree_index_bytes_at_or_above(
+    alloc: Global,
+    handle: &mut Handle,
+    sought: &[u8],
+    key: &mut [u8],
+    entry: &mut Entry,
+) -> u8
+    ensures { OnBytes (λ old answer new. FindsEntry (at_or_above (slice_cmp nat_cmp) old.pairs sought.now) answer key.old key.new entry.old entry.new × (new ≡ old)) (held handle.old) result (held handle.new) }
+{
+    let Some(store) = handle.take(alloc) else {
+        return MISFIT;
+    };
+    let answer = above(&store, alloc, sought, key, entry);
+    *handle = Handle::leading_to(store);
+    answer
+}
+
+fn peek(store: &Store, key: &[u8], value: &mut u64) -> u8
+    ensures { OnBytes (λ old answer new. Writes (option_map (λ pair. pair.1) (pair_at (slice_cmp nat_cmp) old.pairs key.now)) answer value.old value.new × (new ≡ old)) (Some store.now) result (Some store.now) }
+{
+    let Store::Bytes(index) = store else {
+        return MISFIT;
+    };
+    let Some((_, found)) = find(index, key) else {
+        return NO;
+    };
+    *value = *found;
+    YES
+}
+
+fn contains(store: &Store, key: &[u8]) -> u8
+    ensures { OnBytes (λ old answer new. Says (IsPresent (slice_cmp nat_cmp) old.pairs key.now) (IsAbsent (slice_cmp nat_cmp) old.pairs key.now) answer × (new ≡ old)) (Some store.now) result (Some store.now) }
+{
+    let Store::Bytes(index) = store else {
+        return MISFIT;
+    };
+    if find(index, key).is_some() { YES } else { NO }
+}
+
+fn first(store: &Store, key: &mut [u8], entry: &mut Entry) -> u8
+    ensures { OnBytes (λ old answer new. WritesEntry (first_of old.pairs) answer key.old key.new entry.old entry.new × (new ≡ old)) (Some store.now) result (Some store.now) }
+{
+    let Store::Bytes(index) = store else {
+        return MISFIT;
+    };
+    write_entry(index.first(), key, entry)
+}
+
+fn last(store: &Store, key: &mut [u8], entry: &mut Entry) -> u8
+    ensures { OnBytes (λ old answer new. WritesEntry (last_of old.pairs) answer key.old key.new entry.old entry.new × (new ≡ old)) (Some store.now) result (Some store.now) }
+{
+    let Store::Bytes(index) = store else {
+        return MISFIT;
+    };
+    write_entry(index.last(), key, entry)
+}
+
+fn below(store: &Store, alloc: Global, sought: &[u8], key: &mut [u8], entry: &mut Entry) -> u8
+    ensures { OnBytes (λ old answer new. FindsEntry (at_or_below (slice_cmp nat_cmp) old.pairs sought.now) answer key.old key.new entry.old entry.new × (new ≡ old)) (Some store.now) result (Some store.now) }
+{
+    let Store::Bytes(index) = store else {
+        return MISFIT;
+    };
+    let Ok(sought) = ByteKey::from_bytes(alloc, sought) else {
+        return NO_MEMORY;
+    };
+    write_entry(index.at_or_below(&sought), key, entry)
+}
+
+fn above(store: &Store, alloc: Global, sought: &[u8], key: &mut [u8], entry: &mut Entry) -> u8
+    ensures { OnBytes (λ old answer new. FindsEntry (at_or_above (slice_cmp nat_cmp) old.pairs sought.now) answer key.old key.new entry.old entry.new × (new ≡ old)) (Some store.now) result (Some store.now) }
+{
+    let Store::Bytes(index) = store else {
+        return MISFIT;
+    };
+    let Ok(sought) = ByteKey::from_bytes(alloc, sought) else {
+        return NO_MEMORY;
+    };
+    write_entry(index.at_or_above(&sought), key, entry)
+}

@@ -1,0 +1,149 @@
+//! Writes to an index whose keys are strings of bytes.
+ghost use Rattle.std.specs.Prelude.{◌≡◌, [], Some, ⊤};
+ghost use Rattle.std.specs.Cmp.Lexicographic.{slice_cmp};
+ghost use Rattle.std.specs.Ordering.{nat_cmp};
+ghost use Rattle.tree_index_c.specs.Answers.{OpensBytes, RemovesOrRefuses, Replaces, Stores, TakesOrRefuses};
+ghost use Rattle.tree_index_c.specs.Held.{OnBytes, held};
+
+use crate::byte_key::ByteKey;
+use crate::handle::Handle;
+use crate::pair::write_value;
+use crate::status::{MISFIT, NO, NO_MEMORY, YES};
+use crate::store::Store;
+use std::alloc::Global;
+use tree_index::{InsertError, TreeIndex};
+
+/// Opens a closed handle on a new, empty index of byte strings. Allocates one block.
+#[unsafe(no_mangle)]
+pub extern "C" fn tree_index_bytes_new(alloc: Global, handle: &mut Handle) -> u8
+    ensures { OpensBytes [] (held handle.old) result (held handle.new) }
+{
+    if handle.is_open {
+        return MISFIT;
+    }
+    handle.open(alloc, Store::Bytes(TreeIndex::new(alloc)))
+}
+
+/// Stores a pair if its key is absent, with a copy of the key. Answers `NO` if it is present.
+#[unsafe(no_mangle)]
+pub extern "C" fn tree_index_bytes_insert(
+    alloc: Global,
+    handle: &mut Handle,
+    key: &[u8],
+    value: u64,
+) -> u8
+    ensures { OnBytes (λ old. Stores (slice_cmp nat_cmp) ⊤ key.now value old) (held handle.old) result (held handle.new) }
+{
+    let Some(mut store) = handle.take(alloc) else {
+        return MISFIT;
+    };
+    let answer = insert(&mut store, alloc, key, value);
+    *handle = Handle::leading_to(store);
+    answer
+}
+
+/// Stores a pair with a copy of its key, in place of one with an equal key.
+#[unsafe(no_mangle)]
+pub extern "C" fn tree_index_bytes_upsert(
+    alloc: Global,
+    handle: &mut Handle,
+    key: &[u8],
+    value: u64,
+) -> u8
+    ensures { OnBytes (λ old. Replaces (slice_cmp nat_cmp) ⊤ key.now value old) (held handle.old) result (held handle.new) }
+{
+    let Some(mut store) = handle.take(alloc) else {
+        return MISFIT;
+    };
+    let answer = upsert(&mut store, alloc, key, value);
+    *handle = Handle::leading_to(store);
+    answer
+}
+
+/// Removes the pair with a key. Answers whether there was one. Copies the key meanwhile.
+#[unsafe(no_mangle)]
+pub extern "C" fn tree_index_bytes_remove(alloc: Global, handle: &mut Handle, key: &[u8]) -> u8
+    ensures { OnBytes (λ old. RemovesOrRefuses (slice_cmp nat_cmp) key.now old) (held handle.old) result (held handle.new) }
+{
+    let Some(mut store) = handle.take(alloc) else {
+        return MISFIT;
+    };
+    let answer = remove(&mut store, alloc, key);
+    *handle = Handle::leading_to(store);
+    answer
+}
+
+/// Removes the pair with a key and writes its value. Copies the key meanwhile.
+#[unsafe(no_mangle)]
+pub extern "C" fn tree_index_bytes_take(
+    alloc: Global,
+    handle: &mut Handle,
+    key: &[u8],
+    value: &mut u64,
+) -> u8
+    ensures { OnBytes (λ old answer new. TakesOrRefuses (slice_cmp nat_cmp) key.now old answer value.old value.new new) (held handle.old) result (held handle.new) }
+{
+    let Some(mut store) = handle.take(alloc) else {
+        return MISFIT;
+    };
+    let answer = take(&mut store, alloc, key, value);
+    *handle = Handle::leading_to(store);
+    answer
+}
+
+fn insert(store: &mut Store, alloc: Global, key: &[u8], value: u64) -> u8
+    ensures { OnBytes (λ old. Stores (slice_cmp nat_cmp) ⊤ key.now value old) (Some store.old) result (Some store.new) }
+{
+    let Store::Bytes(index) = store else {
+        return MISFIT;
+    };
+    let Ok(key) = ByteKey::from_bytes(alloc, key) else {
+        return NO_MEMORY;
+    };
+    match index.insert_sync(key, value) {
+        Ok(()) => YES,
+        Err(InsertError::Duplicate(_, _)) => NO,
+        Err(InsertError::OutOfMemory(_, _)) => NO_MEMORY,
+    }
+}
+
+fn upsert(store: &mut Store, alloc: Global, key: &[u8], value: u64) -> u8
+    ensures { OnBytes (λ old. Replaces (slice_cmp nat_cmp) ⊤ key.now value old) (Some store.old) result (Some store.new) }
+{
+    let Store::Bytes(index) = store else {
+        return MISFIT;
+    };
+    let Ok(key) = ByteKey::from_bytes(alloc, key) else {
+        return NO_MEMORY;
+    };
+    match index.upsert_sync(key, value) {
+        Ok(()) => YES,
+        Err(_) => NO_MEMORY,
+    }
+}
+
+fn remove(store: &mut Store, alloc: Global, key: &[u8]) -> u8
+    ensures { OnBytes (λ old. RemovesOrRefuses (slice_cmp nat_cmp) key.now old) (Some store.old) result (Some store.new) }
+{
+    let Store::Bytes(index) = store else {
+        return MISFIT;
+    };
+    let Ok(key) = ByteKey::from_bytes(alloc, key) else {
+        return NO_MEMORY;
+    };
+    if index.remove_sync(&key) { YES } else { NO }
+}
+
+fn take(store: &mut Store, alloc: Global, key: &[u8], value: &mut u64) -> u8
+    ensures { OnBytes (λ old answer new. TakesOrRefuses (slice_cmp nat_cmp) key.now old answer value.old value.new new) (Some store.old) result (Some store.new) }
+{
+    let Store::Bytes(index) = store else {
+        return MISFIT;
+    };
+    let Ok(key) = ByteKey::from_bytes(alloc, key) else {
+        return NO_MEMORY;
+    };
+    let answer = write_value(index.peek(&key), value);
+    index.remove_sync(&key);
+    answer
+}

@@ -1,0 +1,109 @@
+//! The calls that any handle takes.
+ghost use Rattle.std.specs.Prelude.{◌≡◌, ◌^◌, ◌-◌, None, Some, min};
+ghost use Rattle.tree_index_c.specs.Answers.{Empties};
+ghost use Rattle.tree_index_c.specs.Held.{held, count_in, depth_in, spare_in};
+
+use crate::handle::Handle;
+use crate::status::{MISFIT, YES};
+use crate::store::Store;
+use std::alloc::Global;
+
+/// Frees the index of a handle and closes the handle. Does nothing to a closed one.
+#[unsafe(no_mangle)]
+pub extern "C" fn tree_index_free(alloc: Global, handle: &mut Handle)
+    ensures { held handle.new ≡ None }
+{
+    drop(handle.take(alloc));
+}
+
+/// Returns the number of pairs, or 2^64 - 1 if there are more, and 0 if the handle is closed.
+#[unsafe(no_mangle)]
+pub extern "C" fn tree_index_len(alloc: Global, handle: &mut Handle) -> usize
+    ensures kept { held handle.new ≡ held handle.old }
+    ensures len { result ≡ min (count_in (held handle.old)) (2 ^ 64 - 1) }
+{
+    let Some(store) = handle.take(alloc) else {
+        return 0;
+    };
+    let len = len(&store);
+    *handle = Handle::leading_to(store);
+    len
+}
+
+/// Returns the number of levels of nodes, and 0 if there is no pair or the handle is closed.
+#[unsafe(no_mangle)]
+pub extern "C" fn tree_index_depth(alloc: Global, handle: &mut Handle) -> usize
+    ensures kept { held handle.new ≡ held handle.old }
+    ensures depth { result ≡ depth_in (held handle.old) }
+{
+    let Some(store) = handle.take(alloc) else {
+        return 0;
+    };
+    let depth = depth(&store);
+    *handle = Handle::leading_to(store);
+    depth
+}
+
+/// Returns how many writes are sure not to allocate an array, whatever their keys, and 0 if the handle is closed.
+#[unsafe(no_mangle)]
+pub extern "C" fn tree_index_spare(alloc: Global, handle: &mut Handle) -> u8
+    ensures kept { held handle.new ≡ held handle.old }
+    ensures spare { result ≡ spare_in (held handle.old) }
+{
+    let Some(store) = handle.take(alloc) else {
+        return 0;
+    };
+    let spare = spare(&store);
+    *handle = Handle::leading_to(store);
+    spare
+}
+
+/// Removes all pairs.
+#[unsafe(no_mangle)]
+pub extern "C" fn tree_index_clear(alloc: Global, handle: &mut Handle) -> u8
+    ensures { Empties (held handle.old) result (held handle.new) }
+{
+    let Some(mut store) = handle.take(alloc) else {
+        return MISFIT;
+    };
+    let answer = clear(&mut store);
+    *handle = Handle::leading_to(store);
+    answer
+}
+
+fn len(store: &Store) -> usize
+    ensures { result ≡ min (count_in (Some store.now)) (2 ^ 64 - 1) }
+{
+    match store {
+        Store::Numbers(index) => index.len(),
+        Store::Bytes(index) => index.len(),
+    }
+}
+
+fn depth(store: &Store) -> usize
+    ensures { result ≡ depth_in (Some store.now) }
+{
+    match store {
+        Store::Numbers(index) => index.depth(),
+        Store::Bytes(index) => index.depth(),
+    }
+}
+
+fn spare(store: &Store) -> u8
+    ensures { result ≡ spare_in (Some store.now) }
+{
+    match store {
+        Store::Numbers(index) => index.spare(),
+        Store::Bytes(index) => index.spare(),
+    }
+}
+
+fn clear(store: &mut Store) -> u8
+    ensures { Empties (Some store.old) result (Some store.new) }
+{
+    match store {
+        Store::Numbers(index) => index.clear(),
+        Store::Bytes(index) => index.clear(),
+    }
+    YES
+}
