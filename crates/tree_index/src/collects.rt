@@ -38,6 +38,13 @@ impl<K: IndexKey, V: Drop, const LEN: usize> TreeIndexOf<K, V, LEN> {
     ///
     /// Returns `Err` with the first pair for which an allocation is refused, and takes no pair after it. The pairs before
     /// it stay stored. Costs what [`upsert_sync`](TreeIndexOf::upsert_sync) does for each pair. The iterator must end.
+    ///
+    /// ```
+    /// match index.try_extend(pairs) {
+    ///     Ok(()) => Ok(index),
+    ///     Err(_) => Err(FromSortedError::OutOfMemory),
+    /// }
+    /// ```
     pub fn try_extend<U: IntoIterator<Item = (K, V)>>(&mut self, pairs: U) -> Result<(), (K, V)>
         requires { (it : U.IntoIter) → U.into_iter_gives pairs it → U.IntoIter.can_next it × IsFinite (U.IntoIter.remaining it) }
         ensures { PutsPairs K.cmp U.into_iter_gives U.IntoIter.next_gives pairs self.old self.new result }
@@ -57,6 +64,10 @@ impl<K: IndexKey, V: Drop, const LEN: usize> TreeIndexOf<K, V, LEN> {
     ///
     /// Compares each key with the one before it, and then with the last separator of each node on its way and the last
     /// key of the last leaf. Fills each leaf. The caller must choose 7 or 15 for `LEN`.
+    ///
+    /// ```
+    /// TreeIndex::from_sorted(alloc, samples)
+    /// ```
     pub fn from_sorted(alloc: Global, pairs: Vec<(K, V)>) -> Result<Self, FromSortedError<K, V>>
         requires { IsLen LEN }
         ensures { BuildsSorted K.cmp pairs.items result }

@@ -12,13 +12,20 @@ use tree_array::array::IndexKey;
 ///
 /// Contracts see the list of the pairs that neither end has given yet. A move costs what
 /// [`pop_first`](TreeIndexOf::pop_first) does. Pairs that are left are dropped with it.
-#[derive(Drop)]
 pub struct IntoIterOf<K: IndexKey, V: Drop, const LEN: usize> {
     index: TreeIndexOf<K, V, LEN>,
 }
 
 /// The pairs of an index by value, with up to fifteen pairs a leaf.
 pub type IntoIter<K, V> = IntoIterOf<K, V, 15>;
+
+// Written out for the reason that the drop of `Tree` in `tree_root` is.
+impl<K: IndexKey, V: Drop, const LEN: usize> Drop for IntoIterOf<K, V, LEN> {
+    fn drop(self) {
+        let IntoIterOf { index } = self;
+        drop(index);
+    }
+}
 
 impl<K: IndexKey, V: Drop, const LEN: usize> Model for IntoIterOf<K, V, LEN> {
     ghost use Rattle.std.specs.Prelude.{List};

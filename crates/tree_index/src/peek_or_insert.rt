@@ -17,6 +17,11 @@ impl<K: IndexKey, V: Drop, const LEN: usize> TreeIndexOf<K, V, LEN> {
     /// If the key is present, looks it up twice and allocates nothing. If it is absent, clones it, looks it up before and
     /// after, and costs what [`insert_sync`](TreeIndexOf::insert_sync) does. If the clone allocates nothing, nothing is
     /// refused while the spare is above 0.
+    ///
+    /// ```
+    /// let first = prices.peek_or_insert(item, price)?;
+    /// Ok(*first)
+    /// ```
     pub fn peek_or_insert(&mut self, key: K, value: V) -> Result<&V, AllocError>
         ensures* { sem 𝓛 (lends_value K.row V.row LEN.row K.is_clone K.is_infallible K.cmp K.eq K.partial_cmp self.entry key value LEN result) }
     {

@@ -15,7 +15,6 @@ impl<K: IndexKey, const LEN: usize> TreeSetOf<K, LEN> {
     ///
     /// ```
     /// let mut second = first.try_clone(alloc)?;
-    /// assert!(rt; *first == second);
     /// ```
     pub fn try_clone(&self, alloc: Global) -> Result<Self, AllocError>
         ensures { IfOk result (λ copy. AllZip K.is_clone self.now copy) }

@@ -282,6 +282,12 @@ impl<K: IndexKey, const LEN: usize> TreeSetOf<K, LEN> {
 
     /// Returns the elements that one of the two sets has and the other lacks, in ascending order. Costs what
     /// [`intersection`](TreeSetOf::intersection) does.
+    ///
+    /// ```
+    /// for digit in first.symmetric_difference(second) {
+    ///     digits = digits.wrapping_mul(10).wrapping_add(*digit);
+    /// }
+    /// ```
     pub fn symmetric_difference<'t>(&'t self, other: &'t Self) -> SymmetricDifference<'t, K, LEN>
         ensures apart { result ≡ symmetric_difference K.cmp self.now other.now }
         ensures elements { (k : K) → has K.cmp result k ≡ ((has K.cmp self.now k && not (has K.cmp other.now k)) || (has K.cmp other.now k && not (has K.cmp self.now k))) }

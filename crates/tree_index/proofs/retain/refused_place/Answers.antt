@@ -1,4 +1,4 @@
-use Rattle.std.proofs.Common.{◌≡◌, [], Some, of_calls, refl, sym, ◌∙◌}
+use Rattle.std.proofs.Common.{[], of_calls, refl}
 use Rattle.std.specs.Range.Bound.{bound_map}
 use Rattle.tree_chain.specs.declared.stand.Way.TheVariants.{On}
 use Rattle.tree_node.proofs.Sizes.{fits}

@@ -1,4 +1,4 @@
-use Rattle.std.proofs.Common.{◌≡◌, ◌∙◌, true, Some, arith, sym, refl}
+use Rattle.std.proofs.Common.{true, arith}
 use Rattle.tree_node.proofs.Sizes.{fits}
 use Rattle.tree_remove.specs.Removes.{surely}
 use Rattle.tree_root.specs.Trees.{pairs_of}

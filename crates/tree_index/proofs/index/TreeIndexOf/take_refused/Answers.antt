@@ -1,4 +1,4 @@
-use Rattle.std.proofs.Common.{◌≡◌, ◌∙◌, arith}
+use Rattle.std.proofs.Common.{arith}
 use Rattle.tree_node.proofs.Sizes.{fits}
 use Rattle.tree_remove.specs.Removes.{surely}
 use Rattle.tree_index.proofs.Indexed.{one_less, pairs_ascend}
