@@ -12,6 +12,7 @@ mod keys;
 mod records;
 mod registry;
 mod samples;
+mod stores;
 mod walks;
 
 pub use book::{ask_from, best_ask, best_bid, cancel};
@@ -20,6 +21,7 @@ pub use keys::Price;
 pub use records::{Refusal, close, deposit};
 pub use registry::{Registry, names_registered, register, register_both};
 pub use samples::{forget_before, snapshot, store_spare};
+pub use stores::{archive, count_of, first_offer, open, store_all};
 use tree_index::{InsertError, Judge, TreeIndex};
 use tree_model::laws::edits_are_found;
 pub use walks::{ends_within, highest_price, price_at_or_below};
