@@ -15,6 +15,7 @@ mod records;
 mod registry;
 mod samples;
 mod stock;
+mod stores;
 mod walks;
 
 pub use book::{ask_from, best_ask, best_bid, cancel, second_ask};
@@ -26,6 +27,7 @@ pub use records::{Refusal, close, deposit};
 pub use registry::{Registry, names_registered, register, register_both};
 pub use samples::{forget_before, snapshot, store_if_spare, store_spare};
 pub use stock::{article_up_to, first_article, is_sold, pieces, sell_out, withdraw};
+pub use stores::{archive, count_of, first_offer, open, store_all};
 use tree_index::{InsertError, Judge, TreeIndex};
 use tree_model::laws::edits_are_found;
 pub use walks::{ends_within, highest_price, price_at_or_below};
