@@ -1,8 +1,12 @@
 -- Keys that are strings of bytes, as C gets them: bytes in the first of some places, and an entry that has the length of the key.
-use Rattle.std.specs.Prelude.{◌≡◌, ◌⊎◌, ℕ, ◌+◌, ◌-◌, ◌<◌, ◌≤◌, Bool, true, false, List, [], ◌∷◌, ◌++◌, drop, length, map, min, take, Option, None, Some, Result, Ok, Err}
+use Rattle.std.specs.Prelude.{◌≡◌, ◌≢◌, ◌⊎◌, ℕ, ◌+◌, ◌-◌, ◌<◌, ◌≤◌, Bool, true, false, List, [], ◌∷◌, ◌++◌, drop, length, map, min, take, Option, None, Some, Result, Ok, Err}
 use Rattle.std.specs.List.{flat_map}
 use Rattle.std.specs.declared.alloc.AllocError.{AllocError}
 use Rattle.std.specs.declared.ops.Bound.{Bound}
+use Rattle.std.specs.Cmp.Lexicographic.{slice_cmp}
+use Rattle.std.specs.Ordering.{nat_cmp}
+use Rattle.tree_index.specs.Index.{Index}
+use Rattle.tree_index_c.specs.Answers.{left_of}
 use Rattle.tree_index_c.specs.declared.entry.Entry.{Entry}
 use Rattle.tree_index_c.specs.declared.status.TheConstants.{NO, YES, NO_MEMORY, NO_ROOM}
 
@@ -26,6 +30,12 @@ WritesEntry (Some pair) answer before after entry_before entry_after =
 abbrev pub FindsEntry : Option (List ℕ × ℕ) → ℕ → List ℕ → List ℕ → Entry → Entry → Type 0
 FindsEntry found answer before after entry_before entry_after =
     WritesEntry found answer before after entry_before entry_after ⊎ ((answer ≡ NO_MEMORY) × (after ≡ before) × (entry_after ≡ entry_before))
+
+-- The pair is written and removed, or it is neither. Or memory was refused.
+abbrev pub PopsEntry : Option (List ℕ × ℕ) → Index (List ℕ) ℕ → ℕ → List ℕ → List ℕ → Entry → Entry → Index (List ℕ) ℕ → Type 0
+PopsEntry found old answer before after entry_before entry_after new =
+    (WritesEntry found answer before after entry_before entry_after × (answer ≡ YES → new.pairs ≡ left_of (slice_cmp nat_cmp) old.pairs found) × ((answer ≢ YES) → new ≡ old))
+    ⊎ ((answer ≡ NO_MEMORY) × (after ≡ before) × (entry_after ≡ entry_before) × (new ≡ old))
 
 -- the bytes of all keys, one after another
 abbrev pub joined : List (List ℕ × ℕ) → List ℕ

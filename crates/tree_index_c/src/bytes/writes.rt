@@ -2,10 +2,13 @@
 ghost use Rattle.std.specs.Prelude.{◌≡◌, [], Some, ⊤};
 ghost use Rattle.std.specs.Cmp.Lexicographic.{slice_cmp};
 ghost use Rattle.std.specs.Ordering.{nat_cmp};
+ghost use Rattle.tree_chain.specs.Walks.{first_of, last_of};
 ghost use Rattle.tree_index_c.specs.Answers.{OpensBytes, RemovesOrRefuses, Replaces, Stores, TakesOrRefuses};
+ghost use Rattle.tree_index_c.specs.Entries.{PopsEntry};
 ghost use Rattle.tree_index_c.specs.Held.{OnBytes, held};
 
 use crate::byte_key::ByteKey;
+use crate::entry::{Entry, write_entry};
 use crate::handle::Handle;
 use crate::pair::write_value;
 use crate::status::{MISFIT, NO, NO_MEMORY, YES};
@@ -91,6 +94,44 @@ pub extern "C" fn tree_index_bytes_take(
     answer
 }
 
+/// Removes the pair with the smallest key and writes it. Copies the key meanwhile. Answers `NO_ROOM` if the key has too few places:
+/// the pair stays then, and the entry tells its length.
+#[unsafe(no_mangle)]
+pub extern "C" fn tree_index_bytes_pop_first(
+    alloc: Global,
+    handle: &mut Handle,
+    key: &mut [u8],
+    entry: &mut Entry,
+) -> u8
+    ensures { OnBytes (λ old answer new. PopsEntry (first_of old.pairs) old answer key.old key.new entry.old entry.new new) (held handle.old) result (held handle.new) }
+{
+    let Some(mut store) = handle.take(alloc) else {
+        return MISFIT;
+    };
+    let answer = pop_first(&mut store, key, entry);
+    *handle = Handle::leading_to(store);
+    answer
+}
+
+/// Removes the pair with the largest key and writes it. Copies the key meanwhile. Answers `NO_ROOM` if the key has too few places:
+/// the pair stays then, and the entry tells its length.
+#[unsafe(no_mangle)]
+pub extern "C" fn tree_index_bytes_pop_last(
+    alloc: Global,
+    handle: &mut Handle,
+    key: &mut [u8],
+    entry: &mut Entry,
+) -> u8
+    ensures { OnBytes (λ old answer new. PopsEntry (last_of old.pairs) old answer key.old key.new entry.old entry.new new) (held handle.old) result (held handle.new) }
+{
+    let Some(mut store) = handle.take(alloc) else {
+        return MISFIT;
+    };
+    let answer = pop_last(&mut store, key, entry);
+    *handle = Handle::leading_to(store);
+    answer
+}
+
 fn insert(store: &mut Store, alloc: Global, key: &[u8], value: u64) -> u8
     ensures { OnBytes (λ old. Stores (slice_cmp nat_cmp) ⊤ key.now value old) (Some store.old) result (Some store.new) }
 {
@@ -145,5 +186,43 @@ fn take(store: &mut Store, alloc: Global, key: &[u8], value: &mut u64) -> u8
     };
     let answer = write_value(index.peek(&key), value);
     index.remove_sync(&key);
+    answer
+}
+
+fn pop_first(store: &mut Store, key: &mut [u8], entry: &mut Entry) -> u8
+    ensures { OnBytes (λ old answer new. PopsEntry (first_of old.pairs) old answer key.old key.new entry.old entry.new new) (Some store.old) result (Some store.new) }
+{
+    let Store::Bytes(index) = store else {
+        return MISFIT;
+    };
+    let Some((first, _)) = index.first() else {
+        return NO;
+    };
+    let Ok(gone) = first.clone() else {
+        return NO_MEMORY;
+    };
+    let answer = write_entry(index.first(), key, entry);
+    if answer == YES {
+        index.remove_sync(&gone);
+    }
+    answer
+}
+
+fn pop_last(store: &mut Store, key: &mut [u8], entry: &mut Entry) -> u8
+    ensures { OnBytes (λ old answer new. PopsEntry (last_of old.pairs) old answer key.old key.new entry.old entry.new new) (Some store.old) result (Some store.new) }
+{
+    let Store::Bytes(index) = store else {
+        return MISFIT;
+    };
+    let Some((last, _)) = index.last() else {
+        return NO;
+    };
+    let Ok(gone) = last.clone() else {
+        return NO_MEMORY;
+    };
+    let answer = write_entry(index.last(), key, entry);
+    if answer == YES {
+        index.remove_sync(&gone);
+    }
     answer
 }
