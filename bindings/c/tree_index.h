@@ -1,0 +1,212 @@
+/* TreeIndex: an ordered index of pairs of a key and a value, for C.
+ *
+ * The keys of an index are 64-bit numbers, or strings of bytes in the order of memcmp, a prefix first. The values are
+ * 64-bit numbers. The index is the static library libtree_index_c.a, written in Rattle, whose every call is proved to
+ * answer as a sorted list of pairs does.
+ *
+ *     tree_index_handle index = TREE_INDEX_CLOSED;
+ *     uint64_t value;
+ *     if (tree_index_new(&index) != TREE_INDEX_YES) return 1;
+ *     tree_index_insert(&index, 7, 70);
+ *     if (tree_index_peek(&index, 7, &value) == TREE_INDEX_YES) printf("%" PRIu64 "\n", value);
+ *     tree_index_free(&index);
+ *
+ * What a caller must see to, since nothing checks it:
+ *
+ *   - A handle begins as TREE_INDEX_CLOSED. After that only the calls below write to it, and it isn't copied: move it by
+ *     a plain assignment only if the old one is set to TREE_INDEX_CLOSED.
+ *   - One call at a time has a handle, look-ups too. Threads that share one take a lock around each call. A handle may
+ *     go from thread to thread.
+ *   - No pointer is null, not even that of an array of length 0. Arrays have at least the length that is passed, and the
+ *     things that one call is passed pointers to don't overlap.
+ *   - No call is made from a signal handler, or in the forked child of a process with threads.
+ *   - malloc, realloc and free are those of one allocator, and their blocks are aligned to 16.
+ *
+ * What a caller needn't see to: a call on a closed handle, on one that is open already, on one that was freed, or on one
+ * that has the other kind of key answers TREE_INDEX_MISFIT, or 0 where it answers a number, and changes nothing.
+ *
+ * Costs are given in n, the number of pairs. An allocation that is refused is answered with TREE_INDEX_NO_MEMORY, and the
+ * pairs are as they were.
+ */
+#ifndef TREE_INDEX_H
+#define TREE_INDEX_H
+
+#include <stdbool.h>
+#include <stddef.h>
+#include <stdint.h>
+
+#ifdef __cplusplus
+extern "C" {
+#endif
+
+/* A handle. Its fields are the library's alone. */
+typedef struct tree_index_handle {
+  void *at;
+  bool is_open;
+} tree_index_handle;
+
+/* What a handle begins as: `tree_index_handle index = TREE_INDEX_CLOSED;`. */
+#define TREE_INDEX_CLOSED {0, 0}
+
+/* A pair of an index of numbers. */
+typedef struct tree_index_pair {
+  uint64_t key;
+  uint64_t value;
+} tree_index_pair;
+
+/* The length of a key of bytes, which lie elsewhere, and its value. */
+typedef struct tree_index_entry {
+  size_t length;
+  uint64_t value;
+} tree_index_entry;
+
+/* The kinds of a bound. */
+enum { TREE_INDEX_UNBOUNDED = 0, TREE_INDEX_INCLUDED = 1, TREE_INDEX_EXCLUDED = 2 };
+
+/* Declarations, written by bindings/declarations. */
+
+/* What a call answers. */
+enum {
+  /* No: the key is absent, or present where it must not be, or there is no pair. */
+  TREE_INDEX_NO = 0,
+  /* Yes: it was done. */
+  TREE_INDEX_YES = 1,
+  /* An allocation was refused. Nothing changed. */
+  TREE_INDEX_NO_MEMORY = 2,
+  /* The handle doesn't fit the call: it is closed, or open where it must be closed, or has the other kind of key. Nothing changed. */
+  TREE_INDEX_MISFIT = 3,
+  /* The places that the caller passed are too few for a key. Nothing changed but the length that is told. */
+  TREE_INDEX_NO_ROOM = 4,
+};
+
+/* Writes the value of a key. Copies nothing. */
+uint8_t tree_index_bytes_peek(tree_index_handle *handle, const uint8_t *key, size_t key_length, uint64_t *value);
+
+/* Answers whether a key is present. Copies nothing. */
+uint8_t tree_index_bytes_contains(tree_index_handle *handle, const uint8_t *key, size_t key_length);
+
+/* Writes the pair with the smallest key. */
+uint8_t tree_index_bytes_first(tree_index_handle *handle, uint8_t *key, size_t key_length, tree_index_entry *entry);
+
+/* Writes the pair with the largest key. */
+uint8_t tree_index_bytes_last(tree_index_handle *handle, uint8_t *key, size_t key_length, tree_index_entry *entry);
+
+/* Writes the pair with a key, or else the one with the next smaller key. Copies the key meanwhile. */
+uint8_t tree_index_bytes_at_or_below(tree_index_handle *handle, const uint8_t *sought, size_t sought_length, uint8_t *key, size_t key_length, tree_index_entry *entry);
+
+/* Writes the pair with a key, or else the one with the next larger key. Copies the key meanwhile. */
+uint8_t tree_index_bytes_at_or_above(tree_index_handle *handle, const uint8_t *sought, size_t sought_length, uint8_t *key, size_t key_length, tree_index_entry *entry);
+
+/* Writes the first pairs whose keys are within both bounds, in ascending order, and how many. Stops where a key has no room
+ * in what is left of `keys`, and at the last of `entries`. `keys` gets the bytes of one key after another, and `entries` the
+ * length and the value of each. Answers `NO_ROOM` if even the first key has no room, and writes its length to `count`.
+ * Copies the keys of the bounds meanwhile. */
+uint8_t tree_index_bytes_fill(tree_index_handle *handle, uint8_t low_kind, const uint8_t *low, size_t low_length, uint8_t high_kind, const uint8_t *high, size_t high_length, uint8_t *keys, size_t keys_length, tree_index_entry *entries, size_t entries_length, size_t *count);
+
+/* Does what [`tree_index_bytes_fill`] does from the other end: the last pairs, in descending order. */
+uint8_t tree_index_bytes_fill_back(tree_index_handle *handle, uint8_t low_kind, const uint8_t *low, size_t low_length, uint8_t high_kind, const uint8_t *high, size_t high_length, uint8_t *keys, size_t keys_length, tree_index_entry *entries, size_t entries_length, size_t *count);
+
+/* Removes every pair whose key is within both bounds. Copies the keys of the bounds meanwhile. */
+uint8_t tree_index_bytes_remove_range(tree_index_handle *handle, uint8_t low_kind, const uint8_t *low, size_t low_length, uint8_t high_kind, const uint8_t *high, size_t high_length);
+
+/* Opens a closed handle on a new, empty index of byte strings. Allocates one block. */
+uint8_t tree_index_bytes_new(tree_index_handle *handle);
+
+/* Stores a pair if its key is absent, with a copy of the key. Answers `NO` if it is present. */
+uint8_t tree_index_bytes_insert(tree_index_handle *handle, const uint8_t *key, size_t key_length, uint64_t value);
+
+/* Stores a pair with a copy of its key, in place of one with an equal key. */
+uint8_t tree_index_bytes_upsert(tree_index_handle *handle, const uint8_t *key, size_t key_length, uint64_t value);
+
+/* Removes the pair with a key. Answers whether there was one. Copies the key meanwhile. */
+uint8_t tree_index_bytes_remove(tree_index_handle *handle, const uint8_t *key, size_t key_length);
+
+/* Removes the pair with a key and writes its value. Copies the key meanwhile. */
+uint8_t tree_index_bytes_take(tree_index_handle *handle, const uint8_t *key, size_t key_length, uint64_t *value);
+
+/* Removes the pair with the smallest key and writes it. Copies the key meanwhile. Answers `NO_ROOM` if the key has too few places:
+ * the pair stays then, and the entry tells its length. */
+uint8_t tree_index_bytes_pop_first(tree_index_handle *handle, uint8_t *key, size_t key_length, tree_index_entry *entry);
+
+/* Removes the pair with the largest key and writes it. Copies the key meanwhile. Answers `NO_ROOM` if the key has too few places:
+ * the pair stays then, and the entry tells its length. */
+uint8_t tree_index_bytes_pop_last(tree_index_handle *handle, uint8_t *key, size_t key_length, tree_index_entry *entry);
+
+/* Opens the closed handle `to` on a copy of the index of `from`. A copy that is refused memory leaves `to` closed. */
+uint8_t tree_index_copy(tree_index_handle *from, tree_index_handle *to);
+
+/* Frees the index of a handle and closes the handle. Does nothing to a closed one. */
+void tree_index_free(tree_index_handle *handle);
+
+/* Returns the number of pairs, or 2^64 - 1 if there are more, and 0 if the handle is closed. */
+size_t tree_index_len(tree_index_handle *handle);
+
+/* Returns the number of levels of nodes, and 0 if there is no pair or the handle is closed. */
+size_t tree_index_depth(tree_index_handle *handle);
+
+/* Returns how many writes are sure not to allocate an array, whatever their keys, and 0 if the handle is closed. */
+uint8_t tree_index_spare(tree_index_handle *handle);
+
+/* Removes all pairs. */
+uint8_t tree_index_clear(tree_index_handle *handle);
+
+/* Writes the value of a key. */
+uint8_t tree_index_peek(tree_index_handle *handle, uint64_t key, uint64_t *value);
+
+/* Answers whether a key is present. */
+uint8_t tree_index_contains(tree_index_handle *handle, uint64_t key);
+
+/* Writes the pair with the smallest key. */
+uint8_t tree_index_first(tree_index_handle *handle, tree_index_pair *pair);
+
+/* Writes the pair with the largest key. */
+uint8_t tree_index_last(tree_index_handle *handle, tree_index_pair *pair);
+
+/* Writes the pair with a key, or else the one with the next smaller key. */
+uint8_t tree_index_at_or_below(tree_index_handle *handle, uint64_t key, tree_index_pair *pair);
+
+/* Writes the pair with a key, or else the one with the next larger key. */
+uint8_t tree_index_at_or_above(tree_index_handle *handle, uint64_t key, tree_index_pair *pair);
+
+/* Writes the first pairs whose keys are within both bounds, in ascending order, as many as there are places. Returns how
+ * many it wrote, and 0 if the handle holds no index of numbers. */
+size_t tree_index_fill(tree_index_handle *handle, uint8_t low_kind, uint64_t low, uint8_t high_kind, uint64_t high, tree_index_pair *places, size_t places_length);
+
+/* Writes the last pairs whose keys are within both bounds, in descending order, as many as there are places. Returns how
+ * many it wrote, and 0 if the handle holds no index of numbers. */
+size_t tree_index_fill_back(tree_index_handle *handle, uint8_t low_kind, uint64_t low, uint8_t high_kind, uint64_t high, tree_index_pair *places, size_t places_length);
+
+/* Removes every pair whose key is within both bounds. */
+uint8_t tree_index_remove_range(tree_index_handle *handle, uint8_t low_kind, uint64_t low, uint8_t high_kind, uint64_t high);
+
+/* Opens a closed handle on an index of these pairs, whose keys strictly ascend. Answers `NO` if they don't, or if two are
+ * equal. The handle stays closed then. */
+uint8_t tree_index_from_sorted(tree_index_handle *handle, const tree_index_pair *pairs, size_t pairs_length);
+
+/* Opens a closed handle on a new, empty index of numbers. Allocates one block. */
+uint8_t tree_index_new(tree_index_handle *handle);
+
+/* Stores a pair if its key is absent. Answers `NO` if it is present. */
+uint8_t tree_index_insert(tree_index_handle *handle, uint64_t key, uint64_t value);
+
+/* Stores a pair, in place of one with an equal key. */
+uint8_t tree_index_upsert(tree_index_handle *handle, uint64_t key, uint64_t value);
+
+/* Removes the pair with a key. Answers whether there was one. */
+uint8_t tree_index_remove(tree_index_handle *handle, uint64_t key);
+
+/* Removes the pair with a key and writes its value. */
+uint8_t tree_index_take(tree_index_handle *handle, uint64_t key, uint64_t *value);
+
+/* Removes the pair with the smallest key and writes it. */
+uint8_t tree_index_pop_first(tree_index_handle *handle, tree_index_pair *pair);
+
+/* Removes the pair with the largest key and writes it. */
+uint8_t tree_index_pop_last(tree_index_handle *handle, tree_index_pair *pair);
+
+/* End of the declarations. */
+
+#ifdef __cplusplus
+}
+#endif
+#endif

@@ -1,0 +1,28 @@
+"""Builds the extension over libtree_index_c.a.
+
+TREE_INDEX_LIB_DIR and TREE_INDEX_INCLUDE_DIR name the folders of the archive and of tree_index.h, as `make install` of
+bindings/c fills them. Without them the archive that bindings/run built is taken.
+"""
+import os
+import pathlib
+
+from setuptools import Extension, setup
+
+C = pathlib.Path(__file__).resolve().parent.parent / "c"
+flags = os.environ.get("TREE_INDEX_CFLAGS", "").split()
+
+setup(
+    ext_modules=[
+        Extension(
+            "tree_index._core",
+            ["src/tree_index/_core.c"],
+            include_dirs=[os.environ.get("TREE_INDEX_INCLUDE_DIR", str(C))],
+            extra_objects=[os.path.join(os.environ.get("TREE_INDEX_LIB_DIR", str(C / "build")), "libtree_index_c.a")],
+            extra_compile_args=["-std=c99", "-Wall", "-Wextra", "-Wno-missing-field-initializers", "-Wno-cast-function-type", *flags],
+            extra_link_args=flags,
+            define_macros=[("Py_LIMITED_API", "0x03080000")],
+            py_limited_api=True,
+        )
+    ],
+    options={"bdist_wheel": {"py_limited_api": "cp38"}},
+)

@@ -1,0 +1,98 @@
+"""A sorted mapping over an ordered index whose every call is proved.
+
+``TreeIndex`` has the methods of ``sortedcontainers.SortedDict`` that an ordered index serves well. Its keys are ints
+between -2**63 and 2**63 - 1, or bytes, as the first key decides. Its values are any objects.
+
+>>> prices = TreeIndex({101: "a", 104: "b", 102: "c"})
+>>> list(prices.irange(102))
+[102, 104]
+>>> prices.pop_range(maximum=103)
+[(101, 'a'), (102, 'c')]
+>>> prices
+TreeIndex({104: 'b'})
+"""
+from collections.abc import ItemsView, KeysView, MutableMapping, ValuesView
+
+from ._core import Index
+
+__all__ = ["TreeIndex"]
+
+_KEYS, _VALUES, _ITEMS = range(3)
+
+
+class _Keys(KeysView):
+    __slots__ = ()
+
+    def __reversed__(self):
+        return reversed(self._mapping)
+
+
+class _Values(ValuesView):
+    __slots__ = ()
+
+    def __iter__(self):
+        return self._mapping._walk(_VALUES, False)
+
+    def __reversed__(self):
+        return self._mapping._walk(_VALUES, True)
+
+
+class _Items(ItemsView):
+    __slots__ = ()
+
+    def __iter__(self):
+        return self._mapping._walk(_ITEMS, False)
+
+    def __reversed__(self):
+        return self._mapping._walk(_ITEMS, True)
+
+
+class TreeIndex(Index, MutableMapping):
+    """A mapping in the order of its keys."""
+
+    __slots__ = ()
+
+    def __init__(self, *args, **kwargs):
+        if kwargs:
+            raise TypeError("a key is an int or a bytes, so that no key is a keyword")
+        if args:
+            self.update(*args)
+
+    def keys(self):
+        """The keys, as a view that is walked in ascending order, or in descending order by reversed()."""
+        return _Keys(self)
+
+    def values(self):
+        """The values in the order of their keys."""
+        return _Values(self)
+
+    def items(self):
+        """The items in the order of their keys."""
+        return _Items(self)
+
+    def irange_items(self, minimum=None, maximum=None, inclusive=(True, True), reverse=False):
+        """The items from one key to another, as irange() gives the keys."""
+        return self.irange(minimum, maximum, inclusive, reverse, _ITEMS)
+
+    def copy(self):
+        """A copy with the same values."""
+        made = type(self)()
+        made._copy_from(self)
+        return made
+
+    __copy__ = copy
+
+    def __reduce__(self):
+        return type(self), (list(self.items()),)
+
+    def __repr__(self):
+        return f"{type(self).__name__}({{{', '.join(f'{key!r}: {value!r}' for key, value in self.items())}}})"
+
+    def __or__(self, other):
+        made = self.copy()
+        made.update(other)
+        return made
+
+    def __ior__(self, other):
+        self.update(other)
+        return self

@@ -1,0 +1,853 @@
+/* The mapping over an index, by CPython's stable interface.
+ *
+ * The key of an index is an int between -2**63 and 2**63 - 1 or a bytes, as its first key is. A number is stored with its
+ * sign bit turned, so that its order is that of the unsigned numbers. A value is stored as the address of its object, and
+ * the index owns a reference to it. Each method holds the interpreter's lock throughout, and no method is in the middle of
+ * a call of the library while it runs Python code.
+ */
+#define PY_SSIZE_T_CLEAN
+#include <Python.h>
+#include <string.h>
+
+#include "tree_index.h"
+
+enum kind { NONE, NUMBERS, BYTES };
+
+typedef struct {
+  PyObject_HEAD
+  tree_index_handle handle;
+  enum kind kind;
+  /* How many writes there were: a walk ends where it meets another number. */
+  uint64_t writes;
+} Index;
+
+/* A key on its way to the library. */
+typedef struct {
+  enum kind kind;
+  uint64_t number;
+  const uint8_t *bytes;
+  Py_ssize_t length;
+} Key;
+
+/* A bound of a walk. It owns its bytes. */
+typedef struct {
+  uint8_t kind;
+  uint64_t number;
+  PyObject *bytes;
+} Bound;
+
+static PyTypeObject *walk_type;
+
+static uint64_t turned(uint64_t number) { return number ^ (UINT64_C(1) << 63); }
+
+static PyObject *value_of(uint64_t stored) { return (PyObject *)(uintptr_t)stored; }
+
+static uint64_t stored_of(PyObject *value) { return (uint64_t)(uintptr_t)value; }
+
+static PyObject *number_object(uint64_t key) { return PyLong_FromLongLong((long long)turned(key)); }
+
+/* Reads a key. Returns -1 with an exception if it is neither a number in range nor a bytes. */
+static int read_key(PyObject *object, Key *key) {
+  if (PyLong_Check(object)) {
+    int overflow;
+    long long number = PyLong_AsLongLongAndOverflow(object, &overflow);
+    if (overflow) {
+      PyErr_SetString(PyExc_OverflowError, "an int key lies between -2**63 and 2**63 - 1");
+      return -1;
+    }
+    if (number == -1 && PyErr_Occurred()) return -1;
+    key->kind = NUMBERS;
+    key->number = turned((uint64_t)number);
+    return 0;
+  }
+  if (PyBytes_Check(object)) {
+    char *bytes;
+    if (PyBytes_AsStringAndSize(object, &bytes, &key->length) < 0) return -1;
+    key->kind = BYTES;
+    key->bytes = (const uint8_t *)bytes;
+    return 0;
+  }
+  PyErr_Format(PyExc_TypeError, "a key is an int or a bytes, not %R", (PyObject *)Py_TYPE(object));
+  return -1;
+}
+
+/* The same for a look-up. Returns 0 if the index can't hold the key, since it has keys of the other type or none at all. */
+static int read_sought(Index *self, PyObject *object, Key *key) {
+  if (read_key(object, key) < 0) {
+    if (!PyErr_ExceptionMatches(PyExc_OverflowError)) return -1;
+    PyErr_Clear();
+    return 0;
+  }
+  if (self->kind != NONE && self->kind != key->kind) {
+    PyErr_Format(PyExc_TypeError, "the keys of this index are of the other type than %R", object);
+    return -1;
+  }
+  return self->kind == key->kind;
+}
+
+/* Opens the handle for the first key. */
+static int open_for(Index *self, enum kind kind) {
+  if (self->kind == NONE) {
+    uint8_t answer = kind == NUMBERS ? tree_index_new(&self->handle) : tree_index_bytes_new(&self->handle);
+    if (answer != TREE_INDEX_YES) {
+      PyErr_NoMemory();
+      return -1;
+    }
+    self->kind = kind;
+  }
+  if (self->kind != kind) {
+    PyErr_SetString(PyExc_TypeError, "an index has keys of one type: int or bytes");
+    return -1;
+  }
+  return 0;
+}
+
+static uint8_t peek(Index *self, const Key *key, uint64_t *stored) {
+  return key->kind == NUMBERS ? tree_index_peek(&self->handle, key->number, stored)
+                              : tree_index_bytes_peek(&self->handle, key->bytes, (size_t)key->length, stored);
+}
+
+static uint8_t insert(Index *self, const Key *key, PyObject *value) {
+  return key->kind == NUMBERS ? tree_index_insert(&self->handle, key->number, stored_of(value))
+                              : tree_index_bytes_insert(&self->handle, key->bytes, (size_t)key->length, stored_of(value));
+}
+
+static uint8_t upsert(Index *self, const Key *key, PyObject *value) {
+  return key->kind == NUMBERS ? tree_index_upsert(&self->handle, key->number, stored_of(value))
+                              : tree_index_bytes_upsert(&self->handle, key->bytes, (size_t)key->length, stored_of(value));
+}
+
+static uint8_t take(Index *self, const Key *key, uint64_t *stored) {
+  return key->kind == NUMBERS ? tree_index_take(&self->handle, key->number, stored)
+                              : tree_index_bytes_take(&self->handle, key->bytes, (size_t)key->length, stored);
+}
+
+/* Stores a value under a key. Returns -1 with an exception if memory was refused. */
+static int store(Index *self, const Key *key, PyObject *value) {
+  if (open_for(self, key->kind) < 0) return -1;
+  self->writes++;
+  uint64_t was = 0;
+  uint8_t answer = insert(self, key, value);
+  if (answer == TREE_INDEX_NO) {
+    peek(self, key, &was);
+    answer = upsert(self, key, value);
+  }
+  if (answer != TREE_INDEX_YES) {
+    PyErr_NoMemory();
+    return -1;
+  }
+  Py_INCREF(value);
+  if (was) Py_DECREF(value_of(was));
+  return 0;
+}
+
+/* ---- walks: the keys, values or items within two bounds */
+
+#define AHEAD 64
+#define ROOM 2048
+
+enum shows { KEYS, VALUES, ITEMS };
+
+/* What was read ahead of one end. */
+typedef struct {
+  Index *index;
+  Bound low, high;
+  int descends;
+  size_t at, count;
+  tree_index_pair pairs[AHEAD];
+  /* Of byte strings: the lengths and values, the bytes, and the place of the next key's. */
+  tree_index_entry entries[AHEAD];
+  uint8_t *room;
+  size_t room_length, used;
+} Ahead;
+
+static const uint8_t *bytes_of(const Bound *bound, size_t *length) {
+  static const uint8_t none = 0;
+  char *bytes = NULL;
+  Py_ssize_t count = 0;
+  if (!bound->bytes || PyBytes_AsStringAndSize(bound->bytes, &bytes, &count) < 0) {
+    *length = 0;
+    return &none;
+  }
+  *length = (size_t)count;
+  return (const uint8_t *)bytes;
+}
+
+/* Reads the next pairs. Returns -1 with an exception if memory was refused. */
+static int read_ahead(Ahead *ahead) {
+  Index *index = ahead->index;
+  ahead->at = ahead->count = ahead->used = 0;
+  if (index->kind == NUMBERS) {
+    ahead->count = (ahead->descends ? tree_index_fill_back : tree_index_fill)(
+        &index->handle, ahead->low.kind, ahead->low.number, ahead->high.kind, ahead->high.number, ahead->pairs, AHEAD);
+    if (ahead->count) {
+      Bound *next = ahead->descends ? &ahead->high : &ahead->low;
+      next->kind = TREE_INDEX_EXCLUDED;
+      next->number = ahead->pairs[ahead->count - 1].key;
+    }
+    return 0;
+  }
+  if (index->kind == NONE) return 0;
+  for (;;) {
+    size_t low_length, high_length;
+    const uint8_t *low = bytes_of(&ahead->low, &low_length), *high = bytes_of(&ahead->high, &high_length);
+    if (!ahead->room) {
+      ahead->room = PyMem_Malloc(ROOM);
+      ahead->room_length = ROOM;
+    }
+    if (!ahead->room) break;
+    uint8_t answer = (ahead->descends ? tree_index_bytes_fill_back : tree_index_bytes_fill)(
+        &index->handle, ahead->low.kind, low, low_length, ahead->high.kind, high, high_length, ahead->room, ahead->room_length,
+        ahead->entries, AHEAD, &ahead->count);
+    if (answer == TREE_INDEX_YES) {
+      if (!ahead->count) return 0;
+      size_t end = 0;
+      for (size_t at = 0; at < ahead->count; at++) end += ahead->entries[at].length;
+      size_t length = ahead->entries[ahead->count - 1].length;
+      PyObject *last = PyBytes_FromStringAndSize((const char *)ahead->room + end - length, (Py_ssize_t)length);
+      if (!last) return -1;
+      Bound *next = ahead->descends ? &ahead->high : &ahead->low;
+      next->kind = TREE_INDEX_EXCLUDED;
+      Py_XDECREF(next->bytes);
+      next->bytes = last;
+      return 0;
+    }
+    size_t needed = answer == TREE_INDEX_NO_ROOM ? ahead->count : 0;
+    ahead->count = 0;
+    uint8_t *larger = needed ? PyMem_Realloc(ahead->room, needed) : NULL;
+    if (!larger) break;
+    ahead->room = larger;
+    ahead->room_length = needed;
+  }
+  PyErr_NoMemory();
+  return -1;
+}
+
+/* Gives the next key, if it is asked for, and the value that is stored under it. Returns 0 at the end. */
+static int next_of(Ahead *ahead, PyObject **key, PyObject **value) {
+  if (ahead->at == ahead->count) {
+    if (read_ahead(ahead) < 0) return -1;
+    if (!ahead->count) return 0;
+  }
+  size_t at = ahead->at++;
+  if (ahead->index->kind == NUMBERS) {
+    *value = value_of(ahead->pairs[at].value);
+    return !key || (*key = number_object(ahead->pairs[at].key)) ? 1 : -1;
+  }
+  size_t length = ahead->entries[at].length, from = ahead->used;
+  ahead->used += length;
+  *value = value_of(ahead->entries[at].value);
+  return !key || (*key = PyBytes_FromStringAndSize((const char *)ahead->room + from, (Py_ssize_t)length)) ? 1 : -1;
+}
+
+/* Begins a walk over the pairs within two bounds, which it takes over. */
+static void begin(Ahead *ahead, Index *index, Bound low, Bound high, int descends) {
+  ahead->index = index;
+  ahead->low = low;
+  ahead->high = high;
+  ahead->descends = descends;
+  ahead->at = ahead->count = ahead->used = 0;
+  ahead->room = NULL;
+}
+
+static void end(Ahead *ahead) {
+  Py_CLEAR(ahead->low.bytes);
+  Py_CLEAR(ahead->high.bytes);
+  PyMem_Free(ahead->room);
+  ahead->room = NULL;
+}
+
+static const Bound unbounded = {TREE_INDEX_UNBOUNDED, 0, NULL};
+
+typedef struct {
+  PyObject_HEAD
+  Ahead ahead;
+  enum shows shows;
+  uint64_t writes;
+} Walk;
+
+static int walk_traverse(PyObject *object, visitproc visit, void *arg) {
+  Py_VISIT(((Walk *)object)->ahead.index);
+#if PY_VERSION_HEX >= 0x03090000
+  Py_VISIT(Py_TYPE(object));
+#endif
+  return 0;
+}
+
+static int walk_clear(PyObject *object) {
+  Walk *self = (Walk *)object;
+  end(&self->ahead);
+  self->ahead.at = self->ahead.count = 0;
+  Py_CLEAR(self->ahead.index);
+  return 0;
+}
+
+static void walk_dealloc(PyObject *object) {
+  PyTypeObject *type = Py_TYPE(object);
+  PyObject_GC_UnTrack(object);
+  walk_clear(object);
+  PyObject_GC_Del(object);
+  Py_DECREF(type);
+}
+
+static PyObject *walk_next(PyObject *object) {
+  Walk *self = (Walk *)object;
+  Index *index = self->ahead.index;
+  if (!index) return NULL;
+  if (self->writes != index->writes) {
+    PyErr_SetString(PyExc_RuntimeError, "TreeIndex changed during iteration");
+    return NULL;
+  }
+  PyObject *key = NULL, *value;
+  int more = next_of(&self->ahead, self->shows == VALUES ? NULL : &key, &value);
+  if (more <= 0) {
+    if (!more) Py_CLEAR(self->ahead.index);
+    return NULL;
+  }
+  if (self->shows == KEYS) return key;
+  Py_INCREF(value);
+  if (self->shows == VALUES) return value;
+  PyObject *item = PyTuple_New(2);
+  if (!item) {
+    Py_DECREF(key);
+    Py_DECREF(value);
+    return NULL;
+  }
+  PyTuple_SetItem(item, 0, key);
+  PyTuple_SetItem(item, 1, value);
+  return item;
+}
+
+static PyType_Slot walk_slots[] = {
+    {Py_tp_doc, "A walk over an index."},
+    {Py_tp_dealloc, walk_dealloc},
+    {Py_tp_traverse, walk_traverse},
+    {Py_tp_clear, walk_clear},
+    {Py_tp_iter, PyObject_SelfIter},
+    {Py_tp_iternext, walk_next},
+    {0, NULL},
+};
+
+static PyType_Spec walk_spec = {"tree_index._core.Walk", sizeof(Walk), 0, Py_TPFLAGS_DEFAULT | Py_TPFLAGS_HAVE_GC, walk_slots};
+
+static PyObject *walk_over(Index *index, Bound low, Bound high, int descends, enum shows shows) {
+  Walk *walk = PyObject_GC_New(Walk, walk_type);
+  if (!walk) {
+    Py_XDECREF(low.bytes);
+    Py_XDECREF(high.bytes);
+    return NULL;
+  }
+  Py_INCREF(index);
+  begin(&walk->ahead, index, low, high, descends);
+  walk->shows = shows;
+  walk->writes = index->writes;
+  PyObject_GC_Track(walk);
+  return (PyObject *)walk;
+}
+
+/* Reads one bound. None is no bound. Returns -1 with an exception, and 0 if no key of the index is on the bound's side. */
+static int read_bound(Index *self, PyObject *object, int inclusive, int is_low, Bound *bound) {
+  *bound = unbounded;
+  if (object == Py_None) return 1;
+  Key key;
+  if (read_key(object, &key) < 0) {
+    if (!PyErr_ExceptionMatches(PyExc_OverflowError)) return -1;
+    PyErr_Clear();
+    /* Past every key on one side. */
+    PyObject *zero = PyLong_FromLong(0);
+    int positive = zero ? PyObject_RichCompareBool(object, zero, Py_GT) : -1;
+    Py_XDECREF(zero);
+    return positive < 0 ? -1 : positive != is_low;
+  }
+  if (self->kind != NONE && self->kind != key.kind) {
+    PyErr_Format(PyExc_TypeError, "the keys of this index are of the other type than %R", object);
+    return -1;
+  }
+  bound->kind = inclusive ? TREE_INDEX_INCLUDED : TREE_INDEX_EXCLUDED;
+  if (key.kind == NUMBERS) {
+    bound->number = key.number;
+  } else {
+    Py_INCREF(object);
+    bound->bytes = object;
+  }
+  return 1;
+}
+
+/* Reads minimum, maximum, inclusive. Returns 0 if they hold no key, and -1 with an exception. */
+static int read_bounds(Index *self, PyObject *minimum, PyObject *maximum, PyObject *inclusive, Bound *low, Bound *high) {
+  int low_in = 1, high_in = 1;
+  *low = *high = unbounded;
+  if (inclusive) {
+    PyObject *one = PySequence_GetItem(inclusive, 0), *two = one ? PySequence_GetItem(inclusive, 1) : NULL;
+    low_in = one && two ? PyObject_IsTrue(one) : -1;
+    high_in = one && two ? PyObject_IsTrue(two) : -1;
+    Py_XDECREF(one);
+    Py_XDECREF(two);
+    if (low_in < 0 || high_in < 0) return -1;
+  }
+  int some = read_bound(self, minimum, low_in, 1, low);
+  int more = some < 0 ? -1 : read_bound(self, maximum, high_in, 0, high);
+  if (more < 0 || !some || !more) {
+    Py_CLEAR(low->bytes);
+    Py_CLEAR(high->bytes);
+    return some < 0 || more < 0 ? -1 : 0;
+  }
+  return 1;
+}
+
+/* ---- the mapping */
+
+/* Lets every value go. The index is empty meanwhile, as the values' destructors may see it. */
+static int empty(Index *self) {
+  if (self->kind == NONE) return 0;
+  tree_index_handle was = self->handle;
+  Index old = {.handle = was, .kind = self->kind};
+  self->handle = (tree_index_handle)TREE_INDEX_CLOSED;
+  self->kind = NONE;
+  self->writes++;
+  Ahead ahead;
+  PyObject *value;
+  begin(&ahead, &old, unbounded, unbounded, 0);
+  int more;
+  while ((more = next_of(&ahead, NULL, &value)) > 0) Py_DECREF(value);
+  end(&ahead);
+  tree_index_free(&old.handle);
+  return more;
+}
+
+static int index_traverse(PyObject *object, visitproc visit, void *arg) {
+  Index *self = (Index *)object;
+#if PY_VERSION_HEX >= 0x03090000
+  Py_VISIT(Py_TYPE(object));
+#endif
+  if (self->kind == NUMBERS) {
+    tree_index_pair pairs[AHEAD];
+    uint64_t low = 0;
+    uint8_t kind = TREE_INDEX_UNBOUNDED;
+    size_t count;
+    while ((count = tree_index_fill(&self->handle, kind, low, TREE_INDEX_UNBOUNDED, 0, pairs, AHEAD))) {
+      for (size_t at = 0; at < count; at++) Py_VISIT(value_of(pairs[at].value));
+      low = pairs[count - 1].key;
+      kind = TREE_INDEX_EXCLUDED;
+    }
+  }
+  return 0;
+}
+
+static int index_clear(PyObject *object) {
+  if (empty((Index *)object) < 0) PyErr_Clear();
+  return 0;
+}
+
+static void index_dealloc(PyObject *object) {
+  PyTypeObject *type = Py_TYPE(object);
+  PyObject_GC_UnTrack(object);
+  index_clear(object);
+  ((freefunc)PyType_GetSlot(type, Py_tp_free))(object);
+  Py_DECREF(type);
+}
+
+static PyObject *index_new(PyTypeObject *type, PyObject *args, PyObject *kwargs) {
+  (void)args;
+  (void)kwargs;
+  Index *self = (Index *)((allocfunc)PyType_GetSlot(type, Py_tp_alloc))(type, 0);
+  if (!self) return NULL;
+  self->handle = (tree_index_handle)TREE_INDEX_CLOSED;
+  self->kind = NONE;
+  self->writes = 0;
+  return (PyObject *)self;
+}
+
+static Py_ssize_t index_length(PyObject *object) { return (Py_ssize_t)tree_index_len(&((Index *)object)->handle); }
+
+static PyObject *index_subscript(PyObject *object, PyObject *sought) {
+  Index *self = (Index *)object;
+  Key key;
+  uint64_t stored;
+  int may = read_sought(self, sought, &key);
+  if (may < 0) return NULL;
+  if (!may || peek(self, &key, &stored) != TREE_INDEX_YES) {
+    PyErr_SetObject(PyExc_KeyError, sought);
+    return NULL;
+  }
+  PyObject *value = value_of(stored);
+  Py_INCREF(value);
+  return value;
+}
+
+/* Removes a key and gives its value, or NULL with no exception if the key is absent. */
+static PyObject *taken(Index *self, PyObject *sought, int *failed) {
+  Key key;
+  uint64_t stored;
+  int may = read_sought(self, sought, &key);
+  *failed = may < 0;
+  if (may <= 0) return NULL;
+  uint8_t answer = take(self, &key, &stored);
+  if (answer == TREE_INDEX_NO_MEMORY) {
+    PyErr_NoMemory();
+    *failed = 1;
+  }
+  if (answer != TREE_INDEX_YES) return NULL;
+  self->writes++;
+  return value_of(stored);
+}
+
+static int index_ass_subscript(PyObject *object, PyObject *name, PyObject *value) {
+  Index *self = (Index *)object;
+  Key key;
+  if (value) return read_key(name, &key) < 0 ? -1 : store(self, &key, value);
+  int failed;
+  PyObject *was = taken(self, name, &failed);
+  if (!was) {
+    if (!failed) PyErr_SetObject(PyExc_KeyError, name);
+    return -1;
+  }
+  Py_DECREF(was);
+  return 0;
+}
+
+static int index_contains(PyObject *object, PyObject *sought) {
+  Index *self = (Index *)object;
+  Key key;
+  int may = read_sought(self, sought, &key);
+  if (may <= 0) return may;
+  return (key.kind == NUMBERS ? tree_index_contains(&self->handle, key.number)
+                              : tree_index_bytes_contains(&self->handle, key.bytes, (size_t)key.length)) == TREE_INDEX_YES;
+}
+
+static PyObject *index_iter(PyObject *object) { return walk_over((Index *)object, unbounded, unbounded, 0, KEYS); }
+
+static PyObject *index_reversed(PyObject *object, PyObject *none) {
+  (void)none;
+  return walk_over((Index *)object, unbounded, unbounded, 1, KEYS);
+}
+
+static PyObject *index_walk(PyObject *object, PyObject *args) {
+  int shows, descends;
+  if (!PyArg_ParseTuple(args, "ip", &shows, &descends)) return NULL;
+  return walk_over((Index *)object, unbounded, unbounded, descends, (enum shows)shows);
+}
+
+static PyObject *index_get(PyObject *object, PyObject *args) {
+  Index *self = (Index *)object;
+  PyObject *sought, *otherwise = Py_None;
+  if (!PyArg_ParseTuple(args, "O|O:get", &sought, &otherwise)) return NULL;
+  Key key;
+  uint64_t stored;
+  int may = read_sought(self, sought, &key);
+  if (may < 0) return NULL;
+  PyObject *value = may && peek(self, &key, &stored) == TREE_INDEX_YES ? value_of(stored) : otherwise;
+  Py_INCREF(value);
+  return value;
+}
+
+static PyObject *index_setdefault(PyObject *object, PyObject *args) {
+  Index *self = (Index *)object;
+  PyObject *name, *value = Py_None;
+  if (!PyArg_ParseTuple(args, "O|O:setdefault", &name, &value)) return NULL;
+  Key key;
+  uint64_t stored;
+  if (read_key(name, &key) < 0 || open_for(self, key.kind) < 0) return NULL;
+  switch (insert(self, &key, value)) {
+  case TREE_INDEX_YES:
+    self->writes++;
+    /* One reference is the index's. */
+    Py_INCREF(value);
+    break;
+  case TREE_INDEX_NO:
+    peek(self, &key, &stored);
+    value = value_of(stored);
+    break;
+  default:
+    return PyErr_NoMemory();
+  }
+  Py_INCREF(value);
+  return value;
+}
+
+static PyObject *index_pop(PyObject *object, PyObject *args) {
+  PyObject *name, *otherwise = NULL;
+  if (!PyArg_ParseTuple(args, "O|O:pop", &name, &otherwise)) return NULL;
+  int failed;
+  PyObject *value = taken((Index *)object, name, &failed);
+  if (value || failed) return value;
+  if (!otherwise) PyErr_SetObject(PyExc_KeyError, name);
+  else Py_INCREF(otherwise);
+  return otherwise;
+}
+
+static PyObject *index_clear_all(PyObject *object, PyObject *none) {
+  (void)none;
+  if (empty((Index *)object) < 0) return NULL;
+  Py_RETURN_NONE;
+}
+
+static PyObject *item_of(PyObject *key, PyObject *value) {
+  if (!key) return NULL;
+  PyObject *item = PyTuple_New(2);
+  if (!item) {
+    Py_DECREF(key);
+    return NULL;
+  }
+  Py_INCREF(value);
+  PyTuple_SetItem(item, 0, key);
+  PyTuple_SetItem(item, 1, value);
+  return item;
+}
+
+/* The item at a place, counted from the end if it is below 0. The two ends cost one descent, the others a walk. */
+static PyObject *item_at(Index *self, Py_ssize_t place) {
+  int descends = place < 0;
+  Ahead ahead;
+  PyObject *key = NULL, *value, *item = NULL;
+  Py_ssize_t before = descends ? -(place + 1) : place;
+  begin(&ahead, self, unbounded, unbounded, descends);
+  if (self->kind == NUMBERS && before == 0) {
+    tree_index_pair pair;
+    if ((descends ? tree_index_last : tree_index_first)(&self->handle, &pair) == TREE_INDEX_YES) {
+      return item_of(number_object(pair.key), value_of(pair.value));
+    }
+  } else {
+    int more = 1;
+    for (; more > 0 && before > 0; before--) more = next_of(&ahead, NULL, &value);
+    if (more > 0 && (more = next_of(&ahead, &key, &value)) > 0) item = item_of(key, value);
+    end(&ahead);
+    if (more) return item;
+  }
+  PyErr_SetString(PyExc_IndexError, "there is no such item");
+  return NULL;
+}
+
+static PyObject *index_peekitem(PyObject *object, PyObject *args, PyObject *kwargs) {
+  static char *names[] = {"index", NULL};
+  Py_ssize_t place = -1;
+  if (!PyArg_ParseTupleAndKeywords(args, kwargs, "|n:peekitem", names, &place)) return NULL;
+  return item_at((Index *)object, place);
+}
+
+static PyObject *index_popitem(PyObject *object, PyObject *args, PyObject *kwargs) {
+  static char *names[] = {"index", NULL};
+  Py_ssize_t place = -1;
+  if (!PyArg_ParseTupleAndKeywords(args, kwargs, "|n:popitem", names, &place)) return NULL;
+  PyObject *item = item_at((Index *)object, place);
+  if (!item) {
+    if (PyErr_ExceptionMatches(PyExc_IndexError)) PyErr_SetString(PyExc_KeyError, "there is no such item");
+    return NULL;
+  }
+  int failed;
+  PyObject *value = taken((Index *)object, PyTuple_GetItem(item, 0), &failed);
+  if (failed) {
+    Py_DECREF(item);
+    return NULL;
+  }
+  Py_XDECREF(value);
+  return item;
+}
+
+static PyObject *index_irange(PyObject *object, PyObject *args, PyObject *kwargs) {
+  static char *names[] = {"minimum", "maximum", "inclusive", "reverse", "show", NULL};
+  PyObject *minimum = Py_None, *maximum = Py_None, *inclusive = NULL;
+  int descends = 0, shows = KEYS;
+  if (!PyArg_ParseTupleAndKeywords(args, kwargs, "|OOOpi:irange", names, &minimum, &maximum, &inclusive, &descends, &shows)) return NULL;
+  Bound low, high;
+  int some = read_bounds((Index *)object, minimum, maximum, inclusive, &low, &high);
+  if (some < 0) return NULL;
+  if (!some) {
+    PyObject *none = PyTuple_New(0), *walk = none ? PyObject_GetIter(none) : NULL;
+    Py_XDECREF(none);
+    return walk;
+  }
+  return walk_over((Index *)object, low, high, descends, (enum shows)shows);
+}
+
+/* The item with a key, or else the nearest one on one side, or None. */
+static PyObject *nearest(Index *self, PyObject *sought, int is_above) {
+  Bound low = unbounded, high = unbounded;
+  int some = read_bound(self, sought, 1, is_above, is_above ? &low : &high);
+  if (some < 0) return NULL;
+  if (!some || sought == Py_None) {
+    Py_XDECREF(low.bytes);
+    Py_XDECREF(high.bytes);
+    if (some) PyErr_SetString(PyExc_TypeError, "a key is an int or a bytes");
+    if (some) return NULL;
+    Py_RETURN_NONE;
+  }
+  if (self->kind == NUMBERS && (is_above ? low : high).kind == TREE_INDEX_INCLUDED) {
+    tree_index_pair pair;
+    uint64_t key = (is_above ? low : high).number;
+    if ((is_above ? tree_index_at_or_above : tree_index_at_or_below)(&self->handle, key, &pair) != TREE_INDEX_YES) Py_RETURN_NONE;
+    return item_of(number_object(pair.key), value_of(pair.value));
+  }
+  Ahead ahead;
+  PyObject *key = NULL, *value, *item = NULL;
+  begin(&ahead, self, low, high, !is_above);
+  int more = next_of(&ahead, &key, &value);
+  if (more > 0) item = item_of(key, value);
+  end(&ahead);
+  if (more) return item;
+  Py_RETURN_NONE;
+}
+
+static PyObject *index_at_or_below(PyObject *object, PyObject *sought) { return nearest((Index *)object, sought, 0); }
+
+static PyObject *index_at_or_above(PyObject *object, PyObject *sought) { return nearest((Index *)object, sought, 1); }
+
+/* Removes the items within two bounds and gives them as a list. */
+static PyObject *index_pop_range(PyObject *object, PyObject *args, PyObject *kwargs) {
+  static char *names[] = {"minimum", "maximum", "inclusive", NULL};
+  Index *self = (Index *)object;
+  PyObject *minimum = Py_None, *maximum = Py_None, *inclusive = NULL;
+  if (!PyArg_ParseTupleAndKeywords(args, kwargs, "|OOO:pop_range", names, &minimum, &maximum, &inclusive)) return NULL;
+  Bound low, high;
+  int some = read_bounds(self, minimum, maximum, inclusive, &low, &high);
+  if (some < 0) return NULL;
+  PyObject *items = PyList_New(0);
+  if (!items || !some || self->kind == NONE) {
+    Py_XDECREF(low.bytes);
+    Py_XDECREF(high.bytes);
+    return items;
+  }
+  Ahead ahead;
+  PyObject *key, *value;
+  Py_XINCREF(low.bytes);
+  Py_XINCREF(high.bytes);
+  begin(&ahead, self, low, high, 0);
+  uint64_t writes = self->writes;
+  int more;
+  while ((more = next_of(&ahead, &key, &value)) > 0) {
+    PyObject *item = item_of(key, value);
+    int failed = !item || PyList_Append(items, item) < 0;
+    Py_XDECREF(item);
+    if (failed) {
+      more = -1;
+      break;
+    }
+    if (writes != self->writes) {
+      /* A collector ran, and with it code that wrote. */
+      PyErr_SetString(PyExc_RuntimeError, "TreeIndex changed during pop_range");
+      more = -1;
+      break;
+    }
+  }
+  end(&ahead);
+  uint8_t answer = TREE_INDEX_YES;
+  if (!more) {
+    size_t low_length, high_length;
+    const uint8_t *from = bytes_of(&low, &low_length), *to = bytes_of(&high, &high_length);
+    answer = self->kind == NUMBERS ? tree_index_remove_range(&self->handle, low.kind, low.number, high.kind, high.number)
+                                   : tree_index_bytes_remove_range(&self->handle, low.kind, from, low_length, high.kind, to, high_length);
+    if (answer == TREE_INDEX_YES) self->writes++;
+    else PyErr_NoMemory();
+  }
+  Py_XDECREF(low.bytes);
+  Py_XDECREF(high.bytes);
+  if (more || answer != TREE_INDEX_YES) {
+    Py_DECREF(items);
+    return NULL;
+  }
+  /* The list has a reference to each value, so none is freed before all are out. */
+  Py_ssize_t count = PyList_Size(items);
+  for (Py_ssize_t at = 0; at < count; at++) Py_DECREF(PyTuple_GetItem(PyList_GetItem(items, at), 1));
+  return items;
+}
+
+/* Fills an empty index with the pairs of another, and takes a reference to each value. */
+static PyObject *index_copy_from(PyObject *object, PyObject *given) {
+  Index *self = (Index *)object;
+  if (!PyObject_TypeCheck(given, Py_TYPE(object)) || self->kind != NONE) {
+    PyErr_SetString(PyExc_TypeError, "an empty index copies another of its class");
+    return NULL;
+  }
+  Index *from = (Index *)given;
+  if (from->kind == NONE) Py_RETURN_NONE;
+  if (tree_index_copy(&from->handle, &self->handle) != TREE_INDEX_YES) return PyErr_NoMemory();
+  Ahead ahead;
+  PyObject *value;
+  self->kind = from->kind;
+  begin(&ahead, self, unbounded, unbounded, 0);
+  size_t count = 0, held = tree_index_len(&self->handle);
+  int more;
+  while ((more = next_of(&ahead, NULL, &value)) > 0) {
+    Py_INCREF(value);
+    count++;
+  }
+  end(&ahead);
+  if (more < 0 || count != held) {
+    /* Memory ran out in the middle: the references that were taken are given back. */
+    begin(&ahead, from, unbounded, unbounded, 0);
+    PyObject *type, *error, *trace;
+    PyErr_Fetch(&type, &error, &trace);
+    while (count > 0 && next_of(&ahead, NULL, &value) > 0) {
+      Py_DECREF(value);
+      count--;
+    }
+    end(&ahead);
+    PyErr_Restore(type, error, trace);
+    tree_index_free(&self->handle);
+    self->kind = NONE;
+    return PyErr_NoMemory();
+  }
+  self->writes++;
+  Py_RETURN_NONE;
+}
+
+static PyObject *index_depth(PyObject *object, void *none) {
+  (void)none;
+  return PyLong_FromSize_t(tree_index_depth(&((Index *)object)->handle));
+}
+
+static PyMethodDef index_methods[] = {
+    {"__reversed__", index_reversed, METH_NOARGS, "The keys in descending order."},
+    {"_walk", index_walk, METH_VARARGS, NULL},
+    {"_copy_from", index_copy_from, METH_O, NULL},
+    {"get", index_get, METH_VARARGS, "get(key, default=None): the value of a key, or the default."},
+    {"setdefault", index_setdefault, METH_VARARGS, "setdefault(key, default=None): the value of a key, stored first if it is absent."},
+    {"pop", index_pop, METH_VARARGS, "pop(key[, default]): removes a key and returns its value."},
+    {"clear", index_clear_all, METH_NOARGS, "Removes every item. The next key decides the type of the keys."},
+    {"peekitem", (PyCFunction)(void (*)(void))index_peekitem, METH_VARARGS | METH_KEYWORDS, "peekitem(index=-1): the item at a place. The first and the last cost one descent, the others a walk."},
+    {"popitem", (PyCFunction)(void (*)(void))index_popitem, METH_VARARGS | METH_KEYWORDS, "popitem(index=-1): removes the item at a place and returns it."},
+    {"irange", (PyCFunction)(void (*)(void))index_irange, METH_VARARGS | METH_KEYWORDS, "irange(minimum=None, maximum=None, inclusive=(True, True), reverse=False): the keys from one to another."},
+    {"pop_range", (PyCFunction)(void (*)(void))index_pop_range, METH_VARARGS | METH_KEYWORDS, "pop_range(minimum=None, maximum=None, inclusive=(True, True)): removes the items from one key to another and returns them."},
+    {"at_or_below", index_at_or_below, METH_O, "at_or_below(key): the item with a key, or else with the next smaller one, or None."},
+    {"at_or_above", index_at_or_above, METH_O, "at_or_above(key): the item with a key, or else with the next larger one, or None."},
+    {NULL, NULL, 0, NULL},
+};
+
+static PyGetSetDef index_fields[] = {
+    {"depth", index_depth, NULL, "How many levels of nodes there are.", NULL},
+    {NULL, NULL, NULL, NULL, NULL},
+};
+
+static PyType_Slot index_slots[] = {
+    {Py_tp_doc, "An ordered index of objects by int or bytes keys."},
+    {Py_tp_new, index_new},
+    {Py_tp_dealloc, index_dealloc},
+    {Py_tp_traverse, index_traverse},
+    {Py_tp_clear, index_clear},
+    {Py_tp_iter, index_iter},
+    {Py_tp_methods, index_methods},
+    {Py_tp_getset, index_fields},
+    {Py_mp_length, index_length},
+    {Py_mp_subscript, index_subscript},
+    {Py_mp_ass_subscript, index_ass_subscript},
+    {Py_sq_contains, index_contains},
+    {0, NULL},
+};
+
+static PyType_Spec index_spec = {"tree_index._core.Index", sizeof(Index), 0, Py_TPFLAGS_DEFAULT | Py_TPFLAGS_BASETYPE | Py_TPFLAGS_HAVE_GC, index_slots};
+
+static struct PyModuleDef module = {PyModuleDef_HEAD_INIT, "_core", NULL, -1, NULL, NULL, NULL, NULL, NULL};
+
+PyMODINIT_FUNC PyInit__core(void) {
+  PyObject *made = PyModule_Create(&module);
+  if (!made) return NULL;
+  PyObject *walk = PyType_FromSpec(&walk_spec), *index = PyType_FromSpec(&index_spec);
+  if (!walk || !index || PyModule_AddObject(made, "Index", index) < 0) {
+    Py_XDECREF(walk);
+    Py_XDECREF(index);
+    Py_DECREF(made);
+    return NULL;
+  }
+  walk_type = (PyTypeObject *)walk;
+  return made;
+}

@@ -1,0 +1,197 @@
+"""The mapping beside a dict, and beside sortedcontainers.SortedDict where it is installed."""
+import collections.abc
+import copy
+import gc
+import pickle
+import random
+import sys
+
+from tree_index import TreeIndex
+
+try:
+    from sortedcontainers import SortedDict
+except ImportError:
+    SortedDict = None
+
+
+def refused(kind, call, *given):
+    """Whether a call raises an exception of this type."""
+    try:
+        call(*given)
+    except kind:
+        return True
+    return False
+
+
+def number(chance, keys):
+    return chance.randrange(keys) - keys // 3
+
+
+def word(chance, keys):
+    return bytes(chance.randrange(3) * 100 for _ in range(chance.randrange(keys)))
+
+
+def compare(kind, key_of, keys, calls):
+    chance = random.Random(keys)
+    index, plain = TreeIndex(), SortedDict() if SortedDict else {}
+    for call in range(calls):
+        key, other, value = key_of(chance, keys), key_of(chance, keys), object()
+        which = chance.randrange(14)
+        if which < 3:
+            index[key] = plain[key] = value
+        elif which == 3:
+            assert index.setdefault(key, value) is plain.setdefault(key, value)
+        elif which < 6:
+            assert index.pop(key, None) is plain.pop(key, None)
+        elif which < 8:
+            assert (index.get(key), key in index, len(index)) == (plain.get(key), key in plain, len(plain))
+        elif which == 8 and plain:
+            place = chance.choice([0, -1])
+            item = sorted(plain.items())[place]
+            assert index.peekitem(place) == item
+            assert index.popitem(place) == item and plain.pop(item[0]) is item[1]
+        elif which == 9:
+            above, below = [k for k in plain if k >= key], [k for k in plain if k <= key]
+            assert index.at_or_above(key) == ((min(above), plain[min(above)]) if above else None)
+            assert index.at_or_below(key) == ((max(below), plain[max(below)]) if below else None)
+        elif which < 12:
+            ends, turned = (chance.random() < 0.5, chance.random() < 0.5), chance.random() < 0.5
+            low, high = chance.choice([None, key]), chance.choice([None, other])
+            want = [k for k in sorted(plain) if (low is None or k > low or (ends[0] and k == low)) and (high is None or k < high or (ends[1] and k == high))]
+            assert list(index.irange(low, high, ends, turned)) == (want[::-1] if turned else want)
+        elif which == 12 and chance.random() < 0.05:
+            gone = [(k, plain.pop(k)) for k in sorted(plain) if key <= k <= other]
+            assert index.pop_range(key, other) == gone
+        elif call % 997 == 0:
+            assert index == plain and index.copy() == plain and list(index) == sorted(plain)
+    assert list(index.items()) == sorted(plain.items()) and list(index.values()) == [plain[k] for k in sorted(plain)]
+    assert list(reversed(index.items())) == sorted(plain.items())[::-1] and list(reversed(index)) == sorted(plain)[::-1]
+    print(f"Python, {kind}: {calls} calls, all answers as {type(plain).__name__}'s, {len(plain)} pairs at the end")
+
+
+def test_numbers():
+    for keys in (20, 500):
+        compare(f"ints, {keys} of them", number, keys, 20_000)
+
+
+def test_bytes():
+    for keys in (4, 9):
+        compare(f"bytes, fewer than {keys}", word, keys, 20_000)
+
+
+def test_long_keys():
+    index = TreeIndex((bytes([65 + n]) * (3000 * n + 1), n) for n in range(20))
+    assert [len(key) for key in index] == [3000 * n + 1 for n in range(20)]
+    assert [len(key) for key in reversed(index)] == [3000 * n + 1 for n in reversed(range(20))]
+    assert index.peekitem() == (b"T" * 57001, 19) and index.peekitem(2) == (b"C" * 6001, 2)
+
+
+def test_is_a_mapping():
+    index = TreeIndex({2: "b", 1: "a"})
+    assert isinstance(index, collections.abc.MutableMapping)
+    assert repr(index) == "TreeIndex({1: 'a', 2: 'b'})"
+    assert index | {3: "c"} == {1: "a", 2: "b", 3: "c"}
+    index.update([(0, "z")])
+    assert index == {0: "z", 1: "a", 2: "b"} and index != {0: "z"}
+    assert 0 in index.keys() and "a" in index.values() and (2, "b") in index.items()
+    index.clear()
+    assert not index and list(index) == [] and refused(KeyError, index.popitem) and refused(IndexError, index.peekitem)
+    index[b"now of bytes"] = 1
+    assert list(index) == [b"now of bytes"]
+
+
+def test_keys_that_do_not_fit():
+    index = TreeIndex({1: 1})
+    assert refused(TypeError, index.__setitem__, b"x", 1) and refused(TypeError, index.__setitem__, "x", 1)
+    assert refused(TypeError, index.__getitem__, b"x") and refused(TypeError, index.get, 1.5)
+    assert refused(OverflowError, index.__setitem__, 2**63, 1) and refused(KeyError, index.__getitem__, 2**70)
+    assert 2**70 not in index and index.get(-(2**80), 5) == 5 and refused(KeyError, index.__delitem__, 7)
+    index[2**63 - 1], index[-(2**63)] = "most", "least"
+    assert list(index) == [-(2**63), 1, 2**63 - 1]
+    assert list(index.irange(-(2**70), 2**70)) == list(index) and list(index.irange(2**70)) == [] and list(index.irange(None, -(2**70))) == []
+    assert index.at_or_below(2**70) == (2**63 - 1, "most") and index.at_or_above(2**70) is None
+
+
+def test_a_walk_meets_a_write():
+    for change in (lambda i: i.__setitem__(5, 0), lambda i: i.pop(1), lambda i: i.clear(), lambda i: i.pop_range(1)):
+        index = TreeIndex({1: 1, 2: 2})
+        walk = iter(index)
+        next(walk)
+        change(index)
+        assert refused(RuntimeError, next, walk)
+    index = TreeIndex({1: 1})
+    assert list(index) == [1]
+
+
+def test_pickles_and_copies():
+    index = TreeIndex({n * 7 % 101: [n] for n in range(101)})
+    for protocol in range(2, pickle.HIGHEST_PROTOCOL + 1):
+        assert pickle.loads(pickle.dumps(index, protocol)) == index
+    shallow, deep = copy.copy(index), copy.deepcopy(index)
+    assert shallow[3] is index[3] and deep[3] is not index[3] and deep == index
+    del shallow[3]
+    assert 3 in index
+
+
+class Counted:
+    alive = 0
+
+    def __init__(self):
+        Counted.alive += 1
+
+    def __del__(self):
+        Counted.alive -= 1
+
+
+def test_references_are_counted():
+    for key_of in (lambda n: n, lambda n: b"%06d" % n):
+        index = TreeIndex((key_of(n), Counted()) for n in range(1000))
+        value = index[key_of(500)]
+        base = sys.getrefcount(value)
+        assert Counted.alive == 1000
+        index[key_of(500)] = value
+        index.setdefault(key_of(500), None)
+        assert sys.getrefcount(value) == base and index.get(key_of(500)) is value
+        index[key_of(500)] = Counted()
+        assert Counted.alive == 1001 and sys.getrefcount(value) == base - 1
+        del value
+        assert Counted.alive == 1000
+        assert len(index.pop_range(key_of(100), key_of(199))) == 100 and Counted.alive == 900
+        for n in range(50):
+            del index[key_of(n)]
+            index.pop(key_of(n + 50))
+        assert Counted.alive == 800
+        items = list(index.items())
+        other = index.copy()
+        index.clear()
+        assert Counted.alive == 800
+        del items
+        assert Counted.alive == 800 and len(other) == 800
+        del other
+        assert Counted.alive == 0
+
+
+def test_a_cycle_is_collected():
+    index = TreeIndex({1: Counted()})
+    index[2] = index
+    del index
+    gc.collect()
+    assert Counted.alive == 0
+
+
+def test_a_destructor_may_write():
+    class Writes:
+        def __init__(self, index, key):
+            self.index, self.key = index, key
+
+        def __del__(self):
+            self.index[self.key] = "last words"
+
+    index = TreeIndex()
+    for key in range(10):
+        index[key] = Writes(index, key + 100)
+    index.clear()
+    assert list(index) == list(range(100, 110))
+    index[0] = Writes(index, 1)
+    index[0] = "new"
+    assert index[1] == "last words"

@@ -1,0 +1,280 @@
+//! The index of byte strings.
+use std::fmt;
+use std::iter::FusedIterator;
+use std::ops::{Bound, RangeBounds};
+
+use crate::handle::{Entry, Handle, InsertError, OutOfMemory, Owner};
+use crate::raw;
+
+/// How many pairs an iterator reads ahead, and the bytes of their keys at first.
+const AHEAD: usize = 64;
+const ROOM: usize = 2048;
+
+/// An ordered index of byte strings by numbers, in the order of `[u8]`.
+///
+/// ```
+/// use tree_index::ByteIndex;
+///
+/// # fn main() -> Result<(), Box<dyn std::error::Error>> {
+/// let mut words = ByteIndex::new()?;
+/// for (at, word) in ["to", "be", "or", "not"].into_iter().enumerate() {
+///     words.insert(word, at as u64)?;
+/// }
+/// assert_eq!(words.peek("or"), Some(2));
+/// assert_eq!(words.first(), Some((b"be".to_vec(), 1)));
+/// assert_eq!(words.range::<&[u8]>(&b"n"[..]..&b"p"[..]).count(), 2);
+/// # Ok(())
+/// # }
+/// ```
+pub struct ByteIndex {
+    owner: Owner,
+}
+
+impl ByteIndex {
+    /// Creates an empty index. Allocates one block.
+    pub fn new() -> Result<Self, OutOfMemory> {
+        let owner = Owner::open(|handle| unsafe { raw::tree_index_bytes_new(handle) }).map_err(|_| OutOfMemory)?;
+        Ok(ByteIndex { owner })
+    }
+
+    /// Stores a pair with a copy of its key if the key is absent.
+    pub fn insert(&mut self, key: impl AsRef<[u8]>, value: u64) -> Result<(), InsertError> {
+        let key = key.as_ref();
+        match unsafe { raw::tree_index_bytes_insert(self.owner.get(), key.as_ptr(), key.len(), value) } {
+            raw::YES => Ok(()),
+            raw::NO => Err(InsertError::Duplicate),
+            _ => Err(InsertError::OutOfMemory),
+        }
+    }
+
+    /// Stores a pair with a copy of its key, in place of one with an equal key.
+    pub fn upsert(&mut self, key: impl AsRef<[u8]>, value: u64) -> Result<(), OutOfMemory> {
+        let key = key.as_ref();
+        match unsafe { raw::tree_index_bytes_upsert(self.owner.get(), key.as_ptr(), key.len(), value) } {
+            raw::YES => Ok(()),
+            _ => Err(OutOfMemory),
+        }
+    }
+
+    /// Removes the pair with a key. Returns its value, or `None` if the key is absent. Copies the key meanwhile.
+    pub fn remove(&mut self, key: impl AsRef<[u8]>) -> Result<Option<u64>, OutOfMemory> {
+        let (key, mut value) = (key.as_ref(), 0);
+        match unsafe { raw::tree_index_bytes_take(self.owner.get(), key.as_ptr(), key.len(), &mut value) } {
+            raw::YES => Ok(Some(value)),
+            raw::NO => Ok(None),
+            _ => Err(OutOfMemory),
+        }
+    }
+
+    /// Removes every pair whose key is within the bounds. Copies the keys of the bounds meanwhile.
+    pub fn remove_range<B: AsRef<[u8]>>(&mut self, bounds: impl RangeBounds<B>) -> Result<(), OutOfMemory> {
+        let (low_kind, low) = kind_of(bounds.start_bound());
+        let (high_kind, high) = kind_of(bounds.end_bound());
+        let handle = self.owner.get();
+        match unsafe { raw::tree_index_bytes_remove_range(handle, low_kind, low.as_ptr(), low.len(), high_kind, high.as_ptr(), high.len()) } {
+            raw::YES => Ok(()),
+            _ => Err(OutOfMemory),
+        }
+    }
+
+    /// Removes all pairs.
+    pub fn clear(&mut self) {
+        unsafe { raw::tree_index_clear(self.owner.get()) };
+    }
+
+    /// Returns the value of a key. Copies nothing.
+    pub fn peek(&self, key: impl AsRef<[u8]>) -> Option<u64> {
+        let (key, mut value) = (key.as_ref(), 0);
+        (unsafe { raw::tree_index_bytes_peek(self.owner.get(), key.as_ptr(), key.len(), &mut value) } == raw::YES).then_some(value)
+    }
+
+    /// Returns whether a key is present. Copies nothing.
+    pub fn contains(&self, key: impl AsRef<[u8]>) -> bool {
+        let key = key.as_ref();
+        unsafe { raw::tree_index_bytes_contains(self.owner.get(), key.as_ptr(), key.len()) == raw::YES }
+    }
+
+    /// Returns the number of pairs. Runs in constant time.
+    pub fn len(&self) -> usize {
+        self.owner.len()
+    }
+
+    /// Returns whether there is no pair.
+    pub fn is_empty(&self) -> bool {
+        self.len() == 0
+    }
+
+    /// Returns the pair with the smallest key.
+    pub fn first(&self) -> Option<(Vec<u8>, u64)> {
+        self.pair_by(|handle, key, length, entry| unsafe { raw::tree_index_bytes_first(handle, key, length, entry) })
+    }
+
+    /// Returns the pair with the largest key.
+    pub fn last(&self) -> Option<(Vec<u8>, u64)> {
+        self.pair_by(|handle, key, length, entry| unsafe { raw::tree_index_bytes_last(handle, key, length, entry) })
+    }
+
+    /// Returns the pair with a key, or else the one with the next smaller key.
+    pub fn at_or_below(&self, key: impl AsRef<[u8]>) -> Option<(Vec<u8>, u64)> {
+        let sought = key.as_ref();
+        self.pair_by(|handle, key, length, entry| unsafe { raw::tree_index_bytes_at_or_below(handle, sought.as_ptr(), sought.len(), key, length, entry) })
+    }
+
+    /// Returns the pair with a key, or else the one with the next larger key.
+    pub fn at_or_above(&self, key: impl AsRef<[u8]>) -> Option<(Vec<u8>, u64)> {
+        let sought = key.as_ref();
+        self.pair_by(|handle, key, length, entry| unsafe { raw::tree_index_bytes_at_or_above(handle, sought.as_ptr(), sought.len(), key, length, entry) })
+    }
+
+    /// Returns a copy.
+    pub fn try_clone(&self) -> Result<Self, OutOfMemory> {
+        Ok(ByteIndex { owner: self.owner.copy()? })
+    }
+
+    /// Returns the pairs whose keys are within the bounds, in ascending order and from both ends.
+    pub fn range<B: AsRef<[u8]>>(&self, bounds: impl RangeBounds<B>) -> ByteRange<'_> {
+        let owned = |bound: Bound<&B>| bound.map(|key| key.as_ref().to_vec());
+        ByteRange {
+            index: self,
+            low: owned(bounds.start_bound()),
+            high: owned(bounds.end_bound()),
+            front: Ahead::default(),
+            back: Ahead::default(),
+        }
+    }
+
+    /// Returns all pairs in ascending order and from both ends.
+    pub fn iter(&self) -> ByteRange<'_> {
+        self.range::<&[u8]>(..)
+    }
+
+    /// Panics if memory for the key of a bound is refused, as `Vec` does.
+    fn pair_by(&self, call: impl Fn(*mut Handle, *mut u8, usize, *mut Entry) -> u8) -> Option<(Vec<u8>, u64)> {
+        let (mut key, mut entry) = (vec![0; 64], Entry::default());
+        loop {
+            match call(self.owner.get(), key.as_mut_ptr(), key.len(), &mut entry) {
+                raw::YES => {
+                    key.truncate(entry.length);
+                    return Some((key, entry.value));
+                }
+                raw::NO_ROOM => key.resize(entry.length, 0),
+                raw::NO => return None,
+                _ => panic!("{OutOfMemory}"),
+            }
+        }
+    }
+}
+
+/// Panics if an allocation is refused.
+impl<K: AsRef<[u8]>> Extend<(K, u64)> for ByteIndex {
+    fn extend<I: IntoIterator<Item = (K, u64)>>(&mut self, pairs: I) {
+        for (key, value) in pairs {
+            self.upsert(key, value).expect("memory for a pair");
+        }
+    }
+}
+
+/// Panics if an allocation is refused.
+impl<K: AsRef<[u8]>> FromIterator<(K, u64)> for ByteIndex {
+    fn from_iter<I: IntoIterator<Item = (K, u64)>>(pairs: I) -> Self {
+        let mut index = ByteIndex::new().expect("memory for an index");
+        index.extend(pairs);
+        index
+    }
+}
+
+impl fmt::Debug for ByteIndex {
+    fn fmt(&self, f: &mut fmt::Formatter<'_>) -> fmt::Result {
+        f.debug_map().entries(self.iter().map(|(key, value)| (String::from_utf8_lossy(&key).into_owned(), value))).finish()
+    }
+}
+
+fn kind_of<B: AsRef<[u8]>>(bound: Bound<&B>) -> (u8, &[u8]) {
+    match bound {
+        Bound::Unbounded => (0, &[]),
+        Bound::Included(key) => (1, key.as_ref()),
+        Bound::Excluded(key) => (2, key.as_ref()),
+    }
+}
+
+/// Pairs that were read ahead, the next one last.
+#[derive(Default)]
+struct Ahead {
+    pairs: Vec<(Vec<u8>, u64)>,
+}
+
+/// The pairs within two bounds. It reads up to 64 ahead from each end.
+///
+/// Panics if memory is refused, as `Vec` does.
+pub struct ByteRange<'t> {
+    index: &'t ByteIndex,
+    low: Bound<Vec<u8>>,
+    high: Bound<Vec<u8>>,
+    front: Ahead,
+    back: Ahead,
+}
+
+type Fill = unsafe extern "C" fn(*mut Handle, u8, *const u8, usize, u8, *const u8, usize, *mut u8, usize, *mut Entry, usize, *mut usize) -> u8;
+
+impl ByteRange<'_> {
+    fn read(&self, fill: Fill) -> Ahead {
+        let ((low_kind, low), (high_kind, high)) = (kind_of(self.low.as_ref()), kind_of(self.high.as_ref()));
+        let (mut keys, mut entries, mut count) = (vec![0; ROOM], [Entry::default(); AHEAD], 0);
+        loop {
+            let answer = unsafe {
+                fill(
+                    self.index.owner.get(), low_kind, low.as_ptr(), low.len(), high_kind, high.as_ptr(), high.len(),
+                    keys.as_mut_ptr(), keys.len(), entries.as_mut_ptr(), AHEAD, &mut count,
+                )
+            };
+            match answer {
+                raw::YES => break,
+                raw::NO_ROOM => keys.resize(count, 0),
+                _ => panic!("{OutOfMemory}"),
+            }
+        }
+        let mut from = 0;
+        let mut pairs: Vec<_> = entries[..count]
+            .iter()
+            .map(|entry| {
+                from += entry.length;
+                (keys[from - entry.length..from].to_vec(), entry.value)
+            })
+            .collect();
+        pairs.reverse();
+        Ahead { pairs }
+    }
+}
+
+impl Iterator for ByteRange<'_> {
+    type Item = (Vec<u8>, u64);
+
+    fn next(&mut self) -> Option<(Vec<u8>, u64)> {
+        if self.front.pairs.is_empty() {
+            self.front = self.read(raw::tree_index_bytes_fill);
+        }
+        let (key, value) = self.front.pairs.pop()?;
+        // The other end may have given it since it was read.
+        if !(Bound::Unbounded, self.high.as_ref()).contains(&key) {
+            return None;
+        }
+        self.low = Bound::Excluded(key.clone());
+        Some((key, value))
+    }
+}
+
+impl DoubleEndedIterator for ByteRange<'_> {
+    fn next_back(&mut self) -> Option<(Vec<u8>, u64)> {
+        if self.back.pairs.is_empty() {
+            self.back = self.read(raw::tree_index_bytes_fill_back);
+        }
+        let (key, value) = self.back.pairs.pop()?;
+        if !(self.low.as_ref(), Bound::Unbounded).contains(&key) {
+            return None;
+        }
+        self.high = Bound::Excluded(key.clone());
+        Some((key, value))
+    }
+}
+
+impl FusedIterator for ByteRange<'_> {}

@@ -1,0 +1,276 @@
+//! The index of numbers.
+use std::fmt;
+use std::iter::FusedIterator;
+use std::ops::{Bound, RangeBounds};
+
+use crate::handle::{InsertError, OutOfMemory, Owner, Pair, kind_of};
+use crate::raw;
+
+/// How many pairs an iterator reads ahead.
+const AHEAD: usize = 64;
+
+/// An ordered index of numbers by numbers.
+///
+/// Look-ups take `&self`, and the type isn't `Sync`: threads share it behind a `Mutex`.
+///
+/// ```
+/// use tree_index::TreeIndex;
+///
+/// # fn main() -> Result<(), Box<dyn std::error::Error>> {
+/// let mut prices = TreeIndex::new()?;
+/// for (price, quantity) in [(101, 5), (104, 1), (102, 7)] {
+///     prices.insert(price, quantity)?;
+/// }
+/// prices.remove_range(102..104);
+/// assert_eq!(prices.iter().collect::<Vec<_>>(), [(101, 5), (104, 1)]);
+/// assert_eq!(prices.at_or_above(103), Some((104, 1)));
+/// # Ok(())
+/// # }
+/// ```
+pub struct TreeIndex {
+    owner: Owner,
+}
+
+impl TreeIndex {
+    /// Creates an empty index. Allocates one block.
+    pub fn new() -> Result<Self, OutOfMemory> {
+        let owner = Owner::open(|handle| unsafe { raw::tree_index_new(handle) }).map_err(|_| OutOfMemory)?;
+        Ok(TreeIndex { owner })
+    }
+
+    /// Stores a pair if its key is absent.
+    ///
+    /// ```
+    /// # use tree_index::{InsertError, TreeIndex};
+    /// let mut index = TreeIndex::new().unwrap();
+    /// assert_eq!(index.insert(1, 10), Ok(()));
+    /// assert_eq!(index.insert(1, 11), Err(InsertError::Duplicate));
+    /// ```
+    pub fn insert(&mut self, key: u64, value: u64) -> Result<(), InsertError> {
+        match unsafe { raw::tree_index_insert(self.owner.get(), key, value) } {
+            raw::YES => Ok(()),
+            raw::NO => Err(InsertError::Duplicate),
+            _ => Err(InsertError::OutOfMemory),
+        }
+    }
+
+    /// Stores a pair, in place of one with an equal key.
+    pub fn upsert(&mut self, key: u64, value: u64) -> Result<(), OutOfMemory> {
+        match unsafe { raw::tree_index_upsert(self.owner.get(), key, value) } {
+            raw::YES => Ok(()),
+            _ => Err(OutOfMemory),
+        }
+    }
+
+    /// Removes the pair with a key. Returns its value, or `None` if the key is absent.
+    pub fn remove(&mut self, key: u64) -> Option<u64> {
+        let mut value = 0;
+        (unsafe { raw::tree_index_take(self.owner.get(), key, &mut value) } == raw::YES).then_some(value)
+    }
+
+    /// Removes every pair whose key is within the bounds, by one call whose cost is that of two descents and of what it drops.
+    pub fn remove_range(&mut self, bounds: impl RangeBounds<u64>) {
+        let (low_kind, low) = kind_of(bounds.start_bound().cloned());
+        let (high_kind, high) = kind_of(bounds.end_bound().cloned());
+        unsafe { raw::tree_index_remove_range(self.owner.get(), low_kind, low, high_kind, high) };
+    }
+
+    /// Removes all pairs.
+    pub fn clear(&mut self) {
+        unsafe { raw::tree_index_clear(self.owner.get()) };
+    }
+
+    /// Removes the pair with the smallest key and returns it.
+    pub fn pop_first(&mut self) -> Option<(u64, u64)> {
+        self.pair_by(|handle, pair| unsafe { raw::tree_index_pop_first(handle, pair) })
+    }
+
+    /// Removes the pair with the largest key and returns it.
+    pub fn pop_last(&mut self) -> Option<(u64, u64)> {
+        self.pair_by(|handle, pair| unsafe { raw::tree_index_pop_last(handle, pair) })
+    }
+
+    /// Returns the value of a key.
+    pub fn peek(&self, key: u64) -> Option<u64> {
+        let mut value = 0;
+        (unsafe { raw::tree_index_peek(self.owner.get(), key, &mut value) } == raw::YES).then_some(value)
+    }
+
+    /// Returns whether a key is present.
+    pub fn contains(&self, key: u64) -> bool {
+        unsafe { raw::tree_index_contains(self.owner.get(), key) == raw::YES }
+    }
+
+    /// Returns the number of pairs. Runs in constant time.
+    pub fn len(&self) -> usize {
+        self.owner.len()
+    }
+
+    /// Returns whether there is no pair.
+    pub fn is_empty(&self) -> bool {
+        self.len() == 0
+    }
+
+    /// Returns the pair with the smallest key.
+    pub fn first(&self) -> Option<(u64, u64)> {
+        self.pair_by(|handle, pair| unsafe { raw::tree_index_first(handle, pair) })
+    }
+
+    /// Returns the pair with the largest key.
+    pub fn last(&self) -> Option<(u64, u64)> {
+        self.pair_by(|handle, pair| unsafe { raw::tree_index_last(handle, pair) })
+    }
+
+    /// Returns the pair with a key, or else the one with the next smaller key.
+    pub fn at_or_below(&self, key: u64) -> Option<(u64, u64)> {
+        self.pair_by(|handle, pair| unsafe { raw::tree_index_at_or_below(handle, key, pair) })
+    }
+
+    /// Returns the pair with a key, or else the one with the next larger key.
+    pub fn at_or_above(&self, key: u64) -> Option<(u64, u64)> {
+        self.pair_by(|handle, pair| unsafe { raw::tree_index_at_or_above(handle, key, pair) })
+    }
+
+    /// Returns a copy.
+    pub fn try_clone(&self) -> Result<Self, OutOfMemory> {
+        Ok(TreeIndex { owner: self.owner.copy()? })
+    }
+
+    /// Returns the pairs whose keys are within the bounds, in ascending order and from both ends.
+    ///
+    /// ```
+    /// # use tree_index::TreeIndex;
+    /// let index: TreeIndex = (0..10).map(|key| (key, key * key)).collect();
+    /// assert_eq!(index.range(3..=5).collect::<Vec<_>>(), [(3, 9), (4, 16), (5, 25)]);
+    /// assert_eq!(index.range(..5).next_back(), Some((4, 16)));
+    /// ```
+    pub fn range(&self, bounds: impl RangeBounds<u64>) -> Range<'_> {
+        Range {
+            index: self,
+            low: bounds.start_bound().cloned(),
+            high: bounds.end_bound().cloned(),
+            front: Ahead::new(),
+            back: Ahead::new(),
+        }
+    }
+
+    /// Returns all pairs in ascending order and from both ends.
+    pub fn iter(&self) -> Range<'_> {
+        self.range(..)
+    }
+
+    /// Stores each pair, in place of one with an equal key. Stops at the first that is refused memory.
+    pub fn try_extend(&mut self, pairs: impl IntoIterator<Item = (u64, u64)>) -> Result<(), OutOfMemory> {
+        pairs.into_iter().try_for_each(|(key, value)| self.upsert(key, value))
+    }
+
+    fn pair_by(&self, call: impl FnOnce(*mut crate::handle::Handle, *mut Pair) -> u8) -> Option<(u64, u64)> {
+        let mut pair = Pair::default();
+        (call(self.owner.get(), &mut pair) == raw::YES).then_some((pair.key, pair.value))
+    }
+}
+
+/// Panics if an allocation is refused.
+impl Extend<(u64, u64)> for TreeIndex {
+    fn extend<I: IntoIterator<Item = (u64, u64)>>(&mut self, pairs: I) {
+        self.try_extend(pairs).expect("memory for a pair");
+    }
+}
+
+/// Panics if an allocation is refused.
+impl FromIterator<(u64, u64)> for TreeIndex {
+    fn from_iter<I: IntoIterator<Item = (u64, u64)>>(pairs: I) -> Self {
+        let mut index = TreeIndex::new().expect("memory for an index");
+        index.extend(pairs);
+        index
+    }
+}
+
+impl fmt::Debug for TreeIndex {
+    fn fmt(&self, f: &mut fmt::Formatter<'_>) -> fmt::Result {
+        f.debug_map().entries(self.iter()).finish()
+    }
+}
+
+impl<'t> IntoIterator for &'t TreeIndex {
+    type Item = (u64, u64);
+    type IntoIter = Range<'t>;
+
+    fn into_iter(self) -> Range<'t> {
+        self.iter()
+    }
+}
+
+/// Pairs that were read ahead.
+struct Ahead {
+    places: [Pair; AHEAD],
+    at: usize,
+    count: usize,
+}
+
+impl Ahead {
+    fn new() -> Self {
+        Ahead { places: [Pair::default(); AHEAD], at: 0, count: 0 }
+    }
+
+    fn next(&mut self) -> Option<Pair> {
+        let pair = self.places[..self.count].get(self.at)?;
+        self.at += 1;
+        Some(*pair)
+    }
+}
+
+/// The pairs within two bounds. It reads 64 ahead from each end.
+pub struct Range<'t> {
+    index: &'t TreeIndex,
+    /// What neither end has given yet.
+    low: Bound<u64>,
+    high: Bound<u64>,
+    front: Ahead,
+    back: Ahead,
+}
+
+impl Iterator for Range<'_> {
+    type Item = (u64, u64);
+
+    fn next(&mut self) -> Option<(u64, u64)> {
+        let pair = match self.front.next() {
+            Some(pair) => pair,
+            None => {
+                let ((low_kind, low), (high_kind, high)) = (kind_of(self.low), kind_of(self.high));
+                let (places, handle) = (&mut self.front.places, self.index.owner.get());
+                self.front.at = 0;
+                self.front.count = unsafe { raw::tree_index_fill(handle, low_kind, low, high_kind, high, places.as_mut_ptr(), AHEAD) };
+                self.front.next()?
+            }
+        };
+        // The other end may have given it since it was read.
+        if !(Bound::Unbounded, self.high).contains(&pair.key) {
+            return None;
+        }
+        self.low = Bound::Excluded(pair.key);
+        Some((pair.key, pair.value))
+    }
+}
+
+impl DoubleEndedIterator for Range<'_> {
+    fn next_back(&mut self) -> Option<(u64, u64)> {
+        let pair = match self.back.next() {
+            Some(pair) => pair,
+            None => {
+                let ((low_kind, low), (high_kind, high)) = (kind_of(self.low), kind_of(self.high));
+                let (places, handle) = (&mut self.back.places, self.index.owner.get());
+                self.back.at = 0;
+                self.back.count = unsafe { raw::tree_index_fill_back(handle, low_kind, low, high_kind, high, places.as_mut_ptr(), AHEAD) };
+                self.back.next()?
+            }
+        };
+        if !(self.low, Bound::Unbounded).contains(&pair.key) {
+            return None;
+        }
+        self.high = Bound::Excluded(pair.key);
+        Some((pair.key, pair.value))
+    }
+}
+
+impl FusedIterator for Range<'_> {}

@@ -1,0 +1,149 @@
+/* Random calls on an index of numbers, each beside a sorted array. */
+#include "model.h"
+
+static model m;
+static tree_index_handle index_ = TREE_INDEX_CLOSED;
+
+static void same_pair(uint8_t answer, const tree_index_pair *pair, size_t at) {
+  WANT(answer == (at < m.count ? TREE_INDEX_YES : TREE_INDEX_NO));
+  if (at >= m.count) return;
+  key_of_bytes key = of_number(pair->key);
+  WANT(compare(&key, &m.keys[at]) == 0 && pair->value == m.values[at]);
+}
+
+static void fills(uint8_t low_kind, uint64_t low, uint8_t high_kind, uint64_t high) {
+  tree_index_pair places[100] = {{0, 0}};
+  key_of_bytes low_key = of_number(low), high_key = of_number(high);
+  size_t from = range_begin(&m, low_kind, &low_key), to = range_end(&m, high_kind, &high_key), room = below(100), want = to > from ? to - from : 0;
+  if (want > room) want = room;
+  WANT(tree_index_fill(&index_, low_kind, low, high_kind, high, places, room) == want);
+  for (size_t at = 0; at < want; at++) same_pair(TREE_INDEX_YES, &places[at], from + at);
+  WANT(places[want].key == 0);
+  WANT(tree_index_fill_back(&index_, low_kind, low, high_kind, high, places, room) == want);
+  for (size_t at = 0; at < want; at++) same_pair(TREE_INDEX_YES, &places[at], to - 1 - at);
+}
+
+static void call(uint64_t keys) {
+  uint64_t number = below(keys), value = draw() | 1, told = 0;
+  key_of_bytes key = of_number(number);
+  size_t at = place(&m, &key);
+  int is = is_at(&m, at, &key);
+  tree_index_pair pair = {0, 0};
+  switch (below(16)) {
+  case 0: case 1: case 2: case 3:
+    WANT(tree_index_insert(&index_, number, value) == (is ? TREE_INDEX_NO : TREE_INDEX_YES));
+    if (!is) put(&m, &key, value);
+    break;
+  case 4:
+    WANT(tree_index_upsert(&index_, number, value) == TREE_INDEX_YES);
+    put(&m, &key, value);
+    break;
+  case 5:
+    WANT(tree_index_remove(&index_, number) == (is ? TREE_INDEX_YES : TREE_INDEX_NO));
+    if (is) cut(&m, at, at + 1);
+    break;
+  case 6:
+    WANT(tree_index_take(&index_, number, &told) == (is ? TREE_INDEX_YES : TREE_INDEX_NO) && told == (is ? m.values[at] : 0));
+    if (is) cut(&m, at, at + 1);
+    break;
+  case 7:
+    WANT(tree_index_peek(&index_, number, &told) == (is ? TREE_INDEX_YES : TREE_INDEX_NO) && told == (is ? m.values[at] : 0));
+    WANT(tree_index_contains(&index_, number) == (is ? TREE_INDEX_YES : TREE_INDEX_NO));
+    break;
+  case 8:
+    same_pair(tree_index_first(&index_, &pair), &pair, m.count ? 0 : 1);
+    same_pair(tree_index_last(&index_, &pair), &pair, m.count ? m.count - 1 : 0);
+    break;
+  case 9:
+    same_pair(tree_index_at_or_above(&index_, number, &pair), &pair, at);
+    same_pair(tree_index_at_or_below(&index_, number, &pair), &pair, is ? at : at ? at - 1 : m.count);
+    break;
+  case 10:
+    same_pair(tree_index_pop_first(&index_, &pair), &pair, 0);
+    if (m.count) cut(&m, 0, 1);
+    break;
+  case 11:
+    same_pair(tree_index_pop_last(&index_, &pair), &pair, m.count ? m.count - 1 : 0);
+    if (m.count) cut(&m, m.count - 1, m.count);
+    break;
+  case 12:
+    WANT(tree_index_len(&index_) == m.count && (tree_index_depth(&index_) > 0 || m.count == 0) && tree_index_spare(&index_) <= 15);
+    break;
+  case 13: case 14:
+    fills((uint8_t)below(3), number, (uint8_t)below(3), number + below(keys / 4 + 1));
+    break;
+  default:
+    if (below(20) == 0) {
+      uint8_t low_kind = (uint8_t)below(3), high_kind = (uint8_t)below(3);
+      uint64_t high = number + below(keys / 8 + 1);
+      key_of_bytes high_key = of_number(high);
+      if (low_kind == TREE_INDEX_UNBOUNDED && high_kind == TREE_INDEX_UNBOUNDED && below(10)) break;
+      size_t from = range_begin(&m, low_kind, &key), to = range_end(&m, high_kind, &high_key);
+      WANT(tree_index_remove_range(&index_, low_kind, number, high_kind, high) == TREE_INDEX_YES);
+      cut(&m, from, to);
+    } else if (below(2000) == 0) {
+      WANT(tree_index_clear(&index_) == TREE_INDEX_YES);
+      m.count = 0;
+    }
+  }
+}
+
+static void same_copy(void) {
+  tree_index_handle copy = TREE_INDEX_CLOSED;
+  tree_index_pair pair;
+  WANT(tree_index_copy(&index_, &copy) == TREE_INDEX_YES && tree_index_copy(&index_, &copy) == TREE_INDEX_MISFIT);
+  WANT(tree_index_len(&copy) == m.count);
+  for (size_t at = 0; at < m.count; at++) same_pair(tree_index_pop_first(&copy, &pair), &pair, at);
+  WANT(tree_index_len(&copy) == 0 && tree_index_len(&index_) == m.count);
+  tree_index_free(&copy);
+}
+
+/* An index of sorted pairs has them all; others are refused. */
+static void sorted(void) {
+  tree_index_pair *pairs = calloc(m.count + 1, sizeof *pairs);
+  tree_index_handle made = TREE_INDEX_CLOSED;
+  WANT(pairs != NULL);
+  size_t count = tree_index_fill(&index_, TREE_INDEX_UNBOUNDED, 0, TREE_INDEX_UNBOUNDED, 0, pairs, m.count);
+  WANT(count == m.count && tree_index_from_sorted(&made, pairs, count) == TREE_INDEX_YES && tree_index_len(&made) == count);
+  WANT(tree_index_from_sorted(&made, pairs, count) == TREE_INDEX_MISFIT);
+  tree_index_pair pair = {0, 0};
+  same_pair(tree_index_last(&made, &pair), &pair, m.count ? m.count - 1 : 0);
+  for (size_t at = 0; at < count; at++) same_pair(tree_index_pop_first(&made, &pair), &pair, at);
+  tree_index_free(&made);
+  if (count > 1) {
+    pairs[count / 2].key = pairs[count / 2 - 1].key;
+    WANT(tree_index_from_sorted(&made, pairs, count) == TREE_INDEX_NO && tree_index_len(&made) == 0 && !made.is_open);
+  }
+  free(pairs);
+}
+
+/* A handle that doesn't fit is answered, and nothing else happens. */
+static void misfits(void) {
+  tree_index_handle closed = TREE_INDEX_CLOSED;
+  uint64_t value = 5;
+  uint8_t key[1] = {0};
+  WANT(tree_index_insert(&closed, 1, 2) == TREE_INDEX_MISFIT && tree_index_peek(&closed, 1, &value) == TREE_INDEX_MISFIT && value == 5);
+  WANT(tree_index_len(&closed) == 0 && tree_index_clear(&closed) == TREE_INDEX_MISFIT);
+  tree_index_free(&closed);
+  WANT(tree_index_new(&closed) == TREE_INDEX_YES && tree_index_new(&closed) == TREE_INDEX_MISFIT && tree_index_bytes_new(&closed) == TREE_INDEX_MISFIT);
+  WANT(tree_index_bytes_insert(&closed, key, 1, 2) == TREE_INDEX_MISFIT && tree_index_len(&closed) == 0);
+  tree_index_free(&closed);
+  tree_index_free(&closed);
+  WANT(tree_index_remove(&closed, 1) == TREE_INDEX_MISFIT);
+}
+
+int main(int count, char **words) {
+  uint64_t calls = count > 1 ? strtoull(words[1], NULL, 10) : 100000;
+  misfits();
+  for (uint64_t keys = 40; keys <= 400000; keys *= 100) {
+    WANT(tree_index_new(&index_) == TREE_INDEX_YES);
+    m.count = 0;
+    for (uint64_t at = 0; at < calls; at++) call(keys);
+    same_copy();
+    sorted();
+    fills(TREE_INDEX_UNBOUNDED, 0, TREE_INDEX_UNBOUNDED, 0);
+    printf("C, numbers below %llu: %llu calls, all answers as a sorted array's, %zu pairs at the end\n", (unsigned long long)keys, (unsigned long long)calls, m.count);
+    tree_index_free(&index_);
+  }
+  return 0;
+}

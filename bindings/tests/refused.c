@@ -1,0 +1,123 @@
+/* Refuses each request for memory in turn. Linked with --wrap for malloc, realloc and free, which it counts. */
+#include "model.h"
+
+void *__real_malloc(size_t size);
+void *__real_realloc(void *block, size_t size);
+void __real_free(void *block);
+
+static long requests, refused_at, blocks, refusals;
+
+static int is_refused(void) { return ++requests == refused_at && ++refusals; }
+
+void *__wrap_malloc(size_t size) {
+  void *block = is_refused() ? NULL : __real_malloc(size);
+  blocks += block != NULL;
+  return block;
+}
+
+void *__wrap_realloc(void *block, size_t size) {
+  void *moved = is_refused() ? NULL : __real_realloc(block, size);
+  blocks += !block && moved;
+  return moved;
+}
+
+void __wrap_free(void *block) {
+  blocks -= block != NULL;
+  __real_free(block);
+}
+
+#define KEYS 600
+
+static tree_index_handle index_ = TREE_INDEX_CLOSED, copy = TREE_INDEX_CLOSED;
+static const uint8_t *bytes_of(uint64_t key, uint8_t *room) {
+  memset(room, 'k', 24);
+  for (int at = 0; at < 4; at++) room[20 + at] = (uint8_t)(key >> (24 - 8 * at));
+  return room;
+}
+
+/* A call that was refused changed nothing, and succeeds the second time. */
+static void again(int is_bytes, uint8_t (*call)(int, uint64_t), uint64_t key) {
+  size_t before = tree_index_len(&index_);
+  long was = refusals;
+  uint8_t answer = call(is_bytes, key);
+  if (refusals > was) {
+    WANT(answer == TREE_INDEX_NO_MEMORY);
+    WANT(tree_index_len(&index_) == before);
+    answer = call(is_bytes, key);
+  }
+  WANT(answer == TREE_INDEX_YES);
+}
+
+static uint8_t opens(int is_bytes, uint64_t key) {
+  (void)key;
+  return (is_bytes ? tree_index_bytes_new : tree_index_new)(&index_);
+}
+
+static uint8_t inserts(int is_bytes, uint64_t key) {
+  uint8_t room[24];
+  return is_bytes ? tree_index_bytes_insert(&index_, bytes_of(key, room), 24, key) : tree_index_insert(&index_, key, key);
+}
+
+static uint8_t upserts(int is_bytes, uint64_t key) {
+  uint8_t room[24];
+  return is_bytes ? tree_index_bytes_upsert(&index_, bytes_of(key, room), 24, key) : tree_index_upsert(&index_, key, key);
+}
+
+static uint8_t takes(int is_bytes, uint64_t key) {
+  uint8_t room[24];
+  uint64_t value = 0;
+  uint8_t answer = is_bytes ? tree_index_bytes_take(&index_, bytes_of(key, room), 24, &value) : tree_index_take(&index_, key, &value);
+  WANT(answer != TREE_INDEX_YES || value == key);
+  return answer;
+}
+
+static uint8_t copies(int is_bytes, uint64_t key) {
+  (void)is_bytes, (void)key;
+  return tree_index_copy(&index_, &copy);
+}
+
+static uint8_t fills(int is_bytes, uint64_t key) {
+  uint8_t low[24], high[24], keys[240];
+  tree_index_entry entries[10];
+  tree_index_pair pairs[10];
+  size_t count = 0;
+  if (!is_bytes) return tree_index_fill(&index_, TREE_INDEX_INCLUDED, key, TREE_INDEX_UNBOUNDED, 0, pairs, 10) > 0 && pairs[0].key >= key;
+  uint8_t answer = tree_index_bytes_fill(&index_, TREE_INDEX_INCLUDED, bytes_of(key, low), 24, TREE_INDEX_EXCLUDED, bytes_of(KEYS, high), 24, keys, 240, entries, 10, &count);
+  WANT(answer != TREE_INDEX_YES || (count > 0 && entries[0].length == 24 && memcmp(keys, low, 24) >= 0));
+  return answer;
+}
+
+static uint8_t cuts(int is_bytes, uint64_t key) {
+  uint8_t low[24], high[24];
+  return is_bytes ? tree_index_bytes_remove_range(&index_, TREE_INDEX_INCLUDED, bytes_of(key, low), 24, TREE_INDEX_EXCLUDED, bytes_of(key + 40, high), 24)
+                  : tree_index_remove_range(&index_, TREE_INDEX_INCLUDED, key, TREE_INDEX_EXCLUDED, key + 40);
+}
+
+/* All calls once, with one request refused. Returns whether there was such a request. */
+static int run(int is_bytes, long at) {
+  requests = 0;
+  refused_at = at;
+  long was = refusals;
+  again(is_bytes, opens, 0);
+  for (uint64_t n = 0; n < KEYS; n++) again(is_bytes, inserts, n * 217 % KEYS);
+  again(is_bytes, upserts, 5);
+  again(is_bytes, fills, 100);
+  again(is_bytes, copies, 0);
+  WANT(tree_index_len(&copy) == KEYS);
+  again(is_bytes, takes, 17);
+  again(is_bytes, cuts, 100);
+  WANT(tree_index_len(&index_) == KEYS - 41 && blocks > 0);
+  tree_index_free(&copy);
+  tree_index_free(&index_);
+  WANT(blocks == 0);
+  return refusals > was;
+}
+
+int main(void) {
+  for (int is_bytes = 0; is_bytes < 2; is_bytes++) {
+    long at = 1;
+    while (run(is_bytes, at)) at++;
+    printf("C, %s: each of %ld requests for memory refused in turn: nothing lost, each call done the second time, no block left\n", is_bytes ? "byte strings" : "numbers", at - 1);
+  }
+  return 0;
+}
