@@ -59,10 +59,13 @@ static void call(uint64_t keys) {
     same_pair(tree_index_at_or_below(&index_, number, &pair), &pair, is ? at : at ? at - 1 : m.count);
     break;
   case 10:
+    /* Sparse indexes grow. */
+    if (keys > 4000 && below(8)) break;
     same_pair(tree_index_pop_first(&index_, &pair), &pair, 0);
     if (m.count) cut(&m, 0, 1);
     break;
   case 11:
+    if (keys > 4000 && below(8)) break;
     same_pair(tree_index_pop_last(&index_, &pair), &pair, m.count ? m.count - 1 : 0);
     if (m.count) cut(&m, m.count - 1, m.count);
     break;
@@ -77,7 +80,7 @@ static void call(uint64_t keys) {
       uint8_t low_kind = (uint8_t)below(3), high_kind = (uint8_t)below(3);
       uint64_t high = number + below(keys / 8 + 1);
       key_of_bytes high_key = of_number(high);
-      if (low_kind == TREE_INDEX_UNBOUNDED && high_kind == TREE_INDEX_UNBOUNDED && below(10)) break;
+      if ((low_kind == TREE_INDEX_UNBOUNDED || high_kind == TREE_INDEX_UNBOUNDED) && below(keys > 4000 ? 200 : 10)) break;
       size_t from = range_begin(&m, low_kind, &key), to = range_end(&m, high_kind, &high_key);
       WANT(tree_index_remove_range(&index_, low_kind, number, high_kind, high) == TREE_INDEX_YES);
       cut(&m, from, to);

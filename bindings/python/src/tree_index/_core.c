@@ -125,13 +125,10 @@ static uint8_t take(Index *self, const Key *key, uint64_t *stored) {
 /* Stores a value under a key. Returns -1 with an exception if memory was refused. */
 static int store(Index *self, const Key *key, PyObject *value) {
   if (open_for(self, key->kind) < 0) return -1;
-  self->writes++;
   uint64_t was = 0;
-  uint8_t answer = insert(self, key, value);
-  if (answer == TREE_INDEX_NO) {
-    peek(self, key, &was);
-    answer = upsert(self, key, value);
-  }
+  self->writes++;
+  /* The old value must be known before it is replaced. */
+  uint8_t answer = peek(self, key, &was) == TREE_INDEX_YES ? upsert(self, key, value) : insert(self, key, value);
   if (answer != TREE_INDEX_YES) {
     PyErr_NoMemory();
     return -1;

@@ -1,0 +1,105 @@
+"""Times a TreeIndex beside sortedcontainers.SortedDict: the least of several rounds, in nanoseconds a call or pair."""
+import gc
+import random
+import time
+from collections import deque
+from itertools import islice
+
+from sortedcontainers import SortedDict
+
+from tree_index import TreeIndex
+
+
+def resident():
+    with open("/proc/self/statm", encoding="ascii") as sizes:
+        return int(sizes.read().split()[1]) * 4096
+
+
+def least(rounds, run):
+    best = float("inf")
+    for _ in range(rounds):
+        gc.collect()
+        gc.disable()
+        best = min(best, run())
+        gc.enable()
+    return best
+
+
+def timed(calls, work, *given):
+    at = time.process_time_ns()
+    work(*given)
+    return (time.process_time_ns() - at) / calls
+
+
+def insert_all(made, keys):
+    for key in keys:
+        made[key] = key
+    return made
+
+
+def look_up_all(made, keys):
+    for key in keys:
+        made[key]
+
+
+def nearest_above(made, keys):
+    if isinstance(made, TreeIndex):
+        for key in keys:
+            made.at_or_above(key)
+    else:
+        for key in keys:
+            next(made.irange(key), None)
+
+
+def walk_100(made, keys):
+    for key in keys:
+        deque(islice(made.irange(key), 100), maxlen=0)
+
+
+def walk_all(made):
+    deque(made.items(), maxlen=0)
+
+
+def remove_all(made, keys):
+    for key in keys:
+        del made[key]
+
+
+def cut(made, low, high):
+    if isinstance(made, TreeIndex):
+        made.pop_range(low, high)
+    else:
+        for key in list(made.irange(low, high)):
+            del made[key]
+
+
+def row(name, n, ours, theirs):
+    print(f"| {name} | {n} | {ours:.0f} | {theirs:.0f} | {ours / theirs:.2f} |", flush=True)
+
+
+print("| Work | Pairs | TreeIndex, ns | SortedDict, ns | TreeIndex / SortedDict |\n|---|---|---|---|---|")
+chance = random.Random(20261127)
+for n, rounds in ((1_000, 30), (100_000, 5), (1_000_000, 2)):
+    keys = [chance.randrange(2**62) for _ in range(n)]
+    order = chance.sample(keys, n)
+    few = order[: min(n, 20_000)]
+
+    def both(name, calls, work):
+        row(name, n, *(least(rounds, lambda: work(kind)) for kind in (TreeIndex, SortedDict)))
+
+    both("insert ascending", n, lambda kind: timed(n, insert_all, kind(), range(n)))
+    both("insert random", n, lambda kind: timed(n, insert_all, kind(), keys))
+    made = {}
+    for kind in (TreeIndex, SortedDict):
+        before = resident()
+        made[kind] = insert_all(kind(), keys)
+        made[kind, "bytes"] = (resident() - before) / n
+    both("store under a present key", n, lambda kind: timed(n, insert_all, made[kind], order))
+    both("look up", n, lambda kind: timed(n, look_up_all, made[kind], order))
+    both("nearest above", n, lambda kind: timed(len(few), nearest_above, made[kind], few))
+    both("walk of all items", n, lambda kind: timed(n, walk_all, made[kind]))
+    both("walks of 100", n, lambda kind: timed(len(few) * 100, walk_100, made[kind], few))
+    both("cut of the middle half", n, lambda kind: timed(n // 2, cut, made[kind].copy(), 2**60, 3 * 2**60))
+    both("remove", n, lambda kind: timed(n, remove_all, made[kind].copy(), order))
+    if n >= 100_000:
+        print(f"| bytes a pair, as the system sees it | {n} | {made[TreeIndex, 'bytes']:.0f} | {made[SortedDict, 'bytes']:.0f} | {made[TreeIndex, 'bytes'] / max(made[SortedDict, 'bytes'], 1):.2f} |")
