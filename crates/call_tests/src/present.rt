@@ -17,18 +17,20 @@ fn lent<const LEN: usize>(
     }
 }
 
-/// Asks for a key between those of the index, for one behind them, and for both once more.
+/// A key between the others and one behind them, each asked twice: the key, the value passed, and the one that stands.
+static ASKED: [(u64, u64, u64); 4] = [(1, 7, 7), (u64::MAX, 8, 8), (1, 5, 7), (u64::MAX, 6, 8)];
+
+/// Asks for the keys, of which two are new.
 fn asks<const LEN: usize>(
     rt: &impl Abort,
     index: &mut TreeIndexOf<u64, u64, LEN>,
-    count: u64,
 ) -> Result<(), AllocError> {
     let length = index.len();
-    let behind = count.wrapping_mul(2);
-    assert!(rt; lent(index, 1, 7)? == 7 && lent(index, behind, 8)? == 8);
-    assert!(rt; lent(index, 1, 5)? == 7 && lent(index, behind, 6)? == 8);
+    for (key, value, stands) in &ASKED {
+        let found = lent(index, *key, *value)?;
+        assert!(rt; found == *stands);
+    }
     assert!(rt; index.len() == length.wrapping_add(2));
-    assert!(rt; index.peek(&1) == Some(&7) && index.peek(&behind) == Some(&8));
     Ok(())
 }
 
@@ -36,7 +38,7 @@ fn lends_steps(rt: &impl Abort, alloc: Global) -> Result<(), AllocError> {
     let mut index: TreeIndex<u64, u64> = TreeIndex::new(alloc);
     for (count, is_emptied) in &FILLS {
         refill(&mut index, *count, *is_emptied)?;
-        asks(rt, &mut index, *count)?;
+        asks(rt, &mut index)?;
     }
     Ok(())
 }
@@ -50,7 +52,7 @@ fn small_lends_steps(rt: &impl Abort, alloc: Global) -> Result<(), AllocError> {
     let mut index: SmallTreeIndex<u64, u64> = TreeIndexOf::new(alloc);
     for (count, is_emptied) in &SMALL_FILLS {
         refill(&mut index, *count, *is_emptied)?;
-        asks(rt, &mut index, *count)?;
+        asks(rt, &mut index)?;
     }
     Ok(())
 }
