@@ -124,17 +124,26 @@ static UNSORTED: [&[(u64, u64)]; 3] = [
     &[(0, 0), (5, 50), (5, 51)],
 ];
 
+/// Returns whether a copy of the pairs comes back as it was.
+fn comes_back(
+    alloc: Global,
+    copy: Vec<(u64, u64)>,
+    pairs: &[(u64, u64)],
+) -> Result<bool, AllocError> {
+    let built: Result<TreeIndex<u64, u64>, FromSortedError<u64, u64>> = TreeIndexOf::from_sorted(
+        alloc, copy,
+    );
+    match built {
+        Err(FromSortedError::NotAscending(back)) => Ok(back.as_slice() == pairs),
+        Err(FromSortedError::OutOfMemory) => Err(AllocError),
+        Ok(_) => Ok(false),
+    }
+}
+
 fn hands_back_steps(rt: &impl Abort, alloc: Global) -> Result<(), AllocError> {
     for pairs in &UNSORTED {
-        let built: Result<TreeIndex<u64, u64>, _> = TreeIndexOf::from_sorted(
-            alloc,
-            (*pairs).to_vec(alloc)?,
-        );
-        match built {
-            Err(FromSortedError::NotAscending(back)) => assert!(rt; back.as_slice() == *pairs),
-            Err(FromSortedError::OutOfMemory) => return Err(AllocError),
-            Ok(_) => assert!(rt; false),
-        }
+        let copy = (*pairs).to_vec(alloc)?;
+        assert!(rt; comes_back(alloc, copy, *pairs)?);
     }
     Ok(())
 }
