@@ -30,16 +30,14 @@ fn expect_both_ends<const LEN: usize>(
     index: &mut TreeIndexOf<u64, u64, LEN>,
     count: u64,
 ) {
-    let mut low = 1;
-    let mut high = count;
-    while low < high {
+    for low in 1..=count / 2 {
+        let high = count.wrapping_add(1).wrapping_sub(low);
         assert!(rt; index.pop_first() == Some((low, low)));
         assert!(rt; index.pop_last() == Some((high, high)));
-        low += 1;
-        high -= 1;
     }
-    if low == high {
-        assert!(rt; index.pop_last() == Some((low, low)));
+    if count % 2 == 1 {
+        let middle = count / 2 + 1;
+        assert!(rt; index.pop_last() == Some((middle, middle)));
     }
     assert!(rt; index.pop_first().is_none() && index.pop_last().is_none() && index.is_empty());
 }
@@ -65,7 +63,8 @@ fn expect_retained<const LEN: usize>(
 ) {
     index.retain_sync(|key, _| key % 2 == 0);
     assert!(rt; index.len() as u64 == count / 2);
-    assert!(rt; index.keys().all(|key| key % 2 == 0));
+    assert!(rt; count < 2 || index.first() == Some((&2, &2)));
+    assert!(rt; index.take_sync(&1).is_none() && index.take_sync(&3).is_none());
     index.retain_sync(|_, value| *value > count);
     assert!(rt; index.is_empty());
 }
