@@ -32,12 +32,21 @@ fn of_first(first: &TreeSet<u64>, second: &TreeSet<u64>) -> u64 {
     digits
 }
 
-/// Digits of a second set, and what is of either, of both and of the first alone, beside 1, 3 and 5.
-static ROWS: [(&[u64], u64, u64, u64); 4] = [
-    (&[], 135, 0, 135),
-    (&[3, 4], 1345, 3, 15),
-    (&[5, 3, 1], 135, 135, 0),
-    (&[9, 2], 12359, 0, 135),
+/// Returns those that the symmetric difference gives.
+fn of_one(first: &TreeSet<u64>, second: &TreeSet<u64>) -> u64 {
+    let mut digits = 0u64;
+    for digit in first.symmetric_difference(second) {
+        digits = digits.wrapping_mul(10).wrapping_add(*digit);
+    }
+    digits
+}
+
+/// Digits of a second set, and what is of either, of both, of the first alone and of one alone, beside 1, 3 and 5.
+static ROWS: [(&[u64], u64, u64, u64, u64); 4] = [
+    (&[], 135, 0, 135, 135),
+    (&[3, 4], 1345, 3, 15, 145),
+    (&[5, 3, 1], 135, 135, 0, 0),
+    (&[9, 2], 12359, 0, 135, 12359),
 ];
 
 /// Fills the second set with the digits of each row.
@@ -46,13 +55,20 @@ fn compares(
     first: &TreeSet<u64>,
     second: &mut TreeSet<u64>,
 ) -> Result<(), AllocError> {
-    for (digits, either, both, alone) in &ROWS {
+    for (digits, either, both, alone, apart) in &ROWS {
         second.clear();
         insert_all(second, *digits)?;
         assert!(rt; of_either(first, second) == *either && of_both(first, second) == *both);
+        assert!(rt; of_one(first, second) == *apart);
         assert!(rt; of_first(first, second) == *alone && (first == second) == (*alone == 0));
     }
     Ok(())
+}
+
+/// Returns whether a clone equals the set.
+fn is_cloned(set: &TreeSet<u64>) -> Result<bool, AllocError> {
+    let copy = set.clone()?;
+    Ok(copy == *set)
 }
 
 /// Compares with a set that is a copy at first.
@@ -62,7 +78,7 @@ fn compares_with_another(
     first: &TreeSet<u64>,
 ) -> Result<(), AllocError> {
     let mut second = first.try_clone(alloc)?;
-    assert!(rt; *first == second);
+    assert!(rt; *first == second && is_cloned(first)?);
     compares(rt, first, &mut second)
 }
 

@@ -3,7 +3,7 @@ use Rattle.std.proofs.Common.{◌≡◌, ℕ, zero, suc, ◌+◌, ◌-◌, ◌==
 use Rattle.std.specs.Prelude.{is_some}
 use Rattle.std.specs.Cmp.{IsTotalOrder}
 use Rattle.std.specs.Option.{option_or}
-use Rattle.std.specs.Ordering.{is_gt, is_le, is_lt}
+use Rattle.std.specs.Ordering.{is_le, is_lt}
 use Rattle.std.specs.declared.cmp.Ordering.{Ordering}
 use Rattle.std.specs.declared.cmp.Ordering.TheVariants.{Less, Equal, Greater}
 use Rattle.std.specs.declared.ops.Bound.TheVariants.{Unbounded}
@@ -16,7 +16,7 @@ use Rattle.tree_cursor_model.specs.Cursor.{Cursor, at_place, fresh, greatest_pla
 use Rattle.tree_cursor_model.specs.Located.{located}
 use Rattle.tree_index.specs.Nearest.{at_or_above, at_or_below}
 use Rattle.tree_model.specs.Pairs.{AllLarger, IsAscending, above, below, pair_at}
-use Rattle.tree_model.proofs.Lists.{all_map, filter_all, filter_none}
+use Rattle.tree_model.proofs.Lists.{all_map, filter_none}
 use Rattle.tree_model.proofs.LookUps.{none_larger}
 use Rattle.tree_model.proofs.Order.{greater_from_less}
 use Rattle.tree_ranges.proofs.Yields.{above_le}

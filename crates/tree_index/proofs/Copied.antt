@@ -1,5 +1,6 @@
 -- Clones that are appended in ascending order.
 use Rattle.std.proofs.Common.{◌≡◌, List, [], ◌∷◌, ◌++◌, None, refl, sym, ◌∙◌}
+use Rattle.std.specs.Prelude.{IfOk, MatchResult, Result, Ok, Err}
 use Rattle.std.specs.Cmp.{IsTotalOrder}
 use Rattle.std.specs.List.{AllByRecursion}
 use Rattle.std.specs.Ordering.{is_eq, is_gt, is_lt}
@@ -38,3 +39,8 @@ module _ {K V : Type 0} {cmp : K → K → Ordering} (o : IsTotalOrder cmp) wher
   behind_copied copied k clone same [] larger smaller = tt
   behind_copied copied k clone same (pair ∷ rest) larger smaller =
       (all-append (λ earlier. cmp earlier.0 pair.0 ≡ Less) copied (clone ∷ []) smaller.0 (sym (o.congr k clone.0 pair.0 same) ∙ larger.0, tt), behind_copied copied k clone same rest larger.1 smaller.1)
+
+-- a copy that was made, or a refusal, is what a clone says
+pub clone_cases : {A E : Type 0} (P : A → Type 0) (r : Result A E) → IfOk r P → MatchResult r P (λ _. ¬ ⊥)
+clone_cases P (Ok copy) made = made
+clone_cases P (Err error) made = λ never. never

@@ -1,7 +1,12 @@
 pub mod Beside
 pub mod Compared
 pub mod Copied
+pub mod Ended
 pub mod Indexed
+pub mod Present
+pub mod Puts
+pub mod Refused
 pub mod Removed
+pub mod Sorted
 pub mod Taken
 pub mod Walked

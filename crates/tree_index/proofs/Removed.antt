@@ -10,7 +10,7 @@ use Rattle.tree_model.proofs.LookUps.{larger_trans}
 use Rattle.tree_model.proofs.Order.{greater_from_less, less_from_greater}
 
 module _ {K V : Type 0} {cmp : K → K → Ordering} (o : IsTotalOrder cmp) where
-  all_above : (k : K) (ps : List (K × V)) → AllLarger cmp k ps → (below cmp ps k ≡ []) × (above cmp ps k ≡ ps)
+  pub all_above : (k : K) (ps : List (K × V)) → AllLarger cmp k ps → (below cmp ps k ≡ []) × (above cmp ps k ≡ ps)
   all_above k [] later = (refl, refl)
   all_above k (p ∷ ps) later =
       let is = greater_from_less o k p.0 later.0 in
@@ -18,7 +18,7 @@ module _ {K V : Type 0} {cmp : K → K → Ordering} (o : IsTotalOrder cmp) wher
       rw is (rest.0, ap (λ (r : List (K × V)). p ∷ r) rest.1)
 
   -- without an absent key a list is what it was
-  without_unchanged : (l : List (K × V)) (k : K) → IsAscending cmp l → IsAbsent cmp l k → without cmp l k ≡ l
+  pub without_unchanged : (l : List (K × V)) (k : K) → IsAscending cmp l → IsAbsent cmp l k → without cmp l k ≡ l
   without_unchanged [] k ascending absent = refl
   without_unchanged (p ∷ ps) k ascending absent = by_order (cmp p.0 k) refl (without_unchanged ps k ascending.1) absent
     where

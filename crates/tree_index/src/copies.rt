@@ -18,6 +18,17 @@ impl<K: IndexKey, V: Drop + Clone, const LEN: usize> TreeIndexOf<K, V, LEN> {
     /// Returns `Err` if an allocation is refused, one of a clone among them; nothing of the copy is left then. Inserts
     /// the clones in ascending order, so that each is compared with the last separator of each node on its way and the
     /// last key of the last leaf alone.
+    ///
+    /// ```
+    /// pub fn snapshot(
+    ///     samples: &TreeIndex<u64, u64>,
+    ///     alloc: Global,
+    /// ) -> Result<TreeIndex<u64, u64>, AllocError>
+    ///     ensures { IfOk result (λ copy. copy.pairs ≡ samples.now.pairs) }
+    /// {
+    ///     samples.try_clone(alloc)
+    /// }
+    /// ```
     pub fn try_clone(&self, alloc: Global) -> Result<Self, AllocError>
         ensures { IfOk result (λ copy. AllZip (IsPairClone K.is_clone V.is_clone) self.now.pairs copy.pairs) }
     {
@@ -51,5 +62,14 @@ impl<K: IndexKey, V: Drop + Clone, const LEN: usize> TreeIndexOf<K, V, LEN> {
             Err(InsertError::OutOfMemory(_, _)) => Err(AllocError),
             Err(InsertError::Duplicate(_, _)) => unreachable!(),
         }
+    }
+}
+
+/// Does what [`try_clone`](TreeIndexOf::try_clone) does, with the allocator of the index.
+impl<K: IndexKey, V: Drop + Clone, const LEN: usize> Clone for TreeIndexOf<K, V, LEN> {
+    ghost is_clone = { λ index copy. AllZip (IsPairClone K.is_clone V.is_clone) index.pairs copy.pairs };
+
+    fn clone(&self) -> Result<Self, AllocError> {
+        self.try_clone(self.alloc)
     }
 }

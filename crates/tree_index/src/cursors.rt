@@ -19,6 +19,13 @@ impl<K: IndexKey, V: Drop, const LEN: usize> TreeIndexOf<K, V, LEN> {
     /// The first move of an end descends once. Each move after it makes no comparison, but for one of the two ends if
     /// both are opened, and reads the next entry of its leaf or follows links up to the next leaf with an entry. Allocates
     /// nothing.
+    ///
+    /// ```
+    /// let mut left = asks.iter();
+    /// left.next()?;
+    /// let (price, _) = left.next()?;
+    /// Some(*price)
+    /// ```
     pub fn iter(&self) -> IterOf<'_, K, V, LEN>
         ensures { result ≡ fresh self.now.pairs Unbounded Unbounded }
     {
@@ -30,6 +37,15 @@ impl<K: IndexKey, V: Drop, const LEN: usize> TreeIndexOf<K, V, LEN> {
     ///
     /// The moves cost what those of [`iter`](TreeIndexOf::iter) do, and one comparison more, with the bound at which
     /// the end stops.
+    ///
+    /// ```
+    /// let mut offers = prices.range((low.as_ref(), high.as_ref()));
+    /// let (first, _) = offers.next()?;
+    /// match offers.next_back() {
+    ///     Some((last, _)) => Some((*first, *last)),
+    ///     None => Some((*first, *first)),
+    /// }
+    /// ```
     pub fn range<'t>(&'t self, bounds: (Bound<&'t K>, Bound<&'t K>)) -> RangeOf<'t, K, V, LEN>
         ensures { result ≡ fresh self.now.pairs (bound_map (λ k. k.now) bounds.entry.0) (bound_map (λ k. k.now) bounds.entry.1) }
     {
@@ -38,6 +54,16 @@ impl<K: IndexKey, V: Drop, const LEN: usize> TreeIndexOf<K, V, LEN> {
 
     /// Returns where a key is: present, or which pairs are beside it, with a cursor that stands there. Descends once,
     /// or twice if every key is smaller. Allocates nothing.
+    ///
+    /// ```
+    /// fill(index, &[(1, 1), (3, 2), (5, 3), (7, 4)])?;
+    /// let ProximityOf::Between(ends) = index.locate(&2) else {
+    ///     panic!(rt; "2 is between")
+    /// };
+    ///
+    /// assert!(rt; numbers(ends.get()) == Some((1, 1)));
+    /// assert!(rt; numbers(ends.get_back()) == Some((3, 2)));
+    /// ```
     pub fn locate(&self, key: &K) -> ProximityOf<IterOf<'_, K, V, LEN>>
         ensures { result ≡ located K.cmp self.now.pairs key.now }
     {

@@ -12,6 +12,10 @@ use tree_ranges::iter::IterOf;
 /// Two indexes are equal if they have as many pairs and, one by one, equal keys and equal values. What their trees
 /// look like doesn't matter. Compares no pair if the lengths differ, else each pair until one differs. Allocates
 /// nothing.
+///
+/// ```
+/// (first == second, second == first, first == first)
+/// ```
 impl<K: IndexKey, V: Drop + PartialEq, const LEN: usize> PartialEq for TreeIndexOf<K, V, LEN> {
     ghost eq = { λ a b. pointwise (λ p q. K.eq p.0 q.0 && V.eq p.1 q.1) a.pairs b.pairs };
 

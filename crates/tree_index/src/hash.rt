@@ -12,6 +12,12 @@ use tree_array::array::IndexKey;
 use tree_ranges::iter::IterOf;
 
 /// Feeds what [`len`](TreeIndexOf::len) tells, and then each pair in order, its key before its value. Allocates nothing.
+///
+/// ```
+/// let mut hasher = DefaultHasher::new();
+/// index.hash(&mut hasher);
+/// hasher.finish()
+/// ```
 impl<K: IndexKey + Hash, V: Drop + Hash, const LEN: usize> Hash for TreeIndexOf<K, V, LEN> {
     ghost hash_input = { λ a. counted (λ p. K.hash_input p.0 ++ V.hash_input p.1) a.pairs };
 

@@ -36,13 +36,19 @@ pub type SmallTreeIndex<K, V> = TreeIndexOf<K, V, 7>;
 /// Costs are in terms of the depth. An array is searched with at most 4 comparisons among 15 slots, and 3 among 7.
 pub struct TreeIndexOf<K: IndexKey, V: Drop, const LEN: usize> {
     pub(crate) tree: Tree<K, V, LEN>,
-    len: u128,
+    pub(crate) len: u128,
+    /// What the tree allocates with, for clones. It takes no bytes.
+    pub(crate) alloc: Global,
 }
 
 // Written out for the reason that the drop of `Tree` in `tree_root` is.
 impl<K: IndexKey, V: Drop, const LEN: usize> Drop for TreeIndexOf<K, V, LEN> {
     fn drop(self) {
-        let TreeIndexOf { tree, len: _ } = self;
+        let TreeIndexOf {
+            tree,
+            len: _,
+            alloc: _,
+        } = self;
         drop(tree);
     }
 }
@@ -62,6 +68,13 @@ impl<K: IndexKey, V: Drop, const LEN: usize> Model for TreeIndexOf<K, V, LEN> {
 
 impl<K: IndexKey, V: Drop, const LEN: usize> TreeIndexOf<K, V, LEN> {
     /// Creates an empty index. Allocates nothing. The caller must choose 7 or 15 for `LEN`.
+    ///
+    /// ```
+    /// let mut book = TreeIndex::new(alloc);
+    /// for (price, quantity) in orders {
+    ///     book.upsert_sync(*price, *quantity).map_err(|_| AllocError)?;
+    /// }
+    /// ```
     pub fn new(alloc: Global) -> Self
         requires { IsLen LEN }
         ensures pairs { result.pairs ≡ [] }
@@ -72,6 +85,7 @@ impl<K: IndexKey, V: Drop, const LEN: usize> TreeIndexOf<K, V, LEN> {
         TreeIndexOf {
             tree: Tree::new(alloc),
             len: 0,
+            alloc,
         }
     }
 
@@ -85,6 +99,14 @@ impl<K: IndexKey, V: Drop, const LEN: usize> TreeIndexOf<K, V, LEN> {
     /// If the leaf is full, searches the leaf and the node above it once more. If that node is full too, descends once
     /// more; where that splits an array, searches again from its level on. Allocates at most one leaf, one node per level
     /// and a new root.
+    ///
+    /// ```
+    /// match prices.insert_sync(item, price) {
+    ///     Ok(()) => Some(price),
+    ///     Err(InsertError::Duplicate(item, _)) => prices.peek(&item).copied(),
+    ///     Err(InsertError::OutOfMemory(_, _)) => None,
+    /// }
+    /// ```
     pub fn insert_sync(&mut self, key: K, value: V) -> Result<(), InsertError<K, V>>
         ensures pairs { Inserts K.cmp self.old.pairs key value result self.new.pairs }
         ensures spare { SpendsInsert LEN self.old self.new result }
@@ -101,6 +123,12 @@ impl<K: IndexKey, V: Drop, const LEN: usize> TreeIndexOf<K, V, LEN> {
     /// Returns `Err` with the pair if an allocation is refused; the pairs are then as they were. Nothing is refused
     /// while the spare is above 0. Costs what [`insert_sync`](TreeIndexOf::insert_sync) does. A replaced pair leaves
     /// its slot spent until its leaf is built anew or split.
+    ///
+    /// ```
+    /// let old = balances.peek(&account).copied().unwrap_or(0);
+    /// let balance = old.checked_add(amount).ok_or(Refusal::TooMuch)?;
+    /// balances.upsert_sync(account, balance)?;
+    /// ```
     pub fn upsert_sync(&mut self, key: K, value: V) -> Result<(), (K, V)>
         ensures pairs { Upserts K.cmp self.old.pairs key value result self.new.pairs }
         ensures spare { SpendsUpsert LEN self.old self.new result }
@@ -116,6 +144,14 @@ impl<K: IndexKey, V: Drop, const LEN: usize> TreeIndexOf<K, V, LEN> {
     ///
     /// Descends once and searches one array per level and the leaf, and twice where the leaf has one pair alone. Allocates
     /// nothing.
+    ///
+    /// ```
+    /// pub fn withdraw(stock: &mut TreeIndex<u64, u64>, article: u64) -> bool
+    ///     ensures { stock.new.pairs ≡ without nat_cmp stock.old.pairs article }
+    /// {
+    ///     stock.remove_sync(&article)
+    /// }
+    /// ```
     pub fn remove_sync(&mut self, key: &K) -> bool
         ensures answer { IsTrue result ↔ IsPresent K.cmp self.old.pairs key.now }
         ensures left { self.new.pairs ≡ without K.cmp self.old.pairs key.now }
@@ -129,6 +165,10 @@ impl<K: IndexKey, V: Drop, const LEN: usize> TreeIndexOf<K, V, LEN> {
     ///
     /// Calls the condition once if the key is present, else never. The condition must accept the value of the key.
     /// Costs what [`remove_sync`](TreeIndexOf::remove_sync) does.
+    ///
+    /// ```
+    /// balances.remove_if_sync(&account, |balance| *balance == 0)
+    /// ```
     pub fn remove_if_sync<F: FnOnce(&V) -> bool + Drop>(&mut self, key: &K, condition: F) -> bool
         requires { ForSome (pair_at K.cmp self.old.pairs key.now) (λ pair. FnOnceTakesAt F.FnOnce condition pair.1) }
         ensures pairs { RemovesIf K.cmp (FnOnceReturnsAt F.FnOnce condition) self.old.pairs key.now result self.new.pairs }
@@ -150,6 +190,10 @@ impl<K: IndexKey, V: Drop, const LEN: usize> TreeIndexOf<K, V, LEN> {
     /// the two ends of the range: at most two searches per level and bound, and two comparisons per slot of two leaves,
     /// however many pairs it removes. Allocates nothing. What [`spare`](TreeIndexOf::spare) says afterwards is not
     /// promised.
+    ///
+    /// ```
+    /// samples.remove_range_sync((Bound::Unbounded, Bound::Excluded(&time)));
+    /// ```
     pub fn remove_range_sync(&mut self, bounds: (Bound<&K>, Bound<&K>))
         ensures { self.new.pairs ≡ cut K.cmp self.old.pairs (bound_map (λ k. k.now) bounds.entry.0) (bound_map (λ k. k.now) bounds.entry.1) }
     {
@@ -159,6 +203,12 @@ impl<K: IndexKey, V: Drop, const LEN: usize> TreeIndexOf<K, V, LEN> {
     /// Removes all pairs. The depth is 0 afterwards.
     ///
     /// Drops each pair, leaf and node once. Allocates nothing, and keeps the memory of leaves and nodes for later writes.
+    ///
+    /// ```
+    /// let was_empty = stock.is_empty();
+    /// stock.clear();
+    /// !was_empty
+    /// ```
     pub fn clear(&mut self)
         ensures pairs { self.new.pairs ≡ [] }
         ensures depth { self.new.depth ≡ 0 }
@@ -173,6 +223,11 @@ impl<K: IndexKey, V: Drop, const LEN: usize> TreeIndexOf<K, V, LEN> {
     ///
     /// Makes at most `4 * (depth + 1)` comparisons with 15 pairs a leaf, and `3 * (depth + 1)` with 7. Allocates
     /// nothing.
+    ///
+    /// ```
+    /// assert!(rt; index.insert_sync(1, 11) == Err(InsertError::Duplicate(1, 11)));
+    /// assert!(rt; index.peek(&1).copied() == Some(10));
+    /// ```
     pub fn peek(&self, key: &K) -> Option<&V>
         ensures found { option_copied result ≡ option_map (λ pair. pair.1) (pair_at K.cmp self.now.pairs key.now) }
         ensures ascending { IsAscending K.cmp self.now.pairs }
@@ -184,6 +239,11 @@ impl<K: IndexKey, V: Drop, const LEN: usize> TreeIndexOf<K, V, LEN> {
     }
 
     /// Returns the pair with a key, as it is stored. Costs what [`peek`](TreeIndexOf::peek) does.
+    ///
+    /// ```
+    /// let entry = index.peek_entry(&five('c'));
+    /// assert!(rt; entry.is_some_and(|(key, value)| key.tag == 'b' && *value == 2));
+    /// ```
     pub fn peek_entry(&self, key: &K) -> Option<(&K, &V)>
         ensures found { MatchOption result (IsAbsent K.cmp self.now.pairs key.now)
             (λ pair. pair_at K.cmp self.now.pairs key.now ≡ Some (pair.0.now, pair.1.now)) }
@@ -194,6 +254,12 @@ impl<K: IndexKey, V: Drop, const LEN: usize> TreeIndexOf<K, V, LEN> {
 
     /// Returns the pair with the judge's key, as it is stored. The judge keeps its key, and is asked at most
     /// `4 * (depth + 1)` times with 15 pairs a leaf, and `3 * (depth + 1)` times with 7.
+    ///
+    /// ```
+    /// let mut judge: KeyJudge<K, L> = KeyJudge::new(key, Steps::new(blank));
+    ///
+    /// self.peek_entry_by(judge).is_some()
+    /// ```
     pub fn peek_entry_by<J: Judge<K>>(&self, judge: &mut J) -> Option<(&K, &V)>
         ensures found { MatchOption result (IsAbsent K.cmp self.now.pairs (J.key judge.old))
             (λ pair. pair_at K.cmp self.now.pairs (J.key judge.old) ≡ Some (pair.0.now, pair.1.now)) }
@@ -206,6 +272,14 @@ impl<K: IndexKey, V: Drop, const LEN: usize> TreeIndexOf<K, V, LEN> {
     }
 
     /// Returns whether a key is present. Costs what [`peek`](TreeIndexOf::peek) does.
+    ///
+    /// ```
+    /// pub fn is_sold(stock: &TreeIndex<u64, u64>, article: u64) -> bool
+    ///     ensures { IsTrue result ↔ IsPresent nat_cmp stock.now.pairs article }
+    /// {
+    ///     stock.contains(&article)
+    /// }
+    /// ```
     pub fn contains(&self, key: &K) -> bool
         ensures { IsTrue result ↔ IsPresent K.cmp self.now.pairs key.now }
     {
@@ -213,6 +287,10 @@ impl<K: IndexKey, V: Drop, const LEN: usize> TreeIndexOf<K, V, LEN> {
     }
 
     /// Returns the number of pairs, or `usize::MAX` if there are more. Runs in constant time.
+    ///
+    /// ```
+    /// self.owners.len() < MOST && self.owners.insert_sync(name, owner).is_ok()
+    /// ```
     pub fn len(&self) -> usize
         ensures { result ≡ min (length self.now.pairs) (2 ^ 64 - 1) }
     {
@@ -220,6 +298,12 @@ impl<K: IndexKey, V: Drop, const LEN: usize> TreeIndexOf<K, V, LEN> {
     }
 
     /// Returns whether the index is empty. Runs in constant time.
+    ///
+    /// ```
+    /// let was_empty = stock.is_empty();
+    /// stock.clear();
+    /// !was_empty
+    /// ```
     pub fn is_empty(&self) -> bool
         ensures { IsTrue result ↔ (self.now.pairs ≡ []) }
     {
@@ -229,6 +313,11 @@ impl<K: IndexKey, V: Drop, const LEN: usize> TreeIndexOf<K, V, LEN> {
     /// Returns the number of levels of nodes: 0 without a root, and 1 if the root is a leaf node. At depth *d* there
     /// are at most `LEN * (LEN + 1)^d` pairs, and none at depth 0. Where *d* is above 1 and the index is packed, there are
     /// more than `LEN^d`. Runs in constant time.
+    ///
+    /// ```
+    /// let copy = index.try_clone(alloc)?;
+    /// assert!(rt; are_equal(&copy, index) && copy.len() == 100 && copy.depth() == 2);
+    /// ```
     pub fn depth(&self) -> usize
         ensures depth { result ≡ self.now.depth }
         ensures none { self.now.depth ≡ 0 → self.now.pairs ≡ [] }
@@ -245,6 +334,10 @@ impl<K: IndexKey, V: Drop, const LEN: usize> TreeIndexOf<K, V, LEN> {
     /// without a leaf. A leaf takes as many writes as it has slots never used. If it is sure to be built anew in place
     /// once these are filled, it takes as many as it has slots without a pair. Reads every node and leaf, and makes no
     /// comparisons.
+    ///
+    /// ```
+    /// samples.spare() > 0 && samples.upsert_sync(time, value).is_ok()
+    /// ```
     pub fn spare(&self) -> u8
         ensures { result ≡ self.now.spare }
     {
@@ -256,6 +349,11 @@ impl<K: IndexKey, V: Drop, const LEN: usize> TreeIndexOf<K, V, LEN> {
 
     /// Returns the arenas of the tree, and the number of its root if it has one. Every number in use in the arenas is
     /// reached from the root exactly once. Runs in constant time.
+    ///
+    /// ```
+    /// let (arenas, _) = index.parts();
+    /// let separators = arenas.leaf_count().saturating_sub(1);
+    /// ```
     pub fn parts(&self) -> (&ArenasOf<K, V, LEN>, Option<NodeId>)
         ensures { IsTreeOf K.cmp self.now result.0.now result.1 }
     {

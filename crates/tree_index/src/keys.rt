@@ -164,6 +164,14 @@ impl<'t, K: Ord, V, A: Ranged<K, V, L>, L: Walked> Clone for ValuesOver<'t, K, V
 
 impl<K: IndexKey, V: Drop, const LEN: usize> TreeIndexOf<K, V, LEN> {
     /// Returns the keys in ascending order, from both ends. Runs in constant time and allocates nothing.
+    ///
+    /// ```
+    /// pub fn first_article(stock: &TreeIndex<u64, u64>) -> Option<u64>
+    ///     ensures { result ≡ first_of (map (λ pair. pair.0) stock.now.pairs) }
+    /// {
+    ///     stock.keys().next().copied()
+    /// }
+    /// ```
     pub fn keys(&self) -> KeysOf<'_, K, V, LEN>
         ensures { result ≡ map (λ pair. pair.0) self.now.pairs }
     {
@@ -171,6 +179,13 @@ impl<K: IndexKey, V: Drop, const LEN: usize> TreeIndexOf<K, V, LEN> {
     }
 
     /// Returns the values in ascending order of their keys, from both ends. Runs in constant time and allocates nothing.
+    ///
+    /// ```
+    /// let mut pieces: u64 = 0;
+    /// for count in stock.values() {
+    ///     pieces = pieces.saturating_add(*count);
+    /// }
+    /// ```
     pub fn values(&self) -> ValuesOf<'_, K, V, LEN>
         ensures { result ≡ map (λ pair. pair.1) self.now.pairs }
     {

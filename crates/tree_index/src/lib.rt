@@ -15,6 +15,7 @@
 //!
 //! ```
 //! pub fn price_by<J: Judge<u64>>(prices: &TreeIndex<u64, u64>, judge: &mut J) -> Option<u64>
+//!     ensures price { result ≡ option_map (λ pair. pair.1) (pair_at nat_cmp prices.now.pairs (J.key judge.old)) }
 //!     ensures counted { J.count judge.new ≤ J.count judge.old + 4 * (prices.now.depth + 1) }
 //! {
 //!     let (_, price) = prices.peek_entry_by(judge)?;
@@ -25,19 +26,27 @@
 //! Both stand whole in the crate `usage`, where they are proved.
 #![tactic(auto)]
 
+mod collects;
 mod copies;
 mod cursors;
 mod equality;
 mod hash;
 mod index;
+mod into_iter;
 mod keys;
 mod nearest;
 mod order;
+mod peek_or_insert;
 mod readers;
+mod retain;
 mod seek;
+mod takes;
 
+pub use collects::FromSortedError;
 pub use index::{SmallTreeIndex, TreeIndex, TreeIndexOf};
+pub use into_iter::{IntoIter, IntoIterOf};
 pub use keys::{Keys, KeysOf, Values, ValuesOf};
+pub use seek::Seeks;
 pub use tree_array::array::{Judge, KeyJudge, Steps};
 pub use tree_cursor_model::{Answer, Move, ProximityOf};
 pub use tree_leaf::arena::NodeId;

@@ -11,6 +11,11 @@ use tree_cursor_model::ProximityOf;
 impl<K: IndexKey, V: Drop, const LEN: usize> TreeIndexOf<K, V, LEN> {
     /// Returns the pair with the smallest key, or `None` if there is no pair. Descends once, and makes no comparison.
     /// Allocates nothing.
+    ///
+    /// ```
+    /// let (price, _) = asks.first()?;
+    /// Some(*price)
+    /// ```
     pub fn first(&self) -> Option<(&K, &V)>
         ensures { lent result ≡ first_of self.now.pairs }
     {
@@ -19,6 +24,11 @@ impl<K: IndexKey, V: Drop, const LEN: usize> TreeIndexOf<K, V, LEN> {
 
     /// Returns the pair with the largest key, or `None` if there is no pair. Descends once, and makes no comparison.
     /// Allocates nothing.
+    ///
+    /// ```
+    /// let (price, _) = bids.last()?;
+    /// Some(*price)
+    /// ```
     pub fn last(&self) -> Option<(&K, &V)>
         ensures { lent result ≡ last_of self.now.pairs }
     {
@@ -27,6 +37,14 @@ impl<K: IndexKey, V: Drop, const LEN: usize> TreeIndexOf<K, V, LEN> {
 
     /// Returns the pair with a key, or else the one with the next smaller key. Returns `None` if every key is larger.
     /// Costs what [`locate`](TreeIndexOf::locate) does.
+    ///
+    /// ```
+    /// pub fn article_up_to(stock: &TreeIndex<u64, u64>, number: u64) -> Option<(&u64, &u64)>
+    ///     ensures { lent result ≡ at_or_below nat_cmp stock.now.pairs number }
+    /// {
+    ///     stock.at_or_below(&number)
+    /// }
+    /// ```
     pub fn at_or_below(&self, key: &K) -> Option<(&K, &V)>
         ensures { lent result ≡ at_or_below K.cmp self.now.pairs key.now }
     {
@@ -41,6 +59,14 @@ impl<K: IndexKey, V: Drop, const LEN: usize> TreeIndexOf<K, V, LEN> {
 
     /// Returns the pair with a key, or else the one with the next larger key. Returns `None` if every key is smaller.
     /// Costs what [`locate`](TreeIndexOf::locate) does.
+    ///
+    /// ```
+    /// pub fn ask_from(asks: &TreeIndex<u64, u64>, price: u64) -> Option<(&u64, &u64)>
+    ///     ensures { lent result ≡ at_or_above nat_cmp asks.now.pairs price }
+    /// {
+    ///     asks.at_or_above(&price)
+    /// }
+    /// ```
     pub fn at_or_above(&self, key: &K) -> Option<(&K, &V)>
         ensures { lent result ≡ at_or_above K.cmp self.now.pairs key.now }
     {

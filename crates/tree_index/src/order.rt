@@ -13,6 +13,10 @@ use tree_ranges::iter::IterOf;
 
 /// Indexes are ordered as the lists of their pairs are: the first two pairs that differ decide, their keys before their
 /// values, and if none do, the index with more pairs is greater. Compares each pair until one differs. Allocates nothing.
+///
+/// ```
+/// assert!(rt; first.partial_cmp(second) == Some(order));
+/// ```
 impl<K: IndexKey, V: Drop + PartialOrd, const LEN: usize> PartialOrd for TreeIndexOf<K, V, LEN> {
     ghost partial_cmp = { λ a b. slice_partial_cmp (λ p q. partial_ordering_then (K.partial_cmp p.0 q.0) (V.partial_cmp p.1 q.1)) a.pairs b.pairs };
 

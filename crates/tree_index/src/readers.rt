@@ -11,6 +11,13 @@ impl<K: IndexKey, V: Drop, const LEN: usize> TreeIndexOf<K, V, LEN> {
     ///
     /// Calls the reader once if the key is present, else never. The reader must accept the pair of the key. Costs what
     /// [`peek`](TreeIndexOf::peek) does, and the call.
+    ///
+    /// ```
+    /// let sum = index.peek_with(&key, |key, value| {
+    ///     calls = calls.saturating_add(1);
+    ///     key.saturating_add(*value)
+    /// });
+    /// ```
     pub fn peek_with<R, F: FnOnce(&K, &V) -> R + Drop>(&self, key: &K, reader: F) -> Option<R>
         requires { ForSome (pair_at K.cmp self.now.pairs key.now) (TakesPair F.FnOnce reader) }
         ensures { Reads F.FnOnce reader (pair_at K.cmp self.now.pairs key.now) result }
@@ -20,6 +27,10 @@ impl<K: IndexKey, V: Drop, const LEN: usize> TreeIndexOf<K, V, LEN> {
     }
 
     /// Does what [`peek_with`](TreeIndexOf::peek_with) does.
+    ///
+    /// ```
+    /// assert!(rt; index.read_sync(&key, |_, value| *value).is_some() == there);
+    /// ```
     pub fn read_sync<R, F: FnOnce(&K, &V) -> R + Drop>(&self, key: &K, reader: F) -> Option<R>
         requires { ForSome (pair_at K.cmp self.now.pairs key.now) (TakesPair F.FnOnce reader) }
         ensures { Reads F.FnOnce reader (pair_at K.cmp self.now.pairs key.now) result }

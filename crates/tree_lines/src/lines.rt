@@ -44,6 +44,14 @@ impl Error for ToolFault {}
 ///
 /// Reads at most 256 bytes at a time. The engine allocates nothing; an insert or an upsert may
 /// allocate in the index.
+///
+/// ```
+/// let mut index: TreeIndex<u64, u64> = TreeIndex::new(rt.alloc());
+/// match run_lines(&mut index, &mut input, &mut output) {
+///     Ok(()) => ExitCode::from(0),
+///     Err(_) => ExitCode::from(2),
+/// }
+/// ```
 pub fn run_lines<R: Read, W: Write, const LEN: usize>(
     index: &mut TreeIndexOf<u64, u64, LEN>,
     input: &mut R,

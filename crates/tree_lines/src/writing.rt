@@ -23,6 +23,10 @@ impl Error for WriteFailed {}
 ///
 /// Returns `Err` if a write fails or takes no byte; a front of the bytes may have been written. An
 /// interrupted write is not tried again.
+///
+/// ```
+/// let _ = write_whole(errors, b"usage: treetool [--small | storm W N]\n");
+/// ```
 pub fn write_whole<W: Write>(output: &mut W, bytes: &[u8]) -> Result<(), WriteFailed>
     ensures { Writes bytes.now (W.contents output.old) (W.contents output.new) result }
 {
@@ -41,6 +45,11 @@ pub fn write_whole<W: Write>(output: &mut W, bytes: &[u8]) -> Result<(), WriteFa
 /// Writes the decimal digits of a number.
 ///
 /// Returns `Err` if a write fails; some of the digits may have been written. Allocates nothing.
+///
+/// ```
+/// write_whole(output, counted)?;
+/// write_number(output, number)
+/// ```
 pub fn write_number<W: Write>(output: &mut W, n: u64) -> Result<(), WriteFailed>
     ensures { Writes (decimal n) (W.contents output.old) (W.contents output.new) result }
 {

@@ -1,6 +1,8 @@
 pub mod ChildDrops
 pub mod ChildSides
 pub mod Descents
+pub mod EmptiedLeaves
+pub mod EntryPlaces
 pub mod LeafRemovals
 pub mod LoweredTrees
 pub mod Lowerings

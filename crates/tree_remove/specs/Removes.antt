@@ -15,6 +15,10 @@ abbrev pub removal_told : Bool → RemoveResult
 removal_told true = Success
 removal_told false = Fail
 
+-- what is said of a value that goes whatever it is
+abbrev pub surely : {V : Type 0} → V → Bool → Type 0
+surely value said = said ≡ true
+
 module _ {K V : Type 0} (cmp : K → K → Ordering) (Says : V → Bool → Type 0) where
   -- the pair with the key, of which the condition says yes, is gone
   pub record TakesOut (old : List (K × V)) (key : K) (new : List (K × V)) : Type 0 where

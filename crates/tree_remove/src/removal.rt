@@ -10,12 +10,11 @@ ghost use Rattle.tree_node.specs.Parts.{IsPart};
 ghost use Rattle.tree_remove.specs.Removes.{RemovesUnder, removal_told};
 ghost use Rattle.tree_node.specs.Tree.{IsRetired, walk};
 
+use crate::emptied::drop_emptied;
 use tree_array::array::RemoveResult;
-use tree_clean_up::{drop_child_node, drop_keyed_leaf, retire_if_empty};
 use tree_descent::descent::leaf_for;
 use tree_leaf::arena::{LeafId, NodeId};
-use tree_node::node::{ArenasOf, NodeOf};
-use tree_node::routing::child_place_for;
+use tree_node::node::ArenasOf;
 
 /// Removes the pair with an equal key from under the number of a node of this level, if the condition says yes of its
 /// value. The condition is called once if the key is there, and never otherwise.
@@ -42,13 +41,14 @@ pub fn remove_at<K: Ord + Drop, V: Drop, F: FnOnce(&V) -> bool + Drop, const LEN
     match remove_beside(arenas, level, id, key, condition) {
         Ok(true) => RemoveResult::Success,
         Ok(false) => RemoveResult::Fail,
-        Err(condition) => remove_from(arenas, level, id, key, condition),
+        Err((condition, leaf)) => remove_alone(arenas, level, id, leaf, key, condition),
     }
 }
 
 /// Removes a pair, as [`remove_at`] does, whose leaf has another one, so that no node changes. Returns whether it did.
 ///
-/// Returns `Err` with the condition, and changes nothing, if the leaf that the key belongs to has one pair alone or none.
+/// Returns `Err` with the condition and the leaf that the key belongs to, and changes nothing, if that leaf has one pair
+/// alone or none.
 #[inline(always)]
 pub fn remove_beside<K: Ord + Drop, V: Drop, F: FnOnce(&V) -> bool + Drop, const LEN: usize>(
     arenas: &mut ArenasOf<K, V, LEN>,
@@ -56,20 +56,20 @@ pub fn remove_beside<K: Ord + Drop, V: Drop, F: FnOnce(&V) -> bool + Drop, const
     id: NodeId,
     key: &K,
     condition: F,
-) -> Result<bool, F>
+) -> Result<bool, (F, LeafId)>
     requires node { 0 < level }
     requires part { IsPart K.cmp level arenas.old id ⊎ IsRetired level arenas.old id }
     requires callable { ForSome (pair_at K.cmp (walk level arenas.old id) key.now) (λ pair. FnOnceTakesAt F.FnOnce condition pair.1) }
     ensures removes { IfOk result (λ removed. RemovesUnder K.cmp (λ val said. FnOnceReturnsAt F.FnOnce condition val said) level arenas.old arenas.new id (removal_told removed) key.now) }
     ensures settled { result ≡ Ok true → level ≡ 1 → HasOnlyRetired arenas.new id → ⊥ }
-    ensures handed_back { IfErr result (λ back. (back ≡ condition) × (arenas.new ≡ arenas.old)) }
-    ensures alone { IfErr result (λ back. (node : ℕ) × (leaf : ℕ) × LeadsTo K.cmp key.now level arenas.old id node leaf × (length (walk 0 arenas.old leaf) ≤ 1)) }
+    ensures handed_back { IfErr result (λ back. (back.0 ≡ condition) × (arenas.new ≡ arenas.old)) }
+    ensures alone { IfErr result (λ back. (node : ℕ) × LeadsTo K.cmp key.now level arenas.old id node back.1 × (length (walk 0 arenas.old back.1) ≤ 1)) }
 {
     let Some(place) = leaf_for(arenas, level, id, key, false) else {
         return Ok(false);
     };
     if arenas.leaf(place.leaf).array().len() <= 1 {
-        return Err(condition);
+        return Err((condition, place.leaf));
     }
     match remove_in_leaf(arenas, place.leaf, key, condition) {
         RemoveResult::Success => Ok(true),
@@ -79,48 +79,26 @@ pub fn remove_beside<K: Ord + Drop, V: Drop, F: FnOnce(&V) -> bool + Drop, const
     }
 }
 
-/// Removes a pair, as [`remove_at`] does, with a way back on which retired children are dropped. A leaf with one pair alone
-/// is retired by its removal.
-pub fn remove_from<K: Ord + Drop, V: Drop, F: FnOnce(&V) -> bool + Drop, const LEN: usize>(
+/// Removes a pair, as [`remove_at`] does, from the leaf that its key belongs to. If it is the last of its leaf, descends
+/// once more, and drops the leaf and each node that is left without a child.
+pub fn remove_alone<K: Ord + Drop, V: Drop, F: FnOnce(&V) -> bool + Drop, const LEN: usize>(
     arenas: &mut ArenasOf<K, V, LEN>,
     level: usize,
     id: NodeId,
+    leaf: LeafId,
     key: &K,
     condition: F,
 ) -> RemoveResult
     requires node { 0 < level }
-    requires part { IsPart K.cmp level arenas.old id ⊎ IsRetired level arenas.old id }
+    requires way { (node : ℕ) × LeadsTo K.cmp key.now level arenas.old id node leaf }
     requires callable { ForSome (pair_at K.cmp (walk level arenas.old id) key.now) (λ pair. FnOnceTakesAt F.FnOnce condition pair.1) }
     ensures removes { RemovesUnder K.cmp (λ val said. FnOnceReturnsAt F.FnOnce condition val said) level arenas.old arenas.new id result key.now }
     ensures settled { level ≡ 1 → result ≡ RemoveResult.Success → HasOnlyRetired arenas.new id → ⊥ }
 {
-    match arenas.node(id) {
-        NodeOf::Leaf(node) => {
-            let Some(place) = child_place_for(&node.children, node.unbounded_child, key) else {
-                return RemoveResult::Fail;
-            };
-            match remove_in_leaf(arenas, place.child, key, condition) {
-                RemoveResult::Retired => match place.slot {
-                    Some(slot) => {
-                        drop_keyed_leaf(arenas, id, place.child, slot);
-                        retire_if_empty(arenas, id)
-                    }
-                    None => retire_if_empty(arenas, id),
-                },
-                RemoveResult::Success => RemoveResult::Success,
-                RemoveResult::Fail => RemoveResult::Fail,
-            }
-        }
-        NodeOf::Internal(node) => {
-            let Some(place) = child_place_for(&node.children, node.unbounded_child, key) else {
-                return RemoveResult::Fail;
-            };
-            match remove_from(arenas, level - 1, place.child, key, condition) {
-                RemoveResult::Retired => drop_child_node(arenas, id, place.child, place.slot),
-                RemoveResult::Success => RemoveResult::Success,
-                RemoveResult::Fail => RemoveResult::Fail,
-            }
-        }
+    match remove_in_leaf(arenas, leaf, key, condition) {
+        RemoveResult::Retired => drop_emptied(arenas, level, id, key),
+        RemoveResult::Success => RemoveResult::Success,
+        RemoveResult::Fail => RemoveResult::Fail,
     }
 }
 

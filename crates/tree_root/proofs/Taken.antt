@@ -1,5 +1,5 @@
 -- What a removal from a tree comes to.
-use Rattle.std.proofs.Common.{◌≡◌, ◌⊎◌, ℕ, zero, suc, ◌<◌, ◌≤◌, Bool, true, false, [], Some, None, inl, inr, refl, ap, ◌∙◌, arith}
+use Rattle.std.proofs.Common.{◌≡◌, ◌⊎◌, ℕ, zero, suc, ◌<◌, ◌≤◌, Bool, true, false, [], Option, Some, None, inl, inr, refl, sym, ap, ◌∙◌, arith}
 use Rattle.std.specs.declared.cmp.Ordering.{Ordering}
 use Rattle.slab.specs.Slab.{get}
 use Rattle.tree_array.specs.declared.answers.RemoveResult.{RemoveResult}
@@ -10,16 +10,23 @@ use Rattle.tree_remove.specs.Lowering.{LowersRoot}
 use Rattle.tree_node.specs.Parts.{IsPart}
 use Rattle.tree_node.specs.Tree.{IsOfLevel}
 use Rattle.tree_remove.specs.Removes.{RemovesUnder, TakesOut, removal_told}
+use Rattle.tree_remove.specs.Takes.{IsEntry, stored_at}
 use Rattle.tree_node.specs.Shape.{spare}
 use Rattle.tree_node.specs.Tree.{IsRetired, Stands, leaves_at, walk}
-use Rattle.tree_node.specs.Whole.{IsRetiredRoot, IsTree, spare_under}
+use Rattle.tree_node.specs.Whole.{IsRetiredRoot, IsTree, spare_under, walk_under}
 use Rattle.tree_node.proofs.Steps.{part_after}
 use Rattle.tree_node.proofs.Whole.{chain_after, leaves_after, nodes_after, spare_standing, spare_unchanged, tree_after, tree_part, tree_unchanged, walk_unchanged}
 use Rattle.tree_node.proofs.Standing.{no_children}
 use Rattle.tree_split.proofs.Tests.{packed_unchanged}
 use Rattle.tree_remove.proofs.LoweredTrees.{spare_lowered, tree_lowered}
 use Rattle.tree_root.specs.declared.tree.Tree.{Tree}
-use Rattle.tree_root.specs.Trees.{IsWhole, Takes}
+use Rattle.tree_root.specs.Trees.{IsStored, IsStoredUnder, IsWhole, Takes, pairs_of}
+use Rattle.tree_remove.specs.declared.entries.EntryPlace.{EntryPlace}
+
+-- the root of a part has the kind of its level
+pub root_level : {K V : Type 0} {LEN : ℕ} {cmp : K → K → Ordering} {a : TreeArenas K V LEN} {id : ℕ} (level : ℕ) → IsPart cmp level a id → IsOfLevel level (get a.nodes id)
+root_level zero part = tt
+root_level (suc level) part = rw part.stands.here part.stands.kind
 
 module _ {K V : Type 0} {LEN : ℕ} (cmp : K → K → Ordering) (Says : V → Bool → Type 0) (old new : Tree K V LEN) (key : K) where
   -- without a root there is no key
@@ -113,7 +120,31 @@ module _ {K V : Type 0} {LEN : ℕ} (cmp : K → K → Ordering) (Says : V → B
     pub last_taken : (mid : TreeArenas K V LEN) → RemovesUnder cmp Says level old.arenas mid id Retired key → LowersRoot cmp level mid new.arenas id new.root → Takes cmp Says old new key true
     last_taken mid r lowers = lowered mid Retired r.pairs.0 r (inr (leaves_gone mid r.leaves.0)) lowers
 
--- the root of a part has the kind of its level
-pub root_level : {K V : Type 0} {LEN : ℕ} {cmp : K → K → Ordering} {a : TreeArenas K V LEN} {id : ℕ} (level : ℕ) → IsPart cmp level a id → IsOfLevel level (get a.nodes id)
-root_level zero part = tt
-root_level (suc level) part = rw part.stands.here part.stands.kind
+    -- a pair was taken out that the condition doesn't keep
+    module _ (mid : TreeArenas K V LEN) (pair : K × V) (found : pair_at cmp (walk level old.arenas id) key ≡ Some pair) (sure : (v : V) → Says v false → ⊥) where
+      -- the root is a part still, or retired
+      pub root_after : (result : RemoveResult) → RemovesUnder cmp Says level old.arenas mid id result key → (IsPart cmp level mid id ⊎ IsRetired level mid id) × IsOfLevel level (get mid.nodes id)
+      root_after Success r = (inl (still_part mid r), root_level level (still_part mid r))
+      root_after Retired r = (inr r.leaves.0, r.leaves.1)
+      root_after Fail r = absurd (sure pair.1 (r.pairs.0 pair found))
+
+      pub pair_taken : (result : RemoveResult) → RemovesUnder cmp Says level old.arenas mid id result key → LowersRoot cmp level mid new.arenas id new.root → Takes cmp Says old new key true
+      pair_taken Success r lowers = taken mid r lowers
+      pair_taken Retired r lowers = last_taken mid r lowers
+      pair_taken Fail r lowers = absurd (sure pair.1 (r.pairs.0 pair found))
+
+-- a place has one pair
+module _ {K V : Type 0} {LEN : ℕ} {cmp : K → K → Ordering} (level : ℕ) (a : TreeArenas K V LEN) (id leaf slot : ℕ) (pair taken : K × V) (entry : IsEntry cmp level a id leaf slot pair) (stored : stored_at (get a.leaves leaf) slot ≡ Some taken) where
+  pub same_stored : taken ≡ pair
+  same_stored = let both : Some taken ≡ Some pair = sym stored ∙ entry.stored in cc
+
+  pub found_again : pair_at cmp (walk level a id) taken.0 ≡ Some taken
+  found_again = rw same_stored entry.found
+
+-- a pair that is stored is found at its key
+pub stored_found : {K V : Type 0} {LEN : ℕ} (cmp : K → K → Ordering) (tree : Tree K V LEN) (place : EntryPlace) (pair : K × V) → IsStored cmp tree place pair → pair_at cmp (pairs_of tree) pair.0 ≡ Some pair
+stored_found cmp tree place pair stored = by_root tree.root stored
+  where
+    by_root : (root : Option (ℕ × ℕ)) → IsStoredUnder cmp tree.arenas root place pair → pair_at cmp (walk_under tree.arenas root) pair.0 ≡ Some pair
+    by_root None stored = absurd stored
+    by_root (Some root) stored = stored.found

@@ -1,5 +1,5 @@
 -- What the calls of a tree answer and leave.
-use Rattle.std.specs.Prelude.{◌≡◌, ◌⊎◌, ℕ, suc, ◌+◌, ◌-◌, ◌≤◌, Bool, true, false, List, [], length, Result, Ok, Err}
+use Rattle.std.specs.Prelude.{◌≡◌, ◌⊎◌, ℕ, suc, ◌+◌, ◌-◌, ◌≤◌, Bool, true, false, List, [], length, Option, Some, None, Result, Ok, Err}
 use Rattle.std.specs.List.{AllByRecursion}
 use Rattle.std.specs.declared.cmp.Ordering.{Ordering}
 use Rattle.std.specs.declared.cmp.Ordering.TheVariants.{Less}
@@ -11,9 +11,12 @@ use Rattle.tree_model.specs.declared.commands.InsertError.TheVariants.{Duplicate
 use Rattle.tree_model.specs.Edits.{RemovesIf}
 use Rattle.tree_model.specs.Pairs.{cut}
 use Rattle.tree_insert.specs.Inserts.{Inserts, declined, refused, stores}
+use Rattle.tree_node.specs.Arenas.{TreeArenas}
 use Rattle.tree_node.specs.Whole.{IsTree, depth_of, leaves_under, spare_under, walk_under}
 use Rattle.tree_split.specs.Packed.{packed_under}
 use Rattle.tree_remove.specs.Lowering.{IsRootIfAny}
+use Rattle.tree_remove.specs.Takes.{IsEntry}
+use Rattle.tree_remove.specs.declared.entries.EntryPlace.{EntryPlace}
 use Rattle.tree_root.specs.declared.tree.Stored.{Stored}
 use Rattle.tree_root.specs.declared.tree.Stored.TheVariants.{New, Replaced}
 use Rattle.tree_root.specs.declared.tree.Tree.{Tree}
@@ -40,6 +43,14 @@ module _ {K V : Type 0} {LEN : ℕ} where
 
   abbrev pub KeepsShape : (K → K → Ordering) → Tree K V LEN → Tree K V LEN → Type 0
   KeepsShape cmp old new = (depth_of new.root ≡ depth_of old.root) × (spare_of new ≡ spare_of old) × (packed_of cmp new ≡ packed_of cmp old)
+
+  -- the pair is stored at this place
+  abbrev pub IsStoredUnder : (K → K → Ordering) → TreeArenas K V LEN → Option (ℕ × ℕ) → EntryPlace → K × V → Type 0
+  IsStoredUnder cmp arenas None place pair = ⊥
+  IsStoredUnder cmp arenas (Some root) place pair = IsEntry cmp root.1 arenas root.0 place.leaf place.slot pair
+
+  abbrev pub IsStored : (K → K → Ordering) → Tree K V LEN → EntryPlace → K × V → Type 0
+  IsStored cmp tree place pair = IsStoredUnder cmp tree.arenas tree.root place pair
 
   -- The pair is stored, or it comes back for a duplicate or for want of memory.
   pub record Stores (cmp : K → K → Ordering) (upsert : Bool) (old new : Tree K V LEN) (key : K) (val : V) (result : Result (StoreResult K V) (K × V)) : Type 0 where

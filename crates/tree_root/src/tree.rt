@@ -1,8 +1,9 @@
 //! The tree that an index stands on.
-ghost use Rattle.std.specs.Prelude.{◌≡◌, ◌⊎◌, [], ◌+◌, ◌*◌, ◌^◌, ◌<◌, ◌≤◌, length, Bool, MatchOption, None, Some, false};
+ghost use Rattle.std.specs.Prelude.{◌≡◌, ◌⊎◌, ℕ, [], ◌+◌, ◌*◌, ◌^◌, ◌<◌, ◌≤◌, length, Bool, MatchOption, None, Some, false, true};
 ghost use Rattle.std.specs.Fn.{FnOnceReturnsAt, FnOnceTakesAt};
 ghost use Rattle.std.specs.Option.{ForSome};
 ghost use Rattle.std.specs.Range.Bound.{bound_map};
+ghost use Rattle.std.specs.declared.cmp.Ordering.TheVariants.{Equal};
 ghost use Rattle.tree_array.specs.Length.{IsLen, searched};
 ghost use Rattle.tree_model.specs.Pairs.{IsAbsent, pair_at};
 ghost use Rattle.tree_descent.specs.Ways.{LeadsTo};
@@ -10,7 +11,8 @@ ghost use Rattle.tree_insert.specs.Inserts.{IsNew};
 ghost use Rattle.tree_node.specs.Shape.{room};
 ghost use Rattle.tree_node.specs.Tree.{IsRetired};
 ghost use Rattle.tree_node.specs.Whole.{depth_of, leaves_under};
-ghost use Rattle.tree_root.specs.Trees.{Cuts, IsWhole, Stores, Takes, pairs_of, spare_of, told};
+ghost use Rattle.tree_remove.specs.Removes.{surely};
+ghost use Rattle.tree_root.specs.Trees.{Cuts, IsStored, IsWhole, Stores, Takes, pairs_of, spare_of, told};
 
 use std::alloc::Global;
 use std::ops::Bound;
@@ -20,11 +22,12 @@ use tree_descent::look_ups::search_at;
 use tree_insert::insertion::{Crowded, insert_at, insert_crowded, insert_with_room};
 use tree_insert::planting::plant;
 use tree_insert::root::split_root_at;
-use tree_leaf::arena::NodeId;
+use tree_leaf::arena::{LeafId, NodeId};
 use tree_model::InsertError;
 use tree_node::node::ArenasOf;
+use tree_remove::entries::{EntryPlace, entry_for, take_entry};
 use tree_remove::lowering::lower_root_at;
-use tree_remove::removal::{remove_beside, remove_from};
+use tree_remove::removal::{remove_alone, remove_beside};
 
 /// Whether the key of a pair that was stored is new.
 #[derive(Drop)]
@@ -177,25 +180,27 @@ impl<K: IndexKey, V: Drop, const LEN: usize> Tree<K, V, LEN> {
         };
         match remove_beside(&mut self.arenas, depth, root, key, condition) {
             Ok(removed) => removed,
-            Err(condition) => self.remove_alone(root, depth, key, condition),
+            Err((condition, leaf)) => self.remove_alone(root, depth, leaf, key, condition),
         }
     }
 
-    /// Does what [`remove_if`](Tree::remove_if) does, with a leaf that the removal may retire.
+    /// Does what [`remove_if`](Tree::remove_if) does, with the leaf that the key belongs to, which the removal may retire.
     #[inline(never)]
     fn remove_alone<F: FnOnce(&V) -> bool + Drop>(
         &mut self,
         root: NodeId,
         depth: usize,
+        leaf: LeafId,
         key: &K,
         condition: F,
     ) -> bool
         requires whole { IsWhole K.cmp self.old }
         requires root { self.old.root ≡ Some (root, depth) }
+        requires way { (node : ℕ) × LeadsTo K.cmp key.now depth self.old.arenas root node leaf }
         requires callable { ForSome (pair_at K.cmp (pairs_of self.old) key.now) (λ pair. FnOnceTakesAt F.FnOnce condition pair.1) }
         ensures { Takes K.cmp (FnOnceReturnsAt F.FnOnce condition) self.old self.new key.now result }
     {
-        match remove_from(&mut self.arenas, depth, root, key, condition) {
+        match remove_alone(&mut self.arenas, depth, root, leaf, key, condition) {
             RemoveResult::Fail => false,
             RemoveResult::Success => {
                 self.root = lower_root_at(&mut self.arenas, depth, root);
@@ -206,6 +211,33 @@ impl<K: IndexKey, V: Drop, const LEN: usize> Tree<K, V, LEN> {
                 true
             }
         }
+    }
+
+    /// Returns where the pair with a key is stored, or `None` if the key is absent. Makes at most 4 comparisons a level and
+    /// in the leaf (3 among 7 slots), and one more.
+    pub fn entry_for(&self, key: &K) -> Option<EntryPlace>
+        requires { IsWhole K.cmp self.now }
+        ensures { MatchOption result (IsAbsent K.cmp (pairs_of self.now) key.now)
+            (λ place. (pair : K × V) × (K.cmp pair.0 key.now ≡ Equal) × IsStored K.cmp self.now place pair) }
+    {
+        let (root, depth) = self.root?;
+        entry_for(&self.arenas, depth, root, key)
+    }
+
+    /// Takes out the pair that is stored at a place, and returns it. Makes no comparisons, but for a descent by its key if it
+    /// is the last pair of its leaf. Allocates nothing.
+    pub fn take_entry(&mut self, place: EntryPlace) -> (K, V)
+        requires whole { IsWhole K.cmp self.old }
+        requires stored { (pair : K × V) × IsStored K.cmp self.old place pair }
+        ensures pair { (pair : K × V) → IsStored K.cmp self.old place pair → result ≡ pair }
+        ensures takes { Takes K.cmp surely self.old self.new result.0 true }
+    {
+        let Some((root, depth)) = self.root else {
+            unreachable!()
+        };
+        let (key, value, _) = take_entry(&mut self.arenas, depth, root, place);
+        self.root = lower_root_at(&mut self.arenas, depth, root);
+        (key, value)
     }
 
     /// Removes every pair whose key is within both bounds, and returns how many there were. Reversed bounds contain no

@@ -14,6 +14,15 @@ use tree_index::{Command, IndexKey, InsertError, Reply, SameClone, TreeIndexOf};
 /// command that removes, as many as the index had spare are not refused. Where all commands are inserts of ascending
 /// keys into an index without a tree, and none is refused, the depth is at most 1, or there are more than `LEN^depth`
 /// of them.
+///
+/// ```
+/// for key in first..=last {
+///     commands.push(Command::Insert(key, key))?;
+/// }
+/// let Ok(replies) = run(index, commands) else {
+///     return Err(AllocError);
+/// };
+/// ```
 pub fn run<K: IndexKey, V: SameClone, const LEN: usize>(
     index: &mut TreeIndexOf<K, V, LEN>,
     commands: Vec<Command<K, V>>,

@@ -10,6 +10,12 @@ use tree_state::StateOf;
 ///
 /// The commands stand with the number of their worker, which the caller must keep below the number of tallies. In no
 /// way in which the schedule may run may a number of a tally pass `u64::MAX`.
+///
+/// ```
+/// let commands = schedule(alloc)?;
+/// let refused = run_schedule(&mut state, commands, &mut tallies);
+/// assert!(rt; are_all_told(refused, state.history(), &tallies));
+/// ```
 pub fn run_schedule<K: IndexKey + SameClone, V: SameClone, const LEN: usize>(
     state: &mut StateOf<K, V, LEN>,
     schedule: Vec<(usize, Command<K, V>)>,

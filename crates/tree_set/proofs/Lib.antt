@@ -1,3 +1,4 @@
+pub mod Apart
 pub mod Firsts
 pub mod Keys
 pub mod Moves

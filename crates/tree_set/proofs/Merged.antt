@@ -21,12 +21,12 @@ abbrev pub IsFirst : {K : Type 0} → List K → Option (Bor K) → Type 0
 IsFirst xs r = MatchOption r (xs ≡ []) (λ x. xs ≡ x.now ∷ drop 1 xs)
 
 -- each element is larger than x
-abbrev AllLarger : {K : Type 0} → (K → K → Ordering) → K → List K → Type 0
+abbrev pub AllLarger : {K : Type 0} → (K → K → Ordering) → K → List K → Type 0
 AllLarger cmp x ys = AllByRecursion (λ y. cmp x y ≡ Less) ys
 
 -- a union, by which element comes first
 module _ {K : Type 0} (cmp : K → K → Ordering) where
-  union_alone : (xs : List K) → union cmp xs [] ≡ xs
+  pub union_alone : (xs : List K) → union cmp xs [] ≡ xs
   union_alone [] = refl
   union_alone (x ∷ xs) = refl
 
@@ -49,7 +49,7 @@ module _ {K : Type 0} (cmp : K → K → Ordering) where
       union_greater h = rw (is, also, h) refl
 
 module _ {K : Type 0} {cmp : K → K → Ordering} (o : IsTotalOrder cmp) where
-  larger_all : (x y : K) (ys : List K) → cmp x y ≡ Less → AllLarger cmp y ys → AllLarger cmp x ys
+  pub larger_all : (x y : K) (ys : List K) → cmp x y ≡ Less → AllLarger cmp y ys → AllLarger cmp x ys
   larger_all x y ys less larger = all_map (λ z later. o.trans x y z less later) ys larger
 
   equal_all : (x y : K) (ys : List K) → cmp x y ≡ Equal → AllLarger cmp y ys → AllLarger cmp x ys

@@ -1,4 +1,4 @@
--- The elements of either of two ascending lists, of both, and of the first alone.
+-- The elements of either of two ascending lists, of both, of the first alone, and of one alone.
 use Rattle.std.specs.Prelude.{true, not, List, filter}
 use Rattle.std.specs.Set.{sorted_merge}
 use Rattle.std.specs.declared.cmp.Ordering.{Ordering}
@@ -16,6 +16,10 @@ module _ {K : Type 0} (cmp : K → K → Ordering) (xs ys : List K) where
   -- the elements of the first list that the second lacks
   abbrev pub difference : List K
   difference = filter (λ x. not (has cmp ys x)) xs
+
+  -- the elements of either list that the other lacks
+  abbrev pub symmetric_difference : List K
+  symmetric_difference = sorted_merge cmp true (filter (λ x. not (has cmp ys x)) xs) (filter (λ y. not (has cmp xs y)) ys)
 
   pub record AreAscending : Type 0 where
     pub first : IsAscending cmp xs

@@ -12,10 +12,24 @@ impl<K: IndexKey, const LEN: usize> TreeSetOf<K, LEN> {
     /// Returns `Err` if an allocation is refused, one of a clone among them. Nothing of the copy is left then. Inserts
     /// the clones in ascending order, so that each is compared with the last separator of each node on its way and the
     /// last element of the last leaf alone.
+    ///
+    /// ```
+    /// let mut second = first.try_clone(alloc)?;
+    /// ```
     pub fn try_clone(&self, alloc: Global) -> Result<Self, AllocError>
         ensures { IfOk result (λ copy. AllZip K.is_clone self.now copy) }
     {
         let index = self.index.try_clone(alloc)?;
+        Ok(TreeSetOf { index })
+    }
+}
+
+/// Does what [`try_clone`](TreeSetOf::try_clone) does, with the allocator of the set.
+impl<K: IndexKey, const LEN: usize> Clone for TreeSetOf<K, LEN> {
+    ghost is_clone = { λ set copy. AllZip K.is_clone set copy };
+
+    fn clone(&self) -> Result<Self, AllocError> {
+        let index = self.index.clone()?;
         Ok(TreeSetOf { index })
     }
 }

@@ -5,13 +5,14 @@ ghost use Rattle.std.specs.Range.Bound.{bound_map};
 ghost use Rattle.tree_array.specs.Length.{IsLen};
 ghost use Rattle.tree_chain.specs.Walks.{first_of, last_of};
 ghost use Rattle.tree_model.specs.Pairs.{within};
-ghost use Rattle.tree_set.specs.Merges.{difference, intersection, union};
+ghost use Rattle.tree_set.specs.Merges.{difference, intersection, symmetric_difference, union};
 ghost use Rattle.tree_set.specs.Sets.{Inserts, IsAscending, cut, element_at, has, without};
 
 use crate::ahead::Ahead;
 use crate::difference::{Difference, DifferenceOver};
 use crate::elements::{Elements, ElementsOver};
 use crate::intersection::{Intersection, IntersectionOver};
+use crate::symmetric_difference::{SymmetricDifference, SymmetricDifferenceOver};
 use crate::union::{Union, UnionOver};
 use std::alloc::Global;
 use std::fmt;
@@ -53,6 +54,11 @@ impl<K: IndexKey, const LEN: usize> Model for TreeSetOf<K, LEN> {
 
 impl<K: IndexKey, const LEN: usize> TreeSetOf<K, LEN> {
     /// Creates an empty set. Allocates nothing. The caller must choose 7 or 15 for `LEN`.
+    ///
+    /// ```
+    /// let mut set: TreeSet<u64> = TreeSetOf::new(alloc);
+    /// insert_all(&mut set, &[3, 1, 2, 3, 7, 9])?;
+    /// ```
     pub fn new(alloc: Global) -> Self
         requires { IsLen LEN }
         ensures { result ≡ [] }
@@ -66,6 +72,14 @@ impl<K: IndexKey, const LEN: usize> TreeSetOf<K, LEN> {
     ///
     /// Returns `Err` with the element if it is new and an allocation is refused. The set is then as it was. Costs what
     /// [`insert_sync`](TreeIndexOf::insert_sync) does: a descent, and where the leaf is full a second one at most.
+    ///
+    /// ```
+    /// pub fn invite(invited: &mut TreeSet<u64>, guest: u64) -> Result<bool, u64>
+    ///     ensures { Inserts nat_cmp invited.old guest result invited.new }
+    /// {
+    ///     invited.insert(guest)
+    /// }
+    /// ```
     pub fn insert(&mut self, element: K) -> Result<bool, K>
         ensures { Inserts K.cmp self.old element result self.new }
     {
@@ -79,6 +93,12 @@ impl<K: IndexKey, const LEN: usize> TreeSetOf<K, LEN> {
     /// Removes an element. Returns whether it was present.
     ///
     /// Costs what [`remove_sync`](TreeIndexOf::remove_sync) does: a descent. Allocates nothing.
+    ///
+    /// ```
+    /// insert_all(&mut set, &[3, 1, 2, 3, 7, 9])?;
+    ///
+    /// assert!(rt; set.remove(&2) && !set.remove(&2));
+    /// ```
     pub fn remove(&mut self, element: &K) -> bool
         ensures answer { result ≡ has K.cmp self.old element.now }
         ensures left { self.new ≡ without K.cmp self.old element.now }
@@ -91,6 +111,11 @@ impl<K: IndexKey, const LEN: usize> TreeSetOf<K, LEN> {
     ///
     /// Drops the parts of the tree between the bounds whole, and makes comparisons only at the two ends of the range,
     /// as [`remove_range_sync`](TreeIndexOf::remove_range_sync) does. Allocates nothing.
+    ///
+    /// ```
+    /// set.remove_range((Bound::Included(&3), Bound::Excluded(&9)));
+    /// assert!(rt; format!(in alloc; "{set:?}")?.as_str() == "{1, 9}");
+    /// ```
     pub fn remove_range(&mut self, bounds: (Bound<&K>, Bound<&K>))
         ensures { self.new ≡ cut K.cmp self.old (bound_map (λ k. k.now) bounds.entry.0) (bound_map (λ k. k.now) bounds.entry.1) }
     {
@@ -98,6 +123,11 @@ impl<K: IndexKey, const LEN: usize> TreeSetOf<K, LEN> {
     }
 
     /// Removes all elements. Drops each once. Allocates nothing, and keeps the memory of the tree for later inserts.
+    ///
+    /// ```
+    /// set.clear();
+    /// fill(&mut set, *count)?;
+    /// ```
     pub fn clear(&mut self)
         ensures { self.new ≡ [] }
     {
@@ -108,6 +138,14 @@ impl<K: IndexKey, const LEN: usize> TreeSetOf<K, LEN> {
     ///
     /// Makes at most `4 * (depth + 1)` comparisons with 15 elements a leaf, and `3 * (depth + 1)` with 7. Allocates
     /// nothing.
+    ///
+    /// ```
+    /// pub fn invitation(invited: &TreeSet<u64>, guest: u64) -> Option<&u64>
+    ///     ensures { option_copied result ≡ element_at nat_cmp invited.now guest }
+    /// {
+    ///     invited.get(&guest)
+    /// }
+    /// ```
     pub fn get(&self, element: &K) -> Option<&K>
         ensures found { option_copied result ≡ element_at K.cmp self.now element.now }
         ensures ascending { IsAscending K.cmp self.now }
@@ -117,6 +155,11 @@ impl<K: IndexKey, const LEN: usize> TreeSetOf<K, LEN> {
     }
 
     /// Returns whether an element is present. Costs what [`get`](TreeSetOf::get) does.
+    ///
+    /// ```
+    /// (set.len() as u64, set.is_empty(), set.contains(&count)) == (count, count == 0, false)
+    ///     && (count == 0 || set.contains(&(count - 1)))
+    /// ```
     pub fn contains(&self, element: &K) -> bool
         ensures { result ≡ has K.cmp self.now element.now }
     {
@@ -124,6 +167,10 @@ impl<K: IndexKey, const LEN: usize> TreeSetOf<K, LEN> {
     }
 
     /// Returns the number of elements, or `usize::MAX` if there are more. Runs in constant time.
+    ///
+    /// ```
+    /// (set.len() as u64, set.is_empty(), set.contains(&count)) == (count, count == 0, false)
+    /// ```
     pub fn len(&self) -> usize
         ensures { result ≡ min (length self.now) (2 ^ 64 - 1) }
     {
@@ -131,6 +178,10 @@ impl<K: IndexKey, const LEN: usize> TreeSetOf<K, LEN> {
     }
 
     /// Returns whether the set is empty. Runs in constant time.
+    ///
+    /// ```
+    /// (set.len() as u64, set.is_empty(), set.contains(&count)) == (count, count == 0, false)
+    /// ```
     pub fn is_empty(&self) -> bool
         ensures { IsTrue result ↔ (self.now ≡ []) }
     {
@@ -141,6 +192,15 @@ impl<K: IndexKey, const LEN: usize> TreeSetOf<K, LEN> {
     ///
     /// The first move of an end descends once. Each move after it reads the next element of its leaf, or follows links up
     /// to the next leaf with an element, and makes at most one comparison. Allocates nothing.
+    ///
+    /// ```
+    /// for element in set {
+    ///     if *element != next {
+    ///         return false;
+    ///     }
+    ///     next = next.wrapping_add(1);
+    /// }
+    /// ```
     pub fn iter(&self) -> Elements<'_, K, LEN>
         ensures { result ≡ self.now }
     {
@@ -151,6 +211,10 @@ impl<K: IndexKey, const LEN: usize> TreeSetOf<K, LEN> {
     /// reversed ones among them, give none. Runs in constant time.
     ///
     /// The moves cost what those of [`iter`](TreeSetOf::iter) do, and one comparison more.
+    ///
+    /// ```
+    /// assert!(rt; set.range((Bound::Excluded(&3), Bound::Unbounded)).next() == Some(&7));
+    /// ```
     pub fn range<'t>(&'t self, bounds: (Bound<&'t K>, Bound<&'t K>)) -> Elements<'t, K, LEN>
         ensures { result ≡ filter (within K.cmp (bound_map (λ k. k.now) bounds.entry.0) (bound_map (λ k. k.now) bounds.entry.1)) self.now }
     {
@@ -161,6 +225,12 @@ impl<K: IndexKey, const LEN: usize> TreeSetOf<K, LEN> {
     ///
     /// Descends once in each set. A move makes at most one comparison between the sets, and at most one move in each.
     /// Allocates nothing.
+    ///
+    /// ```
+    /// for digit in first.union(second) {
+    ///     digits = digits.wrapping_mul(10).wrapping_add(*digit);
+    /// }
+    /// ```
     pub fn union<'t>(&'t self, other: &'t Self) -> Union<'t, K, LEN>
         ensures merged { result ≡ union K.cmp self.now other.now }
         ensures elements { (k : K) → has K.cmp result k ≡ (has K.cmp self.now k || has K.cmp other.now k) }
@@ -176,6 +246,12 @@ impl<K: IndexKey, const LEN: usize> TreeSetOf<K, LEN> {
     ///
     /// Descends once in each set. A move makes at most one comparison between the sets for each element that it passes
     /// in either. Allocates nothing.
+    ///
+    /// ```
+    /// for digit in first.intersection(second) {
+    ///     digits = digits.wrapping_mul(10).wrapping_add(*digit);
+    /// }
+    /// ```
     pub fn intersection<'t>(&'t self, other: &'t Self) -> Intersection<'t, K, LEN>
         ensures common { result ≡ intersection K.cmp self.now other.now }
         ensures elements { (k : K) → has K.cmp result k ≡ (has K.cmp self.now k && has K.cmp other.now k) }
@@ -189,6 +265,10 @@ impl<K: IndexKey, const LEN: usize> TreeSetOf<K, LEN> {
 
     /// Returns the elements of this set that the other lacks, in ascending order. Costs what
     /// [`intersection`](TreeSetOf::intersection) does.
+    ///
+    /// ```
+    /// invited.difference(answered).next().copied()
+    /// ```
     pub fn difference<'t>(&'t self, other: &'t Self) -> Difference<'t, K, LEN>
         ensures alone { result ≡ difference K.cmp self.now other.now }
         ensures elements { (k : K) → has K.cmp result k ≡ (has K.cmp self.now k && not (has K.cmp other.now k)) }
@@ -200,7 +280,30 @@ impl<K: IndexKey, const LEN: usize> TreeSetOf<K, LEN> {
         }
     }
 
+    /// Returns the elements that one of the two sets has and the other lacks, in ascending order. Costs what
+    /// [`intersection`](TreeSetOf::intersection) does.
+    ///
+    /// ```
+    /// for digit in first.symmetric_difference(second) {
+    ///     digits = digits.wrapping_mul(10).wrapping_add(*digit);
+    /// }
+    /// ```
+    pub fn symmetric_difference<'t>(&'t self, other: &'t Self) -> SymmetricDifference<'t, K, LEN>
+        ensures apart { result ≡ symmetric_difference K.cmp self.now other.now }
+        ensures elements { (k : K) → has K.cmp result k ≡ ((has K.cmp self.now k && not (has K.cmp other.now k)) || (has K.cmp other.now k && not (has K.cmp self.now k))) }
+        ensures ascending { IsAscending K.cmp result }
+    {
+        SymmetricDifferenceOver {
+            first: Ahead::new(self.iter()),
+            second: Ahead::new(other.iter()),
+        }
+    }
+
     /// Returns the smallest element, or `None` if the set is empty. Descends once, and makes no comparison.
+    ///
+    /// ```
+    /// (set.first().copied(), set.last().copied())
+    /// ```
     pub fn first(&self) -> Option<&K>
         ensures { option_copied result ≡ first_of self.now }
     {
@@ -209,6 +312,10 @@ impl<K: IndexKey, const LEN: usize> TreeSetOf<K, LEN> {
     }
 
     /// Returns the largest element, or `None` if the set is empty. Descends once, and makes no comparison.
+    ///
+    /// ```
+    /// (set.first().copied(), set.last().copied())
+    /// ```
     pub fn last(&self) -> Option<&K>
         ensures { option_copied result ≡ last_of self.now }
     {

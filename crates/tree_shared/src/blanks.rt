@@ -21,6 +21,10 @@ pub struct Blanks {
 
 impl Blanks {
     /// Creates blanks for `workers` passes: a part for each, and one that stays with the index.
+    ///
+    /// ```
+    /// claim_both::<Brand, Brand, Brand, Brand, Brand, R>(rt, alloc, numbers, Blanks::new(2))
+    /// ```
     pub fn new(workers: usize) -> Blanks
         requires { workers < usize.MAX }
         ensures calls { result.calls.parts ≡ workers + 1 }

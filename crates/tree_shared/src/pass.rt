@@ -32,6 +32,10 @@ impl<C: Ledger, S: Ledger, M: Ledger, F: Ledger, D: Ledger> Model for Pass<C, S,
 
 impl<C: Ledger, S: Ledger, M: Ledger, F: Ledger, D: Ledger> Pass<C, S, M, F, D> {
     /// Returns the tally of the calls that were made by this pass. Each number is at most that of the calls.
+    ///
+    /// ```
+    /// let told = (passes[0].tally(), passes[1].tally());
+    /// ```
     pub fn tally(&self) -> Tally
         ensures tally { result ≡ self.now }
         ensures within { (result.stored ≤ result.calls) × (result.removed ≤ result.calls) × (result.found ≤ result.calls) × (result.done ≤ result.calls) }

@@ -58,6 +58,13 @@ impl<
     ///
     /// Returns `Err` if an allocation is refused. The caller must choose 7 or 15 for `LEN`, and make the blanks for as
     /// many workers.
+    ///
+    /// ```
+    /// let (owners, mut passes) = SharedTreeIndex::<u64, u64, C, S, M, F, D>::new(alloc, 2, blanks)?;
+    /// let [one, two] = passes.as_mut_slice() else {
+    ///     unreachable!()
+    /// };
+    /// ```
     pub fn new(
         alloc: Global,
         workers: usize,
@@ -97,6 +104,12 @@ impl<
     /// Returns `Duplicate` if the key is present, and `OutOfMemory` if an allocation is refused, for the pair or for
     /// the history, also where the key is present. Both hand the pair back. After `OutOfMemory` nothing changed. Clones
     /// the pair before it takes the lock.
+    ///
+    /// ```
+    /// for number in numbers {
+    ///     let _ = owners.insert(rt, pass, *number, owner);
+    /// }
+    /// ```
     pub fn insert<R: Wait>(
         &self,
         rt: &R,
@@ -118,6 +131,16 @@ impl<
     ///
     /// Returns `Err` with the pair if an allocation is refused; nothing changed then. Clones the pair before it takes
     /// the lock.
+    ///
+    /// ```
+    /// Command::Upsert(key, value) => match shared.upsert(rt, pass, *key, *value) {
+    ///     Ok(()) => Reply::Stored,
+    ///     Err(back) => {
+    ///         assert!(rt; back == (*key, *value));
+    ///         return Err(AllocError);
+    ///     }
+    /// },
+    /// ```
     pub fn upsert<R: Wait>(
         &self,
         rt: &R,
@@ -136,6 +159,10 @@ impl<
     /// Removes the pair with a key. Returns whether there was one.
     ///
     /// Returns `Err` if an allocation is refused; nothing changed then. Clones the key before it takes the lock.
+    ///
+    /// ```
+    /// Command::Remove(key) => Reply::Removed(shared.remove(rt, pass, key)?),
+    /// ```
     pub fn remove<R: Wait>(
         &self,
         rt: &R,
@@ -155,6 +182,10 @@ impl<
     /// Removes every pair whose key is within both bounds.
     ///
     /// Returns `Err` if an allocation is refused; nothing changed then. Clones the bounds before it takes the lock.
+    ///
+    /// ```
+    /// shared.remove_range(rt, pass, (low.as_ref(), high.as_ref()))?;
+    /// ```
     pub fn remove_range<R: Wait>(
         &self,
         rt: &R,
@@ -175,6 +206,10 @@ impl<
     /// Removes all pairs.
     ///
     /// Returns `Err` if an allocation is refused; nothing changed then.
+    ///
+    /// ```
+    /// shared.clear(rt, pass)?;
+    /// ```
     pub fn clear<R: Wait>(&self, rt: &R, pass: &mut Pass<C, S, M, F, D>) -> Result<(), AllocError>
         requires { pass.old.calls < u64.MAX }
         ensures { pass.new ≡ raised {V = V} pass.old (reply_of_removal result) }
@@ -188,6 +223,10 @@ impl<
     /// Returns a clone of the value of a key.
     ///
     /// Returns `Err` if an allocation is refused; nothing changed then. Clones the key before it takes the lock.
+    ///
+    /// ```
+    /// Command::Peek(key) => Reply::Found(shared.peek(rt, pass, key)?),
+    /// ```
     pub fn peek<R: Wait>(
         &self,
         rt: &R,
@@ -223,6 +262,13 @@ impl<
     /// Ends the sharing, with every pass. Allocates nothing.
     ///
     /// Returns `PassMissing` if a pass is absent, with the shared index and the passes.
+    ///
+    /// ```
+    /// match owners.close(passes) {
+    ///     Ok(closed) => Ok(Claims { closed, told }),
+    ///     Err(_) => unreachable!(),
+    /// }
+    /// ```
     pub fn close(
         self,
         passes: Vec<Pass<C, S, M, F, D>>,
@@ -256,6 +302,10 @@ impl<
     }
 
     /// Ends the sharing without the passes. Returns the index and the history. Allocates nothing.
+    ///
+    /// ```
+    /// let (index, history) = shared.into_parts();
+    /// ```
     pub fn into_parts(self) -> (TreeIndexOf<K, V, LEN>, Vec<Record<K, V>>)
         ensures { IsHistoryOf K.cmp K.seen V.seen result.1.items result.0.pairs }
     {

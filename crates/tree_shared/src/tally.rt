@@ -24,6 +24,12 @@ pub struct Tally {
 impl Tally {
     /// Counts the outcome of a command. Returns how many commands were refused, which is 1 or 0. The caller must know
     /// that no number passes `u64::MAX`.
+    ///
+    /// ```
+    /// for (worker, command) in schedule {
+    ///     refused += tallies[worker].count(state.apply(command));
+    /// }
+    /// ```
     pub fn count<K: Drop, V: Drop>(&mut self, outcome: Result<Reply<V>, Command<K, V>>) -> usize
         requires { Fits (raised self.old (reply_of_apply outcome)) }
         ensures counted { self.new ≡ raised self.old (reply_of_apply outcome) }

@@ -30,6 +30,13 @@ impl<K: IndexKey + SameClone, V: SameClone> PreparedPair<K, V> {
     /// Clones a key and a value.
     ///
     /// Returns `Err` with the pair if a clone is refused.
+    ///
+    /// ```
+    /// let pair = match PreparedPair::new(key, value) {
+    ///     Ok(pair) => pair,
+    ///     Err((key, value)) => return Err(Command::Upsert(key, value)),
+    /// };
+    /// ```
     pub fn new(key: K, value: V) -> Result<Self, (K, V)>
         ensures pair { IfOk result (λ pair. pair ≡ (key, value)) }
         ensures handed_back { IfErr result (λ back. back ≡ (key, value)) }

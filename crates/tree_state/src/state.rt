@@ -45,6 +45,13 @@ impl<K: IndexKey + SameClone, V: SameClone, const LEN: usize> Model for StateOf<
 
 impl<K: IndexKey + SameClone, V: SameClone, const LEN: usize> StateOf<K, V, LEN> {
     /// Creates an empty index without a history. Allocates nothing. The caller must choose 7 or 15 for `LEN`.
+    ///
+    /// ```
+    /// let mut state: State<u64, u64> = State::new(alloc);
+    /// let mut tallies = [NONE, NONE];
+    /// let commands = schedule(alloc)?;
+    /// let refused = run_schedule(&mut state, commands, &mut tallies);
+    /// ```
     pub fn new(alloc: Global) -> Self
         requires { IsLen LEN }
         ensures pairs { result.pairs ≡ [] }
@@ -57,6 +64,10 @@ impl<K: IndexKey + SameClone, V: SameClone, const LEN: usize> StateOf<K, V, LEN>
     }
 
     /// Returns the index, for reading.
+    ///
+    /// ```
+    /// assert!(rt; state.index().is_empty());
+    /// ```
     pub fn index(&self) -> &TreeIndexOf<K, V, LEN>
         ensures { result.now.pairs ≡ self.now.pairs }
     {
@@ -65,6 +76,13 @@ impl<K: IndexKey + SameClone, V: SameClone, const LEN: usize> StateOf<K, V, LEN>
 
     /// Returns the answered commands in order, each with its reply. Its keys and values are clones of those that were
     /// passed.
+    ///
+    /// ```
+    /// assert!(rt; state.history().len() == CALLS.len());
+    /// for (record, (command, reply)) in state.history().iter().zip(&CALLS) {
+    ///     assert!(rt; record.command == *command && record.reply == *reply);
+    /// }
+    /// ```
     pub fn history(&self) -> &[Record<K, V>]
         ensures calls { result.now ≡ self.now.history }
         ensures replays { IsHistoryOf K.cmp K.seen V.seen self.now.history self.now.pairs }
@@ -73,6 +91,10 @@ impl<K: IndexKey + SameClone, V: SameClone, const LEN: usize> StateOf<K, V, LEN>
     }
 
     /// Returns the index and the history. Allocates nothing.
+    ///
+    /// ```
+    /// let (index, history) = state.into_parts();
+    /// ```
     pub fn into_parts(self) -> (TreeIndexOf<K, V, LEN>, Vec<Record<K, V>>)
         ensures pairs { result.0.pairs ≡ self.pairs }
         ensures calls { result.1.items ≡ self.history }
@@ -86,6 +108,13 @@ impl<K: IndexKey + SameClone, V: SameClone, const LEN: usize> StateOf<K, V, LEN>
     ///
     /// Returns `Err` with the command if an allocation is refused; index and history are then as they were. The room
     /// for the record and the clones are allocated before the index changes. A reply is never `Refused`.
+    ///
+    /// ```
+    /// match state.apply(*command) {
+    ///     Ok(told) => assert!(rt; told == *reply),
+    ///     Err(_) => return Err(AllocError),
+    /// }
+    /// ```
     pub fn apply(&mut self, command: Command<K, V>) -> Result<Reply<V>, Command<K, V>>
         ensures ok { IfOk result (Appends K.cmp K.seen V.seen self.old self.new command) }
         ensures handed_back { IfErr result (λ back. back ≡ command) }
@@ -108,6 +137,13 @@ impl<K: IndexKey + SameClone, V: SameClone, const LEN: usize> StateOf<K, V, LEN>
     /// Does what [`apply`](StateOf::apply) does with an insert, and hands the pair back for a duplicate too.
     ///
     /// After `OutOfMemory` index and history are as they were.
+    ///
+    /// ```
+    /// let Err(back) = state.insert(1, 1) else {
+    ///     return false;
+    /// };
+    /// assert!(rt; back == InsertError::OutOfMemory(1, 1) && stands(state, calls, &[]));
+    /// ```
     pub fn insert(&mut self, key: K, value: V) -> Result<(), InsertError<K, V>>
         ensures { RecordsInsert K.cmp K.seen V.seen self.old self.new key value result }
     {
@@ -118,6 +154,13 @@ impl<K: IndexKey + SameClone, V: SameClone, const LEN: usize> StateOf<K, V, LEN>
     }
 
     /// Does what [`insert`](StateOf::insert) does, with a pair whose clones for the history are made.
+    ///
+    /// ```
+    /// match PreparedPair::new(key, value) {
+    ///     Ok(pair) => self.insert_prepared(pair),
+    ///     Err((key, value)) => Err(InsertError::OutOfMemory(key, value)),
+    /// }
+    /// ```
     pub fn insert_prepared(&mut self, pair: PreparedPair<K, V>) -> Result<(), InsertError<K, V>>
         ensures { RecordsInsert K.cmp K.seen V.seen self.old self.new pair.0 pair.1 result }
     {
@@ -164,6 +207,13 @@ impl<K: IndexKey + SameClone, V: SameClone, const LEN: usize> StateOf<K, V, LEN>
     /// Does what [`apply`](StateOf::apply) does with an upsert, with a pair whose clones for the history are made.
     ///
     /// Returns `Err` with the pair if an allocation is refused; index and history are then as they were.
+    ///
+    /// ```
+    /// match self.upsert_prepared(pair) {
+    ///     Ok(()) => Ok(Reply::Stored),
+    ///     Err((key, value)) => Err(Command::Upsert(key, value)),
+    /// }
+    /// ```
     pub fn upsert_prepared(&mut self, pair: PreparedPair<K, V>) -> Result<(), (K, V)>
         ensures ok { IfOk result (λ _. Appends K.cmp K.seen V.seen self.old self.new (Command.Upsert pair.0 pair.1) Reply.Stored) }
         ensures handed_back { IfErr result (λ back. back ≡ pair) }

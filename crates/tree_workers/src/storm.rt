@@ -62,6 +62,10 @@ impl<T: Drop> From<SpawnError<T>> for StormError {
 ///
 /// Returns `Refused` if memory or a thread is refused otherwise, and else `GateStopped` if the gate stopped a worker.
 /// The caller must ask for 1 to 64 workers.
+///
+/// ```
+/// let closed = run_workers(&rt, rt.alloc(), 8, 1000, &OpenGate)?;
+/// ```
 pub fn run_workers<R: Threads + Wait + Sync, G: Gate + Sync>(
     rt: &R,
     alloc: Global,

@@ -75,3 +75,26 @@ module _ (c s : Cursor ℕ ℕ) (new : IsFresh c) where
     ends_two t last back =
         let some : reverse (rest nat_cmp On s) ≡ lent_entry last ∷ rest nat_cmp Back t = sym (rest_turned s) ∙ (takes_first nat_cmp_total Back s t (Some last) back back_begun).1 in
         rw (parts, reverse_onto (rest nat_cmp On s) (lent_entry first) [], some) (refl, refl)
+
+-- the second of all prices
+module _ (prices : List (ℕ × ℕ)) (s : Cursor ℕ ℕ) where
+  is_new : IsFresh (fresh prices Unbounded Unbounded)
+  is_new = record { forward = refl; backward = refl }
+
+  all_left : rest nat_cmp On (fresh prices Unbounded Unbounded) ≡ prices
+  all_left = rest_fresh nat_cmp (fresh prices Unbounded Unbounded) is_new On ∙ all_open prices
+
+  pub second_of_none : Moves nat_cmp On (fresh prices Unbounded Unbounded) None s → prices ≡ []
+  second_of_none moves = sym all_left ∙ (takes_first nat_cmp_total On _ s None moves (fresh_begun nat_cmp (fresh prices Unbounded Unbounded) is_new On)).1.0
+
+  module _ (first : Bor ℕ × Bor ℕ) (moves : Moves nat_cmp On (fresh prices Unbounded Unbounded) (Some first) s) (t : Cursor ℕ ℕ) where
+    others : HasBegun nat_cmp On s × (prices ≡ lent_entry first ∷ rest nat_cmp On s)
+    others =
+        let takes = takes_first nat_cmp_total On _ s (Some first) moves (fresh_begun nat_cmp (fresh prices Unbounded Unbounded) is_new On) in
+        (takes.0, sym all_left ∙ takes.1)
+
+    pub second_of_one : Moves nat_cmp On s None t → prices ≡ lent_entry first ∷ []
+    second_of_one again = rw (← (takes_first nat_cmp_total On s t None again others.0).1.0) others.1
+
+    pub second_of_two : (second : Bor ℕ × Bor ℕ) → Moves nat_cmp On s (Some second) t → prices ≡ lent_entry first ∷ lent_entry second ∷ rest nat_cmp On t
+    second_of_two second again = rw (← (takes_first nat_cmp_total On s t (Some second) again others.0).1) others.1

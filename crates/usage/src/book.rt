@@ -1,5 +1,5 @@
 //! The offers of an order book: the quantity at each price.
-ghost use Rattle.std.specs.Prelude.{◌≡◌};
+ghost use Rattle.std.specs.Prelude.{◌≡◌, slice_get};
 ghost use Rattle.std.specs.Option.{option_map};
 ghost use Rattle.std.specs.Ordering.{nat_cmp};
 ghost use Rattle.tree_chain.specs.Walks.{first_of, last_of};
@@ -23,6 +23,16 @@ pub fn best_ask(asks: &TreeIndex<u64, u64>) -> Option<u64>
     ensures { result ≡ option_map (λ ask. ask.0) (first_of asks.now.pairs) }
 {
     let (price, _) = asks.first()?;
+    Some(*price)
+}
+
+/// Returns the second lowest price that is asked, or `None` if there are fewer than two asks.
+pub fn second_ask(asks: &TreeIndex<u64, u64>) -> Option<u64>
+    ensures { result ≡ option_map (λ ask. ask.0) (slice_get asks.now.pairs 1) }
+{
+    let mut left = asks.iter();
+    left.next()?;
+    let (price, _) = left.next()?;
     Some(*price)
 }
 

@@ -1,5 +1,5 @@
 //! Samples by time, of which the old ones go.
-ghost use Rattle.std.specs.Prelude.{◌≡◌, ◌<◌, ◌≤◌, ℕ, IfOk};
+ghost use Rattle.std.specs.Prelude.{◌≡◌, ◌<◌, ◌≤◌, ℕ, IsTrue, false, IfOk};
 ghost use Rattle.std.specs.Ordering.{nat_cmp};
 ghost use Rattle.tree_model.specs.Pairs.{IsAbsent, pair_at, put};
 
@@ -35,4 +35,12 @@ pub fn store_spare(samples: &mut TreeIndex<u64, u64>, time: u64, value: u64)
     let Ok(()) = samples.upsert_sync(time, value) else {
         unreachable!()
     };
+}
+
+/// Stores a sample if that is sure to allocate nothing. Returns whether it did.
+pub fn store_if_spare(samples: &mut TreeIndex<u64, u64>, time: u64, value: u64) -> bool
+    ensures stored { IsTrue result → samples.new.pairs ≡ put nat_cmp samples.old.pairs time value }
+    ensures left { result ≡ false → samples.new.pairs ≡ samples.old.pairs }
+{
+    samples.spare() > 0 && samples.upsert_sync(time, value).is_ok()
 }

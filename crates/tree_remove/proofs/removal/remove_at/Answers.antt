@@ -2,10 +2,11 @@ use Rattle.std.proofs.Common.{Ok, ap}
 use Rattle.tree_node.proofs.Sizes.{fits}
 use Rattle.tree_remove.proofs.removal.remove_at.Goals as goal
 
-pub remove_from-requires : goal.remove_from-requires
-remove_from-requires g c =
+pub remove_alone-requires : goal.remove_alone-requires
+remove_alone-requires g c =
     let same = c.in-Err.ensures.handed_back in
-    (search fits, (search fits, (c.requires.node, (rw same.1 c.requires.part, rw (same.1, same.0) c.requires.callable))))
+    let alone = c.in-Err.ensures.alone in
+    (search fits, (search fits, (c.requires.node, (rw same.1 (alone.0, alone.1), rw (same.1, same.0) c.requires.callable))))
 
 pub returns-in-Ok-true-clause-removes : goal.returns-in-Ok-true-clause-removes
 returns-in-Ok-true-clause-removes g c = rw c.in-Ok-true.field-0-test at c.in-Ok-true.ensures.removes
@@ -19,4 +20,4 @@ returns-in-Ok-false-clause-removes g c = rw c.in-Ok-false.field-0-test at c.in-O
 pub returns-in-Err-clause-removes : goal.returns-in-Err-clause-removes
 returns-in-Err-clause-removes g c =
     let same = c.in-Err.ensures.handed_back in
-    rw (same.0, same.1) at c.remove_from.ensures.removes
+    rw (same.0, same.1) at c.remove_alone.ensures.removes

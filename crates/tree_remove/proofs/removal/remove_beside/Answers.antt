@@ -30,7 +30,6 @@ unreachable-requires g c =
 pub returns-then-len-le1-clause-alone : goal.returns-then-len-le1-clause-alone
 returns-then-len-le1-clause-alone g c = (
   c.in-Some.place.node,
-  c.in-Some.place.leaf,
   (c.in-Some.ensures.child.0, c.in-Some.ensures.way, c.in-Some.ensures.child.1),
   rw (walk-leaf c.args.arenas.now c.in-Some.place.leaf c.leaf.result.now c.leaf.ensures, ← c.array.ensures, ← c.len.ensures) c.if-len-le1.true,
 )

@@ -1,18 +1,17 @@
 use Rattle.std.proofs.Common.{inl, inr, refl}
 use Rattle.tree_node.proofs.Sizes.{fits}
-use Rattle.tree_root.proofs.Storing.{part_or_retired}
 use Rattle.tree_root.proofs.Taken.{kept, last_taken, root_level, still_part, taken}
 use Rattle.tree_root.proofs.tree.Tree.remove_alone.Goals as goal
 
-pub remove_from-requires : goal.remove_from-requires
-remove_from-requires g c =
+pub remove_alone-requires : goal.remove_alone-requires
+remove_alone-requires g c =
     let tree = rw c.requires.root at c.requires.whole in
-    (search fits, (search fits, (tree.top.0, (part_or_retired g.K.Ord.cmp c.args.self.now.arenas c.args.root c.args.depth tree, rw c.requires.root at c.requires.callable))))
+    (search fits, (search fits, (tree.top.0, (c.requires.way, rw c.requires.root at c.requires.callable))))
 
 pub lower_root_at-self-requires : goal.lower_root_at-self-requires
 lower_root_at-self-requires g c =
     let tree = rw c.requires.root at c.requires.whole in
-    let part = still_part g.K.Ord.cmp _ c.args.self.now c.args.self.now c.args.key.now c.args.root c.args.depth c.requires.root c.requires.whole c.remove_from.new.arenas c.in-Success.ensures.removes in
+    let part = still_part g.K.Ord.cmp _ c.args.self.now c.args.self.now c.args.key.now c.args.root c.args.depth c.requires.root c.requires.whole c.remove_alone.new.arenas c.in-Success.ensures.removes in
     (search fits, (search fits, (tree.top.0, (inl part, root_level c.args.depth part))))
 
 pub lower_root_at-self-requires-in-Retired : goal.lower_root_at-self-requires-in-Retired
@@ -26,8 +25,8 @@ returns-in-Fail g c =
 
 pub returns-in-Success : goal.returns-in-Success
 returns-in-Success g c =
-    taken g.K.Ord.cmp _ c.args.self.now _ c.args.key.now c.args.root c.args.depth c.requires.root c.requires.whole c.remove_from.new.arenas c.in-Success.ensures.removes c.lower_root_at-self.ensures
+    taken g.K.Ord.cmp _ c.args.self.now _ c.args.key.now c.args.root c.args.depth c.requires.root c.requires.whole c.remove_alone.new.arenas c.in-Success.ensures.removes c.lower_root_at-self.ensures
 
 pub returns-in-Retired : goal.returns-in-Retired
 returns-in-Retired g c =
-    last_taken g.K.Ord.cmp _ c.args.self.now _ c.args.key.now c.args.root c.args.depth c.requires.root c.requires.whole c.remove_from.new.arenas c.in-Retired.ensures.removes c.lower_root_at-self-in-Retired.ensures
+    last_taken g.K.Ord.cmp _ c.args.self.now _ c.args.key.now c.args.root c.args.depth c.requires.root c.requires.whole c.remove_alone.new.arenas c.in-Retired.ensures.removes c.lower_root_at-self-in-Retired.ensures

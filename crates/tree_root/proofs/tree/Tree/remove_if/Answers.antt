@@ -15,7 +15,8 @@ remove_beside-requires g c =
 pub remove_alone-requires : goal.remove_alone-requires
 remove_alone-requires g c =
     let same = c.in-Err.ensures.handed_back in
-    (search fits, (rw same.1 c.requires.whole, (c.in-Some.is, rw (same.1, same.0) c.requires.callable)))
+    let alone = c.in-Err.ensures.alone in
+    (search fits, (rw same.1 c.requires.whole, (c.in-Some.is, (rw same.1 (alone.0, alone.1), rw (same.1, same.0) c.requires.callable))))
 
 pub returns-in-Ok : goal.returns-in-Ok
 returns-in-Ok g c =

@@ -1,0 +1,59 @@
+//! Tests of the calls that are made of others: a value that is stored where its key is absent, pairs that are stored one
+//! after another, copies, look-ups of texts, and removals that return the pair.
+#![tactic(auto)]
+
+#[cfg(test)]
+mod collects;
+#[cfg(test)]
+mod present;
+#[cfg(test)]
+mod takes;
+#[cfg(test)]
+mod texts;
+
+#[cfg(test)]
+use std::alloc::AllocError;
+#[cfg(test)]
+use tree_index::TreeIndexOf;
+
+/// Makes the index one of the keys 0, 2, 4 and so on, so many, each with its key as its value, that were stored in ascending
+/// order. Removes the last of them if `is_emptied`, so that its leaf has no pair where it stood alone.
+#[cfg(test)]
+fn refill<const LEN: usize>(
+    index: &mut TreeIndexOf<u64, u64, LEN>,
+    count: u64,
+    is_emptied: bool,
+) -> Result<(), AllocError> {
+    index.clear();
+    for number in 0..count {
+        let key = number.wrapping_mul(2);
+        if index.upsert_sync(key, key).is_err() {
+            return Err(AllocError);
+        }
+    }
+    if is_emptied {
+        index.remove_sync(&count.wrapping_sub(1).wrapping_mul(2));
+    }
+    Ok(())
+}
+
+/// How many pairs an index is filled with, and whether the last one is removed: none, one, a full leaf, a last leaf that a
+/// removal emptied, and three levels.
+#[cfg(test)]
+static FILLS: [(u64, bool); 5] = [
+    (0, false),
+    (1, false),
+    (15, false),
+    (16, true),
+    (3616, false),
+];
+
+/// The same for leaves of seven pairs.
+#[cfg(test)]
+static SMALL_FILLS: [(u64, bool); 5] = [
+    (0, false),
+    (1, false),
+    (7, false),
+    (8, true),
+    (400, false),
+];

@@ -1,0 +1,123 @@
+//! Pairs taken out from either end, by key, by value and by a test.
+use std::alloc::{AllocError, Global};
+use std::process::Abort;
+use test_support::refusals::succeeds;
+use tree_index::{SmallTreeIndex, TreeIndex, TreeIndexOf};
+
+/// How many pairs an index has, at fifteen pairs a leaf: none, one, a full leaf, two leaves, and two and three levels.
+static COUNTS: [u64; 6] = [0, 1, 15, 16, 241, 3_616];
+
+/// The same at seven pairs a leaf.
+static SMALL_COUNTS: [u64; 6] = [0, 1, 7, 8, 57, 400];
+
+/// Empties an index and stores the pairs of 1 to `count`.
+fn fill<const LEN: usize>(
+    index: &mut TreeIndexOf<u64, u64, LEN>,
+    count: u64,
+) -> Result<(), AllocError> {
+    index.clear();
+    for key in 1..=count {
+        if index.insert_sync(key, key).is_err() {
+            return Err(AllocError);
+        }
+    }
+    Ok(())
+}
+
+/// Takes the first pair and the last one in turn, until none is left.
+fn expect_both_ends<const LEN: usize>(
+    rt: &impl Abort,
+    index: &mut TreeIndexOf<u64, u64, LEN>,
+    count: u64,
+) {
+    let mut low = 1;
+    let mut high = count;
+    while low < high {
+        assert!(rt; index.pop_first() == Some((low, low)));
+        assert!(rt; index.pop_last() == Some((high, high)));
+        low += 1;
+        high -= 1;
+    }
+    if low == high {
+        assert!(rt; index.pop_last() == Some((low, low)));
+    }
+    assert!(rt; index.pop_first().is_none() && index.pop_last().is_none() && index.is_empty());
+}
+
+/// Takes each pair by its key, the last one first, so that leaves at the end are emptied one after another.
+fn expect_by_key<const LEN: usize>(
+    rt: &impl Abort,
+    index: &mut TreeIndexOf<u64, u64, LEN>,
+    count: u64,
+) {
+    for key in (1..=count).rev() {
+        assert!(rt; index.take_sync(&key) == Some((key, key)));
+        assert!(rt; index.take_sync(&key).is_none());
+    }
+    assert!(rt; index.is_empty() && index.depth() <= 1);
+}
+
+/// Keeps the even keys, and then none.
+fn expect_retained<const LEN: usize>(
+    rt: &impl Abort,
+    index: &mut TreeIndexOf<u64, u64, LEN>,
+    count: u64,
+) {
+    index.retain_sync(|key, _| key % 2 == 0);
+    assert!(rt; index.len() as u64 == count / 2);
+    assert!(rt; index.keys().all(|key| key % 2 == 0));
+    index.retain_sync(|_, value| *value > count);
+    assert!(rt; index.is_empty());
+}
+
+fn expect_takes<const LEN: usize>(
+    rt: &impl Abort,
+    index: &mut TreeIndexOf<u64, u64, LEN>,
+    count: u64,
+) -> Result<(), AllocError> {
+    fill(index, count)?;
+    expect_both_ends(rt, index, count);
+    fill(index, count)?;
+    expect_by_key(rt, index, count);
+    fill(index, count)?;
+    expect_retained(rt, index, count);
+    Ok(())
+}
+
+fn takes_steps(rt: &impl Abort, alloc: Global, count: u64) -> Result<(), AllocError> {
+    let mut index = TreeIndex::new(alloc);
+    expect_takes(rt, &mut index, count)
+}
+
+#[test]
+fn takes_pairs_out(rt: HostRuntime) {
+    for count in COUNTS {
+        assert!(rt; succeeds(rt.alloc(), || takes_steps(&rt, rt.alloc(), count)));
+    }
+}
+
+fn small_takes_steps(rt: &impl Abort, alloc: Global, count: u64) -> Result<(), AllocError> {
+    let mut index: SmallTreeIndex<u64, u64> = TreeIndexOf::new(alloc);
+    expect_takes(rt, &mut index, count)
+}
+
+#[test]
+fn takes_pairs_out_of_small_leaves(rt: HostRuntime) {
+    for count in SMALL_COUNTS {
+        assert!(rt; succeeds(rt.alloc(), || small_takes_steps(&rt, rt.alloc(), count)));
+    }
+}
+
+fn gives_by_value_steps(rt: &impl Abort, alloc: Global) -> Result<(), AllocError> {
+    let mut index = TreeIndex::new(alloc);
+    fill(&mut index, 241)?;
+    let mut pairs = index.into_iter();
+    assert!(rt; pairs.next() == Some((1, 1)) && pairs.next_back() == Some((241, 241)));
+    assert!(rt; pairs.next_back() == Some((240, 240)) && pairs.next() == Some((2, 2)));
+    Ok(())
+}
+
+#[test]
+fn gives_pairs_by_value(rt: HostRuntime) {
+    assert!(rt; succeeds(rt.alloc(), || gives_by_value_steps(&rt, rt.alloc())));
+}

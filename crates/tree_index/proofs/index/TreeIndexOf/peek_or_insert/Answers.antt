@@ -1,0 +1,10 @@
+use Rattle.std.proofs.Common.{◌≡◌, Some, refl, ap, ◌∙◌}
+use Rattle.std.specs.Option.{option_map}
+use Rattle.tree_index.proofs.index.TreeIndexOf.peek_or_insert.Goals as goal
+
+pub returns : goal.returns
+returns g c =
+    let made = c.in_ok-key.ensures in
+    let got : Some c.in-Some.value.now ≡ Some made.0.1 = c.in-Some.ensures.found ∙ ap (option_map (λ p. p.1)) made.1 in
+    let same : c.in-Some.value.now ≡ made.0.1 = cc in
+    ((refl, λ _. tt, rw same made.2), tt)

@@ -1,0 +1,36 @@
+-- A pair by its place, and what a removal leaves that took the last pair of a leaf.
+use Rattle.std.specs.Prelude.{◌≡◌, ℕ, Option, None, Some}
+use Rattle.std.specs.declared.cmp.Ordering.{Ordering}
+use Rattle.slab.specs.Slab.{get}
+use Rattle.tree_array.specs.Arrivals.{arrival}
+use Rattle.tree_array.specs.declared.answers.RemoveResult.TheVariants.{Retired}
+use Rattle.tree_descent.specs.Ways.{LeadsTo}
+use Rattle.tree_leaf.specs.declared.leaf.LeafOf.{LeafOf}
+use Rattle.tree_model.specs.Pairs.{pair_at}
+use Rattle.tree_node.specs.Arenas.{TreeArenas}
+use Rattle.tree_node.specs.Tree.{walk}
+use Rattle.tree_remove.specs.Removes.{RemovesUnder, surely}
+
+-- the pair in a slot of a leaf
+abbrev pub stored_at : {K V : Type 0} {LEN : ℕ} → Option (LeafOf K V LEN) → ℕ → Option (K × V)
+stored_at None slot = None
+stored_at (Some leaf) slot = arrival leaf.array.arrivals slot
+
+module _ {K V : Type 0} {LEN : ℕ} (cmp : K → K → Ordering) (level : ℕ) where
+  -- the pair under a number is stored in this slot of this leaf, to which its key leads
+  pub record IsEntry (arenas : TreeArenas K V LEN) (id leaf slot : ℕ) (pair : K × V) : Type 0 where
+    pub stored : stored_at (get arenas.leaves leaf) slot ≡ Some pair
+    pub found : pair_at cmp (walk level arenas id) pair.0 ≡ Some pair
+    pub node : ℕ
+    pub way : LeadsTo cmp pair.0 level arenas id node leaf
+
+  -- the leaf of the key lost its last pair, the key's, and nothing else has changed yet
+  pub record Emptied (before now : TreeArenas K V LEN) (id : ℕ) (key : K) : Type 0 where
+    pub node : ℕ
+    pub leaf : ℕ
+    pub way : LeadsTo cmp key level before id node leaf
+    pub removes : RemovesUnder cmp surely 0 before now leaf Retired key
+
+  -- it did so from some arenas
+  pub data IsEmptied (now : TreeArenas K V LEN) (id : ℕ) (key : K) : Type 0 where
+    emptied_from : (before : TreeArenas K V LEN) → Emptied before now id key → IsEmptied now id key

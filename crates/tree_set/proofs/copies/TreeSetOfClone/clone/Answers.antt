@@ -1,0 +1,9 @@
+use Rattle.tree_node.proofs.Sizes.{fits}
+use Rattle.tree_set.proofs.Keys.{key_clones}
+use Rattle.tree_set.proofs.copies.TreeSetOfClone.clone.Goals as goal
+
+pub clone-requires : goal.clone-requires
+clone-requires g c = search fits
+
+pub returns : goal.returns
+returns g c = rw (← c.self.view_is) (record { cases = key_clones g.K.Clone.is_clone _ c.self.inside.index.pairs _ c.in_ok-index.ensures.cases })
