@@ -4,4 +4,5 @@
 
 mod lookups;
 mod ranges;
+mod sorted;
 mod writes;

@@ -43,7 +43,7 @@ fn index_of(alloc: Global, pairs: &[Pair]) -> Result<Option<TreeIndex<u64, u64>>
 
 /// Stores a pair behind all others. Returns `false` if its key isn't larger than each of theirs.
 fn append(index: &mut TreeIndex<u64, u64>, pair: Pair) -> Result<bool, AllocError>
-    ensures { IfOk result (λ is_done. Appends index.old.pairs (pair_of pair) is_done index.new.pairs) }
+    ensures { IfOk result (λ is_done. Appends nat_cmp index.old.pairs (pair_of pair) is_done index.new.pairs) }
 {
     if index.at_or_above(&pair.key).is_some() {
         return Ok(false);
