@@ -32,14 +32,23 @@ fn expect_both_ends<const LEN: usize>(
 ) {
     for low in 1..=count / 2 {
         let high = count.wrapping_add(1).wrapping_sub(low);
-        assert!(rt; index.pop_first() == Some((low, low)));
-        assert!(rt; index.pop_last() == Some((high, high)));
+        assert!(rt; pops(index) == [Some((low, low)), Some((high, high))]);
     }
     if count % 2 == 1 {
         let middle = count / 2 + 1;
-        assert!(rt; index.pop_last() == Some((middle, middle)));
+        assert!(rt; pops(index) == [Some((middle, middle)), None]);
     }
-    assert!(rt; index.pop_first().is_none() && index.pop_last().is_none() && index.is_empty());
+    assert!(rt; pops(index) == [None, None] && index.is_empty());
+}
+
+/// Takes the first pair, and then the last one.
+fn pops<const LEN: usize>(index: &mut TreeIndexOf<u64, u64, LEN>) -> [Option<(u64, u64)>; 2] {
+    [index.pop_first(), index.pop_last()]
+}
+
+/// Takes the pair of a key.
+fn takes<const LEN: usize>(index: &mut TreeIndexOf<u64, u64, LEN>, key: u64) -> Option<(u64, u64)> {
+    index.take_sync(&key)
 }
 
 /// Takes each pair by its key, the last one first, so that leaves at the end are emptied one after another.
@@ -49,8 +58,7 @@ fn expect_by_key<const LEN: usize>(
     count: u64,
 ) {
     for key in (1..=count).rev() {
-        assert!(rt; index.take_sync(&key) == Some((key, key)));
-        assert!(rt; index.take_sync(&key).is_none());
+        assert!(rt; [takes(index, key), takes(index, key)] == [Some((key, key)), None]);
     }
     assert!(rt; index.is_empty() && index.depth() <= 1);
 }
@@ -61,12 +69,20 @@ fn expect_retained<const LEN: usize>(
     index: &mut TreeIndexOf<u64, u64, LEN>,
     count: u64,
 ) {
-    index.retain_sync(|key, _| key % 2 == 0);
+    keep_even(index);
     assert!(rt; index.len() as u64 == count / 2);
     assert!(rt; count < 2 || index.first() == Some((&2, &2)));
-    assert!(rt; index.take_sync(&1).is_none() && index.take_sync(&3).is_none());
-    index.retain_sync(|_, value| *value > count);
+    assert!(rt; [takes(index, 1), takes(index, 3)] == [None, None]);
+    keep_larger(index, count);
     assert!(rt; index.is_empty());
+}
+
+fn keep_even<const LEN: usize>(index: &mut TreeIndexOf<u64, u64, LEN>) {
+    index.retain_sync(|key, _| key % 2 == 0);
+}
+
+fn keep_larger<const LEN: usize>(index: &mut TreeIndexOf<u64, u64, LEN>, most: u64) {
+    index.retain_sync(|_, value| *value > most);
 }
 
 fn expect_takes<const LEN: usize>(

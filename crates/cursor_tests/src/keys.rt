@@ -1,6 +1,7 @@
 //! Walks over the keys of an index alone, and over its values alone.
 ghost use Rattle.std.specs.Iterator.{IsFinite};
 
+use crate::said::put;
 use std::alloc::{AllocError, Global};
 use std::process::Abort;
 use test_support::refusals::succeeds;
@@ -57,9 +58,7 @@ fn store<const LEN: usize>(
     last: u64,
 ) -> Result<(), AllocError> {
     for key in 1..=last {
-        if index.insert_sync(key, key.saturating_mul(10)).is_err() {
-            return Err(AllocError);
-        }
+        put(index, key, key.saturating_mul(10))?;
     }
     Ok(())
 }

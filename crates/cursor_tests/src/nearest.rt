@@ -1,4 +1,5 @@
 //! The pairs at both ends of an index, and the nearest ones beside its keys.
+use crate::said::ascend;
 use std::alloc::{AllocError, Global};
 use std::process::Abort;
 use test_support::refusals::succeeds;
@@ -21,18 +22,9 @@ fn nearest<const LEN: usize>(
     )
 }
 
-/// Stores so many even keys, from 2 on.
-fn fill<const LEN: usize>(
-    index: &mut TreeIndexOf<u64, u64, LEN>,
-    len: u32,
-) -> Result<(), AllocError> {
-    for number in 1..=len {
-        let key = 2 * u64::from(number);
-        if index.insert_sync(key, key).is_err() {
-            return Err(AllocError);
-        }
-    }
-    Ok(())
+/// The first and the last key.
+fn ends<const LEN: usize>(index: &TreeIndexOf<u64, u64, LEN>) -> (Option<u64>, Option<u64>) {
+    (key_of(index.first()), key_of(index.last()))
 }
 
 /// The first and the last of so many even keys, and what is beside keys beyond them.
@@ -43,18 +35,22 @@ fn expect_ends<const LEN: usize>(rt: &impl Abort, index: &TreeIndexOf<u64, u64, 
     } else {
         (None, None)
     };
-    assert!(rt; key_of(index.first()) == least && key_of(index.last()) == greatest);
-    assert!(rt; nearest(index, 1) == (None, least));
-    assert!(rt; nearest(index, top + 1) == (greatest, None));
+    let found = [ends(index), nearest(index, 1), nearest(index, top + 1)];
+    assert!(rt; found == [(least, greatest), (None, least), (greatest, None)]);
 }
 
 /// What is beside each of so many even keys but the last, and beside the odd key above it.
 fn expect_beside<const LEN: usize>(rt: &impl Abort, index: &TreeIndexOf<u64, u64, LEN>, len: u32) {
     for number in 1..len {
         let key = 2 * u64::from(number);
-        assert!(rt; nearest(index, key) == (Some(key), Some(key)));
-        assert!(rt; nearest(index, key + 1) == (Some(key), Some(key + 2)));
+        let found = [nearest(index, key), nearest(index, key + 1)];
+        assert!(rt; found == [(Some(key), Some(key)), (Some(key), Some(key + 2))]);
     }
+}
+
+/// Whether a pair was removed.
+fn removes<const LEN: usize>(index: &mut TreeIndexOf<u64, u64, LEN>, key: u64) -> bool {
+    index.remove_sync(&key)
 }
 
 /// Removes every pair, the last one first, so that leaves at the end are emptied one after another.
@@ -64,7 +60,7 @@ fn expect_emptied<const LEN: usize>(
     len: u32,
 ) {
     for number in (1..=len).rev() {
-        assert!(rt; index.remove_sync(&(2 * u64::from(number))));
+        assert!(rt; removes(index, 2 * u64::from(number)));
         expect_ends(rt, index, number - 1);
     }
 }
@@ -74,7 +70,7 @@ fn expect_nearest<const LEN: usize>(
     index: &mut TreeIndexOf<u64, u64, LEN>,
     len: u32,
 ) -> Result<(), AllocError> {
-    fill(index, len)?;
+    ascend(index, 1, u64::from(len), 2)?;
     expect_ends(rt, index, len);
     expect_beside(rt, index, len);
     expect_emptied(rt, index, len);

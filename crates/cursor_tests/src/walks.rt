@@ -1,5 +1,5 @@
 //! Worked walks of cursors.
-use crate::said::{Entry, Said, make, numbers, said_by};
+use crate::said::{Entry, Said, ascend, make, numbers, put, said_by};
 use std::alloc::{AllocError, Global};
 use std::ops::Bound;
 use std::process::Abort;
@@ -216,23 +216,7 @@ pub(crate) fn fill<const LEN: usize>(
     pairs: &[(u64, u64)],
 ) -> Result<(), AllocError> {
     for (key, value) in pairs {
-        if index.insert_sync(*key, *value).is_err() {
-            return Err(AllocError);
-        }
-    }
-    Ok(())
-}
-
-/// Stores the keys from the first to the last, each its own value.
-fn ascend<const LEN: usize>(
-    index: &mut TreeIndexOf<u64, u64, LEN>,
-    first: u64,
-    last: u64,
-) -> Result<(), AllocError> {
-    for key in first..=last {
-        if index.insert_sync(key, key).is_err() {
-            return Err(AllocError);
-        }
+        put(index, *key, *value)?;
     }
     Ok(())
 }
@@ -305,15 +289,21 @@ fn expect_range_at_once<const LEN: usize>(
     expect_at_once(rt, alloc, &mut opened, row.opened_moves, row.opened_answers)
 }
 
-/// Makes the moves of a row over all pairs by a cursor, one by one and at once.
-fn expect_iter<const LEN: usize>(
+/// Makes the moves of a row over all pairs by a cursor.
+fn expect_iter<const LEN: usize>(rt: &impl Abort, iter: IterOf<'_, u64, u64, LEN>, row: &Row) {
+    let mut iter = iter;
+    expect(rt, &mut iter, row.moves, row.answers);
+}
+
+/// Makes the same moves at once.
+fn expect_iter_at_once<const LEN: usize>(
     rt: &impl Abort,
     alloc: Global,
-    index: &TreeIndexOf<u64, u64, LEN>,
+    iter: IterOf<'_, u64, u64, LEN>,
     row: &Row,
 ) -> Result<(), AllocError> {
-    expect(rt, &mut index.iter(), row.moves, row.answers);
-    expect_at_once(rt, alloc, &mut index.iter(), row.moves, row.answers)
+    let mut iter = iter;
+    expect_at_once(rt, alloc, &mut iter, row.moves, row.answers)
 }
 
 fn expect_row<const LEN: usize>(
@@ -327,7 +317,8 @@ fn expect_row<const LEN: usize>(
     expect_stepped(rt, index.range(bounds), row);
     expect_range_at_once(rt, alloc, index.range(bounds), row)?;
     if row.bounds == (Bound::Unbounded, Bound::Unbounded) {
-        expect_iter(rt, alloc, index, row)?;
+        expect_iter(rt, index.iter(), row);
+        expect_iter_at_once(rt, alloc, index.iter(), row)?;
     }
     Ok(())
 }
@@ -380,7 +371,7 @@ fn expect_counts<const LEN: usize>(
     rt: &impl Abort,
     index: &mut TreeIndexOf<u64, u64, LEN>,
 ) -> Result<(), AllocError> {
-    ascend(index, 1, 9)?;
+    ascend(index, 1, 9, 1)?;
     for (low, high, wanted) in &COUNTS {
         assert!(rt; count(index.range((low.as_ref(), high.as_ref()))) == *wanted);
     }
@@ -411,16 +402,19 @@ fn expect_two_keys<const LEN: usize>(
 ) -> Result<(), AllocError> {
     let mut other = range.clone()?;
     let mut range = range;
-    assert!(rt; numbers(range.next()) == Some((15, 15)));
-    assert!(rt; numbers(range.next()) == Some((16, 16)));
-    assert!(rt; numbers(range.next()).is_none());
+    let forward = [
+        numbers(range.next()),
+        numbers(range.next()),
+        numbers(range.next()),
+    ];
+    assert!(rt; forward == [Some((15, 15)), Some((16, 16)), None]);
     assert!(rt; numbers(other.next_back()) == Some((16, 16)));
     Ok(())
 }
 
 fn meets_at_a_leaf_steps(rt: &impl Abort, alloc: Global) -> Result<(), AllocError> {
     let mut index: TreeIndex<u64, u64> = TreeIndex::new(alloc);
-    ascend(&mut index, 1, 40)?;
+    ascend(&mut index, 1, 40, 1)?;
     let range = index.range((Bound::Excluded(&14), Bound::Excluded(&17)));
     expect_two_keys(rt, range)
 }
@@ -442,13 +436,11 @@ fn expect_last_leaf<const LEN: usize>(
     index: &mut TreeIndexOf<u64, u64, LEN>,
     key: u64,
 ) -> Result<(), AllocError> {
-    ascend(index, 0, key)?;
+    ascend(index, 0, key, 1)?;
     assert!(rt; index.remove_sync(&key));
     let (before, behind) = (key.saturating_sub(1), key.saturating_add(1));
     assert!(rt; index.spare() == 0 && last(index) == Some((before, before)));
-    if index.insert_sync(behind, 0).is_err() {
-        return Err(AllocError);
-    }
+    put(index, behind, 0)?;
     assert!(rt; last(index) == Some((behind, 0)));
     Ok(())
 }
@@ -479,10 +471,9 @@ fn expect_between<const LEN: usize>(
         panic!(rt; "2 is between")
     };
     let mut ends = ends;
-    assert!(rt; numbers(ends.get()) == Some((1, 1)));
-    assert!(rt; numbers(ends.get_back()) == Some((3, 2)));
-    assert!(rt; numbers(ends.next()).is_none());
-    assert!(rt; numbers(ends.next_back()).is_none());
+    let stood = [numbers(ends.get()), numbers(ends.get_back())];
+    let moved = [numbers(ends.next()), numbers(ends.next_back())];
+    assert!(rt; stood == [Some((1, 1)), Some((3, 2))] && moved == [None, None]);
     Ok(())
 }
 

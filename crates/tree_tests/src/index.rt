@@ -16,14 +16,25 @@ fn index_of(alloc: Global, pairs: &[(u64, u64)]) -> Result<TreeIndex<u64, u64>, 
     Ok(index)
 }
 
+/// Stores the pair of 1 and 10.
+fn put<const LEN: usize>(index: &mut TreeIndexOf<u64, u64, LEN>) -> Result<(), AllocError> {
+    match index.insert_sync(1, 10) {
+        Ok(()) => Ok(()),
+        Err(_) => Err(AllocError),
+    }
+}
+
+/// Whether a removal says that the key 1 was present.
+fn removes<const LEN: usize>(index: &mut TreeIndexOf<u64, u64, LEN>) -> bool {
+    index.remove_sync(&1)
+}
+
 /// An insert of a key that is present keeps the first pair.
 fn keeps_the_first<const LEN: usize>(
     rt: &impl Abort,
     index: &mut TreeIndexOf<u64, u64, LEN>,
 ) -> Result<(), AllocError> {
-    if index.insert_sync(1, 10).is_err() {
-        return Err(AllocError);
-    }
+    put(index)?;
     assert!(rt; index.insert_sync(1, 11) == Err(InsertError::Duplicate(1, 11)));
     assert!(rt; index.peek(&1).copied() == Some(10));
     Ok(())
@@ -34,11 +45,9 @@ fn says_whether_it_removed<const LEN: usize>(
     rt: &impl Abort,
     index: &mut TreeIndexOf<u64, u64, LEN>,
 ) -> Result<(), AllocError> {
-    assert!(rt; !index.remove_sync(&1));
-    if index.insert_sync(1, 10).is_err() {
-        return Err(AllocError);
-    }
-    assert!(rt; index.remove_sync(&1));
+    assert!(rt; !removes(index));
+    put(index)?;
+    assert!(rt; removes(index));
     Ok(())
 }
 
@@ -51,9 +60,7 @@ fn asks_its_condition_once<const LEN: usize>(
     rt: &impl Abort,
     index: &mut TreeIndexOf<u64, u64, LEN>,
 ) -> Result<(), AllocError> {
-    if index.insert_sync(1, 10).is_err() {
-        return Err(AllocError);
-    }
+    put(index)?;
     for (wanted, removes, times) in &CONDITIONS {
         let mut asked = 0u64;
         let removed = index.remove_if_sync(&1, |value| {
