@@ -1,9 +1,11 @@
 // Times an index beside std::map, and beside absl::btree_map where its header is. Each time is the least of several
-// rounds, in nanoseconds of the thread's processor time for each pair or call.
+// rounds, in nanoseconds of the thread's processor time for each pair or call. Writes a line for each map, work and number of
+// pairs: the map, the work, the pairs, the index's time and the map's. The last row of each has bytes a pair.
 #include "tree_index.hpp"
 #include <cstdio>
 #include <ctime>
 #include <functional>
+#include <malloc.h>
 #include <map>
 #include <memory>
 #include <numeric>
@@ -57,6 +59,12 @@ template <class Map> struct Std {
   void cut(uint64_t low, uint64_t high) { map.erase(map.lower_bound(low), map.lower_bound(high)); }
 };
 
+// The bytes that malloc has given out, large blocks too.
+static size_t held() {
+  auto heap = mallinfo2();
+  return heap.uordblks + heap.hblkhd;
+}
+
 static double least(int rounds, const std::function<double()> &run) {
   double best = 1e18;
   for (int round = 0; round < rounds; round++) best = std::min(best, run());
@@ -78,21 +86,18 @@ template <class M> static std::vector<double> times(const Keys &keys, const Keys
   size_t walks = std::min<size_t>(n, 20000);
   told.push_back(least(rounds, [&] { return timed([&] { for (size_t at = 0; at < walks; at++) sink = m->walk_from(order[at], 100); }, walks * 100); }));
   int few = std::min(rounds, 10);
+  size_t before = held();
+  auto kept = filled();
+  double bytes = double(held() - before) / n;
   told.push_back(least(few, [&] { auto c = filled(); return timed([&] { c->cut(UINT64_MAX / 4, UINT64_MAX / 4 * 3); }, n / 2); }));
   told.push_back(least(few, [&] { auto c = filled(); return timed([&] { for (uint64_t key : order) c->erase(key); }, n); }));
+  told.push_back(bytes);
   return told;
 }
 
 int main(int count, char **words) {
-  const char *names[] = {"insert ascending", "insert random", "upsert random", "find random", "nearest above", "walk of all, 64 ahead", "walks of 100", "cut of the middle half", "erase random"};
+  const char *names[] = {"insert ascending", "insert random", "upsert", "look up", "nearest above", "walk of all", "walks of 100", "cut of the middle half", "remove", "bytes a pair"};
   size_t most = count > 1 ? strtoull(words[1], nullptr, 10) : 1000000;
-  printf("| Work | Pairs | index, ns | std::map, ns | index / std::map |%s\n|---|---|---|---|---|%s\n",
-#ifdef HAS_ABSL
-         " absl::btree_map, ns | index / absl |", "---|---|"
-#else
-         "", ""
-#endif
-  );
   for (size_t n : {1000, 100000, 1000000}) {
     if (n > most) break;
     std::mt19937_64 chance(n);
@@ -105,16 +110,16 @@ int main(int count, char **words) {
 #ifdef HAS_ABSL
     auto absl = times<Std<absl::btree_map<uint64_t, uint64_t>>>(keys, order, rounds);
 #endif
-    for (size_t at = 0; at < ours.size(); at++) {
-      printf("| %s | %zu | %.1f | %.1f | %.2f |", names[at], n, ours[at], theirs[at], ours[at] / theirs[at]);
+    auto rows = [&](const char *map, const std::vector<double> &its) {
+      for (size_t at = 0; at < ours.size(); at++) printf("%s,%s,%zu,%.1f,%.1f\n", map, names[at], n, ours[at], its[at]);
+    };
+    rows("std::map", theirs);
 #ifdef HAS_ABSL
-      printf(" %.1f | %.2f |", absl[at], ours[at] / absl[at]);
+    rows("absl::btree_map", absl);
 #endif
-      printf("\n");
-    }
   }
   tree_index::index empty;
   double call = least(5, [&] { double at = now(); for (int n = 0; n < 20000000; n++) sink = empty.size(); return (now() - at) / 20000000; });
-  printf("a call that asks the length alone: %.2f ns\n", call);
+  printf("none,a call that asks the length alone,0,%.1f,0\n", call);
   return 0;
 }

@@ -1,4 +1,7 @@
-"""Times a TreeIndex beside sortedcontainers.SortedDict: the least of several rounds, in nanoseconds a call or pair."""
+"""Times a TreeIndex beside sortedcontainers.SortedDict: the least of several rounds, in nanoseconds a call or pair.
+
+Writes a line for each work and number of pairs: the map, the work, the pairs, the index's time and the map's.
+"""
 import gc
 import random
 import time
@@ -74,10 +77,9 @@ def cut(made, low, high):
 
 
 def row(name, n, ours, theirs):
-    print(f"| {name} | {n} | {ours:.0f} | {theirs:.0f} | {ours / theirs:.2f} |", flush=True)
+    print(f"SortedDict,{name},{n},{ours:.1f},{theirs:.1f}", flush=True)
 
 
-print("| Work | Pairs | TreeIndex, ns | SortedDict, ns | TreeIndex / SortedDict |\n|---|---|---|---|---|")
 chance = random.Random(20261127)
 for n, rounds in ((1_000, 30), (100_000, 5), (1_000_000, 2)):
     keys = [chance.randrange(2**62) for _ in range(n)]
@@ -94,12 +96,12 @@ for n, rounds in ((1_000, 30), (100_000, 5), (1_000_000, 2)):
         before = resident()
         made[kind] = insert_all(kind(), keys)
         made[kind, "bytes"] = (resident() - before) / n
-    both("store under a present key", n, lambda kind: timed(n, insert_all, made[kind], order))
+    both("upsert", n, lambda kind: timed(n, insert_all, made[kind], order))
     both("look up", n, lambda kind: timed(n, look_up_all, made[kind], order))
     both("nearest above", n, lambda kind: timed(len(few), nearest_above, made[kind], few))
-    both("walk of all items", n, lambda kind: timed(n, walk_all, made[kind]))
+    both("walk of all", n, lambda kind: timed(n, walk_all, made[kind]))
     both("walks of 100", n, lambda kind: timed(len(few) * 100, walk_100, made[kind], few))
     both("cut of the middle half", n, lambda kind: timed(n // 2, cut, made[kind].copy(), 2**60, 3 * 2**60))
     both("remove", n, lambda kind: timed(n, remove_all, made[kind].copy(), order))
     if n >= 100_000:
-        print(f"| bytes a pair, as the system sees it | {n} | {made[TreeIndex, 'bytes']:.0f} | {made[SortedDict, 'bytes']:.0f} | {made[TreeIndex, 'bytes'] / max(made[SortedDict, 'bytes'], 1):.2f} |")
+        row("bytes a pair", n, made[TreeIndex, "bytes"], made[SortedDict, "bytes"])

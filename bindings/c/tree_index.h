@@ -109,6 +109,11 @@ uint8_t tree_index_bytes_fill_back(tree_index_handle *handle, uint8_t low_kind, 
 /* Removes every pair whose key is within both bounds. Copies the keys of the bounds meanwhile. */
 uint8_t tree_index_bytes_remove_range(tree_index_handle *handle, uint8_t low_kind, const uint8_t *low, size_t low_length, uint8_t high_kind, const uint8_t *high, size_t high_length);
 
+/* Opens a closed handle on an index of pairs whose keys strictly ascend. `keys` has the bytes of one key after another, and
+ * `entries` the length and the value of each. Answers `NO` if the keys don't ascend, or if two are equal, and `NO_ROOM` if
+ * they have more bytes than `keys`. The handle stays closed then. Copies the keys. */
+uint8_t tree_index_bytes_from_sorted(tree_index_handle *handle, const uint8_t *keys, size_t keys_length, const tree_index_entry *entries, size_t entries_length);
+
 /* Opens a closed handle on a new, empty index of byte strings. Allocates one block. */
 uint8_t tree_index_bytes_new(tree_index_handle *handle);
 

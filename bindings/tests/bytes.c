@@ -120,6 +120,36 @@ static void call(size_t longest, uint64_t letters) {
   }
 }
 
+/* An index of sorted pairs has them all; others are refused. */
+static void sorted(void) {
+  tree_index_entry *entries = calloc(m.count + 1, sizeof *entries);
+  uint8_t *keys = calloc(m.count + 1, 31);
+  tree_index_handle made = TREE_INDEX_CLOSED;
+  WANT(entries != NULL && keys != NULL);
+  size_t size = 0;
+  for (size_t at = 0; at < m.count; at++) {
+    entries[at] = (tree_index_entry){m.keys[at].length, m.values[at]};
+    memcpy(keys + size, m.keys[at].bytes, m.keys[at].length);
+    size += m.keys[at].length;
+  }
+  WANT(tree_index_bytes_from_sorted(&made, keys, size, entries, m.count) == TREE_INDEX_YES && tree_index_len(&made) == m.count);
+  WANT(tree_index_bytes_from_sorted(&made, keys, size, entries, m.count) == TREE_INDEX_MISFIT);
+  for (size_t at = 0; at < m.count; at++) {
+    uint8_t bytes[31];
+    tree_index_entry entry = {0, 0};
+    WANT(tree_index_bytes_pop_first(&made, bytes, 31, &entry) == TREE_INDEX_YES);
+    same_key(bytes, entry.length, entry.value, at);
+  }
+  tree_index_free(&made);
+  if (size > 0) {
+    WANT(tree_index_bytes_from_sorted(&made, keys, size - 1, entries, m.count) == TREE_INDEX_NO_ROOM && !made.is_open);
+    entries[m.count] = (tree_index_entry){0, 1};
+    WANT(tree_index_bytes_from_sorted(&made, keys, size, entries, m.count + 1) == TREE_INDEX_NO && !made.is_open);
+  }
+  free(entries);
+  free(keys);
+}
+
 int main(int count, char **words) {
   uint64_t calls = count > 1 ? strtoull(words[1], NULL, 10) : 100000;
   tree_index_handle copy = TREE_INDEX_CLOSED;
@@ -131,6 +161,7 @@ int main(int count, char **words) {
     WANT(tree_index_copy(&index_, &copy) == TREE_INDEX_YES && tree_index_len(&copy) == m.count);
     for (size_t at = 0; at < m.count; at++) WANT(tree_index_bytes_contains(&copy, m.keys[at].bytes, m.keys[at].length) == TREE_INDEX_YES);
     tree_index_free(&copy);
+    sorted();
     printf("C, keys of at most %zu bytes: %llu calls, all answers as a sorted array's, %zu pairs at the end\n", longest, (unsigned long long)calls, m.count);
     tree_index_free(&index_);
   }

@@ -28,7 +28,7 @@ void __wrap_free(void *block) {
 
 #define KEYS 600
 
-static tree_index_handle index_ = TREE_INDEX_CLOSED, copy = TREE_INDEX_CLOSED;
+static tree_index_handle index_ = TREE_INDEX_CLOSED, copy = TREE_INDEX_CLOSED, built = TREE_INDEX_CLOSED;
 static const uint8_t *bytes_of(uint64_t key, uint8_t *room) {
   memset(room, 'k', 24);
   for (int at = 0; at < 4; at++) room[20 + at] = (uint8_t)(key >> (24 - 8 * at));
@@ -76,6 +76,19 @@ static uint8_t copies(int is_bytes, uint64_t key) {
   return tree_index_copy(&index_, &copy);
 }
 
+static uint8_t builds(int is_bytes, uint64_t count) {
+  uint8_t keys[40 * 24];
+  tree_index_entry entries[40];
+  tree_index_pair pairs[40];
+  WANT(count <= 40);
+  for (uint64_t n = 0; n < count; n++) {
+    bytes_of(n, keys + n * 24);
+    entries[n] = (tree_index_entry){24, n};
+    pairs[n] = (tree_index_pair){n, n};
+  }
+  return is_bytes ? tree_index_bytes_from_sorted(&built, keys, count * 24, entries, count) : tree_index_from_sorted(&built, pairs, count);
+}
+
 static uint8_t fills(int is_bytes, uint64_t key) {
   uint8_t low[24], high[24], keys[240];
   tree_index_entry entries[10];
@@ -104,10 +117,13 @@ static int run(int is_bytes, long at) {
   again(is_bytes, fills, 100);
   again(is_bytes, copies, 0);
   WANT(tree_index_len(&copy) == KEYS);
+  again(is_bytes, builds, 40);
+  WANT(tree_index_len(&built) == 40);
   again(is_bytes, takes, 17);
   again(is_bytes, cuts, 100);
   WANT(tree_index_len(&index_) == KEYS - 41 && blocks > 0);
   tree_index_free(&copy);
+  tree_index_free(&built);
   tree_index_free(&index_);
   WANT(blocks == 0);
   return refusals > was;

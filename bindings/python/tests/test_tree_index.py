@@ -112,6 +112,15 @@ def test_keys_that_do_not_fit():
     assert index.at_or_below(2**70) == (2**63 - 1, "most") and index.at_or_above(2**70) is None
 
 
+def test_keys_are_plain():
+    class Name(bytes):
+        pass
+
+    numbers, names = TreeIndex({True: "yes"}), TreeIndex({Name(b"x"): 1})
+    assert [type(key) for key in numbers] == [int] and [type(key) for key in names] == [bytes]
+    assert numbers[1] == "yes" and names[b"x"] == 1
+
+
 def test_a_walk_meets_a_write():
     for change in (lambda i: i.__setitem__(5, 0), lambda i: i.pop(1), lambda i: i.clear(), lambda i: i.pop_range(1)):
         index = TreeIndex({1: 1, 2: 2})
@@ -156,7 +165,8 @@ def test_references_are_counted():
         assert Counted.alive == 1001 and sys.getrefcount(value) == base - 1
         del value
         assert Counted.alive == 1000
-        assert len(index.pop_range(key_of(100), key_of(199))) == 100 and Counted.alive == 900
+        gone = len(index.pop_range(key_of(100), key_of(199)))
+        assert gone == 100 and Counted.alive == 900
         for n in range(50):
             del index[key_of(n)]
             index.pop(key_of(n + 50))

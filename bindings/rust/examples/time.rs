@@ -1,5 +1,6 @@
 //! Times an index beside `BTreeMap`: the least of several rounds, in nanoseconds of the thread's processor time for each
-//! pair or call, and the bytes that each pair takes.
+//! pair or call. Writes a line for each work and number of pairs: the map, the work, the pairs, the index's time and the map's.
+//! The last row of each has bytes a pair.
 use std::alloc::{GlobalAlloc, Layout, System};
 use std::collections::BTreeMap;
 use std::hint::black_box;
@@ -64,11 +65,10 @@ fn timed<T>(calls: usize, work: impl FnOnce() -> T) -> f64 {
 }
 
 fn row(name: &str, n: usize, index: f64, map: f64) {
-    println!("| {name} | {n} | {index:.1} | {map:.1} | {:.2} |", index / map);
+    println!("BTreeMap,{name},{n},{index:.1},{map:.1}");
 }
 
 fn main() {
-    println!("| Work | Pairs | index, ns | BTreeMap, ns | index / BTreeMap |\n|---|---|---|---|---|");
     let mut state = 20261127u64;
     let mut draw = || {
         state = state.wrapping_add(0x9E37_79B9_7F4A_7C15);
@@ -99,16 +99,16 @@ fn main() {
         row("insert random", n,
             least(rounds, || { let mut index = TreeIndex::new().unwrap(); let time = timed(n, || keys.iter().for_each(|key| _ = index.insert(*key, !*key))); black_box(&index); time }),
             least(rounds, || { let mut map = BTreeMap::new(); let time = timed(n, || keys.iter().for_each(|key| _ = map.entry(*key).or_insert(!*key))); black_box(&map); time }));
-        row("upsert random", n,
+        row("upsert", n,
             least(rounds, || timed(n, || order.iter().for_each(|key| _ = index.upsert(*key, *key)))),
             least(rounds, || timed(n, || order.iter().for_each(|key| _ = map.insert(*key, *key)))));
-        row("peek random", n,
+        row("look up", n,
             least(rounds, || timed(n, || order.iter().fold(0u64, |sum, key| sum.wrapping_add(index.peek(*key).unwrap_or(0))))),
             least(rounds, || timed(n, || order.iter().fold(0u64, |sum, key| sum.wrapping_add(map.get(key).copied().unwrap_or(0))))));
         row("nearest above", n,
             least(rounds, || timed(n, || order.iter().fold(0u64, |sum, key| sum.wrapping_add(index.at_or_above(key + 1).map_or(0, |pair| pair.0))))),
             least(rounds, || timed(n, || order.iter().fold(0u64, |sum, key| sum.wrapping_add(map.range(key + 1..).next().map_or(0, |pair| *pair.0))))));
-        row("walk of all, 64 ahead", n,
+        row("walk of all", n,
             least(rounds, || timed(n, || index.iter().fold(0u64, |sum, (key, value)| sum.wrapping_add(key ^ value)))),
             least(rounds, || timed(n, || map.iter().fold(0u64, |sum, (key, value)| sum.wrapping_add(key ^ value)))));
         let walks = n.min(20_000);
@@ -119,10 +119,10 @@ fn main() {
         row("cut of the middle half", n,
             least(rounds.min(10), || { let mut index = index.try_clone().unwrap(); timed(n / 2, || index.remove_range(low..high)) }),
             least(rounds.min(10), || { let mut map = map.clone(); timed(n / 2, || map.retain(|key, _| !(Bound::Included(low), Bound::Excluded(high)).contains_key(key))) }));
-        row("remove random", n,
+        row("remove", n,
             least(rounds.min(10), || { let mut index = index.try_clone().unwrap(); timed(n, || order.iter().for_each(|key| _ = index.remove(*key))) }),
             least(rounds.min(10), || { let mut map = map.clone(); timed(n, || order.iter().for_each(|key| _ = map.remove(key))) }));
-        println!("| bytes a pair, filled at random | {n} | {index_bytes:.1} | {map_bytes:.1} | {:.2} |", index_bytes / map_bytes);
+        row("bytes a pair", n, index_bytes, map_bytes);
     }
 }
 

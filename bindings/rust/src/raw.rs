@@ -24,6 +24,7 @@ unsafe extern "C" {
     pub fn tree_index_bytes_fill(handle: *mut Handle, low_kind: u8, low: *const u8, low_length: usize, high_kind: u8, high: *const u8, high_length: usize, keys: *mut u8, keys_length: usize, entries: *mut Entry, entries_length: usize, count: *mut usize) -> u8;
     pub fn tree_index_bytes_fill_back(handle: *mut Handle, low_kind: u8, low: *const u8, low_length: usize, high_kind: u8, high: *const u8, high_length: usize, keys: *mut u8, keys_length: usize, entries: *mut Entry, entries_length: usize, count: *mut usize) -> u8;
     pub fn tree_index_bytes_remove_range(handle: *mut Handle, low_kind: u8, low: *const u8, low_length: usize, high_kind: u8, high: *const u8, high_length: usize) -> u8;
+    pub fn tree_index_bytes_from_sorted(handle: *mut Handle, keys: *const u8, keys_length: usize, entries: *const Entry, entries_length: usize) -> u8;
     pub fn tree_index_bytes_new(handle: *mut Handle) -> u8;
     pub fn tree_index_bytes_insert(handle: *mut Handle, key: *const u8, key_length: usize, value: u64) -> u8;
     pub fn tree_index_bytes_upsert(handle: *mut Handle, key: *const u8, key_length: usize, value: u64) -> u8;

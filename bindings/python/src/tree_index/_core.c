@@ -1,9 +1,10 @@
 /* The mapping over an index, by CPython's stable interface.
  *
  * The key of an index is an int between -2**63 and 2**63 - 1 or a bytes, as its first key is. A number is stored with its
- * sign bit turned, so that its order is that of the unsigned numbers. A value is stored as the address of its object, and
- * the index owns a reference to it. Each method holds the interpreter's lock throughout, and no method is in the middle of
- * a call of the library while it runs Python code.
+ * sign bit turned, so that its order is that of the unsigned numbers. The value stored under it is the address of an item,
+ * a tuple of the key's and the value's objects, and the index owns a reference to it. So walks hand out objects that are
+ * there, and allocate nothing. Each method holds the interpreter's lock throughout, and no method is in the middle of a call
+ * of the library while it runs Python code.
  */
 #define PY_SSIZE_T_CLEAN
 #include <Python.h>
@@ -40,11 +41,19 @@ static PyTypeObject *walk_type;
 
 static uint64_t turned(uint64_t number) { return number ^ (UINT64_C(1) << 63); }
 
-static PyObject *value_of(uint64_t stored) { return (PyObject *)(uintptr_t)stored; }
+/* The item that is stored, and its parts. No reference is taken. */
+static PyObject *item_of(uint64_t stored) { return (PyObject *)(uintptr_t)stored; }
 
-static uint64_t stored_of(PyObject *value) { return (uint64_t)(uintptr_t)value; }
+static PyObject *key_in(PyObject *item) { return PyTuple_GetItem(item, 0); }
 
-static PyObject *number_object(uint64_t key) { return PyLong_FromLongLong((long long)turned(key)); }
+static PyObject *value_in(PyObject *item) { return PyTuple_GetItem(item, 1); }
+
+static uint64_t stored_of(PyObject *item) { return (uint64_t)(uintptr_t)item; }
+
+static PyObject *new_reference(PyObject *object) {
+  Py_INCREF(object);
+  return object;
+}
 
 /* Reads a key. Returns -1 with an exception if it is neither a number in range nor a bytes. */
 static int read_key(PyObject *object, Key *key) {
@@ -107,14 +116,14 @@ static uint8_t peek(Index *self, const Key *key, uint64_t *stored) {
                               : tree_index_bytes_peek(&self->handle, key->bytes, (size_t)key->length, stored);
 }
 
-static uint8_t insert(Index *self, const Key *key, PyObject *value) {
-  return key->kind == NUMBERS ? tree_index_insert(&self->handle, key->number, stored_of(value))
-                              : tree_index_bytes_insert(&self->handle, key->bytes, (size_t)key->length, stored_of(value));
+static uint8_t insert(Index *self, const Key *key, PyObject *item) {
+  return key->kind == NUMBERS ? tree_index_insert(&self->handle, key->number, stored_of(item))
+                              : tree_index_bytes_insert(&self->handle, key->bytes, (size_t)key->length, stored_of(item));
 }
 
-static uint8_t upsert(Index *self, const Key *key, PyObject *value) {
-  return key->kind == NUMBERS ? tree_index_upsert(&self->handle, key->number, stored_of(value))
-                              : tree_index_bytes_upsert(&self->handle, key->bytes, (size_t)key->length, stored_of(value));
+static uint8_t upsert(Index *self, const Key *key, PyObject *item) {
+  return key->kind == NUMBERS ? tree_index_upsert(&self->handle, key->number, stored_of(item))
+                              : tree_index_bytes_upsert(&self->handle, key->bytes, (size_t)key->length, stored_of(item));
 }
 
 static uint8_t take(Index *self, const Key *key, uint64_t *stored) {
@@ -122,26 +131,58 @@ static uint8_t take(Index *self, const Key *key, uint64_t *stored) {
                               : tree_index_bytes_take(&self->handle, key->bytes, (size_t)key->length, stored);
 }
 
+/* A new item. Its key is an int or a bytes itself, whatever subclass of them it is given as. */
+static PyObject *new_item(const Key *key, PyObject *name, PyObject *value) {
+  PyObject *plain;
+  if (key->kind == NUMBERS) {
+    plain = PyLong_CheckExact(name) ? new_reference(name) : PyLong_FromLongLong((long long)turned(key->number));
+  } else {
+    plain = PyBytes_CheckExact(name) ? new_reference(name) : PyBytes_FromStringAndSize((const char *)key->bytes, key->length);
+  }
+  if (!plain) return NULL;
+  PyObject *item = PyTuple_Pack(2, plain, value);
+  Py_DECREF(plain);
+  return item;
+}
+
 /* Stores a value under a key. Returns -1 with an exception if memory was refused. */
-static int store(Index *self, const Key *key, PyObject *value) {
-  if (open_for(self, key->kind) < 0) return -1;
+static int store(Index *self, PyObject *name, PyObject *value) {
+  Key key;
   uint64_t was = 0;
-  self->writes++;
-  /* The old value must be known before it is replaced. */
-  uint8_t answer = peek(self, key, &was) == TREE_INDEX_YES ? upsert(self, key, value) : insert(self, key, value);
+  if (read_key(name, &key) < 0) return -1;
+  /* The item comes first, since Python code may run while it is allocated. */
+  PyObject *item = new_item(&key, name, value);
+  if (!item) return -1;
+  uint8_t answer = TREE_INDEX_MISFIT;
+  if (open_for(self, key.kind) == 0) {
+    self->writes++;
+    /* The old item must be known before it is replaced. */
+    answer = peek(self, &key, &was) == TREE_INDEX_YES ? upsert(self, &key, item) : insert(self, &key, item);
+    if (answer == TREE_INDEX_NO_MEMORY) PyErr_NoMemory();
+  }
   if (answer != TREE_INDEX_YES) {
-    PyErr_NoMemory();
+    Py_DECREF(item);
     return -1;
   }
-  Py_INCREF(value);
-  if (was) Py_DECREF(value_of(was));
+  if (was) Py_DECREF(item_of(was));
   return 0;
 }
 
 /* ---- walks: the keys, values or items within two bounds */
 
+/* A walk reads this many items at first, then twice as many each time, up to the most. */
+#define AT_FIRST 16
 #define AHEAD 64
 #define ROOM 2048
+
+/* How many items lie between the one that a walk gives and the one whose key and value it asks the memory for. */
+#define SOON 8
+
+#if defined(__GNUC__)
+#define ask_memory_for(at) __builtin_prefetch((const void *)(at))
+#else
+#define ask_memory_for(at) ((void)(at))
+#endif
 
 enum shows { KEYS, VALUES, ITEMS };
 
@@ -150,12 +191,14 @@ typedef struct {
   Index *index;
   Bound low, high;
   int descends;
-  size_t at, count;
-  tree_index_pair pairs[AHEAD];
-  /* Of byte strings: the lengths and values, the bytes, and the place of the next key's. */
-  tree_index_entry entries[AHEAD];
+  size_t at, count, most;
+  union {
+    tree_index_pair pairs[AHEAD];
+    tree_index_entry entries[AHEAD];
+  } read;
+  /* Places for the bytes of keys, of which nothing is read: an item has its key. */
   uint8_t *room;
-  size_t room_length, used;
+  size_t room_length;
 } Ahead;
 
 static const uint8_t *bytes_of(const Bound *bound, size_t *length) {
@@ -173,14 +216,18 @@ static const uint8_t *bytes_of(const Bound *bound, size_t *length) {
 /* Reads the next pairs. Returns -1 with an exception if memory was refused. */
 static int read_ahead(Ahead *ahead) {
   Index *index = ahead->index;
-  ahead->at = ahead->count = ahead->used = 0;
+  size_t most = ahead->most;
+  ahead->at = ahead->count = 0;
+  if (ahead->most < AHEAD) ahead->most *= 2;
   if (index->kind == NUMBERS) {
     ahead->count = (ahead->descends ? tree_index_fill_back : tree_index_fill)(
-        &index->handle, ahead->low.kind, ahead->low.number, ahead->high.kind, ahead->high.number, ahead->pairs, AHEAD);
+        &index->handle, ahead->low.kind, ahead->low.number, ahead->high.kind, ahead->high.number, ahead->read.pairs, most);
+    /* The parts of a tuple lie behind its head. */
+    for (size_t at = 0; at < ahead->count; at++) ask_memory_for((PyVarObject *)item_of(ahead->read.pairs[at].value) + 1);
     if (ahead->count) {
       Bound *next = ahead->descends ? &ahead->high : &ahead->low;
       next->kind = TREE_INDEX_EXCLUDED;
-      next->number = ahead->pairs[ahead->count - 1].key;
+      next->number = ahead->read.pairs[ahead->count - 1].key;
     }
     return 0;
   }
@@ -195,18 +242,14 @@ static int read_ahead(Ahead *ahead) {
     if (!ahead->room) break;
     uint8_t answer = (ahead->descends ? tree_index_bytes_fill_back : tree_index_bytes_fill)(
         &index->handle, ahead->low.kind, low, low_length, ahead->high.kind, high, high_length, ahead->room, ahead->room_length,
-        ahead->entries, AHEAD, &ahead->count);
+        ahead->read.entries, most, &ahead->count);
     if (answer == TREE_INDEX_YES) {
       if (!ahead->count) return 0;
-      size_t end = 0;
-      for (size_t at = 0; at < ahead->count; at++) end += ahead->entries[at].length;
-      size_t length = ahead->entries[ahead->count - 1].length;
-      PyObject *last = PyBytes_FromStringAndSize((const char *)ahead->room + end - length, (Py_ssize_t)length);
-      if (!last) return -1;
       Bound *next = ahead->descends ? &ahead->high : &ahead->low;
+      PyObject *before = next->bytes;
       next->kind = TREE_INDEX_EXCLUDED;
-      Py_XDECREF(next->bytes);
-      next->bytes = last;
+      next->bytes = new_reference(key_in(item_of(ahead->read.entries[ahead->count - 1].value)));
+      Py_XDECREF(before);
       return 0;
     }
     size_t needed = answer == TREE_INDEX_NO_ROOM ? ahead->count : 0;
@@ -220,21 +263,18 @@ static int read_ahead(Ahead *ahead) {
   return -1;
 }
 
-/* Gives the next key, if it is asked for, and the value that is stored under it. Returns 0 at the end. */
-static int next_of(Ahead *ahead, PyObject **key, PyObject **value) {
+static PyObject *stored_at(const Ahead *ahead, size_t at) {
+  return item_of(ahead->index->kind == NUMBERS ? ahead->read.pairs[at].value : ahead->read.entries[at].value);
+}
+
+/* Gives the next item, without a reference. Returns 0 at the end, and -1 with an exception if memory was refused. */
+static int next_of(Ahead *ahead, PyObject **item) {
   if (ahead->at == ahead->count) {
     if (read_ahead(ahead) < 0) return -1;
     if (!ahead->count) return 0;
   }
-  size_t at = ahead->at++;
-  if (ahead->index->kind == NUMBERS) {
-    *value = value_of(ahead->pairs[at].value);
-    return !key || (*key = number_object(ahead->pairs[at].key)) ? 1 : -1;
-  }
-  size_t length = ahead->entries[at].length, from = ahead->used;
-  ahead->used += length;
-  *value = value_of(ahead->entries[at].value);
-  return !key || (*key = PyBytes_FromStringAndSize((const char *)ahead->room + from, (Py_ssize_t)length)) ? 1 : -1;
+  *item = stored_at(ahead, ahead->at++);
+  return 1;
 }
 
 /* Begins a walk over the pairs within two bounds, which it takes over. */
@@ -243,7 +283,8 @@ static void begin(Ahead *ahead, Index *index, Bound low, Bound high, int descend
   ahead->low = low;
   ahead->high = high;
   ahead->descends = descends;
-  ahead->at = ahead->count = ahead->used = 0;
+  ahead->at = ahead->count = 0;
+  ahead->most = AT_FIRST;
   ahead->room = NULL;
 }
 
@@ -295,24 +336,17 @@ static PyObject *walk_next(PyObject *object) {
     PyErr_SetString(PyExc_RuntimeError, "TreeIndex changed during iteration");
     return NULL;
   }
-  PyObject *key = NULL, *value;
-  int more = next_of(&self->ahead, self->shows == VALUES ? NULL : &key, &value);
+  PyObject *item;
+  int more = next_of(&self->ahead, &item);
   if (more <= 0) {
     if (!more) Py_CLEAR(self->ahead.index);
     return NULL;
   }
-  if (self->shows == KEYS) return key;
-  Py_INCREF(value);
-  if (self->shows == VALUES) return value;
-  PyObject *item = PyTuple_New(2);
-  if (!item) {
-    Py_DECREF(key);
-    Py_DECREF(value);
-    return NULL;
-  }
-  PyTuple_SetItem(item, 0, key);
-  PyTuple_SetItem(item, 1, value);
-  return item;
+  if (self->shows == ITEMS) return new_reference(item);
+  PyObject *(*part)(PyObject *) = self->shows == KEYS ? key_in : value_in;
+  size_t soon = self->ahead.at + SOON;
+  if (soon < self->ahead.count) ask_memory_for(part(stored_at(&self->ahead, soon)));
+  return new_reference(part(item));
 }
 
 static PyType_Slot walk_slots[] = {
@@ -403,10 +437,10 @@ static int empty(Index *self) {
   self->kind = NONE;
   self->writes++;
   Ahead ahead;
-  PyObject *value;
+  PyObject *item;
   begin(&ahead, &old, unbounded, unbounded, 0);
   int more;
-  while ((more = next_of(&ahead, NULL, &value)) > 0) Py_DECREF(value);
+  while ((more = next_of(&ahead, &item)) > 0) Py_DECREF(item);
   end(&ahead);
   tree_index_free(&old.handle);
   return more;
@@ -423,7 +457,7 @@ static int index_traverse(PyObject *object, visitproc visit, void *arg) {
     uint8_t kind = TREE_INDEX_UNBOUNDED;
     size_t count;
     while ((count = tree_index_fill(&self->handle, kind, low, TREE_INDEX_UNBOUNDED, 0, pairs, AHEAD))) {
-      for (size_t at = 0; at < count; at++) Py_VISIT(value_of(pairs[at].value));
+      for (size_t at = 0; at < count; at++) Py_VISIT(item_of(pairs[at].value));
       low = pairs[count - 1].key;
       kind = TREE_INDEX_EXCLUDED;
     }
@@ -467,12 +501,10 @@ static PyObject *index_subscript(PyObject *object, PyObject *sought) {
     PyErr_SetObject(PyExc_KeyError, sought);
     return NULL;
   }
-  PyObject *value = value_of(stored);
-  Py_INCREF(value);
-  return value;
+  return new_reference(value_in(item_of(stored)));
 }
 
-/* Removes a key and gives its value, or NULL with no exception if the key is absent. */
+/* Removes a key and gives its item, or NULL with no exception if the key is absent. */
 static PyObject *taken(Index *self, PyObject *sought, int *failed) {
   Key key;
   uint64_t stored;
@@ -486,15 +518,13 @@ static PyObject *taken(Index *self, PyObject *sought, int *failed) {
   }
   if (answer != TREE_INDEX_YES) return NULL;
   self->writes++;
-  return value_of(stored);
+  return item_of(stored);
 }
 
 static int index_ass_subscript(PyObject *object, PyObject *name, PyObject *value) {
-  Index *self = (Index *)object;
-  Key key;
-  if (value) return read_key(name, &key) < 0 ? -1 : store(self, &key, value);
+  if (value) return store((Index *)object, name, value);
   int failed;
-  PyObject *was = taken(self, name, &failed);
+  PyObject *was = taken((Index *)object, name, &failed);
   if (!was) {
     if (!failed) PyErr_SetObject(PyExc_KeyError, name);
     return -1;
@@ -533,9 +563,7 @@ static PyObject *index_get(PyObject *object, PyObject *args) {
   uint64_t stored;
   int may = read_sought(self, sought, &key);
   if (may < 0) return NULL;
-  PyObject *value = may && peek(self, &key, &stored) == TREE_INDEX_YES ? value_of(stored) : otherwise;
-  Py_INCREF(value);
-  return value;
+  return new_reference(may && peek(self, &key, &stored) == TREE_INDEX_YES ? value_in(item_of(stored)) : otherwise);
 }
 
 static PyObject *index_setdefault(PyObject *object, PyObject *args) {
@@ -545,32 +573,34 @@ static PyObject *index_setdefault(PyObject *object, PyObject *args) {
   Key key;
   uint64_t stored;
   if (read_key(name, &key) < 0 || open_for(self, key.kind) < 0) return NULL;
-  switch (insert(self, &key, value)) {
-  case TREE_INDEX_YES:
+  if (peek(self, &key, &stored) == TREE_INDEX_YES) return new_reference(value_in(item_of(stored)));
+  PyObject *item = new_item(&key, name, value);
+  if (!item) return NULL;
+  /* Python code may have run meanwhile: it may have emptied the index, or stored the key. */
+  uint8_t answer = open_for(self, key.kind) < 0 ? TREE_INDEX_MISFIT : insert(self, &key, item);
+  if (answer == TREE_INDEX_YES) {
     self->writes++;
-    /* One reference is the index's. */
-    Py_INCREF(value);
-    break;
-  case TREE_INDEX_NO:
-    peek(self, &key, &stored);
-    value = value_of(stored);
-    break;
-  default:
-    return PyErr_NoMemory();
+    return new_reference(value);
   }
-  Py_INCREF(value);
-  return value;
+  Py_DECREF(item);
+  if (answer == TREE_INDEX_NO && peek(self, &key, &stored) == TREE_INDEX_YES) return new_reference(value_in(item_of(stored)));
+  return answer == TREE_INDEX_NO_MEMORY ? PyErr_NoMemory() : NULL;
 }
 
 static PyObject *index_pop(PyObject *object, PyObject *args) {
   PyObject *name, *otherwise = NULL;
   if (!PyArg_ParseTuple(args, "O|O:pop", &name, &otherwise)) return NULL;
   int failed;
-  PyObject *value = taken((Index *)object, name, &failed);
-  if (value || failed) return value;
-  if (!otherwise) PyErr_SetObject(PyExc_KeyError, name);
-  else Py_INCREF(otherwise);
-  return otherwise;
+  PyObject *item = taken((Index *)object, name, &failed);
+  if (item) {
+    PyObject *value = new_reference(value_in(item));
+    Py_DECREF(item);
+    return value;
+  }
+  if (failed) return NULL;
+  if (otherwise) return new_reference(otherwise);
+  PyErr_SetObject(PyExc_KeyError, name);
+  return NULL;
 }
 
 static PyObject *index_clear_all(PyObject *object, PyObject *none) {
@@ -579,37 +609,22 @@ static PyObject *index_clear_all(PyObject *object, PyObject *none) {
   Py_RETURN_NONE;
 }
 
-static PyObject *item_of(PyObject *key, PyObject *value) {
-  if (!key) return NULL;
-  PyObject *item = PyTuple_New(2);
-  if (!item) {
-    Py_DECREF(key);
-    return NULL;
-  }
-  Py_INCREF(value);
-  PyTuple_SetItem(item, 0, key);
-  PyTuple_SetItem(item, 1, value);
-  return item;
-}
-
 /* The item at a place, counted from the end if it is below 0. The two ends cost one descent, the others a walk. */
 static PyObject *item_at(Index *self, Py_ssize_t place) {
   int descends = place < 0;
   Ahead ahead;
-  PyObject *key = NULL, *value, *item = NULL;
+  PyObject *item = NULL;
   Py_ssize_t before = descends ? -(place + 1) : place;
-  begin(&ahead, self, unbounded, unbounded, descends);
   if (self->kind == NUMBERS && before == 0) {
     tree_index_pair pair;
-    if ((descends ? tree_index_last : tree_index_first)(&self->handle, &pair) == TREE_INDEX_YES) {
-      return item_of(number_object(pair.key), value_of(pair.value));
-    }
+    if ((descends ? tree_index_last : tree_index_first)(&self->handle, &pair) == TREE_INDEX_YES) return new_reference(item_of(pair.value));
   } else {
-    int more = 1;
-    for (; more > 0 && before > 0; before--) more = next_of(&ahead, NULL, &value);
-    if (more > 0 && (more = next_of(&ahead, &key, &value)) > 0) item = item_of(key, value);
+    begin(&ahead, self, unbounded, unbounded, descends);
+    int more = next_of(&ahead, &item);
+    for (; more > 0 && before > 0; before--) more = next_of(&ahead, &item);
+    if (more > 0) Py_INCREF(item);
     end(&ahead);
-    if (more) return item;
+    if (more) return more > 0 ? item : NULL;
   }
   PyErr_SetString(PyExc_IndexError, "there is no such item");
   return NULL;
@@ -632,12 +647,12 @@ static PyObject *index_popitem(PyObject *object, PyObject *args, PyObject *kwarg
     return NULL;
   }
   int failed;
-  PyObject *value = taken((Index *)object, PyTuple_GetItem(item, 0), &failed);
+  PyObject *was = taken((Index *)object, key_in(item), &failed);
   if (failed) {
     Py_DECREF(item);
     return NULL;
   }
-  Py_XDECREF(value);
+  Py_XDECREF(was);
   return item;
 }
 
@@ -673,15 +688,15 @@ static PyObject *nearest(Index *self, PyObject *sought, int is_above) {
     tree_index_pair pair;
     uint64_t key = (is_above ? low : high).number;
     if ((is_above ? tree_index_at_or_above : tree_index_at_or_below)(&self->handle, key, &pair) != TREE_INDEX_YES) Py_RETURN_NONE;
-    return item_of(number_object(pair.key), value_of(pair.value));
+    return new_reference(item_of(pair.value));
   }
   Ahead ahead;
-  PyObject *key = NULL, *value, *item = NULL;
+  PyObject *item = NULL;
   begin(&ahead, self, low, high, !is_above);
-  int more = next_of(&ahead, &key, &value);
-  if (more > 0) item = item_of(key, value);
+  int more = next_of(&ahead, &item);
+  if (more > 0) Py_INCREF(item);
   end(&ahead);
-  if (more) return item;
+  if (more) return more > 0 ? item : NULL;
   Py_RETURN_NONE;
 }
 
@@ -705,22 +720,19 @@ static PyObject *index_pop_range(PyObject *object, PyObject *args, PyObject *kwa
     return items;
   }
   Ahead ahead;
-  PyObject *key, *value;
+  PyObject *item;
   Py_XINCREF(low.bytes);
   Py_XINCREF(high.bytes);
   begin(&ahead, self, low, high, 0);
   uint64_t writes = self->writes;
   int more;
-  while ((more = next_of(&ahead, &key, &value)) > 0) {
-    PyObject *item = item_of(key, value);
-    int failed = !item || PyList_Append(items, item) < 0;
-    Py_XDECREF(item);
-    if (failed) {
+  while ((more = next_of(&ahead, &item)) > 0) {
+    if (PyList_Append(items, item) < 0) {
       more = -1;
       break;
     }
     if (writes != self->writes) {
-      /* A collector ran, and with it code that wrote. */
+      /* Python code ran, and it wrote. */
       PyErr_SetString(PyExc_RuntimeError, "TreeIndex changed during pop_range");
       more = -1;
       break;
@@ -742,13 +754,13 @@ static PyObject *index_pop_range(PyObject *object, PyObject *args, PyObject *kwa
     Py_DECREF(items);
     return NULL;
   }
-  /* The list has a reference to each value, so none is freed before all are out. */
+  /* The list has a reference to each item, so none is freed here. */
   Py_ssize_t count = PyList_Size(items);
-  for (Py_ssize_t at = 0; at < count; at++) Py_DECREF(PyTuple_GetItem(PyList_GetItem(items, at), 1));
+  for (Py_ssize_t at = 0; at < count; at++) Py_DECREF(PyList_GetItem(items, at));
   return items;
 }
 
-/* Fills an empty index with the pairs of another, and takes a reference to each value. */
+/* Fills an empty index with the pairs of another, and takes a reference to each item. */
 static PyObject *index_copy_from(PyObject *object, PyObject *given) {
   Index *self = (Index *)object;
   if (!PyObject_TypeCheck(given, Py_TYPE(object)) || self->kind != NONE) {
@@ -759,13 +771,13 @@ static PyObject *index_copy_from(PyObject *object, PyObject *given) {
   if (from->kind == NONE) Py_RETURN_NONE;
   if (tree_index_copy(&from->handle, &self->handle) != TREE_INDEX_YES) return PyErr_NoMemory();
   Ahead ahead;
-  PyObject *value;
+  PyObject *item;
   self->kind = from->kind;
   begin(&ahead, self, unbounded, unbounded, 0);
   size_t count = 0, held = tree_index_len(&self->handle);
   int more;
-  while ((more = next_of(&ahead, NULL, &value)) > 0) {
-    Py_INCREF(value);
+  while ((more = next_of(&ahead, &item)) > 0) {
+    Py_INCREF(item);
     count++;
   }
   end(&ahead);
@@ -774,8 +786,8 @@ static PyObject *index_copy_from(PyObject *object, PyObject *given) {
     begin(&ahead, from, unbounded, unbounded, 0);
     PyObject *type, *error, *trace;
     PyErr_Fetch(&type, &error, &trace);
-    while (count > 0 && next_of(&ahead, NULL, &value) > 0) {
-      Py_DECREF(value);
+    while (count > 0 && next_of(&ahead, &item) > 0) {
+      Py_DECREF(item);
       count--;
     }
     end(&ahead);
