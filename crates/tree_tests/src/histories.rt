@@ -2,7 +2,7 @@
 use std::alloc::{AllocError, Global};
 use std::process::Abort;
 use test_support::refusals::succeeds;
-use tree_index::{Command, Record, Reply};
+use tree_index::{Command, Reply};
 use tree_state::{State, StateOf};
 
 /// Calls of a new state, and the reply to each.
@@ -14,9 +14,9 @@ static CALLS: [(Command<u64, u64>, Reply<u64>); 4] = [
 ];
 
 /// The calls of a history, with their replies.
-fn expect_history(rt: &impl Abort, history: &[Record<u64, u64>]) {
-    assert!(rt; history.len() == CALLS.len());
-    for (record, (command, reply)) in history.iter().zip(&CALLS) {
+fn expect_history<const LEN: usize>(rt: &impl Abort, state: &StateOf<u64, u64, LEN>) {
+    assert!(rt; state.history().len() == CALLS.len());
+    for (record, (command, reply)) in state.history().iter().zip(&CALLS) {
         assert!(rt; record.command == *command && record.reply == *reply);
     }
 }
@@ -32,7 +32,7 @@ fn expect_calls<const LEN: usize>(
             Err(_) => return Err(AllocError),
         }
     }
-    expect_history(rt, state.history());
+    expect_history(rt, state);
     Ok(())
 }
 

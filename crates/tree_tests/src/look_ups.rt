@@ -60,12 +60,13 @@ fn look_up<'c, const LEN: usize>(
         (index.peek(&key).is_some(), counter.replace(0)),
         (index.peek_entry(&key).is_some(), counter.replace(0)),
         (is_read(index, &key), counter.replace(0)),
-        (is_read_once(index, &key), counter.replace(0)),
         (is_found(index, &key), counter.replace(0)),
     ];
     for (is_there, asked) in found {
         assert!(rt; is_there == there && asked <= most);
     }
+    expect_read(rt, index, key, there);
+    assert!(rt; counter.get() <= most);
 }
 
 /// Whether a reader gets a pair.
@@ -76,12 +77,14 @@ fn is_read<'c, const LEN: usize>(
     index.peek_with(key, |_, value| *value).is_some()
 }
 
-/// Whether a reader gets a pair by the other call.
-fn is_read_once<'c, const LEN: usize>(
+/// A reader gets a pair by the other call too.
+fn expect_read<'c, const LEN: usize>(
+    rt: &impl Abort,
     index: &TreeIndexOf<Asked<'c>, u64, LEN>,
-    key: &Asked<'c>,
-) -> bool {
-    index.read_sync(key, |_, value| *value).is_some()
+    key: Asked<'c>,
+    there: bool,
+) {
+    assert!(rt; index.read_sync(&key, |_, value| *value).is_some() == there);
 }
 
 /// How many pairs an index has when it is looked up in, and how many comparisons an array takes at most.
