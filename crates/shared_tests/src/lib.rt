@@ -1,4 +1,5 @@
-//! Tests of the shared index: its calls by one worker and by many threads, its refusals and its end; and of workers at a gate.
+//! Tests of the shared index: its calls by one worker and by many threads, its refusals and its end; of workers at a gate; and
+//! of a schedule of several workers' commands.
 #![tactic(auto)]
 
 pub mod closed;
@@ -16,5 +17,7 @@ mod refusals;
 mod replay;
 #[cfg(test)]
 mod scenario;
+#[cfg(test)]
+mod schedules;
 #[cfg(test)]
 mod threads;

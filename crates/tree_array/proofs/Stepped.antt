@@ -1,34 +1,60 @@
 -- Steps of a walk whose slots are named by a word.
-use Rattle.std.proofs.Common.{◌≡◌, ℕ, ◌-◌, ◌<◌, ◌≤◌, length, slice_get, Option, None, Some, refl, sym, ap, ◌∙◌, arith}
-use Rattle.std.specs.Prelude.{⊤}
+use Rattle.std.proofs.Common.{◌≡◌, ℕ, zero, suc, inl, inr, ◌+◌, ◌-◌, ◌==◌, ◌<◌, ◌≤◌, if◌then◌else◌, length, slice_get, Option, None, Some, refl, sym, ap, ◌∙◌, arith}
+use Rattle.std.specs.Prelude.{⊤, option_and_then}
+use Rattle.std.proofs.lemmas.Bool.{cases_eq}
+use Rattle.std.proofs.lemmas.Bool.Decides.{nat_tests}
 use Rattle.std.proofs.lemmas.Option.{slice_get_within}
 use Rattle.std.specs.Iterator.{MakesProgress}
-use Rattle.std.specs.Option.{ForSome}
 use Rattle.tree_order.specs.Order.{named, names}
 use Rattle.tree_order.proofs.Picked.{length-picked, slice_get-picked}
 use Rattle.tree_array.specs.Walk.{StepsBack, StepsOn, Walk, left_on, place_ahead, places_behind, standing}
 
-module _ (order count : ℕ) where
+-- the place before this one, if there is one
+abbrev pub before : ℕ → Option ℕ
+before ahead = if ahead == 0 then None else Some (ahead - 1)
+
+before_some : (ahead : ℕ) → 0 < ahead → before ahead ≡ Some (ahead - 1)
+before_some ahead some = grind (arith, nat_tests, some)
+
+ahead_of : (ahead : ℕ) → place_ahead (before ahead) ≡ ahead
+ahead_of zero = refl
+ahead_of (suc place) = ap place_ahead (before_some (suc place) (omega arith)) ∙ omega arith
+
+module _ (order count ahead : ℕ) where
   pub length-names : length (names order count) ≡ count
   length-names = length-picked (named order) count
 
-  pub slot_named : (place slot : ℕ) → place < count → slot ≡ named order place → slice_get (names order count) place ≡ Some slot
+  slot_named : (place slot : ℕ) → place < count → slot ≡ named order place → slice_get (names order count) place ≡ Some slot
   slot_named place slot lt is = slice_get-picked (named order) count place lt ∙ ap (λ (x : ℕ). Some x) (sym is)
 
-  pub behind_few : (at : Option ℕ) → ForSome at (λ place. place < count) → places_behind (length (names order count)) at ≤ count
-  behind_few None inside = omega (arith, length-names)
-  behind_few (Some place) inside = omega (arith, inside place refl)
+  -- the slot that the walk stands at
+  pub stands_at : (slot : ℕ) → 0 < ahead → ahead ≤ count → slot ≡ named order (ahead - 1) → Some slot ≡ option_and_then (slice_get (names order count)) (before ahead)
+  stands_at slot some few is = rw (before_some ahead some) (sym (slot_named (ahead - 1) slot (omega (arith, some, few)) is))
 
-  module _ (at : Option ℕ) (place slot : ℕ) where
-    pub stepped_on : place ≡ place_ahead at → place < count → slot ≡ named order place → StepsOn (standing (names order count) at) (Some slot) (standing (names order count) (Some place))
-    stepped_on ahead lt is = rw (← ahead) (slot_named place slot lt is, refl)
+  pub behind_some : 0 < ahead → places_behind (length (names order count)) (before ahead) ≡ ahead - 1
+  behind_some some = rw (before_some ahead some) refl
 
-    pub stepped_back : place ≡ places_behind (length (names order count)) at → 0 < place → place ≤ count → slot ≡ named order (place - 1)
-        → StepsBack (standing (names order count) at) (Some slot) (standing (names order count) (Some (place - 1)))
-    stepped_back behind some few is = rw (← behind) (some, slot_named (place - 1) slot (omega (arith, some, few)) is, refl)
+  pub behind_none : ahead ≡ 0 → places_behind (length (names order count)) (before ahead) ≡ count
+  behind_none none = rw none length-names
 
-    pub stays : place ≡ place_ahead at → count ≤ place → StepsOn (standing (names order count) at) None (standing (names order count) at)
-    stays ahead le = rw (← ahead) (omega (arith, le, length-names), refl)
+  pub behind_few : ahead ≤ count → places_behind (length (names order count)) (before ahead) ≤ count
+  behind_few few = elim (cases_eq ahead 0) [
+    | inl none ↦ omega (arith, behind_none none)
+    | inr some ↦ omega (arith, few, behind_some (omega (arith, some)))
+  ]
+
+  pub stepped_on : (slot : ℕ) → ahead < count → slot ≡ named order ahead → StepsOn (standing (names order count) (before ahead)) (Some slot) (standing (names order count) (before (ahead + 1)))
+  stepped_on slot lt is =
+      let next : before (ahead + 1) ≡ Some (ahead + 1 - 1) = before_some (ahead + 1) (omega arith) in
+      let same : ahead + 1 - 1 ≡ ahead = omega arith in
+      rw (ahead_of ahead, next, same) (slot_named ahead slot lt is, refl)
+
+  pub stays : count ≤ ahead → StepsOn (standing (names order count) (before ahead)) None (standing (names order count) (before ahead))
+  stays le = rw (ahead_of ahead) (omega (arith, le, length-names), refl)
+
+  pub stepped_back : (place slot : ℕ) → place ≡ places_behind (length (names order count)) (before ahead) → 0 < place → place ≤ count → slot ≡ named order (place - 1)
+      → StepsBack (standing (names order count) (before ahead)) (Some slot) (standing (names order count) (before place))
+  stepped_back place slot behind some few is = rw (← behind, before_some place some) (some, slot_named (place - 1) slot (omega (arith, some, few)) is, refl)
 
 -- a step leaves fewer
 pub goes_on : (old new : Walk) (result : Option ℕ) → StepsOn old result new → MakesProgress (λ _. ⊤) left_on old result new

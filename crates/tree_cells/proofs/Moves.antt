@@ -83,6 +83,13 @@ module _ {X : Type 0} where
         get_or-set_other to (place - from) i (Some x) None other ∙ t.none i (omega arith);
   }
 
+-- one more value goes, from the slot that the place names
+pub moved_more : {X : Type 0} {old xs to : List (Option X)} {order from place : ℕ} → HasLeft old xs order from place → HasInTurn old to order from place → from ≤ place
+    → ((i : ℕ) → from ≤ i → i < place → named order i ≢ named order place) → place - from < length to → (slot : ℕ) → slot ≡ named order place → (x : X) → get_or xs slot None ≡ Some x
+    → HasInTurn old (set to (place - from) (Some x)) order from (place + 1) × HasLeft old (set xs slot None) order from (place + 1)
+moved_more left turn on apart within slot is x here =
+    (turn_more turn on within x (sym (stands_still left on apart) ∙ rw is at here), rw is (left_more left on apart))
+
 -- what the same `Some` holds is the same
 pub inside : {X : Type 0} {x y : X} → Some x ≡ Some y → x ≡ y
 inside {x} e = ap (λ (o : Option _). elim o [ None ↦ x | Some z ↦ z ]) e

@@ -121,8 +121,7 @@ impl<K, V, const LEN: usize> Cells<K, V, LEN> {
                 let rows = mem::replace(&mut to.rows, Some(spare));
                 Cells { rows }.discard();
                 if let Some((to_keys, to_vals)) = &mut to.rows {
-                    gather(keys, order, from, end, to_keys);
-                    gather(vals, order, from, end, to_vals);
+                    gather(keys, vals, order, from, end, to_keys, to_vals);
                 } else {
                     unreachable!()
                 }

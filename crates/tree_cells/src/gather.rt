@@ -1,4 +1,4 @@
-//! Values that are moved from the slots that an order names into the first slots of another row.
+//! Keys and values that are moved from the slots that an order names into the first slots of other rows.
 ghost use Rattle.std.specs.Prelude.{◌≡◌, ℕ, ◌≢◌, ◌<◌, ◌≤◌, IsSome, None, slice_index_or};
 ghost use Rattle.tree_cells.specs.Moves.{HasInTurn, HasLeft};
 ghost use Rattle.tree_order.specs.Order.{named};
@@ -6,27 +6,39 @@ ghost use Rattle.tree_order.specs.Order.{named};
 use tree_order::order::slot_at;
 use tree_slots::row::Row;
 
-/// Moves the values of the places from `from` up to `end` into the first slots of another row, in turn. The caller must
-/// know that each of these places names a value, that no two name the same, and that the other row holds none.
+/// Moves the keys and the values of the places from `from` up to `end` into the first slots of other rows, in turn. The
+/// caller must know that each of these places names a key and a value, that no two name the same, and that the other rows
+/// hold none.
 #[inline(always)]
-pub(crate) fn gather<T, const LEN: usize>(
-    row: &mut Row<T, LEN>,
+pub(crate) fn gather<K, V, const LEN: usize>(
+    keys: &mut Row<K, LEN>,
+    vals: &mut Row<V, LEN>,
     order: u64,
     from: u8,
     end: u8,
-    to: &mut Row<T, LEN>,
+    to_keys: &mut Row<K, LEN>,
+    to_vals: &mut Row<V, LEN>,
 )
     requires ends { from ≤ end }
     requires few { end ≤ LEN }
     requires places { end ≤ 15 }
-    requires stands { (i : ℕ) → from ≤ i → i < end → IsSome (slice_index_or row.old.slots (named order i) None) }
+    requires keys { (i : ℕ) → from ≤ i → i < end → IsSome (slice_index_or keys.old.slots (named order i) None) }
+    requires vals { (i : ℕ) → from ≤ i → i < end → IsSome (slice_index_or vals.old.slots (named order i) None) }
     requires apart { (i j : ℕ) → from ≤ i → i < j → j < end → named order i ≢ named order j }
-    requires none { (p : ℕ) → slice_index_or to.old.slots p None ≡ None }
-    ensures turn { HasInTurn row.old.slots to.new.slots order from end }
-    ensures left { HasLeft row.old.slots row.new.slots order from end }
+    requires no_keys { (p : ℕ) → slice_index_or to_keys.old.slots p None ≡ None }
+    requires no_vals { (p : ℕ) → slice_index_or to_vals.old.slots p None ≡ None }
+    ensures keys_turn { HasInTurn keys.old.slots to_keys.new.slots order from end }
+    ensures keys_left { HasLeft keys.old.slots keys.new.slots order from end }
+    ensures vals_turn { HasInTurn vals.old.slots to_vals.new.slots order from end }
+    ensures vals_left { HasLeft vals.old.slots vals.new.slots order from end }
 {
+    // The word is shifted by one place a step, so that no shift waits for the number of the place.
+    let mut rest = order >> (4 * from);
     for place in from..end {
-        let value = row.take(slot_at(order, place) as usize);
-        to.put((place - from) as usize, value);
+        let slot = slot_at(rest, 0) as usize;
+        let to = (place - from) as usize;
+        to_keys.put(to, keys.take(slot));
+        to_vals.put(to, vals.take(slot));
+        rest >>= 4;
     }
 }

@@ -68,7 +68,7 @@ impl Window {
 ///
 /// A search for a small key makes them all, and has no branch on what one of them answers. For a key of more
 /// than 16 bytes an equal one ends the search.
-#[inline]
+#[inline(always)]
 pub fn find<K: Ord, V, By, A: Asks<K, By>, const LEN: usize>(
     cells: &Cells<K, V, LEN>,
     order: u64,
@@ -198,7 +198,7 @@ fn halve<K: Ord, V, By, A: Asks<K, By>, const LEN: usize>(
 }
 
 /// Finds where a key stands, with comparisons that nobody counts.
-#[inline]
+#[inline(always)]
 pub fn find_key<K: Ord, V, const LEN: usize>(
     cells: &Cells<K, V, LEN>,
     order: u64,
@@ -216,7 +216,7 @@ pub fn find_key<K: Ord, V, const LEN: usize>(
 
 /// Finds where a key stands, as [`find_key`] does. With `rightmost` it compares the key with the last one first, and a
 /// larger key is done: there belong keys that arrive in ascending order. That is at most one comparison more.
-#[inline]
+#[inline(always)]
 pub fn find_key_beyond<K: Ord, V, const LEN: usize>(
     cells: &Cells<K, V, LEN>,
     order: u64,

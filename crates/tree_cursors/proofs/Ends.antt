@@ -8,6 +8,7 @@ use Rattle.std.proofs.lemmas.Option.{slice_get_within}
 use Rattle.std.specs.Borrow.{Bor}
 use Rattle.std.specs.declared.cmp.Ordering.{Ordering}
 use Rattle.std.specs.declared.ops.Bound.{Bound}
+use Rattle.std.specs.declared.ops.Bound.TheVariants.{Unbounded}
 use Rattle.slab.specs.Slab.{Slab}
 use Rattle.tree_leaf.specs.declared.leaf.LeafOf.{LeafOf}
 use Rattle.tree_chain.specs.declared.stand.Way.{Way}
@@ -16,7 +17,7 @@ use Rattle.tree_leaf.specs.Chain.{IsChain}
 use Rattle.tree_leaf.specs.Counting.{times}
 use Rattle.tree_leaf.specs.Entries.{entries_of, leaf_entries}
 use Rattle.tree_chain.specs.Rest.{left_of}
-use Rattle.tree_chain.specs.Walks.{LeafWalk, here, lent_entry, standing, stood_on}
+use Rattle.tree_chain.specs.Walks.{LeafWalk, Steps, here, lent_entry, standing, stood_on}
 use Rattle.tree_chain.specs.Ways.{ahead, along, beyond, places_left}
 use Rattle.tree_leaf.proofs.Chains.{counted}
 use Rattle.tree_leaf.proofs.Counts.{one_here, times-cons, uses_le_one}
@@ -30,7 +31,8 @@ use Rattle.tree_walk.specs.Ends.{IsLinked}
 use Rattle.tree_cursors.specs.Seek.{Advances, IsNearest, Seeks, path}
 use Rattle.tree_cursors.specs.declared.end.End.{End}
 use Rattle.tree_cursors.specs.declared.end.End.TheVariants.{Unopened, At, Exhausted}
-use Rattle.tree_cursors.specs.View.{EndStands, GoesOn, Stands, end_of, place_at, place_in, place_of}
+use Rattle.tree_cursors.specs.View.{EndStands, GoesOn, Stands, StepsInLeaf, end_of, place_at, place_in, place_of}
+use Rattle.tree_cursors.proofs.Advances.{advanced}
 
 -- without a pair an end goes nowhere
 pub goes_nowhere : {K : Type 0} (V : Type 0) (cmp : K → K → Ordering) (way : Way) (bound : Bound K) → exhausted ≡ next_end {V = V} cmp way bound [] unopened
@@ -170,6 +172,13 @@ module _ {K V : Type 0} {LEN : ℕ} {cmp : K → K → Ordering} (a : TreeArenas
     pub goes_on : (result : Option (Bor K × Bor V)) → Advances way old result new → GoesOn a root cmp way old result new
     goes_on None advances = λ bound. leaves_tree advances bound
     goes_on (Some entry) advances = λ bound. (goes_beside entry advances bound, still_stands entry advances, (still_stands entry advances).here)
+
+-- a step in a leaf is a move in each tree that the leaf is in
+pub steps_in_leaf : {K V : Type 0} {LEN : ℕ} (cmp : K → K → Ordering) (way : Way) (old new : LeafWalk K V LEN) (result : Option (Bor K × Bor V)) → Steps way old result new → StepsInLeaf cmp way (At old) result (At new)
+steps_in_leaf cmp way old new None steps = ap (λ walk. At walk) (steps.0 ∙ ap (λ at. standing old.leaves old.leaf at) steps.1.1)
+steps_in_leaf cmp way old new (Some entry) steps = λ arenas root tree stands.
+    let moves = goes_on arenas root tree way old stands new (Some entry) (advanced way old new (Some entry) (λ none. absurd (cc)) steps) in
+    record { place = λ bound. (moves bound).0; stands = (moves Unbounded).1; pair = (moves Unbounded).2 }
 
 module _ {K V : Type 0} {LEN : ℕ} {cmp : K → K → Ordering} (a : TreeArenas K V LEN) (id level : ℕ) (tree : IsTree cmp a (Some (id, level))) where
   pub whole_chain : IsChain a.leaves ([] ++ (leaves_at level a.nodes id ++ []))

@@ -62,6 +62,12 @@ module _ {K V : Type 0} {LEN : ℕ} (arenas : TreeArenas K V LEN) (root : Option
       → MatchOption result (exhausted ≡ next_end cmp way bound (walk_under arenas root) (place_of old))
       (λ entry. (place_of new ≡ next_end cmp way bound (walk_under arenas root) (place_of old)) × Stands new × (stood_on new ≡ Some (lent_entry entry)))
 
+  -- an end has gone where a move takes it, and stands on this entry
+  pub record GoesTo (cmp : K → K → Ordering) (way : Way) (old : TreeEnd (LeafWalk K V LEN)) (entry : Bor K × Bor V) (new : TreeEnd (LeafWalk K V LEN)) : Type 0 where
+    pub place : (bound : Bound K) → end_of new ≡ next_end cmp way bound (walk_under arenas root) (end_of old)
+    pub stands : EndStands new
+    pub pair : pair_of new ≡ Some (lent_entry entry)
+
   -- what is seen of a cursor's parts
   abbrev pub seen : Bound (Bor K) → Bound (Bor K) → TreeEnd (LeafWalk K V LEN) → TreeEnd (LeafWalk K V LEN) → Cursor K V
   seen low high forward backward = record {
@@ -77,3 +83,9 @@ module _ {K V : Type 0} {LEN : ℕ} (arenas : TreeArenas K V LEN) (root : Option
     pub tree : IsTree cmp arenas root
     pub forward_stands : EndStands forward
     pub backward_stands : EndStands backward
+
+-- an end went to the next entry in its leaf, in whatever tree it stands; or there was none, and it is what it was
+abbrev pub StepsInLeaf : {K V : Type 0} {LEN : ℕ} → (K → K → Ordering) → Way → TreeEnd (LeafWalk K V LEN) → Option (Bor K × Bor V) → TreeEnd (LeafWalk K V LEN) → Type 0
+StepsInLeaf cmp way old None new = new ≡ old
+StepsInLeaf {K} {V} {LEN} cmp way old (Some entry) new =
+    (arenas : TreeArenas K V LEN) (root : Option (ℕ × ℕ)) → IsTree cmp arenas root → EndStands arenas root old → GoesTo arenas root cmp way old entry new

@@ -7,7 +7,7 @@ ghost use Rattle.tree_chain.specs.Walks.{stood_on};
 ghost use Rattle.tree_node.specs.Whole.{IsTree, walk_under};
 ghost use Rattle.tree_cursor_model.specs.Cursor.{next_end, unopened};
 ghost use Rattle.tree_cursor_model.specs.Rest.{lent};
-ghost use Rattle.tree_cursors.specs.View.{EndStands, GoesOn, Stands, end_of, pair_of};
+ghost use Rattle.tree_cursors.specs.View.{EndStands, GoesOn, Stands, StepsInLeaf, end_of, pair_of};
 
 use crate::seek::{advance, seek_at};
 use crate::way::EndWay;
@@ -52,6 +52,21 @@ pub fn step<'t, K: Ord + Drop, V: Drop, S: EndWay, const LEN: usize>(
                 None
             }
         },
+        End::Exhausted => None,
+    }
+}
+
+/// Moves an end one entry along in its leaf, and returns that entry. Returns `None` and changes nothing if the end stands in
+/// no leaf, or on the last entry of its leaf on its way. Makes no comparisons.
+#[inline(always)]
+pub fn step_in_leaf<'t, K: Ord + Drop, V: Drop, S: EndWay, const LEN: usize>(
+    end: &mut End<LinkedIter<'t, LeafOf<K, V, LEN>, S>>,
+) -> Option<(&'t K, &'t V)>
+    ensures { StepsInLeaf K.cmp S.way end.old result end.new }
+{
+    match end {
+        End::At(walk) => walk.next(),
+        End::Unopened => None,
         End::Exhausted => None,
     }
 }

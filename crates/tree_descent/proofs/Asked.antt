@@ -1,14 +1,14 @@
 -- How many comparisons a way down makes, one array a level.
 use Rattle.std.proofs.Common.{ℕ, zero, suc, ◌+◌, ◌-◌, ◌*◌, ◌<◌, ◌≤◌, arith, add-one, sub-one, mul-suc}
 
--- one array is asked at each level
-pub one_asked : (len level x y : ℕ) → 0 < level → y ≤ x + len → y ≤ x + len * level
-one_asked len zero x y inner asked = absurd (omega (arith, inner))
-one_asked len (suc level) x y inner asked = rw mul-suc (omega (arith, asked))
+-- one array is asked at a level, and one at each below it may be still
+pub asked_on : (len above x y most : ℕ) → 0 < above → x + len * above ≤ most → y ≤ x + len → y + len * (above - 1) ≤ most
+asked_on len zero x y most inner before asked = absurd (omega (arith, inner))
+asked_on len (suc above) x y most inner before asked = rw sub-one (omega (arith, rw mul-suc at before, asked))
 
-pub one_more_asked : (len level x y z : ℕ) → 0 < level → y ≤ x + len → z ≤ y + len * (level - 1) → z ≤ x + len * level
-one_more_asked len zero x y z inner first second = absurd (omega (arith, inner))
-one_more_asked len (suc level) x y z inner first second = rw mul-suc (omega (arith, first, rw sub-one at second))
+-- or it is the last one
+pub asked_last : (len above x y most : ℕ) → 0 < above → x + len * above ≤ most → y ≤ x + len → y ≤ most
+asked_last len above x y most inner before asked = omega (arith, asked_on len above x y most inner before asked)
 
 -- and the leaf
 pub leaf_asked : (len level x y z : ℕ) → y ≤ x + len * level → z ≤ y + len → z ≤ x + len * (level + 1)

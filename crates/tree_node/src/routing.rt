@@ -18,6 +18,7 @@ pub struct ChildPlace<I> {
 /// Returns the child that the judge's key belongs to: the child under the least separator that the key doesn't
 /// exceed, or else the unbounded child. Returns `None` if that is the unbounded child and the node has none. Makes at
 /// most 4 comparisons among 15 slots, and 3 among 7.
+#[inline(always)]
 pub fn child_for<K: Ord + Drop, I: Copy + Drop, J: Judge<K>, const LEN: usize>(
     children: &ArrayOf<K, I, LEN>,
     unbounded: &Option<I>,

@@ -219,8 +219,11 @@ pub fn ordinals(order: u64, count: u8) -> [u8; MOST]
     ensures ordinals { (p : ℕ) → p < 15 → slice_index_or result p 0 ≡ ordinal_in (named order) count p }
 {
     let mut ordinals = [0; MOST];
+    // The word is shifted by one place a step, so that no shift waits for the number of the place.
+    let mut rest = order;
     for place in 0..count {
-        ordinals[slot_at(order, place) as usize] = place + 1;
+        ordinals[slot_at(rest, 0) as usize] = place + 1;
+        rest >>= 4;
     }
     ordinals
 }

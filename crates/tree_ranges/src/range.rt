@@ -18,7 +18,7 @@ use std::ops::Bound;
 use std::{fmt, mem};
 use tree_array::array::{ArrayIter, ArrayRevIter};
 use tree_chain::{IterOf as WalkOf, LinkedIter, RevIterOf as RevWalkOf, Walked};
-use tree_cursors::end::{End, step};
+use tree_cursors::end::{End, step, step_in_leaf};
 use tree_leaf::arena::NodeId;
 use tree_leaf::leaf::LeafOf;
 use tree_node::node::ArenasOf;
@@ -178,6 +178,30 @@ impl<'t, K: Ord + Drop + 't, V: Drop + 't, const LEN: usize> RangeOver<
         }
     }
 
+    /// Moves the forward end, whether or not its leaf has an entry ahead. Stays out of the way of the moves in a leaf.
+    #[inline(never)]
+    fn next_elsewhere(&mut self) -> Option<(&'t K, &'t V)>
+        ensures { Moves K.cmp On self.old result self.new }
+    {
+        let pair = step(self.arenas, self.root, &mut self.forward, self.low);
+        if !are_apart(&self.forward, &self.backward) {
+            return None;
+        }
+        within::<K, V, ArrayRevIter>(pair, self.high)
+    }
+
+    /// Moves the backward end, as [`next_elsewhere`](RangeOver::next_elsewhere) moves the forward one.
+    #[inline(never)]
+    fn next_back_elsewhere(&mut self) -> Option<(&'t K, &'t V)>
+        ensures { Moves K.cmp Back self.old result self.new }
+    {
+        let pair = step(self.arenas, self.root, &mut self.backward, self.high);
+        if !are_apart(&self.forward, &self.backward) {
+            return None;
+        }
+        within::<K, V, ArrayIter>(pair, self.low)
+    }
+
     /// Opens both bounds, and keeps both ends.
     pub(crate) fn opened(self) -> Self
         ensures { result ≡ opened self.entry }
@@ -204,11 +228,13 @@ impl<'t, K: Ord + Drop + 't, V: Drop + 't, const LEN: usize> Iterator
 
     #[inline(always)]
     fn next(&mut self) -> Option<(&'t K, &'t V)> {
-        let pair = step(self.arenas, self.root, &mut self.forward, self.low);
+        let Some(pair) = step_in_leaf(&mut self.forward) else {
+            return self.next_elsewhere();
+        };
         if !are_apart(&self.forward, &self.backward) {
             return None;
         }
-        within::<K, V, ArrayRevIter>(pair, self.high)
+        within::<K, V, ArrayRevIter>(Some(pair), self.high)
     }
 }
 
@@ -218,11 +244,13 @@ impl<'t, K: Ord + Drop + 't, V: Drop + 't, const LEN: usize> DoubleEndedIterator
 
     #[inline(always)]
     fn next_back(&mut self) -> Option<(&'t K, &'t V)> {
-        let pair = step(self.arenas, self.root, &mut self.backward, self.high);
+        let Some(pair) = step_in_leaf(&mut self.backward) else {
+            return self.next_back_elsewhere();
+        };
         if !are_apart(&self.forward, &self.backward) {
             return None;
         }
-        within::<K, V, ArrayIter>(pair, self.low)
+        within::<K, V, ArrayIter>(Some(pair), self.low)
     }
 }
 

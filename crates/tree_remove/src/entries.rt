@@ -100,6 +100,7 @@ fn take_slot<K: Ord + Drop, V: Drop, const LEN: usize>(
     ensures removes { RemovesUnder K.cmp surely 0 arenas.old arenas.new place.leaf result.2 result.0 }
     ensures settled { result.2 ≡ RemoveResult.Success → IsRetired 0 arenas.new place.leaf → ⊥ }
 {
-    prove!(arenas.leaf(place.leaf).array().free() as usize <= LEN);
+    // The contract of `free` says what holds of a retired leaf.
+    let _ = arenas.leaf(place.leaf).array().free();
     arenas.leaf_mut(place.leaf).array_mut().take(place.slot)
 }

@@ -115,6 +115,7 @@ fn remove_in_leaf<K: Ord + Drop, V: Drop, F: FnOnce(&V) -> bool + Drop, const LE
     ensures removes { RemovesUnder K.cmp (λ val said. FnOnceReturnsAt F.FnOnce condition val said) 0 arenas.old arenas.new id result key.now }
     ensures settled { result ≡ RemoveResult.Success → IsRetired 0 arenas.new id → ⊥ }
 {
-    prove!(arenas.leaf(id).array().free() as usize <= LEN);
+    // The contract of `free` says what holds of a retired leaf.
+    let _ = arenas.leaf(id).array().free();
     arenas.leaf_mut(id).array_mut().remove_if(key, condition)
 }

@@ -1,8 +1,9 @@
 //! Measures the index: the time of its calls, and the memory of its pairs.
 //!
 //! Without arguments, runs each workload over 1,000 keys and prints `name checksum`. With a number of keys and a
-//! number of repeats, prints `name nanoseconds_per_call checksum`, with the least time of the repeats. With `memory`
-//! and a number of keys, prints `memory bytes_per_pair checksum`.
+//! number of repeats, prints `name nanoseconds_per_call checksum`, with the least time of the repeats. With the name of a
+//! workload before the two numbers, runs that one alone. With `memory` and a number of keys, prints
+//! `memory bytes_per_pair checksum`.
 #![tactic(auto)]
 
 mod calls;
@@ -13,7 +14,7 @@ mod workloads;
 
 use crate::measure::{measure, measure_least};
 use crate::memory::measure_footprint;
-use crate::workloads::WORKLOADS;
+use crate::workloads::{WORKLOADS, Workload, workload_named};
 use std::process::ExitCode;
 use std::rt::{Clock, Env, Files};
 use std::{env, io};
@@ -24,15 +25,25 @@ const FEW: usize = 1000;
 // What the arguments ask for.
 enum Request {
     Checksums,
-    Times { keys: usize, repeats: usize },
-    Memory { keys: usize },
+    Times {
+        keys: usize,
+        repeats: usize,
+    },
+    Time {
+        workload: Workload,
+        keys: usize,
+        repeats: usize,
+    },
+    Memory {
+        keys: usize,
+    },
 }
 
 fn main(rt: HostRuntime) -> ExitCode {
     match run(&rt) {
         Ok(true) => ExitCode::SUCCESS,
         Ok(false) => {
-            let _ = rt.eprintln("usage: treebench [KEYS REPEATS | memory KEYS]");
+            let _ = rt.eprintln("usage: treebench [[WORKLOAD] KEYS REPEATS | memory KEYS]");
             ExitCode::from(1)
         }
         Err(error) => {
@@ -49,7 +60,14 @@ fn run(rt: &(impl Env + AllocGlobal + Clock + Files + Print)) -> io::Result<bool
     let words: Vec<String> = arguments.collect(rt.alloc())?;
     match requested(&words) {
         Some(Request::Checksums) => show_checksums(rt)?,
-        Some(Request::Times { keys, repeats }) => show_times(rt, keys, repeats)?,
+        Some(Request::Times { keys, repeats }) => show_times(rt, &WORKLOADS, keys, repeats)?,
+        Some(
+            Request::Time {
+                workload,
+                keys,
+                repeats,
+            },
+        ) => show_times(rt, &[workload], keys, repeats)?,
         Some(Request::Memory { keys }) => show_memory(rt, keys)?,
         None => return Ok(false),
     }
@@ -63,6 +81,11 @@ fn requested(words: &[String]) -> Option<Request> {
             keys: keys.parse().ok()?,
         }),
         [keys, repeats] => Some(Request::Times {
+            keys: keys.parse().ok()?,
+            repeats: repeats.parse().ok()?,
+        }),
+        [name, keys, repeats] => Some(Request::Time {
+            workload: workload_named(name.as_str())?,
             keys: keys.parse().ok()?,
             repeats: repeats.parse().ok()?,
         }),
@@ -80,11 +103,12 @@ fn show_checksums(rt: &(impl Clock + AllocGlobal + Print)) -> io::Result<()> {
 
 fn show_times(
     rt: &(impl Clock + AllocGlobal + Print),
+    workloads: &[Workload],
     keys: usize,
     repeats: usize,
 ) -> io::Result<()> {
-    for (name, set, calls) in WORKLOADS {
-        let least = measure_least(rt, set, calls, keys, repeats)?;
+    for (name, set, calls) in workloads {
+        let least = measure_least(rt, *set, *calls, keys, repeats)?;
         let tenths = least.tenths_a_call();
         println!(rt;
             "{name} {}.{} {:016x}",

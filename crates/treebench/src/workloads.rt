@@ -45,9 +45,12 @@ pub enum Calls {
     CloneAndDrop,
 }
 
-/// The workloads in the order in which they run: the name that the output gives each, its keys and its calls. The two
-/// cuts are the same here, and stand beside `retain` and beside `split_off` and `append` of the standard map.
-pub const WORKLOADS: [(&str, KeySet, Calls); 19] = [
+/// A workload: the name that the output gives it, its keys and its calls.
+pub type Workload = (&'static str, KeySet, Calls);
+
+/// The workloads in the order in which they run. The two cuts are the same here, and stand beside `retain` and beside
+/// `split_off` and `append` of the standard map.
+pub const WORKLOADS: [Workload; 19] = [
     ("insert_ascending", KeySet::Ascending, Calls::Insert),
     ("insert_random", KeySet::Random, Calls::Insert),
     ("upsert_random", KeySet::Random, Calls::Upsert),
@@ -68,3 +71,8 @@ pub const WORKLOADS: [(&str, KeySet, Calls); 19] = [
     ("insert_text", KeySet::Texts, Calls::Insert),
     ("peek_text", KeySet::Texts, Calls::Peek),
 ];
+
+/// Returns the workload of this name.
+pub fn workload_named(name: &str) -> Option<Workload> {
+    WORKLOADS.into_iter().find(|workload| workload.0 == name)
+}

@@ -87,6 +87,7 @@ impl<K: Ord + Drop, V: Drop, const LEN: usize> ArrayOf<K, V, LEN> {
     }
 
     /// Returns the slot of the least key that isn't less than that of the asked.
+    #[inline(always)]
     fn least_for<By, A: Asks<K, By>>(&self, asked: &mut A) -> Option<u8>
         ensures found { MatchOption result (least_from K.cmp self.now.entries (A.key asked.old) ≡ None)
             (λ slot. (pair : _) × (arrival self.now.arrivals slot ≡ Some pair)

@@ -1,7 +1,7 @@
 //! Walks over the slots of an array, in the order of their keys and against it.
 ghost use Rattle.std.specs.Prelude.{◌≡◌, None, ⊤, length, option_and_then, slice_get};
 ghost use Rattle.tree_array.specs.Arrivals.{slots_in_order};
-ghost use Rattle.tree_array.specs.Walk.{IsOver, StepsBack, StepsOn, left_back, left_on, place_ahead, places_behind, standing};
+ghost use Rattle.tree_array.specs.Walk.{IsOver, StepsBack, StepsOn, left_back, left_on, places_behind, standing};
 
 use super::ArrayOf;
 use std::alloc::AllocError;
@@ -16,7 +16,8 @@ use tree_order::order::slot_at;
 pub struct ArrayIter {
     order: u64,
     count: u8,
-    at: Option<u8>,
+    /// The place that the walk goes to. It stands at the one before, or has not begun if there is none.
+    ahead: u8,
 }
 
 /// The walk in descending order.
@@ -26,16 +27,15 @@ pub struct ArrayRevIter {
 }
 
 impl Model for ArrayIter {
-    ghost use Rattle.std.specs.Prelude.{◌≤◌, ◌<◌};
-    ghost use Rattle.std.specs.Option.{ForSome};
+    ghost use Rattle.std.specs.Prelude.{◌≤◌, ◌-◌, ◌==◌, None, Some, if◌then◌else◌};
     ghost use Rattle.tree_array.specs.Walk.{Walk, standing};
     ghost use Rattle.tree_order.specs.Order.{names};
 
     ghost Value = { Walk };
 
-    ghost view = { λ a. standing (names a.order a.count) a.at };
+    ghost view = { λ a. standing (names a.order a.count) (if a.ahead == 0 then None else Some (a.ahead - 1)) };
 
-    ghost invariant = { λ a. (a.count ≤ 15) × ForSome a.at (λ place. place < a.count) };
+    ghost invariant = { λ a. (a.count ≤ 15) × (a.ahead ≤ a.count) };
 }
 
 impl Model for ArrayRevIter {
@@ -55,7 +55,7 @@ impl ArrayIter {
         ArrayIter {
             order: array.order,
             count: array.count,
-            at: None,
+            ahead: 0,
         }
     }
 
@@ -63,19 +63,10 @@ impl ArrayIter {
     pub fn slot(&self) -> Option<u8>
         ensures { result ≡ option_and_then (slice_get self.now.slots) self.now.at }
     {
-        let place = self.at?;
-        Some(slot_at(self.order, place))
-    }
-
-    /// Returns the place that a walk in the order of the keys goes to.
-    #[inline]
-    fn place_ahead(&self) -> u8
-        ensures { result ≡ place_ahead self.now.at }
-    {
-        match self.at {
-            None => 0,
-            Some(place) => place + 1,
+        if self.ahead == 0 {
+            return None;
         }
+        Some(slot_at(self.order, self.ahead - 1))
     }
 
     /// Returns how many places lie ahead of a walk against the order of the keys.
@@ -83,9 +74,10 @@ impl ArrayIter {
     fn places_behind(&self) -> u8
         ensures { result ≡ places_behind (length self.now.slots) self.now.at }
     {
-        match self.at {
-            None => self.count,
-            Some(place) => place,
+        if self.ahead == 0 {
+            self.count
+        } else {
+            self.ahead - 1
         }
     }
 
@@ -96,7 +88,7 @@ impl ArrayIter {
     {
         let behind = self.places_behind();
         if behind > 0 {
-            self.at = Some(behind - 1);
+            self.ahead = behind;
             Some(slot_at(self.order, behind - 1))
         } else {
             None
@@ -107,7 +99,7 @@ impl ArrayIter {
     pub fn rewind(&mut self)
         ensures { self.new ≡ standing self.old.slots None }
     {
-        self.at = None;
+        self.ahead = 0;
     }
 
     /// Turns about at its place. A walk that has not begun turns into one that has not begun.
@@ -158,10 +150,9 @@ impl Iterator for ArrayIter {
 
     #[inline]
     fn next(&mut self) -> Option<u8> {
-        let place = self.place_ahead();
-        if place < self.count {
-            self.at = Some(place);
-            Some(slot_at(self.order, place))
+        if self.ahead < self.count {
+            self.ahead += 1;
+            Some(slot_at(self.order, self.ahead - 1))
         } else {
             None
         }
@@ -190,7 +181,7 @@ impl Clone for ArrayIter {
         Ok(ArrayIter {
             order: self.order,
             count: self.count,
-            at: self.at,
+            ahead: self.ahead,
         })
     }
 }

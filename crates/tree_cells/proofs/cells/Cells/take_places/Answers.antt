@@ -9,21 +9,42 @@ pub gather-requires : goal.gather-requires
 gather-requires g c =
     let rows = c.in-Some in
     let seen = as_seen rows.keys.slots rows.vals.slots _ _ (rw rows.is at c.self.view_is) rows.keys.whole rows.vals.whole in
-    let to = ap (λ rows. rows.0.slots) (inside (sym c.replace-rows.ensures.after ∙ c.in-Some-rows.is)) in
-    (search steps, (omega (arith, c.if-from-end.false), (c.requires.few, (c.requires.places, ((λ i le lt. rw c.spare.ensures.same (has_both seen (named c.args.order i) (c.requires.stands i le lt)).0), (c.requires.apart, λ p. ap (λ slots. get_or slots p None) (sym to ∙ c.spare.ensures.empty) ∙ none_replicated g.row.LEN p))))))
-
-pub gather-requires-in-Some-rows : goal.gather-requires-in-Some-rows
-gather-requires-in-Some-rows g c =
-    let rows = c.in-Some in
-    let seen = as_seen rows.keys.slots rows.vals.slots _ _ (rw rows.is at c.self.view_is) rows.keys.whole rows.vals.whole in
-    let to = ap (λ rows. rows.1.slots) (inside (sym c.replace-rows.ensures.after ∙ c.in-Some-rows.is)) in
-    (search steps, (omega (arith, c.if-from-end.false), (c.requires.few, (c.requires.places, ((λ i le lt. rw c.spare-in-Some.ensures.same (has_both seen (named c.args.order i) (c.requires.stands i le lt)).1), (c.requires.apart, λ p. ap (λ slots. get_or slots p None) (sym to ∙ c.spare-in-Some.ensures.empty) ∙ none_replicated g.row.LEN p))))))
+    let to = inside (sym c.replace-rows.ensures.after ∙ c.in-Some-rows.is) in
+    let no_keys = ap (λ rows. rows.0.slots) to in
+    let no_vals = ap (λ rows. rows.1.slots) to in (
+      search steps,
+      (
+        search steps,
+        (
+          omega (arith, c.if-from-end.false),
+          (
+            c.requires.few,
+            (
+              c.requires.places,
+              (
+                (λ i le lt. rw c.spare.ensures.same (has_both seen (named c.args.order i) (c.requires.stands i le lt)).0),
+                (
+                  (λ i le lt. rw c.spare-in-Some.ensures.same (has_both seen (named c.args.order i) (c.requires.stands i le lt)).1),
+                  (
+                    c.requires.apart,
+                    (
+                      (λ p. ap (λ slots. get_or slots p None) (sym no_keys ∙ c.spare.ensures.empty) ∙ none_replicated g.row.LEN p),
+                      (λ p. ap (λ slots. get_or slots p None) (sym no_vals ∙ c.spare-in-Some.ensures.empty) ∙ none_replicated g.row.LEN p),
+                    ),
+                  ),
+                ),
+              ),
+            ),
+          ),
+        ),
+      ),
+    )
 
 pub invariant_of-to : goal.invariant_of-to
 invariant_of-to g c =
     let rows = c.in-Some in
     let seen = as_seen rows.keys.slots rows.vals.slots _ _ (rw rows.is at c.self.view_is) rows.keys.whole rows.vals.whole in
-    alike_in_turn seen (c.gather.new.to.whole ∙ sym c.gather-in-Some-rows.new.to.whole) (rw rows.is at c.self.invariant) (rw c.spare.ensures.same at c.gather.ensures.turn) (rw c.spare-in-Some.ensures.same at c.gather-in-Some-rows.ensures.turn)
+    alike_in_turn seen (c.gather.new.to_keys.whole ∙ sym c.gather.new.to_vals.whole) (rw rows.is at c.self.invariant) (rw c.spare.ensures.same at c.gather.ensures.keys_turn) (rw c.spare-in-Some.ensures.same at c.gather.ensures.vals_turn)
 
 pub unreachable-requires-in-None : goal.unreachable-requires-in-None
 unreachable-requires-in-None g c =
@@ -33,26 +54,26 @@ pub invariant_of-self : goal.invariant_of-self
 invariant_of-self g c =
     let rows = c.in-Some in
     let seen = as_seen rows.keys.slots rows.vals.slots _ _ (rw rows.is at c.self.view_is) rows.keys.whole rows.vals.whole in
-    alike_left seen (c.gather.new.row.whole ∙ sym c.gather-in-Some-rows.new.row.whole) (rw rows.is at c.self.invariant) (rw c.spare.ensures.same at c.gather.ensures.left) (rw c.spare-in-Some.ensures.same at c.gather-in-Some-rows.ensures.left)
+    alike_left seen (c.gather.new.keys.whole ∙ sym c.gather.new.vals.whole) (rw rows.is at c.self.invariant) (rw c.spare.ensures.same at c.gather.ensures.keys_left) (rw c.spare-in-Some.ensures.same at c.gather.ensures.vals_left)
 
 pub returns-clause-turn : goal.returns-clause-turn
 returns-clause-turn g c =
     let rows = c.in-Some in
     let seen = as_seen rows.keys.slots rows.vals.slots _ _ (rw rows.is at c.self.view_is) rows.keys.whole rows.vals.whole in
-    pairs_in_turn seen (c.gather.new.to.whole ∙ sym c.gather-in-Some-rows.new.to.whole) (rw c.spare.ensures.same at c.gather.ensures.turn) (rw c.spare-in-Some.ensures.same at c.gather-in-Some-rows.ensures.turn)
+    pairs_in_turn seen (c.gather.new.to_keys.whole ∙ sym c.gather.new.to_vals.whole) (rw c.spare.ensures.same at c.gather.ensures.keys_turn) (rw c.spare-in-Some.ensures.same at c.gather.ensures.vals_turn)
 
 pub returns-clause-left : goal.returns-clause-left
 returns-clause-left g c =
     let rows = c.in-Some in
     let seen = as_seen rows.keys.slots rows.vals.slots _ _ (rw rows.is at c.self.view_is) rows.keys.whole rows.vals.whole in
-    pairs_left seen (c.gather.new.row.whole ∙ sym c.gather-in-Some-rows.new.row.whole) (rw c.spare.ensures.same at c.gather.ensures.left) (rw c.spare-in-Some.ensures.same at c.gather-in-Some-rows.ensures.left)
+    pairs_left seen (c.gather.new.keys.whole ∙ sym c.gather.new.vals.whole) (rw c.spare.ensures.same at c.gather.ensures.keys_left) (rw c.spare-in-Some.ensures.same at c.gather.ensures.vals_left)
 
 pub returns-clause-same : goal.returns-clause-same
 returns-clause-same g c =
     let rows = c.in-Some in
     let before = length-zipped rows.keys.slots rows.vals.slots (rows.keys.whole ∙ sym rows.vals.whole) ∙ rows.keys.whole in
-    let after = length-zipped _ _ (c.gather.new.row.whole ∙ sym c.gather-in-Some-rows.new.row.whole) ∙ c.gather.new.row.whole in
+    let after = length-zipped _ _ (c.gather.new.keys.whole ∙ sym c.gather.new.vals.whole) ∙ c.gather.new.keys.whole in
     after ∙ sym before ∙ ap length (rw rows.is at c.self.view_is)
 
 pub returns-clause-whole : goal.returns-clause-whole
-returns-clause-whole g c = length-zipped _ _ (c.gather.new.to.whole ∙ sym c.gather-in-Some-rows.new.to.whole) ∙ c.gather.new.to.whole
+returns-clause-whole g c = length-zipped _ _ (c.gather.new.to_keys.whole ∙ sym c.gather.new.to_vals.whole) ∙ c.gather.new.to_keys.whole

@@ -1,3 +1,5 @@
+use mir.Syntax.{w128}
+use Rattle.std.proofs.Math.Facts.{Fits-of_lt}
 use Rattle.tree_node.proofs.Sizes.{fits}
 use Rattle.std.proofs.Common.{◌∙◌, ap, arith, sym, length}
 use Rattle.tree_index.proofs.Indexed.{as_many, one_more, pairs_kept, stores_pair}
@@ -9,10 +11,10 @@ store-requires g c = (search fits, (c.self.invariant.0, c.self.invariant.1))
 pub slots-requires : goal.slots-requires
 slots-requires g c = (search fits, (c.self.invariant.0, c.in-Ok-New.ensures.whole))
 
-pub prove-unreachable-requires : goal.prove-unreachable-requires
-prove-unreachable-requires g c =
+pub overflow_add-self : goal.overflow_add-self
+overflow_add-self g c =
     let more = one_more g.met.K.Ord.total c.self.inside.tree _ c.args.key c.args.value _ (rw c.in-Ok-New.field-0-is at c.in-Ok-New.ensures) in
-    omega (arith, more, c.self.invariant.2, c.slots.ensures.slots, c.if-prove.true)
+    Fits-of_lt {w = w128} (omega (arith, more, c.self.invariant.2, c.slots.ensures.slots, c.slots.ensures.small))
 
 pub invariant_of-self : goal.invariant_of-self
 invariant_of-self g c =

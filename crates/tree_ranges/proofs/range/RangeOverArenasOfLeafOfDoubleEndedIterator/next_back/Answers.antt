@@ -5,19 +5,27 @@ use Rattle.tree_ranges.proofs.Moving.{hidden_if, makes_progress, moves_back, sho
 use Rattle.tree_ranges.proofs.Shown.{element_is}
 use Rattle.tree_ranges.proofs.range.RangeOverArenasOfLeafOfDoubleEndedIterator.next_back.Goals as goal
 
+pub returns-in_default-clause-steps : goal.returns-in_default-clause-steps
+returns-in_default-clause-steps g c = rw (← c.self.view_is, ← c.in_default.ensures) c.next_back_elsewhere.ensures
+
+pub returns-in_default-clause-goes : goal.returns-in_default-clause-goes
+returns-in_default-clause-goes g c = makes_progress g.K.Ord.cmp Back _ _ _ (returns-in_default-clause-steps g c)
+
 pub returns-then-not-are_apart-clause-steps : goal.returns-then-not-are_apart-clause-steps
 returns-then-not-are_apart-clause-steps g c =
-    let kept : Kept c.self.inside.arenas.now c.self.inside.root g.K.Ord.cmp c.self.inside.forward c.step-pair.new.end =
-    record { tree = c.self.invariant.tree; forward_stands = c.self.invariant.forward_stands; backward_stands = c.step-pair.ensures.stands } in
-    let hides = hidden_if g.K.Ord.cmp Back (seen c.self.inside.arenas.now c.self.inside.root c.self.inside.low c.self.inside.high c.self.inside.forward c.step-pair.new.end) c.are_apart.result (c.are_apart.ensures _ _ kept) c.if-not-are_apart.true in
-    rw (← c.self.view_is) (moves_back g.met.K.Ord.total _ _ _ _ None _ _ _ c.self.invariant c.step-pair.ensures.place hides)
+    let went = c.in-Some.ensures c.self.inside.arenas.now c.self.inside.root c.self.invariant.tree c.self.invariant.backward_stands in
+    let kept : Kept c.self.inside.arenas.now c.self.inside.root g.K.Ord.cmp c.self.inside.forward c.step_in_leaf.new.end =
+    record { tree = c.self.invariant.tree; forward_stands = c.self.invariant.forward_stands; backward_stands = went.stands } in
+    let hides = hidden_if g.K.Ord.cmp Back (seen c.self.inside.arenas.now c.self.inside.root c.self.inside.low c.self.inside.high c.self.inside.forward c.step_in_leaf.new.end) c.are_apart.result (c.are_apart.ensures _ _ kept) c.if-not-are_apart.true in
+    rw (← c.self.view_is) (moves_back g.met.K.Ord.total _ _ _ _ None _ _ _ c.self.invariant (went.place _) hides)
 
 pub returns-clause-steps : goal.returns-clause-steps
 returns-clause-steps g c =
-    let kept : Kept c.self.inside.arenas.now c.self.inside.root g.K.Ord.cmp c.self.inside.forward c.step-pair.new.end =
-    record { tree = c.self.invariant.tree; forward_stands = c.self.invariant.forward_stands; backward_stands = c.step-pair.ensures.stands } in
-    let shows = shown_if g.K.Ord.cmp Back (seen c.self.inside.arenas.now c.self.inside.root c.self.inside.low c.self.inside.high c.self.inside.forward c.step-pair.new.end) c.within.result c.are_apart.result (c.are_apart.ensures _ _ kept) c.if-not-are_apart.false (rw (element_is _ _ c.self.invariant.tree _ c.step-pair.ensures.stands, ← c.step-pair.ensures.pair) c.within.ensures) in
-    rw (← c.self.view_is) (moves_back g.met.K.Ord.total _ _ _ _ _ _ _ _ c.self.invariant c.step-pair.ensures.place shows)
+    let went = c.in-Some.ensures c.self.inside.arenas.now c.self.inside.root c.self.invariant.tree c.self.invariant.backward_stands in
+    let kept : Kept c.self.inside.arenas.now c.self.inside.root g.K.Ord.cmp c.self.inside.forward c.step_in_leaf.new.end =
+    record { tree = c.self.invariant.tree; forward_stands = c.self.invariant.forward_stands; backward_stands = went.stands } in
+    let shows = shown_if g.K.Ord.cmp Back (seen c.self.inside.arenas.now c.self.inside.root c.self.inside.low c.self.inside.high c.self.inside.forward c.step_in_leaf.new.end) c.within.result c.are_apart.result (c.are_apart.ensures _ _ kept) c.if-not-are_apart.false (rw (element_is _ _ c.self.invariant.tree _ went.stands, went.pair) c.within.ensures) in
+    rw (← c.self.view_is) (moves_back g.met.K.Ord.total _ _ _ _ _ _ _ _ c.self.invariant (went.place _) shows)
 
 pub returns-clause-goes : goal.returns-clause-goes
 returns-clause-goes g c = makes_progress g.K.Ord.cmp Back _ _ _ (returns-clause-steps g c)

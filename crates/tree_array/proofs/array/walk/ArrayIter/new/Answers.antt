@@ -1,5 +1,4 @@
 use Rattle.std.proofs.Common.{ℕ, List, None, subst, sym, ◌∙◌, ap, arith}
-use Rattle.std.proofs.lemmas.Option.{none-some}
 use Rattle.tree_array.specs.Arrivals.{slots_in_order}
 use Rattle.tree_array.specs.Sound.{IsSound}
 use Rattle.tree_array.specs.Walk.{IsOver, standing}
@@ -9,7 +8,7 @@ use Rattle.tree_cells.proofs.Walks.{slots_named}
 use Rattle.tree_array.proofs.array.walk.ArrayIter.new.Goals as goal
 
 pub invariant_of-result : goal.invariant_of-result
-invariant_of-result g c = (few_places g.met.K.Ord.total c.array.invariant.0, λ x none. absurd (none-some x none))
+invariant_of-result g c = (few_places g.met.K.Ord.total c.array.invariant.0, omega arith)
 
 pub returns-clause-slots : goal.returns-clause-slots
 returns-clause-slots g c =

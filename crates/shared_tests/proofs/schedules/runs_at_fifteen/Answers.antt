@@ -1,6 +1,6 @@
 use Rattle.std.proofs.Common.{ℕ, nat_cmp, arith}
-use Rattle.schedule_tests.proofs.Rooms.{zeros_have_room}
-use Rattle.schedule_tests.proofs.rows.runs_at_seven.Goals as goal
+use Rattle.shared_tests.proofs.Rooms.{zeros_have_room}
+use Rattle.shared_tests.proofs.schedules.runs_at_fifteen.Goals as goal
 
 pub run_schedule-refused-requires : goal.run_schedule-refused-requires
 run_schedule-refused-requires g c = (
