@@ -3,14 +3,14 @@ use Rattle.tree_order.specs.Order.{named}
 use Rattle.tree_array.proofs.Stepped.{goes_on, stays, stepped_on}
 use Rattle.tree_array.proofs.array.walk.ArrayIterIterator.next.Goals as goal
 
-pub returns-then-self-self-clause-steps : goal.returns-then-self-self-clause-steps
-returns-then-self-self-clause-steps c =
+pub returns-then-self-clause-steps : goal.returns-then-self-clause-steps
+returns-then-self-clause-steps c =
     let same : c.self.inside.ahead + 1 - 1 ≡ c.self.inside.ahead = omega arith in
-    rw (← c.self.view_is) (stepped_on c.self.inside.order c.self.inside.count c.self.inside.ahead c.slot_at.result c.if-self-self.true (c.slot_at.ensures ∙ ap (named c.self.inside.order) same))
+    rw (← c.self.view_is) (stepped_on c.self.inside.order c.self.inside.count c.self.inside.ahead c.slot_at.result c.if-self.true (c.slot_at.ensures ∙ ap (named c.self.inside.order) same))
 
-pub returns-then-self-self-clause-goes : goal.returns-then-self-self-clause-goes
-returns-then-self-self-clause-goes c = goes_on _ _ _ (returns-then-self-self-clause-steps c)
+pub returns-then-self-clause-goes : goal.returns-then-self-clause-goes
+returns-then-self-clause-goes c = goes_on _ _ _ (returns-then-self-clause-steps c)
 
-pub returns-else-self-self-clause-steps : goal.returns-else-self-self-clause-steps
-returns-else-self-self-clause-steps c =
-    rw (← c.self.view_is) (stays c.self.inside.order c.self.inside.count c.self.inside.ahead (omega (arith, c.if-self-self.false)))
+pub returns-else-self-clause-steps : goal.returns-else-self-clause-steps
+returns-else-self-clause-steps c =
+    rw (← c.self.view_is) (stays c.self.inside.order c.self.inside.count c.self.inside.ahead (omega (arith, c.if-self.false)))
