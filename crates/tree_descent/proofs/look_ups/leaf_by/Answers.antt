@@ -1,4 +1,4 @@
-use Rattle.std.proofs.Common.{rules, ◌≡◌, ◌<◌, ◌∙◌, refl, sym, arith}
+use Rattle.std.proofs.Common.{rules, ◌≡◌, None, ◌<◌, ◌∙◌, refl, sym, arith}
 use Rattle.slab.specs.Slab.{ContainsKey}
 use Rattle.tree_array.specs.Length.{searched}
 use Rattle.tree_node.specs.declared.node.NodeOf.TheVariants.{Internal, Leaf}
@@ -32,13 +32,26 @@ pub returns-in-Leaf-clause-halved : goal.returns-in-Leaf-clause-halved
 returns-in-Leaf-clause-halved g c =
     asked_last (searched g.row.LEN) c.loop-node.above _ _ _ c.loop-node.invariant.down.inner c.loop-node.invariant.halved c.child_for.ensures.halved
 
+pub returns-in_err-at-in-Internal-clause-found : goal.returns-in_err-at-in-Internal-clause-found
+returns-in_err-at-in-Internal-clause-found g c =
+    let none : child_of g.K.Ord.cmp (g.J.Judge.key c.args.judge.now) c.in-Internal.node.children.entries c.in-Internal.node.unbounded_child ≡ None = sym (rw (c.loop-node.invariant.same_key, c.in_err-at-in-Internal.was) at c.child_for-in-Internal.ensures.child) in
+    rw c.from_residual.ensures (stops g.met.K.Ord.total c.args.arenas.now (g.J.Judge.key c.args.judge.now) c.args.level c.args.id c.loop-node.above c.loop-node.at c.loop-node.invariant.down c.in-Internal.node (rw c.in-Internal.is at c.node.ensures) none)
+
+pub returns-in_err-at-in-Internal-clause-counted : goal.returns-in_err-at-in-Internal-clause-counted
+returns-in_err-at-in-Internal-clause-counted g c =
+    asked_last g.row.LEN c.loop-node.above _ _ _ c.loop-node.invariant.down.inner c.loop-node.invariant.counted c.child_for-in-Internal.ensures.counted
+
+pub returns-in_err-at-in-Internal-clause-halved : goal.returns-in_err-at-in-Internal-clause-halved
+returns-in_err-at-in-Internal-clause-halved g c =
+    asked_last (searched g.row.LEN) c.loop-node.above _ _ _ c.loop-node.invariant.down.inner c.loop-node.invariant.halved c.child_for-in-Internal.ensures.halved
+
 pub loop-node-smaller : goal.loop-node-smaller
 loop-node-smaller g c = omega (arith, c.loop-node.invariant.down.inner)
 
 pub loop-node-preserved : goal.loop-node-preserved
 loop-node-preserved g c =
     let inner = c.loop-node.invariant.down.inner in
-    let chosen : child_of g.K.Ord.cmp (g.J.Judge.key c.args.judge.now) c.in-Internal.node.children.entries c.in-Internal.node.unbounded_child ≡ _ = sym (rw (c.loop-node.invariant.same_key, c.in_ok.is) at c.child_for-in-Internal.ensures.child) in
+    let chosen : child_of g.K.Ord.cmp (g.J.Judge.key c.args.judge.now) c.in-Internal.node.children.entries c.in-Internal.node.unbounded_child ≡ _ = sym (rw (c.loop-node.invariant.same_key, c.in_ok-at-in-Internal.was) at c.child_for-in-Internal.ensures.child) in
     record {
       same_key = c.child_for-in-Internal.ensures.same_key ∙ c.loop-node.invariant.same_key;
       down = goes_down g.met.K.Ord.total c.args.arenas.now (g.J.Judge.key c.args.judge.now) c.args.level c.args.id c.loop-node.above c.loop-node.at c.loop-node.invariant.down c.in-Internal.node (rw c.in-Internal.is at c.node.ensures) _ chosen;

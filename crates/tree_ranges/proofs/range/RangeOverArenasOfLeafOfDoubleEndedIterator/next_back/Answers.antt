@@ -11,6 +11,16 @@ returns-in_default-clause-steps g c = rw (← c.self.view_is, ← c.in_default.e
 pub returns-in_default-clause-goes : goal.returns-in_default-clause-goes
 returns-in_default-clause-goes g c = makes_progress g.K.Ord.cmp Back _ _ _ (returns-in_default-clause-steps g c)
 
+pub invariant_of-self-then-not-are_apart : goal.invariant_of-self-then-not-are_apart
+invariant_of-self-then-not-are_apart g c =
+    let went = c.in-Some.ensures c.self.inside.arenas.now c.self.inside.root c.self.invariant.tree c.self.invariant.backward_stands in
+    record { tree = c.self.invariant.tree; forward_stands = c.self.invariant.forward_stands; backward_stands = went.stands }
+
+pub invariant_of-self-2 : goal.invariant_of-self-2
+invariant_of-self-2 g c =
+    let went = c.in-Some.ensures c.self.inside.arenas.now c.self.inside.root c.self.invariant.tree c.self.invariant.backward_stands in
+    record { tree = c.self.invariant.tree; forward_stands = c.self.invariant.forward_stands; backward_stands = went.stands }
+
 pub returns-then-not-are_apart-clause-steps : goal.returns-then-not-are_apart-clause-steps
 returns-then-not-are_apart-clause-steps g c =
     let went = c.in-Some.ensures c.self.inside.arenas.now c.self.inside.root c.self.invariant.tree c.self.invariant.backward_stands in
