@@ -1,5 +1,4 @@
 pub mod Beside
-pub mod Compared
 pub mod Copied
 pub mod Ended
 pub mod Indexed
@@ -8,5 +7,3 @@ pub mod Puts
 pub mod Refused
 pub mod Removed
 pub mod Sorted
-pub mod Taken
-pub mod Walked

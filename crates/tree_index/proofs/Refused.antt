@@ -23,7 +23,7 @@ use Rattle.tree_chain.specs.declared.stand.Way.TheVariants.{On}
 use Rattle.tree_cursor_model.specs.Cursor.{Cursor, fresh}
 use Rattle.tree_cursor_model.specs.Rest.{rest}
 use Rattle.tree_ranges.proofs.Yields.{rest_fresh}
-use Rattle.tree_index.proofs.Walked.{all_pass}
+use Rattle.tree_views.proofs.Walked.{all_pass}
 use Rattle.tree_index.specs.Retained.{AnswersAt, Passes, Refuses, Retains, low_behind}
 
 -- the sides of a pair in an ascending list

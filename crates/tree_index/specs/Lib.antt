@@ -2,7 +2,6 @@ pub mod Collects
 pub mod Copies
 pub mod Hashed
 pub mod Index
-pub mod Keys
 pub mod Lending
 pub mod Nearest
 pub mod Present

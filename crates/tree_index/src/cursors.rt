@@ -1,5 +1,5 @@
-//! Cursors over the pairs of an index, and where a key is among them.
-ghost use Rattle.std.specs.Prelude.{◌≡◌};
+//! Cursors over the pairs of an index, its keys and its values, and where a key is among the pairs.
+ghost use Rattle.std.specs.Prelude.{◌≡◌, map};
 ghost use Rattle.std.specs.Range.Bound.{bound_map};
 ghost use Rattle.std.specs.declared.ops.Bound.TheVariants.{Unbounded};
 ghost use Rattle.tree_cursor_model.specs.Cursor.{fresh};
@@ -12,6 +12,7 @@ use tree_cursor_model::ProximityOf;
 use tree_ranges::iter::{IterOf, IterOver};
 use tree_ranges::locate::locate;
 use tree_ranges::range::{RangeOf, RangeOver};
+use tree_views::keys::{KeysOf, KeysOver, ValuesOf, ValuesOver};
 
 impl<K: IndexKey, V: Drop, const LEN: usize> TreeIndexOf<K, V, LEN> {
     /// Returns a cursor over all pairs, from both ends. Runs in constant time.
@@ -30,6 +31,35 @@ impl<K: IndexKey, V: Drop, const LEN: usize> TreeIndexOf<K, V, LEN> {
         ensures { result ≡ fresh self.now.pairs Unbounded Unbounded }
     {
         IterOver::new(&self.tree.arenas, self.tree.root)
+    }
+
+    /// Returns the keys in ascending order, from both ends. Runs in constant time and allocates nothing.
+    ///
+    /// ```
+    /// pub fn first_article(stock: &TreeIndex<u64, u64>) -> Option<u64>
+    ///     ensures { result ≡ first_of (map (λ pair. pair.0) stock.now.pairs) }
+    /// {
+    ///     stock.keys().next().copied()
+    /// }
+    /// ```
+    pub fn keys(&self) -> KeysOf<'_, K, V, LEN>
+        ensures { result ≡ map (λ pair. pair.0) self.now.pairs }
+    {
+        KeysOver::new(self.iter())
+    }
+
+    /// Returns the values in ascending order of their keys, from both ends. Runs in constant time and allocates nothing.
+    ///
+    /// ```
+    /// let mut pieces: u64 = 0;
+    /// for count in stock.values() {
+    ///     pieces = pieces.saturating_add(*count);
+    /// }
+    /// ```
+    pub fn values(&self) -> ValuesOf<'_, K, V, LEN>
+        ensures { result ≡ map (λ pair. pair.1) self.now.pairs }
+    {
+        ValuesOver::new(self.iter())
     }
 
     /// Returns a cursor over the pairs whose keys are within both bounds, from both ends. Bounds that contain no key,

@@ -1,15 +1,12 @@
 //! Hashes of indexes.
-ghost use Rattle.std.specs.Prelude.{◌≡◌, ◌++◌};
+ghost use Rattle.std.specs.Prelude.{◌++◌};
 ghost use Rattle.std.specs.Hash.{and-Alike, on_Alike};
-ghost use Rattle.std.specs.List.{flat_map, fold};
 ghost use Rattle.tree_index.specs.Hashed.{counted, counted_alike};
-ghost use Rattle.tree_cursor_model.specs.Rest.{HasBegun, rest};
-ghost use Rattle.tree_chain.specs.declared.stand.Way.TheVariants.{On};
 
 use crate::index::TreeIndexOf;
 use std::hash::{Hash, Hasher};
 use tree_array::array::IndexKey;
-use tree_ranges::iter::IterOf;
+use tree_views::hash::feed;
 
 /// Feeds what [`len`](TreeIndexOf::len) tells, and then each pair in order, its key before its value. Allocates nothing.
 ///
@@ -26,20 +23,5 @@ impl<K: IndexKey + Hash, V: Drop + Hash, const LEN: usize> Hash for TreeIndexOf<
     fn hash<H: Hasher>(&self, state: &mut H) {
         self.len().hash(state);
         feed(self.iter(), state);
-    }
-}
-
-/// Feeds the pairs that a cursor has left on its way on.
-fn feed<'t, K: IndexKey + Hash + 't, V: Drop + Hash + 't, H: Hasher, const LEN: usize>(
-    pairs: IterOf<'t, K, V, LEN>,
-    state: &mut H,
-)
-    requires { HasBegun K.cmp On pairs }
-    ensures { state.new ≡ fold H.write state.old (flat_map (λ p. K.hash_input p.0 ++ V.hash_input p.1) (rest K.cmp On pairs.entry)) }
-{
-    let mut pairs = pairs;
-    while let Some((key, value)) = pairs.next() {
-        key.hash(state);
-        value.hash(state);
     }
 }

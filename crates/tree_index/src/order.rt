@@ -1,15 +1,12 @@
 //! The order of indexes.
-ghost use Rattle.std.specs.Prelude.{◌≡◌};
 ghost use Rattle.std.specs.Cmp.Lexicographic.{slice_cmp, slice_partial_cmp, lists_agrees, lists_po, lists_ties, lists_total};
 ghost use Rattle.std.specs.Cmp.{both_tied, on_po, on_total, then_agrees, then_po, then_total};
 ghost use Rattle.std.specs.Ordering.{ordering_then, partial_ordering_then};
-ghost use Rattle.tree_cursor_model.specs.Rest.{HasBegun, rest};
-ghost use Rattle.tree_chain.specs.declared.stand.Way.TheVariants.{On};
 
 use crate::index::TreeIndexOf;
 use std::cmp::Ordering;
 use tree_array::array::IndexKey;
-use tree_ranges::iter::IterOf;
+use tree_views::order::order_of;
 
 /// Indexes are ordered as the lists of their pairs are: the first two pairs that differ decide, their keys before their
 /// values, and if none do, the index with more pairs is greater. Compares each pair until one differs. Allocates nothing.
@@ -42,40 +39,5 @@ impl<K: IndexKey, V: Drop + Ord, const LEN: usize> Ord for TreeIndexOf<K, V, LEN
             Some(order) => order,
             None => unreachable!(),
         }
-    }
-}
-
-/// Returns the order of the pairs that two cursors have left on their way on.
-fn order_of<'t, K: IndexKey + 't, V: Drop + PartialOrd + 't, const LEN: usize>(
-    left: IterOf<'t, K, V, LEN>,
-    right: IterOf<'t, K, V, LEN>,
-) -> Option<Ordering>
-    requires left { HasBegun K.cmp On left }
-    requires right { HasBegun K.cmp On right }
-    ensures { result ≡ slice_partial_cmp (λ p q. partial_ordering_then (K.partial_cmp p.0 q.0) (V.partial_cmp p.1 q.1)) (rest K.cmp On left.entry) (rest K.cmp On right.entry) }
-{
-    let (mut left, mut right) = (left, right);
-    while let Some(pair) = left.next() {
-        let Some(other) = right.next() else {
-            return Some(Ordering::Greater);
-        };
-        let order = order_of_pairs(pair, other)?;
-        if order.is_ne() {
-            return Some(order);
-        }
-    }
-    match right.next() {
-        Some(_) => Some(Ordering::Less),
-        None => Some(Ordering::Equal),
-    }
-}
-
-/// Returns the order of two pairs: that of the keys or, if these are equal, of the values.
-fn order_of_pairs<K: PartialOrd, V: PartialOrd>(pair: (&K, &V), other: (&K, &V)) -> Option<Ordering>
-    ensures { result ≡ partial_ordering_then (K.partial_cmp pair.entry.0.now other.entry.0.now) (V.partial_cmp pair.entry.1.now other.entry.1.now) }
-{
-    match pair.0.partial_cmp(other.0) {
-        Some(Ordering::Equal) => pair.1.partial_cmp(other.1),
-        unequal => unequal,
     }
 }

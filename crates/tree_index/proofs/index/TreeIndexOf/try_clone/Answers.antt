@@ -1,7 +1,7 @@
 use Rattle.tree_node.proofs.Sizes.{fits}
 use Rattle.tree_root.specs.Trees.{pairs_of}
 use Rattle.tree_index.proofs.Indexed.{pairs_ascend}
-use Rattle.tree_index.proofs.Walked.{all_left}
+use Rattle.tree_views.proofs.Walked.{all_left}
 use Rattle.tree_index.proofs.index.TreeIndexOf.try_clone.Goals as goal
 
 pub new-pairs-requires : goal.new-pairs-requires

@@ -1,5 +1,5 @@
 use Rattle.tree_node.proofs.Sizes.{fits}
-use Rattle.tree_index.proofs.Taken.{last_progress}
+use Rattle.tree_views.proofs.Taken.{last_progress}
 use Rattle.tree_index.proofs.into_iter.IntoIterOfDoubleEndedIterator.next_back.Goals as goal
 
 pub pop_last-requires : goal.pop_last-requires

@@ -1,5 +1,5 @@
 use Rattle.tree_node.proofs.Sizes.{fits}
-use Rattle.tree_index.proofs.Taken.{first_progress}
+use Rattle.tree_views.proofs.Taken.{first_progress}
 use Rattle.tree_index.proofs.into_iter.IntoIterOfIterator.next.Goals as goal
 
 pub pop_first-requires : goal.pop_first-requires

@@ -1,5 +1,5 @@
 use Rattle.tree_node.proofs.Sizes.{fits}
-use Rattle.tree_index.proofs.Walked.{all_left}
+use Rattle.tree_views.proofs.Walked.{all_left}
 use Rattle.tree_index.proofs.order.TreeIndexOfPartialOrd.partial_cmp.Goals as goal
 
 pub iter-requires : goal.iter-requires

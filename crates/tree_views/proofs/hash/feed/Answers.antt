@@ -3,7 +3,7 @@ use Rattle.std.specs.Hash.{fed_then}
 use Rattle.std.proofs.lemmas.Grind.{fold-append}
 use Rattle.tree_chain.specs.declared.stand.Way.TheVariants.{On}
 use Rattle.tree_ranges.proofs.Yields.{takes_first}
-use Rattle.tree_index.proofs.hash.feed.Goals as goal
+use Rattle.tree_views.proofs.hash.feed.Goals as goal
 
 pub loop-key-preserved : goal.loop-key-preserved
 loop-key-preserved g c =

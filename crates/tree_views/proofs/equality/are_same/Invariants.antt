@@ -4,7 +4,7 @@ use Rattle.std.specs.Cmp.Lexicographic.{pointwise}
 use Rattle.tree_chain.specs.declared.stand.Way.TheVariants.{On}
 use Rattle.tree_cursor_model.specs.Rest.{HasBegun, rest}
 use Rattle.tree_ranges.specs.Ranged.{moves_left}
-use Rattle.tree_index.proofs.equality.are_same.Given as goal
+use Rattle.tree_views.proofs.equality.are_same.Given as goal
 
 -- what is left agrees where all did
 abbrev pub invariant-loop-pair : goal.invariant-loop-pair

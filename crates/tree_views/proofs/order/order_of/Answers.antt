@@ -1,8 +1,8 @@
 use Rattle.std.proofs.Common.{◌∙◌, sym}
 use Rattle.tree_chain.specs.declared.stand.Way.TheVariants.{On}
 use Rattle.tree_ranges.proofs.Yields.{takes_first}
-use Rattle.tree_index.proofs.Compared.{decides, leaves_open}
-use Rattle.tree_index.proofs.order.order_of.Goals as goal
+use Rattle.tree_views.proofs.Compared.{decides, leaves_open}
+use Rattle.tree_views.proofs.order.order_of.Goals as goal
 
 pub returns-in_default-next : goal.returns-in_default-next
 returns-in_default-next g c =

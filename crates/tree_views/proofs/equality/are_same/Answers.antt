@@ -1,8 +1,8 @@
 use Rattle.std.proofs.Common.{◌∙◌, sym}
 use Rattle.tree_chain.specs.declared.stand.Way.TheVariants.{On}
 use Rattle.tree_ranges.proofs.Yields.{takes_first}
-use Rattle.tree_index.proofs.Walked.{ends_both}
-use Rattle.tree_index.proofs.equality.are_same.Goals as goal
+use Rattle.tree_views.proofs.Walked.{ends_both}
+use Rattle.tree_views.proofs.equality.are_same.Goals as goal
 
 pub returns-in_default-next : goal.returns-in_default-next
 returns-in_default-next g c =

@@ -3,7 +3,7 @@ use Rattle.std.specs.List.{flat_map, fold}
 use Rattle.tree_chain.specs.declared.stand.Way.TheVariants.{On}
 use Rattle.tree_cursor_model.specs.Rest.{HasBegun, rest}
 use Rattle.tree_ranges.specs.Ranged.{moves_left}
-use Rattle.tree_index.proofs.hash.feed.Given as goal
+use Rattle.tree_views.proofs.hash.feed.Given as goal
 
 -- what is left leads from the hasher to where all would have led it
 abbrev pub invariant-loop-key : goal.invariant-loop-key

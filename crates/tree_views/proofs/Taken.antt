@@ -15,8 +15,8 @@ use Rattle.tree_cursor_model.specs.Cursor.{Cursor}
 use Rattle.tree_cursor_model.specs.Rest.{Moves, between, rest}
 use Rattle.tree_ranges.specs.Ranged.{IsOpen}
 use Rattle.tree_ranges.proofs.Yields.{takes_first}
-use Rattle.tree_index.specs.Keys.{GoesThroughAll}
-use Rattle.tree_index.proofs.Walked.{all_pass}
+use Rattle.tree_views.specs.Keys.{GoesThroughAll}
+use Rattle.tree_views.proofs.Walked.{all_pass}
 
 -- what is taken from either end leaves less
 module _ {A X : Type 0} (shows : A → X) (s t : List X) where

@@ -4,7 +4,7 @@ use Rattle.std.specs.Ordering.{partial_ordering_then}
 use Rattle.tree_chain.specs.declared.stand.Way.TheVariants.{On}
 use Rattle.tree_cursor_model.specs.Rest.{HasBegun, rest}
 use Rattle.tree_ranges.specs.Ranged.{moves_left}
-use Rattle.tree_index.proofs.order.order_of.Given as goal
+use Rattle.tree_views.proofs.order.order_of.Given as goal
 
 -- what is left has the order that all had
 abbrev pub invariant-loop-pair : goal.invariant-loop-pair

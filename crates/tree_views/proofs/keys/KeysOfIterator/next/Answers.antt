@@ -1,7 +1,7 @@
 use Rattle.std.specs.Map.Iter.{deref}
-use Rattle.tree_index.proofs.Taken.{first_progress, goes_on}
-use Rattle.tree_index.proofs.keys.KeysOfIterator.next.Goals.{in-Some, in-None}
-use Rattle.tree_index.proofs.keys.KeysOfIterator.next.Goals as goal
+use Rattle.tree_views.proofs.Taken.{first_progress, goes_on}
+use Rattle.tree_views.proofs.keys.KeysOfIterator.next.Goals.{in-Some, in-None}
+use Rattle.tree_views.proofs.keys.KeysOfIterator.next.Goals as goal
 
 pub invariant_of-self : goal.invariant_of-self
 invariant_of-self g c = (goes_on g.met.K.Ord.total (λ pair. pair.0) _ _ c.self.invariant _ c.next.ensures.steps).0

@@ -1,13 +1,12 @@
-//! The keys of an index, or its values, in the order of the keys.
-ghost use Rattle.std.specs.Prelude.{◌≡◌, length, map, ⊤};
+//! The keys of a tree, or its values, in the order of the keys.
+ghost use Rattle.std.specs.Prelude.{◌≡◌, length, ⊤};
 ghost use Rattle.std.specs.Iterator.{at_most};
 ghost use Rattle.std.specs.Map.Iter.{TakesFirst, TakesLast, deref};
+ghost use Rattle.tree_views.specs.Keys.{GoesThroughAll, keys_left, values_left};
 
-use crate::index::TreeIndexOf;
 use std::alloc::AllocError;
 use std::iter::FusedIterator;
 use std::marker::Model;
-use tree_array::array::IndexKey;
 use tree_chain::Walked;
 use tree_leaf::leaf::LeafOf;
 use tree_node::node::ArenasOf;
@@ -17,7 +16,7 @@ use tree_ranges::range::Ranged;
 /// The keys of an index in ascending order, from both ends.
 ///
 /// Contracts see the list of the keys that neither end has given yet. A move costs what that of
-/// [`iter`](TreeIndexOf::iter) does.
+/// the cursor over the pairs does.
 #[derive(Drop)]
 pub struct KeysOver<'t, K: Ord, V, A: Ranged<K, V, L>, L: Walked> {
     pairs: IterOver<'t, K, V, A, L>,
@@ -37,13 +36,24 @@ pub type Keys<'t, K, V> = KeysOf<'t, K, V, 15>;
 
 impl<'t, K: Ord, V, A: Ranged<K, V, L>, L: Walked> Model for KeysOver<'t, K, V, A, L> {
     ghost use Rattle.std.specs.Prelude.{List};
-    ghost use Rattle.tree_index.specs.Keys.{GoesThroughAll, keys_left};
+    ghost use Rattle.tree_views.specs.Keys.{GoesThroughAll, keys_left};
 
     ghost Value = { List K };
 
     ghost view = { λ a. keys_left K.cmp a.pairs };
 
     ghost invariant = { λ a. GoesThroughAll K.cmp a.pairs };
+}
+
+impl<'t, K: Ord, V, A: Ranged<K, V, L>, L: Walked> KeysOver<'t, K, V, A, L> {
+    /// Creates a walk over the keys of the pairs that a cursor has left. Runs in constant time. The caller must pass a
+    /// cursor whose ends stand within its list, as those of a new one do.
+    pub fn new(pairs: IterOver<'t, K, V, A, L>) -> Self
+        requires { GoesThroughAll K.cmp pairs }
+        ensures { result ≡ keys_left K.cmp pairs.entry }
+    {
+        KeysOver { pairs }
+    }
 }
 
 impl<'t, K: Ord + Drop + 't, V: Drop + 't, const LEN: usize> Iterator for KeysOf<'t, K, V, LEN> {
@@ -91,7 +101,7 @@ impl<'t, K: Ord, V, A: Ranged<K, V, L>, L: Walked> Clone for KeysOver<'t, K, V, 
 /// The values of an index in ascending order of their keys, from both ends.
 ///
 /// Contracts see the list of the values that neither end has given yet. A move costs what that of
-/// [`iter`](TreeIndexOf::iter) does.
+/// the cursor over the pairs does.
 #[derive(Drop)]
 pub struct ValuesOver<'t, K: Ord, V, A: Ranged<K, V, L>, L: Walked> {
     pairs: IterOver<'t, K, V, A, L>,
@@ -111,13 +121,24 @@ pub type Values<'t, K, V> = ValuesOf<'t, K, V, 15>;
 
 impl<'t, K: Ord, V, A: Ranged<K, V, L>, L: Walked> Model for ValuesOver<'t, K, V, A, L> {
     ghost use Rattle.std.specs.Prelude.{List};
-    ghost use Rattle.tree_index.specs.Keys.{GoesThroughAll, values_left};
+    ghost use Rattle.tree_views.specs.Keys.{GoesThroughAll, values_left};
 
     ghost Value = { List V };
 
     ghost view = { λ a. values_left K.cmp a.pairs };
 
     ghost invariant = { λ a. GoesThroughAll K.cmp a.pairs };
+}
+
+impl<'t, K: Ord, V, A: Ranged<K, V, L>, L: Walked> ValuesOver<'t, K, V, A, L> {
+    /// Creates a walk over the values of the pairs that a cursor has left. Runs in constant time. The caller must pass a
+    /// cursor whose ends stand within its list, as those of a new one do.
+    pub fn new(pairs: IterOver<'t, K, V, A, L>) -> Self
+        requires { GoesThroughAll K.cmp pairs }
+        ensures { result ≡ values_left K.cmp pairs.entry }
+    {
+        ValuesOver { pairs }
+    }
 }
 
 impl<'t, K: Ord + Drop + 't, V: Drop + 't, const LEN: usize> Iterator for ValuesOf<'t, K, V, LEN> {
@@ -159,36 +180,5 @@ impl<'t, K: Ord, V, A: Ranged<K, V, L>, L: Walked> Clone for ValuesOver<'t, K, V
         Ok(ValuesOver {
             pairs: self.pairs.clone()?,
         })
-    }
-}
-
-impl<K: IndexKey, V: Drop, const LEN: usize> TreeIndexOf<K, V, LEN> {
-    /// Returns the keys in ascending order, from both ends. Runs in constant time and allocates nothing.
-    ///
-    /// ```
-    /// pub fn first_article(stock: &TreeIndex<u64, u64>) -> Option<u64>
-    ///     ensures { result ≡ first_of (map (λ pair. pair.0) stock.now.pairs) }
-    /// {
-    ///     stock.keys().next().copied()
-    /// }
-    /// ```
-    pub fn keys(&self) -> KeysOf<'_, K, V, LEN>
-        ensures { result ≡ map (λ pair. pair.0) self.now.pairs }
-    {
-        KeysOver { pairs: self.iter() }
-    }
-
-    /// Returns the values in ascending order of their keys, from both ends. Runs in constant time and allocates nothing.
-    ///
-    /// ```
-    /// let mut pieces: u64 = 0;
-    /// for count in stock.values() {
-    ///     pieces = pieces.saturating_add(*count);
-    /// }
-    /// ```
-    pub fn values(&self) -> ValuesOf<'_, K, V, LEN>
-        ensures { result ≡ map (λ pair. pair.1) self.now.pairs }
-    {
-        ValuesOver { pairs: self.iter() }
     }
 }

@@ -1,7 +1,7 @@
 use Rattle.std.specs.Map.Iter.{deref}
-use Rattle.tree_index.proofs.Taken.{last_progress, goes_back}
-use Rattle.tree_index.proofs.keys.KeysOfDoubleEndedIterator.next_back.Goals.{in-Some, in-None}
-use Rattle.tree_index.proofs.keys.KeysOfDoubleEndedIterator.next_back.Goals as goal
+use Rattle.tree_views.proofs.Taken.{last_progress, goes_back}
+use Rattle.tree_views.proofs.keys.KeysOfDoubleEndedIterator.next_back.Goals.{in-Some, in-None}
+use Rattle.tree_views.proofs.keys.KeysOfDoubleEndedIterator.next_back.Goals as goal
 
 pub invariant_of-self : goal.invariant_of-self
 invariant_of-self g c = (goes_back g.met.K.Ord.total (λ pair. pair.0) _ _ c.self.invariant _ c.next_back.ensures.steps).0
