@@ -18,6 +18,7 @@ use tree_leaf::arena::NodeId;
 use tree_model::InsertError;
 use tree_node::node::ArenasOf;
 use tree_root::{Stored, Tree};
+use tree_views::listing::list_pairs;
 use tree_walk::spare::spare_at;
 
 /// An ordered index of pairs of a key and a value, with fifteen pairs a leaf. See [`TreeIndexOf`].
@@ -401,12 +402,7 @@ impl<K: IndexKey + fmt::Debug, V: Drop + fmt::Debug, const LEN: usize> fmt::Debu
     fn fmt<W: fmt::Write>(&self, f: &mut fmt::Formatter<W>) -> fmt::Result {
         let depth = self.depth();
         write!(f, "TreeIndex {{ depth: {depth}, entries: ")?;
-        let mut list = f.debug_list();
-        let mut pairs = self.iter();
-        while let Some(pair) = pairs.next() {
-            list.entry(&pair);
-        }
-        list.finish()?;
+        list_pairs(self.iter(), f)?;
         write!(f, " }}")
     }
 }
