@@ -2,6 +2,7 @@ pub mod Arrivals
 pub mod Dealt
 mod Emptied
 mod Kept
+mod Marked
 mod Moved
 mod Places
 mod Ranges
