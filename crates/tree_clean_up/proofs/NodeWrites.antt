@@ -5,20 +5,20 @@ use Rattle.slab.specs.Slab.{Slab, get, with_value}
 use Rattle.slab.proofs.SlabLemmas.{Updates-with_value}
 use Rattle.tree_array.specs.declared.answers.RemoveResult.{RemoveResult}
 use Rattle.tree_array.specs.Arrivals.{arrival, removed}
-use Rattle.tree_node.specs.declared.internal_node.InternalNodeOf.{InternalNodeOf}
-use Rattle.tree_node.specs.declared.leaf_node.LeafNodeOf.{LeafNodeOf}
+use Rattle.tree_node.specs.declared.branch.BranchOf.{BranchOf}
 use Rattle.tree_node.specs.declared.node.NodeOf.{NodeOf}
 use Rattle.tree_node.specs.declared.node.NodeOf.TheVariants.{Internal, Leaf}
-use Rattle.tree_clean_up.specs.CleanUps.{HasChildIn, MovesLast, TakesKeyed, TakesUnbounded}
+use Rattle.tree_clean_up.specs.CleanUps.{HasChildIn, TakesKeyed, TakesUnbounded}
+use Rattle.tree_node.specs.Changes.{MovesLast}
 use Rattle.tree_node.specs.Tree.{HasKind, keyed, unbounded}
 
 module _ {K : Type 0} {LEN : ℕ} where
   -- two nodes of a kind are so at the same levels
-  pub leaf_kind : (n m : LeafNodeOf K LEN) (level : ℕ) → HasKind level (Leaf n) → HasKind level (Leaf m)
+  pub leaf_kind : (n m : BranchOf K ℕ LEN) (level : ℕ) → HasKind level (Leaf n) → HasKind level (Leaf m)
   leaf_kind n m zero kind = tt
   leaf_kind n m (suc level) kind = kind
 
-  pub internal_kind : (n m : InternalNodeOf K LEN) (level : ℕ) → HasKind level (Internal n) → HasKind level (Internal m)
+  pub internal_kind : (n m : BranchOf K ℕ LEN) (level : ℕ) → HasKind level (Internal n) → HasKind level (Internal m)
   internal_kind n m zero kind = kind
   internal_kind n m (suc level) kind = tt
 

@@ -15,8 +15,7 @@ ghost use Rattle.tree_node.specs.Tree.{HasKind, children_of, keyed};
 
 use std::alloc::AllocError;
 use tree_leaf::arena::NodeId;
-use tree_node::internal_node::InternalNodeOf;
-use tree_node::leaf_node::LeafNodeOf;
+use tree_node::branch::{InternalNodeOf, LeafNodeOf};
 use tree_node::node::{ArenasOf, NodeOf};
 use tree_split::{cut_keyed, parting_place, put_keyed};
 

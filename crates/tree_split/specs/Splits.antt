@@ -83,23 +83,6 @@ module _ {K V : Type 0} {LEN : ℕ} (cmp : K → K → Ordering) where
   SplitResult true level old new parent target = SplitsChild level old new parent target
   SplitResult false level old new parent target = LacksRoom level old new parent target
 
--- A node has given its first keyed children to another one of its kind, with the next one as the unbounded child, whose separator is left over.
-pub record CutsNode {K : Type 0} {LEN : ℕ} (old : NodeOf K LEN) (place : ℕ) (new low : NodeOf K LEN) (separator : K) : Type 0 where
-  pub middle : ℕ
-  pub apart : slice_get (keyed old).entries place ≡ Some (separator, middle)
-  pub low_keyed : keyed low ≡ in_order (take place (keyed old).entries)
-  pub low_last : unbounded low ≡ Some middle
-  pub high_keyed : keyed new ≡ in_order (drop (place + 1) (keyed old).entries)
-  pub high_last : unbounded new ≡ unbounded old
-  pub low_kind : (level : ℕ) → HasKind level old → HasKind level low
-  pub high_kind : (level : ℕ) → HasKind level old → HasKind level new
-
--- a node has the same children, each of which arrived anew
-pub record RebuildsNode {K : Type 0} {LEN : ℕ} (old new : NodeOf K LEN) : Type 0 where
-  pub rebuilt : keyed new ≡ in_order (keyed old).entries
-  pub last : unbounded new ≡ unbounded old
-  pub kind : (level : ℕ) → HasKind level old → HasKind level new
-
 -- So many first entries make room for the key where they part from the others: some stay, or the key is larger than all.
 pub record IsCut {K V : Type 0} (cmp : K → K → Ordering) (key : K) (count : ℕ) (entries : List (K × V)) : Type 0 where
   pub some : 0 < count

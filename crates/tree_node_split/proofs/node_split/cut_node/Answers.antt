@@ -1,5 +1,5 @@
 use Rattle.std.proofs.Common.{rules, refl}
-use Rattle.tree_split.proofs.SameKinds.{inner_kind, outer_kind}
+use Rattle.tree_node.proofs.SameKinds.{inner_kind, outer_kind}
 use Rattle.tree_node_split.proofs.node_split.cut_node.Goals as goal
 
 pub cut_keyed-separator-requires : goal.cut_keyed-separator-requires
