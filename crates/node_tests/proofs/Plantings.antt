@@ -17,7 +17,7 @@ use Rattle.tree_cut.specs.Cuts.{CutsUnder}
 use Rattle.tree_insert.specs.Inserts.{InsertsPlainly}
 use Rattle.tree_insert.specs.Roots.{RaisesRoot, Replants}
 use Rattle.tree_split.specs.Splits.{LacksRoom, SplitResult, SplitsChild}
-use Rattle.tree_node.specs.declared.internal_node.InternalNodeOf.{InternalNodeOf}
+use Rattle.tree_node.specs.declared.branch.BranchOf.{BranchOf}
 use Rattle.tree_node.specs.declared.node.NodeOf.{NodeOf}
 use Rattle.tree_node.specs.declared.node.NodeOf.TheVariants.{Internal}
 use Rattle.tree_node.specs.Arenas.{TreeArenas}
@@ -97,13 +97,13 @@ module _ {K V : Type 0} {LEN : ℕ} (cmp : K → K → Ordering) (a b : TreeAren
   })
 
 -- an internal root, and its unbounded child
-last_inside : {K : Type 0} {LEN : ℕ} (nodes : Slab (NodeOf K LEN)) (id last : ℕ) (node : InternalNodeOf K LEN) → get nodes id ≡ Some (Internal node) → node.unbounded_child ≡ Some last → 0 < times last (children_of nodes id)
+last_inside : {K : Type 0} {LEN : ℕ} (nodes : Slab (NodeOf K LEN)) (id last : ℕ) (node : BranchOf K ℕ LEN) → get nodes id ≡ Some (Internal node) → node.unbounded_child ≡ Some last → 0 < times last (children_of nodes id)
 last_inside nodes id last node here is =
     let front = map (λ c. c.1) node.children.entries in
     rw (here, is) (omega (arith, times-append last front (last ∷ []), times-cons last last [], one_here last last refl))
 
 module _ {K V : Type 0} {LEN : ℕ} (cmp : K → K → Ordering) where
-  pub internal_part : (level : ℕ) (a : TreeArenas K V LEN) (id last : ℕ) (node : InternalNodeOf K LEN) → 0 < level → IsPlanted cmp level a id → get a.nodes id ≡ Some (Internal node) → node.unbounded_child ≡ Some last
+  pub internal_part : (level : ℕ) (a : TreeArenas K V LEN) (id last : ℕ) (node : BranchOf K ℕ LEN) → 0 < level → IsPlanted cmp level a id → get a.nodes id ≡ Some (Internal node) → node.unbounded_child ≡ Some last
       → ((1 < level) × IsPart cmp level a id) × (0 < times last (children_of a.nodes id))
   internal_part zero a id last node inner planted here is = absurd (omega (arith, inner))
   internal_part (suc zero) a id last node inner (inl part) here is = absurd (kind_of cmp a id 0 (Internal node) part.stands here)

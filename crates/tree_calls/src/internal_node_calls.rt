@@ -9,7 +9,7 @@ ghost use Rattle.tree_split.specs.Splits.{SplitResult};
 
 use std::alloc::AllocError;
 use tree_leaf::arena::NodeId;
-use tree_node::internal_node::InternalNodeOf;
+use tree_node::branch::InternalNodeOf;
 use tree_node::node::ArenasOf;
 use tree_node_split::split_child;
 

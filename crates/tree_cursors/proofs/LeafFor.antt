@@ -8,8 +8,7 @@ use Rattle.std.proofs.lemmas.List.Concat.{flat_map-append}
 use Rattle.slab.specs.Slab.{get}
 use Rattle.tree_model.proofs.Lists.{all-append}
 use Rattle.tree_leaf.specs.Entries.{entries_of, leaf_entries}
-use Rattle.tree_node.specs.declared.internal_node.InternalNodeOf.{InternalNodeOf}
-use Rattle.tree_node.specs.declared.leaf_node.LeafNodeOf.{LeafNodeOf}
+use Rattle.tree_node.specs.declared.branch.BranchOf.{BranchOf}
 use Rattle.tree_node.specs.declared.node.NodeOf.{NodeOf}
 use Rattle.tree_node.specs.declared.node.NodeOf.TheVariants.{Internal, Leaf}
 use Rattle.tree_node.specs.Arenas.{TreeArenas}
@@ -47,7 +46,7 @@ module _ {K V : Type 0} {LEN : ℕ} {cmp : K → K → Ordering} (o : IsTotalOrd
 
   module _ (id : ℕ) where
     -- under a node over leaves
-    pub in_leaf_node : (level : ℕ) → 0 < level → StandsOrRetired cmp level a id → (node : LeafNodeOf K LEN) → get a.nodes id ≡ Some (Leaf node)
+    pub in_leaf_node : (level : ℕ) → 0 < level → StandsOrRetired cmp level a id → (node : BranchOf K ℕ LEN) → get a.nodes id ≡ Some (Leaf node)
         → (child : ℕ) → child_of cmp k node.children.entries node.unbounded_child ≡ Some child → IsLeafFor cmp level a id k child
     in_leaf_node zero inner given node here child chosen = absurd (omega (arith, inner))
     in_leaf_node (suc zero) inner given node here child chosen =
@@ -58,7 +57,7 @@ module _ {K V : Type 0} {LEN : ℕ} {cmp : K → K → Ordering} (o : IsTotalOrd
         absurd (kind_of cmp a id (suc level) (Leaf node) (stands_over (suc level) a id given k child route) here)
 
     -- under a node over nodes
-    pub in_node : (level : ℕ) → 0 < level → StandsOrRetired cmp level a id → (node : InternalNodeOf K LEN) → get a.nodes id ≡ Some (Internal node)
+    pub in_node : (level : ℕ) → 0 < level → StandsOrRetired cmp level a id → (node : BranchOf K ℕ LEN) → get a.nodes id ≡ Some (Internal node)
         → (child : ℕ) → child_of cmp k node.children.entries node.unbounded_child ≡ Some child → (result : Option ℕ)
         → MatchOption result (Stands cmp (level - 1) a None child None → ⊥) (IsLeafFor cmp (level - 1) a child k) → MatchOption result (Stands cmp level a None id None → ⊥) (IsLeafFor cmp level a id k)
     in_node zero inner given node here child chosen result below = absurd (omega (arith, inner))

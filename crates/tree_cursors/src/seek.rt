@@ -11,7 +11,6 @@ use tree_chain::{LinkedIter, SlotWalk};
 use tree_leaf::arena::{LeafId, NodeId};
 use tree_leaf::leaf::LeafOf;
 use tree_node::node::{ArenasOf, NodeOf};
-use tree_node::routing::child_place_for;
 use tree_walk::ends::walk_from_end;
 
 /// Opens a walk on the first entry on its way whose key meets a bound, among the entries under a number of this
@@ -74,11 +73,11 @@ fn leaf_for<K: Ord + Drop, V: Drop, const LEN: usize>(
 {
     match arenas.node(id) {
         NodeOf::Leaf(node) => {
-            let place = child_place_for(&node.children, node.unbounded_child, key)?;
+            let place = node.child_place_for(key)?;
             Some(place.child)
         }
         NodeOf::Internal(node) => {
-            let place = child_place_for(&node.children, node.unbounded_child, key)?;
+            let place = node.child_place_for(key)?;
             leaf_for(arenas, level - 1, place.child, key)
         }
     }

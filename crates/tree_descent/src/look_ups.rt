@@ -9,7 +9,6 @@ ghost use Rattle.tree_descent.specs.Ways.{HoldsFor};
 use tree_array::array::Judge;
 use tree_leaf::arena::{LeafId, NodeId};
 use tree_node::node::{ArenasOf, NodeOf};
-use tree_node::routing::child_for;
 
 /// Returns the pair with the judge's key under a number, or `None` if the key is absent. Makes at most
 /// `4 * (level + 1)` comparisons with 15 slots, and `3 * (level + 1)` with 7.
@@ -57,11 +56,9 @@ fn leaf_by<K: Ord + Drop, V: Drop, J: Judge<K>, const LEN: usize>(
     let mut above = level;
     loop {
         match arenas.node(at) {
-            NodeOf::Leaf(node) => {
-                return child_for(&node.children, &node.unbounded_child, judge);
-            }
+            NodeOf::Leaf(node) => return node.child_for(judge),
             NodeOf::Internal(node) => {
-                at = child_for(&node.children, &node.unbounded_child, judge)?;
+                at = node.child_for(judge)?;
                 above -= 1;
             }
         }

@@ -13,7 +13,6 @@ use tree_descent::descent::{LeafPlace, leaf_for};
 use tree_leaf::arena::{LeafId, NodeId};
 use tree_leaf_split::make_room;
 use tree_node::node::{ArenasOf, NodeOf};
-use tree_node::routing::child_place_beyond;
 use tree_node_split::split_child;
 
 /// A pair for which the leaf that its key belongs to has no room.
@@ -169,12 +168,7 @@ fn insert_from<const UPSERT: bool, K: IndexKey, V: Drop, const LEN: usize>(
 {
     match arenas.node(id) {
         NodeOf::Leaf(node) => {
-            let Some(place) = child_place_beyond(
-                &node.children,
-                node.unbounded_child,
-                &key,
-                rightmost,
-            ) else {
+            let Some(place) = node.child_place_beyond(&key, rightmost) else {
                 return Ok(StoreResult::Full(key, val));
             };
             let leaf = place.child;
@@ -182,12 +176,7 @@ fn insert_from<const UPSERT: bool, K: IndexKey, V: Drop, const LEN: usize>(
             insert_under_leaf_node::<UPSERT, K, V, LEN>(arenas, id, leaf, last, key, val)
         }
         NodeOf::Internal(node) => {
-            let Some(place) = child_place_beyond(
-                &node.children,
-                node.unbounded_child,
-                &key,
-                rightmost,
-            ) else {
+            let Some(place) = node.child_place_beyond(&key, rightmost) else {
                 return Ok(StoreResult::Full(key, val));
             };
             let child = place.child;

@@ -5,8 +5,7 @@ use Rattle.std.specs.Cmp.{IsTotalOrder}
 use Rattle.slab.specs.Slab.{get}
 use Rattle.tree_leaf.specs.declared.leaf.LeafOf.{LeafOf}
 use Rattle.tree_model.specs.Pairs.{pair_at}
-use Rattle.tree_node.specs.declared.internal_node.InternalNodeOf.{InternalNodeOf}
-use Rattle.tree_node.specs.declared.leaf_node.LeafNodeOf.{LeafNodeOf}
+use Rattle.tree_node.specs.declared.branch.BranchOf.{BranchOf}
 use Rattle.tree_node.specs.declared.node.NodeOf.{NodeOf}
 use Rattle.tree_node.specs.declared.node.NodeOf.TheVariants.{Internal, Leaf}
 use Rattle.tree_node.specs.Arenas.{TreeArenas}
@@ -59,7 +58,7 @@ module _ {K V : Type 0} {LEN : ℕ} {cmp : K → K → Ordering} (o : IsTotalOrd
   routes : (node : NodeOf K LEN) → get a.nodes id ≡ Some node → child_of cmp k (keyed node).entries (unbounded node) ≡ Some child → HasChildFor cmp k (get a.nodes id) child
   routes node here chosen = rw here chosen
 
-  pub found_in_leaf : (level : ℕ) → 0 < level → StandsOrRetired cmp level a id → (node : LeafNodeOf K LEN) → get a.nodes id ≡ Some (Leaf node)
+  pub found_in_leaf : (level : ℕ) → 0 < level → StandsOrRetired cmp level a id → (node : BranchOf K ℕ LEN) → get a.nodes id ≡ Some (Leaf node)
       → child_of cmp k node.children.entries node.unbounded_child ≡ Some child → FoundInLeaf level
   found_in_leaf zero inner given node here chosen = absurd (omega (arith, inner))
   found_in_leaf (suc zero) inner given node here chosen =
@@ -67,7 +66,7 @@ module _ {K V : Type 0} {LEN : ℕ} {cmp : K → K → Ordering} (o : IsTotalOrd
   found_in_leaf (suc (suc level)) inner given node here chosen =
       absurd (kind_of cmp a id (suc level) (Leaf node) (stands_over (suc level) a id given k child (routes (Leaf node) here chosen)) here)
 
-  pub found_below : (level : ℕ) → 0 < level → StandsOrRetired cmp level a id → (node : InternalNodeOf K LEN) → get a.nodes id ≡ Some (Internal node)
+  pub found_below : (level : ℕ) → 0 < level → StandsOrRetired cmp level a id → (node : BranchOf K ℕ LEN) → get a.nodes id ≡ Some (Internal node)
       → child_of cmp k node.children.entries node.unbounded_child ≡ Some child → FoundBelow level
   found_below zero inner given node here chosen = absurd (omega (arith, inner))
   found_below (suc zero) inner given node here chosen =

@@ -19,6 +19,7 @@ pub mod NodeKinds
 pub mod Order
 pub mod Places
 pub mod Routes
+pub mod SameKinds
 pub mod Sizes
 pub mod Spares
 pub mod Standing

@@ -20,7 +20,8 @@ use Rattle.tree_node.specs.Arenas.{TreeArenas}
 use Rattle.tree_node.specs.Parts.{IsPart, PutsChild, Unchanged}
 use Rattle.tree_split.specs.Packed.{IsPacked}
 use Rattle.tree_split.proofs.Edges.{edge_of}
-use Rattle.tree_split.specs.Splits.{CutsNode, KeepsPacked, RebuildsNode, SharesChildren, SplitsChild}
+use Rattle.tree_node.specs.Changes.{CutsNode, RebuildsNode}
+use Rattle.tree_split.specs.Splits.{KeepsPacked, SharesChildren, SplitsChild}
 use Rattle.tree_node.specs.Shape.{room}
 use Rattle.tree_node.specs.Tree.{AreParted, HasKind, is_from, Stands, keyed, unbounded, children_of, leaves_of, nodes_of}
 use Rattle.tree_node.proofs.Children.{stands_free_low, stands_free_high}

@@ -24,7 +24,7 @@ use Rattle.tree_node.specs.Shape.{room, spare}
 use Rattle.tree_split.specs.Packed.{IsPacked}
 use Rattle.tree_split.proofs.Arrays.{limit_below, packed_boundary, packed_in_order}
 use Rattle.tree_split.proofs.Edges.{counts_same, full_length, same_packed}
-use Rattle.tree_split.specs.Splits.{CutsNode}
+use Rattle.tree_node.specs.Changes.{CutsNode}
 use Rattle.tree_node.specs.Tree.{AreParted, IsAbove, IsBelow, Stands, keyed, unbounded, walk, leaves_at, nodes_at, leaves_of, nodes_of, children_of}
 use Rattle.tree_node.proofs.Cuts.{all_front, all_behind, cut_whole}
 use Rattle.tree_node.proofs.Frames.{Agrees, each_part, parted_map, same_leaves, same_nodes, same_walk, same_stands}

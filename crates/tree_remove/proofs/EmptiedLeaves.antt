@@ -9,8 +9,7 @@ use Rattle.tree_clean_up.specs.CleanUps.{DropsChild, DropsKeyed, HasChildIn, Ret
 use Rattle.tree_leaf.specs.Chain.{IsChain}
 use Rattle.tree_leaf.proofs.Counts.{times-nil}
 use Rattle.tree_model.specs.Pairs.{pair_at}
-use Rattle.tree_node.specs.declared.internal_node.InternalNodeOf.{InternalNodeOf}
-use Rattle.tree_node.specs.declared.leaf_node.LeafNodeOf.{LeafNodeOf}
+use Rattle.tree_node.specs.declared.branch.BranchOf.{BranchOf}
 use Rattle.tree_node.specs.declared.node.NodeOf.{NodeOf}
 use Rattle.tree_node.specs.declared.node.NodeOf.TheVariants.{Internal, Leaf}
 use Rattle.tree_node.specs.Arenas.{TreeArenas}
@@ -65,7 +64,7 @@ module _ {K V : Type 0} {LEN : ℕ} {cmp : K → K → Ordering} (o : IsTotalOrd
           cc
 
   -- a leaf node, over the very leaf
-  module _ (node : LeafNodeOf K LEN) (here : get now.nodes id ≡ Some (Leaf node)) (child : ℕ) (slot : Option ℕ) (place : IsChildAt cmp key node.children node.unbounded_child child slot) where
+  module _ (node : BranchOf K ℕ LEN) (here : get now.nodes id ≡ Some (Leaf node)) (child : ℕ) (slot : Option ℕ) (place : IsChildAt cmp key node.children node.unbounded_child child slot) where
     abbrev over_leaf : UnderLeafNode o before id key child slot level
     over_leaf = under_leaf_node o before id key child slot level deep (inl e.way.0) node (node_before here) place
 
@@ -107,7 +106,7 @@ module _ {K V : Type 0} {LEN : ℕ} {cmp : K → K → Ordering} (o : IsTotalOrd
     stays_removes new result settles = rw over_leaf.level_is (removes_settled cmp surely key before now new id result leaf_stays settles)
 
   -- an internal node
-  module _ (node : InternalNodeOf K LEN) (here : get now.nodes id ≡ Some (Internal node)) (child : ℕ) (slot : Option ℕ) (place : IsChildAt cmp key node.children node.unbounded_child child slot) where
+  module _ (node : BranchOf K ℕ LEN) (here : get now.nodes id ≡ Some (Internal node)) (child : ℕ) (slot : Option ℕ) (place : IsChildAt cmp key node.children node.unbounded_child child slot) where
     abbrev over_node : UnderInternal o before id key child slot level
     over_node = under_internal o before id key child slot level deep (inl e.way.0) node (node_before here) place
 

@@ -22,7 +22,8 @@ use Rattle.tree_node.specs.Shape.{held, room, spare}
 use Rattle.tree_split.specs.Packed.{HasLast, IsPacked}
 use Rattle.tree_split.proofs.Arrays.{limit_below}
 use Rattle.tree_split.proofs.Edges.{edge_of, last_for, last_stands, one_last}
-use Rattle.tree_split.specs.Splits.{HasMadeRoom, KeepsPacked, RebuildsNode, SharesChildren, SplitsChild}
+use Rattle.tree_node.specs.Changes.{RebuildsNode}
+use Rattle.tree_split.specs.Splits.{HasMadeRoom, KeepsPacked, SharesChildren, SplitsChild}
 use Rattle.tree_node.specs.Tree.{HasChildFor, Stands, keyed, unbounded, walk, leaves_at, nodes_at, nodes_of, node_children, children_of}
 use Rattle.tree_node.proofs.Children.{walk-leaf}
 use Rattle.tree_node.proofs.Frames.{Agrees, each_part, parted_map, same_leaves, same_nodes, same_walk, same_stands}

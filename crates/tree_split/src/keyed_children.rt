@@ -1,8 +1,8 @@
-//! The keyed children of a node: one more is put among them, and an array of them is divided.
-ghost use Rattle.std.specs.Prelude.{◌≡◌, ◌+◌, ◌<◌, ◌≤◌, IfSome, MatchOption, Some, take, drop, length, slice_get};
-ghost use Rattle.tree_array.specs.Arrivals.{boundary, in_order, stored};
+//! The keyed children of a node: where an array of them divides, and one more is put among them.
+ghost use Rattle.std.specs.Prelude.{◌≡◌, ◌<◌, ◌≤◌, IfSome, MatchOption, length};
+ghost use Rattle.tree_array.specs.Arrivals.{boundary, stored};
 ghost use Rattle.tree_array.specs.Insertion.{HasRoom};
-ghost use Rattle.tree_array.specs.Length.{IsLen, limit};
+ghost use Rattle.tree_array.specs.Length.{limit};
 ghost use Rattle.tree_array.specs.Sound.{IsSound};
 ghost use Rattle.tree_model.specs.Pairs.{IsAbsent};
 
@@ -38,26 +38,4 @@ pub fn put_keyed<K: Ord + Drop, I: Drop, const LEN: usize>(
     ensures few { length children.new.entries ≤ LEN }
 {
     let _ = children.insert::<false>(separator, child);
-}
-
-/// Takes out the children up to this place: returns the separator of the one at the place, an array of those before it,
-/// and the child itself. The children of both arrays arrive anew, in ascending order. The caller must name the place of a
-/// child.
-pub fn cut_keyed<K: Ord + Drop, I: Drop, const LEN: usize>(
-    children: &mut ArrayOf<K, I, LEN>,
-    place: u8,
-) -> (K, ArrayOf<K, I, LEN>, I)
-    requires len { IsLen LEN }
-    requires within { place < length children.old.entries }
-    ensures low { result.1 ≡ in_order (take place children.old.entries) }
-    ensures apart { slice_get children.old.entries place ≡ Some (result.0, result.2) }
-    ensures high { children.new ≡ in_order (drop (place + 1) children.old.entries) }
-{
-    let mut low = ArrayOf::new();
-    let mut high = ArrayOf::new();
-    let Some((separator, middle)) = children.distribute_apart(place, &mut low, &mut high) else {
-        unreachable!()
-    };
-    *children = high;
-    (separator, low, middle)
 }
