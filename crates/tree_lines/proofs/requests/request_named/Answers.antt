@@ -1,7 +1,6 @@
-use Rattle.std.proofs.Common.{rules, ◌≡◌, arith, refl, ap, length, sym}
-use Rattle.std.specs.Prelude.{codes, slice_index_or}
+use Rattle.std.proofs.Common.{rules, ◌≡◌, arith, refl}
+use Rattle.std.specs.Prelude.{codes}
 use Rattle.std.proofs.lemmas.Slice.Eq.{text_from_reads}
-use Rattle.tree_lines.specs.Lines.{name_of}
 use Rattle.tree_lines.specs.Words.{BothBoundsFit, BothFit, FitsWord, one_number, two_bounds, two_numbers}
 use Rattle.tree_lines.specs.declared.requests.Request.TheVariants.{Insert, Upsert, Remove, RemoveIf, RemoveRange, Peek, Contains, Range, Locate}
 use Rattle.tree_lines.proofs.Names.{reads_made, unread_contains, unread_insert, unread_locate, unread_peek, unread_range, unread_remove, unread_remove_if, unread_remove_range, unread_upsert}
