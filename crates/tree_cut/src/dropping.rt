@@ -133,6 +133,7 @@ pub(crate) fn count_fits<K: Ord + Drop, V: Drop, const LEN: usize>(
     requires forest { IsForest K.cmp level arenas.now (id ∷ []) }
     ensures { length (walk level arenas.now id) < 2 ^ 127 }
 {
-    let _slots = arenas.node(id).slots_left();
-    let _leaves = arenas.leaf_count();
+    // The contracts of both say how many slots a leaf has, and how many leaves there are, at most.
+    let _ = arenas.node(id).slots_left();
+    let _ = arenas.leaf_count();
 }

@@ -31,6 +31,7 @@ pub fn locate<'t, K: Ord + Drop + 't, V: Drop + 't, const LEN: usize>(
     requires { IsTree K.cmp arenas.now root }
     ensures { result ≡ located K.cmp (walk_under arenas.now root) key.now }
 {
+    // A copy, since the borrow checker has an argument of this type passed on once.
     let top = root;
     let first = end_from(arenas, top, key);
     if stands_at(&first, key) {
@@ -51,6 +52,7 @@ fn past_all<'t, K: Ord + Drop + 't, V: Drop + 't, const LEN: usize>(
     requires { IsTree K.cmp arenas.now root }
     ensures { result ≡ located_past K.cmp (walk_under arenas.now root) }
 {
+    // A copy, since the borrow checker has an argument of this type passed on once.
     let top = root;
     let last = last_end(arenas, top);
     if has_pair(&last) {
@@ -70,6 +72,7 @@ fn beside<'t, K: Ord + Drop + 't, V: Drop + 't, const LEN: usize>(
     requires stands { EndStands arenas.now root end }
     ensures { result ≡ located_beside K.cmp (walk_under arenas.now root) (end_of arenas.now root end.entry) }
 {
+    // A copy, since the borrow checker has an argument of this type passed on once.
     let top = root;
     let before = end_before(arenas, top, &end);
     if has_pair(&before) {
