@@ -6,7 +6,7 @@ use Rattle.std.specs.declared.ops.Bound.{Bound}
 use Rattle.slab.specs.Slab.{get}
 use Rattle.tree_array.specs.declared.answers.RemoveResult.{RemoveResult}
 use Rattle.tree_array.specs.declared.answers.RemoveResult.TheVariants.{Success, Retired, Fail}
-use Rattle.tree_chain.specs.declared.stand.Way.{Way}
+use Rattle.tree_model.specs.declared.way.Way.{Way}
 use Rattle.tree_chain.specs.Walks.{LeafWalk}
 use Rattle.tree_node.specs.Arenas.{TreeArenas}
 use Rattle.tree_walk.specs.Ends.{BeginsPart, IsLinked}

@@ -12,7 +12,7 @@ ghost use Rattle.tree_array.specs.declared.answers.InsertResult.TheVariants.{Ful
 ghost use Rattle.tree_calls.specs.CleanUps.{NeedsCleanUp};
 ghost use Rattle.tree_cut.specs.Cuts.{CutsUnder};
 ghost use Rattle.tree_insert.specs.Inserts.{InsertsPlainly};
-ghost use Rattle.tree_chain.specs.declared.stand.Way.TheVariants.{On, Back};
+ghost use Rattle.tree_model.specs.declared.way.Way.TheVariants.{On, Back};
 ghost use Rattle.tree_model.specs.Pairs.{IsAbsent, pair_at};
 ghost use Rattle.tree_walk.specs.Ends.{BeginsPart, IsLinked};
 ghost use Rattle.tree_node.specs.Parts.{IsPart, Unchanged};

@@ -7,10 +7,11 @@ use Rattle.std.proofs.lemmas.List.{append-nil, drop_all, length-reverse, reverse
 use Rattle.std.proofs.lemmas.List.Concat.{flat_map-append}
 use Rattle.std.proofs.lemmas.Option.{slice_get-get_or}
 use Rattle.tree_array.specs.Walk.{place_ahead, places_behind}
-use Rattle.tree_chain.specs.declared.stand.Way.{Way}
-use Rattle.tree_chain.specs.declared.stand.Way.TheVariants.{On, Back}
+use Rattle.tree_model.specs.declared.way.Way.{Way}
+use Rattle.tree_model.specs.declared.way.Way.TheVariants.{On, Back}
 use Rattle.tree_chain.specs.Walks.{first_of, first_on}
-use Rattle.tree_chain.specs.Ways.{StepsOver, ahead, along, next_place, places_left}
+use Rattle.tree_chain.specs.Ways.{StepsOver, ahead, next_place, places_left}
+use Rattle.tree_model.specs.Ways.{along}
 
 -- the entry at a place begins what lies from there on, and ends what lies up to it
 begins : {X : Type 0} (xs : List X) (place : ℕ) (x : X) → slice_get xs place ≡ Some x → drop place xs ≡ x ∷ drop (place + 1) xs

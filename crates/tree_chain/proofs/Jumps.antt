@@ -7,11 +7,13 @@ use Rattle.std.specs.Borrow.{Bor}
 use Rattle.std.specs.List.{flat_map}
 use Rattle.slab.specs.Slab.{Slab}
 use Rattle.tree_leaf.specs.declared.leaf.LeafOf.{LeafOf}
-use Rattle.tree_chain.specs.declared.stand.Way.{Way}
-use Rattle.tree_chain.specs.declared.stand.Way.TheVariants.{On, Back}
+use Rattle.tree_model.specs.declared.way.Way.{Way}
+use Rattle.tree_model.specs.declared.way.Way.TheVariants.{On, Back}
 use Rattle.tree_leaf.specs.Entries.{leaf_entries, entries_of}
-use Rattle.tree_chain.specs.Walks.{LeafWalk, Steps, first_of, first_on, jumped, lent_entry, standing}
-use Rattle.tree_chain.specs.Ways.{along, beyond, landing, leaves_on, next_place}
+use Rattle.tree_chain.specs.Walks.{LeafWalk, Steps, first_of, first_on, jumped, standing}
+use Rattle.tree_model.specs.Rest.{lent_entry}
+use Rattle.tree_model.specs.Ways.{along}
+use Rattle.tree_chain.specs.Ways.{beyond, landing, leaves_on, next_place}
 use Rattle.tree_chain.proofs.Along.{all_ahead, all_left, along-flat_map, along-nil, along_empty, first_along, first_place, first_step, step_takes}
 
 pub not_none : {X : Type 0} (x : X) (xs : List X) → (length (x ∷ xs) == 0) ≡ false

@@ -6,13 +6,15 @@ use Rattle.std.proofs.lemmas.List.Concat.{flat_map-append}
 use Rattle.std.specs.Borrow.{Bor}
 use Rattle.slab.specs.Slab.{Slab, get}
 use Rattle.tree_leaf.specs.declared.leaf.LeafOf.{LeafOf}
-use Rattle.tree_chain.specs.declared.stand.Way.{Way}
-use Rattle.tree_chain.specs.declared.stand.Way.TheVariants.{On, Back}
+use Rattle.tree_model.specs.declared.way.Way.{Way}
+use Rattle.tree_model.specs.declared.way.Way.TheVariants.{On, Back}
 use Rattle.tree_leaf.specs.Chain.{IsChain}
 use Rattle.tree_leaf.specs.Entries.{leaf_entries, entries_of}
-use Rattle.tree_chain.specs.Walks.{LeafWalk, Steps, Jumps, first_of, here, jumped, lent_entry, standing}
+use Rattle.tree_chain.specs.Walks.{LeafWalk, Steps, Jumps, first_of, here, jumped, standing}
+use Rattle.tree_model.specs.Rest.{lent_entry}
 use Rattle.tree_chain.specs.Rest.{AreLeft, AreOnTheWay, HasTaken, Takes, TakesFirst, left_of, whole_way}
-use Rattle.tree_chain.specs.Ways.{ahead, along, beside, beyond, leaves_on, next_place}
+use Rattle.tree_chain.specs.Ways.{ahead, beside, beyond, leaves_on, next_place}
+use Rattle.tree_model.specs.Ways.{along}
 use Rattle.tree_chain.proofs.Along.{all_ahead, along-nil, first_along, first_step, length-along, none_ahead, step_takes}
 use Rattle.tree_leaf.proofs.Chains.{chain_used}
 use Rattle.tree_chain.proofs.Jumps.{met, met_beyond, not_none}

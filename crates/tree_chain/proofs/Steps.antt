@@ -8,9 +8,10 @@ use Rattle.slab.specs.Slab.{Slab}
 use Rattle.tree_array.specs.Arrivals.{arrival}
 use Rattle.tree_array.specs.Walk.{Walk, standing as array_standing}
 use Rattle.tree_leaf.specs.declared.leaf.LeafOf.{LeafOf}
-use Rattle.tree_chain.specs.declared.stand.Way.{Way}
+use Rattle.tree_model.specs.declared.way.Way.{Way}
 use Rattle.tree_leaf.specs.Entries.{leaf_entries}
-use Rattle.tree_chain.specs.Walks.{LeafWalk, IsStand, Steps, first_on, here, left_in_leaf, lent_entry, standing, stood_on}
+use Rattle.tree_chain.specs.Walks.{LeafWalk, IsStand, Steps, first_on, here, left_in_leaf, standing, stood_on}
+use Rattle.tree_model.specs.Rest.{lent_entry}
 use Rattle.tree_chain.specs.Ways.{StepsOver, next_place}
 use Rattle.tree_chain.proofs.Along.{all_left, fewer_left, first_place}
 

@@ -6,8 +6,8 @@ use Rattle.std.proofs.lemmas.List.{length-reverse}
 use Rattle.slab.specs.Slab.{Slab, get}
 use Rattle.tree_leaf.specs.declared.leaf.LeafOf.{LeafOf}
 use Rattle.tree_chain.specs.declared.stand.Beside.{Beside}
-use Rattle.tree_chain.specs.declared.stand.Way.{Way}
-use Rattle.tree_chain.specs.declared.stand.Way.TheVariants.{On, Back}
+use Rattle.tree_model.specs.declared.way.Way.{Way}
+use Rattle.tree_model.specs.declared.way.Way.TheVariants.{On, Back}
 use Rattle.tree_leaf.specs.Chain.{first_or, last_or, IsBetween, AreLinked, IsChain}
 use Rattle.tree_leaf.specs.Entries.{leaf_entries}
 use Rattle.tree_chain.specs.Ways.{leaves_on, beside, landing, seen, seen_at}

@@ -11,22 +11,23 @@ use Rattle.std.specs.declared.ops.Bound.{Bound}
 use Rattle.std.specs.declared.ops.Bound.TheVariants.{Unbounded}
 use Rattle.slab.specs.Slab.{Slab}
 use Rattle.tree_leaf.specs.declared.leaf.LeafOf.{LeafOf}
-use Rattle.tree_chain.specs.declared.stand.Way.{Way}
-use Rattle.tree_chain.specs.declared.stand.Way.TheVariants.{On, Back}
+use Rattle.tree_model.specs.declared.way.Way.{Way}
+use Rattle.tree_model.specs.declared.way.Way.TheVariants.{On, Back}
 use Rattle.tree_leaf.specs.Chain.{IsChain}
 use Rattle.tree_leaf.specs.Counting.{times}
 use Rattle.tree_leaf.specs.Entries.{entries_of, leaf_entries}
 use Rattle.tree_chain.specs.Rest.{left_of}
-use Rattle.tree_chain.specs.Walks.{LeafWalk, Steps, here, lent_entry, standing, stood_on}
-use Rattle.tree_chain.specs.Ways.{ahead, along, beyond, places_left}
+use Rattle.tree_chain.specs.Walks.{LeafWalk, Steps, here, standing, stood_on}
+use Rattle.tree_model.specs.Rest.{lent_entry, StandsInside}
+use Rattle.tree_chain.specs.Ways.{ahead, beyond, places_left}
+use Rattle.tree_model.specs.Ways.{along}
 use Rattle.tree_leaf.proofs.Chains.{counted}
 use Rattle.tree_leaf.proofs.Counts.{one_here, times-cons, uses_le_one}
 use Rattle.tree_node.specs.Arenas.{TreeArenas}
 use Rattle.tree_node.specs.Tree.{Stands as PartStands, StandsOrRetired, leaves_at, walk}
 use Rattle.tree_node.specs.Whole.{IsRetiredRoot, IsTree, leaves_under, walk_under}
-use Rattle.tree_cursor_model.specs.Cursor.{at_place, exhausted, meets, next_end, unopened}
-use Rattle.tree_cursor_model.specs.Rest.{StandsInside}
-use Rattle.tree_cursor_model.proofs.Places.{beside_is, beside_none, first_is, first_none}
+use Rattle.tree_model.specs.Cursor.{at_place, exhausted, meets, next_end, unopened}
+use Rattle.tree_cursors.proofs.Places.{beside_is, beside_none, first_is, first_none}
 use Rattle.tree_walk.specs.Ends.{IsLinked}
 use Rattle.tree_cursors.specs.Seek.{Advances, IsNearest, Seeks, path}
 use Rattle.tree_cursors.specs.declared.end.End.{End}

@@ -13,18 +13,20 @@ use Rattle.slab.specs.Slab.{Slab}
 use Rattle.tree_model.proofs.Lists.{all-append, all_map}
 use Rattle.tree_model.proofs.Order.{greater_from_less}
 use Rattle.tree_leaf.specs.declared.leaf.LeafOf.{LeafOf}
-use Rattle.tree_chain.specs.declared.stand.Way.{Way}
-use Rattle.tree_chain.specs.declared.stand.Way.TheVariants.{On, Back}
+use Rattle.tree_model.specs.declared.way.Way.{Way}
+use Rattle.tree_model.specs.declared.way.Way.TheVariants.{On, Back}
 use Rattle.tree_leaf.specs.Chain.{IsChain}
 use Rattle.tree_leaf.specs.Entries.{entries_of, leaf_entries}
 use Rattle.tree_chain.specs.Rest.{HasTaken, left_of}
-use Rattle.tree_chain.specs.Walks.{LeafWalk, lent_entry, standing}
-use Rattle.tree_chain.specs.Ways.{along, beyond}
+use Rattle.tree_chain.specs.Walks.{LeafWalk, standing}
+use Rattle.tree_model.specs.Rest.{lent_entry}
+use Rattle.tree_model.specs.Ways.{along}
+use Rattle.tree_chain.specs.Ways.{beyond}
 use Rattle.tree_chain.proofs.Along.{all_ahead, all_along}
 use Rattle.tree_node.specs.Arenas.{TreeArenas}
 use Rattle.tree_node.specs.Tree.{leaves_at, walk}
 use Rattle.tree_walk.specs.Ends.{BeginsPart, passed}
-use Rattle.tree_cursor_model.specs.Cursor.{meets}
+use Rattle.tree_model.specs.Cursor.{meets}
 use Rattle.tree_cursors.specs.Seek.{Advances, IsLeafFor, IsNearest, NoneMeets, Opens, path}
 
 -- the bound is at this key

@@ -5,8 +5,8 @@ ghost use Rattle.std.specs.Range.Bound.{bound_map};
 ghost use Rattle.std.specs.declared.ops.Bound.{Bound as AnyBound};
 ghost use Rattle.tree_chain.specs.Walks.{stood_on};
 ghost use Rattle.tree_node.specs.Whole.{IsTree, walk_under};
-ghost use Rattle.tree_cursor_model.specs.Cursor.{next_end, unopened};
-ghost use Rattle.tree_cursor_model.specs.Rest.{lent};
+ghost use Rattle.tree_model.specs.Cursor.{next_end, unopened};
+ghost use Rattle.tree_model.specs.Rest.{lent};
 ghost use Rattle.tree_cursors.specs.View.{EndStands, GoesOn, Stands, StepsInLeaf, end_of, pair_of};
 
 use crate::seek::{advance, seek_at};

@@ -9,11 +9,11 @@ use Rattle.std.specs.declared.cmp.Ordering.TheVariants.{Less, Equal, Greater}
 use Rattle.std.specs.declared.ops.Bound.TheVariants.{Unbounded}
 use Rattle.std.proofs.lemmas.Bool.Decides.{nat_tests}
 use Rattle.tree_chain.specs.Walks.{first_of, last_of}
-use Rattle.tree_chain.specs.declared.stand.Way.TheVariants.{On, Back}
-use Rattle.tree_cursor_model.specs.declared.proximity.ProximityOf.{ProximityOf}
-use Rattle.tree_cursor_model.specs.declared.proximity.ProximityOf.TheVariants.{Exact, Between, Smaller, Larger, Empty}
-use Rattle.tree_cursor_model.specs.Cursor.{Cursor, at_place, fresh, greatest_place, moved, option_where, shown, shown_apart, unopened, with_ends}
-use Rattle.tree_cursor_model.specs.Located.{located}
+use Rattle.tree_model.specs.declared.way.Way.TheVariants.{On, Back}
+use Rattle.tree_model.specs.declared.proximity.ProximityOf.{ProximityOf}
+use Rattle.tree_model.specs.declared.proximity.ProximityOf.TheVariants.{Exact, Between, Smaller, Larger, Empty}
+use Rattle.tree_model.specs.Cursor.{Cursor, at_place, fresh, greatest_place, moved, option_where, shown, shown_apart, unopened, with_ends}
+use Rattle.tree_model.specs.Located.{located}
 use Rattle.tree_index.specs.Nearest.{at_or_above, at_or_below}
 use Rattle.tree_model.specs.Pairs.{AllLarger, IsAscending, above, below, pair_at}
 use Rattle.tree_model.proofs.Lists.{all_map, filter_none}

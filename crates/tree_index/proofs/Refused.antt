@@ -19,9 +19,9 @@ use Rattle.tree_model.proofs.Ascending.{IsAscending-filter}
 use Rattle.tree_model.proofs.LookUps.{found_first, same_within}
 use Rattle.tree_model.proofs.Order.{greater_from_less}
 use Rattle.tree_node.proofs.Between.{found_between, without_between}
-use Rattle.tree_chain.specs.declared.stand.Way.TheVariants.{On}
-use Rattle.tree_cursor_model.specs.Cursor.{Cursor, fresh}
-use Rattle.tree_cursor_model.specs.Rest.{rest}
+use Rattle.tree_model.specs.declared.way.Way.TheVariants.{On}
+use Rattle.tree_model.specs.Cursor.{Cursor, fresh}
+use Rattle.tree_model.specs.Rest.{rest}
 use Rattle.tree_ranges.proofs.Yields.{rest_fresh}
 use Rattle.tree_views.proofs.Walked.{all_pass}
 use Rattle.tree_index.specs.Retained.{AnswersAt, Passes, Refuses, Retains, low_behind}

@@ -1,9 +1,9 @@
 //! Copies of an index.
 ghost use Rattle.std.specs.Prelude.{◌≡◌, [], IfOk};
 ghost use Rattle.std.specs.List.{AllZip};
-ghost use Rattle.tree_cursor_model.specs.Rest.{HasBegun, rest};
+ghost use Rattle.tree_model.specs.Rest.{HasBegun, rest};
 ghost use Rattle.tree_index.specs.Copies.{AllSmaller, Appends, IsPairClone};
-ghost use Rattle.tree_chain.specs.declared.stand.Way.TheVariants.{On};
+ghost use Rattle.tree_model.specs.declared.way.Way.TheVariants.{On};
 ghost use Rattle.tree_model.specs.Pairs.{IsAscending};
 
 use crate::index::TreeIndexOf;

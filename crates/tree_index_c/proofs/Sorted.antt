@@ -5,7 +5,7 @@ use Rattle.std.specs.Prelude.{find, is_some}
 use Rattle.std.proofs.Math.ListN.{get_or}
 use Rattle.std.proofs.Math.Seq.{drop-cons}
 use Rattle.std.proofs.lemmas.List.{map-append, take-append-drop}
-use Rattle.tree_cursor_model.specs.Rest.{lent}
+use Rattle.tree_model.specs.Rest.{lent}
 use Rattle.std.specs.Ordering.{is_eq, is_gt}
 use Rattle.std.specs.declared.cmp.Ordering.{Ordering}
 use Rattle.std.specs.declared.cmp.Ordering.TheVariants.{Less, Equal, Greater}

@@ -11,11 +11,11 @@ use Rattle.std.proofs.lemmas.Cmp.{nat_cmp_total, tied_back}
 use Rattle.tree_model.specs.Pairs.{AllLarger, IsAscending, above, below, pair_at}
 use Rattle.tree_model.proofs.Lists.{all_map, filter_all, filter_none, find_none}
 use Rattle.tree_model.proofs.Order.{alike, greater_from_less, less_from_greater}
-use Rattle.tree_chain.specs.declared.stand.Way.TheVariants.{On, Back}
-use Rattle.tree_cursor_model.specs.declared.proximity.ProximityOf.{ProximityOf}
-use Rattle.tree_cursor_model.specs.declared.proximity.ProximityOf.TheVariants.{Exact, Between, Smaller, Larger, Empty}
-use Rattle.tree_cursor_model.specs.Cursor.{Cursor, at_place, shown, unopened, with_ends}
-use Rattle.tree_cursor_model.specs.Located.{located, located_at}
+use Rattle.tree_model.specs.declared.way.Way.TheVariants.{On, Back}
+use Rattle.tree_model.specs.declared.proximity.ProximityOf.{ProximityOf}
+use Rattle.tree_model.specs.declared.proximity.ProximityOf.TheVariants.{Exact, Between, Smaller, Larger, Empty}
+use Rattle.tree_model.specs.Cursor.{Cursor, at_place, shown, unopened, with_ends}
+use Rattle.tree_model.specs.Located.{located, located_at}
 use Rattle.tree_lines.specs.Lines.{behind_spaces, beside_text, first_pair, last_pair, near_text, pair_text}
 use Rattle.tree_lines.specs.Pairs.{listed, told_text}
 

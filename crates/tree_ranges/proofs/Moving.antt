@@ -7,14 +7,14 @@ use Rattle.std.specs.Range.Bound.{bound_map}
 use Rattle.std.specs.declared.cmp.Ordering.{Ordering}
 use Rattle.std.specs.declared.ops.Bound.{Bound}
 use Rattle.std.proofs.lemmas.Option.{slice_get_within}
-use Rattle.tree_chain.specs.declared.stand.Way.{Way}
-use Rattle.tree_chain.specs.declared.stand.Way.TheVariants.{On, Back}
-use Rattle.tree_chain.specs.Walks.{LeafWalk, lent_entry}
-use Rattle.tree_chain.specs.Ways.{opposite}
+use Rattle.tree_model.specs.declared.way.Way.{Way}
+use Rattle.tree_model.specs.declared.way.Way.TheVariants.{On, Back}
+use Rattle.tree_chain.specs.Walks.{LeafWalk}
+use Rattle.tree_model.specs.Rest.{lent_entry, Moves, lent}
+use Rattle.tree_model.specs.Ways.{opposite}
 use Rattle.tree_node.specs.Arenas.{TreeArenas}
 use Rattle.tree_node.specs.Whole.{walk_under}
-use Rattle.tree_cursor_model.specs.Cursor.{Cursor, End, unopened, at_place, exhausted, are_apart, bound_on, element_at, end_at, end_on, first_place, meets, moved, next_end, option_where, place_beside, shown, shown_apart}
-use Rattle.tree_cursor_model.specs.Rest.{Moves, lent}
+use Rattle.tree_model.specs.Cursor.{Cursor, End, unopened, at_place, exhausted, are_apart, bound_on, element_at, end_at, end_on, first_place, meets, moved, next_end, option_where, place_beside, shown, shown_apart}
 use Rattle.tree_cursors.specs.declared.end.End.{End as TreeEnd}
 use Rattle.tree_cursors.specs.View.{Kept, end_of, seen}
 use Rattle.tree_cursors.proofs.Ends.{end_inside}

@@ -13,10 +13,10 @@ use Rattle.tree_model.specs.Pairs.{AllLarger, IsAscending, below, pair_at}
 use Rattle.tree_model.proofs.Lists.{all_map, filter_none}
 use Rattle.tree_model.proofs.LookUps.{none_larger}
 use Rattle.tree_model.proofs.Order.{greater_from_less}
-use Rattle.tree_chain.specs.declared.stand.Way.TheVariants.{On, Back}
-use Rattle.tree_cursor_model.specs.declared.proximity.ProximityOf.TheVariants.{Exact, Between, Smaller, Larger, Empty}
-use Rattle.tree_cursor_model.specs.Cursor.{End, unopened, element_at, end_at, greatest_place, least_place, meets, next_end, with_ends}
-use Rattle.tree_cursor_model.specs.Located.{located}
+use Rattle.tree_model.specs.declared.way.Way.TheVariants.{On, Back}
+use Rattle.tree_model.specs.declared.proximity.ProximityOf.TheVariants.{Exact, Between, Smaller, Larger, Empty}
+use Rattle.tree_model.specs.Cursor.{End, unopened, element_at, end_at, greatest_place, least_place, meets, next_end, with_ends}
+use Rattle.tree_model.specs.Located.{located}
 use Rattle.tree_ranges.specs.Beside.{is_at, located_beside, located_past}
 use Rattle.tree_ranges.proofs.Yields.{above_le}
 

@@ -7,7 +7,7 @@ use Rattle.std.proofs.lemmas.Grind.{reverse_onto}
 use Rattle.std.proofs.lemmas.List.{reverse-append}
 use Rattle.std.proofs.Math.Seq.{drop-nil}
 use Rattle.tree_model.proofs.Lists.{filter_none}
-use Rattle.tree_cursor_model.specs.Rest.{piece}
+use Rattle.tree_model.specs.Rest.{piece}
 
 module _ {X : Type 0} where
   pub piece_none : (xs : List X) (a b : ℕ) → b ≤ a → piece xs a b ≡ []

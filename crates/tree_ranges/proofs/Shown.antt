@@ -11,8 +11,8 @@ use Rattle.tree_node.specs.Tree.{Stands as PartStands, walk}
 use Rattle.tree_node.specs.Whole.{IsRetiredRoot, IsTop, IsTree, walk_under}
 use Rattle.tree_node.proofs.Ascents.{walk_ascends}
 use Rattle.tree_node.proofs.Standing.{no_children}
-use Rattle.tree_cursor_model.specs.Cursor.{are_apart, element_at, is_unopened}
-use Rattle.tree_cursor_model.proofs.Places.{places_compare}
+use Rattle.tree_model.specs.Cursor.{are_apart, element_at, is_unopened}
+use Rattle.tree_cursors.proofs.Places.{places_compare}
 use Rattle.tree_cursors.specs.declared.end.End.{End as TreeEnd}
 use Rattle.tree_cursors.specs.declared.end.End.TheVariants.{Unopened, At, Exhausted}
 use Rattle.tree_cursors.specs.View.{EndStands, Kept, end_of, pair_of}

@@ -11,10 +11,12 @@ use Rattle.std.proofs.lemmas.Bool.Decides.{nat_tests}
 use Rattle.std.proofs.lemmas.List.{reverse-reverse}
 use Rattle.std.proofs.lemmas.Option.{slice_get_within}
 use Rattle.tree_model.specs.Pairs.{IsAscending}
-use Rattle.tree_chain.specs.declared.stand.Way.{Way}
-use Rattle.tree_chain.specs.declared.stand.Way.TheVariants.{On, Back}
-use Rattle.tree_chain.specs.Walks.{LeafWalk, Steps, here, lent_entry}
-use Rattle.tree_chain.specs.Ways.{StepsOver, along, opposite}
+use Rattle.tree_model.specs.declared.way.Way.{Way}
+use Rattle.tree_model.specs.declared.way.Way.TheVariants.{On, Back}
+use Rattle.tree_chain.specs.Walks.{LeafWalk, Steps, here}
+use Rattle.tree_model.specs.Rest.{lent_entry, lent}
+use Rattle.tree_chain.specs.Ways.{StepsOver}
+use Rattle.tree_model.specs.Ways.{along, opposite}
 use Rattle.tree_node.specs.Arenas.{TreeArenas}
 use Rattle.slab.specs.Slab.{get}
 use Rattle.tree_node.specs.declared.node.NodeOf.{NodeOf}
@@ -22,8 +24,7 @@ use Rattle.tree_node.specs.Tree.{IsRetiredNode, StandsOrRetired, walk}
 use Rattle.tree_node.proofs.Ascents.{walk_ascends}
 use Rattle.tree_ranges.proofs.Nearest.{get_none}
 use Rattle.tree_walk.specs.Ends.{BeginsPart, IsLinked, first_on}
-use Rattle.tree_cursor_model.specs.Cursor.{meets}
-use Rattle.tree_cursor_model.specs.Rest.{lent}
+use Rattle.tree_model.specs.Cursor.{meets}
 use Rattle.tree_cursors.specs.Seek.{NoneMeets, Seeks}
 use Rattle.tree_ranges.specs.Approximate.{Approximates}
 use Rattle.tree_ranges.proofs.Pieces.{all_reverse, reverse_parts}

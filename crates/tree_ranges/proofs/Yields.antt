@@ -19,14 +19,13 @@ use Rattle.tree_model.specs.Pairs.{IsAscending, within}
 use Rattle.tree_model.proofs.Lists.{filter_none}
 use Rattle.tree_model.proofs.Order.{alike, alike_after}
 use Rattle.tree_model.proofs.Ascending.{less_from_test}
-use Rattle.tree_chain.specs.declared.stand.Way.{Way}
-use Rattle.tree_chain.specs.declared.stand.Way.TheVariants.{On, Back}
+use Rattle.tree_model.specs.declared.way.Way.{Way}
+use Rattle.tree_model.specs.declared.way.Way.TheVariants.{On, Back}
 use Rattle.tree_chain.specs.Rest.{TakesFirst}
-use Rattle.tree_chain.specs.Walks.{lent_entry}
-use Rattle.tree_chain.specs.Ways.{along, opposite}
-use Rattle.tree_cursor_model.specs.Cursor.{Cursor, End, unopened, at_place, exhausted, are_apart, element_at, end_at, greatest_place, least_place, meets, moved, next_end, option_where, place_beside}
-use Rattle.tree_cursor_model.specs.Rest.{HasBegun, Moves, between, StandsWhere, from_end, lent, piece, rest, until_end}
-use Rattle.tree_cursor_model.proofs.Places.{places_compare}
+use Rattle.tree_model.specs.Rest.{lent_entry, HasBegun, Moves, between, StandsWhere, from_end, lent, piece, rest, until_end}
+use Rattle.tree_model.specs.Ways.{along, opposite}
+use Rattle.tree_model.specs.Cursor.{Cursor, End, unopened, at_place, exhausted, are_apart, element_at, end_at, greatest_place, least_place, meets, moved, next_end, option_where, place_beside}
+use Rattle.tree_cursors.proofs.Places.{places_compare}
 use Rattle.tree_ranges.specs.Ranged.{IsFresh, pairs_within}
 use Rattle.tree_ranges.proofs.Pieces.{all_piece, all_reverse, filter_first, filter_over, piece_behind, piece_none, piece_parts, reverse_parts}
 

@@ -1,8 +1,8 @@
 //! What a cursor asks its two ends.
 ghost use Rattle.std.specs.Prelude.{◌≡◌, is_some};
 ghost use Rattle.std.specs.Range.Bound.{bound_map};
-ghost use Rattle.tree_cursor_model.specs.Cursor.{meets, option_where};
-ghost use Rattle.tree_cursor_model.specs.Rest.{lent};
+ghost use Rattle.tree_model.specs.Cursor.{meets, option_where};
+ghost use Rattle.tree_model.specs.Rest.{lent};
 ghost use Rattle.tree_cursors.specs.View.{pair_of};
 ghost use Rattle.tree_ranges.specs.Beside.{is_at};
 ghost use Rattle.tree_ranges.specs.Ranged.{TellsApart, is_new};

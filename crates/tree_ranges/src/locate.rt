@@ -1,10 +1,10 @@
 //! Where a key is among the pairs of a tree.
 ghost use Rattle.std.specs.Prelude.{◌≡◌};
 ghost use Rattle.std.specs.declared.ops.Bound.TheVariants.{Included, Unbounded};
-ghost use Rattle.tree_chain.specs.declared.stand.Way.TheVariants.{On, Back};
+ghost use Rattle.tree_model.specs.declared.way.Way.TheVariants.{On, Back};
 ghost use Rattle.tree_node.specs.Whole.{IsTree, walk_under};
-ghost use Rattle.tree_cursor_model.specs.Cursor.{next_end, unopened};
-ghost use Rattle.tree_cursor_model.specs.Located.{located};
+ghost use Rattle.tree_model.specs.Cursor.{next_end, unopened};
+ghost use Rattle.tree_model.specs.Located.{located};
 ghost use Rattle.tree_cursors.specs.View.{EndStands, end_of};
 ghost use Rattle.tree_ranges.specs.Beside.{located_beside, located_past};
 
@@ -12,7 +12,7 @@ use crate::ends::{again, has_pair, stands_at, turned};
 use crate::iter::{IterOf, IterOver};
 use std::ops::Bound;
 use tree_chain::{IterOf as WalkOf, RevIterOf as RevWalkOf};
-use tree_cursor_model::ProximityOf;
+use tree_model::ProximityOf;
 use tree_cursors::end::{End, step};
 use tree_leaf::arena::NodeId;
 use tree_node::node::ArenasOf;

@@ -17,10 +17,9 @@ use Rattle.tree_node.specs.Arenas.{TreeArenas}
 use Rattle.tree_node.specs.Routing.{IsChildAt}
 use Rattle.tree_clean_up.specs.CleanUps.{DropsChild, DropsKeyed, DropsUnbounded}
 use Rattle.tree_node.specs.Parts.{IsPart, KeepsBounds, Replaces}
-use Rattle.tree_node.specs.Tree.{IsOfLevel}
+use Rattle.tree_node.specs.Tree.{IsOfLevel, AreParted, HasChildFor, IsRetired, Stands, back_at, children_of, front_at, is_from, keyed, unbounded, walk}
 use Rattle.tree_remove.specs.Removes.{RemovesUnder, TakesOut}
 use Rattle.tree_node.specs.Shape.{spare}
-use Rattle.tree_node.specs.Tree.{AreParted, HasChildFor, IsRetired, Stands, back_at, children_of, front_at, is_from, keyed, unbounded, walk}
 use Rattle.tree_node.proofs.Between.{without_between}
 use Rattle.tree_node.proofs.ChildChanges.{leaves_once, was as children_were}
 use Rattle.tree_node.proofs.Frames.{parted_map, Agrees, same_stands}

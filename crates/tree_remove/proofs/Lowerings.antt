@@ -13,8 +13,7 @@ use Rattle.tree_node.specs.declared.node.NodeOf.TheVariants.{Internal, Leaf}
 use Rattle.tree_node.specs.Arenas.{TreeArenas}
 use Rattle.tree_remove.specs.Lowering.{IsRoot, LowersRoot}
 use Rattle.tree_node.specs.Parts.{IsPart, Replaces}
-use Rattle.tree_node.specs.Tree.{IsOfLevel}
-use Rattle.tree_node.specs.Tree.{IsRetired, Stands, children_of, leaves_at, nodes_at, unbounded, walk}
+use Rattle.tree_node.specs.Tree.{IsOfLevel, IsRetired, Stands, children_of, leaves_at, nodes_at, unbounded, walk}
 use Rattle.tree_node.proofs.Frames.{Agrees, same_leaves, same_nodes, same_stands}
 use Rattle.tree_node.proofs.Lifts.{single_nodes}
 use Rattle.tree_node.proofs.Standing.{no_children}

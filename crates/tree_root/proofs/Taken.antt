@@ -8,11 +8,10 @@ use Rattle.tree_model.specs.Pairs.{pair_at}
 use Rattle.tree_node.specs.Arenas.{TreeArenas}
 use Rattle.tree_remove.specs.Lowering.{LowersRoot}
 use Rattle.tree_node.specs.Parts.{IsPart}
-use Rattle.tree_node.specs.Tree.{IsOfLevel}
+use Rattle.tree_node.specs.Tree.{IsOfLevel, IsRetired, Stands, leaves_at, walk}
 use Rattle.tree_remove.specs.Removes.{RemovesUnder, TakesOut, removal_told}
 use Rattle.tree_remove.specs.Takes.{IsEntry, stored_at}
 use Rattle.tree_node.specs.Shape.{spare}
-use Rattle.tree_node.specs.Tree.{IsRetired, Stands, leaves_at, walk}
 use Rattle.tree_node.specs.Whole.{IsRetiredRoot, IsTree, spare_under, walk_under}
 use Rattle.tree_node.proofs.Steps.{part_after}
 use Rattle.tree_node.proofs.Whole.{chain_after, leaves_after, nodes_after, spare_standing, spare_unchanged, tree_after, tree_part, tree_unchanged, walk_unchanged}

@@ -8,14 +8,13 @@ use Rattle.std.specs.declared.cmp.Ordering.{Ordering}
 use Rattle.std.proofs.lemmas.Grind.{reverse_onto}
 use Rattle.std.proofs.lemmas.List.{map-append, reverse-reverse, take-append-drop}
 use Rattle.std.proofs.lemmas.List.Elements.{filter-append}
-use Rattle.tree_chain.specs.declared.stand.Way.TheVariants.{On, Back}
-use Rattle.tree_chain.specs.Walks.{lent_entry}
+use Rattle.tree_model.specs.declared.way.Way.TheVariants.{On, Back}
+use Rattle.tree_model.specs.Rest.{lent_entry, Moves, between, piece, rest}
 use Rattle.tree_model.specs.Pairs as pairs
 use Rattle.tree_model.specs.Pairs.{within}
 use Rattle.tree_model.proofs.Ascending.{IsAscending-filter}
 use Rattle.tree_node.proofs.Cuts.{ascending_behind, ascending_front}
-use Rattle.tree_cursor_model.specs.Cursor.{Cursor}
-use Rattle.tree_cursor_model.specs.Rest.{Moves, between, piece, rest}
+use Rattle.tree_model.specs.Cursor.{Cursor}
 use Rattle.tree_ranges.specs.Ranged.{IsFresh, pairs_within}
 use Rattle.tree_ranges.proofs.Yields.{fresh_begun, rest_fresh, takes_first}
 use Rattle.tree_set.specs.Elements.{HasBegunBoth, left_of}

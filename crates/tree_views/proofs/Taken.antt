@@ -8,11 +8,10 @@ use Rattle.std.specs.declared.cmp.Ordering.{Ordering}
 use Rattle.std.proofs.lemmas.Grind.{reverse_onto}
 use Rattle.std.proofs.lemmas.List.{length-append, map_push, reverse-reverse}
 use Rattle.tree_model.proofs.Lists.{filter_all}
-use Rattle.tree_chain.specs.declared.stand.Way.TheVariants.{On, Back}
+use Rattle.tree_model.specs.declared.way.Way.TheVariants.{On, Back}
 use Rattle.tree_chain.specs.Rest.{TakesFirst as TakesEntry}
-use Rattle.tree_chain.specs.Walks.{lent_entry}
-use Rattle.tree_cursor_model.specs.Cursor.{Cursor}
-use Rattle.tree_cursor_model.specs.Rest.{Moves, between, rest}
+use Rattle.tree_model.specs.Rest.{lent_entry, Moves, between, rest}
+use Rattle.tree_model.specs.Cursor.{Cursor}
 use Rattle.tree_ranges.specs.Ranged.{IsOpen}
 use Rattle.tree_ranges.proofs.Yields.{takes_first}
 use Rattle.tree_views.specs.Keys.{GoesThroughAll}

@@ -6,10 +6,10 @@ use Rattle.std.specs.List.{AllByRecursion}
 use Rattle.std.specs.declared.cmp.Ordering.{Ordering}
 use Rattle.std.specs.declared.ops.Bound.TheVariants.{Unbounded}
 use Rattle.tree_model.proofs.Lists.{filter_all}
-use Rattle.tree_chain.specs.declared.stand.Way.TheVariants.{On}
+use Rattle.tree_model.specs.declared.way.Way.TheVariants.{On}
 use Rattle.tree_chain.specs.Rest.{TakesFirst}
-use Rattle.tree_cursor_model.specs.Cursor.{fresh}
-use Rattle.tree_cursor_model.specs.Rest.{rest}
+use Rattle.tree_model.specs.Cursor.{fresh}
+use Rattle.tree_model.specs.Rest.{rest}
 use Rattle.tree_ranges.proofs.Yields.{rest_fresh}
 
 pub all_pass : {X : Type 0} (xs : List X) → AllByRecursion (λ x. true ≡ true) xs

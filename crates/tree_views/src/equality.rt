@@ -1,8 +1,8 @@
 //! Equality of the pairs that cursors have left.
 ghost use Rattle.std.specs.Prelude.{◌≡◌, ◌&&◌};
 ghost use Rattle.std.specs.Cmp.Lexicographic.{pointwise};
-ghost use Rattle.tree_cursor_model.specs.Rest.{HasBegun, rest};
-ghost use Rattle.tree_chain.specs.declared.stand.Way.TheVariants.{On};
+ghost use Rattle.tree_model.specs.Rest.{HasBegun, rest};
+ghost use Rattle.tree_model.specs.declared.way.Way.TheVariants.{On};
 
 use tree_model::IndexKey;
 use tree_ranges::iter::IterOf;

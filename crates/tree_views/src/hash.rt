@@ -1,8 +1,8 @@
 //! Hashes of the pairs that a cursor has left.
 ghost use Rattle.std.specs.Prelude.{◌≡◌, ◌++◌};
 ghost use Rattle.std.specs.List.{flat_map, fold};
-ghost use Rattle.tree_cursor_model.specs.Rest.{HasBegun, rest};
-ghost use Rattle.tree_chain.specs.declared.stand.Way.TheVariants.{On};
+ghost use Rattle.tree_model.specs.Rest.{HasBegun, rest};
+ghost use Rattle.tree_model.specs.declared.way.Way.TheVariants.{On};
 
 use std::hash::{Hash, Hasher};
 use tree_model::IndexKey;

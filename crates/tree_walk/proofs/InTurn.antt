@@ -5,9 +5,10 @@ use Rattle.std.specs.Iterator.{MakesProgress, item_count}
 use Rattle.std.proofs.lemmas.List.{append-nil, length-map, reverse-append, take_all}
 use Rattle.tree_array.specs.Arrivals.{Arrivals, arrival}
 use Rattle.tree_array.specs.Walk.{Walk, standing}
-use Rattle.tree_chain.specs.declared.stand.Way.{Way}
-use Rattle.tree_chain.specs.declared.stand.Way.TheVariants.{On, Back}
-use Rattle.tree_chain.specs.Ways.{StepsOver, along, next_place}
+use Rattle.tree_model.specs.declared.way.Way.{Way}
+use Rattle.tree_model.specs.declared.way.Way.TheVariants.{On, Back}
+use Rattle.tree_chain.specs.Ways.{StepsOver, next_place}
+use Rattle.tree_model.specs.Ways.{along}
 use Rattle.tree_chain.proofs.Along.{step_takes}
 use Rattle.tree_walk.specs.Children.{IsOverKeyed, all_children, is_back, keyed_children, to_come}
 use Rattle.tree_walk.proofs.ChildTurns.{child_at}

@@ -5,9 +5,9 @@ use Rattle.std.specs.declared.cmp.Ordering.{Ordering}
 use Rattle.slab.specs.Slab.{ContainsKey, get}
 use Rattle.std.proofs.lemmas.List.{reverse-reverse}
 use Rattle.tree_model.proofs.Lists.{all_map}
-use Rattle.tree_chain.specs.declared.stand.Way.{Way}
-use Rattle.tree_chain.specs.declared.stand.Way.TheVariants.{On, Back}
-use Rattle.tree_chain.specs.Ways.{along}
+use Rattle.tree_model.specs.declared.way.Way.{Way}
+use Rattle.tree_model.specs.declared.way.Way.TheVariants.{On, Back}
+use Rattle.tree_model.specs.Ways.{along}
 use Rattle.tree_chain.proofs.Along.{all_along}
 use Rattle.tree_node.specs.declared.branch.BranchOf.{BranchOf}
 use Rattle.tree_node.specs.declared.node.NodeOf.{NodeOf}

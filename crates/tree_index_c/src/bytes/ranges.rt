@@ -2,8 +2,8 @@
 ghost use Rattle.std.specs.Prelude.{◌≡◌, ◌⊎◌, IfOk, Some, reverse};
 ghost use Rattle.std.specs.Cmp.Lexicographic.{slice_cmp};
 ghost use Rattle.std.specs.Ordering.{nat_cmp};
-ghost use Rattle.tree_chain.specs.Ways.{along};
-ghost use Rattle.tree_cursor_model.specs.Rest.{Moves};
+ghost use Rattle.tree_model.specs.Ways.{along};
+ghost use Rattle.tree_model.specs.Rest.{Moves};
 ghost use Rattle.tree_index_c.specs.Entries.{FillsBytes, FillsOrRefuses, IfBounds};
 ghost use Rattle.tree_index_c.specs.Held.{OnBytes, held};
 ghost use Rattle.tree_index_c.specs.Pairs.{bound_at, pairs_between};

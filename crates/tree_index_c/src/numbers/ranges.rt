@@ -1,8 +1,8 @@
 //! Ranges of keys that are numbers.
 ghost use Rattle.std.specs.Prelude.{◌≡◌, Some, reverse};
 ghost use Rattle.std.specs.Ordering.{nat_cmp};
-ghost use Rattle.tree_chain.specs.Ways.{along};
-ghost use Rattle.tree_cursor_model.specs.Rest.{Moves};
+ghost use Rattle.tree_model.specs.Ways.{along};
+ghost use Rattle.tree_model.specs.Rest.{Moves};
 ghost use Rattle.tree_index_c.specs.Held.{OnNumbers, held, numbers_in};
 ghost use Rattle.tree_index_c.specs.Pairs.{Fills, as_pair, bound_at, pairs_between};
 ghost use Rattle.tree_model.specs.Pairs.{cut};

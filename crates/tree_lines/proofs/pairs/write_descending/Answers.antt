@@ -1,6 +1,6 @@
 use Rattle.std.specs.Ordering.{nat_cmp}
 use Rattle.std.proofs.lemmas.Result.{err_from_is_err_and}
-use Rattle.tree_chain.specs.declared.stand.Way.TheVariants.{Back}
+use Rattle.tree_model.specs.declared.way.Way.TheVariants.{Back}
 use Rattle.tree_ranges.proofs.Moving.{comes_nearer}
 use Rattle.tree_lines.proofs.Pieces.{line_ends, line_fails, line_goes_on, line_back_of_all}
 use Rattle.tree_node.proofs.Sizes.{fits}

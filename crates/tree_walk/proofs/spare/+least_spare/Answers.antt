@@ -1,6 +1,6 @@
 use Rattle.std.proofs.Common.{rules, sym, ap, ◌∙◌, ◌<◌, ◌-◌, length, arith}
 use Rattle.slab.specs.Slab.{ContainsKey}
-use Rattle.tree_chain.specs.declared.stand.Way.TheVariants.{On}
+use Rattle.tree_model.specs.declared.way.Way.TheVariants.{On}
 use Rattle.tree_node.specs.Shape.{leaf_spare, least}
 use Rattle.tree_node.specs.Tree.{StandsOrRetired}
 use Rattle.tree_node.proofs.Levels.{node_at}

@@ -1,14 +1,14 @@
 -- Moves of a cursor, one after another.
 use Rattle.std.specs.Prelude.{◌≡◌, Bool, List, [], ◌∷◌, Option, None}
 use Rattle.std.specs.declared.cmp.Ordering.{Ordering}
-use Rattle.tree_chain.specs.declared.stand.Way.{Way}
-use Rattle.tree_chain.specs.declared.stand.Way.TheVariants.{On, Back}
-use Rattle.tree_cursor_model.specs.declared.moves.Move.{Move}
-use Rattle.tree_cursor_model.specs.declared.moves.Move.TheVariants.{Next, NextBack, Get, GetBack, Flip}
-use Rattle.tree_cursor_model.specs.declared.moves.Answer.{Answer}
-use Rattle.tree_cursor_model.specs.declared.moves.Answer.TheVariants.{Pair, Flag}
-use Rattle.tree_cursor_model.specs.Cursor.{Cursor, can_flip, flipped, moved, shown, shown_apart}
-use Rattle.tree_cursor_model.specs.Rest.{lent}
+use Rattle.tree_model.specs.declared.way.Way.{Way}
+use Rattle.tree_model.specs.declared.way.Way.TheVariants.{On, Back}
+use Rattle.tree_model.specs.declared.moves.Move.{Move}
+use Rattle.tree_model.specs.declared.moves.Move.TheVariants.{Next, NextBack, Get, GetBack, Flip}
+use Rattle.tree_model.specs.declared.moves.Answer.{Answer}
+use Rattle.tree_model.specs.declared.moves.Answer.TheVariants.{Pair, Flag}
+use Rattle.tree_model.specs.Cursor.{Cursor, can_flip, flipped, moved, shown, shown_apart}
+use Rattle.tree_model.specs.Rest.{lent}
 
 -- what a move answers
 pub data Told (K V : Type 0) : Type 0 where

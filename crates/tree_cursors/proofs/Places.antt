@@ -11,11 +11,12 @@ use Rattle.std.proofs.lemmas.Grind.{reverse_onto}
 use Rattle.std.proofs.lemmas.List.{length-reverse, reverse-append, reverse-reverse}
 use Rattle.tree_model.specs.Pairs.{IsAscending}
 use Rattle.tree_model.proofs.Order.{greater_from_less}
-use Rattle.tree_chain.specs.declared.stand.Way.{Way}
-use Rattle.tree_chain.specs.declared.stand.Way.TheVariants.{On, Back}
-use Rattle.tree_chain.specs.Ways.{along, places_left}
+use Rattle.tree_model.specs.declared.way.Way.{Way}
+use Rattle.tree_model.specs.declared.way.Way.TheVariants.{On, Back}
+use Rattle.tree_model.specs.Ways.{along}
+use Rattle.tree_chain.specs.Ways.{places_left}
 use Rattle.tree_chain.proofs.Along.{all_reversed}
-use Rattle.tree_cursor_model.specs.Cursor.{first_place, greatest_place, least_place, place_beside}
+use Rattle.tree_model.specs.Cursor.{first_place, greatest_place, least_place, place_beside}
 
 module _ {X : Type 0} (test : X → Bool) where
   abbrev pub Fail : List X → Type 0

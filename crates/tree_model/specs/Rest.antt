@@ -4,11 +4,10 @@ use Rattle.std.specs.Borrow.{Bor}
 use Rattle.std.specs.Option.{option_map}
 use Rattle.std.specs.declared.cmp.Ordering.{Ordering}
 use Rattle.tree_model.specs.Pairs.{IsAscending, within}
-use Rattle.tree_chain.specs.declared.stand.Way.{Way}
-use Rattle.tree_chain.specs.declared.stand.Way.TheVariants.{On, Back}
-use Rattle.tree_chain.specs.Walks.{lent_entry}
-use Rattle.tree_chain.specs.Ways.{along}
-use Rattle.tree_cursor_model.specs.Cursor.{Cursor, End, unopened, at_place, exhausted, bound_on, end_on, meets, moved, shown_apart}
+use Rattle.tree_model.specs.declared.way.Way.{Way}
+use Rattle.tree_model.specs.declared.way.Way.TheVariants.{On, Back}
+use Rattle.tree_model.specs.Ways.{along}
+use Rattle.tree_model.specs.Cursor.{Cursor, End, unopened, at_place, exhausted, bound_on, end_on, meets, moved, shown_apart}
 
 -- the place behind a forward end, and the place of a backward end
 abbrev pub from_end : ℕ → End → ℕ
@@ -57,7 +56,11 @@ module _ {K V : Type 0} (cmp : K → K → Ordering) where
     pub forward : HasBegun On c
     pub backward : HasBegun Back c
 
--- the pair that is lent, if one is
+-- the entry that is lent
+abbrev pub lent_entry : {K V : Type 0} → Bor K × Bor V → K × V
+lent_entry entry = (entry.0.now, entry.1.now)
+
+-- the same, if one is
 abbrev pub lent : {K V : Type 0} → Option (Bor K × Bor V) → Option (K × V)
 lent item = option_map lent_entry item
 
