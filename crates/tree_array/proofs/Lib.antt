@@ -1,4 +1,5 @@
 pub mod Arrivals
+pub mod Common
 pub mod Dealt
 mod Emptied
 mod Kept

@@ -1,13 +1,10 @@
 -- The fields of an array, and its counts as a call returns them.
-use Rattle.std.proofs.Common.{◌≡◌, ℕ, ◌<◌, List, Option, true, sym, ◌∙◌, inl, inr, arith}
-use mathlib.Core.Bool.{false≢true}
-use Rattle.std.proofs.lemmas.Bool.{cases_lt}
-use Rattle.std.specs.declared.cmp.Ordering.{Ordering}
-use Rattle.tree_array.specs.Arrivals.{Arrivals}
-use Rattle.tree_array.specs.View.{seen}
+use Rattle.std.proofs.Common.{◌≡◌, ℕ, ◌<◌, List, Option, true, sym, ◌∙◌, inl, inr, arith, Ordering}
+use Rattle.tree_model.proofs.Common.{false≢true, cases_lt}
+use Rattle.tree_array.proofs.Common.{Arrivals, seen, IsTabled}
 use Rattle.tree_cells.specs.Cells.{Held}
 use Rattle.tree_cells.specs.declared.cells.Counts.{Counts}
-use Rattle.tree_cells.specs.Tabled.{IsMarked, IsTabled}
+use Rattle.tree_cells.specs.Tabled.{IsMarked}
 use Rattle.tree_order.specs.Order.{is_retired}
 use Rattle.tree_order.proofs.Live.{filled_live}
 

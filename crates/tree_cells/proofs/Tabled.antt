@@ -1,11 +1,7 @@
 -- What the order of an array keeps as pairs come and go.
-use Rattle.std.proofs.Common.{◌≡◌, ◌≢◌, ◌⊎◌, ℕ, zero, suc, ◌+◌, ◌-◌, ◌<◌, ◌≤◌, List, length, set, replicate, Option, None, Some, IsSome, refl, sym, ◌∙◌, ap, subst, inl, inr, false, arith}
-use Rattle.std.specs.declared.cmp.Ordering.{Ordering}
-use Rattle.std.specs.declared.cmp.Ordering.TheVariants.{Less, Equal, Greater}
-use Rattle.std.specs.Cmp.{IsTotalOrder}
-use Rattle.std.proofs.lemmas.Bool.{cases_lt, cases_eq, cases_order}
-use Rattle.std.proofs.lemmas.Cmp.{alike_right, tied_itself}
-use Rattle.std.proofs.lemmas.List.{length-set, get_or-set_same, get_or-set_other, get_or_past, length-replicate}
+use Rattle.std.proofs.Common.{◌≡◌, ◌≢◌, ◌⊎◌, ℕ, zero, suc, ◌+◌, ◌-◌, ◌<◌, ◌≤◌, List, length, set, replicate, Option, None, Some, IsSome, refl, sym, ◌∙◌, ap, subst, inl, inr, false, arith, Ordering, Less, Equal, Greater, length-set, get_or-set_same, get_or-set_other}
+use Rattle.tree_model.proofs.Common.{IsTotalOrder, cases_lt, cases_eq, cases_order, alike_right, tied_itself, get_or_past}
+use Rattle.std.proofs.lemmas.List.{length-replicate}
 use Rattle.std.proofs.lemmas.Option.{none-some, same_Some}
 use Rattle.tree_cells.specs.Arrivals.{arrival}
 use Rattle.tree_cells.specs.Tabled.{IsSetAt, IsInOrder, IsTabled}

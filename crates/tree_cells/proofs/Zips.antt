@@ -1,8 +1,7 @@
 -- Keys and values that stand apart, as pairs.
-use Rattle.std.proofs.Common.{◌≡◌, ℕ, zero, suc, List, [], ◌∷◌, length, set, replicate, get_or, Option, None, Some, IsSome, is_some, refl, sym, ◌∙◌, ap, subst, inl, inr, arith}
-use mathlib.Core.Bool.{false≢true}
-use Rattle.std.proofs.lemmas.Bool.{cases_eq, cases_lt}
-use Rattle.std.proofs.lemmas.List.{get_or-set_same, get_or-set_other, get_or_past, length-set, length-replicate}
+use Rattle.std.proofs.Common.{◌≡◌, ℕ, zero, suc, List, [], ◌∷◌, length, set, replicate, get_or, Option, None, Some, IsSome, is_some, refl, sym, ◌∙◌, ap, subst, inl, inr, arith, get_or-set_same, get_or-set_other, length-set}
+use Rattle.tree_model.proofs.Common.{false≢true, cases_eq, cases_lt, get_or_past}
+use Rattle.std.proofs.lemmas.List.{length-replicate}
 use Rattle.tree_cells.specs.Arrivals.{arrival}
 use Rattle.tree_cells.proofs.Picks.{some_of}
 use Rattle.tree_cells.specs.Cells.{pair_up, zipped, AreFilledAlike, Held}

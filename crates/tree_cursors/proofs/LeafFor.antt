@@ -1,18 +1,8 @@
 -- The leaf that a key belongs to, found from node to node.
-use Rattle.std.proofs.Common.{◌≡◌, ℕ, zero, suc, ◌-◌, ◌<◌, List, [], ◌∷◌, ◌++◌, Option, Some, None, MatchOption, inl, inr, refl, sym, ap, ◌∙◌, append_assoc, arith, sub-one}
-use Rattle.std.specs.List.{flat_map}
-use Rattle.std.specs.declared.cmp.Ordering.{Ordering}
-use Rattle.std.specs.declared.cmp.Ordering.TheVariants.{Less}
-use Rattle.std.specs.Cmp.{IsTotalOrder}
-use Rattle.std.proofs.lemmas.List.Concat.{flat_map-append}
-use Rattle.slab.specs.Slab.{get}
-use Rattle.tree_model.proofs.Lists.{all-append}
-use Rattle.tree_leaf.specs.Entries.{entries_of, leaf_entries}
-use Rattle.tree_node.specs.declared.branch.BranchOf.{BranchOf}
-use Rattle.tree_node.specs.declared.node.NodeOf.{NodeOf}
-use Rattle.tree_node.specs.declared.node.NodeOf.TheVariants.{Internal, Leaf}
-use Rattle.tree_node.specs.Arenas.{TreeArenas}
-use Rattle.tree_node.specs.Tree.{HasChildFor, IsRetiredNode, Stands, StandsOrRetired, back_at, child_of, children_of, front_at, is_from, keyed, leaves_at, unbounded, walk}
+use Rattle.std.proofs.Common.{◌≡◌, ℕ, zero, suc, ◌-◌, ◌<◌, List, [], ◌∷◌, ◌++◌, Option, Some, None, MatchOption, inl, inr, refl, sym, ap, ◌∙◌, append_assoc, arith, sub-one, flat_map, Ordering, Less}
+use Rattle.tree_model.proofs.Common.{IsTotalOrder, flat_map-append}
+use Rattle.tree_array.proofs.Common.{all-append}
+use Rattle.tree_node.proofs.Common.{get, entries_of, leaf_entries, BranchOf, NodeOf, Internal, Leaf, TreeArenas, HasChildFor, IsRetiredNode, Stands, StandsOrRetired, back_at, child_of, children_of, front_at, is_from, keyed, leaves_at, unbounded, walk}
 use Rattle.tree_node.proofs.Children.{child_stands, stands_over}
 use Rattle.tree_node.proofs.Levels.{kind_of}
 use Rattle.tree_node.proofs.Lists.{flat_map-flat_map}

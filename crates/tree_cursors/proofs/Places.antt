@@ -1,22 +1,11 @@
 -- The first place on a way whose element passes, and the place beside one, told by how many places are left behind it.
-use Rattle.std.proofs.Common.{◌≡◌, ℕ, suc, zero, ◌+◌, ◌<◌, ltb, Bool, true, false, List, [], ◌∷◌, ◌++◌, length, reverse, slice_get, Some, None, refl, sym, ap, ◌∙◌, arith, length-append, append_assoc}
-use Rattle.std.specs.List.{AllByRecursion}
-use Rattle.std.specs.Cmp.{IsTotalOrder}
-use Rattle.std.specs.Ordering.{is_lt}
-use Rattle.std.specs.declared.cmp.Ordering.{Ordering}
-use Rattle.std.specs.declared.cmp.Ordering.TheVariants.{Less, Greater}
-use Rattle.std.proofs.lemmas.Bool.Decides.{nat_tests}
-use Rattle.std.proofs.lemmas.Cmp.{tied_itself}
-use Rattle.std.proofs.lemmas.Grind.{reverse_onto}
-use Rattle.std.proofs.lemmas.List.{length-reverse, reverse-append, reverse-reverse}
-use Rattle.tree_model.specs.Pairs.{IsAscending}
-use Rattle.tree_model.proofs.Order.{greater_from_less}
-use Rattle.tree_model.specs.declared.way.Way.{Way}
-use Rattle.tree_model.specs.declared.way.Way.TheVariants.{On, Back}
-use Rattle.tree_model.specs.Ways.{along}
+use Rattle.std.proofs.Common.{◌≡◌, ℕ, suc, zero, ◌+◌, ◌<◌, ltb, Bool, true, false, List, [], ◌∷◌, ◌++◌, length, reverse, slice_get, Some, None, refl, sym, ap, ◌∙◌, arith, length-append, append_assoc, is_lt, Ordering, Less, Greater}
+use Rattle.tree_model.proofs.Common.{AllByRecursion, IsTotalOrder, nat_tests, tied_itself, reverse_onto, reverse-append, reverse-reverse, IsAscending, Way, On, Back, along, greatest_place}
+use Rattle.tree_array.proofs.Common.{greater_from_less}
+use Rattle.std.proofs.lemmas.List.{length-reverse}
 use Rattle.tree_chain.specs.Ways.{places_left}
 use Rattle.tree_chain.proofs.Along.{all_reversed}
-use Rattle.tree_model.specs.Cursor.{first_place, greatest_place, least_place, place_beside}
+use Rattle.tree_model.specs.Cursor.{first_place, least_place, place_beside}
 
 module _ {X : Type 0} (test : X → Bool) where
   abbrev pub Fail : List X → Type 0

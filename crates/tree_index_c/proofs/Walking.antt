@@ -1,13 +1,7 @@
 -- A cursor that fills places.
-use Rattle.std.proofs.Common.{◌≡◌, ℕ, ◌+◌, ◌<◌, ◌≤◌, List, ◌∷◌, length, Some, None, Bor, refl, sym, ap, ◌∙◌, subst}
-use Rattle.std.specs.Cmp.{IsTotalOrder}
-use Rattle.std.specs.declared.cmp.Ordering.{Ordering}
-use Rattle.std.specs.declared.ops.Bound.{Bound}
+use Rattle.std.proofs.Common.{◌≡◌, ℕ, ◌+◌, ◌<◌, ◌≤◌, List, ◌∷◌, length, Some, None, Bor, refl, sym, ap, ◌∙◌, subst, Ordering}
+use Rattle.tree_model.proofs.Common.{IsTotalOrder, Bound, Way, lent_entry, HasBegun, Moves, rest, along, Cursor, fresh}
 use Rattle.std.proofs.Math.ListN.{set}
-use Rattle.tree_model.specs.declared.way.Way.{Way}
-use Rattle.tree_model.specs.Rest.{lent_entry, HasBegun, Moves, rest}
-use Rattle.tree_model.specs.Ways.{along}
-use Rattle.tree_model.specs.Cursor.{Cursor, fresh}
 use Rattle.tree_ranges.specs.Ranged.{IsFresh, pairs_within}
 use Rattle.tree_ranges.proofs.Yields.{fresh_begun, rest_fresh, takes_first}
 use Rattle.tree_index_c.specs.Pairs.{Fills}

@@ -1,23 +1,11 @@
 -- A root that comes under a new one, in which it is split.
-use Rattle.std.proofs.Common.{◌≡◌, ℕ, zero, suc, ◌+◌, ◌-◌, ◌<◌, ◌==◌, cond, [], ◌∷◌, Option, Some, None, is_some, refl, sym, ap, ◌∙◌, arith, add-one, sub-one, inl, inr}
-use Rattle.std.specs.declared.cmp.Ordering.{Ordering}
-use Rattle.std.proofs.lemmas.Bool.{cases_eq}
-use Rattle.std.proofs.lemmas.List.{append-nil}
-use Rattle.slab.specs.Slab.{get}
-use Rattle.tree_array.specs.Arrivals.{in_order}
-use Rattle.tree_array.specs.Length.{IsLen}
+use Rattle.std.proofs.Common.{◌≡◌, ℕ, zero, suc, ◌+◌, ◌-◌, ◌<◌, ◌==◌, cond, [], ◌∷◌, Option, Some, None, is_some, refl, sym, ap, ◌∙◌, arith, add-one, sub-one, inl, inr, Ordering, append-nil}
+use Rattle.tree_model.proofs.Common.{cases_eq}
+use Rattle.tree_array.proofs.Common.{in_order, IsLen}
+use Rattle.tree_node.proofs.Common.{get, times, uses, same_array_refl, times-cons, one_here, none_here, uses_some, uses_none, uses_same, BranchOf, Internal, TreeArenas, IsPart, Unchanged, room, Stands, walk, leaves_at, nodes_at, children_of}
 use Rattle.tree_leaf.specs.Arena.{Gains, KeepsBoth}
-use Rattle.tree_leaf.specs.Counting.{times, uses}
-use Rattle.tree_leaf.proofs.Chains.{same_array_refl}
-use Rattle.tree_leaf.proofs.Counts.{times-cons, one_here, none_here, uses_some, uses_none, uses_same}
-use Rattle.tree_node.specs.declared.branch.BranchOf.{BranchOf}
-use Rattle.tree_node.specs.declared.node.NodeOf.TheVariants.{Internal}
-use Rattle.tree_node.specs.Arenas.{TreeArenas}
-use Rattle.tree_node.specs.Parts.{IsPart, Unchanged}
-use Rattle.tree_node.specs.Shape.{room}
 use Rattle.tree_insert.specs.Roots.{RaisesRoot}
 use Rattle.tree_split.specs.Splits.{SplitsChild}
-use Rattle.tree_node.specs.Tree.{Stands, walk, leaves_at, nodes_at, children_of}
 use Rattle.tree_split.specs.Packed.{IsPacked}
 use Rattle.tree_split.proofs.Edges.{same_packed}
 use Rattle.tree_node.proofs.Frames.{Agrees, agrees_here, head_here, same_leaves, same_nodes, same_walk, same_stands}

@@ -1,11 +1,6 @@
 -- The spelling of requests.
-use Rattle.std.proofs.Common.{◌≡◌, ℕ, ◌*◌, ◌^◌, ◌<◌, ◌≤◌, List, [], ◌∷◌, ◌++◌, length, Option, Some, None, refl, sym, ap, ◌∙◌, length-append, rules, arith}
-use Rattle.std.specs.Prelude.{nat_le, Bool, true, false}
-use Rattle.std.specs.Fmt.{decimal}
-use Rattle.std.specs.List.{AllByRecursion}
-use Rattle.std.specs.declared.ops.Bound.{Bound}
-use Rattle.std.specs.declared.ops.Bound.TheVariants.{Included, Excluded, Unbounded}
-use Rattle.std.proofs.lemmas.Bool.Decides.{nat_tests}
+use Rattle.std.proofs.Common.{◌≡◌, ℕ, ◌*◌, ◌^◌, ◌<◌, ◌≤◌, List, [], ◌∷◌, ◌++◌, length, Option, Some, None, refl, sym, ap, ◌∙◌, length-append, rules, arith, nat_le, Bool, true, false, decimal}
+use Rattle.tree_model.proofs.Common.{AllByRecursion, Bound, Included, Excluded, Unbounded, nat_tests}
 use Rattle.tree_lines.specs.declared.requests.Request.{Request}
 use Rattle.tree_lines.specs.declared.requests.Request.TheVariants.{Insert, Upsert, Remove, RemoveIf, RemoveRange, Peek, Contains, Range, Locate}
 use Rattle.tree_lines.specs.Lines.{Fits, FitsBound, name_of, arguments_of, behind_spaces, bound_text, spelling}

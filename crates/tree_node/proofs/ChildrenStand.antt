@@ -1,14 +1,8 @@
 -- All children of a node stand, one level below it.
-use Rattle.std.proofs.Common.{◌≡◌, ℕ, zero, suc, ◌-◌, ◌<◌, List, [], ◌∷◌, ◌++◌, map, Option, Some, None, IsSome, inl, inr, refl, sym, subst, ◌∙◌, arith, sub-one}
-use Rattle.std.specs.List.{AllByRecursion}
-use Rattle.std.specs.declared.cmp.Ordering.{Ordering}
-use Rattle.slab.specs.Slab.{get}
-use Rattle.tree_model.proofs.Lists.{all_map}
-use Rattle.tree_node.specs.declared.branch.BranchOf.{BranchOf}
-use Rattle.tree_node.specs.declared.node.NodeOf.{NodeOf}
-use Rattle.tree_node.specs.declared.node.NodeOf.TheVariants.{Internal, Leaf}
-use Rattle.tree_node.specs.Arenas.{TreeArenas}
-use Rattle.tree_node.specs.Tree.{AreParted, in_turn, keyed, unbounded, IsRetiredNode, Stands, StandsOrRetired, leaves_at, leaves_of}
+use Rattle.std.proofs.Common.{◌≡◌, ℕ, zero, suc, ◌-◌, ◌<◌, List, [], ◌∷◌, ◌++◌, map, Option, Some, None, IsSome, inl, inr, refl, sym, subst, ◌∙◌, arith, sub-one, Ordering}
+use Rattle.tree_model.proofs.Common.{AllByRecursion}
+use Rattle.tree_array.proofs.Common.{all_map}
+use Rattle.tree_node.proofs.Common.{get, BranchOf, NodeOf, Internal, Leaf, TreeArenas, AreParted, in_turn, keyed, unbounded, IsRetiredNode, Stands, StandsOrRetired, leaves_at, leaves_of}
 use Rattle.tree_node.proofs.Children.{leaf_there, stands_free_high, stands_free_low}
 use Rattle.tree_node.proofs.Levels.{kind_of}
 

@@ -1,15 +1,7 @@
 -- What the kind of a node says of its level, and where a key is found under a node of either kind.
-use Rattle.std.proofs.Common.{◌≡◌, ℕ, zero, suc, ◌-◌, ◌<◌, [], Option, Some, None, IsSome, inl, inr, refl, sym, ◌∙◌, arith, sub-one}
-use Rattle.std.specs.declared.cmp.Ordering.{Ordering}
-use Rattle.std.specs.Cmp.{IsTotalOrder}
-use Rattle.slab.specs.Slab.{get}
-use Rattle.tree_leaf.specs.declared.leaf.LeafOf.{LeafOf}
-use Rattle.tree_model.specs.Pairs.{pair_at}
-use Rattle.tree_node.specs.declared.branch.BranchOf.{BranchOf}
-use Rattle.tree_node.specs.declared.node.NodeOf.{NodeOf}
-use Rattle.tree_node.specs.declared.node.NodeOf.TheVariants.{Internal, Leaf}
-use Rattle.tree_node.specs.Arenas.{TreeArenas}
-use Rattle.tree_node.specs.Tree.{keyed, unbounded, child_of, HasChildFor, HasKind, IsRetired, IsRetiredNode, Stands, StandsOrRetired, walk}
+use Rattle.std.proofs.Common.{◌≡◌, ℕ, zero, suc, ◌-◌, ◌<◌, [], Option, Some, None, IsSome, inl, inr, refl, sym, ◌∙◌, arith, sub-one, Ordering}
+use Rattle.tree_model.proofs.Common.{IsTotalOrder, pair_at}
+use Rattle.tree_node.proofs.Common.{get, LeafOf, BranchOf, NodeOf, Internal, Leaf, TreeArenas, keyed, unbounded, child_of, HasChildFor, HasKind, IsRetired, IsRetiredNode, Stands, StandsOrRetired, walk}
 use Rattle.tree_node.proofs.Children.{node_there, stands_over, child_stands, leaf_there, walk-leaf}
 use Rattle.tree_node.proofs.Walks.{found_in_child}
 use Rattle.tree_node.proofs.Standing.{node_is}

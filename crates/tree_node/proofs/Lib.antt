@@ -7,6 +7,7 @@ pub mod Bounds
 pub mod ChildChanges
 pub mod Children
 pub mod ChildrenStand
+pub mod Common
 pub mod Cuts
 pub mod Depths
 pub mod Frames

@@ -1,7 +1,6 @@
 -- Lists of lists.
-use Rattle.std.proofs.Common.{◌≡◌, List, [], ◌∷◌, ◌++◌, refl}
-use Rattle.std.specs.List.{flat_map, AllByRecursion}
-use Rattle.std.proofs.lemmas.List.Concat.{flat_map-append}
+use Rattle.std.proofs.Common.{◌≡◌, List, [], ◌∷◌, ◌++◌, refl, flat_map}
+use Rattle.tree_model.proofs.Common.{AllByRecursion, flat_map-append}
 
 module _ {X : Type 0} where
   pub all_yes : {P : X → Type 0} → ((x : X) → P x) → (xs : List X) → AllByRecursion P xs

@@ -1,16 +1,7 @@
 -- What the kind of a node says of its level, and what stands at a level that a program counts.
-use Rattle.std.proofs.Common.{◌≡◌, ◌⊎◌, ℕ, zero, suc, ◌<◌, ◌∷◌, None, Some, IsSome, refl, ap, arith, inl, inr}
-use Rattle.std.specs.declared.cmp.Ordering.{Ordering}
-use Rattle.std.specs.Cmp.{IsTotalOrder}
-use Rattle.slab.specs.Slab.{get}
-use Rattle.tree_leaf.specs.Counting.{times}
-use Rattle.tree_leaf.proofs.Counts.{times-append}
-use Rattle.tree_node.specs.declared.branch.BranchOf.{BranchOf}
-use Rattle.tree_node.specs.declared.node.NodeOf.{NodeOf}
-use Rattle.tree_node.specs.declared.node.NodeOf.TheVariants.{Internal, Leaf}
-use Rattle.tree_node.specs.Arenas.{TreeArenas}
-use Rattle.tree_node.specs.Parts.{IsPart}
-use Rattle.tree_node.specs.Tree.{HasChildFor, IsRetired, IsRetiredNode, Stands, child_at, children_of, is_from, keyed}
+use Rattle.std.proofs.Common.{◌≡◌, ◌⊎◌, ℕ, zero, suc, ◌<◌, ◌∷◌, None, Some, IsSome, refl, ap, arith, inl, inr, Ordering}
+use Rattle.tree_model.proofs.Common.{IsTotalOrder}
+use Rattle.tree_node.proofs.Common.{get, times, times-append, BranchOf, NodeOf, Internal, Leaf, TreeArenas, IsPart, HasChildFor, IsRetired, IsRetiredNode, Stands, child_at, children_of, is_from, keyed}
 use Rattle.tree_node.proofs.ChildChanges.{front, back, was}
 use Rattle.tree_node.proofs.Children.{node_there}
 use Rattle.tree_node.proofs.Frames.{head_here}

@@ -1,8 +1,6 @@
 -- Nodes of one kind have it at the same levels.
 use Rattle.std.proofs.Common.{ℕ, zero, suc}
-use Rattle.tree_node.specs.declared.branch.BranchOf.{BranchOf}
-use Rattle.tree_node.specs.declared.node.NodeOf.TheVariants.{Internal, Leaf}
-use Rattle.tree_node.specs.Tree.{HasKind}
+use Rattle.tree_node.proofs.Common.{BranchOf, Internal, Leaf, HasKind}
 
 module _ {K : Type 0} {LEN : ℕ} where
   pub inner_kind : (a b : BranchOf K ℕ LEN) (level : ℕ) → HasKind level (Internal a) → HasKind level (Internal b)

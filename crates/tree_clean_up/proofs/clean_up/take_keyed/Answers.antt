@@ -1,8 +1,7 @@
 use Rattle.std.proofs.Common.{rules, IsSome, refl}
-use Rattle.slab.specs.Slab.{ContainsKey}
+use Rattle.tree_array.proofs.Common.{arrival}
+use Rattle.tree_node.proofs.Common.{ContainsKey, keyed}
 use Rattle.slab.proofs.SlabLemmas.{Updates-with_value}
-use Rattle.tree_array.specs.Arrivals.{arrival}
-use Rattle.tree_node.specs.Tree.{keyed}
 use Rattle.tree_clean_up.proofs.NodeWrites.{has_node}
 use Rattle.tree_clean_up.proofs.clean_up.take_keyed.Goals as goal
 

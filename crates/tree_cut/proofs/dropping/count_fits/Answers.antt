@@ -1,5 +1,5 @@
 use Rattle.std.proofs.Common.{rules}
-use Rattle.slab.specs.Slab.{ContainsKey}
+use Rattle.tree_node.proofs.Common.{ContainsKey}
 use Rattle.tree_cut.proofs.Counts.{pairs_fit}
 use Rattle.tree_cut.proofs.Ends.{stands_above, used}
 use Rattle.tree_cut.proofs.dropping.count_fits.Goals as goal

@@ -1,14 +1,9 @@
 use Rattle.std.proofs.Common.{rules, ◌≡◌, ◌<◌, ◌≤◌, ◌∙◌, length, refl, sym, sub-one}
-use Rattle.slab.specs.Slab.{ContainsKey}
-use Rattle.tree_array.specs.Arrivals.{boundary}
-use Rattle.tree_array.specs.Insertion.{HasRoom}
-use Rattle.tree_array.specs.Length.{limit}
-use Rattle.tree_array.specs.Sound.{IsSound}
-use Rattle.tree_node.specs.Tree.{keyed}
+use Rattle.tree_array.proofs.Common.{boundary, HasRoom, limit, IsSound}
+use Rattle.tree_node.proofs.Common.{ContainsKey, keyed, fits}
 use Rattle.tree_split.proofs.Fulls.{full_room, not_full_room}
 use Rattle.tree_node_split.proofs.NodeRooms.{above_kind, above_was, child_used, node_read, node_room_after_write, parent_stays, parent_used, separator_is_new, split_anew, split_in_two, two_up}
 use Rattle.tree_split.proofs.Results.{on_err, same_value}
-use Rattle.tree_node.proofs.Sizes.{fits}
 use Rattle.tree_node.proofs.Unchanged.{unchanged_by_keeping}
 use Rattle.tree_split.proofs.Variants.{children_fit}
 use Rattle.tree_node_split.proofs.node_split.split_child.Goals as goal

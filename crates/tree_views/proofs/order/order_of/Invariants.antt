@@ -1,8 +1,7 @@
 use Rattle.std.proofs.Common.{◌≡◌}
+use Rattle.tree_model.proofs.Common.{On, HasBegun, rest}
 use Rattle.std.specs.Cmp.Lexicographic.{slice_partial_cmp}
 use Rattle.std.specs.Ordering.{partial_ordering_then}
-use Rattle.tree_model.specs.declared.way.Way.TheVariants.{On}
-use Rattle.tree_model.specs.Rest.{HasBegun, rest}
 use Rattle.tree_ranges.specs.Ranged.{moves_left}
 use Rattle.tree_views.proofs.order.order_of.Given as goal
 

@@ -1,6 +1,5 @@
-use Rattle.std.proofs.Common.{◌≡◌, ◌-◌, ◌≤◌, List, take, drop, ◌∙◌, ap, rules, arith}
-use Rattle.std.proofs.lemmas.List.{length-drop, take_all}
-use Rattle.tree_array.specs.Arrivals.{Arrivals, in_order}
+use Rattle.std.proofs.Common.{◌≡◌, ◌-◌, ◌≤◌, List, take, drop, ◌∙◌, ap, rules, arith, length-drop, take_all}
+use Rattle.tree_array.proofs.Common.{Arrivals, in_order}
 use Rattle.tree_array.proofs.Emptied.{emptied_none}
 use Rattle.tree_array.proofs.Kept.{count_seen}
 use Rattle.tree_array.proofs.Marked.{fields}

@@ -1,9 +1,7 @@
 use Rattle.std.proofs.Common.{w8, subst, refl, arith}
+use Rattle.tree_array.proofs.Common.{IsSound, length-picked, len_small}
 use Rattle.std.proofs.Math.Facts.{Fits-of_lt}
-use Rattle.tree_array.specs.Sound.{IsSound}
 use Rattle.tree_array.proofs.Kept.{sound}
-use Rattle.tree_order.proofs.Picked.{length-picked}
-use Rattle.tree_order.proofs.Slots.{len_small}
 use Rattle.tree_array.proofs.Marked.{fields, marked}
 use Rattle.tree_array.proofs.array.ArrayOf.free.Goals as goal
 

@@ -1,6 +1,6 @@
 use Rattle.std.proofs.Common.{◌<◌, ◌∙◌, ap, arith}
-use Rattle.std.proofs.lemmas.List.{nil_from_length}
-use Rattle.tree_array.specs.Arrivals.{arrival}
+use Rattle.tree_model.proofs.Common.{nil_from_length}
+use Rattle.tree_array.proofs.Common.{arrival}
 use Rattle.tree_array.proofs.Kept.{count_seen, last_place}
 use Rattle.tree_array.proofs.Seen.{arrival_seen, entries_seen}
 use Rattle.tree_array.proofs.Marked.{fields}

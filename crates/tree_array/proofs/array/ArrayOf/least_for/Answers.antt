@@ -1,5 +1,5 @@
 use Rattle.std.proofs.Common.{◌∙◌, ap, arith}
-use Rattle.tree_array.specs.Arrivals.{arrival}
+use Rattle.tree_array.proofs.Common.{arrival}
 use Rattle.tree_cells.proofs.Halving.{searched_few}
 use Rattle.tree_cells.proofs.LeastFrom.{least_of}
 use Rattle.tree_array.proofs.Seen.{arrival_seen}

@@ -1,8 +1,7 @@
 use Rattle.std.proofs.Common.{sym, ◌∙◌, ap, rules, arith}
-use Rattle.tree_array.specs.Arrivals.{Arrivals, stored}
+use Rattle.tree_array.proofs.Common.{Arrivals, stored, len_small}
 use Rattle.tree_array.proofs.Kept.{count_seen}
 use Rattle.tree_array.proofs.Seen.{retired_seen}
-use Rattle.tree_order.proofs.Slots.{len_small}
 use Rattle.tree_array.proofs.Stored.{added_seen, made_early, parts_places}
 use Rattle.tree_cells.proofs.Tabled.{added_tabled}
 use Rattle.tree_order.proofs.Live.{filled_live}

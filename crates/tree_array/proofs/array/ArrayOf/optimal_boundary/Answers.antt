@@ -1,10 +1,9 @@
 use Rattle.std.proofs.Common.{◌≡◌, ℕ, ◌*◌, ◌/◌, ◌≤◌, true, leb, w8, refl, subst, ◌∙◌, arith}
-use Rattle.std.proofs.lemmas.Bool.Decides.{nat_tests}
+use Rattle.tree_model.proofs.Common.{nat_tests}
+use Rattle.tree_array.proofs.Common.{IsSound, len_small, few_places}
 use Rattle.std.proofs.Math.Facts.{Fits-of_lt}
-use Rattle.tree_array.specs.Sound.{IsSound}
 use Rattle.tree_array.proofs.Kept.{count_seen, rises_seen, sound}
-use Rattle.tree_order.proofs.Slots.{len_small}
-use Rattle.tree_cells.proofs.Tabled.{early, few_places}
+use Rattle.tree_cells.proofs.Tabled.{early}
 use Rattle.tree_array.proofs.Marked.{fields, marked}
 use Rattle.tree_array.proofs.array.ArrayOf.optimal_boundary.Goals as goal
 

@@ -1,11 +1,9 @@
-use Rattle.std.proofs.Common.{true, false, IsSome, refl, sym, subst, ◌≡◌, ◌∙◌, ap, rules, arith}
+use Rattle.std.proofs.Common.{true, false, IsSome, refl, sym, subst, ◌≡◌, ◌∙◌, ap, rules, arith, Equal}
+use Rattle.tree_array.proofs.Common.{Arrivals, arrival, removed, ordinals_of}
 use Rattle.std.proofs.lemmas.Option.{none-some, same_Some}
-use Rattle.std.specs.declared.cmp.Ordering.TheVariants.{Equal}
-use Rattle.tree_array.specs.Arrivals.{Arrivals, arrival, removed}
 use Rattle.tree_cells.proofs.Found.{found_at, before_none}
 use Rattle.tree_array.proofs.Kept.{count_seen, entry_seen}
 use Rattle.tree_array.proofs.Removed.{removed_alike}
-use Rattle.tree_cells.proofs.Walks.{ordinals_of}
 use Rattle.tree_array.proofs.Marked.{fields}
 use Rattle.tree_array.proofs.array.ArrayOf.remove_if.Goals as goal
 

@@ -1,17 +1,14 @@
 use Rattle.std.proofs.Common.{◌≡◌, ◌<◌, IsSome, None, length, refl, subst, sym, ◌∙◌, ap, rules, arith}
+use Rattle.tree_array.proofs.Common.{Arrivals, arrival, IsSound, length-picked, len_small}
 use Rattle.std.proofs.lemmas.Option.{same_Some}
-use Rattle.tree_array.specs.Arrivals.{Arrivals, arrival}
-use Rattle.tree_array.specs.Sound.{IsSound}
 use Rattle.tree_array.proofs.Kept.{sound}
-use Rattle.tree_order.proofs.Picked.{length-picked}
 use Rattle.tree_array.proofs.Ranges.{cut_none, cut_kept, cut_taken, cut_all, kept_outside}
 use Rattle.tree_array.proofs.Seen.{arrival_seen}
-use Rattle.tree_order.proofs.Slots.{len_small}
 use Rattle.tree_cells.proofs.Tabled.{early}
 use Rattle.tree_cells.proofs.Walks.{live_some, live_none}
 use Rattle.tree_array.proofs.Marked.{fields, marked}
-use Rattle.tree_array.proofs.array.ArrayOf.remove_range.Goals as goal
 use Rattle.tree_array.proofs.array.ArrayOf.remove_range.Goals.{then-ordinals-slot-gt0+then-range_contains, else-ordinals-slot-gt0, else-ordinals-slot-gt0-via-then-ordinals-slot-gt0+else-range_contains, else-ordinals-slot-gt0-via-else-ordinals-slot-gt0}
+use Rattle.tree_array.proofs.array.ArrayOf.remove_range.Goals as goal
 
 pub ordinals-ordinals-requires-clause-within : goal.ordinals-ordinals-requires-clause-within
 ordinals-ordinals-requires-clause-within g c = λ i lt.

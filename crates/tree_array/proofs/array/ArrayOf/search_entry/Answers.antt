@@ -1,8 +1,7 @@
 use Rattle.std.proofs.Common.{IsSome, sym, subst, refl, ◌∙◌, ap, rules, arith}
-use Rattle.tree_array.specs.Arrivals.{arrival}
+use Rattle.tree_array.proofs.Common.{arrival, ordinals_of}
 use Rattle.tree_cells.proofs.Found.{found_at, before_none}
 use Rattle.tree_cells.proofs.Halving.{searched_few}
-use Rattle.tree_cells.proofs.Walks.{ordinals_of}
 use Rattle.tree_array.proofs.Marked.{fields}
 use Rattle.tree_array.proofs.array.ArrayOf.search_entry.Goals as goal
 

@@ -1,5 +1,6 @@
 use Rattle.std.proofs.Common.{◌∙◌, ap, rules}
-use Rattle.tree_array.specs.Arrivals.{Arrivals, with_val}
+use Rattle.tree_array.proofs.Common.{Arrivals}
+use Rattle.tree_array.specs.Arrivals.{with_val}
 use Rattle.tree_array.proofs.Seen.{arrival_seen, reachable_seen}
 use Rattle.tree_cells.proofs.Tabled.{valued_tabled}
 use Rattle.tree_array.proofs.Valued.{valued_seen}

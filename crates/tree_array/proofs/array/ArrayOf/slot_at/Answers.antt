@@ -1,6 +1,6 @@
 use Rattle.std.proofs.Common.{◌∙◌, ap, arith}
+use Rattle.tree_array.proofs.Common.{arrival}
 use Rattle.std.proofs.lemmas.Option.{slice_get_past}
-use Rattle.tree_array.specs.Arrivals.{arrival}
 use Rattle.tree_array.proofs.Kept.{count_seen, entry_seen}
 use Rattle.tree_array.proofs.Seen.{arrival_seen}
 use Rattle.tree_array.proofs.Marked.{fields}

@@ -1,16 +1,13 @@
 use Rattle.std.proofs.Common.{IsSome, refl, sym, ◌∙◌, ap, subst, rules, arith}
+use Rattle.tree_model.proofs.Common.{nat_tests}
+use Rattle.tree_array.proofs.Common.{Arrivals, arrival, stored, IsSound, len_small, ordinals_of}
 use Rattle.std.proofs.lemmas.Bool.{true_from_ne_false}
-use Rattle.std.proofs.lemmas.Bool.Decides.{nat_tests}
-use Rattle.tree_array.specs.Arrivals.{Arrivals, arrival, stored}
-use Rattle.tree_array.specs.Sound.{IsSound}
 use Rattle.tree_array.proofs.Emptied.{spent_still}
 use Rattle.tree_cells.proofs.Found.{found_at, before_none}
 use Rattle.tree_array.proofs.Kept.{sound, stored_few}
 use Rattle.tree_array.proofs.Seen.{retired_seen}
-use Rattle.tree_order.proofs.Slots.{len_small}
 use Rattle.tree_array.proofs.Stored.{made_early, moved_seen, parts_before, parts_entries, room_from_not_full}
 use Rattle.tree_cells.proofs.Tabled.{moved_tabled}
-use Rattle.tree_cells.proofs.Walks.{ordinals_of}
 use Rattle.tree_order.specs.Order.{is_retired}
 use Rattle.tree_order.proofs.Live.{filled_live}
 use Rattle.tree_array.proofs.Marked.{fields, marked}

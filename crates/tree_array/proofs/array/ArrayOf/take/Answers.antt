@@ -1,8 +1,7 @@
 use Rattle.std.proofs.Common.{◌∙◌, ap, sym, rules, arith}
-use Rattle.tree_array.specs.Arrivals.{arrival}
+use Rattle.tree_array.proofs.Common.{arrival, few_places}
 use Rattle.tree_array.proofs.Kept.{count_seen, entry_seen}
 use Rattle.tree_array.proofs.Seen.{arrival_seen, listed_seen}
-use Rattle.tree_cells.proofs.Tabled.{few_places}
 use Rattle.tree_array.proofs.Marked.{fields}
 use Rattle.tree_array.proofs.array.ArrayOf.take.Goals as goal
 

@@ -1,7 +1,7 @@
 use Rattle.std.proofs.Common.{◌<◌, refl, sym, ◌∙◌, ap, rules, arith}
-use Rattle.tree_array.specs.Arrivals.{Arrivals, arrival, removed}
+use Rattle.tree_array.proofs.Common.{Arrivals, arrival, removed, few_places}
 use Rattle.tree_array.proofs.Kept.{count_seen, entry_seen}
-use Rattle.tree_cells.proofs.Tabled.{dropped_tabled, few_places, stands_some}
+use Rattle.tree_cells.proofs.Tabled.{dropped_tabled, stands_some}
 use Rattle.tree_array.proofs.Taken.{left_seen, not_zero}
 use Rattle.tree_order.specs.Order.{is_retired}
 use Rattle.tree_array.proofs.Marked.{fields}

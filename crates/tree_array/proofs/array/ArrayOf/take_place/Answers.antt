@@ -1,8 +1,7 @@
 use Rattle.std.proofs.Common.{◌+◌, take, drop, sym, ◌∙◌, ap, subst, add-one, rules, arith}
-use Rattle.std.proofs.lemmas.List.{drop_all}
+use Rattle.tree_model.proofs.Common.{drop_all}
+use Rattle.tree_array.proofs.Common.{Arrivals, IsSound}
 use Rattle.std.proofs.lemmas.Option.{slice_get_past}
-use Rattle.tree_array.specs.Arrivals.{Arrivals}
-use Rattle.tree_array.specs.Sound.{IsSound}
 use Rattle.tree_array.proofs.Dealt.{parted}
 use Rattle.tree_array.proofs.Kept.{count_seen, sound}
 use Rattle.tree_array.proofs.Marked.{fields, marked}

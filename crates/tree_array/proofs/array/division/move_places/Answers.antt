@@ -1,6 +1,7 @@
 use Rattle.std.proofs.Common.{◌≡◌, ◌+◌, ◌-◌, arith, rules}
+use Rattle.tree_array.proofs.Common.{few_places}
 use Rattle.tree_array.proofs.Moved.{emptied_run, in_turn_run, left_stands, moved_seen, moved_tabled, none_made, none_new}
-use Rattle.tree_cells.proofs.Tabled.{few_places, places_apart}
+use Rattle.tree_cells.proofs.Tabled.{places_apart}
 use Rattle.tree_array.proofs.array.division.move_places.Goals as goal
 
 pub take_places-requires : goal.take_places-requires

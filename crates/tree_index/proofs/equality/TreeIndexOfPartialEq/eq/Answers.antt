@@ -1,7 +1,7 @@
 use Rattle.std.proofs.Common.{◌≡◌, false, nat_eq, min, sym, ap, ◌∙◌, arith}
+use Rattle.tree_model.proofs.Common.{nat_tests}
+use Rattle.tree_node.proofs.Common.{fits}
 use Rattle.std.specs.Cmp.Lexicographic.{unequal}
-use Rattle.std.proofs.lemmas.Bool.Decides.{nat_tests}
-use Rattle.tree_node.proofs.Sizes.{fits}
 use Rattle.tree_views.proofs.Walked.{all_left}
 use Rattle.tree_index.proofs.equality.TreeIndexOfPartialEq.eq.Goals as goal
 

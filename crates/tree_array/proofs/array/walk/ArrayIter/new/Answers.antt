@@ -1,9 +1,8 @@
 use Rattle.std.proofs.Common.{ℕ, List, None, subst, sym, ◌∙◌, ap, arith}
+use Rattle.tree_array.proofs.Common.{IsSound, few_places}
 use Rattle.tree_array.specs.Arrivals.{slots_in_order}
-use Rattle.tree_array.specs.Sound.{IsSound}
 use Rattle.tree_array.specs.Walk.{IsOver, standing}
 use Rattle.tree_array.proofs.Kept.{sound}
-use Rattle.tree_cells.proofs.Tabled.{few_places}
 use Rattle.tree_cells.proofs.Walks.{slots_named}
 use Rattle.tree_array.proofs.Marked.{fields, marked}
 use Rattle.tree_array.proofs.array.walk.ArrayIter.new.Goals as goal
