@@ -154,10 +154,12 @@ fn halve<K: Ord, V, By, A: Asks<K, By>, const LEN: usize>(
     requires few { window.count ≤ LEN }
     requires in_order { IsInOrder K.cmp cells.now.pairs window.order window.count }
     requires filled { IsFilled LEN window.order window.count }
-    requires window { IsWindow K.cmp cells.now.pairs window.order (A.key asked.old) LEN window.place window.rest window.met (2 * half + 1) }
+    requires window { IsWindow K.cmp cells.now.pairs window.order
+        (A.key asked.old) LEN window.place window.rest window.met (2 * half + 1) }
     ensures order { result.order ≡ window.order }
     ensures count { result.count ≡ window.count }
-    ensures window { IsWindow K.cmp cells.now.pairs window.order (A.key asked.old) LEN result.place result.rest result.met half }
+    ensures window { IsWindow K.cmp cells.now.pairs window.order
+        (A.key asked.old) LEN result.place result.rest result.met half }
     ensures same_key { A.key asked.new ≡ A.key asked.old }
     ensures counted { A.count asked.new ≤ A.count asked.old + 1 }
 {

@@ -100,7 +100,8 @@ impl<'t, K: Ord + Drop, V: Drop, const LEN: usize> Stand<'t, LeafOf<K, V, LEN>> 
         requires leaf { get self.now.leaves.now self.now.id ≡ Some self.now.leaf.now }
         requires chain { (front back : _) × IsChain self.now.leaves.now (front ++ self.now.id ∷ back) }
         requires ahead { self.now.ahead ≡ seen self.now.leaves.now (beside way self.now.leaf.now) }
-        ensures { (front back : List ℕ) → IsChain self.now.leaves.now (front ++ self.now.id ∷ back) → result ≡ landing self.now.leaves.now None (leaves_on way front back) }
+        ensures { (front back : List ℕ) → IsChain self.now.leaves.now (front ++ self.now.id ∷ back)
+            → result ≡ landing self.now.leaves.now None (leaves_on way front back) }
     {
         let mut passed = None;
         let mut ahead = self.ahead;

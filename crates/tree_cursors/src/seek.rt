@@ -49,7 +49,8 @@ fn open_at<'t, K: Ord + Drop, V: Drop, S: EndWay, const LEN: usize>(
     requires node { 0 < level }
     requires stands { StandsOrRetired K.cmp level arenas.now id }
     requires linked { IsLinked level arenas.now id }
-    ensures { MatchOption result (walk level arenas.now id ≡ []) (Opens K.cmp S.way level arenas.now id (bound_map (λ k. k.now) bound.entry)) }
+    ensures { MatchOption result (walk level arenas.now id ≡ [])
+        (Opens K.cmp S.way level arenas.now id (bound_map (λ k. k.now) bound.entry)) }
 {
     let key = match bound {
         Bound::Included(key) => key,
@@ -69,7 +70,8 @@ fn leaf_for<K: Ord + Drop, V: Drop, const LEN: usize>(
 ) -> Option<LeafId>
     requires node { 0 < level }
     requires stands { StandsOrRetired K.cmp level arenas.now id }
-    ensures { MatchOption result (¬ Stands K.cmp level arenas.now None id None) (IsLeafFor K.cmp level arenas.now id key.now) }
+    ensures { MatchOption result (¬ Stands K.cmp level arenas.now None id None)
+        (IsLeafFor K.cmp level arenas.now id key.now) }
 {
     match arenas.node(id) {
         NodeOf::Leaf(node) => {

@@ -23,7 +23,8 @@ pub fn search_at<'a, K: Ord + Drop, V: Drop, J: Judge<K>, const LEN: usize>(
 ) -> Option<(&'a K, &'a V)>
     requires node { 0 < level }
     requires stands { StandsOrRetired K.cmp level arenas.now id }
-    ensures found { MatchOption result (IsAbsent K.cmp (walk level arenas.now id) (J.key judge.old)) (λ pair. pair_at K.cmp (walk level arenas.now id) (J.key judge.old) ≡ Some (pair.0.now, pair.1.now)) }
+    ensures found { MatchOption result (IsAbsent K.cmp (walk level arenas.now id) (J.key judge.old))
+        (λ pair. pair_at K.cmp (walk level arenas.now id) (J.key judge.old) ≡ Some (pair.0.now, pair.1.now)) }
     ensures same_key { J.key judge.new ≡ J.key judge.old }
     ensures counted { J.count judge.new ≤ J.count judge.old + LEN * (level + 1) }
     ensures halved { J.count judge.new ≤ J.count judge.old + searched LEN * (level + 1) }
@@ -47,7 +48,9 @@ fn leaf_by<K: Ord + Drop, V: Drop, J: Judge<K>, const LEN: usize>(
 ) -> Option<LeafId>
     requires node { 0 < level }
     requires stands { StandsOrRetired K.cmp level arenas.now id }
-    ensures found { MatchOption result (IsRetired level arenas.now id) (λ leaf. IsSome (get arenas.now.leaves leaf) × HoldsFor K.cmp (J.key judge.old) (walk level arenas.now id) (get arenas.now.leaves leaf)) }
+    ensures found { MatchOption result (IsRetired level arenas.now id)
+        (λ leaf. IsSome (get arenas.now.leaves leaf)
+        × HoldsFor K.cmp (J.key judge.old) (walk level arenas.now id) (get arenas.now.leaves leaf)) }
     ensures same_key { J.key judge.new ≡ J.key judge.old }
     ensures counted { J.count judge.new ≤ J.count judge.old + LEN * level }
     ensures halved { J.count judge.new ≤ J.count judge.old + searched LEN * level }

@@ -77,7 +77,8 @@ impl<K: IndexKey, V: Drop, const LEN: usize> TreeIndexOf<K, V, LEN> {
     /// }
     /// ```
     pub fn range<'t>(&'t self, bounds: (Bound<&'t K>, Bound<&'t K>)) -> RangeOf<'t, K, V, LEN>
-        ensures { result ≡ fresh self.now.pairs (bound_map (λ k. k.now) bounds.entry.0) (bound_map (λ k. k.now) bounds.entry.1) }
+        ensures { result ≡ fresh self.now.pairs (bound_map (λ k. k.now) bounds.entry.0)
+            (bound_map (λ k. k.now) bounds.entry.1) }
     {
         RangeOver::new(&self.tree.arenas, self.tree.root, bounds)
     }

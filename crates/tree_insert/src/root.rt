@@ -32,8 +32,10 @@ pub fn grow_root_at<K: Ord + Drop, V: Drop, const LEN: usize>(
 ) -> Result<NodeId, AllocError>
     requires node { 0 < depth }
     requires part { IsPart K.cmp depth arenas.old root ⊎ IsRetired depth arenas.old root }
-    ensures raised { IsPart K.cmp depth arenas.old root → IfOk result (λ id. RaisesRoot K.cmp depth arenas.old arenas.new root id × (depth + 1 < 2 ^ 64)) }
-    ensures replanted { IsRetired depth arenas.old root → IfOk result (λ id. (id ≡ root) × Replants K.cmp arenas.old arenas.new root) }
+    ensures raised { IsPart K.cmp depth arenas.old root
+        → IfOk result (λ id. RaisesRoot K.cmp depth arenas.old arenas.new root id × (depth + 1 < 2 ^ 64)) }
+    ensures replanted { IsRetired depth arenas.old root
+        → IfOk result (λ id. (id ≡ root) × Replants K.cmp arenas.old arenas.new root) }
     ensures err { OnErr result (Unchanged arenas.old arenas.new) }
     ensures places { IsPart K.cmp depth arenas.old root → HasPlaces arenas.old 0 2 → IsOk result }
     ensures leaf_place { IsRetired depth arenas.old root → HasPlaces arenas.old 1 0 → IsOk result }

@@ -16,7 +16,8 @@ impl<K: Ord + Drop, I: Copy + Drop, const LEN: usize> BranchOf<K, I, LEN> {
     pub fn cut(&mut self, place: u8) -> (K, Self)
         requires len { IsLen LEN }
         requires within { place < length self.old.children.entries }
-        ensures middle { (middle : I) × (slice_get self.old.children.entries place ≡ Some (result.0, middle)) × (result.1.unbounded_child ≡ Some middle) }
+        ensures middle { (middle : I) × (slice_get self.old.children.entries place ≡ Some (result.0, middle))
+            × (result.1.unbounded_child ≡ Some middle) }
         ensures low { result.1.children ≡ in_order (take place self.old.children.entries) }
         ensures high { self.new.children ≡ in_order (drop (place + 1) self.old.children.entries) }
         ensures last { self.new.unbounded_child ≡ self.old.unbounded_child }
@@ -89,7 +90,8 @@ impl<K: Ord + Drop, const LEN: usize> NodeOf<K, LEN> {
     /// child.
     pub fn take_keyed(&mut self, slot: u8)
         requires { IsSome (arrival (keyed self.old).arrivals slot) }
-        ensures taken { (pair : _) × (arrival (keyed self.old).arrivals slot ≡ Some pair) × (keyed self.new ≡ removed K.cmp (keyed self.old) pair.0) }
+        ensures taken { (pair : _) × (arrival (keyed self.old).arrivals slot ≡ Some pair)
+            × (keyed self.new ≡ removed K.cmp (keyed self.old) pair.0) }
         ensures last { unbounded self.new ≡ unbounded self.old }
         ensures kind { (level : ℕ) → HasKind level self.old → HasKind level self.new }
     {

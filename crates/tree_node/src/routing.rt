@@ -37,8 +37,11 @@ impl<K: Ord + Drop, I: Copy + Drop, const LEN: usize> BranchOf<K, I, LEN> {
     /// Returns the child that a key belongs to, as [`child_for`](BranchOf::child_for) does, and the slot of its
     /// separator. Makes as many comparisons, which no judge counts.
     pub fn child_place_for(&self, key: &K) -> Option<ChildPlace<I>>
-        ensures place { MatchOption result (self.now.unbounded_child ≡ None) (λ place. IsChildAt K.cmp key.now self.now.children self.now.unbounded_child place.child place.slot) }
-        ensures child { MatchOption result (child_of K.cmp key.now self.now.children.entries self.now.unbounded_child ≡ None) (λ place. child_of K.cmp key.now self.now.children.entries self.now.unbounded_child ≡ Some place.child) }
+        ensures place { MatchOption result (self.now.unbounded_child ≡ None)
+            (λ place. IsChildAt K.cmp key.now self.now.children self.now.unbounded_child place.child place.slot) }
+        ensures child { MatchOption result
+            (child_of K.cmp key.now self.now.children.entries self.now.unbounded_child ≡ None)
+            (λ place. child_of K.cmp key.now self.now.children.entries self.now.unbounded_child ≡ Some place.child) }
     {
         self.child_place_beyond(key, false)
     }
@@ -49,8 +52,11 @@ impl<K: Ord + Drop, I: Copy + Drop, const LEN: usize> BranchOf<K, I, LEN> {
     /// one comparison more.
     #[inline]
     pub fn child_place_beyond(&self, key: &K, rightmost: bool) -> Option<ChildPlace<I>>
-        ensures place { MatchOption result (self.now.unbounded_child ≡ None) (λ place. IsChildAt K.cmp key.now self.now.children self.now.unbounded_child place.child place.slot) }
-        ensures child { MatchOption result (child_of K.cmp key.now self.now.children.entries self.now.unbounded_child ≡ None) (λ place. child_of K.cmp key.now self.now.children.entries self.now.unbounded_child ≡ Some place.child) }
+        ensures place { MatchOption result (self.now.unbounded_child ≡ None)
+            (λ place. IsChildAt K.cmp key.now self.now.children self.now.unbounded_child place.child place.slot) }
+        ensures child { MatchOption result
+            (child_of K.cmp key.now self.now.children.entries self.now.unbounded_child ≡ None)
+            (λ place. child_of K.cmp key.now self.now.children.entries self.now.unbounded_child ≡ Some place.child) }
     {
         let last = self.unbounded_child?;
         let slot = slot_beyond(&self.children, key, rightmost);
@@ -116,7 +122,8 @@ fn child_at<'a, K: Ord + Drop, I: Copy + Drop, const LEN: usize>(
     slot: Option<u8>,
 ) -> &'a I
     requires { ForSome slot (λ keyed. IsSome (arrival children.now.arrivals keyed)) }
-    ensures { MatchOption slot (result.now ≡ unbounded.now) (λ keyed. (separator : K) × (arrival children.now.arrivals keyed ≡ Some (separator, result.now))) }
+    ensures { MatchOption slot (result.now ≡ unbounded.now)
+        (λ keyed. (separator : K) × (arrival children.now.arrivals keyed ≡ Some (separator, result.now))) }
 {
     match slot {
         Some(keyed) => children.val(keyed),

@@ -39,7 +39,8 @@ pub fn split_child<K: Ord + Drop, V: Drop, const LEN: usize>(
 ) -> Result<bool, AllocError>
     requires part { (level : ℕ) × (1 < level) × IsPart K.cmp level arenas.old parent }
     requires child { 0 < times target (children_of arenas.old.nodes parent) }
-    ensures done { (level : ℕ) → 1 < level → IsPart K.cmp level arenas.old parent → IfOk result (λ split. SplitResult K.cmp split level arenas.old arenas.new parent target) }
+    ensures done { (level : ℕ) → 1 < level → IsPart K.cmp level arenas.old parent
+        → IfOk result (λ split. SplitResult K.cmp split level arenas.old arenas.new parent target) }
     ensures leaves { (n : ℕ) → get arenas.new.leaves n ≡ get arenas.old.leaves n }
     ensures err { OnErr result (Unchanged arenas.old arenas.new) }
     ensures many { OnErr result (limit LEN < found_keyed (get arenas.old.nodes target)) }
@@ -64,7 +65,8 @@ pub fn split_child<K: Ord + Drop, V: Drop, const LEN: usize>(
 
 /// Returns the place of the keyed child at which the node divides, or `None` if its array is built anew instead.
 fn place_to_part<K: Ord + Drop, const LEN: usize>(node: &NodeOf<K, LEN>) -> Option<u8>
-    ensures place { MatchOption result (length (keyed node.now).entries ≤ limit LEN) (λ place. (limit LEN < length (keyed node.now).entries) × (place < length (keyed node.now).entries)) }
+    ensures place { MatchOption result (length (keyed node.now).entries ≤ limit LEN)
+        (λ place. (limit LEN < length (keyed node.now).entries) × (place < length (keyed node.now).entries)) }
     ensures rule { IfSome result (λ place. place ≡ (boundary K.cmp LEN (keyed node.now)).0) }
     ensures sound { IsSound K.cmp LEN (keyed node.now) }
 {

@@ -43,7 +43,8 @@ pub fn shown<'t, K: Ord + Drop, V: Drop, S: SlotWalk, T: EndWay, const LEN: usiz
     end: &End<LinkedIter<'t, LeafOf<K, V, LEN>, S>>,
     bound: Bound<&K>,
 ) -> Option<(&'t K, &'t V)>
-    ensures { lent result ≡ option_where (λ pair. meets K.cmp T.way (bound_map (λ k. k.now) bound.entry) pair.0) (pair_of end.now) }
+    ensures { lent result ≡ option_where (λ pair. meets K.cmp T.way (bound_map (λ k. k.now) bound.entry) pair.0)
+        (pair_of end.now) }
 {
     within::<K, V, T>(pair_on(end), bound)
 }
@@ -54,7 +55,8 @@ pub fn within<'t, K: Ord, V, T: EndWay>(
     pair: Option<(&'t K, &'t V)>,
     bound: Bound<&K>,
 ) -> Option<(&'t K, &'t V)>
-    ensures { lent result ≡ option_where (λ pair. meets K.cmp T.way (bound_map (λ k. k.now) bound.entry) pair.0) (lent pair.entry) }
+    ensures { lent result ≡ option_where (λ pair. meets K.cmp T.way (bound_map (λ k. k.now) bound.entry) pair.0)
+        (lent pair.entry) }
 {
     let (key, value) = pair?;
     if T::meets(bound, key) {

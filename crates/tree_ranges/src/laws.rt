@@ -41,7 +41,8 @@ fn pairs_along<'t, K: Ord + Drop + 't, V: Drop + 't, C: Cursor<'t, K, V>>(
     cursor: &mut C,
 ) -> Result<Vec<(&'t K, &'t V)>, AllocError>
     requires { IsFresh (C.cursor cursor.old) }
-    ensures { IfOk result (λ pairs. map lent_entry pairs.items ≡ along (way_of backward) (pairs_within K.cmp (C.cursor cursor.old))) }
+    ensures { IfOk result
+        (λ pairs. map lent_entry pairs.items ≡ along (way_of backward) (pairs_within K.cmp (C.cursor cursor.old))) }
 {
     let mut pairs = Vec::new(alloc);
     while let Some(pair) = step(backward, cursor) {

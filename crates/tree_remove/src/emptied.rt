@@ -23,7 +23,8 @@ pub fn drop_emptied<K: Ord + Drop, V: Drop, const LEN: usize>(
 ) -> RemoveResult
     requires node { 0 < level }
     requires emptied { IsEmptied K.cmp level arenas.old id key.now }
-    ensures removes { (before : TreeArenas K V LEN) → Emptied K.cmp level before arenas.old id key.now → RemovesUnder K.cmp surely level before arenas.new id result key.now }
+    ensures removes { (before : TreeArenas K V LEN) → Emptied K.cmp level before arenas.old id key.now
+        → RemovesUnder K.cmp surely level before arenas.new id result key.now }
     ensures settled { level ≡ 1 → result ≡ RemoveResult.Success → HasOnlyRetired arenas.new id → ⊥ }
 {
     match arenas.node(id) {

@@ -13,7 +13,8 @@ use tree_array::array::ArrayOf;
 pub fn parting_place<K: Ord + Drop, I: Drop, const LEN: usize>(
     children: &ArrayOf<K, I, LEN>,
 ) -> Option<u8>
-    ensures place { MatchOption result (length children.now.entries ≤ limit LEN) (λ place. (limit LEN < length children.now.entries) × (place < length children.now.entries)) }
+    ensures place { MatchOption result (length children.now.entries ≤ limit LEN)
+        (λ place. (limit LEN < length children.now.entries) × (place < length children.now.entries)) }
     ensures rule { IfSome result (λ place. place ≡ (boundary K.cmp LEN children.now).0) }
     ensures sound { IsSound K.cmp LEN children.now }
 {

@@ -14,7 +14,8 @@ pub fn feed<'t, K: IndexKey + Hash + 't, V: Drop + Hash + 't, H: Hasher, const L
     state: &mut H,
 )
     requires { HasBegun K.cmp On pairs }
-    ensures { state.new ≡ fold H.write state.old (flat_map (λ p. K.hash_input p.0 ++ V.hash_input p.1) (rest K.cmp On pairs.entry)) }
+    ensures { state.new ≡ fold H.write state.old
+        (flat_map (λ p. K.hash_input p.0 ++ V.hash_input p.1) (rest K.cmp On pairs.entry)) }
 {
     let mut pairs = pairs;
     while let Some((key, value)) = pairs.next() {
