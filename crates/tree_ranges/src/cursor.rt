@@ -12,8 +12,8 @@ ghost use Rattle.tree_ranges.specs.Ranged.{Flips};
 use crate::iter::IterOver;
 use crate::range::RangeOver;
 use std::alloc::{AllocError, Global};
-use tree_model::{Answer, Move};
 use tree_leaf::leaf::LeafOf;
+use tree_model::{Answer, Move};
 use tree_node::node::ArenasOf;
 
 /// A cursor with two ends over pairs in the order of their keys.

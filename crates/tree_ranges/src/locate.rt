@@ -12,9 +12,9 @@ use crate::ends::{again, has_pair, stands_at, turned};
 use crate::iter::{IterOf, IterOver};
 use std::ops::Bound;
 use tree_chain::{IterOf as WalkOf, RevIterOf as RevWalkOf};
-use tree_model::ProximityOf;
 use tree_cursors::end::{End, step};
 use tree_leaf::arena::NodeId;
+use tree_model::ProximityOf;
 use tree_node::node::ArenasOf;
 
 /// Where a key is among pairs, with fifteen pairs a leaf.
