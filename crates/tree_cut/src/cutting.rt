@@ -150,8 +150,8 @@ fn is_empty<K: Ord + Drop, V: Drop, const LEN: usize>(
     requires kind { IsAt level part.now }
     requires stands { Stands K.cmp level arenas.now None (part_id part.now) None }
     ensures empty { result ≡ true → walk level arenas.now (part_id part.now) ≡ [] }
-    ensures told { HasNoEmpty level arenas.now (part_id part.now) → walk level arenas.now (part_id part.now) ≡ []
-        → result ≡ true }
+    ensures told { HasNoEmpty level arenas.now (part_id part.now)
+        → walk level arenas.now (part_id part.now) ≡ [] → result ≡ true }
 {
     match part {
         Part::Leaf(id) => arenas.leaf(*id).array().is_empty(),

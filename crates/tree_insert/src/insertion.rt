@@ -80,8 +80,8 @@ pub fn insert_with_room<const UPSERT: bool, K: IndexKey, V: Drop, const LEN: usi
     ensures retired { IfOk result
         (λ answer. IsRetired level arenas.old id → (answer ≡ FullResult key val) × Unchanged arenas.old arenas.new) }
     ensures crowded { IfErr result
-        (λ back. (arenas.new ≡ arenas.old) × (back.key ≡ key) × (back.val ≡ val)
-        × LeadsTo K.cmp key level arenas.old id back.place.node back.place.leaf) }
+        (λ back. (arenas.new ≡ arenas.old) × (back.key ≡ key)
+        × (back.val ≡ val) × LeadsTo K.cmp key level arenas.old id back.place.node back.place.leaf) }
     ensures full { IfErr result (λ back. room 0 arenas.old back.place.leaf ≡ 0) }
 {
     let Some(place) = leaf_for(arenas, level, id, &key, true) else {

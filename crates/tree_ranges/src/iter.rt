@@ -79,8 +79,8 @@ impl<'t, K: Ord + Drop + 't, V: Drop + 't, const LEN: usize> IterOver<
         backward: End<RevWalkOf<'t, K, V, LEN>>,
     ) -> Self
         requires { Kept arenas.now root K.cmp forward backward }
-        ensures { result ≡ with_ends (walk_under arenas.now root) (end_of arenas.now root forward.entry)
-            (end_of arenas.now root backward.entry) }
+        ensures { result ≡ with_ends (walk_under arenas.now root)
+            (end_of arenas.now root forward.entry) (end_of arenas.now root backward.entry) }
     {
         IterOver {
             range: RangeOver::standing(arenas, root, forward, backward),

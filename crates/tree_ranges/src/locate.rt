@@ -89,8 +89,8 @@ fn end_from<'t, K: Ord + Drop, V: Drop, const LEN: usize>(
     key: &K,
 ) -> End<WalkOf<'t, K, V, LEN>>
     requires { IsTree K.cmp arenas.now root }
-    ensures place { end_of arenas.now root result ≡ next_end K.cmp On (Included key.now)
-        (walk_under arenas.now root) unopened }
+    ensures place { end_of arenas.now root result ≡ next_end K.cmp On
+        (Included key.now) (walk_under arenas.now root) unopened }
     ensures stands { EndStands arenas.now root result }
 {
     let mut end = End::Unopened;
@@ -122,8 +122,8 @@ fn end_before<'t, K: Ord + Drop + 't, V: Drop + 't, const LEN: usize>(
 ) -> End<RevWalkOf<'t, K, V, LEN>>
     requires tree { IsTree K.cmp arenas.now root }
     requires stands { EndStands arenas.now root end.now }
-    ensures place { end_of arenas.now root result ≡ next_end K.cmp Back Unbounded (walk_under arenas.now root)
-        (end_of arenas.now root end.now) }
+    ensures place { end_of arenas.now root result ≡ next_end K.cmp Back Unbounded
+        (walk_under arenas.now root) (end_of arenas.now root end.now) }
     ensures stands { EndStands arenas.now root result }
 {
     let open: Bound<&'t K> = Bound::Unbounded;

@@ -98,8 +98,8 @@ impl<'t, K: Ord + Drop + 't, V: Drop + 't, const LEN: usize> RangeOver<
         bounds: (Bound<&'t K>, Bound<&'t K>),
     ) -> Self
         requires { IsTree K.cmp arenas.now root }
-        ensures { result ≡ fresh (walk_under arenas.now root) (bound_map (λ k. k.now) bounds.entry.0)
-            (bound_map (λ k. k.now) bounds.entry.1) }
+        ensures { result ≡ fresh (walk_under arenas.now root)
+            (bound_map (λ k. k.now) bounds.entry.0) (bound_map (λ k. k.now) bounds.entry.1) }
     {
         let (low, high) = bounds;
         RangeOver {
@@ -166,8 +166,8 @@ impl<'t, K: Ord + Drop + 't, V: Drop + 't, const LEN: usize> RangeOver<
         backward: End<RevWalkOf<'t, K, V, LEN>>,
     ) -> Self
         requires { Kept arenas.now root K.cmp forward backward }
-        ensures { result ≡ with_ends (walk_under arenas.now root) (end_of arenas.now root forward.entry)
-            (end_of arenas.now root backward.entry) }
+        ensures { result ≡ with_ends (walk_under arenas.now root)
+            (end_of arenas.now root forward.entry) (end_of arenas.now root backward.entry) }
     {
         RangeOver {
             arenas,

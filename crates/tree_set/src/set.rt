@@ -217,8 +217,8 @@ impl<K: IndexKey, const LEN: usize> TreeSetOf<K, LEN> {
     /// assert!(rt; set.range((Bound::Excluded(&3), Bound::Unbounded)).next() == Some(&7));
     /// ```
     pub fn range<'t>(&'t self, bounds: (Bound<&'t K>, Bound<&'t K>)) -> Elements<'t, K, LEN>
-        ensures { result ≡ filter
-            (within K.cmp (bound_map (λ k. k.now) bounds.entry.0) (bound_map (λ k. k.now) bounds.entry.1)) self.now }
+        ensures { result ≡ filter (within K.cmp (bound_map (λ k. k.now) bounds.entry.0)
+            (bound_map (λ k. k.now) bounds.entry.1)) self.now }
     {
         ElementsOver::new(self.index.range(bounds))
     }
@@ -293,8 +293,8 @@ impl<K: IndexKey, const LEN: usize> TreeSetOf<K, LEN> {
     pub fn symmetric_difference<'t>(&'t self, other: &'t Self) -> SymmetricDifference<'t, K, LEN>
         ensures apart { result ≡ symmetric_difference K.cmp self.now other.now }
         ensures elements { (k : K)
-            → has K.cmp result k ≡ ((has K.cmp self.now k && not (has K.cmp other.now k)) ||
-            (has K.cmp other.now k && not (has K.cmp self.now k))) }
+            → has K.cmp result k ≡ ((has K.cmp self.now k && not (has K.cmp other.now k))
+            || (has K.cmp other.now k && not (has K.cmp self.now k))) }
         ensures ascending { IsAscending K.cmp result }
     {
         SymmetricDifferenceOver {

@@ -14,8 +14,8 @@ pub fn are_same<'t, K: IndexKey + 't, V: Drop + PartialEq + 't, const LEN: usize
 ) -> bool
     requires left { HasBegun K.cmp On left }
     requires right { HasBegun K.cmp On right }
-    ensures { result ≡ pointwise (λ p q. K.eq p.0 q.0 && V.eq p.1 q.1) (rest K.cmp On left.entry)
-        (rest K.cmp On right.entry) }
+    ensures { result ≡ pointwise (λ p q. K.eq p.0 q.0 && V.eq p.1 q.1)
+        (rest K.cmp On left.entry) (rest K.cmp On right.entry) }
 {
     let (mut left, mut right) = (left, right);
     while let Some(pair) = left.next() {

@@ -54,8 +54,8 @@ impl<K: Ord + Drop, V: Drop, const LEN: usize> ArrayOf<K, V, LEN> {
     /// callable on the value that is stored with the key.
     pub fn remove_if<F: FnOnce(&V) -> bool + Drop>(&mut self, key: &K, condition: F) -> RemoveResult
         requires { ForSome (pair_at K.cmp self.old.entries key.now) (λ pair. FnOnceTakesAt F.FnOnce condition pair.1) }
-        ensures absent { IsAbsent K.cmp self.old.entries key.now → (self.new ≡ self.old)
-            × (result ≡ RemoveResult.Fail) }
+        ensures absent { IsAbsent K.cmp self.old.entries key.now
+            → (self.new ≡ self.old) × (result ≡ RemoveResult.Fail) }
         ensures present { IfSome (pair_at K.cmp self.old.entries key.now)
             (λ pair. (said : Bool) × FnOnceReturnsAt F.FnOnce condition pair.1 said
             × IsRemoval K.cmp self.old key.now said result self.new) }

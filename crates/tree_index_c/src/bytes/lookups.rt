@@ -43,8 +43,8 @@ pub extern "C" fn tree_index_bytes_peek(
 pub extern "C" fn tree_index_bytes_contains(alloc: Global, handle: &mut Handle, key: &[u8]) -> u8
     ensures { OnBytes
         (λ old answer new. Says (IsPresent (slice_cmp nat_cmp) old.pairs key.now)
-        (IsAbsent (slice_cmp nat_cmp) old.pairs key.now) answer × (new ≡ old)) (held handle.old) result
-        (held handle.new) }
+        (IsAbsent (slice_cmp nat_cmp) old.pairs key.now) answer × (new ≡ old))
+        (held handle.old) result (held handle.new) }
 {
     let Some(store) = handle.take(alloc) else {
         return MISFIT;
@@ -157,8 +157,8 @@ fn peek(store: &Store, key: &[u8], value: &mut u64) -> u8
 fn contains(store: &Store, key: &[u8]) -> u8
     ensures { OnBytes
         (λ old answer new. Says (IsPresent (slice_cmp nat_cmp) old.pairs key.now)
-        (IsAbsent (slice_cmp nat_cmp) old.pairs key.now) answer × (new ≡ old)) (Some store.now) result
-        (Some store.now) }
+        (IsAbsent (slice_cmp nat_cmp) old.pairs key.now) answer × (new ≡ old))
+        (Some store.now) result (Some store.now) }
 {
     let Store::Bytes(index) = store else {
         return MISFIT;

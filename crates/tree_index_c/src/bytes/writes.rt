@@ -35,8 +35,8 @@ pub extern "C" fn tree_index_bytes_insert(
     key: &[u8],
     value: u64,
 ) -> u8
-    ensures { OnBytes (λ old. Stores (slice_cmp nat_cmp) ⊤ key.now value old) (held handle.old) result
-        (held handle.new) }
+    ensures { OnBytes (λ old. Stores (slice_cmp nat_cmp) ⊤ key.now value old)
+        (held handle.old) result (held handle.new) }
 {
     let Some(mut store) = handle.take(alloc) else {
         return MISFIT;
@@ -54,8 +54,8 @@ pub extern "C" fn tree_index_bytes_upsert(
     key: &[u8],
     value: u64,
 ) -> u8
-    ensures { OnBytes (λ old. Replaces (slice_cmp nat_cmp) ⊤ key.now value old) (held handle.old) result
-        (held handle.new) }
+    ensures { OnBytes (λ old. Replaces (slice_cmp nat_cmp) ⊤ key.now value old)
+        (held handle.old) result (held handle.new) }
 {
     let Some(mut store) = handle.take(alloc) else {
         return MISFIT;
@@ -68,8 +68,8 @@ pub extern "C" fn tree_index_bytes_upsert(
 /// Removes the pair with a key. Answers whether there was one. Copies the key meanwhile.
 #[unsafe(no_mangle)]
 pub extern "C" fn tree_index_bytes_remove(alloc: Global, handle: &mut Handle, key: &[u8]) -> u8
-    ensures { OnBytes (λ old. RemovesOrRefuses (slice_cmp nat_cmp) key.now old) (held handle.old) result
-        (held handle.new) }
+    ensures { OnBytes (λ old. RemovesOrRefuses (slice_cmp nat_cmp) key.now old)
+        (held handle.old) result (held handle.new) }
 {
     let Some(mut store) = handle.take(alloc) else {
         return MISFIT;
@@ -157,8 +157,8 @@ fn insert(store: &mut Store, alloc: Global, key: &[u8], value: u64) -> u8
 }
 
 fn upsert(store: &mut Store, alloc: Global, key: &[u8], value: u64) -> u8
-    ensures { OnBytes (λ old. Replaces (slice_cmp nat_cmp) ⊤ key.now value old) (Some store.old) result
-        (Some store.new) }
+    ensures { OnBytes (λ old. Replaces (slice_cmp nat_cmp) ⊤ key.now value old)
+        (Some store.old) result (Some store.new) }
 {
     let Store::Bytes(index) = store else {
         return MISFIT;
@@ -173,8 +173,8 @@ fn upsert(store: &mut Store, alloc: Global, key: &[u8], value: u64) -> u8
 }
 
 fn remove(store: &mut Store, alloc: Global, key: &[u8]) -> u8
-    ensures { OnBytes (λ old. RemovesOrRefuses (slice_cmp nat_cmp) key.now old) (Some store.old) result
-        (Some store.new) }
+    ensures { OnBytes (λ old. RemovesOrRefuses (slice_cmp nat_cmp) key.now old)
+        (Some store.old) result (Some store.new) }
 {
     let Store::Bytes(index) = store else {
         return MISFIT;

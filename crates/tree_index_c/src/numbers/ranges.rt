@@ -56,8 +56,8 @@ pub extern "C" fn tree_index_fill_back(
 ) -> usize
     ensures kept { held handle.new ≡ held handle.old }
     ensures filled { Fills as_pair
-        (reverse (pairs_between nat_cmp (bound_at low_kind low) (bound_at high_kind high)
-        (numbers_in (held handle.old)))) places.old result places.new }
+        (reverse (pairs_between nat_cmp (bound_at low_kind low)
+        (bound_at high_kind high) (numbers_in (held handle.old)))) places.old result places.new }
 {
     let Some(store) = handle.take(alloc) else {
         return 0;
@@ -94,8 +94,8 @@ pub extern "C" fn tree_index_remove_range(
 fn remove_range(store: &mut Store, low_kind: u8, low: u64, high_kind: u8, high: u64) -> u8
     ensures { OnNumbers
         (λ old answer new. (answer ≡ YES)
-        × (new.pairs ≡ cut nat_cmp old.pairs (bound_at low_kind low) (bound_at high_kind high))) (Some store.old) result
-        (Some store.new) }
+        × (new.pairs ≡ cut nat_cmp old.pairs (bound_at low_kind low) (bound_at high_kind high)))
+        (Some store.old) result (Some store.new) }
 {
     let Store::Numbers(index) = store else {
         return MISFIT;

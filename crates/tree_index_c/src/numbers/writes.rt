@@ -29,8 +29,8 @@ pub extern "C" fn tree_index_new(alloc: Global, handle: &mut Handle) -> u8
 /// Stores a pair if its key is absent. Answers `NO` if it is present.
 #[unsafe(no_mangle)]
 pub extern "C" fn tree_index_insert(alloc: Global, handle: &mut Handle, key: u64, value: u64) -> u8
-    ensures { OnNumbers (λ old. Stores nat_cmp (old.spare ≡ 0) key value old) (held handle.old) result
-        (held handle.new) }
+    ensures { OnNumbers (λ old. Stores nat_cmp (old.spare ≡ 0) key value old)
+        (held handle.old) result (held handle.new) }
 {
     let Some(mut store) = handle.take(alloc) else {
         return MISFIT;
@@ -43,8 +43,8 @@ pub extern "C" fn tree_index_insert(alloc: Global, handle: &mut Handle, key: u64
 /// Stores a pair, in place of one with an equal key.
 #[unsafe(no_mangle)]
 pub extern "C" fn tree_index_upsert(alloc: Global, handle: &mut Handle, key: u64, value: u64) -> u8
-    ensures { OnNumbers (λ old. Replaces nat_cmp (old.spare ≡ 0) key value old) (held handle.old) result
-        (held handle.new) }
+    ensures { OnNumbers (λ old. Replaces nat_cmp (old.spare ≡ 0) key value old)
+        (held handle.old) result (held handle.new) }
 {
     let Some(mut store) = handle.take(alloc) else {
         return MISFIT;
@@ -134,8 +134,8 @@ fn insert(store: &mut Store, key: u64, value: u64) -> u8
 }
 
 fn upsert(store: &mut Store, key: u64, value: u64) -> u8
-    ensures { OnNumbers (λ old. Replaces nat_cmp (old.spare ≡ 0) key value old) (Some store.old) result
-        (Some store.new) }
+    ensures { OnNumbers (λ old. Replaces nat_cmp (old.spare ≡ 0) key value old)
+        (Some store.old) result (Some store.new) }
 {
     let Store::Numbers(index) = store else {
         return MISFIT;
