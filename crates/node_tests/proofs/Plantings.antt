@@ -1,8 +1,13 @@
 -- What stands under the root of a tree that a test plants, and what calls leave of it.
 use Rattle.std.proofs.Common.{◌≡◌, ◌↔◌, ◌⊎◌, Bool, IsTrue, true, false, Result, Ok, Err, IfOk, OnErr, ℕ, zero, suc, ◌<◌, ◌+◌, ◌≤◌, [], ◌∷◌, Some, None, refl, sym, ◌∙◌, arith, add-one, ap, map, flat_map, IsSome, List, inl, inr, Ordering}
 use Rattle.tree_model.proofs.Common.{cases_eq, false≢true, Bound}
-use Rattle.tree_array.proofs.Common.{in_order, RemoveResult, Success, Retired, Fail}
-use Rattle.tree_node.proofs.Common.{Slab, get, IsChain, LeafOf, times, uses, none_here, one_here, times-append, times-cons, times-nil, uses_some, BranchOf, NodeOf, Internal, TreeArenas, IsPart, Unchanged, IsOfLevel, HasKind, IsRetired, StandsOrRetired, children_of, keyed, leaves_at, nodes_at, unbounded}
+use Rattle.tree_array.proofs.Common.{in_order}
+use Rattle.tree_array.specs.declared.answers.RemoveResult.{RemoveResult}
+use Rattle.tree_array.specs.declared.answers.RemoveResult.TheVariants.{Success, Retired, Fail}
+use Rattle.tree_node.proofs.Common.{Slab, get, IsChain, LeafOf, times, uses, none_here, one_here, times-append, times-cons, times-nil, uses_some, TreeArenas, IsPart, Unchanged, IsOfLevel, HasKind, IsRetired, StandsOrRetired, children_of, keyed, leaves_at, nodes_at, unbounded}
+use Rattle.tree_node.specs.declared.branch.BranchOf.{BranchOf}
+use Rattle.tree_node.specs.declared.node.NodeOf.{NodeOf}
+use Rattle.tree_node.specs.declared.node.NodeOf.TheVariants.{Internal}
 use Rattle.tree_array.specs.declared.answers.InsertResult.{InsertResult}
 use Rattle.tree_array.specs.declared.answers.InsertResult.TheVariants.{Full}
 use Rattle.tree_cut.specs.Cuts.{CutsUnder}

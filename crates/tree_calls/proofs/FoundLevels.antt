@@ -1,7 +1,9 @@
 -- The level that a walk finds serves in place of the one that the contract speaks of: they differ for a retired node alone, which has nothing under it.
 use Rattle.std.proofs.Common.{◌≡◌, ◌⊎◌, ℕ, zero, suc, ◌+◌, ◌*◌, ◌<◌, ◌≤◌, Bool, [], ◌∷◌, Option, Some, None, MatchOption, inl, inr, refl, arith, Ordering}
-use Rattle.tree_model.proofs.Common.{Bound, Way}
-use Rattle.tree_array.proofs.Common.{RemoveResult, Success, Retired, Fail}
+use Rattle.tree_model.proofs.Common.{Bound}
+use Rattle.tree_model.specs.declared.way.Way.{Way}
+use Rattle.tree_array.specs.declared.answers.RemoveResult.{RemoveResult}
+use Rattle.tree_array.specs.declared.answers.RemoveResult.TheVariants.{Success, Retired, Fail}
 use Rattle.tree_node.proofs.Common.{get, TreeArenas, IsPart, Unchanged, IsRetired, Stands, StandsOrRetired, leaves_at, nodes_at, walk}
 use Rattle.tree_chain.proofs.Common.{LeafWalk}
 use Rattle.std.proofs.Math.Nat.{mul-le-mul_left}

@@ -1,6 +1,9 @@
 -- The level that is found of a root serves in place of its depth: a retired root may be taken at any level.
 use Rattle.std.proofs.Common.{◌≡◌, ◌⊎◌, ℕ, zero, suc, ◌<◌, Option, Some, inl, inr, arith, Ordering}
-use Rattle.tree_node.proofs.Common.{BranchOf, NodeOf, Internal, TreeArenas, IsPart, IsOfLevel, IsRetired}
+use Rattle.tree_node.proofs.Common.{TreeArenas, IsPart, IsOfLevel, IsRetired}
+use Rattle.tree_node.specs.declared.branch.BranchOf.{BranchOf}
+use Rattle.tree_node.specs.declared.node.NodeOf.{NodeOf}
+use Rattle.tree_node.specs.declared.node.NodeOf.TheVariants.{Internal}
 use Rattle.tree_remove.specs.Lowering.{LowersRoot}
 use Rattle.tree_calls.proofs.FoundLevels.{itself, no_leaves, retired_too}
 

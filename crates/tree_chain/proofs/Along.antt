@@ -1,6 +1,8 @@
 -- A list that a walk steps through from either end: what lies ahead of it, and what a step takes of that.
 use Rattle.std.proofs.Common.{◌≡◌, ℕ, zero, suc, ◌+◌, ◌-◌, ◌<◌, List, [], ◌∷◌, ◌++◌, length, drop, take, reverse, slice_get, get_or, Option, Some, None, refl, sym, ap, ◌∙◌, arith, add-one, flat_map, append-nil, take_all}
-use Rattle.tree_model.proofs.Common.{AllByRecursion, reverse_onto, drop_all, reverse-append, reverse-reverse, flat_map-append, Way, On, Back, along}
+use Rattle.tree_model.proofs.Common.{AllByRecursion, reverse_onto, drop_all, reverse-append, reverse-reverse, flat_map-append, along}
+use Rattle.tree_model.specs.declared.way.Way.{Way}
+use Rattle.tree_model.specs.declared.way.Way.TheVariants.{On, Back}
 use Rattle.tree_chain.proofs.Common.{first_of, next_place}
 use mathlib.Core.List.{reverse_aux}
 use Rattle.std.proofs.lemmas.List.{length-reverse}

@@ -1,6 +1,8 @@
 -- Where a jump over leaves ends, and which entry it finds.
 use Rattle.std.proofs.Common.{◌≡◌, ℕ, ◌==◌, Bool, true, false, cond, List, [], ◌∷◌, ◌++◌, length, reverse, slice_get, Option, Some, None, option_map, refl, sym, ap, ◌∙◌, arith, append_assoc, inl, inr, ◌⊎◌, Bor, flat_map}
-use Rattle.tree_model.proofs.Common.{nat_tests, reverse_onto, reverse-append, reverse-reverse, Way, On, Back, lent_entry, along}
+use Rattle.tree_model.proofs.Common.{nat_tests, reverse_onto, reverse-append, reverse-reverse, lent_entry, along}
+use Rattle.tree_model.specs.declared.way.Way.{Way}
+use Rattle.tree_model.specs.declared.way.Way.TheVariants.{On, Back}
 use Rattle.tree_chain.proofs.Common.{LeafWalk, Steps, first_of, standing, beyond, leaves_on, next_place}
 use Rattle.slab.specs.Slab.{Slab}
 use Rattle.tree_leaf.specs.declared.leaf.LeafOf.{LeafOf}

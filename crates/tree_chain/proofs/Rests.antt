@@ -1,6 +1,8 @@
 -- What is left of a walk on its way: a step or a jump takes the first of it, and its count falls.
 use Rattle.std.proofs.Common.{◌≡◌, ℕ, zero, suc, ◌+◌, ◌<◌, ◌≤◌, ◌==◌, cond, List, [], ◌∷◌, ◌++◌, length, map, reverse, Option, Some, None, IsSome, option_map, Result, Ok, Err, IfOk, refl, sym, ap, ◌∙◌, arith, append_assoc, length-append, append-nil, Bor}
-use Rattle.tree_model.proofs.Common.{reverse_onto, map-append, reverse-append, reverse-reverse, flat_map-append, Way, On, Back, lent_entry, along}
+use Rattle.tree_model.proofs.Common.{reverse_onto, map-append, reverse-append, reverse-reverse, flat_map-append, lent_entry, along}
+use Rattle.tree_model.specs.declared.way.Way.{Way}
+use Rattle.tree_model.specs.declared.way.Way.TheVariants.{On, Back}
 use Rattle.tree_chain.proofs.Common.{LeafWalk, Steps, first_of, standing, beyond, leaves_on, next_place}
 use Rattle.slab.specs.Slab.{Slab, get}
 use Rattle.tree_leaf.specs.declared.leaf.LeafOf.{LeafOf}

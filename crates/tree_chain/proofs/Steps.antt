@@ -1,6 +1,7 @@
 -- The slots that a walk goes through, and the entries of the leaf that it stands in.
 use Rattle.std.proofs.Common.{◌≡◌, ℕ, zero, suc, List, [], ◌∷◌, map, length, slice_get, Option, Some, None, IsSome, option_and_then, option_map, refl, sym, ap, ◌∙◌, arith, Bor}
-use Rattle.tree_model.proofs.Common.{MakesProgress, Way, lent_entry}
+use Rattle.tree_model.proofs.Common.{MakesProgress, lent_entry}
+use Rattle.tree_model.specs.declared.way.Way.{Way}
 use Rattle.tree_array.proofs.Common.{arrival, Walk}
 use Rattle.tree_chain.proofs.Common.{LeafWalk, Steps, standing, next_place}
 use Rattle.std.proofs.lemmas.List.{length-map}

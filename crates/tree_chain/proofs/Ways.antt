@@ -1,6 +1,8 @@
 -- The way that links lead from a leaf: which leaves they pass, that it ends, and where a jump lands.
 use Rattle.std.proofs.Common.{is_some, ◌≡◌, ℕ, zero, suc, ◌<◌, ◌≤◌, ◌==◌, true, false, List, [], ◌∷◌, ◌++◌, length, Option, Some, None, IsSome, option_map, refl, sym, ap, ◌∙◌, arith, length-append}
-use Rattle.tree_model.proofs.Common.{nat_tests, Way, On, Back}
+use Rattle.tree_model.proofs.Common.{nat_tests}
+use Rattle.tree_model.specs.declared.way.Way.{Way}
+use Rattle.tree_model.specs.declared.way.Way.TheVariants.{On, Back}
 use Rattle.tree_chain.proofs.Common.{leaves_on}
 use mathlib.Core.List.{reverse_aux}
 use Rattle.std.proofs.lemmas.List.{length-reverse}

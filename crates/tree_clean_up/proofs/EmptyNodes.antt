@@ -1,6 +1,8 @@
 -- A leaf node whose only leaf is retired, and is dropped.
 use Rattle.std.proofs.Common.{◌≡◌, ℕ, ◌≤◌, List, [], ◌∷◌, ◌++◌, Some, None, refl, sym, ap, ◌∙◌, arith, Ordering}
-use Rattle.tree_array.proofs.Common.{RemoveResult, Success, Retired, Fail, Arrivals}
+use Rattle.tree_array.proofs.Common.{Arrivals}
+use Rattle.tree_array.specs.declared.answers.RemoveResult.{RemoveResult}
+use Rattle.tree_array.specs.declared.answers.RemoveResult.TheVariants.{Success, Retired, Fail}
 use Rattle.tree_node.proofs.Common.{get, times, uses, times-append, times-nil, TreeArenas, IsPart, Stands, children_of, keyed, leaves_at, unbounded}
 use Rattle.tree_clean_up.specs.CleanUps.{DropsUnbounded, IsOnlyRetired, Retires, RetiresIfEmpty}
 use Rattle.tree_node.proofs.Lifts.{lifted}

@@ -1,6 +1,7 @@
 -- A retired node that is taken out of its arena.
 use Rattle.std.proofs.Common.{◌≡◌, ℕ, suc, ◌==◌, cond, [], ◌∷◌, refl, arith}
-use Rattle.tree_node.proofs.Common.{get, Loses, times, same_array_refl, times-cons, times-nil, one_here, NodeOf, TreeArenas, Replaces, leaves_at, nodes_at, IsRetiredNode}
+use Rattle.tree_node.proofs.Common.{get, Loses, times, same_array_refl, times-cons, times-nil, one_here, TreeArenas, Replaces, leaves_at, nodes_at, IsRetiredNode}
+use Rattle.tree_node.specs.declared.node.NodeOf.{NodeOf}
 use Rattle.tree_node.proofs.Lifts.{single_leaves, single_nodes}
 use Rattle.tree_node.proofs.Standing.{no_children}
 use Rattle.tree_clean_up.proofs.Losses.{lost_counted}

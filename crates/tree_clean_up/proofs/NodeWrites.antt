@@ -1,6 +1,6 @@
 -- A node that is written.
 use Rattle.std.proofs.Common.{ℕ, Option, Some, None, IsSome, refl}
-use Rattle.tree_node.proofs.Common.{NodeOf}
+use Rattle.tree_node.specs.declared.node.NodeOf.{NodeOf}
 use Rattle.tree_clean_up.specs.CleanUps.{HasChildIn}
 
 -- a node that has a child in a slot is there

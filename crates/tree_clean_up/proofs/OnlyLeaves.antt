@@ -1,6 +1,7 @@
 -- A node without keyed children.
 use Rattle.std.proofs.Common.{◌≡◌, ℕ, suc, true, List, [], ◌∷◌, Some, None, IsSome, refl, sym, ap, ◌∙◌, Ordering}
-use Rattle.tree_node.proofs.Common.{get, LeafOf, NodeOf, TreeArenas, children_of, in_turn, keyed, unbounded, Stands}
+use Rattle.tree_node.proofs.Common.{get, LeafOf, TreeArenas, children_of, in_turn, keyed, unbounded, Stands}
+use Rattle.tree_node.specs.declared.node.NodeOf.{NodeOf}
 use Rattle.tree_clean_up.specs.CleanUps.{HasOnlyRetired, IsOnlyRetired}
 
 -- one child in all is the unbounded one

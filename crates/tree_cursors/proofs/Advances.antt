@@ -1,6 +1,7 @@
 -- A walk that goes on stands on the entry that it took, in its leaf or behind a jump.
 use Rattle.std.proofs.Common.{◌≡◌, ℕ, ◌==◌, cond, List, [], ◌∷◌, ◌++◌, length, Option, None, Some, IfSome, option_map, refl, sym, ap, ◌∙◌, Bor}
-use Rattle.tree_model.proofs.Common.{Way, lent_entry, along}
+use Rattle.tree_model.proofs.Common.{lent_entry, along}
+use Rattle.tree_model.specs.declared.way.Way.{Way}
 use Rattle.tree_node.proofs.Common.{leaf_entries, entries_of}
 use Rattle.tree_chain.proofs.Common.{LeafWalk, Steps, first_of, standing, beyond, leaves_on, next_place}
 use Rattle.tree_chain.specs.Walks.{Jumps, jumped, stood_on}

@@ -1,6 +1,8 @@
 -- The place of a walk among the pairs of a tree, and where it goes.
 use Rattle.std.proofs.Common.{◌≡◌, ℕ, zero, ◌+◌, ◌<◌, ◌==◌, true, false, List, [], ◌∷◌, ◌++◌, length, drop, take, reverse, slice_get, inl, inr, ◌⊎◌, suc, Option, Some, None, refl, sym, ap, ◌∙◌, arith, length-append, length-drop, append-nil, length-take, Bor, Ordering}
-use Rattle.tree_model.proofs.Common.{cases_eq, nat_tests, flat_map-append, Bound, Unbounded, Way, On, Back, lent_entry, along, at_place, meets, next_end, unopened}
+use Rattle.tree_model.proofs.Common.{cases_eq, nat_tests, flat_map-append, Bound, Unbounded, lent_entry, along, at_place, meets, next_end, unopened}
+use Rattle.tree_model.specs.declared.way.Way.{Way}
+use Rattle.tree_model.specs.declared.way.Way.TheVariants.{On, Back}
 use Rattle.tree_node.proofs.Common.{Slab, LeafOf, IsChain, times, entries_of, leaf_entries, one_here, times-cons, uses_le_one, TreeArenas, StandsOrRetired, leaves_at, walk, IsRetiredRoot, IsTree, leaves_under, walk_under}
 use Rattle.tree_chain.proofs.Common.{LeafWalk, Steps, standing, beyond}
 use Rattle.std.proofs.lemmas.List.{length-reverse}

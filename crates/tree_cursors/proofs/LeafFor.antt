@@ -2,7 +2,10 @@
 use Rattle.std.proofs.Common.{◌≡◌, ℕ, zero, suc, ◌-◌, ◌<◌, List, [], ◌∷◌, ◌++◌, Option, Some, None, MatchOption, inl, inr, refl, sym, ap, ◌∙◌, append_assoc, arith, sub-one, flat_map, Ordering, Less}
 use Rattle.tree_model.proofs.Common.{IsTotalOrder, flat_map-append}
 use Rattle.tree_array.proofs.Common.{all-append}
-use Rattle.tree_node.proofs.Common.{get, entries_of, leaf_entries, BranchOf, NodeOf, Internal, Leaf, TreeArenas, HasChildFor, IsRetiredNode, Stands, StandsOrRetired, back_at, child_of, children_of, front_at, is_from, keyed, leaves_at, unbounded, walk}
+use Rattle.tree_node.proofs.Common.{get, entries_of, leaf_entries, TreeArenas, HasChildFor, IsRetiredNode, Stands, StandsOrRetired, back_at, child_of, children_of, front_at, is_from, keyed, leaves_at, unbounded, walk}
+use Rattle.tree_node.specs.declared.branch.BranchOf.{BranchOf}
+use Rattle.tree_node.specs.declared.node.NodeOf.{NodeOf}
+use Rattle.tree_node.specs.declared.node.NodeOf.TheVariants.{Internal, Leaf}
 use Rattle.tree_node.proofs.Children.{child_stands, stands_over}
 use Rattle.tree_node.proofs.Levels.{kind_of}
 use Rattle.tree_node.proofs.Lists.{flat_map-flat_map}

@@ -1,6 +1,8 @@
 -- The first place on a way whose element passes, and the place beside one, told by how many places are left behind it.
 use Rattle.std.proofs.Common.{◌≡◌, ℕ, suc, zero, ◌+◌, ◌<◌, ltb, Bool, true, false, List, [], ◌∷◌, ◌++◌, length, reverse, slice_get, Some, None, refl, sym, ap, ◌∙◌, arith, length-append, append_assoc, is_lt, Ordering, Less, Greater}
-use Rattle.tree_model.proofs.Common.{AllByRecursion, IsTotalOrder, nat_tests, tied_itself, reverse_onto, reverse-append, reverse-reverse, IsAscending, Way, On, Back, along, greatest_place}
+use Rattle.tree_model.proofs.Common.{AllByRecursion, IsTotalOrder, nat_tests, tied_itself, reverse_onto, reverse-append, reverse-reverse, IsAscending, along, greatest_place}
+use Rattle.tree_model.specs.declared.way.Way.{Way}
+use Rattle.tree_model.specs.declared.way.Way.TheVariants.{On, Back}
 use Rattle.tree_array.proofs.Common.{greater_from_less}
 use Rattle.std.proofs.lemmas.List.{length-reverse}
 use Rattle.tree_chain.specs.Ways.{places_left}

@@ -1,6 +1,8 @@
 -- A walk that seeks the first pair within a bound: what it has passed, and what is left.
 use Rattle.std.proofs.Common.{◌≡◌, ℕ, true, false, List, [], ◌∷◌, ◌++◌, Option, None, Some, MatchOption, ◌⊎◌, inl, inr, refl, sym, ap, ◌∙◌, append_assoc, Bor, Ordering, Less, append-nil}
-use Rattle.tree_model.proofs.Common.{AllByRecursion, Bound, Included, Excluded, IsTotalOrder, reverse-append, flat_map-append, Way, On, Back, lent_entry, along, meets}
+use Rattle.tree_model.proofs.Common.{AllByRecursion, Bound, Included, Excluded, IsTotalOrder, reverse-append, flat_map-append, lent_entry, along, meets}
+use Rattle.tree_model.specs.declared.way.Way.{Way}
+use Rattle.tree_model.specs.declared.way.Way.TheVariants.{On, Back}
 use Rattle.tree_array.proofs.Common.{all-append, all_map, greater_from_less}
 use Rattle.tree_node.proofs.Common.{Slab, LeafOf, IsChain, entries_of, leaf_entries, TreeArenas, leaves_at, walk}
 use Rattle.tree_chain.proofs.Common.{LeafWalk, standing, beyond}

@@ -1,7 +1,8 @@
 -- Parts without a pair, as their unbounded children tell.
 use Rattle.std.proofs.Common.{◌≡◌, ℕ, suc, ◌-◌, ◌<◌, List, [], ◌∷◌, ◌++◌, length, slice_get, Option, Some, None, refl, sym, ◌∙◌, arith, flat_map, Ordering, append-nil}
 use Rattle.tree_model.proofs.Common.{AllByRecursion}
-use Rattle.tree_node.proofs.Common.{get, LeafOf, NodeOf, TreeArenas, Stands, in_turn, keyed, node_children, unbounded, walk}
+use Rattle.tree_node.proofs.Common.{get, LeafOf, TreeArenas, Stands, in_turn, keyed, node_children, unbounded, walk}
+use Rattle.tree_node.specs.declared.node.NodeOf.{NodeOf}
 use Rattle.tree_node.proofs.Children.{walk-leaf}
 use Rattle.tree_node.proofs.Walks.{walk-children}
 use Rattle.tree_cut.specs.Cuts.{HasNoEmpty, HasPair}

@@ -1,7 +1,8 @@
 -- The first and the last leaf of a part, and of a part that is dropped the leaves beside it.
 use Rattle.std.proofs.Common.{sub-one, ◌≡◌, ℕ, zero, suc, ◌-◌, ◌<◌, ◌≤◌, List, [], ◌∷◌, ◌++◌, Some, None, IsSome, refl, sym, ap, ◌∙◌, arith, append_assoc, flat_map, Ordering, append-nil}
 use Rattle.tree_model.proofs.Common.{AllByRecursion, flat_map-append}
-use Rattle.tree_node.proofs.Common.{Slab, get, LeafOf, IsChain, times, uses, times-append, times-cons, times-nil, one_here, uses_le_one, NodeOf, TreeArenas, IsPart, Replaces, HasKind, Stands, unbounded, leaves_at, leaves_of, node_children, walk}
+use Rattle.tree_node.proofs.Common.{Slab, get, LeafOf, IsChain, times, uses, times-append, times-cons, times-nil, one_here, uses_le_one, TreeArenas, IsPart, Replaces, HasKind, Stands, unbounded, leaves_at, leaves_of, node_children, walk}
+use Rattle.tree_node.specs.declared.node.NodeOf.{NodeOf}
 use Rattle.tree_leaf.specs.Chain.{first_or, last_or}
 use Rattle.tree_leaf.specs.Links.{Splices}
 use Rattle.tree_leaf.proofs.Chains.{linked_kept, neighbours, next_used, prev_used, same_array_uses}

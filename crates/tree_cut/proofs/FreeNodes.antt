@@ -1,7 +1,8 @@
 -- A node that is taken out of its arena, and then its children, which are freed in turn.
 use Rattle.std.proofs.Common.{sub-one, ◌≡◌, ℕ, zero, suc, ◌-◌, ◌+◌, ◌≤◌, List, [], ◌∷◌, map, drop, length, length-append, slice_get, Option, Some, None, IsSome, refl, ap, arith, flat_map, Ordering}
 use Rattle.tree_model.proofs.Common.{drop_all}
-use Rattle.tree_node.proofs.Common.{Loses, NodeOf, TreeArenas, HasKind, in_turn, node_children, unbounded, walk}
+use Rattle.tree_node.proofs.Common.{Loses, TreeArenas, HasKind, in_turn, node_children, unbounded, walk}
+use Rattle.tree_node.specs.declared.node.NodeOf.{NodeOf}
 use Rattle.std.proofs.lemmas.List.{length-map}
 use Rattle.tree_cut.specs.declared.parts.Part.TheVariants.{Node}
 use Rattle.tree_cut.specs.Parts.{Frees, IsAt, IsForest}

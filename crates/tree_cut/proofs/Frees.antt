@@ -2,7 +2,8 @@
 use Rattle.std.proofs.Common.{◌≡◌, ℕ, suc, ◌+◌, ◌≤◌, ◌==◌, cond, List, [], ◌∷◌, length, length-append, Some, None, is_some, refl, sym, ap, ◌∙◌, arith, inl, inr, flat_map, Ordering}
 use Rattle.tree_model.proofs.Common.{AllByRecursion, cases_eq}
 use Rattle.tree_array.proofs.Common.{all_map}
-use Rattle.tree_node.proofs.Common.{Slab, get, LeafOf, Loses, times, uses, same_array_refl, times-nil, times-append, times-cons, one_here, uses_le_one, uses_same, NodeOf, TreeArenas, Stands, children_of, unbounded, leaves_at, nodes_at, leaves_of, nodes_of, node_children, walk}
+use Rattle.tree_node.proofs.Common.{Slab, get, LeafOf, Loses, times, uses, same_array_refl, times-nil, times-append, times-cons, one_here, uses_le_one, uses_same, TreeArenas, Stands, children_of, unbounded, leaves_at, nodes_at, leaves_of, nodes_of, node_children, walk}
+use Rattle.tree_node.specs.declared.node.NodeOf.{NodeOf}
 use Rattle.tree_node.proofs.Children.{walk-leaf}
 use Rattle.tree_node.proofs.ChildrenStand.{children_stand}
 use Rattle.tree_node.proofs.Frames.{each_part, all_both, Agrees, same_leaves, same_nodes, same_stands, same_walk}

@@ -2,7 +2,8 @@
 use Rattle.std.proofs.Common.{sub-one, ◌≡◌, ℕ, zero, suc, ◌-◌, ◌<◌, ◌≤◌, List, [], ◌∷◌, length, slice_get, true, false, is_some, MatchOption, Option, Some, None, IsSome, refl, sym, ap, ◌∙◌, subst, arith, Ordering}
 use Rattle.tree_model.proofs.Common.{Bound, IsTotalOrder}
 use Rattle.tree_array.proofs.Common.{arrival}
-use Rattle.tree_node.proofs.Common.{get, NodeOf, TreeArenas, IsPart, Replaces, HasKind, Stands, keyed, node_children, unbounded, walk}
+use Rattle.tree_node.proofs.Common.{get, TreeArenas, IsPart, Replaces, HasKind, Stands, keyed, node_children, unbounded, walk}
+use Rattle.tree_node.specs.declared.node.NodeOf.{NodeOf}
 use Rattle.tree_node.proofs.Standing.{node_is}
 use Rattle.tree_clean_up.specs.CleanUps.{HasChildIn, TakesKeyed}
 use Rattle.tree_cut.specs.Cuts.{CutsChild, CutsUnder, DropsChild, HasNoEmpty, HasNoEmptyBut, HasPair}

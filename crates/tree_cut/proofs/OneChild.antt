@@ -2,7 +2,8 @@
 use Rattle.std.proofs.Common.{◌≡◌, ℕ, zero, suc, ◌≤◌, ◌<◌, List, [], ◌∷◌, ◌++◌, map, take, drop, length, length-append, slice_get, Option, Some, None, IsSome, refl, sym, ap, ◌∙◌, arith, append_assoc, Ordering, take-append-drop}
 use Rattle.tree_model.proofs.Common.{AllByRecursion, Bound, IsTotalOrder, tied_itself, map-append, cut, without}
 use Rattle.tree_array.proofs.Common.{Arrivals, arrival, all_map, all-append}
-use Rattle.tree_node.proofs.Common.{get, times, uses, NodeOf, TreeArenas, IsPart, KeepsBounds, Replaces, AreParted, Stands, children_of, in_turn, keyed, leaves_at, unbounded, walk}
+use Rattle.tree_node.proofs.Common.{get, times, uses, TreeArenas, IsPart, KeepsBounds, Replaces, AreParted, Stands, children_of, in_turn, keyed, leaves_at, unbounded, walk}
+use Rattle.tree_node.specs.declared.node.NodeOf.{NodeOf}
 use Rattle.tree_node.proofs.Between.{without_between}
 use Rattle.tree_node.proofs.ChildrenStand.{children_stand}
 use Rattle.tree_node.proofs.Frames.{parted_map, Agrees, same_stands, same_walk}

@@ -1,7 +1,9 @@
 -- A key that is found in the leaf it belongs to, seen from the nodes above.
 use Rattle.std.proofs.Common.{◌≡◌, ℕ, ◌-◌, ◌<◌, List, Option, Some, None, IsSome, MatchOption, refl, sym, ◌∙◌, Ordering}
 use Rattle.tree_model.proofs.Common.{IsTotalOrder, pair_at}
-use Rattle.tree_node.proofs.Common.{get, LeafOf, BranchOf, Internal, Leaf, TreeArenas, child_of, IsRetired, StandsOrRetired, walk}
+use Rattle.tree_node.proofs.Common.{get, LeafOf, TreeArenas, child_of, IsRetired, StandsOrRetired, walk}
+use Rattle.tree_node.specs.declared.branch.BranchOf.{BranchOf}
+use Rattle.tree_node.specs.declared.node.NodeOf.TheVariants.{Internal, Leaf}
 use Rattle.tree_node.proofs.Levels.{childless, found_below, found_in_leaf, node_at, stands_not_retired}
 use Rattle.tree_descent.specs.Ways.{HoldsFor}
 

@@ -1,7 +1,10 @@
 -- The way down to the leaf that a key belongs to, seen from the node where it starts.
 use Rattle.std.proofs.Common.{◌≡◌, ◌⊎◌, ℕ, zero, suc, ◌+◌, ◌-◌, ◌<◌, None, Some, IsSome, inl, inr, refl, sym, ◌∙◌, arith, sub-one, Ordering}
 use Rattle.tree_model.proofs.Common.{IsTotalOrder}
-use Rattle.tree_node.proofs.Common.{get, BranchOf, NodeOf, Internal, Leaf, TreeArenas, IsPart, HasChildFor, HasKind, IsRetired, Stands, child_of, keyed, unbounded}
+use Rattle.tree_node.proofs.Common.{get, TreeArenas, IsPart, HasChildFor, HasKind, IsRetired, Stands, child_of, keyed, unbounded}
+use Rattle.tree_node.specs.declared.branch.BranchOf.{BranchOf}
+use Rattle.tree_node.specs.declared.node.NodeOf.{NodeOf}
+use Rattle.tree_node.specs.declared.node.NodeOf.TheVariants.{Internal, Leaf}
 use Rattle.tree_descent.specs.Ways.{IsOnWay}
 use Rattle.tree_node.proofs.ChildChanges.{child_part}
 use Rattle.tree_node.proofs.Children.{node_there}

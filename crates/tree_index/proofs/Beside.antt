@@ -1,6 +1,7 @@
 -- The pair at an end of a list, and the pair at a key or beside it, by the place that a look-up tells.
 use Rattle.std.proofs.Common.{◌≡◌, ℕ, zero, suc, ◌+◌, ◌-◌, ◌==◌, ◌<◌, ◌≤◌, Bool, true, false, if◌then◌else◌, List, [], ◌∷◌, length, slice_get, Option, Some, None, refl, ap, sym, ◌∙◌, arith, is_some, is_le, is_lt, Ordering, Less, Equal, Greater}
-use Rattle.tree_model.proofs.Common.{IsTotalOrder, Unbounded, nat_tests, On, Back, Cursor, at_place, fresh, greatest_place, shown, unopened, AllLarger, IsAscending, above, below, pair_at}
+use Rattle.tree_model.proofs.Common.{IsTotalOrder, Unbounded, nat_tests, Cursor, at_place, fresh, greatest_place, shown, unopened, AllLarger, IsAscending, above, below, pair_at}
+use Rattle.tree_model.specs.declared.way.Way.TheVariants.{On, Back}
 use Rattle.tree_array.proofs.Common.{all_map, filter_none, greater_from_less}
 use Rattle.tree_chain.proofs.Common.{first_of, last_of}
 use Rattle.std.specs.Option.{option_or}

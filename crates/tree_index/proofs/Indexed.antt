@@ -1,7 +1,9 @@
 -- The pairs of a whole tree ascend, and how many there are after a store and after a removal.
 use Rattle.std.proofs.Common.{◌≡◌, ◌⊎◌, ◌↔◌, ◌==◌, ℕ, zero, suc, ◌+◌, ◌<◌, Bool, true, false, IsTrue, List, [], ◌∷◌, length, Option, Some, None, MatchOption, is_some, Bor, Result, Ok, Err, inl, inr, refl, sym, ap, ◌∙◌, arith, Ordering, option_map, append-nil}
-use Rattle.tree_model.proofs.Common.{IsTotalOrder, nat_tests, InsertError, IsAbsent, IsAscending, IsPresent, pair_at, put}
-use Rattle.tree_array.proofs.Common.{StoreResult, New, Replaced, Duplicate, Full}
+use Rattle.tree_model.proofs.Common.{IsTotalOrder, nat_tests, IsAbsent, IsAscending, IsPresent, pair_at, put}
+use Rattle.tree_model.specs.declared.commands.InsertError.{InsertError}
+use Rattle.tree_array.specs.declared.answers.StoreResult.{StoreResult}
+use Rattle.tree_array.specs.declared.answers.StoreResult.TheVariants.{New, Replaced, Duplicate, Full}
 use Rattle.tree_node.proofs.Common.{get, TreeArenas, Stands, StandsOrRetired, leaves_at, walk, IsRetiredRoot, leaves_under, walk_under}
 use Rattle.tree_model.specs.declared.commands.InsertError.TheVariants.{Duplicate as SameKey, OutOfMemory}
 use Rattle.tree_model.specs.Edits.{Inserts as InsertsPair, handed_back}

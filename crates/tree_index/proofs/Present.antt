@@ -1,6 +1,7 @@
 -- What stands at a key, where it was present and where its pair was stored.
 use Rattle.std.proofs.Common.{◌≡◌, ◌↔◌, ℕ, IsTrue, true, false, Option, Some, None, refl, ◌∙◌, IsSome, Result, Err, is_some, Ordering, Equal}
-use Rattle.tree_model.proofs.Common.{IsTotalOrder, InsertError, IsAbsent, pair_at, put}
+use Rattle.tree_model.proofs.Common.{IsTotalOrder, IsAbsent, pair_at, put}
+use Rattle.tree_model.specs.declared.commands.InsertError.{InsertError}
 use Rattle.tree_model.specs.declared.commands.InsertError.TheVariants.{Duplicate, OutOfMemory}
 use Rattle.tree_model.specs.Edits.{Inserts}
 use Rattle.tree_model.proofs.LookUps.{pair_at-put}

@@ -1,6 +1,7 @@
 -- How the pairs that a test refuses go one by one.
 use Rattle.std.proofs.Common.{◌≡◌, ◌<◌, Bool, true, false, ◌&&◌, List, [], ◌∷◌, ◌++◌, filter, length, Option, Some, None, refl, sym, ap, ◌∙◌, arith, append-nil, append_assoc, Bor, is_eq, is_lt, Ordering, Less}
-use Rattle.tree_model.proofs.Common.{IsTotalOrder, AllByRecursion, Bound, Excluded, Unbounded, tied_itself, filter-append, AllLarger, IsAscending, pair_at, within, without, On, Cursor, fresh, rest}
+use Rattle.tree_model.proofs.Common.{IsTotalOrder, AllByRecursion, Bound, Excluded, Unbounded, tied_itself, filter-append, AllLarger, IsAscending, pair_at, within, without, Cursor, fresh, rest}
+use Rattle.tree_model.specs.declared.way.Way.TheVariants.{On}
 use Rattle.tree_array.proofs.Common.{all_map, filter_all, filter_none, greater_from_less}
 use Rattle.std.specs.Fn.{Called, Mut}
 use Rattle.std.proofs.lemmas.Fn.{FoldsTo-push}

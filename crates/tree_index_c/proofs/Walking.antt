@@ -1,6 +1,7 @@
 -- A cursor that fills places.
 use Rattle.std.proofs.Common.{◌≡◌, ℕ, ◌+◌, ◌<◌, ◌≤◌, List, ◌∷◌, length, Some, None, Bor, refl, sym, ap, ◌∙◌, subst, Ordering}
-use Rattle.tree_model.proofs.Common.{IsTotalOrder, Bound, Way, lent_entry, HasBegun, Moves, rest, along, Cursor, fresh}
+use Rattle.tree_model.proofs.Common.{IsTotalOrder, Bound, lent_entry, HasBegun, Moves, rest, along, Cursor, fresh}
+use Rattle.tree_model.specs.declared.way.Way.{Way}
 use Rattle.std.proofs.Math.ListN.{set}
 use Rattle.tree_ranges.specs.Ranged.{IsFresh, pairs_within}
 use Rattle.tree_ranges.proofs.Yields.{fresh_begun, rest_fresh, takes_first}

@@ -1,8 +1,10 @@
 -- An insert that goes down from a node: the part that stands there, and what its arms come to.
 use Rattle.std.proofs.Common.{◌≡◌, ◌⊎◌, ℕ, ◌-◌, ◌<◌, Bool, false, None, Some, Result, Ok, Err, inl, inr, refl, Ordering}
 use Rattle.tree_model.proofs.Common.{IsTotalOrder}
-use Rattle.tree_array.proofs.Common.{StoreResult, New, Replaced, Duplicate, Full}
-use Rattle.tree_node.proofs.Common.{get, NodeOf, TreeArenas, IsPart, HasChildFor, IsRetired, child_of, keyed, unbounded}
+use Rattle.tree_array.specs.declared.answers.StoreResult.{StoreResult}
+use Rattle.tree_array.specs.declared.answers.StoreResult.TheVariants.{New, Replaced, Duplicate, Full}
+use Rattle.tree_node.proofs.Common.{get, TreeArenas, IsPart, HasChildFor, IsRetired, child_of, keyed, unbounded}
+use Rattle.tree_node.specs.declared.node.NodeOf.{NodeOf}
 use Rattle.tree_insert.specs.Inserts.{InsertsUnder, asks_split}
 use Rattle.tree_insert.proofs.Retries.{IsFullBelow, child_part_at, full_below_at, inserts_in_node_at}
 use Rattle.tree_node.proofs.NodeKinds.{retired_node, some_child}

@@ -2,7 +2,8 @@
 use Rattle.std.proofs.Common.{◌≡◌, ℕ, false, [], ◌∷◌, None, Some, refl, ◌∙◌, inl, inr, arith, Ordering}
 use Rattle.tree_model.proofs.Common.{false≢true, IsTotalOrder}
 use Rattle.tree_array.proofs.Common.{Arrivals, in_order, IsLen}
-use Rattle.tree_node.proofs.Common.{get, LeafOf, NodeOf, TreeArenas, keyed, unbounded}
+use Rattle.tree_node.proofs.Common.{get, LeafOf, TreeArenas, keyed, unbounded}
+use Rattle.tree_node.specs.declared.node.NodeOf.{NodeOf}
 use Rattle.tree_array.specs.Insertion.{IsInsert}
 use Rattle.tree_array.specs.declared.answers.InsertResult.{InsertResult}
 use Rattle.tree_array.specs.declared.answers.InsertResult.TheVariants.{Success, Duplicate, Full}

@@ -1,7 +1,9 @@
 -- An insert in a leaf, and in the child that a key belongs to.
 use Rattle.std.proofs.Common.{◌≡◌, ℕ, suc, ◌-◌, ◌≤◌, min, Bool, false, List, [], ◌∷◌, ◌++◌, length, length-append, Option, Some, None, Result, Ok, Err, refl, sym, ap, ◌∙◌, arith, inl, inr, Ordering, Less}
 use Rattle.tree_model.proofs.Common.{AllByRecursion, IsTotalOrder, cases_eq, AllLarger, put}
-use Rattle.tree_array.proofs.Common.{StoreResult, New, Replaced, Duplicate, Full, Arrivals, free, spend, spent_at, IsFull, all-append, all-filter}
+use Rattle.tree_array.proofs.Common.{Arrivals, free, spend, spent_at, IsFull, all-append, all-filter}
+use Rattle.tree_array.specs.declared.answers.StoreResult.{StoreResult}
+use Rattle.tree_array.specs.declared.answers.StoreResult.TheVariants.{New, Replaced, Duplicate, Full}
 use Rattle.tree_node.proofs.Common.{get, LeafOf, TreeArenas, IsPart, Unchanged, spare, found_free, HasChildFor, Stands, walk}
 use Rattle.std.proofs.lemmas.List.{length-map}
 use Rattle.std.proofs.lemmas.Result.{on_err_weaker}

@@ -1,7 +1,9 @@
 -- An insert under a leaf node, in the leaf that its key belongs to.
 use Rattle.std.proofs.Common.{◌≡◌, ℕ, ◌<◌, Bool, false, Some, Ok, arith, Ordering}
 use Rattle.tree_model.proofs.Common.{IsTotalOrder}
-use Rattle.tree_array.proofs.Common.{StoreResult, Full, Arrivals, IsFull}
+use Rattle.tree_array.proofs.Common.{Arrivals, IsFull}
+use Rattle.tree_array.specs.declared.answers.StoreResult.{StoreResult}
+use Rattle.tree_array.specs.declared.answers.StoreResult.TheVariants.{Full}
 use Rattle.tree_node.proofs.Common.{get, LeafOf, TreeArenas, IsPart, room, found_free, HasChildFor}
 use Rattle.tree_array.specs.Insertion.{IsStore}
 use Rattle.tree_insert.specs.Inserts.{InsertsUnder, asks_split}

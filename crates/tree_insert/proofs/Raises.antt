@@ -2,7 +2,9 @@
 use Rattle.std.proofs.Common.{◌≡◌, ℕ, zero, suc, ◌+◌, ◌-◌, ◌<◌, ◌==◌, cond, [], ◌∷◌, Option, Some, None, is_some, refl, sym, ap, ◌∙◌, arith, add-one, sub-one, inl, inr, Ordering, append-nil}
 use Rattle.tree_model.proofs.Common.{cases_eq}
 use Rattle.tree_array.proofs.Common.{in_order, IsLen}
-use Rattle.tree_node.proofs.Common.{get, times, uses, same_array_refl, times-cons, one_here, none_here, uses_some, uses_none, uses_same, BranchOf, Internal, TreeArenas, IsPart, Unchanged, room, Stands, walk, leaves_at, nodes_at, children_of}
+use Rattle.tree_node.proofs.Common.{get, times, uses, same_array_refl, times-cons, one_here, none_here, uses_some, uses_none, uses_same, TreeArenas, IsPart, Unchanged, room, Stands, walk, leaves_at, nodes_at, children_of}
+use Rattle.tree_node.specs.declared.branch.BranchOf.{BranchOf}
+use Rattle.tree_node.specs.declared.node.NodeOf.TheVariants.{Internal}
 use Rattle.tree_leaf.specs.Arena.{Gains, KeepsBoth}
 use Rattle.tree_insert.specs.Roots.{RaisesRoot}
 use Rattle.tree_split.specs.Splits.{SplitsChild}

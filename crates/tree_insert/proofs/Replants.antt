@@ -2,7 +2,8 @@
 use Rattle.std.proofs.Common.{◌≡◌, ◌≢◌, ℕ, zero, suc, ◌-◌, ◌<◌, ◌≤◌, [], ◌∷◌, Some, None, inl, inr, refl, arith, Ordering}
 use Rattle.tree_model.proofs.Common.{cases_eq}
 use Rattle.tree_array.proofs.Common.{in_order}
-use Rattle.tree_node.proofs.Common.{get, LeafOf, times, uses, times-nil, times-cons, none_here, one_here, uses_some, NodeOf, TreeArenas, HasKind, IsRetired, Stands, keyed, unbounded, leaves_at}
+use Rattle.tree_node.proofs.Common.{get, LeafOf, times, uses, times-nil, times-cons, none_here, one_here, uses_some, TreeArenas, HasKind, IsRetired, Stands, keyed, unbounded, leaves_at}
+use Rattle.tree_node.specs.declared.node.NodeOf.{NodeOf}
 use Rattle.tree_node.proofs.Bare.{over_one}
 use Rattle.tree_node.proofs.LeafSpares.{spare_at_least}
 use Rattle.tree_insert.specs.Roots.{Replants}

@@ -1,6 +1,7 @@
 -- An insert that starts again where nothing has changed.
 use Rattle.std.proofs.Common.{◌≡◌, ℕ, Bool, [], ◌∷◌, Some, Result, Ok, refl, ap, arith, Ordering}
-use Rattle.tree_array.proofs.Common.{StoreResult, Full}
+use Rattle.tree_array.specs.declared.answers.StoreResult.{StoreResult}
+use Rattle.tree_array.specs.declared.answers.StoreResult.TheVariants.{Full}
 use Rattle.tree_node.proofs.Common.{TreeArenas, IsPart, Unchanged, found_keyed, spare}
 use Rattle.std.proofs.lemmas.Result.{on_err_weaker}
 use Rattle.tree_insert.specs.Inserts.{InsertsUnder}

@@ -1,7 +1,9 @@
 -- An insert that met a full child: what it answers where no room is made, and where it is tried again.
 use Rattle.std.proofs.Common.{◌≡◌, ℕ, zero, suc, ◌+◌, ◌-◌, ◌<◌, ◌≤◌, Bool, false, List, [], ◌∷◌, None, Some, Result, Ok, Err, refl, sym, ap, ◌∙◌, arith, sub-one, Ordering}
 use Rattle.tree_model.proofs.Common.{IsTotalOrder}
-use Rattle.tree_array.proofs.Common.{StoreResult, New, Replaced, Duplicate, Full, limit}
+use Rattle.tree_array.proofs.Common.{limit}
+use Rattle.tree_array.specs.declared.answers.StoreResult.{StoreResult}
+use Rattle.tree_array.specs.declared.answers.StoreResult.TheVariants.{New, Replaced, Duplicate, Full}
 use Rattle.tree_node.proofs.Common.{get, TreeArenas, IsPart, Unchanged, held, room, found_keyed, spare, HasChildFor, Stands, walk}
 use Rattle.std.proofs.lemmas.Bool.{false_from_ne_true}
 use Rattle.std.proofs.lemmas.Result.{on_err_weaker}

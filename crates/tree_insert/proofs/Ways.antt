@@ -1,7 +1,9 @@
 -- An insert in the leaf that a key belongs to, or under its leaf node, seen from the node where the way starts.
 use Rattle.std.proofs.Common.{◌≡◌, ℕ, zero, suc, ◌-◌, ◌<◌, Bool, false, None, IsSome, Result, Ok, refl, arith, sub-one, Ordering}
 use Rattle.tree_model.proofs.Common.{IsTotalOrder}
-use Rattle.tree_array.proofs.Common.{StoreResult, New, Replaced, Duplicate, Full, Arrivals, IsFull}
+use Rattle.tree_array.proofs.Common.{Arrivals, IsFull}
+use Rattle.tree_array.specs.declared.answers.StoreResult.{StoreResult}
+use Rattle.tree_array.specs.declared.answers.StoreResult.TheVariants.{New, Replaced, Duplicate, Full}
 use Rattle.tree_node.proofs.Common.{get, TreeArenas, IsPart, HasChildFor}
 use Rattle.tree_array.specs.Insertion.{IsStore}
 use Rattle.tree_insert.specs.Inserts.{InsertsUnder, asks_split}

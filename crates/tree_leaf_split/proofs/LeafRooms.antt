@@ -2,7 +2,8 @@
 use Rattle.std.proofs.Common.{◌≡◌, ◌⊎◌, ℕ, suc, ◌-◌, ◌<◌, ◌≤◌, Bool, true, List, ◌∷◌, ◌++◌, length, drop, take, slice_get, Option, Some, None, IsSome, refl, sym, ap, ◌∙◌, arith, sub-one, inl, inr, false, if◌then◌else◌, Ordering, Equal, is_ge}
 use Rattle.tree_model.proofs.Common.{IsTotalOrder, AllByRecursion, IsAbsent}
 use Rattle.tree_array.proofs.Common.{Arrivals, in_order, HasRoom, limit, IsSound, all_map}
-use Rattle.tree_node.proofs.Common.{get, with_value, LeafOf, IsChain, leaf_entries, NodeOf, TreeArenas, IsPart, Unchanged, room, IsAbove, IsUpTo, HasChildFor, HasKind, Stands, keyed, unbounded, child_at, is_from}
+use Rattle.tree_node.proofs.Common.{get, with_value, LeafOf, IsChain, leaf_entries, TreeArenas, IsPart, Unchanged, room, IsAbove, IsUpTo, HasChildFor, HasKind, Stands, keyed, unbounded, child_at, is_from}
+use Rattle.tree_node.specs.declared.node.NodeOf.{NodeOf}
 use Rattle.slab.specs.Slab.{HasRoomFor}
 use Rattle.slab.proofs.SlabLemmas.{Updates-with_value}
 use Rattle.tree_leaf.specs.Arena.{KeepsBoth, HasPlaces}

@@ -1,6 +1,7 @@
 -- Where a key is among ascending pairs, as a line tells it.
 use Rattle.std.proofs.Common.{◌≡◌, ℕ, zero, suc, ◌-◌, ◌<◌, ◌==◌, Bool, true, false, if◌then◌else◌, List, [], ◌∷◌, ◌++◌, length, slice_get, Option, Some, None, refl, sym, ap, ◌∙◌, subst, append-nil, length-append, arith, codes, is_some, is_gt, is_lt, is_eq, nat_cmp, Ordering, Less, Equal, Greater}
-use Rattle.tree_model.proofs.Common.{AllByRecursion, nat_tests, nat_cmp_total, tied_back, AllLarger, IsAscending, above, below, pair_at, On, Back, Cursor, at_place, shown, unopened}
+use Rattle.tree_model.proofs.Common.{AllByRecursion, nat_tests, nat_cmp_total, tied_back, AllLarger, IsAscending, above, below, pair_at, Cursor, at_place, shown, unopened}
+use Rattle.tree_model.specs.declared.way.Way.TheVariants.{On, Back}
 use Rattle.std.specs.Option.{option_map_or}
 use Rattle.tree_model.proofs.Lists.{all_map, filter_all, filter_none, find_none}
 use Rattle.tree_model.proofs.Order.{alike, greater_from_less, less_from_greater}

@@ -1,6 +1,8 @@
 -- Pieces of a text, written one after another, and the pieces of a line of pairs.
 use Rattle.std.proofs.Common.{◌≡◌, ℕ, Bool, true, false, List, [], ◌∷◌, ◌++◌, map, Option, Some, None, Bor, reverse, refl, sym, ap, ◌∙◌, subst, append_assoc, append-nil, Result, Ok, Err, nat_cmp}
-use Rattle.tree_model.proofs.Common.{Appends, Unbounded, nat_cmp_total, Way, Back, lent_entry, HasBegun, Moves, rest, along, Cursor, fresh}
+use Rattle.tree_model.proofs.Common.{Appends, Unbounded, nat_cmp_total, lent_entry, HasBegun, Moves, rest, along, Cursor, fresh}
+use Rattle.tree_model.specs.declared.way.Way.{Way}
+use Rattle.tree_model.specs.declared.way.Way.TheVariants.{Back}
 use Rattle.std.proofs.KnownBytes.{Appends-nil, Appends-trans}
 use Rattle.tree_ranges.specs.Ranged.{IsFresh, pairs_within}
 use Rattle.tree_ranges.proofs.Yields.{fresh_begun, rest_fresh, takes_first}

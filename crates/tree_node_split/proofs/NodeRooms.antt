@@ -2,7 +2,9 @@
 use Rattle.std.proofs.Common.{◌≡◌, ◌⊎◌, ℕ, zero, suc, ◌<◌, ◌≤◌, List, [], ◌∷◌, ◌++◌, true, map, length, Option, Some, None, IsSome, refl, sym, ap, ◌∙◌, arith, inl, inr, sub-one, Ordering}
 use Rattle.tree_model.proofs.Common.{⊤, IsTotalOrder, IsAbsent}
 use Rattle.tree_array.proofs.Common.{boundary, HasRoom, IsLen, limit, IsSound}
-use Rattle.tree_node.proofs.Common.{get, with_value, times, uses, times-cons, one_here, uses_le_one, NodeOf, Internal, Leaf, TreeArenas, IsPart, Unchanged, room, AreParted, HasKind, is_from, Stands, keyed, unbounded, children_of, leaves_of, nodes_of}
+use Rattle.tree_node.proofs.Common.{get, with_value, times, uses, times-cons, one_here, uses_le_one, TreeArenas, IsPart, Unchanged, room, AreParted, HasKind, is_from, Stands, keyed, unbounded, children_of, leaves_of, nodes_of}
+use Rattle.tree_node.specs.declared.node.NodeOf.{NodeOf}
+use Rattle.tree_node.specs.declared.node.NodeOf.TheVariants.{Internal, Leaf}
 use Rattle.slab.specs.Slab.{HasRoomFor, Updates}
 use Rattle.slab.proofs.SlabLemmas.{Updates-with_value}
 use Rattle.tree_leaf.specs.Arena.{Gains, KeepsBoth, HasPlaces}

@@ -2,7 +2,8 @@
 use Rattle.std.proofs.Common.{◌≡◌, ℕ, suc, ◌+◌, ◌<◌, ◌≤◌, ◌==◌, ◌^◌, min, cond, List, [], ◌∷◌, ◌++◌, map, length, length-append, take, drop, Option, Some, None, IsSome, is_some, refl, sym, ap, ◌∙◌, arith, append_assoc, inl, inr, Ordering, Less, length-take, length-drop}
 use Rattle.tree_model.proofs.Common.{⊤, AllByRecursion, IsTotalOrder, cases_eq, map-append, flat_map-append, IsAscending}
 use Rattle.tree_array.proofs.Common.{Arrivals, boundary, IsLen, all_map}
-use Rattle.tree_node.proofs.Common.{get, times, uses, same_array_refl, times-append, times-cons, one_here, none_here, uses_le_one, uses_some, uses_none, uses_same, NodeOf, TreeArenas, IsPart, Replaces, room, spare, AreParted, IsAbove, IsBelow, Stands, keyed, unbounded, walk, leaves_at, nodes_at, leaves_of, nodes_of, children_of}
+use Rattle.tree_node.proofs.Common.{get, times, uses, same_array_refl, times-append, times-cons, one_here, none_here, uses_le_one, uses_some, uses_none, uses_same, TreeArenas, IsPart, Replaces, room, spare, AreParted, IsAbove, IsBelow, Stands, keyed, unbounded, walk, leaves_at, nodes_at, leaves_of, nodes_of, children_of}
+use Rattle.tree_node.specs.declared.node.NodeOf.{NodeOf}
 use Rattle.std.proofs.Math.Nat.{pow-suc}
 use Rattle.std.proofs.lemmas.List.{length-map}
 use Rattle.tree_leaf.proofs.Counts.{in_use}

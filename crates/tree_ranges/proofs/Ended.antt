@@ -1,6 +1,8 @@
 -- An end that has answered None answers None for ever.
 use Rattle.std.proofs.Common.{◌≡◌, ◌⊎◌, ℕ, zero, suc, ◌+◌, ◌<◌, ◌≤◌, Bool, true, false, ◌&&◌, if◌then◌else◌, ltb, List, [], ◌∷◌, ◌++◌, drop, append-nil, length, slice_get, Option, Some, None, refl, sym, ap, ◌∙◌, arith, inl, inr, is_some, not, Ordering}
-use Rattle.tree_model.proofs.Common.{IsTotalOrder, Bound, nat_tests, IsAscending, Way, On, Back, opposite, Cursor, End, unopened, at_place, element_at, greatest_place, meets, next_end, shown}
+use Rattle.tree_model.proofs.Common.{IsTotalOrder, Bound, nat_tests, IsAscending, opposite, Cursor, End, unopened, at_place, element_at, greatest_place, meets, next_end, shown}
+use Rattle.tree_model.specs.declared.way.Way.{Way}
+use Rattle.tree_model.specs.declared.way.Way.TheVariants.{On, Back}
 use Rattle.std.proofs.lemmas.Bool.{cases_Bool}
 use Rattle.std.proofs.lemmas.Option.{slice_get_within}
 use Rattle.std.proofs.Math.ListN.{drop_of_length-le}

@@ -1,6 +1,7 @@
 -- What a flip comes to, by which ends are unopened and what they show.
 use Rattle.std.proofs.Common.{◌≡◌, ℕ, Bool, true, false, if◌then◌else◌, Option, Some, None, Bor, refl, ◌∙◌, is_some, not, Ordering}
-use Rattle.tree_model.proofs.Common.{IsTotalOrder, Bound, On, Back, Cursor, End, shown, lent}
+use Rattle.tree_model.proofs.Common.{IsTotalOrder, Bound, Cursor, End, shown, lent}
+use Rattle.tree_model.specs.declared.way.Way.TheVariants.{On, Back}
 use Rattle.tree_node.proofs.Common.{TreeArenas}
 use Rattle.tree_chain.proofs.Common.{LeafWalk}
 use Rattle.tree_model.specs.Cursor.{can_flip, can_turn, flipped, is_unopened, turned}

@@ -1,6 +1,8 @@
 -- The moves of a cursor over a tree, and that each answer brings it nearer to its end.
 use Rattle.std.proofs.Common.{◌≡◌, ℕ, zero, suc, ◌+◌, ◌<◌, Bool, true, false, if◌then◌else◌, ltb, List, length, Option, Some, None, Bor, refl, sym, ap, arith, Ordering}
-use Rattle.tree_model.proofs.Common.{⊤, IsTotalOrder, MakesProgress, bound_map, Bound, Way, On, Back, lent_entry, Moves, lent, opposite, Cursor, End, unopened, at_place, element_at, meets, next_end, shown}
+use Rattle.tree_model.proofs.Common.{⊤, IsTotalOrder, MakesProgress, bound_map, Bound, lent_entry, Moves, lent, opposite, Cursor, End, unopened, at_place, element_at, meets, next_end, shown}
+use Rattle.tree_model.specs.declared.way.Way.{Way}
+use Rattle.tree_model.specs.declared.way.Way.TheVariants.{On, Back}
 use Rattle.tree_node.proofs.Common.{TreeArenas, walk_under}
 use Rattle.tree_chain.proofs.Common.{LeafWalk}
 use Rattle.std.specs.Iterator.{at_most}

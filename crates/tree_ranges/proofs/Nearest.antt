@@ -1,6 +1,7 @@
 -- Where a key is in an ascending list, told by the first place whose key isn't smaller.
 use Rattle.std.proofs.Common.{◌≡◌, ℕ, zero, suc, ◌-◌, ◌==◌, ◌≤◌, Bool, true, false, if◌then◌else◌, List, [], ◌∷◌, length, slice_get, Option, Some, None, refl, ap, ◌∙◌, arith, is_some, option_map, is_eq, is_le, is_lt, Ordering, Less, Equal, Greater}
-use Rattle.tree_model.proofs.Common.{IsTotalOrder, Included, Unbounded, nat_tests, AllLarger, IsAscending, below, pair_at, On, Back, End, unopened, element_at, greatest_place, meets, next_end}
+use Rattle.tree_model.proofs.Common.{IsTotalOrder, Included, Unbounded, nat_tests, AllLarger, IsAscending, below, pair_at, End, unopened, element_at, greatest_place, meets, next_end}
+use Rattle.tree_model.specs.declared.way.Way.TheVariants.{On, Back}
 use Rattle.tree_array.proofs.Common.{all_map, filter_none, greater_from_less}
 use Rattle.std.specs.Ordering.{ordering_reverse}
 use Rattle.std.proofs.lemmas.Option.{slice_get_within}

@@ -1,7 +1,10 @@
 -- The first entry of a part that is within a bound, told by the part's last one.
 use Rattle.std.proofs.Common.{◌≡◌, ◌⊎◌, ℕ, zero, suc, ◌-◌, ◌<◌, Bool, true, false, ltb, List, [], ◌∷◌, ◌++◌, length, reverse, slice_get, Option, Some, None, Bor, refl, sym, ap, ◌∙◌, arith, inl, inr, option_map, Ordering}
-use Rattle.tree_model.proofs.Common.{IsTotalOrder, AllByRecursion, Bound, Unbounded, nat_tests, reverse-reverse, IsAscending, Way, On, Back, lent_entry, lent, along, opposite, meets}
-use Rattle.tree_node.proofs.Common.{TreeArenas, get, NodeOf, IsRetiredNode, StandsOrRetired, walk}
+use Rattle.tree_model.proofs.Common.{IsTotalOrder, AllByRecursion, Bound, Unbounded, nat_tests, reverse-reverse, IsAscending, lent_entry, lent, along, opposite, meets}
+use Rattle.tree_model.specs.declared.way.Way.{Way}
+use Rattle.tree_model.specs.declared.way.Way.TheVariants.{On, Back}
+use Rattle.tree_node.proofs.Common.{TreeArenas, get, IsRetiredNode, StandsOrRetired, walk}
+use Rattle.tree_node.specs.declared.node.NodeOf.{NodeOf}
 use Rattle.tree_chain.proofs.Common.{LeafWalk, Steps}
 use Rattle.std.proofs.lemmas.Bool.{cases_Bool}
 use Rattle.std.proofs.lemmas.Option.{slice_get_within}

@@ -1,6 +1,8 @@
 -- A move answers the first of the pairs that are left on its way.
 use Rattle.std.proofs.Common.{◌≡◌, ◌⊎◌, ℕ, zero, suc, ◌+◌, ◌<◌, ◌≤◌, Bool, true, false, if◌then◌else◌, ltb, List, [], ◌∷◌, ◌++◌, length, reverse, slice_get, Option, Some, None, Bor, append_assoc, append-nil, refl, sym, ap, ◌∙◌, arith, inl, inr, filter, option_map, is_le, is_lt, Ordering, Less, Equal, Greater, take_all}
-use Rattle.tree_model.proofs.Common.{IsTotalOrder, AllByRecursion, Bound, Included, Excluded, Unbounded, nat_tests, reverse_onto, filter-append, IsAscending, within, Way, On, Back, lent_entry, HasBegun, Moves, lent, rest, along, opposite, Cursor, End, unopened, at_place, element_at, greatest_place, meets, next_end}
+use Rattle.tree_model.proofs.Common.{IsTotalOrder, AllByRecursion, Bound, Included, Excluded, Unbounded, nat_tests, reverse_onto, filter-append, IsAscending, within, lent_entry, HasBegun, Moves, lent, rest, along, opposite, Cursor, End, unopened, at_place, element_at, greatest_place, meets, next_end}
+use Rattle.tree_model.specs.declared.way.Way.{Way}
+use Rattle.tree_model.specs.declared.way.Way.TheVariants.{On, Back}
 use Rattle.tree_array.proofs.Common.{filter_none, alike, alike_after}
 use Rattle.std.specs.Option.{option_or}
 use Rattle.std.proofs.lemmas.Bool.{cases_Bool}

@@ -1,8 +1,11 @@
 -- A child that lost its last pair is dropped and taken out of its node: what that makes of the part under the node.
 use Rattle.std.proofs.Common.{◌≡◌, ℕ, suc, ◌≤◌, Bool, List, [], ◌∷◌, ◌++◌, map, Option, Some, None, IsSome, refl, sym, ap, ◌∙◌, arith, append_assoc, length, length-append, flat_map, Ordering, append-nil}
 use Rattle.tree_model.proofs.Common.{AllByRecursion, IsTotalOrder, tied_itself, map-append, without}
-use Rattle.tree_array.proofs.Common.{RemoveResult, Success, Retired, Fail, Arrivals, all_map, all-append}
-use Rattle.tree_node.proofs.Common.{get, one_here, uses_le_one, NodeOf, TreeArenas, IsPart, KeepsBounds, Replaces, IsOfLevel, AreParted, HasChildFor, IsRetired, Stands, back_at, children_of, front_at, is_from, keyed, unbounded, walk, spare}
+use Rattle.tree_array.proofs.Common.{Arrivals, all_map, all-append}
+use Rattle.tree_array.specs.declared.answers.RemoveResult.{RemoveResult}
+use Rattle.tree_array.specs.declared.answers.RemoveResult.TheVariants.{Success, Retired, Fail}
+use Rattle.tree_node.proofs.Common.{get, one_here, uses_le_one, TreeArenas, IsPart, KeepsBounds, Replaces, IsOfLevel, AreParted, HasChildFor, IsRetired, Stands, back_at, children_of, front_at, is_from, keyed, unbounded, walk, spare}
+use Rattle.tree_node.specs.declared.node.NodeOf.{NodeOf}
 use Rattle.tree_node.specs.Routing.{IsChildAt}
 use Rattle.tree_clean_up.specs.CleanUps.{DropsChild, DropsKeyed, DropsUnbounded}
 use Rattle.tree_remove.specs.Removes.{RemovesUnder, TakesOut}

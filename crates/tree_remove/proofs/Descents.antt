@@ -1,8 +1,11 @@
 -- The child that a removal goes to, by the kind of the node above it, and what it leaves there.
 use Rattle.std.proofs.Common.{◌≡◌, ◌⊎◌, ℕ, zero, suc, ◌-◌, ◌<◌, ◌≤◌, Bool, List, [], ◌∷◌, ◌++◌, Option, Some, None, IsSome, inl, inr, refl, sym, ap, ◌∙◌, arith, sub-one, Ordering}
 use Rattle.tree_model.proofs.Common.{IsTotalOrder}
-use Rattle.tree_array.proofs.Common.{Fail}
-use Rattle.tree_node.proofs.Common.{get, IsChain, times, one_here, uses_le_one, BranchOf, NodeOf, Internal, Leaf, TreeArenas, IsPart, Replaces, HasChildFor, IsRetired, Stands, child_of, keyed, nodes_at, unbounded}
+use Rattle.tree_array.specs.declared.answers.RemoveResult.TheVariants.{Fail}
+use Rattle.tree_node.proofs.Common.{get, IsChain, times, one_here, uses_le_one, TreeArenas, IsPart, Replaces, HasChildFor, IsRetired, Stands, child_of, keyed, nodes_at, unbounded}
+use Rattle.tree_node.specs.declared.branch.BranchOf.{BranchOf}
+use Rattle.tree_node.specs.declared.node.NodeOf.{NodeOf}
+use Rattle.tree_node.specs.declared.node.NodeOf.TheVariants.{Internal, Leaf}
 use Rattle.tree_node.specs.Routing.{IsChildAt}
 use Rattle.tree_clean_up.specs.CleanUps.{HasChildIn}
 use Rattle.tree_remove.specs.Removes.{RemovesUnder}

@@ -1,8 +1,12 @@
 -- The leaf of a key that lost its last pair, seen from a node above it: how the drop of each child that is left empty makes the removal one under that node.
 use Rattle.std.proofs.Common.{◌≡◌, ◌++◌, ℕ, zero, suc, ◌-◌, ◌<◌, Bool, true, ◌∷◌, Option, Some, None, IsSome, inl, refl, sym, ap, ◌∙◌, arith, sub-one, Ordering}
 use Rattle.tree_model.proofs.Common.{IsTotalOrder, pair_at}
-use Rattle.tree_array.proofs.Common.{RemoveResult, Success, Retired, Fail}
-use Rattle.tree_node.proofs.Common.{get, IsChain, times-nil, BranchOf, NodeOf, Internal, Leaf, TreeArenas, IsPart, HasChildFor, IsRetiredNode, Stands, unbounded, walk}
+use Rattle.tree_array.specs.declared.answers.RemoveResult.{RemoveResult}
+use Rattle.tree_array.specs.declared.answers.RemoveResult.TheVariants.{Success, Retired, Fail}
+use Rattle.tree_node.proofs.Common.{get, IsChain, times-nil, TreeArenas, IsPart, HasChildFor, IsRetiredNode, Stands, unbounded, walk}
+use Rattle.tree_node.specs.declared.branch.BranchOf.{BranchOf}
+use Rattle.tree_node.specs.declared.node.NodeOf.{NodeOf}
+use Rattle.tree_node.specs.declared.node.NodeOf.TheVariants.{Internal, Leaf}
 use Rattle.tree_clean_up.specs.CleanUps.{DropsChild, DropsKeyed, HasChildIn, RetiresIfEmpty}
 use Rattle.tree_node.specs.Routing.{IsChildAt}
 use Rattle.tree_descent.specs.Ways.{IsOnWay, LeadsTo}

@@ -1,7 +1,9 @@
 -- A removal in a leaf.
 use Rattle.std.proofs.Common.{◌≡◌, ℕ, ◌-◌, ◌==◌, min, Bool, true, false, List, [], ◌∷◌, length, Option, Some, None, IfSome, refl, sym, ap, ◌∙◌, arith, inl, inr, Ordering}
 use Rattle.tree_model.proofs.Common.{AllByRecursion, IsTotalOrder, cases_eq, nat_tests, IsAbsent, pair_at, without}
-use Rattle.tree_array.proofs.Common.{RemoveResult, Success, Retired, Fail, Arrivals, removed, spent_at, all-append, all-filter}
+use Rattle.tree_array.proofs.Common.{Arrivals, removed, spent_at, all-append, all-filter}
+use Rattle.tree_array.specs.declared.answers.RemoveResult.{RemoveResult}
+use Rattle.tree_array.specs.declared.answers.RemoveResult.TheVariants.{Success, Retired, Fail}
 use Rattle.tree_node.proofs.Common.{get, LeafOf, TreeArenas, KeepsBounds, spare, found_free, IsRetired, walk}
 use Rattle.std.proofs.lemmas.List.{length-map}
 use Rattle.tree_array.specs.Removal.{IsRemoval, removal_of}

@@ -1,6 +1,9 @@
 -- A root that gives its place to its only child.
 use Rattle.std.proofs.Common.{◌≡◌, ◌⊎◌, ℕ, zero, suc, ◌+◌, ◌-◌, ◌<◌, ◌==◌, cond, [], ◌∷◌, Option, Some, None, inl, inr, refl, sym, ap, ◌∙◌, arith, sub-one, Ordering, append-nil}
-use Rattle.tree_node.proofs.Common.{get, Loses, times, same_array_refl, one_here, times-cons, uses_le_one, BranchOf, NodeOf, Internal, Leaf, TreeArenas, IsPart, Replaces, IsOfLevel, IsRetired, Stands, children_of, leaves_at, nodes_at, unbounded, walk}
+use Rattle.tree_node.proofs.Common.{get, Loses, times, same_array_refl, one_here, times-cons, uses_le_one, TreeArenas, IsPart, Replaces, IsOfLevel, IsRetired, Stands, children_of, leaves_at, nodes_at, unbounded, walk}
+use Rattle.tree_node.specs.declared.branch.BranchOf.{BranchOf}
+use Rattle.tree_node.specs.declared.node.NodeOf.{NodeOf}
+use Rattle.tree_node.specs.declared.node.NodeOf.TheVariants.{Internal, Leaf}
 use Rattle.tree_remove.specs.Lowering.{IsRoot, LowersRoot}
 use Rattle.tree_node.proofs.Frames.{Agrees, same_leaves, same_nodes, same_stands}
 use Rattle.tree_node.proofs.Lifts.{single_nodes}

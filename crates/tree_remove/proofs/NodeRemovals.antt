@@ -1,7 +1,8 @@
 -- A removal in the child that a key belongs to, of the part under its node, where the child stays.
 use Rattle.std.proofs.Common.{◌≡◌, ℕ, zero, suc, Bool, List, [], ◌∷◌, ◌++◌, Option, Some, None, refl, ◌∙◌, sym, arith, inl, inr, ◌⊎◌, ◌≤◌, Ordering, Less}
 use Rattle.tree_model.proofs.Common.{AllByRecursion, IsTotalOrder, AllLarger}
-use Rattle.tree_array.proofs.Common.{RemoveResult, Success, Retired, Fail}
+use Rattle.tree_array.specs.declared.answers.RemoveResult.{RemoveResult}
+use Rattle.tree_array.specs.declared.answers.RemoveResult.TheVariants.{Success, Retired, Fail}
 use Rattle.tree_node.proofs.Common.{get, LeafOf, TreeArenas, IsPart, KeepsBounds, Replaces, spare, HasChildFor, Stands, IsRetired, leaves_at, walk}
 use Rattle.tree_clean_up.specs.CleanUps.{HasOnlyRetired, RetiresIfEmpty}
 use Rattle.tree_remove.specs.Removes.{RemovesUnder, TakesOut}

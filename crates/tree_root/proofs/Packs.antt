@@ -1,7 +1,7 @@
 -- What a store leaves of a packed tree.
 use Rattle.std.proofs.Common.{◌≡◌, ℕ, suc, Bool, true, Some, None, Result, arith, Ordering, Less}
 use Rattle.tree_model.proofs.Common.{AllByRecursion, IsTotalOrder}
-use Rattle.tree_array.proofs.Common.{StoreResult}
+use Rattle.tree_array.specs.declared.answers.StoreResult.{StoreResult}
 use Rattle.tree_node.proofs.Common.{TreeArenas, room, Stands, walk}
 use Rattle.tree_insert.specs.Inserts.{InsertsUnder, stores}
 use Rattle.tree_insert.specs.Roots.{RaisesRoot}

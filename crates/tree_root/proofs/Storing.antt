@@ -1,7 +1,9 @@
 -- What a store in a tree comes to: the first pair, a pair under the root, and a pair after the root has grown.
 use Rattle.std.proofs.Common.{◌≡◌, ◌⊎◌, ℕ, zero, suc, ◌<◌, Bool, true, false, List, [], Option, Some, None, IsSome, Result, Ok, Err, inl, inr, refl, sym, ap, ◌∙◌, arith, Ordering, Less}
-use Rattle.tree_model.proofs.Common.{AllByRecursion, IsTotalOrder, IsAbsent, IsPresent, InsertError}
-use Rattle.tree_array.proofs.Common.{StoreResult, New, Replaced, Duplicate, Full}
+use Rattle.tree_model.proofs.Common.{AllByRecursion, IsTotalOrder, IsAbsent, IsPresent}
+use Rattle.tree_model.specs.declared.commands.InsertError.{InsertError}
+use Rattle.tree_array.specs.declared.answers.StoreResult.{StoreResult}
+use Rattle.tree_array.specs.declared.answers.StoreResult.TheVariants.{New, Replaced, Duplicate, Full}
 use Rattle.tree_node.proofs.Common.{get, TreeArenas, IsPart, Unchanged, room, spare, IsRetired, IsRetiredNode, Stands, StandsOrRetired, leaves_at, IsRetiredRoot, IsTree, leaves_under, walk_under}
 use Rattle.std.proofs.lemmas.Bool.{false_from_ne_true}
 use Rattle.tree_descent.proofs.Ways.{part_not_retired}

@@ -1,7 +1,8 @@
 -- What a removal from a tree comes to.
 use Rattle.std.proofs.Common.{◌≡◌, ◌⊎◌, ℕ, zero, suc, ◌<◌, ◌≤◌, Bool, true, false, [], Option, Some, None, inl, inr, refl, sym, ap, ◌∙◌, arith, Ordering}
 use Rattle.tree_model.proofs.Common.{pair_at}
-use Rattle.tree_array.proofs.Common.{RemoveResult, Success, Retired, Fail}
+use Rattle.tree_array.specs.declared.answers.RemoveResult.{RemoveResult}
+use Rattle.tree_array.specs.declared.answers.RemoveResult.TheVariants.{Success, Retired, Fail}
 use Rattle.tree_node.proofs.Common.{get, TreeArenas, IsPart, IsOfLevel, IsRetired, Stands, leaves_at, walk, spare, IsRetiredRoot, IsTree, walk_under}
 use Rattle.tree_remove.specs.Lowering.{LowersRoot}
 use Rattle.tree_remove.specs.Removes.{RemovesUnder, TakesOut, removal_told}

@@ -1,6 +1,8 @@
 -- A run serves as many writes as were spare.
 use Rattle.std.proofs.Common.{ℕ, zero, suc, ◌≤◌, List, [], ◌∷◌, subst, arith}
-use Rattle.tree_model.proofs.Common.{Command, Insert, Upsert, Remove, RemoveRange, Clear, Peek, Reply}
+use Rattle.tree_model.specs.declared.commands.Command.{Command}
+use Rattle.tree_model.specs.declared.commands.Command.TheVariants.{Insert, Upsert, Remove, RemoveRange, Clear, Peek}
+use Rattle.tree_model.specs.declared.commands.Reply.{Reply}
 use Rattle.tree_runs.specs.Served.{AreServed, SpendsBy}
 
 module _ {K V : Type 0} where

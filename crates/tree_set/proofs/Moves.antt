@@ -1,6 +1,7 @@
 -- What a move of a cursor takes of the elements that are left.
 use Rattle.std.proofs.Common.{◌≡◌, Bool, true, false, if◌then◌else◌, List, [], ◌∷◌, ◌++◌, reverse, length, take, drop, ◌<◌, ℕ, Option, Some, None, Bor, append-nil, length-append, refl, sym, ap, ◌∙◌, arith, filter, option_map, Ordering, take-append-drop}
-use Rattle.tree_model.proofs.Common.{⊤, MakesProgress, IsTotalOrder, reverse_onto, map-append, reverse-reverse, filter-append, On, Back, lent_entry, Moves, rest, within, Cursor}
+use Rattle.tree_model.proofs.Common.{⊤, MakesProgress, IsTotalOrder, reverse_onto, map-append, reverse-reverse, filter-append, lent_entry, Moves, rest, within, Cursor}
+use Rattle.tree_model.specs.declared.way.Way.TheVariants.{On, Back}
 use Rattle.std.specs.Iterator.{YieldsFirstBy, YieldsFirstRef, YieldsLastBy, YieldsLastRef, item_count}
 use Rattle.tree_model.specs.Rest.{between, piece}
 use Rattle.tree_model.proofs.Ascending.{IsAscending-filter}

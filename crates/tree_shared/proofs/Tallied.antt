@@ -1,6 +1,11 @@
 -- A history that an answered command is added to: its tally, and the kind of the reply.
 use Rattle.std.proofs.Common.{◌≡◌, ◌+◌, ◌<◌, ◌^◌, Bool, true, false, cond, List, [], ◌∷◌, ◌++◌, length, Some, None, refl, sym, ap, ◌∙◌, arith, length-append, count_by, Result, Ok, Err, Ordering}
-use Rattle.tree_model.proofs.Common.{Bound, Command, Insert, Upsert, Remove, RemoveRange, Clear, Peek, Reply, Stored, Duplicate, Removed, Done, Found, InsertError}
+use Rattle.tree_model.proofs.Common.{Bound}
+use Rattle.tree_model.specs.declared.commands.Command.{Command}
+use Rattle.tree_model.specs.declared.commands.Command.TheVariants.{Insert, Upsert, Remove, RemoveRange, Clear, Peek}
+use Rattle.tree_model.specs.declared.commands.Reply.{Reply}
+use Rattle.tree_model.specs.declared.commands.Reply.TheVariants.{Stored, Duplicate, Removed, Done, Found}
+use Rattle.tree_model.specs.declared.commands.InsertError.{InsertError}
 use Rattle.std.proofs.lemmas.List.Sums.{count_by-le-length, sum_by-append}
 use Rattle.tree_model.specs.declared.commands.Reply.TheVariants.{Refused}
 use Rattle.tree_model.specs.declared.commands.Record.{Record}

@@ -2,7 +2,8 @@
 use Rattle.std.proofs.Common.{◌≡◌, ℕ, zero, suc, ◌*◌, ◌<◌, ◌≤◌, ◌^◌, List, [], ◌∷◌, ◌++◌, map, length, length-append, Option, Some, None, refl, sym, ap, ◌∙◌, arith, mul-suc, flat_map, Ordering, Less, append-nil}
 use Rattle.tree_model.proofs.Common.{AllByRecursion, IsTotalOrder, flat_map-append}
 use Rattle.tree_array.proofs.Common.{all_map}
-use Rattle.tree_node.proofs.Common.{get, TreeArenas, IsPart, Replaces, NodeOf, AreParted, HasChildFor, IsAbove, IsBelow, Stands, child_at, front_at, is_from, keyed, walk}
+use Rattle.tree_node.proofs.Common.{get, TreeArenas, IsPart, Replaces, AreParted, HasChildFor, IsAbove, IsBelow, Stands, child_at, front_at, is_from, keyed, walk}
+use Rattle.tree_node.specs.declared.node.NodeOf.{NodeOf}
 use Rattle.tree_leaf.specs.Chain.{SameArray}
 use Rattle.tree_node.proofs.Bare.{parted_last}
 use Rattle.tree_node.proofs.ChildChanges.{fronts, same_node}

@@ -1,7 +1,8 @@
 -- Where an array or a node takes no more, and where it does.
 use Rattle.std.proofs.Common.{◌≡◌, ℕ, zero, suc, ◌<◌, Bool, true, false, cond, Option, Some, None, refl, arith, inl, inr}
 use Rattle.tree_array.proofs.Common.{Arrivals, free, HasRoom, IsFull}
-use Rattle.tree_node.proofs.Common.{NodeOf, keyed, unbounded}
+use Rattle.tree_node.proofs.Common.{keyed, unbounded}
+use Rattle.tree_node.specs.declared.node.NodeOf.{NodeOf}
 use Rattle.tree_node.specs.Shape.{children_free, found_room}
 
 -- a full array takes nothing more

@@ -2,7 +2,8 @@
 use Rattle.std.proofs.Common.{◌≡◌, ◌⊎◌, ℕ, zero, suc, ◌-◌, ◌<◌, ◌≤◌, min, Bool, true, false, cond, List, [], ◌∷◌, ◌++◌, map, length, length-append, Option, Some, None, refl, sym, ap, ◌∙◌, arith, append_assoc, inl, inr, Ordering}
 use Rattle.tree_model.proofs.Common.{AllByRecursion, IsTotalOrder, cases_eq, IsAbsent}
 use Rattle.tree_array.proofs.Common.{Arrivals, spend, spent_at, all_map}
-use Rattle.tree_node.proofs.Common.{get, times, uses, times-append, times-cons, none_here, NodeOf, TreeArenas, IsPart, Replaces, room, spare, AreParted, IsAbove, IsBelow, HasChildFor, Stands, keyed, unbounded, child_at, is_from, walk, leaves_at, children_of}
+use Rattle.tree_node.proofs.Common.{get, times, uses, times-append, times-cons, none_here, TreeArenas, IsPart, Replaces, room, spare, AreParted, IsAbove, IsBelow, HasChildFor, Stands, keyed, unbounded, child_at, is_from, walk, leaves_at, children_of}
+use Rattle.tree_node.specs.declared.node.NodeOf.{NodeOf}
 use Rattle.std.proofs.lemmas.List.{length-map}
 use Rattle.tree_node.specs.Parts.{PutsChild}
 use Rattle.tree_node.specs.Shape.{found_room}

@@ -2,7 +2,8 @@
 use Rattle.std.proofs.Common.{◌≡◌, ◌⊎◌, ℕ, zero, suc, ◌<◌, ◌≤◌, ◌^◌, Bool, true, false, cond, List, [], ◌∷◌, ◌++◌, map, length, length-append, Option, Some, None, refl, sym, ap, ◌∙◌, arith, inl, inr, ◌&&◌, is_lt, Ordering, Less, append-nil}
 use Rattle.tree_model.proofs.Common.{AllByRecursion, IsTotalOrder}
 use Rattle.tree_array.proofs.Common.{Arrivals, ascents, free, reachable, IsSound, all-append}
-use Rattle.tree_node.proofs.Common.{get, NodeOf, TreeArenas, IsPart, held, room, found_keyed, AreParted, IsBelow, Stands, keyed, walk}
+use Rattle.tree_node.proofs.Common.{get, TreeArenas, IsPart, held, room, found_keyed, AreParted, IsBelow, Stands, keyed, walk}
+use Rattle.tree_node.specs.declared.node.NodeOf.{NodeOf}
 use Rattle.std.specs.Cmp.Derive.{both_true}
 use Rattle.std.proofs.Math.Nat.{pow-suc, pow-zero}
 use Rattle.tree_model.proofs.Ascending.{less_from_test}

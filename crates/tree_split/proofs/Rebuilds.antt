@@ -2,7 +2,8 @@
 use Rattle.std.proofs.Common.{◌≡◌, ℕ, suc, ◌-◌, ◌<◌, ◌≤◌, List, [], ◌∷◌, ◌++◌, map, length, Option, Some, None, is_some, refl, sym, ap, ◌∙◌, arith, sub-one, inl, inr, Ordering}
 use Rattle.tree_model.proofs.Common.{AllByRecursion, IsTotalOrder, cases_eq}
 use Rattle.tree_array.proofs.Common.{Arrivals, in_order, IsLen, limit, IsSound, all_map, all-append}
-use Rattle.tree_node.proofs.Common.{get, with_value, LeafOf, times, uses, same_array_refl, times-cons, one_here, uses_le_one, uses_same, NodeOf, TreeArenas, IsPart, KeepsBounds, Replaces, held, room, spare, HasChildFor, Stands, keyed, unbounded, walk, leaves_at, nodes_at, nodes_of, node_children, children_of}
+use Rattle.tree_node.proofs.Common.{get, with_value, LeafOf, times, uses, same_array_refl, times-cons, one_here, uses_le_one, uses_same, TreeArenas, IsPart, KeepsBounds, Replaces, held, room, spare, HasChildFor, Stands, keyed, unbounded, walk, leaves_at, nodes_at, nodes_of, node_children, children_of}
+use Rattle.tree_node.specs.declared.node.NodeOf.{NodeOf}
 use Rattle.std.proofs.lemmas.List.{length-map}
 use Rattle.slab.specs.Slab.{Updates}
 use Rattle.slab.proofs.SlabLemmas.{Updates-with_value}

@@ -1,7 +1,8 @@
 -- What the test of packed trees says, and how deep a packed tree is.
 use Rattle.std.proofs.Common.{◌≡◌, ◌⊎◌, ℕ, zero, suc, ◌<◌, ◌≤◌, ◌==◌, ◌^◌, Bool, true, false, leb, List, [], ◌∷◌, length, Option, Some, None, refl, sym, arith, inl, inr, not, ◌||◌, Ordering}
 use Rattle.tree_model.proofs.Common.{AllByRecursion, nat_tests}
-use Rattle.tree_node.proofs.Common.{get, LeafOf, NodeOf, TreeArenas, Unchanged, found_keyed, keyed, unbounded, walk, walk_under}
+use Rattle.tree_node.proofs.Common.{get, LeafOf, TreeArenas, Unchanged, found_keyed, keyed, unbounded, walk, walk_under}
+use Rattle.tree_node.specs.declared.node.NodeOf.{NodeOf}
 use Rattle.std.specs.Cmp.Derive.{both_true}
 use Rattle.std.proofs.lemmas.Bool.{lt-leb}
 use Rattle.tree_node.specs.Whole.{depth_of}

@@ -1,6 +1,7 @@
 -- Walks over the keys of an index, or over its values.
 use Rattle.std.proofs.Common.{◌≡◌, true, List, [], ◌∷◌, ◌++◌, map, reverse, Option, Some, None, Bor, length, refl, sym, ap, ◌∙◌, arith, Ordering, length-append}
-use Rattle.tree_model.proofs.Common.{⊤, IsTotalOrder, MakesProgress, reverse_onto, reverse-reverse, On, Back, lent_entry, Moves, rest, Cursor}
+use Rattle.tree_model.proofs.Common.{⊤, IsTotalOrder, MakesProgress, reverse_onto, reverse-reverse, lent_entry, Moves, rest, Cursor}
+use Rattle.tree_model.specs.declared.way.Way.TheVariants.{On, Back}
 use Rattle.tree_array.proofs.Common.{filter_all}
 use Rattle.std.specs.Iterator.{at_most}
 use Rattle.std.specs.Map.Iter.{TakesFirst, TakesLast}

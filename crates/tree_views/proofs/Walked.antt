@@ -1,6 +1,7 @@
 -- Cursors that take all pairs of an index.
 use Rattle.std.proofs.Common.{◌≡◌, Bool, true, false, Option, Some, None, List, [], ◌∷◌, Bor, refl, ◌∙◌, is_some, not, Ordering}
-use Rattle.tree_model.proofs.Common.{AllByRecursion, Unbounded, On, fresh, rest}
+use Rattle.tree_model.proofs.Common.{AllByRecursion, Unbounded, fresh, rest}
+use Rattle.tree_model.specs.declared.way.Way.TheVariants.{On}
 use Rattle.tree_array.proofs.Common.{filter_all}
 use Rattle.std.specs.Cmp.Lexicographic.{pointwise}
 use Rattle.tree_chain.specs.Rest.{TakesFirst}

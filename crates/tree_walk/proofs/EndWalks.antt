@@ -1,6 +1,8 @@
 -- Where a walk of a part begins: in a leaf of the chain, at the first entry of the part on its way.
 use Rattle.std.proofs.Common.{◌≡◌, ℕ, suc, ◌+◌, ◌-◌, ◌<◌, List, [], ◌∷◌, ◌++◌, length, slice_get, None, refl, sym, subst, arith, append_assoc, length-append, append-nil}
-use Rattle.tree_model.proofs.Common.{flat_map-append, Way, On, Back}
+use Rattle.tree_model.proofs.Common.{flat_map-append}
+use Rattle.tree_model.specs.declared.way.Way.{Way}
+use Rattle.tree_model.specs.declared.way.Way.TheVariants.{On, Back}
 use Rattle.tree_node.proofs.Common.{Slab, LeafOf, IsChain, leaf_entries, entries_of, TreeArenas, leaves_at}
 use Rattle.tree_chain.proofs.Common.{LeafWalk, standing, first_of, last_of}
 use Rattle.tree_walk.specs.Ends.{BeginsPart, IsFirstOn, IsLinked, first_on, passed}

@@ -1,6 +1,7 @@
 -- What is left of a cursor over prices.
 use Rattle.std.proofs.Common.{◌≡◌, ℕ, Bool, true, false, if◌then◌else◌, List, [], ◌∷◌, ◌++◌, reverse, Some, None, Bor, refl, sym, ap, ◌∙◌, append-nil, arith, filter, max, nat_cmp}
-use Rattle.tree_model.proofs.Common.{Unbounded, nat_cmp_total, reverse_onto, filter-append, On, Back, lent_entry, HasBegun, Moves, rest, within, Cursor, fresh}
+use Rattle.tree_model.proofs.Common.{Unbounded, nat_cmp_total, reverse_onto, filter-append, lent_entry, HasBegun, Moves, rest, within, Cursor, fresh}
+use Rattle.tree_model.specs.declared.way.Way.TheVariants.{On, Back}
 use Rattle.tree_model.specs.Rest.{between}
 use Rattle.tree_ranges.specs.Ranged.{IsFresh, pairs_within}
 use Rattle.tree_ranges.proofs.Yields.{fresh_begun, rest_fresh, takes_first}

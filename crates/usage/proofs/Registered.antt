@@ -1,6 +1,6 @@
 -- A registry with room for one more name.
 use Rattle.std.proofs.Common.{ℕ, ◌<◌, ◌≤◌, List, length, Result, Ok, Err, ap, arith, nat_cmp}
-use Rattle.tree_model.proofs.Common.{InsertError}
+use Rattle.tree_model.specs.declared.commands.InsertError.{InsertError}
 use Rattle.tree_model.specs.declared.commands.InsertError.TheVariants.{Duplicate, OutOfMemory}
 use Rattle.tree_model.specs.Edits.{Inserts}
 use Rattle.tree_model.proofs.Lengths.{length-put, without_few}

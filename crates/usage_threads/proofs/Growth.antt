@@ -1,6 +1,10 @@
 -- A history leaves at most as many pairs as it stored.
 use Rattle.std.proofs.Common.{◌≡◌, ◌+◌, ◌≤◌, cond, List, [], ◌∷◌, length, ap, arith, not, Ordering}
-use Rattle.tree_model.proofs.Common.{Command, Insert, Upsert, Remove, RemoveRange, Clear, Peek, Reply, Stored, Duplicate, Removed, Done, Found, within}
+use Rattle.tree_model.proofs.Common.{within}
+use Rattle.tree_model.specs.declared.commands.Command.{Command}
+use Rattle.tree_model.specs.declared.commands.Command.TheVariants.{Insert, Upsert, Remove, RemoveRange, Clear, Peek}
+use Rattle.tree_model.specs.declared.commands.Reply.{Reply}
+use Rattle.tree_model.specs.declared.commands.Reply.TheVariants.{Stored, Duplicate, Removed, Done, Found}
 use Rattle.std.proofs.lemmas.List.Sums.{count_by-le-length, length-filter, sum_by-cons}
 use Rattle.tree_model.specs.declared.commands.Reply.TheVariants.{Refused}
 use Rattle.tree_model.specs.declared.commands.Record.{Record}

@@ -1,4 +1,5 @@
-use Rattle.tree_model.proofs.Common.{On, HasBegun, rest}
+use Rattle.tree_model.proofs.Common.{HasBegun, rest}
+use Rattle.tree_model.specs.declared.way.Way.TheVariants.{On}
 use denote.Param.Always.{always_mut}
 use Rattle.tree_ranges.specs.Ranged.{moves_left}
 use Rattle.tree_index.proofs.Refused.{HasPassed}

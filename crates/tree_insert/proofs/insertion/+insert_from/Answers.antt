@@ -1,5 +1,6 @@
 use Rattle.std.proofs.Common.{rules, ◌<◌, ◌-◌, inl, arith}
-use Rattle.tree_node.proofs.Common.{Internal, Leaf, fits}
+use Rattle.tree_node.proofs.Common.{fits}
+use Rattle.tree_node.specs.declared.node.NodeOf.TheVariants.{Internal, Leaf}
 use Rattle.tree_split.specs.Splits.{LacksRoom, SplitsChild}
 use Rattle.tree_insert.proofs.Attempts.{fewer_below}
 use Rattle.tree_insert.proofs.Descents.{full_under, has_none, has_some, refused_below, stored_below, under}

@@ -1,6 +1,7 @@
 use Rattle.std.proofs.Common.{arith, refl, ap, ◌∙◌}
 use Rattle.tree_array.proofs.Common.{Arrivals}
-use Rattle.tree_node.proofs.Common.{ContainsKey, Slab, get, with_value, Leaf, fits}
+use Rattle.tree_node.proofs.Common.{ContainsKey, Slab, get, with_value, fits}
+use Rattle.tree_node.specs.declared.node.NodeOf.TheVariants.{Leaf}
 use Rattle.slab.proofs.SlabLemmas.{Updates-with_value}
 use Rattle.tree_leaf.specs.Arena.{HasPlaces}
 use Rattle.tree_node.proofs.Bare.{has_only, some_slots}

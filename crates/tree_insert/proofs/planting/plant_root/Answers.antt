@@ -1,6 +1,7 @@
 use Rattle.std.proofs.Common.{None, refl, ap, ◌∙◌}
 use Rattle.tree_array.proofs.Common.{Arrivals}
-use Rattle.tree_node.proofs.Common.{Slab, get, Leaf, fits}
+use Rattle.tree_node.proofs.Common.{Slab, get, fits}
+use Rattle.tree_node.specs.declared.node.NodeOf.TheVariants.{Leaf}
 use Rattle.tree_node.proofs.Bare.{bare_leaves, bare_nodes, has_only, some_slots}
 use Rattle.tree_node.proofs.Unchanged.{unchanged_by_keeping}
 use Rattle.tree_insert.proofs.FirstPairs.{packed_first}

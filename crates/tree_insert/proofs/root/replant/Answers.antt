@@ -1,6 +1,7 @@
 use Rattle.std.proofs.Common.{refl, sym, ap, ◌∙◌}
 use Rattle.tree_array.proofs.Common.{Arrivals}
-use Rattle.tree_node.proofs.Common.{ContainsKey, Slab, get, Leaf, fits}
+use Rattle.tree_node.proofs.Common.{ContainsKey, Slab, get, fits}
+use Rattle.tree_node.specs.declared.node.NodeOf.TheVariants.{Leaf}
 use Rattle.slab.proofs.SlabLemmas.{Updates-with_value}
 use Rattle.tree_node.proofs.Unchanged.{unchanged_by_keeping}
 use Rattle.tree_node.proofs.Standing.{no_children}

@@ -1,7 +1,8 @@
 use Rattle.std.proofs.Common.{rules, ◌≡◌, ◌∙◌, ◌<◌, ◌≤◌, ◌==◌, ℕ, true, length, arith, Option, None, Some, refl, sym, ap}
 use Rattle.tree_model.proofs.Common.{nat_tests}
 use Rattle.tree_array.proofs.Common.{limit, IsSound, HasRoom}
-use Rattle.tree_node.proofs.Common.{get, Leaf, fits, keyed}
+use Rattle.tree_node.proofs.Common.{get, fits, keyed}
+use Rattle.tree_node.specs.declared.node.NodeOf.TheVariants.{Leaf}
 use Rattle.std.specs.Option.{option_eq}
 use Rattle.tree_split.specs.Splits.{IsCut, is_at, low_part, GoesWhole}
 use Rattle.tree_split.proofs.Fulls.{full_room, not_full_room}

@@ -1,5 +1,6 @@
 use Rattle.std.proofs.Common.{refl}
-use Rattle.tree_model.proofs.Common.{err_from_is_err_and, On}
+use Rattle.tree_model.proofs.Common.{err_from_is_err_and}
+use Rattle.tree_model.specs.declared.way.Way.TheVariants.{On}
 use Rattle.tree_node.proofs.Common.{fits}
 use Rattle.tree_lines.proofs.Pieces.{line_ends, line_fails, line_goes_on, line_of_all}
 use Rattle.tree_lines.proofs.pairs.write_ascending.Goals as goal

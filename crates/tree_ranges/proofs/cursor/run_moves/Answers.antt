@@ -1,5 +1,6 @@
 use Rattle.std.proofs.Common.{◌≡◌, ◌≤◌, ◌+◌, length, arith}
-use Rattle.tree_model.proofs.Common.{IsAscending, On, Back}
+use Rattle.tree_model.proofs.Common.{IsAscending}
+use Rattle.tree_model.specs.declared.way.Way.TheVariants.{On, Back}
 use Rattle.std.proofs.lemmas.Grind.{common_steps}
 use Rattle.tree_model.specs.Moves.{after_all, answers, told}
 use Rattle.tree_model.specs.Rest.{StandsInside}

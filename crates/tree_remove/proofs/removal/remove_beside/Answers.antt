@@ -1,5 +1,5 @@
 use Rattle.std.proofs.Common.{◌<◌, length}
-use Rattle.tree_array.proofs.Common.{Success, Fail}
+use Rattle.tree_array.specs.declared.answers.RemoveResult.TheVariants.{Success, Fail}
 use Rattle.tree_node.proofs.Common.{walk, fits}
 use Rattle.tree_node.proofs.Children.{walk-leaf}
 use Rattle.tree_remove.proofs.Descents.{leaf_at}

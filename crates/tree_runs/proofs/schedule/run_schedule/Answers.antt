@@ -1,5 +1,5 @@
 use Rattle.std.proofs.Common.{◌≡◌, ℕ, vec_len, ◌<◌, ◌+◌, [], ◌∷◌, ◌++◌, sym, ap, ◌∙◌, refl, length, append_assoc, length-append, arith, rules}
-use Rattle.tree_model.proofs.Common.{Command}
+use Rattle.tree_model.specs.declared.commands.Command.{Command}
 use Rattle.tree_node.proofs.Common.{fits}
 use Rattle.std.proofs.lemmas.List.Elements.{All-rest, All-same}
 use Rattle.tree_runs.proofs.Schedules.{left, ran_next, ran_start, next_fits, next_has, refused_within, ended}

@@ -1,5 +1,6 @@
 use Rattle.std.proofs.Common.{◌≡◌, ◌&&◌}
-use Rattle.tree_model.proofs.Common.{On, HasBegun, rest}
+use Rattle.tree_model.proofs.Common.{HasBegun, rest}
+use Rattle.tree_model.specs.declared.way.Way.TheVariants.{On}
 use Rattle.std.specs.Cmp.Lexicographic.{pointwise}
 use Rattle.tree_ranges.specs.Ranged.{moves_left}
 use Rattle.tree_views.proofs.equality.are_same.Given as goal

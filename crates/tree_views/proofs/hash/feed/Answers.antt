@@ -1,5 +1,5 @@
 use Rattle.std.proofs.Common.{◌++◌, ◌∙◌, sym}
-use Rattle.tree_model.proofs.Common.{On}
+use Rattle.tree_model.specs.declared.way.Way.TheVariants.{On}
 use Rattle.std.specs.Hash.{fed_then}
 use Rattle.std.proofs.lemmas.Grind.{fold-append}
 use Rattle.tree_ranges.proofs.Yields.{takes_first}

@@ -1,5 +1,5 @@
 use Rattle.std.proofs.Common.{rules, ◌<◌}
-use Rattle.tree_model.proofs.Common.{Back}
+use Rattle.tree_model.specs.declared.way.Way.TheVariants.{Back}
 use Rattle.tree_node.proofs.Common.{fits}
 use Rattle.tree_calls.proofs.FoundLevels.{is_found, may_begin, begins_at}
 use Rattle.tree_calls.proofs.node_calls.NodeCalls.max.Goals as goal

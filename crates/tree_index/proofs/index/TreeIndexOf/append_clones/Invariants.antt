@@ -1,5 +1,6 @@
 use Rattle.std.proofs.Common.{◌++◌}
-use Rattle.tree_model.proofs.Common.{AllByRecursion, On, IsAscending, HasBegun, rest}
+use Rattle.tree_model.proofs.Common.{AllByRecursion, IsAscending, HasBegun, rest}
+use Rattle.tree_model.specs.declared.way.Way.TheVariants.{On}
 use Rattle.std.specs.List.{AllZip}
 use Rattle.tree_ranges.specs.Ranged.{moves_left}
 use Rattle.tree_index.specs.Copies.{AllSmaller, IsPairClone}

@@ -1,5 +1,5 @@
 use Rattle.std.proofs.Common.{ap, ◌∙◌, sym}
-use Rattle.tree_model.proofs.Common.{Found}
+use Rattle.tree_model.specs.declared.commands.Reply.TheVariants.{Found}
 use Rattle.tree_shared.specs.Tallies.{raised}
 use Rattle.tree_shared.proofs.Tallied.{peek_reply}
 use Rattle.tree_shared.proofs.shared.SharedTreeIndexOf.peek.Goals as goal

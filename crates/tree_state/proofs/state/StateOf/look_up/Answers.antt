@@ -1,5 +1,6 @@
 use Rattle.std.proofs.Common.{refl, ap, sym, ◌∙◌, option_map}
-use Rattle.tree_model.proofs.Common.{Peek, Found}
+use Rattle.tree_model.specs.declared.commands.Command.TheVariants.{Peek}
+use Rattle.tree_model.specs.declared.commands.Reply.TheVariants.{Found}
 use Rattle.tree_array.proofs.Common.{history_grows}
 use Rattle.tree_node.proofs.Common.{fits}
 use Rattle.tree_model.proofs.Histories.{same_key_itself, seen_value}

@@ -1,5 +1,6 @@
 use Rattle.std.proofs.Common.{refl, sym, ◌∙◌}
-use Rattle.tree_model.proofs.Common.{Remove, Removed}
+use Rattle.tree_model.specs.declared.commands.Command.TheVariants.{Remove}
+use Rattle.tree_model.specs.declared.commands.Reply.TheVariants.{Removed}
 use Rattle.tree_array.proofs.Common.{history_grows}
 use Rattle.tree_node.proofs.Common.{fits}
 use Rattle.tree_model.proofs.Histories.{same_key_itself}
