@@ -9,6 +9,8 @@ use std::marker::Model;
 use std::mem;
 use tree_slots::row::Row;
 
+mod changes;
+
 /// The cells, each with a pair or none. There are no rows before the first pair, whose bytes then fill them.
 pub struct Cells<K, V, const LEN: usize> {
     rows: Option<(Row<K, LEN>, Row<V, LEN>)>,
