@@ -3,5 +3,6 @@
 #![tactic(auto)]
 
 mod tree;
+mod values;
 
 pub use tree::{Stored, Tree};

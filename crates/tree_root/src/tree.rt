@@ -214,7 +214,7 @@ impl<K: IndexKey, V: Drop, const LEN: usize> Tree<K, V, LEN> {
     }
 
     /// Returns where the pair with a key is stored, or `None` if the key is absent. Makes at most 4 comparisons a level and
-    /// in the leaf (3 among 7 slots), and one more.
+    /// in the leaf (3 among 7 slots).
     pub fn entry_for(&self, key: &K) -> Option<EntryPlace>
         requires { IsWhole K.cmp self.now }
         ensures { MatchOption result (IsAbsent K.cmp (pairs_of self.now) key.now)

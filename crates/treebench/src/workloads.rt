@@ -27,6 +27,10 @@ pub enum Calls {
     BuildAndDrop,
     /// Upserts a new value at each key asked for.
     Upsert,
+    /// Replaces the value at each key asked for.
+    Replace,
+    /// Adds one to the value at each key asked for.
+    Modify,
     /// Looks up each key asked for.
     Peek,
     /// Removes each key asked for.
@@ -50,10 +54,12 @@ pub type Workload = (&'static str, KeySet, Calls);
 
 /// The workloads in the order in which they run. The two cuts are the same here, and stand beside `retain` and beside
 /// `split_off` and `append` of the standard map.
-pub const WORKLOADS: [Workload; 19] = [
+pub const WORKLOADS: [Workload; 21] = [
     ("insert_ascending", KeySet::Ascending, Calls::Insert),
     ("insert_random", KeySet::Random, Calls::Insert),
     ("upsert_random", KeySet::Random, Calls::Upsert),
+    ("replace_random", KeySet::Random, Calls::Replace),
+    ("modify_random", KeySet::Random, Calls::Modify),
     ("peek_hit", KeySet::Random, Calls::Peek),
     ("peek_miss", KeySet::Absent, Calls::Peek),
     ("remove_random", KeySet::Random, Calls::Remove),
