@@ -17,6 +17,8 @@ enum Workload {
     InsertAscending,
     InsertRandom,
     UpsertRandom,
+    ReplaceRandom,
+    ModifyRandom,
     PeekHit,
     PeekMiss,
     RemoveRandom,
@@ -35,10 +37,12 @@ enum Workload {
     PeekText,
 }
 
-const ALL: [(Workload, &str); 19] = [
+const ALL: [(Workload, &str); 21] = [
     (Workload::InsertAscending, "insert_ascending"),
     (Workload::InsertRandom, "insert_random"),
     (Workload::UpsertRandom, "upsert_random"),
+    (Workload::ReplaceRandom, "replace_random"),
+    (Workload::ModifyRandom, "modify_random"),
     (Workload::PeekHit, "peek_hit"),
     (Workload::PeekMiss, "peek_miss"),
     (Workload::RemoveRandom, "remove_random"),
@@ -112,6 +116,18 @@ fn peek_all<K: Ord>(map: &BTreeMap<K, u64>, keys: &[K]) -> u64 {
         }
     }
     sum
+}
+
+/// Adds one to the value of each key.
+fn modify_all<K: Ord>(map: &mut BTreeMap<K, u64>, keys: &[K]) -> u64 {
+    let mut modified = 0u64;
+    for key in keys {
+        if let Some(value) = map.get_mut(key) {
+            *value += 1;
+            modified += 1;
+        }
+    }
+    modified
 }
 
 fn summed(sum: u64, value: u64) -> u64 {
@@ -195,6 +211,7 @@ impl<K: Ord + Clone> Scene<K> {
             Workload::PeekHit | Workload::PeekMiss | Workload::PeekText => {
                 peek_all(&self.map, &self.asked)
             }
+            Workload::ModifyRandom => modify_all(&mut self.map, &self.asked),
             Workload::RemoveRandom | Workload::RemoveMiddle => {
                 remove_all(&mut self.map, &self.asked)
             }
@@ -229,7 +246,9 @@ fn scene_of_numbers(workload: Workload, size: usize) -> Scene<u64> {
     source.shuffle(&mut order);
     match workload {
         Workload::InsertAscending => Scene::empty(ascending(0, size), ascending(0, size)),
-        Workload::UpsertRandom => Scene::filled(keys, order.clone(), order),
+        Workload::UpsertRandom | Workload::ReplaceRandom => {
+            Scene::filled(keys, order.clone(), order)
+        }
         Workload::WalkAscending | Workload::WalkBackAscending => {
             Scene::filled(ascending(0, size), Vec::new(), ascending(0, size))
         }
@@ -240,7 +259,8 @@ fn scene_of_numbers(workload: Workload, size: usize) -> Scene<u64> {
         Workload::PeekMiss | Workload::Nearest => {
             Scene::filled(keys, Vec::new(), source.list(size))
         }
-        Workload::PeekHit
+        Workload::ModifyRandom
+        | Workload::PeekHit
         | Workload::RemoveRandom
         | Workload::WalkRandom
         | Workload::WalkBackRandom

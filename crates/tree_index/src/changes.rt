@@ -14,7 +14,7 @@ impl<K: IndexKey, V: Drop, const LEN: usize> TreeIndexOf<K, V, LEN> {
     /// key stays, and no slot is spent. Makes as many comparisons as [`peek`](TreeIndexOf::peek), and allocates nothing.
     ///
     /// ```
-    /// stock.modify_sync(&article, |quantity| quantity + 1)
+    /// index.modify_sync(&key, |value| value.wrapping_add(amount))
     /// ```
     pub fn modify_sync<F: FnOnce(V) -> V + Drop>(&mut self, key: &K, change: F) -> bool
         requires { ForSome (pair_at K.cmp self.old.pairs key.now) (λ pair. F.pre change pair.1) }
@@ -30,7 +30,7 @@ impl<K: IndexKey, V: Drop, const LEN: usize> TreeIndexOf<K, V, LEN> {
     /// comparisons as [`peek`](TreeIndexOf::peek), and allocates nothing.
     ///
     /// ```
-    /// match stock.replace_sync(&article, quantity) {
+    /// index.replace_sync(&key, value)
     /// ```
     pub fn replace_sync(&mut self, key: &K, val: V) -> Result<V, V>
         ensures { MatchOption (pair_at K.cmp self.old.pairs key.now) ((result ≡ Err val) × (self.new ≡ self.old))

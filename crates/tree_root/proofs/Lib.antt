@@ -3,3 +3,4 @@ pub mod Numbers
 pub mod Packs
 pub mod Storing
 pub mod Taken
+pub mod Valued

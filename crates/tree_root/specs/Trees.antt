@@ -9,7 +9,7 @@ use Rattle.tree_array.specs.declared.answers.StoreResult.TheVariants.{New as New
 use Rattle.tree_model.specs.declared.commands.InsertError.{InsertError}
 use Rattle.tree_model.specs.declared.commands.InsertError.TheVariants.{Duplicate, OutOfMemory}
 use Rattle.tree_model.specs.Edits.{RemovesIf}
-use Rattle.tree_model.specs.Pairs.{cut, put}
+use Rattle.tree_model.specs.Pairs.{cut}
 use Rattle.tree_insert.specs.Inserts.{Inserts, declined, refused, stores}
 use Rattle.tree_node.specs.Arenas.{TreeArenas}
 use Rattle.tree_node.specs.Whole.{IsTree, depth_of, leaves_under, spare_under, walk_under}
@@ -74,12 +74,11 @@ module _ {K V : Type 0} {LEN : ℕ} where
     pub spare : (spare_of old ≤ spare_of new) ⊎ (leaves_under new.arenas.nodes new.root ≡ [])
     pub kept : removed ≡ false → KeepsShape cmp old new
 
-  -- The value under a stored key has become this one, and nothing else has changed.
-  pub record SetsValue (cmp : K → K → Ordering) (old new : Tree K V LEN) (key : K) (val : V) : Type 0 where
+  -- There are as many pairs as before, in a tree of the same shape.
+  pub record KeepsKeys (cmp : K → K → Ordering) (old new : Tree K V LEN) : Type 0 where
     pub whole : IsWhole cmp new
-    pub pairs : pairs_of new ≡ put cmp (pairs_of old) key val
     pub counted : length (pairs_of new) ≡ length (pairs_of old)
-    pub kept : KeepsShape cmp old new
+    pub shape : KeepsShape cmp old new
 
   -- The pairs whose keys are within the bounds are gone, and there were so many.
   pub record Cuts (cmp : K → K → Ordering) (low high : Bound K) (old new : Tree K V LEN) (gone : ℕ) : Type 0 where
