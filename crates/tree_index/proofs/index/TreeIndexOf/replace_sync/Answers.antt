@@ -1,7 +1,7 @@
 use Rattle.std.proofs.Common.{◌∙◌, sym}
 use Rattle.tree_node.proofs.Sizes.{fits}
 use Rattle.tree_index.proofs.Changed.{index_with, match_map}
-use Rattle.tree_index.proofs.changes.TreeIndexOf.replace_sync.Goals as goal
+use Rattle.tree_index.proofs.index.TreeIndexOf.replace_sync.Goals as goal
 
 pub replace_value-requires : goal.replace_value-requires
 replace_value-requires g c = (search fits, c.self.invariant.1)

@@ -1,7 +1,7 @@
 use Rattle.std.proofs.Common.{◌∙◌, sym}
 use Rattle.tree_node.proofs.Sizes.{fits}
 use Rattle.tree_index.proofs.Changed.{index_with, match_map}
-use Rattle.tree_index.proofs.changes.TreeIndexOf.modify_sync.Goals as goal
+use Rattle.tree_index.proofs.index.TreeIndexOf.modify_sync.Goals as goal
 
 pub change_value-requires : goal.change_value-requires
 change_value-requires g c = (search fits, (c.self.invariant.1, rw (← c.self.view_is) at c.requires))
