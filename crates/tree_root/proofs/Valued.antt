@@ -57,7 +57,7 @@ all_keys {K} P (x ∷ xs) (y ∷ ys) same all =
 
 -- the keys of the arrivals alone tell whether they came in turn
 in_turn_alike : {K V : Type 0} (cmp : K → K → Ordering) (xs ys : List (Option (K × V))) (es fs : List (K × V)) → found_keys ys ≡ found_keys xs → keys fs ≡ keys es → in_turn cmp ys fs ≡ in_turn cmp xs es
-in_turn_alike cmp xs ys es fs arrived same = in_keys ys fs ∙ (rw (arrived, same) refl) ∙ sym (in_keys xs es)
+in_turn_alike {K = K} {V = V} cmp xs ys es fs arrived same = in_keys ys fs ∙ (rw (arrived, same) refl) ∙ sym (in_keys xs es)
   where
     keys_in_turn : List (Option K) → List K → Bool
     keys_in_turn [] [] = true

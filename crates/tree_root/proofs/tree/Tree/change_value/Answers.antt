@@ -50,18 +50,23 @@ returns-in_default-slot_of-clause-pairs g c =
 pub returns-clause-keys : goal.returns-clause-keys
 returns-clause-keys g c =
     let place = c.in-Some-leaf_for in
-    let found = rw c.array_mut-array.ensures.value at c.in-Some-slot_of.ensures in
-    let set = rw c.array_mut-array.ensures.value at c.change_val.ensures in
+    let found = c.in-Some-slot_of.ensures in
+    let set = c.change_val.ensures in
     let is : found.0 ≡ (set.0, set.1) = let both : Some found.0 ≡ Some (set.0, set.1) = sym found.2 ∙ set.3 in cc in
-    rw set.5 (value_set g.met.K.Ord.total c.args.self.now c.requires.whole c.args.key.now c.in-Some.root c.in-Some.depth place.place.node place.place.leaf c.in-Some.is (place.ensures.child.0, place.ensures.way, place.ensures.child.1) c.leaf_mut.result.now c.leaf_mut.ensures.value c.in-Some-slot_of.slot set.0 set.1 set.2 (rw is at found.1) set.3 (rw is at found.3)).0
+    rw (set.5, c.array_mut-array.ensures.value) (value_set g.met.K.Ord.total c.args.self.now c.requires.whole c.args.key.now c.in-Some.root c.in-Some.depth place.place.node place.place.leaf c.in-Some.is (place.ensures.child.0, place.ensures.way, place.ensures.child.1) c.leaf_mut.result.now c.leaf_mut.ensures.value c.in-Some-slot_of.slot set.0 set.1 set.2 (rw is at found.1) (rw c.array_mut-array.ensures.value at set.3) (rw (is, c.array_mut-array.ensures.value) at found.3)).0
 
 pub returns-clause-pairs : goal.returns-clause-pairs
 returns-clause-pairs g c =
     let place = c.in-Some-leaf_for in
-    let found = rw c.array_mut-array.ensures.value at c.in-Some-slot_of.ensures in
-    let set = rw c.array_mut-array.ensures.value at c.change_val.ensures in
+    let found = c.in-Some-slot_of.ensures in
+    let set = c.change_val.ensures in
     let is : found.0 ≡ (set.0, set.1) = let both : Some found.0 ≡ Some (set.0, set.1) = sym found.2 ∙ set.3 in cc in
-    rw (present_in_leaf g.met.K.Ord.total c.args.self.now c.requires.whole c.args.key.now c.in-Some.root c.in-Some.depth place.place.node place.place.leaf c.in-Some.is (place.ensures.child.0, place.ensures.way, place.ensures.child.1) c.leaf_mut.result.now c.leaf_mut.ensures.value c.in-Some-slot_of.slot set.0 set.1 set.2 (rw is at found.1) set.3 (rw is at found.3)) (refl, set.2, set.4, rw set.5 (value_set g.met.K.Ord.total c.args.self.now c.requires.whole c.args.key.now c.in-Some.root c.in-Some.depth place.place.node place.place.leaf c.in-Some.is (place.ensures.child.0, place.ensures.way, place.ensures.child.1) c.leaf_mut.result.now c.leaf_mut.ensures.value c.in-Some-slot_of.slot set.0 set.1 set.2 (rw is at found.1) set.3 (rw is at found.3)).1)
+    rw (present_in_leaf g.met.K.Ord.total c.args.self.now c.requires.whole c.args.key.now c.in-Some.root c.in-Some.depth place.place.node place.place.leaf c.in-Some.is (place.ensures.child.0, place.ensures.way, place.ensures.child.1) c.leaf_mut.result.now c.leaf_mut.ensures.value c.in-Some-slot_of.slot set.0 set.1 set.2 (rw is at found.1) (rw c.array_mut-array.ensures.value at set.3) (rw (is, c.array_mut-array.ensures.value) at found.3)) (refl, set.2, set.4, rw (set.5, c.array_mut-array.ensures.value) (value_set g.met.K.Ord.total c.args.self.now c.requires.whole c.args.key.now c.in-Some.root c.in-Some.depth place.place.node place.place.leaf c.in-Some.is (place.ensures.child.0, place.ensures.way, place.ensures.child.1) c.leaf_mut.result.now c.leaf_mut.ensures.value c.in-Some-slot_of.slot set.0 set.1 set.2 (rw is at found.1) (rw c.array_mut-array.ensures.value at set.3) (rw (is, c.array_mut-array.ensures.value) at found.3)).1)
 
 pub change_val-requires : goal.change_val-requires
-change_val-requires g c = ?
+change_val-requires g c =
+    let place = c.in-Some-leaf_for in
+    let found = c.in-Some-slot_of.ensures in
+    let present = present_in_leaf g.met.K.Ord.total c.args.self.now c.requires.whole c.args.key.now c.in-Some.root c.in-Some.depth place.place.node place.place.leaf c.in-Some.is (place.ensures.child.0, place.ensures.way, place.ensures.child.1) c.leaf_mut.result.now c.leaf_mut.ensures.value
+        c.in-Some-slot_of.slot found.0.0 found.0.1 found.0.1 found.1 (rw c.array_mut-array.ensures.value at found.2) (rw c.array_mut-array.ensures.value at found.3) in
+    (search fits, (rw found.2 refl, λ pair there. c.requires.callable pair (present ∙ (sym found.2 ∙ there))))

@@ -50,15 +50,15 @@ returns-in-None-clause-pairs g c =
 pub returns-in-Some-slot_of-clause-keys : goal.returns-in-Some-slot_of-clause-keys
 returns-in-Some-slot_of-clause-keys g c =
     let place = c.in-Some-leaf_for in
-    let found = rw c.array_mut-array.ensures.value at c.in-Some-slot_of.ensures in
-    let set = rw c.array_mut-array.ensures.value at c.set_val.ensures in
+    let found = c.in-Some-slot_of.ensures in
+    let set = c.set_val.ensures in
     let is : found.0 ≡ (set.0, c.set_val.result) = let both : Some found.0 ≡ Some (set.0, c.set_val.result) = sym found.2 ∙ set.1 in cc in
-    rw set.2 (value_set g.met.K.Ord.total c.args.self.now c.requires c.args.key.now c.in-Some.root c.in-Some.depth place.place.node place.place.leaf c.in-Some.is (place.ensures.child.0, place.ensures.way, place.ensures.child.1) c.leaf_mut.result.now c.leaf_mut.ensures.value c.in-Some-slot_of.slot set.0 c.set_val.result c.args.val (rw is at found.1) set.1 (rw is at found.3)).0
+    rw (set.2, c.array_mut-array.ensures.value) (value_set g.met.K.Ord.total c.args.self.now c.requires c.args.key.now c.in-Some.root c.in-Some.depth place.place.node place.place.leaf c.in-Some.is (place.ensures.child.0, place.ensures.way, place.ensures.child.1) c.leaf_mut.result.now c.leaf_mut.ensures.value c.in-Some-slot_of.slot set.0 c.set_val.result c.args.val (rw is at found.1) (rw c.array_mut-array.ensures.value at set.1) (rw (is, c.array_mut-array.ensures.value) at found.3)).0
 
 pub returns-in-Some-slot_of-clause-pairs : goal.returns-in-Some-slot_of-clause-pairs
 returns-in-Some-slot_of-clause-pairs g c =
     let place = c.in-Some-leaf_for in
-    let found = rw c.array_mut-array.ensures.value at c.in-Some-slot_of.ensures in
-    let set = rw c.array_mut-array.ensures.value at c.set_val.ensures in
+    let found = c.in-Some-slot_of.ensures in
+    let set = c.set_val.ensures in
     let is : found.0 ≡ (set.0, c.set_val.result) = let both : Some found.0 ≡ Some (set.0, c.set_val.result) = sym found.2 ∙ set.1 in cc in
-    rw (present_in_leaf g.met.K.Ord.total c.args.self.now c.requires c.args.key.now c.in-Some.root c.in-Some.depth place.place.node place.place.leaf c.in-Some.is (place.ensures.child.0, place.ensures.way, place.ensures.child.1) c.leaf_mut.result.now c.leaf_mut.ensures.value c.in-Some-slot_of.slot set.0 c.set_val.result c.args.val (rw is at found.1) set.1 (rw is at found.3)) (refl, rw set.2 (value_set g.met.K.Ord.total c.args.self.now c.requires c.args.key.now c.in-Some.root c.in-Some.depth place.place.node place.place.leaf c.in-Some.is (place.ensures.child.0, place.ensures.way, place.ensures.child.1) c.leaf_mut.result.now c.leaf_mut.ensures.value c.in-Some-slot_of.slot set.0 c.set_val.result c.args.val (rw is at found.1) set.1 (rw is at found.3)).1)
+    rw (present_in_leaf g.met.K.Ord.total c.args.self.now c.requires c.args.key.now c.in-Some.root c.in-Some.depth place.place.node place.place.leaf c.in-Some.is (place.ensures.child.0, place.ensures.way, place.ensures.child.1) c.leaf_mut.result.now c.leaf_mut.ensures.value c.in-Some-slot_of.slot set.0 c.set_val.result c.args.val (rw is at found.1) (rw c.array_mut-array.ensures.value at set.1) (rw (is, c.array_mut-array.ensures.value) at found.3)) (refl, rw (set.2, c.array_mut-array.ensures.value) (value_set g.met.K.Ord.total c.args.self.now c.requires c.args.key.now c.in-Some.root c.in-Some.depth place.place.node place.place.leaf c.in-Some.is (place.ensures.child.0, place.ensures.way, place.ensures.child.1) c.leaf_mut.result.now c.leaf_mut.ensures.value c.in-Some-slot_of.slot set.0 c.set_val.result c.args.val (rw is at found.1) (rw c.array_mut-array.ensures.value at set.1) (rw (is, c.array_mut-array.ensures.value) at found.3)).1)
