@@ -70,3 +70,6 @@ change_val-requires g c =
     let present = present_in_leaf g.met.K.Ord.total c.args.self.now c.requires.whole c.args.key.now c.in-Some.root c.in-Some.depth place.place.node place.place.leaf c.in-Some.is (place.ensures.child.0, place.ensures.way, place.ensures.child.1) c.leaf_mut.result.now c.leaf_mut.ensures.value
         c.in-Some-slot_of.slot found.0.0 found.0.1 found.0.1 found.1 (rw c.array_mut-array.ensures.value at found.2) (rw c.array_mut-array.ensures.value at found.3) in
     (search fits, (rw found.2 refl, λ pair there. c.requires.callable pair (present ∙ (sym found.2 ∙ there))))
+
+pub leaf_mut-requires-room-N-Destruct : goal.leaf_mut-requires-room-N-Destruct
+leaf_mut-requires-room-N-Destruct g c κs within = search fits

@@ -62,3 +62,6 @@ returns-in-Some-slot_of-clause-pairs g c =
     let set = c.set_val.ensures in
     let is : found.0 ≡ (set.0, c.set_val.result) = let both : Some found.0 ≡ Some (set.0, c.set_val.result) = sym found.2 ∙ set.1 in cc in
     rw (present_in_leaf g.met.K.Ord.total c.args.self.now c.requires c.args.key.now c.in-Some.root c.in-Some.depth place.place.node place.place.leaf c.in-Some.is (place.ensures.child.0, place.ensures.way, place.ensures.child.1) c.leaf_mut.result.now c.leaf_mut.ensures.value c.in-Some-slot_of.slot set.0 c.set_val.result c.args.val (rw is at found.1) (rw c.array_mut-array.ensures.value at set.1) (rw (is, c.array_mut-array.ensures.value) at found.3)) (refl, rw (set.2, c.array_mut-array.ensures.value) (value_set g.met.K.Ord.total c.args.self.now c.requires c.args.key.now c.in-Some.root c.in-Some.depth place.place.node place.place.leaf c.in-Some.is (place.ensures.child.0, place.ensures.way, place.ensures.child.1) c.leaf_mut.result.now c.leaf_mut.ensures.value c.in-Some-slot_of.slot set.0 c.set_val.result c.args.val (rw is at found.1) (rw c.array_mut-array.ensures.value at set.1) (rw (is, c.array_mut-array.ensures.value) at found.3)).1)
+
+pub leaf_mut-requires-room-N-Destruct : goal.leaf_mut-requires-room-N-Destruct
+leaf_mut-requires-room-N-Destruct g c κs within = search fits
