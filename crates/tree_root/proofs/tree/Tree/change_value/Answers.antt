@@ -41,10 +41,10 @@ pub returns-in_default-slot_of-clause-pairs : goal.returns-in_default-slot_of-cl
 returns-in_default-slot_of-clause-pairs g c =
     let place = c.in-Some-leaf_for in
     let absent : IsAbsent g.K.Ord.cmp (pairs_of c.args.self.now) c.args.key.now =
-        absent_in_leaf g.met.K.Ord.total c.args.self.now c.requires.whole c.args.key.now c.in-Some.root c.in-Some.depth place.place.node place.place.leaf c.in-Some.is (place.ensures.child.0, place.ensures.way, place.ensures.child.1) c.leaf_mut.result.now c.leaf_mut.ensures.value
-        (rw c.array_mut-array.ensures.value at c.in_default-slot_of.ensures) in
+    absent_in_leaf g.met.K.Ord.total c.args.self.now c.requires.whole c.args.key.now c.in-Some.root c.in-Some.depth place.place.node place.place.leaf c.in-Some.is (place.ensures.child.0, place.ensures.way, place.ensures.child.1) c.leaf_mut.result.now c.leaf_mut.ensures.value
+    (rw c.array_mut-array.ensures.value at c.in_default-slot_of.ensures) in
     let kept = nothing_set g.K.Ord.cmp c.args.self.now _ c.requires.whole refl
-        (read_alone g.met.K.Ord.total c.args.self.now c.requires.whole c.args.key.now c.in-Some.root c.in-Some.depth place.place.node place.place.leaf c.in-Some.is (place.ensures.child.0, place.ensures.way, place.ensures.child.1) c.leaf_mut.result.now c.leaf_mut.ensures.value) in
+    (read_alone g.met.K.Ord.total c.args.self.now c.requires.whole c.args.key.now c.in-Some.root c.in-Some.depth place.place.node place.place.leaf c.in-Some.is (place.ensures.child.0, place.ensures.way, place.ensures.child.1) c.leaf_mut.result.now c.leaf_mut.ensures.value) in
     rw absent (refl, rw c.array_mut-array.ensures.value kept.1)
 
 pub returns-clause-keys : goal.returns-clause-keys
@@ -68,7 +68,7 @@ change_val-requires g c =
     let place = c.in-Some-leaf_for in
     let found = c.in-Some-slot_of.ensures in
     let present = present_in_leaf g.met.K.Ord.total c.args.self.now c.requires.whole c.args.key.now c.in-Some.root c.in-Some.depth place.place.node place.place.leaf c.in-Some.is (place.ensures.child.0, place.ensures.way, place.ensures.child.1) c.leaf_mut.result.now c.leaf_mut.ensures.value
-        c.in-Some-slot_of.slot found.0.0 found.0.1 found.0.1 found.1 (rw c.array_mut-array.ensures.value at found.2) (rw c.array_mut-array.ensures.value at found.3) in
+    c.in-Some-slot_of.slot found.0.0 found.0.1 found.0.1 found.1 (rw c.array_mut-array.ensures.value at found.2) (rw c.array_mut-array.ensures.value at found.3) in
     (search fits, (rw found.2 refl, λ pair there. c.requires.callable pair (present ∙ (sym found.2 ∙ there))))
 
 pub leaf_mut-requires-room-N-Destruct : goal.leaf_mut-requires-room-N-Destruct

@@ -41,10 +41,10 @@ pub returns-in-None-clause-pairs : goal.returns-in-None-clause-pairs
 returns-in-None-clause-pairs g c =
     let place = c.in-Some-leaf_for in
     let absent : IsAbsent g.K.Ord.cmp (pairs_of c.args.self.now) c.args.key.now =
-        absent_in_leaf g.met.K.Ord.total c.args.self.now c.requires c.args.key.now c.in-Some.root c.in-Some.depth place.place.node place.place.leaf c.in-Some.is (place.ensures.child.0, place.ensures.way, place.ensures.child.1) c.leaf_mut.result.now c.leaf_mut.ensures.value
-        (rw c.array_mut-array.ensures.value at c.in-None.ensures) in
+    absent_in_leaf g.met.K.Ord.total c.args.self.now c.requires c.args.key.now c.in-Some.root c.in-Some.depth place.place.node place.place.leaf c.in-Some.is (place.ensures.child.0, place.ensures.way, place.ensures.child.1) c.leaf_mut.result.now c.leaf_mut.ensures.value
+    (rw c.array_mut-array.ensures.value at c.in-None.ensures) in
     let kept = nothing_set g.K.Ord.cmp c.args.self.now _ c.requires refl
-        (read_alone g.met.K.Ord.total c.args.self.now c.requires c.args.key.now c.in-Some.root c.in-Some.depth place.place.node place.place.leaf c.in-Some.is (place.ensures.child.0, place.ensures.way, place.ensures.child.1) c.leaf_mut.result.now c.leaf_mut.ensures.value) in
+    (read_alone g.met.K.Ord.total c.args.self.now c.requires c.args.key.now c.in-Some.root c.in-Some.depth place.place.node place.place.leaf c.in-Some.is (place.ensures.child.0, place.ensures.way, place.ensures.child.1) c.leaf_mut.result.now c.leaf_mut.ensures.value) in
     rw absent (refl, rw c.array_mut-array.ensures.value kept.1)
 
 pub returns-in-Some-slot_of-clause-keys : goal.returns-in-Some-slot_of-clause-keys
