@@ -15,6 +15,7 @@ const FEW: usize = 1000;
 #[derive(Clone, Copy)]
 enum Workload {
     InsertAscending,
+    AppendAscending,
     InsertRandom,
     UpsertRandom,
     PeekHit,
@@ -35,8 +36,9 @@ enum Workload {
     PeekText,
 }
 
-const ALL: [(Workload, &str); 19] = [
+const ALL: [(Workload, &str); 20] = [
     (Workload::InsertAscending, "insert_ascending"),
+    (Workload::AppendAscending, "append_ascending"),
     (Workload::InsertRandom, "insert_random"),
     (Workload::UpsertRandom, "upsert_random"),
     (Workload::PeekHit, "peek_hit"),
@@ -228,7 +230,9 @@ fn scene_of_numbers(workload: Workload, size: usize) -> Scene<u64> {
     let mut order = keys.clone();
     source.shuffle(&mut order);
     match workload {
-        Workload::InsertAscending => Scene::empty(ascending(0, size), ascending(0, size)),
+        Workload::InsertAscending | Workload::AppendAscending => {
+            Scene::empty(ascending(0, size), ascending(0, size))
+        }
         Workload::UpsertRandom => Scene::filled(keys, order.clone(), order),
         Workload::WalkAscending | Workload::WalkBackAscending => {
             Scene::filled(ascending(0, size), Vec::new(), ascending(0, size))

@@ -1,9 +1,10 @@
 //! Pairs of an iterator or of a vector, stored one after another.
-ghost use Rattle.std.specs.Prelude.{◌≡◌, ◌↔◌, IsTrue, []};
+ghost use Rattle.std.specs.Prelude.{◌≡◌, ◌↔◌, IfOk, IsTrue, true, []};
 ghost use Rattle.std.specs.Iterator.{IsFinite};
 ghost use Rattle.tree_index.specs.Collects.{BuildsSorted, PutsPairs, puts};
 ghost use Rattle.tree_array.specs.Length.{IsLen};
 ghost use Rattle.tree_model.specs.Pairs.{IsAscending};
+ghost use Rattle.tree_root.specs.Trees.{IsWhole, packed_of, pairs_of};
 
 use crate::index::TreeIndexOf;
 use std::alloc::{AllocError, Global};
@@ -11,6 +12,7 @@ use std::error::Error;
 use std::fmt;
 use std::iter::{Extend, FromIterator};
 use tree_array::array::IndexKey;
+use tree_root::Tree;
 
 /// The error of [`from_sorted`](TreeIndexOf::from_sorted).
 #[derive(Debug, Drop)]
@@ -62,8 +64,8 @@ impl<K: IndexKey, V: Drop, const LEN: usize> TreeIndexOf<K, V, LEN> {
     /// Returns `NotAscending` with the pairs if a key isn't larger than the one before it. Returns `OutOfMemory` if an
     /// allocation is refused. Nothing of the index is left then, and the pairs are dropped.
     ///
-    /// Compares each key with the one before it, and then with the last separator of each node on its way and the last
-    /// key of the last leaf. Fills each leaf. The caller must choose 7 or 15 for `LEN`.
+    /// Compares each key with the one before it, and appends its pair to the last leaf, for one more comparison. A full
+    /// leaf costs a descent. Fills each leaf, and reserves memory for as many. The caller must choose 7 or 15 for `LEN`.
     ///
     /// ```
     /// TreeIndex::from_sorted(alloc, samples)
@@ -75,12 +77,34 @@ impl<K: IndexKey, V: Drop, const LEN: usize> TreeIndexOf<K, V, LEN> {
         if !are_ascending(pairs.as_slice()) {
             return Err(FromSortedError::NotAscending(pairs));
         }
-        let mut index = TreeIndexOf::new(alloc);
-        match index.try_extend(pairs) {
-            Ok(()) => Ok(index),
+        let len = pairs.len() as u128;
+        match append_sorted(alloc, pairs) {
+            Ok(tree) => Ok(TreeIndexOf { tree, len, alloc }),
             Err(_) => Err(FromSortedError::OutOfMemory),
         }
     }
+}
+
+/// Returns a tree of pairs whose keys ascend. Returns `Err` if an allocation is refused.
+fn append_sorted<K: IndexKey, V: Drop, const LEN: usize>(
+    alloc: Global,
+    pairs: Vec<(K, V)>,
+) -> Result<Tree<K, V, LEN>, AllocError>
+    requires len { IsLen LEN }
+    requires ascending { IsAscending K.cmp pairs.items }
+    ensures whole { IfOk result (IsWhole K.cmp) }
+    ensures pairs { IfOk result (λ tree. pairs_of tree ≡ pairs.items) }
+    ensures packed { IfOk result (λ tree. packed_of K.cmp tree ≡ true) }
+{
+    let mut tree = Tree::with_room(alloc, pairs.len())?;
+    let mut last = None;
+    for (key, value) in pairs {
+        match tree.append(&mut last, key, value) {
+            Ok(()) => {}
+            Err(_) => return Err(AllocError),
+        }
+    }
+    Ok(tree)
 }
 
 /// Returns whether each key is larger than the one before it.

@@ -2,6 +2,7 @@
 //! go.
 #![tactic(auto)]
 
+mod append;
 mod tree;
 
 pub use tree::{Stored, Tree};

@@ -64,6 +64,20 @@ pub fn insert_all<K: IndexKey>(
     Ok(stored)
 }
 
+/// Makes an index of pairs in ascending order by one call, and puts it in place of the index. Returns how many pairs it
+/// has.
+pub fn append_all(
+    alloc: Global,
+    index: &mut TreeIndex<u64, u64>,
+    pairs: Vec<(u64, u64)>,
+) -> Result<u64, AllocError> {
+    match TreeIndex::from_sorted(alloc, pairs) {
+        Ok(sorted) => *index = sorted,
+        Err(_) => return Err(AllocError),
+    }
+    Ok(index.len() as u64)
+}
+
 fn build_and_drop(alloc: Global, keys: Vec<u64>) -> Result<u64, AllocError> {
     let mut index = TreeIndex::new(alloc);
     insert_all(&mut index, keys)
