@@ -1,4 +1,4 @@
-use Rattle.std.proofs.Common.{refl, arith}
+use Rattle.std.proofs.Common.{◌<◌, ◌-◌, inl, inr, refl, arith}
 use Rattle.tree_node.proofs.Bare.{some_slots}
 use Rattle.tree_node.proofs.Sizes.{fits}
 use Rattle.tree_node.proofs.Whole.{tree_unchanged}
@@ -20,3 +20,6 @@ overflow_sub-div_ceil g c = omega (arith, some_slots g.row.LEN c.requires)
 
 pub reserve-requires-room-N-Destruct : goal.reserve-requires-room-N-Destruct
 reserve-requires-room-N-Destruct g c κs within = search fits
+
+pub div_ceil-requires : goal.div_ceil-requires
+div_ceil-requires g c = elim c.requires [ inl is ↦ omega (arith, is) | inr is ↦ omega (arith, is) ]
