@@ -9,7 +9,7 @@ append_below-requires g c = (search fits, (c.requires.len, (c.requires.whole, c.
 pub append_to-requires : goal.append_to-requires
 append_to-requires g c =
     let under = last_under g.K.Ord.cmp c.args.self.now c.in-Some.leaf c.args.key c.requires.whole (c.requires.last c.in-Some.leaf c.in-Some.is) c.requires.beyond in
-    (search fits, (under.level, under.id, under.for))
+    (search fits, (under.level, (under.id, under.for)))
 
 pub returns-in-Ok-clause-stores : goal.returns-in-Ok-clause-stores
 returns-in-Ok-clause-stores g c =
