@@ -10,9 +10,10 @@ use tree_leaf::arena::{LeafId, NodeId};
 /// of the child exceeds, and an unbounded child for the keys above all separators. A retired node has no child.
 #[derive(Drop)]
 pub struct BranchOf<K: Ord, I, const LEN: usize> {
-    // Beside the order of the keys in memory, since each way down reads both.
-    pub unbounded_child: Option<I>,
     pub children: ArrayOf<K, I, LEN>,
+    // Behind the numbers of the keyed children in memory, of which a way down reads one: it tests this field before it
+    // searches, and so asks for both at once.
+    pub unbounded_child: Option<I>,
 }
 
 /// A node over nodes.
@@ -35,8 +36,8 @@ impl<K: Ord + Drop, I: Copy + Drop, const LEN: usize> BranchOf<K, I, LEN> {
         ensures unbounded { result.unbounded_child ≡ Some unbounded }
     {
         BranchOf {
-            unbounded_child: Some(unbounded),
             children: ArrayOf::new(),
+            unbounded_child: Some(unbounded),
         }
     }
 

@@ -31,8 +31,8 @@ impl<K: Ord + Drop, I: Copy + Drop, const LEN: usize> BranchOf<K, I, LEN> {
         (
             separator,
             BranchOf {
-                unbounded_child: Some(middle),
                 children: low,
+                unbounded_child: Some(middle),
             },
         )
     }
