@@ -1,28 +1,19 @@
 -- What stands under the root of a tree that a test plants, and what calls leave of it.
-use Rattle.std.proofs.Common.{◌≡◌, ◌↔◌, ◌⊎◌, Bool, IsTrue, true, false, Result, Ok, Err, IfOk, OnErr, ℕ, zero, suc, ◌<◌, ◌+◌, ◌≤◌, [], ◌∷◌, Some, None, refl, sym, ◌∙◌, arith, add-one, ap, map, flat_map, IsSome, List, inl, inr}
-use Rattle.std.specs.declared.cmp.Ordering.{Ordering}
-use Rattle.std.proofs.lemmas.Bool.{cases_eq, false≢true}
-use Rattle.slab.specs.Slab.{Slab, get}
-use Rattle.tree_leaf.specs.Chain.{IsChain}
-use Rattle.tree_leaf.specs.declared.leaf.LeafOf.{LeafOf}
-use Rattle.tree_leaf.specs.Counting.{times, uses}
-use Rattle.tree_leaf.proofs.Counts.{none_here, one_here, times-append, times-cons, times-nil, uses_some}
-use Rattle.tree_array.specs.Arrivals.{in_order}
-use Rattle.tree_array.specs.declared.answers.InsertResult.{InsertResult}
-use Rattle.tree_array.specs.declared.answers.InsertResult.TheVariants.{Full}
+use Rattle.std.proofs.Common.{◌≡◌, ◌↔◌, ◌⊎◌, Bool, IsTrue, true, false, Result, Ok, Err, IfOk, OnErr, ℕ, zero, suc, ◌<◌, ◌+◌, ◌≤◌, [], ◌∷◌, Some, None, refl, sym, ◌∙◌, arith, add-one, ap, map, flat_map, IsSome, List, inl, inr, Ordering}
+use Rattle.tree_model.proofs.Common.{cases_eq, false≢true, Bound}
+use Rattle.tree_array.proofs.Common.{in_order}
 use Rattle.tree_array.specs.declared.answers.RemoveResult.{RemoveResult}
 use Rattle.tree_array.specs.declared.answers.RemoveResult.TheVariants.{Success, Retired, Fail}
-use Rattle.std.specs.declared.ops.Bound.{Bound}
+use Rattle.tree_node.proofs.Common.{Slab, get, IsChain, LeafOf, times, uses, none_here, one_here, times-append, times-cons, times-nil, uses_some, TreeArenas, IsPart, Unchanged, IsOfLevel, HasKind, IsRetired, StandsOrRetired, children_of, keyed, leaves_at, nodes_at, unbounded}
+use Rattle.tree_node.specs.declared.branch.BranchOf.{BranchOf}
+use Rattle.tree_node.specs.declared.node.NodeOf.{NodeOf}
+use Rattle.tree_node.specs.declared.node.NodeOf.TheVariants.{Internal}
+use Rattle.tree_array.specs.declared.answers.InsertResult.{InsertResult}
+use Rattle.tree_array.specs.declared.answers.InsertResult.TheVariants.{Full}
 use Rattle.tree_cut.specs.Cuts.{CutsUnder}
 use Rattle.tree_insert.specs.Inserts.{InsertsPlainly}
 use Rattle.tree_insert.specs.Roots.{RaisesRoot, Replants}
 use Rattle.tree_split.specs.Splits.{LacksRoom, SplitResult, SplitsChild}
-use Rattle.tree_node.specs.declared.internal_node.InternalNodeOf.{InternalNodeOf}
-use Rattle.tree_node.specs.declared.node.NodeOf.{NodeOf}
-use Rattle.tree_node.specs.declared.node.NodeOf.TheVariants.{Internal}
-use Rattle.tree_node.specs.Arenas.{TreeArenas}
-use Rattle.tree_node.specs.Parts.{IsPart, Unchanged}
-use Rattle.tree_node.specs.Tree.{IsOfLevel, HasKind, IsRetired, StandsOrRetired, children_of, keyed, leaves_at, nodes_at, unbounded}
 use Rattle.tree_node.proofs.Levels.{kind_of}
 use Rattle.tree_node.proofs.Steps.{part_after}
 use Rattle.tree_node.proofs.Unchanged.{unchanged_part}
@@ -97,13 +88,13 @@ module _ {K V : Type 0} {LEN : ℕ} (cmp : K → K → Ordering) (a b : TreeAren
   })
 
 -- an internal root, and its unbounded child
-last_inside : {K : Type 0} {LEN : ℕ} (nodes : Slab (NodeOf K LEN)) (id last : ℕ) (node : InternalNodeOf K LEN) → get nodes id ≡ Some (Internal node) → node.unbounded_child ≡ Some last → 0 < times last (children_of nodes id)
+last_inside : {K : Type 0} {LEN : ℕ} (nodes : Slab (NodeOf K LEN)) (id last : ℕ) (node : BranchOf K ℕ LEN) → get nodes id ≡ Some (Internal node) → node.unbounded_child ≡ Some last → 0 < times last (children_of nodes id)
 last_inside nodes id last node here is =
     let front = map (λ c. c.1) node.children.entries in
     rw (here, is) (omega (arith, times-append last front (last ∷ []), times-cons last last [], one_here last last refl))
 
 module _ {K V : Type 0} {LEN : ℕ} (cmp : K → K → Ordering) where
-  pub internal_part : (level : ℕ) (a : TreeArenas K V LEN) (id last : ℕ) (node : InternalNodeOf K LEN) → 0 < level → IsPlanted cmp level a id → get a.nodes id ≡ Some (Internal node) → node.unbounded_child ≡ Some last
+  pub internal_part : (level : ℕ) (a : TreeArenas K V LEN) (id last : ℕ) (node : BranchOf K ℕ LEN) → 0 < level → IsPlanted cmp level a id → get a.nodes id ≡ Some (Internal node) → node.unbounded_child ≡ Some last
       → ((1 < level) × IsPart cmp level a id) × (0 < times last (children_of a.nodes id))
   internal_part zero a id last node inner planted here is = absurd (omega (arith, inner))
   internal_part (suc zero) a id last node inner (inl part) here is = absurd (kind_of cmp a id 0 (Internal node) part.stands here)

@@ -18,8 +18,7 @@ use tree_calls::node_calls::NodeCalls;
 use tree_calls::root_calls::RootCalls;
 use tree_leaf::arena::NodeId;
 use tree_leaf::leaf::LeafOf;
-use tree_node::internal_node::InternalNodeOf;
-use tree_node::leaf_node::LeafNodeOf;
+use tree_node::branch::{InternalNodeOf, LeafNodeOf};
 use tree_node::node::{ArenasOf, NodeOf};
 use tree_support::walk;
 

@@ -11,8 +11,7 @@ use std::alloc::{AllocError, Global};
 use std::process::Abort;
 use tree_calls::node_calls::NodeCalls;
 use tree_leaf::arena::NodeId;
-use tree_node::internal_node::InternalNodeOf;
-use tree_node::leaf_node::LeafNodeOf;
+use tree_node::branch::{InternalNodeOf, LeafNodeOf};
 use tree_node::node::{ArenasOf, NodeOf};
 
 /// More pairs than any tree has here.

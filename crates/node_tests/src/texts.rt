@@ -8,7 +8,7 @@ use std::process::Abort;
 use test_support::refusals::succeeds;
 use tree_array::array::{InsertResult, RemoveResult};
 use tree_leaf::arena::NodeId;
-use tree_node::leaf_node::LeafNode;
+use tree_node::branch::LeafNode;
 use tree_node::node::Arenas;
 
 /// Arenas of texts, whose leaf nodes are called.

@@ -1,7 +1,5 @@
 -- Tallies of zeros have room for a short schedule.
-use Rattle.std.proofs.Common.{◌≡◌, ℕ, zero, suc, ◌<◌, List, [], ◌∷◌, length, refl, sym, subst, arith}
-use Rattle.std.specs.Prelude.{slice_index_or}
-use Rattle.std.specs.declared.cmp.Ordering.{Ordering}
+use Rattle.std.proofs.Common.{◌≡◌, ℕ, zero, suc, ◌<◌, List, [], ◌∷◌, length, refl, sym, subst, arith, slice_index_or, Ordering}
 use Rattle.tree_model.specs.declared.commands.Command.{Command}
 use Rattle.tree_shared.specs.declared.tally.Tally.{Tally}
 use Rattle.tree_runs.specs.Schedules.{HasRoom, FitsEachRun}

@@ -1,16 +1,9 @@
 -- Entries that are taken, and arrays whose arrivals are all spent.
-use Rattle.std.proofs.Common.{◌≡◌, ℕ, zero, suc, ◌<◌, true, length, map, drop, take, get_or, List, [], ◌∷◌, ◌++◌, slice_get, Option, Some, None, refl, ap, subst, arith}
-use Rattle.std.specs.List.{AllByRecursion}
-use Rattle.std.specs.declared.cmp.Ordering.{Ordering}
-use Rattle.std.specs.declared.cmp.Ordering.TheVariants.{Less, Greater}
-use Rattle.std.specs.Cmp.{IsTotalOrder}
-use Rattle.std.specs.Ordering.{is_lt, is_gt}
-use Rattle.std.proofs.lemmas.Cmp.{tied_itself}
+use Rattle.std.proofs.Common.{◌≡◌, ℕ, zero, suc, ◌<◌, true, length, map, drop, take, get_or, List, [], ◌∷◌, ◌++◌, slice_get, Option, Some, None, refl, ap, subst, arith, Ordering, Less, Greater, is_lt, is_gt}
+use Rattle.tree_model.proofs.Common.{AllByRecursion, IsTotalOrder, tied_itself, IsAscending, without}
+use Rattle.tree_array.proofs.Common.{all_map, filter_all, filter_none, greater_from_less, Arrivals, arrival, spend, spent_at}
 use Rattle.std.proofs.lemmas.Option.{none-some, same_Some}
-use Rattle.tree_model.specs.Pairs.{IsAscending, without}
-use Rattle.tree_model.proofs.Lists.{all_map, filter_all, filter_none}
-use Rattle.tree_model.proofs.Order.{greater_from_less}
-use Rattle.tree_array.specs.Arrivals.{Arrivals, arrival, drained, spend, spent_at}
+use Rattle.tree_array.specs.Arrivals.{drained}
 
 module _ {K V : Type 0} where
   -- an arrival after a key is spent

@@ -1,15 +1,9 @@
 -- Arrays without a reachable arrival, and the emptying of the cells place by place.
-use Rattle.std.proofs.Common.{◌≡◌, ◌≢◌, ℕ, ◌+◌, ◌<◌, ◌≤◌, List, [], ◌∷◌, length, set, Option, None, IsSome, refl, sym, ◌∙◌, ap, subst, inl, inr, length-append, arith}
-use Rattle.std.specs.declared.cmp.Ordering.{Ordering}
-use Rattle.std.specs.Cmp.{IsTotalOrder}
-use Rattle.std.proofs.lemmas.Bool.{cases_lt, cases_eq}
-use Rattle.std.proofs.lemmas.List.{length-set, get_or-set_same, get_or-set_other, get_or_past}
-use Rattle.tree_array.specs.Arrivals.{arrival, reachable, sorted}
+use Rattle.std.proofs.Common.{◌≡◌, ◌≢◌, ℕ, ◌+◌, ◌<◌, ◌≤◌, List, [], ◌∷◌, length, set, Option, None, IsSome, refl, sym, ◌∙◌, ap, subst, inl, inr, length-append, arith, Ordering, length-set, get_or-set_same, get_or-set_other}
+use Rattle.tree_model.proofs.Common.{IsTotalOrder, cases_lt, cases_eq, get_or_past, below, above}
+use Rattle.tree_array.proofs.Common.{arrival, reachable, sorted, picked, named, IsTabled, arrival-all}
 use Rattle.tree_array.specs.Moves.{HasEmptied}
-use Rattle.tree_order.specs.Order.{picked, named}
-use Rattle.tree_cells.specs.Tabled.{IsTabled}
-use Rattle.tree_model.specs.Pairs.{below, above}
-use Rattle.tree_cells.proofs.Picks.{cases_option, arrival-all, no_reachable, all_spent}
+use Rattle.tree_cells.proofs.Picks.{cases_option, no_reachable, all_spent}
 use Rattle.tree_cells.proofs.Tabled.{places_apart}
 
 module _ {K V : Type 0} (cmp : K → K → Ordering) where

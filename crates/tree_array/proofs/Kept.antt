@@ -1,32 +1,23 @@
 -- What every array keeps.
-use Rattle.std.proofs.Common.{◌≡◌, ◌↔◌, IsTrue, ℕ, suc, ◌+◌, ◌-◌, ◌==◌, ◌++◌, ◌<◌, ◌≤◌, Bool, false, true, List, [], ◌∷◌, map, length, slice_get, Option, None, Some, refl, sym, ◌∙◌, ap, arith}
-use Rattle.std.specs.declared.cmp.Ordering.{Ordering}
-use Rattle.std.specs.declared.cmp.Ordering.TheVariants.{Equal}
-use Rattle.std.specs.Cmp.{IsTotalOrder}
-use Rattle.std.specs.List.{AllByRecursion}
-use Rattle.std.specs.Ordering.{is_eq}
-use Rattle.std.proofs.lemmas.Bool.Decides.{nat_tests}
-use Rattle.std.proofs.lemmas.List.{length-map, nil_from_length}
+use Rattle.std.proofs.Common.{◌≡◌, ◌↔◌, IsTrue, ℕ, suc, ◌+◌, ◌-◌, ◌==◌, ◌++◌, ◌<◌, ◌≤◌, Bool, false, true, List, [], ◌∷◌, map, length, slice_get, Option, None, Some, refl, sym, ◌∙◌, ap, arith, Ordering, Equal, is_eq}
+use Rattle.tree_model.proofs.Common.{IsTotalOrder, AllByRecursion, nat_tests, nil_from_length}
+use Rattle.tree_array.proofs.Common.{Arrivals, arrival, ascents, reachable, sorted, stored, HasRoom, picked, named, IsSound, IsTabled, seen, equal_from_test, length-picked, arrival-all, len_small, ordinals_of}
+use Rattle.std.proofs.lemmas.List.{length-map}
 use Rattle.std.proofs.lemmas.Option.{same_Some, slice_get_within}
-use Rattle.tree_array.specs.Arrivals.{Arrivals, arrival, ascents, reachable, numbered, sorted, stored}
-use Rattle.tree_array.specs.Insertion.{HasRoom}
-use Rattle.tree_order.specs.Order.{picked, named, names, ordinal_in, rises_in}
+use Rattle.tree_array.specs.Arrivals.{numbered}
+use Rattle.tree_order.specs.Order.{names, ordinal_in, rises_in}
 use Rattle.tree_cells.specs.Ordinals.{HasOrdinals}
-use Rattle.tree_array.specs.Sound.{IsSound}
-use Rattle.tree_cells.specs.Tabled.{IsMarked, IsTabled}
-use Rattle.tree_array.specs.View.{seen}
+use Rattle.tree_cells.specs.Tabled.{IsMarked}
 use Rattle.tree_model.proofs.Lengths.{length-put, without_absent, without_few}
 use Rattle.tree_model.proofs.Lists.{find_none}
-use Rattle.tree_model.proofs.LookUps.{equal_from_test}
 use Rattle.tree_cells.proofs.Entries.{all-reachable}
-use Rattle.tree_order.proofs.Picked.{length-picked, slice_get-picked}
-use Rattle.tree_cells.proofs.Picks.{arrival-all, reachable_few}
+use Rattle.tree_order.proofs.Picked.{slice_get-picked}
+use Rattle.tree_cells.proofs.Picks.{reachable_few}
 use Rattle.tree_array.proofs.Places.{entry_at, last_entry}
 use Rattle.tree_cells.proofs.OrdinalOrder.{one_arrival}
 use Rattle.tree_cells.proofs.Rises.{counted_all}
-use Rattle.tree_order.proofs.Slots.{len_small}
 use Rattle.tree_cells.proofs.Sorted.{IsAscending-sorted, pair_at-sorted, all-sorted, values-sorted}
-use Rattle.tree_cells.proofs.Walks.{ordinals_of, slots_named}
+use Rattle.tree_cells.proofs.Walks.{slots_named}
 
 -- ---- the slots of the entries
 module _ {K V : Type 0} where

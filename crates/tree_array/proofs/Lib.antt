@@ -1,7 +1,9 @@
 pub mod Arrivals
+pub mod Common
 pub mod Dealt
 mod Emptied
 mod Kept
+mod Marked
 mod Moved
 mod Places
 mod Ranges

@@ -1,23 +1,19 @@
 -- Pairs that are moved place by place into the cells of a new array.
-use Rattle.std.proofs.Common.{◌≡◌, ◌≢◌, ℕ, ◌+◌, ◌<◌, ◌≤◌, Bool, true, false, List, [], length, map, take, drop, get_or, Option, None, Some, IsSome, refl, sym, ◌∙◌, ap, subst, inl, inr, arith}
-use Rattle.std.specs.declared.cmp.Ordering.{Ordering}
-use Rattle.std.specs.Cmp.{IsTotalOrder}
-use Rattle.std.proofs.lemmas.Bool.{cases_lt}
-use Rattle.std.proofs.lemmas.List.{drop_all, get_or-drop, get_or-map, get_or-take, length-drop, length-map, length-take, same_lists, take_all}
+use Rattle.std.proofs.Common.{◌≡◌, ◌≢◌, ℕ, ◌+◌, ◌<◌, ◌≤◌, Bool, true, false, List, [], length, map, take, drop, get_or, Option, None, Some, IsSome, refl, sym, ◌∙◌, ap, subst, inl, inr, arith, Ordering, get_or-drop, get_or-take, length-drop, length-take, take_all}
+use Rattle.tree_model.proofs.Common.{IsTotalOrder, cases_lt, drop_all}
+use Rattle.tree_array.proofs.Common.{Arrivals, arrival, in_order, reachable, sorted, seen, IsTabled, named, picked, length-picked, arrival-all}
+use Rattle.std.proofs.lemmas.List.{get_or-map, length-map, same_lists}
 use Rattle.std.proofs.lemmas.Option.{get_or_from_slice_get, none-some}
-use Rattle.tree_array.specs.Arrivals.{Arrivals, arrival, drained, in_order, reachable, sorted}
+use Rattle.tree_array.specs.Arrivals.{drained}
 use Rattle.tree_array.specs.Moves.{HasEmptied}
-use Rattle.tree_array.specs.View.{seen}
 use Rattle.tree_cells.specs.Moves.{HasInTurn, HasLeft}
-use Rattle.tree_cells.specs.Tabled.{IsTabled}
-use Rattle.tree_order.specs.Order.{clamped, named, picked, IsFilled}
+use Rattle.tree_order.specs.Order.{clamped, IsFilled}
 use Rattle.tree_array.proofs.Dealt.{spent_list}
 use Rattle.tree_array.proofs.Emptied.{emptied_all, entries_none}
 use Rattle.tree_array.proofs.Kept.{count_is, entry_place}
 use Rattle.tree_array.proofs.Seen.{arrivals_seen, same_arrays}
 use Rattle.tree_array.proofs.Stored.{clamped_early, clamped_late}
-use Rattle.tree_order.proofs.Picked.{get_or-picked, length-picked}
-use Rattle.tree_cells.proofs.Picks.{arrival-all}
+use Rattle.tree_order.proofs.Picked.{get_or-picked}
 use Rattle.tree_cells.proofs.Tabled.{places_apart}
 
 -- a place that is clamped to the entries parts them as it does

@@ -1,19 +1,10 @@
 -- Arrivals within two bounds that are spent one by one.
-use Rattle.std.proofs.Common.{◌≡◌, ◌≢◌, ℕ, zero, suc, ◌+◌, ◌<◌, ◌≤◌, Bool, true, false, List, [], ◌∷◌, map, length, Option, None, Some, refl, sym, ◌∙◌, ap, inl, inr, arith}
-use Rattle.std.specs.Prelude.{not, ◌&&◌, ◌||◌}
-use Rattle.std.specs.declared.cmp.Ordering.{Ordering}
-use Rattle.std.specs.declared.ops.Bound.{Bound}
-use Rattle.std.specs.Cmp.{IsTotalOrder}
-use Rattle.std.specs.Ordering.{is_eq}
-use Rattle.std.proofs.lemmas.Bool.{cases_eq}
-use Rattle.std.proofs.lemmas.Cmp.{tied_itself}
-use Rattle.std.proofs.lemmas.Bool.Decides.{nat_tests}
-use Rattle.std.proofs.lemmas.List.{ext_get_or, length-map, nil_from_length}
+use Rattle.std.proofs.Common.{◌≡◌, ◌≢◌, ℕ, zero, suc, ◌+◌, ◌<◌, ◌≤◌, Bool, true, false, List, [], ◌∷◌, map, length, Option, None, Some, refl, sym, ◌∙◌, ap, inl, inr, arith, not, ◌&&◌, ◌||◌, Ordering, is_eq, ext_get_or}
+use Rattle.tree_model.proofs.Common.{Bound, IsTotalOrder, cases_eq, tied_itself, nat_tests, nil_from_length, cut, within, without}
+use Rattle.tree_array.proofs.Common.{Arrivals, arrival, reachable, removed, sorted, spent_at, IsSound, equal_from_test}
+use Rattle.std.proofs.lemmas.List.{length-map}
 use Rattle.std.proofs.lemmas.Option.{none-some}
-use Rattle.tree_array.specs.Arrivals.{Arrivals, arrival, cut_at, is_empty, reachable, removed, sorted, spent_at, without_range}
-use Rattle.tree_array.specs.Sound.{IsSound}
-use Rattle.tree_model.specs.Pairs.{cut, within, without}
-use Rattle.tree_model.proofs.LookUps.{equal_from_test}
+use Rattle.tree_array.specs.Arrivals.{cut_at, is_empty, without_range}
 use Rattle.tree_array.proofs.Dealt.{arrival-spend}
 use Rattle.tree_cells.proofs.Entries.{entries-cut, entries-spend}
 use Rattle.tree_cells.proofs.Picks.{all_spent}

@@ -1,12 +1,8 @@
 -- An array is left the same without either of two equal keys.
-use Rattle.std.proofs.Common.{◌≡◌, List, [], ◌∷◌, Option, None, Some, refl, ap}
-use Rattle.std.specs.declared.cmp.Ordering.{Ordering}
-use Rattle.std.specs.declared.cmp.Ordering.TheVariants.{Equal}
-use Rattle.std.specs.Cmp.{IsTotalOrder}
-use Rattle.std.specs.Ordering.{is_lt, is_gt}
-use Rattle.std.proofs.lemmas.Cmp.{alike_right}
-use Rattle.tree_array.specs.Arrivals.{Arrivals, spend, is_empty, removed}
-use Rattle.tree_model.specs.Pairs.{without}
+use Rattle.std.proofs.Common.{◌≡◌, List, [], ◌∷◌, Option, None, Some, refl, ap, Ordering, Equal, is_lt, is_gt}
+use Rattle.tree_model.proofs.Common.{IsTotalOrder, alike_right, without}
+use Rattle.tree_array.proofs.Common.{Arrivals, spend, removed}
+use Rattle.tree_array.specs.Arrivals.{is_empty}
 use Rattle.tree_model.proofs.Lists.{filter_same}
 use Rattle.tree_array.proofs.Seen.{same_arrays}
 

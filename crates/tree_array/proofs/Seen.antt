@@ -1,18 +1,11 @@
 -- What contracts see of the fields of an array, and of an arrival there.
-use Rattle.std.proofs.Common.{◌≡◌, ◌≢◌, ℕ, ◌<◌, Bool, true, false, List, Option, None, Some, IsSome, refl, sym, ◌∙◌, ap, subst, inl, inr}
-use Rattle.std.specs.declared.cmp.Ordering.{Ordering}
-use Rattle.std.specs.declared.cmp.Ordering.TheVariants.{Equal}
-use Rattle.std.specs.Cmp.{IsTotalOrder}
-use Rattle.std.specs.Ordering.{is_eq}
-use Rattle.std.proofs.lemmas.Bool.{cases_eq}
-use Rattle.tree_array.specs.Arrivals.{Arrivals, arrival, reachable, sorted, spent_at, spend}
-use Rattle.tree_cells.specs.Tabled.{IsSetAt, IsTabled}
-use Rattle.tree_order.specs.Order.{picked, named}
+use Rattle.std.proofs.Common.{◌≡◌, ◌≢◌, ℕ, ◌<◌, Bool, true, false, List, Option, None, Some, IsSome, refl, sym, ◌∙◌, ap, subst, inl, inr, Ordering, Equal, is_eq}
+use Rattle.tree_model.proofs.Common.{IsTotalOrder, cases_eq}
+use Rattle.tree_array.proofs.Common.{Arrivals, arrival, reachable, sorted, spent_at, spend, IsTabled, picked, named, seen, equal_from_test, arrival-all}
+use Rattle.tree_cells.specs.Tabled.{IsSetAt}
 use Rattle.tree_cells.specs.Ordinals.{HasOrdinals}
-use Rattle.tree_array.specs.View.{seen}
-use Rattle.tree_model.proofs.LookUps.{equal_from_test}
 use Rattle.tree_cells.proofs.Found.{one_place}
-use Rattle.tree_cells.proofs.Picks.{arrival-all, picked-map, some_of}
+use Rattle.tree_cells.proofs.Picks.{picked-map, some_of}
 
 pub same_arrays : {K V : Type 0} (a b : List (Option (K × V))) (r s : Bool) (l m : List (K × V)) → a ≡ b → r ≡ s → l ≡ m → ◌≡◌ {A = Arrivals K V} (record { arrivals = a; retired = r; entries = l }) (record { arrivals = b; retired = s; entries = m })
 same_arrays a b r s l m e f g = rw (e, f, g) refl

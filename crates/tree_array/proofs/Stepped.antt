@@ -1,13 +1,11 @@
 -- Steps of a walk whose slots are named by a word.
-use Rattle.std.proofs.Common.{◌≡◌, ℕ, zero, suc, inl, inr, ◌+◌, ◌-◌, ◌==◌, ◌<◌, ◌≤◌, if◌then◌else◌, length, slice_get, Option, None, Some, refl, sym, ap, ◌∙◌, arith}
-use Rattle.std.specs.Prelude.{⊤, option_and_then}
-use Rattle.std.proofs.lemmas.Bool.{cases_eq}
-use Rattle.std.proofs.lemmas.Bool.Decides.{nat_tests}
+use Rattle.std.proofs.Common.{◌≡◌, ℕ, zero, suc, inl, inr, ◌+◌, ◌-◌, ◌==◌, ◌<◌, ◌≤◌, if◌then◌else◌, length, slice_get, Option, None, Some, refl, sym, ap, ◌∙◌, arith, option_and_then}
+use Rattle.tree_model.proofs.Common.{⊤, cases_eq, nat_tests, MakesProgress}
+use Rattle.tree_array.proofs.Common.{named, length-picked, Walk}
 use Rattle.std.proofs.lemmas.Option.{slice_get_within}
-use Rattle.std.specs.Iterator.{MakesProgress}
-use Rattle.tree_order.specs.Order.{named, names}
-use Rattle.tree_order.proofs.Picked.{length-picked, slice_get-picked}
-use Rattle.tree_array.specs.Walk.{StepsBack, StepsOn, Walk, left_on, place_ahead, places_behind, standing}
+use Rattle.tree_order.specs.Order.{names}
+use Rattle.tree_order.proofs.Picked.{slice_get-picked}
+use Rattle.tree_array.specs.Walk.{StepsBack, StepsOn, left_on, place_ahead, places_behind, standing}
 
 -- the place before this one, if there is one
 abbrev pub before : ℕ → Option ℕ

@@ -1,28 +1,18 @@
 -- The fields of an array after a pair was stored, and what contracts see of them.
-use Rattle.std.proofs.Common.{◌≡◌, ◌≢◌, ℕ, ◌+◌, ◌<◌, ◌≤◌, Bool, true, false, IsTrue, List, [], ◌∷◌, ◌++◌, length, set, Option, None, Some, refl, ◌∙◌, ap, inl, inr, arith}
-use Rattle.std.specs.declared.cmp.Ordering.{Ordering}
-use Rattle.std.specs.declared.cmp.Ordering.TheVariants.{Greater}
-use Rattle.std.specs.Cmp.{IsTotalOrder}
-use Rattle.std.proofs.lemmas.Bool.{cases_lt}
-use Rattle.std.proofs.lemmas.Bool.Decides.{nat_tests}
-use Rattle.std.proofs.lemmas.Cmp.{tied_back}
-use Rattle.std.proofs.lemmas.List.{length-set}
-use mathlib.Core.Bool.{false≢true}
-use Rattle.tree_array.specs.Arrivals.{Arrivals, arrival, free, reachable, sorted, spend, stored}
-use Rattle.tree_array.specs.Insertion.{IsFull, HasRoom, PartsEntries}
-use Rattle.tree_order.specs.Order.{picked, clamped, named}
+use Rattle.std.proofs.Common.{◌≡◌, ◌≢◌, ℕ, ◌+◌, ◌<◌, ◌≤◌, Bool, true, false, IsTrue, List, [], ◌∷◌, ◌++◌, length, set, Option, None, Some, refl, ◌∙◌, ap, inl, inr, arith, Ordering, Greater, length-set}
+use Rattle.tree_model.proofs.Common.{IsTotalOrder, cases_lt, nat_tests, tied_back, false≢true}
+use Rattle.tree_array.proofs.Common.{Arrivals, arrival, free, reachable, sorted, spend, stored, IsFull, HasRoom, picked, named, IsTabled, seen, length-picked, ordinals_of}
+use Rattle.tree_array.specs.Insertion.{PartsEntries}
+use Rattle.tree_order.specs.Order.{clamped}
 use Rattle.tree_cells.specs.Place.{HasKey, IsPlace, Parts}
 use Rattle.tree_cells.specs.declared.search.Place.TheVariants.{Before}
-use Rattle.tree_cells.specs.Tabled.{IsTabled}
-use Rattle.tree_array.specs.View.{seen}
 use Rattle.tree_cells.proofs.Entries.{entries-store}
 use Rattle.tree_cells.proofs.Found.{other_key}
 use Rattle.tree_array.proofs.Kept.{count_is, entry_place, place_entry}
-use Rattle.tree_order.proofs.Picked.{length-picked, picked-next}
+use Rattle.tree_order.proofs.Picked.{picked-next}
 use Rattle.tree_cells.proofs.Picks.{picked_same}
 use Rattle.tree_array.proofs.Seen.{same_arrays, arrivals_seen, spend_seen, spend_absent}
 use Rattle.tree_cells.proofs.Tabled.{early, set_at}
-use Rattle.tree_cells.proofs.Walks.{ordinals_of}
 
 pub clamped_early : (count place : ℕ) → place < count → clamped count place ≡ place
 clamped_early count place lt = grind (arith, nat_tests)

@@ -1,19 +1,13 @@
 -- The fields of an array after a pair was taken, and what contracts see of them.
-use Rattle.std.proofs.Common.{◌≡◌, ◌≢◌, ℕ, ◌-◌, ◌==◌, ◌<◌, Bool, true, false, List, length, set, Option, None, Some, refl, sym, ◌∙◌, ap, arith}
-use Rattle.std.specs.declared.cmp.Ordering.{Ordering}
-use Rattle.std.specs.Cmp.{IsTotalOrder}
-use Rattle.std.proofs.lemmas.Bool.Decides.{nat_tests}
-use Rattle.std.proofs.lemmas.Cmp.{tied_itself}
-use Rattle.tree_array.specs.Arrivals.{arrival, is_empty, reachable, removed, sorted}
-use Rattle.tree_order.specs.Order.{picked, named}
-use Rattle.tree_cells.specs.Tabled.{IsMarked, IsTabled}
-use Rattle.tree_array.specs.View.{seen}
-use Rattle.tree_model.specs.Pairs.{without}
+use Rattle.std.proofs.Common.{◌≡◌, ◌≢◌, ℕ, ◌-◌, ◌==◌, ◌<◌, Bool, true, false, List, length, set, Option, None, Some, refl, sym, ◌∙◌, ap, arith, Ordering}
+use Rattle.tree_model.proofs.Common.{IsTotalOrder, nat_tests, tied_itself, without}
+use Rattle.tree_array.proofs.Common.{arrival, reachable, removed, sorted, picked, named, IsTabled, seen, ordinals_of}
+use Rattle.tree_array.specs.Arrivals.{is_empty}
+use Rattle.tree_cells.specs.Tabled.{IsMarked}
 use Rattle.tree_cells.proofs.Entries.{entries-spend}
 use Rattle.tree_array.proofs.Kept.{count_is}
 use Rattle.tree_array.proofs.Seen.{same_arrays, spend_seen}
 use Rattle.tree_cells.proofs.Tabled.{early, set_at}
-use Rattle.tree_cells.proofs.Walks.{ordinals_of}
 
 -- an array with an entry isn't retired
 pub still_live : (count : ℕ) (retired : Bool) → IsMarked count retired → 0 < count → retired ≡ false

@@ -1,26 +1,17 @@
 -- The fields of an array after a value was replaced, and what contracts see of them.
-use Rattle.std.proofs.Common.{◌≡◌, ℕ, zero, suc, ◌<◌, Bool, true, false, cond, List, [], ◌∷◌, set, get_or, length, Option, None, Some, if◌then◌else◌, refl, sym, ◌∙◌, ap, inl, inr, arith}
-use Rattle.std.specs.declared.cmp.Ordering.{Ordering}
-use Rattle.std.specs.Cmp.{IsTotalOrder}
-use Rattle.std.specs.Ordering.{is_eq}
-use Rattle.std.proofs.lemmas.Bool.{cases_eq}
-use Rattle.std.proofs.lemmas.Cmp.{tied_back}
-use Rattle.std.proofs.lemmas.List.{ext_get_or, get_or-set_other, get_or-set_same, length-set}
+use Rattle.std.proofs.Common.{◌≡◌, ℕ, zero, suc, ◌<◌, Bool, true, false, cond, List, [], ◌∷◌, set, get_or, length, Option, None, Some, if◌then◌else◌, refl, sym, ◌∙◌, ap, inl, inr, arith, Ordering, is_eq, ext_get_or, get_or-set_other, get_or-set_same, length-set}
+use Rattle.tree_model.proofs.Common.{IsTotalOrder, cases_eq, tied_back, pair_at, put}
+use Rattle.tree_array.proofs.Common.{arrival, reachable, sorted, IsTabled, picked, seen, equal_from_test, arrival-all, length-picked, ordinals_of}
 use Rattle.std.proofs.lemmas.Option.{none-some, same_Some}
-use Rattle.tree_array.specs.Arrivals.{arrival, reachable, sorted, with_val}
-use Rattle.tree_cells.specs.Tabled.{IsSetAt, IsTabled}
-use Rattle.tree_order.specs.Order.{picked}
-use Rattle.tree_array.specs.View.{seen}
-use Rattle.tree_model.specs.Pairs.{pair_at, put}
+use Rattle.tree_array.specs.Arrivals.{with_val}
+use Rattle.tree_cells.specs.Tabled.{IsSetAt}
 use Rattle.tree_model.proofs.Ascending.{IsAscending-put}
-use Rattle.tree_model.proofs.LookUps.{equal_from_test, pair_at-put, same_look_ups}
+use Rattle.tree_model.proofs.LookUps.{pair_at-put, same_look_ups}
 use Rattle.tree_cells.proofs.Found.{found_at}
-use Rattle.tree_cells.proofs.Picks.{arrival-all, arrival-picked, made_early}
-use Rattle.tree_order.proofs.Picked.{length-picked}
+use Rattle.tree_cells.proofs.Picks.{arrival-picked, made_early}
 use Rattle.tree_array.proofs.Seen.{same_arrays}
 use Rattle.tree_cells.proofs.Sorted.{IsAscending-sorted, pair_at-sorted}
 use Rattle.tree_cells.proofs.Tabled.{set_at, valued_tabled}
-use Rattle.tree_cells.proofs.Walks.{ordinals_of}
 
 -- a list whose element at one place is set
 pub picked_set : {K V : Type 0} (pick pick' : ℕ → Option (K × V)) (made slot : ℕ) (pair : K × V) → slot < made → IsSetAt pick pick' slot (Some pair) → picked pick' made ≡ set (picked pick made) slot (Some pair)

@@ -11,7 +11,7 @@ pub use crate::answers::{
 use std::marker::Model;
 use tree_cells::cells::Cells;
 pub use tree_cells::judge::{Judge, KeyJudge, Steps};
-use tree_order::order::slot_at;
+use tree_order::order::{EMPTY, RETIRED, slot_at};
 
 mod division;
 mod insertion;
@@ -30,9 +30,6 @@ pub use walk::{ArrayIter, ArrayRevIter};
 /// Keys stand apart from values, and one word keeps the order of the keys. No call allocates.
 pub struct ArrayOf<K: Ord, V, const LEN: usize> {
     order: u64,
-    made: u8,
-    count: u8,
-    retired: bool,
     cells: Cells<K, V, LEN>,
 }
 
@@ -41,25 +38,21 @@ pub type Array<K, V> = ArrayOf<K, V, 15>;
 
 impl<K: Ord, V, const LEN: usize> Model for ArrayOf<K, V, LEN> {
     ghost use Rattle.tree_array.specs.Arrivals.{Arrivals};
-    ghost use Rattle.tree_cells.specs.Tabled.{IsMarked, IsTabled};
+    ghost use Rattle.tree_cells.specs.Tabled.{IsTabled};
     ghost use Rattle.tree_array.specs.View.{seen};
+    ghost use Rattle.tree_order.specs.Order.{is_retired};
 
     ghost Value = { Arrivals K V };
 
-    ghost view = { λ a. seen K.cmp a.cells a.made a.retired };
+    ghost view = { λ a. seen K.cmp a.cells.pairs a.cells.counts.arrivals (is_retired a.order) };
 
-    ghost invariant = { λ a. IsTabled K.cmp LEN a.cells a.order a.made a.count × IsMarked a.count a.retired };
+    ghost invariant = { λ a. IsTabled K.cmp LEN a.cells.pairs a.order a.cells.counts.arrivals a.cells.counts.entries };
 }
 
 impl<K: Ord + Drop, V: Drop, const LEN: usize> Drop for ArrayOf<K, V, LEN> {
     fn drop(self) {
-        let ArrayOf {
-            order,
-            made: _,
-            count,
-            retired: _,
-            mut cells,
-        } = self;
+        let ArrayOf { order, mut cells } = self;
+        let count = cells.counts().entries;
         for place in 0..count {
             let _ = cells.take(slot_at(order, place));
         }
@@ -74,10 +67,7 @@ impl<K: Ord + Drop, V: Drop, const LEN: usize> ArrayOf<K, V, LEN> {
         ensures { result ≡ in_order [] }
     {
         ArrayOf {
-            order: u64::MAX,
-            made: 0,
-            count: 0,
-            retired: false,
+            order: EMPTY,
             cells: Cells::new(),
         }
     }
@@ -87,15 +77,15 @@ impl<K: Ord + Drop, V: Drop, const LEN: usize> ArrayOf<K, V, LEN> {
         ensures free { result ≡ free LEN self.now }
         ensures sound { IsSound K.cmp LEN self.now }
     {
-        let made = self.made;
-        LEN as u8 - made
+        let arrivals = self.cells.counts().arrivals;
+        LEN as u8 - arrivals
     }
 
     /// Returns whether the last pair was removed. Such an array stays empty until it is rebuilt.
     pub fn is_retired(&self) -> bool
         ensures { result ≡ self.now.retired }
     {
-        self.retired
+        self.order == RETIRED
     }
 
     /// Returns whether no slot is free, or the array is retired.
@@ -109,14 +99,14 @@ impl<K: Ord + Drop, V: Drop, const LEN: usize> ArrayOf<K, V, LEN> {
     pub fn is_empty(&self) -> bool
         ensures { IsTrue result ↔ (self.now.entries ≡ []) }
     {
-        self.count == 0
+        self.cells.counts().entries == 0
     }
 
     /// Returns how many pairs are reachable. Runs in constant time.
     pub fn len(&self) -> usize
         ensures { result ≡ length self.now.entries }
     {
-        self.count as usize
+        self.cells.counts().entries as usize
     }
 
     /// Returns the key of a slot, which must be reachable.

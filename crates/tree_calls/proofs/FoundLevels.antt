@@ -1,17 +1,13 @@
 -- The level that a walk finds serves in place of the one that the contract speaks of: they differ for a retired node alone, which has nothing under it.
-use Rattle.std.proofs.Common.{◌≡◌, ◌⊎◌, ℕ, zero, suc, ◌+◌, ◌*◌, ◌<◌, ◌≤◌, Bool, [], ◌∷◌, Option, Some, None, MatchOption, inl, inr, refl, arith}
-use Rattle.std.proofs.Math.Nat.{mul-le-mul_left}
-use Rattle.std.specs.declared.cmp.Ordering.{Ordering}
-use Rattle.std.specs.declared.ops.Bound.{Bound}
-use Rattle.slab.specs.Slab.{get}
+use Rattle.std.proofs.Common.{◌≡◌, ◌⊎◌, ℕ, zero, suc, ◌+◌, ◌*◌, ◌<◌, ◌≤◌, Bool, [], ◌∷◌, Option, Some, None, MatchOption, inl, inr, refl, arith, Ordering}
+use Rattle.tree_model.proofs.Common.{Bound}
+use Rattle.tree_model.specs.declared.way.Way.{Way}
 use Rattle.tree_array.specs.declared.answers.RemoveResult.{RemoveResult}
 use Rattle.tree_array.specs.declared.answers.RemoveResult.TheVariants.{Success, Retired, Fail}
-use Rattle.tree_chain.specs.declared.stand.Way.{Way}
-use Rattle.tree_chain.specs.Walks.{LeafWalk}
-use Rattle.tree_node.specs.Arenas.{TreeArenas}
+use Rattle.tree_node.proofs.Common.{get, TreeArenas, IsPart, Unchanged, IsRetired, Stands, StandsOrRetired, leaves_at, nodes_at, walk}
+use Rattle.tree_chain.proofs.Common.{LeafWalk}
+use Rattle.std.proofs.Math.Nat.{mul-le-mul_left}
 use Rattle.tree_walk.specs.Ends.{BeginsPart, IsLinked}
-use Rattle.tree_node.specs.Parts.{IsPart, Unchanged}
-use Rattle.tree_node.specs.Tree.{IsRetired, Stands, StandsOrRetired, leaves_at, nodes_at, walk}
 use Rattle.tree_node.proofs.Unchanged.{unchanged_replaces}
 use Rattle.tree_node.proofs.Standing.{no_children}
 use Rattle.tree_cut.specs.Cuts.{CutsUnder}

@@ -1,17 +1,14 @@
 -- The level that is found of a root serves in place of its depth: a retired root may be taken at any level.
-use Rattle.std.proofs.Common.{◌≡◌, ◌⊎◌, ℕ, zero, suc, ◌<◌, Option, Some, inl, inr, arith}
-use Rattle.std.specs.declared.cmp.Ordering.{Ordering}
-use Rattle.tree_node.specs.declared.internal_node.InternalNodeOf.{InternalNodeOf}
+use Rattle.std.proofs.Common.{◌≡◌, ◌⊎◌, ℕ, zero, suc, ◌<◌, Option, Some, inl, inr, arith, Ordering}
+use Rattle.tree_node.proofs.Common.{TreeArenas, IsPart, IsOfLevel, IsRetired}
+use Rattle.tree_node.specs.declared.branch.BranchOf.{BranchOf}
 use Rattle.tree_node.specs.declared.node.NodeOf.{NodeOf}
 use Rattle.tree_node.specs.declared.node.NodeOf.TheVariants.{Internal}
-use Rattle.tree_node.specs.Arenas.{TreeArenas}
-use Rattle.tree_node.specs.Parts.{IsPart}
-use Rattle.tree_node.specs.Tree.{IsOfLevel, IsRetired}
 use Rattle.tree_remove.specs.Lowering.{LowersRoot}
 use Rattle.tree_calls.proofs.FoundLevels.{itself, no_leaves, retired_too}
 
 -- an internal node is of each level above the lowest
-pub over_nodes : {K : Type 0} {LEN : ℕ} (level : ℕ) → 1 < level → (slot : Option (NodeOf K LEN)) (node : InternalNodeOf K LEN) → slot ≡ Some (Internal node) → IsOfLevel level slot
+pub over_nodes : {K : Type 0} {LEN : ℕ} (level : ℕ) → 1 < level → (slot : Option (NodeOf K LEN)) (node : BranchOf K ℕ LEN) → slot ≡ Some (Internal node) → IsOfLevel level slot
 over_nodes zero high slot node here = absurd (omega (arith, high))
 over_nodes (suc zero) high slot node here = absurd (omega (arith, high))
 over_nodes (suc (suc level)) high slot node here = rw here tt

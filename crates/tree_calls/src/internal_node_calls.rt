@@ -9,7 +9,7 @@ ghost use Rattle.tree_split.specs.Splits.{SplitResult};
 
 use std::alloc::AllocError;
 use tree_leaf::arena::NodeId;
-use tree_node::internal_node::InternalNodeOf;
+use tree_node::branch::InternalNodeOf;
 use tree_node::node::ArenasOf;
 use tree_node_split::split_child;
 
@@ -34,7 +34,8 @@ pub trait InternalNodeCalls<K: Ord + Drop, const LEN: usize> {
     ) -> Result<bool, AllocError>
         requires part { (level : ℕ) × (1 < level) × IsPart K.cmp level arenas.old parent }
         requires child { 0 < times target (children_of arenas.old.nodes parent) }
-        ensures done { (level : ℕ) → 1 < level → IsPart K.cmp level arenas.old parent → IfOk result (λ split. SplitResult K.cmp split level arenas.old arenas.new parent target) }
+        ensures done { (level : ℕ) → 1 < level → IsPart K.cmp level arenas.old parent
+            → IfOk result (λ split. SplitResult K.cmp split level arenas.old arenas.new parent target) }
         ensures leaves { (n : ℕ) → get arenas.new.leaves n ≡ get arenas.old.leaves n }
         ensures err { OnErr result (Unchanged arenas.old arenas.new) }
         ensures places { HasPlaces arenas.old 0 1 → IsOk result }

@@ -12,7 +12,7 @@ ghost use Rattle.tree_array.specs.declared.answers.InsertResult.TheVariants.{Ful
 ghost use Rattle.tree_calls.specs.CleanUps.{NeedsCleanUp};
 ghost use Rattle.tree_cut.specs.Cuts.{CutsUnder};
 ghost use Rattle.tree_insert.specs.Inserts.{InsertsPlainly};
-ghost use Rattle.tree_chain.specs.declared.stand.Way.TheVariants.{On, Back};
+ghost use Rattle.tree_model.specs.declared.way.Way.TheVariants.{On, Back};
 ghost use Rattle.tree_model.specs.Pairs.{IsAbsent, pair_at};
 ghost use Rattle.tree_walk.specs.Ends.{BeginsPart, IsLinked};
 ghost use Rattle.tree_node.specs.Parts.{IsPart, Unchanged};
@@ -28,9 +28,8 @@ use tree_cut::cutting::remove_range_at;
 use tree_descent::look_ups::search_at;
 use tree_insert::insertion::insert_at;
 use tree_leaf::arena::NodeId;
+use tree_node::branch::{InternalNodeOf, LeafNodeOf};
 use tree_node::depth::level_of;
-use tree_node::internal_node::InternalNodeOf;
-use tree_node::leaf_node::LeafNodeOf;
 use tree_node::node::{ArenasOf, NodeOf};
 use tree_ranges::approximate::approximate_at;
 use tree_remove::removal::remove_at;
@@ -58,7 +57,8 @@ pub trait NodeCalls<K: Ord + Drop, const LEN: usize> {
         ghost level: { ℕ }
         requires kind { StandsAt level }
         requires stands { StandsOrRetired K.cmp level arenas.now id }
-        ensures found { MatchOption result (IsAbsent K.cmp (walk level arenas.now id) (J.key judge.old)) (λ pair. pair_at K.cmp (walk level arenas.now id) (J.key judge.old) ≡ Some (pair.0.now, pair.1.now)) }
+        ensures found { MatchOption result (IsAbsent K.cmp (walk level arenas.now id) (J.key judge.old))
+            (λ pair. pair_at K.cmp (walk level arenas.now id) (J.key judge.old) ≡ Some (pair.0.now, pair.1.now)) }
         ensures same_key { J.key judge.new ≡ J.key judge.old }
         ensures counted { J.count judge.new ≤ J.count judge.old + LEN * (level + 1) }
         ensures halved { J.count judge.new ≤ J.count judge.old + searched LEN * (level + 1) }
@@ -77,7 +77,8 @@ pub trait NodeCalls<K: Ord + Drop, const LEN: usize> {
         ghost level: { ℕ }
         requires kind { StandsAt level }
         requires stands { StandsOrRetired K.cmp level arenas.now id }
-        ensures found { MatchOption result (IsAbsent K.cmp (walk level arenas.now id) (J.key judge.old)) (λ val. (key : K) × (pair_at K.cmp (walk level arenas.now id) (J.key judge.old) ≡ Some (key, val.now))) }
+        ensures found { MatchOption result (IsAbsent K.cmp (walk level arenas.now id) (J.key judge.old))
+            (λ val. (key : K) × (pair_at K.cmp (walk level arenas.now id) (J.key judge.old) ≡ Some (key, val.now))) }
         ensures same_key { J.key judge.new ≡ J.key judge.old }
         ensures counted { J.count judge.new ≤ J.count judge.old + LEN * (level + 1) }
         ensures halved { J.count judge.new ≤ J.count judge.old + searched LEN * (level + 1) }
@@ -195,8 +196,10 @@ pub trait NodeCalls<K: Ord + Drop, const LEN: usize> {
         ghost level: { ℕ }
         requires kind { StandsAt level }
         requires part { IsPart K.cmp level arenas.old id ⊎ IsRetired level arenas.old id }
-        ensures inserts { IsPart K.cmp level arenas.old id → InsertsPlainly K.cmp UPSERT level arenas.old arenas.new id result key val }
-        ensures retired { IsRetired level arenas.old id → (result ≡ Ok (PlainlyFull key val)) × Unchanged arenas.old arenas.new }
+        ensures inserts { IsPart K.cmp level arenas.old id
+            → InsertsPlainly K.cmp UPSERT level arenas.old arenas.new id result key val }
+        ensures retired { IsRetired level arenas.old id → (result ≡ Ok (PlainlyFull key val))
+            × Unchanged arenas.old arenas.new }
     {
         let level = level_of(arenas, id);
         let answer = insert_at::<UPSERT, K, V, LEN>(arenas, level, id, key, val)?;
@@ -220,8 +223,10 @@ pub trait NodeCalls<K: Ord + Drop, const LEN: usize> {
         ghost level: { ℕ }
         requires kind { StandsAt level }
         requires part { IsPart K.cmp level arenas.old id ⊎ IsRetired level arenas.old id }
-        requires callable { ForSome (pair_at K.cmp (walk level arenas.old id) key.now) (λ pair. FnOnceTakesAt F.FnOnce condition pair.1) }
-        ensures removes { RemovesUnder K.cmp (λ val said. FnOnceReturnsAt F.FnOnce condition val said) level arenas.old arenas.new id result key.now }
+        requires callable { ForSome (pair_at K.cmp (walk level arenas.old id) key.now)
+            (λ pair. FnOnceTakesAt F.FnOnce condition pair.1) }
+        ensures removes { RemovesUnder K.cmp
+            (λ val said. FnOnceReturnsAt F.FnOnce condition val said) level arenas.old arenas.new id result key.now }
         ensures settled { level ≡ 1 → result ≡ RemoveResult.Success → HasOnlyRetired arenas.new id → ⊥ }
     {
         let level = level_of(arenas, id);
@@ -243,7 +248,9 @@ pub trait NodeCalls<K: Ord + Drop, const LEN: usize> {
         ghost level: { ℕ }
         requires kind { StandsAt level }
         requires part { IsPart K.cmp level arenas.old id ⊎ IsRetired level arenas.old id }
-        ensures cuts { (gone : ℕ) × CutsUnder K.cmp (bound_map (λ k. k.now) bounds.entry.0) (bound_map (λ k. k.now) bounds.entry.1) level arenas.old arenas.new id gone }
+        ensures cuts { (gone : ℕ)
+            × CutsUnder K.cmp (bound_map (λ k. k.now) bounds.entry.0)
+            (bound_map (λ k. k.now) bounds.entry.1) level arenas.old arenas.new id gone }
         ensures left { result ≡ length (children_of arenas.new.nodes id) }
         ensures retired { IsRetired level arenas.old id → arenas.new ≡ arenas.old }
     {

@@ -31,8 +31,10 @@ pub trait RootCalls<K: Ord + Drop, const LEN: usize> {
         ghost level: { ℕ }
         requires node { 0 < level }
         requires part { IsPart K.cmp level arenas.old root ⊎ IsRetired level arenas.old root }
-        ensures raised { IsPart K.cmp level arenas.old root → IfOk result (λ id. RaisesRoot K.cmp level arenas.old arenas.new root id × (level + 1 < 2 ^ 64)) }
-        ensures replanted { IsRetired level arenas.old root → IfOk result (λ id. (id ≡ root) × Replants K.cmp arenas.old arenas.new root) }
+        ensures raised { IsPart K.cmp level arenas.old root
+            → IfOk result (λ id. RaisesRoot K.cmp level arenas.old arenas.new root id × (level + 1 < 2 ^ 64)) }
+        ensures replanted { IsRetired level arenas.old root
+            → IfOk result (λ id. (id ≡ root) × Replants K.cmp arenas.old arenas.new root) }
         ensures err { OnErr result (Unchanged arenas.old arenas.new) }
         ensures places { IsPart K.cmp level arenas.old root → HasPlaces arenas.old 0 2 → IsOk result }
         ensures leaf_place { IsRetired level arenas.old root → HasPlaces arenas.old 1 0 → IsOk result }

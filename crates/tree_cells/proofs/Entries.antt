@@ -1,14 +1,7 @@
 -- What a look-up finds among arrivals, and the entries after one is spent, cut or stored.
-use Rattle.std.proofs.Common.{◌≡◌, ℕ, suc, Bool, true, false, cond, List, [], ◌∷◌, ◌++◌, map, filter, Option, None, Some, if◌then◌else◌, refl, sym, ◌∙◌, ap}
-use Rattle.std.specs.Prelude.{not}
-use Rattle.std.specs.declared.cmp.Ordering.{Ordering}
-use Rattle.std.specs.declared.cmp.Ordering.TheVariants.{Less, Equal, Greater}
-use Rattle.std.specs.declared.ops.Bound.{Bound}
-use Rattle.std.specs.Cmp.{IsTotalOrder}
-use Rattle.std.specs.List.{AllByRecursion}
-use Rattle.std.specs.Ordering.{is_eq}
+use Rattle.std.proofs.Common.{◌≡◌, ℕ, suc, Bool, true, false, cond, List, [], ◌∷◌, ◌++◌, map, filter, Option, None, Some, if◌then◌else◌, refl, sym, ◌∙◌, ap, not, Ordering, Less, Equal, Greater, is_eq}
+use Rattle.tree_model.proofs.Common.{Bound, IsTotalOrder, AllByRecursion, IsAscending, pair_at, put, without, within, cut}
 use Rattle.tree_cells.specs.Arrivals.{arrival, reachable, sorted, spend, cut_at}
-use Rattle.tree_model.specs.Pairs.{IsAscending, pair_at, put, without, within, cut}
 use Rattle.tree_model.proofs.Ascending.{IsAscending-put, IsAscending-without, IsAscending-cut}
 use Rattle.tree_model.proofs.Lists.{find_after, find_before, find_kept, find_dropped}
 use Rattle.tree_model.proofs.LookUps.{equal_from_test, pair_at-put, pair_at-without, pair_at-cut, same_look_ups}

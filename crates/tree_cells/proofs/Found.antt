@@ -1,11 +1,6 @@
 -- What the place of a key says of the entries of an array.
-use Rattle.std.proofs.Common.{◌≡◌, ℕ, zero, suc, Bool, true, false, List, [], ◌∷◌, Option, None, Some, refl, sym, ◌∙◌, ap, inl, inr, arith}
-use Rattle.std.specs.declared.cmp.Ordering.{Ordering}
-use Rattle.std.specs.declared.cmp.Ordering.TheVariants.{Equal}
-use Rattle.std.specs.Cmp.{IsTotalOrder}
-use Rattle.std.specs.Ordering.{is_eq}
-use Rattle.std.proofs.lemmas.Bool.{cases_lt}
-use Rattle.std.proofs.lemmas.Cmp.{tied_back}
+use Rattle.std.proofs.Common.{◌≡◌, ℕ, zero, suc, Bool, true, false, List, [], ◌∷◌, Option, None, Some, refl, sym, ◌∙◌, ap, inl, inr, arith, Ordering, Equal, is_eq}
+use Rattle.tree_model.proofs.Common.{IsTotalOrder, cases_lt, tied_back, pair_at}
 use Rattle.std.proofs.lemmas.Option.{none-some}
 use Rattle.tree_cells.specs.Arrivals.{arrival, reachable, sorted}
 use Rattle.tree_order.specs.Order.{picked}
@@ -13,7 +8,6 @@ use Rattle.tree_cells.specs.Place.{Parts, IsPlace}
 use Rattle.tree_cells.specs.declared.search.Place.TheVariants.{Before}
 use Rattle.tree_cells.specs.Ordinals.{HasOrdinals}
 use Rattle.tree_cells.specs.Tabled.{IsTabled}
-use Rattle.tree_model.specs.Pairs.{pair_at}
 use Rattle.tree_model.proofs.Lists.{find_none}
 use Rattle.tree_model.proofs.LookUps.{equal_from_test}
 use Rattle.tree_model.proofs.Order.{greater_from_less, less_from_greater}

@@ -1,12 +1,6 @@
 -- The least entry whose key isn't less than another.
-use Rattle.std.proofs.Common.{◌≡◌, ℕ, ◌<◌, ◌≤◌, Bool, true, false, List, [], ◌∷◌, Option, None, Some, refl, sym, ◌∙◌, ap, inl, inr, arith}
-use Rattle.std.specs.declared.cmp.Ordering.{Ordering}
-use Rattle.std.specs.declared.cmp.Ordering.TheVariants.{Less, Equal, Greater}
-use Rattle.std.specs.Cmp.{IsTotalOrder}
-use Rattle.std.specs.List.{AllByRecursion}
-use Rattle.std.specs.Ordering.{is_le, is_ge}
-use Rattle.std.proofs.lemmas.Bool.{cases_order}
-use Rattle.std.proofs.lemmas.Cmp.{tied_back, tied_itself}
+use Rattle.std.proofs.Common.{◌≡◌, ℕ, ◌<◌, ◌≤◌, Bool, true, false, List, [], ◌∷◌, Option, None, Some, refl, sym, ◌∙◌, ap, inl, inr, arith, Ordering, Less, Equal, Greater, is_le, is_ge}
+use Rattle.tree_model.proofs.Common.{IsTotalOrder, AllByRecursion, cases_order, tied_back, tied_itself, IsAscending, AllLarger, pair_at}
 use Rattle.std.proofs.lemmas.Option.{none-some, same_Some}
 use Rattle.tree_cells.specs.Arrivals.{arrival, reachable, sorted, least_from}
 use Rattle.tree_order.specs.Order.{picked, named}
@@ -15,7 +9,6 @@ use Rattle.tree_cells.specs.declared.search.Place.{Place}
 use Rattle.tree_cells.specs.declared.search.Place.TheVariants.{At, Before}
 use Rattle.tree_cells.specs.Ordinals.{HasOrdinals}
 use Rattle.tree_cells.specs.Tabled.{IsTabled}
-use Rattle.tree_model.specs.Pairs.{IsAscending, AllLarger, pair_at}
 use Rattle.tree_model.proofs.Lists.{find_none}
 use Rattle.tree_model.proofs.LookUps.{none_larger}
 use Rattle.tree_model.proofs.Order.{greater_from_less, less_from_greater}

@@ -1,8 +1,7 @@
 -- Values that leave the slots of a row place by place and stand in another row in turn, and pairs that do so with them.
-use Rattle.std.proofs.Common.{◌≡◌, ◌≢◌, ◌⊎◌, ℕ, zero, suc, ◌+◌, ◌-◌, ◌<◌, ◌≤◌, List, length, set, replicate, get_or, Option, None, Some, IsSome, is_some, refl, sym, ◌∙◌, ap, inl, inr, arith}
-use mathlib.Core.Bool.{false≢true}
-use Rattle.std.proofs.lemmas.Bool.{cases_lt, cases_eq}
-use Rattle.std.proofs.lemmas.List.{length-set, length-replicate, get_or-replicate, get_or-set_same, get_or-set_other, get_or_past}
+use Rattle.std.proofs.Common.{◌≡◌, ◌≢◌, ◌⊎◌, ℕ, zero, suc, ◌+◌, ◌-◌, ◌<◌, ◌≤◌, List, length, set, replicate, get_or, Option, None, Some, IsSome, is_some, refl, sym, ◌∙◌, ap, inl, inr, arith, length-set, get_or-set_same, get_or-set_other}
+use Rattle.tree_model.proofs.Common.{false≢true, cases_lt, cases_eq, get_or_past}
+use Rattle.std.proofs.lemmas.List.{length-replicate, get_or-replicate}
 use Rattle.tree_cells.specs.Arrivals.{arrival}
 use Rattle.tree_cells.specs.Cells.{pair_up, zipped, AreFilledAlike}
 use Rattle.tree_cells.specs.Moves.{HasInTurn, HasLeft}

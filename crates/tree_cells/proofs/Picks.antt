@@ -1,9 +1,6 @@
 -- The arrivals of an array, as a list of what is picked by their numbers.
-use Rattle.std.proofs.Common.{◌≡◌, ◌⊎◌, ℕ, zero, suc, ◌<◌, ◌≤◌, List, [], ◌∷◌, ◌++◌, map, length, false, Option, None, Some, IsSome, refl, sym, ◌∙◌, ap, inl, inr, arith}
-use Rattle.std.specs.Option.{is_some}
-use Rattle.std.proofs.lemmas.Bool.{cases_lt}
-use mathlib.Core.Bool.{false≢true}
-use Rattle.std.proofs.lemmas.List.{get_or_past, map-append}
+use Rattle.std.proofs.Common.{◌≡◌, ◌⊎◌, ℕ, zero, suc, ◌<◌, ◌≤◌, List, [], ◌∷◌, ◌++◌, map, length, false, Option, None, Some, IsSome, refl, sym, ◌∙◌, ap, inl, inr, arith, is_some}
+use Rattle.tree_model.proofs.Common.{cases_lt, false≢true, get_or_past, map-append}
 use Rattle.std.proofs.lemmas.Option.{none-some}
 use Rattle.tree_cells.specs.Arrivals.{arrival, reachable}
 use Rattle.tree_order.specs.Order.{picked}

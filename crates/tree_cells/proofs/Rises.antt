@@ -1,10 +1,6 @@
 -- One step of the count of ascents.
-use Rattle.std.proofs.Common.{◌≡◌, ◌⊎◌, ℕ, zero, suc, true, false, ◌+◌, ◌<◌, ◌≤◌, List, [], ◌∷◌, ◌++◌, length, Option, None, Some, if◌then◌else◌, refl, ◌∙◌, ap, inl, inr, add-one, length-append, arith}
-use Rattle.std.specs.declared.cmp.Ordering.{Ordering}
-use Rattle.std.specs.Ordering.{is_lt}
-use Rattle.std.proofs.lemmas.Bool.{cases_lt, cases_order}
-use Rattle.std.proofs.lemmas.Bool.Decides.{nat_tests}
-use Rattle.std.proofs.lemmas.List.{append-nil}
+use Rattle.std.proofs.Common.{◌≡◌, ◌⊎◌, ℕ, zero, suc, true, false, ◌+◌, ◌<◌, ◌≤◌, List, [], ◌∷◌, ◌++◌, length, Option, None, Some, if◌then◌else◌, refl, ◌∙◌, ap, inl, inr, add-one, length-append, arith, Ordering, is_lt, append-nil}
+use Rattle.tree_model.proofs.Common.{cases_lt, cases_order, nat_tests}
 use Rattle.tree_cells.specs.Arrivals.{reachable, ascents}
 use Rattle.tree_order.specs.Order.{picked, last_ordinal, rises_in}
 use Rattle.tree_cells.specs.Ordinals.{HasOrdinals}

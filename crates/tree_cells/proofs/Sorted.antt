@@ -1,12 +1,7 @@
 -- Pairs that are put into the order of their keys one by one.
-use Rattle.std.proofs.Common.{◌≡◌, Bool, true, false, cond, List, [], ◌∷◌, map, filter, Option, Some, if◌then◌else◌, refl, sym, ◌∙◌, ap}
-use Rattle.std.specs.declared.cmp.Ordering.{Ordering}
-use Rattle.std.specs.Cmp.{IsTotalOrder}
-use Rattle.std.specs.List.{AllByRecursion}
-use Rattle.std.specs.Ordering.{is_lt, is_eq, is_gt}
-use Rattle.std.proofs.lemmas.List.{map-append}
+use Rattle.std.proofs.Common.{◌≡◌, Bool, true, false, cond, List, [], ◌∷◌, map, filter, Option, Some, if◌then◌else◌, refl, sym, ◌∙◌, ap, Ordering, is_lt, is_eq, is_gt}
+use Rattle.tree_model.proofs.Common.{IsTotalOrder, AllByRecursion, map-append, IsAscending, pair_at, below, above, put}
 use Rattle.tree_cells.specs.Arrivals.{sorted}
-use Rattle.tree_model.specs.Pairs.{IsAscending, pair_at, below, above, put}
 use Rattle.tree_model.proofs.Ascending.{IsAscending-put}
 use Rattle.tree_model.proofs.Lists.{all-append, all-filter}
 use Rattle.tree_model.proofs.LookUps.{pair_at-put}

@@ -1,14 +1,10 @@
 -- What the order of an array keeps as pairs come and go.
-use Rattle.std.proofs.Common.{◌≡◌, ◌≢◌, ◌⊎◌, ℕ, zero, suc, ◌+◌, ◌-◌, ◌<◌, ◌≤◌, List, length, set, replicate, Option, None, Some, IsSome, refl, sym, ◌∙◌, ap, subst, inl, inr, false, arith}
-use Rattle.std.specs.declared.cmp.Ordering.{Ordering}
-use Rattle.std.specs.declared.cmp.Ordering.TheVariants.{Less, Equal, Greater}
-use Rattle.std.specs.Cmp.{IsTotalOrder}
-use Rattle.std.proofs.lemmas.Bool.{cases_lt, cases_eq, cases_order}
-use Rattle.std.proofs.lemmas.Cmp.{alike_right, tied_itself}
-use Rattle.std.proofs.lemmas.List.{length-set, get_or-set_same, get_or-set_other, get_or_past, length-replicate}
+use Rattle.std.proofs.Common.{◌≡◌, ◌≢◌, ◌⊎◌, ℕ, zero, suc, ◌+◌, ◌-◌, ◌<◌, ◌≤◌, List, length, set, replicate, Option, None, Some, IsSome, refl, sym, ◌∙◌, ap, subst, inl, inr, false, arith, Ordering, Less, Equal, Greater, length-set, get_or-set_same, get_or-set_other}
+use Rattle.tree_model.proofs.Common.{IsTotalOrder, cases_lt, cases_eq, cases_order, alike_right, tied_itself, get_or_past}
+use Rattle.std.proofs.lemmas.List.{length-replicate}
 use Rattle.std.proofs.lemmas.Option.{none-some, same_Some}
 use Rattle.tree_cells.specs.Arrivals.{arrival}
-use Rattle.tree_cells.specs.Tabled.{IsSetAt, IsInOrder, IsTabled, IsMarked}
+use Rattle.tree_cells.specs.Tabled.{IsSetAt, IsInOrder, IsTabled}
 use Rattle.tree_order.specs.Length.{IsLen}
 use Rattle.tree_order.specs.Order.{named, IsFilled}
 use Rattle.tree_cells.specs.Place.{Parts, HasKey}
@@ -295,20 +291,17 @@ module _ {K V : Type 0} {cmp : K → K → Ordering} (o : IsTotalOrder cmp) {len
     }
 
 -- an array that had no pair yet
-pub first_tabled : {K V : Type 0} (cmp : K → K → Ordering) (len order : ℕ) → IsLen len → IsTabled {K = K} {V = V} cmp len (replicate len None) order 0 0 × IsMarked 0 false
-first_tabled {K} {V} cmp len order is_len = (
-  record {
-    is_len = is_len;
-    whole = length-replicate len None;
-    few_made = omega arith;
-    few_count = omega arith;
-    unmade = λ p le. none len p;
-    in_order = record { stands = λ i lt. absurd (omega arith); ascends = λ i j e f less lt. absurd (omega arith) };
-    filled = λ some. absurd (omega arith);
-    listed = λ p e some. absurd (none-some e (sym (none len p) ∙ some));
-  },
-  λ r. refl,
-)
+pub first_tabled : {K V : Type 0} (cmp : K → K → Ordering) (len order : ℕ) → IsLen len → IsTabled {K = K} {V = V} cmp len (replicate len None) order 0 0
+first_tabled {K} {V} cmp len order is_len = record {
+  is_len = is_len;
+  whole = length-replicate len None;
+  few_made = omega arith;
+  few_count = omega arith;
+  unmade = λ p le. none len p;
+  in_order = record { stands = λ i lt. absurd (omega arith); ascends = λ i j e f less lt. absurd (omega arith) };
+  filled = λ some. absurd (omega arith);
+  listed = λ p e some. absurd (none-some e (sym (none len p) ∙ some));
+}
   where
     none : (n p : ℕ) → arrival {K = K} {V = V} (replicate n None) p ≡ None
     none zero p = refl

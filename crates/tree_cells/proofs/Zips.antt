@@ -1,11 +1,11 @@
 -- Keys and values that stand apart, as pairs.
-use Rattle.std.proofs.Common.{◌≡◌, ℕ, zero, suc, List, [], ◌∷◌, length, set, replicate, get_or, Option, None, Some, IsSome, is_some, refl, sym, ◌∙◌, ap, subst, inl, inr, arith}
-use mathlib.Core.Bool.{false≢true}
-use Rattle.std.proofs.lemmas.Bool.{cases_eq, cases_lt}
-use Rattle.std.proofs.lemmas.List.{get_or-set_same, get_or-set_other, get_or_past, length-set, length-replicate}
+use Rattle.std.proofs.Common.{◌≡◌, ℕ, zero, suc, List, [], ◌∷◌, length, set, replicate, get_or, Option, None, Some, IsSome, is_some, refl, sym, ◌∙◌, ap, subst, inl, inr, arith, get_or-set_same, get_or-set_other, length-set}
+use Rattle.tree_model.proofs.Common.{false≢true, cases_eq, cases_lt, get_or_past}
+use Rattle.std.proofs.lemmas.List.{length-replicate}
 use Rattle.tree_cells.specs.Arrivals.{arrival}
 use Rattle.tree_cells.proofs.Picks.{some_of}
-use Rattle.tree_cells.specs.Cells.{pair_up, zipped, AreFilledAlike}
+use Rattle.tree_cells.specs.Cells.{pair_up, zipped, AreFilledAlike, Held}
+use Rattle.tree_cells.specs.declared.cells.Counts.{Counts}
 
 same_set : {A : Type 0} (xs : List (Option A)) (p : ℕ) (x : A) → get_or xs p None ≡ Some x → set xs p (Some x) ≡ xs
 same_set [] p x h = refl
@@ -73,8 +73,8 @@ module _ {K V : Type 0} where
     pub view : zipped keys vals ≡ pairs
     pub same : length keys ≡ length vals
 
-  pub as_seen : (keys : List (Option K)) (vals : List (Option V)) (pairs : List (Option (K × V))) (len : ℕ) → zipped keys vals ≡ pairs → length keys ≡ len → length vals ≡ len → AreSeenAs keys vals pairs
-  as_seen keys vals pairs len view whole whole' = record { view = view; same = whole ∙ sym whole' }
+  pub as_seen : (keys : List (Option K)) (vals : List (Option V)) (counts : Counts) (held : Held K V) (len : ℕ) → record { pairs = zipped keys vals; counts = counts } ≡ held → length keys ≡ len → length vals ≡ len → AreSeenAs keys vals held.pairs
+  as_seen keys vals counts held len view whole whole' = record { view = ap (λ (h : Held K V). h.pairs) view; same = whole ∙ sym whole' }
 
   module _ {keys : List (Option K)} {vals : List (Option V)} {pairs : List (Option (K × V))} (rows : AreSeenAs keys vals pairs) where
     pub has_both : (p : ℕ) → IsSome (arrival pairs p) → IsSome (get_or keys p None) × IsSome (get_or vals p None)

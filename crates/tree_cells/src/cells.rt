@@ -1,6 +1,7 @@
 //! The cells of an array, keys apart from values. No byte says which cells hold a pair: the order of the array does.
-ghost use Rattle.std.specs.Prelude.{◌≡◌, ◌≢◌, ℕ, ◌<◌, ◌≤◌, None, Some, IsSome, length, replicate, slice_set};
+ghost use Rattle.std.specs.Prelude.{◌≡◌, ◌≢◌, ℕ, ◌-◌, ◌<◌, ◌≤◌, None, Some, IsSome, length, slice_set};
 ghost use Rattle.tree_cells.specs.Arrivals.{arrival};
+ghost use Rattle.tree_cells.specs.Cells.{bare};
 ghost use Rattle.tree_cells.specs.Moves.{HasInTurn, HasLeft};
 ghost use Rattle.tree_order.specs.Order.{named};
 
@@ -9,38 +10,84 @@ use std::marker::Model;
 use std::mem;
 use tree_slots::row::Row;
 
-/// The cells, each with a pair or none. There are no rows before the first pair, whose bytes then fill them.
+/// How many entries and arrivals an array has.
+#[derive(Clone, Copy)]
+pub struct Counts {
+    pub entries: u8,
+    pub arrivals: u8,
+}
+
+/// The rows of keys and of values.
+///
+/// The counts stand between them: they are read before a search, so that the memory in the middle of a leaf is asked for
+/// at the same time as its head.
+struct Rows<K, V, const LEN: usize> {
+    keys: Row<K, LEN>,
+    counts: Counts,
+    vals: Row<V, LEN>,
+}
+
+/// The cells, each with a pair or none, and the counts of their array. There are no rows before the first pair, whose
+/// bytes then fill them, and the counts are 0.
 pub struct Cells<K, V, const LEN: usize> {
-    rows: Option<(Row<K, LEN>, Row<V, LEN>)>,
+    rows: Option<Rows<K, V, LEN>>,
 }
 
 impl<K, V, const LEN: usize> Model for Cells<K, V, LEN> {
-    ghost use Rattle.std.specs.Prelude.{List, Option, MatchOption, ⊤};
-    ghost use Rattle.tree_cells.specs.Cells.{zipped, seen_cells, AreFilledAlike};
+    ghost use Rattle.std.specs.Prelude.{MatchOption, ⊤};
+    ghost use Rattle.tree_cells.specs.Cells.{zipped, seen_cells, AreFilledAlike, Held};
 
-    ghost Value = { List (Option (K × V)) };
+    ghost Value = { Held K V };
 
-    ghost view = { λ c. seen_cells LEN (λ rows. zipped rows.0.slots rows.1.slots) c.rows };
+    ghost view = { λ c. seen_cells LEN (λ rows. record { pairs = zipped rows.keys.slots rows.vals.slots; counts = rows.counts }) c.rows };
 
-    ghost invariant = { λ c. MatchOption c.rows ⊤ (λ rows. AreFilledAlike rows.0.slots rows.1.slots) };
+    ghost invariant = { λ c. MatchOption c.rows ⊤ (λ rows. AreFilledAlike rows.keys.slots rows.vals.slots) };
 }
 
 impl<K, V, const LEN: usize> Cells<K, V, LEN> {
     /// Creates cells without a pair.
     pub fn new() -> Self
-        ensures { result ≡ replicate LEN None }
+        ensures { result ≡ bare LEN }
     {
         Cells { rows: None }
+    }
+
+    /// Returns the counts.
+    #[inline(always)]
+    pub fn counts(&self) -> Counts
+        ensures entries { result.entries ≡ self.now.counts.entries }
+        ensures arrivals { result.arrivals ≡ self.now.counts.arrivals }
+    {
+        match &self.rows {
+            Some(rows) => rows.counts,
+            None => Counts {
+                entries: 0,
+                arrivals: 0,
+            },
+        }
+    }
+
+    /// Sets the count of the entries, of which there are no more than arrivals.
+    #[inline(always)]
+    pub fn set_entries(&mut self, entries: u8)
+        requires { entries ≤ self.old.counts.arrivals }
+        ensures pairs { self.new.pairs ≡ self.old.pairs }
+        ensures entries { self.new.counts.entries ≡ entries }
+        ensures arrivals { self.new.counts.arrivals ≡ self.old.counts.arrivals }
+    {
+        if let Some(rows) = &mut self.rows {
+            rows.counts.entries = entries;
+        }
     }
 
     /// Returns the key of a cell. The caller must know that it holds a pair.
     #[inline]
     pub fn key(&self, cell: u8) -> &K
-        requires { IsSome (arrival self.now cell) }
-        ensures { (val : V) × (arrival self.now cell ≡ Some (result.now, val)) }
+        requires { IsSome (arrival self.now.pairs cell) }
+        ensures { (val : V) × (arrival self.now.pairs cell ≡ Some (result.now, val)) }
     {
         match &self.rows {
-            Some((keys, _)) => keys.get(cell as usize),
+            Some(rows) => rows.keys.get(cell as usize),
             None => unreachable!(),
         }
     }
@@ -48,80 +95,108 @@ impl<K, V, const LEN: usize> Cells<K, V, LEN> {
     /// Returns the pair of a cell. The caller must know that it holds one.
     #[inline]
     pub fn pair(&self, cell: u8) -> (&K, &V)
-        requires { IsSome (arrival self.now cell) }
-        ensures { arrival self.now cell ≡ Some (result.0.now, result.1.now) }
+        requires { IsSome (arrival self.now.pairs cell) }
+        ensures { arrival self.now.pairs cell ≡ Some (result.0.now, result.1.now) }
     {
         match &self.rows {
-            Some((keys, vals)) => (keys.get(cell as usize), vals.get(cell as usize)),
+            Some(rows) => (rows.keys.get(cell as usize), rows.vals.get(cell as usize)),
             None => unreachable!(),
         }
     }
 
-    /// Puts a pair into a cell. The caller must know that it holds none.
-    pub fn put(&mut self, cell: u8, key: K, val: V)
+    /// Puts a pair into a cell, and sets the counts. The caller must know that the cell holds none.
+    pub fn put(&mut self, cell: u8, key: K, val: V, counts: Counts)
         requires within { cell < LEN }
-        requires empty { arrival self.old cell ≡ None }
-        ensures { self.new ≡ slice_set self.old cell (Some (key, val)) }
+        requires empty { arrival self.old.pairs cell ≡ None }
+        ensures pairs { self.new.pairs ≡ slice_set self.old.pairs cell (Some (key, val)) }
+        ensures counts { self.new.counts ≡ counts }
     {
         match &mut self.rows {
-            Some((keys, vals)) => {
-                keys.put(cell as usize, key);
-                vals.put(cell as usize, val);
+            Some(rows) => {
+                rows.keys.put(cell as usize, key);
+                rows.vals.put(cell as usize, val);
+                rows.counts = counts;
             }
-            None => self.begin(cell, key, val),
+            None => self.begin(cell, key, val, counts),
         }
     }
 
     /// Makes the rows, with a first pair in a cell. Its own function, so that a put into rows that are there is short.
     #[inline(never)]
-    fn begin(&mut self, cell: u8, key: K, val: V)
+    fn begin(&mut self, cell: u8, key: K, val: V, counts: Counts)
         requires within { cell < LEN }
-        requires bare { self.old ≡ replicate LEN None }
-        ensures { self.new ≡ slice_set self.old cell (Some (key, val)) }
+        requires bare { self.old ≡ bare LEN }
+        ensures pairs { self.new.pairs ≡ slice_set self.old.pairs cell (Some (key, val)) }
+        ensures counts { self.new.counts ≡ counts }
     {
-        let rows = (Row::with(cell as usize, key), Row::with(cell as usize, val));
-        if let Some((keys, vals)) = mem::replace(&mut self.rows, Some(rows)) {
-            keys.discard();
-            vals.discard();
-        }
+        let rows = Rows {
+            keys: Row::with(cell as usize, key),
+            counts,
+            vals: Row::with(cell as usize, val),
+        };
+        let old = mem::replace(&mut self.rows, Some(rows));
+        Cells { rows: old }.discard();
     }
 
     /// Takes the pair of a cell. The caller must know that it holds one.
     pub fn take(&mut self, cell: u8) -> (K, V)
-        requires { IsSome (arrival self.old cell) }
-        ensures pair { arrival self.old cell ≡ Some result }
-        ensures spent { self.new ≡ slice_set self.old cell None }
+        requires { IsSome (arrival self.old.pairs cell) }
+        ensures pair { arrival self.old.pairs cell ≡ Some result }
+        ensures spent { self.new.pairs ≡ slice_set self.old.pairs cell None }
+        ensures counts { self.new.counts ≡ self.old.counts }
     {
         match &mut self.rows {
-            Some((keys, vals)) => (keys.take(cell as usize), vals.take(cell as usize)),
+            Some(rows) => (rows.keys.take(cell as usize), rows.vals.take(cell as usize)),
             None => unreachable!(),
         }
     }
 
-    /// Moves the pairs of the places from `from` up to `end` of an order into the first of other cells, in turn. The caller
-    /// must know that each of these places names a pair, that no two name the same, and that the other cells hold none.
+    /// Moves the pairs of the places from `from` up to `end` of an order into the first of other cells, in turn, whose
+    /// counts they are then. The caller must know that each of these places names a pair, that no two name the same, and
+    /// that the other cells hold none and count none.
     pub fn take_places(&mut self, order: u64, from: u8, end: u8, to: &mut Self)
+        requires ends { from ≤ end }
         requires few { end ≤ LEN }
         requires places { end ≤ 15 }
-        requires stands { (i : ℕ) → from ≤ i → i < end → IsSome (arrival self.old (named order i)) }
+        requires stands { (i : ℕ) → from ≤ i → i < end → IsSome (arrival self.old.pairs (named order i)) }
         requires apart { (i j : ℕ) → from ≤ i → i < j → j < end → named order i ≢ named order j }
-        requires none { (p : ℕ) → arrival to.old p ≡ None }
-        requires whole { length to.old ≡ LEN }
-        ensures turn { HasInTurn self.old to.new order from end }
-        ensures left { HasLeft self.old self.new order from end }
-        ensures same { length self.new ≡ length self.old }
-        ensures whole { length to.new ≡ LEN }
+        requires none { (p : ℕ) → arrival to.old.pairs p ≡ None }
+        requires whole { length to.old.pairs ≡ LEN }
+        requires no_entries { to.old.counts.entries ≡ 0 }
+        requires no_arrivals { to.old.counts.arrivals ≡ 0 }
+        ensures turn { HasInTurn self.old.pairs to.new.pairs order from end }
+        ensures left { HasLeft self.old.pairs self.new.pairs order from end }
+        ensures same { length self.new.pairs ≡ length self.old.pairs }
+        ensures whole { length to.new.pairs ≡ LEN }
+        ensures counts { self.new.counts ≡ self.old.counts }
+        ensures entries { to.new.counts.entries ≡ end - from }
+        ensures arrivals { to.new.counts.arrivals ≡ end - from }
     {
-        if from >= end {
+        if from == end {
             return;
         }
         match &mut self.rows {
-            Some((keys, vals)) => {
-                let spare = (keys.spare(), vals.spare());
-                let rows = mem::replace(&mut to.rows, Some(spare));
-                Cells { rows }.discard();
-                if let Some((to_keys, to_vals)) = &mut to.rows {
-                    gather(keys, vals, order, from, end, to_keys, to_vals);
+            Some(rows) => {
+                let spare = Rows {
+                    keys: rows.keys.spare(),
+                    counts: Counts {
+                        entries: end - from,
+                        arrivals: end - from,
+                    },
+                    vals: rows.vals.spare(),
+                };
+                let old = mem::replace(&mut to.rows, Some(spare));
+                Cells { rows: old }.discard();
+                if let Some(to) = &mut to.rows {
+                    gather(
+                        &mut rows.keys,
+                        &mut rows.vals,
+                        order,
+                        from,
+                        end,
+                        &mut to.keys,
+                        &mut to.vals,
+                    );
                 } else {
                     unreachable!()
                 }
@@ -132,22 +207,28 @@ impl<K, V, const LEN: usize> Cells<K, V, LEN> {
 
     /// Replaces the value of a cell and returns the old one. The caller must know that it holds a pair.
     pub fn replace(&mut self, cell: u8, val: V) -> V
-        requires { IsSome (arrival self.old cell) }
-        ensures { (key : K) × (arrival self.old cell ≡ Some (key, result))
-            × (self.new ≡ slice_set self.old cell (Some (key, val))) }
+        requires { IsSome (arrival self.old.pairs cell) }
+        ensures pairs { (key : K) × (arrival self.old.pairs cell ≡ Some (key, result))
+            × (self.new.pairs ≡ slice_set self.old.pairs cell (Some (key, val))) }
+        ensures counts { self.new.counts ≡ self.old.counts }
     {
         match &mut self.rows {
-            Some((_, vals)) => vals.replace(cell as usize, val),
+            Some(rows) => rows.vals.replace(cell as usize, val),
             None => unreachable!(),
         }
     }
 
     /// Ends cells that hold no pair. The caller must know that they hold none.
     pub fn discard(self)
-        requires { (p : ℕ) → arrival self p ≡ None }
+        requires { (p : ℕ) → arrival self.pairs p ≡ None }
     {
         let Cells { rows } = self;
-        if let Some((keys, vals)) = rows {
+        if let Some(rows) = rows {
+            let Rows {
+                keys,
+                counts: _,
+                vals,
+            } = rows;
             keys.discard();
             vals.discard();
         }

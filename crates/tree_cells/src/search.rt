@@ -77,9 +77,9 @@ pub fn find<K: Ord, V, By, A: Asks<K, By>, const LEN: usize>(
 ) -> Place
     requires len { IsLen LEN }
     requires few { count ≤ LEN }
-    requires in_order { IsInOrder K.cmp cells.now order count }
+    requires in_order { IsInOrder K.cmp cells.now.pairs order count }
     requires filled { 0 < count → IsFilled LEN order count }
-    ensures place { IsPlace K.cmp cells.now order count (A.key asked.old) result }
+    ensures place { IsPlace K.cmp cells.now.pairs order count (A.key asked.old) result }
     ensures same_key { A.key asked.new ≡ A.key asked.old }
     ensures counted { A.count asked.new ≤ A.count asked.old + searched LEN }
 {
@@ -119,11 +119,11 @@ fn begin<K: Ord, V, By, A: Asks<K, By>, const LEN: usize>(
     requires len { IsLen LEN }
     requires some { 0 < count }
     requires few { count ≤ LEN }
-    requires in_order { IsInOrder K.cmp cells.now order count }
+    requires in_order { IsInOrder K.cmp cells.now.pairs order count }
     requires filled { IsFilled LEN order count }
     ensures order { result.order ≡ order }
     ensures count { result.count ≡ count }
-    ensures window { IsWindow K.cmp cells.now order (A.key asked.old) LEN result.place result.rest result.met 7 }
+    ensures window { IsWindow K.cmp cells.now.pairs order (A.key asked.old) LEN result.place result.rest result.met 7 }
     ensures same_key { A.key asked.new ≡ A.key asked.old }
     ensures counted { A.count asked.new ≤ A.count asked.old + (searched LEN - 3) }
 {
@@ -152,12 +152,14 @@ fn halve<K: Ord, V, By, A: Asks<K, By>, const LEN: usize>(
     requires len { IsLen LEN }
     requires some { 0 < window.count }
     requires few { window.count ≤ LEN }
-    requires in_order { IsInOrder K.cmp cells.now window.order window.count }
+    requires in_order { IsInOrder K.cmp cells.now.pairs window.order window.count }
     requires filled { IsFilled LEN window.order window.count }
-    requires window { IsWindow K.cmp cells.now window.order (A.key asked.old) LEN window.place window.rest window.met (2 * half + 1) }
+    requires window { IsWindow K.cmp cells.now.pairs window.order
+        (A.key asked.old) LEN window.place window.rest window.met (2 * half + 1) }
     ensures order { result.order ≡ window.order }
     ensures count { result.count ≡ window.count }
-    ensures window { IsWindow K.cmp cells.now window.order (A.key asked.old) LEN result.place result.rest result.met half }
+    ensures window { IsWindow K.cmp cells.now.pairs window.order
+        (A.key asked.old) LEN result.place result.rest result.met half }
     ensures same_key { A.key asked.new ≡ A.key asked.old }
     ensures counted { A.count asked.new ≤ A.count asked.old + 1 }
 {
@@ -207,9 +209,9 @@ pub fn find_key<K: Ord, V, const LEN: usize>(
 ) -> Place
     requires len { IsLen LEN }
     requires few { count ≤ LEN }
-    requires in_order { IsInOrder K.cmp cells.now order count }
+    requires in_order { IsInOrder K.cmp cells.now.pairs order count }
     requires filled { 0 < count → IsFilled LEN order count }
-    ensures { IsPlace K.cmp cells.now order count key.now result }
+    ensures { IsPlace K.cmp cells.now.pairs order count key.now result }
 {
     find(cells, order, count, &mut &*key)
 }
@@ -226,9 +228,9 @@ pub fn find_key_beyond<K: Ord, V, const LEN: usize>(
 ) -> Place
     requires len { IsLen LEN }
     requires few { count ≤ LEN }
-    requires in_order { IsInOrder K.cmp cells.now order count }
+    requires in_order { IsInOrder K.cmp cells.now.pairs order count }
     requires filled { 0 < count → IsFilled LEN order count }
-    ensures { IsPlace K.cmp cells.now order count key.now result }
+    ensures { IsPlace K.cmp cells.now.pairs order count key.now result }
 {
     if rightmost && count > 0 {
         let last = last_slot::<LEN>(order, count);

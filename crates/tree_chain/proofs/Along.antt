@@ -1,16 +1,15 @@
 -- A list that a walk steps through from either end: what lies ahead of it, and what a step takes of that.
-use Rattle.std.proofs.Common.{◌≡◌, ℕ, zero, suc, ◌+◌, ◌-◌, ◌<◌, List, [], ◌∷◌, ◌++◌, length, drop, take, reverse, slice_get, get_or, Option, Some, None, refl, sym, ap, ◌∙◌, arith, add-one}
+use Rattle.std.proofs.Common.{◌≡◌, ℕ, zero, suc, ◌+◌, ◌-◌, ◌<◌, List, [], ◌∷◌, ◌++◌, length, drop, take, reverse, slice_get, get_or, Option, Some, None, refl, sym, ap, ◌∙◌, arith, add-one, flat_map, append-nil, take_all}
+use Rattle.tree_model.proofs.Common.{AllByRecursion, reverse_onto, drop_all, reverse-append, reverse-reverse, flat_map-append, along}
+use Rattle.tree_model.specs.declared.way.Way.{Way}
+use Rattle.tree_model.specs.declared.way.Way.TheVariants.{On, Back}
+use Rattle.tree_chain.proofs.Common.{first_of, next_place}
 use mathlib.Core.List.{reverse_aux}
-use Rattle.std.specs.List.{flat_map, AllByRecursion}
-use Rattle.std.proofs.lemmas.Grind.{reverse_onto}
-use Rattle.std.proofs.lemmas.List.{append-nil, drop_all, length-reverse, reverse-append, reverse-reverse, take_all}
-use Rattle.std.proofs.lemmas.List.Concat.{flat_map-append}
+use Rattle.std.proofs.lemmas.List.{length-reverse}
 use Rattle.std.proofs.lemmas.Option.{slice_get-get_or}
 use Rattle.tree_array.specs.Walk.{place_ahead, places_behind}
-use Rattle.tree_chain.specs.declared.stand.Way.{Way}
-use Rattle.tree_chain.specs.declared.stand.Way.TheVariants.{On, Back}
-use Rattle.tree_chain.specs.Walks.{first_of, first_on}
-use Rattle.tree_chain.specs.Ways.{StepsOver, ahead, along, next_place, places_left}
+use Rattle.tree_chain.specs.Walks.{first_on}
+use Rattle.tree_chain.specs.Ways.{StepsOver, ahead, places_left}
 
 -- the entry at a place begins what lies from there on, and ends what lies up to it
 begins : {X : Type 0} (xs : List X) (place : ℕ) (x : X) → slice_get xs place ≡ Some x → drop place xs ≡ x ∷ drop (place + 1) xs

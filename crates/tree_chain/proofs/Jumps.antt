@@ -1,17 +1,14 @@
 -- Where a jump over leaves ends, and which entry it finds.
-use Rattle.std.proofs.Common.{◌≡◌, ℕ, ◌==◌, Bool, true, false, cond, List, [], ◌∷◌, ◌++◌, length, reverse, slice_get, Option, Some, None, option_map, refl, sym, ap, ◌∙◌, arith, append_assoc, inl, inr, ◌⊎◌}
-use Rattle.std.proofs.lemmas.Bool.Decides.{nat_tests}
-use Rattle.std.proofs.lemmas.Grind.{reverse_onto}
-use Rattle.std.proofs.lemmas.List.{reverse-append, reverse-reverse}
-use Rattle.std.specs.Borrow.{Bor}
-use Rattle.std.specs.List.{flat_map}
+use Rattle.std.proofs.Common.{◌≡◌, ℕ, ◌==◌, Bool, true, false, cond, List, [], ◌∷◌, ◌++◌, length, reverse, slice_get, Option, Some, None, option_map, refl, sym, ap, ◌∙◌, arith, append_assoc, inl, inr, ◌⊎◌, Bor, flat_map}
+use Rattle.tree_model.proofs.Common.{nat_tests, reverse_onto, reverse-append, reverse-reverse, lent_entry, along}
+use Rattle.tree_model.specs.declared.way.Way.{Way}
+use Rattle.tree_model.specs.declared.way.Way.TheVariants.{On, Back}
+use Rattle.tree_chain.proofs.Common.{LeafWalk, Steps, first_of, standing, beyond, leaves_on, next_place}
 use Rattle.slab.specs.Slab.{Slab}
 use Rattle.tree_leaf.specs.declared.leaf.LeafOf.{LeafOf}
-use Rattle.tree_chain.specs.declared.stand.Way.{Way}
-use Rattle.tree_chain.specs.declared.stand.Way.TheVariants.{On, Back}
 use Rattle.tree_leaf.specs.Entries.{leaf_entries, entries_of}
-use Rattle.tree_chain.specs.Walks.{LeafWalk, Steps, first_of, first_on, jumped, lent_entry, standing}
-use Rattle.tree_chain.specs.Ways.{along, beyond, landing, leaves_on, next_place}
+use Rattle.tree_chain.specs.Walks.{first_on, jumped}
+use Rattle.tree_chain.specs.Ways.{landing}
 use Rattle.tree_chain.proofs.Along.{all_ahead, all_left, along-flat_map, along-nil, along_empty, first_along, first_place, first_step, step_takes}
 
 pub not_none : {X : Type 0} (x : X) (xs : List X) → (length (x ∷ xs) == 0) ≡ false

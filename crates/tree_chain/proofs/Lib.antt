@@ -1,4 +1,5 @@
 pub mod Along
+pub mod Common
 pub mod Jumps
 pub mod Rests
 pub mod Steps

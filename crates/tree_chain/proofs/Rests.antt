@@ -1,18 +1,16 @@
 -- What is left of a walk on its way: a step or a jump takes the first of it, and its count falls.
-use Rattle.std.proofs.Common.{◌≡◌, ℕ, zero, suc, ◌+◌, ◌<◌, ◌≤◌, ◌==◌, cond, List, [], ◌∷◌, ◌++◌, length, map, reverse, Option, Some, None, IsSome, option_map, Result, Ok, Err, IfOk, refl, sym, ap, ◌∙◌, arith, append_assoc, length-append}
-use Rattle.std.proofs.lemmas.Grind.{reverse_onto}
-use Rattle.std.proofs.lemmas.List.{append-nil, map-append, reverse-append, reverse-reverse}
-use Rattle.std.proofs.lemmas.List.Concat.{flat_map-append}
-use Rattle.std.specs.Borrow.{Bor}
+use Rattle.std.proofs.Common.{◌≡◌, ℕ, zero, suc, ◌+◌, ◌<◌, ◌≤◌, ◌==◌, cond, List, [], ◌∷◌, ◌++◌, length, map, reverse, Option, Some, None, IsSome, option_map, Result, Ok, Err, IfOk, refl, sym, ap, ◌∙◌, arith, append_assoc, length-append, append-nil, Bor}
+use Rattle.tree_model.proofs.Common.{reverse_onto, map-append, reverse-append, reverse-reverse, flat_map-append, lent_entry, along}
+use Rattle.tree_model.specs.declared.way.Way.{Way}
+use Rattle.tree_model.specs.declared.way.Way.TheVariants.{On, Back}
+use Rattle.tree_chain.proofs.Common.{LeafWalk, Steps, first_of, standing, beyond, leaves_on, next_place}
 use Rattle.slab.specs.Slab.{Slab, get}
 use Rattle.tree_leaf.specs.declared.leaf.LeafOf.{LeafOf}
-use Rattle.tree_chain.specs.declared.stand.Way.{Way}
-use Rattle.tree_chain.specs.declared.stand.Way.TheVariants.{On, Back}
 use Rattle.tree_leaf.specs.Chain.{IsChain}
 use Rattle.tree_leaf.specs.Entries.{leaf_entries, entries_of}
-use Rattle.tree_chain.specs.Walks.{LeafWalk, Steps, Jumps, first_of, here, jumped, lent_entry, standing}
+use Rattle.tree_chain.specs.Walks.{Jumps, here, jumped}
 use Rattle.tree_chain.specs.Rest.{AreLeft, AreOnTheWay, HasTaken, Takes, TakesFirst, left_of, whole_way}
-use Rattle.tree_chain.specs.Ways.{ahead, along, beside, beyond, leaves_on, next_place}
+use Rattle.tree_chain.specs.Ways.{ahead, beside}
 use Rattle.tree_chain.proofs.Along.{all_ahead, along-nil, first_along, first_step, length-along, none_ahead, step_takes}
 use Rattle.tree_leaf.proofs.Chains.{chain_used}
 use Rattle.tree_chain.proofs.Jumps.{met, met_beyond, not_none}

@@ -1,17 +1,17 @@
 -- The slots that a walk goes through, and the entries of the leaf that it stands in.
-use Rattle.std.proofs.Common.{◌≡◌, ℕ, zero, suc, List, [], ◌∷◌, map, length, slice_get, Option, Some, None, IsSome, option_and_then, option_map, refl, sym, ap, ◌∙◌, arith}
+use Rattle.std.proofs.Common.{◌≡◌, ℕ, zero, suc, List, [], ◌∷◌, map, length, slice_get, Option, Some, None, IsSome, option_and_then, option_map, refl, sym, ap, ◌∙◌, arith, Bor}
+use Rattle.tree_model.proofs.Common.{MakesProgress, lent_entry}
+use Rattle.tree_model.specs.declared.way.Way.{Way}
+use Rattle.tree_array.proofs.Common.{arrival, Walk}
+use Rattle.tree_chain.proofs.Common.{LeafWalk, Steps, standing, next_place}
 use Rattle.std.proofs.lemmas.List.{length-map}
 use Rattle.std.proofs.lemmas.Option.{slice_get_past}
-use Rattle.std.specs.Borrow.{Bor}
-use Rattle.std.specs.Iterator.{MakesProgress}
 use Rattle.slab.specs.Slab.{Slab}
-use Rattle.tree_array.specs.Arrivals.{arrival}
-use Rattle.tree_array.specs.Walk.{Walk, standing as array_standing}
+use Rattle.tree_array.specs.Walk.{standing as array_standing}
 use Rattle.tree_leaf.specs.declared.leaf.LeafOf.{LeafOf}
-use Rattle.tree_chain.specs.declared.stand.Way.{Way}
 use Rattle.tree_leaf.specs.Entries.{leaf_entries}
-use Rattle.tree_chain.specs.Walks.{LeafWalk, IsStand, Steps, first_on, here, left_in_leaf, lent_entry, standing, stood_on}
-use Rattle.tree_chain.specs.Ways.{StepsOver, next_place}
+use Rattle.tree_chain.specs.Walks.{IsStand, first_on, here, left_in_leaf, stood_on}
+use Rattle.tree_chain.specs.Ways.{StepsOver}
 use Rattle.tree_chain.proofs.Along.{all_left, fewer_left, first_place}
 
 -- one place of two lists of which one lists what the other names

@@ -1,16 +1,17 @@
 -- The way that links lead from a leaf: which leaves they pass, that it ends, and where a jump lands.
 use Rattle.std.proofs.Common.{is_some, ◌≡◌, ℕ, zero, suc, ◌<◌, ◌≤◌, ◌==◌, true, false, List, [], ◌∷◌, ◌++◌, length, Option, Some, None, IsSome, option_map, refl, sym, ap, ◌∙◌, arith, length-append}
+use Rattle.tree_model.proofs.Common.{nat_tests}
+use Rattle.tree_model.specs.declared.way.Way.{Way}
+use Rattle.tree_model.specs.declared.way.Way.TheVariants.{On, Back}
+use Rattle.tree_chain.proofs.Common.{leaves_on}
 use mathlib.Core.List.{reverse_aux}
-use Rattle.std.proofs.lemmas.Bool.Decides.{nat_tests}
 use Rattle.std.proofs.lemmas.List.{length-reverse}
 use Rattle.slab.specs.Slab.{Slab, get}
 use Rattle.tree_leaf.specs.declared.leaf.LeafOf.{LeafOf}
 use Rattle.tree_chain.specs.declared.stand.Beside.{Beside}
-use Rattle.tree_chain.specs.declared.stand.Way.{Way}
-use Rattle.tree_chain.specs.declared.stand.Way.TheVariants.{On, Back}
 use Rattle.tree_leaf.specs.Chain.{first_or, last_or, IsBetween, AreLinked, IsChain}
 use Rattle.tree_leaf.specs.Entries.{leaf_entries}
-use Rattle.tree_chain.specs.Ways.{leaves_on, beside, landing, seen, seen_at}
+use Rattle.tree_chain.specs.Ways.{beside, landing, seen, seen_at}
 use Rattle.tree_leaf.proofs.Chains.{linked_left, linked_right, neighbours}
 use Rattle.std.proofs.lemmas.List.Sums.{count_by-le-length}
 use Rattle.tree_leaf.proofs.Pigeonhole.{once_fits}

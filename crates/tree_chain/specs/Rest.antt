@@ -3,12 +3,14 @@ use Rattle.std.specs.Prelude.{◌≡◌, ℕ, List, [], ◌∷◌, ◌++◌, map
 use Rattle.std.specs.Borrow.{Bor}
 use Rattle.slab.specs.Slab.{Slab}
 use Rattle.tree_leaf.specs.declared.leaf.LeafOf.{LeafOf}
-use Rattle.tree_chain.specs.declared.stand.Way.{Way}
-use Rattle.tree_chain.specs.declared.stand.Way.TheVariants.{On, Back}
+use Rattle.tree_model.specs.declared.way.Way.{Way}
+use Rattle.tree_model.specs.declared.way.Way.TheVariants.{On, Back}
 use Rattle.tree_leaf.specs.Chain.{IsChain}
 use Rattle.tree_leaf.specs.Entries.{entries_of}
-use Rattle.tree_chain.specs.Walks.{LeafWalk, here, lent_entry}
-use Rattle.tree_chain.specs.Ways.{ahead, along, beyond}
+use Rattle.tree_chain.specs.Walks.{LeafWalk, here}
+use Rattle.tree_model.specs.Rest.{lent_entry}
+use Rattle.tree_chain.specs.Ways.{ahead, beyond}
+use Rattle.tree_model.specs.Ways.{along}
 
 -- the first entry is taken and the others are left, or there was none
 abbrev pub TakesFirst : {K V : Type 0} → List (K × V) → Option (Bor K × Bor V) → List (K × V) → Type 0

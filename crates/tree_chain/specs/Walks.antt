@@ -1,4 +1,5 @@
 -- A walk over the entries of linked leaves, in the order of their keys or against it. In one leaf it goes from entry to entry, and a jump takes it to the next leaf that has one.
+use Rattle.tree_model.specs.Rest.{lent_entry}
 use Rattle.std.specs.Prelude.{◌≡◌, ℕ, ◌-◌, ◌==◌, if◌then◌else◌, List, [], ◌∷◌, ◌++◌, length, map, Option, None, Some, option_map, option_and_then, slice_get}
 use Rattle.std.specs.Borrow.{Bor}
 use Rattle.std.specs.Iterator.{Count, at_most}
@@ -6,8 +7,8 @@ use Rattle.slab.specs.Slab.{Slab, get}
 use Rattle.tree_array.specs.Arrivals.{arrival}
 use Rattle.tree_array.specs.Walk.{Walk}
 use Rattle.tree_leaf.specs.declared.leaf.LeafOf.{LeafOf}
-use Rattle.tree_chain.specs.declared.stand.Way.{Way}
-use Rattle.tree_chain.specs.declared.stand.Way.TheVariants.{On, Back}
+use Rattle.tree_model.specs.declared.way.Way.{Way}
+use Rattle.tree_model.specs.declared.way.Way.TheVariants.{On, Back}
 use Rattle.tree_leaf.specs.Chain.{IsChain}
 use Rattle.tree_leaf.specs.Entries.{leaf_entries, entries_of}
 use Rattle.tree_chain.specs.Ways.{StepsOver, beyond, leaves_on, next_place, places_left}
@@ -23,10 +24,6 @@ LeafWalk K V LEN = LinkedWalk (LeafOf K V LEN)
 
 abbrev pub standing : {L : Type 0} → Slab L → ℕ → Option ℕ → LinkedWalk L
 standing leaves id at = record { leaves = leaves; leaf = id; at = at }
-
--- the entry that is lent
-abbrev pub lent_entry : {K V : Type 0} → Bor K × Bor V → K × V
-lent_entry entry = (entry.0.now, entry.1.now)
 
 abbrev pub first_of : {X : Type 0} → List X → Option X
 first_of xs = slice_get xs 0

@@ -1,21 +1,13 @@
 -- Which way a walk goes: how it sees a list and steps through it, and which leaves the links lead it to.
+use Rattle.tree_model.specs.Ways.{along}
 use Rattle.std.specs.Prelude.{◌≡◌, ℕ, ◌-◌, ◌<◌, ◌==◌, if◌then◌else◌, List, [], ◌∷◌, length, drop, take, reverse, Option, Some, MatchOption, option_map, slice_get}
 use Rattle.slab.specs.Slab.{Slab}
 use Rattle.tree_array.specs.Walk.{place_ahead, places_behind}
 use Rattle.tree_leaf.specs.declared.leaf.LeafOf.{LeafOf}
 use Rattle.tree_chain.specs.declared.stand.Beside.{Beside}
-use Rattle.tree_chain.specs.declared.stand.Way.{Way}
-use Rattle.tree_chain.specs.declared.stand.Way.TheVariants.{On, Back}
+use Rattle.tree_model.specs.declared.way.Way.{Way}
+use Rattle.tree_model.specs.declared.way.Way.TheVariants.{On, Back}
 use Rattle.tree_leaf.specs.Entries.{leaf_entries}
-
-abbrev pub opposite : Way → Way
-opposite On = Back
-opposite Back = On
-
--- a list in the order of a walk this way
-abbrev pub along : {X : Type 0} → Way → List X → List X
-along On xs = xs
-along Back xs = reverse xs
 
 -- of so many places, how many lie ahead of a walk this way, and the one that a step goes to
 abbrev pub places_left : Way → ℕ → Option ℕ → ℕ

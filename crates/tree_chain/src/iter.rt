@@ -1,8 +1,9 @@
 //! Walks over the entries of linked leaves, either way.
 ghost use Rattle.std.specs.Prelude.{◌≡◌, ◌++◌, ◌∷◌, None, ⊤, option_copied, option_map};
 ghost use Rattle.tree_leaf.specs.Chain.{IsChain};
-ghost use Rattle.tree_chain.specs.Walks.{Jumps, Steps, first_of, first_on, here, last_of, left_in_leaf, lent_entry, standing, stood_on};
-ghost use Rattle.tree_chain.specs.Ways.{opposite};
+ghost use Rattle.tree_chain.specs.Walks.{Jumps, Steps, first_of, first_on, here, last_of, left_in_leaf, standing, stood_on};
+ghost use Rattle.tree_model.specs.Rest.{lent_entry};
+ghost use Rattle.tree_model.specs.Ways.{opposite};
 
 use crate::slot_walk::{Reversible, SlotWalk};
 use crate::stand::{Stand, Walked};

@@ -1,7 +1,7 @@
 //! Laws of iterators over linked leaves, each as the contract of a small function: an iterator with its
 //! jumps gives all entries of the chain on its way, in order.
 ghost use Rattle.std.specs.Prelude.{◌++◌, ◌∷◌, IfOk};
-ghost use Rattle.tree_chain.specs.declared.stand.Way.TheVariants.{On, Back};
+ghost use Rattle.tree_model.specs.declared.way.Way.TheVariants.{On, Back};
 ghost use Rattle.tree_leaf.specs.Chain.{IsChain};
 ghost use Rattle.tree_chain.specs.Rest.{AreLeft, AreOnTheWay, Takes};
 

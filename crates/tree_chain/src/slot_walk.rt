@@ -1,14 +1,14 @@
 //! The trait that both iterators over the slots of an array implement, so that an iterator over leaves is
 //! written once.
-use crate::stand::Way;
 use tree_array::array::{ArrayIter, ArrayRevIter};
+use tree_model::Way;
 
 /// An iterator over the slots of an array: [`ArrayIter`] in ascending order of the keys, [`ArrayRevIter`]
 /// in descending order. No call compares keys or allocates.
 pub trait SlotWalk: Drop {
     ghost use Rattle.std.specs.Prelude.{◌≡◌, None, option_and_then, slice_get};
     ghost use Rattle.tree_array.specs.Walk.{Walk, standing};
-    ghost use Rattle.tree_chain.specs.declared.stand.Way.{Way};
+    ghost use Rattle.tree_model.specs.declared.way.Way.{Way};
     ghost use Rattle.tree_chain.specs.Ways.{StepsOver};
 
     ghost way: { Way };
@@ -45,7 +45,7 @@ pub trait SlotWalk: Drop {
 /// An iterator over the slots of an array that can turn about.
 pub trait Reversible: SlotWalk {
     ghost use Rattle.std.specs.Prelude.{◌≡◌};
-    ghost use Rattle.tree_chain.specs.Ways.{opposite};
+    ghost use Rattle.tree_model.specs.Ways.{opposite};
 
     /// The iterator that goes the other way.
     type Reverse: SlotWalk;
@@ -57,7 +57,7 @@ pub trait Reversible: SlotWalk {
 }
 
 impl SlotWalk for ArrayIter {
-    ghost use Rattle.tree_chain.specs.declared.stand.Way.TheVariants.{On};
+    ghost use Rattle.tree_model.specs.declared.way.Way.TheVariants.{On};
 
     ghost way = { On };
 
@@ -92,7 +92,7 @@ impl SlotWalk for ArrayIter {
 }
 
 impl SlotWalk for ArrayRevIter {
-    ghost use Rattle.tree_chain.specs.declared.stand.Way.TheVariants.{Back};
+    ghost use Rattle.tree_model.specs.declared.way.Way.TheVariants.{Back};
 
     ghost way = { Back };
 

@@ -4,12 +4,13 @@ ghost use Rattle.std.specs.Option.{ForSome};
 ghost use Rattle.slab.specs.Slab.{ContainsKey, get};
 ghost use Rattle.tree_array.specs.Arrivals.{arrival};
 ghost use Rattle.tree_leaf.specs.Chain.{IsChain};
-ghost use Rattle.tree_chain.specs.Walks.{lent_entry};
+ghost use Rattle.tree_model.specs.Rest.{lent_entry};
 ghost use Rattle.tree_chain.specs.Ways.{beside, landing, leaves_on, seen};
 
 use slab::Slab;
 use tree_leaf::arena::{LeafId, leaf_at};
 use tree_leaf::leaf::LeafOf;
+use tree_model::Way;
 
 /// A type of leaves to iterate over, with what an iterator over them keeps. It has no methods.
 pub trait Walked {
@@ -17,7 +18,7 @@ pub trait Walked {
     ghost use Rattle.slab.specs.Slab.{Slab as Slots};
     ghost use Rattle.tree_array.specs.Walk.{Walk};
     ghost use Rattle.tree_chain.specs.declared.stand.Beside.{Beside};
-    ghost use Rattle.tree_chain.specs.declared.stand.Way.{Way};
+    ghost use Rattle.tree_model.specs.declared.way.Way.{Way};
 
     ghost stands: { Slots Self → ℕ → Self → Walk → Type 0 };
 
@@ -31,13 +32,6 @@ impl<K: Ord, V, const LEN: usize> Walked for LeafOf<K, V, LEN> {
     ghost stands = { IsStand };
 
     ghost ahead = { λ way leaves leaf. seen leaves (beside way leaf) };
-}
-
-/// The way of an iterator through the links: on to larger keys, or back to smaller ones.
-#[derive(Clone, Copy)]
-pub enum Way {
-    On,
-    Back,
 }
 
 /// What an iterator keeps of the leaf ahead, the one beside its leaf on its way: the number, and how many entries
@@ -106,7 +100,8 @@ impl<'t, K: Ord + Drop, V: Drop, const LEN: usize> Stand<'t, LeafOf<K, V, LEN>> 
         requires leaf { get self.now.leaves.now self.now.id ≡ Some self.now.leaf.now }
         requires chain { (front back : _) × IsChain self.now.leaves.now (front ++ self.now.id ∷ back) }
         requires ahead { self.now.ahead ≡ seen self.now.leaves.now (beside way self.now.leaf.now) }
-        ensures { (front back : List ℕ) → IsChain self.now.leaves.now (front ++ self.now.id ∷ back) → result ≡ landing self.now.leaves.now None (leaves_on way front back) }
+        ensures { (front back : List ℕ) → IsChain self.now.leaves.now (front ++ self.now.id ∷ back)
+            → result ≡ landing self.now.leaves.now None (leaves_on way front back) }
     {
         let mut passed = None;
         let mut ahead = self.ahead;

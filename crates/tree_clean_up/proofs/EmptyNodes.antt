@@ -1,16 +1,10 @@
 -- A leaf node whose only leaf is retired, and is dropped.
-use Rattle.std.proofs.Common.{◌≡◌, ℕ, ◌≤◌, List, [], ◌∷◌, ◌++◌, Some, None, refl, sym, ap, ◌∙◌, arith}
-use Rattle.std.specs.declared.cmp.Ordering.{Ordering}
-use Rattle.slab.specs.Slab.{get}
+use Rattle.std.proofs.Common.{◌≡◌, ℕ, ◌≤◌, List, [], ◌∷◌, ◌++◌, Some, None, refl, sym, ap, ◌∙◌, arith, Ordering}
+use Rattle.tree_array.proofs.Common.{Arrivals}
 use Rattle.tree_array.specs.declared.answers.RemoveResult.{RemoveResult}
 use Rattle.tree_array.specs.declared.answers.RemoveResult.TheVariants.{Success, Retired, Fail}
-use Rattle.tree_array.specs.Arrivals.{Arrivals}
-use Rattle.tree_leaf.specs.Counting.{times, uses}
-use Rattle.tree_leaf.proofs.Counts.{times-append, times-nil}
-use Rattle.tree_node.specs.Arenas.{TreeArenas}
+use Rattle.tree_node.proofs.Common.{get, times, uses, times-append, times-nil, TreeArenas, IsPart, Stands, children_of, keyed, leaves_at, unbounded}
 use Rattle.tree_clean_up.specs.CleanUps.{DropsUnbounded, IsOnlyRetired, Retires, RetiresIfEmpty}
-use Rattle.tree_node.specs.Parts.{IsPart}
-use Rattle.tree_node.specs.Tree.{Stands, children_of, keyed, leaves_at, unbounded}
 use Rattle.tree_node.proofs.Lifts.{lifted}
 use Rattle.tree_clean_up.proofs.Retired.{walk-retired}
 use Rattle.tree_clean_up.proofs.OnlyLeaves.{only_unbounded}

@@ -1,17 +1,10 @@
 -- A leaf that is taken out of its chain and out of its arena.
 use Rattle.std.proofs.Common.{◌≡◌, ℕ, ◌+◌, ◌≤◌, List, [], ◌∷◌, ◌++◌, None, is_some, refl, ap, ◌∙◌, arith, inl, inr}
-use Rattle.std.proofs.lemmas.Bool.{cases_eq}
-use Rattle.slab.specs.Slab.{get}
-use Rattle.tree_leaf.specs.declared.leaf.LeafOf.{LeafOf}
-use Rattle.tree_leaf.specs.Arena.{Loses}
-use Rattle.tree_leaf.specs.Chain.{IsChain}
-use Rattle.tree_leaf.specs.Counting.{times, uses}
+use Rattle.tree_model.proofs.Common.{cases_eq}
+use Rattle.tree_node.proofs.Common.{get, LeafOf, Loses, IsChain, times, uses, times-append, times-cons, times-nil, one_here, none_here, uses_le_one, uses_some, uses_none, uses_same, TreeArenas, Replaces}
 use Rattle.tree_leaf.specs.Links.{Unlinks}
 use Rattle.tree_leaf.proofs.Chains.{linked_kept, same_array_uses}
 use Rattle.tree_leaf.proofs.Splices.{untouched_leaf}
-use Rattle.tree_leaf.proofs.Counts.{times-append, times-cons, times-nil, one_here, none_here, uses_le_one, uses_some, uses_none, uses_same}
-use Rattle.tree_node.specs.Arenas.{TreeArenas}
-use Rattle.tree_node.specs.Parts.{Replaces}
 use Rattle.tree_node.proofs.Beside.{not_before, not_behind}
 
 module _ {K V : Type 0} {LEN : ℕ} (old mid new : TreeArenas K V LEN) (id : ℕ) (leaf : LeafOf K V LEN) (unlinks : Unlinks old mid id) (loses : Loses mid.leaves new.leaves id leaf) (nodes : new.nodes ≡ mid.nodes) where

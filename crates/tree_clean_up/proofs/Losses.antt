@@ -1,10 +1,7 @@
 -- A number that is freed.
 use Rattle.std.proofs.Common.{◌≡◌, ℕ, ◌+◌, ◌==◌, cond, None, is_some, refl, ap, arith, inl, inr}
-use Rattle.std.proofs.lemmas.Bool.{cases_eq}
-use Rattle.slab.specs.Slab.{Slab, get}
-use Rattle.tree_leaf.specs.Arena.{Loses}
-use Rattle.tree_leaf.specs.Counting.{uses}
-use Rattle.tree_leaf.proofs.Counts.{one_here, none_here, uses_some, uses_none, uses_same}
+use Rattle.tree_model.proofs.Common.{cases_eq}
+use Rattle.tree_node.proofs.Common.{Slab, get, Loses, uses, one_here, none_here, uses_some, uses_none, uses_same}
 
 -- it was in use, and the others are in use as they were
 pub lost_counted : {T : Type 0} (old new : Slab T) (id : ℕ) (value : T) → Loses old new id value → (n : ℕ) → uses new n + cond (id == n) 1 0 ≡ uses old n

@@ -1,14 +1,7 @@
 -- A retired node that is taken out of its arena.
 use Rattle.std.proofs.Common.{◌≡◌, ℕ, suc, ◌==◌, cond, [], ◌∷◌, refl, arith}
-use Rattle.slab.specs.Slab.{get}
-use Rattle.tree_leaf.specs.Arena.{Loses}
-use Rattle.tree_leaf.specs.Counting.{times}
-use Rattle.tree_leaf.proofs.Chains.{same_array_refl}
-use Rattle.tree_leaf.proofs.Counts.{times-cons, times-nil, one_here}
+use Rattle.tree_node.proofs.Common.{get, Loses, times, same_array_refl, times-cons, times-nil, one_here, TreeArenas, Replaces, leaves_at, nodes_at, IsRetiredNode}
 use Rattle.tree_node.specs.declared.node.NodeOf.{NodeOf}
-use Rattle.tree_node.specs.Arenas.{TreeArenas}
-use Rattle.tree_node.specs.Parts.{Replaces}
-use Rattle.tree_node.specs.Tree.{leaves_at, nodes_at, IsRetiredNode}
 use Rattle.tree_node.proofs.Lifts.{single_leaves, single_nodes}
 use Rattle.tree_node.proofs.Standing.{no_children}
 use Rattle.tree_clean_up.proofs.Losses.{lost_counted}

@@ -1,12 +1,8 @@
 -- A node without keyed children.
-use Rattle.std.proofs.Common.{◌≡◌, ℕ, suc, true, List, [], ◌∷◌, Some, None, IsSome, refl, sym, ap, ◌∙◌}
-use Rattle.std.specs.declared.cmp.Ordering.{Ordering}
-use Rattle.slab.specs.Slab.{get}
-use Rattle.tree_leaf.specs.declared.leaf.LeafOf.{LeafOf}
+use Rattle.std.proofs.Common.{◌≡◌, ℕ, suc, true, List, [], ◌∷◌, Some, None, IsSome, refl, sym, ap, ◌∙◌, Ordering}
+use Rattle.tree_node.proofs.Common.{get, LeafOf, TreeArenas, children_of, in_turn, keyed, unbounded, Stands}
 use Rattle.tree_node.specs.declared.node.NodeOf.{NodeOf}
-use Rattle.tree_node.specs.Arenas.{TreeArenas}
 use Rattle.tree_clean_up.specs.CleanUps.{HasOnlyRetired, IsOnlyRetired}
-use Rattle.tree_node.specs.Tree.{children_of, in_turn, keyed, unbounded, Stands}
 
 -- one child in all is the unbounded one
 pub only_unbounded : {K : Type 0} (pairs : List (K × ℕ)) (last x : ℕ) → in_turn pairs (Some last) ≡ x ∷ [] → (pairs ≡ []) × (x ≡ last)

@@ -1,10 +1,8 @@
 -- What is retired has no pair.
 use Rattle.std.proofs.Common.{◌≡◌, ℕ, zero, suc, [], Option, Some, None, refl}
-use Rattle.slab.specs.Slab.{get}
-use Rattle.tree_leaf.specs.declared.leaf.LeafOf.{LeafOf}
+use Rattle.tree_node.proofs.Common.{get, LeafOf, TreeArenas, IsRetired, walk}
 use Rattle.tree_leaf.specs.Entries.{found_entries}
-use Rattle.tree_node.specs.Arenas.{TreeArenas}
-use Rattle.tree_node.specs.Tree.{IsRetired, IsRetiredLeaf, walk}
+use Rattle.tree_node.specs.Tree.{IsRetiredLeaf}
 use Rattle.tree_node.proofs.Standing.{no_children}
 use Rattle.tree_node.proofs.Walks.{walk-children}
 

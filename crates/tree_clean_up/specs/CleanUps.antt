@@ -1,24 +1,17 @@
 -- How a retired child is taken out of its node and dropped, and what that leaves.
-use Rattle.std.specs.Prelude.{◌≡◌, ℕ, List, [], ◌∷◌, ◌++◌, Option, None, Some, IsSome, ⊤}
+use Rattle.std.specs.Prelude.{◌≡◌, ℕ, [], ◌∷◌, Option, None, Some, IsSome, ⊤}
 use Rattle.std.specs.declared.cmp.Ordering.{Ordering}
 use Rattle.slab.specs.Slab.{Slab, get, Updates}
 use Rattle.tree_array.specs.declared.answers.RemoveResult.{RemoveResult}
 use Rattle.tree_array.specs.declared.answers.RemoveResult.TheVariants.{Success, Retired, Fail}
-use Rattle.tree_array.specs.Arrivals.{Arrivals, arrival, removed}
+use Rattle.tree_array.specs.Arrivals.{arrival, removed}
 use Rattle.tree_node.specs.declared.node.NodeOf.{NodeOf}
 use Rattle.tree_node.specs.Arenas.{TreeArenas}
+use Rattle.tree_node.specs.Changes.{MovesLast}
 use Rattle.tree_node.specs.Parts.{Replaces}
-use Rattle.tree_node.specs.Tree.{IsOfLevel}
-use Rattle.tree_node.specs.Tree.{keyed, unbounded, children_of, HasKind, IsRetired, walk}
+use Rattle.tree_node.specs.Tree.{IsOfLevel, keyed, unbounded, children_of, HasKind, IsRetired, walk}
 
 module _ {K : Type 0} (cmp : K → K → Ordering) where
-  -- the child of the greatest separator moves to the place of the unbounded one, or there is none
-  abbrev pub MovesLast : {X : Type 0} → Arrivals K X → Arrivals K X → Option X → RemoveResult → Type 0
-  MovesLast old new last Success =
-      (separator : K) × (child : _) × (front : List _) × (old.entries ≡ front ++ (separator, child) ∷ []) × (new ≡ removed cmp old separator) × (last ≡ Some child)
-  MovesLast old new last Retired = (old.entries ≡ []) × (new ≡ old) × (last ≡ None)
-  MovesLast old new last Fail = ⊥
-
   module _ {LEN : ℕ} (old new : Slab (NodeOf K LEN)) (id : ℕ) where
     -- the keyed child of a slot is taken out of the node under a number
     pub record TakesKeyed (slot : ℕ) : Type 0 where
@@ -39,7 +32,7 @@ module _ {K : Type 0} (cmp : K → K → Ordering) where
       pub was : get old id ≡ Some node
       pub updates : Updates old new id (Some left)
       pub kind : (level : ℕ) → HasKind level node → HasKind level left
-      pub moves : MovesLast (keyed node) (keyed left) (unbounded left) result
+      pub moves : MovesLast cmp (keyed node) (keyed left) (unbounded left) result
 
   module _ {V : Type 0} {LEN : ℕ} (level : ℕ) (old new : TreeArenas K V LEN) (id child : ℕ) where
     -- a child of this level is dropped, and then taken out of its node

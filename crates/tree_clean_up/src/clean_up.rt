@@ -5,11 +5,11 @@
 ghost use Rattle.std.specs.Prelude.{◌≡◌, ℕ, suc, ◌++◌, ◌∷◌, IsSome, MatchOption, None, Some};
 ghost use Rattle.tree_leaf.specs.Chain.{IsChain};
 ghost use Rattle.slab.specs.Slab.{get};
-ghost use Rattle.tree_clean_up.specs.CleanUps.{DropsChild, DropsKeyed, HasChildIn, HasOnlyRetired, IsOnlyRetired, MovesLast, RetiresIfEmpty, TakesKeyed, TakesUnbounded};
+ghost use Rattle.tree_clean_up.specs.CleanUps.{DropsChild, DropsKeyed, HasChildIn, HasOnlyRetired, IsOnlyRetired, RetiresIfEmpty, TakesKeyed, TakesUnbounded};
 ghost use Rattle.tree_node.specs.Parts.{IsPart};
 ghost use Rattle.tree_node.specs.Tree.{IsRetiredNode, Stands};
 
-use tree_array::array::{ArrayOf, RemoveResult};
+use tree_array::array::RemoveResult;
 use tree_leaf::arena::{LeafId, NodeId};
 use tree_leaf::leaf::unlink;
 use tree_node::node::{ArenasOf, NodeOf};
@@ -105,14 +105,7 @@ pub fn take_keyed<K: Ord + Drop, V: Drop, const LEN: usize>(
     ensures nodes { TakesKeyed K.cmp arenas.old.nodes arenas.new.nodes id slot }
     ensures leaves { arenas.new.leaves ≡ arenas.old.leaves }
 {
-    match arenas.node_mut(id) {
-        NodeOf::Leaf(node) => {
-            let _ = node.children.take(slot);
-        }
-        NodeOf::Internal(node) => {
-            let _ = node.children.take(slot);
-        }
-    }
+    arenas.node_mut(id).take_keyed(slot);
 }
 
 /// Takes the unbounded child out of its node. The keyed child with the greatest separator takes its place; if there is
@@ -125,28 +118,5 @@ fn take_unbounded<K: Ord + Drop, V: Drop, const LEN: usize>(
     ensures nodes { TakesUnbounded K.cmp arenas.old.nodes arenas.new.nodes id result }
     ensures leaves { arenas.new.leaves ≡ arenas.old.leaves }
 {
-    match arenas.node_mut(id) {
-        NodeOf::Leaf(node) => move_last(&mut node.children, &mut node.unbounded_child),
-        NodeOf::Internal(node) => move_last(&mut node.children, &mut node.unbounded_child),
-    }
-}
-
-/// Makes the keyed child with the greatest separator the unbounded one. Its separator is dropped.
-fn move_last<K: Ord + Drop, I: Copy + Drop, const LEN: usize>(
-    children: &mut ArrayOf<K, I, LEN>,
-    unbounded: &mut Option<I>,
-) -> RemoveResult
-    ensures { MovesLast K.cmp children.old children.new unbounded.new result }
-{
-    match children.last_slot() {
-        Some(slot) => {
-            let (_, child, _) = children.take(slot);
-            *unbounded = Some(child);
-            RemoveResult::Success
-        }
-        None => {
-            *unbounded = None;
-            RemoveResult::Retired
-        }
-    }
+    arenas.node_mut(id).take_unbounded()
 }

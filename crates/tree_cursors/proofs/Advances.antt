@@ -1,10 +1,10 @@
 -- A walk that goes on stands on the entry that it took, in its leaf or behind a jump.
-use Rattle.std.proofs.Common.{◌≡◌, ℕ, ◌==◌, cond, List, [], ◌∷◌, ◌++◌, length, Option, None, Some, IfSome, option_map, refl, sym, ap, ◌∙◌}
-use Rattle.std.specs.Borrow.{Bor}
-use Rattle.tree_chain.specs.declared.stand.Way.{Way}
-use Rattle.tree_leaf.specs.Entries.{leaf_entries, entries_of}
-use Rattle.tree_chain.specs.Walks.{Jumps, LeafWalk, Steps, first_of, jumped, lent_entry, standing, stood_on}
-use Rattle.tree_chain.specs.Ways.{along, beyond, leaves_on, next_place}
+use Rattle.std.proofs.Common.{◌≡◌, ℕ, ◌==◌, cond, List, [], ◌∷◌, ◌++◌, length, Option, None, Some, IfSome, option_map, refl, sym, ap, ◌∙◌, Bor}
+use Rattle.tree_model.proofs.Common.{lent_entry, along}
+use Rattle.tree_model.specs.declared.way.Way.{Way}
+use Rattle.tree_node.proofs.Common.{leaf_entries, entries_of}
+use Rattle.tree_chain.proofs.Common.{LeafWalk, Steps, first_of, standing, beyond, leaves_on, next_place}
+use Rattle.tree_chain.specs.Walks.{Jumps, jumped, stood_on}
 use Rattle.tree_chain.proofs.Along.{all_ahead, along-nil, first_along, first_step, step_takes}
 use Rattle.tree_chain.proofs.Jumps.{met, met_beyond, not_none}
 use Rattle.tree_chain.proofs.Rests.{next_then_jump, took}

@@ -1,32 +1,20 @@
 -- The place of a walk among the pairs of a tree, and where it goes.
-use Rattle.std.proofs.Common.{◌≡◌, ℕ, zero, ◌+◌, ◌<◌, ◌==◌, true, false, List, [], ◌∷◌, ◌++◌, length, drop, take, reverse, slice_get, inl, inr, ◌⊎◌, suc, Option, Some, None, refl, sym, ap, ◌∙◌, arith, length-append, length-drop}
-use Rattle.std.proofs.lemmas.Bool.{cases_eq}
-use Rattle.std.proofs.lemmas.Bool.Decides.{nat_tests}
-use Rattle.std.proofs.lemmas.List.{append-nil, length-reverse, length-take}
-use Rattle.std.proofs.lemmas.List.Concat.{flat_map-append}
+use Rattle.std.proofs.Common.{◌≡◌, ℕ, zero, ◌+◌, ◌<◌, ◌==◌, true, false, List, [], ◌∷◌, ◌++◌, length, drop, take, reverse, slice_get, inl, inr, ◌⊎◌, suc, Option, Some, None, refl, sym, ap, ◌∙◌, arith, length-append, length-drop, append-nil, length-take, Bor, Ordering}
+use Rattle.tree_model.proofs.Common.{cases_eq, nat_tests, flat_map-append, Bound, Unbounded, lent_entry, along, at_place, meets, next_end, unopened}
+use Rattle.tree_model.specs.declared.way.Way.{Way}
+use Rattle.tree_model.specs.declared.way.Way.TheVariants.{On, Back}
+use Rattle.tree_node.proofs.Common.{Slab, LeafOf, IsChain, times, entries_of, leaf_entries, one_here, times-cons, uses_le_one, TreeArenas, StandsOrRetired, leaves_at, walk, IsRetiredRoot, IsTree, leaves_under, walk_under}
+use Rattle.tree_chain.proofs.Common.{LeafWalk, Steps, standing, beyond}
+use Rattle.std.proofs.lemmas.List.{length-reverse}
 use Rattle.std.proofs.lemmas.Option.{slice_get_within}
-use Rattle.std.specs.Borrow.{Bor}
-use Rattle.std.specs.declared.cmp.Ordering.{Ordering}
-use Rattle.std.specs.declared.ops.Bound.{Bound}
-use Rattle.std.specs.declared.ops.Bound.TheVariants.{Unbounded}
-use Rattle.slab.specs.Slab.{Slab}
-use Rattle.tree_leaf.specs.declared.leaf.LeafOf.{LeafOf}
-use Rattle.tree_chain.specs.declared.stand.Way.{Way}
-use Rattle.tree_chain.specs.declared.stand.Way.TheVariants.{On, Back}
-use Rattle.tree_leaf.specs.Chain.{IsChain}
-use Rattle.tree_leaf.specs.Counting.{times}
-use Rattle.tree_leaf.specs.Entries.{entries_of, leaf_entries}
 use Rattle.tree_chain.specs.Rest.{left_of}
-use Rattle.tree_chain.specs.Walks.{LeafWalk, Steps, here, lent_entry, standing, stood_on}
-use Rattle.tree_chain.specs.Ways.{ahead, along, beyond, places_left}
+use Rattle.tree_chain.specs.Walks.{here, stood_on}
+use Rattle.tree_model.specs.Rest.{StandsInside}
+use Rattle.tree_chain.specs.Ways.{ahead, places_left}
 use Rattle.tree_leaf.proofs.Chains.{counted}
-use Rattle.tree_leaf.proofs.Counts.{one_here, times-cons, uses_le_one}
-use Rattle.tree_node.specs.Arenas.{TreeArenas}
-use Rattle.tree_node.specs.Tree.{Stands as PartStands, StandsOrRetired, leaves_at, walk}
-use Rattle.tree_node.specs.Whole.{IsRetiredRoot, IsTree, leaves_under, walk_under}
-use Rattle.tree_cursor_model.specs.Cursor.{at_place, exhausted, meets, next_end, unopened}
-use Rattle.tree_cursor_model.specs.Rest.{StandsInside}
-use Rattle.tree_cursor_model.proofs.Places.{beside_is, beside_none, first_is, first_none}
+use Rattle.tree_node.specs.Tree.{Stands as PartStands}
+use Rattle.tree_model.specs.Cursor.{exhausted}
+use Rattle.tree_cursors.proofs.Places.{beside_is, beside_none, first_is, first_none}
 use Rattle.tree_walk.specs.Ends.{IsLinked}
 use Rattle.tree_cursors.specs.Seek.{Advances, IsNearest, Seeks, path}
 use Rattle.tree_cursors.specs.declared.end.End.{End}

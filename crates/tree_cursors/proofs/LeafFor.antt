@@ -1,19 +1,11 @@
 -- The leaf that a key belongs to, found from node to node.
-use Rattle.std.proofs.Common.{◌≡◌, ℕ, zero, suc, ◌-◌, ◌<◌, List, [], ◌∷◌, ◌++◌, Option, Some, None, MatchOption, inl, inr, refl, sym, ap, ◌∙◌, append_assoc, arith, sub-one}
-use Rattle.std.specs.List.{flat_map}
-use Rattle.std.specs.declared.cmp.Ordering.{Ordering}
-use Rattle.std.specs.declared.cmp.Ordering.TheVariants.{Less}
-use Rattle.std.specs.Cmp.{IsTotalOrder}
-use Rattle.std.proofs.lemmas.List.Concat.{flat_map-append}
-use Rattle.slab.specs.Slab.{get}
-use Rattle.tree_model.proofs.Lists.{all-append}
-use Rattle.tree_leaf.specs.Entries.{entries_of, leaf_entries}
-use Rattle.tree_node.specs.declared.internal_node.InternalNodeOf.{InternalNodeOf}
-use Rattle.tree_node.specs.declared.leaf_node.LeafNodeOf.{LeafNodeOf}
+use Rattle.std.proofs.Common.{◌≡◌, ℕ, zero, suc, ◌-◌, ◌<◌, List, [], ◌∷◌, ◌++◌, Option, Some, None, MatchOption, inl, inr, refl, sym, ap, ◌∙◌, append_assoc, arith, sub-one, flat_map, Ordering, Less}
+use Rattle.tree_model.proofs.Common.{IsTotalOrder, flat_map-append}
+use Rattle.tree_array.proofs.Common.{all-append}
+use Rattle.tree_node.proofs.Common.{get, entries_of, leaf_entries, TreeArenas, HasChildFor, IsRetiredNode, Stands, StandsOrRetired, back_at, child_of, children_of, front_at, is_from, keyed, leaves_at, unbounded, walk}
+use Rattle.tree_node.specs.declared.branch.BranchOf.{BranchOf}
 use Rattle.tree_node.specs.declared.node.NodeOf.{NodeOf}
 use Rattle.tree_node.specs.declared.node.NodeOf.TheVariants.{Internal, Leaf}
-use Rattle.tree_node.specs.Arenas.{TreeArenas}
-use Rattle.tree_node.specs.Tree.{HasChildFor, IsRetiredNode, Stands, StandsOrRetired, back_at, child_of, children_of, front_at, is_from, keyed, leaves_at, unbounded, walk}
 use Rattle.tree_node.proofs.Children.{child_stands, stands_over}
 use Rattle.tree_node.proofs.Levels.{kind_of}
 use Rattle.tree_node.proofs.Lists.{flat_map-flat_map}
@@ -47,7 +39,7 @@ module _ {K V : Type 0} {LEN : ℕ} {cmp : K → K → Ordering} (o : IsTotalOrd
 
   module _ (id : ℕ) where
     -- under a node over leaves
-    pub in_leaf_node : (level : ℕ) → 0 < level → StandsOrRetired cmp level a id → (node : LeafNodeOf K LEN) → get a.nodes id ≡ Some (Leaf node)
+    pub in_leaf_node : (level : ℕ) → 0 < level → StandsOrRetired cmp level a id → (node : BranchOf K ℕ LEN) → get a.nodes id ≡ Some (Leaf node)
         → (child : ℕ) → child_of cmp k node.children.entries node.unbounded_child ≡ Some child → IsLeafFor cmp level a id k child
     in_leaf_node zero inner given node here child chosen = absurd (omega (arith, inner))
     in_leaf_node (suc zero) inner given node here child chosen =
@@ -58,7 +50,7 @@ module _ {K V : Type 0} {LEN : ℕ} {cmp : K → K → Ordering} (o : IsTotalOrd
         absurd (kind_of cmp a id (suc level) (Leaf node) (stands_over (suc level) a id given k child route) here)
 
     -- under a node over nodes
-    pub in_node : (level : ℕ) → 0 < level → StandsOrRetired cmp level a id → (node : InternalNodeOf K LEN) → get a.nodes id ≡ Some (Internal node)
+    pub in_node : (level : ℕ) → 0 < level → StandsOrRetired cmp level a id → (node : BranchOf K ℕ LEN) → get a.nodes id ≡ Some (Internal node)
         → (child : ℕ) → child_of cmp k node.children.entries node.unbounded_child ≡ Some child → (result : Option ℕ)
         → MatchOption result (Stands cmp (level - 1) a None child None → ⊥) (IsLeafFor cmp (level - 1) a child k) → MatchOption result (Stands cmp level a None id None → ⊥) (IsLeafFor cmp level a id k)
     in_node zero inner given node here child chosen result below = absurd (omega (arith, inner))

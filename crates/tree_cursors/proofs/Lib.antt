@@ -2,3 +2,4 @@ pub mod Advances
 pub mod Ends
 pub mod LeafFor
 pub mod Seeks
+pub mod Places

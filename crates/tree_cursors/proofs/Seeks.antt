@@ -1,30 +1,14 @@
 -- A walk that seeks the first pair within a bound: what it has passed, and what is left.
-use Rattle.std.proofs.Common.{◌≡◌, ℕ, true, false, List, [], ◌∷◌, ◌++◌, Option, None, Some, MatchOption, ◌⊎◌, inl, inr, refl, sym, ap, ◌∙◌, append_assoc}
-use Rattle.std.specs.Borrow.{Bor}
-use Rattle.std.specs.List.{AllByRecursion}
-use Rattle.std.specs.declared.cmp.Ordering.{Ordering}
-use Rattle.std.specs.declared.cmp.Ordering.TheVariants.{Less}
-use Rattle.std.specs.declared.ops.Bound.{Bound}
-use Rattle.std.specs.declared.ops.Bound.TheVariants.{Included, Excluded}
-use Rattle.std.specs.Cmp.{IsTotalOrder}
-use Rattle.std.proofs.lemmas.List.{append-nil, reverse-append}
-use Rattle.std.proofs.lemmas.List.Concat.{flat_map-append}
-use Rattle.slab.specs.Slab.{Slab}
-use Rattle.tree_model.proofs.Lists.{all-append, all_map}
-use Rattle.tree_model.proofs.Order.{greater_from_less}
-use Rattle.tree_leaf.specs.declared.leaf.LeafOf.{LeafOf}
-use Rattle.tree_chain.specs.declared.stand.Way.{Way}
-use Rattle.tree_chain.specs.declared.stand.Way.TheVariants.{On, Back}
-use Rattle.tree_leaf.specs.Chain.{IsChain}
-use Rattle.tree_leaf.specs.Entries.{entries_of, leaf_entries}
+use Rattle.std.proofs.Common.{◌≡◌, ℕ, true, false, List, [], ◌∷◌, ◌++◌, Option, None, Some, MatchOption, ◌⊎◌, inl, inr, refl, sym, ap, ◌∙◌, append_assoc, Bor, Ordering, Less, append-nil}
+use Rattle.tree_model.proofs.Common.{AllByRecursion, Bound, Included, Excluded, IsTotalOrder, reverse-append, flat_map-append, lent_entry, along, meets}
+use Rattle.tree_model.specs.declared.way.Way.{Way}
+use Rattle.tree_model.specs.declared.way.Way.TheVariants.{On, Back}
+use Rattle.tree_array.proofs.Common.{all-append, all_map, greater_from_less}
+use Rattle.tree_node.proofs.Common.{Slab, LeafOf, IsChain, entries_of, leaf_entries, TreeArenas, leaves_at, walk}
+use Rattle.tree_chain.proofs.Common.{LeafWalk, standing, beyond}
 use Rattle.tree_chain.specs.Rest.{HasTaken, left_of}
-use Rattle.tree_chain.specs.Walks.{LeafWalk, lent_entry, standing}
-use Rattle.tree_chain.specs.Ways.{along, beyond}
 use Rattle.tree_chain.proofs.Along.{all_ahead, all_along}
-use Rattle.tree_node.specs.Arenas.{TreeArenas}
-use Rattle.tree_node.specs.Tree.{leaves_at, walk}
 use Rattle.tree_walk.specs.Ends.{BeginsPart, passed}
-use Rattle.tree_cursor_model.specs.Cursor.{meets}
 use Rattle.tree_cursors.specs.Seek.{Advances, IsLeafFor, IsNearest, NoneMeets, Opens, path}
 
 -- the bound is at this key

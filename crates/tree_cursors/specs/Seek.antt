@@ -8,16 +8,18 @@ use Rattle.std.specs.declared.ops.Bound.{Bound}
 use Rattle.slab.specs.Slab.{Slab}
 use Rattle.tree_model.specs.Pairs.{AllLarger}
 use Rattle.tree_leaf.specs.declared.leaf.LeafOf.{LeafOf}
-use Rattle.tree_chain.specs.declared.stand.Way.{Way}
+use Rattle.tree_model.specs.declared.way.Way.{Way}
 use Rattle.tree_leaf.specs.Chain.{IsChain}
 use Rattle.tree_leaf.specs.Entries.{entries_of}
 use Rattle.tree_chain.specs.Rest.{HasTaken, left_of}
-use Rattle.tree_chain.specs.Walks.{LeafWalk, lent_entry, standing, stood_on}
-use Rattle.tree_chain.specs.Ways.{along, beyond}
+use Rattle.tree_chain.specs.Walks.{LeafWalk, standing, stood_on}
+use Rattle.tree_model.specs.Rest.{lent_entry}
+use Rattle.tree_model.specs.Ways.{along}
+use Rattle.tree_chain.specs.Ways.{beyond}
 use Rattle.tree_node.specs.Arenas.{TreeArenas}
 use Rattle.tree_node.specs.Tree.{leaves_at, walk}
 use Rattle.tree_walk.specs.Ends.{passed}
-use Rattle.tree_cursor_model.specs.Cursor.{meets}
+use Rattle.tree_model.specs.Cursor.{meets}
 
 module _ {K V : Type 0} {LEN : ℕ} where
   -- the walk has taken the first entry that was left, and stands on it; over every chain that its leaf is in

@@ -6,12 +6,13 @@ use Rattle.std.specs.declared.cmp.Ordering.{Ordering}
 use Rattle.std.specs.declared.ops.Bound.{Bound}
 use Rattle.slab.specs.Slab.{Slab}
 use Rattle.tree_leaf.specs.Entries.{leaf_entries}
-use Rattle.tree_chain.specs.Walks.{LeafWalk, lent_entry, stood_on}
+use Rattle.tree_chain.specs.Walks.{LeafWalk, stood_on}
+use Rattle.tree_model.specs.Rest.{lent_entry}
 use Rattle.tree_leaf.specs.declared.leaf.LeafOf.{LeafOf}
-use Rattle.tree_chain.specs.declared.stand.Way.{Way}
+use Rattle.tree_model.specs.declared.way.Way.{Way}
 use Rattle.tree_node.specs.Arenas.{TreeArenas}
 use Rattle.tree_node.specs.Whole.{IsTree, leaves_under, walk_under}
-use Rattle.tree_cursor_model.specs.Cursor.{Cursor, End, next_end, unopened, at_place, exhausted}
+use Rattle.tree_model.specs.Cursor.{Cursor, End, next_end, unopened, at_place, exhausted}
 use Rattle.tree_cursors.specs.declared.end.End.{End as TreeEnd}
 use Rattle.tree_cursors.specs.declared.end.End.TheVariants.{Unopened, At, Exhausted}
 

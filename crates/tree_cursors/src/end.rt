@@ -5,8 +5,8 @@ ghost use Rattle.std.specs.Range.Bound.{bound_map};
 ghost use Rattle.std.specs.declared.ops.Bound.{Bound as AnyBound};
 ghost use Rattle.tree_chain.specs.Walks.{stood_on};
 ghost use Rattle.tree_node.specs.Whole.{IsTree, walk_under};
-ghost use Rattle.tree_cursor_model.specs.Cursor.{next_end, unopened};
-ghost use Rattle.tree_cursor_model.specs.Rest.{lent};
+ghost use Rattle.tree_model.specs.Cursor.{next_end, unopened};
+ghost use Rattle.tree_model.specs.Rest.{lent};
 ghost use Rattle.tree_cursors.specs.View.{EndStands, GoesOn, Stands, StepsInLeaf, end_of, pair_of};
 
 use crate::seek::{advance, seek_at};
@@ -36,7 +36,8 @@ pub fn step<'t, K: Ord + Drop, V: Drop, S: EndWay, const LEN: usize>(
 ) -> Option<(&'t K, &'t V)>
     requires tree { IsTree K.cmp arenas.now root }
     requires stands { EndStands arenas.now root end.old }
-    ensures place { end_of arenas.now root end.new ≡ next_end K.cmp S.way (bound_map (λ k. k.now) bound.entry) (walk_under arenas.now root) (end_of arenas.now root end.old) }
+    ensures place { end_of arenas.now root end.new ≡ next_end K.cmp S.way
+        (bound_map (λ k. k.now) bound.entry) (walk_under arenas.now root) (end_of arenas.now root end.old) }
     ensures stands { EndStands arenas.now root end.new }
     ensures pair { lent result ≡ pair_of end.new }
 {
@@ -81,7 +82,8 @@ fn open<'t, K: Ord + Drop, V: Drop, S: EndWay, const LEN: usize>(
     bound: Bound<&K>,
 ) -> Option<(&'t K, &'t V)>
     requires { IsTree K.cmp arenas.now root }
-    ensures place { end_of arenas.now root end.new ≡ next_end K.cmp S.way (bound_map (λ k. k.now) bound.entry) (walk_under arenas.now root) unopened }
+    ensures place { end_of arenas.now root end.new ≡ next_end K.cmp S.way
+        (bound_map (λ k. k.now) bound.entry) (walk_under arenas.now root) unopened }
     ensures stands { EndStands arenas.now root end.new }
     ensures pair { lent result ≡ pair_of end.new }
 {
@@ -96,7 +98,8 @@ fn first_end<'t, K: Ord + Drop, V: Drop, S: EndWay, const LEN: usize>(
     bound: Bound<&K>,
 ) -> End<LinkedIter<'t, LeafOf<K, V, LEN>, S>>
     requires { IsTree K.cmp arenas.now root }
-    ensures place { end_of arenas.now root result ≡ next_end K.cmp S.way (bound_map (λ k. k.now) bound.entry) (walk_under arenas.now root) unopened }
+    ensures place { end_of arenas.now root result ≡ next_end K.cmp S.way
+        (bound_map (λ k. k.now) bound.entry) (walk_under arenas.now root) unopened }
     ensures stands { EndStands arenas.now root result }
 {
     let Some(top) = root else {
@@ -129,7 +132,8 @@ pub fn comes_before<'t, K: Ord + Drop, V: Drop, S: SlotWalk, T: SlotWalk, const 
     walk: &LinkedIter<'t, LeafOf<K, V, LEN>, S>,
     other: &LinkedIter<'t, LeafOf<K, V, LEN>, T>,
 ) -> bool
-    ensures { (first second : _) → stood_on walk.now ≡ Some first → stood_on other.now ≡ Some second → result ≡ is_lt (K.cmp first.0 second.0) }
+    ensures { (first second : _) → stood_on walk.now ≡ Some first
+        → stood_on other.now ≡ Some second → result ≡ is_lt (K.cmp first.0 second.0) }
 {
     let Some((key, _)) = walk.get() else {
         return false;

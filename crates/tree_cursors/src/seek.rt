@@ -11,7 +11,6 @@ use tree_chain::{LinkedIter, SlotWalk};
 use tree_leaf::arena::{LeafId, NodeId};
 use tree_leaf::leaf::LeafOf;
 use tree_node::node::{ArenasOf, NodeOf};
-use tree_node::routing::child_place_for;
 use tree_walk::ends::walk_from_end;
 
 /// Opens a walk on the first entry on its way whose key meets a bound, among the entries under a number of this
@@ -50,7 +49,8 @@ fn open_at<'t, K: Ord + Drop, V: Drop, S: EndWay, const LEN: usize>(
     requires node { 0 < level }
     requires stands { StandsOrRetired K.cmp level arenas.now id }
     requires linked { IsLinked level arenas.now id }
-    ensures { MatchOption result (walk level arenas.now id ≡ []) (Opens K.cmp S.way level arenas.now id (bound_map (λ k. k.now) bound.entry)) }
+    ensures { MatchOption result (walk level arenas.now id ≡ [])
+        (Opens K.cmp S.way level arenas.now id (bound_map (λ k. k.now) bound.entry)) }
 {
     let key = match bound {
         Bound::Included(key) => key,
@@ -70,15 +70,16 @@ fn leaf_for<K: Ord + Drop, V: Drop, const LEN: usize>(
 ) -> Option<LeafId>
     requires node { 0 < level }
     requires stands { StandsOrRetired K.cmp level arenas.now id }
-    ensures { MatchOption result (¬ Stands K.cmp level arenas.now None id None) (IsLeafFor K.cmp level arenas.now id key.now) }
+    ensures { MatchOption result (¬ Stands K.cmp level arenas.now None id None)
+        (IsLeafFor K.cmp level arenas.now id key.now) }
 {
     match arenas.node(id) {
         NodeOf::Leaf(node) => {
-            let place = child_place_for(&node.children, node.unbounded_child, key)?;
+            let place = node.child_place_for(key)?;
             Some(place.child)
         }
         NodeOf::Internal(node) => {
-            let place = child_place_for(&node.children, node.unbounded_child, key)?;
+            let place = node.child_place_for(key)?;
             leaf_for(arenas, level - 1, place.child, key)
         }
     }

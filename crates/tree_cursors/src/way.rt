@@ -1,7 +1,7 @@
 //! The two ways of an end of a cursor: on to larger keys, and back to smaller ones.
 ghost use Rattle.std.specs.Prelude.{◌≡◌};
 ghost use Rattle.std.specs.Range.Bound.{bound_map};
-ghost use Rattle.tree_cursor_model.specs.Cursor.{meets};
+ghost use Rattle.tree_model.specs.Cursor.{meets};
 
 use std::ops::Bound;
 use tree_array::array::{ArrayIter, ArrayRevIter};
@@ -13,7 +13,7 @@ use tree_walk::children::ChildWalk;
 pub trait EndWay: ChildWalk + Reversible {
     ghost use Rattle.std.specs.Prelude.{◌≡◌};
     ghost use Rattle.std.specs.Range.Bound.{bound_map};
-    ghost use Rattle.tree_cursor_model.specs.Cursor.{meets};
+    ghost use Rattle.tree_model.specs.Cursor.{meets};
 
     /// Returns whether a key is within the bound at which this way begins: the lower bound on the way on, and
     /// the upper bound on the way back. Makes at most one comparison.

@@ -1,15 +1,8 @@
 -- Keys and separators beside two bounds.
-use Rattle.std.proofs.Common.{◌≡◌, ℕ, Bool, true, false, not, ◌&&◌, List, length, refl, sym, ap, ◌∙◌, arith}
-use Rattle.std.specs.declared.cmp.Ordering.{Ordering}
-use Rattle.std.specs.declared.cmp.Ordering.TheVariants.{Less, Equal, Greater}
-use Rattle.std.specs.Ordering.{is_ge, is_le, is_lt}
-use Rattle.std.specs.Cmp.{IsTotalOrder}
-use Rattle.std.specs.declared.ops.Bound.{Bound}
-use Rattle.std.specs.declared.ops.Bound.TheVariants.{Included, Excluded, Unbounded}
-use Rattle.std.proofs.lemmas.List.{drop_all}
-use Rattle.tree_model.specs.Pairs.{meets_lower, meets_upper, within}
-use Rattle.tree_model.proofs.Lists.{all_map}
-use Rattle.tree_model.proofs.Order.{greater_from_less}
+use Rattle.std.proofs.Common.{◌≡◌, ℕ, Bool, true, false, not, ◌&&◌, List, length, refl, sym, ap, ◌∙◌, arith, Ordering, Less, Equal, Greater, is_ge, is_le, is_lt}
+use Rattle.tree_model.proofs.Common.{IsTotalOrder, Bound, Included, Excluded, Unbounded, drop_all, within}
+use Rattle.tree_array.proofs.Common.{all_map, greater_from_less}
+use Rattle.tree_model.specs.Pairs.{meets_lower, meets_upper}
 use Rattle.tree_node.proofs.Lists.{all_yes}
 use Rattle.tree_node.proofs.Order.{less_upto, upto_from_less, upto_from_test, upto_less}
 use Rattle.tree_cut.specs.Places.{BeginsAt, EndsAt, PartsAt}

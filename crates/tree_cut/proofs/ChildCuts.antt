@@ -1,15 +1,8 @@
 -- A child that is cut, and dropped if nothing is left of it.
-use Rattle.std.proofs.Common.{sub-one, ◌≡◌, ℕ, zero, suc, ◌-◌, List, [], ◌∷◌, drop, slice_get, Some, None, refl, sym, ◌∙◌, arith}
-use Rattle.std.specs.List.{flat_map}
-use Rattle.std.specs.declared.cmp.Ordering.{Ordering}
-use Rattle.std.specs.declared.ops.Bound.{Bound}
-use Rattle.std.specs.declared.ops.Bound.TheVariants.{Unbounded}
-use Rattle.slab.specs.Slab.{get}
-use Rattle.tree_model.specs.Pairs.{cut}
+use Rattle.std.proofs.Common.{sub-one, ◌≡◌, ℕ, zero, suc, ◌-◌, List, [], ◌∷◌, drop, slice_get, Some, None, refl, sym, ◌∙◌, arith, flat_map, Ordering}
+use Rattle.tree_model.proofs.Common.{Bound, Unbounded, cut}
+use Rattle.tree_node.proofs.Common.{get, TreeArenas, IsPart, children_of, node_children, walk}
 use Rattle.tree_node.specs.declared.node.NodeOf.{NodeOf}
-use Rattle.tree_node.specs.Arenas.{TreeArenas}
-use Rattle.tree_node.specs.Parts.{IsPart}
-use Rattle.tree_node.specs.Tree.{children_of, node_children, walk}
 use Rattle.tree_node.proofs.Lifts.{leaves_once_in, single_leaves, single_nodes}
 use Rattle.tree_node.proofs.Steps.{part_after, replaces_trans}
 use Rattle.tree_cut.specs.Cuts.{CutsChild, DropsChild}

@@ -1,12 +1,10 @@
 -- The pairs of a part can be counted.
-use Rattle.std.proofs.Common.{ℕ, ◌*◌, ◌<◌, ◌≤◌, ◌^◌, ◌∷◌, [], length, None, inl, inr, arith}
+use Rattle.std.proofs.Common.{ℕ, ◌*◌, ◌<◌, ◌≤◌, ◌^◌, ◌∷◌, [], length, None, inl, inr, arith, Ordering}
+use Rattle.tree_array.proofs.Common.{IsLen}
+use Rattle.tree_node.proofs.Common.{TreeArenas, leaves_at, walk}
 use Rattle.std.proofs.Math.Nat.{mul-le-mul_left}
-use Rattle.std.specs.declared.cmp.Ordering.{Ordering}
 use Rattle.slab.specs.Slab.{slab_len}
-use Rattle.tree_array.specs.Length.{IsLen}
 use Rattle.tree_leaf.proofs.Pigeonhole.{once_fits}
-use Rattle.tree_node.specs.Arenas.{TreeArenas}
-use Rattle.tree_node.specs.Tree.{leaves_at, walk}
 use Rattle.tree_node.proofs.Bounds.{entries_few}
 use Rattle.tree_node.proofs.Lifts.{single_leaves}
 use Rattle.tree_cut.specs.Parts.{IsForest}

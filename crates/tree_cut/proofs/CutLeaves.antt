@@ -1,14 +1,10 @@
 -- A leaf that loses the keys within two bounds.
-use Rattle.std.proofs.Common.{◌≡◌, ℕ, ◌-◌, ◌≤◌, Bool, true, false, cond, List, [], ◌∷◌, filter, length, Some, refl, sym, ap, ◌∙◌, arith}
-use Rattle.std.specs.declared.cmp.Ordering.{Ordering}
-use Rattle.std.specs.declared.ops.Bound.{Bound}
-use Rattle.slab.specs.Slab.{get}
-use Rattle.tree_array.specs.Arrivals.{Arrivals, without_range}
-use Rattle.tree_leaf.specs.declared.leaf.LeafOf.{LeafOf}
-use Rattle.tree_model.specs.Pairs.{cut}
+use Rattle.std.proofs.Common.{◌≡◌, ℕ, ◌-◌, ◌≤◌, Bool, true, false, cond, List, [], ◌∷◌, filter, length, Some, refl, sym, ap, ◌∙◌, arith, Ordering}
+use Rattle.tree_model.proofs.Common.{Bound, cut}
+use Rattle.tree_array.proofs.Common.{Arrivals, all-filter}
+use Rattle.tree_node.proofs.Common.{get, LeafOf, TreeArenas}
+use Rattle.tree_array.specs.Arrivals.{without_range}
 use Rattle.tree_model.proofs.Ascending.{IsAscending-cut}
-use Rattle.tree_model.proofs.Lists.{all-filter}
-use Rattle.tree_node.specs.Arenas.{TreeArenas}
 use Rattle.tree_node.proofs.Children.{walk-leaf}
 use Rattle.tree_node.proofs.LeafWrites.{with_array, here_now, array_replaces}
 use Rattle.tree_cut.specs.Cuts.{CutsUnder}

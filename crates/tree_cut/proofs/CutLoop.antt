@@ -1,18 +1,9 @@
 -- The children of a node that are cut one after another, from behind.
-use Rattle.std.proofs.Common.{◌≡◌, ℕ, zero, suc, ◌+◌, ◌-◌, ◌≤◌, ◌<◌, true, not, List, [], ◌∷◌, ◌++◌, take, drop, length, length-append, Some, None, refl, sym, ap, ◌∙◌, arith}
-use Rattle.std.specs.List.{flat_map, AllByRecursion}
-use Rattle.std.specs.declared.cmp.Ordering.{Ordering}
-use Rattle.std.specs.Cmp.{IsTotalOrder}
-use Rattle.std.specs.declared.ops.Bound.{Bound}
-use Rattle.std.proofs.lemmas.List.{take-append-drop}
-use Rattle.std.proofs.lemmas.List.Concat.{flat_map-append}
-use Rattle.std.proofs.lemmas.List.Elements.{filter-append}
-use Rattle.slab.specs.Slab.{get}
-use Rattle.tree_model.specs.Pairs.{cut, within}
-use Rattle.tree_model.proofs.Lists.{all-append, all_passed, filter_all}
-use Rattle.tree_node.specs.Arenas.{TreeArenas}
-use Rattle.tree_node.specs.Parts.{IsPart, KeepsBounds, Replaces}
-use Rattle.tree_node.specs.Tree.{Stands, children_of, in_turn, keyed, walk}
+use Rattle.std.proofs.Common.{◌≡◌, ℕ, zero, suc, ◌+◌, ◌-◌, ◌≤◌, ◌<◌, true, not, List, [], ◌∷◌, ◌++◌, take, drop, length, length-append, Some, None, refl, sym, ap, ◌∙◌, arith, flat_map, Ordering, take-append-drop}
+use Rattle.tree_model.proofs.Common.{AllByRecursion, IsTotalOrder, Bound, flat_map-append, filter-append, cut, within}
+use Rattle.tree_array.proofs.Common.{all-append, filter_all}
+use Rattle.tree_node.proofs.Common.{get, TreeArenas, IsPart, KeepsBounds, Replaces, Stands, children_of, in_turn, keyed, walk}
+use Rattle.tree_model.proofs.Lists.{all_passed}
 use Rattle.tree_node.proofs.Steps.{part_after, replaces_refl, replaces_trans}
 use Rattle.tree_node.proofs.Walks.{walk-children}
 use Rattle.tree_cut.specs.Cuts.{CutsChild, CutsOne, CutsUnder, HasNoEmpty, keyed_of}

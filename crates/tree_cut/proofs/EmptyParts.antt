@@ -1,13 +1,8 @@
 -- Parts without a pair, as their unbounded children tell.
-use Rattle.std.proofs.Common.{◌≡◌, ℕ, suc, ◌-◌, ◌<◌, List, [], ◌∷◌, ◌++◌, length, slice_get, Option, Some, None, refl, sym, ◌∙◌, arith}
-use Rattle.std.specs.List.{flat_map, AllByRecursion}
-use Rattle.std.specs.declared.cmp.Ordering.{Ordering}
-use Rattle.std.proofs.lemmas.List.{append-nil}
-use Rattle.slab.specs.Slab.{get}
-use Rattle.tree_leaf.specs.declared.leaf.LeafOf.{LeafOf}
+use Rattle.std.proofs.Common.{◌≡◌, ℕ, suc, ◌-◌, ◌<◌, List, [], ◌∷◌, ◌++◌, length, slice_get, Option, Some, None, refl, sym, ◌∙◌, arith, flat_map, Ordering, append-nil}
+use Rattle.tree_model.proofs.Common.{AllByRecursion}
+use Rattle.tree_node.proofs.Common.{get, LeafOf, TreeArenas, Stands, in_turn, keyed, node_children, unbounded, walk}
 use Rattle.tree_node.specs.declared.node.NodeOf.{NodeOf}
-use Rattle.tree_node.specs.Arenas.{TreeArenas}
-use Rattle.tree_node.specs.Tree.{Stands, in_turn, keyed, node_children, unbounded, walk}
 use Rattle.tree_node.proofs.Children.{walk-leaf}
 use Rattle.tree_node.proofs.Walks.{walk-children}
 use Rattle.tree_cut.specs.Cuts.{HasNoEmpty, HasPair}

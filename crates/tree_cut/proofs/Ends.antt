@@ -1,21 +1,13 @@
 -- The first and the last leaf of a part, and of a part that is dropped the leaves beside it.
-use Rattle.std.proofs.Common.{sub-one, ◌≡◌, ℕ, zero, suc, ◌-◌, ◌<◌, ◌≤◌, List, [], ◌∷◌, ◌++◌, Some, None, IsSome, refl, sym, ap, ◌∙◌, arith, append_assoc}
-use Rattle.std.specs.List.{flat_map, AllByRecursion}
-use Rattle.std.specs.declared.cmp.Ordering.{Ordering}
-use Rattle.std.proofs.lemmas.List.{append-nil}
-use Rattle.std.proofs.lemmas.List.Concat.{flat_map-append}
-use Rattle.slab.specs.Slab.{Slab, get}
-use Rattle.tree_leaf.specs.declared.leaf.LeafOf.{LeafOf}
-use Rattle.tree_leaf.specs.Chain.{IsChain, first_or, last_or}
-use Rattle.tree_leaf.specs.Counting.{times, uses}
+use Rattle.std.proofs.Common.{sub-one, ◌≡◌, ℕ, zero, suc, ◌-◌, ◌<◌, ◌≤◌, List, [], ◌∷◌, ◌++◌, Some, None, IsSome, refl, sym, ap, ◌∙◌, arith, append_assoc, flat_map, Ordering, append-nil}
+use Rattle.tree_model.proofs.Common.{AllByRecursion, flat_map-append}
+use Rattle.tree_node.proofs.Common.{Slab, get, LeafOf, IsChain, times, uses, times-append, times-cons, times-nil, one_here, uses_le_one, TreeArenas, IsPart, Replaces, HasKind, Stands, unbounded, leaves_at, leaves_of, node_children, walk}
+use Rattle.tree_node.specs.declared.node.NodeOf.{NodeOf}
+use Rattle.tree_leaf.specs.Chain.{first_or, last_or}
 use Rattle.tree_leaf.specs.Links.{Splices}
 use Rattle.tree_leaf.proofs.Chains.{linked_kept, neighbours, next_used, prev_used, same_array_uses}
 use Rattle.tree_leaf.proofs.Splices.{untouched_leaf}
-use Rattle.tree_leaf.proofs.Counts.{times-append, times-cons, times-nil, one_here, uses_le_one, in_use}
-use Rattle.tree_node.specs.declared.node.NodeOf.{NodeOf}
-use Rattle.tree_node.specs.Arenas.{TreeArenas}
-use Rattle.tree_node.specs.Parts.{IsPart, Replaces}
-use Rattle.tree_node.specs.Tree.{HasKind, Stands, unbounded, leaves_at, leaves_of, node_children, walk}
+use Rattle.tree_leaf.proofs.Counts.{in_use}
 use Rattle.tree_node.proofs.Beside.{apart_from_fewer, not_before, not_behind}
 use Rattle.tree_node.proofs.ChildrenStand.{children_stand}
 use Rattle.tree_node.proofs.Frames.{Agrees, same_stands, same_walk}

@@ -1,12 +1,9 @@
 -- A node that is taken out of its arena, and then its children, which are freed in turn.
-use Rattle.std.proofs.Common.{sub-one, ◌≡◌, ℕ, zero, suc, ◌-◌, ◌+◌, ◌≤◌, List, [], ◌∷◌, map, drop, length, length-append, slice_get, Option, Some, None, IsSome, refl, ap, arith}
-use Rattle.std.specs.List.{flat_map}
-use Rattle.std.specs.declared.cmp.Ordering.{Ordering}
-use Rattle.std.proofs.lemmas.List.{drop_all, length-map}
-use Rattle.tree_leaf.specs.Arena.{Loses}
+use Rattle.std.proofs.Common.{sub-one, ◌≡◌, ℕ, zero, suc, ◌-◌, ◌+◌, ◌≤◌, List, [], ◌∷◌, map, drop, length, length-append, slice_get, Option, Some, None, IsSome, refl, ap, arith, flat_map, Ordering}
+use Rattle.tree_model.proofs.Common.{drop_all}
+use Rattle.tree_node.proofs.Common.{Loses, TreeArenas, HasKind, in_turn, node_children, unbounded, walk}
 use Rattle.tree_node.specs.declared.node.NodeOf.{NodeOf}
-use Rattle.tree_node.specs.Arenas.{TreeArenas}
-use Rattle.tree_node.specs.Tree.{HasKind, in_turn, node_children, unbounded, walk}
+use Rattle.std.proofs.lemmas.List.{length-map}
 use Rattle.tree_cut.specs.declared.parts.Part.TheVariants.{Node}
 use Rattle.tree_cut.specs.Parts.{Frees, IsAt, IsForest}
 use Rattle.tree_cut.specs.Places.{keyed_or}

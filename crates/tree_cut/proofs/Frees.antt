@@ -1,18 +1,9 @@
 -- Parts that are freed one after another.
-use Rattle.std.proofs.Common.{◌≡◌, ℕ, suc, ◌+◌, ◌≤◌, ◌==◌, cond, List, [], ◌∷◌, length, length-append, Some, None, is_some, refl, sym, ap, ◌∙◌, arith, inl, inr}
-use Rattle.std.specs.List.{flat_map, AllByRecursion}
-use Rattle.std.specs.declared.cmp.Ordering.{Ordering}
-use Rattle.std.proofs.lemmas.Bool.{cases_eq}
-use Rattle.slab.specs.Slab.{Slab, get}
-use Rattle.tree_leaf.specs.declared.leaf.LeafOf.{LeafOf}
-use Rattle.tree_leaf.specs.Arena.{Loses}
-use Rattle.tree_leaf.specs.Counting.{times, uses}
-use Rattle.tree_leaf.proofs.Chains.{same_array_refl}
-use Rattle.tree_leaf.proofs.Counts.{times-nil, times-append, times-cons, one_here, uses_le_one, uses_same}
-use Rattle.tree_model.proofs.Lists.{all_map}
+use Rattle.std.proofs.Common.{◌≡◌, ℕ, suc, ◌+◌, ◌≤◌, ◌==◌, cond, List, [], ◌∷◌, length, length-append, Some, None, is_some, refl, sym, ap, ◌∙◌, arith, inl, inr, flat_map, Ordering}
+use Rattle.tree_model.proofs.Common.{AllByRecursion, cases_eq}
+use Rattle.tree_array.proofs.Common.{all_map}
+use Rattle.tree_node.proofs.Common.{Slab, get, LeafOf, Loses, times, uses, same_array_refl, times-nil, times-append, times-cons, one_here, uses_le_one, uses_same, TreeArenas, Stands, children_of, unbounded, leaves_at, nodes_at, leaves_of, nodes_of, node_children, walk}
 use Rattle.tree_node.specs.declared.node.NodeOf.{NodeOf}
-use Rattle.tree_node.specs.Arenas.{TreeArenas}
-use Rattle.tree_node.specs.Tree.{Stands, children_of, unbounded, leaves_at, nodes_at, leaves_of, nodes_of, node_children, walk}
 use Rattle.tree_node.proofs.Children.{walk-leaf}
 use Rattle.tree_node.proofs.ChildrenStand.{children_stand}
 use Rattle.tree_node.proofs.Frames.{each_part, all_both, Agrees, same_leaves, same_nodes, same_stands, same_walk}

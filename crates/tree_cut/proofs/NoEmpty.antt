@@ -1,11 +1,9 @@
 -- Keyed children that have a pair, where what they reach stays.
 use Rattle.std.proofs.Common.{◌≡◌, ℕ, zero, suc, List, [], ◌∷◌, take, drop, slice_get, Option, Some, None, refl, sym, ◌∙◌}
-use Rattle.std.specs.List.{AllByRecursion}
-use Rattle.slab.specs.Slab.{get}
-use Rattle.tree_model.proofs.Lists.{all_map}
+use Rattle.tree_model.proofs.Common.{AllByRecursion}
+use Rattle.tree_array.proofs.Common.{all_map}
+use Rattle.tree_node.proofs.Common.{get, TreeArenas, children_of, in_turn, keyed, node_children, unbounded}
 use Rattle.tree_node.specs.declared.node.NodeOf.{NodeOf}
-use Rattle.tree_node.specs.Arenas.{TreeArenas}
-use Rattle.tree_node.specs.Tree.{children_of, in_turn, keyed, node_children, unbounded}
 use Rattle.tree_node.proofs.Frames.{Agrees, agrees_below, agrees_here, all_both, same_walk}
 use Rattle.tree_cut.specs.Cuts.{HasNoEmpty, HasNoEmptyBut, HasPair, OthersHaveNoEmpty, keyed_of}
 

@@ -1,14 +1,9 @@
 -- A child of a node whose level is a number of the program.
-use Rattle.std.proofs.Common.{sub-one, ◌≡◌, ℕ, zero, suc, ◌-◌, ◌<◌, ◌≤◌, List, [], ◌∷◌, length, slice_get, true, false, is_some, MatchOption, Option, Some, None, IsSome, refl, sym, ap, ◌∙◌, subst, arith}
-use Rattle.std.specs.declared.cmp.Ordering.{Ordering}
-use Rattle.std.specs.declared.ops.Bound.{Bound}
-use Rattle.std.specs.Cmp.{IsTotalOrder}
-use Rattle.slab.specs.Slab.{get}
-use Rattle.tree_array.specs.Arrivals.{arrival}
+use Rattle.std.proofs.Common.{sub-one, ◌≡◌, ℕ, zero, suc, ◌-◌, ◌<◌, ◌≤◌, List, [], ◌∷◌, length, slice_get, true, false, is_some, MatchOption, Option, Some, None, IsSome, refl, sym, ap, ◌∙◌, subst, arith, Ordering}
+use Rattle.tree_model.proofs.Common.{Bound, IsTotalOrder}
+use Rattle.tree_array.proofs.Common.{arrival}
+use Rattle.tree_node.proofs.Common.{get, TreeArenas, IsPart, Replaces, HasKind, Stands, keyed, node_children, unbounded, walk}
 use Rattle.tree_node.specs.declared.node.NodeOf.{NodeOf}
-use Rattle.tree_node.specs.Arenas.{TreeArenas}
-use Rattle.tree_node.specs.Parts.{IsPart, Replaces}
-use Rattle.tree_node.specs.Tree.{HasKind, Stands, keyed, node_children, unbounded, walk}
 use Rattle.tree_node.proofs.Standing.{node_is}
 use Rattle.tree_clean_up.specs.CleanUps.{HasChildIn, TakesKeyed}
 use Rattle.tree_cut.specs.Cuts.{CutsChild, CutsUnder, DropsChild, HasNoEmpty, HasNoEmptyBut, HasPair}

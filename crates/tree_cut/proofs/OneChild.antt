@@ -1,20 +1,9 @@
 -- One child of a node is changed, or dropped and taken out: what that makes of the part under the node.
-use Rattle.std.proofs.Common.{◌≡◌, ℕ, zero, suc, ◌≤◌, ◌<◌, List, [], ◌∷◌, ◌++◌, map, take, drop, length, length-append, slice_get, Option, Some, None, IsSome, refl, sym, ap, ◌∙◌, arith, append_assoc}
-use Rattle.std.specs.List.{AllByRecursion}
-use Rattle.std.specs.declared.cmp.Ordering.{Ordering}
-use Rattle.std.specs.declared.ops.Bound.{Bound}
-use Rattle.std.specs.Cmp.{IsTotalOrder}
-use Rattle.std.proofs.lemmas.Cmp.{tied_itself}
-use Rattle.std.proofs.lemmas.List.{map-append, take-append-drop}
-use Rattle.slab.specs.Slab.{get}
-use Rattle.tree_array.specs.Arrivals.{Arrivals, arrival}
-use Rattle.tree_leaf.specs.Counting.{times, uses}
-use Rattle.tree_model.specs.Pairs.{cut, without}
-use Rattle.tree_model.proofs.Lists.{all_map, all-append}
+use Rattle.std.proofs.Common.{◌≡◌, ℕ, zero, suc, ◌≤◌, ◌<◌, List, [], ◌∷◌, ◌++◌, map, take, drop, length, length-append, slice_get, Option, Some, None, IsSome, refl, sym, ap, ◌∙◌, arith, append_assoc, Ordering, take-append-drop}
+use Rattle.tree_model.proofs.Common.{AllByRecursion, Bound, IsTotalOrder, tied_itself, map-append, cut, without}
+use Rattle.tree_array.proofs.Common.{Arrivals, arrival, all_map, all-append}
+use Rattle.tree_node.proofs.Common.{get, times, uses, TreeArenas, IsPart, KeepsBounds, Replaces, AreParted, Stands, children_of, in_turn, keyed, leaves_at, unbounded, walk}
 use Rattle.tree_node.specs.declared.node.NodeOf.{NodeOf}
-use Rattle.tree_node.specs.Arenas.{TreeArenas}
-use Rattle.tree_node.specs.Parts.{IsPart, KeepsBounds, Replaces}
-use Rattle.tree_node.specs.Tree.{AreParted, Stands, children_of, in_turn, keyed, leaves_at, unbounded, walk}
 use Rattle.tree_node.proofs.Between.{without_between}
 use Rattle.tree_node.proofs.ChildrenStand.{children_stand}
 use Rattle.tree_node.proofs.Frames.{parted_map, Agrees, same_stands, same_walk}

@@ -1,16 +1,9 @@
 -- Children of a node whose keys are outside two bounds, and keys of one child that need one bound alone.
-use Rattle.std.proofs.Common.{◌≡◌, ℕ, zero, suc, ◌≤◌, ◌<◌, Bool, true, false, not, cond, List, [], ◌∷◌, filter, take, drop, length, slice_get, Option, Some, None, refl, sym, ap, arith, inl, inr}
-use Rattle.std.specs.List.{flat_map, AllByRecursion}
-use Rattle.std.specs.declared.cmp.Ordering.{Ordering}
-use Rattle.std.specs.declared.cmp.Ordering.TheVariants.{Less}
-use Rattle.std.specs.Cmp.{IsTotalOrder}
-use Rattle.std.specs.declared.ops.Bound.{Bound}
-use Rattle.std.proofs.lemmas.Bool.{cases_eq}
-use Rattle.std.proofs.lemmas.List.{take-append-drop}
-use Rattle.tree_model.specs.Pairs.{cut, meets_lower, meets_upper, within}
-use Rattle.tree_model.proofs.Lists.{all_map, all-append}
-use Rattle.tree_node.specs.Arenas.{TreeArenas}
-use Rattle.tree_node.specs.Tree.{AreParted, IsAbove, IsUpTo, Stands, in_turn, walk}
+use Rattle.std.proofs.Common.{◌≡◌, ℕ, zero, suc, ◌≤◌, ◌<◌, Bool, true, false, not, cond, List, [], ◌∷◌, filter, take, drop, length, slice_get, Option, Some, None, refl, sym, ap, arith, inl, inr, flat_map, Ordering, Less, take-append-drop}
+use Rattle.tree_model.proofs.Common.{AllByRecursion, IsTotalOrder, Bound, cases_eq, cut, within}
+use Rattle.tree_array.proofs.Common.{all_map, all-append}
+use Rattle.tree_node.proofs.Common.{TreeArenas, AreParted, IsAbove, IsUpTo, Stands, in_turn, walk}
+use Rattle.tree_model.specs.Pairs.{meets_lower, meets_upper}
 use Rattle.tree_node.proofs.Frames.{all_both}
 use Rattle.tree_node.proofs.Places.{child_between, first_child, high_at, low_at}
 use Rattle.tree_node.proofs.Walks.{parted_above, walk_above, walk_up_to}

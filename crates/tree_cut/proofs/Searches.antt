@@ -1,16 +1,7 @@
 -- The place of the least separator that isn't less than a key, found by its slot.
-use Rattle.std.proofs.Common.{◌≡◌, ℕ, zero, suc, ◌+◌, ◌<◌, Bool, true, false, cond, List, [], ◌∷◌, take, drop, length, slice_get, Some, None, refl, sym, ◌∙◌, arith}
-use Rattle.std.specs.List.{AllByRecursion}
-use Rattle.std.specs.declared.cmp.Ordering.{Ordering}
-use Rattle.std.specs.declared.cmp.Ordering.TheVariants.{Less}
-use Rattle.std.specs.Ordering.{is_ge}
-use Rattle.std.specs.Cmp.{IsTotalOrder}
-use Rattle.std.proofs.lemmas.Cmp.{tied_itself}
-use Rattle.std.proofs.lemmas.List.{drop_all, take_all}
-use Rattle.tree_array.specs.Arrivals.{Arrivals, arrival, least_from}
-use Rattle.tree_array.specs.Sound.{IsSound}
-use Rattle.tree_model.specs.Pairs.{IsAscending}
-use Rattle.tree_model.proofs.Lists.{all_map}
+use Rattle.std.proofs.Common.{◌≡◌, ℕ, zero, suc, ◌+◌, ◌<◌, Bool, true, false, cond, List, [], ◌∷◌, take, drop, length, slice_get, Some, None, refl, sym, ◌∙◌, arith, Ordering, Less, is_ge, take_all}
+use Rattle.tree_model.proofs.Common.{AllByRecursion, IsTotalOrder, tied_itself, drop_all, IsAscending}
+use Rattle.tree_array.proofs.Common.{Arrivals, arrival, least_from, IsSound, all_map}
 use Rattle.tree_node.proofs.Order.{less_from_test}
 use Rattle.tree_cut.specs.Places.{PartsAt}
 

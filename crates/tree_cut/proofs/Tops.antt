@@ -1,13 +1,9 @@
 -- The node that a cut begins at, which may be retired.
-use Rattle.std.proofs.Common.{◌≡◌, ◌⊎◌, ℕ, zero, suc, ◌+◌, ◌<◌, [], ◌∷◌, map, length, length-append, Some, None, IsSome, inl, inr, refl, ◌∙◌, arith}
-use Rattle.std.specs.declared.cmp.Ordering.{Ordering}
-use Rattle.std.specs.declared.ops.Bound.{Bound}
-use Rattle.std.proofs.lemmas.List.{length-map}
-use Rattle.slab.specs.Slab.{get}
+use Rattle.std.proofs.Common.{◌≡◌, ◌⊎◌, ℕ, zero, suc, ◌+◌, ◌<◌, [], ◌∷◌, map, length, length-append, Some, None, IsSome, inl, inr, refl, ◌∙◌, arith, Ordering}
+use Rattle.tree_model.proofs.Common.{Bound}
+use Rattle.tree_node.proofs.Common.{get, TreeArenas, IsPart, IsRetired, IsRetiredNode, Stands, children_of, keyed, walk}
 use Rattle.tree_node.specs.declared.node.NodeOf.{NodeOf}
-use Rattle.tree_node.specs.Arenas.{TreeArenas}
-use Rattle.tree_node.specs.Parts.{IsPart}
-use Rattle.tree_node.specs.Tree.{IsRetired, IsRetiredNode, Stands, children_of, keyed, walk}
+use Rattle.std.proofs.lemmas.List.{length-map}
 use Rattle.tree_node.proofs.Standing.{node_is, no_children}
 use Rattle.tree_node.proofs.Steps.{replaces_refl}
 use Rattle.tree_node.proofs.Walks.{walk-children}

@@ -1,8 +1,8 @@
 -- The child at a place of a node, and the children from there on.
 use Rattle.std.proofs.Common.{◌≡◌, ℕ, zero, suc, ◌≤◌, List, [], ◌∷◌, ◌++◌, map, take, drop, length, slice_get, Option, Some, None, IsSome, refl, ap, arith}
+use Rattle.tree_node.proofs.Common.{in_turn}
 use Rattle.std.proofs.lemmas.Option.{slice_get_past}
 use Rattle.tree_leaf.specs.Chain.{first_or, last_or}
-use Rattle.tree_node.specs.Tree.{in_turn}
 use Rattle.tree_node.proofs.Places.{first_child, later_children}
 use Rattle.tree_cut.specs.Places.{keyed_or}
 

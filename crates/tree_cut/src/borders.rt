@@ -95,7 +95,8 @@ pub(crate) fn narrowed<'a, K>(
 
 /// Returns whether neither bound is left to test.
 pub(crate) fn is_open<K>(bounds: (Bound<&K>, Bound<&K>)) -> bool
-    ensures { result ≡ true → (bound_map (λ k. k.now) bounds.entry.0 ≡ Bound.Unbounded) × (bound_map (λ k. k.now) bounds.entry.1 ≡ Bound.Unbounded) }
+    ensures { result ≡ true → (bound_map (λ k. k.now) bounds.entry.0 ≡ Bound.Unbounded)
+        × (bound_map (λ k. k.now) bounds.entry.1 ≡ Bound.Unbounded) }
 {
     match bounds {
         (Bound::Unbounded, Bound::Unbounded) => true,

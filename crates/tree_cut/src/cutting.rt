@@ -40,7 +40,8 @@ pub fn remove_range_at<K: Ord + Drop, V: Drop, const LEN: usize>(
 ) -> RangeRemoved
     requires node { 0 < level }
     requires part { IsPart K.cmp level arenas.old id ⊎ IsRetired level arenas.old id }
-    ensures cuts { CutsUnder K.cmp (bound_map (λ k. k.now) bounds.entry.0) (bound_map (λ k. k.now) bounds.entry.1) level arenas.old arenas.new id result.pairs }
+    ensures cuts { CutsUnder K.cmp (bound_map (λ k. k.now) bounds.entry.0)
+        (bound_map (λ k. k.now) bounds.entry.1) level arenas.old arenas.new id result.pairs }
     ensures left { result.children ≡ length (children_of arenas.new.nodes id) }
     ensures retired { IsRetired level arenas.old id → arenas.new ≡ arenas.old }
 {
@@ -67,7 +68,8 @@ fn cut_part<K: Ord + Drop, V: Drop, const LEN: usize>(
 ) -> u128
     requires kind { IsAt level part.now }
     requires part { IsPart K.cmp level arenas.old (part_id part.now) }
-    ensures { CutsUnder K.cmp (bound_map (λ k. k.now) bounds.entry.0) (bound_map (λ k. k.now) bounds.entry.1) level arenas.old arenas.new (part_id part.now) result }
+    ensures { CutsUnder K.cmp (bound_map (λ k. k.now) bounds.entry.0)
+        (bound_map (λ k. k.now) bounds.entry.1) level arenas.old arenas.new (part_id part.now) result }
 {
     match part {
         Part::Leaf(id) => cut_leaf(arenas, *id, bounds),
@@ -106,7 +108,8 @@ fn cut_child<K: Ord + Drop, V: Drop, const LEN: usize>(
     requires node { 0 < level }
     requires part { IsPart K.cmp level arenas.old id }
     requires place { place ≤ length (keyed_of (get arenas.old.nodes id)) }
-    ensures cuts { CutsChild K.cmp (bound_map (λ k. k.now) bounds.entry.0) (bound_map (λ k. k.now) bounds.entry.1) level arenas.old arenas.new id place result }
+    ensures cuts { CutsChild K.cmp (bound_map (λ k. k.now) bounds.entry.0)
+        (bound_map (λ k. k.now) bounds.entry.1) level arenas.old arenas.new id place result }
     ensures no_empty { HasNoEmpty level arenas.old id → HasNoEmpty level arenas.new id }
 {
     let node = arenas.node(id);
@@ -129,7 +132,8 @@ fn cut_leaf<K: Ord + Drop, V: Drop, const LEN: usize>(
     bounds: (Bound<&K>, Bound<&K>),
 ) -> u128
     requires { ContainsKey arenas.old.leaves id }
-    ensures { CutsUnder K.cmp (bound_map (λ k. k.now) bounds.entry.0) (bound_map (λ k. k.now) bounds.entry.1) 0 arenas.old arenas.new id result }
+    ensures { CutsUnder K.cmp (bound_map (λ k. k.now) bounds.entry.0)
+        (bound_map (λ k. k.now) bounds.entry.1) 0 arenas.old arenas.new id result }
 {
     let array = arenas.leaf_mut(id).array_mut();
     let before = array.len();
@@ -146,7 +150,8 @@ fn is_empty<K: Ord + Drop, V: Drop, const LEN: usize>(
     requires kind { IsAt level part.now }
     requires stands { Stands K.cmp level arenas.now None (part_id part.now) None }
     ensures empty { result ≡ true → walk level arenas.now (part_id part.now) ≡ [] }
-    ensures told { HasNoEmpty level arenas.now (part_id part.now) → walk level arenas.now (part_id part.now) ≡ [] → result ≡ true }
+    ensures told { HasNoEmpty level arenas.now (part_id part.now)
+        → walk level arenas.now (part_id part.now) ≡ [] → result ≡ true }
 {
     match part {
         Part::Leaf(id) => arenas.leaf(*id).array().is_empty(),

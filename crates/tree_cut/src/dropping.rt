@@ -10,7 +10,7 @@ use crate::parts::{Part, child_at, keyed_count, slot_at};
 use tree_clean_up::take_keyed;
 use tree_leaf::arena::{LeafId, NodeId};
 use tree_leaf::leaf::splice_link;
-use tree_node::node::{ArenasOf, NodeOf, slots_left};
+use tree_node::node::{ArenasOf, NodeOf};
 
 /// The two ends of a part.
 #[derive(Clone, Copy, Drop)]
@@ -133,6 +133,7 @@ pub(crate) fn count_fits<K: Ord + Drop, V: Drop, const LEN: usize>(
     requires forest { IsForest K.cmp level arenas.now (id ∷ []) }
     ensures { length (walk level arenas.now id) < 2 ^ 127 }
 {
-    let _slots = slots_left(arenas.node(id));
-    let _leaves = arenas.leaf_count();
+    // The contracts of both say how many slots a leaf has, and how many leaves there are, at most.
+    let _ = arenas.node(id).slots_left();
+    let _ = arenas.leaf_count();
 }

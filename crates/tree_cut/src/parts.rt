@@ -81,6 +81,7 @@ pub(crate) fn count<K: Ord + Drop, I: Drop, const LEN: usize>(children: &ArrayOf
     ensures few { result < 16 }
     ensures sound { IsSound K.cmp LEN children.now }
 {
-    let _free = children.free();
+    // The contract of `free` says how many entries an array has at most.
+    let _ = children.free();
     children.len() as u8
 }

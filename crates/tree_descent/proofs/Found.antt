@@ -1,15 +1,9 @@
 -- A key that is found in the leaf it belongs to, seen from the nodes above.
-use Rattle.std.proofs.Common.{◌≡◌, ℕ, ◌-◌, ◌<◌, List, Option, Some, None, IsSome, MatchOption, refl, sym, ◌∙◌}
-use Rattle.std.specs.declared.cmp.Ordering.{Ordering}
-use Rattle.std.specs.Cmp.{IsTotalOrder}
-use Rattle.slab.specs.Slab.{get}
-use Rattle.tree_leaf.specs.declared.leaf.LeafOf.{LeafOf}
-use Rattle.tree_model.specs.Pairs.{pair_at}
-use Rattle.tree_node.specs.declared.internal_node.InternalNodeOf.{InternalNodeOf}
-use Rattle.tree_node.specs.declared.leaf_node.LeafNodeOf.{LeafNodeOf}
+use Rattle.std.proofs.Common.{◌≡◌, ℕ, ◌-◌, ◌<◌, List, Option, Some, None, IsSome, MatchOption, refl, sym, ◌∙◌, Ordering}
+use Rattle.tree_model.proofs.Common.{IsTotalOrder, pair_at}
+use Rattle.tree_node.proofs.Common.{get, LeafOf, TreeArenas, child_of, IsRetired, StandsOrRetired, walk}
+use Rattle.tree_node.specs.declared.branch.BranchOf.{BranchOf}
 use Rattle.tree_node.specs.declared.node.NodeOf.TheVariants.{Internal, Leaf}
-use Rattle.tree_node.specs.Arenas.{TreeArenas}
-use Rattle.tree_node.specs.Tree.{child_of, IsRetired, StandsOrRetired, walk}
 use Rattle.tree_node.proofs.Levels.{childless, found_below, found_in_leaf, node_at, stands_not_retired}
 use Rattle.tree_descent.specs.Ways.{HoldsFor}
 
@@ -34,13 +28,13 @@ module _ {K V : Type 0} {LEN : ℕ} {cmp : K → K → Ordering} (o : IsTotalOrd
   is_there = node_at cmp a at above down.inner down.stands
 
   -- the leaf under a leaf node
-  pub arrives : (node : LeafNodeOf K LEN) → get a.nodes at ≡ Some (Leaf node) → (found : Option ℕ) → found ≡ child_of cmp k node.children.entries node.unbounded_child → Finds cmp a k level id found
+  pub arrives : (node : BranchOf K ℕ LEN) → get a.nodes at ≡ Some (Leaf node) → (found : Option ℕ) → found ≡ child_of cmp k node.children.entries node.unbounded_child → Finds cmp a k level id found
   arrives node here None none = down.finds None (childless cmp a at above down.inner down.stands k (Leaf node) here (sym none))
   arrives node here (Some leaf) chosen =
       let in_it = found_in_leaf o a at k leaf above down.inner down.stands node here (sym chosen) in
       down.finds (Some leaf) (in_it.here, holds cmp k (walk above a at) (get a.leaves leaf) in_it.here in_it.found)
 
-  module _ (node : InternalNodeOf K LEN) (here : get a.nodes at ≡ Some (Internal node)) where
+  module _ (node : BranchOf K ℕ LEN) (here : get a.nodes at ≡ Some (Internal node)) where
     -- no child is there if the node is retired
     pub stops : child_of cmp k node.children.entries node.unbounded_child ≡ None → Finds cmp a k level id None
     stops none = down.finds None (childless cmp a at above down.inner down.stands k (Internal node) here none)

@@ -1,16 +1,11 @@
 -- The way down to the leaf that a key belongs to, seen from the node where it starts.
-use Rattle.std.proofs.Common.{◌≡◌, ◌⊎◌, ℕ, zero, suc, ◌+◌, ◌-◌, ◌<◌, None, Some, IsSome, inl, inr, refl, sym, ◌∙◌, arith, sub-one}
-use Rattle.std.specs.declared.cmp.Ordering.{Ordering}
-use Rattle.std.specs.Cmp.{IsTotalOrder}
-use Rattle.slab.specs.Slab.{get}
-use Rattle.tree_node.specs.declared.internal_node.InternalNodeOf.{InternalNodeOf}
-use Rattle.tree_node.specs.declared.leaf_node.LeafNodeOf.{LeafNodeOf}
+use Rattle.std.proofs.Common.{◌≡◌, ◌⊎◌, ℕ, zero, suc, ◌+◌, ◌-◌, ◌<◌, None, Some, IsSome, inl, inr, refl, sym, ◌∙◌, arith, sub-one, Ordering}
+use Rattle.tree_model.proofs.Common.{IsTotalOrder}
+use Rattle.tree_node.proofs.Common.{get, TreeArenas, IsPart, HasChildFor, HasKind, IsRetired, Stands, child_of, keyed, unbounded}
+use Rattle.tree_node.specs.declared.branch.BranchOf.{BranchOf}
 use Rattle.tree_node.specs.declared.node.NodeOf.{NodeOf}
 use Rattle.tree_node.specs.declared.node.NodeOf.TheVariants.{Internal, Leaf}
-use Rattle.tree_node.specs.Arenas.{TreeArenas}
 use Rattle.tree_descent.specs.Ways.{IsOnWay}
-use Rattle.tree_node.specs.Parts.{IsPart}
-use Rattle.tree_node.specs.Tree.{HasChildFor, HasKind, IsRetired, Stands, child_of, keyed, unbounded}
 use Rattle.tree_node.proofs.ChildChanges.{child_part}
 use Rattle.tree_node.proofs.Children.{node_there}
 use Rattle.tree_node.proofs.NodeKinds.{node_used, retired_node}
@@ -116,10 +111,10 @@ module _ {K V : Type 0} {LEN : ℕ} {cmp : K → K → Ordering} (o : IsTotalOrd
         arrives bottom (inr stuck) = absurd (goes_on stuck)
 
 -- a node over leaves isn't above others, nor one over nodes at the bottom
-pub not_leaf : {K : Type 0} {LEN : ℕ} (above : ℕ) (node : LeafNodeOf K LEN) → 0 < above → HasKind above (Leaf node) → ⊥
+pub not_leaf : {K : Type 0} {LEN : ℕ} (above : ℕ) (node : BranchOf K ℕ LEN) → 0 < above → HasKind above (Leaf node) → ⊥
 not_leaf zero node more kind = omega (arith, more)
 not_leaf (suc above) node more kind = kind
 
-pub not_internal : {K : Type 0} {LEN : ℕ} (above : ℕ) (node : InternalNodeOf K LEN) → above ≡ 0 → HasKind above (Internal node) → ⊥
+pub not_internal : {K : Type 0} {LEN : ℕ} (above : ℕ) (node : BranchOf K ℕ LEN) → above ≡ 0 → HasKind above (Internal node) → ⊥
 not_internal zero node none kind = kind
 not_internal (suc above) node none kind = omega (arith, none)

@@ -36,8 +36,11 @@ pub fn leaf_for<K: Ord + Drop, V: Drop, const LEN: usize>(
 ) -> Option<LeafPlace>
     requires node { 0 < level }
     requires part { IsPart K.cmp level arenas.now id ⊎ IsRetired level arenas.now id }
-    ensures way { MatchOption result (IsRetired level arenas.now id) (λ place. IsOnWay K.cmp key.now (level - 1) arenas.now id place.node) }
-    ensures child { MatchOption result (IsRetired level arenas.now id) (λ place. IsPart K.cmp level arenas.now id × HasChildFor K.cmp key.now (get arenas.now.nodes place.node) place.leaf) }
+    ensures way { MatchOption result (IsRetired level arenas.now id)
+        (λ place. IsOnWay K.cmp key.now (level - 1) arenas.now id place.node) }
+    ensures child { MatchOption result (IsRetired level arenas.now id)
+        (λ place. IsPart K.cmp level arenas.now id
+        × HasChildFor K.cmp key.now (get arenas.now.nodes place.node) place.leaf) }
 {
     let mut at = id;
     let mut above = level - 1;

@@ -9,7 +9,6 @@ ghost use Rattle.tree_descent.specs.Ways.{HoldsFor};
 use tree_array::array::Judge;
 use tree_leaf::arena::{LeafId, NodeId};
 use tree_node::node::{ArenasOf, NodeOf};
-use tree_node::routing::child_for;
 
 /// Returns the pair with the judge's key under a number, or `None` if the key is absent. Makes at most
 /// `4 * (level + 1)` comparisons with 15 slots, and `3 * (level + 1)` with 7.
@@ -24,7 +23,8 @@ pub fn search_at<'a, K: Ord + Drop, V: Drop, J: Judge<K>, const LEN: usize>(
 ) -> Option<(&'a K, &'a V)>
     requires node { 0 < level }
     requires stands { StandsOrRetired K.cmp level arenas.now id }
-    ensures found { MatchOption result (IsAbsent K.cmp (walk level arenas.now id) (J.key judge.old)) (λ pair. pair_at K.cmp (walk level arenas.now id) (J.key judge.old) ≡ Some (pair.0.now, pair.1.now)) }
+    ensures found { MatchOption result (IsAbsent K.cmp (walk level arenas.now id) (J.key judge.old))
+        (λ pair. pair_at K.cmp (walk level arenas.now id) (J.key judge.old) ≡ Some (pair.0.now, pair.1.now)) }
     ensures same_key { J.key judge.new ≡ J.key judge.old }
     ensures counted { J.count judge.new ≤ J.count judge.old + LEN * (level + 1) }
     ensures halved { J.count judge.new ≤ J.count judge.old + searched LEN * (level + 1) }
@@ -48,7 +48,9 @@ fn leaf_by<K: Ord + Drop, V: Drop, J: Judge<K>, const LEN: usize>(
 ) -> Option<LeafId>
     requires node { 0 < level }
     requires stands { StandsOrRetired K.cmp level arenas.now id }
-    ensures found { MatchOption result (IsRetired level arenas.now id) (λ leaf. IsSome (get arenas.now.leaves leaf) × HoldsFor K.cmp (J.key judge.old) (walk level arenas.now id) (get arenas.now.leaves leaf)) }
+    ensures found { MatchOption result (IsRetired level arenas.now id)
+        (λ leaf. IsSome (get arenas.now.leaves leaf)
+        × HoldsFor K.cmp (J.key judge.old) (walk level arenas.now id) (get arenas.now.leaves leaf)) }
     ensures same_key { J.key judge.new ≡ J.key judge.old }
     ensures counted { J.count judge.new ≤ J.count judge.old + LEN * level }
     ensures halved { J.count judge.new ≤ J.count judge.old + searched LEN * level }
@@ -57,11 +59,9 @@ fn leaf_by<K: Ord + Drop, V: Drop, J: Judge<K>, const LEN: usize>(
     let mut above = level;
     loop {
         match arenas.node(at) {
-            NodeOf::Leaf(node) => {
-                return child_for(&node.children, &node.unbounded_child, judge);
-            }
+            NodeOf::Leaf(node) => return node.child_for(judge),
             NodeOf::Internal(node) => {
-                at = child_for(&node.children, &node.unbounded_child, judge)?;
+                at = node.child_for(judge)?;
                 above -= 1;
             }
         }

@@ -1,24 +1,16 @@
 -- The pair at an end of a list, and the pair at a key or beside it, by the place that a look-up tells.
-use Rattle.std.proofs.Common.{◌≡◌, ℕ, zero, suc, ◌+◌, ◌-◌, ◌==◌, ◌<◌, ◌≤◌, Bool, true, false, if◌then◌else◌, List, [], ◌∷◌, length, slice_get, Option, Some, None, refl, ap, sym, ◌∙◌, arith}
-use Rattle.std.specs.Prelude.{is_some}
-use Rattle.std.specs.Cmp.{IsTotalOrder}
+use Rattle.std.proofs.Common.{◌≡◌, ℕ, zero, suc, ◌+◌, ◌-◌, ◌==◌, ◌<◌, ◌≤◌, Bool, true, false, if◌then◌else◌, List, [], ◌∷◌, length, slice_get, Option, Some, None, refl, ap, sym, ◌∙◌, arith, is_some, is_le, is_lt, Ordering, Less, Equal, Greater}
+use Rattle.tree_model.proofs.Common.{IsTotalOrder, Unbounded, nat_tests, Cursor, at_place, fresh, greatest_place, shown, unopened, AllLarger, IsAscending, above, below, pair_at}
+use Rattle.tree_model.specs.declared.way.Way.TheVariants.{On, Back}
+use Rattle.tree_array.proofs.Common.{all_map, filter_none, greater_from_less}
+use Rattle.tree_chain.proofs.Common.{first_of, last_of}
 use Rattle.std.specs.Option.{option_or}
-use Rattle.std.specs.Ordering.{is_le, is_lt}
-use Rattle.std.specs.declared.cmp.Ordering.{Ordering}
-use Rattle.std.specs.declared.cmp.Ordering.TheVariants.{Less, Equal, Greater}
-use Rattle.std.specs.declared.ops.Bound.TheVariants.{Unbounded}
-use Rattle.std.proofs.lemmas.Bool.Decides.{nat_tests}
-use Rattle.tree_chain.specs.Walks.{first_of, last_of}
-use Rattle.tree_chain.specs.declared.stand.Way.TheVariants.{On, Back}
-use Rattle.tree_cursor_model.specs.declared.proximity.ProximityOf.{ProximityOf}
-use Rattle.tree_cursor_model.specs.declared.proximity.ProximityOf.TheVariants.{Exact, Between, Smaller, Larger, Empty}
-use Rattle.tree_cursor_model.specs.Cursor.{Cursor, at_place, fresh, greatest_place, moved, option_where, shown, shown_apart, unopened, with_ends}
-use Rattle.tree_cursor_model.specs.Located.{located}
+use Rattle.tree_model.specs.declared.proximity.ProximityOf.{ProximityOf}
+use Rattle.tree_model.specs.declared.proximity.ProximityOf.TheVariants.{Exact, Between, Smaller, Larger, Empty}
+use Rattle.tree_model.specs.Cursor.{moved, option_where, shown_apart, with_ends}
+use Rattle.tree_model.specs.Located.{located}
 use Rattle.tree_index.specs.Nearest.{at_or_above, at_or_below}
-use Rattle.tree_model.specs.Pairs.{AllLarger, IsAscending, above, below, pair_at}
-use Rattle.tree_model.proofs.Lists.{all_map, filter_none}
 use Rattle.tree_model.proofs.LookUps.{none_larger}
-use Rattle.tree_model.proofs.Order.{greater_from_less}
 use Rattle.tree_ranges.proofs.Yields.{above_le}
 
 -- every pair passes where the bound is open

@@ -1,14 +1,8 @@
 -- Clones that are appended in ascending order.
-use Rattle.std.proofs.Common.{◌≡◌, List, [], ◌∷◌, ◌++◌, None, refl, sym, ◌∙◌}
-use Rattle.std.specs.Prelude.{IfOk, MatchResult, Result, Ok, Err}
-use Rattle.std.specs.Cmp.{IsTotalOrder}
-use Rattle.std.specs.List.{AllByRecursion}
-use Rattle.std.specs.Ordering.{is_eq, is_gt, is_lt}
-use Rattle.std.specs.declared.cmp.Ordering.{Ordering}
-use Rattle.std.specs.declared.cmp.Ordering.TheVariants.{Less, Equal}
-use Rattle.tree_model.specs.Pairs.{AllLarger, pair_at, put}
-use Rattle.tree_model.proofs.Lists.{all-append, all_map, filter_all, filter_none, find_none}
-use Rattle.tree_model.proofs.Order.{alike_after}
+use Rattle.std.proofs.Common.{◌≡◌, List, [], ◌∷◌, ◌++◌, None, refl, sym, ◌∙◌, IfOk, MatchResult, Result, Ok, Err, is_eq, is_gt, is_lt, Ordering, Less, Equal}
+use Rattle.tree_model.proofs.Common.{IsTotalOrder, AllByRecursion, AllLarger, pair_at, put}
+use Rattle.tree_array.proofs.Common.{all-append, all_map, filter_all, filter_none, alike_after}
+use Rattle.tree_model.proofs.Lists.{find_none}
 use Rattle.tree_index.specs.Copies.{AllSmaller}
 
 -- all is behind nothing

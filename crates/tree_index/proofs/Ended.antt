@@ -1,13 +1,7 @@
 -- What a pair that was taken out leaves of a list: the first one, the last one, or the one at a key.
-use Rattle.std.proofs.Common.{◌≡◌, ℕ, suc, ◌-◌, arith, MatchOption, List, [], ◌∷◌, ◌++◌, length, Option, Some, None, refl, sym, ap, ◌∙◌, append-nil}
-use Rattle.std.specs.declared.cmp.Ordering.{Ordering}
-use Rattle.std.specs.declared.cmp.Ordering.TheVariants.{Less, Equal}
-use Rattle.std.specs.Cmp.{IsTotalOrder}
-use Rattle.std.specs.List.{AllByRecursion}
-use Rattle.std.specs.Ordering.{is_lt, is_gt}
-use Rattle.std.proofs.lemmas.Cmp.{alike_right, tied_itself}
-use Rattle.tree_chain.specs.Walks.{first_of, last_of}
-use Rattle.tree_model.specs.Pairs.{AllLarger, IsAbsent, IsAscending, pair_at, without}
+use Rattle.std.proofs.Common.{◌≡◌, ℕ, suc, ◌-◌, arith, MatchOption, List, [], ◌∷◌, ◌++◌, length, Option, Some, None, refl, sym, ap, ◌∙◌, append-nil, Ordering, Less, Equal, is_lt, is_gt}
+use Rattle.tree_model.proofs.Common.{IsTotalOrder, AllByRecursion, alike_right, tied_itself, AllLarger, IsAbsent, IsAscending, pair_at, without}
+use Rattle.tree_chain.proofs.Common.{first_of, last_of}
 use Rattle.tree_model.proofs.Lists.{filter_same}
 use Rattle.tree_model.proofs.LookUps.{found_first}
 use Rattle.tree_node.proofs.Between.{found_between, without_between}

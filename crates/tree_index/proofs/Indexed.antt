@@ -1,23 +1,16 @@
 -- The pairs of a whole tree ascend, and how many there are after a store and after a removal.
-use Rattle.std.proofs.Common.{◌≡◌, ◌⊎◌, ◌↔◌, ◌==◌, ℕ, zero, suc, ◌+◌, ◌<◌, Bool, true, false, IsTrue, List, [], ◌∷◌, length, Option, Some, None, MatchOption, is_some, Bor, Result, Ok, Err, inl, inr, refl, sym, ap, ◌∙◌, arith}
-use Rattle.std.specs.declared.cmp.Ordering.{Ordering}
-use Rattle.std.specs.Cmp.{IsTotalOrder}
-use Rattle.std.specs.Option.{option_map}
-use Rattle.std.proofs.lemmas.Bool.Decides.{nat_tests}
-use Rattle.std.proofs.lemmas.List.{append-nil}
-use Rattle.slab.specs.Slab.{get}
+use Rattle.std.proofs.Common.{◌≡◌, ◌⊎◌, ◌↔◌, ◌==◌, ℕ, zero, suc, ◌+◌, ◌<◌, Bool, true, false, IsTrue, List, [], ◌∷◌, length, Option, Some, None, MatchOption, is_some, Bor, Result, Ok, Err, inl, inr, refl, sym, ap, ◌∙◌, arith, Ordering, option_map, append-nil}
+use Rattle.tree_model.proofs.Common.{IsTotalOrder, nat_tests, IsAbsent, IsAscending, IsPresent, pair_at, put}
+use Rattle.tree_model.specs.declared.commands.InsertError.{InsertError}
 use Rattle.tree_array.specs.declared.answers.StoreResult.{StoreResult}
 use Rattle.tree_array.specs.declared.answers.StoreResult.TheVariants.{New, Replaced, Duplicate, Full}
-use Rattle.tree_model.specs.declared.commands.InsertError.{InsertError}
+use Rattle.tree_node.proofs.Common.{get, TreeArenas, Stands, StandsOrRetired, leaves_at, walk, IsRetiredRoot, leaves_under, walk_under}
 use Rattle.tree_model.specs.declared.commands.InsertError.TheVariants.{Duplicate as SameKey, OutOfMemory}
 use Rattle.tree_model.specs.Edits.{Inserts as InsertsPair, handed_back}
-use Rattle.tree_model.specs.Pairs.{IsAbsent, IsAscending, IsPresent, pair_at, put}
 use Rattle.tree_model.proofs.Lengths.{length-put, without_absent, without_present}
-use Rattle.tree_node.specs.Arenas.{TreeArenas}
 use Rattle.tree_walk.specs.Ends.{IsLinked}
 use Rattle.tree_insert.specs.Inserts.{Inserts, declined}
-use Rattle.tree_node.specs.Tree.{Stands, StandsOrRetired, leaves_at, walk}
-use Rattle.tree_node.specs.Whole.{IsRetiredRoot, IsTop, depth_of, leaves_under, walk_under}
+use Rattle.tree_node.specs.Whole.{IsTop, depth_of}
 use Rattle.tree_node.proofs.Ascents.{walk_ascends}
 use Rattle.tree_node.proofs.Standing.{no_children}
 use Rattle.tree_root.specs.declared.tree.Stored.{Stored}

@@ -1,13 +1,9 @@
 -- What stands at a key, where it was present and where its pair was stored.
-use Rattle.std.proofs.Common.{◌≡◌, ◌↔◌, ℕ, IsTrue, true, false, Option, Some, None, refl, ◌∙◌}
-use Rattle.std.specs.Prelude.{IsSome, Result, Err, is_some}
-use Rattle.std.specs.declared.cmp.Ordering.{Ordering}
-use Rattle.std.specs.declared.cmp.Ordering.TheVariants.{Equal}
-use Rattle.std.specs.Cmp.{IsTotalOrder}
+use Rattle.std.proofs.Common.{◌≡◌, ◌↔◌, ℕ, IsTrue, true, false, Option, Some, None, refl, ◌∙◌, IsSome, Result, Err, is_some, Ordering, Equal}
+use Rattle.tree_model.proofs.Common.{IsTotalOrder, IsAbsent, pair_at, put}
 use Rattle.tree_model.specs.declared.commands.InsertError.{InsertError}
 use Rattle.tree_model.specs.declared.commands.InsertError.TheVariants.{Duplicate, OutOfMemory}
 use Rattle.tree_model.specs.Edits.{Inserts}
-use Rattle.tree_model.specs.Pairs.{IsAbsent, pair_at, put}
 use Rattle.tree_model.proofs.LookUps.{pair_at-put}
 use Rattle.tree_index.specs.Index.{Index, IsWritten, SpendsInsert, StaysPacked}
 use Rattle.tree_index.specs.Present.{IsRefusedAt, StandsAt}

@@ -1,15 +1,8 @@
 -- Pairs that are put one after another, in ascending order too.
-use Rattle.std.proofs.Common.{◌≡◌, List, [], ◌∷◌, ◌++◌, refl, sym, subst, ap, ◌∙◌}
-use Rattle.std.proofs.lemmas.List.{append_assoc, append-nil}
-use Rattle.std.specs.Prelude.{Result, Ok, Err}
-use Rattle.std.specs.Prelude.{Option}
+use Rattle.std.proofs.Common.{◌≡◌, List, [], ◌∷◌, ◌++◌, refl, sym, subst, ap, ◌∙◌, append_assoc, append-nil, Result, Ok, Err, Option, IsErrAnd, Ordering, Less}
+use Rattle.tree_model.proofs.Common.{AllByRecursion, IsAscending, put}
 use Rattle.std.specs.Iterator.{Yields}
-use Rattle.std.specs.Result.{IsErrAnd}
-use Rattle.std.specs.List.{AllByRecursion}
-use Rattle.std.specs.declared.cmp.Ordering.{Ordering}
-use Rattle.std.specs.declared.cmp.Ordering.TheVariants.{Less}
 use Rattle.std.proofs.lemmas.List.Sums.{fold_push}
-use Rattle.tree_model.specs.Pairs.{IsAscending, put}
 use Rattle.tree_node.proofs.Cuts.{ascending_front, smaller_front}
 use Rattle.tree_index.proofs.Copied.{put_behind}
 use Rattle.tree_index.specs.Collects.{puts}

@@ -1,27 +1,15 @@
 -- How the pairs that a test refuses go one by one.
-use Rattle.std.proofs.Common.{◌≡◌, ◌<◌, Bool, true, false, ◌&&◌, List, [], ◌∷◌, ◌++◌, filter, length, Option, Some, None, refl, sym, ap, ◌∙◌, arith, append-nil, append_assoc}
-use Rattle.std.specs.Borrow.{Bor}
+use Rattle.std.proofs.Common.{◌≡◌, ◌<◌, Bool, true, false, ◌&&◌, List, [], ◌∷◌, ◌++◌, filter, length, Option, Some, None, refl, sym, ap, ◌∙◌, arith, append-nil, append_assoc, Bor, is_eq, is_lt, Ordering, Less}
+use Rattle.tree_model.proofs.Common.{IsTotalOrder, AllByRecursion, Bound, Excluded, Unbounded, tied_itself, filter-append, AllLarger, IsAscending, pair_at, within, without, Cursor, fresh, rest}
+use Rattle.tree_model.specs.declared.way.Way.TheVariants.{On}
+use Rattle.tree_array.proofs.Common.{all_map, filter_all, filter_none, greater_from_less}
 use Rattle.std.specs.Fn.{Called, Mut}
 use Rattle.std.proofs.lemmas.Fn.{FoldsTo-push}
-use Rattle.std.specs.Cmp.{IsTotalOrder}
-use Rattle.std.specs.List.{AllByRecursion}
-use Rattle.std.specs.Ordering.{is_eq, is_lt}
-use Rattle.std.specs.declared.cmp.Ordering.{Ordering}
-use Rattle.std.specs.declared.cmp.Ordering.TheVariants.{Less}
-use Rattle.std.specs.declared.ops.Bound.{Bound}
-use Rattle.std.specs.declared.ops.Bound.TheVariants.{Excluded, Unbounded}
-use Rattle.std.proofs.lemmas.Cmp.{tied_itself}
-use Rattle.std.proofs.lemmas.List.Elements.{filter-append}
-use Rattle.tree_model.specs.Pairs.{AllLarger, IsAscending, pair_at, within, without}
-use Rattle.tree_model.proofs.Lists.{all_map, all_passed, filter_all, filter_none, find_kept}
+use Rattle.tree_model.proofs.Lists.{all_passed, find_kept}
 use Rattle.tree_model.proofs.Lengths.{without_present}
 use Rattle.tree_model.proofs.Ascending.{IsAscending-filter}
 use Rattle.tree_model.proofs.LookUps.{found_first, same_within}
-use Rattle.tree_model.proofs.Order.{greater_from_less}
 use Rattle.tree_node.proofs.Between.{found_between, without_between}
-use Rattle.tree_chain.specs.declared.stand.Way.TheVariants.{On}
-use Rattle.tree_cursor_model.specs.Cursor.{Cursor, fresh}
-use Rattle.tree_cursor_model.specs.Rest.{rest}
 use Rattle.tree_ranges.proofs.Yields.{rest_fresh}
 use Rattle.tree_views.proofs.Walked.{all_pass}
 use Rattle.tree_index.specs.Retained.{AnswersAt, Passes, Refuses, Retains, low_behind}

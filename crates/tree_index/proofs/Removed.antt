@@ -1,13 +1,9 @@
 -- What is removed where the condition says yes of every value, and what an absent key takes out.
-use Rattle.std.proofs.Common.{◌≡◌, ◌↔◌, Bool, true, false, cond, IsTrue, List, [], ◌∷◌, ◌++◌, Option, Some, None, refl, sym, ap, ◌∙◌}
-use Rattle.std.specs.declared.cmp.Ordering.{Ordering}
-use Rattle.std.specs.declared.cmp.Ordering.TheVariants.{Less, Equal, Greater}
-use Rattle.std.specs.Cmp.{IsTotalOrder}
-use Rattle.std.specs.Ordering.{is_lt, is_eq, is_gt}
+use Rattle.std.proofs.Common.{◌≡◌, ◌↔◌, Bool, true, false, cond, IsTrue, List, [], ◌∷◌, ◌++◌, Option, Some, None, refl, sym, ap, ◌∙◌, Ordering, Less, Equal, Greater, is_lt, is_eq, is_gt}
+use Rattle.tree_model.proofs.Common.{IsTotalOrder, AllLarger, IsAbsent, IsAscending, IsPresent, above, below, pair_at, without}
+use Rattle.tree_array.proofs.Common.{greater_from_less, less_from_greater}
 use Rattle.tree_model.specs.Edits.{RemovesIf}
-use Rattle.tree_model.specs.Pairs.{AllLarger, IsAbsent, IsAscending, IsPresent, above, below, pair_at, without}
 use Rattle.tree_model.proofs.LookUps.{larger_trans}
-use Rattle.tree_model.proofs.Order.{greater_from_less, less_from_greater}
 
 module _ {K V : Type 0} {cmp : K → K → Ordering} (o : IsTotalOrder cmp) where
   pub all_above : (k : K) (ps : List (K × V)) → AllLarger cmp k ps → (below cmp ps k ≡ []) × (above cmp ps k ≡ ps)

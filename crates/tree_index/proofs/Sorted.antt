@@ -1,11 +1,6 @@
 -- Whether pairs ascend, from each two neighbours.
-use Rattle.std.proofs.Common.{◌≡◌, ◌<◌, ◌-◌, List, [], ◌∷◌, length, take, drop, slice_index_or, false, refl, arith}
-use Rattle.std.specs.Cmp.{IsTotalOrder}
-use Rattle.std.specs.Ordering.{is_ge}
-use Rattle.std.specs.declared.cmp.Ordering.{Ordering}
-use Rattle.std.specs.declared.cmp.Ordering.TheVariants.{Less, Equal, Greater}
-use Rattle.std.proofs.lemmas.List.{length-drop, take_all}
-use Rattle.tree_model.specs.Pairs.{IsAscending}
+use Rattle.std.proofs.Common.{◌≡◌, ◌<◌, ◌-◌, List, [], ◌∷◌, length, take, drop, slice_index_or, false, refl, arith, is_ge, Ordering, Less, Equal, Greater, length-drop, take_all}
+use Rattle.tree_model.proofs.Common.{IsTotalOrder, IsAscending}
 use Rattle.tree_model.proofs.LookUps.{larger_trans}
 
 less_than : (c : Ordering) → is_ge c ≡ false → c ≡ Less

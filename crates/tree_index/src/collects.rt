@@ -46,7 +46,8 @@ impl<K: IndexKey, V: Drop, const LEN: usize> TreeIndexOf<K, V, LEN> {
     /// }
     /// ```
     pub fn try_extend<U: IntoIterator<Item = (K, V)>>(&mut self, pairs: U) -> Result<(), (K, V)>
-        requires { (it : U.IntoIter) → U.into_iter_gives pairs it → U.IntoIter.can_next it × IsFinite (U.IntoIter.remaining it) }
+        requires { (it : U.IntoIter) → U.into_iter_gives pairs it
+            → U.IntoIter.can_next it × IsFinite (U.IntoIter.remaining it) }
         ensures { PutsPairs K.cmp U.into_iter_gives U.IntoIter.next_gives pairs self.old self.new result }
     {
         let mut pairs = pairs.into_iter();

@@ -1,9 +1,9 @@
 //! Copies of an index.
 ghost use Rattle.std.specs.Prelude.{◌≡◌, [], IfOk};
 ghost use Rattle.std.specs.List.{AllZip};
-ghost use Rattle.tree_cursor_model.specs.Rest.{HasBegun, rest};
+ghost use Rattle.tree_model.specs.Rest.{HasBegun, rest};
 ghost use Rattle.tree_index.specs.Copies.{AllSmaller, Appends, IsPairClone};
-ghost use Rattle.tree_chain.specs.declared.stand.Way.TheVariants.{On};
+ghost use Rattle.tree_model.specs.declared.way.Way.TheVariants.{On};
 ghost use Rattle.tree_model.specs.Pairs.{IsAscending};
 
 use crate::index::TreeIndexOf;
@@ -43,7 +43,8 @@ impl<K: IndexKey, V: Drop + Clone, const LEN: usize> TreeIndexOf<K, V, LEN> {
         requires begun { HasBegun K.cmp On pairs }
         requires ascending { IsAscending K.cmp (rest K.cmp On pairs) }
         requires empty { self.old.pairs ≡ [] }
-        ensures { IfOk result (λ _. AllZip (IsPairClone K.is_clone V.is_clone) (rest K.cmp On pairs.entry) self.new.pairs) }
+        ensures { IfOk result
+            (λ _. AllZip (IsPairClone K.is_clone V.is_clone) (rest K.cmp On pairs.entry) self.new.pairs) }
     {
         let mut pairs = pairs;
         while let Some((key, value)) = pairs.next() {
@@ -55,7 +56,8 @@ impl<K: IndexKey, V: Drop + Clone, const LEN: usize> TreeIndexOf<K, V, LEN> {
     /// Appends a clone of a pair. The caller must see that its key is larger than all.
     fn append_clone(&mut self, key: &K, value: &V) -> Result<(), AllocError>
         requires { AllSmaller K.cmp self.old.pairs key.now }
-        ensures { IfOk result (λ _. Appends (IsPairClone K.is_clone V.is_clone) self.old.pairs (key.now, value.now) self.new.pairs) }
+        ensures { IfOk result
+            (λ _. Appends (IsPairClone K.is_clone V.is_clone) self.old.pairs (key.now, value.now) self.new.pairs) }
     {
         match self.insert_sync(key.clone()?, value.clone()?) {
             Ok(()) => Ok(()),

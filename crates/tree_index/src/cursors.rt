@@ -2,13 +2,13 @@
 ghost use Rattle.std.specs.Prelude.{◌≡◌, map};
 ghost use Rattle.std.specs.Range.Bound.{bound_map};
 ghost use Rattle.std.specs.declared.ops.Bound.TheVariants.{Unbounded};
-ghost use Rattle.tree_cursor_model.specs.Cursor.{fresh};
-ghost use Rattle.tree_cursor_model.specs.Located.{located};
+ghost use Rattle.tree_model.specs.Cursor.{fresh};
+ghost use Rattle.tree_model.specs.Located.{located};
 
 use crate::index::TreeIndexOf;
 use std::ops::Bound;
 use tree_array::array::IndexKey;
-use tree_cursor_model::ProximityOf;
+use tree_model::ProximityOf;
 use tree_ranges::iter::{IterOf, IterOver};
 use tree_ranges::locate::locate;
 use tree_ranges::range::{RangeOf, RangeOver};
@@ -77,7 +77,8 @@ impl<K: IndexKey, V: Drop, const LEN: usize> TreeIndexOf<K, V, LEN> {
     /// }
     /// ```
     pub fn range<'t>(&'t self, bounds: (Bound<&'t K>, Bound<&'t K>)) -> RangeOf<'t, K, V, LEN>
-        ensures { result ≡ fresh self.now.pairs (bound_map (λ k. k.now) bounds.entry.0) (bound_map (λ k. k.now) bounds.entry.1) }
+        ensures { result ≡ fresh self.now.pairs (bound_map (λ k. k.now) bounds.entry.0)
+            (bound_map (λ k. k.now) bounds.entry.1) }
     {
         RangeOver::new(&self.tree.arenas, self.tree.root, bounds)
     }
@@ -108,7 +109,7 @@ impl<'t, K: IndexKey, V: Drop, const LEN: usize> IntoIterator for &'t TreeIndexO
 
     ghost use Rattle.std.specs.Prelude.{◌≡◌};
     ghost use Rattle.std.specs.declared.ops.Bound.TheVariants.{Unbounded};
-    ghost use Rattle.tree_cursor_model.specs.Cursor.{fresh};
+    ghost use Rattle.tree_model.specs.Cursor.{fresh};
 
     ghost into_iter_gives = { λ index cursor. cursor ≡ fresh index.now.pairs Unbounded Unbounded };
 

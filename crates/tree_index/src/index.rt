@@ -172,8 +172,11 @@ impl<K: IndexKey, V: Drop, const LEN: usize> TreeIndexOf<K, V, LEN> {
     /// ```
     pub fn remove_if_sync<F: FnOnce(&V) -> bool + Drop>(&mut self, key: &K, condition: F) -> bool
         requires { ForSome (pair_at K.cmp self.old.pairs key.now) (λ pair. FnOnceTakesAt F.FnOnce condition pair.1) }
-        ensures pairs { RemovesIf K.cmp (FnOnceReturnsAt F.FnOnce condition) self.old.pairs key.now result self.new.pairs }
-        ensures always { ((value : V) (said : Bool) → FnOnceReturnsAt F.FnOnce condition value said → said ≡ true) → (IsTrue result ↔ IsPresent K.cmp self.old.pairs key.now) × (self.new.pairs ≡ without K.cmp self.old.pairs key.now) }
+        ensures pairs { RemovesIf K.cmp
+            (FnOnceReturnsAt F.FnOnce condition) self.old.pairs key.now result self.new.pairs }
+        ensures always { ((value : V) (said : Bool) → FnOnceReturnsAt F.FnOnce condition value said → said ≡ true)
+            → (IsTrue result ↔ IsPresent K.cmp self.old.pairs key.now)
+            × (self.new.pairs ≡ without K.cmp self.old.pairs key.now) }
         ensures spare { KeepsSpare self.old self.new }
         ensures kept { result ≡ false → self.new ≡ self.old }
     {
@@ -196,7 +199,8 @@ impl<K: IndexKey, V: Drop, const LEN: usize> TreeIndexOf<K, V, LEN> {
     /// samples.remove_range_sync((Bound::Unbounded, Bound::Excluded(&time)));
     /// ```
     pub fn remove_range_sync(&mut self, bounds: (Bound<&K>, Bound<&K>))
-        ensures { self.new.pairs ≡ cut K.cmp self.old.pairs (bound_map (λ k. k.now) bounds.entry.0) (bound_map (λ k. k.now) bounds.entry.1) }
+        ensures { self.new.pairs ≡ cut K.cmp self.old.pairs (bound_map (λ k. k.now) bounds.entry.0)
+            (bound_map (λ k. k.now) bounds.entry.1) }
     {
         self.len -= self.tree.remove_range(bounds);
     }

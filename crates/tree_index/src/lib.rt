@@ -46,9 +46,10 @@ pub use index::{SmallTreeIndex, TreeIndex, TreeIndexOf};
 pub use into_iter::{IntoIter, IntoIterOf};
 pub use seek::Seeks;
 pub use tree_array::array::{Judge, KeyJudge, Steps};
-pub use tree_cursor_model::{Answer, Move, ProximityOf};
 pub use tree_leaf::arena::NodeId;
-pub use tree_model::{Command, IndexKey, InsertError, Record, Reply, SameClone};
+pub use tree_model::{
+    Answer, Command, IndexKey, InsertError, Move, ProximityOf, Record, Reply, SameClone,
+};
 pub use tree_node::node::{Arenas, ArenasOf};
 pub use tree_ranges::cursor::{Cursor, run_moves};
 pub use tree_ranges::iter::{Iter, IterOf};

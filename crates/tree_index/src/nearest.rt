@@ -1,12 +1,12 @@
 //! The pairs at both ends of an index, and the nearest pair on one side of a key.
 ghost use Rattle.std.specs.Prelude.{◌≡◌};
 ghost use Rattle.tree_chain.specs.Walks.{first_of, last_of};
-ghost use Rattle.tree_cursor_model.specs.Rest.{lent};
+ghost use Rattle.tree_model.specs.Rest.{lent};
 ghost use Rattle.tree_index.specs.Nearest.{at_or_above, at_or_below};
 
 use crate::index::TreeIndexOf;
 use tree_array::array::IndexKey;
-use tree_cursor_model::ProximityOf;
+use tree_model::ProximityOf;
 
 impl<K: IndexKey, V: Drop, const LEN: usize> TreeIndexOf<K, V, LEN> {
     /// Returns the pair with the smallest key, or `None` if there is no pair. Descends once, and makes no comparison.

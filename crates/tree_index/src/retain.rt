@@ -51,7 +51,8 @@ impl<K: IndexKey, V: Drop, const LEN: usize> TreeIndexOf<K, V, LEN> {
         ensures refused { MatchOption result.1
             (Passes F.FnMut keep (filter (λ pair. within K.cmp (low_behind gone.now) Unbounded pair.0) self.old.pairs) result.0)
             (λ pair. Refuses F.FnMut keep (filter (λ pair. within K.cmp (low_behind gone.now) Unbounded pair.0) self.old.pairs) pair result.0) }
-        ensures left { MatchOption result.1 (self.new.pairs ≡ self.old.pairs) (λ pair. self.new.pairs ≡ without K.cmp self.old.pairs pair.0) }
+        ensures left { MatchOption result.1 (self.new.pairs ≡ self.old.pairs)
+            (λ pair. self.new.pairs ≡ without K.cmp self.old.pairs pair.0) }
     {
         let (keep, place) = refused_place(&self.tree, bound_behind(gone), keep);
         let Some(place) = place else {

@@ -72,7 +72,8 @@ impl<K: IndexKey, V: Drop, const LEN: usize> TreeIndexOf<K, V, LEN> {
 /// Returns where the first pair of a tree is stored, or `None` if there is no pair.
 fn first_place<K: IndexKey, V: Drop, const LEN: usize>(tree: &Tree<K, V, LEN>) -> Option<EntryPlace>
     requires { IsWhole K.cmp tree.now }
-    ensures { MatchOption result (pairs_of tree.now ≡ []) (λ place. (pair : K × V) × (first_of (pairs_of tree.now) ≡ Some pair) × IsStored K.cmp tree.now place pair) }
+    ensures { MatchOption result (pairs_of tree.now ≡ [])
+        (λ place. (pair : K × V) × (first_of (pairs_of tree.now) ≡ Some pair) × IsStored K.cmp tree.now place pair) }
 {
     let (key, _) = IterOver::new(&tree.arenas, tree.root).next()?;
     tree.entry_for(key)
@@ -81,7 +82,8 @@ fn first_place<K: IndexKey, V: Drop, const LEN: usize>(tree: &Tree<K, V, LEN>) -
 /// Returns where the last pair of a tree is stored, or `None` if there is no pair.
 fn last_place<K: IndexKey, V: Drop, const LEN: usize>(tree: &Tree<K, V, LEN>) -> Option<EntryPlace>
     requires { IsWhole K.cmp tree.now }
-    ensures { MatchOption result (pairs_of tree.now ≡ []) (λ place. (pair : K × V) × (last_of (pairs_of tree.now) ≡ Some pair) × IsStored K.cmp tree.now place pair) }
+    ensures { MatchOption result (pairs_of tree.now ≡ [])
+        (λ place. (pair : K × V) × (last_of (pairs_of tree.now) ≡ Some pair) × IsStored K.cmp tree.now place pair) }
 {
     let (key, _) = IterOver::new(&tree.arenas, tree.root).next_back()?;
     tree.entry_for(key)

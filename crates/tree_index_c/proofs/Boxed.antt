@@ -1,19 +1,15 @@
 -- The box of a store, and the structs of this crate that own what it owns.
-use mathlib.Core.Path.{◌≡◌, refl, sym, subst}
-use mathlib.Core.List.{List, []}
+use Rattle.std.proofs.Common.{◌≡◌, refl, sym, subst, List, [], T, Option, None, Some, IsSome, Global}
 use seplogic.Ra.Ura.{Ura}
-use lib.Dec.{T}
 use mir.Syntax.{impl, tnil, dnil}
 use mir.Val.{Val}
 use base.Logic.{ent, id⊢}
 use types.Logic.{Logic, sem}
 use denote.RawPtr.{Ptr}
 use denote.Signature.{Slot, plain}
-use Rattle.std.specs.Prelude.{Option, None, Some, IsSome}
-use Rattle.std.specs.Global.{Global}
 use Rattle.std_alloc.proofs.BoxSteps.Form.{Bx, B}
-use Rattle.std_heap.specs.contracts.Global as Heap
 use Rattle.std_heap.specs.contracts.GlobalAllocator.TheImpl.{ghosts, dict}
+use Rattle.std_heap.specs.contracts.Global as Heap
 use Rattle.std_heap.proofs.Global.TheLaws as heap
 use Rattle.tree_index_c.specs.contracts.store.Store as Store
 use Rattle.tree_index_c.proofs.store.Store.TheLaws as store

@@ -1,19 +1,13 @@
 -- Pairs that arrive in the order of their keys.
-use Rattle.std.proofs.Common.{◌≡◌, ℕ, suc, ◌<◌, false, Bor, List, [], ◌∷◌, ◌++◌, length, map, take, drop, Option, None, Some, refl, sym, ap, ◌∙◌}
+use Rattle.std.proofs.Common.{◌≡◌, ℕ, suc, ◌<◌, false, Bor, List, [], ◌∷◌, ◌++◌, length, map, take, drop, Option, None, Some, refl, sym, ap, ◌∙◌, find, is_some, take-append-drop, is_eq, is_gt, Ordering, Less, Equal, Greater}
+use Rattle.tree_model.proofs.Common.{map-append, lent, AllLarger, IsAscending}
+use Rattle.tree_array.proofs.Common.{all_map, filter_none}
 use Rattle.std.specs.Option.{option_or}
-use Rattle.std.specs.Prelude.{find, is_some}
 use Rattle.std.proofs.Math.ListN.{get_or}
 use Rattle.std.proofs.Math.Seq.{drop-cons}
-use Rattle.std.proofs.lemmas.List.{map-append, take-append-drop}
-use Rattle.tree_cursor_model.specs.Rest.{lent}
-use Rattle.std.specs.Ordering.{is_eq, is_gt}
-use Rattle.std.specs.declared.cmp.Ordering.{Ordering}
-use Rattle.std.specs.declared.cmp.Ordering.TheVariants.{Less, Equal, Greater}
 use Rattle.tree_index.specs.Copies.{AllSmaller}
 use Rattle.tree_index.specs.Nearest.{at_or_above}
 use Rattle.tree_index.proofs.Copied.{absent_behind}
-use Rattle.tree_model.specs.Pairs.{AllLarger, IsAscending}
-use Rattle.tree_model.proofs.Lists.{all_map, filter_none}
 
 -- whether something is lent
 pub lent_none : {K V : Type 0} (r : Option (Bor K × Bor V)) → lent r ≡ None → is_some r ≡ false

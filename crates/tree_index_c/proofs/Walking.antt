@@ -1,14 +1,8 @@
 -- A cursor that fills places.
-use Rattle.std.proofs.Common.{◌≡◌, ℕ, ◌+◌, ◌<◌, ◌≤◌, List, ◌∷◌, length, Some, None, Bor, refl, sym, ap, ◌∙◌, subst}
-use Rattle.std.specs.Cmp.{IsTotalOrder}
-use Rattle.std.specs.declared.cmp.Ordering.{Ordering}
-use Rattle.std.specs.declared.ops.Bound.{Bound}
+use Rattle.std.proofs.Common.{◌≡◌, ℕ, ◌+◌, ◌<◌, ◌≤◌, List, ◌∷◌, length, Some, None, Bor, refl, sym, ap, ◌∙◌, subst, Ordering}
+use Rattle.tree_model.proofs.Common.{IsTotalOrder, Bound, lent_entry, HasBegun, Moves, rest, along, Cursor, fresh}
+use Rattle.tree_model.specs.declared.way.Way.{Way}
 use Rattle.std.proofs.Math.ListN.{set}
-use Rattle.tree_chain.specs.declared.stand.Way.{Way}
-use Rattle.tree_chain.specs.Walks.{lent_entry}
-use Rattle.tree_chain.specs.Ways.{along}
-use Rattle.tree_cursor_model.specs.Cursor.{Cursor, fresh}
-use Rattle.tree_cursor_model.specs.Rest.{HasBegun, Moves, rest}
 use Rattle.tree_ranges.specs.Ranged.{IsFresh, pairs_within}
 use Rattle.tree_ranges.proofs.Yields.{fresh_begun, rest_fresh, takes_first}
 use Rattle.tree_index_c.specs.Pairs.{Fills}

@@ -1,9 +1,7 @@
 -- A block and its allocator, however the code holds them: a box, the pair that a box is taken apart into, or a struct of this crate.
 --     boxed                 the box of a value, by the laws of its type and of its allocator
 --     pair_out              a pair of a pointer and an allocator, with the value behind the pointer, is one word of the machine and the value in memory
-use mathlib.Core.Path.{◌≡◌, refl, ap, ◌∙◌}
-use Prim.Native.Nat.{ℕ}
-use mathlib.Core.List.{List, [], ◌∷◌, ◌++◌}
+use Rattle.std.proofs.Common.{◌≡◌, refl, ap, ◌∙◌, ℕ, List, [], ◌∷◌, ◌++◌}
 use seplogic.Ra.Ura.{Ura}
 use base.Fraction.{full_share}
 use base.Logic.{fst∗, never}

@@ -118,7 +118,8 @@ impl<L: Ledger> Judge<ByteKey> for SliceJudge<'_, L> {
 
 /// Returns the pair with a key. Allocates nothing.
 pub fn find<'t>(index: &'t TreeIndex<ByteKey, u64>, key: &[u8]) -> Option<(&'t ByteKey, &'t u64)>
-    ensures { MatchOption result (IsAbsent (slice_cmp nat_cmp) index.now.pairs key.now) (λ pair. pair_at (slice_cmp nat_cmp) index.now.pairs key.now ≡ Some (pair.0.now, pair.1.now)) }
+    ensures { MatchOption result (IsAbsent (slice_cmp nat_cmp) index.now.pairs key.now)
+        (λ pair. pair_at (slice_cmp nat_cmp) index.now.pairs key.now ≡ Some (pair.0.now, pair.1.now)) }
 {
     find_counted::<Brand>(index, key, Blank::new(1))
 }
@@ -131,7 +132,8 @@ fn find_counted<'t, L: Ledger>(
     requires name { blank.name ≡ L.name }
     requires parts { blank.parts ≡ L.parts }
     requires some { 0 < L.parts }
-    ensures { MatchOption result (IsAbsent (slice_cmp nat_cmp) index.now.pairs bytes.now) (λ pair. pair_at (slice_cmp nat_cmp) index.now.pairs bytes.now ≡ Some (pair.0.now, pair.1.now)) }
+    ensures { MatchOption result (IsAbsent (slice_cmp nat_cmp) index.now.pairs bytes.now)
+        (λ pair. pair_at (slice_cmp nat_cmp) index.now.pairs bytes.now ≡ Some (pair.0.now, pair.1.now)) }
 {
     let mut judge: SliceJudge<L> = SliceJudge {
         bytes,

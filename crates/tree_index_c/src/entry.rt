@@ -1,6 +1,6 @@
 //! Keys that are strings of bytes, as C gets them.
 ghost use Rattle.std.specs.Prelude.{◌≤◌, length};
-ghost use Rattle.tree_cursor_model.specs.Rest.{lent};
+ghost use Rattle.tree_model.specs.Rest.{lent};
 ghost use Rattle.tree_index_c.specs.Entries.{WritesBytes, WritesEntry};
 
 use crate::byte_key::ByteKey;

@@ -57,7 +57,8 @@ impl Handle {
 
     /// Takes the store out and closes the handle.
     pub fn take(&mut self, alloc: Global) -> Option<Box<Store>>
-        ensures taken { MatchOption result (self.old.pointer.behind ≡ None) (λ store. self.old.pointer.behind ≡ Some store.value) }
+        ensures taken { MatchOption result (self.old.pointer.behind ≡ None)
+            (λ store. self.old.pointer.behind ≡ Some store.value) }
         ensures closed { self.new.pointer.behind ≡ None }
     {
         let Handle { pointer, is_open } = mem::replace(self, Handle::closed(alloc));

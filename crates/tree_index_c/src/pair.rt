@@ -1,7 +1,7 @@
 //! Pairs and bounds, as C sees them.
 ghost use Rattle.std.specs.Prelude.{◌≡◌};
 ghost use Rattle.std.specs.Option.{option_copied};
-ghost use Rattle.tree_cursor_model.specs.Rest.{lent};
+ghost use Rattle.tree_model.specs.Rest.{lent};
 ghost use Rattle.tree_index_c.specs.Answers.{Writes};
 ghost use Rattle.tree_index_c.specs.Pairs.{bound_at, pair_of};
 

@@ -1,11 +1,8 @@
 -- How often an insert is attempted under a number: once where the key's child has room, and else a second time, once room was made.
-use Rattle.std.proofs.Common.{◌≡◌, ℕ, zero, suc, ◌+◌, ◌-◌, ◌<◌, ◌≤◌, Option, None, Some, refl, ap, ◌∙◌, arith, sub-one}
-use Rattle.std.specs.declared.cmp.Ordering.{Ordering}
-use Rattle.slab.specs.Slab.{get}
+use Rattle.std.proofs.Common.{◌≡◌, ℕ, zero, suc, ◌+◌, ◌-◌, ◌<◌, ◌≤◌, Option, None, Some, refl, ap, ◌∙◌, arith, sub-one, Ordering}
+use Rattle.tree_node.proofs.Common.{get, TreeArenas, room, HasChildFor, child_of, keyed, unbounded}
 use Rattle.tree_node.specs.declared.node.NodeOf.{NodeOf}
-use Rattle.tree_node.specs.Arenas.{TreeArenas}
-use Rattle.tree_node.specs.Shape.{IsCrowded, room}
-use Rattle.tree_node.specs.Tree.{HasChildFor, child_of, keyed, unbounded}
+use Rattle.tree_node.specs.Shape.{IsCrowded}
 use Rattle.tree_insert.proofs.Crowded.{crowded_room}
 
 abbrev the_child : Option ℕ → ℕ

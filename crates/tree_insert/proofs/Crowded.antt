@@ -1,13 +1,9 @@
 -- Where no room can be made on the way of a key.
-use Rattle.std.proofs.Common.{◌≡◌, ℕ, zero, suc, ◌-◌, ◌<◌, sym, ◌∙◌, arith, inl, inr, sub-one}
-use Rattle.std.specs.declared.cmp.Ordering.{Ordering}
-use Rattle.slab.specs.Slab.{get}
-use Rattle.tree_array.specs.Length.{limit}
+use Rattle.std.proofs.Common.{◌≡◌, ℕ, zero, suc, ◌-◌, ◌<◌, sym, ◌∙◌, arith, inl, inr, sub-one, Ordering}
+use Rattle.tree_array.proofs.Common.{limit}
+use Rattle.tree_node.proofs.Common.{get, TreeArenas, Unchanged, held, room, HasChildFor}
 use Rattle.tree_insert.specs.Inserts.{HasToDivide}
-use Rattle.tree_node.specs.Arenas.{TreeArenas}
-use Rattle.tree_node.specs.Parts.{Unchanged}
-use Rattle.tree_node.specs.Shape.{IsCrowded, held, room}
-use Rattle.tree_node.specs.Tree.{HasChildFor}
+use Rattle.tree_node.specs.Shape.{IsCrowded}
 use Rattle.tree_node.proofs.Unchanged.{unchanged_held, unchanged_room}
 
 module _ {K V : Type 0} {LEN : ℕ} (cmp : K → K → Ordering) where

@@ -1,16 +1,12 @@
 -- An insert that goes down from a node: the part that stands there, and what its arms come to.
-use Rattle.std.proofs.Common.{◌≡◌, ◌⊎◌, ℕ, ◌-◌, ◌<◌, Bool, false, None, Some, Result, Ok, Err, inl, inr, refl}
-use Rattle.std.specs.declared.cmp.Ordering.{Ordering}
-use Rattle.std.specs.Cmp.{IsTotalOrder}
-use Rattle.slab.specs.Slab.{get}
+use Rattle.std.proofs.Common.{◌≡◌, ◌⊎◌, ℕ, ◌-◌, ◌<◌, Bool, false, None, Some, Result, Ok, Err, inl, inr, refl, Ordering}
+use Rattle.tree_model.proofs.Common.{IsTotalOrder}
 use Rattle.tree_array.specs.declared.answers.StoreResult.{StoreResult}
 use Rattle.tree_array.specs.declared.answers.StoreResult.TheVariants.{New, Replaced, Duplicate, Full}
+use Rattle.tree_node.proofs.Common.{get, TreeArenas, IsPart, HasChildFor, IsRetired, child_of, keyed, unbounded}
+use Rattle.tree_node.specs.declared.node.NodeOf.{NodeOf}
 use Rattle.tree_insert.specs.Inserts.{InsertsUnder, asks_split}
 use Rattle.tree_insert.proofs.Retries.{IsFullBelow, child_part_at, full_below_at, inserts_in_node_at}
-use Rattle.tree_node.specs.declared.node.NodeOf.{NodeOf}
-use Rattle.tree_node.specs.Arenas.{TreeArenas}
-use Rattle.tree_node.specs.Parts.{IsPart}
-use Rattle.tree_node.specs.Tree.{HasChildFor, IsRetired, child_of, keyed, unbounded}
 use Rattle.tree_node.proofs.NodeKinds.{retired_node, some_child}
 
 module _ {K V : Type 0} {LEN : ℕ} (cmp : K → K → Ordering) (level : ℕ) (a : TreeArenas K V LEN) (id child : ℕ) (key : K) where

@@ -1,18 +1,12 @@
 -- The first pair of an array, and of a tree.
-use Rattle.std.proofs.Common.{◌≡◌, ℕ, false, [], ◌∷◌, None, Some, refl, ◌∙◌, inl, inr, arith}
-use mathlib.Core.Bool.{false≢true}
-use Rattle.std.specs.declared.cmp.Ordering.{Ordering}
-use Rattle.std.specs.Cmp.{IsTotalOrder}
-use Rattle.slab.specs.Slab.{get}
-use Rattle.tree_array.specs.Arrivals.{Arrivals, in_order}
+use Rattle.std.proofs.Common.{◌≡◌, ℕ, false, [], ◌∷◌, None, Some, refl, ◌∙◌, inl, inr, arith, Ordering}
+use Rattle.tree_model.proofs.Common.{false≢true, IsTotalOrder}
+use Rattle.tree_array.proofs.Common.{Arrivals, in_order, IsLen}
+use Rattle.tree_node.proofs.Common.{get, LeafOf, TreeArenas, keyed, unbounded}
+use Rattle.tree_node.specs.declared.node.NodeOf.{NodeOf}
 use Rattle.tree_array.specs.Insertion.{IsInsert}
-use Rattle.tree_array.specs.Length.{IsLen}
 use Rattle.tree_array.specs.declared.answers.InsertResult.{InsertResult}
 use Rattle.tree_array.specs.declared.answers.InsertResult.TheVariants.{Success, Duplicate, Full}
-use Rattle.tree_leaf.specs.declared.leaf.LeafOf.{LeafOf}
-use Rattle.tree_node.specs.declared.node.NodeOf.{NodeOf}
-use Rattle.tree_node.specs.Arenas.{TreeArenas}
-use Rattle.tree_node.specs.Tree.{keyed, unbounded}
 use Rattle.tree_split.specs.Packed.{IsPacked}
 use Rattle.tree_split.proofs.Arrays.{packed_in_order}
 

@@ -1,27 +1,17 @@
 -- An insert in a leaf, and in the child that a key belongs to.
-use Rattle.std.proofs.Common.{◌≡◌, ℕ, suc, ◌-◌, ◌≤◌, min, Bool, false, List, [], ◌∷◌, ◌++◌, length, length-append, Option, Some, None, Result, Ok, Err, refl, sym, ap, ◌∙◌, arith, inl, inr}
-use Rattle.std.specs.List.{AllByRecursion}
-use Rattle.std.specs.declared.cmp.Ordering.{Ordering}
-use Rattle.std.specs.declared.cmp.Ordering.TheVariants.{Less}
-use Rattle.std.specs.Cmp.{IsTotalOrder}
-use Rattle.std.proofs.lemmas.Bool.{cases_eq}
-use Rattle.std.proofs.lemmas.List.{length-map}
-use Rattle.std.proofs.lemmas.Result.{on_err_weaker}
-use Rattle.slab.specs.Slab.{get}
+use Rattle.std.proofs.Common.{◌≡◌, ℕ, suc, ◌-◌, ◌≤◌, min, Bool, false, List, [], ◌∷◌, ◌++◌, length, length-append, Option, Some, None, Result, Ok, Err, refl, sym, ap, ◌∙◌, arith, inl, inr, Ordering, Less}
+use Rattle.tree_model.proofs.Common.{AllByRecursion, IsTotalOrder, cases_eq, AllLarger, put}
+use Rattle.tree_array.proofs.Common.{Arrivals, free, spend, spent_at, IsFull, all-append, all-filter}
 use Rattle.tree_array.specs.declared.answers.StoreResult.{StoreResult}
 use Rattle.tree_array.specs.declared.answers.StoreResult.TheVariants.{New, Replaced, Duplicate, Full}
-use Rattle.tree_array.specs.Arrivals.{Arrivals, free, spend, spent_at}
-use Rattle.tree_array.specs.Insertion.{IsFull, IsStore, IsStored}
-use Rattle.tree_leaf.specs.declared.leaf.LeafOf.{LeafOf}
-use Rattle.tree_model.specs.Pairs.{AllLarger, put}
+use Rattle.tree_node.proofs.Common.{get, LeafOf, TreeArenas, IsPart, Unchanged, spare, found_free, HasChildFor, Stands, walk}
+use Rattle.std.proofs.lemmas.List.{length-map}
+use Rattle.std.proofs.lemmas.Result.{on_err_weaker}
+use Rattle.tree_array.specs.Insertion.{IsStore, IsStored}
 use Rattle.tree_model.proofs.Ascending.{IsAscending-put}
 use Rattle.tree_model.proofs.Lengths.{length-put, without_few}
-use Rattle.tree_model.proofs.Lists.{all-append, all-filter}
-use Rattle.tree_node.specs.Arenas.{TreeArenas}
 use Rattle.tree_insert.specs.Inserts.{Inserts, InsertsUnder, asks_split, declined, refused}
-use Rattle.tree_node.specs.Parts.{IsPart, Unchanged}
-use Rattle.tree_node.specs.Shape.{spare, leaf_free, found_free, found_spare}
-use Rattle.tree_node.specs.Tree.{HasChildFor, Stands, walk}
+use Rattle.tree_node.specs.Shape.{leaf_free, found_spare}
 use Rattle.tree_node.proofs.Between.{found_between, put_between}
 use Rattle.tree_node.proofs.ChildChanges.{node_stands, node_replaces, old_spare, new_spare, old_walk, new_walk, same_node}
 use Rattle.tree_node.proofs.Children.{walk-leaf}

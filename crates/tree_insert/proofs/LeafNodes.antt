@@ -1,21 +1,15 @@
 -- An insert under a leaf node, in the leaf that its key belongs to.
-use Rattle.std.proofs.Common.{◌≡◌, ℕ, ◌<◌, Bool, false, Some, Ok, arith}
-use Rattle.std.specs.declared.cmp.Ordering.{Ordering}
-use Rattle.std.specs.Cmp.{IsTotalOrder}
-use Rattle.slab.specs.Slab.{get}
+use Rattle.std.proofs.Common.{◌≡◌, ℕ, ◌<◌, Bool, false, Some, Ok, arith, Ordering}
+use Rattle.tree_model.proofs.Common.{IsTotalOrder}
+use Rattle.tree_array.proofs.Common.{Arrivals, IsFull}
 use Rattle.tree_array.specs.declared.answers.StoreResult.{StoreResult}
 use Rattle.tree_array.specs.declared.answers.StoreResult.TheVariants.{Full}
-use Rattle.tree_array.specs.Arrivals.{Arrivals}
-use Rattle.tree_array.specs.Insertion.{IsFull, IsStore}
-use Rattle.tree_leaf.specs.declared.leaf.LeafOf.{LeafOf}
+use Rattle.tree_node.proofs.Common.{get, LeafOf, TreeArenas, IsPart, room, found_free, HasChildFor}
+use Rattle.tree_array.specs.Insertion.{IsStore}
 use Rattle.tree_insert.specs.Inserts.{InsertsUnder, asks_split}
 use Rattle.tree_insert.proofs.Inserts.{inserts_in_leaf, inserts_in_node}
 use Rattle.tree_insert.proofs.Retries.{IsFullBelow, full_below}
 use Rattle.tree_insert.proofs.Ways.{takes_one}
-use Rattle.tree_node.specs.Arenas.{TreeArenas}
-use Rattle.tree_node.specs.Parts.{IsPart}
-use Rattle.tree_node.specs.Shape.{room, found_free}
-use Rattle.tree_node.specs.Tree.{HasChildFor}
 use Rattle.tree_node.proofs.LeafWrites.{with_array}
 use Rattle.tree_split.proofs.Fulls.{none_free}
 

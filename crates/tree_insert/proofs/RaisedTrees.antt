@@ -1,11 +1,6 @@
 -- A whole tree whose root stands under a new one.
-use Rattle.std.proofs.Common.{ℕ, suc, Some, [], ◌++◌, inl, arith}
-use Rattle.std.specs.declared.cmp.Ordering.{Ordering}
-use Rattle.std.proofs.lemmas.List.{append-nil}
-use Rattle.tree_leaf.specs.Chain.{IsChain}
-use Rattle.tree_node.specs.Arenas.{TreeArenas}
-use Rattle.tree_node.specs.Tree.{leaves_at}
-use Rattle.tree_node.specs.Whole.{IsTree}
+use Rattle.std.proofs.Common.{ℕ, suc, Some, [], ◌++◌, inl, arith, Ordering, append-nil}
+use Rattle.tree_node.proofs.Common.{IsChain, TreeArenas, leaves_at, IsTree}
 use Rattle.tree_insert.specs.Roots.{RaisesRoot}
 
 module _ {K V : Type 0} {LEN : ℕ} {cmp : K → K → Ordering} where

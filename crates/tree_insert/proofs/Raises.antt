@@ -1,23 +1,13 @@
 -- A root that comes under a new one, in which it is split.
-use Rattle.std.proofs.Common.{◌≡◌, ℕ, zero, suc, ◌+◌, ◌-◌, ◌<◌, ◌==◌, cond, [], ◌∷◌, Option, Some, None, is_some, refl, sym, ap, ◌∙◌, arith, add-one, sub-one, inl, inr}
-use Rattle.std.specs.declared.cmp.Ordering.{Ordering}
-use Rattle.std.proofs.lemmas.Bool.{cases_eq}
-use Rattle.std.proofs.lemmas.List.{append-nil}
-use Rattle.slab.specs.Slab.{get}
-use Rattle.tree_array.specs.Arrivals.{in_order}
-use Rattle.tree_array.specs.Length.{IsLen}
-use Rattle.tree_leaf.specs.Arena.{Gains, KeepsBoth}
-use Rattle.tree_leaf.specs.Counting.{times, uses}
-use Rattle.tree_leaf.proofs.Chains.{same_array_refl}
-use Rattle.tree_leaf.proofs.Counts.{times-cons, one_here, none_here, uses_some, uses_none, uses_same}
-use Rattle.tree_node.specs.declared.internal_node.InternalNodeOf.{InternalNodeOf}
+use Rattle.std.proofs.Common.{◌≡◌, ℕ, zero, suc, ◌+◌, ◌-◌, ◌<◌, ◌==◌, cond, [], ◌∷◌, Option, Some, None, is_some, refl, sym, ap, ◌∙◌, arith, add-one, sub-one, inl, inr, Ordering, append-nil}
+use Rattle.tree_model.proofs.Common.{cases_eq}
+use Rattle.tree_array.proofs.Common.{in_order, IsLen}
+use Rattle.tree_node.proofs.Common.{get, times, uses, same_array_refl, times-cons, one_here, none_here, uses_some, uses_none, uses_same, TreeArenas, IsPart, Unchanged, room, Stands, walk, leaves_at, nodes_at, children_of}
+use Rattle.tree_node.specs.declared.branch.BranchOf.{BranchOf}
 use Rattle.tree_node.specs.declared.node.NodeOf.TheVariants.{Internal}
-use Rattle.tree_node.specs.Arenas.{TreeArenas}
-use Rattle.tree_node.specs.Parts.{IsPart, Unchanged}
-use Rattle.tree_node.specs.Shape.{room}
+use Rattle.tree_leaf.specs.Arena.{Gains, KeepsBoth}
 use Rattle.tree_insert.specs.Roots.{RaisesRoot}
 use Rattle.tree_split.specs.Splits.{SplitsChild}
-use Rattle.tree_node.specs.Tree.{Stands, walk, leaves_at, nodes_at, children_of}
 use Rattle.tree_split.specs.Packed.{IsPacked}
 use Rattle.tree_split.proofs.Edges.{same_packed}
 use Rattle.tree_node.proofs.Frames.{Agrees, agrees_here, head_here, same_leaves, same_nodes, same_walk, same_stands}
@@ -25,7 +15,7 @@ use Rattle.tree_node.proofs.Lifts.{single_leaves, single_nodes}
 use Rattle.tree_node.proofs.Unchanged.{chain_same, unchanged_by_keeping}
 use Rattle.tree_node.proofs.Walks.{walk-children}
 
-module _ {K V : Type 0} {LEN : ℕ} {cmp : K → K → Ordering} (level : ℕ) (old reserved mid : TreeArenas K V LEN) (root id : ℕ) (top : InternalNodeOf K LEN)
+module _ {K V : Type 0} {LEN : ℕ} {cmp : K → K → Ordering} (level : ℕ) (old reserved mid : TreeArenas K V LEN) (root id : ℕ) (top : BranchOf K ℕ LEN)
     (part : IsPart cmp (suc level) old root) (keeps : KeepsBoth old reserved) (gains : Gains reserved.nodes mid.nodes id (Internal top)) (leaves : mid.leaves ≡ reserved.leaves)
     (keyed_none : top.children ≡ in_order []) (last : top.unbounded_child ≡ Some root) where
   same : Unchanged old reserved
@@ -155,13 +145,13 @@ module _ {K V : Type 0} {LEN : ℕ} {cmp : K → K → Ordering} (level : ℕ) (
 
 -- the same where the depth is a number of the program
 module _ {K V : Type 0} {LEN : ℕ} {cmp : K → K → Ordering} where
-  pub top_part_at : (depth : ℕ) → 0 < depth → (old reserved mid : TreeArenas K V LEN) (root id : ℕ) (top : InternalNodeOf K LEN) → IsPart cmp depth old root → KeepsBoth old reserved → Gains reserved.nodes mid.nodes id (Internal top) → mid.leaves ≡ reserved.leaves
+  pub top_part_at : (depth : ℕ) → 0 < depth → (old reserved mid : TreeArenas K V LEN) (root id : ℕ) (top : BranchOf K ℕ LEN) → IsPart cmp depth old root → KeepsBoth old reserved → Gains reserved.nodes mid.nodes id (Internal top) → mid.leaves ≡ reserved.leaves
       → top.children ≡ in_order [] → top.unbounded_child ≡ Some root → IsPart cmp (depth + 1) mid id × (0 < times root (children_of mid.nodes id))
   top_part_at zero deep old reserved mid root id top part keeps gains leaves keyed_none last = absurd (omega (arith, deep))
   top_part_at (suc level) deep old reserved mid root id top part keeps gains leaves keyed_none last =
       (rw add-one (top_part level old reserved mid root id top part keeps gains leaves keyed_none last), root_inside level old reserved mid root id top part keeps gains leaves keyed_none last)
 
-  pub top_room_at : (depth : ℕ) → 0 < depth → (old reserved mid : TreeArenas K V LEN) (root id : ℕ) (top : InternalNodeOf K LEN) → IsPart cmp depth old root → KeepsBoth old reserved → Gains reserved.nodes mid.nodes id (Internal top) → mid.leaves ≡ reserved.leaves
+  pub top_room_at : (depth : ℕ) → 0 < depth → (old reserved mid : TreeArenas K V LEN) (root id : ℕ) (top : BranchOf K ℕ LEN) → IsPart cmp depth old root → KeepsBoth old reserved → Gains reserved.nodes mid.nodes id (Internal top) → mid.leaves ≡ reserved.leaves
       → top.children ≡ in_order [] → top.unbounded_child ≡ Some root → IsLen LEN → room (depth + 1) mid id ≡ 0 → ⊥
   top_room_at zero deep old reserved mid root id top part keeps gains leaves keyed_none last is_len none = omega (arith, deep)
   top_room_at (suc level) deep old reserved mid root id top part keeps gains leaves keyed_none last is_len none =
@@ -169,7 +159,7 @@ module _ {K V : Type 0} {LEN : ℕ} {cmp : K → K → Ordering} where
       let zero_room : room (suc (suc level)) mid id ≡ 0 = rw add-one at none in
       omega (arith, some, zero_room)
 
-  pub raises_at : (depth : ℕ) → 0 < depth → (old reserved mid : TreeArenas K V LEN) (root id : ℕ) (top : InternalNodeOf K LEN) → IsPart cmp depth old root → KeepsBoth old reserved → Gains reserved.nodes mid.nodes id (Internal top) → mid.leaves ≡ reserved.leaves
+  pub raises_at : (depth : ℕ) → 0 < depth → (old reserved mid : TreeArenas K V LEN) (root id : ℕ) (top : BranchOf K ℕ LEN) → IsPart cmp depth old root → KeepsBoth old reserved → Gains reserved.nodes mid.nodes id (Internal top) → mid.leaves ≡ reserved.leaves
       → top.children ≡ in_order [] → top.unbounded_child ≡ Some root → IsLen LEN → (new : TreeArenas K V LEN) → SplitsChild cmp (depth + 1) mid new id root → ((n : ℕ) → get new.leaves n ≡ get mid.leaves n) → RaisesRoot cmp depth old new root id
   raises_at zero deep old reserved mid root id top part keeps gains leaves keyed_none last is_len new split others = absurd (omega (arith, deep))
   raises_at (suc level) deep old reserved mid root id top part keeps gains leaves keyed_none last is_len new split others = raises level old reserved mid root id top part keeps gains leaves keyed_none last is_len new (rw add-one at split) others

@@ -1,17 +1,11 @@
 -- A retired node that becomes a leaf node over an empty leaf.
-use Rattle.std.proofs.Common.{◌≡◌, ◌≢◌, ℕ, zero, suc, ◌-◌, ◌<◌, ◌≤◌, [], ◌∷◌, Some, None, inl, inr, refl, arith}
-use Rattle.std.specs.declared.cmp.Ordering.{Ordering}
-use Rattle.std.proofs.lemmas.Bool.{cases_eq}
-use Rattle.slab.specs.Slab.{get}
-use Rattle.tree_array.specs.Arrivals.{in_order}
-use Rattle.tree_leaf.specs.declared.leaf.LeafOf.{LeafOf}
-use Rattle.tree_leaf.specs.Counting.{times, uses}
-use Rattle.tree_leaf.proofs.Counts.{times-nil, times-cons, none_here, one_here, uses_some}
+use Rattle.std.proofs.Common.{◌≡◌, ◌≢◌, ℕ, zero, suc, ◌-◌, ◌<◌, ◌≤◌, [], ◌∷◌, Some, None, inl, inr, refl, arith, Ordering}
+use Rattle.tree_model.proofs.Common.{cases_eq}
+use Rattle.tree_array.proofs.Common.{in_order}
+use Rattle.tree_node.proofs.Common.{get, LeafOf, times, uses, times-nil, times-cons, none_here, one_here, uses_some, TreeArenas, HasKind, IsRetired, Stands, keyed, unbounded, leaves_at}
+use Rattle.tree_node.specs.declared.node.NodeOf.{NodeOf}
 use Rattle.tree_node.proofs.Bare.{over_one}
 use Rattle.tree_node.proofs.LeafSpares.{spare_at_least}
-use Rattle.tree_node.specs.declared.node.NodeOf.{NodeOf}
-use Rattle.tree_node.specs.Arenas.{TreeArenas}
-use Rattle.tree_node.specs.Tree.{HasKind, IsRetired, Stands, keyed, unbounded, leaves_at}
 use Rattle.tree_insert.specs.Roots.{Replants}
 
 module _ {K V : Type 0} {LEN : ℕ} (cmp : K → K → Ordering) (old new : TreeArenas K V LEN) (id last : ℕ) (node : NodeOf K LEN) (leaf : LeafOf K V LEN)

@@ -1,14 +1,11 @@
 -- An insert that starts again where nothing has changed.
-use Rattle.std.proofs.Common.{◌≡◌, ℕ, Bool, [], ◌∷◌, Some, Result, Ok, refl, ap, arith}
-use Rattle.std.specs.declared.cmp.Ordering.{Ordering}
-use Rattle.std.proofs.lemmas.Result.{on_err_weaker}
+use Rattle.std.proofs.Common.{◌≡◌, ℕ, Bool, [], ◌∷◌, Some, Result, Ok, refl, ap, arith, Ordering}
 use Rattle.tree_array.specs.declared.answers.StoreResult.{StoreResult}
 use Rattle.tree_array.specs.declared.answers.StoreResult.TheVariants.{Full}
+use Rattle.tree_node.proofs.Common.{TreeArenas, IsPart, Unchanged, found_keyed, spare}
+use Rattle.std.proofs.lemmas.Result.{on_err_weaker}
 use Rattle.tree_insert.specs.Inserts.{InsertsUnder}
 use Rattle.tree_insert.proofs.Crowded.{crowded_still, divides_still}
-use Rattle.tree_node.specs.Arenas.{TreeArenas}
-use Rattle.tree_node.specs.Parts.{IsPart, Unchanged}
-use Rattle.tree_node.specs.Shape.{found_keyed, spare}
 use Rattle.tree_node.proofs.Frames.{Agrees, same_stands, same_walk}
 use Rattle.tree_node.proofs.Spares.{same_spare}
 use Rattle.tree_node.proofs.Steps.{replaces_trans}

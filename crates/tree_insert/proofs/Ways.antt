@@ -1,17 +1,13 @@
 -- An insert in the leaf that a key belongs to, or under its leaf node, seen from the node where the way starts.
-use Rattle.std.proofs.Common.{◌≡◌, ℕ, zero, suc, ◌-◌, ◌<◌, Bool, false, None, IsSome, Result, Ok, refl, arith, sub-one}
-use Rattle.std.specs.declared.cmp.Ordering.{Ordering}
-use Rattle.std.specs.Cmp.{IsTotalOrder}
-use Rattle.slab.specs.Slab.{get}
+use Rattle.std.proofs.Common.{◌≡◌, ℕ, zero, suc, ◌-◌, ◌<◌, Bool, false, None, IsSome, Result, Ok, refl, arith, sub-one, Ordering}
+use Rattle.tree_model.proofs.Common.{IsTotalOrder}
+use Rattle.tree_array.proofs.Common.{Arrivals, IsFull}
 use Rattle.tree_array.specs.declared.answers.StoreResult.{StoreResult}
 use Rattle.tree_array.specs.declared.answers.StoreResult.TheVariants.{New, Replaced, Duplicate, Full}
-use Rattle.tree_array.specs.Arrivals.{Arrivals}
-use Rattle.tree_array.specs.Insertion.{IsFull, IsStore}
+use Rattle.tree_node.proofs.Common.{get, TreeArenas, IsPart, HasChildFor}
+use Rattle.tree_array.specs.Insertion.{IsStore}
 use Rattle.tree_insert.specs.Inserts.{InsertsUnder, asks_split}
 use Rattle.tree_insert.proofs.Inserts.{inserts_in_node}
-use Rattle.tree_node.specs.Arenas.{TreeArenas}
-use Rattle.tree_node.specs.Parts.{IsPart}
-use Rattle.tree_node.specs.Tree.{HasChildFor}
 use Rattle.tree_descent.specs.Ways.{IsOnWay}
 use Rattle.tree_node.proofs.ChildChanges.{child_part}
 use Rattle.tree_descent.proofs.Ways.{part_on_way}

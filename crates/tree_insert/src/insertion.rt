@@ -13,7 +13,6 @@ use tree_descent::descent::{LeafPlace, leaf_for};
 use tree_leaf::arena::{LeafId, NodeId};
 use tree_leaf_split::make_room;
 use tree_node::node::{ArenasOf, NodeOf};
-use tree_node::routing::child_place_beyond;
 use tree_node_split::split_child;
 
 /// A pair for which the leaf that its key belongs to has no room.
@@ -50,8 +49,10 @@ pub fn insert_at<const UPSERT: bool, K: IndexKey, V: Drop, const LEN: usize>(
 ) -> Result<StoreResult<K, V>, (K, V)>
     requires node { 0 < level }
     requires part { IsPart K.cmp level arenas.old id ⊎ IsRetired level arenas.old id }
-    ensures inserts { IsPart K.cmp level arenas.old id → InsertsUnder K.cmp UPSERT level arenas.old arenas.new id result key val }
-    ensures retired { IsRetired level arenas.old id → (result ≡ Ok (FullResult key val)) × Unchanged arenas.old arenas.new }
+    ensures inserts { IsPart K.cmp level arenas.old id
+        → InsertsUnder K.cmp UPSERT level arenas.old arenas.new id result key val }
+    ensures retired { IsRetired level arenas.old id → (result ≡ Ok (FullResult key val))
+        × Unchanged arenas.old arenas.new }
 {
     match insert_with_room::<UPSERT, K, V, LEN>(arenas, level, id, key, val) {
         Ok(answer) => Ok(answer),
@@ -73,9 +74,14 @@ pub fn insert_with_room<const UPSERT: bool, K: IndexKey, V: Drop, const LEN: usi
 ) -> Result<StoreResult<K, V>, Crowded<K, V>>
     requires node { 0 < level }
     requires part { IsPart K.cmp level arenas.old id ⊎ IsRetired level arenas.old id }
-    ensures inserts { IfOk result (λ answer. IsPart K.cmp level arenas.old id → InsertsUnder K.cmp UPSERT level arenas.old arenas.new id (Ok answer) key val) }
-    ensures retired { IfOk result (λ answer. IsRetired level arenas.old id → (answer ≡ FullResult key val) × Unchanged arenas.old arenas.new) }
-    ensures crowded { IfErr result (λ back. (arenas.new ≡ arenas.old) × (back.key ≡ key) × (back.val ≡ val) × LeadsTo K.cmp key level arenas.old id back.place.node back.place.leaf) }
+    ensures inserts { IfOk result
+        (λ answer. IsPart K.cmp level arenas.old id
+        → InsertsUnder K.cmp UPSERT level arenas.old arenas.new id (Ok answer) key val) }
+    ensures retired { IfOk result
+        (λ answer. IsRetired level arenas.old id → (answer ≡ FullResult key val) × Unchanged arenas.old arenas.new) }
+    ensures crowded { IfErr result
+        (λ back. (arenas.new ≡ arenas.old) × (back.key ≡ key)
+        × (back.val ≡ val) × LeadsTo K.cmp key level arenas.old id back.place.node back.place.leaf) }
     ensures full { IfErr result (λ back. room 0 arenas.old back.place.leaf ≡ 0) }
 {
     let Some(place) = leaf_for(arenas, level, id, &key, true) else {
@@ -164,17 +170,14 @@ fn insert_from<const UPSERT: bool, K: IndexKey, V: Drop, const LEN: usize>(
 ) -> Result<StoreResult<K, V>, (K, V)>
     requires node { 0 < level }
     requires part { IsPart K.cmp level arenas.old id ⊎ IsRetired level arenas.old id }
-    ensures inserts { IsPart K.cmp level arenas.old id → InsertsUnder K.cmp UPSERT level arenas.old arenas.new id result key val }
-    ensures retired { IsRetired level arenas.old id → (result ≡ Ok (FullResult key val)) × Unchanged arenas.old arenas.new }
+    ensures inserts { IsPart K.cmp level arenas.old id
+        → InsertsUnder K.cmp UPSERT level arenas.old arenas.new id result key val }
+    ensures retired { IsRetired level arenas.old id → (result ≡ Ok (FullResult key val))
+        × Unchanged arenas.old arenas.new }
 {
     match arenas.node(id) {
         NodeOf::Leaf(node) => {
-            let Some(place) = child_place_beyond(
-                &node.children,
-                node.unbounded_child,
-                &key,
-                rightmost,
-            ) else {
+            let Some(place) = node.child_place_beyond(&key, rightmost) else {
                 return Ok(StoreResult::Full(key, val));
             };
             let leaf = place.child;
@@ -182,12 +185,7 @@ fn insert_from<const UPSERT: bool, K: IndexKey, V: Drop, const LEN: usize>(
             insert_under_leaf_node::<UPSERT, K, V, LEN>(arenas, id, leaf, last, key, val)
         }
         NodeOf::Internal(node) => {
-            let Some(place) = child_place_beyond(
-                &node.children,
-                node.unbounded_child,
-                &key,
-                rightmost,
-            ) else {
+            let Some(place) = node.child_place_beyond(&key, rightmost) else {
                 return Ok(StoreResult::Full(key, val));
             };
             let child = place.child;

@@ -7,7 +7,7 @@ ghost use Rattle.tree_split.specs.Packed.{IsPacked};
 
 use tree_leaf::arena::NodeId;
 use tree_leaf::leaf::LeafOf;
-use tree_node::leaf_node::LeafNodeOf;
+use tree_node::branch::LeafNodeOf;
 use tree_node::node::{ArenasOf, NodeOf};
 
 /// Puts the first pair into a tree without leaves, and returns the root's number. The root is a new leaf node, or the one

@@ -9,9 +9,8 @@ ghost use Rattle.tree_insert.specs.Roots.{RaisesRoot, Replants};
 use std::alloc::AllocError;
 use tree_leaf::arena::NodeId;
 use tree_leaf::leaf::LeafOf;
-use tree_node::internal_node::InternalNodeOf;
-use tree_node::leaf_node::LeafNodeOf;
-use tree_node::node::{ArenasOf, NodeOf, slots_left};
+use tree_node::branch::{InternalNodeOf, LeafNodeOf};
+use tree_node::node::{ArenasOf, NodeOf};
 use tree_node_split::split_child;
 
 /// Makes room at a root, and returns the number of the root that stands then: the next insert under it finds room.
@@ -33,14 +32,16 @@ pub fn grow_root_at<K: Ord + Drop, V: Drop, const LEN: usize>(
 ) -> Result<NodeId, AllocError>
     requires node { 0 < depth }
     requires part { IsPart K.cmp depth arenas.old root ⊎ IsRetired depth arenas.old root }
-    ensures raised { IsPart K.cmp depth arenas.old root → IfOk result (λ id. RaisesRoot K.cmp depth arenas.old arenas.new root id × (depth + 1 < 2 ^ 64)) }
-    ensures replanted { IsRetired depth arenas.old root → IfOk result (λ id. (id ≡ root) × Replants K.cmp arenas.old arenas.new root) }
+    ensures raised { IsPart K.cmp depth arenas.old root
+        → IfOk result (λ id. RaisesRoot K.cmp depth arenas.old arenas.new root id × (depth + 1 < 2 ^ 64)) }
+    ensures replanted { IsRetired depth arenas.old root
+        → IfOk result (λ id. (id ≡ root) × Replants K.cmp arenas.old arenas.new root) }
     ensures err { OnErr result (Unchanged arenas.old arenas.new) }
     ensures places { IsPart K.cmp depth arenas.old root → HasPlaces arenas.old 0 2 → IsOk result }
     ensures leaf_place { IsRetired depth arenas.old root → HasPlaces arenas.old 1 0 → IsOk result }
 {
     let node = arenas.node(root);
-    prove!(slots_left(node) as usize <= LEN);
+    prove!(node.slots_left() as usize <= LEN);
     if node.is_childless() {
         replant(arenas, root)
     } else {
@@ -67,7 +68,7 @@ pub fn split_root_at<K: Ord + Drop, V: Drop, const LEN: usize>(
     ensures err { OnErr result (Unchanged arenas.old arenas.new) }
     ensures places { HasPlaces arenas.old 0 2 → IsOk result }
 {
-    prove!(slots_left(arenas.node(root)) as usize <= LEN);
+    prove!(arenas.node(root).slots_left() as usize <= LEN);
     arenas.reserve(0, 2)?;
     let top = InternalNodeOf::new(root);
     let Ok(id) = arenas.add_node(NodeOf::Internal(top)) else {

@@ -1,32 +1,19 @@
 -- A leaf node that makes room for a key: its leaf is split or built anew.
-use Rattle.std.proofs.Common.{◌≡◌, ◌⊎◌, ℕ, suc, ◌-◌, ◌<◌, ◌≤◌, Bool, true, List, ◌∷◌, ◌++◌, length, drop, take, slice_get, Option, Some, None, IsSome, refl, sym, ap, ◌∙◌, arith, sub-one, inl, inr, false, if◌then◌else◌}
-use Rattle.std.specs.declared.cmp.Ordering.{Ordering}
-use Rattle.std.specs.declared.cmp.Ordering.TheVariants.{Equal}
-use Rattle.std.specs.Cmp.{IsTotalOrder}
-use Rattle.std.specs.List.{AllByRecursion}
-use Rattle.std.specs.Ordering.{is_ge}
-use Rattle.slab.specs.Slab.{get, with_value, HasRoomFor}
+use Rattle.std.proofs.Common.{◌≡◌, ◌⊎◌, ℕ, suc, ◌-◌, ◌<◌, ◌≤◌, Bool, true, List, ◌∷◌, ◌++◌, length, drop, take, slice_get, Option, Some, None, IsSome, refl, sym, ap, ◌∙◌, arith, sub-one, inl, inr, false, if◌then◌else◌, Ordering, Equal, is_ge}
+use Rattle.tree_model.proofs.Common.{IsTotalOrder, AllByRecursion, IsAbsent}
+use Rattle.tree_array.proofs.Common.{Arrivals, in_order, HasRoom, limit, IsSound, all_map}
+use Rattle.tree_node.proofs.Common.{get, with_value, LeafOf, IsChain, leaf_entries, TreeArenas, IsPart, Unchanged, room, IsAbove, IsUpTo, HasChildFor, HasKind, Stands, keyed, unbounded, child_at, is_from}
+use Rattle.tree_node.specs.declared.node.NodeOf.{NodeOf}
+use Rattle.slab.specs.Slab.{HasRoomFor}
 use Rattle.slab.proofs.SlabLemmas.{Updates-with_value}
-use Rattle.tree_array.specs.Arrivals.{Arrivals, in_order}
-use Rattle.tree_array.specs.Insertion.{HasRoom}
-use Rattle.tree_array.specs.Length.{limit}
-use Rattle.tree_array.specs.Sound.{IsSound}
-use Rattle.tree_leaf.specs.declared.leaf.LeafOf.{LeafOf}
 use Rattle.tree_leaf.specs.Arena.{KeepsBoth, HasPlaces}
-use Rattle.tree_leaf.specs.Chain.{IsChain}
 use Rattle.tree_leaf.specs.Links.{GainsBefore}
 use Rattle.tree_leaf.proofs.Rooms.{rewritten}
-use Rattle.tree_leaf.specs.Entries.{leaf_entries}
-use Rattle.tree_model.specs.Pairs.{IsAbsent}
-use Rattle.tree_model.proofs.Lists.{all_map}
-use Rattle.tree_node.specs.declared.node.NodeOf.{NodeOf}
-use Rattle.tree_node.specs.Arenas.{TreeArenas}
-use Rattle.tree_node.specs.Parts.{IsPart, PutsChild, Unchanged}
+use Rattle.tree_node.specs.Parts.{PutsChild}
 use Rattle.tree_split.specs.Packed.{HasLast, IsPacked}
 use Rattle.tree_split.proofs.Edges.{edge_below, last_child, last_for, one_last}
 use Rattle.tree_split.specs.Splits.{GivesAll, GivesFirst, HasMadeRoom, IsCut, KeepsPacked, SharesEntries, is_at, is_last, leaf_part, low_part}
-use Rattle.tree_node.specs.Shape.{room}
-use Rattle.tree_node.specs.Tree.{IsAbove, IsUpTo, HasChildFor, HasKind, LeafStands, Stands, keyed, unbounded, child_at, is_from}
+use Rattle.tree_node.specs.Tree.{LeafStands}
 use Rattle.tree_node.proofs.ChildChanges.{child_part}
 use Rattle.tree_node.proofs.Children.{child_stands}
 use Rattle.tree_leaf_split.proofs.LeafSplits.{IsBetween, edge_left, entries_given, high_room, leaf_splits_low, low_full, low_room, separator_smaller}

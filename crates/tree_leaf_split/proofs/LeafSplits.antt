@@ -1,31 +1,15 @@
 -- A leaf that gives its first entries to a new one before it.
-use Rattle.std.proofs.Common.{◌≡◌, ℕ, ◌+◌, ◌-◌, ◌<◌, ◌≤◌, ◌==◌, ◌^◌, min, true, cond, ◌⊎◌, List, [], ◌∷◌, ◌++◌, length, take, drop, slice_get, Option, Some, None, IsSome, refl, sym, ap, ◌∙◌, arith, append_assoc, inl, inr}
-use Rattle.std.specs.List.{AllByRecursion}
-use Rattle.std.specs.declared.cmp.Ordering.{Ordering}
-use Rattle.std.specs.declared.cmp.Ordering.TheVariants.{Less, Equal}
-use Rattle.std.specs.Cmp.{IsTotalOrder}
-use Rattle.std.proofs.lemmas.Bool.{cases_eq}
-use Rattle.std.proofs.lemmas.List.{length-map, length-take, length-drop, take-append-drop}
-use Rattle.slab.specs.Slab.{get}
-use Rattle.tree_array.specs.Arrivals.{Arrivals, in_order}
-use Rattle.tree_array.specs.Sound.{IsSound}
-use Rattle.tree_leaf.specs.declared.leaf.LeafOf.{LeafOf}
-use Rattle.tree_leaf.specs.Chain.{IsChain}
-use Rattle.tree_leaf.specs.Counting.{times, uses}
+use Rattle.std.proofs.Common.{◌≡◌, ℕ, ◌+◌, ◌-◌, ◌<◌, ◌≤◌, ◌==◌, ◌^◌, min, true, cond, ◌⊎◌, List, [], ◌∷◌, ◌++◌, length, take, drop, slice_get, Option, Some, None, IsSome, refl, sym, ap, ◌∙◌, arith, append_assoc, inl, inr, Ordering, Less, Equal, length-take, length-drop, take-append-drop}
+use Rattle.tree_model.proofs.Common.{AllByRecursion, IsTotalOrder, cases_eq, AllLarger, IsAscending}
+use Rattle.tree_array.proofs.Common.{Arrivals, in_order, IsSound, all_map, all-append, alike, alike_after}
+use Rattle.tree_node.proofs.Common.{get, LeafOf, IsChain, times, uses, times-cons, one_here, none_here, uses_some, uses_none, leaf_entries, TreeArenas, Replaces, Unchanged, room, spare, IsAbove, IsBelow, IsUpTo, is_from, walk}
+use Rattle.std.proofs.lemmas.List.{length-map}
 use Rattle.tree_leaf.specs.Links.{GainsBefore}
 use Rattle.tree_leaf.proofs.Chains.{same_array_uses}
-use Rattle.tree_leaf.proofs.Counts.{times-cons, one_here, none_here, uses_some, uses_none}
-use Rattle.tree_leaf.specs.Entries.{leaf_entries}
-use Rattle.tree_model.specs.Pairs.{AllLarger, IsAscending}
-use Rattle.tree_model.proofs.Lists.{all_map, all-append}
-use Rattle.tree_model.proofs.Order.{alike, alike_after}
-use Rattle.tree_node.specs.Arenas.{TreeArenas}
-use Rattle.tree_node.specs.Parts.{Replaces, Unchanged}
-use Rattle.tree_node.specs.Shape.{room, spare}
 use Rattle.tree_split.specs.Packed.{IsPacked}
 use Rattle.tree_split.proofs.Arrays.{packed_in_order}
 use Rattle.tree_split.specs.Splits.{GivesFirst, IsCut}
-use Rattle.tree_node.specs.Tree.{IsAbove, IsBelow, IsUpTo, LeafStands, is_from, walk}
+use Rattle.tree_node.specs.Tree.{LeafStands}
 use Rattle.tree_node.proofs.Beside.{not_before}
 use Rattle.tree_node.proofs.Children.{walk-leaf}
 use Rattle.tree_node.proofs.Cuts.{all_front, all_behind, ascending_front, ascending_behind, smaller_front, cut_whole, cut_with}

@@ -71,7 +71,8 @@ fn low_count<K: Ord + Drop, V: Drop, const LEN: usize>(
     key: &K,
     last: bool,
 ) -> Option<u8>
-    ensures cut { MatchOption result (length array.now.entries ≤ limit LEN) (λ count. (limit LEN < length array.now.entries) × IsCut K.cmp key.now count array.now.entries) }
+    ensures cut { MatchOption result (length array.now.entries ≤ limit LEN)
+        (λ count. (limit LEN < length array.now.entries) × IsCut K.cmp key.now count array.now.entries) }
     ensures rule { IfSome result (λ count. count ≡ low_part K.cmp LEN last array.now key.now) }
     ensures whole { IfSome result (λ count. GoesWhole LEN array.now count) }
     ensures sound { IsSound K.cmp LEN array.now }
@@ -115,7 +116,9 @@ fn split_leaf<K: IndexKey, V: Drop, const LEN: usize>(
     requires whole { (leaf : _) → get arenas.old.leaves target ≡ Some leaf → GoesWhole LEN leaf.array count }
     requires cut { IsCut K.cmp key.now count (leaf_entries arenas.old.leaves target) }
     requires room { (node : _) → get arenas.old.nodes id ≡ Some node → HasRoom LEN (keyed node) }
-    ensures done { IfOk result (λ home. GivesAll K.cmp arenas.old id target count key.now → RoomResult K.cmp (Some home) 1 arenas.old arenas.new id target key.now) }
+    ensures done { IfOk result
+        (λ home. GivesAll K.cmp arenas.old id target count key.now
+        → RoomResult K.cmp (Some home) 1 arenas.old arenas.new id target key.now) }
     ensures shares { IfOk result (λ _. GivesFirst arenas.old arenas.new target count) }
     ensures err { OnErr result (Unchanged arenas.old arenas.new) }
 {
@@ -148,7 +151,8 @@ fn separator_at<K: IndexKey, V: Drop, const LEN: usize>(
     place: u8,
 ) -> Result<K, AllocError>
     requires { place < length array.now.entries }
-    ensures { IfOk result (λ key. (pair : _) × (slice_get array.now.entries place ≡ Some pair) × (K.cmp pair.0 key ≡ Ordering.Equal)) }
+    ensures { IfOk result
+        (λ key. (pair : _) × (slice_get array.now.entries place ≡ Some pair) × (K.cmp pair.0 key ≡ Ordering.Equal)) }
 {
     match array.slot_at(place) {
         Some(slot) => array.key(slot).clone(),

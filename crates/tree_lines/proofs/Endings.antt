@@ -1,7 +1,7 @@
 -- How a run over lines ends.
-use Rattle.std.proofs.Common.{◌≡◌, ◌≢◌, ℕ, List, [], ◌∷◌, ◌++◌, Option, Some, refl, sym, ap, ◌∙◌, append-nil}
-use Rattle.std.specs.Prelude.{Bool, true, false, Result, Ok, Err, None, length, nat_le, if◌then◌else◌}
-use Rattle.std.specs.Io.KnownBytes.{Appends, Consumes, IsAtEnd}
+use Rattle.std.proofs.Common.{◌≡◌, ◌≢◌, ℕ, List, [], ◌∷◌, ◌++◌, Option, Some, refl, sym, ap, ◌∙◌, append-nil, Bool, true, false, Result, Ok, Err, None, length, nat_le, if◌then◌else◌}
+use Rattle.tree_model.proofs.Common.{Appends}
+use Rattle.std.specs.Io.KnownBytes.{Consumes, IsAtEnd}
 use Rattle.std.proofs.KnownBytes.{Appends-nil, Appends-trans, Consumes-trans}
 use Rattle.tree_lines.specs.declared.lines.ToolFault.TheVariants.{Read, Write}
 use Rattle.tree_lines.specs.Lines.{with_feed, text_of, Says, Script, last_line}

@@ -1,21 +1,14 @@
 -- Where a key is among ascending pairs, as a line tells it.
-use Rattle.std.proofs.Common.{◌≡◌, ℕ, zero, suc, ◌-◌, ◌<◌, ◌==◌, Bool, true, false, if◌then◌else◌, List, [], ◌∷◌, ◌++◌, length, slice_get, Option, Some, None, refl, sym, ap, ◌∙◌, subst, append-nil, length-append, arith}
-use Rattle.std.specs.Prelude.{codes, is_some}
-use Rattle.std.specs.List.{AllByRecursion}
+use Rattle.std.proofs.Common.{◌≡◌, ℕ, zero, suc, ◌-◌, ◌<◌, ◌==◌, Bool, true, false, if◌then◌else◌, List, [], ◌∷◌, ◌++◌, length, slice_get, Option, Some, None, refl, sym, ap, ◌∙◌, subst, append-nil, length-append, arith, codes, is_some, is_gt, is_lt, is_eq, nat_cmp, Ordering, Less, Equal, Greater}
+use Rattle.tree_model.proofs.Common.{AllByRecursion, nat_tests, nat_cmp_total, tied_back, AllLarger, IsAscending, above, below, pair_at, Cursor, at_place, shown, unopened}
+use Rattle.tree_model.specs.declared.way.Way.TheVariants.{On, Back}
 use Rattle.std.specs.Option.{option_map_or}
-use Rattle.std.specs.Ordering.{is_gt, is_lt, is_eq, nat_cmp}
-use Rattle.std.specs.declared.cmp.Ordering.{Ordering}
-use Rattle.std.specs.declared.cmp.Ordering.TheVariants.{Less, Equal, Greater}
-use Rattle.std.proofs.lemmas.Bool.Decides.{nat_tests}
-use Rattle.std.proofs.lemmas.Cmp.{nat_cmp_total, tied_back}
-use Rattle.tree_model.specs.Pairs.{AllLarger, IsAscending, above, below, pair_at}
 use Rattle.tree_model.proofs.Lists.{all_map, filter_all, filter_none, find_none}
 use Rattle.tree_model.proofs.Order.{alike, greater_from_less, less_from_greater}
-use Rattle.tree_chain.specs.declared.stand.Way.TheVariants.{On, Back}
-use Rattle.tree_cursor_model.specs.declared.proximity.ProximityOf.{ProximityOf}
-use Rattle.tree_cursor_model.specs.declared.proximity.ProximityOf.TheVariants.{Exact, Between, Smaller, Larger, Empty}
-use Rattle.tree_cursor_model.specs.Cursor.{Cursor, at_place, shown, unopened, with_ends}
-use Rattle.tree_cursor_model.specs.Located.{located, located_at}
+use Rattle.tree_model.specs.declared.proximity.ProximityOf.{ProximityOf}
+use Rattle.tree_model.specs.declared.proximity.ProximityOf.TheVariants.{Exact, Between, Smaller, Larger, Empty}
+use Rattle.tree_model.specs.Cursor.{with_ends}
+use Rattle.tree_model.specs.Located.{located, located_at}
 use Rattle.tree_lines.specs.Lines.{behind_spaces, beside_text, first_pair, last_pair, near_text, pair_text}
 use Rattle.tree_lines.specs.Pairs.{listed, told_text}
 

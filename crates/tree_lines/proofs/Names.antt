@@ -1,10 +1,6 @@
 -- A request is known by its name: arguments that none of its kind has are those of no request with its name.
-use Rattle.std.proofs.Common.{◌≡◌, ◌≢◌, ℕ, ◌==◌, Bool, true, false, List, [], Some, None, length, refl, sym, ap, ◌∙◌, arith}
-use mathlib.Core.Bool.{false≢true}
-use Rattle.std.specs.Prelude.{◌||◌, codes}
-use Rattle.std.specs.Str.{bytes_eq}
-use Rattle.std.proofs.lemmas.Bool.Decides.{nat_tests}
-use Rattle.std.proofs.lemmas.List.{nil_from_length}
+use Rattle.std.proofs.Common.{◌≡◌, ◌≢◌, ℕ, ◌==◌, Bool, true, false, List, [], Option, Some, None, MatchOption, length, refl, sym, ap, ◌∙◌, arith, ◌||◌, codes, bytes_eq}
+use Rattle.tree_model.proofs.Common.{false≢true, nat_tests, nil_from_length}
 use Rattle.std.proofs.lemmas.Slice.Eq.{bytes_eq-Decides}
 use Rattle.tree_lines.specs.declared.requests.Request.{Request}
 use Rattle.tree_lines.specs.declared.requests.Request.TheVariants.{Insert, Upsert, Remove, RemoveIf, RemoveRange, Clear, Peek, Contains, Len, Depth, Spare, Iter, Back, Range, Locate}
@@ -51,6 +47,14 @@ module _ (text : List ℕ) where
   pub unread_locate : ReadsAs FitsWord one_number text None → (request : Request) → Fits request × (name_of request ≡ codes "locate") → text ≢ behind_spaces (arguments_of request)
   unread_locate none (Locate key) fits = none key fits.0
   unread_locate none request fits = apart (name_of request) (codes "locate") refl fits.1
+
+  -- what is made of the arguments that were read is a request with this name
+  pub reads_made : {X : Type 0} (fits : X → Type 0) (spell : X → List ℕ) (make : X → Request) (name : List ℕ)
+      → ((x : X) → fits x → (Fits (make x) × (name_of (make x) ≡ name)) × (spell x ≡ behind_spaces (arguments_of (make x))))
+      → (ReadsAs fits spell text None → ReadsArguments name text None)
+      → (read : Option X) (made : Option Request) → MatchOption read (made ≡ None) (λ x. made ≡ Some (make x)) → ReadsAs fits spell text read → ReadsArguments name text made
+  reads_made fits spell make name known unread (Some x) made is reads = rw is ((known x reads.0).0, reads.1 ∙ (known x reads.0).1)
+  reads_made fits spell make name known unread None made is reads = rw is (unread reads)
 
 -- the names of the requests without arguments
 abbrev is_alone : List ℕ → Bool

@@ -1,17 +1,9 @@
 -- Pieces of a text, written one after another, and the pieces of a line of pairs.
-use Rattle.std.proofs.Common.{◌≡◌, ℕ, Bool, true, false, List, [], ◌∷◌, ◌++◌, map, Option, Some, None, Bor, reverse, refl, sym, ap, ◌∙◌, subst, append_assoc, append-nil}
-use Rattle.std.specs.Prelude.{Result, Ok, Err}
-use Rattle.std.specs.Io.KnownBytes.{Appends}
-use Rattle.std.specs.Ordering.{nat_cmp}
-use Rattle.std.specs.declared.ops.Bound.TheVariants.{Unbounded}
+use Rattle.std.proofs.Common.{◌≡◌, ℕ, Bool, true, false, List, [], ◌∷◌, ◌++◌, map, Option, Some, None, Bor, reverse, refl, sym, ap, ◌∙◌, subst, append_assoc, append-nil, Result, Ok, Err, nat_cmp}
+use Rattle.tree_model.proofs.Common.{Appends, Unbounded, nat_cmp_total, lent_entry, HasBegun, Moves, rest, along, Cursor, fresh}
+use Rattle.tree_model.specs.declared.way.Way.{Way}
+use Rattle.tree_model.specs.declared.way.Way.TheVariants.{Back}
 use Rattle.std.proofs.KnownBytes.{Appends-nil, Appends-trans}
-use Rattle.std.proofs.lemmas.Cmp.{nat_cmp_total}
-use Rattle.tree_chain.specs.declared.stand.Way.{Way}
-use Rattle.tree_chain.specs.declared.stand.Way.TheVariants.{Back}
-use Rattle.tree_chain.specs.Walks.{lent_entry}
-use Rattle.tree_chain.specs.Ways.{along}
-use Rattle.tree_cursor_model.specs.Cursor.{Cursor, fresh}
-use Rattle.tree_cursor_model.specs.Rest.{HasBegun, Moves, rest}
 use Rattle.tree_ranges.specs.Ranged.{IsFresh, pairs_within}
 use Rattle.tree_ranges.proofs.Yields.{fresh_begun, rest_fresh, takes_first}
 use Rattle.tree_lines.specs.Lines.{behind_spaces, inside, pair_text, pairs_text, with_feed}

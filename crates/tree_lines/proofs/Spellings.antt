@@ -1,14 +1,6 @@
 -- The spelling of requests.
-use Rattle.std.proofs.Common.{◌≡◌, ℕ, ◌*◌, ◌^◌, ◌<◌, ◌≤◌, List, [], ◌∷◌, ◌++◌, length, Option, Some, None, refl, sym, ap, ◌∙◌, length-append, rules, arith}
-use Rattle.std.specs.Prelude.{nat_le, Bool, true, false}
-use Rattle.std.specs.Fmt.{decimal}
-use Rattle.std.specs.List.{AllByRecursion}
-use Rattle.std.specs.Str.{bytes_eq}
-use Rattle.std.specs.declared.ops.Bound.{Bound}
-use Rattle.std.specs.declared.ops.Bound.TheVariants.{Included, Excluded, Unbounded}
-use mathlib.Core.Bool.{false≢true}
-use Rattle.std.proofs.lemmas.Bool.Decides.{nat_tests}
-use Rattle.std.proofs.lemmas.Slice.Eq.{bytes_eq-Decides}
+use Rattle.std.proofs.Common.{◌≡◌, ℕ, ◌*◌, ◌^◌, ◌<◌, ◌≤◌, List, [], ◌∷◌, ◌++◌, length, Option, Some, None, refl, sym, ap, ◌∙◌, length-append, rules, arith, nat_le, Bool, true, false, decimal}
+use Rattle.tree_model.proofs.Common.{AllByRecursion, Bound, Included, Excluded, Unbounded, nat_tests}
 use Rattle.tree_lines.specs.declared.requests.Request.{Request}
 use Rattle.tree_lines.specs.declared.requests.Request.TheVariants.{Insert, Upsert, Remove, RemoveIf, RemoveRange, Peek, Contains, Range, Locate}
 use Rattle.tree_lines.specs.Lines.{Fits, FitsBound, name_of, arguments_of, behind_spaces, bound_text, spelling}
@@ -36,14 +28,6 @@ module _ (line word behind : List ℕ) (is_word : IsWord word) (is_behind : IsBe
   pub reads_by_name : (name : List ℕ) → word ≡ name → (read : Option Request) → ReadsArguments name behind read → ReadsAs Fits spelling line read
   reads_by_name name same (Some request) h = (h.0.0, whole ∙ ap (λ w. w ++ behind) (same ∙ sym h.0.1) ∙ ap (λ b. name_of request ++ b) h.1)
   reads_by_name name same None h = λ request fits e. let parts = parts_of request e in h request (fits, sym parts.0 ∙ same) parts.1
-
-  -- the same if the two texts are compared byte by byte
-  pub reads_when : (name text : List ℕ) → true ≡ bytes_eq word text → text ≡ name → (read : Option Request) → ReadsArguments name behind read → ReadsAs Fits spelling line read
-  reads_when name text equal same read h = reads_by_name name ((bytes_eq-Decides word text).0 (sym equal) ∙ same) read h
-
--- a word that differs from a name is not that name
-pub not_named : (word name text : List ℕ) → false ≡ bytes_eq word text → text ≡ name → word ≡ name → ⊥
-not_named word name text unequal same e = false≢true (unequal ∙ (bytes_eq-Decides word text).1 (e ∙ sym same))
 
 -- words of up to 21 bytes, each after a space
 length-spaces : (words : List (List ℕ)) → AllByRecursion (λ word. length word ≤ 21) words → length (behind_spaces words) ≤ 22 * length words

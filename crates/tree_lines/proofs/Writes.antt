@@ -1,9 +1,9 @@
 -- Writes of a text, one after another.
-use Rattle.std.proofs.Common.{◌≡◌, ℕ, ◌<◌, ◌≤◌, List, [], ◌∷◌, ◌++◌, length, take, ◌⊎◌, inl, inr, refl, arith}
-use Rattle.std.specs.Prelude.{Option, Result, Ok, Err}
+use Rattle.std.proofs.Common.{◌≡◌, ℕ, ◌<◌, ◌≤◌, List, [], ◌∷◌, ◌++◌, length, take, ◌⊎◌, inl, inr, refl, arith, Option, Result, Ok, Err}
+use Rattle.tree_model.proofs.Common.{Appends}
 use Rattle.std.specs.Result.{result_unwrap_or}
 use Rattle.std.specs.Io.{WritesAtMost}
-use Rattle.std.specs.Io.KnownBytes.{Appends, WriteAppends}
+use Rattle.std.specs.Io.KnownBytes.{WriteAppends}
 use Rattle.std.proofs.KnownBytes.{Appends-kept, Appends-nil}
 use Rattle.tree_lines.specs.Writing.{IsFront, Writes}
 

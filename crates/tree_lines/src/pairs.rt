@@ -3,7 +3,7 @@ ghost use Rattle.std.specs.Prelude.{◌≡◌, ◌++◌, Bool, if◌then◌else�
 ghost use Rattle.tree_lines.specs.Lines.{behind_spaces, inside, near_text, pair_text, pairs_text, with_feed};
 ghost use Rattle.tree_lines.specs.Pairs.{listed, parted_text, told_text};
 ghost use Rattle.tree_lines.specs.Writing.{Writes};
-ghost use Rattle.tree_cursor_model.specs.Rest.{lent};
+ghost use Rattle.tree_model.specs.Rest.{lent};
 
 use crate::short_text::ShortText;
 use crate::writing::{WriteFailed, write_whole};

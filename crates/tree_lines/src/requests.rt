@@ -1,5 +1,5 @@
 //! Parses the request that a line spells.
-ghost use Rattle.std.specs.Prelude.{◌≡◌, [], codes};
+ghost use Rattle.std.specs.Prelude.{◌≡◌, []};
 ghost use Rattle.tree_lines.specs.Lines.{Fits, arguments_of, name_of, spelling};
 ghost use Rattle.tree_lines.specs.Words.{ReadsArguments, ReadsAs};
 
@@ -48,52 +48,34 @@ pub fn request_of(line: &[u8]) -> Option<Request>
     ensures { ReadsAs Fits spelling line.now result }
 {
     let (name, arguments) = first_word(line);
-    if name == b"insert".as_slice() {
-        return insert_of(arguments);
-    }
-    if name == b"upsert".as_slice() {
-        return upsert_of(arguments);
-    }
-    if name == b"remove".as_slice() {
-        return remove_of(arguments);
-    }
-    if name == b"remove_if".as_slice() {
-        return remove_if_of(arguments);
-    }
+    request_named(name, arguments)
+}
+
+// Parses the arguments of a request of this name.
+fn request_named(name: &[u8], arguments: &[u8]) -> Option<Request>
+    ensures { ReadsArguments name.now arguments.now result }
+{
+    // Compared whole, since a proof loses the last byte of so long a pattern.
     if name == b"remove_range".as_slice() {
-        return remove_range_of(arguments);
+        return two_bounds_of(arguments).map(|(low, high)| Request::RemoveRange(low, high));
     }
-    if name == b"clear".as_slice() {
-        return without_arguments(Request::Clear, arguments);
+    match name {
+        b"insert" => two_numbers_of(arguments).map(|(key, value)| Request::Insert(key, value)),
+        b"upsert" => two_numbers_of(arguments).map(|(key, value)| Request::Upsert(key, value)),
+        b"remove" => one_number_of(arguments).map(|key| Request::Remove(key)),
+        b"remove_if" => two_numbers_of(arguments).map(|(key, value)| Request::RemoveIf(key, value)),
+        b"clear" => without_arguments(Request::Clear, arguments),
+        b"peek" => one_number_of(arguments).map(|key| Request::Peek(key)),
+        b"contains" => one_number_of(arguments).map(|key| Request::Contains(key)),
+        b"len" => without_arguments(Request::Len, arguments),
+        b"depth" => without_arguments(Request::Depth, arguments),
+        b"spare" => without_arguments(Request::Spare, arguments),
+        b"iter" => without_arguments(Request::Iter, arguments),
+        b"back" => without_arguments(Request::Back, arguments),
+        b"range" => two_bounds_of(arguments).map(|(low, high)| Request::Range(low, high)),
+        b"locate" => one_number_of(arguments).map(|key| Request::Locate(key)),
+        _ => None,
     }
-    if name == b"peek".as_slice() {
-        return peek_of(arguments);
-    }
-    if name == b"contains".as_slice() {
-        return contains_of(arguments);
-    }
-    if name == b"len".as_slice() {
-        return without_arguments(Request::Len, arguments);
-    }
-    if name == b"depth".as_slice() {
-        return without_arguments(Request::Depth, arguments);
-    }
-    if name == b"spare".as_slice() {
-        return without_arguments(Request::Spare, arguments);
-    }
-    if name == b"iter".as_slice() {
-        return without_arguments(Request::Iter, arguments);
-    }
-    if name == b"back".as_slice() {
-        return without_arguments(Request::Back, arguments);
-    }
-    if name == b"range".as_slice() {
-        return range_of(arguments);
-    }
-    if name == b"locate".as_slice() {
-        return locate_of(arguments);
-    }
-    None
 }
 
 // Returns the request, which has no arguments, if its line has none.
@@ -105,94 +87,4 @@ fn without_arguments(request: Request, arguments: &[u8]) -> Option<Request>
         return Some(request);
     }
     None
-}
-
-// Parses the arguments of `insert`.
-fn insert_of(arguments: &[u8]) -> Option<Request>
-    ensures { ReadsArguments (codes "insert") arguments.now result }
-{
-    match two_numbers_of(arguments) {
-        Some((key, value)) => Some(Request::Insert(key, value)),
-        None => None,
-    }
-}
-
-// Parses the arguments of `upsert`.
-fn upsert_of(arguments: &[u8]) -> Option<Request>
-    ensures { ReadsArguments (codes "upsert") arguments.now result }
-{
-    match two_numbers_of(arguments) {
-        Some((key, value)) => Some(Request::Upsert(key, value)),
-        None => None,
-    }
-}
-
-// Parses the argument of `remove`.
-fn remove_of(arguments: &[u8]) -> Option<Request>
-    ensures { ReadsArguments (codes "remove") arguments.now result }
-{
-    match one_number_of(arguments) {
-        Some(key) => Some(Request::Remove(key)),
-        None => None,
-    }
-}
-
-// Parses the arguments of `remove_if`.
-fn remove_if_of(arguments: &[u8]) -> Option<Request>
-    ensures { ReadsArguments (codes "remove_if") arguments.now result }
-{
-    match two_numbers_of(arguments) {
-        Some((key, value)) => Some(Request::RemoveIf(key, value)),
-        None => None,
-    }
-}
-
-// Parses the arguments of `remove_range`.
-fn remove_range_of(arguments: &[u8]) -> Option<Request>
-    ensures { ReadsArguments (codes "remove_range") arguments.now result }
-{
-    match two_bounds_of(arguments) {
-        Some((low, high)) => Some(Request::RemoveRange(low, high)),
-        None => None,
-    }
-}
-
-// Parses the argument of `peek`.
-fn peek_of(arguments: &[u8]) -> Option<Request>
-    ensures { ReadsArguments (codes "peek") arguments.now result }
-{
-    match one_number_of(arguments) {
-        Some(key) => Some(Request::Peek(key)),
-        None => None,
-    }
-}
-
-// Parses the argument of `contains`.
-fn contains_of(arguments: &[u8]) -> Option<Request>
-    ensures { ReadsArguments (codes "contains") arguments.now result }
-{
-    match one_number_of(arguments) {
-        Some(key) => Some(Request::Contains(key)),
-        None => None,
-    }
-}
-
-// Parses the arguments of `range`.
-fn range_of(arguments: &[u8]) -> Option<Request>
-    ensures { ReadsArguments (codes "range") arguments.now result }
-{
-    match two_bounds_of(arguments) {
-        Some((low, high)) => Some(Request::Range(low, high)),
-        None => None,
-    }
-}
-
-// Parses the argument of `locate`.
-fn locate_of(arguments: &[u8]) -> Option<Request>
-    ensures { ReadsArguments (codes "locate") arguments.now result }
-{
-    match one_number_of(arguments) {
-        Some(key) => Some(Request::Locate(key)),
-        None => None,
-    }
 }

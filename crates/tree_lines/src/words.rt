@@ -31,7 +31,8 @@ pub fn behind_space(text: &[u8]) -> Option<&[u8]>
 /// Returns the first word and what follows the second space, if the text has two spaces and one is its first byte, else
 /// `None`.
 pub fn two_words_of(text: &[u8]) -> Option<(&[u8], &[u8])>
-    ensures { MatchOption result ((first second : List ℕ) → IsWord first → text.now ≢ behind_spaces (first ∷ second ∷ []))
+    ensures { MatchOption result
+        ((first second : List ℕ) → IsWord first → text.now ≢ behind_spaces (first ∷ second ∷ []))
         (λ words. IsWord words.0.now × (text.now ≡ behind_spaces (words.0.now ∷ words.1.now ∷ []))) }
 {
     let (first, rest) = first_word(behind_space(text)?);

@@ -1,12 +1,6 @@
 -- The edits of a list of pairs keep it ascending.
-use Rattle.std.proofs.Common.{◌≡◌, Bool, true, false, cond, List, [], ◌∷◌, ◌++◌, filter, refl}
-use Rattle.std.specs.declared.cmp.Ordering.{Ordering}
-use Rattle.std.specs.declared.cmp.Ordering.TheVariants.{Less, Equal, Greater}
-use Rattle.std.specs.declared.ops.Bound.{Bound}
-use Rattle.std.specs.Cmp.{IsTotalOrder}
-use Rattle.std.specs.Ordering.{is_lt, is_gt}
-use Rattle.std.specs.List.{AllByRecursion}
-use Rattle.tree_model.specs.Pairs.{AllLarger, IsAscending, below, above, put, without, cut}
+use Rattle.std.proofs.Common.{◌≡◌, Bool, true, false, cond, List, [], ◌∷◌, ◌++◌, filter, refl, Ordering, Less, Equal, Greater, is_lt, is_gt}
+use Rattle.tree_model.proofs.Common.{Bound, IsTotalOrder, AllByRecursion, AllLarger, IsAscending, below, above, put, without, cut}
 use Rattle.tree_model.proofs.Order.{less_from_greater}
 use Rattle.tree_model.proofs.Lists.{all_map, all-append, all-filter, all_passed}
 use Rattle.tree_model.proofs.LookUps.{larger_trans}

@@ -1,6 +1,5 @@
 -- Edits of a list of pairs.
-use Rattle.std.proofs.Common.{Bool, true, false, List}
-use Rattle.std.specs.declared.cmp.Ordering.{Ordering}
+use Rattle.std.proofs.Common.{Bool, true, false, List, Ordering}
 use Rattle.tree_model.specs.Edits.{RemovesIf}
 
 -- a removal on a condition, told of the condition in other words

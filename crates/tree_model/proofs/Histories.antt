@@ -1,19 +1,9 @@
 -- A history that an answered command is added to goes on replaying to the entries, and a history replays to one list.
-use Rattle.std.proofs.Common.{◌≡◌, List, [], ◌∷◌, ◌++◌, Option, Some, None, refl, sym, ap, ◌∙◌, subst, rules, Bool, true, false, cond}
-use Rattle.std.specs.Prelude.{filter, option_map, IsSome, not}
-use Rattle.std.specs.Cmp.{IsTotalOrder}
-use Rattle.std.specs.declared.cmp.Ordering.{Ordering}
-use Rattle.std.specs.declared.cmp.Ordering.TheVariants.{Equal}
-use Rattle.std.specs.declared.ops.Bound.{Bound}
-use Rattle.std.specs.declared.ops.Bound.TheVariants.{Included, Excluded, Unbounded}
-use Rattle.std.specs.Ordering.{is_lt, is_le, is_eq, is_gt}
-use Rattle.std.proofs.lemmas.Cmp.{alike_right, tied_itself}
-use Rattle.tree_model.specs.declared.commands.Command.{Command}
-use Rattle.tree_model.specs.declared.commands.Command.TheVariants.{Insert, Upsert, Remove, RemoveRange, Clear, Peek}
-use Rattle.tree_model.specs.declared.commands.Reply.{Reply}
-use Rattle.tree_model.specs.declared.commands.Reply.TheVariants.{Stored, Duplicate, Removed, Done, Found, Refused}
+use Rattle.std.proofs.Common.{◌≡◌, List, [], ◌∷◌, ◌++◌, Option, Some, None, refl, sym, ap, ◌∙◌, subst, rules, Bool, true, false, cond, filter, option_map, IsSome, not, Ordering, Equal, is_lt, is_le, is_eq, is_gt}
+use Rattle.tree_model.proofs.Common.{IsTotalOrder, Bound, Included, Excluded, Unbounded, alike_right, tied_itself, Command, Insert, Upsert, Remove, RemoveRange, Clear, Peek, Reply, Stored, Duplicate, Removed, Done, Found, below, IsAbsent, IsPresent, pair_at, put, without, within, cut}
+use Rattle.tree_model.specs.declared.commands.Reply.TheVariants.{Refused}
 use Rattle.tree_model.specs.declared.commands.Record.{Record}
-use Rattle.tree_model.specs.Pairs.{below, IsAbsent, IsPresent, pair_at, put, without, meets_lower, meets_upper, within, cut}
+use Rattle.tree_model.specs.Pairs.{meets_lower, meets_upper}
 use Rattle.tree_model.specs.Runs.{Step}
 use Rattle.tree_model.specs.History.{IsAnswered, Replays, IsSameBound, IsSameKey, IsSamePairs, IsSameCommand, IsSameReply, IsHistoryOf}
 

@@ -1,11 +1,6 @@
 -- How long an edit leaves a list of pairs.
-use Rattle.std.proofs.Common.{◌≡◌, suc, ◌+◌, ◌≤◌, true, cond, List, [], ◌∷◌, length, length-append, None, Some, is_some, refl, arith}
-use Rattle.std.specs.declared.cmp.Ordering.{Ordering}
-use Rattle.std.specs.declared.cmp.Ordering.TheVariants.{Less, Equal, Greater}
-use Rattle.std.specs.Cmp.{IsTotalOrder}
-use Rattle.std.specs.Ordering.{is_lt, is_eq, is_gt}
-use Rattle.tree_model.specs.Pairs.{IsAbsent, IsAscending, IsPresent, above, below, pair_at, put, without}
-use Rattle.std.proofs.lemmas.Cmp.{tied_back}
+use Rattle.std.proofs.Common.{◌≡◌, suc, ◌+◌, ◌≤◌, true, cond, List, [], ◌∷◌, length, length-append, None, Some, is_some, refl, arith, Ordering, Less, Equal, Greater, is_lt, is_eq, is_gt}
+use Rattle.tree_model.proofs.Common.{IsTotalOrder, IsAbsent, IsAscending, IsPresent, above, below, pair_at, put, without, tied_back}
 use Rattle.tree_model.proofs.Lists.{all_map}
 use Rattle.tree_model.proofs.LookUps.{none_larger}
 use Rattle.tree_model.proofs.Order.{alike}

@@ -1,8 +1,9 @@
 pub mod Ascending
+pub mod Common
 pub mod Edits
 pub mod Histories
-pub mod LookUps
 pub mod Lengths
 pub mod Lists
+pub mod LookUps
 pub mod Order
 pub mod Overwrites

@@ -1,6 +1,6 @@
 -- Facts on each element of a list, and what a filter or a search makes of a list whose elements all pass, or all fail.
 use Rattle.std.proofs.Common.{◌≡◌, Bool, true, false, cond, List, [], ◌∷◌, ◌++◌, filter, find, Some, None, refl, ap}
-use Rattle.std.specs.List.{AllByRecursion}
+use Rattle.tree_model.proofs.Common.{AllByRecursion}
 
 module _ {X : Type 0} where
   -- Q of each element follows from P of it

@@ -1,15 +1,8 @@
 -- What a look-up finds in a list of pairs after an edit, and that an ascending list is known by its look-ups.
-use Rattle.std.proofs.Common.{◌≡◌, Bool, true, false, if◌then◌else◌, List, [], ◌∷◌, filter, None, Some, refl, sym, ◌∙◌, ap, subst}
-use Rattle.std.specs.Prelude.{not}
-use Rattle.std.specs.declared.cmp.Ordering.{Ordering}
-use Rattle.std.specs.declared.cmp.Ordering.TheVariants.{Less, Equal, Greater}
-use Rattle.std.specs.declared.ops.Bound.{Bound}
-use Rattle.std.specs.declared.ops.Bound.TheVariants.{Included, Excluded, Unbounded}
-use Rattle.std.specs.Cmp.{IsTotalOrder}
-use Rattle.std.specs.Ordering.{is_lt, is_le, is_eq, is_gt}
+use Rattle.std.proofs.Common.{◌≡◌, Bool, true, false, if◌then◌else◌, List, [], ◌∷◌, filter, None, Some, refl, sym, ◌∙◌, ap, subst, not, Ordering, Less, Equal, Greater, is_lt, is_le, is_eq, is_gt}
+use Rattle.tree_model.proofs.Common.{Bound, Included, Excluded, Unbounded, IsTotalOrder, tied_itself, tied_back, AllLarger, IsAscending, pair_at, below, above, put, without, within, cut}
 use Rattle.std.proofs.lemmas.Option.{none-some}
-use Rattle.std.proofs.lemmas.Cmp.{tied_itself, tied_back}
-use Rattle.tree_model.specs.Pairs.{AllLarger, IsAscending, pair_at, below, above, put, without, within, meets_lower, meets_upper, cut}
+use Rattle.tree_model.specs.Pairs.{meets_lower, meets_upper}
 use Rattle.tree_model.proofs.Order.{greater_from_less, less_from_greater, alike, alike_after}
 use Rattle.tree_model.proofs.Lists.{all_map, find_after, find_before, find_kept, find_dropped, find_none}
 

@@ -1,10 +1,6 @@
 -- A pair that is put where one with an equal key was put takes its place.
-use Rattle.std.proofs.Common.{◌≡◌, Bool, true, false, if◌then◌else◌, List, Some, refl, sym, ◌∙◌}
-use Rattle.std.specs.declared.cmp.Ordering.{Ordering}
-use Rattle.std.specs.declared.cmp.Ordering.TheVariants.{Equal}
-use Rattle.std.specs.Cmp.{IsTotalOrder}
-use Rattle.std.specs.Ordering.{is_eq}
-use Rattle.tree_model.specs.Pairs.{IsAscending, pair_at, put}
+use Rattle.std.proofs.Common.{◌≡◌, Bool, true, false, if◌then◌else◌, List, Some, refl, sym, ◌∙◌, Ordering, Equal, is_eq}
+use Rattle.tree_model.proofs.Common.{IsTotalOrder, IsAscending, pair_at, put}
 use Rattle.tree_model.proofs.Ascending.{IsAscending-put}
 use Rattle.tree_model.proofs.LookUps.{pair_at-put, same_look_ups}
 

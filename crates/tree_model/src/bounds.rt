@@ -7,7 +7,8 @@ use std::ops::Bound;
 
 /// Returns whether a key is within both bounds. Reversed bounds contain no key. Makes at most two comparisons.
 pub fn range_contains<K: Ord>(bounds: (Bound<&K>, Bound<&K>), key: &K) -> bool
-    ensures { result ≡ within K.cmp (bound_map (λ k. k.now) bounds.entry.0) (bound_map (λ k. k.now) bounds.entry.1) key.now }
+    ensures { result ≡ within K.cmp (bound_map (λ k. k.now) bounds.entry.0)
+        (bound_map (λ k. k.now) bounds.entry.1) key.now }
 {
     is_above(bounds.0, key) && is_below(bounds.1, key)
 }

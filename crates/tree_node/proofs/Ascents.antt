@@ -1,14 +1,9 @@
 -- The walk of a part that stands ascends.
-use Rattle.std.proofs.Common.{ℕ, zero, suc, List, [], ◌∷◌, ◌++◌, map, Option, Some}
-use Rattle.std.specs.List.{flat_map, AllByRecursion}
-use Rattle.std.specs.declared.cmp.Ordering.{Ordering}
-use Rattle.std.specs.Cmp.{IsTotalOrder}
-use Rattle.std.proofs.lemmas.List.{append-nil}
-use Rattle.tree_model.specs.Pairs.{IsAscending}
+use Rattle.std.proofs.Common.{ℕ, zero, suc, List, [], ◌∷◌, ◌++◌, map, Option, Some, flat_map, Ordering, append-nil}
+use Rattle.tree_model.proofs.Common.{AllByRecursion, IsTotalOrder, IsAscending}
+use Rattle.tree_array.proofs.Common.{all_map}
+use Rattle.tree_node.proofs.Common.{TreeArenas, AreParted, IsAbove, IsUpTo, Stands, walk}
 use Rattle.tree_model.proofs.Ascending.{IsAscending-append}
-use Rattle.tree_model.proofs.Lists.{all_map}
-use Rattle.tree_node.specs.Arenas.{TreeArenas}
-use Rattle.tree_node.specs.Tree.{AreParted, IsAbove, IsUpTo, Stands, walk}
 use Rattle.tree_node.proofs.Children.{walk-leaf}
 use Rattle.tree_node.proofs.Order.{upto_less}
 use Rattle.tree_node.proofs.Walks.{parted_above, walk-children, walk_above, walk_up_to}

@@ -1,21 +1,11 @@
 -- A tree without leaves, and one with a single leaf.
-use Rattle.std.proofs.Common.{◌≡◌, ◌≢◌, ◌⊎◌, ℕ, zero, suc, ◌-◌, ◌≤◌, List, [], ◌∷◌, ◌++◌, map, Option, Some, None, IsSome, inl, inr, refl, sym, ap, ◌∙◌, arith}
-use Rattle.std.specs.List.{slice_index_or}
-use Rattle.std.specs.declared.cmp.Ordering.{Ordering}
-use Rattle.std.proofs.lemmas.Bool.{cases_eq}
-use Rattle.std.proofs.lemmas.List.Concat.{flat_map-append}
-use Rattle.slab.specs.Slab.{Slab, get}
-use Rattle.tree_array.specs.Arrivals.{in_order}
-use Rattle.tree_array.specs.Length.{IsLen}
-use Rattle.tree_leaf.specs.declared.leaf.LeafOf.{LeafOf}
+use Rattle.std.proofs.Common.{◌≡◌, ◌≢◌, ◌⊎◌, ℕ, zero, suc, ◌-◌, ◌≤◌, List, [], ◌∷◌, ◌++◌, map, Option, Some, None, IsSome, inl, inr, refl, sym, ap, ◌∙◌, arith, slice_index_or, Ordering}
+use Rattle.tree_model.proofs.Common.{cases_eq, flat_map-append}
+use Rattle.tree_array.proofs.Common.{in_order, IsLen}
+use Rattle.tree_node.proofs.Common.{Slab, get, LeafOf, times, uses, times-nil, times-cons, none_here, one_here, uses_none, uses_some, NodeOf, TreeArenas, AreParted, HasKind, IsRetiredNode, Stands, keyed, unbounded, leaves_at, nodes_at, leaves_of, IsRetiredRoot, IsTree, leaves_under}
 use Rattle.tree_leaf.specs.Arena.{IsEmpty}
-use Rattle.tree_leaf.specs.Counting.{times, uses}
-use Rattle.tree_leaf.proofs.Counts.{times-nil, times-cons, none_here, one_here, uses_none, uses_some}
-use Rattle.tree_node.specs.declared.node.NodeOf.{NodeOf}
-use Rattle.tree_node.specs.Arenas.{TreeArenas}
-use Rattle.tree_node.specs.Tree.{AreParted, HasKind, IsRetiredNode, Stands, keyed, unbounded, leaves_at, nodes_at, leaves_of}
 use Rattle.tree_node.proofs.LeafSpares.{spare_at_least, spare_within}
-use Rattle.tree_node.specs.Whole.{HasNoOther, HasOnly, IsRetiredRoot, IsTree, leaves_under}
+use Rattle.tree_node.specs.Whole.{HasNoOther, HasOnly}
 use Rattle.tree_node.proofs.Standing.{no_children}
 
 -- a number that isn't in use

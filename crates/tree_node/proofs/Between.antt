@@ -1,15 +1,8 @@
 -- A key between the pairs before it and the pairs behind it.
-use Rattle.std.proofs.Common.{◌≡◌, List, ◌++◌, ◌∙◌, ap, refl, append_assoc}
-use Rattle.std.specs.List.{AllByRecursion}
-use Rattle.std.specs.declared.cmp.Ordering.{Ordering}
-use Rattle.std.specs.declared.cmp.Ordering.TheVariants.{Less, Greater}
-use Rattle.std.specs.Ordering.{is_eq, is_gt, is_lt}
-use Rattle.std.specs.Cmp.{IsTotalOrder}
-use Rattle.std.proofs.lemmas.List.{append-nil}
-use Rattle.std.proofs.lemmas.List.Elements.{filter-append}
-use Rattle.tree_model.specs.Pairs.{AllLarger, above, below, pair_at, put, without}
-use Rattle.tree_model.proofs.Lists.{all_map, find_after, find_before, find_none, filter_all, filter_none}
-use Rattle.tree_model.proofs.Order.{greater_from_less}
+use Rattle.std.proofs.Common.{◌≡◌, List, ◌++◌, ◌∙◌, ap, refl, append_assoc, Ordering, Less, Greater, is_eq, is_gt, is_lt, append-nil}
+use Rattle.tree_model.proofs.Common.{AllByRecursion, IsTotalOrder, filter-append, AllLarger, above, below, pair_at, put, without}
+use Rattle.tree_array.proofs.Common.{all_map, filter_all, filter_none, greater_from_less}
+use Rattle.tree_model.proofs.Lists.{find_after, find_before, find_none}
 use Rattle.tree_model.proofs.LookUps.{none_larger}
 
 module _ {K V : Type 0} {cmp : K → K → Ordering} (o : IsTotalOrder cmp) (k : K) (front middle back : List (K × V))

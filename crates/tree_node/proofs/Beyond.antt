@@ -1,14 +1,8 @@
 -- A key is larger than each of ascending separators exactly where it is larger than the last.
-use Rattle.std.proofs.Common.{◌≡◌, Bool, true, false, List, [], ◌∷◌, ◌++◌, Option, None, Some, cond, refl, ap}
-use Rattle.std.specs.Cmp.{IsTotalOrder}
-use Rattle.std.specs.List.{AllByRecursion}
-use Rattle.std.specs.Ordering.{is_ge}
-use Rattle.std.specs.declared.cmp.Ordering.{Ordering}
-use Rattle.std.specs.declared.cmp.Ordering.TheVariants.{Less, Equal, Greater}
-use Rattle.tree_array.specs.Arrivals.{least_from}
-use Rattle.tree_model.specs.Pairs.{IsAscending, AllLarger}
+use Rattle.std.proofs.Common.{◌≡◌, Bool, true, false, List, [], ◌∷◌, ◌++◌, Option, None, Some, cond, refl, ap, is_ge, Ordering, Less, Equal, Greater}
+use Rattle.tree_model.proofs.Common.{IsTotalOrder, AllByRecursion, IsAscending, AllLarger}
+use Rattle.tree_array.proofs.Common.{least_from, greater_from_less, less_from_greater}
 use Rattle.tree_model.proofs.Lists.{find_none}
-use Rattle.tree_model.proofs.Order.{greater_from_less, less_from_greater}
 
 -- a search that finds none passes over each element
 passed_over : {X : Type 0} (passes : Bool) (x : X) (rest : Option X) → cond passes (Some x) rest ≡ None → (passes ≡ false) × (rest ≡ None)

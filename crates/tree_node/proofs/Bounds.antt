@@ -1,17 +1,12 @@
 -- How many pairs stand under a number at most.
-use Rattle.std.proofs.Common.{◌≡◌, ℕ, zero, suc, ◌+◌, ◌*◌, ◌^◌, ◌≤◌, List, [], ◌∷◌, ◌++◌, map, length, length-append, Option, None, refl, ap, arith, mul-suc}
+use Rattle.std.proofs.Common.{◌≡◌, ℕ, zero, suc, ◌+◌, ◌*◌, ◌^◌, ◌≤◌, List, [], ◌∷◌, ◌++◌, map, length, length-append, Option, None, refl, ap, arith, mul-suc, flat_map, Ordering}
+use Rattle.tree_model.proofs.Common.{AllByRecursion, flat_map-append}
+use Rattle.tree_array.proofs.Common.{all-append}
+use Rattle.tree_node.proofs.Common.{leaf_entries, TreeArenas, IsPart, Stands, keyed, leaves_at, nodes_at, children_of, walk}
 use Rattle.std.proofs.Math.Nat.{mul-le-mul_left, pow-suc, pow-zero}
-use Rattle.std.specs.List.{flat_map, AllByRecursion}
-use Rattle.std.specs.declared.cmp.Ordering.{Ordering}
 use Rattle.std.proofs.lemmas.List.{length-map}
-use Rattle.std.proofs.lemmas.List.Concat.{flat_map-append}
-use Rattle.tree_model.proofs.Lists.{all-append}
 use Rattle.slab.specs.Slab.{slab_len}
 use Rattle.tree_leaf.proofs.Pigeonhole.{once_fits}
-use Rattle.tree_leaf.specs.Entries.{leaf_entries}
-use Rattle.tree_node.specs.Arenas.{TreeArenas}
-use Rattle.tree_node.specs.Parts.{IsPart}
-use Rattle.tree_node.specs.Tree.{Stands, keyed, leaves_at, nodes_at, children_of, walk}
 use Rattle.tree_node.proofs.Bare.{parted_last}
 use Rattle.tree_node.proofs.ChildrenStand.{parted_all}
 

@@ -1,16 +1,8 @@
 -- The child that a key belongs to is changed and keeps its number: what that makes of the part under the node.
-use Rattle.std.proofs.Common.{◌≡◌, ℕ, suc, ◌≤◌, min, Bool, true, false, cond, List, [], ◌∷◌, ◌++◌, map, Option, Some, refl, ◌∙◌}
-use Rattle.std.specs.List.{flat_map, AllByRecursion}
-use Rattle.std.specs.declared.cmp.Ordering.{Ordering}
-use Rattle.std.specs.Cmp.{IsTotalOrder}
-use Rattle.std.proofs.lemmas.List.{append-nil}
-use Rattle.slab.specs.Slab.{get}
-use Rattle.tree_leaf.specs.Counting.{times, uses}
-use Rattle.tree_model.proofs.Lists.{all_map, all-append}
-use Rattle.tree_node.specs.Arenas.{TreeArenas}
-use Rattle.tree_node.specs.Parts.{IsPart, KeepsBounds, Replaces}
-use Rattle.tree_node.specs.Shape.{spare}
-use Rattle.tree_node.specs.Tree.{IsAbove, IsUpTo, AreParted, keyed, child_at, front_at, back_at, is_from, HasChildFor, Stands, walk, leaves_at, children_of}
+use Rattle.std.proofs.Common.{◌≡◌, ℕ, suc, ◌≤◌, min, Bool, true, false, cond, List, [], ◌∷◌, ◌++◌, map, Option, Some, refl, ◌∙◌, flat_map, Ordering, append-nil}
+use Rattle.tree_model.proofs.Common.{AllByRecursion, IsTotalOrder}
+use Rattle.tree_array.proofs.Common.{all_map, all-append}
+use Rattle.tree_node.proofs.Common.{get, times, uses, TreeArenas, IsPart, KeepsBounds, Replaces, spare, IsAbove, IsUpTo, AreParted, keyed, child_at, front_at, back_at, is_from, HasChildFor, Stands, walk, leaves_at, children_of}
 use Rattle.tree_node.proofs.Children.{child_stands}
 use Rattle.tree_node.proofs.Frames.{parted_map, Agrees, same_stands}
 use Rattle.tree_node.proofs.Lifts.{child_is_part, node_stays, leaves_once_in, front_agrees, back_agrees, lifted, walk_now, walk_was}

@@ -1,13 +1,7 @@
 -- The child that a key belongs to, of a node that stands or is retired.
-use Rattle.std.proofs.Common.{◌≡◌, ℕ, zero, suc, Bool, true, false, cond, List, [], ◌∷◌, Option, Some, None, IsSome, inl, inr, refl}
-use Rattle.std.specs.declared.cmp.Ordering.{Ordering}
-use Rattle.std.specs.Cmp.{IsTotalOrder}
-use Rattle.std.proofs.lemmas.List.{append-nil}
-use Rattle.slab.specs.Slab.{get}
-use Rattle.tree_leaf.specs.declared.leaf.LeafOf.{LeafOf}
-use Rattle.tree_node.specs.declared.node.NodeOf.{NodeOf}
-use Rattle.tree_node.specs.Arenas.{TreeArenas}
-use Rattle.tree_node.specs.Tree.{AreParted, child_at, is_from, HasChildFor, Stands, IsRetiredNode, StandsOrRetired, walk}
+use Rattle.std.proofs.Common.{◌≡◌, ℕ, zero, suc, Bool, true, false, cond, List, [], ◌∷◌, Option, Some, None, IsSome, inl, inr, refl, Ordering, append-nil}
+use Rattle.tree_model.proofs.Common.{IsTotalOrder}
+use Rattle.tree_node.proofs.Common.{get, LeafOf, NodeOf, TreeArenas, AreParted, child_at, is_from, HasChildFor, Stands, IsRetiredNode, StandsOrRetired, walk}
 use Rattle.tree_node.proofs.Lists.{all_yes}
 use Rattle.tree_node.proofs.Walks.{child_is}
 use Rattle.tree_node.proofs.Standing.{no_children}

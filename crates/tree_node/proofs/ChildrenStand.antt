@@ -1,15 +1,8 @@
 -- All children of a node stand, one level below it.
-use Rattle.std.proofs.Common.{◌≡◌, ℕ, zero, suc, ◌-◌, ◌<◌, List, [], ◌∷◌, ◌++◌, map, Option, Some, None, IsSome, inl, inr, refl, sym, subst, ◌∙◌, arith, sub-one}
-use Rattle.std.specs.List.{AllByRecursion}
-use Rattle.std.specs.declared.cmp.Ordering.{Ordering}
-use Rattle.slab.specs.Slab.{get}
-use Rattle.tree_model.proofs.Lists.{all_map}
-use Rattle.tree_node.specs.declared.internal_node.InternalNodeOf.{InternalNodeOf}
-use Rattle.tree_node.specs.declared.leaf_node.LeafNodeOf.{LeafNodeOf}
-use Rattle.tree_node.specs.declared.node.NodeOf.{NodeOf}
-use Rattle.tree_node.specs.declared.node.NodeOf.TheVariants.{Internal, Leaf}
-use Rattle.tree_node.specs.Arenas.{TreeArenas}
-use Rattle.tree_node.specs.Tree.{AreParted, in_turn, keyed, unbounded, IsRetiredNode, Stands, StandsOrRetired, leaves_at, leaves_of}
+use Rattle.std.proofs.Common.{◌≡◌, ℕ, zero, suc, ◌-◌, ◌<◌, List, [], ◌∷◌, ◌++◌, map, Option, Some, None, IsSome, inl, inr, refl, sym, subst, ◌∙◌, arith, sub-one, Ordering}
+use Rattle.tree_model.proofs.Common.{AllByRecursion}
+use Rattle.tree_array.proofs.Common.{all_map}
+use Rattle.tree_node.proofs.Common.{get, BranchOf, NodeOf, Internal, Leaf, TreeArenas, AreParted, in_turn, keyed, unbounded, IsRetiredNode, Stands, StandsOrRetired, leaves_at, leaves_of}
 use Rattle.tree_node.proofs.Children.{leaf_there, stands_free_high, stands_free_low}
 use Rattle.tree_node.proofs.Levels.{kind_of}
 
@@ -59,7 +52,7 @@ module _ {K V : Type 0} {LEN : ℕ} (cmp : K → K → Ordering) (a : TreeArenas
     pub leaves : leaves_at level a.nodes id ≡ leaves_of 0 a.nodes (in_turn pairs (Some last))
     pub there : AllByRecursion (λ child. IsSome (get a.leaves child)) (in_turn pairs (Some last))
 
-  pub over_leaves : (level : ℕ) → 0 < level → StandsOrRetired cmp level a id → (node : LeafNodeOf K LEN) → get a.nodes id ≡ Some (Leaf node) → (last : ℕ) → node.unbounded_child ≡ Some last
+  pub over_leaves : (level : ℕ) → 0 < level → StandsOrRetired cmp level a id → (node : BranchOf K ℕ LEN) → get a.nodes id ≡ Some (Leaf node) → (last : ℕ) → node.unbounded_child ≡ Some last
       → OverLeaves level node.children.entries last
   over_leaves zero inner given node here last last_is = absurd (omega (arith, inner))
   over_leaves (suc zero) inner given node here last last_is = record {
@@ -75,7 +68,7 @@ module _ {K V : Type 0} {LEN : ℕ} (cmp : K → K → Ordering) (a : TreeArenas
     pub leaves : leaves_at level a.nodes id ≡ leaves_of (level - 1) a.nodes (in_turn pairs (Some last))
     pub stand : AllByRecursion (λ child. StandsOrRetired cmp (level - 1) a child) (in_turn pairs (Some last))
 
-  pub over_nodes : (level : ℕ) → 0 < level → StandsOrRetired cmp level a id → (node : InternalNodeOf K LEN) → get a.nodes id ≡ Some (Internal node) → (last : ℕ) → node.unbounded_child ≡ Some last
+  pub over_nodes : (level : ℕ) → 0 < level → StandsOrRetired cmp level a id → (node : BranchOf K ℕ LEN) → get a.nodes id ≡ Some (Internal node) → (last : ℕ) → node.unbounded_child ≡ Some last
       → OverNodes level node.children.entries last
   over_nodes zero inner given node here last last_is = absurd (omega (arith, inner))
   over_nodes (suc zero) inner given node here last last_is = absurd (kind_of cmp a id 0 (Internal node) (stands_there 0 (Internal node) here given last last_is) here)

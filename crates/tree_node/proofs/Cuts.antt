@@ -1,12 +1,9 @@
 -- A list cut at a place.
-use Rattle.std.proofs.Common.{◌≡◌, ℕ, ◌+◌, List, [], ◌∷◌, ◌++◌, take, drop, slice_get, Some, add-one, sym, ap, ◌∙◌}
-use Rattle.std.specs.List.{AllByRecursion}
-use Rattle.std.specs.declared.cmp.Ordering.{Ordering}
-use Rattle.std.specs.declared.cmp.Ordering.TheVariants.{Less}
-use Rattle.std.proofs.lemmas.List.{drop_more, take-append-drop}
+use Rattle.std.proofs.Common.{◌≡◌, ℕ, ◌+◌, List, [], ◌∷◌, ◌++◌, take, drop, slice_get, Some, add-one, sym, ap, ◌∙◌, Ordering, Less, take-append-drop}
+use Rattle.tree_model.proofs.Common.{AllByRecursion, IsAscending}
+use Rattle.std.proofs.lemmas.List.{drop_more}
 use Rattle.std.proofs.lemmas.Option.{get_or_from_slice_get, slice_get_within}
 use Rattle.tree_array.proofs.Dealt.{one_more}
-use Rattle.tree_model.specs.Pairs.{IsAscending}
 
 module _ {X : Type 0} where
   -- what holds of all holds of those before the cut, and of those behind it

@@ -1,16 +1,10 @@
 -- The way down from a node by the unbounded children: its nodes are different ones, one at each level.
-use Rattle.std.proofs.Common.{◌≡◌, ℕ, zero, suc, ◌+◌, ◌-◌, ◌<◌, ◌≤◌, List, [], ◌∷◌, length, Option, Some, None, IsSome, unwrap_or, ◌⊎◌, inl, inr, refl, sym, ap, subst, ◌∙◌, arith, sub-one}
-use Rattle.std.specs.declared.cmp.Ordering.{Ordering}
-use Rattle.std.proofs.lemmas.Bool.{cases_eq}
-use Rattle.slab.specs.Slab.{Slab, get, slab_len}
-use Rattle.tree_leaf.specs.Counting.{times, uses}
-use Rattle.tree_leaf.proofs.Counts.{times-nil, times-cons, one_here, none_here, uses_some}
+use Rattle.std.proofs.Common.{◌≡◌, ℕ, zero, suc, ◌+◌, ◌-◌, ◌<◌, ◌≤◌, List, [], ◌∷◌, length, Option, Some, None, IsSome, unwrap_or, ◌⊎◌, inl, inr, refl, sym, ap, subst, ◌∙◌, arith, sub-one, Ordering}
+use Rattle.tree_model.proofs.Common.{cases_eq}
+use Rattle.tree_node.proofs.Common.{Slab, get, times, uses, times-nil, times-cons, one_here, none_here, uses_some, NodeOf, Internal, Leaf, TreeArenas, HasKind, IsRetired, IsRetiredNode, Stands, StandsOrRetired, unbounded}
+use Rattle.slab.specs.Slab.{slab_len}
 use Rattle.tree_leaf.proofs.Pigeonhole.{once_fits}
-use Rattle.tree_node.specs.declared.node.NodeOf.{NodeOf}
-use Rattle.tree_node.specs.declared.node.NodeOf.TheVariants.{Internal, Leaf}
-use Rattle.tree_node.specs.Arenas.{TreeArenas}
 use Rattle.tree_node.specs.Depth.{last_node}
-use Rattle.tree_node.specs.Tree.{HasKind, IsRetired, IsRetiredNode, Stands, StandsOrRetired, unbounded}
 use Rattle.tree_node.proofs.ChildrenStand.{children_stand}
 use Rattle.tree_node.proofs.Levels.{kind_of}
 use Rattle.tree_node.proofs.Lists.{all_middle}

@@ -1,16 +1,11 @@
 -- What stays of a part where what it reaches stays.
-use Rattle.std.proofs.Common.{◌≡◌, ℕ, zero, suc, ◌≤◌, List, [], ◌∷◌, ◌++◌, map, Option, Some, None, refl, ap, ◌∙◌, arith}
-use Rattle.std.specs.List.{flat_map, AllByRecursion}
-use Rattle.std.specs.declared.cmp.Ordering.{Ordering}
-use Rattle.slab.specs.Slab.{get}
-use Rattle.tree_leaf.specs.declared.leaf.LeafOf.{LeafOf}
+use Rattle.std.proofs.Common.{◌≡◌, ℕ, zero, suc, ◌≤◌, List, [], ◌∷◌, ◌++◌, map, Option, Some, None, refl, ap, ◌∙◌, arith, flat_map, Ordering}
+use Rattle.tree_model.proofs.Common.{AllByRecursion}
+use Rattle.tree_array.proofs.Common.{all_map}
+use Rattle.tree_node.proofs.Common.{get, LeafOf, times, times-append, times-cons, one_here, TreeArenas, AreParted, Stands, walk, leaves_at, nodes_at, nodes_of, children_of}
 use Rattle.tree_leaf.specs.Chain.{SameArray}
-use Rattle.tree_leaf.specs.Counting.{times}
-use Rattle.tree_leaf.proofs.Counts.{times-append, times-cons, one_here}
 use Rattle.tree_leaf.specs.Entries.{found_entries}
-use Rattle.tree_model.proofs.Lists.{all_map}
-use Rattle.tree_node.specs.Arenas.{TreeArenas}
-use Rattle.tree_node.specs.Tree.{AreParted, LeafStands, Stands, walk, leaves_at, nodes_at, nodes_of, children_of}
+use Rattle.tree_node.specs.Tree.{LeafStands}
 use Rattle.tree_node.proofs.Lists.{flat_map_same}
 
 -- a number that heads a list is in it

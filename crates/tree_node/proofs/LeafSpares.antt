@@ -1,14 +1,10 @@
 -- How many writes are sure to go into a leaf, by how many entries and free slots its array has.
-use Rattle.std.proofs.Common.{◌≡◌, ◌⊎◌, ℕ, suc, ◌+◌, ◌-◌, ◌<◌, ◌≤◌, Bool, true, false, cond, leb, List, length, min, Option, Some, None, arith, inl, inr, refl}
-use Rattle.std.proofs.lemmas.Bool.{leb-true, leb-false}
+use Rattle.std.proofs.Common.{◌≡◌, ◌⊎◌, ℕ, suc, ◌+◌, ◌-◌, ◌<◌, ◌≤◌, Bool, true, false, cond, leb, List, length, min, Option, Some, None, arith, inl, inr, refl, leb-true, leb-false}
+use Rattle.tree_array.proofs.Common.{limit, free, in_order}
+use Rattle.tree_node.proofs.Common.{get, LeafOf, TreeArenas, held, room, found_free, spare}
 use Rattle.std.proofs.lemmas.List.{length-map}
-use Rattle.slab.specs.Slab.{get}
-use Rattle.tree_array.specs.Length.{limit}
-use Rattle.tree_array.specs.Arrivals.{free, in_order}
-use Rattle.tree_leaf.specs.declared.leaf.LeafOf.{LeafOf}
 use Rattle.tree_leaf.specs.Entries.{found_entries}
-use Rattle.tree_node.specs.Arenas.{TreeArenas}
-use Rattle.tree_node.specs.Shape.{held, room, found_free, found_spare, spare, spare_for}
+use Rattle.tree_node.specs.Shape.{found_spare, spare_for}
 
 -- the free slots of a leaf hold no entry
 pub free_beside : {K V : Type 0} {LEN : ℕ} (leaf : LeafOf K V LEN) → length leaf.array.entries ≤ length leaf.array.arrivals → length leaf.array.arrivals ≤ LEN

@@ -1,16 +1,11 @@
 -- A leaf whose array is written and whose links stay.
 use Rattle.std.proofs.Common.{◌≡◌, ℕ, List, [], ◌∷◌, Option, Some, None, is_some, refl, ap, ◌∙◌, arith, inl, inr}
-use Rattle.std.proofs.lemmas.Bool.{cases_eq}
-use Rattle.slab.specs.Slab.{get, with_value, Updates}
+use Rattle.tree_model.proofs.Common.{cases_eq}
+use Rattle.tree_array.proofs.Common.{Arrivals}
+use Rattle.tree_node.proofs.Common.{get, with_value, LeafOf, uses, same_array_refl, times-cons, one_here, uses_same, TreeArenas, Replaces}
+use Rattle.slab.specs.Slab.{Updates}
 use Rattle.slab.proofs.SlabLemmas.{Updates-with_value}
-use Rattle.tree_array.specs.Arrivals.{Arrivals}
-use Rattle.tree_leaf.specs.declared.leaf.LeafOf.{LeafOf}
 use Rattle.tree_leaf.specs.Chain.{IsBetween, AreLinked, first_or}
-use Rattle.tree_leaf.specs.Counting.{uses}
-use Rattle.tree_leaf.proofs.Chains.{same_array_refl}
-use Rattle.tree_leaf.proofs.Counts.{times-cons, one_here, uses_same}
-use Rattle.tree_node.specs.Arenas.{TreeArenas}
-use Rattle.tree_node.specs.Parts.{Replaces}
 
 -- the arenas with another array in the leaf
 abbrev pub with_array : {K V : Type 0} {LEN : ℕ} → TreeArenas K V LEN → ℕ → LeafOf K V LEN → Arrivals K V → TreeArenas K V LEN

@@ -1,16 +1,7 @@
 -- What the kind of a node says of its level, and where a key is found under a node of either kind.
-use Rattle.std.proofs.Common.{◌≡◌, ℕ, zero, suc, ◌-◌, ◌<◌, [], Option, Some, None, IsSome, inl, inr, refl, sym, ◌∙◌, arith, sub-one}
-use Rattle.std.specs.declared.cmp.Ordering.{Ordering}
-use Rattle.std.specs.Cmp.{IsTotalOrder}
-use Rattle.slab.specs.Slab.{get}
-use Rattle.tree_leaf.specs.declared.leaf.LeafOf.{LeafOf}
-use Rattle.tree_model.specs.Pairs.{pair_at}
-use Rattle.tree_node.specs.declared.internal_node.InternalNodeOf.{InternalNodeOf}
-use Rattle.tree_node.specs.declared.leaf_node.LeafNodeOf.{LeafNodeOf}
-use Rattle.tree_node.specs.declared.node.NodeOf.{NodeOf}
-use Rattle.tree_node.specs.declared.node.NodeOf.TheVariants.{Internal, Leaf}
-use Rattle.tree_node.specs.Arenas.{TreeArenas}
-use Rattle.tree_node.specs.Tree.{keyed, unbounded, child_of, HasChildFor, HasKind, IsRetired, IsRetiredNode, Stands, StandsOrRetired, walk}
+use Rattle.std.proofs.Common.{◌≡◌, ℕ, zero, suc, ◌-◌, ◌<◌, [], Option, Some, None, IsSome, inl, inr, refl, sym, ◌∙◌, arith, sub-one, Ordering}
+use Rattle.tree_model.proofs.Common.{IsTotalOrder, pair_at}
+use Rattle.tree_node.proofs.Common.{get, LeafOf, BranchOf, NodeOf, Internal, Leaf, TreeArenas, keyed, unbounded, child_of, HasChildFor, HasKind, IsRetired, IsRetiredNode, Stands, StandsOrRetired, walk}
 use Rattle.tree_node.proofs.Children.{node_there, stands_over, child_stands, leaf_there, walk-leaf}
 use Rattle.tree_node.proofs.Walks.{found_in_child}
 use Rattle.tree_node.proofs.Standing.{node_is}
@@ -59,7 +50,7 @@ module _ {K V : Type 0} {LEN : ℕ} {cmp : K → K → Ordering} (o : IsTotalOrd
   routes : (node : NodeOf K LEN) → get a.nodes id ≡ Some node → child_of cmp k (keyed node).entries (unbounded node) ≡ Some child → HasChildFor cmp k (get a.nodes id) child
   routes node here chosen = rw here chosen
 
-  pub found_in_leaf : (level : ℕ) → 0 < level → StandsOrRetired cmp level a id → (node : LeafNodeOf K LEN) → get a.nodes id ≡ Some (Leaf node)
+  pub found_in_leaf : (level : ℕ) → 0 < level → StandsOrRetired cmp level a id → (node : BranchOf K ℕ LEN) → get a.nodes id ≡ Some (Leaf node)
       → child_of cmp k node.children.entries node.unbounded_child ≡ Some child → FoundInLeaf level
   found_in_leaf zero inner given node here chosen = absurd (omega (arith, inner))
   found_in_leaf (suc zero) inner given node here chosen =
@@ -67,7 +58,7 @@ module _ {K V : Type 0} {LEN : ℕ} {cmp : K → K → Ordering} (o : IsTotalOrd
   found_in_leaf (suc (suc level)) inner given node here chosen =
       absurd (kind_of cmp a id (suc level) (Leaf node) (stands_over (suc level) a id given k child (routes (Leaf node) here chosen)) here)
 
-  pub found_below : (level : ℕ) → 0 < level → StandsOrRetired cmp level a id → (node : InternalNodeOf K LEN) → get a.nodes id ≡ Some (Internal node)
+  pub found_below : (level : ℕ) → 0 < level → StandsOrRetired cmp level a id → (node : BranchOf K ℕ LEN) → get a.nodes id ≡ Some (Internal node)
       → child_of cmp k node.children.entries node.unbounded_child ≡ Some child → FoundBelow level
   found_below zero inner given node here chosen = absurd (omega (arith, inner))
   found_below (suc zero) inner given node here chosen =

@@ -7,6 +7,7 @@ pub mod Bounds
 pub mod ChildChanges
 pub mod Children
 pub mod ChildrenStand
+pub mod Common
 pub mod Cuts
 pub mod Depths
 pub mod Frames
@@ -19,6 +20,7 @@ pub mod NodeKinds
 pub mod Order
 pub mod Places
 pub mod Routes
+pub mod SameKinds
 pub mod Sizes
 pub mod Spares
 pub mod Standing

@@ -1,20 +1,10 @@
 -- A change of some children of a node is a change of the part under the node.
-use Rattle.std.proofs.Common.{◌≡◌, ℕ, suc, ◌+◌, ◌≤◌, ◌==◌, cond, List, [], ◌∷◌, ◌++◌, None, is_some, IsSome, refl, ap, ◌∙◌, arith, append_assoc, inl, inr}
-use Rattle.std.specs.List.{flat_map, AllByRecursion}
-use Rattle.std.specs.declared.cmp.Ordering.{Ordering}
-use Rattle.std.proofs.lemmas.Bool.{cases_eq}
-use Rattle.std.proofs.lemmas.List.{append-nil}
-use Rattle.std.proofs.lemmas.List.Concat.{flat_map-append}
-use Rattle.slab.specs.Slab.{Slab, get}
-use Rattle.tree_leaf.specs.Chain.{IsChain, SameArray}
-use Rattle.tree_leaf.specs.Counting.{times, uses}
-use Rattle.tree_leaf.proofs.Chains.{same_array_refl}
-use Rattle.tree_leaf.proofs.Counts.{times-append, times-cons, one_here, uses_le_one, in_use, uses_some, uses_same}
-use Rattle.tree_model.proofs.Lists.{all_map}
-use Rattle.tree_node.specs.declared.node.NodeOf.{NodeOf}
-use Rattle.tree_node.specs.Arenas.{TreeArenas}
-use Rattle.tree_node.specs.Parts.{IsPart, Replaces}
-use Rattle.tree_node.specs.Tree.{Stands, leaves_at, nodes_at, leaves_of, nodes_of, children_of, walk}
+use Rattle.std.proofs.Common.{◌≡◌, ℕ, suc, ◌+◌, ◌≤◌, ◌==◌, cond, List, [], ◌∷◌, ◌++◌, None, is_some, IsSome, refl, ap, ◌∙◌, arith, append_assoc, inl, inr, flat_map, Ordering, append-nil}
+use Rattle.tree_model.proofs.Common.{AllByRecursion, cases_eq, flat_map-append}
+use Rattle.tree_array.proofs.Common.{all_map}
+use Rattle.tree_node.proofs.Common.{Slab, get, IsChain, times, uses, same_array_refl, times-append, times-cons, one_here, uses_le_one, uses_some, uses_same, NodeOf, TreeArenas, IsPart, Replaces, Stands, leaves_at, nodes_at, leaves_of, nodes_of, children_of, walk}
+use Rattle.tree_leaf.specs.Chain.{SameArray}
+use Rattle.tree_leaf.proofs.Counts.{in_use}
 use Rattle.tree_node.proofs.Beside.{apart_from_fewer}
 use Rattle.tree_node.proofs.Frames.{each_part, all_both, Agrees, same_leaves, same_nodes, same_walk}
 use Rattle.tree_node.proofs.Lists.{flat_map_same}

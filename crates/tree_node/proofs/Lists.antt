@@ -1,7 +1,7 @@
 -- Lists of lists.
-use Rattle.std.proofs.Common.{◌≡◌, List, [], ◌∷◌, ◌++◌, refl}
-use Rattle.std.specs.List.{flat_map, AllByRecursion}
-use Rattle.std.proofs.lemmas.List.Concat.{flat_map-append}
+use Rattle.std.proofs.Common.{◌≡◌, ℕ, ◌<◌, ◌≤◌, List, [], ◌∷◌, ◌++◌, Option, Some, length, slice_get, inl, inr, refl, ◌∙◌, flat_map, arith}
+use Rattle.std.proofs.lemmas.Option.{slice_get_cases}
+use Rattle.tree_model.proofs.Common.{AllByRecursion, flat_map-append}
 
 module _ {X : Type 0} where
   pub all_yes : {P : X → Type 0} → ((x : X) → P x) → (xs : List X) → AllByRecursion P xs
@@ -20,3 +20,10 @@ module _ {X : Type 0} where
   pub all_middle : (P : X → Type 0) (front : List X) (x : X) (back : List X) → AllByRecursion P (front ++ x ∷ back) → P x
   all_middle P [] x back each = each.0
   all_middle P (y ∷ front) x back each = all_middle P front x back each.1
+
+  -- something is found before the end of a list
+  pub found_within : (xs : List X) (found : Option X) (n place : ℕ) → found ≡ slice_get xs n → ((x : X) → found ≡ Some x → ⊥) → place < length xs → n ≤ place → ⊥
+  found_within xs found n place is none within early = elim (slice_get_cases xs n).1 [
+    | inl there ↦ none there.0 (is ∙ there.2)
+    | inr past ↦ omega (arith, past.0, within, early)
+  ]

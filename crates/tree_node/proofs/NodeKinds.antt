@@ -1,17 +1,7 @@
 -- What the kind of a node says of its level, and what stands at a level that a program counts.
-use Rattle.std.proofs.Common.{◌≡◌, ◌⊎◌, ℕ, zero, suc, ◌<◌, ◌∷◌, None, Some, IsSome, refl, ap, arith, inl, inr}
-use Rattle.std.specs.declared.cmp.Ordering.{Ordering}
-use Rattle.std.specs.Cmp.{IsTotalOrder}
-use Rattle.slab.specs.Slab.{get}
-use Rattle.tree_leaf.specs.Counting.{times}
-use Rattle.tree_leaf.proofs.Counts.{times-append}
-use Rattle.tree_node.specs.declared.internal_node.InternalNodeOf.{InternalNodeOf}
-use Rattle.tree_node.specs.declared.leaf_node.LeafNodeOf.{LeafNodeOf}
-use Rattle.tree_node.specs.declared.node.NodeOf.{NodeOf}
-use Rattle.tree_node.specs.declared.node.NodeOf.TheVariants.{Internal, Leaf}
-use Rattle.tree_node.specs.Arenas.{TreeArenas}
-use Rattle.tree_node.specs.Parts.{IsPart}
-use Rattle.tree_node.specs.Tree.{HasChildFor, IsRetired, IsRetiredNode, Stands, child_at, children_of, is_from, keyed}
+use Rattle.std.proofs.Common.{◌≡◌, ◌⊎◌, ℕ, zero, suc, ◌<◌, ◌∷◌, None, Some, IsSome, refl, ap, arith, inl, inr, Ordering}
+use Rattle.tree_model.proofs.Common.{IsTotalOrder}
+use Rattle.tree_node.proofs.Common.{get, times, times-append, BranchOf, NodeOf, Internal, Leaf, TreeArenas, IsPart, HasChildFor, IsRetired, IsRetiredNode, Stands, child_at, children_of, is_from, keyed}
 use Rattle.tree_node.proofs.ChildChanges.{front, back, was}
 use Rattle.tree_node.proofs.Children.{node_there}
 use Rattle.tree_node.proofs.Frames.{head_here}
@@ -20,13 +10,13 @@ use Rattle.tree_node.proofs.Standing.{node_is}
 
 module _ {K V : Type 0} {LEN : ℕ} {cmp : K → K → Ordering} where
   -- a node over nodes is above the first level
-  pub inner_level : (level : ℕ) → 0 < level → (a : TreeArenas K V LEN) (id : ℕ) → IsPart cmp level a id → (node : InternalNodeOf K LEN) → get a.nodes id ≡ Some (Internal node) → 1 < level
+  pub inner_level : (level : ℕ) → 0 < level → (a : TreeArenas K V LEN) (id : ℕ) → IsPart cmp level a id → (node : BranchOf K ℕ LEN) → get a.nodes id ≡ Some (Internal node) → 1 < level
   inner_level zero deep a id part node here = absurd (omega (arith, deep))
   inner_level (suc zero) deep a id part node here = absurd (kind_of cmp a id 0 (Internal node) part.stands here)
   inner_level (suc (suc level)) deep a id part node here = omega arith
 
   -- and one over leaves is at it
-  pub outer_level : (level : ℕ) → 0 < level → (a : TreeArenas K V LEN) (id : ℕ) → IsPart cmp level a id → (node : LeafNodeOf K LEN) → get a.nodes id ≡ Some (Leaf node) → level ≡ 1
+  pub outer_level : (level : ℕ) → 0 < level → (a : TreeArenas K V LEN) (id : ℕ) → IsPart cmp level a id → (node : BranchOf K ℕ LEN) → get a.nodes id ≡ Some (Leaf node) → level ≡ 1
   outer_level zero deep a id part node here = absurd (omega (arith, deep))
   outer_level (suc zero) deep a id part node here = refl
   outer_level (suc (suc level)) deep a id part node here = absurd (kind_of cmp a id (suc level) (Leaf node) part.stands here)

@@ -1,10 +1,8 @@
 -- What a total order says of keys up to one another.
-use Rattle.std.proofs.Common.{◌≡◌, true, false, ◌⊎◌, inl, inr, refl}
-use Rattle.std.specs.declared.cmp.Ordering.{Ordering}
-use Rattle.std.specs.declared.cmp.Ordering.TheVariants.{Less, Equal, Greater}
-use Rattle.std.specs.Ordering.{is_le, is_ge, ordering_reverse}
-use Rattle.std.specs.Cmp.{IsTotalOrder}
-use Rattle.tree_model.proofs.Order.{alike, alike_after}
+use Rattle.std.proofs.Common.{◌≡◌, true, false, ◌⊎◌, inl, inr, refl, Ordering, Less, Equal, Greater, is_le, is_ge}
+use Rattle.tree_model.proofs.Common.{IsTotalOrder}
+use Rattle.tree_array.proofs.Common.{alike, alike_after}
+use Rattle.std.specs.Ordering.{ordering_reverse}
 
 le_cases : (c : Ordering) → is_le c ≡ true → (c ≡ Less) ⊎ (c ≡ Equal)
 le_cases Less h = inl refl

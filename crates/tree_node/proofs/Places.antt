@@ -1,17 +1,8 @@
 -- A place among the children of a node: the child there is the first keyed one from there on, else the unbounded one.
-use Rattle.std.proofs.Common.{◌≡◌, ℕ, ◌<◌, Bool, true, false, cond, List, [], ◌∷◌, ◌++◌, map, Option, Some, refl, sym, ap, arith, append_assoc, inl, inr}
-use Rattle.std.specs.List.{AllByRecursion}
-use Rattle.std.specs.declared.cmp.Ordering.{Ordering}
-use Rattle.std.specs.declared.cmp.Ordering.TheVariants.{Less}
-use Rattle.std.specs.Ordering.{is_le}
-use Rattle.std.specs.Cmp.{IsTotalOrder}
-use Rattle.std.proofs.lemmas.Bool.{cases_eq}
-use Rattle.std.proofs.lemmas.List.{map-append}
-use Rattle.tree_leaf.specs.Counting.{times}
-use Rattle.tree_leaf.proofs.Counts.{times-cons, times-nil, none_here}
-use Rattle.tree_model.specs.Pairs.{AllLarger, IsAbsent, put}
-use Rattle.tree_model.proofs.Lists.{all_map}
-use Rattle.tree_node.specs.Tree.{AreParted, IsAbove, IsBelow, IsUpTo, child_at, is_from}
+use Rattle.std.proofs.Common.{◌≡◌, ℕ, ◌<◌, Bool, true, false, cond, List, [], ◌∷◌, ◌++◌, map, Option, Some, refl, sym, ap, arith, append_assoc, inl, inr, Ordering, Less, is_le}
+use Rattle.tree_model.proofs.Common.{AllByRecursion, IsTotalOrder, cases_eq, map-append, AllLarger, IsAbsent, put}
+use Rattle.tree_array.proofs.Common.{all_map}
+use Rattle.tree_node.proofs.Common.{times, times-cons, times-nil, none_here, AreParted, IsAbove, IsBelow, IsUpTo, child_at, is_from}
 use Rattle.tree_node.proofs.Between.{found_between, put_between}
 use Rattle.tree_node.proofs.Frames.{parted_map}
 use Rattle.tree_node.proofs.Order.{less_from_test, upto_from_test}

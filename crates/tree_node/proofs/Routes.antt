@@ -1,9 +1,8 @@
 -- The child that a key belongs to is that of the least separator from the key on.
-use Rattle.std.proofs.Common.{◌≡◌, ℕ, Bool, true, false, cond, List, [], ◌∷◌, Option, Some, None, MatchOption, refl, sym, ap, ◌∙◌}
-use Rattle.std.specs.declared.cmp.Ordering.{Ordering}
-use Rattle.tree_array.specs.Arrivals.{Arrivals, arrival, least_from}
+use Rattle.std.proofs.Common.{◌≡◌, ℕ, Bool, true, false, cond, List, [], ◌∷◌, Option, Some, None, MatchOption, refl, sym, ap, ◌∙◌, Ordering}
+use Rattle.tree_array.proofs.Common.{Arrivals, arrival, least_from}
+use Rattle.tree_node.proofs.Common.{child_at, child_of, is_from}
 use Rattle.tree_node.specs.Routing.{IsSlotFor}
-use Rattle.tree_node.specs.Tree.{child_at, child_of, is_from}
 
 module _ {K X : Type 0} (cmp : K → K → Ordering) (k : K) where
   at_separator : (pairs : List (K × X)) (last : X) (pair : K × X) → least_from cmp pairs k ≡ Some pair → child_at (is_from cmp k) pairs last ≡ pair.1

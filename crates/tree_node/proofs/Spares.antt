@@ -1,12 +1,9 @@
 -- The least room of the leaves of a part, and of several.
 use Rattle.std.proofs.Common.{◌≡◌, ℕ, suc, ◌≤◌, min, List, [], ◌∷◌, ◌++◌, Option, Some, None, refl, arith}
-use Rattle.std.specs.List.{AllByRecursion}
-use Rattle.std.proofs.lemmas.List.Concat.{flat_map-append}
-use Rattle.tree_leaf.specs.declared.leaf.LeafOf.{LeafOf}
+use Rattle.tree_model.proofs.Common.{AllByRecursion, flat_map-append}
+use Rattle.tree_node.proofs.Common.{LeafOf, TreeArenas, spare, leaves_at, leaves_of, children_of}
 use Rattle.tree_leaf.specs.Chain.{SameArray}
-use Rattle.tree_node.specs.Arenas.{TreeArenas}
-use Rattle.tree_node.specs.Shape.{found_spare, leaf_spare, least, spare}
-use Rattle.tree_node.specs.Tree.{leaves_at, leaves_of, children_of}
+use Rattle.tree_node.specs.Shape.{found_spare, leaf_spare, least}
 use Rattle.tree_node.proofs.Frames.{each_of, Agrees, same_leaves}
 use Rattle.tree_node.proofs.Lifts.{single_leaves}
 

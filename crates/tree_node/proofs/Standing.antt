@@ -1,10 +1,6 @@
 -- What stands under a number.
-use Rattle.std.proofs.Common.{◌≡◌, ℕ, suc, [], Option, None, Some, IsSome, refl, sym, ◌∙◌}
-use Rattle.std.specs.declared.cmp.Ordering.{Ordering}
-use Rattle.slab.specs.Slab.{get}
-use Rattle.tree_node.specs.declared.node.NodeOf.{NodeOf}
-use Rattle.tree_node.specs.Arenas.{TreeArenas}
-use Rattle.tree_node.specs.Tree.{IsRetiredNode, Stands, node_children}
+use Rattle.std.proofs.Common.{◌≡◌, ℕ, suc, [], Option, None, Some, IsSome, refl, sym, ◌∙◌, Ordering}
+use Rattle.tree_node.proofs.Common.{get, NodeOf, TreeArenas, IsRetiredNode, Stands, node_children}
 
 -- the node that stands under a number is the one there
 pub node_is : {K V : Type 0} {LEN : ℕ} {cmp : K → K → Ordering} (level : ℕ) (a : TreeArenas K V LEN) (low : Option K) (id : ℕ) (high : Option K) (s : Stands cmp (suc level) a low id high)

@@ -1,13 +1,8 @@
 -- Two changes of a part, one after the other.
-use Rattle.std.proofs.Common.{◌≡◌, ℕ, ◌≤◌, List, [], ◌∷◌, None, IsSome, refl, ap, ◌∙◌, arith}
-use Rattle.std.specs.declared.cmp.Ordering.{Ordering}
-use Rattle.slab.specs.Slab.{get}
-use Rattle.tree_leaf.specs.Counting.{times, uses}
-use Rattle.tree_leaf.proofs.Chains.{same_array_refl, same_array_trans}
-use Rattle.tree_leaf.proofs.Counts.{uses_le_one, uses_some, in_use}
-use Rattle.tree_node.specs.Arenas.{TreeArenas}
-use Rattle.tree_node.specs.Parts.{IsPart, Replaces}
-use Rattle.tree_node.specs.Tree.{Stands, leaves_of}
+use Rattle.std.proofs.Common.{◌≡◌, ℕ, ◌≤◌, List, [], ◌∷◌, None, IsSome, refl, ap, ◌∙◌, arith, Ordering}
+use Rattle.tree_node.proofs.Common.{get, times, uses, same_array_refl, uses_le_one, uses_some, TreeArenas, IsPart, Replaces, Stands, leaves_of}
+use Rattle.tree_leaf.proofs.Chains.{same_array_trans}
+use Rattle.tree_leaf.proofs.Counts.{in_use}
 use Rattle.tree_node.proofs.Beside.{apart_after}
 use Rattle.tree_node.proofs.Lifts.{single_leaves, single_nodes}
 

@@ -1,17 +1,10 @@
 -- What stands under every number is what it was: so is each part, and each chain.
-use Rattle.std.proofs.Common.{◌≡◌, ℕ, zero, suc, List, [], ◌∷◌, length, None, is_some, refl, ap, ◌∙◌}
-use Rattle.std.specs.declared.cmp.Ordering.{Ordering}
-use Rattle.slab.specs.Slab.{Slab, get}
-use Rattle.tree_leaf.specs.declared.leaf.LeafOf.{LeafOf}
+use Rattle.std.proofs.Common.{◌≡◌, ℕ, zero, suc, List, [], ◌∷◌, length, None, is_some, refl, ap, ◌∙◌, Ordering}
+use Rattle.tree_node.proofs.Common.{Slab, get, LeafOf, IsChain, same_array_refl, uses_same, TreeArenas, IsPart, Replaces, Unchanged, held, room, found_free, found_keyed, leaves_of, nodes_of, leaves_at, nodes_at}
 use Rattle.tree_leaf.specs.Arena.{KeepsBoth}
-use Rattle.tree_leaf.specs.Chain.{IsChain}
-use Rattle.tree_leaf.proofs.Chains.{linked_kept, same_array_refl}
-use Rattle.tree_leaf.proofs.Counts.{uses_same}
+use Rattle.tree_leaf.proofs.Chains.{linked_kept}
 use Rattle.tree_leaf.specs.Entries.{found_entries}
-use Rattle.tree_node.specs.Arenas.{TreeArenas}
-use Rattle.tree_node.specs.Parts.{IsPart, Replaces, Unchanged}
-use Rattle.tree_node.specs.Shape.{held, room, found_free, found_keyed, found_room}
-use Rattle.tree_node.specs.Tree.{leaves_of, nodes_of, leaves_at, nodes_at}
+use Rattle.tree_node.specs.Shape.{found_room}
 use Rattle.tree_node.proofs.Frames.{Agrees, same_leaves, same_nodes, same_stands}
 use Rattle.tree_node.proofs.Lists.{all_yes, flat_map_same}
 use Rattle.tree_node.proofs.Steps.{part_after}

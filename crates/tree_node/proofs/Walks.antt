@@ -1,16 +1,8 @@
 -- The walk of what stands under a number: its bounds, and where a key is in it.
-use Rattle.std.proofs.Common.{◌≡◌, ℕ, zero, suc, Bool, true, false, cond, List, [], ◌∷◌, ◌++◌, map, Option, Some, None, refl, sym, ap}
-use Rattle.std.specs.List.{flat_map, AllByRecursion}
-use Rattle.std.specs.declared.cmp.Ordering.{Ordering}
-use Rattle.std.specs.declared.cmp.Ordering.TheVariants.{Less}
-use Rattle.std.specs.Cmp.{IsTotalOrder}
-use Rattle.std.proofs.lemmas.List.Concat.{flat_map-append}
-use Rattle.slab.specs.Slab.{get}
-use Rattle.tree_leaf.specs.Entries.{leaf_entries}
-use Rattle.tree_model.specs.Pairs.{AllLarger, pair_at}
-use Rattle.tree_model.proofs.Lists.{all_map, all-append}
-use Rattle.tree_node.specs.Arenas.{TreeArenas}
-use Rattle.tree_node.specs.Tree.{IsAbove, IsUpTo, IsBelow, AreParted, keyed, child_at, front_at, back_at, is_from, HasChildFor, Stands, walk, leaves_at, children_of}
+use Rattle.std.proofs.Common.{◌≡◌, ℕ, zero, suc, Bool, true, false, cond, List, [], ◌∷◌, ◌++◌, map, Option, Some, None, refl, sym, ap, flat_map, Ordering, Less}
+use Rattle.tree_model.proofs.Common.{AllByRecursion, IsTotalOrder, flat_map-append, AllLarger, pair_at}
+use Rattle.tree_array.proofs.Common.{all_map, all-append}
+use Rattle.tree_node.proofs.Common.{get, leaf_entries, TreeArenas, IsAbove, IsUpTo, IsBelow, AreParted, keyed, child_at, front_at, back_at, is_from, HasChildFor, Stands, walk, leaves_at, children_of}
 use Rattle.tree_node.proofs.Between.{found_between}
 use Rattle.tree_node.proofs.Lists.{flat_map-flat_map}
 use Rattle.tree_node.proofs.Order.{upto_less, upto_from_less, upto_from_test, less_from_test}

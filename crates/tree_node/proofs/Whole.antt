@@ -1,18 +1,9 @@
 -- What keeps a whole tree.
-use Rattle.std.proofs.Common.{◌≡◌, ◌⊎◌, ℕ, ◌≤◌, ◌==◌, cond, Bool, true, false, List, [], ◌∷◌, ◌++◌, length, Option, Some, None, is_some, inl, inr, refl, sym, ap, ◌∙◌, arith}
-use Rattle.std.specs.declared.cmp.Ordering.{Ordering}
-use Rattle.std.proofs.lemmas.Bool.Decides.{nat_tests}
-use Rattle.std.proofs.lemmas.List.{append-nil}
-use Rattle.slab.specs.Slab.{get}
-use Rattle.tree_leaf.specs.Chain.{AreLinked, IsChain}
-use Rattle.tree_leaf.specs.Counting.{times, uses}
-use Rattle.tree_leaf.proofs.Chains.{same_array_refl}
-use Rattle.tree_leaf.proofs.Counts.{uses_same}
-use Rattle.tree_node.specs.Arenas.{TreeArenas}
-use Rattle.tree_node.specs.Parts.{IsPart, Replaces, Unchanged}
-use Rattle.tree_node.specs.Shape.{spare}
-use Rattle.tree_node.specs.Tree.{Stands, leaves_at, leaves_of, nodes_at}
-use Rattle.tree_node.specs.Whole.{IsRetiredRoot, IsTop, IsTree, leaves_under, nodes_under, spare_under, walk_under}
+use Rattle.std.proofs.Common.{◌≡◌, ◌⊎◌, ℕ, ◌≤◌, ◌==◌, cond, Bool, true, false, List, [], ◌∷◌, ◌++◌, length, Option, Some, None, is_some, inl, inr, refl, sym, ap, ◌∙◌, arith, Ordering, append-nil}
+use Rattle.tree_model.proofs.Common.{nat_tests}
+use Rattle.tree_node.proofs.Common.{get, IsChain, times, uses, same_array_refl, uses_same, TreeArenas, IsPart, Replaces, Unchanged, spare, Stands, leaves_at, leaves_of, nodes_at, IsRetiredRoot, IsTree, leaves_under, walk_under}
+use Rattle.tree_leaf.specs.Chain.{AreLinked}
+use Rattle.tree_node.specs.Whole.{IsTop, nodes_under, spare_under}
 use Rattle.tree_node.proofs.Bare.{has_leaf}
 use Rattle.tree_node.proofs.Frames.{Agrees, same_leaves, same_nodes, same_stands, same_walk}
 use Rattle.tree_node.proofs.Lifts.{single_leaves, single_nodes}

@@ -1,13 +1,8 @@
 -- Parts between wider bounds, and children without one of them.
-use Rattle.std.proofs.Common.{◌≡◌, ℕ, zero, suc, List, [], ◌∷◌, ◌++◌, Option, Some, None}
-use Rattle.std.specs.List.{AllByRecursion}
-use Rattle.std.specs.declared.cmp.Ordering.{Ordering}
-use Rattle.std.specs.declared.cmp.Ordering.TheVariants.{Less}
-use Rattle.std.specs.Cmp.{IsTotalOrder}
-use Rattle.tree_model.specs.Pairs.{AllLarger}
-use Rattle.tree_model.proofs.Lists.{all_map}
-use Rattle.tree_node.specs.Arenas.{TreeArenas}
-use Rattle.tree_node.specs.Tree.{IsAbove, IsBelow, AreParted, Stands}
+use Rattle.std.proofs.Common.{◌≡◌, ℕ, zero, suc, List, [], ◌∷◌, ◌++◌, Option, Some, None, Ordering, Less}
+use Rattle.tree_model.proofs.Common.{AllByRecursion, IsTotalOrder, AllLarger}
+use Rattle.tree_array.proofs.Common.{all_map}
+use Rattle.tree_node.proofs.Common.{TreeArenas, IsAbove, IsBelow, AreParted, Stands}
 use Rattle.tree_node.proofs.Walks.{above_next, up_to_next}
 
 -- a separator below another is below what that is below

@@ -1,4 +1,5 @@
 pub mod Arenas
+pub mod Changes
 pub mod Depth
 pub mod Parts
 pub mod Routing

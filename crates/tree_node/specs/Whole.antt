@@ -8,9 +8,8 @@ use Rattle.tree_leaf.specs.Counting.{times, uses}
 use Rattle.tree_node.specs.declared.node.NodeOf.{NodeOf}
 use Rattle.tree_node.specs.Arenas.{TreeArenas}
 use Rattle.tree_node.specs.Parts.{Unchanged}
-use Rattle.tree_node.specs.Tree.{IsOfLevel}
+use Rattle.tree_node.specs.Tree.{IsOfLevel, IsRetired, Stands, leaves_at, nodes_at, walk}
 use Rattle.tree_node.specs.Shape.{least, leaf_spare}
-use Rattle.tree_node.specs.Tree.{IsRetired, Stands, leaves_at, nodes_at, walk}
 
 -- how many levels of nodes there are, none without a root
 abbrev pub depth_of : Option (ℕ × ℕ) → ℕ

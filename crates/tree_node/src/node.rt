@@ -1,11 +1,10 @@
 //! Nodes of both kinds, and the arenas that hold them.
-ghost use Rattle.std.specs.Prelude.{◌≡◌, ◌↔◌, ◌≤◌, Some, IsTrue};
+ghost use Rattle.std.specs.Prelude.{◌↔◌, ◌≤◌, Some, IsTrue};
+ghost use Rattle.tree_array.specs.Insertion.{IsFull};
 ghost use Rattle.tree_array.specs.Length.{IsLen};
-ghost use Rattle.tree_node.specs.Depth.{HasNoKeyed};
-ghost use Rattle.tree_node.specs.Tree.{IsRetiredNode};
+ghost use Rattle.tree_node.specs.Tree.{IsRetiredNode, keyed};
 
-use crate::internal_node::InternalNodeOf;
-use crate::leaf_node::LeafNodeOf;
+use crate::branch::{InternalNodeOf, LeafNodeOf};
 use tree_leaf::arena::SlotsOf;
 
 /// A node of a tree.
@@ -32,29 +31,29 @@ impl<K: Ord + Drop, const LEN: usize> NodeOf<K, LEN> {
         ensures { IsTrue result ↔ IsRetiredNode (Some self.now) }
     {
         match self {
-            NodeOf::Internal(node) => node.unbounded_child.is_none() && node.children.is_empty(),
-            NodeOf::Leaf(node) => node.unbounded_child.is_none() && node.children.is_empty(),
+            NodeOf::Internal(node) => node.is_childless(),
+            NodeOf::Leaf(node) => node.is_childless(),
         }
     }
 
-    /// Returns whether the node has no keyed child. Runs in constant time.
-    pub fn has_no_keyed(&self) -> bool
-        ensures { IsTrue result ↔ HasNoKeyed (Some self.now) }
+    /// Returns whether the node has no slot for another keyed child. Runs in constant time.
+    pub fn is_full(&self) -> bool
+        ensures { IsTrue result ↔ IsFull LEN (keyed self.now) }
     {
         match self {
-            NodeOf::Internal(node) => node.children.is_empty(),
-            NodeOf::Leaf(node) => node.children.is_empty(),
+            NodeOf::Internal(node) => node.children.is_full(),
+            NodeOf::Leaf(node) => node.children.is_full(),
         }
     }
-}
 
-/// Returns how many keyed children a node can still take. Runs in constant time.
-pub fn slots_left<K: Ord + Drop, const LEN: usize>(node: &NodeOf<K, LEN>) -> u8
-    ensures few { result ≤ LEN }
-    ensures len { IsLen LEN }
-{
-    match node {
-        NodeOf::Internal(node) => node.children.free(),
-        NodeOf::Leaf(node) => node.children.free(),
+    /// Returns how many keyed children the node can still take. Runs in constant time.
+    pub fn slots_left(&self) -> u8
+        ensures few { result ≤ LEN }
+        ensures len { IsLen LEN }
+    {
+        match self {
+            NodeOf::Internal(node) => node.children.free(),
+            NodeOf::Leaf(node) => node.children.free(),
+        }
     }
 }

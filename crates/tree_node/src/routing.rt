@@ -6,6 +6,7 @@ ghost use Rattle.tree_array.specs.Length.{searched};
 ghost use Rattle.tree_node.specs.Routing.{IsChildAt, IsSlotFor};
 ghost use Rattle.tree_node.specs.Tree.{child_of};
 
+use crate::branch::BranchOf;
 use tree_array::array::{ArrayOf, Judge};
 
 /// A child of a node, with the slot of its separator if it is a keyed child.
@@ -15,63 +16,59 @@ pub struct ChildPlace<I> {
     pub slot: Option<u8>,
 }
 
-/// Returns the child that the judge's key belongs to: the child under the least separator that the key doesn't
-/// exceed, or else the unbounded child. Returns `None` if that is the unbounded child and the node has none. Makes at
-/// most 4 comparisons among 15 slots, and 3 among 7.
-#[inline(always)]
-pub fn child_for<K: Ord + Drop, I: Copy + Drop, J: Judge<K>, const LEN: usize>(
-    children: &ArrayOf<K, I, LEN>,
-    unbounded: &Option<I>,
-    judge: &mut J,
-) -> Option<I>
-    ensures child { result ≡ child_of K.cmp (J.key judge.old) children.now.entries unbounded.now }
-    ensures same_key { J.key judge.new ≡ J.key judge.old }
-    ensures counted { J.count judge.new ≤ J.count judge.old + LEN }
-    ensures halved { J.count judge.new ≤ J.count judge.old + searched LEN }
-{
-    let Some(last) = unbounded else {
-        return None;
-    };
-    let slot = children.min_greater_equal(judge);
-    Some(*child_at(children, last, slot))
-}
+impl<K: Ord + Drop, I: Copy + Drop, const LEN: usize> BranchOf<K, I, LEN> {
+    /// Returns the child that the judge's key belongs to: the child under the least separator that the key doesn't
+    /// exceed, or else the unbounded child. Returns `None` if the node is retired. Makes at most 4 comparisons among 15
+    /// slots, and 3 among 7.
+    #[inline(always)]
+    pub fn child_for<J: Judge<K>>(&self, judge: &mut J) -> Option<I>
+        ensures child { result ≡ child_of K.cmp (J.key judge.old) self.now.children.entries self.now.unbounded_child }
+        ensures same_key { J.key judge.new ≡ J.key judge.old }
+        ensures counted { J.count judge.new ≤ J.count judge.old + LEN }
+        ensures halved { J.count judge.new ≤ J.count judge.old + searched LEN }
+    {
+        let Some(last) = &self.unbounded_child else {
+            return None;
+        };
+        let slot = self.children.min_greater_equal(judge);
+        Some(*child_at(&self.children, last, slot))
+    }
 
-/// Returns the child that a key belongs to, as [`child_for`] does, and the slot of its separator. Makes as many
-/// comparisons, which no judge counts.
-pub fn child_place_for<K: Ord + Drop, I: Copy + Drop, const LEN: usize>(
-    children: &ArrayOf<K, I, LEN>,
-    unbounded: Option<I>,
-    key: &K,
-) -> Option<ChildPlace<I>>
-    ensures place { MatchOption result (unbounded ≡ None) (λ place. IsChildAt K.cmp key.now children.now unbounded place.child place.slot) }
-    ensures child { MatchOption result (child_of K.cmp key.now children.now.entries unbounded ≡ None) (λ place. child_of K.cmp key.now children.now.entries unbounded ≡ Some place.child) }
-{
-    child_place_beyond(children, unbounded, key, false)
-}
+    /// Returns the child that a key belongs to, as [`child_for`](BranchOf::child_for) does, and the slot of its
+    /// separator. Makes as many comparisons, which no judge counts.
+    pub fn child_place_for(&self, key: &K) -> Option<ChildPlace<I>>
+        ensures place { MatchOption result (self.now.unbounded_child ≡ None)
+            (λ place. IsChildAt K.cmp key.now self.now.children self.now.unbounded_child place.child place.slot) }
+        ensures child { MatchOption result
+            (child_of K.cmp key.now self.now.children.entries self.now.unbounded_child ≡ None)
+            (λ place. child_of K.cmp key.now self.now.children.entries self.now.unbounded_child ≡ Some place.child) }
+    {
+        self.child_place_beyond(key, false)
+    }
 
-/// Returns what [`child_place_for`] does. With `rightmost` it compares the key with the last separator first, and answers
-/// the unbounded child at once if the key is larger: an insert asks so as long as its way down keeps to the unbounded
-/// children, where keys that arrive in ascending order belong. That is at most one comparison more.
-#[inline]
-pub fn child_place_beyond<K: Ord + Drop, I: Copy + Drop, const LEN: usize>(
-    children: &ArrayOf<K, I, LEN>,
-    unbounded: Option<I>,
-    key: &K,
-    rightmost: bool,
-) -> Option<ChildPlace<I>>
-    ensures place { MatchOption result (unbounded ≡ None) (λ place. IsChildAt K.cmp key.now children.now unbounded place.child place.slot) }
-    ensures child { MatchOption result (child_of K.cmp key.now children.now.entries unbounded ≡ None) (λ place. child_of K.cmp key.now children.now.entries unbounded ≡ Some place.child) }
-{
-    let last = unbounded?;
-    let slot = slot_beyond(children, key, rightmost);
-    Some(ChildPlace {
-        child: *child_at(children, &last, slot),
-        slot,
-    })
+    /// Returns what [`child_place_for`](BranchOf::child_place_for) does. With `rightmost` it compares the key with the
+    /// last separator first, and answers the unbounded child at once if the key is larger: an insert asks so as long as
+    /// its way down keeps to the unbounded children, where keys that arrive in ascending order belong. That is at most
+    /// one comparison more.
+    #[inline]
+    pub fn child_place_beyond(&self, key: &K, rightmost: bool) -> Option<ChildPlace<I>>
+        ensures place { MatchOption result (self.now.unbounded_child ≡ None)
+            (λ place. IsChildAt K.cmp key.now self.now.children self.now.unbounded_child place.child place.slot) }
+        ensures child { MatchOption result
+            (child_of K.cmp key.now self.now.children.entries self.now.unbounded_child ≡ None)
+            (λ place. child_of K.cmp key.now self.now.children.entries self.now.unbounded_child ≡ Some place.child) }
+    {
+        let last = self.unbounded_child?;
+        let slot = slot_beyond(&self.children, key, rightmost);
+        Some(ChildPlace {
+            child: *child_at(&self.children, &last, slot),
+            slot,
+        })
+    }
 }
 
 /// Returns the child that a key belongs to, where `unbounded` is the unbounded one. Makes as many comparisons as
-/// [`child_for`], which no judge counts.
+/// [`child_for`](BranchOf::child_for), which no judge counts.
 #[inline(always)]
 pub fn child_by_key<K: Ord + Drop, I: Copy + Drop, const LEN: usize>(
     children: &ArrayOf<K, I, LEN>,
@@ -125,7 +122,8 @@ fn child_at<'a, K: Ord + Drop, I: Copy + Drop, const LEN: usize>(
     slot: Option<u8>,
 ) -> &'a I
     requires { ForSome slot (λ keyed. IsSome (arrival children.now.arrivals keyed)) }
-    ensures { MatchOption slot (result.now ≡ unbounded.now) (λ keyed. (separator : K) × (arrival children.now.arrivals keyed ≡ Some (separator, result.now))) }
+    ensures { MatchOption slot (result.now ≡ unbounded.now)
+        (λ keyed. (separator : K) × (arrival children.now.arrivals keyed ≡ Some (separator, result.now))) }
 {
     match slot {
         Some(keyed) => children.val(keyed),

@@ -1,28 +1,19 @@
 -- A node that makes room in a child node: the child is split or built anew.
-use Rattle.std.proofs.Common.{◌≡◌, ◌⊎◌, ℕ, zero, suc, ◌<◌, ◌≤◌, List, [], ◌∷◌, ◌++◌, true, map, length, Option, Some, None, IsSome, refl, sym, ap, ◌∙◌, arith, inl, inr, sub-one}
-use Rattle.std.specs.Bool.{⊤}
-use Rattle.std.specs.declared.cmp.Ordering.{Ordering}
-use Rattle.std.specs.Cmp.{IsTotalOrder}
-use Rattle.slab.specs.Slab.{get, with_value, HasRoomFor, Updates}
-use Rattle.slab.proofs.SlabLemmas.{Updates-with_value}
-use Rattle.tree_array.specs.Arrivals.{boundary}
-use Rattle.tree_array.specs.Insertion.{HasRoom}
-use Rattle.tree_array.specs.Length.{IsLen, limit}
-use Rattle.tree_array.specs.Sound.{IsSound}
-use Rattle.tree_leaf.specs.Arena.{Gains, KeepsBoth, HasPlaces}
-use Rattle.tree_leaf.specs.Counting.{times, uses}
-use Rattle.tree_leaf.proofs.Counts.{times-cons, one_here, uses_le_one}
-use Rattle.tree_leaf.proofs.Rooms.{rewritten}
-use Rattle.tree_model.specs.Pairs.{IsAbsent}
+use Rattle.std.proofs.Common.{◌≡◌, ◌⊎◌, ℕ, zero, suc, ◌<◌, ◌≤◌, List, [], ◌∷◌, ◌++◌, true, map, length, Option, Some, None, IsSome, refl, sym, ap, ◌∙◌, arith, inl, inr, sub-one, Ordering}
+use Rattle.tree_model.proofs.Common.{⊤, IsTotalOrder, IsAbsent}
+use Rattle.tree_array.proofs.Common.{boundary, HasRoom, IsLen, limit, IsSound}
+use Rattle.tree_node.proofs.Common.{get, with_value, times, uses, times-cons, one_here, uses_le_one, TreeArenas, IsPart, Unchanged, room, AreParted, HasKind, is_from, Stands, keyed, unbounded, children_of, leaves_of, nodes_of}
 use Rattle.tree_node.specs.declared.node.NodeOf.{NodeOf}
 use Rattle.tree_node.specs.declared.node.NodeOf.TheVariants.{Internal, Leaf}
-use Rattle.tree_node.specs.Arenas.{TreeArenas}
-use Rattle.tree_node.specs.Parts.{IsPart, PutsChild, Unchanged}
+use Rattle.slab.specs.Slab.{HasRoomFor, Updates}
+use Rattle.slab.proofs.SlabLemmas.{Updates-with_value}
+use Rattle.tree_leaf.specs.Arena.{Gains, KeepsBoth, HasPlaces}
+use Rattle.tree_leaf.proofs.Rooms.{rewritten}
+use Rattle.tree_node.specs.Parts.{PutsChild}
 use Rattle.tree_split.specs.Packed.{IsPacked}
 use Rattle.tree_split.proofs.Edges.{edge_of}
-use Rattle.tree_split.specs.Splits.{CutsNode, KeepsPacked, RebuildsNode, SharesChildren, SplitsChild}
-use Rattle.tree_node.specs.Shape.{room}
-use Rattle.tree_node.specs.Tree.{AreParted, HasKind, is_from, Stands, keyed, unbounded, children_of, leaves_of, nodes_of}
+use Rattle.tree_node.specs.Changes.{CutsNode, RebuildsNode}
+use Rattle.tree_split.specs.Splits.{KeepsPacked, SharesChildren, SplitsChild}
 use Rattle.tree_node.proofs.Children.{stands_free_low, stands_free_high}
 use Rattle.tree_node.proofs.Lifts.{grouped_as, leaves_are, node_times, single_leaves, single_nodes}
 use Rattle.tree_split.proofs.LowSplits.{GainsLow, SplitsLow, absent_here, gains_low}

@@ -1,31 +1,16 @@
 -- A node that gives its lower children to a new one before it.
-use Rattle.std.proofs.Common.{◌≡◌, ℕ, suc, ◌+◌, ◌<◌, ◌≤◌, ◌==◌, ◌^◌, min, cond, List, [], ◌∷◌, ◌++◌, map, length, length-append, take, drop, Option, Some, None, IsSome, is_some, refl, sym, ap, ◌∙◌, arith, append_assoc, inl, inr}
-use Rattle.std.specs.Bool.{⊤}
-use Rattle.std.specs.List.{AllByRecursion}
-use Rattle.std.specs.declared.cmp.Ordering.{Ordering}
-use Rattle.std.specs.declared.cmp.Ordering.TheVariants.{Less}
-use Rattle.std.specs.Cmp.{IsTotalOrder}
-use Rattle.std.proofs.Math.Nat.{pow-suc}
-use Rattle.std.proofs.lemmas.Bool.{cases_eq}
-use Rattle.std.proofs.lemmas.List.{map-append, length-map, length-take, length-drop}
-use Rattle.std.proofs.lemmas.List.Concat.{flat_map-append}
-use Rattle.slab.specs.Slab.{get}
-use Rattle.tree_array.specs.Arrivals.{Arrivals, boundary}
-use Rattle.tree_array.specs.Length.{IsLen}
-use Rattle.tree_leaf.specs.Counting.{times, uses}
-use Rattle.tree_leaf.proofs.Chains.{same_array_refl}
-use Rattle.tree_leaf.proofs.Counts.{times-append, times-cons, one_here, none_here, uses_le_one, uses_some, uses_none, uses_same, in_use}
-use Rattle.tree_model.specs.Pairs.{IsAscending}
-use Rattle.tree_model.proofs.Lists.{all_map}
+use Rattle.std.proofs.Common.{◌≡◌, ℕ, suc, ◌+◌, ◌<◌, ◌≤◌, ◌==◌, ◌^◌, min, cond, List, [], ◌∷◌, ◌++◌, map, length, length-append, take, drop, Option, Some, None, IsSome, is_some, refl, sym, ap, ◌∙◌, arith, append_assoc, inl, inr, Ordering, Less, length-take, length-drop}
+use Rattle.tree_model.proofs.Common.{⊤, AllByRecursion, IsTotalOrder, cases_eq, map-append, flat_map-append, IsAscending}
+use Rattle.tree_array.proofs.Common.{Arrivals, boundary, IsLen, all_map}
+use Rattle.tree_node.proofs.Common.{get, times, uses, same_array_refl, times-append, times-cons, one_here, none_here, uses_le_one, uses_some, uses_none, uses_same, TreeArenas, IsPart, Replaces, room, spare, AreParted, IsAbove, IsBelow, Stands, keyed, unbounded, walk, leaves_at, nodes_at, leaves_of, nodes_of, children_of}
 use Rattle.tree_node.specs.declared.node.NodeOf.{NodeOf}
-use Rattle.tree_node.specs.Arenas.{TreeArenas}
-use Rattle.tree_node.specs.Parts.{IsPart, Replaces}
-use Rattle.tree_node.specs.Shape.{room, spare}
+use Rattle.std.proofs.Math.Nat.{pow-suc}
+use Rattle.std.proofs.lemmas.List.{length-map}
+use Rattle.tree_leaf.proofs.Counts.{in_use}
 use Rattle.tree_split.specs.Packed.{IsPacked}
 use Rattle.tree_split.proofs.Arrays.{limit_below, packed_boundary, packed_in_order}
 use Rattle.tree_split.proofs.Edges.{counts_same, full_length, same_packed}
-use Rattle.tree_split.specs.Splits.{CutsNode}
-use Rattle.tree_node.specs.Tree.{AreParted, IsAbove, IsBelow, Stands, keyed, unbounded, walk, leaves_at, nodes_at, leaves_of, nodes_of, children_of}
+use Rattle.tree_node.specs.Changes.{CutsNode}
 use Rattle.tree_node.proofs.Cuts.{all_front, all_behind, cut_whole}
 use Rattle.tree_node.proofs.Frames.{Agrees, each_part, parted_map, same_leaves, same_nodes, same_walk, same_stands}
 use Rattle.tree_node.proofs.Lifts.{single_leaves, single_nodes}

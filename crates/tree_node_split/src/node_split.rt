@@ -1,8 +1,8 @@
 //! Splits and rebuilds of the nodes under an internal node.
-ghost use Rattle.std.specs.Prelude.{◌≡◌, ℕ, ◌<◌, ◌≤◌, ◌↔◌, IfOk, IfSome, IsOk, OnErr, IsTrue, MatchOption, Some, length};
+ghost use Rattle.std.specs.Prelude.{◌≡◌, ℕ, ◌<◌, ◌≤◌, IfOk, IfSome, IsOk, OnErr, MatchOption, length};
 ghost use Rattle.tree_array.specs.Arrivals.{boundary};
-ghost use Rattle.tree_array.specs.Insertion.{HasRoom, IsFull};
-ghost use Rattle.tree_array.specs.Length.{IsLen, limit};
+ghost use Rattle.tree_array.specs.Insertion.{HasRoom};
+ghost use Rattle.tree_array.specs.Length.{limit};
 ghost use Rattle.tree_array.specs.Sound.{IsSound};
 ghost use Rattle.tree_leaf.specs.Arena.{HasPlaces};
 ghost use Rattle.tree_leaf.specs.Counting.{times};
@@ -10,15 +10,13 @@ ghost use Rattle.tree_model.specs.Pairs.{IsAbsent};
 ghost use Rattle.slab.specs.Slab.{get};
 ghost use Rattle.tree_node.specs.Parts.{IsPart, PutsChild, Unchanged};
 ghost use Rattle.tree_node.specs.Shape.{found_keyed};
-ghost use Rattle.tree_split.specs.Splits.{CutsNode, RebuildsNode, SplitResult};
+ghost use Rattle.tree_split.specs.Splits.{SplitResult};
 ghost use Rattle.tree_node.specs.Tree.{HasKind, children_of, keyed};
 
 use std::alloc::AllocError;
 use tree_leaf::arena::NodeId;
-use tree_node::internal_node::InternalNodeOf;
-use tree_node::leaf_node::LeafNodeOf;
 use tree_node::node::{ArenasOf, NodeOf};
-use tree_split::{cut_keyed, parting_place, put_keyed};
+use tree_split::{parting_place, put_keyed};
 
 /// Makes room in a child node, the target. The first rule that applies decides:
 ///
@@ -41,22 +39,23 @@ pub fn split_child<K: Ord + Drop, V: Drop, const LEN: usize>(
 ) -> Result<bool, AllocError>
     requires part { (level : ℕ) × (1 < level) × IsPart K.cmp level arenas.old parent }
     requires child { 0 < times target (children_of arenas.old.nodes parent) }
-    ensures done { (level : ℕ) → 1 < level → IsPart K.cmp level arenas.old parent → IfOk result (λ split. SplitResult K.cmp split level arenas.old arenas.new parent target) }
+    ensures done { (level : ℕ) → 1 < level → IsPart K.cmp level arenas.old parent
+        → IfOk result (λ split. SplitResult K.cmp split level arenas.old arenas.new parent target) }
     ensures leaves { (n : ℕ) → get arenas.new.leaves n ≡ get arenas.old.leaves n }
     ensures err { OnErr result (Unchanged arenas.old arenas.new) }
     ensures many { OnErr result (limit LEN < found_keyed (get arenas.old.nodes target)) }
     ensures places { HasPlaces arenas.old 0 1 → IsOk result }
 {
-    let full = takes_no_more(arenas.node(parent));
+    let full = arenas.node(parent).is_full();
     let Some(place) = place_to_part(arenas.node(target)) else {
-        rebuild(arenas.node_mut(target));
+        arenas.node_mut(target).rebuild();
         return Ok(true);
     };
     if full {
         return Ok(false);
     }
     arenas.reserve(0, 1)?;
-    let (separator, low) = cut_node(arenas.node_mut(target), place);
+    let (separator, low) = arenas.node_mut(target).cut(place);
     let Ok(low_id) = arenas.add_node(low) else {
         unreachable!()
     };
@@ -64,65 +63,16 @@ pub fn split_child<K: Ord + Drop, V: Drop, const LEN: usize>(
     Ok(true)
 }
 
-/// Returns true if the node has no slot for another keyed child.
-fn takes_no_more<K: Ord + Drop, const LEN: usize>(node: &NodeOf<K, LEN>) -> bool
-    ensures { IsTrue result ↔ IsFull LEN (keyed node.now) }
-{
-    match node {
-        NodeOf::Internal(node) => node.children.is_full(),
-        NodeOf::Leaf(node) => node.children.is_full(),
-    }
-}
-
 /// Returns the place of the keyed child at which the node divides, or `None` if its array is built anew instead.
 fn place_to_part<K: Ord + Drop, const LEN: usize>(node: &NodeOf<K, LEN>) -> Option<u8>
-    ensures place { MatchOption result (length (keyed node.now).entries ≤ limit LEN) (λ place. (limit LEN < length (keyed node.now).entries) × (place < length (keyed node.now).entries)) }
+    ensures place { MatchOption result (length (keyed node.now).entries ≤ limit LEN)
+        (λ place. (limit LEN < length (keyed node.now).entries) × (place < length (keyed node.now).entries)) }
     ensures rule { IfSome result (λ place. place ≡ (boundary K.cmp LEN (keyed node.now)).0) }
     ensures sound { IsSound K.cmp LEN (keyed node.now) }
 {
     match node {
         NodeOf::Internal(node) => parting_place(&node.children),
         NodeOf::Leaf(node) => parting_place(&node.children),
-    }
-}
-
-/// Builds the array of keyed children anew, in ascending order.
-fn rebuild<K: Ord + Drop, const LEN: usize>(node: &mut NodeOf<K, LEN>)
-    ensures { RebuildsNode node.old node.new }
-{
-    match node {
-        NodeOf::Internal(node) => node.children.rebuild(),
-        NodeOf::Leaf(node) => node.children.rebuild(),
-    }
-}
-
-/// Moves the children up to this place to a new node of the same kind, with the one at the place as its unbounded child.
-/// Returns that child's separator and the new node.
-fn cut_node<K: Ord + Drop, const LEN: usize>(
-    node: &mut NodeOf<K, LEN>,
-    place: u8,
-) -> (K, NodeOf<K, LEN>)
-    requires len { IsLen LEN }
-    requires within { place < length (keyed node.old).entries }
-    ensures { CutsNode node.old place node.new result.1 result.0 }
-{
-    match node {
-        NodeOf::Internal(node) => {
-            let (separator, children, middle) = cut_keyed(&mut node.children, place);
-            let low = InternalNodeOf {
-                children,
-                unbounded_child: Some(middle),
-            };
-            (separator, NodeOf::Internal(low))
-        }
-        NodeOf::Leaf(node) => {
-            let (separator, children, middle) = cut_keyed(&mut node.children, place);
-            let low = LeafNodeOf {
-                children,
-                unbounded_child: Some(middle),
-            };
-            (separator, NodeOf::Leaf(low))
-        }
     }
 }
 

@@ -1,6 +1,6 @@
 -- What an order has at each place that is made of a high part and a low one.
-use Rattle.std.proofs.Common.{◌≡◌, ℕ, suc, ◌+◌, ◌-◌, ◌*◌, ◌/◌, ◌%◌, ◌^◌, ◌<◌, ◌≤◌, refl, sym, ◌∙◌, ap, subst, arith}
-use Rattle.std.proofs.lemmas.Nat.{pow_pos, pow-add, shr-shr, shr_split, shr_high, shr_below, shl_whole, mod_below}
+use Rattle.std.proofs.Common.{◌≡◌, ℕ, suc, ◌+◌, ◌-◌, ◌*◌, ◌/◌, ◌%◌, ◌^◌, ◌<◌, ◌≤◌, refl, sym, ◌∙◌, ap, subst, arith, pow_pos, pow-add, shr-shr}
+use Rattle.std.proofs.lemmas.Nat.{shr_split, shr_high, shr_below, shl_whole, mod_below}
 use Rattle.std.proofs.Math.Nat.{add-zero, add-mul-div_right, add-mul-mod_self_right, mul-le-mul_right, pow-le-pow_right}
 use Rattle.tree_order.specs.Order.{named}
 

@@ -1,5 +1,5 @@
 -- The order of an array: four bits of a word for each place, which name the slot of the pair that stands there.
-use Rattle.std.specs.Prelude.{◌≡◌, ℕ, zero, suc, ◌+◌, ◌-◌, ◌*◌, ◌/◌, ◌%◌, ◌^◌, ◌==◌, ◌<◌, ◌≤◌, List, [], ◌∷◌, ◌++◌, if◌then◌else◌, ltb}
+use Rattle.std.specs.Prelude.{◌≡◌, ℕ, zero, suc, ◌+◌, ◌-◌, ◌*◌, ◌/◌, ◌%◌, ◌^◌, ◌==◌, ◌<◌, ◌≤◌, Bool, List, [], ◌∷◌, ◌++◌, if◌then◌else◌, ltb}
 
 -- what stands at the first places
 abbrev pub picked : {X : Type 0} → (ℕ → X) → ℕ → List X
@@ -18,6 +18,10 @@ names order count = picked (named order) count
 pub record IsFilled (len order count : ℕ) : Type 0 where
   pub tail : (i : ℕ) → count ≤ i → i < len → named order i ≡ named order (count - 1)
   pub beyond : named order len ≡ 15
+
+-- the order says that its array lost its last entry
+abbrev pub is_retired : ℕ → Bool
+is_retired order = order == 0
 
 -- the place, or that behind the last entry where it lies behind that
 abbrev pub clamped : ℕ → ℕ → ℕ

@@ -1,14 +1,20 @@
 //! The order of an array: four bits of a word for each place, which name the slot of the entry there. The places
 //! behind the entries repeat the last name, and the place behind all slots holds [`BEYOND`].
-ghost use Rattle.std.specs.Prelude.{◌≡◌, ◌≢◌, ℕ, IsTrue, ◌+◌, ◌-◌, ◌*◌, ◌^◌, ◌<◌, ◌≤◌, length, slice_index_or, take};
+ghost use Rattle.std.specs.Prelude.{◌≡◌, ◌≢◌, ℕ, true, false, IsTrue, ◌+◌, ◌-◌, ◌*◌, ◌^◌, ◌<◌, ◌≤◌, length, slice_index_or, take};
 ghost use Rattle.tree_order.specs.Length.{IsLen};
-ghost use Rattle.tree_order.specs.Order.{clamped, named, names, ordinal_in, rises_in, IsFilled};
+ghost use Rattle.tree_order.specs.Order.{clamped, named, names, ordinal_in, rises_in, is_retired, IsFilled};
 
 /// The greatest number of slots of an array.
 pub const MOST: usize = 15;
 
 /// The name that stands behind all slots.
 pub const BEYOND: u8 = 15;
+
+/// The order of an array that has lost its last entry. No other order is this one, as [`BEYOND`] isn't 0.
+pub const RETIRED: u64 = 0;
+
+/// The order of an array that never had an entry.
+pub const EMPTY: u64 = u64::MAX;
 
 /// Fifteen places that each hold 1.
 const ONES: u64 = 0x0111_1111_1111_1111;
@@ -122,9 +128,10 @@ pub fn in_turn<const LEN: usize>(count: u8) -> u64
     requires few { count ≤ LEN }
     ensures same { (i : ℕ) → i < count → named result i ≡ i }
     ensures filled { 0 < count → IsFilled LEN result count }
+    ensures live { is_retired result ≡ false }
 {
     if count == 0 {
-        return u64::MAX;
+        return EMPTY;
     }
     filled::<LEN>(first_places(IN_TURN, count), count)
 }
@@ -149,7 +156,7 @@ pub fn inserted<const LEN: usize>(order: u64, place: u8, count: u8, slot: u8) ->
     closed::<LEN>(let_in(places, place, LEN as u8 - 1, slot))
 }
 
-/// Returns the order without one of its places.
+/// Returns the order without one of its places, or [`RETIRED`] without the last.
 pub fn removed<const LEN: usize>(order: u64, place: u8, count: u8) -> u64
     requires len { IsLen LEN }
     requires place { place < count }
@@ -158,9 +165,10 @@ pub fn removed<const LEN: usize>(order: u64, place: u8, count: u8) -> u64
     ensures below { (i : ℕ) → i < place → named result i ≡ named order i }
     ensures above { (i : ℕ) → place ≤ i → i + 1 < count → named result i ≡ named order (i + 1) }
     ensures filled { 1 < count → IsFilled LEN result (count - 1) }
+    ensures retired { count ≡ 1 → is_retired result ≡ true }
 {
     if count == 1 {
-        return u64::MAX;
+        return RETIRED;
     }
     let last = count - 1;
     if place == last {

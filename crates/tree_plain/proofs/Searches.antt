@@ -1,15 +1,10 @@
 -- What a binary search for a key answers in an ascending list of pairs.
-use Rattle.std.proofs.Common.{◌≡◌, ℕ, zero, suc, ◌<◌, ◌≤◌, List, [], ◌∷◌, ◌++◌, length, take, drop, slice_get, refl, rules, sym, ap, ◌∙◌, take-append-drop, arith, IsSome, Some, Result, Ok, Err, IfOk, IfErr, get_or}
-use Rattle.std.specs.Cmp.{IsTotalOrder}
-use Rattle.std.specs.List.{AllByRecursion, HoldsAt, insert, remove, slice_set}
+use Rattle.std.proofs.Common.{◌≡◌, ℕ, zero, suc, ◌<◌, ◌≤◌, List, [], ◌∷◌, ◌++◌, length, take, drop, slice_get, refl, rules, sym, ap, ◌∙◌, take-append-drop, arith, IsSome, Some, Result, Ok, Err, IfOk, IfErr, get_or, HoldsAt, insert, remove, slice_set, Ordering, Less, Equal, Greater, is_lt, is_eq, is_gt}
+use Rattle.tree_model.proofs.Common.{IsTotalOrder, AllByRecursion, tied_back, IsAscending, IsPresent, pair_at, put, without}
 use Rattle.std.specs.List.Sorted.{IsNonDecreasingBy, IsPartitionPoint, IsSearchInRange, IsBinarySearchResult}
-use Rattle.std.specs.declared.cmp.Ordering.{Ordering}
-use Rattle.std.specs.declared.cmp.Ordering.TheVariants.{Less, Equal, Greater}
-use Rattle.std.specs.Ordering.{ordering_index, is_lt, is_eq, is_gt}
-use Rattle.std.proofs.lemmas.Cmp.{tied_back}
+use Rattle.std.specs.Ordering.{ordering_index}
 use Rattle.std.proofs.lemmas.List.Elements.{All-from_recursion, recursion_from_All}
 use Rattle.std.proofs.lemmas.Option.{slice_get_read}
-use Rattle.tree_model.specs.Pairs.{IsAscending, IsPresent, pair_at, put, without}
 use Rattle.tree_plain.specs.Places.{IsPlace, IsGap}
 use Rattle.tree_model.proofs.Order.{greater_from_less, less_from_greater, alike, alike_after}
 use Rattle.tree_model.proofs.Lists.{all_map, filter_none, filter_all, find_none}

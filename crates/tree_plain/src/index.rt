@@ -147,7 +147,8 @@ impl<K: Ord + Drop, V: Drop> PlainIndex<K, V> {
 
     /// Removes every pair whose key is within both bounds.
     pub fn remove_range(&mut self, bounds: (Bound<&K>, Bound<&K>))
-        ensures { self.new ≡ cut K.cmp self.old (bound_map (λ k. k.now) bounds.entry.0) (bound_map (λ k. k.now) bounds.entry.1) }
+        ensures { self.new ≡ cut K.cmp self.old (bound_map (λ k. k.now) bounds.entry.0)
+            (bound_map (λ k. k.now) bounds.entry.1) }
     {
         self.pairs.retain(|pair| !range_contains(bounds, &pair.0));
     }

@@ -1,22 +1,16 @@
 -- An end that has answered None answers None for ever.
-use Rattle.std.proofs.Common.{◌≡◌, ◌⊎◌, ℕ, zero, suc, ◌+◌, ◌<◌, ◌≤◌, Bool, true, false, ◌&&◌, if◌then◌else◌, ltb, List, [], ◌∷◌, ◌++◌, drop, append-nil, length, slice_get, Option, Some, None, refl, sym, ap, ◌∙◌, arith, inl, inr}
-use Rattle.std.specs.Prelude.{is_some, not}
-use Rattle.std.specs.Cmp.{IsTotalOrder}
-use Rattle.std.specs.declared.cmp.Ordering.{Ordering}
-use Rattle.std.specs.declared.ops.Bound.{Bound}
+use Rattle.std.proofs.Common.{◌≡◌, ◌⊎◌, ℕ, zero, suc, ◌+◌, ◌<◌, ◌≤◌, Bool, true, false, ◌&&◌, if◌then◌else◌, ltb, List, [], ◌∷◌, ◌++◌, drop, append-nil, length, slice_get, Option, Some, None, refl, sym, ap, ◌∙◌, arith, inl, inr, is_some, not, Ordering}
+use Rattle.tree_model.proofs.Common.{IsTotalOrder, Bound, nat_tests, IsAscending, opposite, Cursor, End, unopened, at_place, element_at, greatest_place, meets, next_end, shown}
+use Rattle.tree_model.specs.declared.way.Way.{Way}
+use Rattle.tree_model.specs.declared.way.Way.TheVariants.{On, Back}
 use Rattle.std.proofs.lemmas.Bool.{cases_Bool}
-use Rattle.std.proofs.lemmas.Bool.Decides.{nat_tests}
 use Rattle.std.proofs.lemmas.Option.{slice_get_within}
 use Rattle.std.proofs.Math.ListN.{drop_of_length-le}
-use Rattle.tree_model.specs.Pairs.{IsAscending}
-use Rattle.tree_chain.specs.declared.stand.Way.{Way}
-use Rattle.tree_chain.specs.declared.stand.Way.TheVariants.{On, Back}
-use Rattle.tree_chain.specs.Ways.{opposite}
-use Rattle.tree_cursor_model.specs.declared.moves.Move.{Move}
-use Rattle.tree_cursor_model.specs.declared.moves.Move.TheVariants.{Next, NextBack, Get, GetBack, Flip}
-use Rattle.tree_cursor_model.specs.Cursor.{Cursor, End, unopened, at_place, exhausted, are_apart, bound_on, can_turn, element_at, end_at, end_on, flipped, greatest_place, is_unopened, meets, moved, next_end, option_where, place_beside, shown, turned}
-use Rattle.tree_cursor_model.specs.Moves.{AllNone, Ended, Told, after, answer, answers, move_on, pair}
-use Rattle.tree_cursor_model.specs.Rest.{StandsInside}
+use Rattle.tree_model.specs.declared.moves.Move.{Move}
+use Rattle.tree_model.specs.declared.moves.Move.TheVariants.{Next, NextBack, Get, GetBack, Flip}
+use Rattle.tree_model.specs.Cursor.{exhausted, are_apart, bound_on, can_turn, end_at, end_on, flipped, is_unopened, moved, option_where, place_beside, turned}
+use Rattle.tree_model.specs.Moves.{AllNone, Ended, Told, after, answer, answers, move_on, pair}
+use Rattle.tree_model.specs.Rest.{StandsInside}
 use Rattle.tree_ranges.proofs.Flips.{flipped_keeps}
 use Rattle.tree_ranges.proofs.Nearest.{get_none}
 use Rattle.tree_ranges.proofs.Yields.{greatest_some, less, stops}

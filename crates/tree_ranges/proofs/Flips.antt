@@ -1,14 +1,10 @@
 -- What a flip comes to, by which ends are unopened and what they show.
-use Rattle.std.proofs.Common.{◌≡◌, ℕ, Bool, true, false, if◌then◌else◌, Option, Some, None, Bor, refl, ◌∙◌}
-use Rattle.std.specs.Prelude.{is_some, not}
-use Rattle.std.specs.Cmp.{IsTotalOrder}
-use Rattle.std.specs.declared.cmp.Ordering.{Ordering}
-use Rattle.std.specs.declared.ops.Bound.{Bound}
-use Rattle.tree_chain.specs.declared.stand.Way.TheVariants.{On, Back}
-use Rattle.tree_chain.specs.Walks.{LeafWalk}
-use Rattle.tree_node.specs.Arenas.{TreeArenas}
-use Rattle.tree_cursor_model.specs.Cursor.{Cursor, End, can_flip, can_turn, flipped, is_unopened, shown, turned}
-use Rattle.tree_cursor_model.specs.Rest.{lent}
+use Rattle.std.proofs.Common.{◌≡◌, ℕ, Bool, true, false, if◌then◌else◌, Option, Some, None, Bor, refl, ◌∙◌, is_some, not, Ordering}
+use Rattle.tree_model.proofs.Common.{IsTotalOrder, Bound, Cursor, End, shown, lent}
+use Rattle.tree_model.specs.declared.way.Way.TheVariants.{On, Back}
+use Rattle.tree_node.proofs.Common.{TreeArenas}
+use Rattle.tree_chain.proofs.Common.{LeafWalk}
+use Rattle.tree_model.specs.Cursor.{can_flip, can_turn, flipped, is_unopened, turned}
 use Rattle.tree_cursors.specs.declared.end.End.{End as TreeEnd}
 use Rattle.tree_cursors.specs.declared.end.End.TheVariants.{Unopened}
 use Rattle.tree_cursors.specs.View.{Kept, seen}

@@ -1,20 +1,13 @@
 -- The moves of a cursor over a tree, and that each answer brings it nearer to its end.
-use Rattle.std.proofs.Common.{◌≡◌, ℕ, zero, suc, ◌+◌, ◌<◌, Bool, true, false, if◌then◌else◌, ltb, List, length, Option, Some, None, Bor, refl, sym, ap, arith}
-use Rattle.std.specs.Prelude.{⊤}
-use Rattle.std.specs.Cmp.{IsTotalOrder}
-use Rattle.std.specs.Iterator.{MakesProgress, at_most}
-use Rattle.std.specs.Range.Bound.{bound_map}
-use Rattle.std.specs.declared.cmp.Ordering.{Ordering}
-use Rattle.std.specs.declared.ops.Bound.{Bound}
+use Rattle.std.proofs.Common.{◌≡◌, ℕ, zero, suc, ◌+◌, ◌<◌, Bool, true, false, if◌then◌else◌, ltb, List, length, Option, Some, None, Bor, refl, sym, ap, arith, Ordering}
+use Rattle.tree_model.proofs.Common.{⊤, IsTotalOrder, MakesProgress, bound_map, Bound, lent_entry, Moves, lent, opposite, Cursor, End, unopened, at_place, element_at, meets, next_end, shown}
+use Rattle.tree_model.specs.declared.way.Way.{Way}
+use Rattle.tree_model.specs.declared.way.Way.TheVariants.{On, Back}
+use Rattle.tree_node.proofs.Common.{TreeArenas, walk_under}
+use Rattle.tree_chain.proofs.Common.{LeafWalk}
+use Rattle.std.specs.Iterator.{at_most}
 use Rattle.std.proofs.lemmas.Option.{slice_get_within}
-use Rattle.tree_chain.specs.declared.stand.Way.{Way}
-use Rattle.tree_chain.specs.declared.stand.Way.TheVariants.{On, Back}
-use Rattle.tree_chain.specs.Walks.{LeafWalk, lent_entry}
-use Rattle.tree_chain.specs.Ways.{opposite}
-use Rattle.tree_node.specs.Arenas.{TreeArenas}
-use Rattle.tree_node.specs.Whole.{walk_under}
-use Rattle.tree_cursor_model.specs.Cursor.{Cursor, End, unopened, at_place, exhausted, are_apart, bound_on, element_at, end_at, end_on, first_place, meets, moved, next_end, option_where, place_beside, shown, shown_apart}
-use Rattle.tree_cursor_model.specs.Rest.{Moves, lent}
+use Rattle.tree_model.specs.Cursor.{exhausted, are_apart, bound_on, end_at, end_on, first_place, moved, option_where, place_beside, shown_apart}
 use Rattle.tree_cursors.specs.declared.end.End.{End as TreeEnd}
 use Rattle.tree_cursors.specs.View.{Kept, end_of, seen}
 use Rattle.tree_cursors.proofs.Ends.{end_inside}

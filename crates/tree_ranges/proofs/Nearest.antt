@@ -1,22 +1,14 @@
 -- Where a key is in an ascending list, told by the first place whose key isn't smaller.
-use Rattle.std.proofs.Common.{◌≡◌, ℕ, zero, suc, ◌-◌, ◌==◌, ◌≤◌, Bool, true, false, if◌then◌else◌, List, [], ◌∷◌, length, slice_get, Option, Some, None, refl, ap, ◌∙◌, arith}
-use Rattle.std.specs.Prelude.{is_some}
-use Rattle.std.specs.Option.{option_map}
-use Rattle.std.specs.Cmp.{IsTotalOrder}
-use Rattle.std.specs.Ordering.{is_eq, is_le, is_lt, ordering_reverse}
-use Rattle.std.specs.declared.cmp.Ordering.{Ordering}
-use Rattle.std.specs.declared.cmp.Ordering.TheVariants.{Less, Equal, Greater}
-use Rattle.std.specs.declared.ops.Bound.TheVariants.{Included, Unbounded}
-use Rattle.std.proofs.lemmas.Bool.Decides.{nat_tests}
+use Rattle.std.proofs.Common.{◌≡◌, ℕ, zero, suc, ◌-◌, ◌==◌, ◌≤◌, Bool, true, false, if◌then◌else◌, List, [], ◌∷◌, length, slice_get, Option, Some, None, refl, ap, ◌∙◌, arith, is_some, option_map, is_eq, is_le, is_lt, Ordering, Less, Equal, Greater}
+use Rattle.tree_model.proofs.Common.{IsTotalOrder, Included, Unbounded, nat_tests, AllLarger, IsAscending, below, pair_at, End, unopened, element_at, greatest_place, meets, next_end}
+use Rattle.tree_model.specs.declared.way.Way.TheVariants.{On, Back}
+use Rattle.tree_array.proofs.Common.{all_map, filter_none, greater_from_less}
+use Rattle.std.specs.Ordering.{ordering_reverse}
 use Rattle.std.proofs.lemmas.Option.{slice_get_within}
-use Rattle.tree_model.specs.Pairs.{AllLarger, IsAscending, below, pair_at}
-use Rattle.tree_model.proofs.Lists.{all_map, filter_none}
 use Rattle.tree_model.proofs.LookUps.{none_larger}
-use Rattle.tree_model.proofs.Order.{greater_from_less}
-use Rattle.tree_chain.specs.declared.stand.Way.TheVariants.{On, Back}
-use Rattle.tree_cursor_model.specs.declared.proximity.ProximityOf.TheVariants.{Exact, Between, Smaller, Larger, Empty}
-use Rattle.tree_cursor_model.specs.Cursor.{End, unopened, element_at, end_at, greatest_place, least_place, meets, next_end, with_ends}
-use Rattle.tree_cursor_model.specs.Located.{located}
+use Rattle.tree_model.specs.declared.proximity.ProximityOf.TheVariants.{Exact, Between, Smaller, Larger, Empty}
+use Rattle.tree_model.specs.Cursor.{end_at, least_place, with_ends}
+use Rattle.tree_model.specs.Located.{located}
 use Rattle.tree_ranges.specs.Beside.{is_at, located_beside, located_past}
 use Rattle.tree_ranges.proofs.Yields.{above_le}
 

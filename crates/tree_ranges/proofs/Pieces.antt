@@ -1,13 +1,10 @@
 -- What stands between two places of a list, and what of it passes a test.
-use Rattle.std.proofs.Common.{◌≡◌, ℕ, zero, suc, ◌+◌, ◌<◌, ◌≤◌, Bool, true, false, List, [], ◌∷◌, ◌++◌, length, reverse, slice_get, Some, refl, ap, ◌∙◌, arith, append_assoc}
+use Rattle.std.proofs.Common.{◌≡◌, ℕ, zero, suc, ◌+◌, ◌<◌, ◌≤◌, Bool, true, false, List, [], ◌∷◌, ◌++◌, length, reverse, slice_get, Some, refl, ap, ◌∙◌, arith, append_assoc, filter}
+use Rattle.tree_model.proofs.Common.{AllByRecursion, reverse_onto, reverse-append}
+use Rattle.tree_array.proofs.Common.{filter_none}
 use mathlib.Core.List.{reverse_aux}
-use Rattle.std.specs.Prelude.{filter}
-use Rattle.std.specs.List.{AllByRecursion}
-use Rattle.std.proofs.lemmas.Grind.{reverse_onto}
-use Rattle.std.proofs.lemmas.List.{reverse-append}
 use Rattle.std.proofs.Math.Seq.{drop-nil}
-use Rattle.tree_model.proofs.Lists.{filter_none}
-use Rattle.tree_cursor_model.specs.Rest.{piece}
+use Rattle.tree_model.specs.Rest.{piece}
 
 module _ {X : Type 0} where
   pub piece_none : (xs : List X) (a b : ℕ) → b ≤ a → piece xs a b ≡ []

@@ -1,18 +1,15 @@
 -- What the ends of a cursor stand on in its tree.
-use Rattle.std.proofs.Common.{◌≡◌, ◌⊎◌, ℕ, Bool, Option, Some, None, inl, inr, refl, sym, ◌∙◌}
-use Rattle.std.specs.Cmp.{IsTotalOrder}
-use Rattle.std.specs.Ordering.{is_lt}
-use Rattle.std.specs.declared.cmp.Ordering.{Ordering}
-use Rattle.slab.specs.Slab.{get}
-use Rattle.tree_model.specs.Pairs.{IsAscending}
-use Rattle.tree_chain.specs.Walks.{LeafWalk, stood_on}
-use Rattle.tree_node.specs.Arenas.{TreeArenas}
-use Rattle.tree_node.specs.Tree.{Stands as PartStands, walk}
-use Rattle.tree_node.specs.Whole.{IsRetiredRoot, IsTop, IsTree, walk_under}
+use Rattle.std.proofs.Common.{◌≡◌, ◌⊎◌, ℕ, Bool, Option, Some, None, inl, inr, refl, sym, ◌∙◌, is_lt, Ordering}
+use Rattle.tree_model.proofs.Common.{IsTotalOrder, IsAscending, element_at}
+use Rattle.tree_node.proofs.Common.{get, TreeArenas, walk, IsRetiredRoot, IsTree, walk_under}
+use Rattle.tree_chain.proofs.Common.{LeafWalk}
+use Rattle.tree_chain.specs.Walks.{stood_on}
+use Rattle.tree_node.specs.Tree.{Stands as PartStands}
+use Rattle.tree_node.specs.Whole.{IsTop}
 use Rattle.tree_node.proofs.Ascents.{walk_ascends}
 use Rattle.tree_node.proofs.Standing.{no_children}
-use Rattle.tree_cursor_model.specs.Cursor.{are_apart, element_at, is_unopened}
-use Rattle.tree_cursor_model.proofs.Places.{places_compare}
+use Rattle.tree_model.specs.Cursor.{are_apart, is_unopened}
+use Rattle.tree_cursors.proofs.Places.{places_compare}
 use Rattle.tree_cursors.specs.declared.end.End.{End as TreeEnd}
 use Rattle.tree_cursors.specs.declared.end.End.TheVariants.{Unopened, At, Exhausted}
 use Rattle.tree_cursors.specs.View.{EndStands, Kept, end_of, pair_of}

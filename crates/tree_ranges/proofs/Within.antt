@@ -1,29 +1,18 @@
 -- The first entry of a part that is within a bound, told by the part's last one.
-use Rattle.std.proofs.Common.{◌≡◌, ◌⊎◌, ℕ, zero, suc, ◌-◌, ◌<◌, Bool, true, false, ltb, List, [], ◌∷◌, ◌++◌, length, reverse, slice_get, Option, Some, None, Bor, refl, sym, ap, ◌∙◌, arith, inl, inr}
-use Rattle.std.specs.Cmp.{IsTotalOrder}
-use Rattle.std.specs.List.{AllByRecursion}
-use Rattle.std.specs.Option.{option_map}
-use Rattle.std.specs.declared.cmp.Ordering.{Ordering}
-use Rattle.std.specs.declared.ops.Bound.{Bound}
-use Rattle.std.specs.declared.ops.Bound.TheVariants.{Unbounded}
-use Rattle.std.proofs.lemmas.Bool.{cases_Bool}
-use Rattle.std.proofs.lemmas.Bool.Decides.{nat_tests}
-use Rattle.std.proofs.lemmas.List.{reverse-reverse}
-use Rattle.std.proofs.lemmas.Option.{slice_get_within}
-use Rattle.tree_model.specs.Pairs.{IsAscending}
-use Rattle.tree_chain.specs.declared.stand.Way.{Way}
-use Rattle.tree_chain.specs.declared.stand.Way.TheVariants.{On, Back}
-use Rattle.tree_chain.specs.Walks.{LeafWalk, Steps, here, lent_entry}
-use Rattle.tree_chain.specs.Ways.{StepsOver, along, opposite}
-use Rattle.tree_node.specs.Arenas.{TreeArenas}
-use Rattle.slab.specs.Slab.{get}
+use Rattle.std.proofs.Common.{◌≡◌, ◌⊎◌, ℕ, zero, suc, ◌-◌, ◌<◌, Bool, true, false, ltb, List, [], ◌∷◌, ◌++◌, length, reverse, slice_get, Option, Some, None, Bor, refl, sym, ap, ◌∙◌, arith, inl, inr, option_map, Ordering}
+use Rattle.tree_model.proofs.Common.{IsTotalOrder, AllByRecursion, Bound, Unbounded, nat_tests, reverse-reverse, IsAscending, lent_entry, lent, along, opposite, meets}
+use Rattle.tree_model.specs.declared.way.Way.{Way}
+use Rattle.tree_model.specs.declared.way.Way.TheVariants.{On, Back}
+use Rattle.tree_node.proofs.Common.{TreeArenas, get, IsRetiredNode, StandsOrRetired, walk}
 use Rattle.tree_node.specs.declared.node.NodeOf.{NodeOf}
-use Rattle.tree_node.specs.Tree.{IsRetiredNode, StandsOrRetired, walk}
+use Rattle.tree_chain.proofs.Common.{LeafWalk, Steps}
+use Rattle.std.proofs.lemmas.Bool.{cases_Bool}
+use Rattle.std.proofs.lemmas.Option.{slice_get_within}
+use Rattle.tree_chain.specs.Walks.{here}
+use Rattle.tree_chain.specs.Ways.{StepsOver}
 use Rattle.tree_node.proofs.Ascents.{walk_ascends}
 use Rattle.tree_ranges.proofs.Nearest.{get_none}
 use Rattle.tree_walk.specs.Ends.{BeginsPart, IsLinked, first_on}
-use Rattle.tree_cursor_model.specs.Cursor.{meets}
-use Rattle.tree_cursor_model.specs.Rest.{lent}
 use Rattle.tree_cursors.specs.Seek.{NoneMeets, Seeks}
 use Rattle.tree_ranges.specs.Approximate.{Approximates}
 use Rattle.tree_ranges.proofs.Pieces.{all_reverse, reverse_parts}

@@ -1,32 +1,17 @@
 -- A move answers the first of the pairs that are left on its way.
-use Rattle.std.proofs.Common.{◌≡◌, ◌⊎◌, ℕ, zero, suc, ◌+◌, ◌<◌, ◌≤◌, Bool, true, false, if◌then◌else◌, ltb, List, [], ◌∷◌, ◌++◌, length, reverse, slice_get, Option, Some, None, Bor, append_assoc, append-nil, refl, sym, ap, ◌∙◌, arith, inl, inr}
-use Rattle.std.specs.Prelude.{filter}
-use Rattle.std.specs.Option.{option_map, option_or}
-use Rattle.std.specs.Cmp.{IsTotalOrder}
-use Rattle.std.specs.List.{AllByRecursion}
-use Rattle.std.specs.Ordering.{is_le, is_lt}
-use Rattle.std.specs.declared.cmp.Ordering.{Ordering}
-use Rattle.std.specs.declared.cmp.Ordering.TheVariants.{Less, Equal, Greater}
-use Rattle.std.specs.declared.ops.Bound.{Bound}
-use Rattle.std.specs.declared.ops.Bound.TheVariants.{Included, Excluded, Unbounded}
+use Rattle.std.proofs.Common.{◌≡◌, ◌⊎◌, ℕ, zero, suc, ◌+◌, ◌<◌, ◌≤◌, Bool, true, false, if◌then◌else◌, ltb, List, [], ◌∷◌, ◌++◌, length, reverse, slice_get, Option, Some, None, Bor, append_assoc, append-nil, refl, sym, ap, ◌∙◌, arith, inl, inr, filter, option_map, is_le, is_lt, Ordering, Less, Equal, Greater, take_all}
+use Rattle.tree_model.proofs.Common.{IsTotalOrder, AllByRecursion, Bound, Included, Excluded, Unbounded, nat_tests, reverse_onto, filter-append, IsAscending, within, lent_entry, HasBegun, Moves, lent, rest, along, opposite, Cursor, End, unopened, at_place, element_at, greatest_place, meets, next_end}
+use Rattle.tree_model.specs.declared.way.Way.{Way}
+use Rattle.tree_model.specs.declared.way.Way.TheVariants.{On, Back}
+use Rattle.tree_array.proofs.Common.{filter_none, alike, alike_after}
+use Rattle.std.specs.Option.{option_or}
 use Rattle.std.proofs.lemmas.Bool.{cases_Bool}
-use Rattle.std.proofs.lemmas.Bool.Decides.{nat_tests}
-use Rattle.std.proofs.lemmas.Grind.{reverse_onto}
-use Rattle.std.proofs.lemmas.List.{take_all}
-use Rattle.std.proofs.lemmas.List.Elements.{filter-append}
 use Rattle.std.proofs.lemmas.Option.{slice_get_within}
-use Rattle.tree_model.specs.Pairs.{IsAscending, within}
-use Rattle.tree_model.proofs.Lists.{filter_none}
-use Rattle.tree_model.proofs.Order.{alike, alike_after}
 use Rattle.tree_model.proofs.Ascending.{less_from_test}
-use Rattle.tree_chain.specs.declared.stand.Way.{Way}
-use Rattle.tree_chain.specs.declared.stand.Way.TheVariants.{On, Back}
 use Rattle.tree_chain.specs.Rest.{TakesFirst}
-use Rattle.tree_chain.specs.Walks.{lent_entry}
-use Rattle.tree_chain.specs.Ways.{along, opposite}
-use Rattle.tree_cursor_model.specs.Cursor.{Cursor, End, unopened, at_place, exhausted, are_apart, element_at, end_at, greatest_place, least_place, meets, moved, next_end, option_where, place_beside}
-use Rattle.tree_cursor_model.specs.Rest.{HasBegun, Moves, between, StandsWhere, from_end, lent, piece, rest, until_end}
-use Rattle.tree_cursor_model.proofs.Places.{places_compare}
+use Rattle.tree_model.specs.Rest.{between, StandsWhere, from_end, piece, until_end}
+use Rattle.tree_model.specs.Cursor.{exhausted, are_apart, end_at, least_place, moved, option_where, place_beside}
+use Rattle.tree_cursors.proofs.Places.{places_compare}
 use Rattle.tree_ranges.specs.Ranged.{IsFresh, pairs_within}
 use Rattle.tree_ranges.proofs.Pieces.{all_piece, all_reverse, filter_first, filter_over, piece_behind, piece_none, piece_parts, reverse_parts}
 

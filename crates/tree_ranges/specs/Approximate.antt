@@ -2,11 +2,11 @@
 use Rattle.std.specs.Prelude.{◌≡◌, ℕ, true, List, ◌∷◌, ◌++◌, Option, Some, MatchOption}
 use Rattle.std.specs.declared.cmp.Ordering.{Ordering}
 use Rattle.std.specs.declared.ops.Bound.{Bound}
-use Rattle.tree_chain.specs.declared.stand.Way.{Way}
+use Rattle.tree_model.specs.declared.way.Way.{Way}
 use Rattle.tree_chain.specs.Walks.{LeafWalk, stood_on}
 use Rattle.tree_node.specs.Arenas.{TreeArenas}
 use Rattle.tree_node.specs.Tree.{walk}
-use Rattle.tree_cursor_model.specs.Cursor.{meets}
+use Rattle.tree_model.specs.Cursor.{meets}
 use Rattle.tree_cursors.specs.Seek.{NoneMeets}
 
 module _ {K V : Type 0} {LEN : ℕ} (cmp : K → K → Ordering) (way : Way) (level : ℕ) (arenas : TreeArenas K V LEN) (id : ℕ) (bound : Bound K) where

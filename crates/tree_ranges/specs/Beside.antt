@@ -3,10 +3,10 @@ use Rattle.std.specs.Prelude.{Bool, false, if◌then◌else◌, List, Option, No
 use Rattle.std.specs.Ordering.{is_eq}
 use Rattle.std.specs.declared.cmp.Ordering.{Ordering}
 use Rattle.std.specs.declared.ops.Bound.TheVariants.{Unbounded}
-use Rattle.tree_chain.specs.declared.stand.Way.TheVariants.{Back}
-use Rattle.tree_cursor_model.specs.declared.proximity.ProximityOf.{ProximityOf}
-use Rattle.tree_cursor_model.specs.declared.proximity.ProximityOf.TheVariants.{Between, Smaller, Larger, Empty}
-use Rattle.tree_cursor_model.specs.Cursor.{Cursor, End, unopened, element_at, next_end, with_ends}
+use Rattle.tree_model.specs.declared.way.Way.TheVariants.{Back}
+use Rattle.tree_model.specs.declared.proximity.ProximityOf.{ProximityOf}
+use Rattle.tree_model.specs.declared.proximity.ProximityOf.TheVariants.{Between, Smaller, Larger, Empty}
+use Rattle.tree_model.specs.Cursor.{Cursor, End, unopened, element_at, next_end, with_ends}
 
 module _ {K V : Type 0} (cmp : K → K → Ordering) (l : List (K × V)) where
   -- there is no larger key

@@ -3,13 +3,13 @@ use Rattle.std.specs.Prelude.{◌≡◌, ℕ, ◌+◌, Bool, true, false, List, 
 use Rattle.std.specs.declared.cmp.Ordering.{Ordering}
 use Rattle.std.specs.declared.ops.Bound.TheVariants.{Unbounded}
 use Rattle.tree_model.specs.Pairs.{IsAscending, within}
-use Rattle.tree_chain.specs.declared.stand.Way.{Way}
-use Rattle.tree_chain.specs.declared.stand.Way.TheVariants.{On, Back}
+use Rattle.tree_model.specs.declared.way.Way.{Way}
+use Rattle.tree_model.specs.declared.way.Way.TheVariants.{On, Back}
 use Rattle.tree_chain.specs.Walks.{LeafWalk}
 use Rattle.tree_chain.specs.Ways.{places_left}
 use Rattle.tree_node.specs.Arenas.{TreeArenas}
-use Rattle.tree_cursor_model.specs.Cursor.{Cursor, End, unopened, at_place, exhausted, are_apart, can_flip, flipped}
-use Rattle.tree_cursor_model.specs.Rest.{StandsInside}
+use Rattle.tree_model.specs.Cursor.{Cursor, End, unopened, at_place, exhausted, are_apart, can_flip, flipped}
+use Rattle.tree_model.specs.Rest.{StandsInside}
 use Rattle.tree_cursors.specs.declared.end.End.{End as TreeEnd}
 use Rattle.tree_cursors.specs.declared.end.End.TheVariants.{Unopened, At, Exhausted}
 use Rattle.tree_cursors.specs.View.{Kept, end_of}

@@ -2,11 +2,11 @@
 ghost use Rattle.std.specs.Prelude.{◌≡◌, ◌<◌, if◌then◌else◌};
 ghost use Rattle.std.specs.Option.{option_map};
 ghost use Rattle.std.specs.declared.ops.Bound.TheVariants.{Included};
-ghost use Rattle.tree_chain.specs.declared.stand.Way.TheVariants.{On, Back};
-ghost use Rattle.tree_chain.specs.Ways.{opposite};
+ghost use Rattle.tree_model.specs.declared.way.Way.TheVariants.{On, Back};
+ghost use Rattle.tree_model.specs.Ways.{opposite};
 ghost use Rattle.tree_node.specs.Tree.{StandsOrRetired, walk};
 ghost use Rattle.tree_walk.specs.Ends.{IsLinked, first_on};
-ghost use Rattle.tree_cursor_model.specs.Rest.{lent};
+ghost use Rattle.tree_model.specs.Rest.{lent};
 ghost use Rattle.tree_ranges.specs.Approximate.{Approximates};
 
 use std::ops::Bound;

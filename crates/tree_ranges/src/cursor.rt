@@ -1,19 +1,19 @@
 //! What both cursors can do, and many moves at once.
 ghost use Rattle.std.specs.Prelude.{◌≡◌, IfOk, OnErr, OnOk, Option, map};
 ghost use Rattle.std.specs.Borrow.{Bor};
-ghost use Rattle.tree_chain.specs.declared.stand.Way.TheVariants.{On, Back};
+ghost use Rattle.tree_model.specs.declared.way.Way.TheVariants.{On, Back};
 ghost use Rattle.tree_model.specs.Pairs.{IsAscending};
-ghost use Rattle.tree_cursor_model.specs.declared.moves.Move.TheVariants.{Next, NextBack};
-ghost use Rattle.tree_cursor_model.specs.Cursor.{Cursor as Seen, shown};
-ghost use Rattle.tree_cursor_model.specs.Moves.{Ended, after, after_all, answer, answers, told};
-ghost use Rattle.tree_cursor_model.specs.Rest.{Moves, StandsInside, lent};
+ghost use Rattle.tree_model.specs.declared.moves.Move.TheVariants.{Next, NextBack};
+ghost use Rattle.tree_model.specs.Cursor.{Cursor as Seen, shown};
+ghost use Rattle.tree_model.specs.Moves.{Ended, after, after_all, answer, answers, told};
+ghost use Rattle.tree_model.specs.Rest.{Moves, StandsInside, lent};
 ghost use Rattle.tree_ranges.specs.Ranged.{Flips};
 
 use crate::iter::IterOver;
 use crate::range::RangeOver;
 use std::alloc::{AllocError, Global};
-use tree_cursor_model::{Answer, Move};
 use tree_leaf::leaf::LeafOf;
+use tree_model::{Answer, Move};
 use tree_node::node::ArenasOf;
 
 /// A cursor with two ends over pairs in the order of their keys.

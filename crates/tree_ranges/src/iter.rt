@@ -2,11 +2,11 @@
 ghost use Rattle.std.specs.Prelude.{◌≡◌, ⊤};
 ghost use Rattle.std.specs.Iterator.{at_most};
 ghost use Rattle.std.specs.declared.ops.Bound.TheVariants.{Unbounded};
-ghost use Rattle.tree_chain.specs.declared.stand.Way.TheVariants.{On, Back};
+ghost use Rattle.tree_model.specs.declared.way.Way.TheVariants.{On, Back};
 ghost use Rattle.tree_model.specs.Pairs.{IsAscending};
 ghost use Rattle.tree_node.specs.Whole.{IsTree, walk_under};
-ghost use Rattle.tree_cursor_model.specs.Cursor.{fresh, opened, shown, with_ends};
-ghost use Rattle.tree_cursor_model.specs.Rest.{Moves, StandsInside, lent};
+ghost use Rattle.tree_model.specs.Cursor.{fresh, opened, shown, with_ends};
+ghost use Rattle.tree_model.specs.Rest.{Moves, StandsInside, lent};
 ghost use Rattle.tree_cursors.specs.View.{Kept, end_of};
 ghost use Rattle.tree_ranges.specs.Ranged.{Flips, IsOpen, moves_left};
 
@@ -43,7 +43,7 @@ pub type IterOf<'t, K, V, const LEN: usize> = IterOver<
 pub type Iter<'t, K, V> = IterOf<'t, K, V, 15>;
 
 impl<'t, K, V, A: Ranged<K, V, L>, L: Walked> Model for IterOver<'t, K, V, A, L> {
-    ghost use Rattle.tree_cursor_model.specs.Cursor.{Cursor};
+    ghost use Rattle.tree_model.specs.Cursor.{Cursor};
     ghost use Rattle.tree_ranges.specs.Ranged.{IsOpen};
 
     ghost Value = { Cursor K V };
@@ -79,7 +79,8 @@ impl<'t, K: Ord + Drop + 't, V: Drop + 't, const LEN: usize> IterOver<
         backward: End<RevWalkOf<'t, K, V, LEN>>,
     ) -> Self
         requires { Kept arenas.now root K.cmp forward backward }
-        ensures { result ≡ with_ends (walk_under arenas.now root) (end_of arenas.now root forward.entry) (end_of arenas.now root backward.entry) }
+        ensures { result ≡ with_ends (walk_under arenas.now root)
+            (end_of arenas.now root forward.entry) (end_of arenas.now root backward.entry) }
     {
         IterOver {
             range: RangeOver::standing(arenas, root, forward, backward),

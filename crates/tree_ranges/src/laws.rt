@@ -1,9 +1,8 @@
 //! Laws of cursors, each as the contract of a small function: a cursor that was never moved gives all pairs within
 //! its bounds, in order, from either end.
 ghost use Rattle.std.specs.Prelude.{◌≡◌, IfOk, map, reverse};
-ghost use Rattle.tree_chain.specs.Walks.{lent_entry};
-ghost use Rattle.tree_chain.specs.Ways.{along};
-ghost use Rattle.tree_cursor_model.specs.Rest.{Moves};
+ghost use Rattle.tree_model.specs.Rest.{lent_entry, Moves};
+ghost use Rattle.tree_model.specs.Ways.{along};
 ghost use Rattle.tree_ranges.specs.Ranged.{IsFresh, pairs_within, way_of};
 
 use crate::cursor::Cursor;
@@ -42,7 +41,8 @@ fn pairs_along<'t, K: Ord + Drop + 't, V: Drop + 't, C: Cursor<'t, K, V>>(
     cursor: &mut C,
 ) -> Result<Vec<(&'t K, &'t V)>, AllocError>
     requires { IsFresh (C.cursor cursor.old) }
-    ensures { IfOk result (λ pairs. map lent_entry pairs.items ≡ along (way_of backward) (pairs_within K.cmp (C.cursor cursor.old))) }
+    ensures { IfOk result
+        (λ pairs. map lent_entry pairs.items ≡ along (way_of backward) (pairs_within K.cmp (C.cursor cursor.old))) }
 {
     let mut pairs = Vec::new(alloc);
     while let Some(pair) = step(backward, cursor) {

@@ -1,10 +1,10 @@
 //! Where a key is among the pairs of a tree.
 ghost use Rattle.std.specs.Prelude.{◌≡◌};
 ghost use Rattle.std.specs.declared.ops.Bound.TheVariants.{Included, Unbounded};
-ghost use Rattle.tree_chain.specs.declared.stand.Way.TheVariants.{On, Back};
+ghost use Rattle.tree_model.specs.declared.way.Way.TheVariants.{On, Back};
 ghost use Rattle.tree_node.specs.Whole.{IsTree, walk_under};
-ghost use Rattle.tree_cursor_model.specs.Cursor.{next_end, unopened};
-ghost use Rattle.tree_cursor_model.specs.Located.{located};
+ghost use Rattle.tree_model.specs.Cursor.{next_end, unopened};
+ghost use Rattle.tree_model.specs.Located.{located};
 ghost use Rattle.tree_cursors.specs.View.{EndStands, end_of};
 ghost use Rattle.tree_ranges.specs.Beside.{located_beside, located_past};
 
@@ -12,9 +12,9 @@ use crate::ends::{again, has_pair, stands_at, turned};
 use crate::iter::{IterOf, IterOver};
 use std::ops::Bound;
 use tree_chain::{IterOf as WalkOf, RevIterOf as RevWalkOf};
-use tree_cursor_model::ProximityOf;
 use tree_cursors::end::{End, step};
 use tree_leaf::arena::NodeId;
+use tree_model::ProximityOf;
 use tree_node::node::ArenasOf;
 
 /// Where a key is among pairs, with fifteen pairs a leaf.
@@ -31,6 +31,7 @@ pub fn locate<'t, K: Ord + Drop + 't, V: Drop + 't, const LEN: usize>(
     requires { IsTree K.cmp arenas.now root }
     ensures { result ≡ located K.cmp (walk_under arenas.now root) key.now }
 {
+    // A copy, since the borrow checker has an argument of this type passed on once.
     let top = root;
     let first = end_from(arenas, top, key);
     if stands_at(&first, key) {
@@ -51,6 +52,7 @@ fn past_all<'t, K: Ord + Drop + 't, V: Drop + 't, const LEN: usize>(
     requires { IsTree K.cmp arenas.now root }
     ensures { result ≡ located_past K.cmp (walk_under arenas.now root) }
 {
+    // A copy, since the borrow checker has an argument of this type passed on once.
     let top = root;
     let last = last_end(arenas, top);
     if has_pair(&last) {
@@ -70,6 +72,7 @@ fn beside<'t, K: Ord + Drop + 't, V: Drop + 't, const LEN: usize>(
     requires stands { EndStands arenas.now root end }
     ensures { result ≡ located_beside K.cmp (walk_under arenas.now root) (end_of arenas.now root end.entry) }
 {
+    // A copy, since the borrow checker has an argument of this type passed on once.
     let top = root;
     let before = end_before(arenas, top, &end);
     if has_pair(&before) {
@@ -86,7 +89,8 @@ fn end_from<'t, K: Ord + Drop, V: Drop, const LEN: usize>(
     key: &K,
 ) -> End<WalkOf<'t, K, V, LEN>>
     requires { IsTree K.cmp arenas.now root }
-    ensures place { end_of arenas.now root result ≡ next_end K.cmp On (Included key.now) (walk_under arenas.now root) unopened }
+    ensures place { end_of arenas.now root result ≡ next_end K.cmp On
+        (Included key.now) (walk_under arenas.now root) unopened }
     ensures stands { EndStands arenas.now root result }
 {
     let mut end = End::Unopened;
@@ -100,7 +104,8 @@ fn last_end<'t, K: Ord + Drop + 't, V: Drop + 't, const LEN: usize>(
     root: Option<(NodeId, usize)>,
 ) -> End<RevWalkOf<'t, K, V, LEN>>
     requires { IsTree K.cmp arenas.now root }
-    ensures place { end_of arenas.now root result ≡ next_end K.cmp Back Unbounded (walk_under arenas.now root) unopened }
+    ensures place { end_of arenas.now root result ≡ next_end K.cmp Back Unbounded
+        (walk_under arenas.now root) unopened }
     ensures stands { EndStands arenas.now root result }
 {
     let open: Bound<&'t K> = Bound::Unbounded;
@@ -117,7 +122,8 @@ fn end_before<'t, K: Ord + Drop + 't, V: Drop + 't, const LEN: usize>(
 ) -> End<RevWalkOf<'t, K, V, LEN>>
     requires tree { IsTree K.cmp arenas.now root }
     requires stands { EndStands arenas.now root end.now }
-    ensures place { end_of arenas.now root result ≡ next_end K.cmp Back Unbounded (walk_under arenas.now root) (end_of arenas.now root end.now) }
+    ensures place { end_of arenas.now root result ≡ next_end K.cmp Back Unbounded
+        (walk_under arenas.now root) (end_of arenas.now root end.now) }
     ensures stands { EndStands arenas.now root result }
 {
     let open: Bound<&'t K> = Bound::Unbounded;

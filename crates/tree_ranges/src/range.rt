@@ -2,11 +2,11 @@
 ghost use Rattle.std.specs.Prelude.{◌≡◌, ⊤};
 ghost use Rattle.std.specs.Iterator.{at_most};
 ghost use Rattle.std.specs.Range.Bound.{bound_map};
-ghost use Rattle.tree_chain.specs.declared.stand.Way.TheVariants.{On, Back};
+ghost use Rattle.tree_model.specs.declared.way.Way.TheVariants.{On, Back};
 ghost use Rattle.tree_model.specs.Pairs.{IsAscending};
 ghost use Rattle.tree_node.specs.Whole.{IsTree, walk_under};
-ghost use Rattle.tree_cursor_model.specs.Cursor.{fresh, opened, shown, with_ends};
-ghost use Rattle.tree_cursor_model.specs.Rest.{Moves, StandsInside, lent};
+ghost use Rattle.tree_model.specs.Cursor.{fresh, opened, shown, with_ends};
+ghost use Rattle.tree_model.specs.Rest.{Moves, StandsInside, lent};
 ghost use Rattle.tree_cursors.specs.View.{Kept, end_of};
 ghost use Rattle.tree_ranges.specs.Ranged.{Flips, moves_left};
 
@@ -29,7 +29,7 @@ pub trait Ranged<K, V, L: Walked> {
     ghost use Rattle.std.specs.Borrow.{Bor};
     ghost use Rattle.std.specs.declared.ops.Bound.{Bound as AnyBound};
     ghost use Rattle.tree_chain.specs.Walks.{LinkedWalk};
-    ghost use Rattle.tree_cursor_model.specs.Cursor.{Cursor};
+    ghost use Rattle.tree_model.specs.Cursor.{Cursor};
     ghost use Rattle.tree_cursors.specs.declared.end.End.{End as TreeEnd};
 
     ghost seen: { Self → Option (ℕ × ℕ) → AnyBound (Bor K) → AnyBound (Bor K) → TreeEnd (LinkedWalk L) → TreeEnd (LinkedWalk L) → Cursor K V };
@@ -74,7 +74,7 @@ pub type RangeOf<'t, K, V, const LEN: usize> = RangeOver<
 pub type Range<'t, K, V> = RangeOf<'t, K, V, 15>;
 
 impl<'t, K, V, A: Ranged<K, V, L>, L: Walked> Model for RangeOver<'t, K, V, A, L> {
-    ghost use Rattle.tree_cursor_model.specs.Cursor.{Cursor};
+    ghost use Rattle.tree_model.specs.Cursor.{Cursor};
 
     ghost Value = { Cursor K V };
 
@@ -98,7 +98,8 @@ impl<'t, K: Ord + Drop + 't, V: Drop + 't, const LEN: usize> RangeOver<
         bounds: (Bound<&'t K>, Bound<&'t K>),
     ) -> Self
         requires { IsTree K.cmp arenas.now root }
-        ensures { result ≡ fresh (walk_under arenas.now root) (bound_map (λ k. k.now) bounds.entry.0) (bound_map (λ k. k.now) bounds.entry.1) }
+        ensures { result ≡ fresh (walk_under arenas.now root)
+            (bound_map (λ k. k.now) bounds.entry.0) (bound_map (λ k. k.now) bounds.entry.1) }
     {
         let (low, high) = bounds;
         RangeOver {
@@ -165,7 +166,8 @@ impl<'t, K: Ord + Drop + 't, V: Drop + 't, const LEN: usize> RangeOver<
         backward: End<RevWalkOf<'t, K, V, LEN>>,
     ) -> Self
         requires { Kept arenas.now root K.cmp forward backward }
-        ensures { result ≡ with_ends (walk_under arenas.now root) (end_of arenas.now root forward.entry) (end_of arenas.now root backward.entry) }
+        ensures { result ≡ with_ends (walk_under arenas.now root)
+            (end_of arenas.now root forward.entry) (end_of arenas.now root backward.entry) }
     {
         RangeOver {
             arenas,

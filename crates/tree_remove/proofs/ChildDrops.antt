@@ -1,26 +1,14 @@
 -- A child that lost its last pair is dropped and taken out of its node: what that makes of the part under the node.
-use Rattle.std.proofs.Common.{◌≡◌, ℕ, suc, ◌≤◌, Bool, List, [], ◌∷◌, ◌++◌, map, Option, Some, None, IsSome, refl, sym, ap, ◌∙◌, arith, append_assoc, length, length-append}
-use Rattle.std.specs.List.{flat_map, AllByRecursion}
-use Rattle.std.specs.declared.cmp.Ordering.{Ordering}
-use Rattle.std.specs.Cmp.{IsTotalOrder}
-use Rattle.std.proofs.lemmas.Cmp.{tied_itself}
-use Rattle.std.proofs.lemmas.List.{append-nil, map-append}
-use Rattle.slab.specs.Slab.{get}
+use Rattle.std.proofs.Common.{◌≡◌, ℕ, suc, ◌≤◌, Bool, List, [], ◌∷◌, ◌++◌, map, Option, Some, None, IsSome, refl, sym, ap, ◌∙◌, arith, append_assoc, length, length-append, flat_map, Ordering, append-nil}
+use Rattle.tree_model.proofs.Common.{AllByRecursion, IsTotalOrder, tied_itself, map-append, without}
+use Rattle.tree_array.proofs.Common.{Arrivals, all_map, all-append}
 use Rattle.tree_array.specs.declared.answers.RemoveResult.{RemoveResult}
 use Rattle.tree_array.specs.declared.answers.RemoveResult.TheVariants.{Success, Retired, Fail}
-use Rattle.tree_array.specs.Arrivals.{Arrivals}
-use Rattle.tree_leaf.proofs.Counts.{one_here, uses_le_one}
-use Rattle.tree_model.specs.Pairs.{without}
-use Rattle.tree_model.proofs.Lists.{all_map, all-append}
+use Rattle.tree_node.proofs.Common.{get, one_here, uses_le_one, TreeArenas, IsPart, KeepsBounds, Replaces, IsOfLevel, AreParted, HasChildFor, IsRetired, Stands, back_at, children_of, front_at, is_from, keyed, unbounded, walk, spare}
 use Rattle.tree_node.specs.declared.node.NodeOf.{NodeOf}
-use Rattle.tree_node.specs.Arenas.{TreeArenas}
 use Rattle.tree_node.specs.Routing.{IsChildAt}
 use Rattle.tree_clean_up.specs.CleanUps.{DropsChild, DropsKeyed, DropsUnbounded}
-use Rattle.tree_node.specs.Parts.{IsPart, KeepsBounds, Replaces}
-use Rattle.tree_node.specs.Tree.{IsOfLevel}
 use Rattle.tree_remove.specs.Removes.{RemovesUnder, TakesOut}
-use Rattle.tree_node.specs.Shape.{spare}
-use Rattle.tree_node.specs.Tree.{AreParted, HasChildFor, IsRetired, Stands, back_at, children_of, front_at, is_from, keyed, unbounded, walk}
 use Rattle.tree_node.proofs.Between.{without_between}
 use Rattle.tree_node.proofs.ChildChanges.{leaves_once, was as children_were}
 use Rattle.tree_node.proofs.Frames.{parted_map, Agrees, same_stands}

@@ -1,8 +1,7 @@
 -- The children of a node before and behind the one that a key belongs to.
-use Rattle.std.proofs.Common.{◌≡◌, Bool, true, false, cond, List, [], ◌∷◌, ◌++◌, map, Some, None, refl, ap}
-use Rattle.std.specs.declared.cmp.Ordering.{Ordering}
-use Rattle.tree_array.specs.Arrivals.{least_from}
-use Rattle.tree_node.specs.Tree.{front_at, back_at, is_from}
+use Rattle.std.proofs.Common.{◌≡◌, Bool, true, false, cond, List, [], ◌∷◌, ◌++◌, map, Some, None, refl, ap, Ordering}
+use Rattle.tree_array.proofs.Common.{least_from}
+use Rattle.tree_node.proofs.Common.{front_at, back_at, is_from}
 
 module _ {K X : Type 0} (cmp : K → K → Ordering) (k : K) where
   -- a keyed child has some before it and some behind it

@@ -1,22 +1,14 @@
 -- The child that a removal goes to, by the kind of the node above it, and what it leaves there.
-use Rattle.std.proofs.Common.{◌≡◌, ◌⊎◌, ℕ, zero, suc, ◌-◌, ◌<◌, ◌≤◌, Bool, List, [], ◌∷◌, ◌++◌, Option, Some, None, IsSome, inl, inr, refl, sym, ap, ◌∙◌, arith, sub-one}
-use Rattle.std.specs.declared.cmp.Ordering.{Ordering}
-use Rattle.std.specs.Cmp.{IsTotalOrder}
-use Rattle.slab.specs.Slab.{get}
+use Rattle.std.proofs.Common.{◌≡◌, ◌⊎◌, ℕ, zero, suc, ◌-◌, ◌<◌, ◌≤◌, Bool, List, [], ◌∷◌, ◌++◌, Option, Some, None, IsSome, inl, inr, refl, sym, ap, ◌∙◌, arith, sub-one, Ordering}
+use Rattle.tree_model.proofs.Common.{IsTotalOrder}
 use Rattle.tree_array.specs.declared.answers.RemoveResult.TheVariants.{Fail}
-use Rattle.tree_leaf.specs.Chain.{IsChain}
-use Rattle.tree_leaf.specs.Counting.{times}
-use Rattle.tree_leaf.proofs.Counts.{one_here, uses_le_one}
-use Rattle.tree_node.specs.declared.internal_node.InternalNodeOf.{InternalNodeOf}
-use Rattle.tree_node.specs.declared.leaf_node.LeafNodeOf.{LeafNodeOf}
+use Rattle.tree_node.proofs.Common.{get, IsChain, times, one_here, uses_le_one, TreeArenas, IsPart, Replaces, HasChildFor, IsRetired, Stands, child_of, keyed, nodes_at, unbounded}
+use Rattle.tree_node.specs.declared.branch.BranchOf.{BranchOf}
 use Rattle.tree_node.specs.declared.node.NodeOf.{NodeOf}
 use Rattle.tree_node.specs.declared.node.NodeOf.TheVariants.{Internal, Leaf}
-use Rattle.tree_node.specs.Arenas.{TreeArenas}
 use Rattle.tree_node.specs.Routing.{IsChildAt}
 use Rattle.tree_clean_up.specs.CleanUps.{HasChildIn}
-use Rattle.tree_node.specs.Parts.{IsPart, Replaces}
 use Rattle.tree_remove.specs.Removes.{RemovesUnder}
-use Rattle.tree_node.specs.Tree.{HasChildFor, IsRetired, Stands, child_of, keyed, nodes_at, unbounded}
 use Rattle.tree_node.proofs.ChildChanges.{child_part, same_node, was}
 use Rattle.tree_node.proofs.Children.{leaf_there}
 use Rattle.tree_node.proofs.Frames.{head_here}
@@ -72,7 +64,7 @@ module _ {K V : Type 0} {LEN : ℕ} {cmp : K → K → Ordering} (o : IsTotalOrd
       let some = rw none at (goes_to slot node place) in
       cc
 
-  pub under_leaf_node : (slot : Option ℕ) (level : ℕ) → 0 < level → IsPart cmp level a id ⊎ IsRetired level a id → (node : LeafNodeOf K LEN) → get a.nodes id ≡ Some (Leaf node)
+  pub under_leaf_node : (slot : Option ℕ) (level : ℕ) → 0 < level → IsPart cmp level a id ⊎ IsRetired level a id → (node : BranchOf K ℕ LEN) → get a.nodes id ≡ Some (Leaf node)
       → IsChildAt cmp key node.children node.unbounded_child child slot → UnderLeafNode slot level
   under_leaf_node slot zero inner given node here place = absurd (omega (arith, inner))
   under_leaf_node slot (suc level) inner (inr retired) node here place = absurd (not_retired slot level (Leaf node) here place retired)
@@ -80,7 +72,7 @@ module _ {K V : Type 0} {LEN : ℕ} {cmp : K → K → Ordering} (o : IsTotalOrd
       record { level_is = refl; part = part; which = rw here (goes_to slot (Leaf node) place); place = rw (node_is 0 a None id None part.stands (Leaf node) here) place }
   under_leaf_node slot (suc (suc level)) inner (inl part) node here place = absurd (kind_of cmp a id (suc level) (Leaf node) part.stands here)
 
-  pub under_internal : (slot : Option ℕ) (level : ℕ) → 0 < level → IsPart cmp level a id ⊎ IsRetired level a id → (node : InternalNodeOf K LEN) → get a.nodes id ≡ Some (Internal node)
+  pub under_internal : (slot : Option ℕ) (level : ℕ) → 0 < level → IsPart cmp level a id ⊎ IsRetired level a id → (node : BranchOf K ℕ LEN) → get a.nodes id ≡ Some (Internal node)
       → IsChildAt cmp key node.children node.unbounded_child child slot → UnderInternal slot level
   under_internal slot zero inner given node here place = absurd (omega (arith, inner))
   under_internal slot (suc level) inner (inr retired) node here place = absurd (not_retired slot level (Internal node) here place retired)

@@ -1,22 +1,14 @@
 -- The leaf of a key that lost its last pair, seen from a node above it: how the drop of each child that is left empty makes the removal one under that node.
-use Rattle.std.proofs.Common.{◌≡◌, ◌++◌, ℕ, zero, suc, ◌-◌, ◌<◌, Bool, true, ◌∷◌, Option, Some, None, IsSome, inl, refl, sym, ap, ◌∙◌, arith, sub-one}
-use Rattle.std.specs.declared.cmp.Ordering.{Ordering}
-use Rattle.std.specs.Cmp.{IsTotalOrder}
-use Rattle.slab.specs.Slab.{get}
+use Rattle.std.proofs.Common.{◌≡◌, ◌++◌, ℕ, zero, suc, ◌-◌, ◌<◌, Bool, true, ◌∷◌, Option, Some, None, IsSome, inl, refl, sym, ap, ◌∙◌, arith, sub-one, Ordering}
+use Rattle.tree_model.proofs.Common.{IsTotalOrder, pair_at}
 use Rattle.tree_array.specs.declared.answers.RemoveResult.{RemoveResult}
 use Rattle.tree_array.specs.declared.answers.RemoveResult.TheVariants.{Success, Retired, Fail}
-use Rattle.tree_clean_up.specs.CleanUps.{DropsChild, DropsKeyed, HasChildIn, RetiresIfEmpty}
-use Rattle.tree_leaf.specs.Chain.{IsChain}
-use Rattle.tree_leaf.proofs.Counts.{times-nil}
-use Rattle.tree_model.specs.Pairs.{pair_at}
-use Rattle.tree_node.specs.declared.internal_node.InternalNodeOf.{InternalNodeOf}
-use Rattle.tree_node.specs.declared.leaf_node.LeafNodeOf.{LeafNodeOf}
+use Rattle.tree_node.proofs.Common.{get, IsChain, times-nil, TreeArenas, IsPart, HasChildFor, IsRetiredNode, Stands, unbounded, walk}
+use Rattle.tree_node.specs.declared.branch.BranchOf.{BranchOf}
 use Rattle.tree_node.specs.declared.node.NodeOf.{NodeOf}
 use Rattle.tree_node.specs.declared.node.NodeOf.TheVariants.{Internal, Leaf}
-use Rattle.tree_node.specs.Arenas.{TreeArenas}
-use Rattle.tree_node.specs.Parts.{IsPart}
+use Rattle.tree_clean_up.specs.CleanUps.{DropsChild, DropsKeyed, HasChildIn, RetiresIfEmpty}
 use Rattle.tree_node.specs.Routing.{IsChildAt}
-use Rattle.tree_node.specs.Tree.{HasChildFor, IsRetiredNode, Stands, unbounded, walk}
 use Rattle.tree_descent.specs.Ways.{IsOnWay, LeadsTo}
 use Rattle.tree_remove.specs.Removes.{RemovesUnder, surely}
 use Rattle.tree_remove.specs.Takes.{Emptied, IsEmptied}
@@ -65,7 +57,7 @@ module _ {K V : Type 0} {LEN : ℕ} {cmp : K → K → Ordering} (o : IsTotalOrd
           cc
 
   -- a leaf node, over the very leaf
-  module _ (node : LeafNodeOf K LEN) (here : get now.nodes id ≡ Some (Leaf node)) (child : ℕ) (slot : Option ℕ) (place : IsChildAt cmp key node.children node.unbounded_child child slot) where
+  module _ (node : BranchOf K ℕ LEN) (here : get now.nodes id ≡ Some (Leaf node)) (child : ℕ) (slot : Option ℕ) (place : IsChildAt cmp key node.children node.unbounded_child child slot) where
     abbrev over_leaf : UnderLeafNode o before id key child slot level
     over_leaf = under_leaf_node o before id key child slot level deep (inl e.way.0) node (node_before here) place
 
@@ -107,7 +99,7 @@ module _ {K V : Type 0} {LEN : ℕ} {cmp : K → K → Ordering} (o : IsTotalOrd
     stays_removes new result settles = rw over_leaf.level_is (removes_settled cmp surely key before now new id result leaf_stays settles)
 
   -- an internal node
-  module _ (node : InternalNodeOf K LEN) (here : get now.nodes id ≡ Some (Internal node)) (child : ℕ) (slot : Option ℕ) (place : IsChildAt cmp key node.children node.unbounded_child child slot) where
+  module _ (node : BranchOf K ℕ LEN) (here : get now.nodes id ≡ Some (Internal node)) (child : ℕ) (slot : Option ℕ) (place : IsChildAt cmp key node.children node.unbounded_child child slot) where
     abbrev over_node : UnderInternal o before id key child slot level
     over_node = under_internal o before id key child slot level deep (inl e.way.0) node (node_before here) place
 

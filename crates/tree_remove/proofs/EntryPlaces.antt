@@ -1,23 +1,13 @@
 -- A pair by its place: where it is found, and that an equal key leads there too.
-use Rattle.std.proofs.Common.{◌≡◌, ℕ, zero, suc, ◌-◌, ◌<◌, true, false, cond, List, [], ◌∷◌, Option, Some, None, IsSome, refl, sym, ap, ◌∙◌, arith}
-use Rattle.std.specs.declared.cmp.Ordering.{Ordering}
-use Rattle.std.specs.declared.cmp.Ordering.TheVariants.{Less, Equal, Greater}
-use Rattle.std.specs.Cmp.{IsTotalOrder}
-use Rattle.std.specs.Ordering.{is_eq, is_ge}
-use Rattle.std.proofs.lemmas.Cmp.{alike_right, tied_back}
-use Rattle.slab.specs.Slab.{get}
+use Rattle.std.proofs.Common.{◌≡◌, ℕ, zero, suc, ◌-◌, ◌<◌, true, false, cond, List, [], ◌∷◌, Option, Some, None, IsSome, refl, sym, ap, ◌∙◌, arith, Ordering, Less, Equal, Greater, is_eq, is_ge}
+use Rattle.tree_model.proofs.Common.{IsTotalOrder, alike_right, tied_back, IsAbsent, IsAscending, pair_at}
+use Rattle.tree_array.proofs.Common.{Arrivals, arrival, least_from, removed, equal_from_test, less_from_greater}
 use Rattle.tree_array.specs.declared.answers.RemoveResult.{RemoveResult}
 use Rattle.tree_array.specs.declared.answers.RemoveResult.TheVariants.{Success, Retired}
-use Rattle.tree_array.specs.Arrivals.{Arrivals, arrival, least_from, removed}
-use Rattle.tree_array.specs.Removal.{removal_of}
-use Rattle.tree_leaf.specs.declared.leaf.LeafOf.{LeafOf}
-use Rattle.tree_model.specs.Pairs.{IsAbsent, IsAscending, pair_at}
-use Rattle.tree_model.proofs.LookUps.{equal_from_test, none_larger, larger_trans}
-use Rattle.tree_model.proofs.Order.{less_from_greater}
+use Rattle.tree_node.proofs.Common.{get, LeafOf, TreeArenas, IsPart, HasChildFor, IsRetired, Stands, child_at, child_of, is_from, keyed, unbounded, walk}
 use Rattle.tree_node.specs.declared.node.NodeOf.{NodeOf}
-use Rattle.tree_node.specs.Arenas.{TreeArenas}
-use Rattle.tree_node.specs.Parts.{IsPart}
-use Rattle.tree_node.specs.Tree.{HasChildFor, IsRetired, Stands, child_at, child_of, is_from, keyed, unbounded, walk}
+use Rattle.tree_array.specs.Removal.{removal_of}
+use Rattle.tree_model.proofs.LookUps.{none_larger, larger_trans}
 use Rattle.tree_clean_up.specs.CleanUps.{HasOnlyRetired}
 use Rattle.tree_clean_up.proofs.Retired.{walk-retired}
 use Rattle.tree_descent.specs.Ways.{IsOnWay, LeadsTo}

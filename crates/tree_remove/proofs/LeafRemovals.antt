@@ -1,26 +1,16 @@
 -- A removal in a leaf.
-use Rattle.std.proofs.Common.{◌≡◌, ℕ, ◌-◌, ◌==◌, min, Bool, true, false, List, [], ◌∷◌, length, Option, Some, None, IfSome, refl, sym, ap, ◌∙◌, arith, inl, inr}
-use Rattle.std.specs.List.{AllByRecursion}
-use Rattle.std.specs.declared.cmp.Ordering.{Ordering}
-use Rattle.std.specs.Cmp.{IsTotalOrder}
-use Rattle.std.proofs.lemmas.Bool.{cases_eq}
-use Rattle.std.proofs.lemmas.Bool.Decides.{nat_tests}
-use Rattle.std.proofs.lemmas.List.{length-map}
-use Rattle.slab.specs.Slab.{get}
+use Rattle.std.proofs.Common.{◌≡◌, ℕ, ◌-◌, ◌==◌, min, Bool, true, false, List, [], ◌∷◌, length, Option, Some, None, IfSome, refl, sym, ap, ◌∙◌, arith, inl, inr, Ordering}
+use Rattle.tree_model.proofs.Common.{AllByRecursion, IsTotalOrder, cases_eq, nat_tests, IsAbsent, pair_at, without}
+use Rattle.tree_array.proofs.Common.{Arrivals, removed, spent_at, all-append, all-filter}
 use Rattle.tree_array.specs.declared.answers.RemoveResult.{RemoveResult}
 use Rattle.tree_array.specs.declared.answers.RemoveResult.TheVariants.{Success, Retired, Fail}
-use Rattle.tree_array.specs.Arrivals.{Arrivals, removed, spent_at}
+use Rattle.tree_node.proofs.Common.{get, LeafOf, TreeArenas, KeepsBounds, spare, found_free, IsRetired, walk}
+use Rattle.std.proofs.lemmas.List.{length-map}
 use Rattle.tree_array.specs.Removal.{IsRemoval, removal_of}
-use Rattle.tree_leaf.specs.declared.leaf.LeafOf.{LeafOf}
-use Rattle.tree_model.specs.Pairs.{IsAbsent, pair_at, without}
 use Rattle.tree_model.proofs.Ascending.{IsAscending-without}
 use Rattle.tree_model.proofs.Lengths.{without_few}
-use Rattle.tree_model.proofs.Lists.{all-append, all-filter}
-use Rattle.tree_node.specs.Arenas.{TreeArenas}
-use Rattle.tree_node.specs.Parts.{KeepsBounds}
 use Rattle.tree_remove.specs.Removes.{RemovesUnder, TakesOut}
-use Rattle.tree_node.specs.Shape.{spare, found_free, found_spare}
-use Rattle.tree_node.specs.Tree.{IsRetired, walk}
+use Rattle.tree_node.specs.Shape.{found_spare}
 use Rattle.tree_node.proofs.Children.{walk-leaf}
 use Rattle.tree_node.proofs.LeafSpares.{free_within, spare_removed, spare_retired}
 use Rattle.tree_node.proofs.LeafWrites.{with_array, updated, here_now, array_replaces}

@@ -1,14 +1,8 @@
 -- What a whole tree is when its root has given its place to what was left of it.
-use Rattle.std.proofs.Common.{◌≡◌, ◌⊎◌, ℕ, ◌<◌, Option, Some, None, inl, inr, refl, ap, arith}
-use Rattle.std.specs.declared.cmp.Ordering.{Ordering}
-use Rattle.slab.specs.Slab.{get}
-use Rattle.tree_leaf.specs.Chain.{IsChain}
-use Rattle.tree_leaf.specs.Counting.{times, uses}
-use Rattle.tree_node.specs.Arenas.{TreeArenas}
+use Rattle.std.proofs.Common.{◌≡◌, ◌⊎◌, ℕ, ◌<◌, Option, Some, None, inl, inr, refl, ap, arith, Ordering}
+use Rattle.tree_node.proofs.Common.{get, IsChain, times, uses, TreeArenas, IsPart, Stands, leaves_at, nodes_at, IsRetiredRoot, IsTree}
 use Rattle.tree_node.specs.Depth.{HasNoKeyed}
-use Rattle.tree_node.specs.Parts.{IsPart}
-use Rattle.tree_node.specs.Tree.{Stands, leaves_at, nodes_at}
-use Rattle.tree_node.specs.Whole.{IsRetiredRoot, IsTop, IsTree, spare_under}
+use Rattle.tree_node.specs.Whole.{IsTop, spare_under}
 use Rattle.tree_remove.specs.Lowering.{IsRootIfAny, LowersRoot}
 
 module _ {K V : Type 0} {LEN : ℕ} {cmp : K → K → Ordering} where

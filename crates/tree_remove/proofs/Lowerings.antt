@@ -1,21 +1,10 @@
 -- A root that gives its place to its only child.
-use Rattle.std.proofs.Common.{◌≡◌, ◌⊎◌, ℕ, zero, suc, ◌+◌, ◌-◌, ◌<◌, ◌==◌, cond, [], ◌∷◌, Option, Some, None, inl, inr, refl, sym, ap, ◌∙◌, arith, sub-one}
-use Rattle.std.specs.declared.cmp.Ordering.{Ordering}
-use Rattle.std.proofs.lemmas.List.{append-nil}
-use Rattle.slab.specs.Slab.{get}
-use Rattle.tree_leaf.specs.Arena.{Loses}
-use Rattle.tree_leaf.specs.Counting.{times}
-use Rattle.tree_leaf.proofs.Chains.{same_array_refl}
-use Rattle.tree_leaf.proofs.Counts.{one_here, times-cons, uses_le_one}
-use Rattle.tree_node.specs.declared.internal_node.InternalNodeOf.{InternalNodeOf}
-use Rattle.tree_node.specs.declared.leaf_node.LeafNodeOf.{LeafNodeOf}
+use Rattle.std.proofs.Common.{◌≡◌, ◌⊎◌, ℕ, zero, suc, ◌+◌, ◌-◌, ◌<◌, ◌==◌, cond, [], ◌∷◌, Option, Some, None, inl, inr, refl, sym, ap, ◌∙◌, arith, sub-one, Ordering, append-nil}
+use Rattle.tree_node.proofs.Common.{get, Loses, times, same_array_refl, one_here, times-cons, uses_le_one, TreeArenas, IsPart, Replaces, IsOfLevel, IsRetired, Stands, children_of, leaves_at, nodes_at, unbounded, walk}
+use Rattle.tree_node.specs.declared.branch.BranchOf.{BranchOf}
 use Rattle.tree_node.specs.declared.node.NodeOf.{NodeOf}
 use Rattle.tree_node.specs.declared.node.NodeOf.TheVariants.{Internal, Leaf}
-use Rattle.tree_node.specs.Arenas.{TreeArenas}
 use Rattle.tree_remove.specs.Lowering.{IsRoot, LowersRoot}
-use Rattle.tree_node.specs.Parts.{IsPart, Replaces}
-use Rattle.tree_node.specs.Tree.{IsOfLevel}
-use Rattle.tree_node.specs.Tree.{IsRetired, Stands, children_of, leaves_at, nodes_at, unbounded, walk}
 use Rattle.tree_node.proofs.Frames.{Agrees, same_leaves, same_nodes, same_stands}
 use Rattle.tree_node.proofs.Lifts.{single_nodes}
 use Rattle.tree_node.proofs.Standing.{no_children}
@@ -28,7 +17,7 @@ module _ {K V : Type 0} {LEN : ℕ} (cmp : K → K → Ordering) (a : TreeArenas
   stays level stands = record { stands = stands; leaves = refl; leaves_under = refl; pairs = refl; nodes_kept = λ n used outside. refl; nodes_counted = λ n. refl }
 
   -- a leaf node stays, retired or not
-  pub leaf_node_stays : (level : ℕ) → 0 < level → IsPart cmp level a root ⊎ IsRetired level a root → IsOfLevel level (get a.nodes root) → (node : LeafNodeOf K LEN) → get a.nodes root ≡ Some (Leaf node)
+  pub leaf_node_stays : (level : ℕ) → 0 < level → IsPart cmp level a root ⊎ IsRetired level a root → IsOfLevel level (get a.nodes root) → (node : BranchOf K ℕ LEN) → get a.nodes root ≡ Some (Leaf node)
       → LowersRoot cmp level a a root (Some (root, level))
   leaf_node_stays zero inner given kind node here = absurd (omega (arith, inner))
   leaf_node_stays (suc zero) inner (inl part) kind node here = stays 1 (omega arith, inl (part, λ tall none. omega (arith, tall)))
@@ -36,13 +25,13 @@ module _ {K V : Type 0} {LEN : ℕ} (cmp : K → K → Ordering) (a : TreeArenas
   leaf_node_stays (suc (suc level)) inner given kind node here = absurd (rw here at kind)
 
   -- and so does a node with a keyed child
-  pub keyed_stays : (level : ℕ) → 0 < level → IsPart cmp level a root ⊎ IsRetired level a root → (node : InternalNodeOf K LEN) → get a.nodes root ≡ Some (Internal node) → (node.children.entries ≡ [] → ⊥)
+  pub keyed_stays : (level : ℕ) → 0 < level → IsPart cmp level a root ⊎ IsRetired level a root → (node : BranchOf K ℕ LEN) → get a.nodes root ≡ Some (Internal node) → (node.children.entries ≡ [] → ⊥)
       → LowersRoot cmp level a a root (Some (root, level))
   keyed_stays zero inner given node here some = absurd (omega (arith, inner))
   keyed_stays (suc level) inner (inl part) node here some = stays (suc level) (omega arith, inl (part, λ tall none. some (rw here at none)))
   keyed_stays (suc level) inner (inr retired) node here some = absurd (some (rw here at retired).0)
 
-  module _ (b : TreeArenas K V LEN) (node : InternalNodeOf K LEN) (gone : NodeOf K LEN) (here : get a.nodes root ≡ Some (Internal node)) (loses : Loses a.nodes b.nodes root gone) (leaves : b.leaves ≡ a.leaves) where
+  module _ (b : TreeArenas K V LEN) (node : BranchOf K ℕ LEN) (gone : NodeOf K LEN) (here : get a.nodes root ≡ Some (Internal node)) (loses : Loses a.nodes b.nodes root gone) (leaves : b.leaves ≡ a.leaves) where
     -- nothing is left of a retired root
     pub retired_gone : (level : ℕ) → 0 < level → IsPart cmp level a root ⊎ IsRetired level a root → node.unbounded_child ≡ None → LowersRoot cmp level a b root None
     retired_gone zero inner given none = absurd (omega (arith, inner))
@@ -125,7 +114,7 @@ module _ {K V : Type 0} {LEN : ℕ} (cmp : K → K → Ordering) (a : TreeArenas
     pub part : IsPart cmp (suc below) b x
     pub on : (new : TreeArenas K V LEN) (result : Option (ℕ × ℕ)) → LowersRoot cmp (suc below) b new x result → LowersRoot cmp (suc (suc below)) a new root result
 
-  pub over_one : (b : TreeArenas K V LEN) (node : InternalNodeOf K LEN) (gone : NodeOf K LEN) (x level : ℕ) → get a.nodes root ≡ Some (Internal node) → Loses a.nodes b.nodes root gone → b.leaves ≡ a.leaves
+  pub over_one : (b : TreeArenas K V LEN) (node : BranchOf K ℕ LEN) (gone : NodeOf K LEN) (x level : ℕ) → get a.nodes root ≡ Some (Internal node) → Loses a.nodes b.nodes root gone → b.leaves ≡ a.leaves
       → 0 < level → IsPart cmp level a root ⊎ IsRetired level a root → IsOfLevel level (get a.nodes root) → node.children.entries ≡ [] → node.unbounded_child ≡ Some x → OverOne b x level
   over_one b node gone x zero here loses leaves inner given kind none last_is = absurd (omega (arith, inner))
   over_one b node gone x (suc zero) here loses leaves inner given kind none last_is = absurd (rw here at kind)

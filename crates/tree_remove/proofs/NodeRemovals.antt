@@ -1,20 +1,12 @@
 -- A removal in the child that a key belongs to, of the part under its node, where the child stays.
-use Rattle.std.proofs.Common.{◌≡◌, ℕ, zero, suc, Bool, List, [], ◌∷◌, ◌++◌, Option, Some, None, refl, ◌∙◌, sym, arith, inl, inr, ◌⊎◌, ◌≤◌}
-use Rattle.std.specs.List.{AllByRecursion}
-use Rattle.std.specs.declared.cmp.Ordering.{Ordering}
-use Rattle.std.specs.declared.cmp.Ordering.TheVariants.{Less}
-use Rattle.std.specs.Cmp.{IsTotalOrder}
-use Rattle.slab.specs.Slab.{get}
+use Rattle.std.proofs.Common.{◌≡◌, ℕ, zero, suc, Bool, List, [], ◌∷◌, ◌++◌, Option, Some, None, refl, ◌∙◌, sym, arith, inl, inr, ◌⊎◌, ◌≤◌, Ordering, Less}
+use Rattle.tree_model.proofs.Common.{AllByRecursion, IsTotalOrder, AllLarger}
 use Rattle.tree_array.specs.declared.answers.RemoveResult.{RemoveResult}
 use Rattle.tree_array.specs.declared.answers.RemoveResult.TheVariants.{Success, Retired, Fail}
-use Rattle.tree_leaf.specs.declared.leaf.LeafOf.{LeafOf}
-use Rattle.tree_model.specs.Pairs.{AllLarger}
-use Rattle.tree_node.specs.Arenas.{TreeArenas}
+use Rattle.tree_node.proofs.Common.{get, LeafOf, TreeArenas, IsPart, KeepsBounds, Replaces, spare, HasChildFor, Stands, IsRetired, leaves_at, walk}
 use Rattle.tree_clean_up.specs.CleanUps.{HasOnlyRetired, RetiresIfEmpty}
-use Rattle.tree_node.specs.Parts.{IsPart, KeepsBounds, Replaces}
 use Rattle.tree_remove.specs.Removes.{RemovesUnder, TakesOut}
-use Rattle.tree_node.specs.Shape.{spare}
-use Rattle.tree_node.specs.Tree.{HasChildFor, Stands, IsRetired, IsRetiredLeaf, leaves_at, walk}
+use Rattle.tree_node.specs.Tree.{IsRetiredLeaf}
 use Rattle.tree_clean_up.proofs.Retired.{walk-retired}
 use Rattle.tree_node.proofs.Between.{found_between, without_between}
 use Rattle.tree_node.proofs.ChildChanges.{node_keeps, node_replaces, now, old_spare, new_spare, old_walk, new_walk}

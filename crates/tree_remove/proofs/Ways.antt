@@ -1,15 +1,10 @@
 -- A removal in the leaf that a key belongs to, seen from the node where its way starts.
-use Rattle.std.proofs.Common.{◌≡◌, ℕ, zero, suc, ◌-◌, ◌<◌, Bool, [], ◌∷◌, length, None, refl, sym, ◌∙◌, arith, sub-one}
-use Rattle.std.specs.declared.cmp.Ordering.{Ordering}
-use Rattle.std.specs.Cmp.{IsTotalOrder}
-use Rattle.slab.specs.Slab.{get}
+use Rattle.std.proofs.Common.{◌≡◌, ℕ, zero, suc, ◌-◌, ◌<◌, Bool, [], ◌∷◌, length, None, refl, sym, ◌∙◌, arith, sub-one, Ordering}
+use Rattle.tree_model.proofs.Common.{IsTotalOrder, IsAscending, pair_at, without}
 use Rattle.tree_array.specs.declared.answers.RemoveResult.{RemoveResult}
 use Rattle.tree_array.specs.declared.answers.RemoveResult.TheVariants.{Success, Retired, Fail}
-use Rattle.tree_model.specs.Pairs.{IsAscending, pair_at, without}
+use Rattle.tree_node.proofs.Common.{get, TreeArenas, IsPart, Replaces, HasChildFor, IsRetired, Stands, walk}
 use Rattle.tree_model.proofs.Lengths.{without_present}
-use Rattle.tree_node.specs.Arenas.{TreeArenas}
-use Rattle.tree_node.specs.Parts.{IsPart, Replaces}
-use Rattle.tree_node.specs.Tree.{HasChildFor, IsRetired, Stands, walk}
 use Rattle.tree_descent.specs.Ways.{IsOnWay}
 use Rattle.tree_node.proofs.ChildChanges.{child_part}
 use Rattle.tree_node.proofs.Children.{walk-leaf}

@@ -9,7 +9,6 @@ use tree_array::array::RemoveResult;
 use tree_clean_up::{drop_child_node, drop_keyed_leaf, retire_if_empty};
 use tree_leaf::arena::NodeId;
 use tree_node::node::{ArenasOf, NodeOf};
-use tree_node::routing::child_place_for;
 
 /// Drops the leaf of a key, which a removal emptied, and on the way back each node that is left without a child. An unbounded
 /// leaf stays while its node has another one.
@@ -24,12 +23,13 @@ pub fn drop_emptied<K: Ord + Drop, V: Drop, const LEN: usize>(
 ) -> RemoveResult
     requires node { 0 < level }
     requires emptied { IsEmptied K.cmp level arenas.old id key.now }
-    ensures removes { (before : TreeArenas K V LEN) → Emptied K.cmp level before arenas.old id key.now → RemovesUnder K.cmp surely level before arenas.new id result key.now }
+    ensures removes { (before : TreeArenas K V LEN) → Emptied K.cmp level before arenas.old id key.now
+        → RemovesUnder K.cmp surely level before arenas.new id result key.now }
     ensures settled { level ≡ 1 → result ≡ RemoveResult.Success → HasOnlyRetired arenas.new id → ⊥ }
 {
     match arenas.node(id) {
         NodeOf::Leaf(node) => {
-            let Some(place) = child_place_for(&node.children, node.unbounded_child, key) else {
+            let Some(place) = node.child_place_for(key) else {
                 return RemoveResult::Fail;
             };
             match place.slot {
@@ -41,7 +41,7 @@ pub fn drop_emptied<K: Ord + Drop, V: Drop, const LEN: usize>(
             }
         }
         NodeOf::Internal(node) => {
-            let Some(place) = child_place_for(&node.children, node.unbounded_child, key) else {
+            let Some(place) = node.child_place_for(key) else {
                 return RemoveResult::Fail;
             };
             match drop_emptied(arenas, level - 1, place.child, key) {

@@ -95,7 +95,8 @@ fn take_slot<K: Ord + Drop, V: Drop, const LEN: usize>(
     arenas: &mut ArenasOf<K, V, LEN>,
     place: EntryPlace,
 ) -> (K, V, RemoveResult)
-    requires { (pair : K × V) × (stored_at (get arenas.old.leaves place.leaf) place.slot ≡ Some pair) × (pair_at K.cmp (walk 0 arenas.old place.leaf) pair.0 ≡ Some pair) }
+    requires { (pair : K × V) × (stored_at (get arenas.old.leaves place.leaf) place.slot ≡ Some pair)
+        × (pair_at K.cmp (walk 0 arenas.old place.leaf) pair.0 ≡ Some pair) }
     ensures taken { stored_at (get arenas.old.leaves place.leaf) place.slot ≡ Some (result.0, result.1) }
     ensures removes { RemovesUnder K.cmp surely 0 arenas.old arenas.new place.leaf result.2 result.0 }
     ensures settled { result.2 ≡ RemoveResult.Success → IsRetired 0 arenas.new place.leaf → ⊥ }

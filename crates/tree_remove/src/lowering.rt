@@ -3,8 +3,7 @@ ghost use Rattle.std.specs.Prelude.{◌⊎◌, ◌<◌};
 ghost use Rattle.slab.specs.Slab.{get};
 ghost use Rattle.tree_remove.specs.Lowering.{LowersRoot};
 ghost use Rattle.tree_node.specs.Parts.{IsPart};
-ghost use Rattle.tree_node.specs.Tree.{IsOfLevel};
-ghost use Rattle.tree_node.specs.Tree.{IsRetired};
+ghost use Rattle.tree_node.specs.Tree.{IsOfLevel, IsRetired};
 
 use tree_leaf::arena::NodeId;
 use tree_node::node::{ArenasOf, NodeOf};

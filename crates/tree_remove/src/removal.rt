@@ -34,8 +34,10 @@ pub fn remove_at<K: Ord + Drop, V: Drop, F: FnOnce(&V) -> bool + Drop, const LEN
 ) -> RemoveResult
     requires node { 0 < level }
     requires part { IsPart K.cmp level arenas.old id ⊎ IsRetired level arenas.old id }
-    requires callable { ForSome (pair_at K.cmp (walk level arenas.old id) key.now) (λ pair. FnOnceTakesAt F.FnOnce condition pair.1) }
-    ensures removes { RemovesUnder K.cmp (λ val said. FnOnceReturnsAt F.FnOnce condition val said) level arenas.old arenas.new id result key.now }
+    requires callable { ForSome (pair_at K.cmp (walk level arenas.old id) key.now)
+        (λ pair. FnOnceTakesAt F.FnOnce condition pair.1) }
+    ensures removes { RemovesUnder K.cmp
+        (λ val said. FnOnceReturnsAt F.FnOnce condition val said) level arenas.old arenas.new id result key.now }
     ensures settled { level ≡ 1 → result ≡ RemoveResult.Success → HasOnlyRetired arenas.new id → ⊥ }
 {
     match remove_beside(arenas, level, id, key, condition) {
@@ -59,11 +61,17 @@ pub fn remove_beside<K: Ord + Drop, V: Drop, F: FnOnce(&V) -> bool + Drop, const
 ) -> Result<bool, (F, LeafId)>
     requires node { 0 < level }
     requires part { IsPart K.cmp level arenas.old id ⊎ IsRetired level arenas.old id }
-    requires callable { ForSome (pair_at K.cmp (walk level arenas.old id) key.now) (λ pair. FnOnceTakesAt F.FnOnce condition pair.1) }
-    ensures removes { IfOk result (λ removed. RemovesUnder K.cmp (λ val said. FnOnceReturnsAt F.FnOnce condition val said) level arenas.old arenas.new id (removal_told removed) key.now) }
+    requires callable { ForSome (pair_at K.cmp (walk level arenas.old id) key.now)
+        (λ pair. FnOnceTakesAt F.FnOnce condition pair.1) }
+    ensures removes { IfOk result
+        (λ removed. RemovesUnder K.cmp
+        (λ val said. FnOnceReturnsAt F.FnOnce condition val said) level arenas.old arenas.new id
+        (removal_told removed) key.now) }
     ensures settled { result ≡ Ok true → level ≡ 1 → HasOnlyRetired arenas.new id → ⊥ }
     ensures handed_back { IfErr result (λ back. (back.0 ≡ condition) × (arenas.new ≡ arenas.old)) }
-    ensures alone { IfErr result (λ back. (node : ℕ) × LeadsTo K.cmp key.now level arenas.old id node back.1 × (length (walk 0 arenas.old back.1) ≤ 1)) }
+    ensures alone { IfErr result
+        (λ back. (node : ℕ) × LeadsTo K.cmp key.now level arenas.old id node back.1
+        × (length (walk 0 arenas.old back.1) ≤ 1)) }
 {
     let Some(place) = leaf_for(arenas, level, id, key, false) else {
         return Ok(false);
@@ -91,8 +99,10 @@ pub fn remove_alone<K: Ord + Drop, V: Drop, F: FnOnce(&V) -> bool + Drop, const 
 ) -> RemoveResult
     requires node { 0 < level }
     requires way { (node : ℕ) × LeadsTo K.cmp key.now level arenas.old id node leaf }
-    requires callable { ForSome (pair_at K.cmp (walk level arenas.old id) key.now) (λ pair. FnOnceTakesAt F.FnOnce condition pair.1) }
-    ensures removes { RemovesUnder K.cmp (λ val said. FnOnceReturnsAt F.FnOnce condition val said) level arenas.old arenas.new id result key.now }
+    requires callable { ForSome (pair_at K.cmp (walk level arenas.old id) key.now)
+        (λ pair. FnOnceTakesAt F.FnOnce condition pair.1) }
+    ensures removes { RemovesUnder K.cmp
+        (λ val said. FnOnceReturnsAt F.FnOnce condition val said) level arenas.old arenas.new id result key.now }
     ensures settled { level ≡ 1 → result ≡ RemoveResult.Success → HasOnlyRetired arenas.new id → ⊥ }
 {
     match remove_in_leaf(arenas, leaf, key, condition) {
@@ -111,8 +121,10 @@ fn remove_in_leaf<K: Ord + Drop, V: Drop, F: FnOnce(&V) -> bool + Drop, const LE
     condition: F,
 ) -> RemoveResult
     requires there { ContainsKey arenas.old.leaves id }
-    requires callable { ForSome (pair_at K.cmp (walk 0 arenas.old id) key.now) (λ pair. FnOnceTakesAt F.FnOnce condition pair.1) }
-    ensures removes { RemovesUnder K.cmp (λ val said. FnOnceReturnsAt F.FnOnce condition val said) 0 arenas.old arenas.new id result key.now }
+    requires callable { ForSome (pair_at K.cmp (walk 0 arenas.old id) key.now)
+        (λ pair. FnOnceTakesAt F.FnOnce condition pair.1) }
+    ensures removes { RemovesUnder K.cmp
+        (λ val said. FnOnceReturnsAt F.FnOnce condition val said) 0 arenas.old arenas.new id result key.now }
     ensures settled { result ≡ RemoveResult.Success → IsRetired 0 arenas.new id → ⊥ }
 {
     // The contract of `free` says what holds of a retired leaf.

@@ -1,13 +1,8 @@
 -- What a removal of a range from a tree comes to.
-use Rattle.std.proofs.Common.{◌≡◌, ◌⊎◌, ℕ, Some, None, inl, inr, refl}
-use Rattle.std.specs.declared.cmp.Ordering.{Ordering}
-use Rattle.std.specs.declared.ops.Bound.{Bound}
-use Rattle.slab.specs.Slab.{get}
+use Rattle.std.proofs.Common.{◌≡◌, ◌⊎◌, ℕ, Some, None, inl, inr, refl, Ordering}
+use Rattle.tree_model.proofs.Common.{Bound}
+use Rattle.tree_node.proofs.Common.{get, TreeArenas, IsPart, IsOfLevel, IsRetired, Stands, IsRetiredRoot, IsTree}
 use Rattle.tree_cut.specs.Cuts.{CutsUnder}
-use Rattle.tree_node.specs.Arenas.{TreeArenas}
-use Rattle.tree_node.specs.Parts.{IsPart}
-use Rattle.tree_node.specs.Tree.{IsOfLevel, IsRetired, Stands}
-use Rattle.tree_node.specs.Whole.{IsRetiredRoot, IsTree}
 use Rattle.tree_node.proofs.Steps.{part_after}
 use Rattle.tree_node.proofs.Whole.{chain_after, leaves_after, nodes_after, tree_part}
 use Rattle.tree_remove.specs.Lowering.{LowersRoot}

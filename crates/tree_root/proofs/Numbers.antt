@@ -1,13 +1,11 @@
 -- How many pairs a tree has at most.
-use Rattle.std.proofs.Common.{◌≡◌, ◌⊎◌, ℕ, ◌+◌, ◌*◌, ◌^◌, ◌<◌, ◌≤◌, [], length, Option, Some, None, inl, inr, refl, ap, arith}
+use Rattle.std.proofs.Common.{◌≡◌, ◌⊎◌, ℕ, ◌+◌, ◌*◌, ◌^◌, ◌<◌, ◌≤◌, [], length, Option, Some, None, inl, inr, refl, ap, arith, Ordering}
+use Rattle.tree_array.proofs.Common.{IsLen}
+use Rattle.tree_node.proofs.Common.{get, TreeArenas, Stands, leaves_at, walk, IsRetiredRoot, IsTree, walk_under}
 use Rattle.std.proofs.Math.Nat.{mul-le-mul_left}
-use Rattle.std.specs.declared.cmp.Ordering.{Ordering}
-use Rattle.slab.specs.Slab.{get, slab_len}
-use Rattle.tree_array.specs.Length.{IsLen}
+use Rattle.slab.specs.Slab.{slab_len}
 use Rattle.tree_leaf.proofs.Pigeonhole.{once_fits}
-use Rattle.tree_node.specs.Arenas.{TreeArenas}
-use Rattle.tree_node.specs.Tree.{Stands, leaves_at, walk}
-use Rattle.tree_node.specs.Whole.{IsRetiredRoot, IsTree, depth_of, walk_under}
+use Rattle.tree_node.specs.Whole.{depth_of}
 use Rattle.tree_node.proofs.Bounds.{entries_few, walk_few}
 use Rattle.tree_node.proofs.Standing.{no_children}
 

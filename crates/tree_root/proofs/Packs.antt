@@ -1,15 +1,10 @@
 -- What a store leaves of a packed tree.
-use Rattle.std.proofs.Common.{◌≡◌, ℕ, suc, Bool, true, Some, None, Result, arith}
-use Rattle.std.specs.List.{AllByRecursion}
-use Rattle.std.specs.declared.cmp.Ordering.{Ordering}
-use Rattle.std.specs.declared.cmp.Ordering.TheVariants.{Less}
-use Rattle.std.specs.Cmp.{IsTotalOrder}
+use Rattle.std.proofs.Common.{◌≡◌, ℕ, suc, Bool, true, Some, None, Result, arith, Ordering, Less}
+use Rattle.tree_model.proofs.Common.{AllByRecursion, IsTotalOrder}
 use Rattle.tree_array.specs.declared.answers.StoreResult.{StoreResult}
+use Rattle.tree_node.proofs.Common.{TreeArenas, room, Stands, walk}
 use Rattle.tree_insert.specs.Inserts.{InsertsUnder, stores}
 use Rattle.tree_insert.specs.Roots.{RaisesRoot}
-use Rattle.tree_node.specs.Arenas.{TreeArenas}
-use Rattle.tree_node.specs.Shape.{room}
-use Rattle.tree_node.specs.Tree.{Stands, walk}
 use Rattle.tree_split.specs.Packed.{IsPacked, packed_under}
 use Rattle.tree_split.proofs.Edges.{packed_beyond}
 use Rattle.tree_split.proofs.Tests.{root_from, root_to}

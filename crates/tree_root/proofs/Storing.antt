@@ -1,28 +1,20 @@
 -- What a store in a tree comes to: the first pair, a pair under the root, and a pair after the root has grown.
-use Rattle.std.proofs.Common.{◌≡◌, ◌⊎◌, ℕ, zero, suc, ◌<◌, Bool, true, false, List, [], Option, Some, None, IsSome, Result, Ok, Err, inl, inr, refl, sym, ap, ◌∙◌, arith}
-use Rattle.std.specs.List.{AllByRecursion}
-use Rattle.std.specs.declared.cmp.Ordering.{Ordering}
-use Rattle.std.specs.declared.cmp.Ordering.TheVariants.{Less}
-use Rattle.std.specs.Cmp.{IsTotalOrder}
-use Rattle.std.proofs.lemmas.Bool.{false_from_ne_true}
-use Rattle.slab.specs.Slab.{get}
-use Rattle.tree_model.specs.Pairs.{IsAbsent, IsPresent}
+use Rattle.std.proofs.Common.{◌≡◌, ◌⊎◌, ℕ, zero, suc, ◌<◌, Bool, true, false, List, [], Option, Some, None, IsSome, Result, Ok, Err, inl, inr, refl, sym, ap, ◌∙◌, arith, Ordering, Less}
+use Rattle.tree_model.proofs.Common.{AllByRecursion, IsTotalOrder, IsAbsent, IsPresent}
+use Rattle.tree_model.specs.declared.commands.InsertError.{InsertError}
 use Rattle.tree_array.specs.declared.answers.StoreResult.{StoreResult}
 use Rattle.tree_array.specs.declared.answers.StoreResult.TheVariants.{New, Replaced, Duplicate, Full}
+use Rattle.tree_node.proofs.Common.{get, TreeArenas, IsPart, Unchanged, room, spare, IsRetired, IsRetiredNode, Stands, StandsOrRetired, leaves_at, IsRetiredRoot, IsTree, leaves_under, walk_under}
+use Rattle.std.proofs.lemmas.Bool.{false_from_ne_true}
 use Rattle.tree_descent.proofs.Ways.{part_not_retired}
-use Rattle.tree_node.specs.Arenas.{TreeArenas}
 use Rattle.tree_insert.specs.Inserts.{Inserts, InsertsUnder, IsNew, asks_split, declined, stores}
-use Rattle.tree_node.specs.Parts.{IsPart, Unchanged}
-use Rattle.tree_node.specs.Shape.{room, spare}
 use Rattle.tree_insert.specs.Roots.{RaisesRoot}
-use Rattle.tree_node.specs.Tree.{IsRetired, IsRetiredNode, Stands, StandsOrRetired, leaves_at}
-use Rattle.tree_node.specs.Whole.{HasOnly, IsRetiredRoot, IsTree, depth_of, leaves_under, walk_under}
+use Rattle.tree_node.specs.Whole.{HasOnly, depth_of}
 use Rattle.tree_insert.proofs.Crowded.{crowded_room}
 use Rattle.tree_node.proofs.Whole.{spare_standing, spare_unchanged, tree_after, tree_part, tree_unchanged, walk_unchanged}
 use Rattle.tree_node.proofs.Standing.{no_children}
 use Rattle.tree_node.proofs.Levels.{node_at}
 use Rattle.tree_insert.proofs.RaisedTrees.{tree_raised}
-use Rattle.tree_model.specs.declared.commands.InsertError.{InsertError}
 use Rattle.tree_model.specs.declared.commands.InsertError.TheVariants.{Duplicate as Declined, OutOfMemory}
 use Rattle.tree_root.specs.declared.tree.Stored.{Stored as TreeStored}
 use Rattle.tree_root.specs.declared.tree.Stored.TheVariants.{New as NewKey, Replaced as OldKey}

@@ -1,19 +1,13 @@
 -- What a removal from a tree comes to.
-use Rattle.std.proofs.Common.{◌≡◌, ◌⊎◌, ℕ, zero, suc, ◌<◌, ◌≤◌, Bool, true, false, [], Option, Some, None, inl, inr, refl, sym, ap, ◌∙◌, arith}
-use Rattle.std.specs.declared.cmp.Ordering.{Ordering}
-use Rattle.slab.specs.Slab.{get}
+use Rattle.std.proofs.Common.{◌≡◌, ◌⊎◌, ℕ, zero, suc, ◌<◌, ◌≤◌, Bool, true, false, [], Option, Some, None, inl, inr, refl, sym, ap, ◌∙◌, arith, Ordering}
+use Rattle.tree_model.proofs.Common.{pair_at}
 use Rattle.tree_array.specs.declared.answers.RemoveResult.{RemoveResult}
 use Rattle.tree_array.specs.declared.answers.RemoveResult.TheVariants.{Success, Retired, Fail}
-use Rattle.tree_model.specs.Pairs.{pair_at}
-use Rattle.tree_node.specs.Arenas.{TreeArenas}
+use Rattle.tree_node.proofs.Common.{get, TreeArenas, IsPart, IsOfLevel, IsRetired, Stands, leaves_at, walk, spare, IsRetiredRoot, IsTree, walk_under}
 use Rattle.tree_remove.specs.Lowering.{LowersRoot}
-use Rattle.tree_node.specs.Parts.{IsPart}
-use Rattle.tree_node.specs.Tree.{IsOfLevel}
 use Rattle.tree_remove.specs.Removes.{RemovesUnder, TakesOut, removal_told}
 use Rattle.tree_remove.specs.Takes.{IsEntry, stored_at}
-use Rattle.tree_node.specs.Shape.{spare}
-use Rattle.tree_node.specs.Tree.{IsRetired, Stands, leaves_at, walk}
-use Rattle.tree_node.specs.Whole.{IsRetiredRoot, IsTree, spare_under, walk_under}
+use Rattle.tree_node.specs.Whole.{spare_under}
 use Rattle.tree_node.proofs.Steps.{part_after}
 use Rattle.tree_node.proofs.Whole.{chain_after, leaves_after, nodes_after, spare_standing, spare_unchanged, tree_after, tree_part, tree_unchanged, walk_unchanged}
 use Rattle.tree_node.proofs.Standing.{no_children}

@@ -172,7 +172,8 @@ impl<K: IndexKey, V: Drop, const LEN: usize> Tree<K, V, LEN> {
     /// Allocates nothing.
     pub fn remove_if<F: FnOnce(&V) -> bool + Drop>(&mut self, key: &K, condition: F) -> bool
         requires whole { IsWhole K.cmp self.old }
-        requires callable { ForSome (pair_at K.cmp (pairs_of self.old) key.now) (λ pair. FnOnceTakesAt F.FnOnce condition pair.1) }
+        requires callable { ForSome (pair_at K.cmp (pairs_of self.old) key.now)
+            (λ pair. FnOnceTakesAt F.FnOnce condition pair.1) }
         ensures { Takes K.cmp (FnOnceReturnsAt F.FnOnce condition) self.old self.new key.now result }
     {
         let Some((root, depth)) = self.root else {
@@ -197,7 +198,8 @@ impl<K: IndexKey, V: Drop, const LEN: usize> Tree<K, V, LEN> {
         requires whole { IsWhole K.cmp self.old }
         requires root { self.old.root ≡ Some (root, depth) }
         requires way { (node : ℕ) × LeadsTo K.cmp key.now depth self.old.arenas root node leaf }
-        requires callable { ForSome (pair_at K.cmp (pairs_of self.old) key.now) (λ pair. FnOnceTakesAt F.FnOnce condition pair.1) }
+        requires callable { ForSome (pair_at K.cmp (pairs_of self.old) key.now)
+            (λ pair. FnOnceTakesAt F.FnOnce condition pair.1) }
         ensures { Takes K.cmp (FnOnceReturnsAt F.FnOnce condition) self.old self.new key.now result }
     {
         match remove_alone(&mut self.arenas, depth, root, leaf, key, condition) {
@@ -247,7 +249,8 @@ impl<K: IndexKey, V: Drop, const LEN: usize> Tree<K, V, LEN> {
     /// at most two comparisons per slot of two leaves. Allocates nothing.
     pub fn remove_range(&mut self, bounds: (Bound<&K>, Bound<&K>)) -> u128
         requires { IsWhole K.cmp self.old }
-        ensures { Cuts K.cmp (bound_map (λ k. k.now) bounds.entry.0) (bound_map (λ k. k.now) bounds.entry.1) self.old self.new result }
+        ensures { Cuts K.cmp (bound_map (λ k. k.now) bounds.entry.0)
+            (bound_map (λ k. k.now) bounds.entry.1) self.old self.new result }
     {
         let Some((root, depth)) = self.root else {
             return 0;
@@ -270,7 +273,8 @@ impl<K: IndexKey, V: Drop, const LEN: usize> Tree<K, V, LEN> {
     /// and 3 with 7.
     pub fn search<J: Judge<K>>(&self, judge: &mut J) -> Option<(&K, &V)>
         requires { IsWhole K.cmp self.now }
-        ensures found { MatchOption result (IsAbsent K.cmp (pairs_of self.now) (J.key judge.old)) (λ pair. pair_at K.cmp (pairs_of self.now) (J.key judge.old) ≡ Some (pair.0.now, pair.1.now)) }
+        ensures found { MatchOption result (IsAbsent K.cmp (pairs_of self.now) (J.key judge.old))
+            (λ pair. pair_at K.cmp (pairs_of self.now) (J.key judge.old) ≡ Some (pair.0.now, pair.1.now)) }
         ensures same_key { J.key judge.new ≡ J.key judge.old }
         ensures counted { J.count judge.new ≤ J.count judge.old + LEN * (depth_of self.now.root + 1) }
         ensures halved { J.count judge.new ≤ J.count judge.old + searched LEN * (depth_of self.now.root + 1) }

@@ -1,15 +1,11 @@
 -- A run of inserts in ascending order, by what each of them did to the index.
-use Rattle.std.proofs.Common.{◌≡◌, ◌≢◌, ℕ, suc, ◌+◌, true, List, [], ◌∷◌, ◌++◌, map, length, length-append, refl, ap, ◌∙◌, arith, inl}
-use Rattle.std.specs.List.{AllByRecursion}
-use Rattle.std.specs.declared.cmp.Ordering.{Ordering}
-use Rattle.std.specs.declared.cmp.Ordering.TheVariants.{Less}
-use Rattle.std.specs.Cmp.{IsTotalOrder}
-use Rattle.std.proofs.lemmas.List.{append-nil}
+use Rattle.std.proofs.Common.{◌≡◌, ◌≢◌, ℕ, suc, ◌+◌, true, List, [], ◌∷◌, ◌++◌, map, length, length-append, refl, ap, ◌∙◌, arith, inl, Ordering, Less, append-nil}
+use Rattle.tree_model.proofs.Common.{AllByRecursion, IsTotalOrder, AllLarger, IsAbsent, IsAscending}
 use Rattle.tree_model.specs.declared.commands.Command.{Command}
 use Rattle.tree_model.specs.declared.commands.Command.TheVariants.{Insert}
 use Rattle.tree_model.specs.declared.commands.Reply.{Reply}
-use Rattle.tree_model.specs.declared.commands.Reply.TheVariants.{Stored, Duplicate, Removed, Done, Found, Refused}
-use Rattle.tree_model.specs.Pairs.{AllLarger, IsAbsent, IsAscending}
+use Rattle.tree_model.specs.declared.commands.Reply.TheVariants.{Stored, Duplicate, Removed, Done, Found}
+use Rattle.tree_model.specs.declared.commands.Reply.TheVariants.{Refused}
 use Rattle.tree_model.specs.Runs.{Step}
 use Rattle.tree_model.proofs.Lists.{all_map, all-append}
 use Rattle.tree_node.proofs.Between.{found_between}

@@ -1,14 +1,11 @@
 -- One entry of a schedule more.
-use Rattle.std.proofs.Common.{◌≡◌, ℕ, suc, ◌+◌, ◌<◌, ◌≤◌, ◌==◌, inl, inr, Bool, true, false, cond, List, [], ◌∷◌, ◌++◌, length, Option, Some, None, refl, sym, ap, ◌∙◌, subst, arith, append_assoc, append-nil, length-append}
-use Rattle.std.specs.Prelude.{if◌then◌else◌, map, count_by, is_none, slice_index_or, slice_set, Result, Ok, Err, is_err, IfOk, OnErr, All}
-use Rattle.std.specs.declared.cmp.Ordering.{Ordering}
-use Rattle.std.proofs.lemmas.List.{get_or-set_same, get_or-set_other}
+use Rattle.std.proofs.Common.{◌≡◌, ℕ, suc, ◌+◌, ◌<◌, ◌≤◌, ◌==◌, inl, inr, Bool, true, false, cond, List, [], ◌∷◌, ◌++◌, length, Option, Some, None, refl, sym, ap, ◌∙◌, subst, arith, append_assoc, append-nil, length-append, if◌then◌else◌, map, count_by, is_none, slice_index_or, slice_set, Result, Ok, Err, is_err, IfOk, OnErr, All, Ordering, get_or-set_same, get_or-set_other}
+use Rattle.tree_model.specs.declared.commands.Command.{Command}
+use Rattle.tree_model.specs.declared.commands.Reply.{Reply}
 use Rattle.std.proofs.lemmas.List.Elements.{All-head, All-same}
 use Rattle.std.proofs.lemmas.List.Sums.{count_by-le-length, sum_by-append}
 use Rattle.std.proofs.lemmas.Bool.Decides.{eqb_tells}
 use Rattle.std.proofs.lemmas.Grind.{common_steps}
-use Rattle.tree_model.specs.declared.commands.Command.{Command}
-use Rattle.tree_model.specs.declared.commands.Reply.{Reply}
 use Rattle.tree_model.specs.declared.commands.Record.{Record}
 use Rattle.tree_model.specs.History.{Log, Appends}
 use Rattle.tree_shared.specs.declared.tally.Tally.{Tally}

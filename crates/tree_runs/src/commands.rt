@@ -27,7 +27,8 @@ pub fn run<K: IndexKey, V: SameClone, const LEN: usize>(
     index: &mut TreeIndexOf<K, V, LEN>,
     commands: Vec<Command<K, V>>,
 ) -> Result<Vec<Reply<V>>, AllocError>
-    ensures runs { IfOk result (λ replies. Runs K.cmp V.seen index.old.pairs commands.items replies.items index.new.pairs) }
+    ensures runs { IfOk result
+        (λ replies. Runs K.cmp V.seen index.old.pairs commands.items replies.items index.new.pairs) }
     ensures spare { IfOk result (λ replies. AreServed index.old.spare commands.items replies.items) }
     ensures depth { IfOk result (λ replies. Climbs K.cmp LEN commands.items replies.items index.old index.new) }
     ensures err { OnErr result (index.new ≡ index.old) }

@@ -1,14 +1,8 @@
 -- Two ascending lists side by side: what comes first of the elements that one has and the other lacks.
-use Rattle.std.proofs.Common.{◌≡◌, List, [], ◌∷◌, drop, Option, Some, None, Bor, refl, sym, ap, ◌∙◌}
-use Rattle.std.specs.Prelude.{not, ◌&&◌, ◌||◌}
-use Rattle.std.specs.Cmp.{IsTotalOrder}
+use Rattle.std.proofs.Common.{◌≡◌, List, [], ◌∷◌, drop, Option, Some, None, Bor, refl, sym, ap, ◌∙◌, not, ◌&&◌, ◌||◌, Ordering, Less, Equal, Greater}
+use Rattle.tree_model.proofs.Common.{IsTotalOrder, AllByRecursion, tied_back}
+use Rattle.tree_array.proofs.Common.{all-filter, greater_from_less, less_from_greater}
 use Rattle.std.specs.Iterator.{YieldsFirstRef}
-use Rattle.std.specs.List.{AllByRecursion}
-use Rattle.std.specs.declared.cmp.Ordering.{Ordering}
-use Rattle.std.specs.declared.cmp.Ordering.TheVariants.{Less, Equal, Greater}
-use Rattle.std.proofs.lemmas.Cmp.{tied_back}
-use Rattle.tree_model.proofs.Lists.{all-filter}
-use Rattle.tree_model.proofs.Order.{greater_from_less, less_from_greater}
 use Rattle.tree_set.specs.Merges.{AreAscending, difference, symmetric_difference, union}
 use Rattle.tree_set.specs.Sets.{IsAscending, has}
 use Rattle.tree_set.proofs.Merged.{IsFirst, alone_ascends, alone_elements, alone_equal, alone_greater, alone_less, alone_rest, larger_all, union_alone, union_ascends, union_elements}

@@ -1,9 +1,7 @@
 -- Elements whose first one was taken already.
-use Rattle.std.proofs.Common.{◌≡◌, List, [], drop, Option, Some, None, Bor, refl, sym, ◌∙◌}
-use Rattle.std.specs.Prelude.{IfNone}
+use Rattle.std.proofs.Common.{◌≡◌, List, [], drop, Option, Some, None, Bor, refl, sym, ◌∙◌, IfNone, option_copied}
 use Rattle.std.specs.Iterator.{YieldsFirstRef}
 use Rattle.std.specs.List.{cons_option}
-use Rattle.std.specs.Option.{option_copied}
 
 module _ {K : Type 0} (left others : List K) where
   -- where none was taken, none is left

@@ -1,23 +1,17 @@
 -- The keys of a list of pairs, and of its edits.
-use Rattle.std.proofs.Common.{◌≡◌, ◌↔◌, IsTrue, Bool, true, false, cond, List, [], ◌∷◌, filter, find, Option, Some, None, Ok, Err, Bor, refl, sym, ap, ◌∙◌, inl, inr}
-use Rattle.std.specs.Prelude.{MatchOption, is_some, not, ◌&&◌, ◌||◌}
-use Rattle.std.specs.Option.{option_copied, option_map}
-use Rattle.std.specs.List.{AllByRecursion, AllZip, list_any}
+use Rattle.std.proofs.Common.{◌≡◌, ◌↔◌, IsTrue, Bool, true, false, cond, List, [], ◌∷◌, filter, find, Option, Some, None, Ok, Err, Bor, refl, sym, ap, ◌∙◌, inl, inr, MatchOption, is_some, not, ◌&&◌, ◌||◌, option_copied, option_map, is_lt, is_eq, is_gt, Ordering, Less}
+use Rattle.tree_model.proofs.Common.{AllByRecursion, Bound, Unbounded, map-append}
+use Rattle.tree_array.proofs.Common.{filter_all}
+use Rattle.tree_chain.proofs.Common.{first_of, last_of}
+use Rattle.std.specs.List.{AllZip, list_any}
 use Rattle.std.specs.Cmp.Lexicographic.{pointwise}
-use Rattle.std.specs.Ordering.{is_lt, is_eq, is_gt}
-use Rattle.std.specs.declared.cmp.Ordering.{Ordering}
-use Rattle.std.specs.declared.cmp.Ordering.TheVariants.{Less}
-use Rattle.std.specs.declared.ops.Bound.{Bound}
-use Rattle.std.specs.declared.ops.Bound.TheVariants.{Unbounded}
 use Rattle.std.proofs.Math.Bool.{and-true}
 use Rattle.std.proofs.lemmas.Bool.{cases_Bool}
-use Rattle.std.proofs.lemmas.List.{length-map, map-append}
+use Rattle.std.proofs.lemmas.List.{length-map}
 use Rattle.std.proofs.lemmas.Option.{slice_get-map}
-use Rattle.tree_chain.specs.Walks.{first_of, last_of}
 use Rattle.tree_index.specs.Copies.{IsPairClone}
-use Rattle.tree_model.specs.Pairs as pairs
-use Rattle.tree_model.proofs.Lists.{filter_all}
 use Rattle.tree_set.specs.Sets.{Inserts, IsAscending, cut, element_at, has, keys_of, put, without}
+use Rattle.tree_model.specs.Pairs as pairs
 
 module _ {K V : Type 0} where
   -- a filter by the key, a search by it, and a fact on each key

@@ -1,18 +1,11 @@
 -- Two ascending lists side by side: what comes first of their union, of what they have in common and of what the first has alone.
-use Rattle.std.proofs.Common.{◌≡◌, Bool, true, false, cond, List, [], ◌∷◌, drop, filter, Option, Some, None, Bor, refl, sym, ap, ◌∙◌}
-use Rattle.std.specs.Prelude.{MatchOption, not, ◌&&◌, ◌||◌}
-use Rattle.std.specs.Cmp.{IsTotalOrder}
+use Rattle.std.proofs.Common.{◌≡◌, Bool, true, false, cond, List, [], ◌∷◌, drop, filter, Option, Some, None, Bor, refl, sym, ap, ◌∙◌, MatchOption, not, ◌&&◌, ◌||◌, is_eq, Ordering, Less, Equal, Greater}
+use Rattle.tree_model.proofs.Common.{IsTotalOrder, AllByRecursion, alike_right, tied_back}
+use Rattle.tree_array.proofs.Common.{all-filter, all_map, filter_none, equal_from_test, alike, greater_from_less, less_from_greater}
 use Rattle.std.specs.Iterator.{YieldsFirstRef}
-use Rattle.std.specs.List.{AllByRecursion}
-use Rattle.std.specs.Ordering.{is_eq, match_ordering}
-use Rattle.std.specs.declared.cmp.Ordering.{Ordering}
-use Rattle.std.specs.declared.cmp.Ordering.TheVariants.{Less, Equal, Greater}
-use Rattle.std.proofs.lemmas.Cmp.{alike_right, tied_back}
+use Rattle.std.specs.Ordering.{match_ordering}
 use Rattle.std.proofs.Math.Bool.{and_comm, or-false}
 use Rattle.std.proofs.lemmas.Map.Views.{any-filter_same}
-use Rattle.tree_model.proofs.Lists.{all-filter, all_map, filter_none}
-use Rattle.tree_model.proofs.LookUps.{equal_from_test}
-use Rattle.tree_model.proofs.Order.{alike, greater_from_less, less_from_greater}
 use Rattle.tree_set.specs.Merges.{AreAscending, difference, intersection, union}
 use Rattle.tree_set.specs.Sets.{IsAscending, has}
 

@@ -1,26 +1,17 @@
 -- What a move of a cursor takes of the elements that are left.
-use Rattle.std.proofs.Common.{◌≡◌, Bool, true, false, if◌then◌else◌, List, [], ◌∷◌, ◌++◌, reverse, length, take, drop, ◌<◌, ℕ, Option, Some, None, Bor, append-nil, length-append, refl, sym, ap, ◌∙◌, arith}
-use Rattle.std.specs.Prelude.{filter, ⊤}
-use Rattle.std.specs.Iterator.{MakesProgress, YieldsFirstBy, YieldsFirstRef, YieldsLastBy, YieldsLastRef, item_count}
-use Rattle.std.specs.Option.{option_map}
-use Rattle.std.specs.Cmp.{IsTotalOrder}
-use Rattle.std.specs.declared.cmp.Ordering.{Ordering}
-use Rattle.std.proofs.lemmas.Grind.{reverse_onto}
-use Rattle.std.proofs.lemmas.List.{map-append, reverse-reverse, take-append-drop}
-use Rattle.std.proofs.lemmas.List.Elements.{filter-append}
-use Rattle.tree_chain.specs.declared.stand.Way.TheVariants.{On, Back}
-use Rattle.tree_chain.specs.Walks.{lent_entry}
-use Rattle.tree_model.specs.Pairs as pairs
-use Rattle.tree_model.specs.Pairs.{within}
+use Rattle.std.proofs.Common.{◌≡◌, Bool, true, false, if◌then◌else◌, List, [], ◌∷◌, ◌++◌, reverse, length, take, drop, ◌<◌, ℕ, Option, Some, None, Bor, append-nil, length-append, refl, sym, ap, ◌∙◌, arith, filter, option_map, Ordering, take-append-drop}
+use Rattle.tree_model.proofs.Common.{⊤, MakesProgress, IsTotalOrder, reverse_onto, map-append, reverse-reverse, filter-append, lent_entry, Moves, rest, within, Cursor}
+use Rattle.tree_model.specs.declared.way.Way.TheVariants.{On, Back}
+use Rattle.std.specs.Iterator.{YieldsFirstBy, YieldsFirstRef, YieldsLastBy, YieldsLastRef, item_count}
+use Rattle.tree_model.specs.Rest.{between, piece}
 use Rattle.tree_model.proofs.Ascending.{IsAscending-filter}
 use Rattle.tree_node.proofs.Cuts.{ascending_behind, ascending_front}
-use Rattle.tree_cursor_model.specs.Cursor.{Cursor}
-use Rattle.tree_cursor_model.specs.Rest.{Moves, between, piece, rest}
 use Rattle.tree_ranges.specs.Ranged.{IsFresh, pairs_within}
 use Rattle.tree_ranges.proofs.Yields.{fresh_begun, rest_fresh, takes_first}
 use Rattle.tree_set.specs.Elements.{HasBegunBoth, left_of}
 use Rattle.tree_set.specs.Sets.{IsAscending, keys_of}
 use Rattle.tree_set.proofs.Keys.{keys_ascend}
+use Rattle.tree_model.specs.Pairs as pairs
 
 -- a filter keeps the same elements in the other order
 filter-reverse : {X : Type 0} (test : X → Bool) (xs : List X) → filter test (reverse xs) ≡ reverse (filter test xs)

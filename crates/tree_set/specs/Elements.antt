@@ -1,9 +1,9 @@
 -- What a cursor over pairs has still to give, as a list of elements.
 use Rattle.std.specs.Prelude.{List}
 use Rattle.std.specs.declared.cmp.Ordering.{Ordering}
-use Rattle.tree_chain.specs.declared.stand.Way.TheVariants.{On, Back}
-use Rattle.tree_cursor_model.specs.Cursor.{Cursor}
-use Rattle.tree_cursor_model.specs.Rest.{HasBegun, rest}
+use Rattle.tree_model.specs.declared.way.Way.TheVariants.{On, Back}
+use Rattle.tree_model.specs.Cursor.{Cursor}
+use Rattle.tree_model.specs.Rest.{HasBegun, rest}
 use Rattle.tree_set.specs.Sets.{keys_of}
 
 module _ {K V : Type 0} (cmp : K → K → Ordering) where

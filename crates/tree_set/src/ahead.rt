@@ -17,8 +17,7 @@ pub(crate) struct Ahead<'t, K: Ord, A: Ranged<K, (), L>, L: Walked> {
 }
 
 impl<'t, K: Ord, A: Ranged<K, (), L>, L: Walked> Model for Ahead<'t, K, A, L> {
-    ghost use Rattle.std.specs.Prelude.{◌≡◌, List, []};
-    ghost use Rattle.std.specs.Prelude.{IfNone};
+    ghost use Rattle.std.specs.Prelude.{◌≡◌, List, [], IfNone};
     ghost use Rattle.std.specs.List.{cons_option};
     ghost use Rattle.std.specs.Option.{option_copied};
 

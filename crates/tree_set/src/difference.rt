@@ -62,7 +62,8 @@ fn alone<'t, K: Ord + Drop + 't, const LEN: usize>(
 ) -> Option<&'t K>
     requires { AreAscending K.cmp first.old second.old }
     ensures ascending { AreAscending K.cmp first.new second.new }
-    ensures taken { YieldsFirstRef (λ s. s) (difference K.cmp first.old second.old) result (difference K.cmp first.new second.new) }
+    ensures taken { YieldsFirstRef (λ s. s) (difference K.cmp first.old second.old) result
+        (difference K.cmp first.new second.new) }
 {
     loop {
         let x = first.peek()?;

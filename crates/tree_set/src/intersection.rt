@@ -62,7 +62,8 @@ fn common<'t, K: Ord + Drop + 't, const LEN: usize>(
 ) -> Option<&'t K>
     requires { AreAscending K.cmp first.old second.old }
     ensures ascending { AreAscending K.cmp first.new second.new }
-    ensures taken { YieldsFirstRef (λ s. s) (intersection K.cmp first.old second.old) result (intersection K.cmp first.new second.new) }
+    ensures taken { YieldsFirstRef (λ s. s) (intersection K.cmp first.old second.old) result
+        (intersection K.cmp first.new second.new) }
 {
     loop {
         let x = first.peek()?;

@@ -117,7 +117,8 @@ impl<K: IndexKey, const LEN: usize> TreeSetOf<K, LEN> {
     /// assert!(rt; format!(in alloc; "{set:?}")?.as_str() == "{1, 9}");
     /// ```
     pub fn remove_range(&mut self, bounds: (Bound<&K>, Bound<&K>))
-        ensures { self.new ≡ cut K.cmp self.old (bound_map (λ k. k.now) bounds.entry.0) (bound_map (λ k. k.now) bounds.entry.1) }
+        ensures { self.new ≡ cut K.cmp self.old (bound_map (λ k. k.now) bounds.entry.0)
+            (bound_map (λ k. k.now) bounds.entry.1) }
     {
         self.index.remove_range_sync(bounds);
     }
@@ -216,7 +217,8 @@ impl<K: IndexKey, const LEN: usize> TreeSetOf<K, LEN> {
     /// assert!(rt; set.range((Bound::Excluded(&3), Bound::Unbounded)).next() == Some(&7));
     /// ```
     pub fn range<'t>(&'t self, bounds: (Bound<&'t K>, Bound<&'t K>)) -> Elements<'t, K, LEN>
-        ensures { result ≡ filter (within K.cmp (bound_map (λ k. k.now) bounds.entry.0) (bound_map (λ k. k.now) bounds.entry.1)) self.now }
+        ensures { result ≡ filter (within K.cmp (bound_map (λ k. k.now) bounds.entry.0)
+            (bound_map (λ k. k.now) bounds.entry.1)) self.now }
     {
         ElementsOver::new(self.index.range(bounds))
     }
@@ -290,7 +292,9 @@ impl<K: IndexKey, const LEN: usize> TreeSetOf<K, LEN> {
     /// ```
     pub fn symmetric_difference<'t>(&'t self, other: &'t Self) -> SymmetricDifference<'t, K, LEN>
         ensures apart { result ≡ symmetric_difference K.cmp self.now other.now }
-        ensures elements { (k : K) → has K.cmp result k ≡ ((has K.cmp self.now k && not (has K.cmp other.now k)) || (has K.cmp other.now k && not (has K.cmp self.now k))) }
+        ensures elements { (k : K)
+            → has K.cmp result k ≡ ((has K.cmp self.now k && not (has K.cmp other.now k))
+            || (has K.cmp other.now k && not (has K.cmp self.now k))) }
         ensures ascending { IsAscending K.cmp result }
     {
         SymmetricDifferenceOver {

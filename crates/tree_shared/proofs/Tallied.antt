@@ -1,16 +1,14 @@
 -- A history that an answered command is added to: its tally, and the kind of the reply.
-use Rattle.std.proofs.Common.{◌≡◌, ◌+◌, ◌<◌, ◌^◌, Bool, true, false, cond, List, [], ◌∷◌, ◌++◌, length, Some, None, refl, sym, ap, ◌∙◌, arith, length-append}
-use Rattle.std.specs.Prelude.{count_by, Result, Ok, Err}
-use Rattle.std.specs.declared.cmp.Ordering.{Ordering}
-use Rattle.std.specs.declared.ops.Bound.{Bound}
-use Rattle.std.proofs.lemmas.List.Sums.{count_by-le-length, sum_by-append}
+use Rattle.std.proofs.Common.{◌≡◌, ◌+◌, ◌<◌, ◌^◌, Bool, true, false, cond, List, [], ◌∷◌, ◌++◌, length, Some, None, refl, sym, ap, ◌∙◌, arith, length-append, count_by, Result, Ok, Err, Ordering}
+use Rattle.tree_model.proofs.Common.{Bound}
 use Rattle.tree_model.specs.declared.commands.Command.{Command}
 use Rattle.tree_model.specs.declared.commands.Command.TheVariants.{Insert, Upsert, Remove, RemoveRange, Clear, Peek}
 use Rattle.tree_model.specs.declared.commands.Reply.{Reply}
-use Rattle.tree_model.specs.declared.commands.Reply.TheVariants.{Stored, Duplicate, Removed, Done, Found, Refused}
-use Rattle.tree_model.specs.declared.commands.Record.{Record}
+use Rattle.tree_model.specs.declared.commands.Reply.TheVariants.{Stored, Duplicate, Removed, Done, Found}
 use Rattle.tree_model.specs.declared.commands.InsertError.{InsertError}
-use Rattle.tree_model.specs.declared.commands.InsertError.TheVariants as fault
+use Rattle.std.proofs.lemmas.List.Sums.{count_by-le-length, sum_by-append}
+use Rattle.tree_model.specs.declared.commands.Reply.TheVariants.{Refused}
+use Rattle.tree_model.specs.declared.commands.Record.{Record}
 use Rattle.tree_model.specs.Runs.{Step}
 use Rattle.tree_model.specs.History.{Log, IsAnswered, IsSameReply, Appends}
 use Rattle.tree_state.specs.Inserts.{RecordsInsert}
@@ -18,6 +16,7 @@ use Rattle.tree_shared.specs.Ledgers.{Fits}
 use Rattle.tree_shared.specs.Replies.{is_reply_to}
 use Rattle.tree_shared.specs.declared.tally.Tally.{Tally}
 use Rattle.tree_shared.specs.Tallies.{is_refused, is_stored, is_removed, is_found, is_done, found_value, tally, tally_of, raised, reply_of_insert}
+use Rattle.tree_model.specs.declared.commands.InsertError.TheVariants as fault
 
 -- an answer is no refusal
 pub not_refused : {V : Type 0} → (r : Reply V) → IsAnswered r → is_refused r ≡ false

@@ -129,6 +129,7 @@ impl<C: Ledger, S: Ledger, M: Ledger, F: Ledger, D: Ledger> Ledgers<C, S, M, F, 
         ensures kept { result ≡ self.kept }
         ensures totals { result ≡ self.totals }
     {
+        // Read for what the type keeps: how many parts each ledger has.
         let _ = &workers.number;
         self.calls.settle();
         self.stored.settle();

@@ -144,7 +144,9 @@ impl<
         pair: PreparedPair<K, V>,
     ) -> Result<(), (K, V)>
         requires room { pass.old.calls < u64.MAX }
-        ensures ok { IfOk result (λ _. Appends K.cmp K.seen V.seen self.old.state self.new.state (Command.Upsert pair.0 pair.1) Reply.Stored) }
+        ensures ok { IfOk result
+            (λ _. Appends K.cmp K.seen V.seen self.old.state self.new.state
+            (Command.Upsert pair.0 pair.1) Reply.Stored) }
         ensures pair { IfErr result (λ back. back ≡ pair) }
         ensures counted { pass.new ≡ raised {V = V} pass.old (reply_of_upsert result) }
         ensures kept { OnErr result (self.new.state ≡ self.old.state) }

@@ -38,7 +38,8 @@ impl<C: Ledger, S: Ledger, M: Ledger, F: Ledger, D: Ledger> Pass<C, S, M, F, D> 
     /// ```
     pub fn tally(&self) -> Tally
         ensures tally { result ≡ self.now }
-        ensures within { (result.stored ≤ result.calls) × (result.removed ≤ result.calls) × (result.found ≤ result.calls) × (result.done ≤ result.calls) }
+        ensures within { (result.stored ≤ result.calls) × (result.removed ≤ result.calls)
+            × (result.found ≤ result.calls) × (result.done ≤ result.calls) }
     {
         Tally {
             calls: self.calls.get(),

@@ -273,7 +273,8 @@ impl<
         self,
         passes: Vec<Pass<C, S, M, F, D>>,
     ) -> Result<ClosedOf<K, V, LEN>, UnclosedOf<K, V, C, S, M, F, D, LEN>>
-        ensures replays { IfOk result (λ closed. IsHistoryOf K.cmp K.seen V.seen closed.history.items closed.index.pairs) }
+        ensures replays { IfOk result
+            (λ closed. IsHistoryOf K.cmp K.seen V.seen closed.history.items closed.index.pairs) }
         ensures tally { IfOk result (λ closed. closed.tally ≡ tally closed.history.items) }
         ensures passes { IfOk result (λ closed. closed.tally ≡ sum_of passes.items) }
         ensures missing { OnErr result (vec_len passes + 1 < C.parts) }

@@ -17,9 +17,9 @@ use denote.Struct.Struct.{Struct}
 use denote.Struct.Members.{Member, rows_of, parts_at}
 use denote.Struct.Parts.{PartsBack, Struct-parts, shape_of}
 use Rattle.tree_slots.specs.Slot.{offset}
+use Rattle.tree_slots.proofs.slot.Slot.TheInside.TheLaws.{the_row_laws as inside_laws}
 use Rattle.tree_slots.specs.contracts.slot.Slot as slot
 use Rattle.tree_slots.specs.contracts.slot.Slot.TheInside as inside
-use Rattle.tree_slots.proofs.slot.Slot.TheInside.TheLaws.{the_row_laws as inside_laws}
 
 module _ (X : RattleType) (L : Laws X) {M : Type 1} {𝓤 : Ura M} (𝓛 : Logic 𝓤) (b o : ℕ) where
   abbrev R : RattleType

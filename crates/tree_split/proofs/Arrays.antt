@@ -1,21 +1,10 @@
 -- Arrays whose arrivals have, in turn, the keys of their entries.
-use Rattle.std.proofs.Common.{◌≡◌, ℕ, suc, ◌+◌, ◌*◌, ◌-◌, ◌<◌, ◌≤◌, ◌==◌, Bool, true, false, cond, leb, ltb, List, [], ◌∷◌, ◌++◌, map, length, Option, Some, None, refl, sym, ap, ◌∙◌, arith, inl, inr}
-use Rattle.std.specs.Prelude.{not, ◌&&◌}
-use Rattle.std.specs.List.{AllByRecursion}
-use Rattle.std.specs.declared.cmp.Ordering.{Ordering}
-use Rattle.std.specs.declared.cmp.Ordering.TheVariants.{Less, Equal}
-use Rattle.std.specs.Ordering.{is_eq, is_lt, is_gt}
-use Rattle.std.specs.Cmp.{IsTotalOrder}
+use Rattle.std.proofs.Common.{◌≡◌, ℕ, suc, ◌+◌, ◌*◌, ◌-◌, ◌<◌, ◌≤◌, ◌==◌, Bool, true, false, cond, leb, ltb, List, [], ◌∷◌, ◌++◌, map, length, Option, Some, None, refl, sym, ap, ◌∙◌, arith, inl, inr, not, ◌&&◌, Ordering, Less, Equal, is_eq, is_lt, is_gt}
+use Rattle.tree_model.proofs.Common.{AllByRecursion, IsTotalOrder, nat_tests, tied_itself, IsAscending, put}
+use Rattle.tree_array.proofs.Common.{Arrivals, ascents, boundary, free, in_order, reachable, spend, stored, IsLen, limit, equal_from_test, all_map, filter_all, filter_none, alike, alike_after}
 use Rattle.std.specs.Cmp.Derive.{both_true}
 use Rattle.std.proofs.lemmas.Bool.{lt-leb}
-use Rattle.std.proofs.lemmas.Bool.Decides.{nat_tests}
-use Rattle.std.proofs.lemmas.Cmp.{tied_itself}
-use Rattle.tree_array.specs.Arrivals.{Arrivals, ascents, boundary, boundary_of, free, in_order, reachable, spend, stored}
-use Rattle.tree_array.specs.Length.{IsLen, limit}
-use Rattle.tree_model.specs.Pairs.{IsAscending, put}
-use Rattle.tree_model.proofs.LookUps.{equal_from_test}
-use Rattle.tree_model.proofs.Lists.{all_map, filter_all, filter_none}
-use Rattle.tree_model.proofs.Order.{alike, alike_after}
+use Rattle.tree_array.specs.Arrivals.{boundary_of}
 use Rattle.tree_split.specs.Packed.{in_turn, is_packed_array}
 
 -- both sides of a test that says yes

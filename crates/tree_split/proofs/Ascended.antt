@@ -1,18 +1,9 @@
 -- An array with an entry in each slot, where the entries arrived in ascending order: it is what it would be if they arrived anew.
-use Rattle.std.proofs.Common.{◌≡◌, ℕ, suc, ◌+◌, ◌-◌, ◌*◌, ◌<◌, ◌≤◌, ◌==◌, Bool, true, false, cond, leb, ltb, List, [], ◌∷◌, map, length, Option, Some, None, refl, sym, ap, ◌∙◌, arith, inl, inr}
-use Rattle.std.specs.List.{AllByRecursion}
-use Rattle.std.specs.declared.cmp.Ordering.{Ordering}
-use Rattle.std.specs.declared.cmp.Ordering.TheVariants.{Less, Equal, Greater}
-use Rattle.std.specs.Ordering.{is_gt, is_lt}
-use Rattle.std.specs.Cmp.{IsTotalOrder}
-use Rattle.std.proofs.lemmas.Bool.Decides.{nat_tests}
-use Rattle.tree_array.specs.Arrivals.{Arrivals, ascents, boundary, boundary_of, in_order, reachable, sorted}
-use Rattle.tree_array.specs.Length.{IsLen, limit}
-use Rattle.tree_array.specs.Sound.{IsSound}
-use Rattle.tree_model.specs.Pairs.{AllLarger, IsAscending, put}
-use Rattle.tree_model.proofs.Lists.{all_map, filter_all, filter_none}
+use Rattle.std.proofs.Common.{◌≡◌, ℕ, suc, ◌+◌, ◌-◌, ◌*◌, ◌<◌, ◌≤◌, ◌==◌, Bool, true, false, cond, leb, ltb, List, [], ◌∷◌, map, length, Option, Some, None, refl, sym, ap, ◌∙◌, arith, inl, inr, Ordering, Less, Equal, Greater, is_gt, is_lt}
+use Rattle.tree_model.proofs.Common.{AllByRecursion, IsTotalOrder, nat_tests, AllLarger, IsAscending, put}
+use Rattle.tree_array.proofs.Common.{Arrivals, ascents, boundary, in_order, reachable, sorted, IsLen, limit, IsSound, all_map, filter_all, filter_none, greater_from_less}
+use Rattle.tree_array.specs.Arrivals.{boundary_of}
 use Rattle.tree_model.proofs.LookUps.{larger_trans}
-use Rattle.tree_model.proofs.Order.{greater_from_less}
 use Rattle.tree_array.proofs.Arrivals.{reachable_few}
 use Rattle.tree_split.proofs.Boundaries.{ascents_below}
 

@@ -1,11 +1,8 @@
 -- The boundary of an array parts its entries: some are before it, and some are not.
-use Rattle.std.proofs.Common.{◌≡◌, ℕ, suc, ◌+◌, ◌*◌, ◌-◌, ◌<◌, ◌≤◌, ◌==◌, Bool, true, false, cond, leb, ltb, List, [], ◌∷◌, ap, length, refl, arith, inl, inr}
-use Rattle.std.specs.declared.cmp.Ordering.{Ordering}
-use Rattle.std.specs.Ordering.{is_lt}
-use Rattle.std.proofs.lemmas.Bool.Decides.{nat_tests}
-use Rattle.tree_array.specs.Arrivals.{Arrivals, ascents, boundary, boundary_of, reachable}
-use Rattle.tree_array.specs.Length.{IsLen, limit}
-use Rattle.tree_array.specs.Sound.{IsSound}
+use Rattle.std.proofs.Common.{◌≡◌, ℕ, suc, ◌+◌, ◌*◌, ◌-◌, ◌<◌, ◌≤◌, ◌==◌, Bool, true, false, cond, leb, ltb, List, [], ◌∷◌, ap, length, refl, arith, inl, inr, Ordering, is_lt}
+use Rattle.tree_model.proofs.Common.{nat_tests}
+use Rattle.tree_array.proofs.Common.{Arrivals, ascents, boundary, reachable, IsLen, limit, IsSound}
+use Rattle.tree_array.specs.Arrivals.{boundary_of}
 
 module _ (len count rises : ℕ) where
   pub boundary_count : (boundary_of len count rises).1 ≡ count

@@ -1,18 +1,10 @@
 -- Parts that are packed along their right edge: what keeps them so, and how many pairs they have.
-use Rattle.std.proofs.Common.{◌≡◌, ℕ, zero, suc, ◌*◌, ◌<◌, ◌≤◌, ◌^◌, List, [], ◌∷◌, ◌++◌, map, length, length-append, Option, Some, None, refl, sym, ap, ◌∙◌, arith, mul-suc}
-use Rattle.std.specs.List.{flat_map, AllByRecursion}
-use Rattle.std.specs.declared.cmp.Ordering.{Ordering}
-use Rattle.std.specs.declared.cmp.Ordering.TheVariants.{Less}
-use Rattle.std.specs.Cmp.{IsTotalOrder}
-use Rattle.std.proofs.lemmas.List.{append-nil}
-use Rattle.std.proofs.lemmas.List.Concat.{flat_map-append}
-use Rattle.slab.specs.Slab.{get}
-use Rattle.tree_leaf.specs.Chain.{SameArray}
-use Rattle.tree_model.proofs.Lists.{all_map}
-use Rattle.tree_node.specs.Arenas.{TreeArenas}
-use Rattle.tree_node.specs.Parts.{IsPart, Replaces}
+use Rattle.std.proofs.Common.{◌≡◌, ℕ, zero, suc, ◌*◌, ◌<◌, ◌≤◌, ◌^◌, List, [], ◌∷◌, ◌++◌, map, length, length-append, Option, Some, None, refl, sym, ap, ◌∙◌, arith, mul-suc, flat_map, Ordering, Less, append-nil}
+use Rattle.tree_model.proofs.Common.{AllByRecursion, IsTotalOrder, flat_map-append}
+use Rattle.tree_array.proofs.Common.{all_map}
+use Rattle.tree_node.proofs.Common.{get, TreeArenas, IsPart, Replaces, AreParted, HasChildFor, IsAbove, IsBelow, Stands, child_at, front_at, is_from, keyed, walk}
 use Rattle.tree_node.specs.declared.node.NodeOf.{NodeOf}
-use Rattle.tree_node.specs.Tree.{AreParted, HasChildFor, IsAbove, IsBelow, Stands, child_at, front_at, is_from, keyed, walk}
+use Rattle.tree_leaf.specs.Chain.{SameArray}
 use Rattle.tree_node.proofs.Bare.{parted_last}
 use Rattle.tree_node.proofs.ChildChanges.{fronts, same_node}
 use Rattle.tree_node.proofs.Children.{stands_free_low, walk-leaf}

@@ -1,10 +1,9 @@
 -- Where an array or a node takes no more, and where it does.
 use Rattle.std.proofs.Common.{◌≡◌, ℕ, zero, suc, ◌<◌, Bool, true, false, cond, Option, Some, None, refl, arith, inl, inr}
-use Rattle.tree_array.specs.Arrivals.{Arrivals, free}
-use Rattle.tree_array.specs.Insertion.{HasRoom, IsFull}
+use Rattle.tree_array.proofs.Common.{Arrivals, free, HasRoom, IsFull}
+use Rattle.tree_node.proofs.Common.{keyed, unbounded}
 use Rattle.tree_node.specs.declared.node.NodeOf.{NodeOf}
 use Rattle.tree_node.specs.Shape.{children_free, found_room}
-use Rattle.tree_node.specs.Tree.{keyed, unbounded}
 
 -- a full array takes nothing more
 pub none_free : {K V : Type 0} (LEN : ℕ) (array : Arrivals K V) → IsFull LEN array → cond array.retired 0 (free LEN array) ≡ 0

@@ -7,6 +7,5 @@ pub mod LowSplits
 pub mod PackedSplits
 pub mod Rebuilds
 pub mod Results
-pub mod SameKinds
 pub mod Tests
 pub mod Variants

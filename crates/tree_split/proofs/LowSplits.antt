@@ -1,21 +1,12 @@
 -- A child that gives its lower part to a new one before it, and the node above it, which is written with the separator.
-use Rattle.std.proofs.Common.{◌≡◌, ◌⊎◌, ℕ, zero, suc, ◌-◌, ◌<◌, ◌≤◌, min, Bool, true, false, cond, List, [], ◌∷◌, ◌++◌, map, length, length-append, Option, Some, None, refl, sym, ap, ◌∙◌, arith, append_assoc, inl, inr}
-use Rattle.std.specs.List.{AllByRecursion}
-use Rattle.std.specs.declared.cmp.Ordering.{Ordering}
-use Rattle.std.specs.Cmp.{IsTotalOrder}
-use Rattle.std.proofs.lemmas.Bool.{cases_eq}
-use Rattle.std.proofs.lemmas.List.{length-map}
-use Rattle.slab.specs.Slab.{get}
-use Rattle.tree_array.specs.Arrivals.{Arrivals, spend, spent_at}
-use Rattle.tree_leaf.specs.Counting.{times, uses}
-use Rattle.tree_leaf.proofs.Counts.{times-append, times-cons, none_here}
-use Rattle.tree_model.specs.Pairs.{IsAbsent}
-use Rattle.tree_model.proofs.Lists.{all_map}
+use Rattle.std.proofs.Common.{◌≡◌, ◌⊎◌, ℕ, zero, suc, ◌-◌, ◌<◌, ◌≤◌, min, Bool, true, false, cond, List, [], ◌∷◌, ◌++◌, map, length, length-append, Option, Some, None, refl, sym, ap, ◌∙◌, arith, append_assoc, inl, inr, Ordering}
+use Rattle.tree_model.proofs.Common.{AllByRecursion, IsTotalOrder, cases_eq, IsAbsent}
+use Rattle.tree_array.proofs.Common.{Arrivals, spend, spent_at, all_map}
+use Rattle.tree_node.proofs.Common.{get, times, uses, times-append, times-cons, none_here, TreeArenas, IsPart, Replaces, room, spare, AreParted, IsAbove, IsBelow, HasChildFor, Stands, keyed, unbounded, child_at, is_from, walk, leaves_at, children_of}
 use Rattle.tree_node.specs.declared.node.NodeOf.{NodeOf}
-use Rattle.tree_node.specs.Arenas.{TreeArenas}
-use Rattle.tree_node.specs.Parts.{IsPart, PutsChild, Replaces}
-use Rattle.tree_node.specs.Shape.{room, found_room, spare}
-use Rattle.tree_node.specs.Tree.{AreParted, IsAbove, IsBelow, HasChildFor, Stands, keyed, unbounded, child_at, is_from, walk, leaves_at, children_of}
+use Rattle.std.proofs.lemmas.List.{length-map}
+use Rattle.tree_node.specs.Parts.{PutsChild}
+use Rattle.tree_node.specs.Shape.{found_room}
 use Rattle.tree_node.proofs.Frames.{Agrees, agrees_here, same_stands}
 use Rattle.tree_node.proofs.Lifts.{front_agrees, back_agrees, changed_agree, leaves_once_in, lifted, walk_now, walk_was}
 use Rattle.tree_node.proofs.Places.{first_child, later_children, low_at, high_at, children_at, children_put, routed_by, child_between, separator_absent, separator_put, parted_low}

@@ -1,24 +1,13 @@
 -- A part that is packed along its right edge, whose last child is full and gives its lower part to a new child before it.
-use Rattle.std.proofs.Common.{◌≡◌, ◌⊎◌, ℕ, zero, suc, ◌<◌, ◌≤◌, ◌^◌, Bool, true, false, cond, List, [], ◌∷◌, ◌++◌, map, length, length-append, Option, Some, None, refl, sym, ap, ◌∙◌, arith, inl, inr}
-use Rattle.std.specs.Prelude.{◌&&◌}
-use Rattle.std.specs.List.{AllByRecursion}
-use Rattle.std.specs.Ordering.{is_lt}
-use Rattle.std.specs.declared.cmp.Ordering.{Ordering}
-use Rattle.std.specs.declared.cmp.Ordering.TheVariants.{Less}
-use Rattle.std.specs.Cmp.{IsTotalOrder}
+use Rattle.std.proofs.Common.{◌≡◌, ◌⊎◌, ℕ, zero, suc, ◌<◌, ◌≤◌, ◌^◌, Bool, true, false, cond, List, [], ◌∷◌, ◌++◌, map, length, length-append, Option, Some, None, refl, sym, ap, ◌∙◌, arith, inl, inr, ◌&&◌, is_lt, Ordering, Less, append-nil}
+use Rattle.tree_model.proofs.Common.{AllByRecursion, IsTotalOrder}
+use Rattle.tree_array.proofs.Common.{Arrivals, ascents, free, reachable, IsSound, all-append}
+use Rattle.tree_node.proofs.Common.{get, TreeArenas, IsPart, held, room, found_keyed, AreParted, IsBelow, Stands, keyed, walk}
+use Rattle.tree_node.specs.declared.node.NodeOf.{NodeOf}
 use Rattle.std.specs.Cmp.Derive.{both_true}
 use Rattle.std.proofs.Math.Nat.{pow-suc, pow-zero}
-use Rattle.std.proofs.lemmas.List.{append-nil}
-use Rattle.slab.specs.Slab.{get}
-use Rattle.tree_array.specs.Arrivals.{Arrivals, ascents, free, reachable}
-use Rattle.tree_array.specs.Sound.{IsSound}
-use Rattle.tree_model.proofs.Lists.{all-append}
 use Rattle.tree_model.proofs.Ascending.{less_from_test}
-use Rattle.tree_node.specs.declared.node.NodeOf.{NodeOf}
-use Rattle.tree_node.specs.Arenas.{TreeArenas}
-use Rattle.tree_node.specs.Parts.{IsPart, PutsChild}
-use Rattle.tree_node.specs.Shape.{held, room, found_keyed}
-use Rattle.tree_node.specs.Tree.{AreParted, IsBelow, Stands, keyed, walk}
+use Rattle.tree_node.specs.Parts.{PutsChild}
 use Rattle.tree_node.proofs.Frames.{Agrees, same_walk}
 use Rattle.tree_node.proofs.Places.{low_above, low_at}
 use Rattle.tree_node.proofs.Standing.{node_is}

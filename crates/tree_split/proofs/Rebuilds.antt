@@ -1,29 +1,17 @@
 -- A child that is built anew in its place, with what it had, and the node above it.
-use Rattle.std.proofs.Common.{◌≡◌, ℕ, suc, ◌-◌, ◌<◌, ◌≤◌, List, [], ◌∷◌, ◌++◌, map, length, Option, Some, None, is_some, refl, sym, ap, ◌∙◌, arith, sub-one, inl, inr}
-use Rattle.std.specs.List.{AllByRecursion}
-use Rattle.std.specs.declared.cmp.Ordering.{Ordering}
-use Rattle.std.specs.Cmp.{IsTotalOrder}
-use Rattle.std.proofs.lemmas.Bool.{cases_eq}
-use Rattle.std.proofs.lemmas.List.{length-map}
-use Rattle.slab.specs.Slab.{get, with_value, Updates}
-use Rattle.slab.proofs.SlabLemmas.{Updates-with_value}
-use Rattle.tree_array.specs.Arrivals.{Arrivals, in_order}
-use Rattle.tree_array.specs.Length.{IsLen, limit}
-use Rattle.tree_array.specs.Sound.{IsSound}
-use Rattle.tree_leaf.specs.declared.leaf.LeafOf.{LeafOf}
-use Rattle.tree_leaf.specs.Counting.{times, uses}
-use Rattle.tree_leaf.proofs.Chains.{same_array_refl}
-use Rattle.tree_leaf.proofs.Counts.{times-cons, one_here, uses_le_one, uses_same}
-use Rattle.tree_model.proofs.Lists.{all_map, all-append}
+use Rattle.std.proofs.Common.{◌≡◌, ℕ, suc, ◌-◌, ◌<◌, ◌≤◌, List, [], ◌∷◌, ◌++◌, map, length, Option, Some, None, is_some, refl, sym, ap, ◌∙◌, arith, sub-one, inl, inr, Ordering}
+use Rattle.tree_model.proofs.Common.{AllByRecursion, IsTotalOrder, cases_eq}
+use Rattle.tree_array.proofs.Common.{Arrivals, in_order, IsLen, limit, IsSound, all_map, all-append}
+use Rattle.tree_node.proofs.Common.{get, with_value, LeafOf, times, uses, same_array_refl, times-cons, one_here, uses_le_one, uses_same, TreeArenas, IsPart, KeepsBounds, Replaces, held, room, spare, HasChildFor, Stands, keyed, unbounded, walk, leaves_at, nodes_at, nodes_of, node_children, children_of}
 use Rattle.tree_node.specs.declared.node.NodeOf.{NodeOf}
-use Rattle.tree_node.specs.Arenas.{TreeArenas}
-use Rattle.tree_node.specs.Parts.{IsPart, KeepsBounds, Replaces}
-use Rattle.tree_node.specs.Shape.{held, room, spare}
+use Rattle.std.proofs.lemmas.List.{length-map}
+use Rattle.slab.specs.Slab.{Updates}
+use Rattle.slab.proofs.SlabLemmas.{Updates-with_value}
 use Rattle.tree_split.specs.Packed.{HasLast, IsPacked}
 use Rattle.tree_split.proofs.Arrays.{limit_below}
 use Rattle.tree_split.proofs.Edges.{edge_of, last_for, last_stands, one_last}
-use Rattle.tree_split.specs.Splits.{HasMadeRoom, KeepsPacked, RebuildsNode, SharesChildren, SplitsChild}
-use Rattle.tree_node.specs.Tree.{HasChildFor, Stands, keyed, unbounded, walk, leaves_at, nodes_at, nodes_of, node_children, children_of}
+use Rattle.tree_node.specs.Changes.{RebuildsNode}
+use Rattle.tree_split.specs.Splits.{HasMadeRoom, KeepsPacked, SharesChildren, SplitsChild}
 use Rattle.tree_node.proofs.Children.{walk-leaf}
 use Rattle.tree_node.proofs.Frames.{Agrees, each_part, parted_map, same_leaves, same_nodes, same_walk, same_stands}
 use Rattle.tree_node.proofs.LeafSpares.{spare_anew, spare_beside}

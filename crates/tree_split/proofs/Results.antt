@@ -1,9 +1,7 @@
 -- What is known of a result by its arm, and of what was read twice.
-use Rattle.std.proofs.Common.{◌≡◌, ℕ, Option, None, Some, Result, Ok, Err, sym, subst, ◌∙◌}
-use Rattle.std.specs.declared.cmp.Ordering.{Ordering}
-use Rattle.std.specs.Result.{IfOk, MatchResult, OnErr}
+use Rattle.std.proofs.Common.{◌≡◌, ℕ, Option, None, Some, Result, Ok, Err, sym, subst, ◌∙◌, Ordering, IfOk, MatchResult, OnErr}
+use Rattle.tree_node.proofs.Common.{HasChildFor}
 use Rattle.tree_node.specs.declared.node.NodeOf.{NodeOf}
-use Rattle.tree_node.specs.Tree.{HasChildFor}
 
 -- what holds anyway holds after an error
 pub on_err : {T E : Type 0} {P : Type 0} (result : Result T E) → P → OnErr result P

@@ -1,19 +1,11 @@
 -- What the test of packed trees says, and how deep a packed tree is.
-use Rattle.std.proofs.Common.{◌≡◌, ◌⊎◌, ℕ, zero, suc, ◌<◌, ◌≤◌, ◌==◌, ◌^◌, Bool, true, false, leb, List, [], ◌∷◌, length, Option, Some, None, refl, sym, arith, inl, inr}
-use Rattle.std.specs.Prelude.{not, ◌||◌}
-use Rattle.std.specs.List.{AllByRecursion}
-use Rattle.std.specs.declared.cmp.Ordering.{Ordering}
+use Rattle.std.proofs.Common.{◌≡◌, ◌⊎◌, ℕ, zero, suc, ◌<◌, ◌≤◌, ◌==◌, ◌^◌, Bool, true, false, leb, List, [], ◌∷◌, length, Option, Some, None, refl, sym, arith, inl, inr, not, ◌||◌, Ordering}
+use Rattle.tree_model.proofs.Common.{AllByRecursion, nat_tests}
+use Rattle.tree_node.proofs.Common.{get, LeafOf, TreeArenas, Unchanged, found_keyed, keyed, unbounded, walk, walk_under}
+use Rattle.tree_node.specs.declared.node.NodeOf.{NodeOf}
 use Rattle.std.specs.Cmp.Derive.{both_true}
 use Rattle.std.proofs.lemmas.Bool.{lt-leb}
-use Rattle.std.proofs.lemmas.Bool.Decides.{nat_tests}
-use Rattle.slab.specs.Slab.{get}
-use Rattle.tree_leaf.specs.declared.leaf.LeafOf.{LeafOf}
-use Rattle.tree_node.specs.declared.node.NodeOf.{NodeOf}
-use Rattle.tree_node.specs.Arenas.{TreeArenas}
-use Rattle.tree_node.specs.Parts.{Unchanged}
-use Rattle.tree_node.specs.Shape.{found_keyed}
-use Rattle.tree_node.specs.Tree.{keyed, unbounded, walk}
-use Rattle.tree_node.specs.Whole.{depth_of, walk_under}
+use Rattle.tree_node.specs.Whole.{depth_of}
 use Rattle.tree_node.proofs.Lists.{all_yes}
 use Rattle.tree_node.proofs.Unchanged.{unchanged_agrees}
 use Rattle.tree_split.specs.Packed.{IsPacked, IsPackedLeaf, IsPackedNode, all_full, is_packed_array, last_packed, leaf_packed, node_packed, packed_at, packed_under}

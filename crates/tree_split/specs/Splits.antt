@@ -1,5 +1,5 @@
 -- What making room in a part leaves: a child that has none gives its lower part to a new child before it, or is built anew.
-use Rattle.std.specs.Prelude.{◌≡◌, ◌⊎◌, ℕ, suc, ◌+◌, ◌-◌, ◌<◌, ◌≤◌, ◌==◌, ◌&&◌, Bool, true, false, List, [], ◌∷◌, ◌++◌, take, drop, length, Option, Some, None, slice_get, if◌then◌else◌}
+use Rattle.std.specs.Prelude.{◌≡◌, ◌⊎◌, ℕ, suc, ◌+◌, ◌-◌, ◌<◌, ◌≤◌, ◌==◌, ◌&&◌, Bool, true, false, List, [], ◌∷◌, ◌++◌, length, Option, Some, None, if◌then◌else◌}
 use Rattle.std.specs.List.{AllByRecursion}
 use Rattle.std.specs.declared.cmp.Ordering.{Ordering}
 use Rattle.std.specs.declared.cmp.Ordering.TheVariants.{Less}
@@ -12,7 +12,7 @@ use Rattle.tree_leaf.specs.Counting.{times}
 use Rattle.tree_leaf.specs.Entries.{leaf_entries}
 use Rattle.tree_node.specs.declared.node.NodeOf.{NodeOf}
 use Rattle.tree_node.specs.Arenas.{TreeArenas}
-use Rattle.tree_node.specs.Tree.{IsAbove, IsUpTo, HasChildFor, HasKind, Stands, keyed, unbounded, children_of, walk}
+use Rattle.tree_node.specs.Tree.{IsAbove, IsUpTo, HasChildFor, Stands, keyed, unbounded, children_of, walk}
 use Rattle.tree_node.specs.Parts.{KeepsBounds, Replaces, Unchanged}
 use Rattle.tree_node.specs.Shape.{held, room, found_keyed, spare}
 use Rattle.tree_split.specs.Packed.{HasLast, IsPacked}
@@ -82,23 +82,6 @@ module _ {K V : Type 0} {LEN : ℕ} (cmp : K → K → Ordering) where
   abbrev pub SplitResult : Bool → ℕ → TreeArenas K V LEN → TreeArenas K V LEN → ℕ → ℕ → Type 0
   SplitResult true level old new parent target = SplitsChild level old new parent target
   SplitResult false level old new parent target = LacksRoom level old new parent target
-
--- A node has given its first keyed children to another one of its kind, with the next one as the unbounded child, whose separator is left over.
-pub record CutsNode {K : Type 0} {LEN : ℕ} (old : NodeOf K LEN) (place : ℕ) (new low : NodeOf K LEN) (separator : K) : Type 0 where
-  pub middle : ℕ
-  pub apart : slice_get (keyed old).entries place ≡ Some (separator, middle)
-  pub low_keyed : keyed low ≡ in_order (take place (keyed old).entries)
-  pub low_last : unbounded low ≡ Some middle
-  pub high_keyed : keyed new ≡ in_order (drop (place + 1) (keyed old).entries)
-  pub high_last : unbounded new ≡ unbounded old
-  pub low_kind : (level : ℕ) → HasKind level old → HasKind level low
-  pub high_kind : (level : ℕ) → HasKind level old → HasKind level new
-
--- a node has the same children, each of which arrived anew
-pub record RebuildsNode {K : Type 0} {LEN : ℕ} (old new : NodeOf K LEN) : Type 0 where
-  pub rebuilt : keyed new ≡ in_order (keyed old).entries
-  pub last : unbounded new ≡ unbounded old
-  pub kind : (level : ℕ) → HasKind level old → HasKind level new
 
 -- So many first entries make room for the key where they part from the others: some stay, or the key is larger than all.
 pub record IsCut {K V : Type 0} (cmp : K → K → Ordering) (key : K) (count : ℕ) (entries : List (K × V)) : Type 0 where

@@ -1,8 +1,8 @@
-//! The keyed children of a node: one more is put among them, and an array of them is divided.
-ghost use Rattle.std.specs.Prelude.{◌≡◌, ◌+◌, ◌<◌, ◌≤◌, IfSome, MatchOption, Some, take, drop, length, slice_get};
-ghost use Rattle.tree_array.specs.Arrivals.{boundary, in_order, stored};
+//! The keyed children of a node: where an array of them divides, and one more is put among them.
+ghost use Rattle.std.specs.Prelude.{◌≡◌, ◌<◌, ◌≤◌, IfSome, MatchOption, length};
+ghost use Rattle.tree_array.specs.Arrivals.{boundary, stored};
 ghost use Rattle.tree_array.specs.Insertion.{HasRoom};
-ghost use Rattle.tree_array.specs.Length.{IsLen, limit};
+ghost use Rattle.tree_array.specs.Length.{limit};
 ghost use Rattle.tree_array.specs.Sound.{IsSound};
 ghost use Rattle.tree_model.specs.Pairs.{IsAbsent};
 
@@ -13,7 +13,8 @@ use tree_array::array::ArrayOf;
 pub fn parting_place<K: Ord + Drop, I: Drop, const LEN: usize>(
     children: &ArrayOf<K, I, LEN>,
 ) -> Option<u8>
-    ensures place { MatchOption result (length children.now.entries ≤ limit LEN) (λ place. (limit LEN < length children.now.entries) × (place < length children.now.entries)) }
+    ensures place { MatchOption result (length children.now.entries ≤ limit LEN)
+        (λ place. (limit LEN < length children.now.entries) × (place < length children.now.entries)) }
     ensures rule { IfSome result (λ place. place ≡ (boundary K.cmp LEN children.now).0) }
     ensures sound { IsSound K.cmp LEN children.now }
 {
@@ -38,26 +39,4 @@ pub fn put_keyed<K: Ord + Drop, I: Drop, const LEN: usize>(
     ensures few { length children.new.entries ≤ LEN }
 {
     let _ = children.insert::<false>(separator, child);
-}
-
-/// Takes out the children up to this place: returns the separator of the one at the place, an array of those before it,
-/// and the child itself. The children of both arrays arrive anew, in ascending order. The caller must name the place of a
-/// child.
-pub fn cut_keyed<K: Ord + Drop, I: Drop, const LEN: usize>(
-    children: &mut ArrayOf<K, I, LEN>,
-    place: u8,
-) -> (K, ArrayOf<K, I, LEN>, I)
-    requires len { IsLen LEN }
-    requires within { place < length children.old.entries }
-    ensures low { result.1 ≡ in_order (take place children.old.entries) }
-    ensures apart { slice_get children.old.entries place ≡ Some (result.0, result.2) }
-    ensures high { children.new ≡ in_order (drop (place + 1) children.old.entries) }
-{
-    let mut low = ArrayOf::new();
-    let mut high = ArrayOf::new();
-    let Some((separator, middle)) = children.distribute_apart(place, &mut low, &mut high) else {
-        unreachable!()
-    };
-    *children = high;
-    (separator, low, middle)
 }

@@ -4,4 +4,4 @@
 
 mod keyed_children;
 
-pub use keyed_children::{cut_keyed, parting_place, put_keyed};
+pub use keyed_children::{parting_place, put_keyed};

@@ -215,7 +215,8 @@ impl<K: IndexKey + SameClone, V: SameClone, const LEN: usize> StateOf<K, V, LEN>
     /// }
     /// ```
     pub fn upsert_prepared(&mut self, pair: PreparedPair<K, V>) -> Result<(), (K, V)>
-        ensures ok { IfOk result (λ _. Appends K.cmp K.seen V.seen self.old self.new (Command.Upsert pair.0 pair.1) Reply.Stored) }
+        ensures ok { IfOk result
+            (λ _. Appends K.cmp K.seen V.seen self.old self.new (Command.Upsert pair.0 pair.1) Reply.Stored) }
         ensures handed_back { IfErr result (λ back. back ≡ pair) }
         ensures err { OnErr result (self.new ≡ self.old) }
     {
@@ -318,7 +319,8 @@ where
 // Clones an optional value twice.
 fn two_clones<V: SameClone>(value: Option<&V>) -> Result<(Option<V>, Option<V>), AllocError>
     ensures first { IfOk result (λ clones. option_map V.seen clones.0 ≡ option_map V.seen (option_copied value.entry)) }
-    ensures second { IfOk result (λ clones. option_map V.seen clones.1 ≡ option_map V.seen (option_copied value.entry)) }
+    ensures second { IfOk result
+        (λ clones. option_map V.seen clones.1 ≡ option_map V.seen (option_copied value.entry)) }
 {
     match value {
         None => Ok((None, None)),

@@ -2,7 +2,7 @@
 ghost use Rattle.std.specs.Prelude.{◌≡◌, ◌<◌};
 ghost use Rattle.std.specs.Cmp.Lexicographic.{slice_cmp};
 ghost use Rattle.std.specs.Ordering.{nat_cmp};
-ghost use Rattle.tree_cursor_model.specs.Rest.{lent};
+ghost use Rattle.tree_model.specs.Rest.{lent};
 ghost use Rattle.tree_model.specs.Pairs.{pair_at};
 
 use crate::bytes::{Bytes, BytesJudge};

@@ -1,8 +1,6 @@
 -- Lists of pairs that are compared one by one.
-use Rattle.std.proofs.Common.{◌≡◌, true, false, Option, Some, refl}
+use Rattle.std.proofs.Common.{◌≡◌, true, false, Option, Some, refl, Ordering, Less, Equal, Greater}
 use Rattle.std.specs.Ordering.{is_ne, partial_ordering_then}
-use Rattle.std.specs.declared.cmp.Ordering.{Ordering}
-use Rattle.std.specs.declared.cmp.Ordering.TheVariants.{Less, Equal, Greater}
 
 module _ (rest : Option Ordering) where
   -- an order that decides, and one that leaves it to the rest

@@ -1,18 +1,13 @@
 -- Walks over the keys of an index, or over its values.
-use Rattle.std.proofs.Common.{◌≡◌, true, List, [], ◌∷◌, ◌++◌, map, reverse, Option, Some, None, Bor, length, refl, sym, ap, ◌∙◌, arith}
-use Rattle.std.specs.Prelude.{⊤}
-use Rattle.std.specs.Cmp.{IsTotalOrder}
-use Rattle.std.specs.Iterator.{MakesProgress, at_most}
+use Rattle.std.proofs.Common.{◌≡◌, true, List, [], ◌∷◌, ◌++◌, map, reverse, Option, Some, None, Bor, length, refl, sym, ap, ◌∙◌, arith, Ordering, length-append}
+use Rattle.tree_model.proofs.Common.{⊤, IsTotalOrder, MakesProgress, reverse_onto, reverse-reverse, lent_entry, Moves, rest, Cursor}
+use Rattle.tree_model.specs.declared.way.Way.TheVariants.{On, Back}
+use Rattle.tree_array.proofs.Common.{filter_all}
+use Rattle.std.specs.Iterator.{at_most}
 use Rattle.std.specs.Map.Iter.{TakesFirst, TakesLast}
-use Rattle.std.specs.declared.cmp.Ordering.{Ordering}
-use Rattle.std.proofs.lemmas.Grind.{reverse_onto}
-use Rattle.std.proofs.lemmas.List.{length-append, map_push, reverse-reverse}
-use Rattle.tree_model.proofs.Lists.{filter_all}
-use Rattle.tree_chain.specs.declared.stand.Way.TheVariants.{On, Back}
+use Rattle.std.proofs.lemmas.List.{map_push}
 use Rattle.tree_chain.specs.Rest.{TakesFirst as TakesEntry}
-use Rattle.tree_chain.specs.Walks.{lent_entry}
-use Rattle.tree_cursor_model.specs.Cursor.{Cursor}
-use Rattle.tree_cursor_model.specs.Rest.{Moves, between, rest}
+use Rattle.tree_model.specs.Rest.{between}
 use Rattle.tree_ranges.specs.Ranged.{IsOpen}
 use Rattle.tree_ranges.proofs.Yields.{takes_first}
 use Rattle.tree_views.specs.Keys.{GoesThroughAll}

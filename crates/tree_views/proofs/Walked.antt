@@ -1,15 +1,10 @@
 -- Cursors that take all pairs of an index.
-use Rattle.std.proofs.Common.{◌≡◌, Bool, true, false, Option, Some, None, List, [], ◌∷◌, Bor, refl, ◌∙◌}
-use Rattle.std.specs.Prelude.{is_some, not}
+use Rattle.std.proofs.Common.{◌≡◌, Bool, true, false, Option, Some, None, List, [], ◌∷◌, Bor, refl, ◌∙◌, is_some, not, Ordering}
+use Rattle.tree_model.proofs.Common.{AllByRecursion, Unbounded, fresh, rest}
+use Rattle.tree_model.specs.declared.way.Way.TheVariants.{On}
+use Rattle.tree_array.proofs.Common.{filter_all}
 use Rattle.std.specs.Cmp.Lexicographic.{pointwise}
-use Rattle.std.specs.List.{AllByRecursion}
-use Rattle.std.specs.declared.cmp.Ordering.{Ordering}
-use Rattle.std.specs.declared.ops.Bound.TheVariants.{Unbounded}
-use Rattle.tree_model.proofs.Lists.{filter_all}
-use Rattle.tree_chain.specs.declared.stand.Way.TheVariants.{On}
 use Rattle.tree_chain.specs.Rest.{TakesFirst}
-use Rattle.tree_cursor_model.specs.Cursor.{fresh}
-use Rattle.tree_cursor_model.specs.Rest.{rest}
 use Rattle.tree_ranges.proofs.Yields.{rest_fresh}
 
 pub all_pass : {X : Type 0} (xs : List X) → AllByRecursion (λ x. true ≡ true) xs

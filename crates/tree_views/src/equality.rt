@@ -1,8 +1,8 @@
 //! Equality of the pairs that cursors have left.
 ghost use Rattle.std.specs.Prelude.{◌≡◌, ◌&&◌};
 ghost use Rattle.std.specs.Cmp.Lexicographic.{pointwise};
-ghost use Rattle.tree_cursor_model.specs.Rest.{HasBegun, rest};
-ghost use Rattle.tree_chain.specs.declared.stand.Way.TheVariants.{On};
+ghost use Rattle.tree_model.specs.Rest.{HasBegun, rest};
+ghost use Rattle.tree_model.specs.declared.way.Way.TheVariants.{On};
 
 use tree_model::IndexKey;
 use tree_ranges::iter::IterOf;
@@ -14,7 +14,8 @@ pub fn are_same<'t, K: IndexKey + 't, V: Drop + PartialEq + 't, const LEN: usize
 ) -> bool
     requires left { HasBegun K.cmp On left }
     requires right { HasBegun K.cmp On right }
-    ensures { result ≡ pointwise (λ p q. K.eq p.0 q.0 && V.eq p.1 q.1) (rest K.cmp On left.entry) (rest K.cmp On right.entry) }
+    ensures { result ≡ pointwise (λ p q. K.eq p.0 q.0 && V.eq p.1 q.1)
+        (rest K.cmp On left.entry) (rest K.cmp On right.entry) }
 {
     let (mut left, mut right) = (left, right);
     while let Some(pair) = left.next() {

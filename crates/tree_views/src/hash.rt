@@ -1,8 +1,8 @@
 //! Hashes of the pairs that a cursor has left.
 ghost use Rattle.std.specs.Prelude.{◌≡◌, ◌++◌};
 ghost use Rattle.std.specs.List.{flat_map, fold};
-ghost use Rattle.tree_cursor_model.specs.Rest.{HasBegun, rest};
-ghost use Rattle.tree_chain.specs.declared.stand.Way.TheVariants.{On};
+ghost use Rattle.tree_model.specs.Rest.{HasBegun, rest};
+ghost use Rattle.tree_model.specs.declared.way.Way.TheVariants.{On};
 
 use std::hash::{Hash, Hasher};
 use tree_model::IndexKey;
@@ -14,7 +14,8 @@ pub fn feed<'t, K: IndexKey + Hash + 't, V: Drop + Hash + 't, H: Hasher, const L
     state: &mut H,
 )
     requires { HasBegun K.cmp On pairs }
-    ensures { state.new ≡ fold H.write state.old (flat_map (λ p. K.hash_input p.0 ++ V.hash_input p.1) (rest K.cmp On pairs.entry)) }
+    ensures { state.new ≡ fold H.write state.old
+        (flat_map (λ p. K.hash_input p.0 ++ V.hash_input p.1) (rest K.cmp On pairs.entry)) }
 {
     let mut pairs = pairs;
     while let Some((key, value)) = pairs.next() {

@@ -2,8 +2,8 @@
 ghost use Rattle.std.specs.Prelude.{◌≡◌};
 ghost use Rattle.std.specs.Cmp.Lexicographic.{slice_partial_cmp};
 ghost use Rattle.std.specs.Ordering.{partial_ordering_then};
-ghost use Rattle.tree_cursor_model.specs.Rest.{HasBegun, rest};
-ghost use Rattle.tree_chain.specs.declared.stand.Way.TheVariants.{On};
+ghost use Rattle.tree_model.specs.Rest.{HasBegun, rest};
+ghost use Rattle.tree_model.specs.declared.way.Way.TheVariants.{On};
 
 use std::cmp::Ordering;
 use tree_model::IndexKey;
@@ -16,7 +16,8 @@ pub fn order_of<'t, K: IndexKey + 't, V: Drop + PartialOrd + 't, const LEN: usiz
 ) -> Option<Ordering>
     requires left { HasBegun K.cmp On left }
     requires right { HasBegun K.cmp On right }
-    ensures { result ≡ slice_partial_cmp (λ p q. partial_ordering_then (K.partial_cmp p.0 q.0) (V.partial_cmp p.1 q.1)) (rest K.cmp On left.entry) (rest K.cmp On right.entry) }
+    ensures { result ≡ slice_partial_cmp (λ p q. partial_ordering_then (K.partial_cmp p.0 q.0) (V.partial_cmp p.1 q.1))
+        (rest K.cmp On left.entry) (rest K.cmp On right.entry) }
 {
     let (mut left, mut right) = (left, right);
     while let Some(pair) = left.next() {
@@ -39,7 +40,8 @@ pub fn order_of_pairs<K: PartialOrd, V: PartialOrd>(
     pair: (&K, &V),
     other: (&K, &V),
 ) -> Option<Ordering>
-    ensures { result ≡ partial_ordering_then (K.partial_cmp pair.entry.0.now other.entry.0.now) (V.partial_cmp pair.entry.1.now other.entry.1.now) }
+    ensures { result ≡ partial_ordering_then (K.partial_cmp pair.entry.0.now other.entry.0.now)
+        (V.partial_cmp pair.entry.1.now other.entry.1.now) }
 {
     match pair.0.partial_cmp(other.0) {
         Some(Ordering::Equal) => pair.1.partial_cmp(other.1),

@@ -1,15 +1,9 @@
 -- A search through children in turn, either way, for the first leaf with an entry.
-use Rattle.std.proofs.Common.{◌≡◌, ℕ, ◌<◌, Bool, true, false, List, [], ◌∷◌, ◌++◌, length, reverse, Option, Some, None, is_some, refl, ap, ◌∙◌, append_assoc, IsTrue, arith}
-use Rattle.std.specs.List.{flat_map, AllByRecursion}
-use Rattle.std.proofs.lemmas.Grind.{reverse_onto}
-use Rattle.std.proofs.lemmas.List.{append-nil}
-use Rattle.std.proofs.lemmas.List.Concat.{flat_map-append}
-use Rattle.slab.specs.Slab.{Slab}
-use Rattle.tree_leaf.specs.declared.leaf.LeafOf.{LeafOf}
-use Rattle.tree_chain.specs.declared.stand.Way.{Way}
-use Rattle.tree_chain.specs.declared.stand.Way.TheVariants.{On, Back}
-use Rattle.tree_leaf.specs.Entries.{leaf_entries, entries_of}
-use Rattle.tree_chain.specs.Ways.{along}
+use Rattle.std.proofs.Common.{◌≡◌, ℕ, ◌<◌, Bool, true, false, List, [], ◌∷◌, ◌++◌, length, reverse, Option, Some, None, is_some, refl, ap, ◌∙◌, append_assoc, IsTrue, arith, flat_map, append-nil}
+use Rattle.tree_model.proofs.Common.{AllByRecursion, reverse_onto, flat_map-append, along}
+use Rattle.tree_model.specs.declared.way.Way.{Way}
+use Rattle.tree_model.specs.declared.way.Way.TheVariants.{On, Back}
+use Rattle.tree_node.proofs.Common.{Slab, LeafOf, leaf_entries, entries_of}
 use Rattle.tree_walk.specs.Ends.{FindsFirst, IsFirstOn, passed}
 
 -- what comes first on the way, and then the rest, in the order of the keys

@@ -1,17 +1,11 @@
 -- Where a walk of a part begins: in a leaf of the chain, at the first entry of the part on its way.
-use Rattle.std.proofs.Common.{◌≡◌, ℕ, suc, ◌+◌, ◌-◌, ◌<◌, List, [], ◌∷◌, ◌++◌, length, slice_get, None, refl, sym, subst, arith, append_assoc, length-append}
-use Rattle.std.proofs.lemmas.List.{append-nil}
-use Rattle.std.proofs.lemmas.List.Concat.{flat_map-append}
-use Rattle.slab.specs.Slab.{Slab}
-use Rattle.tree_leaf.specs.declared.leaf.LeafOf.{LeafOf}
-use Rattle.tree_chain.specs.declared.stand.Way.{Way}
-use Rattle.tree_chain.specs.declared.stand.Way.TheVariants.{On, Back}
-use Rattle.tree_leaf.specs.Chain.{IsChain}
-use Rattle.tree_leaf.specs.Entries.{leaf_entries, entries_of}
-use Rattle.tree_chain.specs.Walks.{LeafWalk, standing, first_of, last_of}
-use Rattle.tree_node.specs.Arenas.{TreeArenas}
+use Rattle.std.proofs.Common.{◌≡◌, ℕ, suc, ◌+◌, ◌-◌, ◌<◌, List, [], ◌∷◌, ◌++◌, length, slice_get, None, refl, sym, subst, arith, append_assoc, length-append, append-nil}
+use Rattle.tree_model.proofs.Common.{flat_map-append}
+use Rattle.tree_model.specs.declared.way.Way.{Way}
+use Rattle.tree_model.specs.declared.way.Way.TheVariants.{On, Back}
+use Rattle.tree_node.proofs.Common.{Slab, LeafOf, IsChain, leaf_entries, entries_of, TreeArenas, leaves_at}
+use Rattle.tree_chain.proofs.Common.{LeafWalk, standing, first_of, last_of}
 use Rattle.tree_walk.specs.Ends.{BeginsPart, IsFirstOn, IsLinked, first_on, passed}
-use Rattle.tree_node.specs.Tree.{leaves_at}
 
 module _ {X : Type 0} where
   first-append : (xs ys : List X) → 0 < length xs → first_of (xs ++ ys) ≡ first_of xs

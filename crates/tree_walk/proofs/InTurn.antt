@@ -1,13 +1,14 @@
 -- The children of a node in turn, either way: which they are, and that a step takes the first of those still to come.
-use Rattle.std.proofs.Common.{◌≡◌, ℕ, true, false, List, ◌∷◌, ◌++◌, length, take, reverse, Option, Some, None, is_some, refl, sym, ap, ◌∙◌, arith}
-use Rattle.std.specs.Prelude.{option_to_list}
-use Rattle.std.specs.Iterator.{MakesProgress, item_count}
-use Rattle.std.proofs.lemmas.List.{append-nil, length-map, reverse-append, take_all}
-use Rattle.tree_array.specs.Arrivals.{Arrivals, arrival}
-use Rattle.tree_array.specs.Walk.{Walk, standing}
-use Rattle.tree_chain.specs.declared.stand.Way.{Way}
-use Rattle.tree_chain.specs.declared.stand.Way.TheVariants.{On, Back}
-use Rattle.tree_chain.specs.Ways.{StepsOver, along, next_place}
+use Rattle.std.proofs.Common.{◌≡◌, ℕ, true, false, List, ◌∷◌, ◌++◌, length, take, reverse, Option, Some, None, is_some, refl, sym, ap, ◌∙◌, arith, option_to_list, append-nil, take_all}
+use Rattle.tree_model.proofs.Common.{MakesProgress, reverse-append, along}
+use Rattle.tree_model.specs.declared.way.Way.{Way}
+use Rattle.tree_model.specs.declared.way.Way.TheVariants.{On, Back}
+use Rattle.tree_array.proofs.Common.{Arrivals, arrival, Walk}
+use Rattle.tree_chain.proofs.Common.{next_place}
+use Rattle.std.specs.Iterator.{item_count}
+use Rattle.std.proofs.lemmas.List.{length-map}
+use Rattle.tree_array.specs.Walk.{standing}
+use Rattle.tree_chain.specs.Ways.{StepsOver}
 use Rattle.tree_chain.proofs.Along.{step_takes}
 use Rattle.tree_walk.specs.Children.{IsOverKeyed, all_children, is_back, keyed_children, to_come}
 use Rattle.tree_walk.proofs.ChildTurns.{child_at}

@@ -1,8 +1,8 @@
 -- The least number over leaves, found as the children above them are gone through in turn.
-use Rattle.std.proofs.Common.{◌≡◌, ℕ, ◌+◌, ◌-◌, ◌<◌, ◌≤◌, cond, List, [], ◌∷◌, min, sym, ap, ◌∙◌, arith}
-use Rattle.std.specs.List.{flat_map, AllByRecursion}
-use Rattle.std.proofs.lemmas.Bool.{le-leb, lt-leb}
-use Rattle.tree_array.specs.Length.{limit}
+use Rattle.std.proofs.Common.{◌≡◌, ℕ, ◌+◌, ◌-◌, ◌<◌, ◌≤◌, cond, List, [], ◌∷◌, min, sym, ap, ◌∙◌, arith, flat_map, le-leb}
+use Rattle.tree_model.proofs.Common.{AllByRecursion}
+use Rattle.tree_array.proofs.Common.{limit}
+use Rattle.std.proofs.lemmas.Bool.{lt-leb}
 use Rattle.tree_node.specs.Shape.{least, spare_for}
 use Rattle.tree_node.proofs.Spares.{least-then}
 

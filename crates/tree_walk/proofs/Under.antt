@@ -1,20 +1,14 @@
 -- The leaves under a node are those under its children, each of which stands one level below it.
-use Rattle.std.proofs.Common.{◌≡◌, ℕ, zero, suc, ◌-◌, ◌<◌, List, [], Option, Some, None, inl, inr, refl, sym, ◌∙◌, arith}
-use Rattle.std.specs.List.{AllByRecursion}
-use Rattle.std.specs.declared.cmp.Ordering.{Ordering}
-use Rattle.slab.specs.Slab.{ContainsKey, get}
-use Rattle.std.proofs.lemmas.List.{reverse-reverse}
-use Rattle.tree_model.proofs.Lists.{all_map}
-use Rattle.tree_chain.specs.declared.stand.Way.{Way}
-use Rattle.tree_chain.specs.declared.stand.Way.TheVariants.{On, Back}
-use Rattle.tree_chain.specs.Ways.{along}
-use Rattle.tree_chain.proofs.Along.{all_along}
-use Rattle.tree_node.specs.declared.internal_node.InternalNodeOf.{InternalNodeOf}
-use Rattle.tree_node.specs.declared.leaf_node.LeafNodeOf.{LeafNodeOf}
+use Rattle.std.proofs.Common.{◌≡◌, ℕ, zero, suc, ◌-◌, ◌<◌, List, [], Option, Some, None, inl, inr, refl, sym, ◌∙◌, arith, Ordering}
+use Rattle.tree_model.proofs.Common.{AllByRecursion, reverse-reverse, along}
+use Rattle.tree_model.specs.declared.way.Way.{Way}
+use Rattle.tree_model.specs.declared.way.Way.TheVariants.{On, Back}
+use Rattle.tree_array.proofs.Common.{all_map}
+use Rattle.tree_node.proofs.Common.{ContainsKey, get, TreeArenas, IsRetiredNode, StandsOrRetired, keyed, unbounded, leaves_at, leaves_of}
+use Rattle.tree_node.specs.declared.branch.BranchOf.{BranchOf}
 use Rattle.tree_node.specs.declared.node.NodeOf.{NodeOf}
 use Rattle.tree_node.specs.declared.node.NodeOf.TheVariants.{Internal, Leaf}
-use Rattle.tree_node.specs.Arenas.{TreeArenas}
-use Rattle.tree_node.specs.Tree.{IsRetiredNode, StandsOrRetired, keyed, unbounded, leaves_at, leaves_of}
+use Rattle.tree_chain.proofs.Along.{all_along}
 use Rattle.tree_node.proofs.ChildrenStand.{no_leaves, over_leaves, over_nodes}
 use Rattle.tree_walk.specs.Children.{all_children}
 
@@ -51,14 +45,14 @@ module _ {K V : Type 0} {LEN : ℕ} (cmp : K → K → Ordering) (a : TreeArenas
       let empty : all_children (keyed node) None ≡ [] = rw (no_keyed level inner given node here none) refl in
       turned level a id below Holds way [] children (rw empty at is) (no_leaves cmp a id level inner given node here none) tt
 
-  pub leaf_node_over : (node : LeafNodeOf K LEN) → get a.nodes id ≡ Some (Leaf node) → children ≡ along way (all_children node.children node.unbounded_child) → IsOver level a id 0 (ContainsKey a.leaves) way children
+  pub leaf_node_over : (node : BranchOf K ℕ LEN) → get a.nodes id ≡ Some (Leaf node) → children ≡ along way (all_children node.children node.unbounded_child) → IsOver level a id 0 (ContainsKey a.leaves) way children
   leaf_node_over node here = by_last node.unbounded_child refl
     where
       by_last : (last : Option ℕ) → node.unbounded_child ≡ last → children ≡ along way (all_children node.children last) → IsOver level a id 0 (ContainsKey a.leaves) way children
       by_last None none is = over_none 0 (ContainsKey a.leaves) (Leaf node) here none is
       by_last (Some last) last_is is = let over = over_leaves cmp a id level inner given node here last last_is in turned level a id 0 (ContainsKey a.leaves) way _ children is over.leaves over.there
 
-  pub node_over : (node : InternalNodeOf K LEN) → get a.nodes id ≡ Some (Internal node) → children ≡ along way (all_children node.children node.unbounded_child) → IsOver level a id (level - 1) (StandsBelow level a cmp) way children
+  pub node_over : (node : BranchOf K ℕ LEN) → get a.nodes id ≡ Some (Internal node) → children ≡ along way (all_children node.children node.unbounded_child) → IsOver level a id (level - 1) (StandsBelow level a cmp) way children
   node_over node here = by_last node.unbounded_child refl
     where
       by_last : (last : Option ℕ) → node.unbounded_child ≡ last → children ≡ along way (all_children node.children last) → IsOver level a id (level - 1) (StandsBelow level a cmp) way children

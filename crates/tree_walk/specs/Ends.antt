@@ -2,8 +2,8 @@
 use Rattle.std.specs.Prelude.{◌≡◌, ℕ, ◌<◌, List, [], ◌∷◌, ◌++◌, length, Option, None, MatchOption}
 use Rattle.slab.specs.Slab.{Slab}
 use Rattle.tree_leaf.specs.declared.leaf.LeafOf.{LeafOf}
-use Rattle.tree_chain.specs.declared.stand.Way.{Way}
-use Rattle.tree_chain.specs.declared.stand.Way.TheVariants.{On, Back}
+use Rattle.tree_model.specs.declared.way.Way.{Way}
+use Rattle.tree_model.specs.declared.way.Way.TheVariants.{On, Back}
 use Rattle.tree_leaf.specs.Chain.{IsChain}
 use Rattle.tree_leaf.specs.Entries.{leaf_entries, entries_of}
 use Rattle.tree_chain.specs.Walks.{LeafWalk, here, standing, first_of, last_of}

@@ -1,7 +1,7 @@
 //! The children of a node in turn, in the order of their keys or against it.
 ghost use Rattle.std.specs.Prelude.{◌≡◌};
 ghost use Rattle.std.specs.Iterator.{YieldsFirst, item_count};
-ghost use Rattle.tree_chain.specs.Ways.{along};
+ghost use Rattle.tree_model.specs.Ways.{along};
 ghost use Rattle.tree_walk.specs.Children.{all_children};
 
 use std::marker::Model;

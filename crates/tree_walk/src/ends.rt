@@ -2,9 +2,9 @@
 ghost use Rattle.std.specs.Prelude.{◌≡◌, ◌<◌, [], ◌∷◌, MatchOption};
 ghost use Rattle.std.specs.List.{AllByRecursion};
 ghost use Rattle.slab.specs.Slab.{ContainsKey};
-ghost use Rattle.tree_chain.specs.declared.stand.Way.{Way};
-ghost use Rattle.tree_chain.specs.declared.stand.Way.TheVariants.{On, Back};
-ghost use Rattle.tree_chain.specs.Ways.{along};
+ghost use Rattle.tree_model.specs.declared.way.Way.{Way};
+ghost use Rattle.tree_model.specs.declared.way.Way.TheVariants.{On, Back};
+ghost use Rattle.tree_model.specs.Ways.{along};
 ghost use Rattle.tree_walk.specs.Ends.{BeginsPart, FindsFirst, IsLinked};
 ghost use Rattle.tree_node.specs.Tree.{StandsOrRetired, leaves_at, leaves_of, walk};
 

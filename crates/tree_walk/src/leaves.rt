@@ -16,7 +16,8 @@ pub fn array_of<'a, K: Ord + Drop, V: Drop, const LEN: usize>(
 ) -> &'a ArrayOf<K, V, LEN>
     requires { ContainsKey arenas.now.leaves leaf }
     ensures entries { leaf_entries arenas.now.leaves leaf ≡ result.now.entries }
-    ensures spare { leaf_spare arenas.now.leaves leaf ≡ spare_for LEN (length result.now.entries) (if result.now.retired then 0 else free LEN result.now) }
+    ensures spare { leaf_spare arenas.now.leaves leaf ≡ spare_for LEN
+        (length result.now.entries) (if result.now.retired then 0 else free LEN result.now) }
 {
     arenas.leaf(leaf).array()
 }

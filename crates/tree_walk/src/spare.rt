@@ -11,7 +11,7 @@ use crate::children::ChildrenOn;
 use crate::leaves::array_of;
 use tree_array::array::ArrayOf;
 use tree_leaf::arena::{LeafId, NodeId};
-use tree_node::node::{ArenasOf, NodeOf, slots_left};
+use tree_node::node::{ArenasOf, NodeOf};
 
 /// Returns how many pairs can be written under a number without allocating, whatever their keys: the least number that
 /// any leaf takes. A leaf takes as many pairs as it has slots never used. If it is sure to be built anew in place
@@ -32,7 +32,7 @@ pub fn spare_at<K: Ord + Drop, V: Drop, const LEN: usize>(
     if node.is_childless() {
         return 0;
     }
-    prove!(slots_left(node) as usize <= LEN);
+    prove!(node.slots_left() as usize <= LEN);
     least_spare(arenas, level, id, LEN as u8)
 }
 

@@ -74,7 +74,8 @@ pub fn run_workers<R: Threads + Wait + Sync, G: Gate + Sync>(
     gate: &G,
 ) -> Result<Closed<u64, u64>, StormError>
     requires { (1 ≤ workers) × (workers ≤ 64) }
-    ensures replays { IfOk result (λ closed. IsHistoryOf nat_cmp (λ n. n) (λ n. n) closed.history.items closed.index.pairs) }
+    ensures replays { IfOk result
+        (λ closed. IsHistoryOf nat_cmp (λ n. n) (λ n. n) closed.history.items closed.index.pairs) }
     ensures tally { IfOk result (λ closed. closed.tally ≡ tally closed.history.items) }
 {
     let blanks = Blanks::new(workers);
@@ -103,7 +104,8 @@ fn run_with<
     requires removed { IsBlankFor workers blanks.removed M.name M.parts }
     requires found { IsBlankFor workers blanks.found F.name F.parts }
     requires done { IsBlankFor workers blanks.done D.name D.parts }
-    ensures replays { IfOk result (λ closed. IsHistoryOf nat_cmp (λ n. n) (λ n. n) closed.history.items closed.index.pairs) }
+    ensures replays { IfOk result
+        (λ closed. IsHistoryOf nat_cmp (λ n. n) (λ n. n) closed.history.items closed.index.pairs) }
     ensures tally { IfOk result (λ closed. closed.tally ≡ tally closed.history.items) }
 {
     let (shared, passes) = SharedTreeIndex::<u64, u64, C, S, M, F, D>::new(alloc, workers, blanks)?;
@@ -129,7 +131,8 @@ fn run_over<
 ) -> Result<Closed<u64, u64>, StormError>
     requires all { C.parts ≤ vec_len passes + 1 }
     requires unused { All (λ pass. pass ≡ none) passes.items }
-    ensures replays { IfOk result (λ closed. IsHistoryOf nat_cmp (λ n. n) (λ n. n) closed.history.items closed.index.pairs) }
+    ensures replays { IfOk result
+        (λ closed. IsHistoryOf nat_cmp (λ n. n) (λ n. n) closed.history.items closed.index.pairs) }
     ensures tally { IfOk result (λ closed. closed.tally ≡ tally closed.history.items) }
 {
     match run_all(rt, alloc, &shared, passes, n, gate)? {

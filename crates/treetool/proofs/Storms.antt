@@ -1,7 +1,6 @@
 -- The ends of a storm.
-use Rattle.std.specs.Prelude.{◌≡◌, ◌⊎◌, ℕ, ◌-◌, ◌^◌, min, List, length, Option}
-use Rattle.std.proofs.Common.{inl, inr, refl}
-use Rattle.std.specs.Io.KnownBytes.{Appends}
+use Rattle.std.proofs.Common.{◌≡◌, ◌⊎◌, ℕ, ◌-◌, ◌^◌, min, List, length, Option, inl, inr, refl}
+use Rattle.tree_model.proofs.Common.{Appends}
 use Rattle.tree_lines.proofs.Pieces.{FailsIn}
 use Rattle.treetool.specs.Storm.{EndsStorm, RunsStorm}
 

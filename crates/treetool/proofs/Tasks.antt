@@ -1,6 +1,6 @@
 -- What arguments ask for, and that it is one task at most.
 use Rattle.std.proofs.Common.{◌≡◌, ℕ, ◌<◌, ◌≤◌, ◌==◌, false, List, [], ◌∷◌, get_or, length, map, Option, Some, None, refl, sym, ap, ◌∙◌, arith}
-use mathlib.Core.Bool.{false≢true}
+use Rattle.tree_model.proofs.Common.{false≢true}
 use Rattle.std.proofs.lemmas.Fmt.{decimal_injective}
 use Rattle.treetool.specs.declared.task.Task.{Task}
 use Rattle.treetool.specs.declared.task.Task.TheVariants.{Lines, SmallLines, Storm}

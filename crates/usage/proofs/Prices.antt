@@ -1,16 +1,8 @@
 -- What is left of a cursor over prices.
-use Rattle.std.proofs.Common.{◌≡◌, ℕ, Bool, true, false, if◌then◌else◌, List, [], ◌∷◌, ◌++◌, reverse, Some, None, Bor, refl, sym, ap, ◌∙◌, append-nil, arith}
-use Rattle.std.specs.Prelude.{filter, max}
-use Rattle.std.specs.Ordering.{nat_cmp}
-use Rattle.std.specs.declared.ops.Bound.TheVariants.{Unbounded}
-use Rattle.std.proofs.lemmas.Cmp.{nat_cmp_total}
-use Rattle.std.proofs.lemmas.Grind.{reverse_onto}
-use Rattle.std.proofs.lemmas.List.Elements.{filter-append}
-use Rattle.tree_chain.specs.declared.stand.Way.TheVariants.{On, Back}
-use Rattle.tree_chain.specs.Walks.{lent_entry}
-use Rattle.tree_model.specs.Pairs.{within}
-use Rattle.tree_cursor_model.specs.Cursor.{Cursor, fresh}
-use Rattle.tree_cursor_model.specs.Rest.{HasBegun, Moves, between, rest}
+use Rattle.std.proofs.Common.{◌≡◌, ℕ, Bool, true, false, if◌then◌else◌, List, [], ◌∷◌, ◌++◌, reverse, Some, None, Bor, refl, sym, ap, ◌∙◌, append-nil, arith, filter, max, nat_cmp}
+use Rattle.tree_model.proofs.Common.{Unbounded, nat_cmp_total, reverse_onto, filter-append, lent_entry, HasBegun, Moves, rest, within, Cursor, fresh}
+use Rattle.tree_model.specs.declared.way.Way.TheVariants.{On, Back}
+use Rattle.tree_model.specs.Rest.{between}
 use Rattle.tree_ranges.specs.Ranged.{IsFresh, pairs_within}
 use Rattle.tree_ranges.proofs.Yields.{fresh_begun, rest_fresh, takes_first}
 use Rattle.usage.specs.Walks.{AreEnds, highest}

@@ -1,14 +1,13 @@
 -- A history leaves at most as many pairs as it stored.
-use Rattle.std.proofs.Common.{◌≡◌, ◌+◌, ◌≤◌, cond, List, [], ◌∷◌, length, ap, arith}
-use Rattle.std.specs.Prelude.{not}
-use Rattle.std.specs.declared.cmp.Ordering.{Ordering}
-use Rattle.std.proofs.lemmas.List.Sums.{count_by-le-length, length-filter, sum_by-cons}
+use Rattle.std.proofs.Common.{◌≡◌, ◌+◌, ◌≤◌, cond, List, [], ◌∷◌, length, ap, arith, not, Ordering}
+use Rattle.tree_model.proofs.Common.{within}
 use Rattle.tree_model.specs.declared.commands.Command.{Command}
 use Rattle.tree_model.specs.declared.commands.Command.TheVariants.{Insert, Upsert, Remove, RemoveRange, Clear, Peek}
 use Rattle.tree_model.specs.declared.commands.Reply.{Reply}
-use Rattle.tree_model.specs.declared.commands.Reply.TheVariants.{Stored, Duplicate, Removed, Done, Found, Refused}
+use Rattle.tree_model.specs.declared.commands.Reply.TheVariants.{Stored, Duplicate, Removed, Done, Found}
+use Rattle.std.proofs.lemmas.List.Sums.{count_by-le-length, length-filter, sum_by-cons}
+use Rattle.tree_model.specs.declared.commands.Reply.TheVariants.{Refused}
 use Rattle.tree_model.specs.declared.commands.Record.{Record}
-use Rattle.tree_model.specs.Pairs.{within}
 use Rattle.tree_model.specs.Runs.{Step}
 use Rattle.tree_model.specs.History.{IsHistoryOf, IsSamePairs, Replays}
 use Rattle.tree_model.proofs.Lengths.{length-put, without_few}

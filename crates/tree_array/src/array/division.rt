@@ -1,15 +1,15 @@
 //! How the pairs of an array are divided between two new ones.
-ghost use Rattle.std.specs.Prelude.{◌≡◌, ℕ, ◌+◌, ◌≤◌, [], List, Option, None, length, take, drop, slice_get};
-ghost use Rattle.tree_array.specs.Arrivals.{arrival, boundary, drained, in_order};
+ghost use Rattle.std.specs.Prelude.{◌≡◌, ℕ, ◌+◌, ◌-◌, ◌≤◌, [], List, Option, None, length, take, drop, slice_get};
+ghost use Rattle.tree_array.specs.Arrivals.{arrival, boundary, drained, in_order, reachable, sorted};
 ghost use Rattle.tree_array.specs.Moves.{HasEmptied};
 ghost use Rattle.tree_array.specs.Sound.{IsSound};
-ghost use Rattle.tree_cells.specs.Moves.{HasInTurn};
 ghost use Rattle.tree_cells.specs.Tabled.{IsTabled};
+ghost use Rattle.tree_order.specs.Order.{picked};
 
 use super::ArrayOf;
 use std::mem;
-use tree_cells::cells::Cells;
-use tree_order::order::{clamp, count_rises, in_turn};
+use tree_cells::cells::{Cells, Counts};
+use tree_order::order::{RETIRED, clamp, count_rises, in_turn};
 
 impl<K: Ord + Drop, V: Drop, const LEN: usize> ArrayOf<K, V, LEN> {
     /// Returns where to split: how many entries go low, how many there are, and whether all of `LEN` arrived in
@@ -19,11 +19,14 @@ impl<K: Ord + Drop, V: Drop, const LEN: usize> ArrayOf<K, V, LEN> {
         ensures boundary { result ≡ boundary K.cmp LEN self.now }
         ensures sound { IsSound K.cmp LEN self.now }
     {
-        let count = self.count;
+        let Counts {
+            entries: count,
+            arrivals,
+        } = self.cells.counts();
         if count as usize <= LEN * 3 / 4 {
             return (LEN as u8, count as usize, false);
         }
-        let rises = count_rises(self.order, count, self.made);
+        let rises = count_rises(self.order, count, arrivals);
         if 2 * rises + 1 < count {
             (rises + 1, count as usize, false)
         } else {
@@ -38,19 +41,9 @@ impl<K: Ord + Drop, V: Drop, const LEN: usize> ArrayOf<K, V, LEN> {
         ensures low { low.new ≡ in_order (take boundary self.old.entries) }
         ensures high { self.new ≡ in_order (drop boundary self.old.entries) }
     {
-        let count = self.count;
-        let cut = clamp(boundary, count);
-        move_places(&mut self.cells, self.order, 0, cut, &mut low.cells);
-        low.order = in_turn::<LEN>(cut);
-        low.made = cut;
-        low.count = cut;
-        let mut high = Cells::new();
-        move_places(&mut self.cells, self.order, cut, count, &mut high);
-        mem::replace(&mut self.cells, high).discard();
-        self.order = in_turn::<LEN>(count - cut);
-        self.made = count - cut;
-        self.count = count - cut;
-        self.retired = false;
+        let mut high = self.sibling();
+        self.distribute(boundary, low, &mut high);
+        let _ = mem::replace(self, high);
     }
 
     /// Moves the first `boundary` entries into `low` and the others into `high`, arriving in ascending order.
@@ -62,11 +55,12 @@ impl<K: Ord + Drop, V: Drop, const LEN: usize> ArrayOf<K, V, LEN> {
         ensures high { high.new ≡ in_order (drop boundary self.old.entries) }
         ensures left { self.new ≡ drained self.old }
     {
-        let made = self.made;
-        self.divide(boundary, low);
-        mem::swap(self, high);
-        self.made = made;
-        self.retired = true;
+        let count = self.cells.counts().entries;
+        let cut = clamp(boundary, count);
+        move_places(&mut self.cells, self.order, 0, cut, low);
+        move_places(&mut self.cells, self.order, cut, count, high);
+        self.order = RETIRED;
+        self.cells.set_entries(0);
     }
 
     /// Does what [`distribute`](ArrayOf::distribute) does, but returns the entry at place `boundary`, if there is
@@ -94,9 +88,17 @@ impl<K: Ord + Drop, V: Drop, const LEN: usize> ArrayOf<K, V, LEN> {
     pub fn rebuild(&mut self)
         ensures { self.new ≡ in_order self.old.entries }
     {
-        let _ = &self.cells;
-        let mut none = ArrayOf::new();
+        let mut none = self.sibling();
         self.divide(0, &mut none);
+    }
+
+    /// Creates a new array of as many slots.
+    fn sibling(&self) -> Self
+        ensures { result ≡ in_order [] }
+    {
+        // What every array keeps, such as that its slots are 7 or 15, is known where a field is read.
+        let _ = &self.cells;
+        ArrayOf::new()
     }
 
     /// Takes the entry at this place, if there is one.
@@ -106,7 +108,7 @@ impl<K: Ord + Drop, V: Drop, const LEN: usize> ArrayOf<K, V, LEN> {
         ensures high { drop place self.new.entries ≡ drop (place + 1) self.old.entries }
         ensures arrivals { length self.new.arrivals ≡ length self.old.arrivals }
     {
-        if place >= self.count {
+        if place >= self.cells.counts().entries {
             return None;
         }
         let (key, val, _) = self.take_at(place);
@@ -114,21 +116,25 @@ impl<K: Ord + Drop, V: Drop, const LEN: usize> ArrayOf<K, V, LEN> {
     }
 }
 
-/// Moves the pairs of the places from `from` up to `end` into the first of other cells, in order. Makes no comparisons.
+/// Moves the pairs of the places from `from` up to `end` into another array, which must be new, where they arrive in
+/// ascending order. Makes no comparisons.
 fn move_places<K: Ord, V, const LEN: usize>(
     cells: &mut Cells<K, V, LEN>,
     order: u64,
     from: u8,
     end: u8,
-    to: &mut Cells<K, V, LEN>,
+    to: &mut ArrayOf<K, V, LEN>,
 )
     requires ends { from ≤ end }
-    requires tabled { (old : List (Option (K × V))) × (made count : ℕ) × IsTabled K.cmp LEN old order made count × (end ≤ count) × HasEmptied old cells.old order count from }
-    requires none { (p : ℕ) → arrival to.old p ≡ None }
-    requires whole { length to.old ≡ LEN }
-    ensures moved { (old : List (Option (K × V))) (made count : ℕ) → IsTabled K.cmp LEN old order made count → end ≤ count → HasEmptied old cells.old order count from → HasEmptied old cells.new order count end × HasInTurn old to.new order from end }
-    ensures left { length cells.new ≡ length cells.old }
-    ensures whole { length to.new ≡ LEN }
+    requires tabled { (old : List (Option (K × V))) × (made count : ℕ)
+        × IsTabled K.cmp LEN old order made count × (end ≤ count) × HasEmptied old cells.old.pairs order count from }
+    requires new { to.old ≡ in_order [] }
+    ensures moved { (old : List (Option (K × V))) (made count : ℕ)
+        → IsTabled K.cmp LEN old order made count → end ≤ count → HasEmptied old cells.old.pairs order count from
+        → HasEmptied old cells.new.pairs order count end × (to.new ≡ in_order (take (end - from) (drop from (sorted K.cmp (reachable (picked (arrival old) made)))))) }
+    ensures whole { length cells.new.pairs ≡ length cells.old.pairs }
+    ensures counts { cells.new.counts ≡ cells.old.counts }
 {
-    cells.take_places(order, from, end, to);
+    cells.take_places(order, from, end, &mut to.cells);
+    to.order = in_turn::<LEN>(end - from);
 }

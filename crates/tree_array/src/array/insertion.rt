@@ -4,6 +4,7 @@ ghost use Rattle.tree_array.specs.Arrivals.{stored};
 ghost use Rattle.tree_array.specs.Insertion.{IsInsert, IsStore, PartsEntries};
 
 use super::{ArrayOf, InsertResult, StoreResult};
+use tree_cells::cells::Counts;
 use tree_cells::search::{Place, find_key_beyond};
 use tree_order::order::{clamp, inserted, renamed};
 
@@ -38,19 +39,22 @@ impl<K: Ord + Drop, V: Drop, const LEN: usize> ArrayOf<K, V, LEN> {
     ) -> StoreResult<K, V>
         ensures { IsStore K.cmp LEN UPSERT self.old key val result self.new }
     {
-        match find_key_beyond(&self.cells, self.order, self.count, &key, rightmost) {
+        let Counts { entries, arrivals } = self.cells.counts();
+        match find_key_beyond(&self.cells, self.order, entries, &key, rightmost) {
             Place::At(place, slot) => {
                 if !UPSERT {
                     StoreResult::Duplicate(key, val)
                 } else if self.is_full() {
                     StoreResult::Full(key, val)
                 } else {
-                    let made = self.made;
-                    let order = renamed::<LEN>(self.order, place, self.count, made);
+                    let order = renamed::<LEN>(self.order, place, entries, arrivals);
                     let _ = self.cells.take(slot);
-                    self.cells.put(made, key, val);
+                    let counts = Counts {
+                        entries,
+                        arrivals: arrivals + 1,
+                    };
+                    self.cells.put(arrivals, key, val, counts);
                     self.order = order;
-                    self.made = made + 1;
                     StoreResult::Replaced
                 }
             }
@@ -58,8 +62,7 @@ impl<K: Ord + Drop, V: Drop, const LEN: usize> ArrayOf<K, V, LEN> {
                 if self.is_full() {
                     StoreResult::Full(key, val)
                 } else {
-                    let place = clamp(place, self.count);
-                    self.let_in(place, key, val);
+                    self.let_in(clamp(place, entries), key, val);
                     StoreResult::New
                 }
             }
@@ -74,11 +77,13 @@ impl<K: Ord + Drop, V: Drop, const LEN: usize> ArrayOf<K, V, LEN> {
         requires parts { PartsEntries K.cmp self.old.entries key place }
         ensures { self.new ≡ stored K.cmp self.old key val }
     {
-        let made = self.made;
-        let order = inserted::<LEN>(self.order, place, self.count, made);
-        self.cells.put(made, key, val);
+        let Counts { entries, arrivals } = self.cells.counts();
+        let order = inserted::<LEN>(self.order, place, entries, arrivals);
+        let counts = Counts {
+            entries: entries + 1,
+            arrivals: arrivals + 1,
+        };
+        self.cells.put(arrivals, key, val, counts);
         self.order = order;
-        self.made = made + 1;
-        self.count += 1;
     }
 }

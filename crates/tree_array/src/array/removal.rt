@@ -9,6 +9,7 @@ ghost use Rattle.tree_model.specs.Pairs.{IsAbsent, pair_at};
 
 use super::{ArrayOf, RemoveResult};
 use std::ops::Bound;
+use tree_cells::cells::Counts;
 use tree_cells::search::{Place, find_key};
 use tree_model::range_contains;
 use tree_order::order::{ordinals, place_of, removed as removed_from, slot_at};
@@ -22,7 +23,7 @@ impl<K: Ord + Drop, V: Drop, const LEN: usize> ArrayOf<K, V, LEN> {
         ensures left { self.new ≡ removed K.cmp self.old result.0 }
         ensures answer { result.2 ≡ removal_of self.new }
     {
-        let place = place_of(self.order, self.count, slot);
+        let place = place_of(self.order, self.cells.counts().entries, slot);
         self.take_at(place)
     }
 
@@ -33,17 +34,16 @@ impl<K: Ord + Drop, V: Drop, const LEN: usize> ArrayOf<K, V, LEN> {
         ensures left { self.new ≡ removed K.cmp self.old result.0 }
         ensures answer { result.2 ≡ removal_of self.new }
     {
+        let entries = self.cells.counts().entries;
         let slot = slot_at(self.order, place);
-        let order = removed_from::<LEN>(self.order, place, self.count);
+        let order = removed_from::<LEN>(self.order, place, entries);
         let (key, val) = self.cells.take(slot);
         self.order = order;
-        self.count -= 1;
-        if self.count == 0 {
-            self.retired = true;
-            (key, val, RemoveResult::Retired)
-        } else {
-            (key, val, RemoveResult::Success)
+        self.cells.set_entries(entries - 1);
+        if entries == 1 {
+            return (key, val, RemoveResult::Retired);
         }
+        (key, val, RemoveResult::Success)
     }
 
     /// Removes the pair with a key if the condition says so of its value. Calls the condition once if the key
@@ -54,12 +54,13 @@ impl<K: Ord + Drop, V: Drop, const LEN: usize> ArrayOf<K, V, LEN> {
     /// callable on the value that is stored with the key.
     pub fn remove_if<F: FnOnce(&V) -> bool + Drop>(&mut self, key: &K, condition: F) -> RemoveResult
         requires { ForSome (pair_at K.cmp self.old.entries key.now) (λ pair. FnOnceTakesAt F.FnOnce condition pair.1) }
-        ensures absent { IsAbsent K.cmp self.old.entries key.now → (self.new ≡ self.old) × (result ≡ RemoveResult.Fail) }
+        ensures absent { IsAbsent K.cmp self.old.entries key.now
+            → (self.new ≡ self.old) × (result ≡ RemoveResult.Fail) }
         ensures present { IfSome (pair_at K.cmp self.old.entries key.now)
             (λ pair. (said : Bool) × FnOnceReturnsAt F.FnOnce condition pair.1 said
             × IsRemoval K.cmp self.old key.now said result self.new) }
     {
-        match find_key(&self.cells, self.order, self.count, key) {
+        match find_key(&self.cells, self.order, self.cells.counts().entries, key) {
             Place::At(place, slot) => {
                 let (_, val) = self.cells.pair(slot);
                 if condition(val) {
@@ -79,8 +80,9 @@ impl<K: Ord + Drop, V: Drop, const LEN: usize> ArrayOf<K, V, LEN> {
         ensures { self.new ≡ without_range K.cmp self.old
             (bound_map (λ key. key.now) bounds.entry.0) (bound_map (λ key. key.now) bounds.entry.1) }
     {
-        let ordinals = ordinals(self.order, self.count);
-        for slot in 0..self.made {
+        let Counts { entries, arrivals } = self.cells.counts();
+        let ordinals = ordinals(self.order, entries);
+        for slot in 0..arrivals {
             if ordinals[slot as usize] > 0 && range_contains(bounds, self.key(slot)) {
                 let _ = self.take(slot);
             }

@@ -19,7 +19,7 @@ impl<K: Ord + Drop, V: Drop, const LEN: usize> ArrayOf<K, V, LEN> {
         ensures counted { J.count judge.new ≤ J.count judge.old + LEN }
         ensures halved { J.count judge.new ≤ J.count judge.old + searched LEN }
     {
-        match find(&self.cells, self.order, self.count, judge) {
+        match find(&self.cells, self.order, self.cells.counts().entries, judge) {
             Place::At(_, slot) => Some(self.cells.pair(slot)),
             Place::Before(_, _) => None,
         }
@@ -68,7 +68,7 @@ impl<K: Ord + Drop, V: Drop, const LEN: usize> ArrayOf<K, V, LEN> {
         ensures { MatchOption result (slice_get self.now.entries place ≡ None)
             (λ slot. (pair : _) × (arrival self.now.arrivals slot ≡ Some pair) × (slice_get self.now.entries place ≡ Some pair)) }
     {
-        if place < self.count {
+        if place < self.cells.counts().entries {
             Some(slot_at(self.order, place))
         } else {
             None
@@ -80,10 +80,11 @@ impl<K: Ord + Drop, V: Drop, const LEN: usize> ArrayOf<K, V, LEN> {
         ensures { MatchOption result (self.now.entries ≡ [])
             (λ slot. (pair : _) × (arrival self.now.arrivals slot ≡ Some pair) × (front : _) × (self.now.entries ≡ front ++ pair ∷ [])) }
     {
-        if self.count == 0 {
+        let count = self.cells.counts().entries;
+        if count == 0 {
             return None;
         }
-        Some(last_slot::<LEN>(self.order, self.count))
+        Some(last_slot::<LEN>(self.order, count))
     }
 
     /// Returns the slot of the least key that isn't less than that of the asked.
@@ -96,7 +97,8 @@ impl<K: Ord + Drop, V: Drop, const LEN: usize> ArrayOf<K, V, LEN> {
         ensures counted { A.count asked.new ≤ A.count asked.old + LEN }
         ensures halved { A.count asked.new ≤ A.count asked.old + searched LEN }
     {
-        let slot = find(&self.cells, self.order, self.count, asked).slot();
+        let count = self.cells.counts().entries;
+        let slot = find(&self.cells, self.order, count, asked).slot();
         if slot < BEYOND { Some(slot) } else { None }
     }
 }

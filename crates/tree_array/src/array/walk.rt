@@ -54,7 +54,7 @@ impl ArrayIter {
     {
         ArrayIter {
             order: array.order,
-            count: array.count,
+            count: array.cells.counts().entries,
             ahead: 0,
         }
     }

@@ -25,7 +25,10 @@ pub extern "C" fn tree_index_bytes_peek(
     key: &[u8],
     value: &mut u64,
 ) -> u8
-    ensures { OnBytes (λ old answer new. Writes (option_map (λ pair. pair.1) (pair_at (slice_cmp nat_cmp) old.pairs key.now)) answer value.old value.new × (new ≡ old)) (held handle.old) result (held handle.new) }
+    ensures { OnBytes
+        (λ old answer new. Writes
+        (option_map (λ pair. pair.1) (pair_at (slice_cmp nat_cmp) old.pairs key.now)) answer value.old value.new
+        × (new ≡ old)) (held handle.old) result (held handle.new) }
 {
     let Some(store) = handle.take(alloc) else {
         return MISFIT;
@@ -38,7 +41,10 @@ pub extern "C" fn tree_index_bytes_peek(
 /// Answers whether a key is present. Copies nothing.
 #[unsafe(no_mangle)]
 pub extern "C" fn tree_index_bytes_contains(alloc: Global, handle: &mut Handle, key: &[u8]) -> u8
-    ensures { OnBytes (λ old answer new. Says (IsPresent (slice_cmp nat_cmp) old.pairs key.now) (IsAbsent (slice_cmp nat_cmp) old.pairs key.now) answer × (new ≡ old)) (held handle.old) result (held handle.new) }
+    ensures { OnBytes
+        (λ old answer new. Says (IsPresent (slice_cmp nat_cmp) old.pairs key.now)
+        (IsAbsent (slice_cmp nat_cmp) old.pairs key.now) answer × (new ≡ old))
+        (held handle.old) result (held handle.new) }
 {
     let Some(store) = handle.take(alloc) else {
         return MISFIT;
@@ -56,7 +62,9 @@ pub extern "C" fn tree_index_bytes_first(
     key: &mut [u8],
     entry: &mut Entry,
 ) -> u8
-    ensures { OnBytes (λ old answer new. WritesEntry (first_of old.pairs) answer key.old key.new entry.old entry.new × (new ≡ old)) (held handle.old) result (held handle.new) }
+    ensures { OnBytes
+        (λ old answer new. WritesEntry (first_of old.pairs) answer key.old key.new entry.old entry.new × (new ≡ old))
+        (held handle.old) result (held handle.new) }
 {
     let Some(store) = handle.take(alloc) else {
         return MISFIT;
@@ -74,7 +82,9 @@ pub extern "C" fn tree_index_bytes_last(
     key: &mut [u8],
     entry: &mut Entry,
 ) -> u8
-    ensures { OnBytes (λ old answer new. WritesEntry (last_of old.pairs) answer key.old key.new entry.old entry.new × (new ≡ old)) (held handle.old) result (held handle.new) }
+    ensures { OnBytes
+        (λ old answer new. WritesEntry (last_of old.pairs) answer key.old key.new entry.old entry.new × (new ≡ old))
+        (held handle.old) result (held handle.new) }
 {
     let Some(store) = handle.take(alloc) else {
         return MISFIT;
@@ -93,7 +103,10 @@ pub extern "C" fn tree_index_bytes_at_or_below(
     key: &mut [u8],
     entry: &mut Entry,
 ) -> u8
-    ensures { OnBytes (λ old answer new. FindsEntry (at_or_below (slice_cmp nat_cmp) old.pairs sought.now) answer key.old key.new entry.old entry.new × (new ≡ old)) (held handle.old) result (held handle.new) }
+    ensures { OnBytes
+        (λ old answer new. FindsEntry
+        (at_or_below (slice_cmp nat_cmp) old.pairs sought.now) answer key.old key.new entry.old entry.new × (new ≡ old))
+        (held handle.old) result (held handle.new) }
 {
     let Some(store) = handle.take(alloc) else {
         return MISFIT;
@@ -112,7 +125,10 @@ pub extern "C" fn tree_index_bytes_at_or_above(
     key: &mut [u8],
     entry: &mut Entry,
 ) -> u8
-    ensures { OnBytes (λ old answer new. FindsEntry (at_or_above (slice_cmp nat_cmp) old.pairs sought.now) answer key.old key.new entry.old entry.new × (new ≡ old)) (held handle.old) result (held handle.new) }
+    ensures { OnBytes
+        (λ old answer new. FindsEntry
+        (at_or_above (slice_cmp nat_cmp) old.pairs sought.now) answer key.old key.new entry.old entry.new × (new ≡ old))
+        (held handle.old) result (held handle.new) }
 {
     let Some(store) = handle.take(alloc) else {
         return MISFIT;
@@ -123,7 +139,10 @@ pub extern "C" fn tree_index_bytes_at_or_above(
 }
 
 fn peek(store: &Store, key: &[u8], value: &mut u64) -> u8
-    ensures { OnBytes (λ old answer new. Writes (option_map (λ pair. pair.1) (pair_at (slice_cmp nat_cmp) old.pairs key.now)) answer value.old value.new × (new ≡ old)) (Some store.now) result (Some store.now) }
+    ensures { OnBytes
+        (λ old answer new. Writes
+        (option_map (λ pair. pair.1) (pair_at (slice_cmp nat_cmp) old.pairs key.now)) answer value.old value.new
+        × (new ≡ old)) (Some store.now) result (Some store.now) }
 {
     let Store::Bytes(index) = store else {
         return MISFIT;
@@ -136,7 +155,10 @@ fn peek(store: &Store, key: &[u8], value: &mut u64) -> u8
 }
 
 fn contains(store: &Store, key: &[u8]) -> u8
-    ensures { OnBytes (λ old answer new. Says (IsPresent (slice_cmp nat_cmp) old.pairs key.now) (IsAbsent (slice_cmp nat_cmp) old.pairs key.now) answer × (new ≡ old)) (Some store.now) result (Some store.now) }
+    ensures { OnBytes
+        (λ old answer new. Says (IsPresent (slice_cmp nat_cmp) old.pairs key.now)
+        (IsAbsent (slice_cmp nat_cmp) old.pairs key.now) answer × (new ≡ old))
+        (Some store.now) result (Some store.now) }
 {
     let Store::Bytes(index) = store else {
         return MISFIT;
@@ -145,7 +167,9 @@ fn contains(store: &Store, key: &[u8]) -> u8
 }
 
 fn first(store: &Store, key: &mut [u8], entry: &mut Entry) -> u8
-    ensures { OnBytes (λ old answer new. WritesEntry (first_of old.pairs) answer key.old key.new entry.old entry.new × (new ≡ old)) (Some store.now) result (Some store.now) }
+    ensures { OnBytes
+        (λ old answer new. WritesEntry (first_of old.pairs) answer key.old key.new entry.old entry.new × (new ≡ old))
+        (Some store.now) result (Some store.now) }
 {
     let Store::Bytes(index) = store else {
         return MISFIT;
@@ -154,7 +178,9 @@ fn first(store: &Store, key: &mut [u8], entry: &mut Entry) -> u8
 }
 
 fn last(store: &Store, key: &mut [u8], entry: &mut Entry) -> u8
-    ensures { OnBytes (λ old answer new. WritesEntry (last_of old.pairs) answer key.old key.new entry.old entry.new × (new ≡ old)) (Some store.now) result (Some store.now) }
+    ensures { OnBytes
+        (λ old answer new. WritesEntry (last_of old.pairs) answer key.old key.new entry.old entry.new × (new ≡ old))
+        (Some store.now) result (Some store.now) }
 {
     let Store::Bytes(index) = store else {
         return MISFIT;
@@ -163,7 +189,10 @@ fn last(store: &Store, key: &mut [u8], entry: &mut Entry) -> u8
 }
 
 fn below(store: &Store, alloc: Global, sought: &[u8], key: &mut [u8], entry: &mut Entry) -> u8
-    ensures { OnBytes (λ old answer new. FindsEntry (at_or_below (slice_cmp nat_cmp) old.pairs sought.now) answer key.old key.new entry.old entry.new × (new ≡ old)) (Some store.now) result (Some store.now) }
+    ensures { OnBytes
+        (λ old answer new. FindsEntry
+        (at_or_below (slice_cmp nat_cmp) old.pairs sought.now) answer key.old key.new entry.old entry.new × (new ≡ old))
+        (Some store.now) result (Some store.now) }
 {
     let Store::Bytes(index) = store else {
         return MISFIT;
@@ -175,7 +204,10 @@ fn below(store: &Store, alloc: Global, sought: &[u8], key: &mut [u8], entry: &mu
 }
 
 fn above(store: &Store, alloc: Global, sought: &[u8], key: &mut [u8], entry: &mut Entry) -> u8
-    ensures { OnBytes (λ old answer new. FindsEntry (at_or_above (slice_cmp nat_cmp) old.pairs sought.now) answer key.old key.new entry.old entry.new × (new ≡ old)) (Some store.now) result (Some store.now) }
+    ensures { OnBytes
+        (λ old answer new. FindsEntry
+        (at_or_above (slice_cmp nat_cmp) old.pairs sought.now) answer key.old key.new entry.old entry.new × (new ≡ old))
+        (Some store.now) result (Some store.now) }
 {
     let Store::Bytes(index) = store else {
         return MISFIT;

@@ -2,8 +2,8 @@
 ghost use Rattle.std.specs.Prelude.{◌≡◌, ◌⊎◌, IfOk, Some, reverse};
 ghost use Rattle.std.specs.Cmp.Lexicographic.{slice_cmp};
 ghost use Rattle.std.specs.Ordering.{nat_cmp};
-ghost use Rattle.tree_chain.specs.Ways.{along};
-ghost use Rattle.tree_cursor_model.specs.Rest.{Moves};
+ghost use Rattle.tree_model.specs.Ways.{along};
+ghost use Rattle.tree_model.specs.Rest.{Moves};
 ghost use Rattle.tree_index_c.specs.Entries.{FillsBytes, FillsOrRefuses, IfBounds};
 ghost use Rattle.tree_index_c.specs.Held.{OnBytes, held};
 ghost use Rattle.tree_index_c.specs.Pairs.{bound_at, pairs_between};
@@ -35,7 +35,11 @@ pub extern "C" fn tree_index_bytes_fill(
     entries: &mut [Entry],
     count: &mut usize,
 ) -> u8
-    ensures { OnBytes (λ old answer new. FillsOrRefuses (pairs_between (slice_cmp nat_cmp) (bound_at low_kind low.now) (bound_at high_kind high.now) old.pairs) answer keys.old keys.new entries.old entries.new count.old count.new × (new ≡ old)) (held handle.old) result (held handle.new) }
+    ensures { OnBytes
+        (λ old answer new. FillsOrRefuses
+        (pairs_between (slice_cmp nat_cmp) (bound_at low_kind low.now)
+        (bound_at high_kind high.now) old.pairs) answer keys.old keys.new entries.old entries.new count.old count.new
+        × (new ≡ old)) (held handle.old) result (held handle.new) }
 {
     let Some(store) = handle.take(alloc) else {
         return MISFIT;
@@ -59,7 +63,11 @@ pub extern "C" fn tree_index_bytes_fill_back(
     entries: &mut [Entry],
     count: &mut usize,
 ) -> u8
-    ensures { OnBytes (λ old answer new. FillsOrRefuses (reverse (pairs_between (slice_cmp nat_cmp) (bound_at low_kind low.now) (bound_at high_kind high.now) old.pairs)) answer keys.old keys.new entries.old entries.new count.old count.new × (new ≡ old)) (held handle.old) result (held handle.new) }
+    ensures { OnBytes
+        (λ old answer new. FillsOrRefuses
+        (reverse (pairs_between (slice_cmp nat_cmp) (bound_at low_kind low.now)
+        (bound_at high_kind high.now) old.pairs)) answer keys.old keys.new entries.old entries.new count.old count.new
+        × (new ≡ old)) (held handle.old) result (held handle.new) }
 {
     let Some(store) = handle.take(alloc) else {
         return MISFIT;
@@ -80,7 +88,11 @@ pub extern "C" fn tree_index_bytes_remove_range(
     high_kind: u8,
     high: &[u8],
 ) -> u8
-    ensures { OnBytes (λ old answer new. ((answer ≡ YES) × (new.pairs ≡ cut (slice_cmp nat_cmp) old.pairs (bound_at low_kind low.now) (bound_at high_kind high.now))) ⊎ ((answer ≡ NO_MEMORY) × (new ≡ old))) (held handle.old) result (held handle.new) }
+    ensures { OnBytes
+        (λ old answer new.
+        ((answer ≡ YES)
+        × (new.pairs ≡ cut (slice_cmp nat_cmp) old.pairs (bound_at low_kind low.now) (bound_at high_kind high.now)))
+        ⊎ ((answer ≡ NO_MEMORY) × (new ≡ old))) (held handle.old) result (held handle.new) }
 {
     let Some(mut store) = handle.take(alloc) else {
         return MISFIT;
@@ -108,7 +120,8 @@ fn bounds_of(
     high_kind: u8,
     high: &[u8],
 ) -> Result<(Bound<ByteKey>, Bound<ByteKey>), AllocError>
-    ensures { IfOk result (λ bounds. (bounds.0 ≡ bound_at low_kind low.now) × (bounds.1 ≡ bound_at high_kind high.now)) }
+    ensures { IfOk result
+        (λ bounds. (bounds.0 ≡ bound_at low_kind low.now) × (bounds.1 ≡ bound_at high_kind high.now)) }
 {
     let low = bound_of(alloc, low_kind, low)?;
     let high = bound_of(alloc, high_kind, high)?;
@@ -119,7 +132,10 @@ fn remove_range(
     store: &mut Store,
     bounds: Result<(Bound<ByteKey>, Bound<ByteKey>), AllocError>,
 ) -> u8
-    ensures { OnBytes (λ old answer new. IfBounds bounds answer (λ low high. (answer ≡ YES) × (new.pairs ≡ cut (slice_cmp nat_cmp) old.pairs low high)) (new ≡ old)) (Some store.old) result (Some store.new) }
+    ensures { OnBytes
+        (λ old answer new. IfBounds bounds answer
+        (λ low high. (answer ≡ YES) × (new.pairs ≡ cut (slice_cmp nat_cmp) old.pairs low high)) (new ≡ old))
+        (Some store.old) result (Some store.new) }
 {
     let Store::Bytes(index) = store else {
         return MISFIT;
@@ -139,7 +155,14 @@ fn fill(
     entries: &mut [Entry],
     count: &mut usize,
 ) -> u8
-    ensures { OnBytes (λ old answer new. IfBounds bounds answer (λ low high. FillsOrRefuses (along (way_of backwards) (pairs_between (slice_cmp nat_cmp) low high old.pairs)) answer keys.old keys.new entries.old entries.new count.old count.new) ((keys.new ≡ keys.old) × (entries.new ≡ entries.old) × (count.new ≡ count.old)) × (new ≡ old)) (Some store.now) result (Some store.now) }
+    ensures { OnBytes
+        (λ old answer new. IfBounds bounds answer
+        (λ low high. FillsOrRefuses
+        (along (way_of backwards)
+        (pairs_between
+        (slice_cmp nat_cmp) low high old.pairs)) answer keys.old keys.new entries.old entries.new count.old count.new)
+        ((keys.new ≡ keys.old) × (entries.new ≡ entries.old) × (count.new ≡ count.old)) × (new ≡ old))
+        (Some store.now) result (Some store.now) }
 {
     let Store::Bytes(index) = store else {
         return MISFIT;
@@ -166,7 +189,10 @@ fn fill_from(
     keys: &mut [u8],
     entries: &mut [Entry],
 ) -> Result<usize, usize>
-    ensures { FillsBytes (along (way_of backwards) (pairs_between (slice_cmp nat_cmp) bounds.0 bounds.1 index.now.pairs)) keys.old keys.new entries.old entries.new result }
+    ensures { FillsBytes
+        (along (way_of backwards)
+        (pairs_between
+        (slice_cmp nat_cmp) bounds.0 bounds.1 index.now.pairs)) keys.old keys.new entries.old entries.new result }
 {
     let (low, high) = bounds;
     let mut cursor = index.range((low.as_ref(), high.as_ref()));

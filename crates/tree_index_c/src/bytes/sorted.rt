@@ -59,7 +59,8 @@ fn index_of(alloc: Global, keys: &[u8], entries: &[Entry]) -> Result<TreeIndex<B
 
 /// Stores a pair behind all others. Returns `false` if its key isn't larger than each of theirs.
 fn append(index: &mut TreeIndex<ByteKey, u64>, key: ByteKey, value: u64) -> Result<bool, AllocError>
-    ensures { IfOk result (λ is_done. Appends (slice_cmp nat_cmp) index.old.pairs (key, value) is_done index.new.pairs) }
+    ensures { IfOk result
+        (λ is_done. Appends (slice_cmp nat_cmp) index.old.pairs (key, value) is_done index.new.pairs) }
 {
     if index.at_or_above(&key).is_some() {
         return Ok(false);

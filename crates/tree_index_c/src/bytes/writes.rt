@@ -35,7 +35,8 @@ pub extern "C" fn tree_index_bytes_insert(
     key: &[u8],
     value: u64,
 ) -> u8
-    ensures { OnBytes (λ old. Stores (slice_cmp nat_cmp) ⊤ key.now value old) (held handle.old) result (held handle.new) }
+    ensures { OnBytes (λ old. Stores (slice_cmp nat_cmp) ⊤ key.now value old)
+        (held handle.old) result (held handle.new) }
 {
     let Some(mut store) = handle.take(alloc) else {
         return MISFIT;
@@ -53,7 +54,8 @@ pub extern "C" fn tree_index_bytes_upsert(
     key: &[u8],
     value: u64,
 ) -> u8
-    ensures { OnBytes (λ old. Replaces (slice_cmp nat_cmp) ⊤ key.now value old) (held handle.old) result (held handle.new) }
+    ensures { OnBytes (λ old. Replaces (slice_cmp nat_cmp) ⊤ key.now value old)
+        (held handle.old) result (held handle.new) }
 {
     let Some(mut store) = handle.take(alloc) else {
         return MISFIT;
@@ -66,7 +68,8 @@ pub extern "C" fn tree_index_bytes_upsert(
 /// Removes the pair with a key. Answers whether there was one. Copies the key meanwhile.
 #[unsafe(no_mangle)]
 pub extern "C" fn tree_index_bytes_remove(alloc: Global, handle: &mut Handle, key: &[u8]) -> u8
-    ensures { OnBytes (λ old. RemovesOrRefuses (slice_cmp nat_cmp) key.now old) (held handle.old) result (held handle.new) }
+    ensures { OnBytes (λ old. RemovesOrRefuses (slice_cmp nat_cmp) key.now old)
+        (held handle.old) result (held handle.new) }
 {
     let Some(mut store) = handle.take(alloc) else {
         return MISFIT;
@@ -84,7 +87,8 @@ pub extern "C" fn tree_index_bytes_take(
     key: &[u8],
     value: &mut u64,
 ) -> u8
-    ensures { OnBytes (λ old answer new. TakesOrRefuses (slice_cmp nat_cmp) key.now old answer value.old value.new new) (held handle.old) result (held handle.new) }
+    ensures { OnBytes (λ old answer new. TakesOrRefuses (slice_cmp nat_cmp) key.now old answer value.old value.new new)
+        (held handle.old) result (held handle.new) }
 {
     let Some(mut store) = handle.take(alloc) else {
         return MISFIT;
@@ -103,7 +107,9 @@ pub extern "C" fn tree_index_bytes_pop_first(
     key: &mut [u8],
     entry: &mut Entry,
 ) -> u8
-    ensures { OnBytes (λ old answer new. PopsEntry (first_of old.pairs) old answer key.old key.new entry.old entry.new new) (held handle.old) result (held handle.new) }
+    ensures { OnBytes
+        (λ old answer new. PopsEntry (first_of old.pairs) old answer key.old key.new entry.old entry.new new)
+        (held handle.old) result (held handle.new) }
 {
     let Some(mut store) = handle.take(alloc) else {
         return MISFIT;
@@ -122,7 +128,9 @@ pub extern "C" fn tree_index_bytes_pop_last(
     key: &mut [u8],
     entry: &mut Entry,
 ) -> u8
-    ensures { OnBytes (λ old answer new. PopsEntry (last_of old.pairs) old answer key.old key.new entry.old entry.new new) (held handle.old) result (held handle.new) }
+    ensures { OnBytes
+        (λ old answer new. PopsEntry (last_of old.pairs) old answer key.old key.new entry.old entry.new new)
+        (held handle.old) result (held handle.new) }
 {
     let Some(mut store) = handle.take(alloc) else {
         return MISFIT;
@@ -149,7 +157,8 @@ fn insert(store: &mut Store, alloc: Global, key: &[u8], value: u64) -> u8
 }
 
 fn upsert(store: &mut Store, alloc: Global, key: &[u8], value: u64) -> u8
-    ensures { OnBytes (λ old. Replaces (slice_cmp nat_cmp) ⊤ key.now value old) (Some store.old) result (Some store.new) }
+    ensures { OnBytes (λ old. Replaces (slice_cmp nat_cmp) ⊤ key.now value old)
+        (Some store.old) result (Some store.new) }
 {
     let Store::Bytes(index) = store else {
         return MISFIT;
@@ -164,7 +173,8 @@ fn upsert(store: &mut Store, alloc: Global, key: &[u8], value: u64) -> u8
 }
 
 fn remove(store: &mut Store, alloc: Global, key: &[u8]) -> u8
-    ensures { OnBytes (λ old. RemovesOrRefuses (slice_cmp nat_cmp) key.now old) (Some store.old) result (Some store.new) }
+    ensures { OnBytes (λ old. RemovesOrRefuses (slice_cmp nat_cmp) key.now old)
+        (Some store.old) result (Some store.new) }
 {
     let Store::Bytes(index) = store else {
         return MISFIT;
@@ -176,7 +186,8 @@ fn remove(store: &mut Store, alloc: Global, key: &[u8]) -> u8
 }
 
 fn take(store: &mut Store, alloc: Global, key: &[u8], value: &mut u64) -> u8
-    ensures { OnBytes (λ old answer new. TakesOrRefuses (slice_cmp nat_cmp) key.now old answer value.old value.new new) (Some store.old) result (Some store.new) }
+    ensures { OnBytes (λ old answer new. TakesOrRefuses (slice_cmp nat_cmp) key.now old answer value.old value.new new)
+        (Some store.old) result (Some store.new) }
 {
     let Store::Bytes(index) = store else {
         return MISFIT;
@@ -190,7 +201,9 @@ fn take(store: &mut Store, alloc: Global, key: &[u8], value: &mut u64) -> u8
 }
 
 fn pop_first(store: &mut Store, key: &mut [u8], entry: &mut Entry) -> u8
-    ensures { OnBytes (λ old answer new. PopsEntry (first_of old.pairs) old answer key.old key.new entry.old entry.new new) (Some store.old) result (Some store.new) }
+    ensures { OnBytes
+        (λ old answer new. PopsEntry (first_of old.pairs) old answer key.old key.new entry.old entry.new new)
+        (Some store.old) result (Some store.new) }
 {
     let Store::Bytes(index) = store else {
         return MISFIT;
@@ -209,7 +222,9 @@ fn pop_first(store: &mut Store, key: &mut [u8], entry: &mut Entry) -> u8
 }
 
 fn pop_last(store: &mut Store, key: &mut [u8], entry: &mut Entry) -> u8
-    ensures { OnBytes (λ old answer new. PopsEntry (last_of old.pairs) old answer key.old key.new entry.old entry.new new) (Some store.old) result (Some store.new) }
+    ensures { OnBytes
+        (λ old answer new. PopsEntry (last_of old.pairs) old answer key.old key.new entry.old entry.new new)
+        (Some store.old) result (Some store.new) }
 {
     let Store::Bytes(index) = store else {
         return MISFIT;

@@ -23,7 +23,10 @@ pub extern "C" fn tree_index_peek(
     key: u64,
     value: &mut u64,
 ) -> u8
-    ensures { OnNumbers (λ old answer new. Writes (option_map (λ pair. pair.1) (pair_at nat_cmp old.pairs key)) answer value.old value.new × (new ≡ old)) (held handle.old) result (held handle.new) }
+    ensures { OnNumbers
+        (λ old answer new. Writes
+        (option_map (λ pair. pair.1) (pair_at nat_cmp old.pairs key)) answer value.old value.new × (new ≡ old))
+        (held handle.old) result (held handle.new) }
 {
     let Some(store) = handle.take(alloc) else {
         return MISFIT;
@@ -36,7 +39,9 @@ pub extern "C" fn tree_index_peek(
 /// Answers whether a key is present.
 #[unsafe(no_mangle)]
 pub extern "C" fn tree_index_contains(alloc: Global, handle: &mut Handle, key: u64) -> u8
-    ensures { OnNumbers (λ old answer new. Says (IsPresent nat_cmp old.pairs key) (IsAbsent nat_cmp old.pairs key) answer × (new ≡ old)) (held handle.old) result (held handle.new) }
+    ensures { OnNumbers
+        (λ old answer new. Says (IsPresent nat_cmp old.pairs key) (IsAbsent nat_cmp old.pairs key) answer × (new ≡ old))
+        (held handle.old) result (held handle.new) }
 {
     let Some(store) = handle.take(alloc) else {
         return MISFIT;
@@ -49,7 +54,9 @@ pub extern "C" fn tree_index_contains(alloc: Global, handle: &mut Handle, key: u
 /// Writes the pair with the smallest key.
 #[unsafe(no_mangle)]
 pub extern "C" fn tree_index_first(alloc: Global, handle: &mut Handle, pair: &mut Pair) -> u8
-    ensures { OnNumbers (λ old answer new. Writes (first_of old.pairs) answer (pair_of pair.old) (pair_of pair.new) × (new ≡ old)) (held handle.old) result (held handle.new) }
+    ensures { OnNumbers
+        (λ old answer new. Writes (first_of old.pairs) answer (pair_of pair.old) (pair_of pair.new) × (new ≡ old))
+        (held handle.old) result (held handle.new) }
 {
     let Some(store) = handle.take(alloc) else {
         return MISFIT;
@@ -62,7 +69,9 @@ pub extern "C" fn tree_index_first(alloc: Global, handle: &mut Handle, pair: &mu
 /// Writes the pair with the largest key.
 #[unsafe(no_mangle)]
 pub extern "C" fn tree_index_last(alloc: Global, handle: &mut Handle, pair: &mut Pair) -> u8
-    ensures { OnNumbers (λ old answer new. Writes (last_of old.pairs) answer (pair_of pair.old) (pair_of pair.new) × (new ≡ old)) (held handle.old) result (held handle.new) }
+    ensures { OnNumbers
+        (λ old answer new. Writes (last_of old.pairs) answer (pair_of pair.old) (pair_of pair.new) × (new ≡ old))
+        (held handle.old) result (held handle.new) }
 {
     let Some(store) = handle.take(alloc) else {
         return MISFIT;
@@ -80,7 +89,9 @@ pub extern "C" fn tree_index_at_or_below(
     key: u64,
     pair: &mut Pair,
 ) -> u8
-    ensures { OnNumbers (λ old answer new. Writes (at_or_below nat_cmp old.pairs key) answer (pair_of pair.old) (pair_of pair.new) × (new ≡ old)) (held handle.old) result (held handle.new) }
+    ensures { OnNumbers
+        (λ old answer new. Writes (at_or_below nat_cmp old.pairs key) answer (pair_of pair.old) (pair_of pair.new)
+        × (new ≡ old)) (held handle.old) result (held handle.new) }
 {
     let Some(store) = handle.take(alloc) else {
         return MISFIT;
@@ -98,7 +109,9 @@ pub extern "C" fn tree_index_at_or_above(
     key: u64,
     pair: &mut Pair,
 ) -> u8
-    ensures { OnNumbers (λ old answer new. Writes (at_or_above nat_cmp old.pairs key) answer (pair_of pair.old) (pair_of pair.new) × (new ≡ old)) (held handle.old) result (held handle.new) }
+    ensures { OnNumbers
+        (λ old answer new. Writes (at_or_above nat_cmp old.pairs key) answer (pair_of pair.old) (pair_of pair.new)
+        × (new ≡ old)) (held handle.old) result (held handle.new) }
 {
     let Some(store) = handle.take(alloc) else {
         return MISFIT;
@@ -109,7 +122,10 @@ pub extern "C" fn tree_index_at_or_above(
 }
 
 fn peek(store: &Store, key: u64, value: &mut u64) -> u8
-    ensures { OnNumbers (λ old answer new. Writes (option_map (λ pair. pair.1) (pair_at nat_cmp old.pairs key)) answer value.old value.new × (new ≡ old)) (Some store.now) result (Some store.now) }
+    ensures { OnNumbers
+        (λ old answer new. Writes
+        (option_map (λ pair. pair.1) (pair_at nat_cmp old.pairs key)) answer value.old value.new × (new ≡ old))
+        (Some store.now) result (Some store.now) }
 {
     let Store::Numbers(index) = store else {
         return MISFIT;
@@ -118,7 +134,9 @@ fn peek(store: &Store, key: u64, value: &mut u64) -> u8
 }
 
 fn contains(store: &Store, key: u64) -> u8
-    ensures { OnNumbers (λ old answer new. Says (IsPresent nat_cmp old.pairs key) (IsAbsent nat_cmp old.pairs key) answer × (new ≡ old)) (Some store.now) result (Some store.now) }
+    ensures { OnNumbers
+        (λ old answer new. Says (IsPresent nat_cmp old.pairs key) (IsAbsent nat_cmp old.pairs key) answer × (new ≡ old))
+        (Some store.now) result (Some store.now) }
 {
     let Store::Numbers(index) = store else {
         return MISFIT;
@@ -127,7 +145,9 @@ fn contains(store: &Store, key: u64) -> u8
 }
 
 fn first(store: &Store, pair: &mut Pair) -> u8
-    ensures { OnNumbers (λ old answer new. Writes (first_of old.pairs) answer (pair_of pair.old) (pair_of pair.new) × (new ≡ old)) (Some store.now) result (Some store.now) }
+    ensures { OnNumbers
+        (λ old answer new. Writes (first_of old.pairs) answer (pair_of pair.old) (pair_of pair.new) × (new ≡ old))
+        (Some store.now) result (Some store.now) }
 {
     let Store::Numbers(index) = store else {
         return MISFIT;
@@ -136,7 +156,9 @@ fn first(store: &Store, pair: &mut Pair) -> u8
 }
 
 fn last(store: &Store, pair: &mut Pair) -> u8
-    ensures { OnNumbers (λ old answer new. Writes (last_of old.pairs) answer (pair_of pair.old) (pair_of pair.new) × (new ≡ old)) (Some store.now) result (Some store.now) }
+    ensures { OnNumbers
+        (λ old answer new. Writes (last_of old.pairs) answer (pair_of pair.old) (pair_of pair.new) × (new ≡ old))
+        (Some store.now) result (Some store.now) }
 {
     let Store::Numbers(index) = store else {
         return MISFIT;
@@ -145,7 +167,9 @@ fn last(store: &Store, pair: &mut Pair) -> u8
 }
 
 fn below(store: &Store, key: u64, pair: &mut Pair) -> u8
-    ensures { OnNumbers (λ old answer new. Writes (at_or_below nat_cmp old.pairs key) answer (pair_of pair.old) (pair_of pair.new) × (new ≡ old)) (Some store.now) result (Some store.now) }
+    ensures { OnNumbers
+        (λ old answer new. Writes (at_or_below nat_cmp old.pairs key) answer (pair_of pair.old) (pair_of pair.new)
+        × (new ≡ old)) (Some store.now) result (Some store.now) }
 {
     let Store::Numbers(index) = store else {
         return MISFIT;
@@ -154,7 +178,9 @@ fn below(store: &Store, key: u64, pair: &mut Pair) -> u8
 }
 
 fn above(store: &Store, key: u64, pair: &mut Pair) -> u8
-    ensures { OnNumbers (λ old answer new. Writes (at_or_above nat_cmp old.pairs key) answer (pair_of pair.old) (pair_of pair.new) × (new ≡ old)) (Some store.now) result (Some store.now) }
+    ensures { OnNumbers
+        (λ old answer new. Writes (at_or_above nat_cmp old.pairs key) answer (pair_of pair.old) (pair_of pair.new)
+        × (new ≡ old)) (Some store.now) result (Some store.now) }
 {
     let Store::Numbers(index) = store else {
         return MISFIT;

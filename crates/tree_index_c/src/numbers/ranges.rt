@@ -1,8 +1,8 @@
 //! Ranges of keys that are numbers.
 ghost use Rattle.std.specs.Prelude.{◌≡◌, Some, reverse};
 ghost use Rattle.std.specs.Ordering.{nat_cmp};
-ghost use Rattle.tree_chain.specs.Ways.{along};
-ghost use Rattle.tree_cursor_model.specs.Rest.{Moves};
+ghost use Rattle.tree_model.specs.Ways.{along};
+ghost use Rattle.tree_model.specs.Rest.{Moves};
 ghost use Rattle.tree_index_c.specs.Held.{OnNumbers, held, numbers_in};
 ghost use Rattle.tree_index_c.specs.Pairs.{Fills, as_pair, bound_at, pairs_between};
 ghost use Rattle.tree_model.specs.Pairs.{cut};
@@ -29,7 +29,9 @@ pub extern "C" fn tree_index_fill(
     places: &mut [Pair],
 ) -> usize
     ensures kept { held handle.new ≡ held handle.old }
-    ensures filled { Fills as_pair (pairs_between nat_cmp (bound_at low_kind low) (bound_at high_kind high) (numbers_in (held handle.old))) places.old result places.new }
+    ensures filled { Fills as_pair
+        (pairs_between nat_cmp (bound_at low_kind low) (bound_at high_kind high)
+        (numbers_in (held handle.old))) places.old result places.new }
 {
     let Some(store) = handle.take(alloc) else {
         return 0;
@@ -53,7 +55,9 @@ pub extern "C" fn tree_index_fill_back(
     places: &mut [Pair],
 ) -> usize
     ensures kept { held handle.new ≡ held handle.old }
-    ensures filled { Fills as_pair (reverse (pairs_between nat_cmp (bound_at low_kind low) (bound_at high_kind high) (numbers_in (held handle.old)))) places.old result places.new }
+    ensures filled { Fills as_pair
+        (reverse (pairs_between nat_cmp (bound_at low_kind low)
+        (bound_at high_kind high) (numbers_in (held handle.old)))) places.old result places.new }
 {
     let Some(store) = handle.take(alloc) else {
         return 0;
@@ -74,7 +78,10 @@ pub extern "C" fn tree_index_remove_range(
     high_kind: u8,
     high: u64,
 ) -> u8
-    ensures { OnNumbers (λ old answer new. (answer ≡ YES) × (new.pairs ≡ cut nat_cmp old.pairs (bound_at low_kind low) (bound_at high_kind high))) (held handle.old) result (held handle.new) }
+    ensures { OnNumbers
+        (λ old answer new. (answer ≡ YES)
+        × (new.pairs ≡ cut nat_cmp old.pairs (bound_at low_kind low) (bound_at high_kind high)))
+        (held handle.old) result (held handle.new) }
 {
     let Some(mut store) = handle.take(alloc) else {
         return MISFIT;
@@ -85,7 +92,10 @@ pub extern "C" fn tree_index_remove_range(
 }
 
 fn remove_range(store: &mut Store, low_kind: u8, low: u64, high_kind: u8, high: u64) -> u8
-    ensures { OnNumbers (λ old answer new. (answer ≡ YES) × (new.pairs ≡ cut nat_cmp old.pairs (bound_at low_kind low) (bound_at high_kind high))) (Some store.old) result (Some store.new) }
+    ensures { OnNumbers
+        (λ old answer new. (answer ≡ YES)
+        × (new.pairs ≡ cut nat_cmp old.pairs (bound_at low_kind low) (bound_at high_kind high)))
+        (Some store.old) result (Some store.new) }
 {
     let Store::Numbers(index) = store else {
         return MISFIT;
@@ -102,7 +112,9 @@ fn fill(
     backwards: bool,
     places: &mut [Pair],
 ) -> usize
-    ensures { Fills as_pair (along (way_of backwards) (pairs_between nat_cmp bounds.0 bounds.1 (numbers_in (Some store.now)))) places.old result places.new }
+    ensures { Fills as_pair
+        (along (way_of backwards)
+        (pairs_between nat_cmp bounds.0 bounds.1 (numbers_in (Some store.now)))) places.old result places.new }
 {
     let Store::Numbers(index) = store else {
         return 0;
@@ -116,7 +128,9 @@ fn fill_from(
     backwards: bool,
     places: &mut [Pair],
 ) -> usize
-    ensures { Fills as_pair (along (way_of backwards) (pairs_between nat_cmp bounds.0 bounds.1 index.now.pairs)) places.old result places.new }
+    ensures { Fills as_pair
+        (along (way_of backwards)
+        (pairs_between nat_cmp bounds.0 bounds.1 index.now.pairs)) places.old result places.new }
 {
     let (low, high) = bounds;
     let mut cursor = index.range((low.as_ref(), high.as_ref()));

@@ -30,7 +30,9 @@ pub extern "C" fn tree_index_from_sorted(alloc: Global, handle: &mut Handle, pai
 }
 
 fn index_of(alloc: Global, pairs: &[Pair]) -> Result<Option<TreeIndex<u64, u64>>, AllocError>
-    ensures { IfOk result (λ made. MatchOption made (IsAscending nat_cmp (map pair_of pairs.now) → ⊥) (λ index. index.pairs ≡ map pair_of pairs.now)) }
+    ensures { IfOk result
+        (λ made. MatchOption made (IsAscending nat_cmp (map pair_of pairs.now) → ⊥)
+        (λ index. index.pairs ≡ map pair_of pairs.now)) }
 {
     let mut index = TreeIndex::new(alloc);
     for at in 0..pairs.len() {

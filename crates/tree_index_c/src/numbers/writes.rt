@@ -29,7 +29,8 @@ pub extern "C" fn tree_index_new(alloc: Global, handle: &mut Handle) -> u8
 /// Stores a pair if its key is absent. Answers `NO` if it is present.
 #[unsafe(no_mangle)]
 pub extern "C" fn tree_index_insert(alloc: Global, handle: &mut Handle, key: u64, value: u64) -> u8
-    ensures { OnNumbers (λ old. Stores nat_cmp (old.spare ≡ 0) key value old) (held handle.old) result (held handle.new) }
+    ensures { OnNumbers (λ old. Stores nat_cmp (old.spare ≡ 0) key value old)
+        (held handle.old) result (held handle.new) }
 {
     let Some(mut store) = handle.take(alloc) else {
         return MISFIT;
@@ -42,7 +43,8 @@ pub extern "C" fn tree_index_insert(alloc: Global, handle: &mut Handle, key: u64
 /// Stores a pair, in place of one with an equal key.
 #[unsafe(no_mangle)]
 pub extern "C" fn tree_index_upsert(alloc: Global, handle: &mut Handle, key: u64, value: u64) -> u8
-    ensures { OnNumbers (λ old. Replaces nat_cmp (old.spare ≡ 0) key value old) (held handle.old) result (held handle.new) }
+    ensures { OnNumbers (λ old. Replaces nat_cmp (old.spare ≡ 0) key value old)
+        (held handle.old) result (held handle.new) }
 {
     let Some(mut store) = handle.take(alloc) else {
         return MISFIT;
@@ -55,7 +57,9 @@ pub extern "C" fn tree_index_upsert(alloc: Global, handle: &mut Handle, key: u64
 /// Removes the pair with a key. Answers whether there was one.
 #[unsafe(no_mangle)]
 pub extern "C" fn tree_index_remove(alloc: Global, handle: &mut Handle, key: u64) -> u8
-    ensures { OnNumbers (λ old answer new. Says (IsPresent nat_cmp old.pairs key) (IsAbsent nat_cmp old.pairs key) answer × (new.pairs ≡ without nat_cmp old.pairs key)) (held handle.old) result (held handle.new) }
+    ensures { OnNumbers
+        (λ old answer new. Says (IsPresent nat_cmp old.pairs key) (IsAbsent nat_cmp old.pairs key) answer
+        × (new.pairs ≡ without nat_cmp old.pairs key)) (held handle.old) result (held handle.new) }
 {
     let Some(mut store) = handle.take(alloc) else {
         return MISFIT;
@@ -73,7 +77,10 @@ pub extern "C" fn tree_index_take(
     key: u64,
     value: &mut u64,
 ) -> u8
-    ensures { OnNumbers (λ old answer new. Writes (option_map (λ pair. pair.1) (pair_at nat_cmp old.pairs key)) answer value.old value.new × (new.pairs ≡ without nat_cmp old.pairs key)) (held handle.old) result (held handle.new) }
+    ensures { OnNumbers
+        (λ old answer new. Writes
+        (option_map (λ pair. pair.1) (pair_at nat_cmp old.pairs key)) answer value.old value.new
+        × (new.pairs ≡ without nat_cmp old.pairs key)) (held handle.old) result (held handle.new) }
 {
     let Some(mut store) = handle.take(alloc) else {
         return MISFIT;
@@ -86,7 +93,9 @@ pub extern "C" fn tree_index_take(
 /// Removes the pair with the smallest key and writes it.
 #[unsafe(no_mangle)]
 pub extern "C" fn tree_index_pop_first(alloc: Global, handle: &mut Handle, pair: &mut Pair) -> u8
-    ensures { OnNumbers (λ old answer new. Writes (first_of old.pairs) answer (pair_of pair.old) (pair_of pair.new) × (new.pairs ≡ left_of nat_cmp old.pairs (first_of old.pairs))) (held handle.old) result (held handle.new) }
+    ensures { OnNumbers
+        (λ old answer new. Writes (first_of old.pairs) answer (pair_of pair.old) (pair_of pair.new)
+        × (new.pairs ≡ left_of nat_cmp old.pairs (first_of old.pairs))) (held handle.old) result (held handle.new) }
 {
     let Some(mut store) = handle.take(alloc) else {
         return MISFIT;
@@ -99,7 +108,9 @@ pub extern "C" fn tree_index_pop_first(alloc: Global, handle: &mut Handle, pair:
 /// Removes the pair with the largest key and writes it.
 #[unsafe(no_mangle)]
 pub extern "C" fn tree_index_pop_last(alloc: Global, handle: &mut Handle, pair: &mut Pair) -> u8
-    ensures { OnNumbers (λ old answer new. Writes (last_of old.pairs) answer (pair_of pair.old) (pair_of pair.new) × (new.pairs ≡ left_of nat_cmp old.pairs (last_of old.pairs))) (held handle.old) result (held handle.new) }
+    ensures { OnNumbers
+        (λ old answer new. Writes (last_of old.pairs) answer (pair_of pair.old) (pair_of pair.new)
+        × (new.pairs ≡ left_of nat_cmp old.pairs (last_of old.pairs))) (held handle.old) result (held handle.new) }
 {
     let Some(mut store) = handle.take(alloc) else {
         return MISFIT;
@@ -123,7 +134,8 @@ fn insert(store: &mut Store, key: u64, value: u64) -> u8
 }
 
 fn upsert(store: &mut Store, key: u64, value: u64) -> u8
-    ensures { OnNumbers (λ old. Replaces nat_cmp (old.spare ≡ 0) key value old) (Some store.old) result (Some store.new) }
+    ensures { OnNumbers (λ old. Replaces nat_cmp (old.spare ≡ 0) key value old)
+        (Some store.old) result (Some store.new) }
 {
     let Store::Numbers(index) = store else {
         return MISFIT;
@@ -135,7 +147,9 @@ fn upsert(store: &mut Store, key: u64, value: u64) -> u8
 }
 
 fn remove(store: &mut Store, key: u64) -> u8
-    ensures { OnNumbers (λ old answer new. Says (IsPresent nat_cmp old.pairs key) (IsAbsent nat_cmp old.pairs key) answer × (new.pairs ≡ without nat_cmp old.pairs key)) (Some store.old) result (Some store.new) }
+    ensures { OnNumbers
+        (λ old answer new. Says (IsPresent nat_cmp old.pairs key) (IsAbsent nat_cmp old.pairs key) answer
+        × (new.pairs ≡ without nat_cmp old.pairs key)) (Some store.old) result (Some store.new) }
 {
     let Store::Numbers(index) = store else {
         return MISFIT;
@@ -144,7 +158,10 @@ fn remove(store: &mut Store, key: u64) -> u8
 }
 
 fn take(store: &mut Store, key: u64, value: &mut u64) -> u8
-    ensures { OnNumbers (λ old answer new. Writes (option_map (λ pair. pair.1) (pair_at nat_cmp old.pairs key)) answer value.old value.new × (new.pairs ≡ without nat_cmp old.pairs key)) (Some store.old) result (Some store.new) }
+    ensures { OnNumbers
+        (λ old answer new. Writes
+        (option_map (λ pair. pair.1) (pair_at nat_cmp old.pairs key)) answer value.old value.new
+        × (new.pairs ≡ without nat_cmp old.pairs key)) (Some store.old) result (Some store.new) }
 {
     let Store::Numbers(index) = store else {
         return MISFIT;
@@ -155,7 +172,9 @@ fn take(store: &mut Store, key: u64, value: &mut u64) -> u8
 }
 
 fn pop_first(store: &mut Store, pair: &mut Pair) -> u8
-    ensures { OnNumbers (λ old answer new. Writes (first_of old.pairs) answer (pair_of pair.old) (pair_of pair.new) × (new.pairs ≡ left_of nat_cmp old.pairs (first_of old.pairs))) (Some store.old) result (Some store.new) }
+    ensures { OnNumbers
+        (λ old answer new. Writes (first_of old.pairs) answer (pair_of pair.old) (pair_of pair.new)
+        × (new.pairs ≡ left_of nat_cmp old.pairs (first_of old.pairs))) (Some store.old) result (Some store.new) }
 {
     let Store::Numbers(index) = store else {
         return MISFIT;
@@ -168,7 +187,9 @@ fn pop_first(store: &mut Store, pair: &mut Pair) -> u8
 }
 
 fn pop_last(store: &mut Store, pair: &mut Pair) -> u8
-    ensures { OnNumbers (λ old answer new. Writes (last_of old.pairs) answer (pair_of pair.old) (pair_of pair.new) × (new.pairs ≡ left_of nat_cmp old.pairs (last_of old.pairs))) (Some store.old) result (Some store.new) }
+    ensures { OnNumbers
+        (λ old answer new. Writes (last_of old.pairs) answer (pair_of pair.old) (pair_of pair.new)
+        × (new.pairs ≡ left_of nat_cmp old.pairs (last_of old.pairs))) (Some store.old) result (Some store.new) }
 {
     let Store::Numbers(index) = store else {
         return MISFIT;

@@ -34,6 +34,7 @@ pub fn splice_link<K: Ord + Drop, V: Drop, N: Drop, const LEN: usize>(
     requires right { ForSome right (ContainsKey arenas.old.leaves) }
     ensures { Splices arenas.old arenas.new left right }
 {
+    // Copies, since the borrow checker has an argument of this type passed on once.
     let (before, after) = (left, right);
     set_next(arenas, left, right);
     set_prev(arenas, after, before);

@@ -1,4 +1,4 @@
-use Rattle.tree_node.proofs.Sizes.{fits}
+use Rattle.tree_node.proofs.Common.{fits}
 use Rattle.cursor_tests.proofs.walks.expect_between.Goals as goal
 
 pub locate-requires : goal.locate-requires

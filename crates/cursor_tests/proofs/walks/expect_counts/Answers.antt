@@ -1,4 +1,4 @@
-use Rattle.tree_node.proofs.Sizes.{fits}
+use Rattle.tree_node.proofs.Common.{fits}
 use Rattle.cursor_tests.proofs.walks.expect_counts.Goals as goal
 
 pub range-requires : goal.range-requires

@@ -1,4 +1,4 @@
-use Rattle.tree_node.proofs.Sizes.{fits}
+use Rattle.tree_node.proofs.Common.{fits}
 use Rattle.cursor_tests.proofs.walks.last.Goals as goal
 
 pub range-range-requires : goal.range-range-requires

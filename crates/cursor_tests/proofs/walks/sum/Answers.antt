@@ -1,4 +1,4 @@
-use Rattle.tree_node.proofs.Sizes.{fits}
+use Rattle.tree_node.proofs.Common.{fits}
 use Rattle.cursor_tests.proofs.walks.sum.Goals as goal
 
 pub into_iter-key-iterator-requires : goal.into_iter-key-iterator-requires

@@ -1,6 +1,6 @@
+use Rattle.std.proofs.Common.{nat_cmp}
+use Rattle.tree_node.proofs.Common.{fits}
 use Rattle.node_tests.proofs.Plantings.{planted_given, planted_kind}
-use Rattle.std.specs.Ordering.{nat_cmp}
-use Rattle.tree_node.proofs.Sizes.{fits}
 use Rattle.node_tests.proofs.planted.cleanup_root.Goals as goal
 
 pub lower-requires : goal.lower-requires

@@ -1,7 +1,7 @@
 use Rattle.std.proofs.Common.{ap}
-use Rattle.tree_array.specs.Arrivals.{Arrivals}
+use Rattle.tree_array.proofs.Common.{Arrivals}
+use Rattle.tree_node.proofs.Common.{fits}
 use Rattle.tree_node.specs.declared.node.NodeOf.TheVariants.{Leaf}
-use Rattle.tree_node.proofs.Sizes.{fits}
 use Rattle.node_tests.proofs.Plantings.{planted_over_one}
 use Rattle.node_tests.proofs.planted.first_root.Goals as goal
 

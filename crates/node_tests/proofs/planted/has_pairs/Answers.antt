@@ -1,6 +1,6 @@
+use Rattle.std.proofs.Common.{nat_cmp}
+use Rattle.tree_node.proofs.Common.{fits}
 use Rattle.node_tests.proofs.Plantings.{planted_stands, planted_linked}
-use Rattle.std.specs.Ordering.{nat_cmp}
-use Rattle.tree_node.proofs.Sizes.{fits}
 use Rattle.node_tests.proofs.planted.has_pairs.Goals as goal
 
 pub walk-requires : goal.walk-requires

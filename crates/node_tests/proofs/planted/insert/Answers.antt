@@ -1,6 +1,6 @@
-use Rattle.node_tests.proofs.Plantings.{planted_given, planted_by_insert}
 use Rattle.std.proofs.Common.{rules}
-use Rattle.tree_node.proofs.Sizes.{fits}
+use Rattle.tree_node.proofs.Common.{fits}
+use Rattle.node_tests.proofs.Plantings.{planted_given, planted_by_insert}
 use Rattle.node_tests.proofs.planted.insert.Goals as goal
 
 pub insert-requires : goal.insert-requires

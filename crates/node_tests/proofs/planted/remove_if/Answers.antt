@@ -1,6 +1,6 @@
-use Rattle.node_tests.proofs.Plantings.{planted_given, planted_by_removal}
 use Rattle.std.proofs.Common.{rules}
-use Rattle.tree_node.proofs.Sizes.{fits}
+use Rattle.tree_node.proofs.Common.{fits}
+use Rattle.node_tests.proofs.Plantings.{planted_given, planted_by_removal}
 use Rattle.node_tests.proofs.planted.remove_if.Goals as goal
 
 pub remove_if-requires : goal.remove_if-requires

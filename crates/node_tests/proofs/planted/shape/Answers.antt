@@ -1,7 +1,6 @@
+use Rattle.std.proofs.Common.{rules, nat_cmp}
+use Rattle.tree_node.proofs.Common.{fits}
 use Rattle.node_tests.proofs.Plantings.{planted_stands}
-use Rattle.std.proofs.Common.{rules}
-use Rattle.std.specs.Ordering.{nat_cmp}
-use Rattle.tree_node.proofs.Sizes.{fits}
 use Rattle.node_tests.proofs.planted.shape.Goals as goal
 
 pub depth-depth-requires : goal.depth-depth-requires

@@ -1,8 +1,7 @@
-use Rattle.std.proofs.Common.{sym}
+use Rattle.std.proofs.Common.{sym, nat_cmp}
+use Rattle.tree_node.proofs.Common.{fits}
 use Rattle.node_tests.proofs.Plantings.{planted_stands, internal_part, planted_by_split}
-use Rattle.std.specs.Ordering.{nat_cmp}
 use Rattle.tree_node.proofs.Levels.{node_at}
-use Rattle.tree_node.proofs.Sizes.{fits}
 use Rattle.node_tests.proofs.planted.split_last.Goals as goal
 
 pub node-requires : goal.node-requires

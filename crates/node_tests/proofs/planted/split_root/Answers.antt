@@ -1,6 +1,6 @@
+use Rattle.std.proofs.Common.{nat_cmp}
+use Rattle.tree_node.proofs.Common.{fits}
 use Rattle.node_tests.proofs.Plantings.{part_planted, not_so, planted_given, raised_planted, replanted, told_err, unchanged_planted}
-use Rattle.std.specs.Ordering.{nat_cmp}
-use Rattle.tree_node.proofs.Sizes.{fits}
 use Rattle.node_tests.proofs.planted.split_root.Goals as goal
 
 pub grow-requires : goal.grow-requires

@@ -1,5 +1,4 @@
-use Rattle.std.specs.Prelude.{◌<◌}
-use Rattle.std.specs.Ordering.{nat_cmp}
+use Rattle.std.proofs.Common.{◌<◌, nat_cmp}
 use Rattle.node_tests.specs.Planted.{IsPlanted}
 use Rattle.node_tests.proofs.plays.takes_lists.Given as goal
 

@@ -1,4 +1,4 @@
-use Rattle.std.specs.Prelude.{string_cmp}
+use Rattle.std.proofs.Common.{string_cmp}
 use Rattle.node_tests.specs.Planted.{IsPlanted}
 use Rattle.node_tests.proofs.texts.takes_steps.Given as goal
 

@@ -1,4 +1,4 @@
-use Rattle.tree_node.proofs.Sizes.{fits}
+use Rattle.tree_node.proofs.Common.{fits}
 use Rattle.refusal_tests.proofs.histories.apply_each.Goals as goal
 
 pub index-requires : goal.index-requires

@@ -1,4 +1,4 @@
-use Rattle.tree_node.proofs.Sizes.{fits}
+use Rattle.tree_node.proofs.Common.{fits}
 use Rattle.refusal_tests.proofs.writes.ascends.Goals as goal
 
 pub iter-walk-requires : goal.iter-walk-requires

@@ -1,4 +1,4 @@
-use Rattle.tree_node.proofs.Sizes.{fits}
+use Rattle.tree_node.proofs.Common.{fits}
 use Rattle.shared_tests.proofs.races.expect_left.Goals as goal
 
 pub replays-requires : goal.replays-requires

@@ -1,4 +1,4 @@
-use Rattle.tree_node.proofs.Sizes.{fits}
+use Rattle.tree_node.proofs.Common.{fits}
 use Rattle.shared_tests.proofs.replay.has_the_pairs.Goals as goal
 
 pub iter-requires-2 : goal.iter-requires-2

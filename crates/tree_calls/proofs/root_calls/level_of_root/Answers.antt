@@ -1,9 +1,6 @@
 use Rattle.std.proofs.Common.{rules, ◌⊎◌, ◌<◌, sym, arith}
-use Rattle.slab.specs.Slab.{ContainsKey}
-use Rattle.tree_node.specs.Parts.{IsPart}
-use Rattle.tree_node.specs.Tree.{IsRetired, StandsOrRetired}
+use Rattle.tree_node.proofs.Common.{ContainsKey, IsPart, IsRetired, StandsOrRetired, fits}
 use Rattle.tree_node.proofs.NodeKinds.{inner_level, node_used, outer_level}
-use Rattle.tree_node.proofs.Sizes.{fits}
 use Rattle.tree_calls.proofs.FoundLevels.{given_at}
 use Rattle.tree_calls.proofs.FoundRoots.{over_nodes}
 use Rattle.tree_calls.proofs.root_calls.level_of_root.Goals as goal

@@ -1,5 +1,6 @@
-use Rattle.std.proofs.Common.{◌≡◌, ◌<◌, arith, rules}
+use Rattle.std.proofs.Common.{◌≡◌, ◌<◌, IsSome, refl, sym, subst, arith, rules}
 use Rattle.tree_cells.proofs.Halving.{end_placed, place_equal, place_apart, searched_some}
+use Rattle.tree_order.proofs.Slots.{len_small}
 use Rattle.tree_cells.proofs.search.find.Goals as goal
 
 pub returns-then-window-gt0-clause-place : goal.returns-then-window-gt0-clause-place
@@ -106,3 +107,25 @@ returns-else-window-gt0-4-clause-place g c =
 pub returns-else-window-gt0-4-clause-counted : goal.returns-else-window-gt0-4-clause-counted
 returns-else-window-gt0-4-clause-counted g c =
     omega (arith, c.begin-window.ensures.counted, c.halve-window.ensures.counted, c.halve-window-2.ensures.counted, c.halve-window-3.ensures.counted, searched_some g.row.LEN)
+
+-- ---- what the calls require
+pub key-requires : goal.key-requires
+key-requires g c =
+    let some : 0 < c.args.count = omega (arith, c.if-count-eq0.false) in
+    let s = c.requires.in_order.stands 0 some in
+    (search rules, rw c.slot_at.ensures (subst IsSome (sym s.1) refl))
+
+pub begin-window-requires : goal.begin-window-requires
+begin-window-requires g c =
+    let r = c.requires in
+    let some : 0 < c.args.count = omega (arith, c.if-count-eq0.false) in
+    (search rules, (r.len, (some, (r.few, (r.in_order, r.filled some)))))
+
+pub end-requires-clause-within : goal.end-requires-clause-within
+end-requires-clause-within g c = omega (arith, (c.begin-window.ensures.window.equal c.if-window-gt0.true).0, len_small g.row.LEN c.requires.len)
+
+pub end-requires-then-window-gt0-2-clause-within : goal.end-requires-then-window-gt0-2-clause-within
+end-requires-then-window-gt0-2-clause-within g c = omega (arith, (c.halve-window.ensures.window.equal c.if-window-gt0-2.true).0, len_small g.row.LEN c.requires.len)
+
+pub end-requires-then-window-gt0-3-clause-within : goal.end-requires-then-window-gt0-3-clause-within
+end-requires-then-window-gt0-3-clause-within g c = omega (arith, (c.halve-window-2.ensures.window.equal c.if-window-gt0-3.true).0, len_small g.row.LEN c.requires.len)

@@ -7,10 +7,10 @@ use Rattle.tree_cells.proofs.search.find_key_beyond.Goals as goal
 
 pub key-requires : goal.key-requires
 key-requires g c =
-    (search rules, subst (λ p. IsSome (arrival c.args.cells.now p)) (sym c.last_slot-last.ensures) (stands_some c.requires.in_order (c.args.count - 1) (omega (arith, c.if-count-gt0.true))))
+    (search rules, subst (λ p. IsSome (arrival c.args.cells.now.pairs p)) (sym c.last_slot-last.ensures) (stands_some c.requires.in_order (c.args.count - 1) (omega (arith, c.if-count-gt0.true))))
 
 pub returns-then-is_gt : goal.returns-then-is_gt
 returns-then-is_gt g c =
     let r = c.requires in
-    let there = ap (arrival c.args.cells.now) (sym c.last_slot-last.ensures) ∙ c.key.ensures.1 in
+    let there = ap (arrival c.args.cells.now.pairs) (sym c.last_slot-last.ensures) ∙ c.key.ensures.1 in
     beyond_last g.met.K.Ord.total r.in_order (r.filled (omega (arith, c.if-count-gt0.true))) (omega (arith, c.if-count-gt0.true)) r.few _ _ there (sym c.cmp.ensures ∙ greater_from_test c.cmp.result (sym c.if-is_gt.ensures))

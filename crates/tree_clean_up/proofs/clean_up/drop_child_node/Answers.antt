@@ -1,5 +1,5 @@
 use Rattle.std.proofs.Common.{ℕ, refl, rules}
-use Rattle.slab.specs.Slab.{ContainsKey}
+use Rattle.tree_node.proofs.Common.{ContainsKey}
 use Rattle.tree_node.proofs.Standing.{no_children}
 use Rattle.tree_clean_up.proofs.NodeDrops.{node_dropped}
 use Rattle.tree_clean_up.proofs.NodeWrites.{has_node}

@@ -1,8 +1,7 @@
 use Rattle.std.proofs.Common.{refl, ◌∙◌, rules}
-use Rattle.slab.specs.Slab.{ContainsKey}
+use Rattle.tree_node.proofs.Common.{ContainsKey, fits}
 use Rattle.tree_leaf.proofs.Chains.{same_array_used}
 use Rattle.tree_clean_up.proofs.LeafDrops.{leaf_dropped}
-use Rattle.tree_node.proofs.Sizes.{fits}
 use Rattle.tree_clean_up.proofs.clean_up.drop_keyed_leaf.Goals as goal
 
 pub remove_leaf-requires : goal.remove_leaf-requires

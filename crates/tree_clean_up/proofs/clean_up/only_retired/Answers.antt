@@ -1,9 +1,8 @@
 use Rattle.std.proofs.Common.{◌≡◌, [], sym, ◌∙◌, true, false, inl, arith}
-use Rattle.slab.specs.Slab.{ContainsKey}
+use Rattle.tree_node.proofs.Common.{ContainsKey, fits}
 use Rattle.tree_node.specs.declared.node.NodeOf.TheVariants.{Leaf}
 use Rattle.tree_clean_up.proofs.OnlyLeaves.{only_there, others_left, not_retired, is_only}
 use Rattle.tree_node.proofs.Levels.{node_at}
-use Rattle.tree_node.proofs.Sizes.{fits}
 use Rattle.tree_clean_up.proofs.clean_up.only_retired.Goals.{then-not-is_retired-via-then-not-is_retired, then-not-is_retired-via-else-not-is_retired+then-not-is_empty-2}
 use Rattle.tree_clean_up.proofs.clean_up.only_retired.Goals as goal
 

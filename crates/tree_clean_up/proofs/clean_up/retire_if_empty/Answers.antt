@@ -1,9 +1,8 @@
 use Rattle.std.proofs.Common.{refl, ◌∙◌, rules}
-use Rattle.slab.specs.Slab.{ContainsKey}
+use Rattle.tree_node.proofs.Common.{ContainsKey, fits}
 use Rattle.tree_leaf.proofs.Chains.{same_array_used}
 use Rattle.tree_clean_up.proofs.EmptyNodes.{emptied}
 use Rattle.tree_clean_up.proofs.LeafDrops.{leaf_dropped}
-use Rattle.tree_node.proofs.Sizes.{fits}
 use Rattle.tree_clean_up.proofs.clean_up.retire_if_empty.Goals as goal
 
 pub remove_leaf-requires : goal.remove_leaf-requires

@@ -1,7 +1,6 @@
 use Rattle.std.proofs.Common.{rules, ◌<◌}
-use Rattle.std.specs.Range.Bound.{bound_map}
-use Rattle.tree_node.specs.Tree.{StandsOrRetired}
-use Rattle.tree_node.proofs.Sizes.{fits}
+use Rattle.tree_model.proofs.Common.{bound_map}
+use Rattle.tree_node.proofs.Common.{StandsOrRetired, fits}
 use Rattle.tree_walk.specs.Ends.{IsLinked}
 use Rattle.tree_cursors.proofs.Ends.{found_first, found_none, found_stands, goes_nowhere, root_linked, root_stands}
 use Rattle.tree_cursors.proofs.end.first_end.Goals as goal

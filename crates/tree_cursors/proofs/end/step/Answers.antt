@@ -1,5 +1,5 @@
 use Rattle.std.proofs.Common.{sym}
-use Rattle.std.specs.Range.Bound.{bound_map}
+use Rattle.tree_model.proofs.Common.{bound_map}
 use Rattle.tree_cursors.proofs.end.step.Goals as goal
 
 pub returns-in-None-clause-place : goal.returns-in-None-clause-place

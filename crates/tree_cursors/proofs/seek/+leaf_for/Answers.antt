@@ -1,7 +1,6 @@
 use Rattle.std.proofs.Common.{rules, ◌<◌, ◌-◌}
-use Rattle.slab.specs.Slab.{ContainsKey}
+use Rattle.tree_node.proofs.Common.{ContainsKey, StandsOrRetired}
 use Rattle.tree_node.specs.declared.node.NodeOf.TheVariants.{Internal, Leaf}
-use Rattle.tree_node.specs.Tree.{StandsOrRetired}
 use Rattle.tree_node.proofs.Levels.{found_below, node_at}
 use Rattle.tree_cursors.proofs.LeafFor.{in_leaf_node, in_node, no_child}
 use Rattle.tree_cursors.proofs.seek.+leaf_for.Goals as goal

@@ -1,12 +1,11 @@
 use Rattle.std.proofs.Common.{rules, refl, inl, inr, List, ℕ, ◌++◌, ◌∷◌}
-use Rattle.std.specs.Range.Bound.{bound_map}
+use Rattle.tree_model.proofs.Common.{bound_map}
+use Rattle.tree_node.proofs.Common.{IsChain, fits}
 use Rattle.tree_walk.proofs.EndWalks.{leaf_in_chain}
-use Rattle.tree_leaf.specs.Chain.{IsChain}
-use Rattle.tree_node.proofs.Sizes.{fits}
 use Rattle.tree_cursors.proofs.LeafFor.{retired_walk}
 use Rattle.tree_cursors.proofs.Seeks.{IsAt, opens_at, opens_unbounded}
-use Rattle.tree_cursors.proofs.seek.open_at.Goals as goal
 use Rattle.tree_cursors.proofs.seek.open_at.Goals.{in-Included, in-Excluded}
+use Rattle.tree_cursors.proofs.seek.open_at.Goals as goal
 
 pub returns-in-Unbounded : goal.returns-in-Unbounded
 returns-in-Unbounded g c = opens_unbounded g.K.Ord.cmp g.S.SlotWalk.way c.args.level c.args.arenas.now c.args.id _ c.walk_from_end.result c.walk_from_end.ensures

@@ -1,8 +1,7 @@
 use Rattle.std.proofs.Common.{◌++◌, List, ℕ}
-use Rattle.std.specs.Range.Bound.{bound_map}
+use Rattle.tree_model.proofs.Common.{bound_map}
+use Rattle.tree_node.proofs.Common.{IsChain, leaves_at}
 use Rattle.tree_chain.proofs.Rests.{count_left}
-use Rattle.tree_leaf.specs.Chain.{IsChain}
-use Rattle.tree_node.specs.Tree.{leaves_at}
 use Rattle.tree_cursors.specs.Seek.{path}
 use Rattle.tree_cursors.proofs.Seeks.{IsSought}
 use Rattle.tree_cursors.proofs.seek.seek_at.Given as goal

@@ -1,6 +1,5 @@
-use Rattle.std.proofs.Common.{◌≡◌, take}
-use Rattle.std.specs.List.{AllByRecursion}
-use Rattle.std.specs.declared.cmp.Ordering.TheVariants.{Less}
+use Rattle.std.proofs.Common.{◌≡◌, take, Less}
+use Rattle.tree_model.proofs.Common.{AllByRecursion}
 use Rattle.tree_cut.proofs.borders.place_for.Given as goal
 
 abbrev pub invariant-loop-place : goal.invariant-loop-place

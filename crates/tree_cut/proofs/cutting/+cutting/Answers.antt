@@ -1,8 +1,5 @@
 use Rattle.std.proofs.Common.{rules, ◌≡◌, ◌-◌, ◌+◌, ◌<◌, true, false, Some, None, arith, sym, ◌∙◌, ◌∷◌, []}
-use Rattle.slab.specs.Slab.{ContainsKey}
-use Rattle.tree_node.specs.Parts.{IsPart}
-use Rattle.tree_node.specs.Tree.{keyed}
-use Rattle.tree_node.proofs.Sizes.{fits}
+use Rattle.tree_node.proofs.Common.{ContainsKey, IsPart, keyed, fits}
 use Rattle.tree_cut.specs.Parts.{IsAt, part_id}
 use Rattle.tree_cut.proofs.ChildCuts.{empty_drop, open_drop, part_forest, part_left}
 use Rattle.tree_cut.proofs.CutLoop.{finishes, starts, state_few, state_part, state_reach, steps}

@@ -1,5 +1,5 @@
 use Rattle.std.proofs.Common.{◌*◌, ◌-◌}
-use Rattle.std.specs.Range.Bound.{bound_map}
+use Rattle.tree_model.proofs.Common.{bound_map}
 use Rattle.tree_cut.proofs.CutLoop.{CutState}
 use Rattle.tree_cut.proofs.cutting.+cutting.Given as goal
 

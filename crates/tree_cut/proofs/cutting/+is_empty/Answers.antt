@@ -1,9 +1,7 @@
 use Rattle.std.proofs.Common.{rules, ◌≡◌, ◌-◌, ◌<◌, [], None, arith, sym, ap, ◌∙◌, length}
-use Rattle.slab.specs.Slab.{ContainsKey}
-use Rattle.tree_array.specs.Arrivals.{Arrivals}
-use Rattle.tree_node.specs.Tree.{Stands, keyed, walk}
+use Rattle.tree_array.proofs.Common.{Arrivals}
+use Rattle.tree_node.proofs.Common.{ContainsKey, Stands, keyed, walk, fits}
 use Rattle.tree_node.proofs.Children.{walk-leaf}
-use Rattle.tree_node.proofs.Sizes.{fits}
 use Rattle.tree_cut.specs.Parts.{IsAt, part_id}
 use Rattle.tree_cut.proofs.EmptyParts.{empty_leaf, keyed_pair, only_child}
 use Rattle.tree_cut.proofs.Ends.{above_leaves, at_leaves, has_last, kind_below, leaf_used, stands_above, used}

@@ -1,5 +1,5 @@
 use Rattle.std.proofs.Common.{rules, arith, refl}
-use Rattle.tree_node.proofs.Sizes.{fits}
+use Rattle.tree_node.proofs.Common.{fits}
 use Rattle.tree_cut.proofs.CutLeaves.{leaf_cut, range_few}
 use Rattle.tree_cut.proofs.cutting.cut_leaf.Goals as goal
 

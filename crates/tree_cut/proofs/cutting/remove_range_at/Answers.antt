@@ -1,7 +1,6 @@
 use Rattle.std.proofs.Common.{rules, None, arith, sym, ap, length}
-use Rattle.slab.specs.Slab.{ContainsKey, get}
+use Rattle.tree_node.proofs.Common.{ContainsKey, get, fits}
 use Rattle.tree_node.proofs.NodeKinds.{node_used}
-use Rattle.tree_node.proofs.Sizes.{fits}
 use Rattle.tree_node.proofs.Standing.{no_children}
 use Rattle.tree_cut.proofs.Tops.{at_node, childless_cut, children_count, retired_node, standing, stands_used}
 use Rattle.tree_cut.proofs.cutting.remove_range_at.Goals as goal

@@ -1,7 +1,5 @@
 use Rattle.std.proofs.Common.{rules, ◌-◌, ◌<◌, None}
-use Rattle.slab.specs.Slab.{ContainsKey}
-use Rattle.tree_node.specs.Tree.{Stands}
-use Rattle.tree_node.proofs.Sizes.{fits}
+use Rattle.tree_node.proofs.Common.{ContainsKey, Stands, fits}
 use Rattle.tree_cut.specs.Parts.{IsAt, part_id}
 use Rattle.tree_cut.proofs.Ends.{above_leaves, at_leaves, end_is, end_of_leaf, end_stands, has_last, kind_below, stands_above, used}
 use Rattle.tree_cut.proofs.dropping.+end_leaf.Goals as goal

@@ -1,7 +1,6 @@
 use Rattle.std.proofs.Common.{rules, ◌-◌, ◌<◌, arith, sym, ap, ◌∙◌, ◌∷◌, [], length}
-use Rattle.slab.specs.Slab.{ContainsKey}
-use Rattle.tree_array.specs.Arrivals.{Arrivals}
-use Rattle.tree_node.proofs.Sizes.{fits}
+use Rattle.tree_array.proofs.Common.{Arrivals}
+use Rattle.tree_node.proofs.Common.{ContainsKey, fits}
 use Rattle.tree_cut.specs.Parts.{IsAt, IsForest, part_id}
 use Rattle.tree_cut.proofs.Ends.{above_leaves, at_leaves, leaf_used, stands_above, used}
 use Rattle.tree_cut.proofs.FreeNodes.{next_left, none_left, taken_out}

@@ -1,6 +1,5 @@
-use Rattle.std.proofs.Common.{Some, ◌-◌, drop, length}
-use Rattle.std.specs.List.{flat_map}
-use Rattle.tree_node.specs.Tree.{node_children, walk}
+use Rattle.std.proofs.Common.{Some, ◌-◌, drop, length, flat_map}
+use Rattle.tree_node.proofs.Common.{node_children, walk}
 use Rattle.tree_cut.proofs.Frees.{AreLeft}
 use Rattle.tree_cut.proofs.dropping.+free_part.Given as goal
 

@@ -1,5 +1,5 @@
 use Rattle.std.proofs.Common.{rules}
-use Rattle.slab.specs.Slab.{ContainsKey}
+use Rattle.tree_node.proofs.Common.{ContainsKey}
 use Rattle.tree_cut.proofs.Counts.{pairs_fit}
 use Rattle.tree_cut.proofs.Ends.{stands_above, used}
 use Rattle.tree_cut.proofs.dropping.count_fits.Goals as goal
@@ -11,4 +11,4 @@ node-requires g c =
     search rules
 
 pub returns : goal.returns
-returns g c = pairs_fit g.K.Ord.cmp c.args.level c.args.arenas.now c.args.id c.requires.forest c.slots_left-slots.ensures.len (rw c.leaf_count-leaves.ensures at c.leaf_count-leaves.type_inv)
+returns g c = pairs_fit g.K.Ord.cmp c.args.level c.args.arenas.now c.args.id c.requires.forest c.slots_left.ensures.len (rw c.leaf_count.ensures at c.leaf_count.type_inv)

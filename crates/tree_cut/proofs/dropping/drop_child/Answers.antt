@@ -1,7 +1,5 @@
 use Rattle.std.proofs.Common.{rules, ◌-◌, arith}
-use Rattle.slab.specs.Slab.{ContainsKey}
-use Rattle.tree_node.specs.Tree.{keyed, unbounded}
-use Rattle.tree_node.proofs.Sizes.{fits}
+use Rattle.tree_node.proofs.Common.{ContainsKey, keyed, unbounded, fits}
 use Rattle.tree_cut.specs.Parts.{part_id}
 use Rattle.tree_cut.proofs.NodeSteps.{child_at, dropped, keyed_here, node_at, node_used, none_after_drop, none_past, part_below, slot_stays}
 use Rattle.tree_cut.proofs.dropping.drop_child.Goals as goal

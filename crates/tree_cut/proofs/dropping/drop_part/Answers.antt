@@ -1,6 +1,5 @@
 use Rattle.std.proofs.Common.{rules, sym, ap, ◌∙◌, length}
-use Rattle.slab.specs.Slab.{ContainsKey}
-use Rattle.tree_node.proofs.Sizes.{fits}
+use Rattle.tree_node.proofs.Common.{ContainsKey, fits}
 use Rattle.tree_cut.proofs.Ends.{first_used, last_used, left_used, right_used, spliced_forest, spliced_walk, part_dropped}
 use Rattle.tree_cut.proofs.dropping.drop_part.Goals as goal
 

@@ -1,8 +1,7 @@
 use Rattle.std.proofs.Common.{rules, ◌≡◌, ◌<◌, IsSome}
-use Rattle.slab.specs.Slab.{get}
+use Rattle.tree_node.proofs.Common.{get, fits}
 use Rattle.tree_node.specs.declared.node.NodeOf.TheVariants.{Internal, Leaf}
 use Rattle.tree_node.proofs.Routes.{routed_past}
-use Rattle.tree_node.proofs.Sizes.{fits}
 use Rattle.tree_descent.proofs.Ways.{arrives, goes_down, is_there, not_internal, not_leaf, starts, stops, stops_at}
 use Rattle.tree_descent.proofs.descent.leaf_for.Goals as goal
 

@@ -1,8 +1,7 @@
 use Rattle.std.proofs.Common.{rules, ◌≡◌, None, ◌<◌, ◌∙◌, refl, sym, arith}
-use Rattle.slab.specs.Slab.{ContainsKey}
-use Rattle.tree_array.specs.Length.{searched}
+use Rattle.tree_node.proofs.Common.{ContainsKey, child_of}
 use Rattle.tree_node.specs.declared.node.NodeOf.TheVariants.{Internal, Leaf}
-use Rattle.tree_node.specs.Tree.{child_of}
+use Rattle.tree_array.specs.Length.{searched}
 use Rattle.tree_descent.proofs.Asked.{asked_last, asked_on}
 use Rattle.tree_descent.proofs.Found.{arrives, goes_down, is_there, starts, stops}
 use Rattle.tree_descent.proofs.look_ups.leaf_by.Goals as goal

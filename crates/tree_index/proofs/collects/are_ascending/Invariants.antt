@@ -1,5 +1,5 @@
 use Rattle.std.proofs.Common.{length}
-use Rattle.tree_model.specs.Pairs.{IsAscending}
+use Rattle.tree_model.proofs.Common.{IsAscending}
 use Rattle.tree_index.proofs.collects.are_ascending.Given as goal
 
 -- what was passed ascends where the rest does

@@ -1,6 +1,6 @@
+use Rattle.tree_model.proofs.Common.{HasBegun, rest}
+use Rattle.tree_model.specs.declared.way.Way.TheVariants.{On}
 use denote.Param.Always.{always_mut}
-use Rattle.tree_chain.specs.declared.stand.Way.TheVariants.{On}
-use Rattle.tree_cursor_model.specs.Rest.{HasBegun, rest}
 use Rattle.tree_ranges.specs.Ranged.{moves_left}
 use Rattle.tree_index.proofs.Refused.{HasPassed}
 use Rattle.tree_index.proofs.retain.refused_place.Given as goal

@@ -1,11 +1,11 @@
 use Rattle.std.proofs.Common.{rules, ◌<◌, ◌-◌, inl, arith}
+use Rattle.tree_node.proofs.Common.{fits}
+use Rattle.tree_node.specs.declared.node.NodeOf.TheVariants.{Internal, Leaf}
 use Rattle.tree_split.specs.Splits.{LacksRoom, SplitsChild}
 use Rattle.tree_insert.proofs.Attempts.{fewer_below}
 use Rattle.tree_insert.proofs.Descents.{full_under, has_none, has_some, refused_below, stored_below, under}
 use Rattle.tree_insert.proofs.Retries.{held_above, child_part_at, last_attempt, no_room_either, part_with_room, refused_room, retried, room_by_split, which_still}
-use Rattle.tree_node.specs.declared.node.NodeOf.TheVariants.{Internal, Leaf}
 use Rattle.tree_node.proofs.NodeKinds.{child_inside, inner_level, node_used, outer_level}
-use Rattle.tree_node.proofs.Sizes.{fits}
 use Rattle.tree_insert.proofs.insertion.+insert_from.Goals as goal
 
 pub node-requires : goal.node-requires

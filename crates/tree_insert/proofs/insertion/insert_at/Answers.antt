@@ -1,5 +1,5 @@
 use Rattle.std.proofs.Common.{Ok, ap}
-use Rattle.tree_node.proofs.Sizes.{fits}
+use Rattle.tree_node.proofs.Common.{fits}
 use Rattle.tree_descent.proofs.Ways.{part_not_retired}
 use Rattle.tree_insert.proofs.insertion.insert_at.Goals as goal
 

@@ -1,11 +1,11 @@
 use Rattle.std.proofs.Common.{arith, Some}
+use Rattle.tree_node.proofs.Common.{fits}
 use Rattle.tree_split.specs.Splits.{LacksRoom, RoomResult}
 use Rattle.tree_leaf_split.proofs.LeafRooms.{leaf_used}
 use Rattle.tree_insert.proofs.Descents.{no_split}
 use Rattle.tree_insert.proofs.LeafNodes.{leaf_full, leaf_stored, room_stored}
 use Rattle.tree_insert.proofs.Retries.{no_room_either, part_with_room, refused_room, retried, which_still}
 use Rattle.tree_node.proofs.LeafWrites.{with_array}
-use Rattle.tree_node.proofs.Sizes.{fits}
 use Rattle.tree_insert.proofs.insertion.insert_under_leaf_node.Goals as goal
 
 pub leaf_mut-requires : goal.leaf_mut-requires

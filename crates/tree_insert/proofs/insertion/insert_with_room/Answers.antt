@@ -1,8 +1,8 @@
 use Rattle.std.proofs.Common.{◌≡◌, Some, false, true, refl, sym, ◌∙◌}
-use Rattle.tree_array.specs.Insertion.{IsFull}
+use Rattle.tree_array.proofs.Common.{IsFull}
+use Rattle.tree_node.proofs.Common.{fits}
 use Rattle.tree_insert.proofs.Inserts.{inserts_in_leaf}
 use Rattle.tree_insert.proofs.Ways.{inserts_on_way, leaf_on_way, takes_one}
-use Rattle.tree_node.proofs.Sizes.{fits}
 use Rattle.tree_descent.proofs.Ways.{part_not_retired}
 use Rattle.tree_split.proofs.Fulls.{none_free}
 use Rattle.tree_insert.proofs.insertion.insert_with_room.Goals as goal

@@ -1,12 +1,11 @@
 use Rattle.std.proofs.Common.{arith, refl, ap, ◌∙◌}
-use Rattle.slab.specs.Slab.{ContainsKey, Slab, get, with_value}
-use Rattle.slab.proofs.SlabLemmas.{Updates-with_value}
-use Rattle.tree_array.specs.Arrivals.{Arrivals}
-use Rattle.tree_leaf.specs.Arena.{HasPlaces}
+use Rattle.tree_array.proofs.Common.{Arrivals}
+use Rattle.tree_node.proofs.Common.{ContainsKey, Slab, get, with_value, fits}
 use Rattle.tree_node.specs.declared.node.NodeOf.TheVariants.{Leaf}
+use Rattle.slab.proofs.SlabLemmas.{Updates-with_value}
+use Rattle.tree_leaf.specs.Arena.{HasPlaces}
 use Rattle.tree_node.proofs.Bare.{has_only, some_slots}
 use Rattle.tree_node.proofs.Unchanged.{unchanged_by_keeping}
-use Rattle.tree_node.proofs.Sizes.{fits}
 use Rattle.tree_split.proofs.Variants.{children_fit}
 use Rattle.tree_insert.proofs.FirstPairs.{packed_first}
 use Rattle.tree_insert.proofs.planting.plant_again.Goals as goal

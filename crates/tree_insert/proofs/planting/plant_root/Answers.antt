@@ -1,10 +1,9 @@
 use Rattle.std.proofs.Common.{None, refl, ap, ◌∙◌}
-use Rattle.slab.specs.Slab.{Slab, get}
-use Rattle.tree_array.specs.Arrivals.{Arrivals}
+use Rattle.tree_array.proofs.Common.{Arrivals}
+use Rattle.tree_node.proofs.Common.{Slab, get, fits}
 use Rattle.tree_node.specs.declared.node.NodeOf.TheVariants.{Leaf}
 use Rattle.tree_node.proofs.Bare.{bare_leaves, bare_nodes, has_only, some_slots}
 use Rattle.tree_node.proofs.Unchanged.{unchanged_by_keeping}
-use Rattle.tree_node.proofs.Sizes.{fits}
 use Rattle.tree_insert.proofs.FirstPairs.{packed_first}
 use Rattle.tree_insert.proofs.planting.plant_root.Goals as goal
 

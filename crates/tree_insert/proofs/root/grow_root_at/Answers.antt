@@ -1,7 +1,6 @@
-use Rattle.std.proofs.Common.{rules, ◌⊎◌, Result, Ok, Err, inl, inr}
-use Rattle.std.specs.Result.{IfOk}
+use Rattle.std.proofs.Common.{rules, ◌⊎◌, Result, Ok, Err, inl, inr, IfOk}
+use Rattle.tree_node.proofs.Common.{fits}
 use Rattle.tree_node.proofs.NodeKinds.{node_used, not_retired, retired_node}
-use Rattle.tree_node.proofs.Sizes.{fits}
 use Rattle.tree_insert.proofs.Replants.{retired_first}
 use Rattle.tree_insert.proofs.root.grow_root_at.Goals as goal
 

@@ -1,10 +1,9 @@
 use Rattle.std.proofs.Common.{refl, sym, ap, ◌∙◌}
-use Rattle.slab.specs.Slab.{ContainsKey, Slab, get}
-use Rattle.slab.proofs.SlabLemmas.{Updates-with_value}
-use Rattle.tree_array.specs.Arrivals.{Arrivals}
+use Rattle.tree_array.proofs.Common.{Arrivals}
+use Rattle.tree_node.proofs.Common.{ContainsKey, Slab, get, fits}
 use Rattle.tree_node.specs.declared.node.NodeOf.TheVariants.{Leaf}
+use Rattle.slab.proofs.SlabLemmas.{Updates-with_value}
 use Rattle.tree_node.proofs.Unchanged.{unchanged_by_keeping}
-use Rattle.tree_node.proofs.Sizes.{fits}
 use Rattle.tree_node.proofs.Standing.{no_children}
 use Rattle.tree_insert.proofs.Replants.{replants}
 use Rattle.tree_split.proofs.Results.{on_err}

@@ -1,11 +1,11 @@
 use Rattle.std.proofs.Common.{rules, ◌+◌, ◌<◌, arith, inl}
+use Rattle.tree_node.proofs.Common.{fits}
 use Rattle.slab.specs.Slab.{HasRoomFor}
 use Rattle.tree_leaf.specs.Arena.{HasPlaces}
 use Rattle.tree_node.proofs.Bounds.{part_levels}
 use Rattle.tree_node.proofs.NodeKinds.{node_used}
 use Rattle.tree_insert.proofs.Raises.{raises_at, top_part_at, top_room_at}
 use Rattle.tree_split.proofs.Results.{on_err}
-use Rattle.tree_node.proofs.Sizes.{fits}
 use Rattle.tree_node.proofs.Unchanged.{unchanged_by_keeping}
 use Rattle.tree_insert.proofs.root.split_root_at.Goals as goal
 

@@ -1,11 +1,6 @@
-use Rattle.std.proofs.Common.{◌≡◌, ◌⊎◌, ◌∙◌, false, List, [], ◌∷◌, ◌++◌, Option, Some, refl, sym, inl, inr}
-use Rattle.std.specs.List.{AllByRecursion}
-use Rattle.std.specs.declared.cmp.Ordering.{Ordering}
-use Rattle.std.specs.declared.cmp.Ordering.TheVariants.{Less, Equal, Greater}
-use Rattle.std.specs.Ordering.{is_lt}
-use Rattle.std.specs.Cmp.{IsTotalOrder}
-use Rattle.tree_model.specs.Pairs.{IsAscending}
-use Rattle.tree_model.proofs.Lists.{all_map}
+use Rattle.std.proofs.Common.{◌≡◌, ◌⊎◌, ◌∙◌, false, List, [], ◌∷◌, ◌++◌, Option, Some, refl, sym, inl, inr, Ordering, Less, Equal, Greater, is_lt}
+use Rattle.tree_model.proofs.Common.{AllByRecursion, IsTotalOrder, IsAscending}
+use Rattle.tree_array.proofs.Common.{all_map}
 use Rattle.tree_node.proofs.Cuts.{smaller_front}
 use Rattle.tree_split.specs.Splits.{all_smaller}
 use Rattle.tree_split.proofs.PackedSplits.{beyond_last}

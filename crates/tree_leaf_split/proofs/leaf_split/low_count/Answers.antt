@@ -1,5 +1,5 @@
 use Rattle.std.proofs.Common.{◌≡◌, ◌∙◌, ap, sym, length, arith, inl, inr}
-use Rattle.tree_array.specs.Arrivals.{ascents, reachable}
+use Rattle.tree_array.proofs.Common.{ascents, reachable}
 use Rattle.tree_split.proofs.Ascended.{as_if_anew}
 use Rattle.tree_split.proofs.Boundaries.{boundary_count, few_by_boundary, many_by_boundary, parted_by}
 use Rattle.tree_split.proofs.PackedSplits.{all_beyond}

@@ -1,17 +1,13 @@
 use Rattle.std.proofs.Common.{rules, ◌≡◌, ◌∙◌, ◌<◌, ◌≤◌, ◌==◌, ℕ, true, length, arith, Option, None, Some, refl, sym, ap}
-use Rattle.std.proofs.lemmas.Bool.Decides.{nat_tests}
-use Rattle.std.specs.Option.{option_eq}
-use Rattle.slab.specs.Slab.{get}
-use Rattle.tree_array.specs.Length.{limit}
-use Rattle.tree_array.specs.Sound.{IsSound}
-use Rattle.tree_array.specs.Insertion.{HasRoom}
+use Rattle.tree_model.proofs.Common.{nat_tests}
+use Rattle.tree_array.proofs.Common.{limit, IsSound, HasRoom}
+use Rattle.tree_node.proofs.Common.{get, fits, keyed}
 use Rattle.tree_node.specs.declared.node.NodeOf.TheVariants.{Leaf}
+use Rattle.std.specs.Option.{option_eq}
 use Rattle.tree_split.specs.Splits.{IsCut, is_at, low_part, GoesWhole}
 use Rattle.tree_split.proofs.Fulls.{full_room, not_full_room}
 use Rattle.tree_leaf_split.proofs.LeafRooms.{entries_kept, entries_parted, gives_all, leaf_room_by_rebuild, leaf_used}
 use Rattle.tree_split.proofs.Results.{on_err, same_value, of_value}
-use Rattle.tree_node.proofs.Sizes.{fits}
-use Rattle.tree_node.specs.Tree.{keyed}
 use Rattle.tree_leaf_split.proofs.leaf_split.make_room.Goals as goal
 
 equal_itself : (n : ℕ) → (n == n) ≡ true

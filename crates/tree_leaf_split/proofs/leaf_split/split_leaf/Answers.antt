@@ -1,10 +1,8 @@
 use Rattle.std.proofs.Common.{rules, ◌≡◌, ◌-◌, ◌∙◌, drop, take, slice_get, None, Some, refl, arith}
-use Rattle.slab.specs.Slab.{ContainsKey}
-use Rattle.tree_array.specs.Arrivals.{in_order}
-use Rattle.tree_node.specs.Tree.{Stands}
+use Rattle.tree_array.proofs.Common.{in_order}
+use Rattle.tree_node.proofs.Common.{ContainsKey, Stands, fits}
 use Rattle.tree_leaf_split.proofs.LeafRooms.{chain_through, entries_shared, home_by_split, leaf_read, leaf_room_by_split, leaf_used, parent_kind, parent_was, room_after_write, separator_is_new}
 use Rattle.tree_split.proofs.Results.{on_err}
-use Rattle.tree_node.proofs.Sizes.{fits}
 use Rattle.tree_node.proofs.Unchanged.{unchanged_by_keeping}
 use Rattle.tree_leaf_split.proofs.leaf_split.split_leaf.Goals as goal
 

@@ -1,5 +1,5 @@
 use Rattle.std.proofs.Common.{◌≡◌, ℕ, List, Option, Some, ap, refl}
-use Rattle.std.specs.declared.ops.Bound.TheVariants.{Unbounded}
+use Rattle.tree_model.proofs.Common.{Unbounded}
 use Rattle.tree_lines.specs.declared.requests.Request.{Request}
 use Rattle.tree_lines.specs.declared.requests.Request.TheVariants.{Iter}
 use Rattle.tree_lines.specs.Lines.{inside, pairs_text}

@@ -1,5 +1,5 @@
 use Rattle.std.proofs.Common.{refl}
-use mathlib.Core.Bool.{false≢true}
+use Rattle.tree_model.proofs.Common.{false≢true}
 use Rattle.tree_lines.specs.Progress.{answer_text}
 use Rattle.tree_lines.proofs.Endings.{ends_empty, ends_line}
 use Rattle.tree_lines.proofs.lines.end_lines.Goals as goal

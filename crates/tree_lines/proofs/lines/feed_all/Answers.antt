@@ -1,8 +1,7 @@
-use Rattle.std.proofs.Common.{◌+◌, [], ◌∷◌, ◌++◌, take, drop, get_or, sym, ap, ◌∙◌}
+use Rattle.std.proofs.Common.{◌+◌, [], ◌∷◌, ◌++◌, take, drop, get_or, sym, ap, ◌∙◌, take-append-drop}
+use Rattle.tree_model.proofs.Common.{err_from_is_err_and}
 use Rattle.std.proofs.KnownBytes.{Appends-nil, Appends-trans}
 use Rattle.std.proofs.lemmas.Grind.{take_at_read}
-use Rattle.std.proofs.lemmas.List.{take-append-drop}
-use Rattle.std.proofs.lemmas.Result.{err_from_is_err_and}
 use Rattle.tree_lines.proofs.Steps.{carries_none, carries_more, breaks_among}
 use Rattle.tree_lines.proofs.lines.feed_all.Goals as goal
 

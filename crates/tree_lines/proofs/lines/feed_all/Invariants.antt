@@ -1,5 +1,5 @@
 use Rattle.std.proofs.Common.{List, ℕ, take}
-use Rattle.std.specs.Io.KnownBytes.{Appends}
+use Rattle.tree_model.proofs.Common.{Appends}
 use Rattle.tree_lines.specs.Progress.{Carries}
 use Rattle.tree_lines.proofs.lines.feed_all.Given as goal
 

@@ -1,4 +1,4 @@
-use Rattle.std.proofs.Common.{[], ◌++◌, append-nil, arith}
+use Rattle.std.proofs.Common.{[], ◌++◌, append-nil, rules}
 use Rattle.std.specs.Io.KnownBytes.{Consumes}
 use Rattle.std.proofs.KnownBytes.{Appends-nil, Appends-trans, Consumes-nil, Consumes-trans, Consumes-kept}
 use Rattle.tree_lines.proofs.Steps.{carries_none, carries_more}
@@ -31,14 +31,14 @@ pub returns-in-Ok-end_lines : goal.returns-in-Ok-end_lines
 returns-in-Ok-end_lines g c =
     let none : Consumes (g.R.Read.remaining c.loop.input) (g.R.Read.remaining c.read.new.self) [] = rw c.if-count-eq0.true at c.in-Ok.ensures.bytes.0 in
     let taken : Consumes (g.R.Read.remaining c.args.input.now) (g.R.Read.remaining c.read.new.self) c.loop.invariant.read = rw append-nil at (Consumes-trans _ _ _ _ _ c.loop.invariant.taken none) in
-    runs_to_end g.row.LEN c.args.index.now.pairs c.loop.index.pairs _ _ _ _ _ _ c.loop.line taken c.loop.invariant.out c.loop.invariant.carried c.end_lines.new.index.pairs _ (c.in-Ok.ensures.bytes.1 c.if-count-eq0.true (omega arith)) c.in-Ok-end_lines.ensures
+    runs_to_end g.row.LEN c.args.index.now.pairs c.loop.index.pairs _ _ _ _ _ _ c.loop.line taken c.loop.invariant.out c.loop.invariant.carried c.end_lines.new.index.pairs _ (c.in-Ok.ensures.bytes.1 c.if-count-eq0.true (search rules)) c.in-Ok-end_lines.ensures
 
 -- the answer to the last line broke off
 pub returns-in-Err : goal.returns-in-Err
 returns-in-Err g c =
     let none : Consumes (g.R.Read.remaining c.loop.input) (g.R.Read.remaining c.read.new.self) [] = rw c.if-count-eq0.true at c.in-Ok.ensures.bytes.0 in
     let taken : Consumes (g.R.Read.remaining c.args.input.now) (g.R.Read.remaining c.read.new.self) c.loop.invariant.read = rw append-nil at (Consumes-trans _ _ _ _ _ c.loop.invariant.taken none) in
-    runs_to_last g.row.LEN c.args.index.now.pairs c.loop.index.pairs _ _ _ _ _ _ c.loop.line taken c.loop.invariant.out c.loop.invariant.carried c.end_lines.new.index.pairs _ (c.in-Ok.ensures.bytes.1 c.if-count-eq0.true (omega arith)) c.in-Err.ensures
+    runs_to_last g.row.LEN c.args.index.now.pairs c.loop.index.pairs _ _ _ _ _ _ c.loop.line taken c.loop.invariant.out c.loop.invariant.carried c.end_lines.new.index.pairs _ (c.in-Ok.ensures.bytes.1 c.if-count-eq0.true (search rules)) c.in-Err.ensures
 
 -- a write failed
 pub returns-in_default-feed_all : goal.returns-in_default-feed_all

@@ -1,6 +1,6 @@
-use Rattle.std.proofs.Common.{List, [], ℕ}
-use Rattle.std.specs.Prelude.{Some}
-use Rattle.std.specs.Io.KnownBytes.{Appends, Consumes}
+use Rattle.std.proofs.Common.{List, [], ℕ, Some}
+use Rattle.tree_model.proofs.Common.{Appends}
+use Rattle.std.specs.Io.KnownBytes.{Consumes}
 use Rattle.tree_lines.specs.Progress.{Carries}
 use Rattle.tree_lines.proofs.lines.run_lines.Given as goal
 

@@ -1,8 +1,7 @@
-use Rattle.std.proofs.Common.{ℕ, refl, subst, sym, ◌∙◌}
-use mathlib.Core.Bool.{false≢true}
+use Rattle.std.proofs.Common.{ℕ, refl, subst, sym, ◌∙◌, IsUtf8}
+use Rattle.tree_model.proofs.Common.{false≢true}
 use Rattle.std.proofs.lemmas.Fmt.{parse-decimal, IsAscii-decimal}
 use Rattle.std.proofs.lemmas.Str.{IsUtf8-from_ascii}
-use Rattle.std.specs.Str.{IsUtf8}
 use Rattle.tree_lines.specs.Words.{IsPlain}
 use Rattle.tree_lines.proofs.Decimals.{IsPlain-decimal, number_read}
 use Rattle.tree_lines.proofs.numbers.number_of.Goals as goal

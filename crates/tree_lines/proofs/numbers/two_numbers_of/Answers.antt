@@ -1,4 +1,4 @@
-use Rattle.std.specs.Fmt.{decimal}
+use Rattle.std.proofs.Common.{decimal}
 use Rattle.tree_lines.specs.Words.{FitsWord}
 use Rattle.tree_lines.proofs.FirstWords.{unparted, unread_first, unread_second}
 use Rattle.tree_lines.proofs.Decimals.{IsWord-decimal}

@@ -1,8 +1,8 @@
 use Rattle.std.proofs.Common.{refl}
-use Rattle.std.proofs.lemmas.Result.{err_from_is_err_and}
-use Rattle.tree_chain.specs.declared.stand.Way.TheVariants.{On}
+use Rattle.tree_model.proofs.Common.{err_from_is_err_and}
+use Rattle.tree_model.specs.declared.way.Way.TheVariants.{On}
+use Rattle.tree_node.proofs.Common.{fits}
 use Rattle.tree_lines.proofs.Pieces.{line_ends, line_fails, line_goes_on, line_of_all}
-use Rattle.tree_node.proofs.Sizes.{fits}
 use Rattle.tree_lines.proofs.pairs.write_ascending.Goals as goal
 
 pub loop-key-init : goal.loop-key-init

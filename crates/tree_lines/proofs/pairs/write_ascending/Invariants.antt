@@ -1,4 +1,4 @@
-use Rattle.tree_chain.specs.declared.stand.Way.TheVariants.{On}
+use Rattle.tree_model.specs.declared.way.Way.TheVariants.{On}
 use Rattle.tree_lines.specs.Lines.{inside, pairs_text, with_feed}
 use Rattle.tree_lines.proofs.Pieces.{IsLineBegun}
 use Rattle.tree_lines.proofs.pairs.write_ascending.Given as goal

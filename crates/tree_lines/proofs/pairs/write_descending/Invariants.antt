@@ -1,5 +1,5 @@
-use Rattle.std.specs.Prelude.{reverse}
-use Rattle.tree_chain.specs.declared.stand.Way.TheVariants.{Back}
+use Rattle.std.proofs.Common.{reverse}
+use Rattle.tree_model.specs.declared.way.Way.TheVariants.{Back}
 use Rattle.tree_ranges.specs.Ranged.{moves_left}
 use Rattle.tree_lines.specs.Lines.{pairs_text, with_feed}
 use Rattle.tree_lines.proofs.Pieces.{IsLineBegun}

@@ -1,9 +1,8 @@
-use Rattle.std.proofs.Common.{sym, subst, ◌∙◌}
-use Rattle.std.specs.Ordering.{nat_cmp}
-use Rattle.tree_model.specs.Pairs.{IsAscending}
-use Rattle.tree_cursor_model.specs.declared.proximity.ProximityOf.TheVariants.{Exact, Between, Smaller, Larger, Empty}
+use Rattle.std.proofs.Common.{sym, subst, ◌∙◌, nat_cmp}
+use Rattle.tree_model.proofs.Common.{IsAscending}
+use Rattle.tree_node.proofs.Common.{fits}
+use Rattle.tree_model.specs.declared.proximity.ProximityOf.TheVariants.{Exact, Between, Smaller, Larger, Empty}
 use Rattle.tree_lines.proofs.Located.{tells_near}
-use Rattle.tree_node.proofs.Sizes.{fits}
 use Rattle.tree_lines.proofs.pairs.write_near.Goals as goal
 
 pub returns-in-Exact : goal.returns-in-Exact

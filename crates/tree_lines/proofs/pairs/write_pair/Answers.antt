@@ -1,5 +1,4 @@
-use Rattle.std.proofs.Common.{[], ◌∷◌, ◌++◌, length-append, arith}
-use Rattle.std.specs.Fmt.{decimal}
+use Rattle.std.proofs.Common.{[], ◌∷◌, ◌++◌, length-append, arith, decimal}
 use Rattle.tree_lines.proofs.Decimals.{length-decimal}
 use Rattle.tree_lines.proofs.pairs.write_pair.Goals as goal
 

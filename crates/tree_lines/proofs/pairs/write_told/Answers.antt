@@ -1,6 +1,5 @@
 use Rattle.std.proofs.Common.{refl}
-use Rattle.std.proofs.lemmas.Result.{err_from_is_err_and}
-use Rattle.tree_cursor_model.specs.Rest.{lent}
+use Rattle.tree_model.proofs.Common.{err_from_is_err_and, lent}
 use Rattle.tree_lines.proofs.Pieces.{ends_text, more_begun, piece_fails, told_word, told_word_fails}
 use Rattle.tree_lines.proofs.pairs.write_told.Goals as goal
 

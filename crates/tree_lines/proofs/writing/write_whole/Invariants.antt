@@ -1,5 +1,5 @@
 use Rattle.std.proofs.Common.{◌≡◌, ℕ, List, ◌++◌, length}
-use Rattle.std.specs.Io.KnownBytes.{Appends}
+use Rattle.tree_model.proofs.Common.{Appends}
 use Rattle.tree_lines.proofs.writing.write_whole.Given as goal
 
 -- what was written, and the rest

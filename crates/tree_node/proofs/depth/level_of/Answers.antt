@@ -1,6 +1,5 @@
 use Rattle.std.proofs.Common.{rules, arith, ◌<◌}
-use Rattle.slab.specs.Slab.{ContainsKey}
-use Rattle.tree_node.specs.Tree.{StandsOrRetired}
+use Rattle.tree_node.proofs.Common.{ContainsKey, StandsOrRetired}
 use Rattle.tree_node.proofs.Depths.{starts, step, counted}
 use Rattle.tree_node.proofs.Levels.{node_at}
 use Rattle.tree_node.proofs.depth.level_of.Goals as goal

@@ -1,5 +1,4 @@
-use Rattle.std.proofs.Common.{◌≡◌, sym, ◌∙◌, ap}
-use Rattle.std.specs.Ordering.{is_gt}
+use Rattle.std.proofs.Common.{◌≡◌, sym, ◌∙◌, ap, is_gt}
 use Rattle.std.proofs.lemmas.Option.{same_Some}
 use Rattle.tree_model.proofs.Ascending.{greater_from_test}
 use Rattle.tree_node.proofs.Beyond.{beyond_last, last_exceeded}

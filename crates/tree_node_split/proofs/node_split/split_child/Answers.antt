@@ -1,14 +1,9 @@
 use Rattle.std.proofs.Common.{rules, ◌≡◌, ◌<◌, ◌≤◌, ◌∙◌, length, refl, sym, sub-one}
-use Rattle.slab.specs.Slab.{ContainsKey}
-use Rattle.tree_array.specs.Arrivals.{boundary}
-use Rattle.tree_array.specs.Insertion.{HasRoom}
-use Rattle.tree_array.specs.Length.{limit}
-use Rattle.tree_array.specs.Sound.{IsSound}
-use Rattle.tree_node.specs.Tree.{keyed}
+use Rattle.tree_array.proofs.Common.{boundary, HasRoom, limit, IsSound}
+use Rattle.tree_node.proofs.Common.{ContainsKey, keyed, fits}
 use Rattle.tree_split.proofs.Fulls.{full_room, not_full_room}
 use Rattle.tree_node_split.proofs.NodeRooms.{above_kind, above_was, child_used, node_read, node_room_after_write, parent_stays, parent_used, separator_is_new, split_anew, split_in_two, two_up}
 use Rattle.tree_split.proofs.Results.{on_err, same_value}
-use Rattle.tree_node.proofs.Sizes.{fits}
 use Rattle.tree_node.proofs.Unchanged.{unchanged_by_keeping}
 use Rattle.tree_split.proofs.Variants.{children_fit}
 use Rattle.tree_node_split.proofs.node_split.split_child.Goals as goal
@@ -40,7 +35,7 @@ pub returns-then-full-clause-done : goal.returns-then-full-clause-done
 returns-then-full-clause-done g c level deep part =
     let up = two_up level deep in
     rw up.1 (record {
-      full = rw c.node.ensures (full_room c.node.result.now (c.takes_no_more-full.ensures.0 c.if-full.true));
+      full = rw c.node.ensures (full_room c.node.result.now (c.is_full-full.ensures.0 c.if-full.true));
       many = rw (sub-one, c.node-2.ensures) c.in-Some.ensures.place.0;
       unchanged = record { leaves = λ n. refl; nodes = λ n. refl };
     })
@@ -55,8 +50,8 @@ node_mut-requires-2 g c =
       rw c.in_ok-reserve.ensures.0.nodes.slots (child_used g.met.K.Ord.total up.0 c.args.arenas.now c.args.parent c.args.target (rw up.1 at c.requires.part.2) c.requires.child),
     )
 
-pub cut_node-separator-requires : goal.cut_node-separator-requires
-cut_node-separator-requires g c =
+pub cut-separator-requires : goal.cut-separator-requires
+cut-separator-requires g c =
     let read : c.node-2.result.now ≡ c.node_mut-2.result.now =
     node_read c.args.arenas.now c.reserve.new.self c.in_ok-reserve.ensures.0 c.args.target c.node-2.result.now c.node_mut-2.result.now c.node-2.ensures c.node_mut-2.ensures.value in
     let within : c.in-Some.place < length (keyed c.node_mut-2.result.now).entries = rw read at c.in-Some.ensures.place.1 in
@@ -78,7 +73,7 @@ node_mut-requires-3 g c =
     let sound : IsSound g.K.Ord.cmp g.row.LEN (keyed c.node_mut-2.result.now) = rw read at c.place_to_part.ensures.sound in
     let rule : c.in-Some.place ≡ (boundary g.K.Ord.cmp g.row.LEN (keyed c.node_mut-2.result.now)).0 = rw read at c.in-Some.ensures.rule in
     let stays = parent_stays g.met.K.Ord.total up.0 c.args.arenas.now c.args.parent c.args.target (rw up.1 at c.requires.part.2) c.requires.child _ c.add_node.new.self _ c.in-Some.place c.node_mut-2.result.now _ _ _
-    c.in_ok-reserve.ensures.0 c.node_mut-2.ensures.value c.cut_node-separator.ensures c.in-Ok.ensures.nodes c.in-Ok.ensures.leaves within sound rule in
+    c.in_ok-reserve.ensures.0 c.node_mut-2.ensures.value c.cut-separator.ensures c.in-Ok.ensures.nodes c.in-Ok.ensures.leaves within sound rule in
     let there : ContainsKey c.add_node.new.self.nodes c.args.parent =
     rw stays (parent_used g.met.K.Ord.total up.0 c.args.arenas.now c.args.parent c.args.target (rw up.1 at c.requires.part.2) c.requires.child) in
     (search fits, there)
@@ -92,16 +87,16 @@ put_node-requires g c =
     let sound : IsSound g.K.Ord.cmp g.row.LEN (keyed c.node_mut-2.result.now) = rw read at c.place_to_part.ensures.sound in
     let rule : c.in-Some.place ≡ (boundary g.K.Ord.cmp g.row.LEN (keyed c.node_mut-2.result.now)).0 = rw read at c.in-Some.ensures.rule in
     let above = above_was g.met.K.Ord.total up.0 c.args.arenas.now c.args.parent c.args.target (rw up.1 at c.requires.part.2) c.requires.child _ c.add_node.new.self _ c.in-Some.place c.node_mut-2.result.now _ _ _
-    c.in_ok-reserve.ensures.0 c.node_mut-2.ensures.value c.cut_node-separator.ensures c.in-Ok.ensures.nodes c.in-Ok.ensures.leaves within sound rule _ c.node_mut-3.ensures.value in
+    c.in_ok-reserve.ensures.0 c.node_mut-2.ensures.value c.cut-separator.ensures c.in-Ok.ensures.nodes c.in-Ok.ensures.leaves within sound rule _ c.node_mut-3.ensures.value in
     let same : c.node.result.now ≡ c.node_mut-3.result.now = same_value _ _ (sym c.node.ensures ∙ above) in (
       search fits,
       (
         above_kind g.met.K.Ord.total up.0 c.args.arenas.now c.args.parent c.args.target (rw up.1 at c.requires.part.2) c.requires.child _ c.add_node.new.self _ c.in-Some.place c.node_mut-2.result.now _ _ _
-            c.in_ok-reserve.ensures.0 c.node_mut-2.ensures.value c.cut_node-separator.ensures c.in-Ok.ensures.nodes c.in-Ok.ensures.leaves within sound rule _ c.node_mut-3.ensures.value,
+            c.in_ok-reserve.ensures.0 c.node_mut-2.ensures.value c.cut-separator.ensures c.in-Ok.ensures.nodes c.in-Ok.ensures.leaves within sound rule _ c.node_mut-3.ensures.value,
         (
           separator_is_new g.met.K.Ord.total up.0 c.args.arenas.now c.args.parent c.args.target (rw up.1 at c.requires.part.2) c.requires.child _ c.add_node.new.self _ c.in-Some.place c.node_mut-2.result.now _ _ _
-              c.in_ok-reserve.ensures.0 c.node_mut-2.ensures.value c.cut_node-separator.ensures c.in-Ok.ensures.nodes c.in-Ok.ensures.leaves within sound rule _ c.node_mut-3.ensures.value,
-          rw (← same) (not_full_room c.node.result.now (λ full. let yes = c.takes_no_more-full.ensures.1 full in let no = c.if-full.false in cc)),
+              c.in_ok-reserve.ensures.0 c.node_mut-2.ensures.value c.cut-separator.ensures c.in-Ok.ensures.nodes c.in-Ok.ensures.leaves within sound rule _ c.node_mut-3.ensures.value,
+          rw (← same) (not_full_room c.node.result.now (λ full. let yes = c.is_full-full.ensures.1 full in let no = c.if-full.false in cc)),
         ),
       ),
     )
@@ -115,12 +110,12 @@ returns-clause-done g c level deep part =
     let sound : IsSound g.K.Ord.cmp g.row.LEN (keyed c.node_mut-2.result.now) = rw read at c.place_to_part.ensures.sound in
     let rule : c.in-Some.place ≡ (boundary g.K.Ord.cmp g.row.LEN (keyed c.node_mut-2.result.now)).0 = rw read at c.in-Some.ensures.rule in
     let above = above_was g.met.K.Ord.total up.0 c.args.arenas.now c.args.parent c.args.target (rw up.1 at part) c.requires.child _ c.add_node.new.self _ c.in-Some.place c.node_mut-2.result.now _ _ _
-    c.in_ok-reserve.ensures.0 c.node_mut-2.ensures.value c.cut_node-separator.ensures c.in-Ok.ensures.nodes c.in-Ok.ensures.leaves within sound rule _ c.node_mut-3.ensures.value in
+    c.in_ok-reserve.ensures.0 c.node_mut-2.ensures.value c.cut-separator.ensures c.in-Ok.ensures.nodes c.in-Ok.ensures.leaves within sound rule _ c.node_mut-3.ensures.value in
     let same : c.node.result.now ≡ c.node_mut-3.result.now = same_value _ _ (sym c.node.ensures ∙ above) in
-    let some : HasRoom g.row.LEN (keyed c.node_mut-3.result.now) = rw (← same) (not_full_room c.node.result.now (λ full. let yes = c.takes_no_more-full.ensures.1 full in let no = c.if-full.false in cc)) in
+    let some : HasRoom g.row.LEN (keyed c.node_mut-3.result.now) = rw (← same) (not_full_room c.node.result.now (λ full. let yes = c.is_full-full.ensures.1 full in let no = c.if-full.false in cc)) in
     rw up.1
     (split_in_two g.met.K.Ord.total up.0 c.args.arenas.now c.args.parent c.args.target (rw up.1 at part) c.requires.child _ c.add_node.new.self _ c.in-Some.place c.node_mut-2.result.now _ _ _
-    c.in_ok-reserve.ensures.0 c.node_mut-2.ensures.value c.cut_node-separator.ensures c.in-Ok.ensures.nodes c.in-Ok.ensures.leaves within sound rule _ c.node_mut-3.ensures.value _ some c.put_node.ensures)
+    c.in_ok-reserve.ensures.0 c.node_mut-2.ensures.value c.cut-separator.ensures c.in-Ok.ensures.nodes c.in-Ok.ensures.leaves within sound rule _ c.node_mut-3.ensures.value _ some c.put_node.ensures)
 
 pub drop-requires : goal.drop-requires
 drop-requires g c = search children_fit

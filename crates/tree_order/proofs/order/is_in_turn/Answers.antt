@@ -1,5 +1,4 @@
-use Rattle.std.proofs.Common.{sym, ◌∙◌, ap, arith}
-use Rattle.std.proofs.lemmas.Bool.{eqb-true}
+use Rattle.std.proofs.Common.{sym, ◌∙◌, ap, arith, eqb-true}
 use Rattle.tree_order.specs.Order.{named}
 use Rattle.tree_order.proofs.InTurn.{turn}
 use Rattle.tree_order.proofs.order.is_in_turn.Goals as goal

@@ -1,6 +1,5 @@
-use Rattle.std.proofs.Common.{◌≡◌, ◌+◌, suc, inl, inr, refl, sym, ◌∙◌, ap, arith}
+use Rattle.std.proofs.Common.{◌≡◌, ◌+◌, suc, inl, inr, refl, sym, ◌∙◌, ap, arith, length-set, get_or-set_same, get_or-set_other}
 use Rattle.std.proofs.lemmas.Bool.{cases_eq}
-use Rattle.std.proofs.lemmas.List.{length-set, get_or-set_same, get_or-set_other}
 use Rattle.tree_order.specs.Order.{named, ordinal_in}
 use Rattle.tree_order.proofs.InTurn.{ordinal_before, ordinal_here}
 use Rattle.tree_order.proofs.Word.{named_rest}

@@ -1,5 +1,5 @@
 use Rattle.std.proofs.Common.{rules}
-use Rattle.tree_node.proofs.Sizes.{fits}
+use Rattle.tree_node.proofs.Common.{fits}
 use Rattle.tree_ranges.proofs.Within.{first_taken, none_to_take}
 use Rattle.tree_ranges.proofs.approximate.first_at.Goals as goal
 

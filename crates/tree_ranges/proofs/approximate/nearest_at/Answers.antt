@@ -1,7 +1,6 @@
 use Rattle.std.proofs.Common.{◌≡◌, ◌∙◌, Some, sym}
-use Rattle.tree_chain.specs.Walks.{lent_entry}
-use Rattle.tree_chain.specs.Ways.{opposite}
-use Rattle.tree_node.specs.Tree.{walk}
+use Rattle.tree_model.proofs.Common.{lent_entry, opposite}
+use Rattle.tree_node.proofs.Common.{walk}
 use Rattle.tree_walk.specs.Ends.{first_on}
 use Rattle.tree_ranges.proofs.Within.{found_within, none_in_empty, none_within, part_ascends}
 use Rattle.tree_ranges.proofs.approximate.nearest_at.Goals as goal

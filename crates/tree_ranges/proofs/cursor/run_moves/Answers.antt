@@ -1,9 +1,9 @@
 use Rattle.std.proofs.Common.{◌≡◌, ◌≤◌, ◌+◌, length, arith}
+use Rattle.tree_model.proofs.Common.{IsAscending}
+use Rattle.tree_model.specs.declared.way.Way.TheVariants.{On, Back}
 use Rattle.std.proofs.lemmas.Grind.{common_steps}
-use Rattle.tree_model.specs.Pairs.{IsAscending}
-use Rattle.tree_cursor_model.specs.Moves.{after_all, answers, told}
-use Rattle.tree_cursor_model.specs.Rest.{StandsInside}
-use Rattle.tree_chain.specs.declared.stand.Way.TheVariants.{On, Back}
+use Rattle.tree_model.specs.Moves.{after_all, answers, told}
+use Rattle.tree_model.specs.Rest.{StandsInside}
 use Rattle.tree_ranges.proofs.Ended.{ended_all, inside_from}
 use Rattle.tree_ranges.proofs.cursor.run_moves.Goals as goal
 

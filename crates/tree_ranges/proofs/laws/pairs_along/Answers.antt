@@ -1,5 +1,5 @@
 use Rattle.std.proofs.Common.{◌∙◌}
-use Rattle.std.proofs.lemmas.List.{map-append}
+use Rattle.tree_model.proofs.Common.{map-append}
 use Rattle.tree_ranges.specs.Ranged.{way_of}
 use Rattle.tree_ranges.proofs.Moving.{comes_nearer}
 use Rattle.tree_ranges.proofs.Yields.{fresh_begun, rest_fresh, walked_all, walked_from, walked_on}

@@ -1,5 +1,4 @@
-use Rattle.std.proofs.Common.{◌∙◌, ap, sym, rules}
-use Rattle.std.specs.Prelude.{is_some}
+use Rattle.std.proofs.Common.{◌∙◌, ap, sym, rules, is_some}
 use Rattle.tree_cursors.specs.View.{Kept}
 use Rattle.tree_ranges.proofs.Nearest.{beside_none, beside_some}
 use Rattle.tree_ranges.proofs.Shown.{element_is}

@@ -1,5 +1,4 @@
-use Rattle.std.proofs.Common.{◌∙◌, ap, sym}
-use Rattle.std.specs.Prelude.{is_some}
+use Rattle.std.proofs.Common.{◌∙◌, ap, sym, is_some}
 use Rattle.tree_ranges.proofs.Nearest.{past_none, past_some}
 use Rattle.tree_ranges.proofs.Shown.{element_is}
 use Rattle.tree_ranges.proofs.locate.past_all.Goals as goal

@@ -1,9 +1,8 @@
 use Rattle.std.proofs.Common.{rules, arith}
-use Rattle.slab.specs.Slab.{ContainsKey}
+use Rattle.tree_node.proofs.Common.{ContainsKey, fits}
 use Rattle.tree_node.specs.declared.node.NodeOf.TheVariants.{Internal, Leaf}
 use Rattle.tree_remove.proofs.EmptiedLeaves.{above_leaf_nodes, before_of, child_fails, child_goes, child_retired, child_stays, dropped_part, dropped_removes, emptied_below, emptied_of, has_child, leaf_linked, leaf_slot, levels_below, node_now, stays_part, stays_removes}
 use Rattle.tree_remove.proofs.NodeRemovals.{settled_if_empty}
-use Rattle.tree_node.proofs.Sizes.{fits}
 use Rattle.tree_remove.specs.Takes.IsEmptied.{emptied_from}
 use Rattle.tree_remove.proofs.emptied.+drop_emptied.Goals as goal
 

@@ -1,4 +1,4 @@
-use Rattle.tree_node.proofs.Sizes.{fits}
+use Rattle.tree_node.proofs.Common.{fits}
 use Rattle.tree_remove.proofs.EntryPlaces.{absent_retired, absent_there, entry_there}
 use Rattle.tree_remove.proofs.Ways.{leaf_on_way}
 use Rattle.tree_remove.proofs.entries.entry_for.Goals as goal

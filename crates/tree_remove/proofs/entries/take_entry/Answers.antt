@@ -1,4 +1,4 @@
-use Rattle.tree_node.proofs.Sizes.{fits}
+use Rattle.tree_node.proofs.Common.{fits}
 use Rattle.tree_remove.proofs.EntryPlaces.{entry_emptied, entry_settled, entry_stays, found_in_leaf}
 use Rattle.tree_remove.specs.Takes.IsEmptied.{emptied_from}
 use Rattle.tree_remove.proofs.entries.take_entry.Goals.{in-Retired, in-Success, in-Fail}

@@ -1,6 +1,6 @@
 use Rattle.std.proofs.Common.{◌≡◌, ◌∙◌, true, [], Some, sym}
+use Rattle.tree_node.proofs.Common.{fits}
 use Rattle.tree_node.proofs.Children.{walk-leaf}
-use Rattle.tree_node.proofs.Sizes.{fits}
 use Rattle.tree_remove.proofs.EntryPlaces.{leaf_stored, stored_is, take_settled, takes_in_leaf}
 use Rattle.tree_remove.proofs.entries.take_slot.Goals as goal
 

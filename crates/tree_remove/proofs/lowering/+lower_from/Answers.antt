@@ -1,11 +1,7 @@
 use Rattle.std.proofs.Common.{rules, ◌≡◌, ◌⊎◌, ◌<◌, ◌-◌, false, true, inl, sym, ◌∙◌, arith}
-use Rattle.slab.specs.Slab.{ContainsKey, get}
-use Rattle.tree_node.specs.Parts.{IsPart}
-use Rattle.tree_node.specs.Tree.{IsOfLevel}
-use Rattle.tree_node.specs.Tree.{IsRetired}
+use Rattle.tree_node.proofs.Common.{ContainsKey, get, IsPart, IsOfLevel, IsRetired, fits}
 use Rattle.tree_node.proofs.NodeKinds.{node_used}
 use Rattle.tree_remove.proofs.Lowerings.{leaf_node_stays, keyed_stays, retired_gone, over_one, of_level}
-use Rattle.tree_node.proofs.Sizes.{fits}
 use Rattle.tree_remove.proofs.lowering.+lower_from.Goals as goal
 
 pub node-requires : goal.node-requires

@@ -1,5 +1,5 @@
 use Rattle.std.proofs.Common.{rules, ◌≡◌, false, true, sym, ◌∙◌}
-use Rattle.slab.specs.Slab.{ContainsKey}
+use Rattle.tree_node.proofs.Common.{ContainsKey}
 use Rattle.tree_node.proofs.NodeKinds.{node_used}
 use Rattle.tree_remove.proofs.Lowerings.{leaf_node_stays, keyed_stays}
 use Rattle.tree_remove.proofs.lowering.lower_root_at.Goals as goal

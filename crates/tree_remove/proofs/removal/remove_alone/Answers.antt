@@ -1,7 +1,7 @@
-use Rattle.tree_array.specs.declared.answers.RemoveResult.TheVariants.{Success, Fail}
-use Rattle.tree_node.proofs.Sizes.{fits}
-use Rattle.tree_remove.specs.Takes.IsEmptied.{emptied_from}
 use Rattle.std.proofs.Common.{◌∙◌}
+use Rattle.tree_array.specs.declared.answers.RemoveResult.TheVariants.{Success, Fail}
+use Rattle.tree_node.proofs.Common.{fits}
+use Rattle.tree_remove.specs.Takes.IsEmptied.{emptied_from}
 use Rattle.tree_remove.proofs.Descents.{leaf_at}
 use Rattle.tree_remove.proofs.EmptiedLeaves.{emptied_by, goes_as_said, goes_surely}
 use Rattle.tree_remove.proofs.Ways.{found_on_way, leaf_on_way, removes_on_way, settled_on_way}

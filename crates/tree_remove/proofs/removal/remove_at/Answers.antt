@@ -1,5 +1,5 @@
 use Rattle.std.proofs.Common.{Ok, ap}
-use Rattle.tree_node.proofs.Sizes.{fits}
+use Rattle.tree_node.proofs.Common.{fits}
 use Rattle.tree_remove.proofs.removal.remove_at.Goals as goal
 
 pub remove_alone-requires : goal.remove_alone-requires

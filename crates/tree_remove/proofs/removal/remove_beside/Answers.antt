@@ -1,8 +1,7 @@
 use Rattle.std.proofs.Common.{◌<◌, length}
 use Rattle.tree_array.specs.declared.answers.RemoveResult.TheVariants.{Success, Fail}
-use Rattle.tree_node.specs.Tree.{walk}
+use Rattle.tree_node.proofs.Common.{walk, fits}
 use Rattle.tree_node.proofs.Children.{walk-leaf}
-use Rattle.tree_node.proofs.Sizes.{fits}
 use Rattle.tree_remove.proofs.Descents.{leaf_at}
 use Rattle.tree_remove.proofs.Ways.{fails_at, found_on_way, leaf_on_way, not_emptied, removes_on_way, settled_on_way}
 use Rattle.tree_remove.proofs.removal.remove_beside.Goals as goal

@@ -1,7 +1,7 @@
 use Rattle.std.proofs.Common.{◌≡◌, ◌∙◌, true, [], Some, sym}
+use Rattle.tree_node.proofs.Common.{fits}
 use Rattle.tree_node.proofs.Children.{walk-leaf}
 use Rattle.tree_remove.proofs.LeafRemovals.{leaf_settled, removes_in_leaf}
-use Rattle.tree_node.proofs.Sizes.{fits}
 use Rattle.tree_remove.proofs.removal.remove_in_leaf.Goals as goal
 
 pub leaf_mut-requires : goal.leaf_mut-requires

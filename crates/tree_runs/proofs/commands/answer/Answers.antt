@@ -1,5 +1,4 @@
-use Rattle.std.proofs.Common.{◌≡◌, true, Some, is_some, Option, None, refl, sym, ap, ◌∙◌}
-use Rattle.std.specs.Option.{option_map}
+use Rattle.std.proofs.Common.{◌≡◌, true, Some, is_some, Option, None, refl, sym, ap, ◌∙◌, option_map}
 use Rattle.tree_model.proofs.Histories.{seen_value}
 use Rattle.tree_runs.proofs.commands.answer.Goals as goal
 

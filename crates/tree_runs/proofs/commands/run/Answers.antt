@@ -1,6 +1,6 @@
 use Rattle.std.proofs.Common.{◌≡◌, List, [], ◌∷◌, ◌++◌, rules, refl, sym, ◌∙◌, append-nil, append_assoc}
+use Rattle.tree_model.proofs.Common.{nil_from_length}
 use Rattle.std.specs.Vec.Iter.{into_iter_items}
-use Rattle.std.proofs.lemmas.List.{nil_from_length}
 use Rattle.tree_runs.proofs.Climbs.{climbs}
 use Rattle.tree_runs.proofs.Served.{none_served, served_more}
 use Rattle.tree_runs.proofs.commands.run.Goals as goal

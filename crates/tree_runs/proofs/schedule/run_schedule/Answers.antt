@@ -1,7 +1,7 @@
 use Rattle.std.proofs.Common.{◌≡◌, ℕ, vec_len, ◌<◌, ◌+◌, [], ◌∷◌, ◌++◌, sym, ap, ◌∙◌, refl, length, append_assoc, length-append, arith, rules}
-use Rattle.std.proofs.lemmas.List.Elements.{All-rest, All-same}
-use Rattle.tree_node.proofs.Sizes.{fits}
 use Rattle.tree_model.specs.declared.commands.Command.{Command}
+use Rattle.tree_node.proofs.Common.{fits}
+use Rattle.std.proofs.lemmas.List.Elements.{All-rest, All-same}
 use Rattle.tree_runs.proofs.Schedules.{left, ran_next, ran_start, next_fits, next_has, refused_within, ended}
 use Rattle.tree_runs.proofs.schedule.run_schedule.Goals as goal
 

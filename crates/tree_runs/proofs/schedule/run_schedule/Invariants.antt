@@ -1,4 +1,4 @@
-use Rattle.std.specs.Prelude.{◌≡◌, ◌++◌, ◌<◌, All, length}
+use Rattle.std.proofs.Common.{◌≡◌, ◌++◌, ◌<◌, All, length}
 use Rattle.tree_runs.specs.Schedules.{Ran}
 use Rattle.tree_runs.proofs.schedule.run_schedule.Given as goal
 

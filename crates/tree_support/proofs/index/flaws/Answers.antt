@@ -1,6 +1,6 @@
 use Rattle.std.proofs.Common.{nat_cmp}
+use Rattle.tree_node.proofs.Common.{fits}
 use Rattle.tree_index.proofs.Indexed.{walks_from}
-use Rattle.tree_node.proofs.Sizes.{fits}
 use Rattle.tree_support.proofs.index.flaws.Goals as goal
 
 pub parts-root-requires : goal.parts-root-requires

@@ -1,12 +1,10 @@
 use Rattle.std.proofs.Common.{rules, nat_cmp, sym, ◌∙◌, ◌<◌, ◌-◌, IsSome, Some}
-use Rattle.std.specs.List.{AllByRecursion}
-use Rattle.slab.specs.Slab.{ContainsKey}
-use Rattle.tree_array.specs.Arrivals.{arrival}
-use Rattle.tree_node.specs.Tree.{StandsOrRetired, in_turn}
+use Rattle.tree_model.proofs.Common.{AllByRecursion}
+use Rattle.tree_array.proofs.Common.{arrival}
+use Rattle.tree_node.proofs.Common.{ContainsKey, StandsOrRetired, in_turn, fits}
 use Rattle.tree_node.proofs.ChildrenStand.{over_leaves, over_nodes}
 use Rattle.tree_walk.proofs.ChildTurns.{begins_over, slot_reachable, child_turn, holds_in_turn, holds_at_last}
 use Rattle.tree_node.proofs.Levels.{node_at}
-use Rattle.tree_node.proofs.Sizes.{fits}
 use Rattle.tree_support.proofs.walker.+walk_node.Goals as goal
 
 pub node-requires : goal.node-requires

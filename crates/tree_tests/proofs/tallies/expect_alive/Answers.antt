@@ -1,4 +1,4 @@
-use Rattle.tree_node.proofs.Sizes.{fits}
+use Rattle.tree_node.proofs.Common.{fits}
 use Rattle.tree_tests.proofs.tallies.expect_alive.Goals as goal
 
 pub parts-requires : goal.parts-requires

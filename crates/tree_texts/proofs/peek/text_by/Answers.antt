@@ -1,5 +1,5 @@
-use Rattle.std.specs.Cmp.Lexicographic.{slice_cmp}
-use Rattle.std.specs.Ordering.{nat_cmp}
+use Rattle.std.proofs.Common.{nat_cmp}
+use Rattle.tree_model.proofs.Common.{slice_cmp}
 use Rattle.tree_texts.proofs.Lent.{lent_found}
 use Rattle.tree_texts.proofs.peek.text_by.Goals as goal
 

@@ -1,7 +1,7 @@
 use Rattle.std.proofs.Common.{◌++◌, ◌∙◌, sym}
+use Rattle.tree_model.specs.declared.way.Way.TheVariants.{On}
 use Rattle.std.specs.Hash.{fed_then}
 use Rattle.std.proofs.lemmas.Grind.{fold-append}
-use Rattle.tree_chain.specs.declared.stand.Way.TheVariants.{On}
 use Rattle.tree_ranges.proofs.Yields.{takes_first}
 use Rattle.tree_views.proofs.hash.feed.Goals as goal
 

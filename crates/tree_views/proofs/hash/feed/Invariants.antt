@@ -1,7 +1,6 @@
-use Rattle.std.proofs.Common.{◌≡◌, ◌++◌}
-use Rattle.std.specs.List.{flat_map, fold}
-use Rattle.tree_chain.specs.declared.stand.Way.TheVariants.{On}
-use Rattle.tree_cursor_model.specs.Rest.{HasBegun, rest}
+use Rattle.std.proofs.Common.{◌≡◌, ◌++◌, flat_map, fold}
+use Rattle.tree_model.proofs.Common.{HasBegun, rest}
+use Rattle.tree_model.specs.declared.way.Way.TheVariants.{On}
 use Rattle.tree_ranges.specs.Ranged.{moves_left}
 use Rattle.tree_views.proofs.hash.feed.Given as goal
 

@@ -1,9 +1,7 @@
 use Rattle.std.proofs.Common.{rules, sym, ap, ◌∙◌, ◌<◌, ◌-◌, length, arith}
-use Rattle.std.specs.List.{AllByRecursion}
-use Rattle.slab.specs.Slab.{ContainsKey}
-use Rattle.tree_node.specs.Tree.{StandsOrRetired, leaves_at}
+use Rattle.tree_model.proofs.Common.{AllByRecursion}
+use Rattle.tree_node.proofs.Common.{ContainsKey, StandsOrRetired, leaves_at, fits}
 use Rattle.tree_node.proofs.Levels.{node_at}
-use Rattle.tree_node.proofs.Sizes.{fits}
 use Rattle.tree_walk.proofs.EndSearch.{begins, goes_on, holds, nowhere, stops}
 use Rattle.tree_walk.proofs.Under.{leaf_node_over, node_over}
 use Rattle.tree_walk.proofs.ends.+end_leaf_at.Goals as goal

@@ -1,6 +1,5 @@
-use Rattle.slab.specs.Slab.{ContainsKey}
-use Rattle.tree_chain.specs.Ways.{along}
-use Rattle.tree_node.specs.Tree.{leaves_at, leaves_of}
+use Rattle.tree_model.proofs.Common.{along}
+use Rattle.tree_node.proofs.Common.{ContainsKey, leaves_at, leaves_of}
 use Rattle.tree_walk.proofs.EndSearch.{IsSought}
 use Rattle.tree_walk.proofs.ends.end_of_leaves.Given as goal
 

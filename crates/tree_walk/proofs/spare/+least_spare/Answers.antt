@@ -1,10 +1,8 @@
 use Rattle.std.proofs.Common.{rules, sym, ap, ◌∙◌, ◌<◌, ◌-◌, length, arith}
-use Rattle.slab.specs.Slab.{ContainsKey}
-use Rattle.tree_chain.specs.declared.stand.Way.TheVariants.{On}
+use Rattle.tree_model.specs.declared.way.Way.TheVariants.{On}
+use Rattle.tree_node.proofs.Common.{ContainsKey, StandsOrRetired, fits}
 use Rattle.tree_node.specs.Shape.{leaf_spare, least}
-use Rattle.tree_node.specs.Tree.{StandsOrRetired}
 use Rattle.tree_node.proofs.Levels.{node_at}
-use Rattle.tree_node.proofs.Sizes.{fits}
 use Rattle.tree_walk.proofs.LeastFree.{all_counted, counted, holds, least_of_one}
 use Rattle.tree_walk.proofs.Under.{leaf_node_over, node_over}
 use Rattle.tree_walk.proofs.spare.+least_spare.Goals as goal

@@ -1,7 +1,7 @@
 use Rattle.std.proofs.Common.{rules, refl, arith, w8}
+use Rattle.tree_array.proofs.Common.{len_small}
+use Rattle.tree_node.proofs.Common.{ContainsKey}
 use Rattle.std.proofs.Math.Facts.{Fits-of_lt}
-use Rattle.slab.specs.Slab.{ContainsKey}
-use Rattle.tree_order.proofs.Slots.{len_small}
 use Rattle.tree_node.proofs.ChildrenStand.{no_leaves, stands_unless}
 use Rattle.tree_node.proofs.Levels.{node_at}
 use Rattle.tree_node.proofs.Whole.{spare_standing}

@@ -1,4 +1,4 @@
-use Rattle.std.specs.Prelude.{◌≡◌, length, vec_len}
+use Rattle.std.proofs.Common.{◌≡◌, length, vec_len}
 use Rattle.tree_workers.proofs.workers.start_all.Given as goal
 
 -- a thread for each pass so far

@@ -1,4 +1,4 @@
-use Rattle.std.specs.Prelude.{◌≤◌}
+use Rattle.std.proofs.Common.{◌≤◌}
 use Rattle.tree_workers.proofs.workers.work.Given as goal
 
 -- each round makes one call

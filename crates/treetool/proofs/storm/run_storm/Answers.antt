@@ -1,5 +1,4 @@
-use Rattle.std.proofs.Common.{inl, inr, refl}
-use Rattle.std.specs.Prelude.{codes}
+use Rattle.std.proofs.Common.{inl, inr, refl, codes}
 use Rattle.tree_lines.specs.Lines.{with_feed}
 use Rattle.treetool.specs.Storm.{storm_line}
 use Rattle.treetool.proofs.Storms.{ends_in_part, ends_whole}

@@ -1,6 +1,4 @@
-use Rattle.std.proofs.Common.{rules, ◌≡◌, map, ℕ, ◌<◌, ◌≤◌, length, List, [], ◌∷◌, get_or, refl, sym, ap, ◌∙◌, arith}
-use Rattle.std.specs.String.{string_bytes}
-use Rattle.std.specs.Fmt.{decimal}
+use Rattle.std.proofs.Common.{rules, ◌≡◌, map, ℕ, ◌<◌, ◌≤◌, length, List, [], ◌∷◌, get_or, refl, sym, ap, ◌∙◌, arith, string_bytes, decimal}
 use Rattle.std.proofs.lemmas.Fmt.{decimal_injective}
 use Rattle.treetool.proofs.storm.storm_of.Goals as goal
 

@@ -1,5 +1,5 @@
 use Rattle.std.proofs.Common.{refl}
-use Rattle.std.proofs.lemmas.Result.{err_from_is_err_and}
+use Rattle.tree_model.proofs.Common.{err_from_is_err_and}
 use Rattle.tree_lines.proofs.Pieces.{ends_text, more_begun, none_begun, piece_fails}
 use Rattle.treetool.proofs.storm.write_counted.Goals as goal
 

@@ -1,6 +1,4 @@
-use Rattle.std.proofs.Common.{◌≡◌, [], ◌∷◌, get_or, map, sym, ap, ◌∙◌}
-use Rattle.std.specs.Prelude.{codes}
-use Rattle.std.specs.String.{string_bytes}
+use Rattle.std.proofs.Common.{◌≡◌, [], ◌∷◌, get_or, map, sym, ap, ◌∙◌, codes, string_bytes}
 use Rattle.std.proofs.lemmas.Slice.Eq.{bytes_eq-Decides}
 use Rattle.treetool.proofs.Tasks.{one_word}
 use Rattle.treetool.proofs.task.are_small.Goals as goal

@@ -1,8 +1,5 @@
-use Rattle.std.proofs.Common.{◌≡◌, [], refl, arith, map}
-use mathlib.Core.Bool.{false≢true}
-use Rattle.std.specs.String.{string_bytes}
-use Rattle.std.proofs.lemmas.Bool.Decides.{nat_tests}
-use Rattle.std.proofs.lemmas.List.{nil_from_length}
+use Rattle.std.proofs.Common.{◌≡◌, [], refl, arith, map, string_bytes}
+use Rattle.tree_model.proofs.Common.{false≢true, nat_tests, nil_from_length}
 use Rattle.treetool.proofs.Tasks.{asks_nothing, some_words}
 use Rattle.treetool.proofs.task.task_of.Goals as goal
 

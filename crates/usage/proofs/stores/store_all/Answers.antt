@@ -1,7 +1,5 @@
-use Rattle.std.proofs.Common.{sym, ap, ◌∙◌}
-use Rattle.std.specs.Ordering.{nat_cmp}
+use Rattle.std.proofs.Common.{sym, ap, ◌∙◌, nat_cmp, map-id}
 use Rattle.std.proofs.lemmas.Iterator.Adapters.{YieldsList-from_vec, fact_from_extend}
-use Rattle.std.proofs.lemmas.List.{map-id}
 use Rattle.tree_index.specs.Collects.{puts}
 use Rattle.usage.proofs.stores.store_all.Goals as goal
 

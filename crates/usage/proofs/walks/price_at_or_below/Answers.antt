@@ -1,6 +1,5 @@
-use Rattle.std.proofs.Common.{ℕ, Option, ap, ◌∙◌}
-use Rattle.std.specs.Option.{option_map}
-use Rattle.std.proofs.lemmas.Cmp.{nat_cmp_total}
+use Rattle.std.proofs.Common.{ℕ, Option, ap, ◌∙◌, option_map}
+use Rattle.tree_model.proofs.Common.{nat_cmp_total}
 use Rattle.tree_index.proofs.Beside.{between_below, exact_below, smaller_below}
 use Rattle.usage.proofs.walks.price_at_or_below.Goals as goal
 

@@ -1,4 +1,4 @@
-use Rattle.std.specs.Prelude.{◌≡◌, ◌≤◌}
+use Rattle.std.proofs.Common.{◌≡◌, ◌≤◌}
 use Rattle.tree_shared.specs.Tallies.{tally_of}
 use Rattle.usage_threads.proofs.claims.claim.Given as goal
 

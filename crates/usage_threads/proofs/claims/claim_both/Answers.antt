@@ -1,6 +1,5 @@
-use Rattle.std.proofs.Common.{◌≡◌, sym, ap, ◌∙◌, arith}
+use Rattle.std.proofs.Common.{◌≡◌, sym, ap, ◌∙◌, arith, nat_cmp}
 use Rattle.std.proofs.lemmas.Grind.{common_steps}
-use Rattle.std.specs.Ordering.{nat_cmp}
 use Rattle.tree_shared.specs.Tallies.{plus}
 use Rattle.tree_shared.specs.declared.tally.Tally.{Tally}
 use Rattle.usage_threads.proofs.Growth.{stored_all}

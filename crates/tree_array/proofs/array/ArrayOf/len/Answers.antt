@@ -1,6 +1,9 @@
 use Rattle.std.proofs.Common.{sym}
 use Rattle.tree_array.proofs.Kept.{count_is}
+use Rattle.tree_array.proofs.Marked.{fields}
 use Rattle.tree_array.proofs.array.ArrayOf.len.Goals as goal
 
 pub returns : goal.returns
-returns g c = rw (← c.self.view_is) (sym (count_is g.met.K.Ord.total c.self.invariant.0))
+returns g c =
+    let a = fields c.self.inside.cells c.counts.result c.counts.ensures.entries c.counts.ensures.arrivals c.self.invariant c.self.view_is in
+    rw (← a.view) (sym (count_is g.met.K.Ord.total a.it))

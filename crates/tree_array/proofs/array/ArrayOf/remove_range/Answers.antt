@@ -1,39 +1,41 @@
 use Rattle.std.proofs.Common.{◌≡◌, ◌<◌, IsSome, None, length, refl, subst, sym, ◌∙◌, ap, rules, arith}
+use Rattle.tree_array.proofs.Common.{Arrivals, arrival, IsSound, length-picked, len_small}
 use Rattle.std.proofs.lemmas.Option.{same_Some}
-use Rattle.tree_array.specs.Arrivals.{Arrivals, arrival}
-use Rattle.tree_array.specs.Sound.{IsSound}
 use Rattle.tree_array.proofs.Kept.{sound}
-use Rattle.tree_order.proofs.Picked.{length-picked}
 use Rattle.tree_array.proofs.Ranges.{cut_none, cut_kept, cut_taken, cut_all, kept_outside}
 use Rattle.tree_array.proofs.Seen.{arrival_seen}
-use Rattle.tree_order.proofs.Slots.{len_small}
 use Rattle.tree_cells.proofs.Tabled.{early}
 use Rattle.tree_cells.proofs.Walks.{live_some, live_none}
-use Rattle.tree_array.proofs.array.ArrayOf.remove_range.Goals as goal
+use Rattle.tree_array.proofs.Marked.{fields, marked}
 use Rattle.tree_array.proofs.array.ArrayOf.remove_range.Goals.{then-ordinals-slot-gt0+then-range_contains, else-ordinals-slot-gt0, else-ordinals-slot-gt0-via-then-ordinals-slot-gt0+else-range_contains, else-ordinals-slot-gt0-via-else-ordinals-slot-gt0}
+use Rattle.tree_array.proofs.array.ArrayOf.remove_range.Goals as goal
 
 pub ordinals-ordinals-requires-clause-within : goal.ordinals-ordinals-requires-clause-within
 ordinals-ordinals-requires-clause-within g c = λ i lt.
-    let it = c.self.invariant.0 in
+    let a = fields c.self.inside.cells c.counts-entries.result c.counts-entries.ensures.entries c.counts-entries.ensures.arrivals c.self.invariant c.self.view_is in
+    let it = a.it in
     omega (arith, early g.met.K.Ord.total it i lt, it.few_made, len_small g.row.LEN it.is_len)
 
 pub loop-slot-init : goal.loop-slot-init
 loop-slot-init g c =
-    cut_none g.met.K.Ord.total _ _ (subst (IsSound g.K.Ord.cmp g.row.LEN) c.self.view_is (sound g.met.K.Ord.total c.self.invariant.0 _ c.self.invariant.1))
+    let a = fields c.self.inside.cells c.counts-entries.result c.counts-entries.ensures.entries c.counts-entries.ensures.arrivals c.self.invariant c.self.view_is in
+    cut_none g.met.K.Ord.total _ _ (subst (IsSound g.K.Ord.cmp g.row.LEN) a.view (sound g.met.K.Ord.total a.it _ (marked a.it)))
 
 pub key-requires : goal.key-requires
 key-requires g c =
-    let it = c.self.invariant.0 in
+    let a = fields c.self.inside.cells c.counts-entries.result c.counts-entries.ensures.entries c.counts-entries.ensures.arrivals c.self.invariant c.self.view_is in
+    let it = a.it in
     let slot = c.loop-slot.slot in
     let within : slot < 15 = omega (arith, c.loop-slot-test.true, it.few_made, len_small g.row.LEN it.is_len) in
     let there = live_some g.met.K.Ord.total it slot (omega (arith, c.ordinals-ordinals.ensures.ordinals slot within, c.if-ordinals-slot-gt0.true)) in
-    (search rules, subst IsSome (sym (c.loop-slot.invariant.rest slot (omega arith) ∙ arrival_seen _ _ _ _ c.self.view_is it slot)) there)
+    (search rules, subst IsSome (sym (c.loop-slot.invariant.rest slot (omega arith) ∙ arrival_seen _ _ _ _ a.view it slot)) there)
 
 pub loop-slot-preserved : goal.loop-slot-preserved
 loop-slot-preserved g c =
+    let a = fields c.self.inside.cells c.counts-entries.result c.counts-entries.ensures.entries c.counts-entries.ensures.arrivals c.self.invariant c.self.view_is in
     let o = g.met.K.Ord.total in
-    let it = c.self.invariant.0 in
-    let kept = subst (IsSound g.K.Ord.cmp g.row.LEN) c.self.view_is (sound o it _ c.self.invariant.1) in
+    let it = a.it in
+    let kept = subst (IsSound g.K.Ord.cmp g.row.LEN) a.view (sound o it _ (marked a.it)) in
     let so_far = c.loop-slot.invariant in
     let slot = c.loop-slot.slot in
     let within : slot < 15 = omega (arith, c.loop-slot-test.true, it.few_made, len_small g.row.LEN it.is_len) in
@@ -47,15 +49,16 @@ loop-slot-preserved g c =
       | else-ordinals-slot-gt0 w ↦ elim w.else-ordinals-slot-gt0.branch [
         | else-ordinals-slot-gt0-via-then-ordinals-slot-gt0+else-range_contains w' ↦ rw w.self-is (cut_kept o _ _ kept so_far (rw w'.key.ensures.1 (kept_outside g.K.Ord.cmp _ _ _ _ (sym w'.if-range_contains.ensures))))
         | else-ordinals-slot-gt0-via-else-ordinals-slot-gt0 w' ↦
-            let none : arrival c.loop-slot.self.arrivals slot ≡ None = so_far.rest slot (omega arith) ∙ arrival_seen _ _ _ _ c.self.view_is it slot ∙ live_none o it slot (omega (arith, ordinal, w'.if-ordinals-slot-gt0.false)) in
+            let none : arrival c.loop-slot.self.arrivals slot ≡ None = so_far.rest slot (omega arith) ∙ arrival_seen _ _ _ _ a.view it slot ∙ live_none o it slot (omega (arith, ordinal, w'.if-ordinals-slot-gt0.false)) in
             rw w.self-is (cut_kept o _ _ kept so_far (rw none refl))
       ]
     ]
 
 pub returns : goal.returns
 returns g c =
+    let a = fields c.self.inside.cells c.counts-entries.result c.counts-entries.ensures.entries c.counts-entries.ensures.arrivals c.self.invariant c.self.view_is in
     let o = g.met.K.Ord.total in
-    let it = c.self.invariant.0 in
-    let kept = subst (IsSound g.K.Ord.cmp g.row.LEN) c.self.view_is (sound o it _ c.self.invariant.1) in
-    let made = ap (λ (a : Arrivals _ _). length a.arrivals) (sym c.self.view_is) ∙ length-picked (arrival c.self.inside.cells) c.self.inside.made in
+    let it = a.it in
+    let kept = subst (IsSound g.K.Ord.cmp g.row.LEN) a.view (sound o it _ (marked a.it)) in
+    let made = ap (λ (a : Arrivals _ _). length a.arrivals) (sym a.view) ∙ length-picked (arrival c.self.inside.cells.pairs) c.counts-entries.result.arrivals in
     cut_all o _ _ kept c.loop-slot.invariant (omega (arith, made, c.loop-slot-test.false))

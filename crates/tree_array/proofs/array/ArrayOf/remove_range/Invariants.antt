@@ -1,4 +1,4 @@
-use Rattle.std.specs.Range.Bound.{bound_map}
+use Rattle.tree_model.proofs.Common.{bound_map}
 use Rattle.tree_array.proofs.Ranges.{IsCutTo}
 use Rattle.tree_array.proofs.array.ArrayOf.remove_range.Given as goal
 

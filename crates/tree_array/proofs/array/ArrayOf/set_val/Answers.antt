@@ -1,23 +1,24 @@
 use Rattle.std.proofs.Common.{◌∙◌, ap, rules}
-use Rattle.tree_array.specs.Arrivals.{Arrivals, with_val}
+use Rattle.tree_array.proofs.Common.{Arrivals}
+use Rattle.tree_array.specs.Arrivals.{with_val}
 use Rattle.tree_array.proofs.Seen.{arrival_seen, reachable_seen}
 use Rattle.tree_cells.proofs.Tabled.{valued_tabled}
 use Rattle.tree_array.proofs.Valued.{valued_seen}
 use Rattle.tree_array.proofs.array.ArrayOf.set_val.Goals as goal
 
 pub replace-requires : goal.replace-requires
-replace-requires g c = (search rules, reachable_seen _ _ _ _ c.self.view_is c.self.invariant.0 c.args.slot c.requires)
+replace-requires g c = (search rules, reachable_seen _ _ _ _ c.self.view_is c.self.invariant c.args.slot c.requires)
 
 pub invariant_of-self : goal.invariant_of-self
 invariant_of-self g c =
     let replaced = c.replace.ensures in
-    rw replaced.2 (valued_tabled g.met.K.Ord.total c.self.invariant.0 c.args.slot replaced.0 _ c.args.val replaced.1, c.self.invariant.1)
+    rw (replaced.pairs.2, replaced.counts) (valued_tabled g.met.K.Ord.total c.self.invariant c.args.slot replaced.pairs.0 _ c.args.val replaced.pairs.1)
 
 pub returns : goal.returns
 returns g c =
     let replaced = c.replace.ensures in (
-      replaced.0,
-      arrival_seen _ _ _ _ c.self.view_is c.self.invariant.0 c.args.slot ∙ replaced.1,
-      rw replaced.2 (valued_seen g.met.K.Ord.total c.self.invariant.0 c.args.slot replaced.0 _ c.args.val replaced.1 _)
-          ∙ ap (λ (array : Arrivals _ _). with_val g.K.Ord.cmp array c.args.slot replaced.0 c.args.val) c.self.view_is,
+      replaced.pairs.0,
+      arrival_seen _ _ _ _ c.self.view_is c.self.invariant c.args.slot ∙ replaced.pairs.1,
+      rw (replaced.pairs.2, replaced.counts) (valued_seen g.met.K.Ord.total c.self.invariant c.args.slot replaced.pairs.0 _ c.args.val replaced.pairs.1 _)
+          ∙ ap (λ (array : Arrivals _ _). with_val g.K.Ord.cmp array c.args.slot replaced.pairs.0 c.args.val) c.self.view_is,
     )

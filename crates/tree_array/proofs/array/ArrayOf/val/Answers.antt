@@ -3,7 +3,7 @@ use Rattle.tree_array.proofs.Seen.{arrival_seen, reachable_seen}
 use Rattle.tree_array.proofs.array.ArrayOf.val.Goals as goal
 
 pub pair-requires : goal.pair-requires
-pair-requires g c = (search rules, reachable_seen _ _ _ _ c.self.view_is c.self.invariant.0 c.args.slot c.requires)
+pair-requires g c = (search rules, reachable_seen _ _ _ _ c.self.view_is c.self.invariant c.args.slot c.requires)
 
 pub returns : goal.returns
-returns g c = (_, arrival_seen _ _ _ _ c.self.view_is c.self.invariant.0 c.args.slot ∙ c.pair.ensures)
+returns g c = (_, arrival_seen _ _ _ _ c.self.view_is c.self.invariant c.args.slot ∙ c.pair.ensures)

@@ -1,5 +1,5 @@
 use Rattle.std.proofs.Common.{rules, ◌<◌}
-use Rattle.tree_node.proofs.Sizes.{fits}
+use Rattle.tree_node.proofs.Common.{fits}
 use Rattle.tree_calls.proofs.FoundLevels.{is_found, may_begin, approximates_at}
 use Rattle.tree_calls.proofs.node_calls.NodeCalls.approximate.Goals as goal
 

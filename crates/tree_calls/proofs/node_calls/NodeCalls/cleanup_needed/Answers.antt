@@ -1,5 +1,5 @@
 use Rattle.std.proofs.Common.{rules, ◌<◌}
-use Rattle.slab.specs.Slab.{ContainsKey}
+use Rattle.tree_node.proofs.Common.{ContainsKey}
 use Rattle.tree_node.proofs.Levels.{node_at}
 use Rattle.tree_calls.proofs.node_calls.NodeCalls.cleanup_needed.Goals as goal
 

@@ -1,5 +1,5 @@
 use Rattle.std.proofs.Common.{rules}
-use Rattle.tree_node.proofs.Sizes.{fits}
+use Rattle.tree_node.proofs.Common.{fits}
 use Rattle.tree_calls.proofs.node_calls.NodeCalls.depth.Goals as goal
 
 pub level_of-requires : goal.level_of-requires

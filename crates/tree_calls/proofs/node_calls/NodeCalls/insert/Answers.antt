@@ -1,7 +1,7 @@
 use Rattle.std.proofs.Common.{rules, arith, ◌≡◌, Ok, Err, ◌<◌, refl, ap}
-use Rattle.std.proofs.lemmas.Result.{err_from_is_err_and}
+use Rattle.tree_model.proofs.Common.{err_from_is_err_and}
 use Rattle.tree_array.specs.declared.answers.StoreResult.TheVariants.{Full}
-use Rattle.tree_node.proofs.Sizes.{fits}
+use Rattle.tree_node.proofs.Common.{fits}
 use Rattle.tree_calls.proofs.FoundLevels.{given_at, may_change, retired_too}
 use Rattle.tree_calls.proofs.node_calls.NodeCalls.insert.Goals as goal
 

@@ -1,7 +1,5 @@
 use Rattle.std.proofs.Common.{rules, arith, ◌≡◌, ◌⊎◌, ◌<◌}
-use Rattle.tree_node.specs.Parts.{IsPart}
-use Rattle.tree_node.specs.Tree.{IsRetired}
-use Rattle.tree_node.proofs.Sizes.{fits}
+use Rattle.tree_node.proofs.Common.{IsPart, IsRetired, fits}
 use Rattle.tree_calls.proofs.FoundLevels.{given_at, is_found, part_found, removed_at}
 use Rattle.tree_calls.proofs.node_calls.NodeCalls.remove_if.Goals as goal
 

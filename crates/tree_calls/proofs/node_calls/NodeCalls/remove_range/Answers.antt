@@ -1,5 +1,5 @@
 use Rattle.std.proofs.Common.{rules, arith, ◌<◌}
-use Rattle.tree_node.proofs.Sizes.{fits}
+use Rattle.tree_node.proofs.Common.{fits}
 use Rattle.tree_calls.proofs.FoundLevels.{cut_at, given_at, may_change, retired_too}
 use Rattle.tree_calls.proofs.node_calls.NodeCalls.remove_range.Goals as goal
 

@@ -1,7 +1,6 @@
 use Rattle.std.proofs.Common.{rules, ◌<◌}
+use Rattle.tree_node.proofs.Common.{StandsOrRetired, fits}
 use Rattle.tree_array.specs.Length.{searched}
-use Rattle.tree_node.specs.Tree.{StandsOrRetired}
-use Rattle.tree_node.proofs.Sizes.{fits}
 use Rattle.tree_calls.proofs.FoundLevels.{is_found, within_level}
 use Rattle.tree_calls.proofs.node_calls.NodeCalls.search_entry.Goals as goal
 

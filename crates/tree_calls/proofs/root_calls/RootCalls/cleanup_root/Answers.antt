@@ -1,5 +1,5 @@
 use Rattle.std.proofs.Common.{rules}
-use Rattle.tree_node.proofs.Sizes.{fits}
+use Rattle.tree_node.proofs.Common.{fits}
 use Rattle.tree_calls.proofs.FoundLevels.{found_part}
 use Rattle.tree_calls.proofs.FoundRoots.{lowered_at}
 use Rattle.tree_calls.proofs.root_calls.RootCalls.cleanup_root.Goals as goal

@@ -1,5 +1,5 @@
 use Rattle.std.proofs.Common.{rules, ◌<◌, inr}
-use Rattle.tree_node.proofs.Sizes.{fits}
+use Rattle.tree_node.proofs.Common.{fits}
 use Rattle.tree_calls.proofs.FoundLevels.{given_at, is_found, may_change, retired_too}
 use Rattle.tree_calls.proofs.root_calls.RootCalls.split_root.Goals as goal
 

@@ -1,5 +1,6 @@
 use Rattle.std.proofs.Common.{rules, None, ◌∙◌, ap}
-use Rattle.tree_array.specs.Walk.{Walk, standing as array_standing}
+use Rattle.tree_array.proofs.Common.{Walk}
+use Rattle.tree_array.specs.Walk.{standing as array_standing}
 use Rattle.tree_chain.proofs.Steps.{all_slots, slot_reachable, first_read, none_first}
 use Rattle.tree_chain.proofs.iter.LinkedIter+LeafOf+K+V+LEN+S.last_key.Goals as goal
 

@@ -1,5 +1,5 @@
 use Rattle.std.proofs.Common.{◌∷◌, []}
-use Rattle.tree_node.proofs.Sizes.{fits}
+use Rattle.tree_node.proofs.Common.{fits}
 use Rattle.tree_index.proofs.Puts.{gave_before}
 use Rattle.tree_index.proofs.collects.TreeIndexOfExtendTuple2.extend.Goals.{in-Ok, in-Err}
 use Rattle.tree_index.proofs.collects.TreeIndexOfExtendTuple2.extend.Goals as goal

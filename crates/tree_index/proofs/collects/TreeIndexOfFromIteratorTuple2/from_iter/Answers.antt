@@ -1,5 +1,5 @@
 use Rattle.std.proofs.Common.{List, [], refl, ap, ◌∙◌}
-use Rattle.tree_node.proofs.Sizes.{fits}
+use Rattle.tree_node.proofs.Common.{fits}
 use Rattle.tree_index.specs.Collects.{puts}
 use Rattle.tree_index.proofs.collects.TreeIndexOfFromIteratorTuple2.from_iter.Goals as goal
 

@@ -1,9 +1,12 @@
-use Rattle.std.proofs.Common.{◌≡◌, false, nat_eq, min, sym, ap, ◌∙◌, arith}
+use Rattle.std.proofs.Common.{◌≡◌, ℕ, false, nat_eq, min, sym, ap, ◌∙◌, arith}
+use Rattle.tree_model.proofs.Common.{nat_tests}
+use Rattle.tree_node.proofs.Common.{fits}
 use Rattle.std.specs.Cmp.Lexicographic.{unequal}
-use Rattle.std.proofs.lemmas.Bool.Decides.{nat_tests}
-use Rattle.tree_node.proofs.Sizes.{fits}
 use Rattle.tree_views.proofs.Walked.{all_left}
 use Rattle.tree_index.proofs.equality.TreeIndexOfPartialEq.eq.Goals as goal
+
+unequal_test : (a b : ℕ) → (a ≡ b → ⊥) → nat_eq a b ≡ false
+unequal_test a b differ = grind (arith, nat_tests)
 
 pub iter-requires : goal.iter-requires
 iter-requires g c = (search fits, (search fits, (search fits, search fits)))
@@ -19,5 +22,5 @@ returns-then-len g c = rw (c.iter.ensures, c.iter-then-len.ensures, all_left g.K
 
 pub returns-else-len : goal.returns-else-len
 returns-else-len g c =
-    let differ : nat_eq c.len.result c.len-2.result ≡ false = grind (arith, nat_tests) in
+    let differ : nat_eq c.len.result c.len-2.result ≡ false = unequal_test _ _ c.if-len.false in
     rw differ (sym (unequal _ _ _ (λ same. c.if-len.false (c.len.ensures ∙ ap (λ n. min n 18446744073709551615) same ∙ sym c.len-2.ensures))))

@@ -1,7 +1,6 @@
-use Rattle.std.proofs.Common.{◌++◌, length, min}
+use Rattle.std.proofs.Common.{◌++◌, length, min, flat_map}
+use Rattle.tree_node.proofs.Common.{fits}
 use Rattle.std.specs.Hash.{HashWrites, fed_then, usize}
-use Rattle.std.specs.List.{flat_map}
-use Rattle.tree_node.proofs.Sizes.{fits}
 use Rattle.tree_views.proofs.Walked.{all_left}
 use Rattle.tree_index.proofs.hash.TreeIndexOfHash.hash.Goals as goal
 

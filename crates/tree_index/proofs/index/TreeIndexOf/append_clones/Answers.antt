@@ -1,6 +1,6 @@
 use Rattle.std.proofs.Common.{[], ◌∷◌, append-nil, append_assoc}
-use Rattle.tree_chain.specs.declared.stand.Way.TheVariants.{On}
-use Rattle.tree_node.proofs.Sizes.{fits}
+use Rattle.tree_model.specs.declared.way.Way.TheVariants.{On}
+use Rattle.tree_node.proofs.Common.{fits}
 use Rattle.tree_ranges.proofs.Yields.{takes_first}
 use Rattle.tree_index.proofs.Copied.{behind_copied, behind_nothing}
 use Rattle.tree_index.proofs.index.TreeIndexOf.append_clones.Goals as goal

@@ -1,8 +1,7 @@
 use Rattle.std.proofs.Common.{◌++◌}
-use Rattle.std.specs.List.{AllByRecursion, AllZip}
-use Rattle.tree_chain.specs.declared.stand.Way.TheVariants.{On}
-use Rattle.tree_model.specs.Pairs.{IsAscending}
-use Rattle.tree_cursor_model.specs.Rest.{HasBegun, rest}
+use Rattle.tree_model.proofs.Common.{AllByRecursion, IsAscending, HasBegun, rest}
+use Rattle.tree_model.specs.declared.way.Way.TheVariants.{On}
+use Rattle.std.specs.List.{AllZip}
 use Rattle.tree_ranges.specs.Ranged.{moves_left}
 use Rattle.tree_index.specs.Copies.{AllSmaller, IsPairClone}
 use Rattle.tree_index.proofs.index.TreeIndexOf.append_clones.Given as goal

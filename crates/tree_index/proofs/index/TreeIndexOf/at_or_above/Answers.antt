@@ -1,5 +1,5 @@
 use Rattle.std.proofs.Common.{◌∙◌}
-use Rattle.tree_node.proofs.Sizes.{fits}
+use Rattle.tree_node.proofs.Common.{fits}
 use Rattle.tree_index.proofs.Beside.{between_above, empty_above, exact_above, larger_above, smaller_above}
 use Rattle.tree_index.proofs.index.TreeIndexOf.at_or_above.Goals as goal
 

@@ -1,5 +1,5 @@
 use Rattle.std.proofs.Common.{◌∙◌}
-use Rattle.tree_node.proofs.Sizes.{fits}
+use Rattle.tree_node.proofs.Common.{fits}
 use Rattle.tree_index.proofs.Beside.{between_below, empty_below, exact_below, larger_below, smaller_below}
 use Rattle.tree_index.proofs.index.TreeIndexOf.at_or_below.Goals as goal
 

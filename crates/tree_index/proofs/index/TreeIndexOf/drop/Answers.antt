@@ -1,4 +1,4 @@
-use Rattle.tree_node.proofs.Sizes.{fits}
+use Rattle.tree_node.proofs.Common.{fits}
 use Rattle.tree_index.proofs.index.TreeIndexOf.drop.Goals as goal
 
 pub drop-requires : goal.drop-requires

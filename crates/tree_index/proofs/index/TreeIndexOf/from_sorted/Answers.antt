@@ -1,8 +1,7 @@
-use Rattle.std.proofs.Common.{◌≡◌, ◌++◌, false, true, refl, sym, ◌∙◌}
+use Rattle.std.proofs.Common.{◌≡◌, ◌++◌, false, true, refl, sym, ◌∙◌, map-id}
+use Rattle.tree_model.proofs.Common.{IsAscending}
 use Rattle.std.proofs.lemmas.Iterator.{items_from_drains}
 use Rattle.std.proofs.lemmas.Iterator.Adapters.{YieldsList-from_vec}
-use Rattle.std.proofs.lemmas.List.{map-id}
-use Rattle.tree_model.specs.Pairs.{IsAscending}
 use Rattle.tree_index.proofs.Puts.{puts_behind}
 use Rattle.tree_index.proofs.index.TreeIndexOf.from_sorted.Goals as goal
 

@@ -1,4 +1,4 @@
-use Rattle.tree_node.proofs.Sizes.{fits}
+use Rattle.tree_node.proofs.Common.{fits}
 use Rattle.tree_index.proofs.Beside.{begins_back}
 use Rattle.tree_index.proofs.index.TreeIndexOf.last.Goals as goal
 

@@ -1,4 +1,4 @@
-use Rattle.tree_node.proofs.Sizes.{fits}
+use Rattle.tree_node.proofs.Common.{fits}
 use Rattle.tree_index.proofs.index.TreeIndexOf.new.Goals as goal
 
 pub new-requires : goal.new-requires

@@ -1,4 +1,4 @@
-use Rattle.tree_node.proofs.Sizes.{fits}
+use Rattle.tree_node.proofs.Common.{fits}
 use Rattle.tree_index.proofs.Indexed.{pairs_ascend}
 use Rattle.tree_index.proofs.index.TreeIndexOf.peek_entry_by.Goals as goal
 

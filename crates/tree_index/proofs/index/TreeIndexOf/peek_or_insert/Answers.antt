@@ -1,5 +1,4 @@
-use Rattle.std.proofs.Common.{◌≡◌, Some, refl, ap, ◌∙◌}
-use Rattle.std.specs.Option.{option_map}
+use Rattle.std.proofs.Common.{◌≡◌, Some, refl, ap, ◌∙◌, option_map}
 use Rattle.tree_index.proofs.index.TreeIndexOf.peek_or_insert.Goals as goal
 
 pub returns : goal.returns

@@ -1,5 +1,5 @@
 use Rattle.std.proofs.Common.{true, arith}
-use Rattle.tree_node.proofs.Sizes.{fits}
+use Rattle.tree_node.proofs.Common.{fits}
 use Rattle.tree_remove.specs.Removes.{surely}
 use Rattle.tree_root.specs.Trees.{pairs_of}
 use Rattle.tree_index.proofs.Indexed.{keeps_spare, one_less, pairs_ascend}

@@ -1,5 +1,5 @@
-use Rattle.tree_node.proofs.Sizes.{fits}
 use Rattle.std.proofs.Common.{◌∙◌, ap, arith, sym, length}
+use Rattle.tree_node.proofs.Common.{fits}
 use Rattle.std.specs.Fn.{FnOnceReturnsAt}
 use Rattle.tree_root.specs.Trees.{pairs_of}
 use Rattle.tree_index.proofs.Indexed.{index_kept, keeps_spare, one_less, pairs_ascend}

@@ -1,5 +1,5 @@
 use Rattle.std.proofs.Common.{arith}
-use Rattle.tree_node.proofs.Sizes.{fits}
+use Rattle.tree_node.proofs.Common.{fits}
 use Rattle.tree_index.proofs.index.TreeIndexOf.remove_range_sync.Goals as goal
 
 pub remove_range-requires : goal.remove_range-requires

@@ -1,5 +1,5 @@
 use Rattle.std.proofs.Common.{refl}
-use Rattle.tree_node.proofs.Sizes.{fits}
+use Rattle.tree_node.proofs.Common.{fits}
 use Rattle.tree_index.specs.Retained.{low_behind}
 use Rattle.tree_index.proofs.Refused.{asks_no_more, asks_on, one_fewer}
 use Rattle.tree_index.proofs.index.TreeIndexOf.retain_sync.Goals as goal

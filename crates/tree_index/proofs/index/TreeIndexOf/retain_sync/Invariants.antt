@@ -1,5 +1,5 @@
-use denote.Param.Always.{always_mut}
 use Rattle.std.proofs.Common.{length}
+use denote.Param.Always.{always_mut}
 use Rattle.tree_index.proofs.Refused.{IsAsked}
 use Rattle.tree_index.proofs.index.TreeIndexOf.retain_sync.Given as goal
 

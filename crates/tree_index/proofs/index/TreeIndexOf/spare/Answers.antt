@@ -1,5 +1,5 @@
-use Rattle.tree_node.proofs.Sizes.{fits}
 use Rattle.std.proofs.Common.{refl}
+use Rattle.tree_node.proofs.Common.{fits}
 use Rattle.tree_root.proofs.Storing.{stands_or_retired}
 use Rattle.tree_index.proofs.index.TreeIndexOf.spare.Goals as goal
 

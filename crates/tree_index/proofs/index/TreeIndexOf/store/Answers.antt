@@ -1,7 +1,7 @@
+use Rattle.std.proofs.Common.{◌∙◌, ap, arith, sym, length}
+use Rattle.tree_node.proofs.Common.{fits}
 use mir.Syntax.{w128}
 use Rattle.std.proofs.Math.Facts.{Fits-of_lt}
-use Rattle.tree_node.proofs.Sizes.{fits}
-use Rattle.std.proofs.Common.{◌∙◌, ap, arith, sym, length}
 use Rattle.tree_index.proofs.Indexed.{as_many, one_more, pairs_kept, stores_pair}
 use Rattle.tree_index.proofs.index.TreeIndexOf.store.Goals as goal
 

@@ -1,5 +1,5 @@
 use Rattle.std.proofs.Common.{arith}
-use Rattle.tree_node.proofs.Sizes.{fits}
+use Rattle.tree_node.proofs.Common.{fits}
 use Rattle.tree_remove.specs.Removes.{surely}
 use Rattle.tree_index.proofs.Indexed.{one_less, pairs_ascend}
 use Rattle.tree_index.proofs.index.TreeIndexOf.take_refused.Goals as goal

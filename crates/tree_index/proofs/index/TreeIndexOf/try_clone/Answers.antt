@@ -1,4 +1,4 @@
-use Rattle.tree_node.proofs.Sizes.{fits}
+use Rattle.tree_node.proofs.Common.{fits}
 use Rattle.tree_root.specs.Trees.{pairs_of}
 use Rattle.tree_index.proofs.Indexed.{pairs_ascend}
 use Rattle.tree_views.proofs.Walked.{all_left}

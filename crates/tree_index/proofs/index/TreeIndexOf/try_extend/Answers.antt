@@ -1,6 +1,6 @@
 use Rattle.std.proofs.Common.{List, refl, sym, ap, ◌∙◌}
+use Rattle.tree_model.proofs.Common.{put}
 use Rattle.std.proofs.iter.Next.{Yields-more}
-use Rattle.tree_model.specs.Pairs.{put}
 use Rattle.tree_index.specs.Collects.{PutsPairs}
 use Rattle.tree_index.proofs.Puts.{earlier_ascend, next_behind, puts_push, same_error}
 use Rattle.tree_index.proofs.index.TreeIndexOf.try_extend.Goals as goal

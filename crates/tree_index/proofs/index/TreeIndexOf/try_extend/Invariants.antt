@@ -1,5 +1,5 @@
 use Rattle.std.proofs.Common.{◌≡◌, ◌++◌, true}
-use Rattle.tree_model.specs.Pairs.{IsAscending}
+use Rattle.tree_model.proofs.Common.{IsAscending}
 use Rattle.tree_index.specs.Collects.{puts}
 use Rattle.tree_index.proofs.index.TreeIndexOf.try_extend.Given as goal
 

@@ -1,4 +1,4 @@
-use Rattle.tree_node.proofs.Sizes.{fits}
+use Rattle.tree_node.proofs.Common.{fits}
 use Rattle.tree_index.proofs.index.TreeIndexOfDebug.fmt.Goals as goal
 
 pub iter-requires : goal.iter-requires

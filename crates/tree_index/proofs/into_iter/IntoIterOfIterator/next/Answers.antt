@@ -1,4 +1,4 @@
-use Rattle.tree_node.proofs.Sizes.{fits}
+use Rattle.tree_node.proofs.Common.{fits}
 use Rattle.tree_views.proofs.Taken.{first_progress}
 use Rattle.tree_index.proofs.into_iter.IntoIterOfIterator.next.Goals as goal
 

@@ -1,4 +1,4 @@
-use Rattle.tree_node.proofs.Sizes.{fits}
+use Rattle.tree_node.proofs.Common.{fits}
 use Rattle.tree_views.proofs.Walked.{all_left}
 use Rattle.tree_index.proofs.order.TreeIndexOfPartialOrd.partial_cmp.Goals as goal
 

@@ -1,8 +1,6 @@
-use Rattle.std.proofs.Common.{◌≡◌, ◌≤◌, length}
-use Rattle.std.specs.Cmp.Lexicographic.{slice_cmp}
-use Rattle.std.specs.Ordering.{nat_cmp}
+use Rattle.std.proofs.Common.{◌≡◌, ◌≤◌, length, nat_cmp}
+use Rattle.tree_model.proofs.Common.{slice_cmp, along}
 use Rattle.std.proofs.lemmas.Cmp.{nat_list_cmp_total}
-use Rattle.tree_chain.specs.Ways.{along}
 use Rattle.tree_ranges.specs.Ranged.{way_of}
 use Rattle.tree_index_c.specs.Entries.{entry_of}
 use Rattle.tree_index_c.specs.Pairs.{pairs_between}

@@ -1,6 +1,5 @@
-use Rattle.std.proofs.Common.{sym, ◌∙◌}
-use Rattle.std.specs.Cmp.Lexicographic.{slice_cmp}
-use Rattle.std.specs.Ordering.{nat_cmp}
+use Rattle.std.proofs.Common.{sym, ◌∙◌, nat_cmp}
+use Rattle.tree_model.proofs.Common.{slice_cmp}
 use Rattle.tree_index.proofs.Copied.{put_behind}
 use Rattle.tree_index_c.proofs.Sorted.{all_below, lent_none, none_above, none_lent}
 use Rattle.tree_index_c.proofs.bytes.sorted.append.Goals as goal

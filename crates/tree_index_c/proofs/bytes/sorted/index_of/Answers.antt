@@ -1,8 +1,7 @@
-use Rattle.std.proofs.Common.{◌≡◌, ◌+◌, ◌-◌, ◌++◌, ◌∷◌, List, ℕ, drop, length, take, arith, refl, sym, ap, ◌∙◌, inl}
+use Rattle.std.proofs.Common.{◌≡◌, ◌+◌, ◌-◌, ◌++◌, ◌∷◌, List, ℕ, drop, length, take, arith, refl, sym, ap, ◌∙◌, inl, nat_cmp}
+use Rattle.tree_model.proofs.Common.{slice_cmp}
 use Rattle.std.proofs.Math.ListN.{get_or}
 use Rattle.std.proofs.Math.Seq.{append_snoc}
-use Rattle.std.specs.Cmp.Lexicographic.{slice_cmp}
-use Rattle.std.specs.Ordering.{nat_cmp}
 use Rattle.tree_index_c.specs.Sorted.{parted}
 use Rattle.tree_index_c.proofs.Parted.{all_parted, all_used, next_parted, next_size}
 use Rattle.tree_index_c.proofs.Sorted.{before_smaller}

@@ -1,6 +1,5 @@
 -- `from_box` takes a box apart into its two words, and makes the struct of them. What lies behind the pointer stays where it is.
-use mathlib.Core.Path.{◌≡◌, refl, sym, subst}
-use mathlib.Core.List.{List, [], ◌∷◌, ◌++◌}
+use Rattle.std.proofs.Common.{◌≡◌, refl, sym, subst, List, [], ◌∷◌, ◌++◌}
 use mir.MapTy.{inst_fn}
 use mir.Syntax.{Args, Fn, a_type, dcons, dnil}
 use mir.Val.{Val}
@@ -29,12 +28,12 @@ use Rattle.std.proofs.raw_atomic.Walks.{proved_at, leaves}
 use Rattle.std_alloc.specs.Box.Ownership.{box_owns}
 use Rattle.std_alloc.proofs.BoxSteps.Form.{Bx, R, P, B, word, box_typed}
 use Rattle.std_alloc.proofs.BoxSteps.Steps.{box_out, box_in}
+use Rattle.tree_index_c.proofs.Words.{pair_out}
+use Rattle.tree_index_c.proofs.detached.Detached.from_box.Statement.{statement}
 use Rattle.std_alloc.specs.contracts.boxed.Box.into_raw_with_allocator as opened
 use Rattle.std_alloc.proofs.boxed.Box.into_raw_with_allocator.Met as opened_met
-use Rattle.tree_index_c.proofs.Words.{pair_out}
 use Rattle.tree_index_c.specs.contracts.detached.Detached as made
 use Rattle.tree_index_c.specs.contracts.detached.Detached.from_box as this
-use Rattle.tree_index_c.proofs.detached.Detached.from_box.Statement.{statement}
 use Rattle.tree_index_c.proofs.detached.Detached.from_box.Code as code
 
 pub from_box_spec : {M : Type 1} → statement M

@@ -1,7 +1,5 @@
 -- `into_box` hands its two words to a box, with what lies behind the pointer.
-use mathlib.Core.Path.{◌≡◌, refl, sym, subst, ap}
-use mathlib.Core.List.{List, [], ◌∷◌, ◌++◌}
-use lib.Dec.{T}
+use Rattle.std.proofs.Common.{◌≡◌, refl, sym, subst, ap, List, [], ◌∷◌, ◌++◌, T}
 use mir.MapTy.{inst_fn}
 use mir.Syntax.{Fn}
 use mir.Val.{Val, WT, has_ty, vptr}
@@ -30,11 +28,11 @@ use Rattle.std.proofs.VecSteps.Shapes.{after}
 use Rattle.std_alloc.specs.Box.Ownership.{box_owns}
 use Rattle.std_alloc.proofs.BoxSteps.Form.{Bx, D, R, P, B, args, box_ty, word, box_typed}
 use Rattle.std_alloc.proofs.BoxSteps.Steps.{box_out, box_in}
+use Rattle.tree_index_c.proofs.detached.Detached.into_box.Statement.{statement}
 use Rattle.std_alloc.specs.contracts.boxed.Box.from_raw as closed
 use Rattle.std_alloc.proofs.boxed.Box.from_raw.Met as closed_met
 use Rattle.tree_index_c.specs.contracts.detached.Detached as given
 use Rattle.tree_index_c.specs.contracts.detached.Detached.into_box as this
-use Rattle.tree_index_c.proofs.detached.Detached.into_box.Statement.{statement}
 use Rattle.tree_index_c.proofs.detached.Detached.into_box.Code as code
 
 pub into_box_spec : {M : Type 1} → statement M

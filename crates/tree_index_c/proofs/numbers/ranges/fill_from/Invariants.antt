@@ -1,7 +1,5 @@
-use Rattle.std.proofs.Common.{◌≡◌, ◌≤◌, length}
-use Rattle.std.specs.Ordering.{nat_cmp}
-use Rattle.std.proofs.lemmas.Cmp.{nat_cmp_total}
-use Rattle.tree_chain.specs.Ways.{along}
+use Rattle.std.proofs.Common.{◌≡◌, ◌≤◌, length, nat_cmp}
+use Rattle.tree_model.proofs.Common.{nat_cmp_total, along}
 use Rattle.tree_ranges.specs.Ranged.{way_of}
 use Rattle.tree_index_c.specs.Pairs.{as_pair, pairs_between}
 use Rattle.tree_index_c.proofs.Walking.{Walking}

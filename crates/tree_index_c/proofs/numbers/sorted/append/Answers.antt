@@ -1,5 +1,4 @@
-use Rattle.std.proofs.Common.{sym, ◌∙◌}
-use Rattle.std.specs.Ordering.{nat_cmp}
+use Rattle.std.proofs.Common.{sym, ◌∙◌, nat_cmp}
 use Rattle.tree_index.proofs.Copied.{put_behind}
 use Rattle.tree_index_c.proofs.Sorted.{all_below, lent_none, none_above, none_lent}
 use Rattle.tree_index_c.proofs.numbers.sorted.append.Goals as goal

@@ -1,4 +1,4 @@
-use Rattle.std.specs.Ordering.{nat_cmp}
+use Rattle.std.proofs.Common.{nat_cmp}
 use Rattle.tree_index_c.specs.Pairs.{pair_of}
 use Rattle.tree_index_c.proofs.Sorted.{around, before_smaller}
 use Rattle.tree_index_c.proofs.numbers.sorted.index_of.Goals as goal

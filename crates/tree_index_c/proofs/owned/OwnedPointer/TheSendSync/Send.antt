@@ -1,4 +1,5 @@
 -- A pointer may go to another thread: the store behind it may, and any thread may free its block.
+use Rattle.std.proofs.Common.{Option, None, Some, Global}
 use base.Shift.{Keyless}
 use mir.Raw.{raw}
 use denote.Memory.{lone}
@@ -6,15 +7,13 @@ use denote.RawPtr.{Ptr}
 use denote.Struct.Struct.{exits_of}
 use denote.Struct.Owning.{shape, fields, to}
 use denote.Param.Send.{IsSend, AllSend, owning_send, struct_send, sendable}
-use Rattle.std.specs.Prelude.{Option, None, Some}
-use Rattle.std.specs.Global.{Global}
 use Rattle.std.proofs.Crossing.{frees}
 use Rattle.std_alloc.proofs.SendSync.{quiet, lies}
 use Rattle.std_heap.proofs.Global.TheSendSync.{the_field_send}
 use Rattle.tree_index_c.specs.Owned.{owns_behind}
+use Rattle.tree_index_c.specs.contracts.owned.OwnedPointer.{the_row, the_type}
 use Rattle.tree_index_c.specs.contracts.store.Store as Store
 use Rattle.tree_index_c.proofs.store.Store.TheSendSync as store
-use Rattle.tree_index_c.specs.contracts.owned.OwnedPointer.{the_row, the_type}
 
 -- what lies behind the pointer is bound to no thread
 crosses : (heap : Global) (at : Ptr) (behind : Option Store.the_row.Denot) → Keyless (owns_behind heap at behind)

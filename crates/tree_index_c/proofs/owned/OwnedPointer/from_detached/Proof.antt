@@ -1,6 +1,5 @@
 -- `from_detached` moves two words. The pointer owns what they owned.
-use mathlib.Core.Path.{◌≡◌, refl, sym, subst}
-use mathlib.Core.List.{List, [], ◌∷◌, ◌++◌}
+use Rattle.std.proofs.Common.{◌≡◌, refl, sym, subst, List, [], ◌∷◌, ◌++◌, Some}
 use mir.Val.{Val}
 use base.Fml.{ftrue, fsep}
 use base.Logic.{SProp, emp, ent, id⊢}
@@ -14,14 +13,13 @@ use types.Run.{enter, of_opd, fld, stop, and_then, no_more, returns}
 use denote.Exit.{yes}
 use denote.Steps.{nothing}
 use denote.Triple.Walked.{Stays, stay_dropped, walk_of, Goes-dropped}
-use Rattle.std.specs.Prelude.{Some}
 use Rattle.std.proofs.raw_atomic.Walks.{proved_at, leaves}
 use Rattle.std_alloc.proofs.BoxSteps.Form.{D, B, word, box_typed}
 use Rattle.std_alloc.proofs.BoxSteps.Steps.{box_out, box_in}
 use Rattle.tree_index_c.proofs.Boxed.{E, FromDetached as From}
 use Rattle.tree_index_c.specs.contracts.owned.OwnedPointer.{the_row as To}
-use Rattle.tree_index_c.specs.contracts.owned.OwnedPointer.from_detached as this
 use Rattle.tree_index_c.proofs.owned.OwnedPointer.from_detached.Statement.{statement}
+use Rattle.tree_index_c.specs.contracts.owned.OwnedPointer.from_detached as this
 use Rattle.tree_index_c.proofs.owned.OwnedPointer.from_detached.Code as code
 
 pub from_detached_spec : {M : Type 1} → statement M

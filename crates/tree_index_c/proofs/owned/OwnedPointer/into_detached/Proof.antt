@@ -1,6 +1,5 @@
 -- `into_detached` moves two words. They own what the pointer owned, since it isn't null.
-use mathlib.Core.Path.{◌≡◌, refl, sym, subst}
-use mathlib.Core.List.{List, [], ◌∷◌, ◌++◌}
+use Rattle.std.proofs.Common.{◌≡◌, refl, sym, subst, List, [], ◌∷◌, ◌++◌, Some, IsSome}
 use mir.Val.{Val}
 use base.Fml.{ftrue, fsep}
 use base.Logic.{SProp, emp, ent, id⊢}
@@ -15,18 +14,17 @@ use denote.Exit.{yes}
 use denote.RattleType.{RattleType}
 use denote.Steps.{heard, nothing}
 use denote.Triple.Walked.{Stays, stay_dropped, walk_of, Goes-dropped}
-use Rattle.std.specs.Prelude.{Some, IsSome}
 use Rattle.std.proofs.raw_atomic.Walks.{proved_at, leaves}
 use Rattle.std_alloc.proofs.BoxSteps.Form.{D, B, word, box_typed}
 use Rattle.std_alloc.proofs.BoxSteps.Steps.{box_out, box_in}
 use Rattle.tree_index_c.proofs.Boxed.{E, FromOwned as From, as_box}
-use Rattle.tree_index_c.specs.contracts.detached.Detached
 use Rattle.tree_index_c.specs.contracts.owned.OwnedPointer.{the_row as Pointer}
 use Rattle.tree_index_c.specs.contracts.store.Store.{the_row}
-use Rattle.std_heap.specs.contracts.Global as Heap
 use Rattle.std_heap.specs.contracts.GlobalAllocator.TheImpl.{ghosts}
-use Rattle.tree_index_c.specs.contracts.owned.OwnedPointer.into_detached as this
 use Rattle.tree_index_c.proofs.owned.OwnedPointer.into_detached.Statement.{statement}
+use Rattle.tree_index_c.specs.contracts.detached.Detached
+use Rattle.std_heap.specs.contracts.Global as Heap
+use Rattle.tree_index_c.specs.contracts.owned.OwnedPointer.into_detached as this
 use Rattle.tree_index_c.proofs.owned.OwnedPointer.into_detached.Code as code
 
 pub into_detached_spec : {M : Type 1} → statement M

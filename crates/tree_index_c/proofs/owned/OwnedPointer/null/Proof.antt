@@ -1,7 +1,5 @@
 -- `null` makes a pointer of the null word and the allocator that it is given.
-use mathlib.Core.Path.{◌≡◌, refl, sym, subst}
-use mathlib.Core.List.{List, [], ◌∷◌, ◌++◌}
-use lib.Dec.{lit<}
+use Rattle.std.proofs.Common.{◌≡◌, refl, sym, subst, List, [], ◌∷◌, ◌++◌, lit<, None}
 use mir.Val.{Val, vstruct, vcons, vnil, has_ty}
 use base.Fml.{ftrue, fsep}
 use base.Logic.{SProp, emp, ent, id⊢}
@@ -20,15 +18,14 @@ use denote.Steps.{nothing}
 use denote.Struct.Struct.{within}
 use denote.Struct.Owning.{shape, to}
 use denote.Triple.Walked.{Stays, stay_dropped, walk_of, Goes-dropped}
-use Rattle.std.specs.Prelude.{None}
 use Rattle.std.proofs.alloc.Calls.{α, handle_tells}
 use Rattle.std.proofs.raw_atomic.Walks.{proved_at, leaves}
 use Rattle.std_alloc.proofs.ResultValues.{and_tt}
-use Rattle.std_heap.specs.contracts.Global as Heap
 use Rattle.tree_index_c.proofs.Boxed.{E}
 use Rattle.tree_index_c.specs.contracts.owned.OwnedPointer.{the_row as To, the_type}
-use Rattle.tree_index_c.specs.contracts.owned.OwnedPointer.null as this
 use Rattle.tree_index_c.proofs.owned.OwnedPointer.null.Statement.{statement}
+use Rattle.std_heap.specs.contracts.Global as Heap
+use Rattle.tree_index_c.specs.contracts.owned.OwnedPointer.null as this
 use Rattle.tree_index_c.proofs.owned.OwnedPointer.null.Code as code
 
 abbrev From : Slot 0

@@ -1,5 +1,5 @@
 use Rattle.std.proofs.Common.{refl, sym, ◌∙◌, subst}
-use Rattle.tree_model.specs.Pairs.{IsAscending}
+use Rattle.tree_model.proofs.Common.{IsAscending}
 use Rattle.tree_model.proofs.Ascending.{IsAscending-without}
 use Rattle.tree_plain.proofs.Searches.{remove-without, place_present}
 use Rattle.tree_plain.proofs.index.PlainIndex.remove.Goals as goal

@@ -1,6 +1,6 @@
 use Rattle.std.proofs.Common.{refl, sym, ◌∙◌, ap, subst}
+use Rattle.tree_model.proofs.Common.{IsAscending}
 use Rattle.std.proofs.lemmas.Option.{same_Some}
-use Rattle.tree_model.specs.Pairs.{IsAscending}
 use Rattle.tree_model.proofs.Ascending.{IsAscending-without}
 use Rattle.tree_plain.proofs.Searches.{remove-without, pair_read}
 use Rattle.tree_plain.proofs.index.PlainIndex.remove_if.Goals as goal

@@ -1,7 +1,6 @@
 use Rattle.std.proofs.Common.{◌≡◌, rules, sym, subst}
-use Rattle.std.specs.Range.Bound.{bound_map}
+use Rattle.tree_model.proofs.Common.{bound_map, IsAscending, cut}
 use Rattle.std.proofs.lemmas.Fn.{filter_same}
-use Rattle.tree_model.specs.Pairs.{IsAscending, cut}
 use Rattle.tree_model.proofs.Ascending.{IsAscending-cut}
 use Rattle.tree_plain.proofs.index.PlainIndex.remove_range.Goals as goal
 

@@ -1,5 +1,5 @@
 use Rattle.std.proofs.Common.{sym, subst}
-use Rattle.tree_model.specs.Pairs.{IsAscending}
+use Rattle.tree_model.proofs.Common.{IsAscending}
 use Rattle.tree_model.proofs.Ascending.{IsAscending-put}
 use Rattle.tree_plain.proofs.Searches.{set-put}
 use Rattle.tree_plain.proofs.index.PlainIndex.upsert.Goals as goal

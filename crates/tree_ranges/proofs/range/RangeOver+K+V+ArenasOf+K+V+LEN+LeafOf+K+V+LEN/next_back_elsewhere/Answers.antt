@@ -1,5 +1,5 @@
 use Rattle.std.proofs.Common.{None}
-use Rattle.tree_chain.specs.declared.stand.Way.TheVariants.{Back}
+use Rattle.tree_model.specs.declared.way.Way.TheVariants.{Back}
 use Rattle.tree_cursors.specs.View.{Kept, seen}
 use Rattle.tree_ranges.proofs.Moving.{hidden_if, moves_back, shown_if}
 use Rattle.tree_ranges.proofs.Shown.{element_is}

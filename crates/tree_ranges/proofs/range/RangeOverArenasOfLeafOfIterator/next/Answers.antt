@@ -1,5 +1,5 @@
 use Rattle.std.proofs.Common.{None}
-use Rattle.tree_chain.specs.declared.stand.Way.TheVariants.{On}
+use Rattle.tree_model.specs.declared.way.Way.TheVariants.{On}
 use Rattle.tree_cursors.specs.View.{Kept, seen}
 use Rattle.tree_ranges.proofs.Moving.{hidden_if, makes_progress, moves_on, shown_if}
 use Rattle.tree_ranges.proofs.Shown.{element_is}

@@ -1,5 +1,5 @@
+use Rattle.tree_node.proofs.Common.{fits}
 use Rattle.tree_node.proofs.Bare.{empty_tree}
-use Rattle.tree_node.proofs.Sizes.{fits}
 use Rattle.tree_root.proofs.tree.Tree.clear.Goals as goal
 
 pub returns-clause-whole : goal.returns-clause-whole

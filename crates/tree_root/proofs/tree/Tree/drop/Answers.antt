@@ -1,4 +1,4 @@
-use Rattle.tree_node.proofs.Sizes.{fits}
+use Rattle.tree_node.proofs.Common.{fits}
 use Rattle.tree_root.proofs.tree.Tree.drop.Goals as goal
 
 pub drop-requires-room-T-Destruct : goal.drop-requires-room-T-Destruct

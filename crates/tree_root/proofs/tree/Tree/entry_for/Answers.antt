@@ -1,5 +1,5 @@
 use Rattle.std.proofs.Common.{refl}
-use Rattle.tree_node.proofs.Sizes.{fits}
+use Rattle.tree_node.proofs.Common.{fits}
 use Rattle.tree_root.proofs.Storing.{part_or_retired}
 use Rattle.tree_root.proofs.tree.Tree.entry_for.Goals as goal
 

@@ -1,5 +1,5 @@
 use Rattle.std.proofs.Common.{inl, inr, refl}
-use Rattle.tree_node.proofs.Sizes.{fits}
+use Rattle.tree_node.proofs.Common.{fits}
 use Rattle.tree_root.proofs.Taken.{kept, last_taken, root_level, still_part, taken}
 use Rattle.tree_root.proofs.tree.Tree.remove_alone.Goals as goal
 

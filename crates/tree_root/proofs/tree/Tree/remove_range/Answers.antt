@@ -1,5 +1,5 @@
 use Rattle.std.proofs.Common.{refl}
-use Rattle.tree_node.proofs.Sizes.{fits}
+use Rattle.tree_node.proofs.Common.{fits}
 use Rattle.tree_root.proofs.Cutting.{none_cut, still, was_cut}
 use Rattle.tree_root.proofs.Storing.{part_or_retired}
 use Rattle.tree_root.proofs.tree.Tree.remove_range.Goals as goal

@@ -1,4 +1,4 @@
-use Rattle.tree_node.proofs.Sizes.{fits}
+use Rattle.tree_node.proofs.Common.{fits}
 use Rattle.tree_root.proofs.Storing.{stands_or_retired}
 use Rattle.tree_root.proofs.tree.Tree.search.Goals as goal
 

@@ -1,7 +1,7 @@
 use Rattle.std.proofs.Common.{arith}
+use Rattle.tree_node.proofs.Common.{fits}
 use mir.Syntax.{w128}
 use Rattle.std.proofs.Math.Facts.{Fits-of_lt}
-use Rattle.tree_node.proofs.Sizes.{fits}
 use Rattle.tree_root.proofs.Numbers.{pairs_few, slots_small}
 use Rattle.tree_root.proofs.tree.Tree.slots.Goals as goal
 

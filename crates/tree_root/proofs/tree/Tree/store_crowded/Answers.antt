@@ -1,5 +1,5 @@
 use Rattle.std.proofs.Common.{Ok, Err, ap, refl}
-use Rattle.tree_node.proofs.Sizes.{fits}
+use Rattle.tree_node.proofs.Common.{fits}
 use Rattle.tree_root.specs.Trees.{told}
 use Rattle.tree_root.proofs.Storing.{never_full, no_room, not_retired, stored_grown, stored_under}
 use Rattle.tree_root.proofs.tree.Tree.store_crowded.Goals as goal

@@ -1,5 +1,5 @@
 use Rattle.std.proofs.Common.{refl}
-use Rattle.tree_node.proofs.Sizes.{fits}
+use Rattle.tree_node.proofs.Common.{fits}
 use Rattle.tree_root.proofs.Storing.{not_stored_first, stored_first}
 use Rattle.tree_root.proofs.tree.Tree.store_first.Goals as goal
 

@@ -1,8 +1,6 @@
 use Rattle.std.proofs.Common.{suc, ◌+◌, w64, Some, Ok, Err, refl, add-one, arith}
+use Rattle.tree_node.proofs.Common.{fits, IsRetiredNode, ContainsKey, get}
 use Rattle.std.proofs.Math.Facts.{Fits-of_lt}
-use Rattle.tree_node.proofs.Sizes.{fits}
-use Rattle.tree_node.specs.Tree.{IsRetiredNode}
-use Rattle.slab.specs.Slab.{ContainsKey, get}
 use Rattle.tree_insert.proofs.RaisedTrees.{tree_raised}
 use Rattle.tree_root.proofs.Storing.{childless_root, full_root, not_grown, part_or_retired, root_part, root_there, stored_raised, takes_it}
 use Rattle.tree_root.proofs.tree.Tree.store_grown.Goals as goal

@@ -1,4 +1,4 @@
-use Rattle.tree_node.proofs.Sizes.{fits}
+use Rattle.tree_node.proofs.Common.{fits}
 use Rattle.tree_remove.specs.Removes.{surely}
 use Rattle.tree_root.proofs.Taken.{found_again, pair_taken, root_after, same_stored}
 use Rattle.tree_root.proofs.tree.Tree.take_entry.Goals as goal

@@ -1,4 +1,4 @@
-use Rattle.tree_node.proofs.Sizes.{fits}
+use Rattle.tree_node.proofs.Common.{fits}
 use Rattle.tree_set.proofs.Keys.{key_clones}
 use Rattle.tree_set.proofs.copies.TreeSetOfClone.clone.Goals as goal
 

@@ -1,5 +1,5 @@
 use Rattle.std.proofs.Common.{true, refl, ◌∙◌}
-use Rattle.tree_node.proofs.Sizes.{fits}
+use Rattle.tree_node.proofs.Common.{fits}
 use Rattle.tree_set.proofs.Keys.{keys_equal}
 use Rattle.tree_set.proofs.equality.TreeSetOfPartialEq.eq.Goals as goal
 

@@ -1,4 +1,4 @@
-use Rattle.tree_node.proofs.Sizes.{fits}
+use Rattle.tree_node.proofs.Common.{fits}
 use Rattle.tree_set.proofs.Keys.{tells_key}
 use Rattle.tree_set.proofs.set.TreeSetOf.contains.Goals as goal
 

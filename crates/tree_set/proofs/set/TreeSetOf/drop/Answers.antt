@@ -1,4 +1,4 @@
-use Rattle.tree_node.proofs.Sizes.{fits}
+use Rattle.tree_node.proofs.Common.{fits}
 use Rattle.tree_set.proofs.set.TreeSetOf.drop.Goals as goal
 
 pub drop-requires : goal.drop-requires

@@ -1,7 +1,6 @@
-use Rattle.tree_node.proofs.Sizes.{fits}
+use Rattle.std.proofs.Common.{ap, ◌∙◌, option_map}
+use Rattle.tree_node.proofs.Common.{fits}
 use Rattle.tree_set.proofs.Keys.{first_key}
-use Rattle.std.proofs.Common.{ap, ◌∙◌}
-use Rattle.std.specs.Option.{option_map}
 use Rattle.tree_set.proofs.set.TreeSetOf.first.Goals as goal
 
 pub first-requires : goal.first-requires

@@ -1,6 +1,6 @@
-use Rattle.tree_node.proofs.Sizes.{fits}
-use Rattle.tree_set.proofs.Keys.{found_key, keys_ascend}
 use Rattle.std.proofs.Common.{None, Some}
+use Rattle.tree_node.proofs.Common.{fits}
+use Rattle.tree_set.proofs.Keys.{found_key, keys_ascend}
 use Rattle.tree_set.proofs.set.TreeSetOf.get.Goals as goal
 
 pub peek_entry-requires : goal.peek_entry-requires

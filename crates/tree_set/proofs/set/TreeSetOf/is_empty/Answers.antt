@@ -1,6 +1,6 @@
-use Rattle.tree_node.proofs.Sizes.{fits}
-use Rattle.tree_set.proofs.Keys.{keys-none}
 use Rattle.std.proofs.Common.{ap}
+use Rattle.tree_node.proofs.Common.{fits}
+use Rattle.tree_set.proofs.Keys.{keys-none}
 use Rattle.tree_set.specs.Sets.{keys_of}
 use Rattle.tree_set.proofs.set.TreeSetOf.is_empty.Goals as goal
 

@@ -1,6 +1,6 @@
-use Rattle.tree_node.proofs.Sizes.{fits}
-use Rattle.tree_set.proofs.Keys.{all_within}
 use Rattle.std.proofs.Common.{refl, ap}
+use Rattle.tree_node.proofs.Common.{fits}
+use Rattle.tree_set.proofs.Keys.{all_within}
 use Rattle.tree_set.specs.Sets.{keys_of}
 use Rattle.tree_set.proofs.set.TreeSetOf.iter.Goals as goal
 

@@ -1,4 +1,4 @@
-use Rattle.tree_node.proofs.Sizes.{fits}
+use Rattle.tree_node.proofs.Common.{fits}
 use Rattle.std.proofs.lemmas.List.{length-map}
 use Rattle.tree_set.proofs.set.TreeSetOf.len.Goals as goal
 

@@ -1,8 +1,7 @@
-use Rattle.tree_node.proofs.Sizes.{fits}
-use Rattle.tree_set.proofs.Keys.{keys-filter}
 use Rattle.std.proofs.Common.{refl}
-use Rattle.std.specs.Range.Bound.{bound_map}
-use Rattle.tree_model.specs.Pairs.{within}
+use Rattle.tree_model.proofs.Common.{bound_map, within}
+use Rattle.tree_node.proofs.Common.{fits}
+use Rattle.tree_set.proofs.Keys.{keys-filter}
 use Rattle.tree_set.proofs.set.TreeSetOf.range.Goals as goal
 
 pub range-requires : goal.range-requires

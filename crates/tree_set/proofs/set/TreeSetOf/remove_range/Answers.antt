@@ -1,7 +1,7 @@
-use Rattle.tree_node.proofs.Sizes.{fits}
-use Rattle.tree_set.proofs.Keys.{keys-cut}
 use Rattle.std.proofs.Common.{ap, ◌∙◌}
-use Rattle.std.specs.Range.Bound.{bound_map}
+use Rattle.tree_model.proofs.Common.{bound_map}
+use Rattle.tree_node.proofs.Common.{fits}
+use Rattle.tree_set.proofs.Keys.{keys-cut}
 use Rattle.tree_set.specs.Sets.{keys_of}
 use Rattle.tree_set.proofs.set.TreeSetOf.remove_range.Goals as goal
 

@@ -1,4 +1,4 @@
-use Rattle.tree_node.proofs.Sizes.{fits}
+use Rattle.tree_node.proofs.Common.{fits}
 use Rattle.tree_set.proofs.Keys.{key_clones}
 use Rattle.tree_set.proofs.set.TreeSetOf.try_clone.Goals as goal
 

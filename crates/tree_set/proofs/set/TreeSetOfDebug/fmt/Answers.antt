@@ -1,4 +1,4 @@
-use Rattle.tree_node.proofs.Sizes.{fits}
+use Rattle.tree_node.proofs.Common.{fits}
 use Rattle.tree_set.proofs.set.TreeSetOfDebug.fmt.Goals as goal
 
 pub iter-elements-requires : goal.iter-elements-requires

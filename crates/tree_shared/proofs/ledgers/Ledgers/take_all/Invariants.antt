@@ -1,4 +1,4 @@
-use Rattle.std.specs.Prelude.{◌≡◌, ◌+◌, ◌≤◌, length}
+use Rattle.std.proofs.Common.{◌≡◌, ◌+◌, ◌≤◌, length}
 use Rattle.tree_shared.specs.Tallies.{sum_of}
 use Rattle.tree_shared.proofs.ledgers.Ledgers.take_all.Given as goal
 

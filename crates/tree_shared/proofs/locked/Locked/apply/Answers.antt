@@ -1,5 +1,5 @@
 use Rattle.std.proofs.Common.{sym, ap, ◌∙◌}
-use Rattle.tree_node.proofs.Sizes.{fits}
+use Rattle.tree_node.proofs.Common.{fits}
 use Rattle.tree_shared.specs.Tallies.{raised, tally}
 use Rattle.tree_shared.proofs.Tallied.{kind_of, not_refused, tally_next}
 use Rattle.tree_shared.proofs.locked.Locked.apply.Goals as goal

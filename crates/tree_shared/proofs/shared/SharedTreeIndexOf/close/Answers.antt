@@ -1,5 +1,5 @@
 use Rattle.std.proofs.Common.{sym, ap, ◌∙◌, arith}
-use Rattle.tree_node.proofs.Sizes.{fits}
+use Rattle.tree_node.proofs.Common.{fits}
 use Rattle.tree_shared.specs.Tallies.{tally}
 use Rattle.tree_shared.proofs.Tallied.{fits_tally}
 use Rattle.tree_shared.proofs.shared.SharedTreeIndexOf.close.Goals as goal

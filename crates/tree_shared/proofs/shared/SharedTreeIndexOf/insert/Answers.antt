@@ -1,4 +1,4 @@
-use Rattle.tree_node.proofs.Sizes.{fits}
+use Rattle.tree_node.proofs.Common.{fits}
 use Rattle.tree_shared.proofs.shared.SharedTreeIndexOf.insert.Goals as goal
 
 pub serve-requires-room-T-Serves : goal.serve-requires-room-T-Serves

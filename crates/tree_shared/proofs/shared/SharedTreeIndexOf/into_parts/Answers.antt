@@ -1,4 +1,4 @@
-use Rattle.tree_node.proofs.Sizes.{fits}
+use Rattle.tree_node.proofs.Common.{fits}
 use Rattle.tree_shared.proofs.shared.SharedTreeIndexOf.into_parts.Goals as goal
 
 pub into_parts-state-requires : goal.into_parts-state-requires

@@ -1,6 +1,6 @@
 use Rattle.std.proofs.Common.{◌≡◌, ap, ◌∙◌, sym, rules, arith}
+use Rattle.tree_node.proofs.Common.{fits}
 use Rattle.std.proofs.lemmas.List.Elements.{All-push}
-use Rattle.tree_node.proofs.Sizes.{fits}
 use Rattle.tree_shared.specs.Ledgers.{Standing}
 use Rattle.tree_shared.specs.Tallies.{none, tally}
 use Rattle.tree_shared.specs.declared.tally.Tally.{Tally}

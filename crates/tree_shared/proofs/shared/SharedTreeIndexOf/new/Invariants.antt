@@ -1,4 +1,4 @@
-use Rattle.std.specs.Prelude.{◌≡◌, ◌+◌, vec_len, All}
+use Rattle.std.proofs.Common.{◌≡◌, ◌+◌, vec_len, All}
 use Rattle.tree_shared.specs.Tallies.{none}
 use Rattle.tree_shared.proofs.shared.SharedTreeIndexOf.new.Given as goal
 

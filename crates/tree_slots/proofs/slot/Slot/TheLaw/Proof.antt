@@ -23,8 +23,8 @@ use denote.Struct.Members.{Member, row_of, rows_of, parts_at}
 use denote.Struct.Parts.{PartsBack, Struct-parts, shape_of}
 use denote.Struct.Lending.{Law, Lends-nothing}
 use Rattle.tree_slots.specs.Slot.{offset, lent, lent_at}
-use Rattle.tree_slots.specs.contracts.slot.Slot as C
 use Rattle.tree_slots.proofs.slot.Slot.TheLaw.Statement.{statement}
+use Rattle.tree_slots.specs.contracts.slot.Slot as C
 
 module _ {M : Type 1} {𝓤 : Ura M} (𝓛 : Logic 𝓤) (m : Member) (L : Lawful 𝓛 (row_of m)) (x : m.row.Denot) (b o : ℕ) where
   open 𝓛 use {H, A}

@@ -25,10 +25,10 @@ use denote.Param.Laws.{param_laws}
 use Rattle.std.proofs.ResultValues.{and_tt}
 use Rattle.tree_slots.proofs.Slots.{alone}
 use Rattle.std.proofs.raw_atomic.Walks.{proved_at, leaves}
-use Rattle.tree_slots.specs.contracts.slot.Slot.TheInside as inside
 use Rattle.tree_slots.specs.contracts.slot.Slot.full.{ended, clauses}
 use Rattle.tree_slots.specs.contracts.slot.Slot.full.Key.{name as #self}
 use Rattle.tree_slots.proofs.slot.Slot.full.Statement.{statement}
+use Rattle.tree_slots.specs.contracts.slot.Slot.TheInside as inside
 use Rattle.tree_slots.proofs.slot.Slot.full.Code as code
 
 pub full_spec : {M : Type 1} → statement M

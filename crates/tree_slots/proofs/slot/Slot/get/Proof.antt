@@ -22,10 +22,10 @@ use denote.Triple.Walked.{Stays, stay_dropped, walk_of, Goes-dropped}
 use Rattle.tree_slots.specs.Slot.{offset}
 use Rattle.tree_slots.proofs.Slots.{some_of}
 use Rattle.std.proofs.raw_atomic.Walks.{proved, leaves}
-use Rattle.tree_slots.specs.contracts.slot.Slot as slot
 use Rattle.tree_slots.specs.contracts.slot.Slot.get.{ended, clauses}
 use Rattle.tree_slots.specs.contracts.slot.Slot.get.Key.{name as #self}
 use Rattle.tree_slots.proofs.slot.Slot.get.Statement.{statement}
+use Rattle.tree_slots.specs.contracts.slot.Slot as slot
 use Rattle.tree_slots.proofs.slot.Slot.get.Code as code
 
 pub get_spec : {M : Type 1} → statement M

@@ -24,10 +24,10 @@ use denote.Param.Laws.{param_laws}
 use Rattle.std.proofs.ResultValues.{and_tt}
 use Rattle.tree_slots.proofs.Slots.{alone, some_of}
 use Rattle.std.proofs.raw_atomic.Walks.{proved_at, leaves}
-use Rattle.tree_slots.specs.contracts.slot.Slot as slot
 use Rattle.tree_slots.specs.contracts.slot.Slot.into_inner.{ended, clauses}
 use Rattle.tree_slots.specs.contracts.slot.Slot.into_inner.Key.{name as #self}
 use Rattle.tree_slots.proofs.slot.Slot.into_inner.Statement.{statement}
+use Rattle.tree_slots.specs.contracts.slot.Slot as slot
 use Rattle.tree_slots.proofs.slot.Slot.into_inner.Code as code
 
 pub into_inner_spec : {M : Type 1} → statement M

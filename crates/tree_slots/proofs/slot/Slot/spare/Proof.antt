@@ -22,10 +22,10 @@ use denote.Triple.Walked.{Stays, stay_ref, walk_of, Goes-ref}
 use Rattle.std.proofs.VecSteps.Shapes.{after}
 use Rattle.tree_slots.proofs.Slots.{alone}
 use Rattle.std.proofs.raw_atomic.Walks.{proved, leaves}
-use Rattle.tree_slots.specs.contracts.slot.Slot as slot
 use Rattle.tree_slots.specs.contracts.slot.Slot.spare.{ended, clauses}
 use Rattle.tree_slots.specs.contracts.slot.Slot.spare.Key.{name as #self}
 use Rattle.tree_slots.proofs.slot.Slot.spare.Statement.{statement}
+use Rattle.tree_slots.specs.contracts.slot.Slot as slot
 use Rattle.tree_slots.proofs.slot.Slot.spare.Code as code
 
 pub spare_spec : {M : Type 1} → statement M

@@ -1,9 +1,9 @@
-use Rattle.std.proofs.Common.{refl, ap, sym, ◌∙◌}
-use Rattle.std.specs.Option.{option_map}
+use Rattle.std.proofs.Common.{refl, ap, sym, ◌∙◌, option_map}
 use Rattle.tree_model.specs.declared.commands.Command.TheVariants.{Peek}
 use Rattle.tree_model.specs.declared.commands.Reply.TheVariants.{Found}
-use Rattle.tree_model.proofs.Histories.{history_grows, same_key_itself, seen_value}
-use Rattle.tree_node.proofs.Sizes.{fits}
+use Rattle.tree_array.proofs.Common.{history_grows}
+use Rattle.tree_node.proofs.Common.{fits}
+use Rattle.tree_model.proofs.Histories.{same_key_itself, seen_value}
 use Rattle.tree_state.proofs.Rooms.{room_left}
 use Rattle.tree_state.proofs.state.StateOf.look_up.Goals as goal
 

@@ -1,8 +1,9 @@
 use Rattle.std.proofs.Common.{refl, sym, ◌∙◌}
 use Rattle.tree_model.specs.declared.commands.Command.TheVariants.{Remove}
 use Rattle.tree_model.specs.declared.commands.Reply.TheVariants.{Removed}
-use Rattle.tree_model.proofs.Histories.{history_grows, same_key_itself}
-use Rattle.tree_node.proofs.Sizes.{fits}
+use Rattle.tree_array.proofs.Common.{history_grows}
+use Rattle.tree_node.proofs.Common.{fits}
+use Rattle.tree_model.proofs.Histories.{same_key_itself}
 use Rattle.tree_state.proofs.Rooms.{room_left}
 use Rattle.tree_state.proofs.state.StateOf.remove.Goals as goal
 

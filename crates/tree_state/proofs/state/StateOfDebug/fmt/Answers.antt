@@ -1,4 +1,4 @@
-use Rattle.tree_node.proofs.Sizes.{fits}
+use Rattle.tree_node.proofs.Common.{fits}
 use Rattle.tree_state.proofs.state.StateOfDebug.fmt.Goals as goal
 
 pub index-requires : goal.index-requires

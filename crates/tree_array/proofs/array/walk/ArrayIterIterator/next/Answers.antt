@@ -1,5 +1,5 @@
 use Rattle.std.proofs.Common.{◌≡◌, ◌+◌, ◌-◌, ap, ◌∙◌, arith}
-use Rattle.tree_order.specs.Order.{named}
+use Rattle.tree_array.proofs.Common.{named}
 use Rattle.tree_array.proofs.Stepped.{goes_on, stays, stepped_on}
 use Rattle.tree_array.proofs.array.walk.ArrayIterIterator.next.Goals as goal
 

@@ -1,4 +1,4 @@
-use Rattle.std.specs.Prelude.{◌≡◌, length, vec_len}
+use Rattle.std.proofs.Common.{◌≡◌, length, vec_len}
 use Rattle.tree_workers.proofs.workers.fn.run_all.scope.Given as goal
 
 -- a pass of each thread that was joined

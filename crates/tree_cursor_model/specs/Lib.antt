@@ -1,4 +1,0 @@
-pub mod Cursor
-pub mod Located
-pub mod Moves
-pub mod Rest
