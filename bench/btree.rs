@@ -15,8 +15,11 @@ const FEW: usize = 1000;
 #[derive(Clone, Copy)]
 enum Workload {
     InsertAscending,
+    AppendAscending,
     InsertRandom,
     UpsertRandom,
+    ReplaceRandom,
+    ModifyRandom,
     PeekHit,
     PeekMiss,
     RemoveRandom,
@@ -35,10 +38,13 @@ enum Workload {
     PeekText,
 }
 
-const ALL: [(Workload, &str); 19] = [
+const ALL: [(Workload, &str); 22] = [
     (Workload::InsertAscending, "insert_ascending"),
+    (Workload::AppendAscending, "append_ascending"),
     (Workload::InsertRandom, "insert_random"),
     (Workload::UpsertRandom, "upsert_random"),
+    (Workload::ReplaceRandom, "replace_random"),
+    (Workload::ModifyRandom, "modify_random"),
     (Workload::PeekHit, "peek_hit"),
     (Workload::PeekMiss, "peek_miss"),
     (Workload::RemoveRandom, "remove_random"),
@@ -112,6 +118,18 @@ fn peek_all<K: Ord>(map: &BTreeMap<K, u64>, keys: &[K]) -> u64 {
         }
     }
     sum
+}
+
+/// Adds one to the value of each key.
+fn modify_all<K: Ord>(map: &mut BTreeMap<K, u64>, keys: &[K]) -> u64 {
+    let mut modified = 0u64;
+    for key in keys {
+        if let Some(value) = map.get_mut(key) {
+            *value += 1;
+            modified += 1;
+        }
+    }
+    modified
 }
 
 fn summed(sum: u64, value: u64) -> u64 {
@@ -195,6 +213,7 @@ impl<K: Ord + Clone> Scene<K> {
             Workload::PeekHit | Workload::PeekMiss | Workload::PeekText => {
                 peek_all(&self.map, &self.asked)
             }
+            Workload::ModifyRandom => modify_all(&mut self.map, &self.asked),
             Workload::RemoveRandom | Workload::RemoveMiddle => {
                 remove_all(&mut self.map, &self.asked)
             }
@@ -228,8 +247,12 @@ fn scene_of_numbers(workload: Workload, size: usize) -> Scene<u64> {
     let mut order = keys.clone();
     source.shuffle(&mut order);
     match workload {
-        Workload::InsertAscending => Scene::empty(ascending(0, size), ascending(0, size)),
-        Workload::UpsertRandom => Scene::filled(keys, order.clone(), order),
+        Workload::InsertAscending | Workload::AppendAscending => {
+            Scene::empty(ascending(0, size), ascending(0, size))
+        }
+        Workload::UpsertRandom | Workload::ReplaceRandom => {
+            Scene::filled(keys, order.clone(), order)
+        }
         Workload::WalkAscending | Workload::WalkBackAscending => {
             Scene::filled(ascending(0, size), Vec::new(), ascending(0, size))
         }
@@ -240,7 +263,8 @@ fn scene_of_numbers(workload: Workload, size: usize) -> Scene<u64> {
         Workload::PeekMiss | Workload::Nearest => {
             Scene::filled(keys, Vec::new(), source.list(size))
         }
-        Workload::PeekHit
+        Workload::ModifyRandom
+        | Workload::PeekHit
         | Workload::RemoveRandom
         | Workload::WalkRandom
         | Workload::WalkBackRandom

@@ -23,7 +23,10 @@ fn extends<const LEN: usize>(
 ) -> Result<(), AllocError> {
     let length = index.len();
     let pairs = vec![in alloc; (1, 10), (3, 30), (1, 11), (5, 50), (3, 33)]?;
-    index.extend(pairs)?;
+    match index.try_extend(pairs) {
+        Ok(()) => {}
+        Err(_) => return Err(AllocError),
+    }
     assert!(rt; index.len() == length.wrapping_add(3));
     assert!(rt; index.peek(&1) == Some(&11) && index.peek(&3) == Some(&33));
     Ok(())

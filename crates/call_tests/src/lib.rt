@@ -1,7 +1,9 @@
 //! Tests of the calls that are made of others: a value that is stored where its key is absent, pairs that are stored one
-//! after another, copies, look-ups of texts, and removals that return the pair.
+//! after another, copies, look-ups of texts, values that are changed where they stand, and removals that return the pair.
 #![tactic(auto)]
 
+#[cfg(test)]
+mod changes;
 #[cfg(test)]
 mod collects;
 #[cfg(test)]

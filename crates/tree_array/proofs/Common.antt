@@ -10,6 +10,7 @@ pub use Rattle.tree_array.specs.declared.answers.RemoveResult.TheVariants.{Succe
 pub use Rattle.tree_array.specs.declared.answers.StoreResult.{StoreResult}
 pub use Rattle.tree_array.specs.declared.answers.StoreResult.TheVariants.{Full, New, Replaced, Duplicate}
 pub use Rattle.tree_cells.proofs.Picks.{arrival-all}
+pub use Rattle.tree_cells.proofs.Sizes.{before_last, before_two, in_some, last_field}
 pub use Rattle.tree_cells.proofs.Tabled.{few_places}
 pub use Rattle.tree_cells.proofs.Walks.{ordinals_of}
 pub use Rattle.tree_cells.specs.Tabled.{IsTabled}

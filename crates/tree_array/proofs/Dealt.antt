@@ -1,8 +1,10 @@
 -- Entries that are taken, and arrays whose arrivals are all spent.
-use Rattle.std.proofs.Common.{◌≡◌, ℕ, zero, suc, ◌<◌, true, length, map, drop, take, get_or, List, [], ◌∷◌, ◌++◌, slice_get, Option, Some, None, refl, ap, subst, arith, Ordering, Less, Greater, is_lt, is_gt}
-use Rattle.tree_model.proofs.Common.{AllByRecursion, IsTotalOrder, tied_itself, IsAscending, without}
-use Rattle.tree_array.proofs.Common.{all_map, filter_all, filter_none, greater_from_less, Arrivals, arrival, spend, spent_at}
+use Rattle.std.proofs.Common.{◌≡◌, ℕ, zero, suc, ◌<◌, true, length, map, drop, take, get_or, List, [], ◌∷◌, ◌++◌, slice_get, Option, Some, None, refl, ap, subst, arith, Ordering, Less}
+use Rattle.tree_model.proofs.Common.{IsTotalOrder, IsAscending, without}
+use Rattle.tree_array.proofs.Common.{Arrivals, arrival, spend, spent_at}
 use Rattle.std.proofs.lemmas.Option.{none-some, same_Some}
+use Rattle.tree_model.proofs.Ascending.{without_first}
+use Rattle.tree_model.proofs.Lists.{all_at}
 use Rattle.tree_array.specs.Arrivals.{drained}
 
 module _ {K V : Type 0} where
@@ -13,24 +15,12 @@ module _ {K V : Type 0} where
   arrival-spend cmp (a ∷ arrivals) key (suc p) = arrival-spend cmp arrivals key p
 
 module _ {K V : Type 0} {cmp : K → K → Ordering} (o : IsTotalOrder cmp) where
-  -- the entries without the first
-  without_first : (e : K × V) (rest : List (K × V)) → IsAscending cmp (e ∷ rest) → without cmp (e ∷ rest) e.0 ≡ rest
-  without_first e rest h =
-      let over : AllByRecursion (λ (f : K × V). cmp f.0 e.0 ≡ Greater) rest = all_map (λ f later. greater_from_less o e.0 f.0 later) rest h.0 in
-      rw (tied_itself o e.0, filter_none (λ (f : K × V). is_lt (cmp f.0 e.0)) rest (all_map (λ f larger. ap is_lt larger) rest over), filter_all (λ (f : K × V). is_gt (cmp f.0 e.0)) rest (all_map (λ f larger. ap is_gt larger) rest over)) refl
-
-  -- an entry that each of the first is smaller than
-  found : (P : K × V → Type 0) (n : ℕ) (entries : List (K × V)) (e : K × V) → AllByRecursion P entries → slice_get entries n ≡ Some e → P e
-  found P n [] e all there = absurd (none-some e there)
-  found P zero (f ∷ rest) e all there = subst P (same_Some f e there) all.0
-  found P (suc n) (f ∷ rest) e all there = found P n rest e all.1 there
-
   -- the entries before one that was taken, and those behind it
   pub parted : (n : ℕ) (entries : List (K × V)) (e : K × V) → IsAscending cmp entries → slice_get entries n ≡ Some e → (take n (without cmp entries e.0) ≡ take n entries) × (drop n (without cmp entries e.0) ≡ drop (suc n) entries)
   parted n [] e h there = absurd (none-some e there)
-  parted zero (f ∷ rest) e h there = (refl, subst (λ (x : K × V). without cmp (f ∷ rest) x.0 ≡ rest) (same_Some f e there) (without_first f rest h))
+  parted zero (f ∷ rest) e h there = (refl, subst (λ (x : K × V). without cmp (f ∷ rest) x.0 ≡ rest) (same_Some f e there) (without_first o f rest h))
   parted (suc n) (f ∷ rest) e h there =
-      let less : cmp f.0 e.0 ≡ Less = found (λ (x : K × V). cmp f.0 x.0 ≡ Less) n rest e h.0 there in
+      let less : cmp f.0 e.0 ≡ Less = all_at (λ (x : K × V). cmp f.0 x.0 ≡ Less) rest n e h.0 there in
       let more = parted n rest e h.1 there in
       rw less (ap (λ (pairs : List (K × V)). f ∷ pairs) more.0, more.1)
 

@@ -1,7 +1,10 @@
 -- The fields of an array after a pair was stored, and what contracts see of them.
-use Rattle.std.proofs.Common.{◌≡◌, ◌≢◌, ℕ, ◌+◌, ◌<◌, ◌≤◌, Bool, true, false, IsTrue, List, [], ◌∷◌, ◌++◌, length, set, Option, None, Some, refl, ◌∙◌, ap, inl, inr, arith, Ordering, Greater, length-set}
-use Rattle.tree_model.proofs.Common.{IsTotalOrder, cases_lt, nat_tests, tied_back, false≢true}
+use Rattle.std.proofs.Common.{◌≡◌, ◌≢◌, ℕ, ◌+◌, ◌<◌, ◌≤◌, Bool, true, false, IsTrue, List, [], ◌∷◌, ◌++◌, length, set, Option, None, Some, refl, ◌∙◌, ap, inl, inr, arith, Ordering, Less, Greater, length-set}
+use Rattle.tree_model.proofs.Common.{AllByRecursion, IsTotalOrder, cases_lt, nat_tests, tied_back, false≢true}
 use Rattle.tree_array.proofs.Common.{Arrivals, arrival, free, reachable, sorted, spend, stored, IsFull, HasRoom, picked, named, IsTabled, seen, length-picked, ordinals_of}
+use Rattle.std.proofs.lemmas.Option.{slice_get_within}
+use Rattle.tree_model.proofs.Lists.{all_at}
+use Rattle.tree_model.proofs.Order.{greater_from_less}
 use Rattle.tree_array.specs.Insertion.{PartsEntries}
 use Rattle.tree_order.specs.Order.{clamped}
 use Rattle.tree_cells.specs.Place.{HasKey, IsPlace, Parts}
@@ -23,6 +26,14 @@ clamped_late count place le = grind (arith, nat_tests)
 -- an array with room for an arrival has a slot for it
 pub made_early : {K V : Type 0} (cmp : K → K → Ordering) (cells : List (Option (K × V))) (len made : ℕ) (retired : Bool) (array : Arrivals K V) → seen cmp cells made retired ≡ array → length array.arrivals < len → made < len
 made_early cmp cells len made retired array view_is room = omega (arith, room, ap length (arrivals_seen cmp cells made retired view_is), length-picked (arrival cells) made)
+
+-- a key larger than all comes behind all
+pub parts_behind : {K V : Type 0} {cmp : K → K → Ordering} → IsTotalOrder cmp → (entries : List (K × V)) (key : K) (place : ℕ) → place ≡ length entries → AllByRecursion (λ p. cmp p.0 key ≡ Less) entries → PartsEntries cmp entries key place
+parts_behind {cmp = cmp} o entries key place behind larger = record {
+  reach = omega (arith, behind);
+  smaller = λ i e lt there. greater_from_less o e.0 key (all_at (λ p. cmp p.0 key ≡ Less) entries i e larger there);
+  larger = λ i e le there. absurd (omega (arith, behind, le, slice_get_within entries i e there));
+}
 
 -- an array that isn't full has room
 pub room_from_not_full : {K V : Type 0} (len : ℕ) (array : Arrivals K V) → (IsFull len array → IsTrue false) → HasRoom len array

@@ -13,6 +13,7 @@ use tree_cells::cells::Cells;
 pub use tree_cells::judge::{Judge, KeyJudge, Steps};
 use tree_order::order::{EMPTY, RETIRED, slot_at};
 
+mod changes;
 mod division;
 mod insertion;
 mod removal;

@@ -2,7 +2,7 @@
 use Rattle.std.proofs.Common.{ℕ, ◌+◌, ◌<◌, ◌^◌, max, le_trans, le-add_left, le-add_right, lt_of_le_of_lt}
 use Rattle.std.proofs.Math.Nat.{le-max_left, le-max_right}
 use prog.Memory.{up}
-use Rattle.tree_node.proofs.Sizes.{third_last_fits, second_last_fits, last_fits, some_fits}
+use Rattle.tree_array.proofs.Common.{before_two, before_last, last_field, in_some}
 
 -- the payload of the first variant
 pub first_fits : (align tag size rest : ℕ) → up align (max (up tag 1 + size) rest) < 2 ^ 63 → size < 2 ^ 63
@@ -17,4 +17,4 @@ second_fits align tag before size rest h =
     lt_of_le_of_lt (le_trans (le-add_left size (up tag 1)) (le_trans (le-max_left (up tag 1 + size) rest) (le_trans (le-max_right before (max (up tag 1 + size) rest)) (le-add_right whole _)))) h
 
 -- the steps from arenas to a node of each type
-pub ruleset kinds_fit = (third_last_fits, second_last_fits, last_fits, some_fits, first_fits, second_fits)
+pub ruleset kinds_fit = (before_two, before_last, last_field, in_some, first_fits, second_fits)

@@ -4,7 +4,6 @@ ghost use Rattle.std.proofs.Math.Nat.{le_of_eq, le_of_lt};
 ghost use Rattle.std.specs.Prelude.{◌≡◌, ◌↔◌, ◌⊎◌, ◌+◌, ◌*◌, ◌<◌, ◌≤◌, [], IsTrue, MatchOption, None, Ok, Some, length, if◌then◌else◌, ℕ};
 ghost use Rattle.std.specs.Fn.{FnOnceReturnsAt, FnOnceTakesAt};
 ghost use Rattle.std.specs.Option.{ForSome};
-ghost use Rattle.std.specs.Range.Bound.{bound_map};
 ghost use Rattle.std.specs.declared.ops.Bound.TheVariants.{Included};
 ghost use Rattle.slab.specs.Slab.{get};
 ghost use Rattle.tree_array.specs.Length.{searched};
@@ -13,7 +12,7 @@ ghost use Rattle.tree_calls.specs.CleanUps.{NeedsCleanUp};
 ghost use Rattle.tree_cut.specs.Cuts.{CutsUnder};
 ghost use Rattle.tree_insert.specs.Inserts.{InsertsPlainly};
 ghost use Rattle.tree_model.specs.declared.way.Way.TheVariants.{On, Back};
-ghost use Rattle.tree_model.specs.Pairs.{IsAbsent, pair_at};
+ghost use Rattle.tree_model.specs.Pairs.{Finds, IsAbsent, high_of, low_of, pair_at};
 ghost use Rattle.tree_walk.specs.Ends.{BeginsPart, IsLinked};
 ghost use Rattle.tree_node.specs.Parts.{IsPart, Unchanged};
 ghost use Rattle.tree_node.specs.Tree.{IsRetired, Stands, StandsOrRetired, children_of, walk};
@@ -57,8 +56,7 @@ pub trait NodeCalls<K: Ord + Drop, const LEN: usize> {
         ghost level: { ℕ }
         requires kind { StandsAt level }
         requires stands { StandsOrRetired K.cmp level arenas.now id }
-        ensures found { MatchOption result (IsAbsent K.cmp (walk level arenas.now id) (J.key judge.old))
-            (λ pair. pair_at K.cmp (walk level arenas.now id) (J.key judge.old) ≡ Some (pair.0.now, pair.1.now)) }
+        ensures found { Finds K.cmp (walk level arenas.now id) (J.key judge.old) result }
         ensures same_key { J.key judge.new ≡ J.key judge.old }
         ensures counted { J.count judge.new ≤ J.count judge.old + LEN * (level + 1) }
         ensures halved { J.count judge.new ≤ J.count judge.old + searched LEN * (level + 1) }
@@ -249,8 +247,7 @@ pub trait NodeCalls<K: Ord + Drop, const LEN: usize> {
         requires kind { StandsAt level }
         requires part { IsPart K.cmp level arenas.old id ⊎ IsRetired level arenas.old id }
         ensures cuts { (gone : ℕ)
-            × CutsUnder K.cmp (bound_map (λ k. k.now) bounds.entry.0)
-            (bound_map (λ k. k.now) bounds.entry.1) level arenas.old arenas.new id gone }
+            × CutsUnder K.cmp (low_of bounds.entry) (high_of bounds.entry) level arenas.old arenas.new id gone }
         ensures left { result ≡ length (children_of arenas.new.nodes id) }
         ensures retired { IsRetired level arenas.old id → arenas.new ≡ arenas.old }
     {

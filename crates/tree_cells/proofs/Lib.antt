@@ -1,3 +1,4 @@
+mod Changed
 pub mod Entries
 pub mod Found
 pub mod Halving

@@ -10,6 +10,8 @@ use std::marker::Model;
 use std::mem;
 use tree_slots::row::Row;
 
+mod changes;
+
 /// How many entries and arrivals an array has.
 #[derive(Clone, Copy)]
 pub struct Counts {

@@ -18,9 +18,9 @@ const WIDE: usize = 16;
 #[derive(Clone, Copy)]
 pub enum Place {
     /// It is that of the entry at this place, in this slot.
-    At(u8, u8),
+    At { place: u8, slot: u8 },
     /// It comes before the entry at this place, in this slot; or behind all entries, and the slot is [`BEYOND`].
-    Before(u8, u8),
+    Before { place: u8, slot: u8 },
 }
 
 impl Place {
@@ -29,8 +29,8 @@ impl Place {
         ensures { result ≡ slot_of self }
     {
         match self {
-            Place::At(_, slot) => slot,
-            Place::Before(_, slot) => slot,
+            Place::At { place: _, slot } => slot,
+            Place::Before { place: _, slot } => slot,
         }
     }
 }
@@ -57,9 +57,12 @@ impl Window {
         let place = self.place + width;
         let slot = slot_at(self.rest, width);
         if place < self.count {
-            Place::At(place, slot)
+            Place::At { place, slot }
         } else {
-            Place::At(self.count - 1, slot)
+            Place::At {
+                place: self.count - 1,
+                slot,
+            }
         }
     }
 }
@@ -84,7 +87,10 @@ pub fn find<K: Ord, V, By, A: Asks<K, By>, const LEN: usize>(
     ensures counted { A.count asked.new ≤ A.count asked.old + searched LEN }
 {
     if count == 0 {
-        return Place::Before(0, BEYOND);
+        return Place::Before {
+            place: 0,
+            slot: BEYOND,
+        };
     }
     let ends_early = size_of_val(cells.key(slot_at(order, 0))) > WIDE;
     let window = begin(cells, order, count, asked);
@@ -102,9 +108,15 @@ pub fn find<K: Ord, V, By, A: Asks<K, By>, const LEN: usize>(
     let window = halve(cells, window, 0, asked);
     let slot = slot_at(window.rest, 0);
     if window.met > 0 {
-        Place::At(window.place, slot)
+        Place::At {
+            place: window.place,
+            slot,
+        }
     } else {
-        Place::Before(window.place, slot)
+        Place::Before {
+            place: window.place,
+            slot,
+        }
     }
 }
 
@@ -235,7 +247,10 @@ pub fn find_key_beyond<K: Ord, V, const LEN: usize>(
     if rightmost && count > 0 {
         let last = last_slot::<LEN>(order, count);
         if key.cmp(cells.key(last)).is_gt() {
-            return Place::Before(count, BEYOND);
+            return Place::Before {
+                place: count,
+                slot: BEYOND,
+            };
         }
     }
     find_key(cells, order, count, key)

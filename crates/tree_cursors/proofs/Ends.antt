@@ -163,7 +163,7 @@ module _ {K V : Type 0} {LEN : ℕ} {cmp : K → K → Ordering} (a : TreeArenas
 
 -- a step in a leaf is a move in each tree that the leaf is in
 pub steps_in_leaf : {K V : Type 0} {LEN : ℕ} (cmp : K → K → Ordering) (way : Way) (old new : LeafWalk K V LEN) (result : Option (Bor K × Bor V)) → Steps way old result new → StepsInLeaf cmp way (At old) result (At new)
-steps_in_leaf cmp way old new None steps = ap (λ walk. At walk) (steps.0 ∙ ap (λ at. standing old.leaves old.leaf at) steps.1.1)
+steps_in_leaf cmp way old new None steps = (ap (λ walk. At walk) (steps.0 ∙ ap (λ at. standing old.leaves old.leaf at) steps.1.1), steps.1.0)
 steps_in_leaf cmp way old new (Some entry) steps = λ arenas root tree stands.
     let moves = goes_on arenas root tree way old stands new (Some entry) (advanced way old new (Some entry) (λ none. absurd (cc)) steps) in
     record { place = λ bound. (moves bound).0; stands = (moves Unbounded).1; pair = (moves Unbounded).2 }

@@ -1,6 +1,7 @@
 -- The first place on a way whose element passes, and the place beside one, told by how many places are left behind it.
 use Rattle.std.proofs.Common.{◌≡◌, ℕ, suc, zero, ◌+◌, ◌<◌, ltb, Bool, true, false, List, [], ◌∷◌, ◌++◌, length, reverse, slice_get, Some, None, refl, sym, ap, ◌∙◌, arith, length-append, append_assoc, is_lt, Ordering, Less, Greater}
 use Rattle.tree_model.proofs.Common.{AllByRecursion, IsTotalOrder, nat_tests, tied_itself, reverse_onto, reverse-append, reverse-reverse, IsAscending, along, greatest_place}
+use Rattle.tree_model.proofs.Lists.{all_at}
 use Rattle.tree_model.specs.declared.way.Way.{Way}
 use Rattle.tree_model.specs.declared.way.Way.TheVariants.{On, Back}
 use Rattle.tree_array.proofs.Common.{greater_from_less}
@@ -59,11 +60,6 @@ beside_none On len i none =
     let test : ltb (i + 1) len ≡ false = grind (arith, nat_tests) in
     rw test refl
 beside_none Back len i none = rw none refl
-
-all_at : {X : Type 0} (P : X → Type 0) (xs : List X) (i : ℕ) (x : X) → AllByRecursion P xs → slice_get xs i ≡ Some x → P x
-all_at P [] i x all is = absurd (cc)
-all_at P (y ∷ xs) zero x all is = let same : x ≡ y = cc in rw same all.0
-all_at P (y ∷ xs) (suc i) x all is = all_at P xs i x all.1 is
 
 -- keys compare as their places
 pub places_compare : {K V : Type 0} {cmp : K → K → Ordering} → IsTotalOrder cmp → (l : List (K × V)) (i j : ℕ) (x y : K × V) → IsAscending cmp l → slice_get l i ≡ Some x → slice_get l j ≡ Some y → is_lt (cmp x.0 y.0) ≡ ltb i j

@@ -6,7 +6,8 @@ use Rattle.std.specs.declared.cmp.Ordering.{Ordering}
 use Rattle.std.specs.declared.ops.Bound.{Bound}
 use Rattle.slab.specs.Slab.{Slab}
 use Rattle.tree_leaf.specs.Entries.{leaf_entries}
-use Rattle.tree_chain.specs.Walks.{LeafWalk, stood_on}
+use Rattle.tree_chain.specs.Walks.{LeafWalk, here, stood_on}
+use Rattle.tree_chain.specs.Ways.{places_left}
 use Rattle.tree_model.specs.Rest.{lent_entry}
 use Rattle.tree_leaf.specs.declared.leaf.LeafOf.{LeafOf}
 use Rattle.tree_model.specs.declared.way.Way.{Way}
@@ -85,8 +86,14 @@ module _ {K V : Type 0} {LEN : ℕ} (arenas : TreeArenas K V LEN) (root : Option
     pub forward_stands : EndStands forward
     pub backward_stands : EndStands backward
 
+-- an end has no entry ahead of it in its leaf, or stands in none
+abbrev pub EndsLeaf : {K V : Type 0} {LEN : ℕ} → Way → TreeEnd (LeafWalk K V LEN) → Type 0
+EndsLeaf way Unopened = Unit {0}
+EndsLeaf way (At walk) = places_left way (length (here walk)) walk.at ≡ 0
+EndsLeaf way Exhausted = Unit {0}
+
 -- an end went to the next entry in its leaf, in whatever tree it stands; or there was none, and it is what it was
 abbrev pub StepsInLeaf : {K V : Type 0} {LEN : ℕ} → (K → K → Ordering) → Way → TreeEnd (LeafWalk K V LEN) → Option (Bor K × Bor V) → TreeEnd (LeafWalk K V LEN) → Type 0
-StepsInLeaf cmp way old None new = new ≡ old
+StepsInLeaf cmp way old None new = (new ≡ old) × EndsLeaf way old
 StepsInLeaf {K} {V} {LEN} cmp way old (Some entry) new =
     (arenas : TreeArenas K V LEN) (root : Option (ℕ × ℕ)) → IsTree cmp arenas root → EndStands arenas root old → GoesTo arenas root cmp way old entry new

@@ -1,9 +1,9 @@
 //! The ends of a cursor.
 ghost use Rattle.std.specs.Prelude.{◌≡◌, Some};
 ghost use Rattle.std.specs.Ordering.{is_lt};
-ghost use Rattle.std.specs.Range.Bound.{bound_map};
 ghost use Rattle.std.specs.declared.ops.Bound.{Bound as AnyBound};
 ghost use Rattle.tree_chain.specs.Walks.{stood_on};
+ghost use Rattle.tree_model.specs.Pairs.{lent_bound};
 ghost use Rattle.tree_node.specs.Whole.{IsTree, walk_under};
 ghost use Rattle.tree_model.specs.Cursor.{next_end, unopened};
 ghost use Rattle.tree_model.specs.Rest.{lent};
@@ -37,7 +37,7 @@ pub fn step<'t, K: Ord + Drop, V: Drop, S: EndWay, const LEN: usize>(
     requires tree { IsTree K.cmp arenas.now root }
     requires stands { EndStands arenas.now root end.old }
     ensures place { end_of arenas.now root end.new ≡ next_end K.cmp S.way
-        (bound_map (λ k. k.now) bound.entry) (walk_under arenas.now root) (end_of arenas.now root end.old) }
+        (lent_bound bound.entry) (walk_under arenas.now root) (end_of arenas.now root end.old) }
     ensures stands { EndStands arenas.now root end.new }
     ensures pair { lent result ≡ pair_of end.new }
 {
@@ -83,7 +83,7 @@ fn open<'t, K: Ord + Drop, V: Drop, S: EndWay, const LEN: usize>(
 ) -> Option<(&'t K, &'t V)>
     requires { IsTree K.cmp arenas.now root }
     ensures place { end_of arenas.now root end.new ≡ next_end K.cmp S.way
-        (bound_map (λ k. k.now) bound.entry) (walk_under arenas.now root) unopened }
+        (lent_bound bound.entry) (walk_under arenas.now root) unopened }
     ensures stands { EndStands arenas.now root end.new }
     ensures pair { lent result ≡ pair_of end.new }
 {
@@ -99,7 +99,7 @@ fn first_end<'t, K: Ord + Drop, V: Drop, S: EndWay, const LEN: usize>(
 ) -> End<LinkedIter<'t, LeafOf<K, V, LEN>, S>>
     requires { IsTree K.cmp arenas.now root }
     ensures place { end_of arenas.now root result ≡ next_end K.cmp S.way
-        (bound_map (λ k. k.now) bound.entry) (walk_under arenas.now root) unopened }
+        (lent_bound bound.entry) (walk_under arenas.now root) unopened }
     ensures stands { EndStands arenas.now root result }
 {
     let Some(top) = root else {

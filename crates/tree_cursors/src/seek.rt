@@ -1,6 +1,6 @@
 //! Opens a walk on the first key past a bound, either way.
 ghost use Rattle.std.specs.Prelude.{◌≡◌, ◌<◌, [], MatchOption};
-ghost use Rattle.std.specs.Range.Bound.{bound_map};
+ghost use Rattle.tree_model.specs.Pairs.{lent_bound};
 ghost use Rattle.tree_node.specs.Tree.{Stands, StandsOrRetired, walk};
 ghost use Rattle.tree_walk.specs.Ends.{IsLinked};
 ghost use Rattle.tree_cursors.specs.Seek.{Advances, IsLeafFor, Opens, Seeks};
@@ -28,7 +28,7 @@ pub fn seek_at<'t, K: Ord + Drop, V: Drop, S: EndWay, const LEN: usize>(
     requires node { 0 < level }
     requires stands { StandsOrRetired K.cmp level arenas.now id }
     requires linked { IsLinked level arenas.now id }
-    ensures { Seeks K.cmp S.way level arenas.now id (bound_map (λ k. k.now) bound.entry) result }
+    ensures { Seeks K.cmp S.way level arenas.now id (lent_bound bound.entry) result }
 {
     let mut walk = open_at::<K, V, S, LEN>(arenas, level, id, bound)?;
     while let Some((key, _)) = advance(&mut walk) {
@@ -50,7 +50,7 @@ fn open_at<'t, K: Ord + Drop, V: Drop, S: EndWay, const LEN: usize>(
     requires stands { StandsOrRetired K.cmp level arenas.now id }
     requires linked { IsLinked level arenas.now id }
     ensures { MatchOption result (walk level arenas.now id ≡ [])
-        (Opens K.cmp S.way level arenas.now id (bound_map (λ k. k.now) bound.entry)) }
+        (Opens K.cmp S.way level arenas.now id (lent_bound bound.entry)) }
 {
     let key = match bound {
         Bound::Included(key) => key,

@@ -1,6 +1,6 @@
 -- Parts without a pair, as their unbounded children tell.
 use Rattle.std.proofs.Common.{◌≡◌, ℕ, suc, ◌-◌, ◌<◌, List, [], ◌∷◌, ◌++◌, length, slice_get, Option, Some, None, refl, sym, ◌∙◌, arith, flat_map, Ordering, append-nil}
-use Rattle.tree_model.proofs.Common.{AllByRecursion}
+use Rattle.tree_model.proofs.Common.{AllByRecursion, nil_from_length}
 use Rattle.tree_node.proofs.Common.{get, LeafOf, TreeArenas, Stands, in_turn, keyed, node_children, unbounded, walk}
 use Rattle.tree_node.specs.declared.node.NodeOf.{NodeOf}
 use Rattle.tree_node.proofs.Children.{walk-leaf}
@@ -12,10 +12,6 @@ use Rattle.tree_cut.proofs.Ends.{StandsAbove, each_stands}
 pub empty_leaf : {K V : Type 0} {LEN : ℕ} (a : TreeArenas K V LEN) (id : ℕ) (leaf : LeafOf K V LEN) → get a.leaves id ≡ Some leaf → leaf.array.entries ≡ [] → walk 0 a id ≡ []
 empty_leaf a id leaf here none = walk-leaf a id leaf here ∙ none
 
-no_pairs : {X : Type 0} (xs : List X) → length xs ≡ 0 → xs ≡ []
-no_pairs [] none = refl
-no_pairs (x ∷ xs) none = absurd (omega (arith, none))
-
 module _ {K V : Type 0} {LEN : ℕ} (cmp : K → K → Ordering) where
   pub record IsOnly (level : ℕ) (a : TreeArenas K V LEN) (id child : ℕ) : Type 0 where
     pub stands : Stands cmp (level - 1) a None child None
@@ -26,7 +22,7 @@ module _ {K V : Type 0} {LEN : ℕ} (cmp : K → K → Ordering) where
   pub only_child : (level : ℕ) (a : TreeArenas K V LEN) (id : ℕ) (above : StandsAbove cmp level a id) (node : NodeOf K LEN) → get a.nodes id ≡ Some node → length (keyed node).entries ≡ 0
       → (child : ℕ) → keyed_or (slice_get (keyed node).entries 0) (unbounded node) ≡ Some child → IsOnly level a id child
   only_child level a id above node here none child at =
-      let no_keyed : (keyed node).entries ≡ [] = no_pairs _ none in
+      let no_keyed : (keyed node).entries ≡ [] = nil_from_length _ none in
       let is_last : unbounded node ≡ Some child = rw no_keyed at at in
       let each = rw (no_keyed, is_last) at (each_stands cmp level a id above node here) in
       record {

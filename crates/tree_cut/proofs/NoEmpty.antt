@@ -18,11 +18,6 @@ all_drop P zero xs all = all
 all_drop P (suc n) [] all = tt
 all_drop P (suc n) (x ∷ xs) all = all_drop P n xs all.1
 
-pub all_at : {X : Type 0} (P : X → Type 0) (xs : List X) (place : ℕ) (x : X) → slice_get xs place ≡ Some x → AllByRecursion P xs → P x
-all_at P [] place x is all = absurd (cc)
-all_at P (y ∷ xs) zero x is all = let same : y ≡ x = cc in rw (← same) all.0
-all_at P (y ∷ xs) (suc place) x is all = all_at P xs place x is all.1
-
 -- what holds of all but one, and of that one
 all_but_one : {X : Type 0} (P : X → Type 0) (place : ℕ) (xs : List X) → AllByRecursion P (take place xs) → AllByRecursion P (drop (suc place) xs) → ((x : X) → slice_get xs place ≡ Some x → P x) → AllByRecursion P xs
 all_but_one P place [] before behind here = tt

@@ -14,7 +14,8 @@ use Rattle.tree_node.proofs.Widens.{parted_without, separators_around, stands_wi
 use Rattle.tree_clean_up.specs.CleanUps.{TakesKeyed}
 use Rattle.tree_cut.specs.Cuts.{ChildBecomes, CutsUnder, HasNoEmpty, HasPair, OthersHaveNoEmpty}
 use Rattle.tree_cut.specs.Places.{keyed_or}
-use Rattle.tree_cut.proofs.NoEmpty.{all_at, all_drop, all_take, and_one, keyed_dropped, keyed_taken, no_empty_same, pairs_same}
+use Rattle.tree_model.proofs.Lists.{all_at}
+use Rattle.tree_cut.proofs.NoEmpty.{all_drop, all_take, and_one, keyed_dropped, keyed_taken, no_empty_same, pairs_same}
 use Rattle.tree_cut.proofs.Turns.{earlier_turns, later_turns, turn, turn_here}
 
 -- what stands before a place, and what comes there instead
@@ -88,7 +89,7 @@ module _ {K V : Type 0} {LEN : ℕ} {cmp : K → K → Ordering} (o : IsTotalOrd
     child_listed = turn_here pairs st.last place child at within
 
     pub child_no_empty : HasNoEmpty (suc level) old id → HasNoEmpty level old child
-    child_no_empty none_empty = all_at (HasNoEmpty level old) all place child child_listed (rw children_are at none_empty.1)
+    child_no_empty none_empty = all_at (HasNoEmpty level old) all place child (rw children_are at none_empty.1) child_listed
 
     -- the node at other bounds
     module _ (low high : Option K) (s : Stands cmp (suc level) old low id high) where

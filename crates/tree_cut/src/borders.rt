@@ -1,7 +1,7 @@
 //! The places at which a cut of a node begins and ends.
 ghost use Rattle.std.specs.Prelude.{◌≡◌, ◌<◌, true};
-ghost use Rattle.std.specs.Range.Bound.{bound_map};
 ghost use Rattle.tree_cut.specs.Places.{BeginsAt, EndsAt, Narrows, PartsAt};
+ghost use Rattle.tree_model.specs.Pairs.{high_of, lent_bound, low_of};
 ghost use Rattle.tree_node.specs.Tree.{keyed};
 
 use crate::parts::{count, keyed_count};
@@ -14,7 +14,7 @@ pub(crate) fn first_place<K: Ord + Drop, const LEN: usize>(
     node: &NodeOf<K, LEN>,
     low: Bound<&K>,
 ) -> u8
-    ensures { BeginsAt K.cmp (bound_map (λ k. k.now) low.entry) (keyed node.now).entries result }
+    ensures { BeginsAt K.cmp (lent_bound low.entry) (keyed node.now).entries result }
 {
     match low {
         Bound::Included(key) => place_in(node, key),
@@ -28,7 +28,7 @@ pub(crate) fn last_place<K: Ord + Drop, const LEN: usize>(
     node: &NodeOf<K, LEN>,
     high: Bound<&K>,
 ) -> u8
-    ensures ends { EndsAt K.cmp (bound_map (λ k. k.now) high.entry) (keyed node.now).entries result }
+    ensures ends { EndsAt K.cmp (lent_bound high.entry) (keyed node.now).entries result }
     ensures few { result < 16 }
 {
     match high {
@@ -77,8 +77,8 @@ pub(crate) fn narrowed<'a, K>(
     first: u8,
     last: u8,
 ) -> (Bound<&'a K>, Bound<&'a K>)
-    ensures low { Narrows (bound_map (λ k. k.now) bounds.entry.0) (bound_map (λ k. k.now) result.0) place first }
-    ensures high { Narrows (bound_map (λ k. k.now) bounds.entry.1) (bound_map (λ k. k.now) result.1) place last }
+    ensures low { Narrows (low_of bounds.entry) (low_of result) place first }
+    ensures high { Narrows (high_of bounds.entry) (high_of result) place last }
 {
     let low = if place == first {
         bounds.0
@@ -95,8 +95,7 @@ pub(crate) fn narrowed<'a, K>(
 
 /// Returns whether neither bound is left to test.
 pub(crate) fn is_open<K>(bounds: (Bound<&K>, Bound<&K>)) -> bool
-    ensures { result ≡ true → (bound_map (λ k. k.now) bounds.entry.0 ≡ Bound.Unbounded)
-        × (bound_map (λ k. k.now) bounds.entry.1 ≡ Bound.Unbounded) }
+    ensures { result ≡ true → (low_of bounds.entry ≡ Bound.Unbounded) × (high_of bounds.entry ≡ Bound.Unbounded) }
 {
     match bounds {
         (Bound::Unbounded, Bound::Unbounded) => true,

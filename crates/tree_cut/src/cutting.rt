@@ -1,9 +1,9 @@
 //! Removal of the keys within two bounds from under the number of a node, at its level.
 ghost use Rattle.std.specs.Prelude.{◌≡◌, ◌⊎◌, ◌<◌, ◌≤◌, [], None, true, length};
-ghost use Rattle.std.specs.Range.Bound.{bound_map};
 ghost use Rattle.slab.specs.Slab.{ContainsKey, get};
 ghost use Rattle.tree_cut.specs.Cuts.{CutsChild, CutsUnder, HasNoEmpty, keyed_of};
 ghost use Rattle.tree_cut.specs.Parts.{IsAt, part_id};
+ghost use Rattle.tree_model.specs.Pairs.{high_of, low_of};
 ghost use Rattle.tree_node.specs.Parts.{IsPart};
 ghost use Rattle.tree_node.specs.Tree.{IsRetired, Stands, children_of, walk};
 
@@ -40,8 +40,8 @@ pub fn remove_range_at<K: Ord + Drop, V: Drop, const LEN: usize>(
 ) -> RangeRemoved
     requires node { 0 < level }
     requires part { IsPart K.cmp level arenas.old id ⊎ IsRetired level arenas.old id }
-    ensures cuts { CutsUnder K.cmp (bound_map (λ k. k.now) bounds.entry.0)
-        (bound_map (λ k. k.now) bounds.entry.1) level arenas.old arenas.new id result.pairs }
+    ensures cuts { CutsUnder K.cmp (low_of bounds.entry) (high_of bounds.entry)
+        level arenas.old arenas.new id result.pairs }
     ensures left { result.children ≡ length (children_of arenas.new.nodes id) }
     ensures retired { IsRetired level arenas.old id → arenas.new ≡ arenas.old }
 {
@@ -68,8 +68,8 @@ fn cut_part<K: Ord + Drop, V: Drop, const LEN: usize>(
 ) -> u128
     requires kind { IsAt level part.now }
     requires part { IsPart K.cmp level arenas.old (part_id part.now) }
-    ensures { CutsUnder K.cmp (bound_map (λ k. k.now) bounds.entry.0)
-        (bound_map (λ k. k.now) bounds.entry.1) level arenas.old arenas.new (part_id part.now) result }
+    ensures { CutsUnder K.cmp (low_of bounds.entry) (high_of bounds.entry)
+        level arenas.old arenas.new (part_id part.now) result }
 {
     match part {
         Part::Leaf(id) => cut_leaf(arenas, *id, bounds),
@@ -108,8 +108,8 @@ fn cut_child<K: Ord + Drop, V: Drop, const LEN: usize>(
     requires node { 0 < level }
     requires part { IsPart K.cmp level arenas.old id }
     requires place { place ≤ length (keyed_of (get arenas.old.nodes id)) }
-    ensures cuts { CutsChild K.cmp (bound_map (λ k. k.now) bounds.entry.0)
-        (bound_map (λ k. k.now) bounds.entry.1) level arenas.old arenas.new id place result }
+    ensures cuts { CutsChild K.cmp (low_of bounds.entry) (high_of bounds.entry)
+        level arenas.old arenas.new id place result }
     ensures no_empty { HasNoEmpty level arenas.old id → HasNoEmpty level arenas.new id }
 {
     let node = arenas.node(id);
@@ -132,8 +132,7 @@ fn cut_leaf<K: Ord + Drop, V: Drop, const LEN: usize>(
     bounds: (Bound<&K>, Bound<&K>),
 ) -> u128
     requires { ContainsKey arenas.old.leaves id }
-    ensures { CutsUnder K.cmp (bound_map (λ k. k.now) bounds.entry.0)
-        (bound_map (λ k. k.now) bounds.entry.1) 0 arenas.old arenas.new id result }
+    ensures { CutsUnder K.cmp (low_of bounds.entry) (high_of bounds.entry) 0 arenas.old arenas.new id result }
 {
     let array = arenas.leaf_mut(id).array_mut();
     let before = array.len();

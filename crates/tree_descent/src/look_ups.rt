@@ -2,7 +2,7 @@
 ghost use Rattle.std.specs.Prelude.{◌≡◌, ◌+◌, ◌*◌, ◌≤◌, ◌<◌, IsSome, Some, MatchOption};
 ghost use Rattle.slab.specs.Slab.{get};
 ghost use Rattle.tree_array.specs.Length.{searched};
-ghost use Rattle.tree_model.specs.Pairs.{IsAbsent, pair_at};
+ghost use Rattle.tree_model.specs.Pairs.{Finds};
 ghost use Rattle.tree_node.specs.Tree.{IsRetired, StandsOrRetired, walk};
 ghost use Rattle.tree_descent.specs.Ways.{HoldsFor};
 
@@ -23,8 +23,7 @@ pub fn search_at<'a, K: Ord + Drop, V: Drop, J: Judge<K>, const LEN: usize>(
 ) -> Option<(&'a K, &'a V)>
     requires node { 0 < level }
     requires stands { StandsOrRetired K.cmp level arenas.now id }
-    ensures found { MatchOption result (IsAbsent K.cmp (walk level arenas.now id) (J.key judge.old))
-        (λ pair. pair_at K.cmp (walk level arenas.now id) (J.key judge.old) ≡ Some (pair.0.now, pair.1.now)) }
+    ensures found { Finds K.cmp (walk level arenas.now id) (J.key judge.old) result }
     ensures same_key { J.key judge.new ≡ J.key judge.old }
     ensures counted { J.count judge.new ≤ J.count judge.old + LEN * (level + 1) }
     ensures halved { J.count judge.new ≤ J.count judge.old + searched LEN * (level + 1) }

@@ -1,6 +1,6 @@
 -- The pair at an end of a list, and the pair at a key or beside it, by the place that a look-up tells.
 use Rattle.std.proofs.Common.{◌≡◌, ℕ, zero, suc, ◌+◌, ◌-◌, ◌==◌, ◌<◌, ◌≤◌, Bool, true, false, if◌then◌else◌, List, [], ◌∷◌, length, slice_get, Option, Some, None, refl, ap, sym, ◌∙◌, arith, is_some, is_le, is_lt, Ordering, Less, Equal, Greater}
-use Rattle.tree_model.proofs.Common.{IsTotalOrder, Unbounded, nat_tests, Cursor, at_place, fresh, greatest_place, shown, unopened, AllLarger, IsAscending, above, below, pair_at}
+use Rattle.tree_model.proofs.Common.{IsTotalOrder, Unbounded, nat_tests, Cursor, at_place, fresh, greatest_place, shown, unopened, AllLarger, IsAscending, above, below, pair_at, nil_from_length}
 use Rattle.tree_model.specs.declared.way.Way.TheVariants.{On, Back}
 use Rattle.tree_array.proofs.Common.{all_map, filter_none, greater_from_less}
 use Rattle.tree_chain.proofs.Common.{first_of, last_of}
@@ -11,7 +11,7 @@ use Rattle.tree_model.specs.Cursor.{moved, option_where, shown_apart, with_ends}
 use Rattle.tree_model.specs.Located.{located}
 use Rattle.tree_index.specs.Nearest.{at_or_above, at_or_below}
 use Rattle.tree_model.proofs.LookUps.{none_larger}
-use Rattle.tree_ranges.proofs.Yields.{above_le}
+use Rattle.tree_ranges.proofs.Nearest.{all_above}
 
 -- every pair passes where the bound is open
 where_open : {X : Type 0} (found : Option X) → option_where (λ _. true) found ≡ found
@@ -35,9 +35,6 @@ module _ {K V : Type 0} (cmp : K → K → Ordering) where
       rw (greatest pair pairs) (where_open (slice_get (pair ∷ pairs) (length pairs)) ∙ ap (λ i. slice_get (pair ∷ pairs) i) last)
 
 module _ {K V : Type 0} {cmp : K → K → Ordering} (o : IsTotalOrder cmp) (k : K) where
-  all_above : (x : K × V) (xs : List (K × V)) → AllLarger cmp x.0 xs → is_le (cmp k x.0) ≡ true → AllLarger cmp k xs
-  all_above x xs larger le = all_map (λ (q : K × V) (less : cmp x.0 q.0 ≡ Less). above_le o (cmp k x.0) k x.0 q.0 refl le less) xs larger
-
   none_below : (xs : List (K × V)) → AllLarger cmp k xs → below cmp xs k ≡ []
   none_below xs larger = filter_none (λ pair. is_lt (cmp pair.0 k)) xs (all_map (λ (q : K × V) (less : cmp k q.0 ≡ Less). ap is_lt (greater_from_less o k q.0 less)) xs larger)
 
@@ -55,7 +52,7 @@ module _ {K V : Type 0} {cmp : K → K → Ordering} (o : IsTotalOrder cmp) (k :
       by_place (suc i) lt = let less = rw h at lt in rw h (rest.first i (omega (arith, less)))
   parted_more x xs larger rest Equal h =
       let le : is_le (cmp k x.0) ≡ true = rw (o.antisymm k x.0, h) refl in
-      let none = none_below xs (all_above x xs larger le) in
+      let none = none_below xs (all_above o k x xs larger le) in
       record {
         first = λ i lt. let less = rw (h, none) at lt in absurd (omega (arith, less));
         behind = λ some. rw (h, none) refl;
@@ -63,7 +60,7 @@ module _ {K V : Type 0} {cmp : K → K → Ordering} (o : IsTotalOrder cmp) (k :
       }
   parted_more x xs larger rest Greater h =
       let le : is_le (cmp k x.0) ≡ true = rw (o.antisymm k x.0, h) refl in
-      let later = all_above x xs larger le in
+      let later = all_above o k x xs larger le in
       record {
         first = λ i lt. let less = rw (h, none_below xs later) at lt in absurd (omega (arith, less));
         behind = λ some. absurd (let there = rw (h, none_larger o k xs later) at some in cc);
@@ -85,10 +82,6 @@ or_second (Some found) second none = absurd (cc)
 or_neither : {X : Type 0} (first second : Option X) → is_some first ≡ false → second ≡ None → None ≡ option_or first second
 or_neither None second none neither = sym neither
 or_neither (Some found) second none neither = absurd (cc)
-
-no_elements : {X : Type 0} (xs : List X) → length xs ≡ 0 → xs ≡ []
-no_elements [] none = refl
-no_elements (x ∷ xs) none = absurd (omega (arith, none))
 
 -- what each answer of a look-up tells
 module _ {K V : Type 0} (l : List (K × V)) (n : ℕ) (at : Cursor K V) where
@@ -202,18 +195,18 @@ module _ {K V : Type 0} {cmp : K → K → Ordering} (o : IsTotalOrder cmp) (l :
   smaller_above at is =
       let tells = smaller_tells l smaller_keys at (length l == 0) is_present (smaller_keys == 0) (smaller_keys == length l) is in
       let all : smaller_keys ≡ length l = grind (arith, nat_tests, tells.2) in
-      let none : above cmp l k ≡ [] = no_elements (above cmp l k) (omega (arith, all, beside_all cmp k l)) in
+      let none : above cmp l k ≡ [] = nil_from_length (above cmp l k) (omega (arith, all, beside_all cmp k l)) in
       or_neither (pair_at cmp l k) (first_of (above cmp l k)) tells.0 (rw none refl)
 
   pub larger_below : (at : Cursor K V) → Larger at ≡ located cmp l k → None ≡ at_or_below cmp l k
   larger_below at is =
       let tells = larger_tells l smaller_keys at (length l == 0) is_present (smaller_keys == 0) (smaller_keys == length l) is in
-      let none : below cmp l k ≡ [] = no_elements (below cmp l k) (grind (arith, nat_tests, tells.1)) in
+      let none : below cmp l k ≡ [] = nil_from_length (below cmp l k) (grind (arith, nat_tests, tells.1)) in
       or_neither (pair_at cmp l k) (last_of (below cmp l k)) tells.0 (rw none refl)
 
   -- where there is no pair
   empty_list : Empty ≡ located cmp l k → l ≡ []
-  empty_list is = no_elements l (let empty = empty_tells l smaller_keys (with_ends l unopened unopened) (length l == 0) is_present (smaller_keys == 0) (smaller_keys == length l) is in grind (arith, nat_tests, empty))
+  empty_list is = nil_from_length l (let empty = empty_tells l smaller_keys (with_ends l unopened unopened) (length l == 0) is_present (smaller_keys == 0) (smaller_keys == length l) is in grind (arith, nat_tests, empty))
 
   pub empty_below : Empty ≡ located cmp l k → None ≡ at_or_below cmp l k
   empty_below is = rw (empty_list is) refl

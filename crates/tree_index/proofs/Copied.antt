@@ -1,26 +1,13 @@
 -- Clones that are appended in ascending order.
-use Rattle.std.proofs.Common.{◌≡◌, List, [], ◌∷◌, ◌++◌, None, refl, sym, ◌∙◌, IfOk, MatchResult, Result, Ok, Err, is_eq, is_gt, is_lt, Ordering, Less, Equal}
-use Rattle.tree_model.proofs.Common.{IsTotalOrder, AllByRecursion, AllLarger, pair_at, put}
-use Rattle.tree_array.proofs.Common.{all-append, all_map, filter_all, filter_none, alike_after}
-use Rattle.tree_model.proofs.Lists.{find_none}
+use Rattle.std.proofs.Common.{◌≡◌, List, [], ◌∷◌, ◌++◌, sym, ◌∙◌, IfOk, MatchResult, Result, Ok, Err, Ordering, Less, Equal}
+use Rattle.tree_model.proofs.Common.{IsTotalOrder, AllByRecursion, AllLarger}
+use Rattle.tree_array.proofs.Common.{all-append, all_map, alike_after}
 use Rattle.tree_index.specs.Copies.{AllSmaller}
 
 -- all is behind nothing
 pub behind_nothing : {K V : Type 0} (cmp : K → K → Ordering) (rest : List (K × V)) → AllByRecursion (λ pair. AllSmaller {V = V} cmp [] pair.0) rest
 behind_nothing cmp [] = tt
 behind_nothing cmp (pair ∷ rest) = (tt, behind_nothing cmp rest)
-
--- a key behind all of a list is absent, and its pair goes behind it
-module _ {K V : Type 0} (cmp : K → K → Ordering) (l : List (K × V)) (k : K) (smaller : AllSmaller cmp l k) where
-  pub absent_behind : pair_at cmp l k ≡ None
-  absent_behind = find_none (λ pair. is_eq (cmp pair.0 k)) l (all_map (λ pair less. rw less refl) l smaller)
-
-  pub put_behind : (v : V) → put cmp l k v ≡ l ++ (k, v) ∷ []
-  put_behind v =
-      rw (
-        filter_all (λ pair. is_lt (cmp pair.0 k)) l (all_map (λ pair less. rw less refl) l smaller),
-        filter_none (λ pair. is_gt (cmp pair.0 k)) l (all_map (λ pair less. rw less refl) l smaller),
-      ) refl
 
 module _ {K V : Type 0} {cmp : K → K → Ordering} (o : IsTotalOrder cmp) where
   -- a clone of the key is behind it too

@@ -1,16 +1,17 @@
 -- What a pair that was taken out leaves of a list: the first one, the last one, or the one at a key.
-use Rattle.std.proofs.Common.{◌≡◌, ℕ, suc, ◌-◌, arith, MatchOption, List, [], ◌∷◌, ◌++◌, length, Option, Some, None, refl, sym, ap, ◌∙◌, append-nil, Ordering, Less, Equal, is_lt, is_gt}
-use Rattle.tree_model.proofs.Common.{IsTotalOrder, AllByRecursion, alike_right, tied_itself, AllLarger, IsAbsent, IsAscending, pair_at, without}
+use Rattle.std.proofs.Common.{◌≡◌, ℕ, suc, ◌-◌, arith, MatchOption, List, [], ◌∷◌, ◌++◌, length, Option, Some, None, refl, sym, ap, ◌∙◌, append-nil, Ordering, Equal, is_lt, is_gt}
+use Rattle.tree_model.proofs.Common.{IsTotalOrder, alike_right, tied_itself, IsAbsent, IsAscending, pair_at, without}
 use Rattle.tree_chain.proofs.Common.{first_of, last_of}
+use Rattle.tree_model.proofs.Ascending.{without_first}
 use Rattle.tree_model.proofs.Lists.{filter_same}
 use Rattle.tree_model.proofs.LookUps.{found_first}
 use Rattle.tree_node.proofs.Between.{found_between, without_between}
+use Rattle.tree_node.proofs.Cuts.{smaller_front}
 use Rattle.tree_remove.proofs.EntryPlaces.{pair_alike}
 use Rattle.tree_remove.specs.declared.entries.EntryPlace.{EntryPlace}
 use Rattle.tree_root.specs.declared.tree.Tree.{Tree}
 use Rattle.tree_root.specs.Trees.{IsStored, pairs_of}
 use Rattle.tree_root.proofs.Taken.{stored_found}
-use Rattle.tree_index.proofs.Removed.{all_above}
 
 -- a list with a last element
 last_split : {X : Type 0} (xs : List X) (x : X) → last_of xs ≡ Some x → (front : List X) × (xs ≡ front ++ x ∷ [])
@@ -48,20 +49,9 @@ module _ {K V : Type 0} {cmp : K → K → Ordering} (o : IsTotalOrder cmp) wher
       let both : Some pair ≡ Some other = sym found ∙ pair_alike o pair.0 other.0 same pairs ∙ there in
       cc
 
-  without_first : (p : K × V) (ps : List (K × V)) → IsAscending cmp (p ∷ ps) → without cmp (p ∷ ps) p.0 ≡ ps
-  without_first p ps ascending = let rest = all_above o p.0 ps ascending.0 in rw (tied_itself o p.0, rest.0, rest.1) refl
-
-  last_larger : (x : K) (front : List (K × V)) (p : K × V) → AllLarger cmp x (front ++ p ∷ []) → cmp x p.0 ≡ Less
-  last_larger x [] p larger = larger.0
-  last_larger x (q ∷ front) p larger = last_larger x front p larger.1
-
-  smaller_before : (front : List (K × V)) (p : K × V) → IsAscending cmp (front ++ p ∷ []) → AllByRecursion (λ q. cmp q.0 p.0 ≡ Less) front
-  smaller_before [] p ascending = tt
-  smaller_before (q ∷ front) p ascending = (last_larger q.0 front p ascending.0, smaller_before front p ascending.1)
-
   without_last : (front : List (K × V)) (p : K × V) → IsAscending cmp (front ++ p ∷ []) → without cmp (front ++ p ∷ []) p.0 ≡ front
   without_last front p ascending =
-      without_between o p.0 front (p ∷ []) [] (smaller_before front p ascending) tt ∙ rw (tied_itself o p.0) (append-nil front)
+      without_between o p.0 front (p ∷ []) [] (smaller_front cmp front p [] ascending) tt ∙ rw (tied_itself o p.0) (append-nil front)
 
   -- the first pair is found at its key, and so is the last
   pub first_found : (pairs : List (K × V)) (p : K × V) → first_of pairs ≡ Some p → pair_at cmp pairs p.0 ≡ Some p
@@ -71,7 +61,7 @@ module _ {K V : Type 0} {cmp : K → K → Ordering} (o : IsTotalOrder cmp) wher
   pub last_found : (pairs : List (K × V)) (p : K × V) → IsAscending cmp pairs → last_of pairs ≡ Some p → pair_at cmp pairs p.0 ≡ Some p
   last_found pairs p ascending last =
       let split = last_split pairs p last in
-      rw split.1 (found_between o p.0 split.0 (p ∷ []) [] (smaller_before split.0 p (rw split.1 at ascending)) tt ∙ found_first o p [])
+      rw split.1 (found_between o p.0 split.0 (p ∷ []) [] (smaller_front cmp split.0 p [] (rw split.1 at ascending)) tt ∙ found_first o p [])
 
   -- the pair that was taken out
   module _ (old new : List (K × V)) (ascending : IsAscending cmp old) (taken : K × V) (left : new ≡ without cmp old taken.0) where
@@ -83,7 +73,7 @@ module _ {K V : Type 0} {cmp : K → K → Ordering} (o : IsTotalOrder cmp) wher
         by_list (p ∷ ps) is =
             let both : Some p ≡ Some taken = rw is at first in
             let is_taken : taken ≡ p = cc in
-            let tail : new ≡ ps = left ∙ ap (λ (l : List (K × V)). without cmp l taken.0) is ∙ ap (λ (r : K × V). without cmp (p ∷ ps) r.0) is_taken ∙ without_first p ps (rw is at ascending) in
+            let tail : new ≡ ps = left ∙ ap (λ (l : List (K × V)). without cmp l taken.0) is ∙ ap (λ (r : K × V). without cmp (p ∷ ps) r.0) is_taken ∙ without_first o p ps (rw is at ascending) in
             is ∙ ap (λ (r : K × V). r ∷ ps) (sym is_taken) ∙ ap (λ (rest : List (K × V)). taken ∷ rest) (sym tail)
 
     pub last_gone : last_of old ≡ Some taken → old ≡ new ++ taken ∷ []

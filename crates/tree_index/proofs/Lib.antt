@@ -1,4 +1,5 @@
 pub mod Beside
+mod Changed
 pub mod Copied
 pub mod Ended
 pub mod Indexed

@@ -4,7 +4,7 @@ use Rattle.tree_model.proofs.Common.{AllByRecursion, IsAscending, put}
 use Rattle.std.specs.Iterator.{Yields}
 use Rattle.std.proofs.lemmas.List.Sums.{fold_push}
 use Rattle.tree_node.proofs.Cuts.{ascending_front, smaller_front}
-use Rattle.tree_index.proofs.Copied.{put_behind}
+use Rattle.tree_model.proofs.LookUps.{put_beyond}
 use Rattle.tree_index.specs.Collects.{puts}
 
 module _ {K V : Type 0} (cmp : K → K → Ordering) where
@@ -16,7 +16,7 @@ module _ {K V : Type 0} (cmp : K → K → Ordering) where
   pub puts_behind : (l pairs : List (K × V)) → IsAscending cmp (l ++ pairs) → puts cmp l pairs ≡ l ++ pairs
   puts_behind l [] ascending = sym (append-nil l)
   puts_behind l (pair ∷ pairs) ascending =
-      let behind = put_behind cmp l pair.0 (smaller_front cmp l pair pairs ascending) pair.1 in
+      let behind = put_beyond cmp l pair.0 pair.1 (smaller_front cmp l pair pairs ascending) in
       let apart : l ++ pair ∷ pairs ≡ (l ++ pair ∷ []) ++ pairs = sym (append_assoc l (pair ∷ []) pairs) in
       ap (λ (list : List (K × V)). puts cmp list pairs) behind ∙ puts_behind (l ++ pair ∷ []) pairs (subst (IsAscending cmp) apart ascending) ∙ sym apart
 

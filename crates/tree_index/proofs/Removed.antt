@@ -1,18 +1,12 @@
 -- What is removed where the condition says yes of every value, and what an absent key takes out.
 use Rattle.std.proofs.Common.{◌≡◌, ◌↔◌, Bool, true, false, cond, IsTrue, List, [], ◌∷◌, ◌++◌, Option, Some, None, refl, sym, ap, ◌∙◌, Ordering, Less, Equal, Greater, is_lt, is_eq, is_gt}
-use Rattle.tree_model.proofs.Common.{IsTotalOrder, AllLarger, IsAbsent, IsAscending, IsPresent, above, below, pair_at, without}
-use Rattle.tree_array.proofs.Common.{greater_from_less, less_from_greater}
+use Rattle.tree_model.proofs.Common.{IsTotalOrder, IsAbsent, IsAscending, IsPresent, above, below, pair_at, without}
+use Rattle.tree_array.proofs.Common.{less_from_greater}
 use Rattle.tree_model.specs.Edits.{RemovesIf}
+use Rattle.tree_model.proofs.Ascending.{all_above}
 use Rattle.tree_model.proofs.LookUps.{larger_trans}
 
 module _ {K V : Type 0} {cmp : K → K → Ordering} (o : IsTotalOrder cmp) where
-  pub all_above : (k : K) (ps : List (K × V)) → AllLarger cmp k ps → (below cmp ps k ≡ []) × (above cmp ps k ≡ ps)
-  all_above k [] later = (refl, refl)
-  all_above k (p ∷ ps) later =
-      let is = greater_from_less o k p.0 later.0 in
-      let rest = all_above k ps later.1 in
-      rw is (rest.0, ap (λ (r : List (K × V)). p ∷ r) rest.1)
-
   -- without an absent key a list is what it was
   pub without_unchanged : (l : List (K × V)) (k : K) → IsAscending cmp l → IsAbsent cmp l k → without cmp l k ≡ l
   without_unchanged [] k ascending absent = refl
@@ -23,7 +17,7 @@ module _ {K V : Type 0} {cmp : K → K → Ordering} (o : IsTotalOrder cmp) wher
       by_order Less is again none = ap (λ (r : List (K × V)). p ∷ r) (again none)
       by_order Equal is again none = absurd (cc)
       by_order Greater is again none =
-          let rest = all_above k ps (larger_trans o k p.0 ps (less_from_greater o p.0 k is) ascending.0) in
+          let rest = all_above o k ps (larger_trans o k p.0 ps (less_from_greater o p.0 k is) ascending.0) in
           rw (rest.0, rest.1) refl
 
   -- a condition that says yes of every value

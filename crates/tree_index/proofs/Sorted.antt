@@ -1,12 +1,8 @@
 -- Whether pairs ascend, from each two neighbours.
-use Rattle.std.proofs.Common.{◌≡◌, ◌<◌, ◌-◌, List, [], ◌∷◌, length, take, drop, slice_index_or, false, refl, arith, is_ge, Ordering, Less, Equal, Greater, length-drop, take_all}
+use Rattle.std.proofs.Common.{◌≡◌, ◌<◌, ◌-◌, List, [], ◌∷◌, length, take, drop, slice_index_or, false, arith, is_ge, Ordering, Less, length-drop, take_all}
 use Rattle.tree_model.proofs.Common.{IsTotalOrder, IsAscending}
 use Rattle.tree_model.proofs.LookUps.{larger_trans}
-
-less_than : (c : Ordering) → is_ge c ≡ false → c ≡ Less
-less_than Less h = refl
-less_than Equal h = absurd (cc)
-less_than Greater h = absurd (cc)
+use Rattle.tree_node.proofs.Order.{less_from_no_ge}
 
 module _ {K V : Type 0} {cmp : K → K → Ordering} (o : IsTotalOrder cmp) where
   -- fewer than two pairs do
@@ -20,7 +16,7 @@ module _ {K V : Type 0} {cmp : K → K → Ordering} (o : IsTotalOrder cmp) wher
   front_ascends [] d e more less = absurd (omega (arith, more))
   front_ascends (x ∷ []) d e more less = absurd (omega (arith, more))
   front_ascends (x ∷ y ∷ rest) d e more less =
-      let smaller : cmp x.0 y.0 ≡ Less = less_than (cmp x.0 y.0) less in
+      let smaller : cmp x.0 y.0 ≡ Less = less_from_no_ge (cmp x.0 y.0) less in
       ((λ ascending. ((smaller, larger_trans o x.0 y.0 rest smaller ascending.0), ascending)), (λ ascending. ascending.1))
 
   pub one_more_ascends : (l : List (K × V)) (d e pair next : K × V) → 1 < length l → pair ≡ slice_index_or l 0 d → next ≡ slice_index_or l 1 e → is_ge (cmp pair.0 next.0) ≡ false

@@ -4,6 +4,7 @@ use Rattle.std.specs.Option.{option_map}
 use Rattle.std.specs.List.{AllByRecursion}
 use Rattle.std.specs.declared.cmp.Ordering.{Ordering}
 use Rattle.std.specs.declared.cmp.Ordering.TheVariants.{Less}
+use Rattle.tree_model.specs.Pairs.{put}
 use Rattle.tree_model.specs.declared.commands.InsertError.{InsertError}
 use Rattle.tree_model.specs.declared.commands.InsertError.TheVariants.{Duplicate, OutOfMemory}
 use Rattle.tree_node.specs.Arenas.{TreeArenas}
@@ -31,6 +32,10 @@ index_of cmp tree = record { pairs = pairs_of tree; depth = depth_of tree.root; 
 -- one level, or more pairs than a full part of one level less has
 abbrev pub IsShallow : ℕ → ℕ → ℕ → Type 0
 IsShallow LEN count depth = (depth ≤ 1) ⊎ (LEN ^ depth < count)
+
+-- the index with another value under a stored key
+abbrev pub with_value : {K V : Type 0} → (K → K → Ordering) → Index K V → K → V → Index K V
+with_value cmp index key val = record index { pairs = put cmp index.pairs key val }
 
 module _ {K V : Type 0} where
   -- A write took at most one slot of a leaf. The first one, before which there was no pair, made a packed tree of one level. A packed index isn't deep.

@@ -11,6 +11,7 @@ use std::error::Error;
 use std::fmt;
 use std::iter::{Extend, FromIterator};
 use tree_array::array::IndexKey;
+use tree_root::Tree;
 
 /// The error of [`from_sorted`](TreeIndexOf::from_sorted).
 #[derive(Debug, Drop)]
@@ -41,8 +42,8 @@ impl<K: IndexKey, V: Drop, const LEN: usize> TreeIndexOf<K, V, LEN> {
     ///
     /// ```
     /// match index.try_extend(pairs) {
-    ///     Ok(()) => Ok(index),
-    ///     Err(_) => Err(FromSortedError::OutOfMemory),
+    ///     Ok(()) => {}
+    ///     Err(_) => return Err(AllocError),
     /// }
     /// ```
     pub fn try_extend<U: IntoIterator<Item = (K, V)>>(&mut self, pairs: U) -> Result<(), (K, V)>
@@ -63,8 +64,8 @@ impl<K: IndexKey, V: Drop, const LEN: usize> TreeIndexOf<K, V, LEN> {
     /// Returns `NotAscending` with the pairs if a key isn't larger than the one before it. Returns `OutOfMemory` if an
     /// allocation is refused. Nothing of the index is left then, and the pairs are dropped.
     ///
-    /// Compares each key with the one before it, and then with the last separator of each node on its way and the last
-    /// key of the last leaf. Fills each leaf. The caller must choose 7 or 15 for `LEN`.
+    /// Compares each key with the one before it, and puts each pair behind the last one of the last leaf. A full leaf costs
+    /// a descent. Fills each leaf, and reserves memory for as many. The caller must choose 7 or 15 for `LEN`.
     ///
     /// ```
     /// TreeIndex::from_sorted(alloc, samples)
@@ -76,9 +77,9 @@ impl<K: IndexKey, V: Drop, const LEN: usize> TreeIndexOf<K, V, LEN> {
         if !are_ascending(pairs.as_slice()) {
             return Err(FromSortedError::NotAscending(pairs));
         }
-        let mut index = TreeIndexOf::new(alloc);
-        match index.try_extend(pairs) {
-            Ok(()) => Ok(index),
+        let len = pairs.len() as u128;
+        match Tree::from_sorted(alloc, pairs) {
+            Ok(tree) => Ok(TreeIndexOf { tree, len, alloc }),
             Err(_) => Err(FromSortedError::OutOfMemory),
         }
     }

@@ -1,9 +1,9 @@
 //! Cursors over the pairs of an index, its keys and its values, and where a key is among the pairs.
 ghost use Rattle.std.specs.Prelude.{◌≡◌, map};
-ghost use Rattle.std.specs.Range.Bound.{bound_map};
 ghost use Rattle.std.specs.declared.ops.Bound.TheVariants.{Unbounded};
 ghost use Rattle.tree_model.specs.Cursor.{fresh};
 ghost use Rattle.tree_model.specs.Located.{located};
+ghost use Rattle.tree_model.specs.Pairs.{high_of, low_of};
 
 use crate::index::TreeIndexOf;
 use std::ops::Bound;
@@ -77,8 +77,7 @@ impl<K: IndexKey, V: Drop, const LEN: usize> TreeIndexOf<K, V, LEN> {
     /// }
     /// ```
     pub fn range<'t>(&'t self, bounds: (Bound<&'t K>, Bound<&'t K>)) -> RangeOf<'t, K, V, LEN>
-        ensures { result ≡ fresh self.now.pairs (bound_map (λ k. k.now) bounds.entry.0)
-            (bound_map (λ k. k.now) bounds.entry.1) }
+        ensures { result ≡ fresh self.now.pairs (low_of bounds.entry) (high_of bounds.entry) }
     {
         RangeOver::new(&self.tree.arenas, self.tree.root, bounds)
     }

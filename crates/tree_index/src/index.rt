@@ -1,11 +1,10 @@
 //! The index.
-ghost use Rattle.std.specs.Prelude.{◌≡◌, ◌⊎◌, ◌↔◌, IsTrue, ◌+◌, ◌*◌, ◌^◌, ◌-◌, ◌≤◌, Bool, false, true, min, [], length, IfOk, Some, MatchOption};
+ghost use Rattle.std.specs.Prelude.{◌≡◌, ◌↔◌, IsTrue, ◌+◌, ◌*◌, ◌^◌, ◌-◌, ◌≤◌, Bool, false, true, min, [], length, IfOk, Some};
 ghost use Rattle.std.specs.Fn.{FnOnceReturnsAt, FnOnceTakesAt};
 ghost use Rattle.std.specs.Option.{ForSome, option_copied, option_map};
-ghost use Rattle.std.specs.Range.Bound.{bound_map};
 ghost use Rattle.tree_array.specs.Length.{IsLen, searched};
 ghost use Rattle.tree_index.specs.Index.{IsShallow, IsTreeOf, StaysPacked, KeepsSpare, SpendsInsert, SpendsUpsert, StoresPair};
-ghost use Rattle.tree_model.specs.Pairs.{IsAbsent, IsAscending, IsPresent, cut, pair_at, without};
+ghost use Rattle.tree_model.specs.Pairs.{Finds, IsAscending, IsPresent, cut, high_of, low_of, pair_at, without};
 ghost use Rattle.tree_model.specs.Edits.{Inserts, RemovesIf, Upserts};
 
 use crate::seek::{Seeks, pair_of};
@@ -199,8 +198,7 @@ impl<K: IndexKey, V: Drop, const LEN: usize> TreeIndexOf<K, V, LEN> {
     /// samples.remove_range_sync((Bound::Unbounded, Bound::Excluded(&time)));
     /// ```
     pub fn remove_range_sync(&mut self, bounds: (Bound<&K>, Bound<&K>))
-        ensures { self.new.pairs ≡ cut K.cmp self.old.pairs (bound_map (λ k. k.now) bounds.entry.0)
-            (bound_map (λ k. k.now) bounds.entry.1) }
+        ensures { self.new.pairs ≡ cut K.cmp self.old.pairs (low_of bounds.entry) (high_of bounds.entry) }
     {
         self.len -= self.tree.remove_range(bounds);
     }
@@ -250,8 +248,7 @@ impl<K: IndexKey, V: Drop, const LEN: usize> TreeIndexOf<K, V, LEN> {
     /// assert!(rt; entry.is_some_and(|(key, value)| key.tag == 'b' && *value == 2));
     /// ```
     pub fn peek_entry(&self, key: &K) -> Option<(&K, &V)>
-        ensures found { MatchOption result (IsAbsent K.cmp self.now.pairs key.now)
-            (λ pair. pair_at K.cmp self.now.pairs key.now ≡ Some (pair.0.now, pair.1.now)) }
+        ensures found { Finds K.cmp self.now.pairs key.now result }
         ensures ascending { IsAscending K.cmp self.now.pairs }
     {
         pair_of(self, key)
@@ -266,8 +263,7 @@ impl<K: IndexKey, V: Drop, const LEN: usize> TreeIndexOf<K, V, LEN> {
     /// self.peek_entry_by(judge).is_some()
     /// ```
     pub fn peek_entry_by<J: Judge<K>>(&self, judge: &mut J) -> Option<(&K, &V)>
-        ensures found { MatchOption result (IsAbsent K.cmp self.now.pairs (J.key judge.old))
-            (λ pair. pair_at K.cmp self.now.pairs (J.key judge.old) ≡ Some (pair.0.now, pair.1.now)) }
+        ensures found { Finds K.cmp self.now.pairs (J.key judge.old) result }
         ensures same_key { J.key judge.new ≡ J.key judge.old }
         ensures counted { J.count judge.new ≤ J.count judge.old + LEN * (self.now.depth + 1) }
         ensures halved { J.count judge.new ≤ J.count judge.old + searched LEN * (self.now.depth + 1) }

@@ -26,6 +26,7 @@
 //! Both stand whole in the crate `usage`, where they are proved.
 #![tactic(auto)]
 
+mod changes;
 mod collects;
 mod copies;
 mod cursors;

@@ -1,9 +1,8 @@
 //! Removals of all pairs that a test refuses.
 ghost use Rattle.std.specs.Prelude.{◌≡◌, filter, MatchOption};
-ghost use Rattle.std.specs.Range.Bound.{bound_map};
 ghost use Rattle.std.specs.declared.ops.Bound.TheVariants.{Unbounded};
 ghost use Rattle.tree_index.specs.Retained.{Passes, Refuses, Retains, low_behind};
-ghost use Rattle.tree_model.specs.Pairs.{IsAscending, within, without};
+ghost use Rattle.tree_model.specs.Pairs.{IsAscending, lent_bound, within, without};
 ghost use Rattle.tree_root.specs.Trees.{IsStored, IsWhole, pairs_of};
 
 use crate::index::TreeIndexOf;
@@ -66,7 +65,7 @@ impl<K: IndexKey, V: Drop, const LEN: usize> TreeIndexOf<K, V, LEN> {
 
 /// Returns the bound behind a pair, which is open if there is none.
 fn bound_behind<K, V>(gone: &Option<(K, V)>) -> Bound<&K>
-    ensures { bound_map (λ k. k.now) result ≡ low_behind gone.now }
+    ensures { lent_bound result ≡ low_behind gone.now }
 {
     match gone {
         Some((key, _)) => Bound::Excluded(key),
@@ -84,8 +83,8 @@ fn refused_place<'t, K: IndexKey, V: Drop, F: FnMut(&K, &V) -> bool + Drop, cons
     requires callable { F.IsAlwaysCallable keep }
     ensures callable { F.IsAlwaysCallable result.0 }
     ensures refused { MatchOption result.1
-        (Passes F.FnMut keep (filter (λ pair. within K.cmp (bound_map (λ k. k.now) low.entry) Unbounded pair.0) (pairs_of tree.now)) result.0)
-        (λ place. (pair : K × V) × Refuses F.FnMut keep (filter (λ pair. within K.cmp (bound_map (λ k. k.now) low.entry) Unbounded pair.0) (pairs_of tree.now)) pair result.0 × IsStored K.cmp tree.now place pair) }
+        (Passes F.FnMut keep (filter (λ pair. within K.cmp (lent_bound low.entry) Unbounded pair.0) (pairs_of tree.now)) result.0)
+        (λ place. (pair : K × V) × Refuses F.FnMut keep (filter (λ pair. within K.cmp (lent_bound low.entry) Unbounded pair.0) (pairs_of tree.now)) pair result.0 × IsStored K.cmp tree.now place pair) }
 {
     let mut keep = keep;
     let mut pairs = RangeOver::new(&tree.arenas, tree.root, (low, Bound::Unbounded));

@@ -1,6 +1,6 @@
 //! Look-ups by a key alone.
-ghost use Rattle.std.specs.Prelude.{◌≡◌, ◌<◌, List, Some, MatchOption};
-ghost use Rattle.tree_model.specs.Pairs.{IsAbsent, IsAscending, pair_at};
+ghost use Rattle.std.specs.Prelude.{◌≡◌, ◌<◌, List};
+ghost use Rattle.tree_model.specs.Pairs.{Finds, IsAscending};
 
 use std::marker::Brand;
 use std::sync::ledger::{Blank, Ledger};
@@ -13,15 +13,13 @@ pub trait Seeks<K: Ord, V> {
     /// Returns the pair with the judge's key.
     fn seek<J: Judge<K>>(&self, judge: &mut J) -> Option<(&K, &V)>
         ensures ascending { IsAscending K.cmp (pairs self.now) }
-        ensures found { MatchOption result (IsAbsent K.cmp (pairs self.now) (J.key judge.old))
-            (λ pair. pair_at K.cmp (pairs self.now) (J.key judge.old) ≡ Some (pair.0.now, pair.1.now)) };
+        ensures found { Finds K.cmp (pairs self.now) (J.key judge.old) result };
 }
 
 /// Returns the pair with a key, for a caller that doesn't count comparisons.
 pub fn pair_of<'a, K: Ord, V, S: Seeks<K, V>>(sought: &'a S, key: &K) -> Option<(&'a K, &'a V)>
     ensures ascending { IsAscending K.cmp (S.pairs sought.now) }
-    ensures found { MatchOption result (IsAbsent K.cmp (S.pairs sought.now) key.now)
-        (λ pair. pair_at K.cmp (S.pairs sought.now) key.now ≡ Some (pair.0.now, pair.1.now)) }
+    ensures found { Finds K.cmp (S.pairs sought.now) key.now result }
 {
     pair_by::<K, V, S, Brand>(sought, key, Blank::new(1))
 }
@@ -35,8 +33,7 @@ fn pair_by<'a, K: Ord, V, S: Seeks<K, V>, L: Ledger>(
     requires parts { blank.parts ≡ L.parts }
     requires some { 0 < L.parts }
     ensures ascending { IsAscending K.cmp (S.pairs sought.now) }
-    ensures found { MatchOption result (IsAbsent K.cmp (S.pairs sought.now) key.now)
-        (λ pair. pair_at K.cmp (S.pairs sought.now) key.now ≡ Some (pair.0.now, pair.1.now)) }
+    ensures found { Finds K.cmp (S.pairs sought.now) key.now result }
 {
     let mut judge: KeyJudge<K, L> = KeyJudge::new(key, Steps::new(blank));
     sought.seek(&mut judge)

@@ -15,7 +15,7 @@ use tree_root::Tree;
 impl<K: IndexKey, V: Drop, const LEN: usize> TreeIndexOf<K, V, LEN> {
     /// Removes the pair with a key and returns it, or `None` if the key is absent.
     ///
-    /// Costs what [`remove_sync`](TreeIndexOf::remove_sync) does, and one comparison more.
+    /// Costs what [`remove_sync`](TreeIndexOf::remove_sync) does.
     ///
     /// ```
     /// let (_, quantity) = offers.take_sync(&price)?;

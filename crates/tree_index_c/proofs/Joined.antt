@@ -1,15 +1,11 @@
 -- How a loop writes keys one after another, and an entry for each.
 use Rattle.std.proofs.Common.{◌≡◌, ℕ, ◌+◌, ◌-◌, ◌<◌, ◌≤◌, List, [], ◌∷◌, ◌++◌, length, map, take, drop, refl, sym, ap, ◌∙◌, append_assoc, append-nil, arith, inl, inr, Err, drop-drop, length-append}
-use Rattle.tree_model.proofs.Common.{flat_map-append}
+use Rattle.tree_model.proofs.Common.{flat_map-append, nil_from_length}
 use Rattle.std.proofs.Math.Seq.{drop-append-add, take-append_seam}
 use Rattle.tree_index_c.specs.declared.entry.Entry.{Entry}
 use Rattle.tree_index_c.specs.Entries.{FillsBytes, FillsEntries, entry_of, joined}
 use Rattle.tree_index_c.specs.Pairs.{Fills}
 use Rattle.tree_index_c.proofs.Filled.{Filling}
-
-empty_from_length : {X : Type 0} (xs : List X) → length xs ≡ 0 → xs ≡ []
-empty_from_length [] none = refl
-empty_from_length (x ∷ xs) none = absurd (cc)
 
 module _ (all : List (List ℕ × ℕ)) (before : List ℕ) where
   -- The keys of the first `at` pairs are written, and take this many places.
@@ -67,7 +63,7 @@ module _ (all : List (List ℕ × ℕ)) (before : List ℕ) where
         pub stops_at_once : at ≡ 0 → length now - used < length bytes → new ≡ now → FillsBytes all before new entries_before entries (Err (length bytes))
         stops_at_once zero none same =
             let nothing : used ≡ 0 = sym was.counted ∙ ap (λ n. length (joined (take n all))) zero in
-            let given : filling.given ≡ [] = empty_from_length filling.given (filling.counted ∙ zero) in
+            let given : filling.given ≡ [] = nil_from_length filling.given (filling.counted ∙ zero) in
             let parts : pair ∷ rest ≡ all = ap (λ xs. xs ++ pair ∷ rest) (sym given) ∙ filling.parts in (
               ap (λ xs. map (λ p. length p.0) (take 1 xs)) (sym parts) ∙ ap (λ xs. length xs ∷ []) (sym is),
               omega (arith, none, length_now, nothing),

@@ -1,13 +1,13 @@
 -- Pairs that arrive in the order of their keys.
 use Rattle.std.proofs.Common.{◌≡◌, ℕ, suc, ◌<◌, false, Bor, List, [], ◌∷◌, ◌++◌, length, map, take, drop, Option, None, Some, refl, sym, ap, ◌∙◌, find, is_some, take-append-drop, is_eq, is_gt, Ordering, Less, Equal, Greater}
-use Rattle.tree_model.proofs.Common.{map-append, lent, AllLarger, IsAscending}
+use Rattle.tree_model.proofs.Common.{map-append, lent}
 use Rattle.tree_array.proofs.Common.{all_map, filter_none}
 use Rattle.std.specs.Option.{option_or}
 use Rattle.std.proofs.Math.ListN.{get_or}
 use Rattle.std.proofs.Math.Seq.{drop-cons}
 use Rattle.tree_index.specs.Copies.{AllSmaller}
 use Rattle.tree_index.specs.Nearest.{at_or_above}
-use Rattle.tree_index.proofs.Copied.{absent_behind}
+use Rattle.tree_model.proofs.LookUps.{absent_beyond}
 
 -- whether something is lent
 pub lent_none : {K V : Type 0} (r : Option (Bor K × Bor V)) → lent r ≡ None → is_some r ≡ false
@@ -39,13 +39,4 @@ module _ {K V : Type 0} (cmp : K → K → Ordering) where
 
   -- and the other way round
   pub all_below : (l : List (K × V)) (k : K) → AllSmaller cmp l k → at_or_above cmp l k ≡ None
-  all_below l k smaller = rw (absent_behind cmp l k smaller, filter_none (λ pair. is_gt (cmp pair.0 k)) l (all_map (λ pair less. rw less refl) l smaller)) refl
-
-  -- in ascending order what comes before a pair is smaller
-  pub before_smaller : (xs : List (K × V)) (pair : K × V) (ys : List (K × V)) → IsAscending cmp (xs ++ pair ∷ ys) → AllSmaller cmp xs pair.0
-  before_smaller [] pair ys ascending = tt
-  before_smaller (x ∷ xs) pair ys ascending = (behind xs ascending.0, before_smaller xs pair ys ascending.1)
-    where
-      behind : (zs : List (K × V)) → AllLarger cmp x.0 (zs ++ pair ∷ ys) → cmp x.0 pair.0 ≡ Less
-      behind [] larger = larger.0
-      behind (z ∷ zs) larger = behind zs larger.1
+  all_below l k smaller = rw (absent_beyond cmp l k smaller, filter_none (λ pair. is_gt (cmp pair.0 k)) l (all_map (λ pair less. rw less refl) l smaller)) refl

@@ -1,5 +1,5 @@
 //! Keys that are strings of bytes.
-ghost use Rattle.std.specs.Prelude.{◌≡◌, ◌<◌, IfOk, MatchOption, Some};
+ghost use Rattle.std.specs.Prelude.{◌≡◌, ◌<◌, IfOk, Some};
 ghost use Rattle.std.proofs.Common.{rules, refl};
 ghost use Rattle.std.proofs.lemmas.Cmp.{nat_list_cmp_total};
 ghost use Rattle.std.specs.Cmp.{partial_order_from_own_ties};
@@ -7,7 +7,7 @@ ghost use Rattle.std.specs.Cmp.Lexicographic.{slice_cmp};
 ghost use Rattle.std.specs.Cmp.Rules.{comparing};
 ghost use Rattle.std.specs.Ordering.{as_partial_cmp, eq_by_cmp, nat_cmp};
 ghost use Rattle.tree_model.specs.Keys.{equal_texts};
-ghost use Rattle.tree_model.specs.Pairs.{IsAbsent, pair_at};
+ghost use Rattle.tree_model.specs.Pairs.{Finds};
 
 use std::alloc::{AllocError, Global};
 use std::cmp::Ordering;
@@ -118,8 +118,7 @@ impl<L: Ledger> Judge<ByteKey> for SliceJudge<'_, L> {
 
 /// Returns the pair with a key. Allocates nothing.
 pub fn find<'t>(index: &'t TreeIndex<ByteKey, u64>, key: &[u8]) -> Option<(&'t ByteKey, &'t u64)>
-    ensures { MatchOption result (IsAbsent (slice_cmp nat_cmp) index.now.pairs key.now)
-        (λ pair. pair_at (slice_cmp nat_cmp) index.now.pairs key.now ≡ Some (pair.0.now, pair.1.now)) }
+    ensures { Finds (slice_cmp nat_cmp) index.now.pairs key.now result }
 {
     find_counted::<Brand>(index, key, Blank::new(1))
 }
@@ -132,8 +131,7 @@ fn find_counted<'t, L: Ledger>(
     requires name { blank.name ≡ L.name }
     requires parts { blank.parts ≡ L.parts }
     requires some { 0 < L.parts }
-    ensures { MatchOption result (IsAbsent (slice_cmp nat_cmp) index.now.pairs bytes.now)
-        (λ pair. pair_at (slice_cmp nat_cmp) index.now.pairs bytes.now ≡ Some (pair.0.now, pair.1.now)) }
+    ensures { Finds (slice_cmp nat_cmp) index.now.pairs bytes.now result }
 {
     let mut judge: SliceJudge<L> = SliceJudge {
         bytes,

@@ -19,7 +19,8 @@ use Rattle.tree_node.proofs.LeafSpares.{spare_written}
 use Rattle.tree_node.proofs.LeafWrites.{with_array, here_now, array_replaces, updated}
 use Rattle.tree_node.proofs.Walks.{front_walk_below, back_walk_above}
 use Rattle.tree_split.specs.Packed.{IsPacked}
-use Rattle.tree_split.proofs.Arrays.{packed_stored, put_beyond}
+use Rattle.tree_model.proofs.LookUps.{put_beyond}
+use Rattle.tree_split.proofs.Arrays.{packed_stored}
 use Rattle.tree_split.proofs.Edges.{edge_below, packed_above}
 use Rattle.tree_split.proofs.Fulls.{none_free}
 
@@ -109,7 +110,7 @@ module _ {K V : Type 0} {LEN : ℕ} {cmp : K → K → Ordering} (o : IsTotalOrd
             leaf = record leaf { array = array };
             here = here_now a id leaf array was;
             packed = rw ins.new_is (packed_stored o leaf.array key val (rw is at e.packed) smaller);
-            ends = rw (entries, put_beyond o leaf.array.entries key val smaller) (omega (arith, length-append leaf.array.entries ((key, val) ∷ [])));
+            ends = rw (entries, put_beyond cmp leaf.array.entries key val smaller) (omega (arith, length-append leaf.array.entries ((key, val) ∷ [])));
           }
 
       more : length (spend cmp leaf.array.arrivals key ++ Some (key, val) ∷ []) ≡ suc (length leaf.array.arrivals)

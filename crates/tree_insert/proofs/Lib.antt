@@ -2,11 +2,11 @@ mod Attempts
 pub mod Crowded
 mod Descents
 mod FirstPairs
-mod Inserts
+pub mod Inserts
 mod LeafNodes
 pub mod RaisedTrees
 mod Raises
 mod Replants
 mod Restarts
 mod Retries
-mod Ways
+pub mod Ways

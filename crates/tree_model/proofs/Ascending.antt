@@ -1,7 +1,7 @@
 -- The edits of a list of pairs keep it ascending.
-use Rattle.std.proofs.Common.{◌≡◌, Bool, true, false, cond, List, [], ◌∷◌, ◌++◌, filter, refl, Ordering, Less, Equal, Greater, is_lt, is_gt}
-use Rattle.tree_model.proofs.Common.{Bound, IsTotalOrder, AllByRecursion, AllLarger, IsAscending, below, above, put, without, cut}
-use Rattle.tree_model.proofs.Order.{less_from_greater}
+use Rattle.std.proofs.Common.{◌≡◌, Bool, true, false, cond, List, [], ◌∷◌, ◌++◌, filter, refl, ap, Ordering, Less, Equal, Greater, is_lt, is_gt}
+use Rattle.tree_model.proofs.Common.{Bound, IsTotalOrder, tied_itself, AllByRecursion, AllLarger, IsAscending, below, above, put, without, cut}
+use Rattle.tree_model.proofs.Order.{greater_from_less, less_from_greater}
 use Rattle.tree_model.proofs.Lists.{all_map, all-append, all-filter, all_passed}
 use Rattle.tree_model.proofs.LookUps.{larger_trans}
 
@@ -41,6 +41,17 @@ module _ {K V : Type 0} {cmp : K → K → Ordering} (o : IsTotalOrder cmp) wher
 
   pub below_smaller : (l : List (K × V)) (k : K) → AllByRecursion (λ p. cmp p.0 k ≡ Less) (below cmp l k)
   below_smaller l k = all_passed _ _ (λ p passes. less_from_test _ passes) l
+
+  -- where all are larger than k, none is below it
+  pub all_above : (k : K) (l : List (K × V)) → AllLarger cmp k l → (below cmp l k ≡ []) × (above cmp l k ≡ l)
+  all_above k [] later = (refl, refl)
+  all_above k (p ∷ ps) later =
+      let is = greater_from_less o k p.0 later.0 in
+      let rest = all_above k ps later.1 in
+      rw is (rest.0, ap (λ (r : List (K × V)). p ∷ r) rest.1)
+
+  pub without_first : (p : K × V) (ps : List (K × V)) → IsAscending cmp (p ∷ ps) → without cmp (p ∷ ps) p.0 ≡ ps
+  without_first p ps ascending = let rest = all_above p.0 ps ascending.0 in rw (tied_itself o p.0, rest.0, rest.1) refl
 
   -- what is put keeps the order
   pub IsAscending-put : (l : List (K × V)) (k : K) (v : V) → IsAscending cmp l → IsAscending cmp (put cmp l k v)

@@ -1,5 +1,5 @@
 -- Facts on each element of a list, and what a filter or a search makes of a list whose elements all pass, or all fail.
-use Rattle.std.proofs.Common.{◌≡◌, Bool, true, false, cond, List, [], ◌∷◌, ◌++◌, filter, find, Some, None, refl, ap}
+use Rattle.std.proofs.Common.{◌≡◌, ℕ, zero, suc, Bool, true, false, cond, List, [], ◌∷◌, ◌++◌, filter, find, slice_get, Some, None, refl, ap}
 use Rattle.tree_model.proofs.Common.{AllByRecursion}
 
 module _ {X : Type 0} where
@@ -29,6 +29,12 @@ module _ {X : Type 0} where
       kept : (b : Bool) → (b ≡ true → P x) → AllByRecursion P (filter test xs) → AllByRecursion P (cond b (x ∷ filter test xs) (filter test xs))
       kept true passes rest = (passes refl, rest)
       kept false passes rest = rest
+
+  -- what holds of each element holds of the one at a place
+  pub all_at : (P : X → Type 0) (xs : List X) (i : ℕ) (x : X) → AllByRecursion P xs → slice_get xs i ≡ Some x → P x
+  all_at P [] i x all there = absurd (cc)
+  all_at P (y ∷ xs) zero x all there = let same : x ≡ y = cc in rw same all.0
+  all_at P (y ∷ xs) (suc i) x all there = all_at P xs i x all.1 there
 
   pub filter_none : (test : X → Bool) (xs : List X) → AllByRecursion (λ x. test x ≡ false) xs → filter test xs ≡ []
   filter_none test [] h = refl

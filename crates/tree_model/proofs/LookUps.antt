@@ -1,10 +1,10 @@
 -- What a look-up finds in a list of pairs after an edit, and that an ascending list is known by its look-ups.
-use Rattle.std.proofs.Common.{◌≡◌, Bool, true, false, if◌then◌else◌, List, [], ◌∷◌, filter, None, Some, refl, sym, ◌∙◌, ap, subst, not, Ordering, Less, Equal, Greater, is_lt, is_le, is_eq, is_gt}
-use Rattle.tree_model.proofs.Common.{Bound, Included, Excluded, Unbounded, IsTotalOrder, tied_itself, tied_back, AllLarger, IsAscending, pair_at, below, above, put, without, within, cut}
+use Rattle.std.proofs.Common.{◌≡◌, Bool, true, false, if◌then◌else◌, List, [], ◌∷◌, ◌++◌, filter, None, Some, refl, sym, ◌∙◌, ap, subst, not, Ordering, Less, Equal, Greater, is_lt, is_le, is_eq, is_gt}
+use Rattle.tree_model.proofs.Common.{AllByRecursion, Bound, Included, Excluded, IsAbsent, Unbounded, IsTotalOrder, tied_itself, tied_back, AllLarger, IsAscending, pair_at, below, above, put, without, within, cut}
 use Rattle.std.proofs.lemmas.Option.{none-some}
 use Rattle.tree_model.specs.Pairs.{meets_lower, meets_upper}
 use Rattle.tree_model.proofs.Order.{greater_from_less, less_from_greater, alike, alike_after}
-use Rattle.tree_model.proofs.Lists.{all_map, find_after, find_before, find_kept, find_dropped, find_none}
+use Rattle.tree_model.proofs.Lists.{all_map, filter_all, filter_none, find_after, find_before, find_kept, find_dropped, find_none}
 
 -- an answer that a test takes for equal is Equal
 pub equal_from_test : (c : Ordering) → is_eq c ≡ true → c ≡ Equal
@@ -74,6 +74,18 @@ module _ {K V : Type 0} {cmp : K → K → Ordering} (o : IsTotalOrder cmp) (key
       go : (b : Bool) → within cmp low high key ≡ b → pair_at cmp (cut cmp l low high) key ≡ (if b then None else pair_at cmp l key)
       go true h = find_dropped _ _ (λ p same. ap not (same_within low high p same ∙ h)) l
       go false h = find_kept _ _ (λ p same. ap not (same_within low high p same ∙ h)) l
+
+-- a key larger than all is absent
+pub absent_beyond : {K V : Type 0} (cmp : K → K → Ordering) (l : List (K × V)) (key : K) → AllByRecursion (λ p. cmp p.0 key ≡ Less) l → IsAbsent cmp l key
+absent_beyond cmp l key smaller = find_none (λ p. is_eq (cmp p.0 key)) l (all_map (λ p less. ap is_eq less) l smaller)
+
+-- and its pair is put at the end
+pub put_beyond : {K V : Type 0} (cmp : K → K → Ordering) (l : List (K × V)) (key : K) (val : V) → AllByRecursion (λ p. cmp p.0 key ≡ Less) l → put cmp l key val ≡ l ++ (key, val) ∷ []
+put_beyond cmp l key val smaller =
+    rw (
+      filter_all (λ p. is_lt (cmp p.0 key)) l (all_map (λ p less. ap is_lt less) l smaller),
+      filter_none (λ p. is_gt (cmp p.0 key)) l (all_map (λ p less. ap is_gt less) l smaller),
+    ) refl
 
 module _ {K V : Type 0} {cmp : K → K → Ordering} (o : IsTotalOrder cmp) where
   -- no key is found below all

@@ -1,9 +1,11 @@
 -- An index as a list of pairs of a key and a value, strictly ascending by key. `cmp` is the order of the keys.
-use Rattle.std.specs.Prelude.{◌≡◌, Bool, true, List, [], ◌∷◌, ◌++◌, filter, find, not, ◌&&◌, Option, None, IsSome, ⊤}
+use Rattle.std.specs.Prelude.{◌≡◌, Bool, true, List, [], ◌∷◌, ◌++◌, filter, find, not, ◌&&◌, Option, None, Some, IsSome, MatchOption, ⊤}
+use Rattle.std.specs.Borrow.{Bor}
 use Rattle.std.specs.List.{AllByRecursion}
 use Rattle.std.specs.declared.cmp.Ordering.{Ordering}
 use Rattle.std.specs.declared.cmp.Ordering.TheVariants.{Less}
 use Rattle.std.specs.Ordering.{is_lt, is_le, is_eq, is_gt}
+use Rattle.std.specs.Range.Bound.{bound_map}
 use Rattle.std.specs.declared.ops.Bound.{Bound}
 use Rattle.std.specs.declared.ops.Bound.TheVariants.{Included, Excluded, Unbounded}
 
@@ -34,6 +36,10 @@ module _ {K V : Type 0} (cmp : K → K → Ordering) where
   abbrev pub IsAbsent : List (K × V) → K → Type 0
   IsAbsent l k = pair_at l k ≡ None
 
+  -- a look-up lends the pair whose key equals k, or there is none
+  abbrev pub Finds : List (K × V) → K → Option (Bor K × Bor V) → Type 0
+  Finds l k result = MatchOption result (IsAbsent l k) (λ pair. pair_at l k ≡ Some (pair.0.now, pair.1.now))
+
   -- l with the pair (k, v), in place of one whose key equals k
   abbrev pub put : List (K × V) → K → V → List (K × V)
   put l k v = below l k ++ (k, v) ∷ above l k
@@ -41,6 +47,18 @@ module _ {K V : Type 0} (cmp : K → K → Ordering) where
   -- l without the pair whose key equals k
   abbrev pub without : List (K × V) → K → List (K × V)
   without l k = below l k ++ above l k
+
+module _ {K : Type 0} where
+  -- a bound, with the key that it borrows
+  abbrev pub lent_bound : Bound (Bor K) → Bound K
+  lent_bound bound = bound_map (λ key. key.now) bound
+
+  -- both bounds of a call
+  abbrev pub low_of : Bound (Bor K) × Bound (Bor K) → Bound K
+  low_of bounds = lent_bound bounds.0
+
+  abbrev pub high_of : Bound (Bor K) × Bound (Bor K) → Bound K
+  high_of bounds = lent_bound bounds.1
 
 module _ {K : Type 0} (cmp : K → K → Ordering) where
   -- k meets a lower bound

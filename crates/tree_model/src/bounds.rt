@@ -1,21 +1,19 @@
 //! Two bounds on keys.
 ghost use Rattle.std.specs.Prelude.{◌≡◌};
-ghost use Rattle.std.specs.Range.Bound.{bound_map};
-ghost use Rattle.tree_model.specs.Pairs.{meets_lower, meets_upper, within};
+ghost use Rattle.tree_model.specs.Pairs.{high_of, lent_bound, low_of, meets_lower, meets_upper, within};
 
 use std::ops::Bound;
 
 /// Returns whether a key is within both bounds. Reversed bounds contain no key. Makes at most two comparisons.
 pub fn range_contains<K: Ord>(bounds: (Bound<&K>, Bound<&K>), key: &K) -> bool
-    ensures { result ≡ within K.cmp (bound_map (λ k. k.now) bounds.entry.0)
-        (bound_map (λ k. k.now) bounds.entry.1) key.now }
+    ensures { result ≡ within K.cmp (low_of bounds.entry) (high_of bounds.entry) key.now }
 {
     is_above(bounds.0, key) && is_below(bounds.1, key)
 }
 
 /// Returns whether a key meets a lower bound. Makes at most one comparison.
 pub fn is_above<K: Ord>(low: Bound<&K>, key: &K) -> bool
-    ensures { result ≡ meets_lower K.cmp (bound_map (λ k. k.now) low.entry) key.now }
+    ensures { result ≡ meets_lower K.cmp (lent_bound low.entry) key.now }
 {
     match low {
         Bound::Included(low) => low.cmp(key).is_le(),
@@ -26,7 +24,7 @@ pub fn is_above<K: Ord>(low: Bound<&K>, key: &K) -> bool
 
 /// Returns whether a key meets an upper bound. Makes at most one comparison.
 pub fn is_below<K: Ord>(high: Bound<&K>, key: &K) -> bool
-    ensures { result ≡ meets_upper K.cmp (bound_map (λ k. k.now) high.entry) key.now }
+    ensures { result ≡ meets_upper K.cmp (lent_bound high.entry) key.now }
 {
     match high {
         Bound::Included(high) => key.cmp(high).is_le(),

@@ -1,10 +1,15 @@
 -- The child that a key belongs to, of a node that stands or is retired.
-use Rattle.std.proofs.Common.{◌≡◌, ℕ, zero, suc, Bool, true, false, cond, List, [], ◌∷◌, Option, Some, None, IsSome, inl, inr, refl, Ordering, append-nil}
+use Rattle.std.proofs.Common.{◌≡◌, ℕ, zero, suc, Bool, true, false, cond, List, [], ◌∷◌, Option, Some, None, IsSome, inl, inr, refl, sym, ◌∙◌, Ordering, append-nil}
 use Rattle.tree_model.proofs.Common.{IsTotalOrder}
 use Rattle.tree_node.proofs.Common.{get, LeafOf, NodeOf, TreeArenas, AreParted, child_at, is_from, HasChildFor, Stands, IsRetiredNode, StandsOrRetired, walk}
 use Rattle.tree_node.proofs.Lists.{all_yes}
 use Rattle.tree_node.proofs.Walks.{child_is}
 use Rattle.tree_node.proofs.Standing.{no_children}
+
+-- a key belongs to one child
+pub only_child : {K : Type 0} {LEN : ℕ} (cmp : K → K → Ordering) (key : K) (slot : Option (NodeOf K LEN)) (child other : ℕ) → HasChildFor cmp key slot child → HasChildFor cmp key slot other → child ≡ other
+only_child cmp key None child other this that = absurd this
+only_child cmp key (Some node) child other this that = let both : Some child ≡ Some other = sym this ∙ that in cc
 
 module _ {K : Type 0} (cmp : K → K → Ordering) (Child : Option K → ℕ → Option K → Type 0) where
   parted_free_low : ((low : Option K) (id : ℕ) (high : Option K) → Child low id high → Child None id high)

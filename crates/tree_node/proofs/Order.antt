@@ -14,7 +14,7 @@ le_reversed Less h = absurd (cc)
 le_reversed Equal h = refl
 le_reversed Greater h = refl
 
-less_from_no_ge : (c : Ordering) → is_ge c ≡ false → c ≡ Less
+pub less_from_no_ge : (c : Ordering) → is_ge c ≡ false → c ≡ Less
 less_from_no_ge Less h = refl
 less_from_no_ge Equal h = absurd (cc)
 less_from_no_ge Greater h = absurd (cc)

@@ -2,8 +2,7 @@
 ghost use Rattle.std.specs.Prelude.{◌≡◌, ◌≤◌, ◌↔◌, IsTrue, List, [], length, IfOk, IfErr, OnErr};
 ghost use Rattle.std.specs.Fn.{FnOnceReturnsAt, FnOnceTakesAt};
 ghost use Rattle.std.specs.Option.{ForSome, option_copied, option_map};
-ghost use Rattle.std.specs.Range.Bound.{bound_map};
-ghost use Rattle.tree_model.specs.Pairs.{IsAbsent, IsAscending, IsPresent, pair_at, without, cut};
+ghost use Rattle.tree_model.specs.Pairs.{IsAbsent, IsAscending, IsPresent, cut, high_of, low_of, pair_at, without};
 ghost use Rattle.tree_model.specs.Edits.{Inserts, RemovesIf, Upserts};
 ghost use Rattle.tree_plain.specs.Places.{IsPlace, IsGap};
 
@@ -147,8 +146,7 @@ impl<K: Ord + Drop, V: Drop> PlainIndex<K, V> {
 
     /// Removes every pair whose key is within both bounds.
     pub fn remove_range(&mut self, bounds: (Bound<&K>, Bound<&K>))
-        ensures { self.new ≡ cut K.cmp self.old (bound_map (λ k. k.now) bounds.entry.0)
-            (bound_map (λ k. k.now) bounds.entry.1) }
+        ensures { self.new ≡ cut K.cmp self.old (low_of bounds.entry) (high_of bounds.entry) }
     {
         self.pairs.retain(|pair| !range_contains(bounds, &pair.0));
     }

@@ -18,13 +18,14 @@ get_none (x ∷ xs) zero none = absurd (cc)
 get_none (x ∷ xs) (suc i) none = omega (arith, get_none xs i none)
 
 module _ {K V : Type 0} {cmp : K → K → Ordering} (o : IsTotalOrder cmp) (k : K) where
+  -- what is larger than a key that isn't smaller is larger than k
+  pub all_above : (x : K × V) (xs : List (K × V)) → AllLarger cmp x.0 xs → is_le (cmp k x.0) ≡ true → AllLarger cmp k xs
+  all_above x xs larger le = all_map (λ (q : K × V) (less : cmp x.0 q.0 ≡ Less). above_le o (cmp k x.0) k x.0 q.0 refl le less) xs larger
+
   -- what the first such place tells of the key, and that there is none
   abbrev IsFound : List (K × V) → Option ℕ → Type 0
   IsFound l None = (length (below cmp l k) ≡ length l) × (is_some (pair_at cmp l k) ≡ false)
   IsFound l (Some n) = (x : K × V) × (slice_get l n ≡ Some x) × (length (below cmp l k) ≡ n) × (is_some (pair_at cmp l k) ≡ is_eq (cmp x.0 k))
-
-  all_above : (x : K × V) (xs : List (K × V)) → AllLarger cmp x.0 xs → is_le (cmp k x.0) ≡ true → AllLarger cmp k xs
-  all_above x xs larger le = all_map (λ (q : K × V) (less : cmp x.0 q.0 ≡ Less). above_le o (cmp k x.0) k x.0 q.0 refl le less) xs larger
 
   none_below : (xs : List (K × V)) → AllLarger cmp k xs → length (below cmp xs k) ≡ 0
   none_below xs larger = ap length (filter_none (λ pair. is_lt (cmp pair.0 k)) xs (all_map (λ (q : K × V) (less : cmp k q.0 ≡ Less). ap is_lt (greater_from_less o k q.0 less)) xs larger))

@@ -1,6 +1,7 @@
 -- The first entry of a part that is within a bound, told by the part's last one.
 use Rattle.std.proofs.Common.{◌≡◌, ◌⊎◌, ℕ, zero, suc, ◌-◌, ◌<◌, Bool, true, false, ltb, List, [], ◌∷◌, ◌++◌, length, reverse, slice_get, Option, Some, None, Bor, refl, sym, ap, ◌∙◌, arith, inl, inr, option_map, Ordering}
 use Rattle.tree_model.proofs.Common.{IsTotalOrder, AllByRecursion, Bound, Unbounded, nat_tests, reverse-reverse, IsAscending, lent_entry, lent, along, opposite, meets}
+use Rattle.tree_model.proofs.Lists.{all_at}
 use Rattle.tree_model.specs.declared.way.Way.{Way}
 use Rattle.tree_model.specs.declared.way.Way.TheVariants.{On, Back}
 use Rattle.tree_node.proofs.Common.{TreeArenas, get, IsRetiredNode, StandsOrRetired, walk}
@@ -19,11 +20,6 @@ use Rattle.tree_ranges.proofs.Pieces.{all_reverse, reverse_parts}
 use Rattle.tree_ranges.proofs.Yields.{less, persists}
 
 module _ {X : Type 0} (P : X → Type 0) where
-  all_get : (xs : List X) (i : ℕ) (x : X) → AllByRecursion P xs → slice_get xs i ≡ Some x → P x
-  all_get [] i x all is = absurd (cc)
-  all_get (y ∷ xs) zero x all is = let same : x ≡ y = cc in rw same all.0
-  all_get (y ∷ xs) (suc i) x all is = all_get xs i x all.1 is
-
   all_from : (xs : List X) → ((i : ℕ) (x : X) → slice_get xs i ≡ Some x → P x) → AllByRecursion P xs
   all_from [] every = tt
   all_from (x ∷ xs) every = (every 0 x refl, all_from xs (λ i y is. every (suc i) y is))
@@ -77,8 +73,8 @@ module _ {K V : Type 0} {cmp : K → K → Ordering} (o : IsTotalOrder cmp) (way
   some_within met none = by_way way is met none
     where
       by_way : (way : Way) → first_on (opposite way) l ≡ Some last → meets cmp way bound last.0 ≡ true → NoneMeets cmp way bound l → ⊥
-      by_way On is met none = let missed = all_get _ l (length l - 1) last none is in cc
-      by_way Back is met none = let missed = all_get _ l 0 last none is in cc
+      by_way On is met none = let missed = all_at _ l (length l - 1) last none is in cc
+      by_way Back is met none = let missed = all_at _ l 0 last none is in cc
 
 module _ {K V : Type 0} {LEN : ℕ} {cmp : K → K → Ordering} (o : IsTotalOrder cmp) (way : Way) (level : ℕ) (a : TreeArenas K V LEN) (id : ℕ) (bound : Bound K) (ascending : IsAscending cmp (walk level a id)) (linked : IsLinked level a id) where
   module _ (last : K × V) (is : first_on (opposite way) (walk level a id) ≡ Some last) (met : meets cmp way bound last.0 ≡ true) where

@@ -1,7 +1,7 @@
 //! What a cursor asks its two ends.
 ghost use Rattle.std.specs.Prelude.{◌≡◌, is_some};
-ghost use Rattle.std.specs.Range.Bound.{bound_map};
 ghost use Rattle.tree_model.specs.Cursor.{meets, option_where};
+ghost use Rattle.tree_model.specs.Pairs.{lent_bound};
 ghost use Rattle.tree_model.specs.Rest.{lent};
 ghost use Rattle.tree_cursors.specs.View.{pair_of};
 ghost use Rattle.tree_ranges.specs.Beside.{is_at};
@@ -43,7 +43,7 @@ pub fn shown<'t, K: Ord + Drop, V: Drop, S: SlotWalk, T: EndWay, const LEN: usiz
     end: &End<LinkedIter<'t, LeafOf<K, V, LEN>, S>>,
     bound: Bound<&K>,
 ) -> Option<(&'t K, &'t V)>
-    ensures { lent result ≡ option_where (λ pair. meets K.cmp T.way (bound_map (λ k. k.now) bound.entry) pair.0)
+    ensures { lent result ≡ option_where (λ pair. meets K.cmp T.way (lent_bound bound.entry) pair.0)
         (pair_of end.now) }
 {
     within::<K, V, T>(pair_on(end), bound)
@@ -55,7 +55,7 @@ pub fn within<'t, K: Ord, V, T: EndWay>(
     pair: Option<(&'t K, &'t V)>,
     bound: Bound<&K>,
 ) -> Option<(&'t K, &'t V)>
-    ensures { lent result ≡ option_where (λ pair. meets K.cmp T.way (bound_map (λ k. k.now) bound.entry) pair.0)
+    ensures { lent result ≡ option_where (λ pair. meets K.cmp T.way (lent_bound bound.entry) pair.0)
         (lent pair.entry) }
 {
     let (key, value) = pair?;

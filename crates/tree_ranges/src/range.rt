@@ -1,9 +1,8 @@
 //! A cursor over the pairs of a tree within two bounds.
 ghost use Rattle.std.specs.Prelude.{◌≡◌, ⊤};
 ghost use Rattle.std.specs.Iterator.{at_most};
-ghost use Rattle.std.specs.Range.Bound.{bound_map};
 ghost use Rattle.tree_model.specs.declared.way.Way.TheVariants.{On, Back};
-ghost use Rattle.tree_model.specs.Pairs.{IsAscending};
+ghost use Rattle.tree_model.specs.Pairs.{IsAscending, high_of, low_of};
 ghost use Rattle.tree_node.specs.Whole.{IsTree, walk_under};
 ghost use Rattle.tree_model.specs.Cursor.{fresh, opened, shown, with_ends};
 ghost use Rattle.tree_model.specs.Rest.{Moves, StandsInside, lent};
@@ -98,8 +97,7 @@ impl<'t, K: Ord + Drop + 't, V: Drop + 't, const LEN: usize> RangeOver<
         bounds: (Bound<&'t K>, Bound<&'t K>),
     ) -> Self
         requires { IsTree K.cmp arenas.now root }
-        ensures { result ≡ fresh (walk_under arenas.now root)
-            (bound_map (λ k. k.now) bounds.entry.0) (bound_map (λ k. k.now) bounds.entry.1) }
+        ensures { result ≡ fresh (walk_under arenas.now root) (low_of bounds.entry) (high_of bounds.entry) }
     {
         let (low, high) = bounds;
         RangeOver {

@@ -3,7 +3,7 @@ use Rattle.std.proofs.Common.{◌≡◌, ◌++◌, ℕ, zero, suc, ◌-◌, ◌<
 use Rattle.tree_model.proofs.Common.{IsTotalOrder, pair_at}
 use Rattle.tree_array.specs.declared.answers.RemoveResult.{RemoveResult}
 use Rattle.tree_array.specs.declared.answers.RemoveResult.TheVariants.{Success, Retired, Fail}
-use Rattle.tree_node.proofs.Common.{get, IsChain, times-nil, TreeArenas, IsPart, HasChildFor, IsRetiredNode, Stands, unbounded, walk}
+use Rattle.tree_node.proofs.Common.{get, IsChain, times-nil, TreeArenas, IsPart, IsRetiredNode, Stands, unbounded, walk}
 use Rattle.tree_node.specs.declared.branch.BranchOf.{BranchOf}
 use Rattle.tree_node.specs.declared.node.NodeOf.{NodeOf}
 use Rattle.tree_node.specs.declared.node.NodeOf.TheVariants.{Internal, Leaf}
@@ -13,6 +13,7 @@ use Rattle.tree_descent.specs.Ways.{IsOnWay, LeadsTo}
 use Rattle.tree_remove.specs.Removes.{RemovesUnder, surely}
 use Rattle.tree_remove.specs.Takes.{Emptied, IsEmptied}
 use Rattle.tree_remove.specs.Takes.IsEmptied.{emptied_from}
+use Rattle.tree_node.proofs.Children.{only_child}
 use Rattle.tree_node.proofs.NodeKinds.{node_used}
 use Rattle.tree_node.proofs.Standing.{node_is}
 use Rattle.tree_remove.proofs.ChildDrops.{child_dropped, keyed_dropped_at}
@@ -30,11 +31,6 @@ module _ {K V : Type 0} {LEN : ℕ} {cmp : K → K → Ordering} {level : ℕ} {
 -- a leaf that lost its last pair
 pub emptied_by : {K V : Type 0} {LEN : ℕ} (cmp : K → K → Ordering) (level : ℕ) (before now : TreeArenas K V LEN) (id node leaf : ℕ) (key : K) → LeadsTo cmp key level before id node leaf → RemovesUnder cmp surely 0 before now leaf Retired key → Emptied cmp level before now id key
 emptied_by cmp level before now id node leaf key leads removes = record { node = node; leaf = leaf; way = leads; removes = removes }
-
--- a node has one child for a key
-same_child : {K : Type 0} {LEN : ℕ} (cmp : K → K → Ordering) (key : K) (found : Option (NodeOf K LEN)) (x y : ℕ) → HasChildFor cmp key found x → HasChildFor cmp key found y → x ≡ y
-same_child cmp key None x y h j = absurd h
-same_child cmp key (Some node) x y h j = let both : Some x ≡ Some y = sym h ∙ j in cc
 
 module _ {K V : Type 0} {LEN : ℕ} {cmp : K → K → Ordering} (o : IsTotalOrder cmp) (level : ℕ) (deep : 0 < level) (before now : TreeArenas K V LEN) (id : ℕ) (key : K) (e : Emptied cmp level before now id key) where
   -- the nodes are as they were
@@ -65,7 +61,7 @@ module _ {K V : Type 0} {LEN : ℕ} {cmp : K → K → Ordering} (o : IsTotalOrd
     leaf_is =
         let way = rw over_leaf.level_is at e.way.1 in
         let same : id ≡ e.node = way in
-        same_child cmp key (get before.nodes id) e.leaf child (rw (sym same) at e.way.2) over_leaf.which
+        only_child cmp key (get before.nodes id) e.leaf child (rw (sym same) at e.way.2) over_leaf.which
 
     leaf_removes : RemovesUnder cmp surely 0 before now child Retired key
     leaf_removes = rw leaf_is at e.removes
@@ -107,7 +103,7 @@ module _ {K V : Type 0} {LEN : ℕ} {cmp : K → K → Ordering} (o : IsTotalOrd
     emptied : Emptied cmp (suc over_node.below) before now child key
     emptied =
         let way : IsOnWay cmp key (suc over_node.below) before id e.node = rw (over_node.level_is, sub-one) at e.way.1 in
-        let same = same_child cmp key (get before.nodes id) way.0 child way.1 over_node.which in
+        let same = only_child cmp key (get before.nodes id) way.0 child way.1 over_node.which in
         record {
           node = e.node;
           leaf = e.leaf;

@@ -1,75 +1,21 @@
 -- A pair by its place: where it is found, and that an equal key leads there too.
-use Rattle.std.proofs.Common.{◌≡◌, ℕ, zero, suc, ◌-◌, ◌<◌, true, false, cond, List, [], ◌∷◌, Option, Some, None, IsSome, refl, sym, ap, ◌∙◌, arith, Ordering, Less, Equal, Greater, is_eq, is_ge}
-use Rattle.tree_model.proofs.Common.{IsTotalOrder, alike_right, tied_back, IsAbsent, IsAscending, pair_at}
-use Rattle.tree_array.proofs.Common.{Arrivals, arrival, least_from, removed, equal_from_test, less_from_greater}
+use Rattle.std.proofs.Common.{◌≡◌, ℕ, zero, suc, ◌-◌, ◌<◌, true, List, [], ◌∷◌, Option, Some, None, IsSome, refl, sym, ap, ◌∙◌, arith, Ordering, Equal}
+use Rattle.tree_model.proofs.Common.{IsTotalOrder, alike_right, tied_back, IsAbsent, pair_at}
+use Rattle.tree_array.proofs.Common.{Arrivals, arrival, removed}
 use Rattle.tree_array.specs.declared.answers.RemoveResult.{RemoveResult}
 use Rattle.tree_array.specs.declared.answers.RemoveResult.TheVariants.{Success, Retired}
-use Rattle.tree_node.proofs.Common.{get, LeafOf, TreeArenas, IsPart, HasChildFor, IsRetired, Stands, child_at, child_of, is_from, keyed, unbounded, walk}
+use Rattle.tree_node.proofs.Common.{get, LeafOf, TreeArenas, HasChildFor, IsRetired, child_at, child_of, is_from, keyed, unbounded, walk}
 use Rattle.tree_node.specs.declared.node.NodeOf.{NodeOf}
 use Rattle.tree_array.specs.Removal.{removal_of}
-use Rattle.tree_model.proofs.LookUps.{none_larger, larger_trans}
 use Rattle.tree_clean_up.specs.CleanUps.{HasOnlyRetired}
 use Rattle.tree_clean_up.proofs.Retired.{walk-retired}
 use Rattle.tree_descent.specs.Ways.{IsOnWay, LeadsTo}
-use Rattle.tree_node.proofs.Children.{walk-leaf}
 use Rattle.tree_node.proofs.LeafWrites.{with_array}
 use Rattle.tree_remove.specs.Removes.{RemovesUnder, surely}
 use Rattle.tree_remove.specs.Takes.{Emptied, IsEntry, stored_at}
 use Rattle.tree_remove.proofs.LeafRemovals.{leaf_settled, removes_in_leaf}
 use Rattle.tree_remove.proofs.EmptiedLeaves.{emptied_by}
 use Rattle.tree_remove.proofs.Ways.{found_on_way, removes_on_way, settled_on_way}
-
--- what the search of a leaf says of a key
-module _ {K V : Type 0} {cmp : K → K → Ordering} (o : IsTotalOrder cmp) (key : K) where
-  -- no key from it on
-  absent_beyond : (pairs : List (K × V)) → least_from cmp pairs key ≡ None → IsAbsent cmp pairs key
-  absent_beyond [] h = refl
-  absent_beyond (p ∷ ps) h = by_order (cmp p.0 key) (absent_beyond ps) h
-    where
-      by_order : (c : Ordering) → (least_from cmp ps key ≡ None → IsAbsent cmp ps key) → cond (is_ge c) (Some p) (least_from cmp ps key) ≡ None → cond (is_eq c) (Some p) (pair_at cmp ps key) ≡ None
-      by_order Less later h = later h
-      by_order Equal later h = absurd (cc)
-      by_order Greater later h = absurd (cc)
-
-  -- an equal one
-  equal_found : (pairs : List (K × V)) (pair : K × V) → least_from cmp pairs key ≡ Some pair → cmp pair.0 key ≡ Equal → pair_at cmp pairs key ≡ Some pair
-  equal_found [] pair h same = absurd (cc)
-  equal_found (p ∷ ps) pair h same = by_order (cmp p.0 key) refl (equal_found ps pair) h
-    where
-      by_order : (c : Ordering) → cmp p.0 key ≡ c → (least_from cmp ps key ≡ Some pair → cmp pair.0 key ≡ Equal → pair_at cmp ps key ≡ Some pair) → cond (is_ge c) (Some p) (least_from cmp ps key) ≡ Some pair
-          → cond (is_eq c) (Some p) (pair_at cmp ps key) ≡ Some pair
-      by_order Less is later h = later h same
-      by_order Equal is later h = h
-      by_order Greater is later h = absurd (let is_it : p ≡ pair = cc in let clash : Greater ≡ Equal = sym is ∙ ap (λ (q : K × V). cmp q.0 key) is_it ∙ same in cc)
-
-  -- a larger one, in ascending order
-  larger_found : (pairs : List (K × V)) (pair : K × V) → IsAscending cmp pairs → least_from cmp pairs key ≡ Some pair → is_eq (cmp pair.0 key) ≡ false → IsAbsent cmp pairs key
-  larger_found [] pair ascending h other = absurd (cc)
-  larger_found (p ∷ ps) pair ascending h other = by_order (cmp p.0 key) refl (larger_found ps pair ascending.1) h
-    where
-      by_order : (c : Ordering) → cmp p.0 key ≡ c → (least_from cmp ps key ≡ Some pair → is_eq (cmp pair.0 key) ≡ false → IsAbsent cmp ps key) → cond (is_ge c) (Some p) (least_from cmp ps key) ≡ Some pair
-          → cond (is_eq c) (Some p) (pair_at cmp ps key) ≡ None
-      by_order Less is later h = later h other
-      by_order Equal is later h = absurd (let is_it : p ≡ pair = cc in let clash : true ≡ false = sym (ap is_eq is) ∙ ap (λ (q : K × V). is_eq (cmp q.0 key)) is_it ∙ other in cc)
-      by_order Greater is later h = none_larger o key ps (larger_trans o key p.0 ps (less_from_greater o p.0 key is) ascending.0)
-
--- what that says of a leaf
-module _ {K V : Type 0} {LEN : ℕ} {cmp : K → K → Ordering} (o : IsTotalOrder cmp) (a : TreeArenas K V LEN) (id : ℕ) (key : K) (leaf : LeafOf K V LEN) (here : get a.leaves id ≡ Some leaf) where
-  pub none_in_leaf : least_from cmp leaf.array.entries key ≡ None → IsAbsent cmp (walk 0 a id) key
-  none_in_leaf none = rw (walk-leaf a id leaf here) (absent_beyond o key leaf.array.entries none)
-
-  -- of the pair in a slot, whose key was read
-  module _ (slot : ℕ) (k : K) (found : (pair : K × V) × (arrival leaf.array.arrivals slot ≡ Some pair) × (least_from cmp leaf.array.entries key ≡ Some pair)) (read : (v : V) × (arrival leaf.array.arrivals slot ≡ Some (k, v))) where
-    key_is : found.0.0 ≡ k
-    key_is = let both : Some found.0 ≡ Some (k, read.0) = sym found.1 ∙ read.1 in let same : found.0 ≡ (k, read.0) = cc in ap (λ (p : K × V). p.0) same
-
-    pub equal_in_leaf : is_eq (cmp k key) ≡ true → (pair : K × V) × (cmp pair.0 key ≡ Equal) × (stored_at (get a.leaves id) slot ≡ Some pair) × (pair_at cmp (walk 0 a id) key ≡ Some pair)
-    equal_in_leaf said =
-        let equal : cmp found.0.0 key ≡ Equal = rw key_is (equal_from_test (cmp k key) said) in
-        (found.0, equal, rw here found.1, rw (walk-leaf a id leaf here) (equal_found o key leaf.array.entries found.0 found.2 equal))
-
-    pub other_in_leaf : IsAscending cmp leaf.array.entries → is_eq (cmp k key) ≡ false → IsAbsent cmp (walk 0 a id) key
-    other_in_leaf ascending said = rw (walk-leaf a id leaf here) (larger_found o key leaf.array.entries found.0 ascending found.2 (rw key_is said))
 
 -- either of two equal keys
 module _ {K : Type 0} {cmp : K → K → Ordering} (o : IsTotalOrder cmp) (key alike : K) (same : cmp key alike ≡ Equal) where
@@ -123,14 +69,6 @@ module _ {K V : Type 0} {LEN : ℕ} {cmp : K → K → Ordering} (o : IsTotalOrd
       node = node;
       way = leads_alike o key pair.0 (tied_back o pair.0 key same) a level id node leaf leads;
     }
-
--- the keys of a leaf ascend
-pub leaf_ascends : {K V : Type 0} {LEN : ℕ} {cmp : K → K → Ordering} (a : TreeArenas K V LEN) (id : ℕ) → IsPart cmp 0 a id → (leaf : LeafOf K V LEN) → get a.leaves id ≡ Some leaf → IsAscending cmp leaf.array.entries
-leaf_ascends {K = K} {V = V} {LEN = LEN} {cmp = cmp} a id part leaf here =
-    let s : Stands cmp 0 a None id None = part.stands in
-    let both : Some s.leaf ≡ Some leaf = sym s.here ∙ here in
-    let same : s.leaf ≡ leaf = cc in
-    rw same at s.ascending
 
 -- the leaf of an entry is there
 pub leaf_stored : {K V : Type 0} {LEN : ℕ} (found : Option (LeafOf K V LEN)) (slot : ℕ) (pair : K × V) → stored_at found slot ≡ Some pair → IsSome found

@@ -23,7 +23,7 @@ pub struct EntryPlace {
 }
 
 /// Returns where the pair with an equal key is stored under the number of a node of this level, or `None` if the key is
-/// absent. Makes at most 4 comparisons a level and in the leaf (3 among 7 slots), and one more in all.
+/// absent. Makes at most 4 comparisons a level and in the leaf (3 among 7 slots).
 ///
 /// The caller must see that a well-formed part of a tree, or a retired node, stands under the number.
 pub fn entry_for<K: Ord + Drop, V: Drop, const LEN: usize>(
@@ -38,30 +38,11 @@ pub fn entry_for<K: Ord + Drop, V: Drop, const LEN: usize>(
         (λ place. (pair : K × V) × (K.cmp pair.0 key.now ≡ Equal) × IsEntry K.cmp level arenas.now id place.leaf place.slot pair) }
 {
     let place = leaf_for(arenas, level, id, key, false)?;
-    let slot = slot_of(arenas, place.leaf, key)?;
+    let slot = arenas.leaf(place.leaf).array().slot_of(key)?;
     Some(EntryPlace {
         leaf: place.leaf,
         slot,
     })
-}
-
-/// Returns the slot of the pair with an equal key in a leaf, or `None` if the key is absent there.
-fn slot_of<K: Ord + Drop, V: Drop, const LEN: usize>(
-    arenas: &ArenasOf<K, V, LEN>,
-    leaf: LeafId,
-    key: &K,
-) -> Option<u8>
-    requires { IsPart K.cmp 0 arenas.now leaf }
-    ensures { MatchOption result (IsAbsent K.cmp (walk 0 arenas.now leaf) key.now)
-        (λ slot. (pair : K × V) × (K.cmp pair.0 key.now ≡ Equal) × (stored_at (get arenas.now.leaves leaf) slot ≡ Some pair) × (pair_at K.cmp (walk 0 arenas.now leaf) key.now ≡ Some pair)) }
-{
-    let array = arenas.leaf(leaf).array();
-    let slot = array.slot_for(key)?;
-    if array.key(slot).cmp(key).is_eq() {
-        Some(slot)
-    } else {
-        None
-    }
 }
 
 /// Takes out the pair that is stored at a place under the number of a node of this level, and returns it.

@@ -74,6 +74,12 @@ module _ {K V : Type 0} {LEN : ℕ} where
     pub spare : (spare_of old ≤ spare_of new) ⊎ (leaves_under new.arenas.nodes new.root ≡ [])
     pub kept : removed ≡ false → KeepsShape cmp old new
 
+  -- There are as many pairs as before, in a tree of the same shape.
+  pub record KeepsKeys (cmp : K → K → Ordering) (old new : Tree K V LEN) : Type 0 where
+    pub whole : IsWhole cmp new
+    pub counted : length (pairs_of new) ≡ length (pairs_of old)
+    pub shape : KeepsShape cmp old new
+
   -- The pairs whose keys are within the bounds are gone, and there were so many.
   pub record Cuts (cmp : K → K → Ordering) (low high : Bound K) (old new : Tree K V LEN) (gone : ℕ) : Type 0 where
     pub whole : IsWhole cmp new

@@ -2,6 +2,8 @@
 //! go.
 #![tactic(auto)]
 
+mod append;
 mod tree;
+mod values;
 
 pub use tree::{Stored, Tree};

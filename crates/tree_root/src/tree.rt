@@ -2,10 +2,9 @@
 ghost use Rattle.std.specs.Prelude.{◌≡◌, ◌⊎◌, ℕ, [], ◌+◌, ◌*◌, ◌^◌, ◌<◌, ◌≤◌, length, Bool, MatchOption, None, Some, false, true};
 ghost use Rattle.std.specs.Fn.{FnOnceReturnsAt, FnOnceTakesAt};
 ghost use Rattle.std.specs.Option.{ForSome};
-ghost use Rattle.std.specs.Range.Bound.{bound_map};
 ghost use Rattle.std.specs.declared.cmp.Ordering.TheVariants.{Equal};
 ghost use Rattle.tree_array.specs.Length.{IsLen, searched};
-ghost use Rattle.tree_model.specs.Pairs.{IsAbsent, pair_at};
+ghost use Rattle.tree_model.specs.Pairs.{Finds, IsAbsent, high_of, low_of, pair_at};
 ghost use Rattle.tree_descent.specs.Ways.{LeadsTo};
 ghost use Rattle.tree_insert.specs.Inserts.{IsNew};
 ghost use Rattle.tree_node.specs.Shape.{room};
@@ -216,7 +215,7 @@ impl<K: IndexKey, V: Drop, const LEN: usize> Tree<K, V, LEN> {
     }
 
     /// Returns where the pair with a key is stored, or `None` if the key is absent. Makes at most 4 comparisons a level and
-    /// in the leaf (3 among 7 slots), and one more.
+    /// in the leaf (3 among 7 slots).
     pub fn entry_for(&self, key: &K) -> Option<EntryPlace>
         requires { IsWhole K.cmp self.now }
         ensures { MatchOption result (IsAbsent K.cmp (pairs_of self.now) key.now)
@@ -249,8 +248,7 @@ impl<K: IndexKey, V: Drop, const LEN: usize> Tree<K, V, LEN> {
     /// at most two comparisons per slot of two leaves. Allocates nothing.
     pub fn remove_range(&mut self, bounds: (Bound<&K>, Bound<&K>)) -> u128
         requires { IsWhole K.cmp self.old }
-        ensures { Cuts K.cmp (bound_map (λ k. k.now) bounds.entry.0)
-            (bound_map (λ k. k.now) bounds.entry.1) self.old self.new result }
+        ensures { Cuts K.cmp (low_of bounds.entry) (high_of bounds.entry) self.old self.new result }
     {
         let Some((root, depth)) = self.root else {
             return 0;
@@ -273,8 +271,7 @@ impl<K: IndexKey, V: Drop, const LEN: usize> Tree<K, V, LEN> {
     /// and 3 with 7.
     pub fn search<J: Judge<K>>(&self, judge: &mut J) -> Option<(&K, &V)>
         requires { IsWhole K.cmp self.now }
-        ensures found { MatchOption result (IsAbsent K.cmp (pairs_of self.now) (J.key judge.old))
-            (λ pair. pair_at K.cmp (pairs_of self.now) (J.key judge.old) ≡ Some (pair.0.now, pair.1.now)) }
+        ensures found { Finds K.cmp (pairs_of self.now) (J.key judge.old) result }
         ensures same_key { J.key judge.new ≡ J.key judge.old }
         ensures counted { J.count judge.new ≤ J.count judge.old + LEN * (depth_of self.now.root + 1) }
         ensures halved { J.count judge.new ≤ J.count judge.old + searched LEN * (depth_of self.now.root + 1) }

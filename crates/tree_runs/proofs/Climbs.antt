@@ -1,6 +1,6 @@
 -- A run of inserts in ascending order, by what each of them did to the index.
-use Rattle.std.proofs.Common.{◌≡◌, ◌≢◌, ℕ, suc, ◌+◌, true, List, [], ◌∷◌, ◌++◌, map, length, length-append, refl, ap, ◌∙◌, arith, inl, Ordering, Less, append-nil}
-use Rattle.tree_model.proofs.Common.{AllByRecursion, IsTotalOrder, AllLarger, IsAbsent, IsAscending}
+use Rattle.std.proofs.Common.{◌≡◌, ◌≢◌, ℕ, suc, ◌+◌, true, List, [], ◌∷◌, ◌++◌, map, length, length-append, refl, ap, ◌∙◌, arith, inl, Ordering, Less}
+use Rattle.tree_model.proofs.Common.{AllByRecursion, IsTotalOrder, AllLarger, IsAscending}
 use Rattle.tree_model.specs.declared.commands.Command.{Command}
 use Rattle.tree_model.specs.declared.commands.Command.TheVariants.{Insert}
 use Rattle.tree_model.specs.declared.commands.Reply.{Reply}
@@ -8,8 +8,7 @@ use Rattle.tree_model.specs.declared.commands.Reply.TheVariants.{Stored, Duplica
 use Rattle.tree_model.specs.declared.commands.Reply.TheVariants.{Refused}
 use Rattle.tree_model.specs.Runs.{Step}
 use Rattle.tree_model.proofs.Lists.{all_map, all-append}
-use Rattle.tree_node.proofs.Between.{found_between}
-use Rattle.tree_split.proofs.Arrays.{put_beyond}
+use Rattle.tree_model.proofs.LookUps.{absent_beyond, put_beyond}
 use Rattle.tree_runs.specs.Climbs.{PacksBy}
 use Rattle.tree_index.specs.Index.{Index, IsShallow}
 
@@ -23,9 +22,6 @@ module _ {K V S : Type 0} (cmp : K → K → Ordering) (seen : V → S) (LEN : �
   Leads old (command ∷ commands) [] new = ⊥
 
 module _ {K V S : Type 0} {cmp : K → K → Ordering} (o : IsTotalOrder cmp) (seen : V → S) (LEN : ℕ) where
-  absent_beyond : (pairs : List (K × V)) (key : K) → AllByRecursion (λ p. cmp p.0 key ≡ Less) pairs → IsAbsent cmp pairs key
-  absent_beyond pairs key smaller = rw append-nil at (found_between o key pairs [] [] smaller tt)
-
   -- each pair with a larger key keeps a packed index so, which isn't deep
   climb : (rest : List (K × V)) (old new : Index K V) (replies : List (Reply V)) → IsAscending cmp rest → AllByRecursion (λ p. AllLarger cmp p.0 rest) old.pairs → old.packed ≡ true → IsShallow LEN (length old.pairs) old.depth
       → Leads cmp seen LEN old (map (λ p. Insert p.0 p.1) rest) replies new → AllByRecursion (λ reply. reply ≢ Refused) replies → IsShallow LEN (length old.pairs + length rest) new.depth
@@ -36,14 +32,14 @@ module _ {K V S : Type 0} {cmp : K → K → Ordering} (o : IsTotalOrder cmp) (s
   climb (p ∷ rest) old new [] ascending smaller packed shallow leads taken = absurd leads
   climb (p ∷ rest) old new (Stored ∷ replies) ascending smaller packed shallow leads taken =
       let less : AllByRecursion (λ q. cmp q.0 p.0 ≡ Less) old.pairs = all_map (λ q larger. larger.0) old.pairs smaller in
-      let pairs_are : leads.0.pairs ≡ old.pairs ++ (p.0, p.1) ∷ [] = leads.1.0.1 ∙ put_beyond o old.pairs p.0 p.1 less in
+      let pairs_are : leads.0.pairs ≡ old.pairs ++ (p.0, p.1) ∷ [] = leads.1.0.1 ∙ put_beyond cmp old.pairs p.0 p.1 less in
       let still = leads.1.1.1 less packed in
       let later : AllByRecursion (λ q. AllLarger cmp q.0 rest) leads.0.pairs = rw pairs_are (all-append _ old.pairs ((p.0, p.1) ∷ []) (all_map (λ q larger. larger.1) old.pairs smaller) (ascending.0, tt)) in
       let deep = climb rest leads.0 new replies ascending.1 later still (leads.1.1.0.shallow still) leads.2 taken.1 in
       let same : length leads.0.pairs + length rest ≡ length old.pairs + suc (length rest) = omega (arith, ap length pairs_are, length-append old.pairs ((p.0, p.1) ∷ [])) in
       rw same at deep
   climb (p ∷ rest) old new (Duplicate ∷ replies) ascending smaller packed shallow leads taken =
-      absurd (let there = leads.1.0.0 in let none = absent_beyond old.pairs p.0 (all_map (λ q larger. larger.0) old.pairs smaller) in let bad = rw none at there in cc)
+      absurd (let there = leads.1.0.0 in let none = absent_beyond cmp old.pairs p.0 (all_map (λ q larger. larger.0) old.pairs smaller) in let bad = rw none at there in cc)
   climb (p ∷ rest) old new (Refused ∷ replies) ascending smaller packed shallow leads taken = absurd (taken.0 refl)
   climb (p ∷ rest) old new (Removed was ∷ replies) ascending smaller packed shallow leads taken = absurd leads.1.0
   climb (p ∷ rest) old new (Done ∷ replies) ascending smaller packed shallow leads taken = absurd leads.1.0

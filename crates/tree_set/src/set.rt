@@ -1,10 +1,9 @@
 //! The set.
 ghost use Rattle.std.specs.Prelude.{◌≡◌, ◌↔◌, IsTrue, ◌^◌, ◌-◌, ◌&&◌, ◌||◌, min, not, filter, [], length};
 ghost use Rattle.std.specs.Option.{option_copied};
-ghost use Rattle.std.specs.Range.Bound.{bound_map};
 ghost use Rattle.tree_array.specs.Length.{IsLen};
 ghost use Rattle.tree_chain.specs.Walks.{first_of, last_of};
-ghost use Rattle.tree_model.specs.Pairs.{within};
+ghost use Rattle.tree_model.specs.Pairs.{high_of, low_of, within};
 ghost use Rattle.tree_set.specs.Merges.{difference, intersection, symmetric_difference, union};
 ghost use Rattle.tree_set.specs.Sets.{Inserts, IsAscending, cut, element_at, has, without};
 
@@ -117,8 +116,7 @@ impl<K: IndexKey, const LEN: usize> TreeSetOf<K, LEN> {
     /// assert!(rt; format!(in alloc; "{set:?}")?.as_str() == "{1, 9}");
     /// ```
     pub fn remove_range(&mut self, bounds: (Bound<&K>, Bound<&K>))
-        ensures { self.new ≡ cut K.cmp self.old (bound_map (λ k. k.now) bounds.entry.0)
-            (bound_map (λ k. k.now) bounds.entry.1) }
+        ensures { self.new ≡ cut K.cmp self.old (low_of bounds.entry) (high_of bounds.entry) }
     {
         self.index.remove_range_sync(bounds);
     }
@@ -217,8 +215,7 @@ impl<K: IndexKey, const LEN: usize> TreeSetOf<K, LEN> {
     /// assert!(rt; set.range((Bound::Excluded(&3), Bound::Unbounded)).next() == Some(&7));
     /// ```
     pub fn range<'t>(&'t self, bounds: (Bound<&'t K>, Bound<&'t K>)) -> Elements<'t, K, LEN>
-        ensures { result ≡ filter (within K.cmp (bound_map (λ k. k.now) bounds.entry.0)
-            (bound_map (λ k. k.now) bounds.entry.1)) self.now }
+        ensures { result ≡ filter (within K.cmp (low_of bounds.entry) (high_of bounds.entry)) self.now }
     {
         ElementsOver::new(self.index.range(bounds))
     }

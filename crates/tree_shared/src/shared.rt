@@ -2,10 +2,10 @@
 ghost use Rattle.std.specs.Prelude.{◌≡◌, ◌+◌, ◌<◌, All, true, vec_len, IfOk, IfErr, OnErr};
 ghost use Rattle.tree_array.specs.Length.{IsLen};
 ghost use Rattle.tree_model.specs.History.{IsHistoryOf, IsSameBound};
+ghost use Rattle.tree_model.specs.Pairs.{lent_bound};
 ghost use Rattle.tree_shared.specs.Ledgers.{IsBlankFor};
 ghost use Rattle.tree_shared.specs.Replies.{is_reply_to};
 ghost use Rattle.tree_shared.specs.Tallies.{none, raised, sum_of, tally, pair_of, reply_of_insert, reply_of_upsert, reply_of_remove, reply_of_removal, reply_of_peek};
-ghost use Rattle.std.specs.Range.Bound.{bound_map};
 
 use crate::blanks::Blanks;
 use crate::closing::{ClosedOf, UnclosedOf};
@@ -317,7 +317,7 @@ impl<
 
 // Clones a bound.
 fn cloned_bound<K: IndexKey + SameClone>(bound: Bound<&K>) -> Result<Bound<K>, AllocError>
-    ensures { IfOk result (λ copy. IsSameBound K.cmp K.seen (bound_map (λ k. k.now) bound.entry) copy) }
+    ensures { IfOk result (λ copy. IsSameBound K.cmp K.seen (lent_bound bound.entry) copy) }
 {
     match bound {
         Bound::Included(key) => Ok(Bound::Included(key.clone()?)),

@@ -1,10 +1,11 @@
 -- Arrays whose arrivals have, in turn, the keys of their entries.
-use Rattle.std.proofs.Common.{◌≡◌, ℕ, suc, ◌+◌, ◌*◌, ◌-◌, ◌<◌, ◌≤◌, ◌==◌, Bool, true, false, cond, leb, ltb, List, [], ◌∷◌, ◌++◌, map, length, Option, Some, None, refl, sym, ap, ◌∙◌, arith, inl, inr, not, ◌&&◌, Ordering, Less, Equal, is_eq, is_lt, is_gt}
-use Rattle.tree_model.proofs.Common.{AllByRecursion, IsTotalOrder, nat_tests, tied_itself, IsAscending, put}
-use Rattle.tree_array.proofs.Common.{Arrivals, ascents, boundary, free, in_order, reachable, spend, stored, IsLen, limit, equal_from_test, all_map, filter_all, filter_none, alike, alike_after}
+use Rattle.std.proofs.Common.{◌≡◌, ℕ, suc, ◌+◌, ◌*◌, ◌-◌, ◌<◌, ◌≤◌, ◌==◌, Bool, true, false, cond, leb, ltb, List, [], ◌∷◌, ◌++◌, map, length, Option, Some, None, refl, sym, ap, ◌∙◌, arith, inl, inr, not, ◌&&◌, Ordering, Less, Equal, is_eq}
+use Rattle.tree_model.proofs.Common.{AllByRecursion, IsTotalOrder, nat_tests, tied_itself, IsAscending}
+use Rattle.tree_array.proofs.Common.{Arrivals, ascents, boundary, free, in_order, reachable, spend, stored, IsLen, limit, equal_from_test, alike, alike_after}
 use Rattle.std.specs.Cmp.Derive.{both_true}
 use Rattle.std.proofs.lemmas.Bool.{lt-leb}
 use Rattle.tree_array.specs.Arrivals.{boundary_of}
+use Rattle.tree_model.proofs.LookUps.{put_beyond}
 use Rattle.tree_split.specs.Packed.{in_turn, is_packed_array}
 
 -- both sides of a test that says yes
@@ -41,14 +42,6 @@ module _ {K X : Type 0} {cmp : K → K → Ordering} (o : IsTotalOrder cmp) wher
   pub packed_in_order : (array : Arrivals K X) (entries : List (K × X)) → array ≡ in_order entries → is_packed_array cmp array ≡ true
   packed_in_order array entries is = rw is (own_keys entries)
 
-  -- a larger key is put at the end
-  pub put_beyond : (entries : List (K × X)) (key : K) (x : X) → AllByRecursion (λ p. cmp p.0 key ≡ Less) entries → put cmp entries key x ≡ entries ++ (key, x) ∷ []
-  put_beyond entries key x smaller =
-      rw (
-        filter_all (λ p. is_lt (cmp p.0 key)) entries (all_map (λ p h. ap is_lt h) entries smaller),
-        filter_none (λ p. is_gt (cmp p.0 key)) entries (all_map (λ p h. ap is_gt h) entries smaller),
-      ) refl
-
   stored_in_turn : (arrivals : List (Option (K × X))) (entries : List (K × X)) (key : K) (x : X) → in_turn cmp arrivals entries ≡ true → AllByRecursion (λ p. cmp p.0 key ≡ Less) entries
       → in_turn cmp (spend cmp arrivals key ++ Some (key, x) ∷ []) (entries ++ (key, x) ∷ []) ≡ true
   stored_in_turn [] [] key x same smaller = own_keys ((key, x) ∷ [])
@@ -64,7 +57,7 @@ module _ {K X : Type 0} {cmp : K → K → Ordering} (o : IsTotalOrder cmp) wher
   pub packed_stored : (array : Arrivals K X) (key : K) (x : X) → is_packed_array cmp array ≡ true → AllByRecursion (λ p. cmp p.0 key ≡ Less) array.entries → is_packed_array cmp (stored cmp array key x) ≡ true
   packed_stored array key x packed smaller =
       let marks = packed_marks cmp array packed in
-      both_true (ap not marks.0) (rw (put_beyond array.entries key x smaller) (stored_in_turn array.arrivals array.entries key x marks.1 smaller))
+      both_true (ap not marks.0) (rw (put_beyond cmp array.entries key x smaller) (stored_in_turn array.arrivals array.entries key x marks.1 smaller))
 
   -- all neighbours ascend in it
   pub packed_ascents : (arrivals : List (Option (K × X))) (entries : List (K × X)) → in_turn cmp arrivals entries ≡ true → IsAscending cmp entries → 0 < length entries → suc (ascents cmp (reachable arrivals)) ≡ length entries

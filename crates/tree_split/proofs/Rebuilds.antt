@@ -12,7 +12,7 @@ use Rattle.tree_split.proofs.Arrays.{limit_below}
 use Rattle.tree_split.proofs.Edges.{edge_of, last_for, last_stands, one_last}
 use Rattle.tree_node.specs.Changes.{RebuildsNode}
 use Rattle.tree_split.specs.Splits.{HasMadeRoom, KeepsPacked, SharesChildren, SplitsChild}
-use Rattle.tree_node.proofs.Children.{walk-leaf}
+use Rattle.tree_node.proofs.Children.{only_child, walk-leaf}
 use Rattle.tree_node.proofs.Frames.{Agrees, each_part, parted_map, same_leaves, same_nodes, same_walk, same_stands}
 use Rattle.tree_node.proofs.LeafSpares.{spare_anew, spare_beside}
 use Rattle.tree_node.proofs.LeafWrites.{with_array, here_now, array_replaces}
@@ -23,7 +23,6 @@ use Rattle.tree_node.proofs.Standing.{node_is}
 use Rattle.tree_node.proofs.Places.{IsAt, children_at, later_children}
 use Rattle.tree_node.proofs.Walks.{walk-children}
 use Rattle.tree_split.proofs.PackedSplits.{all_held}
-use Rattle.tree_split.proofs.Results.{only_child}
 
 -- the child is what it was to all that look for pairs, and has room
 pub record IsRebuilt {K V : Type 0} {LEN : ℕ} (cmp : K → K → Ordering) (level : ℕ) (old new : TreeArenas K V LEN) (x : ℕ) : Type 0 where

@@ -1,7 +1,5 @@
 -- What is known of a result by its arm, and of what was read twice.
-use Rattle.std.proofs.Common.{◌≡◌, ℕ, Option, None, Some, Result, Ok, Err, sym, subst, ◌∙◌, Ordering, IfOk, MatchResult, OnErr}
-use Rattle.tree_node.proofs.Common.{HasChildFor}
-use Rattle.tree_node.specs.declared.node.NodeOf.{NodeOf}
+use Rattle.std.proofs.Common.{◌≡◌, Option, Some, Result, Ok, Err, sym, subst, ◌∙◌, IfOk, MatchResult, OnErr}
 
 -- what holds anyway holds after an error
 pub on_err : {T E : Type 0} {P : Type 0} (result : Result T E) → P → OnErr result P
@@ -19,8 +17,3 @@ same_value x y both = cc
 
 pub of_value : {A : Type 0} (found : Option A) (x : A) → found ≡ Some x → (P : A → Type 0) → P x → (y : A) → found ≡ Some y → P y
 of_value found x is P known y read = subst P (same_value x y (sym is ∙ read)) known
-
--- a key belongs to one child
-pub only_child : {K : Type 0} {LEN : ℕ} (cmp : K → K → Ordering) (key : K) (slot : Option (NodeOf K LEN)) (child x : ℕ) → HasChildFor cmp key slot child → HasChildFor cmp key slot x → child ≡ x
-only_child cmp key None child x p q = absurd p
-only_child cmp key (Some node) child x p q = let both : Some child ≡ Some x = sym p ∙ q in cc

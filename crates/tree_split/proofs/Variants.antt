@@ -2,7 +2,7 @@
 use Rattle.std.proofs.Common.{ℕ, ◌+◌, ◌<◌, ◌^◌, max, le_trans, le-add_left, le-add_right, lt_of_le_of_lt}
 use Rattle.std.proofs.Math.Nat.{le-max_left, le-max_right}
 use prog.Memory.{up}
-use Rattle.tree_node.proofs.Sizes.{last_fits, second_last_fits, some_fits}
+use Rattle.tree_array.proofs.Common.{last_field, before_last, in_some}
 
 -- what the first variant of an enum holds
 pub first_variant_fits : (align tag other size : ℕ) → up align (max (up tag 1 + size) other) < 2 ^ 63 → size < 2 ^ 63
@@ -17,4 +17,4 @@ second_variant_fits align before tag size h =
     lt_of_le_of_lt (le_trans (le-add_left size (up tag 1)) (le_trans (le-max_left (up tag 1 + size) 1) (le_trans (le-max_right before (max (up tag 1 + size) 1)) (le-add_right whole _)))) h
 
 -- the steps from arenas to the children of a node
-pub ruleset children_fit = (second_last_fits, first_variant_fits, second_variant_fits, some_fits, last_fits)
+pub ruleset children_fit = (before_last, first_variant_fits, second_variant_fits, in_some, last_field)

@@ -163,7 +163,16 @@ fn replaces_the_key<const LEN: usize>(
     }
     let entry = index.peek_entry(&five('c'));
     assert!(rt; entry.is_some_and(|(key, value)| key.tag == 'b' && *value == 2));
+    keeps_the_key(rt, index);
     Ok(())
+}
+
+/// A value that is replaced, or changed, leaves the stored key.
+fn keeps_the_key<const LEN: usize>(rt: &impl Abort, index: &mut TreeIndexOf<Tagged, u64, LEN>) {
+    assert!(rt; index.replace_sync(&five('d'), 3) == Ok(2));
+    assert!(rt; index.modify_sync(&five('e'), |value| value.wrapping_add(1)));
+    let entry = index.peek_entry(&five('f'));
+    assert!(rt; entry.is_some_and(|(key, value)| key.tag == 'b' && *value == 4));
 }
 
 fn replaces_the_key_steps(rt: &impl Abort, alloc: Global) -> Result<(), AllocError> {

@@ -27,6 +27,8 @@ pub fn answer(
 ) -> Result<u64, AllocError> {
     match calls {
         Calls::Upsert => upsert_all(index, asked),
+        Calls::Replace => Ok(replace_all(index, asked)),
+        Calls::Modify => Ok(modify_all(index, asked)),
         Calls::Remove => Ok(remove_all(index, asked)),
         Calls::Cut => Ok(cut(index, asked)),
         _ => look(alloc, calls, index, asked),
@@ -64,6 +66,20 @@ pub fn insert_all<K: IndexKey>(
     Ok(stored)
 }
 
+/// Makes an index of pairs in ascending order by one call, and puts it in place of the index. Returns how many pairs it
+/// has.
+pub fn append_all(
+    alloc: Global,
+    index: &mut TreeIndex<u64, u64>,
+    pairs: Vec<(u64, u64)>,
+) -> Result<u64, AllocError> {
+    match TreeIndex::from_sorted(alloc, pairs) {
+        Ok(sorted) => *index = sorted,
+        Err(_) => return Err(AllocError),
+    }
+    Ok(index.len() as u64)
+}
+
 fn build_and_drop(alloc: Global, keys: Vec<u64>) -> Result<u64, AllocError> {
     let mut index = TreeIndex::new(alloc);
     insert_all(&mut index, keys)
@@ -79,6 +95,28 @@ fn upsert_all(index: &mut TreeIndex<u64, u64>, keys: &[u64]) -> Result<u64, Allo
         stored = stored.wrapping_add(1);
     }
     Ok(stored)
+}
+
+// Replaces the values of the keys, each by its place in the list. Returns how many were present.
+fn replace_all(index: &mut TreeIndex<u64, u64>, keys: &[u64]) -> u64 {
+    let mut replaced = 0u64;
+    for key in keys {
+        if index.replace_sync(key, replaced).is_ok() {
+            replaced = replaced.wrapping_add(1);
+        }
+    }
+    replaced
+}
+
+// Adds one to the value of each key. Returns how many were present.
+fn modify_all(index: &mut TreeIndex<u64, u64>, keys: &[u64]) -> u64 {
+    let mut modified = 0u64;
+    for key in keys {
+        if index.modify_sync(key, |value| value.wrapping_add(1)) {
+            modified = modified.wrapping_add(1);
+        }
+    }
+    modified
 }
 
 /// Returns a checksum of the values of the keys, in the order of the list. Adds one to each value, so that a value of

@@ -18,15 +18,21 @@ pub enum KeySet {
     Texts,
 }
 
-/// The calls that are timed. All but the first two begin with an index of the keys given.
+/// The calls that are timed. All but the first three begin with an index of the keys given.
 #[derive(Clone, Copy)]
 pub enum Calls {
     /// Inserts the keys given into an empty index.
     Insert,
+    /// Makes an index of the keys given, which ascend, by one call.
+    Append,
     /// Inserts the keys given into an empty index and drops it.
     BuildAndDrop,
     /// Upserts a new value at each key asked for.
     Upsert,
+    /// Replaces the value at each key asked for.
+    Replace,
+    /// Adds one to the value at each key asked for.
+    Modify,
     /// Looks up each key asked for.
     Peek,
     /// Removes each key asked for.
@@ -50,10 +56,13 @@ pub type Workload = (&'static str, KeySet, Calls);
 
 /// The workloads in the order in which they run. The two cuts are the same here, and stand beside `retain` and beside
 /// `split_off` and `append` of the standard map.
-pub const WORKLOADS: [Workload; 19] = [
+pub const WORKLOADS: [Workload; 22] = [
     ("insert_ascending", KeySet::Ascending, Calls::Insert),
+    ("append_ascending", KeySet::Ascending, Calls::Append),
     ("insert_random", KeySet::Random, Calls::Insert),
     ("upsert_random", KeySet::Random, Calls::Upsert),
+    ("replace_random", KeySet::Random, Calls::Replace),
+    ("modify_random", KeySet::Random, Calls::Modify),
     ("peek_hit", KeySet::Random, Calls::Peek),
     ("peek_miss", KeySet::Absent, Calls::Peek),
     ("remove_random", KeySet::Random, Calls::Remove),

@@ -1,7 +1,9 @@
 //! How an array takes a pair.
-ghost use Rattle.std.specs.Prelude.{◌≡◌, ◌<◌, false, length};
+ghost use Rattle.std.specs.Prelude.{◌≡◌, ◌<◌, false, length, true};
+ghost use Rattle.std.specs.List.{AllByRecursion};
+ghost use Rattle.std.specs.declared.cmp.Ordering.TheVariants.{Less};
 ghost use Rattle.tree_array.specs.Arrivals.{stored};
-ghost use Rattle.tree_array.specs.Insertion.{IsInsert, IsStore, PartsEntries};
+ghost use Rattle.tree_array.specs.Insertion.{IsFull, IsInsert, IsStore, PartsEntries};
 
 use super::{ArrayOf, InsertResult, StoreResult};
 use tree_cells::cells::Counts;
@@ -41,7 +43,7 @@ impl<K: Ord + Drop, V: Drop, const LEN: usize> ArrayOf<K, V, LEN> {
     {
         let Counts { entries, arrivals } = self.cells.counts();
         match find_key_beyond(&self.cells, self.order, entries, &key, rightmost) {
-            Place::At(place, slot) => {
+            Place::At { place, slot } => {
                 if !UPSERT {
                     StoreResult::Duplicate(key, val)
                 } else if self.is_full() {
@@ -58,7 +60,7 @@ impl<K: Ord + Drop, V: Drop, const LEN: usize> ArrayOf<K, V, LEN> {
                     StoreResult::Replaced
                 }
             }
-            Place::Before(place, _) => {
+            Place::Before { place, slot: _ } => {
                 if self.is_full() {
                     StoreResult::Full(key, val)
                 } else {
@@ -67,6 +69,18 @@ impl<K: Ord + Drop, V: Drop, const LEN: usize> ArrayOf<K, V, LEN> {
                 }
             }
         }
+    }
+
+    /// Stores a pair whose key is larger than all. Makes no comparisons. The caller must see that the key is, and that the
+    /// array isn't full.
+    #[inline(always)]
+    pub fn append(&mut self, key: K, val: V)
+        requires room { IsFull LEN self.old → ⊥ }
+        requires larger { AllByRecursion (λ pair. K.cmp pair.0 key ≡ Less) self.old.entries }
+        ensures { IsStore K.cmp LEN true self.old key val StoreResult.New self.new }
+    {
+        let entries = self.cells.counts().entries;
+        self.let_in(entries, key, val);
     }
 
     /// Stores a pair whose key is larger than those of the first `place` entries and smaller than the others.

@@ -2,10 +2,9 @@
 ghost use Rattle.std.specs.Prelude.{◌≡◌, Bool, ◌<◌, IsSome, IfSome, Some, length, slice_get};
 ghost use Rattle.std.specs.Fn.{FnOnceReturnsAt, FnOnceTakesAt};
 ghost use Rattle.std.specs.Option.{ForSome};
-ghost use Rattle.std.specs.Range.Bound.{bound_map};
 ghost use Rattle.tree_array.specs.Arrivals.{arrival, removed, with_val, without_range};
 ghost use Rattle.tree_array.specs.Removal.{IsRemoval, removal_of};
-ghost use Rattle.tree_model.specs.Pairs.{IsAbsent, pair_at};
+ghost use Rattle.tree_model.specs.Pairs.{IsAbsent, high_of, low_of, pair_at};
 
 use super::{ArrayOf, RemoveResult};
 use std::ops::Bound;
@@ -61,7 +60,7 @@ impl<K: Ord + Drop, V: Drop, const LEN: usize> ArrayOf<K, V, LEN> {
             × IsRemoval K.cmp self.old key.now said result self.new) }
     {
         match find_key(&self.cells, self.order, self.cells.counts().entries, key) {
-            Place::At(place, slot) => {
+            Place::At { place, slot } => {
                 let (_, val) = self.cells.pair(slot);
                 if condition(val) {
                     let (_, _, removal) = self.take_at(place);
@@ -70,15 +69,14 @@ impl<K: Ord + Drop, V: Drop, const LEN: usize> ArrayOf<K, V, LEN> {
                     RemoveResult::Fail
                 }
             }
-            Place::Before(_, _) => RemoveResult::Fail,
+            Place::Before { place: _, slot: _ } => RemoveResult::Fail,
         }
     }
 
     /// Removes the pairs whose keys are within the bounds, and retires the array if the last one went.
     /// Makes at most two comparisons per slot.
     pub fn remove_range(&mut self, bounds: (Bound<&K>, Bound<&K>))
-        ensures { self.new ≡ without_range K.cmp self.old
-            (bound_map (λ key. key.now) bounds.entry.0) (bound_map (λ key. key.now) bounds.entry.1) }
+        ensures { self.new ≡ without_range K.cmp self.old (low_of bounds.entry) (high_of bounds.entry) }
     {
         let Counts { entries, arrivals } = self.cells.counts();
         let ordinals = ordinals(self.order, entries);

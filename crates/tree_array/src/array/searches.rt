@@ -2,7 +2,7 @@
 ghost use Rattle.std.specs.Prelude.{◌≡◌, ◌+◌, ◌≤◌, [], ◌∷◌, ◌++◌, MatchOption, None, Some, slice_get};
 ghost use Rattle.tree_array.specs.Arrivals.{arrival, least_from};
 ghost use Rattle.tree_array.specs.Length.{searched};
-ghost use Rattle.tree_model.specs.Pairs.{IsAbsent, pair_at};
+ghost use Rattle.tree_model.specs.Pairs.{Finds, IsAbsent, pair_at};
 
 use super::ArrayOf;
 use tree_cells::judge::{Asks, Judge};
@@ -13,15 +13,14 @@ impl<K: Ord + Drop, V: Drop, const LEN: usize> ArrayOf<K, V, LEN> {
     /// Returns the pair with the judge's key, or `None` if the key is absent. Makes at most 4 comparisons
     /// (3 among 7 slots).
     pub fn search_entry<J: Judge<K>>(&self, judge: &mut J) -> Option<(&K, &V)>
-        ensures found { MatchOption result (IsAbsent K.cmp self.now.entries (J.key judge.old))
-            (λ pair. pair_at K.cmp self.now.entries (J.key judge.old) ≡ Some (pair.0.now, pair.1.now)) }
+        ensures found { Finds K.cmp self.now.entries (J.key judge.old) result }
         ensures same_key { J.key judge.new ≡ J.key judge.old }
         ensures counted { J.count judge.new ≤ J.count judge.old + LEN }
         ensures halved { J.count judge.new ≤ J.count judge.old + searched LEN }
     {
         match find(&self.cells, self.order, self.cells.counts().entries, judge) {
-            Place::At(_, slot) => Some(self.cells.pair(slot)),
-            Place::Before(_, _) => None,
+            Place::At { place: _, slot } => Some(self.cells.pair(slot)),
+            Place::Before { place: _, slot: _ } => None,
         }
     }
 

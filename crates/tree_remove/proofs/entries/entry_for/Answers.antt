@@ -1,12 +1,14 @@
 use Rattle.tree_node.proofs.Common.{fits}
+use Rattle.tree_node.proofs.Children.{leaf_there, walk-leaf}
 use Rattle.tree_remove.proofs.EntryPlaces.{absent_retired, absent_there, entry_there}
 use Rattle.tree_remove.proofs.Ways.{leaf_on_way}
 use Rattle.tree_remove.proofs.entries.entry_for.Goals as goal
 
-pub slot_of-requires : goal.slot_of-requires
-slot_of-requires g c =
+pub leaf-requires : goal.leaf-requires
+leaf-requires g c =
     let place = c.in_ok-place in
-    (search fits, (search fits, leaf_on_way g.met.K.Ord.total c.args.arenas.now c.args.key.now place.place.leaf c.args.level c.requires.node c.args.id place.place.node place.ensures.child.0 place.ensures.way place.ensures.child.1))
+    let part = leaf_on_way g.met.K.Ord.total c.args.arenas.now c.args.key.now place.place.leaf c.args.level c.requires.node c.args.id place.place.node place.ensures.child.0 place.ensures.way place.ensures.child.1 in
+    (search fits, (search fits, leaf_there c.args.arenas.now place.place.leaf _ _ part.stands))
 
 pub returns-in_err-place : goal.returns-in_err-place
 returns-in_err-place g c =
@@ -16,10 +18,15 @@ pub returns-in_err-slot : goal.returns-in_err-slot
 returns-in_err-slot g c =
     let place = c.in_ok-place in
     rw c.from_residual-in_err-slot.ensures
-    (absent_there g.met.K.Ord.total c.args.arenas.now c.args.key.now c.args.level c.requires.node c.args.id place.place.node place.place.leaf (place.ensures.child.0, place.ensures.way, place.ensures.child.1) c.in_err-slot.ensures)
+    (absent_there g.met.K.Ord.total c.args.arenas.now c.args.key.now c.args.level c.requires.node c.args.id place.place.node place.place.leaf (place.ensures.child.0, place.ensures.way, place.ensures.child.1)
+    (rw (walk-leaf c.args.arenas.now place.place.leaf c.leaf.result.now c.leaf.ensures) (rw c.array.ensures at c.in_err-slot.ensures)))
 
 pub returns : goal.returns
 returns g c =
     let place = c.in_ok-place in
-    let found = c.in_ok-slot.ensures in
-    (found.0, found.1, entry_there g.met.K.Ord.total c.args.arenas.now c.args.key.now c.args.level c.requires.node c.args.id place.place.node place.place.leaf (place.ensures.child.0, place.ensures.way, place.ensures.child.1) c.in_ok-slot.slot found.0 found.1 found.2 found.3)
+    let found = rw c.array.ensures at c.in_ok-slot.ensures in (
+      found.0,
+      found.1,
+      entry_there g.met.K.Ord.total c.args.arenas.now c.args.key.now c.args.level c.requires.node c.args.id place.place.node place.place.leaf (place.ensures.child.0, place.ensures.way, place.ensures.child.1) c.in_ok-slot.slot found.0 found.1
+          (rw c.leaf.ensures found.2) (rw (walk-leaf c.args.arenas.now place.place.leaf c.leaf.result.now c.leaf.ensures) found.3),
+    )

@@ -1,6 +1,6 @@
 use Rattle.std.proofs.Common.{sym, ◌∙◌, nat_cmp}
 use Rattle.tree_model.proofs.Common.{slice_cmp}
-use Rattle.tree_index.proofs.Copied.{put_behind}
+use Rattle.tree_model.proofs.LookUps.{put_beyond}
 use Rattle.tree_index_c.proofs.Sorted.{all_below, lent_none, none_above, none_lent}
 use Rattle.tree_index_c.proofs.bytes.sorted.append.Goals as goal
 
@@ -13,4 +13,4 @@ returns-then-is_some c = λ smaller.
 pub returns-in_default : goal.returns-in_default
 returns-in_default c =
     let smaller = none_above (slice_cmp nat_cmp) c.args.index.now.pairs c.args.key (sym c.at_or_above.ensures ∙ none_lent c.at_or_above.result (sym c.if-is_some.ensures)) in
-    (smaller, c.in_default.ensures.pairs.1 ∙ put_behind (slice_cmp nat_cmp) c.args.index.now.pairs c.args.key smaller c.args.value)
+    (smaller, c.in_default.ensures.pairs.1 ∙ put_beyond (slice_cmp nat_cmp) c.args.index.now.pairs c.args.key c.args.value smaller)

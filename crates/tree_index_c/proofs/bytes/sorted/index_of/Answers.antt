@@ -4,7 +4,7 @@ use Rattle.std.proofs.Math.ListN.{get_or}
 use Rattle.std.proofs.Math.Seq.{append_snoc}
 use Rattle.tree_index_c.specs.Sorted.{parted}
 use Rattle.tree_index_c.proofs.Parted.{all_parted, all_used, next_parted, next_size}
-use Rattle.tree_index_c.proofs.Sorted.{before_smaller}
+use Rattle.tree_node.proofs.Cuts.{smaller_front}
 use Rattle.tree_index_c.proofs.bytes.sorted.index_of.Goals as goal
 
 pub returns-in-Ok-false : goal.returns-in-Ok-false
@@ -14,7 +14,7 @@ returns-in-Ok-false c =
     let size : c.loop-at.used + entry.length - c.loop-at.used ≡ entry.length = omega arith in
     let key : c.in-Ok.key ≡ take entry.length (drop c.loop-at.used c.args.keys.now) = c.in-Ok.ensures ∙ ap (λ n. take n (drop c.loop-at.used c.args.keys.now)) size in
     let parts = sym c.loop-at.invariant.0 ∙ ap (λ (ps : List (List ℕ × ℕ)). c.loop-at.index.pairs ++ ps) (next_parted c.args.keys.now c.args.entries.now c.loop-at.used c.loop-at.at (record { length = 0; value = 0 }) c.loop-at-test.true) in
-    inl (refl, λ ascending. refused (rw key (before_smaller (slice_cmp nat_cmp) _ _ _ (rw parts at ascending))))
+    inl (refl, λ ascending. refused (rw key (smaller_front (slice_cmp nat_cmp) _ _ _ (rw parts at ascending))))
 
 pub loop-at-preserved : goal.loop-at-preserved
 loop-at-preserved c =

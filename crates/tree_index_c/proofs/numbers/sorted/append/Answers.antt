@@ -1,5 +1,5 @@
 use Rattle.std.proofs.Common.{sym, ◌∙◌, nat_cmp}
-use Rattle.tree_index.proofs.Copied.{put_behind}
+use Rattle.tree_model.proofs.LookUps.{put_beyond}
 use Rattle.tree_index_c.proofs.Sorted.{all_below, lent_none, none_above, none_lent}
 use Rattle.tree_index_c.proofs.numbers.sorted.append.Goals as goal
 
@@ -12,4 +12,4 @@ returns-then-is_some c = λ smaller.
 pub returns-in-Ok : goal.returns-in-Ok
 returns-in-Ok c =
     let smaller = none_above nat_cmp c.args.index.now.pairs c.args.pair.key (sym c.at_or_above.ensures ∙ none_lent c.at_or_above.result (sym c.if-is_some.ensures)) in
-    (smaller, c.in-Ok.ensures.pairs.1 ∙ put_behind nat_cmp c.args.index.now.pairs c.args.pair.key smaller c.args.pair.value)
+    (smaller, c.in-Ok.ensures.pairs.1 ∙ put_beyond nat_cmp c.args.index.now.pairs c.args.pair.key c.args.pair.value smaller)

@@ -6,7 +6,7 @@ use Rattle.tree_ranges.proofs.Shown.{element_is}
 use Rattle.tree_ranges.proofs.range.RangeOverArenasOfLeafOfDoubleEndedIterator.next_back.Goals as goal
 
 pub returns-in_default-clause-steps : goal.returns-in_default-clause-steps
-returns-in_default-clause-steps g c = rw (← c.self.view_is, ← c.in_default.ensures) c.next_back_elsewhere.ensures
+returns-in_default-clause-steps g c = rw (← c.self.view_is, ← c.in_default.ensures.0) c.next_back_elsewhere.ensures
 
 pub returns-in_default-clause-goes : goal.returns-in_default-clause-goes
 returns-in_default-clause-goes g c = makes_progress g.K.Ord.cmp Back _ _ _ (returns-in_default-clause-steps g c)

@@ -1,0 +1,97 @@
+-- The way of a key that is larger than all leads along the right edge.
+use Rattle.std.proofs.Common.{◌≡◌, ℕ, zero, suc, ◌<◌, List, [], ◌∷◌, ◌++◌, map, length, length-append, Option, Some, None, refl, sym, ap, ◌∙◌, arith}
+use Rattle.std.specs.List.{flat_map, AllByRecursion}
+use Rattle.std.specs.declared.cmp.Ordering.{Ordering}
+use Rattle.std.specs.declared.cmp.Ordering.TheVariants.{Less}
+use Rattle.std.specs.Cmp.{IsTotalOrder}
+use Rattle.std.proofs.lemmas.List.{append-nil}
+use Rattle.std.proofs.lemmas.List.Concat.{flat_map-append}
+use Rattle.slab.specs.Slab.{get}
+use Rattle.tree_append.specs.Appends.{IsOnEdge}
+use Rattle.tree_descent.specs.Ways.{IsOnWay}
+use Rattle.tree_leaf.specs.Entries.{leaf_entries}
+use Rattle.tree_node.specs.Arenas.{TreeArenas}
+use Rattle.tree_node.specs.Tree.{AreParted, HasChildFor, IsAbove, Stands, child_at, is_from, keyed, walk}
+use Rattle.tree_node.proofs.Bare.{parted_last}
+use Rattle.tree_node.proofs.Cuts.{all_behind}
+use Rattle.tree_node.proofs.Walks.{above_next, walk-children, walk_above}
+use Rattle.tree_split.specs.Packed.{HasLast}
+
+module _ {K : Type 0} {cmp : K → K → Ordering} (o : IsTotalOrder cmp) (key : K) where
+  -- a key above the first of some pairs is above what they are above
+  above_first : {V : Type 0} (low : Option K) (pairs : List (K × V)) → 0 < length pairs → AllByRecursion (λ p. IsAbove cmp low p.0) pairs → AllByRecursion (λ p. cmp p.0 key ≡ Less) pairs → IsAbove cmp low key
+  above_first low [] some above smaller = absurd (omega (arith, some))
+  above_first low (p ∷ rest) some above smaller = above_next o low p.0 key above.0 smaller.0
+
+  -- a key above what the last child is above belongs to that child
+  goes_last : (Child : Option K → ℕ → Option K → Type 0) (last : ℕ) (high : Option K) → ((low : Option K) → Child low last high → IsAbove cmp low key)
+      → (low : Option K) (pairs : List (K × ℕ)) → AreParted cmp Child low pairs last high → (child_at (is_from cmp key) pairs last ≡ last) × IsAbove cmp low key
+  goes_last Child last high above low [] parted = (refl, above low parted)
+  goes_last Child last high above low (c ∷ rest) parted =
+      let later = goes_last Child last high above (Some c.0) rest parted.3 in
+      (rw later.1 later.0, above_next o low c.0 key parted.1 later.1)
+
+module _ {K V : Type 0} {LEN : ℕ} {cmp : K → K → Ordering} (o : IsTotalOrder cmp) (a : TreeArenas K V LEN) (leaf : ℕ) (some : 0 < length (leaf_entries a.leaves leaf)) where
+  -- the last child of a part, and what stands there
+  record LastBelow (level : ℕ) (id child : ℕ) : Type 0 where
+    bound : Option K
+    stands : Stands cmp level a bound child None
+    front : List (K × V)
+    walked : walk (suc level) a id ≡ front ++ walk level a child
+
+  last_below : (level : ℕ) (low : Option K) (id child : ℕ) → Stands cmp (suc level) a low id None → HasLast (get a.nodes id) child → LastBelow level id child
+  last_below level low id child s last =
+      let both : Some s.last ≡ Some child = sym s.last_is ∙ rw s.here at last in
+      let same : s.last ≡ child = cc in
+      let below = parted_last cmp a (Stands cmp level a) low (keyed s.node).entries child None (rw same at s.parted) in
+      record {
+        bound = below.0;
+        stands = below.1;
+        front = flat_map (walk level a) (map (λ c. c.1) (keyed s.node).entries);
+        walked = rw (walk-children level a id, s.here, s.last_is, same, flat_map-append (walk level a) (map (λ c. c.1) (keyed s.node).entries), append-nil (walk level a child)) refl;
+      }
+
+  -- a part whose last leaf has a pair has one
+  some_walked : (level : ℕ) (low : Option K) (id : ℕ) → Stands cmp level a low id None → IsOnEdge level a.nodes id leaf → 0 < length (walk level a id)
+  some_walked zero low id s edge = rw (edge, append-nil (leaf_entries a.leaves leaf)) some
+  some_walked (suc level) low id s edge =
+      let below = last_below level low id edge.0 s edge.1 in
+      omega (arith, ap length below.walked, length-append below.front (walk level a edge.0), some_walked level below.bound edge.0 below.stands edge.2)
+
+  module _ (key : K) where
+    -- a key larger than all of a part belongs to its last child
+    last_for : (level : ℕ) (low : Option K) (id child : ℕ) (s : Stands cmp (suc level) a low id None) → HasLast (get a.nodes id) child → 0 < length (walk level a child)
+        → AllByRecursion (λ p. cmp p.0 key ≡ Less) (walk level a child) → HasChildFor cmp key (get a.nodes id) child
+    last_for level low id child s last any smaller =
+        let both : Some s.last ≡ Some child = sym s.last_is ∙ rw s.here at last in
+        let same : s.last ≡ child = cc in
+        let goes = goes_last o key (Stands cmp level a) child None (λ bound st. above_first o key bound (walk level a child) any (walk_above o level a bound child None st) smaller) low (keyed s.node).entries (rw same at s.parted) in
+        rw (s.here, s.last_is, same) (ap Some goes.0)
+
+    -- the step along the edge
+    record Step (level : ℕ) (id child : ℕ) : Type 0 where
+      which : HasChildFor cmp key (get a.nodes id) child
+      bound : Option K
+      stands : Stands cmp level a bound child None
+      smaller : AllByRecursion (λ p. cmp p.0 key ≡ Less) (walk level a child)
+
+    step : (level : ℕ) (low : Option K) (id : ℕ) → Stands cmp (suc level) a low id None → (edge : IsOnEdge (suc level) a.nodes id leaf) → AllByRecursion (λ p. cmp p.0 key ≡ Less) (walk (suc level) a id) → Step level id edge.0
+    step level low id s edge smaller =
+        let below = last_below level low id edge.0 s edge.1 in
+        let any = some_walked level below.bound edge.0 below.stands edge.2 in
+        let left = all_behind _ below.front (walk level a edge.0) (rw below.walked at smaller) in
+        record { which = last_for level low id edge.0 s edge.1 any left; bound = below.bound; stands = below.stands; smaller = left }
+
+    -- so the key is larger than all in the leaf
+    pub larger_there : (level : ℕ) (low : Option K) (id : ℕ) → Stands cmp level a low id None → IsOnEdge level a.nodes id leaf → AllByRecursion (λ p. cmp p.0 key ≡ Less) (walk level a id) → AllByRecursion (λ p. cmp p.0 key ≡ Less) (walk 0 a leaf)
+    larger_there zero low id s edge smaller = rw edge at smaller
+    larger_there (suc level) low id s edge smaller = let along = step level low id s edge smaller in larger_there level along.bound edge.0 along.stands edge.2 along.smaller
+
+    -- The way of the key leads along the edge: to a leaf node, and to the leaf under it.
+    pub edge_way : (level : ℕ) (low : Option K) (id : ℕ) → Stands cmp (suc level) a low id None → IsOnEdge (suc level) a.nodes id leaf → AllByRecursion (λ p. cmp p.0 key ≡ Less) (walk (suc level) a id)
+        → (node : ℕ) × IsOnWay cmp key level a id node × HasChildFor cmp key (get a.nodes node) leaf
+    edge_way zero low id s edge smaller = let along = step zero low id s edge smaller in (id, refl, rw edge.2 at along.which)
+    edge_way (suc level) low id s edge smaller =
+        let along = step (suc level) low id s edge smaller in
+        let further = edge_way level along.bound edge.0 along.stands edge.2 along.smaller in
+        (further.0, (edge.0, along.which, further.1), further.2)

@@ -1,0 +1,3 @@
+mod Edges
+mod Lasts
+mod Stored

@@ -1,0 +1,27 @@
+use Rattle.std.proofs.Common.{rules, arith}
+use Rattle.slab.specs.Slab.{ContainsKey}
+use Rattle.tree_node.proofs.Levels.{node_at}
+use Rattle.tree_node.proofs.Sizes.{fits}
+use Rattle.tree_append.proofs.Lasts.{leaf_last, node_last}
+use Rattle.tree_append.proofs.appending.+edge_leaf_at.Goals as goal
+
+pub node-requires : goal.node-requires
+node-requires g t c =
+    let there : ContainsKey c.args.arenas.now.nodes c.args.id = node_at g.K.Ord.cmp c.args.arenas.now c.args.id c.args.level c.requires.node c.requires.stands in
+    (search fits, there)
+
+pub edge_leaf_at-requires : goal.edge_leaf_at-requires
+edge_leaf_at-requires g t c κs within =
+    let below = node_last g.K.Ord.cmp c.args.arenas.now c.args.id c.args.level c.requires.node c.requires.stands c.in-Internal.node (rw c.in-Internal.is at c.node.ensures) c.in_ok-child-in-Internal.child c.in_ok-child-in-Internal.was in
+    (omega (arith, c.decreases, c.requires.node), (within.0, (within.1, (search rules, (search fits, (search fits, (below.deep, below.stands)))))))
+
+pub returns-in-Leaf-clause-edge : goal.returns-in-Leaf-clause-edge
+returns-in-Leaf-clause-edge g t c leaf is = (leaf_last g.K.Ord.cmp c.args.arenas.now c.args.id c.args.level c.requires.node c.requires.stands c.in-Leaf.node (rw c.in-Leaf.is at c.node.ensures) leaf is).0
+
+pub returns-in-Leaf-clause-there : goal.returns-in-Leaf-clause-there
+returns-in-Leaf-clause-there g t c leaf is = (leaf_last g.K.Ord.cmp c.args.arenas.now c.args.id c.args.level c.requires.node c.requires.stands c.in-Leaf.node (rw c.in-Leaf.is at c.node.ensures) leaf is).1
+
+pub returns-in_ok-child-in-Internal-clause-edge : goal.returns-in_ok-child-in-Internal-clause-edge
+returns-in_ok-child-in-Internal-clause-edge g t c leaf is =
+    let below = node_last g.K.Ord.cmp c.args.arenas.now c.args.id c.args.level c.requires.node c.requires.stands c.in-Internal.node (rw c.in-Internal.is at c.node.ensures) c.in_ok-child-in-Internal.child c.in_ok-child-in-Internal.was in
+    below.edge leaf (c.edge_leaf_at.ensures.edge leaf is)

@@ -1,0 +1,16 @@
+use Rattle.std.proofs.Common.{◌≡◌, false, true, sym, ◌∙◌}
+use Rattle.tree_node.proofs.Sizes.{fits}
+use Rattle.tree_append.proofs.Lasts.{some_found}
+use Rattle.tree_append.proofs.appending.last_leaf_at.Goals as goal
+
+pub edge_leaf_at-requires : goal.edge_leaf_at-requires
+edge_leaf_at-requires g c = (search fits, (search fits, (c.requires.node, c.requires.stands)))
+
+pub leaf-requires : goal.leaf-requires
+leaf-requires g c = (search fits, (search fits, c.edge_leaf_at.ensures.there c.in_ok-leaf.leaf c.in_ok-leaf.was))
+
+pub returns : goal.returns
+returns g c leaf is =
+    let same : c.in_ok-leaf.leaf ≡ leaf = cc in
+    let some = some_found _ c.leaf.result.now c.leaf.ensures (λ none. let both : false ≡ true = sym c.if-is_empty.false ∙ c.is_empty.ensures.1 (rw c.array.ensures none) in cc) in
+    rw (← same) (c.edge_leaf_at.ensures.edge c.in_ok-leaf.leaf c.in_ok-leaf.was, some)

@@ -1,0 +1,43 @@
+-- The last leaf of a part of a tree, and what an append to it leaves.
+use Rattle.std.specs.Prelude.{◌≡◌, ℕ, zero, suc, ◌<◌, true, [], ◌∷◌, ◌++◌, length, Result, Ok, Err}
+use Rattle.std.specs.List.{AllByRecursion}
+use Rattle.std.specs.declared.cmp.Ordering.{Ordering}
+use Rattle.std.specs.declared.cmp.Ordering.TheVariants.{Less}
+use Rattle.slab.specs.Slab.{Slab, get}
+use Rattle.tree_array.specs.declared.answers.StoreResult.TheVariants.{New}
+use Rattle.tree_insert.specs.Inserts.{InsertsUnder}
+use Rattle.tree_leaf.specs.Entries.{leaf_entries}
+use Rattle.tree_node.specs.Arenas.{TreeArenas}
+use Rattle.tree_node.specs.declared.node.NodeOf.{NodeOf}
+use Rattle.tree_node.specs.Parts.{IsPart}
+use Rattle.tree_node.specs.Tree.{walk}
+use Rattle.tree_split.specs.Packed.{HasLast}
+
+-- so many steps down, each to the unbounded child, lead from one number to another
+abbrev pub IsOnEdge : {K : Type 0} {LEN : ℕ} → ℕ → Slab (NodeOf K LEN) → ℕ → ℕ → Type 0
+IsOnEdge zero nodes id target = id ≡ target
+IsOnEdge (suc level) nodes id target = (child : ℕ) × HasLast (get nodes id) child × IsOnEdge level nodes child target
+
+module _ {K V : Type 0} {LEN : ℕ} where
+  -- this is the last leaf under the number, and it has a pair
+  abbrev pub IsLastLeaf : ℕ → TreeArenas K V LEN → ℕ → ℕ → Type 0
+  IsLastLeaf level arenas id leaf = IsOnEdge level arenas.nodes id leaf × (0 < length (leaf_entries arenas.leaves leaf))
+
+  module _ (cmp : K → K → Ordering) (level : ℕ) where
+    -- it is the last one under a node, and the key is larger than all there
+    pub record IsLastFor (arenas : TreeArenas K V LEN) (id leaf : ℕ) (key : K) : Type 0 where
+      pub deep : 0 < level
+      pub part : IsPart cmp level arenas id
+      pub last : IsLastLeaf level arenas id leaf
+      pub beyond : AllByRecursion (λ p. cmp p.0 key ≡ Less) (walk level arenas id)
+
+    -- the pair stands behind all others, as an insert leaves it, and the leaf is the last one still
+    pub record AppendsUnder (old new : TreeArenas K V LEN) (id leaf : ℕ) (key : K) (val : V) : Type 0 where
+      pub inserts : InsertsUnder cmp true level old new id (Ok New) key val
+      pub pairs : walk level new id ≡ walk level old id ++ (key, val) ∷ []
+      pub last : IsLastLeaf level new id leaf
+
+    -- or it comes back, and nothing has changed
+    abbrev pub Appends : TreeArenas K V LEN → TreeArenas K V LEN → ℕ → ℕ → K → V → Result (Unit {0}) (K × V) → Type 0
+    Appends old new id leaf key val (Ok _) = AppendsUnder old new id leaf key val
+    Appends old new id leaf key val (Err pair) = (new ≡ old) × (pair.0 ≡ key) × (pair.1 ≡ val)
