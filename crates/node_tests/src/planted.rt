@@ -212,8 +212,10 @@ fn grow<const LEVEL: usize, const LEN: usize>(
 ) -> Result<NodeId, AllocError>
     requires node { 0 < LEVEL }
     requires part { IsPart nat_cmp LEVEL arenas.old root ⊎ IsRetired LEVEL arenas.old root }
-    ensures raised { IsPart nat_cmp LEVEL arenas.old root → IfOk result (λ id. RaisesRoot nat_cmp LEVEL arenas.old arenas.new root id × (LEVEL + 1 < 2 ^ 64)) }
-    ensures replanted { IsRetired LEVEL arenas.old root → IfOk result (λ id. (id ≡ root) × Replants nat_cmp arenas.old arenas.new root) }
+    ensures raised { IsPart nat_cmp LEVEL arenas.old root
+        → IfOk result (λ id. RaisesRoot nat_cmp LEVEL arenas.old arenas.new root id × (LEVEL + 1 < 2 ^ 64)) }
+    ensures replanted { IsRetired LEVEL arenas.old root
+        → IfOk result (λ id. (id ≡ root) × Replants nat_cmp arenas.old arenas.new root) }
     ensures err { OnErr result (Unchanged arenas.old arenas.new) }
 {
     NodeOf::split_root(arenas, root)

@@ -12,7 +12,8 @@ pub fn closed_with<C: Ledger, S: Ledger, M: Ledger, F: Ledger, D: Ledger>(
     shared: SharedTreeIndex<u64, u64, C, S, M, F, D>,
     passes: Vec<Pass<C, S, M, F, D>>,
 ) -> Option<Closed<u64, u64>>
-    ensures replays { IfSome result (λ closed. IsHistoryOf nat_cmp (λ n. n) (λ n. n) closed.history.items closed.index.pairs) }
+    ensures replays { IfSome result
+        (λ closed. IsHistoryOf nat_cmp (λ n. n) (λ n. n) closed.history.items closed.index.pairs) }
     ensures tally { IfSome result (λ closed. closed.tally ≡ sum_of passes.items) }
     ensures missing { IfNone result (vec_len passes + 1 < C.parts) }
 {

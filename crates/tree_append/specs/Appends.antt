@@ -1,16 +1,18 @@
 -- The last leaf of a part of a tree, and what an append to it leaves.
-use Rattle.std.specs.Prelude.{◌≡◌, ℕ, zero, suc, ◌<◌, true, [], ◌∷◌, ◌++◌, length, Result, Ok, Err}
+use Rattle.std.specs.Prelude.{◌≡◌, ℕ, zero, suc, ◌<◌, ◌⊎◌, true, [], ◌∷◌, ◌++◌, length, Result, Ok, Err}
 use Rattle.std.specs.List.{AllByRecursion}
+use Rattle.std.specs.Option.{ForSome}
 use Rattle.std.specs.declared.cmp.Ordering.{Ordering}
 use Rattle.std.specs.declared.cmp.Ordering.TheVariants.{Less}
 use Rattle.slab.specs.Slab.{Slab, get}
 use Rattle.tree_array.specs.declared.answers.StoreResult.TheVariants.{New}
+use Rattle.tree_array.specs.Insertion.{IsFull}
 use Rattle.tree_insert.specs.Inserts.{InsertsUnder}
 use Rattle.tree_leaf.specs.Entries.{leaf_entries}
 use Rattle.tree_node.specs.Arenas.{TreeArenas}
 use Rattle.tree_node.specs.declared.node.NodeOf.{NodeOf}
 use Rattle.tree_node.specs.Parts.{IsPart}
-use Rattle.tree_node.specs.Tree.{walk}
+use Rattle.tree_node.specs.Tree.{IsRetired, walk}
 use Rattle.tree_split.specs.Packed.{HasLast}
 
 -- so many steps down, each to the unbounded child, lead from one number to another
@@ -22,6 +24,10 @@ module _ {K V : Type 0} {LEN : ℕ} where
   -- this is the last leaf under the number, and it has a pair
   abbrev pub IsLastLeaf : ℕ → TreeArenas K V LEN → ℕ → ℕ → Type 0
   IsLastLeaf level arenas id leaf = IsOnEdge level arenas.nodes id leaf × (0 < length (leaf_entries arenas.leaves leaf))
+
+  -- there is no such leaf: the node is retired, or its last leaf has no pair
+  abbrev pub HasNoLastLeaf : ℕ → TreeArenas K V LEN → ℕ → Type 0
+  HasNoLastLeaf level arenas id = IsRetired level arenas id ⊎ ((leaf : ℕ) × IsOnEdge level arenas.nodes id leaf × (leaf_entries arenas.leaves leaf ≡ []))
 
   module _ (cmp : K → K → Ordering) (level : ℕ) where
     -- it is the last one under a node, and the key is larger than all there
@@ -37,7 +43,7 @@ module _ {K V : Type 0} {LEN : ℕ} where
       pub pairs : walk level new id ≡ walk level old id ++ (key, val) ∷ []
       pub last : IsLastLeaf level new id leaf
 
-    -- or it comes back, and nothing has changed
+    -- or it comes back, nothing has changed, and the leaf has no free slot
     abbrev pub Appends : TreeArenas K V LEN → TreeArenas K V LEN → ℕ → ℕ → K → V → Result (Unit {0}) (K × V) → Type 0
     Appends old new id leaf key val (Ok _) = AppendsUnder old new id leaf key val
-    Appends old new id leaf key val (Err pair) = (new ≡ old) × (pair.0 ≡ key) × (pair.1 ≡ val)
+    Appends old new id leaf key val (Err pair) = (new ≡ old) × (pair.0 ≡ key) × (pair.1 ≡ val) × ForSome (get old.leaves leaf) (λ found. IsFull LEN found.array)

@@ -1,8 +1,8 @@
 //! Appends to the last leaf of a part of a tree.
-ghost use Rattle.std.specs.Prelude.{◌⊎◌, ◌<◌, ℕ, None};
+ghost use Rattle.std.specs.Prelude.{◌⊎◌, ◌<◌, ℕ, IfNone, None};
 ghost use Rattle.std.specs.Option.{ForSome};
 ghost use Rattle.slab.specs.Slab.{ContainsKey};
-ghost use Rattle.tree_append.specs.Appends.{Appends, IsLastFor, IsLastLeaf, IsOnEdge};
+ghost use Rattle.tree_append.specs.Appends.{Appends, HasNoLastLeaf, IsLastFor, IsLastLeaf, IsOnEdge};
 ghost use Rattle.tree_node.specs.Tree.{IsRetired, Stands};
 
 use tree_array::array::IndexKey;
@@ -20,7 +20,8 @@ pub fn last_leaf_at<K: IndexKey, V: Drop, const LEN: usize>(
 ) -> Option<LeafId>
     requires node { 0 < level }
     requires stands { Stands K.cmp level arenas.now None id None ⊎ IsRetired level arenas.now id }
-    ensures { ForSome result (IsLastLeaf level arenas.now id) }
+    ensures last { ForSome result (IsLastLeaf level arenas.now id) }
+    ensures none { IfNone result (HasNoLastLeaf level arenas.now id) }
 {
     let leaf = edge_leaf_at(arenas, level, id)?;
     if arenas.leaf(leaf).array().is_empty() {
@@ -39,6 +40,7 @@ fn edge_leaf_at<K: IndexKey, V: Drop, const LEN: usize>(
     requires stands { Stands K.cmp level arenas.now None id None ⊎ IsRetired level arenas.now id }
     ensures edge { ForSome result (IsOnEdge level arenas.now.nodes id) }
     ensures there { ForSome result (ContainsKey arenas.now.leaves) }
+    ensures none { IfNone result (IsRetired level arenas.now id) }
 {
     match arenas.node(id) {
         NodeOf::Leaf(node) => node.unbounded_child,
@@ -64,7 +66,8 @@ pub fn append_to<K: IndexKey, V: Drop, const LEN: usize>(
     val: V,
 ) -> Result<(), (K, V)>
     requires { (level id : ℕ) × IsLastFor K.cmp level arenas.old id leaf key }
-    ensures { (level id : ℕ) → IsLastFor K.cmp level arenas.old id leaf key → Appends K.cmp level arenas.old arenas.new id leaf key val result }
+    ensures { (level id : ℕ) → IsLastFor K.cmp level arenas.old id leaf key
+        → Appends K.cmp level arenas.old arenas.new id leaf key val result }
 {
     if arenas.leaf(leaf).array().is_full() {
         return Err((key, val));

@@ -1,5 +1,5 @@
 -- What the order of an array keeps as pairs come and go.
-use Rattle.std.proofs.Common.{◌≡◌, ◌≢◌, ◌⊎◌, ℕ, zero, suc, ◌+◌, ◌-◌, ◌<◌, ◌≤◌, List, length, set, replicate, Option, None, Some, IsSome, refl, sym, ◌∙◌, ap, subst, inl, inr, false, arith, Ordering, Less, Equal, Greater, length-set, get_or-set_same, get_or-set_other}
+use Rattle.std.proofs.Common.{◌≡◌, ◌≢◌, ◌⊎◌, ℕ, zero, suc, ◌+◌, ◌-◌, ◌<◌, ◌≤◌, List, length, set, replicate, Option, None, Some, IsSome, refl, sym, ◌∙◌, ap, subst, inl, inr, arith, Ordering, Less, Equal, Greater, length-set, get_or-set_same, get_or-set_other}
 use Rattle.tree_model.proofs.Common.{IsTotalOrder, cases_lt, cases_eq, cases_order, alike_right, tied_itself, get_or_past}
 use Rattle.std.proofs.lemmas.List.{length-replicate}
 use Rattle.std.proofs.lemmas.Option.{none-some, same_Some}

@@ -56,7 +56,8 @@ pub(crate) fn slot_at<K: Ord + Drop, const LEN: usize>(
     place: u8,
 ) -> Option<u8>
     ensures { MatchOption result (slice_get (keyed node.now).entries place ≡ None)
-        (λ slot. (pair : _) × (arrival (keyed node.now).arrivals slot ≡ Some pair) × (slice_get (keyed node.now).entries place ≡ Some pair)) }
+        (λ slot. (pair : _) × (arrival (keyed node.now).arrivals slot ≡ Some pair)
+        × (slice_get (keyed node.now).entries place ≡ Some pair)) }
 {
     match node {
         NodeOf::Leaf(node) => node.children.slot_at(place),

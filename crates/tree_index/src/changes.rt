@@ -19,7 +19,8 @@ impl<K: IndexKey, V: Drop, const LEN: usize> TreeIndexOf<K, V, LEN> {
     pub fn modify_sync<F: FnOnce(V) -> V + Drop>(&mut self, key: &K, change: F) -> bool
         requires { ForSome (pair_at K.cmp self.old.pairs key.now) (λ pair. F.pre change pair.1) }
         ensures { MatchOption (pair_at K.cmp self.old.pairs key.now) ((result ≡ false) × (self.new ≡ self.old))
-            (λ pair. (result ≡ true) × (value : V) × F.post change pair.1 value × (self.new ≡ with_value K.cmp self.old pair.0 value)) }
+            (λ pair. (result ≡ true) × (value : V) × F.post change pair.1 value
+            × (self.new ≡ with_value K.cmp self.old pair.0 value)) }
     {
         self.tree.change_value(key, change)
     }

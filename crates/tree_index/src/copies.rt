@@ -58,7 +58,8 @@ fn append_clones<K: IndexKey, V: Drop + Clone, const LEN: usize>(
     requires begun { HasBegun K.cmp On pairs }
     requires ascending { IsAscending K.cmp (rest K.cmp On pairs) }
     requires empty { pairs_of tree.old ≡ [] }
-    ensures { IfOk result (λ _. IsWhole K.cmp tree.new × AllZip (IsPairClone K.is_clone V.is_clone) (rest K.cmp On pairs.entry) (pairs_of tree.new)) }
+    ensures { IfOk result (λ _. IsWhole K.cmp tree.new
+        × AllZip (IsPairClone K.is_clone V.is_clone) (rest K.cmp On pairs.entry) (pairs_of tree.new)) }
 {
     let mut pairs = pairs;
     let mut last = None;
@@ -82,7 +83,8 @@ fn append_clone<K: IndexKey, V: Drop + Clone, const LEN: usize>(
     requires beyond { AllSmaller K.cmp (pairs_of tree.old) key.now }
     ensures whole { IfOk result (λ _. IsWhole K.cmp tree.new) }
     ensures last { IfOk result (λ _. ForSome last.new (IsLast tree.new)) }
-    ensures appends { IfOk result (λ _. Appends (IsPairClone K.is_clone V.is_clone) (pairs_of tree.old) (key.now, value.now) (pairs_of tree.new)) }
+    ensures appends { IfOk result
+        (λ _. Appends (IsPairClone K.is_clone V.is_clone) (pairs_of tree.old) (key.now, value.now) (pairs_of tree.new)) }
 {
     match tree.append(last, key.clone()?, value.clone()?) {
         Ok(()) => Ok(()),

@@ -231,6 +231,7 @@ impl<K: IndexKey, V: Drop, const LEN: usize> TreeIndexOf<K, V, LEN> {
     /// assert!(rt; index.insert_sync(1, 11) == Err(InsertError::Duplicate(1, 11)));
     /// assert!(rt; index.peek(&1).copied() == Some(10));
     /// ```
+    #[inline(always)]
     pub fn peek(&self, key: &K) -> Option<&V>
         ensures found { option_copied result ≡ option_map (λ pair. pair.1) (pair_at K.cmp self.now.pairs key.now) }
         ensures ascending { IsAscending K.cmp self.now.pairs }
@@ -247,6 +248,7 @@ impl<K: IndexKey, V: Drop, const LEN: usize> TreeIndexOf<K, V, LEN> {
     /// let entry = index.peek_entry(&five('c'));
     /// assert!(rt; entry.is_some_and(|(key, value)| key.tag == 'b' && *value == 2));
     /// ```
+    #[inline(always)]
     pub fn peek_entry(&self, key: &K) -> Option<(&K, &V)>
         ensures found { Finds K.cmp self.now.pairs key.now result }
         ensures ascending { IsAscending K.cmp self.now.pairs }
@@ -262,6 +264,7 @@ impl<K: IndexKey, V: Drop, const LEN: usize> TreeIndexOf<K, V, LEN> {
     ///
     /// self.peek_entry_by(judge).is_some()
     /// ```
+    #[inline(always)]
     pub fn peek_entry_by<J: Judge<K>>(&self, judge: &mut J) -> Option<(&K, &V)>
         ensures found { Finds K.cmp self.now.pairs (J.key judge.old) result }
         ensures same_key { J.key judge.new ≡ J.key judge.old }
@@ -392,6 +395,7 @@ fn always<V>(_: &V) -> bool
 impl<K: IndexKey, V: Drop, const LEN: usize> Seeks<K, V> for TreeIndexOf<K, V, LEN> {
     ghost pairs = { λ index. index.pairs };
 
+    #[inline(always)]
     fn seek<J: Judge<K>>(&self, judge: &mut J) -> Option<(&K, &V)> {
         self.peek_entry_by(judge)
     }

@@ -48,8 +48,10 @@ impl<K: IndexKey, V: Drop, const LEN: usize> TreeIndexOf<K, V, LEN> {
         ensures callable { F.IsAlwaysCallable result.0 }
         ensures ascending { IsAscending K.cmp self.old.pairs }
         ensures refused { MatchOption result.1
-            (Passes F.FnMut keep (filter (λ pair. within K.cmp (low_behind gone.now) Unbounded pair.0) self.old.pairs) result.0)
-            (λ pair. Refuses F.FnMut keep (filter (λ pair. within K.cmp (low_behind gone.now) Unbounded pair.0) self.old.pairs) pair result.0) }
+            (Passes F.FnMut keep
+            (filter (λ pair. within K.cmp (low_behind gone.now) Unbounded pair.0) self.old.pairs) result.0)
+            (λ pair. Refuses F.FnMut keep
+            (filter (λ pair. within K.cmp (low_behind gone.now) Unbounded pair.0) self.old.pairs) pair result.0) }
         ensures left { MatchOption result.1 (self.new.pairs ≡ self.old.pairs)
             (λ pair. self.new.pairs ≡ without K.cmp self.old.pairs pair.0) }
     {
@@ -83,8 +85,11 @@ fn refused_place<'t, K: IndexKey, V: Drop, F: FnMut(&K, &V) -> bool + Drop, cons
     requires callable { F.IsAlwaysCallable keep }
     ensures callable { F.IsAlwaysCallable result.0 }
     ensures refused { MatchOption result.1
-        (Passes F.FnMut keep (filter (λ pair. within K.cmp (lent_bound low.entry) Unbounded pair.0) (pairs_of tree.now)) result.0)
-        (λ place. (pair : K × V) × Refuses F.FnMut keep (filter (λ pair. within K.cmp (lent_bound low.entry) Unbounded pair.0) (pairs_of tree.now)) pair result.0 × IsStored K.cmp tree.now place pair) }
+        (Passes F.FnMut keep
+        (filter (λ pair. within K.cmp (lent_bound low.entry) Unbounded pair.0) (pairs_of tree.now)) result.0)
+        (λ place. (pair : K × V) × Refuses F.FnMut keep
+        (filter (λ pair. within K.cmp (lent_bound low.entry) Unbounded pair.0) (pairs_of tree.now)) pair result.0
+        × IsStored K.cmp tree.now place pair) }
 {
     let mut keep = keep;
     let mut pairs = RangeOver::new(&tree.arenas, tree.root, (low, Bound::Unbounded));

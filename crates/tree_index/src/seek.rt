@@ -17,6 +17,7 @@ pub trait Seeks<K: Ord, V> {
 }
 
 /// Returns the pair with a key, for a caller that doesn't count comparisons.
+#[inline(always)]
 pub fn pair_of<'a, K: Ord, V, S: Seeks<K, V>>(sought: &'a S, key: &K) -> Option<(&'a K, &'a V)>
     ensures ascending { IsAscending K.cmp (S.pairs sought.now) }
     ensures found { Finds K.cmp (S.pairs sought.now) key.now result }
@@ -24,6 +25,7 @@ pub fn pair_of<'a, K: Ord, V, S: Seeks<K, V>>(sought: &'a S, key: &K) -> Option<
     pair_by::<K, V, S, Brand>(sought, key, Blank::new(1))
 }
 
+#[inline(always)]
 fn pair_by<'a, K: Ord, V, S: Seeks<K, V>, L: Ledger>(
     sought: &'a S,
     key: &K,

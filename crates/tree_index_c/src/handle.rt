@@ -61,11 +61,10 @@ impl Handle {
             (λ store. self.old.pointer.behind ≡ Some store.value) }
         ensures closed { self.new.pointer.behind ≡ None }
     {
-        let Handle { pointer, is_open } = mem::replace(self, Handle::closed(alloc));
-        if is_open {
-            Some(pointer.into_detached().into_box())
-        } else {
-            None
+        if !self.is_open {
+            return None;
         }
+        let Handle { pointer, is_open: _ } = mem::replace(self, Handle::closed(alloc));
+        Some(pointer.into_detached().into_box())
     }
 }

@@ -148,12 +148,12 @@ pub fn inserted<const LEN: usize>(order: u64, place: u8, count: u8, slot: u8) ->
     ensures above { (i : ℕ) → place ≤ i → i < count → named result (i + 1) ≡ named order i }
     ensures filled { IsFilled LEN result (count + 1) }
 {
-    if place == count {
-        return extended::<LEN>(first_places(order, count), count, slot);
+    if place < count {
+        // The last name stays the last, and the places behind it repeat it still.
+        let places = first_places(order, LEN as u8 - 1);
+        return closed::<LEN>(let_in(places, place, LEN as u8 - 1, slot));
     }
-    // The last name stays the last, and the places behind it repeat it still.
-    let places = first_places(order, LEN as u8 - 1);
-    closed::<LEN>(let_in(places, place, LEN as u8 - 1, slot))
+    extended::<LEN>(first_places(order, count), count, slot)
 }
 
 /// Returns the order without one of its places, or [`RETIRED`] without the last.

@@ -35,7 +35,8 @@ pub fn entry_for<K: Ord + Drop, V: Drop, const LEN: usize>(
     requires node { 0 < level }
     requires part { IsPart K.cmp level arenas.now id ⊎ IsRetired level arenas.now id }
     ensures { MatchOption result (IsAbsent K.cmp (walk level arenas.now id) key.now)
-        (λ place. (pair : K × V) × (K.cmp pair.0 key.now ≡ Equal) × IsEntry K.cmp level arenas.now id place.leaf place.slot pair) }
+        (λ place. (pair : K × V) × (K.cmp pair.0 key.now ≡ Equal)
+        × IsEntry K.cmp level arenas.now id place.leaf place.slot pair) }
 {
     let place = leaf_for(arenas, level, id, key, false)?;
     let slot = arenas.leaf(place.leaf).array().slot_of(key)?;

@@ -269,6 +269,7 @@ impl<K: IndexKey, V: Drop, const LEN: usize> Tree<K, V, LEN> {
 
     /// Returns the pair with the judge's key. Makes at most 4 comparisons per level and in the leaf with 15 slots,
     /// and 3 with 7.
+    #[inline(always)]
     pub fn search<J: Judge<K>>(&self, judge: &mut J) -> Option<(&K, &V)>
         requires { IsWhole K.cmp self.now }
         ensures found { Finds K.cmp (pairs_of self.now) (J.key judge.old) result }

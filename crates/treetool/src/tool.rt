@@ -35,7 +35,8 @@ pub fn tool<R: Threads + Wait + Sync, I: Read + Drop, W: Write + Drop, E: Write 
 ) -> u8
     ensures lines { AsksFor (map string_bytes arguments.now) (Some Lines) → (result ≡ 0) ⊎ (result ≡ 2) }
     ensures small { AsksFor (map string_bytes arguments.now) (Some SmallLines) → (result ≡ 0) ⊎ (result ≡ 2) }
-    ensures storm { (workers pairs : _) → AsksFor (map string_bytes arguments.now) (Some (Storm workers pairs)) → (result ≡ 0) ⊎ (result ≡ 2) ⊎ (result ≡ 3) }
+    ensures storm { (workers pairs : _) → AsksFor (map string_bytes arguments.now) (Some (Storm workers pairs))
+        → (result ≡ 0) ⊎ (result ≡ 2) ⊎ (result ≡ 3) }
     ensures usage { AsksFor (map string_bytes arguments.now) None → result ≡ 1 }
 {
     run_tool(rt, alloc, arguments, &mut input, &mut output, &mut errors)

@@ -24,8 +24,10 @@ pub fn invitation(invited: &TreeSet<u64>, guest: u64) -> Option<&u64>
 
 /// Returns the first guest who is invited and hasn't answered, or `None` if all have.
 pub fn next_to_ask(invited: &TreeSet<u64>, answered: &TreeSet<u64>) -> Option<u64>
-    ensures silent { IfSome result (λ guest. (has nat_cmp invited.now guest ≡ true) × (has nat_cmp answered.now guest ≡ false)) }
-    ensures all { IfNone result ((guest : ℕ) → has nat_cmp invited.now guest ≡ true → has nat_cmp answered.now guest ≡ true) }
+    ensures silent { IfSome result
+        (λ guest. (has nat_cmp invited.now guest ≡ true) × (has nat_cmp answered.now guest ≡ false)) }
+    ensures all { IfNone result
+        ((guest : ℕ) → has nat_cmp invited.now guest ≡ true → has nat_cmp answered.now guest ≡ true) }
 {
     invited.difference(answered).next().copied()
 }

@@ -36,7 +36,8 @@ pub use walks::{ends_within, highest_price, price_at_or_below};
 ///
 /// Returns `None` if the index could not allocate; the prices are then as they were.
 pub fn offer(prices: &mut TreeIndex<u64, u64>, item: u64, price: u64) -> Option<u64>
-    ensures stands { IfSome result (λ first. option_map (λ pair. pair.1) (pair_at nat_cmp prices.new.pairs item) ≡ Some first) }
+    ensures stands { IfSome result
+        (λ first. option_map (λ pair. pair.1) (pair_at nat_cmp prices.new.pairs item) ≡ Some first) }
     ensures refused { IfNone result ((prices.new.pairs ≡ prices.old.pairs) × (prices.old.spare ≡ 0)) }
 {
     edits_are_found::<u64, u64>();

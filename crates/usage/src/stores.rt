@@ -17,7 +17,8 @@ pub fn first_offer(
     item: u64,
     price: u64,
 ) -> Result<u64, AllocError>
-    ensures stands { IfOk result (λ first. option_map (λ pair. pair.1) (pair_at nat_cmp prices.new.pairs item) ≡ Some first) }
+    ensures stands { IfOk result
+        (λ first. option_map (λ pair. pair.1) (pair_at nat_cmp prices.new.pairs item) ≡ Some first) }
     ensures refused { OnErr result (prices.new.pairs ≡ prices.old.pairs) }
 {
     edits_are_found::<u64, u64>();
@@ -58,7 +59,8 @@ pub fn archive(
 
 /// Returns how often a word was counted.
 pub fn count_of(counts: &TreeIndex<Text, u64>, word: &str) -> u64
-    ensures { result ≡ unwrap_or (option_map (λ pair. pair.1) (pair_at (slice_cmp nat_cmp) counts.now.pairs word.now)) 0 }
+    ensures { result
+        ≡ unwrap_or (option_map (λ pair. pair.1) (pair_at (slice_cmp nat_cmp) counts.now.pairs word.now)) 0 }
 {
     match peek_text(counts, word) {
         Some((_, count)) => *count,

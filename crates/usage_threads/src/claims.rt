@@ -55,9 +55,12 @@ pub fn claim_both<C: Shared, S: Shared, M: Shared, F: Shared, D: Shared, R: Thre
     requires removed { IsBlankFor 2 blanks.removed M.name M.parts }
     requires found { IsBlankFor 2 blanks.found F.name F.parts }
     requires done { IsBlankFor 2 blanks.done D.name D.parts }
-    ensures replays { IfOk result (λ claims. IsHistoryOf nat_cmp (λ n. n) (λ n. n) claims.closed.history.items claims.closed.index.pairs) }
-    ensures told { IfOk result (λ claims. (claims.closed.tally ≡ tally claims.closed.history.items) × (claims.closed.tally ≡ plus claims.told.0 claims.told.1)) }
-    ensures owned { IfOk result (λ claims. length claims.closed.index.pairs ≤ claims.told.0.stored + claims.told.1.stored) }
+    ensures replays { IfOk result
+        (λ claims. IsHistoryOf nat_cmp (λ n. n) (λ n. n) claims.closed.history.items claims.closed.index.pairs) }
+    ensures told { IfOk result (λ claims. (claims.closed.tally ≡ tally claims.closed.history.items)
+        × (claims.closed.tally ≡ plus claims.told.0 claims.told.1)) }
+    ensures owned { IfOk result
+        (λ claims. length claims.closed.index.pairs ≤ claims.told.0.stored + claims.told.1.stored) }
 {
     let (owners, mut passes) = SharedTreeIndex::<u64, u64, C, S, M, F, D>::new(alloc, 2, blanks)?;
     let [one, two] = passes.as_mut_slice() else {
@@ -88,9 +91,12 @@ pub fn claimed_by_two<R: Threads + Wait + Sync>(
     alloc: Global,
     numbers: &[u64],
 ) -> Result<Claims, AllocError>
-    ensures replays { IfOk result (λ claims. IsHistoryOf nat_cmp (λ n. n) (λ n. n) claims.closed.history.items claims.closed.index.pairs) }
-    ensures told { IfOk result (λ claims. (claims.closed.tally ≡ tally claims.closed.history.items) × (claims.closed.tally ≡ plus claims.told.0 claims.told.1)) }
-    ensures owned { IfOk result (λ claims. length claims.closed.index.pairs ≤ claims.told.0.stored + claims.told.1.stored) }
+    ensures replays { IfOk result
+        (λ claims. IsHistoryOf nat_cmp (λ n. n) (λ n. n) claims.closed.history.items claims.closed.index.pairs) }
+    ensures told { IfOk result (λ claims. (claims.closed.tally ≡ tally claims.closed.history.items)
+        × (claims.closed.tally ≡ plus claims.told.0 claims.told.1)) }
+    ensures owned { IfOk result
+        (λ claims. length claims.closed.index.pairs ≤ claims.told.0.stored + claims.told.1.stored) }
 {
     claim_both::<Brand, Brand, Brand, Brand, Brand, R>(rt, alloc, numbers, Blanks::new(2))
 }

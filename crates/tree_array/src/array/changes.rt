@@ -28,8 +28,8 @@ impl<K: Ord + Drop, V: Drop, const LEN: usize> ArrayOf<K, V, LEN> {
     pub fn change_val<F: FnOnce(V) -> V + Drop>(&mut self, slot: u8, change: F)
         requires pair { IsSome (arrival self.old.arrivals slot) }
         requires callable { ForSome (arrival self.old.arrivals slot) (λ pair. F.pre change pair.1) }
-        ensures { (key : K) × (before after : V) × (arrival self.old.arrivals slot ≡ Some (key, before)) × F.post change before after
-            × (self.new ≡ with_val K.cmp self.old slot key after) }
+        ensures { (key : K) × (before after : V) × (arrival self.old.arrivals slot ≡ Some (key, before))
+            × F.post change before after × (self.new ≡ with_val K.cmp self.old slot key after) }
     {
         self.cells.change(slot, change);
     }

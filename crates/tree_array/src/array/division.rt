@@ -131,7 +131,8 @@ fn move_places<K: Ord, V, const LEN: usize>(
     requires new { to.old ≡ in_order [] }
     ensures moved { (old : List (Option (K × V))) (made count : ℕ)
         → IsTabled K.cmp LEN old order made count → end ≤ count → HasEmptied old cells.old.pairs order count from
-        → HasEmptied old cells.new.pairs order count end × (to.new ≡ in_order (take (end - from) (drop from (sorted K.cmp (reachable (picked (arrival old) made)))))) }
+        → HasEmptied old cells.new.pairs order count end
+        × (to.new ≡ in_order (take (end - from) (drop from (sorted K.cmp (reachable (picked (arrival old) made)))))) }
     ensures whole { length cells.new.pairs ≡ length cells.old.pairs }
     ensures counts { cells.new.counts ≡ cells.old.counts }
 {

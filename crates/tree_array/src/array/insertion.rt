@@ -64,6 +64,8 @@ impl<K: Ord + Drop, V: Drop, const LEN: usize> ArrayOf<K, V, LEN> {
                 if self.is_full() {
                     StoreResult::Full(key, val)
                 } else {
+                    // Read once more, so that the search needn't keep it.
+                    let entries = self.cells.counts().entries;
                     self.let_in(clamp(place, entries), key, val);
                     StoreResult::New
                 }

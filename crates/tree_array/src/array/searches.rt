@@ -65,7 +65,8 @@ impl<K: Ord + Drop, V: Drop, const LEN: usize> ArrayOf<K, V, LEN> {
     /// Makes no comparisons.
     pub fn slot_at(&self, place: u8) -> Option<u8>
         ensures { MatchOption result (slice_get self.now.entries place ≡ None)
-            (λ slot. (pair : _) × (arrival self.now.arrivals slot ≡ Some pair) × (slice_get self.now.entries place ≡ Some pair)) }
+            (λ slot. (pair : _) × (arrival self.now.arrivals slot ≡ Some pair)
+            × (slice_get self.now.entries place ≡ Some pair)) }
     {
         if place < self.cells.counts().entries {
             Some(slot_at(self.order, place))
@@ -77,7 +78,8 @@ impl<K: Ord + Drop, V: Drop, const LEN: usize> ArrayOf<K, V, LEN> {
     /// Returns the slot of the entry with the greatest key, or `None` if there is no entry. Makes no comparisons.
     pub fn last_slot(&self) -> Option<u8>
         ensures { MatchOption result (self.now.entries ≡ [])
-            (λ slot. (pair : _) × (arrival self.now.arrivals slot ≡ Some pair) × (front : _) × (self.now.entries ≡ front ++ pair ∷ [])) }
+            (λ slot. (pair : _) × (arrival self.now.arrivals slot ≡ Some pair)
+            × (front : _) × (self.now.entries ≡ front ++ pair ∷ [])) }
     {
         let count = self.cells.counts().entries;
         if count == 0 {

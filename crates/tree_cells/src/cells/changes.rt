@@ -11,8 +11,8 @@ impl<K, V, const LEN: usize> Cells<K, V, LEN> {
     pub fn change<F: FnOnce(V) -> V + Drop>(&mut self, cell: u8, change: F)
         requires pair { IsSome (arrival self.old.pairs cell) }
         requires callable { ForSome (arrival self.old.pairs cell) (λ pair. F.pre change pair.1) }
-        ensures pairs { (key : K) × (before after : V) × (arrival self.old.pairs cell ≡ Some (key, before)) × F.post change before after
-            × (self.new.pairs ≡ slice_set self.old.pairs cell (Some (key, after))) }
+        ensures pairs { (key : K) × (before after : V) × (arrival self.old.pairs cell ≡ Some (key, before))
+            × F.post change before after × (self.new.pairs ≡ slice_set self.old.pairs cell (Some (key, after))) }
         ensures counts { self.new.counts ≡ self.old.counts }
     {
         match &mut self.rows {

@@ -13,7 +13,9 @@ pub leaf_mut-requires : goal.leaf_mut-requires
 leaf_mut-requires g c = (search fits, (search fits, some_leaf _ c.requires.2.last.1))
 
 pub returns-then-is_full : goal.returns-then-is_full
-returns-then-is_full g c level id for = (refl, refl, refl)
+returns-then-is_full g c level id for =
+    let full = rw c.array.ensures at c.is_full.ensures.0 c.if-is_full.true in
+    (refl, refl, refl, λ found is. let both : Some c.leaf.result.now ≡ Some found = sym c.leaf.ensures ∙ is in let same : c.leaf.result.now ≡ found = cc in rw (← same) full)
 
 pub append-requires : goal.append-requires
 append-requires g c =

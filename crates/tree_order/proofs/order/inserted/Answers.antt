@@ -2,10 +2,10 @@ use Rattle.std.proofs.Common.{◌≡◌, ℕ, ◌+◌, ◌-◌, ◌<◌, ◌≤�
 use Rattle.tree_order.specs.Order.{named}
 use Rattle.tree_order.proofs.order.inserted.Goals as goal
 
-pub returns-clause-filled : goal.returns-clause-filled
-returns-clause-filled g c =
+pub returns-then-place-count-clause-filled : goal.returns-then-place-count-clause-filled
+returns-then-place-count-clause-filled g c =
     let r = c.requires in
-    let before : c.args.place < c.args.count = omega (arith, r.place, c.if-place-count.false) in
+    let before : c.args.place < c.args.count = omega (arith, r.place, c.if-place-count.true) in
     let was = r.filled (omega (arith, before)) in
     let later : (i : ℕ) → c.args.place ≤ i → i < g.row.LEN - 1 → named c.closed.result (i + 1) ≡ named c.args.order i =
     λ i le lt. c.closed.ensures.same (i + 1) (omega (arith, lt)) ∙ c.let_in.ensures.above i le ∙ c.first_places-places.ensures.same i lt

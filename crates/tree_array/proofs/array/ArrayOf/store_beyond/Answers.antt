@@ -98,7 +98,7 @@ let_in-requires g c =
     let o = g.met.K.Ord.total in
     let it = a.it in
     let room = room_from_not_full g.row.LEN c.args.self.now c.if-is_full-2.ensures.1 in
-    (search rules, (omega (arith, room.0), (room.1, rw (c.clamp.ensures, ← a.view) (parts_entries o it c.args.key _ (parts_before o it c.args.key _ _ c.in-Before.ensures)))))
+    (search rules, (omega (arith, room.0), (room.1, rw (c.clamp.ensures, c.counts-entries-else-is_full-2.ensures.entries, ← c.counts-entries.ensures.entries, ← a.view) (parts_entries o it c.args.key _ (parts_before o it c.args.key _ _ c.in-Before.ensures)))))
 
 pub returns-else-is_full-2 : goal.returns-else-is_full-2
 returns-else-is_full-2 g c =

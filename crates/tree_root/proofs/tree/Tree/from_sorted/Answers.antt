@@ -1,6 +1,4 @@
-use Rattle.std.proofs.Common.{◌≡◌, ◌∷◌, ◌++◌, [], append_assoc, ap, refl, sym, subst, ◌∙◌, arith, rules}
-use Rattle.std.specs.List.{AllByRecursion}
-use Rattle.std.specs.declared.cmp.Ordering.TheVariants.{Less}
+use Rattle.std.proofs.Common.{◌∷◌, ◌++◌, [], append_assoc, ap, refl, sym, subst, ◌∙◌, rules}
 use Rattle.tree_model.specs.Pairs.{IsAscending}
 use Rattle.tree_node.proofs.Cuts.{smaller_front}
 use Rattle.tree_node.proofs.Sizes.{fits}

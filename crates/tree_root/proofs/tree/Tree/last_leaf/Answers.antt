@@ -8,4 +8,4 @@ last_leaf_at-requires g c =
     (search fits, (search fits, (tree.top.0, stands_or_retired g.K.Ord.cmp c.args.self.now.arenas c.in_ok-root.root c.in_ok-root.depth tree)))
 
 pub returns : goal.returns
-returns g c = rw c.in_ok-root.was c.last_leaf_at.ensures
+returns g c = rw c.in_ok-root.was c.last_leaf_at.ensures.last
