@@ -304,8 +304,8 @@ fn show_checksums() {
     }
 }
 
-fn show_times(size: usize, repeats: usize) {
-    for (workload, name) in ALL {
+fn show_times(workloads: &[(Workload, &str)], size: usize, repeats: usize) {
+    for &(workload, name) in workloads {
         let (mut least, calls, checksum) = measure(workload, size);
         for _ in 1..repeats {
             least = least.min(measure(workload, size).0);
@@ -351,7 +351,13 @@ fn main() {
         }
         [keys, repeats] => {
             if let (Some(keys), Some(repeats)) = (number(keys), number(repeats)) {
-                return show_times(keys, repeats);
+                return show_times(&ALL, keys, repeats);
+            }
+        }
+        [name, keys, repeats] => {
+            let named = ALL.iter().find(|(_, other)| other == name);
+            if let (Some(&named), Some(keys), Some(repeats)) = (named, number(keys), number(repeats)) {
+                return show_times(&[named], keys, repeats);
             }
         }
         [first] if first == "shared" => return shared::show_few(),
@@ -362,6 +368,6 @@ fn main() {
         }
         _ => {}
     }
-    eprintln!("usage: btree [KEYS REPEATS | memory KEYS | shared | shared KEYS THREADS CALLS]");
+    eprintln!("usage: btree [[WORKLOAD] KEYS REPEATS | memory KEYS | shared | shared KEYS THREADS CALLS]");
     exit(1);
 }

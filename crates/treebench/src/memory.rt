@@ -1,9 +1,7 @@
 //! Measures the memory of pairs.
-use crate::keys::source;
-use std::alloc::AllocError;
+use crate::calls::{Index, fill};
 use std::rt::Files;
 use std::{fs, io};
-use tree_index::TreeIndex;
 
 /// The memory of a number of pairs.
 #[derive(Clone, Copy)]
@@ -17,7 +15,7 @@ pub struct Footprint {
 /// Stores random pairs of numbers and measures how far the peak resident size grows.
 pub fn measure_footprint(rt: &(impl Files + AllocGlobal), size: usize) -> io::Result<Footprint> {
     let before = greatest_resident(rt)?;
-    let mut index = TreeIndex::new(rt.alloc());
+    let mut index = Index::new(rt.alloc());
     footprint_in(rt, before, &mut index, size)
 }
 
@@ -25,7 +23,7 @@ pub fn measure_footprint(rt: &(impl Files + AllocGlobal), size: usize) -> io::Re
 fn footprint_in(
     rt: &(impl Files + AllocGlobal),
     before: usize,
-    index: &mut TreeIndex<u64, u64>,
+    index: &mut Index<u64>,
     size: usize,
 ) -> io::Result<Footprint> {
     fill(index, size)?;
@@ -34,18 +32,6 @@ fn footprint_in(
         bytes_a_pair: grown.saturating_mul(1024).checked_div(size).unwrap_or(0),
         checksum: index.len(),
     })
-}
-
-// Stores so many random pairs.
-fn fill(index: &mut TreeIndex<u64, u64>, size: usize) -> Result<(), AllocError> {
-    let mut source = source();
-    for _ in 0..size {
-        let key = source.draw();
-        if index.insert_sync(key, key).is_err() {
-            return Err(AllocError);
-        }
-    }
-    Ok(())
 }
 
 // Returns the peak resident size of this process in KiB, as Linux reports it.

@@ -37,8 +37,10 @@ pub enum Calls {
     Peek,
     /// Removes each key asked for.
     Remove,
-    /// Removes the keys from the first one asked for to the last by one call.
-    Cut,
+    /// Removes the keys from the first one asked for to the last, beside `retain` of a map.
+    CutByRetain,
+    /// Does the same, beside `split_off` and `append` of a map.
+    CutBySplitOff,
     /// Walks over all pairs in ascending order.
     Walk,
     /// Walks over all pairs in descending order.
@@ -54,8 +56,7 @@ pub enum Calls {
 /// A workload: the name that the output gives it, its keys and its calls.
 pub type Workload = (&'static str, KeySet, Calls);
 
-/// The workloads in the order in which they run. The two cuts are the same here, and stand beside `retain` and beside
-/// `split_off` and `append` of the standard map.
+/// The workloads in the order in which they run. The two cuts are one call of the index.
 pub const WORKLOADS: [Workload; 22] = [
     ("insert_ascending", KeySet::Ascending, Calls::Insert),
     ("append_ascending", KeySet::Ascending, Calls::Append),
@@ -67,8 +68,8 @@ pub const WORKLOADS: [Workload; 22] = [
     ("peek_miss", KeySet::Absent, Calls::Peek),
     ("remove_random", KeySet::Random, Calls::Remove),
     ("remove_middle", KeySet::Middle, Calls::Remove),
-    ("cut_beside_retain", KeySet::Middle, Calls::Cut),
-    ("cut_beside_split_off", KeySet::Middle, Calls::Cut),
+    ("cut_beside_retain", KeySet::Middle, Calls::CutByRetain),
+    ("cut_beside_split_off", KeySet::Middle, Calls::CutBySplitOff),
     ("build_and_drop", KeySet::Random, Calls::BuildAndDrop),
     ("walk_ascending", KeySet::Ascending, Calls::Walk),
     ("walk_back_ascending", KeySet::Ascending, Calls::WalkBack),
