@@ -333,5 +333,5 @@ fn keep<K: Drop, V: Drop>(history: &mut Vec<Record<K, V>>, command: Command<K, V
     requires { vec_len history.old < vec_capacity history.old }
     ensures { history.new.items ≡ history.old.items ++ record { command = command; reply = reply } ∷ [] }
 {
-    history.push(Record { command, reply }).unwrap();
+    history.push_reserved(Record { command, reply });
 }
