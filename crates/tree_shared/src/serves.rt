@@ -20,6 +20,7 @@ pub trait Serves<Q, A, C: Ledger, S: Ledger, M: Ledger, F: Ledger, D: Ledger>: D
 }
 
 /// Takes the lock, and answers a request under it.
+#[inline(always)]
 pub fn serve<
     Q,
     A,

@@ -115,6 +115,7 @@ impl<K: IndexKey + SameClone, V: SameClone, const LEN: usize> StateOf<K, V, LEN>
     ///     Err(_) => return Err(AllocError),
     /// }
     /// ```
+    #[inline(always)]
     pub fn apply(&mut self, command: Command<K, V>) -> Result<Reply<V>, Command<K, V>>
         ensures ok { IfOk result (Appends K.cmp K.seen V.seen self.old self.new command) }
         ensures handed_back { IfErr result (λ back. back ≡ command) }
