@@ -240,6 +240,7 @@ impl<K: IndexKey + SameClone, V: SameClone, const LEN: usize> StateOf<K, V, LEN>
     }
 
     // Answers a removal. The key itself goes into the history.
+    #[inline(always)]
     fn remove(&mut self, key: K) -> Result<Reply<V>, Command<K, V>>
         ensures ok { IfOk result (Appends K.cmp K.seen V.seen self.old self.new (Command.Remove key)) }
         ensures handed_back { IfErr result (λ back. back ≡ Command.Remove key) }
@@ -286,6 +287,7 @@ impl<K: IndexKey + SameClone, V: SameClone, const LEN: usize> StateOf<K, V, LEN>
     }
 
     // Answers a look-up. A second clone of what it found goes into the history.
+    #[inline(always)]
     fn look_up(&mut self, key: K) -> Result<Reply<V>, Command<K, V>>
         ensures ok { IfOk result (Appends K.cmp K.seen V.seen self.old self.new (Command.Peek key)) }
         ensures handed_back { IfErr result (λ back. back ≡ Command.Peek key) }
