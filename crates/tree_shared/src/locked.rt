@@ -85,6 +85,7 @@ impl<
     /// Answers a command, and counts its reply in the books and in the pass.
     ///
     /// Returns `Err` with the command if an allocation is refused; nothing changed then.
+    #[inline(always)]
     pub fn apply(
         &mut self,
         pass: &mut Pass<C, S, M, F, D>,
@@ -111,6 +112,7 @@ impl<
     /// Answers an insert, and counts its reply in the books and in the pass.
     ///
     /// Returns `Err` with the pair for a duplicate too. After `OutOfMemory` nothing changed.
+    #[inline(always)]
     pub fn insert(
         &mut self,
         pass: &mut Pass<C, S, M, F, D>,
@@ -138,6 +140,7 @@ impl<
     /// Answers an upsert, and counts its reply in the books and in the pass.
     ///
     /// Returns `Err` with the pair if an allocation is refused; nothing changed then.
+    #[inline(always)]
     pub fn upsert(
         &mut self,
         pass: &mut Pass<C, S, M, F, D>,
@@ -175,6 +178,7 @@ impl<
     for Locked<K, V, C, S, M, F, D, LEN> {
     ghost counts = { λ command answer old new. IsCounted command answer old new };
 
+    #[inline(always)]
     fn serve(
         &mut self,
         pass: &mut Pass<C, S, M, F, D>,
@@ -197,6 +201,7 @@ impl<
     for Locked<K, V, C, S, M, F, D, LEN> {
     ghost counts = { λ pair answer old new. IsInsertCounted pair answer old new };
 
+    #[inline(always)]
     fn serve(
         &mut self,
         pass: &mut Pass<C, S, M, F, D>,
@@ -219,6 +224,7 @@ impl<
     for Locked<K, V, C, S, M, F, D, LEN> {
     ghost counts = { λ pair answer old new. IsUpsertCounted pair answer old new };
 
+    #[inline(always)]
     fn serve(
         &mut self,
         pass: &mut Pass<C, S, M, F, D>,

@@ -20,6 +20,7 @@ pub trait Serves<Q, A, C: Ledger, S: Ledger, M: Ledger, F: Ledger, D: Ledger>: D
 }
 
 /// Takes the lock, and answers a request under it.
+#[inline(always)]
 pub fn serve<
     Q,
     A,
@@ -34,5 +35,10 @@ pub fn serve<
     requires { pass.old.calls < u64.MAX }
     ensures { T.counts request result pass.old pass.new }
 {
-    lock.lock(rt).serve(pass, request)
+    // A free lock is taken here, so that waiting alone is a call.
+    let mut guarded = match lock.try_lock() {
+        Some(guarded) => guarded,
+        None => lock.lock(rt),
+    };
+    guarded.serve(pass, request)
 }

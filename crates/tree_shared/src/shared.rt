@@ -244,6 +244,7 @@ impl<
     }
 
     // Answers a command under the lock. Returns `Err` with the command if an allocation is refused.
+    #[inline(always)]
     fn apply<R: Wait>(
         &self,
         rt: &R,

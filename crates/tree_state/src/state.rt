@@ -115,6 +115,7 @@ impl<K: IndexKey + SameClone, V: SameClone, const LEN: usize> StateOf<K, V, LEN>
     ///     Err(_) => return Err(AllocError),
     /// }
     /// ```
+    #[inline(always)]
     pub fn apply(&mut self, command: Command<K, V>) -> Result<Reply<V>, Command<K, V>>
         ensures ok { IfOk result (Appends K.cmp K.seen V.seen self.old self.new command) }
         ensures handed_back { IfErr result (λ back. back ≡ command) }
@@ -239,6 +240,7 @@ impl<K: IndexKey + SameClone, V: SameClone, const LEN: usize> StateOf<K, V, LEN>
     }
 
     // Answers a removal. The key itself goes into the history.
+    #[inline(always)]
     fn remove(&mut self, key: K) -> Result<Reply<V>, Command<K, V>>
         ensures ok { IfOk result (Appends K.cmp K.seen V.seen self.old self.new (Command.Remove key)) }
         ensures handed_back { IfErr result (λ back. back ≡ Command.Remove key) }
@@ -285,6 +287,7 @@ impl<K: IndexKey + SameClone, V: SameClone, const LEN: usize> StateOf<K, V, LEN>
     }
 
     // Answers a look-up. A second clone of what it found goes into the history.
+    #[inline(always)]
     fn look_up(&mut self, key: K) -> Result<Reply<V>, Command<K, V>>
         ensures ok { IfOk result (Appends K.cmp K.seen V.seen self.old self.new (Command.Peek key)) }
         ensures handed_back { IfErr result (λ back. back ≡ Command.Peek key) }
@@ -333,5 +336,5 @@ fn keep<K: Drop, V: Drop>(history: &mut Vec<Record<K, V>>, command: Command<K, V
     requires { vec_len history.old < vec_capacity history.old }
     ensures { history.new.items ≡ history.old.items ++ record { command = command; reply = reply } ∷ [] }
 {
-    history.push(Record { command, reply }).unwrap();
+    history.push_reserved(Record { command, reply });
 }
