@@ -1,6 +1,6 @@
 //! Appends to the last leaf of a part of a tree.
-ghost use Rattle.std.specs.Prelude.{◌⊎◌, ◌<◌, ℕ, IfNone, None};
-ghost use Rattle.std.specs.Option.{ForSome};
+ghost use Rattle.std.specs.Prelude.{◌⊎◌, ◌<◌, ℕ, None};
+ghost use Rattle.std.specs.Option.{ForNone, ForSome};
 ghost use Rattle.slab.specs.Slab.{ContainsKey};
 ghost use Rattle.tree_append.specs.Appends.{Appends, HasNoLastLeaf, IsLastFor, IsLastLeaf, IsOnEdge};
 ghost use Rattle.tree_node.specs.Tree.{IsRetired, Stands};
@@ -21,7 +21,7 @@ pub fn last_leaf_at<K: IndexKey, V: Drop, const LEN: usize>(
     requires node { 0 < level }
     requires stands { Stands K.cmp level arenas.now None id None ⊎ IsRetired level arenas.now id }
     ensures last { ForSome result (IsLastLeaf level arenas.now id) }
-    ensures none { IfNone result (HasNoLastLeaf level arenas.now id) }
+    ensures none { ForNone result (HasNoLastLeaf level arenas.now id) }
 {
     let leaf = edge_leaf_at(arenas, level, id)?;
     if arenas.leaf(leaf).array().is_empty() {
@@ -40,7 +40,7 @@ fn edge_leaf_at<K: IndexKey, V: Drop, const LEN: usize>(
     requires stands { Stands K.cmp level arenas.now None id None ⊎ IsRetired level arenas.now id }
     ensures edge { ForSome result (IsOnEdge level arenas.now.nodes id) }
     ensures there { ForSome result (ContainsKey arenas.now.leaves) }
-    ensures none { IfNone result (IsRetired level arenas.now id) }
+    ensures none { ForNone result (IsRetired level arenas.now id) }
 {
     match arenas.node(id) {
         NodeOf::Leaf(node) => node.unbounded_child,

@@ -1,5 +1,5 @@
 -- The fields of an array, and its counts as a call returns them.
-use Rattle.std.proofs.Common.{◌≡◌, ℕ, List, Option, true, sym, ◌∙◌, inl, inr, arith, Ordering}
+use Rattle.std.proofs.Common.{◌≡◌, ℕ, List, Option, sym, ◌∙◌, inl, inr, arith, Ordering}
 use Rattle.tree_model.proofs.Common.{false≢true, cases_lt}
 use Rattle.tree_array.proofs.Common.{Arrivals, seen, IsTabled}
 use Rattle.tree_cells.specs.Cells.{Held}

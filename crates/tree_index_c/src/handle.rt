@@ -64,7 +64,10 @@ impl Handle {
         if !self.is_open {
             return None;
         }
-        let Handle { pointer, is_open: _ } = mem::replace(self, Handle::closed(alloc));
+        let Handle {
+            pointer,
+            is_open: _,
+        } = mem::replace(self, Handle::closed(alloc));
         Some(pointer.into_detached().into_box())
     }
 }

@@ -2,7 +2,8 @@ use Rattle.std.proofs.Common.{rules, arith}
 use Rattle.slab.specs.Slab.{ContainsKey}
 use Rattle.tree_node.proofs.Levels.{node_at}
 use Rattle.tree_node.proofs.Sizes.{fits}
-use Rattle.tree_append.proofs.Lasts.{leaf_last, node_last}
+use Rattle.tree_append.proofs.Lasts.{leaf_last, node_last, retired_without}
+use Rattle.tree_node.specs.declared.node.NodeOf.TheVariants.{Internal, Leaf}
 use Rattle.tree_append.proofs.appending.+edge_leaf_at.Goals as goal
 
 pub node-requires : goal.node-requires
@@ -25,3 +26,14 @@ pub returns-in_ok-child-in-Internal-clause-edge : goal.returns-in_ok-child-in-In
 returns-in_ok-child-in-Internal-clause-edge g t c leaf is =
     let below = node_last g.K.Ord.cmp c.args.arenas.now c.args.id c.args.level c.requires.node c.requires.stands c.in-Internal.node (rw c.in-Internal.is at c.node.ensures) c.in_ok-child-in-Internal.child c.in_ok-child-in-Internal.was in
     below.edge leaf (c.edge_leaf_at.ensures.edge leaf is)
+
+pub returns-in-Leaf-clause-none : goal.returns-in-Leaf-clause-none
+returns-in-Leaf-clause-none g t c none = retired_without g.K.Ord.cmp c.args.arenas.now c.args.id c.args.level c.requires.node c.requires.stands (Leaf c.in-Leaf.node) (rw c.in-Leaf.is at c.node.ensures) none
+
+pub returns-in_err-child-in-Internal-clause-none : goal.returns-in_err-child-in-Internal-clause-none
+returns-in_err-child-in-Internal-clause-none g t c none = retired_without g.K.Ord.cmp c.args.arenas.now c.args.id c.args.level c.requires.node c.requires.stands (Internal c.in-Internal.node) (rw c.in-Internal.is at c.node.ensures) c.in_err-child-in-Internal.was
+
+pub returns-in_ok-child-in-Internal-clause-none : goal.returns-in_ok-child-in-Internal-clause-none
+returns-in_ok-child-in-Internal-clause-none g t c none =
+    let below = node_last g.K.Ord.cmp c.args.arenas.now c.args.id c.args.level c.requires.node c.requires.stands c.in-Internal.node (rw c.in-Internal.is at c.node.ensures) c.in_ok-child-in-Internal.child c.in_ok-child-in-Internal.was in
+    absurd (below.live (c.edge_leaf_at.ensures.none none))
