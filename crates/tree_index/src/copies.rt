@@ -84,7 +84,8 @@ fn append_clone<K: IndexKey, V: Drop + Clone, const LEN: usize>(
     ensures whole { IfOk result (λ _. IsWhole K.cmp tree.new) }
     ensures last { IfOk result (λ _. ForSome last.new (IsLast tree.new)) }
     ensures appends { IfOk result
-        (λ _. Appends (IsPairClone K.is_clone V.is_clone) (pairs_of tree.old) (key.now, value.now) (pairs_of tree.new)) }
+        (λ _. Appends (IsPairClone K.is_clone V.is_clone)
+        (pairs_of tree.old) (key.now, value.now) (pairs_of tree.new)) }
 {
     match tree.append(last, key.clone()?, value.clone()?) {
         Ok(()) => Ok(()),

@@ -24,7 +24,8 @@ impl<K: IndexKey, V: Drop, const LEN: usize> TreeIndexOf<K, V, LEN> {
     /// ```
     pub fn peek_or_insert(&mut self, key: K, value: V) -> Result<&V, AllocError>
         ensures* { sem 𝓛
-            (lends_value K.row V.row LEN.row K.is_clone K.is_infallible K.cmp K.eq K.partial_cmp self.entry key value LEN result) }
+            (lends_value K.row V.row LEN.row K.is_clone K.is_infallible K.cmp K.eq K.partial_cmp
+            self.entry key value LEN result) }
     {
         let key = self.make_present(key, value)?;
         match self.peek(&key) {
