@@ -1,25 +1,16 @@
 -- A leaf of a whole tree whose first and last key lie around a key is the leaf that the key belongs to.
-use Rattle.std.proofs.Common.{◌≡◌, ℕ, zero, suc, ◌<◌, true, List, [], ◌∷◌, ◌++◌, map, Option, Some, None, inl, inr, refl, sym, ap, ◌∙◌, arith, sub-one, flat_map, Ordering, Less, Equal, Greater, is_le, is_ge}
+use Rattle.std.proofs.Common.{◌≡◌, ℕ, zero, suc, ◌<◌, true, List, [], ◌∷◌, ◌++◌, map, Option, Some, None, IsSome, inl, inr, refl, sym, ap, arith, sub-one, flat_map, Ordering, Less, Equal, Greater, is_le, is_ge}
 use Rattle.std.specs.Ordering.{ordering_reverse}
 use Rattle.tree_model.proofs.Common.{IsTotalOrder, cases_eq, cases_lt}
-use Rattle.tree_node.proofs.Common.{get, LeafOf, TreeArenas, times, times-append, times-cons, times-nil, none_here, uses_some, AreParted, HasChildFor, IsAbove, IsUpTo, IsTree, Stands, child_at, is_from, keyed, leaves_at}
+use Rattle.tree_array.specs.Spans.{Spans}
+use Rattle.tree_leaf.specs.Entries.{found_entries}
+use Rattle.tree_node.proofs.Common.{get, LeafOf, leaf_entries, TreeArenas, times, times-append, times-cons, times-nil, none_here, uses_some, AreParted, HasChildFor, IsAbove, IsUpTo, IsTree, Stands, child_at, is_from, keyed, leaves_at}
 use Rattle.tree_node.proofs.Lists.{all_middle}
 use Rattle.tree_node.proofs.Order.{less_upto, upto_from_less}
 use Rattle.tree_node.proofs.Standing.{no_children}
 use Rattle.tree_node.proofs.Walks.{above_next, up_to_next}
 use Rattle.tree_node.proofs.Whole.{tree_part}
 use Rattle.tree_descent.specs.Ways.{IsOnWay, LeadsTo}
-
--- of these pairs the first has no larger key, and the last no smaller one
-pub record Spans {K V : Type 0} (cmp : K → K → Ordering) (pairs : List (K × V)) (key : K) : Type 0 where
-  pub first : K × V
-  pub rest : List (K × V)
-  pub begins : pairs ≡ first ∷ rest
-  pub low : is_le (cmp first.0 key) ≡ true
-  pub front : List (K × V)
-  pub last : K × V
-  pub ends : pairs ≡ front ++ last ∷ []
-  pub high : is_le (cmp key last.0) ≡ true
 
 ge_reversed : (c : Ordering) → is_le c ≡ true → is_ge (ordering_reverse c) ≡ true
 ge_reversed Less h = refl
@@ -71,15 +62,14 @@ module _ {K V : Type 0} {LEN : ℕ} {cmp : K → K → Ordering} (o : IsTotalOrd
   last_step zero id way = (id, refl, rw way.2 at way.1)
   last_step (suc level) id way = let below = last_step level way.0 way.2 in (below.0, (way.0, way.1, below.1), below.2)
 
-  module _ (leaf : LeafOf K V LEN) (here : get a.leaves n ≡ Some leaf) (spans : Spans cmp leaf.array.entries key) where
+  module _ (spans : Spans cmp (leaf_entries a.leaves n) key) where
     held : (level : ℕ) (low : Option K) (id : ℕ) (high : Option K) → Stands cmp level a low id high → 0 < times n (leaves_at level a.nodes id) → Holds level low id high
     held zero low id high s reached = elim (cases_eq n id) [
       | inl same ↦
-          let both : Some s.leaf ≡ Some leaf = sym s.here ∙ rw same at here in
-          let is : s.leaf ≡ leaf = cc in
+          let it : Spans cmp s.leaf.array.entries key = rw (same, s.here) at spans in
           record {
-            above = above_with o low spans.first.0 key (rw (is, spans.begins) at s.above).0 spans.low;
-            up_to = up_to_with o high key spans.last.0 spans.high (all_middle _ spans.front spans.last [] (rw (is, spans.ends) at s.up_to));
+            above = above_with o low it.first.0 key (rw it.begins at s.above).0 it.low;
+            up_to = up_to_with o high key it.last.0 it.high (all_middle _ it.front it.last [] (rw it.ends at s.up_to));
             way = sym same;
           }
       | inr differs ↦ absurd (omega (arith, reached, times-cons n id [], times-nil n, none_here n id differs))
@@ -94,10 +84,14 @@ module _ {K V : Type 0} {LEN : ℕ} {cmp : K → K → Ordering} (o : IsTotalOrd
         let way = last_step level id (held (suc level) None id None stands reached).way in
         (way.0, (tree_part a id (suc level) tree stands, rw sub-one way.1, way.2))
 
+    in_use : (found : Option (LeafOf K V LEN)) → Spans cmp (found_entries found) key → IsSome found
+    in_use None none = absurd (let both = none.begins in cc)
+    in_use (Some leaf) it = refl
+
     -- In a whole tree the key belongs to the leaf.
-    pub leads_there : (level id : ℕ) → IsTree cmp a (Some (id, level)) → (node : ℕ) × LeadsTo cmp key level a id node n
-    leads_there level id tree =
-        let reached : 0 < times n (leaves_at level a.nodes id) = omega (arith, tree.leaves_once n, uses_some a.leaves n (rw here refl)) in
+    pub leads_there : (id level : ℕ) → IsTree cmp a (Some (id, level)) → (node : ℕ) × LeadsTo cmp key level a id node n
+    leads_there id level tree =
+        let reached : 0 < times n (leaves_at level a.nodes id) = omega (arith, tree.leaves_once n, uses_some a.leaves n (in_use (get a.leaves n) spans)) in
         elim tree.top.1 [
           | inl stands ↦ on_way level id tree.top.0 tree stands reached
           | inr retired ↦ absurd (let none = rw (retired.0, (no_children (get a.nodes id) retired.1).1) at reached in omega (arith, none, times-nil n))
