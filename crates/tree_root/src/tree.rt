@@ -13,10 +13,12 @@ ghost use Rattle.tree_node.specs.Whole.{depth_of, leaves_under};
 ghost use Rattle.tree_remove.specs.Removes.{surely};
 ghost use Rattle.tree_root.specs.Trees.{Cuts, IsStored, IsWhole, Stores, Takes, pairs_of, spare_of, told};
 
+use crate::finger::Finger;
 use std::alloc::Global;
 use std::ops::Bound;
 use tree_array::array::{IndexKey, Judge, RemoveResult, StoreResult};
 use tree_cut::cutting::remove_range_at;
+use tree_descent::descent::{holds, leaf_for};
 use tree_descent::look_ups::search_at;
 use tree_insert::insertion::{Crowded, insert_at, insert_crowded, insert_with_room};
 use tree_insert::planting::plant;
@@ -41,12 +43,13 @@ pub enum Stored {
 pub struct Tree<K: IndexKey, V: Drop, const LEN: usize> {
     pub arenas: ArenasOf<K, V, LEN>,
     pub root: Option<(NodeId, usize)>,
+    finger: Finger,
 }
 
 // Written out, so that it is proved here and not once more in each crate that drops a tree inside another type.
 impl<K: IndexKey, V: Drop, const LEN: usize> Drop for Tree<K, V, LEN> {
     fn drop(self) {
-        let Tree { arenas, root: _ } = self;
+        let Tree { arenas, root: _, finger: _ } = self;
         drop(arenas);
     }
 }
@@ -61,6 +64,7 @@ impl<K: IndexKey, V: Drop, const LEN: usize> Tree<K, V, LEN> {
         Tree {
             arenas: ArenasOf::new(alloc),
             root: None,
+            finger: Finger::new(),
         }
     }
 
@@ -169,6 +173,9 @@ impl<K: IndexKey, V: Drop, const LEN: usize> Tree<K, V, LEN> {
     /// Removes the pair at a key where the condition says so of its value, and says whether it did. Makes at most
     /// 4 comparisons a level and in the leaf (3 among 7 slots), and twice as many if the pair is the last of its leaf.
     /// Allocates nothing.
+    ///
+    /// If the last two removals went to one leaf, the key is first compared with the first and the last one there. Between
+    /// them it needs no descent.
     pub fn remove_if<F: FnOnce(&V) -> bool + Drop>(&mut self, key: &K, condition: F) -> bool
         requires whole { IsWhole K.cmp self.old }
         requires callable { ForSome (pair_at K.cmp (pairs_of self.old) key.now)
@@ -178,10 +185,32 @@ impl<K: IndexKey, V: Drop, const LEN: usize> Tree<K, V, LEN> {
         let Some((root, depth)) = self.root else {
             return false;
         };
-        match remove_beside(&mut self.arenas, depth, root, key, condition) {
+        let Some(leaf) = self.leaf_of_removal(root, depth, key) else {
+            return false;
+        };
+        match remove_beside(&mut self.arenas, depth, root, leaf, key, condition) {
             Ok(removed) => removed,
-            Err((condition, leaf)) => self.remove_alone(root, depth, leaf, key, condition),
+            Err(condition) => self.remove_alone(root, depth, leaf, key, condition),
         }
+    }
+
+    /// Returns the leaf that a key belongs to, or `None` if the root is retired. Takes the finger's leaf if that holds the
+    /// key, and else descends and tells the finger.
+    #[inline(always)]
+    fn leaf_of_removal(&mut self, root: NodeId, depth: usize, key: &K) -> Option<LeafId>
+        requires whole { IsWhole K.cmp self.old }
+        requires root { self.old.root ≡ Some (root, depth) }
+        ensures arenas { self.new.arenas ≡ self.old.arenas }
+        ensures root { self.new.root ≡ self.old.root }
+        ensures way { MatchOption result (IsRetired depth self.old.arenas root)
+            (λ leaf. (node : ℕ) × LeadsTo K.cmp key.now depth self.old.arenas root node leaf) }
+    {
+        if self.finger.stays && holds(&self.arenas, self.finger.leaf, key) {
+            return Some(self.finger.leaf);
+        }
+        let place = leaf_for(&self.arenas, depth, root, key, false)?;
+        self.finger.goes(place.leaf);
+        Some(place.leaf)
     }
 
     /// Does what [`remove_if`](Tree::remove_if) does, with the leaf that the key belongs to, which the removal may retire.
@@ -201,6 +230,8 @@ impl<K: IndexKey, V: Drop, const LEN: usize> Tree<K, V, LEN> {
             (λ pair. FnOnceTakesAt F.FnOnce condition pair.1) }
         ensures { Takes K.cmp (FnOnceReturnsAt F.FnOnce condition) self.old self.new key.now result }
     {
+        let next = self.arenas.leaf(leaf).next();
+        self.finger.leaves(leaf, next);
         match remove_alone(&mut self.arenas, depth, root, leaf, key, condition) {
             RemoveResult::Fail => false,
             RemoveResult::Success => {

@@ -1,7 +1,15 @@
 use Rattle.std.proofs.Common.{inl, inr, refl}
 use Rattle.tree_node.proofs.Common.{fits}
+use Rattle.tree_remove.proofs.Descents.{leaf_at}
+use Rattle.tree_remove.proofs.Ways.{leaf_on_way}
 use Rattle.tree_root.proofs.Taken.{kept, last_taken, root_level, still_part, taken}
 use Rattle.tree_root.proofs.tree.Tree.remove_alone.Goals as goal
+
+pub leaf-next-requires : goal.leaf-next-requires
+leaf-next-requires g c =
+    let tree = rw c.requires.root at c.requires.whole in
+    let way = c.requires.way.1 in
+    (search fits, (search fits, leaf_at c.args.self.now.arenas c.args.leaf (leaf_on_way g.met.K.Ord.total c.args.self.now.arenas c.args.key.now c.args.leaf c.args.depth tree.top.0 c.args.root c.requires.way.0 way.0 way.1 way.2)))
 
 pub remove_alone-requires : goal.remove_alone-requires
 remove_alone-requires g c =
