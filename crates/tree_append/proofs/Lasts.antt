@@ -15,14 +15,14 @@ use Rattle.tree_split.specs.Packed.{HasLast}
 use Rattle.tree_split.proofs.Edges.{last_stands}
 
 module _ {K V : Type 0} {LEN : ℕ} (cmp : K → K → Ordering) (a : TreeArenas K V LEN) (id : ℕ) where
-  -- a leaf node's unbounded child is the last leaf, and is in use
+  -- a leaf node ends the edge of nodes, and its unbounded child is in use
   pub leaf_last : (level : ℕ) → 0 < level → StandsOrRetired cmp level a id → (node : BranchOf K ℕ LEN) → get a.nodes id ≡ Some (Leaf node)
-      → (leaf : ℕ) → node.unbounded_child ≡ Some leaf → IsOnEdge level a.nodes id leaf × IsSome (get a.leaves leaf)
+      → (leaf : ℕ) → node.unbounded_child ≡ Some leaf → IsOnEdge (level - 1) a.nodes id id × IsSome (get a.leaves leaf)
   leaf_last zero deep there node here leaf is = absurd (omega (arith, deep))
   leaf_last (suc level) deep (inr retired) node here leaf is = let none = (rw here at retired).1 in absurd (cc)
   leaf_last (suc zero) deep (inl s) node here leaf is =
       let last : HasLast (get a.nodes id) leaf = rw here is in
-      ((leaf, last, refl), rw (last_stands cmp zero a id leaf last s).here refl)
+      (refl, rw (last_stands cmp zero a id leaf last s).here refl)
   leaf_last (suc (suc level)) deep (inl s) node here leaf is = absurd (rw (node_is (suc level) a None id None s (Leaf node) here) at s.kind)
 
   -- a node's unbounded child over nodes stands one level below, and what it ends in ends the node
@@ -30,7 +30,7 @@ module _ {K V : Type 0} {LEN : ℕ} (cmp : K → K → Ordering) (a : TreeArenas
     pub deep : 0 < level - 1
     pub stands : StandsOrRetired cmp (level - 1) a child
     pub live : IsRetired (level - 1) a child → ⊥
-    pub edge : (leaf : ℕ) → IsOnEdge (level - 1) a.nodes child leaf → IsOnEdge level a.nodes id leaf
+    pub edge : (node : ℕ) → IsOnEdge (level - 1 - 1) a.nodes child node → IsOnEdge (level - 1) a.nodes id node
 
   pub node_last : (level : ℕ) → 0 < level → StandsOrRetired cmp level a id → (node : BranchOf K ℕ LEN) → get a.nodes id ≡ Some (Internal node) → (child : ℕ) → node.unbounded_child ≡ Some child → NextBelow level child
   node_last zero deep there node here child is = absurd (omega (arith, deep))
@@ -40,7 +40,8 @@ module _ {K V : Type 0} {LEN : ℕ} (cmp : K → K → Ordering) (a : TreeArenas
       let last : HasLast (get a.nodes id) child = rw here is in
       let below = last_stands cmp (suc level) a id child last s in
       let live : IsRetired (suc level) a child → ⊥ = λ retired. let none = (rw below.here at retired).1 in let both : Some below.last ≡ None = sym below.last_is ∙ none in absurd (cc) in
-      record { deep = omega arith; stands = rw sub-one (inl below); live = rw sub-one live; edge = λ leaf edge. (child, last, rw sub-one at edge) }
+      let longer = λ (node : ℕ) (edge : IsOnEdge level a.nodes child node). let up : IsOnEdge (suc level) a.nodes id node = (child, last, edge) in up in
+      record { deep = omega arith; stands = rw sub-one (inl below); live = rw sub-one live; edge = λ node edge. rw sub-one (longer node (rw (sub-one, sub-one) at edge)) }
 
   -- a node without an unbounded child is retired
   pub retired_without : (level : ℕ) → 0 < level → StandsOrRetired cmp level a id → (node : NodeOf K LEN) → get a.nodes id ≡ Some node → unbounded node ≡ None → IsRetired level a id

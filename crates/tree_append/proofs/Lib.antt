@@ -1,3 +1,4 @@
 mod Edges
+mod Ends
 mod Lasts
 mod Stored
