@@ -109,9 +109,9 @@ module _ {K V : Type 0} {LEN : ℕ} {cmp : K → K → Ordering} (o : IsTotalOrd
 
     -- The way of the key leads along the edge: to the leaf node at its end, and to the leaf under it.
     pub edge_way : (level : ℕ) (low : Option K) (id : ℕ) → Stands cmp (suc level) a low id None → IsOnEdge (suc level) a.nodes id leaf → AllByRecursion (λ p. cmp p.0 key ≡ Less) (walk (suc level) a id)
-        → (node : ℕ) × IsOnWay cmp key level a id node × HasChildFor cmp key (get a.nodes node) leaf × IsOnEdge level a.nodes id node
-    edge_way zero low id s edge smaller = let along = step zero low id s edge smaller in (id, refl, rw edge.2 at along.which, refl)
+        → (node : ℕ) × IsOnWay cmp key level a id node × HasChildFor cmp key (get a.nodes node) leaf × IsOnEdge level a.nodes id node × AllByRecursion (λ p. cmp p.0 key ≡ Less) (walk 1 a node)
+    edge_way zero low id s edge smaller = let along = step zero low id s edge smaller in (id, refl, rw edge.2 at along.which, refl, smaller)
     edge_way (suc level) low id s edge smaller =
         let along = step (suc level) low id s edge smaller in
         let further = edge_way level along.bound edge.0 along.stands edge.2 along.smaller in
-        (further.0, (edge.0, along.which, further.1), further.2, (edge.0, edge.1, further.3))
+        (further.0, (edge.0, along.which, further.1), further.2, (edge.0, edge.1, further.3), further.4)

@@ -1,14 +1,15 @@
 //! Appends to the last leaf of a part of a tree.
-ghost use Rattle.std.specs.Prelude.{◌⊎◌, ◌-◌, ◌<◌, ℕ, None};
+ghost use Rattle.std.specs.Prelude.{◌≡◌, ◌⊎◌, ◌-◌, ◌<◌, ℕ, None};
 ghost use Rattle.std.specs.Option.{ForNone, ForSome};
 ghost use Rattle.slab.specs.Slab.{ContainsKey, get};
 ghost use Rattle.tree_append.specs.Appends.{Appends, AppendsBelow, HasNoLastLeaf, IsLastFor, IsLastLeaf, IsOnEdge};
+ghost use Rattle.tree_node.specs.Shape.{room};
 ghost use Rattle.tree_node.specs.Tree.{IsRetired, Stands};
 ghost use Rattle.tree_split.specs.Packed.{HasLast};
 
 use tree_array::array::{IndexKey, StoreResult};
-use tree_insert::insertion::insert_under_leaf_node;
 use tree_leaf::arena::{LeafId, NodeId};
+use tree_leaf_split::make_room;
 use tree_node::node::{ArenasOf, NodeOf};
 
 /// Returns the last leaf under the number of a node of this level, or `None` if the leaf has no pair or the node is
@@ -90,13 +91,15 @@ pub fn append_to<K: IndexKey, V: Drop, const LEN: usize>(
     Ok(())
 }
 
-/// Puts a pair behind all others of a part of a tree, as an insert does, by way of the unbounded children and not of the
-/// key. If the last leaf is full, it is split or built anew first.
+/// Puts a pair behind all others of a part of a tree whose last leaf is full. Finds the leaf and its node along the
+/// unbounded children, makes room as an insert does, by a split of the leaf or by building it anew, and appends the pair.
 ///
-/// Returns `Full`, and changes nothing, if the last leaf node has no slot for another keyed child. Returns `Err` if the
-/// leaf has to be split and memory is refused. Both hand the pair back. Runs in O(level). Allocates one leaf at most.
+/// Returns `Full`, and changes nothing, if the node has no slot for another keyed child. Returns `Err` if the leaf has to
+/// be split and memory is refused. Both hand the pair back. Runs in O(level). Allocates one leaf at most. Makes the
+/// comparisons of [`make_room`] alone.
 ///
-/// The caller must see that the last leaf under the number has a pair, and that the key is larger than all there.
+/// The caller must see that the last leaf under the number has pairs and no free slot, and that the key is larger than
+/// all there.
 #[inline(always)]
 pub fn append_under<K: IndexKey, V: Drop, const LEN: usize>(
     arenas: &mut ArenasOf<K, V, LEN>,
@@ -105,7 +108,7 @@ pub fn append_under<K: IndexKey, V: Drop, const LEN: usize>(
     key: K,
     val: V,
 ) -> Result<StoreResult<K, V>, (K, V)>
-    requires { (leaf : ℕ) × IsLastFor K.cmp level arenas.old id leaf key }
+    requires { (leaf : ℕ) × IsLastFor K.cmp level arenas.old id leaf key × (room 0 arenas.old leaf ≡ 0) }
     ensures { AppendsBelow K.cmp level arenas.old arenas.new id key val result }
 {
     let Some(end) = edge_at(arenas, level, id) else {
@@ -114,5 +117,12 @@ pub fn append_under<K: IndexKey, V: Drop, const LEN: usize>(
     if arenas.node(end.node).is_full() {
         return Ok(StoreResult::Full(key, val));
     }
-    insert_under_leaf_node::<true, K, V, LEN>(arenas, end.node, end.leaf, true, key, val)
+    match make_room(arenas, end.node, end.leaf, &key) {
+        Err(_) => Err((key, val)),
+        Ok(None) => unreachable!(),
+        Ok(Some(home)) => {
+            arenas.leaf_mut(home).array_mut().append(key, val);
+            Ok(StoreResult::New)
+        }
+    }
 }

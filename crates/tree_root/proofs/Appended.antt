@@ -1,15 +1,19 @@
 -- What an append to the last leaf comes to.
 use Rattle.std.proofs.Common.{◌≡◌, ◌⊎◌, ℕ, true, false, Option, Some, None, Result, inl, inr, refl, sym, ◌∙◌}
 use Rattle.std.specs.List.{AllByRecursion}
+use Rattle.std.specs.Option.{ForSome}
 use Rattle.std.specs.declared.cmp.Ordering.{Ordering}
 use Rattle.std.specs.declared.cmp.Ordering.TheVariants.{Less}
 use Rattle.std.specs.Cmp.{IsTotalOrder}
 use Rattle.slab.specs.Slab.{get}
 use Rattle.tree_append.specs.Appends.{AppendsUnder, IsLastFor, IsLastLeaf}
 use Rattle.tree_array.specs.declared.answers.StoreResult.{StoreResult}
+use Rattle.tree_array.specs.Insertion.{IsFull}
 use Rattle.tree_descent.proofs.Ways.{part_not_retired}
 use Rattle.tree_insert.specs.Inserts.{InsertsUnder, asks_split}
 use Rattle.tree_node.specs.declared.node.NodeOf.{NodeOf}
+use Rattle.tree_leaf.specs.declared.leaf.LeafOf.{LeafOf}
+use Rattle.tree_node.specs.Shape.{found_free}
 use Rattle.tree_node.specs.Tree.{IsRetiredNode, Stands}
 use Rattle.tree_node.specs.Whole.{IsRetiredRoot, IsTree, walk_under}
 use Rattle.tree_node.proofs.Whole.{tree_part}
@@ -18,11 +22,17 @@ use Rattle.tree_root.specs.declared.tree.Tree.{Tree}
 use Rattle.tree_root.specs.Trees.{IsWhole, Stores, pairs_of}
 use Rattle.tree_root.proofs.Storing.{stored_under}
 use Rattle.tree_split.specs.Packed.{HasLast}
+use Rattle.tree_split.proofs.Fulls.{none_free}
 
 -- a retired node has no last child
 no_last : {K : Type 0} {LEN : ℕ} (slot : Option (NodeOf K LEN)) → IsRetiredNode slot → (child : ℕ) → HasLast slot child → ⊥
 no_last None retired child last = last
 no_last (Some node) retired child last = let both : None ≡ Some child = sym retired.1 ∙ last in cc
+
+-- a leaf whose array is full takes no pair
+pub full_slot : {K V : Type 0} {LEN : ℕ} (slot : Option (LeafOf K V LEN)) → ForSome slot (λ leaf. IsFull LEN leaf.array) → found_free slot ≡ 0
+full_slot None full = refl
+full_slot {LEN = LEN} (Some leaf) full = none_free LEN leaf.array (full leaf refl)
 
 module _ {K V : Type 0} {LEN : ℕ} (cmp : K → K → Ordering) (old : Tree K V LEN) (leaf : ℕ) (key : K) where
   -- the root, under which the leaf is the last one for the key
@@ -52,14 +62,14 @@ module _ {K V : Type 0} {LEN : ℕ} (cmp : K → K → Ordering) (old : Tree K V
       by_root None is = absurd (rw is at last)
       by_root (Some root) is = record { level = root.1; id = root.0; root = is; for = last_for_root root.0 root.1 is whole last smaller }
 
-  module _ (o : IsTotalOrder cmp) (new : Tree K V LEN) (val : V) (whole : IsWhole cmp old) (under : LastUnderRoot) (same : new.root ≡ old.root) where
+  module _ (o : IsTotalOrder cmp) (new : Tree K V LEN) (val : V) (id level : ℕ) (root : old.root ≡ Some (id, level)) (whole : IsWhole cmp old) (for : IsLastFor cmp level old.arenas id leaf key) (same : new.root ≡ old.root) where
     -- the pair is stored in the tree, or refused, as under its root
-    pub stored_last : (result : Result (StoreResult K V) (K × V)) → asks_split result ≡ false → InsertsUnder cmp true under.level old.arenas new.arenas under.id result key val → Stores cmp true old new key val result
+    pub stored_last : (result : Result (StoreResult K V) (K × V)) → asks_split result ≡ false → InsertsUnder cmp true level old.arenas new.arenas id result key val → Stores cmp true old new key val result
     stored_last result no_split inserts =
-        stored_under cmp true old new key val under.id under.level result under.root (same ∙ under.root) whole (λ part. inserts)
-        (λ retired. absurd (part_not_retired o old.arenas key under.level under.for.deep under.id under.for.part retired))
+        stored_under cmp true old new key val id level result root (same ∙ root) whole (λ part. inserts)
+        (λ retired. absurd (part_not_retired o old.arenas key level for.deep id for.part retired))
         o no_split
 
     -- and the leaf is the last one still
-    pub last_still : AppendsUnder cmp under.level old.arenas new.arenas under.id leaf key val → IsLast new leaf
-    last_still appends = rw (same ∙ under.root) appends.last
+    pub last_still : AppendsUnder cmp level old.arenas new.arenas id leaf key val → IsLast new leaf
+    last_still appends = rw (same ∙ root) appends.last

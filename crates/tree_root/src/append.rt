@@ -4,6 +4,7 @@ ghost use Rattle.std.specs.List.{AllByRecursion};
 ghost use Rattle.std.specs.Option.{ForSome};
 ghost use Rattle.std.specs.declared.cmp.Ordering.TheVariants.{Less};
 ghost use Rattle.tree_array.specs.Length.{IsLen};
+ghost use Rattle.tree_node.specs.Shape.{room};
 ghost use Rattle.tree_root.specs.Lasts.{IsLast, appended};
 ghost use Rattle.tree_model.specs.Pairs.{IsAscending};
 ghost use Rattle.tree_root.specs.Trees.{IsWhole, Stores, packed_of, pairs_of};
@@ -80,7 +81,7 @@ impl<K: IndexKey, V: Drop, const LEN: usize> Tree<K, V, LEN> {
     fn append_behind(&mut self, last: &mut Option<LeafId>, key: K, val: V) -> Result<(), (K, V)>
         requires len { IsLen LEN }
         requires whole { IsWhole K.cmp self.old }
-        requires leaf { (leaf : ℕ) × IsLast self.old leaf }
+        requires full { (leaf : ℕ) × IsLast self.old leaf × (room 0 self.old.arenas leaf ≡ 0) }
         requires beyond { AllByRecursion (λ p. K.cmp p.0 key ≡ Less) (pairs_of self.old) }
         ensures stores { Stores K.cmp true self.old self.new key val (appended result) }
         ensures last { IfOk result (λ _. ForSome last.new (IsLast self.new)) }
