@@ -65,7 +65,9 @@ module _ {K V : Type 0} {LEN : ℕ} {cmp : K → K → Ordering} (o : IsTotalOrd
       larger_home smaller =
           let all : AllByRecursion (λ p. cmp p.0 key ≡ Less) (walk 1 made id) = rw roomy.pairs smaller in
           let parted = rw (old_walk o 0 made id home key part_made goes None None part_made.stands made (unchanged_replaces 0 made made (still made) (home ∷ []))) at all in
-          rw (walk-leaf made home slot there) at (all_front _ _ _ (all_behind _ _ _ parted))
+          let behind = all_behind (λ (p : K × V). cmp p.0 key ≡ Less) _ _ parted in
+          let here : AllByRecursion (λ p. cmp p.0 key ≡ Less) (walk 0 made home) = all_front (λ (p : K × V). cmp p.0 key ≡ Less) _ _ behind in
+          rw (walk-leaf made home slot there) at here
 
       -- and the pair is stored there
       pub appended_home : (array : Arrivals K V) → IsStore cmp LEN true slot.array key val New array → InsertsUnder cmp true 1 a (with_array made home slot array) id (Ok New) key val
