@@ -1,4 +1,4 @@
-use Rattle.std.proofs.Common.{inl, refl, arith, Some, None, Ok, Err}
+use Rattle.std.proofs.Common.{inl, refl, arith, Some, Ok, Err}
 use Rattle.tree_append.proofs.Ends.{at_end, inserts_there, room_left}
 use Rattle.tree_append.proofs.Rooms.{appended_home, larger_home, part_made, refused_home, room_home}
 use Rattle.tree_array.specs.declared.answers.StoreResult.TheVariants.{New}
