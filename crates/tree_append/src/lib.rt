@@ -3,4 +3,4 @@
 
 mod appending;
 
-pub use appending::{append_to, last_leaf_at};
+pub use appending::{LastPlace, append_leaf, append_to, last_leaf_at};

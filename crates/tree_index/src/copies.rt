@@ -13,7 +13,7 @@ ghost use Rattle.tree_root.specs.Trees.{IsWhole, pairs_of};
 use crate::index::TreeIndexOf;
 use std::alloc::{AllocError, Global};
 use tree_array::array::IndexKey;
-use tree_leaf::arena::LeafId;
+use tree_root::LastPlace;
 use tree_ranges::iter::{IterOf, IterOver};
 use tree_root::Tree;
 
@@ -72,7 +72,7 @@ fn append_clones<K: IndexKey, V: Drop + Clone, const LEN: usize>(
 #[inline(always)]
 fn append_clone<K: IndexKey, V: Drop + Clone, const LEN: usize>(
     tree: &mut Tree<K, V, LEN>,
-    last: &mut Option<LeafId>,
+    last: &mut Option<LastPlace>,
     key: &K,
     value: &V,
 ) -> Result<(), AllocError>

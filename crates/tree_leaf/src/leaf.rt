@@ -9,7 +9,7 @@ use tree_array::array::ArrayOf;
 
 mod links;
 
-pub use links::{add_before, splice_link, unlink};
+pub use links::{add_after, add_before, splice_link, unlink};
 
 /// A leaf: an array of `LEN` slots, 7 or 15, and the numbers of the leaves before and after it.
 #[derive(Drop)]

@@ -8,6 +8,7 @@ ghost use Rattle.tree_node.specs.Tree.{HasKind, keyed, unbounded};
 use crate::branch::BranchOf;
 use crate::node::NodeOf;
 use tree_array::array::{ArrayOf, RemoveResult};
+use tree_leaf::arena::LeafId;
 
 impl<K: Ord + Drop, I: Copy + Drop, const LEN: usize> BranchOf<K, I, LEN> {
     /// Moves the children up to the one at this place to a new node, which has that one as its unbounded child. Returns
@@ -57,6 +58,23 @@ impl<K: Ord + Drop, I: Copy + Drop, const LEN: usize> BranchOf<K, I, LEN> {
     }
 }
 
+impl<K: Ord + Drop, I: Copy + Drop, const LEN: usize> BranchOf<K, I, LEN> {
+    /// Puts a child behind the unbounded one, as [`NodeOf::push_leaf`] does.
+    fn push(&mut self, separator: K, child: I)
+        requires last { IsSome self.old.unbounded_child }
+        requires room { IsFull LEN self.old.children → ⊥ }
+        requires larger { AllByRecursion (λ c. K.cmp c.0 separator ≡ Less) self.old.children.entries }
+        ensures { (last : I) → self.old.unbounded_child ≡ Some last → (self.new.unbounded_child ≡ Some child)
+            × (self.new.children ≡ stored K.cmp self.old.children separator last) }
+    {
+        let Some(last) = self.unbounded_child else {
+            unreachable!()
+        };
+        self.children.append(separator, last);
+        self.unbounded_child = Some(child);
+    }
+}
+
 impl<K: Ord + Drop, const LEN: usize> NodeOf<K, LEN> {
     /// Builds the array of the keyed children anew, in ascending order.
     pub fn rebuild(&mut self)
@@ -102,6 +120,21 @@ impl<K: Ord + Drop, const LEN: usize> NodeOf<K, LEN> {
             NodeOf::Leaf(node) => {
                 let _ = node.children.take(slot);
             }
+        }
+    }
+
+    /// Puts another leaf behind the unbounded child of a leaf node: that child comes under a separator, which must be larger
+    /// than all, and the leaf becomes the unbounded one. Makes no comparisons. The node must have a slot left.
+    pub fn push_leaf(&mut self, separator: K, leaf: LeafId)
+        requires kind { HasKind 0 self.old }
+        requires last { IsSome (unbounded self.old) }
+        requires room { IsFull LEN (keyed self.old) → ⊥ }
+        requires larger { AllByRecursion (λ c. K.cmp c.0 separator ≡ Less) (keyed self.old).entries }
+        ensures { PushesChild K.cmp self.old self.new separator leaf }
+    {
+        match self {
+            NodeOf::Leaf(node) => node.push(separator, leaf),
+            NodeOf::Internal(_) => unreachable!(),
         }
     }
 

@@ -10,9 +10,8 @@ ghost use Rattle.tree_root.specs.Trees.{IsWhole, Stores, packed_of, pairs_of};
 
 use crate::tree::{Stored, Tree};
 use std::alloc::{AllocError, Global};
-use tree_append::{append_to, last_leaf_at};
+use tree_append::{LastPlace, append_leaf, append_to, last_leaf_at};
 use tree_array::array::IndexKey;
-use tree_leaf::arena::LeafId;
 use tree_model::InsertError;
 
 impl<K: IndexKey, V: Drop, const LEN: usize> Tree<K, V, LEN> {
@@ -56,7 +55,7 @@ impl<K: IndexKey, V: Drop, const LEN: usize> Tree<K, V, LEN> {
     ///
     /// The caller must pass no leaf but the last one.
     #[inline(always)]
-    pub fn append(&mut self, last: &mut Option<LeafId>, key: K, val: V) -> Result<(), (K, V)>
+    pub fn append(&mut self, last: &mut Option<LastPlace>, key: K, val: V) -> Result<(), (K, V)>
         requires len { IsLen LEN }
         requires whole { IsWhole K.cmp self.old }
         requires last { ForSome last.old (IsLast self.old) }
@@ -64,18 +63,46 @@ impl<K: IndexKey, V: Drop, const LEN: usize> Tree<K, V, LEN> {
         ensures stores { Stores K.cmp true self.old self.new key val (appended result) }
         ensures last { IfOk result (λ _. ForSome last.new (IsLast self.new)) }
     {
-        let Some(leaf) = *last else {
+        let Some(place) = *last else {
             return self.append_below(last, key, val);
         };
-        match append_to(&mut self.arenas, leaf, key, val) {
+        match append_to(&mut self.arenas, place.leaf, key, val) {
             Ok(()) => Ok(()),
+            Err((key, val)) => self.append_behind(last, place, key, val),
+        }
+    }
+
+    /// Appends a pair behind the last leaf, which is full. Its own function, so that the common append stays short.
+    #[inline(never)]
+    fn append_behind(
+        &mut self,
+        last: &mut Option<LastPlace>,
+        place: LastPlace,
+        key: K,
+        val: V,
+    ) -> Result<(), (K, V)>
+        requires len { IsLen LEN }
+        requires whole { IsWhole K.cmp self.old }
+        requires last { IsLast self.old place }
+        requires beyond { AllByRecursion (λ p. K.cmp p.0 key ≡ Less) (pairs_of self.old) }
+        ensures stores { Stores K.cmp true self.old self.new key val (appended result) }
+        ensures last { IfOk result (λ _. ForSome last.new (IsLast self.new)) }
+    {
+        match append_leaf(&mut self.arenas, place, key, val) {
+            Ok(leaf) => {
+                *last = Some(LastPlace {
+                    node: place.node,
+                    leaf,
+                });
+                Ok(())
+            }
             Err((key, val)) => self.append_below(last, key, val),
         }
     }
 
     /// Appends a pair by a descent. Its own function, so that the common append stays short.
     #[inline(never)]
-    fn append_below(&mut self, last: &mut Option<LeafId>, key: K, val: V) -> Result<(), (K, V)>
+    fn append_below(&mut self, last: &mut Option<LastPlace>, key: K, val: V) -> Result<(), (K, V)>
         requires len { IsLen LEN }
         requires whole { IsWhole K.cmp self.old }
         requires beyond { AllByRecursion (λ p. K.cmp p.0 key ≡ Less) (pairs_of self.old) }
@@ -94,7 +121,7 @@ impl<K: IndexKey, V: Drop, const LEN: usize> Tree<K, V, LEN> {
     }
 
     /// Returns the last leaf, or `None` if there is none or it has no pair. Runs in O(depth), and makes no comparisons.
-    fn last_leaf(&self) -> Option<LeafId>
+    fn last_leaf(&self) -> Option<LastPlace>
         requires { IsWhole K.cmp self.now }
         ensures { ForSome result (IsLast self.now) }
     {

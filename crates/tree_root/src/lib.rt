@@ -7,3 +7,4 @@ mod tree;
 mod values;
 
 pub use tree::{Stored, Tree};
+pub use tree_append::LastPlace;

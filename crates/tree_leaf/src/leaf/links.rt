@@ -62,6 +62,26 @@ pub fn add_before<K: Ord + Drop, V: Drop, N: Drop, const LEN: usize>(
     }
 }
 
+/// Adds a leaf to the arena and links it right after the one at `at`, as [`add_before`] does before it.
+pub fn add_after<K: Ord + Drop, V: Drop, N: Drop, const LEN: usize>(
+    arenas: &mut SlotsOf<K, V, N, LEN>,
+    at: LeafId,
+    leaf: LeafOf<K, V, LEN>,
+) -> Result<LeafId, LeafOf<K, V, LEN>>
+    requires { (front back : _) × IsChain arenas.old.leaves (front ++ at ∷ back) }
+    ensures { AddsAfter arenas.old arenas.new at leaf result }
+{
+    let next = arenas.leaf(at).next;
+    match arenas.add_leaf(leaf) {
+        Ok(id) => {
+            splice_link(arenas, Some(id), next);
+            splice_link(arenas, Some(at), Some(id));
+            Ok(id)
+        }
+        Err(leaf) => Err(leaf),
+    }
+}
+
 /// Sets which leaf comes after the one at `at`, if that is one.
 fn set_next<K: Ord + Drop, V: Drop, N: Drop, const LEN: usize>(
     arenas: &mut SlotsOf<K, V, N, LEN>,
