@@ -132,7 +132,7 @@ pub fn insert_crowded<const UPSERT: bool, K: IndexKey, V: Drop, const LEN: usize
 
 /// Inserts a pair, as [`insert_at`] does, under a leaf node in the leaf that its key belongs to. If the leaf is full, it
 /// is split or built anew first. `rightmost` says that the way down has kept to the unbounded children.
-fn insert_under_leaf_node<const UPSERT: bool, K: IndexKey, V: Drop, const LEN: usize>(
+pub fn insert_under_leaf_node<const UPSERT: bool, K: IndexKey, V: Drop, const LEN: usize>(
     arenas: &mut ArenasOf<K, V, LEN>,
     id: NodeId,
     leaf: LeafId,

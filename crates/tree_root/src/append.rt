@@ -10,8 +10,9 @@ ghost use Rattle.tree_root.specs.Trees.{IsWhole, Stores, packed_of, pairs_of};
 
 use crate::tree::{Stored, Tree};
 use std::alloc::{AllocError, Global};
-use tree_append::{LastPlace, append_leaf, append_to, last_leaf_at};
-use tree_array::array::IndexKey;
+use tree_append::{LastPlace, append_to, last_leaf_at};
+use tree_insert::insertion::insert_under_leaf_node;
+use tree_array::array::{IndexKey, StoreResult};
 use tree_model::InsertError;
 
 impl<K: IndexKey, V: Drop, const LEN: usize> Tree<K, V, LEN> {
@@ -88,15 +89,18 @@ impl<K: IndexKey, V: Drop, const LEN: usize> Tree<K, V, LEN> {
         ensures stores { Stores K.cmp true self.old self.new key val (appended result) }
         ensures last { IfOk result (λ _. ForSome last.new (IsLast self.new)) }
     {
-        match append_leaf(&mut self.arenas, place, key, val) {
-            Ok(leaf) => {
-                *last = Some(LastPlace {
-                    node: place.node,
-                    leaf,
-                });
-                Ok(())
-            }
-            Err((key, val)) => self.append_below(last, key, val),
+        match insert_under_leaf_node::<true, K, V, LEN>(
+            &mut self.arenas,
+            place.node,
+            place.leaf,
+            true,
+            key,
+            val,
+        ) {
+            Ok(StoreResult::New) => Ok(()),
+            Ok(StoreResult::Full(key, val)) => self.append_below(last, key, val),
+            Ok(_) => unreachable!(),
+            Err(pair) => Err(pair),
         }
     }
 
