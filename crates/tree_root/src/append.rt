@@ -11,8 +11,8 @@ ghost use Rattle.tree_root.specs.Trees.{IsWhole, Stores, packed_of, pairs_of};
 use crate::tree::{Stored, Tree};
 use std::alloc::{AllocError, Global};
 use tree_append::{LastPlace, append_to, last_leaf_at};
-use tree_insert::insertion::insert_under_leaf_node;
-use tree_array::array::{IndexKey, StoreResult};
+use tree_leaf_split::make_room;
+use tree_array::array::IndexKey;
 use tree_model::InsertError;
 
 impl<K: IndexKey, V: Drop, const LEN: usize> Tree<K, V, LEN> {
@@ -89,18 +89,14 @@ impl<K: IndexKey, V: Drop, const LEN: usize> Tree<K, V, LEN> {
         ensures stores { Stores K.cmp true self.old self.new key val (appended result) }
         ensures last { IfOk result (λ _. ForSome last.new (IsLast self.new)) }
     {
-        match insert_under_leaf_node::<true, K, V, LEN>(
-            &mut self.arenas,
-            place.node,
-            place.leaf,
-            true,
-            key,
-            val,
-        ) {
-            Ok(StoreResult::New) => Ok(()),
-            Ok(StoreResult::Full(key, val)) => self.append_below(last, key, val),
-            Ok(_) => unreachable!(),
-            Err(pair) => Err(pair),
+        match make_room(&mut self.arenas, place.node, place.leaf, &key) {
+            Ok(Some(home)) => {
+                self.arenas.leaf_mut(home).array_mut().append(key, val);
+                *last = Some(LastPlace { node: place.node, leaf: home });
+                Ok(())
+            }
+            Ok(None) => self.append_below(last, key, val),
+            Err(_) => Err((key, val)),
         }
     }
 
