@@ -17,7 +17,7 @@ use std::cmp::Ordering;
 use std::mem;
 use tree_array::array::{ArrayOf, IndexKey};
 use tree_leaf::arena::{LeafId, NodeId};
-use tree_leaf::leaf::{LeafOf, add_before};
+use tree_leaf::leaf::{LeafOf, add_after, add_before};
 use tree_node::node::{ArenasOf, NodeOf};
 use tree_split::put_keyed;
 
@@ -123,6 +123,9 @@ fn split_leaf<K: IndexKey, V: Drop, const LEN: usize>(
     ensures err { OnErr result (Unchanged arenas.old arenas.new) }
 {
     let separator = separator_at(arenas.leaf(target).array(), count - 1)?;
+    if count as usize == LEN {
+        return follow_leaf(arenas, id, target, separator);
+    }
     arenas.reserve(1, 0)?;
     let mut low = LeafOf::new();
     cut_low(arenas.leaf_mut(target).array_mut(), count, low.array_mut());
@@ -132,6 +135,21 @@ fn split_leaf<K: IndexKey, V: Drop, const LEN: usize>(
     let home = side_for(key, &separator, low_id, target);
     put_leaf(arenas.node_mut(id), separator, low_id);
     Ok(home)
+}
+
+/// Puts a new leaf behind a last one that stays whole, and returns it. That one becomes the last keyed child of its node, and the
+/// new leaf the unbounded one.
+fn follow_leaf<K: IndexKey, V: Drop, const LEN: usize>(
+    arenas: &mut ArenasOf<K, V, LEN>,
+    id: NodeId,
+    target: LeafId,
+    separator: K,
+) -> Result<LeafId, AllocError> {
+    let Ok(last) = add_after(arenas, target, LeafOf::new()) else {
+        return Err(AllocError);
+    };
+    arenas.node_mut(id).push_leaf(separator, last);
+    Ok(last)
 }
 
 /// Returns the lower of two leaves if the key is at most the separator between them, else the upper one.
