@@ -1,21 +1,43 @@
 -- The way of a key that is larger than all leads along the right edge.
-use Rattle.std.proofs.Common.{◌≡◌, ℕ, zero, suc, ◌<◌, List, [], ◌∷◌, ◌++◌, map, length, length-append, Option, Some, None, refl, sym, ap, ◌∙◌, arith}
+use Rattle.std.proofs.Common.{◌≡◌, ℕ, zero, suc, ◌-◌, ◌<◌, List, [], ◌∷◌, ◌++◌, map, length, length-append, Option, Some, None, refl, sym, ap, ◌∙◌, arith, sub-one}
 use Rattle.std.specs.List.{flat_map, AllByRecursion}
 use Rattle.std.specs.declared.cmp.Ordering.{Ordering}
 use Rattle.std.specs.declared.cmp.Ordering.TheVariants.{Less}
 use Rattle.std.specs.Cmp.{IsTotalOrder}
 use Rattle.std.proofs.lemmas.List.{append-nil}
 use Rattle.std.proofs.lemmas.List.Concat.{flat_map-append}
-use Rattle.slab.specs.Slab.{get}
+use Rattle.slab.specs.Slab.{Slab, get}
 use Rattle.tree_append.specs.Appends.{IsOnEdge}
 use Rattle.tree_descent.specs.Ways.{IsOnWay}
 use Rattle.tree_leaf.specs.Entries.{leaf_entries}
+use Rattle.tree_node.specs.declared.node.NodeOf.{NodeOf}
 use Rattle.tree_node.specs.Arenas.{TreeArenas}
+use Rattle.tree_node.specs.Parts.{IsPart, Replaces}
 use Rattle.tree_node.specs.Tree.{AreParted, HasChildFor, IsAbove, Stands, child_at, is_from, keyed, walk}
 use Rattle.tree_node.proofs.Bare.{parted_last}
+use Rattle.tree_node.proofs.ChildChanges.{child_part, node_replaces, same_node}
 use Rattle.tree_node.proofs.Cuts.{all_behind}
 use Rattle.tree_node.proofs.Walks.{above_next, walk-children, walk_above}
 use Rattle.tree_split.specs.Packed.{HasLast}
+use Rattle.tree_split.proofs.Edges.{one_last}
+
+module _ {K : Type 0} {LEN : ℕ} (nodes : Slab (NodeOf K LEN)) where
+  -- one number stands at the end of so many steps
+  pub one_end : (steps : ℕ) (id x y : ℕ) → IsOnEdge steps nodes id x → IsOnEdge steps nodes id y → x ≡ y
+  one_end zero id x y first second = sym first ∙ second
+  one_end (suc steps) id x y first second =
+      let same : first.0 ≡ second.0 = one_last (get nodes id) first.0 second.0 first.1 second.1 in
+      one_end steps second.0 x y (rw same at first.2) second.2
+
+  -- a step more
+  edge_on : (steps : ℕ) (id node child : ℕ) → IsOnEdge steps nodes id node → HasLast (get nodes node) child → IsOnEdge (suc steps) nodes id child
+  edge_on zero id node child edge last = (child, rw edge last, refl)
+  edge_on (suc steps) id node child edge last = (edge.0, edge.1, edge_on steps edge.0 node child edge.2 last)
+
+  -- so the last child of the node at the end stands one level below it
+  pub edge_below : (level : ℕ) → 0 < level → (id node child : ℕ) → IsOnEdge (level - 1) nodes id node → HasLast (get nodes node) child → IsOnEdge level nodes id child
+  edge_below zero deep id node child edge last = absurd (omega (arith, deep))
+  edge_below (suc level) deep id node child edge last = edge_on level id node child (rw sub-one at edge) last
 
 module _ {K : Type 0} {cmp : K → K → Ordering} (o : IsTotalOrder cmp) (key : K) where
   -- a key above the first of some pairs is above what they are above
@@ -87,11 +109,23 @@ module _ {K V : Type 0} {LEN : ℕ} {cmp : K → K → Ordering} (o : IsTotalOrd
     larger_there zero low id s edge smaller = rw edge at smaller
     larger_there (suc level) low id s edge smaller = let along = step level low id s edge smaller in larger_there level along.bound edge.0 along.stands edge.2 along.smaller
 
-    -- The way of the key leads along the edge: to a leaf node, and to the leaf under it.
+    -- The way of the key leads along the edge: to the leaf node at its end, and to the leaf under it.
     pub edge_way : (level : ℕ) (low : Option K) (id : ℕ) → Stands cmp (suc level) a low id None → IsOnEdge (suc level) a.nodes id leaf → AllByRecursion (λ p. cmp p.0 key ≡ Less) (walk (suc level) a id)
-        → (node : ℕ) × IsOnWay cmp key level a id node × HasChildFor cmp key (get a.nodes node) leaf
-    edge_way zero low id s edge smaller = let along = step zero low id s edge smaller in (id, refl, rw edge.2 at along.which)
+        → (node : ℕ) × IsOnWay cmp key level a id node × HasChildFor cmp key (get a.nodes node) leaf × IsOnEdge level a.nodes id node × AllByRecursion (λ p. cmp p.0 key ≡ Less) (walk 1 a node)
+    edge_way zero low id s edge smaller = let along = step zero low id s edge smaller in (id, refl, rw edge.2 at along.which, refl, smaller)
     edge_way (suc level) low id s edge smaller =
         let along = step (suc level) low id s edge smaller in
         let further = edge_way level along.bound edge.0 along.stands edge.2 along.smaller in
-        (further.0, (edge.0, along.which, further.1), further.2)
+        (further.0, (edge.0, along.which, further.1), further.2, (edge.0, edge.1, further.3), further.4)
+
+    -- a change under the node at the end of the edge leaves the edge
+    pub edge_stays : (new : TreeArenas K V LEN) (node : ℕ) → Replaces 1 a new (node ∷ []) (node ∷ []) → (level id : ℕ) → IsPart cmp (suc level) a id → IsOnEdge (suc level) a.nodes id leaf → AllByRecursion (λ p. cmp p.0 key ≡ Less) (walk (suc level) a id)
+        → IsOnEdge level a.nodes id node → IsOnEdge level new.nodes id node × Replaces (suc level) a new (id ∷ []) (id ∷ [])
+    edge_stays new node replaces zero id part edge smaller down = (down, rw down replaces)
+    edge_stays new node replaces (suc level) id part edge smaller down =
+        let along = step (suc level) None id part.stands edge smaller in
+        let same : down.0 ≡ edge.0 = one_last (get a.nodes id) down.0 edge.0 down.1 edge.1 in
+        let below = edge_stays new node replaces level edge.0 (child_part o (suc level) a id edge.0 key part along.which None None part.stands) edge.2 along.smaller (rw same at down.2) in (
+          (edge.0, rw (same_node o (suc level) a id edge.0 key part along.which None None part.stands new below.1) edge.1, below.0),
+          node_replaces o (suc level) a id edge.0 key part along.which None None part.stands new below.1,
+        )

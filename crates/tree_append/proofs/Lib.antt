@@ -1,3 +1,5 @@
 mod Edges
+mod Ends
 mod Lasts
+mod Rooms
 mod Stored

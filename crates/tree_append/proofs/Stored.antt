@@ -13,7 +13,7 @@ use Rattle.tree_insert.specs.Inserts.{InsertsUnder}
 use Rattle.tree_insert.proofs.Inserts.{inserts_in_leaf}
 use Rattle.tree_insert.proofs.Ways.{inserts_on_way, takes_one}
 use Rattle.tree_leaf.specs.declared.leaf.LeafOf.{LeafOf}
-use Rattle.tree_leaf.specs.Entries.{found_entries}
+use Rattle.tree_leaf.specs.Entries.{found_entries, leaf_entries}
 use Rattle.tree_model.specs.Pairs.{above, below}
 use Rattle.tree_node.specs.Arenas.{TreeArenas}
 use Rattle.tree_node.proofs.LeafWrites.{with_array, here_now}
@@ -23,6 +23,11 @@ use Rattle.tree_model.proofs.LookUps.{put_beyond}
 pub some_leaf : {K V : Type 0} {LEN : ℕ} (slot : Option (LeafOf K V LEN)) → 0 < length (found_entries slot) → IsSome slot
 some_leaf None some = absurd (omega (arith, some))
 some_leaf (Some leaf) some = refl
+
+-- a leaf that has got a pair has one
+pub some_stored : {K V : Type 0} {LEN : ℕ} (cmp : K → K → Ordering) (a : TreeArenas K V LEN) (id : ℕ) (leaf : LeafOf K V LEN) (array : Arrivals K V) (key : K) (val : V) → get a.leaves id ≡ Some leaf → IsStored cmp LEN true leaf.array key val array
+    → 0 < length (leaf_entries (with_array a id leaf array).leaves id)
+some_stored cmp a id leaf array key val was stored = rw (here_now a id leaf array was, stored.new_is) (omega (arith, length-append (below cmp leaf.array.entries key) ((key, val) ∷ above cmp leaf.array.entries key)))
 
 module _ {K V : Type 0} {LEN : ℕ} {cmp : K → K → Ordering} (o : IsTotalOrder cmp) (a : TreeArenas K V LEN) (id : ℕ) (leaf : LeafOf K V LEN) (array : Arrivals K V) (key : K) (val : V) (was : get a.leaves id ≡ Some leaf) (room : IsFull LEN leaf.array → ⊥) where
   abbrev new : TreeArenas K V LEN
@@ -37,8 +42,7 @@ module _ {K V : Type 0} {LEN : ℕ} {cmp : K → K → Ordering} (o : IsTotalOrd
 
   -- the leaf is the last one still
   last_still : (level top : ℕ) → IsLastLeaf level a top id → IsStored cmp LEN true leaf.array key val array → IsLastLeaf level new top id
-  last_still level top last stored =
-      (last.0, rw (here_now a id leaf array was, stored.new_is) (omega (arith, length-append (below cmp leaf.array.entries key) ((key, val) ∷ above cmp leaf.array.entries key))))
+  last_still level top last stored = (last.0, some_stored cmp a id leaf array key val was stored)
 
   pub appended : IsStore cmp LEN true leaf.array key val New array → (level top : ℕ) → IsLastFor cmp level a top id key → AppendsUnder cmp level a new top id key val
   appended stores level top for =

@@ -3,4 +3,4 @@
 
 mod appending;
 
-pub use appending::{append_to, last_leaf_at};
+pub use appending::{append_to, append_under, last_leaf_at};

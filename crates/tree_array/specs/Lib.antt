@@ -4,5 +4,6 @@ pub mod Length
 pub mod Moves
 pub mod Removal
 pub mod Sound
+pub mod Spans
 pub mod View
 pub mod Walk

@@ -1,9 +1,12 @@
 //! The way down from a node to the leaf that a key belongs to.
-ghost use Rattle.std.specs.Prelude.{◌≡◌, ◌⊎◌, ◌-◌, ◌<◌, MatchOption};
+ghost use Rattle.std.specs.Prelude.{◌≡◌, ◌↔◌, ◌⊎◌, ◌-◌, ◌<◌, ℕ, IsTrue, MatchOption, Some};
 ghost use Rattle.slab.specs.Slab.{get};
-ghost use Rattle.tree_descent.specs.Ways.{IsOnWay};
+ghost use Rattle.tree_array.specs.Spans.{Spans};
+ghost use Rattle.tree_descent.specs.Ways.{IsOnWay, LeadsTo};
+ghost use Rattle.tree_leaf.specs.Entries.{leaf_entries};
 ghost use Rattle.tree_node.specs.Parts.{IsPart};
 ghost use Rattle.tree_node.specs.Tree.{HasChildFor, IsRetired};
+ghost use Rattle.tree_node.specs.Whole.{IsTree};
 
 use tree_leaf::arena::{LeafId, NodeId};
 use tree_node::node::{ArenasOf, NodeOf};
@@ -87,4 +90,23 @@ pub fn leaf_for<K: Ord + Drop, V: Drop, const LEN: usize>(
         leaf: child_by_key(&node.children, unbounded, key),
         rightmost: false,
     })
+}
+
+/// Returns whether a leaf has this number, and the key lies between its first and its last one, or is one of these.
+///
+/// In a whole tree the key then belongs to this leaf. Reads no node, and makes at most two comparisons.
+#[inline(always)]
+pub fn holds<K: Ord + Drop, V: Drop, const LEN: usize>(
+    arenas: &ArenasOf<K, V, LEN>,
+    leaf: LeafId,
+    key: &K,
+) -> bool
+    ensures spans { IsTrue result ↔ Spans K.cmp (leaf_entries arenas.now.leaves leaf) key.now }
+    ensures way { IsTrue result → (id level : ℕ) → IsTree K.cmp arenas.now (Some (id, level))
+        → (node : ℕ) × LeadsTo K.cmp key.now level arenas.now id node leaf }
+{
+    match arenas.find_leaf(leaf) {
+        Some(found) => found.array().spans(key),
+        None => false,
+    }
 }

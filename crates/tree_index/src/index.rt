@@ -142,8 +142,9 @@ impl<K: IndexKey, V: Drop, const LEN: usize> TreeIndexOf<K, V, LEN> {
 
     /// Removes the pair with a key. Returns whether there was one.
     ///
-    /// Descends once and searches one array per level and the leaf, and twice where the leaf has one pair alone. Allocates
-    /// nothing.
+    /// Descends once and searches one array per level and the leaf, and twice where the leaf has one pair alone. If the last
+    /// two removals went to one leaf, first compares the key with the first and the last one there: between them it needs
+    /// no descent. Allocates nothing.
     ///
     /// ```
     /// pub fn withdraw(stock: &mut TreeIndex<u64, u64>, article: u64) -> bool

@@ -3,10 +3,10 @@ pub mod Crowded
 mod Descents
 mod FirstPairs
 pub mod Inserts
-mod LeafNodes
+pub mod LeafNodes
 pub mod RaisedTrees
 mod Raises
 mod Replants
 mod Restarts
-mod Retries
+pub mod Retries
 pub mod Ways

@@ -1,5 +1,5 @@
 //! Arenas, which keep leaves and nodes under numbers.
-ghost use Rattle.std.specs.Prelude.{◌≡◌, Some};
+ghost use Rattle.std.specs.Prelude.{◌≡◌, Some, option_copied};
 ghost use Rattle.std.specs.Borrow.{sem};
 ghost use Rattle.slab.specs.Slab.{ContainsKey, get, slab_len};
 ghost use Rattle.tree_leaf.specs.Arena.{Adds, HasPlaces, IsEmpty, Loses, Reserves};
@@ -90,6 +90,14 @@ impl<K: Ord + Drop, V: Drop, N: Drop, const LEN: usize> SlotsOf<K, V, N, LEN> {
         ensures { get self.now.leaves id ≡ Some result.now }
     {
         leaf_at(&self.leaves, id)
+    }
+
+    /// Returns the leaf under a number, or `None` if the number isn't in use. Runs in constant time.
+    #[inline(always)]
+    pub fn find_leaf(&self, id: LeafId) -> Option<&LeafOf<K, V, LEN>>
+        ensures { option_copied result ≡ get self.now.leaves id }
+    {
+        self.leaves.get(id.0)
     }
 
     /// Returns the leaf under a number for writing. Runs in constant time. The caller must name a number

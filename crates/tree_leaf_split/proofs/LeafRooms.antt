@@ -16,7 +16,8 @@ use Rattle.tree_split.specs.Splits.{GivesAll, GivesFirst, HasMadeRoom, IsCut, Ke
 use Rattle.tree_node.specs.Tree.{LeafStands}
 use Rattle.tree_node.proofs.ChildChanges.{child_part}
 use Rattle.tree_node.proofs.Children.{child_stands}
-use Rattle.tree_leaf_split.proofs.LeafSplits.{IsBetween, edge_left, entries_given, high_room, leaf_splits_low, low_full, low_room, separator_smaller}
+use Rattle.tree_leaf_split.specs.Lasts.{StaysLast}
+use Rattle.tree_leaf_split.proofs.LeafSplits.{IsBetween, beyond_separator, edge_left, entries_given, high_room, leaf_splits_low, low_full, low_room, separator_smaller}
 use Rattle.tree_node.proofs.LeafWrites.{with_array, array_replaces, here_now}
 use Rattle.tree_split.proofs.LowSplits.{GainsLow, SplitsLow, absent_here, gains_low, entries_now, last_now}
 use Rattle.tree_split.proofs.PackedSplits.{all_given, packed_split}
@@ -201,6 +202,14 @@ module _ {K V : Type 0} {LEN : ℕ} {cmp : K → K → Ordering} (o : IsTotalOrd
           chosen_past (is_from cmp key) at.before ((separator, y) ∷ at.onward) (stood).last none,
           old_home,
         ) refl
+
+    -- a key beyond the last leaf stays with it, and the node keeps its last child
+    pub last_by_split : (node' : NodeOf K LEN) → PutsChild cmp node node' separator y
+        → StaysLast cmp old (record mid { nodes = with_value mid.nodes id node' }) id x key (if◌then◌else◌ (is_from cmp key separator) y x)
+    last_by_split node' puts last beyond =
+        let update = Updates-with_value mid.nodes id node' (rw is_node refl) in
+        let past = beyond_separator o old reserved mid x y count leaf high low pair separator key same there high_is low_is gains last_low cloned cut_here (rw was at beyond) in
+        (rw past refl, rw update.changed (puts.last ∙ rw parent_was at last))
 
 -- a write in a leaf takes none of the room that was reserved
 pub room_after_write : {K V : Type 0} {LEN : ℕ} (reserved : TreeArenas K V LEN) (x : ℕ) (leaf : LeafOf K V LEN) → get reserved.leaves x ≡ Some leaf → (value : LeafOf K V LEN) → HasPlaces reserved 1 0

@@ -1,5 +1,5 @@
 -- A leaf that gives its first entries to a new one before it.
-use Rattle.std.proofs.Common.{◌≡◌, ℕ, ◌+◌, ◌-◌, ◌<◌, ◌≤◌, ◌==◌, ◌^◌, min, true, cond, ◌⊎◌, List, [], ◌∷◌, ◌++◌, length, take, drop, slice_get, Option, Some, None, IsSome, refl, sym, ap, ◌∙◌, arith, append_assoc, inl, inr, Ordering, Less, Equal, length-take, length-drop, take-append-drop}
+use Rattle.std.proofs.Common.{◌≡◌, ℕ, ◌+◌, ◌-◌, ◌<◌, ◌≤◌, ◌==◌, ◌^◌, min, true, cond, ◌⊎◌, false, List, [], ◌∷◌, ◌++◌, length, take, drop, slice_get, Option, Some, None, IsSome, refl, sym, ap, ◌∙◌, arith, append_assoc, inl, inr, Ordering, Less, Equal, is_ge, length-take, length-drop, take-append-drop}
 use Rattle.tree_model.proofs.Common.{AllByRecursion, IsTotalOrder, cases_eq, AllLarger, IsAscending}
 use Rattle.tree_array.proofs.Common.{Arrivals, in_order, IsSound, all_map, all-append, alike, alike_after}
 use Rattle.tree_node.proofs.Common.{get, LeafOf, IsChain, times, uses, times-cons, one_here, none_here, uses_some, uses_none, leaf_entries, TreeArenas, Replaces, Unchanged, room, spare, IsAbove, IsBelow, IsUpTo, is_from, walk}
@@ -197,6 +197,12 @@ module _ {K V : Type 0} {LEN : ℕ} {cmp : K → K → Ordering} (o : IsTotalOrd
     spares = more_spare sound;
   }
 
+  -- a key that is larger than all of the leaf is larger than the separator
+  pub beyond_separator : AllByRecursion (λ p. cmp p.0 key ≡ Less) leaf.array.entries → is_from cmp key separator ≡ false
+  beyond_separator beyond =
+      let smaller = (all_behind (λ p. cmp p.0 key ≡ Less) lower (pair ∷ upper) (rw whole at beyond)).0 in
+      ap is_ge (alike o separator pair.0 key Less (o.antisymm separator pair.0 ∙ rw cloned refl) smaller)
+
   module _ (few : length leaf.array.entries ≤ LEN) where
     -- the leaf has room now
     pub high_room : 0 < room 0 mid x
@@ -208,10 +214,7 @@ module _ {K V : Type 0} {LEN : ℕ} {cmp : K → K → Ordering} (o : IsTotalOrd
       where
         by_cut : (count < length leaf.array.entries) ⊎ AllByRecursion (λ p. cmp p.0 key ≡ Less) leaf.array.entries → 0 < LEN - length (take count leaf.array.entries)
         by_cut (inl some) = omega (arith, some, few, length-take count leaf.array.entries)
-        by_cut (inr beyond) =
-            let smaller = (all_behind (λ p. cmp p.0 key ≡ Less) lower (pair ∷ upper) (rw whole at beyond)).0 in
-            let less = alike o separator pair.0 key Less (o.antisymm separator pair.0 ∙ rw cloned refl) smaller in
-            absurd (let no = rw less at from in cc)
+        by_cut (inr beyond) = absurd (let no = beyond_separator beyond in cc)
 
   -- the new leaf has the first entries
   pub entries_given : GivesFirst old mid x count

@@ -7,6 +7,7 @@ ghost use Rattle.tree_array.specs.Arrivals.{in_order};
 ghost use Rattle.tree_array.specs.Insertion.{HasRoom};
 ghost use Rattle.tree_array.specs.Length.{limit};
 ghost use Rattle.tree_array.specs.Sound.{IsSound};
+ghost use Rattle.tree_leaf_split.specs.Lasts.{StaysLast};
 ghost use Rattle.tree_model.specs.Pairs.{IsAbsent};
 ghost use Rattle.tree_node.specs.Parts.{IsPart, PutsChild, Unchanged};
 ghost use Rattle.tree_split.specs.Splits.{GivesAll, GivesFirst, GoesWhole, IsCut, RoomResult, SharesEntries, all_smaller, low_part};
@@ -30,6 +31,8 @@ use tree_split::put_keyed;
 ///    key among them becomes the new leaf's separator. The leaf divides at its array's boundary. If it is the unbounded
 ///    one, all its pairs arrived in ascending order and the key is larger than every key in it, all entries move.
 ///
+/// The unbounded leaf stays the unbounded one, and a key larger than every key in it belongs to it still.
+///
 /// Returns `Err` if the leaf is to be split and memory is refused, also by the clone; nothing has changed then. Allocates
 /// at most one leaf. Makes at most 4 comparisons in the put into the node's array (3 among 7 slots), and two beside them.
 ///
@@ -46,6 +49,7 @@ pub fn make_room<K: IndexKey, V: Drop, const LEN: usize>(
     ensures err { OnErr result (Unchanged arenas.old arenas.new) }
     ensures many { OnErr result (limit LEN < length (leaf_entries arenas.old.leaves target)) }
     ensures shares { IfOk result (λ made. IsSome made → SharesEntries K.cmp arenas.old arenas.new id target key.now) }
+    ensures last { IfOk result (λ made. IfSome made (StaysLast K.cmp arenas.old arenas.new id target key.now)) }
 {
     let NodeOf::Leaf(node) = arenas.node(id) else {
         unreachable!()
@@ -120,6 +124,7 @@ fn split_leaf<K: IndexKey, V: Drop, const LEN: usize>(
         (λ home. GivesAll K.cmp arenas.old id target count key.now
         → RoomResult K.cmp (Some home) 1 arenas.old arenas.new id target key.now) }
     ensures shares { IfOk result (λ _. GivesFirst arenas.old arenas.new target count) }
+    ensures last { IfOk result (StaysLast K.cmp arenas.old arenas.new id target key.now) }
     ensures err { OnErr result (Unchanged arenas.old arenas.new) }
 {
     let separator = separator_at(arenas.leaf(target).array(), count - 1)?;

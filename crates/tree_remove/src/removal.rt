@@ -40,27 +40,31 @@ pub fn remove_at<K: Ord + Drop, V: Drop, F: FnOnce(&V) -> bool + Drop, const LEN
         (λ val said. FnOnceReturnsAt F.FnOnce condition val said) level arenas.old arenas.new id result key.now }
     ensures settled { level ≡ 1 → result ≡ RemoveResult.Success → HasOnlyRetired arenas.new id → ⊥ }
 {
-    match remove_beside(arenas, level, id, key, condition) {
+    let Some(place) = leaf_for(arenas, level, id, key, false) else {
+        return RemoveResult::Fail;
+    };
+    match remove_beside(arenas, level, id, place.leaf, key, condition) {
         Ok(true) => RemoveResult::Success,
         Ok(false) => RemoveResult::Fail,
-        Err((condition, leaf)) => remove_alone(arenas, level, id, leaf, key, condition),
+        Err(condition) => remove_alone(arenas, level, id, place.leaf, key, condition),
     }
 }
 
-/// Removes a pair, as [`remove_at`] does, whose leaf has another one, so that no node changes. Returns whether it did.
+/// Removes a pair, as [`remove_at`] does, from the leaf that its key belongs to, if this has another one, so that no node
+/// changes. Returns whether it did. Reads no node.
 ///
-/// Returns `Err` with the condition and the leaf that the key belongs to, and changes nothing, if that leaf has one pair
-/// alone or none.
+/// Returns `Err` with the condition, and changes nothing, if the leaf has one pair alone or none.
 #[inline(always)]
 pub fn remove_beside<K: Ord + Drop, V: Drop, F: FnOnce(&V) -> bool + Drop, const LEN: usize>(
     arenas: &mut ArenasOf<K, V, LEN>,
     level: usize,
     id: NodeId,
+    leaf: LeafId,
     key: &K,
     condition: F,
-) -> Result<bool, (F, LeafId)>
+) -> Result<bool, F>
     requires node { 0 < level }
-    requires part { IsPart K.cmp level arenas.old id ⊎ IsRetired level arenas.old id }
+    requires way { (node : ℕ) × LeadsTo K.cmp key.now level arenas.old id node leaf }
     requires callable { ForSome (pair_at K.cmp (walk level arenas.old id) key.now)
         (λ pair. FnOnceTakesAt F.FnOnce condition pair.1) }
     ensures removes { IfOk result
@@ -68,18 +72,13 @@ pub fn remove_beside<K: Ord + Drop, V: Drop, F: FnOnce(&V) -> bool + Drop, const
         (λ val said. FnOnceReturnsAt F.FnOnce condition val said) level arenas.old arenas.new id
         (removal_told removed) key.now) }
     ensures settled { result ≡ Ok true → level ≡ 1 → HasOnlyRetired arenas.new id → ⊥ }
-    ensures handed_back { IfErr result (λ back. (back.0 ≡ condition) × (arenas.new ≡ arenas.old)) }
-    ensures alone { IfErr result
-        (λ back. (node : ℕ) × LeadsTo K.cmp key.now level arenas.old id node back.1
-        × (length (walk 0 arenas.old back.1) ≤ 1)) }
+    ensures handed_back { IfErr result (λ back. (back ≡ condition) × (arenas.new ≡ arenas.old)) }
+    ensures alone { IfErr result (λ _. length (walk 0 arenas.old leaf) ≤ 1) }
 {
-    let Some(place) = leaf_for(arenas, level, id, key, false) else {
-        return Ok(false);
-    };
-    if arenas.leaf(place.leaf).array().len() <= 1 {
-        return Err((condition, place.leaf));
+    if arenas.leaf(leaf).array().len() <= 1 {
+        return Err(condition);
     }
-    match remove_in_leaf(arenas, place.leaf, key, condition) {
+    match remove_in_leaf(arenas, leaf, key, condition) {
         RemoveResult::Success => Ok(true),
         RemoveResult::Fail => Ok(false),
         // Of two pairs one is left.

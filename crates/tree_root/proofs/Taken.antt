@@ -127,6 +127,16 @@ module _ {K V : Type 0} {LEN : ℕ} (cmp : K → K → Ordering) (Says : V → B
       pair_taken Retired r lowers = last_taken mid r lowers
       pair_taken Fail r lowers = absurd (sure pair.1 (r.pairs.0 pair found))
 
+-- what a removal comes to is told of the arenas and the root alone
+pub same_taken : {K V : Type 0} {LEN : ℕ} (cmp : K → K → Ordering) (Says : V → Bool → Type 0) (old again new : Tree K V LEN) (key : K) (removed : Bool) → again.arenas ≡ old.arenas → again.root ≡ old.root
+    → Takes cmp Says again new key removed → Takes cmp Says old new key removed
+same_taken cmp Says old again new key removed arenas root takes = record {
+  whole = takes.whole;
+  pairs = rw (arenas, root) at takes.pairs;
+  spare = rw (arenas, root) at takes.spare;
+  kept = rw (arenas, root) at takes.kept;
+}
+
 -- a place has one pair
 module _ {K V : Type 0} {LEN : ℕ} {cmp : K → K → Ordering} (level : ℕ) (a : TreeArenas K V LEN) (id leaf slot : ℕ) (pair taken : K × V) (entry : IsEntry cmp level a id leaf slot pair) (stored : stored_at (get a.leaves leaf) slot ≡ Some taken) where
   pub same_stored : taken ≡ pair

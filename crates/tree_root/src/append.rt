@@ -1,17 +1,18 @@
 //! Appends to a tree: pairs whose keys are larger than all.
-ghost use Rattle.std.specs.Prelude.{◌≡◌, IfOk, None, true};
+ghost use Rattle.std.specs.Prelude.{◌≡◌, ℕ, IfOk, None, Some, true};
 ghost use Rattle.std.specs.List.{AllByRecursion};
 ghost use Rattle.std.specs.Option.{ForSome};
 ghost use Rattle.std.specs.declared.cmp.Ordering.TheVariants.{Less};
 ghost use Rattle.tree_array.specs.Length.{IsLen};
+ghost use Rattle.tree_node.specs.Shape.{room};
 ghost use Rattle.tree_root.specs.Lasts.{IsLast, appended};
 ghost use Rattle.tree_model.specs.Pairs.{IsAscending};
 ghost use Rattle.tree_root.specs.Trees.{IsWhole, Stores, packed_of, pairs_of};
 
 use crate::tree::{Stored, Tree};
 use std::alloc::{AllocError, Global};
-use tree_append::{append_to, last_leaf_at};
-use tree_array::array::IndexKey;
+use tree_append::{append_to, append_under, last_leaf_at};
+use tree_array::array::{IndexKey, StoreResult};
 use tree_leaf::arena::LeafId;
 use tree_model::InsertError;
 
@@ -30,7 +31,8 @@ impl<K: IndexKey, V: Drop, const LEN: usize> Tree<K, V, LEN> {
     }
 
     /// Returns a tree of pairs whose keys ascend, which the caller must see to. Returns `Err` if an allocation is refused;
-    /// nothing of the tree is left then. Makes no comparisons but those of a descent for each leaf.
+    /// nothing of the tree is left then. Makes no comparisons but a few for each leaf, and those of a descent for each leaf
+    /// node.
     pub fn from_sorted(alloc: Global, pairs: Vec<(K, V)>) -> Result<Self, AllocError>
         requires len { IsLen LEN }
         requires ascending { IsAscending K.cmp pairs.items }
@@ -52,7 +54,8 @@ impl<K: IndexKey, V: Drop, const LEN: usize> Tree<K, V, LEN> {
     /// Stores a pair whose key is larger than all, and keeps the last leaf in `last`, to be passed with the next pair.
     ///
     /// Returns `Err` with the pair if an allocation is refused. If `last` has a free slot, the pair is put there: that
-    /// compares and allocates nothing. If it has none, or is `None`, costs what [`store`](Tree::store) does.
+    /// compares and allocates nothing. If it has none, the leaf is split under its node, which is found along the
+    /// unbounded children. If that node is full too, or `last` is `None`, costs what [`store`](Tree::store) does.
     ///
     /// The caller must pass no leaf but the last one.
     #[inline(always)]
@@ -69,7 +72,30 @@ impl<K: IndexKey, V: Drop, const LEN: usize> Tree<K, V, LEN> {
         };
         match append_to(&mut self.arenas, leaf, key, val) {
             Ok(()) => Ok(()),
-            Err((key, val)) => self.append_below(last, key, val),
+            Err((key, val)) => self.append_behind(last, key, val),
+        }
+    }
+
+    /// Appends a pair for which `last` has no free slot. If the leaf is split under its node or built anew, it keeps its
+    /// number, so `last` stays as it is. Its own function, so that the common append stays short.
+    #[inline(never)]
+    fn append_behind(&mut self, last: &mut Option<LeafId>, key: K, val: V) -> Result<(), (K, V)>
+        requires len { IsLen LEN }
+        requires whole { IsWhole K.cmp self.old }
+        requires full { (leaf : ℕ) × (last.old ≡ Some leaf) × IsLast self.old leaf × (room 0 self.old.arenas leaf ≡ 0) }
+        requires beyond { AllByRecursion (λ p. K.cmp p.0 key ≡ Less) (pairs_of self.old) }
+        ensures stores { Stores K.cmp true self.old self.new key val (appended result) }
+        ensures last { IfOk result (λ _. ForSome last.new (IsLast self.new)) }
+    {
+        let Some((root, depth)) = self.root else {
+            unreachable!()
+        };
+        match append_under(&mut self.arenas, depth, root, key, val) {
+            Ok(StoreResult::New) => Ok(()),
+            Ok(StoreResult::Replaced) => unreachable!(),
+            Ok(StoreResult::Duplicate(_, _)) => unreachable!(),
+            Ok(StoreResult::Full(key, val)) => self.append_below(last, key, val),
+            Err(pair) => Err(pair),
         }
     }
 

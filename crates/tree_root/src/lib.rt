@@ -3,6 +3,7 @@
 #![tactic(auto)]
 
 mod append;
+mod finger;
 mod tree;
 mod values;
 

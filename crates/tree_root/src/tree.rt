@@ -13,6 +13,7 @@ ghost use Rattle.tree_node.specs.Whole.{depth_of, leaves_under};
 ghost use Rattle.tree_remove.specs.Removes.{surely};
 ghost use Rattle.tree_root.specs.Trees.{Cuts, IsStored, IsWhole, Stores, Takes, pairs_of, spare_of, told};
 
+use crate::finger::Finger;
 use std::alloc::Global;
 use std::ops::Bound;
 use tree_array::array::{IndexKey, Judge, RemoveResult, StoreResult};
@@ -37,16 +38,21 @@ pub enum Stored {
     Replaced,
 }
 
-/// A tree: its arenas, and its root with the root's level, if there is one.
+/// A tree: its arenas, its root with the root's level, if there is one, and a finger for removals.
 pub struct Tree<K: IndexKey, V: Drop, const LEN: usize> {
     pub arenas: ArenasOf<K, V, LEN>,
     pub root: Option<(NodeId, usize)>,
+    finger: Finger,
 }
 
 // Written out, so that it is proved here and not once more in each crate that drops a tree inside another type.
 impl<K: IndexKey, V: Drop, const LEN: usize> Drop for Tree<K, V, LEN> {
     fn drop(self) {
-        let Tree { arenas, root: _ } = self;
+        let Tree {
+            arenas,
+            root: _,
+            finger: _,
+        } = self;
         drop(arenas);
     }
 }
@@ -61,6 +67,7 @@ impl<K: IndexKey, V: Drop, const LEN: usize> Tree<K, V, LEN> {
         Tree {
             arenas: ArenasOf::new(alloc),
             root: None,
+            finger: Finger::new(),
         }
     }
 
@@ -169,6 +176,9 @@ impl<K: IndexKey, V: Drop, const LEN: usize> Tree<K, V, LEN> {
     /// Removes the pair at a key where the condition says so of its value, and says whether it did. Makes at most
     /// 4 comparisons a level and in the leaf (3 among 7 slots), and twice as many if the pair is the last of its leaf.
     /// Allocates nothing.
+    ///
+    /// If the last two removals went to one leaf, the key is first compared with the first and the last one there. Between
+    /// them it needs no descent.
     pub fn remove_if<F: FnOnce(&V) -> bool + Drop>(&mut self, key: &K, condition: F) -> bool
         requires whole { IsWhole K.cmp self.old }
         requires callable { ForSome (pair_at K.cmp (pairs_of self.old) key.now)
@@ -178,9 +188,12 @@ impl<K: IndexKey, V: Drop, const LEN: usize> Tree<K, V, LEN> {
         let Some((root, depth)) = self.root else {
             return false;
         };
-        match remove_beside(&mut self.arenas, depth, root, key, condition) {
+        let Some(leaf) = self.finger.leaf_for(&self.arenas, depth, root, key) else {
+            return false;
+        };
+        match remove_beside(&mut self.arenas, depth, root, leaf, key, condition) {
             Ok(removed) => removed,
-            Err((condition, leaf)) => self.remove_alone(root, depth, leaf, key, condition),
+            Err(condition) => self.remove_alone(root, depth, leaf, key, condition),
         }
     }
 
@@ -201,6 +214,7 @@ impl<K: IndexKey, V: Drop, const LEN: usize> Tree<K, V, LEN> {
             (λ pair. FnOnceTakesAt F.FnOnce condition pair.1) }
         ensures { Takes K.cmp (FnOnceReturnsAt F.FnOnce condition) self.old self.new key.now result }
     {
+        self.finger.goes_on(&self.arenas);
         match remove_alone(&mut self.arenas, depth, root, leaf, key, condition) {
             RemoveResult::Fail => false,
             RemoveResult::Success => {

@@ -1,7 +1,8 @@
 //! Searches of an array by halving: at most 4 comparisons among 15 slots, and 3 among 7.
-ghost use Rattle.std.specs.Prelude.{◌≡◌, ◌+◌, ◌≤◌, [], ◌∷◌, ◌++◌, MatchOption, None, Some, slice_get};
+ghost use Rattle.std.specs.Prelude.{◌≡◌, ◌↔◌, ◌+◌, ◌≤◌, [], ◌∷◌, ◌++◌, IsTrue, MatchOption, None, Some, slice_get};
 ghost use Rattle.tree_array.specs.Arrivals.{arrival, least_from};
 ghost use Rattle.tree_array.specs.Length.{searched};
+ghost use Rattle.tree_array.specs.Spans.{Spans};
 ghost use Rattle.tree_model.specs.Pairs.{Finds, IsAbsent, pair_at};
 
 use super::ArrayOf;
@@ -86,6 +87,20 @@ impl<K: Ord + Drop, V: Drop, const LEN: usize> ArrayOf<K, V, LEN> {
             return None;
         }
         Some(last_slot::<LEN>(self.order, count))
+    }
+
+    /// Returns whether a key lies between the first and the last one, or is one of these. Makes at most two comparisons.
+    #[inline(always)]
+    pub fn spans(&self, key: &K) -> bool
+        ensures { IsTrue result ↔ Spans K.cmp self.now.entries key.now }
+    {
+        let Some(first) = self.slot_at(0) else {
+            return false;
+        };
+        let Some(last) = self.last_slot() else {
+            return false;
+        };
+        self.key(first).cmp(key).is_le() && key.cmp(self.key(last)).is_le()
     }
 
     /// Returns the slot of the least key that isn't less than that of the asked.

@@ -9,6 +9,13 @@ pub struct LeafId(pub(crate) usize);
 #[derive(Clone, Copy, Debug, PartialEq, Eq, Drop)]
 pub struct NodeId(pub(crate) usize);
 
+impl LeafId {
+    /// Returns some number, which need not be in use.
+    pub fn any() -> Self {
+        LeafId(0)
+    }
+}
+
 impl Model for LeafId {
     ghost use Rattle.std.specs.Prelude.{ℕ};
 

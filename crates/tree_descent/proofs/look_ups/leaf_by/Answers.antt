@@ -1,6 +1,5 @@
-use Rattle.std.proofs.Common.{rules, ◌≡◌, None, ◌<◌, ◌∙◌, refl, sym, arith}
+use Rattle.std.proofs.Common.{rules, ◌≡◌, None, ◌∙◌, refl, sym, arith}
 use Rattle.tree_node.proofs.Common.{ContainsKey, child_of}
-use Rattle.tree_node.specs.declared.node.NodeOf.TheVariants.{Internal, Leaf}
 use Rattle.tree_array.specs.Length.{searched}
 use Rattle.tree_descent.proofs.Asked.{asked_last, asked_on}
 use Rattle.tree_descent.proofs.Found.{arrives, goes_down, is_there, starts, stops}

@@ -99,3 +99,9 @@ returns-clause-shares g c = λ made.
     let some = not_full_room (Leaf c.in-Leaf.node) (λ full. let yes = c.is_full-full.ensures.1 full in let no = c.if-full.false in cc) in
     entries_parted g.met.K.Ord.total c.args.arenas.now c.args.id c.args.target c.args.key.now c.requires.part c.requires.child (Leaf c.in-Leaf.node) (c.node.ensures ∙ ap Some c.in-Leaf.is)
     c.split_leaf.new.arenas c.leaf.result.now c.leaf.ensures c.eq-last.result last c.in-Some.count rule some c.in_ok-home.ensures.shares
+
+pub returns-in_default-low_count-clause-last : goal.returns-in_default-low_count-clause-last
+returns-in_default-low_count-clause-last g c = λ last beyond. (refl, last)
+
+pub returns-clause-last : goal.returns-clause-last
+returns-clause-last g c = c.in_ok-home.ensures.last

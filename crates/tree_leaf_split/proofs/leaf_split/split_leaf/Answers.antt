@@ -1,7 +1,7 @@
 use Rattle.std.proofs.Common.{rules, ◌≡◌, ◌-◌, ◌∙◌, drop, take, slice_get, None, Some, refl, arith}
 use Rattle.tree_array.proofs.Common.{in_order}
 use Rattle.tree_node.proofs.Common.{ContainsKey, Stands, fits}
-use Rattle.tree_leaf_split.proofs.LeafRooms.{chain_through, entries_shared, home_by_split, leaf_read, leaf_room_by_split, leaf_used, parent_kind, parent_was, room_after_write, separator_is_new}
+use Rattle.tree_leaf_split.proofs.LeafRooms.{chain_through, entries_shared, home_by_split, last_by_split, leaf_read, leaf_room_by_split, leaf_used, parent_kind, parent_was, room_after_write, separator_is_new}
 use Rattle.tree_split.proofs.Results.{on_err}
 use Rattle.tree_node.proofs.Unchanged.{unchanged_by_keeping}
 use Rattle.tree_leaf_split.proofs.leaf_split.split_leaf.Goals as goal
@@ -79,6 +79,17 @@ returns-clause-shares g c =
     let last : slice_get c.leaf_mut.result.now.array.entries (c.args.count - 1) ≡ Some separator.0 = rw (c.array.ensures, read) at separator.1 in
     entries_shared g.met.K.Ord.total c.args.arenas.now c.args.id c.args.target c.args.key.now c.requires.part c.requires.child _ _ _ c.args.count c.leaf_mut.result.now _ _ separator.0 c.in_ok-separator.separator
     c.in_ok-reserve.ensures.0 c.leaf_mut.ensures.value high low c.in-Ok.ensures last separator.2 c.requires.cut c.requires.sound _ c.node_mut.ensures.value
+
+pub returns-clause-last : goal.returns-clause-last
+returns-clause-last g c =
+    let separator = c.in_ok-separator.ensures in
+    let read : c.leaf.result.now ≡ c.leaf_mut.result.now =
+    leaf_read c.args.arenas.now c.reserve.new.self c.in_ok-reserve.ensures.0 c.args.target c.leaf.result.now c.leaf_mut.result.now c.leaf.ensures c.leaf_mut.ensures.value in
+    let high : c.cut_low.new.array ≡ in_order (drop c.args.count c.leaf_mut.result.now.array.entries) = rw c.array_mut.ensures.value at c.cut_low.ensures.high in
+    let low : c.cut_low.new.low ≡ in_order (take c.args.count c.leaf_mut.result.now.array.entries) = rw c.array_mut.ensures.value at c.cut_low.ensures.low in
+    let last : slice_get c.leaf_mut.result.now.array.entries (c.args.count - 1) ≡ Some separator.0 = rw (c.array.ensures, read) at separator.1 in
+    rw c.side_for-home.ensures (last_by_split g.met.K.Ord.total c.args.arenas.now c.args.id c.args.target c.args.key.now c.requires.part c.requires.child _ _ _ c.args.count c.leaf_mut.result.now _ _ separator.0 c.in_ok-separator.separator
+    c.in_ok-reserve.ensures.0 c.leaf_mut.ensures.value high low c.in-Ok.ensures last separator.2 c.requires.cut c.requires.sound _ c.node_mut.ensures.value _ c.put_leaf.ensures)
 
 pub returns-in_err-reserve-clause-err : goal.returns-in_err-reserve-clause-err
 returns-in_err-reserve-clause-err g c =

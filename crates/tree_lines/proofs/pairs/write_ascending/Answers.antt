@@ -29,3 +29,12 @@ range-key-items-requires g c = (search fits, (search fits, (search fits, search 
 
 pub next-requires : goal.next-requires
 next-requires g c = (search fits, (search fits, (search fits, tt)))
+
+pub into_iter-key-iterator-requires-room-I-Iterator : goal.into_iter-key-iterator-requires-room-I-Iterator
+into_iter-key-iterator-requires-room-I-Iterator g c κs within = search fits
+
+pub into_iter-key-iterator-requires-room-I-Iterator-2 : goal.into_iter-key-iterator-requires-room-I-Iterator-2
+into_iter-key-iterator-requires-room-I-Iterator-2 g c κs within = search fits
+
+pub into_iter-key-iterator-requires-room-I-Iterator-3 : goal.into_iter-key-iterator-requires-room-I-Iterator-3
+into_iter-key-iterator-requires-room-I-Iterator-3 g c κs within = search fits

@@ -3,47 +3,44 @@ use Rattle.tree_array.specs.declared.answers.RemoveResult.TheVariants.{Success, 
 use Rattle.tree_node.proofs.Common.{walk, fits}
 use Rattle.tree_node.proofs.Children.{walk-leaf}
 use Rattle.tree_remove.proofs.Descents.{leaf_at}
-use Rattle.tree_remove.proofs.Ways.{fails_at, found_on_way, leaf_on_way, not_emptied, removes_on_way, settled_on_way}
+use Rattle.tree_remove.proofs.Ways.{found_on_way, leaf_on_way, not_emptied, removes_on_way, settled_on_way}
 use Rattle.tree_remove.proofs.removal.remove_beside.Goals as goal
 
 pub leaf-requires : goal.leaf-requires
 leaf-requires g c =
-    let part = leaf_on_way g.met.K.Ord.total c.args.arenas.now c.args.key.now c.in-Some.place.leaf c.args.level c.requires.node c.args.id c.in-Some.place.node c.in-Some.ensures.child.0 c.in-Some.ensures.way c.in-Some.ensures.child.1 in
-    (search fits, (search fits, leaf_at c.args.arenas.now c.in-Some.place.leaf part))
+    let way = c.requires.way.1 in
+    let part = leaf_on_way g.met.K.Ord.total c.args.arenas.now c.args.key.now c.args.leaf c.args.level c.requires.node c.args.id c.requires.way.0 way.0 way.1 way.2 in
+    (search fits, (search fits, leaf_at c.args.arenas.now c.args.leaf part))
 
 pub remove_in_leaf-requires : goal.remove_in_leaf-requires
 remove_in_leaf-requires g c =
-    let part = leaf_on_way g.met.K.Ord.total c.args.arenas.now c.args.key.now c.in-Some.place.leaf c.args.level c.requires.node c.args.id c.in-Some.place.node c.in-Some.ensures.child.0 c.in-Some.ensures.way c.in-Some.ensures.child.1 in
-    let found = found_on_way g.met.K.Ord.total c.args.arenas.now c.args.key.now c.in-Some.place.leaf c.args.level c.requires.node c.args.id c.in-Some.place.node c.in-Some.ensures.child.0 c.in-Some.ensures.way c.in-Some.ensures.child.1 in
-    (search fits, (search fits, (leaf_at c.args.arenas.now c.in-Some.place.leaf part, rw found at c.requires.callable)))
-
-pub returns-in_default-clause-removes : goal.returns-in_default-clause-removes
-returns-in_default-clause-removes g c = fails_at g.K.Ord.cmp _ c.args.key.now c.args.level c.requires.node c.args.arenas.now c.args.id c.in_default.ensures.way
+    let way = c.requires.way.1 in
+    let part = leaf_on_way g.met.K.Ord.total c.args.arenas.now c.args.key.now c.args.leaf c.args.level c.requires.node c.args.id c.requires.way.0 way.0 way.1 way.2 in
+    let found = found_on_way g.met.K.Ord.total c.args.arenas.now c.args.key.now c.args.leaf c.args.level c.requires.node c.args.id c.requires.way.0 way.0 way.1 way.2 in
+    (search fits, (search fits, (leaf_at c.args.arenas.now c.args.leaf part, rw found at c.requires.callable)))
 
 pub unreachable-requires : goal.unreachable-requires
 unreachable-requires g c =
-    let part = leaf_on_way g.met.K.Ord.total c.args.arenas.now c.args.key.now c.in-Some.place.leaf c.args.level c.requires.node c.args.id c.in-Some.place.node c.in-Some.ensures.child.0 c.in-Some.ensures.way c.in-Some.ensures.child.1 in
-    let many : 1 < length (walk 0 c.args.arenas.now c.in-Some.place.leaf) = rw (walk-leaf c.args.arenas.now c.in-Some.place.leaf c.leaf.result.now c.leaf.ensures, ← c.array.ensures, ← c.len.ensures) c.if-len-le1.false in
-    not_emptied g.met.K.Ord.total _ c.args.arenas.now _ c.args.key.now c.in-Some.place.leaf c.remove_in_leaf.result part many c.remove_in_leaf.ensures.removes c.in-Retired.is
+    let way = c.requires.way.1 in
+    let part = leaf_on_way g.met.K.Ord.total c.args.arenas.now c.args.key.now c.args.leaf c.args.level c.requires.node c.args.id c.requires.way.0 way.0 way.1 way.2 in
+    let many : 1 < length (walk 0 c.args.arenas.now c.args.leaf) = rw (walk-leaf c.args.arenas.now c.args.leaf c.leaf.result.now c.leaf.ensures, ← c.array.ensures, ← c.len.ensures) c.if-len-le1.false in
+    not_emptied g.met.K.Ord.total _ c.args.arenas.now _ c.args.key.now c.args.leaf c.remove_in_leaf.result part many c.remove_in_leaf.ensures.removes c.in-Retired.is
 
 pub returns-then-len-le1-clause-alone : goal.returns-then-len-le1-clause-alone
-returns-then-len-le1-clause-alone g c = (
-  c.in-Some.place.node,
-  (c.in-Some.ensures.child.0, c.in-Some.ensures.way, c.in-Some.ensures.child.1),
-  rw (walk-leaf c.args.arenas.now c.in-Some.place.leaf c.leaf.result.now c.leaf.ensures, ← c.array.ensures, ← c.len.ensures) c.if-len-le1.true,
-)
+returns-then-len-le1-clause-alone g c = rw (walk-leaf c.args.arenas.now c.args.leaf c.leaf.result.now c.leaf.ensures, ← c.array.ensures, ← c.len.ensures) c.if-len-le1.true
 
 pub returns-in-Success-clause-removes : goal.returns-in-Success-clause-removes
 returns-in-Success-clause-removes g c =
-    removes_on_way g.met.K.Ord.total _ c.args.arenas.now _ c.args.key.now c.in-Some.place.leaf Success (λ is. absurd (cc)) c.in-Success.ensures.removes
-    c.args.level c.requires.node c.args.id c.in-Some.place.node c.in-Some.ensures.child.0 c.in-Some.ensures.way c.in-Some.ensures.child.1
+    let way = c.requires.way.1 in
+    removes_on_way g.met.K.Ord.total _ c.args.arenas.now _ c.args.key.now c.args.leaf Success (λ is. absurd (cc)) c.in-Success.ensures.removes c.args.level c.requires.node c.args.id c.requires.way.0 way.0 way.1 way.2
 
 pub returns-in-Success-clause-settled : goal.returns-in-Success-clause-settled
 returns-in-Success-clause-settled g c = λ ok one.
-    settled_on_way g.met.K.Ord.total c.args.key.now c.args.arenas.now c.remove_in_leaf.new.arenas c.args.level c.args.id c.in-Some.place.node c.in-Some.place.leaf one c.in-Some.ensures.child.0 c.in-Some.ensures.way c.in-Some.ensures.child.1
+    let way = c.requires.way.1 in
+    settled_on_way g.met.K.Ord.total c.args.key.now c.args.arenas.now c.remove_in_leaf.new.arenas c.args.level c.args.id c.requires.way.0 c.args.leaf one way.0 way.1 way.2
     c.remove_in_leaf.ensures.removes.replaces (c.remove_in_leaf.ensures.settled c.in-Success.is)
 
 pub returns-in-Fail-clause-removes : goal.returns-in-Fail-clause-removes
 returns-in-Fail-clause-removes g c =
-    removes_on_way g.met.K.Ord.total _ c.args.arenas.now _ c.args.key.now c.in-Some.place.leaf Fail (λ is. absurd (cc)) c.in-Fail.ensures.removes
-    c.args.level c.requires.node c.args.id c.in-Some.place.node c.in-Some.ensures.child.0 c.in-Some.ensures.way c.in-Some.ensures.child.1
+    let way = c.requires.way.1 in
+    removes_on_way g.met.K.Ord.total _ c.args.arenas.now _ c.args.key.now c.args.leaf Fail (λ is. absurd (cc)) c.in-Fail.ensures.removes c.args.level c.requires.node c.args.id c.requires.way.0 way.0 way.1 way.2

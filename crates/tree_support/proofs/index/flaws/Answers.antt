@@ -11,3 +11,15 @@ walk-requires g c =
     let is = rw c.in-Some.is at c.parts-root.ensures in
     let walks = walks_from nat_cmp c.args.index.now c.parts-root.result.0.now c.in-Some.root is in
     rw c.depth.ensures.depth (search fits, (search fits, (walks.0, (walks.1, walks.2))))
+
+pub leaf_count-requires-room-N-Destruct : goal.leaf_count-requires-room-N-Destruct
+leaf_count-requires-room-N-Destruct g c κs = search fits
+
+pub node_count-requires-room-N-Destruct : goal.node_count-requires-room-N-Destruct
+node_count-requires-room-N-Destruct g c κs = search fits
+
+pub leaf_count-requires : goal.leaf_count-requires
+leaf_count-requires g c = search fits
+
+pub node_count-requires : goal.node_count-requires
+node_count-requires g c = search fits

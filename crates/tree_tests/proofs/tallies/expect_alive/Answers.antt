@@ -3,3 +3,6 @@ use Rattle.tree_tests.proofs.tallies.expect_alive.Goals as goal
 
 pub parts-requires : goal.parts-requires
 parts-requires g c = search fits
+
+pub leaf_count-requires-room-N-Destruct : goal.leaf_count-requires-room-N-Destruct
+leaf_count-requires-room-N-Destruct g c κs = search fits

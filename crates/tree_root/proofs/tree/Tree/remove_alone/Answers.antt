@@ -3,6 +3,9 @@ use Rattle.tree_node.proofs.Common.{fits}
 use Rattle.tree_root.proofs.Taken.{kept, last_taken, root_level, still_part, taken}
 use Rattle.tree_root.proofs.tree.Tree.remove_alone.Goals as goal
 
+pub goes_on-requires : goal.goes_on-requires
+goes_on-requires g c = search fits
+
 pub remove_alone-requires : goal.remove_alone-requires
 remove_alone-requires g c =
     let tree = rw c.requires.root at c.requires.whole in

@@ -1,22 +1,36 @@
 use Rattle.std.proofs.Common.{refl}
 use Rattle.tree_node.proofs.Common.{fits}
-use Rattle.tree_root.proofs.Storing.{part_or_retired}
-use Rattle.tree_root.proofs.Taken.{none_taken, told_taken}
+use Rattle.tree_remove.proofs.Ways.{fails_at}
+use Rattle.tree_root.proofs.Taken.{kept, none_taken, same_taken, told_taken}
 use Rattle.tree_root.proofs.tree.Tree.remove_if.Goals as goal
 
 pub returns-in_default : goal.returns-in_default
 returns-in_default g c = none_taken g.K.Ord.cmp _ c.args.self.now _ c.args.key.now c.requires.whole refl c.in_default.is
 
+pub leaf_for-requires : goal.leaf_for-requires
+leaf_for-requires g c = (search fits, (search fits, rw c.in-Some.is at c.requires.whole))
+
+-- a retired root has no key
+pub returns-in_default-leaf_for : goal.returns-in_default-leaf_for
+returns-in_default-leaf_for g c =
+    let tree = rw c.in-Some.is at c.requires.whole in
+    kept g.K.Ord.cmp _ c.args.self.now _ c.args.key.now c.in-Some.root c.in-Some.depth c.in-Some.is c.requires.whole refl
+    (fails_at g.K.Ord.cmp _ c.args.key.now c.in-Some.depth tree.top.0 c.args.self.now.arenas c.in-Some.root c.in_default-leaf_for.ensures)
+
 pub remove_beside-requires : goal.remove_beside-requires
 remove_beside-requires g c =
     let tree = rw c.in-Some.is at c.requires.whole in
-    (search fits, (search fits, (tree.top.0, (part_or_retired g.K.Ord.cmp c.args.self.now.arenas c.in-Some.root c.in-Some.depth tree, rw c.in-Some.is at c.requires.callable))))
+    (search fits, (search fits, (tree.top.0, (c.in-Some-leaf_for.ensures, rw c.in-Some.is at c.requires.callable))))
 
 pub remove_alone-requires : goal.remove_alone-requires
 remove_alone-requires g c =
-    let same = c.in-Err.ensures.handed_back in
-    let alone = c.in-Err.ensures.alone in
-    (search fits, (rw same.1 c.requires.whole, (c.in-Some.is, (rw same.1 (alone.0, alone.1), rw (same.1, same.0) c.requires.callable))))
+    let back = c.in-Err.ensures.handed_back in (
+      search fits,
+      (
+        rw back.1 c.requires.whole,
+        (c.in-Some.is, (rw back.1 c.in-Some-leaf_for.ensures, rw (back.1, back.0) c.requires.callable)),
+      ),
+    )
 
 pub returns-in-Ok : goal.returns-in-Ok
 returns-in-Ok g c =
@@ -24,5 +38,5 @@ returns-in-Ok g c =
 
 pub returns-in-Err : goal.returns-in-Err
 returns-in-Err g c =
-    let same = c.in-Err.ensures.handed_back in
-    rw (same.1, same.0) at c.remove_alone.ensures
+    let back = c.in-Err.ensures.handed_back in
+    same_taken g.K.Ord.cmp _ c.args.self.now (record c.args.self.now { arenas = c.remove_beside.new.arenas; finger = c.leaf_for.new.self }) _ c.args.key.now _ back.1 refl (rw back.0 at c.remove_alone.ensures)

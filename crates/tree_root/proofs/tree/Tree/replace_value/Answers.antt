@@ -42,7 +42,7 @@ returns-in-None-clause-pairs g c =
     let absent : IsAbsent g.K.Ord.cmp (pairs_of c.args.self.now) c.args.key.now =
     absent_in_leaf g.met.K.Ord.total c.args.self.now c.requires c.args.key.now c.in-Some.root c.in-Some.depth place.place.node place.place.leaf c.in-Some.is (place.ensures.child.0, place.ensures.way, place.ensures.child.1) c.leaf_mut.result.now c.leaf_mut.ensures.value
     (rw c.array_mut-array.ensures.value at c.in-None.ensures) in
-    let kept = nothing_set g.K.Ord.cmp c.args.self.now _ c.requires refl
+    let kept = nothing_set g.K.Ord.cmp c.args.self.now (record c.args.self.now { arenas = _ }) c.requires refl
     (read_alone g.met.K.Ord.total c.args.self.now c.requires c.args.key.now c.in-Some.root c.in-Some.depth place.place.node place.place.leaf c.in-Some.is (place.ensures.child.0, place.ensures.way, place.ensures.child.1) c.leaf_mut.result.now c.leaf_mut.ensures.value) in
     rw absent (refl, rw c.array_mut-array.ensures.value kept.1)
 
@@ -64,3 +64,11 @@ returns-in-Some-slot_of-clause-pairs g c =
 
 pub leaf_mut-requires-room-N-Destruct : goal.leaf_mut-requires-room-N-Destruct
 leaf_mut-requires-room-N-Destruct g c κs within = search fits
+
+pub slot_of-requires : goal.slot_of-requires
+slot_of-requires g c = search fits
+
+pub set_val-requires : goal.set_val-requires
+set_val-requires g c =
+    let found = c.in-Some-slot_of.ensures in
+    (search fits, rw found.2 refl)

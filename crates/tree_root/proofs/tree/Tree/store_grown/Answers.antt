@@ -41,7 +41,7 @@ insert_at-requires g c =
 
 pub returns-in-Err : goal.returns-in-Err
 returns-in-Err g c =
-    stored_raised g.K.Ord.cmp _ c.args.self.now (record { arenas = c.split_root_at.new.arenas; root = Some (c.in-Ok.top, suc c.args.depth) }) _ c.args.key c.args.val (Err (c.in-Err.key, c.in-Err.val)) c.args.root c.in-Ok.top
+    stored_raised g.K.Ord.cmp _ c.args.self.now (record { arenas = c.split_root_at.new.arenas; root = Some (c.in-Ok.top, suc c.args.depth); finger = c.args.self.now.finger }) _ c.args.key c.args.val (Err (c.in-Err.key, c.in-Err.val)) c.args.root c.in-Ok.top
     c.args.depth c.requires.root refl (rw add-one refl) c.requires.whole c.in-Ok.ensures.done (rw add-one at c.in-Err.ensures.inserts) (rw add-one at c.in-Err.ensures.retired) g.met.K.Ord.total (full_root g.K.Ord.cmp c.args.self.now.arenas c.args.root c.args.depth (rw c.requires.root at c.requires.whole) (λ gone. let childless = c.if-is_childless.ensures.1 (rw c.node.ensures at gone) in cc) c.requires.full) c.requires.spent c.requires.new
 
 pub node-requires-room-N-Destruct : goal.node-requires-room-N-Destruct
@@ -53,25 +53,25 @@ is_childless-requires g c = search fits
 pub returns-in-New : goal.returns-in-New
 returns-in-New g c =
     rw c.in-New.is at
-    (stored_raised g.K.Ord.cmp _ c.args.self.now (record { arenas = c.split_root_at.new.arenas; root = Some (c.in-Ok.top, suc c.args.depth) }) (record { arenas = c.insert_at.new.arenas; root = Some (c.in-Ok.top, c.args.depth + 1) }) c.args.key c.args.val (Ok c.in-Ok-insert_at.answer) c.args.root c.in-Ok.top
+    (stored_raised g.K.Ord.cmp _ c.args.self.now (record { arenas = c.split_root_at.new.arenas; root = Some (c.in-Ok.top, suc c.args.depth); finger = c.args.self.now.finger }) (record { arenas = c.insert_at.new.arenas; root = Some (c.in-Ok.top, c.args.depth + 1); finger = c.args.self.now.finger }) c.args.key c.args.val (Ok c.in-Ok-insert_at.answer) c.args.root c.in-Ok.top
     c.args.depth c.requires.root refl (rw add-one refl) c.requires.whole c.in-Ok.ensures.done (rw add-one at c.in-Ok-insert_at.ensures.inserts) (rw add-one at c.in-Ok-insert_at.ensures.retired) g.met.K.Ord.total (full_root g.K.Ord.cmp c.args.self.now.arenas c.args.root c.args.depth (rw c.requires.root at c.requires.whole) (λ gone. let childless = c.if-is_childless.ensures.1 (rw c.node.ensures at gone) in cc) c.requires.full) c.requires.spent c.requires.new)
 
 pub returns-in-Replaced : goal.returns-in-Replaced
 returns-in-Replaced g c =
     rw c.in-Replaced.is at
-    (stored_raised g.K.Ord.cmp _ c.args.self.now (record { arenas = c.split_root_at.new.arenas; root = Some (c.in-Ok.top, suc c.args.depth) }) (record { arenas = c.insert_at.new.arenas; root = Some (c.in-Ok.top, c.args.depth + 1) }) c.args.key c.args.val (Ok c.in-Ok-insert_at.answer) c.args.root c.in-Ok.top
+    (stored_raised g.K.Ord.cmp _ c.args.self.now (record { arenas = c.split_root_at.new.arenas; root = Some (c.in-Ok.top, suc c.args.depth); finger = c.args.self.now.finger }) (record { arenas = c.insert_at.new.arenas; root = Some (c.in-Ok.top, c.args.depth + 1); finger = c.args.self.now.finger }) c.args.key c.args.val (Ok c.in-Ok-insert_at.answer) c.args.root c.in-Ok.top
     c.args.depth c.requires.root refl (rw add-one refl) c.requires.whole c.in-Ok.ensures.done (rw add-one at c.in-Ok-insert_at.ensures.inserts) (rw add-one at c.in-Ok-insert_at.ensures.retired) g.met.K.Ord.total (full_root g.K.Ord.cmp c.args.self.now.arenas c.args.root c.args.depth (rw c.requires.root at c.requires.whole) (λ gone. let childless = c.if-is_childless.ensures.1 (rw c.node.ensures at gone) in cc) c.requires.full) c.requires.spent c.requires.new)
 
 pub returns-in-Duplicate : goal.returns-in-Duplicate
 returns-in-Duplicate g c =
     rw c.in-Duplicate.is at
-    (stored_raised g.K.Ord.cmp _ c.args.self.now (record { arenas = c.split_root_at.new.arenas; root = Some (c.in-Ok.top, suc c.args.depth) }) (record { arenas = c.insert_at.new.arenas; root = Some (c.in-Ok.top, c.args.depth + 1) }) c.args.key c.args.val (Ok c.in-Ok-insert_at.answer) c.args.root c.in-Ok.top
+    (stored_raised g.K.Ord.cmp _ c.args.self.now (record { arenas = c.split_root_at.new.arenas; root = Some (c.in-Ok.top, suc c.args.depth); finger = c.args.self.now.finger }) (record { arenas = c.insert_at.new.arenas; root = Some (c.in-Ok.top, c.args.depth + 1); finger = c.args.self.now.finger }) c.args.key c.args.val (Ok c.in-Ok-insert_at.answer) c.args.root c.in-Ok.top
     c.args.depth c.requires.root refl (rw add-one refl) c.requires.whole c.in-Ok.ensures.done (rw add-one at c.in-Ok-insert_at.ensures.inserts) (rw add-one at c.in-Ok-insert_at.ensures.retired) g.met.K.Ord.total (full_root g.K.Ord.cmp c.args.self.now.arenas c.args.root c.args.depth (rw c.requires.root at c.requires.whole) (λ gone. let childless = c.if-is_childless.ensures.1 (rw c.node.ensures at gone) in cc) c.requires.full) c.requires.spent c.requires.new)
 
 -- the new root has room
 pub unreachable-requires : goal.unreachable-requires
 unreachable-requires g c =
-    let takes = takes_it g.K.Ord.cmp _ c.args.self.now (record { arenas = c.split_root_at.new.arenas; root = Some (c.in-Ok.top, suc c.args.depth) }) (record { arenas = c.insert_at.new.arenas; root = Some (c.in-Ok.top, suc c.args.depth) })
+    let takes = takes_it g.K.Ord.cmp _ c.args.self.now (record { arenas = c.split_root_at.new.arenas; root = Some (c.in-Ok.top, suc c.args.depth); finger = c.args.self.now.finger }) (record { arenas = c.insert_at.new.arenas; root = Some (c.in-Ok.top, suc c.args.depth); finger = c.args.self.now.finger })
     c.args.key c.args.val (Ok c.in-Ok-insert_at.answer) c.args.root c.in-Ok.top c.args.depth c.requires.root refl refl c.requires.whole c.in-Ok.ensures.done (rw add-one at c.in-Ok-insert_at.ensures.inserts) (rw add-one at c.in-Ok-insert_at.ensures.retired) in
     let no = rw c.in-Full.is at takes in
     cc
