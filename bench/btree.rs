@@ -1,4 +1,4 @@
-//! The workloads of `crates/treebench` over `std::collections::BTreeMap`: the same keys, the same arguments, the same
+//! The workloads of `bench/treebench` over `std::collections::BTreeMap`: the same keys, the same arguments, the same
 //! lines of output. With `shared` first, those of `bench/sharebench`.
 mod shared;
 
