@@ -6,8 +6,8 @@ use Rattle.tree_node.proofs.Common.{get, TreeArenas, IsPart, KeepsBounds, Replac
 use Rattle.tree_model.proofs.Lists.{all_passed}
 use Rattle.tree_node.proofs.Steps.{part_after, replaces_refl, replaces_trans}
 use Rattle.tree_node.proofs.Walks.{walk-children}
+use Rattle.tree_borders.specs.Places.{BeginsAt, EndsAt, Narrows}
 use Rattle.tree_cut.specs.Cuts.{CutsChild, CutsOne, CutsUnder, HasNoEmpty, keyed_of}
-use Rattle.tree_cut.specs.Places.{BeginsAt, EndsAt, Narrows}
 use Rattle.tree_cut.proofs.OneChild.{split_here}
 use Rattle.tree_cut.proofs.Outside.{IsOutside, Met, Missed, Opened, all_drop_take, all_take_take, backs_outside, child_first, fronts_outside, narrowed_cut, take_less, take_more, taken_reach}
 

@@ -5,8 +5,8 @@ use Rattle.tree_node.proofs.Common.{get, LeafOf, TreeArenas, Stands, in_turn, ke
 use Rattle.tree_node.specs.declared.node.NodeOf.{NodeOf}
 use Rattle.tree_node.proofs.Children.{walk-leaf}
 use Rattle.tree_node.proofs.Walks.{walk-children}
+use Rattle.tree_borders.specs.Places.{keyed_or}
 use Rattle.tree_cut.specs.Cuts.{HasNoEmpty, HasPair}
-use Rattle.tree_cut.specs.Places.{keyed_or}
 use Rattle.tree_cut.proofs.Ends.{StandsAbove, each_stands}
 
 pub empty_leaf : {K V : Type 0} {LEN : ℕ} (a : TreeArenas K V LEN) (id : ℕ) (leaf : LeafOf K V LEN) → get a.leaves id ≡ Some leaf → leaf.array.entries ≡ [] → walk 0 a id ≡ []

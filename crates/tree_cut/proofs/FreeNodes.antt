@@ -4,9 +4,9 @@ use Rattle.tree_model.proofs.Common.{drop_all}
 use Rattle.tree_node.proofs.Common.{Loses, TreeArenas, HasKind, in_turn, node_children, unbounded, walk}
 use Rattle.tree_node.specs.declared.node.NodeOf.{NodeOf}
 use Rattle.std.proofs.lemmas.List.{length-map}
+use Rattle.tree_borders.specs.Places.{keyed_or}
 use Rattle.tree_cut.specs.declared.parts.Part.TheVariants.{Node}
 use Rattle.tree_cut.specs.Parts.{Frees, IsAt, IsForest}
-use Rattle.tree_cut.specs.Places.{keyed_or}
 use Rattle.tree_cut.proofs.Frees.{AreLeft, all_left, children_walk, frees_node, last_is, taken_is}
 use Rattle.tree_cut.proofs.Turns.{turn}
 

@@ -11,6 +11,5 @@ pub mod NoEmpty
 pub mod NodeSteps
 pub mod OneChild
 pub mod Outside
-pub mod Searches
 pub mod Tops
 pub mod Turns

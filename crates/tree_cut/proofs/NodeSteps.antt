@@ -6,8 +6,8 @@ use Rattle.tree_node.proofs.Common.{get, TreeArenas, IsPart, Replaces, HasKind, 
 use Rattle.tree_node.specs.declared.node.NodeOf.{NodeOf}
 use Rattle.tree_node.proofs.Standing.{node_is}
 use Rattle.tree_clean_up.specs.CleanUps.{HasChildIn, TakesKeyed}
+use Rattle.tree_borders.specs.Places.{keyed_or}
 use Rattle.tree_cut.specs.Cuts.{CutsChild, CutsUnder, DropsChild, HasNoEmpty, HasNoEmptyBut, HasPair}
-use Rattle.tree_cut.specs.Places.{keyed_or}
 use Rattle.tree_cut.proofs.OneChild.{child_no_empty, child_part, cut_becomes, cut_no_empty, cut_others, drop_becomes, drop_no_empty, same_node, split_here}
 use Rattle.tree_cut.proofs.Turns.{turn_here}
 
@@ -110,12 +110,6 @@ module _ {K V : Type 0} {LEN : ℕ} {cmp : K → K → Ordering} (o : IsTotalOrd
           rw here.level_is
           (cut_no_empty o here.below a id place child here.part here.at here.within low high new gone under_cuts (rw here.level_is at before)
           (λ c found. rw here.below_is at (has_pair c (subst (λ (n : NodeOf K LEN). slice_get (keyed n).entries place ≡ Some c) here.node_same found))))
-
--- a keyed child is at each place before the last
-pub none_past : {X : Type 0} (xs : List X) (place : ℕ) → place < length xs → slice_get xs place ≡ None → ⊥
-none_past [] place within none = omega (arith, within)
-none_past (x ∷ xs) zero within none = cc
-none_past (x ∷ xs) (suc place) within none = none_past xs place (omega (arith, within)) none
 
 -- the child that was read at a place is the one in the slot of its separator
 pub keyed_here : {K : Type 0} (arrivals : List (Option (K × ℕ))) (pairs : List (K × ℕ)) (last : Option ℕ) (place slot : ℕ) {child : ℕ} → ((pair : K × ℕ) × (arrival arrivals slot ≡ Some pair) × (slice_get pairs place ≡ Some pair))

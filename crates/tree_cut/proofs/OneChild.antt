@@ -12,8 +12,8 @@ use Rattle.tree_node.proofs.Lists.{all_middle, flat_map_same}
 use Rattle.tree_node.proofs.Standing.{node_is}
 use Rattle.tree_node.proofs.Widens.{parted_without, separators_around, stands_wider}
 use Rattle.tree_clean_up.specs.CleanUps.{TakesKeyed}
+use Rattle.tree_borders.specs.Places.{keyed_or}
 use Rattle.tree_cut.specs.Cuts.{ChildBecomes, CutsUnder, HasNoEmpty, HasPair, OthersHaveNoEmpty}
-use Rattle.tree_cut.specs.Places.{keyed_or}
 use Rattle.tree_model.proofs.Lists.{all_at}
 use Rattle.tree_cut.proofs.NoEmpty.{all_drop, all_take, and_one, keyed_dropped, keyed_taken, no_empty_same, pairs_same}
 use Rattle.tree_cut.proofs.Turns.{earlier_turns, later_turns, turn, turn_here}

@@ -7,7 +7,7 @@ use Rattle.tree_model.specs.Pairs.{meets_lower, meets_upper}
 use Rattle.tree_node.proofs.Frames.{all_both}
 use Rattle.tree_node.proofs.Places.{child_between, first_child, high_at, low_at}
 use Rattle.tree_node.proofs.Walks.{parted_above, walk_above, walk_up_to}
-use Rattle.tree_cut.specs.Places.{Narrows}
+use Rattle.tree_borders.specs.Places.{Narrows}
 use Rattle.tree_cut.proofs.Bounds.{key_after, key_before, upper_down}
 
 filter_alike : {X : Type 0} (test other : X → Bool) (xs : List X) → AllByRecursion (λ x. test x ≡ other x) xs → filter test xs ≡ filter other xs

@@ -4,7 +4,7 @@ use Rattle.tree_node.proofs.Common.{in_turn}
 use Rattle.std.proofs.lemmas.Option.{slice_get_past}
 use Rattle.tree_leaf.specs.Chain.{first_or, last_or}
 use Rattle.tree_node.proofs.Places.{first_child, later_children}
-use Rattle.tree_cut.specs.Places.{keyed_or}
+use Rattle.tree_borders.specs.Places.{keyed_or}
 
 pub last_or-some : (before : Option ℕ) (front : List ℕ) (x : ℕ) → last_or before (front ++ x ∷ []) ≡ Some x
 last_or-some before [] x = refl

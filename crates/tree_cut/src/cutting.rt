@@ -7,10 +7,11 @@ ghost use Rattle.tree_model.specs.Pairs.{high_of, low_of};
 ghost use Rattle.tree_node.specs.Parts.{IsPart};
 ghost use Rattle.tree_node.specs.Tree.{IsRetired, Stands, children_of, walk};
 
-use crate::borders::{first_place, is_open, last_place, narrowed};
 use crate::dropping::{count_fits, drop_child};
-use crate::parts::{Part, child_at, keyed_count, slot_at};
+use crate::parts::{Part, child_at};
 use std::ops::Bound;
+use tree_borders::borders::{first_place, is_open, last_place, narrowed};
+use tree_borders::places::{keyed_count, slot_at};
 use tree_leaf::arena::{LeafId, NodeId};
 use tree_node::node::ArenasOf;
 

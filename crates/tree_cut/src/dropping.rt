@@ -6,7 +6,8 @@ ghost use Rattle.tree_cut.specs.Parts.{Frees, IsAt, IsForest, end_of, part_id};
 ghost use Rattle.tree_node.specs.Parts.{IsPart, Replaces};
 ghost use Rattle.tree_node.specs.Tree.{HasKind, Stands, leaves_at, node_children, unbounded, walk};
 
-use crate::parts::{Part, child_at, keyed_count, slot_at};
+use crate::parts::{Part, child_at};
+use tree_borders::places::{keyed_count, slot_at};
 use tree_clean_up::take_keyed;
 use tree_leaf::arena::{LeafId, NodeId};
 use tree_leaf::leaf::splice_link;

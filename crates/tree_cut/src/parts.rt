@@ -1,8 +1,6 @@
 //! Parts: what stands under a number, and the children of a node by their places.
-ghost use Rattle.std.specs.Prelude.{◌≡◌, ◌<◌, IsSome, MatchOption, None, Some, length, slice_get, ℕ};
-ghost use Rattle.tree_array.specs.Arrivals.{arrival};
-ghost use Rattle.tree_array.specs.Sound.{IsSound};
-ghost use Rattle.tree_cut.specs.Places.{keyed_or};
+ghost use Rattle.std.specs.Prelude.{◌≡◌, IsSome, Some, slice_get, ℕ};
+ghost use Rattle.tree_borders.specs.Places.{keyed_or};
 ghost use Rattle.tree_cut.specs.Parts.{IsAt, part_id};
 ghost use Rattle.tree_node.specs.Tree.{HasKind, keyed, unbounded};
 
@@ -48,41 +46,4 @@ fn id_at<K: Ord + Drop, I: Copy + Drop, const LEN: usize>(
         Some(slot) => Some(*children.val(slot)),
         None => unbounded,
     }
-}
-
-/// Returns the slot of the keyed child at a place, or `None` behind the last.
-pub(crate) fn slot_at<K: Ord + Drop, const LEN: usize>(
-    node: &NodeOf<K, LEN>,
-    place: u8,
-) -> Option<u8>
-    ensures { MatchOption result (slice_get (keyed node.now).entries place ≡ None)
-        (λ slot. (pair : _) × (arrival (keyed node.now).arrivals slot ≡ Some pair)
-        × (slice_get (keyed node.now).entries place ≡ Some pair)) }
-{
-    match node {
-        NodeOf::Leaf(node) => node.children.slot_at(place),
-        NodeOf::Internal(node) => node.children.slot_at(place),
-    }
-}
-
-/// Returns how many keyed children a node has.
-pub(crate) fn keyed_count<K: Ord + Drop, const LEN: usize>(node: &NodeOf<K, LEN>) -> u8
-    ensures count { result ≡ length (keyed node.now).entries }
-    ensures few { result < 16 }
-{
-    match node {
-        NodeOf::Leaf(node) => count(&node.children),
-        NodeOf::Internal(node) => count(&node.children),
-    }
-}
-
-/// Returns how many entries an array has.
-pub(crate) fn count<K: Ord + Drop, I: Drop, const LEN: usize>(children: &ArrayOf<K, I, LEN>) -> u8
-    ensures count { result ≡ length children.now.entries }
-    ensures few { result < 16 }
-    ensures sound { IsSound K.cmp LEN children.now }
-{
-    // The contract of `free` says how many entries an array has at most.
-    let _ = children.free();
-    children.len() as u8
 }

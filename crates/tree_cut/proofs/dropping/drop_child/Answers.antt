@@ -1,7 +1,8 @@
 use Rattle.std.proofs.Common.{rules, ◌-◌, arith}
 use Rattle.tree_node.proofs.Common.{ContainsKey, keyed, unbounded, fits}
+use Rattle.tree_borders.proofs.Searches.{none_past}
 use Rattle.tree_cut.specs.Parts.{part_id}
-use Rattle.tree_cut.proofs.NodeSteps.{child_at, dropped, keyed_here, node_at, node_used, none_after_drop, none_past, part_below, slot_stays}
+use Rattle.tree_cut.proofs.NodeSteps.{child_at, dropped, keyed_here, node_at, node_used, none_after_drop, part_below, slot_stays}
 use Rattle.tree_cut.proofs.dropping.drop_child.Goals as goal
 
 pub node-node-requires : goal.node-node-requires

@@ -1,19 +1,16 @@
 //! The places at which a cut of a node begins and ends.
 ghost use Rattle.std.specs.Prelude.{◌≡◌, ◌<◌, true};
-ghost use Rattle.tree_cut.specs.Places.{BeginsAt, EndsAt, Narrows, PartsAt};
+ghost use Rattle.tree_borders.specs.Places.{BeginsAt, EndsAt, Narrows, PartsAt};
 ghost use Rattle.tree_model.specs.Pairs.{high_of, lent_bound, low_of};
 ghost use Rattle.tree_node.specs.Tree.{keyed};
 
-use crate::parts::{count, keyed_count};
+use crate::places::{count, keyed_count};
 use std::ops::Bound;
 use tree_array::array::ArrayOf;
 use tree_node::node::NodeOf;
 
 /// Returns the place of the first child that may have a key that meets a lower bound. Searches the node's array once.
-pub(crate) fn first_place<K: Ord + Drop, const LEN: usize>(
-    node: &NodeOf<K, LEN>,
-    low: Bound<&K>,
-) -> u8
+pub fn first_place<K: Ord + Drop, const LEN: usize>(node: &NodeOf<K, LEN>, low: Bound<&K>) -> u8
     ensures { BeginsAt K.cmp (lent_bound low.entry) (keyed node.now).entries result }
 {
     match low {
@@ -24,10 +21,7 @@ pub(crate) fn first_place<K: Ord + Drop, const LEN: usize>(
 }
 
 /// Returns the place of the last child that may have a key that meets an upper bound. Searches the node's array once.
-pub(crate) fn last_place<K: Ord + Drop, const LEN: usize>(
-    node: &NodeOf<K, LEN>,
-    high: Bound<&K>,
-) -> u8
+pub fn last_place<K: Ord + Drop, const LEN: usize>(node: &NodeOf<K, LEN>, high: Bound<&K>) -> u8
     ensures ends { EndsAt K.cmp (lent_bound high.entry) (keyed node.now).entries result }
     ensures few { result < 16 }
 {
@@ -71,7 +65,7 @@ fn place_for<K: Ord + Drop, I: Drop, const LEN: usize>(children: &ArrayOf<K, I, 
 
 /// Returns the bounds that are left to test in the child at a place: the lower one in the first child, the upper one in
 /// the last, and none between them.
-pub(crate) fn narrowed<'a, K>(
+pub fn narrowed<'a, K>(
     bounds: (Bound<&'a K>, Bound<&'a K>),
     place: u8,
     first: u8,
@@ -94,7 +88,7 @@ pub(crate) fn narrowed<'a, K>(
 }
 
 /// Returns whether neither bound is left to test.
-pub(crate) fn is_open<K>(bounds: (Bound<&K>, Bound<&K>)) -> bool
+pub fn is_open<K>(bounds: (Bound<&K>, Bound<&K>)) -> bool
     ensures { result ≡ true → (low_of bounds.entry ≡ Bound.Unbounded) × (high_of bounds.entry ≡ Bound.Unbounded) }
 {
     match bounds {

@@ -1,7 +1,6 @@
 use Rattle.std.proofs.Common.{arith}
-use Rattle.tree_cut.proofs.NodeSteps.{none_past}
-use Rattle.tree_cut.proofs.Searches.{parts_all, parts_here, smaller_next}
-use Rattle.tree_cut.proofs.borders.place_for.Goals as goal
+use Rattle.tree_borders.proofs.Searches.{none_past, parts_all, parts_here, smaller_next}
+use Rattle.tree_borders.proofs.borders.place_for.Goals as goal
 
 pub returns-in_default-clause-parts : goal.returns-in_default-clause-parts
 returns-in_default-clause-parts g c = parts_all g.met.K.Ord.total c.args.key.now c.args.children.now.entries _ c.count-all.ensures.count (rw c.in_default.is at c.slot_for.ensures)

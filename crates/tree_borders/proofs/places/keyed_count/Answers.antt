@@ -1,4 +1,4 @@
-use Rattle.tree_cut.proofs.parts.keyed_count.Goals as goal
+use Rattle.tree_borders.proofs.places.keyed_count.Goals as goal
 
 pub returns-in-Leaf-clause-count : goal.returns-in-Leaf-clause-count
 returns-in-Leaf-clause-count g c = rw c.in-Leaf.is c.count.ensures.count

@@ -3,7 +3,7 @@ use Rattle.std.proofs.Common.{◌≡◌, ℕ, zero, suc, ◌+◌, ◌<◌, Bool,
 use Rattle.tree_model.proofs.Common.{AllByRecursion, IsTotalOrder, tied_itself, drop_all, IsAscending}
 use Rattle.tree_array.proofs.Common.{Arrivals, arrival, least_from, IsSound, all_map}
 use Rattle.tree_node.proofs.Order.{less_from_test}
-use Rattle.tree_cut.specs.Places.{PartsAt}
+use Rattle.tree_borders.specs.Places.{PartsAt}
 
 not_less : (c : Ordering) → c ≡ Less → is_ge c ≡ true → ⊥
 not_less c less ge = let bad = rw less at ge in cc
@@ -15,6 +15,12 @@ module _ {K : Type 0} {cmp : K → K → Ordering} (o : IsTotalOrder cmp) (key :
       by_test : (b : Bool) → is_ge (cmp t key) ≡ b → is_ge (cmp t key) ≡ true
       by_test true e = e
       by_test false e = absurd (not_less (cmp s key) (o.trans s t key less (less_from_test o t key e)) ge)
+
+-- a keyed child is at each place before the last
+pub none_past : {X : Type 0} (xs : List X) (place : ℕ) → place < length xs → slice_get xs place ≡ None → ⊥
+none_past [] place within none = omega (arith, within)
+none_past (x ∷ xs) zero within none = cc
+none_past (x ∷ xs) (suc place) within none = none_past xs place (omega (arith, within)) none
 
 module _ {K X : Type 0} {cmp : K → K → Ordering} (o : IsTotalOrder cmp) (key : K) where
   abbrev Smaller : K × X → Type 0

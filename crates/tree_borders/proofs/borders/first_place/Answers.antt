@@ -1,5 +1,5 @@
-use Rattle.tree_cut.proofs.Bounds.{begins_excluded, begins_included, begins_open}
-use Rattle.tree_cut.proofs.borders.first_place.Goals as goal
+use Rattle.tree_borders.proofs.Bounds.{begins_excluded, begins_included, begins_open}
+use Rattle.tree_borders.proofs.borders.first_place.Goals as goal
 
 pub returns-in-Included : goal.returns-in-Included
 returns-in-Included g c = rw c.in-Included.is (begins_included g.met.K.Ord.total _ _ _ c.place_in.ensures.parts)

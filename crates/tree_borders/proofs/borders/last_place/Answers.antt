@@ -1,5 +1,5 @@
-use Rattle.tree_cut.proofs.Bounds.{ends_excluded, ends_included, ends_open}
-use Rattle.tree_cut.proofs.borders.last_place.Goals as goal
+use Rattle.tree_borders.proofs.Bounds.{ends_excluded, ends_included, ends_open}
+use Rattle.tree_borders.proofs.borders.last_place.Goals as goal
 
 pub returns-in-Included-clause-ends : goal.returns-in-Included-clause-ends
 returns-in-Included-clause-ends g c = rw c.in-Included.is (ends_included g.met.K.Ord.total _ _ _ c.place_in.ensures.parts)

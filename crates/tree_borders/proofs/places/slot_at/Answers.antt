@@ -1,4 +1,4 @@
-use Rattle.tree_cut.proofs.parts.slot_at.Goals as goal
+use Rattle.tree_borders.proofs.places.slot_at.Goals as goal
 
 pub returns-in-Leaf : goal.returns-in-Leaf
 returns-in-Leaf g c = rw c.in-Leaf.is c.slot_at.ensures

@@ -1,4 +1,4 @@
-use Rattle.tree_cut.proofs.borders.place_in.Goals as goal
+use Rattle.tree_borders.proofs.borders.place_in.Goals as goal
 
 pub returns-in-Leaf-clause-parts : goal.returns-in-Leaf-clause-parts
 returns-in-Leaf-clause-parts g c = rw c.in-Leaf.is c.place_for.ensures.parts
