@@ -4,9 +4,10 @@ use Rattle.tree_model.proofs.Common.{Appends}
 use Rattle.std.specs.Io.KnownBytes.{Consumes, IsAtEnd}
 use Rattle.std.proofs.KnownBytes.{Appends-nil, Appends-trans, Consumes-trans}
 use Rattle.tree_lines.specs.declared.lines.ToolFault.TheVariants.{Read, Write}
-use Rattle.tree_lines.specs.Lines.{with_feed, text_of, Says, Script, last_line}
-use Rattle.tree_lines.specs.Writing.{Writes}
-use Rattle.tree_lines.specs.Progress.{clip, Carried, Carries, Breaks, EndsInput}
+use Rattle.tree_requests.specs.Lines.{with_feed, text_of, last_line, clip}
+use Rattle.tree_lines.specs.Lines.{Says, Script}
+use Rattle.tree_requests.specs.Writing.{Writes}
+use Rattle.tree_lines.specs.Progress.{Carried, Carries, Breaks, EndsInput}
 use Rattle.tree_lines.specs.Runs.{RunsLines}
 use Rattle.tree_lines.proofs.Scripts.{text_of-append, Script-append}
 use Rattle.tree_lines.proofs.Steps.{broke_before, breaks_later}

@@ -1,8 +1,3 @@
-pub mod FirstWords
-pub mod Decimals
-pub mod Spellings
-pub mod Names
-pub mod Writes
 pub mod Pieces
 pub mod Located
 pub mod Scripts

@@ -1,5 +1,5 @@
 -- Where a key is among ascending pairs, as a line tells it.
-use Rattle.std.proofs.Common.{◌≡◌, ℕ, zero, suc, ◌-◌, ◌<◌, ◌==◌, Bool, true, false, if◌then◌else◌, List, [], ◌∷◌, ◌++◌, length, slice_get, Option, Some, None, refl, sym, ap, ◌∙◌, subst, append-nil, length-append, arith, codes, is_some, is_gt, is_lt, is_eq, nat_cmp, Ordering, Less, Equal, Greater}
+use Rattle.std.proofs.Common.{◌≡◌, ℕ, suc, ◌-◌, ◌==◌, Bool, true, false, if◌then◌else◌, List, [], ◌∷◌, ◌++◌, length, slice_get, Option, Some, None, refl, sym, ap, ◌∙◌, subst, append-nil, length-append, arith, codes, is_some, is_gt, is_lt, is_eq, nat_cmp, Ordering, Less, Equal, Greater}
 use Rattle.tree_model.proofs.Common.{AllByRecursion, nat_tests, nat_cmp_total, tied_back, AllLarger, IsAscending, above, below, pair_at, Cursor, at_place, shown, unopened}
 use Rattle.tree_model.specs.declared.way.Way.TheVariants.{On, Back}
 use Rattle.std.specs.Option.{option_map_or}
@@ -9,7 +9,8 @@ use Rattle.tree_model.specs.declared.proximity.ProximityOf.{ProximityOf}
 use Rattle.tree_model.specs.declared.proximity.ProximityOf.TheVariants.{Exact, Between, Smaller, Larger, Empty}
 use Rattle.tree_model.specs.Cursor.{with_ends}
 use Rattle.tree_model.specs.Located.{located, located_at}
-use Rattle.tree_lines.specs.Lines.{behind_spaces, beside_text, first_pair, last_pair, near_text, pair_text}
+use Rattle.tree_requests.specs.Lines.{behind_spaces}
+use Rattle.tree_lines.specs.Lines.{beside_text, first_pair, last_pair, near_text, pair_text}
 use Rattle.tree_lines.specs.Pairs.{listed, told_text}
 
 -- what a line tells of the cursor that stands there

@@ -1,6 +1,4 @@
 pub mod Lines
 pub mod Pairs
-pub mod Words
-pub mod Writing
 pub mod Progress
 pub mod Runs

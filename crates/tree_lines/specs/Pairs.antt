@@ -1,6 +1,7 @@
 -- Texts of pairs, piece by piece.
 use Rattle.std.specs.Prelude.{ℕ, Bool, true, false, List, [], ◌∷◌, ◌++◌, map, Option, Some, None}
-use Rattle.tree_lines.specs.Lines.{behind_spaces, pair_text, pairs_text, with_feed}
+use Rattle.tree_requests.specs.Lines.{behind_spaces, with_feed}
+use Rattle.tree_lines.specs.Lines.{pair_text, pairs_text}
 
 -- a pair, behind a space unless it is the first
 abbrev pub parted_text : Bool → ℕ × ℕ → List ℕ

@@ -1,12 +1,13 @@
 -- The effect of bytes that are read: answers that are written, and a line that is begun.
-use Rattle.std.specs.Prelude.{◌≡◌, ◌≢◌, ℕ, List, [], ◌∷◌, ◌++◌, Option, Some, None, Result, Ok, Err, length, reverse, nat_le, if◌then◌else◌, codes, decimal}
+use Rattle.std.specs.Prelude.{◌≡◌, ◌≢◌, ℕ, List, [], ◌∷◌, ◌++◌, Option, Some, None, Result, Ok, Err, reverse, codes, decimal}
 use Rattle.std.specs.List.{AllByRecursion}
 use Rattle.std.specs.Io.KnownBytes.{Appends}
-use Rattle.tree_lines.specs.declared.requests.Request.{Request}
+use Rattle.tree_requests.specs.declared.requests.Request.{Request}
 use Rattle.tree_lines.specs.declared.answers.Answer.{Answer}
 use Rattle.tree_lines.specs.declared.answers.Answer.TheVariants.{Done, Duplicate, Refused, Missing, Truth, Unknown, Value, Ascending, Descending, Near}
-use Rattle.tree_lines.specs.Lines.{IsLine, with_feed, text_of, HasLines, last_line, Script, Says, Answers, truth, pairs_text, inside, near_text}
-use Rattle.tree_lines.specs.Writing.{IsFront}
+use Rattle.tree_requests.specs.Lines.{IsLine, with_feed, text_of, HasLines, last_line, clip}
+use Rattle.tree_lines.specs.Lines.{Script, Says, Answers, truth, pairs_text, inside, near_text}
+use Rattle.tree_requests.specs.Writing.{IsFront}
 
 -- the text of an answer, by the pairs of the index that gave it
 abbrev pub answer_text : List (ℕ × ℕ) → Answer → List ℕ
@@ -20,10 +21,6 @@ answer_text pairs (Value n) = decimal n
 answer_text pairs (Ascending low high) = pairs_text (inside low high pairs)
 answer_text pairs Descending = pairs_text (reverse pairs)
 answer_text pairs (Near key) = near_text pairs key
-
--- what is kept of a line: nothing if it is too long
-abbrev pub clip : List ℕ → Option (List ℕ)
-clip line = if nat_le (length line) 256 then Some line else None
 
 -- A line has ended: a line feed follows it, or it is not empty and the text ends there.
 abbrev pub EndsLine : Type 0 → List ℕ → List ℕ → Type 0

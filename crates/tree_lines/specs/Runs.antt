@@ -3,7 +3,8 @@ use Rattle.std.specs.Prelude.{◌≡◌, ℕ, List, ◌++◌, Option, Result, Ok
 use Rattle.std.specs.Io.KnownBytes.{Appends, Consumes, IsAtEnd}
 use Rattle.tree_lines.specs.declared.lines.ToolFault.{ToolFault}
 use Rattle.tree_lines.specs.declared.lines.ToolFault.TheVariants.{Read, Write}
-use Rattle.tree_lines.specs.Lines.{text_of, HasLines, last_line, Script}
+use Rattle.tree_requests.specs.Lines.{text_of, HasLines, last_line}
+use Rattle.tree_lines.specs.Lines.{Script}
 use Rattle.tree_lines.specs.Progress.{BrokeOff}
 
 -- What a run over lines read and wrote.

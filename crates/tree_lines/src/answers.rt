@@ -2,18 +2,16 @@
 ghost use Rattle.std.specs.Prelude.{◌≡◌, ℕ, List};
 ghost use Rattle.std.specs.Ordering.{nat_cmp};
 ghost use Rattle.tree_model.specs.Edits.{RemovesIf};
-ghost use Rattle.tree_lines.specs.Lines.{with_feed, Says, SaysEqual};
-ghost use Rattle.tree_lines.specs.Progress.{answer_text, clip, Responds};
-ghost use Rattle.tree_lines.specs.Writing.{Writes};
+ghost use Rattle.tree_requests.specs.Lines.{clip, with_feed};
+ghost use Rattle.tree_lines.specs.Lines.{Says, SaysEqual};
+ghost use Rattle.tree_lines.specs.Progress.{answer_text, Responds};
+ghost use Rattle.tree_requests.specs.Writing.{Writes};
 
-use crate::begun_line::BegunLine;
 use crate::pairs::{write_ascending, write_descending, write_near};
-use crate::requests::{Request, request_of};
-use crate::short_text::ShortText;
-use crate::writing::{WriteFailed, write_whole};
 use std::io::Write;
 use std::ops::Bound;
 use tree_index::{InsertError, TreeIndexOf};
+use tree_requests::{BegunLine, Request, ShortText, WriteFailed, request_of, write_whole};
 
 /// The answer to a line.
 #[derive(Clone, Copy, Debug)]

@@ -1,19 +1,9 @@
-//! Requests to an ordered index as lines of text: the grammar, and an engine that answers them over
-//! any reader and writer.
+//! Requests to an ordered index as lines of text: an engine that answers them over any reader and writer.
 #![tactic(auto)]
 
 mod answers;
-mod begun_line;
-mod bounds;
 mod lines;
-mod numbers;
 mod pairs;
-mod requests;
-mod short_text;
-mod words;
-mod writing;
 
 pub use lines::{ToolFault, run_lines};
-pub use numbers::number_of;
-pub use requests::Request;
-pub use writing::{WriteFailed, write_number, write_whole};
+pub use tree_requests::{Request, WriteFailed, number_of, write_number, write_whole};

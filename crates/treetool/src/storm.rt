@@ -1,7 +1,7 @@
 //! The storm: threads that fill a shared index, and the line that tells what came of it.
 ghost use Rattle.std.specs.Prelude.{◌≤◌, ◌++◌, decimal, map};
 ghost use Rattle.std.specs.String.{string_bytes};
-ghost use Rattle.tree_lines.specs.Writing.{Writes};
+ghost use Rattle.tree_requests.specs.Writing.{Writes};
 ghost use Rattle.treetool.specs.Storm.{AsksForStorm, IsStorm, RunsStorm, storm_line};
 
 use std::alloc::Global;

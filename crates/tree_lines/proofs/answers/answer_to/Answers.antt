@@ -1,9 +1,10 @@
 use Rattle.std.proofs.Common.{◌≡◌, ℕ, Bool, true, false, if◌then◌else◌, List, length, Option, Some, None, inl, inr, refl, sym, ap, ◌∙◌, nat_le, option_map}
-use Rattle.tree_lines.specs.declared.requests.Request.{Request}
-use Rattle.tree_lines.specs.Lines.{Fits, Says, spelling}
+use Rattle.tree_requests.specs.declared.requests.Request.{Request}
+use Rattle.tree_requests.specs.Lines.{Fits, spelling}
+use Rattle.tree_lines.specs.Lines.{Says}
 use Rattle.tree_lines.specs.Progress.{Responds, answer_text}
-use Rattle.tree_lines.specs.Words.{ReadsAs}
-use Rattle.tree_lines.proofs.Spellings.{long_no_request}
+use Rattle.tree_requests.specs.Words.{ReadsAs}
+use Rattle.tree_requests.proofs.Spellings.{long_no_request}
 use Rattle.tree_lines.proofs.answers.answer_to.Goals as goal
 
 -- a line that is kept is kept whole

@@ -1,5 +1,5 @@
 use Rattle.std.proofs.Common.{inl, inr, refl, codes}
-use Rattle.tree_lines.specs.Lines.{with_feed}
+use Rattle.tree_requests.specs.Lines.{with_feed}
 use Rattle.treetool.specs.Storm.{storm_line}
 use Rattle.treetool.proofs.Storms.{ends_in_part, ends_whole}
 use Rattle.treetool.proofs.storm.run_storm.Goals as goal
