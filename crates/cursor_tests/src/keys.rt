@@ -2,10 +2,11 @@
 ghost use Rattle.std.specs.Iterator.{IsFinite};
 
 use crate::said::put;
-use std::alloc::{AllocError, Global};
+use std::alloc::AllocError;
 use std::process::Abort;
 use test_support::refusals::succeeds;
-use tree_index::{SmallTreeIndex, TreeIndex, TreeIndexOf};
+use tree_index::TreeIndexOf;
+use tree_support::{Steps, at_both_sizes};
 
 /// The end of a walk that is asked.
 #[derive(Clone, Copy)]
@@ -91,28 +92,28 @@ fn expect_steps<'t, I: DoubleEndedIterator<Item = &'t u64>>(
     }
 }
 
-fn row_steps(rt: &impl Abort, alloc: Global, (last, steps): Row) -> Result<(), AllocError> {
-    let mut index: TreeIndex<u64, u64> = TreeIndex::new(alloc);
-    store(&mut index, last)?;
-    expect_steps(rt, index.keys(), steps, 1);
-    expect_steps(rt, index.values(), steps, 10);
-    Ok(())
+/// Asks the ends of both walks of each row.
+#[derive(Drop)]
+struct Asking<'r, R> {
+    rt: &'r R,
 }
 
-fn small_row_steps(rt: &impl Abort, alloc: Global, (last, steps): Row) -> Result<(), AllocError> {
-    let mut index: SmallTreeIndex<u64, u64> = SmallTreeIndex::new(alloc);
-    store(&mut index, last)?;
-    expect_steps(rt, index.keys(), steps, 1);
-    expect_steps(rt, index.values(), steps, 10);
-    Ok(())
+impl<R: Abort, const LEN: usize> Steps<TreeIndexOf<u64, u64, LEN>> for Asking<'_, R> {
+    fn take(&self, index: &mut TreeIndexOf<u64, u64, LEN>) -> Result<(), AllocError> {
+        for (last, steps) in &ROWS {
+            index.clear();
+            store(index, *last)?;
+            expect_steps(self.rt, index.keys(), steps, 1);
+            expect_steps(self.rt, index.values(), steps, 10);
+        }
+        Ok(())
+    }
 }
 
 #[test]
 fn both_ends_give_keys_and_values(rt: HostRuntime) {
-    for row in &ROWS {
-        assert!(rt; succeeds(rt.alloc(), || row_steps(&rt, rt.alloc(), *row)));
-        assert!(rt; succeeds(rt.alloc(), || small_row_steps(&rt, rt.alloc(), *row)));
-    }
+    let steps = Asking { rt: &rt };
+    assert!(rt; succeeds(rt.alloc(), || at_both_sizes(rt.alloc(), &steps)));
 }
 
 /// Takes all that a walk gives, which is the keys up to the last times a factor.
@@ -128,24 +129,24 @@ fn expect_all<'t, I: Iterator<Item = &'t u64>>(rt: &impl Abort, walk: I, last: u
     assert!(rt; given == last);
 }
 
-fn all_steps(rt: &impl Abort, alloc: Global) -> Result<(), AllocError> {
-    let mut index: TreeIndex<u64, u64> = TreeIndex::new(alloc);
-    store(&mut index, 300)?;
-    expect_all(rt, index.keys(), 300, 1);
-    expect_all(rt, index.values(), 300, 10);
-    Ok(())
+/// Walks over the keys and values of three levels.
+#[derive(Drop)]
+struct Walking<'r, R> {
+    rt: &'r R,
 }
 
-fn small_all_steps(rt: &impl Abort, alloc: Global) -> Result<(), AllocError> {
-    let mut index: SmallTreeIndex<u64, u64> = SmallTreeIndex::new(alloc);
-    store(&mut index, 100)?;
-    expect_all(rt, index.keys(), 100, 1);
-    expect_all(rt, index.values(), 100, 10);
-    Ok(())
+impl<R: Abort, const LEN: usize> Steps<TreeIndexOf<u64, u64, LEN>> for Walking<'_, R> {
+    fn take(&self, index: &mut TreeIndexOf<u64, u64, LEN>) -> Result<(), AllocError> {
+        let last = if LEN == 7 { 100 } else { 300 };
+        store(index, last)?;
+        expect_all(self.rt, index.keys(), last, 1);
+        expect_all(self.rt, index.values(), last, 10);
+        Ok(())
+    }
 }
 
 #[test]
 fn gives_all_of_three_levels(rt: HostRuntime) {
-    assert!(rt; succeeds(rt.alloc(), || all_steps(&rt, rt.alloc())));
-    assert!(rt; succeeds(rt.alloc(), || small_all_steps(&rt, rt.alloc())));
+    let steps = Walking { rt: &rt };
+    assert!(rt; succeeds(rt.alloc(), || at_both_sizes(rt.alloc(), &steps)));
 }
