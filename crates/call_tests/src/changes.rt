@@ -4,7 +4,7 @@ use std::alloc::{AllocError, Global};
 use std::process::Abort;
 use test_support::refusals::succeeds;
 use tree_index::{TreeIndex, TreeIndexOf};
-use tree_support::{Steps, at_both_sizes};
+use tree_support::{Scenario, at_both_sizes};
 
 /// Replaces and changes the value at each key up to the last, of which the even ones are present, and at one more.
 fn changes_all<const LEN: usize>(rt: &impl Abort, index: &mut TreeIndexOf<u64, u64, LEN>) {
@@ -45,8 +45,8 @@ struct Changing<'r, R> {
     rt: &'r R,
 }
 
-impl<R: Abort, const LEN: usize> Steps<TreeIndexOf<u64, u64, LEN>> for Changing<'_, R> {
-    fn take(&self, index: &mut TreeIndexOf<u64, u64, LEN>) -> Result<(), AllocError> {
+impl<R: Abort, const LEN: usize> Scenario<TreeIndexOf<u64, u64, LEN>> for Changing<'_, R> {
+    fn play(&self, index: &mut TreeIndexOf<u64, u64, LEN>) -> Result<(), AllocError> {
         for (count, is_emptied) in fills(LEN) {
             refill(index, *count, *is_emptied)?;
             changes_all(self.rt, index);
@@ -57,8 +57,8 @@ impl<R: Abort, const LEN: usize> Steps<TreeIndexOf<u64, u64, LEN>> for Changing<
 
 #[test]
 fn changes_values(rt: HostRuntime) {
-    let steps = Changing { rt: &rt };
-    assert!(rt; succeeds(rt.alloc(), || at_both_sizes(rt.alloc(), &steps)));
+    let scenario = Changing { rt: &rt };
+    assert!(rt; succeeds(rt.alloc(), || at_both_sizes(rt.alloc(), &scenario)));
 }
 
 /// Texts own memory, which must be given back once.

@@ -7,7 +7,7 @@ use std::iter::FromIterator;
 use std::process::Abort;
 use test_support::refusals::succeeds;
 use tree_index::{FromSortedError, SmallTreeIndex, TreeIndex, TreeIndexOf};
-use tree_support::{Steps, at_both_sizes};
+use tree_support::{Scenario, at_both_sizes};
 
 /// Returns the pairs of 0, 2, 4 and so on, so many, each with its key as its value.
 fn ascending(alloc: Global, count: u64) -> Result<Vec<(u64, u64)>, AllocError> {
@@ -42,8 +42,8 @@ struct Extending<'r, R> {
     alloc: Global,
 }
 
-impl<R: Abort, const LEN: usize> Steps<TreeIndexOf<u64, u64, LEN>> for Extending<'_, R> {
-    fn take(&self, index: &mut TreeIndexOf<u64, u64, LEN>) -> Result<(), AllocError> {
+impl<R: Abort, const LEN: usize> Scenario<TreeIndexOf<u64, u64, LEN>> for Extending<'_, R> {
+    fn play(&self, index: &mut TreeIndexOf<u64, u64, LEN>) -> Result<(), AllocError> {
         for (count, is_emptied) in fills(LEN) {
             refill(index, *count, *is_emptied)?;
             extends(self.rt, self.alloc, index)?;
@@ -54,11 +54,11 @@ impl<R: Abort, const LEN: usize> Steps<TreeIndexOf<u64, u64, LEN>> for Extending
 
 #[test]
 fn stores_each_pair(rt: HostRuntime) {
-    let steps = Extending {
+    let scenario = Extending {
         rt: &rt,
         alloc: rt.alloc(),
     };
-    assert!(rt; succeeds(rt.alloc(), || at_both_sizes(rt.alloc(), &steps)));
+    assert!(rt; succeeds(rt.alloc(), || at_both_sizes(rt.alloc(), &scenario)));
 }
 
 /// Returns the pairs in the other order.

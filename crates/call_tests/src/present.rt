@@ -4,7 +4,7 @@ use std::alloc::AllocError;
 use std::process::Abort;
 use test_support::refusals::succeeds;
 use tree_index::TreeIndexOf;
-use tree_support::{Steps, at_both_sizes};
+use tree_support::{Scenario, at_both_sizes};
 
 /// Returns the value that the call lends.
 fn lent<const LEN: usize>(
@@ -41,8 +41,8 @@ struct Asking<'r, R> {
     rt: &'r R,
 }
 
-impl<R: Abort, const LEN: usize> Steps<TreeIndexOf<u64, u64, LEN>> for Asking<'_, R> {
-    fn take(&self, index: &mut TreeIndexOf<u64, u64, LEN>) -> Result<(), AllocError> {
+impl<R: Abort, const LEN: usize> Scenario<TreeIndexOf<u64, u64, LEN>> for Asking<'_, R> {
+    fn play(&self, index: &mut TreeIndexOf<u64, u64, LEN>) -> Result<(), AllocError> {
         for (count, is_emptied) in fills(LEN) {
             refill(index, *count, *is_emptied)?;
             asks(self.rt, index)?;
@@ -53,6 +53,6 @@ impl<R: Abort, const LEN: usize> Steps<TreeIndexOf<u64, u64, LEN>> for Asking<'_
 
 #[test]
 fn lends_what_stands(rt: HostRuntime) {
-    let steps = Asking { rt: &rt };
-    assert!(rt; succeeds(rt.alloc(), || at_both_sizes(rt.alloc(), &steps)));
+    let scenario = Asking { rt: &rt };
+    assert!(rt; succeeds(rt.alloc(), || at_both_sizes(rt.alloc(), &scenario)));
 }

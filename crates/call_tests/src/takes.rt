@@ -3,7 +3,7 @@ use std::alloc::{AllocError, Global};
 use std::process::Abort;
 use test_support::refusals::succeeds;
 use tree_index::{TreeIndex, TreeIndexOf};
-use tree_support::{Steps, at_both_sizes};
+use tree_support::{Scenario, at_both_sizes};
 
 /// How many pairs an index has, at fifteen pairs a leaf: none, one, a full leaf, two leaves, and two and three levels.
 static COUNTS: [u64; 6] = [0, 1, 15, 16, 241, 3_616];
@@ -106,8 +106,8 @@ struct Taking<'r, R> {
     rt: &'r R,
 }
 
-impl<R: Abort, const LEN: usize> Steps<TreeIndexOf<u64, u64, LEN>> for Taking<'_, R> {
-    fn take(&self, index: &mut TreeIndexOf<u64, u64, LEN>) -> Result<(), AllocError> {
+impl<R: Abort, const LEN: usize> Scenario<TreeIndexOf<u64, u64, LEN>> for Taking<'_, R> {
+    fn play(&self, index: &mut TreeIndexOf<u64, u64, LEN>) -> Result<(), AllocError> {
         for count in if LEN == 7 { SMALL_COUNTS } else { COUNTS } {
             expect_takes(self.rt, index, count)?;
         }
@@ -117,8 +117,8 @@ impl<R: Abort, const LEN: usize> Steps<TreeIndexOf<u64, u64, LEN>> for Taking<'_
 
 #[test]
 fn takes_pairs_out(rt: HostRuntime) {
-    let steps = Taking { rt: &rt };
-    assert!(rt; succeeds(rt.alloc(), || at_both_sizes(rt.alloc(), &steps)));
+    let scenario = Taking { rt: &rt };
+    assert!(rt; succeeds(rt.alloc(), || at_both_sizes(rt.alloc(), &scenario)));
 }
 
 fn gives_by_value_steps(rt: &impl Abort, alloc: Global) -> Result<(), AllocError> {

@@ -6,7 +6,7 @@ use std::alloc::AllocError;
 use std::process::Abort;
 use test_support::refusals::succeeds;
 use tree_index::TreeIndexOf;
-use tree_support::{Steps, at_both_sizes};
+use tree_support::{Scenario, at_both_sizes};
 
 /// The end of a walk that is asked.
 #[derive(Clone, Copy)]
@@ -98,8 +98,8 @@ struct Asking<'r, R> {
     rt: &'r R,
 }
 
-impl<R: Abort, const LEN: usize> Steps<TreeIndexOf<u64, u64, LEN>> for Asking<'_, R> {
-    fn take(&self, index: &mut TreeIndexOf<u64, u64, LEN>) -> Result<(), AllocError> {
+impl<R: Abort, const LEN: usize> Scenario<TreeIndexOf<u64, u64, LEN>> for Asking<'_, R> {
+    fn play(&self, index: &mut TreeIndexOf<u64, u64, LEN>) -> Result<(), AllocError> {
         for (last, steps) in &ROWS {
             index.clear();
             store(index, *last)?;
@@ -112,8 +112,8 @@ impl<R: Abort, const LEN: usize> Steps<TreeIndexOf<u64, u64, LEN>> for Asking<'_
 
 #[test]
 fn both_ends_give_keys_and_values(rt: HostRuntime) {
-    let steps = Asking { rt: &rt };
-    assert!(rt; succeeds(rt.alloc(), || at_both_sizes(rt.alloc(), &steps)));
+    let scenario = Asking { rt: &rt };
+    assert!(rt; succeeds(rt.alloc(), || at_both_sizes(rt.alloc(), &scenario)));
 }
 
 /// Takes all that a walk gives, which is the keys up to the last times a factor.
@@ -135,8 +135,8 @@ struct Walking<'r, R> {
     rt: &'r R,
 }
 
-impl<R: Abort, const LEN: usize> Steps<TreeIndexOf<u64, u64, LEN>> for Walking<'_, R> {
-    fn take(&self, index: &mut TreeIndexOf<u64, u64, LEN>) -> Result<(), AllocError> {
+impl<R: Abort, const LEN: usize> Scenario<TreeIndexOf<u64, u64, LEN>> for Walking<'_, R> {
+    fn play(&self, index: &mut TreeIndexOf<u64, u64, LEN>) -> Result<(), AllocError> {
         let last = if LEN == 7 { 100 } else { 300 };
         store(index, last)?;
         expect_all(self.rt, index.keys(), last, 1);
@@ -147,6 +147,6 @@ impl<R: Abort, const LEN: usize> Steps<TreeIndexOf<u64, u64, LEN>> for Walking<'
 
 #[test]
 fn gives_all_of_three_levels(rt: HostRuntime) {
-    let steps = Walking { rt: &rt };
-    assert!(rt; succeeds(rt.alloc(), || at_both_sizes(rt.alloc(), &steps)));
+    let scenario = Walking { rt: &rt };
+    assert!(rt; succeeds(rt.alloc(), || at_both_sizes(rt.alloc(), &scenario)));
 }

@@ -4,7 +4,7 @@ use std::alloc::AllocError;
 use std::process::Abort;
 use test_support::refusals::succeeds;
 use tree_index::TreeIndexOf;
-use tree_support::{Steps, at_both_sizes};
+use tree_support::{Scenario, at_both_sizes};
 
 /// The key of a pair, if there is one.
 fn key_of(pair: Option<(&u64, &u64)>) -> Option<u64> {
@@ -90,8 +90,8 @@ struct Looking<'r, R> {
     rt: &'r R,
 }
 
-impl<R: Abort, const LEN: usize> Steps<TreeIndexOf<u64, u64, LEN>> for Looking<'_, R> {
-    fn take(&self, index: &mut TreeIndexOf<u64, u64, LEN>) -> Result<(), AllocError> {
+impl<R: Abort, const LEN: usize> Scenario<TreeIndexOf<u64, u64, LEN>> for Looking<'_, R> {
+    fn play(&self, index: &mut TreeIndexOf<u64, u64, LEN>) -> Result<(), AllocError> {
         for len in if LEN == 7 { SMALL_COUNTS } else { COUNTS } {
             index.clear();
             expect_nearest(self.rt, index, len)?;
@@ -102,6 +102,6 @@ impl<R: Abort, const LEN: usize> Steps<TreeIndexOf<u64, u64, LEN>> for Looking<'
 
 #[test]
 fn finds_the_nearest(rt: HostRuntime) {
-    let steps = Looking { rt: &rt };
-    assert!(rt; succeeds(rt.alloc(), || at_both_sizes(rt.alloc(), &steps)));
+    let scenario = Looking { rt: &rt };
+    assert!(rt; succeeds(rt.alloc(), || at_both_sizes(rt.alloc(), &scenario)));
 }

@@ -1,15 +1,15 @@
 //! What the tests of an index and of its nodes share: a walk over a tree, which tells what is wrong with it, keys that count their
-//! comparisons, and steps that an index of either size takes.
+//! comparisons, and scenarios that are played over an index of either size.
 #![tactic(auto)]
 
 mod asked;
 mod flaw;
 mod index;
-mod sizes;
+mod scenario;
 mod walker;
 
 pub use asked::Asked;
 pub use flaw::Flaw;
 pub use index::flaws;
-pub use sizes::{Steps, at_both_sizes};
+pub use scenario::{Scenario, at_both_sizes};
 pub use walker::walk;
