@@ -92,6 +92,24 @@ fn expect_steps<'t, I: DoubleEndedIterator<Item = &'t u64>>(
     }
 }
 
+/// Asks the ends of a walk over the keys.
+fn ask_keys<const LEN: usize>(
+    rt: &impl Abort,
+    index: &TreeIndexOf<u64, u64, LEN>,
+    steps: &[(End, Option<u64>)],
+) {
+    expect_steps(rt, index.keys(), steps, 1);
+}
+
+/// Asks the ends of a walk over the values.
+fn ask_values<const LEN: usize>(
+    rt: &impl Abort,
+    index: &TreeIndexOf<u64, u64, LEN>,
+    steps: &[(End, Option<u64>)],
+) {
+    expect_steps(rt, index.values(), steps, 10);
+}
+
 /// Asks the ends of both walks of each row.
 #[derive(Drop)]
 struct Asking<'r, R> {
@@ -103,8 +121,8 @@ impl<R: Abort, const LEN: usize> Scenario<TreeIndexOf<u64, u64, LEN>> for Asking
         for (last, steps) in &ROWS {
             index.clear();
             store(index, *last)?;
-            expect_steps(self.rt, index.keys(), steps, 1);
-            expect_steps(self.rt, index.values(), steps, 10);
+            ask_keys(self.rt, index, *steps);
+            ask_values(self.rt, index, *steps);
         }
         Ok(())
     }
@@ -129,6 +147,24 @@ fn expect_all<'t, I: Iterator<Item = &'t u64>>(rt: &impl Abort, walk: I, last: u
     assert!(rt; given == last);
 }
 
+/// Takes all that a walk over the keys gives.
+fn expect_all_keys<const LEN: usize>(
+    rt: &impl Abort,
+    index: &TreeIndexOf<u64, u64, LEN>,
+    last: u64,
+) {
+    expect_all(rt, index.keys(), last, 1);
+}
+
+/// Takes all that a walk over the values gives.
+fn expect_all_values<const LEN: usize>(
+    rt: &impl Abort,
+    index: &TreeIndexOf<u64, u64, LEN>,
+    last: u64,
+) {
+    expect_all(rt, index.values(), last, 10);
+}
+
 /// Walks over the keys and values of three levels.
 #[derive(Drop)]
 struct Walking<'r, R> {
@@ -139,8 +175,8 @@ impl<R: Abort, const LEN: usize> Scenario<TreeIndexOf<u64, u64, LEN>> for Walkin
     fn play(&self, index: &mut TreeIndexOf<u64, u64, LEN>) -> Result<(), AllocError> {
         let last = if LEN == 7 { 100 } else { 300 };
         store(index, last)?;
-        expect_all(self.rt, index.keys(), last, 1);
-        expect_all(self.rt, index.values(), last, 10);
+        expect_all_keys(self.rt, index, last);
+        expect_all_values(self.rt, index, last);
         Ok(())
     }
 }
