@@ -90,6 +90,11 @@ fn has_alone<const LEN: usize>(leaf: &mut LeafOf<u64, u64, LEN>, key: u64) -> bo
 /// Arenas whose nodes are numbers.
 type Places<const LEN: usize> = SlotsOf<u64, u64, u64, LEN>;
 
+/// How many leaves and nodes there are.
+fn counts_of<const LEN: usize>(arenas: &Places<LEN>) -> (usize, usize) {
+    (arenas.leaf_count(), arenas.node_count())
+}
+
 /// Adds a leaf. One that is refused comes back, and is added then.
 fn adds_leaf<const LEN: usize>(
     rt: &impl Abort,
@@ -98,13 +103,22 @@ fn adds_leaf<const LEN: usize>(
 ) -> Result<(), AllocError>
     requires { IsLen LEN }
 {
-    let counts = (arenas.leaf_count(), arenas.node_count());
-    let Err(mut back) = arenas.add_leaf(leaf_of(number)) else {
-        return Ok(());
-    };
-    assert!(rt; has_alone(&mut back, number));
-    assert!(rt; (arenas.leaf_count(), arenas.node_count()) == counts);
-    let _ = arenas.add_leaf(back).map_err(|_| AllocError)?;
+    let counts = counts_of(arenas);
+    match arenas.add_leaf(leaf_of(number)) {
+        Ok(_) => Ok(()),
+        Err(mut back) => {
+            assert!(rt; has_alone(&mut back, number) && counts_of(arenas) == counts);
+            adds_back(arenas, back)
+        }
+    }
+}
+
+/// Adds a leaf that was refused before.
+fn adds_back<const LEN: usize>(
+    arenas: &mut Places<LEN>,
+    leaf: LeafOf<u64, u64, LEN>,
+) -> Result<(), AllocError> {
+    let _ = arenas.add_leaf(leaf);
     Err(AllocError)
 }
 
@@ -114,21 +128,22 @@ fn adds_node<const LEN: usize>(
     arenas: &mut Places<LEN>,
     number: u64,
 ) -> Result<(), AllocError> {
-    let counts = (arenas.leaf_count(), arenas.node_count());
-    let Err(back) = arenas.add_node(number) else {
-        return Ok(());
-    };
-    assert!(rt; back == number);
-    assert!(rt; (arenas.leaf_count(), arenas.node_count()) == counts);
-    let _ = arenas.add_node(back).map_err(|_| AllocError)?;
-    Err(AllocError)
+    let counts = counts_of(arenas);
+    match arenas.add_node(number) {
+        Ok(_) => Ok(()),
+        Err(back) => {
+            assert!(rt; back == number && counts_of(arenas) == counts);
+            let _ = arenas.add_node(back);
+            Err(AllocError)
+        }
+    }
 }
 
 /// Reserves places. Where that is refused, there are as many leaves and nodes as before, and it succeeds then.
 fn reserves<const LEN: usize>(rt: &impl Abort, arenas: &mut Places<LEN>) -> Result<(), AllocError> {
-    let counts = (arenas.leaf_count(), arenas.node_count());
+    let counts = counts_of(arenas);
     let outcome = arenas.reserve(3, 3);
-    assert!(rt; (arenas.leaf_count(), arenas.node_count()) == counts);
+    assert!(rt; counts_of(arenas) == counts);
     if outcome.is_err() {
         arenas.reserve(3, 3)?;
     }

@@ -1,9 +1,10 @@
 //! Values that are changed where they stand.
-use crate::{FILLS, SMALL_FILLS, refill};
+use crate::{fills, refill};
 use std::alloc::{AllocError, Global};
 use std::process::Abort;
 use test_support::refusals::succeeds;
-use tree_index::{SmallTreeIndex, TreeIndex, TreeIndexOf};
+use tree_index::{TreeIndex, TreeIndexOf};
+use tree_support::{Scenario, at_both_sizes};
 
 /// Replaces and changes the value at each key up to the last, of which the even ones are present, and at one more.
 fn changes_all<const LEN: usize>(rt: &impl Abort, index: &mut TreeIndexOf<u64, u64, LEN>) {
@@ -38,53 +39,61 @@ fn adds<const LEN: usize>(index: &mut TreeIndexOf<u64, u64, LEN>, key: u64, amou
     index.modify_sync(&key, |value| value.wrapping_add(amount))
 }
 
-fn changes_steps(rt: &impl Abort, alloc: Global) -> Result<(), AllocError> {
-    let mut index: TreeIndex<u64, u64> = TreeIndex::new(alloc);
-    for (count, is_emptied) in &FILLS {
-        refill(&mut index, *count, *is_emptied)?;
-        changes_all(rt, &mut index);
+/// Changes the values of an index of each fill.
+#[derive(Drop)]
+struct Changing<'r, R> {
+    rt: &'r R,
+}
+
+impl<R: Abort, const LEN: usize> Scenario<TreeIndexOf<u64, u64, LEN>> for Changing<'_, R> {
+    fn play(&self, index: &mut TreeIndexOf<u64, u64, LEN>) -> Result<(), AllocError> {
+        for (count, is_emptied) in fills(LEN) {
+            refill(index, *count, *is_emptied)?;
+            changes_all(self.rt, index);
+        }
+        Ok(())
     }
-    Ok(())
 }
 
 #[test]
 fn changes_values(rt: HostRuntime) {
-    assert!(rt; succeeds(rt.alloc(), || changes_steps(&rt, rt.alloc())));
-}
-
-fn small_changes_steps(rt: &impl Abort, alloc: Global) -> Result<(), AllocError> {
-    let mut index: SmallTreeIndex<u64, u64> = TreeIndexOf::new(alloc);
-    for (count, is_emptied) in &SMALL_FILLS {
-        refill(&mut index, *count, *is_emptied)?;
-        changes_all(rt, &mut index);
-    }
-    Ok(())
-}
-
-#[test]
-fn changes_values_in_small_leaves(rt: HostRuntime) {
-    assert!(rt; succeeds(rt.alloc(), || small_changes_steps(&rt, rt.alloc())));
+    let scenario = Changing { rt: &rt };
+    assert!(rt; succeeds(rt.alloc(), || at_both_sizes(rt.alloc(), &scenario)));
 }
 
 /// Texts own memory, which must be given back once.
-fn changes_texts_steps(rt: &impl Abort, alloc: Global) -> Result<(), AllocError> {
-    let mut names: TreeIndex<u64, String> = TreeIndex::new(alloc);
-    if names
-        .insert_sync(1, String::from_str(alloc, "pear")?)
-        .is_err()
-    {
+fn changes_texts_in(
+    rt: &impl Abort,
+    alloc: Global,
+    names: &mut TreeIndex<u64, String>,
+) -> Result<(), AllocError> {
+    let pear = String::from_str(alloc, "pear")?;
+    if names.insert_sync(1, pear).is_err() {
         return Err(AllocError);
     }
-    let old = names.replace_sync(&1, String::from_str(alloc, "fig")?);
-    assert!(rt; old.is_ok_and(|name| name.as_str() == "pear"));
-    let back = names.replace_sync(&2, String::from_str(alloc, "plum")?);
-    assert!(rt; back.is_err_and(|name| name.as_str() == "plum"));
-    let new = String::from_str(alloc, "quince")?;
-    assert!(rt; names.modify_sync(&1, |_| new));
-    let unused = String::from_str(alloc, "melon")?;
-    assert!(rt; !names.modify_sync(&2, |_| unused));
+    let fig = String::from_str(alloc, "fig")?;
+    assert!(rt;
+        names
+            .replace_sync(&1, fig)
+            .is_ok_and(|name| name.as_str() == "pear")
+    );
+    let plum = String::from_str(alloc, "plum")?;
+    assert!(rt;
+        names
+            .replace_sync(&2, plum)
+            .is_err_and(|name| name.as_str() == "plum")
+    );
+    let quince = String::from_str(alloc, "quince")?;
+    assert!(rt; names.modify_sync(&1, |_| quince));
+    let melon = String::from_str(alloc, "melon")?;
+    assert!(rt; !names.modify_sync(&2, |_| melon));
     assert!(rt; names.peek(&1).is_some_and(|name| name.as_str() == "quince"));
     Ok(())
+}
+
+fn changes_texts_steps(rt: &impl Abort, alloc: Global) -> Result<(), AllocError> {
+    let mut names: TreeIndex<u64, String> = TreeIndex::new(alloc);
+    changes_texts_in(rt, alloc, &mut names)
 }
 
 #[test]

@@ -1,10 +1,13 @@
 //! Pairs of an iterator or of a vector, and copies.
-use crate::{FILLS, SMALL_FILLS, refill};
+ghost use Rattle.tree_array.specs.Length.{IsLen};
+
+use crate::{fills, refill};
 use std::alloc::{AllocError, Global};
 use std::iter::FromIterator;
 use std::process::Abort;
 use test_support::refusals::succeeds;
 use tree_index::{FromSortedError, SmallTreeIndex, TreeIndex, TreeIndexOf};
+use tree_support::{Scenario, at_both_sizes};
 
 /// Returns the pairs of 0, 2, 4 and so on, so many, each with its key as its value.
 fn ascending(alloc: Global, count: u64) -> Result<Vec<(u64, u64)>, AllocError> {
@@ -32,32 +35,30 @@ fn extends<const LEN: usize>(
     Ok(())
 }
 
-fn extends_steps(rt: &impl Abort, alloc: Global) -> Result<(), AllocError> {
-    let mut index: TreeIndex<u64, u64> = TreeIndex::new(alloc);
-    for (count, is_emptied) in &FILLS {
-        refill(&mut index, *count, *is_emptied)?;
-        extends(rt, alloc, &mut index)?;
+/// Extends an index of each fill.
+#[derive(Drop)]
+struct Extending<'r, R> {
+    rt: &'r R,
+    alloc: Global,
+}
+
+impl<R: Abort, const LEN: usize> Scenario<TreeIndexOf<u64, u64, LEN>> for Extending<'_, R> {
+    fn play(&self, index: &mut TreeIndexOf<u64, u64, LEN>) -> Result<(), AllocError> {
+        for (count, is_emptied) in fills(LEN) {
+            refill(index, *count, *is_emptied)?;
+            extends(self.rt, self.alloc, index)?;
+        }
+        Ok(())
     }
-    Ok(())
 }
 
 #[test]
 fn stores_each_pair(rt: HostRuntime) {
-    assert!(rt; succeeds(rt.alloc(), || extends_steps(&rt, rt.alloc())));
-}
-
-fn small_extends_steps(rt: &impl Abort, alloc: Global) -> Result<(), AllocError> {
-    let mut index: SmallTreeIndex<u64, u64> = TreeIndexOf::new(alloc);
-    for (count, is_emptied) in &SMALL_FILLS {
-        refill(&mut index, *count, *is_emptied)?;
-        extends(rt, alloc, &mut index)?;
-    }
-    Ok(())
-}
-
-#[test]
-fn stores_each_pair_in_small_leaves(rt: HostRuntime) {
-    assert!(rt; succeeds(rt.alloc(), || small_extends_steps(&rt, rt.alloc())));
+    let scenario = Extending {
+        rt: &rt,
+        alloc: rt.alloc(),
+    };
+    assert!(rt; succeeds(rt.alloc(), || at_both_sizes(rt.alloc(), &scenario)));
 }
 
 /// Returns the pairs in the other order.
@@ -67,57 +68,51 @@ fn descending(alloc: Global, count: u64) -> Result<Vec<(u64, u64)>, AllocError> 
     Ok(pairs)
 }
 
-/// Returns what was built, or that memory was refused.
-fn sorted<const LEN: usize>(
-    index: Result<TreeIndexOf<u64, u64, LEN>, FromSortedError<u64, u64>>,
-) -> Result<TreeIndexOf<u64, u64, LEN>, AllocError> {
-    match index {
-        Ok(index) => Ok(index),
-        Err(_) => Err(AllocError),
-    }
-}
-
 /// How many pairs that ascend make an index, and its depth.
 static DEPTHS: [(u64, usize); 5] = [(0, 0), (1, 1), (15, 1), (241, 2), (3616, 3)];
 
 /// The same for leaves of seven pairs.
 static SMALL_DEPTHS: [(u64, usize); 5] = [(0, 0), (1, 1), (7, 1), (57, 2), (400, 3)];
 
-fn builds_steps(rt: &impl Abort, alloc: Global) -> Result<(), AllocError> {
-    for (count, depth) in &DEPTHS {
-        let index: TreeIndex<u64, u64> = sorted(TreeIndexOf::from_sorted(
-            alloc,
-            ascending(alloc, *count)?,
-        ))?;
-        assert!(rt; index.len() as u64 == *count && index.depth() == *depth);
-        assert!(rt;
-            *count == 0
-                || index.last()
-                    == Some((&(*count - 1).wrapping_mul(2), &(*count - 1).wrapping_mul(2)))
-        );
-    }
+/// Returns whether an index has the pairs of 0, 2, 4 and so on, so many, and this depth.
+fn is_built<const LEN: usize>(
+    index: &TreeIndexOf<u64, u64, LEN>,
+    count: u64,
+    depth: usize,
+) -> bool {
+    let ends_well = match index.last() {
+        Some((key, value)) => Some(*key) == count.wrapping_mul(2).checked_sub(2) && key == value,
+        None => count == 0,
+    };
+    ends_well && index.len() as u64 == count && index.depth() == depth
+}
+
+fn builds<const LEN: usize>(
+    rt: &impl Abort,
+    alloc: Global,
+    count: u64,
+    depth: usize,
+) -> Result<(), AllocError>
+    requires { IsLen LEN }
+{
+    let pairs = ascending(alloc, count)?;
+    let Ok(index) = TreeIndexOf::<u64, u64, LEN>::from_sorted(alloc, pairs) else {
+        return Err(AllocError);
+    };
+    assert!(rt; is_built(&index, count, depth));
     Ok(())
 }
 
 #[test]
 fn builds_from_sorted_pairs(rt: HostRuntime) {
-    assert!(rt; succeeds(rt.alloc(), || builds_steps(&rt, rt.alloc())));
-}
-
-fn small_builds_steps(rt: &impl Abort, alloc: Global) -> Result<(), AllocError> {
-    for (count, depth) in &SMALL_DEPTHS {
-        let index: SmallTreeIndex<u64, u64> = sorted(TreeIndexOf::from_sorted(
-            alloc,
-            ascending(alloc, *count)?,
-        ))?;
-        assert!(rt; index.len() as u64 == *count && index.depth() == *depth);
+    for (count, depth) in &DEPTHS {
+        let steps = || builds::<15>(&rt, rt.alloc(), *count, *depth);
+        assert!(rt; succeeds(rt.alloc(), steps), "{count} pairs");
     }
-    Ok(())
-}
-
-#[test]
-fn builds_from_sorted_pairs_in_small_leaves(rt: HostRuntime) {
-    assert!(rt; succeeds(rt.alloc(), || small_builds_steps(&rt, rt.alloc())));
+    for (count, depth) in &SMALL_DEPTHS {
+        let steps = || builds::<7>(&rt, rt.alloc(), *count, *depth);
+        assert!(rt; succeeds(rt.alloc(), steps), "{count} pairs");
+    }
 }
 
 /// Pairs that don't ascend: equal keys, a smaller one, and equal keys behind others.

@@ -42,7 +42,10 @@ fn refill<const LEN: usize>(
 /// How many pairs an index is filled with, and whether the last one is removed: none, one, a full leaf, a last leaf that a
 /// removal emptied, and three levels.
 #[cfg(test)]
-static FILLS: [(u64, bool); 5] = [
+type Fill = (u64, bool);
+
+#[cfg(test)]
+static FILLS: [Fill; 5] = [
     (0, false),
     (1, false),
     (15, false),
@@ -52,10 +55,14 @@ static FILLS: [(u64, bool); 5] = [
 
 /// The same for leaves of seven pairs.
 #[cfg(test)]
-static SMALL_FILLS: [(u64, bool); 5] = [
-    (0, false),
-    (1, false),
-    (7, false),
-    (8, true),
-    (400, false),
-];
+static SMALL_FILLS: [Fill; 5] = [(0, false), (1, false), (7, false), (8, true), (400, false)];
+
+/// The fills of an index with so many pairs a leaf.
+#[cfg(test)]
+fn fills(pairs_a_leaf: usize) -> &'static [Fill] {
+    if pairs_a_leaf == 7 {
+        &SMALL_FILLS
+    } else {
+        &FILLS
+    }
+}

@@ -1,9 +1,10 @@
 //! A value at a key, which is stored first if the key is absent.
-use crate::{FILLS, SMALL_FILLS, refill};
-use std::alloc::{AllocError, Global};
+use crate::{fills, refill};
+use std::alloc::AllocError;
 use std::process::Abort;
 use test_support::refusals::succeeds;
-use tree_index::{SmallTreeIndex, TreeIndex, TreeIndexOf};
+use tree_index::TreeIndexOf;
+use tree_support::{Scenario, at_both_sizes};
 
 /// Returns the value that the call lends.
 fn lent<const LEN: usize>(
@@ -34,30 +35,24 @@ fn asks<const LEN: usize>(
     Ok(())
 }
 
-fn lends_steps(rt: &impl Abort, alloc: Global) -> Result<(), AllocError> {
-    let mut index: TreeIndex<u64, u64> = TreeIndex::new(alloc);
-    for (count, is_emptied) in &FILLS {
-        refill(&mut index, *count, *is_emptied)?;
-        asks(rt, &mut index)?;
+/// Asks an index of each fill.
+#[derive(Drop)]
+struct Asking<'r, R> {
+    rt: &'r R,
+}
+
+impl<R: Abort, const LEN: usize> Scenario<TreeIndexOf<u64, u64, LEN>> for Asking<'_, R> {
+    fn play(&self, index: &mut TreeIndexOf<u64, u64, LEN>) -> Result<(), AllocError> {
+        for (count, is_emptied) in fills(LEN) {
+            refill(index, *count, *is_emptied)?;
+            asks(self.rt, index)?;
+        }
+        Ok(())
     }
-    Ok(())
 }
 
 #[test]
 fn lends_what_stands(rt: HostRuntime) {
-    assert!(rt; succeeds(rt.alloc(), || lends_steps(&rt, rt.alloc())));
-}
-
-fn small_lends_steps(rt: &impl Abort, alloc: Global) -> Result<(), AllocError> {
-    let mut index: SmallTreeIndex<u64, u64> = TreeIndexOf::new(alloc);
-    for (count, is_emptied) in &SMALL_FILLS {
-        refill(&mut index, *count, *is_emptied)?;
-        asks(rt, &mut index)?;
-    }
-    Ok(())
-}
-
-#[test]
-fn lends_what_stands_in_small_leaves(rt: HostRuntime) {
-    assert!(rt; succeeds(rt.alloc(), || small_lends_steps(&rt, rt.alloc())));
+    let scenario = Asking { rt: &rt };
+    assert!(rt; succeeds(rt.alloc(), || at_both_sizes(rt.alloc(), &scenario)));
 }

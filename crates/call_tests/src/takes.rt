@@ -2,7 +2,8 @@
 use std::alloc::{AllocError, Global};
 use std::process::Abort;
 use test_support::refusals::succeeds;
-use tree_index::{SmallTreeIndex, TreeIndex, TreeIndexOf};
+use tree_index::{TreeIndex, TreeIndexOf};
+use tree_support::{Scenario, at_both_sizes};
 
 /// How many pairs an index has, at fifteen pairs a leaf: none, one, a full leaf, two leaves, and two and three levels.
 static COUNTS: [u64; 6] = [0, 1, 15, 16, 241, 3_616];
@@ -99,28 +100,25 @@ fn expect_takes<const LEN: usize>(
     Ok(())
 }
 
-fn takes_steps(rt: &impl Abort, alloc: Global, count: u64) -> Result<(), AllocError> {
-    let mut index = TreeIndex::new(alloc);
-    expect_takes(rt, &mut index, count)
+/// Takes the pairs out of indexes of several sizes.
+#[derive(Drop)]
+struct Taking<'r, R> {
+    rt: &'r R,
+}
+
+impl<R: Abort, const LEN: usize> Scenario<TreeIndexOf<u64, u64, LEN>> for Taking<'_, R> {
+    fn play(&self, index: &mut TreeIndexOf<u64, u64, LEN>) -> Result<(), AllocError> {
+        for count in if LEN == 7 { SMALL_COUNTS } else { COUNTS } {
+            expect_takes(self.rt, index, count)?;
+        }
+        Ok(())
+    }
 }
 
 #[test]
 fn takes_pairs_out(rt: HostRuntime) {
-    for count in COUNTS {
-        assert!(rt; succeeds(rt.alloc(), || takes_steps(&rt, rt.alloc(), count)));
-    }
-}
-
-fn small_takes_steps(rt: &impl Abort, alloc: Global, count: u64) -> Result<(), AllocError> {
-    let mut index: SmallTreeIndex<u64, u64> = TreeIndexOf::new(alloc);
-    expect_takes(rt, &mut index, count)
-}
-
-#[test]
-fn takes_pairs_out_of_small_leaves(rt: HostRuntime) {
-    for count in SMALL_COUNTS {
-        assert!(rt; succeeds(rt.alloc(), || small_takes_steps(&rt, rt.alloc(), count)));
-    }
+    let scenario = Taking { rt: &rt };
+    assert!(rt; succeeds(rt.alloc(), || at_both_sizes(rt.alloc(), &scenario)));
 }
 
 fn gives_by_value_steps(rt: &impl Abort, alloc: Global) -> Result<(), AllocError> {

@@ -1,9 +1,11 @@
 //! Worked comparisons of two indexes.
+ghost use Rattle.tree_array.specs.Length.{IsLen};
+
 use crate::index_of;
 use std::alloc::{AllocError, Global};
 use std::process::Abort;
 use test_support::refusals::succeeds;
-use tree_index::TreeIndex;
+use tree_index::TreeIndexOf;
 
 /// The pairs of an index.
 type Pairs = &'static [(u64, u64)];
@@ -20,35 +22,44 @@ static ROWS: [(Pairs, Pairs, bool); 7] = [
 ];
 
 /// Whether two indexes are equal, one way round and the other, and whether the first one equals itself.
-fn compared(first: &TreeIndex<u64, u64>, second: &TreeIndex<u64, u64>) -> (bool, bool, bool) {
+fn compared<const LEN: usize>(
+    first: &TreeIndexOf<u64, u64, LEN>,
+    second: &TreeIndexOf<u64, u64, LEN>,
+) -> (bool, bool, bool) {
     (first == second, second == first, first == first)
 }
 
 /// Compares an index with that of these pairs.
-fn expect_compared(
+fn expect_compared<const LEN: usize>(
     rt: &impl Abort,
     alloc: Global,
-    first: &TreeIndex<u64, u64>,
+    first: &TreeIndexOf<u64, u64, LEN>,
     pairs: Pairs,
     same: bool,
-) -> Result<(), AllocError> {
+) -> Result<(), AllocError>
+    requires { IsLen LEN }
+{
     let second = index_of(alloc, pairs)?;
     assert!(rt; compared(first, &second) == (same, same, true));
     Ok(())
 }
 
-fn compares_steps(
+fn compares_steps<const LEN: usize>(
     rt: &impl Abort,
     alloc: Global,
-    (pairs, others, same): (Pairs, Pairs, bool),
-) -> Result<(), AllocError> {
-    let first = index_of(alloc, pairs)?;
+    row: (Pairs, Pairs, bool),
+) -> Result<(), AllocError>
+    requires { IsLen LEN }
+{
+    let (pairs, others, same) = row;
+    let first = index_of::<LEN>(alloc, pairs)?;
     expect_compared(rt, alloc, &first, others, same)
 }
 
 #[test]
 fn compares(rt: HostRuntime) {
     for row in &ROWS {
-        assert!(rt; succeeds(rt.alloc(), || compares_steps(&rt, rt.alloc(), *row)));
+        assert!(rt; succeeds(rt.alloc(), || compares_steps::<15>(&rt, rt.alloc(), *row)));
+        assert!(rt; succeeds(rt.alloc(), || compares_steps::<7>(&rt, rt.alloc(), *row)));
     }
 }
