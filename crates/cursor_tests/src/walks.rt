@@ -456,7 +456,24 @@ fn passes_an_empty_last_leaf(rt: HostRuntime) {
     assert!(rt; succeeds(rt.alloc(), || at_both_sizes(rt.alloc(), &scenario)));
 }
 
-/// Moves a cursor between two pairs, which has left the list at both ends.
+/// The moves of a cursor between two pairs, which has left the list at both ends.
+fn expect_between<const LEN: usize>(
+    rt: &impl Abort,
+    index: &mut TreeIndexOf<u64, u64, LEN>,
+) -> Result<(), AllocError> {
+    fill(index, &[(1, 1), (3, 2), (5, 3), (7, 4)])?;
+    let ProximityOf::Between(ends) = index.locate(&2) else {
+        panic!(rt; "2 is between")
+    };
+    let mut ends = ends;
+    assert!(rt; numbers(ends.get()) == Some((1, 1)));
+    assert!(rt; numbers(ends.get_back()) == Some((3, 2)));
+    let moved = [numbers(ends.next()), numbers(ends.next_back())];
+    assert!(rt; moved == [None, None]);
+    Ok(())
+}
+
+/// Moves a cursor between two pairs.
 #[derive(Drop)]
 struct Between<'r, R> {
     rt: &'r R,
@@ -464,16 +481,7 @@ struct Between<'r, R> {
 
 impl<R: Abort, const LEN: usize> Scenario<TreeIndexOf<u64, u64, LEN>> for Between<'_, R> {
     fn play(&self, index: &mut TreeIndexOf<u64, u64, LEN>) -> Result<(), AllocError> {
-        fill(index, &[(1, 1), (3, 2), (5, 3), (7, 4)])?;
-        let ProximityOf::Between(ends) = index.locate(&2) else {
-            panic!(self.rt; "2 is between")
-        };
-        let mut ends = ends;
-        assert!(self.rt; numbers(ends.get()) == Some((1, 1)));
-        assert!(self.rt; numbers(ends.get_back()) == Some((3, 2)));
-        let moved = [numbers(ends.next()), numbers(ends.next_back())];
-        assert!(self.rt; moved == [None, None]);
-        Ok(())
+        expect_between(self.rt, index)
     }
 }
 
