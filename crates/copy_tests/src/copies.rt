@@ -1,7 +1,5 @@
 //! Copies of an index.
-ghost use Rattle.tree_array.specs.Length.{IsLen};
-
-use crate::{are_equal, index_of};
+use crate::{are_equal, index_of, small_index_of};
 use std::alloc::{AllocError, Global};
 use std::process::Abort;
 use test_support::refusals::succeeds;
@@ -23,26 +21,16 @@ fn changes_alone<const LEN: usize>(
     index: &TreeIndexOf<u64, u64, LEN>,
     copy: &mut TreeIndexOf<u64, u64, LEN>,
 ) -> bool {
-    are_equal(index, copy) && removes_one(copy) && has_one_more(index, copy)
-}
-
-fn removes_one<const LEN: usize>(copy: &mut TreeIndexOf<u64, u64, LEN>) -> bool {
-    copy.remove_sync(&1)
-}
-
-/// Returns whether an index of two pairs isn't equal to a copy, which has one.
-fn has_one_more<const LEN: usize>(
-    index: &TreeIndexOf<u64, u64, LEN>,
-    copy: &TreeIndexOf<u64, u64, LEN>,
-) -> bool {
-    !are_equal(index, copy) && (index.len(), copy.len()) == (2, 1)
+    let was_equal = are_equal(index, copy);
+    let removed = copy.remove_sync(&1);
+    was_equal && removed && !are_equal(index, copy) && (index.len(), copy.len()) == (2, 1)
 }
 
 /// Copies the index and changes the copy. A refusal leaves the index as it was.
-fn copies_alone<const LEN: usize>(
+fn copies_alone(
     rt: &impl Abort,
     alloc: Global,
-    index: &TreeIndexOf<u64, u64, LEN>,
+    index: &TreeIndex<u64, u64>,
 ) -> Result<(), AllocError> {
     let copied = index.try_clone(alloc);
     assert!(rt; index.peek(&1).copied() == Some(1) && index.len() == 2);
@@ -51,27 +39,58 @@ fn copies_alone<const LEN: usize>(
     Ok(())
 }
 
-fn changes_the_copy_alone_steps<const LEN: usize>(
-    rt: &impl Abort,
-    alloc: Global,
-) -> Result<(), AllocError>
-    requires { IsLen LEN }
-{
-    let index = index_of::<LEN>(alloc, &[(1, 1), (2, 2)])?;
+fn changes_the_copy_alone_steps(rt: &impl Abort, alloc: Global) -> Result<(), AllocError> {
+    let index = index_of(alloc, &[(1, 1), (2, 2)])?;
     copies_again(|| copies_alone(rt, alloc, &index))
 }
 
 #[test]
 fn changes_the_copy_alone(rt: HostRuntime) {
-    let steps = || changes_the_copy_alone_steps::<15>(&rt, rt.alloc());
-    assert!(rt; succeeds(rt.alloc(), steps));
-    let steps = || changes_the_copy_alone_steps::<7>(&rt, rt.alloc());
-    assert!(rt; succeeds(rt.alloc(), steps));
+    assert!(rt; succeeds(rt.alloc(), || changes_the_copy_alone_steps(&rt, rt.alloc())));
+}
+
+/// Does what [`copies_alone`] does, with seven pairs a leaf.
+fn copies_small_alone(
+    rt: &impl Abort,
+    alloc: Global,
+    index: &SmallTreeIndex<u64, u64>,
+) -> Result<(), AllocError> {
+    let copied = index.try_clone(alloc);
+    assert!(rt; index.peek(&1).copied() == Some(1) && index.len() == 2);
+    let mut copy = copied?;
+    assert!(rt; changes_alone(index, &mut copy));
+    Ok(())
+}
+
+/// Copies the index that this one is equal to.
+fn compares_and_copies(
+    rt: &impl Abort,
+    alloc: Global,
+    index: &SmallTreeIndex<u64, u64>,
+) -> Result<(), AllocError> {
+    let other = small_index_of(alloc, &[(2, 2), (1, 1)])?;
+    assert!(rt; are_equal(index, &other) && are_equal(&other, index));
+    copies_small_alone(rt, alloc, index)
+}
+
+fn changes_the_small_copy_alone_steps(rt: &impl Abort, alloc: Global) -> Result<(), AllocError> {
+    let index = small_index_of(alloc, &[(1, 1), (2, 2)])?;
+    copies_again(|| compares_and_copies(rt, alloc, &index))
+}
+
+#[test]
+fn changes_the_small_copy_alone(rt: HostRuntime) {
+    assert!(rt;
+        succeeds(
+            rt.alloc(),
+            || changes_the_small_copy_alone_steps(&rt, rt.alloc())
+        )
+    );
 }
 
 /// Copies an index of one pair. A refusal leaves the pair.
 fn leaves_its_source_steps(rt: &impl Abort, alloc: Global) -> Result<(), AllocError> {
-    let index = index_of::<15>(alloc, &[(1, 10)])?;
+    let index = index_of(alloc, &[(1, 10)])?;
     let copied = index.try_clone(alloc).map(|copy| copy.len());
     assert!(rt; index.peek(&1).copied() == Some(10));
     assert!(rt; copied? == 1);

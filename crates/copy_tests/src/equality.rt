@@ -1,11 +1,9 @@
 //! Worked comparisons of two indexes.
-ghost use Rattle.tree_array.specs.Length.{IsLen};
-
 use crate::index_of;
 use std::alloc::{AllocError, Global};
 use std::process::Abort;
 use test_support::refusals::succeeds;
-use tree_index::TreeIndexOf;
+use tree_index::TreeIndex;
 
 /// The pairs of an index.
 type Pairs = &'static [(u64, u64)];
@@ -22,44 +20,35 @@ static ROWS: [(Pairs, Pairs, bool); 7] = [
 ];
 
 /// Whether two indexes are equal, one way round and the other, and whether the first one equals itself.
-fn compared<const LEN: usize>(
-    first: &TreeIndexOf<u64, u64, LEN>,
-    second: &TreeIndexOf<u64, u64, LEN>,
-) -> (bool, bool, bool) {
+fn compared(first: &TreeIndex<u64, u64>, second: &TreeIndex<u64, u64>) -> (bool, bool, bool) {
     (first == second, second == first, first == first)
 }
 
 /// Compares an index with that of these pairs.
-fn expect_compared<const LEN: usize>(
+fn expect_compared(
     rt: &impl Abort,
     alloc: Global,
-    first: &TreeIndexOf<u64, u64, LEN>,
+    first: &TreeIndex<u64, u64>,
     pairs: Pairs,
     same: bool,
-) -> Result<(), AllocError>
-    requires { IsLen LEN }
-{
+) -> Result<(), AllocError> {
     let second = index_of(alloc, pairs)?;
     assert!(rt; compared(first, &second) == (same, same, true));
     Ok(())
 }
 
-fn compares_steps<const LEN: usize>(
+fn compares_steps(
     rt: &impl Abort,
     alloc: Global,
-    row: (Pairs, Pairs, bool),
-) -> Result<(), AllocError>
-    requires { IsLen LEN }
-{
-    let (pairs, others, same) = row;
-    let first = index_of::<LEN>(alloc, pairs)?;
+    (pairs, others, same): (Pairs, Pairs, bool),
+) -> Result<(), AllocError> {
+    let first = index_of(alloc, pairs)?;
     expect_compared(rt, alloc, &first, others, same)
 }
 
 #[test]
 fn compares(rt: HostRuntime) {
     for row in &ROWS {
-        assert!(rt; succeeds(rt.alloc(), || compares_steps::<15>(&rt, rt.alloc(), *row)));
-        assert!(rt; succeeds(rt.alloc(), || compares_steps::<7>(&rt, rt.alloc(), *row)));
+        assert!(rt; succeeds(rt.alloc(), || compares_steps(&rt, rt.alloc(), *row)));
     }
 }

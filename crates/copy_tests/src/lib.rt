@@ -1,8 +1,6 @@
 //! Tests of the calls on a whole index: look-ups that pass the pair to a reader, equality, order, hashes, and copies.
 #![tactic(auto)]
 
-ghost use Rattle.tree_array.specs.Length.{IsLen};
-
 #[cfg(test)]
 mod copies;
 #[cfg(test)]
@@ -15,7 +13,7 @@ mod readers;
 #[cfg(test)]
 use std::alloc::{AllocError, Global};
 #[cfg(test)]
-use tree_index::{IndexKey, TreeIndexOf};
+use tree_index::{IndexKey, SmallTreeIndex, TreeIndex, TreeIndexOf};
 
 /// Inserts pairs in this order.
 #[cfg(test)]
@@ -33,13 +31,19 @@ fn insert_all<const LEN: usize>(
 
 /// Returns an index of pairs that are inserted in this order.
 #[cfg(test)]
-fn index_of<const LEN: usize>(
+fn index_of(alloc: Global, pairs: &[(u64, u64)]) -> Result<TreeIndex<u64, u64>, AllocError> {
+    let mut index = TreeIndex::new(alloc);
+    insert_all(&mut index, pairs)?;
+    Ok(index)
+}
+
+/// Returns an index of pairs that are inserted in this order, with seven pairs a leaf.
+#[cfg(test)]
+fn small_index_of(
     alloc: Global,
     pairs: &[(u64, u64)],
-) -> Result<TreeIndexOf<u64, u64, LEN>, AllocError>
-    requires { IsLen LEN }
-{
-    let mut index = TreeIndexOf::new(alloc);
+) -> Result<SmallTreeIndex<u64, u64>, AllocError> {
+    let mut index: SmallTreeIndex<u64, u64> = TreeIndexOf::new(alloc);
     insert_all(&mut index, pairs)?;
     Ok(index)
 }

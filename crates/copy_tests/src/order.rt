@@ -1,7 +1,5 @@
 //! Worked orders and hashes of two indexes.
-ghost use Rattle.tree_array.specs.Length.{IsLen};
-
-use crate::index_of;
+use crate::{index_of, small_index_of};
 use std::alloc::{AllocError, Global};
 use std::cmp::Ordering;
 use std::hash::{DefaultHasher, Hash, Hasher};
@@ -46,37 +44,54 @@ fn expect_ordered<const LEN: usize>(
     assert!(rt; (hashed(first) == hashed(second)) == order.is_eq());
 }
 
-/// Orders an index with that of these pairs.
-fn expect_beside<const LEN: usize>(
+/// Orders an index with that of these pairs, with fifteen pairs a leaf.
+fn expect_beside(
     rt: &impl Abort,
     alloc: Global,
-    first: &TreeIndexOf<u64, u64, LEN>,
+    first: &TreeIndexOf<u64, u64, 15>,
     pairs: Pairs,
     order: Ordering,
-) -> Result<(), AllocError>
-    requires { IsLen LEN }
-{
+) -> Result<(), AllocError> {
     let second = index_of(alloc, pairs)?;
     expect_ordered(rt, first, &second, order);
     Ok(())
 }
 
-fn orders_steps<const LEN: usize>(
+/// The same with seven pairs a leaf.
+fn expect_small_beside(
     rt: &impl Abort,
     alloc: Global,
-    row: Row,
-) -> Result<(), AllocError>
-    requires { IsLen LEN }
-{
-    let (pairs, others, order) = row;
-    let first = index_of::<LEN>(alloc, pairs)?;
+    first: &TreeIndexOf<u64, u64, 7>,
+    pairs: Pairs,
+    order: Ordering,
+) -> Result<(), AllocError> {
+    let second = small_index_of(alloc, pairs)?;
+    expect_ordered(rt, first, &second, order);
+    Ok(())
+}
+
+fn orders_steps(
+    rt: &impl Abort,
+    alloc: Global,
+    (pairs, others, order): Row,
+) -> Result<(), AllocError> {
+    let first = index_of(alloc, pairs)?;
     expect_beside(rt, alloc, &first, others, order)
+}
+
+fn small_orders_steps(
+    rt: &impl Abort,
+    alloc: Global,
+    (pairs, others, order): Row,
+) -> Result<(), AllocError> {
+    let first = small_index_of(alloc, pairs)?;
+    expect_small_beside(rt, alloc, &first, others, order)
 }
 
 #[test]
 fn orders_and_hashes(rt: HostRuntime) {
     for row in &ROWS {
-        assert!(rt; succeeds(rt.alloc(), || orders_steps::<15>(&rt, rt.alloc(), *row)));
-        assert!(rt; succeeds(rt.alloc(), || orders_steps::<7>(&rt, rt.alloc(), *row)));
+        assert!(rt; succeeds(rt.alloc(), || orders_steps(&rt, rt.alloc(), *row)));
+        assert!(rt; succeeds(rt.alloc(), || small_orders_steps(&rt, rt.alloc(), *row)));
     }
 }

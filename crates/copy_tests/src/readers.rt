@@ -30,7 +30,7 @@ fn read(index: &TreeIndex<u64, u64>, key: u64) -> (Option<u64>, u64) {
 
 /// The reader is called once with a pair that is present, and never for an absent key.
 fn reads_steps(rt: &impl Abort, alloc: Global) -> Result<(), AllocError> {
-    let index = index_of::<15>(alloc, &[(1, 10)])?;
+    let index = index_of(alloc, &[(1, 10)])?;
     for (key, sum, times) in &READS {
         assert!(rt; peeked(&index, *key) == (*sum, *times));
         assert!(rt; read(&index, *key) == (*sum, *times));

@@ -2,11 +2,10 @@
 ghost use Rattle.std.specs.Iterator.{IsFinite};
 
 use crate::said::put;
-use std::alloc::AllocError;
+use std::alloc::{AllocError, Global};
 use std::process::Abort;
 use test_support::refusals::succeeds;
-use tree_index::TreeIndexOf;
-use tree_support::{Scenario, at_both_sizes};
+use tree_index::{SmallTreeIndex, TreeIndex, TreeIndexOf};
 
 /// The end of a walk that is asked.
 #[derive(Clone, Copy)]
@@ -92,46 +91,28 @@ fn expect_steps<'t, I: DoubleEndedIterator<Item = &'t u64>>(
     }
 }
 
-/// Asks the ends of a walk over the keys.
-fn ask_keys<const LEN: usize>(
-    rt: &impl Abort,
-    index: &TreeIndexOf<u64, u64, LEN>,
-    steps: &[(End, Option<u64>)],
-) {
+fn row_steps(rt: &impl Abort, alloc: Global, (last, steps): Row) -> Result<(), AllocError> {
+    let mut index: TreeIndex<u64, u64> = TreeIndex::new(alloc);
+    store(&mut index, last)?;
     expect_steps(rt, index.keys(), steps, 1);
-}
-
-/// Asks the ends of a walk over the values.
-fn ask_values<const LEN: usize>(
-    rt: &impl Abort,
-    index: &TreeIndexOf<u64, u64, LEN>,
-    steps: &[(End, Option<u64>)],
-) {
     expect_steps(rt, index.values(), steps, 10);
+    Ok(())
 }
 
-/// Asks the ends of both walks of each row.
-#[derive(Drop)]
-struct Asking<'r, R> {
-    rt: &'r R,
-}
-
-impl<R: Abort, const LEN: usize> Scenario<TreeIndexOf<u64, u64, LEN>> for Asking<'_, R> {
-    fn play(&self, index: &mut TreeIndexOf<u64, u64, LEN>) -> Result<(), AllocError> {
-        for (last, steps) in &ROWS {
-            index.clear();
-            store(index, *last)?;
-            ask_keys(self.rt, index, *steps);
-            ask_values(self.rt, index, *steps);
-        }
-        Ok(())
-    }
+fn small_row_steps(rt: &impl Abort, alloc: Global, (last, steps): Row) -> Result<(), AllocError> {
+    let mut index: SmallTreeIndex<u64, u64> = SmallTreeIndex::new(alloc);
+    store(&mut index, last)?;
+    expect_steps(rt, index.keys(), steps, 1);
+    expect_steps(rt, index.values(), steps, 10);
+    Ok(())
 }
 
 #[test]
 fn both_ends_give_keys_and_values(rt: HostRuntime) {
-    let scenario = Asking { rt: &rt };
-    assert!(rt; succeeds(rt.alloc(), || at_both_sizes(rt.alloc(), &scenario)));
+    for row in &ROWS {
+        assert!(rt; succeeds(rt.alloc(), || row_steps(&rt, rt.alloc(), *row)));
+        assert!(rt; succeeds(rt.alloc(), || small_row_steps(&rt, rt.alloc(), *row)));
+    }
 }
 
 /// Takes all that a walk gives, which is the keys up to the last times a factor.
@@ -147,42 +128,24 @@ fn expect_all<'t, I: Iterator<Item = &'t u64>>(rt: &impl Abort, walk: I, last: u
     assert!(rt; given == last);
 }
 
-/// Takes all that a walk over the keys gives.
-fn expect_all_keys<const LEN: usize>(
-    rt: &impl Abort,
-    index: &TreeIndexOf<u64, u64, LEN>,
-    last: u64,
-) {
-    expect_all(rt, index.keys(), last, 1);
+fn all_steps(rt: &impl Abort, alloc: Global) -> Result<(), AllocError> {
+    let mut index: TreeIndex<u64, u64> = TreeIndex::new(alloc);
+    store(&mut index, 300)?;
+    expect_all(rt, index.keys(), 300, 1);
+    expect_all(rt, index.values(), 300, 10);
+    Ok(())
 }
 
-/// Takes all that a walk over the values gives.
-fn expect_all_values<const LEN: usize>(
-    rt: &impl Abort,
-    index: &TreeIndexOf<u64, u64, LEN>,
-    last: u64,
-) {
-    expect_all(rt, index.values(), last, 10);
-}
-
-/// Walks over the keys and values of three levels.
-#[derive(Drop)]
-struct Walking<'r, R> {
-    rt: &'r R,
-}
-
-impl<R: Abort, const LEN: usize> Scenario<TreeIndexOf<u64, u64, LEN>> for Walking<'_, R> {
-    fn play(&self, index: &mut TreeIndexOf<u64, u64, LEN>) -> Result<(), AllocError> {
-        let last = if LEN == 7 { 100 } else { 300 };
-        store(index, last)?;
-        expect_all_keys(self.rt, index, last);
-        expect_all_values(self.rt, index, last);
-        Ok(())
-    }
+fn small_all_steps(rt: &impl Abort, alloc: Global) -> Result<(), AllocError> {
+    let mut index: SmallTreeIndex<u64, u64> = SmallTreeIndex::new(alloc);
+    store(&mut index, 100)?;
+    expect_all(rt, index.keys(), 100, 1);
+    expect_all(rt, index.values(), 100, 10);
+    Ok(())
 }
 
 #[test]
 fn gives_all_of_three_levels(rt: HostRuntime) {
-    let scenario = Walking { rt: &rt };
-    assert!(rt; succeeds(rt.alloc(), || at_both_sizes(rt.alloc(), &scenario)));
+    assert!(rt; succeeds(rt.alloc(), || all_steps(&rt, rt.alloc())));
+    assert!(rt; succeeds(rt.alloc(), || small_all_steps(&rt, rt.alloc())));
 }

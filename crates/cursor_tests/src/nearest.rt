@@ -1,10 +1,9 @@
 //! The pairs at both ends of an index, and the nearest ones beside its keys.
 use crate::said::ascend;
-use std::alloc::AllocError;
+use std::alloc::{AllocError, Global};
 use std::process::Abort;
 use test_support::refusals::succeeds;
-use tree_index::TreeIndexOf;
-use tree_support::{Scenario, at_both_sizes};
+use tree_index::{SmallTreeIndex, TreeIndex, TreeIndexOf};
 
 /// The key of a pair, if there is one.
 fn key_of(pair: Option<(&u64, &u64)>) -> Option<u64> {
@@ -78,30 +77,35 @@ fn expect_nearest<const LEN: usize>(
     Ok(())
 }
 
-/// The numbers of keys, at fifteen pairs a leaf: none, one, a full leaf, two leaves, and two and three levels.
-static COUNTS: [u32; 6] = [0, 1, 15, 16, 241, 3_616];
-
-/// The same at seven pairs a leaf.
-static SMALL_COUNTS: [u32; 6] = [0, 1, 7, 8, 57, 400];
-
-/// Looks at what is nearest among so many keys.
-#[derive(Drop)]
-struct Looking<'r, R> {
-    rt: &'r R,
-}
-
-impl<R: Abort, const LEN: usize> Scenario<TreeIndexOf<u64, u64, LEN>> for Looking<'_, R> {
-    fn play(&self, index: &mut TreeIndexOf<u64, u64, LEN>) -> Result<(), AllocError> {
-        for len in if LEN == 7 { SMALL_COUNTS } else { COUNTS } {
-            index.clear();
-            expect_nearest(self.rt, index, len)?;
-        }
-        Ok(())
-    }
+fn finds_the_nearest_steps(rt: &impl Abort, alloc: Global, len: u32) -> Result<(), AllocError> {
+    let mut index = TreeIndex::new(alloc);
+    expect_nearest(rt, &mut index, len)
 }
 
 #[test]
 fn finds_the_nearest(rt: HostRuntime) {
-    let scenario = Looking { rt: &rt };
-    assert!(rt; succeeds(rt.alloc(), || at_both_sizes(rt.alloc(), &scenario)));
+    for len in [0, 1, 15, 16, 241, 3_616] {
+        assert!(rt; succeeds(rt.alloc(), || finds_the_nearest_steps(&rt, rt.alloc(), len)));
+    }
+}
+
+fn finds_the_nearest_among_seven_steps(
+    rt: &impl Abort,
+    alloc: Global,
+    len: u32,
+) -> Result<(), AllocError> {
+    let mut index: SmallTreeIndex<u64, u64> = TreeIndexOf::new(alloc);
+    expect_nearest(rt, &mut index, len)
+}
+
+#[test]
+fn finds_the_nearest_among_seven(rt: HostRuntime) {
+    for len in [0, 1, 7, 8, 57, 400] {
+        assert!(rt;
+            succeeds(
+                rt.alloc(),
+                || finds_the_nearest_among_seven_steps(&rt, rt.alloc(), len)
+            )
+        );
+    }
 }

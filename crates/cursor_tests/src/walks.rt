@@ -4,8 +4,9 @@ use std::alloc::{AllocError, Global};
 use std::ops::Bound;
 use std::process::Abort;
 use test_support::refusals::succeeds;
-use tree_index::{Cursor, IterOf, Move, ProximityOf, RangeOf, TreeIndex, TreeIndexOf, run_moves};
-use tree_support::{Scenario, at_both_sizes};
+use tree_index::{
+    Cursor, IterOf, Move, ProximityOf, RangeOf, SmallTreeIndex, TreeIndex, TreeIndexOf, run_moves,
+};
 
 /// Pairs in the order in which they come, the bounds of a range over them, its moves with their answers, and then those
 /// of the cursor over all pairs that is made of it.
@@ -322,30 +323,22 @@ fn expect_row<const LEN: usize>(
     Ok(())
 }
 
-/// Makes the moves of all rows.
-#[derive(Drop)]
-struct Walking<'r, R> {
-    rt: &'r R,
-    alloc: Global,
+fn walks_steps(rt: &impl Abort, alloc: Global, row: &Row) -> Result<(), AllocError> {
+    let mut index: TreeIndex<u64, u64> = TreeIndex::new(alloc);
+    expect_row(rt, alloc, &mut index, row)
 }
 
-impl<R: Abort, const LEN: usize> Scenario<TreeIndexOf<u64, u64, LEN>> for Walking<'_, R> {
-    fn play(&self, index: &mut TreeIndexOf<u64, u64, LEN>) -> Result<(), AllocError> {
-        for row in &ROWS {
-            index.clear();
-            expect_row(self.rt, self.alloc, index, row)?;
-        }
-        Ok(())
-    }
+fn small_walks_steps(rt: &impl Abort, alloc: Global, row: &Row) -> Result<(), AllocError> {
+    let mut index: SmallTreeIndex<u64, u64> = SmallTreeIndex::new(alloc);
+    expect_row(rt, alloc, &mut index, row)
 }
 
 #[test]
 fn walks_as_the_rows_say(rt: HostRuntime) {
-    let scenario = Walking {
-        rt: &rt,
-        alloc: rt.alloc(),
-    };
-    assert!(rt; succeeds(rt.alloc(), || at_both_sizes(rt.alloc(), &scenario)));
+    for row in &ROWS {
+        assert!(rt; succeeds(rt.alloc(), || walks_steps(&rt, rt.alloc(), row)));
+        assert!(rt; succeeds(rt.alloc(), || small_walks_steps(&rt, rt.alloc(), row)));
+    }
 }
 
 /// Bounds, and how many of the keys from 1 to 9 are within them.
@@ -374,26 +367,32 @@ fn sum<const LEN: usize>(index: &TreeIndexOf<u64, u64, LEN>) -> u64 {
 }
 
 /// Counts the keys from 1 to 9 within bounds.
-#[derive(Drop)]
-struct Counting<'r, R> {
-    rt: &'r R,
+fn expect_counts<const LEN: usize>(
+    rt: &impl Abort,
+    index: &mut TreeIndexOf<u64, u64, LEN>,
+) -> Result<(), AllocError> {
+    ascend(index, 1, 9, 1)?;
+    for (low, high, wanted) in &COUNTS {
+        assert!(rt; count(index.range((low.as_ref(), high.as_ref()))) == *wanted);
+    }
+    assert!(rt; sum(index) == 90);
+    Ok(())
 }
 
-impl<R: Abort, const LEN: usize> Scenario<TreeIndexOf<u64, u64, LEN>> for Counting<'_, R> {
-    fn play(&self, index: &mut TreeIndexOf<u64, u64, LEN>) -> Result<(), AllocError> {
-        ascend(index, 1, 9, 1)?;
-        for (low, high, wanted) in &COUNTS {
-            assert!(self.rt; count(index.range((low.as_ref(), high.as_ref()))) == *wanted);
-        }
-        assert!(self.rt; sum(index) == 90);
-        Ok(())
-    }
+fn counts_steps(rt: &impl Abort, alloc: Global) -> Result<(), AllocError> {
+    let mut index: TreeIndex<u64, u64> = TreeIndex::new(alloc);
+    expect_counts(rt, &mut index)
+}
+
+fn small_counts_steps(rt: &impl Abort, alloc: Global) -> Result<(), AllocError> {
+    let mut index: SmallTreeIndex<u64, u64> = SmallTreeIndex::new(alloc);
+    expect_counts(rt, &mut index)
 }
 
 #[test]
 fn counts_what_is_within_the_bounds(rt: HostRuntime) {
-    let scenario = Counting { rt: &rt };
-    assert!(rt; succeeds(rt.alloc(), || at_both_sizes(rt.alloc(), &scenario)));
+    assert!(rt; succeeds(rt.alloc(), || counts_steps(&rt, rt.alloc())));
+    assert!(rt; succeeds(rt.alloc(), || small_counts_steps(&rt, rt.alloc())));
 }
 
 /// Moves a range over two keys in two leaves to its end, and then a clone of it.
@@ -431,29 +430,35 @@ fn last<const LEN: usize>(index: &TreeIndexOf<u64, u64, LEN>) -> Entry {
     numbers(range.next_back())
 }
 
-/// Fills a leaf and begins a new one with one more key, removes that, and then stores a larger one.
-#[derive(Drop)]
-struct Passing<'r, R> {
-    rt: &'r R,
+/// Fills a leaf with the keys below this one and a new leaf with it, removes it, and then stores a larger one.
+fn expect_last_leaf<const LEN: usize>(
+    rt: &impl Abort,
+    index: &mut TreeIndexOf<u64, u64, LEN>,
+    key: u64,
+) -> Result<(), AllocError> {
+    ascend(index, 0, key, 1)?;
+    assert!(rt; index.remove_sync(&key));
+    let (before, behind) = (key.saturating_sub(1), key.saturating_add(1));
+    assert!(rt; index.spare() == 0 && last(index) == Some((before, before)));
+    put(index, behind, 0)?;
+    assert!(rt; last(index) == Some((behind, 0)));
+    Ok(())
 }
 
-impl<R: Abort, const LEN: usize> Scenario<TreeIndexOf<u64, u64, LEN>> for Passing<'_, R> {
-    fn play(&self, index: &mut TreeIndexOf<u64, u64, LEN>) -> Result<(), AllocError> {
-        let key = LEN as u64;
-        ascend(index, 0, key, 1)?;
-        assert!(self.rt; index.remove_sync(&key));
-        let (before, behind) = (key.saturating_sub(1), key.saturating_add(1));
-        assert!(self.rt; index.spare() == 0 && last(index) == Some((before, before)));
-        put(index, behind, 0)?;
-        assert!(self.rt; last(index) == Some((behind, 0)));
-        Ok(())
-    }
+fn passes_an_empty_leaf_steps(rt: &impl Abort, alloc: Global) -> Result<(), AllocError> {
+    let mut index: TreeIndex<u64, u64> = TreeIndex::new(alloc);
+    expect_last_leaf(rt, &mut index, 15)
+}
+
+fn passes_a_small_leaf_steps(rt: &impl Abort, alloc: Global) -> Result<(), AllocError> {
+    let mut index: SmallTreeIndex<u64, u64> = SmallTreeIndex::new(alloc);
+    expect_last_leaf(rt, &mut index, 7)
 }
 
 #[test]
 fn passes_an_empty_last_leaf(rt: HostRuntime) {
-    let scenario = Passing { rt: &rt };
-    assert!(rt; succeeds(rt.alloc(), || at_both_sizes(rt.alloc(), &scenario)));
+    assert!(rt; succeeds(rt.alloc(), || passes_an_empty_leaf_steps(&rt, rt.alloc())));
+    assert!(rt; succeeds(rt.alloc(), || passes_a_small_leaf_steps(&rt, rt.alloc())));
 }
 
 /// The moves of a cursor between two pairs, which has left the list at both ends.
@@ -473,20 +478,18 @@ fn expect_between<const LEN: usize>(
     Ok(())
 }
 
-/// Moves a cursor between two pairs.
-#[derive(Drop)]
-struct Between<'r, R> {
-    rt: &'r R,
+fn locates_steps(rt: &impl Abort, alloc: Global) -> Result<(), AllocError> {
+    let mut index: TreeIndex<u64, u64> = TreeIndex::new(alloc);
+    expect_between(rt, &mut index)
 }
 
-impl<R: Abort, const LEN: usize> Scenario<TreeIndexOf<u64, u64, LEN>> for Between<'_, R> {
-    fn play(&self, index: &mut TreeIndexOf<u64, u64, LEN>) -> Result<(), AllocError> {
-        expect_between(self.rt, index)
-    }
+fn small_locates_steps(rt: &impl Abort, alloc: Global) -> Result<(), AllocError> {
+    let mut index: SmallTreeIndex<u64, u64> = SmallTreeIndex::new(alloc);
+    expect_between(rt, &mut index)
 }
 
 #[test]
 fn stands_between_two_pairs(rt: HostRuntime) {
-    let scenario = Between { rt: &rt };
-    assert!(rt; succeeds(rt.alloc(), || at_both_sizes(rt.alloc(), &scenario)));
+    assert!(rt; succeeds(rt.alloc(), || locates_steps(&rt, rt.alloc())));
+    assert!(rt; succeeds(rt.alloc(), || small_locates_steps(&rt, rt.alloc())));
 }

@@ -1,6 +1,4 @@
 //! Commands that a state refuses for lack of memory.
-ghost use Rattle.tree_array.specs.Length.{IsLen};
-
 use crate::writes::{ample, ascending};
 use std::alloc::{AllocError, Global};
 use std::ops::Bound;
@@ -119,17 +117,20 @@ fn apply_each<const LEN: usize>(
     Ok(refused)
 }
 
-fn applies_steps<const LEN: usize>(rt: &impl Abort, alloc: Global) -> Result<(), AllocError>
-    requires { IsLen LEN }
-{
-    let mut state: StateOf<u64, u64, LEN> = StateOf::new(alloc);
+fn applies_steps(rt: &impl Abort, alloc: Global) -> Result<(), AllocError> {
+    let mut state: StateOf<u64, u64, 15> = StateOf::new(alloc);
+    ample(apply_each(rt, alloc, &mut state)?)
+}
+
+fn small_applies_steps(rt: &impl Abort, alloc: Global) -> Result<(), AllocError> {
+    let mut state: StateOf<u64, u64, 7> = StateOf::new(alloc);
     ample(apply_each(rt, alloc, &mut state)?)
 }
 
 #[test]
 fn hands_back_each_command(rt: HostRuntime) {
-    assert!(rt; succeeds(rt.alloc(), || applies_steps::<15>(&rt, rt.alloc())));
-    assert!(rt; succeeds(rt.alloc(), || applies_steps::<7>(&rt, rt.alloc())));
+    assert!(rt; succeeds(rt.alloc(), || applies_steps(&rt, rt.alloc())));
+    assert!(rt; succeeds(rt.alloc(), || small_applies_steps(&rt, rt.alloc())));
 }
 
 /// Inserts pairs in key order: the first one into an empty state, and later ones where a leaf is full, a node over leaves
@@ -149,14 +150,13 @@ fn fill<const LEN: usize>(
     Ok(refused)
 }
 
-fn fills<const LEN: usize>(
-    rt: &impl Abort,
-    alloc: Global,
-    pairs: &[(u64, u64)],
-) -> Result<(), AllocError>
-    requires { IsLen LEN }
-{
-    let mut state: StateOf<u64, u64, LEN> = StateOf::new(alloc);
+fn fills(rt: &impl Abort, alloc: Global, pairs: &[(u64, u64)]) -> Result<(), AllocError> {
+    let mut state: StateOf<u64, u64, 15> = StateOf::new(alloc);
+    ample(fill(rt, alloc, &mut state, pairs)?)
+}
+
+fn small_fills(rt: &impl Abort, alloc: Global, pairs: &[(u64, u64)]) -> Result<(), AllocError> {
+    let mut state: StateOf<u64, u64, 7> = StateOf::new(alloc);
     ample(fill(rt, alloc, &mut state, pairs)?)
 }
 
@@ -166,13 +166,13 @@ fn hands_back_inserts_into_a_growing_tree(rt: HostRuntime) {
     assert!(rt;
         succeeds(
             rt.alloc(),
-            || fills::<15>(&rt, rt.alloc(), &ascending(rt.alloc(), 3616)?)
+            || fills(&rt, rt.alloc(), &ascending(rt.alloc(), 3616)?)
         )
     );
     assert!(rt;
         succeeds(
             rt.alloc(),
-            || fills::<7>(&rt, rt.alloc(), &ascending(rt.alloc(), 400)?)
+            || small_fills(&rt, rt.alloc(), &ascending(rt.alloc(), 400)?)
         )
     );
 }

@@ -3,7 +3,6 @@ use std::alloc::{AllocError, Global};
 use std::process::Abort;
 use test_support::refusals::succeeds;
 use tree_index::{TreeIndex, TreeIndexOf};
-use tree_support::{Scenario, at_both_sizes};
 
 /// How often one key was upserted, and the spare then, with fifteen slots and with seven.
 static SPARES: [(u64, u8); 9] = [
@@ -21,31 +20,37 @@ static SPARES: [(u64, u8); 9] = [
 static SMALL_SPARES: [(u64, u8); 5] = [(1, 6), (2, 5), (3, 6), (7, 6), (8, 5)];
 
 /// Upserts the key 7 of an empty index again and again. Only the first upsert allocates.
-#[derive(Drop)]
-struct Rebuilding<'r, R> {
-    rt: &'r R,
+fn rebuild<const LEN: usize>(
+    rt: &impl Abort,
+    index: &mut TreeIndexOf<u64, u64, LEN>,
+    spares: &[(u64, u8)],
+) -> Result<(), AllocError> {
+    index.upsert_sync(7, 1).map_err(|_| AllocError)?;
+    let mut upserts: u64 = 1;
+    for (count, spare) in spares {
+        for value in upserts.saturating_add(1)..=*count {
+            assert!(rt; index.upsert_sync(7, value).is_ok());
+        }
+        upserts = *count;
+        assert!(rt; index.spare() == *spare && index.peek(&7).copied() == Some(upserts));
+    }
+    Ok(())
 }
 
-impl<R: Abort, const LEN: usize> Scenario<TreeIndexOf<u64, u64, LEN>> for Rebuilding<'_, R> {
-    fn play(&self, index: &mut TreeIndexOf<u64, u64, LEN>) -> Result<(), AllocError> {
-        let spares: &[(u64, u8)] = if LEN == 7 { &SMALL_SPARES } else { &SPARES };
-        index.upsert_sync(7, 1).map_err(|_| AllocError)?;
-        let mut upserts: u64 = 1;
-        for (count, spare) in spares {
-            for value in upserts.saturating_add(1)..=*count {
-                assert!(self.rt; index.upsert_sync(7, value).is_ok());
-            }
-            upserts = *count;
-            assert!(self.rt; index.spare() == *spare && index.peek(&7).copied() == Some(upserts));
-        }
-        Ok(())
-    }
+fn rebuilds_steps(rt: &impl Abort, alloc: Global) -> Result<(), AllocError> {
+    let mut index: TreeIndexOf<u64, u64, 15> = TreeIndexOf::new(alloc);
+    rebuild(rt, &mut index, &SPARES)
+}
+
+fn small_rebuilds_steps(rt: &impl Abort, alloc: Global) -> Result<(), AllocError> {
+    let mut index: TreeIndexOf<u64, u64, 7> = TreeIndexOf::new(alloc);
+    rebuild(rt, &mut index, &SMALL_SPARES)
 }
 
 #[test]
 fn upserts_of_one_key_allocate_once(rt: HostRuntime) {
-    let scenario = Rebuilding { rt: &rt };
-    assert!(rt; succeeds(rt.alloc(), || at_both_sizes(rt.alloc(), &scenario)));
+    assert!(rt; succeeds(rt.alloc(), || rebuilds_steps(&rt, rt.alloc())));
+    assert!(rt; succeeds(rt.alloc(), || small_rebuilds_steps(&rt, rt.alloc())));
 }
 
 /// Removes four of the keys from 1 to 12, and inserts seven others.

@@ -1,11 +1,9 @@
 //! Lists of commands that are refused memory, whole or one of their commands.
-ghost use Rattle.tree_array.specs.Length.{IsLen};
-
 use crate::writes::{ample, ascending};
 use std::alloc::{AllocError, Global};
 use std::process::Abort;
 use test_support::refusals::{is_out_of_memory, succeeds};
-use tree_index::{Command, Reply, TreeIndexOf};
+use tree_index::{Command, Reply, SmallTreeIndex, TreeIndex, TreeIndexOf};
 use tree_runs::run;
 use tree_support::flaws;
 
@@ -76,28 +74,28 @@ fn run_over<const LEN: usize>(
     ample(run_twice(rt, alloc, index, pairs, key)?)
 }
 
-fn runs_steps<const LEN: usize>(
-    rt: &impl Abort,
-    alloc: Global,
-    count: u64,
-) -> Result<(), AllocError>
-    requires { IsLen LEN }
-{
+fn runs_steps(rt: &impl Abort, alloc: Global, count: u64) -> Result<(), AllocError> {
     let pairs = ascending(alloc, count)?;
-    let mut index: TreeIndexOf<u64, u64, LEN> = TreeIndexOf::new(alloc);
+    let mut index: TreeIndex<u64, u64> = TreeIndex::new(alloc);
+    run_over(rt, alloc, &mut index, &pairs, count.saturating_add(1))
+}
+
+fn small_runs_steps(rt: &impl Abort, alloc: Global, count: u64) -> Result<(), AllocError> {
+    let pairs = ascending(alloc, count)?;
+    let mut index: SmallTreeIndex<u64, u64> = SmallTreeIndex::new(alloc);
     run_over(rt, alloc, &mut index, &pairs, count.saturating_add(1))
 }
 
 #[test]
 fn runs_again_what_was_refused(rt: HostRuntime) {
     for count in &COUNTS {
-        assert!(rt; succeeds(rt.alloc(), || runs_steps::<15>(&rt, rt.alloc(), *count)));
+        assert!(rt; succeeds(rt.alloc(), || runs_steps(&rt, rt.alloc(), *count)));
     }
 }
 
 #[test]
 fn runs_again_what_was_refused_with_few_slots(rt: HostRuntime) {
     for count in &SMALL_COUNTS {
-        assert!(rt; succeeds(rt.alloc(), || runs_steps::<7>(&rt, rt.alloc(), *count)));
+        assert!(rt; succeeds(rt.alloc(), || small_runs_steps(&rt, rt.alloc(), *count)));
     }
 }

@@ -1,6 +1,4 @@
 //! Writes at each shape of a tree at which memory may be refused, and the calls that allocate nothing.
-ghost use Rattle.tree_array.specs.Length.{IsLen};
-
 use crate::keys::Named;
 use crate::writes::{Call, Names, ample, stands, store, write_twice, written};
 use std::alloc::{AllocError, Global};
@@ -187,25 +185,36 @@ fn write_at<const LEN: usize>(
     write(rt, alloc, index, shape, by, (&before, &after))
 }
 
-fn writes_steps<const LEN: usize>(
+fn writes_steps(rt: &impl Abort, alloc: Global, shape: &Shape, by: Call) -> Result<(), AllocError> {
+    let mut index: Names<15> = TreeIndexOf::new(alloc);
+    write_at(rt, alloc, &mut index, shape, by)
+}
+
+fn small_writes_steps(
     rt: &impl Abort,
     alloc: Global,
     shape: &Shape,
     by: Call,
-) -> Result<(), AllocError>
-    requires { IsLen LEN }
-{
-    let mut index: Names<LEN> = TreeIndexOf::new(alloc);
+) -> Result<(), AllocError> {
+    let mut index: Names<7> = TreeIndexOf::new(alloc);
     write_at(rt, alloc, &mut index, shape, by)
 }
 
-/// Writes at each of these shapes.
-fn write_at_each<const LEN: usize>(rt: &impl Abort, alloc: Global, shapes: &[Shape], by: Call)
-    requires { IsLen LEN }
-{
+/// Writes at each of these shapes, with fifteen slots.
+fn write_at_each(rt: &impl Abort, alloc: Global, shapes: &[Shape], by: Call) {
     for shape in shapes {
         assert!(rt;
-            succeeds(alloc, || writes_steps::<LEN>(rt, alloc, shape, by)),
+            succeeds(alloc, || writes_steps(rt, alloc, shape, by)),
+            "at {shape:?}"
+        );
+    }
+}
+
+/// Writes at each shape, with seven slots.
+fn write_at_each_small(rt: &impl Abort, alloc: Global, by: Call) {
+    for shape in &SMALL {
+        assert!(rt;
+            succeeds(alloc, || small_writes_steps(rt, alloc, shape, by)),
             "at {shape:?}"
         );
     }
@@ -213,30 +222,30 @@ fn write_at_each<const LEN: usize>(rt: &impl Abort, alloc: Global, shapes: &[Sha
 
 #[test]
 fn inserts_at_each_shape(rt: HostRuntime) {
-    write_at_each::<15>(&rt, rt.alloc(), &LARGE, Call::Insert);
+    write_at_each(&rt, rt.alloc(), &LARGE, Call::Insert);
 }
 
 #[test]
 fn upserts_at_each_shape(rt: HostRuntime) {
-    write_at_each::<15>(&rt, rt.alloc(), &LARGE, Call::Upsert);
+    write_at_each(&rt, rt.alloc(), &LARGE, Call::Upsert);
 }
 
 #[test]
 fn inserts_at_each_deep_shape(rt: HostRuntime) {
-    write_at_each::<15>(&rt, rt.alloc(), &DEEP, Call::Insert);
+    write_at_each(&rt, rt.alloc(), &DEEP, Call::Insert);
 }
 
 #[test]
 fn upserts_at_each_deep_shape(rt: HostRuntime) {
-    write_at_each::<15>(&rt, rt.alloc(), &DEEP, Call::Upsert);
+    write_at_each(&rt, rt.alloc(), &DEEP, Call::Upsert);
 }
 
 #[test]
 fn inserts_at_each_small_shape(rt: HostRuntime) {
-    write_at_each::<7>(&rt, rt.alloc(), &SMALL, Call::Insert);
+    write_at_each_small(&rt, rt.alloc(), Call::Insert);
 }
 
 #[test]
 fn upserts_at_each_small_shape(rt: HostRuntime) {
-    write_at_each::<7>(&rt, rt.alloc(), &SMALL, Call::Upsert);
+    write_at_each_small(&rt, rt.alloc(), Call::Upsert);
 }

@@ -1,11 +1,9 @@
 //! The history that a state keeps of its calls.
-ghost use Rattle.tree_array.specs.Length.{IsLen};
-
 use std::alloc::{AllocError, Global};
 use std::process::Abort;
 use test_support::refusals::succeeds;
 use tree_index::{Command, Reply};
-use tree_state::StateOf;
+use tree_state::{State, StateOf};
 
 /// Calls of a new state, and the reply to each.
 static CALLS: [(Command<u64, u64>, Reply<u64>); 4] = [
@@ -38,15 +36,18 @@ fn expect_calls<const LEN: usize>(
     Ok(())
 }
 
-fn keeps_its_calls_steps<const LEN: usize>(rt: &impl Abort, alloc: Global) -> Result<(), AllocError>
-    requires { IsLen LEN }
-{
-    let mut state: StateOf<u64, u64, LEN> = StateOf::new(alloc);
+fn keeps_its_calls_steps(rt: &impl Abort, alloc: Global) -> Result<(), AllocError> {
+    let mut state: State<u64, u64> = State::new(alloc);
+    expect_calls(rt, &mut state)
+}
+
+fn keeps_its_small_calls_steps(rt: &impl Abort, alloc: Global) -> Result<(), AllocError> {
+    let mut state: StateOf<u64, u64, 7> = StateOf::new(alloc);
     expect_calls(rt, &mut state)
 }
 
 #[test]
 fn keeps_its_calls(rt: HostRuntime) {
-    assert!(rt; succeeds(rt.alloc(), || keeps_its_calls_steps::<15>(&rt, rt.alloc())));
-    assert!(rt; succeeds(rt.alloc(), || keeps_its_calls_steps::<7>(&rt, rt.alloc())));
+    assert!(rt; succeeds(rt.alloc(), || keeps_its_calls_steps(&rt, rt.alloc())));
+    assert!(rt; succeeds(rt.alloc(), || keeps_its_small_calls_steps(&rt, rt.alloc())));
 }

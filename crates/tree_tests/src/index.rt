@@ -1,12 +1,9 @@
 //! Worked calls of the index, and its texts.
-ghost use Rattle.tree_array.specs.Length.{IsLen};
-
 use crate::keys::Tagged;
 use std::alloc::{AllocError, Global};
 use std::process::Abort;
 use test_support::refusals::succeeds;
-use tree_index::{InsertError, TreeIndex, TreeIndexOf};
-use tree_support::{Scenario, at_both_sizes};
+use tree_index::{InsertError, SmallTreeIndex, TreeIndex, TreeIndexOf};
 
 /// The index of these pairs.
 fn index_of(alloc: Global, pairs: &[(u64, u64)]) -> Result<TreeIndex<u64, u64>, AllocError> {
@@ -75,26 +72,31 @@ fn asks_its_condition_once<const LEN: usize>(
     Ok(())
 }
 
-/// Makes the calls above.
-#[derive(Drop)]
-struct Calling<'r, R> {
-    rt: &'r R,
+fn expect_calls<const LEN: usize>(
+    rt: &impl Abort,
+    index: &mut TreeIndexOf<u64, u64, LEN>,
+) -> Result<(), AllocError> {
+    keeps_the_first(rt, index)?;
+    index.clear();
+    says_whether_it_removed(rt, index)?;
+    index.clear();
+    asks_its_condition_once(rt, index)
 }
 
-impl<R: Abort, const LEN: usize> Scenario<TreeIndexOf<u64, u64, LEN>> for Calling<'_, R> {
-    fn play(&self, index: &mut TreeIndexOf<u64, u64, LEN>) -> Result<(), AllocError> {
-        keeps_the_first(self.rt, index)?;
-        index.clear();
-        says_whether_it_removed(self.rt, index)?;
-        index.clear();
-        asks_its_condition_once(self.rt, index)
-    }
+fn calls_steps(rt: &impl Abort, alloc: Global) -> Result<(), AllocError> {
+    let mut index: TreeIndex<u64, u64> = TreeIndex::new(alloc);
+    expect_calls(rt, &mut index)
+}
+
+fn small_calls_steps(rt: &impl Abort, alloc: Global) -> Result<(), AllocError> {
+    let mut index: SmallTreeIndex<u64, u64> = SmallTreeIndex::new(alloc);
+    expect_calls(rt, &mut index)
 }
 
 #[test]
 fn answers_inserts_and_removals(rt: HostRuntime) {
-    let scenario = Calling { rt: &rt };
-    assert!(rt; succeeds(rt.alloc(), || at_both_sizes(rt.alloc(), &scenario)));
+    assert!(rt; succeeds(rt.alloc(), || calls_steps(&rt, rt.alloc())));
+    assert!(rt; succeeds(rt.alloc(), || small_calls_steps(&rt, rt.alloc())));
 }
 
 /// Pairs, and the text of their index.
@@ -173,18 +175,18 @@ fn keeps_the_key<const LEN: usize>(rt: &impl Abort, index: &mut TreeIndexOf<Tagg
     assert!(rt; entry.is_some_and(|(key, value)| key.tag == 'b' && *value == 4));
 }
 
-fn replaces_the_key_steps<const LEN: usize>(
-    rt: &impl Abort,
-    alloc: Global,
-) -> Result<(), AllocError>
-    requires { IsLen LEN }
-{
-    let mut index: TreeIndexOf<Tagged, u64, LEN> = TreeIndexOf::new(alloc);
+fn replaces_the_key_steps(rt: &impl Abort, alloc: Global) -> Result<(), AllocError> {
+    let mut index: TreeIndex<Tagged, u64> = TreeIndex::new(alloc);
+    replaces_the_key(rt, &mut index)
+}
+
+fn replaces_a_small_key_steps(rt: &impl Abort, alloc: Global) -> Result<(), AllocError> {
+    let mut index: SmallTreeIndex<Tagged, u64> = SmallTreeIndex::new(alloc);
     replaces_the_key(rt, &mut index)
 }
 
 #[test]
 fn replaces_the_stored_key(rt: HostRuntime) {
-    assert!(rt; succeeds(rt.alloc(), || replaces_the_key_steps::<15>(&rt, rt.alloc())));
-    assert!(rt; succeeds(rt.alloc(), || replaces_the_key_steps::<7>(&rt, rt.alloc())));
+    assert!(rt; succeeds(rt.alloc(), || replaces_the_key_steps(&rt, rt.alloc())));
+    assert!(rt; succeeds(rt.alloc(), || replaces_a_small_key_steps(&rt, rt.alloc())));
 }

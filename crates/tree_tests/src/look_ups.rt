@@ -1,6 +1,5 @@
 //! What look-ups compare: how often, and which keys.
 ghost use Rattle.std.specs.Prelude.{◌≡◌, ◌<◌};
-ghost use Rattle.tree_array.specs.Length.{IsLen};
 
 use std::alloc::{AllocError, Global};
 use std::cell::Cell;
@@ -10,8 +9,8 @@ use std::process::Abort;
 use std::sync::ledger::{Blank, Ledger};
 use test_support::refusals::succeeds;
 use tree_array::array::{Judge, KeyJudge, Steps};
-use tree_index::TreeIndexOf;
-use tree_support::{Asked, Scenario, at_both_sizes};
+use tree_index::{SmallTreeIndex, TreeIndex, TreeIndexOf};
+use tree_support::Asked;
 
 /// What a judge looks a key up in.
 trait LookedUp<K: Ord> {
@@ -142,25 +141,23 @@ fn compares_few<'c, const LEN: usize>(
     Ok(())
 }
 
-fn compares_few_keys_steps<const LEN: usize>(
-    rt: &impl Abort,
-    alloc: Global,
-    sizes: &Sizes,
-) -> Result<(), AllocError>
-    requires { IsLen LEN }
-{
+fn compares_few_keys_steps(rt: &impl Abort, alloc: Global) -> Result<(), AllocError> {
     let counter = Cell::new(0);
-    let mut index: TreeIndexOf<Asked, u64, LEN> = TreeIndexOf::new(alloc);
-    compares_few(rt, &mut index, &counter, sizes)
+    let mut index: TreeIndex<Asked, u64> = TreeIndex::new(alloc);
+    compares_few(rt, &mut index, &counter, &SIZES)
+}
+
+fn compares_fewer_keys_steps(rt: &impl Abort, alloc: Global) -> Result<(), AllocError> {
+    let counter = Cell::new(0);
+    let mut index: SmallTreeIndex<Asked, u64> = SmallTreeIndex::new(alloc);
+    compares_few(rt, &mut index, &counter, &SMALL_SIZES)
 }
 
 /// At most one array a level is searched, and the leaf, with at most four comparisons each among 15 slots, and three among 7.
 #[test]
 fn compares_few_keys(rt: HostRuntime) {
-    let steps = || compares_few_keys_steps::<15>(&rt, rt.alloc(), &SIZES);
-    assert!(rt; succeeds(rt.alloc(), steps));
-    let steps = || compares_few_keys_steps::<7>(&rt, rt.alloc(), &SMALL_SIZES);
-    assert!(rt; succeeds(rt.alloc(), steps));
+    assert!(rt; succeeds(rt.alloc(), || compares_few_keys_steps(&rt, rt.alloc())));
+    assert!(rt; succeeds(rt.alloc(), || compares_fewer_keys_steps(&rt, rt.alloc())));
 }
 
 /// A judge, and the stored key that it found equal to its own.
@@ -205,31 +202,37 @@ fn found_and_asked_by<I: LookedUp<u64>, L: Ledger>(
 }
 
 /// Stores the even numbers up to 482, and looks all numbers up.
-#[derive(Drop)]
-struct Recorded<'r, R> {
-    rt: &'r R,
+fn asks_the_key<const LEN: usize>(
+    rt: &impl Abort,
+    index: &mut TreeIndexOf<u64, u64, LEN>,
+) -> Result<(), AllocError> {
+    for number in 1..=241u64 {
+        if index.insert_sync(number.saturating_mul(2), number).is_err() {
+            return Err(AllocError);
+        }
+    }
+    for key in 0..=483u64 {
+        let there = (2..=482).contains(&key) && key % 2 == 0;
+        let wanted = if there { Some(key) } else { None };
+        let told = found_and_asked(index, key);
+        assert!(rt; told == (there, wanted));
+    }
+    Ok(())
 }
 
-impl<R: Abort, const LEN: usize> Scenario<TreeIndexOf<u64, u64, LEN>> for Recorded<'_, R> {
-    fn play(&self, index: &mut TreeIndexOf<u64, u64, LEN>) -> Result<(), AllocError> {
-        for number in 1..=241u64 {
-            if index.insert_sync(number.saturating_mul(2), number).is_err() {
-                return Err(AllocError);
-            }
-        }
-        for key in 0..=483u64 {
-            let there = (2..=482).contains(&key) && key % 2 == 0;
-            let wanted = if there { Some(key) } else { None };
-            let told = found_and_asked(index, key);
-            assert!(self.rt; told == (there, wanted));
-        }
-        Ok(())
-    }
+fn asks_the_key_it_finds_steps(rt: &impl Abort, alloc: Global) -> Result<(), AllocError> {
+    let mut index: TreeIndex<u64, u64> = TreeIndex::new(alloc);
+    asks_the_key(rt, &mut index)
+}
+
+fn asks_the_small_key_steps(rt: &impl Abort, alloc: Global) -> Result<(), AllocError> {
+    let mut index: SmallTreeIndex<u64, u64> = SmallTreeIndex::new(alloc);
+    asks_the_key(rt, &mut index)
 }
 
 /// A look-up that finds a pair has asked its judge of that very key, and one that finds none has asked of no equal key.
 #[test]
 fn asks_the_key_it_finds(rt: HostRuntime) {
-    let scenario = Recorded { rt: &rt };
-    assert!(rt; succeeds(rt.alloc(), || at_both_sizes(rt.alloc(), &scenario)));
+    assert!(rt; succeeds(rt.alloc(), || asks_the_key_it_finds_steps(&rt, rt.alloc())));
+    assert!(rt; succeeds(rt.alloc(), || asks_the_small_key_steps(&rt, rt.alloc())));
 }

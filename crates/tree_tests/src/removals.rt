@@ -1,12 +1,10 @@
 //! How many comparisons a removal of a range makes.
-ghost use Rattle.tree_array.specs.Length.{IsLen};
-
 use std::alloc::{AllocError, Global};
 use std::cell::Cell;
 use std::ops::Bound;
 use std::process::Abort;
 use test_support::refusals::succeeds;
-use tree_index::TreeIndexOf;
+use tree_index::{SmallTreeIndex, TreeIndex, TreeIndexOf};
 use tree_support::Asked;
 
 /// Removes the keys from 226 to 3375 of those up to 3616, with at most so many comparisons.
@@ -30,17 +28,21 @@ fn compares_at_the_borders<'c, const LEN: usize>(
     Ok(())
 }
 
-fn borders_steps<const LEN: usize>(rt: &impl Abort, alloc: Global) -> Result<(), AllocError>
-    requires { IsLen LEN }
-{
+fn borders_steps(rt: &impl Abort, alloc: Global) -> Result<(), AllocError> {
     let counter = Cell::new(0);
-    let mut index: TreeIndexOf<Asked, u64, LEN> = TreeIndexOf::new(alloc);
+    let mut index: TreeIndex<Asked, u64> = TreeIndex::new(alloc);
+    compares_at_the_borders(rt, &mut index, &counter)
+}
+
+fn small_borders_steps(rt: &impl Abort, alloc: Global) -> Result<(), AllocError> {
+    let counter = Cell::new(0);
+    let mut index: SmallTreeIndex<Asked, u64> = SmallTreeIndex::new(alloc);
     compares_at_the_borders(rt, &mut index, &counter)
 }
 
 /// Of 3,616 keys 3,150 go, and the two borders alone are compared.
 #[test]
 fn compares_at_the_borders_alone(rt: HostRuntime) {
-    assert!(rt; succeeds(rt.alloc(), || borders_steps::<15>(&rt, rt.alloc())));
-    assert!(rt; succeeds(rt.alloc(), || borders_steps::<7>(&rt, rt.alloc())));
+    assert!(rt; succeeds(rt.alloc(), || borders_steps(&rt, rt.alloc())));
+    assert!(rt; succeeds(rt.alloc(), || small_borders_steps(&rt, rt.alloc())));
 }

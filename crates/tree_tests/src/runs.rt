@@ -3,9 +3,8 @@ use std::alloc::{AllocError, Global};
 use std::ops::Bound;
 use std::process::Abort;
 use test_support::refusals::succeeds;
-use tree_index::{Command, Reply, TreeIndex, TreeIndexOf};
+use tree_index::{Command, Reply, SmallTreeIndex, TreeIndex, TreeIndexOf};
 use tree_runs::run;
-use tree_support::{Scenario, at_both_sizes};
 
 /// Commands of every kind, and the reply to each by an index that was empty.
 static COMMANDS: [(Command<u64, u64>, Reply<u64>); 10] = [
@@ -51,26 +50,25 @@ fn expect_replies(rt: &impl Abort, replies: &[Reply<u64>]) -> Result<(), AllocEr
     Ok(())
 }
 
-/// Runs the commands over a new index.
-#[derive(Drop)]
-struct Running<'r, R> {
-    rt: &'r R,
-    alloc: Global,
+fn runs_every_command_steps(rt: &impl Abort, alloc: Global) -> Result<(), AllocError> {
+    let mut index: TreeIndex<u64, u64> = TreeIndex::new(alloc);
+    expect_replies(rt, &replies(alloc, &mut index)?)
 }
 
-impl<R: Abort, const LEN: usize> Scenario<TreeIndexOf<u64, u64, LEN>> for Running<'_, R> {
-    fn play(&self, index: &mut TreeIndexOf<u64, u64, LEN>) -> Result<(), AllocError> {
-        expect_replies(self.rt, &replies(self.alloc, index)?)
-    }
+fn runs_every_small_command_steps(rt: &impl Abort, alloc: Global) -> Result<(), AllocError> {
+    let mut index: SmallTreeIndex<u64, u64> = SmallTreeIndex::new(alloc);
+    expect_replies(rt, &replies(alloc, &mut index)?)
 }
 
 #[test]
 fn runs_every_command(rt: HostRuntime) {
-    let scenario = Running {
-        rt: &rt,
-        alloc: rt.alloc(),
-    };
-    assert!(rt; succeeds(rt.alloc(), || at_both_sizes(rt.alloc(), &scenario)));
+    assert!(rt; succeeds(rt.alloc(), || runs_every_command_steps(&rt, rt.alloc())));
+    assert!(rt;
+        succeeds(
+            rt.alloc(),
+            || runs_every_small_command_steps(&rt, rt.alloc())
+        )
+    );
 }
 
 /// So many ascending inserts, and the depth then.

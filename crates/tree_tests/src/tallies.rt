@@ -1,6 +1,5 @@
 //! Keys and values that are counted: each is dropped once, and a clone of a key may be refused.
 ghost use Rattle.std.specs.Prelude.{◌≡◌};
-ghost use Rattle.tree_array.specs.Length.{IsLen};
 ghost use Rattle.tree_model.specs.Keys.{equal_numbers};
 
 use std::alloc::{AllocError, Global};
@@ -138,24 +137,24 @@ fn make_calls<'c, const LEN: usize>(
     Ok(())
 }
 
-/// Makes the calls of an index, and drops it.
-fn uses_an_index<const LEN: usize>(
-    rt: &impl Abort,
-    alloc: Global,
-    tally: &Tally,
-) -> Result<(), AllocError>
-    requires { IsLen LEN }
-{
-    let mut index: Index<LEN> = TreeIndexOf::new(alloc);
+/// Makes the calls of an index of fifteen slots, and drops it.
+fn use_fifteen_slots(rt: &impl Abort, alloc: Global, tally: &Tally) -> Result<(), AllocError> {
+    let mut index: Index<15> = TreeIndexOf::new(alloc);
+    make_calls(rt, &mut index, tally)
+}
+
+/// Makes the calls of an index of seven slots, and drops it.
+fn use_seven_slots(rt: &impl Abort, alloc: Global, tally: &Tally) -> Result<(), AllocError> {
+    let mut index: Index<7> = TreeIndexOf::new(alloc);
     make_calls(rt, &mut index, tally)
 }
 
 fn drops_once(rt: &impl Abort, alloc: Global) -> Result<(), AllocError> {
     let tally = Tally::new();
-    let outcome = uses_an_index::<15>(rt, alloc, &tally);
+    let outcome = use_fifteen_slots(rt, alloc, &tally);
     assert!(rt; tally.has_alive(0));
     outcome?;
-    let outcome = uses_an_index::<7>(rt, alloc, &tally);
+    let outcome = use_seven_slots(rt, alloc, &tally);
     assert!(rt; tally.has_alive(0));
     outcome
 }
@@ -234,24 +233,24 @@ fn refused_clones<'c, const LEN: usize>(
     Ok(refused)
 }
 
-/// Fills an index while clones are refused, and drops it.
-fn fills_an_index<const LEN: usize>(
-    rt: &impl Abort,
-    alloc: Global,
-    tally: &Tally,
-) -> Result<u64, AllocError>
-    requires { IsLen LEN }
-{
-    let mut index: Index<LEN> = TreeIndexOf::new(alloc);
+/// Fills an index of fifteen slots while clones are refused, and drops it.
+fn fill_fifteen_slots(rt: &impl Abort, alloc: Global, tally: &Tally) -> Result<u64, AllocError> {
+    let mut index: Index<15> = TreeIndexOf::new(alloc);
+    refused_clones(rt, &mut index, tally)
+}
+
+/// Fills an index of seven slots while clones are refused, and drops it.
+fn fill_seven_slots(rt: &impl Abort, alloc: Global, tally: &Tally) -> Result<u64, AllocError> {
+    let mut index: Index<7> = TreeIndexOf::new(alloc);
     refused_clones(rt, &mut index, tally)
 }
 
 fn refuses_clones(rt: &impl Abort, alloc: Global) -> Result<(), AllocError> {
     let tally = Tally::new();
-    let refused = fills_an_index::<15>(rt, alloc, &tally);
+    let refused = fill_fifteen_slots(rt, alloc, &tally);
     assert!(rt; tally.has_alive(0));
     assert!(rt; refused? > 15);
-    let refused = fills_an_index::<7>(rt, alloc, &tally);
+    let refused = fill_seven_slots(rt, alloc, &tally);
     assert!(rt; tally.has_alive(0));
     assert!(rt; refused? > 30);
     Ok(())
