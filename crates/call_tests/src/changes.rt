@@ -6,23 +6,37 @@ use test_support::refusals::succeeds;
 use tree_index::{TreeIndex, TreeIndexOf};
 use tree_support::{Scenario, at_both_sizes};
 
+/// The length, the depth and the spare.
+fn shape_of<const LEN: usize>(index: &TreeIndexOf<u64, u64, LEN>) -> (usize, usize, u8) {
+    (index.len(), index.depth(), index.spare())
+}
+
+/// Replaces and changes the value at a key, which is there or isn't.
+fn expect_changed<const LEN: usize>(
+    rt: &impl Abort,
+    index: &mut TreeIndexOf<u64, u64, LEN>,
+    key: u64,
+    there: bool,
+) {
+    let old = if there { Ok(key) } else { Err(7) };
+    assert!(rt; replaces(index, key, 7) == old);
+    assert!(rt; adds(index, key, key) == there);
+    let new = if there {
+        Some(key.wrapping_add(7))
+    } else {
+        None
+    };
+    assert!(rt; index.peek(&key).copied() == new);
+}
+
 /// Replaces and changes the value at each key up to the last, of which the even ones are present, and at one more.
 fn changes_all<const LEN: usize>(rt: &impl Abort, index: &mut TreeIndexOf<u64, u64, LEN>) {
-    let shape = (index.len(), index.depth(), index.spare());
-    let end = (index.len() as u64).wrapping_mul(2);
+    let shape = shape_of(index);
+    let end = (shape.0 as u64).wrapping_mul(2);
     for key in 0..=end {
-        let there = key < end && key % 2 == 0;
-        let old = if there { Ok(key) } else { Err(7) };
-        assert!(rt; replaces(index, key, 7) == old);
-        assert!(rt; adds(index, key, key) == there);
-        let new = if there {
-            Some(key.wrapping_add(7))
-        } else {
-            None
-        };
-        assert!(rt; index.peek(&key).copied() == new);
+        expect_changed(rt, index, key, key < end && key % 2 == 0);
     }
-    assert!(rt; (index.len(), index.depth(), index.spare()) == shape);
+    assert!(rt; shape_of(index) == shape);
 }
 
 /// Replaces the value at a key.

@@ -1,6 +1,4 @@
 //! Pairs of an iterator or of a vector, and copies.
-ghost use Rattle.tree_array.specs.Length.{IsLen};
-
 use crate::{fills, refill};
 use std::alloc::{AllocError, Global};
 use std::iter::FromIterator;
@@ -68,51 +66,57 @@ fn descending(alloc: Global, count: u64) -> Result<Vec<(u64, u64)>, AllocError> 
     Ok(pairs)
 }
 
+/// Returns what was built, or that memory was refused.
+fn sorted<const LEN: usize>(
+    index: Result<TreeIndexOf<u64, u64, LEN>, FromSortedError<u64, u64>>,
+) -> Result<TreeIndexOf<u64, u64, LEN>, AllocError> {
+    match index {
+        Ok(index) => Ok(index),
+        Err(_) => Err(AllocError),
+    }
+}
+
 /// How many pairs that ascend make an index, and its depth.
 static DEPTHS: [(u64, usize); 5] = [(0, 0), (1, 1), (15, 1), (241, 2), (3616, 3)];
 
 /// The same for leaves of seven pairs.
 static SMALL_DEPTHS: [(u64, usize); 5] = [(0, 0), (1, 1), (7, 1), (57, 2), (400, 3)];
 
-/// Returns whether an index has the pairs of 0, 2, 4 and so on, so many, and this depth.
-fn is_built<const LEN: usize>(
-    index: &TreeIndexOf<u64, u64, LEN>,
-    count: u64,
-    depth: usize,
-) -> bool {
-    let ends_well = match index.last() {
-        Some((key, value)) => Some(*key) == count.wrapping_mul(2).checked_sub(2) && key == value,
-        None => count == 0,
-    };
-    ends_well && index.len() as u64 == count && index.depth() == depth
-}
-
-fn builds<const LEN: usize>(
-    rt: &impl Abort,
-    alloc: Global,
-    count: u64,
-    depth: usize,
-) -> Result<(), AllocError>
-    requires { IsLen LEN }
-{
-    let pairs = ascending(alloc, count)?;
-    let Ok(index) = TreeIndexOf::<u64, u64, LEN>::from_sorted(alloc, pairs) else {
-        return Err(AllocError);
-    };
-    assert!(rt; is_built(&index, count, depth));
+fn builds_steps(rt: &impl Abort, alloc: Global) -> Result<(), AllocError> {
+    for (count, depth) in &DEPTHS {
+        let index: TreeIndex<u64, u64> = sorted(TreeIndexOf::from_sorted(
+            alloc,
+            ascending(alloc, *count)?,
+        ))?;
+        assert!(rt; index.len() as u64 == *count && index.depth() == *depth);
+        assert!(rt;
+            *count == 0
+                || index.last()
+                    == Some((&(*count - 1).wrapping_mul(2), &(*count - 1).wrapping_mul(2)))
+        );
+    }
     Ok(())
 }
 
 #[test]
 fn builds_from_sorted_pairs(rt: HostRuntime) {
-    for (count, depth) in &DEPTHS {
-        let steps = || builds::<15>(&rt, rt.alloc(), *count, *depth);
-        assert!(rt; succeeds(rt.alloc(), steps), "{count} pairs");
-    }
+    assert!(rt; succeeds(rt.alloc(), || builds_steps(&rt, rt.alloc())));
+}
+
+fn small_builds_steps(rt: &impl Abort, alloc: Global) -> Result<(), AllocError> {
     for (count, depth) in &SMALL_DEPTHS {
-        let steps = || builds::<7>(&rt, rt.alloc(), *count, *depth);
-        assert!(rt; succeeds(rt.alloc(), steps), "{count} pairs");
+        let index: SmallTreeIndex<u64, u64> = sorted(TreeIndexOf::from_sorted(
+            alloc,
+            ascending(alloc, *count)?,
+        ))?;
+        assert!(rt; index.len() as u64 == *count && index.depth() == *depth);
     }
+    Ok(())
+}
+
+#[test]
+fn builds_from_sorted_pairs_in_small_leaves(rt: HostRuntime) {
+    assert!(rt; succeeds(rt.alloc(), || small_builds_steps(&rt, rt.alloc())));
 }
 
 /// Pairs that don't ascend: equal keys, a smaller one, and equal keys behind others.
