@@ -2,7 +2,7 @@
 ghost use Rattle.std.specs.Prelude.{◌≡◌, ◌+◌, ◌<◌, IfSome, IfNone, vec_len};
 ghost use Rattle.std.specs.Ordering.{nat_cmp};
 ghost use Rattle.tree_model.specs.History.{IsHistoryOf};
-ghost use Rattle.tree_shared.specs.Tallies.{sum_of};
+ghost use Rattle.tree_tallies.specs.Tallies.{sum_of};
 
 use std::sync::ledger::Ledger;
 use tree_shared::{Closed, Pass, SharedTreeIndex};

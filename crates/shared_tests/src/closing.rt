@@ -1,6 +1,6 @@
 //! The end of the sharing.
 ghost use Rattle.std.specs.Prelude.{◌≡◌, All};
-ghost use Rattle.tree_shared.specs.Tallies.{none};
+ghost use Rattle.tree_tallies.specs.Tallies.{none};
 
 use crate::closed::closed_with;
 use crate::one_worker::reply_to;

@@ -2,7 +2,7 @@
 ghost use Rattle.std.specs.Prelude.{◌≡◌, ◌≤◌, ℕ};
 ghost use Rattle.std.proofs.Common.{rules, sym};
 ghost use Rattle.tree_model.specs.Keys.{equal_numbers};
-ghost use Rattle.tree_shared.specs.Ledgers.{IsBlankFor};
+ghost use Rattle.tree_tallies.specs.Ledgers.{IsBlankFor};
 
 use crate::scenario::{Scenario, play};
 use std::alloc::{AllocError, Global};

@@ -1,6 +1,6 @@
 //! Scenarios over a shared index, and the one place where its five ledgers are named.
 ghost use Rattle.std.specs.Prelude.{◌≡◌, ◌<◌};
-ghost use Rattle.tree_shared.specs.Ledgers.{IsBlankFor};
+ghost use Rattle.tree_tallies.specs.Ledgers.{IsBlankFor};
 
 use crate::closing::{closes_with_all_passes, closes_without_workers, parts_while_a_pass_is_out};
 use crate::one_worker::{each_call, each_small_call, insert_and_remove};

@@ -8,11 +8,11 @@ use Rattle.std.proofs.lemmas.Bool.Decides.{eqb_tells}
 use Rattle.std.proofs.lemmas.Grind.{common_steps}
 use Rattle.tree_model.specs.declared.commands.Record.{Record}
 use Rattle.tree_model.specs.History.{Log, Appends}
-use Rattle.tree_shared.specs.declared.tally.Tally.{Tally}
-use Rattle.tree_shared.specs.Ledgers.{Fits}
+use Rattle.tree_tallies.specs.declared.tally.Tally.{Tally}
+use Rattle.tree_tallies.specs.Ledgers.{Fits}
 use Rattle.tree_runs.specs.Schedules.{records, records_of, HasRoom, RunsSchedule, FitsEachRun, Ran}
-use Rattle.tree_shared.specs.Tallies.{is_refused, is_stored, is_removed, is_found, is_done, none, plus, raised, reply_of_apply, tally, tally_of}
-use Rattle.tree_shared.proofs.Tallied.{same_answered, same_raise}
+use Rattle.tree_tallies.specs.Tallies.{is_refused, is_stored, is_removed, is_found, is_done, none, plus, raised, reply_of_apply, tally, tally_of}
+use Rattle.tree_tallies.proofs.Tallied.{same_answered, same_raise}
 
 either_way : {X : Type 0} (b : Bool) (x : X) (xs ys zs : List X) → xs ≡ ys ++ zs → (if b then x ∷ xs else xs) ≡ (if b then x ∷ ys else ys) ++ zs
 either_way true x xs ys zs e = ap (λ ws. x ∷ ws) e

@@ -6,9 +6,9 @@ use Rattle.tree_model.specs.declared.commands.Reply.{Reply}
 use Rattle.tree_model.specs.declared.commands.Record.{Record}
 use Rattle.tree_model.specs.Runs.{Step}
 use Rattle.tree_model.specs.History.{Log, IsAnswered, IsSameCommand, IsSameReply}
-use Rattle.tree_shared.specs.declared.tally.Tally.{Tally}
-use Rattle.tree_shared.specs.Ledgers.{Fits}
-use Rattle.tree_shared.specs.Tallies.{none, plus, tally}
+use Rattle.tree_tallies.specs.declared.tally.Tally.{Tally}
+use Rattle.tree_tallies.specs.Ledgers.{Fits}
+use Rattle.tree_tallies.specs.Tallies.{none, plus, tally}
 
 -- the records, in order
 abbrev pub records : {K V : Type 0} → List (Option (Record K V)) → List (Record K V)

@@ -3,8 +3,8 @@ ghost use Rattle.std.specs.Prelude.{◌<◌, All, length};
 ghost use Rattle.tree_runs.specs.Schedules.{FitsEachRun, Ran};
 
 use tree_index::{Command, IndexKey, SameClone};
-use tree_shared::Tally;
 use tree_state::StateOf;
+use tree_tallies::Tally;
 
 /// Applies each command in turn, and counts its reply for its worker. Returns how many commands were refused.
 ///

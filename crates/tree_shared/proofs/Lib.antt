@@ -1,1 +1,1 @@
-pub mod Tallied
+pub mod Answered

@@ -1,4 +1,2 @@
 pub mod Counted
-pub mod Ledgers
 pub mod Replies
-pub mod Tallies

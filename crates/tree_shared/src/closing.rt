@@ -1,12 +1,11 @@
 //! What is left when the sharing of an index ends.
 
-use crate::pass::Pass;
 use crate::shared::SharedTreeIndexOf;
-use crate::tally::Tally;
 use std::error::Error;
 use std::fmt;
 use std::sync::ledger::Ledger;
 use tree_index::{IndexKey, Record, SameClone, TreeIndexOf};
+use tree_tallies::{Pass, Tally};
 
 /// What a closed index of fifteen pairs a leaf leaves. See [`ClosedOf`].
 pub type Closed<K, V> = ClosedOf<K, V, 15>;

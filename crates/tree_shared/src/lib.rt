@@ -4,20 +4,11 @@
 //! sharing ends, the passes' tallies add up to the tally of the history, and the history replays to the index.
 #![tactic(auto)]
 
-mod blanks;
 mod closing;
-mod column;
-mod count;
-mod ledgers;
 mod locked;
-mod pass;
-mod replies;
 mod serves;
 mod shared;
-mod tally;
 
-pub use blanks::Blanks;
 pub use closing::{Closed, ClosedOf, Unclosed, UnclosedOf};
-pub use pass::Pass;
 pub use shared::{SharedTreeIndex, SharedTreeIndexOf};
-pub use tally::Tally;
+pub use tree_tallies::{Blanks, Pass, Tally};

@@ -1,10 +1,10 @@
 //! What a lock guards, as a call sees it that takes the lock.
 ghost use Rattle.std.specs.Prelude.{◌<◌};
-ghost use Rattle.tree_shared.specs.declared.tally.Tally.{Tally};
+ghost use Rattle.tree_tallies.specs.declared.tally.Tally.{Tally};
 
-use crate::pass::Pass;
 use std::sync::ledger::Ledger;
 use std::sync::{Mutex, Wait};
+use tree_tallies::Pass;
 
 /// What answers requests, and counts the answers in the pass of the worker that asks.
 ///

@@ -3,16 +3,12 @@ ghost use Rattle.std.specs.Prelude.{◌≡◌, ◌+◌, ◌<◌, All, true, vec_
 ghost use Rattle.tree_array.specs.Length.{IsLen};
 ghost use Rattle.tree_model.specs.History.{IsHistoryOf, IsSameBound};
 ghost use Rattle.tree_model.specs.Pairs.{lent_bound};
-ghost use Rattle.tree_shared.specs.Ledgers.{IsBlankFor};
+ghost use Rattle.tree_tallies.specs.Ledgers.{IsBlankFor};
 ghost use Rattle.tree_shared.specs.Replies.{is_reply_to};
-ghost use Rattle.tree_shared.specs.Tallies.{none, raised, sum_of, tally, pair_of, reply_of_insert, reply_of_upsert, reply_of_remove, reply_of_removal, reply_of_peek};
+ghost use Rattle.tree_tallies.specs.Tallies.{none, raised, sum_of, tally, pair_of, reply_of_insert, reply_of_upsert, reply_of_remove, reply_of_removal, reply_of_peek};
 
-use crate::blanks::Blanks;
 use crate::closing::{ClosedOf, UnclosedOf};
-use crate::ledgers::{Books, Ledgers, Workers};
 use crate::locked::Locked;
-use crate::pass::Pass;
-use crate::replies::{found_value, is_removed};
 use crate::serves::serve;
 use std::alloc::{AllocError, Global};
 use std::fmt;
@@ -22,6 +18,7 @@ use std::sync::ledger::Ledger;
 use std::sync::{Mutex, Wait};
 use tree_index::{Command, IndexKey, InsertError, Record, Reply, SameClone, TreeIndexOf};
 use tree_state::{PreparedPair, StateOf};
+use tree_tallies::{Blanks, Books, Ledgers, Pass, Workers, found_value, is_removed};
 
 /// An index of fifteen pairs a leaf that threads share by reference. See [`SharedTreeIndexOf`].
 pub type SharedTreeIndex<K, V, C, S, M, F, D> = SharedTreeIndexOf<K, V, C, S, M, F, D, 15>;

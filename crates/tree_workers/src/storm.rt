@@ -2,8 +2,8 @@
 ghost use Rattle.std.specs.Prelude.{◌≡◌, ◌+◌, ◌≤◌, All, IfOk, vec_len};
 ghost use Rattle.std.specs.Ordering.{nat_cmp};
 ghost use Rattle.tree_model.specs.History.{IsHistoryOf};
-ghost use Rattle.tree_shared.specs.Ledgers.{IsBlankFor};
-ghost use Rattle.tree_shared.specs.Tallies.{none, tally};
+ghost use Rattle.tree_tallies.specs.Ledgers.{IsBlankFor};
+ghost use Rattle.tree_tallies.specs.Tallies.{none, tally};
 
 use crate::gate::Gate;
 use crate::workers::run_all;

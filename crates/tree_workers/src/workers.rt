@@ -1,6 +1,6 @@
 //! A thread for each pass of a shared index.
 ghost use Rattle.std.specs.Prelude.{◌≡◌, All, IfOk, vec_len};
-ghost use Rattle.tree_shared.specs.Tallies.{none};
+ghost use Rattle.tree_tallies.specs.Tallies.{none};
 
 use crate::gate::Gate;
 use crate::storm::StormError;

@@ -4,7 +4,7 @@ use Rattle.std.specs.Io.KnownBytes.{Appends}
 use Rattle.std.specs.Ordering.{nat_cmp}
 use Rattle.tree_model.specs.History.{IsHistoryOf}
 use Rattle.tree_model.specs.declared.commands.Record.{Record}
-use Rattle.tree_shared.specs.Tallies.{tally}
+use Rattle.tree_tallies.specs.Tallies.{tally}
 use Rattle.tree_requests.specs.Lines.{with_feed}
 use Rattle.tree_requests.specs.Writing.{IsFront}
 

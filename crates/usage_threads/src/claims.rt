@@ -2,8 +2,8 @@
 ghost use Rattle.std.specs.Prelude.{◌≡◌, ◌+◌, ◌≤◌, IfOk, length};
 ghost use Rattle.std.specs.Ordering.{nat_cmp};
 ghost use Rattle.tree_model.specs.History.{IsHistoryOf};
-ghost use Rattle.tree_shared.specs.Ledgers.{IsBlankFor};
-ghost use Rattle.tree_shared.specs.Tallies.{none, plus, tally, tally_of};
+ghost use Rattle.tree_tallies.specs.Ledgers.{IsBlankFor};
+ghost use Rattle.tree_tallies.specs.Tallies.{none, plus, tally, tally_of};
 
 use std::alloc::{AllocError, Global};
 use std::marker::Brand;

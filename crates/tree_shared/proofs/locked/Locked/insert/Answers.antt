@@ -1,8 +1,8 @@
 use Rattle.std.proofs.Common.{rules, refl, sym, ap, ◌∙◌}
 use Rattle.tree_model.specs.declared.commands.Reply.TheVariants.{Duplicate}
 use Rattle.tree_node.proofs.Common.{fits}
-use Rattle.tree_shared.specs.Tallies.{tally, reply_of_insert}
-use Rattle.tree_shared.proofs.Tallied.{insert_kept, insert_tallied}
+use Rattle.tree_tallies.specs.Tallies.{tally, reply_of_insert}
+use Rattle.tree_shared.proofs.Answered.{insert_kept, insert_tallied}
 use Rattle.tree_shared.proofs.locked.Locked.insert.Goals as goal
 
 pub insert_prepared-outcome-requires : goal.insert_prepared-outcome-requires

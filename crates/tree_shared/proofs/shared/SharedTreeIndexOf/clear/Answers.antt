@@ -1,6 +1,6 @@
 use Rattle.std.proofs.Common.{ap, ◌∙◌}
-use Rattle.tree_shared.specs.Tallies.{raised}
-use Rattle.tree_shared.proofs.Tallied.{clear_reply}
+use Rattle.tree_tallies.specs.Tallies.{raised}
+use Rattle.tree_shared.proofs.Answered.{clear_reply}
 use Rattle.tree_shared.proofs.shared.SharedTreeIndexOf.clear.Goals as goal
 
 pub returns-in-Ok : goal.returns-in-Ok

@@ -1,6 +1,6 @@
 use Rattle.std.proofs.Common.{ap, ◌∙◌}
-use Rattle.tree_shared.specs.Tallies.{raised}
-use Rattle.tree_shared.proofs.Tallied.{range_reply}
+use Rattle.tree_tallies.specs.Tallies.{raised}
+use Rattle.tree_shared.proofs.Answered.{range_reply}
 use Rattle.tree_shared.proofs.shared.SharedTreeIndexOf.remove_range.Goals as goal
 
 pub returns-in-Ok : goal.returns-in-Ok

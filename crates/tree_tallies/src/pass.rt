@@ -1,7 +1,7 @@
 //! What a worker calls the index by.
 ghost use Rattle.std.specs.Prelude.{◌≡◌, ◌≤◌};
-ghost use Rattle.tree_shared.specs.Tallies.{tally_of};
-ghost use Rattle.tree_shared.specs.declared.tally.Tally.{Tally};
+ghost use Rattle.tree_tallies.specs.Tallies.{tally_of};
+ghost use Rattle.tree_tallies.specs.declared.tally.Tally.{Tally};
 
 use crate::count::Count;
 use crate::tally::Tally;

@@ -5,7 +5,7 @@ use Rattle.tree_model.specs.declared.commands.Reply.TheVariants.{Stored, Duplica
 use Rattle.tree_model.specs.declared.commands.Record.{Record}
 use Rattle.tree_model.specs.declared.commands.InsertError.{InsertError}
 use Rattle.tree_model.specs.declared.commands.InsertError.TheVariants as fault
-use Rattle.tree_shared.specs.declared.tally.Tally.{Tally}
+use Rattle.tree_tallies.specs.declared.tally.Tally.{Tally}
 
 abbrev pub is_refused : {V : Type 0} → Reply V → Bool
 is_refused Refused = true

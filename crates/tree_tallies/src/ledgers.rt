@@ -1,8 +1,8 @@
 //! The five ledgers of a shared index.
 ghost use Rattle.std.specs.Prelude.{◌≡◌, ◌+◌, ◌<◌, ◌≤◌, false, vec_len};
-ghost use Rattle.tree_shared.specs.Ledgers.{Standing, standing, Fits, IsBlankFor};
-ghost use Rattle.tree_shared.specs.Tallies.{is_refused, none, plus, raised, sum_of, tally_of};
-ghost use Rattle.tree_shared.specs.declared.tally.Tally.{Tally};
+ghost use Rattle.tree_tallies.specs.Ledgers.{Standing, standing, Fits, IsBlankFor};
+ghost use Rattle.tree_tallies.specs.Tallies.{is_refused, none, plus, raised, sum_of, tally_of};
+ghost use Rattle.tree_tallies.specs.declared.tally.Tally.{Tally};
 
 use crate::blanks::Blanks;
 use crate::column::Column;
@@ -11,7 +11,7 @@ use crate::replies::{is_done, is_found, is_removed, is_stored};
 use crate::tally::Tally;
 use std::marker::{Model, PhantomData};
 use std::sync::ledger::Ledger;
-use tree_index::Reply;
+use tree_model::Reply;
 
 /// The five columns. Contracts see how many parts of each are here, what these count, and what is counted in all.
 #[derive(Drop)]
@@ -149,8 +149,10 @@ impl<C: Ledger, S: Ledger, M: Ledger, F: Ledger, D: Ledger> Ledgers<C, S, M, F, 
 /// How many workers the ledgers were made for: a ledger has one part more.
 #[derive(Drop)]
 pub struct Workers<C: Ledger, S: Ledger, M: Ledger, F: Ledger, D: Ledger> {
-    pub(crate) number: usize,
-    pub(crate) of: PhantomData<(C, S, M, F, D)>,
+    /// The number of workers.
+    pub number: usize,
+    /// The ledgers, which the type alone names.
+    pub of: PhantomData<(C, S, M, F, D)>,
     ghost calls: { number + 1 ≡ C.parts },
     ghost stored: { number + 1 ≡ S.parts },
     ghost removed: { number + 1 ≡ M.parts },
@@ -162,7 +164,8 @@ pub struct Workers<C: Ledger, S: Ledger, M: Ledger, F: Ledger, D: Ledger> {
 /// calls.
 #[derive(Drop)]
 pub struct Books<C: Ledger, S: Ledger, M: Ledger, F: Ledger, D: Ledger> {
-    pub(crate) ledgers: Ledgers<C, S, M, F, D>,
+    /// The ledgers.
+    pub ledgers: Ledgers<C, S, M, F, D>,
 }
 
 impl<C: Ledger, S: Ledger, M: Ledger, F: Ledger, D: Ledger> Model for Books<C, S, M, F, D> {

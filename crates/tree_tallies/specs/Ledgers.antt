@@ -1,7 +1,7 @@
 -- What five ledgers count.
 use Rattle.std.specs.Prelude.{ℕ, ◌+◌, ◌^◌, ◌<◌, ◌≡◌}
 use Rattle.std.specs.declared.sync.ledger.Blank.{Blank}
-use Rattle.tree_shared.specs.declared.tally.Tally.{Tally}
+use Rattle.tree_tallies.specs.declared.tally.Tally.{Tally}
 
 -- so many parts of each ledger are here, and count `kept`; all parts count `totals`
 pub record Standing : Type 0 where

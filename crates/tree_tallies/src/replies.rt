@@ -1,8 +1,8 @@
 //! What a reply raises in a tally.
 ghost use Rattle.std.specs.Prelude.{◌≡◌};
-ghost use Rattle.tree_shared.specs.Tallies.{is_refused, is_stored, is_removed, is_found, is_done, found_value};
+ghost use Rattle.tree_tallies.specs.Tallies.{is_refused, is_stored, is_removed, is_found, is_done, found_value};
 
-use tree_index::Reply;
+use tree_model::Reply;
 
 /// Returns whether the command was refused.
 pub fn is_refused<V>(reply: &Reply<V>) -> bool

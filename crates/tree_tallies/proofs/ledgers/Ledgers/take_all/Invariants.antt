@@ -1,6 +1,6 @@
 use Rattle.std.proofs.Common.{◌≡◌, ◌+◌, ◌≤◌, length}
-use Rattle.tree_shared.specs.Tallies.{sum_of}
-use Rattle.tree_shared.proofs.ledgers.Ledgers.take_all.Given as goal
+use Rattle.tree_tallies.specs.Tallies.{sum_of}
+use Rattle.tree_tallies.proofs.ledgers.Ledgers.take_all.Given as goal
 
 abbrev pub invariant-loop-pass : goal.invariant-loop-pass
 invariant-loop-pass g l = record {

@@ -1,10 +1,10 @@
 //! What calls came to, in numbers.
 ghost use Rattle.std.specs.Prelude.{◌≡◌, ◌≤◌, cond, is_err};
-ghost use Rattle.tree_shared.specs.Ledgers.{Fits};
-ghost use Rattle.tree_shared.specs.Tallies.{raised, reply_of_apply};
+ghost use Rattle.tree_tallies.specs.Ledgers.{Fits};
+ghost use Rattle.tree_tallies.specs.Tallies.{raised, reply_of_apply};
 
 use crate::replies::{is_done, is_found, is_refused, is_removed, is_stored};
-use tree_index::{Command, Reply};
+use tree_model::{Command, Reply};
 
 /// What calls of an index came to. Counts no call that was refused.
 #[derive(Clone, Copy, PartialEq, Eq, Debug, Default, Drop)]
