@@ -21,9 +21,19 @@ fn changes_alone<const LEN: usize>(
     index: &TreeIndexOf<u64, u64, LEN>,
     copy: &mut TreeIndexOf<u64, u64, LEN>,
 ) -> bool {
-    let was_equal = are_equal(index, copy);
-    let removed = copy.remove_sync(&1);
-    was_equal && removed && !are_equal(index, copy) && (index.len(), copy.len()) == (2, 1)
+    are_equal(index, copy) && removes_one(copy) && has_one_more(index, copy)
+}
+
+fn removes_one<const LEN: usize>(copy: &mut TreeIndexOf<u64, u64, LEN>) -> bool {
+    copy.remove_sync(&1)
+}
+
+/// Returns whether an index of two pairs isn't equal to a copy, which has one.
+fn has_one_more<const LEN: usize>(
+    index: &TreeIndexOf<u64, u64, LEN>,
+    copy: &TreeIndexOf<u64, u64, LEN>,
+) -> bool {
+    !are_equal(index, copy) && (index.len(), copy.len()) == (2, 1)
 }
 
 /// Copies the index and changes the copy. A refusal leaves the index as it was.

@@ -35,16 +35,27 @@ fn expect_ends<const LEN: usize>(rt: &impl Abort, index: &TreeIndexOf<u64, u64, 
     } else {
         (None, None)
     };
-    let found = [ends(index), nearest(index, 1), nearest(index, top + 1)];
-    assert!(rt; found == [(least, greatest), (None, least), (greatest, None)]);
+    assert!(rt; ends(index) == (least, greatest));
+    expect_near(rt, index, 1, (None, least));
+    expect_near(rt, index, top + 1, (greatest, None));
+}
+
+/// The keys that are nearest to a key.
+fn expect_near<const LEN: usize>(
+    rt: &impl Abort,
+    index: &TreeIndexOf<u64, u64, LEN>,
+    key: u64,
+    beside: (Option<u64>, Option<u64>),
+) {
+    assert!(rt; nearest(index, key) == beside);
 }
 
 /// What is beside each of so many even keys but the last, and beside the odd key above it.
 fn expect_beside<const LEN: usize>(rt: &impl Abort, index: &TreeIndexOf<u64, u64, LEN>, len: u32) {
     for number in 1..len {
         let key = 2 * u64::from(number);
-        let found = [nearest(index, key), nearest(index, key + 1)];
-        assert!(rt; found == [(Some(key), Some(key)), (Some(key), Some(key + 2))]);
+        expect_near(rt, index, key, (Some(key), Some(key)));
+        expect_near(rt, index, key + 1, (Some(key), Some(key + 2)));
     }
 }
 

@@ -112,6 +112,11 @@ fn refuse_a_duplicate<const LEN: usize>(
 /// Looks up the key that was written, with both ends of a range too.
 fn look_up<const LEN: usize>(rt: &impl Abort, index: &Names<LEN>, key: &Named) {
     assert!(rt; index.peek(key).copied() == Some(0) && index.contains(key));
+    look_in_range(rt, index, key);
+}
+
+/// Looks up the key as a range of its own.
+fn look_in_range<const LEN: usize>(rt: &impl Abort, index: &Names<LEN>, key: &Named) {
     let mut range = index.range((Bound::Included(key), Bound::Included(key)));
     assert!(rt; range.next().is_some_and(|(at, _)| at.number == key.number));
     assert!(rt; range.next_back().is_none());
@@ -150,6 +155,11 @@ fn answer_without_memory<const LEN: usize>(
     remove(rt, index, &key);
     assert!(rt; stands(index, pairs, 0));
     cut(rt, index, pairs, &key);
+    empty(rt, index);
+}
+
+/// Removes all pairs.
+fn empty<const LEN: usize>(rt: &impl Abort, index: &mut Names<LEN>) {
     index.clear();
     assert!(rt; index.is_empty() && index.depth() == 0);
 }

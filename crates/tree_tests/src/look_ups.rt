@@ -55,18 +55,39 @@ fn look_up<'c, const LEN: usize>(
     let key = Asked::new(number, counter);
     counter.set(0);
     let there = index.contains(&key);
-    let found = [
-        (there, counter.replace(0)),
-        (index.peek(&key).is_some(), counter.replace(0)),
-        (index.peek_entry(&key).is_some(), counter.replace(0)),
-        (is_read(index, &key), counter.replace(0)),
-        (is_found(index, &key), counter.replace(0)),
-    ];
-    for (is_there, asked) in found {
+    assert!(rt; counter.replace(0) <= most);
+    for (is_there, asked) in lent(index, &key, counter) {
+        assert!(rt; is_there == there && asked <= most);
+    }
+    for (is_there, asked) in found(index, &key, counter) {
         assert!(rt; is_there == there && asked <= most);
     }
     expect_read(rt, index, key, there);
     assert!(rt; counter.get() <= most);
+}
+
+/// Whether calls that lend a pair find a key, and how often each compares it.
+fn lent<'c, const LEN: usize>(
+    index: &TreeIndexOf<Asked<'c>, u64, LEN>,
+    key: &Asked<'c>,
+    counter: &'c Cell<u64>,
+) -> [(bool, u64); 2] {
+    [
+        (index.peek(key).is_some(), counter.replace(0)),
+        (index.peek_entry(key).is_some(), counter.replace(0)),
+    ]
+}
+
+/// The same of a reader and of a judge.
+fn found<'c, const LEN: usize>(
+    index: &TreeIndexOf<Asked<'c>, u64, LEN>,
+    key: &Asked<'c>,
+    counter: &'c Cell<u64>,
+) -> [(bool, u64); 2] {
+    [
+        (is_read(index, key), counter.replace(0)),
+        (is_found(index, key), counter.replace(0)),
+    ]
 }
 
 /// Whether a reader gets a pair.

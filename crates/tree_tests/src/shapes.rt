@@ -127,17 +127,36 @@ fn expect_begun_anew(rt: &impl Abort, index: &mut TreeIndex<u64, u64>) -> Result
     Ok(())
 }
 
-fn expect_row(rt: &impl Abort, alloc: Global, row: &Row) -> Result<(), AllocError> {
-    let mut index: TreeIndex<u64, u64> = TreeIndex::new(alloc);
-    grow(&mut index, row.keys.0, row.keys.1)?;
-    expect_shape(rt, &index, row.grown);
-    shrink(&mut index, row);
-    expect_shape(rt, &index, row.left);
+/// Grows an index to the first shape of a row.
+fn expect_grown(
+    rt: &impl Abort,
+    index: &mut TreeIndex<u64, u64>,
+    row: &Row,
+) -> Result<(), AllocError> {
+    grow(index, row.keys.0, row.keys.1)?;
+    expect_shape(rt, index, row.grown);
+    Ok(())
+}
+
+/// Removes the keys of a row, which leaves its last shape.
+fn expect_shrunk(
+    rt: &impl Abort,
+    index: &mut TreeIndex<u64, u64>,
+    row: &Row,
+) -> Result<(), AllocError> {
+    shrink(index, row);
+    expect_shape(rt, index, row.left);
     let (_, leaves, _) = row.left;
     if leaves == 0 {
-        expect_begun_anew(rt, &mut index)?;
+        expect_begun_anew(rt, index)?;
     }
     Ok(())
+}
+
+fn expect_row(rt: &impl Abort, alloc: Global, row: &Row) -> Result<(), AllocError> {
+    let mut index: TreeIndex<u64, u64> = TreeIndex::new(alloc);
+    expect_grown(rt, &mut index, row)?;
+    expect_shrunk(rt, &mut index, row)
 }
 
 #[test]
