@@ -23,14 +23,32 @@ fn extends<const LEN: usize>(
     index: &mut TreeIndexOf<u64, u64, LEN>,
 ) -> Result<(), AllocError> {
     let length = index.len();
+    extend_by_three(alloc, index)?;
+    expect_three_more(rt, index, length);
+    Ok(())
+}
+
+/// Stores pairs of three keys, of which two come twice.
+fn extend_by_three<const LEN: usize>(
+    alloc: Global,
+    index: &mut TreeIndexOf<u64, u64, LEN>,
+) -> Result<(), AllocError> {
     let pairs = vec![in alloc; (1, 10), (3, 30), (1, 11), (5, 50), (3, 33)]?;
     match index.try_extend(pairs) {
         Ok(()) => {}
         Err(_) => return Err(AllocError),
     }
+    Ok(())
+}
+
+/// The later pairs of both keys are there, and one more.
+fn expect_three_more<const LEN: usize>(
+    rt: &impl Abort,
+    index: &TreeIndexOf<u64, u64, LEN>,
+    length: usize,
+) {
     assert!(rt; index.len() == length.wrapping_add(3));
     assert!(rt; index.peek(&1) == Some(&11) && index.peek(&3) == Some(&33));
-    Ok(())
 }
 
 /// Extends an index of each fill.

@@ -33,13 +33,23 @@ fn expect_both_ends<const LEN: usize>(
 ) {
     for low in 1..=count / 2 {
         let high = count.wrapping_add(1).wrapping_sub(low);
-        assert!(rt; pops(index) == [Some((low, low)), Some((high, high))]);
+        expect_pops(rt, index, [Some((low, low)), Some((high, high))]);
     }
     if count % 2 == 1 {
         let middle = count / 2 + 1;
-        assert!(rt; pops(index) == [Some((middle, middle)), None]);
+        expect_pops(rt, index, [Some((middle, middle)), None]);
     }
-    assert!(rt; pops(index) == [None, None] && index.is_empty());
+    expect_pops(rt, index, [None, None]);
+    assert!(rt; index.is_empty());
+}
+
+/// Takes the first pair and then the last one, which are these.
+fn expect_pops<const LEN: usize>(
+    rt: &impl Abort,
+    index: &mut TreeIndexOf<u64, u64, LEN>,
+    ends: [Option<(u64, u64)>; 2],
+) {
+    assert!(rt; pops(index) == ends);
 }
 
 /// Takes the first pair, and then the last one.
@@ -71,11 +81,16 @@ fn expect_retained<const LEN: usize>(
     count: u64,
 ) {
     keep_even(index);
-    assert!(rt; index.len() as u64 == count / 2);
-    assert!(rt; count < 2 || index.first() == Some((&2, &2)));
+    expect_even(rt, index, count);
     assert!(rt; [takes(index, 1), takes(index, 3)] == [None, None]);
     keep_larger(index, count);
     assert!(rt; index.is_empty());
+}
+
+/// The even keys up to `count` are there.
+fn expect_even<const LEN: usize>(rt: &impl Abort, index: &TreeIndexOf<u64, u64, LEN>, count: u64) {
+    assert!(rt; index.len() as u64 == count / 2);
+    assert!(rt; count < 2 || index.first() == Some((&2, &2)));
 }
 
 fn keep_even<const LEN: usize>(index: &mut TreeIndexOf<u64, u64, LEN>) {
