@@ -6,3 +6,6 @@ parts-requires g c = search fits
 
 pub leaf_count-requires-room-N-Destruct : goal.leaf_count-requires-room-N-Destruct
 leaf_count-requires-room-N-Destruct g c κs = search fits
+
+pub leaf_count-requires : goal.leaf_count-requires
+leaf_count-requires g c = search fits
