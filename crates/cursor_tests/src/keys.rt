@@ -91,37 +91,19 @@ fn expect_steps<'t, I: DoubleEndedIterator<Item = &'t u64>>(
     }
 }
 
-/// Asks the ends of a walk over the keys.
-fn ask_keys<const LEN: usize>(
-    rt: &impl Abort,
-    index: &TreeIndexOf<u64, u64, LEN>,
-    steps: &[(End, Option<u64>)],
-) {
-    expect_steps(rt, index.keys(), steps, 1);
-}
-
-/// Asks the ends of a walk over the values.
-fn ask_values<const LEN: usize>(
-    rt: &impl Abort,
-    index: &TreeIndexOf<u64, u64, LEN>,
-    steps: &[(End, Option<u64>)],
-) {
-    expect_steps(rt, index.values(), steps, 10);
-}
-
 fn row_steps(rt: &impl Abort, alloc: Global, (last, steps): Row) -> Result<(), AllocError> {
     let mut index: TreeIndex<u64, u64> = TreeIndex::new(alloc);
     store(&mut index, last)?;
-    ask_keys(rt, &index, steps);
-    ask_values(rt, &index, steps);
+    expect_steps(rt, index.keys(), steps, 1);
+    expect_steps(rt, index.values(), steps, 10);
     Ok(())
 }
 
 fn small_row_steps(rt: &impl Abort, alloc: Global, (last, steps): Row) -> Result<(), AllocError> {
     let mut index: SmallTreeIndex<u64, u64> = SmallTreeIndex::new(alloc);
     store(&mut index, last)?;
-    ask_keys(rt, &index, steps);
-    ask_values(rt, &index, steps);
+    expect_steps(rt, index.keys(), steps, 1);
+    expect_steps(rt, index.values(), steps, 10);
     Ok(())
 }
 
@@ -146,37 +128,19 @@ fn expect_all<'t, I: Iterator<Item = &'t u64>>(rt: &impl Abort, walk: I, last: u
     assert!(rt; given == last);
 }
 
-/// Takes all that a walk over the keys gives.
-fn expect_all_keys<const LEN: usize>(
-    rt: &impl Abort,
-    index: &TreeIndexOf<u64, u64, LEN>,
-    last: u64,
-) {
-    expect_all(rt, index.keys(), last, 1);
-}
-
-/// Takes all that a walk over the values gives.
-fn expect_all_values<const LEN: usize>(
-    rt: &impl Abort,
-    index: &TreeIndexOf<u64, u64, LEN>,
-    last: u64,
-) {
-    expect_all(rt, index.values(), last, 10);
-}
-
 fn all_steps(rt: &impl Abort, alloc: Global) -> Result<(), AllocError> {
     let mut index: TreeIndex<u64, u64> = TreeIndex::new(alloc);
     store(&mut index, 300)?;
-    expect_all_keys(rt, &index, 300);
-    expect_all_values(rt, &index, 300);
+    expect_all(rt, index.keys(), 300, 1);
+    expect_all(rt, index.values(), 300, 10);
     Ok(())
 }
 
 fn small_all_steps(rt: &impl Abort, alloc: Global) -> Result<(), AllocError> {
     let mut index: SmallTreeIndex<u64, u64> = SmallTreeIndex::new(alloc);
     store(&mut index, 100)?;
-    expect_all_keys(rt, &index, 100);
-    expect_all_values(rt, &index, 100);
+    expect_all(rt, index.keys(), 100, 1);
+    expect_all(rt, index.values(), 100, 10);
     Ok(())
 }
 
