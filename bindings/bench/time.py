@@ -4,6 +4,8 @@ Writes a line for each work and number of pairs: the map, the work, the pairs, t
 """
 import gc
 import random
+import subprocess
+import sys
 import time
 from collections import deque
 from itertools import islice
@@ -76,26 +78,39 @@ def cut(made, low, high):
             del made[key]
 
 
+def numbers(n):
+    chance = random.Random(20261127)
+    return [chance.randrange(2**62) for _ in range(n)]
+
+
+def grown_by(kind, n):
+    """How many bytes a pair a process grows by that fills a map and does nothing else."""
+    words = [sys.executable, __file__, kind.__name__, str(n)]
+    return float(subprocess.run(words, check=True, capture_output=True, text=True).stdout)
+
+
+def show_growth(name, n):
+    keys = numbers(n)
+    before = resident()
+    made = insert_all({kind.__name__: kind for kind in KINDS}[name](), keys)
+    print((resident() - before) / len(made))
+
+
 def row(name, n, ours, theirs):
     print(f"SortedDict,{name},{n},{ours:.1f},{theirs:.1f}", flush=True)
 
 
-chance = random.Random(20261127)
-for n, rounds in ((1_000, 30), (100_000, 5), (1_000_000, 2)):
-    keys = [chance.randrange(2**62) for _ in range(n)]
-    order = chance.sample(keys, n)
+def measure(n, rounds):
+    keys = numbers(n)
+    order = random.Random(n).sample(keys, n)
     few = order[: min(n, 20_000)]
 
     def both(name, calls, work):
-        row(name, n, *(least(rounds, lambda: work(kind)) for kind in (TreeIndex, SortedDict)))
+        row(name, n, *(least(rounds, lambda: work(kind)) for kind in KINDS))
 
     both("insert ascending", n, lambda kind: timed(n, insert_all, kind(), range(n)))
     both("insert random", n, lambda kind: timed(n, insert_all, kind(), keys))
-    made = {}
-    for kind in (TreeIndex, SortedDict):
-        before = resident()
-        made[kind] = insert_all(kind(), keys)
-        made[kind, "bytes"] = (resident() - before) / n
+    made = {kind: insert_all(kind(), keys) for kind in KINDS}
     both("upsert", n, lambda kind: timed(n, insert_all, made[kind], order))
     both("look up", n, lambda kind: timed(n, look_up_all, made[kind], order))
     both("nearest above", n, lambda kind: timed(len(few), nearest_above, made[kind], few))
@@ -104,4 +119,12 @@ for n, rounds in ((1_000, 30), (100_000, 5), (1_000_000, 2)):
     both("cut of the middle half", n, lambda kind: timed(n // 2, cut, made[kind].copy(), 2**60, 3 * 2**60))
     both("remove", n, lambda kind: timed(n, remove_all, made[kind].copy(), order))
     if n >= 100_000:
-        row("bytes a pair", n, made[TreeIndex, "bytes"], made[SortedDict, "bytes"])
+        row("bytes a pair", n, *(grown_by(kind, n) for kind in KINDS))
+
+
+KINDS = (TreeIndex, SortedDict)
+if len(sys.argv) > 1:
+    show_growth(sys.argv[1], int(sys.argv[2]))
+else:
+    for n, rounds in ((1_000, 30), (100_000, 5), (1_000_000, 2)):
+        measure(n, rounds)
