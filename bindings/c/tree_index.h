@@ -13,8 +13,8 @@
  *
  * What a caller must see to, since nothing checks it:
  *
- *   - A handle begins as TREE_INDEX_CLOSED. After that only the calls below write to it, and it isn't copied: move it by
- *     a plain assignment only if the old one is set to TREE_INDEX_CLOSED.
+ *   - A handle begins as TREE_INDEX_CLOSED. After that only the calls below write to it, and it isn't copied. To move it,
+ *     assign it and close the old one: `new = old; old = (tree_index_handle)TREE_INDEX_CLOSED;`.
  *   - One call at a time has a handle, look-ups too. Threads that share one take a lock around each call. A handle may
  *     go from thread to thread.
  *   - No pointer is null, not even that of an array of length 0. Arrays have at least the length that is passed, and the
@@ -25,8 +25,8 @@
  * What a caller needn't see to: a call on a closed handle, on one that is open already, on one that was freed, or on one
  * that has the other kind of key answers TREE_INDEX_MISFIT, or 0 where it answers a number, and changes nothing.
  *
- * Costs are given in n, the number of pairs. An allocation that is refused is answered with TREE_INDEX_NO_MEMORY, and the
- * pairs are as they were.
+ * Costs are given in n, the number of pairs: a descent compares a key with O(log n) others. An allocation that is refused is
+ * answered with TREE_INDEX_NO_MEMORY, and the pairs are as they were. Places that a call has nothing for keep what they held.
  */
 #ifndef TREE_INDEX_H
 #define TREE_INDEX_H
@@ -60,7 +60,7 @@ typedef struct tree_index_entry {
   uint64_t value;
 } tree_index_entry;
 
-/* The kinds of a bound. */
+/* The kinds of a bound. Any other kind is TREE_INDEX_UNBOUNDED too. */
 enum { TREE_INDEX_UNBOUNDED = 0, TREE_INDEX_INCLUDED = 1, TREE_INDEX_EXCLUDED = 2 };
 
 /* Declarations, written by bindings/declarations. */
@@ -79,134 +79,156 @@ enum {
   TREE_INDEX_NO_ROOM = 4,
 };
 
-/* Writes the value of a key. Copies nothing. */
+/* Writes the value of a key. Answers `NO`, and writes nothing, if the key is absent. Runs in O(log n). Copies
+ * nothing. */
 uint8_t tree_index_bytes_peek(tree_index_handle *handle, const uint8_t *key, size_t key_length, uint64_t *value);
 
-/* Answers whether a key is present. Copies nothing. */
+/* Answers whether a key is present. Runs in O(log n). Copies nothing. */
 uint8_t tree_index_bytes_contains(tree_index_handle *handle, const uint8_t *key, size_t key_length);
 
-/* Writes the pair with the smallest key. */
+/* Writes the pair with the smallest key. Answers `NO`, and writes nothing, if there is no pair, and `NO_ROOM` if the
+ * key has too few places: the entry is written then, and tells the key's length. Runs in O(log n). */
 uint8_t tree_index_bytes_first(tree_index_handle *handle, uint8_t *key, size_t key_length, tree_index_entry *entry);
 
-/* Writes the pair with the largest key. */
+/* Writes the pair with the largest key. Answers as [`tree_index_bytes_first`] does. Runs in O(log n). */
 uint8_t tree_index_bytes_last(tree_index_handle *handle, uint8_t *key, size_t key_length, tree_index_entry *entry);
 
-/* Writes the pair with a key, or else the one with the next smaller key. Copies the key meanwhile. */
+/* Writes the pair with a key, or else the one with the next smaller key. Answers as [`tree_index_bytes_first`] does.
+ * Runs in O(log n). Copies the key meanwhile. */
 uint8_t tree_index_bytes_at_or_below(tree_index_handle *handle, const uint8_t *sought, size_t sought_length, uint8_t *key, size_t key_length, tree_index_entry *entry);
 
-/* Writes the pair with a key, or else the one with the next larger key. Copies the key meanwhile. */
+/* Writes the pair with a key, or else the one with the next larger key. Answers as [`tree_index_bytes_first`] does.
+ * Runs in O(log n). Copies the key meanwhile. */
 uint8_t tree_index_bytes_at_or_above(tree_index_handle *handle, const uint8_t *sought, size_t sought_length, uint8_t *key, size_t key_length, tree_index_entry *entry);
 
-/* Writes the first pairs whose keys are within both bounds, in ascending order, and how many. Stops where a key has no room
- * in what is left of `keys`, and at the last of `entries`. `keys` gets the bytes of one key after another, and `entries` the
- * length and the value of each. Answers `NO_ROOM` if even the first key has no room, and writes its length to `count`.
+/* Writes the first pairs whose keys are within both bounds, in ascending order, and how many: `YES` with a count of
+ * 0 means that there is none. Stops where a key has no room in what is left of `keys`, and at the last of `entries`.
+ * `keys` gets the bytes of one key after another, and `entries` the length and the value of each. Answers `NO_ROOM`
+ * if even the first key has no room, and writes its length to `count`. Runs in O(log n) and the number of entries.
  * Copies the keys of the bounds meanwhile. */
 uint8_t tree_index_bytes_fill(tree_index_handle *handle, uint8_t low_kind, const uint8_t *low, size_t low_length, uint8_t high_kind, const uint8_t *high, size_t high_length, uint8_t *keys, size_t keys_length, tree_index_entry *entries, size_t entries_length, size_t *count);
 
 /* Does what [`tree_index_bytes_fill`] does from the other end: the last pairs, in descending order. */
 uint8_t tree_index_bytes_fill_back(tree_index_handle *handle, uint8_t low_kind, const uint8_t *low, size_t low_length, uint8_t high_kind, const uint8_t *high, size_t high_length, uint8_t *keys, size_t keys_length, tree_index_entry *entries, size_t entries_length, size_t *count);
 
-/* Removes every pair whose key is within both bounds. Copies the keys of the bounds meanwhile. */
+/* Removes every pair whose key is within both bounds. Answers `YES`, also if there was none. Makes O(log n)
+ * comparisons, and frees the leaves between the bounds whole. Copies the keys of the bounds meanwhile. */
 uint8_t tree_index_bytes_remove_range(tree_index_handle *handle, uint8_t low_kind, const uint8_t *low, size_t low_length, uint8_t high_kind, const uint8_t *high, size_t high_length);
 
-/* Opens a closed handle on an index of pairs whose keys strictly ascend. `keys` has the bytes of one key after another, and
- * `entries` the length and the value of each. Answers `NO` if the keys don't ascend, or if two are equal, and `NO_ROOM` if
- * they have more bytes than `keys`. The handle stays closed then. Copies the keys. */
+/* Opens a closed handle on an index of pairs whose keys strictly ascend. `keys` has the bytes of one key after
+ * another, and `entries` the length and the value of each. Answers `NO` if the keys don't ascend, or if two are
+ * equal, and `NO_ROOM` if they have more bytes than `keys`. The handle stays closed then. Runs in the number of
+ * pairs. Copies the keys. */
 uint8_t tree_index_bytes_from_sorted(tree_index_handle *handle, const uint8_t *keys, size_t keys_length, const tree_index_entry *entries, size_t entries_length);
 
 /* Opens a closed handle on a new, empty index of byte strings. Allocates one block. */
 uint8_t tree_index_bytes_new(tree_index_handle *handle);
 
-/* Stores a pair if its key is absent, with a copy of the key. Answers `NO` if it is present. */
+/* Stores a pair if its key is absent, with a copy of the key. Answers `NO`, and changes nothing, if it is present.
+ * Runs in O(log n). Allocates at most the copy, a copy of a key between leaves, a leaf, a node a level and a new
+ * root. */
 uint8_t tree_index_bytes_insert(tree_index_handle *handle, const uint8_t *key, size_t key_length, uint64_t value);
 
-/* Stores a pair with a copy of its key, in place of one with an equal key. */
+/* Stores a pair with a copy of its key, in place of one with an equal key. Answers `YES` either way. Costs what
+ * [`tree_index_bytes_insert`] does. */
 uint8_t tree_index_bytes_upsert(tree_index_handle *handle, const uint8_t *key, size_t key_length, uint64_t value);
 
-/* Removes the pair with a key. Answers whether there was one. Copies the key meanwhile. */
+/* Removes the pair with a key. Answers whether there was one. Runs in O(log n). Copies the key meanwhile. */
 uint8_t tree_index_bytes_remove(tree_index_handle *handle, const uint8_t *key, size_t key_length);
 
-/* Removes the pair with a key and writes its value. Copies the key meanwhile. */
+/* Removes the pair with a key and writes its value. Answers `NO`, and writes nothing, if the key is absent. Runs in
+ * O(log n). Copies the key meanwhile. */
 uint8_t tree_index_bytes_take(tree_index_handle *handle, const uint8_t *key, size_t key_length, uint64_t *value);
 
-/* Removes the pair with the smallest key and writes it. Copies the key meanwhile. Answers `NO_ROOM` if the key has too few places:
- * the pair stays then, and the entry tells its length. */
+/* Removes the pair with the smallest key and writes it. Answers `NO`, and writes nothing, if there is none, and
+ * `NO_ROOM` if the key has too few places: the pair stays then, and the entry tells its length. Runs in O(log n).
+ * Copies the key meanwhile. */
 uint8_t tree_index_bytes_pop_first(tree_index_handle *handle, uint8_t *key, size_t key_length, tree_index_entry *entry);
 
-/* Removes the pair with the largest key and writes it. Copies the key meanwhile. Answers `NO_ROOM` if the key has too few places:
- * the pair stays then, and the entry tells its length. */
+/* Removes the pair with the largest key and writes it. Answers as [`tree_index_bytes_pop_first`] does. Runs in O(log
+ * n). Copies the key meanwhile. */
 uint8_t tree_index_bytes_pop_last(tree_index_handle *handle, uint8_t *key, size_t key_length, tree_index_entry *entry);
 
-/* Opens the closed handle `to` on a copy of the index of `from`. A copy that is refused memory leaves `to` closed. */
+/* Opens the closed handle `to` on a copy of the index of `from`. A copy that is refused memory leaves `to` closed.
+ * Runs in O(n). */
 uint8_t tree_index_copy(tree_index_handle *from, tree_index_handle *to);
 
-/* Frees the index of a handle and closes the handle. Does nothing to a closed one. */
+/* Frees the index of a handle and closes the handle. Does nothing to a closed one. Runs in O(n). */
 void tree_index_free(tree_index_handle *handle);
 
-/* Returns the number of pairs, or 2^64 - 1 if there are more, and 0 if the handle is closed. */
+/* Returns the number of pairs, or 2^64 - 1 if there are more, and 0 if the handle is closed. Runs in constant time. */
 size_t tree_index_len(tree_index_handle *handle);
 
-/* Returns the number of levels of nodes, and 0 if there is no pair or the handle is closed. */
+/* Returns the number of levels of nodes, and 0 if there is no pair or the handle is closed. Runs in constant time. */
 size_t tree_index_depth(tree_index_handle *handle);
 
-/* Returns how many writes are sure not to allocate an array, whatever their keys, and 0 if the handle is closed. */
+/* Returns how many writes are sure not to allocate an array, whatever their keys, and 0 if the handle is closed.
+ * Runs in O(n). */
 uint8_t tree_index_spare(tree_index_handle *handle);
 
-/* Removes all pairs. */
+/* Removes all pairs. Answers `YES`, also if there was none. Runs in O(n). Keeps the memory for later pairs. */
 uint8_t tree_index_clear(tree_index_handle *handle);
 
-/* Writes the value of a key. */
+/* Writes the value of a key. Answers `NO`, and writes nothing, if the key is absent. Runs in O(log n). */
 uint8_t tree_index_peek(tree_index_handle *handle, uint64_t key, uint64_t *value);
 
-/* Answers whether a key is present. */
+/* Answers whether a key is present. Runs in O(log n). */
 uint8_t tree_index_contains(tree_index_handle *handle, uint64_t key);
 
-/* Writes the pair with the smallest key. */
+/* Writes the pair with the smallest key. Answers `NO`, and writes nothing, if there is no pair. Runs in O(log n). */
 uint8_t tree_index_first(tree_index_handle *handle, tree_index_pair *pair);
 
-/* Writes the pair with the largest key. */
+/* Writes the pair with the largest key. Answers `NO`, and writes nothing, if there is no pair. Runs in O(log n). */
 uint8_t tree_index_last(tree_index_handle *handle, tree_index_pair *pair);
 
-/* Writes the pair with a key, or else the one with the next smaller key. */
+/* Writes the pair with a key, or else the one with the next smaller key. Answers `NO`, and writes nothing, if there
+ * is neither. Runs in O(log n). */
 uint8_t tree_index_at_or_below(tree_index_handle *handle, uint64_t key, tree_index_pair *pair);
 
-/* Writes the pair with a key, or else the one with the next larger key. */
+/* Writes the pair with a key, or else the one with the next larger key. Answers `NO`, and writes nothing, if there
+ * is neither. Runs in O(log n). */
 uint8_t tree_index_at_or_above(tree_index_handle *handle, uint64_t key, tree_index_pair *pair);
 
-/* Writes the first pairs whose keys are within both bounds, in ascending order, as many as there are places. Returns how
- * many it wrote, and 0 if the handle holds no index of numbers. */
+/* Writes the first pairs whose keys are within both bounds, in ascending order, as many as there are places. Returns
+ * how many it wrote, and 0 if the handle holds no index of numbers. Runs in O(log n) and the number of places. */
 size_t tree_index_fill(tree_index_handle *handle, uint8_t low_kind, uint64_t low, uint8_t high_kind, uint64_t high, tree_index_pair *places, size_t places_length);
 
-/* Writes the last pairs whose keys are within both bounds, in descending order, as many as there are places. Returns how
- * many it wrote, and 0 if the handle holds no index of numbers. */
+/* Writes the last pairs whose keys are within both bounds, in descending order, as many as there are places. Returns
+ * how many it wrote, and 0 if the handle holds no index of numbers. Runs in O(log n) and the number of places. */
 size_t tree_index_fill_back(tree_index_handle *handle, uint8_t low_kind, uint64_t low, uint8_t high_kind, uint64_t high, tree_index_pair *places, size_t places_length);
 
-/* Removes every pair whose key is within both bounds. */
+/* Removes every pair whose key is within both bounds. Answers `YES`, also if there was none. Makes O(log n)
+ * comparisons, and frees the leaves between the bounds whole. Allocates nothing. */
 uint8_t tree_index_remove_range(tree_index_handle *handle, uint8_t low_kind, uint64_t low, uint8_t high_kind, uint64_t high);
 
-/* Opens a closed handle on an index of these pairs, whose keys strictly ascend. Answers `NO` if they don't, or if two are
- * equal. The handle stays closed then. */
+/* Opens a closed handle on an index of these pairs, whose keys strictly ascend. Answers `NO` if they don't, or if
+ * two are equal. The handle stays closed then. Runs in the number of pairs. */
 uint8_t tree_index_from_sorted(tree_index_handle *handle, const tree_index_pair *pairs, size_t pairs_length);
 
 /* Opens a closed handle on a new, empty index of numbers. Allocates one block. */
 uint8_t tree_index_new(tree_index_handle *handle);
 
-/* Stores a pair if its key is absent. Answers `NO` if it is present. */
+/* Stores a pair if its key is absent. Answers `NO`, and changes nothing, if it is present. Runs in O(log n).
+ * Allocates at most a leaf, a node a level and a new root. */
 uint8_t tree_index_insert(tree_index_handle *handle, uint64_t key, uint64_t value);
 
-/* Stores a pair, in place of one with an equal key. */
+/* Stores a pair, in place of one with an equal key. Answers `YES` either way. Runs in O(log n). Allocates at most a
+ * leaf, a node a level and a new root. */
 uint8_t tree_index_upsert(tree_index_handle *handle, uint64_t key, uint64_t value);
 
-/* Removes the pair with a key. Answers whether there was one. */
+/* Removes the pair with a key. Answers whether there was one. Runs in O(log n). Allocates nothing. */
 uint8_t tree_index_remove(tree_index_handle *handle, uint64_t key);
 
-/* Removes the pair with a key and writes its value. */
+/* Removes the pair with a key and writes its value. Answers `NO`, and writes nothing, if the key is absent. Runs in
+ * O(log n). Allocates nothing. */
 uint8_t tree_index_take(tree_index_handle *handle, uint64_t key, uint64_t *value);
 
-/* Removes the pair with the smallest key and writes it. */
+/* Removes the pair with the smallest key and writes it. Answers `NO`, and writes nothing, if there is none. Runs in
+ * O(log n). Allocates nothing. */
 uint8_t tree_index_pop_first(tree_index_handle *handle, tree_index_pair *pair);
 
-/* Removes the pair with the largest key and writes it. */
+/* Removes the pair with the largest key and writes it. Answers `NO`, and writes nothing, if there is none. Runs in
+ * O(log n). Allocates nothing. */
 uint8_t tree_index_pop_last(tree_index_handle *handle, tree_index_pair *pair);
 
 /* End of the declarations. */

@@ -14,6 +14,7 @@
 #include <optional>
 #include <string>
 #include <string_view>
+#include <type_traits>
 #include <utility>
 #include <vector>
 
@@ -47,9 +48,12 @@ public:
   ::tree_index_handle *get() const noexcept { return &handle_; }
 };
 
+// Where each type is a whole number. An argument `{}` is none, and so is taken as a bound.
+template <class... Numbers> using if_numbers = std::enable_if_t<(std::is_integral_v<Numbers> && ...)>;
+
 } // namespace inside
 
-// A bound of a range of keys.
+// A bound of a range of keys. `bound{}`, or `{}` in its place, is no bound.
 struct bound {
   uint8_t kind = TREE_INDEX_UNBOUNDED;
   uint64_t key = 0;
@@ -99,7 +103,7 @@ public:
     return tree_index_take(owner_.get(), key, &value) == TREE_INDEX_YES ? std::optional(value) : std::nullopt;
   }
   // Removes the keys from low up to high, high itself not.
-  void erase_range(uint64_t low, uint64_t high) { erase_range(bound::including(low), bound::excluding(high)); }
+  template <class Low, class High, class = inside::if_numbers<Low, High>> void erase_range(Low low, High high) { erase_range(bound::including(low), bound::excluding(high)); }
   void erase_range(bound low, bound high) { tree_index_remove_range(owner_.get(), low.kind, low.key, high.kind, high.key); }
   void clear() noexcept { tree_index_clear(owner_.get()); }
   std::optional<value_type> pop_first() {
@@ -132,10 +136,11 @@ public:
     return pair_by([&](tree_index_pair *pair) { return tree_index_at_or_above(owner_.get(), key, pair); });
   }
 
-  // The pairs in ascending order, or in descending order. A write to the index ends every walk over it.
+  // The pairs in ascending order, or in descending order. After a write begin a new walk: an old one may still give up to
+  // 64 pairs as they were before. Two numbers are the keys from the first up to the second, the second itself not.
   iterator begin() const;
   iterator end() const;
-  range_type range(uint64_t low, uint64_t high) const;
+  template <class Low, class High, class = inside::if_numbers<Low, High>> range_type range(Low low, High high) const;
   range_type range(bound low, bound high) const;
   range_type reversed(bound low = {}, bound high = {}) const;
 
@@ -212,11 +217,11 @@ public:
 
 inline index::iterator index::begin() const { return iterator(this, false, {}, {}); }
 inline index::iterator index::end() const { return iterator(); }
-inline index::range_type index::range(uint64_t low, uint64_t high) const { return range(bound::including(low), bound::excluding(high)); }
+template <class Low, class High, class> index::range_type index::range(Low low, High high) const { return range(bound::including(low), bound::excluding(high)); }
 inline index::range_type index::range(bound low, bound high) const { return range_type(this, false, low, high); }
 inline index::range_type index::reversed(bound low, bound high) const { return range_type(this, true, low, high); }
 
-// A bound of a range of keys that are byte strings.
+// A bound of a range of keys that are byte strings. `byte_bound{}`, or `{}` in its place, is no bound.
 struct byte_bound {
   uint8_t kind = TREE_INDEX_UNBOUNDED;
   std::string key;
@@ -269,6 +274,12 @@ public:
     inside::done(tree_index_bytes_remove_range(owner_.get(), low.kind, at(low.key), low.key.size(), high.kind, at(high.key), high.key.size()));
   }
   void clear() noexcept { tree_index_clear(owner_.get()); }
+  std::optional<value_type> pop_first() {
+    return pair_by([this](uint8_t *key, size_t length, tree_index_entry *entry) { return tree_index_bytes_pop_first(owner_.get(), key, length, entry); });
+  }
+  std::optional<value_type> pop_last() {
+    return pair_by([this](uint8_t *key, size_t length, tree_index_entry *entry) { return tree_index_bytes_pop_last(owner_.get(), key, length, entry); });
+  }
 
   // Look-ups by a key copy nothing.
   std::optional<uint64_t> find(std::string_view key) const {
@@ -292,6 +303,7 @@ public:
     return pair_by([&](uint8_t *key, size_t length, tree_index_entry *entry) { return tree_index_bytes_at_or_above(owner_.get(), at(sought), sought.size(), key, length, entry); });
   }
 
+  // The pairs in order. After a write begin a new walk: an old one may still give up to 64 pairs as they were before.
   iterator begin() const;
   iterator end() const;
   range_type range(byte_bound low = {}, byte_bound high = {}) const;

@@ -9,6 +9,8 @@ import pathlib
 from setuptools import Extension, setup
 
 C = pathlib.Path(__file__).resolve().parent.parent / "c"
+INCLUDE = os.environ.get("TREE_INDEX_INCLUDE_DIR", str(C))
+ARCHIVE = os.path.join(os.environ.get("TREE_INDEX_LIB_DIR", str(C / "build")), "libtree_index_c.a")
 flags = os.environ.get("TREE_INDEX_CFLAGS", "").split()
 
 setup(
@@ -16,8 +18,10 @@ setup(
         Extension(
             "tree_index._core",
             ["src/tree_index/_core.c"],
-            include_dirs=[os.environ.get("TREE_INDEX_INCLUDE_DIR", str(C))],
-            extra_objects=[os.path.join(os.environ.get("TREE_INDEX_LIB_DIR", str(C / "build")), "libtree_index_c.a")],
+            include_dirs=[INCLUDE],
+            extra_objects=[ARCHIVE],
+            # An extension that was built before is built again if one of these is newer.
+            depends=[ARCHIVE, os.path.join(INCLUDE, "tree_index.h")],
             extra_compile_args=["-std=c99", "-Wall", "-Wextra", "-Wno-missing-field-initializers", "-Wno-cast-function-type", *flags],
             extra_link_args=flags,
             define_macros=[("Py_LIMITED_API", "0x03080000")],

@@ -2,16 +2,16 @@
 //!
 //! `TREE_INDEX_LIB_DIR` names the folder of both, which `make install` of `bindings/c` fills. Without it the archive that
 //! `bindings/run` built is taken, and else the linker's own folders are searched.
-use std::path::Path;
+use std::path::{Path, PathBuf};
 
 fn main() {
     println!("cargo:rerun-if-env-changed=TREE_INDEX_LIB_DIR");
     let here = std::env::var("CARGO_MANIFEST_DIR").unwrap_or_default();
     let built = Path::new(&here).join("../c/build");
-    if let Ok(folder) = std::env::var("TREE_INDEX_LIB_DIR") {
-        println!("cargo:rustc-link-search=native={folder}");
-    } else if built.is_dir() {
-        println!("cargo:rustc-link-search=native={}", built.display());
+    let named = std::env::var("TREE_INDEX_LIB_DIR").ok().map(PathBuf::from);
+    if let Some(folder) = named.or(built.is_dir().then_some(built)) {
+        println!("cargo:rustc-link-search=native={}", folder.display());
+        println!("cargo:rerun-if-changed={}", folder.join("libtree_index_c.a").display());
     }
     println!("cargo:rustc-link-lib=static=tree_index_c");
 }

@@ -68,6 +68,9 @@ static void numbers(uint64_t keys, int calls) {
   }
   tree_index::index copy = index.copy(), moved = std::move(copy);
   same(moved, map.begin(), map.end());
+  same(moved.range({}, {}), map.begin(), map.end());
+  same(moved.range({}, tree_index::bound::excluding(keys / 2)), map.begin(), map.lower_bound(keys / 2));
+  same(moved.range(tree_index::bound::including(keys / 2), {}), map.lower_bound(keys / 2), map.end());
   WANT(copy.empty() && copy.begin() == copy.end());
   copy.swap(moved);
   swap(copy, index);
@@ -116,6 +119,13 @@ static void byte_strings(size_t longest, int calls) {
   }
   tree_index::byte_index copy = index.copy();
   same(copy, map.begin(), map.end());
+  while (auto pair = copy.pop_last()) {
+    WANT(pair == last_before(map, map.end()));
+    map.erase(pair->first);
+    WANT(copy.pop_first() == pair_at(map.begin(), map.end()));
+    if (!map.empty()) map.erase(map.begin());
+  }
+  WANT(map.empty() && copy.empty());
   std::printf("C++, keys of at most %zu bytes: %d calls, all answers as std::map's\n", longest, calls);
 }
 

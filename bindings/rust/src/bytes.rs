@@ -82,6 +82,16 @@ impl ByteIndex {
         unsafe { raw::tree_index_clear(self.owner.get()) };
     }
 
+    /// Removes the pair with the smallest key and returns it. Panics if memory for the key is refused, and removes nothing then.
+    pub fn pop_first(&mut self) -> Option<(Vec<u8>, u64)> {
+        self.pair_by(|handle, key, length, entry| unsafe { raw::tree_index_bytes_pop_first(handle, key, length, entry) })
+    }
+
+    /// Removes the pair with the largest key and returns it. Panics if memory for the key is refused, and removes nothing then.
+    pub fn pop_last(&mut self) -> Option<(Vec<u8>, u64)> {
+        self.pair_by(|handle, key, length, entry| unsafe { raw::tree_index_bytes_pop_last(handle, key, length, entry) })
+    }
+
     /// Returns the value of a key. Copies nothing.
     pub fn peek(&self, key: impl AsRef<[u8]>) -> Option<u64> {
         let (key, mut value) = (key.as_ref(), 0);
@@ -104,23 +114,23 @@ impl ByteIndex {
         self.len() == 0
     }
 
-    /// Returns the pair with the smallest key.
+    /// Returns the pair with the smallest key. Panics if memory for the key is refused.
     pub fn first(&self) -> Option<(Vec<u8>, u64)> {
         self.pair_by(|handle, key, length, entry| unsafe { raw::tree_index_bytes_first(handle, key, length, entry) })
     }
 
-    /// Returns the pair with the largest key.
+    /// Returns the pair with the largest key. Panics if memory for the key is refused.
     pub fn last(&self) -> Option<(Vec<u8>, u64)> {
         self.pair_by(|handle, key, length, entry| unsafe { raw::tree_index_bytes_last(handle, key, length, entry) })
     }
 
-    /// Returns the pair with a key, or else the one with the next smaller key.
+    /// Returns the pair with a key, or else the one with the next smaller key. Panics if memory for a key is refused.
     pub fn at_or_below(&self, key: impl AsRef<[u8]>) -> Option<(Vec<u8>, u64)> {
         let sought = key.as_ref();
         self.pair_by(|handle, key, length, entry| unsafe { raw::tree_index_bytes_at_or_below(handle, sought.as_ptr(), sought.len(), key, length, entry) })
     }
 
-    /// Returns the pair with a key, or else the one with the next larger key.
+    /// Returns the pair with a key, or else the one with the next larger key. Panics if memory for a key is refused.
     pub fn at_or_above(&self, key: impl AsRef<[u8]>) -> Option<(Vec<u8>, u64)> {
         let sought = key.as_ref();
         self.pair_by(|handle, key, length, entry| unsafe { raw::tree_index_bytes_at_or_above(handle, sought.as_ptr(), sought.len(), key, length, entry) })
@@ -131,7 +141,8 @@ impl ByteIndex {
         Ok(ByteIndex { owner: self.owner.copy()? })
     }
 
-    /// Returns the pairs whose keys are within the bounds, in ascending order and from both ends.
+    /// Returns the pairs whose keys are within the bounds, in ascending order and from both ends. Panics if memory for keys
+    /// is refused. The type of a bound has to be told where both are open: [`iter`](ByteIndex::iter) needs none.
     pub fn range<B: AsRef<[u8]>>(&self, bounds: impl RangeBounds<B>) -> ByteRange<'_> {
         let owned = |bound: Bound<&B>| bound.map(|key| key.as_ref().to_vec());
         ByteRange {
@@ -148,7 +159,12 @@ impl ByteIndex {
         self.range::<&[u8]>(..)
     }
 
-    /// Panics if memory for the key of a bound is refused, as `Vec` does.
+    /// Stores each pair, in place of one with an equal key. Stops at the first that is refused memory.
+    pub fn try_extend<K: AsRef<[u8]>>(&mut self, pairs: impl IntoIterator<Item = (K, u64)>) -> Result<(), OutOfMemory> {
+        pairs.into_iter().try_for_each(|(key, value)| self.upsert(key, value))
+    }
+
+    /// Panics if memory for a key is refused, as `Vec` does.
     fn pair_by(&self, call: impl Fn(*mut Handle, *mut u8, usize, *mut Entry) -> u8) -> Option<(Vec<u8>, u64)> {
         let (mut key, mut entry) = (vec![0; 64], Entry::default());
         loop {
@@ -168,9 +184,7 @@ impl ByteIndex {
 /// Panics if an allocation is refused.
 impl<K: AsRef<[u8]>> Extend<(K, u64)> for ByteIndex {
     fn extend<I: IntoIterator<Item = (K, u64)>>(&mut self, pairs: I) {
-        for (key, value) in pairs {
-            self.upsert(key, value).expect("memory for a pair");
-        }
+        self.try_extend(pairs).expect("memory for a pair");
     }
 }
 

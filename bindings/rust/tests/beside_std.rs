@@ -125,6 +125,11 @@ fn byte_strings(longest: u64, letters: u64, calls: usize) {
         }
     }
     assert!(index.iter().eq(map.iter().map(|(k, v)| (k.clone(), *v))));
+    let mut copy = ByteIndex::new().unwrap();
+    copy.try_extend(map.iter().map(|(k, v)| (k, *v))).unwrap();
+    for _ in 0..100 {
+        assert_eq!((copy.pop_first(), copy.pop_last()), (map.pop_first(), map.pop_last()));
+    }
     println!("Rust, keys of at most {longest} bytes: {calls} calls, all answers as BTreeMap's, {} pairs at the end", map.len());
 }
 

@@ -8,7 +8,7 @@ use crate::status::{MISFIT, YES};
 use crate::store::Store;
 use std::alloc::Global;
 
-/// Frees the index of a handle and closes the handle. Does nothing to a closed one.
+/// Frees the index of a handle and closes the handle. Does nothing to a closed one. Runs in O(n).
 #[unsafe(no_mangle)]
 pub extern "C" fn tree_index_free(alloc: Global, handle: &mut Handle)
     ensures { held handle.new ≡ None }
@@ -16,7 +16,7 @@ pub extern "C" fn tree_index_free(alloc: Global, handle: &mut Handle)
     drop(handle.take(alloc));
 }
 
-/// Returns the number of pairs, or 2^64 - 1 if there are more, and 0 if the handle is closed.
+/// Returns the number of pairs, or 2^64 - 1 if there are more, and 0 if the handle is closed. Runs in constant time.
 #[unsafe(no_mangle)]
 pub extern "C" fn tree_index_len(alloc: Global, handle: &mut Handle) -> usize
     ensures kept { held handle.new ≡ held handle.old }
@@ -30,7 +30,7 @@ pub extern "C" fn tree_index_len(alloc: Global, handle: &mut Handle) -> usize
     len
 }
 
-/// Returns the number of levels of nodes, and 0 if there is no pair or the handle is closed.
+/// Returns the number of levels of nodes, and 0 if there is no pair or the handle is closed. Runs in constant time.
 #[unsafe(no_mangle)]
 pub extern "C" fn tree_index_depth(alloc: Global, handle: &mut Handle) -> usize
     ensures kept { held handle.new ≡ held handle.old }
@@ -45,6 +45,7 @@ pub extern "C" fn tree_index_depth(alloc: Global, handle: &mut Handle) -> usize
 }
 
 /// Returns how many writes are sure not to allocate an array, whatever their keys, and 0 if the handle is closed.
+/// Runs in O(n).
 #[unsafe(no_mangle)]
 pub extern "C" fn tree_index_spare(alloc: Global, handle: &mut Handle) -> u8
     ensures kept { held handle.new ≡ held handle.old }
@@ -58,7 +59,7 @@ pub extern "C" fn tree_index_spare(alloc: Global, handle: &mut Handle) -> u8
     spare
 }
 
-/// Removes all pairs.
+/// Removes all pairs. Answers `YES`, also if there was none. Runs in O(n). Keeps the memory for later pairs.
 #[unsafe(no_mangle)]
 pub extern "C" fn tree_index_clear(alloc: Global, handle: &mut Handle) -> u8
     ensures { Empties (held handle.old) result (held handle.new) }

@@ -13,9 +13,10 @@ use crate::store::Store;
 use std::alloc::{AllocError, Global};
 use tree_index::{InsertError, TreeIndex};
 
-/// Opens a closed handle on an index of pairs whose keys strictly ascend. `keys` has the bytes of one key after another, and
-/// `entries` the length and the value of each. Answers `NO` if the keys don't ascend, or if two are equal, and `NO_ROOM` if
-/// they have more bytes than `keys`. The handle stays closed then. Copies the keys.
+/// Opens a closed handle on an index of pairs whose keys strictly ascend. `keys` has the bytes of one key after
+/// another, and `entries` the length and the value of each. Answers `NO` if the keys don't ascend, or if two are
+/// equal, and `NO_ROOM` if they have more bytes than `keys`. The handle stays closed then. Runs in the number of
+/// pairs. Copies the keys.
 #[unsafe(no_mangle)]
 pub extern "C" fn tree_index_bytes_from_sorted(
     alloc: Global,

@@ -16,8 +16,8 @@ use std::alloc::Global;
 use std::ops::Bound;
 use tree_index::{Range, TreeIndex};
 
-/// Writes the first pairs whose keys are within both bounds, in ascending order, as many as there are places. Returns how
-/// many it wrote, and 0 if the handle holds no index of numbers.
+/// Writes the first pairs whose keys are within both bounds, in ascending order, as many as there are places. Returns
+/// how many it wrote, and 0 if the handle holds no index of numbers. Runs in O(log n) and the number of places.
 #[unsafe(no_mangle)]
 pub extern "C" fn tree_index_fill(
     alloc: Global,
@@ -42,8 +42,8 @@ pub extern "C" fn tree_index_fill(
     count
 }
 
-/// Writes the last pairs whose keys are within both bounds, in descending order, as many as there are places. Returns how
-/// many it wrote, and 0 if the handle holds no index of numbers.
+/// Writes the last pairs whose keys are within both bounds, in descending order, as many as there are places. Returns
+/// how many it wrote, and 0 if the handle holds no index of numbers. Runs in O(log n) and the number of places.
 #[unsafe(no_mangle)]
 pub extern "C" fn tree_index_fill_back(
     alloc: Global,
@@ -68,7 +68,8 @@ pub extern "C" fn tree_index_fill_back(
     count
 }
 
-/// Removes every pair whose key is within both bounds.
+/// Removes every pair whose key is within both bounds. Answers `YES`, also if there was none. Makes O(log n)
+/// comparisons, and frees the leaves between the bounds whole. Allocates nothing.
 #[unsafe(no_mangle)]
 pub extern "C" fn tree_index_remove_range(
     alloc: Global,

@@ -13,8 +13,8 @@ use crate::store::Store;
 use std::alloc::{AllocError, Global};
 use tree_index::{InsertError, TreeIndex};
 
-/// Opens a closed handle on an index of these pairs, whose keys strictly ascend. Answers `NO` if they don't, or if two are
-/// equal. The handle stays closed then.
+/// Opens a closed handle on an index of these pairs, whose keys strictly ascend. Answers `NO` if they don't, or if
+/// two are equal. The handle stays closed then. Runs in the number of pairs.
 #[unsafe(no_mangle)]
 pub extern "C" fn tree_index_from_sorted(alloc: Global, handle: &mut Handle, pairs: &[Pair]) -> u8
     ensures { OpensSorted (map pair_of pairs.now) (held handle.old) result (held handle.new) }
