@@ -145,6 +145,7 @@ pub fn comes_before<'t, K: Ord + Drop, V: Drop, S: SlotWalk, T: SlotWalk, const 
 }
 
 /// Returns the pair that an end stands on, if it stands on one. Runs in constant time.
+#[inline(always)]
 pub fn pair_on<'t, K: Ord + Drop, V: Drop, S: SlotWalk, const LEN: usize>(
     end: &End<LinkedIter<'t, LeafOf<K, V, LEN>, S>>,
 ) -> Option<(&'t K, &'t V)>

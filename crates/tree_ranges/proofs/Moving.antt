@@ -1,5 +1,5 @@
 -- The moves of a cursor over a tree, and that each answer brings it nearer to its end.
-use Rattle.std.proofs.Common.{◌≡◌, ℕ, zero, suc, ◌+◌, ◌<◌, Bool, true, false, if◌then◌else◌, ltb, List, length, Option, Some, None, Bor, refl, sym, ap, arith, Ordering}
+use Rattle.std.proofs.Common.{◌≡◌, ℕ, zero, suc, ◌+◌, ◌<◌, Bool, true, false, if◌then◌else◌, ltb, List, length, Option, Some, None, is_some, Bor, refl, sym, ap, ◌∙◌, arith, Ordering}
 use Rattle.tree_model.proofs.Common.{⊤, IsTotalOrder, MakesProgress, bound_map, Bound, lent_entry, Moves, lent, opposite, Cursor, End, unopened, at_place, element_at, meets, next_end, shown}
 use Rattle.tree_model.specs.declared.way.Way.{Way}
 use Rattle.tree_model.specs.declared.way.Way.TheVariants.{On, Back}
@@ -63,24 +63,34 @@ module _ {K V : Type 0} (cmp : K → K → Ordering) where
   end_nearer way bound pairs (at_place i) x here = beside_nearer pairs way i x here
   end_nearer way bound pairs exhausted x here = absurd (cc)
 
-  no_pair : (apart : Bool) (test : K × V → Bool) (x : K × V) → (if apart then option_where test None else None) ≡ Some x → ⊥
-  no_pair true test x is = absurd (cc)
-  no_pair false test x is = absurd (cc)
-
-  element_of : (way : Way) (c : Cursor K V) (x : K × V) → shown_apart cmp way c ≡ Some x → (y : K × V) × (element_at c.pairs (end_on way c) ≡ Some y)
-  element_of way c x shows = by_element (element_at c.pairs (end_on way c)) refl
+  same_pair : (apart : Bool) (test : K × V → Bool) (e : Option (K × V)) (x : K × V) → (if apart then option_where test e else None) ≡ Some x → e ≡ Some x
+  same_pair false test e x is = absurd (cc)
+  same_pair true test None x is = absurd (cc)
+  same_pair true test (Some y) x is = by_test (test y) is
     where
-      by_element : (e : Option (K × V)) → element_at c.pairs (end_on way c) ≡ e → (y : K × V) × (element_at c.pairs (end_on way c) ≡ Some y)
-      by_element None is = absurd (no_pair (are_apart c.forward c.backward) (λ pair. meets cmp (opposite way) (bound_on (opposite way) c) pair.0) x (rw is at shows))
-      by_element (Some y) is = (y, is)
+      by_test : (b : Bool) → (if b then Some y else None) ≡ Some x → Some y ≡ Some x
+      by_test true is = is
+      by_test false is = absurd (cc)
+
+  -- a pair that is shown is the one at the end
+  element_of : (way : Way) (c : Cursor K V) (x : K × V) → shown_apart cmp way c ≡ Some x → element_at c.pairs (end_on way c) ≡ Some x
+  element_of way c x shows = same_pair (are_apart c.forward c.backward) (λ pair. meets cmp (opposite way) (bound_on (opposite way) c) pair.0) (element_at c.pairs (end_on way c)) x shows
+
+  -- so a move that gives a pair gives that one
+  pub gives_element : (way : Way) (s t : Cursor K V) (given r : Option (Bor K × Bor V)) → Moves cmp way s given t → is_some given ≡ true → lent r ≡ element_at t.pairs (end_on way t) → Moves cmp way s r t
+  gives_element way s t None r moves some here = absurd (cc)
+  gives_element way s t (Some x) r moves some here =
+      record { moves = moves.moves; answers = here ∙ element_of way t (lent_entry x) (sym moves.answers) ∙ moves.answers; ascending = moves.ascending; inside = moves.inside }
+
+  pub gives_none : (way : Way) (s t : Cursor K V) (given : Option (Bor K × Bor V)) → Moves cmp way s given t → is_some given ≡ false → Moves cmp way s None t
+  gives_none way s t None moves none = moves
+  gives_none way s t (Some x) moves none = absurd (cc)
 
   cursor_nearer : (way : Way) (s : Cursor K V) (x : K × V) → shown_apart cmp way (moved cmp way s) ≡ Some x → moves_left (moved cmp way s) < moves_left s
   cursor_nearer On s x shows =
-      let here = element_of On (moved cmp On s) x shows in
-      omega (arith, end_nearer On s.low s.pairs s.forward here.0 here.1)
+      omega (arith, end_nearer On s.low s.pairs s.forward x (element_of On (moved cmp On s) x shows))
   cursor_nearer Back s x shows =
-      let here = element_of Back (moved cmp Back s) x shows in
-      omega (arith, end_nearer Back s.high s.pairs s.backward here.0 here.1)
+      omega (arith, end_nearer Back s.high s.pairs s.backward x (element_of Back (moved cmp Back s) x shows))
 
   pub comes_nearer : (way : Way) (s t : Cursor K V) (x : Bor K × Bor V) → Moves cmp way s (Some x) t → moves_left t < moves_left s
   comes_nearer way s t x moves =

@@ -1,5 +1,5 @@
 //! A cursor over the pairs of a tree within two bounds.
-ghost use Rattle.std.specs.Prelude.{◌≡◌, ⊤};
+ghost use Rattle.std.specs.Prelude.{◌≡◌, ⊤, is_some};
 ghost use Rattle.std.specs.Iterator.{at_most};
 ghost use Rattle.tree_model.specs.declared.way.Way.TheVariants.{On, Back};
 ghost use Rattle.tree_model.specs.Pairs.{IsAscending, high_of, low_of};
@@ -17,7 +17,7 @@ use std::ops::Bound;
 use std::{fmt, mem};
 use tree_array::array::{ArrayIter, ArrayRevIter};
 use tree_chain::{IterOf as WalkOf, LinkedIter, RevIterOf as RevWalkOf, Walked};
-use tree_cursors::end::{End, step, step_in_leaf};
+use tree_cursors::end::{End, pair_on, step, step_in_leaf};
 use tree_leaf::arena::NodeId;
 use tree_leaf::leaf::LeafOf;
 use tree_node::node::ArenasOf;
@@ -178,28 +178,53 @@ impl<'t, K: Ord + Drop + 't, V: Drop + 't, const LEN: usize> RangeOver<
         }
     }
 
-    /// Moves the forward end, whether or not its leaf has an entry ahead. Stays out of the way of the moves in a leaf.
-    #[inline(never)]
+    /// Moves the forward end, whether or not its leaf has an entry ahead.
+    #[inline(always)]
     fn next_elsewhere(&mut self) -> Option<(&'t K, &'t V)>
         ensures { Moves K.cmp On self.old result self.new }
     {
-        let pair = step(self.arenas, self.root, &mut self.forward, self.low);
-        if !are_apart(&self.forward, &self.backward) {
-            return None;
+        if self.goes_elsewhere() {
+            pair_on(&self.forward)
+        } else {
+            None
         }
-        within::<K, V, ArrayRevIter>(pair, self.high)
     }
 
     /// Moves the backward end, as [`next_elsewhere`](RangeOver::next_elsewhere) moves the forward one.
-    #[inline(never)]
+    #[inline(always)]
     fn next_back_elsewhere(&mut self) -> Option<(&'t K, &'t V)>
         ensures { Moves K.cmp Back self.old result self.new }
     {
+        if self.goes_back_elsewhere() {
+            pair_on(&self.backward)
+        } else {
+            None
+        }
+    }
+
+    /// Moves the forward end, and returns whether the move gives the pair that the end then stands on. Stays out of the way
+    /// of the moves in a leaf, and answers in a register, so that these need no room for an answer in memory.
+    #[inline(never)]
+    fn goes_elsewhere(&mut self) -> bool
+        ensures { (pair : _) × Moves K.cmp On self.old pair self.new × (result ≡ is_some pair) }
+    {
+        let pair = step(self.arenas, self.root, &mut self.forward, self.low);
+        if !are_apart(&self.forward, &self.backward) {
+            return false;
+        }
+        within::<K, V, ArrayRevIter>(pair, self.high).is_some()
+    }
+
+    /// Moves the backward end, as [`goes_elsewhere`](RangeOver::goes_elsewhere) moves the forward one.
+    #[inline(never)]
+    fn goes_back_elsewhere(&mut self) -> bool
+        ensures { (pair : _) × Moves K.cmp Back self.old pair self.new × (result ≡ is_some pair) }
+    {
         let pair = step(self.arenas, self.root, &mut self.backward, self.high);
         if !are_apart(&self.forward, &self.backward) {
-            return None;
+            return false;
         }
-        within::<K, V, ArrayIter>(pair, self.low)
+        within::<K, V, ArrayIter>(pair, self.low).is_some()
     }
 
     /// Opens both bounds, and keeps both ends.

@@ -1,20 +1,14 @@
-use Rattle.std.proofs.Common.{None}
+use Rattle.std.proofs.Common.{sym, ◌∙◌}
 use Rattle.tree_model.specs.declared.way.Way.TheVariants.{On}
-use Rattle.tree_cursors.specs.View.{Kept, seen}
-use Rattle.tree_ranges.proofs.Moving.{hidden_if, moves_on, shown_if}
+use Rattle.tree_ranges.proofs.Moving.{gives_element, gives_none}
 use Rattle.tree_ranges.proofs.Shown.{element_is}
 use Rattle.tree_ranges.proofs.range.RangeOver+K+V+ArenasOf+K+V+LEN+LeafOf+K+V+LEN.next_elsewhere.Goals as goal
-
-pub returns-then-not-are_apart : goal.returns-then-not-are_apart
-returns-then-not-are_apart g c =
-    let kept : Kept c.self.inside.arenas.now c.self.inside.root g.K.Ord.cmp c.step-pair.new.end c.self.inside.backward =
-    record { tree = c.self.invariant.tree; forward_stands = c.step-pair.ensures.stands; backward_stands = c.self.invariant.backward_stands } in
-    let hides = hidden_if g.K.Ord.cmp On (seen c.self.inside.arenas.now c.self.inside.root c.self.inside.low c.self.inside.high c.step-pair.new.end c.self.inside.backward) c.are_apart.result (c.are_apart.ensures _ _ kept) c.if-not-are_apart.true in
-    rw (← c.self.view_is) (moves_on g.met.K.Ord.total _ _ _ _ None _ _ _ c.self.invariant c.step-pair.ensures.place hides)
+use Rattle.tree_ranges.proofs.range.RangeOver+K+V+ArenasOf+K+V+LEN+LeafOf+K+V+LEN.next_elsewhere.Goals.{then-goes_elsewhere, else-goes_elsewhere}
 
 pub returns : goal.returns
-returns g c =
-    let kept : Kept c.self.inside.arenas.now c.self.inside.root g.K.Ord.cmp c.step-pair.new.end c.self.inside.backward =
-    record { tree = c.self.invariant.tree; forward_stands = c.step-pair.ensures.stands; backward_stands = c.self.invariant.backward_stands } in
-    let shows = shown_if g.K.Ord.cmp On (seen c.self.inside.arenas.now c.self.inside.root c.self.inside.low c.self.inside.high c.step-pair.new.end c.self.inside.backward) c.within.result c.are_apart.result (c.are_apart.ensures _ _ kept) c.if-not-are_apart.false (rw (element_is _ _ c.self.invariant.tree _ c.step-pair.ensures.stands, ← c.step-pair.ensures.pair) c.within.ensures) in
-    rw (← c.self.view_is) (moves_on g.met.K.Ord.total _ _ _ _ _ _ _ _ c.self.invariant c.step-pair.ensures.place shows)
+returns g c = elim c.if-goes_elsewhere.branch [
+  | then-goes_elsewhere w ↦
+      rw w.result-is (gives_element g.K.Ord.cmp On _ _ _ _ c.goes_elsewhere.ensures.1 (sym c.goes_elsewhere.ensures.2 ∙ w.if-goes_elsewhere.true)
+      (rw (← c.self.view_is, element_is _ _ c.self.invariant.tree _ c.self.invariant.forward_stands) w.pair_on.ensures))
+  | else-goes_elsewhere w ↦ rw w.result-is (gives_none g.K.Ord.cmp On _ _ _ c.goes_elsewhere.ensures.1 (sym c.goes_elsewhere.ensures.2 ∙ w.if-goes_elsewhere.false))
+]
