@@ -8,6 +8,7 @@ mod Moved
 mod Places
 mod Ranges
 mod Removed
+pub mod Runs
 mod Seen
 mod Stepped
 mod Stored

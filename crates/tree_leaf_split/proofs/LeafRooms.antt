@@ -1,7 +1,7 @@
 -- A leaf node that makes room for a key: its leaf is split or built anew.
-use Rattle.std.proofs.Common.{◌≡◌, ◌⊎◌, ℕ, suc, ◌-◌, ◌<◌, ◌≤◌, Bool, true, List, ◌∷◌, ◌++◌, length, drop, take, slice_get, Option, Some, None, IsSome, refl, sym, ap, ◌∙◌, arith, sub-one, inl, inr, false, if◌then◌else◌, Ordering, Equal, is_ge}
-use Rattle.tree_model.proofs.Common.{IsTotalOrder, AllByRecursion, IsAbsent}
-use Rattle.tree_array.proofs.Common.{Arrivals, in_order, HasRoom, limit, IsSound, all_map}
+use Rattle.std.proofs.Common.{◌≡◌, ◌⊎◌, ℕ, suc, ◌-◌, ◌<◌, ◌≤◌, Bool, true, cond, List, [], ◌∷◌, ◌++◌, length, drop, take, slice_get, Option, Some, None, IsSome, refl, sym, ap, ◌∙◌, arith, sub-one, inl, inr, false, if◌then◌else◌, Ordering, Less, Equal, is_ge}
+use Rattle.tree_model.proofs.Common.{IsTotalOrder, AllByRecursion, IsAbsent, drop_all}
+use Rattle.tree_array.proofs.Common.{Arrivals, free, in_order, HasRoom, limit, IsSound, all_map}
 use Rattle.tree_node.proofs.Common.{get, with_value, LeafOf, IsChain, leaf_entries, TreeArenas, IsPart, Unchanged, room, IsAbove, IsUpTo, HasChildFor, HasKind, Stands, keyed, unbounded, child_at, is_from}
 use Rattle.tree_node.specs.declared.node.NodeOf.{NodeOf}
 use Rattle.slab.specs.Slab.{HasRoomFor}
@@ -16,13 +16,14 @@ use Rattle.tree_split.specs.Splits.{GivesAll, GivesFirst, HasMadeRoom, IsCut, Ke
 use Rattle.tree_node.specs.Tree.{LeafStands}
 use Rattle.tree_node.proofs.ChildChanges.{child_part}
 use Rattle.tree_node.proofs.Children.{child_stands}
-use Rattle.tree_leaf_split.specs.Lasts.{StaysLast}
-use Rattle.tree_leaf_split.proofs.LeafSplits.{IsBetween, beyond_separator, edge_left, entries_given, high_room, leaf_splits_low, low_full, low_room, separator_smaller}
+use Rattle.tree_leaf_split.specs.Lasts.{HoldsAnew, StaysLast}
+use Rattle.tree_leaf_split.proofs.LeafSplits.{IsBetween, beyond_separator, edge_left, entries_given, high_room, leaf_splits_low, low_full, low_room, others_anew, separator_smaller}
 use Rattle.tree_node.proofs.LeafWrites.{with_array, array_replaces, here_now}
 use Rattle.tree_split.proofs.LowSplits.{GainsLow, SplitsLow, absent_here, gains_low, entries_now, last_now}
 use Rattle.tree_split.proofs.PackedSplits.{all_given, packed_split}
 use Rattle.tree_node.proofs.Standing.{node_is}
 use Rattle.tree_node.proofs.Places.{IsForKey, high_for, low_for, place_for, chosen_past}
+use Rattle.tree_split.proofs.Fulls.{none_free}
 use Rattle.tree_split.proofs.Rebuilds.{among, leaf_rebuilt, room_made_by_rebuild}
 use Rattle.tree_node.proofs.Unchanged.{chain_same, unchanged_by_keeping}
 
@@ -168,6 +169,9 @@ module _ {K V : Type 0} {LEN : ℕ} {cmp : K → K → Ordering} (o : IsTotalOrd
     pub entries_shared : GivesFirst old mid x count
     entries_shared = entries_given o old reserved mid x y count leaf high low pair separator key same there high_is low_is gains last_low cloned cut_here
 
+    pub others_left : HoldsAnew mid x (drop count (leaf_entries old.leaves x))
+    others_left = rw was (others_anew o old reserved mid x y count leaf high low pair separator key same there high_is low_is gains last_low cloned cut_here)
+
     pub leaf_room_by_split : GivesAll cmp old id x count key → (node' : NodeOf K LEN) → PutsChild cmp node node' separator y → HasMadeRoom cmp 1 old (record mid { nodes = with_value mid.nodes id node' }) id key
     leaf_room_by_split gives node' puts =
         let update = Updates-with_value mid.nodes id node' (rw is_node refl) in
@@ -217,3 +221,17 @@ pub room_after_write : {K V : Type 0} {LEN : ℕ} (reserved : TreeArenas K V LEN
 room_after_write reserved x leaf there value places =
     let room = rewritten reserved.leaves x value (rw there refl) in
     omega (arith, room.counted, places.leaves)
+
+-- so many first entries as there are slots are all
+module _ {K V : Type 0} {LEN : ℕ} (cmp : K → K → Ordering) (array : Arrivals K V) (key : K) (count : ℕ) (sound : IsSound cmp LEN array) (cut : IsCut cmp key count array.entries) (whole : LEN ≤ count) where
+  pub whole_count : count ≡ LEN
+  whole_count = omega (arith, cut.within, sound.entries_few, sound.few, whole)
+
+  pub whole_beyond : AllByRecursion (λ p. cmp p.0 key ≡ Less) array.entries
+  whole_beyond = elim cut.stays [ inl some ↦ absurd (omega (arith, some, sound.entries_few, sound.few, whole)) | inr beyond ↦ beyond ]
+
+  pub none_left : drop count array.entries ≡ []
+  none_left = drop_all count array.entries (omega (arith, sound.entries_few, sound.few, whole))
+
+  pub whole_full : cond array.retired 0 (free LEN array) ≡ 0
+  whole_full = none_free LEN array (inl (omega (arith, cut.within, sound.entries_few, whole)))

@@ -6,6 +6,7 @@ use Rattle.tree_node.proofs.Common.{get, LeafOf, IsChain, times, uses, times-con
 use Rattle.std.proofs.lemmas.List.{length-map}
 use Rattle.tree_leaf.specs.Links.{GainsBefore}
 use Rattle.tree_leaf.proofs.Chains.{same_array_uses}
+use Rattle.tree_leaf_split.specs.Lasts.{HoldsAnew}
 use Rattle.tree_split.specs.Packed.{IsPacked}
 use Rattle.tree_split.proofs.Arrays.{packed_in_order}
 use Rattle.tree_split.specs.Splits.{GivesFirst, IsCut}
@@ -233,6 +234,13 @@ module _ {K V : Type 0} {LEN : ℕ} {cmp : K → K → Ordering} (o : IsTotalOrd
 
       high_now : leaf_entries mid.leaves x ≡ drop count leaf.array.entries
       high_now = rw high_here.1 (ap (λ (a : Arrivals K V). a.entries) high_here.2 ∙ high_entries)
+
+  -- and the old one the others, which arrived anew
+  pub others_anew : HoldsAnew mid x (drop count leaf.array.entries)
+  others_anew other is =
+      let both : Some high_here.0 ≡ Some other = sym high_here.1 ∙ is in
+      let same : high_here.0 ≡ other = cc in
+      rw (← same) (high_here.2 ∙ high_is)
 
   -- all its entries go from the last leaf of a packed part
   module _ (e : IsPacked cmp (Some key) 0 old x) (few : length leaf.array.entries ≤ LEN) (all : count ≡ LEN) where

@@ -7,9 +7,10 @@ ghost use Rattle.tree_array.specs.Arrivals.{in_order};
 ghost use Rattle.tree_array.specs.Insertion.{HasRoom};
 ghost use Rattle.tree_array.specs.Length.{limit};
 ghost use Rattle.tree_array.specs.Sound.{IsSound};
-ghost use Rattle.tree_leaf_split.specs.Lasts.{StaysLast};
+ghost use Rattle.tree_leaf_split.specs.Lasts.{EmptiesLast, HoldsAnew, StaysLast};
 ghost use Rattle.tree_model.specs.Pairs.{IsAbsent};
 ghost use Rattle.tree_node.specs.Parts.{IsPart, PutsChild, Unchanged};
+ghost use Rattle.tree_split.specs.Packed.{HasLast};
 ghost use Rattle.tree_split.specs.Splits.{GivesAll, GivesFirst, GoesWhole, IsCut, RoomResult, SharesEntries, all_smaller, low_part};
 ghost use Rattle.tree_node.specs.Tree.{HasChildFor, HasKind, is_from, keyed};
 
@@ -34,7 +35,7 @@ use tree_split::put_keyed;
 /// The unbounded leaf stays the unbounded one, and a key larger than every key in it belongs to it still.
 ///
 /// Returns `Err` if the leaf is to be split and memory is refused, also by the clone; nothing has changed then. Allocates
-/// at most one leaf. Makes at most 4 comparisons in the put into the node's array (3 among 7 slots), and two beside them.
+/// at most one leaf. Makes at most 5 comparisons in the put into the node's array (4 among 7 slots), and two beside them.
 ///
 /// The caller must see that a well-formed leaf node stands under the number, and that the key belongs to the leaf.
 pub fn make_room<K: IndexKey, V: Drop, const LEN: usize>(
@@ -65,6 +66,37 @@ pub fn make_room<K: IndexKey, V: Drop, const LEN: usize>(
     }
     let home = split_leaf(arenas, id, target, key, count)?;
     Ok(Some(home))
+}
+
+/// Empties the last leaf for a key, if the leaf is full, its pairs arrived in ascending order and the key is larger than
+/// all: as [`make_room`] does then, it moves all pairs to a new leaf before it. Returns whether it did; if not, nothing has
+/// changed, as where the node has no slot for another separator.
+///
+/// Returns `Err` if memory is refused, also by the clone of the separator. Allocates at most one leaf. Makes at most
+/// 5 comparisons in the put into the node's array (4 among 7 slots), and two beside them.
+///
+/// The caller must see that a well-formed leaf node stands under the number, and that the leaf is its unbounded one, which
+/// the key belongs to.
+pub fn empty_last<K: IndexKey, V: Drop, const LEN: usize>(
+    arenas: &mut ArenasOf<K, V, LEN>,
+    id: NodeId,
+    target: LeafId,
+    key: &K,
+) -> Result<bool, AllocError>
+    requires part { IsPart K.cmp 1 arenas.old id }
+    requires child { HasChildFor K.cmp key.now (get arenas.old.nodes id) target }
+    requires last { HasLast (get arenas.old.nodes id) target }
+    ensures { IfOk result (λ emptied. EmptiesLast K.cmp arenas.old arenas.new id target key.now emptied) }
+{
+    let full = arenas.node(id).is_full();
+    let Some(count) = low_count(arenas.leaf(target).array(), key, true) else {
+        return Ok(false);
+    };
+    if full || (count as usize) < LEN {
+        return Ok(false);
+    }
+    split_leaf(arenas, id, target, key, count)?;
+    Ok(true)
 }
 
 /// Returns how many of the first entries move when the leaf is split for a key, or `None` if the array is built anew
@@ -125,12 +157,13 @@ fn split_leaf<K: IndexKey, V: Drop, const LEN: usize>(
         → RoomResult K.cmp (Some home) 1 arenas.old arenas.new id target key.now) }
     ensures shares { IfOk result (λ _. GivesFirst arenas.old arenas.new target count) }
     ensures last { IfOk result (StaysLast K.cmp arenas.old arenas.new id target key.now) }
+    ensures high { IfOk result (λ _. HoldsAnew arenas.new target (drop count (leaf_entries arenas.old.leaves target))) }
     ensures err { OnErr result (Unchanged arenas.old arenas.new) }
 {
     let separator = separator_at(arenas.leaf(target).array(), count - 1)?;
     arenas.reserve(1, 0)?;
     let mut low = LeafOf::new();
-    cut_low(arenas.leaf_mut(target).array_mut(), count, low.array_mut());
+    *low.array_mut() = cut_low(arenas.leaf_mut(target).array_mut(), count);
     let Ok(low_id) = add_before(arenas, target, low) else {
         unreachable!()
     };
@@ -165,24 +198,23 @@ fn separator_at<K: IndexKey, V: Drop, const LEN: usize>(
     }
 }
 
-/// Moves the first `count` entries into `low`, which is new. The entries of both arrays arrive anew, in ascending order.
-/// If all `LEN` entries move, they arrived so already, and the two arrays are swapped instead.
+/// Takes the first `count` entries out, and returns an array of them. The entries of both arrays arrive anew, in ascending
+/// order. If all `LEN` entries go, they arrived so already, and the array goes as it is.
 fn cut_low<K: Ord + Drop, V: Drop, const LEN: usize>(
     array: &mut ArrayOf<K, V, LEN>,
     count: u8,
-    low: &mut ArrayOf<K, V, LEN>,
-)
+) -> ArrayOf<K, V, LEN>
     requires sound { IsSound K.cmp LEN array.old }
     requires whole { GoesWhole LEN array.old count }
-    requires new { low.old ≡ in_order [] }
-    ensures low { low.new ≡ in_order (take count array.old.entries) }
+    ensures low { result ≡ in_order (take count array.old.entries) }
     ensures high { array.new ≡ in_order (drop count array.old.entries) }
 {
     if count as usize == LEN {
-        mem::swap(array, low);
-        return;
+        return mem::replace(array, ArrayOf::new());
     }
-    array.divide(count, low);
+    let mut low = ArrayOf::new();
+    array.divide(count, &mut low);
+    low
 }
 
 /// Puts a leaf under its separator into a leaf node.

@@ -27,7 +27,7 @@ use tree_split::{parting_place, put_keyed};
 ///    No key is cloned.
 ///
 /// Returns `Err` if the target is to be split and memory is refused; nothing has changed then. Allocates at most one node,
-/// and isn't refused where one was reserved. Makes at most 4 comparisons (3 among 7 slots), in the put into the parent's
+/// and isn't refused where one was reserved. Makes at most 5 comparisons (4 among 7 slots), in the put into the parent's
 /// array. No leaf changes.
 ///
 /// The caller must see that a well-formed part of a tree stands under the parent, that the parent is above the leaf nodes,

@@ -1,7 +1,7 @@
-use Rattle.std.proofs.Common.{rules, ◌≡◌, ◌-◌, ◌∙◌, drop, take, slice_get, None, Some, refl, arith}
+use Rattle.std.proofs.Common.{rules, ◌≡◌, ◌-◌, drop, take, slice_get, None, Some, refl, arith}
 use Rattle.tree_array.proofs.Common.{in_order}
 use Rattle.tree_node.proofs.Common.{ContainsKey, Stands, fits}
-use Rattle.tree_leaf_split.proofs.LeafRooms.{chain_through, entries_shared, home_by_split, last_by_split, leaf_read, leaf_room_by_split, leaf_used, parent_kind, parent_was, room_after_write, separator_is_new}
+use Rattle.tree_leaf_split.proofs.LeafRooms.{chain_through, entries_shared, home_by_split, last_by_split, leaf_read, leaf_room_by_split, leaf_used, others_left, parent_kind, parent_was, room_after_write, separator_is_new}
 use Rattle.tree_split.proofs.Results.{on_err}
 use Rattle.tree_node.proofs.Unchanged.{unchanged_by_keeping}
 use Rattle.tree_leaf_split.proofs.leaf_split.split_leaf.Goals as goal
@@ -39,7 +39,7 @@ put_leaf-requires g c =
     let read : c.leaf.result.now ≡ c.leaf_mut.result.now =
     leaf_read c.args.arenas.now c.reserve.new.self c.in_ok-reserve.ensures.0 c.args.target c.leaf.result.now c.leaf_mut.result.now c.leaf.ensures c.leaf_mut.ensures.value in
     let high : c.cut_low.new.array ≡ in_order (drop c.args.count c.leaf_mut.result.now.array.entries) = rw c.array_mut.ensures.value at c.cut_low.ensures.high in
-    let low : c.cut_low.new.low ≡ in_order (take c.args.count c.leaf_mut.result.now.array.entries) = rw c.array_mut.ensures.value at c.cut_low.ensures.low in
+    let low : c.cut_low.result ≡ in_order (take c.args.count c.leaf_mut.result.now.array.entries) = rw c.array_mut.ensures.value at c.cut_low.ensures.low in
     let last : slice_get c.leaf_mut.result.now.array.entries (c.args.count - 1) ≡ Some separator.0 = rw (c.array.ensures, read) at separator.1 in
     let node = parent_was g.met.K.Ord.total c.args.arenas.now c.args.id c.args.target c.args.key.now c.requires.part c.requires.child _ _ _ c.args.count c.leaf_mut.result.now _ _ separator.0 c.in_ok-separator.separator
     c.in_ok-reserve.ensures.0 c.leaf_mut.ensures.value high low c.in-Ok.ensures last separator.2 c.requires.cut c.requires.sound _ c.node_mut.ensures.value in (
@@ -61,7 +61,7 @@ returns-clause-done g c = λ gives.
     let read : c.leaf.result.now ≡ c.leaf_mut.result.now =
     leaf_read c.args.arenas.now c.reserve.new.self c.in_ok-reserve.ensures.0 c.args.target c.leaf.result.now c.leaf_mut.result.now c.leaf.ensures c.leaf_mut.ensures.value in
     let high : c.cut_low.new.array ≡ in_order (drop c.args.count c.leaf_mut.result.now.array.entries) = rw c.array_mut.ensures.value at c.cut_low.ensures.high in
-    let low : c.cut_low.new.low ≡ in_order (take c.args.count c.leaf_mut.result.now.array.entries) = rw c.array_mut.ensures.value at c.cut_low.ensures.low in
+    let low : c.cut_low.result ≡ in_order (take c.args.count c.leaf_mut.result.now.array.entries) = rw c.array_mut.ensures.value at c.cut_low.ensures.low in
     let last : slice_get c.leaf_mut.result.now.array.entries (c.args.count - 1) ≡ Some separator.0 = rw (c.array.ensures, read) at separator.1 in (
       leaf_room_by_split g.met.K.Ord.total c.args.arenas.now c.args.id c.args.target c.args.key.now c.requires.part c.requires.child _ _ _ c.args.count c.leaf_mut.result.now _ _ separator.0 c.in_ok-separator.separator
           c.in_ok-reserve.ensures.0 c.leaf_mut.ensures.value high low c.in-Ok.ensures last separator.2 c.requires.cut c.requires.sound _ c.node_mut.ensures.value gives _ c.put_leaf.ensures,
@@ -75,9 +75,20 @@ returns-clause-shares g c =
     let read : c.leaf.result.now ≡ c.leaf_mut.result.now =
     leaf_read c.args.arenas.now c.reserve.new.self c.in_ok-reserve.ensures.0 c.args.target c.leaf.result.now c.leaf_mut.result.now c.leaf.ensures c.leaf_mut.ensures.value in
     let high : c.cut_low.new.array ≡ in_order (drop c.args.count c.leaf_mut.result.now.array.entries) = rw c.array_mut.ensures.value at c.cut_low.ensures.high in
-    let low : c.cut_low.new.low ≡ in_order (take c.args.count c.leaf_mut.result.now.array.entries) = rw c.array_mut.ensures.value at c.cut_low.ensures.low in
+    let low : c.cut_low.result ≡ in_order (take c.args.count c.leaf_mut.result.now.array.entries) = rw c.array_mut.ensures.value at c.cut_low.ensures.low in
     let last : slice_get c.leaf_mut.result.now.array.entries (c.args.count - 1) ≡ Some separator.0 = rw (c.array.ensures, read) at separator.1 in
     entries_shared g.met.K.Ord.total c.args.arenas.now c.args.id c.args.target c.args.key.now c.requires.part c.requires.child _ _ _ c.args.count c.leaf_mut.result.now _ _ separator.0 c.in_ok-separator.separator
+    c.in_ok-reserve.ensures.0 c.leaf_mut.ensures.value high low c.in-Ok.ensures last separator.2 c.requires.cut c.requires.sound _ c.node_mut.ensures.value
+
+pub returns-clause-high : goal.returns-clause-high
+returns-clause-high g c =
+    let separator = c.in_ok-separator.ensures in
+    let read : c.leaf.result.now ≡ c.leaf_mut.result.now =
+    leaf_read c.args.arenas.now c.reserve.new.self c.in_ok-reserve.ensures.0 c.args.target c.leaf.result.now c.leaf_mut.result.now c.leaf.ensures c.leaf_mut.ensures.value in
+    let high : c.cut_low.new.array ≡ in_order (drop c.args.count c.leaf_mut.result.now.array.entries) = rw c.array_mut.ensures.value at c.cut_low.ensures.high in
+    let low : c.cut_low.result ≡ in_order (take c.args.count c.leaf_mut.result.now.array.entries) = rw c.array_mut.ensures.value at c.cut_low.ensures.low in
+    let last : slice_get c.leaf_mut.result.now.array.entries (c.args.count - 1) ≡ Some separator.0 = rw (c.array.ensures, read) at separator.1 in
+    others_left g.met.K.Ord.total c.args.arenas.now c.args.id c.args.target c.args.key.now c.requires.part c.requires.child _ _ _ c.args.count c.leaf_mut.result.now _ _ separator.0 c.in_ok-separator.separator
     c.in_ok-reserve.ensures.0 c.leaf_mut.ensures.value high low c.in-Ok.ensures last separator.2 c.requires.cut c.requires.sound _ c.node_mut.ensures.value
 
 pub returns-clause-last : goal.returns-clause-last
@@ -86,7 +97,7 @@ returns-clause-last g c =
     let read : c.leaf.result.now ≡ c.leaf_mut.result.now =
     leaf_read c.args.arenas.now c.reserve.new.self c.in_ok-reserve.ensures.0 c.args.target c.leaf.result.now c.leaf_mut.result.now c.leaf.ensures c.leaf_mut.ensures.value in
     let high : c.cut_low.new.array ≡ in_order (drop c.args.count c.leaf_mut.result.now.array.entries) = rw c.array_mut.ensures.value at c.cut_low.ensures.high in
-    let low : c.cut_low.new.low ≡ in_order (take c.args.count c.leaf_mut.result.now.array.entries) = rw c.array_mut.ensures.value at c.cut_low.ensures.low in
+    let low : c.cut_low.result ≡ in_order (take c.args.count c.leaf_mut.result.now.array.entries) = rw c.array_mut.ensures.value at c.cut_low.ensures.low in
     let last : slice_get c.leaf_mut.result.now.array.entries (c.args.count - 1) ≡ Some separator.0 = rw (c.array.ensures, read) at separator.1 in
     rw c.side_for-home.ensures (last_by_split g.met.K.Ord.total c.args.arenas.now c.args.id c.args.target c.args.key.now c.requires.part c.requires.child _ _ _ c.args.count c.leaf_mut.result.now _ _ separator.0 c.in_ok-separator.separator
     c.in_ok-reserve.ensures.0 c.leaf_mut.ensures.value high low c.in-Ok.ensures last separator.2 c.requires.cut c.requires.sound _ c.node_mut.ensures.value _ c.put_leaf.ensures)
@@ -101,10 +112,5 @@ new-low-requires g c = (search fits, (c.requires.sound c.leaf.result.now c.leaf.
 pub cut_low-requires : goal.cut_low-requires
 cut_low-requires g c =
     let read : c.leaf.result.now ≡ c.leaf_mut.result.now =
-    leaf_read c.args.arenas.now c.reserve.new.self c.in_ok-reserve.ensures.0 c.args.target c.leaf.result.now c.leaf_mut.result.now c.leaf.ensures c.leaf_mut.ensures.value in (
-      search rules,
-      (
-        rw (c.array_mut.ensures.value, ← read) (c.requires.sound c.leaf.result.now c.leaf.ensures),
-        (rw (c.array_mut.ensures.value, ← read) (c.requires.whole c.leaf.result.now c.leaf.ensures), c.array_mut-2.ensures.value ∙ c.new-low.ensures.array),
-      ),
-    )
+    leaf_read c.args.arenas.now c.reserve.new.self c.in_ok-reserve.ensures.0 c.args.target c.leaf.result.now c.leaf_mut.result.now c.leaf.ensures c.leaf_mut.ensures.value in
+    (search rules, (rw (c.array_mut.ensures.value, ← read) (c.requires.sound c.leaf.result.now c.leaf.ensures), rw (c.array_mut.ensures.value, ← read) (c.requires.whole c.leaf.result.now c.leaf.ensures)))
