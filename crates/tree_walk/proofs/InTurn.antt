@@ -1,10 +1,8 @@
 -- The children of a node in turn, either way: which they are, and that a step takes the first of those still to come.
 use Rattle.std.proofs.Common.{◌≡◌, ℕ, true, false, List, ◌∷◌, ◌++◌, length, take, reverse, Option, Some, None, is_some, refl, sym, ap, ◌∙◌, arith, option_to_list, append-nil, take_all}
 use Rattle.tree_model.proofs.Common.{MakesProgress, reverse-append, along}
-use Rattle.tree_model.specs.declared.way.Way.{Way}
-use Rattle.tree_model.specs.declared.way.Way.TheVariants.{On, Back}
 use Rattle.tree_array.proofs.Common.{Arrivals, arrival, Walk}
-use Rattle.tree_chain.proofs.Common.{next_place}
+use Rattle.tree_chain.proofs.Common.{next_place, Way, On, Back}
 use Rattle.std.specs.Iterator.{item_count}
 use Rattle.std.proofs.lemmas.List.{length-map}
 use Rattle.tree_array.specs.Walk.{standing}

@@ -1,5 +1,5 @@
 use Rattle.std.proofs.Common.{rules}
-use Rattle.tree_model.specs.declared.way.Way.TheVariants.{On}
+use Rattle.tree_chain.proofs.Common.{On}
 use Rattle.tree_chain.proofs.Rests.{fresh_gives, if_ok}
 use Rattle.tree_chain.proofs.laws.entries_on.Goals as goal
 

@@ -1,5 +1,5 @@
 use Rattle.std.proofs.Common.{rules, sym, ap, ◌∙◌, ◌<◌, ◌-◌, length, arith}
-use Rattle.tree_model.specs.declared.way.Way.TheVariants.{On}
+use Rattle.tree_chain.proofs.Common.{On}
 use Rattle.tree_node.proofs.Common.{ContainsKey, StandsOrRetired, fits}
 use Rattle.tree_node.specs.Shape.{leaf_spare, least}
 use Rattle.tree_node.proofs.Levels.{node_at}
