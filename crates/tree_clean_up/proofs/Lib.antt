@@ -5,3 +5,4 @@ pub mod NodeDrops
 pub mod NodeWrites
 pub mod OnlyLeaves
 pub mod Retired
+pub mod Siblings

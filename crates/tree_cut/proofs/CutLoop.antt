@@ -1,22 +1,21 @@
 -- The children of a node that are cut one after another, from behind.
-use Rattle.std.proofs.Common.{◌≡◌, ℕ, zero, suc, ◌+◌, ◌-◌, ◌≤◌, ◌<◌, true, not, List, [], ◌∷◌, ◌++◌, take, drop, length, length-append, Some, None, refl, sym, ap, ◌∙◌, arith, flat_map, Ordering, take-append-drop}
-use Rattle.tree_model.proofs.Common.{AllByRecursion, IsTotalOrder, Bound, flat_map-append, filter-append, cut, within}
+use Rattle.std.proofs.Common.{sub-one, ◌≡◌, ℕ, zero, suc, ◌+◌, ◌-◌, ◌≤◌, ◌<◌, not, List, [], ◌∷◌, ◌++◌, take, drop, length, length-append, length-take, Some, None, refl, sym, ap, ◌∙◌, arith, flat_map, Ordering, take-append-drop}
+use Rattle.std.proofs.lemmas.List.{take-take}
+use Rattle.tree_model.proofs.Common.{IsTotalOrder, Bound, flat_map-append, filter-append, cut, within}
 use Rattle.tree_array.proofs.Common.{all-append, filter_all}
 use Rattle.tree_node.proofs.Common.{get, TreeArenas, IsPart, KeepsBounds, Replaces, Stands, children_of, in_turn, keyed, walk}
 use Rattle.tree_model.proofs.Lists.{all_passed}
 use Rattle.tree_node.proofs.Steps.{part_after, replaces_refl, replaces_trans}
 use Rattle.tree_node.proofs.Walks.{walk-children}
 use Rattle.tree_borders.specs.Places.{BeginsAt, EndsAt, Narrows}
-use Rattle.tree_cut.specs.Cuts.{CutsChild, CutsOne, CutsUnder, HasNoEmpty, keyed_of}
-use Rattle.tree_cut.proofs.OneChild.{split_here}
-use Rattle.tree_cut.proofs.Outside.{IsOutside, Met, Missed, Opened, all_drop_take, all_take_take, backs_outside, child_first, fronts_outside, narrowed_cut, take_less, take_more, taken_reach}
+use Rattle.tree_cut.specs.Cuts.{CutsAt, CutsChild, CutsUnder, HasNoEmpty, keyed_of}
+use Rattle.tree_cut.proofs.NoEmpty.{all_take}
+use Rattle.tree_cut.proofs.Outside.{IsOutside, backs_outside, fronts_outside, high_met, low_opened, narrowed_cut}
+use Rattle.tree_cut.proofs.Turns.{TurnAt, split_here, turn}
 
 module _ {K V : Type 0} (cmp : K → K → Ordering) (low high : Bound K) where
-  outside_cut : (xs : List (K × V)) → AllByRecursion (λ p. not (within cmp low high p.0) ≡ true) (cut cmp xs low high)
+  outside_cut : (xs : List (K × V)) → IsOutside cmp low high (cut cmp xs low high)
   outside_cut xs = all_passed _ _ (λ p passes. passes) xs
-
-  cut_outside : (xs : List (K × V)) → AllByRecursion (λ p. not (within cmp low high p.0) ≡ true) xs → cut cmp xs low high ≡ xs
-  cut_outside xs outside = filter_all _ xs outside
 
   cut-append : (xs ys : List (K × V)) → cut cmp (xs ++ ys) low high ≡ cut cmp xs low high ++ cut cmp ys low high
   cut-append xs ys = filter-append (λ p. not (within cmp low high p.0)) xs ys
@@ -26,33 +25,36 @@ module _ {K V : Type 0} (cmp : K → K → Ordering) (low high : Bound K) where
       rw (
         cut-append front (cut cmp middle low high ++ back),
         cut-append (cut cmp middle low high) back,
-        cut_outside (cut cmp middle low high) (outside_cut middle),
+        filter_all _ (cut cmp middle low high) (outside_cut middle),
         cut-append front (middle ++ back),
         cut-append middle back,
       ) refl
 
 module _ {K V : Type 0} {LEN : ℕ} (cmp : K → K → Ordering) (low high : Bound K) (first last : ℕ) where
-  -- the children from the place on have no key within the bounds any more, and the others are those at the start
-  pub record CutStateAt (level : ℕ) (start now : TreeArenas K V LEN) (id place gone : ℕ) : Type 0 where
-    pub pairs : cut cmp (walk (suc level) now id) low high ≡ cut cmp (walk (suc level) start id) low high
-    pub counted : gone + length (walk (suc level) now id) ≡ length (walk (suc level) start id)
-    pub stands : KeepsBounds cmp (suc level) start now id
-    pub replaces : Replaces (suc level) start now (id ∷ []) (id ∷ [])
-    pub no_empty : HasNoEmpty (suc level) start id → HasNoEmpty (suc level) now id
-    pub part : IsPart cmp (suc level) now id
+  -- the children from the place on have no key within the bounds any more, and the separators before it are those at the start
+  pub record CutStateAt (level below : ℕ) (start now : TreeArenas K V LEN) (id place gone : ℕ) : Type 0 where
+    pub pairs : cut cmp (walk level now id) low high ≡ cut cmp (walk level start id) low high
+    pub counted : gone + length (walk level now id) ≡ length (walk level start id)
+    pub stands : KeepsBounds cmp level start now id
+    pub replaces : Replaces level start now (id ∷ []) (id ∷ [])
+    pub no_empty : HasNoEmpty level start id → HasNoEmpty level now id
+    pub part : IsPart cmp level now id
+    pub begins : BeginsAt cmp low (keyed_of (get start.nodes id)) first
+    pub ends : EndsAt cmp high (keyed_of (get start.nodes id)) last
     pub upto : place ≤ last + 1
-    pub reach : place ≤ length (keyed_of (get now.nodes id)) + 1
-    pub reach_last : place ≤ last → place ≤ length (keyed_of (get now.nodes id))
-    pub reach_first : place ≤ first → place ≤ length (keyed_of (get now.nodes id))
-    pub missed : AllByRecursion (Missed cmp low high) (take first (take place (keyed_of (get now.nodes id))))
-    pub opened : AllByRecursion (Opened cmp low high) (drop first (take place (keyed_of (get now.nodes id))))
-    pub met : AllByRecursion (Met cmp low high) (take last (take place (keyed_of (get now.nodes id))))
-    pub done : IsOutside cmp low high (flat_map (walk level now) (drop place (children_of now.nodes id)))
+    pub same : take place (keyed_of (get now.nodes id)) ≡ take place (keyed_of (get start.nodes id))
+    pub done : IsOutside cmp low high (flat_map (walk below now) (drop place (children_of now.nodes id)))
 
   -- the same where the level is a number of the program
   abbrev pub CutState : ℕ → TreeArenas K V LEN → TreeArenas K V LEN → ℕ → ℕ → ℕ → Type 0
-  CutState zero start now id place gone = ⊥
-  CutState (suc level) start now id place gone = CutStateAt level start now id place gone
+  CutState level start now id place gone = CutStateAt level (level - 1) start now id place gone
+
+-- as many separators are left as are still needed
+pub state_reach : {K V : Type 0} {LEN : ℕ} {cmp : K → K → Ordering} {low high : Bound K} {first last level below : ℕ} {start now : TreeArenas K V LEN} {id place gone : ℕ}
+    → CutStateAt cmp low high first last level below start now id place gone
+    → (place ≤ length (keyed_of (get now.nodes id)) + 1) × (place ≤ first → place ≤ length (keyed_of (get now.nodes id))) × (place ≤ last → place ≤ length (keyed_of (get now.nodes id)))
+state_reach {start = start} {now = now} {id = id} {place = place} state =
+    omega (arith, state.upto, state.begins.within, state.ends.within, ap length state.same, length-take place (keyed_of (get now.nodes id)), length-take place (keyed_of (get start.nodes id)))
 
 module _ {K V : Type 0} {LEN : ℕ} {cmp : K → K → Ordering} (o : IsTotalOrder cmp) (low high : Bound K) (first last : ℕ) where
   module _ (level : ℕ) (a : TreeArenas K V LEN) (id : ℕ) (s : Stands cmp (suc level) a None id None) where
@@ -68,7 +70,8 @@ module _ {K V : Type 0} {LEN : ℕ} {cmp : K → K → Ordering} (o : IsTotalOrd
         ∙ ap (flat_map (walk level a)) (sym (take-append-drop place (children_of a.nodes id)))
         ∙ flat_map-append (walk level a) (take place (children_of a.nodes id)) (drop place (children_of a.nodes id))
 
-  starts_at : (level : ℕ) (a : TreeArenas K V LEN) (id : ℕ) → IsPart cmp (suc level) a id → BeginsAt cmp low (keyed_of (get a.nodes id)) first → EndsAt cmp high (keyed_of (get a.nodes id)) last → CutStateAt cmp low high first last level a a id (last + 1) 0
+  starts_at : (level : ℕ) (a : TreeArenas K V LEN) (id : ℕ) → IsPart cmp (suc level) a id → BeginsAt cmp low (keyed_of (get a.nodes id)) first
+      → EndsAt cmp high (keyed_of (get a.nodes id)) last → CutStateAt cmp low high first last (suc level) level a a id (last + 1) 0
   starts_at level a id part begins ends =
       let s : Stands cmp (suc level) a None id None = part.stands in
       let next : last + 1 ≡ suc last = omega arith in
@@ -79,128 +82,104 @@ module _ {K V : Type 0} {LEN : ℕ} {cmp : K → K → Ordering} (o : IsTotalOrd
         replaces = replaces_refl (suc level) a (id ∷ []);
         no_empty = λ before. before;
         part = part;
+        begins = begins;
+        ends = ends;
         upto = omega arith;
-        reach = omega (arith, ends.within);
-        reach_last = λ few. absurd (omega (arith, few));
-        reach_first = λ few. omega (arith, few, begins.within);
-        missed = all_take_take (Missed cmp low high) first (last + 1) _ begins.missed;
-        opened = all_drop_take (Opened cmp low high) first (last + 1) _ begins.opened;
-        met = all_take_take (Met cmp low high) last (last + 1) _ ends.met;
+        same = refl;
         done =
             rw (next, children_are level a id s)
             (backs_outside o low high level a None _ s.last None s.parted last (rw (keyed_are level a id s) at ends.within) (rw (keyed_are level a id s) at ends.closed));
       }
 
-  module _ (level : ℕ) (start now new : TreeArenas K V LEN) (id place gone more : ℕ) (state : CutStateAt cmp low high first last level start now id (suc place) gone) (from : first ≤ place)
-      (lo hi : Bound K) (narrow_low : Narrows low lo place first) (narrow_high : Narrows high hi place last) (cuts : CutsOne cmp lo hi level now new id place more)
-      (no_empty : HasNoEmpty (suc level) now id → HasNoEmpty (suc level) new id) where
+  module _ (level : ℕ) {start now new : TreeArenas K V LEN} {id place gone more : ℕ} {lo hi : Bound K} (state : CutStateAt cmp low high first last (suc level) level start now id (suc place) gone)
+      (from : first ≤ place) (narrow_low : Narrows low lo place first) (narrow_high : Narrows high hi place last)
+      (cuts : CutsAt cmp lo hi (suc level) level now new id place more) (no_empty : HasNoEmpty (suc level) now id → HasNoEmpty (suc level) new id) where
     abbrev s : Stands cmp (suc level) now None id None
     s = state.part.stands
 
-    abbrev separators : List (K × ℕ)
-    separators = keyed_of (get now.nodes id)
+    abbrev olds : List (K × ℕ)
+    olds = keyed_of (get start.nodes id)
 
-    within_now : place ≤ length separators
-    within_now = omega (arith, state.reach)
+    abbrev pairs : List (K × ℕ)
+    pairs = (keyed s.node).entries
 
-    children : List ℕ
-    children = children_of now.nodes id
+    alike : take (suc place) pairs ≡ take (suc place) olds
+    alike = rw (keyed_are level now id s) at state.same
+
+    fewer : take place pairs ≡ take place olds
+    fewer = sym (take-take place (suc place) pairs (omega arith)) ∙ ap (take place) alike ∙ take-take place (suc place) olds (omega arith)
+
+    at : TurnAt pairs s.last place cuts.child
+    at = turn pairs s.last place cuts.child (rw (children_are level now id s) at cuts.here)
 
     same_cut : cut cmp (walk level now cuts.child) lo hi ≡ cut cmp (walk level now cuts.child) low high
     same_cut =
-        narrowed_cut o low high level now (keyed s.node).entries s.last s.parted place cuts.child first last
-        (rw (keyed_are level now id s) at within_now)
-        (child_first (keyed s.node).entries s.last place cuts.child (rw (children_are level now id s) at cuts.becomes.here) (rw (keyed_are level now id s) at within_now))
-        from (omega (arith, state.upto))
-        (λ less. rw (keyed_are level now id s) at (state.reach_last less))
-        (rw (keyed_are level now id s) at state.opened)
-        (rw (keyed_are level now id s) at state.met)
-        lo hi narrow_low narrow_high
+        narrowed_cut o low high level now pairs s.last place cuts.child first last lo hi s.parted at.first narrow_low narrow_high
+        (λ differs k above. low_opened o low high olds None first place (omega (arith, from, differs))
+        (omega (arith, at.within, ap length fewer, length-take place pairs, length-take place olds)) state.begins.opened k (rw fewer at above))
+        (λ differs k up_to.
+        let less : place < last = omega (arith, state.upto, differs) in
+        high_met o low high pairs place (omega (arith, less, state.ends.within, ap length alike, length-take (suc place) pairs, length-take (suc place) olds))
+        (rw (alike, ← take-take (suc place) last olds (omega (arith, less))) (all_take _ (suc place) (take last olds) state.ends.met)) k up_to)
 
-    front : List (K × V)
+    abbrev front : List (K × V)
     front = flat_map (walk level now) (take place (children_of now.nodes id))
 
-    back : List (K × V)
+    abbrev back : List (K × V)
     back = flat_map (walk level now) (drop (suc place) (children_of now.nodes id))
 
-    walk_was : walk (suc level) now id ≡ flat_map (walk level now) (take place (children_of now.nodes id)) ++ (walk level now cuts.child ++ flat_map (walk level now) (drop (suc place) (children_of now.nodes id)))
-    walk_was = walk_split level now id s place ∙ rw (split_here (children_of now.nodes id) place cuts.child cuts.becomes.here).0 refl
+    walk_was : walk (suc level) now id ≡ front ++ (walk level now cuts.child ++ back)
+    walk_was = walk_split level now id s place ∙ rw (split_here (children_of now.nodes id) place cuts.child cuts.here) refl
 
     still : Stands cmp (suc level) new None id None
-    still = cuts.becomes.stands None None s
+    still = cuts.stands None None s
 
-    walk_is : walk (suc level) new id
-        ≡ flat_map (walk level now) (take place (children_of now.nodes id)) ++ (cut cmp (walk level now cuts.child) low high ++ flat_map (walk level now) (drop (suc place) (children_of now.nodes id)))
-    walk_is = walk_split level new id still place ∙ rw (cuts.becomes.front, cuts.becomes.back, same_cut) refl
+    walk_is : walk (suc level) new id ≡ front ++ (cut cmp (walk level now cuts.child) low high ++ back)
+    walk_is = walk_split level new id still place ∙ rw (cuts.front, cuts.back, same_cut) refl
 
-    fewer : take place (take (suc place) separators) ≡ take place (keyed_of (get new.nodes id))
-    fewer = take_less place separators ∙ sym cuts.becomes.separators
-
-    within_new : place ≤ length (keyed_of (get new.nodes id))
-    within_new = taken_reach place separators (keyed_of (get new.nodes id)) cuts.becomes.separators within_now
-
-    pub steps_at : CutStateAt cmp low high first last level start new id place (gone + more)
+    pub steps_at : CutStateAt cmp low high first last (suc level) level start new id place (gone + more)
     steps_at = record {
       pairs = rw (walk_is, cut_middle cmp low high, ← walk_was) state.pairs;
       counted =
-          omega (
-            arith,
-            state.counted,
-            cuts.counted,
-            ap length same_cut,
-            ap length walk_was,
-            ap length walk_is,
-            length-append (flat_map (walk level now) (take place (children_of now.nodes id))) (walk level now cuts.child ++ flat_map (walk level now) (drop (suc place) (children_of now.nodes id))),
-            length-append (walk level now cuts.child) (flat_map (walk level now) (drop (suc place) (children_of now.nodes id))),
-            length-append (flat_map (walk level now) (take place (children_of now.nodes id))) (cut cmp (walk level now cuts.child) low high ++ flat_map (walk level now) (drop (suc place) (children_of now.nodes id))),
-            length-append (cut cmp (walk level now cuts.child) low high) (flat_map (walk level now) (drop (suc place) (children_of now.nodes id))),
-          );
-      stands = λ above below t. cuts.becomes.stands above below (state.stands above below t);
-      replaces = replaces_trans (suc level) start now new (id ∷ []) (id ∷ []) (id ∷ []) state.replaces cuts.becomes.replaces;
+          let long = simp length-append at (ap length walk_was) in
+          let left = simp length-append at (ap length walk_is) in
+          omega (arith, state.counted, cuts.counted, ap length same_cut, long, left);
+      stands = λ above below t. cuts.stands above below (state.stands above below t);
+      replaces = replaces_trans (suc level) start now new (id ∷ []) (id ∷ []) (id ∷ []) state.replaces cuts.replaces;
       no_empty = λ before. no_empty (state.no_empty before);
-      part = part_after cmp (suc level) now new id state.part still cuts.becomes.replaces;
+      part = part_after cmp (suc level) now new id state.part still cuts.replaces;
+      begins = state.begins;
+      ends = state.ends;
       upto = omega (arith, state.upto);
-      reach = omega (arith, within_new);
-      reach_last = λ few. within_new;
-      reach_first = λ few. within_new;
-      missed = rw (← fewer) (all_take_take (Missed cmp low high) first place (take (suc place) separators) state.missed);
-      opened = rw (← fewer) (all_drop_take (Opened cmp low high) first place (take (suc place) separators) state.opened);
-      met = rw (← fewer) (all_take_take (Met cmp low high) last place (take (suc place) separators) state.met);
-      done = rw (cuts.becomes.back, same_cut) (all-append _ (cut cmp (walk level now cuts.child) low high) _ (outside_cut cmp low high (walk level now cuts.child)) state.done);
+      same = cuts.separators ∙ rw (keyed_are level now id s) fewer;
+      done = rw (cuts.back, same_cut) (all-append _ (cut cmp (walk level now cuts.child) low high) _ (outside_cut cmp low high (walk level now cuts.child)) state.done);
     }
 
-  finishes_at : (level : ℕ) (start now : TreeArenas K V LEN) (id place gone : ℕ) → CutStateAt cmp low high first last level start now id place gone → place ≤ first → CutsUnder cmp low high (suc level) start now id gone
-  finishes_at level start now id place gone state few =
+  finishes_at : (level : ℕ) {start now : TreeArenas K V LEN} {id place gone : ℕ} → CutStateAt cmp low high first last (suc level) level start now id place gone → place ≤ first
+      → CutsUnder cmp low high (suc level) start now id gone
+  finishes_at level {start} {now} {id} {place} state few =
       let s : Stands cmp (suc level) now None id None = state.part.stands in
-      let missed : AllByRecursion (Missed cmp low high) (take place (keyed s.node).entries) = rw (take_more first place _ few, keyed_are level now id s) at state.missed in
-      let reach : place ≤ length (keyed s.node).entries = rw (keyed_are level now id s) at (state.reach_first few) in
+      let olds = keyed_of (get start.nodes id) in
+      let missed = rw (← state.same, keyed_are level now id s) at (rw (take-take place first olds few) at (all_take _ place (take first olds) state.begins.missed)) in
       let front : IsOutside cmp low high (flat_map (walk level now) (take place (children_of now.nodes id))) =
-      rw (children_are level now id s) (fronts_outside o low high level now None _ s.last None s.parted place reach missed) in
+      rw (children_are level now id s)
+      (fronts_outside o low high level now None _ s.last None s.parted place (rw (keyed_are level now id s) at ((state_reach state).1 few)) missed) in
       let outside : IsOutside cmp low high (walk (suc level) now id) = rw (walk_split level now id s place) (all-append _ _ _ front state.done) in
-      record { pairs = sym (cut_outside cmp low high _ outside) ∙ state.pairs; counted = state.counted; stands = state.stands; replaces = state.replaces; no_empty = state.no_empty }
+      record { pairs = sym (filter_all _ _ outside) ∙ state.pairs; counted = state.counted; stands = state.stands; replaces = state.replaces; no_empty = state.no_empty }
 
-  pub starts : (level : ℕ) (a : TreeArenas K V LEN) (id : ℕ) → 0 < level → IsPart cmp level a id → BeginsAt cmp low (keyed_of (get a.nodes id)) first → EndsAt cmp high (keyed_of (get a.nodes id)) last → CutState cmp low high first last level a a id (last + 1) 0
-  starts zero a id inner part begins ends = absurd (omega (arith, inner))
-  starts (suc level) a id inner part begins ends = starts_at level a id part begins ends
+  pub starts : (level : ℕ) {a : TreeArenas K V LEN} {id : ℕ} → 0 < level → IsPart cmp level a id → BeginsAt cmp low (keyed_of (get a.nodes id)) first
+      → EndsAt cmp high (keyed_of (get a.nodes id)) last → CutState cmp low high first last level a a id (last + 1) 0
+  starts zero inner part begins ends = absurd (omega (arith, inner))
+  starts (suc level) {a} {id} inner part begins ends = rw (sub-one (suc level)) (starts_at level a id part begins ends)
 
-  pub state_part : (level : ℕ) (start now : TreeArenas K V LEN) (id place gone : ℕ) → CutState cmp low high first last level start now id place gone → IsPart cmp level now id
-  state_part zero start now id place gone state = absurd state
-  state_part (suc level) start now id place gone state = state.part
+  pub steps : (level : ℕ) {start now new : TreeArenas K V LEN} {id place before gone more : ℕ} {lo hi : Bound K} → 0 < level → CutState cmp low high first last level start now id place gone
+      → suc before ≡ place → first ≤ before → Narrows low lo before first → Narrows high hi before last → CutsChild cmp lo hi level now new id before more
+      → (HasNoEmpty level now id → HasNoEmpty level new id) → CutState cmp low high first last level start new id before (gone + more)
+  steps zero inner state is from narrow_low narrow_high cuts no_empty = absurd (omega (arith, inner))
+  steps (suc level) inner state is from narrow_low narrow_high cuts no_empty =
+      rw (sub-one (suc level)) (steps_at level (rw (sub-one (suc level), ← is) at state) from narrow_low narrow_high (rw (sub-one (suc level)) at cuts) no_empty)
 
-  pub state_reach : (level : ℕ) (start now : TreeArenas K V LEN) (id place gone : ℕ) → CutState cmp low high first last level start now id place gone → 0 < place → place - 1 ≤ length (keyed_of (get now.nodes id))
-  state_reach zero start now id place gone state some = absurd state
-  state_reach (suc level) start now id place gone state some = omega (arith, state.reach, some)
-
-  pub state_few : (level : ℕ) (start now : TreeArenas K V LEN) (id place gone : ℕ) → CutState cmp low high first last level start now id place gone → gone ≤ length (walk level start id)
-  state_few zero start now id place gone state = absurd state
-  state_few (suc level) start now id place gone state = omega (arith, state.counted)
-
-  pub steps : (level : ℕ) (start now new : TreeArenas K V LEN) (id place before gone more : ℕ) → CutState cmp low high first last level start now id place gone → suc before ≡ place → first ≤ before
-      → (lo hi : Bound K) → Narrows low lo before first → Narrows high hi before last → CutsChild cmp lo hi level now new id before more → (HasNoEmpty level now id → HasNoEmpty level new id) → CutState cmp low high first last level start new id before (gone + more)
-  steps zero start now new id place before gone more state is from lo hi narrow_low narrow_high cuts no_empty = absurd state
-  steps (suc level) start now new id place before gone more state is from lo hi narrow_low narrow_high cuts no_empty =
-      steps_at level start now new id before gone more (rw (← is) at state) from lo hi narrow_low narrow_high cuts no_empty
-
-  pub finishes : (level : ℕ) (start now : TreeArenas K V LEN) (id place gone : ℕ) → CutState cmp low high first last level start now id place gone → place ≤ first → CutsUnder cmp low high level start now id gone
-  finishes zero start now id place gone state few = absurd state
-  finishes (suc level) start now id place gone state few = finishes_at level start now id place gone state few
+  pub finishes : (level : ℕ) {start now : TreeArenas K V LEN} {id place gone : ℕ} → 0 < level → CutState cmp low high first last level start now id place gone → place ≤ first
+      → CutsUnder cmp low high level start now id gone
+  finishes zero inner state few = absurd (omega (arith, inner))
+  finishes (suc level) inner state few = finishes_at level (rw (sub-one (suc level)) at state) few

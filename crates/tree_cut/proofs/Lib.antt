@@ -5,10 +5,9 @@ pub mod CutLeaves
 pub mod CutLoop
 pub mod EmptyParts
 pub mod Ends
-pub mod FreeNodes
 pub mod Frees
 pub mod NoEmpty
-pub mod NodeSteps
+pub mod Nodes
 pub mod OneChild
 pub mod Outside
 pub mod Tops

@@ -2,7 +2,7 @@
 use Rattle.std.specs.Prelude.{◌≡◌, ℕ, zero, suc, ◌+◌, ◌≤◌, List, Option, None, ⊤}
 use Rattle.std.specs.List.{AllByRecursion}
 use Rattle.std.specs.declared.cmp.Ordering.{Ordering}
-use Rattle.slab.specs.Slab.{get}
+use Rattle.slab.specs.Slab.{Slab, get}
 use Rattle.tree_leaf.specs.Chain.{first_or, last_or}
 use Rattle.tree_leaf.specs.Counting.{times, uses}
 use Rattle.tree_node.specs.Arenas.{TreeArenas}
@@ -28,6 +28,11 @@ abbrev pub end_of : End → List ℕ → Option ℕ
 end_of First ids = first_or ids None
 end_of Last ids = last_or None ids
 
+-- of an arena exactly the numbers of this count are free now
+pub record FreesIn {T : Type 0} (old new : Slab T) (gone : ℕ → ℕ) : Type 0 where
+  pub kept : (n : ℕ) → gone n ≡ 0 → get new n ≡ get old n
+  pub counted : (n : ℕ) → uses new n + gone n ≡ uses old n
+
 module _ {K V : Type 0} {LEN : ℕ} where
   -- parts stand under these numbers, and reach each number once at most
   pub record IsForest (cmp : K → K → Ordering) (level : ℕ) (arenas : TreeArenas K V LEN) (ids : List ℕ) : Type 0 where
@@ -37,7 +42,5 @@ module _ {K V : Type 0} {LEN : ℕ} where
 
   -- exactly the numbers reached from these are free now
   pub record Frees (level : ℕ) (old new : TreeArenas K V LEN) (ids : List ℕ) : Type 0 where
-    pub nodes_kept : (n : ℕ) → times n (nodes_of level old.nodes ids) ≡ 0 → get new.nodes n ≡ get old.nodes n
-    pub leaves_kept : (n : ℕ) → times n (leaves_of level old.nodes ids) ≡ 0 → get new.leaves n ≡ get old.leaves n
-    pub nodes_counted : (n : ℕ) → uses new.nodes n + times n (nodes_of level old.nodes ids) ≡ uses old.nodes n
-    pub leaves_counted : (n : ℕ) → uses new.leaves n + times n (leaves_of level old.nodes ids) ≡ uses old.leaves n
+    pub nodes : FreesIn old.nodes new.nodes (λ n. times n (nodes_of level old.nodes ids))
+    pub leaves : FreesIn old.leaves new.leaves (λ n. times n (leaves_of level old.nodes ids))

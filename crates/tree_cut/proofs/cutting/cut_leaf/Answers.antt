@@ -7,10 +7,9 @@ pub leaf_mut-requires : goal.leaf_mut-requires
 leaf_mut-requires g c = (search rules, (search fits, c.requires))
 
 pub overflow_sub-result : goal.overflow_sub-result
-overflow_sub-result g c = omega (arith, c.len.ensures, c.len-before.ensures, range_few g.K.Ord.cmp _ _ _ _ c.remove_range.ensures)
+overflow_sub-result g c = omega (arith, c.len.ensures, c.len-before.ensures, range_few g.K.Ord.cmp _ _ _ c.remove_range.ensures)
 
 pub returns : goal.returns
 returns g c =
     let same = c.array_mut-array.ensures.value in
-    leaf_cut g.K.Ord.cmp _ _ c.args.arenas.now c.args.id c.leaf_mut.result.now c.remove_range.new.self c.leaf_mut.ensures.value (rw same at c.remove_range.ensures) _
-    (rw (c.len.ensures, c.len-before.ensures, same) refl)
+    leaf_cut g.K.Ord.cmp _ _ c.args.arenas.now c.args.id c.leaf_mut.ensures.value (rw same at c.remove_range.ensures) _ (rw (c.len.ensures, c.len-before.ensures, same) refl)
