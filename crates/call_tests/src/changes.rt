@@ -111,18 +111,22 @@ fn replaces_names(
     names: &mut impl Names,
 ) -> Result<(), AllocError> {
     let fig = String::from_str(alloc, "fig")?;
-    assert!(rt; names.replace(1, fig).is_ok_and(|name| name.as_str() == "pear"));
+    assert!(rt;
+        names
+            .replace(1, fig)
+            .is_ok_and(|name| name.as_str() == "pear")
+    );
     let plum = String::from_str(alloc, "plum")?;
-    assert!(rt; names.replace(2, plum).is_err_and(|name| name.as_str() == "plum"));
+    assert!(rt;
+        names
+            .replace(2, plum)
+            .is_err_and(|name| name.as_str() == "plum")
+    );
     Ok(())
 }
 
 /// Changes the name at a key, which is there, and at one that isn't.
-fn changes_names(
-    rt: &impl Abort,
-    alloc: Global,
-    names: &mut impl Names,
-) -> Result<(), AllocError> {
+fn changes_names(rt: &impl Abort, alloc: Global, names: &mut impl Names) -> Result<(), AllocError> {
     let quince = String::from_str(alloc, "quince")?;
     assert!(rt; names.change(1, quince));
     let melon = String::from_str(alloc, "melon")?;
