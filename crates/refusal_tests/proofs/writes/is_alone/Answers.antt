@@ -1,5 +1,5 @@
 use Rattle.tree_node.proofs.Common.{fits}
-use Rattle.refusal_tests.proofs.shapes.look_in_range.Goals as goal
+use Rattle.refusal_tests.proofs.writes.is_alone.Goals as goal
 
 pub range-range-requires : goal.range-range-requires
 range-range-requires g c = search fits

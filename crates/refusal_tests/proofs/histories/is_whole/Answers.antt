@@ -1,5 +1,5 @@
 use Rattle.tree_node.proofs.Common.{fits}
-use Rattle.refusal_tests.proofs.histories.apply_each.Goals as goal
+use Rattle.refusal_tests.proofs.histories.is_whole.Goals as goal
 
 pub index-requires : goal.index-requires
 index-requires g c = search fits
