@@ -41,7 +41,8 @@ module _ {K V : Type 0} {LEN : ℕ} (cmp : K → K → Ordering) (a : TreeArenas
 
   -- those of a node with an unbounded child stand, and one without has none
   over : (below : ℕ) (Holds : ℕ → Type 0) (node : NodeOf K LEN) → get a.nodes id ≡ Some node → children ≡ along way (all_children (keyed node) (unbounded node))
-      → ((last : ℕ) → unbounded node ≡ Some last → (leaves_at level a.nodes id ≡ leaves_of below a.nodes (all_children (keyed node) (Some last))) × AllByRecursion Holds (all_children (keyed node) (Some last)))
+      → ((last : ℕ) → unbounded node ≡ Some last → (leaves_at level a.nodes id ≡ leaves_of below a.nodes
+          (all_children (keyed node) (Some last))) × AllByRecursion Holds (all_children (keyed node) (Some last)))
       → IsOver level a id below Holds way children
   over below Holds node here is stand = by_last (unbounded node) refl is
     where
@@ -52,7 +53,8 @@ module _ {K V : Type 0} {LEN : ℕ} (cmp : K → K → Ordering) (a : TreeArenas
       by_last (Some last) last_is is = turned level a id below Holds way _ children is (stand last last_is).0 (stand last last_is).1
 
   pub leaf_node_over : (node : BranchOf K ℕ LEN) → get a.nodes id ≡ Some (Leaf node) → children ≡ along way (all_children node.children node.unbounded_child) → IsOver level a id 0 (ContainsKey a.leaves) way children
-  leaf_node_over node here is = over 0 (ContainsKey a.leaves) (Leaf node) here is (λ last last_is. let there = over_leaves cmp a id level inner given node here last last_is in (there.leaves, there.there))
+  leaf_node_over node here is = over 0 (ContainsKey a.leaves) (Leaf node) here is
+      (λ last last_is. let there = over_leaves cmp a id level inner given node here last last_is in (there.leaves, there.there))
 
   pub node_over : (node : BranchOf K ℕ LEN) → get a.nodes id ≡ Some (Internal node) → children ≡ along way (all_children node.children node.unbounded_child) → IsOver level a id (level - 1) (StandsBelow level a cmp) way children
   node_over node here is =
