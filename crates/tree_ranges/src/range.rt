@@ -9,7 +9,7 @@ ghost use Rattle.tree_model.specs.Rest.{Moves, StandsInside, lent};
 ghost use Rattle.tree_cursors.specs.View.{Kept, end_of};
 ghost use Rattle.tree_ranges.specs.Ranged.{Flips, moves_left};
 
-use crate::ends::{again, are_apart, is_unopened, shown, turned, within};
+use crate::ends::{again, if_apart, is_unopened, shown, turned};
 use std::alloc::AllocError;
 use std::iter::FusedIterator;
 use std::marker::{Model, PhantomData};
@@ -184,10 +184,7 @@ impl<'t, K: Ord + Drop + 't, V: Drop + 't, const LEN: usize> RangeOver<
         ensures { Moves K.cmp On self.old result self.new }
     {
         let pair = step(self.arenas, self.root, &mut self.forward, self.low);
-        if !are_apart(&self.forward, &self.backward) {
-            return None;
-        }
-        within::<K, V, ArrayRevIter>(pair, self.high)
+        if_apart::<K, V, ArrayRevIter, LEN>(pair, &self.forward, &self.backward, self.high)
     }
 
     /// Moves the backward end, as [`next_elsewhere`](RangeOver::next_elsewhere) moves the forward one.
@@ -196,10 +193,7 @@ impl<'t, K: Ord + Drop + 't, V: Drop + 't, const LEN: usize> RangeOver<
         ensures { Moves K.cmp Back self.old result self.new }
     {
         let pair = step(self.arenas, self.root, &mut self.backward, self.high);
-        if !are_apart(&self.forward, &self.backward) {
-            return None;
-        }
-        within::<K, V, ArrayIter>(pair, self.low)
+        if_apart::<K, V, ArrayIter, LEN>(pair, &self.forward, &self.backward, self.low)
     }
 
     /// Opens both bounds, and keeps both ends.
@@ -231,10 +225,7 @@ impl<'t, K: Ord + Drop + 't, V: Drop + 't, const LEN: usize> Iterator
         let Some(pair) = step_in_leaf(&mut self.forward) else {
             return self.next_elsewhere();
         };
-        if !are_apart(&self.forward, &self.backward) {
-            return None;
-        }
-        within::<K, V, ArrayRevIter>(Some(pair), self.high)
+        if_apart::<K, V, ArrayRevIter, LEN>(Some(pair), &self.forward, &self.backward, self.high)
     }
 }
 
@@ -247,10 +238,7 @@ impl<'t, K: Ord + Drop + 't, V: Drop + 't, const LEN: usize> DoubleEndedIterator
         let Some(pair) = step_in_leaf(&mut self.backward) else {
             return self.next_back_elsewhere();
         };
-        if !are_apart(&self.forward, &self.backward) {
-            return None;
-        }
-        within::<K, V, ArrayIter>(Some(pair), self.low)
+        if_apart::<K, V, ArrayIter, LEN>(Some(pair), &self.forward, &self.backward, self.low)
     }
 }
 
