@@ -87,4 +87,4 @@ along-flat_map On f xs = refl
 along-flat_map Back f [] = refl
 along-flat_map Back f (x ∷ xs) =
     rw (reverse_onto xs x [], flat_map-append (λ y. reverse (f y)) (reverse xs) (x ∷ []), append-nil (reverse (f x)), ← along-flat_map Back f xs)
-        (reverse-append (f x) (flat_map f xs))
+    (reverse-append (f x) (flat_map f xs))

@@ -50,7 +50,7 @@ module _ {K V : Type 0} {LEN : ℕ} (way : Way) where
             let to = onward way front walk.leaf back l.front id l.back l.parts in
             let empty : (length (leaf_entries walk.leaves id) == 0) ≡ true = rw e refl in
             let there : new ≡ standing walk.leaves id None =
-                is ∙ rw (l.parts, jumped_over walk.leaves way walk l.front id l.back refl l.empty, empty, l.last empty) refl in
+            is ∙ rw (l.parts, jumped_over walk.leaves way walk l.front id l.back refl l.empty, empty, l.last empty) refl in
             rw (e, l.last empty, along-nil (K × V) way) (none_taken result to.front to.back (rw there refl) (rw there to.stands)
             (rw there (left_met (standing walk.leaves id None) to.front to.back ∙ rw (e, to.rest, l.last empty, all_ahead way [], along-nil (K × V) way) refl))
             (first ∙ rw (l.parts, met_over walk.leaves way l.front (id ∷ l.back) l.empty, e, l.last empty, along-nil (K × V) way) refl))
@@ -58,11 +58,11 @@ module _ {K V : Type 0} {LEN : ℕ} (way : Way) where
             let to = onward way front walk.leaf back l.front id l.back l.parts in
             let place = Some (next_place way (length (entry ∷ entries)) None) in
             let there : new ≡ standing walk.leaves id place =
-                is ∙ rw (l.parts, jumped_over walk.leaves way walk l.front id l.back refl l.empty, e, not_none entry entries) refl in
+            is ∙ rw (l.parts, jumped_over walk.leaves way walk l.front id l.back refl l.empty, e, not_none entry entries) refl in
             let step = first_step way entry entries in
             let taken = sym (all_ahead way (entry ∷ entries)) ∙ step_takes way (entry ∷ entries) None _ step.first step.steps in
             let told : option_map lent_entry result ≡ Some step.first =
-                first ∙ rw (l.parts, met_over walk.leaves way l.front (id ∷ l.back) l.empty, e, taken) refl in
+            first ∙ rw (l.parts, met_over walk.leaves way l.front (id ∷ l.back) l.empty, e, taken) refl in
             rw (e, taken, there) (record {
               same = refl;
               front = to.front;
@@ -77,7 +77,7 @@ module _ {K V : Type 0} {LEN : ℕ} (way : Way) where
             let gone = (lands_nowhere walk.leaves None (leaves_on way front back) at).1 in
             let there : new ≡ walk = is ∙ rw gone refl in
             rw gone (none_taken result front back (rw there refl) (rw there refl) (rw there (left_met walk front back ∙ rw (none, gone) refl))
-                (first ∙ rw gone refl))
+            (first ∙ rw gone refl))
         by_landing (Some id) at =
             let l = lands_in walk.leaves (leaves_on way front back) id at in
             rw (l.parts, met_over walk.leaves way l.front (id ∷ l.back) l.empty) (by_entries id l (leaf_entries walk.leaves id) refl)
@@ -96,22 +96,30 @@ module _ {K V : Type 0} {LEN : ℕ} (way : Way) where
   count_left walk =
       length (ahead way (here walk) walk.at)
       + sum_on walk.leaves way (λ id. length (along way (leaf_entries walk.leaves id))) (length walk.leaves.slots)
-          (beside_slot walk.leaves way (get walk.leaves walk.leaf))
+      (beside_slot walk.leaves way (get walk.leaves walk.leaf))
 
   length-met : (leaves : Slab (LeafOf K V LEN)) (ids : List ℕ) → sum_by (λ id. length (along way (leaf_entries leaves id))) ids ≡ length (met leaves way ids)
   length-met leaves [] = refl
-  length-met leaves (id ∷ ids) = omega (arith, sum_by-cons (λ n. length (along way (leaf_entries leaves n))) id ids,
-      length-append (along way (leaf_entries leaves id)) (met leaves way ids), length-met leaves ids)
+  length-met leaves (id ∷ ids) = omega (
+    arith,
+    sum_by-cons (λ n. length (along way (leaf_entries leaves n))) id ids,
+    length-append (along way (leaf_entries leaves id)) (met leaves way ids),
+    length-met leaves ids,
+  )
 
   count_is : (walk : LeafWalk K V LEN) (front back : List ℕ) → IsChain walk.leaves (front ++ walk.leaf ∷ back) → count_left walk ≡ length (left_of way walk front back)
   unfolding count_left
   count_is walk front back chain =
       let at : At walk.leaves way walk.leaf (leaves_on way front back) = record { front = front; back = back; chain = chain; on = refl } in
       let sum = sum_is walk.leaves way (λ id. length (along way (leaf_entries walk.leaves id))) (length walk.leaves.slots) walk.leaf
-          (leaves_on way front back) at (few walk.leaves way walk.leaf _ at) in
+      (leaves_on way front back) at (few walk.leaves way walk.leaf _ at) in
       rw (beside_slot_is walk.leaves way walk.leaf _ at, left_met walk front back)
-          (omega (arith, sum, length-met walk.leaves (leaves_on way front back),
-              length-append (ahead way (here walk) walk.at) (met walk.leaves way (leaves_on way front back))))
+      (omega (
+        arith,
+        sum,
+        length-met walk.leaves (leaves_on way front back),
+        length-append (ahead way (here walk) walk.at) (met walk.leaves way (leaves_on way front back)),
+      ))
 
   -- an entry that is taken makes them fewer
   pub count_falls : (old new : LeafWalk K V LEN) (entry : Bor K × Bor V) (front back : List ℕ) → IsChain old.leaves (front ++ old.leaf ∷ back) → Takes way old (Some entry) new → count_left new < count_left old
@@ -142,7 +150,7 @@ module _ {K V : Type 0} {LEN : ℕ} (leaves : Slab (LeafOf K V LEN)) (id : ℕ) 
   fresh_left On front back = refl
   fresh_left Back front back =
       let last : entries_of leaves (front ++ id ∷ []) ≡ entries_of leaves front ++ leaf_entries leaves id =
-          flat_map-append (leaf_entries leaves) front (id ∷ []) ∙ rw append-nil refl in
+      flat_map-append (leaf_entries leaves) front (id ∷ []) ∙ rw append-nil refl in
       rw (last, reverse-append, all_ahead Back (leaf_entries leaves id)) refl
 
   pub fresh_gives : (way : Way) (walk : LeafWalk K V LEN) (entries : List (Bor K × Bor V)) → walk ≡ standing leaves id None → AreLeft way walk entries → AreOnTheWay way leaves id entries

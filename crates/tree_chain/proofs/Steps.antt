@@ -60,8 +60,10 @@ module _ {K V : Type 0} {LEN : ℕ} (leaves : Slab (LeafOf K V LEN)) (id : ℕ) 
     (fresh : all.at ≡ None) (way : Way) (new : Option ℕ) where
   -- the first step from before the first slot reads the entry that comes first on the way, and there is none where the leaf has no entry
   pub first_read : (slot : ℕ) (read : K × V) → StepsOver way all.slots all.at (Some slot) new → arrival leaf.array.arrivals slot ≡ Some read → Some read.0 ≡ option_map (λ entry. entry.0) (first_on way (leaf_entries leaves id))
-  first_read slot read steps found = rw (first_place way (leaf_entries leaves id),
-      (rw fresh at (step_read leaves id leaf all stand way new slot read steps found)).1) refl
+  first_read slot read steps found = rw (
+    first_place way (leaf_entries leaves id),
+    (rw fresh at (step_read leaves id leaf all stand way new slot read steps found)).1,
+  ) refl
 
   pub none_first : {X : Type 0} (key : K × V → X) → StepsOver way all.slots all.at None new → None ≡ option_map key (first_on way (leaf_entries leaves id))
   none_first key steps =
@@ -73,5 +75,9 @@ module _ {K V : Type 0} {LEN : ℕ} (leaves : Slab (LeafOf K V LEN)) (id : ℕ) 
 pub progress : {K V : Type 0} {LEN : ℕ} {can : LeafWalk K V LEN → Type 0} → ((walk : LeafWalk K V LEN) → can walk)
     → (way : Way) (s t : LeafWalk K V LEN) (r : Option (Bor K × Bor V)) → Steps way s r t → MakesProgress can (left_in_leaf way) s r t
 progress can way s t None steps = record { on = λ finite. tt; keeps = tt; rests = λ finite. tt }
-progress can way s t (Some entry) steps = record { on =
-    λ finite. (can t, tt, rw steps.0 (fewer_left way (here s) s.at t.at (lent_entry entry) steps.1)); keeps = can t; rests = λ finite. tt }
+progress can way s t (Some entry) steps = record {
+  on =
+      λ finite. (can t, tt, rw steps.0 (fewer_left way (here s) s.at t.at (lent_entry entry) steps.1));
+  keeps = can t;
+  rests = λ finite. tt;
+}

@@ -39,8 +39,13 @@ module _ {K V : Type 0} {LEN : ℕ} (leaves : Slab (LeafOf K V LEN)) (way : Way)
     pub on : leaves_on way front back ≡ ids
 
   on_to : (id next : ℕ) (ids : List ℕ) → At id (next ∷ ids) → At next ids
-  on_to id next ids at = let to = onward way at.front id at.back [] next ids at.on in record { front = to.front; back = to.back; chain =
-      rw to.stands at.chain; on = to.rest }
+  on_to id next ids at = let to = onward way at.front id at.back [] next ids at.on in record {
+    front = to.front;
+    back = to.back;
+    chain =
+        rw to.stands at.chain;
+    on = to.rest;
+  }
 
   module _ (id : ℕ) (ids : List ℕ) (at : At id ids) where
     used : IsSome (get leaves id)
@@ -127,7 +132,7 @@ module _ {K V : Type 0} {LEN : ℕ} (leaves : Slab (LeafOf K V LEN)) (way : Way)
     hops_fall leaf here =
         let all = sum_is (λ id. 1) (length leaves.slots) now.id (id ∷ opens.0) (rw opens.1 at now.at) (few now.id _ (rw opens.1 at now.at)) in
         rw (beside_is id opens.0 opens.2 leaf here)
-            (omega (arith, all, sum_by-cons (λ (n : ℕ). 1) id opens.0, sum_is (λ id. 1) (length leaves.slots) id opens.0 opens.2 (few id opens.0 opens.2)))
+        (omega (arith, all, sum_by-cons (λ (n : ℕ). 1) id opens.0, sum_is (λ id. 1) (length leaves.slots) id opens.0 opens.2 (few id opens.0 opens.2)))
 
   module _ (start : List ℕ) (passed : Option ℕ) (next : Beside) (now : Sees start passed (Some next)) where
     -- it lands in the leaf that it sees if that has an entry
@@ -141,8 +146,14 @@ module _ {K V : Type 0} {LEN : ℕ} (leaves : Slab (LeafOf K V LEN)) (way : Way)
     passes leaf here empty =
         let to = opens start passed next.id now.1 in
         let none : (length (leaf_entries leaves next.id) == 0) ≡ true = grind (arith, nat_tests, counted leaves next now.0) in
-        record { id = next.id; left = to.0; at = to.2; next_is = beside_is next.id to.0 to.2 leaf here; same =
-            now.1.same ∙ ap (landing leaves passed) to.1 ∙ rw none refl }
+        record {
+          id = next.id;
+          left = to.0;
+          at = to.2;
+          next_is = beside_is next.id to.0 to.2 leaf here;
+          same =
+              now.1.same ∙ ap (landing leaves passed) to.1 ∙ rw none refl;
+        }
 
   -- at the end it lands in the last leaf
   pub lands_last : (start : List ℕ) (passed next : Option ℕ) → Passed start passed next → next ≡ None → passed ≡ landing leaves None start

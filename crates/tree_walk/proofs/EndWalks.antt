@@ -1,12 +1,9 @@
 -- Where a walk of a part begins: in a leaf of the chain, at the first entry of the part on its way.
 use Rattle.std.proofs.Common.{◌≡◌, ℕ, suc, ◌+◌, ◌-◌, ◌<◌, List, [], ◌∷◌, ◌++◌, length, reverse, None, refl, sym, subst, arith, append_assoc, length-append, append-nil}
 use Rattle.tree_model.proofs.Common.{flat_map-append, reverse-append}
-use Rattle.tree_node.proofs.Common.{Slab, LeafOf, IsChain, leaf_entries, entries_of, TreeArenas, leaves_at}
-use Rattle.tree_chain.proofs.Common.{LeafWalk, standing, first_of, Way, On, Back}
+use Rattle.tree_walk.proofs.Common.{Back, BeginsPart, IsChain, IsFirstOn, IsLinked, LeafOf, LeafWalk, On, Slab, TreeArenas, Way, entries_of, first_along, first_of, leaf_entries, leaves_at, length-reverse, passed}
+use Rattle.tree_chain.proofs.Common.{standing}
 use Rattle.tree_chain.specs.Walks.{first_on}
-use Rattle.tree_chain.proofs.Along.{first_along}
-use Rattle.std.proofs.lemmas.List.{length-reverse}
-use Rattle.tree_walk.specs.Ends.{BeginsPart, IsFirstOn, IsLinked, passed}
 
 first-append : {X : Type 0} (xs ys : List X) → 0 < length xs → first_of xs ≡ first_of (xs ++ ys)
 first-append [] ys some = absurd (omega arith)

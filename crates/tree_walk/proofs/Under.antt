@@ -1,15 +1,10 @@
 -- The leaves under a node are those under its children, each of which stands one level below it.
 use Rattle.std.proofs.Common.{◌≡◌, ℕ, zero, suc, ◌-◌, ◌<◌, List, [], Option, Some, None, inl, inr, refl, sym, ◌∙◌, arith, Ordering}
 use Rattle.tree_model.proofs.Common.{AllByRecursion, reverse-reverse, along}
-use Rattle.tree_chain.proofs.Common.{Way, On, Back}
-use Rattle.tree_array.proofs.Common.{all_map}
-use Rattle.tree_node.proofs.Common.{ContainsKey, get, TreeArenas, IsRetiredNode, StandsOrRetired, keyed, unbounded, leaves_at, leaves_of}
+use Rattle.tree_walk.proofs.Common.{Back, ContainsKey, IsRetiredNode, On, StandsOrRetired, TreeArenas, Way, all_along, all_children, all_map, get, keyed, leaves_at, leaves_of, no_leaves, over_leaves, over_nodes, unbounded}
 use Rattle.tree_node.specs.declared.branch.BranchOf.{BranchOf}
 use Rattle.tree_node.specs.declared.node.NodeOf.{NodeOf}
 use Rattle.tree_node.specs.declared.node.NodeOf.TheVariants.{Internal, Leaf}
-use Rattle.tree_chain.proofs.Along.{all_along}
-use Rattle.tree_node.proofs.ChildrenStand.{no_leaves, over_leaves, over_nodes}
-use Rattle.tree_walk.specs.Children.{all_children}
 
 along-twice : (way : Way) (ids : List ℕ) → along way (along way ids) ≡ ids
 along-twice On ids = refl
