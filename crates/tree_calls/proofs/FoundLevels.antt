@@ -1,11 +1,10 @@
 -- The level that a walk finds serves in place of the one that the contract speaks of: they differ for a retired node alone, which has nothing under it.
 use Rattle.std.proofs.Common.{◌≡◌, ◌⊎◌, ℕ, zero, suc, ◌+◌, ◌*◌, ◌<◌, ◌≤◌, Bool, [], ◌∷◌, Option, Some, None, MatchOption, inl, inr, refl, arith, Ordering}
 use Rattle.tree_model.proofs.Common.{Bound}
-use Rattle.tree_model.specs.declared.way.Way.{Way}
 use Rattle.tree_array.specs.declared.answers.RemoveResult.{RemoveResult}
 use Rattle.tree_array.specs.declared.answers.RemoveResult.TheVariants.{Success, Retired, Fail}
 use Rattle.tree_node.proofs.Common.{get, TreeArenas, IsPart, Unchanged, IsRetired, Stands, StandsOrRetired, leaves_at, nodes_at, walk}
-use Rattle.tree_chain.proofs.Common.{LeafWalk}
+use Rattle.tree_chain.proofs.Common.{LeafWalk, Way}
 use Rattle.std.proofs.Math.Nat.{mul-le-mul_left}
 use Rattle.tree_walk.specs.Ends.{BeginsPart, IsLinked}
 use Rattle.tree_node.proofs.Unchanged.{unchanged_replaces}
@@ -14,6 +13,7 @@ use Rattle.tree_cut.specs.Cuts.{CutsUnder}
 use Rattle.tree_cut.proofs.Tops.{childless_cut, retired_node}
 use Rattle.tree_ranges.specs.Approximate.{Approximates}
 use Rattle.tree_remove.specs.Removes.{RemovesUnder}
+use Rattle.tree_calls.specs.Found.{IsFound}
 
 module _ {K V : Type 0} {LEN : ℕ} (a : TreeArenas K V LEN) (id : ℕ) where
   -- a node is retired at each level, or at none
@@ -46,47 +46,46 @@ found_part cmp a id level found inner low up (inl part) = rw (up part) (inl part
 found_part cmp a id level found inner low up (inr retired) = inr (retired_too a id level found inner low retired)
 
 module _ {K V : Type 0} {LEN : ℕ} (cmp : K → K → Ordering) (a : TreeArenas K V LEN) (id level found : ℕ) where
-  pub record IsFound : Type 0 where
-    pub inner : 0 < found
-    pub le : found ≤ level
-    pub stands : StandsOrRetired cmp found a id
-    pub leaves : leaves_at found a.nodes id ≡ leaves_at level a.nodes id
+  pub is_found : 0 < level → (Stands cmp level a None id None → found ≡ level) → (IsRetired level a id → found ≡ 1) → StandsOrRetired cmp level a id
+      → IsFound cmp a id level found
+  is_found above up one (inl s) = let same = up s in record { above = above; inner = rw same above; le = omega (arith, same); up = up; one = one; stands =
+      rw same (inl s); leaves = rw same refl }
+  is_found above up one (inr r) =
+      let same = one r in
+      let lowest : IsRetired 1 a id = retired_too a id level 1 above (omega arith) r in
+      record {
+        above = above;
+        inner = rw same (omega arith);
+        le = omega (arith, same, above);
+        up = up;
+        one = one;
+        stands = rw same (inr lowest);
+        leaves = rw (same, no_leaves a id level above r) (no_leaves a id 1 (omega arith) lowest);
+      }
 
-  module _ (inner : 0 < level) (up : Stands cmp level a None id None → found ≡ level) (one : IsRetired level a id → found ≡ 1) where
-    pub is_found : StandsOrRetired cmp level a id → IsFound
-    is_found (inl s) = let same = up s in record { inner = rw same inner; le = omega (arith, same); stands = rw same (inl s); leaves = rw same refl }
-    is_found (inr r) =
-        let same = one r in
-        let lowest : IsRetired 1 a id = retired_too a id level 1 inner (omega arith) r in
-        record {
-          inner = rw same (omega arith);
-          le = omega (arith, same, inner);
-          stands = rw same (inr lowest);
-          leaves = rw (same, no_leaves a id level inner r) (no_leaves a id 1 (omega arith) lowest);
-        }
+  module _ (is : IsFound cmp a id level found) where
+    pub retired_there : IsRetired level a id → IsRetired found a id
+    retired_there retired = retired_too a id level found is.above is.inner retired
 
-    pub part_found : IsPart cmp level a id ⊎ IsRetired level a id → IsPart cmp found a id ⊎ IsRetired found a id
-    part_found there = found_part cmp a id level found inner (is_found (given_at cmp a id level there)).inner (λ part. up part.stands) there
-
-    -- so the part may be changed at the level that is found
+    -- the part may be changed at the level that is found
     pub may_change : IsPart cmp level a id ⊎ IsRetired level a id → (0 < found) × (IsPart cmp found a id ⊎ IsRetired found a id)
-    may_change there = ((is_found (given_at cmp a id level there)).inner, part_found there)
+    may_change there = (is.inner, found_part cmp a id level found is.above is.inner (λ part. is.up part.stands) there)
 
     -- a removal under the node is the same at either level, since nothing is removed under a retired one
     pub removed_at : IsPart cmp level a id ⊎ IsRetired level a id → (Says : V → Bool → Type 0) (b : TreeArenas K V LEN) (result : RemoveResult) (key : K) → RemovesUnder cmp Says found a b id result key → RemovesUnder cmp Says level a b id result key
-    removed_at (inl part) Says b result key removes = rw (up part.stands) at removes
-    removed_at (inr retired) Says b result key removes = fails_at result (rw (one retired) at removes)
+    removed_at (inl part) Says b result key removes = rw (is.up part.stands) at removes
+    removed_at (inr retired) Says b result key removes = fails_at result removes
       where
-        none : leaves_at 1 a.nodes id ≡ []
-        none = no_leaves a id 1 (omega arith) (retired_too a id level 1 inner (omega arith) retired)
+        none : leaves_at found a.nodes id ≡ []
+        none = no_leaves a id found is.inner (retired_there retired)
 
-        fails_at : (result : RemoveResult) → RemovesUnder cmp Says 1 a b id result key → RemovesUnder cmp Says level a b id result key
+        fails_at : (result : RemoveResult) → RemovesUnder cmp Says found a b id result key → RemovesUnder cmp Says level a b id result key
         fails_at Success removes = absurd (let was = rw none at removes.pairs.was in cc)
         fails_at Retired removes = absurd (let was = rw none at removes.pairs.0.was in cc)
         fails_at Fail removes =
             let same : Unchanged a b = removes.leaves in
-            let before = no_leaves a id level inner retired in
-            let after = no_leaves b id level inner (still_retired a id b level inner same retired) in
+            let before = no_leaves a id level is.above retired in
+            let after = no_leaves b id level is.above (still_retired a id b level is.above same retired) in
             record {
               pairs = (λ pair is. absurd (let was = rw before at is in cc), rw (before, after) refl);
               leaves = same;
@@ -96,12 +95,10 @@ module _ {K V : Type 0} {LEN : ℕ} (cmp : K → K → Ordering) (a : TreeArenas
 
     -- so is a removal of a range
     pub cut_at : IsPart cmp level a id ⊎ IsRetired level a id → (low high : Bound K) (b : TreeArenas K V LEN) (gone : ℕ) → CutsUnder cmp low high found a b id gone → (IsRetired found a id → b ≡ a) → (gone : ℕ) × CutsUnder cmp low high level a b id gone
-    cut_at (inl part) low high b gone cuts stays = (gone, rw (up part.stands) at cuts)
+    cut_at (inl part) low high b gone cuts stays = (gone, rw (is.up part.stands) at cuts)
     cut_at (inr retired) low high b gone cuts stays =
-        let same : b ≡ a = stays (rw (one retired) (retired_too a id level 1 inner (omega arith) retired)) in
-        (0, rw same (childless_cut cmp low high level a id inner (retired_node cmp level a id inner retired)))
+        (0, rw (stays (retired_there retired)) (childless_cut cmp low high level a id is.above (retired_node cmp level a id is.above retired)))
 
-  module _ (is : IsFound) where
     -- a walk may begin under the node at the level that is found
     pub may_begin : IsLinked level a id → (0 < found) × (StandsOrRetired cmp found a id × IsLinked found a id)
     may_begin linked = (is.inner, (is.stands, (linked.0, linked.1, rw is.leaves linked.2)))

@@ -7,6 +7,7 @@ ghost use Rattle.tree_node.specs.Parts.{IsPart, Unchanged};
 ghost use Rattle.tree_node.specs.Tree.{IsOfLevel, IsRetired};
 ghost use Rattle.tree_remove.specs.Lowering.{LowersRoot};
 
+use crate::node_calls::found_level;
 use std::alloc::AllocError;
 use tree_insert::root::grow_root_at;
 use tree_leaf::arena::NodeId;
@@ -39,7 +40,7 @@ pub trait RootCalls<K: Ord + Drop, const LEN: usize> {
         ensures places { IsPart K.cmp level arenas.old root → HasPlaces arenas.old 0 2 → IsOk result }
         ensures leaf_place { IsRetired level arenas.old root → HasPlaces arenas.old 1 0 → IsOk result }
     {
-        let level = level_of(arenas, root);
+        let level = found_level(arenas, root);
         grow_root_at(arenas, level, root)
     }
 

@@ -86,4 +86,5 @@ pub along-flat_map : {X Y : Type 0} (way : Way) (f : X → List Y) (xs : List X)
 along-flat_map On f xs = refl
 along-flat_map Back f [] = refl
 along-flat_map Back f (x ∷ xs) =
-    rw (reverse_onto xs x [], flat_map-append (λ y. reverse (f y)) (reverse xs) (x ∷ []), append-nil (reverse (f x)), ← along-flat_map Back f xs) (reverse-append (f x) (flat_map f xs))
+    rw (reverse_onto xs x [], flat_map-append (λ y. reverse (f y)) (reverse xs) (x ∷ []), append-nil (reverse (f x)), ← along-flat_map Back f xs)
+    (reverse-append (f x) (flat_map f xs))

@@ -14,12 +14,25 @@ pub record Onward (way : Way) (chain : List ℕ) (next : ℕ) (ids : List ℕ) :
   pub stands : front ++ next ∷ back ≡ chain
   pub rest : leaves_on way front back ≡ ids
 
-pub onward : (way : Way) (front : List ℕ) (id : ℕ) (back passed : List ℕ) (next : ℕ) (ids : List ℕ) → leaves_on way front back ≡ passed ++ next ∷ ids → Onward way (front ++ id ∷ back) next ids
-onward On front id back passed next ids is = record { front = front ++ id ∷ passed; back = ids; stands = rw is (append_assoc front (id ∷ passed) (next ∷ ids)); rest = refl }
+pub onward : (way : Way) (front : List ℕ) (id : ℕ) (back passed : List ℕ) (next : ℕ) (ids : List ℕ) → leaves_on way front back ≡ passed ++ next ∷ ids
+    → Onward way (front ++ id ∷ back) next ids
+onward On front id back passed next ids is = record {
+  front = front ++ id ∷ passed;
+  back = ids;
+  stands =
+      rw is (append_assoc front (id ∷ passed) (next ∷ ids));
+  rest = refl;
+}
 onward Back front id back passed next ids is =
     let turned = ap (λ xs. xs ++ reverse passed) (reverse_onto ids next []) ∙ append_assoc (reverse ids) (next ∷ []) (reverse passed) in
     let whole : front ≡ reverse ids ++ next ∷ reverse passed = sym (reverse-reverse front) ∙ ap reverse is ∙ reverse-append passed (next ∷ ids) ∙ turned in
-    record { front = reverse ids; back = reverse passed ++ id ∷ back; stands = rw whole (sym (append_assoc (reverse ids) (next ∷ reverse passed) (id ∷ back))); rest = reverse-reverse ids }
+    record {
+      front = reverse ids;
+      back = reverse passed ++ id ∷ back;
+      stands =
+          rw whole (sym (append_assoc (reverse ids) (next ∷ reverse passed) (id ∷ back)));
+      rest = reverse-reverse ids;
+    }
 
 module _ {K V : Type 0} {LEN : ℕ} (leaves : Slab (LeafOf K V LEN)) where
   abbrev pub IsEmpty : ℕ → Type 0
@@ -43,7 +56,8 @@ module _ {K V : Type 0} {LEN : ℕ} (leaves : Slab (LeafOf K V LEN)) where
       first : x ≡ id → (IsEmpty x → ids ≡ []) → Lands (x ∷ ids) id
       first same last = record { front = []; back = ids; parts = ap (λ n. n ∷ ids) same; empty = tt; last = rw same at last }
 
-      by_test : (empty : Bool) → (length (leaf_entries leaves x) == 0) ≡ empty → (landing leaves (Some x) ids ≡ Some id → ((Some x ≡ Some id) × (ids ≡ [])) ⊎ Lands ids id)
+      by_test : (empty : Bool) → (length (leaf_entries leaves x) == 0) ≡ empty
+          → (landing leaves (Some x) ids ≡ Some id → ((Some x ≡ Some id) × (ids ≡ [])) ⊎ Lands ids id)
           → cond empty (landing leaves (Some x) ids) (Some x) ≡ Some id → Lands (x ∷ ids) id
       by_test true e again is = elim (again is) [
         | inl here ↦ first (let same = here.0 in cc) (λ none. here.1)
@@ -59,7 +73,8 @@ module _ {K V : Type 0} {LEN : ℕ} (leaves : Slab (LeafOf K V LEN)) where
   lands_nowhere before [] is = (is, refl)
   lands_nowhere before (x ∷ ids) is = absurd (by_test (length (leaf_entries leaves x) == 0) (lands_nowhere (Some x) ids) is)
     where
-      by_test : (empty : Bool) → (landing leaves (Some x) ids ≡ None → (Some x ≡ None) × (ids ≡ [])) → cond empty (landing leaves (Some x) ids) (Some x) ≡ None → ⊥
+      by_test : (empty : Bool) → (landing leaves (Some x) ids ≡ None → (Some x ≡ None) × (ids ≡ []))
+          → cond empty (landing leaves (Some x) ids) (Some x) ≡ None → ⊥
       by_test true again is = let none = (again is).0 in cc
       by_test false again is = cc
 
@@ -78,7 +93,8 @@ module _ {K V : Type 0} {LEN : ℕ} (leaves : Slab (LeafOf K V LEN)) where
 
     pub jumped_over : (walk : LeafWalk K V LEN) (front : List ℕ) (id : ℕ) (back : List ℕ) → walk.leaves ≡ leaves → AllByRecursion IsEmpty front
         → jumped way walk (front ++ id ∷ back)
-        ≡ (if length (leaf_entries leaves id) == 0 then jumped way (standing leaves id None) back else standing leaves id (Some (next_place way (length (leaf_entries leaves id)) None)))
+        ≡ (if length (leaf_entries leaves id) == 0 then jumped way (standing leaves id None) back else standing leaves id
+        (Some (next_place way (length (leaf_entries leaves id)) None)))
     jumped_over walk [] id back same empty = rw same refl
     jumped_over walk (x ∷ front) id back same empty = rw (same, empty.0) (jumped_over (standing leaves x None) front id back refl empty.1)
 
@@ -86,13 +102,20 @@ module _ {K V : Type 0} {LEN : ℕ} (leaves : Slab (LeafOf K V LEN)) where
     pub jumps : (walk landed new : LeafWalk K V LEN) (front back : List ℕ) (id : ℕ) (result : Option (Bor K × Bor V)) → walk.leaves ≡ leaves → landing leaves None (leaves_on way front back) ≡ Some id → landed ≡ standing leaves id None → Steps way landed result new
         → (new ≡ jumped way walk (leaves_on way front back)) × (option_map lent_entry result ≡ first_on way (entries_of leaves (beyond way front back)))
     jumps walk landed new front back id result same is fresh steps =
-        rw (first_along way (entries_of leaves (beyond way front back)), met_beyond front back, l.parts, jumped_over walk l.front id l.back same l.empty, met_over l.front (id ∷ l.back) l.empty) (by_result result (rw fresh at steps))
+        rw (
+          first_along way (entries_of leaves (beyond way front back)),
+          met_beyond front back,
+          l.parts,
+          jumped_over walk l.front id l.back same l.empty,
+          met_over l.front (id ∷ l.back) l.empty,
+        ) (by_result result (rw fresh at steps))
       where
         l : Lands (leaves_on way front back) id
         l = lands_in (leaves_on way front back) id is
 
         by_result : (r : Option (Bor K × Bor V)) → Steps way (standing leaves id None) r new
-            → (new ≡ (if length (leaf_entries leaves id) == 0 then jumped way (standing leaves id None) l.back else standing leaves id (Some (next_place way (length (leaf_entries leaves id)) None))))
+            → (new ≡ (if length (leaf_entries leaves id) == 0 then jumped way (standing leaves id None) l.back else standing leaves id
+            (Some (next_place way (length (leaf_entries leaves id)) None))))
             × (option_map lent_entry r ≡ first_of (along way (leaf_entries leaves id) ++ met l.back))
         by_result None step =
             let left = sym (all_left way (length (leaf_entries leaves id))) ∙ step.1.0 in

@@ -28,16 +28,19 @@ module _ {K V : Type 0} {LEN : ℕ} (way : Way) where
   -- a jump over the leaves on the way, from a place with no entry ahead in its leaf
   module _ (walk new : LeafWalk K V LEN) (front back : List ℕ) where
     -- to a place with nothing left, or to the first entry of a leaf
-    none_taken : (result : Option (Bor K × Bor V)) (before behind : List ℕ) → new.leaves ≡ walk.leaves → before ++ new.leaf ∷ behind ≡ front ++ walk.leaf ∷ back → left_of way new before behind ≡ [] → option_map lent_entry result ≡ None
+    none_taken : (result : Option (Bor K × Bor V)) (before behind : List ℕ) → new.leaves ≡ walk.leaves
+        → before ++ new.leaf ∷ behind ≡ front ++ walk.leaf ∷ back → left_of way new before behind ≡ [] → option_map lent_entry result ≡ None
         → HasTaken way walk.leaves (front ++ walk.leaf ∷ back) [] result new
     none_taken None before behind same stands none is = record { same = same; front = before; back = behind; stands = stands; takes = (refl, none) }
     none_taken (Some entry) before behind same stands none is = absurd (cc)
 
-    first_taken : (result : Option (Bor K × Bor V)) (entry : K × V) (entries : List (K × V)) → option_map lent_entry result ≡ Some entry → TakesFirst (entry ∷ entries) result entries
+    first_taken : (result : Option (Bor K × Bor V)) (entry : K × V) (entries : List (K × V)) → option_map lent_entry result ≡ Some entry
+        → TakesFirst (entry ∷ entries) result entries
     first_taken None entry entries is = absurd (cc)
     first_taken (Some taken) entry entries is = let same : entry ≡ lent_entry taken = cc in rw same refl
 
-    jump_takes : (result : Option (Bor K × Bor V)) → ahead way (here walk) walk.at ≡ [] → new ≡ jumped way walk (leaves_on way front back) → option_map lent_entry result ≡ first_of (met walk.leaves way (leaves_on way front back))
+    jump_takes : (result : Option (Bor K × Bor V)) → ahead way (here walk) walk.at ≡ [] → new ≡ jumped way walk (leaves_on way front back)
+        → option_map lent_entry result ≡ first_of (met walk.leaves way (leaves_on way front back))
         → HasTaken way walk.leaves (front ++ walk.leaf ∷ back) (met walk.leaves way (leaves_on way front back)) result new
     jump_takes result none is first = by_landing (landing walk.leaves None (leaves_on way front back)) refl
       where
@@ -46,17 +49,20 @@ module _ {K V : Type 0} {LEN : ℕ} (way : Way) where
         by_entries id l [] e =
             let to = onward way front walk.leaf back l.front id l.back l.parts in
             let empty : (length (leaf_entries walk.leaves id) == 0) ≡ true = rw e refl in
-            let there : new ≡ standing walk.leaves id None = is ∙ rw (l.parts, jumped_over walk.leaves way walk l.front id l.back refl l.empty, empty, l.last empty) refl in
+            let there : new ≡ standing walk.leaves id None =
+            is ∙ rw (l.parts, jumped_over walk.leaves way walk l.front id l.back refl l.empty, empty, l.last empty) refl in
             rw (e, l.last empty, along-nil (K × V) way) (none_taken result to.front to.back (rw there refl) (rw there to.stands)
             (rw there (left_met (standing walk.leaves id None) to.front to.back ∙ rw (e, to.rest, l.last empty, all_ahead way [], along-nil (K × V) way) refl))
             (first ∙ rw (l.parts, met_over walk.leaves way l.front (id ∷ l.back) l.empty, e, l.last empty, along-nil (K × V) way) refl))
         by_entries id l (entry ∷ entries) e =
             let to = onward way front walk.leaf back l.front id l.back l.parts in
             let place = Some (next_place way (length (entry ∷ entries)) None) in
-            let there : new ≡ standing walk.leaves id place = is ∙ rw (l.parts, jumped_over walk.leaves way walk l.front id l.back refl l.empty, e, not_none entry entries) refl in
+            let there : new ≡ standing walk.leaves id place =
+            is ∙ rw (l.parts, jumped_over walk.leaves way walk l.front id l.back refl l.empty, e, not_none entry entries) refl in
             let step = first_step way entry entries in
             let taken = sym (all_ahead way (entry ∷ entries)) ∙ step_takes way (entry ∷ entries) None _ step.first step.steps in
-            let told : option_map lent_entry result ≡ Some step.first = first ∙ rw (l.parts, met_over walk.leaves way l.front (id ∷ l.back) l.empty, e, taken) refl in
+            let told : option_map lent_entry result ≡ Some step.first =
+            first ∙ rw (l.parts, met_over walk.leaves way l.front (id ∷ l.back) l.empty, e, taken) refl in
             rw (e, taken, there) (record {
               same = refl;
               front = to.front;
@@ -65,11 +71,13 @@ module _ {K V : Type 0} {LEN : ℕ} (way : Way) where
               takes = rw (left_met (standing walk.leaves id place) to.front to.back, e, to.rest) (first_taken result step.first _ told);
             })
 
-        by_landing : (at : Option ℕ) → landing walk.leaves None (leaves_on way front back) ≡ at → HasTaken way walk.leaves (front ++ walk.leaf ∷ back) (met walk.leaves way (leaves_on way front back)) result new
+        by_landing : (at : Option ℕ) → landing walk.leaves None (leaves_on way front back) ≡ at
+            → HasTaken way walk.leaves (front ++ walk.leaf ∷ back) (met walk.leaves way (leaves_on way front back)) result new
         by_landing None at =
             let gone = (lands_nowhere walk.leaves None (leaves_on way front back) at).1 in
             let there : new ≡ walk = is ∙ rw gone refl in
-            rw gone (none_taken result front back (rw there refl) (rw there refl) (rw there (left_met walk front back ∙ rw (none, gone) refl)) (first ∙ rw gone refl))
+            rw gone (none_taken result front back (rw there refl) (rw there refl) (rw there (left_met walk front back ∙ rw (none, gone) refl))
+            (first ∙ rw gone refl))
         by_landing (Some id) at =
             let l = lands_in walk.leaves (leaves_on way front back) id at in
             rw (l.parts, met_over walk.leaves way l.front (id ∷ l.back) l.empty) (by_entries id l (leaf_entries walk.leaves id) refl)
@@ -87,18 +95,31 @@ module _ {K V : Type 0} {LEN : ℕ} (way : Way) where
   pub count_left : LeafWalk K V LEN → ℕ
   count_left walk =
       length (ahead way (here walk) walk.at)
-      + sum_on walk.leaves way (λ id. length (along way (leaf_entries walk.leaves id))) (length walk.leaves.slots) (beside_slot walk.leaves way (get walk.leaves walk.leaf))
+      + sum_on walk.leaves way (λ id. length (along way (leaf_entries walk.leaves id))) (length walk.leaves.slots)
+      (beside_slot walk.leaves way (get walk.leaves walk.leaf))
 
   length-met : (leaves : Slab (LeafOf K V LEN)) (ids : List ℕ) → sum_by (λ id. length (along way (leaf_entries leaves id))) ids ≡ length (met leaves way ids)
   length-met leaves [] = refl
-  length-met leaves (id ∷ ids) = omega (arith, sum_by-cons (λ n. length (along way (leaf_entries leaves n))) id ids, length-append (along way (leaf_entries leaves id)) (met leaves way ids), length-met leaves ids)
+  length-met leaves (id ∷ ids) = omega (
+    arith,
+    sum_by-cons (λ n. length (along way (leaf_entries leaves n))) id ids,
+    length-append (along way (leaf_entries leaves id)) (met leaves way ids),
+    length-met leaves ids,
+  )
 
   count_is : (walk : LeafWalk K V LEN) (front back : List ℕ) → IsChain walk.leaves (front ++ walk.leaf ∷ back) → count_left walk ≡ length (left_of way walk front back)
   unfolding count_left
   count_is walk front back chain =
       let at : At walk.leaves way walk.leaf (leaves_on way front back) = record { front = front; back = back; chain = chain; on = refl } in
-      let sum = sum_is walk.leaves way (λ id. length (along way (leaf_entries walk.leaves id))) (length walk.leaves.slots) walk.leaf (leaves_on way front back) at (few walk.leaves way walk.leaf _ at) in
-      rw (beside_slot_is walk.leaves way walk.leaf _ at, left_met walk front back) (omega (arith, sum, length-met walk.leaves (leaves_on way front back), length-append (ahead way (here walk) walk.at) (met walk.leaves way (leaves_on way front back))))
+      let sum = sum_is walk.leaves way (λ id. length (along way (leaf_entries walk.leaves id))) (length walk.leaves.slots) walk.leaf
+      (leaves_on way front back) at (few walk.leaves way walk.leaf _ at) in
+      rw (beside_slot_is walk.leaves way walk.leaf _ at, left_met walk front back)
+      (omega (
+        arith,
+        sum,
+        length-met walk.leaves (leaves_on way front back),
+        length-append (ahead way (here walk) walk.at) (met walk.leaves way (leaves_on way front back)),
+      ))
 
   -- an entry that is taken makes them fewer
   pub count_falls : (old new : LeafWalk K V LEN) (entry : Bor K × Bor V) (front back : List ℕ) → IsChain old.leaves (front ++ old.leaf ∷ back) → Takes way old (Some entry) new → count_left new < count_left old
@@ -113,7 +134,8 @@ module _ {K V : Type 0} {LEN : ℕ} (way : Way) where
     chain_on result takes given = let taken = takes given.0 given.1 given.2 in (taken.front, taken.back, rw (taken.same, taken.stands) given.2)
 
     -- what was left is what is taken and what is left then
-    pub left_then : (entry : Bor K × Bor V) (entries : List (Bor K × Bor V)) → Takes way old (Some entry) new → AreLeft way new entries → AreLeft way old (entry ∷ entries)
+    pub left_then : (entry : Bor K × Bor V) (entries : List (Bor K × Bor V)) → Takes way old (Some entry) new → AreLeft way new entries
+        → AreLeft way old (entry ∷ entries)
     left_then entry entries takes left = λ front back chain.
         let taken = takes front back chain in
         ap (λ rest. lent_entry entry ∷ rest) (left taken.front taken.back (rw (taken.same, taken.stands) chain)) ∙ sym taken.takes
@@ -127,7 +149,8 @@ module _ {K V : Type 0} {LEN : ℕ} (leaves : Slab (LeafOf K V LEN)) (id : ℕ) 
   fresh_left : (way : Way) (front back : List ℕ) → left_of way (standing leaves id None) front back ≡ whole_way way leaves front id back
   fresh_left On front back = refl
   fresh_left Back front back =
-      let last : entries_of leaves (front ++ id ∷ []) ≡ entries_of leaves front ++ leaf_entries leaves id = flat_map-append (leaf_entries leaves) front (id ∷ []) ∙ rw append-nil refl in
+      let last : entries_of leaves (front ++ id ∷ []) ≡ entries_of leaves front ++ leaf_entries leaves id =
+      flat_map-append (leaf_entries leaves) front (id ∷ []) ∙ rw append-nil refl in
       rw (last, reverse-append, all_ahead Back (leaf_entries leaves id)) refl
 
   pub fresh_gives : (way : Way) (walk : LeafWalk K V LEN) (entries : List (Bor K × Bor V)) → walk ≡ standing leaves id None → AreLeft way walk entries → AreOnTheWay way leaves id entries

@@ -12,7 +12,8 @@ same_place find (a ∷ xs) [] same place x is = absurd (cc)
 same_place find (a ∷ xs) (y ∷ ys) same zero x is = let this : x ≡ a = cc in (y, rw this (cc), refl)
 same_place find (a ∷ xs) (y ∷ ys) same (suc place) x is = let rest : map find xs ≡ map Some ys = cc in same_place find xs ys rest place x is
 
-at_place : {X : Type 0} (xs : List X) (at : Option ℕ) (x : X) → option_and_then (slice_get xs) at ≡ Some x → (place : ℕ) × (at ≡ Some place) × (slice_get xs place ≡ Some x)
+at_place : {X : Type 0} (xs : List X) (at : Option ℕ) (x : X) → option_and_then (slice_get xs) at ≡ Some x
+    → (place : ℕ) × (at ≡ Some place) × (slice_get xs place ≡ Some x)
 at_place xs None x is = absurd (cc)
 at_place xs (Some place) x is = (place, refl, is)
 
@@ -55,10 +56,14 @@ module _ {K V : Type 0} {LEN : ℕ} (leaves : Slab (LeafOf K V LEN)) (id : ℕ) 
   pub all_slots : (all : Walk) → all ≡ array_standing slots.slots None → IsStand leaves id leaf all
   all_slots all fresh = rw fresh (record { there = stand.there; front = stand.front; back = stand.back; chain = stand.chain; slots_are = stand.slots_are })
 
-module _ {K V : Type 0} {LEN : ℕ} (leaves : Slab (LeafOf K V LEN)) (id : ℕ) (leaf : LeafOf K V LEN) (all : Walk) (stand : IsStand leaves id leaf all) (fresh : all.at ≡ None) (way : Way) (new : Option ℕ) where
+module _ {K V : Type 0} {LEN : ℕ} (leaves : Slab (LeafOf K V LEN)) (id : ℕ) (leaf : LeafOf K V LEN) (all : Walk) (stand : IsStand leaves id leaf all)
+    (fresh : all.at ≡ None) (way : Way) (new : Option ℕ) where
   -- the first step from before the first slot reads the entry that comes first on the way, and there is none where the leaf has no entry
   pub first_read : (slot : ℕ) (read : K × V) → StepsOver way all.slots all.at (Some slot) new → arrival leaf.array.arrivals slot ≡ Some read → Some read.0 ≡ option_map (λ entry. entry.0) (first_on way (leaf_entries leaves id))
-  first_read slot read steps found = rw (first_place way (leaf_entries leaves id), (rw fresh at (step_read leaves id leaf all stand way new slot read steps found)).1) refl
+  first_read slot read steps found = rw (
+    first_place way (leaf_entries leaves id),
+    (rw fresh at (step_read leaves id leaf all stand way new slot read steps found)).1,
+  ) refl
 
   pub none_first : {X : Type 0} (key : K × V → X) → StepsOver way all.slots all.at None new → None ≡ option_map key (first_on way (leaf_entries leaves id))
   none_first key steps =
@@ -67,6 +72,12 @@ module _ {K V : Type 0} {LEN : ℕ} (leaves : Slab (LeafOf K V LEN)) (id : ℕ) 
       rw (first_place way (leaf_entries leaves id), slice_get_past (leaf_entries leaves id) (next_place way (length (leaf_entries leaves id)) None) (omega (arith, empty))) refl
 
 -- each step leaves fewer
-pub progress : {K V : Type 0} {LEN : ℕ} {can : LeafWalk K V LEN → Type 0} → ((walk : LeafWalk K V LEN) → can walk) → (way : Way) (s t : LeafWalk K V LEN) (r : Option (Bor K × Bor V)) → Steps way s r t → MakesProgress can (left_in_leaf way) s r t
+pub progress : {K V : Type 0} {LEN : ℕ} {can : LeafWalk K V LEN → Type 0} → ((walk : LeafWalk K V LEN) → can walk)
+    → (way : Way) (s t : LeafWalk K V LEN) (r : Option (Bor K × Bor V)) → Steps way s r t → MakesProgress can (left_in_leaf way) s r t
 progress can way s t None steps = record { on = λ finite. tt; keeps = tt; rests = λ finite. tt }
-progress can way s t (Some entry) steps = record { on = λ finite. (can t, tt, rw steps.0 (fewer_left way (here s) s.at t.at (lent_entry entry) steps.1)); keeps = can t; rests = λ finite. tt }
+progress can way s t (Some entry) steps = record {
+  on =
+      λ finite. (can t, tt, rw steps.0 (fewer_left way (here s) s.at t.at (lent_entry entry) steps.1));
+  keeps = can t;
+  rests = λ finite. tt;
+}

@@ -39,7 +39,13 @@ module _ {K V : Type 0} {LEN : ℕ} (leaves : Slab (LeafOf K V LEN)) (way : Way)
     pub on : leaves_on way front back ≡ ids
 
   on_to : (id next : ℕ) (ids : List ℕ) → At id (next ∷ ids) → At next ids
-  on_to id next ids at = let to = onward way at.front id at.back [] next ids at.on in record { front = to.front; back = to.back; chain = rw to.stands at.chain; on = to.rest }
+  on_to id next ids at = let to = onward way at.front id at.back [] next ids at.on in record {
+    front = to.front;
+    back = to.back;
+    chain =
+        rw to.stands at.chain;
+    on = to.rest;
+  }
 
   module _ (id : ℕ) (ids : List ℕ) (at : At id ids) where
     used : IsSome (get leaves id)
@@ -83,7 +89,8 @@ module _ {K V : Type 0} {LEN : ℕ} (leaves : Slab (LeafOf K V LEN)) (way : Way)
   sum_is f zero id [] at few = refl
   sum_is f zero id (x ∷ ids) at few = absurd (omega arith)
   sum_is f (suc bound) id [] at few = refl
-  sum_is f (suc bound) id (x ∷ ids) at few = rw (beside_slot_is x ids (on_to id x ids at)) (ap (λ n. f x + n) (sum_is f bound x ids (on_to id x ids at) (omega arith)) ∙ sym (sum_by-cons f x ids))
+  sum_is f (suc bound) id (x ∷ ids) at few = rw (beside_slot_is x ids (on_to id x ids at))
+      (ap (λ n. f x + n) (sum_is f bound x ids (on_to id x ids at) (omega arith)) ∙ sym (sum_by-cons f x ids))
 
   -- how many links lead on
   pub hops_left : Option ℕ → ℕ
@@ -105,7 +112,8 @@ module _ {K V : Type 0} {LEN : ℕ} (leaves : Slab (LeafOf K V LEN)) (way : Way)
   sees start passed next ahead looked now = rw (looked, number_seen leaves next) (refl, now)
 
   -- before the first link no leaf is passed
-  pub none_passed : (front : List ℕ) (id : ℕ) (back : List ℕ) → IsChain leaves (front ++ id ∷ back) → (leaf : LeafOf K V LEN) → get leaves id ≡ Some leaf → Passed (leaves_on way front back) None (beside way leaf)
+  pub none_passed : (front : List ℕ) (id : ℕ) (back : List ℕ) → IsChain leaves (front ++ id ∷ back) → (leaf : LeafOf K V LEN) → get leaves id ≡ Some leaf
+      → Passed (leaves_on way front back) None (beside way leaf)
   none_passed front id back chain leaf here =
       let at : At id (leaves_on way front back) = record { front = front; back = back; chain = chain; on = refl } in
       record { id = id; left = leaves_on way front back; at = at; next_is = beside_is id _ at leaf here; same = refl }
@@ -123,7 +131,8 @@ module _ {K V : Type 0} {LEN : ℕ} (leaves : Slab (LeafOf K V LEN)) (way : Way)
     unfolding hops_left
     hops_fall leaf here =
         let all = sum_is (λ id. 1) (length leaves.slots) now.id (id ∷ opens.0) (rw opens.1 at now.at) (few now.id _ (rw opens.1 at now.at)) in
-        rw (beside_is id opens.0 opens.2 leaf here) (omega (arith, all, sum_by-cons (λ (n : ℕ). 1) id opens.0, sum_is (λ id. 1) (length leaves.slots) id opens.0 opens.2 (few id opens.0 opens.2)))
+        rw (beside_is id opens.0 opens.2 leaf here)
+        (omega (arith, all, sum_by-cons (λ (n : ℕ). 1) id opens.0, sum_is (λ id. 1) (length leaves.slots) id opens.0 opens.2 (few id opens.0 opens.2)))
 
   module _ (start : List ℕ) (passed : Option ℕ) (next : Beside) (now : Sees start passed (Some next)) where
     -- it lands in the leaf that it sees if that has an entry
@@ -137,7 +146,14 @@ module _ {K V : Type 0} {LEN : ℕ} (leaves : Slab (LeafOf K V LEN)) (way : Way)
     passes leaf here empty =
         let to = opens start passed next.id now.1 in
         let none : (length (leaf_entries leaves next.id) == 0) ≡ true = grind (arith, nat_tests, counted leaves next now.0) in
-        record { id = next.id; left = to.0; at = to.2; next_is = beside_is next.id to.0 to.2 leaf here; same = now.1.same ∙ ap (landing leaves passed) to.1 ∙ rw none refl }
+        record {
+          id = next.id;
+          left = to.0;
+          at = to.2;
+          next_is = beside_is next.id to.0 to.2 leaf here;
+          same =
+              now.1.same ∙ ap (landing leaves passed) to.1 ∙ rw none refl;
+        }
 
   -- at the end it lands in the last leaf
   pub lands_last : (start : List ℕ) (passed next : Option ℕ) → Passed start passed next → next ≡ None → passed ≡ landing leaves None start

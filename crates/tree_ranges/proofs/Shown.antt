@@ -1,20 +1,13 @@
 -- What the ends of a cursor stand on in its tree.
 use Rattle.std.proofs.Common.{◌≡◌, ◌⊎◌, ℕ, Bool, Option, Some, None, inl, inr, refl, sym, ◌∙◌, is_lt, Ordering}
-use Rattle.tree_model.proofs.Common.{IsTotalOrder, IsAscending, element_at}
-use Rattle.tree_node.proofs.Common.{get, TreeArenas, walk, IsRetiredRoot, IsTree, walk_under}
-use Rattle.tree_chain.proofs.Common.{LeafWalk}
-use Rattle.tree_chain.specs.Walks.{stood_on}
+use Rattle.tree_model.proofs.Common.{IsTotalOrder, Included, IsAscending, element_at, next_end, unopened}
+use Rattle.tree_ranges.proofs.Common.{EndStands, IsRetiredRoot, IsTree, Kept, LeafWalk, On, TreeArenas, are_apart, end_of, get, is_new, is_unopened, located, no_children, pair_of, placed_in, stood_on, walk, walk_ascends, walk_under}
 use Rattle.tree_node.specs.Tree.{Stands as PartStands}
 use Rattle.tree_node.specs.Whole.{IsTop}
-use Rattle.tree_node.proofs.Ascents.{walk_ascends}
-use Rattle.tree_node.proofs.Standing.{no_children}
-use Rattle.tree_model.specs.Cursor.{are_apart, is_unopened}
 use Rattle.tree_cursors.proofs.Places.{places_compare}
 use Rattle.tree_cursors.specs.declared.end.End.{End as TreeEnd}
 use Rattle.tree_cursors.specs.declared.end.End.TheVariants.{Unopened, At, Exhausted}
-use Rattle.tree_cursors.specs.View.{EndStands, Kept, end_of, pair_of}
-use Rattle.tree_cursors.proofs.Ends.{placed_in}
-use Rattle.tree_ranges.specs.Ranged.{is_new}
+use Rattle.tree_ranges.proofs.Nearest.{located_by, located_is}
 
 module _ {K V : Type 0} {LEN : ℕ} {cmp : K → K → Ordering} (a : TreeArenas K V LEN) (root : Option (ℕ × ℕ)) (tree : IsTree cmp a root) where
   pub pairs_ascend : IsTotalOrder cmp → IsAscending cmp (walk_under a root)
@@ -38,6 +31,12 @@ module _ {K V : Type 0} {LEN : ℕ} {cmp : K → K → Ordering} (a : TreeArenas
   new_is Unopened stands = refl
   new_is (At walk) stands = let at = placed_in a root tree walk stands in rw at.place_is refl
   new_is Exhausted stands = refl
+
+  -- where a key is, by the end that a search from the key on has come to
+  pub located_in : (o : IsTotalOrder cmp) (k : K) (first : TreeEnd (LeafWalk K V LEN)) → EndStands a root first
+      → end_of a root first ≡ next_end cmp On (Included k) (walk_under a root) unopened
+      → located_by cmp (walk_under a root) k (end_of a root first) (pair_of first) ≡ located cmp (walk_under a root) k
+  located_in o k first stands place = located_is o k (walk_under a root) (pairs_ascend o) (end_of a root first) place _ (element_is first stands)
 
 -- two walks are apart where their keys are in order
 pub apart_by_keys : {K V : Type 0} {LEN : ℕ} {cmp : K → K → Ordering} (o : IsTotalOrder cmp) (a : TreeArenas K V LEN) (root : Option (ℕ × ℕ)) (walk other : LeafWalk K V LEN) (result : Bool)

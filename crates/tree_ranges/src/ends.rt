@@ -1,9 +1,9 @@
 //! What a cursor asks its two ends.
-ghost use Rattle.std.specs.Prelude.{◌≡◌, is_some};
-ghost use Rattle.tree_model.specs.Cursor.{meets, option_where};
+ghost use Rattle.std.specs.Prelude.{◌≡◌, None, if◌then◌else◌, is_some};
+ghost use Rattle.tree_model.specs.Cursor.{are_apart, meets, option_where};
 ghost use Rattle.tree_model.specs.Pairs.{lent_bound};
 ghost use Rattle.tree_model.specs.Rest.{lent};
-ghost use Rattle.tree_cursors.specs.View.{pair_of};
+ghost use Rattle.tree_cursors.specs.View.{Kept, end_of, pair_of};
 ghost use Rattle.tree_ranges.specs.Beside.{is_at};
 ghost use Rattle.tree_ranges.specs.Ranged.{TellsApart, is_new};
 
@@ -37,6 +37,25 @@ pub fn are_apart<'t, K: Ord + Drop, V: Drop, const LEN: usize>(
     }
 }
 
+/// Returns the pair that an end has moved to, if the ends are apart and its key is within the bound at which the other end
+/// begins, which goes this way. Makes at most two comparisons. The caller must have ends that stand in one tree.
+#[inline(always)]
+pub fn if_apart<'t, K: Ord + Drop, V: Drop, T: EndWay, const LEN: usize>(
+    pair: Option<(&'t K, &'t V)>,
+    forward: &End<IterOf<'t, K, V, LEN>>,
+    backward: &End<RevIterOf<'t, K, V, LEN>>,
+    bound: Bound<&K>,
+) -> Option<(&'t K, &'t V)>
+    ensures { (arenas root : _) → Kept arenas root K.cmp forward.now backward.now → lent result
+        ≡ (if are_apart (end_of arenas root forward.now) (end_of arenas root backward.now)
+        then option_where (λ pair. meets K.cmp T.way (lent_bound bound.entry) pair.0) (lent pair.entry) else None) }
+{
+    if !are_apart(forward, backward) {
+        return None;
+    }
+    within::<K, V, T>(pair, bound)
+}
+
 /// Returns the pair that an end stands on, if its key is within the bound at which the other end begins. Makes at
 /// most one comparison.
 pub fn shown<'t, K: Ord + Drop, V: Drop, S: SlotWalk, T: EndWay, const LEN: usize>(
@@ -51,7 +70,7 @@ pub fn shown<'t, K: Ord + Drop, V: Drop, S: SlotWalk, T: EndWay, const LEN: usiz
 
 /// Returns a pair if its key is within the bound at which an end of this way begins. Makes at most one comparison.
 #[inline(always)]
-pub fn within<'t, K: Ord, V, T: EndWay>(
+fn within<'t, K: Ord, V, T: EndWay>(
     pair: Option<(&'t K, &'t V)>,
     bound: Bound<&K>,
 ) -> Option<(&'t K, &'t V)>

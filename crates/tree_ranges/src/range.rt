@@ -9,7 +9,7 @@ ghost use Rattle.tree_model.specs.Rest.{Moves, StandsInside, lent};
 ghost use Rattle.tree_cursors.specs.View.{Kept, end_of};
 ghost use Rattle.tree_ranges.specs.Ranged.{Flips, moves_left};
 
-use crate::ends::{again, are_apart, is_unopened, shown, turned, within};
+use crate::ends::{again, if_apart, is_unopened, shown, turned};
 use std::alloc::AllocError;
 use std::iter::FusedIterator;
 use std::marker::{Model, PhantomData};
@@ -209,10 +209,7 @@ impl<'t, K: Ord + Drop + 't, V: Drop + 't, const LEN: usize> RangeOver<
         ensures { (pair : _) × Moves K.cmp On self.old pair self.new × (result ≡ is_some pair) }
     {
         let pair = step(self.arenas, self.root, &mut self.forward, self.low);
-        if !are_apart(&self.forward, &self.backward) {
-            return false;
-        }
-        within::<K, V, ArrayRevIter>(pair, self.high).is_some()
+        if_apart::<K, V, ArrayRevIter, LEN>(pair, &self.forward, &self.backward, self.high).is_some()
     }
 
     /// Moves the backward end, as [`goes_elsewhere`](RangeOver::goes_elsewhere) moves the forward one.
@@ -221,10 +218,7 @@ impl<'t, K: Ord + Drop + 't, V: Drop + 't, const LEN: usize> RangeOver<
         ensures { (pair : _) × Moves K.cmp Back self.old pair self.new × (result ≡ is_some pair) }
     {
         let pair = step(self.arenas, self.root, &mut self.backward, self.high);
-        if !are_apart(&self.forward, &self.backward) {
-            return false;
-        }
-        within::<K, V, ArrayIter>(pair, self.low).is_some()
+        if_apart::<K, V, ArrayIter, LEN>(pair, &self.forward, &self.backward, self.low).is_some()
     }
 
     /// Opens both bounds, and keeps both ends.
@@ -256,10 +250,7 @@ impl<'t, K: Ord + Drop + 't, V: Drop + 't, const LEN: usize> Iterator
         let Some(pair) = step_in_leaf(&mut self.forward) else {
             return self.next_elsewhere();
         };
-        if !are_apart(&self.forward, &self.backward) {
-            return None;
-        }
-        within::<K, V, ArrayRevIter>(Some(pair), self.high)
+        if_apart::<K, V, ArrayRevIter, LEN>(Some(pair), &self.forward, &self.backward, self.high)
     }
 }
 
@@ -272,10 +263,7 @@ impl<'t, K: Ord + Drop + 't, V: Drop + 't, const LEN: usize> DoubleEndedIterator
         let Some(pair) = step_in_leaf(&mut self.backward) else {
             return self.next_back_elsewhere();
         };
-        if !are_apart(&self.forward, &self.backward) {
-            return None;
-        }
-        within::<K, V, ArrayIter>(Some(pair), self.low)
+        if_apart::<K, V, ArrayIter, LEN>(Some(pair), &self.forward, &self.backward, self.low)
     }
 }
 

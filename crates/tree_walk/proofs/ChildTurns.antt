@@ -1,10 +1,8 @@
 -- A walk over the slots of an array of children: the child at its place, and what holds of each.
 use Rattle.std.proofs.Common.{◌≡◌, ℕ, zero, suc, List, [], ◌∷◌, ◌++◌, map, drop, slice_get, Some, None, IsSome, refl, sym, ap, ◌∙◌}
 use Rattle.tree_model.proofs.Common.{AllByRecursion}
-use Rattle.tree_array.proofs.Common.{Arrivals, arrival, Walk}
-use Rattle.tree_node.proofs.Common.{in_turn}
+use Rattle.tree_walk.proofs.Common.{Arrivals, StepsOn, Walk, arrival, in_turn, place_ahead, standing}
 use Rattle.std.proofs.lemmas.Option.{slice_get-map}
-use Rattle.tree_array.specs.Walk.{StepsOn, place_ahead, standing}
 use Rattle.tree_chain.proofs.Steps.{same_place}
 use Rattle.tree_node.proofs.Lists.{all_middle}
 pub use Rattle.tree_walk.specs.Children.{IsOverKeyed, keyed_children}

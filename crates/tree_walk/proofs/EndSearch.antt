@@ -1,9 +1,7 @@
 -- A search through children in turn, either way, for the first leaf with an entry.
 use Rattle.std.proofs.Common.{◌≡◌, ℕ, ◌<◌, Bool, true, false, List, [], ◌∷◌, ◌++◌, length, reverse, Option, Some, None, is_some, refl, ap, ◌∙◌, append_assoc, IsTrue, arith, flat_map, append-nil}
 use Rattle.tree_model.proofs.Common.{AllByRecursion, reverse_onto, flat_map-append, along}
-use Rattle.tree_chain.proofs.Common.{Way, On, Back}
-use Rattle.tree_node.proofs.Common.{Slab, LeafOf, leaf_entries, entries_of}
-use Rattle.tree_walk.specs.Ends.{FindsFirst, IsFirstOn, passed}
+use Rattle.tree_walk.proofs.Common.{Back, FindsFirst, IsFirstOn, LeafOf, On, Slab, Way, entries_of, leaf_entries, passed}
 
 -- what comes first on the way, and then the rest, in the order of the keys
 abbrev joined : Way → List ℕ → List ℕ → List ℕ

@@ -1,12 +1,9 @@
 -- Where a walk of a part begins: in a leaf of the chain, at the first entry of the part on its way.
 use Rattle.std.proofs.Common.{◌≡◌, ℕ, suc, ◌+◌, ◌-◌, ◌<◌, List, [], ◌∷◌, ◌++◌, length, reverse, None, refl, sym, subst, arith, append_assoc, length-append, append-nil}
 use Rattle.tree_model.proofs.Common.{flat_map-append, reverse-append}
-use Rattle.tree_node.proofs.Common.{Slab, LeafOf, IsChain, leaf_entries, entries_of, TreeArenas, leaves_at}
-use Rattle.tree_chain.proofs.Common.{LeafWalk, standing, first_of, Way, On, Back}
+use Rattle.tree_walk.proofs.Common.{Back, BeginsPart, IsChain, IsFirstOn, IsLinked, LeafOf, LeafWalk, On, Slab, TreeArenas, Way, entries_of, first_along, first_of, leaf_entries, leaves_at, length-reverse, passed}
+use Rattle.tree_chain.proofs.Common.{standing}
 use Rattle.tree_chain.specs.Walks.{first_on}
-use Rattle.tree_chain.proofs.Along.{first_along}
-use Rattle.std.proofs.lemmas.List.{length-reverse}
-use Rattle.tree_walk.specs.Ends.{BeginsPart, IsFirstOn, IsLinked, passed}
 
 first-append : {X : Type 0} (xs ys : List X) → 0 < length xs → first_of xs ≡ first_of (xs ++ ys)
 first-append [] ys some = absurd (omega arith)
@@ -21,7 +18,8 @@ module _ {K V : Type 0} {LEN : ℕ} (leaves : Slab (LeafOf K V LEN)) where
           → first_on way (leaf_entries leaves id) ≡ first_on way (entries_of leaves is.front ++ (leaf_entries leaves id ++ entries_of leaves is.back))
       by_way On none = rw none (first-append (leaf_entries leaves id) (entries_of leaves is.back) is.entry)
       by_way Back none =
-          rw (none, append-nil (leaf_entries leaves id), first_along Back (leaf_entries leaves id), first_along Back (entries_of leaves is.front ++ leaf_entries leaves id), reverse-append (entries_of leaves is.front) (leaf_entries leaves id))
+          rw (none, append-nil (leaf_entries leaves id), first_along Back (leaf_entries leaves id),
+              first_along Back (entries_of leaves is.front ++ leaf_entries leaves id), reverse-append (entries_of leaves is.front) (leaf_entries leaves id))
           (first-append (reverse (leaf_entries leaves id)) (reverse (entries_of leaves is.front)) (rw length-reverse is.entry))
 
 -- a leaf of a part is in the chain of the part
@@ -31,5 +29,8 @@ leaf_in_chain level a id leaf front back parts linked =
     let grouped : linked.0 ++ (leaves_at level a.nodes id ++ linked.1) ≡ (linked.0 ++ front) ++ leaf ∷ (back ++ linked.1) = rw parts (simp append_assoc) in
     (linked.0 ++ front, back ++ linked.1, subst (IsChain a.leaves) grouped linked.2)
 
-pub begins_there : {K V : Type 0} {LEN : ℕ} (way : Way) (level : ℕ) (a : TreeArenas K V LEN) (id leaf : ℕ) → IsFirstOn way a.leaves (leaves_at level a.nodes id) leaf → (begun : LeafWalk K V LEN) → begun ≡ standing a.leaves leaf None → BeginsPart way level a id begun
-begins_there way level a id leaf is begun same = rw same (record { unopened = refl; leaf = is; entry = first_of_all a.leaves way (leaves_at level a.nodes id) leaf is })
+pub begins_there : {K V : Type 0} {LEN : ℕ} (way : Way) (level : ℕ) (a : TreeArenas K V LEN) (id leaf : ℕ)
+    → IsFirstOn way a.leaves (leaves_at level a.nodes id) leaf → (begun : LeafWalk K V LEN) → begun ≡ standing a.leaves leaf None
+        → BeginsPart way level a id begun
+begins_there way level a id leaf is begun same = rw same
+    (record { unopened = refl; leaf = is; entry = first_of_all a.leaves way (leaves_at level a.nodes id) leaf is })

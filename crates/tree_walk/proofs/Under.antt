@@ -1,15 +1,10 @@
 -- The leaves under a node are those under its children, each of which stands one level below it.
 use Rattle.std.proofs.Common.{◌≡◌, ℕ, zero, suc, ◌-◌, ◌<◌, List, [], Option, Some, None, inl, inr, refl, sym, ◌∙◌, arith, Ordering}
 use Rattle.tree_model.proofs.Common.{AllByRecursion, reverse-reverse, along}
-use Rattle.tree_chain.proofs.Common.{Way, On, Back}
-use Rattle.tree_array.proofs.Common.{all_map}
-use Rattle.tree_node.proofs.Common.{ContainsKey, get, TreeArenas, IsRetiredNode, StandsOrRetired, keyed, unbounded, leaves_at, leaves_of}
+use Rattle.tree_walk.proofs.Common.{Back, ContainsKey, IsRetiredNode, On, StandsOrRetired, TreeArenas, Way, all_along, all_children, all_map, get, keyed, leaves_at, leaves_of, no_leaves, over_leaves, over_nodes, unbounded}
 use Rattle.tree_node.specs.declared.branch.BranchOf.{BranchOf}
 use Rattle.tree_node.specs.declared.node.NodeOf.{NodeOf}
 use Rattle.tree_node.specs.declared.node.NodeOf.TheVariants.{Internal, Leaf}
-use Rattle.tree_chain.proofs.Along.{all_along}
-use Rattle.tree_node.proofs.ChildrenStand.{no_leaves, over_leaves, over_nodes}
-use Rattle.tree_walk.specs.Children.{all_children}
 
 along-twice : (way : Way) (ids : List ℕ) → along way (along way ids) ≡ ids
 along-twice On ids = refl
@@ -41,7 +36,8 @@ module _ {K V : Type 0} {LEN : ℕ} (cmp : K → K → Ordering) (a : TreeArenas
 
   -- those of a node with an unbounded child stand, and one without has none
   over : (below : ℕ) (Holds : ℕ → Type 0) (node : NodeOf K LEN) → get a.nodes id ≡ Some node → children ≡ along way (all_children (keyed node) (unbounded node))
-      → ((last : ℕ) → unbounded node ≡ Some last → (leaves_at level a.nodes id ≡ leaves_of below a.nodes (all_children (keyed node) (Some last))) × AllByRecursion Holds (all_children (keyed node) (Some last)))
+      → ((last : ℕ) → unbounded node ≡ Some last → (leaves_at level a.nodes id ≡ leaves_of below a.nodes
+          (all_children (keyed node) (Some last))) × AllByRecursion Holds (all_children (keyed node) (Some last)))
       → IsOver level a id below Holds way children
   over below Holds node here is stand = by_last (unbounded node) refl is
     where
@@ -52,7 +48,8 @@ module _ {K V : Type 0} {LEN : ℕ} (cmp : K → K → Ordering) (a : TreeArenas
       by_last (Some last) last_is is = turned level a id below Holds way _ children is (stand last last_is).0 (stand last last_is).1
 
   pub leaf_node_over : (node : BranchOf K ℕ LEN) → get a.nodes id ≡ Some (Leaf node) → children ≡ along way (all_children node.children node.unbounded_child) → IsOver level a id 0 (ContainsKey a.leaves) way children
-  leaf_node_over node here is = over 0 (ContainsKey a.leaves) (Leaf node) here is (λ last last_is. let there = over_leaves cmp a id level inner given node here last last_is in (there.leaves, there.there))
+  leaf_node_over node here is = over 0 (ContainsKey a.leaves) (Leaf node) here is
+      (λ last last_is. let there = over_leaves cmp a id level inner given node here last last_is in (there.leaves, there.there))
 
   pub node_over : (node : BranchOf K ℕ LEN) → get a.nodes id ≡ Some (Internal node) → children ≡ along way (all_children node.children node.unbounded_child) → IsOver level a id (level - 1) (StandsBelow level a cmp) way children
   node_over node here is =

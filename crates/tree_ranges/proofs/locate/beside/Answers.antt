@@ -1,6 +1,6 @@
 use Rattle.std.proofs.Common.{◌∙◌, ap, sym, rules, is_some}
-use Rattle.tree_cursors.specs.View.{Kept}
-use Rattle.tree_ranges.proofs.Nearest.{beside_none, beside_some}
+use Rattle.tree_ranges.proofs.Common.{Kept}
+use Rattle.tree_ranges.proofs.Nearest.{beside_is}
 use Rattle.tree_ranges.proofs.Shown.{element_is}
 use Rattle.tree_ranges.proofs.locate.beside.Goals as goal
 
@@ -12,10 +12,12 @@ standing-requires g c =
 
 pub returns-then-has_pair : goal.returns-then-has_pair
 returns-then-has_pair g c =
-    let some = ap is_some (element_is _ _ c.requires.tree _ c.end_before-before.ensures.stands) ∙ sym c.has_pair.ensures ∙ c.if-has_pair.true in
-    rw (c.standing.ensures, c.turned.ensures, c.turned-then-has_pair.ensures) (beside_some g.K.Ord.cmp _ _ _ c.end_before-before.ensures.place some)
+    let before = c.end_before-before.ensures in
+    let some = ap is_some (element_is _ _ c.requires.tree _ before.stands) ∙ sym c.has_pair.ensures ∙ c.if-has_pair.true in
+    rw (c.standing.ensures, c.turned.ensures, c.turned-then-has_pair.ensures) (beside_is g.K.Ord.cmp _ _ _ before.place _ some)
 
 pub returns-else-has_pair : goal.returns-else-has_pair
 returns-else-has_pair g c =
-    let none = ap is_some (element_is _ _ c.requires.tree _ c.end_before-before.ensures.stands) ∙ sym c.has_pair.ensures ∙ c.if-has_pair.false in
-    rw c.standing-else-has_pair.ensures (beside_none g.K.Ord.cmp _ _ _ c.end_before-before.ensures.place none)
+    let before = c.end_before-before.ensures in
+    let none = ap is_some (element_is _ _ c.requires.tree _ before.stands) ∙ sym c.has_pair.ensures ∙ c.if-has_pair.false in
+    rw c.standing-else-has_pair.ensures (beside_is g.K.Ord.cmp _ _ _ before.place _ none)

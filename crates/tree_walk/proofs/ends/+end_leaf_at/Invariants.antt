@@ -1,5 +1,5 @@
 use Rattle.std.proofs.Common.{◌-◌}
-use Rattle.tree_node.proofs.Common.{leaves_at}
+use Rattle.tree_walk.proofs.Common.{leaves_at}
 use Rattle.tree_walk.proofs.EndSearch.{IsSought}
 use Rattle.tree_walk.proofs.Under.{StandsBelow}
 use Rattle.tree_walk.proofs.ends.+end_leaf_at.Given as goal

@@ -1,5 +1,5 @@
 use Rattle.std.proofs.Common.{rules, refl, sym, ◌∙◌}
-use Rattle.tree_node.proofs.Common.{ContainsKey}
+use Rattle.tree_walk.proofs.Common.{ContainsKey}
 use Rattle.tree_walk.proofs.EndSearch.{begins, goes_on, holds, nowhere, stops}
 use Rattle.tree_walk.proofs.ends.end_of_leaves.Goals as goal
 

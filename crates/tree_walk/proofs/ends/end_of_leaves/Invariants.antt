@@ -1,5 +1,5 @@
 use Rattle.tree_model.proofs.Common.{along}
-use Rattle.tree_node.proofs.Common.{ContainsKey, leaves_at, leaves_of}
+use Rattle.tree_walk.proofs.Common.{ContainsKey, leaves_at, leaves_of}
 use Rattle.tree_walk.proofs.EndSearch.{IsSought}
 use Rattle.tree_walk.proofs.ends.end_of_leaves.Given as goal
 

@@ -1,5 +1,5 @@
 use Rattle.std.proofs.Common.{rules}
-use Rattle.tree_node.proofs.Common.{fits}
+use Rattle.tree_walk.proofs.Common.{fits}
 use Rattle.tree_walk.proofs.EndSearch.{alone_with, alone_without}
 use Rattle.tree_walk.proofs.ends.with_entry.Goals as goal
 

@@ -1,5 +1,5 @@
 use Rattle.std.proofs.Common.{refl}
-use Rattle.tree_node.proofs.Common.{fits}
+use Rattle.tree_walk.proofs.Common.{fits}
 use Rattle.tree_walk.proofs.leaves.array_of.Goals as goal
 
 pub leaf-requires : goal.leaf-requires

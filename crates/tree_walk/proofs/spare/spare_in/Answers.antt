@@ -1,7 +1,5 @@
 use Rattle.std.proofs.Common.{rules, ◌∙◌, arith, w8, sym}
-use Rattle.tree_array.proofs.Common.{len_small}
-use Rattle.tree_node.proofs.Common.{fits}
-use Rattle.std.proofs.Math.Facts.{Fits-of_lt}
+use Rattle.tree_walk.proofs.Common.{Fits-of_lt, fits, len_small}
 use Rattle.tree_walk.proofs.LeastFree.{spare_large, spare_small}
 use Rattle.tree_walk.proofs.spare.spare_in.Goals as goal
 

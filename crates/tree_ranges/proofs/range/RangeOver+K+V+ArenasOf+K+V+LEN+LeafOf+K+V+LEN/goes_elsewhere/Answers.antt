@@ -1,20 +1,7 @@
-use Rattle.std.proofs.Common.{None, refl}
-use Rattle.tree_model.specs.declared.way.Way.TheVariants.{On}
-use Rattle.tree_cursors.specs.View.{Kept, seen}
-use Rattle.tree_ranges.proofs.Moving.{hidden_if, moves_on, shown_if}
-use Rattle.tree_ranges.proofs.Shown.{element_is}
+use Rattle.tree_ranges.proofs.Moving.{moves_on}
 use Rattle.tree_ranges.proofs.range.RangeOver+K+V+ArenasOf+K+V+LEN+LeafOf+K+V+LEN.goes_elsewhere.Goals as goal
-
-pub returns-then-not-are_apart : goal.returns-then-not-are_apart
-returns-then-not-are_apart g c =
-    let kept : Kept c.self.inside.arenas.now c.self.inside.root g.K.Ord.cmp c.step-pair.new.end c.self.inside.backward =
-    record { tree = c.self.invariant.tree; forward_stands = c.step-pair.ensures.stands; backward_stands = c.self.invariant.backward_stands } in
-    let hides = hidden_if g.K.Ord.cmp On (seen c.self.inside.arenas.now c.self.inside.root c.self.inside.low c.self.inside.high c.step-pair.new.end c.self.inside.backward) c.are_apart.result (c.are_apart.ensures _ _ kept) c.if-not-are_apart.true in
-    rw (← c.self.view_is) (None, moves_on g.met.K.Ord.total _ _ _ _ None _ _ _ c.self.invariant c.step-pair.ensures.place hides, refl)
 
 pub returns : goal.returns
 returns g c =
-    let kept : Kept c.self.inside.arenas.now c.self.inside.root g.K.Ord.cmp c.step-pair.new.end c.self.inside.backward =
-    record { tree = c.self.invariant.tree; forward_stands = c.step-pair.ensures.stands; backward_stands = c.self.invariant.backward_stands } in
-    let shows = shown_if g.K.Ord.cmp On (seen c.self.inside.arenas.now c.self.inside.root c.self.inside.low c.self.inside.high c.step-pair.new.end c.self.inside.backward) c.within.result c.are_apart.result (c.are_apart.ensures _ _ kept) c.if-not-are_apart.false (rw (element_is _ _ c.self.invariant.tree _ c.step-pair.ensures.stands, ← c.step-pair.ensures.pair) c.within.ensures) in
-    rw (← c.self.view_is) (c.within.result, moves_on g.met.K.Ord.total _ _ _ _ _ _ _ _ c.self.invariant c.step-pair.ensures.place shows, c.is_some.ensures)
+    let went = c.step-pair.ensures in
+    rw (← c.self.view_is) (c.if_apart.result, moves_on g.met.K.Ord.total _ _ _ _ _ _ _ c.self.invariant _ _ went.stands went.pair went.place (c.if_apart.ensures _ _), c.is_some.ensures)
