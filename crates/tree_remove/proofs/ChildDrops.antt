@@ -22,7 +22,8 @@ use Rattle.tree_remove.proofs.ChildSides.{HasSides, sides_at, past_all}
 use Rattle.tree_remove.proofs.Descents.{ChildIn}
 use Rattle.tree_remove.proofs.NodeRemovals.{taken_between}
 
-module _ {K V : Type 0} {LEN : ℕ} {cmp : K → K → Ordering} (o : IsTotalOrder cmp) (Says : V → Bool → Type 0) (level : ℕ) (old mid new : TreeArenas K V LEN) (id child : ℕ) (key : K) (slot : Option ℕ)
+module _ {K V : Type 0} {LEN : ℕ} {cmp : K → K → Ordering} (o : IsTotalOrder cmp) (Says : V → Bool → Type 0) (level : ℕ) (old mid new : TreeArenas K V LEN)
+    (id child : ℕ) (key : K) (slot : Option ℕ)
     (at : ChildIn cmp level old id child key slot) (removes : RemovesUnder cmp Says level old mid child Retired key) where
   abbrev st : Stands cmp (suc level) old None id None
   st = at.part.stands
@@ -53,13 +54,15 @@ module _ {K V : Type 0} {LEN : ℕ} {cmp : K → K → Ordering} (o : IsTotalOrd
           same_walks level old new front s.fronts,
           same_walks level old new back s.backs,
         )
-        (taken_between o Says key _ _ [] _ (front_walk_below o level old None id None st key) (back_walk_above o level old None id None st key) (rw removes.pairs.1 at removes.pairs.0))
+        (taken_between o Says key _ _ [] _ (front_walk_below o level old None id None st key) (back_walk_above o level old None id None st key)
+            (rw removes.pairs.1 at removes.pairs.0))
 
     more_room : spare (suc level) old id ≤ spare (suc level) new id
     more_room =
         let whole = spare_split level old id front (child ∷ []) back s.was in
         let rest = spare_split level new id front [] back s.now in
-        omega (arith, whole, rest, spares-single level old child, spare_le level old child, spares_same level old new front s.fronts, spares_same level old new back s.backs)
+        omega (arith, whole, rest, spares-single level old child, spare_le level old child, spares_same level old new front s.fronts,
+            spares_same level old new back s.backs)
 
     stands_on : KeepsBounds cmp (suc level) old new id → RemovesUnder cmp Says (suc level) old new id Success key
     stands_on keeps = record { pairs = takes; leaves = keeps; replaces = s.replaces; spare = more_room }
@@ -69,7 +72,8 @@ module _ {K V : Type 0} {LEN : ℕ} {cmp : K → K → Ordering} (o : IsTotalOrd
   keyed_dropped at_slot is drops =
       let place = rw is at at.place in
       let r = replaces_trans level old mid drops.between (child ∷ []) (child ∷ []) [] removes.replaces drops.dropped in
-      let split : HasSides cmp key (keyed st.node).entries st.last (place.0, child) = sides_at cmp key (keyed st.node).entries st.last (place.0, child) place.2 in
+      let split : HasSides cmp key (keyed st.node).entries st.last (place.0, child) = sides_at cmp key (keyed st.node).entries st.last (place.0, child)
+            place.2 in
       let above = node_stays level old id at.part front child back were drops.between [] r in
       let loses = loses_keyed o level old drops.between new id child at_slot st above drops.takes place.0 split.before split.after split.pairs_are place.1 in
       let s : Siblings level old new id front (child ∷ []) [] back =
@@ -83,7 +87,8 @@ module _ {K V : Type 0} {LEN : ℕ} {cmp : K → K → Ordering} (o : IsTotalOrd
 
     node_was : drops.takes.node ≡ st.node
     node_was =
-        let both : Some drops.takes.node ≡ Some st.node = sym drops.takes.was ∙ node_stays level old id at.part front child back were drops.between [] r ∙ st.here in
+        let both : Some drops.takes.node ≡ Some st.node = sym drops.takes.was ∙ node_stays level old id at.part front child back were drops.between [] r
+              ∙ st.here in
         cc
 
     past : (front ≡ map (λ c. c.1) (keyed st.node).entries) × (back ≡ [])
@@ -100,7 +105,8 @@ module _ {K V : Type 0} {LEN : ℕ} {cmp : K → K → Ordering} (o : IsTotalOrd
         let x = moves.1 in
         let before = moves.2 in
         let pairs_are = moves.3 in
-        let parted_at : (low high : Option K) → Stands cmp (suc level) old low id high → AreParted cmp (Stands cmp level old) low (before ++ (separator, x) ∷ []) st.last high = λ low high s.
+        let parted_at : (low high : Option K) → Stands cmp (suc level) old low id high → AreParted cmp (Stands cmp level old) low
+              (before ++ (separator, x) ∷ []) st.last high = λ low high s.
             let node : s.node ≡ st.node = node_is level old low id high s st.node st.here in
             let both : Some s.last ≡ Some st.last = sym s.last_is ∙ ap unbounded node ∙ st.last_is in
             let last : s.last ≡ st.last = cc in
@@ -120,7 +126,8 @@ module _ {K V : Type 0} {LEN : ℕ} {cmp : K → K → Ordering} (o : IsTotalOrd
           few = rw left_are (omega (arith, st.few, ap length pairs_are, length-append before ((separator, x) ∷ [])));
           parted = rw left_are
               (parted_map cmp (Stands cmp level old) (Stands cmp level new) low before x high each
-              (parted_moved o (Stands cmp level old) (λ low id s high over t. stands_higher o level old low id s high over t) low before separator x st.last high (parted_at low high now)));
+              (parted_moved o (Stands cmp level old) (λ low id s high over t. stands_higher o level old low id s high over t) low before separator x
+                  st.last high (parted_at low high now)));
         })
 
     -- or was the only one, and the node is retired
@@ -143,7 +150,8 @@ module _ {K V : Type 0} {LEN : ℕ} {cmp : K → K → Ordering} (o : IsTotalOrd
   last_dropped is Retired drops = last_gone is drops (rw (node_was is drops) at drops.takes.moves)
   last_dropped is Fail drops = absurd drops.takes.moves
 
-module _ {K V : Type 0} {LEN : ℕ} {cmp : K → K → Ordering} (o : IsTotalOrder cmp) (Says : V → Bool → Type 0) {level : ℕ} {old mid new : TreeArenas K V LEN} {id child : ℕ} {key : K} where
+module _ {K V : Type 0} {LEN : ℕ} {cmp : K → K → Ordering} (o : IsTotalOrder cmp) (Says : V → Bool → Type 0) {level : ℕ} {old mid new : TreeArenas K V LEN}
+    {id child : ℕ} {key : K} where
   pub keyed_goes : {slot : Option ℕ} {place : ℕ} → ChildIn cmp level old id child key slot → RemovesUnder cmp Says level old mid child Retired key
       → slot ≡ Some place → DropsKeyed cmp level mid new id child place → RemovesUnder cmp Says (suc level) old new id Success key
   keyed_goes {slot} {place} at removes is drops = keyed_dropped o Says level old mid new id child key slot at removes place is drops

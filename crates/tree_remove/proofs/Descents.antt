@@ -27,7 +27,8 @@ module _ {K : Type 0} {LEN : ℕ} (cmp : K → K → Ordering) (key : K) (child 
   slot_there (Some slot) node place = rw place.1 refl
 
 -- a part, and its child in a slot or at the end
-pub record ChildIn {K V : Type 0} {LEN : ℕ} (cmp : K → K → Ordering) (level : ℕ) (a : TreeArenas K V LEN) (id child : ℕ) (key : K) (slot : Option ℕ) : Type 0 where
+pub record ChildIn {K V : Type 0} {LEN : ℕ} (cmp : K → K → Ordering) (level : ℕ) (a : TreeArenas K V LEN) (id child : ℕ) (key : K)
+    (slot : Option ℕ) : Type 0 where
   pub part : IsPart cmp (suc level) a id
   pub which : HasChildFor cmp key (get a.nodes id) child
   pub place : IsChildAt cmp key (keyed part.stands.node) (unbounded part.stands.node) child slot
@@ -38,7 +39,8 @@ module _ {K V : Type 0} {LEN : ℕ} {cmp : K → K → Ordering} where
   child_in {level} {a} {id} {node} child key slot part here place =
       record { part = part; which = rw here (goes_to cmp key child slot node place); place = rw (node_is level a None id None part.stands node here) place }
 
-module _ {K V : Type 0} {LEN : ℕ} {cmp : K → K → Ordering} (o : IsTotalOrder cmp) {level : ℕ} {a : TreeArenas K V LEN} {id child : ℕ} {key : K} {slot : Option ℕ} where
+module _ {K V : Type 0} {LEN : ℕ} {cmp : K → K → Ordering} (o : IsTotalOrder cmp) {level : ℕ} {a : TreeArenas K V LEN} {id child : ℕ} {key : K}
+    {slot : Option ℕ} where
   -- the child is a part itself
   pub part_below : ChildIn cmp level a id child key slot → IsPart cmp level a child
   part_below at = child_part o level a id child key at.part at.which None None at.part.stands

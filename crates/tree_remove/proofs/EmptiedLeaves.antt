@@ -53,7 +53,8 @@ module _ {K V : Type 0} {LEN : ℕ} (cmp : K → K → Ordering) where
     pub goes : (mid new : TreeArenas K V LEN) (result : RemoveResult) → RemovesUnder cmp surely lower before mid child Retired key
         → ((below : ℕ) → DropsChild cmp (suc below) mid new id child slot result) → RemovesUnder cmp surely level before new id result key
 
-module _ {K V : Type 0} {LEN : ℕ} {cmp : K → K → Ordering} (o : IsTotalOrder cmp) {level : ℕ} {before now : TreeArenas K V LEN} {id : ℕ} {key : K} (deep : 0 < level) (e : Emptied cmp level before now id key) where
+module _ {K V : Type 0} {LEN : ℕ} {cmp : K → K → Ordering} (o : IsTotalOrder cmp) {level : ℕ} {before now : TreeArenas K V LEN} {id : ℕ} {key : K}
+    (deep : 0 < level) (e : Emptied cmp level before now id key) where
   -- the nodes are as they were
   node_same : get now.nodes id ≡ get before.nodes id
   node_same = e.removes.replaces.nodes_kept id (node_used level deep before id (inl e.way.0)) (times-nil id)
@@ -113,7 +114,8 @@ module _ {K V : Type 0} {LEN : ℕ} {cmp : K → K → Ordering} (o : IsTotalOrd
           })
 
 -- the leaf of a key lost its last pair, of which some condition said so
-pub emptied_by : {K V : Type 0} {LEN : ℕ} {cmp : K → K → Ordering} {Says : V → Bool → Type 0} {level : ℕ} {before now : TreeArenas K V LEN} {id leaf : ℕ} {key : K} (node : ℕ) → LeadsTo cmp key level before id node leaf → RemovesUnder cmp Says 0 before now leaf Retired key → Emptied cmp level before now id key
+pub emptied_by : {K V : Type 0} {LEN : ℕ} {cmp : K → K → Ordering} {Says : V → Bool → Type 0} {level : ℕ} {before now : TreeArenas K V LEN} {id leaf : ℕ}
+    {key : K} (node : ℕ) → LeadsTo cmp key level before id node leaf → RemovesUnder cmp Says 0 before now leaf Retired key → Emptied cmp level before now id key
 emptied_by {leaf = leaf} node leads r =
     let out = r.pairs.0 in
     record {
@@ -129,7 +131,8 @@ emptied_by {leaf = leaf} node leads r =
     }
 
 -- what surely goes is what the condition said so of
-module _ {K V : Type 0} {LEN : ℕ} (cmp : K → K → Ordering) (Says : V → Bool → Type 0) (level : ℕ) (before now : TreeArenas K V LEN) (id : ℕ) (key : K) (pair : K × V)
+module _ {K V : Type 0} {LEN : ℕ} (cmp : K → K → Ordering) (Says : V → Bool → Type 0) (level : ℕ) (before now : TreeArenas K V LEN) (id : ℕ) (key : K)
+    (pair : K × V)
     (found : pair_at cmp (walk level before id) key ≡ Some pair) (says : Says pair.1 true) where
   as_said : {left : List (K × V)} → TakesOut cmp surely (walk level before id) key left → TakesOut cmp Says (walk level before id) key left
   as_said t =

@@ -43,7 +43,8 @@ module _ {K : Type 0} {cmp : K → K → Ordering} (o : IsTotalOrder cmp) (key a
     pub leads_alike : (level id node leaf : ℕ) → LeadsTo cmp key level a id node leaf → LeadsTo cmp alike level a id node leaf
     leads_alike level id node leaf leads = (leads.0, way_alike (level - 1) id node leads.1, which_alike (get a.nodes node) leaf leads.2)
 
-module _ {K V : Type 0} {LEN : ℕ} {cmp : K → K → Ordering} (o : IsTotalOrder cmp) (a : TreeArenas K V LEN) (key : K) (level : ℕ) (deep : 0 < level) (id : ℕ) where
+module _ {K V : Type 0} {LEN : ℕ} {cmp : K → K → Ordering} (o : IsTotalOrder cmp) (a : TreeArenas K V LEN) (key : K) (level : ℕ) (deep : 0 < level)
+    (id : ℕ) where
   -- what is retired has no key
   pub absent_retired : IsRetired level a id → IsAbsent cmp (walk level a id) key
   absent_retired retired = rw (walk-retired level a id retired) refl
@@ -72,19 +73,24 @@ leaf_stored None slot pair h = absurd (cc)
 leaf_stored (Some leaf) slot pair h = refl
 
 -- the pair of a slot is taken out of its leaf
-pub slot_takes : {K V : Type 0} {LEN : ℕ} {cmp : K → K → Ordering} (a : TreeArenas K V LEN) (id slot : ℕ) {leaf : LeafOf K V LEN} {array : Arrivals K V} {result : RemoveResult} {pair taken : K × V} → get a.leaves id ≡ Some leaf → stored_at (get a.leaves id) slot ≡ Some pair → pair_at cmp (walk 0 a id) pair.0 ≡ Some pair → arrival leaf.array.arrivals slot ≡ Some taken → array ≡ removed cmp leaf.array taken.0 → result ≡ removal_of array → Takes cmp surely leaf.array array taken.0 result
+pub slot_takes : {K V : Type 0} {LEN : ℕ} {cmp : K → K → Ordering} (a : TreeArenas K V LEN) (id slot : ℕ) {leaf : LeafOf K V LEN} {array : Arrivals K V}
+    {result : RemoveResult} {pair taken : K × V} → get a.leaves id ≡ Some leaf → stored_at (get a.leaves id) slot ≡ Some pair
+    → pair_at cmp (walk 0 a id) pair.0 ≡ Some pair → arrival leaf.array.arrivals slot ≡ Some taken → array ≡ removed cmp leaf.array taken.0
+    → result ≡ removal_of array → Takes cmp surely leaf.array array taken.0 result
 slot_takes a id slot {leaf} {pair = pair} {taken = taken} here stored found there left answer =
     let both : Some pair ≡ Some taken = sym (rw here at stored) ∙ there in
     let same : pair ≡ taken = cc in
     record { pair = taken; found = rw (walk-leaf a id leaf here, same) at found; says = refl; taken = left; answer = answer }
 
 -- an entry is taken out of its leaf
-module _ {K V : Type 0} {LEN : ℕ} {cmp : K → K → Ordering} (o : IsTotalOrder cmp) {level : ℕ} {before : TreeArenas K V LEN} {id leaf slot : ℕ} {pair : K × V} (deep : 0 < level)
+module _ {K V : Type 0} {LEN : ℕ} {cmp : K → K → Ordering} (o : IsTotalOrder cmp) {level : ℕ} {before : TreeArenas K V LEN} {id leaf slot : ℕ} {pair : K × V}
+    (deep : 0 < level)
     (entry : IsEntry cmp level before id leaf slot pair) where
   pub found_in_leaf : pair_at cmp (walk 0 before leaf) pair.0 ≡ Some pair
   found_in_leaf = sym (found_on_way o before pair.0 leaf level deep id entry.node entry.way.0 entry.way.1 entry.way.2) ∙ entry.found
 
-  module _ {now : TreeArenas K V LEN} {taken : K × V} {result : RemoveResult} (stored : stored_at (get before.leaves leaf) slot ≡ Some taken) (removes : RemovesUnder cmp surely 0 before now leaf result taken.0) where
+  module _ {now : TreeArenas K V LEN} {taken : K × V} {result : RemoveResult} (stored : stored_at (get before.leaves leaf) slot ≡ Some taken)
+      (removes : RemovesUnder cmp surely 0 before now leaf result taken.0) where
     leads : LeadsTo cmp taken.0 level before id entry.node leaf
     leads =
         let both : Some pair ≡ Some taken = sym entry.stored ∙ stored in

@@ -25,7 +25,8 @@ taken_between o Says key front old new back smaller larger takes = record {
   left = rw (without_between o key front old back smaller larger, takes.left) refl;
 }
 
-module _ {K V : Type 0} {LEN : ℕ} {cmp : K → K → Ordering} (o : IsTotalOrder cmp) (Says : V → Bool → Type 0) {level : ℕ} {old : TreeArenas K V LEN} {id : ℕ} (child : ℕ) (key : K)
+module _ {K V : Type 0} {LEN : ℕ} {cmp : K → K → Ordering} (o : IsTotalOrder cmp) (Says : V → Bool → Type 0) {level : ℕ} {old : TreeArenas K V LEN} {id : ℕ}
+    (child : ℕ) (key : K)
     (part : IsPart cmp (suc level) old id) (which : HasChildFor cmp key (get old.nodes id) child) where
   abbrev st : Stands cmp (suc level) old None id None
   st = part.stands
@@ -37,7 +38,8 @@ module _ {K V : Type 0} {LEN : ℕ} {cmp : K → K → Ordering} (o : IsTotalOrd
     pairs = pairs;
     leaves = leaves;
     replaces = node_replaces o level old id child key part which None None st new r;
-    spare = omega (arith, old_spare o level old id child key part which None None st new r, new_spare o level old id child key part which None None st new r, spares);
+    spare = omega (arith, old_spare o level old id child key part which None None st new r, new_spare o level old id child key part which None None st new r,
+        spares);
   }
 
   -- the child lost the pair, and stands
@@ -59,7 +61,8 @@ module _ {K V : Type 0} {LEN : ℕ} {cmp : K → K → Ordering} (o : IsTotalOrd
       let r = removes.replaces in
       above {result = Fail} r removes.spare
       (rw (old_walk o level old id child key part which None None st new r, new_walk o level old id child key part which None None st new r) (
-        λ pair is. removes.pairs.0 pair (sym (found_between o key _ _ _ (front_walk_below o level old None id None st key) (back_walk_above o level old None id None st key)) ∙ is),
+        λ pair is. removes.pairs.0 pair (sym (found_between o key _ _ _ (front_walk_below o level old None id None st key)
+            (back_walk_above o level old None id None st key)) ∙ is),
         rw removes.pairs.1 refl,
       ))
       removes.leaves

@@ -21,7 +21,8 @@ module _ {K V : Type 0} {LEN : ℕ} {cmp : K → K → Ordering} (o : IsTotalOrd
       → pair_at cmp (walk (suc steps) a id) key ≡ pair_at cmp (walk 0 a leaf) key
   found zero id node part way which = found_in_child o 0 a None id None part.stands key leaf (rw way which)
   found (suc steps) id node part way which =
-      found_in_child o (suc steps) a None id None part.stands key way.0 way.1 ∙ found steps way.0 node (child_part o (suc steps) a id way.0 key part way.1 None None part.stands) way.2 which
+      found_in_child o (suc steps) a None id None part.stands key way.0 way.1 ∙ found steps way.0 node
+          (child_part o (suc steps) a id way.0 key part way.1 None None part.stands) way.2 which
 
   -- the leaf has the pair that the part has
   pub found_on_way : (level : ℕ) → 0 < level → (id node : ℕ) → IsPart cmp level a id → IsOnWay cmp key (level - 1) a id node
@@ -38,7 +39,9 @@ module _ {K V : Type 0} {LEN : ℕ} {cmp : K → K → Ordering} (o : IsTotalOrd
       child_part o 0 a node leaf key over which None None over.stands
 
 -- a leaf of two pairs or more has one left
-pub not_emptied : {K V : Type 0} {LEN : ℕ} {cmp : K → K → Ordering} (o : IsTotalOrder cmp) {Says : V → Bool → Type 0} {old new : TreeArenas K V LEN} {key : K} {leaf : ℕ} → IsPart cmp 0 old leaf → 1 < length (walk 0 old leaf) → RemovesUnder cmp Says 0 old new leaf Retired key → ⊥
+pub not_emptied : {K V : Type 0} {LEN : ℕ} {cmp : K → K → Ordering} (o : IsTotalOrder cmp) {Says : V → Bool → Type 0}
+    {old new : TreeArenas K V LEN} {key : K} {leaf : ℕ} → IsPart cmp 0 old leaf → 1 < length (walk 0 old leaf)
+    → RemovesUnder cmp Says 0 old new leaf Retired key → ⊥
 not_emptied {cmp = cmp} o {old = old} {key = key} {leaf = leaf} part many removes =
     let s : Stands cmp 0 old None leaf None = part.stands in
     let ascending : IsAscending cmp (walk 0 old leaf) = rw (walk-leaf old leaf s.leaf s.here) s.ascending in
@@ -46,7 +49,8 @@ not_emptied {cmp = cmp} o {old = old} {key = key} {leaf = leaf} part many remove
     let none : without cmp (walk 0 old leaf) key ≡ [] = sym removes.pairs.0.left ∙ removes.pairs.1 in
     omega (arith, many, rw none at one)
 
-module _ {K V : Type 0} {LEN : ℕ} {cmp : K → K → Ordering} (o : IsTotalOrder cmp) (Says : V → Bool → Type 0) {old new : TreeArenas K V LEN} {key : K} {leaf : ℕ} {result : RemoveResult}
+module _ {K V : Type 0} {LEN : ℕ} {cmp : K → K → Ordering} (o : IsTotalOrder cmp) (Says : V → Bool → Type 0) {old new : TreeArenas K V LEN} {key : K}
+    {leaf : ℕ} {result : RemoveResult}
     (stays : result ≡ Retired → ⊥) (removes : RemovesUnder cmp Says 0 old new leaf result key) where
   on_way : (steps : ℕ) (id node : ℕ) → IsPart cmp (suc steps) old id → IsOnWay cmp key steps old id node → HasChildFor cmp key (get old.nodes node) leaf
       → RemovesUnder cmp Says (suc steps) old new id result key

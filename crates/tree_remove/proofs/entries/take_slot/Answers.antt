@@ -17,7 +17,8 @@ returns g c =
     let read : c.leaf.result.now ≡ c.leaf_mut.result.now = cc in
     let none_retired = rw (c.array.ensures, read) at c.free.ensures.sound.none_retired in
     let taken = rw c.array_mut.ensures.value at c.take.ensures in
-    let takes = slot_takes c.args.arenas.now c.args.place.leaf c.args.place.slot c.leaf_mut.ensures.value c.requires.1 c.requires.2 taken.pair taken.left taken.answer in
+    let takes = slot_takes c.args.arenas.now c.args.place.leaf c.args.place.slot c.leaf_mut.ensures.value c.requires.1 c.requires.2 taken.pair taken.left
+          taken.answer in
     record {
       taken = rw c.leaf_mut.ensures.value taken.pair;
       removes = removes_in_leaf g.met.K.Ord.total surely c.args.arenas.now c.args.place.leaf _ _ _ _ c.leaf_mut.ensures.value none_retired (inr takes);

@@ -8,7 +8,8 @@ pub leaf_mut-requires : goal.leaf_mut-requires
 leaf_mut-requires g c = (search fits, (search fits, c.requires.there))
 
 pub remove_if-requires : goal.remove_if-requires
-remove_if-requires g c = (search fits, rw c.array_mut.ensures.value (rw (walk-leaf c.args.arenas.now c.args.id c.leaf_mut.result.now c.leaf_mut.ensures.value) at c.requires.callable))
+remove_if-requires g c = (search fits, rw c.array_mut.ensures.value (rw (walk-leaf c.args.arenas.now c.args.id c.leaf_mut.result.now
+    c.leaf_mut.ensures.value) at c.requires.callable))
 
 pub returns : goal.returns
 returns g c =
@@ -17,6 +18,7 @@ returns g c =
     let read : c.leaf.result.now ≡ c.leaf_mut.result.now = cc in
     let none_retired = rw (c.array.ensures, read) at c.free.ensures.sound.none_retired in
     record {
-      removes = removes_in_leaf g.met.K.Ord.total _ c.args.arenas.now c.args.id _ _ _ _ c.leaf_mut.ensures.value none_retired (told _ _ _ _ _ _ asked.absent asked.present);
+      removes = removes_in_leaf g.met.K.Ord.total _ c.args.arenas.now c.args.id _ _ _ _ c.leaf_mut.ensures.value none_retired
+          (told _ _ _ _ _ _ asked.absent asked.present);
       settled = leaf_settled g.met.K.Ord.total _ c.args.arenas.now c.args.id _ _ _ _ c.leaf_mut.ensures.value (told _ _ _ _ _ _ asked.absent asked.present);
     }
