@@ -1,10 +1,10 @@
 -- A child that lost its last pair is dropped and taken out of its node: what that makes of the part under the node.
-use Rattle.std.proofs.Common.{◌≡◌, ◌≤◌, ℕ, suc, Bool, List, [], ◌∷◌, ◌++◌, map, Option, Some, None, refl, sym, ap, ◌∙◌, arith, length, length-append, flat_map, Ordering, append-nil}
+use Rattle.std.proofs.Common.{◌≡◌, ◌≤◌, ℕ, suc, Bool, List, [], ◌∷◌, ◌++◌, map, Option, Some, None, refl, sym, ap, ◌∙◌, arith, length, length-append, Ordering, append-nil}
 use Rattle.tree_model.proofs.Common.{AllByRecursion, IsTotalOrder, tied_itself, map-append, flat_map-append}
 use Rattle.tree_array.proofs.Common.{Arrivals, all-append}
 use Rattle.tree_array.specs.declared.answers.RemoveResult.{RemoveResult}
 use Rattle.tree_array.specs.declared.answers.RemoveResult.TheVariants.{Success, Retired, Fail}
-use Rattle.tree_node.proofs.Common.{get, TreeArenas, KeepsBounds, Replaces, AreParted, Stands, spare, back_at, children_of, front_at, is_from, keyed, unbounded, walk}
+use Rattle.tree_node.proofs.Common.{TreeArenas, KeepsBounds, Replaces, AreParted, Stands, spare, back_at, children_of, front_at, is_from, keyed, unbounded, walk}
 use Rattle.tree_node.specs.Changes.{MovesLast}
 use Rattle.tree_clean_up.specs.CleanUps.{DropsChild, DropsKeyed, DropsUnbounded}
 use Rattle.tree_clean_up.proofs.Siblings.{Siblings, loses_keyed, same_walks, siblings, still_stand}
@@ -55,14 +55,21 @@ module _ {K V : Type 0} {LEN : ℕ} {cmp : K → K → Ordering} (o : IsTotalOrd
           same_walks level old new back s.backs,
         )
         (taken_between o Says key _ _ [] _ (front_walk_below o level old None id None st key) (back_walk_above o level old None id None st key)
-            (rw removes.pairs.1 at removes.pairs.0))
+        (rw removes.pairs.1 at removes.pairs.0))
 
     more_room : spare (suc level) old id ≤ spare (suc level) new id
     more_room =
         let whole = spare_split level old id front (child ∷ []) back s.was in
         let rest = spare_split level new id front [] back s.now in
-        omega (arith, whole, rest, spares-single level old child, spare_le level old child, spares_same level old new front s.fronts,
-            spares_same level old new back s.backs)
+        omega (
+          arith,
+          whole,
+          rest,
+          spares-single level old child,
+          spare_le level old child,
+          spares_same level old new front s.fronts,
+          spares_same level old new back s.backs,
+        )
 
     stands_on : KeepsBounds cmp (suc level) old new id → RemovesUnder cmp Says (suc level) old new id Success key
     stands_on keeps = record { pairs = takes; leaves = keeps; replaces = s.replaces; spare = more_room }
@@ -73,7 +80,7 @@ module _ {K V : Type 0} {LEN : ℕ} {cmp : K → K → Ordering} (o : IsTotalOrd
       let place = rw is at at.place in
       let r = replaces_trans level old mid drops.between (child ∷ []) (child ∷ []) [] removes.replaces drops.dropped in
       let split : HasSides cmp key (keyed st.node).entries st.last (place.0, child) = sides_at cmp key (keyed st.node).entries st.last (place.0, child)
-            place.2 in
+      place.2 in
       let above = node_stays level old id at.part front child back were drops.between [] r in
       let loses = loses_keyed o level old drops.between new id child at_slot st above drops.takes place.0 split.before split.after split.pairs_are place.1 in
       let s : Siblings level old new id front (child ∷ []) [] back =
@@ -88,7 +95,7 @@ module _ {K V : Type 0} {LEN : ℕ} {cmp : K → K → Ordering} (o : IsTotalOrd
     node_was : drops.takes.node ≡ st.node
     node_was =
         let both : Some drops.takes.node ≡ Some st.node = sym drops.takes.was ∙ node_stays level old id at.part front child back were drops.between [] r
-              ∙ st.here in
+        ∙ st.here in
         cc
 
     past : (front ≡ map (λ c. c.1) (keyed st.node).entries) × (back ≡ [])
@@ -106,14 +113,14 @@ module _ {K V : Type 0} {LEN : ℕ} {cmp : K → K → Ordering} (o : IsTotalOrd
         let before = moves.2 in
         let pairs_are = moves.3 in
         let parted_at : (low high : Option K) → Stands cmp (suc level) old low id high → AreParted cmp (Stands cmp level old) low
-              (before ++ (separator, x) ∷ []) st.last high = λ low high s.
-            let node : s.node ≡ st.node = node_is level old low id high s st.node st.here in
-            let both : Some s.last ≡ Some st.last = sym s.last_is ∙ ap unbounded node ∙ st.last_is in
-            let last : s.last ≡ st.last = cc in
-            rw (node, last, pairs_are) at s.parted in
+        (before ++ (separator, x) ∷ []) st.last high = λ low high s.
+        let node : s.node ≡ st.node = node_is level old low id high s st.node st.here in
+        let both : Some s.last ≡ Some st.last = sym s.last_is ∙ ap unbounded node ∙ st.last_is in
+        let last : s.last ≡ st.last = cc in
+        rw (node, last, pairs_are) at s.parted in
         let around = separators_around o (Stands cmp level old) None before separator x [] st.last None (parted_at None None st) in
         let left_are : (keyed drops.takes.left).entries ≡ before = ap (λ (a : Arrivals K ℕ). a.entries) moves.4
-            ∙ rw (pairs_are, without_between o separator before ((separator, x) ∷ []) [] around.0 tt, tied_itself o separator) (append-nil before) in
+        ∙ rw (pairs_are, without_between o separator before ((separator, x) ∷ []) [] around.0 tt, tied_itself o separator) (append-nil before) in
         let fronts_are : front ≡ map (λ c. c.1) before ++ x ∷ [] = past.0 ∙ rw (pairs_are, map-append (λ (c : K × ℕ). c.1) before) refl in
         let s = beside (rw (drops.takes.updates.changed, left_are, moves.5, past.1, fronts_are) (sym (append-nil (map (λ c. c.1) before ++ x ∷ [])))) in
         let each = rw (past.1, fronts_are, append-nil (map (λ c. c.1) before ++ x ∷ [])) at (each_stands s) in
@@ -127,7 +134,7 @@ module _ {K V : Type 0} {LEN : ℕ} {cmp : K → K → Ordering} (o : IsTotalOrd
           parted = rw left_are
               (parted_map cmp (Stands cmp level old) (Stands cmp level new) low before x high each
               (parted_moved o (Stands cmp level old) (λ low id s high over t. stands_higher o level old low id s high over t) low before separator x
-                  st.last high (parted_at low high now)));
+              st.last high (parted_at low high now)));
         })
 
     -- or was the only one, and the node is retired

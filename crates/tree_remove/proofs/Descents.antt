@@ -1,5 +1,5 @@
 -- The child of a part that a key belongs to, and where its node has it.
-use Rattle.std.proofs.Common.{◌≡◌, ℕ, suc, ◌≤◌, List, [], ◌∷◌, Option, Some, None, IsSome, refl, ap, arith, Ordering}
+use Rattle.std.proofs.Common.{◌≡◌, ℕ, suc, ◌≤◌, [], ◌∷◌, Option, Some, None, IsSome, refl, ap, arith, Ordering}
 use Rattle.tree_model.proofs.Common.{IsTotalOrder}
 use Rattle.tree_node.proofs.Common.{get, times, one_here, uses_le_one, TreeArenas, IsPart, Replaces, HasChildFor, Stands, child_of, keyed, nodes_at, unbounded}
 use Rattle.tree_node.specs.declared.node.NodeOf.{NodeOf}

@@ -1,5 +1,5 @@
 -- The leaf of a key that lost its last pair, seen from a node above it: how the drop of each child that is left empty makes the removal one under that node.
-use Rattle.std.proofs.Common.{◌≡◌, ◌++◌, ℕ, zero, suc, ◌-◌, ◌<◌, Bool, true, [], ◌∷◌, Option, Some, None, IsSome, inl, List, refl, sym, ◌∙◌, arith, sub-one, Ordering}
+use Rattle.std.proofs.Common.{◌≡◌, ◌++◌, ℕ, zero, suc, ◌-◌, ◌<◌, Bool, true, ◌∷◌, Option, Some, None, IsSome, inl, List, refl, sym, ◌∙◌, arith, sub-one, Ordering}
 use Rattle.tree_model.proofs.Common.{IsTotalOrder, pair_at}
 use Rattle.tree_array.specs.declared.answers.RemoveResult.{RemoveResult}
 use Rattle.tree_array.specs.declared.answers.RemoveResult.TheVariants.{Success, Retired, Fail}

@@ -1,5 +1,5 @@
 -- A pair by its place: where it is found, and that an equal key leads there too.
-use Rattle.std.proofs.Common.{◌≡◌, ℕ, zero, suc, ◌-◌, ◌<◌, true, List, [], ◌∷◌, Option, Some, None, IsSome, refl, sym, ap, ◌∙◌, arith, Ordering, Equal}
+use Rattle.std.proofs.Common.{◌≡◌, ℕ, zero, suc, ◌-◌, ◌<◌, List, [], ◌∷◌, Option, Some, None, IsSome, refl, sym, ap, ◌∙◌, Ordering, Equal}
 use Rattle.tree_model.proofs.Common.{IsTotalOrder, alike_right, tied_back, IsAbsent, pair_at}
 use Rattle.tree_array.proofs.Common.{Arrivals, arrival, removed}
 use Rattle.tree_array.specs.declared.answers.RemoveResult.{RemoveResult}

@@ -52,8 +52,11 @@ module _ {K V : Type 0} (cmp : K → K → Ordering) (Says : V → Bool → Type
 
       by_pair : (found : Option (K × V)) → pair_at cmp old.entries key ≡ found → (found ≡ None → (array ≡ old) × (result ≡ Fail))
           → IfSome found (λ pair. (said : Bool) × Says pair.1 said × IsRemoval cmp old key said result array) → Keeps ⊎ Takes
-      by_pair None e absent present = inl (record { same = (absent refl).0; fails = (absent refl).1;
-          denied = λ pair is. absurd (let both : None ≡ Some pair = sym e ∙ is in cc) })
+      by_pair None e absent present = inl (record {
+        same = (absent refl).0;
+        fails = (absent refl).1;
+        denied = λ pair is. absurd (let both : None ≡ Some pair = sym e ∙ is in cc);
+      })
       by_pair (Some pair) e absent present = by_said pair e present.0 present.1 present.2
 
 module _ {K V : Type 0} {LEN : ℕ} {cmp : K → K → Ordering} (o : IsTotalOrder cmp) (Says : V → Bool → Type 0) (a : TreeArenas K V LEN) (id : ℕ)
@@ -122,8 +125,11 @@ module _ {K V : Type 0} {LEN : ℕ} {cmp : K → K → Ordering} (o : IsTotalOrd
           pairs = (takes, new_walk ∙ none);
           leaves = (rw (here_now a id leaf array was) (e, none), tt);
           replaces = array_replaces a id leaf array was;
-          spare = rw (room_was, room_is, e, none) (omega (arith, spare_retired LEN (length leaf.array.entries) (found_free {V = V} {LEN = LEN} (Some leaf))
-              (free_within leaf)));
+          spare = rw (room_was, room_is, e, none) (omega (
+            arith,
+            spare_retired LEN (length leaf.array.entries) (found_free {V = V} {LEN = LEN} (Some leaf))
+                (free_within leaf),
+          ));
         })
     out false e =
         let as_many : length array.arrivals ≡ length leaf.array.arrivals = rw t.taken (length-map leaf.array.arrivals (spent_at cmp key)) in
@@ -133,8 +139,11 @@ module _ {K V : Type 0} {LEN : ℕ} {cmp : K → K → Ordering} (o : IsTotalOrd
           leaves = keeps_out;
           replaces = array_replaces a id leaf array was;
           spare = rw (room_was, room_is, e, live, as_many)
-              (omega (arith, spare_removed LEN (length leaf.array.entries) (LEN - length leaf.array.arrivals) (length array.entries)
-                  (rw left (without_few cmp leaf.array.entries key))));
+              (omega (
+                arith,
+                spare_removed LEN (length leaf.array.entries) (LEN - length leaf.array.arrivals) (length array.entries)
+                    (rw left (without_few cmp leaf.array.entries key)),
+              ));
         })
 
   -- what became of the array, of its leaf

@@ -38,8 +38,12 @@ module _ {K V : Type 0} {LEN : ℕ} {cmp : K → K → Ordering} (o : IsTotalOrd
     pairs = pairs;
     leaves = leaves;
     replaces = node_replaces o level old id child key part which None None st new r;
-    spare = omega (arith, old_spare o level old id child key part which None None st new r, new_spare o level old id child key part which None None st new r,
-        spares);
+    spare = omega (
+      arith,
+      old_spare o level old id child key part which None None st new r,
+      new_spare o level old id child key part which None None st new r,
+      spares,
+    );
   }
 
   -- the child lost the pair, and stands

@@ -2,7 +2,7 @@
 use Rattle.std.proofs.Common.{◌≡◌, ℕ, zero, suc, ◌-◌, ◌<◌, Bool, [], ◌∷◌, length, None, refl, sym, ◌∙◌, arith, sub-one, Ordering}
 use Rattle.tree_model.proofs.Common.{IsTotalOrder, IsAscending, pair_at, without}
 use Rattle.tree_array.specs.declared.answers.RemoveResult.{RemoveResult}
-use Rattle.tree_array.specs.declared.answers.RemoveResult.TheVariants.{Success, Retired, Fail}
+use Rattle.tree_array.specs.declared.answers.RemoveResult.TheVariants.{Retired, Fail}
 use Rattle.tree_node.proofs.Common.{get, TreeArenas, IsPart, Replaces, HasChildFor, IsRetired, Stands, walk}
 use Rattle.tree_model.proofs.Lengths.{without_present}
 use Rattle.tree_descent.specs.Ways.{IsOnWay, LeadsTo}
@@ -22,7 +22,7 @@ module _ {K V : Type 0} {LEN : ℕ} {cmp : K → K → Ordering} (o : IsTotalOrd
   found zero id node part way which = found_in_child o 0 a None id None part.stands key leaf (rw way which)
   found (suc steps) id node part way which =
       found_in_child o (suc steps) a None id None part.stands key way.0 way.1 ∙ found steps way.0 node
-          (child_part o (suc steps) a id way.0 key part way.1 None None part.stands) way.2 which
+      (child_part o (suc steps) a id way.0 key part way.1 None None part.stands) way.2 which
 
   -- the leaf has the pair that the part has
   pub found_on_way : (level : ℕ) → 0 < level → (id node : ℕ) → IsPart cmp level a id → IsOnWay cmp key (level - 1) a id node

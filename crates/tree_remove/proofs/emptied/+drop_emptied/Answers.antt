@@ -20,21 +20,21 @@ child_place_for-requires-in-Internal g t c = search rules
 pub drop_keyed_leaf-requires : goal.drop_keyed_leaf-requires
 drop_keyed_leaf-requires g t c =
     let over = over_leaf g.met.K.Ord.total c.requires.node (emptied_of c.requires.emptied) c.in-Some.place.child c.in-Some.place.slot
-          (rw c.in-Leaf.is at c.node.ensures)
+    (rw c.in-Leaf.is at c.node.ensures)
     (rw c.in-Some.is at c.child_place_for.ensures.place) in
     (search rules, (search fits, (over.linked, rw c.in-Some-slot.is at over.has_slot)))
 
 pub retire_if_empty-requires : goal.retire_if_empty-requires
 retire_if_empty-requires g t c =
     let over = over_leaf g.met.K.Ord.total c.requires.node (emptied_of c.requires.emptied) c.in-Some.place.child c.in-Some.place.slot
-          (rw c.in-Leaf.is at c.node.ensures)
+    (rw c.in-Leaf.is at c.node.ensures)
     (rw c.in-Some.is at c.child_place_for.ensures.place) in
     (search fits, (search fits, over.part _ (over.drops _ _ c.in-Some-slot.is c.drop_keyed_leaf.ensures)))
 
 pub retire_if_empty-requires-in-None : goal.retire_if_empty-requires-in-None
 retire_if_empty-requires-in-None g t c =
     let over = over_leaf g.met.K.Ord.total c.requires.node (emptied_of c.requires.emptied) c.in-Some.place.child c.in-Some.place.slot
-          (rw c.in-Leaf.is at c.node.ensures)
+    (rw c.in-Leaf.is at c.node.ensures)
     (rw c.in-Some.is at c.child_place_for.ensures.place) in
     (search rules, (search fits, over.part _ over.stays))
 
@@ -66,8 +66,10 @@ returns-in_default g t c = record {
 pub returns-in_default-child_place_for : goal.returns-in_default-child_place_for
 returns-in_default-child_place_for g t c =
     let none = rw c.in_default-child_place_for.is at c.child_place_for-in-Internal.ensures.place in
-    record { removes = λ before e. absurd (has_child g.met.K.Ord.total c.requires.node e (rw c.in-Internal.is at c.node.ensures) none);
-        settled = λ one success only. (cc) }
+    record {
+      removes = λ before e. absurd (has_child g.met.K.Ord.total c.requires.node e (rw c.in-Internal.is at c.node.ensures) none);
+      settled = λ one success only. (cc);
+    }
 
 pub returns-in-Some-slot : goal.returns-in-Some-slot
 returns-in-Some-slot g t c = record {

@@ -12,7 +12,7 @@ take_slot-key-requires g c =
 pub drop_emptied-result-requires : goal.drop_emptied-result-requires
 drop_emptied-result-requires g c =
     let emptied = entry_emptied g.met.K.Ord.total c.requires.node c.requires.entry.1 c.take_slot-key.ensures.taken c.take_slot-key.ensures.removes
-          c.in-Retired.is in
+    c.in-Retired.is in
     (search fits, (search fits, (c.requires.node, emptied_from c.args.arenas.now emptied)))
 
 pub returns-clause-removes : goal.returns-clause-removes

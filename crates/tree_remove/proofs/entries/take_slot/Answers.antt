@@ -1,4 +1,4 @@
-use Rattle.std.proofs.Common.{◌≡◌, ◌∙◌, true, [], Some, inr, sym}
+use Rattle.std.proofs.Common.{◌≡◌, ◌∙◌, Some, inr, sym}
 use Rattle.tree_node.proofs.Common.{fits}
 use Rattle.tree_remove.specs.Removes.{surely}
 use Rattle.tree_remove.proofs.EntryPlaces.{leaf_stored, slot_takes}
@@ -18,7 +18,7 @@ returns g c =
     let none_retired = rw (c.array.ensures, read) at c.free.ensures.sound.none_retired in
     let taken = rw c.array_mut.ensures.value at c.take.ensures in
     let takes = slot_takes c.args.arenas.now c.args.place.leaf c.args.place.slot c.leaf_mut.ensures.value c.requires.1 c.requires.2 taken.pair taken.left
-          taken.answer in
+    taken.answer in
     record {
       taken = rw c.leaf_mut.ensures.value taken.pair;
       removes = removes_in_leaf g.met.K.Ord.total surely c.args.arenas.now c.args.place.leaf _ _ _ _ c.leaf_mut.ensures.value none_retired (inr takes);

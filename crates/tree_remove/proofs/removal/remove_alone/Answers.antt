@@ -10,9 +10,9 @@ pub remove_in_leaf-requires : goal.remove_in_leaf-requires
 remove_in_leaf-requires g c =
     let way = c.requires.way.1 in
     let part = leaf_on_way g.met.K.Ord.total c.args.arenas.now c.args.key.now c.args.leaf c.args.level c.requires.node c.args.id c.requires.way.0
-          way.0 way.1 way.2 in
+    way.0 way.1 way.2 in
     let found = found_on_way g.met.K.Ord.total c.args.arenas.now c.args.key.now c.args.leaf c.args.level c.requires.node c.args.id c.requires.way.0
-          way.0 way.1 way.2 in
+    way.0 way.1 way.2 in
     (search fits, (search fits, (leaf_there c.args.arenas.now c.args.leaf _ _ part.stands, rw found at c.requires.callable)))
 
 pub drop_emptied-requires : goal.drop_emptied-requires
@@ -25,7 +25,7 @@ returns-in-Retired-clause-removes g c =
     let way = c.requires.way.1 in
     let out = c.in-Retired.ensures.removes.pairs.0 in
     let found = found_on_way g.met.K.Ord.total c.args.arenas.now c.args.key.now c.args.leaf c.args.level c.requires.node c.args.id c.requires.way.0
-          way.0 way.1 way.2 in
+    way.0 way.1 way.2 in
     goes_as_said g.K.Ord.cmp _ c.args.level c.args.arenas.now _ c.args.id c.args.key.now out.pair (found ∙ out.was) out.said _
     (c.drop_emptied.ensures.removes c.args.arenas.now (emptied_by c.requires.way.0 way c.in-Retired.ensures.removes))
 
@@ -36,7 +36,7 @@ returns-in-Fail-clause-removes g c =
 pub returns-in-Success : goal.returns-in-Success
 returns-in-Success g c =
     let settled = settled_on_way g.met.K.Ord.total c.args.key.now c.args.arenas.now c.remove_in_leaf.new.arenas c.args.level c.args.id c.requires.way.0
-          c.args.leaf in
+    c.args.leaf in
     record {
       removes = removes_on_way g.met.K.Ord.total _ (λ is. absurd (cc)) c.in-Success.ensures.removes c.args.level c.requires.node c.args.id c.requires.way.0
           c.requires.way.1;

@@ -8,25 +8,28 @@ pub leaf-requires : goal.leaf-requires
 leaf-requires g c =
     let way = c.requires.way.1 in
     let part = leaf_on_way g.met.K.Ord.total c.args.arenas.now c.args.key.now c.args.leaf c.args.level c.requires.node c.args.id c.requires.way.0
-          way.0 way.1 way.2 in
+    way.0 way.1 way.2 in
     (search fits, (search fits, leaf_there c.args.arenas.now c.args.leaf _ _ part.stands))
 
 pub remove_in_leaf-requires : goal.remove_in_leaf-requires
 remove_in_leaf-requires g c =
     let way = c.requires.way.1 in
     let part = leaf_on_way g.met.K.Ord.total c.args.arenas.now c.args.key.now c.args.leaf c.args.level c.requires.node c.args.id c.requires.way.0
-          way.0 way.1 way.2 in
+    way.0 way.1 way.2 in
     let found = found_on_way g.met.K.Ord.total c.args.arenas.now c.args.key.now c.args.leaf c.args.level c.requires.node c.args.id c.requires.way.0
-          way.0 way.1 way.2 in
+    way.0 way.1 way.2 in
     (search fits, (search fits, (leaf_there c.args.arenas.now c.args.leaf _ _ part.stands, rw found at c.requires.callable)))
 
 pub unreachable-requires : goal.unreachable-requires
 unreachable-requires g c =
     let way = c.requires.way.1 in
     let part = leaf_on_way g.met.K.Ord.total c.args.arenas.now c.args.key.now c.args.leaf c.args.level c.requires.node c.args.id c.requires.way.0
-          way.0 way.1 way.2 in
-    let many : 1 < length (walk 0 c.args.arenas.now c.args.leaf) = rw (walk-leaf c.args.arenas.now c.args.leaf c.leaf.result.now c.leaf.ensures,
-          ← c.array.ensures, ← c.len.ensures) c.if-len-le1.false in
+    way.0 way.1 way.2 in
+    let many : 1 < length (walk 0 c.args.arenas.now c.args.leaf) = rw (
+      walk-leaf c.args.arenas.now c.args.leaf c.leaf.result.now c.leaf.ensures,
+      ← c.array.ensures,
+      ← c.len.ensures,
+    ) c.if-len-le1.false in
     not_emptied g.met.K.Ord.total part many (rw c.in-Retired.is at c.remove_in_leaf.ensures.removes)
 
 pub returns-then-len-le1-clause-alone : goal.returns-then-len-le1-clause-alone
@@ -40,7 +43,7 @@ returns-in-Success-clause-removes g c =
 pub returns-in-Success-clause-settled : goal.returns-in-Success-clause-settled
 returns-in-Success-clause-settled g c ok one =
     settled_on_way g.met.K.Ord.total c.args.key.now c.args.arenas.now c.remove_in_leaf.new.arenas c.args.level c.args.id c.requires.way.0 c.args.leaf one
-        c.requires.way.1
+    c.requires.way.1
     c.remove_in_leaf.ensures.removes.replaces (c.remove_in_leaf.ensures.settled c.in-Success.is)
 
 pub returns-in-Fail-clause-removes : goal.returns-in-Fail-clause-removes

@@ -8,8 +8,11 @@ pub leaf_mut-requires : goal.leaf_mut-requires
 leaf_mut-requires g c = (search fits, (search fits, c.requires.there))
 
 pub remove_if-requires : goal.remove_if-requires
-remove_if-requires g c = (search fits, rw c.array_mut.ensures.value (rw (walk-leaf c.args.arenas.now c.args.id c.leaf_mut.result.now
-    c.leaf_mut.ensures.value) at c.requires.callable))
+remove_if-requires g c = (
+  search fits,
+  rw c.array_mut.ensures.value (rw (walk-leaf c.args.arenas.now c.args.id c.leaf_mut.result.now
+      c.leaf_mut.ensures.value) at c.requires.callable),
+)
 
 pub returns : goal.returns
 returns g c =
