@@ -22,7 +22,7 @@ module _ {K V : Type 0} {LEN : ℕ} {cmp : K → K → Ordering} {level : ℕ} {
     -- a child of which nothing is left is dropped
     pub empty_drop : {new : TreeArenas K V LEN} {more : ℕ} → CutsAt cmp Unbounded Unbounded level below mid new id place more → (child : ℕ)
         → slice_get (children_of mid.nodes id) place ≡ Some child → walk below mid child ≡ []
-            → CutsAt cmp low high level below old new id place gone
+        → CutsAt cmp low high level below old new id place gone
     empty_drop {new} drops child there none =
         let same : flat_map (walk below mid) (drop place (children_of mid.nodes id)) ≡ flat_map (walk below mid) (drop (suc place) (children_of mid.nodes id)) =
         rw (split_here (children_of mid.nodes id) place child there, none) refl in

@@ -123,8 +123,15 @@ module _ {K V : Type 0} {LEN : ℕ} {cmp : K → K → Ordering} {level : ℕ} {
                 let here : IsChain old.leaves (front ++ (ids ++ back)) = rw (single_leaves level old.nodes id) at chain in
                 let same : (n : ℕ) → 1 ≤ times n (front ++ back) → get new.leaves n ≡ get mid.leaves n = λ n inside.
                 frees.leaves.kept n (rw (single_leaves level mid.nodes id, spliced.nodes)
-                (omega (arith, inside, times-append n front back, here.once n, times-append n front (ids ++ back), times-append n ids back,
-                uses_le_one old.leaves n))) in
+                (omega (
+                  arith,
+                  inside,
+                  times-append n front back,
+                  here.once n,
+                  times-append n front (ids ++ back),
+                  times-append n ids back,
+                  uses_le_one old.leaves n,
+                ))) in
                 let around = spliced_chain front back here in
                 record {
                   once = λ n. still_once mid.leaves new.leaves (front ++ back) n same (around.once n);

@@ -44,7 +44,7 @@ module _ {K V : Type 0} {LEN : ℕ} (cmp : K → K → Ordering) where
   are_kept : (level : ℕ) (a b : TreeArenas K V LEN) (xs : List ℕ) {f g : ℕ → ℕ} → AllByRecursion (λ x. Stands cmp level a None x None) xs
       → FreesIn a.nodes b.nodes f → FreesIn a.leaves b.leaves g → ((n : ℕ) → f n + times n (nodes_of level a.nodes xs) ≤ uses a.nodes n)
       → ((n : ℕ) → g n + times n (leaves_of level a.nodes xs) ≤ uses a.leaves n)
-          → AreKept level a b xs f g
+      → AreKept level a b xs f g
   are_kept level a b xs {f} {g} stand nodes leaves nodes_once leaves_once =
       let agree : AllByRecursion (λ x. Agrees level a b x) xs =
       let node_stays : (m : ℕ) → 1 ≤ times m (nodes_of level a.nodes xs) → get b.nodes m ≡ get a.nodes m =
@@ -134,7 +134,7 @@ pub record TakenOut {K V : Type 0} {LEN : ℕ} (cmp : K → K → Ordering) (lev
 
 pub taken_out : {K V : Type 0} {LEN : ℕ} {cmp : K → K → Ordering} (level : ℕ) {a : TreeArenas K V LEN} (b : TreeArenas K V LEN)
     {part : Part} {id : ℕ} {node : NodeOf K LEN} → part ≡ Node id → IsAt level part → IsForest cmp level a (part_id part ∷ []) → Loses a.nodes b.nodes id node
-        → b.leaves ≡ a.leaves → TakenOut cmp level (level - 1) a b id node
+    → b.leaves ≡ a.leaves → TakenOut cmp level (level - 1) a b id node
 taken_out {cmp = cmp} level {a} b {id = id} {node = node} is kind given loses leaves =
     let forest : IsForest cmp level a (id ∷ []) = rw is at given in
     let below = level - 1 in

@@ -89,7 +89,7 @@ module _ {K V : Type 0} {LEN : ℕ} {cmp : K → K → Ordering} (o : IsTotalOrd
     changed : (low high : Bound K) (gone : ℕ) → flat_map (walk level new) left ≡ cut cmp (walk level old child) low high
         → gone + length (cut cmp (walk level old child) low high) ≡ length (walk level old child) → take place (keyed_of (get new.nodes id)) ≡ take place pairs
         → KeepsBounds cmp (suc level) old new id
-            → CutsAt cmp low high (suc level) level old new id place gone
+        → CutsAt cmp low high (suc level) level old new id place gone
     changed low high gone left_is counted separators stands = record {
       child = child;
       here = rw children_are at.here;
@@ -238,7 +238,7 @@ taken_out {child = child} found is dropped takes leaves =
 -- a keyed child is there where its slot was read, and only there
 pub slot_told : {K : Type 0} {LEN : ℕ} {read : Bool} (node : NodeOf K LEN) (place : ℕ) (slot : Option ℕ) → read ≡ is_some slot
     → MatchOption slot (slice_get (keyed node).entries place ≡ None)
-        (λ s. (pair : K × ℕ) × (arrival (keyed node).arrivals s ≡ Some pair) × (slice_get (keyed node).entries place ≡ Some pair))
+    (λ s. (pair : K × ℕ) × (arrival (keyed node).arrivals s ≡ Some pair) × (slice_get (keyed node).entries place ≡ Some pair))
     → (read ≡ true → place < length (keyed node).entries) × (read ≡ false → slice_get (keyed node).entries place ≡ None)
 slot_told node place None is found = (λ some. absurd (cc), λ none. found)
 slot_told node place (Some slot) is found = (λ some. slice_get_within _ place found.0 found.2, λ none. absurd (cc))

@@ -18,7 +18,7 @@ module _ {K : Type 0} {cmp : K → K → Ordering} (o : IsTotalOrder cmp) (low h
   -- what is above a child behind the first that opens the lower bound meets it
   pub low_opened : (pairs : List (K × ℕ)) (before : Option K) (first place : ℕ) → first < place → place ≤ length pairs
       → AllByRecursion (λ c. (k : K) → cmp c.0 k ≡ Less → meets_lower cmp low k ≡ true) (drop first pairs) → (k : K)
-          → IsAbove cmp (low_at before (take place pairs)) k
+      → IsAbove cmp (low_at before (take place pairs)) k
       → meets_lower cmp low k ≡ true
   low_opened [] before first place more within opened k above = absurd (omega (arith, more, within))
   low_opened (c ∷ pairs) before first zero more within opened k above = absurd (omega (arith, more))
@@ -38,7 +38,7 @@ module _ {K : Type 0} {cmp : K → K → Ordering} (o : IsTotalOrder cmp) (low h
   module _ {V : Type 0} {LEN : ℕ} (level : ℕ) (a : TreeArenas K V LEN) where
     pub fronts_outside : (before : Option K) (pairs : List (K × ℕ)) (last : ℕ) (after : Option K) → AreParted cmp (Stands cmp level a) before pairs last after
         → (place : ℕ) → place ≤ length pairs → AllByRecursion (λ c. meets_lower cmp low c.0 ≡ false) (take place pairs)
-            → IsOutside cmp low high (flat_map (walk level a) (take place (in_turn pairs (Some last))))
+        → IsOutside cmp low high (flat_map (walk level a) (take place (in_turn pairs (Some last))))
     fronts_outside before pairs last after parted zero within missed = tt
     fronts_outside before [] last after parted (suc place) within missed = absurd (omega (arith, within))
     fronts_outside before (c ∷ pairs) last after parted (suc place) within missed =
