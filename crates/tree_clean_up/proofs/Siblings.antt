@@ -13,7 +13,8 @@ use Rattle.tree_node.proofs.Widens.{parted_without, separators_around, stands_wi
 use Rattle.tree_clean_up.specs.CleanUps.{TakesKeyed}
 
 module _ {K V : Type 0} {LEN : ℕ} where
-  pub same_walks : (level : ℕ) (a b : TreeArenas K V LEN) (xs : List ℕ) → AllByRecursion (λ x. Agrees level a b x) xs → flat_map (walk level b) xs ≡ flat_map (walk level a) xs
+  pub same_walks : (level : ℕ) (a b : TreeArenas K V LEN) (xs : List ℕ) → AllByRecursion (λ x. Agrees level a b x) xs
+      → flat_map (walk level b) xs ≡ flat_map (walk level a) xs
   same_walks level a b xs same = flat_map_same (walk level b) (walk level a) xs (all_map (λ x here. same_walk level a b x here) xs same)
 
   pub still_stand : (cmp : K → K → Ordering) (level : ℕ) (a b : TreeArenas K V LEN) (xs : List ℕ) → AllByRecursion (λ x. Agrees level a b x) xs
@@ -31,7 +32,8 @@ module _ {K V : Type 0} {LEN : ℕ} where
   -- so it is where at most the node itself is written afterwards
   pub siblings : {cmp : K → K → Ordering} {level : ℕ} {old mid new : TreeArenas K V LEN} {id : ℕ} {front ids left back : List ℕ} → IsPart cmp (suc level) old id
       → Replaces level old mid ids left → children_of old.nodes id ≡ front ++ (ids ++ back) → children_of new.nodes id ≡ front ++ (left ++ back)
-      → ((n : ℕ) → (n ≡ id → ⊥) → get new.nodes n ≡ get mid.nodes n) → IsSome (get new.nodes id) → new.leaves ≡ mid.leaves → Siblings level old new id front ids left back
+      → ((n : ℕ) → (n ≡ id → ⊥) → get new.nodes n ≡ get mid.nodes n) → IsSome (get new.nodes id) → new.leaves ≡ mid.leaves
+      → Siblings level old new id front ids left back
   siblings {level = level} {old = old} {mid = mid} {new = new} {id = id} {front = front} {ids = ids} {left = left} {back = back} part r was now others here leaves =
       let once = leaves_once_in (suc level) old id part in
       record {
@@ -48,7 +50,8 @@ pub record LosesKeyed {K V : Type 0} {LEN : ℕ} (cmp : K → K → Ordering) (l
   pub here : get new.nodes id ≡ Some node
   pub entries : (keyed node).entries ≡ before ++ after
   pub children : children_of new.nodes id ≡ map (λ c. c.1) before ++ ([] ++ (map (λ c. c.1) after ++ last ∷ []))
-  pub keeps : AllByRecursion (λ x. KeepsBounds cmp level old new x) (map (λ c. c.1) before ++ (map (λ c. c.1) after ++ last ∷ [])) → KeepsBounds cmp (suc level) old new id
+  pub keeps : AllByRecursion (λ x. KeepsBounds cmp level old new x) (map (λ c. c.1) before ++ (map (λ c. c.1) after ++ last ∷ []))
+      → KeepsBounds cmp (suc level) old new id
 
 -- a keyed child is taken out of a node, by the slot of its separator
 module _ {K V : Type 0} {LEN : ℕ} {cmp : K → K → Ordering} (o : IsTotalOrder cmp) (level : ℕ) (old mid new : TreeArenas K V LEN) (id child slot : ℕ)
@@ -65,7 +68,8 @@ module _ {K V : Type 0} {LEN : ℕ} {cmp : K → K → Ordering} (o : IsTotalOrd
       cc
 
   -- its children at any bounds of the node
-  parted_at : (low high : Option K) → Stands cmp (suc level) old low id high → AreParted cmp (Stands cmp level old) low (before ++ (separator, child) ∷ after) st.last high
+  parted_at : (low high : Option K) → Stands cmp (suc level) old low id high
+      → AreParted cmp (Stands cmp level old) low (before ++ (separator, child) ∷ after) st.last high
   parted_at low high s =
       let node : s.node ≡ st.node = node_is level old low id high s st.node st.here in
       let both : Some s.last ≡ Some st.last = sym s.last_is ∙ ap unbounded node ∙ st.last_is in

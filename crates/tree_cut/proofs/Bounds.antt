@@ -1,9 +1,8 @@
 -- Keys and separators beside two bounds.
 use Rattle.std.proofs.Common.{◌≡◌, Bool, true, false, not, ◌&&◌, refl, sym, ap, ◌∙◌, Ordering, Less, Equal, Greater, is_le, is_lt}
+use Rattle.tree_cut.proofs.Common.{IsTotalOrder, Bound, Included, Excluded, Unbounded, within, meets_lower, meets_upper}
 use Rattle.std.proofs.lemmas.Cmp.{back_total}
-use Rattle.tree_model.proofs.Common.{IsTotalOrder, Bound, Included, Excluded, Unbounded, within}
 use Rattle.tree_model.proofs.Ascending.{less_from_test}
-use Rattle.tree_model.specs.Pairs.{meets_lower, meets_upper}
 use Rattle.tree_node.proofs.Order.{less_upto, upto_from_less}
 
 module _ {K : Type 0} {cmp : K → K → Ordering} (o : IsTotalOrder cmp) where

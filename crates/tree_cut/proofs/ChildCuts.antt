@@ -1,11 +1,8 @@
 -- A child that is cut, and dropped if nothing is left of it.
 use Rattle.std.proofs.Common.{◌≡◌, ℕ, suc, [], ◌∷◌, drop, slice_get, Some, None, refl, sym, ◌∙◌, flat_map, Ordering}
-use Rattle.tree_model.proofs.Common.{Bound, Unbounded}
-use Rattle.tree_node.proofs.Common.{TreeArenas, IsPart, children_of, walk}
+use Rattle.tree_cut.proofs.Common.{Bound, Unbounded, TreeArenas, IsPart, children_of, walk, CutsAt, IsForest}
 use Rattle.tree_node.proofs.Lifts.{leaves_once_in, single_leaves, single_nodes}
 use Rattle.tree_node.proofs.Steps.{part_after, replaces_trans}
-use Rattle.tree_cut.specs.Cuts.{CutsAt}
-use Rattle.tree_cut.specs.Parts.{IsForest}
 use Rattle.tree_cut.proofs.OneChild.{open_cut}
 use Rattle.tree_cut.proofs.Turns.{split_here}
 
@@ -23,8 +20,9 @@ module _ {K V : Type 0} {LEN : ℕ} {cmp : K → K → Ordering} {level : ℕ} {
     part_left part = part_after cmp level old mid id part (cuts.stands None None part.stands) cuts.replaces
 
     -- a child of which nothing is left is dropped
-    pub empty_drop : {new : TreeArenas K V LEN} {more : ℕ} → CutsAt cmp Unbounded Unbounded level below mid new id place more
-        → (child : ℕ) → slice_get (children_of mid.nodes id) place ≡ Some child → walk below mid child ≡ [] → CutsAt cmp low high level below old new id place gone
+    pub empty_drop : {new : TreeArenas K V LEN} {more : ℕ} → CutsAt cmp Unbounded Unbounded level below mid new id place more → (child : ℕ)
+        → slice_get (children_of mid.nodes id) place ≡ Some child → walk below mid child ≡ []
+        → CutsAt cmp low high level below old new id place gone
     empty_drop {new} drops child there none =
         let same : flat_map (walk below mid) (drop place (children_of mid.nodes id)) ≡ flat_map (walk below mid) (drop (suc place) (children_of mid.nodes id)) =
         rw (split_here (children_of mid.nodes id) place child there, none) refl in

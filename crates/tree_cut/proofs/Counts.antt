@@ -1,13 +1,10 @@
 -- The pairs of a part can be counted.
 use Rattle.std.proofs.Common.{ℕ, ◌*◌, ◌<◌, ◌≤◌, ◌^◌, ◌∷◌, [], length, None, inl, inr, arith, Ordering}
-use Rattle.tree_array.proofs.Common.{IsLen}
-use Rattle.tree_node.proofs.Common.{TreeArenas, leaves_at, walk}
+use Rattle.tree_cut.proofs.Common.{IsLen, TreeArenas, leaves_at, walk, slab_len, IsForest}
 use Rattle.std.proofs.Math.Nat.{mul-le-mul_left}
-use Rattle.slab.specs.Slab.{slab_len}
 use Rattle.tree_leaf.proofs.Pigeonhole.{once_fits}
 use Rattle.tree_node.proofs.Bounds.{entries_few}
 use Rattle.tree_node.proofs.Lifts.{single_leaves}
-use Rattle.tree_cut.specs.Parts.{IsForest}
 
 few_slots : (len pairs leaves : ℕ) → IsLen len → pairs ≤ len * leaves → leaves < 2 ^ 64 → pairs < 2 ^ 127
 few_slots len pairs leaves (inl seven) most few = let all = rw seven at most in omega (arith, few, all)

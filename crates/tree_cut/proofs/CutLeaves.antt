@@ -1,20 +1,18 @@
 -- A leaf that loses the keys within two bounds.
 use Rattle.std.proofs.Common.{◌≡◌, ℕ, ◌-◌, ◌≤◌, not, length, Some, refl, sym, ap, ◌∙◌, arith, Ordering}
+use Rattle.tree_cut.proofs.Common.{Bound, cut, within, Arrivals, all-filter, get, LeafOf, TreeArenas, without_range, CutsUnder}
 use Rattle.std.proofs.lemmas.List.Filters.{length-filter_both}
-use Rattle.tree_model.proofs.Common.{Bound, cut, within}
-use Rattle.tree_array.proofs.Common.{Arrivals, all-filter}
-use Rattle.tree_node.proofs.Common.{get, LeafOf, TreeArenas}
-use Rattle.tree_array.specs.Arrivals.{without_range}
 use Rattle.tree_model.proofs.Ascending.{IsAscending-cut}
 use Rattle.tree_node.proofs.Children.{walk-leaf}
 use Rattle.tree_node.proofs.LeafWrites.{with_array, here_now, array_replaces}
-use Rattle.tree_cut.specs.Cuts.{CutsUnder}
 
-pub range_few : {K V : Type 0} (cmp : K → K → Ordering) (low high : Bound K) (old : Arrivals K V) {array : Arrivals K V} → array ≡ without_range cmp old low high → length array.entries ≤ length old.entries
+pub range_few : {K V : Type 0} (cmp : K → K → Ordering) (low high : Bound K) (old : Arrivals K V) {array : Arrivals K V}
+    → array ≡ without_range cmp old low high → length array.entries ≤ length old.entries
 range_few cmp low high old left =
     omega (arith, ap (λ (x : Arrivals _ _). length x.entries) left, length-filter_both (λ p. not (within cmp low high p.0)) _ (λ p. refl) old.entries)
 
-module _ {K V : Type 0} {LEN : ℕ} (cmp : K → K → Ordering) (low high : Bound K) (a : TreeArenas K V LEN) (id : ℕ) {leaf : LeafOf K V LEN} {array : Arrivals K V} (was : get a.leaves id ≡ Some leaf)
+module _ {K V : Type 0} {LEN : ℕ} (cmp : K → K → Ordering) (low high : Bound K) (a : TreeArenas K V LEN) (id : ℕ) {leaf : LeafOf K V LEN}
+    {array : Arrivals K V} (was : get a.leaves id ≡ Some leaf)
     (left : array ≡ without_range cmp leaf.array low high) where
   pub leaf_cut : (gone : ℕ) → gone ≡ length leaf.array.entries - length array.entries → CutsUnder cmp low high 0 a (with_array a id leaf array) id gone
   leaf_cut gone is =

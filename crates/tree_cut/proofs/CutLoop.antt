@@ -1,14 +1,10 @@
 -- The children of a node that are cut one after another, from behind.
 use Rattle.std.proofs.Common.{sub-one, ◌≡◌, ℕ, zero, suc, ◌+◌, ◌-◌, ◌≤◌, ◌<◌, not, List, [], ◌∷◌, ◌++◌, take, drop, length, length-append, length-take, Some, None, refl, sym, ap, ◌∙◌, arith, flat_map, Ordering, take-append-drop}
+use Rattle.tree_cut.proofs.Common.{IsTotalOrder, Bound, flat_map-append, filter-append, cut, within, all-append, filter_all, get, TreeArenas, IsPart, KeepsBounds, Replaces, Stands, children_of, in_turn, keyed, walk, BeginsAt, EndsAt, Narrows, CutsAt, CutsChild, CutsUnder, HasNoEmpty, keyed_of}
 use Rattle.std.proofs.lemmas.List.{take-take}
-use Rattle.tree_model.proofs.Common.{IsTotalOrder, Bound, flat_map-append, filter-append, cut, within}
-use Rattle.tree_array.proofs.Common.{all-append, filter_all}
-use Rattle.tree_node.proofs.Common.{get, TreeArenas, IsPart, KeepsBounds, Replaces, Stands, children_of, in_turn, keyed, walk}
 use Rattle.tree_model.proofs.Lists.{all_passed}
 use Rattle.tree_node.proofs.Steps.{part_after, replaces_refl, replaces_trans}
 use Rattle.tree_node.proofs.Walks.{walk-children}
-use Rattle.tree_borders.specs.Places.{BeginsAt, EndsAt, Narrows}
-use Rattle.tree_cut.specs.Cuts.{CutsAt, CutsChild, CutsUnder, HasNoEmpty, keyed_of}
 use Rattle.tree_cut.proofs.NoEmpty.{all_take}
 use Rattle.tree_cut.proofs.Outside.{IsOutside, backs_outside, fronts_outside, high_met, low_opened, narrowed_cut}
 use Rattle.tree_cut.proofs.Turns.{TurnAt, split_here, turn}
@@ -50,11 +46,13 @@ module _ {K V : Type 0} {LEN : ℕ} (cmp : K → K → Ordering) (low high : Bou
   CutState level start now id place gone = CutStateAt level (level - 1) start now id place gone
 
 -- as many separators are left as are still needed
-pub state_reach : {K V : Type 0} {LEN : ℕ} {cmp : K → K → Ordering} {low high : Bound K} {first last level below : ℕ} {start now : TreeArenas K V LEN} {id place gone : ℕ}
-    → CutStateAt cmp low high first last level below start now id place gone
-    → (place ≤ length (keyed_of (get now.nodes id)) + 1) × (place ≤ first → place ≤ length (keyed_of (get now.nodes id))) × (place ≤ last → place ≤ length (keyed_of (get now.nodes id)))
+pub state_reach : {K V : Type 0} {LEN : ℕ} {cmp : K → K → Ordering} {low high : Bound K} {first last level below : ℕ} {start now : TreeArenas K V LEN}
+    {id place gone : ℕ} → CutStateAt cmp low high first last level below start now id place gone
+    → (place ≤ length (keyed_of (get now.nodes id)) + 1) × (place ≤ first → place ≤ length (keyed_of (get now.nodes id)))
 state_reach {start = start} {now = now} {id = id} {place = place} state =
-    omega (arith, state.upto, state.begins.within, state.ends.within, ap length state.same, length-take place (keyed_of (get now.nodes id)), length-take place (keyed_of (get start.nodes id)))
+    let now_long = length-take place (keyed_of (get now.nodes id)) in
+    let start_long = length-take place (keyed_of (get start.nodes id)) in
+    omega (arith, state.upto, state.begins.within, state.ends.within, ap length state.same, now_long, start_long)
 
 module _ {K V : Type 0} {LEN : ℕ} {cmp : K → K → Ordering} (o : IsTotalOrder cmp) (low high : Bound K) (first last : ℕ) where
   module _ (level : ℕ) (a : TreeArenas K V LEN) (id : ℕ) (s : Stands cmp (suc level) a None id None) where
@@ -64,34 +62,15 @@ module _ {K V : Type 0} {LEN : ℕ} {cmp : K → K → Ordering} (o : IsTotalOrd
     children_are : children_of a.nodes id ≡ in_turn (keyed s.node).entries (Some s.last)
     children_are = rw (s.here, s.last_is) refl
 
-    walk_split : (place : ℕ) → walk (suc level) a id ≡ flat_map (walk level a) (take place (children_of a.nodes id)) ++ flat_map (walk level a) (drop place (children_of a.nodes id))
+    walk_split : (place : ℕ) → walk (suc level) a id
+        ≡ flat_map (walk level a) (take place (children_of a.nodes id)) ++ flat_map (walk level a) (drop place (children_of a.nodes id))
     walk_split place =
         walk-children level a id
         ∙ ap (flat_map (walk level a)) (sym (take-append-drop place (children_of a.nodes id)))
         ∙ flat_map-append (walk level a) (take place (children_of a.nodes id)) (drop place (children_of a.nodes id))
 
-  starts_at : (level : ℕ) (a : TreeArenas K V LEN) (id : ℕ) → IsPart cmp (suc level) a id → BeginsAt cmp low (keyed_of (get a.nodes id)) first
-      → EndsAt cmp high (keyed_of (get a.nodes id)) last → CutStateAt cmp low high first last (suc level) level a a id (last + 1) 0
-  starts_at level a id part begins ends =
-      let s : Stands cmp (suc level) a None id None = part.stands in
-      let next : last + 1 ≡ suc last = omega arith in
-      record {
-        pairs = refl;
-        counted = omega arith;
-        stands = λ above below t. t;
-        replaces = replaces_refl (suc level) a (id ∷ []);
-        no_empty = λ before. before;
-        part = part;
-        begins = begins;
-        ends = ends;
-        upto = omega arith;
-        same = refl;
-        done =
-            rw (next, children_are level a id s)
-            (backs_outside o low high level a None _ s.last None s.parted last (rw (keyed_are level a id s) at ends.within) (rw (keyed_are level a id s) at ends.closed));
-      }
-
-  module _ (level : ℕ) {start now new : TreeArenas K V LEN} {id place gone more : ℕ} {lo hi : Bound K} (state : CutStateAt cmp low high first last (suc level) level start now id (suc place) gone)
+  module _ (level : ℕ) {start now new : TreeArenas K V LEN} {id place gone more : ℕ} {lo hi : Bound K}
+      (state : CutStateAt cmp low high first last (suc level) level start now id (suc place) gone)
       (from : first ≤ place) (narrow_low : Narrows low lo place first) (narrow_high : Narrows high hi place last)
       (cuts : CutsAt cmp lo hi (suc level) level now new id place more) (no_empty : HasNoEmpty (suc level) now id → HasNoEmpty (suc level) new id) where
     abbrev s : Stands cmp (suc level) now None id None
@@ -152,34 +131,55 @@ module _ {K V : Type 0} {LEN : ℕ} {cmp : K → K → Ordering} (o : IsTotalOrd
       ends = state.ends;
       upto = omega (arith, state.upto);
       same = cuts.separators ∙ rw (keyed_are level now id s) fewer;
-      done = rw (cuts.back, same_cut) (all-append _ (cut cmp (walk level now cuts.child) low high) _ (outside_cut cmp low high (walk level now cuts.child)) state.done);
+      done =
+          rw (cuts.back, same_cut)
+          (all-append _ (cut cmp (walk level now cuts.child) low high) _ (outside_cut cmp low high (walk level now cuts.child)) state.done);
     }
-
-  finishes_at : (level : ℕ) {start now : TreeArenas K V LEN} {id place gone : ℕ} → CutStateAt cmp low high first last (suc level) level start now id place gone → place ≤ first
-      → CutsUnder cmp low high (suc level) start now id gone
-  finishes_at level {start} {now} {id} {place} state few =
-      let s : Stands cmp (suc level) now None id None = state.part.stands in
-      let olds = keyed_of (get start.nodes id) in
-      let missed = rw (← state.same, keyed_are level now id s) at (rw (take-take place first olds few) at (all_take _ place (take first olds) state.begins.missed)) in
-      let front : IsOutside cmp low high (flat_map (walk level now) (take place (children_of now.nodes id))) =
-      rw (children_are level now id s)
-      (fronts_outside o low high level now None _ s.last None s.parted place (rw (keyed_are level now id s) at ((state_reach state).1 few)) missed) in
-      let outside : IsOutside cmp low high (walk (suc level) now id) = rw (walk_split level now id s place) (all-append _ _ _ front state.done) in
-      record { pairs = sym (filter_all _ _ outside) ∙ state.pairs; counted = state.counted; stands = state.stands; replaces = state.replaces; no_empty = state.no_empty }
 
   pub starts : (level : ℕ) {a : TreeArenas K V LEN} {id : ℕ} → 0 < level → IsPart cmp level a id → BeginsAt cmp low (keyed_of (get a.nodes id)) first
       → EndsAt cmp high (keyed_of (get a.nodes id)) last → CutState cmp low high first last level a a id (last + 1) 0
   starts zero inner part begins ends = absurd (omega (arith, inner))
-  starts (suc level) {a} {id} inner part begins ends = rw (sub-one (suc level)) (starts_at level a id part begins ends)
+  starts (suc level) {a} {id} inner part begins ends =
+      let s : Stands cmp (suc level) a None id None = part.stands in
+      let next : last + 1 ≡ suc last = omega arith in
+      rw (sub-one (suc level)) (record {
+        pairs = refl;
+        counted = omega arith;
+        stands = λ above below t. t;
+        replaces = replaces_refl (suc level) a (id ∷ []);
+        no_empty = λ before. before;
+        part = part;
+        begins = begins;
+        ends = ends;
+        upto = omega arith;
+        same = refl;
+        done =
+            rw (next, children_are level a id s)
+            (backs_outside o low high level a None _ s.last None s.parted last (rw (keyed_are level a id s) at ends.within)
+            (rw (keyed_are level a id s) at ends.closed));
+      })
 
-  pub steps : (level : ℕ) {start now new : TreeArenas K V LEN} {id place before gone more : ℕ} {lo hi : Bound K} → 0 < level → CutState cmp low high first last level start now id place gone
-      → suc before ≡ place → first ≤ before → Narrows low lo before first → Narrows high hi before last → CutsChild cmp lo hi level now new id before more
-      → (HasNoEmpty level now id → HasNoEmpty level new id) → CutState cmp low high first last level start new id before (gone + more)
+  pub steps : (level : ℕ) {start now new : TreeArenas K V LEN} {id place before gone more : ℕ} {lo hi : Bound K} → 0 < level
+      → CutState cmp low high first last level start now id place gone → suc before ≡ place → first ≤ before → Narrows low lo before first
+      → Narrows high hi before last → CutsChild cmp lo hi level now new id before more → (HasNoEmpty level now id → HasNoEmpty level new id)
+      → CutState cmp low high first last level start new id before (gone + more)
   steps zero inner state is from narrow_low narrow_high cuts no_empty = absurd (omega (arith, inner))
   steps (suc level) inner state is from narrow_low narrow_high cuts no_empty =
-      rw (sub-one (suc level)) (steps_at level (rw (sub-one (suc level), ← is) at state) from narrow_low narrow_high (rw (sub-one (suc level)) at cuts) no_empty)
+      rw (sub-one (suc level))
+      (steps_at level (rw (sub-one (suc level), ← is) at state) from narrow_low narrow_high (rw (sub-one (suc level)) at cuts) no_empty)
 
-  pub finishes : (level : ℕ) {start now : TreeArenas K V LEN} {id place gone : ℕ} → 0 < level → CutState cmp low high first last level start now id place gone → place ≤ first
-      → CutsUnder cmp low high level start now id gone
+  pub finishes : (level : ℕ) {start now : TreeArenas K V LEN} {id place gone : ℕ} → 0 < level → CutState cmp low high first last level start now id place gone
+      → place ≤ first → CutsUnder cmp low high level start now id gone
   finishes zero inner state few = absurd (omega (arith, inner))
-  finishes (suc level) inner state few = finishes_at level (rw (sub-one (suc level)) at state) few
+  finishes (suc level) {start} {now} {id} {place} {gone} inner given few =
+      let state : CutStateAt cmp low high first last (suc level) level start now id place gone = rw (sub-one (suc level)) at given in
+      let s : Stands cmp (suc level) now None id None = state.part.stands in
+      let olds = keyed_of (get start.nodes id) in
+      let begun = rw (take-take place first olds few) at (all_take _ place (take first olds) state.begins.missed) in
+      let missed = rw (← state.same, keyed_are level now id s) at begun in
+      let front : IsOutside cmp low high (flat_map (walk level now) (take place (children_of now.nodes id))) =
+      rw (children_are level now id s)
+      (fronts_outside o low high level now None _ s.last None s.parted place (rw (keyed_are level now id s) at ((state_reach state).1 few)) missed) in
+      let outside : IsOutside cmp low high (walk (suc level) now id) = rw (walk_split level now id s place) (all-append _ _ _ front state.done) in
+      let pairs = sym (filter_all _ _ outside) ∙ state.pairs in
+      record { pairs = pairs; counted = state.counted; stands = state.stands; replaces = state.replaces; no_empty = state.no_empty }

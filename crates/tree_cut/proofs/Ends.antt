@@ -1,19 +1,12 @@
 -- The first and the last leaf of a part, and of a part that is dropped the leaves beside it.
 use Rattle.std.proofs.Common.{◌≡◌, ℕ, ◌≤◌, List, [], ◌∷◌, ◌++◌, Some, None, IsSome, refl, ap, ◌∙◌, arith, append_assoc, flat_map, Ordering, append-nil}
-use Rattle.tree_model.proofs.Common.{AllByRecursion, flat_map-append}
-use Rattle.tree_node.proofs.Common.{Slab, get, LeafOf, IsChain, times, times-append, times-cons, times-nil, one_here, uses_le_one, TreeArenas, IsPart, Replaces, leaves_at, leaves_of, walk}
-use Rattle.tree_node.specs.declared.node.NodeOf.{NodeOf}
-use Rattle.tree_leaf.specs.Chain.{first_or, last_or}
-use Rattle.tree_leaf.specs.Links.{Splices}
+use Rattle.tree_cut.proofs.Common.{AllByRecursion, flat_map-append, Slab, get, LeafOf, IsChain, times, times-append, times-cons, times-nil, one_here, uses_le_one, TreeArenas, IsPart, Replaces, leaves_at, leaves_of, walk, NodeOf, first_or, last_or, Splices, End, First, Last, Frees, IsForest, end_of}
 use Rattle.tree_leaf.proofs.Chains.{chain_used, linked_kept, neighbours, next_used, prev_used, same_array_uses}
 use Rattle.tree_leaf.proofs.Splices.{untouched_leaf}
 use Rattle.tree_node.proofs.Beside.{apart_from_fewer, not_before, not_behind}
 use Rattle.tree_node.proofs.Frames.{Agrees, same_stands, same_walk}
 use Rattle.tree_node.proofs.Lifts.{single_leaves, single_nodes, leaves_once_in}
 use Rattle.tree_node.proofs.Lists.{all_middle}
-use Rattle.tree_cut.specs.declared.dropping.End.{End}
-use Rattle.tree_cut.specs.declared.dropping.End.TheVariants.{First, Last}
-use Rattle.tree_cut.specs.Parts.{Frees, IsForest, end_of}
 use Rattle.tree_cut.proofs.Frees.{still_once}
 use Rattle.tree_cut.proofs.Turns.{last_or-some}
 
@@ -34,8 +27,10 @@ end_below nodes level First ids x leaf at below = rw ((first_split ids x at).1, 
 end_below nodes level Last ids x leaf at below =
     let ids_are = last_split ids x at in
     let leaves_are = last_split (leaves_at level nodes x) leaf below in
-    rw (ids_are.1, flat_map-append (leaves_at level nodes) ids_are.0, append-nil (leaves_at level nodes x), leaves_are.1, ← append_assoc (flat_map (leaves_at level nodes) ids_are.0) leaves_are.0 (leaf ∷ []))
-    (last_or-some None (flat_map (leaves_at level nodes) ids_are.0 ++ leaves_are.0) leaf)
+    let fronts = flat_map (leaves_at level nodes) ids_are.0 in
+    rw (ids_are.1, flat_map-append (leaves_at level nodes) ids_are.0, append-nil (leaves_at level nodes x), leaves_are.1)
+    (rw (← append_assoc fronts leaves_are.0 (leaf ∷ []))
+    (last_or-some None (fronts ++ leaves_are.0) leaf))
 
 -- what holds of all children holds of one at an end
 pub at_end : (P : ℕ → Type 0) (end : End) (ids : List ℕ) (x : ℕ) → end_of end ids ≡ Some x → AllByRecursion P ids → P x
@@ -72,7 +67,8 @@ module _ {K V : Type 0} {LEN : ℕ} {cmp : K → K → Ordering} {level : ℕ} {
   pub last_used : IsSome (get old.leaves last)
   last_used = chain_used old.leaves (part.front ++ is_last.0) last part.back (to_last part.front part.back part.chain)
 
-  module _ {leaf_first leaf_last : LeafOf K V LEN} (first_here : get old.leaves first ≡ Some leaf_first) (last_here : get old.leaves last ≡ Some leaf_last) where
+  module _ {leaf_first leaf_last : LeafOf K V LEN} (first_here : get old.leaves first ≡ Some leaf_first)
+      (last_here : get old.leaves last ≡ Some leaf_last) where
     pub left_used : (n : ℕ) → leaf_first.prev ≡ Some n → IsSome (get old.leaves n)
     left_used n is = prev_used old.leaves part.front first (is_first.0 ++ part.back) (from_first part.front part.back part.chain) leaf_first first_here n is
 
@@ -97,7 +93,8 @@ module _ {K V : Type 0} {LEN : ℕ} {cmp : K → K → Ordering} {level : ℕ} {
       spliced_forest = record {
         stand = (same_stands cmp level old mid id agrees None None part.stands, tt);
         nodes_once = λ n. rw (single_nodes level mid.nodes id, spliced.nodes) (part.nodes_once n);
-        leaves_once = λ n. rw (single_leaves level mid.nodes id, spliced.nodes, same_array_uses old.leaves mid.leaves n (spliced.kept n)) (leaves_once_in level old id part n);
+        leaves_once = λ n.
+            rw (single_leaves level mid.nodes id, spliced.nodes, same_array_uses old.leaves mid.leaves n (spliced.kept n)) (leaves_once_in level old id part n);
       }
 
       -- the part is dropped
@@ -113,16 +110,31 @@ module _ {K V : Type 0} {LEN : ℕ} {cmp : K → K → Ordering} {level : ℕ} {
                 omega (arith, ap (times last) is_last.1, times-append last is_last.0 (last ∷ []), times-cons last last [], one_here last last refl) in
                 frees.leaves.kept n (rw spliced.nodes apart.outside)
                 ∙ untouched_leaf _ _ _ _ _ spliced.next_changed spliced.prev_changed n
-                (not_before old.leaves n leaf apart.here part.front first (is_first.0 ++ part.back) (from_first part.front part.back part.chain) leaf_first first_here ids begins here)
-                (not_behind old.leaves n leaf apart.here (part.front ++ is_last.0) last part.back (to_last part.front part.back part.chain) leaf_last last_here ids ends here)
+                (not_before old.leaves n leaf apart.here part.front first (is_first.0 ++ part.back) (from_first part.front part.back part.chain)
+                leaf_first first_here ids begins here)
+                (not_behind old.leaves n leaf apart.here (part.front ++ is_last.0) last part.back (to_last part.front part.back part.chain)
+                leaf_last last_here ids ends here)
                 ∙ apart.here;
             nodes_counted = λ n. let balance = rw spliced.nodes at (frees.nodes.counted n) in omega (arith, balance, times-nil n);
-            leaves_counted = λ n. let balance = rw spliced.nodes at (frees.leaves.counted n) in omega (arith, balance, times-nil n, same_array_uses old.leaves mid.leaves n (spliced.kept n));
+            leaves_counted = λ n.
+                let balance = rw spliced.nodes at (frees.leaves.counted n) in
+                omega (arith, balance, times-nil n, same_array_uses old.leaves mid.leaves n (spliced.kept n));
             chained = λ front back chain.
                 let here : IsChain old.leaves (front ++ (ids ++ back)) = rw (single_leaves level old.nodes id) at chain in
                 let same : (n : ℕ) → 1 ≤ times n (front ++ back) → get new.leaves n ≡ get mid.leaves n = λ n inside.
                 frees.leaves.kept n (rw (single_leaves level mid.nodes id, spliced.nodes)
-                (omega (arith, inside, times-append n front back, here.once n, times-append n front (ids ++ back), times-append n ids back, uses_le_one old.leaves n))) in
+                (omega (
+                  arith,
+                  inside,
+                  times-append n front back,
+                  here.once n,
+                  times-append n front (ids ++ back),
+                  times-append n ids back,
+                  uses_le_one old.leaves n,
+                ))) in
                 let around = spliced_chain front back here in
-                record { once = λ n. still_once mid.leaves new.leaves (front ++ back) n same (around.once n); linked = linked_kept mid.leaves new.leaves None (front ++ back) None same around.linked };
+                record {
+                  once = λ n. still_once mid.leaves new.leaves (front ++ back) n same (around.once n);
+                  linked = linked_kept mid.leaves new.leaves None (front ++ back) None same around.linked;
+                };
           }

@@ -1,5 +1,6 @@
 pub mod Bounds
 pub mod ChildCuts
+pub mod Common
 pub mod Counts
 pub mod CutLeaves
 pub mod CutLoop

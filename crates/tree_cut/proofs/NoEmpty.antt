@@ -1,12 +1,8 @@
 -- Keyed children that have a pair, where what they reach stays.
 use Rattle.std.proofs.Common.{◌≡◌, ℕ, zero, suc, List, [], ◌∷◌, take, drop, slice_get, Option, Some, None, refl, sym, ◌∙◌, take-append-drop}
-use Rattle.tree_model.proofs.Common.{AllByRecursion}
-use Rattle.tree_array.proofs.Common.{all_map}
-use Rattle.tree_node.proofs.Common.{get, TreeArenas, children_of, in_turn, keyed, node_children, unbounded}
-use Rattle.tree_node.specs.declared.node.NodeOf.{NodeOf}
+use Rattle.tree_cut.proofs.Common.{AllByRecursion, all_map, get, TreeArenas, children_of, in_turn, keyed, node_children, unbounded, NodeOf, HasNoEmpty, HasPair, OthersHaveNoEmpty, keyed_of}
 use Rattle.tree_node.proofs.Cuts.{all_behind, all_front}
 use Rattle.tree_node.proofs.Frames.{Agrees, agrees_below, agrees_here, all_both, same_walk}
-use Rattle.tree_cut.specs.Cuts.{HasNoEmpty, HasPair, OthersHaveNoEmpty, keyed_of}
 
 module _ {X : Type 0} (P : X → Type 0) where
   -- what holds of each of a list holds of a part of it
@@ -34,12 +30,14 @@ module _ {K : Type 0} (P : ℕ → Type 0) where
   each_keyed_of None each = tt
   each_keyed_of (Some node) each = each_keyed (keyed node).entries (unbounded node) each
 
-  pub keyed_taken : (pairs : List (K × ℕ)) (last place : ℕ) → AllByRecursion P (take place (in_turn pairs (Some last))) → AllByRecursion (λ c. P c.1) (take place pairs)
+  pub keyed_taken : (pairs : List (K × ℕ)) (last place : ℕ) → AllByRecursion P (take place (in_turn pairs (Some last)))
+      → AllByRecursion (λ c. P c.1) (take place pairs)
   keyed_taken pairs last zero each = tt
   keyed_taken [] last (suc place) each = tt
   keyed_taken (c ∷ pairs) last (suc place) each = (each.0, keyed_taken pairs last place each.1)
 
-  pub keyed_dropped : (pairs : List (K × ℕ)) (last place : ℕ) → AllByRecursion P (drop place (in_turn pairs (Some last))) → AllByRecursion (λ c. P c.1) (drop place pairs)
+  pub keyed_dropped : (pairs : List (K × ℕ)) (last place : ℕ) → AllByRecursion P (drop place (in_turn pairs (Some last)))
+      → AllByRecursion (λ c. P c.1) (drop place pairs)
   keyed_dropped pairs last zero each = each_keyed pairs (Some last) each
   keyed_dropped [] last (suc place) each = tt
   keyed_dropped (c ∷ pairs) last (suc place) each = keyed_dropped pairs last place each
@@ -48,7 +46,8 @@ module _ {K V : Type 0} {LEN : ℕ} (level : ℕ) (a b : TreeArenas K V LEN) whe
   pub pairs_same : (pairs : List (K × ℕ)) → AllByRecursion (λ c. Agrees level a b c.1) pairs → AllByRecursion (λ c. HasPair level a c.1) pairs
       → AllByRecursion (λ c. HasPair level b c.1) pairs
   pairs_same pairs same had =
-      all_map (λ c both none. both.1 (sym (same_walk level a b c.1 both.0) ∙ none)) pairs (all_both (λ c. Agrees level a b c.1) (λ c. HasPair level a c.1) pairs same had)
+      all_map (λ c both none. both.1 (sym (same_walk level a b c.1 both.0) ∙ none)) pairs
+      (all_both (λ c. Agrees level a b c.1) (λ c. HasPair level a c.1) pairs same had)
 
 module _ {K V : Type 0} {LEN : ℕ} (a b : TreeArenas K V LEN) where
   same_no_empty : (level : ℕ) (id : ℕ) → Agrees level a b id → HasNoEmpty level a id → HasNoEmpty level b id
@@ -60,8 +59,10 @@ module _ {K V : Type 0} {LEN : ℕ} (a b : TreeArenas K V LEN) where
         all_map (λ x both. same_no_empty level x both.0 both.1) _ (all_both (Agrees level a b) (HasNoEmpty level a) _ below before.1),
       )
 
-  pub no_empty_same : (level : ℕ) (ids : List ℕ) → AllByRecursion (λ x. Agrees level a b x) ids → AllByRecursion (HasNoEmpty level a) ids → AllByRecursion (HasNoEmpty level b) ids
-  no_empty_same level ids same before = all_map (λ x both. same_no_empty level x both.0 both.1) ids (all_both (Agrees level a b) (HasNoEmpty level a) ids same before)
+  pub no_empty_same : (level : ℕ) (ids : List ℕ) → AllByRecursion (λ x. Agrees level a b x) ids → AllByRecursion (HasNoEmpty level a) ids
+      → AllByRecursion (HasNoEmpty level b) ids
+  no_empty_same level ids same before =
+      all_map (λ x both. same_no_empty level x both.0 both.1) ids (all_both (Agrees level a b) (HasNoEmpty level a) ids same before)
 
 module _ {K V : Type 0} {LEN : ℕ} (level : ℕ) (a : TreeArenas K V LEN) (id place : ℕ) where
   -- all keyed children but one, and all

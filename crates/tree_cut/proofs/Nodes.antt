@@ -1,15 +1,9 @@
 -- A node above the leaves, seen from a program that counts its level: its children stand one level below.
 use Rattle.std.proofs.Common.{sub-one, ◌≡◌, ℕ, zero, suc, ◌-◌, ◌<◌, ◌∷◌, None, Some, IsSome, refl, sym, ap, ◌∙◌, arith, flat_map, Ordering}
-use Rattle.tree_model.proofs.Common.{AllByRecursion}
-use Rattle.tree_node.proofs.Common.{get, TreeArenas, HasKind, Stands, keyed, leaves_at, leaves_of, node_children, nodes_at, nodes_of, unbounded, walk}
-use Rattle.tree_node.specs.declared.node.NodeOf.{NodeOf}
+use Rattle.tree_cut.proofs.Common.{AllByRecursion, get, TreeArenas, HasKind, Stands, keyed, leaves_at, leaves_of, node_children, nodes_at, nodes_of, unbounded, walk, NodeOf, HasNoEmpty, HasPair, Part, Leaf, Node, IsAt, part_id}
 use Rattle.tree_node.proofs.ChildrenStand.{children_stand}
 use Rattle.tree_node.proofs.Standing.{node_is}
 use Rattle.tree_node.proofs.Walks.{walk-children}
-use Rattle.tree_cut.specs.Cuts.{HasNoEmpty, HasPair}
-use Rattle.tree_cut.specs.declared.parts.Part.{Part}
-use Rattle.tree_cut.specs.declared.parts.Part.TheVariants.{Leaf, Node}
-use Rattle.tree_cut.specs.Parts.{IsAt, part_id}
 
 -- a node stands at any level but that of leaves
 pub above_leaves : {part : Part} {id : ℕ} (level : ℕ) → part ≡ Node id → IsAt level part → 0 < level
@@ -29,7 +23,8 @@ module _ {K V : Type 0} {LEN : ℕ} (cmp : K → K → Ordering) where
     pub leaves : leaves_at level a.nodes id ≡ leaves_of below a.nodes (node_children (Some node))
     pub nodes : nodes_at level a.nodes id ≡ id ∷ nodes_of below a.nodes (node_children (Some node))
     pub walk_is : walk level a id ≡ flat_map (walk below a) (node_children (Some node))
-    pub no_empty : HasNoEmpty level a id → AllByRecursion (λ c. HasPair below a c.1) (keyed node).entries × AllByRecursion (HasNoEmpty below a) (node_children (Some node))
+    pub no_empty : HasNoEmpty level a id
+        → AllByRecursion (λ c. HasPair below a c.1) (keyed node).entries × AllByRecursion (HasNoEmpty below a) (node_children (Some node))
 
   pub node_used : (level : ℕ) (a : TreeArenas K V LEN) (id : ℕ) → 0 < level → Stands cmp level a None id None → IsSome (get a.nodes id)
   node_used zero a id inner s = absurd (omega (arith, inner))
@@ -59,6 +54,7 @@ module _ {K V : Type 0} {LEN : ℕ} (cmp : K → K → Ordering) where
         → NodeAt level (level - 1) a id node
     node_under {node} is kind s here = node_at level a id node (above_leaves level is kind) (rw is at s) here
 
-  pub leaf_there : (level : ℕ) (a : TreeArenas K V LEN) {part : Part} {id : ℕ} → part ≡ Leaf id → IsAt level part → Stands cmp level a None (part_id part) None → IsSome (get a.leaves id)
+  pub leaf_there : (level : ℕ) (a : TreeArenas K V LEN) {part : Part} {id : ℕ} → part ≡ Leaf id → IsAt level part → Stands cmp level a None (part_id part) None
+      → IsSome (get a.leaves id)
   leaf_there zero a {id = id} is kind s = let here : Stands cmp 0 a None id None = rw is at s in rw here.here refl
   leaf_there (suc level) a is kind s = absurd (rw is at kind)

@@ -1,20 +1,14 @@
 -- One child of a node is cut, or dropped and taken out: what that makes of the part under the node.
 use Rattle.std.proofs.Common.{sub-one, ◌≡◌, ℕ, zero, suc, ◌+◌, ◌-◌, ◌≤◌, ◌<◌, Bool, true, false, is_some, MatchOption, Option, List, [], ◌∷◌, ◌++◌, map, take, drop, length, slice_get, Some, None, refl, sym, ap, ◌∙◌, arith, flat_map, Ordering, append-nil, take-append-drop, length-take-le}
+use Rattle.tree_cut.proofs.Common.{AllByRecursion, Bound, IsTotalOrder, Unbounded, flat_map-append, cut, all-append, arrival, get, TreeArenas, IsPart, KeepsBounds, Replaces, Stands, children_of, in_turn, keyed, node_children, unbounded, walk, NodeOf, TakesKeyed, keyed_or, CutsAt, CutsUnder, HasNoEmpty, HasPair, OthersHaveNoEmpty, keyed_of}
 use Rattle.std.proofs.lemmas.List.{drop_at, take_at}
 use Rattle.std.proofs.lemmas.Option.{slice_get_within}
-use Rattle.tree_model.proofs.Common.{AllByRecursion, Bound, IsTotalOrder, Unbounded, flat_map-append, cut}
 use Rattle.tree_model.proofs.Lists.{all_at}
-use Rattle.tree_array.proofs.Common.{all-append, arrival}
-use Rattle.tree_node.proofs.Common.{get, TreeArenas, IsPart, KeepsBounds, Replaces, Stands, children_of, in_turn, keyed, node_children, unbounded, walk}
-use Rattle.tree_node.specs.declared.node.NodeOf.{NodeOf}
 use Rattle.tree_node.proofs.ChildrenStand.{children_stand}
 use Rattle.tree_node.proofs.Frames.{Agrees, parted_map}
 use Rattle.tree_node.proofs.Lifts.{child_is_part, node_stays}
 use Rattle.tree_node.proofs.Standing.{node_is}
 use Rattle.tree_clean_up.proofs.Siblings.{LosesKeyed, Siblings, loses_keyed, same_walks, siblings, still_stand}
-use Rattle.tree_clean_up.specs.CleanUps.{TakesKeyed}
-use Rattle.tree_borders.specs.Places.{keyed_or}
-use Rattle.tree_cut.specs.Cuts.{CutsAt, CutsUnder, HasNoEmpty, HasPair, OthersHaveNoEmpty, keyed_of}
 use Rattle.tree_cut.proofs.NoEmpty.{and_one, but_one, keyed_dropped, keyed_taken, no_empty_same, pairs_same}
 use Rattle.tree_cut.proofs.Turns.{TurnAt, length-turns, split_here, turn, turn_here}
 
@@ -42,18 +36,19 @@ module _ {K V : Type 0} {LEN : ℕ} (cmp : K → K → Ordering) where
     -- the child is cut
     pub cuts : (low high : Bound K) (new : TreeArenas K V LEN) (gone : ℕ) → CutsUnder cmp low high below old new child gone
         → CutsAt cmp low high level below old new id place gone
-    pub others : (low high : Bound K) (new : TreeArenas K V LEN) (gone : ℕ) → CutsUnder cmp low high below old new child gone
-        → HasNoEmpty level old id → OthersHaveNoEmpty below new id place
+    pub others : (low high : Bound K) (new : TreeArenas K V LEN) (gone : ℕ) → CutsUnder cmp low high below old new child gone → HasNoEmpty level old id
+        → OthersHaveNoEmpty below new id place
     -- and has a pair left, if it is a keyed one
     pub left : (low high : Bound K) (new : TreeArenas K V LEN) (gone : ℕ) → CutsUnder cmp low high below old new child gone → HasNoEmpty level old id
         → ((c : K × ℕ) → slice_get (keyed node).entries place ≡ Some c → HasPair below new child) → HasNoEmpty level new id
     -- or is dropped
     pub drops : (mid new : TreeArenas K V LEN) (slot : ℕ) → IsTakenOut below old mid new id place child slot node
         → CutsAt cmp Unbounded Unbounded level below old new id place (length (walk below old child))
-    pub after_drop : (mid new : TreeArenas K V LEN) (slot : ℕ) → IsTakenOut below old mid new id place child slot node
-        → OthersHaveNoEmpty below old id place → HasNoEmpty level new id
+    pub after_drop : (mid new : TreeArenas K V LEN) (slot : ℕ) → IsTakenOut below old mid new id place child slot node → OthersHaveNoEmpty below old id place
+        → HasNoEmpty level new id
 
-module _ {K V : Type 0} {LEN : ℕ} {cmp : K → K → Ordering} (o : IsTotalOrder cmp) (level : ℕ) (old : TreeArenas K V LEN) (id place child : ℕ) (part : IsPart cmp (suc level) old id)
+module _ {K V : Type 0} {LEN : ℕ} {cmp : K → K → Ordering} (o : IsTotalOrder cmp) (level : ℕ) (old : TreeArenas K V LEN) (id place child : ℕ)
+    (part : IsPart cmp (suc level) old id)
     (st : Stands cmp (suc level) old None id None) (at : TurnAt (keyed st.node).entries st.last place child) where
   abbrev pairs : List (K × ℕ)
   pairs = (keyed st.node).entries
@@ -92,16 +87,17 @@ module _ {K V : Type 0} {LEN : ℕ} {cmp : K → K → Ordering} (o : IsTotalOrd
   -- the child has become `left`, and the others stay
   module _ (new : TreeArenas K V LEN) (left : List ℕ) (s : Siblings level old new id front (child ∷ []) left back) where
     changed : (low high : Bound K) (gone : ℕ) → flat_map (walk level new) left ≡ cut cmp (walk level old child) low high
-        → gone + length (cut cmp (walk level old child) low high) ≡ length (walk level old child)
-        → take place (keyed_of (get new.nodes id)) ≡ take place pairs → KeepsBounds cmp (suc level) old new id → CutsAt cmp low high (suc level) level old new id place gone
+        → gone + length (cut cmp (walk level old child) low high) ≡ length (walk level old child) → take place (keyed_of (get new.nodes id)) ≡ take place pairs
+        → KeepsBounds cmp (suc level) old new id
+        → CutsAt cmp low high (suc level) level old new id place gone
     changed low high gone left_is counted separators stands = record {
       child = child;
       here = rw children_are at.here;
       counted = counted;
       front = rw (s.now, take_at front (left ++ back) place front_long, children_are) (same_walks level old new front s.fronts);
       back =
-          rw (s.now, drop_at front (left ++ back) place front_long, children_are, flat_map-append (walk level new) left back, left_is, same_walks level old new back s.backs)
-          refl;
+          rw (s.now, drop_at front (left ++ back) place front_long, children_are)
+          (rw (flat_map-append (walk level new) left back, left_is, same_walks level old new back s.backs) refl);
       separators = rw st.here separators;
       stands = stands;
       replaces = s.replaces;
@@ -109,10 +105,12 @@ module _ {K V : Type 0} {LEN : ℕ} {cmp : K → K → Ordering} (o : IsTotalOrd
 
     -- what holds of the keyed children beside it, and of all
     kept : OthersHaveNoEmpty level old id place → AllByRecursion (λ c. HasPair level new c.1) (take place pairs)
-        × AllByRecursion (λ c. HasPair level new c.1) (drop (suc place) pairs) × AllByRecursion (HasNoEmpty level new) front × AllByRecursion (HasNoEmpty level new) back
+        × AllByRecursion (λ c. HasPair level new c.1) (drop (suc place) pairs)
+        × AllByRecursion (HasNoEmpty level new) front × AllByRecursion (HasNoEmpty level new) back
     kept others = (
       pairs_same level old new (take place pairs) (keyed_taken (Agrees level old new) pairs st.last place s.fronts) (rw st.here at others.keyed_before),
-      pairs_same level old new (drop (suc place) pairs) (keyed_dropped (Agrees level old new) pairs st.last (suc place) s.backs) (rw st.here at others.keyed_behind),
+      pairs_same level old new (drop (suc place) pairs) (keyed_dropped (Agrees level old new) pairs st.last (suc place) s.backs)
+          (rw st.here at others.keyed_behind),
       no_empty_same old new level front s.fronts (rw children_are at others.before),
       no_empty_same old new level back s.backs (rw children_are at others.behind),
     )
@@ -131,7 +129,8 @@ module _ {K V : Type 0} {LEN : ℕ} {cmp : K → K → Ordering} (o : IsTotalOrd
         let both : Some s.last ≡ Some st.last = sym s.last_is ∙ ap unbounded node ∙ st.last_is in
         let last : s.last ≡ st.last = cc in
         let each : AllByRecursion (λ x. KeepsBounds cmp level old new x) (front ++ child ∷ back) =
-        all-append _ front (child ∷ back) (still_stand cmp level old new front cut_beside.fronts) (cuts.stands, still_stand cmp level old new back cut_beside.backs) in
+        let backs = still_stand cmp level old new back cut_beside.backs in
+        all-append _ front (child ∷ back) (still_stand cmp level old new front cut_beside.fronts) (cuts.stands, backs) in
         record {
           node = st.node;
           here = kept_node ∙ st.here;
@@ -216,9 +215,9 @@ module _ {K V : Type 0} {LEN : ℕ} {cmp : K → K → Ordering} (o : IsTotalOrd
   }
 
 module _ {K V : Type 0} {LEN : ℕ} {cmp : K → K → Ordering} (o : IsTotalOrder cmp) where
-  pub child_at : (level place : ℕ) {old : TreeArenas K V LEN} {id child : ℕ} {node : NodeOf K LEN} → 0 < level → IsPart cmp level old id → get old.nodes id ≡ Some node
-      → keyed_or (slice_get (keyed node).entries place) (unbounded node) ≡ Some child → place ≤ length (keyed_of (get old.nodes id))
-      → ChildAt cmp level (level - 1) old id place child node
+  pub child_at : (level place : ℕ) {old : TreeArenas K V LEN} {id child : ℕ} {node : NodeOf K LEN} → 0 < level → IsPart cmp level old id
+      → get old.nodes id ≡ Some node → keyed_or (slice_get (keyed node).entries place) (unbounded node) ≡ Some child
+      → place ≤ length (keyed_of (get old.nodes id)) → ChildAt cmp level (level - 1) old id place child node
   child_at zero place inner part here is within = absurd (omega (arith, inner))
   child_at (suc level) place {old} {id} {child} {node} inner part here is within =
       let s : Stands cmp (suc level) old None id None = part.stands in
@@ -238,7 +237,8 @@ taken_out {child = child} found is dropped takes leaves =
 
 -- a keyed child is there where its slot was read, and only there
 pub slot_told : {K : Type 0} {LEN : ℕ} {read : Bool} (node : NodeOf K LEN) (place : ℕ) (slot : Option ℕ) → read ≡ is_some slot
-    → MatchOption slot (slice_get (keyed node).entries place ≡ None) (λ s. (pair : K × ℕ) × (arrival (keyed node).arrivals s ≡ Some pair) × (slice_get (keyed node).entries place ≡ Some pair))
+    → MatchOption slot (slice_get (keyed node).entries place ≡ None)
+    (λ s. (pair : K × ℕ) × (arrival (keyed node).arrivals s ≡ Some pair) × (slice_get (keyed node).entries place ≡ Some pair))
     → (read ≡ true → place < length (keyed node).entries) × (read ≡ false → slice_get (keyed node).entries place ≡ None)
 slot_told node place None is found = (λ some. absurd (cc), λ none. found)
 slot_told node place (Some slot) is found = (λ some. slice_get_within _ place found.0 found.2, λ none. absurd (cc))

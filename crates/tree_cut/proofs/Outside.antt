@@ -1,13 +1,9 @@
 -- Children of a node whose keys are outside two bounds, and keys of one child that need one bound alone.
 use Rattle.std.proofs.Common.{◌≡◌, ◌≢◌, ℕ, zero, suc, ◌≤◌, ◌<◌, Bool, true, false, not, cond, List, [], ◌∷◌, filter, take, drop, length, Option, Some, None, refl, sym, ap, arith, inl, inr, flat_map, Ordering, Less, take-append-drop}
-use Rattle.tree_model.proofs.Common.{AllByRecursion, IsTotalOrder, Bound, cases_eq, cut, within}
-use Rattle.tree_array.proofs.Common.{all_map, all-append}
-use Rattle.tree_node.proofs.Common.{TreeArenas, AreParted, IsAbove, IsUpTo, Stands, in_turn, walk}
-use Rattle.tree_model.specs.Pairs.{meets_lower, meets_upper}
+use Rattle.tree_cut.proofs.Common.{AllByRecursion, IsTotalOrder, Bound, cases_eq, cut, within, all_map, all-append, TreeArenas, AreParted, IsAbove, IsUpTo, Stands, in_turn, walk, meets_lower, meets_upper, Narrows}
 use Rattle.tree_node.proofs.Frames.{all_both}
 use Rattle.tree_node.proofs.Places.{child_between, first_child, high_at, low_at}
 use Rattle.tree_node.proofs.Walks.{parted_above, walk_above, walk_up_to}
-use Rattle.tree_borders.specs.Places.{Narrows}
 use Rattle.tree_cut.proofs.Bounds.{key_after, key_before, upper_down}
 
 filter_alike : {X : Type 0} (test other : X → Bool) (xs : List X) → AllByRecursion (λ x. test x ≡ other x) xs → filter test xs ≡ filter other xs
@@ -21,13 +17,16 @@ IsOutside cmp low high pairs = AllByRecursion (λ p. not (within cmp low high p.
 module _ {K : Type 0} {cmp : K → K → Ordering} (o : IsTotalOrder cmp) (low high : Bound K) where
   -- what is above a child behind the first that opens the lower bound meets it
   pub low_opened : (pairs : List (K × ℕ)) (before : Option K) (first place : ℕ) → first < place → place ≤ length pairs
-      → AllByRecursion (λ c. (k : K) → cmp c.0 k ≡ Less → meets_lower cmp low k ≡ true) (drop first pairs) → (k : K) → IsAbove cmp (low_at before (take place pairs)) k
+      → AllByRecursion (λ c. (k : K) → cmp c.0 k ≡ Less → meets_lower cmp low k ≡ true) (drop first pairs) → (k : K)
+      → IsAbove cmp (low_at before (take place pairs)) k
       → meets_lower cmp low k ≡ true
   low_opened [] before first place more within opened k above = absurd (omega (arith, more, within))
   low_opened (c ∷ pairs) before first zero more within opened k above = absurd (omega (arith, more))
   low_opened (c ∷ pairs) before zero (suc zero) more within opened k above = opened.0 k above
-  low_opened (c ∷ pairs) before zero (suc (suc place)) more within opened k above = low_opened pairs (Some c.0) zero (suc place) (omega arith) (omega (arith, within)) opened.1 k above
-  low_opened (c ∷ pairs) before (suc first) (suc place) more within opened k above = low_opened pairs (Some c.0) first place (omega (arith, more)) (omega (arith, within)) opened k above
+  low_opened (c ∷ pairs) before zero (suc (suc place)) more within opened k above =
+      low_opened pairs (Some c.0) zero (suc place) (omega arith) (omega (arith, within)) opened.1 k above
+  low_opened (c ∷ pairs) before (suc first) (suc place) more within opened k above =
+      low_opened pairs (Some c.0) first place (omega (arith, more)) (omega (arith, within)) opened k above
 
   -- and what a keyed child may have meets an upper bound that its separator meets
   pub high_met : (pairs : List (K × ℕ)) (place : ℕ) → place < length pairs → AllByRecursion (λ c. meets_upper cmp high c.0 ≡ true) (take (suc place) pairs)
@@ -37,8 +36,9 @@ module _ {K : Type 0} {cmp : K → K → Ordering} (o : IsTotalOrder cmp) (low h
   high_met (c ∷ pairs) (suc place) within met k up_to = high_met pairs place (omega (arith, within)) met.1 k up_to
 
   module _ {V : Type 0} {LEN : ℕ} (level : ℕ) (a : TreeArenas K V LEN) where
-    pub fronts_outside : (before : Option K) (pairs : List (K × ℕ)) (last : ℕ) (after : Option K) → AreParted cmp (Stands cmp level a) before pairs last after → (place : ℕ) → place ≤ length pairs
-        → AllByRecursion (λ c. meets_lower cmp low c.0 ≡ false) (take place pairs) → IsOutside cmp low high (flat_map (walk level a) (take place (in_turn pairs (Some last))))
+    pub fronts_outside : (before : Option K) (pairs : List (K × ℕ)) (last : ℕ) (after : Option K) → AreParted cmp (Stands cmp level a) before pairs last after
+        → (place : ℕ) → place ≤ length pairs → AllByRecursion (λ c. meets_lower cmp low c.0 ≡ false) (take place pairs)
+        → IsOutside cmp low high (flat_map (walk level a) (take place (in_turn pairs (Some last))))
     fronts_outside before pairs last after parted zero within missed = tt
     fronts_outside before [] last after parted (suc place) within missed = absurd (omega (arith, within))
     fronts_outside before (c ∷ pairs) last after parted (suc place) within missed =
@@ -46,18 +46,20 @@ module _ {K : Type 0} {cmp : K → K → Ordering} (o : IsTotalOrder cmp) (low h
         (all_map (λ p h. key_before o low high c.0 p.0 missed.0 h) _ (walk_up_to o level a before c.1 (Some c.0) parted.0))
         (fronts_outside (Some c.0) pairs last after parted.3 place (omega (arith, within)) missed.1)
 
-    pub backs_outside : (before : Option K) (pairs : List (K × ℕ)) (last : ℕ) (after : Option K) → AreParted cmp (Stands cmp level a) before pairs last after → (place : ℕ) → place ≤ length pairs
-        → AllByRecursion (λ c. (k : K) → cmp c.0 k ≡ Less → meets_upper cmp high k ≡ false) (drop place pairs)
+    pub backs_outside : (before : Option K) (pairs : List (K × ℕ)) (last : ℕ) (after : Option K) → AreParted cmp (Stands cmp level a) before pairs last after
+        → (place : ℕ) → place ≤ length pairs → AllByRecursion (λ c. (k : K) → cmp c.0 k ≡ Less → meets_upper cmp high k ≡ false) (drop place pairs)
         → IsOutside cmp low high (flat_map (walk level a) (drop (suc place) (in_turn pairs (Some last))))
     backs_outside before [] last after parted zero within closed = tt
     backs_outside before [] last after parted (suc place) within closed = absurd (omega (arith, within))
     backs_outside before (c ∷ pairs) last after parted zero within closed =
-        all_map (λ p h. key_after o low high p.0 (closed.0 p.0 h)) _ (parted_above o (Stands cmp level a) (walk level a) (walk_above o level a) (Some c.0) pairs last after parted.3)
-    backs_outside before (c ∷ pairs) last after parted (suc place) within closed = backs_outside (Some c.0) pairs last after parted.3 place (omega (arith, within)) closed
+        all_map (λ p h. key_after o low high p.0 (closed.0 p.0 h)) _
+        (parted_above o (Stands cmp level a) (walk level a) (walk_above o level a) (Some c.0) pairs last after parted.3)
+    backs_outside before (c ∷ pairs) last after parted (suc place) within closed =
+        backs_outside (Some c.0) pairs last after parted.3 place (omega (arith, within)) closed
 
     -- In one child the bounds that are left to test there say the same as both.
-    pub narrowed_cut : (pairs : List (K × ℕ)) (last place child first final : ℕ) (lo hi : Bound K) → AreParted cmp (Stands cmp level a) None pairs last None → first_child (drop place pairs) last ≡ child
-        → Narrows low lo place first → Narrows high hi place final
+    pub narrowed_cut : (pairs : List (K × ℕ)) (last place child first final : ℕ) (lo hi : Bound K) → AreParted cmp (Stands cmp level a) None pairs last None
+        → first_child (drop place pairs) last ≡ child → Narrows low lo place first → Narrows high hi place final
         → (place ≢ first → (k : K) → IsAbove cmp (low_at None (take place pairs)) k → meets_lower cmp low k ≡ true)
         → (place ≢ final → (k : K) → IsUpTo cmp k (high_at (drop place pairs) None) → meets_upper cmp high k ≡ true)
         → cut cmp (walk level a child) lo hi ≡ cut cmp (walk level a child) low high
@@ -65,7 +67,8 @@ module _ {K : Type 0} {cmp : K → K → Ordering} (o : IsTotalOrder cmp) (low h
         let stands : Stands cmp level a (low_at None (take place pairs)) child (high_at (drop place pairs) None) =
         rw is at (child_between o (Stands cmp level a) None (take place pairs) (drop place pairs) last None (rw (take-append-drop place pairs) parted)) in
         filter_alike _ _ (walk level a child)
-        (all_map (λ p both. rw (lower p.0 both.0, upper p.0 both.1) refl) _ (all_both _ _ _ (walk_above o level a _ child _ stands) (walk_up_to o level a _ child _ stands)))
+        (all_map (λ p both. rw (lower p.0 both.0, upper p.0 both.1) refl) _
+        (all_both _ _ _ (walk_above o level a _ child _ stands) (walk_up_to o level a _ child _ stands)))
       where
         lower : (k : K) → IsAbove cmp (low_at None (take place pairs)) k → meets_lower cmp lo k ≡ meets_lower cmp low k
         lower k above = elim (cases_eq place first) [

@@ -1,12 +1,9 @@
 -- The child at a place of a node, and the children around it.
 use Rattle.std.proofs.Common.{◌≡◌, ℕ, zero, suc, ◌+◌, ◌≤◌, List, [], ◌∷◌, ◌++◌, map, take, drop, length, length-append, slice_get, Option, Some, None, IsSome, refl, ap, arith}
-use Rattle.tree_model.proofs.Common.{drop_all}
-use Rattle.tree_node.proofs.Common.{in_turn}
+use Rattle.tree_cut.proofs.Common.{drop_all, in_turn, first_or, last_or, keyed_or}
 use Rattle.std.proofs.lemmas.List.{length-map}
 use Rattle.std.proofs.lemmas.Option.{slice_get_past}
-use Rattle.tree_leaf.specs.Chain.{first_or, last_or}
 use Rattle.tree_node.proofs.Places.{first_child, later_children}
-use Rattle.tree_borders.specs.Places.{keyed_or}
 
 pub last_or-some : (before : Option ℕ) (front : List ℕ) (x : ℕ) → last_or before (front ++ x ∷ []) ≡ Some x
 last_or-some before [] x = refl

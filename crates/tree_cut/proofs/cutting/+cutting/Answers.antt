@@ -1,7 +1,5 @@
 use Rattle.std.proofs.Common.{rules, ◌≡◌, ◌-◌, ◌≤◌, length, true, false, Some, None, arith, sym, ◌∙◌}
-use Rattle.tree_node.proofs.Common.{get, fits}
-use Rattle.tree_cut.specs.Cuts.{keyed_of}
-use Rattle.tree_cut.specs.Parts.{part_id}
+use Rattle.tree_cut.proofs.Common.{get, fits, keyed_of, part_id}
 use Rattle.tree_cut.proofs.ChildCuts.{empty_drop, part_forest, part_left}
 use Rattle.tree_cut.proofs.CutLoop.{finishes, starts, state_reach, steps}
 use Rattle.tree_cut.proofs.Nodes.{above_leaves, at_leaves, leaf_there, node_at, node_there, node_used}
@@ -25,21 +23,24 @@ cut_child-drop_child-requires g t c =
 pub cut_child-cut_part-gone-requires : goal.cut_child-cut_part-gone-requires
 cut_child-cut_part-gone-requires g t c κs within =
     let node = node_at g.K.Ord.cmp c.args.level c.args.arenas.now c.args.id _ c.requires.node c.requires.part.stands c.node-node.ensures in
-    let here = child_at g.met.K.Ord.total c.args.level c.args.place c.requires.node c.requires.part c.node-node.ensures c.child_at-child.ensures.child c.requires.place in
+    let here = child_at g.met.K.Ord.total c.args.level c.args.place c.requires.node c.requires.part c.node-node.ensures c.child_at-child.ensures.child
+    c.requires.place in
     let kind = c.child_at-child.ensures.kind (c.args.level - 1) node.kind in
     (omega (arith, c.requires.node), (within.0, (within.1, (search rules, (search rules, (search fits, (kind, here.part)))))))
 
 pub cut_child-is_empty-requires : goal.cut_child-is_empty-requires
 cut_child-is_empty-requires g t c =
     let node = node_at g.K.Ord.cmp c.args.level c.args.arenas.now c.args.id _ c.requires.node c.requires.part.stands c.node-node.ensures in
-    let here = child_at g.met.K.Ord.total c.args.level c.args.place c.requires.node c.requires.part c.node-node.ensures c.child_at-child.ensures.child c.requires.place in
+    let here = child_at g.met.K.Ord.total c.args.level c.args.place c.requires.node c.requires.part c.node-node.ensures c.child_at-child.ensures.child
+    c.requires.place in
     let kind = c.child_at-child.ensures.kind (c.args.level - 1) node.kind in
     (search rules, (search fits, (kind, c.cut_part-gone.ensures.stands None None here.part.stands)))
 
 pub cut_child-drop_child-requires-then-is_empty : goal.cut_child-drop_child-requires-then-is_empty
 cut_child-drop_child-requires-then-is_empty g t c =
-    let here = child_at g.met.K.Ord.total c.args.level c.args.place c.requires.node c.requires.part c.node-node.ensures c.child_at-child.ensures.child c.requires.place in
-    let cuts = here.cuts _ _ c.cut_part-gone.new.arenas c.cut_part-gone.result c.cut_part-gone.ensures in
+    let here = child_at g.met.K.Ord.total c.args.level c.args.place c.requires.node c.requires.part c.node-node.ensures c.child_at-child.ensures.child
+    c.requires.place in
+    let cuts = here.cuts _ _ _ _ c.cut_part-gone.ensures in
     let stays = here.stays c.cut_part-gone.new.arenas _ c.cut_part-gone.ensures.replaces in
     let told = slot_told c.node-node.result.now c.args.place c.slot_at.result c.is_some-keyed.ensures c.slot_at.ensures in
     (search rules, (search fits, (c.requires.node, (part_left cuts c.requires.part, rw stays (told.0 c.if-keyed-2.true)))))
@@ -77,13 +78,14 @@ cut_part-cut_child-gone-requires g t c κs within =
 pub cut_part-overflow_add-gone : goal.cut_part-overflow_add-gone
 cut_part-overflow_add-gone g t c =
     let inner = above_leaves c.args.level c.in-Node.is c.requires.kind in
-    let next = steps g.met.K.Ord.total _ _ _ _ c.args.level inner c.loop-place.invariant (omega (arith, c.loop-place-test.true)) (omega (arith, c.loop-place-test.true))
-    c.narrowed.ensures.low c.narrowed.ensures.high c.cut_child-gone.ensures.cuts c.cut_child-gone.ensures.no_empty in
+    let next = steps g.met.K.Ord.total _ _ _ _ c.args.level inner c.loop-place.invariant (omega (arith, c.loop-place-test.true))
+    (omega (arith, c.loop-place-test.true)) c.narrowed.ensures.low c.narrowed.ensures.high c.cut_child-gone.ensures.cuts c.cut_child-gone.ensures.no_empty in
     omega (arith, next.counted, c.count_fits.ensures)
 
 pub cut_part-loop-place-preserved : goal.cut_part-loop-place-preserved
 cut_part-loop-place-preserved g t c =
-    steps g.met.K.Ord.total _ _ _ _ c.args.level (above_leaves c.args.level c.in-Node.is c.requires.kind) c.loop-place.invariant (omega (arith, c.loop-place-test.true))
+    let inner = above_leaves c.args.level c.in-Node.is c.requires.kind in
+    steps g.met.K.Ord.total _ _ _ _ c.args.level inner c.loop-place.invariant (omega (arith, c.loop-place-test.true))
     (omega (arith, c.loop-place-test.true)) c.narrowed.ensures.low c.narrowed.ensures.high c.cut_child-gone.ensures.cuts c.cut_child-gone.ensures.no_empty
 
 pub cut_part-returns-in-Leaf : goal.cut_part-returns-in-Leaf
@@ -91,30 +93,35 @@ cut_part-returns-in-Leaf g t c = rw (c.in-Leaf.is, at_leaves c.args.level c.in-L
 
 pub cut_part-returns-after-loop-place : goal.cut_part-returns-after-loop-place
 cut_part-returns-after-loop-place g t c =
-    rw c.in-Node.is (finishes g.met.K.Ord.total _ _ _ _ c.args.level (above_leaves c.args.level c.in-Node.is c.requires.kind) c.loop-place.invariant c.loop-place-test.false)
+    let inner = above_leaves c.args.level c.in-Node.is c.requires.kind in
+    rw c.in-Node.is (finishes g.met.K.Ord.total _ _ _ _ c.args.level inner c.loop-place.invariant c.loop-place-test.false)
 
 pub cut_child-returns-then-is_open : goal.cut_child-returns-then-is_open
 cut_child-returns-then-is_open g t c =
     let both = c.is_open.ensures c.if-is_open.true in
-    let here = child_at g.met.K.Ord.total c.args.level c.args.place c.requires.node c.requires.part c.node-node.ensures c.child_at-child.ensures.child c.requires.place in
+    let here = child_at g.met.K.Ord.total c.args.level c.args.place c.requires.node c.requires.part c.node-node.ensures c.child_at-child.ensures.child
+    c.requires.place in
     record { cuts = rw (both.0, both.1) c.drop_child.ensures.drops; no_empty = λ before. c.drop_child.ensures.no_empty (here.but_one before) }
 
 pub cut_child-returns-then-is_empty : goal.cut_child-returns-then-is_empty
 cut_child-returns-then-is_empty g t c =
-    let here = child_at g.met.K.Ord.total c.args.level c.args.place c.requires.node c.requires.part c.node-node.ensures c.child_at-child.ensures.child c.requires.place in
-    let cuts = here.cuts _ _ c.cut_part-gone.new.arenas c.cut_part-gone.result c.cut_part-gone.ensures in
+    let here = child_at g.met.K.Ord.total c.args.level c.args.place c.requires.node c.requires.part c.node-node.ensures c.child_at-child.ensures.child
+    c.requires.place in
+    let cuts = here.cuts _ _ _ _ c.cut_part-gone.ensures in
     let stays = here.stays c.cut_part-gone.new.arenas _ c.cut_part-gone.ensures.replaces in
     record {
-      cuts = empty_drop cuts c.drop_child-then-is_empty.ensures.drops (part_id c.child_at-child.result) (rw stays here.listed) (c.is_empty.ensures.empty c.if-is_empty.true);
-      no_empty = λ before. c.drop_child-then-is_empty.ensures.no_empty (here.others _ _ c.cut_part-gone.new.arenas c.cut_part-gone.result c.cut_part-gone.ensures before);
+      cuts = empty_drop cuts c.drop_child-then-is_empty.ensures.drops (part_id c.child_at-child.result) (rw stays here.listed)
+          (c.is_empty.ensures.empty c.if-is_empty.true);
+      no_empty = λ before. c.drop_child-then-is_empty.ensures.no_empty (here.others _ _ _ _ c.cut_part-gone.ensures before);
     }
 
 pub cut_child-returns-else-keyed-2 : goal.cut_child-returns-else-keyed-2
 cut_child-returns-else-keyed-2 g t c =
-    let here = child_at g.met.K.Ord.total c.args.level c.args.place c.requires.node c.requires.part c.node-node.ensures c.child_at-child.ensures.child c.requires.place in
+    let here = child_at g.met.K.Ord.total c.args.level c.args.place c.requires.node c.requires.part c.node-node.ensures c.child_at-child.ensures.child
+    c.requires.place in
     record {
-      cuts = here.cuts _ _ c.cut_part-gone.new.arenas c.cut_part-gone.result c.cut_part-gone.ensures;
-      no_empty = λ before. here.left _ _ c.cut_part-gone.new.arenas c.cut_part-gone.result c.cut_part-gone.ensures before (λ pair found none. elim c.else-keyed-2.branch [
+      cuts = here.cuts _ _ _ _ c.cut_part-gone.ensures;
+      no_empty = λ before. here.left _ _ _ _ c.cut_part-gone.ensures before (λ pair found none. elim c.else-keyed-2.branch [
         | cut_child-else-keyed-2-via-then-keyed-2+else-is_empty w ↦
             let yes = w.is_empty.ensures.told (c.cut_part-gone.ensures.no_empty (here.no_empty before)) none in
             let both : true ≡ false = sym yes ∙ w.if-is_empty.false in

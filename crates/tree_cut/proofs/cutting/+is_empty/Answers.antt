@@ -1,8 +1,6 @@
 use Rattle.std.proofs.Common.{rules, ◌-◌, arith, sym, ap, ◌∙◌}
-use Rattle.tree_array.proofs.Common.{Arrivals}
-use Rattle.tree_node.proofs.Common.{fits}
+use Rattle.tree_cut.proofs.Common.{Arrivals, fits, part_id}
 use Rattle.tree_node.proofs.Children.{walk-leaf}
-use Rattle.tree_cut.specs.Parts.{part_id}
 use Rattle.tree_cut.proofs.EmptyParts.{keyed_pair, only_child}
 use Rattle.tree_cut.proofs.Nodes.{above_leaves, at_leaves, leaf_there, node_there, node_under}
 use Rattle.tree_cut.proofs.cutting.+is_empty.Goals as goal
@@ -25,7 +23,8 @@ overflow_sub-level g t c = above_leaves c.args.level c.in-Node.is c.requires.kin
 pub is_empty-requires-in-Node : goal.is_empty-requires-in-Node
 is_empty-requires-in-Node g t c κs within =
     let node = node_under g.K.Ord.cmp c.args.level c.args.arenas.now c.in-Node.is c.requires.kind c.requires.stands c.node-node.ensures in
-    let only = only_child node (omega (arith, c.if-keyed_count-gt0.false, c.keyed_count.ensures.count)) (part_id c.child_at-child.result) c.child_at-child.ensures.child in
+    let only = only_child node (omega (arith, c.if-keyed_count-gt0.false, c.keyed_count.ensures.count))
+    (part_id c.child_at-child.result) c.child_at-child.ensures.child in
     let kind = c.child_at-child.ensures.kind (c.args.level - 1) node.kind in
     let inner = above_leaves c.args.level c.in-Node.is c.requires.kind in
     (omega (arith, inner), (within.0, (within.1, (search rules, (search rules, (search fits, (kind, only.stands)))))))
@@ -45,7 +44,8 @@ returns-in-Leaf g t c =
 pub returns-else-keyed_count-gt0 : goal.returns-else-keyed_count-gt0
 returns-else-keyed_count-gt0 g t c =
     let node = node_under g.K.Ord.cmp c.args.level c.args.arenas.now c.in-Node.is c.requires.kind c.requires.stands c.node-node.ensures in
-    let only = only_child node (omega (arith, c.if-keyed_count-gt0.false, c.keyed_count.ensures.count)) (part_id c.child_at-child.result) c.child_at-child.ensures.child in
+    let only = only_child node (omega (arith, c.if-keyed_count-gt0.false, c.keyed_count.ensures.count))
+    (part_id c.child_at-child.result) c.child_at-child.ensures.child in
     rw c.in-Node.is (record {
       empty = λ yes. only.same_walk ∙ c.is_empty-in-Node.ensures.empty yes;
       told = λ before none. c.is_empty-in-Node.ensures.told (only.no_empty before) (sym only.same_walk ∙ none);

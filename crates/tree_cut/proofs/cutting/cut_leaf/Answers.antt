@@ -12,4 +12,5 @@ overflow_sub-result g c = omega (arith, c.len.ensures, c.len-before.ensures, ran
 pub returns : goal.returns
 returns g c =
     let same = c.array_mut-array.ensures.value in
-    leaf_cut g.K.Ord.cmp _ _ c.args.arenas.now c.args.id c.leaf_mut.ensures.value (rw same at c.remove_range.ensures) _ (rw (c.len.ensures, c.len-before.ensures, same) refl)
+    leaf_cut g.K.Ord.cmp _ _ c.args.arenas.now c.args.id c.leaf_mut.ensures.value (rw same at c.remove_range.ensures) _
+    (rw (c.len.ensures, c.len-before.ensures, same) refl)

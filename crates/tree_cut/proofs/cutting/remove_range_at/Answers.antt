@@ -26,7 +26,8 @@ cut_part-pairs-requires g c =
 pub node-requires-2 : goal.node-requires-2
 node-requires-2 g c =
     let part = standing g.K.Ord.cmp c.requires.node c.requires.part (λ retired. let wrong = c.if-is_childless.ensures.1 (rw c.node.ensures at retired) in cc) in
-    search (rules, node_used g.K.Ord.cmp c.args.level c.cut_part-pairs.new.arenas c.args.id c.requires.node (c.cut_part-pairs.ensures.stands None None part.stands))
+    let stands = c.cut_part-pairs.ensures.stands None None part.stands in
+    search (rules, node_used g.K.Ord.cmp c.args.level c.cut_part-pairs.new.arenas c.args.id c.requires.node stands)
 
 pub returns-clause-left : goal.returns-clause-left
 returns-clause-left g c =
@@ -37,5 +38,6 @@ returns-clause-left g c =
 
 pub returns-clause-retired : goal.returns-clause-retired
 returns-clause-retired g c = λ retired.
-    let wrong = c.if-is_childless.ensures.1 (rw c.node.ensures at (retired_node g.K.Ord.cmp c.args.level c.args.arenas.now c.args.id c.requires.node retired)) in
+    let there = retired_node g.K.Ord.cmp c.args.level c.args.arenas.now c.args.id c.requires.node retired in
+    let wrong = c.if-is_childless.ensures.1 (rw c.node.ensures at there) in
     absurd (cc)

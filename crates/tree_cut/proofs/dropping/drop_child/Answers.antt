@@ -20,18 +20,21 @@ child_at-child-requires g c =
 pub drop_part-gone-requires : goal.drop_part-gone-requires
 drop_part-gone-requires g c =
     let node = node_at g.K.Ord.cmp c.args.level c.args.arenas.now c.args.id _ c.requires.node c.requires.part.stands c.node-node.ensures in
-    let here = child_at g.met.K.Ord.total c.args.level c.args.place c.requires.node c.requires.part c.node-node.ensures c.child_at-child.ensures.child (omega (arith, c.requires.place)) in
+    let here = child_at g.met.K.Ord.total c.args.level c.args.place c.requires.node c.requires.part c.node-node.ensures c.child_at-child.ensures.child
+    (omega (arith, c.requires.place)) in
     (search rules, (search fits, (c.child_at-child.ensures.kind (c.args.level - 1) node.kind, here.part)))
 
 pub take_keyed-requires : goal.take_keyed-requires
 take_keyed-requires g c =
-    let here = child_at g.met.K.Ord.total c.args.level c.args.place c.requires.node c.requires.part c.node-node.ensures c.child_at-child.ensures.child (omega (arith, c.requires.place)) in
+    let here = child_at g.met.K.Ord.total c.args.level c.args.place c.requires.node c.requires.part c.node-node.ensures c.child_at-child.ensures.child
+    (omega (arith, c.requires.place)) in
     let found = rw c.in-Some.is at c.slot_at.ensures in
     (search rules, (search fits, rw (here.stays _ [] c.drop_part-gone.ensures.dropped, found.1) refl))
 
 pub returns : goal.returns
 returns g c =
-    let here = child_at g.met.K.Ord.total c.args.level c.args.place c.requires.node c.requires.part c.node-node.ensures c.child_at-child.ensures.child (omega (arith, c.requires.place)) in
+    let here = child_at g.met.K.Ord.total c.args.level c.args.place c.requires.node c.requires.part c.node-node.ensures c.child_at-child.ensures.child
+    (omega (arith, c.requires.place)) in
     let found = rw c.in-Some.is at c.slot_at.ensures in
     let out = taken_out found c.child_at-child.ensures.child c.drop_part-gone.ensures.dropped c.take_keyed.ensures.nodes c.take_keyed.ensures.leaves in
     record { drops = rw c.drop_part-gone.ensures.gone (here.drops _ _ _ out); no_empty = here.after_drop _ _ _ out }
