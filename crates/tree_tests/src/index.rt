@@ -5,7 +5,7 @@ use std::fmt::Debug;
 use std::process::Abort;
 use test_support::refusals::succeeds;
 use tree_index::{InsertError, SmallTreeIndex, TreeIndex, TreeIndexOf};
-use tree_support::{Numbers, Scenario, succeeds_at_both_sizes, put};
+use tree_support::{Numbers, Scenario, put, succeeds_at_both_sizes};
 
 /// The index of these pairs.
 fn index_of(alloc: Global, pairs: &[(u64, u64)]) -> Result<TreeIndex<u64, u64>, AllocError> {
@@ -184,7 +184,8 @@ impl<const LEN: usize> TaggedKeys for TreeIndexOf<Tagged, u64, LEN> {
     }
 
     fn entry(&self, tag: char) -> Option<(char, u64)> {
-        self.peek_entry(&five(tag)).map(|(key, value)| (key.tag, *value))
+        self.peek_entry(&five(tag))
+            .map(|(key, value)| (key.tag, *value))
     }
 }
 

@@ -11,7 +11,7 @@ use std::sync::ledger::{Blank, Ledger};
 use test_support::refusals::succeeds;
 use tree_array::array::{Judge, KeyJudge, Steps};
 use tree_index::{SmallTreeIndex, TreeIndex, TreeIndexOf};
-use tree_support::{Asked, Numbers, Scenario, succeeds_at_both_sizes, put};
+use tree_support::{Asked, Numbers, Scenario, put, succeeds_at_both_sizes};
 
 /// What a judge looks a key up in.
 pub trait LookedUp<K: Ord> {

@@ -10,10 +10,7 @@ use tree_support::Asked;
 const KEYS: u64 = 3616;
 
 /// Stores the keys up to the last in ascending order.
-fn fill<'c>(
-    index: &mut impl AskedKeys<'c>,
-    counter: &'c Cell<u64>,
-) -> Result<(), AllocError> {
+fn fill<'c>(index: &mut impl AskedKeys<'c>, counter: &'c Cell<u64>) -> Result<(), AllocError> {
     for number in 1..=KEYS {
         index.store(number, counter)?;
     }

@@ -47,7 +47,11 @@ trait Shaped: Numbers {
 impl Shaped for TreeIndex<u64, u64> {
     fn shape(&self) -> Shape {
         let (arenas, _) = self.parts();
-        (TreeIndexOf::depth(self), arenas.leaf_count(), arenas.node_count())
+        (
+            TreeIndexOf::depth(self),
+            arenas.leaf_count(),
+            arenas.node_count(),
+        )
     }
 }
 
