@@ -4,7 +4,7 @@ ghost use Rattle.std.specs.Iterator.{IsFinite};
 use std::alloc::AllocError;
 use std::process::Abort;
 use tree_index::{SmallTreeIndex, TreeIndex};
-use tree_support::{Numbers, Scenario, succeeds_at_both_sizes, put};
+use tree_support::{Numbers, Scenario, put, succeeds_at_both_sizes};
 
 /// The end of a walk that is asked.
 #[derive(Clone, Copy)]

@@ -5,7 +5,7 @@ use std::ops::Bound;
 use std::process::Abort;
 use test_support::refusals::succeeds;
 use tree_index::{Cursor, IterOf, Move, ProximityOf, RangeOf, TreeIndex, TreeIndexOf, run_moves};
-use tree_support::{Numbers, Scenario, ascend, succeeds_at_both_sizes, put};
+use tree_support::{Numbers, Scenario, ascend, put, succeeds_at_both_sizes};
 
 /// Pairs in the order in which they come, the bounds of a range over them, its moves with their answers, and then those
 /// of the cursor over all pairs that is made of it.
@@ -466,7 +466,10 @@ fn expect_two_keys<const LEN: usize>(
 
 /// Moves such a range over an index.
 fn expect_clone(rt: &impl Abort, index: &TreeIndex<u64, u64>) -> Result<(), AllocError> {
-    expect_two_keys(rt, index.range((Bound::Excluded(&14), Bound::Excluded(&17))))
+    expect_two_keys(
+        rt,
+        index.range((Bound::Excluded(&14), Bound::Excluded(&17))),
+    )
 }
 
 fn meets_at_a_leaf_steps(rt: &impl Abort, alloc: Global) -> Result<(), AllocError> {
