@@ -1,5 +1,5 @@
 use Rattle.tree_node.proofs.Common.{fits}
-use Rattle.tree_tests.proofs.tallies.expect_alive.Goals as goal
+use Rattle.tree_tests.proofs.tallies.leaf_count.Goals as goal
 
 pub parts-requires : goal.parts-requires
 parts-requires g c = search fits

@@ -1,5 +1,5 @@
 use Rattle.tree_node.proofs.Common.{fits}
-use Rattle.cursor_tests.proofs.walks.expect_counts.Goals as goal
+use Rattle.cursor_tests.proofs.walks.count_within.Goals as goal
 
 pub range-requires : goal.range-requires
 range-requires g c = search fits
