@@ -10,7 +10,7 @@ pub use crate::answers::{
 };
 use std::marker::Model;
 use tree_cells::cells::Cells;
-pub use tree_cells::judge::{Judge, KeyJudge, Steps};
+pub use tree_cells::judge::{Asks, Judge, KeyJudge, Steps};
 use tree_order::order::{EMPTY, RETIRED, slot_at};
 
 mod changes;

@@ -1,6 +1,6 @@
 -- The place of a walk among the pairs of a tree, and where it goes.
 use Rattle.std.proofs.Common.{◌≡◌, ℕ, zero, ◌+◌, ◌<◌, ◌==◌, true, false, List, [], ◌∷◌, ◌++◌, length, drop, take, reverse, slice_get, inl, inr, ◌⊎◌, suc, Option, Some, None, refl, sym, ap, ◌∙◌, arith, length-append, length-drop, append-nil, length-take, Bor, Ordering}
-use Rattle.tree_model.proofs.Common.{cases_eq, nat_tests, flat_map-append, Bound, Unbounded, lent_entry, along, at_place, meets, next_end, unopened}
+use Rattle.tree_model.proofs.Common.{cases_eq, nat_tests, flat_map-append, Bound, lent_entry, along, at_place, meets, next_end, unopened}
 use Rattle.tree_model.specs.declared.way.Way.{Way}
 use Rattle.tree_model.specs.declared.way.Way.TheVariants.{On, Back}
 use Rattle.tree_node.proofs.Common.{Slab, LeafOf, IsChain, times, entries_of, leaf_entries, one_here, times-cons, uses_le_one, TreeArenas, StandsOrRetired, leaves_at, walk, IsRetiredRoot, IsTree, leaves_under, walk_under}
@@ -19,7 +19,7 @@ use Rattle.tree_walk.specs.Ends.{IsLinked}
 use Rattle.tree_cursors.specs.Seek.{Advances, IsNearest, Seeks, path}
 use Rattle.tree_cursors.specs.declared.end.End.{End}
 use Rattle.tree_cursors.specs.declared.end.End.TheVariants.{Unopened, At, Exhausted}
-use Rattle.tree_cursors.specs.View.{EndStands, GoesOn, Stands, StepsInLeaf, end_of, place_at, place_in, place_of}
+use Rattle.tree_cursors.specs.View.{EndStands, GoesTo, Stands, StepsInLeaf, end_of, place_at, place_in, place_of}
 use Rattle.tree_cursors.proofs.Advances.{advanced}
 
 -- without a pair an end goes nowhere
@@ -134,19 +134,15 @@ module _ {K V : Type 0} {LEN : ℕ} {cmp : K → K → Ordering} (a : TreeArenas
     old_chain = rw (s.same, s.stands) tree.chain
 
     -- a walk that goes on stands one place along
-    abbrev pub still_stands : (entry : Bor K × Bor V) → Advances way old (Some entry) new → Stands a root new
-    still_stands entry advances =
+    pub goes_to : (entry : Bor K × Bor V) → Advances way old (Some entry) new → GoesTo a root cmp way (At old) entry (At new)
+    goes_to entry advances =
         let next = advances s.front s.back old_chain in
-        record { same = next.0.same ∙ s.same; front = next.0.front; back = next.0.back; stands = next.0.stands ∙ s.stands; pair = lent_entry entry; here = next.1 }
-
-    pub goes_beside : (entry : Bor K × Bor V) → Advances way old (Some entry) new → (bound : Bound K) → place_of a root new ≡ next_end cmp way bound (walk_under a root) (place_of a root old)
-    goes_beside entry advances bound =
-        let next = advances s.front s.back old_chain in
+        let stands : Stands a root new = record { same = next.0.same ∙ s.same; front = next.0.front; back = next.0.back; stands = next.0.stands ∙ s.stands; pair = lent_entry entry; here = next.1 } in
         let from = placed_in old s in
-        let to = placed_in new (still_stands entry advances) in
+        let to = placed_in new stands in
         let fewer : places_left way (length (walk_under a root)) (Some from.place) ≡ suc (places_left way (length (walk_under a root)) (Some to.place)) =
         sym (from.left way) ∙ ap length next.0.takes ∙ ap (λ n. suc n) (to.left way) in
-        rw (to.place_is, from.place_is, beside_is way (length (walk_under a root)) from.place to.place from.inside to.inside fewer) refl
+        record { place = λ bound. rw (to.place_is, from.place_is, beside_is way (length (walk_under a root)) from.place to.place from.inside to.inside fewer) refl; stands = stands; pair = next.1 }
 
     -- or it has left the tree
     pub leaves_tree : Advances way old None new → (bound : Bound K) → exhausted ≡ next_end cmp way bound (walk_under a root) (place_of a root old)
@@ -156,17 +152,11 @@ module _ {K V : Type 0} {LEN : ℕ} {cmp : K → K → Ordering} (a : TreeArenas
         let none : places_left way (length (walk_under a root)) (Some from.place) ≡ 0 = sym (from.left way) ∙ ap length next.0.takes.0 in
         rw (from.place_is, beside_none way (length (walk_under a root)) from.place none) refl
 
-    -- either way
-    pub goes_on : (result : Option (Bor K × Bor V)) → Advances way old result new → GoesOn a root cmp way old result new
-    goes_on None advances = λ bound. leaves_tree advances bound
-    goes_on (Some entry) advances = λ bound. (goes_beside entry advances bound, still_stands entry advances, (still_stands entry advances).here)
-
 -- a step in a leaf is a move in each tree that the leaf is in
 pub steps_in_leaf : {K V : Type 0} {LEN : ℕ} (cmp : K → K → Ordering) (way : Way) (old new : LeafWalk K V LEN) (result : Option (Bor K × Bor V)) → Steps way old result new → StepsInLeaf cmp way (At old) result (At new)
 steps_in_leaf cmp way old new None steps = (ap (λ walk. At walk) (steps.0 ∙ ap (λ at. standing old.leaves old.leaf at) steps.1.1), steps.1.0)
 steps_in_leaf cmp way old new (Some entry) steps = λ arenas root tree stands.
-    let moves = goes_on arenas root tree way old stands new (Some entry) (advanced way old new (Some entry) (λ none. absurd (cc)) steps) in
-    record { place = λ bound. (moves bound).0; stands = (moves Unbounded).1; pair = (moves Unbounded).2 }
+    goes_to arenas root tree way old stands new entry (advanced way old new (Some entry) (λ none. absurd (cc)) steps)
 
 module _ {K V : Type 0} {LEN : ℕ} {cmp : K → K → Ordering} (a : TreeArenas K V LEN) (id level : ℕ) (tree : IsTree cmp a (Some (id, level))) where
   pub whole_chain : IsChain a.leaves ([] ++ (leaves_at level a.nodes id ++ []))

@@ -9,7 +9,8 @@ use Rattle.tree_chain.proofs.Common.{LeafWalk, standing, beyond}
 use Rattle.tree_chain.specs.Rest.{HasTaken, left_of}
 use Rattle.tree_chain.proofs.Along.{all_ahead, all_along}
 use Rattle.tree_walk.specs.Ends.{BeginsPart, passed}
-use Rattle.tree_cursors.specs.Seek.{Advances, IsLeafFor, IsNearest, NoneMeets, Opens, path}
+use Rattle.tree_descent.specs.Ways.{IsLeafFor}
+use Rattle.tree_cursors.specs.Seek.{Advances, IsNearest, NoneMeets, Opens, path}
 
 -- the bound is at this key
 abbrev pub IsAt : {K : Type 0} → K → Bound K → Type 0
@@ -25,7 +26,7 @@ module _ {K V : Type 0} {cmp : K → K → Ordering} (o : IsTotalOrder cmp) (key
   larger_out (inl included) pairs all = all_map (λ (pair : K × V) (more : cmp key pair.0 ≡ Less). rw (included, greater_from_less o key pair.0 more) refl) pairs all
   larger_out (inr excluded) pairs all = all_map (λ (pair : K × V) (more : cmp key pair.0 ≡ Less). rw (excluded, greater_from_less o key pair.0 more) refl) pairs all
 
-module _ {K V : Type 0} {LEN : ℕ} {cmp : K → K → Ordering} (o : IsTotalOrder cmp) (level : ℕ) (a : TreeArenas K V LEN) (id : ℕ) (way : Way) (key : K) (bound : Bound K) (leaf : ℕ) (is : IsLeafFor cmp level a id key leaf) where
+module _ {K V : Type 0} {LEN : ℕ} {cmp : K → K → Ordering} (o : IsTotalOrder cmp) (level : ℕ) (a : TreeArenas K V LEN) (id : ℕ) (way : Way) (key : K) (bound : Bound K) (leaf : ℕ) (is : IsLeafFor cmp key level a id leaf) where
   -- a walk that stands unopened in the leaf of the bound's key
   pub opens_at : IsAt key bound → (begun : LeafWalk K V LEN) → begun ≡ standing a.leaves leaf None → Opens cmp way level a id bound begun
   opens_at at begun same = rw same (record { unopened = refl; front = is.front; back = is.back; parts = is.parts; none_before = by_way way })

@@ -1,5 +1,5 @@
 -- What contracts see of a cursor over a tree.
-use Rattle.std.specs.Prelude.{◌≡◌, ℕ, ◌+◌, ◌==◌, if◌then◌else◌, List, [], ◌∷◌, ◌++◌, length, Option, Some, None, MatchOption}
+use Rattle.std.specs.Prelude.{◌≡◌, ℕ, ◌+◌, ◌==◌, if◌then◌else◌, List, [], ◌∷◌, ◌++◌, length, Option, Some, None}
 use Rattle.std.specs.Borrow.{Bor}
 use Rattle.std.specs.Range.Bound.{bound_map}
 use Rattle.std.specs.declared.cmp.Ordering.{Ordering}
@@ -56,13 +56,6 @@ module _ {K V : Type 0} {LEN : ℕ} (arenas : TreeArenas K V LEN) (root : Option
   EndStands Unopened = Unit {0}
   EndStands (At walk) = Stands walk
   EndStands Exhausted = Unit {0}
-
-  -- a walk that stood on an entry now stands on the next one on its way, which is the result, or there is none
-  abbrev pub GoesOn : (K → K → Ordering) → Way → LeafWalk K V LEN → Option (Bor K × Bor V) → LeafWalk K V LEN → Type 0
-  GoesOn cmp way old result new =
-      (bound : Bound K)
-      → MatchOption result (exhausted ≡ next_end cmp way bound (walk_under arenas root) (place_of old))
-      (λ entry. (place_of new ≡ next_end cmp way bound (walk_under arenas root) (place_of old)) × Stands new × (stood_on new ≡ Some (lent_entry entry)))
 
   -- an end has gone where a move takes it, and stands on this entry
   pub record GoesTo (cmp : K → K → Ordering) (way : Way) (old : TreeEnd (LeafWalk K V LEN)) (entry : Bor K × Bor V) (new : TreeEnd (LeafWalk K V LEN)) : Type 0 where

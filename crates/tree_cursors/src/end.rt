@@ -7,7 +7,7 @@ ghost use Rattle.tree_model.specs.Pairs.{lent_bound};
 ghost use Rattle.tree_node.specs.Whole.{IsTree, walk_under};
 ghost use Rattle.tree_model.specs.Cursor.{next_end, unopened};
 ghost use Rattle.tree_model.specs.Rest.{lent};
-ghost use Rattle.tree_cursors.specs.View.{EndStands, GoesOn, Stands, StepsInLeaf, end_of, pair_of};
+ghost use Rattle.tree_cursors.specs.View.{EndStands, StepsInLeaf, end_of, pair_of};
 
 use crate::seek::{advance, seek_at};
 use crate::way::EndWay;
@@ -46,7 +46,7 @@ pub fn step<'t, K: Ord + Drop, V: Drop, S: EndWay, const LEN: usize>(
             let (key, value) = open(arenas, root, end, bound)?;
             Some((key, value))
         }
-        End::At(walk) => match next_entry(arenas, root, walk) {
+        End::At(walk) => match advance(walk) {
             Some((key, value)) => Some((key, value)),
             None => {
                 *end = End::Exhausted;
@@ -109,20 +109,6 @@ fn first_end<'t, K: Ord + Drop, V: Drop, S: EndWay, const LEN: usize>(
         Some(walk) => End::At(walk),
         None => End::Exhausted,
     }
-}
-
-/// Moves a walk that stands on an entry to the next one, and returns that. Returns `None` if the walk has left the tree.
-#[inline(always)]
-fn next_entry<'t, K: Ord + Drop, V: Drop, S: SlotWalk, const LEN: usize>(
-    arenas: &'t ArenasOf<K, V, LEN>,
-    root: Option<(NodeId, usize)>,
-    walk: &mut LinkedIter<'t, LeafOf<K, V, LEN>, S>,
-) -> Option<(&'t K, &'t V)>
-    requires tree { IsTree K.cmp arenas.now root }
-    requires stands { Stands arenas.now root walk.old }
-    ensures { GoesOn arenas.now root K.cmp S.way walk.old result walk.new }
-{
-    advance(walk)
 }
 
 /// Returns whether one walk stands on a smaller key than another one. Makes one comparison. The caller must have

@@ -38,17 +38,20 @@ impl<K: Ord + Drop, V: Drop, const LEN: usize> ArrayOf<K, V, LEN> {
         Some(val)
     }
 
-    /// Returns the slot of the least key that isn't less than the judge's, or `None` if all are. Makes at most
-    /// 4 comparisons (3 among 7 slots).
-    pub fn min_greater_equal<J: Judge<K>>(&self, judge: &mut J) -> Option<u8>
-        ensures found { MatchOption result (least_from K.cmp self.now.entries (J.key judge.old) ≡ None)
+    /// Returns the slot of the least key that isn't less than that of the asked, a judge or the key itself, or `None` if
+    /// all are. Makes at most 4 comparisons (3 among 7 slots).
+    #[inline(always)]
+    pub fn min_greater_equal<By, A: Asks<K, By>>(&self, asked: &mut A) -> Option<u8>
+        ensures found { MatchOption result (least_from K.cmp self.now.entries (A.key asked.old) ≡ None)
             (λ slot. (pair : _) × (arrival self.now.arrivals slot ≡ Some pair)
-            × (least_from K.cmp self.now.entries (J.key judge.old) ≡ Some pair)) }
-        ensures same_key { J.key judge.new ≡ J.key judge.old }
-        ensures counted { J.count judge.new ≤ J.count judge.old + LEN }
-        ensures halved { J.count judge.new ≤ J.count judge.old + searched LEN }
+            × (least_from K.cmp self.now.entries (A.key asked.old) ≡ Some pair)) }
+        ensures same_key { A.key asked.new ≡ A.key asked.old }
+        ensures counted { A.count asked.new ≤ A.count asked.old + LEN }
+        ensures halved { A.count asked.new ≤ A.count asked.old + searched LEN }
     {
-        self.least_for(judge)
+        let count = self.cells.counts().entries;
+        let slot = find(&self.cells, self.order, count, asked).slot();
+        if slot < BEYOND { Some(slot) } else { None }
     }
 
     /// Returns the slot of the least key that isn't less than this one, or `None` if all are. Makes at most
@@ -59,7 +62,7 @@ impl<K: Ord + Drop, V: Drop, const LEN: usize> ArrayOf<K, V, LEN> {
             (λ slot. (pair : _) × (arrival self.now.arrivals slot ≡ Some pair)
             × (least_from K.cmp self.now.entries key.now ≡ Some pair)) }
     {
-        self.least_for(&mut &*key)
+        self.min_greater_equal(&mut &*key)
     }
 
     /// Returns the slot of the entry at this place in key order, counted from 0, or `None` behind the last.
@@ -101,20 +104,5 @@ impl<K: Ord + Drop, V: Drop, const LEN: usize> ArrayOf<K, V, LEN> {
             return false;
         };
         self.key(first).cmp(key).is_le() && key.cmp(self.key(last)).is_le()
-    }
-
-    /// Returns the slot of the least key that isn't less than that of the asked.
-    #[inline(always)]
-    fn least_for<By, A: Asks<K, By>>(&self, asked: &mut A) -> Option<u8>
-        ensures found { MatchOption result (least_from K.cmp self.now.entries (A.key asked.old) ≡ None)
-            (λ slot. (pair : _) × (arrival self.now.arrivals slot ≡ Some pair)
-            × (least_from K.cmp self.now.entries (A.key asked.old) ≡ Some pair)) }
-        ensures same_key { A.key asked.new ≡ A.key asked.old }
-        ensures counted { A.count asked.new ≤ A.count asked.old + LEN }
-        ensures halved { A.count asked.new ≤ A.count asked.old + searched LEN }
-    {
-        let count = self.cells.counts().entries;
-        let slot = find(&self.cells, self.order, count, asked).slot();
-        if slot < BEYOND { Some(slot) } else { None }
     }
 }

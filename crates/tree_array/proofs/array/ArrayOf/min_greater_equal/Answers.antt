@@ -4,7 +4,7 @@ use Rattle.tree_cells.proofs.Halving.{searched_few}
 use Rattle.tree_cells.proofs.LeastFrom.{least_of}
 use Rattle.tree_array.proofs.Seen.{arrival_seen}
 use Rattle.tree_array.proofs.Marked.{fields, tabled}
-use Rattle.tree_array.proofs.array.ArrayOf.least_for.Goals as goal
+use Rattle.tree_array.proofs.array.ArrayOf.min_greater_equal.Goals as goal
 
 pub returns-then-slot-lt-BEYOND-clause-found : goal.returns-then-slot-lt-BEYOND-clause-found
 returns-then-slot-lt-BEYOND-clause-found g c =
