@@ -1,14 +1,9 @@
 -- How many pairs stand under a number at most.
-use Rattle.std.proofs.Common.{◌≡◌, ℕ, zero, suc, ◌+◌, ◌*◌, ◌^◌, ◌≤◌, List, [], ◌∷◌, ◌++◌, map, length, length-append, Option, None, refl, ap, arith, mul-suc, flat_map, Ordering}
-use Rattle.tree_model.proofs.Common.{AllByRecursion, flat_map-append}
-use Rattle.tree_array.proofs.Common.{all-append}
-use Rattle.tree_node.proofs.Common.{leaf_entries, TreeArenas, IsPart, Stands, keyed, leaves_at, nodes_at, children_of, walk}
+use Rattle.std.proofs.Common.{ℕ, zero, suc, ◌+◌, ◌*◌, ◌^◌, ◌≤◌, List, [], ◌∷◌, length, length-append, Option, None, arith, mul-suc, flat_map, append-nil, Ordering}
+use Rattle.tree_node.proofs.Common.{AllByRecursion, IsPart, Stands, TreeArenas, all-append, children_of, flat_map-append, last_free, leaf_entries, leaves_at, length-map, nodes_at, parted_all, walk}
 use Rattle.std.proofs.Math.Nat.{mul-le-mul_left, pow-suc, pow-zero}
-use Rattle.std.proofs.lemmas.List.{length-map}
 use Rattle.slab.specs.Slab.{slab_len}
 use Rattle.tree_leaf.proofs.Pigeonhole.{once_fits}
-use Rattle.tree_node.proofs.Bare.{parted_last}
-use Rattle.tree_node.proofs.ChildrenStand.{parted_all}
 
 -- lists of a bounded length, one after another
 length-flat_map : {X Y : Type 0} (f : X → List Y) (most : ℕ) (xs : List X) → AllByRecursion (λ x. length (f x) ≤ most) xs → length (flat_map f xs) ≤ most * length xs
@@ -27,7 +22,7 @@ module _ {K V : Type 0} {LEN : ℕ} (cmp : K → K → Ordering) (a : TreeArenas
       (all-flat_map (λ n. length (leaf_entries a.leaves n) ≤ LEN) (leaves_at level a.nodes) _ (parted_all cmp (Stands cmp level a) _ (leaves_few level) low _ _ high s.parted))
 
   children_few : (level : ℕ) (low : Option K) (id : ℕ) (high : Option K) (s : Stands cmp (suc level) a low id high) → length (children_of a.nodes id) ≤ LEN + 1
-  children_few level low id high s = rw (s.here, s.last_is) (omega (arith, length-append (map (λ c. c.1) (keyed s.node).entries) (s.last ∷ []), length-map (keyed s.node).entries (λ c. c.1), s.few))
+  children_few level low id high s = rw (s.here, s.last_is) (simp (length-append, length-map) (omega (arith, s.few)))
 
   leaves_count : (level : ℕ) (low : Option K) (id : ℕ) (high : Option K) → Stands cmp level a low id high → length (leaves_at level a.nodes id) ≤ (LEN + 1) ^ level
   leaves_count zero low id high s = omega (arith, pow-zero (LEN + 1))
@@ -46,20 +41,11 @@ module _ {K V : Type 0} {LEN : ℕ} (cmp : K → K → Ordering) (a : TreeArenas
   walk_few level low id high s = omega (arith, entries_few level low id high s, mul-le-mul_left LEN (leaves_count level low id high s))
 
   -- a part has a node at each level
-  pub level_few : (level : ℕ) (low : Option K) (id : ℕ) (high : Option K) → Stands cmp level a low id high → level ≤ length (nodes_at level a.nodes id)
+  level_few : (level : ℕ) (low : Option K) (id : ℕ) (high : Option K) → Stands cmp level a low id high → level ≤ length (nodes_at level a.nodes id)
   level_few zero low id high s = omega arith
   level_few (suc level) low id high s =
-      let keyed_ids = map (λ c. c.1) (keyed s.node).entries in
-      let split : flat_map (nodes_at level a.nodes) (children_of a.nodes id) ≡ flat_map (nodes_at level a.nodes) keyed_ids ++ (nodes_at level a.nodes s.last ++ []) =
-      rw (s.here, s.last_is, flat_map-append (nodes_at level a.nodes) keyed_ids) refl in
-      let at = parted_last cmp a (Stands cmp level a) low _ _ high s.parted in
-      omega (
-        arith,
-        ap length split,
-        length-append (flat_map (nodes_at level a.nodes) keyed_ids) (nodes_at level a.nodes s.last ++ []),
-        length-append (nodes_at level a.nodes s.last) [],
-        level_few level at.0 s.last high at.1,
-      )
+      let lower = level_few level None s.last None (last_free cmp level a low id high s) in
+      rw (s.here, s.last_is) (simp (flat_map-append, length-append, append-nil) (omega (arith, lower)))
 
   -- a part has no more levels than nodes are in use
   pub part_levels : (level : ℕ) (id : ℕ) → IsPart cmp level a id → level ≤ slab_len a.nodes

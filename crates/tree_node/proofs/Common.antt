@@ -1,9 +1,9 @@
 -- The names that most proofs here and above cite, passed on from one place. Declares nothing.
-pub use Rattle.slab.specs.Slab.{get, ContainsKey, Slab, with_value}
+pub use Rattle.slab.specs.Slab.{get, ContainsKey, Slab, Updates, with_value}
 pub use Rattle.tree_leaf.proofs.Chains.{same_array_refl}
-pub use Rattle.tree_leaf.proofs.Counts.{one_here, times-cons, uses_le_one, times-append, times-nil, none_here, uses_some, uses_same, uses_none}
+pub use Rattle.tree_leaf.proofs.Counts.{in_use, one_here, times-cons, uses_le_one, times-append, times-nil, none_here, uses_some, uses_same, uses_none}
 pub use Rattle.tree_leaf.specs.Arena.{Loses}
-pub use Rattle.tree_leaf.specs.Chain.{IsChain}
+pub use Rattle.tree_leaf.specs.Chain.{IsChain, SameArray}
 pub use Rattle.tree_leaf.specs.Counting.{times, uses}
 pub use Rattle.tree_leaf.specs.Entries.{leaf_entries, entries_of}
 pub use Rattle.tree_leaf.specs.declared.leaf.LeafOf.{LeafOf}
@@ -16,3 +16,16 @@ pub use Rattle.tree_node.specs.Whole.{IsRetiredRoot, IsTree, walk_under, leaves_
 pub use Rattle.tree_node.specs.declared.branch.BranchOf.{BranchOf}
 pub use Rattle.tree_node.specs.declared.node.NodeOf.{NodeOf}
 pub use Rattle.tree_node.specs.declared.node.NodeOf.TheVariants.{Leaf, Internal}
+pub use Rattle.std.proofs.lemmas.Bool.{cases_Bool}
+pub use Rattle.std.proofs.lemmas.List.{length-map}
+pub use Rattle.slab.proofs.SlabLemmas.{Updates-with_value}
+pub use Rattle.tree_array.proofs.Common.{all-append, all_map, Arrivals, boundary, free, HasRoom, in_order, IsLen, IsSound, limit}
+pub use Rattle.tree_model.proofs.Common.{AllByRecursion, AllLarger, cases_eq, flat_map-append, IsAbsent, IsAscending, IsTotalOrder, map-append, nat_tests}
+pub use Rattle.tree_node.proofs.Children.{all_stand, child_stands, last_free, leaf_there, node_there, only_child, stands_over, walk-leaf}
+pub use Rattle.tree_node.proofs.Cuts.{all_behind, all_front}
+pub use Rattle.tree_node.proofs.Frames.{Agrees, Stay, agree_each, agrees_below, agrees_here, each_of, head_here, parted_all, parted_map, same_leaves, same_nodes, same_stands, same_walk, single_leaves, single_nodes, stands_each, stay}
+pub use Rattle.tree_node.proofs.Lists.{all_middle, all_yes, flat_map_same}
+pub use Rattle.tree_node.proofs.Order.{less_from_test, less_upto, upto_from_less, upto_from_test, upto_less}
+pub use Rattle.tree_node.proofs.Standing.{inner_kind, no_children, node_is, node_kept, node_made, outer_kind}
+pub use Rattle.tree_node.proofs.Walks.{above_next, child_is, children_are, up_to_next, walk-children, walk_above, walk_up_to}
+pub use Rattle.tree_node.proofs.Widens.{below_next, separators_around, stands_free}

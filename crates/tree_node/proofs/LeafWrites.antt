@@ -1,10 +1,6 @@
 -- A leaf whose array is written and whose links stay.
 use Rattle.std.proofs.Common.{◌≡◌, ℕ, List, [], ◌∷◌, Option, Some, None, is_some, refl, ap, ◌∙◌, arith, inl, inr}
-use Rattle.tree_model.proofs.Common.{cases_eq}
-use Rattle.tree_array.proofs.Common.{Arrivals}
-use Rattle.tree_node.proofs.Common.{get, with_value, LeafOf, uses, same_array_refl, times-cons, one_here, uses_same, TreeArenas, Replaces}
-use Rattle.slab.specs.Slab.{Updates}
-use Rattle.slab.proofs.SlabLemmas.{Updates-with_value}
+use Rattle.tree_node.proofs.Common.{Arrivals, LeafOf, Replaces, TreeArenas, Updates, Updates-with_value, cases_eq, get, one_here, same_array_refl, times-cons, uses, uses_same, with_value}
 use Rattle.tree_leaf.specs.Chain.{IsBetween, AreLinked, first_or}
 
 -- the arenas with another array in the leaf

@@ -1,10 +1,8 @@
 -- What the kind of a node says of its level, and where a key is found under a node of either kind.
-use Rattle.std.proofs.Common.{◌≡◌, ℕ, zero, suc, ◌-◌, ◌<◌, [], Option, Some, None, IsSome, inl, inr, refl, sym, ◌∙◌, arith, sub-one, Ordering}
-use Rattle.tree_model.proofs.Common.{IsTotalOrder, pair_at}
-use Rattle.tree_node.proofs.Common.{get, LeafOf, BranchOf, NodeOf, Internal, Leaf, TreeArenas, keyed, unbounded, child_of, HasChildFor, HasKind, IsRetired, IsRetiredNode, Stands, StandsOrRetired, walk}
-use Rattle.tree_node.proofs.Children.{node_there, stands_over, child_stands, leaf_there, walk-leaf}
+use Rattle.std.proofs.Common.{◌≡◌, ℕ, zero, suc, ◌-◌, ◌<◌, [], Some, None, IsSome, inl, inr, refl, arith, sub-one, Ordering}
+use Rattle.tree_model.proofs.Common.{pair_at}
+use Rattle.tree_node.proofs.Common.{BranchOf, HasChildFor, HasKind, Internal, IsRetired, IsRetiredNode, IsTotalOrder, Leaf, LeafOf, NodeOf, Stands, StandsOrRetired, TreeArenas, child_of, child_stands, get, keyed, leaf_there, no_children, node_is, node_there, stands_over, unbounded, walk, walk-leaf}
 use Rattle.tree_node.proofs.Walks.{found_in_child}
-use Rattle.tree_node.proofs.Standing.{node_is}
 
 module _ {K V : Type 0} {LEN : ℕ} (cmp : K → K → Ordering) (a : TreeArenas K V LEN) (id : ℕ) where
   -- a node that stands has the kind of its level
@@ -33,64 +31,48 @@ module _ {K V : Type 0} {LEN : ℕ} {cmp : K → K → Ordering} (o : IsTotalOrd
     pub stands : StandsOrRetired cmp (level - 1) a child
     pub found : pair_at cmp (walk level a id) k ≡ pair_at cmp (walk (level - 1) a child) k
 
-  in_leaf : Stands cmp 1 a None id None → HasChildFor cmp k (get a.nodes id) child → FoundInLeaf 1
-  in_leaf s routed = record {
-    here = leaf_there a child None None (child_stands o 0 a id s k child routed);
-    found = λ leaf here. rw (found_in_child o 0 a None id None s k child routed, walk-leaf a child leaf here) refl;
-  }
-
-  below : (level : ℕ) → Stands cmp (suc (suc level)) a None id None → HasChildFor cmp k (get a.nodes id) child → FoundBelow (suc (suc level))
-  below level s routed = record {
-    inner = omega arith;
-    whole = rw sub-one (child_stands o (suc level) a id s k child routed);
-    stands = rw sub-one (inl (child_stands o (suc level) a id s k child routed));
-    found = rw sub-one (found_in_child o (suc level) a None id None s k child routed);
-  }
-
-  routes : (node : NodeOf K LEN) → get a.nodes id ≡ Some node → child_of cmp k (keyed node).entries (unbounded node) ≡ Some child → HasChildFor cmp k (get a.nodes id) child
-  routes node here chosen = rw here chosen
+  routes : (level : ℕ) → StandsOrRetired cmp (suc level) a id → (node : NodeOf K LEN) → get a.nodes id ≡ Some node
+      → child_of cmp k (keyed node).entries (unbounded node) ≡ Some child
+      → Stands cmp (suc level) a None id None × HasChildFor cmp k (get a.nodes id) child
+  routes level given node here chosen =
+      let routed : HasChildFor cmp k (get a.nodes id) child = rw here chosen in
+      (stands_over level a id given k child routed, routed)
 
   pub found_in_leaf : (level : ℕ) → 0 < level → StandsOrRetired cmp level a id → (node : BranchOf K ℕ LEN) → get a.nodes id ≡ Some (Leaf node)
       → child_of cmp k node.children.entries node.unbounded_child ≡ Some child → FoundInLeaf level
   found_in_leaf zero inner given node here chosen = absurd (omega (arith, inner))
   found_in_leaf (suc zero) inner given node here chosen =
-      let routed = routes (Leaf node) here chosen in in_leaf (stands_over 0 a id given k child routed) routed
+      let s = routes 0 given (Leaf node) here chosen in record {
+        here = leaf_there a child None None (child_stands o 0 a id s.0 k child s.1);
+        found = λ leaf is. rw (found_in_child o 0 a None id None s.0 k child s.1, walk-leaf a child leaf is) refl;
+      }
   found_in_leaf (suc (suc level)) inner given node here chosen =
-      absurd (kind_of cmp a id (suc level) (Leaf node) (stands_over (suc level) a id given k child (routes (Leaf node) here chosen)) here)
+      absurd (kind_of cmp a id (suc level) (Leaf node) (routes (suc level) given (Leaf node) here chosen).0 here)
 
   pub found_below : (level : ℕ) → 0 < level → StandsOrRetired cmp level a id → (node : BranchOf K ℕ LEN) → get a.nodes id ≡ Some (Internal node)
       → child_of cmp k node.children.entries node.unbounded_child ≡ Some child → FoundBelow level
   found_below zero inner given node here chosen = absurd (omega (arith, inner))
-  found_below (suc zero) inner given node here chosen =
-      absurd (kind_of cmp a id 0 (Internal node) (stands_over 0 a id given k child (routes (Internal node) here chosen)) here)
+  found_below (suc zero) inner given node here chosen = absurd (kind_of cmp a id 0 (Internal node) (routes 0 given (Internal node) here chosen).0 here)
   found_below (suc (suc level)) inner given node here chosen =
-      let routed = routes (Internal node) here chosen in below level (stands_over (suc level) a id given k child routed) routed
+      let s = routes (suc level) given (Internal node) here chosen in
+      let below = child_stands o (suc level) a id s.0 k child s.1 in
+      let same = found_in_child o (suc level) a None id None s.0 k child s.1 in
+      record { inner = omega arith; whole = rw sub-one below; stands = rw sub-one (inl below); found = rw sub-one same }
 
 module _ {K V : Type 0} {LEN : ℕ} (cmp : K → K → Ordering) (a : TreeArenas K V LEN) (id : ℕ) where
   -- what stands isn't retired
   pub stands_not_retired : (level : ℕ) → 0 < level → Stands cmp level a None id None → IsRetired level a id → ⊥
   stands_not_retired zero inner s retired = omega (arith, inner)
-  stands_not_retired (suc level) inner s retired =
-      let none = (rw s.here at retired).1 in
-      let some = s.last_is in
-      cc
+  stands_not_retired (suc level) inner s retired = cc ((rw s.here at retired).1, s.last_is)
 
   -- and has a child for each key
   pub childless : (level : ℕ) → 0 < level → StandsOrRetired cmp level a id → (k : K) (node : NodeOf K LEN) → get a.nodes id ≡ Some node → child_of cmp k (keyed node).entries (unbounded node) ≡ None → IsRetired level a id
   childless level inner (inr retired) k node here none = retired
   childless zero inner (inl s) k node here none = absurd (omega (arith, inner))
-  childless (suc level) inner (inl s) k node here none =
-      let same : Some s.node ≡ Some node = sym s.here ∙ here in
-      let is : s.node ≡ node = cc in
-      let gone : child_of cmp k (keyed node).entries (Some s.last) ≡ None = rw (rw is at s.last_is) at none in
-      absurd (cc)
+  childless (suc level) inner (inl s) k node here none = absurd (cc (rw (rw (node_is level a None id None s node here) at s.last_is) at none))
 
 module _ {K V : Type 0} {LEN : ℕ} (a : TreeArenas K V LEN) (id : ℕ) where
   -- what is retired has no pair
   pub retired_walk : (level : ℕ) → 0 < level → IsRetired level a id → walk level a id ≡ []
   retired_walk zero inner retired = absurd (omega (arith, inner))
-  retired_walk (suc level) inner retired = by_node (get a.nodes id) refl retired
-    where
-      by_node : (found : Option (NodeOf K LEN)) → get a.nodes id ≡ found → IsRetiredNode found → walk (suc level) a id ≡ []
-      by_node None here retired = absurd retired
-      by_node (Some node) here retired = rw (here, retired.0, retired.1) refl
+  retired_walk (suc level) inner retired = rw (no_children (get a.nodes id) retired).1 refl

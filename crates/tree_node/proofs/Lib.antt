@@ -2,7 +2,6 @@ pub mod Ascents
 pub mod Bare
 pub mod Beside
 pub mod Between
-pub mod Beyond
 pub mod Bounds
 pub mod ChildChanges
 pub mod Children
@@ -20,7 +19,6 @@ pub mod NodeKinds
 pub mod Order
 pub mod Places
 pub mod Routes
-pub mod SameKinds
 pub mod Sizes
 pub mod Spares
 pub mod Standing

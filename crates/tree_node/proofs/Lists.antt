@@ -12,6 +12,9 @@ module _ {X : Type 0} where
   flat_map-flat_map f g [] = refl
   flat_map-flat_map f g (x ∷ xs) = rw (flat_map-append f (g x) (flat_map g xs), flat_map-flat_map f g xs) refl
 
+  pub flat_map-three : {Y : Type 0} (f : X → List Y) (xs ys zs : List X) → flat_map f (xs ++ (ys ++ zs)) ≡ flat_map f xs ++ (flat_map f ys ++ flat_map f zs)
+  flat_map-three f xs ys zs = rw (flat_map-append f xs, flat_map-append f ys) refl
+
   pub flat_map_same : {Y : Type 0} (f g : X → List Y) (xs : List X) → AllByRecursion (λ x. f x ≡ g x) xs → flat_map f xs ≡ flat_map g xs
   flat_map_same f g [] h = refl
   flat_map_same f g (x ∷ xs) h = rw (h.0, flat_map_same f g xs h.1) refl

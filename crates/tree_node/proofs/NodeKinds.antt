@@ -1,12 +1,8 @@
 -- What the kind of a node says of its level, and what stands at a level that a program counts.
-use Rattle.std.proofs.Common.{◌≡◌, ◌⊎◌, ℕ, zero, suc, ◌<◌, ◌∷◌, None, Some, IsSome, refl, ap, arith, inl, inr, Ordering}
-use Rattle.tree_model.proofs.Common.{IsTotalOrder}
-use Rattle.tree_node.proofs.Common.{get, times, times-append, BranchOf, NodeOf, Internal, Leaf, TreeArenas, IsPart, HasChildFor, IsRetired, IsRetiredNode, Stands, child_at, children_of, is_from, keyed}
-use Rattle.tree_node.proofs.ChildChanges.{front, back, was}
-use Rattle.tree_node.proofs.Children.{node_there}
-use Rattle.tree_node.proofs.Frames.{head_here}
+use Rattle.std.proofs.Common.{◌≡◌, ◌⊎◌, ℕ, zero, suc, ◌<◌, None, Some, IsSome, refl, arith, inl, inr, Ordering}
+use Rattle.tree_node.proofs.Common.{BranchOf, HasChildFor, Internal, IsPart, IsRetired, IsRetiredNode, IsTotalOrder, Leaf, NodeOf, Stands, TreeArenas, child_at, children_of, get, head_here, is_from, keyed, node_is, node_there, times, times-append}
+use Rattle.tree_node.proofs.ChildChanges.{back, was}
 use Rattle.tree_node.proofs.Levels.{kind_of}
-use Rattle.tree_node.proofs.Standing.{node_is}
 
 module _ {K V : Type 0} {LEN : ℕ} {cmp : K → K → Ordering} where
   -- a node over nodes is above the first level
@@ -33,9 +29,8 @@ module _ {K V : Type 0} {LEN : ℕ} {cmp : K → K → Ordering} where
   child_inside o zero deep a id child key part which = absurd (omega (arith, deep))
   child_inside o (suc level) deep a id child key part which =
       let s : Stands cmp (suc level) a None id None = part.stands in
-      let before = front o level a id child key part which None None s in
       let behind = back o level a id child key part which None None s in
-      omega (arith, ap (times child) (was o level a id child key part which None None s), times-append child before (child ∷ behind), head_here child behind)
+      rw (was o level a id child key part which None None s, times-append child) (omega (arith, head_here child behind))
 
   -- a node is there
   pub node_used : (level : ℕ) → 0 < level → (a : TreeArenas K V LEN) (id : ℕ) → IsPart cmp level a id ⊎ IsRetired level a id → IsSome (get a.nodes id)
@@ -48,9 +43,7 @@ module _ {K V : Type 0} {LEN : ℕ} {cmp : K → K → Ordering} where
   not_retired zero deep a id part node here retired = omega (arith, deep)
   not_retired (suc level) deep a id part node here retired =
       let s : Stands cmp (suc level) a None id None = part.stands in
-      let last = rw (node_is level a None id None s node here) at s.last_is in
-      let none = retired.1 in
-      cc
+      cc (rw (node_is level a None id None s node here) at s.last_is, retired.1)
 
 module _ {K V : Type 0} {LEN : ℕ} where
   pub retired_node : (level : ℕ) → 0 < level → (a : TreeArenas K V LEN) (id : ℕ) → IsRetired level a id → (node : NodeOf K LEN) → get a.nodes id ≡ Some node → IsRetiredNode (Some node)

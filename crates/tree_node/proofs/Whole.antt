@@ -1,12 +1,9 @@
 -- What keeps a whole tree.
-use Rattle.std.proofs.Common.{◌≡◌, ◌⊎◌, ℕ, ◌≤◌, ◌==◌, cond, Bool, true, false, List, [], ◌∷◌, ◌++◌, length, Option, Some, None, is_some, inl, inr, refl, sym, ap, ◌∙◌, arith, Ordering, append-nil}
-use Rattle.tree_model.proofs.Common.{nat_tests}
-use Rattle.tree_node.proofs.Common.{get, IsChain, times, uses, same_array_refl, uses_same, TreeArenas, IsPart, Replaces, Unchanged, spare, Stands, leaves_at, leaves_of, nodes_at, IsRetiredRoot, IsTree, leaves_under, walk_under}
+use Rattle.std.proofs.Common.{◌≡◌, ◌⊎◌, ℕ, ◌<◌, ◌==◌, cond, List, [], ◌∷◌, length, Option, Some, None, is_some, inl, inr, refl, sym, ap, ◌∙◌, arith, Ordering, append-nil}
+use Rattle.tree_node.proofs.Common.{Agrees, IsChain, IsPart, IsRetiredRoot, IsTree, Replaces, Stands, TreeArenas, Unchanged, get, leaves_at, leaves_under, nat_tests, nodes_at, same_array_refl, same_leaves, same_nodes, same_stands, same_walk, single_leaves, single_nodes, spare, times, uses, uses_same, walk_under}
 use Rattle.tree_leaf.specs.Chain.{AreLinked}
 use Rattle.tree_node.specs.Whole.{IsTop, nodes_under, spare_under}
 use Rattle.tree_node.proofs.Bare.{has_leaf}
-use Rattle.tree_node.proofs.Frames.{Agrees, same_leaves, same_nodes, same_stands, same_walk}
-use Rattle.tree_node.proofs.Lifts.{single_leaves, single_nodes}
 use Rattle.tree_node.proofs.Spares.{same_spare}
 
 module _ {K V : Type 0} {LEN : ℕ} {cmp : K → K → Ordering} where
@@ -29,10 +26,9 @@ module _ {K V : Type 0} {LEN : ℕ} {cmp : K → K → Ordering} where
     leaves_after n = omega (arith, tree.leaves_once n, r.leaves_counted n, ap (times n) (single_leaves level a.nodes id), ap (times n) (single_leaves level b.nodes id))
 
     pub chain_after : IsChain b.leaves (leaves_at level b.nodes id)
-    chain_after = whole_chain (r.chained [] [] (rw (single_leaves level a.nodes id, append-nil (leaves_at level a.nodes id)) tree.chain))
-      where
-        whole_chain : IsChain b.leaves (leaves_of level b.nodes (id ∷ []) ++ []) → IsChain b.leaves (leaves_at level b.nodes id)
-        whole_chain chain = rw (single_leaves level b.nodes id, append-nil (leaves_at level b.nodes id)) at chain
+    chain_after =
+        let chain = r.chained [] [] (rw (single_leaves level a.nodes id, append-nil (leaves_at level a.nodes id)) tree.chain) in
+        rw (single_leaves level b.nodes id, append-nil (leaves_at level b.nodes id)) at chain
 
     pub tree_after : IsTop cmp b (Some (id, level)) → IsTree cmp b (Some (id, level))
     tree_after top = record { top = top; nodes_once = nodes_after; leaves_once = leaves_after; chain = chain_after }
@@ -73,13 +69,8 @@ module _ {K V : Type 0} {LEN : ℕ} {cmp : K → K → Ordering} where
       linked_kept before (n ∷ rest) linked = (rw (same.leaves n) linked.0, linked_kept (Some n) rest linked.1)
 
 -- the number, if the list is not empty
-of_some : (ids : List ℕ) → (ids ≡ [] → ⊥) → (n : ℕ) → cond (length ids == 0) 0 n ≡ n
-of_some [] some n = absurd (some refl)
-of_some (x ∷ xs) some n = by_test (length (x ∷ xs) == 0) refl
-  where
-    by_test : (b : Bool) → (length (x ∷ xs) == 0) ≡ b → cond b 0 n ≡ n
-    by_test true h = absurd (grind (arith, nat_tests))
-    by_test false h = refl
+of_some : (ids : List ℕ) → 0 < length ids → (n : ℕ) → cond (length ids == 0) 0 n ≡ n
+of_some ids some n = grind (arith, nat_tests)
 
 module _ {K V : Type 0} {LEN : ℕ} where
   agreeing : (a b : TreeArenas K V LEN) → Unchanged a b → (level id : ℕ) → Agrees level a b id
@@ -98,11 +89,3 @@ module _ {K V : Type 0} {LEN : ℕ} where
   -- the spare of a tree whose root stands is that of its part
   pub spare_standing : (cmp : K → K → Ordering) (a : TreeArenas K V LEN) (id level : ℕ) → Stands cmp level a None id None → spare_under a (Some (id, level)) ≡ spare level a id
   spare_standing cmp a id level stands = of_some (leaves_at level a.nodes id) (has_leaf cmp a level None id None stands) (spare level a id)
-
-  -- and no more than it in any case
-  pub spare_at_most : (a : TreeArenas K V LEN) (id level : ℕ) → spare_under a (Some (id, level)) ≤ spare level a id
-  spare_at_most a id level = by_test (length (leaves_at level a.nodes id) == 0)
-    where
-      by_test : (b : Bool) → cond b 0 (spare level a id) ≤ spare level a id
-      by_test true = omega arith
-      by_test false = omega arith

@@ -1,4 +1,4 @@
-use Rattle.tree_node.proofs.SameKinds.{inner_kind, outer_kind}
+use Rattle.tree_node.proofs.Common.{inner_kind, outer_kind}
 use Rattle.tree_node.proofs.node.NodeOf.take_keyed.Goals as goal
 
 pub returns-in-Internal-clause-taken : goal.returns-in-Internal-clause-taken
