@@ -1,13 +1,8 @@
 -- A tree is packed if it is as full as can be along its right edge: the way from the root by unbounded children to the last leaf. Keys that arrive in ascending order leave it so.
 use Rattle.std.specs.Prelude.{◌≡◌, ℕ, zero, suc, ◌<◌, ◌==◌, ◌^◌, leb, Bool, true, false, not, ◌&&◌, ◌||◌, List, [], ◌∷◌, length, Option, None, Some}
-use Rattle.std.specs.List.{AllByRecursion}
 use Rattle.std.specs.Ordering.{is_eq}
-use Rattle.std.specs.declared.cmp.Ordering.{Ordering}
-use Rattle.slab.specs.Slab.{Slab, get}
-use Rattle.tree_array.specs.Arrivals.{Arrivals}
-use Rattle.tree_leaf.specs.declared.leaf.LeafOf.{LeafOf}
+use Rattle.tree_node.specs.Arenas.{AllByRecursion, Arrivals, LeafOf, Ordering, Slab, TreeArenas, get}
 use Rattle.tree_node.specs.declared.node.NodeOf.{NodeOf}
-use Rattle.tree_node.specs.Arenas.{TreeArenas}
 use Rattle.tree_node.specs.Shape.{found_keyed}
 use Rattle.tree_node.specs.Tree.{IsBelow, keyed, unbounded, walk}
 
