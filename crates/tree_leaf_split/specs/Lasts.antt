@@ -1,11 +1,6 @@
 -- The last leaf under a node, where room is made for a key.
 use Rattle.std.specs.Prelude.{◌≡◌, ℕ}
-use Rattle.std.specs.List.{AllByRecursion}
-use Rattle.std.specs.declared.cmp.Ordering.{Ordering}
-use Rattle.std.specs.declared.cmp.Ordering.TheVariants.{Less}
-use Rattle.slab.specs.Slab.{get}
-use Rattle.tree_leaf.specs.Entries.{leaf_entries}
-use Rattle.tree_node.specs.Arenas.{TreeArenas}
+use Rattle.tree_node.specs.Arenas.{AllByRecursion, Less, Ordering, TreeArenas, get, leaf_entries}
 use Rattle.tree_split.specs.Packed.{HasLast}
 
 -- A key that is larger than all of the last leaf belongs to it still, and the leaf is the last one still.

@@ -7,6 +7,7 @@ ghost use Rattle.tree_array.specs.Arrivals.{in_order};
 ghost use Rattle.tree_array.specs.Insertion.{HasRoom};
 ghost use Rattle.tree_array.specs.Length.{limit};
 ghost use Rattle.tree_array.specs.Sound.{IsSound};
+ghost use Rattle.tree_leaf_split.specs.Divides.{DividesLeaf};
 ghost use Rattle.tree_leaf_split.specs.Lasts.{StaysLast};
 ghost use Rattle.tree_model.specs.Pairs.{IsAbsent};
 ghost use Rattle.tree_node.specs.Parts.{IsPart, PutsChild, Unchanged};
@@ -105,8 +106,8 @@ fn is_beyond<K: Ord + Drop, V: Drop, const LEN: usize>(array: &ArrayOf<K, V, LEN
 /// Splits a leaf: its first `count` entries move to a new leaf, linked before it, under a clone of the greatest key among
 /// them. Returns the one of the two that the key belongs to.
 ///
-/// Returns `Err` if memory is refused, also by the clone; nothing has changed then, since the place for the leaf is
-/// reserved and the key cloned before an entry moves.
+/// Returns `Err` if memory is refused, also by the clone; nothing has changed then, since the key is cloned before an entry
+/// moves.
 fn split_leaf<K: IndexKey, V: Drop, const LEN: usize>(
     arenas: &mut ArenasOf<K, V, LEN>,
     id: NodeId,
@@ -128,15 +129,33 @@ fn split_leaf<K: IndexKey, V: Drop, const LEN: usize>(
     ensures err { OnErr result (Unchanged arenas.old arenas.new) }
 {
     let separator = separator_at(arenas.leaf(target).array(), count - 1)?;
+    let low = divide_leaf(arenas, target, count)?;
+    let home = side_for(key, &separator, low, target);
+    put_leaf(arenas.node_mut(id), separator, low);
+    Ok(home)
+}
+
+/// Divides a leaf: its first `count` entries move to a new leaf, linked before it. Returns the number of the new leaf.
+/// Returns `Err` if memory is refused; nothing has changed then, since the place for the leaf is reserved before an entry
+/// moves.
+fn divide_leaf<K: Ord + Drop, V: Drop, const LEN: usize>(
+    arenas: &mut ArenasOf<K, V, LEN>,
+    target: LeafId,
+    count: u8,
+) -> Result<LeafId, AllocError>
+    requires part { IsPart K.cmp 0 arenas.old target }
+    requires sound { (leaf : _) → get arenas.old.leaves target ≡ Some leaf → IsSound K.cmp LEN leaf.array }
+    requires whole { (leaf : _) → get arenas.old.leaves target ≡ Some leaf → GoesWhole LEN leaf.array count }
+    ensures done { IfOk result (DividesLeaf arenas.old arenas.new target count) }
+    ensures err { OnErr result (Unchanged arenas.old arenas.new) }
+{
     arenas.reserve(1, 0)?;
     let mut low = LeafOf::new();
     cut_low(arenas.leaf_mut(target).array_mut(), count, low.array_mut());
     let Ok(low_id) = add_before(arenas, target, low) else {
         unreachable!()
     };
-    let home = side_for(key, &separator, low_id, target);
-    put_leaf(arenas.node_mut(id), separator, low_id);
-    Ok(home)
+    Ok(low_id)
 }
 
 /// Returns the lower of two leaves if the key is at most the separator between them, else the upper one.
