@@ -2,10 +2,9 @@ pub mod Arrivals
 pub mod Common
 pub mod Dealt
 mod Emptied
+mod Fields
 mod Kept
-mod Marked
 mod Moved
-mod Places
 mod Ranges
 mod Removed
 mod Seen

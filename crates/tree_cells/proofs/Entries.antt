@@ -1,11 +1,10 @@
--- What a look-up finds among arrivals, and the entries after one is spent, cut or stored.
-use Rattle.std.proofs.Common.{◌≡◌, ℕ, suc, Bool, true, false, cond, List, [], ◌∷◌, ◌++◌, map, filter, Option, None, Some, if◌then◌else◌, refl, sym, ◌∙◌, ap, not, Ordering, Less, Equal, Greater, is_eq}
-use Rattle.tree_model.proofs.Common.{Bound, IsTotalOrder, AllByRecursion, IsAscending, pair_at, put, without, within, cut}
+-- What a look-up finds among arrivals, and the entries after one is spent or cut.
+use Rattle.std.proofs.Common.{◌≡◌, ℕ, suc, Bool, true, false, cond, List, [], ◌∷◌, map, filter, Option, None, Some, if◌then◌else◌, refl, sym, ◌∙◌, ap, not, Ordering, Less, Equal, Greater, is_eq}
+use Rattle.tree_model.proofs.Common.{Bound, IsTotalOrder, AllByRecursion, IsAscending, pair_at, without, within, cut}
 use Rattle.tree_cells.specs.Arrivals.{arrival, reachable, sorted, spend, cut_at}
-use Rattle.tree_model.proofs.Ascending.{IsAscending-put, IsAscending-without, IsAscending-cut}
-use Rattle.tree_model.proofs.Lists.{find_after, find_before, find_kept, find_dropped}
-use Rattle.tree_model.proofs.LookUps.{equal_from_test, pair_at-put, pair_at-without, pair_at-cut, same_look_ups}
-use Rattle.tree_cells.proofs.Picks.{reachable-append}
+use Rattle.tree_model.proofs.Ascending.{IsAscending-without, IsAscending-cut}
+use Rattle.tree_model.proofs.Lists.{find_kept, find_dropped}
+use Rattle.tree_model.proofs.LookUps.{equal_from_test, pair_at-without, pair_at-cut, same_look_ups}
 use Rattle.tree_cells.proofs.Sorted.{IsAscending-sorted, pair_at-sorted}
 
 module _ {K V : Type 0} where
@@ -83,15 +82,3 @@ module _ {K V : Type 0} {cmp : K → K → Ordering} (o : IsTotalOrder cmp) wher
         (sorted_as (cut cmp (reachable arrivals) low high) (cut cmp before low high) (IsAscending-cut cmp before low high (IsAscending-sorted o (reachable arrivals))) (λ other.
         pair_at-cut o other (reachable arrivals) low high
         ∙ sym (pair_at-cut o other before low high ∙ rw (found_before other) refl)))
-
-    -- a pair that is stored is put among the entries
-    pub entries-store : (key : K) (val : V) → sorted cmp (reachable (spend cmp arrivals key ++ Some (key, val) ∷ [])) ≡ put cmp (sorted cmp (reachable arrivals)) key val
-    entries-store key val =
-        rw (reachable-append (spend cmp arrivals key) (Some (key, val) ∷ []), reachable-spend cmp arrivals key)
-        (sorted_as (others key ++ (key, val) ∷ []) (put cmp before key val) (IsAscending-put o before key val (IsAscending-sorted o (reachable arrivals))) (λ other.
-        go other (is_eq (cmp key other)) refl
-        ∙ sym (pair_at-put o other before key val ∙ rw (found_before other) refl)))
-      where
-        go : (other : K) (b : Bool) → is_eq (cmp key other) ≡ b → pair_at cmp (others key ++ (key, val) ∷ []) other ≡ (if is_eq (cmp key other) then Some (key, val) else pair_at cmp (reachable arrivals) other)
-        go other true q = find_after _ (others key) ((key, val) ∷ []) (pair_at-others (reachable arrivals) key other ∙ rw q refl) ∙ rw q refl
-        go other false q = find_before _ (others key) ((key, val) ∷ []) (rw q refl) ∙ pair_at-others (reachable arrivals) key other ∙ rw q refl

@@ -73,8 +73,8 @@ module _ {K V : Type 0} where
     pub view : zipped keys vals ≡ pairs
     pub same : length keys ≡ length vals
 
-  pub as_seen : (keys : List (Option K)) (vals : List (Option V)) (counts : Counts) (held : Held K V) (len : ℕ) → record { pairs = zipped keys vals; counts = counts } ≡ held → length keys ≡ len → length vals ≡ len → AreSeenAs keys vals held.pairs
-  as_seen keys vals counts held len view whole whole' = record { view = ap (λ (h : Held K V). h.pairs) view; same = whole ∙ sym whole' }
+  pub as_seen : {keys : List (Option K)} {vals : List (Option V)} {counts : Counts} {held : Held K V} {len : ℕ} → record { pairs = zipped keys vals; counts = counts } ≡ held → length keys ≡ len → length vals ≡ len → AreSeenAs keys vals held.pairs
+  as_seen view whole whole' = record { view = ap (λ (h : Held K V). h.pairs) view; same = whole ∙ sym whole' }
 
   module _ {keys : List (Option K)} {vals : List (Option V)} {pairs : List (Option (K × V))} (rows : AreSeenAs keys vals pairs) where
     pub has_both : (p : ℕ) → IsSome (arrival pairs p) → IsSome (get_or keys p None) × IsSome (get_or vals p None)

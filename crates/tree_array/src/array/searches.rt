@@ -5,10 +5,10 @@ ghost use Rattle.tree_array.specs.Length.{searched};
 ghost use Rattle.tree_array.specs.Spans.{Spans};
 ghost use Rattle.tree_model.specs.Pairs.{Finds, IsAbsent, pair_at};
 
-use super::ArrayOf;
+use super::{ArrayOf, order_of};
 use tree_cells::judge::{Asks, Judge};
 use tree_cells::search::{Place, find};
-use tree_order::order::{BEYOND, last_slot, slot_at};
+use tree_order::order::BEYOND;
 
 impl<K: Ord + Drop, V: Drop, const LEN: usize> ArrayOf<K, V, LEN> {
     /// Returns the pair with the judge's key, or `None` if the key is absent. Makes at most 4 comparisons
@@ -19,7 +19,7 @@ impl<K: Ord + Drop, V: Drop, const LEN: usize> ArrayOf<K, V, LEN> {
         ensures counted { J.count judge.new ≤ J.count judge.old + LEN }
         ensures halved { J.count judge.new ≤ J.count judge.old + searched LEN }
     {
-        match find(&self.cells, self.order, self.cells.counts().entries, judge) {
+        match find(&self.cells, order_of(self.order, &self.cells), judge) {
             Place::At { place: _, slot } => Some(self.cells.pair(slot)),
             Place::Before { place: _, slot: _ } => None,
         }
@@ -69,8 +69,9 @@ impl<K: Ord + Drop, V: Drop, const LEN: usize> ArrayOf<K, V, LEN> {
             (λ slot. (pair : _) × (arrival self.now.arrivals slot ≡ Some pair)
             × (slice_get self.now.entries place ≡ Some pair)) }
     {
-        if place < self.cells.counts().entries {
-            Some(slot_at(self.order, place))
+        let order = order_of(self.order, &self.cells);
+        if place < order.count {
+            Some(order.slot_at(place))
         } else {
             None
         }
@@ -82,11 +83,11 @@ impl<K: Ord + Drop, V: Drop, const LEN: usize> ArrayOf<K, V, LEN> {
             (λ slot. (pair : _) × (arrival self.now.arrivals slot ≡ Some pair)
             × (front : _) × (self.now.entries ≡ front ++ pair ∷ [])) }
     {
-        let count = self.cells.counts().entries;
-        if count == 0 {
+        let order = order_of(self.order, &self.cells);
+        if order.count == 0 {
             return None;
         }
-        Some(last_slot::<LEN>(self.order, count))
+        Some(order.last())
     }
 
     /// Returns whether a key lies between the first and the last one, or is one of these. Makes at most two comparisons.
@@ -113,8 +114,7 @@ impl<K: Ord + Drop, V: Drop, const LEN: usize> ArrayOf<K, V, LEN> {
         ensures counted { A.count asked.new ≤ A.count asked.old + LEN }
         ensures halved { A.count asked.new ≤ A.count asked.old + searched LEN }
     {
-        let count = self.cells.counts().entries;
-        let slot = find(&self.cells, self.order, count, asked).slot();
+        let slot = find(&self.cells, order_of(self.order, &self.cells), asked).slot();
         if slot < BEYOND { Some(slot) } else { None }
     }
 }

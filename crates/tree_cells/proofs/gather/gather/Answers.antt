@@ -1,6 +1,6 @@
 use Rattle.std.proofs.Common.{◌≡◌, ◌≢◌, ℕ, ◌+◌, ◌-◌, ◌<◌, ◌≤◌, Some, None, length, get_or, sym, ◌∙◌, ap, arith}
 use Rattle.tree_order.specs.Order.{named}
-use Rattle.tree_cells.proofs.Halving.{named_later}
+use Rattle.tree_order.proofs.Words.{named_later}
 use Rattle.tree_cells.proofs.Moves.{moved_more, none_in_turn, none_left, stands_still}
 use Rattle.tree_cells.proofs.Sizes.{steps}
 use Rattle.tree_cells.proofs.gather.gather.Goals as goal

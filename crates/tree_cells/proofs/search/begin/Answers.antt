@@ -5,7 +5,7 @@ use Rattle.tree_cells.proofs.search.begin.Goals as goal
 pub halve-requires : goal.halve-requires
 halve-requires g c =
     let r = c.requires in
-    (search rules, (r.len, (r.some, (r.few, (r.in_order, (r.filled, window_fifteen g.met.K.Ord.total r.in_order r.filled r.some r.few _ r.len c.if-this-gt7.true))))))
+    (search rules, (search rules, (r.some, (r.in_order, window_fifteen g.met.K.Ord.total r.in_order c.args.order.whole r.some _ r.len c.if-this-gt7.true))))
 
 pub returns-then-this-gt7-clause-counted : goal.returns-then-this-gt7-clause-counted
 returns-then-this-gt7-clause-counted g c = omega (arith, c.halve.ensures.counted, searched_more g.row.LEN c.if-this-gt7.true)
@@ -13,4 +13,4 @@ returns-then-this-gt7-clause-counted g c = omega (arith, c.halve.ensures.counted
 pub returns-else-this-gt7-clause-window : goal.returns-else-this-gt7-clause-window
 returns-else-this-gt7-clause-window g c =
     let r = c.requires in
-    window_seven g.met.K.Ord.total r.in_order r.filled r.some r.few _ r.len c.if-this-gt7.false
+    window_seven g.met.K.Ord.total r.in_order c.args.order.whole r.some _ r.len c.if-this-gt7.false

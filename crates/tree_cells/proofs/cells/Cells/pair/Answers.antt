@@ -4,18 +4,15 @@ use Rattle.tree_cells.proofs.cells.Cells.pair.Goals as goal
 
 pub get-requires : goal.get-requires
 get-requires g c =
-    let rows = c.in-Some.rows in
-    let seen = as_seen rows.keys.slots rows.vals.slots rows.counts _ _ (rw c.in-Some.is at c.self.view_is) rows.keys.whole rows.vals.whole in
+    let seen = as_seen (rw c.in-Some.is at c.self.view_is) c.in-Some.rows.keys.whole c.in-Some.rows.vals.whole in
     (search steps, (has_both seen c.args.cell c.requires).0)
 
 pub get-requires-in-Some : goal.get-requires-in-Some
 get-requires-in-Some g c =
-    let rows = c.in-Some.rows in
-    let seen = as_seen rows.keys.slots rows.vals.slots rows.counts _ _ (rw c.in-Some.is at c.self.view_is) rows.keys.whole rows.vals.whole in
+    let seen = as_seen (rw c.in-Some.is at c.self.view_is) c.in-Some.rows.keys.whole c.in-Some.rows.vals.whole in
     (search steps, (has_both seen c.args.cell c.requires).1)
 
 pub returns : goal.returns
 returns g c =
-    let rows = c.in-Some.rows in
-    let seen = as_seen rows.keys.slots rows.vals.slots rows.counts _ _ (rw c.in-Some.is at c.self.view_is) rows.keys.whole rows.vals.whole in
+    let seen = as_seen (rw c.in-Some.is at c.self.view_is) c.in-Some.rows.keys.whole c.in-Some.rows.vals.whole in
     is_pair seen c.args.cell _ _ c.get.ensures c.get-in-Some.ensures

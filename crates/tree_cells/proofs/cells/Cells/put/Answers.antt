@@ -5,24 +5,20 @@ use Rattle.tree_cells.proofs.cells.Cells.put.Goals as goal
 
 pub put-requires : goal.put-requires
 put-requires g c =
-    let rows = c.in-Some.rows in
-    let seen = as_seen rows.keys.slots rows.vals.slots rows.counts _ _ (rw c.in-Some.is at c.self.view_is) rows.keys.whole rows.vals.whole in
+    let seen = as_seen (rw c.in-Some.is at c.self.view_is) c.in-Some.rows.keys.whole c.in-Some.rows.vals.whole in
     (search steps, (search rules, (has_none seen (rw c.in-Some.is at c.self.invariant) c.args.cell c.requires.empty).0))
 
 pub put-requires-in-Some : goal.put-requires-in-Some
 put-requires-in-Some g c =
-    let rows = c.in-Some.rows in
-    let seen = as_seen rows.keys.slots rows.vals.slots rows.counts _ _ (rw c.in-Some.is at c.self.view_is) rows.keys.whole rows.vals.whole in
+    let seen = as_seen (rw c.in-Some.is at c.self.view_is) c.in-Some.rows.keys.whole c.in-Some.rows.vals.whole in
     (search steps, (search rules, (has_none seen (rw c.in-Some.is at c.self.invariant) c.args.cell c.requires.empty).1))
 
 pub invariant_of-self : goal.invariant_of-self
 invariant_of-self g c =
-    let rows = c.in-Some.rows in
-    let seen = as_seen rows.keys.slots rows.vals.slots rows.counts _ _ (rw c.in-Some.is at c.self.view_is) rows.keys.whole rows.vals.whole in
+    let seen = as_seen (rw c.in-Some.is at c.self.view_is) c.in-Some.rows.keys.whole c.in-Some.rows.vals.whole in
     rw (c.put.ensures, c.put-in-Some.ensures) (stay_alike seen (rw c.in-Some.is at c.self.invariant) c.args.cell (Some c.args.key) (Some c.args.val) refl)
 
 pub returns-in-Some-clause-pairs : goal.returns-in-Some-clause-pairs
 returns-in-Some-clause-pairs g c =
-    let rows = c.in-Some.rows in
-    let seen = as_seen rows.keys.slots rows.vals.slots rows.counts _ _ (rw c.in-Some.is at c.self.view_is) rows.keys.whole rows.vals.whole in
+    let seen = as_seen (rw c.in-Some.is at c.self.view_is) c.in-Some.rows.keys.whole c.in-Some.rows.vals.whole in
     rw (c.put.ensures, c.put-in-Some.ensures) (pairs_set seen c.args.cell (Some c.args.key) (Some c.args.val))

@@ -8,43 +8,18 @@ use Rattle.tree_cells.proofs.cells.Cells.take_places.Goals as goal
 
 pub gather-requires : goal.gather-requires
 gather-requires g c =
-    let rows = c.in-Some.rows in
-    let seen = as_seen rows.keys.slots rows.vals.slots rows.counts _ _ (rw c.in-Some.is at c.self.view_is) rows.keys.whole rows.vals.whole in
+    let seen = as_seen (rw c.in-Some.is at c.self.view_is) c.in-Some.rows.keys.whole c.in-Some.rows.vals.whole in
     let to = inside (sym c.replace-old.ensures.after ∙ c.in-Some-rows.is) in
     let no_keys = ap (λ rows. rows.keys.slots) to in
-    let no_vals = ap (λ rows. rows.vals.slots) to in (
-      search steps,
-      (
-        search steps,
-        (
-          omega (arith, c.if-from-end.false),
-          (
-            c.requires.few,
-            (
-              c.requires.places,
-              (
-                (λ i le lt. rw c.spare.ensures.same (has_both seen (named c.args.order i) (c.requires.stands i le lt)).0),
-                (
-                  (λ i le lt. rw c.spare-in-Some.ensures.same (has_both seen (named c.args.order i) (c.requires.stands i le lt)).1),
-                  (
-                    c.requires.apart,
-                    (
-                      (λ p. ap (λ slots. get_or slots p None) (sym no_keys ∙ c.spare.ensures.empty) ∙ none_replicated g.row.LEN p),
-                      (λ p. ap (λ slots. get_or slots p None) (sym no_vals ∙ c.spare-in-Some.ensures.empty) ∙ none_replicated g.row.LEN p),
-                    ),
-                  ),
-                ),
-              ),
-            ),
-          ),
-        ),
-      ),
-    )
+    let no_vals = ap (λ rows. rows.vals.slots) to in
+    (search steps, (search steps, (omega (arith, c.if-from-end.false), (c.requires.few, (c.requires.places,
+    ((λ i le lt. rw c.spare.ensures.same (has_both seen (named c.args.order i) (c.requires.stands i le lt)).0), ((λ i le lt. rw c.spare-in-Some.ensures.same (has_both seen (named c.args.order i) (c.requires.stands i le lt)).1), (c.requires.apart,
+    ((λ p. ap (λ slots. get_or slots p None) (sym no_keys ∙ c.spare.ensures.empty) ∙ none_replicated g.row.LEN p), (λ p. ap (λ slots. get_or slots p None) (sym no_vals ∙ c.spare-in-Some.ensures.empty) ∙ none_replicated g.row.LEN p))))))))))
+
 
 pub invariant_of-to : goal.invariant_of-to
 invariant_of-to g c =
-    let rows = c.in-Some.rows in
-    let seen = as_seen rows.keys.slots rows.vals.slots rows.counts _ _ (rw c.in-Some.is at c.self.view_is) rows.keys.whole rows.vals.whole in
+    let seen = as_seen (rw c.in-Some.is at c.self.view_is) c.in-Some.rows.keys.whole c.in-Some.rows.vals.whole in
     alike_in_turn seen (c.gather.new.to_keys.whole ∙ sym c.gather.new.to_vals.whole) (rw c.in-Some.is at c.self.invariant) (rw c.spare.ensures.same at c.gather.ensures.keys_turn) (rw c.spare-in-Some.ensures.same at c.gather.ensures.vals_turn)
 
 pub unreachable-requires-in-None : goal.unreachable-requires-in-None
@@ -53,20 +28,17 @@ unreachable-requires-in-None g c =
 
 pub invariant_of-self : goal.invariant_of-self
 invariant_of-self g c =
-    let rows = c.in-Some.rows in
-    let seen = as_seen rows.keys.slots rows.vals.slots rows.counts _ _ (rw c.in-Some.is at c.self.view_is) rows.keys.whole rows.vals.whole in
+    let seen = as_seen (rw c.in-Some.is at c.self.view_is) c.in-Some.rows.keys.whole c.in-Some.rows.vals.whole in
     alike_left seen (c.gather.new.keys.whole ∙ sym c.gather.new.vals.whole) (rw c.in-Some.is at c.self.invariant) (rw c.spare.ensures.same at c.gather.ensures.keys_left) (rw c.spare-in-Some.ensures.same at c.gather.ensures.vals_left)
 
 pub returns-clause-turn : goal.returns-clause-turn
 returns-clause-turn g c =
-    let rows = c.in-Some.rows in
-    let seen = as_seen rows.keys.slots rows.vals.slots rows.counts _ _ (rw c.in-Some.is at c.self.view_is) rows.keys.whole rows.vals.whole in
+    let seen = as_seen (rw c.in-Some.is at c.self.view_is) c.in-Some.rows.keys.whole c.in-Some.rows.vals.whole in
     pairs_in_turn seen (c.gather.new.to_keys.whole ∙ sym c.gather.new.to_vals.whole) (rw c.spare.ensures.same at c.gather.ensures.keys_turn) (rw c.spare-in-Some.ensures.same at c.gather.ensures.vals_turn)
 
 pub returns-clause-left : goal.returns-clause-left
 returns-clause-left g c =
-    let rows = c.in-Some.rows in
-    let seen = as_seen rows.keys.slots rows.vals.slots rows.counts _ _ (rw c.in-Some.is at c.self.view_is) rows.keys.whole rows.vals.whole in
+    let seen = as_seen (rw c.in-Some.is at c.self.view_is) c.in-Some.rows.keys.whole c.in-Some.rows.vals.whole in
     pairs_left seen (c.gather.new.keys.whole ∙ sym c.gather.new.vals.whole) (rw c.spare.ensures.same at c.gather.ensures.keys_left) (rw c.spare-in-Some.ensures.same at c.gather.ensures.vals_left)
 
 pub returns-clause-same : goal.returns-clause-same
