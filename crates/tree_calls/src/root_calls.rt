@@ -5,6 +5,7 @@ ghost use Rattle.tree_insert.specs.Roots.{RaisesRoot, Replants};
 ghost use Rattle.tree_leaf.specs.Arena.{HasPlaces};
 ghost use Rattle.tree_node.specs.Parts.{IsPart, Unchanged};
 ghost use Rattle.tree_node.specs.Tree.{IsOfLevel, IsRetired};
+ghost use Rattle.tree_node.specs.Whole.{root_at};
 ghost use Rattle.tree_remove.specs.Lowering.{LowersRoot};
 
 use std::alloc::AllocError;
@@ -54,11 +55,11 @@ pub trait RootCalls<K: Ord + Drop, const LEN: usize> {
         requires part { IsPart K.cmp level arenas.old root ⊎ IsRetired level arenas.old root }
         requires kind { IsOfLevel level (get arenas.old.nodes root) }
         ensures { MatchOption result (LowersRoot K.cmp level arenas.old arenas.new root None)
-            (λ id. (left : ℕ) × LowersRoot K.cmp level arenas.old arenas.new root (Some (id, left))) }
+            (λ id. (left : ℕ) × LowersRoot K.cmp level arenas.old arenas.new root (Some (root_at id left))) }
     {
         let level = level_of_root(arenas, root);
-        let (id, _) = lower_root_at(arenas, level, root)?;
-        Some(id)
+        let lowered = lower_root_at(arenas, level, root)?;
+        Some(lowered.id)
     }
 }
 

@@ -3,7 +3,8 @@ use Rattle.std.proofs.Common.{◌≡◌, ℕ, zero, ◌+◌, ◌<◌, ◌==◌, 
 use Rattle.tree_model.proofs.Common.{cases_eq, nat_tests, flat_map-append, Bound, lent_entry, along, at_place, meets, next_end, unopened}
 use Rattle.tree_model.specs.declared.way.Way.{Way}
 use Rattle.tree_model.specs.declared.way.Way.TheVariants.{On, Back}
-use Rattle.tree_node.proofs.Common.{Slab, LeafOf, IsChain, times, entries_of, leaf_entries, one_here, times-cons, uses_le_one, TreeArenas, StandsOrRetired, leaves_at, walk, IsRetiredRoot, IsTree, leaves_under, walk_under}
+use Rattle.tree_node.proofs.Common.{Slab, LeafOf, IsChain, times, entries_of, leaf_entries, one_here, times-cons, uses_le_one, TreeArenas, StandsOrRetired, leaves_at, walk, IsRetiredRoot, IsTree, leaves_under, walk_under, root_at}
+use Rattle.tree_node.specs.declared.node.Root.{Root}
 use Rattle.tree_chain.proofs.Common.{LeafWalk, Steps, standing, beyond}
 use Rattle.std.proofs.lemmas.List.{length-reverse}
 use Rattle.std.proofs.lemmas.Option.{slice_get_within}
@@ -111,11 +112,11 @@ module _ {K V : Type 0} {LEN : ℕ} (leaves : Slab (LeafOf K V LEN)) (ids : List
           let there : slice_get (leaf_entries leaves walk.leaf) i ≡ Some pair = rw (same, is) at here in
           rw (this, ← stands) (placed leaves front walk.leaf back (rw stands chain) pair i there)
 
-module _ {K V : Type 0} {LEN : ℕ} {cmp : K → K → Ordering} (a : TreeArenas K V LEN) (root : Option (ℕ × ℕ)) (tree : IsTree cmp a root) where
+module _ {K V : Type 0} {LEN : ℕ} {cmp : K → K → Ordering} (a : TreeArenas K V LEN) (root : Option Root) (tree : IsTree cmp a root) where
   pairs_are : walk_under a root ≡ entries_of a.leaves (leaves_under a.nodes root)
   pairs_are = by_root root
     where
-      by_root : (root : Option (ℕ × ℕ)) → walk_under a root ≡ entries_of a.leaves (leaves_under a.nodes root)
+      by_root : (root : Option Root) → walk_under a root ≡ entries_of a.leaves (leaves_under a.nodes root)
       by_root None = refl
       by_root (Some root) = refl
 
@@ -158,7 +159,7 @@ steps_in_leaf cmp way old new None steps = (ap (λ walk. At walk) (steps.0 ∙ a
 steps_in_leaf cmp way old new (Some entry) steps = λ arenas root tree stands.
     goes_to arenas root tree way old stands new entry (advanced way old new (Some entry) (λ none. absurd (cc)) steps)
 
-module _ {K V : Type 0} {LEN : ℕ} {cmp : K → K → Ordering} (a : TreeArenas K V LEN) (id level : ℕ) (tree : IsTree cmp a (Some (id, level))) where
+module _ {K V : Type 0} {LEN : ℕ} {cmp : K → K → Ordering} (a : TreeArenas K V LEN) (id level : ℕ) (tree : IsTree cmp a (Some (root_at id level))) where
   pub whole_chain : IsChain a.leaves ([] ++ (leaves_at level a.nodes id ++ []))
   whole_chain = rw (append-nil (leaves_at level a.nodes id)) tree.chain
 
@@ -181,7 +182,7 @@ module _ {K V : Type 0} {LEN : ℕ} {cmp : K → K → Ordering} (a : TreeArenas
       abbrev nearest : IsNearest cmp way bound (path way level a id [] []) a.leaves ([] ++ (leaves_at level a.nodes id ++ [])) found
       nearest = seeks [] [] whole_chain
 
-      abbrev pub found_stands : Stands a (Some (id, level)) found
+      abbrev pub found_stands : Stands a (Some (root_at id level)) found
       found_stands = record {
         same = nearest.same;
         front = nearest.front;
@@ -191,9 +192,9 @@ module _ {K V : Type 0} {LEN : ℕ} {cmp : K → K → Ordering} (a : TreeArenas
         here = nearest.here;
       }
 
-      pub found_first : place_of a (Some (id, level)) found ≡ next_end cmp way bound (walk level a id) unopened
+      pub found_first : place_of a (Some (root_at id level)) found ≡ next_end cmp way bound (walk level a id) unopened
       found_first =
-          let at = placed_in a (Some (id, level)) tree found found_stands in
+          let at = placed_in a (Some (root_at id level)) tree found found_stands in
           rw (at.place_is, first_is (λ pair. meets cmp way bound pair.0) way (walk level a id) nearest.before nearest.pair _ at.place (sym (path_is way) ∙ nearest.parts) nearest.none_before nearest.met at.inside (sym (at.left way))) refl
 
     pub found_none : Seeks cmp way level a id bound None → exhausted ≡ next_end cmp way bound (walk level a id) unopened

@@ -13,9 +13,8 @@ use crate::seek::{advance, seek_at};
 use crate::way::EndWay;
 use std::ops::Bound;
 use tree_chain::{LinkedIter, SlotWalk};
-use tree_leaf::arena::NodeId;
 use tree_leaf::leaf::LeafOf;
-use tree_node::node::ArenasOf;
+use tree_node::node::{ArenasOf, Root};
 
 /// Where an end of a cursor is: it was never moved, it stands on an entry, or it has left the tree.
 #[derive(Drop)]
@@ -30,7 +29,7 @@ pub enum End<W> {
 #[inline(always)]
 pub fn step<'t, K: Ord + Drop, V: Drop, S: EndWay, const LEN: usize>(
     arenas: &'t ArenasOf<K, V, LEN>,
-    root: Option<(NodeId, usize)>,
+    root: Option<Root>,
     end: &mut End<LinkedIter<'t, LeafOf<K, V, LEN>, S>>,
     bound: Bound<&K>,
 ) -> Option<(&'t K, &'t V)>
@@ -77,7 +76,7 @@ pub fn step_in_leaf<'t, K: Ord + Drop, V: Drop, S: EndWay, const LEN: usize>(
 #[inline(never)]
 fn open<'t, K: Ord + Drop, V: Drop, S: EndWay, const LEN: usize>(
     arenas: &'t ArenasOf<K, V, LEN>,
-    root: Option<(NodeId, usize)>,
+    root: Option<Root>,
     end: &mut End<LinkedIter<'t, LeafOf<K, V, LEN>, S>>,
     bound: Bound<&K>,
 ) -> Option<(&'t K, &'t V)>
@@ -94,7 +93,7 @@ fn open<'t, K: Ord + Drop, V: Drop, S: EndWay, const LEN: usize>(
 /// Returns where an end goes that was never moved.
 fn first_end<'t, K: Ord + Drop, V: Drop, S: EndWay, const LEN: usize>(
     arenas: &'t ArenasOf<K, V, LEN>,
-    root: Option<(NodeId, usize)>,
+    root: Option<Root>,
     bound: Bound<&K>,
 ) -> End<LinkedIter<'t, LeafOf<K, V, LEN>, S>>
     requires { IsTree K.cmp arenas.now root }
@@ -105,7 +104,7 @@ fn first_end<'t, K: Ord + Drop, V: Drop, S: EndWay, const LEN: usize>(
     let Some(top) = root else {
         return End::Exhausted;
     };
-    match seek_at::<K, V, S, LEN>(arenas, top.1, top.0, bound) {
+    match seek_at::<K, V, S, LEN>(arenas, top.level, top.id, bound) {
         Some(walk) => End::At(walk),
         None => End::Exhausted,
     }

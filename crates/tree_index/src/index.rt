@@ -330,7 +330,7 @@ impl<K: IndexKey, V: Drop, const LEN: usize> TreeIndexOf<K, V, LEN> {
         ensures packed { self.now.packed ≡ true → IsShallow LEN (length self.now.pairs) self.now.depth }
     {
         match self.tree.root {
-            Some((_, depth)) => depth,
+            Some(root) => root.level,
             None => 0,
         }
     }
@@ -347,7 +347,7 @@ impl<K: IndexKey, V: Drop, const LEN: usize> TreeIndexOf<K, V, LEN> {
         ensures { result ≡ self.now.spare }
     {
         match self.tree.root {
-            Some((root, depth)) => spare_at(&self.tree.arenas, depth, root),
+            Some(root) => spare_at(&self.tree.arenas, root.level, root.id),
             None => 0,
         }
     }
@@ -363,7 +363,7 @@ impl<K: IndexKey, V: Drop, const LEN: usize> TreeIndexOf<K, V, LEN> {
         ensures { IsTreeOf K.cmp self.now result.0.now result.1 }
     {
         match self.tree.root {
-            Some((root, _)) => (&self.tree.arenas, Some(root)),
+            Some(root) => (&self.tree.arenas, Some(root.id)),
             None => (&self.tree.arenas, None),
         }
     }

@@ -1,11 +1,11 @@
 -- A whole tree whose root stands under a new one.
 use Rattle.std.proofs.Common.{ℕ, suc, Some, [], ◌++◌, inl, arith, Ordering, append-nil}
-use Rattle.tree_node.proofs.Common.{IsChain, TreeArenas, leaves_at, IsTree}
+use Rattle.tree_node.proofs.Common.{IsChain, TreeArenas, leaves_at, IsTree, root_at}
 use Rattle.tree_insert.specs.Roots.{RaisesRoot}
 
 module _ {K V : Type 0} {LEN : ℕ} {cmp : K → K → Ordering} where
   -- it is a whole tree with one level more
-  pub tree_raised : (a b : TreeArenas K V LEN) (root id depth : ℕ) → IsTree cmp a (Some (root, depth)) → RaisesRoot cmp depth a b root id → IsTree cmp b (Some (id, suc depth))
+  pub tree_raised : (a b : TreeArenas K V LEN) (root id depth : ℕ) → IsTree cmp a (Some (root_at root depth)) → RaisesRoot cmp depth a b root id → IsTree cmp b (Some (root_at id (suc depth)))
   tree_raised a b root id depth tree r = record {
     top = (omega arith, inl r.stands);
     nodes_once = λ n. omega (arith, tree.nodes_once n, r.nodes_counted n);

@@ -2,7 +2,7 @@
 use Rattle.std.proofs.Common.{◌≡◌, ◌≢◌, ◌⊎◌, ℕ, zero, suc, ◌-◌, ◌≤◌, List, [], ◌∷◌, ◌++◌, map, Option, Some, None, IsSome, inl, inr, refl, sym, ap, ◌∙◌, arith, slice_index_or, Ordering}
 use Rattle.tree_model.proofs.Common.{cases_eq, flat_map-append}
 use Rattle.tree_array.proofs.Common.{in_order, IsLen}
-use Rattle.tree_node.proofs.Common.{Slab, get, LeafOf, times, uses, times-nil, times-cons, none_here, one_here, uses_none, uses_some, NodeOf, TreeArenas, AreParted, HasKind, IsRetiredNode, Stands, keyed, unbounded, leaves_at, nodes_at, leaves_of, IsRetiredRoot, IsTree, leaves_under}
+use Rattle.tree_node.proofs.Common.{Slab, get, LeafOf, times, uses, times-nil, times-cons, none_here, one_here, uses_none, uses_some, NodeOf, TreeArenas, AreParted, HasKind, IsRetiredNode, Stands, keyed, unbounded, leaves_at, nodes_at, leaves_of, IsRetiredRoot, IsTree, leaves_under, Root}
 use Rattle.tree_leaf.specs.Arena.{IsEmpty}
 use Rattle.tree_node.proofs.LeafSpares.{spare_at_least, spare_within}
 use Rattle.tree_node.specs.Whole.{HasNoOther, HasOnly}
@@ -41,27 +41,27 @@ module _ {K V : Type 0} {LEN : ℕ} (cmp : K → K → Ordering) (a : TreeArenas
 
 module _ {K V : Type 0} {LEN : ℕ} {cmp : K → K → Ordering} (a : TreeArenas K V LEN) where
   -- a tree without leaves has no number in use but that of a retired leaf node
-  pub bare_leaves : (root : Option (ℕ × ℕ)) → IsTree cmp a root → leaves_under a.nodes root ≡ [] → (n : ℕ) → get a.leaves n ≡ None
+  pub bare_leaves : (root : Option Root) → IsTree cmp a root → leaves_under a.nodes root ≡ [] → (n : ℕ) → get a.leaves n ≡ None
   bare_leaves root tree bare n = free_number a.leaves n (omega (arith, tree.leaves_once n, ap (times n) bare, times-nil n))
 
   pub bare_nodes : (n : ℕ) → IsTree cmp a None → get a.nodes n ≡ None
   bare_nodes n tree = free_number a.nodes n (omega (arith, tree.nodes_once n, times-nil n))
 
-  pub retired_top : (root : ℕ × ℕ) → IsTree cmp a (Some root) → leaves_at root.1 a.nodes root.0 ≡ [] → (root.1 ≡ 1) × IsRetiredNode (get a.nodes root.0)
+  pub retired_top : (root : Root) → IsTree cmp a (Some root) → leaves_at root.level a.nodes root.id ≡ [] → (root.level ≡ 1) × IsRetiredNode (get a.nodes root.id)
   retired_top root tree bare = by_top tree.top.1
     where
-      by_top : (Stands cmp root.1 a None root.0 None ⊎ IsRetiredRoot a root.0 root.1) → (root.1 ≡ 1) × IsRetiredNode (get a.nodes root.0)
-      by_top (inl s) = absurd (has_leaf cmp a root.1 None root.0 None s bare)
+      by_top : (Stands cmp root.level a None root.id None ⊎ IsRetiredRoot a root.id root.level) → (root.level ≡ 1) × IsRetiredNode (get a.nodes root.id)
+      by_top (inl s) = absurd (has_leaf cmp a root.level None root.id None s bare)
       by_top (inr retired) = (retired.0, retired.1)
 
-  pub no_other : (root : ℕ × ℕ) → IsTree cmp a (Some root) → leaves_at root.1 a.nodes root.0 ≡ [] → HasNoOther a root.0
+  pub no_other : (root : Root) → IsTree cmp a (Some root) → leaves_at root.level a.nodes root.id ≡ [] → HasNoOther a root.id
   no_other root tree bare =
       let top = retired_top root tree bare in
-      let none = no_children (get a.nodes root.0) top.1 in
-      let alone : nodes_at root.1 a.nodes root.0 ≡ root.0 ∷ [] = rw (top.0, none.1) refl in
+      let none = no_children (get a.nodes root.id) top.1 in
+      let alone : nodes_at root.level a.nodes root.id ≡ root.id ∷ [] = rw (top.0, none.1) refl in
       record {
         here = none.0;
-        nodes = λ n differs. free_number a.nodes n (omega (arith, tree.nodes_once n, ap (times n) alone, times-cons n root.0 [], times-nil n, none_here n root.0 differs));
+        nodes = λ n differs. free_number a.nodes n (omega (arith, tree.nodes_once n, ap (times n) alone, times-cons n root.id [], times-nil n, none_here n root.id differs));
         leaves = bare_leaves (Some root) tree bare;
       }
 

@@ -12,7 +12,8 @@ pub use Rattle.tree_node.specs.Arenas.{TreeArenas}
 pub use Rattle.tree_node.specs.Parts.{IsPart, Replaces, Unchanged, KeepsBounds}
 pub use Rattle.tree_node.specs.Shape.{room, spare, held, found_free, found_keyed}
 pub use Rattle.tree_node.specs.Tree.{Stands, walk, keyed, leaves_at, unbounded, IsRetired, HasChildFor, children_of, StandsOrRetired, AreParted, nodes_at, IsRetiredNode, is_from, leaves_of, HasKind, in_turn, IsAbove, child_of, node_children, child_at, IsBelow, IsOfLevel, nodes_of, IsUpTo, front_at, back_at}
-pub use Rattle.tree_node.specs.Whole.{IsRetiredRoot, IsTree, walk_under, leaves_under}
+pub use Rattle.tree_node.specs.Whole.{IsRetiredRoot, IsTree, walk_under, leaves_under, root_at}
 pub use Rattle.tree_node.specs.declared.branch.BranchOf.{BranchOf}
 pub use Rattle.tree_node.specs.declared.node.NodeOf.{NodeOf}
 pub use Rattle.tree_node.specs.declared.node.NodeOf.TheVariants.{Leaf, Internal}
+pub use Rattle.tree_node.specs.declared.node.Root.{Root}

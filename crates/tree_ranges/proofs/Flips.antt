@@ -3,6 +3,7 @@ use Rattle.std.proofs.Common.{◌≡◌, ℕ, Bool, true, false, if◌then◌els
 use Rattle.tree_model.proofs.Common.{IsTotalOrder, Bound, Cursor, End, shown, lent}
 use Rattle.tree_model.specs.declared.way.Way.TheVariants.{On, Back}
 use Rattle.tree_node.proofs.Common.{TreeArenas}
+use Rattle.tree_node.specs.declared.node.Root.{Root}
 use Rattle.tree_chain.proofs.Common.{LeafWalk}
 use Rattle.tree_model.specs.Cursor.{can_flip, can_turn, flipped, is_unopened, turned}
 use Rattle.tree_cursors.specs.declared.end.End.{End as TreeEnd}
@@ -36,7 +37,7 @@ pub some_is : {K V : Type 0} (r : Option (Bor K × Bor V)) (s : Option (K × V))
 some_is None s none b same is e = rw (← same, ← e) is
 some_is (Some x) s none b same is e = rw (← same, ← e) is
 
-module _ {K V : Type 0} {LEN : ℕ} {cmp : K → K → Ordering} (o : IsTotalOrder cmp) (a : TreeArenas K V LEN) (root : Option (ℕ × ℕ)) (low high : Bound (Bor K)) (f b : TreeEnd (LeafWalk K V LEN)) (kept : Kept a root cmp f b) where
+module _ {K V : Type 0} {LEN : ℕ} {cmp : K → K → Ordering} (o : IsTotalOrder cmp) (a : TreeArenas K V LEN) (root : Option Root) (low high : Bound (Bor K)) (f b : TreeEnd (LeafWalk K V LEN)) (kept : Kept a root cmp f b) where
   abbrev c : Cursor K V
   c = seen a root low high f b
 

@@ -4,6 +4,7 @@ use Rattle.tree_model.proofs.Common.{⊤, IsTotalOrder, MakesProgress, bound_map
 use Rattle.tree_model.specs.declared.way.Way.{Way}
 use Rattle.tree_model.specs.declared.way.Way.TheVariants.{On, Back}
 use Rattle.tree_node.proofs.Common.{TreeArenas, walk_under}
+use Rattle.tree_node.specs.declared.node.Root.{Root}
 use Rattle.tree_chain.proofs.Common.{LeafWalk}
 use Rattle.std.specs.Iterator.{at_most}
 use Rattle.std.proofs.lemmas.Option.{slice_get_within}
@@ -14,7 +15,7 @@ use Rattle.tree_cursors.proofs.Ends.{end_inside}
 use Rattle.tree_ranges.specs.Ranged.{end_left, moves_left}
 use Rattle.tree_ranges.proofs.Shown.{pairs_ascend}
 
-module _ {K V : Type 0} {LEN : ℕ} {cmp : K → K → Ordering} (o : IsTotalOrder cmp) (a : TreeArenas K V LEN) (root : Option (ℕ × ℕ)) (low high : Bound (Bor K)) (r : Option (Bor K × Bor V)) where
+module _ {K V : Type 0} {LEN : ℕ} {cmp : K → K → Ordering} (o : IsTotalOrder cmp) (a : TreeArenas K V LEN) (root : Option Root) (low high : Bound (Bor K)) (r : Option (Bor K × Bor V)) where
   -- the forward end has moved, and the backward one
   pub moves_on : (f new b : TreeEnd (LeafWalk K V LEN)) → Kept a root cmp f b → end_of a root new ≡ next_end cmp On (bound_map (λ k. k.now) low) (walk_under a root) (end_of a root f)
       → lent r ≡ shown_apart cmp On (seen a root low high new b) → Moves cmp On (seen a root low high f b) r (seen a root low high new b)

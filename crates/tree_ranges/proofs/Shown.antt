@@ -2,6 +2,7 @@
 use Rattle.std.proofs.Common.{◌≡◌, ◌⊎◌, ℕ, Bool, Option, Some, None, inl, inr, refl, sym, ◌∙◌, is_lt, Ordering}
 use Rattle.tree_model.proofs.Common.{IsTotalOrder, IsAscending, element_at}
 use Rattle.tree_node.proofs.Common.{get, TreeArenas, walk, IsRetiredRoot, IsTree, walk_under}
+use Rattle.tree_node.specs.declared.node.Root.{Root}
 use Rattle.tree_chain.proofs.Common.{LeafWalk}
 use Rattle.tree_chain.specs.Walks.{stood_on}
 use Rattle.tree_node.specs.Tree.{Stands as PartStands}
@@ -16,15 +17,15 @@ use Rattle.tree_cursors.specs.View.{EndStands, Kept, end_of, pair_of}
 use Rattle.tree_cursors.proofs.Ends.{placed_in}
 use Rattle.tree_ranges.specs.Ranged.{is_new}
 
-module _ {K V : Type 0} {LEN : ℕ} {cmp : K → K → Ordering} (a : TreeArenas K V LEN) (root : Option (ℕ × ℕ)) (tree : IsTree cmp a root) where
+module _ {K V : Type 0} {LEN : ℕ} {cmp : K → K → Ordering} (a : TreeArenas K V LEN) (root : Option Root) (tree : IsTree cmp a root) where
   pub pairs_ascend : IsTotalOrder cmp → IsAscending cmp (walk_under a root)
   pairs_ascend o = by_root root tree.top
     where
-      by_top : (root : ℕ × ℕ) → (PartStands cmp root.1 a None root.0 None ⊎ IsRetiredRoot a root.0 root.1) → IsAscending cmp (walk root.1 a root.0)
-      by_top root (inl s) = walk_ascends o root.1 a None root.0 None s
-      by_top root (inr gone) = rw (gone.0, (no_children (get a.nodes root.0) gone.1).1) tt
+      by_top : (root : Root) → (PartStands cmp root.level a None root.id None ⊎ IsRetiredRoot a root.id root.level) → IsAscending cmp (walk root.level a root.id)
+      by_top root (inl s) = walk_ascends o root.level a None root.id None s
+      by_top root (inr gone) = rw (gone.0, (no_children (get a.nodes root.id) gone.1).1) tt
 
-      by_root : (root : Option (ℕ × ℕ)) → IsTop cmp a root → IsAscending cmp (walk_under a root)
+      by_root : (root : Option Root) → IsTop cmp a root → IsAscending cmp (walk_under a root)
       by_root None top = tt
       by_root (Some root) top = by_top root top.1
 
@@ -40,7 +41,7 @@ module _ {K V : Type 0} {LEN : ℕ} {cmp : K → K → Ordering} (a : TreeArenas
   new_is Exhausted stands = refl
 
 -- two walks are apart where their keys are in order
-pub apart_by_keys : {K V : Type 0} {LEN : ℕ} {cmp : K → K → Ordering} (o : IsTotalOrder cmp) (a : TreeArenas K V LEN) (root : Option (ℕ × ℕ)) (walk other : LeafWalk K V LEN) (result : Bool)
+pub apart_by_keys : {K V : Type 0} {LEN : ℕ} {cmp : K → K → Ordering} (o : IsTotalOrder cmp) (a : TreeArenas K V LEN) (root : Option Root) (walk other : LeafWalk K V LEN) (result : Bool)
     → ((first second : K × V) → stood_on walk ≡ Some first → stood_on other ≡ Some second → result ≡ is_lt (cmp first.0 second.0))
     → Kept a root cmp (At walk) (At other) → result ≡ are_apart (end_of a root (At walk)) (end_of a root (At other))
 apart_by_keys o a root walk other result compares kept =

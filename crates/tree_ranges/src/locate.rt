@@ -13,19 +13,17 @@ use crate::iter::{IterOf, IterOver};
 use std::ops::Bound;
 use tree_chain::{IterOf as WalkOf, RevIterOf as RevWalkOf};
 use tree_cursors::end::{End, step};
-use tree_leaf::arena::NodeId;
 use tree_model::ProximityOf;
-use tree_node::node::ArenasOf;
+use tree_node::node::{ArenasOf, Root};
 
 /// Where a key is among pairs, with fifteen pairs a leaf.
 pub type Proximity<'t, K, V> = ProximityOf<IterOf<'t, K, V, 15>>;
 
 /// Returns where a key is: present, or which pairs are beside it, with a cursor that stands there. Descends once,
-/// or twice where all keys are smaller. The caller must lend the arenas of a well-formed tree with its root and the
-/// root's level.
+/// or twice where all keys are smaller. The caller must lend the arenas of a well-formed tree with its root.
 pub fn locate<'t, K: Ord + Drop + 't, V: Drop + 't, const LEN: usize>(
     arenas: &'t ArenasOf<K, V, LEN>,
-    root: Option<(NodeId, usize)>,
+    root: Option<Root>,
     key: &K,
 ) -> ProximityOf<IterOf<'t, K, V, LEN>>
     requires { IsTree K.cmp arenas.now root }
@@ -47,7 +45,7 @@ pub fn locate<'t, K: Ord + Drop + 't, V: Drop + 't, const LEN: usize>(
 /// Returns where a key is that is larger than all.
 fn past_all<'t, K: Ord + Drop + 't, V: Drop + 't, const LEN: usize>(
     arenas: &'t ArenasOf<K, V, LEN>,
-    root: Option<(NodeId, usize)>,
+    root: Option<Root>,
 ) -> ProximityOf<IterOf<'t, K, V, LEN>>
     requires { IsTree K.cmp arenas.now root }
     ensures { result ≡ located_past K.cmp (walk_under arenas.now root) }
@@ -65,7 +63,7 @@ fn past_all<'t, K: Ord + Drop + 't, V: Drop + 't, const LEN: usize>(
 /// Returns where a key is that is smaller than the one that an end stands on, and larger than those before it.
 fn beside<'t, K: Ord + Drop + 't, V: Drop + 't, const LEN: usize>(
     arenas: &'t ArenasOf<K, V, LEN>,
-    root: Option<(NodeId, usize)>,
+    root: Option<Root>,
     end: End<WalkOf<'t, K, V, LEN>>,
 ) -> ProximityOf<IterOf<'t, K, V, LEN>>
     requires tree { IsTree K.cmp arenas.now root }
@@ -85,7 +83,7 @@ fn beside<'t, K: Ord + Drop + 't, V: Drop + 't, const LEN: usize>(
 /// Returns the end that stands on the first key that isn't smaller.
 fn end_from<'t, K: Ord + Drop, V: Drop, const LEN: usize>(
     arenas: &'t ArenasOf<K, V, LEN>,
-    root: Option<(NodeId, usize)>,
+    root: Option<Root>,
     key: &K,
 ) -> End<WalkOf<'t, K, V, LEN>>
     requires { IsTree K.cmp arenas.now root }
@@ -101,7 +99,7 @@ fn end_from<'t, K: Ord + Drop, V: Drop, const LEN: usize>(
 /// Returns the end that stands on the last key.
 fn last_end<'t, K: Ord + Drop + 't, V: Drop + 't, const LEN: usize>(
     arenas: &'t ArenasOf<K, V, LEN>,
-    root: Option<(NodeId, usize)>,
+    root: Option<Root>,
 ) -> End<RevWalkOf<'t, K, V, LEN>>
     requires { IsTree K.cmp arenas.now root }
     ensures place { end_of arenas.now root result ≡ next_end K.cmp Back Unbounded
@@ -117,7 +115,7 @@ fn last_end<'t, K: Ord + Drop + 't, V: Drop + 't, const LEN: usize>(
 /// Returns the end that stands one entry before another end.
 fn end_before<'t, K: Ord + Drop + 't, V: Drop + 't, const LEN: usize>(
     arenas: &'t ArenasOf<K, V, LEN>,
-    root: Option<(NodeId, usize)>,
+    root: Option<Root>,
     end: &End<WalkOf<'t, K, V, LEN>>,
 ) -> End<RevWalkOf<'t, K, V, LEN>>
     requires tree { IsTree K.cmp arenas.now root }

@@ -18,22 +18,22 @@ use std::{fmt, mem};
 use tree_array::array::{ArrayIter, ArrayRevIter};
 use tree_chain::{IterOf as WalkOf, LinkedIter, RevIterOf as RevWalkOf, Walked};
 use tree_cursors::end::{End, step, step_in_leaf};
-use tree_leaf::arena::NodeId;
 use tree_leaf::leaf::LeafOf;
-use tree_node::node::ArenasOf;
+use tree_node::node::{ArenasOf, Root};
 
 /// A type of arenas to go through with a cursor, with what the cursor keeps. It has no methods.
 pub trait Ranged<K, V, L: Walked> {
-    ghost use Rattle.std.specs.Prelude.{ℕ, Option};
+    ghost use Rattle.std.specs.Prelude.{Option};
     ghost use Rattle.std.specs.Borrow.{Bor};
     ghost use Rattle.std.specs.declared.ops.Bound.{Bound as AnyBound};
     ghost use Rattle.tree_chain.specs.Walks.{LinkedWalk};
     ghost use Rattle.tree_model.specs.Cursor.{Cursor};
+    ghost use Rattle.tree_node.specs.declared.node.Root.{Root as TreeRoot};
     ghost use Rattle.tree_cursors.specs.declared.end.End.{End as TreeEnd};
 
-    ghost seen: { Self → Option (ℕ × ℕ) → AnyBound (Bor K) → AnyBound (Bor K) → TreeEnd (LinkedWalk L) → TreeEnd (LinkedWalk L) → Cursor K V };
+    ghost seen: { Self → Option TreeRoot → AnyBound (Bor K) → AnyBound (Bor K) → TreeEnd (LinkedWalk L) → TreeEnd (LinkedWalk L) → Cursor K V };
 
-    ghost kept: { Self → Option (ℕ × ℕ) → TreeEnd (LinkedWalk L) → TreeEnd (LinkedWalk L) → Type 0 };
+    ghost kept: { Self → Option TreeRoot → TreeEnd (LinkedWalk L) → TreeEnd (LinkedWalk L) → Type 0 };
 }
 
 impl<K: Ord + Drop, V: Drop, const LEN: usize> Ranged<K, V, LeafOf<K, V, LEN>>
@@ -52,7 +52,7 @@ impl<K: Ord + Drop, V: Drop, const LEN: usize> Ranged<K, V, LeafOf<K, V, LEN>>
 #[derive(Drop)]
 pub struct RangeOver<'t, K, V, A: Ranged<K, V, L>, L: Walked> {
     arenas: &'t A,
-    root: Option<(NodeId, usize)>,
+    root: Option<Root>,
     low: Bound<&'t K>,
     high: Bound<&'t K>,
     forward: End<LinkedIter<'t, L, ArrayIter>>,
@@ -90,10 +90,10 @@ impl<'t, K: Ord + Drop + 't, V: Drop + 't, const LEN: usize> RangeOver<
     LeafOf<K, V, LEN>,
 > {
     /// Creates a cursor over the pairs of a tree whose keys are within two bounds. Runs in constant time. The
-    /// caller must lend the arenas of a well-formed tree with its root and the root's level.
+    /// caller must lend the arenas of a well-formed tree with its root.
     pub fn new(
         arenas: &'t ArenasOf<K, V, LEN>,
-        root: Option<(NodeId, usize)>,
+        root: Option<Root>,
         bounds: (Bound<&'t K>, Bound<&'t K>),
     ) -> Self
         requires { IsTree K.cmp arenas.now root }
@@ -159,7 +159,7 @@ impl<'t, K: Ord + Drop + 't, V: Drop + 't, const LEN: usize> RangeOver<
     /// Creates a cursor over all pairs of a tree, with these ends. The caller must pass ends that stand in the tree.
     pub(crate) fn standing(
         arenas: &'t ArenasOf<K, V, LEN>,
-        root: Option<(NodeId, usize)>,
+        root: Option<Root>,
         forward: End<WalkOf<'t, K, V, LEN>>,
         backward: End<RevWalkOf<'t, K, V, LEN>>,
     ) -> Self

@@ -1,6 +1,7 @@
 -- A root that gives its place to its only child.
 use Rattle.std.proofs.Common.{◌≡◌, ◌⊎◌, ℕ, zero, suc, ◌+◌, ◌-◌, ◌<◌, ◌==◌, cond, [], ◌∷◌, Option, Some, None, inl, inr, refl, sym, ap, ◌∙◌, arith, sub-one, Ordering, append-nil}
-use Rattle.tree_node.proofs.Common.{get, Loses, times, same_array_refl, one_here, times-cons, uses_le_one, TreeArenas, IsPart, Replaces, IsOfLevel, IsRetired, Stands, children_of, leaves_at, nodes_at, unbounded, walk}
+use Rattle.tree_node.proofs.Common.{get, Loses, times, same_array_refl, one_here, times-cons, uses_le_one, TreeArenas, IsPart, Replaces, IsOfLevel, IsRetired, Stands, children_of, leaves_at, nodes_at, unbounded, walk, root_at}
+use Rattle.tree_node.specs.declared.node.Root.{Root}
 use Rattle.tree_node.specs.declared.branch.BranchOf.{BranchOf}
 use Rattle.tree_node.specs.declared.node.NodeOf.{NodeOf}
 use Rattle.tree_node.specs.declared.node.NodeOf.TheVariants.{Internal, Leaf}
@@ -13,12 +14,12 @@ use Rattle.tree_clean_up.proofs.OnlyLeaves.{only_stands}
 use Rattle.tree_clean_up.proofs.NodeDrops.{node_dropped}
 
 module _ {K V : Type 0} {LEN : ℕ} (cmp : K → K → Ordering) (a : TreeArenas K V LEN) (root : ℕ) where
-  stays : (level : ℕ) → IsRoot cmp a root level → LowersRoot cmp level a a root (Some (root, level))
+  stays : (level : ℕ) → IsRoot cmp a root level → LowersRoot cmp level a a root (Some (root_at root level))
   stays level stands = record { stands = stands; leaves = refl; leaves_under = refl; pairs = refl; nodes_kept = λ n used outside. refl; nodes_counted = λ n. refl }
 
   -- a leaf node stays, retired or not
   pub leaf_node_stays : (level : ℕ) → 0 < level → IsPart cmp level a root ⊎ IsRetired level a root → IsOfLevel level (get a.nodes root) → (node : BranchOf K ℕ LEN) → get a.nodes root ≡ Some (Leaf node)
-      → LowersRoot cmp level a a root (Some (root, level))
+      → LowersRoot cmp level a a root (Some (root_at root level))
   leaf_node_stays zero inner given kind node here = absurd (omega (arith, inner))
   leaf_node_stays (suc zero) inner (inl part) kind node here = stays 1 (omega arith, inl (part, λ tall none. omega (arith, tall)))
   leaf_node_stays (suc zero) inner (inr retired) kind node here = stays 1 (omega arith, inr (refl, retired, rw here tt))
@@ -26,7 +27,7 @@ module _ {K V : Type 0} {LEN : ℕ} (cmp : K → K → Ordering) (a : TreeArenas
 
   -- and so does a node with a keyed child
   pub keyed_stays : (level : ℕ) → 0 < level → IsPart cmp level a root ⊎ IsRetired level a root → (node : BranchOf K ℕ LEN) → get a.nodes root ≡ Some (Internal node) → (node.children.entries ≡ [] → ⊥)
-      → LowersRoot cmp level a a root (Some (root, level))
+      → LowersRoot cmp level a a root (Some (root_at root level))
   keyed_stays zero inner given node here some = absurd (omega (arith, inner))
   keyed_stays (suc level) inner (inl part) node here some = stays (suc level) (omega arith, inl (part, λ tall none. some (rw here at none)))
   keyed_stays (suc level) inner (inr retired) node here some = absurd (some (rw here at retired).0)
@@ -94,7 +95,7 @@ module _ {K V : Type 0} {LEN : ℕ} (cmp : K → K → Ordering) (a : TreeArenas
         chain = rw (leaves, leaves_now) part.chain;
       }
 
-      pub lowered_on : (new : TreeArenas K V LEN) (result : Option (ℕ × ℕ)) → LowersRoot cmp (suc below) b new x result → LowersRoot cmp (suc (suc below)) a new root result
+      pub lowered_on : (new : TreeArenas K V LEN) (result : Option Root) → LowersRoot cmp (suc below) b new x result → LowersRoot cmp (suc (suc below)) a new root result
       lowered_on new result rest = record {
         stands = rest.stands;
         leaves = rest.leaves ∙ leaves;
@@ -112,7 +113,7 @@ module _ {K V : Type 0} {LEN : ℕ} (cmp : K → K → Ordering) (a : TreeArenas
     pub level_is : level ≡ suc (suc below)
     pub level_below : level - 1 ≡ suc below
     pub part : IsPart cmp (suc below) b x
-    pub on : (new : TreeArenas K V LEN) (result : Option (ℕ × ℕ)) → LowersRoot cmp (suc below) b new x result → LowersRoot cmp (suc (suc below)) a new root result
+    pub on : (new : TreeArenas K V LEN) (result : Option Root) → LowersRoot cmp (suc below) b new x result → LowersRoot cmp (suc (suc below)) a new root result
 
   pub over_one : (b : TreeArenas K V LEN) (node : BranchOf K ℕ LEN) (gone : NodeOf K LEN) (x level : ℕ) → get a.nodes root ≡ Some (Internal node) → Loses a.nodes b.nodes root gone → b.leaves ≡ a.leaves
       → 0 < level → IsPart cmp level a root ⊎ IsRetired level a root → IsOfLevel level (get a.nodes root) → node.children.entries ≡ [] → node.unbounded_child ≡ Some x → OverOne b x level

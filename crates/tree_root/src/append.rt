@@ -15,6 +15,7 @@ use tree_append::{append_to, append_under, last_leaf_at};
 use tree_array::array::{IndexKey, StoreResult};
 use tree_leaf::arena::LeafId;
 use tree_model::InsertError;
+use tree_node::node::Root;
 
 impl<K: IndexKey, V: Drop, const LEN: usize> Tree<K, V, LEN> {
     /// Creates an empty tree with room for so many pairs that are appended: their leaves and nodes are reserved. Returns
@@ -87,7 +88,7 @@ impl<K: IndexKey, V: Drop, const LEN: usize> Tree<K, V, LEN> {
         ensures stores { Stores K.cmp true self.old self.new key val (appended result) }
         ensures last { IfOk result (λ _. ForSome last.new (IsLast self.new)) }
     {
-        let Some((root, depth)) = self.root else {
+        let Some(Root { id: root, level: depth }) = self.root else {
             unreachable!()
         };
         match append_under(&mut self.arenas, depth, root, key, val) {
@@ -124,7 +125,7 @@ impl<K: IndexKey, V: Drop, const LEN: usize> Tree<K, V, LEN> {
         requires { IsWhole K.cmp self.now }
         ensures { ForSome result (IsLast self.now) }
     {
-        let (root, depth) = self.root?;
+        let Root { id: root, level: depth } = self.root?;
         last_leaf_at(&self.arenas, depth, root)
     }
 }

@@ -1,7 +1,8 @@
 -- What the test of packed trees says, and how deep a packed tree is.
 use Rattle.std.proofs.Common.{◌≡◌, ◌⊎◌, ℕ, zero, suc, ◌<◌, ◌≤◌, ◌==◌, ◌^◌, Bool, true, false, leb, List, [], ◌∷◌, length, Option, Some, None, refl, sym, arith, inl, inr, not, ◌||◌, Ordering}
 use Rattle.tree_model.proofs.Common.{AllByRecursion, nat_tests}
-use Rattle.tree_node.proofs.Common.{get, LeafOf, TreeArenas, Unchanged, found_keyed, keyed, unbounded, walk, walk_under}
+use Rattle.tree_node.proofs.Common.{get, LeafOf, TreeArenas, Unchanged, found_keyed, keyed, unbounded, walk, walk_under, root_at}
+use Rattle.tree_node.specs.declared.node.Root.{Root}
 use Rattle.tree_node.specs.declared.node.NodeOf.{NodeOf}
 use Rattle.std.specs.Cmp.Derive.{both_true}
 use Rattle.std.proofs.lemmas.Bool.{lt-leb}
@@ -84,7 +85,7 @@ module _ {K V : Type 0} {LEN : ℕ} (cmp : K → K → Ordering) where
       (both_true (full_to (λ child. length (walk level a child)) (LEN ^ suc level) (keyed e.node).entries e.full) (rw e.last_is (packed_to level a e.last e.edge))))
 
   -- a root that passes it is packed, and has a keyed child from depth 2 on
-  pub root_from : (a : TreeArenas K V LEN) (id level : ℕ) → packed_under cmp a (Some (id, level)) ≡ true → IsPacked cmp None level a id × (1 < level → 0 < found_keyed (get a.nodes id))
+  pub root_from : (a : TreeArenas K V LEN) (id level : ℕ) → packed_under cmp a (Some (root_at id level)) ≡ true → IsPacked cmp None level a id × (1 < level → 0 < found_keyed (get a.nodes id))
   root_from a id level so =
       let both = both_of (packed_at cmp level a id) (leb level 1 || not (found_keyed (get a.nodes id) == 0)) so in
       (packed_from level a id both.0, λ deep. some_from (found_keyed (get a.nodes id)) (by_test (leb level 1) (lt-leb level 1 deep) both.1))
@@ -93,7 +94,7 @@ module _ {K V : Type 0} {LEN : ℕ} (cmp : K → K → Ordering) where
       by_test true deep so = absurd (cc)
       by_test false deep so = so
 
-  pub root_to : (a : TreeArenas K V LEN) (id level : ℕ) → IsPacked cmp None level a id → (1 < level → 0 < found_keyed (get a.nodes id)) → packed_under cmp a (Some (id, level)) ≡ true
+  pub root_to : (a : TreeArenas K V LEN) (id level : ℕ) → IsPacked cmp None level a id → (1 < level → 0 < found_keyed (get a.nodes id)) → packed_under cmp a (Some (root_at id level)) ≡ true
   root_to a id level packed some = both_true (packed_to level a id packed) (by_level (leb level 1) refl)
     where
       by_level : (low : Bool) → leb level 1 ≡ low → (low || not (found_keyed (get a.nodes id) == 0)) ≡ true
@@ -101,21 +102,21 @@ module _ {K V : Type 0} {LEN : ℕ} (cmp : K → K → Ordering) where
       by_level false is = some_to (found_keyed (get a.nodes id)) (some (let deep : 1 < level = grind (arith, nat_tests) in deep))
 
   -- a tree in which nothing changed is packed as it was
-  pub packed_unchanged : (a b : TreeArenas K V LEN) (root : Option (ℕ × ℕ)) → Unchanged a b → packed_under cmp b root ≡ packed_under cmp a root
+  pub packed_unchanged : (a b : TreeArenas K V LEN) (root : Option Root) → Unchanged a b → packed_under cmp b root ≡ packed_under cmp a root
   packed_unchanged a b None same = refl
   packed_unchanged a b (Some root) same = same_tests (packed_under cmp b (Some root)) (packed_under cmp a (Some root)) (kept b a (record { leaves = λ n. sym (same.leaves n); nodes = λ n. sym (same.nodes n) })) (kept a b same)
     where
       kept : (a b : TreeArenas K V LEN) → Unchanged a b → packed_under cmp a (Some root) ≡ true → packed_under cmp b (Some root) ≡ true
       kept a b same so =
-          let is = root_from a root.0 root.1 so in
-          root_to b root.0 root.1 (same_packed cmp None root.1 a b root.0 (unchanged_agrees root.1 a b same root.0) is.0) (λ deep. rw (same.nodes root.0) (is.1 deep))
+          let is = root_from a root.id root.level so in
+          root_to b root.id root.level (same_packed cmp None root.level a b root.id (unchanged_agrees root.level a b same root.id) is.0) (λ deep. rw (same.nodes root.id) (is.1 deep))
 
   -- a packed tree of two levels or more has more pairs than fit into a keyed child of its root
-  pub packed_depth : (a : TreeArenas K V LEN) (root : Option (ℕ × ℕ)) → packed_under cmp a root ≡ true → (depth_of root ≤ 1) ⊎ (LEN ^ depth_of root < length (walk_under a root))
+  pub packed_depth : (a : TreeArenas K V LEN) (root : Option Root) → packed_under cmp a root ≡ true → (depth_of root ≤ 1) ⊎ (LEN ^ depth_of root < length (walk_under a root))
   packed_depth a None so = inl (omega arith)
-  packed_depth a (Some root) so = let is = root_from a root.0 root.1 so in by_level root.1 is.0 is.1
+  packed_depth a (Some root) so = let is = root_from a root.id root.level so in by_level root.level is.0 is.1
     where
-      by_level : (level : ℕ) → IsPacked cmp None level a root.0 → (1 < level → 0 < found_keyed (get a.nodes root.0)) → (level ≤ 1) ⊎ (LEN ^ level < length (walk level a root.0))
+      by_level : (level : ℕ) → IsPacked cmp None level a root.id → (1 < level → 0 < found_keyed (get a.nodes root.id)) → (level ≤ 1) ⊎ (LEN ^ level < length (walk level a root.id))
       by_level zero e some = inl (omega arith)
       by_level (suc zero) e some = inl (omega arith)
-      by_level (suc (suc level)) e some = inr (packed_bound cmp (suc level) a root.0 e (rw e.here at (some (omega arith))))
+      by_level (suc (suc level)) e some = inr (packed_bound cmp (suc level) a root.id e (rw e.here at (some (omega arith))))

@@ -13,12 +13,12 @@ lower_root_at-requires g c =
     let found = c.level_of_root-level.ensures in
     (search rules, (search fits, (found.node, (found_part g.K.Ord.cmp c.args.arenas.now c.args.root g.level c.level_of_root-level.result (assumption c.requires) found.node found.level (assumption c.requires), found.kind))))
 
-pub returns-in_err-id : goal.returns-in_err-id
-returns-in_err-id g c =
+pub returns-in_err-lowered : goal.returns-in_err-lowered
+returns-in_err-lowered g c =
     let found = c.level_of_root-level.ensures in
-    rw c.from_residual.ensures (lowered_at g.K.Ord.cmp c.args.arenas.now c.args.root g.level c.level_of_root-level.result (assumption c.requires) found.node found.level (assumption c.requires) _ _ (rw c.in_err-id.was at c.lower_root_at.ensures))
+    rw c.from_residual.ensures (lowered_at g.K.Ord.cmp c.args.arenas.now c.args.root g.level c.level_of_root-level.result (assumption c.requires) found.node found.level (assumption c.requires) _ _ (rw c.in_err-lowered.was at c.lower_root_at.ensures))
 
 pub returns : goal.returns
 returns g c =
     let found = c.level_of_root-level.ensures in
-    (_, lowered_at g.K.Ord.cmp c.args.arenas.now c.args.root g.level c.level_of_root-level.result (assumption c.requires) found.node found.level (assumption c.requires) _ _ (rw c.in_ok-id.was at c.lower_root_at.ensures))
+    (c.in_ok-lowered.lowered.level, lowered_at g.K.Ord.cmp c.args.arenas.now c.args.root g.level c.level_of_root-level.result (assumption c.requires) found.node found.level (assumption c.requires) _ _ (rw c.in_ok-lowered.was at c.lower_root_at.ensures))
