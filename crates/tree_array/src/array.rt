@@ -21,8 +21,8 @@ mod run;
 mod searches;
 mod walk;
 
-pub use tree_model::{IndexKey, SameClone, range_contains};
 pub use run::RunOf;
+pub use tree_model::{IndexKey, SameClone, range_contains};
 pub use walk::{ArrayIter, ArrayRevIter};
 
 /// A fixed array of `LEN` slots, 7 or 15, in which pairs arrive one after another and are found in

@@ -64,8 +64,9 @@ impl<K: IndexKey, V: Drop, const LEN: usize> TreeIndexOf<K, V, LEN> {
     /// Returns `NotAscending` with the pairs if a key isn't larger than the one before it. Returns `OutOfMemory` if an
     /// allocation is refused. Nothing of the index is left then, and the pairs are dropped.
     ///
-    /// Compares each key with the one before it, and puts each pair behind the last one of the last leaf. A full leaf costs
-    /// a descent. Fills each leaf, and reserves memory for as many. The caller must choose 7 or 15 for `LEN`.
+    /// Compares each key with the one before it. Gathers the pairs into whole leaves and makes a few comparisons for each
+    /// leaf, and those of a descent for each full leaf node. Reserves memory for as many leaves. The caller must choose 7 or
+    /// 15 for `LEN`.
     ///
     /// ```
     /// TreeIndex::from_sorted(alloc, samples)

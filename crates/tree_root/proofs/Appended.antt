@@ -1,39 +1,23 @@
 -- What an append to the last leaf comes to.
 use Rattle.std.proofs.Common.{◌≡◌, ◌⊎◌, ℕ, true, false, Option, Some, None, Result, inl, inr, refl, sym, ◌∙◌}
 use Rattle.std.specs.List.{AllByRecursion}
-use Rattle.std.specs.Option.{ForSome}
 use Rattle.std.specs.declared.cmp.Ordering.{Ordering}
 use Rattle.std.specs.declared.cmp.Ordering.TheVariants.{Less}
 use Rattle.std.specs.Cmp.{IsTotalOrder}
 use Rattle.slab.specs.Slab.{get}
 use Rattle.tree_append.specs.Appends.{AppendsUnder, IsLastFor, IsLastLeaf}
+use Rattle.tree_append.proofs.Edges.{no_last}
 use Rattle.tree_array.specs.declared.answers.StoreResult.{StoreResult}
-use Rattle.tree_array.specs.Insertion.{IsFull}
 use Rattle.tree_descent.proofs.Ways.{part_not_retired}
 use Rattle.tree_insert.specs.Inserts.{InsertsUnder, asks_split}
 use Rattle.tree_node.specs.Arenas.{TreeArenas}
-use Rattle.tree_node.specs.declared.node.NodeOf.{NodeOf}
-use Rattle.tree_leaf.specs.declared.leaf.LeafOf.{LeafOf}
-use Rattle.tree_node.specs.Shape.{found_free}
-use Rattle.tree_node.specs.Tree.{IsRetiredNode, Stands}
+use Rattle.tree_node.specs.Tree.{Stands}
 use Rattle.tree_node.specs.Whole.{IsRetiredRoot, IsTree}
 use Rattle.tree_node.proofs.Whole.{tree_part}
 use Rattle.tree_root.specs.Lasts.{IsLast, IsLastUnder}
 use Rattle.tree_root.specs.declared.tree.Tree.{Tree}
 use Rattle.tree_root.specs.Trees.{IsWhole, Stores, pairs_of}
 use Rattle.tree_root.proofs.Storing.{stored_under}
-use Rattle.tree_split.specs.Packed.{HasLast}
-use Rattle.tree_split.proofs.Fulls.{none_free}
-
--- a retired node has no last child
-no_last : {K : Type 0} {LEN : ℕ} (slot : Option (NodeOf K LEN)) → IsRetiredNode slot → (child : ℕ) → HasLast slot child → ⊥
-no_last None retired child last = last
-no_last (Some node) retired child last = let both : None ≡ Some child = sym retired.1 ∙ last in cc
-
--- a leaf whose array is full takes no pair
-pub full_slot : {K V : Type 0} {LEN : ℕ} (slot : Option (LeafOf K V LEN)) → ForSome slot (λ leaf. IsFull LEN leaf.array) → found_free slot ≡ 0
-full_slot None full = refl
-full_slot {LEN = LEN} (Some leaf) full = none_free LEN leaf.array (full leaf refl)
 
 module _ {K V : Type 0} {LEN : ℕ} (cmp : K → K → Ordering) (old : Tree K V LEN) (leaf : ℕ) (key : K) where
   -- the root, under which the leaf is the last one for the key

@@ -48,8 +48,7 @@ returns g c =
     let some : 0 < length (leaf_entries c.args.arenas.now.leaves end.leaf) = some_found _ c.leaf.result.now c.leaf.ensures (λ none. let both : false ≡ true = sym c.if-is_empty.false ∙ c.is_empty.ensures.1 (rw c.array-last.ensures none) in cc) in
     let first = c.in-Some-first_key.ensures.first in
     let ascending = rw first.2 at c.requires.ascending in
-    let for = takes_larger g.met.K.Ord.total c.args.arenas.now c.args.level c.args.id end.node end.leaf (c.in-Some-first_key.key.now, first.0) first.1 edge ends ascending c.requires.node c.requires.part some in
-    (
+    let for = takes_larger g.met.K.Ord.total c.args.arenas.now c.args.level c.args.id end.node end.leaf (c.in-Some-first_key.key.now, first.0) first.1 edge ends ascending c.requires.node c.requires.part some in (
       end.leaf,
       for.last,
       rw first.2 (run_appended g.met.K.Ord.total c.args.arenas.now c.args.level c.args.id end.node end.leaf (c.in-Some-first_key.key.now, first.0) first.1 edge ends ascending for c.empty_last.new.arenas _ (rw c.if-not-branch.false at c.in_ok-empty_last.ensures) c.leaf_mut.result.now c.leaf_mut.ensures.value (rw (c.close.ensures.array, first.2) refl) (rw first.2 at c.in-Some-first_key.ensures.few)),
