@@ -1,5 +1,5 @@
 //! Worked comparisons of two indexes.
-use crate::index_of;
+use crate::whole::{Made, Whole, index_of};
 use std::alloc::{AllocError, Global};
 use std::process::Abort;
 use test_support::refusals::succeeds;
@@ -19,22 +19,10 @@ static ROWS: [(Pairs, Pairs, bool); 7] = [
     (&[(1, 1), (2, 2)], &[(1, 1), (2, 3)], false),
 ];
 
-/// Whether two indexes are equal, one way round and the other, and whether the first one equals itself.
-fn compared(first: &TreeIndex<u64, u64>, second: &TreeIndex<u64, u64>) -> (bool, bool, bool) {
-    (first == second, second == first, first == first)
-}
-
-/// Compares an index with that of these pairs.
-fn expect_compared(
-    rt: &impl Abort,
-    alloc: Global,
-    first: &TreeIndex<u64, u64>,
-    pairs: Pairs,
-    same: bool,
-) -> Result<(), AllocError> {
-    let second = index_of(alloc, pairs)?;
-    assert!(rt; compared(first, &second) == (same, same, true));
-    Ok(())
+/// Compares two indexes one way round and the other, and the first one with itself.
+fn expect_compared<I: Whole>(rt: &impl Abort, first: &I, second: &I, same: bool) {
+    assert!(rt; first.equals(second) == same && second.equals(first) == same);
+    assert!(rt; first.equals(first));
 }
 
 fn compares_steps(
@@ -42,8 +30,21 @@ fn compares_steps(
     alloc: Global,
     (pairs, others, same): (Pairs, Pairs, bool),
 ) -> Result<(), AllocError> {
-    let first = index_of(alloc, pairs)?;
-    expect_compared(rt, alloc, &first, others, same)
+    let first: TreeIndex<u64, u64> = index_of(alloc, pairs)?;
+    compares_with_another(rt, alloc, &first, others, same)
+}
+
+/// Compares an index with that of these pairs.
+fn compares_with_another<I: Made>(
+    rt: &impl Abort,
+    alloc: Global,
+    first: &I,
+    pairs: Pairs,
+    same: bool,
+) -> Result<(), AllocError> {
+    let second: I = index_of(alloc, pairs)?;
+    expect_compared(rt, first, &second, same);
+    Ok(())
 }
 
 #[test]

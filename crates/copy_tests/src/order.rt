@@ -1,11 +1,10 @@
 //! Worked orders and hashes of two indexes.
-use crate::{index_of, small_index_of};
+use crate::whole::{Made, Whole, index_of};
 use std::alloc::{AllocError, Global};
 use std::cmp::Ordering;
-use std::hash::{DefaultHasher, Hash, Hasher};
 use std::process::Abort;
 use test_support::refusals::succeeds;
-use tree_index::TreeIndexOf;
+use tree_index::{SmallTreeIndex, TreeIndex};
 
 /// The pairs of an index.
 type Pairs = &'static [(u64, u64)];
@@ -24,74 +23,34 @@ static ROWS: [Row; 8] = [
     (&[(1, 1), (2, 2)], &[(1, 1), (2, 3)], Ordering::Less),
 ];
 
-/// What the hasher of the standard library makes of an index.
-fn hashed<const LEN: usize>(index: &TreeIndexOf<u64, u64, LEN>) -> u64 {
-    let mut hasher = DefaultHasher::new();
-    index.hash(&mut hasher);
-    hasher.finish()
-}
-
 /// Orders two indexes one way round and the other, and hashes both.
-fn expect_ordered<const LEN: usize>(
-    rt: &impl Abort,
-    first: &TreeIndexOf<u64, u64, LEN>,
-    second: &TreeIndexOf<u64, u64, LEN>,
-    order: Ordering,
-) {
-    assert!(rt; first.cmp(second) == order);
-    assert!(rt; second.cmp(first) == order.reverse());
-    assert!(rt; first.partial_cmp(second) == Some(order));
-    assert!(rt; (hashed(first) == hashed(second)) == order.is_eq());
+fn expect_ordered<I: Whole>(rt: &impl Abort, first: &I, second: &I, order: Ordering) {
+    assert!(rt; first.order(second) == order);
+    assert!(rt; second.order(first) == order.reverse());
+    assert!(rt; first.partial_order(second) == Some(order));
+    assert!(rt; (first.hashed() == second.hashed()) == order.is_eq());
 }
 
-/// Orders an index with that of these pairs, with fifteen pairs a leaf.
-fn expect_beside(
-    rt: &impl Abort,
-    alloc: Global,
-    first: &TreeIndexOf<u64, u64, 15>,
-    pairs: Pairs,
-    order: Ordering,
-) -> Result<(), AllocError> {
-    let second = index_of(alloc, pairs)?;
-    expect_ordered(rt, first, &second, order);
-    Ok(())
-}
-
-/// The same with seven pairs a leaf.
-fn expect_small_beside(
-    rt: &impl Abort,
-    alloc: Global,
-    first: &TreeIndexOf<u64, u64, 7>,
-    pairs: Pairs,
-    order: Ordering,
-) -> Result<(), AllocError> {
-    let second = small_index_of(alloc, pairs)?;
-    expect_ordered(rt, first, &second, order);
-    Ok(())
-}
-
-fn orders_steps(
-    rt: &impl Abort,
+/// Orders the indexes of a row.
+fn orders<I: Made, R: Abort>(
+    rt: &R,
     alloc: Global,
     (pairs, others, order): Row,
 ) -> Result<(), AllocError> {
-    let first = index_of(alloc, pairs)?;
-    expect_beside(rt, alloc, &first, others, order)
+    let first: I = index_of(alloc, pairs)?;
+    let second: I = index_of(alloc, others)?;
+    expect_ordered(rt, &first, &second, order);
+    Ok(())
 }
 
-fn small_orders_steps(
-    rt: &impl Abort,
-    alloc: Global,
-    (pairs, others, order): Row,
-) -> Result<(), AllocError> {
-    let first = small_index_of(alloc, pairs)?;
-    expect_small_beside(rt, alloc, &first, others, order)
+fn orders_steps(rt: &impl Abort, alloc: Global, row: Row) -> Result<(), AllocError> {
+    orders::<TreeIndex<u64, u64>, _>(rt, alloc, row)?;
+    orders::<SmallTreeIndex<u64, u64>, _>(rt, alloc, row)
 }
 
 #[test]
 fn orders_and_hashes(rt: HostRuntime) {
     for row in &ROWS {
         assert!(rt; succeeds(rt.alloc(), || orders_steps(&rt, rt.alloc(), *row)));
-        assert!(rt; succeeds(rt.alloc(), || small_orders_steps(&rt, rt.alloc(), *row)));
     }
 }

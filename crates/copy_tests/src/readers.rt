@@ -1,5 +1,5 @@
 //! Worked look-ups that pass the pair to a reader.
-use crate::index_of;
+use crate::whole::index_of;
 use std::alloc::{AllocError, Global};
 use std::process::Abort;
 use test_support::refusals::succeeds;
@@ -29,12 +29,16 @@ fn read(index: &TreeIndex<u64, u64>, key: u64) -> (Option<u64>, u64) {
 }
 
 /// The reader is called once with a pair that is present, and never for an absent key.
-fn reads_steps(rt: &impl Abort, alloc: Global) -> Result<(), AllocError> {
-    let index = index_of(alloc, &[(1, 10)])?;
+fn expect_read(rt: &impl Abort, index: &TreeIndex<u64, u64>) {
     for (key, sum, times) in &READS {
-        assert!(rt; peeked(&index, *key) == (*sum, *times));
-        assert!(rt; read(&index, *key) == (*sum, *times));
+        assert!(rt; peeked(index, *key) == (*sum, *times));
+        assert!(rt; read(index, *key) == (*sum, *times));
     }
+}
+
+fn reads_steps(rt: &impl Abort, alloc: Global) -> Result<(), AllocError> {
+    let index: TreeIndex<u64, u64> = index_of(alloc, &[(1, 10)])?;
+    expect_read(rt, &index);
     Ok(())
 }
 

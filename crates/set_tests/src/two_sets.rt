@@ -42,12 +42,26 @@ fn of_one(first: &TreeSet<u64>, second: &TreeSet<u64>) -> u64 {
 }
 
 /// Digits of a second set, and what is of either, of both, of the first alone and of one alone, beside 1, 3 and 5.
-static ROWS: [(&[u64], u64, u64, u64, u64); 4] = [
+type Row = (&'static [u64], u64, u64, u64, u64);
+
+static ROWS: [Row; 4] = [
     (&[], 135, 0, 135, 135),
     (&[3, 4], 1345, 3, 15, 145),
     (&[5, 3, 1], 135, 135, 0, 0),
     (&[9, 2], 12359, 0, 135, 12359),
 ];
+
+/// Compares a set with one of the digits of a row.
+fn expect_row(rt: &impl Abort, first: &TreeSet<u64>, second: &TreeSet<u64>, row: &Row) {
+    let (_, either, both, alone, apart) = *row;
+    assert!(rt; of_either(first, second) == either && of_both(first, second) == both);
+    assert!(rt; of_first(first, second) == alone && of_one(first, second) == apart);
+    assert!(rt; are_equal(first, second) == (alone == 0));
+}
+
+fn are_equal(first: &TreeSet<u64>, second: &TreeSet<u64>) -> bool {
+    first == second
+}
 
 /// Fills the second set with the digits of each row.
 fn compares(
@@ -55,12 +69,10 @@ fn compares(
     first: &TreeSet<u64>,
     second: &mut TreeSet<u64>,
 ) -> Result<(), AllocError> {
-    for (digits, either, both, alone, apart) in &ROWS {
+    for row in &ROWS {
         second.clear();
-        insert_all(second, *digits)?;
-        assert!(rt; of_either(first, second) == *either && of_both(first, second) == *both);
-        assert!(rt; of_one(first, second) == *apart);
-        assert!(rt; of_first(first, second) == *alone && (first == second) == (*alone == 0));
+        insert_all(second, row.0)?;
+        expect_row(rt, first, second, row);
     }
     Ok(())
 }

@@ -2,7 +2,6 @@
 //! of a schedule of several workers' commands.
 #![tactic(auto)]
 
-pub mod closed;
 #[cfg(test)]
 mod closing;
 #[cfg(test)]
@@ -19,5 +18,7 @@ mod replay;
 mod scenario;
 #[cfg(test)]
 mod schedules;
+#[cfg(test)]
+mod sharing;
 #[cfg(test)]
 mod threads;

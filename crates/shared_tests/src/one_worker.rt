@@ -1,39 +1,23 @@
 //! The calls of one worker.
-ghost use Rattle.std.specs.Prelude.{◌≡◌, All};
-ghost use Rattle.tree_tallies.specs.Tallies.{none};
-
-use crate::closed::closed_with;
-use crate::scenario::{Scenario, play};
+use crate::scenario::{Scenario, holds};
+use crate::sharing::{Closes, Leaves, Sharing};
 use std::alloc::AllocError;
 use std::ops::Bound;
 use std::process::Abort;
 use std::sync::Wait;
-use std::sync::ledger::Ledger;
-use test_support::refusals::succeeds;
 use tree_index::{Command, InsertError, Record, Reply};
-use tree_shared::{Pass, SharedTreeIndex, SharedTreeIndexOf, Tally};
+use tree_shared::Tally;
 
 /// A call, and the reply to it.
 pub(crate) type Row = (Command<u64, u64>, Reply<u64>);
 
 /// Returns what a call is answered. A pair that is refused comes back.
-pub(crate) fn reply_to<
-    C: Ledger,
-    S: Ledger,
-    M: Ledger,
-    F: Ledger,
-    D: Ledger,
-    R: Wait + Abort,
-    const LEN: usize,
->(
+pub(crate) fn reply_to<I: Sharing<u64, u64, P>, P, R: Wait + Abort>(
     rt: &R,
-    shared: &SharedTreeIndexOf<u64, u64, C, S, M, F, D, LEN>,
-    pass: &mut Pass<C, S, M, F, D>,
+    shared: &I,
+    pass: &mut P,
     command: &Command<u64, u64>,
 ) -> Result<Reply<u64>, AllocError> {
-    if pass.tally().calls > 10_000 {
-        return Err(AllocError);
-    }
     Ok(match command {
         Command::Insert(key, value) => match shared.insert(rt, pass, *key, *value) {
             Ok(()) => Reply::Stored,
@@ -52,7 +36,7 @@ pub(crate) fn reply_to<
         },
         Command::Remove(key) => Reply::Removed(shared.remove(rt, pass, key)?),
         Command::RemoveRange(low, high) => {
-            shared.remove_range(rt, pass, (low.as_ref(), high.as_ref()))?;
+            shared.remove_range(rt, pass, low.as_ref(), high.as_ref())?;
             Reply::Done
         }
         Command::Clear => {
@@ -63,48 +47,32 @@ pub(crate) fn reply_to<
     })
 }
 
-// Makes a call, at once or the second time. Returns whether it was refused once; the pass counted nothing then. `Err` if it
-// was refused both times.
-fn call_twice<
-    C: Ledger,
-    S: Ledger,
-    M: Ledger,
-    F: Ledger,
-    D: Ledger,
-    R: Wait + Abort,
-    const LEN: usize,
->(
+/// Makes a call, at once or the second time. Returns whether it was refused once; the pass counted nothing then. `Err` if it
+/// was refused both times.
+fn call_twice<I: Sharing<u64, u64, P>, P, R: Wait + Abort>(
     rt: &R,
-    shared: &SharedTreeIndexOf<u64, u64, C, S, M, F, D, LEN>,
-    pass: &mut Pass<C, S, M, F, D>,
+    shared: &I,
+    pass: &mut P,
     (command, reply): &Row,
 ) -> Result<bool, AllocError> {
-    let before = pass.tally();
+    let before = shared.tally(pass);
     let mut refused = false;
     for _ in 0..2 {
         if let Ok(told) = reply_to(rt, shared, pass, command) {
             assert!(rt; told == *reply);
             return Ok(refused);
         }
-        assert!(rt; pass.tally() == before);
+        assert!(rt; shared.tally(pass) == before);
         refused = true;
     }
     Err(AllocError)
 }
 
 /// Makes these calls, and sees that they are answered so. Returns whether one was refused.
-pub(crate) fn make_calls<
-    C: Ledger,
-    S: Ledger,
-    M: Ledger,
-    F: Ledger,
-    D: Ledger,
-    R: Wait + Abort,
-    const LEN: usize,
->(
+pub(crate) fn make_calls<I: Sharing<u64, u64, P>, P, R: Wait + Abort>(
     rt: &R,
-    shared: &SharedTreeIndexOf<u64, u64, C, S, M, F, D, LEN>,
-    pass: &mut Pass<C, S, M, F, D>,
+    shared: &I,
+    pass: &mut P,
     rows: &[Row],
 ) -> Result<bool, AllocError> {
     let mut refused = false;
@@ -117,11 +85,10 @@ pub(crate) fn make_calls<
 /// What the calls below leave, as far as they were answered: a history in which a refused call has no record.
 fn expect_recorded(
     rt: &impl Abort,
-    history: &[Record<u64, u64>],
-    tally: Tally,
-    is_empty: bool,
+    left: &impl Leaves,
     outcome: Result<bool, AllocError>,
 ) -> Result<(), AllocError> {
+    let (history, tally) = (left.history(), left.tally());
     assert!(rt; are_the_first_calls(history));
     assert!(rt; tally.calls == history.len() as u64);
     let refused = outcome?;
@@ -135,27 +102,24 @@ fn expect_recorded(
                 done: 2
             }
     );
-    assert!(rt; is_empty);
+    assert!(rt; left.is_empty());
     if refused { Err(AllocError) } else { Ok(()) }
 }
 
 /// Each call.
-pub(crate) fn each_call<C: Ledger, S: Ledger, M: Ledger, F: Ledger, D: Ledger, R: Wait + Abort>(
+pub(crate) fn each_call<I: Closes<P>, P: Drop, R: Wait + Abort>(
     rt: &R,
-    shared: SharedTreeIndex<u64, u64, C, S, M, F, D>,
-    mut passes: Vec<Pass<C, S, M, F, D>>,
-) -> Result<(), AllocError>
-    requires { All (λ pass. pass ≡ none) passes.items }
-{
+    shared: I,
+    mut passes: Vec<P>,
+) -> Result<(), AllocError> {
     let Some(pass) = passes.get_mut(0) else {
         panic!(rt; "no pass")
     };
     let outcome = make_calls(rt, &shared, pass, &CALLS);
-    let Ok(closed) = shared.close(passes) else {
+    let Ok(left) = shared.end(passes) else {
         panic!(rt; "not closed")
     };
-    let is_empty = closed.index.is_empty();
-    expect_recorded(rt, &closed.history, closed.tally, is_empty, outcome)
+    expect_recorded(rt, &left, outcome)
 }
 
 static CALLS: [Row; 10] = [
@@ -174,7 +138,7 @@ static CALLS: [Row; 10] = [
     (Command::Peek(1), Reply::Found(None)),
 ];
 
-// Whether a history is that of the first of the calls above.
+/// Whether a history is that of the first of the calls above.
 fn are_the_first_calls(history: &[Record<u64, u64>]) -> bool {
     for (record, (command, reply)) in history.iter().zip(&CALLS) {
         if record.command != *command || record.reply != *reply {
@@ -184,77 +148,51 @@ fn are_the_first_calls(history: &[Record<u64, u64>]) -> bool {
     history.len() <= CALLS.len()
 }
 
-/// Each call over an index of seven pairs a leaf.
-pub(crate) fn each_small_call<
-    C: Ledger,
-    S: Ledger,
-    M: Ledger,
-    F: Ledger,
-    D: Ledger,
-    R: Wait + Abort,
->(
-    rt: &R,
-    shared: SharedTreeIndexOf<u64, u64, C, S, M, F, D, 7>,
-    mut passes: Vec<Pass<C, S, M, F, D>>,
-) -> Result<(), AllocError>
-    requires { All (λ pass. pass ≡ none) passes.items }
-{
-    let Some(pass) = passes.get_mut(0) else {
-        panic!(rt; "no pass")
-    };
-    let outcome = make_calls(rt, &shared, pass, &CALLS);
-    let Ok(closed) = shared.close(passes) else {
-        panic!(rt; "not closed")
-    };
-    let is_empty = closed.index.is_empty();
-    expect_recorded(rt, &closed.history, closed.tally, is_empty, outcome)
-}
-
 #[test]
 fn each_call_is_recorded(rt: HostRuntime) {
     for scenario in [Scenario::EachCall, Scenario::EachSmallCall] {
-        assert!(rt; succeeds(rt.alloc(), || play(&rt, rt.alloc(), 1, scenario)));
+        assert!(rt; holds(&rt, rt.alloc(), 1, scenario));
     }
 }
 
-/// An insert, which may be refused, and the removal of its key.
-pub(crate) fn insert_and_remove<
-    C: Ledger,
-    S: Ledger,
-    M: Ledger,
-    F: Ledger,
-    D: Ledger,
-    R: Wait + Abort,
->(
+/// An insert, which may be refused, and the removal of its key. Returns whether the insert was answered.
+fn calls_in_turn<I: Sharing<u64, u64, P>, P, R: Wait + Abort>(
     rt: &R,
-    shared: SharedTreeIndex<u64, u64, C, S, M, F, D>,
-    mut passes: Vec<Pass<C, S, M, F, D>>,
-) -> Result<(), AllocError>
-    requires { All (λ pass. pass ≡ none) passes.items }
-{
+    shared: &I,
+    pass: &mut P,
+) -> Result<bool, AllocError> {
+    let inserted = reply_to(rt, shared, pass, &Command::Insert(1, 10)).is_ok();
+    assert!(rt; shared.tally(pass).calls == u64::from(inserted));
+    let removed = reply_to(rt, shared, pass, &Command::Remove(1))?;
+    assert!(rt; removed == Reply::Removed(inserted));
+    Ok(inserted)
+}
+
+/// What is left of both.
+fn expect_left_of_both(rt: &impl Abort, left: &impl Leaves, inserted: bool) {
+    let calls = u64::from(inserted).saturating_add(1);
+    assert!(rt; left.tally().calls == calls && left.history().len() as u64 == calls);
+    assert!(rt; left.is_empty());
+}
+
+/// An insert, which may be refused, and the removal of its key, and what is left.
+pub(crate) fn insert_and_remove<I: Closes<P>, P: Drop, R: Wait + Abort>(
+    rt: &R,
+    shared: I,
+    mut passes: Vec<P>,
+) -> Result<(), AllocError> {
     let Some(pass) = passes.get_mut(0) else {
         panic!(rt; "no pass")
     };
-    let inserted = reply_to(rt, &shared, pass, &Command::Insert(1, 10));
-    let calls = u64::from(inserted.is_ok());
-    assert!(rt; pass.tally().calls == calls);
-    let removed = reply_to(rt, &shared, pass, &Command::Remove(1))?;
-    assert!(rt; removed == Reply::Removed(inserted.is_ok()));
-    let Some(closed) = closed_with(shared, passes) else {
+    let inserted = calls_in_turn(rt, &shared, pass)?;
+    let Ok(left) = shared.end(passes) else {
         panic!(rt; "not closed")
     };
-    assert!(rt; closed.tally.calls == calls + 1 && closed.history.len() as u64 == calls + 1);
-    assert!(rt; closed.index.is_empty());
-    inserted?;
-    Ok(())
+    expect_left_of_both(rt, &left, inserted);
+    if inserted { Ok(()) } else { Err(AllocError) }
 }
 
 #[test]
 fn a_refused_insert_leaves_no_trace(rt: HostRuntime) {
-    assert!(rt;
-        succeeds(
-            rt.alloc(),
-            || play(&rt, rt.alloc(), 1, Scenario::InsertAndRemove)
-        )
-    );
+    assert!(rt; holds(&rt, rt.alloc(), 1, Scenario::InsertAndRemove));
 }

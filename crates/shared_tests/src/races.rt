@@ -2,12 +2,12 @@
 ghost use Rattle.std.specs.Prelude.{◌<◌};
 
 use crate::one_worker::Row;
-use crate::replay::replays;
+use crate::sharing::Leaves;
 use std::alloc::{AllocError, Global};
 use std::ops::Bound;
 use std::process::Abort;
 use tree_index::{Command, Record, Reply};
-use tree_shared::{ClosedOf, Tally};
+use tree_shared::Tally;
 
 /// What racers do.
 #[derive(Clone, Copy)]
@@ -143,20 +143,21 @@ fn ends_with(history: &[Record<u64, u64>], rows: &[Row]) -> bool {
 
 /// Sees that the history that a race leaves replays to the index, and that it has what was called. Returns `Err` if a call
 /// was refused, or a request of its own.
-pub(crate) fn expect_left<R: Abort, const LEN: usize>(
-    rt: &R,
+pub(crate) fn expect_left(
+    rt: &impl Abort,
     alloc: Global,
-    closed: &ClosedOf<u64, u64, LEN>,
+    left: &impl Leaves,
     race: Race,
     served: bool,
 ) -> Result<(), AllocError> {
-    assert!(rt; replays(alloc, &closed.history, &closed.index)?);
-    assert!(rt; closed.tally.calls == closed.history.len() as u64);
+    let (history, tally) = (left.history(), left.tally());
+    assert!(rt; left.replays(alloc)?);
+    assert!(rt; tally.calls == history.len() as u64);
     if !served {
         return Err(AllocError);
     }
-    assert!(rt; race.has_each_call(&closed.history));
-    assert!(rt; ends_with(&closed.history, race.last_calls()));
-    assert!(rt; race.fits(closed.tally, closed.index.len()));
+    assert!(rt; race.has_each_call(history));
+    assert!(rt; ends_with(history, race.last_calls()));
+    assert!(rt; race.fits(tally, left.len()));
     Ok(())
 }

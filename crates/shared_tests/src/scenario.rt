@@ -3,10 +3,11 @@ ghost use Rattle.std.specs.Prelude.{◌≡◌, ◌<◌};
 ghost use Rattle.tree_tallies.specs.Ledgers.{IsBlankFor};
 
 use crate::closing::{closes_with_all_passes, closes_without_workers, parts_while_a_pass_is_out};
-use crate::one_worker::{each_call, each_small_call, insert_and_remove};
+use crate::one_worker::{each_call, insert_and_remove};
 use crate::races::Race;
 use crate::refusals::{looks_a_text_up, refused_calls};
-use crate::threads::{run_race, run_small_race};
+use crate::sharing::Closes;
+use crate::threads::run_race;
 use std::alloc::{AllocError, Global};
 use std::marker::Brand;
 use std::process::Abort;
@@ -14,6 +15,7 @@ use std::sync::Wait;
 use std::sync::ledger::Ledger;
 use std::thread::Threads;
 use std::time::Clock;
+use test_support::refusals::succeeds;
 use tree_shared::{Blanks, SharedTreeIndex, SharedTreeIndexOf};
 
 /// What a test does with a shared index.
@@ -31,8 +33,20 @@ pub(crate) enum Scenario {
     SmallThreads(Race),
 }
 
+/// Whether a scenario for so many workers succeeds, at once or the second time.
+pub(crate) fn holds<R: Threads + Wait + Clock + Abort + Sync>(
+    rt: &R,
+    alloc: Global,
+    workers: usize,
+    scenario: Scenario,
+) -> bool
+    requires { workers < usize.MAX }
+{
+    succeeds(alloc, || play(rt, alloc, workers, scenario))
+}
+
 /// Plays a scenario for so many workers, with ledgers of its own.
-pub(crate) fn play<R: Threads + Wait + Clock + Abort + Sync>(
+fn play<R: Threads + Wait + Clock + Abort + Sync>(
     rt: &R,
     alloc: Global,
     workers: usize,
@@ -64,29 +78,43 @@ fn play_with<
     requires found { IsBlankFor workers blanks.found F.name F.parts }
     requires done { IsBlankFor workers blanks.done D.name D.parts }
 {
-    if let Scenario::Refusals = scenario {
-        return refused_calls::<C, S, M, F, D, R>(rt, alloc, workers, blanks);
+    match scenario {
+        Scenario::Refusals => refused_calls::<C, S, M, F, D, R>(rt, alloc, workers, blanks),
+        Scenario::LookUpOfText => {
+            looks_a_text_up::<C, S, M, F, D, R>(rt, alloc, workers, blanks)
+        }
+        Scenario::EachSmallCall | Scenario::SmallThreads(_) => {
+            let (shared, passes) = SharedTreeIndexOf::<u64, u64, C, S, M, F, D, 7>::new(
+                alloc, workers, blanks,
+            )?;
+            play_over(rt, alloc, shared, passes, scenario)
+        }
+        _ => {
+            let (shared, passes) = SharedTreeIndex::<u64, u64, C, S, M, F, D>::new(
+                alloc, workers, blanks,
+            )?;
+            play_over(rt, alloc, shared, passes, scenario)
+        }
     }
-    if let Scenario::LookUpOfText = scenario {
-        return looks_a_text_up::<C, S, M, F, D, R>(rt, alloc, workers, blanks);
-    }
-    if let Scenario::EachSmallCall | Scenario::SmallThreads(_) = scenario {
-        let (shared, passes) = SharedTreeIndexOf::<u64, u64, C, S, M, F, D, 7>::new(
-            alloc, workers, blanks,
-        )?;
-        return match scenario {
-            Scenario::SmallThreads(race) => run_small_race(rt, alloc, shared, passes, race),
-            _ => each_small_call(rt, shared, passes),
-        };
-    }
-    let (shared, passes) = SharedTreeIndex::<u64, u64, C, S, M, F, D>::new(alloc, workers, blanks)?;
+}
+
+/// Plays a scenario over a new index of numbers with its passes.
+fn play_over<I: Closes<P> + Sync, P: Drop + Send, R: Threads + Wait + Clock + Abort + Sync>(
+    rt: &R,
+    alloc: Global,
+    shared: I,
+    passes: Vec<P>,
+    scenario: Scenario,
+) -> Result<(), AllocError> {
     match scenario {
         Scenario::NoWorker => closes_without_workers(rt, shared, passes),
         Scenario::PassAbsent => closes_with_all_passes(rt, shared, passes),
         Scenario::Parts => parts_while_a_pass_is_out(rt, shared, passes),
-        Scenario::EachCall => each_call(rt, shared, passes),
+        Scenario::EachCall | Scenario::EachSmallCall => each_call(rt, shared, passes),
         Scenario::InsertAndRemove => insert_and_remove(rt, shared, passes),
-        Scenario::Threads(race) => run_race(rt, alloc, shared, passes, race),
-        _ => Ok(()),
+        Scenario::Threads(race) | Scenario::SmallThreads(race) => {
+            run_race(rt, alloc, shared, passes, race)
+        }
+        Scenario::Refusals | Scenario::LookUpOfText => Ok(()),
     }
 }

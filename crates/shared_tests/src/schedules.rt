@@ -1,6 +1,7 @@
 //! A schedule of two workers, its replies and their tallies.
 ghost use Rattle.std.specs.Prelude.{◌≡◌, ◌<◌, All, length, IfOk};
 
+use crate::sharing::NONE;
 use std::alloc::{AllocError, Global};
 use std::process::Abort;
 use test_support::refusals::succeeds;
@@ -8,14 +9,6 @@ use tree_index::{Command, Record, Reply};
 use tree_runs::run_schedule;
 use tree_shared::Tally;
 use tree_state::{State, StateOf};
-
-const NONE: Tally = Tally {
-    calls: 0,
-    stored: 0,
-    removed: 0,
-    found: 0,
-    done: 0,
-};
 
 fn schedule(alloc: Global) -> Result<Vec<(usize, Command<u64, u64>)>, AllocError>
     ensures workers { IfOk result (λ made. All (λ entry. entry.0 < 2) made.items) }
@@ -73,19 +66,28 @@ fn are_all_told(refused: usize, history: &[Record<u64, u64>], tallies: &[Tally; 
     history.len() as u64 == calls && history.len().saturating_add(refused) == REPLIES.len()
 }
 
+/// What a schedule leaves of a state that was empty.
+fn expect_ran(
+    rt: &impl Abort,
+    refused: usize,
+    (history, is_empty): (&[Record<u64, u64>], bool),
+    tallies: &[Tally; 2],
+) -> Result<(), AllocError> {
+    assert!(rt; are_all_told(refused, history, tallies));
+    if refused > 0 {
+        return Err(AllocError);
+    }
+    assert!(rt; *tallies == TALLIES && are_the_replies(history) && is_empty);
+    Ok(())
+}
+
 fn runs_at_fifteen(rt: &impl Abort, alloc: Global) -> Result<(), AllocError> {
     let mut state: State<u64, u64> = State::new(alloc);
     let mut tallies = [NONE, NONE];
     let commands = schedule(alloc)?;
     let refused = run_schedule(&mut state, commands, &mut tallies);
-    assert!(rt; are_all_told(refused, state.history(), &tallies));
-    if refused > 0 {
-        return Err(AllocError);
-    }
-    assert!(rt; tallies == TALLIES);
-    assert!(rt; are_the_replies(state.history()));
-    assert!(rt; state.index().is_empty());
-    Ok(())
+    let left = (state.history(), state.index().is_empty());
+    expect_ran(rt, refused, left, &tallies)
 }
 
 fn runs_at_seven(rt: &impl Abort, alloc: Global) -> Result<(), AllocError> {
@@ -93,18 +95,16 @@ fn runs_at_seven(rt: &impl Abort, alloc: Global) -> Result<(), AllocError> {
     let mut tallies = [NONE, NONE];
     let commands = schedule(alloc)?;
     let refused = run_schedule(&mut state, commands, &mut tallies);
-    assert!(rt; are_all_told(refused, state.history(), &tallies));
-    if refused > 0 {
-        return Err(AllocError);
-    }
-    assert!(rt; tallies == TALLIES);
-    assert!(rt; are_the_replies(state.history()));
-    assert!(rt; state.index().is_empty());
-    Ok(())
+    let left = (state.history(), state.index().is_empty());
+    expect_ran(rt, refused, left, &tallies)
 }
 
 #[test]
 fn runs_in_order(rt: HostRuntime) {
-    assert!(rt; succeeds(rt.alloc(), || runs_at_fifteen(&rt, rt.alloc())));
-    assert!(rt; succeeds(rt.alloc(), || runs_at_seven(&rt, rt.alloc())));
+    assert!(rt;
+        succeeds(rt.alloc(), || {
+            runs_at_fifteen(&rt, rt.alloc())?;
+            runs_at_seven(&rt, rt.alloc())
+        })
+    );
 }

@@ -1,33 +1,30 @@
 //! Threads that share an index.
-use crate::closed::closed_with;
 use crate::one_worker::{make_calls, reply_to};
 use crate::races::{Race, expect_left};
-use crate::scenario::{Scenario, play};
+use crate::scenario::{Scenario, holds};
+use crate::sharing::{Closes, Sharing};
 use std::alloc::{AllocError, Global};
 use std::process::Abort;
 use std::sync::Wait;
 use std::sync::atomic::{AtomicU64, Ordering};
-use std::sync::ledger::Ledger;
 use std::thread;
 use std::thread::Threads;
 use std::time::{Clock, Duration};
-use test_support::refusals::succeeds;
-use tree_shared::{Pass, SharedTreeIndex, SharedTreeIndexOf};
 
-// A thread's number and pass, and whether each of its calls was answered.
+/// A thread's number and pass, and whether each of its calls was answered.
 #[derive(Drop)]
-struct Racer<C: Ledger, S: Ledger, M: Ledger, F: Ledger, D: Ledger> {
+struct Racer<P> {
     number: u64,
-    pass: Pass<C, S, M, F, D>,
+    pass: P,
     served: bool,
 }
 
-impl<C: Ledger, S: Ledger, M: Ledger, F: Ledger, D: Ledger> Racer<C, S, M, F, D> {
-    // Makes its calls.
-    fn run<R: Wait + Abort, const LEN: usize>(
+impl<P> Racer<P> {
+    /// Makes its calls.
+    fn run<I: Sharing<u64, u64, P>, R: Wait + Abort>(
         mut self,
         rt: &R,
-        shared: &SharedTreeIndexOf<u64, u64, C, S, M, F, D, LEN>,
+        shared: &I,
         race: Race,
     ) -> Self {
         for made in 0..race.calls(self.number) {
@@ -38,11 +35,8 @@ impl<C: Ledger, S: Ledger, M: Ledger, F: Ledger, D: Ledger> Racer<C, S, M, F, D>
     }
 }
 
-// A racer for each pass, numbered from 0.
-fn racers<C: Ledger, S: Ledger, M: Ledger, F: Ledger, D: Ledger>(
-    alloc: Global,
-    passes: Vec<Pass<C, S, M, F, D>>,
-) -> Result<Vec<Racer<C, S, M, F, D>>, AllocError> {
+/// A racer for each pass, numbered from 0.
+fn racers<P: Drop>(alloc: Global, passes: Vec<P>) -> Result<Vec<Racer<P>>, AllocError> {
     let mut racers = Vec::with_capacity(alloc, passes.len())?;
     for pass in passes {
         let number = racers.len() as u64;
@@ -55,26 +49,27 @@ fn racers<C: Ledger, S: Ledger, M: Ledger, F: Ledger, D: Ledger>(
     Ok(racers)
 }
 
-// The passes of racers, and whether each call of each was answered.
-fn passes_of<C: Ledger, S: Ledger, M: Ledger, F: Ledger, D: Ledger>(
+/// The passes of racers, and whether each call of each was answered.
+fn passes_of<I: Sharing<u64, u64, P>, P: Drop>(
     alloc: Global,
-    racers: Vec<Racer<C, S, M, F, D>>,
+    shared: &I,
+    racers: Vec<Racer<P>>,
     race: Race,
-) -> Result<(Vec<Pass<C, S, M, F, D>>, bool), AllocError> {
+) -> Result<(Vec<P>, bool), AllocError> {
     let mut passes = Vec::with_capacity(alloc, racers.len())?;
     let mut served = true;
     for racer in racers {
-        served &= racer.served && racer.pass.tally().calls == race.calls(racer.number);
+        served &= racer.served && shared.tally(&racer.pass).calls == race.calls(racer.number);
         passes.push(racer.pass)?;
     }
     Ok((passes, served))
 }
 
-// What is added to the number of threads where one waited in vain.
+/// What is added to the number of threads where one waited in vain.
 const TOO_LATE: u64 = 1 << 32;
 
-// Waits a while for as many threads as there are racers. Returns whether they all came: where a thread or its memory is
-// refused, its racer comes once another has raced.
+/// Waits a while for as many threads as there are racers. Returns whether they all came: where a thread or its memory is
+/// refused, its racer comes once another has raced.
 fn all_meet<R: Clock>(rt: &R, here: &AtomicU64, racers: u64) -> bool {
     here.fetch_add(1, Ordering::SeqCst);
     for _ in 0..3_000 {
@@ -88,22 +83,12 @@ fn all_meet<R: Clock>(rt: &R, here: &AtomicU64, racers: u64) -> bool {
     false
 }
 
-// Lets a thread for each pass make its calls, once all are there.
+/// Lets a thread for each pass make its calls, once all are there.
 fn raced<
-    C: Ledger + Send + Sync,
-    S: Ledger + Send + Sync,
-    M: Ledger + Send + Sync,
-    F: Ledger + Send + Sync,
-    D: Ledger + Send + Sync,
+    I: Sharing<u64, u64, P> + Sync,
+    P: Drop + Send,
     R: Threads + Wait + Clock + Abort + Sync,
-    const LEN: usize,
->(
-    rt: &R,
-    alloc: Global,
-    shared: &SharedTreeIndexOf<u64, u64, C, S, M, F, D, LEN>,
-    passes: Vec<Pass<C, S, M, F, D>>,
-    race: Race,
-) -> Result<(Vec<Pass<C, S, M, F, D>>, bool), AllocError> {
+>(rt: &R, alloc: Global, shared: &I, passes: Vec<P>, race: Race) -> Result<(Vec<P>, bool), AllocError> {
     let here = AtomicU64::new(0);
     let racers = thread::map_vec(
         rt,
@@ -114,83 +99,39 @@ fn raced<
             racer.run(rt, shared, race)
         },
     )?;
-    passes_of(alloc, racers, race)
+    passes_of(alloc, shared, racers, race)
 }
 
 /// Runs a race with these passes, and sees what it leaves.
 pub(crate) fn run_race<
-    C: Ledger + Send + Sync,
-    S: Ledger + Send + Sync,
-    M: Ledger + Send + Sync,
-    F: Ledger + Send + Sync,
-    D: Ledger + Send + Sync,
+    I: Closes<P> + Sync,
+    P: Drop + Send,
     R: Threads + Wait + Clock + Abort + Sync,
->(
-    rt: &R,
-    alloc: Global,
-    shared: SharedTreeIndex<u64, u64, C, S, M, F, D>,
-    passes: Vec<Pass<C, S, M, F, D>>,
-    race: Race,
-) -> Result<(), AllocError> {
+>(rt: &R, alloc: Global, shared: I, passes: Vec<P>, race: Race) -> Result<(), AllocError> {
     let (mut passes, mut served) = raced(rt, alloc, &shared, passes, race)?;
     if let Some(pass) = passes.get_mut(0) {
         served &= make_calls(rt, &shared, pass, race.last_calls()) == Ok(false);
     }
-    let Some(closed) = closed_with(shared, passes) else {
+    let Ok(left) = shared.end(passes) else {
         panic!(rt; "not closed")
     };
-    expect_left(rt, alloc, &closed, race, served)
-}
-
-/// The same over an index of seven pairs a leaf.
-pub(crate) fn run_small_race<
-    C: Ledger + Send + Sync,
-    S: Ledger + Send + Sync,
-    M: Ledger + Send + Sync,
-    F: Ledger + Send + Sync,
-    D: Ledger + Send + Sync,
-    R: Threads + Wait + Clock + Abort + Sync,
->(
-    rt: &R,
-    alloc: Global,
-    shared: SharedTreeIndexOf<u64, u64, C, S, M, F, D, 7>,
-    passes: Vec<Pass<C, S, M, F, D>>,
-    race: Race,
-) -> Result<(), AllocError> {
-    let (mut passes, mut served) = raced(rt, alloc, &shared, passes, race)?;
-    if let Some(pass) = passes.get_mut(0) {
-        served &= make_calls(rt, &shared, pass, race.last_calls()) == Ok(false);
-    }
-    let Ok(closed) = shared.close(passes) else {
-        panic!(rt; "not closed")
-    };
-    expect_left(rt, alloc, &closed, race, served)
-}
-
-// Plays a race, a second time where memory is refused.
-fn holds<R: Threads + Wait + Clock + Abort + Sync>(
-    rt: &R,
-    alloc: Global,
-    race: Race,
-    scenario: Scenario,
-) -> bool {
-    succeeds(alloc, || play(rt, alloc, race.racers(), scenario))
+    expect_left(rt, alloc, &left, race, served)
 }
 
 #[test]
 fn two_threads_insert_the_same_keys(rt: HostRuntime) {
     let race = Race::Inserts;
     for scenario in [Scenario::Threads(race), Scenario::SmallThreads(race)] {
-        assert!(rt; holds(&rt, rt.alloc(), race, scenario));
+        assert!(rt; holds(&rt, rt.alloc(), race.racers(), scenario));
     }
 }
 
 #[test]
 fn eight_threads_race(rt: HostRuntime) {
-    assert!(rt; holds(&rt, rt.alloc(), Race::Edits, Scenario::Threads(Race::Edits)));
+    assert!(rt; holds(&rt, rt.alloc(), Race::Edits.racers(), Scenario::Threads(Race::Edits)));
 }
 
 #[test]
 fn a_range_is_removed_under_its_writers(rt: HostRuntime) {
-    assert!(rt; holds(&rt, rt.alloc(), Race::Cuts, Scenario::Threads(Race::Cuts)));
+    assert!(rt; holds(&rt, rt.alloc(), Race::Cuts.racers(), Scenario::Threads(Race::Cuts)));
 }

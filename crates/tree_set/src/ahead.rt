@@ -1,5 +1,5 @@
 //! The elements of a set whose first one is looked at before it is taken.
-ghost use Rattle.std.specs.Prelude.{◌≡◌, [], ◌∷◌, MatchOption, drop};
+ghost use Rattle.std.specs.Prelude.{◌≡◌, List, [], ◌∷◌, MatchOption, drop};
 ghost use Rattle.tree_set.specs.Sets.{IsAscending};
 
 use crate::elements::ElementsOver;
@@ -8,6 +8,22 @@ use tree_chain::Walked;
 use tree_leaf::leaf::LeafOf;
 use tree_node::node::ArenasOf;
 use tree_ranges::range::Ranged;
+
+/// Elements that are left, of which the first can be looked at before it is taken.
+///
+/// A merge knows the elements of two sets by this trait alone, so its proof says nothing of cursors.
+pub(crate) trait LooksAhead<'t, K: 't> {
+    // The elements that are left.
+    ghost left: { Self → List K };
+
+    /// Returns the first element, and leaves it. Makes no move.
+    fn peek(&self) -> Option<&'t K>
+        ensures { MatchOption result (left self.now ≡ []) (λ x. left self.now ≡ x.now ∷ drop 1 (left self.now)) };
+
+    /// Leaves the first element out.
+    fn advance(&mut self)
+        ensures { left self.new ≡ drop 1 (left self.old) };
+}
 
 /// The elements that are left, the first of which was already taken from its cursor.
 #[derive(Drop)]
@@ -45,20 +61,19 @@ impl<'t, K: Ord + Drop + 't, const LEN: usize> Ahead<
         let first = others.take_first();
         Ahead { first, others }
     }
+}
 
-    /// Returns the first element, and leaves it. Makes no move.
+impl<'t, K: Ord + Drop + 't, const LEN: usize> LooksAhead<'t, K>
+    for Ahead<'t, K, ArenasOf<K, (), LEN>, LeafOf<K, (), LEN>> {
+    ghost left = { λ s. s };
+
     #[inline(always)]
-    pub(crate) fn peek(&self) -> Option<&'t K>
-        ensures { MatchOption result (self.now ≡ []) (λ x. self.now ≡ x.now ∷ drop 1 self.now) }
-    {
+    fn peek(&self) -> Option<&'t K> {
         self.first
     }
 
-    /// Leaves the first element out.
     #[inline(always)]
-    pub(crate) fn advance(&mut self)
-        ensures { self.new ≡ drop 1 self.old }
-    {
+    fn advance(&mut self) {
         self.first = self.others.take_first();
     }
 }

@@ -2,7 +2,7 @@
 ghost use Rattle.std.specs.Iterator.{YieldsFirstRef, item_count};
 ghost use Rattle.tree_set.specs.Merges.{AreAscending, symmetric_difference};
 
-use crate::ahead::Ahead;
+use crate::ahead::{Ahead, LooksAhead};
 use std::cmp::Ordering;
 use std::iter::FusedIterator;
 use std::marker::Model;
@@ -56,14 +56,11 @@ impl<'t, K: Ord + Drop + 't, const LEN: usize> FusedIterator
     for SymmetricDifferenceOver<'t, K, ArenasOf<K, (), LEN>, LeafOf<K, (), LEN>> {}
 
 /// Takes the first element that one has and the other lacks.
-fn of_one<'t, K: Ord + Drop + 't, const LEN: usize>(
-    first: &mut Ahead<'t, K, ArenasOf<K, (), LEN>, LeafOf<K, (), LEN>>,
-    second: &mut Ahead<'t, K, ArenasOf<K, (), LEN>, LeafOf<K, (), LEN>>,
-) -> Option<&'t K>
-    requires { AreAscending K.cmp first.old second.old }
-    ensures ascending { AreAscending K.cmp first.new second.new }
-    ensures taken { YieldsFirstRef (λ s. s) (symmetric_difference K.cmp first.old second.old) result
-        (symmetric_difference K.cmp first.new second.new) }
+fn of_one<'t, K: Ord + 't, S: LooksAhead<'t, K>>(first: &mut S, second: &mut S) -> Option<&'t K>
+    requires { AreAscending K.cmp (S.left first.old) (S.left second.old) }
+    ensures ascending { AreAscending K.cmp (S.left first.new) (S.left second.new) }
+    ensures taken { YieldsFirstRef (λ s. s) (symmetric_difference K.cmp (S.left first.old) (S.left second.old)) result
+        (symmetric_difference K.cmp (S.left first.new) (S.left second.new)) }
 {
     loop {
         let Some(x) = first.peek() else {

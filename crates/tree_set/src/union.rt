@@ -1,7 +1,8 @@
 //! The elements of either of two sets.
 ghost use Rattle.std.specs.Iterator.{YieldsFirstRef, item_count};
+ghost use Rattle.tree_set.specs.Merges.{union};
 
-use crate::ahead::Ahead;
+use crate::ahead::{Ahead, LooksAhead};
 use std::cmp::Ordering;
 use std::iter::FusedIterator;
 use std::marker::Model;
@@ -45,32 +46,40 @@ impl<'t, K: Ord + Drop + 't, const LEN: usize> Iterator
     ghost remaining = { item_count (λ s. s) };
 
     fn next(&mut self) -> Option<&'t K> {
-        let Some(x) = self.first.peek() else {
-            let y = self.second.peek();
-            self.second.advance();
-            return y;
-        };
-        let Some(y) = self.second.peek() else {
-            self.first.advance();
-            return Some(x);
-        };
-        match x.cmp(y) {
-            Ordering::Less => {
-                self.first.advance();
-                Some(x)
-            }
-            Ordering::Equal => {
-                self.first.advance();
-                self.second.advance();
-                Some(x)
-            }
-            Ordering::Greater => {
-                self.second.advance();
-                Some(y)
-            }
-        }
+        of_either(&mut self.first, &mut self.second)
     }
 }
 
 impl<'t, K: Ord + Drop + 't, const LEN: usize> FusedIterator
     for UnionOver<'t, K, ArenasOf<K, (), LEN>, LeafOf<K, (), LEN>> {}
+
+/// Takes the first element that either has, and an equal one of the other with it.
+fn of_either<'t, K: Ord + 't, S: LooksAhead<'t, K>>(first: &mut S, second: &mut S) -> Option<&'t K>
+    ensures { YieldsFirstRef (λ s. s) (union K.cmp (S.left first.old) (S.left second.old)) result
+        (union K.cmp (S.left first.new) (S.left second.new)) }
+{
+    let Some(x) = first.peek() else {
+        let y = second.peek();
+        second.advance();
+        return y;
+    };
+    let Some(y) = second.peek() else {
+        first.advance();
+        return Some(x);
+    };
+    match x.cmp(y) {
+        Ordering::Less => {
+            first.advance();
+            Some(x)
+        }
+        Ordering::Equal => {
+            first.advance();
+            second.advance();
+            Some(x)
+        }
+        Ordering::Greater => {
+            second.advance();
+            Some(y)
+        }
+    }
+}

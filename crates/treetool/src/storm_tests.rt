@@ -1,8 +1,6 @@
 //! What storms write, and how they end.
-use crate::tests::{holds, is_out_of_memory, words_of};
-use crate::tool::tool;
+use crate::tests::{Calls, holds, is_out_of_memory, run, words_of};
 use std::alloc::Global;
-use std::io::Cursor;
 use std::sync::Wait;
 use std::thread::Threads;
 
@@ -30,15 +28,10 @@ fn ends_with<R: Threads + Wait + Sync>(
     room: usize,
     ends: &[End<'_>],
 ) -> bool {
-    let mut memory = [0; 64];
-    let mut output = Cursor::new(&mut memory[..room.min(64)]);
-    let mut shown = [0; 64];
-    let mut errors = Cursor::new(&mut shown[..]);
-    let input = b"".as_slice();
-    let ended = tool(rt, alloc, arguments, input, &mut output, &mut errors);
-    let (written, silent) = (output.position() as usize, errors.position() == 0);
-    let told = (ended, &memory[..written.min(64)]);
-    silent && ends.iter().any(|end| *end == told)
+    let streams = (Calls::all(), Calls::all(), Calls::all(), room);
+    let ended = run(rt, alloc, arguments, "", streams);
+    let told = (ended.status, ended.output());
+    ended.errors().is_empty() && ends.iter().any(|end| *end == told)
 }
 
 // Whether a storm with room for some bytes of output ends so, at once or the second time.

@@ -30,7 +30,7 @@ const ANSWERS: &str = "ok\nduplicate\n\n?\nsmaller 1=10\nok\n1\nok\nempty\n0\n";
 
 // How the calls of a stream go: each moves so many bytes at most, and so many pass. Later ones fail, or move no byte.
 #[derive(Clone, Copy, Debug)]
-struct Calls {
+pub(crate) struct Calls {
     piece: usize,
     passes: u64,
     failure: Option<ErrorKind>,
@@ -38,7 +38,7 @@ struct Calls {
 
 impl Calls {
     // Calls that all pass.
-    fn all() -> Self {
+    pub(crate) fn all() -> Self {
         Calls {
             piece: 256,
             passes: u64::MAX,
@@ -86,6 +86,69 @@ impl<S: Write> Write for Stream<S> {
     }
 }
 
+// How a run ended: its status, what it wrote and what it showed as an error, and how much of its input is left.
+#[derive(Drop)]
+pub(crate) struct Ended {
+    pub(crate) status: u8,
+    output: ([u8; 64], usize),
+    errors: ([u8; 64], usize),
+    left: usize,
+}
+
+impl Ended {
+    // What was written.
+    pub(crate) fn output(&self) -> &[u8] {
+        let (bytes, length) = &self.output;
+        &bytes[..(*length).min(64)]
+    }
+
+    // What was shown as an error.
+    pub(crate) fn errors(&self) -> &[u8] {
+        let (bytes, length) = &self.errors;
+        &bytes[..(*length).min(64)]
+    }
+}
+
+// The reads, the writes and the writes of errors of a run, and how many bytes of output there is room for.
+pub(crate) type Streams = (Calls, Calls, Calls, usize);
+
+// Streams whose calls all pass.
+pub(crate) fn ample() -> Streams {
+    (Calls::all(), Calls::all(), Calls::all(), 64)
+}
+
+// Runs the program over these lines.
+pub(crate) fn run<R: Threads + Wait + Sync>(
+    rt: &R,
+    alloc: Global,
+    arguments: &[String],
+    lines: &str,
+    (reads, writes, shows, room): Streams,
+) -> Ended {
+    let mut input = Stream {
+        inner: lines.as_bytes(),
+        calls: reads,
+    };
+    let mut memory = [0; 64];
+    let mut output = Stream {
+        inner: Cursor::new(&mut memory[..room.min(64)]),
+        calls: writes,
+    };
+    let mut shown = [0; 64];
+    let mut errors = Stream {
+        inner: Cursor::new(&mut shown[..]),
+        calls: shows,
+    };
+    let status = tool(rt, alloc, arguments, &mut input, &mut output, &mut errors);
+    let (written, told) = (output.inner.position(), errors.inner.position());
+    Ended {
+        status,
+        output: (memory, written as usize),
+        errors: (shown, told as usize),
+        left: input.inner.len(),
+    }
+}
+
 // Whether the program, over these lines and with such reads and writes, ends with this status, writes these answers and
 // shows no error.
 fn ends_with<R: Threads + Wait + Sync>(
@@ -95,20 +158,8 @@ fn ends_with<R: Threads + Wait + Sync>(
     (reads, writes): (Calls, Calls),
     (status, answers): (u8, &[u8]),
 ) -> bool {
-    let input = Stream {
-        inner: lines.as_bytes(),
-        calls: reads,
-    };
-    let mut memory = [0; 64];
-    let mut output = Stream {
-        inner: Cursor::new(&mut memory[..]),
-        calls: writes,
-    };
-    let mut shown = [0; 64];
-    let mut errors = Cursor::new(&mut shown[..]);
-    let ended = tool(rt, alloc, &[], input, &mut output, &mut errors);
-    let (written, silent) = (output.inner.position() as usize, errors.position() == 0);
-    ended == status && silent && &memory[..written.min(64)] == answers
+    let ended = run(rt, alloc, &[], lines, (reads, writes, Calls::all(), 64));
+    ended.status == status && ended.errors().is_empty() && ended.output() == answers
 }
 
 // Whether this holds, at once or the second time: a run that is refused memory answers otherwise. Where both were refused
@@ -238,14 +289,9 @@ fn answers_in_small<R: Threads + Wait + Sync>(
     answers: &str,
 ) -> Result<bool, AllocError> {
     let arguments = words_of(alloc, "--small")?;
-    let mut memory = [0; 64];
-    let mut output = Cursor::new(&mut memory[..]);
-    let mut shown = [0; 64];
-    let mut errors = Cursor::new(&mut shown[..]);
-    let input = lines.as_bytes();
-    let ended = tool(rt, alloc, &arguments, input, &mut output, &mut errors);
-    let (written, silent) = (output.position() as usize, errors.position() == 0);
-    Ok(ended == 0 && silent && &memory[..written.min(64)] == answers.as_bytes())
+    let ended = run(rt, alloc, &arguments, lines, ample());
+    let is_silent = ended.errors().is_empty();
+    Ok(ended.status == 0 && is_silent && ended.output() == answers.as_bytes())
 }
 
 #[test]
@@ -290,24 +336,17 @@ fn shows<R: Threads + Wait + Sync>(
     failure: Option<ErrorKind>,
     shown: &[u8],
 ) -> bool {
-    let mut input = LINES.as_bytes();
-    let mut taken = [0; 64];
-    let mut output = Cursor::new(&mut taken[..]);
-    let mut memory = [0; 64];
-    let mut errors = Stream {
-        inner: Cursor::new(&mut memory[..]),
-        calls: Calls {
-            piece: 1,
-            passes,
-            failure,
-        },
+    let shows = Calls {
+        piece: 1,
+        passes,
+        failure,
     };
-    let status = tool(rt, alloc, arguments, &mut input, &mut output, &mut errors);
-    let written = errors.inner.position() as usize;
-    status == 1
-        && input == LINES.as_bytes()
-        && output.position() == 0
-        && &memory[..written.min(64)] == shown
+    let streams = (Calls::all(), Calls::all(), shows, 64);
+    let ended = run(rt, alloc, arguments, LINES, streams);
+    ended.status == 1
+        && ended.left == LINES.len()
+        && ended.output().is_empty()
+        && ended.errors() == shown
 }
 
 #[test]

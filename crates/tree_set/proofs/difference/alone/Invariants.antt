@@ -5,9 +5,9 @@ use Rattle.tree_set.proofs.difference.alone.Given as goal
 -- what was passed changes nothing
 abbrev pub invariant-loop-x : goal.invariant-loop-x
 invariant-loop-x g l = record {
-  ascending : AreAscending g.K.Ord.cmp l.first l.second;
-  same : difference g.K.Ord.cmp l.first l.second ≡ difference g.K.Ord.cmp l.initial.first l.initial.second;
+  ascending : AreAscending g.K.Ord.cmp (g.S.LooksAhead.left l.first) (g.S.LooksAhead.left l.second);
+  same : difference g.K.Ord.cmp (g.S.LooksAhead.left l.first) (g.S.LooksAhead.left l.second) ≡ difference g.K.Ord.cmp (g.S.LooksAhead.left l.initial.first) (g.S.LooksAhead.left l.initial.second);
 }
 
 abbrev pub decreases-loop-x : goal.decreases-loop-x
-decreases-loop-x g l = length l.first + length l.second
+decreases-loop-x g l = length (g.S.LooksAhead.left l.first) + length (g.S.LooksAhead.left l.second)

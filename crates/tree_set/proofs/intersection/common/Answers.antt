@@ -5,7 +5,7 @@ use Rattle.tree_set.proofs.intersection.common.Goals as goal
 -- the second list has ended
 pub returns-in_err-y-clause-taken : goal.returns-in_err-y-clause-taken
 returns-in_err-y-clause-taken g c =
-    let none = common_none g.K.Ord.cmp c.loop-x.first c.loop-x.second c.in_err-y.ensures in
+    let none = common_none g.K.Ord.cmp (g.S.LooksAhead.left c.loop-x.first) (g.S.LooksAhead.left c.loop-x.second) c.in_err-y.ensures in
     rw c.from_residual-in_err-y.ensures (sym c.loop-x.invariant.same ∙ none, none)
 
 pub loop-x-preserved-in-Less : goal.loop-x-preserved-in-Less

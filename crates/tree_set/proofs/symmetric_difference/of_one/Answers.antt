@@ -10,13 +10,13 @@ loop-x-preserved g c = rw (c.advance-in-Equal.ensures, c.advance-in-Equal-2.ensu
 })
 
 pub returns-in_default-clause-ascending : goal.returns-in_default-clause-ascending
-returns-in_default-clause-ascending g c = rw c.advance.ensures (others_ascend g.K.Ord.cmp c.loop-x.first c.loop-x.second c.loop-x.invariant.ascending)
+returns-in_default-clause-ascending g c = rw c.advance.ensures (others_ascend g.K.Ord.cmp (g.S.LooksAhead.left c.loop-x.first) (g.S.LooksAhead.left c.loop-x.second) c.loop-x.invariant.ascending)
 
 pub returns-in_default-clause-taken : goal.returns-in_default-clause-taken
-returns-in_default-clause-taken g c = rw (← c.loop-x.invariant.same, c.advance.ensures) (apart_second g.K.Ord.cmp c.loop-x.first c.loop-x.second c.peek-y.result c.in_default.ensures c.peek-y.ensures)
+returns-in_default-clause-taken g c = rw (← c.loop-x.invariant.same, c.advance.ensures) (apart_second g.K.Ord.cmp (g.S.LooksAhead.left c.loop-x.first) (g.S.LooksAhead.left c.loop-x.second) c.peek-y.result c.in_default.ensures c.peek-y.ensures)
 
 pub returns-in_default-peek-clause-taken : goal.returns-in_default-peek-clause-taken
-returns-in_default-peek-clause-taken g c = rw c.advance-in_default-peek.ensures (sym c.loop-x.invariant.same ∙ apart_first g.K.Ord.cmp c.loop-x.first c.loop-x.second _ c.in-Some.x.now c.in-Some.ensures c.in_default-peek.ensures)
+returns-in_default-peek-clause-taken g c = rw c.advance-in_default-peek.ensures (sym c.loop-x.invariant.same ∙ apart_first g.K.Ord.cmp (g.S.LooksAhead.left c.loop-x.first) (g.S.LooksAhead.left c.loop-x.second) _ c.in-Some.x.now c.in-Some.ensures c.in_default-peek.ensures)
 
 pub returns-in-Less-clause-taken : goal.returns-in-Less-clause-taken
 returns-in-Less-clause-taken g c = rw c.advance-in-Less.ensures (sym c.loop-x.invariant.same ∙ apart_less g.met.K.Ord.total _ _ _ _ _ _ c.in-Some.ensures c.in-Some-peek.ensures c.loop-x.invariant.ascending (sym c.in-Less.ensures))

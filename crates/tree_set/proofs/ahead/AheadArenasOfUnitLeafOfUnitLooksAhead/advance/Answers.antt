@@ -1,5 +1,5 @@
 use Rattle.tree_set.proofs.Firsts.{advances, ends_with}
-use Rattle.tree_set.proofs.ahead.Ahead+K+ArenasOf+K+unit+LEN+LeafOf+K+unit+LEN.advance.Goals as goal
+use Rattle.tree_set.proofs.ahead.AheadArenasOfUnitLeafOfUnitLooksAhead.advance.Goals as goal
 
 pub invariant_of-self : goal.invariant_of-self
 invariant_of-self g c = ends_with _ _ c.take_first-self-inside.result c.take_first-self-inside.ensures.taken
