@@ -12,7 +12,7 @@ use Rattle.tree_node.proofs.Unchanged.{unchanged_replaces}
 use Rattle.tree_node.proofs.Standing.{no_children}
 use Rattle.tree_cut.specs.Cuts.{CutsUnder}
 use Rattle.tree_cut.proofs.Tops.{childless_cut, retired_node}
-use Rattle.tree_ranges.specs.Approximate.{Approximates}
+use Rattle.tree_views.specs.Approximate.{Approximates}
 use Rattle.tree_remove.specs.Removes.{RemovesUnder}
 
 module _ {K V : Type 0} {LEN : ℕ} (a : TreeArenas K V LEN) (id : ℕ) where

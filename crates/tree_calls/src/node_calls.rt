@@ -16,7 +16,7 @@ ghost use Rattle.tree_model.specs.Pairs.{Finds, IsAbsent, high_of, low_of, pair_
 ghost use Rattle.tree_walk.specs.Ends.{BeginsPart, IsLinked};
 ghost use Rattle.tree_node.specs.Parts.{IsPart, Unchanged};
 ghost use Rattle.tree_node.specs.Tree.{IsRetired, Stands, StandsOrRetired, children_of, walk};
-ghost use Rattle.tree_ranges.specs.Approximate.{Approximates};
+ghost use Rattle.tree_views.specs.Approximate.{Approximates};
 ghost use Rattle.tree_clean_up.specs.CleanUps.{HasOnlyRetired};
 ghost use Rattle.tree_remove.specs.Removes.{RemovesUnder};
 
@@ -30,8 +30,8 @@ use tree_leaf::arena::NodeId;
 use tree_node::branch::{InternalNodeOf, LeafNodeOf};
 use tree_node::depth::level_of;
 use tree_node::node::{ArenasOf, NodeOf};
-use tree_ranges::approximate::approximate_at;
 use tree_remove::removal::remove_at;
+use tree_views::approximate::approximate_at;
 use tree_walk::ends::{max_at, min_at};
 
 /// The calls on the number of a node, as `LeafNode::insert::<false, u64>(&mut arenas, id, key, val)`.

@@ -10,9 +10,9 @@ use std::ops::Bound;
 use tree_array::array::IndexKey;
 use tree_model::ProximityOf;
 use tree_ranges::iter::{IterOf, IterOver};
-use tree_ranges::locate::locate;
 use tree_ranges::range::{RangeOf, RangeOver};
 use tree_views::keys::{KeysOf, KeysOver, ValuesOf, ValuesOver};
+use tree_views::locate::locate;
 
 impl<K: IndexKey, V: Drop, const LEN: usize> TreeIndexOf<K, V, LEN> {
     /// Returns a cursor over all pairs, from both ends. Runs in constant time.

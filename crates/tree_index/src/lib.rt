@@ -54,6 +54,6 @@ pub use tree_model::{
 pub use tree_node::node::{Arenas, ArenasOf};
 pub use tree_ranges::cursor::{Cursor, run_moves};
 pub use tree_ranges::iter::{Iter, IterOf};
-pub use tree_ranges::locate::Proximity;
 pub use tree_ranges::range::{Range, RangeOf};
 pub use tree_views::keys::{Keys, KeysOf, Values, ValuesOf};
+pub use tree_views::locate::Proximity;

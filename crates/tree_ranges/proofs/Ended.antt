@@ -12,7 +12,7 @@ use Rattle.tree_model.specs.Cursor.{exhausted, are_apart, bound_on, can_turn, en
 use Rattle.tree_model.specs.Moves.{AllNone, Ended, Told, after, answer, answers, move_on, pair}
 use Rattle.tree_model.specs.Rest.{StandsInside}
 use Rattle.tree_ranges.proofs.Flips.{flipped_keeps}
-use Rattle.tree_ranges.proofs.Nearest.{get_none}
+use Rattle.tree_ranges.proofs.Pieces.{get_none}
 use Rattle.tree_ranges.proofs.Yields.{greatest_some, less, stops}
 
 -- place k is place j or lies behind it on the way

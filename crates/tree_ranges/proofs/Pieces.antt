@@ -1,10 +1,16 @@
 -- What stands between two places of a list, and what of it passes a test.
-use Rattle.std.proofs.Common.{◌≡◌, ℕ, zero, suc, ◌+◌, ◌<◌, ◌≤◌, Bool, true, false, List, [], ◌∷◌, ◌++◌, length, reverse, slice_get, Some, refl, ap, ◌∙◌, arith, append_assoc, filter}
+use Rattle.std.proofs.Common.{◌≡◌, ℕ, zero, suc, ◌+◌, ◌<◌, ◌≤◌, Bool, true, false, List, [], ◌∷◌, ◌++◌, length, reverse, slice_get, Some, None, refl, ap, ◌∙◌, arith, append_assoc, filter}
 use Rattle.tree_model.proofs.Common.{AllByRecursion, reverse_onto, reverse-append}
 use Rattle.tree_array.proofs.Common.{filter_none}
 use mathlib.Core.List.{reverse_aux}
 use Rattle.std.proofs.Math.Seq.{drop-nil}
 use Rattle.tree_model.specs.Rest.{piece}
+
+-- a place without an element is behind the list
+pub get_none : {X : Type 0} (xs : List X) (i : ℕ) → slice_get xs i ≡ None → length xs ≤ i
+get_none [] i none = omega arith
+get_none (x ∷ xs) zero none = absurd (cc)
+get_none (x ∷ xs) (suc i) none = omega (arith, get_none xs i none)
 
 module _ {X : Type 0} where
   pub piece_none : (xs : List X) (a b : ℕ) → b ≤ a → piece xs a b ≡ []

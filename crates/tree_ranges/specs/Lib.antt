@@ -1,3 +1,1 @@
-pub mod Approximate
-pub mod Beside
 pub mod Ranged

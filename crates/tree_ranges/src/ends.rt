@@ -4,7 +4,6 @@ ghost use Rattle.tree_model.specs.Cursor.{meets, option_where};
 ghost use Rattle.tree_model.specs.Pairs.{lent_bound};
 ghost use Rattle.tree_model.specs.Rest.{lent};
 ghost use Rattle.tree_cursors.specs.View.{pair_of};
-ghost use Rattle.tree_ranges.specs.Beside.{is_at};
 ghost use Rattle.tree_ranges.specs.Ranged.{TellsApart, is_new};
 
 use std::ops::Bound;
@@ -74,19 +73,6 @@ pub fn has_pair<'t, K: Ord + Drop, V: Drop, S: SlotWalk, const LEN: usize>(
 {
     match pair_on(end) {
         Some(_) => true,
-        None => false,
-    }
-}
-
-/// Returns whether an end stands on a pair whose key equals this one. Makes at most one comparison.
-pub fn stands_at<'t, K: Ord + Drop, V: Drop, S: SlotWalk, const LEN: usize>(
-    end: &End<LinkedIter<'t, LeafOf<K, V, LEN>, S>>,
-    key: &K,
-) -> bool
-    ensures { result ≡ is_at K.cmp key.now (pair_of end.now) }
-{
-    match pair_on(end) {
-        Some((found, _)) => found.cmp(key).is_eq(),
         None => false,
     }
 }

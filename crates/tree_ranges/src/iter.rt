@@ -72,7 +72,7 @@ impl<'t, K: Ord + Drop + 't, V: Drop + 't, const LEN: usize> IterOver<
     }
 
     /// Creates a cursor over all pairs of a tree, with these ends. The caller must pass ends that stand in the tree.
-    pub(crate) fn standing(
+    pub fn standing(
         arenas: &'t ArenasOf<K, V, LEN>,
         root: Option<(NodeId, usize)>,
         forward: End<WalkOf<'t, K, V, LEN>>,

@@ -1,3 +1,5 @@
 pub mod Compared
+pub mod Nearest
 pub mod Taken
 pub mod Walked
+mod Within

@@ -1,1 +1,3 @@
+pub mod Approximate
+pub mod Beside
 pub mod Keys

@@ -1,6 +1,6 @@
 use Rattle.std.proofs.Common.{◌≡◌, ℕ, zero, suc, false, nat_eq, arith, refl}
 use Rattle.tree_model.proofs.Common.{nat_tests}
-use Rattle.tree_ranges.proofs.approximate.approximate_at.Goals as goal
+use Rattle.tree_views.proofs.approximate.approximate_at.Goals as goal
 
 not_zero : (n : ℕ) → (n ≡ 0 → ⊥) → nat_eq n 0 ≡ false
 not_zero zero some = absurd (some refl)

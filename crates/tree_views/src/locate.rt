@@ -5,17 +5,18 @@ ghost use Rattle.tree_model.specs.declared.way.Way.TheVariants.{On, Back};
 ghost use Rattle.tree_node.specs.Whole.{IsTree, walk_under};
 ghost use Rattle.tree_model.specs.Cursor.{next_end, unopened};
 ghost use Rattle.tree_model.specs.Located.{located};
-ghost use Rattle.tree_cursors.specs.View.{EndStands, end_of};
-ghost use Rattle.tree_ranges.specs.Beside.{located_beside, located_past};
+ghost use Rattle.tree_cursors.specs.View.{EndStands, end_of, pair_of};
+ghost use Rattle.tree_views.specs.Beside.{is_at, located_beside, located_past};
 
-use crate::ends::{again, has_pair, stands_at, turned};
-use crate::iter::{IterOf, IterOver};
 use std::ops::Bound;
-use tree_chain::{IterOf as WalkOf, RevIterOf as RevWalkOf};
-use tree_cursors::end::{End, step};
+use tree_chain::{IterOf as WalkOf, LinkedIter, RevIterOf as RevWalkOf, SlotWalk};
+use tree_cursors::end::{End, pair_on, step};
 use tree_leaf::arena::NodeId;
+use tree_leaf::leaf::LeafOf;
 use tree_model::ProximityOf;
 use tree_node::node::ArenasOf;
+use tree_ranges::ends::{again, has_pair, turned};
+use tree_ranges::iter::{IterOf, IterOver};
 
 /// Where a key is among pairs, with fifteen pairs a leaf.
 pub type Proximity<'t, K, V> = ProximityOf<IterOf<'t, K, V, 15>>;
@@ -130,4 +131,17 @@ fn end_before<'t, K: Ord + Drop + 't, V: Drop + 't, const LEN: usize>(
     let mut end = turned(again(end));
     let _ = step(arenas, root, &mut end, open);
     end
+}
+
+/// Returns whether an end stands on a pair whose key equals this one. Makes at most one comparison.
+fn stands_at<'t, K: Ord + Drop, V: Drop, S: SlotWalk, const LEN: usize>(
+    end: &End<LinkedIter<'t, LeafOf<K, V, LEN>, S>>,
+    key: &K,
+) -> bool
+    ensures { result ≡ is_at K.cmp key.now (pair_of end.now) }
+{
+    match pair_on(end) {
+        Some((found, _)) => found.cmp(key).is_eq(),
+        None => false,
+    }
 }

@@ -1,7 +1,7 @@
 use Rattle.std.proofs.Common.{◌∙◌, ap, sym, is_some}
-use Rattle.tree_ranges.proofs.Nearest.{past_none, past_some}
+use Rattle.tree_views.proofs.Nearest.{past_none, past_some}
 use Rattle.tree_ranges.proofs.Shown.{element_is}
-use Rattle.tree_ranges.proofs.locate.past_all.Goals as goal
+use Rattle.tree_views.proofs.locate.past_all.Goals as goal
 
 pub returns-then-has_pair : goal.returns-then-has_pair
 returns-then-has_pair g c =

@@ -2,8 +2,8 @@ use Rattle.std.proofs.Common.{◌≡◌, ◌∙◌, Some, sym}
 use Rattle.tree_model.proofs.Common.{lent_entry, opposite}
 use Rattle.tree_node.proofs.Common.{walk}
 use Rattle.tree_walk.specs.Ends.{first_on}
-use Rattle.tree_ranges.proofs.Within.{found_within, none_in_empty, none_within, part_ascends}
-use Rattle.tree_ranges.proofs.approximate.nearest_at.Goals as goal
+use Rattle.tree_views.proofs.Within.{found_within, none_in_empty, none_within, part_ascends}
+use Rattle.tree_views.proofs.approximate.nearest_at.Goals as goal
 
 pub returns-in_default : goal.returns-in_default
 returns-in_default g c = none_in_empty g.K.Ord.cmp g.S.SlotWalk.way _ (walk c.args.level c.args.arenas.now c.args.id) g.T.SlotWalk.way (sym c.in_default.ensures)

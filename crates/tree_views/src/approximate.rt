@@ -7,7 +7,7 @@ ghost use Rattle.tree_model.specs.Ways.{opposite};
 ghost use Rattle.tree_node.specs.Tree.{StandsOrRetired, walk};
 ghost use Rattle.tree_walk.specs.Ends.{IsLinked, first_on};
 ghost use Rattle.tree_model.specs.Rest.{lent};
-ghost use Rattle.tree_ranges.specs.Approximate.{Approximates};
+ghost use Rattle.tree_views.specs.Approximate.{Approximates};
 
 use std::ops::Bound;
 use tree_array::array::{ArrayIter, ArrayRevIter};

@@ -1,7 +1,7 @@
 use Rattle.std.proofs.Common.{rules}
 use Rattle.tree_node.proofs.Common.{fits}
-use Rattle.tree_ranges.proofs.Within.{first_taken, none_to_take}
-use Rattle.tree_ranges.proofs.approximate.first_at.Goals as goal
+use Rattle.tree_views.proofs.Within.{first_taken, none_to_take}
+use Rattle.tree_views.proofs.approximate.first_at.Goals as goal
 
 pub walk_from_end-requires : goal.walk_from_end-requires
 walk_from_end-requires g c = (search (rules, fits), (search (rules, fits), (search (rules, fits), (c.requires.node, (c.requires.stands, c.requires.linked)))))

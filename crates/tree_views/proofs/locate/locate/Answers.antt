@@ -1,7 +1,7 @@
 use Rattle.std.proofs.Common.{◌∙◌, sym}
-use Rattle.tree_ranges.proofs.Nearest.{beside_is, exact_is, past_is}
+use Rattle.tree_views.proofs.Nearest.{beside_is, exact_is, past_is}
 use Rattle.tree_ranges.proofs.Shown.{element_is, pairs_ascend}
-use Rattle.tree_ranges.proofs.locate.locate.Goals as goal
+use Rattle.tree_views.proofs.locate.locate.Goals as goal
 
 pub returns-then-stands_at : goal.returns-then-stands_at
 returns-then-stands_at g c =

@@ -1,8 +1,8 @@
 use Rattle.std.proofs.Common.{◌∙◌, ap, sym, rules, is_some}
 use Rattle.tree_cursors.specs.View.{Kept}
-use Rattle.tree_ranges.proofs.Nearest.{beside_none, beside_some}
+use Rattle.tree_views.proofs.Nearest.{beside_none, beside_some}
 use Rattle.tree_ranges.proofs.Shown.{element_is}
-use Rattle.tree_ranges.proofs.locate.beside.Goals as goal
+use Rattle.tree_views.proofs.locate.beside.Goals as goal
 
 pub standing-requires : goal.standing-requires
 standing-requires g c =

@@ -12,11 +12,10 @@ use Rattle.std.proofs.lemmas.Option.{slice_get_within}
 use Rattle.tree_chain.specs.Walks.{here}
 use Rattle.tree_chain.specs.Ways.{StepsOver}
 use Rattle.tree_node.proofs.Ascents.{walk_ascends}
-use Rattle.tree_ranges.proofs.Nearest.{get_none}
 use Rattle.tree_walk.specs.Ends.{BeginsPart, IsLinked, first_on}
 use Rattle.tree_cursors.specs.Seek.{NoneMeets, Seeks}
-use Rattle.tree_ranges.specs.Approximate.{Approximates}
-use Rattle.tree_ranges.proofs.Pieces.{all_reverse, reverse_parts}
+use Rattle.tree_views.specs.Approximate.{Approximates}
+use Rattle.tree_ranges.proofs.Pieces.{all_reverse, get_none, reverse_parts}
 use Rattle.tree_ranges.proofs.Yields.{less, persists}
 
 module _ {X : Type 0} (P : X → Type 0) where

@@ -9,13 +9,9 @@ use Rattle.tree_model.proofs.LookUps.{none_larger}
 use Rattle.tree_model.specs.declared.proximity.ProximityOf.TheVariants.{Exact, Between, Smaller, Larger, Empty}
 use Rattle.tree_model.specs.Cursor.{end_at, least_place, with_ends}
 use Rattle.tree_model.specs.Located.{located}
-use Rattle.tree_ranges.specs.Beside.{is_at, located_beside, located_past}
+use Rattle.tree_views.specs.Beside.{is_at, located_beside, located_past}
+use Rattle.tree_ranges.proofs.Pieces.{get_none}
 use Rattle.tree_ranges.proofs.Yields.{above_le}
-
-pub get_none : {X : Type 0} (xs : List X) (i : ℕ) → slice_get xs i ≡ None → length xs ≤ i
-get_none [] i none = omega arith
-get_none (x ∷ xs) zero none = absurd (cc)
-get_none (x ∷ xs) (suc i) none = omega (arith, get_none xs i none)
 
 module _ {K V : Type 0} {cmp : K → K → Ordering} (o : IsTotalOrder cmp) (k : K) where
   -- what is larger than a key that isn't smaller is larger than k
