@@ -6,28 +6,28 @@ use Rattle.tree_array.specs.declared.answers.StoreResult.TheVariants.{New, Repla
 use Rattle.tree_node.proofs.Common.{get, TreeArenas, IsPart, HasChildFor, IsRetired, child_of, keyed, unbounded}
 use Rattle.tree_node.specs.declared.node.NodeOf.{NodeOf}
 use Rattle.tree_insert.specs.Inserts.{InsertsUnder, asks_split}
-use Rattle.tree_insert.proofs.Retries.{IsFullBelow, child_part_at, full_below_at, inserts_in_node_at}
+use Rattle.tree_insert.proofs.Retries.{IsFullBelow, full_below_at, inserts_in_node_at}
+use Rattle.tree_descent.proofs.Ways.{below_part, part_not_retired}
 use Rattle.tree_node.proofs.NodeKinds.{retired_node, some_child}
 
-module _ {K V : Type 0} {LEN : ℕ} (cmp : K → K → Ordering) (level : ℕ) (a : TreeArenas K V LEN) (id child : ℕ) (key : K) where
-  -- a part stands there, with this child for the key
-  pub record IsUnder : Type 0 where
-    pub part : IsPart cmp level a id
-    pub which : HasChildFor cmp key (get a.nodes id) child
+-- a part stands there, with this child for the key
+pub record IsUnder {K V : Type 0} {LEN : ℕ} (cmp : K → K → Ordering) (level : ℕ) (a : TreeArenas K V LEN) (id child : ℕ) (key : K) : Type 0 where
+  pub part : IsPart cmp level a id
+  pub which : HasChildFor cmp key (get a.nodes id) child
+  pub live : IsRetired level a id → ⊥
 
-module _ {K V : Type 0} {LEN : ℕ} (cmp : K → K → Ordering) (level : ℕ) (deep : 0 < level) (a : TreeArenas K V LEN) (id : ℕ) (key : K) (node : NodeOf K LEN) (here : get a.nodes id ≡ Some node) where
-  -- a retired node has no child
-  pub has_none : (child : ℕ) → child_of cmp key (keyed node).entries (unbounded node) ≡ Some child → IsRetired level a id → ⊥
-  has_none child routed retired =
+module _ {K V : Type 0} {LEN : ℕ} {cmp : K → K → Ordering} (o : IsTotalOrder cmp) (key : K) {level : ℕ} {a : TreeArenas K V LEN} {id : ℕ} {node : NodeOf K LEN}
+    (deep : 0 < level)
+    (here : get a.nodes id ≡ Some node) where
+  pub under : {child : ℕ} → child_of cmp key (keyed node).entries (unbounded node) ≡ Some child → IsPart cmp level a id ⊎ IsRetired level a id
+      → IsUnder cmp level a id child key
+  under routed (inl part) = record { part = part; which = rw here routed; live = part_not_retired o a key level deep id part }
+  under {child} routed (inr retired) =
       let none = (retired_node level deep a id retired node here).1 in
       let gone : child_of cmp key (keyed node).entries None ≡ Some child = rw none at routed in
-      cc
+      absurd (cc)
 
-  pub under : (child : ℕ) → child_of cmp key (keyed node).entries (unbounded node) ≡ Some child → IsPart cmp level a id ⊎ IsRetired level a id → IsUnder cmp level a id child key
-  under child routed (inl part) = record { part = part; which = rw here routed }
-  under child routed (inr retired) = absurd (has_none child routed retired)
-
-  -- and one that stands has one
+  -- a node that stands has one
   pub has_some : child_of cmp key (keyed node).entries (unbounded node) ≡ None → IsPart cmp level a id → ⊥
   has_some none part =
       let some = some_child level deep a id part key in
@@ -42,17 +42,17 @@ no_split (Duplicate k v) not = refl
 no_split (Full k v) not = absurd (not k v refl)
 
 -- the pair was inserted under the node that the key belongs to
-module _ {K V : Type 0} {LEN : ℕ} {cmp : K → K → Ordering} (o : IsTotalOrder cmp) (upsert : Bool) (level : ℕ) (deep : 0 < level) (a b : TreeArenas K V LEN) (id child : ℕ) (key : K) (val : V)
-    (goes : IsUnder cmp level a id child key) where
-  below_part : IsPart cmp (level - 1) a child
-  below_part = child_part_at o level deep a id child key goes.part goes.which
+module _ {K V : Type 0} {LEN : ℕ} {cmp : K → K → Ordering} (o : IsTotalOrder cmp) (upsert : Bool) {level : ℕ} {a b : TreeArenas K V LEN} {id child : ℕ}
+    {key : K} {val : V}
+    {result : Result (StoreResult K V) (K × V)} (deep : 0 < level) (goes : IsUnder cmp level a id child key)
+    (inserts : IsPart cmp (level - 1) a child → InsertsUnder cmp upsert (level - 1) a b child result key val) where
+  child_part : IsPart cmp (level - 1) a child
+  child_part = below_part o a key level deep id child goes.part goes.which
 
-  module _ (result : Result (StoreResult K V) (K × V)) (inserts : IsPart cmp (level - 1) a child → InsertsUnder cmp upsert (level - 1) a b child result key val) where
-    pub refused_below : (pair : K × V) → result ≡ Err pair → InsertsUnder cmp upsert level a b id (Err pair) key val
-    refused_below pair is = inserts_in_node_at o upsert level deep a b id child key val (Err pair) goes.part goes.which (rw is at (inserts below_part)) refl
+  -- an answer that asks for no split is one of the node
+  pub answered_below : {told : Result (StoreResult K V) (K × V)} → result ≡ told → asks_split told ≡ false → InsertsUnder cmp upsert level a b id told key val
+  answered_below {told} is no_split =
+      inserts_in_node_at o upsert level deep a b id child key val told goes.part goes.which (rw is at (inserts child_part)) no_split
 
-    pub stored_below : (answer : StoreResult K V) → result ≡ Ok answer → ((k : K) (v : V) → answer ≡ Full k v → ⊥) → InsertsUnder cmp upsert level a b id (Ok answer) key val
-    stored_below answer is not_full = inserts_in_node_at o upsert level deep a b id child key val (Ok answer) goes.part goes.which (rw is at (inserts below_part)) (no_split answer not_full)
-
-    pub full_under : (k : K) (v : V) → result ≡ Ok (Full k v) → IsFullBelow cmp upsert level a b id child key val k v
-    full_under k v is = full_below_at o upsert level deep a b id child key val k v goes.part goes.which (rw is at (inserts below_part))
+  pub full_under : {k : K} {v : V} → result ≡ Ok (Full k v) → IsFullBelow cmp upsert level a b id child key val k v
+  full_under {k} {v} is = full_below_at o upsert level deep a b id child key val k v goes.part goes.which (rw is at (inserts child_part))

@@ -11,6 +11,7 @@ use Rattle.tree_array.specs.Insertion.{IsStore, IsStored}
 use Rattle.tree_model.proofs.Ascending.{IsAscending-put}
 use Rattle.tree_model.proofs.Lengths.{length-put, without_few}
 use Rattle.tree_insert.specs.Inserts.{Inserts, InsertsUnder, asks_split, declined, refused}
+use Rattle.tree_insert.proofs.Restarts.{changes_nothing}
 use Rattle.tree_node.specs.Shape.{leaf_free, found_spare}
 use Rattle.tree_node.proofs.Between.{found_between, put_between}
 use Rattle.tree_node.proofs.ChildChanges.{node_stands, node_replaces, old_spare, new_spare, old_walk, new_walk, same_node}
@@ -24,7 +25,8 @@ use Rattle.tree_split.proofs.Arrays.{packed_stored}
 use Rattle.tree_split.proofs.Edges.{edge_below, packed_above}
 use Rattle.tree_split.proofs.Fulls.{none_free}
 
-module _ {K V : Type 0} {LEN : ℕ} {cmp : K → K → Ordering} (o : IsTotalOrder cmp) (upsert : Bool) (a : TreeArenas K V LEN) (id : ℕ) (leaf : LeafOf K V LEN) (array : Arrivals K V) (key : K) (val : V) (was : get a.leaves id ≡ Some leaf) where
+module _ {K V : Type 0} {LEN : ℕ} {cmp : K → K → Ordering} (o : IsTotalOrder cmp) (upsert : Bool) (a : TreeArenas K V LEN) (id : ℕ) (leaf : LeafOf K V LEN)
+    (array : Arrivals K V) (key : K) (val : V) (was : get a.leaves id ≡ Some leaf) where
   abbrev new : TreeArenas K V LEN
   new = with_array a id leaf array
 
@@ -53,23 +55,12 @@ module _ {K V : Type 0} {LEN : ℕ} {cmp : K → K → Ordering} (o : IsTotalOrd
     nodes = λ n. refl;
   }
 
-  kept : array ≡ leaf.array → (low high : Option K) → Stands cmp 0 a low id high → Stands cmp 0 new low id high
-  kept same low high s =
-      let both : Some s.leaf ≡ Some leaf = sym s.here ∙ was in
-      let is : s.leaf ≡ leaf = cc in
-      record { leaf = record leaf { array = array }; here = here_now a id leaf array was; few = rw (same, ← is) s.few; ascending = rw (same, ← is) s.ascending; above = rw (same, ← is) s.above; up_to = rw (same, ← is) s.up_to }
-
-  as_spare : array ≡ leaf.array → spare 0 a id ≤ suc (spare 0 new id)
-  as_spare same = rw (spare_was, spare_is, same) (omega arith)
-
-  no_room : IsFull LEN leaf.array → found_free {V = V} {LEN = LEN} (Some leaf) ≡ 0
-  no_room full = none_free LEN leaf.array full
-
   all_put : (P : K × V → Type 0) (pairs : List (K × V)) → P (key, val) → AllByRecursion P pairs → AllByRecursion P (put cmp pairs key val)
   all_put P pairs here all = all-append P _ _ (all-filter P _ pairs all) (here, all-filter P _ pairs all)
 
   -- the pair was stored
-  success : (result : StoreResult K V) → refused {K = K} {V = V} (Ok result) ≡ false → asks_split {K = K} {V = V} (Ok result) ≡ false → declined {K = K} {V = V} (Ok result) ≡ false → Inserts cmp upsert (Ok result) leaf.array.entries key val array.entries
+  success : (result : StoreResult K V) → refused {K = K} {V = V} (Ok result) ≡ false → asks_split {K = K} {V = V} (Ok result) ≡ false
+      → declined {K = K} {V = V} (Ok result) ≡ false → Inserts cmp upsert (Ok result) leaf.array.entries key val array.entries
       → IsStored cmp LEN upsert leaf.array key val array → InsertsUnder cmp upsert 0 a new id (Ok result) key val
   success result taken no_split accepted pairs ins = record {
     pairs = rw (walk_was, walk_is) pairs;
@@ -117,35 +108,25 @@ module _ {K V : Type 0} {LEN : ℕ} {cmp : K → K → Ordering} (o : IsTotalOrd
       more = omega (arith, length-append (spend cmp leaf.array.arrivals key) (Some (key, val) ∷ []), length-map leaf.array.arrivals (spent_at cmp key))
 
   -- what an array answers of an insert, of its leaf
-  pub inserts_in_leaf : (result : StoreResult K V) → IsStore cmp LEN upsert leaf.array key val result array → InsertsUnder cmp upsert 0 a new id (Ok result) key val
+  pub inserts_in_leaf : (result : StoreResult K V) → IsStore cmp LEN upsert leaf.array key val result array
+      → InsertsUnder cmp upsert 0 a new id (Ok result) key val
   inserts_in_leaf New ins = success New refl refl refl (ins.1, rw ins.0.new_is refl) ins.0
   inserts_in_leaf Replaced ins = success Replaced refl refl refl (ins.1, ins.2, rw ins.0.new_is refl) ins.0
-  inserts_in_leaf (Duplicate k v) ins = record {
-    pairs = rw (walk_was, walk_is) (ins.only_insert, ins.present, ins.back.same_key, ins.back.same_val, ap (λ (x : Arrivals K V). x.entries) ins.back.new_is);
-    stands = λ low high above up_to s. kept ins.back.new_is low high s;
-    replaces = array_replaces a id leaf array was;
-    lowers = as_spare ins.back.new_is;
-    spent = λ so deep. absurd (cc);
-    full = λ so. absurd (cc);
-    divided = tt;
-    unchanged = λ so. nothing_changed ins.back.new_is;
-    packed = λ so. absurd (cc);
-  }
-  inserts_in_leaf (Full k v) ins = record {
-    pairs = rw (walk_was, walk_is) (ins.absent, ins.back.same_key, ins.back.same_val, ap (λ (x : Arrivals K V). x.entries) ins.back.new_is);
-    stands = λ low high above up_to s. kept ins.back.new_is low high s;
-    replaces = array_replaces a id leaf array was;
-    lowers = as_spare ins.back.new_is;
-    spent = λ so deep. absurd (omega (arith, deep refl));
-    full = λ so. room_was ∙ no_room ins.full;
-    divided = tt;
-    unchanged = λ so. nothing_changed ins.back.new_is;
-    packed = λ so. absurd (cc);
-  }
+  inserts_in_leaf (Duplicate k v) ins =
+      let back = ins.back in
+      changes_nothing upsert a new (nothing_changed back.new_is) 0 id key val (Ok (Duplicate k v)) refl
+      (rw walk_was (ins.only_insert, ins.present, back.same_key, back.same_val, refl))
+      (λ so deep. absurd (cc)) (λ so. absurd (cc)) tt
+  inserts_in_leaf (Full k v) ins =
+      let back = ins.back in
+      changes_nothing upsert a new (nothing_changed back.new_is) 0 id key val (Ok (Full k v)) refl
+      (rw walk_was (ins.absent, back.same_key, back.same_val, refl))
+      (λ so deep. absurd (omega (arith, deep refl))) (λ so. room_was ∙ none_free LEN leaf.array ins.full) tt
 
 module _ {K V : Type 0} {cmp : K → K → Ordering} (o : IsTotalOrder cmp) (upsert : Bool) (key : K) (val : V) (front old new back : List (K × V))
     (smaller : AllByRecursion (λ p. cmp p.0 key ≡ Less) front) (larger : AllLarger cmp key back) where
-  pub inserted_between : (result : Result (StoreResult K V) (K × V)) → Inserts cmp upsert result old key val new → Inserts cmp upsert result (front ++ (old ++ back)) key val (front ++ (new ++ back))
+  pub inserted_between : (result : Result (StoreResult K V) (K × V)) → Inserts cmp upsert result old key val new
+      → Inserts cmp upsert result (front ++ (old ++ back)) key val (front ++ (new ++ back))
   inserted_between (Ok New) ins =
       (found_between o key front old back smaller larger ∙ ins.0, rw (put_between o key front old back smaller larger val, ins.1) refl)
   inserted_between (Ok Replaced) ins =
@@ -157,7 +138,8 @@ module _ {K V : Type 0} {cmp : K → K → Ordering} (o : IsTotalOrder cmp) (ups
   inserted_between (Err pair) ins =
       (λ first. found_between o key front old back smaller larger ∙ ins.0 first, ins.1, ins.2, rw ins.3 refl)
 
-module _ {K V : Type 0} {LEN : ℕ} {cmp : K → K → Ordering} (o : IsTotalOrder cmp) (upsert : Bool) (level : ℕ) (old new : TreeArenas K V LEN) (id child : ℕ) (key : K) (val : V) where
+module _ {K V : Type 0} {LEN : ℕ} {cmp : K → K → Ordering} (o : IsTotalOrder cmp) (upsert : Bool) (level : ℕ) (old new : TreeArenas K V LEN) (id child : ℕ)
+    (key : K) (val : V) where
   -- an insert in the child, which asks for no split, is one in the node
   pub inserts_in_node : (result : Result (StoreResult K V) (K × V)) → IsPart cmp (suc level) old id → HasChildFor cmp key (get old.nodes id) child
       → InsertsUnder cmp upsert level old new child result key val → asks_split result ≡ false → InsertsUnder cmp upsert (suc level) old new id result key val

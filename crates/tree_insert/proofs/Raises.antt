@@ -105,14 +105,16 @@ module _ {K V : Type 0} {LEN : ℕ} {cmp : K → K → Ordering} (level : ℕ) (
     edge = same_packed cmp beyond (suc level) old mid root agrees e;
   }
 
-  raises : IsLen LEN → (new : TreeArenas K V LEN) → SplitsChild cmp (suc (suc level)) mid new id root → ((n : ℕ) → get new.leaves n ≡ get mid.leaves n) → RaisesRoot cmp (suc level) old new root id
+  raises : IsLen LEN → (new : TreeArenas K V LEN) → SplitsChild cmp (suc (suc level)) mid new id root → ((n : ℕ) → get new.leaves n ≡ get mid.leaves n)
+      → RaisesRoot cmp (suc level) old new root id
   raises is_len new split others = record {
     pairs = split.pairs ∙ top_walk;
     stands = split.keeps None None top_stands;
     nodes_kept = λ n used outside.
         let differs : n ≡ id → ⊥ = λ at_id. let none : get old.nodes n ≡ None = rw at_id was_free in let gone = rw none at used in cc in
         split.replaces.nodes_kept n (rw (nodes_stay n differs) used)
-        (omega (arith, outside, ap (times n) (single_nodes (suc (suc level)) mid.nodes id), ap (times n) top_nodes, times-cons n id (nodes_at (suc level) old.nodes root), none_here n id differs))
+        (omega (arith, outside, ap (times n) (single_nodes (suc (suc level)) mid.nodes id), ap (times n) top_nodes,
+        times-cons n id (nodes_at (suc level) old.nodes root), none_here n id differs))
         ∙ nodes_stay n differs;
     leaves_kept = λ n. others n ∙ leaves_stay n;
     nodes_counted = λ n.
@@ -135,7 +137,8 @@ module _ {K V : Type 0} {LEN : ℕ} {cmp : K → K → Ordering} (level : ℕ) (
           uses_same old.leaves mid.leaves n (ap is_some (leaves_stay n)),
         );
     chained = λ front back chain.
-        rw (single_leaves (suc (suc level)) new.nodes id) at (split.replaces.chained front back (rw (single_leaves (suc (suc level)) mid.nodes id, top_leaves) (chain_same old.leaves mid.leaves leaves_stay _ chain)));
+        rw (single_leaves (suc (suc level)) new.nodes id) at (split.replaces.chained front back
+        (rw (single_leaves (suc (suc level)) mid.nodes id, top_leaves) (chain_same old.leaves mid.leaves leaves_stay _ chain)));
     roomy = omega (arith, split.spends, top_room is_len);
     packed = λ beyond none e.
         let more = split.packed beyond (rw gains.updates.changed last) (rw sub-one (room_stays none)) (top_packed beyond e) in
@@ -143,23 +146,22 @@ module _ {K V : Type 0} {LEN : ℕ} {cmp : K → K → Ordering} (level : ℕ) (
     routed = λ key child which. rw sub-one at (split.routed key (rw (gains.updates.changed, last, keyed_none) refl) child which);
   }
 
--- the same where the depth is a number of the program
-module _ {K V : Type 0} {LEN : ℕ} {cmp : K → K → Ordering} where
-  pub top_part_at : (depth : ℕ) → 0 < depth → (old reserved mid : TreeArenas K V LEN) (root id : ℕ) (top : BranchOf K ℕ LEN) → IsPart cmp depth old root → KeepsBoth old reserved → Gains reserved.nodes mid.nodes id (Internal top) → mid.leaves ≡ reserved.leaves
-      → top.children ≡ in_order [] → top.unbounded_child ≡ Some root → IsPart cmp (depth + 1) mid id × (0 < times root (children_of mid.nodes id))
-  top_part_at zero deep old reserved mid root id top part keeps gains leaves keyed_none last = absurd (omega (arith, deep))
-  top_part_at (suc level) deep old reserved mid root id top part keeps gains leaves keyed_none last =
-      (rw add-one (top_part level old reserved mid root id top part keeps gains leaves keyed_none last), root_inside level old reserved mid root id top part keeps gains leaves keyed_none last)
+-- A new root over the old one, whose depth is a number of the program, and what a split under it makes.
+pub record RaisedTop {K V : Type 0} {LEN : ℕ} (cmp : K → K → Ordering) (depth above : ℕ) (old mid : TreeArenas K V LEN) (root id : ℕ) : Type 0 where
+  pub part : IsPart cmp above mid id
+  pub inside : 0 < times root (children_of mid.nodes id)
+  pub roomy : room above mid id ≡ 0 → ⊥
+  pub raises : (new : TreeArenas K V LEN) → SplitsChild cmp above mid new id root → ((n : ℕ) → get new.leaves n ≡ get mid.leaves n)
+      → RaisesRoot cmp depth old new root id
 
-  pub top_room_at : (depth : ℕ) → 0 < depth → (old reserved mid : TreeArenas K V LEN) (root id : ℕ) (top : BranchOf K ℕ LEN) → IsPart cmp depth old root → KeepsBoth old reserved → Gains reserved.nodes mid.nodes id (Internal top) → mid.leaves ≡ reserved.leaves
-      → top.children ≡ in_order [] → top.unbounded_child ≡ Some root → IsLen LEN → room (depth + 1) mid id ≡ 0 → ⊥
-  top_room_at zero deep old reserved mid root id top part keeps gains leaves keyed_none last is_len none = omega (arith, deep)
-  top_room_at (suc level) deep old reserved mid root id top part keeps gains leaves keyed_none last is_len none =
-      let some = top_room level old reserved mid root id top part keeps gains leaves keyed_none last is_len in
-      let zero_room : room (suc (suc level)) mid id ≡ 0 = rw add-one at none in
-      omega (arith, some, zero_room)
-
-  pub raises_at : (depth : ℕ) → 0 < depth → (old reserved mid : TreeArenas K V LEN) (root id : ℕ) (top : BranchOf K ℕ LEN) → IsPart cmp depth old root → KeepsBoth old reserved → Gains reserved.nodes mid.nodes id (Internal top) → mid.leaves ≡ reserved.leaves
-      → top.children ≡ in_order [] → top.unbounded_child ≡ Some root → IsLen LEN → (new : TreeArenas K V LEN) → SplitsChild cmp (depth + 1) mid new id root → ((n : ℕ) → get new.leaves n ≡ get mid.leaves n) → RaisesRoot cmp depth old new root id
-  raises_at zero deep old reserved mid root id top part keeps gains leaves keyed_none last is_len new split others = absurd (omega (arith, deep))
-  raises_at (suc level) deep old reserved mid root id top part keeps gains leaves keyed_none last is_len new split others = raises level old reserved mid root id top part keeps gains leaves keyed_none last is_len new (rw add-one at split) others
+pub raised_top : {K V : Type 0} {LEN : ℕ} {cmp : K → K → Ordering} (depth : ℕ) {old : TreeArenas K V LEN} (reserved mid : TreeArenas K V LEN)
+    {root id : ℕ} {top : BranchOf K ℕ LEN} → 0 < depth → IsLen LEN → IsPart cmp depth old root → KeepsBoth old reserved
+    → Gains reserved.nodes mid.nodes id (Internal top) → mid.leaves ≡ reserved.leaves → top.children ≡ in_order [] → top.unbounded_child ≡ Some root
+    → RaisedTop cmp depth (depth + 1) old mid root id
+raised_top zero reserved mid deep len part keeps gains leaves none last = absurd (omega (arith, deep))
+raised_top {LEN = LEN} (suc level) {old} reserved mid {root} {id} {top} deep len part keeps gains leaves none last = rw (add-one (suc level)) (record {
+  part = top_part level old reserved mid root id top part keeps gains leaves none last;
+  inside = root_inside level old reserved mid root id top part keeps gains leaves none last;
+  roomy = λ full. let some = top_room level old reserved mid root id top part keeps gains leaves none last len in omega (arith, some, full);
+  raises = raises level old reserved mid root id top part keeps gains leaves none last len;
+})

@@ -1,10 +1,12 @@
 -- An insert that starts again where nothing has changed.
-use Rattle.std.proofs.Common.{◌≡◌, ℕ, Bool, [], ◌∷◌, Some, Result, Ok, refl, ap, arith, Ordering}
+use Rattle.std.proofs.Common.{◌≡◌, ℕ, ◌<◌, Bool, true, false, [], ◌∷◌, Some, Result, Ok, refl, sym, ap, ◌∙◌, arith, Ordering}
+use Rattle.std.specs.Result.{OnErr}
 use Rattle.tree_array.specs.declared.answers.StoreResult.{StoreResult}
 use Rattle.tree_array.specs.declared.answers.StoreResult.TheVariants.{Full}
-use Rattle.tree_node.proofs.Common.{TreeArenas, IsPart, Unchanged, found_keyed, spare}
+use Rattle.tree_node.proofs.Common.{TreeArenas, IsPart, Unchanged, found_keyed, spare, walk}
 use Rattle.std.proofs.lemmas.Result.{on_err_weaker}
-use Rattle.tree_insert.specs.Inserts.{InsertsUnder}
+use Rattle.tree_insert.specs.Inserts.{HasToDivide, Inserts, InsertsUnder, asks_split, refused, stores}
+use Rattle.tree_node.specs.Shape.{IsCrowded}
 use Rattle.tree_insert.proofs.Crowded.{crowded_still, divides_still}
 use Rattle.tree_node.proofs.Frames.{Agrees, same_stands, same_walk}
 use Rattle.tree_node.proofs.Spares.{same_spare}
@@ -12,10 +14,32 @@ use Rattle.tree_node.proofs.Steps.{replaces_trans}
 use Rattle.tree_node.proofs.Unchanged.{unchanged_agrees, unchanged_part, unchanged_replaces, unchanged_trans}
 use Rattle.tree_split.proofs.Edges.{same_packed}
 
+module _ {K V : Type 0} {LEN : ℕ} {cmp : K → K → Ordering} (upsert : Bool) (old new : TreeArenas K V LEN) (same : Unchanged old new) (level id : ℕ) (key : K)
+    (val : V) where
+  -- the pair comes back, and all is what it was
+  pub changes_nothing : (result : Result (StoreResult K V) (K × V)) → stores result ≡ false
+      → Inserts cmp upsert result (walk level old id) key val (walk level old id)
+      → (refused result ≡ true → (asks_split result ≡ true → 0 < level) → spare level old id ≡ 0) → (asks_split result ≡ true → IsCrowded cmp level old id key)
+      → OnErr result (HasToDivide cmp level old id key) → InsertsUnder cmp upsert level old new id result key val
+  changes_nothing result back pairs spent full divided =
+      let agrees : Agrees level old new id = unchanged_agrees level old new same id in
+      record {
+        pairs = rw (same_walk level old new id agrees) pairs;
+        stands = λ low high above up_to s. same_stands cmp level old new id agrees low high s;
+        replaces = unchanged_replaces level old new same (id ∷ []);
+        lowers = omega (arith, same_spare level old new id agrees);
+        spent = spent;
+        full = full;
+        divided = divided;
+        unchanged = λ so. same;
+        packed = λ so. absurd (let both = sym so ∙ back in cc);
+      }
+
 module _ {K V : Type 0} {LEN : ℕ} {cmp : K → K → Ordering} (upsert : Bool) (old mid : TreeArenas K V LEN) (key : K) (val : V) where
   module _ (same : Unchanged old mid) (level id : ℕ) where
     -- it is one from the arenas that were there before
-    pub inserts_before : (new : TreeArenas K V LEN) (result : Result (StoreResult K V) (K × V)) → InsertsUnder cmp upsert level mid new id result key val → InsertsUnder cmp upsert level old new id result key val
+    pub inserts_before : (new : TreeArenas K V LEN) (result : Result (StoreResult K V) (K × V)) → InsertsUnder cmp upsert level mid new id result key val
+        → InsertsUnder cmp upsert level old new id result key val
     inserts_before new result ins =
         let agrees : Agrees level old mid id = unchanged_agrees level old mid same id in
         let spares : spare level mid id ≡ spare level old id = same_spare level old mid id agrees in
@@ -38,7 +62,8 @@ module _ {K V : Type 0} {LEN : ℕ} {cmp : K → K → Ordering} (upsert : Bool)
     pub part_still : IsPart cmp level old id → IsPart cmp level mid id
     part_still part = unchanged_part level old mid (full.unchanged refl) cmp id part
 
-    pub inserts_from_top : (new : TreeArenas K V LEN) (result : Result (StoreResult K V) (K × V)) → InsertsUnder cmp upsert level mid new id result k v → InsertsUnder cmp upsert level old new id result key val
+    pub inserts_from_top : (new : TreeArenas K V LEN) (result : Result (StoreResult K V) (K × V)) → InsertsUnder cmp upsert level mid new id result k v
+        → InsertsUnder cmp upsert level old new id result key val
     inserts_from_top new result ins =
         let pairs = full.pairs in
         let again : InsertsUnder cmp upsert level mid new id result key val = rw (pairs.1, pairs.2) at ins in

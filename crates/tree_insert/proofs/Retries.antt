@@ -17,6 +17,7 @@ use Rattle.tree_node.proofs.Frames.{same_stands, same_walk}
 use Rattle.tree_insert.proofs.Crowded.{child_divides, crowded_above, crowded_room, divides_before}
 use Rattle.tree_insert.proofs.Attempts.{attempts, not_crowded, one_attempt, two_attempts}
 use Rattle.tree_insert.proofs.Inserts.{inserted_between, inserts_in_node}
+use Rattle.tree_insert.proofs.Restarts.{changes_nothing}
 use Rattle.tree_node.proofs.LeafSpares.{leaf_spent}
 use Rattle.tree_node.proofs.NodeKinds.{some_child}
 use Rattle.tree_node.proofs.Spares.{same_spare}
@@ -46,7 +47,8 @@ accepted cmp upsert pairs left key val absent (Ok (Duplicate k v)) ins no_split 
 accepted cmp upsert pairs left key val absent (Ok (Full k v)) ins no_split = absurd (cc)
 accepted cmp upsert pairs left key val absent (Err pair) ins no_split = refl
 
-module _ {K V : Type 0} {LEN : ℕ} {cmp : K → K → Ordering} (upsert : Bool) (level : ℕ) (old mid : TreeArenas K V LEN) (id child : ℕ) (key : K) (val : V) (k : K) (v : V) (below : IsFullBelow cmp upsert level old mid id child key val k v) where
+module _ {K V : Type 0} {LEN : ℕ} {cmp : K → K → Ordering} (upsert : Bool) (level : ℕ) (old mid : TreeArenas K V LEN) (id child : ℕ) (key : K) (val : V)
+    (k : K) (v : V) (below : IsFullBelow cmp upsert level old mid id child key val k v) where
   none_spare : limit LEN < held (level - 1) mid child → spare level old id ≡ 0
   none_spare many = below.spent (rw (unchanged_held (level - 1) old mid below.same child) at many)
 
@@ -55,42 +57,26 @@ module _ {K V : Type 0} {LEN : ℕ} {cmp : K → K → Ordering} (upsert : Bool)
     whole : Unchanged old new
     whole = unchanged_trans old mid new below.same still
 
-    pairs_same : walk level new id ≡ walk level old id
-    pairs_same = same_walk level old new id (unchanged_agrees level old new whole id)
-
     -- memory was refused
     pub refused_room : 0 < level → limit LEN < held (level - 1) mid child → InsertsUnder cmp upsert level old new id (Err (k, v)) key val
-    refused_room deep many = record {
-      pairs = (below.absent, below.same_key, below.same_val, pairs_same);
-      stands = λ low high above up_to s. same_stands cmp level old new id (unchanged_agrees level old new whole id) low high s;
-      replaces = unchanged_replaces level old new whole (id ∷ []);
-      lowers = omega (arith, none_spare many);
-      spent = λ so deep. none_spare many;
-      full = λ so. absurd (cc);
-      divided = child_divides cmp level deep old id child key below.which (crowded_room cmp (level - 1) old child key below.crowded) (rw (unchanged_held (level - 1) old mid below.same child) at many);
-      unchanged = λ so. absurd (cc);
-      packed = λ so. absurd (cc);
-    }
+    refused_room deep many =
+        let too_many = rw (unchanged_held (level - 1) old mid below.same child) at many in
+        changes_nothing upsert old new whole level id key val (Err (k, v)) refl (below.absent, below.same_key, below.same_val, refl)
+        (λ so deep. none_spare many) (λ so. absurd (cc))
+        (child_divides cmp level deep old id child key below.which (crowded_room cmp (level - 1) old child key below.crowded) too_many)
 
     still_full : IsCrowded cmp level old id key → limit LEN < held (level - 1) mid child → InsertsUnder cmp upsert level old new id (Ok (Full k v)) key val
-    still_full crowded many = record {
-      pairs = (below.absent, below.same_key, below.same_val, pairs_same);
-      stands = λ low high above up_to s. same_stands cmp level old new id (unchanged_agrees level old new whole id) low high s;
-      replaces = unchanged_replaces level old new whole (id ∷ []);
-      lowers = omega (arith, none_spare many);
-      spent = λ so deep. none_spare many;
-      full = λ so. crowded;
-      divided = tt;
-      unchanged = λ so. whole;
-      packed = λ so. absurd (cc);
-    }
+    still_full crowded many =
+        changes_nothing upsert old new whole level id key val (Ok (Full k v)) refl (below.absent, below.same_key, below.same_val, refl)
+        (λ so deep. none_spare many) (λ so. crowded) tt
 
   -- the child is there still, for the key that came back
   pub which_still : HasChildFor cmp k (get mid.nodes id) child
   which_still = rw (below.same_key, below.same.nodes id) below.which
 
   -- the node takes no child more itself
-  pub no_room_either : 0 < level → (new : TreeArenas K V LEN) → LacksRoom level mid new id child → InsertsUnder cmp upsert level old new id (Ok (Full k v)) key val
+  pub no_room_either : 0 < level → (new : TreeArenas K V LEN) → LacksRoom level mid new id child
+      → InsertsUnder cmp upsert level old new id (Ok (Full k v)) key val
   no_room_either deep new lacks =
       still_full new lacks.unchanged
       (crowded_above cmp level deep old id child key
@@ -98,8 +84,8 @@ module _ {K V : Type 0} {LEN : ℕ} {cmp : K → K → Ordering} (upsert : Bool)
       lacks.many
 
   -- room was made, and the pair inserted
-  inserted_again : 0 < level → (made new : TreeArenas K V LEN) (result : Result (StoreResult K V) (K × V)) → HasMadeRoom cmp level mid made id key → InsertsUnder cmp upsert level made new id result key val → asks_split result ≡ false
-      → InsertsUnder cmp upsert level old new id result key val
+  inserted_again : 0 < level → (made new : TreeArenas K V LEN) (result : Result (StoreResult K V) (K × V)) → HasMadeRoom cmp level mid made id key
+      → InsertsUnder cmp upsert level made new id result key val → asks_split result ≡ false → InsertsUnder cmp upsert level old new id result key val
   inserted_again deep made new result roomy ins no_split =
       let walked : walk level made id ≡ walk level old id = roomy.pairs ∙ same_walk level old mid id (unchanged_agrees level old mid below.same id) in
       let pairs : Inserts cmp upsert result (walk level old id) key val (walk level new id) = rw (← walked) ins.pairs in
@@ -138,7 +124,8 @@ module _ {K V : Type 0} {LEN : ℕ} {cmp : K → K → Ordering} (upsert : Bool)
     part_with_room = part_after cmp level mid made id below.part (room_made.stands None None tt tt below.part.stands) room_made.replaces
 
     -- and the pair is inserted there, by an insert that asks for no split
-    pub retried : (new : TreeArenas K V LEN) (result : Result (StoreResult K V) (K × V)) → InsertsUnder cmp upsert level made new id result k v → InsertsUnder cmp upsert level old new id result key val
+    pub retried : (new : TreeArenas K V LEN) (result : Result (StoreResult K V) (K × V)) → InsertsUnder cmp upsert level made new id result k v
+        → InsertsUnder cmp upsert level old new id result key val
     retried new result inserts =
         let ins : InsertsUnder cmp upsert level made new id result key val = rw (below.same_key, below.same_val) at inserts in
         inserted_again deep made new result room_made ins (false_from_ne_true (asks_split result) (λ asks. not_crowded cmp level deep made id key room_made.child (ins.full asks)))
@@ -158,7 +145,8 @@ held_above a id (suc zero) deep = absurd (omega (arith, deep))
 held_above a id (suc (suc level)) deep = rw sub-one refl
 
 -- a split of the key's child makes room for the key
-pub room_by_split : {K V : Type 0} {LEN : ℕ} {cmp : K → K → Ordering} {level : ℕ} {old new : TreeArenas K V LEN} {id child : ℕ} (key : K) → 0 < level → SplitsChild cmp level old new id child → HasChildFor cmp key (get old.nodes id) child → HasMadeRoom cmp level old new id key
+pub room_by_split : {K V : Type 0} {LEN : ℕ} {cmp : K → K → Ordering} {level : ℕ} {old new : TreeArenas K V LEN} {id child : ℕ} (key : K) → 0 < level
+    → SplitsChild cmp level old new id child → HasChildFor cmp key (get old.nodes id) child → HasMadeRoom cmp level old new id key
 room_by_split {cmp = cmp} {level = level} {old = old} {id = id} {child = child} key deep split which = record {
   pairs = split.pairs;
   stands = λ low high above up_to s. split.keeps low high s;
@@ -172,9 +160,11 @@ room_by_split {cmp = cmp} {level = level} {old = old} {id = id} {child = child} 
       split.packed (Some key) at_child (rw same at none) e;
 }
 
-module _ {K V : Type 0} {LEN : ℕ} {cmp : K → K → Ordering} (o : IsTotalOrder cmp) (upsert : Bool) (level : ℕ) (old new : TreeArenas K V LEN) (id child : ℕ) (key : K) (val : V) where
+module _ {K V : Type 0} {LEN : ℕ} {cmp : K → K → Ordering} (o : IsTotalOrder cmp) (upsert : Bool) (level : ℕ) (old new : TreeArenas K V LEN) (id child : ℕ)
+    (key : K) (val : V) where
   -- the child answered that it is full
-  pub full_below : (k : K) (v : V) → IsPart cmp (suc level) old id → HasChildFor cmp key (get old.nodes id) child → InsertsUnder cmp upsert level old new child (Ok (Full k v)) key val → IsFullBelow cmp upsert (suc level) old new id child key val k v
+  pub full_below : (k : K) (v : V) → IsPart cmp (suc level) old id → HasChildFor cmp key (get old.nodes id) child
+      → InsertsUnder cmp upsert level old new child (Ok (Full k v)) key val → IsFullBelow cmp upsert (suc level) old new id child key val k v
   full_below k v part which ins =
       let s : Stands cmp (suc level) old None id None = part.stands in
       let pairs : Inserts cmp upsert (Ok (Full k v)) (walk (suc level) old id) key val (walk (suc level) new id) =
@@ -191,22 +181,22 @@ module _ {K V : Type 0} {LEN : ℕ} {cmp : K → K → Ordering} (o : IsTotalOrd
         part = unchanged_part (suc level) old new (ins.unchanged refl) cmp id part;
       }
     where
-      spent_below : (level : ℕ) → InsertsUnder cmp upsert level old new child (Ok (Full k v)) key val → limit LEN < held level old child → spare level old child ≡ 0
+      spent_below : (level : ℕ) → InsertsUnder cmp upsert level old new child (Ok (Full k v)) key val → limit LEN < held level old child
+          → spare level old child ≡ 0
       spent_below zero ins many = leaf_spent old child (ins.full refl) many
       spent_below (suc level) ins many = ins.spent refl (λ asks. omega arith)
 
 -- the same where the level is a number of the program
 module _ {K V : Type 0} {LEN : ℕ} {cmp : K → K → Ordering} (o : IsTotalOrder cmp) (upsert : Bool) where
-  pub full_below_at : (level : ℕ) → 0 < level → (old new : TreeArenas K V LEN) (id child : ℕ) (key : K) (val : V) (k : K) (v : V) → IsPart cmp level old id → HasChildFor cmp key (get old.nodes id) child
-      → InsertsUnder cmp upsert (level - 1) old new child (Ok (Full k v)) key val → IsFullBelow cmp upsert level old new id child key val k v
+  pub full_below_at : (level : ℕ) → 0 < level → (old new : TreeArenas K V LEN) (id child : ℕ) (key : K) (val : V) (k : K) (v : V) → IsPart cmp level old id
+      → HasChildFor cmp key (get old.nodes id) child → InsertsUnder cmp upsert (level - 1) old new child (Ok (Full k v)) key val
+      → IsFullBelow cmp upsert level old new id child key val k v
   full_below_at zero deep old new id child key val k v part which ins = absurd (omega (arith, deep))
   full_below_at (suc level) deep old new id child key val k v part which ins = full_below o upsert level old new id child key val k v part which (rw sub-one at ins)
 
-  pub inserts_in_node_at : (level : ℕ) → 0 < level → (old new : TreeArenas K V LEN) (id child : ℕ) (key : K) (val : V) (result : Result (StoreResult K V) (K × V)) → IsPart cmp level old id → HasChildFor cmp key (get old.nodes id) child
-      → InsertsUnder cmp upsert (level - 1) old new child result key val → asks_split result ≡ false → InsertsUnder cmp upsert level old new id result key val
+  pub inserts_in_node_at : (level : ℕ) → 0 < level
+      → (old new : TreeArenas K V LEN) (id child : ℕ) (key : K) (val : V) (result : Result (StoreResult K V) (K × V)) → IsPart cmp level old id
+      → HasChildFor cmp key (get old.nodes id) child → InsertsUnder cmp upsert (level - 1) old new child result key val → asks_split result ≡ false
+      → InsertsUnder cmp upsert level old new id result key val
   inserts_in_node_at zero deep old new id child key val result part which ins no_split = absurd (omega (arith, deep))
   inserts_in_node_at (suc level) deep old new id child key val result part which ins no_split = inserts_in_node o upsert level old new id child key val result part which (rw sub-one at ins) no_split
-
-pub child_part_at : {K V : Type 0} {LEN : ℕ} {cmp : K → K → Ordering} → IsTotalOrder cmp → (level : ℕ) → 0 < level → (a : TreeArenas K V LEN) (id child : ℕ) (key : K) → IsPart cmp level a id → HasChildFor cmp key (get a.nodes id) child → IsPart cmp (level - 1) a child
-child_part_at o zero deep a id child key part which = absurd (omega (arith, deep))
-child_part_at o (suc level) deep a id child key part which = rw sub-one (child_part o level a id child key part which None None part.stands)
