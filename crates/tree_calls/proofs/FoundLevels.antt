@@ -48,8 +48,16 @@ found_part cmp a id level found inner low up (inr retired) = inr (retired_too a 
 module _ {K V : Type 0} {LEN : ℕ} (cmp : K → K → Ordering) (a : TreeArenas K V LEN) (id level found : ℕ) where
   pub is_found : 0 < level → (Stands cmp level a None id None → found ≡ level) → (IsRetired level a id → found ≡ 1) → StandsOrRetired cmp level a id
       → IsFound cmp a id level found
-  is_found above up one (inl s) = let same = up s in record { above = above; inner = rw same above; le = omega (arith, same); up = up; one = one; stands =
-      rw same (inl s); leaves = rw same refl }
+  is_found above up one (inl s) = let same = up s in record {
+    above = above;
+    inner = rw same above;
+    le = omega (arith, same);
+    up = up;
+    one = one;
+    stands =
+        rw same (inl s);
+    leaves = rw same refl;
+  }
   is_found above up one (inr r) =
       let same = one r in
       let lowest : IsRetired 1 a id = retired_too a id level 1 above (omega arith) r in

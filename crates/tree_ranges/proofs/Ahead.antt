@@ -152,7 +152,12 @@ module _ {X : Type 0} (test : X → Bool) where
       by_found : (found : Option ℕ) → ComesTo Back test xs unopened (end_at found) → (b : Bool) → test x ≡ b
           → ComesTo Back test (x ∷ xs) unopened (end_at (option_or (option_map (λ i. suc i) found) (if b then Some 0 else None)))
       by_found None again true told = record {
-        skipped = ahead_of Back xs unopened; item = x; here = refl; fails = again; parts = reverse_onto (take (length xs) xs) x []; passes = λ new. told;
+        skipped = ahead_of Back xs unopened;
+        item = x;
+        here = refl;
+        fails = again;
+        parts = reverse_onto (take (length xs) xs) x [];
+        passes = λ new. told;
       }
       by_found None again false told = rw (reverse_onto (take (length xs) xs) x []) (all-append _ (reverse (take (length xs) xs)) (x ∷ []) again (told, tt))
       by_found (Some j) again b told = record {
@@ -171,7 +176,7 @@ module _ {X : Type 0} (test : X → Bool) where
     | inl inner ↦
         let next = there_is xs (i + 1) inner in
         rw (lt-ltb (i + 1) (length xs) inner) (one_on On test xs i (i + 1) next.0 next.1
-            (step_takes On xs (Some i) (Some (i + 1)) next.0 (omega arith, next.1, refl)))
+        (step_takes On xs (Some i) (Some (i + 1)) next.0 (omega arith, next.1, refl)))
     | inr past ↦ rw (le-ltb (i + 1) (length xs) past, drop_all (i + 1) xs past) tt
   ]
   beside_comes Back xs zero held = tt

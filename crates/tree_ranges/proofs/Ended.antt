@@ -32,7 +32,7 @@ module _ {K V : Type 0} {cmp : K → K → Ordering} (o : IsTotalOrder cmp) wher
   IsOverAt way test l unopened other = ⊥
   IsOverAt way test l (at_place j) other =
       ((option_where test (slice_get l j) ≡ None) × Fails test (ahead_of way l (at_place j))) ⊎ (left way (length l) (at_place j) + left (opposite way)
-          (length l) other < length l)
+      (length l) other < length l)
   IsOverAt way test l exhausted other = Unit {0}
 
   -- the end of the way will answer no pair more
@@ -84,12 +84,12 @@ module _ {K V : Type 0} {cmp : K → K → Ordering} (o : IsTotalOrder cmp) wher
   over_from way bound l begins old exhausted other ascending to none = tt
   over_from way bound l begins old (at_place j) other ascending to none =
       elim (cases_lt (left way (length l) (at_place j) + left (opposite way) (length l) other) (length l)) [
-    | inl met ↦ inr met
-    | inr le ↦
-        let lt = slice_get_within l j to.item to.here in
-        let hidden = rw (apart_is way (length l) j other lt, le-leb (length l) _ le) at none in
-        inl (hidden, all_fail o way bound l j to.item ascending to.here (missed _ to.item (rw to.here at hidden)))
-  ]
+        | inl met ↦ inr met
+        | inr le ↦
+            let lt = slice_get_within l j to.item to.here in
+            let hidden = rw (apart_is way (length l) j other lt, le-leb (length l) _ le) at none in
+            inl (hidden, all_fail o way bound l j to.item ascending to.here (missed _ to.item (rw to.here at hidden)))
+      ]
     where
       missed : (b : Bool) (x : K × V) → if◌then◌else◌ {A = Option (K × V)} b (Some x) None ≡ None → b ≡ false
       missed true x is = absurd (cc)
@@ -98,10 +98,16 @@ module _ {K V : Type 0} {cmp : K → K → Ordering} (o : IsTotalOrder cmp) wher
   -- a cursor with such an end isn't flipped
   not_flipped : (way : Way) (c : Cursor K V) → is_unopened (end_on way c) ≡ false
       → (is_unopened (end_on (opposite way) c) ≡ true → is_some (shown cmp way c) ≡ false) → flipped cmp c ≡ c
-  not_flipped On c opened hides = elim (cases_Bool (is_unopened c.backward)) [ inl new ↦ sym
-      (one_flipped cmp c false true opened new (hides new)).0 | inr other ↦ sym (same_flipped cmp c false opened other).0 ]
-  not_flipped Back c opened hides = elim (cases_Bool (is_unopened c.forward)) [ inl new ↦ sym
-      (one_flipped cmp c true true new opened (hides new)).0 | inr other ↦ sym (same_flipped cmp c false other opened).0 ]
+  not_flipped On c opened hides = elim (cases_Bool (is_unopened c.backward)) [
+    | inl new ↦ sym
+        (one_flipped cmp c false true opened new (hides new)).0
+    | inr other ↦ sym (same_flipped cmp c false opened other).0
+  ]
+  not_flipped Back c opened hides = elim (cases_Bool (is_unopened c.forward)) [
+    | inl new ↦ sym
+        (one_flipped cmp c true true new opened (hides new)).0
+    | inr other ↦ sym (same_flipped cmp c false other opened).0
+  ]
 
   over_flip : (way : Way) (c : Cursor K V) → IsOver way c → flipped cmp c ≡ c
   over_flip way c over = by_own (end_on way c) refl over
@@ -169,9 +175,10 @@ module _ {K V : Type 0} {cmp : K → K → Ordering} (o : IsTotalOrder cmp) wher
 
   all_none : (way : Way) (moves : List Move) (c : Cursor K V) → IsSound c → IsOver way c → AllNone (move_on way) moves (answers cmp moves c)
   all_none way [] c sound over = tt
-  all_none way (m ∷ moves) c sound over =
-      (λ is. rw is ((own_move way c).0 ∙ ap pair (told_over way c sound over)),
-          all_none way moves (after cmp m c) (sound_after m c sound) (over_after way m c sound over))
+  all_none way (m ∷ moves) c sound over = (
+    λ is. rw is ((own_move way c).0 ∙ ap pair (told_over way c sound over)),
+    all_none way moves (after cmp m c) (sound_after m c sound) (over_after way m c sound over),
+  )
 
   -- a None of this end is followed by no pair of it
   over_then : (way : Way) (c : Cursor K V) → IsSound c → shown_apart cmp way (moved cmp way c) ≡ None → IsOver way (moved cmp way c)
@@ -184,10 +191,13 @@ module _ {K V : Type 0} {cmp : K → K → Ordering} (o : IsTotalOrder cmp) wher
 
   ended : (way : Way) (moves : List Move) (c : Cursor K V) → IsSound c → Ended (move_on way) moves (answers cmp moves c)
   ended way [] c sound = tt
-  ended way (m ∷ moves) c sound = (λ is none.
-      let mine = own_move way c in
-      let over = over_then way c sound (told_none _ (sym mine.0 ∙ rw is at none)) in
-      all_none way moves (after cmp m c) (sound_after m c sound) (rw (is, mine.1) over), ended way moves (after cmp m c) (sound_after m c sound))
+  ended way (m ∷ moves) c sound = (
+    λ is none.
+        let mine = own_move way c in
+        let over = over_then way c sound (told_none _ (sym mine.0 ∙ rw is at none)) in
+        all_none way moves (after cmp m c) (sound_after m c sound) (rw (is, mine.1) over),
+    ended way moves (after cmp m c) (sound_after m c sound),
+  )
 
   -- the same once all moves are made, where what holds of the cursor before the first move is told by that move
   pub ended_all : (way : Way) (moves : List Move) (i : ℕ) (start now : Cursor K V) (given : List (Told K V)) → given ++ answers cmp (drop i moves) now ≡ answers cmp moves start → length moves ≤ i

@@ -15,8 +15,13 @@ module _ {K V : Type 0} {LEN : ℕ} {cmp : K → K → Ordering} (o : IsTotalOrd
 
     moves : (way : Way) (new : End) → new ≡ next_end cmp way (bound_on way c) c.pairs (end_on way c) → lent r ≡ shown_apart cmp way (with_end way c new)
         → Moves cmp way c r (with_end way c new)
-    moves way new place answers = record { moves = ap (with_end way c) place; answers = answers; ascending = pairs_ascend a root kept.tree o; inside =
-        end_inside a root kept.tree b kept.backward_stands }
+    moves way new place answers = record {
+      moves = ap (with_end way c) place;
+      answers = answers;
+      ascending = pairs_ascend a root kept.tree o;
+      inside =
+          end_inside a root kept.tree b kept.backward_stands;
+    }
 
     -- an end has moved and stands on a pair or on none, which is answered if the ends are apart and it is within the bound where the end stops
     module _ (pair : Option (Bor K × Bor V)) (new : TreeEnd (LeafWalk K V LEN)) (stands : EndStands a root new) (is : lent pair ≡ pair_of new) where
@@ -25,12 +30,12 @@ module _ {K V : Type 0} {LEN : ℕ} {cmp : K → K → Ordering} (o : IsTotalOrd
 
       pub moves_on : end_of a root new ≡ next_end cmp On c.low c.pairs c.forward
           → (Kept a root cmp new b → lent r ≡ (if are_apart (end_of a root new) c.backward then option_where (λ p. meets cmp Back c.high p.0)
-              (lent pair) else None)) → Moves cmp On c r (seen a root low high new b)
+          (lent pair) else None)) → Moves cmp On c r (seen a root low high new b)
       moves_on place told = moves On _ place (rw there (told (record { tree = kept.tree; forward_stands = stands; backward_stands = kept.backward_stands })))
 
       pub moves_back : end_of a root new ≡ next_end cmp Back c.high c.pairs c.backward
           → (Kept a root cmp f new → lent r ≡ (if are_apart c.forward (end_of a root new) then option_where (λ p. meets cmp On c.low p.0)
-              (lent pair) else None)) → Moves cmp Back c r (seen a root low high f new)
+          (lent pair) else None)) → Moves cmp Back c r (seen a root low high f new)
       moves_back place told = moves Back _ place (rw there (told (record { tree = kept.tree; forward_stands = kept.forward_stands; backward_stands = stands })))
 
 left_end : (way : Way) (len : ℕ) (end : End) → end_left way len end ≡ left way len end
@@ -40,14 +45,18 @@ module _ {K V : Type 0} (cmp : K → K → Ordering) where
   -- an end that comes to a pair has fewer left
   nearer : (way : Way) (bound : Bound K) (l : List (K × V)) (old : End) (apart : Bool) (test : K × V → Bool) (x : K × V) → Holds way l old
       → (if apart then option_where test (element_at l (next_end cmp way bound l old)) else None) ≡ Some x
-          → end_left way (length l) (next_end cmp way bound l old) < end_left way (length l) old
+      → end_left way (length l) (next_end cmp way bound l old) < end_left way (length l) old
   nearer way bound l old apart test x held shows = by_new (next_end cmp way bound l old) (comes cmp way bound l old held) shows
     where
       by_new : (new : End) → ComesTo way (λ pair. meets cmp way bound pair.0) l old new
           → (if apart then option_where test (element_at l new) else None) ≡ Some x → end_left way (length l) new < end_left way (length l) old
       by_new unopened to shows = absurd to
-      by_new (at_place j) to shows = omega (arith, left_end way (length l) (at_place j), left_end way (length l) old,
-          fewer way (λ pair. meets cmp way bound pair.0) l old j to held)
+      by_new (at_place j) to shows = omega (
+        arith,
+        left_end way (length l) (at_place j),
+        left_end way (length l) old,
+        fewer way (λ pair. meets cmp way bound pair.0) l old j to held,
+      )
       by_new exhausted to shows = absurd (let none = if_none {X = K × V} apart in cc)
 
   same_pair : (apart : Bool) (test : K × V → Bool) (e : Option (K × V)) (x : K × V) → (if apart then option_where test e else None) ≡ Some x → e ≡ Some x

@@ -33,7 +33,7 @@ module _ {X : Type 0} where
   parted On xs before x behind is = (before, behind, is)
   parted Back xs before x behind is =
       let turned = reverse-append before (x ∷ behind) ∙ ap (λ ys. ys ++ reverse before) (reverse_onto behind x [])
-          ∙ append_assoc (reverse behind) (x ∷ []) (reverse before) in
+      ∙ append_assoc (reverse behind) (x ∷ []) (reverse before) in
       (reverse behind, reverse before, sym (reverse-reverse xs) ∙ ap reverse is ∙ turned)
 
 module _ {K V : Type 0} {cmp : K → K → Ordering} where
@@ -59,10 +59,10 @@ module _ {K V : Type 0} {LEN : ℕ} (cmp : K → K → Ordering) (way : Way) (le
   found_within (Some found) seeks =
       let near = seeks linked.0 linked.1 linked.2 in
       let some = λ (none : NoneMeets cmp way bound (along way (walk level a id))).
-        let missed = all_at _ (walk level a id) _ last (all_unturned _ way (walk level a id) none) (sym (first_place (opposite way) (walk level a id)) ∙ is) in
-        both_ways _ missed met in
+      let missed = all_at _ (walk level a id) _ last (all_unturned _ way (walk level a id) none) (sym (first_place (opposite way) (walk level a id)) ∙ is) in
+      both_ways _ missed met in
       let inside = one_of_first (λ (p : K × V). meets cmp way bound p.0 ≡ false)
-          (along way (walk level a id)) _ near.before near.pair _ near.parts near.none_before some in
+      (along way (walk level a id)) _ near.before near.pair _ near.parts near.none_before some in
       let parts = parted way (walk level a id) near.before near.pair inside.0 inside.1 in
       record { same = near.same; front = parts.0; pair = near.pair; back = parts.1; parts = parts.2; here = near.here; met = near.met }
 

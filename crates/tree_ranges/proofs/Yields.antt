@@ -27,8 +27,12 @@ module _ {X : Type 0} where
   take_fails test (suc n) (x ∷ xs) fails = (fails.0, take_fails test n xs fails.1)
 
   take_over : (xs : List X) (x : X) (ys : List X) (n m : ℕ) → n ≡ length xs + suc m → take n (xs ++ x ∷ ys) ≡ xs ++ x ∷ take m ys
-  take_over xs x ys n m is = rw (is, take-add (length xs) (suc m) (xs ++ x ∷ ys), take_at xs (x ∷ ys) (length xs) refl,
-      drop_at xs (x ∷ ys) (length xs) refl) refl
+  take_over xs x ys n m is = rw (
+    is,
+    take-add (length xs) (suc m) (xs ++ x ∷ ys),
+    take_at xs (x ∷ ys) (length xs) refl,
+    drop_at xs (x ∷ ys) (length xs) refl,
+  ) refl
 
   module _ (inside begins stops : X → Bool) (both : (x : X) → inside x ≡ (begins x && stops x)) where
     none_begins : (xs : List X) → Fails begins xs → filter inside xs ≡ []
@@ -40,12 +44,12 @@ module _ {X : Type 0} where
         → Splits (filter inside (skipped ++ x ∷ others)) (option_where stops (Some x)) (filter inside others)
     splits skipped x others fails met over = rw (filter-append inside skipped (x ∷ others), none_begins skipped fails, both x, met)
         (elim (cases_Bool (stops x)) [
-      | inl shows ↦ rw shows refl
-      | inr hides ↦ 
-          let none = filter_none inside others (all_map {P = λ y. stops y ≡ false} {Q = λ y. inside y ≡ false}
+          | inl shows ↦ rw shows refl
+          | inr hides ↦
+              let none = filter_none inside others (all_map {P = λ y. stops y ≡ false} {Q = λ y. inside y ≡ false}
               (λ y missed. both y ∙ and_right (begins y) (stops y) missed) others (over hides)) in
-          rw (hides, none) (refl, refl)
-    ])
+              rw (hides, none) (refl, refl)
+        ])
 
 module _ {K V : Type 0} {cmp : K → K → Ordering} (o : IsTotalOrder cmp) (c : Cursor K V) (ascending : IsAscending cmp c.pairs) where
   abbrev inside : K × V → Bool
@@ -76,7 +80,7 @@ module _ {K V : Type 0} {cmp : K → K → Ordering} (o : IsTotalOrder cmp) (c :
       abbrev Gives : End → Type 0
       Gives new = Splits (filter inside (along way (between_on way c.pairs own other)))
           (if apart way new other then option_where (stops way) (element_at c.pairs new) else None)
-              (filter inside (along way (between_on way c.pairs new other)))
+          (filter inside (along way (between_on way c.pairs new other)))
 
       -- where a move takes an end, it answers the first that is left
       gives : (new : End) → Pass way (begins way) c.pairs own → ComesTo way (begins way) c.pairs own new → Gives new
@@ -84,8 +88,11 @@ module _ {K V : Type 0} {cmp : K → K → Ordering} (o : IsTotalOrder cmp) (c :
       gives exhausted passes to =
           let gone : Holds way c.pairs exhausted = holds_inside way c.pairs exhausted tt in
           let none = none_begins inside (begins way) (stops way) (both way) in
-          rw (between_is way c.pairs own other held other_held, between_is way c.pairs exhausted other gone other_held,
-              if_none {X = K × V} (apart way exhausted other))
+          rw (
+            between_is way c.pairs own other held other_held,
+            between_is way c.pairs exhausted other gone other_held,
+            if_none {X = K × V} (apart way exhausted other),
+          )
           (none _ (take_fails (begins way) _ _ to), none _ (take_fails (begins way) _ _ (comes cmp way (bound_on way c) c.pairs exhausted gone)))
       gives (at_place j) passes to =
           let lt = slice_get_within c.pairs j to.item to.here in
@@ -95,8 +102,12 @@ module _ {K V : Type 0} {cmp : K → K → Ordering} (o : IsTotalOrder cmp) (c :
           let sum = left way N (at_place j) + left (opposite way) N other in
           let all = left way N own + left (opposite way) N other - N in
           let ahead = ahead_of way c.pairs (at_place j) in
-          rw (between_is way c.pairs own other held other_held, between_is way c.pairs (at_place j) other held_j other_held, apart_is way N j other lt,
-              to.parts) (elim (cases_lt sum N) [
+          rw (
+            between_is way c.pairs own other held other_held,
+            between_is way c.pairs (at_place j) other held_j other_held,
+            apart_is way N j other lt,
+            to.parts,
+          ) (elim (cases_lt sum N) [
             | inl met ↦
                 let gone : sum - N ≡ 0 = omega arith in
                 let few : all ≤ length to.skipped = omega arith in

@@ -18,8 +18,13 @@ module _ {K V : Type 0} {LEN : ℕ} (leaves : Slab (LeafOf K V LEN)) where
           → first_on way (leaf_entries leaves id) ≡ first_on way (entries_of leaves is.front ++ (leaf_entries leaves id ++ entries_of leaves is.back))
       by_way On none = rw none (first-append (leaf_entries leaves id) (entries_of leaves is.back) is.entry)
       by_way Back none =
-          rw (none, append-nil (leaf_entries leaves id), first_along Back (leaf_entries leaves id),
-              first_along Back (entries_of leaves is.front ++ leaf_entries leaves id), reverse-append (entries_of leaves is.front) (leaf_entries leaves id))
+          rw (
+            none,
+            append-nil (leaf_entries leaves id),
+            first_along Back (leaf_entries leaves id),
+            first_along Back (entries_of leaves is.front ++ leaf_entries leaves id),
+            reverse-append (entries_of leaves is.front) (leaf_entries leaves id),
+          )
           (first-append (reverse (leaf_entries leaves id)) (reverse (entries_of leaves is.front)) (rw length-reverse is.entry))
 
 -- a leaf of a part is in the chain of the part
@@ -31,6 +36,6 @@ leaf_in_chain level a id leaf front back parts linked =
 
 pub begins_there : {K V : Type 0} {LEN : ℕ} (way : Way) (level : ℕ) (a : TreeArenas K V LEN) (id leaf : ℕ)
     → IsFirstOn way a.leaves (leaves_at level a.nodes id) leaf → (begun : LeafWalk K V LEN) → begun ≡ standing a.leaves leaf None
-        → BeginsPart way level a id begun
+    → BeginsPart way level a id begun
 begins_there way level a id leaf is begun same = rw same
     (record { unopened = refl; leaf = is; entry = first_of_all a.leaves way (leaves_at level a.nodes id) leaf is })

@@ -37,7 +37,7 @@ module _ {K V : Type 0} {LEN : ℕ} (cmp : K → K → Ordering) (a : TreeArenas
   -- those of a node with an unbounded child stand, and one without has none
   over : (below : ℕ) (Holds : ℕ → Type 0) (node : NodeOf K LEN) → get a.nodes id ≡ Some node → children ≡ along way (all_children (keyed node) (unbounded node))
       → ((last : ℕ) → unbounded node ≡ Some last → (leaves_at level a.nodes id ≡ leaves_of below a.nodes
-          (all_children (keyed node) (Some last))) × AllByRecursion Holds (all_children (keyed node) (Some last)))
+      (all_children (keyed node) (Some last))) × AllByRecursion Holds (all_children (keyed node) (Some last)))
       → IsOver level a id below Holds way children
   over below Holds node here is stand = by_last (unbounded node) refl is
     where

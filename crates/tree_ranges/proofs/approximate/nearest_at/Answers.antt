@@ -14,4 +14,4 @@ pub returns : goal.returns
 returns g c =
     let last = rw c.requires.ways at (sym c.in-Some.ensures) in
     found_within g.K.Ord.cmp g.S.SlotWalk.way c.args.level c.args.arenas.now c.args.id _ c.requires.linked _ last
-        (sym c.meets.ensures ∙ c.if-not-meets.false) c.seek_at.result c.seek_at.ensures
+    (sym c.meets.ensures ∙ c.if-not-meets.false) c.seek_at.result c.seek_at.ensures

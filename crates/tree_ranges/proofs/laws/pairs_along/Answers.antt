@@ -6,8 +6,11 @@ use Rattle.tree_ranges.proofs.Yields.{fresh_begun, rest_fresh, walked_all, walke
 use Rattle.tree_ranges.proofs.laws.pairs_along.Goals as goal
 
 pub loop-pair-init : goal.loop-pair-init
-loop-pair-init g c = rw c.new-pairs.ensures.items (record { same = refl; left =
-    λ ascending. (fresh_begun g.K.Ord.cmp _ c.requires (way_of c.args.backward), refl) })
+loop-pair-init g c = rw c.new-pairs.ensures.items (record {
+  same = refl;
+  left =
+      λ ascending. (fresh_begun g.K.Ord.cmp _ c.requires (way_of c.args.backward), refl);
+})
 
 pub loop-pair-preserved : goal.loop-pair-preserved
 loop-pair-preserved g c = rw (c.in_ok-push.ensures.items, map-append) (walked_on g.met.K.Ord.total (way_of c.args.backward) _ _ _ _ c.loop-pair.invariant c.in-Some.pair c.in-Some.ensures)

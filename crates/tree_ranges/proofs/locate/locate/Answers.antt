@@ -18,4 +18,4 @@ returns-else-has_pair g c =
     let first = c.end_from-first.ensures in
     let absent = sym c.stands_at.ensures ∙ c.if-stands_at.false in
     rw c.past_all.ensures (rw (absent, sym c.has_pair.ensures ∙ c.if-has_pair.false) at
-        (located_in _ _ c.requires g.met.K.Ord.total _ _ first.stands first.place))
+    (located_in _ _ c.requires g.met.K.Ord.total _ _ first.stands first.place))

@@ -7,7 +7,7 @@ pub returns-then-has_pair : goal.returns-then-has_pair
 returns-then-has_pair g c =
     let last = c.last_end-last.ensures in
     rw c.standing.ensures (past_is g.K.Ord.cmp _ _ last.place _
-        (ap is_some (element_is _ _ c.requires _ last.stands) ∙ sym c.has_pair.ensures ∙ c.if-has_pair.true))
+    (ap is_some (element_is _ _ c.requires _ last.stands) ∙ sym c.has_pair.ensures ∙ c.if-has_pair.true))
 
 pub returns-else-has_pair : goal.returns-else-has_pair
 returns-else-has_pair g c =

@@ -18,7 +18,7 @@ pub invariant_of-self : goal.invariant_of-self
 invariant_of-self g c =
     let was = c.self.invariant in
     rw (c.replace.ensures.after, c.turned-self-inside.ensures, c.replace.ensures.value)
-        (record { tree = was.tree; forward_stands = was.backward_stands; backward_stands = tt })
+    (record { tree = was.tree; forward_stands = was.backward_stands; backward_stands = tt })
 
 pub returns-then-is_unopened : goal.returns-then-is_unopened
 returns-then-is_unopened g c =
@@ -43,7 +43,7 @@ pub invariant_of-self-2 : goal.invariant_of-self-2
 invariant_of-self-2 g c =
     let was = c.self.invariant in
     rw (c.replace-2.ensures.after, c.turned-self-inside-2.ensures, c.replace-2.ensures.value)
-        (record { tree = was.tree; forward_stands = tt; backward_stands = was.forward_stands })
+    (record { tree = was.tree; forward_stands = tt; backward_stands = was.forward_stands })
 
 pub returns : goal.returns
 returns g c =
@@ -51,4 +51,4 @@ returns g c =
     let shows = rw (← c.self.view_is) at c.get.ensures.pair in
     let flips = flips_one g.met.K.Ord.total _ _ _ _ _ _ c.self.invariant false false (sym c.is_unopened.ensures ∙ c.if-is_unopened.false) back _ shows in
     rw (← c.self.view_is, c.replace-2.ensures.after, c.turned-self-inside-2.ensures, c.replace-2.ensures.value)
-        (flips (rw c.if-is_none-2.false at c.is_none-2.ensures))
+    (flips (rw c.if-is_none-2.false at c.is_none-2.ensures))

@@ -18,7 +18,7 @@ pub returns-clause-steps : goal.returns-clause-steps
 returns-clause-steps g c =
     let went = c.in-Some.ensures _ _ c.self.invariant.tree c.self.invariant.forward_stands in
     rw (← c.self.view_is) (moves_on g.met.K.Ord.total _ _ _ _ _ _ _ c.self.invariant (Some c.in-Some.pair) _ went.stands (sym went.pair) (went.place _)
-        (c.if_apart.ensures _ _))
+    (c.if_apart.ensures _ _))
 
 pub returns-clause-goes : goal.returns-clause-goes
 returns-clause-goes g c = makes_progress g.K.Ord.cmp On _ _ _ (returns-clause-steps g c)
