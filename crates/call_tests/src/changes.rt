@@ -4,33 +4,40 @@ use std::alloc::{AllocError, Global};
 use std::process::Abort;
 use test_support::refusals::succeeds;
 use tree_index::{TreeIndex, TreeIndexOf};
-use tree_support::{Scenario, at_both_sizes};
+use tree_support::{Numbers, Scenario, succeeds_at_both_sizes};
+
+/// An index of numbers whose values are changed.
+trait Changes: Numbers {
+    /// Adds to the value at a key by `modify_sync`, and returns whether there is one.
+    fn add(&mut self, key: u64, amount: u64) -> bool;
+}
+
+impl<const LEN: usize> Changes for TreeIndexOf<u64, u64, LEN> {
+    fn add(&mut self, key: u64, amount: u64) -> bool {
+        self.modify_sync(&key, |value| value.wrapping_add(amount))
+    }
+}
 
 /// The length, the depth and the spare.
-fn shape_of<const LEN: usize>(index: &TreeIndexOf<u64, u64, LEN>) -> (usize, usize, u8) {
+fn shape_of(index: &impl Numbers) -> (usize, usize, u8) {
     (index.len(), index.depth(), index.spare())
 }
 
 /// Replaces and changes the value at a key, which is there or isn't.
-fn expect_changed<const LEN: usize>(
-    rt: &impl Abort,
-    index: &mut TreeIndexOf<u64, u64, LEN>,
-    key: u64,
-    there: bool,
-) {
+fn expect_changed(rt: &impl Abort, index: &mut impl Changes, key: u64, there: bool) {
     let old = if there { Ok(key) } else { Err(7) };
-    assert!(rt; replaces(index, key, 7) == old);
-    assert!(rt; adds(index, key, key) == there);
+    assert!(rt; index.replace(key, 7) == old);
+    assert!(rt; index.add(key, key) == there);
     let new = if there {
         Some(key.wrapping_add(7))
     } else {
         None
     };
-    assert!(rt; index.peek(&key).copied() == new);
+    assert!(rt; index.peek(key) == new);
 }
 
 /// Replaces and changes the value at each key up to the last, of which the even ones are present, and at one more.
-fn changes_all<const LEN: usize>(rt: &impl Abort, index: &mut TreeIndexOf<u64, u64, LEN>) {
+fn changes_all(rt: &impl Abort, index: &mut impl Changes) {
     let shape = shape_of(index);
     let end = (shape.0 as u64).wrapping_mul(2);
     for key in 0..=end {
@@ -39,29 +46,15 @@ fn changes_all<const LEN: usize>(rt: &impl Abort, index: &mut TreeIndexOf<u64, u
     assert!(rt; shape_of(index) == shape);
 }
 
-/// Replaces the value at a key.
-fn replaces<const LEN: usize>(
-    index: &mut TreeIndexOf<u64, u64, LEN>,
-    key: u64,
-    value: u64,
-) -> Result<u64, u64> {
-    index.replace_sync(&key, value)
-}
-
-/// Adds to the value at a key, and returns whether there is one.
-fn adds<const LEN: usize>(index: &mut TreeIndexOf<u64, u64, LEN>, key: u64, amount: u64) -> bool {
-    index.modify_sync(&key, |value| value.wrapping_add(amount))
-}
-
 /// Changes the values of an index of each fill.
 #[derive(Drop)]
 struct Changing<'r, R> {
     rt: &'r R,
 }
 
-impl<R: Abort, const LEN: usize> Scenario<TreeIndexOf<u64, u64, LEN>> for Changing<'_, R> {
-    fn play(&self, index: &mut TreeIndexOf<u64, u64, LEN>) -> Result<(), AllocError> {
-        for (count, is_emptied) in fills(LEN) {
+impl<R: Abort, I: Changes> Scenario<I> for Changing<'_, R> {
+    fn play(&self, index: &mut I) -> Result<(), AllocError> {
+        for (count, is_emptied) in fills(index.pairs_a_leaf()) {
             refill(index, *count, *is_emptied)?;
             changes_all(self.rt, index);
         }
@@ -72,37 +65,86 @@ impl<R: Abort, const LEN: usize> Scenario<TreeIndexOf<u64, u64, LEN>> for Changi
 #[test]
 fn changes_values(rt: HostRuntime) {
     let scenario = Changing { rt: &rt };
-    assert!(rt; succeeds(rt.alloc(), || at_both_sizes(rt.alloc(), &scenario)));
+    assert!(rt; succeeds_at_both_sizes(rt.alloc(), &scenario));
 }
 
-/// Texts own memory, which must be given back once.
-fn changes_texts_in(
+/// An index of texts. Texts own memory, which must be given back once.
+trait Names {
+    /// Calls `insert_sync`.
+    fn put(&mut self, key: u64, name: String) -> Result<(), AllocError>;
+
+    /// Calls `replace_sync`.
+    fn replace(&mut self, key: u64, name: String) -> Result<String, String>;
+
+    /// Calls `modify_sync` to put a name in place of the one at a key.
+    fn change(&mut self, key: u64, name: String) -> bool;
+
+    /// Returns whether `peek` finds this name at a key.
+    fn has(&self, key: u64, name: &str) -> bool;
+}
+
+impl Names for TreeIndex<u64, String> {
+    fn put(&mut self, key: u64, name: String) -> Result<(), AllocError> {
+        match self.insert_sync(key, name) {
+            Ok(()) => Ok(()),
+            Err(_) => Err(AllocError),
+        }
+    }
+
+    fn replace(&mut self, key: u64, name: String) -> Result<String, String> {
+        self.replace_sync(&key, name)
+    }
+
+    fn change(&mut self, key: u64, name: String) -> bool {
+        self.modify_sync(&key, |_| name)
+    }
+
+    fn has(&self, key: u64, name: &str) -> bool {
+        self.peek(&key).is_some_and(|found| found.as_str() == name)
+    }
+}
+
+/// Replaces the name at a key, which is there, and at one that isn't.
+fn replaces_names(
     rt: &impl Abort,
     alloc: Global,
-    names: &mut TreeIndex<u64, String>,
+    names: &mut impl Names,
 ) -> Result<(), AllocError> {
-    let pear = String::from_str(alloc, "pear")?;
-    if names.insert_sync(1, pear).is_err() {
-        return Err(AllocError);
-    }
     let fig = String::from_str(alloc, "fig")?;
     assert!(rt;
         names
-            .replace_sync(&1, fig)
+            .replace(1, fig)
             .is_ok_and(|name| name.as_str() == "pear")
     );
     let plum = String::from_str(alloc, "plum")?;
     assert!(rt;
         names
-            .replace_sync(&2, plum)
+            .replace(2, plum)
             .is_err_and(|name| name.as_str() == "plum")
     );
-    let quince = String::from_str(alloc, "quince")?;
-    assert!(rt; names.modify_sync(&1, |_| quince));
-    let melon = String::from_str(alloc, "melon")?;
-    assert!(rt; !names.modify_sync(&2, |_| melon));
-    assert!(rt; names.peek(&1).is_some_and(|name| name.as_str() == "quince"));
     Ok(())
+}
+
+/// Changes the name at a key, which is there, and at one that isn't.
+fn changes_names(rt: &impl Abort, alloc: Global, names: &mut impl Names) -> Result<(), AllocError> {
+    let quince = String::from_str(alloc, "quince")?;
+    assert!(rt; names.change(1, quince));
+    let melon = String::from_str(alloc, "melon")?;
+    assert!(rt; !names.change(2, melon));
+    assert!(rt; names.has(1, "quince"));
+    Ok(())
+}
+
+/// Stores a name, replaces it and changes it.
+fn changes_texts_in(
+    rt: &impl Abort,
+    alloc: Global,
+    names: &mut impl Names,
+) -> Result<(), AllocError> {
+    let pear = String::from_str(alloc, "pear")?;
+    names.put(1, pear)?;
+    replaces_names(rt, alloc, names)?;
+    changes_names(rt, alloc, names)
 }
 
 fn changes_texts_steps(rt: &impl Abort, alloc: Global) -> Result<(), AllocError> {

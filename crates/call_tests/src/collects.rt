@@ -5,7 +5,7 @@ use std::iter::FromIterator;
 use std::process::Abort;
 use test_support::refusals::succeeds;
 use tree_index::{FromSortedError, SmallTreeIndex, TreeIndex, TreeIndexOf};
-use tree_support::{Scenario, at_both_sizes};
+use tree_support::{Numbers, Scenario, succeeds_at_both_sizes};
 
 /// Returns the pairs of 0, 2, 4 and so on, so many, each with its key as its value.
 fn ascending(alloc: Global, count: u64) -> Result<Vec<(u64, u64)>, AllocError> {
@@ -17,50 +17,41 @@ fn ascending(alloc: Global, count: u64) -> Result<Vec<(u64, u64)>, AllocError> {
     Ok(pairs)
 }
 
-fn extends<const LEN: usize>(
-    rt: &impl Abort,
-    alloc: Global,
-    index: &mut TreeIndexOf<u64, u64, LEN>,
-) -> Result<(), AllocError> {
-    let length = index.len();
-    extend_by_three(alloc, index)?;
-    expect_three_more(rt, index, length);
-    Ok(())
+/// An index of numbers that takes pairs of a list.
+trait Extended: Numbers {
+    /// Calls `try_extend`.
+    fn extend(&mut self, pairs: Vec<(u64, u64)>) -> Result<(), AllocError>;
 }
 
-/// Stores pairs of three keys, of which two come twice.
-fn extend_by_three<const LEN: usize>(
-    alloc: Global,
-    index: &mut TreeIndexOf<u64, u64, LEN>,
-) -> Result<(), AllocError> {
-    let pairs = vec![in alloc; (1, 10), (3, 30), (1, 11), (5, 50), (3, 33)]?;
-    match index.try_extend(pairs) {
-        Ok(()) => {}
-        Err(_) => return Err(AllocError),
+impl<const LEN: usize> Extended for TreeIndexOf<u64, u64, LEN> {
+    fn extend(&mut self, pairs: Vec<(u64, u64)>) -> Result<(), AllocError> {
+        match self.try_extend(pairs) {
+            Ok(()) => Ok(()),
+            Err(_) => Err(AllocError),
+        }
     }
+}
+
+/// Stores pairs of three keys, of which two come twice. The later pairs of both are there then, and one more.
+fn extends(rt: &impl Abort, alloc: Global, index: &mut impl Extended) -> Result<(), AllocError> {
+    let length = index.len();
+    let pairs = vec![in alloc; (1, 10), (3, 30), (1, 11), (5, 50), (3, 33)]?;
+    index.extend(pairs)?;
+    assert!(rt; index.len() == length.wrapping_add(3));
+    assert!(rt; index.peek(1) == Some(11) && index.peek(3) == Some(33));
     Ok(())
 }
 
-/// The later pairs of both keys are there, and one more.
-fn expect_three_more<const LEN: usize>(
-    rt: &impl Abort,
-    index: &TreeIndexOf<u64, u64, LEN>,
-    length: usize,
-) {
-    assert!(rt; index.len() == length.wrapping_add(3));
-    assert!(rt; index.peek(&1) == Some(&11) && index.peek(&3) == Some(&33));
-}
-
-/// Extends an index of each fill.
+/// Extended an index of each fill.
 #[derive(Drop)]
 struct Extending<'r, R> {
     rt: &'r R,
     alloc: Global,
 }
 
-impl<R: Abort, const LEN: usize> Scenario<TreeIndexOf<u64, u64, LEN>> for Extending<'_, R> {
-    fn play(&self, index: &mut TreeIndexOf<u64, u64, LEN>) -> Result<(), AllocError> {
-        for (count, is_emptied) in fills(LEN) {
+impl<R: Abort, I: Extended> Scenario<I> for Extending<'_, R> {
+    fn play(&self, index: &mut I) -> Result<(), AllocError> {
+        for (count, is_emptied) in fills(index.pairs_a_leaf()) {
             refill(index, *count, *is_emptied)?;
             extends(self.rt, self.alloc, index)?;
         }
@@ -74,7 +65,7 @@ fn stores_each_pair(rt: HostRuntime) {
         rt: &rt,
         alloc: rt.alloc(),
     };
-    assert!(rt; succeeds(rt.alloc(), || at_both_sizes(rt.alloc(), &scenario)));
+    assert!(rt; succeeds_at_both_sizes(rt.alloc(), &scenario));
 }
 
 /// Returns the pairs in the other order.
@@ -100,41 +91,39 @@ static DEPTHS: [(u64, usize); 5] = [(0, 0), (1, 1), (15, 1), (241, 2), (3616, 3)
 /// The same for leaves of seven pairs.
 static SMALL_DEPTHS: [(u64, usize); 5] = [(0, 0), (1, 1), (7, 1), (57, 2), (400, 3)];
 
-fn builds_steps(rt: &impl Abort, alloc: Global) -> Result<(), AllocError> {
-    for (count, depth) in &DEPTHS {
-        let index: TreeIndex<u64, u64> = sorted(TreeIndexOf::from_sorted(
-            alloc,
-            ascending(alloc, *count)?,
-        ))?;
-        assert!(rt; index.len() as u64 == *count && index.depth() == *depth);
-        assert!(rt;
-            *count == 0
-                || index.last()
-                    == Some((&(*count - 1).wrapping_mul(2), &(*count - 1).wrapping_mul(2)))
-        );
-    }
+/// An index was built of so many pairs.
+fn expect_built(rt: &impl Abort, index: &impl Numbers, (count, depth): (u64, usize)) {
+    assert!(rt; index.len() as u64 == count && index.depth() == depth);
+    let last = count.wrapping_sub(1).wrapping_mul(2);
+    assert!(rt; count == 0 || index.last() == Some((last, last)));
+}
+
+fn builds_steps(rt: &impl Abort, alloc: Global, row: (u64, usize)) -> Result<(), AllocError> {
+    let pairs = ascending(alloc, row.0)?;
+    let index: TreeIndex<u64, u64> = sorted(TreeIndexOf::from_sorted(alloc, pairs))?;
+    expect_built(rt, &index, row);
     Ok(())
 }
 
 #[test]
 fn builds_from_sorted_pairs(rt: HostRuntime) {
-    assert!(rt; succeeds(rt.alloc(), || builds_steps(&rt, rt.alloc())));
+    for row in &DEPTHS {
+        assert!(rt; succeeds(rt.alloc(), || builds_steps(&rt, rt.alloc(), *row)));
+    }
 }
 
-fn small_builds_steps(rt: &impl Abort, alloc: Global) -> Result<(), AllocError> {
-    for (count, depth) in &SMALL_DEPTHS {
-        let index: SmallTreeIndex<u64, u64> = sorted(TreeIndexOf::from_sorted(
-            alloc,
-            ascending(alloc, *count)?,
-        ))?;
-        assert!(rt; index.len() as u64 == *count && index.depth() == *depth);
-    }
+fn small_builds_steps(rt: &impl Abort, alloc: Global, row: (u64, usize)) -> Result<(), AllocError> {
+    let pairs = ascending(alloc, row.0)?;
+    let index: SmallTreeIndex<u64, u64> = sorted(TreeIndexOf::from_sorted(alloc, pairs))?;
+    expect_built(rt, &index, row);
     Ok(())
 }
 
 #[test]
 fn builds_from_sorted_pairs_in_small_leaves(rt: HostRuntime) {
-    assert!(rt; succeeds(rt.alloc(), || small_builds_steps(&rt, rt.alloc())));
+    for row in &SMALL_DEPTHS {
+        assert!(rt; succeeds(rt.alloc(), || small_builds_steps(&rt, rt.alloc(), *row)));
+    }
 }
 
 /// Pairs that don't ascend: equal keys, a smaller one, and equal keys behind others.
@@ -179,30 +168,38 @@ fn is_cloned<const LEN: usize>(index: &TreeIndexOf<u64, u64, LEN>) -> Result<boo
     Ok(copy == *index)
 }
 
-fn collects_steps(rt: &impl Abort, alloc: Global) -> Result<(), AllocError> {
-    for (count, _) in &DEPTHS {
-        let index: TreeIndex<u64, u64> = TreeIndexOf::from_iter(alloc, descending(alloc, *count)?)?;
-        assert!(rt; index.len() as u64 == *count && is_cloned(&index)?);
-    }
+/// An index has so many pairs, and is cloned.
+fn expect_cloned<const LEN: usize>(
+    rt: &impl Abort,
+    index: &TreeIndexOf<u64, u64, LEN>,
+    count: u64,
+) -> Result<(), AllocError> {
+    assert!(rt; index.len() as u64 == count && is_cloned(index)?);
     Ok(())
+}
+
+fn collects_steps(rt: &impl Abort, alloc: Global, count: u64) -> Result<(), AllocError> {
+    let pairs = descending(alloc, count)?;
+    let index: TreeIndex<u64, u64> = TreeIndexOf::from_iter(alloc, pairs)?;
+    expect_cloned(rt, &index, count)
 }
 
 #[test]
 fn collects_and_clones(rt: HostRuntime) {
-    assert!(rt; succeeds(rt.alloc(), || collects_steps(&rt, rt.alloc())));
+    for (count, _) in &DEPTHS {
+        assert!(rt; succeeds(rt.alloc(), || collects_steps(&rt, rt.alloc(), *count)));
+    }
 }
 
-fn small_collects_steps(rt: &impl Abort, alloc: Global) -> Result<(), AllocError> {
-    for (count, _) in &SMALL_DEPTHS {
-        let index: SmallTreeIndex<u64, u64> = descending(alloc, *count)?
-            .into_iter()
-            .collect(alloc)?;
-        assert!(rt; index.len() as u64 == *count && is_cloned(&index)?);
-    }
-    Ok(())
+fn small_collects_steps(rt: &impl Abort, alloc: Global, count: u64) -> Result<(), AllocError> {
+    let pairs = descending(alloc, count)?;
+    let index: SmallTreeIndex<u64, u64> = pairs.into_iter().collect(alloc)?;
+    expect_cloned(rt, &index, count)
 }
 
 #[test]
 fn collects_and_clones_in_small_leaves(rt: HostRuntime) {
-    assert!(rt; succeeds(rt.alloc(), || small_collects_steps(&rt, rt.alloc())));
+    for (count, _) in &SMALL_DEPTHS {
+        assert!(rt; succeeds(rt.alloc(), || small_collects_steps(&rt, rt.alloc(), *count)));
+    }
 }

@@ -16,25 +16,21 @@ mod texts;
 #[cfg(test)]
 use std::alloc::AllocError;
 #[cfg(test)]
-use tree_index::TreeIndexOf;
+use tree_support::Numbers;
 
 /// Makes the index one of the keys 0, 2, 4 and so on, so many, each with its key as its value, that were stored in ascending
 /// order. Removes the last of them if `is_emptied`, so that its leaf has no pair where it stood alone.
 #[cfg(test)]
-fn refill<const LEN: usize>(
-    index: &mut TreeIndexOf<u64, u64, LEN>,
-    count: u64,
-    is_emptied: bool,
-) -> Result<(), AllocError> {
+fn refill(index: &mut impl Numbers, count: u64, is_emptied: bool) -> Result<(), AllocError> {
     index.clear();
     for number in 0..count {
         let key = number.wrapping_mul(2);
-        if index.upsert_sync(key, key).is_err() {
+        if index.upsert(key, key).is_err() {
             return Err(AllocError);
         }
     }
     if is_emptied {
-        index.remove_sync(&count.wrapping_sub(1).wrapping_mul(2));
+        index.remove(count.wrapping_sub(1).wrapping_mul(2));
     }
     Ok(())
 }

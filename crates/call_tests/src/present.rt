@@ -2,19 +2,21 @@
 use crate::{fills, refill};
 use std::alloc::AllocError;
 use std::process::Abort;
-use test_support::refusals::succeeds;
 use tree_index::TreeIndexOf;
-use tree_support::{Scenario, at_both_sizes};
+use tree_support::{Numbers, Scenario, succeeds_at_both_sizes};
 
-/// Returns the value that the call lends.
-fn lent<const LEN: usize>(
-    index: &mut TreeIndexOf<u64, u64, LEN>,
-    key: u64,
-    value: u64,
-) -> Result<u64, AllocError> {
-    match index.peek_or_insert(key, value) {
-        Ok(value) => Ok(*value),
-        Err(_) => Err(AllocError),
+/// An index of numbers that lends the value at a key.
+trait Lends: Numbers {
+    /// Returns the value that `peek_or_insert` lends.
+    fn lent(&mut self, key: u64, value: u64) -> Result<u64, AllocError>;
+}
+
+impl<const LEN: usize> Lends for TreeIndexOf<u64, u64, LEN> {
+    fn lent(&mut self, key: u64, value: u64) -> Result<u64, AllocError> {
+        match self.peek_or_insert(key, value) {
+            Ok(value) => Ok(*value),
+            Err(_) => Err(AllocError),
+        }
     }
 }
 
@@ -22,13 +24,10 @@ fn lent<const LEN: usize>(
 static ASKED: [(u64, u64, u64); 4] = [(1, 7, 7), (u64::MAX, 8, 8), (1, 5, 7), (u64::MAX, 6, 8)];
 
 /// Asks for the keys, of which two are new.
-fn asks<const LEN: usize>(
-    rt: &impl Abort,
-    index: &mut TreeIndexOf<u64, u64, LEN>,
-) -> Result<(), AllocError> {
+fn asks(rt: &impl Abort, index: &mut impl Lends) -> Result<(), AllocError> {
     let length = index.len();
     for (key, value, stands) in &ASKED {
-        let found = lent(index, *key, *value)?;
+        let found = index.lent(*key, *value)?;
         assert!(rt; found == *stands);
     }
     assert!(rt; index.len() == length.wrapping_add(2));
@@ -41,9 +40,9 @@ struct Asking<'r, R> {
     rt: &'r R,
 }
 
-impl<R: Abort, const LEN: usize> Scenario<TreeIndexOf<u64, u64, LEN>> for Asking<'_, R> {
-    fn play(&self, index: &mut TreeIndexOf<u64, u64, LEN>) -> Result<(), AllocError> {
-        for (count, is_emptied) in fills(LEN) {
+impl<R: Abort, I: Lends> Scenario<I> for Asking<'_, R> {
+    fn play(&self, index: &mut I) -> Result<(), AllocError> {
+        for (count, is_emptied) in fills(index.pairs_a_leaf()) {
             refill(index, *count, *is_emptied)?;
             asks(self.rt, index)?;
         }
@@ -54,5 +53,5 @@ impl<R: Abort, const LEN: usize> Scenario<TreeIndexOf<u64, u64, LEN>> for Asking
 #[test]
 fn lends_what_stands(rt: HostRuntime) {
     let scenario = Asking { rt: &rt };
-    assert!(rt; succeeds(rt.alloc(), || at_both_sizes(rt.alloc(), &scenario)));
+    assert!(rt; succeeds_at_both_sizes(rt.alloc(), &scenario));
 }

@@ -10,20 +10,36 @@ static WORDS: [&str; 4] = ["pear", "fig", "", "figs"];
 
 static OTHERS: [&str; 2] = ["fi", "apple"];
 
-fn counts_words(rt: &impl Abort, alloc: Global) -> Result<(), AllocError> {
-    let mut lengths: TreeIndex<Text, usize> = TreeIndex::new(alloc);
+/// Stores the words, each with its length.
+fn store_words(alloc: Global, lengths: &mut TreeIndex<Text, usize>) -> Result<(), AllocError> {
     for word in &WORDS {
         let key = Text::from(String::from_str(alloc, *word)?);
         if lengths.insert_sync(key, word.len()).is_err() {
             return Err(AllocError);
         }
     }
+    Ok(())
+}
+
+/// Returns the length that is stored with a word.
+fn length_of(lengths: &TreeIndex<Text, usize>, word: &str) -> Option<usize> {
+    peek_text(lengths, word).map(|(_, length)| *length)
+}
+
+/// Looks up all words.
+fn expect_words(rt: &impl Abort, lengths: &TreeIndex<Text, usize>) {
     for word in &WORDS {
-        assert!(rt; peek_text(&lengths, *word).map(|(_, length)| *length) == Some(word.len()));
+        assert!(rt; length_of(lengths, *word) == Some(word.len()));
     }
     for word in &OTHERS {
-        assert!(rt; peek_text(&lengths, *word).is_none());
+        assert!(rt; length_of(lengths, *word).is_none());
     }
+}
+
+fn counts_words(rt: &impl Abort, alloc: Global) -> Result<(), AllocError> {
+    let mut lengths: TreeIndex<Text, usize> = TreeIndex::new(alloc);
+    store_words(alloc, &mut lengths)?;
+    expect_words(rt, &lengths);
     Ok(())
 }
 
@@ -37,20 +53,36 @@ static BYTES: [&[u8]; 4] = [&[7, 0], &[], &[7], &[255]];
 
 static OTHER_BYTES: [&[u8]; 2] = [&[0], &[7, 0, 0]];
 
-fn counts_bytes(rt: &impl Abort, alloc: Global) -> Result<(), AllocError> {
-    let mut lengths: TreeIndex<Bytes, usize> = TreeIndex::new(alloc);
+/// Stores the bytes, each with their number.
+fn store_bytes(alloc: Global, lengths: &mut TreeIndex<Bytes, usize>) -> Result<(), AllocError> {
     for bytes in &BYTES {
         let key = Bytes::from((*bytes).to_vec(alloc)?);
         if lengths.insert_sync(key, bytes.len()).is_err() {
             return Err(AllocError);
         }
     }
+    Ok(())
+}
+
+/// Returns the number that is stored with bytes.
+fn number_of(lengths: &TreeIndex<Bytes, usize>, bytes: &[u8]) -> Option<usize> {
+    peek_bytes(lengths, bytes).map(|(_, length)| *length)
+}
+
+/// Looks up all bytes.
+fn expect_bytes(rt: &impl Abort, lengths: &TreeIndex<Bytes, usize>) {
     for bytes in &BYTES {
-        assert!(rt; peek_bytes(&lengths, *bytes).map(|(_, length)| *length) == Some(bytes.len()));
+        assert!(rt; number_of(lengths, *bytes) == Some(bytes.len()));
     }
     for bytes in &OTHER_BYTES {
-        assert!(rt; peek_bytes(&lengths, *bytes).is_none());
+        assert!(rt; number_of(lengths, *bytes).is_none());
     }
+}
+
+fn counts_bytes(rt: &impl Abort, alloc: Global) -> Result<(), AllocError> {
+    let mut lengths: TreeIndex<Bytes, usize> = TreeIndex::new(alloc);
+    store_bytes(alloc, &mut lengths)?;
+    expect_bytes(rt, &lengths);
     Ok(())
 }
 

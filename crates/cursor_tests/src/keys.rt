@@ -1,11 +1,10 @@
 //! Walks over the keys of an index alone, and over its values alone.
 ghost use Rattle.std.specs.Iterator.{IsFinite};
 
-use crate::said::put;
-use std::alloc::{AllocError, Global};
+use std::alloc::AllocError;
 use std::process::Abort;
-use test_support::refusals::succeeds;
-use tree_index::{SmallTreeIndex, TreeIndex, TreeIndexOf};
+use tree_index::{SmallTreeIndex, TreeIndex};
+use tree_support::{Numbers, Scenario, put, succeeds_at_both_sizes};
 
 /// The end of a walk that is asked.
 #[derive(Clone, Copy)]
@@ -53,10 +52,7 @@ static ROWS: [Row; 6] = [
 ];
 
 /// Stores the keys from 1 to the last, each with ten times itself.
-fn store<const LEN: usize>(
-    index: &mut TreeIndexOf<u64, u64, LEN>,
-    last: u64,
-) -> Result<(), AllocError> {
+fn store(index: &mut impl Numbers, last: u64) -> Result<(), AllocError> {
     for key in 1..=last {
         put(index, key, key.saturating_mul(10))?;
     }
@@ -91,27 +87,61 @@ fn expect_steps<'t, I: DoubleEndedIterator<Item = &'t u64>>(
     }
 }
 
-fn row_steps(rt: &impl Abort, alloc: Global, (last, steps): Row) -> Result<(), AllocError> {
-    let mut index: TreeIndex<u64, u64> = TreeIndex::new(alloc);
-    store(&mut index, last)?;
-    expect_steps(rt, index.keys(), steps, 1);
-    expect_steps(rt, index.values(), steps, 10);
-    Ok(())
+/// An index of numbers whose keys and values are walked over. It is implemented at each size, since code for any size would
+/// owe a proof of the size of each walk.
+trait Listed: Numbers {
+    /// Asks the ends of a walk over the keys, and of one over the values.
+    fn expect_ends<R: Abort>(&self, rt: &R, steps: &[(End, Option<u64>)]);
+
+    /// Takes all keys up to the last, and all values.
+    fn expect_whole<R: Abort>(&self, rt: &R, last: u64);
 }
 
-fn small_row_steps(rt: &impl Abort, alloc: Global, (last, steps): Row) -> Result<(), AllocError> {
-    let mut index: SmallTreeIndex<u64, u64> = SmallTreeIndex::new(alloc);
-    store(&mut index, last)?;
-    expect_steps(rt, index.keys(), steps, 1);
-    expect_steps(rt, index.values(), steps, 10);
-    Ok(())
+impl Listed for TreeIndex<u64, u64> {
+    fn expect_ends<R: Abort>(&self, rt: &R, steps: &[(End, Option<u64>)]) {
+        expect_steps(rt, self.keys(), steps, 1);
+        expect_steps(rt, self.values(), steps, 10);
+    }
+
+    fn expect_whole<R: Abort>(&self, rt: &R, last: u64) {
+        expect_all(rt, self.keys(), last, 1);
+        expect_all(rt, self.values(), last, 10);
+    }
+}
+
+impl Listed for SmallTreeIndex<u64, u64> {
+    fn expect_ends<R: Abort>(&self, rt: &R, steps: &[(End, Option<u64>)]) {
+        expect_steps(rt, self.keys(), steps, 1);
+        expect_steps(rt, self.values(), steps, 10);
+    }
+
+    fn expect_whole<R: Abort>(&self, rt: &R, last: u64) {
+        expect_all(rt, self.keys(), last, 1);
+        expect_all(rt, self.values(), last, 10);
+    }
+}
+
+/// Asks the ends of walks as a row says.
+#[derive(Drop)]
+struct Asking<'r, R> {
+    rt: &'r R,
+    row: Row,
+}
+
+impl<R: Abort, I: Listed> Scenario<I> for Asking<'_, R> {
+    fn play(&self, index: &mut I) -> Result<(), AllocError> {
+        let (last, steps) = self.row;
+        store(index, last)?;
+        index.expect_ends(self.rt, steps);
+        Ok(())
+    }
 }
 
 #[test]
 fn both_ends_give_keys_and_values(rt: HostRuntime) {
     for row in &ROWS {
-        assert!(rt; succeeds(rt.alloc(), || row_steps(&rt, rt.alloc(), *row)));
-        assert!(rt; succeeds(rt.alloc(), || small_row_steps(&rt, rt.alloc(), *row)));
+        let scenario = Asking { rt: &rt, row: *row };
+        assert!(rt; succeeds_at_both_sizes(rt.alloc(), &scenario));
     }
 }
 
@@ -128,24 +158,23 @@ fn expect_all<'t, I: Iterator<Item = &'t u64>>(rt: &impl Abort, walk: I, last: u
     assert!(rt; given == last);
 }
 
-fn all_steps(rt: &impl Abort, alloc: Global) -> Result<(), AllocError> {
-    let mut index: TreeIndex<u64, u64> = TreeIndex::new(alloc);
-    store(&mut index, 300)?;
-    expect_all(rt, index.keys(), 300, 1);
-    expect_all(rt, index.values(), 300, 10);
-    Ok(())
+/// Takes all keys and values of three levels.
+#[derive(Drop)]
+struct Taking<'r, R> {
+    rt: &'r R,
 }
 
-fn small_all_steps(rt: &impl Abort, alloc: Global) -> Result<(), AllocError> {
-    let mut index: SmallTreeIndex<u64, u64> = SmallTreeIndex::new(alloc);
-    store(&mut index, 100)?;
-    expect_all(rt, index.keys(), 100, 1);
-    expect_all(rt, index.values(), 100, 10);
-    Ok(())
+impl<R: Abort, I: Listed> Scenario<I> for Taking<'_, R> {
+    fn play(&self, index: &mut I) -> Result<(), AllocError> {
+        let last = if index.pairs_a_leaf() == 7 { 100 } else { 300 };
+        store(index, last)?;
+        index.expect_whole(self.rt, last);
+        Ok(())
+    }
 }
 
 #[test]
 fn gives_all_of_three_levels(rt: HostRuntime) {
-    assert!(rt; succeeds(rt.alloc(), || all_steps(&rt, rt.alloc())));
-    assert!(rt; succeeds(rt.alloc(), || small_all_steps(&rt, rt.alloc())));
+    let scenario = Taking { rt: &rt };
+    assert!(rt; succeeds_at_both_sizes(rt.alloc(), &scenario));
 }

@@ -1,34 +1,29 @@
 //! The pairs at both ends of an index, and the nearest ones beside its keys.
-use crate::said::ascend;
-use std::alloc::{AllocError, Global};
+use std::alloc::AllocError;
 use std::process::Abort;
-use test_support::refusals::succeeds;
-use tree_index::{SmallTreeIndex, TreeIndex, TreeIndexOf};
+use tree_support::{Numbers, Scenario, ascend, succeeds_at_both_sizes};
 
 /// The key of a pair, if there is one.
-fn key_of(pair: Option<(&u64, &u64)>) -> Option<u64> {
+fn key_of(pair: Option<(u64, u64)>) -> Option<u64> {
     let (key, _) = pair?;
-    Some(*key)
+    Some(key)
 }
 
 /// The keys nearest to a key, from below and from above.
-fn nearest<const LEN: usize>(
-    index: &TreeIndexOf<u64, u64, LEN>,
-    key: u64,
-) -> (Option<u64>, Option<u64>) {
+fn nearest(index: &impl Numbers, key: u64) -> (Option<u64>, Option<u64>) {
     (
-        key_of(index.at_or_below(&key)),
-        key_of(index.at_or_above(&key)),
+        key_of(index.at_or_below(key)),
+        key_of(index.at_or_above(key)),
     )
 }
 
 /// The first and the last key.
-fn ends<const LEN: usize>(index: &TreeIndexOf<u64, u64, LEN>) -> (Option<u64>, Option<u64>) {
+fn ends(index: &impl Numbers) -> (Option<u64>, Option<u64>) {
     (key_of(index.first()), key_of(index.last()))
 }
 
 /// The first and the last of so many even keys, and what is beside keys beyond them.
-fn expect_ends<const LEN: usize>(rt: &impl Abort, index: &TreeIndexOf<u64, u64, LEN>, len: u32) {
+fn expect_ends(rt: &impl Abort, index: &impl Numbers, len: u32) {
     let top = 2 * u64::from(len);
     let (least, greatest) = if len > 0 {
         (Some(2), Some(top))
@@ -36,87 +31,60 @@ fn expect_ends<const LEN: usize>(rt: &impl Abort, index: &TreeIndexOf<u64, u64, 
         (None, None)
     };
     assert!(rt; ends(index) == (least, greatest));
-    expect_near(rt, index, 1, (None, least));
-    expect_near(rt, index, top + 1, (greatest, None));
-}
-
-/// The keys that are nearest to a key.
-fn expect_near<const LEN: usize>(
-    rt: &impl Abort,
-    index: &TreeIndexOf<u64, u64, LEN>,
-    key: u64,
-    beside: (Option<u64>, Option<u64>),
-) {
-    assert!(rt; nearest(index, key) == beside);
+    assert!(rt; nearest(index, 1) == (None, least));
+    assert!(rt; nearest(index, top + 1) == (greatest, None));
 }
 
 /// What is beside each of so many even keys but the last, and beside the odd key above it.
-fn expect_beside<const LEN: usize>(rt: &impl Abort, index: &TreeIndexOf<u64, u64, LEN>, len: u32) {
+fn expect_beside(rt: &impl Abort, index: &impl Numbers, len: u32) {
     for number in 1..len {
         let key = 2 * u64::from(number);
-        expect_near(rt, index, key, (Some(key), Some(key)));
-        expect_near(rt, index, key + 1, (Some(key), Some(key + 2)));
+        assert!(rt; nearest(index, key) == (Some(key), Some(key)));
+        assert!(rt; nearest(index, key + 1) == (Some(key), Some(key + 2)));
     }
 }
 
-/// Whether a pair was removed.
-fn removes<const LEN: usize>(index: &mut TreeIndexOf<u64, u64, LEN>, key: u64) -> bool {
-    index.remove_sync(&key)
-}
-
 /// Removes every pair, the last one first, so that leaves at the end are emptied one after another.
-fn expect_emptied<const LEN: usize>(
-    rt: &impl Abort,
-    index: &mut TreeIndexOf<u64, u64, LEN>,
-    len: u32,
-) {
+fn expect_emptied(rt: &impl Abort, index: &mut impl Numbers, len: u32) {
     for number in (1..=len).rev() {
-        assert!(rt; removes(index, 2 * u64::from(number)));
+        assert!(rt; index.remove(2 * u64::from(number)));
         expect_ends(rt, index, number - 1);
     }
 }
 
-fn expect_nearest<const LEN: usize>(
-    rt: &impl Abort,
-    index: &mut TreeIndexOf<u64, u64, LEN>,
-    len: u32,
-) -> Result<(), AllocError> {
-    ascend(index, 1, u64::from(len), 2)?;
-    expect_ends(rt, index, len);
-    expect_beside(rt, index, len);
-    expect_emptied(rt, index, len);
-    Ok(())
+/// How many even keys are stored in an index of fifteen pairs a leaf, and in one of seven.
+static LENGTHS: [(u32, u32); 6] = [(0, 0), (1, 1), (15, 7), (16, 8), (241, 57), (3_616, 400)];
+
+/// Asks for the nearest pairs among so many.
+#[derive(Drop)]
+struct Seeking<'r, R> {
+    rt: &'r R,
+    lengths: (u32, u32),
 }
 
-fn finds_the_nearest_steps(rt: &impl Abort, alloc: Global, len: u32) -> Result<(), AllocError> {
-    let mut index = TreeIndex::new(alloc);
-    expect_nearest(rt, &mut index, len)
+impl<R: Abort, I: Numbers> Scenario<I> for Seeking<'_, R> {
+    fn play(&self, index: &mut I) -> Result<(), AllocError> {
+        let (at_fifteen, at_seven) = self.lengths;
+        let len = if index.pairs_a_leaf() == 7 {
+            at_seven
+        } else {
+            at_fifteen
+        };
+        ascend(index, 1, u64::from(len), 2)?;
+        expect_ends(self.rt, index, len);
+        expect_beside(self.rt, index, len);
+        expect_emptied(self.rt, index, len);
+        Ok(())
+    }
 }
 
 #[test]
 fn finds_the_nearest(rt: HostRuntime) {
-    for len in [0, 1, 15, 16, 241, 3_616] {
-        assert!(rt; succeeds(rt.alloc(), || finds_the_nearest_steps(&rt, rt.alloc(), len)));
-    }
-}
-
-fn finds_the_nearest_among_seven_steps(
-    rt: &impl Abort,
-    alloc: Global,
-    len: u32,
-) -> Result<(), AllocError> {
-    let mut index: SmallTreeIndex<u64, u64> = TreeIndexOf::new(alloc);
-    expect_nearest(rt, &mut index, len)
-}
-
-#[test]
-fn finds_the_nearest_among_seven(rt: HostRuntime) {
-    for len in [0, 1, 7, 8, 57, 400] {
-        assert!(rt;
-            succeeds(
-                rt.alloc(),
-                || finds_the_nearest_among_seven_steps(&rt, rt.alloc(), len)
-            )
-        );
+    for lengths in &LENGTHS {
+        let scenario = Seeking {
+            rt: &rt,
+            lengths: *lengths,
+        };
+        assert!(rt; succeeds_at_both_sizes(rt.alloc(), &scenario));
     }
 }

@@ -1,32 +1,5 @@
-//! Indexes of numbers, and the answers of their cursors as values that can be compared.
-use std::alloc::AllocError;
-use tree_index::{Answer, Cursor, Move, TreeIndexOf};
-
-/// Stores a pair.
-pub(crate) fn put<const LEN: usize>(
-    index: &mut TreeIndexOf<u64, u64, LEN>,
-    key: u64,
-    value: u64,
-) -> Result<(), AllocError> {
-    match index.insert_sync(key, value) {
-        Ok(()) => Ok(()),
-        Err(_) => Err(AllocError),
-    }
-}
-
-/// Stores the numbers from the first to the last, each times a factor, as its own value.
-pub(crate) fn ascend<const LEN: usize>(
-    index: &mut TreeIndexOf<u64, u64, LEN>,
-    first: u64,
-    last: u64,
-    factor: u64,
-) -> Result<(), AllocError> {
-    for number in first..=last {
-        let key = number.saturating_mul(factor);
-        put(index, key, key)?;
-    }
-    Ok(())
-}
+//! The answers of cursors over numbers, as values that can be compared.
+use tree_index::{Answer, Cursor, Move};
 
 /// A pair of numbers, if there is one.
 pub(crate) type Entry = Option<(u64, u64)>;

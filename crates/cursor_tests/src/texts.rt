@@ -20,7 +20,9 @@ fn expect_text<T: Debug>(
 }
 
 /// Pairs, a key, and the text of where it is.
-static PLACES: [(&[(u64, u64)], u64, &str); 3] = [
+type Place = (&'static [(u64, u64)], u64, &'static str);
+
+static PLACES: [Place; 3] = [
     (
         &[(1, 1), (3, 2)],
         2,
@@ -34,21 +36,30 @@ static PLACES: [(&[(u64, u64)], u64, &str); 3] = [
     (&[], 9, "Empty"),
 ];
 
-fn texts_of_places_steps(rt: &impl Abort, alloc: Global) -> Result<(), AllocError> {
-    for (pairs, key, text) in &PLACES {
-        let mut index: TreeIndex<u64, u64> = TreeIndex::new(alloc);
-        fill(&mut index, pairs)?;
-        expect_text(rt, alloc, &index.locate(key), text)?;
-    }
-    Ok(())
+/// Compares the text of where a key is in an index of these pairs.
+fn expect_place(
+    rt: &impl Abort,
+    alloc: Global,
+    index: &mut TreeIndex<u64, u64>,
+    (pairs, key, wanted): Place,
+) -> Result<(), AllocError> {
+    fill(index, pairs)?;
+    expect_text(rt, alloc, &index.locate(&key), wanted)
+}
+
+fn text_of_place_steps(rt: &impl Abort, alloc: Global, place: Place) -> Result<(), AllocError> {
+    let mut index: TreeIndex<u64, u64> = TreeIndex::new(alloc);
+    expect_place(rt, alloc, &mut index, place)
 }
 
 #[test]
 fn shows_where_a_key_is(rt: HostRuntime) {
-    assert!(rt; succeeds(rt.alloc(), || texts_of_places_steps(&rt, rt.alloc())));
+    for place in &PLACES {
+        assert!(rt; succeeds(rt.alloc(), || text_of_place_steps(&rt, rt.alloc(), *place)));
+    }
 }
 
-/// The texts of a walk that has made its first move, and of a range that has made one from each end.
+/// The text of a walk that has made its first move.
 fn expect_begun(
     rt: &impl Abort,
     alloc: Global,
@@ -57,7 +68,15 @@ fn expect_begun(
     let mut iter = index.iter();
     iter.next();
     let begun = "Iter { forward: Some((1, 10)), backward: None }";
-    expect_text(rt, alloc, &iter, begun)?;
+    expect_text(rt, alloc, &iter, begun)
+}
+
+/// The texts of a range that has made a move from one end, and then from the other.
+fn expect_begun_range(
+    rt: &impl Abort,
+    alloc: Global,
+    index: &TreeIndex<u64, u64>,
+) -> Result<(), AllocError> {
     let mut range = index.range((Bound::Included(&1), Bound::Excluded(&5)));
     range.next();
     let begun = "Range { forward: Some((1, 10)), backward: None }";
@@ -67,10 +86,19 @@ fn expect_begun(
     expect_text(rt, alloc, &range, both)
 }
 
+fn expect_begun_walks(
+    rt: &impl Abort,
+    alloc: Global,
+    index: &mut TreeIndex<u64, u64>,
+) -> Result<(), AllocError> {
+    fill(index, &[(1, 10), (3, 4)])?;
+    expect_begun(rt, alloc, index)?;
+    expect_begun_range(rt, alloc, index)
+}
+
 fn texts_of_begun_walks_steps(rt: &impl Abort, alloc: Global) -> Result<(), AllocError> {
     let mut index: TreeIndex<u64, u64> = TreeIndex::new(alloc);
-    fill(&mut index, &[(1, 10), (3, 4)])?;
-    expect_begun(rt, alloc, &index)
+    expect_begun_walks(rt, alloc, &mut index)
 }
 
 #[test]

@@ -1,12 +1,11 @@
 //! Worked walks of cursors.
-use crate::said::{Entry, Said, ascend, make, numbers, put, said_by};
+use crate::said::{Entry, Said, make, numbers, said_by};
 use std::alloc::{AllocError, Global};
 use std::ops::Bound;
 use std::process::Abort;
 use test_support::refusals::succeeds;
-use tree_index::{
-    Cursor, IterOf, Move, ProximityOf, RangeOf, SmallTreeIndex, TreeIndex, TreeIndexOf, run_moves,
-};
+use tree_index::{Cursor, IterOf, Move, ProximityOf, RangeOf, TreeIndex, TreeIndexOf, run_moves};
+use tree_support::{Numbers, Scenario, ascend, put, succeeds_at_both_sizes};
 
 /// Pairs in the order in which they come, the bounds of a range over them, its moves with their answers, and then those
 /// of the cursor over all pairs that is made of it.
@@ -211,10 +210,7 @@ static ROWS: [Row; 11] = [
 ];
 
 /// Stores pairs in an index.
-pub(crate) fn fill<const LEN: usize>(
-    index: &mut TreeIndexOf<u64, u64, LEN>,
-    pairs: &[(u64, u64)],
-) -> Result<(), AllocError> {
+pub(crate) fn fill(index: &mut impl Numbers, pairs: &[(u64, u64)]) -> Result<(), AllocError> {
     for (key, value) in pairs {
         put(index, *key, *value)?;
     }
@@ -306,38 +302,90 @@ fn expect_iter_at_once<const LEN: usize>(
     expect_at_once(rt, alloc, &mut iter, row.moves, row.answers)
 }
 
-fn expect_row<const LEN: usize>(
+impl Row {
+    /// The bounds of the range.
+    fn bounds(&self) -> (Bound<&u64>, Bound<&u64>) {
+        (self.bounds.0.as_ref(), self.bounds.1.as_ref())
+    }
+}
+
+/// Makes the moves of a row by a range over an index.
+fn step_range<const LEN: usize>(rt: &impl Abort, index: &TreeIndexOf<u64, u64, LEN>, row: &Row) {
+    expect_stepped(rt, index.range(row.bounds()), row);
+}
+
+/// Makes the same moves at once.
+fn run_range<const LEN: usize>(
     rt: &impl Abort,
     alloc: Global,
-    index: &mut TreeIndexOf<u64, u64, LEN>,
+    index: &TreeIndexOf<u64, u64, LEN>,
     row: &Row,
 ) -> Result<(), AllocError> {
-    fill(index, row.pairs)?;
-    let bounds = (row.bounds.0.as_ref(), row.bounds.1.as_ref());
-    expect_stepped(rt, index.range(bounds), row);
-    expect_range_at_once(rt, alloc, index.range(bounds), row)?;
+    expect_range_at_once(rt, alloc, index.range(row.bounds()), row)
+}
+
+/// Makes the moves of a row by a cursor over all pairs of an index.
+fn step_iter<const LEN: usize>(rt: &impl Abort, index: &TreeIndexOf<u64, u64, LEN>, row: &Row) {
+    expect_iter(rt, index.iter(), row);
+}
+
+/// Makes the same moves at once.
+fn run_iter<const LEN: usize>(
+    rt: &impl Abort,
+    alloc: Global,
+    index: &TreeIndexOf<u64, u64, LEN>,
+    row: &Row,
+) -> Result<(), AllocError> {
+    expect_iter_at_once(rt, alloc, index.iter(), row)
+}
+
+/// Makes the moves of a row one by one, by a range and, if its bounds are open, by a cursor over all pairs.
+fn expect_steps<const LEN: usize>(rt: &impl Abort, index: &TreeIndexOf<u64, u64, LEN>, row: &Row) {
+    step_range(rt, index, row);
     if row.bounds == (Bound::Unbounded, Bound::Unbounded) {
-        expect_iter(rt, index.iter(), row);
-        expect_iter_at_once(rt, alloc, index.iter(), row)?;
+        step_iter(rt, index, row);
+    }
+}
+
+/// Makes the same moves at once.
+fn expect_runs<const LEN: usize>(
+    rt: &impl Abort,
+    alloc: Global,
+    index: &TreeIndexOf<u64, u64, LEN>,
+    row: &Row,
+) -> Result<(), AllocError> {
+    run_range(rt, alloc, index, row)?;
+    if row.bounds == (Bound::Unbounded, Bound::Unbounded) {
+        run_iter(rt, alloc, index, row)?;
     }
     Ok(())
 }
 
-fn walks_steps(rt: &impl Abort, alloc: Global, row: &Row) -> Result<(), AllocError> {
-    let mut index: TreeIndex<u64, u64> = TreeIndex::new(alloc);
-    expect_row(rt, alloc, &mut index, row)
+/// Walks as a row says.
+#[derive(Drop)]
+struct Walking<'r, R> {
+    rt: &'r R,
+    alloc: Global,
+    row: &'static Row,
 }
 
-fn small_walks_steps(rt: &impl Abort, alloc: Global, row: &Row) -> Result<(), AllocError> {
-    let mut index: SmallTreeIndex<u64, u64> = SmallTreeIndex::new(alloc);
-    expect_row(rt, alloc, &mut index, row)
+impl<R: Abort, const LEN: usize> Scenario<TreeIndexOf<u64, u64, LEN>> for Walking<'_, R> {
+    fn play(&self, index: &mut TreeIndexOf<u64, u64, LEN>) -> Result<(), AllocError> {
+        fill(index, self.row.pairs)?;
+        expect_steps(self.rt, index, self.row);
+        expect_runs(self.rt, self.alloc, index, self.row)
+    }
 }
 
 #[test]
 fn walks_as_the_rows_say(rt: HostRuntime) {
     for row in &ROWS {
-        assert!(rt; succeeds(rt.alloc(), || walks_steps(&rt, rt.alloc(), row)));
-        assert!(rt; succeeds(rt.alloc(), || small_walks_steps(&rt, rt.alloc(), row)));
+        let scenario = Walking {
+            rt: &rt,
+            alloc: rt.alloc(),
+            row,
+        };
+        assert!(rt; succeeds_at_both_sizes(rt.alloc(), &scenario));
     }
 }
 
@@ -366,33 +414,37 @@ fn sum<const LEN: usize>(index: &TreeIndexOf<u64, u64, LEN>) -> u64 {
     sum
 }
 
+/// How many pairs of an index are within bounds.
+fn count_within<const LEN: usize>(
+    index: &TreeIndexOf<u64, u64, LEN>,
+    low: Bound<&u64>,
+    high: Bound<&u64>,
+) -> usize {
+    count(index.range((low, high)))
+}
+
 /// Counts the keys from 1 to 9 within bounds.
-fn expect_counts<const LEN: usize>(
-    rt: &impl Abort,
-    index: &mut TreeIndexOf<u64, u64, LEN>,
-) -> Result<(), AllocError> {
-    ascend(index, 1, 9, 1)?;
-    for (low, high, wanted) in &COUNTS {
-        assert!(rt; count(index.range((low.as_ref(), high.as_ref()))) == *wanted);
+#[derive(Drop)]
+struct Counting<'r, R> {
+    rt: &'r R,
+}
+
+impl<R: Abort, const LEN: usize> Scenario<TreeIndexOf<u64, u64, LEN>> for Counting<'_, R> {
+    fn play(&self, index: &mut TreeIndexOf<u64, u64, LEN>) -> Result<(), AllocError> {
+        let rt = self.rt;
+        ascend(index, 1, 9, 1)?;
+        for (low, high, wanted) in &COUNTS {
+            assert!(rt; count_within(index, low.as_ref(), high.as_ref()) == *wanted);
+        }
+        assert!(rt; sum(index) == 90);
+        Ok(())
     }
-    assert!(rt; sum(index) == 90);
-    Ok(())
-}
-
-fn counts_steps(rt: &impl Abort, alloc: Global) -> Result<(), AllocError> {
-    let mut index: TreeIndex<u64, u64> = TreeIndex::new(alloc);
-    expect_counts(rt, &mut index)
-}
-
-fn small_counts_steps(rt: &impl Abort, alloc: Global) -> Result<(), AllocError> {
-    let mut index: SmallTreeIndex<u64, u64> = SmallTreeIndex::new(alloc);
-    expect_counts(rt, &mut index)
 }
 
 #[test]
 fn counts_what_is_within_the_bounds(rt: HostRuntime) {
-    assert!(rt; succeeds(rt.alloc(), || counts_steps(&rt, rt.alloc())));
-    assert!(rt; succeeds(rt.alloc(), || small_counts_steps(&rt, rt.alloc())));
+    let scenario = Counting { rt: &rt };
+    assert!(rt; succeeds_at_both_sizes(rt.alloc(), &scenario));
 }
 
 /// Moves a range over two keys in two leaves to its end, and then a clone of it.
@@ -412,11 +464,18 @@ fn expect_two_keys<const LEN: usize>(
     Ok(())
 }
 
+/// Moves such a range over an index.
+fn expect_clone(rt: &impl Abort, index: &TreeIndex<u64, u64>) -> Result<(), AllocError> {
+    expect_two_keys(
+        rt,
+        index.range((Bound::Excluded(&14), Bound::Excluded(&17))),
+    )
+}
+
 fn meets_at_a_leaf_steps(rt: &impl Abort, alloc: Global) -> Result<(), AllocError> {
     let mut index: TreeIndex<u64, u64> = TreeIndex::new(alloc);
     ascend(&mut index, 1, 40, 1)?;
-    let range = index.range((Bound::Excluded(&14), Bound::Excluded(&17)));
-    expect_two_keys(rt, range)
+    expect_clone(rt, &index)
 }
 
 #[test]
@@ -430,43 +489,46 @@ fn last<const LEN: usize>(index: &TreeIndexOf<u64, u64, LEN>) -> Entry {
     numbers(range.next_back())
 }
 
-/// Fills a leaf with the keys below this one and a new leaf with it, removes it, and then stores a larger one.
-fn expect_last_leaf<const LEN: usize>(
-    rt: &impl Abort,
-    index: &mut TreeIndexOf<u64, u64, LEN>,
-    key: u64,
-) -> Result<(), AllocError> {
-    ascend(index, 0, key, 1)?;
-    assert!(rt; index.remove_sync(&key));
-    let (before, behind) = (key.saturating_sub(1), key.saturating_add(1));
-    assert!(rt; index.spare() == 0 && last(index) == Some((before, before)));
-    put(index, behind, 0)?;
-    assert!(rt; last(index) == Some((behind, 0)));
-    Ok(())
+/// An index of numbers whose last pair is found by a range.
+trait Ranged: Numbers {
+    /// The last pair.
+    fn last_in_range(&self) -> Entry;
 }
 
-fn passes_an_empty_leaf_steps(rt: &impl Abort, alloc: Global) -> Result<(), AllocError> {
-    let mut index: TreeIndex<u64, u64> = TreeIndex::new(alloc);
-    expect_last_leaf(rt, &mut index, 15)
+impl<const LEN: usize> Ranged for TreeIndexOf<u64, u64, LEN> {
+    fn last_in_range(&self) -> Entry {
+        last(self)
+    }
 }
 
-fn passes_a_small_leaf_steps(rt: &impl Abort, alloc: Global) -> Result<(), AllocError> {
-    let mut index: SmallTreeIndex<u64, u64> = SmallTreeIndex::new(alloc);
-    expect_last_leaf(rt, &mut index, 7)
+/// Fills a leaf and puts a key into a new one, removes it, and then stores a larger one.
+#[derive(Drop)]
+struct Emptying<'r, R> {
+    rt: &'r R,
+}
+
+impl<R: Abort, I: Ranged> Scenario<I> for Emptying<'_, R> {
+    fn play(&self, index: &mut I) -> Result<(), AllocError> {
+        let rt = self.rt;
+        let key = index.pairs_a_leaf() as u64;
+        let (before, behind) = (key.saturating_sub(1), key.saturating_add(1));
+        ascend(index, 0, key, 1)?;
+        assert!(rt; index.remove(key));
+        assert!(rt; index.spare() == 0 && index.last_in_range() == Some((before, before)));
+        put(index, behind, 0)?;
+        assert!(rt; index.last_in_range() == Some((behind, 0)));
+        Ok(())
+    }
 }
 
 #[test]
 fn passes_an_empty_last_leaf(rt: HostRuntime) {
-    assert!(rt; succeeds(rt.alloc(), || passes_an_empty_leaf_steps(&rt, rt.alloc())));
-    assert!(rt; succeeds(rt.alloc(), || passes_a_small_leaf_steps(&rt, rt.alloc())));
+    let scenario = Emptying { rt: &rt };
+    assert!(rt; succeeds_at_both_sizes(rt.alloc(), &scenario));
 }
 
 /// The moves of a cursor between two pairs, which has left the list at both ends.
-fn expect_between<const LEN: usize>(
-    rt: &impl Abort,
-    index: &mut TreeIndexOf<u64, u64, LEN>,
-) -> Result<(), AllocError> {
-    fill(index, &[(1, 1), (3, 2), (5, 3), (7, 4)])?;
+fn expect_between<const LEN: usize>(rt: &impl Abort, index: &TreeIndexOf<u64, u64, LEN>) {
     let ProximityOf::Between(ends) = index.locate(&2) else {
         panic!(rt; "2 is between")
     };
@@ -475,21 +537,24 @@ fn expect_between<const LEN: usize>(
     assert!(rt; numbers(ends.get_back()) == Some((3, 2)));
     let moved = [numbers(ends.next()), numbers(ends.next_back())];
     assert!(rt; moved == [None, None]);
-    Ok(())
 }
 
-fn locates_steps(rt: &impl Abort, alloc: Global) -> Result<(), AllocError> {
-    let mut index: TreeIndex<u64, u64> = TreeIndex::new(alloc);
-    expect_between(rt, &mut index)
+/// Locates a key among four pairs.
+#[derive(Drop)]
+struct Locating<'r, R> {
+    rt: &'r R,
 }
 
-fn small_locates_steps(rt: &impl Abort, alloc: Global) -> Result<(), AllocError> {
-    let mut index: SmallTreeIndex<u64, u64> = SmallTreeIndex::new(alloc);
-    expect_between(rt, &mut index)
+impl<R: Abort, const LEN: usize> Scenario<TreeIndexOf<u64, u64, LEN>> for Locating<'_, R> {
+    fn play(&self, index: &mut TreeIndexOf<u64, u64, LEN>) -> Result<(), AllocError> {
+        fill(index, &[(1, 1), (3, 2), (5, 3), (7, 4)])?;
+        expect_between(self.rt, index);
+        Ok(())
+    }
 }
 
 #[test]
 fn stands_between_two_pairs(rt: HostRuntime) {
-    assert!(rt; succeeds(rt.alloc(), || locates_steps(&rt, rt.alloc())));
-    assert!(rt; succeeds(rt.alloc(), || small_locates_steps(&rt, rt.alloc())));
+    let scenario = Locating { rt: &rt };
+    assert!(rt; succeeds_at_both_sizes(rt.alloc(), &scenario));
 }

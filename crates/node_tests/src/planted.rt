@@ -19,15 +19,8 @@ use tree_calls::root_calls::RootCalls;
 use tree_leaf::arena::NodeId;
 use tree_leaf::leaf::LeafOf;
 use tree_node::branch::{InternalNodeOf, LeafNodeOf};
-use tree_node::node::{ArenasOf, NodeOf};
+use tree_node::node::{ArenasOf, NodeOf, Root};
 use tree_support::walk;
-
-/// The number of a root, which stands at this level or is retired.
-#[derive(Clone, Copy)]
-pub(crate) struct Root {
-    pub(crate) level: usize,
-    pub(crate) id: NodeId,
-}
 
 /// Adds a leaf node over one empty leaf.
 pub(crate) fn first_root<K: IndexKey, V: Drop, const LEN: usize>(

@@ -4,7 +4,7 @@ ghost use Rattle.std.specs.Ordering.{nat_cmp};
 ghost use Rattle.tree_array.specs.Length.{IsLen};
 ghost use Rattle.node_tests.specs.Planted.{IsPlanted};
 
-use crate::planted::{Root, cleanup_root, first_root, has_pairs, split_root};
+use crate::planted::{cleanup_root, first_root, has_pairs, split_root};
 use crate::steps::{Step, answers};
 use crate::stored::Stored;
 use std::alloc::{AllocError, Global};
@@ -12,7 +12,7 @@ use std::process::Abort;
 use tree_calls::node_calls::NodeCalls;
 use tree_leaf::arena::NodeId;
 use tree_node::branch::{InternalNodeOf, LeafNodeOf};
-use tree_node::node::{ArenasOf, NodeOf};
+use tree_node::node::{ArenasOf, NodeOf, Root};
 
 /// More pairs than any tree has here.
 const MOST: usize = 5000;

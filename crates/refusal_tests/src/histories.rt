@@ -8,23 +8,57 @@ use tree_index::{Command, InsertError, Reply};
 use tree_state::{State, StateOf};
 use tree_support::flaws;
 
+/// A state of numbers, as its tests call it.
+trait Recorded {
+    /// Calls `apply`.
+    fn apply(&mut self, command: Command<u64, u64>) -> Result<Reply<u64>, Command<u64, u64>>;
+
+    /// Calls `insert`.
+    fn insert(&mut self, key: u64, value: u64) -> Result<(), InsertError<u64, u64>>;
+
+    /// Returns how many calls are in the history.
+    fn calls(&self) -> usize;
+
+    /// Whether the index is whole and has these pairs.
+    fn is_whole(&self, pairs: &[(u64, u64)]) -> bool;
+}
+
+impl<const LEN: usize> Recorded for StateOf<u64, u64, LEN> {
+    fn apply(&mut self, command: Command<u64, u64>) -> Result<Reply<u64>, Command<u64, u64>> {
+        StateOf::apply(self, command)
+    }
+
+    fn insert(&mut self, key: u64, value: u64) -> Result<(), InsertError<u64, u64>> {
+        StateOf::insert(self, key, value)
+    }
+
+    fn calls(&self) -> usize {
+        self.history().len()
+    }
+
+    fn is_whole(&self, pairs: &[(u64, u64)]) -> bool {
+        is_whole(self, pairs)
+    }
+}
+
+/// Whether the index of a state is whole and has these pairs.
+fn is_whole<const LEN: usize>(state: &StateOf<u64, u64, LEN>, pairs: &[(u64, u64)]) -> bool {
+    flaws(state.index(), pairs).is_ok()
+}
+
 /// Whether so many calls are in the history, and the index is whole and has these pairs.
-fn stands<const LEN: usize>(
-    state: &StateOf<u64, u64, LEN>,
-    calls: usize,
-    pairs: &[(u64, u64)],
-) -> bool {
-    state.history().len() == calls && flaws(state.index(), pairs).is_ok()
+fn stands(state: &impl Recorded, calls: usize, pairs: &[(u64, u64)]) -> bool {
+    state.calls() == calls && state.is_whole(pairs)
 }
 
 /// Applies a command to a state of these pairs. Returns whether it was refused: it came back then, and the state stood.
-fn is_refused<const LEN: usize>(
+fn is_refused(
     rt: &impl Abort,
-    state: &mut StateOf<u64, u64, LEN>,
+    state: &mut impl Recorded,
     pairs: &[(u64, u64)],
     command: Command<u64, u64>,
 ) -> bool {
-    let calls = state.history().len();
+    let calls = state.calls();
     let Err(back) = state.apply(command) else {
         return false;
     };
@@ -33,11 +67,8 @@ fn is_refused<const LEN: usize>(
 }
 
 /// Inserts the pair of 1 and 1 into an empty state. Returns whether it was refused: it came back then, and the state stood.
-fn is_refused_a_pair<const LEN: usize>(
-    rt: &impl Abort,
-    state: &mut StateOf<u64, u64, LEN>,
-) -> bool {
-    let calls = state.history().len();
+fn is_refused_a_pair(rt: &impl Abort, state: &mut impl Recorded) -> bool {
+    let calls = state.calls();
     let Err(back) = state.insert(1, 1) else {
         return false;
     };
@@ -59,10 +90,10 @@ fn outcome(
 }
 
 /// Applies a command, at once or the second time.
-fn apply_twice<const LEN: usize>(
+fn apply_twice(
     rt: &impl Abort,
     alloc: Global,
-    state: &mut StateOf<u64, u64, LEN>,
+    state: &mut impl Recorded,
     pairs: &[(u64, u64)],
     command: Command<u64, u64>,
 ) -> Result<bool, AllocError> {
@@ -72,10 +103,10 @@ fn apply_twice<const LEN: usize>(
 }
 
 /// Inserts the pair of 1 and 1 into an empty state, at once or the second time.
-fn insert_twice<const LEN: usize>(
+fn insert_twice(
     rt: &impl Abort,
     alloc: Global,
-    state: &mut StateOf<u64, u64, LEN>,
+    state: &mut impl Recorded,
 ) -> Result<bool, AllocError> {
     let first = is_refused_a_pair(rt, state);
     let second = first && is_refused_a_pair(rt, state);
@@ -99,10 +130,10 @@ static COMMANDS: [(Command<u64, u64>, &[(u64, u64)]); 8] = [
 
 /// Makes the calls of an empty state again and again, so that the history allocates as it grows. Returns whether something
 /// was refused.
-fn apply_each<const LEN: usize>(
+fn apply_each(
     rt: &impl Abort,
     alloc: Global,
-    state: &mut StateOf<u64, u64, LEN>,
+    state: &mut impl Recorded,
 ) -> Result<bool, AllocError> {
     let mut refused = false;
     for _ in 0..20 {
@@ -111,7 +142,7 @@ fn apply_each<const LEN: usize>(
         for (command, after) in &COMMANDS {
             refused |= apply_twice(rt, alloc, state, pairs, *command)?;
             pairs = *after;
-            assert!(rt; flaws(state.index(), pairs).is_ok());
+            assert!(rt; state.is_whole(pairs));
         }
     }
     Ok(refused)
@@ -129,16 +160,20 @@ fn small_applies_steps(rt: &impl Abort, alloc: Global) -> Result<(), AllocError>
 
 #[test]
 fn hands_back_each_command(rt: HostRuntime) {
-    assert!(rt; succeeds(rt.alloc(), || applies_steps(&rt, rt.alloc())));
-    assert!(rt; succeeds(rt.alloc(), || small_applies_steps(&rt, rt.alloc())));
+    assert!(rt;
+        succeeds(rt.alloc(), || {
+            applies_steps(&rt, rt.alloc())?;
+            small_applies_steps(&rt, rt.alloc())
+        })
+    );
 }
 
 /// Inserts pairs in key order: the first one into an empty state, and later ones where a leaf is full, a node over leaves
 /// and a node over nodes. Returns whether something was refused.
-fn fill<const LEN: usize>(
+fn fill(
     rt: &impl Abort,
     alloc: Global,
-    state: &mut StateOf<u64, u64, LEN>,
+    state: &mut impl Recorded,
     pairs: &[(u64, u64)],
 ) -> Result<bool, AllocError> {
     let mut refused = false;
@@ -164,16 +199,10 @@ fn small_fills(rt: &impl Abort, alloc: Global, pairs: &[(u64, u64)]) -> Result<(
 #[test]
 fn hands_back_inserts_into_a_growing_tree(rt: HostRuntime) {
     assert!(rt;
-        succeeds(
-            rt.alloc(),
-            || fills(&rt, rt.alloc(), &ascending(rt.alloc(), 3616)?)
-        )
-    );
-    assert!(rt;
-        succeeds(
-            rt.alloc(),
-            || small_fills(&rt, rt.alloc(), &ascending(rt.alloc(), 400)?)
-        )
+        succeeds(rt.alloc(), || {
+            fills(&rt, rt.alloc(), &ascending(rt.alloc(), 3616)?)?;
+            small_fills(&rt, rt.alloc(), &ascending(rt.alloc(), 400)?)
+        })
     );
 }
 

@@ -2,7 +2,8 @@
 use std::alloc::{AllocError, Global};
 use std::process::Abort;
 use test_support::refusals::succeeds;
-use tree_index::{TreeIndex, TreeIndexOf};
+use tree_index::TreeIndex;
+use tree_support::{Numbers, Scenario, ascend, succeeds_at_both_sizes};
 
 /// How often one key was upserted, and the spare then, with fifteen slots and with seven.
 static SPARES: [(u64, u8); 9] = [
@@ -20,56 +21,59 @@ static SPARES: [(u64, u8); 9] = [
 static SMALL_SPARES: [(u64, u8); 5] = [(1, 6), (2, 5), (3, 6), (7, 6), (8, 5)];
 
 /// Upserts the key 7 of an empty index again and again. Only the first upsert allocates.
-fn rebuild<const LEN: usize>(
-    rt: &impl Abort,
-    index: &mut TreeIndexOf<u64, u64, LEN>,
-    spares: &[(u64, u8)],
-) -> Result<(), AllocError> {
-    index.upsert_sync(7, 1).map_err(|_| AllocError)?;
-    let mut upserts: u64 = 1;
-    for (count, spare) in spares {
-        for value in upserts.saturating_add(1)..=*count {
-            assert!(rt; index.upsert_sync(7, value).is_ok());
+#[derive(Drop)]
+struct Rebuilding<'r, R> {
+    rt: &'r R,
+}
+
+impl<R: Abort, I: Numbers> Scenario<I> for Rebuilding<'_, R> {
+    fn play(&self, index: &mut I) -> Result<(), AllocError> {
+        let is_small = index.pairs_a_leaf() == 7;
+        let spares: &[(u64, u8)] = if is_small { &SMALL_SPARES } else { &SPARES };
+        index.upsert(7, 1).map_err(|_| AllocError)?;
+        let mut upserts: u64 = 1;
+        for (count, spare) in spares {
+            upsert_again(self.rt, index, upserts, *count);
+            upserts = *count;
+            expect_spare(self.rt, index, *spare, upserts);
         }
-        upserts = *count;
-        assert!(rt; index.spare() == *spare && index.peek(&7).copied() == Some(upserts));
+        Ok(())
     }
-    Ok(())
 }
 
-fn rebuilds_steps(rt: &impl Abort, alloc: Global) -> Result<(), AllocError> {
-    let mut index: TreeIndexOf<u64, u64, 15> = TreeIndexOf::new(alloc);
-    rebuild(rt, &mut index, &SPARES)
+/// Upserts the key, of which there were so many upserts, until there were `count`.
+fn upsert_again(rt: &impl Abort, index: &mut impl Numbers, upserts: u64, count: u64) {
+    for value in upserts.saturating_add(1)..=count {
+        assert!(rt; index.upsert(7, value).is_ok());
+    }
 }
 
-fn small_rebuilds_steps(rt: &impl Abort, alloc: Global) -> Result<(), AllocError> {
-    let mut index: TreeIndexOf<u64, u64, 7> = TreeIndexOf::new(alloc);
-    rebuild(rt, &mut index, &SMALL_SPARES)
+/// Compares the spare, and the value of the last upsert.
+fn expect_spare(rt: &impl Abort, index: &impl Numbers, spare: u8, value: u64) {
+    assert!(rt; index.spare() == spare && index.peek(7) == Some(value));
 }
 
 #[test]
 fn upserts_of_one_key_allocate_once(rt: HostRuntime) {
-    assert!(rt; succeeds(rt.alloc(), || rebuilds_steps(&rt, rt.alloc())));
-    assert!(rt; succeeds(rt.alloc(), || small_rebuilds_steps(&rt, rt.alloc())));
+    let scenario = Rebuilding { rt: &rt };
+    assert!(rt; succeeds_at_both_sizes(rt.alloc(), &scenario));
 }
 
 /// Removes four of the keys from 1 to 12, and inserts seven others.
-fn refill(rt: &impl Abort, index: &mut TreeIndex<u64, u64>) {
+fn refill(rt: &impl Abort, index: &mut impl Numbers) {
     assert!(rt; index.spare() == 3);
     for (key, spare) in [(1, 3), (2, 3), (3, 3), (4, 7)] {
-        assert!(rt; index.remove_sync(&key) && index.spare() == spare);
+        assert!(rt; index.remove(key) && index.spare() == spare);
     }
     for key in 21..=27u64 {
-        assert!(rt; index.insert_sync(key, key).is_ok());
+        assert!(rt; index.insert(key, key).is_ok());
     }
     assert!(rt; index.spare() == 0 && index.len() == 15);
 }
 
 fn refills_steps(rt: &impl Abort, alloc: Global) -> Result<(), AllocError> {
     let mut index: TreeIndex<u64, u64> = TreeIndex::new(alloc);
-    for key in 1..=12u64 {
-        index.insert_sync(key, key).map_err(|_| AllocError)?;
-    }
+    ascend(&mut index, 1, 12, 1)?;
     refill(rt, &mut index);
     Ok(())
 }

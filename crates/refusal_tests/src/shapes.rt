@@ -1,8 +1,7 @@
 //! Writes at each shape of a tree at which memory may be refused, and the calls that allocate nothing.
 use crate::keys::Named;
-use crate::writes::{Call, Names, ample, stands, store, write_twice, written};
+use crate::writes::{Call, NamedKeys, Names, ample, stands, store, write_twice, written};
 use std::alloc::{AllocError, Global};
-use std::ops::Bound;
 use std::process::Abort;
 use test_support::refusals::succeeds;
 use tree_index::{InsertError, TreeIndexOf};
@@ -71,11 +70,7 @@ fn pairs_of(alloc: Global, shape: &Shape, is_after: bool) -> Result<Vec<(u64, u6
 
 /// Stores the pairs of a shape in an empty index. The keys near that of the write allocate where they are cloned, as a
 /// split does with one of them.
-fn grow<const LEN: usize>(
-    alloc: Global,
-    index: &mut Names<LEN>,
-    shape: &Shape,
-) -> Result<(), AllocError> {
+fn grow(alloc: Global, index: &mut impl NamedKeys, shape: &Shape) -> Result<(), AllocError> {
     let (count, step, _, key, _) = *shape;
     for place in 1..=count {
         let number = place.saturating_mul(step);
@@ -87,21 +82,16 @@ fn grow<const LEN: usize>(
 }
 
 /// Removes the keys of a shape.
-fn shrink<const LEN: usize>(alloc: Global, index: &mut Names<LEN>, shape: &Shape) {
+fn shrink(alloc: Global, index: &mut impl NamedKeys, shape: &Shape) {
     let (first, last) = shape.2;
     for number in first..=last {
-        let _ = index.remove_sync(&Named::bare(alloc, number));
+        let _ = index.remove(&Named::bare(alloc, number));
     }
 }
 
 /// Offers a second key that is equal to the one that was written.
-fn refuse_a_duplicate<const LEN: usize>(
-    rt: &impl Abort,
-    alloc: Global,
-    index: &mut Names<LEN>,
-    number: u64,
-) {
-    match index.insert_sync(Named::bare(alloc, number), 7) {
+fn refuse_a_duplicate(rt: &impl Abort, alloc: Global, index: &mut impl NamedKeys, number: u64) {
+    match index.insert(Named::bare(alloc, number), 7) {
         Err(InsertError::Duplicate(key, value)) => {
             assert!(rt; key.number == number && key.name.is_empty() && value == 7);
         }
@@ -110,42 +100,29 @@ fn refuse_a_duplicate<const LEN: usize>(
 }
 
 /// Looks up the key that was written, with both ends of a range too.
-fn look_up<const LEN: usize>(rt: &impl Abort, index: &Names<LEN>, key: &Named) {
-    assert!(rt; index.peek(key).copied() == Some(0) && index.contains(key));
-    look_in_range(rt, index, key);
-}
-
-/// Looks up the key as a range of its own.
-fn look_in_range<const LEN: usize>(rt: &impl Abort, index: &Names<LEN>, key: &Named) {
-    let mut range = index.range((Bound::Included(key), Bound::Included(key)));
-    assert!(rt; range.next().is_some_and(|(at, _)| at.number == key.number));
-    assert!(rt; range.next_back().is_none());
+fn look_up(rt: &impl Abort, index: &impl NamedKeys, key: &Named) {
+    assert!(rt; index.peek(key) == Some(0) && index.contains(key) && index.is_alone(key));
 }
 
 /// Removes the pair that was written, if its condition allows it.
-fn remove<const LEN: usize>(rt: &impl Abort, index: &mut Names<LEN>, key: &Named) {
-    assert!(rt; !index.remove_if_sync(key, |value| *value > 0));
-    assert!(rt; index.remove_sync(key));
+fn remove(rt: &impl Abort, index: &mut impl NamedKeys, key: &Named) {
+    assert!(rt; !index.remove_positive(key));
+    assert!(rt; index.remove(key));
 }
 
 /// Removes the pairs up to a key. Those of the rest stay.
-fn cut<const LEN: usize>(
-    rt: &impl Abort,
-    index: &mut Names<LEN>,
-    pairs: &[(u64, u64)],
-    key: &Named,
-) {
-    index.remove_range_sync((Bound::Unbounded, Bound::Included(key)));
+fn cut(rt: &impl Abort, index: &mut impl NamedKeys, pairs: &[(u64, u64)], key: &Named) {
+    index.remove_up_to(key);
     let first = pairs.iter().position(|pair| pair.0 > key.number);
     let rest = pairs.get(first.unwrap_or(pairs.len())..).unwrap_or(&[]);
     assert!(rt; stands(index, rest, 0));
 }
 
 /// Calls that allocate nothing answer, whatever is refused. At last the index is empty.
-fn answer_without_memory<const LEN: usize>(
+fn answer_without_memory(
     rt: &impl Abort,
     alloc: Global,
-    index: &mut Names<LEN>,
+    index: &mut impl NamedKeys,
     pairs: &[(u64, u64)],
     number: u64,
 ) {
@@ -155,20 +132,15 @@ fn answer_without_memory<const LEN: usize>(
     remove(rt, index, &key);
     assert!(rt; stands(index, pairs, 0));
     cut(rt, index, pairs, &key);
-    empty(rt, index);
-}
-
-/// Removes all pairs.
-fn empty<const LEN: usize>(rt: &impl Abort, index: &mut Names<LEN>) {
     index.clear();
     assert!(rt; index.is_empty() && index.depth() == 0);
 }
 
 /// Writes the pair of a shape into an index of these pairs, and makes the calls that allocate nothing.
-fn write<const LEN: usize>(
+fn write(
     rt: &impl Abort,
     alloc: Global,
-    index: &mut Names<LEN>,
+    index: &mut impl NamedKeys,
     shape: &Shape,
     by: Call,
     (before, after): (&[(u64, u64)], &[(u64, u64)]),
@@ -181,10 +153,10 @@ fn write<const LEN: usize>(
 }
 
 /// Grows an empty index to a shape, and writes.
-fn write_at<const LEN: usize>(
+fn write_at(
     rt: &impl Abort,
     alloc: Global,
-    index: &mut Names<LEN>,
+    index: &mut impl NamedKeys,
     shape: &Shape,
     by: Call,
 ) -> Result<(), AllocError> {

@@ -13,13 +13,18 @@ use Rattle.tree_leaf.specs.Entries.{leaf_entries}
 use Rattle.tree_node.specs.declared.node.NodeOf.{NodeOf}
 use Rattle.tree_node.specs.Arenas.{TreeArenas}
 use Rattle.tree_node.specs.Parts.{IsPart, Replaces}
-use Rattle.tree_node.specs.Tree.{AreParted, HasChildFor, IsAbove, Stands, child_at, is_from, keyed, walk}
+use Rattle.tree_node.specs.Tree.{AreParted, HasChildFor, IsAbove, IsRetiredNode, Stands, child_at, is_from, keyed, walk}
 use Rattle.tree_node.proofs.Bare.{parted_last}
 use Rattle.tree_node.proofs.ChildChanges.{child_part, node_replaces, same_node}
 use Rattle.tree_node.proofs.Cuts.{all_behind}
 use Rattle.tree_node.proofs.Walks.{above_next, walk-children, walk_above}
 use Rattle.tree_split.specs.Packed.{HasLast}
 use Rattle.tree_split.proofs.Edges.{one_last}
+
+-- a retired node has no last child
+pub no_last : {K : Type 0} {LEN : ℕ} (slot : Option (NodeOf K LEN)) → IsRetiredNode slot → (child : ℕ) → HasLast slot child → ⊥
+no_last None retired child last = last
+no_last (Some node) retired child last = let both : None ≡ Some child = sym retired.1 ∙ last in cc
 
 module _ {K : Type 0} {LEN : ℕ} (nodes : Slab (NodeOf K LEN)) where
   -- one number stands at the end of so many steps

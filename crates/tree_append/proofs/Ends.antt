@@ -1,5 +1,5 @@
 -- The leaf at the end of the edge and its node, for a key that is larger than all.
-use Rattle.std.proofs.Common.{◌≡◌, ◌∙◌, ℕ, zero, suc, ◌-◌, ◌<◌, true, false, [], ◌∷◌, length, None, Option, Some, Result, Ok, refl, arith, sub-one}
+use Rattle.std.proofs.Common.{◌≡◌, ◌∙◌, ℕ, zero, suc, ◌-◌, ◌<◌, true, [], ◌∷◌, length, None, Ok, refl, arith, sub-one}
 use Rattle.std.specs.List.{AllByRecursion}
 use Rattle.std.specs.declared.cmp.Ordering.{Ordering}
 use Rattle.std.specs.declared.cmp.Ordering.TheVariants.{Less}
@@ -8,28 +8,16 @@ use Rattle.std.proofs.lemmas.List.{append-nil}
 use Rattle.slab.specs.Slab.{get}
 use Rattle.tree_append.specs.Appends.{AppendsUnder, IsLastFor, IsOnEdge}
 use Rattle.tree_append.proofs.Edges.{edge_below, edge_stays, edge_way, larger_there, one_end}
-use Rattle.tree_array.specs.Insertion.{IsFull}
-use Rattle.tree_array.specs.declared.answers.StoreResult.{StoreResult}
 use Rattle.tree_array.specs.declared.answers.StoreResult.TheVariants.{New}
 use Rattle.tree_descent.specs.Ways.{LeadsTo}
-use Rattle.tree_insert.specs.Inserts.{InsertsUnder, asks_split}
+use Rattle.tree_insert.specs.Inserts.{InsertsUnder}
 use Rattle.tree_insert.proofs.Ways.{inserts_at_node, node_on_way}
 use Rattle.tree_leaf.specs.Entries.{leaf_entries}
 use Rattle.tree_model.proofs.LookUps.{put_beyond}
 use Rattle.tree_node.specs.Arenas.{TreeArenas}
-use Rattle.tree_node.specs.declared.node.NodeOf.{NodeOf}
 use Rattle.tree_node.specs.Parts.{IsPart, Replaces}
-use Rattle.tree_node.specs.Shape.{found_room}
-use Rattle.tree_node.specs.Tree.{keyed, walk}
+use Rattle.tree_node.specs.Tree.{walk}
 use Rattle.tree_split.specs.Packed.{HasLast}
-use Rattle.tree_split.proofs.Fulls.{not_full_room}
-
--- a node with a last child has room, where its array isn't full
-pub room_left : {K : Type 0} {LEN : ℕ} (slot : Option (NodeOf K LEN)) (node : NodeOf K LEN) (last : ℕ) → slot ≡ Some node → HasLast slot last → (IsFull LEN (keyed node) → ⊥) → 0 < found_room slot
-room_left slot node last here ends not =
-    let free = not_full_room node not in
-    let is = rw here at ends in
-    rw (here, is, free.1) free.0
 
 module _ {K V : Type 0} {LEN : ℕ} {cmp : K → K → Ordering} (o : IsTotalOrder cmp) (a : TreeArenas K V LEN) (id node last : ℕ) (key : K) where
   -- the way of the key leads there, and the key is larger than all under the node
@@ -58,13 +46,9 @@ module _ {K V : Type 0} {LEN : ℕ} {cmp : K → K → Ordering} (o : IsTotalOrd
       let stays = edge_stays o a leaf for.last.1 key new node replaces level id for.part for.last.0 for.beyond (rw sub-one at edge) in
       edge_below new.nodes (suc level) for.deep id node last (rw sub-one stays.0) ends
 
-  -- an insert at the node is one under the number
-  module _ (level leaf : ℕ) (for : IsLastFor cmp level a id leaf key) (there : AtEnd level leaf) (new : TreeArenas K V LEN) (val : V) where
-    pub inserts_there : (result : Result (StoreResult K V) (K × V)) → asks_split result ≡ false → InsertsUnder cmp true 1 a new node result key val → InsertsUnder cmp true level a new id result key val
-    inserts_there result no_split inserts = inserts_at_node o true a new key val result no_split node inserts level for.deep id for.part there.leads.1
-
-    -- where the node's last child has the pair, it is the last leaf still
-    pub appends_there : IsOnEdge (level - 1) a.nodes id node → InsertsUnder cmp true 1 a new node (Ok New) key val → HasLast (get new.nodes node) last → 0 < length (leaf_entries new.leaves last) → AppendsUnder cmp level a new id leaf key val
-    appends_there edge inserts ends some =
-        let under = inserts_there (Ok New) refl inserts in
-        record { inserts = under; pairs = under.pairs.1 ∙ put_beyond cmp _ key val for.beyond; last = rw there.same (edge_there level leaf for new inserts.replaces edge ends, some) }
+  -- a pair that is inserted at the node is appended under the number, where the node's last child has it
+  pub appends_there : (level leaf : ℕ) (for : IsLastFor cmp level a id leaf key) (there : AtEnd level leaf) (new : TreeArenas K V LEN) (val : V) → IsOnEdge (level - 1) a.nodes id node → InsertsUnder cmp true 1 a new node (Ok New) key val → HasLast (get new.nodes node) last
+      → 0 < length (leaf_entries new.leaves last) → AppendsUnder cmp level a new id leaf key val
+  appends_there level leaf for there new val edge inserts ends some =
+      let under = inserts_at_node o true a new key val (Ok New) refl node inserts level for.deep id for.part there.leads.1 in
+      record { inserts = under; pairs = under.pairs.1 ∙ put_beyond cmp _ key val for.beyond; last = rw there.same (edge_there level leaf for new inserts.replaces edge ends, some) }

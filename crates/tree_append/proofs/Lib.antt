@@ -1,5 +1,6 @@
-mod Edges
+pub mod Edges
 mod Ends
 mod Lasts
 mod Rooms
+mod Runs
 mod Stored

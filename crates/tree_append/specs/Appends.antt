@@ -1,19 +1,17 @@
 -- The last leaf of a part of a tree, and what an append to it leaves.
-use Rattle.std.specs.Prelude.{◌≡◌, ℕ, zero, suc, ◌-◌, ◌<◌, ◌⊎◌, true, [], ◌∷◌, ◌++◌, length, Result, Ok, Err}
+use Rattle.std.specs.Prelude.{◌≡◌, ℕ, zero, suc, ◌<◌, ◌⊎◌, Bool, true, false, List, [], ◌∷◌, ◌++◌, length, Result, Ok, Err}
 use Rattle.std.specs.List.{AllByRecursion}
 use Rattle.std.specs.Option.{ForSome}
 use Rattle.std.specs.declared.cmp.Ordering.{Ordering}
 use Rattle.std.specs.declared.cmp.Ordering.TheVariants.{Less}
 use Rattle.slab.specs.Slab.{Slab, get}
-use Rattle.tree_array.specs.declared.answers.StoreResult.{StoreResult}
-use Rattle.tree_array.specs.declared.answers.StoreResult.TheVariants.{New, Replaced, Duplicate, Full}
+use Rattle.tree_array.specs.declared.answers.StoreResult.TheVariants.{New}
 use Rattle.tree_array.specs.Insertion.{IsFull}
 use Rattle.tree_insert.specs.Inserts.{InsertsUnder}
 use Rattle.tree_leaf.specs.Entries.{leaf_entries}
 use Rattle.tree_node.specs.Arenas.{TreeArenas}
 use Rattle.tree_node.specs.declared.node.NodeOf.{NodeOf}
 use Rattle.tree_node.specs.Parts.{IsPart}
-use Rattle.tree_node.specs.Shape.{room}
 use Rattle.tree_node.specs.Tree.{IsRetired, walk}
 use Rattle.tree_split.specs.Packed.{HasLast}
 
@@ -30,10 +28,6 @@ module _ {K V : Type 0} {LEN : ℕ} where
   -- there is no such leaf: the node is retired, or its last leaf has no pair
   abbrev pub HasNoLastLeaf : ℕ → TreeArenas K V LEN → ℕ → Type 0
   HasNoLastLeaf level arenas id = IsRetired level arenas id ⊎ ((leaf : ℕ) × IsOnEdge level arenas.nodes id leaf × (leaf_entries arenas.leaves leaf ≡ []))
-
-  -- the last leaf node takes no further child
-  abbrev pub HasFullEnd : ℕ → TreeArenas K V LEN → ℕ → Type 0
-  HasFullEnd level arenas id = (node : ℕ) × IsOnEdge (level - 1) arenas.nodes id node × (room 1 arenas node ≡ 0)
 
   module _ (cmp : K → K → Ordering) (level : ℕ) where
     -- it is the last one under a node, and the key is larger than all there
@@ -54,10 +48,13 @@ module _ {K V : Type 0} {LEN : ℕ} where
     Appends old new id leaf key val (Ok _) = AppendsUnder old new id leaf key val
     Appends old new id leaf key val (Err pair) = (new ≡ old) × (pair.0 ≡ key) × (pair.1 ≡ val) × ForSome (get old.leaves leaf) (λ found. IsFull LEN found.array)
 
-    -- The pair is stored behind all others, and the leaf is the last one still, or memory is refused as to an insert. Or the pair comes back, nothing has changed, and the last leaf node takes no further child.
-    abbrev pub AppendsBelow : TreeArenas K V LEN → TreeArenas K V LEN → ℕ → ℕ → K → V → Result (StoreResult K V) (K × V) → Type 0
-    AppendsBelow old new id leaf key val (Ok New) = AppendsUnder old new id leaf key val
-    AppendsBelow old new id leaf key val (Ok Replaced) = ⊥
-    AppendsBelow old new id leaf key val (Ok (Duplicate k v)) = ⊥
-    AppendsBelow old new id leaf key val (Ok (Full k v)) = (new ≡ old) × (k ≡ key) × (v ≡ val) × HasFullEnd level old id
-    AppendsBelow old new id leaf key val (Err pair) = InsertsUnder cmp true level old new id (Err pair) key val
+    -- these pairs stand behind all others, as appends of one after another leave them
+    abbrev pub AppendsEach : TreeArenas K V LEN → TreeArenas K V LEN → ℕ → ℕ → List (K × V) → Type 0
+    AppendsEach old new id leaf [] = ⊥
+    AppendsEach old new id leaf (pair ∷ []) = AppendsUnder old new id leaf pair.0 pair.1
+    AppendsEach old new id leaf (pair ∷ (next ∷ rest)) = (mid : TreeArenas K V LEN) × AppendsUnder old mid id leaf pair.0 pair.1 × AppendsEach mid new id leaf (next ∷ rest)
+
+    -- so do those of a run, which has none left; or nothing has changed
+    abbrev pub AppendsRun : TreeArenas K V LEN → TreeArenas K V LEN → ℕ → List (K × V) → List (K × V) → Bool → Type 0
+    AppendsRun old new id run left true = (leaf : ℕ) × IsLastLeaf level old id leaf × AppendsEach old new id leaf run × (left ≡ [])
+    AppendsRun old new id run left false = (new ≡ old) × (left ≡ run)

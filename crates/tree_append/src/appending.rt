@@ -1,15 +1,17 @@
 //! Appends to the last leaf of a part of a tree.
-ghost use Rattle.std.specs.Prelude.{◌≡◌, ◌⊎◌, ◌-◌, ◌<◌, ℕ, None};
+ghost use Rattle.std.specs.Prelude.{◌≡◌, ◌⊎◌, ◌-◌, ◌<◌, ◌++◌, ℕ, IfOk, None};
 ghost use Rattle.std.specs.Option.{ForNone, ForSome};
 ghost use Rattle.slab.specs.Slab.{ContainsKey, get};
-ghost use Rattle.tree_append.specs.Appends.{Appends, AppendsBelow, HasNoLastLeaf, IsLastFor, IsLastLeaf, IsOnEdge};
-ghost use Rattle.tree_node.specs.Shape.{room};
-ghost use Rattle.tree_node.specs.Tree.{IsRetired, Stands};
+ghost use Rattle.tree_append.specs.Appends.{Appends, AppendsRun, HasNoLastLeaf, IsLastFor, IsLastLeaf, IsOnEdge};
+ghost use Rattle.tree_model.specs.Pairs.{IsAscending};
+ghost use Rattle.tree_node.specs.Parts.{IsPart};
+ghost use Rattle.tree_node.specs.Tree.{IsRetired, Stands, walk};
 ghost use Rattle.tree_split.specs.Packed.{HasLast};
 
-use tree_array::array::{IndexKey, StoreResult};
+use std::alloc::AllocError;
+use tree_array::array::{IndexKey, RunOf};
 use tree_leaf::arena::{LeafId, NodeId};
-use tree_leaf_split::make_room;
+use tree_leaf_split::empty_last;
 use tree_node::node::{ArenasOf, NodeOf};
 
 /// Returns the last leaf under the number of a node of this level, or `None` if the leaf has no pair or the node is
@@ -95,40 +97,39 @@ pub fn append_to<K: IndexKey, V: Drop, const LEN: usize>(
     Ok(())
 }
 
-/// Puts a pair behind all others of a part of a tree whose last leaf is full. Finds the leaf and its node along the
-/// unbounded children, makes room as an insert does, by a split of the leaf or by building it anew, and appends the pair.
-/// The leaf keeps its number, and is the last one still.
+/// Puts the pairs of a run behind all others of a part of a tree, and returns whether it did: all pairs of the last leaf move
+/// to a new leaf before it, and it takes those of the run, which has none afterwards. The leaf is found along the unbounded
+/// children.
 ///
-/// Returns `Full`, and changes nothing, if the node has no slot for another keyed child. Returns `Err` if the leaf has to
-/// be split and memory is refused. Both hand the pair back. Runs in O(level). Allocates one leaf at most. Makes the
-/// comparisons of [`make_room`] alone.
+/// Returns `false`, and changes nothing, if the last leaf isn't full or its pairs didn't arrive in ascending order, if its
+/// node has no slot for another keyed child, or if the run has no pair. Returns `Err` if memory is refused. Runs in
+/// O(level). Allocates one leaf at most. Makes the comparisons of [`empty_last`] alone.
 ///
-/// The caller must see that the last leaf under the number has pairs and no free slot, and that the key is larger than
-/// all there.
-#[inline(always)]
-pub fn append_under<K: IndexKey, V: Drop, const LEN: usize>(
+/// The caller must see that the keys of the run are larger than all under the number.
+pub fn append_run<K: IndexKey, V: Drop, const LEN: usize>(
     arenas: &mut ArenasOf<K, V, LEN>,
     level: usize,
     id: NodeId,
-    key: K,
-    val: V,
-) -> Result<StoreResult<K, V>, (K, V)>
-    requires { (leaf : ℕ) × IsLastFor K.cmp level arenas.old id leaf key × (room 0 arenas.old leaf ≡ 0) }
-    ensures { (leaf : ℕ) → IsLastFor K.cmp level arenas.old id leaf key
-        → AppendsBelow K.cmp level arenas.old arenas.new id leaf key val result }
+    run: &mut RunOf<K, V, LEN>,
+) -> Result<bool, AllocError>
+    requires node { 0 < level }
+    requires part { IsPart K.cmp level arenas.old id ⊎ IsRetired level arenas.old id }
+    requires ascending { IsAscending K.cmp (walk level arenas.old id ++ run.old) }
+    ensures { IfOk result (λ done. AppendsRun K.cmp level arenas.old arenas.new id run.old run.new done) }
 {
     let Some(end) = edge_at(arenas, level, id) else {
-        unreachable!()
+        return Ok(false);
     };
-    if arenas.node(end.node).is_full() {
-        return Ok(StoreResult::Full(key, val));
+    let last = arenas.leaf(end.leaf).array();
+    if last.is_empty() {
+        return Ok(false);
     }
-    match make_room(arenas, end.node, end.leaf, &key) {
-        Err(_) => Err((key, val)),
-        Ok(None) => unreachable!(),
-        Ok(Some(home)) => {
-            arenas.leaf_mut(home).array_mut().append(key, val);
-            Ok(StoreResult::New)
-        }
+    let Some(key) = run.first_key() else {
+        return Ok(false);
+    };
+    if !empty_last(arenas, end.node, end.leaf, key)? {
+        return Ok(false);
     }
+    *arenas.leaf_mut(end.leaf).array_mut() = run.close();
+    Ok(true)
 }

@@ -1,18 +1,18 @@
 -- Entries that are taken, and arrays whose arrivals are all spent.
-use Rattle.std.proofs.Common.{◌≡◌, ℕ, zero, suc, ◌<◌, true, length, map, drop, take, get_or, List, [], ◌∷◌, ◌++◌, slice_get, Option, Some, None, refl, ap, subst, arith, Ordering, Less}
+use Rattle.std.proofs.Common.{◌≡◌, ℕ, zero, suc, ◌<◌, true, length, map, drop, take, get_or, List, [], ◌∷◌, ◌++◌, slice_get, Option, Some, None, refl, sym, ap, subst, arith, Ordering, Less}
 use Rattle.tree_model.proofs.Common.{IsTotalOrder, IsAscending, without}
-use Rattle.tree_array.proofs.Common.{Arrivals, arrival, spend, spent_at}
+use Rattle.tree_array.proofs.Common.{Arrivals, arrival}
 use Rattle.std.proofs.lemmas.Option.{none-some, same_Some}
 use Rattle.tree_model.proofs.Ascending.{without_first}
 use Rattle.tree_model.proofs.Lists.{all_at}
 use Rattle.tree_array.specs.Arrivals.{drained}
 
 module _ {K V : Type 0} where
-  -- an arrival after a key is spent
-  pub arrival-spend : (cmp : K → K → Ordering) (arrivals : List (Option (K × V))) (key : K) (p : ℕ) → arrival (spend cmp arrivals key) p ≡ spent_at cmp key (arrival arrivals p)
-  arrival-spend cmp [] key p = refl
-  arrival-spend cmp (a ∷ arrivals) key zero = refl
-  arrival-spend cmp (a ∷ arrivals) key (suc p) = arrival-spend cmp arrivals key p
+  -- an arrival after each is changed
+  pub arrival-map : (f : Option (K × V) → Option (K × V)) → f None ≡ None → (arrivals : List (Option (K × V))) (p : ℕ) → arrival (map f arrivals) p ≡ f (arrival arrivals p)
+  arrival-map f none [] p = sym none
+  arrival-map f none (a ∷ arrivals) zero = refl
+  arrival-map f none (a ∷ arrivals) (suc p) = arrival-map f none arrivals p
 
 module _ {K V : Type 0} {cmp : K → K → Ordering} (o : IsTotalOrder cmp) where
   -- the entries before one that was taken, and those behind it

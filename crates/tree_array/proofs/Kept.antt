@@ -1,65 +1,43 @@
 -- What every array keeps.
-use Rattle.std.proofs.Common.{◌≡◌, ◌↔◌, IsTrue, ℕ, suc, ◌+◌, ◌-◌, ◌==◌, ◌++◌, ◌<◌, ◌≤◌, Bool, false, true, List, [], ◌∷◌, map, length, slice_get, Option, None, Some, refl, sym, ◌∙◌, ap, arith, Ordering, Equal, is_eq}
-use Rattle.tree_model.proofs.Common.{IsTotalOrder, AllByRecursion, nat_tests, nil_from_length}
-use Rattle.tree_array.proofs.Common.{Arrivals, arrival, ascents, reachable, sorted, stored, HasRoom, picked, named, IsSound, IsTabled, seen, equal_from_test, length-picked, arrival-all, len_small, ordinals_of}
-use Rattle.std.proofs.lemmas.List.{length-map}
-use Rattle.std.proofs.lemmas.Option.{same_Some, slice_get_within}
-use Rattle.tree_array.specs.Arrivals.{numbered}
-use Rattle.tree_order.specs.Order.{names, ordinal_in, rises_in}
-use Rattle.tree_cells.specs.Ordinals.{HasOrdinals}
-use Rattle.tree_cells.specs.Tabled.{IsMarked}
+use Rattle.std.proofs.Common.{◌≡◌, ◌↔◌, IsTrue, ℕ, suc, ◌+◌, ◌==◌, ◌<◌, ◌≤◌, Bool, false, List, [], ◌∷◌, map, length, slice_get, Option, None, Some, IsSome, refl, sym, ◌∙◌, ap, subst, inl, inr, arith, Ordering, Equal}
+use Rattle.tree_model.proofs.Common.{IsAbsent, IsTotalOrder, cases_lt, false≢true, nat_tests, nil_from_length, pair_at}
+use Rattle.tree_array.proofs.Common.{Arrivals, arrival, ascents, reachable, sorted, stored, HasRoom, named, names, IsSound, seen, equal_from_test, length-picked, arrival-all, len_small, ordinals_of, picked, IsArray}
+use Rattle.std.proofs.lemmas.Bool.{false_from_ne_true}
+use Rattle.std.proofs.lemmas.Simd.{map-map}
 use Rattle.tree_model.proofs.Lengths.{length-put, without_absent, without_few}
 use Rattle.tree_model.proofs.Lists.{find_none}
+use Rattle.tree_array.specs.Arrivals.{numbered, slots_in_order}
+use Rattle.tree_array.specs.Insertion.{IsStored}
+use Rattle.tree_cells.specs.Arrivals.{held}
+use Rattle.tree_cells.specs.Place.{HasKey, IsPlace}
+use Rattle.tree_cells.specs.declared.search.Place.TheVariants.{Before}
 use Rattle.tree_cells.proofs.Entries.{all-reachable}
-use Rattle.tree_order.proofs.Picked.{slice_get-picked}
-use Rattle.tree_cells.proofs.Picks.{reachable_few}
-use Rattle.tree_array.proofs.Places.{entry_at, last_entry}
-use Rattle.tree_cells.proofs.OrdinalOrder.{one_arrival}
-use Rattle.tree_cells.proofs.Rises.{counted_all}
-use Rattle.tree_cells.proofs.Sorted.{IsAscending-sorted, pair_at-sorted, all-sorted, values-sorted}
-use Rattle.tree_cells.proofs.Walks.{slots_named}
+use Rattle.tree_cells.proofs.Found.{same_slots, sorted_held}
+use Rattle.tree_cells.proofs.Picks.{reachable_few, some_of}
+use Rattle.tree_cells.proofs.Rises.{ascents_few, counted_all}
+use Rattle.tree_cells.proofs.Sides.{before_none, key_found}
+use Rattle.tree_cells.proofs.Sorted.{pair_at-sorted, values-sorted, with_values}
+use Rattle.tree_cells.proofs.Tabled.{early, length-held, listed_at, one_arrival, stands}
+use Rattle.tree_order.specs.Order.{is_retired, ordinal_in, rises_in}
+use Rattle.tree_order.proofs.Live.{live}
+use Rattle.tree_order.proofs.Words.{length-names, slice_get-names}
 
 -- ---- the slots of the entries
-module _ {K V : Type 0} where
-  -- the reachable arrivals, each with its number and its value
-  abbrev whole : ℕ → List (Option (K × V)) → List (K × (ℕ × V))
-  whole n [] = []
-  whole n (None ∷ arrivals) = whole (suc n) arrivals
-  whole n (Some e ∷ arrivals) = (e.0, (n, e.1)) ∷ whole (suc n) arrivals
-
-  abbrev number : K × (ℕ × V) → ℕ
-  number entry = entry.1.0
-
-  abbrev val : K × (ℕ × V) → V
-  val entry = entry.1.1
-
-  numbers-whole : (n : ℕ) (arrivals : List (Option (K × V))) → numbered n arrivals ≡ map (λ entry. (entry.0, number entry)) (whole n arrivals)
-  numbers-whole n [] = refl
-  numbers-whole n (None ∷ arrivals) = numbers-whole (suc n) arrivals
-  numbers-whole n (Some e ∷ arrivals) = ap (λ (rest : List (K × ℕ)). (e.0, n) ∷ rest) (numbers-whole (suc n) arrivals)
-
-  vals-whole : (n : ℕ) (arrivals : List (Option (K × V))) → reachable arrivals ≡ map (λ entry. (entry.0, val entry)) (whole n arrivals)
-  vals-whole n [] = refl
-  vals-whole n (None ∷ arrivals) = vals-whole (suc n) arrivals
-  vals-whole n (Some e ∷ arrivals) = ap (λ (rest : List (K × V)). e ∷ rest) (vals-whole (suc n) arrivals)
-
-  all-whole : (P : K × (ℕ × V) → Type 0) (n : ℕ) (arrivals : List (Option (K × V))) → ((q : ℕ) (e : K × V) → arrival arrivals q ≡ Some e → P (e.0, (n + q, e.1))) → AllByRecursion P (whole n arrivals)
-  all-whole P n [] h = tt
-  all-whole P n (None ∷ arrivals) h = all-whole P (suc n) arrivals (λ q e some. let same : n + suc q ≡ suc n + q = omega arith in rw (← same) (h (suc q) e some))
-  all-whole P n (Some e ∷ arrivals) h =
-      let first : n + 0 ≡ n = omega arith in
-      (rw first at (h 0 e refl), all-whole P (suc n) arrivals (λ q f some. let same : n + suc q ≡ suc n + q = omega arith in rw (← same) (h (suc q) f some)))
-
-  slots_found : (arrivals : List (Option (K × V))) (entries : List (K × (ℕ × V))) → AllByRecursion (λ entry. arrival arrivals (number entry) ≡ Some (entry.0, val entry)) entries → map (arrival arrivals) (map (λ (slot : K × ℕ). slot.1) (map (λ entry. (entry.0, number entry)) entries)) ≡ map Some (map (λ entry. (entry.0, val entry)) entries)
-  slots_found arrivals [] h = refl
-  slots_found arrivals (e ∷ entries) h = rw (h.0, slots_found arrivals entries h.1) refl
+module _ {K V : Type 0} (cmp : K → K → Ordering) where
+  -- the keys of the reachable arrivals, with what their numbers name
+  numbered_seen : (g : ℕ → Option (K × V)) (n : ℕ) (arrivals : List (Option (K × V))) → ((q : ℕ) → g (n + q) ≡ arrival arrivals q) → with_values cmp (λ (slot : K × ℕ). g slot.1) (numbered n arrivals) ≡ with_values cmp (λ (e : K × V). Some e) (reachable arrivals)
+  numbered_seen g n [] same = refl
+  numbered_seen g n (None ∷ arrivals) same = numbered_seen g (suc n) arrivals (λ q. ap g (omega arith) ∙ same (suc q))
+  numbered_seen g n (Some e ∷ arrivals) same =
+      let first : g n ≡ Some e = ap g (omega arith) ∙ same 0 in
+      rw (first, numbered_seen g (suc n) arrivals (λ q. ap g (omega arith) ∙ same (suc q))) refl
 
   -- the slots in order are those of the entries
-  pub slots-sorted : (cmp : K → K → Ordering) (arrivals : List (Option (K × V))) → map (arrival arrivals) (map (λ (slot : K × ℕ). slot.1) (sorted cmp (numbered 0 arrivals))) ≡ map Some (sorted cmp (reachable arrivals))
-  slots-sorted cmp arrivals =
-      let zero_on : (q : ℕ) → 0 + q ≡ q = λ q. omega arith in
-      rw (numbers-whole 0 arrivals, vals-whole 0 arrivals, values-sorted cmp number (whole 0 arrivals), values-sorted cmp val (whole 0 arrivals))
-      (slots_found arrivals (sorted cmp (whole 0 arrivals)) (all-sorted cmp _ (whole 0 arrivals) (all-whole _ 0 arrivals (λ q e some. rw (zero_on q) some))))
+  pub slots-sorted : (g : ℕ → Option (K × V)) (arrivals : List (Option (K × V))) → ((q : ℕ) → g q ≡ arrival arrivals q) → map g (map (λ (slot : K × ℕ). slot.1) (sorted cmp (numbered 0 arrivals))) ≡ map Some (sorted cmp (reachable arrivals))
+  slots-sorted g arrivals same =
+      let keyed = sym (values-sorted cmp _ (numbered 0 arrivals)) ∙ ap (sorted cmp) (numbered_seen g 0 arrivals (λ q. ap g (omega arith) ∙ same q)) ∙ values-sorted cmp _ (reachable arrivals) in
+      map-map g (λ (slot : K × ℕ). slot.1) (sorted cmp (numbered 0 arrivals)) ∙ sym (map-map (λ (e : K × Option (K × V)). e.1) (λ (slot : K × ℕ). (slot.0, g slot.1)) (sorted cmp (numbered 0 arrivals)))
+      ∙ ap (map (λ (e : K × Option (K × V)). e.1)) keyed ∙ map-map (λ (e : K × Option (K × V)). e.1) (λ (e : K × V). (e.0, Some e)) (sorted cmp (reachable arrivals))
 
 module _ {K V : Type 0} {cmp : K → K → Ordering} (o : IsTotalOrder cmp) where
   -- no two arrivals have equal keys
@@ -71,84 +49,99 @@ module _ {K V : Type 0} {cmp : K → K → Ordering} (o : IsTotalOrder cmp) wher
   length-sorted [] distinct = refl
   length-sorted (None ∷ arrivals) distinct = length-sorted arrivals (λ p q e f some some' same. omega (arith, distinct (suc p) (suc q) e f some some' same))
   length-sorted (Some e ∷ arrivals) distinct =
-      omega (arith, length-put cmp (sorted cmp (reachable arrivals)) e.0 e.1, without_absent cmp (sorted cmp (reachable arrivals)) e.0 (pair_at-sorted o e.0 (reachable arrivals) ∙ find_none _ (reachable arrivals) (all-reachable _ arrivals (λ q f some. other q f some (is_eq (cmp f.0 e.0)) refl))), length-sorted arrivals (λ p q e f some some' same. omega (arith, distinct (suc p) (suc q) e f some some' same)))
-    where
-      other : (q : ℕ) (f : K × V) → arrival arrivals q ≡ Some f → (b : Bool) → is_eq (cmp f.0 e.0) ≡ b → b ≡ false
-      other q f some false h = refl
-      other q f some true h = absurd (omega (arith, distinct (suc q) 0 f e some refl (equal_from_test _ h)))
+      omega (arith, length-put cmp (sorted cmp (reachable arrivals)) e.0 e.1, without_absent cmp (sorted cmp (reachable arrivals)) e.0 (pair_at-sorted o e.0 (reachable arrivals) ∙ find_none _ (reachable arrivals) (all-reachable _ arrivals (λ q f some. false_from_ne_true _ (λ h. omega (arith, distinct (suc q) 0 f e some refl (equal_from_test _ h)))))), length-sorted arrivals (λ p q e f some some' same. omega (arith, distinct (suc p) (suc q) e f some some' same)))
 
-  module _ {pick : ℕ → Option (K × V)} {ordinal : ℕ → ℕ} {made : ℕ} (it : HasOrdinals cmp pick ordinal made) where
-    pub distinct_picked : IsDistinct (picked pick made)
-    distinct_picked p q e f here there = one_arrival it p q e f (sym (arrival-all pick made it.unmade p) ∙ here) (sym (arrival-all pick made it.unmade q) ∙ there)
+-- ---- an array as contracts see it, by the fields that its code has read
+pub record AreFields {K V : Type 0} (cmp : K → K → Ordering) (len : ℕ) (cells : List (Option (K × V))) (word count made : ℕ) (array : Arrivals K V) : Type 0 where
+  pub it : IsArray cmp len cells word count made
+  pub view : seen cells word count made ≡ array
 
-module _ {K V : Type 0} {cmp : K → K → Ordering} (o : IsTotalOrder cmp) {len : ℕ} {cells : List (Option (K × V))} {order made count : ℕ} (it : IsTabled cmp len cells order made count) where
-  abbrev arrivals : List (Option (K × V))
-  arrivals = picked (arrival cells) made
+pub fields : {K V : Type 0} {cmp : K → K → Ordering} {len : ℕ} {cells : List (Option (K × V))} {word count made w n m : ℕ} {array : Arrivals K V} → w ≡ word → n ≡ count → m ≡ made → IsArray cmp len cells word count made → seen cells word count made ≡ array → AreFields cmp len cells w n m array
+fields is_word is_count is_made it view = record { it = rw (is_word, is_count, is_made) it; view = rw (is_word, is_count, is_made) view }
 
-  slots_map : map (arrival (picked (arrival cells) made)) (names order count) ≡ map Some (sorted cmp (reachable (picked (arrival cells) made)))
-  slots_map = ap (map (arrival arrivals)) (sym (slots_named o it)) ∙ slots-sorted cmp arrivals
+module _ {K V : Type 0} {cmp : K → K → Ordering} {len : ℕ} {cells : List (Option (K × V))} {word count made : ℕ} {array : Arrivals K V} (a : AreFields cmp len cells word count made array) where
+  pub arrivals_seen : array.arrivals ≡ picked (arrival cells) made
+  arrivals_seen = sym (ap (λ (b : Arrivals K V). b.arrivals) a.view)
 
-  -- there is an entry for each place
-  pub count_is : length (sorted cmp (reachable (picked (arrival cells) made))) ≡ count
-  count_is = omega (arith, ap length slots_map, length-map (names order count) (arrival arrivals), length-map (sorted cmp (reachable arrivals)) (λ (e : K × V). Some e), length-picked (named order) count)
+  pub retired_seen : array.retired ≡ is_retired word
+  retired_seen = sym (ap (λ (b : Arrivals K V). b.retired) a.view)
 
-  pub sound : (retired : Bool) → IsMarked count retired → IsSound cmp len (seen cmp cells made retired)
-  sound retired marked = record {
-    is_len = it.is_len;
-    few = omega (arith, it.few_made, length-picked (arrival cells) made);
-    distinct = distinct_picked o (ordinals_of o it);
-    sorted_arrivals = refl;
-    ascending = IsAscending-sorted o (reachable arrivals);
-    slots = slots-sorted cmp arrivals;
-    count = length-sorted o arrivals (distinct_picked o (ordinals_of o it));
-    entries_few = omega (arith, length-sorted o arrivals (distinct_picked o (ordinals_of o it)), reachable_few arrivals);
-    none_retired = λ is_retired. nil_from_length _ (count_is ∙ marked is_retired);
-  }
+  pub entries_seen : array.entries ≡ held cells (names word count)
+  entries_seen = sym (ap (λ (b : Arrivals K V). b.entries) a.view)
+
+  pub made_seen : length array.arrivals ≡ made
+  made_seen = ap length arrivals_seen ∙ length-picked (arrival cells) made
+
+  pub count_seen : length array.entries ≡ count
+  count_seen = ap length entries_seen ∙ length-held a.it.table.in_order ∙ length-names word count
+
+  pub arrival_seen : (p : ℕ) → arrival array.arrivals p ≡ arrival cells p
+  arrival_seen p = ap (λ (arrivals : List (Option (K × V))). arrival arrivals p) arrivals_seen ∙ arrival-all (arrival cells) made a.it.table.unmade p
+
+  pub reachable_seen : (p : ℕ) → IsSome (arrival array.arrivals p) → IsSome (arrival cells p)
+  reachable_seen p some = subst IsSome (arrival_seen p) some
+
+  -- a reachable arrival stands at a place, as an entry does
+  pub listed_seen : (p : ℕ) → IsSome (arrival array.arrivals p) → (i : ℕ) × (slice_get (names word count) i ≡ Some p)
+  listed_seen p some = let e = some_of (arrival cells p) (reachable_seen p some) in let l = listed_at a.it.table p e.0 e.1 in (l.0, l.1)
+
+  pub place_seen : (i p : ℕ) → slice_get (names word count) i ≡ Some p → (e : K × V) × (arrival array.arrivals p ≡ Some e) × (slice_get array.entries i ≡ Some e)
+  place_seen i p there =
+      let s = stands a.it.table.in_order i p there in
+      (s.0, arrival_seen p ∙ s.1, ap (λ (entries : List (K × V)). slice_get entries i) entries_seen ∙ s.2)
 
   -- an array is empty where no place names an entry
-  pub empty_iff : IsTrue (count == 0) ↔ (sorted cmp (reachable (picked (arrival cells) made)) ≡ [])
-  empty_iff = (λ is_zero. nil_from_length _ (count_is ∙ zero_from count is_zero), λ none. to_zero count (omega (arith, count_is, ap length none)))
-    where
-      zero_from : (n : ℕ) → IsTrue (n == 0) → n ≡ 0
-      zero_from n is_zero = grind (arith, nat_tests)
+  pub empty_iff : IsTrue (count == 0) ↔ (array.entries ≡ [])
+  empty_iff = (λ is_zero. nil_from_length array.entries (grind (arith, nat_tests, count_seen)), λ none. grind (arith, nat_tests, count_seen, ap length none))
 
-      to_zero : (n : ℕ) → n ≡ 0 → IsTrue (n == 0)
-      to_zero n is = rw is refl
+  module _ (o : IsTotalOrder cmp) where
+    distinct_seen : IsDistinct o array.arrivals
+    distinct_seen p q e f here there = one_arrival a.it.table o p q e f (sym (arrival_seen p) ∙ here) (sym (arrival_seen q) ∙ there)
 
-  -- the last place names the greatest entry
-  pub last_place : 0 < count → (e : K × V) × (arrival cells (named order (count - 1)) ≡ Some e) × (front : List (K × V)) × (sorted cmp (reachable (picked (arrival cells) made)) ≡ front ++ e ∷ [])
-  last_place some =
-      let last : suc (count - 1) ≡ length (names order count) = omega (arith, length-picked (named order) count) in
-      let found = rw (slice_get-picked (named order) count (count - 1) (omega arith)) at (last_entry (arrival arrivals) (names order count) (sorted cmp (reachable arrivals)) slots_map (count - 1) last) in
-      (found.0, sym (arrival-all (arrival cells) made it.unmade (named order (count - 1))) ∙ found.1, found.2, found.3)
+    -- the slots in the order of their keys are those that the places name
+    pub slots_seen : slots_in_order cmp array ≡ names word count
+    slots_seen =
+        same_slots o a.it.table (slots_in_order cmp array)
+        (slots-sorted cmp (arrival cells) array.arrivals (λ p. sym (arrival_seen p)) ∙ ap (λ (arrivals : List (Option (K × V))). map Some (sorted cmp (reachable arrivals))) arrivals_seen ∙ ap (map Some) (sorted_held o a.it.table))
 
-  -- the entry at a place is the pair of the slot that it names
-  pub entry_place : (i : ℕ) (e : K × V) → i < count → arrival cells (named order i) ≡ Some e → slice_get (sorted cmp (reachable (picked (arrival cells) made))) i ≡ Some e
-  entry_place i e lt some =
-      let found = rw (slice_get-picked (named order) count i lt) at (entry_at (arrival arrivals) (names order count) (sorted cmp (reachable arrivals)) slots_map i) in
-      found.2 ∙ ap (λ (f : K × V). Some f) (same_Some found.0 e (sym found.1 ∙ arrival-all (arrival cells) made it.unmade (named order i) ∙ some))
+    pub kept : IsSound cmp len array
+    kept = record {
+      is_len = a.it.table.is_len;
+      few = omega (arith, made_seen, a.it.table.few_made);
+      distinct = distinct_seen;
+      sorted_arrivals = sorted_seen;
+      ascending = rw entries_seen a.it.table.in_order.ascend;
+      slots = slots-sorted cmp (arrival array.arrivals) array.arrivals (λ p. refl) ∙ ap (map Some) (sym sorted_seen);
+      count = ap length sorted_seen ∙ length-sorted o array.arrivals distinct_seen;
+      entries_few = omega (arith, ap length sorted_seen, length-sorted o array.arrivals distinct_seen, reachable_few array.arrivals);
+      none_retired = λ retired. nil_from_length array.entries (count_seen ∙ elim (cases_lt 0 count) [ inl some ↦ absurd (false≢true (sym (live a.it.order some) ∙ sym retired_seen ∙ retired)) | inr none ↦ omega arith ]);
+    }
+      where
+        sorted_seen : array.entries ≡ sorted cmp (reachable array.arrivals)
+        sorted_seen = entries_seen ∙ sym (ap (λ (arrivals : List (Option (K × V))). sorted cmp (reachable arrivals)) arrivals_seen ∙ sorted_held o a.it.table)
 
-  pub place_entry : (i : ℕ) (e : K × V) → slice_get (sorted cmp (reachable (picked (arrival cells) made))) i ≡ Some e → (i < count) × (arrival cells (named order i) ≡ Some e)
-  place_entry i e there =
-      let lt : i < count = omega (arith, slice_get_within (sorted cmp (reachable arrivals)) i e there, count_is) in
-      let s = it.in_order.stands i lt in
-      (lt, s.1 ∙ ap (λ (f : K × V). Some f) (same_Some s.0 e (sym (entry_place i s.0 lt s.1) ∙ there)))
+    -- what a search says of a key
+    pub found_seen : {key : K} {i : ℕ} → (has : HasKey cmp (held cells (names word count)) key i) → pair_at cmp array.entries key ≡ Some has.pair
+    found_seen {key} has = ap (λ (entries : List (K × V)). pair_at cmp entries key) entries_seen ∙ key_found o (held cells (names word count)) a.it.table.in_order.ascend has
 
-  -- the rises of ordinals are the ascents of keys
-  pub rises_seen : (retired : Bool) {array : Arrivals K V} → seen cmp cells made retired ≡ array → (rises_in (ordinal_in (named order) count) made ≡ ascents cmp (reachable array.arrivals)) × (rises_in (ordinal_in (named order) count) made ≤ count)
-  rises_seen retired view_is =
-      let counted = counted_all (ordinals_of o it) (omega (arith, it.few_made, len_small len it.is_len)) made in
-      (counted.risen ∙ ap (λ (a : Arrivals K V). ascents cmp (reachable a.arrivals)) view_is, omega (arith, counted.fewer, length-sorted o arrivals (distinct_picked o (ordinals_of o it)), count_is))
+    pub none_seen : (key : K) (place slot : ℕ) → IsPlace cmp (held cells (names word count)) key (names word count) (Before place slot) → pair_at cmp array.entries key ≡ None
+    none_seen key place slot h = ap (λ (entries : List (K × V)). pair_at cmp entries key) entries_seen ∙ before_none o (held cells (names word count)) key (names word count) place slot h
 
-  -- so contracts see them
-  module _ (retired : Bool) {array : Arrivals K V} (view_is : seen cmp cells made retired ≡ array) where
-    pub count_seen : length array.entries ≡ count
-    count_seen = ap (λ (a : Arrivals K V). length a.entries) (sym view_is) ∙ count_is
+    -- the rises of ordinals are the ascents of keys
+    pub rises_seen : (rises_in (ordinal_in (named word) count) made ≡ ascents cmp (reachable array.arrivals)) × (rises_in (ordinal_in (named word) count) made ≤ count)
+    rises_seen =
+        let risen = counted_all (ordinals_of o word count a.it.table) (omega (arith, a.it.table.few_made, len_small len a.it.table.is_len)) ∙ ap (λ (arrivals : List (Option (K × V))). ascents cmp (reachable arrivals)) (sym arrivals_seen) in
+        (risen, omega (arith, risen, ascents_few cmp (reachable array.arrivals), kept.count, count_seen))
 
-    pub entry_seen : (i : ℕ) (e : K × V) → i < count → arrival cells (named order i) ≡ Some e → slice_get array.entries i ≡ Some e
-    entry_seen i e lt some = ap (λ (a : Arrivals K V). slice_get a.entries i) (sym view_is) ∙ entry_place i e lt some
+  -- each place names one of the fifteen slots
+  pub named_few : (i : ℕ) → i < count → named word i < 15
+  named_few i lt = omega (arith, early a.it.table i (named word i) (slice_get-names word count i lt), a.it.table.few_made, len_small len a.it.table.is_len)
 
 -- what was stored fits
-pub stored_few : {K V : Type 0} (cmp : K → K → Ordering) (len : ℕ) (array : Arrivals K V) (key : K) (val : V) (new : Arrivals K V) → new ≡ stored cmp array key val → HasRoom len array
-    → length array.entries ≤ length array.arrivals → length new.entries ≤ len
-stored_few cmp len array key val new is room few = rw is (omega (arith, length-put cmp array.entries key val, without_few cmp array.entries key, room.0, few))
+pub is_stored : {K V : Type 0} {cmp : K → K → Ordering} {len : ℕ} {upsert : Bool} {old new : Arrivals K V} {key : K} {val : V} → IsSound cmp len old → HasRoom len old → (upsert ≡ false → IsAbsent cmp old.entries key) → new ≡ stored cmp old key val → IsStored cmp len upsert old key val new
+is_stored {cmp = cmp} {old = old} {key = key} {val = val} sound room absent is = record {
+  new_is = is;
+  room = room;
+  absent = absent;
+  few = rw is (omega (arith, length-put cmp old.entries key val, without_few cmp old.entries key, room.0, sound.entries_few));
+}

@@ -3,11 +3,10 @@ pub mod Common
 pub mod Dealt
 mod Emptied
 mod Kept
-mod Marked
 mod Moved
-mod Places
 mod Ranges
 mod Removed
+pub mod Runs
 mod Seen
 mod Stepped
 mod Stored

@@ -1,14 +1,15 @@
 -- Arrivals within two bounds that are spent one by one.
-use Rattle.std.proofs.Common.{◌≡◌, ◌≢◌, ℕ, zero, suc, ◌+◌, ◌<◌, ◌≤◌, Bool, true, false, List, [], ◌∷◌, map, length, Option, None, Some, refl, sym, ◌∙◌, ap, inl, inr, arith, not, ◌&&◌, ◌||◌, Ordering, is_eq, ext_get_or}
+use Rattle.std.proofs.Common.{◌≡◌, ◌≢◌, ℕ, ◌+◌, ◌<◌, ◌≤◌, true, false, if◌then◌else◌, List, [], map, length, Option, None, Some, refl, sym, ◌∙◌, ap, inl, inr, arith, not, ◌&&◌, ◌||◌, Ordering, is_eq, ext_get_or}
 use Rattle.tree_model.proofs.Common.{Bound, IsTotalOrder, cases_eq, tied_itself, nat_tests, nil_from_length, cut, within, without}
 use Rattle.tree_array.proofs.Common.{Arrivals, arrival, reachable, removed, sorted, spent_at, IsSound, equal_from_test}
+use Rattle.std.proofs.lemmas.Bool.{false_from_ne_true}
 use Rattle.std.proofs.lemmas.List.{length-map}
 use Rattle.std.proofs.lemmas.Option.{none-some}
 use Rattle.tree_array.specs.Arrivals.{cut_at, is_empty, without_range}
-use Rattle.tree_array.proofs.Dealt.{arrival-spend}
+use Rattle.tree_array.proofs.Dealt.{arrival-map}
 use Rattle.tree_cells.proofs.Entries.{entries-cut, entries-spend}
 use Rattle.tree_cells.proofs.Picks.{all_spent}
-use Rattle.tree_array.proofs.Seen.{same_arrays}
+use Rattle.tree_array.proofs.Seen.{same_arrays, unspent}
 
 module _ {K V : Type 0} (cmp : K → K → Ordering) (low high : Bound K) where
   -- of the first arrivals those within the bounds are spent
@@ -18,11 +19,6 @@ module _ {K V : Type 0} (cmp : K → K → Ordering) (low high : Bound K) where
     pub rest : (p : ℕ) → n ≤ p → arrival new.arrivals p ≡ arrival old.arrivals p
     pub entries : new.entries ≡ sorted cmp (reachable new.arrivals)
     pub retired : new.retired ≡ (old.retired || (not (is_empty old.entries) && is_empty new.entries))
-
-  arrival-cut : (arrivals : List (Option (K × V))) (p : ℕ) → arrival (map (cut_at cmp low high) arrivals) p ≡ cut_at cmp low high (arrival arrivals p)
-  arrival-cut [] p = refl
-  arrival-cut (a ∷ arrivals) zero = refl
-  arrival-cut (a ∷ arrivals) (suc p) = arrival-cut arrivals p
 
   pub kept_outside : (key : K) (val : V) → within cmp low high key ≡ false → cut_at cmp low high (Some (key, val)) ≡ Some (key, val)
   kept_outside key val h = rw h refl
@@ -35,13 +31,8 @@ module _ {K V : Type 0} {cmp : K → K → Ordering} (o : IsTotalOrder cmp) (low
     cut = λ p lt. absurd (omega arith);
     rest = λ p le. refl;
     entries = kept.sorted_arrivals;
-    retired = same old.retired (is_empty old.entries);
+    retired = elim old.retired as (λ b. b ≡ (b || (not (is_empty old.entries) && is_empty old.entries))) [ true ↦ refl | false ↦ elim (is_empty old.entries) as (λ x. false ≡ (not x && x)) [ true ↦ refl | false ↦ refl ] ];
   }
-    where
-      same : (b x : Bool) → b ≡ (b || (not x && x))
-      same true x = refl
-      same false true = refl
-      same false false = refl
 
   module _ {n : ℕ} {mid : Arrivals K V} (so_far : IsCutTo cmp low high old n mid) where
     -- the next arrival stays
@@ -63,53 +54,33 @@ module _ {K V : Type 0} {cmp : K → K → Ordering} (o : IsTotalOrder cmp) (low
       was = sym (so_far.rest n (omega arith)) ∙ there
 
       -- no other arrival has its key
-      other : (p : ℕ) (a : Option (K × V)) → arrival old.arrivals p ≡ a → p ≢ n → spent_at cmp key a ≡ a
-      other p None none differs = refl
-      other p (Some e) some differs = go (is_eq (cmp e.0 key)) refl
-        where
-          go : (b : Bool) → is_eq (cmp e.0 key) ≡ b → spent_at cmp key (Some e) ≡ Some e
-          go true h = absurd (differs (kept.distinct p n e (key, val) some was (equal_from_test _ h)))
-          go false h = rw h refl
+      other : (p : ℕ) → p ≢ n → (e : K × V) → arrival old.arrivals p ≡ Some e → is_eq (cmp e.0 key) ≡ false
+      other p differs e some = false_from_ne_true _ (λ h. differs (kept.distinct p n e (key, val) some was (equal_from_test _ h)))
 
-      cut_other : (p : ℕ) (a : Option (K × V)) → arrival old.arrivals p ≡ a → p ≢ n → spent_at cmp key (cut_at cmp low high a) ≡ cut_at cmp low high a
-      cut_other p None none differs = refl
-      cut_other p (Some e) some differs = go (within cmp low high e.0) refl
-        where
-          go : (b : Bool) → within cmp low high e.0 ≡ b → spent_at cmp key (cut_at cmp low high (Some e)) ≡ cut_at cmp low high (Some e)
-          go true h = rw h refl
-          go false h = rw h (other p (Some e) some differs)
+      cut_other : (a : Option (K × V)) → ((e : K × V) → a ≡ Some e → is_eq (cmp e.0 key) ≡ false) → spent_at cmp key (cut_at cmp low high a) ≡ cut_at cmp low high a
+      cut_other None others = refl
+      cut_other (Some e) others = let stays = unspent cmp key (Some e) others in elim (within cmp low high e.0) as (λ b. spent_at cmp key (if b then None else Some e) ≡ (if b then None else Some e)) [ true ↦ refl | false ↦ stays ]
 
       -- so the array wasn't empty, nor retired
       some_entry : old.entries ≡ [] → ⊥
-      some_entry none = none-some (key, val) (sym (all_spent old.arrivals (reachable_none none) n) ∙ was)
-        where
-          reachable_none : old.entries ≡ [] → reachable old.arrivals ≡ []
-          reachable_none h = nil_from_length (reachable old.arrivals) (omega (arith, kept.count, ap length h))
+      some_entry none = none-some (key, val) (sym (all_spent old.arrivals (nil_from_length (reachable old.arrivals) (omega (arith, kept.count, ap length none))) n) ∙ was)
 
       full_test : is_empty old.entries ≡ false
-      full_test = go old.entries refl
-        where
-          go : (entries : List (K × V)) → old.entries ≡ entries → is_empty entries ≡ false
-          go [] h = absurd (some_entry h)
-          go (e ∷ entries) h = grind (arith, nat_tests)
+      full_test = false_from_ne_true _ (λ empty. some_entry (nil_from_length old.entries (grind (arith, nat_tests))))
 
       live : old.retired ≡ false
-      live = go old.retired refl
-        where
-          go : (b : Bool) → old.retired ≡ b → b ≡ false
-          go true h = absurd (some_entry (kept.none_retired h))
-          go false h = refl
+      live = false_from_ne_true _ (λ retired. some_entry (kept.none_retired retired))
 
       pub cut_taken : IsCutTo cmp low high old (n + 1) new
       cut_taken = rw new_is record {
         whole = length-map mid.arrivals (spent_at cmp key) ∙ so_far.whole;
-        cut = λ p lt. arrival-spend cmp mid.arrivals key p ∙ elim (cases_eq p n) [
+        cut = λ p lt. arrival-map (spent_at cmp key) refl mid.arrivals p ∙ elim (cases_eq p n) [
           | inl here ↦ rw (here, there, was, tied_itself o key, inside) refl
-          | inr differs ↦ ap (spent_at cmp key) (so_far.cut p (omega arith)) ∙ cut_other p (arrival old.arrivals p) refl differs
+          | inr differs ↦ ap (spent_at cmp key) (so_far.cut p (omega arith)) ∙ cut_other (arrival old.arrivals p) (other p differs)
         ];
         rest = λ p le.
             let differs : p ≢ n = λ e. omega arith in
-            arrival-spend cmp mid.arrivals key p ∙ ap (spent_at cmp key) (so_far.rest p (omega arith)) ∙ other p (arrival old.arrivals p) refl differs;
+            arrival-map (spent_at cmp key) refl mid.arrivals p ∙ ap (spent_at cmp key) (so_far.rest p (omega arith)) ∙ unspent cmp key (arrival old.arrivals p) (other p differs);
         entries = ap (λ (entries : List (K × V)). without cmp entries key) so_far.entries ∙ sym (entries-spend o mid.arrivals key);
         retired = rw (full_test, live) refl;
       }
@@ -117,14 +88,7 @@ module _ {K V : Type 0} {cmp : K → K → Ordering} (o : IsTotalOrder cmp) (low
     -- all arrivals were looked at
     pub cut_all : length old.arrivals ≤ n → mid ≡ without_range cmp old low high
     cut_all past =
+        let arrivals_cut = ext_get_or None mid.arrivals (map (cut_at cmp low high) old.arrivals) (so_far.whole ∙ sym (length-map old.arrivals (cut_at cmp low high))) (λ p lt. so_far.cut p (omega (arith, lt, so_far.whole, past)) ∙ sym (arrival-map (cut_at cmp low high) refl old.arrivals p)) in
+        let sorted_cut = ap (λ (arrivals : List (Option (K × V))). sorted cmp (reachable arrivals)) arrivals_cut ∙ entries-cut o old.arrivals low high in
+        let entries_cut = so_far.entries ∙ sorted_cut ∙ ap (λ (entries : List (K × V)). cut cmp entries low high) (sym kept.sorted_arrivals) in
         same_arrays _ _ _ _ _ _ arrivals_cut (so_far.retired ∙ ap (λ (entries : List (K × V)). old.retired || (not (is_empty old.entries) && is_empty entries)) entries_cut) entries_cut
-      where
-        arrivals_cut : mid.arrivals ≡ map (cut_at cmp low high) old.arrivals
-        arrivals_cut =
-            ext_get_or None mid.arrivals (map (cut_at cmp low high) old.arrivals) (so_far.whole ∙ sym (length-map old.arrivals (cut_at cmp low high)))
-            (λ p lt. so_far.cut p (omega (arith, so_far.whole)) ∙ sym (arrival-cut cmp low high old.arrivals p))
-
-        entries_cut : mid.entries ≡ cut cmp old.entries low high
-        entries_cut =
-            so_far.entries ∙ ap (λ (arrivals : List (Option (K × V))). sorted cmp (reachable arrivals)) arrivals_cut ∙ entries-cut o old.arrivals low high
-            ∙ ap (λ (entries : List (K × V)). cut cmp entries low high) (sym kept.sorted_arrivals)

@@ -1,10 +1,9 @@
 -- Steps of a walk whose slots are named by a word.
 use Rattle.std.proofs.Common.{◌≡◌, ℕ, zero, suc, inl, inr, ◌+◌, ◌-◌, ◌==◌, ◌<◌, ◌≤◌, if◌then◌else◌, length, slice_get, Option, None, Some, refl, sym, ap, ◌∙◌, arith, option_and_then}
 use Rattle.tree_model.proofs.Common.{⊤, cases_eq, nat_tests, MakesProgress}
-use Rattle.tree_array.proofs.Common.{named, length-picked, Walk}
+use Rattle.tree_array.proofs.Common.{named, names, Walk}
 use Rattle.std.proofs.lemmas.Option.{slice_get_within}
-use Rattle.tree_order.specs.Order.{names}
-use Rattle.tree_order.proofs.Picked.{slice_get-picked}
+use Rattle.tree_order.proofs.Words.{length-names, slice_get-names}
 use Rattle.tree_array.specs.Walk.{StepsBack, StepsOn, left_on, place_ahead, places_behind, standing}
 
 -- the place before this one, if there is one
@@ -19,11 +18,8 @@ ahead_of zero = refl
 ahead_of (suc place) = ap place_ahead (before_some (suc place) (omega arith)) ∙ omega arith
 
 module _ (order count ahead : ℕ) where
-  pub length-names : length (names order count) ≡ count
-  length-names = length-picked (named order) count
-
   slot_named : (place slot : ℕ) → place < count → slot ≡ named order place → slice_get (names order count) place ≡ Some slot
-  slot_named place slot lt is = slice_get-picked (named order) count place lt ∙ ap (λ (x : ℕ). Some x) (sym is)
+  slot_named place slot lt is = slice_get-names order count place lt ∙ ap (λ (x : ℕ). Some x) (sym is)
 
   -- the slot that the walk stands at
   pub stands_at : (slot : ℕ) → 0 < ahead → ahead ≤ count → slot ≡ named order (ahead - 1) → Some slot ≡ option_and_then (slice_get (names order count)) (before ahead)
@@ -33,7 +29,7 @@ module _ (order count ahead : ℕ) where
   behind_some some = rw (before_some ahead some) refl
 
   pub behind_none : ahead ≡ 0 → places_behind (length (names order count)) (before ahead) ≡ count
-  behind_none none = rw none length-names
+  behind_none none = rw none (length-names order count)
 
   pub behind_few : ahead ≤ count → places_behind (length (names order count)) (before ahead) ≤ count
   behind_few few = elim (cases_eq ahead 0) [
@@ -48,7 +44,7 @@ module _ (order count ahead : ℕ) where
       rw (ahead_of ahead, next, same) (slot_named ahead slot lt is, refl)
 
   pub stays : count ≤ ahead → StepsOn (standing (names order count) (before ahead)) None (standing (names order count) (before ahead))
-  stays le = rw (ahead_of ahead) (omega (arith, le, length-names), refl)
+  stays le = rw (ahead_of ahead) (omega (arith, le, length-names order count), refl)
 
   pub stepped_back : (place slot : ℕ) → place ≡ places_behind (length (names order count)) (before ahead) → 0 < place → place ≤ count → slot ≡ named order (place - 1)
       → StepsBack (standing (names order count) (before ahead)) (Some slot) (standing (names order count) (before place))

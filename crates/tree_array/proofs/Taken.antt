@@ -1,28 +1,31 @@
 -- The fields of an array after a pair was taken, and what contracts see of them.
-use Rattle.std.proofs.Common.{◌≡◌, ◌≢◌, ℕ, ◌-◌, ◌==◌, ◌<◌, Bool, true, false, List, length, set, Option, None, Some, refl, sym, ◌∙◌, ap, arith, Ordering}
-use Rattle.tree_model.proofs.Common.{IsTotalOrder, nat_tests, tied_itself, without}
-use Rattle.tree_array.proofs.Common.{arrival, reachable, removed, sorted, picked, named, IsTabled, seen, ordinals_of}
+use Rattle.std.proofs.Common.{◌≡◌, ℕ, ◌-◌, true, List, set, slice_get, length, Option, None, Some, sym, ◌∙◌, ap, inl, inr, arith, Ordering}
+use Rattle.tree_model.proofs.Common.{IsTotalOrder, cases_lt, nat_tests, tied_back, without}
+use Rattle.tree_array.proofs.Common.{Arrivals, arrival, names, removed, IsArray}
 use Rattle.tree_array.specs.Arrivals.{is_empty}
-use Rattle.tree_cells.specs.Tabled.{IsMarked}
-use Rattle.tree_cells.proofs.Entries.{entries-spend}
-use Rattle.tree_array.proofs.Kept.{count_is}
+use Rattle.tree_cells.specs.Arrivals.{held}
+use Rattle.tree_cells.specs.Place.{HasKey}
+use Rattle.tree_cells.proofs.Tabled.{its_pair, length-held, set_at, spent, within}
+use Rattle.tree_order.specs.Order.{is_retired, taken_out, IsOrder}
+use Rattle.tree_order.proofs.Live.{live}
+use Rattle.tree_order.proofs.Words.{length-names}
+use Rattle.tree_array.proofs.Kept.{AreFields}
 use Rattle.tree_array.proofs.Seen.{same_arrays, spend_seen}
-use Rattle.tree_cells.proofs.Tabled.{early, set_at}
 
--- an array with an entry isn't retired
-pub still_live : (count : ℕ) (retired : Bool) → IsMarked count retired → 0 < count → retired ≡ false
-still_live count true marked some = absurd (omega (arith, marked refl))
-still_live count false marked some = refl
-
-pub not_zero : (n : ℕ) → n ≢ 0 → (n == 0) ≡ false
-not_zero n h = grind (arith, nat_tests)
-
-module _ {K V : Type 0} {cmp : K → K → Ordering} (o : IsTotalOrder cmp) {len : ℕ} {cells : List (Option (K × V))} {order made count : ℕ} (it : IsTabled cmp len cells order made count) (place slot : ℕ) (lt : place < count) (is : named order place ≡ slot) (pair : K × V) (there : arrival cells slot ≡ Some pair) {order' : ℕ} (after : IsTabled cmp len (set cells slot None) order' made (count - 1)) where
-  -- the array is seen without the pair's key, once its mark says whether an entry is left
-  pub left_seen : (before mark : Bool) → mark ≡ (count - 1 == 0) → seen cmp (set cells slot None) made mark ≡ removed cmp (seen cmp cells made before) pair.0
-  left_seen before mark says =
-      let within : slot < length cells = omega (arith, early o it place lt, ap (λ (n : ℕ). n) is, it.few_made, it.whole) in
-      let arrivals_left = spend_seen o (ordinals_of o it) pair.0 (arrival (set cells slot None)) slot pair there (tied_itself o pair.0) (set_at cells slot None within) in
-      let entries_left : sorted cmp (reachable (picked (arrival (set cells slot None)) made)) ≡ without cmp (sorted cmp (reachable (picked (arrival cells) made))) pair.0 = ap (λ (q : List (Option (K × V))). sorted cmp (reachable q)) arrivals_left ∙ entries-spend o (picked (arrival cells) made) pair.0 in
-      let left : is_empty (without cmp (sorted cmp (reachable (picked (arrival cells) made))) pair.0) ≡ (count - 1 == 0) = ap is_empty (sym entries_left) ∙ ap (λ (n : ℕ). n == 0) (count_is o after) in
-      same_arrays _ _ _ _ _ _ arrivals_left (says ∙ sym left) entries_left
+-- the array is seen without the key, and its mark says whether an entry is left
+module _ {K V : Type 0} {cmp : K → K → Ordering} (o : IsTotalOrder cmp) {len : ℕ} {cells : List (Option (K × V))} {word count made : ℕ} {array : Arrivals K V} (a : AreFields cmp len cells word count made array) {i p : ℕ} (is : slice_get (names word count) i ≡ Some p) {key : K} (has : HasKey cmp (held cells (names word count)) key i) {word' count' : ℕ} (fewer : count' ≡ count - 1) (placed : names word' (count - 1) ≡ taken_out i (names word count)) (order : IsOrder len word' count') where
+  pub taken : (count' ≡ 0 → is_retired word' ≡ true) → AreFields cmp len (set cells p None) word' count' made (removed cmp array key)
+  taken retires =
+      let old = its_pair o a.it.table is has in
+      let gone = spent o a.it.table is has in
+      let it : IsArray cmp len (set cells p None) word' count' made = record { table = rw (fewer, placed) gone.0; order = order } in
+      let entries = ap (held (set cells p None)) (ap (names word') fewer ∙ placed) ∙ gone.1 in
+      let left : length (without cmp (held cells (names word count)) key) ≡ count' = ap length (sym entries) ∙ length-held it.table.in_order ∙ length-names word' count' in
+      let mark : is_retired word' ≡ is_empty (without cmp (held cells (names word count)) key) = elim (cases_lt 0 count') [
+        | inl some ↦ live order some ∙ grind (arith, nat_tests, left)
+        | inr none ↦ retires (omega arith) ∙ grind (arith, nat_tests, left)
+      ] in
+      record {
+        it = it;
+        view = same_arrays _ _ _ _ _ _ (spend_seen o a.it.table key (arrival (set cells p None)) p has.pair old (tied_back o key has.pair.0 has.same) (set_at cells p None (within cells p has.pair old))) mark entries ∙ ap (λ (array : Arrivals K V). removed cmp array key) a.view;
+      }

@@ -1,7 +1,6 @@
 -- What an insert answers and leaves.
-use Rattle.std.specs.Prelude.{◌≡◌, ◌⊎◌, ℕ, ◌<◌, ◌≤◌, Bool, true, false, List, length, Some, slice_get}
+use Rattle.std.specs.Prelude.{◌≡◌, ◌⊎◌, ℕ, ◌<◌, ◌≤◌, Bool, true, false, length}
 use Rattle.std.specs.declared.cmp.Ordering.{Ordering}
-use Rattle.std.specs.declared.cmp.Ordering.TheVariants.{Less, Greater}
 use Rattle.tree_model.specs.Pairs.{IsPresent, IsAbsent}
 use Rattle.tree_array.specs.declared.answers.InsertResult.{InsertResult}
 use Rattle.tree_array.specs.declared.answers.InsertResult.TheVariants.{Success, Duplicate, Full}
@@ -62,9 +61,3 @@ module _ {K V : Type 0} (cmp : K → K → Ordering) (len : ℕ) (upsert : Bool)
   IsStore store.Replaced new = IsStored new × (upsert ≡ true) × IsPresent cmp old.entries key
   IsStore (store.Duplicate k v) new = IsDuplicate k v new
   IsStore (store.Full k v) new = IsRefused k v new
-
--- of the entries those before the place are smaller than the key, and the others larger
-pub record PartsEntries {K V : Type 0} (cmp : K → K → Ordering) (entries : List (K × V)) (key : K) (place : ℕ) : Type 0 where
-  pub reach : place ≤ length entries
-  pub smaller : (i : ℕ) (e : K × V) → i < place → slice_get entries i ≡ Some e → cmp key e.0 ≡ Greater
-  pub larger : (i : ℕ) (e : K × V) → place ≤ i → slice_get entries i ≡ Some e → cmp key e.0 ≡ Less

@@ -1,8 +1,8 @@
 pub mod Arrivals
 pub mod Insertion
 pub mod Length
-pub mod Moves
 pub mod Removal
+pub mod Runs
 pub mod Sound
 pub mod Spans
 pub mod View

@@ -4,22 +4,25 @@ ghost use Rattle.tree_array.specs.Arrivals.{Arrivals, arrival, free, in_order};
 ghost use Rattle.tree_array.specs.Insertion.{IsFull};
 ghost use Rattle.tree_array.specs.Length.{IsLen};
 ghost use Rattle.tree_array.specs.Sound.{IsSound};
+ghost use Rattle.tree_order.specs.Order.{IsOrder};
 
 pub use crate::answers::{
     DIMENSION, Dimension, InsertResult, RemoveResult, SMALL_DIMENSION, StoreResult,
 };
 use std::marker::Model;
 use tree_cells::cells::Cells;
-pub use tree_cells::judge::{Judge, KeyJudge, Steps};
-use tree_order::order::{EMPTY, RETIRED, slot_at};
+pub use tree_cells::judge::{Asks, Judge, KeyJudge, Steps};
+use tree_order::order::{EMPTY, Order, RETIRED, slot_at};
 
 mod changes;
 mod division;
 mod insertion;
 mod removal;
+mod run;
 mod searches;
 mod walk;
 
+pub use run::RunOf;
 pub use tree_model::{IndexKey, SameClone, range_contains};
 pub use walk::{ArrayIter, ArrayRevIter};
 
@@ -39,15 +42,23 @@ pub type Array<K, V> = ArrayOf<K, V, 15>;
 
 impl<K: Ord, V, const LEN: usize> Model for ArrayOf<K, V, LEN> {
     ghost use Rattle.tree_array.specs.Arrivals.{Arrivals};
-    ghost use Rattle.tree_cells.specs.Tabled.{IsTabled};
-    ghost use Rattle.tree_array.specs.View.{seen};
-    ghost use Rattle.tree_order.specs.Order.{is_retired};
+    ghost use Rattle.tree_array.specs.View.{seen, IsArray};
 
     ghost Value = { Arrivals K V };
 
-    ghost view = { λ a. seen K.cmp a.cells.pairs a.cells.counts.arrivals (is_retired a.order) };
+    ghost view = { λ a. seen a.cells.pairs a.order a.cells.counts.entries a.cells.counts.arrivals };
 
-    ghost invariant = { λ a. IsTabled K.cmp LEN a.cells.pairs a.order a.cells.counts.arrivals a.cells.counts.entries };
+    ghost invariant = { λ a. IsArray K.cmp LEN a.cells.pairs a.order a.cells.counts.entries a.cells.counts.arrivals };
+}
+
+/// Returns the order of an array, by the word that it keeps and the count of its entries.
+#[inline(always)]
+fn order_of<K, V, const LEN: usize>(word: u64, cells: &Cells<K, V, LEN>) -> Order<LEN>
+    requires { IsOrder LEN word cells.now.counts.entries }
+    ensures word { result.word ≡ word }
+    ensures count { result.count ≡ cells.now.counts.entries }
+{
+    Order::new(word, cells.counts().entries)
 }
 
 impl<K: Ord + Drop, V: Drop, const LEN: usize> Drop for ArrayOf<K, V, LEN> {

@@ -1,3 +1,1 @@
 pub mod FoundLevels
-pub mod FoundRoots
-pub mod KindSizes

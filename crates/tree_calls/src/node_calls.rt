@@ -9,6 +9,7 @@ ghost use Rattle.slab.specs.Slab.{get};
 ghost use Rattle.tree_array.specs.Length.{searched};
 ghost use Rattle.tree_array.specs.declared.answers.InsertResult.TheVariants.{Full as PlainlyFull};
 ghost use Rattle.tree_calls.specs.CleanUps.{NeedsCleanUp};
+ghost use Rattle.tree_calls.specs.Found.{IsFound};
 ghost use Rattle.tree_cut.specs.Cuts.{CutsUnder};
 ghost use Rattle.tree_insert.specs.Inserts.{InsertsPlainly};
 ghost use Rattle.tree_model.specs.declared.way.Way.TheVariants.{On, Back};
@@ -61,7 +62,7 @@ pub trait NodeCalls<K: Ord + Drop, const LEN: usize> {
         ensures counted { J.count judge.new ≤ J.count judge.old + LEN * (level + 1) }
         ensures halved { J.count judge.new ≤ J.count judge.old + searched LEN * (level + 1) }
     {
-        let level = level_of(arenas, id);
+        let level = found_level(arenas, id);
         search_at(arenas, level, id, judge)
     }
 
@@ -99,7 +100,7 @@ pub trait NodeCalls<K: Ord + Drop, const LEN: usize> {
         requires linked { IsLinked level arenas.now id }
         ensures { MatchOption result (walk level arenas.now id ≡ []) (BeginsPart On level arenas.now id) }
     {
-        let level = level_of(arenas, id);
+        let level = found_level(arenas, id);
         min_at(arenas, level, id)
     }
 
@@ -115,7 +116,7 @@ pub trait NodeCalls<K: Ord + Drop, const LEN: usize> {
         requires linked { IsLinked level arenas.now id }
         ensures { MatchOption result (walk level arenas.now id ≡ []) (BeginsPart Back level arenas.now id) }
     {
-        let level = level_of(arenas, id);
+        let level = found_level(arenas, id);
         max_at(arenas, level, id)
     }
 
@@ -135,7 +136,7 @@ pub trait NodeCalls<K: Ord + Drop, const LEN: usize> {
         requires linked { IsLinked level arenas.now id }
         ensures { Approximates K.cmp (if LE then Back else On) level arenas.now id (Included key.now) result }
     {
-        let level = level_of(arenas, id);
+        let level = found_level(arenas, id);
         approximate_at::<K, V, LE, LEN>(arenas, level, id, key)
     }
 
@@ -148,7 +149,7 @@ pub trait NodeCalls<K: Ord + Drop, const LEN: usize> {
         ensures stands { Stands K.cmp level arenas.now None id None → result ≡ level }
         ensures retired { IsRetired level arenas.now id → result ≡ 1 }
     {
-        level_of(arenas, id)
+        found_level(arenas, id)
     }
 
     /// Returns whether the node has no child. Runs in constant time.
@@ -199,7 +200,7 @@ pub trait NodeCalls<K: Ord + Drop, const LEN: usize> {
         ensures retired { IsRetired level arenas.old id → (result ≡ Ok (PlainlyFull key val))
             × Unchanged arenas.old arenas.new }
     {
-        let level = level_of(arenas, id);
+        let level = found_level(arenas, id);
         let answer = insert_at::<UPSERT, K, V, LEN>(arenas, level, id, key, val)?;
         Ok(answer.into_insert())
     }
@@ -227,7 +228,7 @@ pub trait NodeCalls<K: Ord + Drop, const LEN: usize> {
             (λ val said. FnOnceReturnsAt F.FnOnce condition val said) level arenas.old arenas.new id result key.now }
         ensures settled { level ≡ 1 → result ≡ RemoveResult.Success → HasOnlyRetired arenas.new id → ⊥ }
     {
-        let level = level_of(arenas, id);
+        let level = found_level(arenas, id);
         remove_at(arenas, level, id, key, condition)
     }
 
@@ -251,7 +252,7 @@ pub trait NodeCalls<K: Ord + Drop, const LEN: usize> {
         ensures left { result ≡ length (children_of arenas.new.nodes id) }
         ensures retired { IsRetired level arenas.old id → arenas.new ≡ arenas.old }
     {
-        let level = level_of(arenas, id);
+        let level = found_level(arenas, id);
         remove_range_at(arenas, level, id, bounds).children
     }
 }
@@ -272,4 +273,17 @@ impl<K: Ord + Drop, const LEN: usize> NodeCalls<K, LEN> for NodeOf<K, LEN> {
     ghost StandsAt = { λ level. 0 < level };
 
     ghost above_leaves = { λ level above. above };
+}
+
+/// Returns the level of the part under a node, or 1 for a retired node.
+pub(crate) fn found_level<K: Ord + Drop, V: Drop, const LEN: usize>(
+    arenas: &ArenasOf<K, V, LEN>,
+    id: NodeId,
+) -> usize
+    ghost level: { ℕ }
+    requires node { 0 < level }
+    requires stands { StandsOrRetired K.cmp level arenas.now id }
+    ensures { IsFound K.cmp arenas.now id level result }
+{
+    level_of(arenas, id)
 }

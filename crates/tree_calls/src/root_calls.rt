@@ -5,8 +5,10 @@ ghost use Rattle.tree_insert.specs.Roots.{RaisesRoot, Replants};
 ghost use Rattle.tree_leaf.specs.Arena.{HasPlaces};
 ghost use Rattle.tree_node.specs.Parts.{IsPart, Unchanged};
 ghost use Rattle.tree_node.specs.Tree.{IsOfLevel, IsRetired};
+ghost use Rattle.tree_node.specs.Whole.{root_at};
 ghost use Rattle.tree_remove.specs.Lowering.{LowersRoot};
 
+use crate::node_calls::found_level;
 use std::alloc::AllocError;
 use tree_insert::root::grow_root_at;
 use tree_leaf::arena::NodeId;
@@ -39,7 +41,7 @@ pub trait RootCalls<K: Ord + Drop, const LEN: usize> {
         ensures places { IsPart K.cmp level arenas.old root → HasPlaces arenas.old 0 2 → IsOk result }
         ensures leaf_place { IsRetired level arenas.old root → HasPlaces arenas.old 1 0 → IsOk result }
     {
-        let level = level_of(arenas, root);
+        let level = found_level(arenas, root);
         grow_root_at(arenas, level, root)
     }
 
@@ -54,11 +56,11 @@ pub trait RootCalls<K: Ord + Drop, const LEN: usize> {
         requires part { IsPart K.cmp level arenas.old root ⊎ IsRetired level arenas.old root }
         requires kind { IsOfLevel level (get arenas.old.nodes root) }
         ensures { MatchOption result (LowersRoot K.cmp level arenas.old arenas.new root None)
-            (λ id. (left : ℕ) × LowersRoot K.cmp level arenas.old arenas.new root (Some (id, left))) }
+            (λ id. (left : ℕ) × LowersRoot K.cmp level arenas.old arenas.new root (Some (root_at id left))) }
     {
         let level = level_of_root(arenas, root);
-        let (id, _) = lower_root_at(arenas, level, root)?;
-        Some(id)
+        let lowered = lower_root_at(arenas, level, root)?;
+        Some(lowered.id)
     }
 }
 

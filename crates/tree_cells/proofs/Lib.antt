@@ -1,14 +1,13 @@
-mod Changed
 pub mod Entries
 pub mod Found
 pub mod Halving
 pub mod LeastFrom
 pub mod Moves
-pub mod OrdinalOrder
 pub mod Picks
+pub mod Ranks
 pub mod Rises
+pub mod Sides
 pub mod Sizes
 pub mod Sorted
 pub mod Tabled
-pub mod Walks
 mod Zips

@@ -1,6 +1,8 @@
 -- The arrivals of an array, as a list of what is picked by their numbers.
-use Rattle.std.proofs.Common.{◌≡◌, ◌⊎◌, ℕ, zero, suc, ◌<◌, ◌≤◌, List, [], ◌∷◌, ◌++◌, map, length, false, Option, None, Some, IsSome, refl, sym, ◌∙◌, ap, inl, inr, arith, is_some}
-use Rattle.tree_model.proofs.Common.{cases_lt, false≢true, get_or_past, map-append}
+use Rattle.std.proofs.Common.{◌≡◌, ◌⊎◌, ℕ, zero, suc, ◌+◌, ◌<◌, ◌≤◌, List, [], ◌∷◌, map, length, Option, None, Some, IsSome, refl, sym, ◌∙◌, inl, inr, arith}
+use Rattle.tree_model.proofs.Common.{cases_lt, false≢true, get_or_past}
+use Rattle.std.specs.List.{range_with_len}
+use Rattle.std.proofs.lemmas.List.{map-id}
 use Rattle.std.proofs.lemmas.Option.{none-some}
 use Rattle.tree_cells.specs.Arrivals.{arrival, reachable}
 use Rattle.tree_order.specs.Order.{picked}
@@ -31,25 +33,16 @@ module _ {K V : Type 0} where
 
   -- the list changes as each arrival does
   pub picked-map : (f : Option (K × V) → Option (K × V)) (pick pick' : ℕ → Option (K × V)) (n : ℕ) → ((p : ℕ) → p < n → pick' p ≡ f (pick p)) → picked pick' n ≡ map f (picked pick n)
-  picked-map f pick pick' zero each = refl
-  picked-map f pick pick' (suc n) each =
-      rw (each n (omega arith), picked-map f pick pick' n (λ p lt. each p (omega arith))) (sym (map-append f (picked pick n) (pick n ∷ [])))
+  picked-map f pick pick' n each = go 0 n (λ p le lt. each p (omega arith))
+    where
+      go : (a n : ℕ) → ((p : ℕ) → a ≤ p → p < a + n → pick' p ≡ f (pick p)) → map pick' (range_with_len a n) ≡ map f (map pick (range_with_len a n))
+      go a zero each = refl
+      go a (suc n) each = rw (each a (omega arith) (omega arith), go (a + 1) n (λ p le lt. each p (omega arith) (omega arith))) refl
 
   pub picked_same : (pick pick' : ℕ → Option (K × V)) (n : ℕ) → ((p : ℕ) → p < n → pick' p ≡ pick p) → picked pick' n ≡ picked pick n
-  picked_same pick pick' zero each = refl
-  picked_same pick pick' (suc n) each = rw (each n (omega arith), picked_same pick pick' n (λ p lt. each p (omega arith))) refl
+  picked_same pick pick' n each = picked-map (λ o. o) pick pick' n each ∙ map-id (picked pick n)
 
   -- ---- the reachable arrivals
-  pub reachable-append : (xs ys : List (Option (K × V))) → reachable (xs ++ ys) ≡ reachable xs ++ reachable ys
-  reachable-append [] ys = refl
-  reachable-append (None ∷ xs) ys = reachable-append xs ys
-  reachable-append (Some e ∷ xs) ys = ap (λ (q : List (K × V)). e ∷ q) (reachable-append xs ys)
-
-  pub no_reachable : (arrivals : List (Option (K × V))) → ((p : ℕ) → arrival arrivals p ≡ None) → reachable arrivals ≡ []
-  no_reachable [] h = refl
-  no_reachable (None ∷ arrivals) h = no_reachable arrivals (λ p. h (suc p))
-  no_reachable (Some e ∷ arrivals) h = absurd (none-some e (sym (h 0)))
-
   pub all_spent : (arrivals : List (Option (K × V))) → reachable arrivals ≡ [] → (p : ℕ) → arrival arrivals p ≡ None
   all_spent [] e p = refl
   all_spent (None ∷ arrivals) e zero = refl
@@ -62,10 +55,6 @@ module _ {K V : Type 0} where
   reachable_few (Some e ∷ arrivals) = omega (arith, reachable_few arrivals)
 
 -- ---- what a test of an arrival says
-pub none_from_test : {A : Type 0} (o : Option A) → is_some o ≡ false → o ≡ None
-none_from_test None h = refl
-none_from_test (Some a) h = absurd (false≢true (sym h))
-
 pub some_of : {A : Type 0} (o : Option A) → IsSome o → (a : A) × (o ≡ Some a)
 some_of None there = absurd (false≢true there)
 some_of (Some a) there = (a, refl)

@@ -1,9 +1,8 @@
 -- Pairs that are put into the order of their keys one by one.
 use Rattle.std.proofs.Common.{◌≡◌, Bool, true, false, cond, List, [], ◌∷◌, map, filter, Option, Some, if◌then◌else◌, refl, sym, ◌∙◌, ap, Ordering, is_lt, is_eq, is_gt}
-use Rattle.tree_model.proofs.Common.{IsTotalOrder, AllByRecursion, map-append, IsAscending, pair_at, below, above, put}
+use Rattle.tree_model.proofs.Common.{IsTotalOrder, map-append, IsAscending, pair_at, below, above, put}
 use Rattle.tree_cells.specs.Arrivals.{sorted}
 use Rattle.tree_model.proofs.Ascending.{IsAscending-put}
-use Rattle.tree_model.proofs.Lists.{all-append, all-filter}
 use Rattle.tree_model.proofs.LookUps.{pair_at-put}
 
 module _ {K V : Type 0} {cmp : K → K → Ordering} (o : IsTotalOrder cmp) where
@@ -17,14 +16,6 @@ module _ {K V : Type 0} {cmp : K → K → Ordering} (o : IsTotalOrder cmp) wher
   pair_at-sorted key (e ∷ pairs) =
       pair_at-put o key (sorted cmp pairs) e.0 e.1
       ∙ ap (λ (found : Option (K × V)). if is_eq (cmp e.0 key) then Some e else found) (pair_at-sorted key pairs)
-
-module _ {K V : Type 0} (cmp : K → K → Ordering) where
-  -- what holds of each pair holds of each in order
-  pub all-sorted : (P : K × V → Type 0) (pairs : List (K × V)) → AllByRecursion P pairs → AllByRecursion P (sorted cmp pairs)
-  all-sorted P [] h = tt
-  all-sorted P (e ∷ pairs) h =
-      let rest = all-sorted P pairs h.1 in
-      all-append P (below cmp (sorted cmp pairs) e.0) (e ∷ above cmp (sorted cmp pairs) e.0) (all-filter P _ (sorted cmp pairs) rest) (h.0, all-filter P _ (sorted cmp pairs) rest)
 
 -- ---- pairs whose values are replaced by another function of them
 module _ {K X Y : Type 0} (cmp : K → K → Ordering) (f : K × X → Y) where

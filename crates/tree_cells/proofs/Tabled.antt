@@ -1,309 +1,261 @@
--- What the order of an array keeps as pairs come and go.
-use Rattle.std.proofs.Common.{◌≡◌, ◌≢◌, ◌⊎◌, ℕ, zero, suc, ◌+◌, ◌-◌, ◌<◌, ◌≤◌, List, length, set, replicate, Option, None, Some, IsSome, refl, sym, ◌∙◌, ap, subst, inl, inr, arith, Ordering, Less, Equal, Greater, length-set, get_or-set_same, get_or-set_other}
-use Rattle.tree_model.proofs.Common.{IsTotalOrder, cases_lt, cases_eq, cases_order, alike_right, tied_itself, get_or_past}
-use Rattle.std.proofs.lemmas.List.{length-replicate}
-use Rattle.std.proofs.lemmas.Option.{none-some, same_Some}
-use Rattle.tree_cells.specs.Arrivals.{arrival}
-use Rattle.tree_cells.specs.Tabled.{IsSetAt, IsInOrder, IsTabled}
+-- The slots of an order and the pairs in them, and what stays of them as pairs come and go.
+use Rattle.std.proofs.Common.{◌≡◌, ◌≢◌, ◌⊎◌, ℕ, zero, suc, ◌+◌, ◌<◌, ◌≤◌, List, [], ◌∷◌, ◌++◌, map, length, set, take, drop, slice_get, Option, None, Some, IsSome, MatchOption, Contains, refl, sym, ◌∙◌, ap, subst, inl, inr, arith, length-append, length-drop, length-set, get_or-set_same, get_or-set_other, take-append-drop, Ordering, Less, Equal, Greater}
+use Rattle.tree_model.proofs.Common.{AllByRecursion, IsAscending, IsTotalOrder, cases_eq, cases_lt, put, tied_itself, without, get_or_past, map-append}
+use Rattle.std.proofs.lemmas.List.{drop_at, drop-map, length-map, length-take-le, take_at, take-map}
+use Rattle.std.proofs.lemmas.List.Elements.{Contains-append_cases, Contains-append_left, Contains-append_right}
+use Rattle.std.proofs.lemmas.Option.{none-some, same_Some, slice_get-get_or, slice_get_within}
+use Rattle.tree_model.proofs.Ascending.{IsAscending-put, IsAscending-without}
+use Rattle.tree_model.proofs.Lists.{all_at, all_map}
+use Rattle.tree_cells.specs.Arrivals.{arrival, held, reachable}
+use Rattle.tree_cells.specs.Place.{HasKey, Parts}
+use Rattle.tree_cells.specs.Tabled.{IsInOrder, IsSetAt, IsTabled}
 use Rattle.tree_order.specs.Length.{IsLen}
-use Rattle.tree_order.specs.Order.{named, IsFilled}
-use Rattle.tree_cells.specs.Place.{Parts, HasKey}
-use Rattle.tree_model.proofs.Order.{greater_from_less, less_from_greater}
-use Rattle.tree_order.proofs.Slots.{len_small}
+use Rattle.tree_order.specs.Order.{edited, inserted, named, names, renamed, taken_out}
+use Rattle.tree_cells.proofs.Sides.{one_entry, sides_key, sides_parts, put_is, split_at, without_is}
+use Rattle.tree_order.proofs.Words.{slice_get-names}
 
-one_more : (j : ℕ) → suc j ≡ j + 1
-one_more j = omega arith
+-- what stands in the slot at a place is the entry at this place, or there is neither
+pub entry_at : {X : Type 0} (pair_of : ℕ → Option X) (slots : List ℕ) (entries : List X) → map pair_of slots ≡ map Some entries → (place : ℕ)
+    → MatchOption (slice_get slots place) (slice_get entries place ≡ None) (λ slot. (x : X) × (pair_of slot ≡ Some x) × (slice_get entries place ≡ Some x))
+entry_at pair_of [] [] same place = refl
+entry_at pair_of [] (x ∷ entries) same place = absurd (cc)
+entry_at pair_of (slot ∷ slots) [] same place = absurd (cc)
+entry_at pair_of (slot ∷ slots) (x ∷ entries) same zero = (x, cc, refl)
+entry_at pair_of (slot ∷ slots) (x ∷ entries) same (suc place) = let rest : map pair_of slots ≡ map Some entries = cc in entry_at pair_of slots entries rest place
 
 module _ {K V : Type 0} where
-  -- a pair stands in one of the cells
-  within : (cells : List (Option (K × V))) (p : ℕ) (e : K × V) → arrival cells p ≡ Some e → p < length cells
-  within cells p e some = elim (cases_lt p (length cells)) [
-    | inl lt ↦ lt
-    | inr ge ↦ absurd (none-some e (sym (get_or_past cells p None ge) ∙ some))
-  ]
+  reachable_some : (entries : List (K × V)) → reachable (map Some entries) ≡ entries
+  reachable_some [] = refl
+  reachable_some (e ∷ entries) = ap (λ (rest : List (K × V)). e ∷ rest) (reachable_some entries)
 
-  -- what stands in a cell after a write
-  written : (cells : List (Option (K × V))) (n : ℕ) (o : Option (K × V)) (p : ℕ) (e : K × V) → n < length cells → arrival (set cells n o) p ≡ Some e → ((p ≡ n) × (o ≡ Some e)) ⊎ ((p ≢ n) × (arrival cells p ≡ Some e))
-  written cells n o p e lt some = elim (cases_eq p n) [
-    | inl here ↦ inl (here, sym (get_or-set_same cells n o None lt) ∙ rw here at some)
-    | inr other ↦ inr (other, sym (get_or-set_other cells n p o None other) ∙ some)
-  ]
+  pub held_is : (cells : List (Option (K × V))) (slots : List ℕ) (entries : List (K × V)) → map (arrival cells) slots ≡ map Some entries → held cells slots ≡ entries
+  held_is cells slots entries stand = ap reachable stand ∙ reachable_some entries
+
+  pub in_order_as : {cmp : K → K → Ordering} (cells : List (Option (K × V))) (slots : List ℕ) (entries : List (K × V)) → map (arrival cells) slots ≡ map Some entries → IsAscending cmp entries → IsInOrder cmp cells slots
+  in_order_as cells slots entries stand ascend =
+      let same = held_is cells slots entries stand in
+      record { stand = rw same stand; ascend = rw same ascend }
 
   -- a write, as a change of one arrival
   pub set_at : (cells : List (Option (K × V))) (n : ℕ) (o : Option (K × V)) → n < length cells → IsSetAt (arrival cells) (arrival (set cells n o)) n o
   set_at cells n o lt = record { here = get_or-set_same cells n o None lt; others = λ q differs. get_or-set_other cells n q o None differs }
 
-module _ {K V : Type 0} {cmp : K → K → Ordering} (o : IsTotalOrder cmp) {cells : List (Option (K × V))} {order count : ℕ} (it : IsInOrder cmp cells order count) where
-  -- two places with equal keys are one
-  pub one_index : (i j : ℕ) (e f : K × V) → i < count → j < count → arrival cells (named order i) ≡ Some e → arrival cells (named order j) ≡ Some f → cmp e.0 f.0 ≡ Equal → i ≡ j
-  one_index i j e f li lj ei fj same = elim (cases_order i j) [
-    | inl one ↦ one
-    | inr (inl less) ↦ absurd (let h : Less ≡ Equal = sym (it.ascends i j e f less lj ei fj) ∙ same in cc)
-    | inr (inr more) ↦ absurd (let h : Greater ≡ Equal = sym (greater_from_less o f.0 e.0 (it.ascends j i f e more li fj ei)) ∙ same in cc)
+  -- a pair stands in one of the cells
+  pub within : (cells : List (Option (K × V))) (p : ℕ) (e : K × V) → arrival cells p ≡ Some e → p < length cells
+  within cells p e some = elim (cases_lt p (length cells)) [
+    | inl lt ↦ lt
+    | inr ge ↦ absurd (none-some e (sym (get_or_past cells p None ge) ∙ some))
   ]
 
-  -- two places name two slots
-  pub places_apart : (i j : ℕ) → i < count → j < count → i ≢ j → named order i ≢ named order j
-  places_apart i j li lj differs same =
-      let s = it.stands i li in
-      let t = it.stands j lj in
-      differs (one_index i j s.0 t.0 li lj s.1 t.1 (rw (same_Some s.0 t.0 (sym s.1 ∙ ap (arrival cells) same ∙ t.1)) (tied_itself o t.0.0)))
+-- ---- the places of slots in order
+module _ {K V : Type 0} {cmp : K → K → Ordering} {cells : List (Option (K × V))} {slots : List ℕ} (it : IsInOrder cmp cells slots) where
+  pub length-held : length (held cells slots) ≡ length slots
+  length-held = omega (arith, ap length it.stand, length-map slots (arrival cells), length-map (held cells slots) (λ (e : K × V). Some e))
 
-pub stands_some : {K V : Type 0} {cmp : K → K → Ordering} {cells : List (Option (K × V))} {order count : ℕ} → IsInOrder cmp cells order count → (i : ℕ) → i < count → IsSome (arrival cells (named order i))
-stands_some it i lt = let s = it.stands i lt in subst IsSome (sym s.1) refl
+  pub stands : (i p : ℕ) → slice_get slots i ≡ Some p → (e : K × V) × (arrival cells p ≡ Some e) × (slice_get (held cells slots) i ≡ Some e)
+  stands i p there = rw there at (entry_at (arrival cells) slots (held cells slots) it.stand i)
 
-module _ {K V : Type 0} {cmp : K → K → Ordering} (o : IsTotalOrder cmp) {len : ℕ} {cells : List (Option (K × V))} {order made count : ℕ} (it : IsTabled cmp len cells order made count) where
-  -- a place names a slot whose arrival was made
-  pub early : (i : ℕ) → i < count → named order i < made
-  early i lt = let s = it.in_order.stands i lt in elim (cases_lt (named order i) made) [
+  pub stands_some : (i p : ℕ) → slice_get slots i ≡ Some p → IsSome (arrival cells p)
+  stands_some i p there = subst IsSome (sym (stands i p there).1) refl
+
+  pub slot_there : (i : ℕ) (e : K × V) → slice_get (held cells slots) i ≡ Some e → (p : ℕ) × (slice_get slots i ≡ Some p) × (arrival cells p ≡ Some e)
+  slot_there i e there =
+      let lt : i < length slots = omega (arith, slice_get_within (held cells slots) i e there, length-held) in
+      let at_slot = slice_get-get_or slots i 0 lt in
+      let s = stands i _ at_slot in
+      (_, at_slot, s.1 ∙ ap (λ (f : K × V). Some f) (same_Some s.0 e (sym s.2 ∙ there)))
+
+module _ {K V : Type 0} {cmp : K → K → Ordering} (o : IsTotalOrder cmp) {cells : List (Option (K × V))} {slots : List ℕ} (it : IsInOrder cmp cells slots) where
+  -- a slot stands at one place
+  pub one_place : (i j p : ℕ) → slice_get slots i ≡ Some p → slice_get slots j ≡ Some p → i ≡ j
+  one_place i j p at_i at_j =
+      let s = stands it i p at_i in
+      let t = stands it j p at_j in
+      one_entry o (held cells slots) it.ascend i j s.0 t.0 s.2 t.2 (rw (same_Some s.0 t.0 (sym s.1 ∙ t.1)) (tied_itself o t.0.0))
+
+-- the places of a word
+module _ {K V : Type 0} {cmp : K → K → Ordering} {cells : List (Option (K × V))} (word count : ℕ) (it : IsInOrder cmp cells (names word count)) where
+  pub place_stands : (i : ℕ) → i < count → (e : K × V) × (arrival cells (named word i) ≡ Some e) × (slice_get (held cells (names word count)) i ≡ Some e)
+  place_stands i lt = stands it i (named word i) (slice_get-names word count i lt)
+
+  pub places_apart : IsTotalOrder cmp → (i j : ℕ) → i < count → j < count → i ≢ j → named word i ≢ named word j
+  places_apart o i j li lj differs same =
+      differs (one_place o it i j (named word i) (slice_get-names word count i li) (slice_get-names word count j lj ∙ ap (λ (p : ℕ). Some p) (sym same)))
+
+-- ---- arrivals and their slots
+module _ {K V : Type 0} {cmp : K → K → Ordering} {len : ℕ} {cells : List (Option (K × V))} {slots : List ℕ} {made : ℕ} (it : IsTabled cmp len cells slots made) where
+  pub listed_at : (p : ℕ) (e : K × V) → arrival cells p ≡ Some e → (i : ℕ) × (slice_get slots i ≡ Some p) × (slice_get (held cells slots) i ≡ Some e)
+  listed_at p e some =
+      let l = it.listed p e some in
+      let there = slice_get-get_or slots l.0 p l.1 ∙ ap (λ (q : ℕ). Some q) l.2 in
+      let s = stands it.in_order l.0 p there in
+      (l.0, there, s.2 ∙ ap (λ (f : K × V). Some f) (same_Some s.0 e (sym s.1 ∙ some)))
+
+  -- what holds of each entry holds of each arrival
+  pub each_arrival : (P : K × V → Type 0) → AllByRecursion P (held cells slots) → (p : ℕ) (e : K × V) → arrival cells p ≡ Some e → P e
+  each_arrival P all p e some = let l = listed_at p e some in all_at P (held cells slots) l.0 e all l.2
+
+  -- two arrivals with equal keys are one
+  pub one_arrival : IsTotalOrder cmp → (p q : ℕ) (e f : K × V) → arrival cells p ≡ Some e → arrival cells q ≡ Some f → cmp e.0 f.0 ≡ Equal → p ≡ q
+  one_arrival o p q e f here there same =
+      let l = listed_at p e here in
+      let m = listed_at q f there in
+      same_Some p q (sym l.1 ∙ ap (slice_get slots) (one_entry o (held cells slots) it.in_order.ascend l.0 m.0 e f l.2 m.2 same) ∙ m.1)
+
+  pub early : (i p : ℕ) → slice_get slots i ≡ Some p → p < made
+  early i p there = elim (cases_lt p made) [
     | inl low ↦ low
-    | inr high ↦ absurd (none-some s.0 (sym (it.unmade (named order i) high) ∙ s.1))
+    | inr high ↦ let s = stands it.in_order i p there in absurd (none-some s.0 (sym (it.unmade p high) ∙ s.1))
   ]
 
-  pub few_places : count ≤ 15
-  few_places = omega (arith, it.few_count, it.few_made, len_small len it.is_len)
+-- ---- a write to a cell
+module _ {K V : Type 0} (cells : List (Option (K × V))) (p : ℕ) (o : Option (K × V)) where
+  -- the slots of other pairs keep them
+  kept : (slots : List ℕ) (entries : List (K × V)) → map (arrival cells) slots ≡ map Some entries → AllByRecursion (λ e. arrival cells p ≢ Some e) entries → map (arrival (set cells p o)) slots ≡ map Some entries
+  kept [] [] stand apart = refl
+  kept [] (e ∷ entries) stand apart = absurd (cc)
+  kept (q ∷ slots) [] stand apart = absurd (cc)
+  kept (q ∷ slots) (e ∷ entries) stand apart =
+      let here : arrival cells q ≡ Some e = cc in
+      let rest : map (arrival cells) slots ≡ map Some entries = cc in
+      let differs : q ≢ p = λ same. apart.0 (ap (arrival cells) (sym same) ∙ here) in
+      rw (kept slots entries rest apart.1) (ap (λ (first : Option (K × V)). first ∷ map Some entries) (get_or-set_other cells p q o None differs ∙ here))
 
-  module _ (room : made < len) (pair : K × V) where
-    -- ---- a pair whose key is new
-    module _ (low : ℕ) (parts : Parts cmp cells order count pair.0 low) (order' : ℕ) (filled' : IsFilled len order' (count + 1)) (here : named order' low ≡ made) (below : (i : ℕ) → i < low → named order' i ≡ named order i) (above : (i : ℕ) → low ≤ i → i < count → named order' (i + 1) ≡ named order i) where
-      kept : (i : ℕ) → i < count → arrival (set cells made (Some pair)) (named order i) ≡ arrival cells (named order i)
-      kept i lt = let differs : named order i ≢ made = λ e. omega (arith, early i lt, e) in get_or-set_other cells made (named order i) (Some pair) None differs
+  -- so do those before a place n and from m on
+  edited_stand : (slots : List ℕ) (entries : List (K × V)) (n m : ℕ) (others : List ℕ) (between : List (K × V)) → map (arrival cells) slots ≡ map Some entries
+      → AllByRecursion (λ e. arrival cells p ≢ Some e) (take n entries) → AllByRecursion (λ e. arrival cells p ≢ Some e) (drop m entries) → map (arrival (set cells p o)) others ≡ map Some between
+      → map (arrival (set cells p o)) (edited n m others slots) ≡ map Some (edited n m between entries)
+  edited_stand slots entries n m others between stand low high middle =
+      let front : map (arrival cells) (take n slots) ≡ map Some (take n entries) = sym (take-map (arrival cells) n slots) ∙ ap (take n) stand ∙ take-map (λ (e : K × V). Some e) n entries in
+      let back : map (arrival cells) (drop m slots) ≡ map Some (drop m entries) = sym (drop-map (arrival cells) m slots) ∙ ap (drop m) stand ∙ drop-map (λ (e : K × V). Some e) m entries in
+      map-append (arrival (set cells p o)) (take n slots) (others ++ drop m slots)
+      ∙ rw (map-append (arrival (set cells p o)) others (drop m slots), kept (take n slots) (take n entries) front low, middle, kept (drop m slots) (drop m entries) back high)
+      (sym (map-append (λ (e : K × V). Some e) (take n entries) (between ++ drop m entries) ∙ ap (λ (rest : List (Option (K × V))). map Some (take n entries) ++ rest) (map-append (λ (e : K × V). Some e) between (drop m entries))))
 
-      new_there : arrival (set cells made (Some pair)) made ≡ Some pair
-      new_there = get_or-set_same cells made (Some pair) None (omega (arith, it.whole))
+-- a slot stays listed, unless it is one of those between
+still_listed : (slots old others : List ℕ) (n m q : ℕ) → slots ≡ edited n m old slots → Contains slots q → Contains old q ⊎ Contains (edited n m others slots) q
+still_listed slots old others n m q whole there = elim (Contains-append_cases (take n slots) (old ++ drop m slots) q (subst (λ (slots : List ℕ). Contains slots q) whole there)) [
+  | inl low ↦ inr (Contains-append_left (take n slots) (others ++ drop m slots) q low)
+  | inr rest ↦ elim (Contains-append_cases old (drop m slots) q rest) [
+    | inl here ↦ inl here
+    | inr high ↦ inr (Contains-append_right (take n slots) (others ++ drop m slots) q (Contains-append_right others (drop m slots) q high))
+  ]
+]
 
-      -- what a place of the new order names
-      record Stands (i : ℕ) (e : K × V) : Type 0 where
-        place : ((i ≡ low) × (pair ≡ e)) ⊎ ((j : ℕ) × (j < count) × (arrival cells (named order j) ≡ Some e) × (((i ≡ j) × (j < low)) ⊎ ((i ≡ j + 1) × (low ≤ j))))
+only : (p q : ℕ) → Contains (p ∷ []) q → q ≡ p
+only p q (zero, lt, here) = sym here
+only p q (suc i, lt, here) = absurd (omega arith)
 
-      stands : (i : ℕ) (e : K × V) → i < count + 1 → arrival (set cells made (Some pair)) (named order' i) ≡ Some e → Stands i e
-      stands i e lt some = elim (cases_order i low) [
-        | inl same ↦ record { place = inl (same, same_Some pair e (sym new_there ∙ rw (same, here) at some)) }
-        | inr (inl less) ↦ record { place = inr (i, omega (arith, parts.within), sym (kept i (omega (arith, parts.within))) ∙ rw (below i less) at some, inl (refl, less)) }
-        | inr (inr more) ↦ after i e lt some more
-      ]
-        where
-          after : (i : ℕ) (e : K × V) → i < count + 1 → arrival (set cells made (Some pair)) (named order' i) ≡ Some e → low < i → Stands i e
-          after zero e lt some more = absurd (omega arith)
-          after (suc j) e lt some more =
-              let moved : named order' (suc j) ≡ named order j = ap (named order') (one_more j) ∙ above j (omega arith) (omega arith) in
-              record { place = inr (j, omega arith, sym (kept j (omega arith)) ∙ rw moved at some, inr (omega arith, omega arith)) }
+-- an edit of what an edit left
+pub edited_twice : {X : Type 0} (n : ℕ) (others xs : List X) → n ≤ length xs → edited n n others (taken_out n xs) ≡ edited n (n + 1) others xs
+edited_twice n others xs le =
+    let whole = length-take-le n xs le in
+    rw (take_at (take n xs) (drop (n + 1) xs) n whole, drop_at (take n xs) (drop (n + 1) xs) n whole) refl
 
-      order_new : (i j : ℕ) (e f : K × V) → i < j → Stands i e → Stands j f → cmp e.0 f.0 ≡ Less
-      order_new i j e f lt s t = elim s.place [
-        | inl a ↦ elim t.place [
-          | inl b ↦ absurd (omega (arith, a.0, b.0))
-          | inr b ↦ rw (← a.1) (parts.larger b.0 f (elim b.3 [ inl x ↦ absurd (omega (arith, x.0, x.1, a.0)) | inr x ↦ x.1 ]) b.1 b.2)
-        ]
-        | inr a ↦ elim t.place [
-          | inl b ↦ rw (← b.1) (less_from_greater o pair.0 e.0 (parts.smaller a.0 e (elim a.3 [ inl x ↦ x.1 | inr x ↦ absurd (omega (arith, x.0, x.1, b.0)) ]) a.2))
-          | inr b ↦ it.in_order.ascends a.0 b.0 e f (elim a.3 [
-            | inl x ↦ elim b.3 [ inl y ↦ omega (arith, x.0, y.0) | inr y ↦ omega (arith, x.0, x.1, y.0, y.1) ]
-            | inr x ↦ elim b.3 [ inl y ↦ absurd (omega (arith, x.0, x.1, y.0, y.1)) | inr y ↦ omega (arith, x.0, y.0) ]
-          ]) b.1 a.2 b.2
-        ]
-      ]
-
-      stands_new : (i : ℕ) → i < count + 1 → (e : K × V) × (arrival (set cells made (Some pair)) (named order' i) ≡ Some e)
-      stands_new i lt = elim (cases_order i low) [
-        | inl same ↦ (pair, rw (same, here) new_there)
-        | inr (inl less) ↦ let s = it.in_order.stands i (omega (arith, parts.within)) in (s.0, rw (below i less) (kept i (omega (arith, parts.within)) ∙ s.1))
-        | inr (inr more) ↦ after i lt more
-      ]
-        where
-          after : (i : ℕ) → i < count + 1 → low < i → (e : K × V) × (arrival (set cells made (Some pair)) (named order' i) ≡ Some e)
-          after zero lt more = absurd (omega arith)
-          after (suc j) lt more =
-              let moved : named order' (suc j) ≡ named order j = ap (named order') (one_more j) ∙ above j (omega arith) (omega arith) in
-              let s = it.in_order.stands j (omega arith) in (s.0, rw moved (kept j (omega arith) ∙ s.1))
-
-      pub added_tabled : IsTabled cmp len (set cells made (Some pair)) order' (made + 1) (count + 1)
-      added_tabled = record {
-        is_len = it.is_len;
-        whole = length-set cells made (Some pair) ∙ it.whole;
-        few_made = omega arith;
-        few_count = omega (arith, it.few_count);
-        unmade = λ p le. let differs : p ≢ made = λ e. omega arith in get_or-set_other cells made p (Some pair) None differs ∙ it.unmade p (omega arith);
-        in_order = record {
-          stands = stands_new;
-          ascends = λ i j e f lt small ei fj. order_new i j e f lt (stands i e (omega arith) ei) (stands j f small fj);
-        };
-        filled = λ some. filled';
-        listed = λ p e some. elim (written cells made (Some pair) p e (omega (arith, it.whole)) some) [
-          | inl h ↦ (low, omega (arith, parts.within), here ∙ sym h.0)
-          | inr h ↦ let i = it.listed p e h.1 in elim (cases_lt i.0 low) [
-            | inl lt ↦ (i.0, omega (arith, i.1), below i.0 lt ∙ i.2)
-            | inr ge ↦ (i.0 + 1, omega (arith, i.1), above i.0 ge i.1 ∙ i.2)
-          ]
-        ];
-      }
-
-    -- ---- a pair whose key stands at a place
-    module _ (i : ℕ) (h : HasKey cmp cells order count pair.0 i) (order' : ℕ) (filled' : IsFilled len order' count) (here : named order' i ≡ made) (others : (j : ℕ) → j < count → j ≢ i → named order' j ≡ named order j) where
-      short : made < length (set cells (named order i) None)
-      short = omega (arith, it.whole, length-set cells (named order i) None)
-
-      pair_there : arrival (set (set cells (named order i) None) made (Some pair)) made ≡ Some pair
-      pair_there = get_or-set_same (set cells (named order i) None) made (Some pair) None short
-
-      remains : (j : ℕ) → j < count → j ≢ i → arrival (set (set cells (named order i) None) made (Some pair)) (named order j) ≡ arrival cells (named order j)
-      remains j lt differs =
-          let d : named order j ≢ made = λ e. omega (arith, early j lt, e) in
-          get_or-set_other (set cells (named order i) None) made (named order j) (Some pair) None d ∙ get_or-set_other cells (named order i) (named order j) None None (places_apart o it.in_order j i lt h.early differs)
-
-      record Stays (j : ℕ) (e : K × V) : Type 0 where
-        place : ((j ≡ i) × (pair ≡ e)) ⊎ ((j ≢ i) × (arrival cells (named order j) ≡ Some e))
-
-      stays : (j : ℕ) (e : K × V) → j < count → arrival (set (set cells (named order i) None) made (Some pair)) (named order' j) ≡ Some e → Stays j e
-      stays j e lt some = elim (cases_eq j i) [
-        | inl same ↦ record { place = inl (same, same_Some pair e (sym pair_there ∙ rw (same, here) at some)) }
-        | inr differs ↦ record { place = inr (differs, sym (remains j lt differs) ∙ rw (others j lt differs) at some) }
-      ]
-
-      order_moved : (j k : ℕ) (e f : K × V) → j < k → k < count → Stays j e → Stays k f → cmp e.0 f.0 ≡ Less
-      order_moved j k e f lt small s t = elim s.place [
-        | inl a ↦ elim t.place [
-          | inl b ↦ absurd (omega (arith, a.0, b.0))
-          | inr b ↦ rw (← a.1) (o.congr pair.0 h.pair.0 f.0 h.same ∙ it.in_order.ascends i k h.pair f (omega (arith, a.0)) small h.there b.1)
-        ]
-        | inr a ↦ elim t.place [
-          | inl b ↦ rw (← b.1) (alike_right o pair.0 h.pair.0 e.0 h.same ∙ it.in_order.ascends j i e h.pair (omega (arith, b.0)) h.early a.1 h.there)
-          | inr b ↦ it.in_order.ascends j k e f lt small a.1 b.1
-        ]
-      ]
-
-      pub moved_tabled : IsTabled cmp len (set (set cells (named order i) None) made (Some pair)) order' (made + 1) count
-      moved_tabled = record {
-        is_len = it.is_len;
-        whole = length-set (set cells (named order i) None) made (Some pair) ∙ length-set cells (named order i) None ∙ it.whole;
-        few_made = omega arith;
-        few_count = omega (arith, it.few_count);
-        unmade = λ p le.
-            let differs : p ≢ made = λ e. omega arith in
-            let differs' : p ≢ named order i = λ e. omega (arith, early i h.early, e) in
-            get_or-set_other (set cells (named order i) None) made p (Some pair) None differs ∙ get_or-set_other cells (named order i) p None None differs' ∙ it.unmade p (omega arith);
-        in_order = record {
-          stands = λ j lt. elim (cases_eq j i) [
-            | inl same ↦ (pair, rw (same, here) pair_there)
-            | inr differs ↦ let s = it.in_order.stands j lt in (s.0, rw (others j lt differs) (remains j lt differs ∙ s.1))
+module _ {K V : Type 0} {cmp : K → K → Ordering} (o : IsTotalOrder cmp) {len : ℕ} {cells : List (Option (K × V))} {slots : List ℕ} {made : ℕ} (it : IsTabled cmp len cells slots made) where
+  -- a write to one cell, and an edit of the slots from the n-th up to the m-th, of which none but its own was one
+  edited_tabled : (p : ℕ) (w : Option (K × V)) (made' n m : ℕ) (old others : List ℕ) (between entries : List (K × V)) → made ≤ made' → made' ≤ len → p < made' → n ≤ m → m ≤ length slots → length slots + (n + length others) ≤ made' + m
+      → slots ≡ edited n m old slots → ((q : ℕ) → Contains old q → q ≡ p) → ((e : K × V) → w ≡ Some e → Contains others p)
+      → AllByRecursion (λ e. arrival cells p ≢ Some e) (take n (held cells slots)) → AllByRecursion (λ e. arrival cells p ≢ Some e) (drop m (held cells slots)) → map (arrival (set cells p w)) others ≡ map Some between
+      → entries ≡ edited n m between (held cells slots) → IsAscending cmp entries → IsTabled cmp len (set cells p w) (edited n m others slots) made' × (held (set cells p w) (edited n m others slots) ≡ entries)
+  edited_tabled p w made' n m old others between entries more within' lt le within few whole alone own low high middle is ascend =
+      let stand : map (arrival (set cells p w)) (edited n m others slots) ≡ map Some entries = rw is (edited_stand cells p w slots (held cells slots) n m others between it.in_order.stand low high middle) in (
+        record {
+          is_len = it.is_len;
+          whole = length-set cells p w ∙ it.whole;
+          few_made = within';
+          few = omega (arith, length-append (take n slots) (others ++ drop m slots), length-append others (drop m slots), length-take-le n slots (omega arith), length-drop m slots);
+          unmade = λ q le. let differs : q ≢ p = λ same. omega arith in get_or-set_other cells p q w None differs ∙ it.unmade q (omega arith);
+          in_order = in_order_as (set cells p w) (edited n m others slots) entries stand ascend;
+          listed = λ q e some. elim (cases_eq q p) [
+            | inl here ↦ rw here (Contains-append_right (take n slots) (others ++ drop m slots) p (Contains-append_left others (drop m slots) p (own e (sym (get_or-set_same cells p w None (omega (arith, it.whole))) ∙ rw here at some))))
+            | inr other ↦ elim (still_listed slots old others n m q whole (it.listed q e (sym (get_or-set_other cells p q w None other) ∙ some))) [
+              | inl gone ↦ absurd (other (alone q gone))
+              | inr still ↦ still
+            ]
           ];
-          ascends = λ j k e f lt small ej fk. order_moved j k e f lt small (stays j e (omega arith) ej) (stays k f small fk);
-        };
-        filled = λ some. filled';
-        listed = λ p e some. elim (written (set cells (named order i) None) made (Some pair) p e short some) [
-          | inl w ↦ (i, h.early, here ∙ sym w.0)
-          | inr w ↦ elim (written cells (named order i) None p e (within cells (named order i) h.pair h.there) w.1) [
-            | inl v ↦ absurd (none-some e v.1)
-            | inr v ↦ let j = it.listed p e v.1 in (j.0, j.1, others j.0 j.1 (λ q. v.0 (sym j.2 ∙ ap (named order) q)) ∙ j.2)
-          ]
-        ];
-      }
+        },
+        held_is (set cells p w) (edited n m others slots) entries stand,
+      )
 
-  -- ---- a pair that is spent
-  module _ (i : ℕ) (lt_i : i < count) (order' : ℕ) (filled' : 1 < count → IsFilled len order' (count - 1)) (below : (j : ℕ) → j < i → named order' j ≡ named order j) (above : (j : ℕ) → i ≤ j → j + 1 < count → named order' j ≡ named order (j + 1)) where
-    gone : (j : ℕ) → j < count → j ≢ i → arrival (set cells (named order i) None) (named order j) ≡ arrival cells (named order j)
-    gone j lt differs = get_or-set_other cells (named order i) (named order j) None None (places_apart o it.in_order j i lt lt_i differs)
+  -- ---- a pair whose key is new
+  module _ (room : made < len) (key : K) (val : V) {place : ℕ} (parts : Parts cmp (held cells slots) key place) where
+    pub added : IsTabled cmp len (set cells made (Some (key, val))) (inserted place made slots) (made + 1) × (held (set cells made (Some (key, val))) (inserted place made slots) ≡ put cmp (held cells slots) key val)
+    added =
+        let within : place ≤ length slots = omega (arith, parts.within, length-held it.in_order) in
+        let free = λ (e : K × V) (some : arrival cells made ≡ Some e). none-some e (sym (it.unmade made (omega arith)) ∙ some) in
+        edited_tabled made (Some (key, val)) (made + 1) place place [] (made ∷ []) ((key, val) ∷ []) _ (omega arith) (omega arith) (omega arith) (omega arith) within (omega (arith, it.few)) (sym (take-append-drop place slots)) (λ q none. absurd (omega (arith, none.1))) (λ e is. (0, omega arith, refl))
+        (all_map (λ e h. free e) (take place (held cells slots)) parts.smaller) (all_map (λ e h. free e) (drop place (held cells slots)) parts.larger) (ap (λ (o : Option (K × V)). o ∷ []) (get_or-set_same cells made (Some (key, val)) None (omega (arith, it.whole)))) (put_is o (sides_parts o parts) val) (IsAscending-put o (held cells slots) key val it.in_order.ascend)
 
-    -- the place that stood where this one stands now
-    record Was (j : ℕ) : Type 0 where
-      old : ℕ
-      early_old : old < count
-      differs : old ≢ i
-      same : named order' j ≡ named order old
-      after : ((j < i) × (old ≡ j)) ⊎ ((i ≤ j) × (old ≡ j + 1))
+  -- ---- the slot of an entry
+  module _ {i p : ℕ} (is : slice_get slots i ≡ Some p) {key : K} (has : HasKey cmp (held cells slots) key i) where
+    pub its_pair : arrival cells p ≡ Some has.pair
+    its_pair = let s = stands it.in_order i p is in s.1 ∙ ap (λ (e : K × V). Some e) (same_Some s.0 has.pair (sym s.2 ∙ has.there))
 
-    was : (j : ℕ) → j + 1 < count → Was j
-    was j lt = elim (cases_lt j i) [
-      | inl less ↦ record { old = j; early_old = omega arith; differs = λ e. omega arith; same = below j less; after = inl (less, refl) }
-      | inr more ↦ record { old = j + 1; early_old = lt; differs = λ e. omega arith; same = above j more lt; after = inr (more, refl) }
-    ]
+    -- the entries on either side are other pairs
+    other_pair : (e : K × V) → cmp key e.0 ≢ Equal → arrival cells p ≢ Some e
+    other_pair e differs some = differs (rw (← same_Some has.pair e (sym its_pair ∙ some)) has.same)
 
-    stood : (j : ℕ) (e : K × V) (w : Was j) → arrival (set cells (named order i) None) (named order' j) ≡ Some e → arrival cells (named order w.old) ≡ Some e
-    stood j e w some = sym (gone w.old w.early_old w.differs) ∙ rw w.same at some
+    -- another pair, or none, is written to its cell
+    rewritten : (w : Option (K × V)) (others : List ℕ) (between entries : List (K × V)) → length others ≤ 1 → ((e : K × V) → w ≡ Some e → Contains others p) → map (arrival (set cells p w)) others ≡ map Some between → entries ≡ edited i (i + 1) between (held cells slots) → IsAscending cmp entries
+        → IsTabled cmp len (set cells p w) (edited i (i + 1) others slots) made × (held (set cells p w) (edited i (i + 1) others slots) ≡ entries)
+    rewritten w others between entries few own middle edit ascend =
+        let s = sides_key o it.in_order.ascend has in
+        edited_tabled p w made i (i + 1) (p ∷ []) others between entries (omega arith) it.few_made (early it i p is) (omega arith) (omega (arith, slice_get_within slots i p is)) (omega (arith, it.few)) (split_at slots i p is) (only p) own
+        (all_map (λ e h. other_pair e (λ same. let q : Greater ≡ Equal = sym h ∙ same in absurd (cc))) (take i (held cells slots)) s.smaller) (all_map (λ e h. other_pair e (λ same. let q : Less ≡ Equal = sym h ∙ same in absurd (cc))) (drop (i + 1) (held cells slots)) s.larger) middle edit ascend
 
-    before : (j k : ℕ) → j < k → (v : Was j) (w : Was k) → v.old < w.old
-    before j k lt v w = elim v.after [
-      | inl a ↦ elim w.after [ inl b ↦ omega (arith, a.1, b.1) | inr b ↦ omega (arith, a.1, b.1) ]
-      | inr a ↦ elim w.after [ inl b ↦ absurd (omega (arith, a.0, b.0)) | inr b ↦ omega (arith, a.1, b.1) ]
-    ]
+    pub spent : IsTabled cmp len (set cells p None) (taken_out i slots) made × (held (set cells p None) (taken_out i slots) ≡ without cmp (held cells slots) key)
+    spent = rewritten None [] [] _ (omega arith) (λ e is. absurd (none-some e is)) refl (without_is o (sides_key o it.in_order.ascend has)) (IsAscending-without o (held cells slots) key it.in_order.ascend)
 
-    dropped : IsTabled cmp len (set cells (named order i) None) order' made (count - 1)
-    dropped = record {
-      is_len = it.is_len;
-      whole = length-set cells (named order i) None ∙ it.whole;
-      few_made = it.few_made;
-      few_count = omega (arith, it.few_count);
-      unmade = λ p le.
-          let d : p ≢ named order i = λ e. omega (arith, early i lt_i, e) in
-          get_or-set_other cells (named order i) p None None d ∙ it.unmade p le;
-      in_order = record {
-        stands = λ j lt. let w = was j (omega arith) in let s = it.in_order.stands w.old w.early_old in (s.0, rw w.same (gone w.old w.early_old w.differs ∙ s.1));
-        ascends = λ j k e f lt small ej fk. let v = was j (omega arith) in let w = was k (omega arith) in it.in_order.ascends v.old w.old e f (before j k lt v w) w.early_old (stood j e v ej) (stood k f w fk);
-      };
-      filled = λ some. filled' (omega arith);
-      listed = λ p e some. elim (written cells (named order i) None p e (within cells (named order i) (it.in_order.stands i lt_i).0 (it.in_order.stands i lt_i).1) some) [
-        | inl h ↦ absurd (none-some e h.1)
-        | inr h ↦ let j = it.listed p e h.1 in elim (cases_order j.0 i) [
-          | inl same ↦ absurd (h.0 (sym j.2 ∙ ap (named order) same))
-          | inr (inl less) ↦ (j.0, omega (arith, j.1), below j.0 less ∙ j.2)
-          | inr (inr more) ↦ shifted j.0 p j.1 j.2 more
-        ]
-      ];
-    }
-      where
-        shifted : (j p : ℕ) → j < count → named order j ≡ p → i < j → (k : ℕ) × (k < count - 1) × (named order' k ≡ p)
-        shifted zero p lt e more = absurd (omega arith)
-        shifted (suc k) p lt e more = (k, omega arith, above k (omega arith) (omega arith) ∙ ap (named order) (sym (one_more k)) ∙ e)
+    -- the key parts what is left
+    pub spent_parts : Parts cmp (held (set cells p None) (taken_out i slots)) key i
+    spent_parts =
+        let s = sides_key o it.in_order.ascend has in
+        let entries = held cells slots in
+        let whole = length-take-le i entries (omega (arith, slice_get_within entries i has.pair has.there)) in
+        rw (spent.1 ∙ without_is o s) record {
+          within = omega (arith, length-append (take i entries) (drop (i + 1) entries), whole);
+          smaller = rw (take_at (take i entries) (drop (i + 1) entries) i whole) s.smaller;
+          larger = rw (drop_at (take i entries) (drop (i + 1) entries) i whole) s.larger;
+        }
 
-    pub dropped_tabled : (slot : ℕ) → named order i ≡ slot → IsTabled cmp len (set cells slot None) order' made (count - 1)
-    dropped_tabled slot is = subst (λ (q : ℕ). IsTabled cmp len (set cells q None) order' made (count - 1)) is dropped
+    -- another value is written to its cell
+    valued : (new : V) → IsTabled cmp len (set cells p (Some (key, new))) slots made × (held (set cells p (Some (key, new))) slots ≡ put cmp (held cells slots) key new)
+    valued new =
+        let here = get_or-set_same cells p (Some (key, new)) None (omega (arith, early it i p is, it.few_made, it.whole)) in
+        rw (sym (split_at slots i p is)) at (rewritten (Some (key, new)) (p ∷ []) ((key, new) ∷ []) _ (omega arith) (λ e is. (0, omega arith, refl)) (ap (λ (o : Option (K × V)). o ∷ []) here) (put_is o (sides_key o it.in_order.ascend has) new) (IsAscending-put o (held cells slots) key new it.in_order.ascend))
+
+module _ {K V : Type 0} {cmp : K → K → Ordering} (o : IsTotalOrder cmp) {len : ℕ} {cells : List (Option (K × V))} {slots : List ℕ} {made : ℕ} (it : IsTabled cmp len cells slots made) where
+  -- ---- a pair whose key stands at a place
+  module _ (room : made < len) {i p : ℕ} (is : slice_get slots i ≡ Some p) (key : K) (val : V) (has : HasKey cmp (held cells slots) key i) where
+    again : edited i i (made ∷ []) (taken_out i slots) ≡ renamed i made slots
+    again = edited_twice i (made ∷ []) slots (omega (arith, slice_get_within slots i p is))
+
+    pub moved : IsTabled cmp len (set (set cells p None) made (Some (key, val))) (renamed i made slots) (made + 1) × (held (set (set cells p None) made (Some (key, val))) (renamed i made slots) ≡ put cmp (held cells slots) key val)
+    moved =
+        let s = sides_key o it.in_order.ascend has in
+        let gone = spent o it is has in
+        let left = spent_parts o it is has in
+        let back = added o gone.0 room key val left in (
+          subst (λ (slots : List ℕ). IsTabled cmp len (set (set cells p None) made (Some (key, val))) slots (made + 1)) again back.0,
+          ap (held (set (set cells p None) made (Some (key, val)))) (sym again) ∙ back.1
+              ∙ put_is o (sides_parts o left) val ∙ ap (edited i i ((key, val) ∷ [])) (gone.1 ∙ without_is o s)
+              ∙ edited_twice i ((key, val) ∷ []) (held cells slots) (omega (arith, slice_get_within (held cells slots) i has.pair has.there)) ∙ sym (put_is o s val),
+        )
 
   -- ---- a value that is replaced
-  module _ (slot : ℕ) (key : K) (old new : V) (there : arrival cells slot ≡ Some (key, old)) where
-    -- each cell has the key that it had
-    had : (p : ℕ) (e : K × V) → arrival (set cells slot (Some (key, new))) p ≡ Some e → (val : V) × (arrival cells p ≡ Some (e.0, val))
-    had p e some = elim (written cells slot (Some (key, new)) p e (within cells slot (key, old) there) some) [
-      | inl h ↦ (old, ap (arrival cells) h.0 ∙ there ∙ ap (λ (f : K × V). Some (f.0, old)) (same_Some (key, new) e h.1))
-      | inr h ↦ (e.1, h.1)
-    ]
+  module _ (p : ℕ) (key : K) (old new : V) (there : arrival cells p ≡ Some (key, old)) where
+    pub replaced : IsTabled cmp len (set cells p (Some (key, new))) slots made × (held (set cells p (Some (key, new))) slots ≡ put cmp (held cells slots) key new)
+    replaced = let l = listed_at it p (key, old) there in valued o it l.1 record { pair = (key, old); there = l.2; same = tied_itself o key } new
 
-    has : (p : ℕ) (e : K × V) → arrival cells p ≡ Some e → (f : K × V) × (arrival (set cells slot (Some (key, new))) p ≡ Some f)
-    has p e some = elim (cases_eq p slot) [
-      | inl here ↦ ((key, new), rw here (get_or-set_same cells slot (Some (key, new)) None (within cells slot (key, old) there)))
-      | inr other ↦ (e, get_or-set_other cells slot p (Some (key, new)) None other ∙ some)
-    ]
-
-    pub valued_tabled : IsTabled cmp len (set cells slot (Some (key, new))) order made count
-    valued_tabled = record {
-      is_len = it.is_len;
-      whole = length-set cells slot (Some (key, new)) ∙ it.whole;
-      few_made = it.few_made;
-      few_count = it.few_count;
-      unmade = λ p le.
-          let d : p ≢ slot = λ e. none-some (key, old) (sym (it.unmade p le) ∙ ap (arrival cells) e ∙ there) in
-          get_or-set_other cells slot p (Some (key, new)) None d ∙ it.unmade p le;
-      in_order = record {
-        stands = λ i lt. let s = it.in_order.stands i lt in has (named order i) s.0 s.1;
-        ascends = λ i j e f less lt ei fj. let v = had (named order i) e ei in let w = had (named order j) f fj in it.in_order.ascends i j (e.0, v.0) (f.0, w.0) less lt v.1 w.1;
-      };
-      filled = it.filled;
-      listed = λ p e some. let v = had p e some in it.listed p (e.0, v.0) v.1;
-    }
-
--- an array that had no pair yet
-pub first_tabled : {K V : Type 0} (cmp : K → K → Ordering) (len order : ℕ) → IsLen len → IsTabled {K = K} {V = V} cmp len (replicate len None) order 0 0
-first_tabled {K} {V} cmp len order is_len = record {
+-- cells that hold no pair
+pub none_tabled : {K V : Type 0} (cmp : K → K → Ordering) (len made : ℕ) (cells : List (Option (K × V))) → IsLen len → length cells ≡ len → made ≤ len → ((p : ℕ) → arrival cells p ≡ None) → IsTabled cmp len cells [] made
+none_tabled cmp len made cells is_len whole few none = record {
   is_len = is_len;
-  whole = length-replicate len None;
-  few_made = omega arith;
-  few_count = omega arith;
-  unmade = λ p le. none len p;
-  in_order = record { stands = λ i lt. absurd (omega arith); ascends = λ i j e f less lt. absurd (omega arith) };
-  filled = λ some. absurd (omega arith);
-  listed = λ p e some. absurd (none-some e (sym (none len p) ∙ some));
+  whole = whole;
+  few_made = few;
+  few = omega arith;
+  unmade = λ p le. none p;
+  in_order = record { stand = refl; ascend = tt };
+  listed = λ p e some. absurd (none-some e (sym (none p) ∙ some));
 }
-  where
-    none : (n p : ℕ) → arrival {K = K} {V = V} (replicate n None) p ≡ None
-    none zero p = refl
-    none (suc n) zero = refl
-    none (suc n) (suc p) = none n p

@@ -16,6 +16,10 @@ module _ {K V : Type 0} where
   reachable (None ∷ arrivals) = reachable arrivals
   reachable (Some pair ∷ arrivals) = pair ∷ reachable arrivals
 
+  -- the pairs of these slots
+  abbrev pub held : List (Option (K × V)) → List ℕ → List (K × V)
+  held cells slots = reachable (map (arrival cells) slots)
+
   -- the keys that are reachable, each with the number of its arrival, from this number on
   abbrev pub numbered : ℕ → List (Option (K × V)) → List (K × ℕ)
   numbered n [] = []

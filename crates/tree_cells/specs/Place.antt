@@ -1,5 +1,6 @@
 -- Where a key stands in the order of an array.
-use Rattle.std.specs.Prelude.{◌≡◌, ◌⊎◌, ℕ, ◌+◌, ◌<◌, ◌≤◌, ◌-◌, List, Option, Some, if◌then◌else◌, ltb}
+use Rattle.std.specs.Prelude.{◌≡◌, ◌⊎◌, ℕ, ◌+◌, ◌*◌, ◌/◌, ◌^◌, ◌<◌, ◌≤◌, ◌-◌, List, take, drop, length, Option, None, Some, if◌then◌else◌, ltb, slice_get}
+use Rattle.std.specs.List.{AllByRecursion}
 use Rattle.std.specs.declared.cmp.Ordering.{Ordering}
 use Rattle.std.specs.declared.cmp.Ordering.TheVariants.{Less, Equal, Greater}
 use Rattle.tree_cells.specs.declared.search.Place.{Place}
@@ -20,31 +21,35 @@ abbrev pub slot_of : Place → ℕ
 slot_of (At place slot) = slot
 slot_of (Before place slot) = slot
 
-module _ {K V : Type 0} (cmp : K → K → Ordering) (cells : List (Option (K × V))) (order count : ℕ) (key : K) where
-  -- a pair before the place is smaller, and any other larger
-  pub record Parts (low : ℕ) : Type 0 where
-    pub within : low ≤ count
-    pub smaller : (i : ℕ) (e : K × V) → i < low → arrival cells (named order i) ≡ Some e → cmp key e.0 ≡ Greater
-    pub larger : (i : ℕ) (e : K × V) → low ≤ i → i < count → arrival cells (named order i) ≡ Some e → cmp key e.0 ≡ Less
+module _ {K V : Type 0} (cmp : K → K → Ordering) (entries : List (K × V)) (key : K) where
+  -- the entries before the place are smaller than the key, and the others larger
+  pub record Parts (place : ℕ) : Type 0 where
+    pub within : place ≤ length entries
+    pub smaller : AllByRecursion (λ e. cmp key e.0 ≡ Greater) (take place entries)
+    pub larger : AllByRecursion (λ e. cmp key e.0 ≡ Less) (drop place entries)
 
-  -- the place has the key
-  pub record HasKey (i : ℕ) : Type 0 where
-    pub early : i < count
+  -- the entry at the place has the key
+  pub record HasKey (place : ℕ) : Type 0 where
     pub pair : K × V
-    pub there : arrival cells (named order i) ≡ Some pair
+    pub there : slice_get entries place ≡ Some pair
     pub same : cmp key pair.0 ≡ Equal
 
-  -- the place has the key, or parts the smaller pairs from the larger, and names the slot; or all pairs are smaller
-  abbrev pub IsPlace : Place → Type 0
-  IsPlace (At place slot) = HasKey place × (named order place ≡ slot)
-  IsPlace (Before place slot) = ((place < count) × (named order place ≡ slot) × Parts place) ⊎ ((count ≤ place) × (slot ≡ 15) × Parts count)
+  -- the place has the key, or parts the smaller entries from the larger, and the slot stands there; or all are smaller
+  abbrev pub IsPlace : List ℕ → Place → Type 0
+  IsPlace slots (At place slot) = HasKey place × (slice_get slots place ≡ Some slot)
+  IsPlace slots (Before place slot) = (Parts place × (slice_get slots place ≡ Some slot)) ⊎ ((length entries ≤ place) × (slot ≡ 15) × Parts (length entries))
 
-module _ {K V : Type 0} (cmp : K → K → Ordering) (cells : List (Option (K × V))) (order : ℕ) (key : K) where
+-- how a key compares with that of a pair
+abbrev pub against : {K V : Type 0} → (K → K → Ordering) → K → Option (K × V) → Ordering
+against cmp key None = Equal
+against cmp key (Some pair) = cmp key pair.0
+
+module _ {K V : Type 0} (cmp : K → K → Ordering) (cells : List (Option (K × V))) (word : ℕ) (key : K) where
   -- the key is larger than the pairs before the window, and no larger than the pairs behind it: smaller, if no key met was equal
   pub record IsWindow (len place rest met width : ℕ) : Type 0 where
     pub reach : place + width ≤ len
     pub few : met + width < 16
-    pub left : (i : ℕ) → named rest i ≡ named order (place + i)
-    pub smaller : (i : ℕ) (e : K × V) → i < place → arrival cells (named order i) ≡ Some e → cmp key e.0 ≡ Greater
-    pub larger : met ≡ 0 → (i : ℕ) (e : K × V) → place + width ≤ i → i < len → arrival cells (named order i) ≡ Some e → cmp key e.0 ≡ Less
-    pub equal : 0 < met → (place + width < len) × ((e : K × V) → arrival cells (named order (place + width)) ≡ Some e → cmp key e.0 ≡ Equal)
+    pub left : rest ≡ word / 2 ^ (4 * place)
+    pub smaller : (i : ℕ) → i < place → against cmp key (arrival cells (named word i)) ≡ Greater
+    pub larger : met ≡ 0 → (i : ℕ) → place + width ≤ i → i < len → against cmp key (arrival cells (named word i)) ≡ Less
+    pub equal : 0 < met → (place + width < len) × (against cmp key (arrival cells (named word (place + width))) ≡ Equal)

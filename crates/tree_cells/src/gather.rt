@@ -1,5 +1,7 @@
 //! Keys and values that are moved from the slots that an order names into the first slots of other rows.
 ghost use Rattle.std.specs.Prelude.{◌≡◌, ℕ, ◌≢◌, ◌<◌, ◌≤◌, IsSome, None, slice_index_or};
+ghost use Rattle.tree_cells.specs.Arrivals.{arrival};
+ghost use Rattle.tree_cells.specs.Cells.{zipped, AreFilledAlike};
 ghost use Rattle.tree_cells.specs.Moves.{HasInTurn, HasLeft};
 ghost use Rattle.tree_order.specs.Order.{named};
 
@@ -22,15 +24,17 @@ pub(crate) fn gather<K, V, const LEN: usize>(
     requires ends { from ≤ end }
     requires few { end ≤ LEN }
     requires places { end ≤ 15 }
-    requires keys { (i : ℕ) → from ≤ i → i < end → IsSome (slice_index_or keys.old.slots (named order i) None) }
-    requires vals { (i : ℕ) → from ≤ i → i < end → IsSome (slice_index_or vals.old.slots (named order i) None) }
+    requires alike { AreFilledAlike keys.old.slots vals.old.slots }
+    requires stand { (i : ℕ) → from ≤ i → i < end
+        → IsSome (arrival (zipped keys.old.slots vals.old.slots) (named order i)) }
     requires apart { (i j : ℕ) → from ≤ i → i < j → j < end → named order i ≢ named order j }
     requires no_keys { (p : ℕ) → slice_index_or to_keys.old.slots p None ≡ None }
     requires no_vals { (p : ℕ) → slice_index_or to_vals.old.slots p None ≡ None }
-    ensures keys_turn { HasInTurn keys.old.slots to_keys.new.slots order from end }
-    ensures keys_left { HasLeft keys.old.slots keys.new.slots order from end }
-    ensures vals_turn { HasInTurn vals.old.slots to_vals.new.slots order from end }
-    ensures vals_left { HasLeft vals.old.slots vals.new.slots order from end }
+    ensures turn { HasInTurn (zipped keys.old.slots vals.old.slots) (zipped to_keys.new.slots to_vals.new.slots)
+        order from end }
+    ensures left { HasLeft (zipped keys.old.slots vals.old.slots) (zipped keys.new.slots vals.new.slots) order from end }
+    ensures alike { AreFilledAlike keys.new.slots vals.new.slots }
+    ensures to_alike { AreFilledAlike to_keys.new.slots to_vals.new.slots }
 {
     // The word is shifted by one place a step, so that no shift waits for the number of the place.
     let mut rest = order >> (4 * from);

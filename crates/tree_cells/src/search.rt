@@ -1,15 +1,16 @@
 //! Searches of an array by halving.
 ghost use Rattle.std.specs.Prelude.{◌≡◌, ◌+◌, ◌-◌, ◌*◌, ◌<◌, ◌≤◌};
-ghost use Rattle.tree_order.specs.Length.{IsLen};
+ghost use Rattle.tree_cells.specs.Arrivals.{held};
 ghost use Rattle.tree_cells.specs.Place.{searched, nearest, IsPlace, IsWindow, slot_of};
-ghost use Rattle.tree_order.specs.Order.{named, IsFilled};
-ghost use Rattle.tree_cells.specs.Tabled.{IsInOrder};
+ghost use Rattle.tree_cells.specs.Tabled.{AreSlots, IsInOrder};
+ghost use Rattle.tree_order.specs.Length.{IsLen};
+ghost use Rattle.tree_order.specs.Order.{named, names};
 
 use crate::cells::Cells;
 use crate::judge::Asks;
 use std::cmp::Ordering;
 use std::mem::size_of_val;
-use tree_order::order::{BEYOND, last_slot, slot_at};
+use tree_order::order::{BEYOND, Order, slot_at};
 
 /// Keys of more bytes are compared with a branch for each answer: so a processor reads on before a dear comparison has answered.
 const WIDE: usize = 16;
@@ -38,8 +39,6 @@ impl Place {
 /// What a search has found out: all entries before `place` have smaller keys, and none behind the window has.
 #[derive(Clone, Copy)]
 struct Window {
-    order: u64,
-    count: u8,
     place: u8,
     /// The order from the place on.
     rest: u64,
@@ -48,64 +47,70 @@ struct Window {
 }
 
 impl Window {
-    /// Returns the place of the equal key, which was met at the end of the window.
-    fn end(self, width: u8) -> Place
-        requires some { 0 < self.count }
+    /// Returns the place of the equal key, which was met at the end of the window, among so many entries.
+    fn end(self, width: u8, count: u8) -> Place
+        requires some { 0 < count }
         requires within { self.place + width < 15 }
-        ensures { result ≡ Place.At (nearest self.count (self.place + width)) (named self.rest width) }
+        ensures { result ≡ Place.At (nearest count (self.place + width)) (named self.rest width) }
     {
         let place = self.place + width;
         let slot = slot_at(self.rest, width);
-        if place < self.count {
+        if place < count {
             Place::At { place, slot }
         } else {
             Place::At {
-                place: self.count - 1,
+                place: count - 1,
                 slot,
             }
         }
     }
 }
 
+/// Returns how many equal keys are met before a search goes on in spite of one. One ends a search among wide keys, and
+/// none one among others.
+#[inline(always)]
+fn ignored<K>(key: &K) -> u8 {
+    if size_of_val(key) > WIDE { 0 } else { u8::MAX }
+}
+
 /// Finds where the key of the asked stands. Makes at most 4 comparisons among 15 slots, and 3 among 7.
 ///
 /// A search for a small key makes them all, and has no branch on what one of them answers. For a key of more
 /// than 16 bytes an equal one ends the search.
+#[tactic(auto, using(crate::proofs::Halving::searched_some, tree_order::proofs::Slots::len_small))]
 #[inline(always)]
 pub fn find<K: Ord, V, By, A: Asks<K, By>, const LEN: usize>(
     cells: &Cells<K, V, LEN>,
-    order: u64,
-    count: u8,
+    order: Order<LEN>,
     asked: &mut A,
 ) -> Place
     requires len { IsLen LEN }
-    requires few { count ≤ LEN }
-    requires in_order { IsInOrder K.cmp cells.now.pairs order count }
-    requires filled { 0 < count → IsFilled LEN order count }
-    ensures place { IsPlace K.cmp cells.now.pairs order count (A.key asked.old) result }
+    requires in_order { IsInOrder K.cmp cells.now.pairs (names order.word order.count) }
+    ensures place { IsPlace K.cmp (held cells.now.pairs (names order.entry.word order.entry.count)) (A.key asked.old)
+        (names order.entry.word order.entry.count) result }
     ensures same_key { A.key asked.new ≡ A.key asked.old }
     ensures counted { A.count asked.new ≤ A.count asked.old + searched LEN }
 {
-    if count == 0 {
+    if order.count == 0 {
         return Place::Before {
             place: 0,
             slot: BEYOND,
         };
     }
-    let ends_early = size_of_val(cells.key(slot_at(order, 0))) > WIDE;
-    let window = begin(cells, order, count, asked);
-    if ends_early && window.met > 0 {
-        return window.end(7);
+    let ignored = ignored(cells.key(order.slot_at(0)));
+    let window = begin(cells, order, asked);
+    if window.met > ignored {
+        return window.end(7, order.count);
     }
-    let window = halve(cells, window, 3, asked);
-    if ends_early && window.met > 0 {
-        return window.end(3);
+    let window = halve(cells, order, window, 3, asked);
+    if window.met > ignored {
+        return window.end(3, order.count);
     }
-    let window = halve(cells, window, 1, asked);
-    if ends_early && window.met > 0 {
-        return window.end(1);
+    let window = halve(cells, order, window, 1, asked);
+    if window.met > ignored {
+        return window.end(1, order.count);
     }
-    let window = halve(cells, window, 0, asked);
+    let window = halve(cells, order, window, 0, asked);
     let slot = slot_at(window.rest, 0);
     if window.met > 0 {
         Place::At {
@@ -121,33 +126,27 @@ pub fn find<K: Ord, V, By, A: Asks<K, By>, const LEN: usize>(
 }
 
 /// Begins with a window of seven places.
+#[tactic(auto, using(crate::proofs::Halving::searched_more))]
 #[inline(always)]
 fn begin<K: Ord, V, By, A: Asks<K, By>, const LEN: usize>(
     cells: &Cells<K, V, LEN>,
-    order: u64,
-    count: u8,
+    order: Order<LEN>,
     asked: &mut A,
 ) -> Window
     requires len { IsLen LEN }
-    requires some { 0 < count }
-    requires few { count ≤ LEN }
-    requires in_order { IsInOrder K.cmp cells.now.pairs order count }
-    requires filled { IsFilled LEN order count }
-    ensures order { result.order ≡ order }
-    ensures count { result.count ≡ count }
-    ensures window { IsWindow K.cmp cells.now.pairs order (A.key asked.old) LEN result.place result.rest result.met 7 }
+    requires slots { AreSlots K.cmp LEN cells.now.pairs order.word order.count }
+    ensures window { IsWindow K.cmp cells.now.pairs order.entry.word (A.key asked.new) LEN
+        result.place result.rest result.met 7 }
     ensures same_key { A.key asked.new ≡ A.key asked.old }
     ensures counted { A.count asked.new ≤ A.count asked.old + (searched LEN - 3) }
 {
     let all = Window {
-        order,
-        count,
         place: 0,
-        rest: order,
+        rest: order.word,
         met: 0,
     };
     if LEN > 7 {
-        halve(cells, all, 7, asked)
+        halve(cells, order, all, 7, asked)
     } else {
         all
     }
@@ -157,21 +156,16 @@ fn begin<K: Ord, V, By, A: Asks<K, By>, const LEN: usize>(
 #[inline(always)]
 fn halve<K: Ord, V, By, A: Asks<K, By>, const LEN: usize>(
     cells: &Cells<K, V, LEN>,
+    order: Order<LEN>,
     window: Window,
     half: u8,
     asked: &mut A,
 ) -> Window
-    requires len { IsLen LEN }
-    requires some { 0 < window.count }
-    requires few { window.count ≤ LEN }
-    requires in_order { IsInOrder K.cmp cells.now.pairs window.order window.count }
-    requires filled { IsFilled LEN window.order window.count }
-    requires window { IsWindow K.cmp cells.now.pairs window.order
-        (A.key asked.old) LEN window.place window.rest window.met (2 * half + 1) }
-    ensures order { result.order ≡ window.order }
-    ensures count { result.count ≡ window.count }
-    ensures window { IsWindow K.cmp cells.now.pairs window.order
-        (A.key asked.old) LEN result.place result.rest result.met half }
+    requires slots { AreSlots K.cmp LEN cells.now.pairs order.word order.count }
+    requires window { IsWindow K.cmp cells.now.pairs order.word (A.key asked.old) LEN
+        window.place window.rest window.met (2 * half + 1) }
+    ensures window { IsWindow K.cmp cells.now.pairs order.entry.word (A.key asked.new) LEN
+        result.place result.rest result.met half }
     ensures same_key { A.key asked.new ≡ A.key asked.old }
     ensures counted { A.count asked.new ≤ A.count asked.old + 1 }
 {
@@ -181,15 +175,11 @@ fn halve<K: Ord, V, By, A: Asks<K, By>, const LEN: usize>(
         return match answer {
             Ordering::Less => window,
             Ordering::Equal => Window {
-                order: window.order,
-                count: window.count,
                 place: window.place,
                 rest: window.rest,
                 met: window.met + 1,
             },
             Ordering::Greater => Window {
-                order: window.order,
-                count: window.count,
                 place: window.place + half + 1,
                 rest: window.rest >> (4 * half + 4),
                 met: window.met,
@@ -202,30 +192,22 @@ fn halve<K: Ord, V, By, A: Asks<K, By>, const LEN: usize>(
     } else {
         (window.place, window.rest)
     };
-    Window {
-        order: window.order,
-        count: window.count,
-        place,
-        rest,
-        met,
-    }
+    Window { place, rest, met }
 }
 
 /// Finds where a key stands, with comparisons that nobody counts.
 #[inline(always)]
 pub fn find_key<K: Ord, V, const LEN: usize>(
     cells: &Cells<K, V, LEN>,
-    order: u64,
-    count: u8,
+    order: Order<LEN>,
     key: &K,
 ) -> Place
     requires len { IsLen LEN }
-    requires few { count ≤ LEN }
-    requires in_order { IsInOrder K.cmp cells.now.pairs order count }
-    requires filled { 0 < count → IsFilled LEN order count }
-    ensures { IsPlace K.cmp cells.now.pairs order count key.now result }
+    requires in_order { IsInOrder K.cmp cells.now.pairs (names order.word order.count) }
+    ensures { IsPlace K.cmp (held cells.now.pairs (names order.entry.word order.entry.count)) key.now
+        (names order.entry.word order.entry.count) result }
 {
-    find(cells, order, count, &mut &*key)
+    find(cells, order, &mut &*key)
 }
 
 /// Finds where a key stands, as [`find_key`] does. With `rightmost` it compares the key with the last one first, and a
@@ -233,25 +215,23 @@ pub fn find_key<K: Ord, V, const LEN: usize>(
 #[inline(always)]
 pub fn find_key_beyond<K: Ord, V, const LEN: usize>(
     cells: &Cells<K, V, LEN>,
-    order: u64,
-    count: u8,
+    order: Order<LEN>,
     key: &K,
     rightmost: bool,
 ) -> Place
     requires len { IsLen LEN }
-    requires few { count ≤ LEN }
-    requires in_order { IsInOrder K.cmp cells.now.pairs order count }
-    requires filled { 0 < count → IsFilled LEN order count }
-    ensures { IsPlace K.cmp cells.now.pairs order count key.now result }
+    requires in_order { IsInOrder K.cmp cells.now.pairs (names order.word order.count) }
+    ensures { IsPlace K.cmp (held cells.now.pairs (names order.entry.word order.entry.count)) key.now
+        (names order.entry.word order.entry.count) result }
 {
-    if rightmost && count > 0 {
-        let last = last_slot::<LEN>(order, count);
+    if rightmost && order.count > 0 {
+        let last = order.last();
         if key.cmp(cells.key(last)).is_gt() {
             return Place::Before {
-                place: count,
+                place: order.count,
                 slot: BEYOND,
             };
         }
     }
-    find_key(cells, order, count, key)
+    find_key(cells, order, key)
 }

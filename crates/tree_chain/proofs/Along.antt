@@ -1,26 +1,14 @@
 -- A list that a walk steps through from either end: what lies ahead of it, and what a step takes of that.
-use Rattle.std.proofs.Common.{◌≡◌, ℕ, zero, suc, ◌+◌, ◌-◌, ◌<◌, List, [], ◌∷◌, ◌++◌, length, drop, take, reverse, slice_get, get_or, Option, Some, None, refl, sym, ap, ◌∙◌, arith, add-one, flat_map, append-nil, take_all}
-use Rattle.tree_model.proofs.Common.{AllByRecursion, reverse_onto, drop_all, reverse-append, reverse-reverse, flat_map-append, along}
-use Rattle.tree_model.specs.declared.way.Way.{Way}
-use Rattle.tree_model.specs.declared.way.Way.TheVariants.{On, Back}
-use Rattle.tree_chain.proofs.Common.{first_of, next_place}
-use mathlib.Core.List.{reverse_aux}
-use Rattle.std.proofs.lemmas.List.{length-reverse}
-use Rattle.std.proofs.lemmas.Option.{slice_get-get_or}
-use Rattle.tree_array.specs.Walk.{place_ahead, places_behind}
-use Rattle.tree_chain.specs.Walks.{first_on}
-use Rattle.tree_chain.specs.Ways.{StepsOver, ahead, places_left}
+use Rattle.tree_chain.proofs.Common.{◌≡◌, ℕ, suc, ◌+◌, ◌-◌, ◌<◌, List, [], ◌∷◌, ◌++◌, length, drop, take, reverse, slice_get, get_or, Option, Some, None, refl, sym, ap, ◌∙◌, arith, flat_map}
+use Rattle.tree_chain.proofs.Common.{append-nil, take-suc, take_all, AllByRecursion, reverse_onto, drop_all, reverse-append, reverse-reverse, flat_map-append, along, Back, On, StepsOver, Way, ahead}
+use Rattle.tree_chain.proofs.Common.{drop_more, first_of, first_on, get_or_from_slice_get, next_place, places_left, slice_get-get_or, slice_get_within, reverse_aux, place_ahead, places_behind}
 
 -- the entry at a place begins what lies from there on, and ends what lies up to it
 begins : {X : Type 0} (xs : List X) (place : ℕ) (x : X) → slice_get xs place ≡ Some x → drop place xs ≡ x ∷ drop (place + 1) xs
-begins [] place x is = absurd (cc)
-begins (y ∷ xs) zero x is = let same : y ≡ x = cc in rw same refl
-begins (y ∷ xs) (suc place) x is = rw add-one (rw add-one at (begins xs place x is))
+begins xs place x is = drop_more xs place x (slice_get_within xs place x is) ∙ ap (λ y. y ∷ drop (place + 1) xs) (get_or_from_slice_get xs place x x is)
 
 ends : {X : Type 0} (xs : List X) (place : ℕ) (x : X) → slice_get xs place ≡ Some x → take (suc place) xs ≡ take place xs ++ x ∷ []
-ends [] place x is = absurd (cc)
-ends (y ∷ xs) zero x is = let same : y ≡ x = cc in rw same refl
-ends (y ∷ xs) (suc place) x is = ap (λ zs. y ∷ zs) (ends xs place x is)
+ends xs place x is = take-suc xs place x (slice_get_within xs place x is) ∙ ap (λ y. take place xs ++ y ∷ []) (get_or_from_slice_get xs place x x is)
 
 -- what holds of all of a list holds of them in another order
 pub all_reversed : {X : Type 0} (P : X → Type 0) (xs ys : List X) → AllByRecursion P xs → AllByRecursion P ys → AllByRecursion P (reverse_aux xs ys)
@@ -44,10 +32,6 @@ module _ {X : Type 0} where
   pub along_empty : (way : Way) (xs : List X) → along way xs ≡ [] → xs ≡ []
   along_empty On xs is = is
   along_empty Back xs is = sym (reverse-reverse xs) ∙ ap reverse is
-
-  pub length-along : (way : Way) (xs : List X) → length (along way xs) ≡ length xs
-  length-along On xs = refl
-  length-along Back xs = length-reverse xs
 
   pub all_ahead : (way : Way) (xs : List X) → ahead way xs None ≡ along way xs
   all_ahead On xs = refl
@@ -96,6 +80,5 @@ pub along-flat_map : {X Y : Type 0} (way : Way) (f : X → List Y) (xs : List X)
 along-flat_map On f xs = refl
 along-flat_map Back f [] = refl
 along-flat_map Back f (x ∷ xs) =
-    reverse-append (f x) (flat_map f xs)
-    ∙ ap (λ ys. ys ++ reverse (f x)) (along-flat_map Back f xs)
-    ∙ sym (ap (flat_map (λ y. reverse (f y))) (reverse_onto xs x []) ∙ flat_map-append (λ y. reverse (f y)) (reverse xs) (x ∷ []) ∙ ap (λ ys. flat_map (λ y. reverse (f y)) (reverse xs) ++ ys) (append-nil (reverse (f x))))
+    rw (reverse_onto xs x [], flat_map-append (λ y. reverse (f y)) (reverse xs) (x ∷ []), append-nil (reverse (f x)), ← along-flat_map Back f xs)
+    (reverse-append (f x) (flat_map f xs))

@@ -1,17 +1,8 @@
 -- The slots that a walk goes through, and the entries of the leaf that it stands in.
 use Rattle.std.proofs.Common.{◌≡◌, ℕ, zero, suc, List, [], ◌∷◌, map, length, slice_get, Option, Some, None, IsSome, option_and_then, option_map, refl, sym, ap, ◌∙◌, arith, Bor}
 use Rattle.tree_model.proofs.Common.{MakesProgress, lent_entry}
-use Rattle.tree_model.specs.declared.way.Way.{Way}
-use Rattle.tree_array.proofs.Common.{arrival, Walk}
-use Rattle.tree_chain.proofs.Common.{LeafWalk, Steps, standing, next_place}
-use Rattle.std.proofs.lemmas.List.{length-map}
-use Rattle.std.proofs.lemmas.Option.{slice_get_past}
-use Rattle.slab.specs.Slab.{Slab}
+use Rattle.tree_chain.proofs.Common.{IsStand, LeafOf, LeafWalk, Slab, Steps, StepsOver, Walk, Way, arrival, first_on, here, leaf_entries, left_in_leaf, length-map, next_place, slice_get_past, standing, stood_on}
 use Rattle.tree_array.specs.Walk.{standing as array_standing}
-use Rattle.tree_leaf.specs.declared.leaf.LeafOf.{LeafOf}
-use Rattle.tree_leaf.specs.Entries.{leaf_entries}
-use Rattle.tree_chain.specs.Walks.{IsStand, first_on, here, left_in_leaf, stood_on}
-use Rattle.tree_chain.specs.Ways.{StepsOver}
 use Rattle.tree_chain.proofs.Along.{all_left, fewer_left, first_place}
 
 -- one place of two lists of which one lists what the other names
@@ -21,6 +12,11 @@ same_place find (a ∷ xs) [] same place x is = absurd (cc)
 same_place find (a ∷ xs) (y ∷ ys) same zero x is = let this : x ≡ a = cc in (y, rw this (cc), refl)
 same_place find (a ∷ xs) (y ∷ ys) same (suc place) x is = let rest : map find xs ≡ map Some ys = cc in same_place find xs ys rest place x is
 
+at_place : {X : Type 0} (xs : List X) (at : Option ℕ) (x : X) → option_and_then (slice_get xs) at ≡ Some x
+    → (place : ℕ) × (at ≡ Some place) × (slice_get xs place ≡ Some x)
+at_place xs None x is = absurd (cc)
+at_place xs (Some place) x is = (place, refl, is)
+
 module _ {K V : Type 0} {LEN : ℕ} (leaves : Slab (LeafOf K V LEN)) (id : ℕ) (leaf : LeafOf K V LEN) (slots : Walk) (stand : IsStand leaves id leaf slots) where
   entries_here : leaf_entries leaves id ≡ leaf.array.entries
   entries_here = rw stand.there refl
@@ -29,77 +25,59 @@ module _ {K V : Type 0} {LEN : ℕ} (leaves : Slab (LeafOf K V LEN)) (id : ℕ) 
   as_many : length slots.slots ≡ length (leaf_entries leaves id)
   as_many = rw entries_here (sym (length-map slots.slots (arrival leaf.array.arrivals)) ∙ ap length stand.slots_are ∙ length-map leaf.array.entries Some)
 
-  -- the slot at a place is that of the entry at this place
-  entry_at : (place slot : ℕ) → slice_get slots.slots place ≡ Some slot → (entry : K × V) × (arrival leaf.array.arrivals slot ≡ Some entry) × (slice_get (leaf_entries leaves id) place ≡ Some entry)
-  entry_at place slot is = rw entries_here (same_place (arrival leaf.array.arrivals) slots.slots leaf.array.entries stand.slots_are place slot is)
+  module _ (place slot : ℕ) (is : slice_get slots.slots place ≡ Some slot) where
+    -- the slot at a place is that of the entry at this place
+    entry_at : (entry : K × V) × (arrival leaf.array.arrivals slot ≡ Some entry) × (slice_get (leaf_entries leaves id) place ≡ Some entry)
+    entry_at = rw entries_here (same_place (arrival leaf.array.arrivals) slots.slots leaf.array.entries stand.slots_are place slot is)
 
-  pub slot_reachable : (place slot : ℕ) → slice_get slots.slots place ≡ Some slot → IsSome (arrival leaf.array.arrivals slot)
-  slot_reachable place slot is = rw (entry_at place slot is).1 refl
+    pub slot_reachable : IsSome (arrival leaf.array.arrivals slot)
+    slot_reachable = rw entry_at.1 refl
 
-  -- what is read from a slot is the entry at its place
-  entry_read : (place slot : ℕ) (read : K × V) → slice_get slots.slots place ≡ Some slot → arrival leaf.array.arrivals slot ≡ Some read → slice_get (leaf_entries leaves id) place ≡ Some read
-  entry_read place slot read is found =
-      let there = entry_at place slot is in
-      let both : Some there.0 ≡ Some read = sym there.1 ∙ found in
-      let same : there.0 ≡ read = cc in
-      rw same at there.2
+    -- what is read from it is that entry
+    entry_read : (read : K × V) → arrival leaf.array.arrivals slot ≡ Some read → slice_get (leaf_entries leaves id) place ≡ Some read
+    entry_read read found = entry_at.2 ∙ sym entry_at.1 ∙ found
 
   -- the entry that the walk stands on, read from its slot
-  pub stood_read : (slot : ℕ) (read : K × V) → option_and_then (slice_get slots.slots) slots.at ≡ Some slot → arrival leaf.array.arrivals slot ≡ Some read → Some read ≡ stood_on (standing leaves id slots.at)
-  stood_read slot read is found = by_place slots.at is
-    where
-      by_place : (at : Option ℕ) → option_and_then (slice_get slots.slots) at ≡ Some slot → Some read ≡ stood_on (standing leaves id at)
-      by_place None e = absurd (cc)
-      by_place (Some place) e = sym (entry_read place slot read e found)
+  module _ (slot : ℕ) (is : option_and_then (slice_get slots.slots) slots.at ≡ Some slot) where
+    pub stood_reachable : IsSome (arrival leaf.array.arrivals slot)
+    stood_reachable = let at = at_place slots.slots slots.at slot is in slot_reachable at.0 slot at.2
 
-  pub stood_reachable : (slot : ℕ) → option_and_then (slice_get slots.slots) slots.at ≡ Some slot → IsSome (arrival leaf.array.arrivals slot)
-  stood_reachable slot is = by_place slots.at is
-    where
-      by_place : (at : Option ℕ) → option_and_then (slice_get slots.slots) at ≡ Some slot → IsSome (arrival leaf.array.arrivals slot)
-      by_place None e = absurd (cc)
-      by_place (Some place) e = slot_reachable place slot e
+    pub stood_read : (read : K × V) → arrival leaf.array.arrivals slot ≡ Some read → Some read ≡ stood_on (standing leaves id slots.at)
+    stood_read read found = let at = at_place slots.slots slots.at slot is in rw at.1 (sym (entry_read at.0 slot at.2 read found))
 
   -- a step through the slots is one through the entries, to the entry that is read from the slot
   pub step_read : (way : Way) (new : Option ℕ) (slot : ℕ) (read : K × V) → StepsOver way slots.slots slots.at (Some slot) new → arrival leaf.array.arrivals slot ≡ Some read → StepsOver way (leaf_entries leaves id) slots.at (Some read) new
-  step_read way new slot read steps found =
-      let there = entry_read _ slot read steps.1 found in
-      rw (← as_many) (steps.0, there, steps.2)
+  step_read way new slot read steps found = let there = entry_read _ slot steps.1 read found in rw (← as_many) (steps.0, there, steps.2)
 
   pub none_read : (way : Way) (new : Option ℕ) → StepsOver way slots.slots slots.at None new → StepsOver way (leaf_entries leaves id) slots.at None new
   none_read way new steps = rw (← as_many) steps
 
-  -- a walk over the same slots, before the first
-  module _ (all : Walk) (fresh : all ≡ array_standing slots.slots None) where
-    pub all_slots : IsStand leaves id leaf all
-    all_slots = record {
-      there = stand.there;
-      front = stand.front;
-      back = stand.back;
-      chain = stand.chain;
-      slots_are = rw (ap (λ (walk : Walk). walk.slots) fresh) stand.slots_are;
-    }
+  -- a walk over the same slots, turned and gone back to before the first
+  pub all_slots : {all turned again : Walk} → all ≡ array_standing turned.slots None → turned ≡ again → again ≡ slots → IsStand leaves id leaf all × (all.at ≡ None)
+  all_slots fresh turns same = rw (fresh, turns, same) (record { there = stand.there; front = stand.front; back = stand.back; chain = stand.chain; slots_are = stand.slots_are }, refl)
 
-module _ {K V : Type 0} {LEN : ℕ} (leaves : Slab (LeafOf K V LEN)) (id : ℕ) (leaf : LeafOf K V LEN) (slots all : Walk) (stand : IsStand leaves id leaf slots) (fresh : all ≡ array_standing slots.slots None) (way : Way) (new : Option ℕ) where
+module _ {K V : Type 0} {LEN : ℕ} (leaves : Slab (LeafOf K V LEN)) (id : ℕ) (leaf : LeafOf K V LEN) (all : Walk) (stand : IsStand leaves id leaf all)
+    (fresh : all.at ≡ None) (way : Way) (new : Option ℕ) where
   -- the first step from before the first slot reads the entry that comes first on the way, and there is none where the leaf has no entry
   pub first_read : (slot : ℕ) (read : K × V) → StepsOver way all.slots all.at (Some slot) new → arrival leaf.array.arrivals slot ≡ Some read → Some read.0 ≡ option_map (λ entry. entry.0) (first_on way (leaf_entries leaves id))
-  first_read slot read steps found =
-      let at_start : all.at ≡ None = ap (λ (walk : Walk). walk.at) fresh in
-      let there = rw at_start at (step_read leaves id leaf all (all_slots leaves id leaf slots stand all fresh) way new slot read steps found) in
-      rw (first_place way (leaf_entries leaves id), there.1) refl
+  first_read slot read steps found = rw (
+    first_place way (leaf_entries leaves id),
+    (rw fresh at (step_read leaves id leaf all stand way new slot read steps found)).1,
+  ) refl
 
   pub none_first : {X : Type 0} (key : K × V → X) → StepsOver way all.slots all.at None new → None ≡ option_map key (first_on way (leaf_entries leaves id))
   none_first key steps =
-      let at_start : all.at ≡ None = ap (λ (walk : Walk). walk.at) fresh in
-      let there = rw at_start at (none_read leaves id leaf all (all_slots leaves id leaf slots stand all fresh) way new steps) in
+      let there = rw fresh at (none_read leaves id leaf all stand way new steps) in
       let empty : length (leaf_entries leaves id) ≡ 0 = sym (all_left way (length (leaf_entries leaves id))) ∙ there.0 in
       rw (first_place way (leaf_entries leaves id), slice_get_past (leaf_entries leaves id) (next_place way (length (leaf_entries leaves id)) None) (omega (arith, empty))) refl
 
-module _ {K V : Type 0} {LEN : ℕ} where
-  -- each step leaves fewer
-  pub progress : {can : LeafWalk K V LEN → Type 0} → ((walk : LeafWalk K V LEN) → can walk) → (way : Way) (s t : LeafWalk K V LEN) (r : Option (Bor K × Bor V)) → Steps way s r t → MakesProgress can (left_in_leaf way) s r t
-  progress can way s t None steps = record { on = λ finite. tt; keeps = tt; rests = λ finite. tt }
-  progress can way s t (Some entry) steps = record {
-    on = λ finite. (can t, tt, rw steps.0 (fewer_left way (here s) s.at t.at (lent_entry entry) steps.1));
-    keeps = can t;
-    rests = λ finite. tt;
-  }
+-- each step leaves fewer
+pub progress : {K V : Type 0} {LEN : ℕ} {can : LeafWalk K V LEN → Type 0} → ((walk : LeafWalk K V LEN) → can walk)
+    → (way : Way) (s t : LeafWalk K V LEN) (r : Option (Bor K × Bor V)) → Steps way s r t → MakesProgress can (left_in_leaf way) s r t
+progress can way s t None steps = record { on = λ finite. tt; keeps = tt; rests = λ finite. tt }
+progress can way s t (Some entry) steps = record {
+  on =
+      λ finite. (can t, tt, rw steps.0 (fewer_left way (here s) s.at t.at (lent_entry entry) steps.1));
+  keeps = can t;
+  rests = λ finite. tt;
+}

@@ -1,5 +1,5 @@
 -- What is left of a walk on its way through a chain, and that a walk with its jumps takes it entry by entry.
-use Rattle.std.specs.Prelude.{◌≡◌, ℕ, List, [], ◌∷◌, ◌++◌, map, reverse, Option, None, Some}
+use Rattle.std.specs.Prelude.{◌≡◌, ℕ, List, [], ◌∷◌, ◌++◌, map, reverse, Option, None, Some, IfSome}
 use Rattle.std.specs.Borrow.{Bor}
 use Rattle.slab.specs.Slab.{Slab}
 use Rattle.tree_leaf.specs.declared.leaf.LeafOf.{LeafOf}
@@ -7,7 +7,7 @@ use Rattle.tree_model.specs.declared.way.Way.{Way}
 use Rattle.tree_model.specs.declared.way.Way.TheVariants.{On, Back}
 use Rattle.tree_leaf.specs.Chain.{IsChain}
 use Rattle.tree_leaf.specs.Entries.{entries_of}
-use Rattle.tree_chain.specs.Walks.{LeafWalk, here}
+use Rattle.tree_chain.specs.Walks.{LeafWalk, here, stood_on}
 use Rattle.tree_model.specs.Rest.{lent_entry}
 use Rattle.tree_chain.specs.Ways.{ahead, beyond}
 use Rattle.tree_model.specs.Ways.{along}
@@ -27,13 +27,14 @@ module _ {K V : Type 0} {LEN : ℕ} where
   whole_way On leaves front id back = entries_of leaves (id ∷ back)
   whole_way Back leaves front id back = reverse (entries_of leaves (front ++ id ∷ []))
 
-  -- the walk stands in a leaf of the chain, and of what was left it has taken the first entry
+  -- the walk stands in a leaf of the chain, and of what was left it has taken the first entry, on which it stands
   pub record HasTaken (way : Way) (leaves : Slab (LeafOf K V LEN)) (chain : List ℕ) (left : List (K × V)) (result : Option (Bor K × Bor V)) (new : LeafWalk K V LEN) : Type 0 where
     pub same : new.leaves ≡ leaves
     pub front : List ℕ
     pub back : List ℕ
     pub stands : front ++ new.leaf ∷ back ≡ chain
     pub takes : TakesFirst left result (left_of way new front back)
+    pub on : IfSome result (λ entry. stood_on new ≡ Some (lent_entry entry))
 
   -- over every chain that the leaf is in
   abbrev pub Takes : Way → LeafWalk K V LEN → Option (Bor K × Bor V) → LeafWalk K V LEN → Type 0

@@ -1,6 +1,6 @@
 -- A walk over the entries of linked leaves, in the order of their keys or against it. In one leaf it goes from entry to entry, and a jump takes it to the next leaf that has one.
 use Rattle.tree_model.specs.Rest.{lent_entry}
-use Rattle.std.specs.Prelude.{◌≡◌, ℕ, ◌-◌, ◌==◌, if◌then◌else◌, List, [], ◌∷◌, ◌++◌, length, map, Option, None, Some, option_map, option_and_then, slice_get}
+use Rattle.std.specs.Prelude.{◌≡◌, ℕ, ◌-◌, ◌==◌, if◌then◌else◌, List, ◌∷◌, ◌++◌, length, map, Option, None, Some, option_map, option_and_then, slice_get}
 use Rattle.std.specs.Borrow.{Bor}
 use Rattle.std.specs.Iterator.{Count, at_most}
 use Rattle.slab.specs.Slab.{Slab, get}
@@ -11,7 +11,7 @@ use Rattle.tree_model.specs.declared.way.Way.{Way}
 use Rattle.tree_model.specs.declared.way.Way.TheVariants.{On, Back}
 use Rattle.tree_leaf.specs.Chain.{IsChain}
 use Rattle.tree_leaf.specs.Entries.{leaf_entries, entries_of}
-use Rattle.tree_chain.specs.Ways.{StepsOver, beyond, leaves_on, next_place, places_left}
+use Rattle.tree_chain.specs.Ways.{StepsOver, beyond, landing, leaves_on, next_place, places_left}
 
 -- the leaves, the number of the one that the walk stands in, and the place among its entries, if the walk has begun there
 pub record LinkedWalk (L : Type 0) : Type 0 where
@@ -55,18 +55,18 @@ module _ {K V : Type 0} {LEN : ℕ} where
   abbrev pub left_in_leaf : Way → LeafWalk K V LEN → Count
   left_in_leaf way walk = at_most (places_left way (length (here walk)) walk.at)
 
-  -- Where a jump over these leaves ends: at the first entry on the way of the first one that has an entry, else unopened in the last one. Where there is no leaf it stays.
-  abbrev pub jumped : Way → LeafWalk K V LEN → List ℕ → LeafWalk K V LEN
-  jumped way walk [] = walk
-  jumped way walk (id ∷ ids) =
+  -- Where a jump ends that lands in this leaf: at its first entry on the way, or unopened if it has none. Where there is no leaf it stays.
+  abbrev pub jumped : Way → LeafWalk K V LEN → Option ℕ → LeafWalk K V LEN
+  jumped way walk None = walk
+  jumped way walk (Some id) =
       let count = length (leaf_entries walk.leaves id) in
-      if count == 0 then jumped way (standing walk.leaves id None) ids else standing walk.leaves id (Some (next_place way count None))
+      standing walk.leaves id (if count == 0 then None else Some (next_place way count None))
 
   -- over every context: a jump over the leaves that the way leads to, to the first entry that they have
   abbrev pub Jumps : Way → LeafWalk K V LEN → Option (Bor K × Bor V) → LeafWalk K V LEN → Type 0
   Jumps way old result new =
       (front back : List ℕ) → IsChain old.leaves (front ++ old.leaf ∷ back)
-      → (new ≡ jumped way old (leaves_on way front back)) × (option_map lent_entry result ≡ first_on way (entries_of old.leaves (beyond way front back)))
+      → (new ≡ jumped way old (landing old.leaves None (leaves_on way front back))) × (option_map lent_entry result ≡ first_on way (entries_of old.leaves (beyond way front back)))
 
   -- a walk stands in the leaf, which has this number in a chain, over the slots of its entries
   pub record IsStand (leaves : Slab (LeafOf K V LEN)) (id : ℕ) (leaf : LeafOf K V LEN) (slots : Walk) : Type 0 where

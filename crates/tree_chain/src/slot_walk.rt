@@ -84,10 +84,7 @@ impl SlotWalk for ArrayIter {
     }
 
     fn again(&self) -> Self {
-        let Ok(same) = self.clone() else {
-            unreachable!()
-        };
-        same
+        self.clone().unwrap()
     }
 }
 
@@ -119,10 +116,7 @@ impl SlotWalk for ArrayRevIter {
     }
 
     fn again(&self) -> Self {
-        let Ok(same) = self.clone() else {
-            unreachable!()
-        };
-        same
+        self.clone().unwrap()
     }
 }
 

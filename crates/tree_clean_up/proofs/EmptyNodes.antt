@@ -1,14 +1,10 @@
 -- A leaf node whose only leaf is retired, and is dropped.
-use Rattle.std.proofs.Common.{◌≡◌, ℕ, ◌≤◌, List, [], ◌∷◌, ◌++◌, Some, None, refl, sym, ap, ◌∙◌, arith, Ordering}
-use Rattle.tree_array.proofs.Common.{Arrivals}
+use Rattle.tree_clean_up.proofs.Common.{Arrivals, DropsUnbounded, IsOnlyRetired, IsPart, List, None, Ordering, Retires, RetiresIfEmpty, Stands, TreeArenas, [], ap, arith, children_of, keyed}
+use Rattle.tree_clean_up.proofs.Common.{leaves_at, lifted, refl, sym, times, times-append, times-nil, unbounded, uses, walk-children, ℕ, ◌++◌, ◌∙◌, ◌∷◌, ◌≡◌, ◌≤◌}
 use Rattle.tree_array.specs.declared.answers.RemoveResult.{RemoveResult}
-use Rattle.tree_array.specs.declared.answers.RemoveResult.TheVariants.{Success, Retired, Fail}
-use Rattle.tree_node.proofs.Common.{get, times, uses, times-append, times-nil, TreeArenas, IsPart, Stands, children_of, keyed, leaves_at, unbounded}
-use Rattle.tree_clean_up.specs.CleanUps.{DropsUnbounded, IsOnlyRetired, Retires, RetiresIfEmpty}
-use Rattle.tree_node.proofs.Lifts.{lifted}
-use Rattle.tree_clean_up.proofs.Retired.{walk-retired}
+use Rattle.tree_array.specs.declared.answers.RemoveResult.TheVariants.{Fail, Retired, Success}
 use Rattle.tree_clean_up.proofs.OnlyLeaves.{only_unbounded}
-use Rattle.tree_node.proofs.Walks.{walk-children}
+use Rattle.tree_clean_up.proofs.Retired.{walk-retired}
 
 not_empty : {X : Type 0} (front : List X) (x : X) → [] ≡ front ++ x ∷ [] → ⊥
 not_empty [] x h = cc
@@ -23,10 +19,7 @@ module _ {K V : Type 0} {LEN : ℕ} (cmp : K → K → Ordering) (old new : Tree
     leaves_once n = omega (arith, part.chain.once n, times-append n part.front (leaves_at 1 old.nodes id ++ part.back), times-append n (leaves_at 1 old.nodes id) part.back)
 
     node_is : drops.takes.node ≡ st.node
-    node_is =
-        let above : get drops.between.nodes id ≡ get old.nodes id = drops.dropped.nodes_kept id (rw st.here refl) (times-nil id) in
-        let both : Some drops.takes.node ≡ Some st.node = sym drops.takes.was ∙ above ∙ st.here in
-        cc
+    node_is = cc (drops.takes.was, drops.dropped.nodes_kept id (rw st.here refl) (times-nil id), st.here)
 
     no_keyed : (keyed drops.takes.node).entries ≡ []
     no_keyed = rw node_is (only_unbounded (keyed st.node).entries st.last last (rw (st.here, st.last_is) at only.0)).0
@@ -39,7 +32,8 @@ module _ {K V : Type 0} {LEN : ℕ} (cmp : K → K → Ordering) (old new : Tree
           pairs = rw (walk-children 0 old id, only.0, walk-retired 0 old last only.1) refl;
           retired = rw drops.takes.updates.changed (none, gone);
           kind = rw drops.takes.updates.changed (drops.takes.kind 0 (rw node_is st.kind));
-          replaces = lifted 0 old drops.between new id [] (last ∷ []) [] [] drops.dropped only.0 none_left part.nodes_once leaves_once drops.takes.updates.others (rw drops.takes.updates.changed refl) drops.leaves;
+          replaces = lifted 0 old drops.between new id [] (last ∷ []) [] [] drops.dropped only.0 none_left part.nodes_once leaves_once
+              drops.takes.updates.others (rw drops.takes.updates.changed refl) drops.leaves;
         }
 
   -- the node is retired then

@@ -1,13 +1,12 @@
 -- A leaf that is taken out of its chain and out of its arena.
-use Rattle.std.proofs.Common.{◌≡◌, ℕ, ◌+◌, ◌≤◌, List, [], ◌∷◌, ◌++◌, None, is_some, refl, ap, ◌∙◌, arith, inl, inr}
-use Rattle.tree_model.proofs.Common.{cases_eq}
-use Rattle.tree_node.proofs.Common.{get, LeafOf, Loses, IsChain, times, uses, times-append, times-cons, times-nil, one_here, none_here, uses_le_one, uses_some, uses_none, uses_same, TreeArenas, Replaces}
-use Rattle.tree_leaf.specs.Links.{Unlinks}
-use Rattle.tree_leaf.proofs.Chains.{linked_kept, same_array_uses}
+use Rattle.tree_clean_up.proofs.Common.{IsChain, LeafOf, List, Loses, None, Replaces, TreeArenas, [], ap, arith, cases_eq, get, inl, inr, is_some, linked_kept, none_here, one_here, refl}
+use Rattle.tree_clean_up.proofs.Common.{same_array_uses, times, times-append, times-cons, times-nil, uses, uses_le_one, uses_none, uses_same, uses_some, ℕ, ◌++◌, ◌+◌, ◌∙◌, ◌∷◌, ◌≡◌, ◌≤◌}
 use Rattle.tree_leaf.proofs.Splices.{untouched_leaf}
+use Rattle.tree_leaf.specs.Links.{Unlinks}
 use Rattle.tree_node.proofs.Beside.{not_before, not_behind}
 
-module _ {K V : Type 0} {LEN : ℕ} (old mid new : TreeArenas K V LEN) (id : ℕ) (leaf : LeafOf K V LEN) (unlinks : Unlinks old mid id) (loses : Loses mid.leaves new.leaves id leaf) (nodes : new.nodes ≡ mid.nodes) where
+module _ {K V : Type 0} {LEN : ℕ} (old mid new : TreeArenas K V LEN) (id : ℕ) (leaf : LeafOf K V LEN) (unlinks : Unlinks old mid id)
+    (loses : Loses mid.leaves new.leaves id leaf) (nodes : new.nodes ≡ mid.nodes) where
   nodes_same : new.nodes ≡ old.nodes
   nodes_same = nodes ∙ unlinks.splices.nodes
 
@@ -18,14 +17,8 @@ module _ {K V : Type 0} {LEN : ℕ} (old mid new : TreeArenas K V LEN) (id : ℕ
         let was : uses old.leaves n ≡ 1 = rw same (uses_some old.leaves id (rw unlinks.here refl)) in
         omega (arith, uses_none new.leaves n gone, was, times-cons n id [], times-nil n, one_here n id same)
     | inr differs ↦
-        omega (
-          arith,
-          uses_same mid.leaves new.leaves n (ap is_some (loses.updates.others n differs)),
-          same_array_uses old.leaves mid.leaves n (unlinks.splices.kept n),
-          times-cons n id [],
-          times-nil n,
-          none_here n id differs,
-        )
+        let stays = uses_same mid.leaves new.leaves n (ap is_some (loses.updates.others n differs)) in
+        omega (arith, stays, same_array_uses old.leaves mid.leaves n (unlinks.splices.kept n), times-cons n id [], times-nil n, none_here n id differs)
   ]
 
   -- the leaves around it are a chain without it

@@ -1,7 +1,8 @@
+mod Common
 pub mod EmptyNodes
 pub mod LeafDrops
 pub mod Losses
 pub mod NodeDrops
-pub mod NodeWrites
 pub mod OnlyLeaves
 pub mod Retired
+pub mod Siblings

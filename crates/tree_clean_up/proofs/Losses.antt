@@ -1,7 +1,5 @@
 -- A number that is freed.
-use Rattle.std.proofs.Common.{◌≡◌, ℕ, ◌+◌, ◌==◌, cond, None, is_some, refl, ap, arith, inl, inr}
-use Rattle.tree_model.proofs.Common.{cases_eq}
-use Rattle.tree_node.proofs.Common.{Slab, get, Loses, uses, one_here, none_here, uses_some, uses_none, uses_same}
+use Rattle.tree_clean_up.proofs.Common.{Loses, None, Slab, ap, arith, cases_eq, cond, get, inl, inr, is_some, none_here, one_here, refl, uses, uses_none, uses_same, uses_some, ℕ, ◌+◌, ◌==◌, ◌≡◌}
 
 -- it was in use, and the others are in use as they were
 pub lost_counted : {T : Type 0} (old new : Slab T) (id : ℕ) (value : T) → Loses old new id value → (n : ℕ) → uses new n + cond (id == n) 1 0 ≡ uses old n

@@ -1,10 +1,12 @@
 -- A retired node that is taken out of its arena.
-use Rattle.std.proofs.Common.{◌≡◌, ℕ, suc, ◌==◌, cond, [], ◌∷◌, refl, arith}
-use Rattle.tree_node.proofs.Common.{get, Loses, times, same_array_refl, times-cons, times-nil, one_here, TreeArenas, Replaces, leaves_at, nodes_at, IsRetiredNode}
-use Rattle.tree_node.specs.declared.node.NodeOf.{NodeOf}
-use Rattle.tree_node.proofs.Lifts.{single_leaves, single_nodes}
-use Rattle.tree_node.proofs.Standing.{no_children}
+use Rattle.tree_clean_up.proofs.Common.{HasChildIn, IsRetiredNode, IsSome, Loses, NodeOf, None, Option, Replaces, Some, TreeArenas, [], arith, cond, get, leaves_at, no_children, nodes_at, one_here}
+use Rattle.tree_clean_up.proofs.Common.{refl, same_array_refl, single_leaves, single_nodes, suc, times, times-cons, times-nil, ℕ, ◌==◌, ◌∷◌, ◌≡◌}
 use Rattle.tree_clean_up.proofs.Losses.{lost_counted}
+
+-- a node that has a child in a slot is there
+pub has_node : {K : Type 0} {LEN : ℕ} (found : Option (NodeOf K LEN)) (slot : Option ℕ) → HasChildIn found slot → IsSome found
+has_node None slot has = absurd has
+has_node (Some node) slot has = refl
 
 module _ {K V : Type 0} {LEN : ℕ} (level : ℕ) (old new : TreeArenas K V LEN) (id : ℕ) (node : NodeOf K LEN) (retired : IsRetiredNode (get old.nodes id))
     (loses : Loses old.nodes new.nodes id node) (leaves : new.leaves ≡ old.leaves) where

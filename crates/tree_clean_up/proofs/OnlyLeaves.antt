@@ -1,8 +1,6 @@
 -- A node without keyed children.
-use Rattle.std.proofs.Common.{◌≡◌, ℕ, suc, true, List, [], ◌∷◌, Some, None, IsSome, refl, sym, ap, ◌∙◌, Ordering}
-use Rattle.tree_node.proofs.Common.{get, LeafOf, TreeArenas, children_of, in_turn, keyed, unbounded, Stands}
-use Rattle.tree_node.specs.declared.node.NodeOf.{NodeOf}
-use Rattle.tree_clean_up.specs.CleanUps.{HasOnlyRetired, IsOnlyRetired}
+use Rattle.tree_clean_up.proofs.Common.{HasOnlyRetired, IsOnlyRetired, LeafOf, List, NodeOf, None, Ordering, Some, Stands, TreeArenas, [], ap, children_of, get, in_turn, keyed, refl, suc}
+use Rattle.tree_clean_up.proofs.Common.{true, unbounded, ℕ, ◌∷◌, ◌≡◌}
 
 -- one child in all is the unbounded one
 pub only_unbounded : {K : Type 0} (pairs : List (K × ℕ)) (last x : ℕ) → in_turn pairs (Some last) ≡ x ∷ [] → (pairs ≡ []) × (x ≡ last)
@@ -14,14 +12,9 @@ module _ {K V : Type 0} {LEN : ℕ} (a : TreeArenas K V LEN) (id : ℕ) (node : 
   -- the only child stands
   pub only_stands : (cmp : K → K → Ordering) (level : ℕ) → Stands cmp (suc level) a None id None → (keyed node).entries ≡ [] → Stands cmp level a None last None
   only_stands cmp level s none =
-      let both : Some s.node ≡ Some node = sym s.here ∙ here in
-      let node_is : s.node ≡ node = cc in
-      let lasts : Some s.last ≡ Some last = sym s.last_is ∙ ap unbounded node_is ∙ last_is in
-      let same : s.last ≡ last = cc in
+      let node_is : s.node ≡ node = cc (s.here, here) in
+      let same : s.last ≡ last = cc (s.last_is, ap unbounded node_is, last_is) in
       rw (node_is, none, same) at s.parted
-
-  pub only_there : (cmp : K → K → Ordering) → Stands cmp 1 a None id None → (keyed node).entries ≡ [] → IsSome (get a.leaves last)
-  only_there cmp s none = rw (only_stands cmp 0 s none).here refl
 
   pub only_child : (keyed node).entries ≡ [] → children_of a.nodes id ≡ last ∷ []
   only_child none = rw (here, none, last_is) refl

@@ -1,10 +1,7 @@
 -- What is retired has no pair.
-use Rattle.std.proofs.Common.{◌≡◌, ℕ, zero, suc, [], Option, Some, None, refl}
-use Rattle.tree_node.proofs.Common.{get, LeafOf, TreeArenas, IsRetired, walk}
+use Rattle.tree_clean_up.proofs.Common.{IsRetired, LeafOf, None, Option, Some, TreeArenas, [], get, no_children, refl, suc, walk, walk-children, zero, ℕ, ◌≡◌}
 use Rattle.tree_leaf.specs.Entries.{found_entries}
 use Rattle.tree_node.specs.Tree.{IsRetiredLeaf}
-use Rattle.tree_node.proofs.Standing.{no_children}
-use Rattle.tree_node.proofs.Walks.{walk-children}
 
 module _ {K V : Type 0} {LEN : ℕ} where
   no_entries : (found : Option (LeafOf K V LEN)) → IsRetiredLeaf found → found_entries found ≡ []

@@ -1,12 +1,10 @@
 -- How a retired child is taken out of its node and dropped, and what that leaves.
 use Rattle.std.specs.Prelude.{◌≡◌, ℕ, [], ◌∷◌, Option, None, Some, IsSome, ⊤}
-use Rattle.std.specs.declared.cmp.Ordering.{Ordering}
-use Rattle.slab.specs.Slab.{Slab, get, Updates}
+use Rattle.slab.specs.Slab.{Updates}
 use Rattle.tree_array.specs.declared.answers.RemoveResult.{RemoveResult}
 use Rattle.tree_array.specs.declared.answers.RemoveResult.TheVariants.{Success, Retired, Fail}
-use Rattle.tree_array.specs.Arrivals.{arrival, removed}
 use Rattle.tree_node.specs.declared.node.NodeOf.{NodeOf}
-use Rattle.tree_node.specs.Arenas.{TreeArenas}
+use Rattle.tree_node.specs.Arenas.{Ordering, Slab, TreeArenas, arrival, get, removed}
 use Rattle.tree_node.specs.Changes.{MovesLast}
 use Rattle.tree_node.specs.Parts.{Replaces}
 use Rattle.tree_node.specs.Tree.{IsOfLevel, keyed, unbounded, children_of, HasKind, IsRetired, walk}

@@ -3,9 +3,8 @@
 //! The node above a retired child drops it in the same removal. So no keyed child is ever found retired, nor any child of
 //! an internal node, and each function here drops the one child that it is given.
 ghost use Rattle.std.specs.Prelude.{◌≡◌, ℕ, suc, ◌++◌, ◌∷◌, IsSome, MatchOption, None, Some};
-ghost use Rattle.tree_leaf.specs.Chain.{IsChain};
-ghost use Rattle.slab.specs.Slab.{get};
 ghost use Rattle.tree_clean_up.specs.CleanUps.{DropsChild, DropsKeyed, HasChildIn, HasOnlyRetired, IsOnlyRetired, RetiresIfEmpty, TakesKeyed, TakesUnbounded};
+ghost use Rattle.tree_node.specs.Arenas.{IsChain, get};
 ghost use Rattle.tree_node.specs.Parts.{IsPart};
 ghost use Rattle.tree_node.specs.Tree.{IsRetiredNode, Stands};
 

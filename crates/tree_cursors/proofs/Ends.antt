@@ -1,26 +1,11 @@
 -- The place of a walk among the pairs of a tree, and where it goes.
-use Rattle.std.proofs.Common.{◌≡◌, ℕ, zero, ◌+◌, ◌<◌, ◌==◌, true, false, List, [], ◌∷◌, ◌++◌, length, drop, take, reverse, slice_get, inl, inr, ◌⊎◌, suc, Option, Some, None, refl, sym, ap, ◌∙◌, arith, length-append, length-drop, append-nil, length-take, Bor, Ordering}
-use Rattle.tree_model.proofs.Common.{cases_eq, nat_tests, flat_map-append, Bound, Unbounded, lent_entry, along, at_place, meets, next_end, unopened}
-use Rattle.tree_model.specs.declared.way.Way.{Way}
-use Rattle.tree_model.specs.declared.way.Way.TheVariants.{On, Back}
-use Rattle.tree_node.proofs.Common.{Slab, LeafOf, IsChain, times, entries_of, leaf_entries, one_here, times-cons, uses_le_one, TreeArenas, StandsOrRetired, leaves_at, walk, IsRetiredRoot, IsTree, leaves_under, walk_under}
-use Rattle.tree_chain.proofs.Common.{LeafWalk, Steps, standing, beyond}
-use Rattle.std.proofs.lemmas.List.{length-reverse}
-use Rattle.std.proofs.lemmas.Option.{slice_get_within}
-use Rattle.tree_chain.specs.Rest.{left_of}
-use Rattle.tree_chain.specs.Walks.{here, stood_on}
-use Rattle.tree_model.specs.Rest.{StandsInside}
-use Rattle.tree_chain.specs.Ways.{ahead, places_left}
-use Rattle.tree_leaf.proofs.Chains.{counted}
-use Rattle.tree_node.specs.Tree.{Stands as PartStands}
-use Rattle.tree_model.specs.Cursor.{exhausted}
+use Rattle.tree_cursors.proofs.Common.{◌≡◌, ℕ, zero, ◌+◌, ◌<◌, ◌==◌, true, false, List, [], ◌∷◌, ◌++◌, length, drop, take, reverse, slice_get, inl, inr, suc, Option, Some, None, refl, sym, ap}
+use Rattle.tree_cursors.proofs.Common.{◌∙◌, arith, length-append, length-drop, append-nil, length-take, Bor, Ordering, cases_eq, nat_tests, flat_map-append, Bound, lent_entry, along, at_place, meets}
+use Rattle.tree_cursors.proofs.Common.{next_end, unopened, Way, On, Back, Slab, LeafOf, IsChain, times, entries_of, leaf_entries, one_here, times-cons, uses_le_one, TreeArenas, StandsOrRetired}
+use Rattle.tree_cursors.proofs.Common.{leaves_at, walk, IsTree, leaves_under, walk_under, root_at, Root, LeafWalk, Steps, standing, beyond, length-reverse, slice_get_within, Takes}
+use Rattle.tree_cursors.proofs.Common.{left_of, here, stood_on, StandsInside, ahead, places_left, counted, took, exhausted, IsLinked, Seeks, path, End, Unopened, At, Exhausted, EndStands}
+use Rattle.tree_cursors.proofs.Common.{GoesTo, Stands, StepsInLeaf, end_of, place_at, place_in, place_of}
 use Rattle.tree_cursors.proofs.Places.{beside_is, beside_none, first_is, first_none}
-use Rattle.tree_walk.specs.Ends.{IsLinked}
-use Rattle.tree_cursors.specs.Seek.{Advances, IsNearest, Seeks, path}
-use Rattle.tree_cursors.specs.declared.end.End.{End}
-use Rattle.tree_cursors.specs.declared.end.End.TheVariants.{Unopened, At, Exhausted}
-use Rattle.tree_cursors.specs.View.{EndStands, GoesOn, Stands, StepsInLeaf, end_of, place_at, place_in, place_of}
-use Rattle.tree_cursors.proofs.Advances.{advanced}
 
 -- without a pair an end goes nowhere
 pub goes_nowhere : {K : Type 0} (V : Type 0) (cmp : K → K → Ordering) (way : Way) (bound : Bound K) → exhausted ≡ next_end {V = V} cmp way bound [] unopened
@@ -111,13 +96,9 @@ module _ {K V : Type 0} {LEN : ℕ} (leaves : Slab (LeafOf K V LEN)) (ids : List
           let there : slice_get (leaf_entries leaves walk.leaf) i ≡ Some pair = rw (same, is) at here in
           rw (this, ← stands) (placed leaves front walk.leaf back (rw stands chain) pair i there)
 
-module _ {K V : Type 0} {LEN : ℕ} {cmp : K → K → Ordering} (a : TreeArenas K V LEN) (root : Option (ℕ × ℕ)) (tree : IsTree cmp a root) where
+module _ {K V : Type 0} {LEN : ℕ} {cmp : K → K → Ordering} (a : TreeArenas K V LEN) (root : Option Root) (tree : IsTree cmp a root) where
   pairs_are : walk_under a root ≡ entries_of a.leaves (leaves_under a.nodes root)
-  pairs_are = by_root root
-    where
-      by_root : (root : Option (ℕ × ℕ)) → walk_under a root ≡ entries_of a.leaves (leaves_under a.nodes root)
-      by_root None = refl
-      by_root (Some root) = refl
+  pairs_are = elim root as (λ root. walk_under a root ≡ entries_of a.leaves (leaves_under a.nodes root)) [ None ↦ refl | Some root ↦ refl ]
 
   -- the place of a walk that stands in the tree
   pub placed_in : (now : LeafWalk K V LEN) (s : Stands a root now) → IsPlaced a.leaves s.front s.back (walk_under a root) (leaves_under a.nodes root) now s.pair
@@ -134,41 +115,31 @@ module _ {K V : Type 0} {LEN : ℕ} {cmp : K → K → Ordering} (a : TreeArenas
     old_chain = rw (s.same, s.stands) tree.chain
 
     -- a walk that goes on stands one place along
-    abbrev pub still_stands : (entry : Bor K × Bor V) → Advances way old (Some entry) new → Stands a root new
-    still_stands entry advances =
-        let next = advances s.front s.back old_chain in
-        record { same = next.0.same ∙ s.same; front = next.0.front; back = next.0.back; stands = next.0.stands ∙ s.stands; pair = lent_entry entry; here = next.1 }
-
-    pub goes_beside : (entry : Bor K × Bor V) → Advances way old (Some entry) new → (bound : Bound K) → place_of a root new ≡ next_end cmp way bound (walk_under a root) (place_of a root old)
-    goes_beside entry advances bound =
-        let next = advances s.front s.back old_chain in
+    pub goes_to : (entry : Bor K × Bor V) → Takes way old (Some entry) new → GoesTo a root cmp way (At old) entry (At new)
+    goes_to entry takes =
+        let next = takes s.front s.back old_chain in
+        let stands : Stands a root new = record { same = next.same ∙ s.same; front = next.front; back = next.back; stands = next.stands ∙ s.stands; pair = lent_entry entry; here = next.on } in
         let from = placed_in old s in
-        let to = placed_in new (still_stands entry advances) in
+        let to = placed_in new stands in
         let fewer : places_left way (length (walk_under a root)) (Some from.place) ≡ suc (places_left way (length (walk_under a root)) (Some to.place)) =
-        sym (from.left way) ∙ ap length next.0.takes ∙ ap (λ n. suc n) (to.left way) in
-        rw (to.place_is, from.place_is, beside_is way (length (walk_under a root)) from.place to.place from.inside to.inside fewer) refl
+        sym (from.left way) ∙ ap length next.takes ∙ ap (λ n. suc n) (to.left way) in
+        record { place = λ bound. rw (to.place_is, from.place_is, beside_is way (length (walk_under a root)) from.place to.place from.inside to.inside fewer) refl; stands = stands; pair = next.on }
 
     -- or it has left the tree
-    pub leaves_tree : Advances way old None new → (bound : Bound K) → exhausted ≡ next_end cmp way bound (walk_under a root) (place_of a root old)
-    leaves_tree advances bound =
-        let next = advances s.front s.back old_chain in
+    pub leaves_tree : Takes way old None new → (bound : Bound K) → exhausted ≡ next_end cmp way bound (walk_under a root) (place_of a root old)
+    leaves_tree takes bound =
+        let next = takes s.front s.back old_chain in
         let from = placed_in old s in
-        let none : places_left way (length (walk_under a root)) (Some from.place) ≡ 0 = sym (from.left way) ∙ ap length next.0.takes.0 in
+        let none : places_left way (length (walk_under a root)) (Some from.place) ≡ 0 = sym (from.left way) ∙ ap length next.takes.0 in
         rw (from.place_is, beside_none way (length (walk_under a root)) from.place none) refl
-
-    -- either way
-    pub goes_on : (result : Option (Bor K × Bor V)) → Advances way old result new → GoesOn a root cmp way old result new
-    goes_on None advances = λ bound. leaves_tree advances bound
-    goes_on (Some entry) advances = λ bound. (goes_beside entry advances bound, still_stands entry advances, (still_stands entry advances).here)
 
 -- a step in a leaf is a move in each tree that the leaf is in
 pub steps_in_leaf : {K V : Type 0} {LEN : ℕ} (cmp : K → K → Ordering) (way : Way) (old new : LeafWalk K V LEN) (result : Option (Bor K × Bor V)) → Steps way old result new → StepsInLeaf cmp way (At old) result (At new)
 steps_in_leaf cmp way old new None steps = (ap (λ walk. At walk) (steps.0 ∙ ap (λ at. standing old.leaves old.leaf at) steps.1.1), steps.1.0)
 steps_in_leaf cmp way old new (Some entry) steps = λ arenas root tree stands.
-    let moves = goes_on arenas root tree way old stands new (Some entry) (advanced way old new (Some entry) (λ none. absurd (cc)) steps) in
-    record { place = λ bound. (moves bound).0; stands = (moves Unbounded).1; pair = (moves Unbounded).2 }
+    goes_to arenas root tree way old stands new entry (took way old new (Some entry) (λ none. absurd (cc)) steps)
 
-module _ {K V : Type 0} {LEN : ℕ} {cmp : K → K → Ordering} (a : TreeArenas K V LEN) (id level : ℕ) (tree : IsTree cmp a (Some (id, level))) where
+module _ {K V : Type 0} {LEN : ℕ} {cmp : K → K → Ordering} (a : TreeArenas K V LEN) (id level : ℕ) (tree : IsTree cmp a (Some (root_at id level))) where
   pub whole_chain : IsChain a.leaves ([] ++ (leaves_at level a.nodes id ++ []))
   whole_chain = rw (append-nil (leaves_at level a.nodes id)) tree.chain
 
@@ -176,35 +147,22 @@ module _ {K V : Type 0} {LEN : ℕ} {cmp : K → K → Ordering} (a : TreeArenas
   root_linked = ([], [], whole_chain)
 
   pub root_stands : StandsOrRetired cmp level a id
-  root_stands = by_top tree.top.1
-    where
-      by_top : (PartStands cmp level a None id None ⊎ IsRetiredRoot a id level) → StandsOrRetired cmp level a id
-      by_top (inl s) = inl s
-      by_top (inr retired) = inr (rw retired.0 retired.1)
+  root_stands = elim tree.top.1 [ inl s ↦ inl s | inr retired ↦ inr (rw retired.0 retired.1) ]
 
   path_is : (way : Way) → path way level a id [] [] ≡ along way (walk level a id)
   path_is On = append-nil (walk level a id)
   path_is Back = append-nil (reverse (walk level a id))
 
   module _ (way : Way) (bound : Bound K) where
-    module _ (found : LeafWalk K V LEN) (seeks : Seeks cmp way level a id bound (Some found)) where
-      abbrev nearest : IsNearest cmp way bound (path way level a id [] []) a.leaves ([] ++ (leaves_at level a.nodes id ++ [])) found
-      nearest = seeks [] [] whole_chain
-
-      abbrev pub found_stands : Stands a (Some (id, level)) found
-      found_stands = record {
-        same = nearest.same;
-        front = nearest.front;
-        back = nearest.back;
-        stands = nearest.stands ∙ append-nil (leaves_at level a.nodes id);
-        pair = nearest.pair;
-        here = nearest.here;
-      }
-
-      pub found_first : place_of a (Some (id, level)) found ≡ next_end cmp way bound (walk level a id) unopened
-      found_first =
-          let at = placed_in a (Some (id, level)) tree found found_stands in
-          rw (at.place_is, first_is (λ pair. meets cmp way bound pair.0) way (walk level a id) nearest.before nearest.pair _ at.place (sym (path_is way) ∙ nearest.parts) nearest.none_before nearest.met at.inside (sym (at.left way))) refl
+    pub found_end : (found : LeafWalk K V LEN) → Seeks cmp way level a id bound (Some found)
+        → Stands a (Some (root_at id level)) found × (place_of a (Some (root_at id level)) found ≡ next_end cmp way bound (walk level a id) unopened)
+    found_end found seeks =
+        let near = seeks [] [] whole_chain in
+        let stands : Stands a (Some (root_at id level)) found =
+        record { same = near.same; front = near.front; back = near.back; stands = near.stands ∙ append-nil (leaves_at level a.nodes id); pair = near.pair; here = near.here } in
+        let at = placed_in a (Some (root_at id level)) tree found stands in
+        let first = first_is (λ pair. meets cmp way bound pair.0) way (walk level a id) near.before near.pair _ at.place (sym (path_is way) ∙ near.parts) near.none_before near.met at.inside (sym (at.left way)) in
+        (stands, rw (at.place_is, first) refl)
 
     pub found_none : Seeks cmp way level a id bound None → exhausted ≡ next_end cmp way bound (walk level a id) unopened
     found_none seeks = rw (first_none (λ pair. meets cmp way bound pair.0) way (walk level a id) (seeks [] [] whole_chain)) refl

@@ -1,5 +1,4 @@
-pub mod Advances
+pub mod Common
 pub mod Ends
-pub mod LeafFor
-pub mod Seeks
 pub mod Places
+pub mod Seeks

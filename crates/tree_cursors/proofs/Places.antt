@@ -1,14 +1,7 @@
 -- The first place on a way whose element passes, and the place beside one, told by how many places are left behind it.
-use Rattle.std.proofs.Common.{◌≡◌, ℕ, suc, zero, ◌+◌, ◌<◌, ltb, Bool, true, false, List, [], ◌∷◌, ◌++◌, length, reverse, slice_get, Some, None, refl, sym, ap, ◌∙◌, arith, length-append, append_assoc, is_lt, Ordering, Less, Greater}
-use Rattle.tree_model.proofs.Common.{AllByRecursion, IsTotalOrder, nat_tests, tied_itself, reverse_onto, reverse-append, reverse-reverse, IsAscending, along, greatest_place}
-use Rattle.tree_model.proofs.Lists.{all_at}
-use Rattle.tree_model.specs.declared.way.Way.{Way}
-use Rattle.tree_model.specs.declared.way.Way.TheVariants.{On, Back}
-use Rattle.tree_array.proofs.Common.{greater_from_less}
-use Rattle.std.proofs.lemmas.List.{length-reverse}
-use Rattle.tree_chain.specs.Ways.{places_left}
-use Rattle.tree_chain.proofs.Along.{all_reversed}
-use Rattle.tree_model.specs.Cursor.{first_place, least_place, place_beside}
+use Rattle.tree_cursors.proofs.Common.{◌≡◌, ℕ, suc, zero, ◌+◌, ◌<◌, ltb, Bool, true, false, List, [], ◌∷◌, ◌++◌, length, reverse, slice_get, Some, None, refl, sym, ap, ◌∙◌, arith, length-append}
+use Rattle.tree_cursors.proofs.Common.{append_assoc, is_lt, Ordering, Less, Greater, AllByRecursion, IsTotalOrder, nat_tests, tied_itself, reverse_onto, reverse-append, reverse-reverse, IsAscending}
+use Rattle.tree_cursors.proofs.Common.{along, greatest_place, all_at, Way, On, Back, greater_from_less, length-reverse, places_left, all_reversed, first_place, least_place, place_beside}
 
 module _ {X : Type 0} (test : X → Bool) where
   abbrev pub Fail : List X → Type 0

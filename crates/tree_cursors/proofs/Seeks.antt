@@ -1,15 +1,9 @@
 -- A walk that seeks the first pair within a bound: what it has passed, and what is left.
-use Rattle.std.proofs.Common.{◌≡◌, ℕ, true, false, List, [], ◌∷◌, ◌++◌, Option, None, Some, MatchOption, ◌⊎◌, inl, inr, refl, sym, ap, ◌∙◌, append_assoc, Bor, Ordering, Less, append-nil}
-use Rattle.tree_model.proofs.Common.{AllByRecursion, Bound, Included, Excluded, IsTotalOrder, reverse-append, flat_map-append, lent_entry, along, meets}
-use Rattle.tree_model.specs.declared.way.Way.{Way}
-use Rattle.tree_model.specs.declared.way.Way.TheVariants.{On, Back}
-use Rattle.tree_array.proofs.Common.{all-append, all_map, greater_from_less}
-use Rattle.tree_node.proofs.Common.{Slab, LeafOf, IsChain, entries_of, leaf_entries, TreeArenas, leaves_at, walk}
-use Rattle.tree_chain.proofs.Common.{LeafWalk, standing, beyond}
-use Rattle.tree_chain.specs.Rest.{HasTaken, left_of}
-use Rattle.tree_chain.proofs.Along.{all_ahead, all_along}
-use Rattle.tree_walk.specs.Ends.{BeginsPart, passed}
-use Rattle.tree_cursors.specs.Seek.{Advances, IsLeafFor, IsNearest, NoneMeets, Opens, path}
+use Rattle.tree_cursors.proofs.Common.{◌≡◌, ℕ, true, false, List, [], ◌∷◌, ◌++◌, Option, None, Some, MatchOption, ◌⊎◌, inl, inr, refl, sym, ap, ◌∙◌, append_assoc, Bor, Ordering, Less, append-nil}
+use Rattle.tree_cursors.proofs.Common.{AllByRecursion, Bound, Included, Excluded, IsTotalOrder, reverse-append, flat_map-append, lent_entry, along, meets, Way, On, Back, all-append, all_map}
+use Rattle.tree_cursors.proofs.Common.{greater_from_less, Slab, LeafOf, IsChain, entries_of, leaf_entries, TreeArenas, leaves_at, walk, LeafWalk, standing, beyond, HasTaken, Takes, left_of, all_ahead}
+use Rattle.tree_cursors.proofs.Common.{all_along, BeginsPart, passed, IsLeafFor, IsNearest, NoneMeets, Opens, path}
+use Rattle.tree_node.proofs.Cuts.{all_front}
 
 -- the bound is at this key
 abbrev pub IsAt : {K : Type 0} → K → Bound K → Type 0
@@ -25,14 +19,13 @@ module _ {K V : Type 0} {cmp : K → K → Ordering} (o : IsTotalOrder cmp) (key
   larger_out (inl included) pairs all = all_map (λ (pair : K × V) (more : cmp key pair.0 ≡ Less). rw (included, greater_from_less o key pair.0 more) refl) pairs all
   larger_out (inr excluded) pairs all = all_map (λ (pair : K × V) (more : cmp key pair.0 ≡ Less). rw (excluded, greater_from_less o key pair.0 more) refl) pairs all
 
-module _ {K V : Type 0} {LEN : ℕ} {cmp : K → K → Ordering} (o : IsTotalOrder cmp) (level : ℕ) (a : TreeArenas K V LEN) (id : ℕ) (way : Way) (key : K) (bound : Bound K) (leaf : ℕ) (is : IsLeafFor cmp level a id key leaf) where
+module _ {K V : Type 0} {LEN : ℕ} {cmp : K → K → Ordering} (o : IsTotalOrder cmp) (level : ℕ) (a : TreeArenas K V LEN) (id : ℕ) (way : Way) (key : K) (bound : Bound K) (leaf : ℕ) (is : IsLeafFor cmp key level a id leaf) where
   -- a walk that stands unopened in the leaf of the bound's key
   pub opens_at : IsAt key bound → (begun : LeafWalk K V LEN) → begun ≡ standing a.leaves leaf None → Opens cmp way level a id bound begun
-  opens_at at begun same = rw same (record { unopened = refl; front = is.front; back = is.back; parts = is.parts; none_before = by_way way })
-    where
-      by_way : (way : Way) → NoneMeets cmp way bound (entries_of a.leaves (passed way is.front is.back))
-      by_way On = smaller_out o key bound at (entries_of a.leaves is.front) is.smaller
-      by_way Back = larger_out o key bound at (entries_of a.leaves is.back) is.larger
+  opens_at at begun same =
+      let none = elim way as (λ way. NoneMeets cmp way bound (entries_of a.leaves (passed way is.front is.back)))
+      [ On ↦ smaller_out o key bound at (entries_of a.leaves is.front) is.smaller | Back ↦ larger_out o key bound at (entries_of a.leaves is.back) is.larger ] in
+      rw same (record { unopened = refl; front = is.front; back = is.back; parts = is.parts; none_before = none })
 
 -- a walk that begins the part, without a bound
 pub opens_unbounded : {K V : Type 0} {LEN : ℕ} (cmp : K → K → Ordering) (way : Way) (level : ℕ) (a : TreeArenas K V LEN) (id : ℕ) (bound : Bound K) (result : Option (LeafWalk K V LEN))
@@ -63,14 +56,13 @@ module _ {K V : Type 0} {LEN : ℕ} (cmp : K → K → Ordering) (way : Way) (bo
 
     module _ (new : LeafWalk K V LEN) where
       -- no entry is left
-      pub none_left : Advances way old None new → NoneMeets cmp way bound pairs
-      none_left advances =
-          let took = (advances sought.front sought.back old_chain).0 in
-          rw (sought.parts, took.takes.0, append-nil sought.before) sought.none_before
+      pub none_left : Takes way old None new → NoneMeets cmp way bound pairs
+      none_left takes =
+          rw (sought.parts, (takes sought.front sought.back old_chain).takes.0, append-nil sought.before) sought.none_before
 
-      module _ (entry : Bor K × Bor V) (advances : Advances way old (Some entry) new) where
+      module _ (entry : Bor K × Bor V) (takes : Takes way old (Some entry) new) where
         took : HasTaken way old.leaves (sought.front ++ old.leaf ∷ sought.back) (left_of way old sought.front sought.back) (Some entry) new
-        took = (advances sought.front sought.back old_chain).0
+        took = takes sought.front sought.back old_chain
 
         pub nearest : meets cmp way bound entry.0.now ≡ true → IsNearest cmp way bound pairs leaves chain new
         nearest met = record {
@@ -80,7 +72,7 @@ module _ {K V : Type 0} {LEN : ℕ} (cmp : K → K → Ordering) (way : Way) (bo
           stands = took.stands ∙ sought.stands;
           before = sought.before;
           pair = lent_entry entry;
-          here = (advances sought.front sought.back old_chain).1;
+          here = took.on;
           parts = sought.parts ∙ ap (λ (rest : List (K × V)). sought.before ++ rest) took.takes;
           none_before = sought.none_before;
           met = met;
@@ -96,10 +88,6 @@ module _ {K V : Type 0} {LEN : ℕ} (cmp : K → K → Ordering) (way : Way) (bo
           parts = sought.parts ∙ ap (λ (rest : List (K × V)). sought.before ++ rest) took.takes ∙ sym (append_assoc sought.before (lent_entry entry ∷ []) (left_of way new took.front took.back));
           none_before = all-append _ sought.before (lent_entry entry ∷ []) sought.none_before (missed, tt);
         }
-
-all_front : {X : Type 0} (P : X → Type 0) (xs ys : List X) → AllByRecursion P (xs ++ ys) → AllByRecursion P xs
-all_front P [] ys all = tt
-all_front P (x ∷ xs) ys all = (all.0, all_front P xs ys all.1)
 
 module _ {K V : Type 0} {LEN : ℕ} (cmp : K → K → Ordering) (level : ℕ) (a : TreeArenas K V LEN) (id : ℕ) (bound : Bound K) where
   -- a part without an entry has none within the bound

@@ -1,40 +1,21 @@
 -- Where a walk opens that seeks the first key past a bound, and how it goes on.
-use Rattle.std.specs.Prelude.{◌≡◌, ℕ, true, false, List, ◌∷◌, ◌++◌, Option, None, Some, IfSome, MatchOption}
-use Rattle.std.specs.Borrow.{Bor}
+use Rattle.std.specs.Prelude.{◌≡◌, ℕ, true, false, List, ◌∷◌, ◌++◌, Option, None, Some, MatchOption}
 use Rattle.std.specs.List.{AllByRecursion}
 use Rattle.std.specs.declared.cmp.Ordering.{Ordering}
-use Rattle.std.specs.declared.cmp.Ordering.TheVariants.{Less}
 use Rattle.std.specs.declared.ops.Bound.{Bound}
 use Rattle.slab.specs.Slab.{Slab}
-use Rattle.tree_model.specs.Pairs.{AllLarger}
 use Rattle.tree_leaf.specs.declared.leaf.LeafOf.{LeafOf}
 use Rattle.tree_model.specs.declared.way.Way.{Way}
 use Rattle.tree_leaf.specs.Chain.{IsChain}
 use Rattle.tree_leaf.specs.Entries.{entries_of}
-use Rattle.tree_chain.specs.Rest.{HasTaken, left_of}
+use Rattle.tree_chain.specs.Rest.{left_of}
 use Rattle.tree_chain.specs.Walks.{LeafWalk, standing, stood_on}
-use Rattle.tree_model.specs.Rest.{lent_entry}
 use Rattle.tree_model.specs.Ways.{along}
 use Rattle.tree_chain.specs.Ways.{beyond}
 use Rattle.tree_node.specs.Arenas.{TreeArenas}
 use Rattle.tree_node.specs.Tree.{leaves_at, walk}
 use Rattle.tree_walk.specs.Ends.{passed}
 use Rattle.tree_model.specs.Cursor.{meets}
-
-module _ {K V : Type 0} {LEN : ℕ} where
-  -- the walk has taken the first entry that was left, and stands on it; over every chain that its leaf is in
-  abbrev pub Advances : Way → LeafWalk K V LEN → Option (Bor K × Bor V) → LeafWalk K V LEN → Type 0
-  Advances way old result new =
-      (front back : List ℕ) → IsChain old.leaves (front ++ old.leaf ∷ back)
-      → HasTaken way old.leaves (front ++ old.leaf ∷ back) (left_of way old front back) result new × IfSome result (λ entry. stood_on new ≡ Some (lent_entry entry))
-
-  -- of a part the leaf that the key belongs to: the keys before it are smaller, and those behind it larger
-  pub record IsLeafFor (cmp : K → K → Ordering) (level : ℕ) (arenas : TreeArenas K V LEN) (id : ℕ) (key : K) (leaf : ℕ) : Type 0 where
-    pub front : List ℕ
-    pub back : List ℕ
-    pub parts : leaves_at level arenas.nodes id ≡ front ++ leaf ∷ back
-    pub smaller : AllByRecursion (λ pair. cmp pair.0 key ≡ Less) (entries_of arenas.leaves front)
-    pub larger : AllLarger cmp key (entries_of arenas.leaves back)
 
 -- no key of these pairs is within the bound at which the way begins
 abbrev pub NoneMeets : {K V : Type 0} → (K → K → Ordering) → Way → Bound K → List (K × V) → Type 0

@@ -1,5 +1,5 @@
 -- What contracts see of a cursor over a tree.
-use Rattle.std.specs.Prelude.{◌≡◌, ℕ, ◌+◌, ◌==◌, if◌then◌else◌, List, [], ◌∷◌, ◌++◌, length, Option, Some, None, MatchOption}
+use Rattle.std.specs.Prelude.{◌≡◌, ℕ, ◌+◌, ◌==◌, if◌then◌else◌, List, [], ◌∷◌, ◌++◌, length, Option, Some, None}
 use Rattle.std.specs.Borrow.{Bor}
 use Rattle.std.specs.Range.Bound.{bound_map}
 use Rattle.std.specs.declared.cmp.Ordering.{Ordering}
@@ -11,6 +11,7 @@ use Rattle.tree_chain.specs.Ways.{places_left}
 use Rattle.tree_model.specs.Rest.{lent_entry}
 use Rattle.tree_leaf.specs.declared.leaf.LeafOf.{LeafOf}
 use Rattle.tree_model.specs.declared.way.Way.{Way}
+use Rattle.tree_node.specs.declared.node.Root.{Root}
 use Rattle.tree_node.specs.Arenas.{TreeArenas}
 use Rattle.tree_node.specs.Whole.{IsTree, leaves_under, walk_under}
 use Rattle.tree_model.specs.Cursor.{Cursor, End, next_end, unopened, at_place, exhausted}
@@ -33,7 +34,7 @@ module _ {K V : Type 0} {LEN : ℕ} where
   pair_of (At walk) = stood_on walk
   pair_of Exhausted = None
 
-module _ {K V : Type 0} {LEN : ℕ} (arenas : TreeArenas K V LEN) (root : Option (ℕ × ℕ)) where
+module _ {K V : Type 0} {LEN : ℕ} (arenas : TreeArenas K V LEN) (root : Option Root) where
   -- where a walk stands among the pairs of the tree
   abbrev pub place_of : LeafWalk K V LEN → End
   place_of walk = place_at arenas.leaves (leaves_under arenas.nodes root) walk.leaf walk.at
@@ -56,13 +57,6 @@ module _ {K V : Type 0} {LEN : ℕ} (arenas : TreeArenas K V LEN) (root : Option
   EndStands Unopened = Unit {0}
   EndStands (At walk) = Stands walk
   EndStands Exhausted = Unit {0}
-
-  -- a walk that stood on an entry now stands on the next one on its way, which is the result, or there is none
-  abbrev pub GoesOn : (K → K → Ordering) → Way → LeafWalk K V LEN → Option (Bor K × Bor V) → LeafWalk K V LEN → Type 0
-  GoesOn cmp way old result new =
-      (bound : Bound K)
-      → MatchOption result (exhausted ≡ next_end cmp way bound (walk_under arenas root) (place_of old))
-      (λ entry. (place_of new ≡ next_end cmp way bound (walk_under arenas root) (place_of old)) × Stands new × (stood_on new ≡ Some (lent_entry entry)))
 
   -- an end has gone where a move takes it, and stands on this entry
   pub record GoesTo (cmp : K → K → Ordering) (way : Way) (old : TreeEnd (LeafWalk K V LEN)) (entry : Bor K × Bor V) (new : TreeEnd (LeafWalk K V LEN)) : Type 0 where
@@ -96,4 +90,4 @@ EndsLeaf way Exhausted = Unit {0}
 abbrev pub StepsInLeaf : {K V : Type 0} {LEN : ℕ} → (K → K → Ordering) → Way → TreeEnd (LeafWalk K V LEN) → Option (Bor K × Bor V) → TreeEnd (LeafWalk K V LEN) → Type 0
 StepsInLeaf cmp way old None new = (new ≡ old) × EndsLeaf way old
 StepsInLeaf {K} {V} {LEN} cmp way old (Some entry) new =
-    (arenas : TreeArenas K V LEN) (root : Option (ℕ × ℕ)) → IsTree cmp arenas root → EndStands arenas root old → GoesTo arenas root cmp way old entry new
+    (arenas : TreeArenas K V LEN) (root : Option Root) → IsTree cmp arenas root → EndStands arenas root old → GoesTo arenas root cmp way old entry new

@@ -7,15 +7,14 @@ ghost use Rattle.tree_model.specs.Pairs.{lent_bound};
 ghost use Rattle.tree_node.specs.Whole.{IsTree, walk_under};
 ghost use Rattle.tree_model.specs.Cursor.{next_end, unopened};
 ghost use Rattle.tree_model.specs.Rest.{lent};
-ghost use Rattle.tree_cursors.specs.View.{EndStands, GoesOn, Stands, StepsInLeaf, end_of, pair_of};
+ghost use Rattle.tree_cursors.specs.View.{EndStands, StepsInLeaf, end_of, pair_of};
 
 use crate::seek::{advance, seek_at};
 use crate::way::EndWay;
 use std::ops::Bound;
 use tree_chain::{LinkedIter, SlotWalk};
-use tree_leaf::arena::NodeId;
 use tree_leaf::leaf::LeafOf;
-use tree_node::node::ArenasOf;
+use tree_node::node::{ArenasOf, Root};
 
 /// Where an end of a cursor is: it was never moved, it stands on an entry, or it has left the tree.
 #[derive(Drop)]
@@ -30,7 +29,7 @@ pub enum End<W> {
 #[inline(always)]
 pub fn step<'t, K: Ord + Drop, V: Drop, S: EndWay, const LEN: usize>(
     arenas: &'t ArenasOf<K, V, LEN>,
-    root: Option<(NodeId, usize)>,
+    root: Option<Root>,
     end: &mut End<LinkedIter<'t, LeafOf<K, V, LEN>, S>>,
     bound: Bound<&K>,
 ) -> Option<(&'t K, &'t V)>
@@ -46,7 +45,7 @@ pub fn step<'t, K: Ord + Drop, V: Drop, S: EndWay, const LEN: usize>(
             let (key, value) = open(arenas, root, end, bound)?;
             Some((key, value))
         }
-        End::At(walk) => match next_entry(arenas, root, walk) {
+        End::At(walk) => match advance(walk) {
             Some((key, value)) => Some((key, value)),
             None => {
                 *end = End::Exhausted;
@@ -77,7 +76,7 @@ pub fn step_in_leaf<'t, K: Ord + Drop, V: Drop, S: EndWay, const LEN: usize>(
 #[inline(never)]
 fn open<'t, K: Ord + Drop, V: Drop, S: EndWay, const LEN: usize>(
     arenas: &'t ArenasOf<K, V, LEN>,
-    root: Option<(NodeId, usize)>,
+    root: Option<Root>,
     end: &mut End<LinkedIter<'t, LeafOf<K, V, LEN>, S>>,
     bound: Bound<&K>,
 ) -> Option<(&'t K, &'t V)>
@@ -94,7 +93,7 @@ fn open<'t, K: Ord + Drop, V: Drop, S: EndWay, const LEN: usize>(
 /// Returns where an end goes that was never moved.
 fn first_end<'t, K: Ord + Drop, V: Drop, S: EndWay, const LEN: usize>(
     arenas: &'t ArenasOf<K, V, LEN>,
-    root: Option<(NodeId, usize)>,
+    root: Option<Root>,
     bound: Bound<&K>,
 ) -> End<LinkedIter<'t, LeafOf<K, V, LEN>, S>>
     requires { IsTree K.cmp arenas.now root }
@@ -105,24 +104,10 @@ fn first_end<'t, K: Ord + Drop, V: Drop, S: EndWay, const LEN: usize>(
     let Some(top) = root else {
         return End::Exhausted;
     };
-    match seek_at::<K, V, S, LEN>(arenas, top.1, top.0, bound) {
+    match seek_at::<K, V, S, LEN>(arenas, top.level, top.id, bound) {
         Some(walk) => End::At(walk),
         None => End::Exhausted,
     }
-}
-
-/// Moves a walk that stands on an entry to the next one, and returns that. Returns `None` if the walk has left the tree.
-#[inline(always)]
-fn next_entry<'t, K: Ord + Drop, V: Drop, S: SlotWalk, const LEN: usize>(
-    arenas: &'t ArenasOf<K, V, LEN>,
-    root: Option<(NodeId, usize)>,
-    walk: &mut LinkedIter<'t, LeafOf<K, V, LEN>, S>,
-) -> Option<(&'t K, &'t V)>
-    requires tree { IsTree K.cmp arenas.now root }
-    requires stands { Stands arenas.now root walk.old }
-    ensures { GoesOn arenas.now root K.cmp S.way walk.old result walk.new }
-{
-    advance(walk)
 }
 
 /// Returns whether one walk stands on a smaller key than another one. Makes one comparison. The caller must have
@@ -145,6 +130,7 @@ pub fn comes_before<'t, K: Ord + Drop, V: Drop, S: SlotWalk, T: SlotWalk, const 
 }
 
 /// Returns the pair that an end stands on, if it stands on one. Runs in constant time.
+#[inline(always)]
 pub fn pair_on<'t, K: Ord + Drop, V: Drop, S: SlotWalk, const LEN: usize>(
     end: &End<LinkedIter<'t, LeafOf<K, V, LEN>, S>>,
 ) -> Option<(&'t K, &'t V)>

@@ -1,16 +1,18 @@
 //! Opens a walk on the first key past a bound, either way.
 ghost use Rattle.std.specs.Prelude.{◌≡◌, ◌<◌, [], MatchOption};
 ghost use Rattle.tree_model.specs.Pairs.{lent_bound};
-ghost use Rattle.tree_node.specs.Tree.{Stands, StandsOrRetired, walk};
+ghost use Rattle.tree_node.specs.Tree.{StandsOrRetired, walk};
 ghost use Rattle.tree_walk.specs.Ends.{IsLinked};
-ghost use Rattle.tree_cursors.specs.Seek.{Advances, IsLeafFor, Opens, Seeks};
+ghost use Rattle.tree_chain.specs.Rest.{Takes};
+ghost use Rattle.tree_cursors.specs.Seek.{Opens, Seeks};
 
 use crate::way::EndWay;
 use std::ops::Bound;
 use tree_chain::{LinkedIter, SlotWalk};
-use tree_leaf::arena::{LeafId, NodeId};
+use tree_descent::look_ups::leaf_by;
+use tree_leaf::arena::NodeId;
 use tree_leaf::leaf::LeafOf;
-use tree_node::node::{ArenasOf, NodeOf};
+use tree_node::node::ArenasOf;
 use tree_walk::ends::walk_from_end;
 
 /// Opens a walk on the first entry on its way whose key meets a bound, among the entries under a number of this
@@ -57,32 +59,8 @@ fn open_at<'t, K: Ord + Drop, V: Drop, S: EndWay, const LEN: usize>(
         Bound::Excluded(key) => key,
         Bound::Unbounded => return walk_from_end::<K, V, S, LEN>(arenas, level, id),
     };
-    let leaf = leaf_for(arenas, level, id, key)?;
+    let leaf = leaf_by(arenas, level, id, &mut &*key)?;
     Some(LinkedIter::new(arenas, leaf))
-}
-
-/// Returns the leaf that a key belongs to. Returns `None` if the node is retired.
-fn leaf_for<K: Ord + Drop, V: Drop, const LEN: usize>(
-    arenas: &ArenasOf<K, V, LEN>,
-    level: usize,
-    id: NodeId,
-    key: &K,
-) -> Option<LeafId>
-    requires node { 0 < level }
-    requires stands { StandsOrRetired K.cmp level arenas.now id }
-    ensures { MatchOption result (¬ Stands K.cmp level arenas.now None id None)
-        (IsLeafFor K.cmp level arenas.now id key.now) }
-{
-    match arenas.node(id) {
-        NodeOf::Leaf(node) => {
-            let place = node.child_place_for(key)?;
-            Some(place.child)
-        }
-        NodeOf::Internal(node) => {
-            let place = node.child_place_for(key)?;
-            leaf_for(arenas, level - 1, place.child, key)
-        }
-    }
 }
 
 /// Moves a walk to its next entry, in its leaf or behind a jump, and returns it. Returns `None` where no entry
@@ -91,7 +69,7 @@ fn leaf_for<K: Ord + Drop, V: Drop, const LEN: usize>(
 pub fn advance<'t, K: Ord + Drop, V: Drop, S: SlotWalk, const LEN: usize>(
     walk: &mut LinkedIter<'t, LeafOf<K, V, LEN>, S>,
 ) -> Option<(&'t K, &'t V)>
-    ensures { Advances S.way walk.old result walk.new }
+    ensures { Takes S.way walk.old result walk.new }
 {
     match walk.next() {
         Some((key, value)) => Some((key, value)),

@@ -1,194 +1,104 @@
 -- The first and the last leaf of a part, and of a part that is dropped the leaves beside it.
-use Rattle.std.proofs.Common.{sub-one, ◌≡◌, ℕ, zero, suc, ◌-◌, ◌<◌, ◌≤◌, List, [], ◌∷◌, ◌++◌, Some, None, IsSome, refl, sym, ap, ◌∙◌, arith, append_assoc, flat_map, Ordering, append-nil}
-use Rattle.tree_model.proofs.Common.{AllByRecursion, flat_map-append}
-use Rattle.tree_node.proofs.Common.{Slab, get, LeafOf, IsChain, times, uses, times-append, times-cons, times-nil, one_here, uses_le_one, TreeArenas, IsPart, Replaces, HasKind, Stands, unbounded, leaves_at, leaves_of, node_children, walk}
-use Rattle.tree_node.specs.declared.node.NodeOf.{NodeOf}
-use Rattle.tree_leaf.specs.Chain.{first_or, last_or}
-use Rattle.tree_leaf.specs.Links.{Splices}
-use Rattle.tree_leaf.proofs.Chains.{linked_kept, neighbours, next_used, prev_used, same_array_uses}
-use Rattle.tree_leaf.proofs.Splices.{untouched_leaf}
-use Rattle.tree_leaf.proofs.Counts.{in_use}
-use Rattle.tree_node.proofs.Beside.{apart_from_fewer, not_before, not_behind}
-use Rattle.tree_node.proofs.ChildrenStand.{children_stand}
-use Rattle.tree_node.proofs.Frames.{Agrees, same_stands, same_walk}
-use Rattle.tree_node.proofs.Lifts.{single_leaves, single_nodes, leaves_once_in}
-use Rattle.tree_node.proofs.Lists.{all_middle}
-use Rattle.tree_node.proofs.Standing.{node_is}
-use Rattle.tree_cut.specs.declared.dropping.End.{End}
-use Rattle.tree_cut.specs.declared.dropping.End.TheVariants.{First, Last}
-use Rattle.tree_cut.specs.declared.parts.Part.TheVariants.{Leaf, Node}
-use Rattle.tree_cut.specs.Parts.{Frees, IsAt, IsForest, end_of}
-use Rattle.tree_cut.proofs.Frees.{still_once}
-use Rattle.tree_cut.proofs.Turns.{last_or-some}
+use Rattle.tree_cut.proofs.Common.{◌≡◌, ℕ, ◌+◌, ◌≤◌, List, [], ◌∷◌, ◌++◌, Option, Some, None, IsSome, refl, ap, ◌∙◌, arith, append_assoc, flat_map, Ordering, append-nil, AllByRecursion, flat_map-append, Slab, get, LeafOf, IsChain, times, times-append, times-cons, times-nil, one_here, uses, uses_le_one, TreeArenas, IsPart, Replaces, leaves_at, nodes_of, leaves_of, walk, NodeOf, Splices, End, First, Last, Frees, FreesIn, IsEnd, StandsOnce, chain_used, linked_kept, neighbours, next_used, prev_used, same_array_uses, untouched_leaf, apart_from_fewer, not_before, not_behind, Agrees, same_stands, same_walk, single_leaves, single_nodes, leaves_once_in, all_middle}
 
--- what stands first or last in a list, by splitting it
-first_split : (ids : List ℕ) (x : ℕ) → first_or ids None ≡ Some x → (rest : List ℕ) × (ids ≡ x ∷ rest)
-first_split [] x h = absurd (cc)
-first_split (y ∷ ids) x h = let same : y ≡ x = cc in (ids, rw same refl)
-
-last_split : (ids : List ℕ) (x : ℕ) → last_or None ids ≡ Some x → (front : List ℕ) × (ids ≡ front ++ x ∷ [])
-last_split [] x h = absurd (cc)
-last_split (y ∷ []) x h = let same : y ≡ x = cc in ([], rw same refl)
-last_split (y ∷ (z ∷ ids)) x h = let later = last_split (z ∷ ids) x h in (y ∷ later.0, ap (λ xs. y ∷ xs) later.1)
-
-module _ {K : Type 0} {LEN : ℕ} (nodes : Slab (NodeOf K LEN)) where
-  -- an end of the children's leaves is that of the leaves of the child at that end
-  end_below : (level : ℕ) (end : End) (ids : List ℕ) (x leaf : ℕ) → end_of end ids ≡ Some x → end_of end (leaves_at level nodes x) ≡ Some leaf → end_of end (leaves_of level nodes ids) ≡ Some leaf
-  end_below level First ids x leaf at below =
-      let ids_are = first_split ids x at in
-      let leaves_are = first_split (leaves_at level nodes x) leaf below in
-      rw (ids_are.1, leaves_are.1) refl
-  end_below level Last ids x leaf at below =
-      let ids_are = last_split ids x at in
-      let leaves_are = last_split (leaves_at level nodes x) leaf below in
-      rw (ids_are.1, flat_map-append (leaves_at level nodes) ids_are.0, append-nil (leaves_at level nodes x), leaves_are.1, ← append_assoc (flat_map (leaves_at level nodes) ids_are.0) leaves_are.0 (leaf ∷ []))
-      (last_or-some None (flat_map (leaves_at level nodes) ids_are.0 ++ leaves_are.0) leaf)
+-- an end of the children's leaves is that of the leaves of the child at that end
+pub end_below : {K : Type 0} {LEN : ℕ} (nodes : Slab (NodeOf K LEN)) (level : ℕ) (end : End) (ids : List ℕ) (x leaf : ℕ) → IsEnd end ids x
+    → IsEnd end (leaves_at level nodes x) leaf → IsEnd end (leaves_of level nodes ids) leaf
+end_below nodes level First ids x leaf at below = (below.0 ++ flat_map (leaves_at level nodes) at.0, rw (at.1, below.1) refl)
+end_below nodes level Last ids x leaf at below = (
+  flat_map (leaves_at level nodes) at.0 ++ below.0,
+  rw (at.1, flat_map-append (leaves_at level nodes) at.0, append-nil (leaves_at level nodes x), below.1, append_assoc (flat_map (leaves_at level nodes) at.0)) refl,
+)
 
 -- what holds of all children holds of one at an end
-at_end : (P : ℕ → Type 0) (end : End) (ids : List ℕ) (x : ℕ) → end_of end ids ≡ Some x → AllByRecursion P ids → P x
-at_end P First ids x is each = let ids_are = first_split ids x is in (rw ids_are.1 at each).0
-at_end P Last ids x is each = let ids_are = last_split ids x is in all_middle P ids_are.0 x [] (rw ids_are.1 at each)
+pub at_end : (P : ℕ → Type 0) (end : End) (ids : List ℕ) (x : ℕ) → IsEnd end ids x → AllByRecursion P ids → P x
+at_end P First ids x at each = (rw at.1 at each).0
+at_end P Last ids x at each = all_middle P at.0 x [] (rw at.1 at each)
 
-module _ {K V : Type 0} {LEN : ℕ} (cmp : K → K → Ordering) where
-  -- a node that stands, and what its level says
-  pub record StandsAbove (level : ℕ) (a : TreeArenas K V LEN) (id : ℕ) : Type 0 where
-    pub below : ℕ
-    pub level_is : level ≡ suc below
-    pub below_is : level - 1 ≡ below
-    pub stands : Stands cmp (suc below) a None id None
+pub end_of_leaf : (end : End) (id : ℕ) → IsEnd end (id ∷ []) id
+end_of_leaf First id = ([], refl)
+end_of_leaf Last id = ([], refl)
 
-  pub stands_above : (level : ℕ) (a : TreeArenas K V LEN) (id : ℕ) → 0 < level → Stands cmp level a None id None → StandsAbove level a id
-  stands_above zero a id inner s = absurd (omega (arith, inner))
-  stands_above (suc level) a id inner s = record { below = level; level_is = refl; below_is = sub-one (suc level); stands = s }
+module _ {K V : Type 0} {LEN : ℕ} {cmp : K → K → Ordering} {level : ℕ} {old : TreeArenas K V LEN} {id first last : ℕ} (part : IsPart cmp level old id)
+    (at_first : IsEnd First (leaves_at level old.nodes id) first) (at_last : IsEnd Last (leaves_at level old.nodes id) last) where
+  abbrev ids : List ℕ
+  ids = leaves_at level old.nodes id
 
-  module _ (level : ℕ) (a : TreeArenas K V LEN) (id : ℕ) (above : StandsAbove level a id) where
-    pub used : IsSome (get a.nodes id)
-    used = rw above.stands.here refl
+  -- the leaves of the part, by its first one and by its last one
+  from_first : (front back : List ℕ) → IsChain old.leaves (front ++ (ids ++ back)) → IsChain old.leaves (front ++ first ∷ (at_first.0 ++ back))
+  from_first front back chain = rw at_first.1 at chain
 
-    module _ (node : NodeOf K LEN) (here : get a.nodes id ≡ Some node) where
-      pub last_is : unbounded node ≡ Some above.stands.last
-      last_is = ap unbounded (sym (node_is above.below a None id None above.stands node here)) ∙ above.stands.last_is
-
-      pub has_last : IsSome (unbounded node)
-      has_last = rw last_is refl
-
-      pub kind_is : HasKind above.below node
-      kind_is = rw (node_is above.below a None id None above.stands node here) at above.stands.kind
-
-      pub kind_below : HasKind (level - 1) node
-      kind_below = rw above.below_is kind_is
-
-      pub each_stands : AllByRecursion (λ x. Stands cmp above.below a None x None) (node_children (Some node))
-      each_stands = rw last_is (children_stand cmp a id above.below node here above.stands above.stands.last last_is)
-
-      module _ (end : End) (child : ℕ) (at : end_of end (node_children (Some node)) ≡ Some child) where
-        pub end_stands : Stands cmp (level - 1) a None child None
-        end_stands = rw above.below_is (at_end (λ x. Stands cmp above.below a None x None) end (node_children (Some node)) child at each_stands)
-
-        pub end_is : (leaf : ℕ) → end_of end (leaves_at (level - 1) a.nodes child) ≡ Some leaf → end_of end (leaves_at level a.nodes id) ≡ Some leaf
-        end_is leaf below = rw (above.level_is, here) (end_below a.nodes above.below end (node_children (Some node)) child leaf at (rw above.below_is at below))
-
--- a node stands at any level but that of leaves
-pub above_leaves : (level id : ℕ) → IsAt level (Node id) → 0 < level
-above_leaves zero id kind = absurd kind
-above_leaves (suc level) id kind = omega arith
-
-pub at_leaves : (level id : ℕ) → IsAt level (Leaf id) → level ≡ 0
-at_leaves zero id kind = refl
-at_leaves (suc level) id kind = absurd kind
-
-pub chain_agrees : {K V : Type 0} {LEN : ℕ} (s t : Slab (LeafOf K V LEN)) (ids : List ℕ) → ((n : ℕ) → 1 ≤ times n ids → get t n ≡ get s n) → IsChain s ids → IsChain t ids
-chain_agrees s t ids same chain = record {
-  once = λ n. still_once s t ids n same (chain.once n);
-  linked = linked_kept s t None ids None same chain.linked;
-}
-
-module _ {K V : Type 0} {LEN : ℕ} (cmp : K → K → Ordering) (level : ℕ) (old : TreeArenas K V LEN) (id first last : ℕ) (part : IsPart cmp level old id)
-    (at_first : end_of First (leaves_at level old.nodes id) ≡ Some first) (at_last : end_of Last (leaves_at level old.nodes id) ≡ Some last) where
-  is_first : (rest : List ℕ) × (leaves_at level old.nodes id ≡ first ∷ rest)
-  is_first = first_split _ first at_first
-
-  is_last : (front : List ℕ) × (leaves_at level old.nodes id ≡ front ++ last ∷ [])
-  is_last = last_split _ last at_last
-
-  leaves_once : (n : ℕ) → times n (leaves_at level old.nodes id) ≤ uses old.leaves n
-  leaves_once = leaves_once_in level old id part
-
-  from_first : (front back : List ℕ) → IsChain old.leaves (front ++ (leaves_at level old.nodes id ++ back)) → IsChain old.leaves (front ++ first ∷ (is_first.0 ++ back))
-  from_first front back chain = rw is_first.1 at chain
-
-  to_last : (front back : List ℕ) → IsChain old.leaves (front ++ (leaves_at level old.nodes id ++ back)) → IsChain old.leaves ((front ++ is_last.0) ++ last ∷ back)
+  to_last : (front back : List ℕ) → IsChain old.leaves (front ++ (ids ++ back)) → IsChain old.leaves ((front ++ at_last.0) ++ last ∷ back)
   to_last front back chain =
-      let split : front ++ (leaves_at level old.nodes id ++ back) ≡ (front ++ is_last.0) ++ last ∷ back = rw is_last.1 (simp append_assoc) in
+      let split : front ++ (ids ++ back) ≡ (front ++ at_last.0) ++ last ∷ back = rw at_last.1 (simp append_assoc) in
       rw split at chain
 
-  first_inside : 1 ≤ times first (leaves_at level old.nodes id)
-  first_inside = omega (arith, ap (times first) is_first.1, times-cons first first is_first.0, one_here first first refl)
-
-  last_inside : 1 ≤ times last (leaves_at level old.nodes id)
-  last_inside = omega (arith, ap (times last) is_last.1, times-append last is_last.0 (last ∷ []), times-cons last last [], one_here last last refl)
-
   pub first_used : IsSome (get old.leaves first)
-  first_used = in_use old.leaves first (omega (arith, leaves_once first, first_inside))
+  first_used = chain_used old.leaves part.front first (at_first.0 ++ part.back) (from_first part.front part.back part.chain)
 
   pub last_used : IsSome (get old.leaves last)
-  last_used = in_use old.leaves last (omega (arith, leaves_once last, last_inside))
+  last_used = chain_used old.leaves (part.front ++ at_last.0) last part.back (to_last part.front part.back part.chain)
 
-  module _ (leaf_first leaf_last : LeafOf K V LEN) (first_here : get old.leaves first ≡ Some leaf_first) (last_here : get old.leaves last ≡ Some leaf_last) where
-    pub left_used : (n : ℕ) → leaf_first.prev ≡ Some n → IsSome (get old.leaves n)
-    left_used n is = prev_used old.leaves part.front first (is_first.0 ++ part.back) (from_first part.front part.back part.chain) leaf_first first_here n is
+  -- and the leaves beside them
+  module _ {leaf_first leaf_last : LeafOf K V LEN} {left right : Option ℕ} (first_here : get old.leaves first ≡ Some leaf_first)
+      (last_here : get old.leaves last ≡ Some leaf_last) (left_is : left ≡ leaf_first.prev) (right_is : right ≡ leaf_last.next) where
+    pub beside_used : ((n : ℕ) → left ≡ Some n → IsSome (get old.leaves n)) × ((n : ℕ) → right ≡ Some n → IsSome (get old.leaves n))
+    beside_used = rw (left_is, right_is) (
+      prev_used old.leaves part.front first (at_first.0 ++ part.back) (from_first part.front part.back part.chain) leaf_first first_here,
+      next_used old.leaves (part.front ++ at_last.0) last part.back (to_last part.front part.back part.chain) leaf_last last_here,
+    )
 
-    pub right_used : (n : ℕ) → leaf_last.next ≡ Some n → IsSome (get old.leaves n)
-    right_used n is = next_used old.leaves (part.front ++ is_last.0) last part.back (to_last part.front part.back part.chain) leaf_last last_here n is
-
-    module _ (mid : TreeArenas K V LEN) (spliced : Splices old mid leaf_first.prev leaf_last.next) where
-      spliced_chain : (front back : List ℕ) → IsChain old.leaves (front ++ (leaves_at level old.nodes id ++ back)) → IsChain mid.leaves (front ++ back)
-      spliced_chain front back chain =
-          spliced.chained front (leaves_at level old.nodes id) back
-          (neighbours old.leaves front first (is_first.0 ++ back) (from_first front back chain) leaf_first first_here).0
-          (neighbours old.leaves (front ++ is_last.0) last back (to_last front back chain) leaf_last last_here).1
-          chain
+    module _ {mid : TreeArenas K V LEN} (splices : Splices old mid left right) where
+      spliced : Splices old mid leaf_first.prev leaf_last.next
+      spliced = rw (left_is, right_is) at splices
 
       agrees : Agrees level old mid id
-      agrees = record { nodes = λ m inside. ap (λ (s : Slab (NodeOf K LEN)). get s m) spliced.nodes; leaves = λ m inside. spliced.kept m }
+      agrees = record { nodes = λ m inside. rw spliced.nodes refl; leaves = λ m inside. spliced.kept m }
 
       pub spliced_walk : walk level mid id ≡ walk level old id
       spliced_walk = same_walk level old mid id agrees
 
-      pub spliced_forest : IsForest cmp level mid (id ∷ [])
-      spliced_forest = record {
-        stand = (same_stands cmp level old mid id agrees None None part.stands, tt);
-        nodes_once = λ n. rw (single_nodes level mid.nodes id, spliced.nodes) (part.nodes_once n);
-        leaves_once = λ n. rw (single_leaves level mid.nodes id, spliced.nodes, same_array_uses old.leaves mid.leaves n (spliced.kept n)) (leaves_once n);
+      pub spliced_once : StandsOnce cmp level mid id
+      spliced_once = record {
+        stands = same_stands cmp level old mid id agrees None None part.stands;
+        nodes_once = λ n. rw spliced.nodes (part.nodes_once n);
+        leaves_once = λ n. rw (spliced.nodes, same_array_uses old.leaves mid.leaves n (spliced.kept n)) (leaves_once_in level old id part n);
       }
 
       -- the part is dropped
-      pub part_dropped : (new : TreeArenas K V LEN) → Frees level mid new (id ∷ []) → Replaces level old new (id ∷ []) []
-      part_dropped new frees =
+      pub part_dropped : {new : TreeArenas K V LEN} → Frees level mid new id → Replaces level old new (id ∷ []) []
+      part_dropped {new} frees =
+          let nodes : FreesIn old.nodes new.nodes (nodes_of level old.nodes (id ∷ [])) = rw (single_nodes level old.nodes id, ← spliced.nodes) frees.nodes in
+          let leaves : FreesIn mid.leaves new.leaves (leaves_of level old.nodes (id ∷ [])) = rw (single_leaves level old.nodes id, ← spliced.nodes) frees.leaves in
+          let same_uses = λ (n : ℕ). same_array_uses old.leaves mid.leaves n (spliced.kept n) in
           record {
-            nodes_kept = λ n used outside. frees.nodes_kept n (rw spliced.nodes outside) ∙ ap (λ (s : Slab (NodeOf K LEN)). get s n) spliced.nodes;
-            leaves_kept = λ n used outside. rw (frees.leaves_kept n (rw spliced.nodes outside)) (spliced.kept n);
+            nodes_kept = λ n used outside. nodes.kept n outside;
+            leaves_kept = λ n used outside. rw (leaves.kept n outside) (spliced.kept n);
             links_kept = λ n leaf apart.
-                let here = apart_from_fewer old.leaves (leaves_of level old.nodes (id ∷ [])) (leaves_at level old.nodes id) (λ m outside. rw single_leaves at outside) n leaf apart in
-                frees.leaves_kept n (rw spliced.nodes apart.outside)
+                let here = apart_from_fewer old.leaves (leaves_of level old.nodes (id ∷ [])) ids (λ m outside. rw single_leaves at outside) n leaf apart in
+                let begins : 1 ≤ times first ids = omega (arith, ap (times first) at_first.1, times-cons first first at_first.0, one_here first first refl) in
+                let ends : 1 ≤ times last ids =
+                omega (arith, ap (times last) at_last.1, times-append last at_last.0 (last ∷ []), times-cons last last [], one_here last last refl) in
+                leaves.kept n apart.outside
                 ∙ untouched_leaf _ _ _ _ _ spliced.next_changed spliced.prev_changed n
-                (not_before old.leaves n leaf apart.here part.front first (is_first.0 ++ part.back) (from_first part.front part.back part.chain) leaf_first first_here (leaves_at level old.nodes id) first_inside here)
-                (not_behind old.leaves n leaf apart.here (part.front ++ is_last.0) last part.back (to_last part.front part.back part.chain) leaf_last last_here (leaves_at level old.nodes id) last_inside here)
+                (not_before old.leaves n leaf apart.here part.front first (at_first.0 ++ part.back) (from_first part.front part.back part.chain)
+                leaf_first first_here ids begins here)
+                (not_behind old.leaves n leaf apart.here (part.front ++ at_last.0) last part.back (to_last part.front part.back part.chain)
+                leaf_last last_here ids ends here)
                 ∙ apart.here;
-            nodes_counted = λ n. let balance = rw spliced.nodes at (frees.nodes_counted n) in omega (arith, balance, times-nil n);
-            leaves_counted = λ n. let balance = rw spliced.nodes at (frees.leaves_counted n) in omega (arith, balance, times-nil n, same_array_uses old.leaves mid.leaves n (spliced.kept n));
+            nodes_counted = λ n. omega (arith, nodes.counted n, times-nil n);
+            leaves_counted = λ n. omega (arith, leaves.counted n, times-nil n, same_uses n);
             chained = λ front back chain.
-                let here : IsChain old.leaves (front ++ (leaves_at level old.nodes id ++ back)) = rw (single_leaves level old.nodes id) at chain in
-                chain_agrees mid.leaves new.leaves (front ++ back)
-                (λ n inside.
-                frees.leaves_kept n (rw (single_leaves level mid.nodes id, spliced.nodes)
-                (omega (arith, inside, times-append n front back, here.once n, times-append n front (leaves_at level old.nodes id ++ back), times-append n (leaves_at level old.nodes id) back, uses_le_one old.leaves n))))
-                (spliced_chain front back here);
+                let here : IsChain old.leaves (front ++ (ids ++ back)) = rw (single_leaves level old.nodes id) at chain in
+                let around : IsChain mid.leaves (front ++ back) =
+                spliced.chained front ids back
+                (neighbours old.leaves front first (at_first.0 ++ back) (from_first front back here) leaf_first first_here).0
+                (neighbours old.leaves (front ++ at_last.0) last back (to_last front back here) leaf_last last_here).1 here in
+                let once : (n : ℕ) → times n (front ++ back) + times n (leaves_of level old.nodes (id ∷ [])) ≤ uses mid.leaves n =
+                λ n. rw (single_leaves level old.nodes id) (omega (arith, here.once n, times-append n, same_uses n)) in
+                record {
+                  once = λ n. omega (arith, once n, leaves.counted n);
+                  linked = linked_kept mid.leaves new.leaves None (front ++ back) None
+                      (λ n inside. leaves.kept n (omega (arith, inside, once n, uses_le_one mid.leaves n))) around.linked;
+                };
           }
-
-pub end_of_leaf : (end : End) (id : ℕ) → end_of end (id ∷ []) ≡ Some id
-end_of_leaf First id = refl
-end_of_leaf Last id = refl
-
-pub leaf_used : {K V : Type 0} {LEN : ℕ} (cmp : K → K → Ordering) (a : TreeArenas K V LEN) (id : ℕ) → Stands cmp 0 a None id None → IsSome (get a.leaves id)
-leaf_used cmp a id s = rw s.here refl

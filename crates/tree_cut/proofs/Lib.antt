@@ -1,15 +1,9 @@
-pub mod Bounds
-pub mod ChildCuts
-pub mod Counts
-pub mod CutLeaves
+pub mod Common
 pub mod CutLoop
-pub mod EmptyParts
 pub mod Ends
-pub mod FreeNodes
 pub mod Frees
 pub mod NoEmpty
-pub mod NodeSteps
+pub mod Nodes
 pub mod OneChild
 pub mod Outside
-pub mod Tops
 pub mod Turns

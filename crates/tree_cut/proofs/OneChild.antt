@@ -1,275 +1,212 @@
--- One child of a node is changed, or dropped and taken out: what that makes of the part under the node.
-use Rattle.std.proofs.Common.{◌≡◌, ℕ, zero, suc, ◌≤◌, ◌<◌, List, [], ◌∷◌, ◌++◌, map, take, drop, length, length-append, slice_get, Option, Some, None, IsSome, refl, sym, ap, ◌∙◌, arith, append_assoc, Ordering, take-append-drop}
-use Rattle.tree_model.proofs.Common.{AllByRecursion, Bound, IsTotalOrder, tied_itself, map-append, cut, without}
-use Rattle.tree_array.proofs.Common.{Arrivals, arrival, all_map, all-append}
-use Rattle.tree_node.proofs.Common.{get, times, uses, TreeArenas, IsPart, KeepsBounds, Replaces, AreParted, Stands, children_of, in_turn, keyed, leaves_at, unbounded, walk}
-use Rattle.tree_node.specs.declared.node.NodeOf.{NodeOf}
-use Rattle.tree_node.proofs.Between.{without_between}
-use Rattle.tree_node.proofs.ChildrenStand.{children_stand}
-use Rattle.tree_node.proofs.Frames.{parted_map, Agrees, same_stands, same_walk}
-use Rattle.tree_node.proofs.Lifts.{back_agrees, child_is_part, front_agrees, leaves_once_in, lifted, node_stays}
-use Rattle.tree_node.proofs.Lists.{all_middle, flat_map_same}
-use Rattle.tree_node.proofs.Standing.{node_is}
-use Rattle.tree_node.proofs.Widens.{parted_without, separators_around, stands_wider}
-use Rattle.tree_clean_up.specs.CleanUps.{TakesKeyed}
-use Rattle.tree_borders.specs.Places.{keyed_or}
-use Rattle.tree_cut.specs.Cuts.{ChildBecomes, CutsUnder, HasNoEmpty, HasPair, OthersHaveNoEmpty}
-use Rattle.tree_model.proofs.Lists.{all_at}
-use Rattle.tree_cut.proofs.NoEmpty.{all_drop, all_take, and_one, keyed_dropped, keyed_taken, no_empty_same, pairs_same}
-use Rattle.tree_cut.proofs.Turns.{earlier_turns, later_turns, turn, turn_here}
+-- One child of a node is cut, or dropped and taken out: what that makes of the part under the node.
+use Rattle.tree_cut.proofs.Common.{sub-one, add-one, ◌≡◌, ◌≢◌, ℕ, zero, suc, ◌+◌, ◌-◌, ◌<◌, Bool, true, false, is_some, MatchOption, Option, List, [], ◌∷◌, ◌++◌, map, take, drop, length, slice_get, Some, None, refl, sym, ap, ◌∙◌, arith, flat_map, Ordering, append-nil, length-take-le, AllByRecursion, Bound, IsTotalOrder, Unbounded, flat_map-append, cut, all-append, arrival, get, TreeArenas, HasKind, IsPart, KeepsBounds, Replaces, Stands, children_of, in_turn, keyed, node_children, walk, NodeOf, TakesKeyed, CutsAt, CutsUnder, HasNoEmpty, HasPair, HasNoEmptyBut, keyed_of, drop_at, take_at, slice_get_within, all_at, filter_none, cut_whole, Agrees, parted_map, stands_each, child_placed, node_stays, all_yes, node_is, node_kept, part_after, replaces_trans, LosesKeyed, Siblings, loses_keyed, same_walks, siblings}
+use Rattle.tree_cut.proofs.NoEmpty.{all_beside, all_without, and_one, but_one, pair_same, same_no_empty}
+use Rattle.tree_cut.proofs.Turns.{TurnAt, keyed_child, length-turns, split_here, turn}
 
--- what stands before a place, and what comes there instead
-pub take_front : {X : Type 0} (place : ℕ) (xs ys : List X) → place ≤ length xs → take place (take place xs ++ ys) ≡ take place xs
-take_front zero xs ys within = refl
-take_front (suc place) [] ys within = absurd (omega (arith, within))
-take_front (suc place) (x ∷ xs) ys within = ap (λ rest. x ∷ rest) (take_front place xs ys (omega (arith, within)))
+pub open_cut : {K V : Type 0} (cmp : K → K → Ordering) (xs : List (K × V)) → cut cmp xs Unbounded Unbounded ≡ []
+open_cut cmp xs = filter_none _ xs (all_yes (λ x. refl) xs)
 
-pub drop_front : {X : Type 0} (place : ℕ) (xs ys : List X) → place ≤ length xs → drop place (take place xs ++ ys) ≡ ys
-drop_front zero xs ys within = refl
-drop_front (suc place) [] ys within = absurd (omega (arith, within))
-drop_front (suc place) (x ∷ xs) ys within = drop_front place xs ys (omega (arith, within))
+module _ {K V : Type 0} {LEN : ℕ} (cmp : K → K → Ordering) where
+  -- what stands at a place of a node, and what a change of it makes of the node
+  pub record ChildAt (level below : ℕ) (old : TreeArenas K V LEN) (id place child : ℕ) (node : NodeOf K LEN) : Type 0 where
+    pub kind : HasKind below node
+    pub part : IsPart cmp below old child
+    pub no_empty : HasNoEmpty level old id → HasNoEmpty below old child
+    pub but_one : HasNoEmpty level old id → HasNoEmptyBut below old id place
+    pub stays : {new : TreeArenas K V LEN} {ids : List ℕ} → Replaces below old new (child ∷ []) ids → get new.nodes id ≡ Some node
+    -- the child is cut
+    pub cuts : {low high : Bound K} {new : TreeArenas K V LEN} {gone : ℕ} → CutsUnder cmp low high below old new child gone
+        → CutsAt cmp low high level below old new id place gone
+    pub others : {low high : Bound K} {new : TreeArenas K V LEN} {gone : ℕ} → CutsUnder cmp low high below old new child gone → HasNoEmpty level old id
+        → HasNoEmptyBut below new id place
+    -- and has a pair left, if it is a keyed one
+    pub left : {low high : Bound K} {new : TreeArenas K V LEN} {gone : ℕ} → CutsUnder cmp low high below old new child gone → HasNoEmpty level old id
+        → ((c : K × ℕ) → slice_get (keyed node).entries place ≡ Some c → HasPair below new child) → HasNoEmpty level new id
+    -- or is dropped, and taken out of the node by the slot of its separator
+    pub drops : {mid new : TreeArenas K V LEN} {slot : ℕ}
+        → (pair : K × ℕ) × (arrival (keyed node).arrivals slot ≡ Some pair) × (slice_get (keyed node).entries place ≡ Some pair)
+        → Replaces below old mid (child ∷ []) [] → TakesKeyed cmp mid.nodes new.nodes id slot → new.leaves ≡ mid.leaves
+        → CutsAt cmp Unbounded Unbounded level below old new id place (length (walk below old child)) × (HasNoEmptyBut below old id place → HasNoEmpty level new id)
 
-pub split_here : {X : Type 0} (xs : List X) (place : ℕ) (x : X) → slice_get xs place ≡ Some x → (drop place xs ≡ x ∷ drop (suc place) xs) × (place < length xs)
-split_here [] place x is = absurd (cc)
-split_here (y ∷ xs) zero x is = let same : y ≡ x = cc in (rw same refl, omega arith)
-split_here (y ∷ xs) (suc place) x is = let later = split_here xs place x is in (later.0, omega (arith, later.1))
-
-length-turns : {K : Type 0} (pairs : List (K × ℕ)) (last place : ℕ) → place ≤ length pairs → place ≤ length (in_turn pairs (Some last))
-length-turns [] last place within = omega (arith, within)
-length-turns (c ∷ pairs) last zero within = omega arith
-length-turns (c ∷ pairs) last (suc place) within = omega (arith, length-turns pairs last place (omega (arith, within)))
-
-module _ {K V : Type 0} {LEN : ℕ} {cmp : K → K → Ordering} (o : IsTotalOrder cmp) (level : ℕ) (old : TreeArenas K V LEN) (id place child : ℕ) (part : IsPart cmp (suc level) old id) where
-  abbrev st : Stands cmp (suc level) old None id None
-  st = part.stands
-
+module _ {K V : Type 0} {LEN : ℕ} {cmp : K → K → Ordering} (o : IsTotalOrder cmp) (level : ℕ) (old : TreeArenas K V LEN) (id place child : ℕ)
+    (part : IsPart cmp (suc level) old id)
+    (st : Stands cmp (suc level) old None id None) (at : TurnAt (keyed st.node).entries st.last place child) where
   abbrev pairs : List (K × ℕ)
   pairs = (keyed st.node).entries
 
-  abbrev all : List ℕ
-  all = in_turn pairs (Some st.last)
+  abbrev front : List ℕ
+  front = take place (in_turn pairs (Some st.last))
 
-  module _ (at : keyed_or (slice_get pairs place) (Some st.last) ≡ Some child) (within : place ≤ length pairs) where
-    abbrev front : List ℕ
-    front = take place all
+  abbrev back : List ℕ
+  back = drop (suc place) (in_turn pairs (Some st.last))
 
-    abbrev back : List ℕ
-    back = drop (suc place) all
+  children_are : children_of old.nodes id ≡ in_turn pairs (Some st.last)
+  children_are = rw (st.here, st.last_is) refl
 
-    children_are : children_of old.nodes id ≡ all
-    children_are = rw (st.here, st.last_is) refl
+  was : children_of old.nodes id ≡ front ++ (child ∷ [] ++ back)
+  was = children_are ∙ rw add-one at (cut_whole (in_turn pairs (Some st.last)) place child at.here)
 
-    split : all ≡ front ++ (child ∷ [] ++ back)
-    split = sym (take-append-drop place all) ∙ ap (λ xs. take place all ++ xs) (turn pairs st.last place child at within)
+  front_long : length front ≡ place
+  front_long = length-take-le place (in_turn pairs (Some st.last)) (omega (arith, at.within, length-turns pairs (Some st.last) refl))
 
-    was : children_of old.nodes id ≡ front ++ (child ∷ [] ++ back)
-    was = children_are ∙ split
+  same_node : (new : TreeArenas K V LEN) (ids : List ℕ) → Replaces level old new (child ∷ []) ids → get new.nodes id ≡ get old.nodes id
+  same_node = node_stays level old id part front child back was
 
-    in_reach : place ≤ length all
-    in_reach = length-turns pairs st.last place within
+  child_no_empty : HasNoEmpty (suc level) old id → HasNoEmpty level old child
+  child_no_empty none_empty = all_at (HasNoEmpty level old) _ place child (rw children_are at none_empty.1) at.here
 
-    leaves_once : (n : ℕ) → times n (leaves_at (suc level) old.nodes id) ≤ uses old.leaves n
-    leaves_once = leaves_once_in (suc level) old id part
+  -- the child has become `left`, and the others stay
+  module _ (new : TreeArenas K V LEN) (left : List ℕ) (s : Siblings level old new id front (child ∷ []) left back) where
+    changed : (low high : Bound K) (gone : ℕ) → flat_map (walk level new) left ≡ cut cmp (walk level old child) low high
+        → gone + length (cut cmp (walk level old child) low high) ≡ length (walk level old child) → take place (keyed_of (get new.nodes id)) ≡ take place pairs
+        → KeepsBounds cmp (suc level) old new id
+        → CutsAt cmp low high (suc level) level old new id place gone
+    changed low high gone left_is counted separators stands = record {
+      child = child;
+      here = rw children_are at.here;
+      counted = counted;
+      front = rw (s.now, take_at front (left ++ back) place front_long, children_are) (same_walks level old new front s.fronts);
+      back =
+          rw (s.now, drop_at front (left ++ back) place front_long, children_are)
+          (rw (flat_map-append (walk level new) left back, left_is, same_walks level old new back s.backs) refl);
+      separators = rw st.here separators;
+      stands = stands;
+      replaces = s.replaces;
+    }
 
-    each_stands : AllByRecursion (λ x. Stands cmp level old None x None) (front ++ child ∷ back)
-    each_stands =
-        let last_is : unbounded st.node ≡ Some st.last = st.last_is in
-        let each : AllByRecursion (λ x. Stands cmp level old None x None) all = children_stand cmp old id level st.node st.here st st.last last_is in
-        rw split at each
+    beside : (n x : ℕ) → slice_get (in_turn pairs (Some st.last)) n ≡ Some x → n ≢ place → Agrees level old new x
+    beside = all_beside (Agrees level old new) place (in_turn pairs (Some st.last)) s.fronts s.backs
 
-    -- the child is a part itself
-    pub child_part : IsPart cmp level old child
-    child_part = child_is_part level old id part front child back was (all_middle (λ x. Stands cmp level old None x None) front child back each_stands)
+    -- what holds of the children beside it
+    kept : HasNoEmptyBut level old id place → ((n : ℕ) (c : K × ℕ) → slice_get pairs n ≡ Some c → n ≢ place → HasPair level new c.1)
+        × ((n x : ℕ) → slice_get (in_turn pairs (Some st.last)) n ≡ Some x → n ≢ place → HasNoEmpty level new x)
+    kept others = (
+      λ n c is differs.
+          let turn = rw st.last_is at (keyed_child (Some st.node) n c is) in
+          pair_same old new level c.1 (beside n c.1 turn differs) (others.pairs n c (rw st.here is) differs),
+      λ n x is differs. same_no_empty old new level x (beside n x is differs) (others.below n x (rw children_are is) differs),
+    )
 
-    -- the node stays while its child is changed or dropped
-    pub same_node : (mid : TreeArenas K V LEN) (ids : List ℕ) → Replaces level old mid (child ∷ []) ids → get mid.nodes id ≡ get old.nodes id
-    same_node = node_stays level old id part front child back was
+  -- the child is cut
+  module _ {low high : Bound K} {new : TreeArenas K V LEN} {gone : ℕ} (cuts : CutsUnder cmp low high level old new child gone) where
+    kept_node : get new.nodes id ≡ get old.nodes id
+    kept_node = same_node new (child ∷ []) cuts.replaces
 
-    pub child_listed : slice_get all place ≡ Some child
-    child_listed = turn_here pairs st.last place child at within
+    cut_beside : Siblings level old new id front (child ∷ []) (child ∷ []) back
+    cut_beside = siblings part cuts.replaces was (rw kept_node was) (λ n differs. refl) (rw (kept_node, st.here) refl) refl
 
-    pub child_no_empty : HasNoEmpty (suc level) old id → HasNoEmpty level old child
-    child_no_empty none_empty = all_at (HasNoEmpty level old) all place child (rw children_are at none_empty.1) child_listed
+    cut_keeps : KeepsBounds cmp (suc level) old new id
+    cut_keeps above below s =
+        let each : AllByRecursion (λ x. KeepsBounds cmp level old new x) (children_of old.nodes id) =
+        rw was (all-append _ front (child ∷ back) (stands_each cmp level old new front cut_beside.fronts)
+        (cuts.stands, stands_each cmp level old new back cut_beside.backs)) in
+        node_kept s kept_node (parted_map cmp (Stands cmp level old) (Stands cmp level new) above _ _ below (rw (s.here, s.last_is) at each) s.parted)
 
-    -- the node at other bounds
-    module _ (low high : Option K) (s : Stands cmp (suc level) old low id high) where
-      node_same : s.node ≡ st.node
-      node_same = node_is level old low id high s st.node st.here
+    cut_child : CutsAt cmp low high (suc level) level old new id place gone
+    cut_child =
+        changed new (child ∷ []) cut_beside low high gone (append-nil (walk level new child) ∙ cuts.pairs) (rw (← cuts.pairs) cuts.counted)
+        (rw (kept_node, st.here) refl) cut_keeps
 
-      last_same : s.last ≡ st.last
-      last_same = let both : Some s.last ≡ Some st.last = sym s.last_is ∙ ap unbounded node_same ∙ st.last_is in cc
+    cut_others : HasNoEmpty (suc level) old id → HasNoEmptyBut level new id place
+    cut_others none_empty =
+        let each = kept new (child ∷ []) cut_beside (but_one level old id place none_empty) in
+        record { pairs = λ n c is. each.0 n c (rw (kept_node, st.here) at is); below = λ n x is. each.1 n x (rw (kept_node, children_are) at is) }
 
-      parted_here : AreParted cmp (Stands cmp level old) low pairs st.last high
-      parted_here = rw (node_same, last_same) at s.parted
+    cut_left : HasNoEmpty (suc level) old id → ((c : K × ℕ) → slice_get pairs place ≡ Some c → HasPair level new child) → HasNoEmpty (suc level) new id
+    cut_left none_empty has_pair =
+        and_one level new id place (cut_others none_empty)
+        (λ c is.
+        let found : slice_get pairs place ≡ Some c = rw (kept_node, st.here) at is in
+        let same : c.1 ≡ child = cc (rw st.last_is at (keyed_child (Some st.node) place c found), at.here) in
+        rw same (has_pair c found))
+        (λ x is.
+        let same : x ≡ child = cc (rw (kept_node, children_are) at is, at.here) in
+        rw same (cuts.no_empty (child_no_empty none_empty)))
 
-    -- the child is cut
-    module _ (low_bound high_bound : Bound K) (new : TreeArenas K V LEN) (gone : ℕ) (cuts : CutsUnder cmp low_bound high_bound level old new child gone) where
-      kept_node : get new.nodes id ≡ get old.nodes id
-      kept_node = same_node new (child ∷ []) cuts.replaces
+  -- the child is dropped, and taken out by the slot of its separator
+  module _ (mid new : TreeArenas K V LEN) (slot : ℕ)
+      (found : (pair : K × ℕ) × (arrival (keyed st.node).arrivals slot ≡ Some pair) × (slice_get (keyed st.node).entries place ≡ Some pair))
+      (dropped : Replaces level old mid (child ∷ []) []) (takes : TakesKeyed cmp mid.nodes new.nodes id slot) (leaves : new.leaves ≡ mid.leaves) where
+    same : found.0.1 ≡ child
+    same = cc (rw st.last_is at (keyed_child (Some st.node) place found.0 found.2), at.here)
 
-      now : children_of new.nodes id ≡ front ++ (child ∷ [] ++ back)
-      now = rw kept_node was
+    there : slice_get pairs place ≡ Some (found.0.0, child)
+    there = found.2 ∙ ap (λ (x : ℕ). Some (found.0.0, x)) same
 
-      here : IsSome (get new.nodes id)
-      here = rw (kept_node, st.here) refl
+    loses : LosesKeyed cmp level old new id (take place pairs) (drop (suc place) pairs) st.last
+    loses =
+        loses_keyed o level old mid new id child slot st (same_node mid [] dropped) takes found.0.0 (take place pairs) (drop (suc place) pairs)
+        (rw add-one at (cut_whole pairs place (found.0.0, child) there)) (found.1 ∙ ap (λ (x : ℕ). Some (found.0.0, x)) same)
 
-      fronts : AllByRecursion (λ x. Agrees level old new x) front
-      fronts = front_agrees level old new new id front (child ∷ []) (child ∷ []) back cuts.replaces was now part.nodes_once leaves_once (λ n differs. refl) here refl
+    back_is : back ≡ map (λ c. c.1) (drop (suc place) pairs) ++ st.last ∷ []
+    back_is = at.behind ∙ rw (split_here pairs place (found.0.0, child) there) refl
 
-      backs : AllByRecursion (λ x. Agrees level old new x) back
-      backs = back_agrees level old new new id front (child ∷ []) (child ∷ []) back cuts.replaces was now part.nodes_once leaves_once (λ n differs. refl) here refl
+    drop_beside : Siblings level old new id front (child ∷ []) [] back
+    drop_beside = siblings part dropped was (rw (at.before, back_is) loses.children) takes.updates.others (rw loses.here refl) leaves
 
-      still_stand : AllByRecursion (λ x. KeepsBounds cmp level old new x) all
-      still_stand =
-          rw split
-          (all-append _ front (child ∷ back) (all_map (λ x same. same_stands cmp level old new x same) _ fronts)
-          (cuts.stands, all_map (λ x same. same_stands cmp level old new x same) _ backs))
+    drop_child : CutsAt cmp Unbounded Unbounded (suc level) level old new id place (length (walk level old child))
+        × (HasNoEmptyBut level old id place → HasNoEmpty (suc level) new id)
+    drop_child = (
+      changed new [] drop_beside Unbounded Unbounded (length (walk level old child)) (sym (open_cut cmp (walk level old child)))
+          (rw (open_cut cmp (walk level old child)) (omega arith))
+          (rw (loses.here, loses.entries) (take_at (take place pairs) (drop (suc place) pairs) place (length-take-le place pairs at.within)))
+          (loses.keeps (rw (← at.before, ← back_is)
+          (all-append _ front back (stands_each cmp level old new front drop_beside.fronts) (stands_each cmp level old new back drop_beside.backs)))),
+      λ others.
+          let each = kept new [] drop_beside others in
+          (rw (loses.here, loses.entries) (all_without _ place pairs each.0), rw drop_beside.now (all_without _ place (in_turn pairs (Some st.last)) each.1)),
+    )
 
-      pub cut_becomes : ChildBecomes cmp level old new id place child (cut cmp (walk level old child) low_bound high_bound)
-      cut_becomes = record {
-        here = rw children_are child_listed;
-        front = rw (kept_node, children_are) (flat_map_same (walk level new) (walk level old) front (all_map (λ x same. same_walk level old new x same) _ fronts));
-        back =
-            rw (
-              kept_node,
-              children_are,
-              turn pairs st.last place child at within,
-              cuts.pairs,
-              flat_map_same (walk level new) (walk level old) back (all_map (λ x same. same_walk level old new x same) _ backs),
-            ) refl;
-        separators = rw kept_node refl;
-        stands = λ low high s. record {
-          node = s.node;
-          here = kept_node ∙ s.here;
-          kind = s.kind;
-          last = s.last;
-          last_is = s.last_is;
-          few = s.few;
-          parted = rw (node_same low high s, last_same low high s) (parted_map cmp (Stands cmp level old) (Stands cmp level new) low pairs st.last high still_stand (parted_here low high s));
-        };
-        replaces = lifted level old new new id front (child ∷ []) (child ∷ []) back cuts.replaces was now part.nodes_once leaves_once (λ n differs. refl) here refl;
+  at_level : ChildAt cmp (suc level) level old id place child st.node
+  at_level = record {
+    kind = st.kind;
+    part = child_placed level old id part front child back was;
+    no_empty = child_no_empty;
+    but_one = but_one level old id place;
+    stays = λ {new} {ids} r. same_node new ids r ∙ st.here;
+    cuts = cut_child;
+    others = cut_others;
+    left = cut_left;
+    drops = λ {mid} {new} {slot}. drop_child mid new slot;
+  }
+
+module _ {K V : Type 0} {LEN : ℕ} {cmp : K → K → Ordering} (o : IsTotalOrder cmp) where
+  pub child_at : (level : ℕ) {place : ℕ} {old : TreeArenas K V LEN} {id child : ℕ} {node : NodeOf K LEN} → 0 < level → IsPart cmp level old id
+      → get old.nodes id ≡ Some node → slice_get (node_children (Some node)) place ≡ Some child → ChildAt cmp level (level - 1) old id place child node
+  child_at zero inner part here is = absurd (omega (arith, inner))
+  child_at (suc level) {place} {old} {id} {child} {node} inner part here is =
+      let s : Stands cmp (suc level) old None id None = part.stands in
+      let same : s.node ≡ node = node_is level old None id None s node here in
+      rw (sub-one (suc level), ← same) (at_level o level old id place child part s (turn (keyed s.node).entries s.last place child (rw (← same, s.last_is) at is)))
+
+-- a keyed child is there where its slot was read, and only there
+pub slot_told : {K : Type 0} {LEN : ℕ} {read : Bool} (node : NodeOf K LEN) (place : ℕ) (slot : Option ℕ) → read ≡ is_some slot
+    → MatchOption slot (slice_get (keyed node).entries place ≡ None)
+    (λ s. (pair : K × ℕ) × (arrival (keyed node).arrivals s ≡ Some pair) × (slice_get (keyed node).entries place ≡ Some pair))
+    → (read ≡ true → place < length (keyed node).entries) × (read ≡ false → slice_get (keyed node).entries place ≡ None)
+slot_told node place None is found = (λ some. absurd (cc), λ none. found)
+slot_told node place (Some slot) is found = (λ some. slice_get_within _ place found.0 found.2, λ none. absurd (cc))
+
+module _ {K V : Type 0} {LEN : ℕ} {cmp : K → K → Ordering} {low high : Bound K} {level below : ℕ} {old mid : TreeArenas K V LEN} {id place gone : ℕ}
+    (cuts : CutsAt cmp low high level below old mid id place gone) where
+  -- the node is a part still
+  pub part_left : IsPart cmp level old id → IsPart cmp level mid id
+  part_left part = part_after cmp level old mid id part (cuts.stands None None part.stands) cuts.replaces
+
+  -- a child of which nothing is left is dropped
+  pub empty_drop : {new : TreeArenas K V LEN} {more child : ℕ} → CutsAt cmp Unbounded Unbounded level below mid new id place more
+      → slice_get (children_of mid.nodes id) place ≡ Some child → walk below mid child ≡ [] → CutsAt cmp low high level below old new id place gone
+  empty_drop {new} {child = child} drops there none =
+      let same : flat_map (walk below mid) (drop place (children_of mid.nodes id)) ≡ flat_map (walk below mid) (drop (suc place) (children_of mid.nodes id)) =
+      rw (split_here (children_of mid.nodes id) place child there, none) refl in
+      let back = rw (open_cut cmp (walk below mid drops.child)) at drops.back in
+      record {
+        child = cuts.child;
+        here = cuts.here;
+        counted = cuts.counted;
+        front = drops.front ∙ cuts.front;
+        back = back ∙ sym same ∙ cuts.back;
+        separators = drops.separators ∙ cuts.separators;
+        stands = λ above below s. drops.stands above below (cuts.stands above below s);
+        replaces = replaces_trans level old mid new (id ∷ []) (id ∷ []) (id ∷ []) cuts.replaces drops.replaces;
       }
-
-      pub cut_others : HasNoEmpty (suc level) old id → OthersHaveNoEmpty level new id place
-      cut_others none_empty =
-          let pair_each : AllByRecursion (λ c. HasPair level old c.1) pairs = rw st.here at none_empty.0 in
-          let each : AllByRecursion (HasNoEmpty level old) all = rw children_are at none_empty.1 in
-          record {
-            keyed_before = rw (kept_node, st.here) (pairs_same level old new (take place pairs) (keyed_taken (Agrees level old new) pairs st.last place fronts) (all_take _ place pairs pair_each));
-            keyed_behind = rw (kept_node, st.here) (pairs_same level old new (drop (suc place) pairs) (keyed_dropped (Agrees level old new) pairs st.last (suc place) backs) (all_drop _ (suc place) pairs pair_each));
-            before = rw (kept_node, children_are) (no_empty_same level old new front fronts (all_take _ place all each));
-            behind = rw (kept_node, children_are) (no_empty_same level old new back backs (all_drop _ (suc place) all each));
-          }
-
-      -- the child has a pair left, if it is a keyed one
-      pub cut_no_empty : HasNoEmpty (suc level) old id → ((c : K × ℕ) → slice_get pairs place ≡ Some c → HasPair level new child) → HasNoEmpty (suc level) new id
-      cut_no_empty none_empty has_pair =
-          and_one level new id place (cut_others none_empty)
-          (λ c is.
-          let found : slice_get pairs place ≡ Some c = rw (kept_node, st.here) at is in
-          let both : Some c.1 ≡ Some child = rw found at at in
-          let same : c.1 ≡ child = cc in
-          rw same (has_pair c found))
-          (λ x is.
-          let found : slice_get all place ≡ Some x = rw (kept_node, children_are) at is in
-          let both : Some x ≡ Some child = sym found ∙ child_listed in
-          let same : x ≡ child = cc in
-          rw same (cuts.no_empty (child_no_empty none_empty)))
-
-    -- the child is dropped, and taken out by the slot of its separator
-    module _ (separator : K) (slot : ℕ) (there : slice_get pairs place ≡ Some (separator, child)) (read : arrival (keyed st.node).arrivals slot ≡ Some (separator, child))
-        (mid new : TreeArenas K V LEN) (r : Replaces level old mid (child ∷ []) []) (takes : TakesKeyed cmp mid.nodes new.nodes id slot) (leaves : new.leaves ≡ mid.leaves) where
-      abbrev before : List (K × ℕ)
-      before = take place pairs
-
-      abbrev after : List (K × ℕ)
-      after = drop (suc place) pairs
-
-      pairs_are : pairs ≡ before ++ (separator, child) ∷ after
-      pairs_are = sym (take-append-drop place pairs) ∙ ap (λ xs. take place pairs ++ xs) (split_here pairs place (separator, child) there).0
-
-      node_was : takes.node ≡ st.node
-      node_was = let both : Some takes.node ≡ Some st.node = sym takes.was ∙ same_node mid [] r ∙ st.here in cc
-
-      pair_was : takes.pair ≡ (separator, child)
-      pair_was =
-          let found = rw node_was at takes.there in
-          let both : Some takes.pair ≡ Some (separator, child) = sym found ∙ read in
-          cc
-
-      parted_around : (low high : Option K) → Stands cmp (suc level) old low id high → AreParted cmp (Stands cmp level old) low (before ++ (separator, child) ∷ after) st.last high
-      parted_around low high s = rw pairs_are at (parted_here low high s)
-
-      left_are : (keyed takes.left).entries ≡ before ++ after
-      left_are =
-          let around = separators_around o (Stands cmp level old) None before separator child after st.last None (parted_around None None st) in
-          ap (λ (x : Arrivals K ℕ). x.entries) takes.others
-          ∙ ap (λ (n : NodeOf K LEN). without cmp (keyed n).entries takes.pair.0) node_was
-          ∙ ap (λ (c : K × ℕ). without cmp pairs c.0) pair_was
-          ∙ ap (λ (xs : List (K × ℕ)). without cmp xs separator) pairs_are
-          ∙ rw (without_between o separator before ((separator, child) ∷ []) after around.0 around.1, tied_itself o separator) refl
-
-      last_left : unbounded takes.left ≡ Some st.last
-      last_left = takes.same_unbounded ∙ ap unbounded node_was ∙ st.last_is
-
-      front_is : front ≡ map (λ c. c.1) before
-      front_is = earlier_turns pairs st.last place within
-
-      back_is : back ≡ map (λ c. c.1) after ++ st.last ∷ []
-      back_is = later_turns pairs st.last place within ∙ rw (split_here pairs place (separator, child) there).0 refl
-
-      both_are : map (λ c. c.1) (before ++ after) ++ st.last ∷ [] ≡ front ++ back
-      both_are = rw (front_is, back_is, map-append (λ (c : K × ℕ). c.1) before) (append_assoc (map (λ c. c.1) before) (map (λ c. c.1) after) (st.last ∷ []))
-
-      gone_now : children_of new.nodes id ≡ front ++ ([] ++ back)
-      gone_now = rw (takes.updates.changed, left_are, last_left) both_are
-
-      gone_here : IsSome (get new.nodes id)
-      gone_here = rw takes.updates.changed refl
-
-      gone_fronts : AllByRecursion (λ x. Agrees level old new x) front
-      gone_fronts = front_agrees level old mid new id front (child ∷ []) [] back r was gone_now part.nodes_once leaves_once takes.updates.others gone_here leaves
-
-      gone_backs : AllByRecursion (λ x. Agrees level old new x) back
-      gone_backs = back_agrees level old mid new id front (child ∷ []) [] back r was gone_now part.nodes_once leaves_once takes.updates.others gone_here leaves
-
-      others_stand : AllByRecursion (λ x. KeepsBounds cmp level old new x) (map (λ c. c.1) (before ++ after) ++ st.last ∷ [])
-      others_stand =
-          rw both_are
-          (all-append _ front back (all_map (λ x same. same_stands cmp level old new x same) _ gone_fronts) (all_map (λ x same. same_stands cmp level old new x same) _ gone_backs))
-
-      pub drop_becomes : ChildBecomes cmp level old new id place child []
-      drop_becomes = record {
-        here = rw children_are child_listed;
-        front =
-            rw (gone_now, take_front place all back in_reach, children_are)
-            (flat_map_same (walk level new) (walk level old) front (all_map (λ x same. same_walk level old new x same) _ gone_fronts));
-        back =
-            rw (gone_now, drop_front place all back in_reach, children_are)
-            (flat_map_same (walk level new) (walk level old) back (all_map (λ x same. same_walk level old new x same) _ gone_backs));
-        separators = rw (takes.updates.changed, left_are, st.here) (take_front place pairs after within);
-        stands = λ low high s. record {
-          node = takes.left;
-          here = takes.updates.changed;
-          kind = takes.kind level (rw node_was st.kind);
-          last = st.last;
-          last_is = last_left;
-          few = rw left_are (omega (arith, st.few, ap length pairs_are, length-append before ((separator, child) ∷ after), length-append before after));
-          parted = rw left_are
-              (parted_map cmp (Stands cmp level old) (Stands cmp level new) low (before ++ after) st.last high others_stand
-              (parted_without o (Stands cmp level old) (stands_wider o level old) low before separator child after st.last high (parted_around low high s)));
-        };
-        replaces = lifted level old mid new id front (child ∷ []) [] back r was gone_now part.nodes_once leaves_once takes.updates.others gone_here leaves;
-      }
-
-      pub drop_no_empty : OthersHaveNoEmpty level old id place → HasNoEmpty (suc level) new id
-      drop_no_empty others =
-          let pair_before : AllByRecursion (λ c. HasPair level old c.1) before = rw st.here at others.keyed_before in
-          let pair_after : AllByRecursion (λ c. HasPair level old c.1) after = rw st.here at others.keyed_behind in (
-            rw (takes.updates.changed, left_are)
-                (all-append _ before after
-                (pairs_same level old new before (keyed_taken (Agrees level old new) pairs st.last place gone_fronts) pair_before)
-                (pairs_same level old new after (keyed_dropped (Agrees level old new) pairs st.last (suc place) gone_backs) pair_after)),
-            rw gone_now
-                (all-append _ front back (no_empty_same level old new front gone_fronts (rw children_are at others.before)) (no_empty_same level old new back gone_backs (rw children_are at others.behind))),
-          )

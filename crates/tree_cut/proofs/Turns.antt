@@ -1,72 +1,47 @@
--- The child at a place of a node, and the children from there on.
-use Rattle.std.proofs.Common.{◌≡◌, ℕ, zero, suc, ◌≤◌, List, [], ◌∷◌, ◌++◌, map, take, drop, length, slice_get, Option, Some, None, IsSome, refl, ap, arith}
-use Rattle.tree_node.proofs.Common.{in_turn}
-use Rattle.std.proofs.lemmas.Option.{slice_get_past}
-use Rattle.tree_leaf.specs.Chain.{first_or, last_or}
-use Rattle.tree_node.proofs.Places.{first_child, later_children}
-use Rattle.tree_borders.specs.Places.{keyed_or}
+-- The child at a place of a node, and the children around it.
+use Rattle.tree_cut.proofs.Common.{◌≡◌, ℕ, zero, suc, ◌+◌, ◌≤◌, List, [], ◌∷◌, map, take, drop, length, length-append, slice_get, Option, Some, None, IsSome, refl, ap, arith, in_turn, node_children, keyed, unbounded, NodeOf, keyed_of, keyed_or, length-map, slice_get-map, slice_get_within, first_child, later_children}
 
-pub last_or-some : (before : Option ℕ) (front : List ℕ) (x : ℕ) → last_or before (front ++ x ∷ []) ≡ Some x
-last_or-some before [] x = refl
-last_or-some before (y ∷ front) x = last_or-some (Some y) front x
+-- an element comes before those at later places
+pub split_here : {X : Type 0} (xs : List X) (place : ℕ) (x : X) → slice_get xs place ≡ Some x → drop place xs ≡ x ∷ drop (suc place) xs
+split_here [] place x is = absurd (cc)
+split_here (y ∷ xs) zero x is = let same : y ≡ x = cc in rw same refl
+split_here (y ∷ xs) (suc place) x is = split_here xs place x is
 
 module _ {K : Type 0} where
-  -- the child at a place comes before those at later places
-  pub turn : (pairs : List (K × ℕ)) (last place x : ℕ) → keyed_or (slice_get pairs place) (Some last) ≡ Some x → place ≤ length pairs
-      → drop place (in_turn pairs (Some last)) ≡ x ∷ drop (suc place) (in_turn pairs (Some last))
-  turn [] last zero x is within = let same : last ≡ x = cc in rw same refl
-  turn [] last (suc place) x is within = absurd (omega (arith, within))
-  turn (c ∷ pairs) last zero x is within = let same : c.1 ≡ x = cc in rw same refl
-  turn (c ∷ pairs) last (suc place) x is within = turn pairs last place x is (omega (arith, within))
+  pub length-turns : (pairs : List (K × ℕ)) (last : Option ℕ) → IsSome last → length (in_turn pairs last) ≡ length pairs + 1
+  length-turns pairs None some = absurd (cc)
+  length-turns pairs (Some last) some = omega (arith, length-append (map (λ c. c.1) pairs) (last ∷ []), length-map pairs (λ c. c.1))
 
-  -- there is one
-  pub turn_there : (pairs : List (K × ℕ)) (last place : ℕ) → keyed_or (slice_get pairs place) (Some last) ≡ None → ⊥
-  turn_there pairs last place none = by_pair (slice_get pairs place) none
-    where
-      by_pair : (found : Option (K × ℕ)) → keyed_or found (Some last) ≡ None → ⊥
-      by_pair None h = cc
-      by_pair (Some c) h = cc
+  -- what stands at a place, and around it
+  pub record TurnAt (pairs : List (K × ℕ)) (last place x : ℕ) : Type 0 where
+    pub within : place ≤ length pairs
+    pub here : slice_get (in_turn pairs (Some last)) place ≡ Some x
+    pub first : first_child (drop place pairs) last ≡ x
+    pub before : take place (in_turn pairs (Some last)) ≡ map (λ c. c.1) (take place pairs)
+    pub behind : drop (suc place) (in_turn pairs (Some last)) ≡ later_children (drop place pairs) last
 
-  pub turn_here : (pairs : List (K × ℕ)) (last place x : ℕ) → keyed_or (slice_get pairs place) (Some last) ≡ Some x → place ≤ length pairs → slice_get (in_turn pairs (Some last)) place ≡ Some x
-  turn_here [] last zero x is within = is
-  turn_here [] last (suc place) x is within = absurd (omega (arith, within))
-  turn_here (c ∷ pairs) last zero x is within = is
-  turn_here (c ∷ pairs) last (suc place) x is within = turn_here pairs last place x is (omega (arith, within))
+  pub turn : (pairs : List (K × ℕ)) (last place x : ℕ) → slice_get (in_turn pairs (Some last)) place ≡ Some x → TurnAt pairs last place x
+  turn [] last zero x is = record { within = omega arith; here = is; first = (cc); before = refl; behind = refl }
+  turn [] last (suc place) x is = absurd (cc)
+  turn (c ∷ pairs) last zero x is = record { within = omega arith; here = is; first = (cc); before = refl; behind = refl }
+  turn (c ∷ pairs) last (suc place) x is =
+      let t = turn pairs last place x is in
+      record { within = omega (arith, t.within); here = is; first = t.first; before = ap (λ ids. c.1 ∷ ids) t.before; behind = t.behind }
 
-  -- the first of those from a place on
-  pub first_turn : (pairs : List (K × ℕ)) (last place x : ℕ) → keyed_or (slice_get pairs place) (Some last) ≡ Some x → place ≤ length pairs → first_child (drop place pairs) last ≡ x
-  first_turn [] last zero x is within = cc
-  first_turn [] last (suc place) x is within = absurd (omega (arith, within))
-  first_turn (c ∷ pairs) last zero x is within = cc
-  first_turn (c ∷ pairs) last (suc place) x is within = first_turn pairs last place x is (omega (arith, within))
+  -- a keyed child stands at its place, and behind all of them the unbounded one
+  pub turn_here : (pairs : List (K × ℕ)) (last : Option ℕ) (place x : ℕ) → IsSome last → place ≤ length pairs → keyed_or (slice_get pairs place) last ≡ Some x
+      → slice_get (in_turn pairs last) place ≡ Some x
+  turn_here pairs None place x some within is = absurd (cc)
+  turn_here [] (Some last) zero x some within is = is
+  turn_here [] (Some last) (suc place) x some within is = absurd (omega (arith, within))
+  turn_here (c ∷ pairs) (Some last) zero x some within is = is
+  turn_here (c ∷ pairs) (Some last) (suc place) x some within is = turn_here pairs (Some last) place x some (omega (arith, within)) is
 
-  pub later_turns : (pairs : List (K × ℕ)) (last place : ℕ) → place ≤ length pairs → drop (suc place) (in_turn pairs (Some last)) ≡ later_children (drop place pairs) last
-  later_turns [] last zero within = refl
-  later_turns [] last (suc place) within = absurd (omega (arith, within))
-  later_turns (c ∷ pairs) last zero within = refl
-  later_turns (c ∷ pairs) last (suc place) within = later_turns pairs last place (omega (arith, within))
+  keyed_turn : (pairs : List (K × ℕ)) (last : Option ℕ) (place : ℕ) (c : K × ℕ) → slice_get pairs place ≡ Some c → slice_get (in_turn pairs last) place ≡ Some c.1
+  keyed_turn pairs None place c is = rw (slice_get-map (λ d. d.1) pairs place, is) refl
+  keyed_turn pairs (Some last) place c is = turn_here pairs (Some last) place c.1 refl (omega (arith, slice_get_within pairs place c is)) (rw is refl)
 
-  pub earlier_turns : (pairs : List (K × ℕ)) (last place : ℕ) → place ≤ length pairs → take place (in_turn pairs (Some last)) ≡ map (λ c. c.1) (take place pairs)
-  earlier_turns pairs last zero within = refl
-  earlier_turns [] last (suc place) within = absurd (omega (arith, within))
-  earlier_turns (c ∷ pairs) last (suc place) within = ap (λ ids. c.1 ∷ ids) (earlier_turns pairs last place (omega (arith, within)))
-
-  -- at the first place stands the first child, and behind all keyed ones the last
-  pub turn_at_first : (pairs : List (K × ℕ)) (last x : ℕ) → keyed_or (slice_get pairs 0) (Some last) ≡ Some x → first_or (in_turn pairs (Some last)) None ≡ Some x
-  turn_at_first [] last x is = is
-  turn_at_first (c ∷ pairs) last x is = is
-
-  pub turn_at_last : (pairs : List (K × ℕ)) (last place x : ℕ) → place ≡ length pairs → keyed_or (slice_get pairs place) (Some last) ≡ Some x → last_or None (in_turn pairs (Some last)) ≡ Some x
-  turn_at_last pairs last place x all is =
-      let past : slice_get pairs place ≡ None = slice_get_past pairs place (omega (arith, all)) in
-      let same : last ≡ x = let here = rw past at is in cc in
-      rw same (last_or-some None (map (λ c. c.1) pairs) x)
-
-  -- the same of an unbounded child that is there
-  pub turn_first_there : (pairs : List (K × ℕ)) (last : Option ℕ) (x : ℕ) → IsSome last → keyed_or (slice_get pairs 0) last ≡ Some x → first_or (in_turn pairs last) None ≡ Some x
-  turn_first_there pairs None x some is = absurd (cc)
-  turn_first_there pairs (Some last) x some is = turn_at_first pairs last x is
-
-  pub turn_last_there : (pairs : List (K × ℕ)) (last : Option ℕ) (place x : ℕ) → IsSome last → place ≡ length pairs → keyed_or (slice_get pairs place) last ≡ Some x → last_or None (in_turn pairs last) ≡ Some x
-  turn_last_there pairs None place x some all is = absurd (cc)
-  turn_last_there pairs (Some last) place x some all is = turn_at_last pairs last place x all is
+pub keyed_child : {K : Type 0} {LEN : ℕ} (slot : Option (NodeOf K LEN)) (place : ℕ) (c : K × ℕ) → slice_get (keyed_of slot) place ≡ Some c
+    → slice_get (node_children slot) place ≡ Some c.1
+keyed_child None place c is = absurd (cc)
+keyed_child (Some node) place c is = keyed_turn (keyed node).entries (unbounded node) place c is

@@ -25,16 +25,10 @@ module _ {K V : Type 0} {LEN : ℕ} where
   HasNoEmpty (suc level) arenas id =
       AllByRecursion (λ c. HasPair level arenas c.1) (keyed_of (get arenas.nodes id)) × AllByRecursion (HasNoEmpty level arenas) (children_of arenas.nodes id)
 
-  -- the same of a node but for what stands at a place among its children
-  pub record OthersHaveNoEmpty (level : ℕ) (arenas : TreeArenas K V LEN) (id place : ℕ) : Type 0 where
-    pub keyed_before : AllByRecursion (λ c. HasPair level arenas c.1) (take place (keyed_of (get arenas.nodes id)))
-    pub keyed_behind : AllByRecursion (λ c. HasPair level arenas c.1) (drop (suc place) (keyed_of (get arenas.nodes id)))
-    pub before : AllByRecursion (HasNoEmpty level arenas) (take place (children_of arenas.nodes id))
-    pub behind : AllByRecursion (HasNoEmpty level arenas) (drop (suc place) (children_of arenas.nodes id))
-
-  abbrev pub HasNoEmptyBut : ℕ → TreeArenas K V LEN → ℕ → ℕ → Type 0
-  HasNoEmptyBut zero arenas id place = ⊤
-  HasNoEmptyBut (suc level) arenas id place = OthersHaveNoEmpty level arenas id place
+  -- the same of a node but for what stands at a place among its children, which are of this level
+  pub record HasNoEmptyBut (level : ℕ) (arenas : TreeArenas K V LEN) (id place : ℕ) : Type 0 where
+    pub pairs : (n : ℕ) (c : K × ℕ) → slice_get (keyed_of (get arenas.nodes id)) n ≡ Some c → n ≢ place → HasPair level arenas c.1
+    pub below : (n x : ℕ) → slice_get (children_of arenas.nodes id) n ≡ Some x → n ≢ place → HasNoEmpty level arenas x
 
 module _ {K V : Type 0} {LEN : ℕ} (cmp : K → K → Ordering) where
   -- The part under a number has lost the keys within the bounds, which were so many, and nothing else. It stands between the bounds that it had.
@@ -46,32 +40,14 @@ module _ {K V : Type 0} {LEN : ℕ} (cmp : K → K → Ordering) where
     -- a keyed child that is left empty is gone
     pub no_empty : HasNoEmpty level old id → HasNoEmpty level new id
 
-  -- Of the pairs under one child of a node these are left, in the place of the child, or none where the child is gone. All else under the node is what it was.
-  pub record ChildBecomes (level : ℕ) (old new : TreeArenas K V LEN) (id place child : ℕ) (left : List (K × V)) : Type 0 where
+  -- One child of a node has lost the keys within the bounds, which were so many, and is gone itself if it was dropped. All else under the node is what it was.
+  pub record CutsAt (low high : Bound K) (level below : ℕ) (old new : TreeArenas K V LEN) (id place gone : ℕ) : Type 0 where
+    pub child : ℕ
     pub here : slice_get (children_of old.nodes id) place ≡ Some child
-    pub front : flat_map (walk level new) (take place (children_of new.nodes id)) ≡ flat_map (walk level old) (take place (children_of old.nodes id))
-    pub back : flat_map (walk level new) (drop place (children_of new.nodes id)) ≡ left ++ flat_map (walk level old) (drop (suc place) (children_of old.nodes id))
+    pub counted : gone + length (cut cmp (walk below old child) low high) ≡ length (walk below old child)
+    pub front : flat_map (walk below new) (take place (children_of new.nodes id)) ≡ flat_map (walk below old) (take place (children_of old.nodes id))
+    pub back : flat_map (walk below new) (drop place (children_of new.nodes id))
+        ≡ cut cmp (walk below old child) low high ++ flat_map (walk below old) (drop (suc place) (children_of old.nodes id))
     pub separators : take place (keyed_of (get new.nodes id)) ≡ take place (keyed_of (get old.nodes id))
-    pub stands : KeepsBounds cmp (suc level) old new id
-    pub replaces : Replaces (suc level) old new (id ∷ []) (id ∷ [])
-
-  -- the child has lost the keys within the bounds, which were so many
-  pub record CutsOne (low high : Bound K) (level : ℕ) (old new : TreeArenas K V LEN) (id place gone : ℕ) : Type 0 where
-    pub child : ℕ
-    pub becomes : ChildBecomes level old new id place child (cut cmp (walk level old child) low high)
-    pub counted : gone + length (cut cmp (walk level old child) low high) ≡ length (walk level old child)
-
-  -- it has been dropped with its pairs, which were so many
-  pub record DropsOne (level : ℕ) (old new : TreeArenas K V LEN) (id place gone : ℕ) : Type 0 where
-    pub child : ℕ
-    pub becomes : ChildBecomes level old new id place child []
-    pub counted : gone ≡ length (walk level old child)
-
-  -- the same of a node of this level
-  abbrev pub CutsChild : Bound K → Bound K → ℕ → TreeArenas K V LEN → TreeArenas K V LEN → ℕ → ℕ → ℕ → Type 0
-  CutsChild low high zero old new id place gone = ⊥
-  CutsChild low high (suc level) old new id place gone = CutsOne low high level old new id place gone
-
-  abbrev pub DropsChild : ℕ → TreeArenas K V LEN → TreeArenas K V LEN → ℕ → ℕ → ℕ → Type 0
-  DropsChild zero old new id place gone = ⊥
-  DropsChild (suc level) old new id place gone = DropsOne level old new id place gone
+    pub stands : KeepsBounds cmp level old new id
+    pub replaces : Replaces level old new (id ∷ []) (id ∷ [])

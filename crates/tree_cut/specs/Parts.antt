@@ -1,12 +1,10 @@
 -- The number of a leaf or of a node, and parts that are freed.
-use Rattle.std.specs.Prelude.{◌≡◌, ℕ, zero, suc, ◌+◌, ◌≤◌, List, Option, None, ⊤}
-use Rattle.std.specs.List.{AllByRecursion}
+use Rattle.std.specs.Prelude.{◌≡◌, ℕ, zero, suc, ◌+◌, ◌≤◌, List, [], ◌∷◌, ◌++◌, None, ⊤}
 use Rattle.std.specs.declared.cmp.Ordering.{Ordering}
-use Rattle.slab.specs.Slab.{get}
-use Rattle.tree_leaf.specs.Chain.{first_or, last_or}
+use Rattle.slab.specs.Slab.{Slab, get}
 use Rattle.tree_leaf.specs.Counting.{times, uses}
 use Rattle.tree_node.specs.Arenas.{TreeArenas}
-use Rattle.tree_node.specs.Tree.{Stands, leaves_of, nodes_of}
+use Rattle.tree_node.specs.Tree.{Stands, leaves_at, nodes_at}
 use Rattle.tree_cut.specs.declared.dropping.End.{End}
 use Rattle.tree_cut.specs.declared.dropping.End.TheVariants.{First, Last}
 use Rattle.tree_cut.specs.declared.parts.Part.{Part}
@@ -24,20 +22,23 @@ IsAt (suc level) (Leaf id) = ⊥
 IsAt (suc level) (Node id) = ⊤
 
 -- the number at an end of a list
-abbrev pub end_of : End → List ℕ → Option ℕ
-end_of First ids = first_or ids None
-end_of Last ids = last_or None ids
+abbrev pub IsEnd : End → List ℕ → ℕ → Type 0
+IsEnd First ids id = (rest : List ℕ) × (ids ≡ id ∷ rest)
+IsEnd Last ids id = (front : List ℕ) × (ids ≡ front ++ id ∷ [])
+
+-- of an arena exactly these numbers are free now
+pub record FreesIn {T : Type 0} (old new : Slab T) (ids : List ℕ) : Type 0 where
+  pub kept : (n : ℕ) → times n ids ≡ 0 → get new n ≡ get old n
+  pub counted : (n : ℕ) → uses new n + times n ids ≡ uses old n
 
 module _ {K V : Type 0} {LEN : ℕ} where
-  -- parts stand under these numbers, and reach each number once at most
-  pub record IsForest (cmp : K → K → Ordering) (level : ℕ) (arenas : TreeArenas K V LEN) (ids : List ℕ) : Type 0 where
-    pub stand : AllByRecursion (λ id. Stands cmp level arenas None id None) ids
-    pub nodes_once : (n : ℕ) → times n (nodes_of level arenas.nodes ids) ≤ uses arenas.nodes n
-    pub leaves_once : (n : ℕ) → times n (leaves_of level arenas.nodes ids) ≤ uses arenas.leaves n
+  -- a part stands under the number, and reaches each number once at most
+  pub record StandsOnce (cmp : K → K → Ordering) (level : ℕ) (arenas : TreeArenas K V LEN) (id : ℕ) : Type 0 where
+    pub stands : Stands cmp level arenas None id None
+    pub nodes_once : (n : ℕ) → times n (nodes_at level arenas.nodes id) ≤ uses arenas.nodes n
+    pub leaves_once : (n : ℕ) → times n (leaves_at level arenas.nodes id) ≤ uses arenas.leaves n
 
-  -- exactly the numbers reached from these are free now
-  pub record Frees (level : ℕ) (old new : TreeArenas K V LEN) (ids : List ℕ) : Type 0 where
-    pub nodes_kept : (n : ℕ) → times n (nodes_of level old.nodes ids) ≡ 0 → get new.nodes n ≡ get old.nodes n
-    pub leaves_kept : (n : ℕ) → times n (leaves_of level old.nodes ids) ≡ 0 → get new.leaves n ≡ get old.leaves n
-    pub nodes_counted : (n : ℕ) → uses new.nodes n + times n (nodes_of level old.nodes ids) ≡ uses old.nodes n
-    pub leaves_counted : (n : ℕ) → uses new.leaves n + times n (leaves_of level old.nodes ids) ≡ uses old.leaves n
+  -- exactly the numbers reached from this one are free now
+  pub record Frees (level : ℕ) (old new : TreeArenas K V LEN) (id : ℕ) : Type 0 where
+    pub nodes : FreesIn old.nodes new.nodes (nodes_at level old.nodes id)
+    pub leaves : FreesIn old.leaves new.leaves (leaves_at level old.nodes id)

@@ -1,7 +1,7 @@
 //! Removal of the keys within two bounds from under the number of a node, at its level.
-ghost use Rattle.std.specs.Prelude.{◌≡◌, ◌⊎◌, ◌<◌, ◌≤◌, [], None, true, length};
+ghost use Rattle.std.specs.Prelude.{◌≡◌, ◌⊎◌, ◌-◌, ◌<◌, ◌≤◌, [], None, true, length};
 ghost use Rattle.slab.specs.Slab.{ContainsKey, get};
-ghost use Rattle.tree_cut.specs.Cuts.{CutsChild, CutsUnder, HasNoEmpty, keyed_of};
+ghost use Rattle.tree_cut.specs.Cuts.{CutsAt, CutsUnder, HasNoEmpty, keyed_of};
 ghost use Rattle.tree_cut.specs.Parts.{IsAt, part_id};
 ghost use Rattle.tree_model.specs.Pairs.{high_of, low_of};
 ghost use Rattle.tree_node.specs.Parts.{IsPart};
@@ -77,8 +77,9 @@ fn cut_part<K: Ord + Drop, V: Drop, const LEN: usize>(
         Part::Node(id) => {
             let id = *id;
             count_fits(arenas, level, id);
-            let first = first_place(arenas.node(id), bounds.0);
-            let last = last_place(arenas.node(id), bounds.1);
+            let node = arenas.node(id);
+            let first = first_place(node, bounds.0);
+            let last = last_place(node, bounds.1);
             let mut gone = 0;
             let mut place = last + 1;
             while place > first {
@@ -109,8 +110,8 @@ fn cut_child<K: Ord + Drop, V: Drop, const LEN: usize>(
     requires node { 0 < level }
     requires part { IsPart K.cmp level arenas.old id }
     requires place { place ≤ length (keyed_of (get arenas.old.nodes id)) }
-    ensures cuts { CutsChild K.cmp (low_of bounds.entry) (high_of bounds.entry)
-        level arenas.old arenas.new id place result }
+    ensures cuts { CutsAt K.cmp (low_of bounds.entry) (high_of bounds.entry)
+        level (level - 1) arenas.old arenas.new id place result }
     ensures no_empty { HasNoEmpty level arenas.old id → HasNoEmpty level arenas.new id }
 {
     let node = arenas.node(id);

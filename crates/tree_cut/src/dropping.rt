@@ -1,8 +1,9 @@
 //! Parts that are dropped whole.
-ghost use Rattle.std.specs.Prelude.{◌≡◌, ◌<◌, ◌^◌, [], ◌∷◌, IsSome, None, Some, length, ℕ};
+ghost use Rattle.std.specs.Prelude.{◌≡◌, ◌-◌, ◌<◌, ◌^◌, [], ◌∷◌, IsSome, None, Some, length, ℕ};
+ghost use Rattle.std.specs.declared.ops.Bound.TheVariants.{Unbounded};
 ghost use Rattle.slab.specs.Slab.{get};
-ghost use Rattle.tree_cut.specs.Cuts.{DropsChild, HasNoEmpty, HasNoEmptyBut, keyed_of};
-ghost use Rattle.tree_cut.specs.Parts.{Frees, IsAt, IsForest, end_of, part_id};
+ghost use Rattle.tree_cut.specs.Cuts.{CutsAt, HasNoEmpty, HasNoEmptyBut, keyed_of};
+ghost use Rattle.tree_cut.specs.Parts.{Frees, IsAt, IsEnd, StandsOnce, part_id};
 ghost use Rattle.tree_node.specs.Parts.{IsPart, Replaces};
 ghost use Rattle.tree_node.specs.Tree.{HasKind, Stands, leaves_at, node_children, unbounded, walk};
 
@@ -31,8 +32,8 @@ pub(crate) fn drop_child<K: Ord + Drop, V: Drop, const LEN: usize>(
     requires node { 0 < level }
     requires part { IsPart K.cmp level arenas.old id }
     requires place { place < length (keyed_of (get arenas.old.nodes id)) }
-    ensures drops { DropsChild K.cmp level arenas.old arenas.new id place result }
-    ensures no_empty { HasNoEmptyBut level arenas.old id place → HasNoEmpty level arenas.new id }
+    ensures drops { CutsAt K.cmp Unbounded Unbounded level (level - 1) arenas.old arenas.new id place result }
+    ensures no_empty { HasNoEmptyBut (level - 1) arenas.old id place → HasNoEmpty level arenas.new id }
 {
     let node = arenas.node(id);
     let Some(slot) = slot_at(node, place) else {
@@ -73,7 +74,7 @@ fn end_leaf<K: Ord + Drop, V: Drop, const LEN: usize>(
 ) -> LeafId
     requires kind { IsAt level part.now }
     requires stands { Stands K.cmp level arenas.now None (part_id part.now) None }
-    ensures { end_of end (leaves_at level arenas.now.nodes (part_id part.now)) ≡ Some result }
+    ensures { IsEnd end (leaves_at level arenas.now.nodes (part_id part.now)) result }
 {
     match part {
         Part::Leaf(id) => *id,
@@ -88,7 +89,7 @@ fn end_leaf<K: Ord + Drop, V: Drop, const LEN: usize>(
 /// Returns the first or the last child of a node, which must have an unbounded one.
 fn end_child<K: Ord + Drop, const LEN: usize>(node: &NodeOf<K, LEN>, end: End) -> Part
     requires { IsSome (unbounded node.now) }
-    ensures child { end_of end (node_children (Some node.now)) ≡ Some (part_id result) }
+    ensures child { IsEnd end (node_children (Some node.now)) (part_id result) }
     ensures kind { (level : ℕ) → HasKind level node.now → IsAt level result }
 {
     match end {
@@ -104,8 +105,8 @@ fn free_part<K: Ord + Drop, V: Drop, const LEN: usize>(
     part: &Part,
 ) -> u128
     requires kind { IsAt level part.now }
-    requires forest { IsForest K.cmp level arenas.old (part_id part.now ∷ []) }
-    ensures frees { Frees level arenas.old arenas.new (part_id part.now ∷ []) }
+    requires once { StandsOnce K.cmp level arenas.old (part_id part.now) }
+    ensures frees { Frees level arenas.old arenas.new (part_id part.now) }
     ensures gone { result ≡ length (walk level arenas.old (part_id part.now)) }
 {
     match part {
@@ -131,7 +132,7 @@ pub(crate) fn count_fits<K: Ord + Drop, V: Drop, const LEN: usize>(
     id: NodeId,
 )
     requires node { 0 < level }
-    requires forest { IsForest K.cmp level arenas.now (id ∷ []) }
+    requires once { StandsOnce K.cmp level arenas.now id }
     ensures { length (walk level arenas.now id) < 2 ^ 127 }
 {
     // The contracts of both say how many slots a leaf has, and how many leaves there are, at most.

@@ -1,8 +1,8 @@
 //! Parts: what stands under a number, and the children of a node by their places.
-ghost use Rattle.std.specs.Prelude.{◌≡◌, IsSome, Some, slice_get, ℕ};
+ghost use Rattle.std.specs.Prelude.{◌≡◌, ◌≤◌, IsSome, Some, length, slice_get, ℕ};
 ghost use Rattle.tree_borders.specs.Places.{keyed_or};
 ghost use Rattle.tree_cut.specs.Parts.{IsAt, part_id};
-ghost use Rattle.tree_node.specs.Tree.{HasKind, keyed, unbounded};
+ghost use Rattle.tree_node.specs.Tree.{HasKind, keyed, node_children, unbounded};
 
 use tree_array::array::ArrayOf;
 use tree_leaf::arena::{LeafId, NodeId};
@@ -16,10 +16,11 @@ pub(crate) enum Part {
 }
 
 /// Returns the child of a node at a place in the order of the keys, counted from 0: a keyed child, or the unbounded one
-/// behind them all. The node must have an unbounded child.
+/// behind them all. The node must have an unbounded child, and the place must be one of its children's.
 pub(crate) fn child_at<K: Ord + Drop, const LEN: usize>(node: &NodeOf<K, LEN>, place: u8) -> Part
-    requires { IsSome (unbounded node.now) }
-    ensures child { keyed_or (slice_get (keyed node.now).entries place) (unbounded node.now) ≡ Some (part_id result) }
+    requires last { IsSome (unbounded node.now) }
+    requires place { place ≤ length (keyed node.now).entries }
+    ensures child { slice_get (node_children (Some node.now)) place ≡ Some (part_id result) }
     ensures kind { (level : ℕ) → HasKind level node.now → IsAt level result }
 {
     match node {

@@ -4,7 +4,7 @@ use Rattle.std.specs.Ordering.{ordering_reverse}
 use Rattle.tree_model.proofs.Common.{IsTotalOrder, cases_eq, cases_lt}
 use Rattle.tree_array.specs.Spans.{Spans}
 use Rattle.tree_leaf.specs.Entries.{found_entries}
-use Rattle.tree_node.proofs.Common.{get, LeafOf, leaf_entries, TreeArenas, times, times-append, times-cons, times-nil, none_here, uses_some, AreParted, HasChildFor, IsAbove, IsUpTo, IsTree, Stands, child_at, is_from, keyed, leaves_at}
+use Rattle.tree_node.proofs.Common.{get, LeafOf, leaf_entries, TreeArenas, times, times-append, times-cons, times-nil, none_here, uses_some, AreParted, HasChildFor, IsAbove, IsUpTo, IsTree, Stands, child_at, is_from, keyed, leaves_at, root_at}
 use Rattle.tree_node.proofs.Lists.{all_middle}
 use Rattle.tree_node.proofs.Order.{less_upto, upto_from_less}
 use Rattle.tree_node.proofs.Standing.{no_children}
@@ -78,7 +78,7 @@ module _ {K V : Type 0} {LEN : ℕ} {cmp : K → K → Ordering} (o : IsTotalOrd
         let it = held_below level (held level) low (keyed s.node).entries s.last high s.parted (rw (s.here, s.last_is) at reached) in
         record { above = it.above; up_to = it.up_to; way = (child_at (is_from cmp key) (keyed s.node).entries s.last, rw (s.here, s.last_is) refl, it.way) }
 
-    on_way : (level id : ℕ) → 0 < level → IsTree cmp a (Some (id, level)) → Stands cmp level a None id None → 0 < times n (leaves_at level a.nodes id) → (node : ℕ) × LeadsTo cmp key level a id node n
+    on_way : (level id : ℕ) → 0 < level → IsTree cmp a (Some (root_at id level)) → Stands cmp level a None id None → 0 < times n (leaves_at level a.nodes id) → (node : ℕ) × LeadsTo cmp key level a id node n
     on_way zero id deep tree stands reached = absurd (omega (arith, deep))
     on_way (suc level) id deep tree stands reached =
         let way = last_step level id (held (suc level) None id None stands reached).way in
@@ -89,7 +89,7 @@ module _ {K V : Type 0} {LEN : ℕ} {cmp : K → K → Ordering} (o : IsTotalOrd
     in_use (Some leaf) it = refl
 
     -- In a whole tree the key belongs to the leaf.
-    pub leads_there : (id level : ℕ) → IsTree cmp a (Some (id, level)) → (node : ℕ) × LeadsTo cmp key level a id node n
+    pub leads_there : (id level : ℕ) → IsTree cmp a (Some (root_at id level)) → (node : ℕ) × LeadsTo cmp key level a id node n
     leads_there id level tree =
         let reached : 0 < times n (leaves_at level a.nodes id) = omega (arith, tree.leaves_once n, uses_some a.leaves n (in_use (get a.leaves n) spans)) in
         elim tree.top.1 [

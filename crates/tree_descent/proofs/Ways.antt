@@ -8,6 +8,7 @@ use Rattle.tree_node.specs.declared.node.NodeOf.TheVariants.{Internal, Leaf}
 use Rattle.tree_descent.specs.Ways.{IsOnWay}
 use Rattle.tree_node.proofs.ChildChanges.{child_part}
 use Rattle.tree_node.proofs.Children.{node_there}
+use Rattle.tree_node.proofs.Levels.{stands_not_retired}
 use Rattle.tree_node.proofs.NodeKinds.{node_used, retired_node}
 
 pred_suc : (n : ℕ) → 0 < n → suc (n - 1) ≡ n
@@ -38,12 +39,7 @@ module _ {K V : Type 0} {LEN : ℕ} {cmp : K → K → Ordering} (o : IsTotalOrd
 
   -- a part isn't retired
   pub part_not_retired : (level : ℕ) → 0 < level → (id : ℕ) → IsPart cmp level a id → IsRetired level a id → ⊥
-  part_not_retired zero deep id part retired = omega (arith, deep)
-  part_not_retired (suc level) deep id part retired =
-      let s : Stands cmp (suc level) a None id None = part.stands in
-      let none = (rw s.here at retired).1 in
-      let some = s.last_is in
-      cc
+  part_not_retired level deep id part = stands_not_retired cmp a id level deep part.stands
 
   -- the node that the way leads to is a part
   pub part_on_way : (steps : ℕ) (id target : ℕ) → IsPart cmp (suc steps) a id → IsOnWay cmp key steps a id target → IsPart cmp 1 a target

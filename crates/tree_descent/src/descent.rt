@@ -6,7 +6,7 @@ ghost use Rattle.tree_descent.specs.Ways.{IsOnWay, LeadsTo};
 ghost use Rattle.tree_leaf.specs.Entries.{leaf_entries};
 ghost use Rattle.tree_node.specs.Parts.{IsPart};
 ghost use Rattle.tree_node.specs.Tree.{HasChildFor, IsRetired};
-ghost use Rattle.tree_node.specs.Whole.{IsTree};
+ghost use Rattle.tree_node.specs.Whole.{IsTree, root_at};
 
 use tree_leaf::arena::{LeafId, NodeId};
 use tree_node::node::{ArenasOf, NodeOf};
@@ -102,7 +102,7 @@ pub fn holds<K: Ord + Drop, V: Drop, const LEN: usize>(
     key: &K,
 ) -> bool
     ensures spans { IsTrue result ↔ Spans K.cmp (leaf_entries arenas.now.leaves leaf) key.now }
-    ensures way { IsTrue result → (id level : ℕ) → IsTree K.cmp arenas.now (Some (id, level))
+    ensures way { IsTrue result → (id level : ℕ) → IsTree K.cmp arenas.now (Some (root_at id level))
         → (node : ℕ) × LeadsTo K.cmp key.now level arenas.now id node leaf }
 {
     match arenas.find_leaf(leaf) {

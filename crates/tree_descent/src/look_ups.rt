@@ -1,12 +1,11 @@
 //! Look-ups under the number of a node, at its level.
-ghost use Rattle.std.specs.Prelude.{◌≡◌, ◌+◌, ◌*◌, ◌≤◌, ◌<◌, IsSome, Some, MatchOption};
-ghost use Rattle.slab.specs.Slab.{get};
+ghost use Rattle.std.specs.Prelude.{◌≡◌, ◌+◌, ◌*◌, ◌≤◌, ◌<◌, MatchOption};
 ghost use Rattle.tree_array.specs.Length.{searched};
 ghost use Rattle.tree_model.specs.Pairs.{Finds};
 ghost use Rattle.tree_node.specs.Tree.{IsRetired, StandsOrRetired, walk};
-ghost use Rattle.tree_descent.specs.Ways.{HoldsFor};
+ghost use Rattle.tree_descent.specs.Ways.{IsLeafFor};
 
-use tree_array::array::Judge;
+use tree_array::array::{Asks, Judge};
 use tree_leaf::arena::{LeafId, NodeId};
 use tree_node::node::{ArenasOf, NodeOf};
 
@@ -34,33 +33,34 @@ pub fn search_at<'a, K: Ord + Drop, V: Drop, J: Judge<K>, const LEN: usize>(
     arenas.leaf(leaf).array().search_entry(judge)
 }
 
-/// Returns the leaf that the judge's key belongs to under a number, or `None` if the node is retired. Makes at most
-/// `4 * level` comparisons with 15 slots, and `3 * level` with 7.
+/// Returns the leaf that the key of the asked, a judge or the key itself, belongs to under a number, or `None` if the node
+/// is retired. Makes at most `4 * level` comparisons with 15 slots, and `3 * level` with 7.
 ///
 /// It goes down by a loop, so that the search in the leaf keeps its moves without a branch in the caller's loop over keys.
+///
+/// The caller must name a well-formed part of a tree at this level, or a retired node.
 #[inline(always)]
-fn leaf_by<K: Ord + Drop, V: Drop, J: Judge<K>, const LEN: usize>(
+pub fn leaf_by<K: Ord + Drop, V: Drop, By, A: Asks<K, By>, const LEN: usize>(
     arenas: &ArenasOf<K, V, LEN>,
     level: usize,
     id: NodeId,
-    judge: &mut J,
+    asked: &mut A,
 ) -> Option<LeafId>
     requires node { 0 < level }
     requires stands { StandsOrRetired K.cmp level arenas.now id }
     ensures found { MatchOption result (IsRetired level arenas.now id)
-        (λ leaf. IsSome (get arenas.now.leaves leaf)
-        × HoldsFor K.cmp (J.key judge.old) (walk level arenas.now id) (get arenas.now.leaves leaf)) }
-    ensures same_key { J.key judge.new ≡ J.key judge.old }
-    ensures counted { J.count judge.new ≤ J.count judge.old + LEN * level }
-    ensures halved { J.count judge.new ≤ J.count judge.old + searched LEN * level }
+        (IsLeafFor K.cmp (A.key asked.old) level arenas.now id) }
+    ensures same_key { A.key asked.new ≡ A.key asked.old }
+    ensures counted { A.count asked.new ≤ A.count asked.old + LEN * level }
+    ensures halved { A.count asked.new ≤ A.count asked.old + searched LEN * level }
 {
     let mut at = id;
     let mut above = level;
     loop {
         match arenas.node(at) {
-            NodeOf::Leaf(node) => return node.child_for(judge),
+            NodeOf::Leaf(node) => return node.child_for(asked),
             NodeOf::Internal(node) => {
-                at = node.child_for(judge)?;
+                at = node.child_for(asked)?;
                 above -= 1;
             }
         }

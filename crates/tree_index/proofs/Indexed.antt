@@ -4,14 +4,15 @@ use Rattle.tree_model.proofs.Common.{IsTotalOrder, nat_tests, IsAbsent, IsAscend
 use Rattle.tree_model.specs.declared.commands.InsertError.{InsertError}
 use Rattle.tree_array.specs.declared.answers.StoreResult.{StoreResult}
 use Rattle.tree_array.specs.declared.answers.StoreResult.TheVariants.{New, Replaced, Duplicate, Full}
-use Rattle.tree_node.proofs.Common.{get, TreeArenas, Stands, StandsOrRetired, leaves_at, walk, IsRetiredRoot, leaves_under, walk_under}
+use Rattle.tree_node.proofs.Common.{get, TreeArenas, Stands, StandsOrRetired, leaves_at, walk, IsRetiredRoot, leaves_under, walk_under, root_at}
+use Rattle.tree_node.specs.declared.node.Root.{Root}
 use Rattle.tree_model.specs.declared.commands.InsertError.TheVariants.{Duplicate as SameKey, OutOfMemory}
 use Rattle.tree_model.specs.Edits.{Inserts as InsertsPair, handed_back}
 use Rattle.tree_model.proofs.Lengths.{length-put, without_absent, without_present}
 use Rattle.tree_walk.specs.Ends.{IsLinked}
 use Rattle.tree_insert.specs.Inserts.{Inserts, declined}
 use Rattle.tree_node.specs.Whole.{IsTop, depth_of}
-use Rattle.tree_node.proofs.Ascents.{walk_ascends}
+use Rattle.tree_node.proofs.Walks.{walk_ascends}
 use Rattle.tree_node.proofs.Standing.{no_children}
 use Rattle.tree_root.specs.declared.tree.Stored.{Stored}
 use Rattle.tree_root.specs.declared.tree.Stored.TheVariants.{New as NewKey, Replaced as OldKey}
@@ -25,11 +26,11 @@ module _ {K V : Type 0} {LEN : ℕ} {cmp : K → K → Ordering} (o : IsTotalOrd
   pub pairs_ascend : (tree : Tree K V LEN) → IsWhole cmp tree → IsAscending cmp (pairs_of tree)
   pairs_ascend tree whole = by_root tree.root whole.top
     where
-      by_top : (root : ℕ × ℕ) → (Stands cmp root.1 tree.arenas None root.0 None ⊎ IsRetiredRoot tree.arenas root.0 root.1) → IsAscending cmp (walk root.1 tree.arenas root.0)
-      by_top root (inl s) = walk_ascends o root.1 tree.arenas None root.0 None s
-      by_top root (inr gone) = rw (gone.0, (no_children (get tree.arenas.nodes root.0) gone.1).1) tt
+      by_top : (root : Root) → (Stands cmp root.level tree.arenas None root.id None ⊎ IsRetiredRoot tree.arenas root.id root.level) → IsAscending cmp (walk root.level tree.arenas root.id)
+      by_top root (inl s) = walk_ascends o root.level tree.arenas None root.id None s
+      by_top root (inr gone) = rw (gone.0, (no_children (get tree.arenas.nodes root.id) gone.1).1) tt
 
-      by_root : (root : Option (ℕ × ℕ)) → IsTop cmp tree.arenas root → IsAscending cmp (walk_under tree.arenas root)
+      by_root : (root : Option Root) → IsTop cmp tree.arenas root → IsAscending cmp (walk_under tree.arenas root)
       by_root None top = tt
       by_root (Some root) top = by_top root top.1
 
@@ -85,7 +86,7 @@ pub index_kept : {K V : Type 0} {LEN : ℕ} (cmp : K → K → Ordering) (Says :
 index_kept cmp Says old new key takes = rw (takes.pairs.1, (takes.kept refl).0, (takes.kept refl).1, (takes.kept refl).2) refl
 
 -- a tree without a leaf has no pair
-no_pairs : {K V : Type 0} {LEN : ℕ} (a : TreeArenas K V LEN) (root : Option (ℕ × ℕ)) → leaves_under a.nodes root ≡ [] → walk_under a root ≡ []
+no_pairs : {K V : Type 0} {LEN : ℕ} (a : TreeArenas K V LEN) (root : Option Root) → leaves_under a.nodes root ≡ [] → walk_under a root ≡ []
 no_pairs a None bare = refl
 no_pairs a (Some root) bare = rw bare refl
 
@@ -103,13 +104,13 @@ pub pair_is : {A B : Type 0} (pair : A × B) (a : A) (b : B) → pair.0 ≡ a �
 pair_is (x, y) a b first second = rw (first, second) refl
 
 -- what is lent of an index is its tree
-pub is_tree_of : {K V : Type 0} {LEN : ℕ} (cmp : K → K → Ordering) (tree : Tree K V LEN) (root : Option ℕ) → option_map (λ id. (id, depth_of tree.root)) root ≡ tree.root → IsWhole cmp tree → IsTreeOf cmp (index_of cmp tree) tree.arenas root
+pub is_tree_of : {K V : Type 0} {LEN : ℕ} (cmp : K → K → Ordering) (tree : Tree K V LEN) (root : Option ℕ) → option_map (λ id. root_at id (depth_of tree.root)) root ≡ tree.root → IsWhole cmp tree → IsTreeOf cmp (index_of cmp tree) tree.arenas root
 is_tree_of cmp tree root same whole = record {
   tree = rw same whole;
   pairs = rw same refl;
   spare = rw same refl;
   packed = rw same refl;
-  rootless = λ none. let gone : tree.root ≡ None = sym same ∙ ap (option_map (λ id. (id, depth_of tree.root))) none in rw gone refl;
+  rootless = λ none. let gone : tree.root ≡ None = sym same ∙ ap (option_map (λ id. root_at id (depth_of tree.root))) none in rw gone refl;
 }
 
 -- a key is present where a pair is found at it

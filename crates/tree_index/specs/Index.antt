@@ -9,7 +9,7 @@ use Rattle.tree_model.specs.declared.commands.InsertError.{InsertError}
 use Rattle.tree_model.specs.declared.commands.InsertError.TheVariants.{Duplicate, OutOfMemory}
 use Rattle.tree_node.specs.Arenas.{TreeArenas}
 use Rattle.tree_insert.specs.Inserts.{Inserts, declined, refused, stores}
-use Rattle.tree_node.specs.Whole.{IsTree, depth_of, spare_under, walk_under}
+use Rattle.tree_node.specs.Whole.{IsTree, depth_of, root_at, spare_under, walk_under}
 use Rattle.tree_root.specs.declared.tree.Stored.{Stored}
 use Rattle.tree_root.specs.declared.tree.Tree.{Tree}
 use Rattle.tree_split.specs.Packed.{packed_under}
@@ -72,9 +72,9 @@ module _ {K V : Type 0} where
 
 -- The index is a whole tree: these arenas, and this root at the level of its depth.
 pub record IsTreeOf {K V : Type 0} {LEN : ℕ} (cmp : K → K → Ordering) (index : Index K V) (arenas : TreeArenas K V LEN) (root : Option ℕ) : Type 0 where
-  pub tree : IsTree cmp arenas (option_map (λ id. (id, index.depth)) root)
-  pub pairs : walk_under arenas (option_map (λ id. (id, index.depth)) root) ≡ index.pairs
-  pub spare : spare_under arenas (option_map (λ id. (id, index.depth)) root) ≡ index.spare
-  pub packed : packed_under cmp arenas (option_map (λ id. (id, index.depth)) root) ≡ index.packed
+  pub tree : IsTree cmp arenas (option_map (λ id. root_at id index.depth) root)
+  pub pairs : walk_under arenas (option_map (λ id. root_at id index.depth) root) ≡ index.pairs
+  pub spare : spare_under arenas (option_map (λ id. root_at id index.depth) root) ≡ index.spare
+  pub packed : packed_under cmp arenas (option_map (λ id. root_at id index.depth) root) ≡ index.packed
   -- without a root there is no level
   pub rootless : root ≡ None → index.depth ≡ 0

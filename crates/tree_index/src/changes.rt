@@ -14,7 +14,9 @@ impl<K: IndexKey, V: Drop, const LEN: usize> TreeIndexOf<K, V, LEN> {
     /// key stays, and no slot is spent. Makes as many comparisons as [`peek`](TreeIndexOf::peek), and allocates nothing.
     ///
     /// ```
-    /// index.modify_sync(&key, |value| value.wrapping_add(amount))
+    /// fn add(&mut self, key: u64, amount: u64) -> bool {
+    ///     self.modify_sync(&key, |value| value.wrapping_add(amount))
+    /// }
     /// ```
     pub fn modify_sync<F: FnOnce(V) -> V + Drop>(&mut self, key: &K, change: F) -> bool
         requires { ForSome (pair_at K.cmp self.old.pairs key.now) (λ pair. F.pre change pair.1) }
@@ -31,7 +33,9 @@ impl<K: IndexKey, V: Drop, const LEN: usize> TreeIndexOf<K, V, LEN> {
     /// comparisons as [`peek`](TreeIndexOf::peek), and allocates nothing.
     ///
     /// ```
-    /// index.replace_sync(&key, value)
+    /// fn replace(&mut self, key: u64, name: String) -> Result<String, String> {
+    ///     self.replace_sync(&key, name)
+    /// }
     /// ```
     pub fn replace_sync(&mut self, key: &K, val: V) -> Result<V, V>
         ensures { MatchOption (pair_at K.cmp self.old.pairs key.now) ((result ≡ Err val) × (self.new ≡ self.old))

@@ -41,9 +41,9 @@ impl<K: IndexKey, V: Drop, const LEN: usize> TreeIndexOf<K, V, LEN> {
     /// it stay stored. Costs what [`upsert_sync`](TreeIndexOf::upsert_sync) does for each pair. The iterator must end.
     ///
     /// ```
-    /// match index.try_extend(pairs) {
-    ///     Ok(()) => {}
-    ///     Err(_) => return Err(AllocError),
+    /// match self.try_extend(pairs) {
+    ///     Ok(()) => Ok(()),
+    ///     Err(_) => Err(AllocError),
     /// }
     /// ```
     pub fn try_extend<U: IntoIterator<Item = (K, V)>>(&mut self, pairs: U) -> Result<(), (K, V)>
@@ -64,8 +64,9 @@ impl<K: IndexKey, V: Drop, const LEN: usize> TreeIndexOf<K, V, LEN> {
     /// Returns `NotAscending` with the pairs if a key isn't larger than the one before it. Returns `OutOfMemory` if an
     /// allocation is refused. Nothing of the index is left then, and the pairs are dropped.
     ///
-    /// Compares each key with the one before it, and puts each pair behind the last one of the last leaf. A full leaf costs
-    /// a descent. Fills each leaf, and reserves memory for as many. The caller must choose 7 or 15 for `LEN`.
+    /// Compares each key with the one before it. Gathers the pairs into whole leaves and makes a few comparisons for each
+    /// leaf, and those of a descent for each full leaf node. Reserves memory for as many leaves. The caller must choose 7 or
+    /// 15 for `LEN`.
     ///
     /// ```
     /// TreeIndex::from_sorted(alloc, samples)

@@ -1,28 +1,24 @@
 //! Copies of an index.
-ghost use Rattle.std.specs.Prelude.{◌≡◌, [], IfOk};
+ghost use Rattle.std.specs.Prelude.{◌≡◌, [], IfOk, MatchOption};
 ghost use Rattle.std.specs.List.{AllZip};
-ghost use Rattle.std.specs.Option.{ForSome};
-ghost use Rattle.tree_model.specs.Rest.{HasBegun, rest};
 ghost use Rattle.tree_array.specs.Length.{IsLen};
-ghost use Rattle.tree_index.specs.Copies.{AllSmaller, Appends, IsPairClone};
-ghost use Rattle.tree_model.specs.declared.way.Way.TheVariants.{On};
-ghost use Rattle.tree_model.specs.Pairs.{IsAscending};
-ghost use Rattle.tree_root.specs.Lasts.{IsLast};
+ghost use Rattle.tree_index.specs.Copies.{HasLeft, IsPairClone};
 ghost use Rattle.tree_root.specs.Trees.{IsWhole, pairs_of};
 
 use crate::index::TreeIndexOf;
 use std::alloc::{AllocError, Global};
-use tree_array::array::IndexKey;
-use tree_leaf::arena::LeafId;
-use tree_ranges::iter::{IterOf, IterOver};
+use tree_array::array::{IndexKey, RunOf};
+use tree_chain::IterOf;
+use tree_chain::laws::next_or_jump;
 use tree_root::Tree;
+use tree_walk::ends::min_at;
 
 impl<K: IndexKey, V: Drop + Clone, const LEN: usize> TreeIndexOf<K, V, LEN> {
     /// Returns a copy: an index of a clone of each key with a clone of its value, in the same order.
     ///
     /// Returns `Err` if an allocation is refused, one of a clone among them; nothing of the copy is left then. Reserves
-    /// memory for as many leaves as the pairs fill. Puts each clone behind the last pair of the last leaf, without a
-    /// comparison; a full leaf costs a descent.
+    /// memory for as many leaves as the pairs fill. Gathers the clones into whole leaves and makes a few comparisons for each
+    /// leaf, and those of a descent for each full leaf node.
     ///
     /// ```
     /// pub fn snapshot(
@@ -37,9 +33,9 @@ impl<K: IndexKey, V: Drop + Clone, const LEN: usize> TreeIndexOf<K, V, LEN> {
     pub fn try_clone(&self, alloc: Global) -> Result<Self, AllocError>
         ensures { IfOk result (λ copy. AllZip (IsPairClone K.is_clone V.is_clone) self.now.pairs copy.pairs) }
     {
-        let pairs = IterOver::new(&self.tree.arenas, self.tree.root);
+        let source = &self.tree;
         let mut tree = Tree::with_room(alloc, self.len())?;
-        append_clones(&mut tree, pairs)?;
+        append_clones(&mut tree, source)?;
         Ok(TreeIndexOf {
             tree,
             len: self.len,
@@ -48,49 +44,38 @@ impl<K: IndexKey, V: Drop + Clone, const LEN: usize> TreeIndexOf<K, V, LEN> {
     }
 }
 
-/// Appends clones of the pairs that a cursor has left. The tree must be empty.
-fn append_clones<K: IndexKey, V: Drop + Clone, const LEN: usize>(
-    tree: &mut Tree<K, V, LEN>,
-    pairs: IterOf<'_, K, V, LEN>,
-) -> Result<(), AllocError>
-    requires len { IsLen LEN }
-    requires whole { IsWhole K.cmp tree.old }
-    requires begun { HasBegun K.cmp On pairs }
-    requires ascending { IsAscending K.cmp (rest K.cmp On pairs) }
-    requires empty { pairs_of tree.old ≡ [] }
-    ensures { IfOk result (λ _. IsWhole K.cmp tree.new
-        × AllZip (IsPairClone K.is_clone V.is_clone) (rest K.cmp On pairs.entry) (pairs_of tree.new)) }
+/// Returns a walk over all pairs of a tree, or `None` if it has no pair.
+fn walk_of<K: IndexKey, V: Drop, const LEN: usize>(
+    tree: &Tree<K, V, LEN>,
+) -> Option<IterOf<'_, K, V, LEN>>
+    requires { IsWhole K.cmp tree.now }
+    ensures { MatchOption result (pairs_of tree.now ≡ []) (λ pairs. HasLeft pairs (pairs_of tree.now)) }
 {
-    let mut pairs = pairs;
-    let mut last = None;
-    while let Some((key, value)) = pairs.next() {
-        append_clone(tree, &mut last, key, value)?;
-    }
-    Ok(())
+    let root = tree.root?;
+    min_at(&tree.arenas, root.level, root.id)
 }
 
-/// Appends a clone of a pair whose key is larger than all, and keeps the last leaf in `last`.
-#[inline(always)]
-fn append_clone<K: IndexKey, V: Drop + Clone, const LEN: usize>(
+/// Appends a clone of each pair of another tree. The tree must be empty.
+fn append_clones<K: IndexKey, V: Drop + Clone, const LEN: usize>(
     tree: &mut Tree<K, V, LEN>,
-    last: &mut Option<LeafId>,
-    key: &K,
-    value: &V,
+    other: &Tree<K, V, LEN>,
 ) -> Result<(), AllocError>
     requires len { IsLen LEN }
     requires whole { IsWhole K.cmp tree.old }
-    requires last { ForSome last.old (IsLast tree.old) }
-    requires beyond { AllSmaller K.cmp (pairs_of tree.old) key.now }
+    requires empty { pairs_of tree.old ≡ [] }
+    requires other { IsWhole K.cmp other.now }
     ensures whole { IfOk result (λ _. IsWhole K.cmp tree.new) }
-    ensures last { IfOk result (λ _. ForSome last.new (IsLast tree.new)) }
-    ensures appends { IfOk result
-        (λ _. Appends (IsPairClone K.is_clone V.is_clone)
-        (pairs_of tree.old) (key.now, value.now) (pairs_of tree.new)) }
+    ensures clones { IfOk result
+        (λ _. AllZip (IsPairClone K.is_clone V.is_clone) (pairs_of other.now) (pairs_of tree.new)) }
 {
-    match tree.append(last, key.clone()?, value.clone()?) {
-        Ok(()) => Ok(()),
-        Err(_) => Err(AllocError),
+    let Some(mut pairs) = walk_of(other) else {
+        return Ok(());
+    };
+    let mut run = RunOf::new();
+    while let Some((key, value)) = next_or_jump(&mut pairs) {
+        tree.gather(&mut run, key.clone()?, value.clone()?)?;
     }
+    tree.append_run(&mut run)
 }
 
 /// Does what [`try_clone`](TreeIndexOf::try_clone) does, with the allocator of the index.

@@ -87,6 +87,7 @@ impl<K: IndexKey, V: Drop, const LEN: usize> TreeIndexOf<K, V, LEN> {
     ///
     /// ```
     /// fill(index, &[(1, 1), (3, 2), (5, 3), (7, 4)])?;
+    ///
     /// let ProximityOf::Between(ends) = index.locate(&2) else {
     ///     panic!(rt; "2 is between")
     /// };

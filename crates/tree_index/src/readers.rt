@@ -29,7 +29,10 @@ impl<K: IndexKey, V: Drop, const LEN: usize> TreeIndexOf<K, V, LEN> {
     /// Does what [`peek_with`](TreeIndexOf::peek_with) does.
     ///
     /// ```
-    /// assert!(rt; index.read_sync(&key, |_, value| *value).is_some() == there);
+    /// let sum = index.read_sync(&key, |key, value| {
+    ///     calls = calls.saturating_add(1);
+    ///     key.saturating_add(*value)
+    /// });
     /// ```
     pub fn read_sync<R, F: FnOnce(&K, &V) -> R + Drop>(&self, key: &K, reader: F) -> Option<R>
         requires { ForSome (pair_at K.cmp self.now.pairs key.now) (TakesPair F.FnOnce reader) }

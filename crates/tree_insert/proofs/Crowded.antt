@@ -1,10 +1,6 @@
 -- Where no room can be made on the way of a key.
-use Rattle.std.proofs.Common.{◌≡◌, ℕ, zero, suc, ◌-◌, ◌<◌, sym, ◌∙◌, arith, inl, inr, sub-one, Ordering}
-use Rattle.tree_array.proofs.Common.{limit}
-use Rattle.tree_node.proofs.Common.{get, TreeArenas, Unchanged, held, room, HasChildFor}
-use Rattle.tree_insert.specs.Inserts.{HasToDivide}
-use Rattle.tree_node.specs.Shape.{IsCrowded}
-use Rattle.tree_node.proofs.Unchanged.{unchanged_held, unchanged_room}
+use Rattle.tree_insert.proofs.Common.{HasChildFor, HasToDivide, IsCrowded, Ordering, TreeArenas, Unchanged, arith, get, held, inl, inr, limit, room, sub-one, suc, sym, unchanged_held, unchanged_room}
+use Rattle.tree_insert.proofs.Common.{zero, ℕ, ◌-◌, ◌<◌, ◌∙◌, ◌≡◌}
 
 module _ {K V : Type 0} {LEN : ℕ} (cmp : K → K → Ordering) where
   -- the array right under the number has none
@@ -12,15 +8,23 @@ module _ {K V : Type 0} {LEN : ℕ} (cmp : K → K → Ordering) where
   crowded_room zero a id key crowded = crowded
   crowded_room (suc level) a id key crowded = crowded.0
 
+  -- where each child for the key has room, the key's way isn't crowded
+  pub not_crowded : (level : ℕ) → 0 < level → (a : TreeArenas K V LEN) (id : ℕ) (key : K)
+      → ((child : ℕ) → HasChildFor cmp key (get a.nodes id) child → 0 < room (level - 1) a child) → IsCrowded cmp level a id key → ⊥
+  not_crowded zero deep a id key some crowded = omega (arith, deep)
+  not_crowded (suc level) deep a id key some crowded =
+      let more : 0 < room level a crowded.1 = rw sub-one at (some crowded.1 crowded.2) in
+      omega (arith, more, crowded_room level a crowded.1 key crowded.4)
+
   -- nor can it be made above a child where it can't be made
-  pub crowded_above : (level : ℕ) → 0 < level → (a : TreeArenas K V LEN) (id child : ℕ) (key : K) → room level a id ≡ 0 → HasChildFor cmp key (get a.nodes id) child → limit LEN < held (level - 1) a child
-      → IsCrowded cmp (level - 1) a child key → IsCrowded cmp level a id key
+  pub crowded_above : (level : ℕ) → 0 < level → (a : TreeArenas K V LEN) (id child : ℕ) (key : K) → room level a id ≡ 0 → HasChildFor cmp key (get a.nodes id) child
+      → limit LEN < held (level - 1) a child → IsCrowded cmp (level - 1) a child key → IsCrowded cmp level a id key
   crowded_above zero deep a id child key none which many crowded = absurd (omega (arith, deep))
   crowded_above (suc level) deep a id child key none which many crowded = (none, child, which, rw sub-one at many, rw sub-one at crowded)
 
   -- the child for the key is full, and has too many to be built anew
-  pub child_divides : (level : ℕ) → 0 < level → (a : TreeArenas K V LEN) (id child : ℕ) (key : K) → HasChildFor cmp key (get a.nodes id) child → room (level - 1) a child ≡ 0 → limit LEN < held (level - 1) a child
-      → HasToDivide cmp level a id key
+  pub child_divides : (level : ℕ) → 0 < level → (a : TreeArenas K V LEN) (id child : ℕ) (key : K) → HasChildFor cmp key (get a.nodes id) child → room (level - 1) a child ≡ 0
+      → limit LEN < held (level - 1) a child → HasToDivide cmp level a id key
   child_divides zero deep a id child key which none many = absurd (omega (arith, deep))
   child_divides (suc level) deep a id child key which none many = (child, which, inl (rw sub-one at none, rw sub-one at many))
 

@@ -1,30 +1,26 @@
 -- An insert in a leaf, and in the child that a key belongs to.
-use Rattle.std.proofs.Common.{◌≡◌, ℕ, suc, ◌-◌, ◌≤◌, min, Bool, false, List, [], ◌∷◌, ◌++◌, length, length-append, Option, Some, None, Result, Ok, Err, refl, sym, ap, ◌∙◌, arith, inl, inr, Ordering, Less}
-use Rattle.tree_model.proofs.Common.{AllByRecursion, IsTotalOrder, cases_eq, AllLarger, put}
-use Rattle.tree_array.proofs.Common.{Arrivals, free, spend, spent_at, IsFull, all-append, all-filter}
-use Rattle.tree_array.specs.declared.answers.StoreResult.{StoreResult}
-use Rattle.tree_array.specs.declared.answers.StoreResult.TheVariants.{New, Replaced, Duplicate, Full}
-use Rattle.tree_node.proofs.Common.{get, LeafOf, TreeArenas, IsPart, Unchanged, spare, found_free, HasChildFor, Stands, walk}
+use Rattle.tree_insert.proofs.Common.{AllByRecursion, AllLarger, Arrivals, Bool, Duplicate, Err, Full, HasChildFor, Inserts, InsertsUnder, IsPacked, IsPart, IsStore, IsStored, IsTotalOrder, LeafOf}
+use Rattle.tree_insert.proofs.Common.{Less, List, New, None, Ok, Ordering, Replaced, Result, Some, StoreResult, TreeArenas, Unchanged, [], all-append, all-filter, ap, arith, array_replaces}
+use Rattle.tree_insert.proofs.Common.{asks_split, back_walk_above, cases_eq, declined, edge_below, false, free, front_walk_below, get, here_now, inl, inr, length, length-append, new_spare, new_walk}
+use Rattle.tree_insert.proofs.Common.{node_replaces, node_stands, none_free, old_spare, old_walk, on_err_weaker, packed_above, packed_stored, put, refl, refused, same_node, spare_written, spend}
+use Rattle.tree_insert.proofs.Common.{spent_at, sub-one, suc, sym, updated, walk, with_array, zero, ℕ, ◌++◌, ◌-◌, ◌<◌, ◌∙◌, ◌∷◌, ◌≡◌}
 use Rattle.std.proofs.lemmas.List.{length-map}
-use Rattle.std.proofs.lemmas.Result.{on_err_weaker}
-use Rattle.tree_array.specs.Insertion.{IsStore, IsStored}
+use Rattle.tree_insert.proofs.Restarts.{changes_nothing}
 use Rattle.tree_model.proofs.Ascending.{IsAscending-put}
 use Rattle.tree_model.proofs.Lengths.{length-put, without_few}
-use Rattle.tree_insert.specs.Inserts.{Inserts, InsertsUnder, asks_split, declined, refused}
-use Rattle.tree_node.specs.Shape.{leaf_free, found_spare}
-use Rattle.tree_node.proofs.Between.{found_between, put_between}
-use Rattle.tree_node.proofs.ChildChanges.{node_stands, node_replaces, old_spare, new_spare, old_walk, new_walk, same_node}
-use Rattle.tree_node.proofs.Children.{walk-leaf}
-use Rattle.tree_node.proofs.LeafSpares.{spare_written}
-use Rattle.tree_node.proofs.LeafWrites.{with_array, here_now, array_replaces, updated}
-use Rattle.tree_node.proofs.Walks.{front_walk_below, back_walk_above}
-use Rattle.tree_split.specs.Packed.{IsPacked}
 use Rattle.tree_model.proofs.LookUps.{put_beyond}
-use Rattle.tree_split.proofs.Arrays.{packed_stored}
-use Rattle.tree_split.proofs.Edges.{edge_below, packed_above}
-use Rattle.tree_split.proofs.Fulls.{none_free}
+use Rattle.tree_node.proofs.Between.{found_between, put_between}
+use Rattle.tree_node.proofs.Children.{walk-leaf}
 
-module _ {K V : Type 0} {LEN : ℕ} {cmp : K → K → Ordering} (o : IsTotalOrder cmp) (upsert : Bool) (a : TreeArenas K V LEN) (id : ℕ) (leaf : LeafOf K V LEN) (array : Arrivals K V) (key : K) (val : V) (was : get a.leaves id ≡ Some leaf) where
+-- an answer that isn't `Full` asks for no split
+pub no_split : {K V : Type 0} (answer : StoreResult K V) → ((k : K) (v : V) → answer ≡ Full k v → ⊥) → asks_split {K = K} {V = V} (Ok answer) ≡ false
+no_split New not = refl
+no_split Replaced not = refl
+no_split (Duplicate k v) not = refl
+no_split (Full k v) not = absurd (not k v refl)
+
+module _ {K V : Type 0} {LEN : ℕ} {cmp : K → K → Ordering} (o : IsTotalOrder cmp) (upsert : Bool) (a : TreeArenas K V LEN) (id : ℕ) (leaf : LeafOf K V LEN)
+    (array : Arrivals K V) (key : K) (val : V) (was : get a.leaves id ≡ Some leaf) where
   abbrev new : TreeArenas K V LEN
   new = with_array a id leaf array
 
@@ -33,15 +29,6 @@ module _ {K V : Type 0} {LEN : ℕ} {cmp : K → K → Ordering} (o : IsTotalOrd
 
   walk_is : walk 0 new id ≡ array.entries
   walk_is = walk-leaf new id _ (here_now a id leaf array was)
-
-  room_was : leaf_free a.leaves id ≡ found_free (Some leaf)
-  room_was = rw was refl
-
-  spare_was : spare 0 a id ≡ min (found_spare (Some leaf)) LEN
-  spare_was = rw was refl
-
-  spare_is : spare 0 new id ≡ min (found_spare {V = V} {LEN = LEN} (Some (record leaf { array = array }))) LEN
-  spare_is = rw (here_now a id leaf array was) refl
 
   -- the array is what it was, and so is everything
   nothing_changed : array ≡ leaf.array → Unchanged a new
@@ -53,23 +40,12 @@ module _ {K V : Type 0} {LEN : ℕ} {cmp : K → K → Ordering} (o : IsTotalOrd
     nodes = λ n. refl;
   }
 
-  kept : array ≡ leaf.array → (low high : Option K) → Stands cmp 0 a low id high → Stands cmp 0 new low id high
-  kept same low high s =
-      let both : Some s.leaf ≡ Some leaf = sym s.here ∙ was in
-      let is : s.leaf ≡ leaf = cc in
-      record { leaf = record leaf { array = array }; here = here_now a id leaf array was; few = rw (same, ← is) s.few; ascending = rw (same, ← is) s.ascending; above = rw (same, ← is) s.above; up_to = rw (same, ← is) s.up_to }
-
-  as_spare : array ≡ leaf.array → spare 0 a id ≤ suc (spare 0 new id)
-  as_spare same = rw (spare_was, spare_is, same) (omega arith)
-
-  no_room : IsFull LEN leaf.array → found_free {V = V} {LEN = LEN} (Some leaf) ≡ 0
-  no_room full = none_free LEN leaf.array full
-
   all_put : (P : K × V → Type 0) (pairs : List (K × V)) → P (key, val) → AllByRecursion P pairs → AllByRecursion P (put cmp pairs key val)
   all_put P pairs here all = all-append P _ _ (all-filter P _ pairs all) (here, all-filter P _ pairs all)
 
   -- the pair was stored
-  success : (result : StoreResult K V) → refused {K = K} {V = V} (Ok result) ≡ false → asks_split {K = K} {V = V} (Ok result) ≡ false → declined {K = K} {V = V} (Ok result) ≡ false → Inserts cmp upsert (Ok result) leaf.array.entries key val array.entries
+  success : (result : StoreResult K V) → refused {K = K} {V = V} (Ok result) ≡ false → asks_split {K = K} {V = V} (Ok result) ≡ false
+      → declined {K = K} {V = V} (Ok result) ≡ false → Inserts cmp upsert (Ok result) leaf.array.entries key val array.entries
       → IsStored cmp LEN upsert leaf.array key val array → InsertsUnder cmp upsert 0 a new id (Ok result) key val
   success result taken no_split accepted pairs ins = record {
     pairs = rw (walk_was, walk_is) pairs;
@@ -85,16 +61,15 @@ module _ {K V : Type 0} {LEN : ℕ} {cmp : K → K → Ordering} (o : IsTotalOrd
           up_to = rw entries (all_put _ leaf.array.entries up_to (rw is at s.up_to));
         };
     replaces = array_replaces a id leaf array was;
-    lowers = rw (spare_was, spare_is, ins.new_is, ins.room.1)
-        (omega (
-          arith,
-          spare_written LEN (length leaf.array.entries) (free LEN leaf.array) (length (put cmp leaf.array.entries key val)) (LEN - length (spend cmp leaf.array.arrivals key ++ Some (key, val) ∷ []))
-              (omega (arith, length-put cmp leaf.array.entries key val, without_few cmp leaf.array.entries key)) (omega (arith, more, ins.room.0)),
-        ));
-    spent = λ so deep. absurd (let both = sym so ∙ taken in cc);
-    full = λ so. absurd (let both = sym so ∙ no_split in cc);
+    lowers =
+        let written = spare_written LEN (length leaf.array.entries) (free LEN leaf.array) (length (put cmp leaf.array.entries key val))
+        (LEN - length (spend cmp leaf.array.arrivals key ++ Some (key, val) ∷ []))
+        (omega (arith, length-put cmp leaf.array.entries key val, without_few cmp leaf.array.entries key)) (omega (arith, more, ins.room.0)) in
+        rw (was, here_now a id leaf array was, ins.new_is, ins.room.1) (omega (arith, written));
+    spent = λ so deep. absurd (cc);
+    full = λ so. absurd (cc);
     divided = tt;
-    unchanged = λ so. absurd (let both = sym so ∙ accepted in cc);
+    unchanged = λ so. absurd (cc);
     packed = λ so e. (packed_put e, omega arith);
   }
     where
@@ -120,32 +95,18 @@ module _ {K V : Type 0} {LEN : ℕ} {cmp : K → K → Ordering} (o : IsTotalOrd
   pub inserts_in_leaf : (result : StoreResult K V) → IsStore cmp LEN upsert leaf.array key val result array → InsertsUnder cmp upsert 0 a new id (Ok result) key val
   inserts_in_leaf New ins = success New refl refl refl (ins.1, rw ins.0.new_is refl) ins.0
   inserts_in_leaf Replaced ins = success Replaced refl refl refl (ins.1, ins.2, rw ins.0.new_is refl) ins.0
-  inserts_in_leaf (Duplicate k v) ins = record {
-    pairs = rw (walk_was, walk_is) (ins.only_insert, ins.present, ins.back.same_key, ins.back.same_val, ap (λ (x : Arrivals K V). x.entries) ins.back.new_is);
-    stands = λ low high above up_to s. kept ins.back.new_is low high s;
-    replaces = array_replaces a id leaf array was;
-    lowers = as_spare ins.back.new_is;
-    spent = λ so deep. absurd (cc);
-    full = λ so. absurd (cc);
-    divided = tt;
-    unchanged = λ so. nothing_changed ins.back.new_is;
-    packed = λ so. absurd (cc);
-  }
-  inserts_in_leaf (Full k v) ins = record {
-    pairs = rw (walk_was, walk_is) (ins.absent, ins.back.same_key, ins.back.same_val, ap (λ (x : Arrivals K V). x.entries) ins.back.new_is);
-    stands = λ low high above up_to s. kept ins.back.new_is low high s;
-    replaces = array_replaces a id leaf array was;
-    lowers = as_spare ins.back.new_is;
-    spent = λ so deep. absurd (omega (arith, deep refl));
-    full = λ so. room_was ∙ no_room ins.full;
-    divided = tt;
-    unchanged = λ so. nothing_changed ins.back.new_is;
-    packed = λ so. absurd (cc);
-  }
+  inserts_in_leaf (Duplicate k v) ins =
+      changes_nothing (nothing_changed ins.back.new_is) 0 id (Ok (Duplicate k v)) refl
+      (rw walk_was (ins.only_insert, ins.present, ins.back.same_key, ins.back.same_val, refl)) (λ so deep. absurd (cc)) (λ so. absurd (cc)) tt
+  inserts_in_leaf (Full k v) ins =
+      changes_nothing (nothing_changed ins.back.new_is) 0 id (Ok (Full k v)) refl
+      (rw walk_was (ins.absent, ins.back.same_key, ins.back.same_val, refl)) (λ so deep. absurd (omega (arith, deep refl)))
+      (λ so. rw was (none_free LEN leaf.array ins.full)) tt
 
 module _ {K V : Type 0} {cmp : K → K → Ordering} (o : IsTotalOrder cmp) (upsert : Bool) (key : K) (val : V) (front old new back : List (K × V))
     (smaller : AllByRecursion (λ p. cmp p.0 key ≡ Less) front) (larger : AllLarger cmp key back) where
-  pub inserted_between : (result : Result (StoreResult K V) (K × V)) → Inserts cmp upsert result old key val new → Inserts cmp upsert result (front ++ (old ++ back)) key val (front ++ (new ++ back))
+  pub inserted_between : (result : Result (StoreResult K V) (K × V)) → Inserts cmp upsert result old key val new
+      → Inserts cmp upsert result (front ++ (old ++ back)) key val (front ++ (new ++ back))
   inserted_between (Ok New) ins =
       (found_between o key front old back smaller larger ∙ ins.0, rw (put_between o key front old back smaller larger val, ins.1) refl)
   inserted_between (Ok Replaced) ins =
@@ -157,27 +118,36 @@ module _ {K V : Type 0} {cmp : K → K → Ordering} (o : IsTotalOrder cmp) (ups
   inserted_between (Err pair) ins =
       (λ first. found_between o key front old back smaller larger ∙ ins.0 first, ins.1, ins.2, rw ins.3 refl)
 
-module _ {K V : Type 0} {LEN : ℕ} {cmp : K → K → Ordering} (o : IsTotalOrder cmp) (upsert : Bool) (level : ℕ) (old new : TreeArenas K V LEN) (id child : ℕ) (key : K) (val : V) where
-  -- an insert in the child, which asks for no split, is one in the node
-  pub inserts_in_node : (result : Result (StoreResult K V) (K × V)) → IsPart cmp (suc level) old id → HasChildFor cmp key (get old.nodes id) child
-      → InsertsUnder cmp upsert level old new child result key val → asks_split result ≡ false → InsertsUnder cmp upsert (suc level) old new id result key val
-  inserts_in_node result part which ins no_split =
-      let s : Stands cmp (suc level) old None id None = part.stands in
-      let whole = old_spare o level old id child key part which None None s new ins.replaces in
-      let rest = new_spare o level old id child key part which None None s new ins.replaces in
-      record {
-        pairs =
-            rw (old_walk o level old id child key part which None None s new ins.replaces, new_walk o level old id child key part which None None s new ins.replaces)
-            (inserted_between o upsert key val _ _ _ _ (front_walk_below o level old None id None s key) (back_walk_above o level old None id None s key) result ins.pairs);
-        stands = λ low high above up_to s. node_stands o level old id child key part which low high s new ins.replaces ins.stands above up_to;
-        replaces = node_replaces o level old id child key part which None None s new ins.replaces;
-        lowers = omega (arith, whole, rest, ins.lowers);
-        spent = λ so deep. omega (arith, whole, ins.spent so (λ asks. absurd (let both = sym asks ∙ no_split in cc)));
-        full = λ so. absurd (let both = sym so ∙ no_split in cc);
-        divided = on_err_weaker result (λ below. (child, which, inr below)) ins.divided;
-        unchanged = λ so. ins.unchanged so;
-        packed = λ so e. (
-          packed_above o level old id child key part which e new ins.replaces None (λ s less. tt) (ins.packed so (edge_below o level old id child key part which e)).0,
-          rw (same_node o level old id child key part which None None s new ins.replaces) (omega arith),
-        );
-      }
+-- an insert in the child is one of the node's pairs
+pub inserts_above : {K V : Type 0} {LEN : ℕ} {cmp : K → K → Ordering} (o : IsTotalOrder cmp) {upsert : Bool} {level : ℕ} {old new : TreeArenas K V LEN}
+    {id child : ℕ} {key : K} {val : V} {result : Result (StoreResult K V) (K × V)} → IsPart cmp (suc level) old id → HasChildFor cmp key (get old.nodes id) child
+    → InsertsUnder cmp upsert level old new child result key val → Inserts cmp upsert result (walk (suc level) old id) key val (walk (suc level) new id)
+inserts_above o {upsert} {level} {old} {new} {id} {child} {key} {val} {result} part which ins =
+    let s = part.stands in
+    rw (old_walk o level old id child key part which None None s new ins.replaces, new_walk o level old id child key part which None None s new ins.replaces)
+    (inserted_between o upsert key val _ _ _ _ (front_walk_below o level old None id None s key) (back_walk_above o level old None id None s key) result ins.pairs)
+
+-- and, if it asks for no split, one in the node
+pub inserts_in_node : {K V : Type 0} {LEN : ℕ} {cmp : K → K → Ordering} (o : IsTotalOrder cmp) {upsert : Bool} (level : ℕ) → 0 < level
+    → {old new : TreeArenas K V LEN} {id child : ℕ} {key : K} {val : V} (result : Result (StoreResult K V) (K × V)) → IsPart cmp level old id
+    → HasChildFor cmp key (get old.nodes id) child → InsertsUnder cmp upsert (level - 1) old new child result key val → asks_split result ≡ false
+    → InsertsUnder cmp upsert level old new id result key val
+inserts_in_node o zero deep result part which ins no_split = absurd (omega (arith, deep))
+inserts_in_node o (suc level) deep {old} {new} {id} {child} {key} {val} result part which ins' no_split =
+    let ins = rw sub-one at ins' in
+    let whole = old_spare o level old id child key part which None None part.stands new ins.replaces in
+    let rest = new_spare o level old id child key part which None None part.stands new ins.replaces in
+    record {
+      pairs = inserts_above o part which ins;
+      stands = λ low high above up_to s. node_stands o level old id child key part which low high s new ins.replaces ins.stands above up_to;
+      replaces = node_replaces o level old id child key part which None None part.stands new ins.replaces;
+      lowers = omega (arith, whole, rest, ins.lowers);
+      spent = λ so deep. omega (arith, whole, ins.spent so (λ asks. absurd (cc)));
+      full = λ so. absurd (cc);
+      divided = on_err_weaker result (λ below. (child, which, inr below)) ins.divided;
+      unchanged = λ so. ins.unchanged so;
+      packed = λ so e. (
+        packed_above o level old id child key part which e new ins.replaces None (λ s less. tt) (ins.packed so (edge_below o level old id child key part which e)).0,
+        rw (same_node o level old id child key part which None None part.stands new ins.replaces) (omega arith),
+      );
+    }

@@ -1,6 +1,6 @@
 mod Attempts
+mod Common
 pub mod Crowded
-mod Descents
 mod FirstPairs
 pub mod Inserts
 pub mod LeafNodes

@@ -1,23 +1,32 @@
 -- A root that comes under a new one, in which it is split.
-use Rattle.std.proofs.Common.{◌≡◌, ℕ, zero, suc, ◌+◌, ◌-◌, ◌<◌, ◌==◌, cond, [], ◌∷◌, Option, Some, None, is_some, refl, sym, ap, ◌∙◌, arith, add-one, sub-one, inl, inr, Ordering, append-nil}
-use Rattle.tree_model.proofs.Common.{cases_eq}
-use Rattle.tree_array.proofs.Common.{in_order, IsLen}
-use Rattle.tree_node.proofs.Common.{get, times, uses, same_array_refl, times-cons, one_here, none_here, uses_some, uses_none, uses_same, TreeArenas, IsPart, Unchanged, room, Stands, walk, leaves_at, nodes_at, children_of}
+use Rattle.tree_insert.proofs.Common.{Agrees, Gains, HasKind, Internal, IsLen, IsPacked, IsPart, KeepsBoth, None, Option, Ordering, RaisesRoot, Some, SplitsChild, Stands, TreeArenas, Unchanged, []}
+use Rattle.tree_insert.proofs.Common.{add-one, agrees_here, ap, append-nil, arith, cases_eq, chain_same, children_of, cond, get, head_here, in_order, inl, inr, is_some, leaves_at, nodes_at, none_here}
+use Rattle.tree_insert.proofs.Common.{one_here, refl, room, same_array_refl, same_leaves, same_nodes, same_packed, same_stands, same_walk, sub-one, suc, sym, times, times-cons, unchanged_by_keeping}
+use Rattle.tree_insert.proofs.Common.{uses, uses_none, uses_same, uses_some, walk, walk-children, zero, ℕ, ◌+◌, ◌<◌, ◌==◌, ◌∙◌, ◌∷◌, ◌≡◌}
+use Rattle.tree_node.proofs.Common.{single_leaves, single_nodes}
 use Rattle.tree_node.specs.declared.branch.BranchOf.{BranchOf}
-use Rattle.tree_node.specs.declared.node.NodeOf.TheVariants.{Internal}
-use Rattle.tree_leaf.specs.Arena.{Gains, KeepsBoth}
-use Rattle.tree_insert.specs.Roots.{RaisesRoot}
-use Rattle.tree_split.specs.Splits.{SplitsChild}
-use Rattle.tree_split.specs.Packed.{IsPacked}
-use Rattle.tree_split.proofs.Edges.{same_packed}
-use Rattle.tree_node.proofs.Frames.{Agrees, agrees_here, head_here, same_leaves, same_nodes, same_walk, same_stands}
-use Rattle.tree_node.proofs.Lifts.{single_leaves, single_nodes}
-use Rattle.tree_node.proofs.Unchanged.{chain_same, unchanged_by_keeping}
-use Rattle.tree_node.proofs.Walks.{walk-children}
 
-module _ {K V : Type 0} {LEN : ℕ} {cmp : K → K → Ordering} (level : ℕ) (old reserved mid : TreeArenas K V LEN) (root id : ℕ) (top : BranchOf K ℕ LEN)
-    (part : IsPart cmp (suc level) old root) (keeps : KeepsBoth old reserved) (gains : Gains reserved.nodes mid.nodes id (Internal top)) (leaves : mid.leaves ≡ reserved.leaves)
-    (keyed_none : top.children ≡ in_order []) (last : top.unbounded_child ≡ Some root) where
+-- above the leaves each node is an internal one
+inner_above : {K : Type 0} {LEN : ℕ} (depth : ℕ) (node : BranchOf K ℕ LEN) → 0 < depth → HasKind depth (Internal node)
+inner_above zero node deep = omega (arith, deep)
+inner_above (suc depth) node deep = tt
+
+room_agrees : {K V : Type 0} {LEN : ℕ} {a b : TreeArenas K V LEN} {id : ℕ} (level : ℕ) → 0 < level → Agrees level a b id → room level b id ≡ room level a id
+room_agrees zero deep agrees = absurd (omega (arith, deep))
+room_agrees {a = a} {b} {id} (suc level) deep agrees = rw (agrees_here level a b id agrees) refl
+
+-- a new root over the old one, and what a split under it makes
+pub record RaisedTop {K V : Type 0} {LEN : ℕ} (cmp : K → K → Ordering) (depth above : ℕ) (old mid : TreeArenas K V LEN) (root id : ℕ) : Type 0 where
+  pub part : IsPart cmp above mid id
+  pub inside : 0 < times root (children_of mid.nodes id)
+  pub roomy : 6 < room above mid id
+  pub raises_by : (new : TreeArenas K V LEN) → SplitsChild cmp above mid new id root → ((n : ℕ) → get new.leaves n ≡ get mid.leaves n)
+      → RaisesRoot cmp depth old new root id
+
+module _ {K V : Type 0} {LEN : ℕ} {cmp : K → K → Ordering} (depth : ℕ) (deep : 0 < depth) (is_len : IsLen LEN) {old reserved : TreeArenas K V LEN}
+    (mid : TreeArenas K V LEN) {root id : ℕ} {top : BranchOf K ℕ LEN} (part : IsPart cmp depth old root) (keeps : KeepsBoth old reserved)
+    (gains : Gains reserved.nodes mid.nodes id (Internal top)) (leaves : mid.leaves ≡ reserved.leaves) (keyed_none : top.children ≡ in_order [])
+    (last : top.unbounded_child ≡ Some root) where
   same : Unchanged old reserved
   same = unchanged_by_keeping old reserved keeps
 
@@ -34,20 +43,20 @@ module _ {K V : Type 0} {LEN : ℕ} {cmp : K → K → Ordering} (level : ℕ) (
   top_children : children_of mid.nodes id ≡ root ∷ []
   top_children = rw (gains.updates.changed, keyed_none, last) refl
 
-  agrees : Agrees (suc level) old mid root
+  agrees : Agrees depth old mid root
   agrees = record {
     nodes = λ m below. nodes_stay m (λ at_id. omega (arith, part.nodes_once m, uses_none old.nodes m (rw at_id was_free), below));
     leaves = λ m below. rw (leaves_stay m) (same_array_refl (get old.leaves m));
   }
 
-  top_leaves : leaves_at (suc (suc level)) mid.nodes id ≡ leaves_at (suc level) old.nodes root
-  top_leaves = rw top_children (single_leaves (suc level) mid.nodes root ∙ same_leaves (suc level) old mid root agrees)
+  top_leaves : leaves_at (suc depth) mid.nodes id ≡ leaves_at depth old.nodes root
+  top_leaves = rw top_children (single_leaves depth mid.nodes root ∙ same_leaves depth old mid root agrees)
 
-  top_nodes : nodes_at (suc (suc level)) mid.nodes id ≡ id ∷ nodes_at (suc level) old.nodes root
-  top_nodes = rw top_children (ap (λ ids. id ∷ ids) (single_nodes (suc level) mid.nodes root ∙ same_nodes (suc level) old mid root agrees))
+  top_nodes : (n : ℕ) → times n (nodes_at (suc depth) mid.nodes id) ≡ cond (id == n) 1 0 + times n (nodes_at depth old.nodes root)
+  top_nodes n = rw (times-cons n id, top_children, single_nodes depth mid.nodes root, same_nodes depth old mid root agrees) refl
 
-  top_walk : walk (suc (suc level)) mid id ≡ walk (suc level) old root
-  top_walk = walk-children (suc level) mid id ∙ rw top_children (append-nil (walk (suc level) mid root) ∙ same_walk (suc level) old mid root agrees)
+  top_walk : walk (suc depth) mid id ≡ walk depth old root
+  top_walk = walk-children depth mid id ∙ rw top_children (append-nil (walk depth mid root) ∙ same_walk depth old mid root agrees)
 
   uses_now : (n : ℕ) → uses mid.nodes n ≡ uses old.nodes n + cond (id == n) 1 0
   uses_now n = elim (cases_eq n id) [
@@ -58,42 +67,23 @@ module _ {K V : Type 0} {LEN : ℕ} {cmp : K → K → Ordering} (level : ℕ) (
     | inr differs ↦ omega (arith, uses_same old.nodes mid.nodes n (ap is_some (nodes_stay n differs)), none_here n id differs)
   ]
 
-  top_stands : Stands cmp (suc (suc level)) mid None id None
+  top_stands : Stands cmp (suc depth) mid None id None
   top_stands = record {
     node = Internal top;
     here = gains.updates.changed;
-    kind = tt;
+    kind = inner_above depth top deep;
     last = root;
     last_is = last;
     few = rw keyed_none (omega arith);
-    parted = rw keyed_none (same_stands cmp (suc level) old mid root agrees None None part.stands);
+    parted = rw keyed_none (same_stands cmp depth old mid root agrees None None part.stands);
   }
-
-  top_part : IsPart cmp (suc (suc level)) mid id
-  top_part = record {
-    stands = top_stands;
-    nodes_once = λ n. rw (top_nodes, times-cons n id) (omega (arith, uses_now n, part.nodes_once n));
-    front = part.front;
-    back = part.back;
-    chain = rw top_leaves (chain_same old.leaves mid.leaves leaves_stay _ part.chain);
-  }
-
-  root_inside : 0 < times root (children_of mid.nodes id)
-  root_inside = rw top_children (head_here root [])
 
   -- the new root has room for a separator
-  top_room : IsLen LEN → 6 < room (suc (suc level)) mid id
-  top_room is_len = rw (gains.updates.changed, last, keyed_none) (by_len is_len)
-    where
-      by_len : IsLen LEN → 6 < LEN - 0
-      by_len (inl seven) = omega (arith, seven)
-      by_len (inr fifteen) = omega (arith, fifteen)
-
-  room_stays : room (suc level) old root ≡ 0 → room (suc level) mid root ≡ 0
-  room_stays none = rw (agrees_here level old mid root agrees) none
+  top_room : 6 < room (suc depth) mid id
+  top_room = rw (gains.updates.changed, last, keyed_none) (omega arith)
 
   -- with the packed part as its only child, the new root is packed too
-  top_packed : (beyond : Option K) → IsPacked cmp beyond (suc level) old root → IsPacked cmp beyond (suc (suc level)) mid id
+  top_packed : (beyond : Option K) → IsPacked cmp beyond depth old root → IsPacked cmp beyond (suc depth) mid id
   top_packed beyond e = record {
     node = Internal top;
     here = gains.updates.changed;
@@ -102,64 +92,48 @@ module _ {K V : Type 0} {LEN : ℕ} {cmp : K → K → Ordering} (level : ℕ) (
     full = rw keyed_none tt;
     last = root;
     last_is = last;
-    edge = same_packed cmp beyond (suc level) old mid root agrees e;
+    edge = same_packed cmp beyond depth old mid root agrees e;
   }
 
-  raises : IsLen LEN → (new : TreeArenas K V LEN) → SplitsChild cmp (suc (suc level)) mid new id root → ((n : ℕ) → get new.leaves n ≡ get mid.leaves n) → RaisesRoot cmp (suc level) old new root id
-  raises is_len new split others = record {
+  raises : (new : TreeArenas K V LEN) → SplitsChild cmp (suc depth) mid new id root → ((n : ℕ) → get new.leaves n ≡ get mid.leaves n)
+      → RaisesRoot cmp depth old new root id
+  raises new split others = record {
     pairs = split.pairs ∙ top_walk;
     stands = split.keeps None None top_stands;
     nodes_kept = λ n used outside.
         let differs : n ≡ id → ⊥ = λ at_id. let none : get old.nodes n ≡ None = rw at_id was_free in let gone = rw none at used in cc in
         split.replaces.nodes_kept n (rw (nodes_stay n differs) used)
-        (omega (arith, outside, ap (times n) (single_nodes (suc (suc level)) mid.nodes id), ap (times n) top_nodes, times-cons n id (nodes_at (suc level) old.nodes root), none_here n id differs))
+        (omega (arith, outside, ap (times n) (single_nodes (suc depth) mid.nodes id), top_nodes n, none_here n id differs))
         ∙ nodes_stay n differs;
     leaves_kept = λ n. others n ∙ leaves_stay n;
     nodes_counted = λ n.
-        omega (
-          arith,
-          split.replaces.nodes_counted n,
-          ap (times n) (single_nodes (suc (suc level)) mid.nodes id),
-          ap (times n) (single_nodes (suc (suc level)) new.nodes id),
-          ap (times n) top_nodes,
-          times-cons n id (nodes_at (suc level) old.nodes root),
-          uses_now n,
-        );
+        let was = ap (times n) (single_nodes (suc depth) mid.nodes id) in
+        let is = ap (times n) (single_nodes (suc depth) new.nodes id) in
+        omega (arith, split.replaces.nodes_counted n, was, is, top_nodes n, uses_now n);
     leaves_counted = λ n.
-        omega (
-          arith,
-          split.replaces.leaves_counted n,
-          ap (times n) (single_leaves (suc (suc level)) mid.nodes id),
-          ap (times n) (single_leaves (suc (suc level)) new.nodes id),
-          ap (times n) top_leaves,
-          uses_same old.leaves mid.leaves n (ap is_some (leaves_stay n)),
-        );
+        let was = ap (times n) (single_leaves (suc depth) mid.nodes id ∙ top_leaves) in
+        let is = ap (times n) (single_leaves (suc depth) new.nodes id) in
+        omega (arith, split.replaces.leaves_counted n, was, is, uses_same old.leaves mid.leaves n (ap is_some (leaves_stay n)));
     chained = λ front back chain.
-        rw (single_leaves (suc (suc level)) new.nodes id) at (split.replaces.chained front back (rw (single_leaves (suc (suc level)) mid.nodes id, top_leaves) (chain_same old.leaves mid.leaves leaves_stay _ chain)));
-    roomy = omega (arith, split.spends, top_room is_len);
+        rw (single_leaves (suc depth) new.nodes id) at (split.replaces.chained front back
+        (rw (single_leaves (suc depth) mid.nodes id, top_leaves) (chain_same old.leaves mid.leaves leaves_stay _ chain)));
+    roomy = omega (arith, split.spends, top_room);
     packed = λ beyond none e.
-        let more = split.packed beyond (rw gains.updates.changed last) (rw sub-one (room_stays none)) (top_packed beyond e) in
+        let more = split.packed beyond (rw gains.updates.changed last) (rw sub-one (room_agrees depth deep agrees ∙ none)) (top_packed beyond e) in
         (more.0, omega (arith, more.1));
     routed = λ key child which. rw sub-one at (split.routed key (rw (gains.updates.changed, last, keyed_none) refl) child which);
   }
 
--- the same where the depth is a number of the program
-module _ {K V : Type 0} {LEN : ℕ} {cmp : K → K → Ordering} where
-  pub top_part_at : (depth : ℕ) → 0 < depth → (old reserved mid : TreeArenas K V LEN) (root id : ℕ) (top : BranchOf K ℕ LEN) → IsPart cmp depth old root → KeepsBoth old reserved → Gains reserved.nodes mid.nodes id (Internal top) → mid.leaves ≡ reserved.leaves
-      → top.children ≡ in_order [] → top.unbounded_child ≡ Some root → IsPart cmp (depth + 1) mid id × (0 < times root (children_of mid.nodes id))
-  top_part_at zero deep old reserved mid root id top part keeps gains leaves keyed_none last = absurd (omega (arith, deep))
-  top_part_at (suc level) deep old reserved mid root id top part keeps gains leaves keyed_none last =
-      (rw add-one (top_part level old reserved mid root id top part keeps gains leaves keyed_none last), root_inside level old reserved mid root id top part keeps gains leaves keyed_none last)
-
-  pub top_room_at : (depth : ℕ) → 0 < depth → (old reserved mid : TreeArenas K V LEN) (root id : ℕ) (top : BranchOf K ℕ LEN) → IsPart cmp depth old root → KeepsBoth old reserved → Gains reserved.nodes mid.nodes id (Internal top) → mid.leaves ≡ reserved.leaves
-      → top.children ≡ in_order [] → top.unbounded_child ≡ Some root → IsLen LEN → room (depth + 1) mid id ≡ 0 → ⊥
-  top_room_at zero deep old reserved mid root id top part keeps gains leaves keyed_none last is_len none = omega (arith, deep)
-  top_room_at (suc level) deep old reserved mid root id top part keeps gains leaves keyed_none last is_len none =
-      let some = top_room level old reserved mid root id top part keeps gains leaves keyed_none last is_len in
-      let zero_room : room (suc (suc level)) mid id ≡ 0 = rw add-one at none in
-      omega (arith, some, zero_room)
-
-  pub raises_at : (depth : ℕ) → 0 < depth → (old reserved mid : TreeArenas K V LEN) (root id : ℕ) (top : BranchOf K ℕ LEN) → IsPart cmp depth old root → KeepsBoth old reserved → Gains reserved.nodes mid.nodes id (Internal top) → mid.leaves ≡ reserved.leaves
-      → top.children ≡ in_order [] → top.unbounded_child ≡ Some root → IsLen LEN → (new : TreeArenas K V LEN) → SplitsChild cmp (depth + 1) mid new id root → ((n : ℕ) → get new.leaves n ≡ get mid.leaves n) → RaisesRoot cmp depth old new root id
-  raises_at zero deep old reserved mid root id top part keeps gains leaves keyed_none last is_len new split others = absurd (omega (arith, deep))
-  raises_at (suc level) deep old reserved mid root id top part keeps gains leaves keyed_none last is_len new split others = raises level old reserved mid root id top part keeps gains leaves keyed_none last is_len new (rw add-one at split) others
+  pub raised_top : RaisedTop cmp depth (depth + 1) old mid root id
+  raised_top = rw add-one (record {
+    part = record {
+      stands = top_stands;
+      nodes_once = λ n. omega (arith, top_nodes n, uses_now n, part.nodes_once n);
+      front = part.front;
+      back = part.back;
+      chain = rw top_leaves (chain_same old.leaves mid.leaves leaves_stay _ part.chain);
+    };
+    inside = rw top_children (head_here root []);
+    roomy = top_room;
+    raises_by = raises;
+  })

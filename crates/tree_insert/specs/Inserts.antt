@@ -1,15 +1,12 @@
 -- What an insert under a number answers and leaves.
 use Rattle.std.specs.Prelude.{◌≡◌, ◌⊎◌, ℕ, zero, suc, ◌<◌, ◌≤◌, Bool, true, false, List, [], ◌∷◌, Option, None, Some, Result, Ok, Err}
-use Rattle.std.specs.declared.cmp.Ordering.{Ordering}
 use Rattle.std.specs.Result.{OnErr}
-use Rattle.slab.specs.Slab.{get}
 use Rattle.tree_array.specs.Insertion.{as_insert}
-use Rattle.tree_array.specs.Length.{limit}
 use Rattle.tree_array.specs.declared.answers.InsertResult.{InsertResult}
 use Rattle.tree_array.specs.declared.answers.StoreResult.{StoreResult}
 use Rattle.tree_array.specs.declared.answers.StoreResult.TheVariants.{New, Replaced, Duplicate, Full}
 use Rattle.tree_model.specs.Pairs.{IsAbsent, IsPresent, put}
-use Rattle.tree_node.specs.Arenas.{TreeArenas}
+use Rattle.tree_node.specs.Arenas.{Ordering, TreeArenas, get, limit}
 use Rattle.tree_node.specs.Tree.{HasChildFor, IsAbove, IsUpTo, Stands, walk}
 use Rattle.tree_node.specs.Parts.{Replaces, Unchanged}
 use Rattle.tree_node.specs.Shape.{IsCrowded, held, room, found_keyed, spare}

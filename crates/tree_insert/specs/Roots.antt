@@ -1,10 +1,6 @@
 -- How a tree grows at its root: a full root comes under a new one, and a retired one gets a leaf again.
 use Rattle.std.specs.Prelude.{◌≡◌, ◌≢◌, ℕ, suc, ◌+◌, ◌<◌, List, [], ◌∷◌, ◌++◌, Option, None, IsSome}
-use Rattle.std.specs.declared.cmp.Ordering.{Ordering}
-use Rattle.slab.specs.Slab.{get}
-use Rattle.tree_leaf.specs.Chain.{IsChain}
-use Rattle.tree_leaf.specs.Counting.{times, uses}
-use Rattle.tree_node.specs.Arenas.{TreeArenas}
+use Rattle.tree_node.specs.Arenas.{IsChain, Ordering, TreeArenas, get, times, uses}
 use Rattle.tree_node.specs.Shape.{room, found_keyed, spare}
 use Rattle.tree_node.specs.Tree.{HasChildFor, Stands, leaves_at, nodes_at, walk}
 use Rattle.tree_split.specs.Packed.{IsPacked}

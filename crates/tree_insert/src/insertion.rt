@@ -35,7 +35,7 @@ pub struct Crowded<K, V> {
 ///
 /// Makes at most 4 comparisons in each node on the path and in the leaf (3 among 7 slots), and one more in all. If the
 /// leaf is full and its leaf node has room, the leaf is split or built anew: the leaf and the node are searched once more,
-/// with two comparisons beside. Otherwise the descent restarts at the top and, once a child is split or built anew, at the
+/// with three comparisons beside. Otherwise the descent restarts at the top and, once a child is split or built anew, at the
 /// child's parent. Allocates one leaf and one node a level at most. A split of a leaf clones one key.
 ///
 /// The caller must see that a well-formed part of a tree, or a retired node, stands under the number.
@@ -169,11 +169,8 @@ fn insert_from<const UPSERT: bool, K: IndexKey, V: Drop, const LEN: usize>(
     val: V,
 ) -> Result<StoreResult<K, V>, (K, V)>
     requires node { 0 < level }
-    requires part { IsPart K.cmp level arenas.old id ⊎ IsRetired level arenas.old id }
-    ensures inserts { IsPart K.cmp level arenas.old id
-        → InsertsUnder K.cmp UPSERT level arenas.old arenas.new id result key val }
-    ensures retired { IsRetired level arenas.old id → (result ≡ Ok (FullResult key val))
-        × Unchanged arenas.old arenas.new }
+    requires part { IsPart K.cmp level arenas.old id }
+    ensures { InsertsUnder K.cmp UPSERT level arenas.old arenas.new id result key val }
 {
     match arenas.node(id) {
         NodeOf::Leaf(node) => {

@@ -8,7 +8,7 @@ ghost use Rattle.tree_split.specs.Packed.{IsPacked};
 use tree_leaf::arena::NodeId;
 use tree_leaf::leaf::LeafOf;
 use tree_node::branch::LeafNodeOf;
-use tree_node::node::{ArenasOf, NodeOf};
+use tree_node::node::{ArenasOf, NodeOf, Root};
 
 /// Puts the first pair into a tree without leaves, and returns the root's number. The root is a new leaf node, or the one
 /// that was retired, which gets a leaf again.
@@ -16,10 +16,10 @@ use tree_node::node::{ArenasOf, NodeOf};
 /// Returns `Err` with the pair if memory is refused; nothing has changed then. Allocates one leaf, and one node if there
 /// is no root; isn't refused where these were reserved. Makes no comparisons.
 ///
-/// The caller must see that `LEN` is 7 or 15, and that the tree, whose root comes with its level, has no leaf.
+/// The caller must see that `LEN` is 7 or 15, and that the tree has no leaf.
 pub fn plant<K: Ord + Drop, V: Drop, const LEN: usize>(
     arenas: &mut ArenasOf<K, V, LEN>,
-    root: Option<(NodeId, usize)>,
+    root: Option<Root>,
     key: K,
     val: V,
 ) -> Result<NodeId, (K, V)>
@@ -31,7 +31,7 @@ pub fn plant<K: Ord + Drop, V: Drop, const LEN: usize>(
 {
     match root {
         None => plant_root(arenas, key, val),
-        Some(root) => plant_again(arenas, root.0, key, val),
+        Some(root) => plant_again(arenas, root.id, key, val),
     }
 }
 

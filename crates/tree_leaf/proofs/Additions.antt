@@ -1,16 +1,9 @@
 -- A new leaf that comes into a chain before another one: it is added, then spliced to the leaf before and to the one behind.
-use Rattle.std.proofs.Common.{◌≡◌, ◌≢◌, ℕ, ◌+◌, ◌≤◌, ◌==◌, cond, List, [], ◌∷◌, ◌++◌, Some, None, IsSome, refl, sym, ap, ◌∙◌, arith, inl, inr}
-use Rattle.tree_model.proofs.Common.{cases_eq}
-use Rattle.slab.specs.Slab.{Slab, get}
-use Rattle.tree_leaf.specs.declared.leaf.LeafOf.{LeafOf}
-use Rattle.tree_leaf.specs.declared.arena.SlotsOf.{SlotsOf}
-use Rattle.tree_leaf.specs.Counting.{times, uses}
-use Rattle.tree_leaf.specs.Chain.{last_or, AreLinked, IsChain, SameArray}
-use Rattle.tree_leaf.specs.Arena.{Gains}
-use Rattle.tree_leaf.specs.Links.{Splices, GainsBefore}
-use Rattle.tree_leaf.proofs.Counts.{times-nil, times-append, times-cons, one_here, none_here, uses_le_one, uses_some, uses_none, in_use}
-use Rattle.tree_leaf.proofs.Chains.{last_inside, linked_left, linked_right, linked_join, linked_kept, same_array_uses, same_array_trans, neighbours, counted}
-use Rattle.tree_leaf.proofs.Splices.{untouched_leaf, front_spliced, back_spliced}
+use Rattle.tree_leaf.proofs.Common.{◌≡◌, ◌≢◌, ℕ, ◌+◌, ◌≤◌, ◌==◌, cond, List, [], ◌∷◌, ◌++◌, Some, None, IsSome, refl, sym, ap, ◌∙◌, append_assoc, arith, inl, inr, cases_eq, Slab, get, LeafOf, SlotsOf}
+use Rattle.tree_leaf.proofs.Common.{times, uses, last_or, AreLinked, IsChain, SameArray, Gains, Splices, GainsBefore}
+use Rattle.tree_leaf.proofs.Counts.{times-nil, times-append, times-cons, one_here, none_here, uses_le_one, uses_some, uses_none}
+use Rattle.tree_leaf.proofs.Chains.{first_inside, last_inside, last_or-append, linked_left, linked_right, linked_kept, same_array_uses, same_array_trans, neighbours, counted}
+use Rattle.tree_leaf.proofs.Splices.{run_spliced, untouched_leaf}
 
 module _ {T : Type 0} (old new : Slab T) (id : ℕ) (value : T) (gains : Gains old new id value) where
   -- what was in use is so still, and the new number is
@@ -71,54 +64,37 @@ module _ {K V N : Type 0} {LEN : ℕ} (old added joined new : SlotsOf K V N LEN)
     ]
 
     module _ (front back : List ℕ) (chain : IsChain old.leaves (front ++ at ∷ back)) where
-      once : (n : ℕ) → times n front + times n (at ∷ back) ≤ uses old.leaves n
-      once n = counted old.leaves front at back chain n
-
       prev_is : last_or None front ≡ after.prev
       prev_is = (neighbours old.leaves front at back chain after was).0
 
-      in_front_used : (n : ℕ) → 1 ≤ times n front → IsSome (get old.leaves n)
-      in_front_used n inside = in_use old.leaves n (omega (arith, once n))
+      -- no number stands twice in the chain with the new one
+      once : (n : ℕ) → times n front + times n (id ∷ []) + times n (at ∷ back) ≤ uses new.leaves n
+      once n = omega (arith, uses_now n, counted old.leaves front at back chain n, times-cons n id [], times-nil n)
 
-      in_back_used : (n : ℕ) → 1 ≤ times n (at ∷ back) → IsSome (get old.leaves n)
-      in_back_used n inside = in_use old.leaves n (omega (arith, once n))
+      not_id : (n : ℕ) → 1 ≤ times n front + times n (at ∷ back) → n ≢ id
+      not_id n inside same = omega (arith, once n, uses_le_one new.leaves n, times-cons n id [], one_here n id same)
 
-      some_not_id : (n : ℕ) → IsSome (get old.leaves n) → Some id ≢ Some n
-      some_not_id n used is = let same : n ≡ id = cc in used_not_id n used same
-
-      -- what stands in front of the new leaf
-      front_added : AreLinked added.leaves None front (Some at)
-      front_added = linked_kept old.leaves added.leaves None front (Some at) (λ n inside. gains.updates.others n (used_not_id n (in_front_used n inside))) (linked_left old.leaves None front (at ∷ back) None chain.linked)
-
-      front_joined : AreLinked joined.leaves None front (Some id)
-      front_joined = front_spliced _ _ _ _ _ first.next_changed first.prev_changed None front (Some at) prev_is (λ n. omega (arith, once n, uses_le_one old.leaves n)) (λ n inside. some_not_id n (in_front_used n inside)) front_added
-
-      front_now : AreLinked new.leaves None front (Some id)
-      front_now = linked_kept joined.leaves new.leaves None front (Some id)
-          (λ n inside.
-          untouched_leaf _ _ _ _ _ second.next_changed second.prev_changed n (some_not_id n (in_front_used n inside))
-          (λ is. let same : n ≡ at = cc in omega (arith, inside, once n, times-cons n at back, one_here n at same, uses_le_one old.leaves n)))
-          front_joined
-
-      -- what stands behind it
-      back_added : AreLinked added.leaves after.prev (at ∷ back) None
-      back_added = rw prev_is at (linked_kept old.leaves added.leaves (last_or None front) (at ∷ back) None (λ n inside. gains.updates.others n (used_not_id n (in_back_used n inside))) (linked_right old.leaves None front (at ∷ back) None chain.linked))
+      front_joined : AreLinked joined.leaves None (front ++ id ∷ []) leaf.next
+      front_joined = run_spliced _ _ _ _ _ first.next_changed first.prev_changed None front (id ∷ []) leaf.next prev_is refl (λ n is. last_inside front n (prev_is ∙ is)) (λ n is. first_inside (id ∷ []) n is)
+          (λ n. omega (arith, once n, uses_le_one new.leaves n)) (Some at) leaf.prev
+          (linked_kept old.leaves added.leaves None front (Some at) (λ n inside. gains.updates.others n (not_id n (omega arith))) (linked_left old.leaves None front (at ∷ back) None chain.linked))
+          (rw gains.updates.changed ((refl, refl), tt))
 
       back_joined : AreLinked joined.leaves after.prev (at ∷ back) None
-      back_joined = linked_kept added.leaves joined.leaves after.prev (at ∷ back) None
+      back_joined = linked_kept old.leaves joined.leaves after.prev (at ∷ back) None
           (λ n inside.
           untouched_leaf _ _ _ _ _ first.next_changed first.prev_changed n
-          (λ is. omega (arith, inside, once n, last_inside front n (prev_is ∙ is), uses_le_one old.leaves n))
-          (some_not_id n (in_back_used n inside)))
-          back_added
-
-      back_now : AreLinked new.leaves (Some id) (at ∷ back) None
-      back_now = back_spliced _ _ _ _ _ second.next_changed second.prev_changed after.prev (at ∷ back) None refl (λ n. omega (arith, once n, uses_le_one old.leaves n)) (λ n inside. some_not_id n (in_back_used n inside)) back_joined
+          (λ is. omega (arith, inside, once n, last_inside front n (prev_is ∙ is), uses_le_one new.leaves n))
+          (λ is. let same : n ≡ id = cc in not_id n (omega arith) same)
+          ∙ gains.updates.others n (not_id n (omega arith)))
+          (rw prev_is at (linked_right old.leaves None front (at ∷ back) None chain.linked))
 
       chained : IsChain new.leaves (front ++ id ∷ (at ∷ back))
       chained = record {
-        once = λ n. omega (arith, uses_now n, once n, times-append n front (id ∷ (at ∷ back)), times-cons n id (at ∷ back));
-        linked = linked_join new.leaves None front (id ∷ (at ∷ back)) None front_now (rw here (sym prev_is, refl), back_now);
+        once = λ n. omega (arith, once n, times-append n front (id ∷ (at ∷ back)), times-cons n id (at ∷ back), times-cons n id [], times-nil n);
+        linked = rw append_assoc at (run_spliced _ _ _ _ _ second.next_changed second.prev_changed None (front ++ id ∷ []) (at ∷ back) None (last_or-append None front (id ∷ [])) refl
+            (λ n is. omega (arith, times-append n front (id ∷ []), first_inside (id ∷ []) n is)) (λ n is. first_inside (at ∷ back) n is)
+            (λ n. omega (arith, once n, times-append n front (id ∷ []), uses_le_one new.leaves n)) _ _ front_joined back_joined);
       }
 
     pub gains_before : added.nodes ≡ old.nodes → GainsBefore old new at id leaf

@@ -1,14 +1,15 @@
 -- Chains of linked leaves: their parts, and which leaves stand beside one.
-use Rattle.std.proofs.Common.{◌≡◌, ℕ, ◌+◌, ◌≤◌, List, [], ◌∷◌, ◌++◌, Option, Some, None, IsSome, is_some, refl, sym, ◌∙◌, arith}
-use Rattle.slab.specs.Slab.{Slab, get}
-use Rattle.tree_leaf.specs.declared.leaf.LeafOf.{LeafOf}
-use Rattle.tree_leaf.specs.Counting.{times, uses}
-use Rattle.tree_leaf.specs.Chain.{first_or, last_or, AreLinked, IsChain, SameArray}
+use Rattle.tree_leaf.proofs.Common.{◌≡◌, ℕ, ◌+◌, ◌≤◌, List, [], ◌∷◌, ◌++◌, Option, Some, None, IsSome, is_some, refl, sym, ◌∙◌, arith, Slab, get, LeafOf, times, uses, first_or, last_or, AreLinked}
+use Rattle.tree_leaf.proofs.Common.{IsChain, SameArray}
 use Rattle.tree_leaf.proofs.Counts.{times-append, times-cons, one_here, in_use, uses_same}
 
 pub first_or-append : (xs ys : List ℕ) (after : Option ℕ) → first_or (xs ++ ys) after ≡ first_or xs (first_or ys after)
 first_or-append [] ys after = refl
 first_or-append (x ∷ xs) ys after = refl
+
+pub last_or-append : (before : Option ℕ) (xs ys : List ℕ) → last_or before (xs ++ ys) ≡ last_or (last_or before xs) ys
+last_or-append before [] ys = refl
+last_or-append before (x ∷ xs) ys = last_or-append (Some x) xs ys
 
 -- the last number of a list that isn't empty stands in it, and so does the first
 pub last_within : (y : ℕ) (rest : List ℕ) (n : ℕ) → last_or (Some y) rest ≡ Some n → 1 ≤ times n (y ∷ rest)

@@ -1,8 +1,6 @@
 -- Counts of numbers in lists, and of their uses.
-use Rattle.std.proofs.Common.{◌≡◌, ℕ, ◌+◌, ◌≤◌, ◌==◌, Bool, true, false, cond, List, [], ◌∷◌, ◌++◌, Option, Some, None, is_some, IsSome, refl, arith}
-use Rattle.tree_model.proofs.Common.{nat_tests}
-use Rattle.std.proofs.lemmas.List.Sums.{sum_by-append, sum_by-cons}
-use Rattle.slab.specs.Slab.{Slab, get}
+use Rattle.tree_leaf.proofs.Common.{◌≡◌, ℕ, ◌+◌, ◌≤◌, ◌==◌, Bool, true, false, cond, List, [], ◌∷◌, ◌++◌, Option, Some, None, is_some, IsSome, refl, arith, nat_tests, sum_by-append, sum_by-cons, Slab}
+use Rattle.tree_leaf.proofs.Common.{get}
 use Rattle.tree_leaf.specs.Counting.{times, uses}
 
 pub times-nil : (n : ℕ) → times n [] ≡ 0

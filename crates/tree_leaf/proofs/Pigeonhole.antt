@@ -1,9 +1,7 @@
 -- Numbers in use, each at most once, are no more than an arena counts.
-use Rattle.std.proofs.Common.{◌≡◌, ℕ, zero, suc, ◌+◌, ◌<◌, ◌≤◌, cond, List, [], ◌∷◌, length, take, count_by, Option, None, is_some, IsSome, nat_lt, refl, ap, arith, take_all, slice_index_or}
-use Rattle.tree_model.proofs.Common.{nat_tests, get_or_past}
-use Rattle.std.proofs.lemmas.List.Sums.{sum_by-cons}
-use Rattle.slab.specs.Slab.{Slab, get, slab_len}
-use Rattle.tree_leaf.specs.Counting.{times, uses}
+use Rattle.tree_leaf.proofs.Common.{◌≡◌, ℕ, zero, suc, ◌+◌, ◌<◌, ◌≤◌, cond, List, [], ◌∷◌, length, take, count_by, Option, None, is_some, IsSome, nat_lt, refl, ap, arith, take_all, slice_index_or}
+use Rattle.tree_leaf.proofs.Common.{nat_tests, get_or_past, sum_by-cons, Slab, get, slab_len, times}
+use Rattle.tree_leaf.specs.Counting.{uses}
 use Rattle.tree_leaf.proofs.Counts.{times-nil, times-cons, one_here, in_use}
 
 -- how many of the numbers are below a bound

@@ -1,11 +1,6 @@
 -- What is kept in an arena, and the room that is left in it.
-use Rattle.std.proofs.Common.{◌≡◌, ℕ, ◌+◌, ◌≤◌, Result, Ok, Err, IsOk, OnOk, Option, Some, None, is_some, cond, ap, refl, ◌∙◌, arith}
-use Rattle.std.proofs.lemmas.List.Sums.{sum_by-set}
-use Rattle.slab.specs.Slab.{Slab, get, ContainsKey, slab_len, HasRoomFor, Updates, with_value}
-use Rattle.slab.proofs.SlabLemmas.{ContainsKey-within}
-use Rattle.tree_leaf.specs.declared.arena.SlotsOf.{SlotsOf}
-use Rattle.tree_leaf.specs.Arena.{Keeps, Loses, KeepsBoth, Reserves}
-use Rattle.tree_leaf.specs.Links.{SameRoom}
+use Rattle.tree_leaf.proofs.Common.{◌≡◌, ℕ, ◌+◌, ◌≤◌, Result, Ok, Err, IsOk, OnOk, Option, Some, None, is_some, cond, ap, refl, ◌∙◌, arith, sum_by-set, Slab, get, ContainsKey, slab_len, HasRoomFor}
+use Rattle.tree_leaf.proofs.Common.{Updates, with_value, ContainsKey-within, SlotsOf, Keeps, Loses, KeepsBoth, Reserves, SameRoom}
 
 module _ {T : Type 0} where
   -- an arena that has changed at most in how much fits, which is no less
@@ -39,6 +34,3 @@ module _ {T : Type 0} where
 
   pub same_room_trans : (a b c : Slab T) → SameRoom a b → SameRoom b c → SameRoom a c
   same_room_trans a b c first second = record { counted = second.counted ∙ first.counted; capacity = second.capacity ∙ first.capacity }
-
-  pub same_room_refl : (a : Slab T) → SameRoom a a
-  same_room_refl a = record { counted = refl; capacity = refl }

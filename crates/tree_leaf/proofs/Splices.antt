@@ -1,13 +1,6 @@
 -- Two leaves that become neighbours.
-use Rattle.std.proofs.Common.{◌≡◌, ◌≢◌, ℕ, ◌+◌, ◌≤◌, List, [], ◌∷◌, ◌++◌, Option, Some, None, IsSome, refl, sym, ◌∙◌, arith, inl, inr}
-use Rattle.tree_model.proofs.Common.{cases_eq}
-use Rattle.slab.specs.Slab.{Slab, get, with_value}
-use Rattle.slab.proofs.SlabLemmas.{Updates-with_value}
-use Rattle.tree_leaf.specs.declared.leaf.LeafOf.{LeafOf}
-use Rattle.tree_leaf.specs.declared.arena.SlotsOf.{SlotsOf}
-use Rattle.tree_leaf.specs.Counting.{times, uses}
-use Rattle.tree_leaf.specs.Chain.{first_or, last_or, IsBetween, AreLinked, IsChain, SameArray}
-use Rattle.tree_leaf.specs.Links.{ChangesAt, SameRoom, Splices, Unlinks}
+use Rattle.tree_leaf.proofs.Common.{◌≡◌, ◌≢◌, ℕ, ◌+◌, ◌≤◌, List, [], ◌∷◌, ◌++◌, Option, Some, None, IsSome, refl, sym, ◌∙◌, arith, inl, inr, cases_eq, Slab, get, with_value, Updates-with_value}
+use Rattle.tree_leaf.proofs.Common.{LeafOf, SlotsOf, times, uses, first_or, last_or, IsBetween, AreLinked, IsChain, SameArray, ChangesAt, SameRoom, Splices, Unlinks}
 use Rattle.tree_leaf.proofs.Counts.{times-append, times-cons, one_here, uses_le_one}
 use Rattle.tree_leaf.proofs.Chains.{last_within, last_inside, first_inside, linked_left, linked_right, linked_join, linked_kept, same_array_uses, same_array_refl, same_array_trans, same_array_used, neighbours}
 use Rattle.tree_leaf.proofs.Rooms.{same_room_trans}
@@ -50,7 +43,7 @@ module _ {K V : Type 0} {LEN : ℕ} where
     untouched_leaf n not_left not_right = prev.others n not_right ∙ next.others n not_left
 
     -- leaves that end in the left one lead to the right one
-    pub front_spliced : (before : Option ℕ) (xs : List ℕ) (after : Option ℕ) → last_or before xs ≡ left → ((n : ℕ) → times n xs ≤ 1) → ((n : ℕ) → 1 ≤ times n xs → right ≢ Some n)
+    front_spliced : (before : Option ℕ) (xs : List ℕ) (after : Option ℕ) → last_or before xs ≡ left → ((n : ℕ) → times n xs ≤ 1) → ((n : ℕ) → 1 ≤ times n xs → right ≢ Some n)
         → AreLinked old before xs after → AreLinked new before xs right
     front_spliced before [] after ends once apart linked = tt
     front_spliced before (x ∷ []) after ends once apart linked = (by_slot (get old x) refl linked.0, tt)
@@ -69,7 +62,7 @@ module _ {K V : Type 0} {LEN : ℕ} where
         )
 
     -- leaves that begin with the right one follow the left one
-    pub back_spliced : (before : Option ℕ) (ys : List ℕ) (after : Option ℕ) → first_or ys after ≡ right → ((n : ℕ) → times n ys ≤ 1) → ((n : ℕ) → 1 ≤ times n ys → left ≢ Some n)
+    back_spliced : (before : Option ℕ) (ys : List ℕ) (after : Option ℕ) → first_or ys after ≡ right → ((n : ℕ) → times n ys ≤ 1) → ((n : ℕ) → 1 ≤ times n ys → left ≢ Some n)
         → AreLinked old before ys after → AreLinked new left ys after
     back_spliced before [] after begins once apart linked = tt
     back_spliced before (y ∷ rest) after begins once apart linked = (
@@ -91,6 +84,14 @@ module _ {K V : Type 0} {LEN : ℕ} where
             prev.here y leaf (sym begins) (next.others y (apart y (omega (arith, times-cons y y rest, one_here y y refl))) ∙ found) in
             rw now (refl, h.1)
 
+    -- the two become one run, if no number stands in it twice
+    pub run_spliced : (before : Option ℕ) (xs ys : List ℕ) (after : Option ℕ) → last_or before xs ≡ left → first_or ys after ≡ right
+        → ((n : ℕ) → left ≡ Some n → 1 ≤ times n xs) → ((n : ℕ) → right ≡ Some n → 1 ≤ times n ys) → ((n : ℕ) → times n xs + times n ys ≤ 1)
+        → (behind ahead : Option ℕ) → AreLinked old before xs behind → AreLinked old ahead ys after → AreLinked new before (xs ++ ys) after
+    run_spliced before xs ys after ends begins in_left in_right once behind ahead front back = linked_join new before xs ys after
+        (rw begins (front_spliced before xs behind ends (λ n. omega (arith, once n)) (λ n inside is. omega (arith, inside, in_right n is, once n)) front))
+        (rw ends (back_spliced ahead ys after begins (λ n. omega (arith, once n)) (λ n inside is. omega (arith, inside, in_left n is, once n)) back))
+
     module _ (left_used : (n : ℕ) → left ≡ Some n → IsSome (get old n)) (right_used : (n : ℕ) → right ≡ Some n → IsSome (get old n)) where
       pub arrays_kept : (n : ℕ) → SameArray (get old n) (get new n)
       arrays_kept n =
@@ -105,14 +106,8 @@ module _ {K V : Type 0} {LEN : ℕ} where
         pub chain_spliced : IsChain new (front ++ back)
         chain_spliced = record {
           once = λ n. omega (arith, all_counted n, times-append n front back, same_array_uses old new n (arrays_kept n));
-          linked =
-              linked_join new None front back None
-              (rw begins (front_spliced None front _ ends (λ n. omega (arith, all_counted n, uses_le_one old n))
-              (λ n inside is. omega (arith, inside, first_inside back n (begins ∙ is), all_counted n, uses_le_one old n))
-              (linked_left old None front (middle ++ back) None chain.linked)))
-              (rw ends (back_spliced _ back None begins (λ n. omega (arith, all_counted n, uses_le_one old n))
-              (λ n inside is. omega (arith, inside, last_inside front n (ends ∙ is), all_counted n, uses_le_one old n))
-              (linked_right old (last_or None front) middle back None (linked_right old None front (middle ++ back) None chain.linked))));
+          linked = run_spliced None front back None ends begins (λ n is. last_inside front n (ends ∙ is)) (λ n is. first_inside back n (begins ∙ is)) (λ n. omega (arith, all_counted n, uses_le_one old n)) _ _
+              (linked_left old None front (middle ++ back) None chain.linked) (linked_right old (last_or None front) middle back None (linked_right old None front (middle ++ back) None chain.linked));
         }
 
 module _ {K V N : Type 0} {LEN : ℕ} where

@@ -7,9 +7,11 @@ ghost use Rattle.tree_array.specs.Arrivals.{in_order};
 ghost use Rattle.tree_array.specs.Insertion.{HasRoom};
 ghost use Rattle.tree_array.specs.Length.{limit};
 ghost use Rattle.tree_array.specs.Sound.{IsSound};
-ghost use Rattle.tree_leaf_split.specs.Lasts.{StaysLast};
+ghost use Rattle.tree_leaf_split.specs.Divides.{DividesLeaf};
+ghost use Rattle.tree_leaf_split.specs.Lasts.{EmptiesLast, HoldsAnew, StaysLast};
 ghost use Rattle.tree_model.specs.Pairs.{IsAbsent};
 ghost use Rattle.tree_node.specs.Parts.{IsPart, PutsChild, Unchanged};
+ghost use Rattle.tree_split.specs.Packed.{HasLast};
 ghost use Rattle.tree_split.specs.Splits.{GivesAll, GivesFirst, GoesWhole, IsCut, RoomResult, SharesEntries, all_smaller, low_part};
 ghost use Rattle.tree_node.specs.Tree.{HasChildFor, HasKind, is_from, keyed};
 
@@ -34,7 +36,7 @@ use tree_split::put_keyed;
 /// The unbounded leaf stays the unbounded one, and a key larger than every key in it belongs to it still.
 ///
 /// Returns `Err` if the leaf is to be split and memory is refused, also by the clone; nothing has changed then. Allocates
-/// at most one leaf. Makes at most 4 comparisons in the put into the node's array (3 among 7 slots), and two beside them.
+/// at most one leaf. Makes at most 5 comparisons in the put into the node's array (4 among 7 slots), and two beside them.
 ///
 /// The caller must see that a well-formed leaf node stands under the number, and that the key belongs to the leaf.
 pub fn make_room<K: IndexKey, V: Drop, const LEN: usize>(
@@ -65,6 +67,37 @@ pub fn make_room<K: IndexKey, V: Drop, const LEN: usize>(
     }
     let home = split_leaf(arenas, id, target, key, count)?;
     Ok(Some(home))
+}
+
+/// Empties the last leaf for a key, if the leaf is full, its pairs arrived in ascending order and the key is larger than
+/// all: as [`make_room`] does then, it moves all pairs to a new leaf before it. Returns whether it did; if not, nothing has
+/// changed, as where the node has no slot for another separator.
+///
+/// Returns `Err` if memory is refused, also by the clone of the separator. Allocates at most one leaf. Makes at most
+/// 5 comparisons in the put into the node's array (4 among 7 slots), and two beside them.
+///
+/// The caller must see that a well-formed leaf node stands under the number, and that the leaf is its unbounded one, which
+/// the key belongs to.
+pub fn empty_last<K: IndexKey, V: Drop, const LEN: usize>(
+    arenas: &mut ArenasOf<K, V, LEN>,
+    id: NodeId,
+    target: LeafId,
+    key: &K,
+) -> Result<bool, AllocError>
+    requires part { IsPart K.cmp 1 arenas.old id }
+    requires child { HasChildFor K.cmp key.now (get arenas.old.nodes id) target }
+    requires last { HasLast (get arenas.old.nodes id) target }
+    ensures { IfOk result (λ emptied. EmptiesLast K.cmp arenas.old arenas.new id target key.now emptied) }
+{
+    let full = arenas.node(id).is_full();
+    let Some(count) = low_count(arenas.leaf(target).array(), key, true) else {
+        return Ok(false);
+    };
+    if full || (count as usize) < LEN {
+        return Ok(false);
+    }
+    split_leaf(arenas, id, target, key, count)?;
+    Ok(true)
 }
 
 /// Returns how many of the first entries move when the leaf is split for a key, or `None` if the array is built anew
@@ -105,8 +138,8 @@ fn is_beyond<K: Ord + Drop, V: Drop, const LEN: usize>(array: &ArrayOf<K, V, LEN
 /// Splits a leaf: its first `count` entries move to a new leaf, linked before it, under a clone of the greatest key among
 /// them. Returns the one of the two that the key belongs to.
 ///
-/// Returns `Err` if memory is refused, also by the clone; nothing has changed then, since the place for the leaf is
-/// reserved and the key cloned before an entry moves.
+/// Returns `Err` if memory is refused, also by the clone; nothing has changed then, since the key is cloned before an entry
+/// moves.
 fn split_leaf<K: IndexKey, V: Drop, const LEN: usize>(
     arenas: &mut ArenasOf<K, V, LEN>,
     id: NodeId,
@@ -125,18 +158,37 @@ fn split_leaf<K: IndexKey, V: Drop, const LEN: usize>(
         → RoomResult K.cmp (Some home) 1 arenas.old arenas.new id target key.now) }
     ensures shares { IfOk result (λ _. GivesFirst arenas.old arenas.new target count) }
     ensures last { IfOk result (StaysLast K.cmp arenas.old arenas.new id target key.now) }
+    ensures high { IfOk result (λ _. HoldsAnew arenas.new target (drop count (leaf_entries arenas.old.leaves target))) }
     ensures err { OnErr result (Unchanged arenas.old arenas.new) }
 {
     let separator = separator_at(arenas.leaf(target).array(), count - 1)?;
+    let low = divide_leaf(arenas, target, count)?;
+    let home = side_for(key, &separator, low, target);
+    put_leaf(arenas.node_mut(id), separator, low);
+    Ok(home)
+}
+
+/// Divides a leaf: its first `count` entries move to a new leaf, linked before it. Returns the number of the new leaf.
+/// Returns `Err` if memory is refused; nothing has changed then, since the place for the leaf is reserved before an entry
+/// moves.
+fn divide_leaf<K: Ord + Drop, V: Drop, const LEN: usize>(
+    arenas: &mut ArenasOf<K, V, LEN>,
+    target: LeafId,
+    count: u8,
+) -> Result<LeafId, AllocError>
+    requires part { IsPart K.cmp 0 arenas.old target }
+    requires sound { (leaf : _) → get arenas.old.leaves target ≡ Some leaf → IsSound K.cmp LEN leaf.array }
+    requires whole { (leaf : _) → get arenas.old.leaves target ≡ Some leaf → GoesWhole LEN leaf.array count }
+    ensures done { IfOk result (DividesLeaf arenas.old arenas.new target count) }
+    ensures err { OnErr result (Unchanged arenas.old arenas.new) }
+{
     arenas.reserve(1, 0)?;
     let mut low = LeafOf::new();
     cut_low(arenas.leaf_mut(target).array_mut(), count, low.array_mut());
     let Ok(low_id) = add_before(arenas, target, low) else {
         unreachable!()
     };
-    let home = side_for(key, &separator, low_id, target);
-    put_leaf(arenas.node_mut(id), separator, low_id);
-    Ok(home)
+    Ok(low_id)
 }
 
 /// Returns the lower of two leaves if the key is at most the separator between them, else the upper one.
@@ -166,7 +218,7 @@ fn separator_at<K: IndexKey, V: Drop, const LEN: usize>(
 }
 
 /// Moves the first `count` entries into `low`, which is new. The entries of both arrays arrive anew, in ascending order.
-/// If all `LEN` entries move, they arrived so already, and the two arrays are swapped instead.
+/// If all `LEN` entries move, they arrived so already, and the array goes as it is.
 fn cut_low<K: Ord + Drop, V: Drop, const LEN: usize>(
     array: &mut ArrayOf<K, V, LEN>,
     count: u8,
@@ -179,7 +231,7 @@ fn cut_low<K: Ord + Drop, V: Drop, const LEN: usize>(
     ensures high { array.new ≡ in_order (drop count array.old.entries) }
 {
     if count as usize == LEN {
-        mem::swap(array, low);
+        *low = mem::replace(array, ArrayOf::new());
         return;
     }
     array.divide(count, low);

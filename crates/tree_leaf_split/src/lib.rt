@@ -3,4 +3,4 @@
 
 mod leaf_split;
 
-pub use leaf_split::make_room;
+pub use leaf_split::{empty_last, make_room};

@@ -1,60 +1,45 @@
 -- How long an edit leaves a list of pairs.
-use Rattle.std.proofs.Common.{◌≡◌, suc, ◌+◌, ◌≤◌, true, cond, List, [], ◌∷◌, length, length-append, None, Some, is_some, refl, arith, Ordering, Less, Equal, Greater, is_lt, is_eq, is_gt}
-use Rattle.tree_model.proofs.Common.{IsTotalOrder, IsAbsent, IsAscending, IsPresent, above, below, pair_at, put, without, tied_back}
+use Rattle.std.proofs.Common.{◌≡◌, ℕ, suc, ◌+◌, ◌≤◌, if◌then◌else◌, List, [], ◌∷◌, filter, length, length-append, refl, arith, Ordering, Less, is_lt, is_eq, is_gt, Equal}
+use Rattle.tree_model.proofs.Common.{IsTotalOrder, IsAbsent, IsAscending, IsPresent, above, below, put, without, tied_back}
 use Rattle.tree_model.proofs.Lists.{all_map}
 use Rattle.tree_model.proofs.LookUps.{none_larger}
 use Rattle.tree_model.proofs.Order.{alike}
 
+-- an element goes to one of three lists
+one_of_three : {X : Type 0} (c : Ordering) (x : X) (less same more : List X) (n : ℕ) → length less + (length same + length more) ≡ n
+    → length (if is_lt c then x ∷ less else less) + (length (if is_eq c then x ∷ same else same) + length (if is_gt c then x ∷ more else more)) ≡ suc n
+one_of_three c x less same more n h = grind arith
+
 module _ {K V : Type 0} (cmp : K → K → Ordering) where
-  -- the pairs on both sides of a key are no more than all
-  sides_few : (l : List (K × V)) (k : K) → length (below cmp l k) + length (above cmp l k) ≤ length l
-  sides_few [] k = omega arith
-  sides_few (p ∷ ps) k = by_order (cmp p.0 k) (sides_few ps k)
-    where
-      by_order : (c : Ordering) → length (below cmp ps k) + length (above cmp ps k) ≤ length ps
-          → length (cond (is_lt c) (p ∷ below cmp ps k) (below cmp ps k)) + length (cond (is_gt c) (p ∷ above cmp ps k) (above cmp ps k)) ≤ suc (length ps)
-      by_order Less h = omega (arith, h)
-      by_order Equal h = omega (arith, h)
-      by_order Greater h = omega (arith, h)
+  -- the pairs whose key equals k
+  abbrev equal_to : List (K × V) → K → List (K × V)
+  equal_to l k = filter (λ p. is_eq (cmp p.0 k)) l
 
-  -- and are all if the key is absent
-  sides_all : (l : List (K × V)) (k : K) → IsAbsent cmp l k → length (below cmp l k) + length (above cmp l k) ≡ length l
-  sides_all [] k absent = refl
-  sides_all (p ∷ ps) k absent = by_order (cmp p.0 k) (sides_all ps k) absent
-    where
-      by_order : (c : Ordering) → (IsAbsent cmp ps k → length (below cmp ps k) + length (above cmp ps k) ≡ length ps) → cond (is_eq c) (Some p) (pair_at cmp ps k) ≡ None
-          → length (cond (is_lt c) (p ∷ below cmp ps k) (below cmp ps k)) + length (cond (is_gt c) (p ∷ above cmp ps k) (above cmp ps k)) ≡ suc (length ps)
-      by_order Less h none = omega (arith, h none)
-      by_order Equal h none = absurd (cc)
-      by_order Greater h none = omega (arith, h none)
+  sides : (l : List (K × V)) (k : K) → length (below cmp l k) + (length (equal_to l k) + length (above cmp l k)) ≡ length l
+  sides [] k = refl
+  sides (p ∷ ps) k = one_of_three (cmp p.0 k) p (below cmp ps k) (equal_to ps k) (above cmp ps k) (length ps) (sides ps k)
 
-  pub length-without : (l : List (K × V)) (k : K) → length (without cmp l k) ≡ length (below cmp l k) + length (above cmp l k)
-  length-without l k = length-append (below cmp l k) (above cmp l k)
+  none_equal : (l : List (K × V)) (k : K) → IsAbsent cmp l k → equal_to l k ≡ []
+  none_equal [] k absent = refl
+  none_equal (p ∷ ps) k absent = grind (arith, none_equal ps k)
 
   pub length-put : (l : List (K × V)) (k : K) (v : V) → length (put cmp l k v) ≡ suc (length (without cmp l k))
-  length-put l k v = omega (arith, length-append (below cmp l k) ((k, v) ∷ above cmp l k), length-without l k)
+  length-put l k v = simp length-append (omega arith)
 
   -- taking a key out takes at most one pair out, and none if the key is absent
   pub without_few : (l : List (K × V)) (k : K) → length (without cmp l k) ≤ length l
-  without_few l k = omega (arith, length-without l k, sides_few l k)
+  without_few l k = simp length-append (omega (arith, sides l k))
 
   pub without_absent : (l : List (K × V)) (k : K) → IsAbsent cmp l k → length (without cmp l k) ≡ length l
-  without_absent l k absent = omega (arith, length-without l k, sides_all l k absent)
+  without_absent l k absent = simp length-append (omega (arith, rw (none_equal l k absent) at (sides l k)))
 
 module _ {K V : Type 0} {cmp : K → K → Ordering} (o : IsTotalOrder cmp) where
   -- a present key stands once
+  one_equal : (l : List (K × V)) (k : K) → IsAscending cmp l → IsPresent cmp l k → length (equal_to cmp l k) ≡ 1
+  one_equal [] k ascending present = absurd (cc)
+  one_equal (p ∷ ps) k ascending present =
+      let alone = λ (same : cmp p.0 k ≡ Equal). none_equal cmp ps k (none_larger o k ps (all_map (λ r later. alike o k p.0 r.0 Less (tied_back o p.0 k same) later) ps ascending.0)) in
+      grind (arith, alone, one_equal ps k ascending.1)
+
   pub without_present : (l : List (K × V)) (k : K) → IsAscending cmp l → IsPresent cmp l k → suc (length (without cmp l k)) ≡ length l
-  without_present l k ascending present = omega (arith, length-without cmp l k, one_aside l ascending present)
-    where
-      one_aside : (l : List (K × V)) → IsAscending cmp l → IsPresent cmp l k → suc (length (below cmp l k) + length (above cmp l k)) ≡ length l
-      one_aside [] ascending present = absurd (cc)
-      one_aside (p ∷ ps) ascending present = by_order (cmp p.0 k) refl (one_aside ps ascending.1) present
-        where
-          by_order : (c : Ordering) → cmp p.0 k ≡ c → (IsPresent cmp ps k → suc (length (below cmp ps k) + length (above cmp ps k)) ≡ length ps) → is_some (cond (is_eq c) (Some p) (pair_at cmp ps k)) ≡ true
-              → suc (length (cond (is_lt c) (p ∷ below cmp ps k) (below cmp ps k)) + length (cond (is_gt c) (p ∷ above cmp ps k) (above cmp ps k))) ≡ suc (length ps)
-          by_order Less h later there = omega (arith, later there)
-          by_order Equal h later there = omega (arith, sides_all cmp ps k (rest_absent h))
-            where
-              rest_absent : cmp p.0 k ≡ Equal → IsAbsent cmp ps k
-              rest_absent same = none_larger o k ps (all_map (λ r later. alike o k p.0 r.0 Less (tied_back o p.0 k same) later) ps ascending.0)
-          by_order Greater h later there = omega (arith, later there)
+  without_present l k ascending present = simp length-append (omega (arith, sides cmp l k, one_equal l k ascending present))

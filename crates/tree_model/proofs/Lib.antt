@@ -6,4 +6,3 @@ pub mod Lengths
 pub mod Lists
 pub mod LookUps
 pub mod Order
-pub mod Overwrites

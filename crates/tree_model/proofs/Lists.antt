@@ -1,5 +1,7 @@
 -- Facts on each element of a list, and what a filter or a search makes of a list whose elements all pass, or all fail.
-use Rattle.std.proofs.Common.{◌≡◌, ℕ, zero, suc, Bool, true, false, cond, List, [], ◌∷◌, ◌++◌, filter, find, slice_get, Some, None, refl, ap}
+use Rattle.std.proofs.Common.{◌≡◌, ℕ, zero, suc, Bool, true, false, cond, List, [], ◌∷◌, ◌++◌, filter, find, slice_get, Some, None, refl, ap, inl, inr, if◌then◌else◌, arith}
+use Rattle.std.proofs.lemmas.Bool.{cases_Bool}
+use Rattle.std.proofs.lemmas.List.Folds.{find-append}
 use Rattle.tree_model.proofs.Common.{AllByRecursion}
 
 module _ {X : Type 0} where
@@ -15,20 +17,14 @@ module _ {X : Type 0} where
   -- what holds of each element holds of each that a filter keeps
   pub all-filter : (P : X → Type 0) (test : X → Bool) (xs : List X) → AllByRecursion P xs → AllByRecursion P (filter test xs)
   all-filter P test [] h = tt
-  all-filter P test (x ∷ xs) h = kept (test x) (all-filter P test xs h.1)
-    where
-      kept : (b : Bool) → AllByRecursion P (filter test xs) → AllByRecursion P (cond b (x ∷ filter test xs) (filter test xs))
-      kept true rest = (h.0, rest)
-      kept false rest = rest
+  all-filter P test (x ∷ xs) h =
+      let rest = all-filter P test xs h.1 in elim (cases_Bool (test x)) [ inl passed ↦ rw passed (h.0, rest) | inr failed ↦ rw failed rest ]
 
   -- each element that a filter keeps passes its test
   pub all_passed : (P : X → Type 0) (test : X → Bool) → ((x : X) → test x ≡ true → P x) → (xs : List X) → AllByRecursion P (filter test xs)
   all_passed P test f [] = tt
-  all_passed P test f (x ∷ xs) = kept (test x) (f x) (all_passed P test f xs)
-    where
-      kept : (b : Bool) → (b ≡ true → P x) → AllByRecursion P (filter test xs) → AllByRecursion P (cond b (x ∷ filter test xs) (filter test xs))
-      kept true passes rest = (passes refl, rest)
-      kept false passes rest = rest
+  all_passed P test f (x ∷ xs) =
+      let rest = all_passed P test f xs in elim (cases_Bool (test x)) [ inl passed ↦ rw passed (f x passed, rest) | inr failed ↦ rw failed rest ]
 
   -- what holds of each element holds of the one at a place
   pub all_at : (P : X → Type 0) (xs : List X) (i : ℕ) (x : X) → AllByRecursion P xs → slice_get xs i ≡ Some x → P x
@@ -54,33 +50,19 @@ module _ {X : Type 0} where
   find_none test (x ∷ xs) h = rw h.0 (find_none test xs h.1)
 
   pub find_after : (test : X → Bool) (xs ys : List X) → find test xs ≡ None → find test (xs ++ ys) ≡ find test ys
-  find_after test [] ys h = refl
-  find_after test (x ∷ xs) ys h = go (test x) (find_after test xs ys) h
-    where
-      go : (b : Bool) → (find test xs ≡ None → find test (xs ++ ys) ≡ find test ys) → cond b (Some x) (find test xs) ≡ None → cond b (Some x) (find test (xs ++ ys)) ≡ find test ys
-      go true again none = cc
-      go false again none = again none
+  find_after test xs ys h = grind (arith, find-append test xs ys)
 
   pub find_before : (test : X → Bool) (xs ys : List X) → find test ys ≡ None → find test (xs ++ ys) ≡ find test xs
-  find_before test [] ys h = h
-  find_before test (x ∷ xs) ys h = elim (test x) as (λ b. cond b (Some x) (find test (xs ++ ys)) ≡ cond b (Some x) (find test xs)) [ true ↦ refl | false ↦ find_before test xs ys h ]
+  find_before test xs ys h = grind (arith, find-append test xs ys)
 
-  -- a filter that keeps whatever the search could find, and one that drops it
+  -- a filter that answers alike wherever the search could end keeps what is found, or drops it
+  pub find-filter : (test keeps : X → Bool) (answer : Bool) → ((x : X) → test x ≡ true → keeps x ≡ answer) → (xs : List X)
+      → find test (filter keeps xs) ≡ (if answer then find test xs else None)
+  find-filter test keeps answer f [] = grind arith
+  find-filter test keeps answer f (x ∷ xs) = grind (arith, f x, find-filter test keeps answer f xs)
+
   pub find_kept : (test keeps : X → Bool) → ((x : X) → test x ≡ true → keeps x ≡ true) → (xs : List X) → find test (filter keeps xs) ≡ find test xs
-  find_kept test keeps f [] = refl
-  find_kept test keeps f (x ∷ xs) = go (keeps x) refl (test x) refl (find_kept test keeps f xs)
-    where
-      go : (k : Bool) → keeps x ≡ k → (t : Bool) → test x ≡ t → find test (filter keeps xs) ≡ find test xs → find test (cond k (x ∷ filter keeps xs) (filter keeps xs)) ≡ cond t (Some x) (find test xs)
-      go true k true t again = rw t refl
-      go true k false t again = rw t again
-      go false k true t again = absurd (let passes = f x t in cc)
-      go false k false t again = again
+  find_kept test keeps = find-filter test keeps true
 
   pub find_dropped : (test keeps : X → Bool) → ((x : X) → test x ≡ true → keeps x ≡ false) → (xs : List X) → find test (filter keeps xs) ≡ None
-  find_dropped test keeps f [] = refl
-  find_dropped test keeps f (x ∷ xs) = go (keeps x) refl (test x) refl (find_dropped test keeps f xs)
-    where
-      go : (k : Bool) → keeps x ≡ k → (t : Bool) → test x ≡ t → find test (filter keeps xs) ≡ None → find test (cond k (x ∷ filter keeps xs) (filter keeps xs)) ≡ None
-      go true k true t again = absurd (let drops = f x t in cc)
-      go true k false t again = rw t again
-      go false k t e again = again
+  find_dropped test keeps = find-filter test keeps false

@@ -89,8 +89,6 @@ impl<const N: usize> IndexKey for [u8; N] {
 }
 
 impl<const N: usize> SameClone for [u8; N] {
-    ghost Seen = { List ℕ };
-
     ghost seen = { λ x. x };
 
     ghost clone_seen = { λ x y h. sym (same_from_all_zip _ x y h.whole (λ a b e. e)) };

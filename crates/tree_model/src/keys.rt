@@ -1,5 +1,5 @@
 //! What an index requires of its keys, and what a history requires of keys and values.
-ghost use Rattle.std.specs.Prelude.{◌≡◌, ℕ, ℤ, Bool, List, string_bytes};
+ghost use Rattle.std.specs.Prelude.{◌≡◌, ℕ, List, string_bytes};
 ghost use Rattle.std.specs.declared.cmp.Ordering.TheVariants.{Equal};
 ghost use Rattle.std.proofs.Common.{sym};
 ghost use Rattle.tree_model.specs.Keys.{equal_booleans, equal_integers, equal_numbers, equal_texts};
@@ -13,9 +13,9 @@ pub trait IndexKey: Clone + Ord + Drop {
 }
 
 /// A key or a value that a history may keep a clone of. Contracts see a value as its `seen`, and a clone is seen as
-/// its source is.
+/// its source is. What is seen is of the value's own type, unless an impl says otherwise.
 pub trait SameClone: Clone + Drop {
-    ghost Seen: { Type 0 };
+    ghost Seen: { Type 0 } = { Self };
 
     ghost seen: { Self → Seen };
 
@@ -27,8 +27,6 @@ impl IndexKey for bool {
 }
 
 impl SameClone for bool {
-    ghost Seen = { Bool };
-
     ghost seen = { λ x. x };
 
     ghost clone_seen = { λ x y h. sym h };
@@ -52,8 +50,6 @@ impl IndexKey for u8 {
 }
 
 impl SameClone for u8 {
-    ghost Seen = { ℕ };
-
     ghost seen = { λ x. x };
 
     ghost clone_seen = { λ x y h. sym h };
@@ -64,8 +60,6 @@ impl IndexKey for u16 {
 }
 
 impl SameClone for u16 {
-    ghost Seen = { ℕ };
-
     ghost seen = { λ x. x };
 
     ghost clone_seen = { λ x y h. sym h };
@@ -76,8 +70,6 @@ impl IndexKey for u32 {
 }
 
 impl SameClone for u32 {
-    ghost Seen = { ℕ };
-
     ghost seen = { λ x. x };
 
     ghost clone_seen = { λ x y h. sym h };
@@ -88,8 +80,6 @@ impl IndexKey for u64 {
 }
 
 impl SameClone for u64 {
-    ghost Seen = { ℕ };
-
     ghost seen = { λ x. x };
 
     ghost clone_seen = { λ x y h. sym h };
@@ -100,8 +90,6 @@ impl IndexKey for u128 {
 }
 
 impl SameClone for u128 {
-    ghost Seen = { ℕ };
-
     ghost seen = { λ x. x };
 
     ghost clone_seen = { λ x y h. sym h };
@@ -112,8 +100,6 @@ impl IndexKey for usize {
 }
 
 impl SameClone for usize {
-    ghost Seen = { ℕ };
-
     ghost seen = { λ x. x };
 
     ghost clone_seen = { λ x y h. sym h };
@@ -124,8 +110,6 @@ impl IndexKey for char {
 }
 
 impl SameClone for char {
-    ghost Seen = { ℕ };
-
     ghost seen = { λ x. x };
 
     ghost clone_seen = { λ x y h. sym h };
@@ -136,8 +120,6 @@ impl IndexKey for i8 {
 }
 
 impl SameClone for i8 {
-    ghost Seen = { ℤ };
-
     ghost seen = { λ x. x };
 
     ghost clone_seen = { λ x y h. sym h };
@@ -148,8 +130,6 @@ impl IndexKey for i16 {
 }
 
 impl SameClone for i16 {
-    ghost Seen = { ℤ };
-
     ghost seen = { λ x. x };
 
     ghost clone_seen = { λ x y h. sym h };
@@ -160,8 +140,6 @@ impl IndexKey for i32 {
 }
 
 impl SameClone for i32 {
-    ghost Seen = { ℤ };
-
     ghost seen = { λ x. x };
 
     ghost clone_seen = { λ x y h. sym h };
@@ -172,8 +150,6 @@ impl IndexKey for i64 {
 }
 
 impl SameClone for i64 {
-    ghost Seen = { ℤ };
-
     ghost seen = { λ x. x };
 
     ghost clone_seen = { λ x y h. sym h };
@@ -184,8 +160,6 @@ impl IndexKey for i128 {
 }
 
 impl SameClone for i128 {
-    ghost Seen = { ℤ };
-
     ghost seen = { λ x. x };
 
     ghost clone_seen = { λ x y h. sym h };
@@ -196,8 +170,6 @@ impl IndexKey for isize {
 }
 
 impl SameClone for isize {
-    ghost Seen = { ℤ };
-
     ghost seen = { λ x. x };
 
     ghost clone_seen = { λ x y h. sym h };

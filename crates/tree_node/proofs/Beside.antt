@@ -1,6 +1,6 @@
 -- Leaves that stand apart from a part: none of its leaves, nor beside one.
 use Rattle.std.proofs.Common.{◌≡◌, ◌≢◌, ℕ, ◌≤◌, List, [], ◌∷◌, ◌++◌, Option, Some, None, IsSome, refl, ◌∙◌, arith}
-use Rattle.tree_node.proofs.Common.{Slab, get, LeafOf, IsChain, times}
+use Rattle.tree_node.specs.Arenas.{IsChain, LeafOf, Slab, get, times}
 use Rattle.tree_leaf.specs.Chain.{first_or, last_or, AreLinked}
 use Rattle.tree_leaf.proofs.Chains.{linked_right, neighbours}
 use Rattle.tree_node.specs.Parts.{LeadsOutside, StandsApart}

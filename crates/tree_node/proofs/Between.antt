@@ -1,7 +1,8 @@
 -- A key between the pairs before it and the pairs behind it.
-use Rattle.std.proofs.Common.{◌≡◌, List, ◌++◌, ◌∙◌, ap, refl, append_assoc, Ordering, Less, Greater, is_eq, is_gt, is_lt, append-nil}
+use Rattle.std.proofs.Common.{◌≡◌, List, ◌++◌, ◌∙◌, ap, append_assoc, Ordering, Less, is_eq, is_gt, is_lt, append-nil}
 use Rattle.tree_model.proofs.Common.{AllByRecursion, IsTotalOrder, filter-append, AllLarger, above, below, pair_at, put, without}
-use Rattle.tree_array.proofs.Common.{all_map, filter_all, filter_none, greater_from_less}
+use Rattle.tree_array.proofs.Common.{all_map, filter_all, filter_none}
+use Rattle.tree_model.proofs.Ascending.{all_above}
 use Rattle.tree_model.proofs.Lists.{find_after, find_before, find_none}
 use Rattle.tree_model.proofs.LookUps.{none_larger}
 
@@ -13,32 +14,16 @@ module _ {K V : Type 0} {cmp : K → K → Ordering} (o : IsTotalOrder cmp) (k :
       find_after _ front _ (find_none _ front (all_map (λ p h. ap is_eq h) front smaller))
       ∙ find_before _ middle back (none_larger o k back larger)
 
-  larger_is : AllByRecursion (λ p. cmp p.0 k ≡ Greater) back
-  larger_is = all_map (λ p h. greater_from_less o k p.0 h) back larger
-
-  below_between : below cmp (front ++ (middle ++ back)) k ≡ front ++ below cmp middle k
-  below_between =
-      rw (
-        filter-append (λ p. is_lt (cmp p.0 k)) front,
-        filter-append (λ p. is_lt (cmp p.0 k)) middle,
-        filter_all (λ p. is_lt (cmp p.0 k)) front (all_map (λ p h. ap is_lt h) front smaller),
-        filter_none (λ p. is_lt (cmp p.0 k)) back (all_map (λ p h. ap is_lt h) back larger_is),
-        append-nil,
-      ) refl
-
-  above_between : above cmp (front ++ (middle ++ back)) k ≡ above cmp middle k ++ back
-  above_between =
-      rw (
-        filter-append (λ p. is_gt (cmp p.0 k)) front,
-        filter-append (λ p. is_gt (cmp p.0 k)) middle,
-        filter_none (λ p. is_gt (cmp p.0 k)) front (all_map (λ p h. ap is_gt h) front smaller),
-        filter_all (λ p. is_gt (cmp p.0 k)) back (all_map (λ p h. ap is_gt h) back larger_is),
-      ) refl
+  sides_between : (below cmp (front ++ (middle ++ back)) k ≡ front ++ below cmp middle k) × (above cmp (front ++ (middle ++ back)) k ≡ above cmp middle k ++ back)
+  sides_between = (
+    simp (filter-append, filter_all (λ p. is_lt (cmp p.0 k)) front (all_map (λ p h. ap is_lt h) front smaller), (all_above o k back larger).0, append-nil),
+    simp (filter-append, filter_none (λ p. is_gt (cmp p.0 k)) front (all_map (λ p h. ap is_gt h) front smaller), (all_above o k back larger).1),
+  )
 
   -- and removed where it is removed in the middle
   pub without_between : without cmp (front ++ (middle ++ back)) k ≡ front ++ (without cmp middle k ++ back)
-  without_between = rw (below_between, above_between) (simp append_assoc)
+  without_between = rw (sides_between.0, sides_between.1) (simp append_assoc)
 
   -- and put where it is put in the middle
   pub put_between : (v : V) → put cmp (front ++ (middle ++ back)) k v ≡ front ++ (put cmp middle k v ++ back)
-  put_between v = rw (below_between, above_between) (simp append_assoc)
+  put_between v = rw (sides_between.0, sides_between.1) (simp append_assoc)

@@ -1,54 +1,38 @@
--- The child that a key belongs to, of a node that stands or is retired.
-use Rattle.std.proofs.Common.{◌≡◌, ℕ, zero, suc, Bool, true, false, cond, List, [], ◌∷◌, Option, Some, None, IsSome, inl, inr, refl, sym, ◌∙◌, Ordering, append-nil}
+-- The children of a node that stands or is retired, and the one that a key belongs to.
+use Rattle.std.proofs.Common.{◌≡◌, ℕ, suc, [], map, Option, Some, None, IsSome, inl, inr, refl, append-nil, arith}
 use Rattle.tree_model.proofs.Common.{IsTotalOrder}
-use Rattle.tree_node.proofs.Common.{get, LeafOf, NodeOf, TreeArenas, AreParted, child_at, is_from, HasChildFor, Stands, IsRetiredNode, StandsOrRetired, walk}
-use Rattle.tree_node.proofs.Lists.{all_yes}
-use Rattle.tree_node.proofs.Walks.{child_is}
+use Rattle.tree_node.specs.Arenas.{AllByRecursion, LeafOf, NodeOf, Ordering, TreeArenas, get}
+use Rattle.tree_node.specs.Tree.{HasChildFor, Stands, StandsOrRetired, children_of, front_at, is_from, keyed, walk}
+use Rattle.tree_node.proofs.Frames.{parted_all}
+use Rattle.tree_node.proofs.Lists.{all_middle}
 use Rattle.tree_node.proofs.Standing.{no_children}
+use Rattle.tree_node.proofs.Walks.{children_are}
+use Rattle.tree_node.proofs.Widens.{stands_free}
 
 -- a key belongs to one child
 pub only_child : {K : Type 0} {LEN : ℕ} (cmp : K → K → Ordering) (key : K) (slot : Option (NodeOf K LEN)) (child other : ℕ) → HasChildFor cmp key slot child → HasChildFor cmp key slot other → child ≡ other
-only_child cmp key None child other this that = absurd this
-only_child cmp key (Some node) child other this that = let both : Some child ≡ Some other = sym this ∙ that in cc
+only_child cmp key slot child other this that = grind arith
 
-module _ {K : Type 0} (cmp : K → K → Ordering) (Child : Option K → ℕ → Option K → Type 0) where
-  parted_free_low : ((low : Option K) (id : ℕ) (high : Option K) → Child low id high → Child None id high)
-      → (low : Option K) (pairs : List (K × ℕ)) (last : ℕ) (high : Option K) → AreParted cmp Child low pairs last high → AreParted cmp Child None pairs last high
-  parted_free_low each low [] last high parted = each low last high parted
-  parted_free_low each low (c ∷ rest) last high parted = (each low c.1 (Some c.0) parted.0, tt, parted.2, parted.3)
+-- each child of a node that stands does so by itself
+pub all_stand : {K V : Type 0} {LEN : ℕ} (cmp : K → K → Ordering) (level : ℕ) (a : TreeArenas K V LEN)
+    (low : Option K) (id : ℕ) (high : Option K) → Stands cmp (suc level) a low id high
+    → AllByRecursion (λ child. Stands cmp level a None child None) (children_of a.nodes id)
+all_stand cmp level a low id high s = rw (s.here, s.last_is) (parted_all cmp (Stands cmp level a) _ (stands_free cmp level a) low _ _ high s.parted)
 
-  parted_free_high : ((low : Option K) (id : ℕ) (high : Option K) → Child low id high → Child low id None)
-      → (low : Option K) (pairs : List (K × ℕ)) (last : ℕ) (high : Option K) → AreParted cmp Child low pairs last high → AreParted cmp Child low pairs last None
-  parted_free_high each low [] last high parted = each low last high parted
-  parted_free_high each low (c ∷ rest) last high parted = (parted.0, parted.1, tt, parted_free_high each (Some c.0) rest last high parted.3)
-
-  -- the child that is chosen stands between some bounds
-  parted_chosen : (low : Option K) (pairs : List (K × ℕ)) (last : ℕ) (high : Option K) → AreParted cmp Child low pairs last high
-      → (test : K → Bool) → (below : Option K) × (above : Option K) × Child below (child_at test pairs last) above
-  parted_chosen low [] last high parted test = (low, high, parted)
-  parted_chosen low (c ∷ rest) last high parted test = by_test (test c.0) (parted_chosen (Some c.0) rest last high parted.3 test)
-    where
-      by_test : (b : Bool) → ((below : Option K) × (above : Option K) × Child below (child_at test rest last) above) → (below : Option K) × (above : Option K) × Child below (cond b c.1 (child_at test rest last)) above
-      by_test true later = (low, Some c.0, parted.0)
-      by_test false later = later
-
-module _ {K V : Type 0} {LEN : ℕ} (cmp : K → K → Ordering) where
-  pub stands_free_low : (level : ℕ) (a : TreeArenas K V LEN) (low : Option K) (id : ℕ) (high : Option K) → Stands cmp level a low id high → Stands cmp level a None id high
-  stands_free_low zero a low id high s = record { leaf = s.leaf; here = s.here; few = s.few; ascending = s.ascending; above = all_yes (λ p. tt) _; up_to = s.up_to }
-  stands_free_low (suc level) a low id high s =
-      record { node = s.node; here = s.here; kind = s.kind; last = s.last; last_is = s.last_is; few = s.few; parted = parted_free_low cmp (Stands cmp level a) (stands_free_low level a) low _ _ high s.parted }
-
-  pub stands_free_high : (level : ℕ) (a : TreeArenas K V LEN) (low : Option K) (id : ℕ) (high : Option K) → Stands cmp level a low id high → Stands cmp level a low id None
-  stands_free_high zero a low id high s = record { leaf = s.leaf; here = s.here; few = s.few; ascending = s.ascending; above = s.above; up_to = all_yes (λ p. tt) _ }
-  stands_free_high (suc level) a low id high s =
-      record { node = s.node; here = s.here; kind = s.kind; last = s.last; last_is = s.last_is; few = s.few; parted = parted_free_high cmp (Stands cmp level a) (stands_free_high level a) low _ _ high s.parted }
+-- so does the unbounded one
+pub last_free : {K V : Type 0} {LEN : ℕ} (cmp : K → K → Ordering) (level : ℕ) (a : TreeArenas K V LEN)
+    (low : Option K) (id : ℕ) (high : Option K) (s : Stands cmp (suc level) a low id high)
+    → Stands cmp level a None s.last None
+last_free cmp level a low id high s =
+    let all = rw (s.here, s.last_is) at (all_stand cmp level a low id high s) in
+    all_middle (λ x. Stands cmp level a None x None) (map (λ c. c.1) (keyed s.node).entries) s.last [] all
 
 module _ {K V : Type 0} {LEN : ℕ} {cmp : K → K → Ordering} (o : IsTotalOrder cmp) (level : ℕ) (a : TreeArenas K V LEN) (id : ℕ) where
-  -- the child that a key belongs to stands
+  -- and the one that a key belongs to
   pub child_stands : Stands cmp (suc level) a None id None → (k : K) (child : ℕ) → HasChildFor cmp k (get a.nodes id) child → Stands cmp level a None child None
   child_stands s k child routed =
-      let at = parted_chosen cmp (Stands cmp level a) None _ _ None s.parted (is_from cmp k) in
-      rw (child_is o level a None id None s k child routed) (stands_free_high cmp level a None _ at.1 (stands_free_low cmp level a at.0 _ at.1 at.2))
+      let all = rw (children_are o level a None id None s k child routed) at (all_stand cmp level a None id None s) in
+      all_middle (λ x. Stands cmp level a None x None) (front_at (is_from cmp k) (keyed s.node).entries) child _ all
 
 module _ {K V : Type 0} {LEN : ℕ} {cmp : K → K → Ordering} (level : ℕ) (a : TreeArenas K V LEN) (id : ℕ) where
   -- a node is there
@@ -59,11 +43,7 @@ module _ {K V : Type 0} {LEN : ℕ} {cmp : K → K → Ordering} (level : ℕ) (
   -- a node with a child for a key is not retired
   pub stands_over : StandsOrRetired cmp (suc level) a id → (k : K) (child : ℕ) → HasChildFor cmp k (get a.nodes id) child → Stands cmp (suc level) a None id None
   stands_over (inl s) k child routed = s
-  stands_over (inr retired) k child routed = absurd (none (get a.nodes id) retired routed)
-    where
-      none : (slot : Option (NodeOf K LEN)) → IsRetiredNode slot → HasChildFor cmp k slot child → ⊥
-      none None r h = r
-      none (Some node) r h = let no_child = rw r.1 at h in cc
+  stands_over (inr retired) k child routed = grind arith
 
 module _ {K V : Type 0} {LEN : ℕ} (a : TreeArenas K V LEN) (id : ℕ) where
   -- a leaf that stands is there, and its walk is its entries

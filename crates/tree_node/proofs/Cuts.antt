@@ -17,8 +17,7 @@ module _ {X : Type 0} where
 
   module _ (xs : List X) (place : ℕ) (x : X) (there : slice_get xs place ≡ Some x) where
     from_place : drop place xs ≡ x ∷ drop (place + 1) xs
-    from_place =
-        drop_more xs place x (slice_get_within xs place x there) ∙ ap (λ (first : X). first ∷ drop (place + 1) xs) (get_or_from_slice_get xs place x x there)
+    from_place = cc (drop_more xs place x (slice_get_within xs place x there), get_or_from_slice_get xs place x x there)
 
     -- the list is what is before the place, the element there, and what is behind it
     pub cut_whole : xs ≡ take place xs ++ (x ∷ drop (place + 1) xs)

@@ -1,12 +1,11 @@
 -- What stays of a part where what it reaches stays.
-use Rattle.std.proofs.Common.{◌≡◌, ℕ, zero, suc, ◌≤◌, List, [], ◌∷◌, ◌++◌, map, Option, Some, None, refl, ap, ◌∙◌, arith, flat_map, Ordering}
-use Rattle.tree_model.proofs.Common.{AllByRecursion}
+use Rattle.std.proofs.Common.{◌≡◌, ℕ, zero, suc, ◌≤◌, List, [], ◌∷◌, ◌++◌, map, Option, Some, refl, ap, arith, flat_map, append-nil}
 use Rattle.tree_array.proofs.Common.{all_map}
-use Rattle.tree_node.proofs.Common.{get, LeafOf, times, times-append, times-cons, one_here, TreeArenas, AreParted, Stands, walk, leaves_at, nodes_at, nodes_of, children_of}
-use Rattle.tree_leaf.specs.Chain.{SameArray}
-use Rattle.tree_leaf.specs.Entries.{found_entries}
-use Rattle.tree_node.specs.Tree.{LeafStands}
+use Rattle.tree_leaf.proofs.Counts.{one_here, times-append, times-cons}
+use Rattle.tree_node.specs.Arenas.{AllByRecursion, NodeOf, Ordering, SameArray, Slab, TreeArenas, get, times}
+use Rattle.tree_node.specs.Tree.{AreParted, Stands, children_of, leaves_at, leaves_of, nodes_at, nodes_of, walk}
 use Rattle.tree_node.proofs.Lists.{flat_map_same}
+use Rattle.tree_node.proofs.Standing.{node_kept}
 
 -- a number that heads a list is in it
 pub head_here : (n : ℕ) (ids : List ℕ) → 1 ≤ times n (n ∷ ids)
@@ -30,23 +29,48 @@ pub all_both : {X : Type 0} (P Q : X → Type 0) (xs : List X) → AllByRecursio
 all_both P Q [] p q = tt
 all_both P Q (x ∷ xs) p q = ((p.0, q.0), all_both P Q xs p.1 q.1)
 
+-- several parts that are one
+pub single_leaves : {K : Type 0} {LEN : ℕ} (level : ℕ) (nodes : Slab (NodeOf K LEN)) (id : ℕ) → leaves_of level nodes (id ∷ []) ≡ leaves_at level nodes id
+single_leaves level nodes id = append-nil _
+
+pub single_nodes : {K : Type 0} {LEN : ℕ} (level : ℕ) (nodes : Slab (NodeOf K LEN)) (id : ℕ) → nodes_of level nodes (id ∷ []) ≡ nodes_at level nodes id
+single_nodes level nodes id = append-nil _
+
+-- what holds of each child between two bounds holds of all
+pub parted_all : {K : Type 0} (cmp : K → K → Ordering) (Child : Option K → ℕ → Option K → Type 0) (P : ℕ → Type 0) → ((low : Option K) (id : ℕ) (high : Option K) → Child low id high → P id)
+    → (low : Option K) (pairs : List (K × ℕ)) (last : ℕ) (high : Option K) → AreParted cmp Child low pairs last high → AllByRecursion P (map (λ c. c.1) pairs ++ last ∷ [])
+parted_all cmp Child P each low [] last high parted = (each low last high parted, tt)
+parted_all cmp Child P each low (c ∷ rest) last high parted = (each low c.1 (Some c.0) parted.0, parted_all cmp Child P each (Some c.0) rest last high parted.3)
+
+-- children between the separators, each of which stands as before
+pub parted_map : {K : Type 0} (cmp : K → K → Ordering) (A B : Option K → ℕ → Option K → Type 0) (low : Option K) (pairs : List (K × ℕ)) (last : ℕ) (high : Option K)
+    → AllByRecursion (λ x. (low high : Option K) → A low x high → B low x high) (map (λ c. c.1) pairs ++ last ∷ [])
+    → AreParted cmp A low pairs last high → AreParted cmp B low pairs last high
+parted_map cmp A B low [] last high each parted = each.0 low high parted
+parted_map cmp A B low (c ∷ rest) last high each parted =
+    (each.0 low (Some c.0) parted.0, parted.1, parted.2, parted_map cmp A B (Some c.0) rest last high each.1 parted.3)
+
 module _ {K V : Type 0} {LEN : ℕ} where
   -- what the part reaches is the same in both arenas, but for links
   pub record Agrees (level : ℕ) (a b : TreeArenas K V LEN) (id : ℕ) : Type 0 where
     pub nodes : (n : ℕ) → 1 ≤ times n (nodes_at level a.nodes id) → get b.nodes n ≡ get a.nodes n
     pub leaves : (n : ℕ) → 1 ≤ times n (leaves_at level a.nodes id) → SameArray (get a.leaves n) (get b.leaves n)
 
+  -- several parts agree where what they reach together does
+  pub agree_each : (level : ℕ) (a b : TreeArenas K V LEN) (ids : List ℕ) → ((n : ℕ) → 1 ≤ times n (nodes_of level a.nodes ids) → get b.nodes n ≡ get a.nodes n)
+      → ((n : ℕ) → 1 ≤ times n (leaves_of level a.nodes ids) → SameArray (get a.leaves n) (get b.leaves n)) → AllByRecursion (λ x. Agrees level a b x) ids
+  agree_each level a b ids nodes leaves =
+      all_map (λ x both. record { nodes = both.0; leaves = both.1 }) _
+      (all_both _ _ _
+      (each_part (nodes_at level a.nodes) (λ n. get b.nodes n ≡ get a.nodes n) ids nodes)
+      (each_part (leaves_at level a.nodes) (λ n. SameArray (get a.leaves n) (get b.leaves n)) ids leaves))
+
   -- the node itself is the same, and its children agree
   pub agrees_here : (level : ℕ) (a b : TreeArenas K V LEN) (id : ℕ) → Agrees (suc level) a b id → get b.nodes id ≡ get a.nodes id
   agrees_here level a b id same = same.nodes id (head_here id _)
 
   pub agrees_below : (level : ℕ) (a b : TreeArenas K V LEN) (id : ℕ) → Agrees (suc level) a b id → AllByRecursion (λ x. Agrees level a b x) (children_of a.nodes id)
-  agrees_below level a b id same =
-      let deeper : (n : ℕ) → 1 ≤ times n (nodes_of level a.nodes (children_of a.nodes id)) → get b.nodes n ≡ get a.nodes n = λ n inside. same.nodes n (rw (times-cons n id) (omega arith)) in
-      all_map (λ x both. record { nodes = both.0; leaves = both.1 }) _
-      (all_both _ _ _
-      (each_part (nodes_at level a.nodes) (λ n. get b.nodes n ≡ get a.nodes n) _ deeper)
-      (each_part (leaves_at level a.nodes) (λ n. SameArray (get a.leaves n) (get b.leaves n)) _ same.leaves))
+  agrees_below level a b id same = agree_each level a b (children_of a.nodes id) (λ n inside. same.nodes n (rw (times-cons n id) (omega arith))) same.leaves
 
   pub same_leaves : (level : ℕ) (a b : TreeArenas K V LEN) (id : ℕ) → Agrees level a b id → leaves_at level b.nodes id ≡ leaves_at level a.nodes id
   same_leaves zero a b id same = refl
@@ -58,45 +82,34 @@ module _ {K V : Type 0} {LEN : ℕ} where
   same_nodes (suc level) a b id same =
       rw (agrees_here level a b id same) (ap (λ xs. id ∷ xs) (flat_map_same _ _ _ (all_map (λ x below. same_nodes level a b x below) _ (agrees_below level a b id same))))
 
-  same_entries : (old new : Option (LeafOf K V LEN)) → SameArray old new → found_entries new ≡ found_entries old
-  same_entries None new same = rw same refl
-  same_entries (Some leaf) new same = rw (same.1, same.2) refl
-
   pub same_walk : (level : ℕ) (a b : TreeArenas K V LEN) (id : ℕ) → Agrees level a b id → walk level b id ≡ walk level a id
   same_walk level a b id same =
       rw (same_leaves level a b id same)
-      (flat_map_same _ _ _ (each_of (leaves_at level a.nodes id) (λ n inside. same_entries _ _ (same.leaves n inside))))
+      (flat_map_same _ _ _ (each_of (leaves_at level a.nodes id) (λ n inside. let here = same.leaves n inside in grind arith)))
 
--- children between the separators, each of which stands as before
-pub parted_map : {K : Type 0} (cmp : K → K → Ordering) (A B : Option K → ℕ → Option K → Type 0) (low : Option K) (pairs : List (K × ℕ)) (last : ℕ) (high : Option K)
-    → AllByRecursion (λ x. (low high : Option K) → A low x high → B low x high) (map (λ c. c.1) pairs ++ last ∷ [])
-    → AreParted cmp A low pairs last high → AreParted cmp B low pairs last high
-parted_map cmp A B low [] last high each parted = each.0 low high parted
-parted_map cmp A B low (c ∷ rest) last high each parted =
-    (each.0 low (Some c.0) parted.0, parted.1, parted.2, parted_map cmp A B (Some c.0) rest last high each.1 parted.3)
+  -- several parts that agree have the same leaves, nodes and walks
+  pub record Stay (level : ℕ) (a b : TreeArenas K V LEN) (xs : List ℕ) : Type 0 where
+    pub leaves : leaves_of level b.nodes xs ≡ leaves_of level a.nodes xs
+    pub nodes : nodes_of level b.nodes xs ≡ nodes_of level a.nodes xs
+    pub walks : flat_map (walk level b) xs ≡ flat_map (walk level a) xs
+
+  pub stay : (level : ℕ) (a b : TreeArenas K V LEN) (xs : List ℕ) → AllByRecursion (λ x. Agrees level a b x) xs → Stay level a b xs
+  stay level a b xs same = record {
+    leaves = flat_map_same _ _ xs (all_map (λ x. same_leaves level a b x) _ same);
+    nodes = flat_map_same _ _ xs (all_map (λ x. same_nodes level a b x) _ same);
+    walks = flat_map_same _ _ xs (all_map (λ x. same_walk level a b x) _ same);
+  }
 
 module _ {K V : Type 0} {LEN : ℕ} (cmp : K → K → Ordering) where
-  leaf_same : (a b : TreeArenas K V LEN) (low : Option K) (id : ℕ) (high : Option K) (s : LeafStands cmp a.leaves low id high) → SameArray (Some s.leaf) (get b.leaves id) → LeafStands cmp b.leaves low id high
-  leaf_same a b low id high s same =
-      record {
-        leaf = same.0;
-        here = same.1;
-        few = rw same.2 s.few;
-        ascending = rw same.2 s.ascending;
-        above = rw same.2 s.above;
-        up_to = rw same.2 s.up_to;
-      }
-
   pub same_stands : (level : ℕ) (a b : TreeArenas K V LEN) (id : ℕ) → Agrees level a b id → (low high : Option K) → Stands cmp level a low id high → Stands cmp level b low id high
-  same_stands zero a b id same low high s = leaf_same a b low id high s (rw s.here at (same.leaves id (head_here id [])))
+  same_stands zero a b id same low high s =
+      let there = rw s.here at (same.leaves id (head_here id [])) in
+      record { leaf = there.0; here = there.1; few = rw there.2 s.few; ascending = rw there.2 s.ascending; above = rw there.2 s.above; up_to = rw there.2 s.up_to }
   same_stands (suc level) a b id same low high s =
-      record {
-        node = s.node;
-        here = agrees_here level a b id same ∙ s.here;
-        kind = s.kind;
-        last = s.last;
-        last_is = s.last_is;
-        few = s.few;
-        parted = parted_map cmp (Stands cmp level a) (Stands cmp level b) low _ _ high
-            (rw (s.here, s.last_is) at (all_map (λ x below. same_stands level a b x below) _ (agrees_below level a b id same))) s.parted;
-      }
+      let each = all_map (λ x below. same_stands level a b x below) _ (agrees_below level a b id same) in
+      node_kept s (agrees_here level a b id same)
+      (parted_map cmp (Stands cmp level a) (Stands cmp level b) low _ _ high (rw (s.here, s.last_is) at each) s.parted)
+
+  pub stands_each : (level : ℕ) (a b : TreeArenas K V LEN) (xs : List ℕ) → AllByRecursion (λ x. Agrees level a b x) xs
+      → AllByRecursion (λ x. (low high : Option K) → Stands cmp level a low x high → Stands cmp level b low x high) xs
+  stands_each level a b xs same = all_map (λ x. same_stands level a b x) xs same

@@ -1,11 +1,6 @@
 -- A leaf whose array is written and whose links stay.
 use Rattle.std.proofs.Common.{◌≡◌, ℕ, List, [], ◌∷◌, Option, Some, None, is_some, refl, ap, ◌∙◌, arith, inl, inr}
-use Rattle.tree_model.proofs.Common.{cases_eq}
-use Rattle.tree_array.proofs.Common.{Arrivals}
-use Rattle.tree_node.proofs.Common.{get, with_value, LeafOf, uses, same_array_refl, times-cons, one_here, uses_same, TreeArenas, Replaces}
-use Rattle.slab.specs.Slab.{Updates}
-use Rattle.slab.proofs.SlabLemmas.{Updates-with_value}
-use Rattle.tree_leaf.specs.Chain.{IsBetween, AreLinked, first_or}
+use Rattle.tree_node.proofs.Common.{Arrivals, LeafOf, Replaces, TreeArenas, Updates, Updates-with_value, cases_eq, get, one_here, same_array_refl, times-cons, uses, uses_same, with_value, AreLinked}
 
 -- the arenas with another array in the leaf
 abbrev pub with_array : {K V : Type 0} {LEN : ℕ} → TreeArenas K V LEN → ℕ → LeafOf K V LEN → Arrivals K V → TreeArenas K V LEN
@@ -19,21 +14,14 @@ module _ {K V : Type 0} {LEN : ℕ} (a : TreeArenas K V LEN) (id : ℕ) (leaf : 
   pub here_now : get (with_array a id leaf array).leaves id ≡ Some (record leaf { array = array })
   here_now = updated.changed
 
-  links_stay : (n : ℕ) (before after : Option ℕ) → IsBetween (get a.leaves n) before after → IsBetween (get (with_array a id leaf array).leaves n) before after
-  links_stay n before after linked = elim (cases_eq n id) [
-    | inl same ↦ let here = rw (same, was) at linked in rw (same, updated.changed) here
-    | inr differs ↦ rw (updated.others n differs) linked
-  ]
-
   chain_stays : (before : Option ℕ) (ids : List ℕ) (after : Option ℕ) → AreLinked a.leaves before ids after → AreLinked (with_array a id leaf array).leaves before ids after
   chain_stays before [] after linked = tt
-  chain_stays before (n ∷ rest) after linked = (links_stay n before (first_or rest after) linked.0, chain_stays (Some n) rest after linked.1)
+  chain_stays before (n ∷ rest) after linked =
+      let later = chain_stays (Some n) rest after linked.1 in
+      elim (cases_eq n id) [ inl same ↦ (rw (same, updated.changed) (rw (same, was) at linked.0), later) | inr differs ↦ (rw (updated.others n differs) linked.0, later) ]
 
   uses_stay : (n : ℕ) → uses (with_array a id leaf array).leaves n ≡ uses a.leaves n
-  uses_stay n = elim (cases_eq n id) [
-    | inl same ↦ uses_same _ _ n (rw (same, updated.changed, was) refl)
-    | inr differs ↦ uses_same _ _ n (ap is_some (updated.others n differs))
-  ]
+  uses_stay n = uses_same _ _ n (elim (cases_eq n id) [ inl same ↦ rw (same, updated.changed, was) refl | inr differs ↦ ap is_some (updated.others n differs) ])
 
   -- the leaf has become the leaf, and nothing else has changed
   pub array_replaces : Replaces 0 a (with_array a id leaf array) (id ∷ []) (id ∷ [])

@@ -1,12 +1,9 @@
-pub mod Ascents
 pub mod Bare
 pub mod Beside
 pub mod Between
-pub mod Beyond
 pub mod Bounds
 pub mod ChildChanges
 pub mod Children
-pub mod ChildrenStand
 pub mod Common
 pub mod Cuts
 pub mod Depths
@@ -20,7 +17,6 @@ pub mod NodeKinds
 pub mod Order
 pub mod Places
 pub mod Routes
-pub mod SameKinds
 pub mod Sizes
 pub mod Spares
 pub mod Standing

@@ -1,13 +1,7 @@
 -- A place among the children of a node: the child there is the first keyed one from there on, else the unbounded one.
-use Rattle.std.proofs.Common.{◌≡◌, ℕ, ◌<◌, Bool, true, false, cond, List, [], ◌∷◌, ◌++◌, map, Option, Some, refl, sym, ap, arith, append_assoc, inl, inr, Ordering, Less, is_le}
-use Rattle.tree_model.proofs.Common.{AllByRecursion, IsTotalOrder, cases_eq, map-append, AllLarger, IsAbsent, put}
-use Rattle.tree_array.proofs.Common.{all_map}
-use Rattle.tree_node.proofs.Common.{times, times-cons, times-nil, none_here, AreParted, IsAbove, IsBelow, IsUpTo, child_at, is_from}
+use Rattle.std.proofs.Common.{◌≡◌, ℕ, suc, ◌<◌, Bool, true, false, List, [], ◌∷◌, ◌++◌, map, None, Option, Some, refl, sym, ap, ◌∙◌, arith, inl, inr, Ordering, Less}
+use Rattle.tree_node.proofs.Common.{AllByRecursion, AllLarger, AreParted, IsAbove, IsAbsent, IsBelow, IsTotalOrder, IsUpTo, Stands, TreeArenas, all_yes, below_next, cases_Bool, cases_eq, child_at, children_of, is_from, keyed, less_from_test, none_here, parted_map, separators_around, times, times-cons, times-nil, upto_from_test, put}
 use Rattle.tree_node.proofs.Between.{found_between, put_between}
-use Rattle.tree_node.proofs.Frames.{parted_map}
-use Rattle.tree_node.proofs.Order.{less_from_test, upto_from_test}
-use Rattle.tree_node.proofs.Walks.{above_next}
-use Rattle.tree_node.proofs.Widens.{below_next, separators_above}
 
 module _ {K : Type 0} where
   -- the child at the place, and those behind it
@@ -48,34 +42,29 @@ module _ {K : Type 0} where
   ]
 
   onward_children : (onward : List (K × ℕ)) (last : ℕ) → map (λ c. c.1) onward ++ last ∷ [] ≡ first_child onward last ∷ later_children onward last
-  onward_children [] last = refl
-  onward_children (c ∷ rest) last = refl
+  onward_children onward last = grind arith
 
   -- the children are those before the place, the one there, and those behind it
   pub children_at : (before onward : List (K × ℕ)) (last : ℕ) → map (λ c. c.1) (before ++ onward) ++ last ∷ [] ≡ map (λ c. c.1) before ++ (first_child onward last ∷ later_children onward last)
-  children_at before onward last =
-      rw (map-append (λ (c : K × ℕ). c.1) before onward, append_assoc (map (λ c. c.1) before) (map (λ c. c.1) onward) (last ∷ []), onward_children onward last) refl
+  children_at [] onward last = onward_children onward last
+  children_at (c ∷ rest) onward last = ap (λ xs. c.1 ∷ xs) (children_at rest onward last)
+
+  -- so those of a node that stands
+  pub children_around : {V : Type 0} {LEN : ℕ} {cmp : K → K → Ordering} (level : ℕ) (a : TreeArenas K V LEN) (low : Option K) (id : ℕ) (high : Option K)
+      (s : Stands cmp (suc level) a low id high) (x : ℕ)
+      → (at : IsAt (keyed s.node).entries s.last x) → children_of a.nodes id ≡ map (λ c. c.1) at.before ++ (x ∷ later_children at.onward s.last)
+  children_around level a low id high s x at = rw (s.here, s.last_is, at.split, children_at at.before at.onward s.last, at.child) refl
 
   -- and a new one comes before it
   pub children_put : (before onward : List (K × ℕ)) (last : ℕ) (s : K) (y : ℕ)
       → map (λ c. c.1) (before ++ (s, y) ∷ onward) ++ last ∷ [] ≡ map (λ c. c.1) before ++ (y ∷ (first_child onward last ∷ later_children onward last))
-  children_put before onward last s y =
-      rw (map-append (λ (c : K × ℕ). c.1) before ((s, y) ∷ onward), append_assoc (map (λ c. c.1) before) (y ∷ map (λ c. c.1) onward) (last ∷ []), onward_children onward last) refl
+  children_put before onward last s y = children_at before ((s, y) ∷ onward) last ∙ rw (onward_children onward last) refl
 
   -- then a key belongs to the new one, or to the one that it belonged to
   pub routed_by : (test : K → Bool) (P : ℕ → Type 0) (before onward : List (K × ℕ)) (last : ℕ) (s : K) (y : ℕ) → (test s ≡ true → P y) → P (child_at test (before ++ onward) last)
       → P (child_at test (before ++ (s, y) ∷ onward) last)
-  routed_by test P [] onward last s y new old = by_test (test s) refl
-    where
-      by_test : (b : Bool) → test s ≡ b → P (cond b y (child_at test onward last))
-      by_test true passed = new passed
-      by_test false passed = old
-  routed_by test P (c ∷ rest) onward last s y new old = by_test (test c.0) old (routed_by test P rest onward last s y new)
-    where
-      by_test : (b : Bool) → P (cond b c.1 (child_at test (rest ++ onward) last)) → (P (child_at test (rest ++ onward) last) → P (child_at test (rest ++ (s, y) ∷ onward) last))
-          → P (cond b c.1 (child_at test (rest ++ (s, y) ∷ onward) last))
-      by_test true old later = old
-      by_test false old later = later old
+  routed_by test P [] onward last s y new old = grind arith
+  routed_by test P (c ∷ rest) onward last s y new old = grind (arith, routed_by test P rest onward last s y new)
 
   -- the child of a key whose test no separator before the place passes
   pub chosen_past : (test : K → Bool) (before onward : List (K × ℕ)) (last : ℕ) → AllByRecursion (λ c. test c.0 ≡ false) before → child_at test (before ++ onward) last ≡ child_at test onward last
@@ -83,43 +72,30 @@ module _ {K : Type 0} where
   chosen_past test (c ∷ rest) onward last none = rw none.0 (chosen_past test rest onward last none.1)
 
   module _ (cmp : K → K → Ordering) where
-    -- the key is at most the separator at the place, if one is there
-    abbrev pub IsUpToFirst : K → List (K × ℕ) → Type 0
-    IsUpToFirst k [] = Unit {0}
-    IsUpToFirst k (c ∷ rest) = is_le (cmp k c.0) ≡ true
-
     -- the place of the child that a key belongs to
-    pub record IsForKey (k : K) (pairs : List (K × ℕ)) (last : ℕ) : Type 0 where
-      pub before : List (K × ℕ)
-      pub onward : List (K × ℕ)
-      pub split : pairs ≡ before ++ onward
-      pub child : first_child onward last ≡ child_at (is_from cmp k) pairs last
-      pub smaller : AllByRecursion (λ c. cmp c.0 k ≡ Less) before
-      pub up_to : IsUpToFirst k onward
+    pub record IsForKey (k : K) (pairs : List (K × ℕ)) (last x : ℕ) : Type 0 where
+      pub at : IsAt pairs last x
+      pub smaller : AllByRecursion (λ c. cmp c.0 k ≡ Less) at.before
+      pub up_to : IsUpTo cmp k (high_at at.onward None)
 
-    pub high_for : (k : K) (onward : List (K × ℕ)) (high : Option K) → IsUpToFirst k onward → IsUpTo cmp k high → IsUpTo cmp k (high_at onward high)
-    high_for k [] high first up_to = up_to
-    high_for k (c ∷ rest) high first up_to = first
+    pub high_for : (k : K) (onward : List (K × ℕ)) (high : Option K) → IsUpTo cmp k (high_at onward None) → IsUpTo cmp k high
+        → IsUpTo cmp k (high_at onward high)
+    high_for k onward high first up_to = grind arith
 
     pub low_for : (k : K) (low : Option K) (before : List (K × ℕ)) → AllByRecursion (λ c. cmp c.0 k ≡ Less) before → IsAbove cmp low k → IsAbove cmp (low_at low before) k
     low_for k low [] smaller above = above
     low_for k low (c ∷ rest) smaller above = low_for k (Some c.0) rest smaller.1 smaller.0
 
 module _ {K : Type 0} {cmp : K → K → Ordering} (o : IsTotalOrder cmp) where
-  pub place_for : (k : K) (pairs : List (K × ℕ)) (last : ℕ) → IsForKey cmp k pairs last
-  place_for k [] last = record { before = []; onward = []; split = refl; child = refl; smaller = tt; up_to = tt }
-  place_for k (c ∷ rest) last = by_test (is_from cmp k c.0) refl (place_for k rest last)
-    where
-      by_test : (b : Bool) → is_from cmp k c.0 ≡ b → IsForKey cmp k rest last → IsForKey cmp k (c ∷ rest) last
-      by_test true from later = record { before = []; onward = c ∷ rest; split = refl; child = rw from refl; smaller = tt; up_to = upto_from_test o c.0 k from }
-      by_test false from later = record {
-        before = c ∷ later.before;
-        onward = later.onward;
-        split = ap (λ xs. c ∷ xs) later.split;
-        child = rw from later.child;
-        smaller = (less_from_test o c.0 k from, later.smaller);
-        up_to = later.up_to;
-      }
+  pub place_for : (k : K) (pairs : List (K × ℕ)) (last x : ℕ) → child_at (is_from cmp k) pairs last ≡ x → IsForKey cmp k pairs last x
+  place_for k [] last x goes = record { at = record { before = []; onward = []; split = refl; child = goes }; smaller = tt; up_to = tt }
+  place_for k (c ∷ rest) last x goes = elim (cases_Bool (is_from cmp k c.0)) [
+    | inl from ↦ record { at = record { before = []; onward = c ∷ rest; split = refl; child = rw from at goes }; smaller = tt; up_to = upto_from_test o c.0 k from }
+    | inr past ↦
+        let later = place_for k rest last x (rw past at goes) in
+        let at : IsAt (c ∷ rest) last x = record { before = c ∷ later.at.before; onward = later.at.onward; split = ap (λ xs. c ∷ xs) later.at.split; child = later.at.child } in
+        record { at = at; smaller = (less_from_test o c.0 k past, later.smaller); up_to = later.up_to }
+  ]
 
   module _ (A : Option K → ℕ → Option K → Type 0) where
     -- the child at the place stands between its bounds
@@ -129,43 +105,32 @@ module _ {K : Type 0} {cmp : K → K → Ordering} (o : IsTotalOrder cmp) where
     child_between low [] (c ∷ rest) last high parted = parted.0
     child_between low (c ∷ rest) onward last high parted = child_between (Some c.0) rest onward last high parted.3
 
-    -- a separator above the bound there is above each before it
-    pub low_above : (s : K) (low : Option K) (before onward : List (K × ℕ)) (last : ℕ) (high : Option K) → AreParted cmp A low (before ++ onward) last high
-        → IsAbove cmp (low_at low before) s → IsAbove cmp low s × AllByRecursion (λ c. cmp c.0 s ≡ Less) before
-    low_above s low [] onward last high parted above = (above, tt)
-    low_above s low (c ∷ rest) onward last high parted above =
-        let later = low_above s (Some c.0) rest onward last high parted.3 above in
-        (above_next o low c.0 s parted.1 later.0, (later.0, later.1))
+    -- the children stay parted where the one at the place gives its lower part to a new one before it
+    pub parted_low : (B : Option K → ℕ → Option K → Type 0) (s : K) (y : ℕ) (low : Option K) (before onward : List (K × ℕ)) (last : ℕ) (high : Option K)
+        → AreParted cmp A low (before ++ onward) last high
+        → IsAbove cmp (low_at low before) s → IsBelow cmp s (high_at onward high)
+        → AllByRecursion (λ x. (low high : Option K) → A low x high → B low x high) (map (λ c. c.1) before)
+        → B (low_at low before) y (Some s) → B (Some s) (first_child onward last) (high_at onward high)
+        → AllByRecursion (λ x. (low high : Option K) → A low x high → B low x high) (later_children onward last)
+        → AreParted cmp B low (before ++ (s, y) ∷ onward) last high
+    parted_low B s y low [] [] last high parted above below front lower upper back = (lower, above, below, upper)
+    parted_low B s y low [] (c ∷ rest) last high parted above below front lower upper back =
+        (lower, above, below_next o high s c.0 below parted.2, (upper, below, parted.2, parted_map cmp A B (Some c.0) rest last high back parted.3))
+    parted_low B s y low (c ∷ rest) onward last high parted above below front lower upper back =
+        (front.0 low (Some c.0) parted.0, parted.1, parted.2, parted_low B s y (Some c.0) rest onward last high parted.3 above below front.1 lower upper back)
 
-    high_below : (s : K) (low : Option K) (onward : List (K × ℕ)) (last : ℕ) (high : Option K) → AreParted cmp A low onward last high → IsBelow cmp s (high_at onward high) → AllLarger cmp s onward
-    high_below s low [] last high parted below = tt
-    high_below s low (c ∷ rest) last high parted below =
-        (below, all_map (λ d h. o.trans s c.0 d.0 below h) _ (separators_above o A (Some c.0) rest last high parted.3))
-
-    parted_onward : (low : Option K) (before onward : List (K × ℕ)) (last : ℕ) (high : Option K) → AreParted cmp A low (before ++ onward) last high → AreParted cmp A (low_at low before) onward last high
-    parted_onward low [] onward last high parted = parted
-    parted_onward low (c ∷ rest) onward last high parted = parted_onward (Some c.0) rest onward last high parted.3
-
-    -- so it is absent, and put at the place
+    -- a separator between the bounds there is above each before it, and below each behind it
     module _ (s : K) (low : Option K) (before onward : List (K × ℕ)) (last : ℕ) (high : Option K) (parted : AreParted cmp A low (before ++ onward) last high)
         (above : IsAbove cmp (low_at low before) s) (below : IsBelow cmp s (high_at onward high)) where
+      pub separators_beside : AllByRecursion (λ c. cmp c.0 s ≡ Less) before × AllLarger cmp s onward
+      separators_beside =
+          let Any : Option K → ℕ → Option K → Type 0 = λ low x high. Unit {0} in
+          separators_around o Any low before s last onward last high
+          (parted_low Any s last low before onward last high parted above below (all_yes (λ x low high st. tt) _) tt tt (all_yes (λ x low high st. tt) _))
+
+      -- so it is absent, and put at the place
       pub separator_absent : IsAbsent cmp (before ++ onward) s
-      separator_absent =
-          found_between o s before [] onward (low_above s low before onward last high parted above).1 (high_below s (low_at low before) onward last high (parted_onward low before onward last high parted) below)
+      separator_absent = found_between o s before [] onward separators_beside.0 separators_beside.1
 
       pub separator_put : (y : ℕ) → put cmp (before ++ onward) s y ≡ before ++ (s, y) ∷ onward
-      separator_put y =
-          put_between o s before [] onward (low_above s low before onward last high parted above).1 (high_below s (low_at low before) onward last high (parted_onward low before onward last high parted) below) y
-
-  -- the children stay parted where the one at the place gives its lower part to a new one before it
-  pub parted_low : (A B : Option K → ℕ → Option K → Type 0) (s : K) (y : ℕ) (low : Option K) (before onward : List (K × ℕ)) (last : ℕ) (high : Option K) → AreParted cmp A low (before ++ onward) last high
-      → IsAbove cmp (low_at low before) s → IsBelow cmp s (high_at onward high)
-      → AllByRecursion (λ x. (low high : Option K) → A low x high → B low x high) (map (λ c. c.1) before)
-      → B (low_at low before) y (Some s) → B (Some s) (first_child onward last) (high_at onward high)
-      → AllByRecursion (λ x. (low high : Option K) → A low x high → B low x high) (later_children onward last)
-      → AreParted cmp B low (before ++ (s, y) ∷ onward) last high
-  parted_low A B s y low [] [] last high parted above below front lower upper back = (lower, above, below, upper)
-  parted_low A B s y low [] (c ∷ rest) last high parted above below front lower upper back =
-      (lower, above, below_next o high s c.0 below parted.2, (upper, below, parted.2, parted_map cmp A B (Some c.0) rest last high back parted.3))
-  parted_low A B s y low (c ∷ rest) onward last high parted above below front lower upper back =
-      (front.0 low (Some c.0) parted.0, parted.1, parted.2, parted_low A B s y (Some c.0) rest onward last high parted.3 above below front.1 lower upper back)
+      separator_put y = put_between o s before [] onward separators_beside.0 separators_beside.1 y

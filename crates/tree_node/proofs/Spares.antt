@@ -1,11 +1,6 @@
 -- The least room of the leaves of a part, and of several.
-use Rattle.std.proofs.Common.{◌≡◌, ℕ, suc, ◌≤◌, min, List, [], ◌∷◌, ◌++◌, Option, Some, None, refl, arith}
-use Rattle.tree_model.proofs.Common.{AllByRecursion, flat_map-append}
-use Rattle.tree_node.proofs.Common.{LeafOf, TreeArenas, spare, leaves_at, leaves_of, children_of}
-use Rattle.tree_leaf.specs.Chain.{SameArray}
-use Rattle.tree_node.specs.Shape.{found_spare, leaf_spare, least}
-use Rattle.tree_node.proofs.Frames.{each_of, Agrees, same_leaves}
-use Rattle.tree_node.proofs.Lifts.{single_leaves}
+use Rattle.std.proofs.Common.{◌≡◌, ℕ, suc, ◌≤◌, min, List, [], ◌∷◌, ◌++◌, refl, arith}
+use Rattle.tree_node.proofs.Common.{AllByRecursion, Agrees, TreeArenas, children_of, each_of, flat_map-append, leaves_at, leaves_of, same_leaves, single_leaves, spare, leaf_spare, least}
 
 least_le : (most : ℕ) (f : ℕ → ℕ) (xs : List ℕ) → least most f xs ≤ most
 least_le most f [] = omega arith
@@ -28,19 +23,18 @@ least_same most f g [] same = refl
 least_same most f g (x ∷ xs) same = rw (same.0, least_same most f g xs same.1) refl
 
 module _ {K V : Type 0} {LEN : ℕ} where
-  found_spare_same : (old new : Option (LeafOf K V LEN)) → SameArray old new → found_spare new ≡ found_spare old
-  found_spare_same None new same = rw same refl
-  found_spare_same (Some leaf) new same = rw (same.1, same.2) refl
-
   -- a part that stays has the same room
   pub same_spare : (level : ℕ) (a b : TreeArenas K V LEN) (id : ℕ) → Agrees level a b id → spare level b id ≡ spare level a id
   same_spare level a b id same =
       rw (same_leaves level a b id same)
-      (least_same LEN _ _ _ (each_of (leaves_at level a.nodes id) (λ n inside. found_spare_same _ _ (same.leaves n inside))))
+      (least_same LEN _ _ _ (each_of (leaves_at level a.nodes id) (λ n inside. let here = same.leaves n inside in grind arith)))
 
   -- the least room of several parts
   abbrev pub spares : ℕ → TreeArenas K V LEN → List ℕ → ℕ
   spares level a ids = least LEN (leaf_spare a.leaves) (leaves_of level a.nodes ids)
+
+  pub spares-append : (level : ℕ) (a : TreeArenas K V LEN) (xs ys : List ℕ) → spares level a (xs ++ ys) ≡ min (spares level a xs) (spares level a ys)
+  spares-append level a xs ys = rw (flat_map-append (leaves_at level a.nodes) xs) (least-append LEN _ (leaves_of level a.nodes xs) (leaves_of level a.nodes ys))
 
   pub spares-cons : (level : ℕ) (a : TreeArenas K V LEN) (x : ℕ) (xs : List ℕ) → spares level a (x ∷ xs) ≡ min (spare level a x) (spares level a xs)
   spares-cons level a x xs = least-append LEN _ (leaves_at level a.nodes x) (leaves_of level a.nodes xs)
@@ -48,22 +42,12 @@ module _ {K V : Type 0} {LEN : ℕ} where
   pub spares_same : (level : ℕ) (a b : TreeArenas K V LEN) (xs : List ℕ) → AllByRecursion (λ x. Agrees level a b x) xs → spares level b xs ≡ spares level a xs
   spares_same level a b [] same = refl
   spares_same level a b (x ∷ xs) same =
-      rw (spares-cons level a x xs, spares-cons level b x xs, same_spare level a b x same.0, spares_same level a b xs same.1) refl
-
-  pub spares-append : (level : ℕ) (a : TreeArenas K V LEN) (xs ys : List ℕ) → spares level a (xs ++ ys) ≡ min (spares level a xs) (spares level a ys)
-  spares-append level a xs ys = rw (flat_map-append (leaves_at level a.nodes) xs) (least-append LEN _ (leaves_of level a.nodes xs) (leaves_of level a.nodes ys))
+      omega (arith, spares-cons level a x xs, spares-cons level b x xs, same_spare level a b x same.0, spares_same level a b xs same.1)
 
   -- the room of a node is the least of that of its children
   pub spare_split : (level : ℕ) (a : TreeArenas K V LEN) (id : ℕ) (front ids back : List ℕ) → children_of a.nodes id ≡ front ++ (ids ++ back)
       → spare (suc level) a id ≡ min (spares level a front) (min (spares level a ids) (spares level a back))
-  spare_split level a id front ids back was =
-      rw (
-        was,
-        flat_map-append (leaves_at level a.nodes) front,
-        flat_map-append (leaves_at level a.nodes) ids,
-        least-append LEN (leaf_spare a.leaves) (leaves_of level a.nodes front),
-        least-append LEN (leaf_spare a.leaves) (leaves_of level a.nodes ids),
-      ) refl
+  spare_split level a id front ids back was = rw (was, spares-append level a front (ids ++ back), spares-append level a ids back) refl
 
   pub spares-single : (level : ℕ) (a : TreeArenas K V LEN) (id : ℕ) → spares level a (id ∷ []) ≡ spare level a id
   spares-single level a id = rw (single_leaves level a.nodes id) refl

@@ -1,13 +1,36 @@
 -- What stands under a number.
-use Rattle.std.proofs.Common.{◌≡◌, ℕ, suc, [], Option, None, Some, IsSome, refl, sym, ◌∙◌, Ordering}
-use Rattle.tree_node.proofs.Common.{get, NodeOf, TreeArenas, IsRetiredNode, Stands, node_children}
+use Rattle.std.proofs.Common.{◌≡◌, ℕ, suc, ◌≤◌, List, [], length, Option, Some, IsSome, ◌∙◌, arith}
+use Rattle.tree_node.specs.Arenas.{Internal, Leaf, NodeOf, Ordering, Slab, TreeArenas, get}
+use Rattle.tree_node.specs.Tree.{AreParted, HasKind, IsRetiredNode, NodeStands, Stands, keyed, node_children, unbounded}
+use Rattle.tree_node.specs.declared.branch.BranchOf.{BranchOf}
 
 -- the node that stands under a number is the one there
 pub node_is : {K V : Type 0} {LEN : ℕ} {cmp : K → K → Ordering} (level : ℕ) (a : TreeArenas K V LEN) (low : Option K) (id : ℕ) (high : Option K) (s : Stands cmp (suc level) a low id high)
     (node : NodeOf K LEN) → get a.nodes id ≡ Some node → s.node ≡ node
-node_is level a low id high s node was = let both : Some s.node ≡ Some node = sym s.here ∙ was in cc
+node_is level a low id high s node was = cc s.here
+
+-- a node that stays stands where its children do
+pub node_kept : {K : Type 0} {LEN level : ℕ} {cmp : K → K → Ordering} {Old New : Option K → ℕ → Option K → Type 0} {a b : Slab (NodeOf K LEN)}
+    {low low' : Option K} {id : ℕ} {high high' : Option K} (s : NodeStands cmp Old level a low id high) → get b id ≡ get a id
+    → AreParted cmp New low' (keyed s.node).entries s.last high' → NodeStands cmp New level b low' id high'
+node_kept s same parted = record { node = s.node; here = same ∙ s.here; kind = s.kind; last = s.last; last_is = s.last_is; few = s.few; parted = parted }
+
+-- and one that is made of these children stands where they do
+pub node_made : {K : Type 0} {LEN level : ℕ} {cmp : K → K → Ordering} {Child : Option K → ℕ → Option K → Type 0}
+    {nodes : Slab (NodeOf K LEN)} {low high : Option K} {id last : ℕ}
+    {node : NodeOf K LEN} {pairs : List (K × ℕ)} → get nodes id ≡ Some node → HasKind level node → unbounded node ≡ Some last → (keyed node).entries ≡ pairs
+    → length pairs ≤ LEN → AreParted cmp Child low pairs last high → NodeStands cmp Child level nodes low id high
+node_made {last = last} {node = node} here kind last_is are few parted =
+    record { node = node; here = here; kind = kind; last = last; last_is = last_is; few = rw are few; parted = rw are parted }
 
 -- a retired node has no child
 pub no_children : {K : Type 0} {LEN : ℕ} (slot : Option (NodeOf K LEN)) → IsRetiredNode slot → IsSome slot × (node_children slot ≡ [])
-no_children None retired = absurd retired
-no_children (Some node) retired = (refl, rw (retired.0, retired.1) refl)
+no_children slot retired = (grind arith, grind arith)
+
+-- nodes of one kind have it at the same levels
+module _ {K : Type 0} {LEN : ℕ} where
+  pub inner_kind : (a b : BranchOf K ℕ LEN) (level : ℕ) → HasKind level (Internal a) → HasKind level (Internal b)
+  inner_kind a b level kind = grind arith
+
+  pub outer_kind : (a b : BranchOf K ℕ LEN) (level : ℕ) → HasKind level (Leaf a) → HasKind level (Leaf b)
+  outer_kind a b level kind = grind arith

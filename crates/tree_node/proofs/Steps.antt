@@ -1,10 +1,7 @@
 -- Two changes of a part, one after the other.
-use Rattle.std.proofs.Common.{◌≡◌, ℕ, ◌≤◌, List, [], ◌∷◌, None, IsSome, refl, ap, ◌∙◌, arith, Ordering}
-use Rattle.tree_node.proofs.Common.{get, times, uses, same_array_refl, uses_le_one, uses_some, TreeArenas, IsPart, Replaces, Stands, leaves_of}
-use Rattle.tree_leaf.proofs.Chains.{same_array_trans}
-use Rattle.tree_leaf.proofs.Counts.{in_use}
+use Rattle.std.proofs.Common.{◌≡◌, ℕ, List, [], ◌∷◌, None, IsSome, refl, ap, ◌∙◌, arith, Ordering}
+use Rattle.tree_node.proofs.Common.{IsPart, Replaces, Stands, TreeArenas, get, in_use, leaves_of, same_array_refl, single_leaves, single_nodes, times, uses_le_one, uses_some, same_array_trans}
 use Rattle.tree_node.proofs.Beside.{apart_after}
-use Rattle.tree_node.proofs.Lifts.{single_leaves, single_nodes}
 
 module _ {K V : Type 0} {LEN : ℕ} where
   pub replaces_trans : (level : ℕ) (a b c : TreeArenas K V LEN) (xs ys zs : List ℕ) → Replaces level a b xs ys → Replaces level b c ys zs → Replaces level a c xs zs
@@ -15,9 +12,7 @@ module _ {K V : Type 0} {LEN : ℕ} where
     leaves_kept = λ n used outside.
         let still = still_outside n used outside in
         same_array_trans _ _ _ (first.leaves_kept n used outside) (second.leaves_kept n still.0 still.1);
-    links_kept = λ n leaf apart.
-        let same = first.links_kept n leaf apart in
-        second.links_kept n leaf (apart_after a.leaves b.leaves (leaves_of level a.nodes xs) (leaves_of level b.nodes ys) still_outside n leaf same apart);
+    links_kept = λ n leaf apart. second.links_kept n leaf (apart_after a.leaves b.leaves _ _ still_outside n leaf (first.links_kept n leaf apart) apart);
     nodes_counted = λ n. omega (arith, first.nodes_counted n, second.nodes_counted n);
     leaves_counted = λ n. omega (arith, first.leaves_counted n, second.leaves_counted n);
     chained = λ front back chain. second.chained front back (first.chained front back chain);
@@ -25,8 +20,8 @@ module _ {K V : Type 0} {LEN : ℕ} where
     where
       still_outside : (m : ℕ) → IsSome (get a.leaves m) → times m (leaves_of level a.nodes xs) ≡ 0 → IsSome (get b.leaves m) × (times m (leaves_of level b.nodes ys) ≡ 0)
       still_outside m used outside =
-          let still : 1 ≤ uses b.leaves m = omega (arith, first.leaves_counted m, outside, uses_some a.leaves m used) in
-          (in_use b.leaves m still, omega (arith, first.leaves_counted m, outside, uses_some a.leaves m used, uses_le_one b.leaves m))
+          let once = uses_some a.leaves m used in
+          (in_use b.leaves m (omega (arith, first.leaves_counted m)), omega (arith, first.leaves_counted m, uses_le_one b.leaves m))
 
   -- a part that doesn't change
   pub replaces_refl : (level : ℕ) (a : TreeArenas K V LEN) (xs : List ℕ) → Replaces level a a xs xs

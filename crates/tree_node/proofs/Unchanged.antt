@@ -1,12 +1,6 @@
 -- What stands under every number is what it was: so is each part, and each chain.
-use Rattle.std.proofs.Common.{◌≡◌, ℕ, zero, suc, List, [], ◌∷◌, length, None, is_some, refl, ap, ◌∙◌, Ordering}
-use Rattle.tree_node.proofs.Common.{Slab, get, LeafOf, IsChain, same_array_refl, uses_same, TreeArenas, IsPart, Replaces, Unchanged, held, room, found_free, found_keyed, leaves_of, nodes_of, leaves_at, nodes_at}
-use Rattle.tree_leaf.specs.Arena.{KeepsBoth}
-use Rattle.tree_leaf.proofs.Chains.{linked_kept}
-use Rattle.tree_leaf.specs.Entries.{found_entries}
-use Rattle.tree_node.specs.Shape.{found_room}
-use Rattle.tree_node.proofs.Frames.{Agrees, same_leaves, same_nodes, same_stands}
-use Rattle.tree_node.proofs.Lists.{all_yes, flat_map_same}
+use Rattle.std.proofs.Common.{◌≡◌, ℕ, List, [], ◌∷◌, None, is_some, refl, ap, ◌∙◌, Ordering, arith}
+use Rattle.tree_node.proofs.Common.{Agrees, IsChain, IsPart, LeafOf, Replaces, Slab, TreeArenas, Unchanged, all_yes, get, held, room, same_array_refl, same_stands, stay, uses_same, KeepsBoth, linked_kept}
 use Rattle.tree_node.proofs.Steps.{part_after}
 
 -- a chain depends on what stands under its numbers
@@ -16,10 +10,7 @@ chain_same s t same ids chain = record { once = λ n. rw (uses_same s t n (ap is
 module _ {K V : Type 0} {LEN : ℕ} where
   -- places that were reserved change nothing
   pub unchanged_by_keeping : (old new : TreeArenas K V LEN) → KeepsBoth old new → Unchanged old new
-  unchanged_by_keeping old new keeps = record {
-    leaves = λ n. rw keeps.leaves.slots refl;
-    nodes = λ n. rw keeps.nodes.slots refl;
-  }
+  unchanged_by_keeping old new keeps = record { leaves = λ n. rw keeps.leaves.slots refl; nodes = λ n. rw keeps.nodes.slots refl }
 
   pub unchanged_trans : (a b c : TreeArenas K V LEN) → Unchanged a b → Unchanged b c → Unchanged a c
   unchanged_trans a b c first second = record { leaves = λ n. second.leaves n ∙ first.leaves n; nodes = λ n. second.nodes n ∙ first.nodes n }
@@ -28,20 +19,14 @@ module _ {K V : Type 0} {LEN : ℕ} where
     pub unchanged_agrees : (id : ℕ) → Agrees level old new id
     unchanged_agrees id = record { nodes = λ n below. same.nodes n; leaves = λ n below. rw (same.leaves n) (same_array_refl (get old.leaves n)) }
 
-    leaves_stay : (ids : List ℕ) → leaves_of level new.nodes ids ≡ leaves_of level old.nodes ids
-    leaves_stay ids = flat_map_same (leaves_at level new.nodes) (leaves_at level old.nodes) ids (all_yes (λ id. same_leaves level old new id (unchanged_agrees id)) ids)
-
-    nodes_stay : (ids : List ℕ) → nodes_of level new.nodes ids ≡ nodes_of level old.nodes ids
-    nodes_stay ids = flat_map_same (nodes_at level new.nodes) (nodes_at level old.nodes) ids (all_yes (λ id. same_nodes level old new id (unchanged_agrees id)) ids)
-
     pub unchanged_replaces : (ids : List ℕ) → Replaces level old new ids ids
-    unchanged_replaces ids = record {
+    unchanged_replaces ids = let stays = stay level old new ids (all_yes unchanged_agrees ids) in record {
       nodes_kept = λ n used outside. same.nodes n;
       leaves_kept = λ n used outside. rw (same.leaves n) (same_array_refl (get old.leaves n));
       links_kept = λ n leaf apart. same.leaves n ∙ apart.here;
-      nodes_counted = λ n. rw (nodes_stay ids, uses_same old.nodes new.nodes n (ap is_some (same.nodes n))) refl;
-      leaves_counted = λ n. rw (leaves_stay ids, uses_same old.leaves new.leaves n (ap is_some (same.leaves n))) refl;
-      chained = λ front back chain. rw (leaves_stay ids) (chain_same old.leaves new.leaves same.leaves _ chain);
+      nodes_counted = λ n. rw (stays.nodes, uses_same old.nodes new.nodes n (ap is_some (same.nodes n))) refl;
+      leaves_counted = λ n. rw (stays.leaves, uses_same old.leaves new.leaves n (ap is_some (same.leaves n))) refl;
+      chained = λ front back chain. rw stays.leaves (chain_same old.leaves new.leaves same.leaves _ chain);
     }
 
     pub unchanged_part : (cmp : K → K → Ordering) (id : ℕ) → IsPart cmp level old id → IsPart cmp level new id
@@ -49,9 +34,7 @@ module _ {K V : Type 0} {LEN : ℕ} where
         part_after cmp level old new id part (same_stands cmp level old new id (unchanged_agrees id) None None part.stands) (unchanged_replaces (id ∷ []))
 
   pub unchanged_room : (level : ℕ) (old new : TreeArenas K V LEN) → Unchanged old new → (id : ℕ) → room level new id ≡ room level old id
-  unchanged_room zero old new same id = ap found_free (same.leaves id)
-  unchanged_room (suc level) old new same id = ap found_room (same.nodes id)
+  unchanged_room level old new same id = grind (arith, same.leaves id, same.nodes id)
 
   pub unchanged_held : (level : ℕ) (old new : TreeArenas K V LEN) → Unchanged old new → (id : ℕ) → held level new id ≡ held level old id
-  unchanged_held zero old new same id = ap (λ leaf. length (found_entries leaf)) (same.leaves id)
-  unchanged_held (suc level) old new same id = ap found_keyed (same.nodes id)
+  unchanged_held level old new same id = grind (arith, same.leaves id, same.nodes id)

@@ -1,10 +1,8 @@
 -- How a call changes one node.
 use Rattle.std.specs.Prelude.{◌≡◌, ℕ, ◌+◌, List, [], ◌∷◌, ◌++◌, take, drop, Option, None, Some, slice_get}
-use Rattle.std.specs.declared.cmp.Ordering.{Ordering}
-use Rattle.tree_array.specs.Arrivals.{Arrivals, in_order, removed}
 use Rattle.tree_array.specs.declared.answers.RemoveResult.{RemoveResult}
 use Rattle.tree_array.specs.declared.answers.RemoveResult.TheVariants.{Success, Retired, Fail}
-use Rattle.tree_node.specs.declared.node.NodeOf.{NodeOf}
+use Rattle.tree_node.specs.Arenas.{Arrivals, NodeOf, Ordering, in_order, removed}
 use Rattle.tree_node.specs.Tree.{HasKind, keyed, unbounded}
 
 -- A node has given its first keyed children to another one of its kind, with the next one as the unbounded child, whose separator is left over.

@@ -1,7 +1,6 @@
 -- What a node tells of the levels below it.
 use Rattle.std.specs.Prelude.{◌≡◌, ℕ, [], Option, None, Some}
-use Rattle.tree_node.specs.declared.node.NodeOf.{NodeOf}
-use Rattle.tree_node.specs.declared.node.NodeOf.TheVariants.{Internal, Leaf}
+use Rattle.tree_node.specs.Arenas.{Internal, Leaf, NodeOf}
 use Rattle.tree_node.specs.Tree.{keyed}
 
 -- the unbounded child, where it is a node

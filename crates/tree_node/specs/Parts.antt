@@ -1,13 +1,6 @@
 -- Parts of a tree in arenas, and how a call changes one. A part is what stands under some numbers of one level.
 use Rattle.std.specs.Prelude.{◌≡◌, ℕ, ◌+◌, ◌≤◌, List, ◌++◌, length, Option, None, Some, IsSome, ⊤}
-use Rattle.std.specs.declared.cmp.Ordering.{Ordering}
-use Rattle.slab.specs.Slab.{Slab, get}
-use Rattle.tree_array.specs.Arrivals.{stored}
-use Rattle.tree_leaf.specs.declared.leaf.LeafOf.{LeafOf}
-use Rattle.tree_leaf.specs.Chain.{IsChain, SameArray}
-use Rattle.tree_leaf.specs.Counting.{times, uses}
-use Rattle.tree_node.specs.declared.node.NodeOf.{NodeOf}
-use Rattle.tree_node.specs.Arenas.{TreeArenas}
+use Rattle.tree_node.specs.Arenas.{IsChain, LeafOf, NodeOf, Ordering, SameArray, Slab, TreeArenas, get, stored, times, uses}
 use Rattle.tree_node.specs.Tree.{HasKind, keyed, unbounded, leaves_at, nodes_at, leaves_of, nodes_of, Stands}
 
 module _ {K V : Type 0} {LEN : ℕ} where

@@ -1,7 +1,6 @@
 -- Where the child of a key stands in its node.
 use Rattle.std.specs.Prelude.{◌≡◌, ℕ, Option, None, Some, IsSome, MatchOption}
-use Rattle.std.specs.declared.cmp.Ordering.{Ordering}
-use Rattle.tree_array.specs.Arrivals.{Arrivals, arrival, least_from}
+use Rattle.tree_node.specs.Arenas.{Arrivals, Ordering, arrival, least_from}
 
 -- the child that a key belongs to: a keyed one, whose separator stands in this slot, or else the unbounded one
 abbrev pub IsChildAt : {K X : Type 0} → (K → K → Ordering) → K → Arrivals K X → Option X → X → Option ℕ → Type 0

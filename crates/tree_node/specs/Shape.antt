@@ -1,13 +1,6 @@
 -- How much room there is in a part.
 use Rattle.std.specs.Prelude.{◌≡◌, ℕ, zero, suc, ◌+◌, ◌-◌, ◌<◌, min, leb, List, [], ◌∷◌, length, Option, Some, None, if◌then◌else◌}
-use Rattle.std.specs.declared.cmp.Ordering.{Ordering}
-use Rattle.slab.specs.Slab.{Slab, get}
-use Rattle.tree_array.specs.Arrivals.{free}
-use Rattle.tree_array.specs.Length.{limit}
-use Rattle.tree_leaf.specs.declared.leaf.LeafOf.{LeafOf}
-use Rattle.tree_leaf.specs.Entries.{leaf_entries}
-use Rattle.tree_node.specs.declared.node.NodeOf.{NodeOf}
-use Rattle.tree_node.specs.Arenas.{TreeArenas}
+use Rattle.tree_node.specs.Arenas.{LeafOf, NodeOf, Ordering, Slab, TreeArenas, free, get, leaf_entries, limit}
 use Rattle.tree_node.specs.Tree.{HasChildFor, keyed, unbounded, leaves_at}
 
 -- the least of these numbers, and `most` where there is none

@@ -1,17 +1,9 @@
 -- What stands in the arenas under a number, at a level. Level 0 is a leaf, and the children of a node stand one level below it.
 use Rattle.std.specs.Prelude.{◌≡◌, ℕ, zero, suc, ◌≤◌, length, true, Bool, List, [], ◌∷◌, ◌++◌, ⊤, ◌⊎◌, map, Option, Some, None, if◌then◌else◌}
-use Rattle.std.specs.List.{flat_map, AllByRecursion}
-use Rattle.std.specs.declared.cmp.Ordering.{Ordering}
-use Rattle.std.specs.declared.cmp.Ordering.TheVariants.{Less}
+use Rattle.std.specs.List.{flat_map}
 use Rattle.std.specs.Ordering.{is_le, is_ge}
-use Rattle.slab.specs.Slab.{Slab, get}
 use Rattle.tree_model.specs.Pairs.{IsAscending}
-use Rattle.tree_array.specs.Arrivals.{Arrivals}
-use Rattle.tree_leaf.specs.declared.leaf.LeafOf.{LeafOf}
-use Rattle.tree_leaf.specs.Entries.{leaf_entries}
-use Rattle.tree_node.specs.declared.node.NodeOf.{NodeOf}
-use Rattle.tree_node.specs.declared.node.NodeOf.TheVariants.{Internal, Leaf}
-use Rattle.tree_node.specs.Arenas.{TreeArenas}
+use Rattle.tree_node.specs.Arenas.{AllByRecursion, Arrivals, Internal, Leaf, LeafOf, Less, NodeOf, Ordering, Slab, TreeArenas, get, leaf_entries}
 
 -- the keyed children in order, then the unbounded one
 abbrev pub in_turn : {K : Type 0} → List (K × ℕ) → Option ℕ → List ℕ

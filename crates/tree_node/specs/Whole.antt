@@ -1,38 +1,38 @@
--- A whole tree: what stands under its root is all that stands in the arenas. A root is a number and its level, which is the tree's depth.
+-- A whole tree: what stands under its root is all that stands in the arenas. The level of its root is the tree's depth.
 use Rattle.std.specs.Prelude.{◌≡◌, ◌≢◌, IsSome, ◌⊎◌, ℕ, ◌-◌, ◌<◌, ◌==◌, List, [], ◌∷◌, length, ⊤, Option, None, Some, Result, Ok, Err, if◌then◌else◌}
-use Rattle.std.specs.declared.cmp.Ordering.{Ordering}
-use Rattle.slab.specs.Slab.{Slab, get}
 use Rattle.tree_leaf.specs.Arena.{HasPlaces}
-use Rattle.tree_leaf.specs.Chain.{IsChain}
-use Rattle.tree_leaf.specs.Counting.{times, uses}
-use Rattle.tree_node.specs.declared.node.NodeOf.{NodeOf}
-use Rattle.tree_node.specs.Arenas.{TreeArenas}
+use Rattle.tree_node.specs.declared.node.Root.{Root}
+use Rattle.tree_node.specs.Arenas.{TreeArenas, Ordering, Slab, get, IsChain, times, uses, NodeOf}
 use Rattle.tree_node.specs.Parts.{Unchanged}
 use Rattle.tree_node.specs.Tree.{IsOfLevel, IsRetired, Stands, leaves_at, nodes_at, walk}
 use Rattle.tree_node.specs.Shape.{least, leaf_spare}
 
+-- the root with this number and level
+abbrev pub root_at : ℕ → ℕ → Root
+root_at id level = record { id = id; level = level }
+
 -- how many levels of nodes there are, none without a root
-abbrev pub depth_of : Option (ℕ × ℕ) → ℕ
+abbrev pub depth_of : Option Root → ℕ
 depth_of None = 0
-depth_of (Some root) = root.1
+depth_of (Some root) = root.level
 
 -- the leaves, the nodes and the walk under a root, if there is one
 module _ {K : Type 0} {LEN : ℕ} (nodes : Slab (NodeOf K LEN)) where
-  abbrev pub leaves_under : Option (ℕ × ℕ) → List ℕ
+  abbrev pub leaves_under : Option Root → List ℕ
   leaves_under None = []
-  leaves_under (Some root) = leaves_at root.1 nodes root.0
+  leaves_under (Some root) = leaves_at root.level nodes root.id
 
-  abbrev pub nodes_under : Option (ℕ × ℕ) → List ℕ
+  abbrev pub nodes_under : Option Root → List ℕ
   nodes_under None = []
-  nodes_under (Some root) = nodes_at root.1 nodes root.0
+  nodes_under (Some root) = nodes_at root.level nodes root.id
 
 module _ {K V : Type 0} {LEN : ℕ} where
-  abbrev pub walk_under : TreeArenas K V LEN → Option (ℕ × ℕ) → List (K × V)
+  abbrev pub walk_under : TreeArenas K V LEN → Option Root → List (K × V)
   walk_under arenas None = []
-  walk_under arenas (Some root) = walk root.1 arenas root.0
+  walk_under arenas (Some root) = walk root.level arenas root.id
 
   -- how many writes are sure to go into each leaf of the tree without memory; 0 without a leaf
-  abbrev pub spare_under : TreeArenas K V LEN → Option (ℕ × ℕ) → ℕ
+  abbrev pub spare_under : TreeArenas K V LEN → Option Root → ℕ
   spare_under arenas root =
       if length (leaves_under arenas.nodes root) == 0 then 0
       else least LEN (leaf_spare arenas.leaves) (leaves_under arenas.nodes root)
@@ -42,11 +42,11 @@ module _ {K V : Type 0} {LEN : ℕ} where
   IsRetiredRoot arenas id level = (level ≡ 1) × IsRetired 1 arenas id × IsOfLevel 1 (get arenas.nodes id)
 
   -- a part stands under the root, or it is a retired leaf node
-  abbrev pub IsTop : (K → K → Ordering) → TreeArenas K V LEN → Option (ℕ × ℕ) → Type 0
+  abbrev pub IsTop : (K → K → Ordering) → TreeArenas K V LEN → Option Root → Type 0
   IsTop cmp arenas None = ⊤
-  IsTop cmp arenas (Some root) = (0 < root.1) × (Stands cmp root.1 arenas None root.0 None ⊎ IsRetiredRoot arenas root.0 root.1)
+  IsTop cmp arenas (Some root) = (0 < root.level) × (Stands cmp root.level arenas None root.id None ⊎ IsRetiredRoot arenas root.id root.level)
 
-  pub record IsTree (cmp : K → K → Ordering) (arenas : TreeArenas K V LEN) (root : Option (ℕ × ℕ)) : Type 0 where
+  pub record IsTree (cmp : K → K → Ordering) (arenas : TreeArenas K V LEN) (root : Option Root) : Type 0 where
     pub top : IsTop cmp arenas root
     -- each number in use is reached from the root once, and no other
     pub nodes_once : (n : ℕ) → times n (nodes_under arenas.nodes root) ≡ uses arenas.nodes n
@@ -62,9 +62,9 @@ pub record HasNoOther {K V : Type 0} {LEN : ℕ} (arenas : TreeArenas K V LEN) (
 
 -- The tree has this pair alone, in a leaf with one slot used.
 pub record HasOnly {K V : Type 0} {LEN : ℕ} (cmp : K → K → Ordering) (arenas : TreeArenas K V LEN) (id : ℕ) (key : K) (val : V) : Type 0 where
-  pub tree : IsTree cmp arenas (Some (id, 1))
+  pub tree : IsTree cmp arenas (Some (root_at id 1))
   pub pairs : walk 1 arenas id ≡ (key, val) ∷ []
-  pub spare : spare_under arenas (Some (id, 1)) ≡ LEN - 1
+  pub spare : spare_under arenas (Some (root_at id 1)) ≡ LEN - 1
 
 -- the pair stands alone in a tree of one level; or it comes back, which it doesn't where a leaf and a node fit
 abbrev pub Plants : {K V : Type 0} {LEN : ℕ} → (K → K → Ordering) → TreeArenas K V LEN → TreeArenas K V LEN → K → V → Result ℕ (K × V) → Type 0

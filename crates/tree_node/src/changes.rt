@@ -88,6 +88,7 @@ impl<K: Ord + Drop, const LEN: usize> NodeOf<K, LEN> {
 
     /// Takes the keyed child of a slot out. Other children keep their slots. The caller must name the slot of a keyed
     /// child.
+    #[tactic(auto, using(crate::proofs::Standing::inner_kind, crate::proofs::Standing::outer_kind))]
     pub fn take_keyed(&mut self, slot: u8)
         requires { IsSome (arrival (keyed self.old).arrivals slot) }
         ensures taken { (pair : _) × (arrival (keyed self.old).arrivals slot ≡ Some pair)

@@ -1,11 +1,11 @@
-//! Nodes of both kinds, and the arenas that hold them.
+//! Nodes of both kinds, the arenas that hold them, and roots.
 ghost use Rattle.std.specs.Prelude.{◌↔◌, ◌≤◌, Some, IsTrue};
 ghost use Rattle.tree_array.specs.Insertion.{IsFull};
 ghost use Rattle.tree_array.specs.Length.{IsLen};
 ghost use Rattle.tree_node.specs.Tree.{IsRetiredNode, keyed};
 
 use crate::branch::{InternalNodeOf, LeafNodeOf};
-use tree_leaf::arena::SlotsOf;
+use tree_leaf::arena::{NodeId, SlotsOf};
 
 /// A node of a tree.
 #[derive(Drop)]
@@ -24,6 +24,14 @@ pub type ArenasOf<K, V, const LEN: usize> = SlotsOf<K, V, NodeOf<K, LEN>, LEN>;
 
 /// The arenas of trees with fifteen slots in each array.
 pub type Arenas<K, V> = ArenasOf<K, V, 15>;
+
+/// The root of a tree.
+#[derive(Clone, Copy)]
+pub struct Root {
+    pub id: NodeId,
+    /// Its level, which is the depth of the tree.
+    pub level: usize,
+}
 
 impl<K: Ord + Drop, const LEN: usize> NodeOf<K, LEN> {
     /// Returns whether the node has no child. Runs in constant time.

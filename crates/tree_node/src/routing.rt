@@ -7,7 +7,7 @@ ghost use Rattle.tree_node.specs.Routing.{IsChildAt, IsSlotFor};
 ghost use Rattle.tree_node.specs.Tree.{child_of};
 
 use crate::branch::BranchOf;
-use tree_array::array::{ArrayOf, Judge};
+use tree_array::array::{ArrayOf, Asks};
 
 /// A child of a node, with the slot of its separator if it is a keyed child.
 #[derive(Drop)]
@@ -17,20 +17,20 @@ pub struct ChildPlace<I> {
 }
 
 impl<K: Ord + Drop, I: Copy + Drop, const LEN: usize> BranchOf<K, I, LEN> {
-    /// Returns the child that the judge's key belongs to: the child under the least separator that the key doesn't
-    /// exceed, or else the unbounded child. Returns `None` if the node is retired. Makes at most 4 comparisons among 15
-    /// slots, and 3 among 7.
+    /// Returns the child that the key of the asked, a judge or the key itself, belongs to: the child under the least
+    /// separator that the key doesn't exceed, or else the unbounded child. Returns `None` if the node is retired. Makes at
+    /// most 4 comparisons among 15 slots, and 3 among 7.
     #[inline(always)]
-    pub fn child_for<J: Judge<K>>(&self, judge: &mut J) -> Option<I>
-        ensures child { result ≡ child_of K.cmp (J.key judge.old) self.now.children.entries self.now.unbounded_child }
-        ensures same_key { J.key judge.new ≡ J.key judge.old }
-        ensures counted { J.count judge.new ≤ J.count judge.old + LEN }
-        ensures halved { J.count judge.new ≤ J.count judge.old + searched LEN }
+    pub fn child_for<By, A: Asks<K, By>>(&self, asked: &mut A) -> Option<I>
+        ensures child { result ≡ child_of K.cmp (A.key asked.old) self.now.children.entries self.now.unbounded_child }
+        ensures same_key { A.key asked.new ≡ A.key asked.old }
+        ensures counted { A.count asked.new ≤ A.count asked.old + LEN }
+        ensures halved { A.count asked.new ≤ A.count asked.old + searched LEN }
     {
         let Some(last) = &self.unbounded_child else {
             return None;
         };
-        let slot = self.children.min_greater_equal(judge);
+        let slot = self.children.min_greater_equal(asked);
         Some(*child_at(&self.children, last, slot))
     }
 

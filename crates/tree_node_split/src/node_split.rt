@@ -2,7 +2,7 @@
 ghost use Rattle.std.specs.Prelude.{◌≡◌, ℕ, ◌<◌, ◌≤◌, IfOk, IfSome, IsOk, OnErr, MatchOption, length};
 ghost use Rattle.tree_array.specs.Arrivals.{boundary};
 ghost use Rattle.tree_array.specs.Insertion.{HasRoom};
-ghost use Rattle.tree_array.specs.Length.{limit};
+ghost use Rattle.tree_array.specs.Length.{IsLen, limit};
 ghost use Rattle.tree_array.specs.Sound.{IsSound};
 ghost use Rattle.tree_leaf.specs.Arena.{HasPlaces};
 ghost use Rattle.tree_leaf.specs.Counting.{times};
@@ -10,6 +10,7 @@ ghost use Rattle.tree_model.specs.Pairs.{IsAbsent};
 ghost use Rattle.slab.specs.Slab.{get};
 ghost use Rattle.tree_node.specs.Parts.{IsPart, PutsChild, Unchanged};
 ghost use Rattle.tree_node.specs.Shape.{found_keyed};
+ghost use Rattle.tree_node_split.specs.Divides.{DividesNode};
 ghost use Rattle.tree_split.specs.Splits.{SplitResult};
 ghost use Rattle.tree_node.specs.Tree.{HasKind, children_of, keyed};
 
@@ -27,7 +28,7 @@ use tree_split::{parting_place, put_keyed};
 ///    No key is cloned.
 ///
 /// Returns `Err` if the target is to be split and memory is refused; nothing has changed then. Allocates at most one node,
-/// and isn't refused where one was reserved. Makes at most 4 comparisons (3 among 7 slots), in the put into the parent's
+/// and isn't refused where one was reserved. Makes at most 5 comparisons (4 among 7 slots), in the put into the parent's
 /// array. No leaf changes.
 ///
 /// The caller must see that a well-formed part of a tree stands under the parent, that the parent is above the leaf nodes,
@@ -54,13 +55,30 @@ pub fn split_child<K: Ord + Drop, V: Drop, const LEN: usize>(
     if full {
         return Ok(false);
     }
+    let (separator, low) = divide_node(arenas, target, place)?;
+    put_node(arenas.node_mut(parent), separator, low);
+    Ok(true)
+}
+
+/// Divides a node: its children below the one at this place move to a new node, whose unbounded child that one becomes.
+/// Returns its separator and the number of the new node. Returns `Err` if memory is refused; nothing has changed then.
+fn divide_node<K: Ord + Drop, V: Drop, const LEN: usize>(
+    arenas: &mut ArenasOf<K, V, LEN>,
+    target: NodeId,
+    place: u8,
+) -> Result<(K, NodeId), AllocError>
+    requires len { IsLen LEN }
+    requires place { (node : _) × (get arenas.old.nodes target ≡ Some node) × (place < length (keyed node).entries) }
+    ensures done { IfOk result (λ low. DividesNode arenas.old arenas.new target place low.0 low.1) }
+    ensures err { OnErr result (Unchanged arenas.old arenas.new) }
+    ensures places { HasPlaces arenas.old 0 1 → IsOk result }
+{
     arenas.reserve(0, 1)?;
     let (separator, low) = arenas.node_mut(target).cut(place);
     let Ok(low_id) = arenas.add_node(low) else {
         unreachable!()
     };
-    put_node(arenas.node_mut(parent), separator, low_id);
-    Ok(true)
+    Ok((separator, low_id))
 }
 
 /// Returns the place of the keyed child at which the node divides, or `None` if its array is built anew instead.

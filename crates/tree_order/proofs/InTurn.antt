@@ -1,8 +1,13 @@
 -- Entries that stand in the first slots, one after another.
-use Rattle.std.proofs.Common.{◌≡◌, ◌≢◌, ℕ, zero, suc, ◌+◌, ◌-◌, ◌<◌, ◌≤◌, refl, sym, ◌∙◌, inl, inr, below_more, arith}
+use Rattle.std.proofs.Common.{◌≡◌, ◌≢◌, ℕ, zero, suc, ◌+◌, ◌-◌, ◌<◌, ◌≤◌, List, [], ◌∷◌, ◌++◌, map, replicate, ap, refl, sym, ◌∙◌, inl, inr, below_more, arith}
+use Rattle.std.specs.List.{range_with_len}
 use Rattle.std.proofs.lemmas.Bool.{cases_eq}
 use Rattle.std.proofs.lemmas.Bool.Decides.{nat_tests}
-use Rattle.tree_order.specs.Order.{named, ordinal_in, rises_in}
+use Rattle.std.proofs.lemmas.List.{same_lists}
+use Rattle.std.proofs.lemmas.List.FromFn.{get_or-range_with_len, length-range_with_len}
+use Rattle.tree_order.specs.Order.{named, names, ordinal_in, packed, rises_from, rises_in, row, AreSmall, IsOrder}
+use Rattle.tree_order.proofs.Rows.{last_row, made}
+use Rattle.tree_order.proofs.Words.{get_or-names, length-names}
 
 -- the first places name their own numbers
 abbrev Turns : ℕ → Type 0
@@ -13,6 +18,27 @@ more n turns here = below_more (λ i. named 1070935975390360080 i ≡ i) n turns
 
 pub turn : Turns 15
 turn = more 14 (more 13 (more 12 (more 11 (more 10 (more 9 (more 8 (more 7 (more 6 (more 5 (more 4 (more 3 (more 2 (more 1 (more 0 (λ i lt. absurd (omega arith)) refl) refl) refl) refl) refl) refl) refl) refl) refl) refl) refl) refl) refl) refl) refl
+
+-- so do the first of them, as a list
+pub turns : (n : ℕ) → n ≤ 15 → names 1070935975390360080 n ≡ range_with_len 0 n
+turns n few = same_lists _ _ (length-names 1070935975390360080 n ∙ sym (length-range_with_len 0 n)) (λ i d lt.
+    let small : i < n = omega (arith, lt, length-names 1070935975390360080 n) in
+    let same : 0 + i ≡ i = omega arith in
+    get_or-names 1070935975390360080 n i d small ∙ turn i (omega arith) ∙ sym (get_or-range_with_len 0 n i d small ∙ same))
+
+pub turns_small : (n : ℕ) → n ≤ 15 → AreSmall (range_with_len 0 n)
+turns_small n few = λ k d lt.
+    let within : k < n = omega (arith, lt, length-range_with_len 0 n) in
+    rw (get_or-range_with_len 0 n k d within) (omega arith)
+
+-- and their word is an order
+pub turns_row : (len n : ℕ) → n ≤ 15 → 0 < n → names 1070935975390360080 n ++ (replicate (len - n) (n - 1) ++ 15 ∷ []) ≡ row len (range_with_len 0 n)
+turns_row len n few some =
+    ap (λ (slot : ℕ). names 1070935975390360080 n ++ (replicate (len - n) slot ++ 15 ∷ [])) (sym (turn (n - 1) (omega arith)))
+    ∙ last_row len 1070935975390360080 n some ∙ ap (row len) (turns n few)
+
+pub turn_order : {len n word : ℕ} → len ≤ 15 → n ≤ len → 0 < n → word ≡ packed (names 1070935975390360080 n ++ (replicate (len - n) (n - 1) ++ 15 ∷ [])) → (names word n ≡ range_with_len 0 n) × IsOrder len word n
+turn_order {len} {n} small few some is = made (range_with_len 0 n) n (turns_small n (omega arith)) small few (length-range_with_len 0 n) some (is ∙ ap packed (turns_row len n (omega arith) some))
 
 pub ordinal_here : (name : ℕ → ℕ) (n p : ℕ) → name n ≡ p → ordinal_in name (suc n) p ≡ n + 1
 ordinal_here name n p is = grind (arith, nat_tests)
@@ -28,19 +54,23 @@ ordinal_turn name (suc n) turns p lt = elim (cases_eq p n) [
   | inr other ↦ ordinal_before name n p (λ same. other (sym same ∙ turns n (omega arith))) ∙ ordinal_turn name n (λ i less. turns i (omega arith)) p (omega (arith, other))
 ]
 
-rises_once : (ordinal : ℕ → ℕ) (n : ℕ) → 0 < ordinal n → ordinal n < ordinal (suc n) → rises_in ordinal (suc (suc n)) ≡ rises_in ordinal (suc n) + 1
-rises_once ordinal n some up = grind (arith, nat_tests)
+-- ---- how often the ordinals rise
+pub rises_up : (previous n : ℕ) (ns : List ℕ) → 0 < n → previous < n → rises_from previous (n ∷ ns) ≡ 1 + rises_from n ns
+rises_up previous n ns some up = grind (arith, nat_tests)
 
-rises_first : (ordinal : ℕ → ℕ) → ordinal 0 ≤ 15 → rises_in ordinal 1 ≡ 0
-rises_first ordinal few = grind (arith, nat_tests)
+pub rises_down : (previous n : ℕ) (ns : List ℕ) → 0 < n → n ≤ previous → rises_from previous (n ∷ ns) ≡ rises_from n ns
+rises_down previous n ns some down = grind (arith, nat_tests)
 
-rises_turn : (ordinal : ℕ → ℕ) (n : ℕ) → ((p : ℕ) → p < n → ordinal p ≡ p + 1) → rises_in ordinal n ≡ n - 1
-rises_turn ordinal zero turns = refl
-rises_turn ordinal (suc zero) turns = rises_first ordinal (omega (arith, turns 0 (omega arith)))
-rises_turn ordinal (suc (suc n)) turns =
-    let step = rises_once ordinal n (omega (arith, turns n (omega arith))) (omega (arith, turns n (omega arith), turns (suc n) (omega arith))) in
-    omega (arith, step, rises_turn ordinal (suc n) (λ p lt. turns p (omega arith)))
+rises_on : (ordinal : ℕ → ℕ) (a n : ℕ) → ((p : ℕ) → a ≤ p → p < a + n → ordinal p ≡ p + 1) → rises_from a (map ordinal (range_with_len a n)) ≡ n
+rises_on ordinal a zero turns = refl
+rises_on ordinal a (suc n) turns =
+    rw (turns a (omega arith) (omega arith), rises_up a (a + 1) (map ordinal (range_with_len (a + 1) n)) (omega arith) (omega arith))
+    (omega (arith, rises_on ordinal (a + 1) n (λ p le lt. turns p (omega arith) (omega arith))))
 
--- and each but the first rises over the one before
-pub all_rise : (name : ℕ → ℕ) (n : ℕ) → ((i : ℕ) → i < n → name i ≡ i) → rises_in (ordinal_in name n) n ≡ n - 1
-all_rise name n turns = rises_turn (ordinal_in name n) n (ordinal_turn name n turns)
+-- each but the first rises over the one before
+pub all_rise : (name : ℕ → ℕ) (n : ℕ) → 0 < n → ((i : ℕ) → i < n → name i ≡ i) → rises_in (ordinal_in name n) n ≡ n - 1
+all_rise name zero some turns = absurd (omega arith)
+all_rise name (suc n) some turns =
+    let ordinal = ordinal_turn name (suc n) turns in
+    rw (ordinal 0 (omega arith), rises_down 15 1 (map (ordinal_in name (suc n)) (range_with_len 1 n)) (omega arith) (omega arith))
+    (omega (arith, rises_on (ordinal_in name (suc n)) 1 n (λ p le lt. ordinal p (omega arith))))

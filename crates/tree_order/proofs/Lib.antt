@@ -1,6 +1,6 @@
-mod Filled
 pub mod InTurn
 pub mod Live
 pub mod Picked
+pub mod Rows
 pub mod Slots
-mod Word
+pub mod Words

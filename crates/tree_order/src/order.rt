@@ -1,8 +1,8 @@
 //! The order of an array: four bits of a word for each place, which name the slot of the entry there. The places
 //! behind the entries repeat the last name, and the place behind all slots holds [`BEYOND`].
-ghost use Rattle.std.specs.Prelude.{◌≡◌, ◌≢◌, ℕ, true, false, IsTrue, ◌+◌, ◌-◌, ◌*◌, ◌^◌, ◌<◌, ◌≤◌, length, slice_index_or, take};
-ghost use Rattle.tree_order.specs.Length.{IsLen};
-ghost use Rattle.tree_order.specs.Order.{clamped, named, names, ordinal_in, rises_in, is_retired, IsFilled};
+ghost use Rattle.std.specs.Prelude.{◌≡◌, ℕ, List, true, false, IsTrue, Some, ◌+◌, ◌-◌, ◌<◌, ◌≤◌, [], ◌∷◌, ◌++◌, length, replicate, slice_get, slice_index_or};
+ghost use Rattle.std.specs.List.{range_with_len};
+ghost use Rattle.tree_order.specs.Order.{AreSmall, clamped, inserted, is_retired, named, names, ordinal_in, packed, renamed, rises_in, taken_out, IsOrder};
 
 /// The greatest number of slots of an array.
 pub const MOST: usize = 15;
@@ -24,177 +24,11 @@ const IN_TURN: u64 = 0x0edc_ba98_7654_3210;
 
 /// Returns the slot that a place names.
 #[inline]
-pub fn slot_at(order: u64, place: u8) -> u8
+pub fn slot_at(word: u64, place: u8) -> u8
     requires { place < 16 }
-    ensures { result ≡ named order place }
+    ensures { result ≡ named word place }
 {
-    (order >> (4 * place) & 15) as u8
-}
-
-/// Returns the slot of the last of so many entries. The last place names it too, so that no shift waits for their count.
-#[inline]
-pub fn last_slot<const LEN: usize>(order: u64, count: u8) -> u8
-    requires len { IsLen LEN }
-    requires some { 0 < count }
-    requires few { count ≤ LEN }
-    requires filled { IsFilled LEN order count }
-    ensures { result ≡ named order (count - 1) }
-{
-    slot_at(order, LEN as u8 - 1)
-}
-
-/// Keeps the first places alone.
-fn first_places(order: u64, count: u8) -> u64
-    requires { count ≤ 15 }
-    ensures small { result < 2 ^ (4 * count) }
-    ensures same { (i : ℕ) → i < count → named result i ≡ named order i }
-{
-    let bits = 4 * count;
-    order - (order >> bits << bits)
-}
-
-/// Lets a slot in before the places from `place` on.
-fn let_in(order: u64, place: u8, count: u8, slot: u8) -> u64
-    requires place { place ≤ count }
-    requires room { count < 15 }
-    requires slot { slot < 16 }
-    requires small { order < 2 ^ (4 * count) }
-    ensures small { result < 2 ^ (4 * (count + 1)) }
-    ensures here { named result place ≡ slot }
-    ensures below { (i : ℕ) → i < place → named result i ≡ named order i }
-    ensures above { (i : ℕ) → place ≤ i → named result (i + 1) ≡ named order i }
-{
-    let bits = 4 * place;
-    let high = order >> bits;
-    let low = order - (high << bits);
-    low + ((high * 16 + slot as u64) << bits)
-}
-
-/// Takes one of the places out.
-fn let_out(order: u64, place: u8, count: u8) -> u64
-    requires place { place < count }
-    requires few { count ≤ 15 }
-    requires small { order < 2 ^ (4 * count) }
-    ensures small { result < 2 ^ (4 * (count - 1)) }
-    ensures below { (i : ℕ) → i < place → named result i ≡ named order i }
-    ensures above { (i : ℕ) → place ≤ i → named result i ≡ named order (i + 1) }
-{
-    let bits = 4 * place;
-    let high = order >> bits;
-    let low = order - (high << bits);
-    low + ((high >> 4) << bits)
-}
-
-/// Says behind all places that nothing stands there.
-fn closed<const LEN: usize>(places: u64) -> u64
-    requires len { IsLen LEN }
-    requires small { places < 2 ^ (4 * LEN) }
-    ensures same { (i : ℕ) → i < LEN → named result i ≡ named places i }
-    ensures beyond { named result LEN ≡ 15 }
-{
-    places + ((BEYOND as u64) << (4 * LEN))
-}
-
-/// Puts the name of a slot at each place from `count` on.
-fn extended<const LEN: usize>(places: u64, count: u8, slot: u8) -> u64
-    requires len { IsLen LEN }
-    requires few { count ≤ LEN }
-    requires slot { slot < 16 }
-    requires small { places < 2 ^ (4 * count) }
-    ensures same { (i : ℕ) → i < count → named result i ≡ named places i }
-    ensures tail { (i : ℕ) → count ≤ i → i < LEN → named result i ≡ slot }
-    ensures beyond { named result LEN ≡ 15 }
-{
-    let spare = LEN as u8 - count;
-    let tail = slot as u64 * (ONES >> (60 - 4 * spare));
-    closed::<LEN>(places + (tail << (4 * count)))
-}
-
-/// Fills the places behind these, as an array's order has them.
-fn filled<const LEN: usize>(places: u64, count: u8) -> u64
-    requires len { IsLen LEN }
-    requires some { 0 < count }
-    requires few { count ≤ LEN }
-    requires small { places < 2 ^ (4 * count) }
-    ensures same { (i : ℕ) → i < count → named result i ≡ named places i }
-    ensures filled { IsFilled LEN result count }
-{
-    extended::<LEN>(places, count, slot_at(places, count - 1))
-}
-
-/// Returns the order of entries that stand in the first slots, one after another.
-pub fn in_turn<const LEN: usize>(count: u8) -> u64
-    requires len { IsLen LEN }
-    requires few { count ≤ LEN }
-    ensures same { (i : ℕ) → i < count → named result i ≡ i }
-    ensures filled { 0 < count → IsFilled LEN result count }
-    ensures live { is_retired result ≡ false }
-{
-    if count == 0 {
-        return EMPTY;
-    }
-    filled::<LEN>(first_places(IN_TURN, count), count)
-}
-
-/// Returns the order with a slot let in before the places from `place` on.
-pub fn inserted<const LEN: usize>(order: u64, place: u8, count: u8, slot: u8) -> u64
-    requires len { IsLen LEN }
-    requires place { place ≤ count }
-    requires room { count < LEN }
-    requires slot { slot < 16 }
-    requires filled { 0 < count → IsFilled LEN order count }
-    ensures here { named result place ≡ slot }
-    ensures below { (i : ℕ) → i < place → named result i ≡ named order i }
-    ensures above { (i : ℕ) → place ≤ i → i < count → named result (i + 1) ≡ named order i }
-    ensures filled { IsFilled LEN result (count + 1) }
-{
-    if place < count {
-        // The last name stays the last, and the places behind it repeat it still.
-        let places = first_places(order, LEN as u8 - 1);
-        return closed::<LEN>(let_in(places, place, LEN as u8 - 1, slot));
-    }
-    extended::<LEN>(first_places(order, count), count, slot)
-}
-
-/// Returns the order without one of its places, or [`RETIRED`] without the last.
-pub fn removed<const LEN: usize>(order: u64, place: u8, count: u8) -> u64
-    requires len { IsLen LEN }
-    requires place { place < count }
-    requires few { count ≤ LEN }
-    requires filled { IsFilled LEN order count }
-    ensures below { (i : ℕ) → i < place → named result i ≡ named order i }
-    ensures above { (i : ℕ) → place ≤ i → i + 1 < count → named result i ≡ named order (i + 1) }
-    ensures filled { 1 < count → IsFilled LEN result (count - 1) }
-    ensures retired { count ≡ 1 → is_retired result ≡ true }
-{
-    if count == 1 {
-        return RETIRED;
-    }
-    let last = count - 1;
-    if place == last {
-        return filled::<LEN>(first_places(order, last), last);
-    }
-    let places = let_out(first_places(order, LEN as u8), place, LEN as u8);
-    extended::<LEN>(places, LEN as u8 - 1, last_slot::<LEN>(order, count))
-}
-
-/// Returns the order with another slot at a place.
-pub fn renamed<const LEN: usize>(order: u64, place: u8, count: u8, slot: u8) -> u64
-    requires len { IsLen LEN }
-    requires place { place < count }
-    requires few { count ≤ LEN }
-    requires slot { slot < 16 }
-    requires filled { IsFilled LEN order count }
-    ensures here { named result place ≡ slot }
-    ensures others { (i : ℕ) → i < count → i ≢ place → named result i ≡ named order i }
-    ensures filled { IsFilled LEN result count }
-{
-    let last = count - 1;
-    if place == last {
-        return extended::<LEN>(first_places(order, last), last, slot);
-    }
-    let others = let_out(first_places(order, LEN as u8), place, LEN as u8);
-    closed::<LEN>(let_in(others, place, LEN as u8 - 1, slot))
+    (word >> (4 * place) & 15) as u8
 }
 
 /// Returns the place, or the one behind the last entry if it lies behind that.
@@ -204,67 +38,243 @@ pub fn clamp(place: u8, count: u8) -> u8
     if place < count { place } else { count }
 }
 
-/// Returns the place that names a slot, by a walk over the places. The caller must know that there is one.
-pub fn place_of(order: u64, count: u8, slot: u8) -> u8
-    requires few { count ≤ 15 }
-    requires there { (i : ℕ) × (i < count) × (named order i ≡ slot) }
-    ensures early { result < count }
-    ensures here { named order result ≡ slot }
+/// Keeps the first places alone.
+fn first(word: u64, count: u8) -> u64
+    requires { count ≤ 15 }
+    ensures { result ≡ packed (names word count) }
 {
-    for place in 0..count {
-        if slot_at(order, place) == slot {
-            return place;
-        }
-    }
-    unreachable!()
+    let bits = 4 * count;
+    word - (word >> bits << bits)
 }
 
-/// Returns the ordinal of each slot: one more than its place, or 0 if no place names it.
-pub fn ordinals(order: u64, count: u8) -> [u8; MOST]
-    requires few { count ≤ 15 }
-    requires within { (i : ℕ) → i < count → named order i < 15 }
-    ensures whole { length result ≡ 15 }
-    ensures ordinals { (p : ℕ) → p < 15 → slice_index_or result p 0 ≡ ordinal_in (named order) count p }
+/// Puts the name of a slot at each place from `count` on, and says behind all that nothing stands there.
+fn extended<const LEN: usize>(places: u64, count: u8, slot: u8) -> u64
+    requires len { LEN ≤ 15 }
+    requires few { count ≤ LEN }
+    requires slot { slot < 16 }
+    ensures { (slots : List ℕ) → AreSmall slots → length slots ≡ count → places ≡ packed slots
+        → result ≡ packed (slots ++ (replicate (LEN - count) slot ++ 15 ∷ [])) }
 {
-    let mut ordinals = [0; MOST];
-    // The word is shifted by one place a step, so that no shift waits for the number of the place.
-    let mut rest = order;
-    for place in 0..count {
-        ordinals[slot_at(rest, 0) as usize] = place + 1;
-        rest >>= 4;
+    let tail = slot as u64 * (ONES >> (60 - 4 * (LEN as u8 - count)));
+    places | tail << (4 * count) | (BEYOND as u64) << (4 * LEN)
+}
+
+/// The order of the entries of an array of `LEN` slots: the word that the array keeps, and how many entries it has.
+#[derive(Clone, Copy)]
+pub struct Order<const LEN: usize> {
+    pub word: u64,
+    pub count: u8,
+    pub ghost whole: { IsOrder LEN word count },
+}
+
+impl<const LEN: usize> Order<LEN> {
+    /// Creates the order of an array from its word and the number of its entries.
+    #[inline(always)]
+    pub fn new(word: u64, count: u8) -> Self
+        requires { IsOrder LEN word count }
+        ensures word { result.word ≡ word }
+        ensures count { result.count ≡ count }
+    {
+        Order { word, count }
     }
-    ordinals
+
+    /// Creates the order of entries that stand in the first slots, one after another.
+    pub fn in_turn(count: u8) -> Self
+        requires len { LEN ≤ 15 }
+        requires few { count ≤ LEN }
+        ensures count { result.count ≡ count }
+        ensures names { names result.word count ≡ range_with_len 0 count }
+        ensures live { is_retired result.word ≡ false }
+    {
+        if count == 0 {
+            return Order { word: EMPTY, count };
+        }
+        let word = extended::<LEN>(first(IN_TURN, count), count, count - 1);
+        Order { word, count }
+    }
+
+    /// Returns the slot of the entry at a place.
+    #[tactic(auto, using(crate::proofs::Words::naming))]
+    #[inline]
+    pub fn slot_at(self, place: u8) -> u8
+        requires { place < self.count }
+        ensures { slice_get (names self.entry.word self.entry.count) place ≡ Some result }
+    {
+        slot_at(self.word, place)
+    }
+
+    /// Returns the slot of the last entry. The last place names it too, so that no shift waits for their count.
+    #[inline]
+    pub fn last(self) -> u8
+        requires { 0 < self.count }
+        ensures { slice_get (names self.entry.word self.entry.count) (self.entry.count - 1) ≡ Some result }
+    {
+        slot_at(self.word, LEN as u8 - 1)
+    }
+
+    /// Lets a slot in before the entries from `place` on.
+    pub fn insert(self, place: u8, slot: u8) -> Self
+        requires place { place ≤ self.count }
+        requires room { self.count < LEN }
+        requires slot { slot < 16 }
+        ensures count { result.count ≡ self.entry.count + 1 }
+        ensures names { names result.word (self.entry.count + 1)
+            ≡ inserted place slot (names self.entry.word self.entry.count) }
+    {
+        Order {
+            word: self.with_inserted(place, slot),
+            count: self.count + 1,
+        }
+    }
+
+    /// Returns the word of this order with a slot let in.
+    fn with_inserted(self, place: u8, slot: u8) -> u64
+        requires place { place ≤ self.count }
+        requires room { self.count < LEN }
+        requires slot { slot < 16 }
+        ensures { (names result (self.entry.count + 1) ≡ inserted place slot (names self.entry.word self.entry.count))
+            × IsOrder LEN result (self.entry.count + 1) }
+    {
+        if place < self.count {
+            // The last name stays the last, and the places behind it repeat it still.
+            let places = first(self.word, LEN as u8 - 1);
+            let rest = slot as u64 | places >> (4 * place) << 4;
+            extended::<LEN>(first(places, place) | rest << (4 * place), LEN as u8, slot)
+        } else {
+            extended::<LEN>(first(self.word, self.count), self.count, slot)
+        }
+    }
+
+    /// Takes the entry at a place out. The word of what is left is [`RETIRED`] without the last entry.
+    pub fn remove(self, place: u8) -> Self
+        requires { place < self.count }
+        ensures count { result.count ≡ self.entry.count - 1 }
+        ensures names { names result.word (self.entry.count - 1)
+            ≡ taken_out place (names self.entry.word self.entry.count) }
+        ensures retired { self.entry.count ≡ 1 → is_retired result.word ≡ true }
+    {
+        let last = self.count - 1;
+        if last == 0 {
+            return Order {
+                word: RETIRED,
+                count: last,
+            };
+        }
+        Order {
+            word: self.with_removed(place),
+            count: last,
+        }
+    }
+
+    /// Returns the word of this order without the entry at a place, which isn't the only one.
+    fn with_removed(self, place: u8) -> u64
+        requires place { place < self.count }
+        requires others { 1 < self.count }
+        ensures { (names result (self.entry.count - 1) ≡ taken_out place (names self.entry.word self.entry.count))
+            × IsOrder LEN result (self.entry.count - 1) }
+    {
+        let last = self.count - 1;
+        if place == last {
+            return extended::<LEN>(first(self.word, last), last, slot_at(self.word, last - 1));
+        }
+        let places = first(self.word, LEN as u8);
+        let rest = places >> (4 * place) >> 4;
+        extended::<LEN>(
+            first(places, place) | rest << (4 * place),
+            LEN as u8 - 1,
+            self.last(),
+        )
+    }
+
+    /// Names another slot at a place.
+    pub fn rename(self, place: u8, slot: u8) -> Self
+        requires place { place < self.count }
+        requires slot { slot < 16 }
+        ensures count { result.count ≡ self.entry.count }
+        ensures names { names result.word self.entry.count
+            ≡ renamed place slot (names self.entry.word self.entry.count) }
+    {
+        Order {
+            word: self.with_renamed(place, slot),
+            count: self.count,
+        }
+    }
+
+    /// Returns the word of this order with another slot at a place.
+    fn with_renamed(self, place: u8, slot: u8) -> u64
+        requires place { place < self.count }
+        requires slot { slot < 16 }
+        ensures { (names result self.entry.count ≡ renamed place slot (names self.entry.word self.entry.count))
+            × IsOrder LEN result self.entry.count }
+    {
+        if place == self.count - 1 {
+            return extended::<LEN>(first(self.word, place), place, slot);
+        }
+        let places = first(self.word, LEN as u8);
+        let rest = slot as u64 | places >> (4 * place) >> 4 << 4;
+        extended::<LEN>(first(places, place) | rest << (4 * place), LEN as u8, slot)
+    }
+
+    /// Returns the place of the entry in a slot, by a walk over the places. The caller must know that there is one.
+    #[tactic(auto, using(crate::proofs::Words::naming))]
+    pub fn place_of(self, slot: u8) -> u8
+        requires { (i : ℕ) × (slice_get (names self.word self.count) i ≡ Some slot) }
+        ensures { slice_get (names self.entry.word self.entry.count) result ≡ Some slot }
+    {
+        for place in 0..self.count {
+            if slot_at(self.word, place) == slot {
+                return place;
+            }
+        }
+        unreachable!()
+    }
+
+    /// Returns the ordinal of each slot: one more than its place, or 0 if no place names it.
+    pub fn ordinals(self) -> [u8; MOST]
+        requires within { (i : ℕ) → i < self.count → named self.word i < 15 }
+        ensures whole { length result ≡ 15 }
+        ensures ordinals { (p : ℕ) → p < 15
+            → slice_index_or result p 0 ≡ ordinal_in (named self.entry.word) self.entry.count p }
+    {
+        let mut ordinals = [0; MOST];
+        // The word is shifted by one place a step, so that no shift waits for the number of the place.
+        let mut rest = self.word;
+        for place in 0..self.count {
+            ordinals[slot_at(rest, 0) as usize] = place + 1;
+            rest >>= 4;
+        }
+        ordinals
+    }
+
+    /// Counts the slots that have a higher ordinal than the last slot before them that has one.
+    pub fn count_rises(self, made: u8) -> u8
+        requires within { (i : ℕ) → i < self.count → named self.word i < 15 }
+        requires made { made ≤ 15 }
+        ensures { result ≡ rises_in (ordinal_in (named self.entry.word) self.entry.count) made }
+    {
+        if self.count > 0 && self.count == made && is_in_turn(self.word, made) {
+            return made - 1;
+        }
+        let ordinals = self.ordinals();
+        let mut rises = 0;
+        let mut previous = MOST as u8;
+        for slot in 0..made {
+            let ordinal = ordinals[slot as usize];
+            if previous < ordinal {
+                rises += 1;
+            }
+            if ordinal > 0 {
+                previous = ordinal;
+            }
+        }
+        rises
+    }
 }
 
 /// Returns whether the entries stand in the first slots, one after another, as those do that arrived in ascending order.
-fn is_in_turn(order: u64, count: u8) -> bool
+fn is_in_turn(word: u64, count: u8) -> bool
     requires { count ≤ 15 }
-    ensures { IsTrue result → (i : ℕ) → i < count → named order i ≡ i }
+    ensures { IsTrue result → (i : ℕ) → i < count → named word i ≡ i }
 {
-    first_places(order, count) == first_places(IN_TURN, count)
-}
-
-/// Counts the slots that have a higher ordinal than the last slot before them that has one.
-pub fn count_rises(order: u64, count: u8, made: u8) -> u8
-    requires few { count ≤ 15 }
-    requires within { (i : ℕ) → i < count → named order i < 15 }
-    requires made { made ≤ 15 }
-    ensures { result ≡ rises_in (ordinal_in (named order) count) made }
-{
-    if count > 0 && count == made && is_in_turn(order, count) {
-        return count - 1;
-    }
-    let ordinals = ordinals(order, count);
-    let mut rises = 0;
-    let mut previous = MOST as u8;
-    for slot in 0..made {
-        let ordinal = ordinals[slot as usize];
-        if previous < ordinal {
-            rises += 1;
-        }
-        if ordinal > 0 {
-            previous = ordinal;
-        }
-    }
-    rises
+    first(word, count) == first(IN_TURN, count)
 }

@@ -1,8 +1,9 @@
+pub mod Ahead
+pub mod Common
 pub mod Ended
 pub mod Flips
 pub mod Moving
 pub mod Nearest
-pub mod Pieces
 pub mod Shown
 pub mod Within
 pub mod Yields

@@ -1,91 +1,89 @@
 -- The moves of a cursor over a tree, and that each answer brings it nearer to its end.
-use Rattle.std.proofs.Common.{◌≡◌, ℕ, zero, suc, ◌+◌, ◌<◌, Bool, true, false, if◌then◌else◌, ltb, List, length, Option, Some, None, Bor, refl, sym, ap, arith, Ordering}
-use Rattle.tree_model.proofs.Common.{⊤, IsTotalOrder, MakesProgress, bound_map, Bound, lent_entry, Moves, lent, opposite, Cursor, End, unopened, at_place, element_at, meets, next_end, shown}
-use Rattle.tree_model.specs.declared.way.Way.{Way}
-use Rattle.tree_model.specs.declared.way.Way.TheVariants.{On, Back}
-use Rattle.tree_node.proofs.Common.{TreeArenas, walk_under}
-use Rattle.tree_chain.proofs.Common.{LeafWalk}
-use Rattle.std.specs.Iterator.{at_most}
-use Rattle.std.proofs.lemmas.Option.{slice_get_within}
-use Rattle.tree_model.specs.Cursor.{exhausted, are_apart, bound_on, end_at, end_on, first_place, moved, option_where, place_beside, shown_apart}
+use Rattle.tree_ranges.proofs.Common.{◌≡◌, ℕ, ◌<◌, Bool, true, false, if◌then◌else◌, List, length, Option, Some, None, is_some, Bor, sym, ap, ◌∙◌, arith, Ordering, ⊤, IsTotalOrder, MakesProgress}
+use Rattle.tree_ranges.proofs.Common.{Bound, lent_entry, Moves, lent, opposite, Cursor, End, unopened, at_place, element_at, meets, next_end, Back, EndStands, Kept, LeafWalk, On, TreeArenas, Way}
+use Rattle.tree_ranges.proofs.Common.{are_apart, bound_on, end_inside, end_left, end_of, end_on, exhausted, moves_left, option_where, pair_of, seen, shown_apart, walk_under, with_end, at_most, Root}
 use Rattle.tree_cursors.specs.declared.end.End.{End as TreeEnd}
-use Rattle.tree_cursors.specs.View.{Kept, end_of, seen}
-use Rattle.tree_cursors.proofs.Ends.{end_inside}
-use Rattle.tree_ranges.specs.Ranged.{end_left, moves_left}
-use Rattle.tree_ranges.proofs.Shown.{pairs_ascend}
+use Rattle.tree_ranges.proofs.Ahead.{ComesTo, Holds, comes, fewer, left}
+use Rattle.tree_ranges.proofs.Shown.{element_is, pairs_ascend}
+use Rattle.tree_ranges.proofs.Yields.{if_none}
 
-module _ {K V : Type 0} {LEN : ℕ} {cmp : K → K → Ordering} (o : IsTotalOrder cmp) (a : TreeArenas K V LEN) (root : Option (ℕ × ℕ)) (low high : Bound (Bor K)) (r : Option (Bor K × Bor V)) where
-  -- the forward end has moved, and the backward one
-  pub moves_on : (f new b : TreeEnd (LeafWalk K V LEN)) → Kept a root cmp f b → end_of a root new ≡ next_end cmp On (bound_map (λ k. k.now) low) (walk_under a root) (end_of a root f)
-      → lent r ≡ shown_apart cmp On (seen a root low high new b) → Moves cmp On (seen a root low high f b) r (seen a root low high new b)
-  moves_on f new b kept place answers = record {
-    moves = ap (λ (e : End). record (seen a root low high f b) { forward = e }) place;
-    answers = answers;
-    ascending = pairs_ascend a root kept.tree o;
-    inside = end_inside a root kept.tree b kept.backward_stands;
-  }
+module _ {K V : Type 0} {LEN : ℕ} {cmp : K → K → Ordering} (o : IsTotalOrder cmp) (a : TreeArenas K V LEN) (root : Option Root) (low high : Bound (Bor K)) (r : Option (Bor K × Bor V)) where
+  module _ (f b : TreeEnd (LeafWalk K V LEN)) (kept : Kept a root cmp f b) where
+    abbrev c : Cursor K V
+    c = seen a root low high f b
 
-  pub moves_back : (f b new : TreeEnd (LeafWalk K V LEN)) → Kept a root cmp f b → end_of a root new ≡ next_end cmp Back (bound_map (λ k. k.now) high) (walk_under a root) (end_of a root b)
-      → lent r ≡ shown_apart cmp Back (seen a root low high f new) → Moves cmp Back (seen a root low high f b) r (seen a root low high f new)
-  moves_back f b new kept place answers = record {
-    moves = ap (λ (e : End). record (seen a root low high f b) { backward = e }) place;
-    answers = answers;
-    ascending = pairs_ascend a root kept.tree o;
-    inside = end_inside a root kept.tree b kept.backward_stands;
-  }
+    moves : (way : Way) (new : End) → new ≡ next_end cmp way (bound_on way c) c.pairs (end_on way c) → lent r ≡ shown_apart cmp way (with_end way c new)
+        → Moves cmp way c r (with_end way c new)
+    moves way new place answers = record {
+      moves = ap (with_end way c) place;
+      answers = answers;
+      ascending = pairs_ascend a root kept.tree o;
+      inside =
+          end_inside a root kept.tree b kept.backward_stands;
+    }
 
-module _ {K V : Type 0} (cmp : K → K → Ordering) (way : Way) (c : Cursor K V) where
-  pub shown_if : (r : Option (Bor K × Bor V)) (apart : Bool) → apart ≡ are_apart c.forward c.backward → apart ≡ true → lent r ≡ shown cmp way c → lent r ≡ shown_apart cmp way c
-  shown_if r apart is told shows = rw (← is, told) shows
+    -- an end has moved and stands on a pair or on none, which is answered if the ends are apart and it is within the bound where the end stops
+    module _ (pair : Option (Bor K × Bor V)) (new : TreeEnd (LeafWalk K V LEN)) (stands : EndStands a root new) (is : lent pair ≡ pair_of new) where
+      there : element_at (walk_under a root) (end_of a root new) ≡ lent pair
+      there = element_is a root kept.tree new stands ∙ sym is
 
-  pub hidden_if : (apart : Bool) → apart ≡ are_apart c.forward c.backward → apart ≡ false → lent {K = K} {V = V} None ≡ shown_apart cmp way c
-  hidden_if apart is told = rw (← is, told) refl
+      pub moves_on : end_of a root new ≡ next_end cmp On c.low c.pairs c.forward
+          → (Kept a root cmp new b → lent r ≡ (if are_apart (end_of a root new) c.backward then option_where (λ p. meets cmp Back c.high p.0)
+          (lent pair) else None)) → Moves cmp On c r (seen a root low high new b)
+      moves_on place told = moves On _ place (rw there (told (record { tree = kept.tree; forward_stands = stands; backward_stands = kept.backward_stands })))
 
--- an end that comes to a place has fewer left
-module _ {X : Type 0} (xs : List X) where
-  first_nearer : (way : Way) (found : Option ℕ) (x : X) → element_at xs (end_at found) ≡ Some x → end_left way (length xs) (end_at found) < length xs
-  first_nearer way None x here = absurd (cc)
-  first_nearer On (Some j) x here = omega (arith, slice_get_within xs j x here)
-  first_nearer Back (Some j) x here = slice_get_within xs j x here
+      pub moves_back : end_of a root new ≡ next_end cmp Back c.high c.pairs c.backward
+          → (Kept a root cmp f new → lent r ≡ (if are_apart c.forward (end_of a root new) then option_where (λ p. meets cmp On c.low p.0)
+          (lent pair) else None)) → Moves cmp Back c r (seen a root low high f new)
+      moves_back place told = moves Back _ place (rw there (told (record { tree = kept.tree; forward_stands = kept.forward_stands; backward_stands = stands })))
 
-  beside_nearer : (way : Way) (i : ℕ) (x : X) → element_at xs (end_at (place_beside way (length xs) i)) ≡ Some x → end_left way (length xs) (end_at (place_beside way (length xs) i)) < end_left way (length xs) (at_place i)
-  beside_nearer On i x here = by_test (ltb (i + 1) (length xs)) refl here
-    where
-      by_test : (b : Bool) → ltb (i + 1) (length xs) ≡ b → element_at xs (end_at (if b then Some (i + 1) else None)) ≡ Some x → end_left On (length xs) (end_at (if b then Some (i + 1) else None)) < end_left On (length xs) (at_place i)
-      by_test true is here = omega (arith, slice_get_within xs (i + 1) x here)
-      by_test false is here = absurd (cc)
-  beside_nearer Back zero x here = absurd (cc)
-  beside_nearer Back (suc i) x here = omega arith
+left_end : (way : Way) (len : ℕ) (end : End) → end_left way len end ≡ left way len end
+left_end way len end = grind arith
 
 module _ {K V : Type 0} (cmp : K → K → Ordering) where
-  end_nearer : (way : Way) (bound : Bound K) (pairs : List (K × V)) (end : End) (x : K × V) → element_at pairs (next_end cmp way bound pairs end) ≡ Some x → end_left way (length pairs) (next_end cmp way bound pairs end) < end_left way (length pairs) end
-  end_nearer way bound pairs unopened x here = first_nearer pairs way (first_place way (λ pair. meets cmp way bound pair.0) pairs) x here
-  end_nearer way bound pairs (at_place i) x here = beside_nearer pairs way i x here
-  end_nearer way bound pairs exhausted x here = absurd (cc)
-
-  no_pair : (apart : Bool) (test : K × V → Bool) (x : K × V) → (if apart then option_where test None else None) ≡ Some x → ⊥
-  no_pair true test x is = absurd (cc)
-  no_pair false test x is = absurd (cc)
-
-  element_of : (way : Way) (c : Cursor K V) (x : K × V) → shown_apart cmp way c ≡ Some x → (y : K × V) × (element_at c.pairs (end_on way c) ≡ Some y)
-  element_of way c x shows = by_element (element_at c.pairs (end_on way c)) refl
+  -- an end that comes to a pair has fewer left
+  nearer : (way : Way) (bound : Bound K) (l : List (K × V)) (old : End) (apart : Bool) (test : K × V → Bool) (x : K × V) → Holds way l old
+      → (if apart then option_where test (element_at l (next_end cmp way bound l old)) else None) ≡ Some x
+      → end_left way (length l) (next_end cmp way bound l old) < end_left way (length l) old
+  nearer way bound l old apart test x held shows = by_new (next_end cmp way bound l old) (comes cmp way bound l old held) shows
     where
-      by_element : (e : Option (K × V)) → element_at c.pairs (end_on way c) ≡ e → (y : K × V) × (element_at c.pairs (end_on way c) ≡ Some y)
-      by_element None is = absurd (no_pair (are_apart c.forward c.backward) (λ pair. meets cmp (opposite way) (bound_on (opposite way) c) pair.0) x (rw is at shows))
-      by_element (Some y) is = (y, is)
+      by_new : (new : End) → ComesTo way (λ pair. meets cmp way bound pair.0) l old new
+          → (if apart then option_where test (element_at l new) else None) ≡ Some x → end_left way (length l) new < end_left way (length l) old
+      by_new unopened to shows = absurd to
+      by_new (at_place j) to shows = omega (
+        arith,
+        left_end way (length l) (at_place j),
+        left_end way (length l) old,
+        fewer way (λ pair. meets cmp way bound pair.0) l old j to held,
+      )
+      by_new exhausted to shows = absurd (let none = if_none {X = K × V} apart in cc)
 
-  cursor_nearer : (way : Way) (s : Cursor K V) (x : K × V) → shown_apart cmp way (moved cmp way s) ≡ Some x → moves_left (moved cmp way s) < moves_left s
-  cursor_nearer On s x shows =
-      let here = element_of On (moved cmp On s) x shows in
-      omega (arith, end_nearer On s.low s.pairs s.forward here.0 here.1)
-  cursor_nearer Back s x shows =
-      let here = element_of Back (moved cmp Back s) x shows in
-      omega (arith, end_nearer Back s.high s.pairs s.backward here.0 here.1)
+  same_pair : (apart : Bool) (test : K × V → Bool) (e : Option (K × V)) (x : K × V) → (if apart then option_where test e else None) ≡ Some x → e ≡ Some x
+  same_pair false test e x is = absurd (cc)
+  same_pair true test None x is = absurd (cc)
+  same_pair true test (Some y) x is = by_test (test y) is
+    where
+      by_test : (b : Bool) → (if b then Some y else None) ≡ Some x → Some y ≡ Some x
+      by_test true is = is
+      by_test false is = absurd (cc)
+
+  -- a move that gives a pair gives the one at its end
+  pub gives_element : (way : Way) (s t : Cursor K V) (given r : Option (Bor K × Bor V)) → Moves cmp way s given t → is_some given ≡ true
+      → lent r ≡ element_at t.pairs (end_on way t) → Moves cmp way s r t
+  gives_element way s t None r moves some here = absurd (cc)
+  gives_element way s t (Some x) r moves some here =
+      let shows = same_pair (are_apart t.forward t.backward) (λ pair. meets cmp (opposite way) (bound_on (opposite way) t) pair.0) _ (lent_entry x) (sym moves.answers) in
+      record { moves = moves.moves; answers = here ∙ shows ∙ moves.answers; ascending = moves.ascending; inside = moves.inside }
+
+  pub gives_none : (way : Way) (s t : Cursor K V) (given : Option (Bor K × Bor V)) → Moves cmp way s given t → is_some given ≡ false → Moves cmp way s None t
+  gives_none way s t None moves none = moves
+  gives_none way s t (Some x) moves none = absurd (cc)
 
   pub comes_nearer : (way : Way) (s t : Cursor K V) (x : Bor K × Bor V) → Moves cmp way s (Some x) t → moves_left t < moves_left s
-  comes_nearer way s t x moves =
-      let shows : shown_apart cmp way (moved cmp way s) ≡ Some (lent_entry x) = rw (← moves.moves) (sym moves.answers) in
-      rw moves.moves (cursor_nearer way s (lent_entry x) shows)
+  comes_nearer On s t x moves =
+      rw moves.moves (omega (arith, nearer On s.low s.pairs s.forward _ _ (lent_entry x) tt (sym (rw moves.moves at moves.answers))))
+  comes_nearer Back s t x moves =
+      rw moves.moves (omega (arith, nearer Back s.high s.pairs s.backward _ _ (lent_entry x) moves.inside (sym (rw moves.moves at moves.answers))))
 
   pub makes_progress : (way : Way) (s t : Cursor K V) (r : Option (Bor K × Bor V)) → Moves cmp way s r t → MakesProgress (λ _. ⊤) (λ c. at_most (moves_left c)) s r t
   makes_progress way s t None moves = record { on = λ _. tt; keeps = tt; rests = λ _. tt }

@@ -1,32 +1,14 @@
 -- The first entry of a part that is within a bound, told by the part's last one.
-use Rattle.std.proofs.Common.{◌≡◌, ◌⊎◌, ℕ, zero, suc, ◌-◌, ◌<◌, Bool, true, false, ltb, List, [], ◌∷◌, ◌++◌, length, reverse, slice_get, Option, Some, None, Bor, refl, sym, ap, ◌∙◌, arith, inl, inr, option_map, Ordering}
-use Rattle.tree_model.proofs.Common.{IsTotalOrder, AllByRecursion, Bound, Unbounded, nat_tests, reverse-reverse, IsAscending, lent_entry, lent, along, opposite, meets}
-use Rattle.tree_model.proofs.Lists.{all_at}
-use Rattle.tree_model.specs.declared.way.Way.{Way}
-use Rattle.tree_model.specs.declared.way.Way.TheVariants.{On, Back}
-use Rattle.tree_node.proofs.Common.{TreeArenas, get, IsRetiredNode, StandsOrRetired, walk}
-use Rattle.tree_node.specs.declared.node.NodeOf.{NodeOf}
-use Rattle.tree_chain.proofs.Common.{LeafWalk, Steps}
-use Rattle.std.proofs.lemmas.Bool.{cases_Bool}
-use Rattle.std.proofs.lemmas.Option.{slice_get_within}
-use Rattle.tree_chain.specs.Walks.{here}
-use Rattle.tree_chain.specs.Ways.{StepsOver}
-use Rattle.tree_node.proofs.Ascents.{walk_ascends}
-use Rattle.tree_ranges.proofs.Nearest.{get_none}
-use Rattle.tree_walk.specs.Ends.{BeginsPart, IsLinked, first_on}
-use Rattle.tree_cursors.specs.Seek.{NoneMeets, Seeks}
-use Rattle.tree_ranges.specs.Approximate.{Approximates}
-use Rattle.tree_ranges.proofs.Pieces.{all_reverse, reverse_parts}
-use Rattle.tree_ranges.proofs.Yields.{less, persists}
+use Rattle.tree_ranges.proofs.Common.{◌≡◌, ℕ, zero, suc, ◌<◌, true, false, List, [], ◌∷◌, ◌++◌, length, reverse, Option, Some, None, Bor, append_assoc, refl, sym, ap, ◌∙◌, arith, inl, inr, Ordering}
+use Rattle.tree_ranges.proofs.Common.{IsTotalOrder, AllByRecursion, Bound, reverse-reverse, reverse-append, reverse_onto, IsAscending, lent, along, opposite, meets, Back, LeafWalk, On}
+use Rattle.tree_ranges.proofs.Common.{StandsOrRetired, Steps, StepsOver, TreeArenas, Way, all_ahead, all_along, all_at, all_left, both_ways, first_on, first_place, first_step, get, here, next_place}
+use Rattle.tree_ranges.proofs.Common.{no_children, slice_get_within, step_takes, walk, walk_ascends, BeginsPart, IsLinked, NoneMeets, Seeks, Approximates}
+use Rattle.tree_ranges.proofs.Ahead.{all_fail, at_ahead}
 
 module _ {X : Type 0} (P : X → Type 0) where
-  all_from : (xs : List X) → ((i : ℕ) (x : X) → slice_get xs i ≡ Some x → P x) → AllByRecursion P xs
-  all_from [] every = tt
-  all_from (x ∷ xs) every = (every 0 x refl, all_from xs (λ i y is. every (suc i) y is))
-
   all_unturned : (way : Way) (xs : List X) → AllByRecursion P (along way xs) → AllByRecursion P xs
   all_unturned On xs all = all
-  all_unturned Back xs all = rw (reverse-reverse xs) at (all_reverse P (reverse xs) all)
+  all_unturned Back xs all = rw (reverse-reverse xs) at (all_along P Back (reverse xs) all)
 
   -- an element behind which some of these don't pass is one of them
   one_of_first : (xs ys passed : List X) (x : X) (left : List X) → xs ++ ys ≡ passed ++ x ∷ left → AllByRecursion P passed → (AllByRecursion P xs → ⊥) → (mid : List X) × (xs ≡ passed ++ x ∷ mid)
@@ -38,99 +20,65 @@ module _ {X : Type 0} (P : X → Type 0) where
       let found = one_of_first xs ys passed x left others all.1 (λ rest. some (rw same all.0, rest)) in
       (found.0, rw (same, ← found.1) refl)
 
--- place i comes before place f on the way
-abbrev Holds : Way → ℕ → ℕ → Type 0
-Holds On i f = i < f
-Holds Back i f = f < i
+module _ {X : Type 0} where
+  one_taken : (way : Way) (taken : Option X) (at : Option ℕ) (xs : List X) → 0 < length xs → StepsOver way xs None taken at → taken ≡ first_on way xs
+  one_taken way None at xs some over = absurd (omega (arith, over.0, all_left way (length xs)))
+  one_taken way (Some x) at xs some over = sym (first_place way xs ∙ over.1)
 
-last_place : (len i : ℕ) → i < len → (i ≡ len - 1) ⊎ (i < len - 1)
-last_place len i inside = elim (cases_Bool (ltb i (len - 1))) [ inl before ↦ inr (grind (arith, nat_tests, before)) | inr here ↦ inl (grind (arith, nat_tests, here, inside)) ]
+  -- an element on a way stands between others
+  parted : (way : Way) (xs before : List X) (x : X) (behind : List X) → along way xs ≡ before ++ x ∷ behind
+      → (front : List X) × (back : List X) × (xs ≡ front ++ x ∷ back)
+  parted On xs before x behind is = (before, behind, is)
+  parted Back xs before x behind is =
+      let turned = reverse-append before (x ∷ behind) ∙ ap (λ ys. ys ++ reverse before) (reverse_onto behind x [])
+      ∙ append_assoc (reverse behind) (x ∷ []) (reverse before) in
+      (reverse behind, reverse before, sym (reverse-reverse xs) ∙ ap reverse is ∙ turned)
 
-first_place : (i : ℕ) → (i ≡ 0) ⊎ (0 < i)
-first_place zero = inl refl
-first_place (suc i) = inr (omega arith)
+module _ {K V : Type 0} {cmp : K → K → Ordering} where
+  -- where the first one on the other way isn't within the bound, none is
+  none_from : (o : IsTotalOrder cmp) (way : Way) (bound : Bound K) (l : List (K × V)) → IsAscending cmp l → (first : K × V) → first_on way l ≡ Some first
+      → meets cmp (opposite way) bound first.0 ≡ false → NoneMeets cmp (opposite way) bound l
+  none_from o way bound l ascending first is missed =
+      let here = sym (first_place way l) ∙ is in
+      let parts = sym (all_ahead way l) ∙ step_takes way l None _ first (omega (arith, all_left way (length l), slice_get_within l _ first here), here, refl) in
+      let others = rw (at_ahead way l (next_place way (length l) None)) at (all_fail o way bound l _ first ascending here missed) in
+      all_unturned _ way l (rw parts (missed, others))
 
-kept : (b : Bool) {c d : Bool} → d ≡ b → (d ≡ true → c ≡ true) → c ≡ false → d ≡ false
-kept true is implies missed = absurd (let met = implies is in cc)
-kept false is implies missed = is
+  pub none_within : (o : IsTotalOrder cmp) (way : Way) (bound : Bound K) (l : List (K × V)) → IsAscending cmp l → (last : K × V)
+      → first_on (opposite way) l ≡ Some last → meets cmp way bound last.0 ≡ false → NoneMeets cmp way bound l
+  none_within o On bound l ascending last is missed = none_from o Back bound l ascending last is missed
+  none_within o Back bound l ascending last is missed = none_from o On bound l ascending last is missed
 
-module _ {K V : Type 0} {cmp : K → K → Ordering} (o : IsTotalOrder cmp) (way : Way) (bound : Bound K) (l : List (K × V)) (ascending : IsAscending cmp l) (last : K × V) (is : first_on (opposite way) l ≡ Some last) where
-  -- where the last one isn't within the bound, none is
-  pub none_within : meets cmp way bound last.0 ≡ false → NoneMeets cmp way bound l
-  none_within missed = all_from _ l (λ i x at_i. by_way way is missed i x at_i)
-    where
-      by_place : (way : Way) (i f : ℕ) (x : K × V) → slice_get l i ≡ Some x → slice_get l f ≡ Some last → ((i ≡ f) ⊎ (Holds way i f)) → meets cmp way bound last.0 ≡ false → meets cmp way bound x.0 ≡ false
-      by_place way i f x at_i at_f (inl same) missed = let e : x ≡ last = (let both : Some x ≡ Some last = sym at_i ∙ rw (← same) at at_f in cc) in rw e missed
-      by_place On i f x at_i at_f (inr before) missed = kept (meets cmp On bound x.0) {c = meets cmp On bound last.0} refl (λ met. persists o On bound x.0 last.0 (less o l Unbounded Unbounded ascending i f x last before at_i at_f) met) missed
-      by_place Back i f x at_i at_f (inr behind) missed = kept (meets cmp Back bound x.0) {c = meets cmp Back bound last.0} refl (λ met. persists o Back bound x.0 last.0 (less o l Unbounded Unbounded ascending f i last x behind at_f at_i) met) missed
-
-      by_way : (way : Way) → first_on (opposite way) l ≡ Some last → meets cmp way bound last.0 ≡ false → (i : ℕ) (x : K × V) → slice_get l i ≡ Some x → meets cmp way bound x.0 ≡ false
-      by_way On is missed i x at_i = by_place On i (length l - 1) x at_i is (last_place (length l) i (slice_get_within l i x at_i)) missed
-      by_way Back is missed i x at_i = by_place Back i 0 x at_i is (first_place i) missed
-
-  -- else some is
-  some_within : meets cmp way bound last.0 ≡ true → NoneMeets cmp way bound l → ⊥
-  some_within met none = by_way way is met none
-    where
-      by_way : (way : Way) → first_on (opposite way) l ≡ Some last → meets cmp way bound last.0 ≡ true → NoneMeets cmp way bound l → ⊥
-      by_way On is met none = let missed = all_at _ l (length l - 1) last none is in cc
-      by_way Back is met none = let missed = all_at _ l 0 last none is in cc
-
-module _ {K V : Type 0} {LEN : ℕ} {cmp : K → K → Ordering} (o : IsTotalOrder cmp) (way : Way) (level : ℕ) (a : TreeArenas K V LEN) (id : ℕ) (bound : Bound K) (ascending : IsAscending cmp (walk level a id)) (linked : IsLinked level a id) where
-  module _ (last : K × V) (is : first_on (opposite way) (walk level a id) ≡ Some last) (met : meets cmp way bound last.0 ≡ true) where
-    -- what is found is in the part, since the part has such an entry
-    pub found_within : (found : Option (LeafWalk K V LEN)) → Seeks cmp way level a id bound found → Approximates cmp way level a id bound found
-    found_within None seeks = all_unturned _ way (walk level a id) (seeks linked.0 linked.1 linked.2)
-    found_within (Some found) seeks =
-        let near = seeks linked.0 linked.1 linked.2 in
-        let inside = one_of_first (λ (p : K × V). meets cmp way bound p.0 ≡ false) (along way (walk level a id)) _ near.before near.pair _ near.parts near.none_before
-        (λ none. some_within o way bound (walk level a id) ascending last is met (all_unturned _ way (walk level a id) none)) in
-        let parts = by_way way (walk level a id) near.before near.pair inside.0 inside.1 in
-        record { same = near.same; front = parts.0; pair = near.pair; back = parts.1; parts = parts.2; here = near.here; met = near.met }
-      where
-        by_way : (way : Way) (l before : List (K × V)) (pair : K × V) (mid : List (K × V)) → along way l ≡ before ++ pair ∷ mid → (front : List (K × V)) × (back : List (K × V)) × (l ≡ front ++ pair ∷ back)
-        by_way On l before pair mid is = (before, mid, is)
-        by_way Back l before pair mid is = (reverse mid, reverse before, sym (reverse-reverse l) ∙ ap reverse is ∙ reverse_parts before pair mid)
+module _ {K V : Type 0} {LEN : ℕ} (cmp : K → K → Ordering) (way : Way) (level : ℕ) (a : TreeArenas K V LEN) (id : ℕ) (bound : Bound K)
+    (linked : IsLinked level a id) (last : K × V) (is : first_on (opposite way) (walk level a id) ≡ Some last) (met : meets cmp way bound last.0 ≡ true) where
+  -- where it is, what is found is in the part, since the part has such an entry
+  pub found_within : (found : Option (LeafWalk K V LEN)) → Seeks cmp way level a id bound found → Approximates cmp way level a id bound found
+  found_within None seeks = all_unturned _ way (walk level a id) (seeks linked.0 linked.1 linked.2)
+  found_within (Some found) seeks =
+      let near = seeks linked.0 linked.1 linked.2 in
+      let some = λ (none : NoneMeets cmp way bound (along way (walk level a id))).
+      let missed = all_at _ (walk level a id) _ last (all_unturned _ way (walk level a id) none) (sym (first_place (opposite way) (walk level a id)) ∙ is) in
+      both_ways _ missed met in
+      let inside = one_of_first (λ (p : K × V). meets cmp way bound p.0 ≡ false)
+      (along way (walk level a id)) _ near.before near.pair _ near.parts near.none_before some in
+      let parts = parted way (walk level a id) near.before near.pair inside.0 inside.1 in
+      record { same = near.same; front = parts.0; pair = near.pair; back = parts.1; parts = parts.2; here = near.here; met = near.met }
 
 -- a walk that begins a part takes the part's first entry
-module _ {K V : Type 0} {LEN : ℕ} (way : Way) (level : ℕ) (a : TreeArenas K V LEN) (id : ℕ) where
-  pub first_taken : (begun new : LeafWalk K V LEN) (r : Option (Bor K × Bor V)) → BeginsPart way level a id begun → Steps way begun r new → lent r ≡ first_on way (walk level a id)
-  first_taken begun new r begins steps = by_way way (option_map lent_entry r) new.at (here begun) (rw same begins.leaf.entry) (rw at_none at steps.1) ∙ begins.entry
-    where
-      same : begun.leaves ≡ a.leaves
-      same = ap (λ (w : LeafWalk K V LEN). w.leaves) begins.unopened
-
-      at_none : begun.at ≡ None
-      at_none = rw begins.unopened refl
-
-      by_way : (way : Way) (taken : Option (K × V)) (at : Option ℕ) (xs : List (K × V)) → 0 < length xs → StepsOver way xs None taken at → taken ≡ first_on way xs
-      by_way On None at xs some over = absurd (omega (arith, over.0, some))
-      by_way Back None at xs some over = absurd (omega (arith, over.0, some))
-      by_way On (Some x) at xs some over = sym over.1
-      by_way Back (Some x) at xs some over = sym over.1
-
-  pub none_to_take : walk level a id ≡ [] → lent {K = K} {V = V} None ≡ first_on way (walk level a id)
-  none_to_take empty = by_way way empty
-    where
-      by_way : (way : Way) → walk level a id ≡ [] → lent {K = K} {V = V} None ≡ first_on way (walk level a id)
-      by_way On empty = rw empty refl
-      by_way Back empty = rw empty refl
+pub first_taken : {K V : Type 0} {LEN : ℕ} (way : Way) (level : ℕ) (a : TreeArenas K V LEN) (id : ℕ) (begun new : LeafWalk K V LEN) (r : Option (Bor K × Bor V))
+    → BeginsPart way level a id begun → Steps way begun r new → lent r ≡ first_on way (walk level a id)
+first_taken way level a id begun new r begins steps =
+    let same = ap (λ w. w.leaves) begins.unopened in
+    let fresh = ap (λ w. w.at) begins.unopened in
+    one_taken way (lent r) new.at (here begun) (rw same begins.leaf.entry) (rw fresh at steps.1) ∙ begins.entry
 
 -- the entries of a part ascend
 pub part_ascends : {K V : Type 0} {LEN : ℕ} {cmp : K → K → Ordering} (o : IsTotalOrder cmp) (a : TreeArenas K V LEN) (id level : ℕ) → 0 < level → StandsOrRetired cmp level a id → IsAscending cmp (walk level a id)
-part_ascends o a id zero inner given = absurd (omega (arith, inner))
+part_ascends o a id zero inner given = absurd (omega arith)
 part_ascends o a id (suc level) inner (inl s) = walk_ascends o (suc level) a None id None s
-part_ascends {K} {V} {LEN} {cmp} o a id (suc level) inner (inr retired) = by_slot (get a.nodes id) refl retired
-  where
-    by_slot : (slot : Option (NodeOf K LEN)) → get a.nodes id ≡ slot → IsRetiredNode slot → IsAscending cmp (walk (suc level) a id)
-    by_slot None is r = absurd r
-    by_slot (Some node) is r = rw (is, r.0, r.1) tt
+part_ascends o a id (suc level) inner (inr retired) = rw (no_children (get a.nodes id) retired).1 tt
 
 -- a list without a first entry has none
 pub none_in_empty : {K V : Type 0} (cmp : K → K → Ordering) (way : Way) (bound : Bound K) (l : List (K × V)) (from : Way) → first_on from l ≡ None → NoneMeets cmp way bound l
 none_in_empty cmp way bound [] from none = tt
-none_in_empty cmp way bound (x ∷ l) On none = absurd (cc)
-none_in_empty {K = K} {V = V} cmp way bound (x ∷ l) Back none = absurd (no_last l none)
-  where
-    no_last : (l : List (K × V)) → slice_get (x ∷ l) (length (x ∷ l) - 1) ≡ None → ⊥
-    no_last l none = omega (arith, get_none (x ∷ l) (length (x ∷ l) - 1) none)
+none_in_empty cmp way bound (x ∷ l) from none = absurd (let some = sym none ∙ first_place from (x ∷ l) ∙ (first_step from x l).steps.1 in cc)

@@ -7,6 +7,7 @@ use Rattle.tree_model.specs.declared.way.Way.{Way}
 use Rattle.tree_model.specs.declared.way.Way.TheVariants.{On, Back}
 use Rattle.tree_chain.specs.Walks.{LeafWalk}
 use Rattle.tree_chain.specs.Ways.{places_left}
+use Rattle.tree_node.specs.declared.node.Root.{Root}
 use Rattle.tree_node.specs.Arenas.{TreeArenas}
 use Rattle.tree_model.specs.Cursor.{Cursor, End, unopened, at_place, exhausted, are_apart, can_flip, flipped}
 use Rattle.tree_model.specs.Rest.{StandsInside}
@@ -17,7 +18,7 @@ use Rattle.tree_cursors.specs.View.{Kept, end_of}
 -- in whatever tree the ends stand, this tells whether they are apart there
 abbrev pub TellsApart : {K V : Type 0} {LEN : ℕ} → (K → K → Ordering) → TreeEnd (LeafWalk K V LEN) → TreeEnd (LeafWalk K V LEN) → Bool → Type 0
 TellsApart {K} {V} {LEN} cmp forward backward apart =
-    (arenas : TreeArenas K V LEN) (root : Option (ℕ × ℕ)) → Kept arenas root cmp forward backward
+    (arenas : TreeArenas K V LEN) (root : Option Root) → Kept arenas root cmp forward backward
     → apart ≡ are_apart (end_of arenas root forward) (end_of arenas root backward)
 
 -- an end that was never moved

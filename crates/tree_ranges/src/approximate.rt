@@ -5,7 +5,8 @@ ghost use Rattle.std.specs.declared.ops.Bound.TheVariants.{Included};
 ghost use Rattle.tree_model.specs.declared.way.Way.TheVariants.{On, Back};
 ghost use Rattle.tree_model.specs.Ways.{opposite};
 ghost use Rattle.tree_node.specs.Tree.{StandsOrRetired, walk};
-ghost use Rattle.tree_walk.specs.Ends.{IsLinked, first_on};
+ghost use Rattle.tree_chain.specs.Walks.{first_on};
+ghost use Rattle.tree_walk.specs.Ends.{IsLinked};
 ghost use Rattle.tree_model.specs.Rest.{lent};
 ghost use Rattle.tree_ranges.specs.Approximate.{Approximates};
 

@@ -1,9 +1,9 @@
 //! What a cursor asks its two ends.
-ghost use Rattle.std.specs.Prelude.{◌≡◌, is_some};
-ghost use Rattle.tree_model.specs.Cursor.{meets, option_where};
+ghost use Rattle.std.specs.Prelude.{◌≡◌, None, if◌then◌else◌, is_some};
+ghost use Rattle.tree_model.specs.Cursor.{are_apart, meets, option_where};
 ghost use Rattle.tree_model.specs.Pairs.{lent_bound};
 ghost use Rattle.tree_model.specs.Rest.{lent};
-ghost use Rattle.tree_cursors.specs.View.{pair_of};
+ghost use Rattle.tree_cursors.specs.View.{Kept, end_of, pair_of};
 ghost use Rattle.tree_ranges.specs.Beside.{is_at};
 ghost use Rattle.tree_ranges.specs.Ranged.{TellsApart, is_new};
 
@@ -22,19 +22,30 @@ pub fn are_apart<'t, K: Ord + Drop, V: Drop, const LEN: usize>(
 ) -> bool
     ensures { TellsApart K.cmp forward.now backward.now result }
 {
-    match forward {
-        End::Exhausted => false,
-        End::Unopened => match backward {
-            End::Exhausted => false,
-            End::Unopened => true,
-            End::At(_) => true,
-        },
-        End::At(walk) => match backward {
-            End::Exhausted => false,
-            End::Unopened => true,
-            End::At(other) => comes_before(walk, other),
-        },
+    match (forward, backward) {
+        (End::Exhausted, _) | (_, End::Exhausted) => false,
+        (End::At(walk), End::At(other)) => comes_before(walk, other),
+        _ => true,
     }
+}
+
+/// Returns the pair that an end has moved to, if the ends are apart and its key is within the bound at which the other end
+/// begins, which goes this way. Makes at most two comparisons. The caller must have ends that stand in one tree.
+#[inline(always)]
+pub fn if_apart<'t, K: Ord + Drop, V: Drop, T: EndWay, const LEN: usize>(
+    pair: Option<(&'t K, &'t V)>,
+    forward: &End<IterOf<'t, K, V, LEN>>,
+    backward: &End<RevIterOf<'t, K, V, LEN>>,
+    bound: Bound<&K>,
+) -> Option<(&'t K, &'t V)>
+    ensures { (arenas root : _) → Kept arenas root K.cmp forward.now backward.now → lent result
+        ≡ (if are_apart (end_of arenas root forward.now) (end_of arenas root backward.now)
+        then option_where (λ pair. meets K.cmp T.way (lent_bound bound.entry) pair.0) (lent pair.entry) else None) }
+{
+    if !are_apart(forward, backward) {
+        return None;
+    }
+    within::<K, V, T>(pair, bound)
 }
 
 /// Returns the pair that an end stands on, if its key is within the bound at which the other end begins. Makes at
@@ -51,7 +62,7 @@ pub fn shown<'t, K: Ord + Drop, V: Drop, S: SlotWalk, T: EndWay, const LEN: usiz
 
 /// Returns a pair if its key is within the bound at which an end of this way begins. Makes at most one comparison.
 #[inline(always)]
-pub fn within<'t, K: Ord, V, T: EndWay>(
+fn within<'t, K: Ord, V, T: EndWay>(
     pair: Option<(&'t K, &'t V)>,
     bound: Bound<&K>,
 ) -> Option<(&'t K, &'t V)>
@@ -95,11 +106,7 @@ pub fn stands_at<'t, K: Ord + Drop, V: Drop, S: SlotWalk, const LEN: usize>(
 pub fn is_unopened<W>(end: &End<W>) -> bool
     ensures { result ≡ is_new end.now }
 {
-    match end {
-        End::Unopened => true,
-        End::At(_) => false,
-        End::Exhausted => false,
-    }
+    matches!(end, End::Unopened)
 }
 
 /// Returns the end that goes the other way from the same place.
@@ -123,12 +130,7 @@ pub fn again<'t, L: Walked, S: SlotWalk>(
 {
     match end {
         End::Unopened => End::Unopened,
-        End::At(walk) => {
-            let Ok(same) = walk.clone() else {
-                unreachable!()
-            };
-            End::At(same)
-        }
+        End::At(walk) => End::At(walk.clone().unwrap()),
         End::Exhausted => End::Exhausted,
     }
 }

@@ -18,9 +18,8 @@ use std::marker::Model;
 use std::ops::Bound;
 use tree_chain::{IterOf as WalkOf, RevIterOf as RevWalkOf, Walked};
 use tree_cursors::end::End;
-use tree_leaf::arena::NodeId;
 use tree_leaf::leaf::LeafOf;
-use tree_node::node::ArenasOf;
+use tree_node::node::{ArenasOf, Root};
 
 /// All pairs of a tree, from both ends.
 ///
@@ -61,8 +60,8 @@ impl<'t, K: Ord + Drop + 't, V: Drop + 't, const LEN: usize> IterOver<
     LeafOf<K, V, LEN>,
 > {
     /// Creates a cursor over all pairs of a tree. Runs in constant time. The caller must lend the arenas of a
-    /// well-formed tree with its root and the root's level.
-    pub fn new(arenas: &'t ArenasOf<K, V, LEN>, root: Option<(NodeId, usize)>) -> Self
+    /// well-formed tree with its root.
+    pub fn new(arenas: &'t ArenasOf<K, V, LEN>, root: Option<Root>) -> Self
         requires { IsTree K.cmp arenas.now root }
         ensures { result ≡ fresh (walk_under arenas.now root) Unbounded Unbounded }
     {
@@ -74,7 +73,7 @@ impl<'t, K: Ord + Drop + 't, V: Drop + 't, const LEN: usize> IterOver<
     /// Creates a cursor over all pairs of a tree, with these ends. The caller must pass ends that stand in the tree.
     pub(crate) fn standing(
         arenas: &'t ArenasOf<K, V, LEN>,
-        root: Option<(NodeId, usize)>,
+        root: Option<Root>,
         forward: End<WalkOf<'t, K, V, LEN>>,
         backward: End<RevWalkOf<'t, K, V, LEN>>,
     ) -> Self

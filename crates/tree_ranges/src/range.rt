@@ -1,5 +1,5 @@
 //! A cursor over the pairs of a tree within two bounds.
-ghost use Rattle.std.specs.Prelude.{◌≡◌, ⊤};
+ghost use Rattle.std.specs.Prelude.{◌≡◌, ⊤, is_some};
 ghost use Rattle.std.specs.Iterator.{at_most};
 ghost use Rattle.tree_model.specs.declared.way.Way.TheVariants.{On, Back};
 ghost use Rattle.tree_model.specs.Pairs.{IsAscending, high_of, low_of};
@@ -9,7 +9,7 @@ ghost use Rattle.tree_model.specs.Rest.{Moves, StandsInside, lent};
 ghost use Rattle.tree_cursors.specs.View.{Kept, end_of};
 ghost use Rattle.tree_ranges.specs.Ranged.{Flips, moves_left};
 
-use crate::ends::{again, are_apart, is_unopened, shown, turned, within};
+use crate::ends::{again, if_apart, is_unopened, shown, turned};
 use std::alloc::AllocError;
 use std::iter::FusedIterator;
 use std::marker::{Model, PhantomData};
@@ -17,23 +17,24 @@ use std::ops::Bound;
 use std::{fmt, mem};
 use tree_array::array::{ArrayIter, ArrayRevIter};
 use tree_chain::{IterOf as WalkOf, LinkedIter, RevIterOf as RevWalkOf, Walked};
-use tree_cursors::end::{End, step, step_in_leaf};
+use tree_cursors::end::{End, pair_on, step, step_in_leaf};
 use tree_leaf::arena::NodeId;
 use tree_leaf::leaf::LeafOf;
-use tree_node::node::ArenasOf;
+use tree_node::node::{ArenasOf, Root};
 
 /// A type of arenas to go through with a cursor, with what the cursor keeps. It has no methods.
 pub trait Ranged<K, V, L: Walked> {
-    ghost use Rattle.std.specs.Prelude.{ℕ, Option};
+    ghost use Rattle.std.specs.Prelude.{Option};
     ghost use Rattle.std.specs.Borrow.{Bor};
     ghost use Rattle.std.specs.declared.ops.Bound.{Bound as AnyBound};
     ghost use Rattle.tree_chain.specs.Walks.{LinkedWalk};
     ghost use Rattle.tree_model.specs.Cursor.{Cursor};
+    ghost use Rattle.tree_node.specs.declared.node.Root.{Root as TreeRoot};
     ghost use Rattle.tree_cursors.specs.declared.end.End.{End as TreeEnd};
 
-    ghost seen: { Self → Option (ℕ × ℕ) → AnyBound (Bor K) → AnyBound (Bor K) → TreeEnd (LinkedWalk L) → TreeEnd (LinkedWalk L) → Cursor K V };
+    ghost seen: { Self → Option TreeRoot → AnyBound (Bor K) → AnyBound (Bor K) → TreeEnd (LinkedWalk L) → TreeEnd (LinkedWalk L) → Cursor K V };
 
-    ghost kept: { Self → Option (ℕ × ℕ) → TreeEnd (LinkedWalk L) → TreeEnd (LinkedWalk L) → Type 0 };
+    ghost kept: { Self → Option TreeRoot → TreeEnd (LinkedWalk L) → TreeEnd (LinkedWalk L) → Type 0 };
 }
 
 impl<K: Ord + Drop, V: Drop, const LEN: usize> Ranged<K, V, LeafOf<K, V, LEN>>
@@ -52,7 +53,7 @@ impl<K: Ord + Drop, V: Drop, const LEN: usize> Ranged<K, V, LeafOf<K, V, LEN>>
 #[derive(Drop)]
 pub struct RangeOver<'t, K, V, A: Ranged<K, V, L>, L: Walked> {
     arenas: &'t A,
-    root: Option<(NodeId, usize)>,
+    root: Option<Root>,
     low: Bound<&'t K>,
     high: Bound<&'t K>,
     forward: End<LinkedIter<'t, L, ArrayIter>>,
@@ -90,10 +91,10 @@ impl<'t, K: Ord + Drop + 't, V: Drop + 't, const LEN: usize> RangeOver<
     LeafOf<K, V, LEN>,
 > {
     /// Creates a cursor over the pairs of a tree whose keys are within two bounds. Runs in constant time. The
-    /// caller must lend the arenas of a well-formed tree with its root and the root's level.
+    /// caller must lend the arenas of a well-formed tree with its root.
     pub fn new(
         arenas: &'t ArenasOf<K, V, LEN>,
-        root: Option<(NodeId, usize)>,
+        root: Option<Root>,
         bounds: (Bound<&'t K>, Bound<&'t K>),
     ) -> Self
         requires { IsTree K.cmp arenas.now root }
@@ -159,7 +160,7 @@ impl<'t, K: Ord + Drop + 't, V: Drop + 't, const LEN: usize> RangeOver<
     /// Creates a cursor over all pairs of a tree, with these ends. The caller must pass ends that stand in the tree.
     pub(crate) fn standing(
         arenas: &'t ArenasOf<K, V, LEN>,
-        root: Option<(NodeId, usize)>,
+        root: Option<Root>,
         forward: End<WalkOf<'t, K, V, LEN>>,
         backward: End<RevWalkOf<'t, K, V, LEN>>,
     ) -> Self
@@ -178,43 +179,37 @@ impl<'t, K: Ord + Drop + 't, V: Drop + 't, const LEN: usize> RangeOver<
         }
     }
 
-    /// Moves the forward end, whether or not its leaf has an entry ahead. Stays out of the way of the moves in a leaf.
+    /// Moves the forward end, and returns whether the move gives the pair that the end then stands on. Stays out of the way
+    /// of the moves in a leaf, and answers in a register, so that these need no room for an answer in memory.
     #[inline(never)]
-    fn next_elsewhere(&mut self) -> Option<(&'t K, &'t V)>
-        ensures { Moves K.cmp On self.old result self.new }
+    fn goes_elsewhere(&mut self) -> bool
+        ensures { (pair : _) × Moves K.cmp On self.old pair self.new × (result ≡ is_some pair) }
     {
         let pair = step(self.arenas, self.root, &mut self.forward, self.low);
-        if !are_apart(&self.forward, &self.backward) {
-            return None;
-        }
-        within::<K, V, ArrayRevIter>(pair, self.high)
+        if_apart::<K, V, ArrayRevIter, LEN>(
+            pair,
+            &self.forward,
+            &self.backward,
+            self.high,
+        ).is_some()
     }
 
-    /// Moves the backward end, as [`next_elsewhere`](RangeOver::next_elsewhere) moves the forward one.
+    /// Moves the backward end, as [`goes_elsewhere`](RangeOver::goes_elsewhere) moves the forward one.
     #[inline(never)]
-    fn next_back_elsewhere(&mut self) -> Option<(&'t K, &'t V)>
-        ensures { Moves K.cmp Back self.old result self.new }
+    fn goes_back_elsewhere(&mut self) -> bool
+        ensures { (pair : _) × Moves K.cmp Back self.old pair self.new × (result ≡ is_some pair) }
     {
         let pair = step(self.arenas, self.root, &mut self.backward, self.high);
-        if !are_apart(&self.forward, &self.backward) {
-            return None;
-        }
-        within::<K, V, ArrayIter>(pair, self.low)
+        if_apart::<K, V, ArrayIter, LEN>(pair, &self.forward, &self.backward, self.low).is_some()
     }
 
     /// Opens both bounds, and keeps both ends.
-    pub(crate) fn opened(self) -> Self
+    pub(crate) fn opened(mut self) -> Self
         ensures { result ≡ opened self.entry }
     {
-        RangeOver {
-            arenas: self.arenas,
-            root: self.root,
-            low: Bound::Unbounded,
-            high: Bound::Unbounded,
-            forward: self.forward,
-            backward: self.backward,
-            values: PhantomData,
-        }
+        self.low = Bound::Unbounded;
+        self.high = Bound::Unbounded;
+        self
     }
 }
 
@@ -229,12 +224,12 @@ impl<'t, K: Ord + Drop + 't, V: Drop + 't, const LEN: usize> Iterator
     #[inline(always)]
     fn next(&mut self) -> Option<(&'t K, &'t V)> {
         let Some(pair) = step_in_leaf(&mut self.forward) else {
-            return self.next_elsewhere();
-        };
-        if !are_apart(&self.forward, &self.backward) {
+            if self.goes_elsewhere() {
+                return pair_on(&self.forward);
+            }
             return None;
-        }
-        within::<K, V, ArrayRevIter>(Some(pair), self.high)
+        };
+        if_apart::<K, V, ArrayRevIter, LEN>(Some(pair), &self.forward, &self.backward, self.high)
     }
 }
 
@@ -245,12 +240,12 @@ impl<'t, K: Ord + Drop + 't, V: Drop + 't, const LEN: usize> DoubleEndedIterator
     #[inline(always)]
     fn next_back(&mut self) -> Option<(&'t K, &'t V)> {
         let Some(pair) = step_in_leaf(&mut self.backward) else {
-            return self.next_back_elsewhere();
-        };
-        if !are_apart(&self.forward, &self.backward) {
+            if self.goes_back_elsewhere() {
+                return pair_on(&self.backward);
+            }
             return None;
-        }
-        within::<K, V, ArrayIter>(Some(pair), self.low)
+        };
+        if_apart::<K, V, ArrayIter, LEN>(Some(pair), &self.forward, &self.backward, self.low)
     }
 }
 

@@ -1,20 +1,8 @@
 -- A pair by its place: where it is found, and that an equal key leads there too.
-use Rattle.std.proofs.Common.{◌≡◌, ℕ, zero, suc, ◌-◌, ◌<◌, true, List, [], ◌∷◌, Option, Some, None, IsSome, refl, sym, ap, ◌∙◌, arith, Ordering, Equal}
-use Rattle.tree_model.proofs.Common.{IsTotalOrder, alike_right, tied_back, IsAbsent, pair_at}
-use Rattle.tree_array.proofs.Common.{Arrivals, arrival, removed}
-use Rattle.tree_array.specs.declared.answers.RemoveResult.{RemoveResult}
-use Rattle.tree_array.specs.declared.answers.RemoveResult.TheVariants.{Success, Retired}
-use Rattle.tree_node.proofs.Common.{get, LeafOf, TreeArenas, HasChildFor, IsRetired, child_at, child_of, is_from, keyed, unbounded, walk}
-use Rattle.tree_node.specs.declared.node.NodeOf.{NodeOf}
-use Rattle.tree_array.specs.Removal.{removal_of}
-use Rattle.tree_clean_up.specs.CleanUps.{HasOnlyRetired}
-use Rattle.tree_clean_up.proofs.Retired.{walk-retired}
-use Rattle.tree_descent.specs.Ways.{IsOnWay, LeadsTo}
-use Rattle.tree_node.proofs.LeafWrites.{with_array}
-use Rattle.tree_remove.specs.Removes.{RemovesUnder, surely}
-use Rattle.tree_remove.specs.Takes.{Emptied, IsEntry, stored_at}
-use Rattle.tree_remove.proofs.LeafRemovals.{leaf_settled, removes_in_leaf}
-use Rattle.tree_remove.proofs.EmptiedLeaves.{emptied_by}
+use Rattle.tree_remove.proofs.Common.{Arrivals, Emptied, Equal, HasChildFor, HasOnlyRetired, IsAbsent, IsEntry, IsOnWay, IsRetired, IsSome, IsTotalOrder, LeadsTo, LeafOf, List, NodeOf, None, Option}
+use Rattle.tree_remove.proofs.Common.{Ordering, RemoveResult, RemovesUnder, Retired, Some, TreeArenas, [], alike_right, ap, arrival, child_at, child_of, get, is_from, keyed, pair_at, refl, removal_of}
+use Rattle.tree_remove.proofs.Common.{removed, stored_at, suc, surely, sym, tied_back, unbounded, walk, walk-leaf, walk-retired, zero, ℕ, ◌-◌, ◌<◌, ◌∙◌, ◌∷◌, ◌≡◌}
+use Rattle.tree_remove.proofs.LeafRemovals.{Takes}
 use Rattle.tree_remove.proofs.Ways.{found_on_way, removes_on_way, settled_on_way}
 
 -- either of two equal keys
@@ -27,13 +15,13 @@ module _ {K : Type 0} {cmp : K → K → Ordering} (o : IsTotalOrder cmp) (key a
   child_alike [] last = refl
   child_alike (c ∷ rest) last = rw (alike_right o key alike c.0 same, child_alike rest last) refl
 
+  of_alike : (pairs : List (K × ℕ)) (last : Option ℕ) → child_of cmp alike pairs last ≡ child_of cmp key pairs last
+  of_alike pairs None = refl
+  of_alike pairs (Some last) = ap Some (sym (child_alike pairs last))
+
   which_alike : {LEN : ℕ} (found : Option (NodeOf K LEN)) (id : ℕ) → HasChildFor cmp key found id → HasChildFor cmp alike found id
   which_alike None id h = h
-  which_alike (Some node) id h = by_last (unbounded node) h
-    where
-      by_last : (last : Option ℕ) → child_of cmp key (keyed node).entries last ≡ Some id → child_of cmp alike (keyed node).entries last ≡ Some id
-      by_last None h = h
-      by_last (Some last) h = ap Some (sym (child_alike (keyed node).entries last)) ∙ h
+  which_alike (Some node) id h = of_alike (keyed node).entries (unbounded node) ∙ h
 
   module _ {V : Type 0} {LEN : ℕ} (a : TreeArenas K V LEN) where
     way_alike : (steps id target : ℕ) → IsOnWay cmp key steps a id target → IsOnWay cmp alike steps a id target
@@ -44,14 +32,11 @@ module _ {K : Type 0} {cmp : K → K → Ordering} (o : IsTotalOrder cmp) (key a
     pub leads_alike : (level id node leaf : ℕ) → LeadsTo cmp key level a id node leaf → LeadsTo cmp alike level a id node leaf
     leads_alike level id node leaf leads = (leads.0, way_alike (level - 1) id node leads.1, which_alike (get a.nodes node) leaf leads.2)
 
-module _ {K V : Type 0} {LEN : ℕ} {cmp : K → K → Ordering} (o : IsTotalOrder cmp) (a : TreeArenas K V LEN) (key : K) (level : ℕ) (deep : 0 < level) (id : ℕ) where
+module _ {K V : Type 0} {LEN : ℕ} {cmp : K → K → Ordering} (o : IsTotalOrder cmp) (a : TreeArenas K V LEN) (key : K) (level : ℕ) (deep : 0 < level)
+    (id : ℕ) where
   -- what is retired has no key
   pub absent_retired : IsRetired level a id → IsAbsent cmp (walk level a id) key
-  absent_retired retired = by_level level deep retired
-    where
-      by_level : (level : ℕ) → 0 < level → IsRetired level a id → IsAbsent cmp (walk level a id) key
-      by_level zero deep retired = absurd (omega (arith, deep))
-      by_level (suc level) deep retired = rw (walk-retired (suc level) a id retired) refl
+  absent_retired retired = rw (walk-retired level a id retired) refl
 
   module _ (node leaf : ℕ) (leads : LeadsTo cmp key level a id node leaf) where
     found_there : pair_at cmp (walk level a id) key ≡ pair_at cmp (walk 0 a leaf) key
@@ -62,7 +47,8 @@ module _ {K V : Type 0} {LEN : ℕ} {cmp : K → K → Ordering} (o : IsTotalOrd
     absent_there none = found_there ∙ none
 
     -- and a pair that its leaf has is an entry
-    pub entry_there : (slot : ℕ) (pair : K × V) → cmp pair.0 key ≡ Equal → stored_at (get a.leaves leaf) slot ≡ Some pair → pair_at cmp (walk 0 a leaf) key ≡ Some pair → IsEntry cmp level a id leaf slot pair
+    pub entry_there : (slot : ℕ) (pair : K × V) → cmp pair.0 key ≡ Equal → stored_at (get a.leaves leaf) slot ≡ Some pair
+        → pair_at cmp (walk 0 a leaf) key ≡ Some pair → IsEntry cmp level a id leaf slot pair
     entry_there slot pair same stored found = record {
       stored = stored;
       found = pair_alike o pair.0 key same (walk level a id) ∙ found_there ∙ found;
@@ -75,44 +61,36 @@ pub leaf_stored : {K V : Type 0} {LEN : ℕ} (found : Option (LeafOf K V LEN)) (
 leaf_stored None slot pair h = absurd (cc)
 leaf_stored (Some leaf) slot pair h = refl
 
--- a slot has one pair
-pub stored_is : {K V : Type 0} {LEN : ℕ} (a : TreeArenas K V LEN) (id slot : ℕ) (leaf : LeafOf K V LEN) → get a.leaves id ≡ Some leaf → (pair other : K × V) → stored_at (get a.leaves id) slot ≡ Some pair → arrival leaf.array.arrivals slot ≡ Some other → pair ≡ other
-stored_is a id slot leaf here pair other stored there =
-    let both : Some pair ≡ Some other = sym (rw here at stored) ∙ there in
-    cc
-
--- a pair is taken out of a leaf
-module _ {K V : Type 0} {LEN : ℕ} {cmp : K → K → Ordering} (o : IsTotalOrder cmp) (a : TreeArenas K V LEN) (id : ℕ) (leaf : LeafOf K V LEN) (array : Arrivals K V) (was : get a.leaves id ≡ Some leaf) (pair : K × V)
-    (found : pair_at cmp leaf.array.entries pair.0 ≡ Some pair) (taken : array ≡ removed cmp leaf.array pair.0) (result : RemoveResult) (is : result ≡ removal_of array) where
-  pub takes_in_leaf : (leaf.array.retired ≡ true → leaf.array.entries ≡ []) → RemovesUnder cmp surely 0 a (with_array a id leaf array) id result pair.0
-  takes_in_leaf none_retired =
-      removes_in_leaf o surely a id leaf array pair.0 was result none_retired
-      (λ absent. absurd (let clash : None ≡ Some pair = sym absent ∙ found in cc)) (rw found (true, refl, (taken, is)))
-
-  pub take_settled : result ≡ Success → IsRetired 0 (with_array a id leaf array) id → ⊥
-  take_settled =
-      leaf_settled o surely a id leaf array pair.0 was result
-      (λ absent. absurd (let clash : None ≡ Some pair = sym absent ∙ found in cc)) (rw found (true, refl, (taken, is)))
+-- the pair of a slot is taken out of its leaf
+pub slot_takes : {K V : Type 0} {LEN : ℕ} {cmp : K → K → Ordering} (a : TreeArenas K V LEN) (id slot : ℕ) {leaf : LeafOf K V LEN} {array : Arrivals K V}
+    {result : RemoveResult} {pair taken : K × V} → get a.leaves id ≡ Some leaf → stored_at (get a.leaves id) slot ≡ Some pair
+    → pair_at cmp (walk 0 a id) pair.0 ≡ Some pair → arrival leaf.array.arrivals slot ≡ Some taken → array ≡ removed cmp leaf.array taken.0
+    → result ≡ removal_of array → Takes cmp surely leaf.array array taken.0 result
+slot_takes a id slot {leaf} {pair = pair} {taken = taken} here stored found there left answer =
+    let same : pair ≡ taken = cc (rw here at stored, there) in
+    record { pair = taken; found = rw (walk-leaf a id leaf here, same) at found; says = refl; taken = left; answer = answer }
 
 -- an entry is taken out of its leaf
-module _ {K V : Type 0} {LEN : ℕ} {cmp : K → K → Ordering} (o : IsTotalOrder cmp) (level : ℕ) (deep : 0 < level) (before : TreeArenas K V LEN) (id leaf slot : ℕ) (pair : K × V) (entry : IsEntry cmp level before id leaf slot pair) where
+module _ {K V : Type 0} {LEN : ℕ} {cmp : K → K → Ordering} (o : IsTotalOrder cmp) {level : ℕ} {before : TreeArenas K V LEN} {id leaf slot : ℕ} {pair : K × V}
+    (deep : 0 < level)
+    (entry : IsEntry cmp level before id leaf slot pair) where
   pub found_in_leaf : pair_at cmp (walk 0 before leaf) pair.0 ≡ Some pair
   found_in_leaf = sym (found_on_way o before pair.0 leaf level deep id entry.node entry.way.0 entry.way.1 entry.way.2) ∙ entry.found
 
-  module _ (now : TreeArenas K V LEN) (taken : K × V) (stored : stored_at (get before.leaves leaf) slot ≡ Some taken) (result : RemoveResult) (removes : RemovesUnder cmp surely 0 before now leaf result taken.0) where
-    taken_is : pair ≡ taken
-    taken_is = let both : Some pair ≡ Some taken = sym entry.stored ∙ stored in cc
-
+  module _ {now : TreeArenas K V LEN} {taken : K × V} {result : RemoveResult} (stored : stored_at (get before.leaves leaf) slot ≡ Some taken)
+      (removes : RemovesUnder cmp surely 0 before now leaf result taken.0) where
     leads : LeadsTo cmp taken.0 level before id entry.node leaf
-    leads = rw taken_is at entry.way
+    leads =
+        let same : pair ≡ taken = cc (entry.stored, stored) in
+        rw same at entry.way
 
     -- it was the last one
     pub entry_emptied : result ≡ Retired → Emptied cmp level before now id taken.0
-    entry_emptied is = emptied_by cmp level before now id entry.node leaf taken.0 leads (rw is at removes)
+    entry_emptied is = record { node = entry.node; leaf = leaf; way = leads; removes = rw is at removes }
 
     -- it was not
     pub entry_stays : (result ≡ Retired → ⊥) → RemovesUnder cmp surely level before now id result taken.0
-    entry_stays stays = removes_on_way o surely before now taken.0 leaf result stays removes level deep id entry.node leads.0 leads.1 leads.2
+    entry_stays stays = removes_on_way o surely stays removes level deep id entry.node leads
 
     pub entry_settled : (IsRetired 0 now leaf → ⊥) → level ≡ 1 → HasOnlyRetired now id → ⊥
-    entry_settled live one = settled_on_way o taken.0 before now level id entry.node leaf one leads.0 leads.1 leads.2 removes.replaces live
+    entry_settled live one = settled_on_way o taken.0 before now level id entry.node leaf one leads removes.replaces live

@@ -1,3 +1,4 @@
+mod Common
 pub mod ChildDrops
 pub mod ChildSides
 pub mod Descents

@@ -1,24 +1,19 @@
 -- A root that gives its place to its only child.
-use Rattle.std.proofs.Common.{◌≡◌, ◌⊎◌, ℕ, zero, suc, ◌+◌, ◌-◌, ◌<◌, ◌==◌, cond, [], ◌∷◌, Option, Some, None, inl, inr, refl, sym, ap, ◌∙◌, arith, sub-one, Ordering, append-nil}
-use Rattle.tree_node.proofs.Common.{get, Loses, times, same_array_refl, one_here, times-cons, uses_le_one, TreeArenas, IsPart, Replaces, IsOfLevel, IsRetired, Stands, children_of, leaves_at, nodes_at, unbounded, walk}
-use Rattle.tree_node.specs.declared.branch.BranchOf.{BranchOf}
-use Rattle.tree_node.specs.declared.node.NodeOf.{NodeOf}
-use Rattle.tree_node.specs.declared.node.NodeOf.TheVariants.{Internal, Leaf}
-use Rattle.tree_remove.specs.Lowering.{IsRoot, LowersRoot}
-use Rattle.tree_node.proofs.Frames.{Agrees, same_leaves, same_nodes, same_stands}
-use Rattle.tree_node.proofs.Lifts.{single_nodes}
-use Rattle.tree_node.proofs.Standing.{no_children}
+use Rattle.tree_remove.proofs.Common.{Agrees, BranchOf, Internal, IsOfLevel, IsPart, IsRetired, IsRoot, Leaf, Loses, LowersRoot, NodeOf, None, Option, Ordering, Replaces, Root, Some, Stands}
+use Rattle.tree_remove.proofs.Common.{TreeArenas, [], ap, append-nil, arith, children_of, cond, get, inl, inr, leaves_at, no_children, node_is, nodes_at, one_here, refl, root_at, same_array_refl}
+use Rattle.tree_remove.proofs.Common.{same_leaves, same_nodes, same_stands, single_nodes, sub-one, suc, sym, times, times-cons, unbounded, uses_le_one, walk, zero, ℕ, ◌+◌, ◌-◌, ◌<◌, ◌==◌, ◌∙◌, ◌∷◌}
+use Rattle.tree_remove.proofs.Common.{◌≡◌, ◌⊎◌}
 use Rattle.tree_clean_up.proofs.Losses.{lost_counted}
-use Rattle.tree_clean_up.proofs.OnlyLeaves.{only_stands}
 use Rattle.tree_clean_up.proofs.NodeDrops.{node_dropped}
+use Rattle.tree_clean_up.proofs.OnlyLeaves.{only_stands}
 
 module _ {K V : Type 0} {LEN : ℕ} (cmp : K → K → Ordering) (a : TreeArenas K V LEN) (root : ℕ) where
-  stays : (level : ℕ) → IsRoot cmp a root level → LowersRoot cmp level a a root (Some (root, level))
+  stays : (level : ℕ) → IsRoot cmp a root level → LowersRoot cmp level a a root (Some (root_at root level))
   stays level stands = record { stands = stands; leaves = refl; leaves_under = refl; pairs = refl; nodes_kept = λ n used outside. refl; nodes_counted = λ n. refl }
 
   -- a leaf node stays, retired or not
-  pub leaf_node_stays : (level : ℕ) → 0 < level → IsPart cmp level a root ⊎ IsRetired level a root → IsOfLevel level (get a.nodes root) → (node : BranchOf K ℕ LEN) → get a.nodes root ≡ Some (Leaf node)
-      → LowersRoot cmp level a a root (Some (root, level))
+  pub leaf_node_stays : (level : ℕ) → 0 < level → IsPart cmp level a root ⊎ IsRetired level a root → IsOfLevel level (get a.nodes root)
+      → (node : BranchOf K ℕ LEN) → get a.nodes root ≡ Some (Leaf node) → LowersRoot cmp level a a root (Some (root_at root level))
   leaf_node_stays zero inner given kind node here = absurd (omega (arith, inner))
   leaf_node_stays (suc zero) inner (inl part) kind node here = stays 1 (omega arith, inl (part, λ tall none. omega (arith, tall)))
   leaf_node_stays (suc zero) inner (inr retired) kind node here = stays 1 (omega arith, inr (refl, retired, rw here tt))
@@ -26,21 +21,19 @@ module _ {K V : Type 0} {LEN : ℕ} (cmp : K → K → Ordering) (a : TreeArenas
 
   -- and so does a node with a keyed child
   pub keyed_stays : (level : ℕ) → 0 < level → IsPart cmp level a root ⊎ IsRetired level a root → (node : BranchOf K ℕ LEN) → get a.nodes root ≡ Some (Internal node) → (node.children.entries ≡ [] → ⊥)
-      → LowersRoot cmp level a a root (Some (root, level))
+      → LowersRoot cmp level a a root (Some (root_at root level))
   keyed_stays zero inner given node here some = absurd (omega (arith, inner))
   keyed_stays (suc level) inner (inl part) node here some = stays (suc level) (omega arith, inl (part, λ tall none. some (rw here at none)))
   keyed_stays (suc level) inner (inr retired) node here some = absurd (some (rw here at retired).0)
 
-  module _ (b : TreeArenas K V LEN) (node : BranchOf K ℕ LEN) (gone : NodeOf K LEN) (here : get a.nodes root ≡ Some (Internal node)) (loses : Loses a.nodes b.nodes root gone) (leaves : b.leaves ≡ a.leaves) where
+  module _ (b : TreeArenas K V LEN) (node : BranchOf K ℕ LEN) (gone : NodeOf K LEN) (here : get a.nodes root ≡ Some (Internal node))
+      (loses : Loses a.nodes b.nodes root gone) (leaves : b.leaves ≡ a.leaves) where
     -- nothing is left of a retired root
     pub retired_gone : (level : ℕ) → 0 < level → IsPart cmp level a root ⊎ IsRetired level a root → node.unbounded_child ≡ None → LowersRoot cmp level a b root None
     retired_gone zero inner given none = absurd (omega (arith, inner))
     retired_gone (suc level) inner (inl part) none =
         let s : Stands cmp (suc level) a None root None = part.stands in
-        let both : Some s.node ≡ Some (Internal node) = sym s.here ∙ here in
-        let same : s.node ≡ Internal node = cc in
-        let clash : None ≡ Some s.last = sym none ∙ ap unbounded (sym same) ∙ s.last_is in
-        absurd (cc)
+        absurd (cc (none, ap unbounded (node_is level a None root None s (Internal node) here), s.last_is))
     retired_gone (suc level) inner (inr retired) none =
         let no_leaf : leaves_at (suc level) a.nodes root ≡ [] = rw ((no_children (get a.nodes root) retired).1) refl in
         let dropped : Replaces (suc level) a b (root ∷ []) [] = node_dropped level a b root gone retired loses leaves in
@@ -55,9 +48,6 @@ module _ {K V : Type 0} {LEN : ℕ} (cmp : K → K → Ordering) (a : TreeArenas
 
     -- the only child is a part then, from which the root is lowered on
     module _ (below x : ℕ) (part : IsPart cmp (suc (suc below)) a root) (no_keyed : node.children.entries ≡ []) (last_is : node.unbounded_child ≡ Some x) where
-      abbrev st : Stands cmp (suc (suc below)) a None root None
-      st = part.stands
-
       only_child : children_of a.nodes root ≡ x ∷ []
       only_child = rw (here, no_keyed, last_is) refl
 
@@ -73,8 +63,8 @@ module _ {K V : Type 0} {LEN : ℕ} (cmp : K → K → Ordering) (a : TreeArenas
         leaves = λ n inside. rw leaves (same_array_refl (get a.leaves n));
       }
 
-      stands_below : Stands cmp (suc below) a None x None
-      stands_below = only_stands a root (Internal node) here x last_is cmp (suc below) st no_keyed
+      stands_below : Stands cmp (suc below) b None x None
+      stands_below = same_stands cmp (suc below) a b x agrees None None (only_stands a root (Internal node) here x last_is cmp (suc below) part.stands no_keyed)
 
       leaves_now : leaves_at (suc below) b.nodes x ≡ leaves_at (suc (suc below)) a.nodes root
       leaves_now = same_leaves (suc below) a b x agrees ∙ sym leaves_below
@@ -85,16 +75,16 @@ module _ {K V : Type 0} {LEN : ℕ} (cmp : K → K → Ordering) (a : TreeArenas
       nodes_now : (n : ℕ) → times n (nodes_at (suc below) b.nodes x) ≡ times n (nodes_at (suc below) a.nodes x)
       nodes_now n = ap (times n) (same_nodes (suc below) a b x agrees)
 
-      pub part_lowered : IsPart cmp (suc below) b x
+      part_lowered : IsPart cmp (suc below) b x
       part_lowered = record {
-        stands = same_stands cmp (suc below) a b x agrees None None stands_below;
+        stands = stands_below;
         nodes_once = λ n. omega (arith, nodes_now n, nodes_below n, part.nodes_once n, lost_counted a.nodes b.nodes root gone loses n);
         front = part.front;
         back = part.back;
         chain = rw (leaves, leaves_now) part.chain;
       }
 
-      pub lowered_on : (new : TreeArenas K V LEN) (result : Option (ℕ × ℕ)) → LowersRoot cmp (suc below) b new x result → LowersRoot cmp (suc (suc below)) a new root result
+      lowered_on : (new : TreeArenas K V LEN) (result : Option Root) → LowersRoot cmp (suc below) b new x result → LowersRoot cmp (suc (suc below)) a new root result
       lowered_on new result rest = record {
         stands = rest.stands;
         leaves = rest.leaves ∙ leaves;
@@ -106,27 +96,24 @@ module _ {K V : Type 0} {LEN : ℕ} (cmp : K → K → Ordering) (a : TreeArenas
         nodes_counted = λ n. omega (arith, rest.nodes_counted n, nodes_now n, nodes_below n, lost_counted a.nodes b.nodes root gone loses n);
       }
 
-  -- the level of a root that has one child alone
-  pub record OverOne (b : TreeArenas K V LEN) (x level : ℕ) : Type 0 where
-    pub below : ℕ
-    pub level_is : level ≡ suc (suc below)
-    pub level_below : level - 1 ≡ suc below
-    pub part : IsPart cmp (suc below) b x
-    pub on : (new : TreeArenas K V LEN) (result : Option (ℕ × ℕ)) → LowersRoot cmp (suc below) b new x result → LowersRoot cmp (suc (suc below)) a new root result
+  -- a root that has one child alone, from which it is lowered on
+  pub record OverOne (b : TreeArenas K V LEN) (x level lower : ℕ) : Type 0 where
+    pub inner : 0 < lower
+    pub part : IsPart cmp lower b x
+    pub kind : IsOfLevel lower (get b.nodes x)
+    pub on : (new : TreeArenas K V LEN) (result : Option Root) → LowersRoot cmp lower b new x result → LowersRoot cmp level a new root result
 
-  pub over_one : (b : TreeArenas K V LEN) (node : BranchOf K ℕ LEN) (gone : NodeOf K LEN) (x level : ℕ) → get a.nodes root ≡ Some (Internal node) → Loses a.nodes b.nodes root gone → b.leaves ≡ a.leaves
-      → 0 < level → IsPart cmp level a root ⊎ IsRetired level a root → IsOfLevel level (get a.nodes root) → node.children.entries ≡ [] → node.unbounded_child ≡ Some x → OverOne b x level
-  over_one b node gone x zero here loses leaves inner given kind none last_is = absurd (omega (arith, inner))
-  over_one b node gone x (suc zero) here loses leaves inner given kind none last_is = absurd (rw here at kind)
-  over_one b node gone x (suc (suc below)) here loses leaves inner (inr retired) kind none last_is = absurd (let empty = (rw here at retired).1 in let clash : None ≡ Some x = sym empty ∙ last_is in cc)
-  over_one b node gone x (suc (suc below)) here loses leaves inner (inl part) kind none last_is = record {
-    below = below;
-    level_is = refl;
-    level_below = sub-one (suc (suc below));
-    part = part_lowered b node gone here loses leaves below x part none last_is;
-    on = lowered_on b node gone here loses leaves below x part none last_is;
-  }
-
--- what stands is of its level
-pub of_level : {K V : Type 0} {LEN : ℕ} {cmp : K → K → Ordering} {a : TreeArenas K V LEN} {id : ℕ} (level : ℕ) → IsPart cmp (suc level) a id → IsOfLevel (suc level) (get a.nodes id)
-of_level {cmp = cmp} {a = a} {id = id} level part = let s : Stands cmp (suc level) a None id None = part.stands in rw s.here s.kind
+  pub over_one : (b : TreeArenas K V LEN) {node : BranchOf K ℕ LEN} {gone : NodeOf K LEN} (x level : ℕ) → get a.nodes root ≡ Some (Internal node)
+      → Loses a.nodes b.nodes root gone → b.leaves ≡ a.leaves → 0 < level → IsPart cmp level a root ⊎ IsRetired level a root
+      → IsOfLevel level (get a.nodes root) → node.children.entries ≡ [] → node.unbounded_child ≡ Some x → OverOne b x level (level - 1)
+  over_one b x zero here loses leaves inner given kind none last_is = absurd (omega (arith, inner))
+  over_one b x (suc zero) here loses leaves inner given kind none last_is = absurd (rw here at kind)
+  over_one b x (suc (suc below)) here loses leaves inner (inr retired) kind none last_is = absurd (cc ((rw here at retired).1, last_is))
+  over_one b {node} {gone} x (suc (suc below)) here loses leaves inner (inl part) kind none last_is =
+      let stands = stands_below b node gone here loses leaves below x part none last_is in
+      rw (sub-one (suc (suc below))) (record {
+        inner = omega arith;
+        part = part_lowered b node gone here loses leaves below x part none last_is;
+        kind = rw stands.here stands.kind;
+        on = lowered_on b node gone here loses leaves below x part none last_is;
+      })

@@ -1,74 +1,77 @@
 -- A removal in the leaf that a key belongs to, seen from the node where its way starts.
-use Rattle.std.proofs.Common.{◌≡◌, ℕ, zero, suc, ◌-◌, ◌<◌, Bool, [], ◌∷◌, length, None, refl, sym, ◌∙◌, arith, sub-one, Ordering}
-use Rattle.tree_model.proofs.Common.{IsTotalOrder, IsAscending, pair_at, without}
-use Rattle.tree_array.specs.declared.answers.RemoveResult.{RemoveResult}
-use Rattle.tree_array.specs.declared.answers.RemoveResult.TheVariants.{Success, Retired, Fail}
-use Rattle.tree_node.proofs.Common.{get, TreeArenas, IsPart, Replaces, HasChildFor, IsRetired, Stands, walk}
-use Rattle.tree_model.proofs.Lengths.{without_present}
-use Rattle.tree_descent.specs.Ways.{IsOnWay}
-use Rattle.tree_node.proofs.ChildChanges.{child_part}
-use Rattle.tree_node.proofs.Children.{walk-leaf}
-use Rattle.tree_node.proofs.Walks.{found_in_child}
+use Rattle.tree_remove.proofs.Common.{Bool, Fail, HasChildFor, HasOnlyRetired, IsAscending, IsOnWay, IsPart, IsRetired, IsSome, IsTotalOrder, LeadsTo, None, Ordering, RemoveResult, RemovesUnder}
+use Rattle.tree_remove.proofs.Common.{Replaces, Retired, Stands, TreeArenas, [], arith, child_part, found_in_child, get, leaf_there, length, pair_at, refl, replaces_refl, sub-one, suc, sym}
+use Rattle.tree_remove.proofs.Common.{walk, walk-leaf, walk-retired, without, without_present, zero, ℕ, ◌-◌, ◌<◌, ◌∙◌, ◌∷◌, ◌≡◌}
 use Rattle.tree_descent.proofs.Ways.{part_on_way}
-use Rattle.tree_clean_up.specs.CleanUps.{HasOnlyRetired}
-use Rattle.tree_remove.specs.Removes.{RemovesUnder}
-use Rattle.tree_remove.proofs.NodeRemovals.{fails_above, fails_retired, settled_above, succeeds_above}
+use Rattle.tree_remove.proofs.NodeRemovals.{settled_above, stays_above}
 
 module _ {K V : Type 0} {LEN : ℕ} {cmp : K → K → Ordering} (o : IsTotalOrder cmp) (a : TreeArenas K V LEN) (key : K) (leaf : ℕ) where
-  found : (steps : ℕ) (id node : ℕ) → IsPart cmp (suc steps) a id → IsOnWay cmp key steps a id node → HasChildFor cmp key (get a.nodes node) leaf → pair_at cmp (walk (suc steps) a id) key ≡ pair_at cmp (walk 0 a leaf) key
-  found zero id node part way which = found_in_child o 0 a None id None part.stands key leaf (rw way which)
-  found (suc steps) id node part way which =
-      found_in_child o (suc steps) a None id None part.stands key way.0 way.1 ∙ found steps way.0 node (child_part o (suc steps) a id way.0 key part way.1 None None part.stands) way.2 which
-
   -- the leaf has the pair that the part has
-  pub found_on_way : (level : ℕ) → 0 < level → (id node : ℕ) → IsPart cmp level a id → IsOnWay cmp key (level - 1) a id node → HasChildFor cmp key (get a.nodes node) leaf → pair_at cmp (walk level a id) key ≡ pair_at cmp (walk 0 a leaf) key
+  pub found_on_way : (level : ℕ) → 0 < level → (id node : ℕ) → IsPart cmp level a id → IsOnWay cmp key (level - 1) a id node
+      → HasChildFor cmp key (get a.nodes node) leaf → pair_at cmp (walk level a id) key ≡ pair_at cmp (walk 0 a leaf) key
   found_on_way zero deep id node part way which = absurd (omega (arith, deep))
-  found_on_way (suc level) deep id node part way which = found level id node part (rw sub-one at way) which
+  found_on_way (suc zero) deep id node part way which = found_in_child o 0 a None id None part.stands key leaf (rw way which)
+  found_on_way (suc (suc steps)) deep id node part way which =
+      let on : IsOnWay cmp key (suc steps) a id node = rw sub-one at way in
+      found_in_child o (suc steps) a None id None part.stands key on.0 on.1
+      ∙ found_on_way (suc steps) (omega arith) on.0 node (child_part o (suc steps) a id on.0 key part on.1 None None part.stands) (rw sub-one on.2) which
 
   -- and is a part
-  pub leaf_on_way : (level : ℕ) → 0 < level → (id node : ℕ) → IsPart cmp level a id → IsOnWay cmp key (level - 1) a id node → HasChildFor cmp key (get a.nodes node) leaf → IsPart cmp 0 a leaf
+  pub leaf_on_way : (level : ℕ) → 0 < level → (id node : ℕ) → IsPart cmp level a id → IsOnWay cmp key (level - 1) a id node
+      → HasChildFor cmp key (get a.nodes node) leaf → IsPart cmp 0 a leaf
   leaf_on_way zero deep id node part way which = absurd (omega (arith, deep))
   leaf_on_way (suc level) deep id node part way which =
       let over = part_on_way o a key level id node part (rw sub-one at way) in
       child_part o 0 a node leaf key over which None None over.stands
 
-module _ {K V : Type 0} {LEN : ℕ} {cmp : K → K → Ordering} (o : IsTotalOrder cmp) (Says : V → Bool → Type 0) (old new : TreeArenas K V LEN) (key : K) where
-  -- a leaf of two pairs or more has one left
-  pub not_emptied : (leaf : ℕ) (result : RemoveResult) → IsPart cmp 0 old leaf → 1 < length (walk 0 old leaf) → RemovesUnder cmp Says 0 old new leaf result key → result ≡ Retired → ⊥
-  not_emptied leaf Success part many removes is = absurd (cc)
-  not_emptied leaf Fail part many removes is = absurd (cc)
-  not_emptied leaf Retired part many removes is =
-      let s : Stands cmp 0 old None leaf None = part.stands in
-      let ascending : IsAscending cmp (walk 0 old leaf) = rw (walk-leaf old leaf s.leaf s.here) s.ascending in
-      let one = without_present o (walk 0 old leaf) key ascending (rw removes.pairs.0.was refl) in
-      let none : without cmp (walk 0 old leaf) key ≡ [] = sym removes.pairs.0.left ∙ removes.pairs.1 in
-      omega (arith, many, rw none at one)
+-- the leaf that a way leads to is a part, which is there, and has the pair that the part has
+pub record IsLedTo {K V : Type 0} {LEN : ℕ} (cmp : K → K → Ordering) (key : K) (level : ℕ) (a : TreeArenas K V LEN) (id leaf : ℕ) : Type 0 where
+  pub part : IsPart cmp 0 a leaf
+  pub there : IsSome (get a.leaves leaf)
+  pub found : pair_at cmp (walk level a id) key ≡ pair_at cmp (walk 0 a leaf) key
 
-  above : (result : RemoveResult) → (result ≡ Retired → ⊥) → (level : ℕ) (id child : ℕ) → IsPart cmp (suc level) old id → HasChildFor cmp key (get old.nodes id) child
-      → RemovesUnder cmp Says level old new child result key → RemovesUnder cmp Says (suc level) old new id result key
-  above Success stays level id child part which removes = succeeds_above o Says level old new id child key part which removes
-  above Fail stays level id child part which removes = fails_above o Says level old new id child key part which removes
-  above Retired stays level id child part which removes = absurd (stays refl)
+pub led_to : {K V : Type 0} {LEN : ℕ} {cmp : K → K → Ordering} (o : IsTotalOrder cmp) (key : K) (level : ℕ) → 0 < level
+    → (a : TreeArenas K V LEN) (id node leaf : ℕ) → LeadsTo cmp key level a id node leaf → IsLedTo cmp key level a id leaf
+led_to o key level deep a id node leaf way =
+    let part = leaf_on_way o a key leaf level deep id node way.0 way.1 way.2 in
+    record { part = part; there = leaf_there a leaf None None part.stands; found = found_on_way o a key leaf level deep id node way.0 way.1 way.2 }
 
-  module _ (leaf : ℕ) (result : RemoveResult) (stays : result ≡ Retired → ⊥) (removes : RemovesUnder cmp Says 0 old new leaf result key) where
-    on_way : (steps : ℕ) (id node : ℕ) → IsPart cmp (suc steps) old id → IsOnWay cmp key steps old id node → HasChildFor cmp key (get old.nodes node) leaf → RemovesUnder cmp Says (suc steps) old new id result key
-    on_way zero id node part way which = above result stays 0 id leaf part (rw way which) removes
-    on_way (suc steps) id node part way which =
-        above result stays (suc steps) id way.0 part way.1 (on_way steps way.0 node (child_part o (suc steps) old id way.0 key part way.1 None None part.stands) way.2 which)
+-- a leaf of two pairs or more has one left
+pub not_emptied : {K V : Type 0} {LEN : ℕ} {cmp : K → K → Ordering} (o : IsTotalOrder cmp) {Says : V → Bool → Type 0}
+    {old new : TreeArenas K V LEN} {key : K} {leaf : ℕ} → IsPart cmp 0 old leaf → 1 < length (walk 0 old leaf)
+    → RemovesUnder cmp Says 0 old new leaf Retired key → ⊥
+not_emptied {cmp = cmp} o {old = old} {key = key} {leaf = leaf} part many removes =
+    let s : Stands cmp 0 old None leaf None = part.stands in
+    let ascending : IsAscending cmp (walk 0 old leaf) = rw (walk-leaf old leaf s.leaf s.here) s.ascending in
+    let one = without_present o (walk 0 old leaf) key ascending (rw removes.pairs.0.was refl) in
+    let none : without cmp (walk 0 old leaf) key ≡ [] = sym removes.pairs.0.left ∙ removes.pairs.1 in
+    omega (arith, many, rw none at one)
 
-    -- a removal that leaves the leaf a pair is one under the node
-    pub removes_on_way : (level : ℕ) → 0 < level → (id node : ℕ) → IsPart cmp level old id → IsOnWay cmp key (level - 1) old id node → HasChildFor cmp key (get old.nodes node) leaf → RemovesUnder cmp Says level old new id result key
-    removes_on_way zero deep id node part way which = absurd (omega (arith, deep))
-    removes_on_way (suc level) deep id node part way which = on_way level id node part (rw sub-one at way) which
+module _ {K V : Type 0} {LEN : ℕ} {cmp : K → K → Ordering} (o : IsTotalOrder cmp) (Says : V → Bool → Type 0) {old new : TreeArenas K V LEN} {key : K}
+    {leaf : ℕ} {result : RemoveResult}
+    (stays : result ≡ Retired → ⊥) (removes : RemovesUnder cmp Says 0 old new leaf result key) where
+  -- a removal that leaves the leaf a pair is one under the node
+  pub removes_on_way : (level : ℕ) → 0 < level → (id node : ℕ) → LeadsTo cmp key level old id node leaf → RemovesUnder cmp Says level old new id result key
+  removes_on_way zero deep id node leads = absurd (omega (arith, deep))
+  removes_on_way (suc zero) deep id node leads = stays_above o Says leaf key leads.0 (rw leads.1 leads.2) result stays removes
+  removes_on_way (suc (suc steps)) deep id node leads =
+      let on : IsOnWay cmp key (suc steps) old id node = rw sub-one at leads.1 in
+      let below = child_part o (suc steps) old id on.0 key leads.0 on.1 None None leads.0.stands in
+      stays_above o Says on.0 key leads.0 on.1 result stays (removes_on_way (suc steps) (omega arith) on.0 node (below, rw sub-one on.2, leads.2))
 
 -- a leaf node whose leaf was left a pair isn't left with a retired leaf alone
-pub settled_on_way : {K V : Type 0} {LEN : ℕ} {cmp : K → K → Ordering} (o : IsTotalOrder cmp) (key : K) (old new : TreeArenas K V LEN) (level id node leaf : ℕ) → level ≡ 1 → IsPart cmp level old id → IsOnWay cmp key (level - 1) old id node
-    → HasChildFor cmp key (get old.nodes node) leaf → Replaces 0 old new (leaf ∷ []) (leaf ∷ []) → (IsRetired 0 new leaf → ⊥) → HasOnlyRetired new id → ⊥
-settled_on_way {cmp = cmp} o key old new level id node leaf one part way which replaces live =
-    let same : id ≡ node = rw one at way in
-    settled_above o key old new id leaf (rw one at part) (rw same which) replaces live
+pub settled_on_way : {K V : Type 0} {LEN : ℕ} {cmp : K → K → Ordering} (o : IsTotalOrder cmp) (key : K) (old new : TreeArenas K V LEN) (level id node leaf : ℕ)
+    → level ≡ 1 → LeadsTo cmp key level old id node leaf → Replaces 0 old new (leaf ∷ []) (leaf ∷ []) → (IsRetired 0 new leaf → ⊥) → HasOnlyRetired new id → ⊥
+settled_on_way o key old new level id node leaf one leads replaces live =
+    let same : id ≡ node = rw one at leads.1 in
+    settled_above o key old new id leaf (rw one at leads.0) (rw same leads.2) replaces live
 
 -- what is retired has no key
-pub fails_at : {K V : Type 0} {LEN : ℕ} (cmp : K → K → Ordering) (Says : V → Bool → Type 0) (key : K) (level : ℕ) → 0 < level → (a : TreeArenas K V LEN) (id : ℕ) → IsRetired level a id → RemovesUnder cmp Says level a a id Fail key
-fails_at cmp Says key zero deep a id retired = absurd (omega (arith, deep))
-fails_at cmp Says key (suc level) deep a id retired = fails_retired cmp Says key level a id retired
+pub fails_at : {K V : Type 0} {LEN : ℕ} (cmp : K → K → Ordering) (Says : V → Bool → Type 0) (key : K) (level : ℕ) → 0 < level
+    → (a : TreeArenas K V LEN) (id : ℕ) → IsRetired level a id → RemovesUnder cmp Says level a a id Fail key
+fails_at cmp Says key level deep a id retired = record {
+  pairs = (λ pair is. absurd (let found = rw (walk-retired level a id retired) at is in cc), refl);
+  leaves = record { leaves = λ n. refl; nodes = λ n. refl };
+  replaces = replaces_refl level a (id ∷ []);
+  spare = omega arith;
+}

@@ -1,9 +1,7 @@
 -- What a root leaves that gives its place to its only child, again and again.
 use Rattle.std.specs.Prelude.{◌≡◌, ◌⊎◌, ℕ, ◌+◌, ◌<◌, Option, None, Some, IsSome, ⊤}
-use Rattle.std.specs.declared.cmp.Ordering.{Ordering}
-use Rattle.slab.specs.Slab.{get}
-use Rattle.tree_leaf.specs.Counting.{times, uses}
-use Rattle.tree_node.specs.Arenas.{TreeArenas}
+use Rattle.tree_node.specs.declared.node.Root.{Root}
+use Rattle.tree_node.specs.Arenas.{Ordering, TreeArenas, get, times, uses}
 use Rattle.tree_node.specs.Depth.{HasNoKeyed}
 use Rattle.tree_node.specs.Parts.{IsPart}
 use Rattle.tree_node.specs.Whole.{IsRetiredRoot, leaves_under, nodes_under, walk_under}
@@ -15,11 +13,11 @@ module _ {K V : Type 0} {LEN : ℕ} (cmp : K → K → Ordering) where
   IsRoot arenas id level =
       (0 < level) × ((IsPart cmp level arenas id × (1 < level → HasNoKeyed (get arenas.nodes id) → ⊥)) ⊎ IsRetiredRoot arenas id level)
 
-  abbrev pub IsRootIfAny : TreeArenas K V LEN → Option (ℕ × ℕ) → Type 0
+  abbrev pub IsRootIfAny : TreeArenas K V LEN → Option Root → Type 0
   IsRootIfAny arenas None = ⊤
-  IsRootIfAny arenas (Some root) = IsRoot arenas root.0 root.1
+  IsRootIfAny arenas (Some root) = IsRoot arenas root.id root.level
 
-  pub record LowersRoot (level : ℕ) (old new : TreeArenas K V LEN) (root : ℕ) (result : Option (ℕ × ℕ)) : Type 0 where
+  pub record LowersRoot (level : ℕ) (old new : TreeArenas K V LEN) (root : ℕ) (result : Option Root) : Type 0 where
     pub stands : IsRootIfAny new result
     -- the same leaves stand under it, in turn, with the same pairs
     pub leaves : new.leaves ≡ old.leaves

@@ -1,12 +1,11 @@
 -- What a removal under a number answers and leaves. `Says` tells what the condition answers of a value.
+-- The words of the layers below are passed on to the other files here.
 use Rattle.std.specs.Prelude.{◌≡◌, ℕ, ◌≤◌, Bool, true, false, List, [], ◌∷◌, Some}
-use Rattle.std.specs.declared.cmp.Ordering.{Ordering}
-use Rattle.tree_array.specs.declared.answers.RemoveResult.{RemoveResult}
-use Rattle.tree_array.specs.declared.answers.RemoveResult.TheVariants.{Success, Retired, Fail}
-use Rattle.tree_model.specs.Pairs.{pair_at, without}
-use Rattle.slab.specs.Slab.{get}
-use Rattle.tree_node.specs.Arenas.{TreeArenas}
-use Rattle.tree_node.specs.Tree.{IsOfLevel, IsRetired, walk}
+pub use Rattle.tree_array.specs.declared.answers.RemoveResult.{RemoveResult}
+pub use Rattle.tree_array.specs.declared.answers.RemoveResult.TheVariants.{Success, Retired, Fail}
+pub use Rattle.tree_model.specs.Pairs.{IsAbsent, pair_at, without}
+pub use Rattle.tree_node.specs.Arenas.{LeafOf, Ordering, TreeArenas, arrival, get}
+pub use Rattle.tree_node.specs.Tree.{IsOfLevel, IsRetired, walk}
 use Rattle.tree_node.specs.Parts.{KeepsBounds, Replaces, Unchanged}
 use Rattle.tree_node.specs.Shape.{spare}
 

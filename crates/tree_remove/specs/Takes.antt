@@ -1,15 +1,9 @@
 -- A pair by its place, and what a removal leaves that took the last pair of a leaf.
 use Rattle.std.specs.Prelude.{◌≡◌, ℕ, Option, None, Some}
-use Rattle.std.specs.declared.cmp.Ordering.{Ordering}
-use Rattle.slab.specs.Slab.{get}
-use Rattle.tree_array.specs.Arrivals.{arrival}
-use Rattle.tree_array.specs.declared.answers.RemoveResult.TheVariants.{Retired}
+use Rattle.tree_clean_up.specs.CleanUps.{HasOnlyRetired}
 use Rattle.tree_descent.specs.Ways.{LeadsTo}
-use Rattle.tree_leaf.specs.declared.leaf.LeafOf.{LeafOf}
-use Rattle.tree_model.specs.Pairs.{pair_at}
-use Rattle.tree_node.specs.Arenas.{TreeArenas}
-use Rattle.tree_node.specs.Tree.{walk}
-use Rattle.tree_remove.specs.Removes.{RemovesUnder, surely}
+use Rattle.tree_remove.specs.Removes.{LeafOf, Ordering, RemoveResult, RemovesUnder, Retired, Success, TreeArenas}
+use Rattle.tree_remove.specs.Removes.{arrival, get, pair_at, surely, walk}
 
 -- the pair in a slot of a leaf
 abbrev pub stored_at : {K V : Type 0} {LEN : ℕ} → Option (LeafOf K V LEN) → ℕ → Option (K × V)
@@ -34,3 +28,8 @@ module _ {K V : Type 0} {LEN : ℕ} (cmp : K → K → Ordering) (level : ℕ) w
   -- it did so from some arenas
   pub data IsEmptied (now : TreeArenas K V LEN) (id : ℕ) (key : K) : Type 0 where
     emptied_from : (before : TreeArenas K V LEN) → Emptied before now id key → IsEmptied now id key
+
+  -- that leaf is gone, and each node without a child; a leaf node isn't left with a retired leaf alone
+  pub record DropsEmptied (before new : TreeArenas K V LEN) (id : ℕ) (result : RemoveResult) (key : K) : Type 0 where
+    pub removes : RemovesUnder cmp surely level before new id result key
+    pub settled : level ≡ 1 → result ≡ Success → HasOnlyRetired new id → ⊥

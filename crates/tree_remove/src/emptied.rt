@@ -1,9 +1,7 @@
 //! What a removal leaves that took the last pair of a leaf: the leaf is dropped, and each node that is left without a child.
-ghost use Rattle.std.specs.Prelude.{◌≡◌, ◌<◌};
-ghost use Rattle.tree_clean_up.specs.CleanUps.{HasOnlyRetired};
+ghost use Rattle.std.specs.Prelude.{◌<◌};
 ghost use Rattle.tree_node.specs.Arenas.{TreeArenas};
-ghost use Rattle.tree_remove.specs.Removes.{RemovesUnder, surely};
-ghost use Rattle.tree_remove.specs.Takes.{Emptied, IsEmptied};
+ghost use Rattle.tree_remove.specs.Takes.{DropsEmptied, Emptied, IsEmptied};
 
 use tree_array::array::RemoveResult;
 use tree_clean_up::{drop_child_node, drop_keyed_leaf, retire_if_empty};
@@ -23,9 +21,8 @@ pub fn drop_emptied<K: Ord + Drop, V: Drop, const LEN: usize>(
 ) -> RemoveResult
     requires node { 0 < level }
     requires emptied { IsEmptied K.cmp level arenas.old id key.now }
-    ensures removes { (before : TreeArenas K V LEN) → Emptied K.cmp level before arenas.old id key.now
-        → RemovesUnder K.cmp surely level before arenas.new id result key.now }
-    ensures settled { level ≡ 1 → result ≡ RemoveResult.Success → HasOnlyRetired arenas.new id → ⊥ }
+    ensures { (before : TreeArenas K V LEN) → Emptied K.cmp level before arenas.old id key.now
+        → DropsEmptied K.cmp level before arenas.new id result key.now }
 {
     match arenas.node(id) {
         NodeOf::Leaf(node) => {

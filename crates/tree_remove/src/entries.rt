@@ -1,12 +1,9 @@
 //! Where a pair is stored, and how it is taken out by its place.
 ghost use Rattle.std.specs.Prelude.{◌≡◌, ◌⊎◌, ◌<◌, MatchOption, Some};
 ghost use Rattle.std.specs.declared.cmp.Ordering.TheVariants.{Equal};
-ghost use Rattle.slab.specs.Slab.{get};
 ghost use Rattle.tree_clean_up.specs.CleanUps.{HasOnlyRetired};
-ghost use Rattle.tree_model.specs.Pairs.{IsAbsent, pair_at};
 ghost use Rattle.tree_node.specs.Parts.{IsPart};
-ghost use Rattle.tree_node.specs.Tree.{IsRetired, walk};
-ghost use Rattle.tree_remove.specs.Removes.{RemovesUnder, surely};
+ghost use Rattle.tree_remove.specs.Removes.{IsAbsent, IsRetired, RemovesUnder, get, pair_at, surely, walk};
 ghost use Rattle.tree_remove.specs.Takes.{IsEntry, stored_at};
 
 use crate::emptied::drop_emptied;

@@ -1,14 +1,13 @@
 //! Levels that a tree loses at its root.
 ghost use Rattle.std.specs.Prelude.{◌⊎◌, ◌<◌};
-ghost use Rattle.slab.specs.Slab.{get};
 ghost use Rattle.tree_remove.specs.Lowering.{LowersRoot};
 ghost use Rattle.tree_node.specs.Parts.{IsPart};
-ghost use Rattle.tree_node.specs.Tree.{IsOfLevel, IsRetired};
+ghost use Rattle.tree_remove.specs.Removes.{IsOfLevel, IsRetired, get};
 
 use tree_leaf::arena::NodeId;
-use tree_node::node::{ArenasOf, NodeOf};
+use tree_node::node::{ArenasOf, NodeOf, Root};
 
-/// Returns the root that is left after a removal, and its level.
+/// Returns the root that is left after a removal.
 ///
 /// While the root is an internal node without keyed children, its unbounded child takes its place. A retired internal root
 /// leaves `None`. A root that is a leaf node stays, retired or not. Drops one node for each level that is lost; makes no
@@ -20,7 +19,7 @@ pub fn lower_root_at<K: Ord + Drop, V: Drop, const LEN: usize>(
     arenas: &mut ArenasOf<K, V, LEN>,
     level: usize,
     root: NodeId,
-) -> Option<(NodeId, usize)>
+) -> Option<Root>
     requires node { 0 < level }
     requires part { IsPart K.cmp level arenas.old root ⊎ IsRetired level arenas.old root }
     requires kind { IsOfLevel level (get arenas.old.nodes root) }
@@ -29,11 +28,11 @@ pub fn lower_root_at<K: Ord + Drop, V: Drop, const LEN: usize>(
     match arenas.node(root) {
         NodeOf::Internal(node) => {
             if !node.children.is_empty() {
-                return Some((root, level));
+                return Some(Root { id: root, level });
             }
             lower_from(arenas, level, root)
         }
-        NodeOf::Leaf(_) => Some((root, level)),
+        NodeOf::Leaf(_) => Some(Root { id: root, level }),
     }
 }
 
@@ -43,7 +42,7 @@ fn lower_from<K: Ord + Drop, V: Drop, const LEN: usize>(
     arenas: &mut ArenasOf<K, V, LEN>,
     level: usize,
     top: NodeId,
-) -> Option<(NodeId, usize)>
+) -> Option<Root>
     requires node { 0 < level }
     requires part { IsPart K.cmp level arenas.old top ⊎ IsRetired level arenas.old top }
     requires kind { IsOfLevel level (get arenas.old.nodes top) }
@@ -52,12 +51,12 @@ fn lower_from<K: Ord + Drop, V: Drop, const LEN: usize>(
     match arenas.node(top) {
         NodeOf::Internal(node) => {
             if !node.children.is_empty() {
-                return Some((top, level));
+                return Some(Root { id: top, level });
             }
             let below = node.unbounded_child;
             let _ = arenas.remove_node(top);
             lower_from(arenas, level - 1, below?)
         }
-        NodeOf::Leaf(_) => Some((top, level)),
+        NodeOf::Leaf(_) => Some(Root { id: top, level }),
     }
 }

@@ -2,13 +2,11 @@
 ghost use Rattle.std.specs.Prelude.{◌≡◌, ◌⊎◌, ◌<◌, ◌≤◌, ℕ, true, length, IfErr, IfOk, Ok};
 ghost use Rattle.std.specs.Fn.{FnOnceReturnsAt, FnOnceTakesAt};
 ghost use Rattle.std.specs.Option.{ForSome};
-ghost use Rattle.tree_model.specs.Pairs.{pair_at};
 ghost use Rattle.slab.specs.Slab.{ContainsKey};
 ghost use Rattle.tree_descent.specs.Ways.{LeadsTo};
 ghost use Rattle.tree_clean_up.specs.CleanUps.{HasOnlyRetired};
 ghost use Rattle.tree_node.specs.Parts.{IsPart};
-ghost use Rattle.tree_remove.specs.Removes.{RemovesUnder, removal_told};
-ghost use Rattle.tree_node.specs.Tree.{IsRetired, walk};
+ghost use Rattle.tree_remove.specs.Removes.{IsRetired, RemovesUnder, pair_at, removal_told, walk};
 
 use crate::emptied::drop_emptied;
 use tree_array::array::RemoveResult;

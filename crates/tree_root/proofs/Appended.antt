@@ -1,52 +1,37 @@
 -- What an append to the last leaf comes to.
 use Rattle.std.proofs.Common.{◌≡◌, ◌⊎◌, ℕ, true, false, Option, Some, None, Result, inl, inr, refl, sym, ◌∙◌}
 use Rattle.std.specs.List.{AllByRecursion}
-use Rattle.std.specs.Option.{ForSome}
 use Rattle.std.specs.declared.cmp.Ordering.{Ordering}
 use Rattle.std.specs.declared.cmp.Ordering.TheVariants.{Less}
 use Rattle.std.specs.Cmp.{IsTotalOrder}
 use Rattle.slab.specs.Slab.{get}
 use Rattle.tree_append.specs.Appends.{AppendsUnder, IsLastFor, IsLastLeaf}
+use Rattle.tree_append.proofs.Edges.{no_last}
 use Rattle.tree_array.specs.declared.answers.StoreResult.{StoreResult}
-use Rattle.tree_array.specs.Insertion.{IsFull}
 use Rattle.tree_descent.proofs.Ways.{part_not_retired}
 use Rattle.tree_insert.specs.Inserts.{InsertsUnder, asks_split}
 use Rattle.tree_node.specs.Arenas.{TreeArenas}
-use Rattle.tree_node.specs.declared.node.NodeOf.{NodeOf}
-use Rattle.tree_leaf.specs.declared.leaf.LeafOf.{LeafOf}
-use Rattle.tree_node.specs.Shape.{found_free}
-use Rattle.tree_node.specs.Tree.{IsRetiredNode, Stands}
-use Rattle.tree_node.specs.Whole.{IsRetiredRoot, IsTree}
+use Rattle.tree_node.specs.declared.node.Root.{Root}
+use Rattle.tree_node.specs.Tree.{Stands}
+use Rattle.tree_node.specs.Whole.{IsRetiredRoot, IsTree, root_at}
 use Rattle.tree_node.proofs.Whole.{tree_part}
 use Rattle.tree_root.specs.Lasts.{IsLast, IsLastUnder}
 use Rattle.tree_root.specs.declared.tree.Tree.{Tree}
 use Rattle.tree_root.specs.Trees.{IsWhole, Stores, pairs_of}
 use Rattle.tree_root.proofs.Storing.{stored_under}
-use Rattle.tree_split.specs.Packed.{HasLast}
-use Rattle.tree_split.proofs.Fulls.{none_free}
-
--- a retired node has no last child
-no_last : {K : Type 0} {LEN : ℕ} (slot : Option (NodeOf K LEN)) → IsRetiredNode slot → (child : ℕ) → HasLast slot child → ⊥
-no_last None retired child last = last
-no_last (Some node) retired child last = let both : None ≡ Some child = sym retired.1 ∙ last in cc
-
--- a leaf whose array is full takes no pair
-pub full_slot : {K V : Type 0} {LEN : ℕ} (slot : Option (LeafOf K V LEN)) → ForSome slot (λ leaf. IsFull LEN leaf.array) → found_free slot ≡ 0
-full_slot None full = refl
-full_slot {LEN = LEN} (Some leaf) full = none_free LEN leaf.array (full leaf refl)
 
 module _ {K V : Type 0} {LEN : ℕ} (cmp : K → K → Ordering) (old : Tree K V LEN) (leaf : ℕ) (key : K) where
   -- the root, under which the leaf is the last one for the key
   pub record LastUnderRoot : Type 0 where
     pub level : ℕ
     pub id : ℕ
-    pub root : old.root ≡ Some (id, level)
+    pub root : old.root ≡ Some (root_at id level)
     pub for : IsLastFor cmp level old.arenas id leaf key
 
-  pub last_for_root : (id level : ℕ) → old.root ≡ Some (id, level) → IsWhole cmp old → IsLast old leaf → AllByRecursion (λ p. cmp p.0 key ≡ Less) (pairs_of old) → IsLastFor cmp level old.arenas id leaf key
+  pub last_for_root : (id level : ℕ) → old.root ≡ Some (root_at id level) → IsWhole cmp old → IsLast old leaf → AllByRecursion (λ p. cmp p.0 key ≡ Less) (pairs_of old) → IsLastFor cmp level old.arenas id leaf key
   last_for_root id level is whole last smaller = by_top tree.top.1
     where
-      tree : IsTree cmp old.arenas (Some (id, level))
+      tree : IsTree cmp old.arenas (Some (root_at id level))
       tree = rw is at whole
 
       here : IsLastLeaf level old.arenas id leaf
@@ -59,15 +44,15 @@ module _ {K V : Type 0} {LEN : ℕ} (cmp : K → K → Ordering) (old : Tree K V
   pub last_under : IsWhole cmp old → IsLast old leaf → AllByRecursion (λ p. cmp p.0 key ≡ Less) (pairs_of old) → LastUnderRoot
   last_under whole last smaller = by_root old.root refl
     where
-      by_root : (root : Option (ℕ × ℕ)) → old.root ≡ root → LastUnderRoot
+      by_root : (root : Option Root) → old.root ≡ root → LastUnderRoot
       by_root None is = absurd (rw is at last)
-      by_root (Some root) is = record { level = root.1; id = root.0; root = is; for = last_for_root root.0 root.1 is whole last smaller }
+      by_root (Some root) is = record { level = root.level; id = root.id; root = is; for = last_for_root root.id root.level is whole last smaller }
 
   -- the leaf is the last one still
-  pub last_still : (arenas : TreeArenas K V LEN) (val : V) (id level : ℕ) → old.root ≡ Some (id, level) → AppendsUnder cmp level old.arenas arenas id leaf key val → IsLastUnder arenas old.root leaf
+  pub last_still : (arenas : TreeArenas K V LEN) (val : V) (id level : ℕ) → old.root ≡ Some (root_at id level) → AppendsUnder cmp level old.arenas arenas id leaf key val → IsLastUnder arenas old.root leaf
   last_still arenas val id level root appends = rw root appends.last
 
-  module _ (o : IsTotalOrder cmp) (new : Tree K V LEN) (val : V) (id level : ℕ) (root : old.root ≡ Some (id, level)) (whole : IsWhole cmp old) (for : IsLastFor cmp level old.arenas id leaf key) (same : new.root ≡ old.root) where
+  module _ (o : IsTotalOrder cmp) (new : Tree K V LEN) (val : V) (id level : ℕ) (root : old.root ≡ Some (root_at id level)) (whole : IsWhole cmp old) (for : IsLastFor cmp level old.arenas id leaf key) (same : new.root ≡ old.root) where
     -- the pair is stored in the tree, or refused, as under its root
     pub stored_last : (result : Result (StoreResult K V) (K × V)) → asks_split result ≡ false → InsertsUnder cmp true level old.arenas new.arenas id result key val → Stores cmp true old new key val result
     stored_last result no_split inserts =

@@ -1,7 +1,7 @@
 -- What a removal of a range from a tree comes to.
 use Rattle.std.proofs.Common.{◌≡◌, ◌⊎◌, ℕ, Some, None, inl, inr, refl, Ordering}
 use Rattle.tree_model.proofs.Common.{Bound}
-use Rattle.tree_node.proofs.Common.{get, TreeArenas, IsPart, IsOfLevel, IsRetired, Stands, IsRetiredRoot, IsTree}
+use Rattle.tree_node.proofs.Common.{get, TreeArenas, IsPart, IsOfLevel, IsRetired, Stands, IsRetiredRoot, IsTree, root_at}
 use Rattle.tree_cut.specs.Cuts.{CutsUnder}
 use Rattle.tree_node.proofs.Steps.{part_after}
 use Rattle.tree_node.proofs.Whole.{chain_after, leaves_after, nodes_after, tree_part}
@@ -22,8 +22,8 @@ module _ {K V : Type 0} {LEN : ℕ} (cmp : K → K → Ordering) (low high : Bou
     settled = rw (same, none) tt;
   }
 
-  module _ (id level : ℕ) (was : old.root ≡ Some (id, level)) (whole : IsWhole cmp old) (mid : TreeArenas K V LEN) (gone : ℕ) (cuts : CutsUnder cmp low high level old.arenas mid id gone) where
-    here : IsTree cmp old.arenas (Some (id, level))
+  module _ (id level : ℕ) (was : old.root ≡ Some (root_at id level)) (whole : IsWhole cmp old) (mid : TreeArenas K V LEN) (gone : ℕ) (cuts : CutsUnder cmp low high level old.arenas mid id gone) where
+    here : IsTree cmp old.arenas (Some (root_at id level))
     here = rw was at whole
 
     after : IsPart cmp level old.arenas id → IsPart cmp level mid id

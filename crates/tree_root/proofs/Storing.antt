@@ -4,7 +4,8 @@ use Rattle.tree_model.proofs.Common.{AllByRecursion, IsTotalOrder, IsAbsent, IsP
 use Rattle.tree_model.specs.declared.commands.InsertError.{InsertError}
 use Rattle.tree_array.specs.declared.answers.StoreResult.{StoreResult}
 use Rattle.tree_array.specs.declared.answers.StoreResult.TheVariants.{New, Replaced, Duplicate, Full}
-use Rattle.tree_node.proofs.Common.{get, TreeArenas, IsPart, Unchanged, room, spare, IsRetired, IsRetiredNode, Stands, StandsOrRetired, leaves_at, IsRetiredRoot, IsTree, leaves_under, walk_under}
+use Rattle.tree_node.proofs.Common.{get, TreeArenas, IsPart, Unchanged, room, spare, IsRetired, IsRetiredNode, Stands, StandsOrRetired, leaves_at, IsRetiredRoot, IsTree, leaves_under, walk_under, root_at}
+use Rattle.tree_node.specs.declared.node.Root.{Root}
 use Rattle.std.proofs.lemmas.Bool.{false_from_ne_true}
 use Rattle.tree_descent.proofs.Ways.{part_not_retired}
 use Rattle.tree_insert.specs.Inserts.{Inserts, InsertsUnder, IsNew, asks_split, declined, stores}
@@ -57,7 +58,7 @@ module _ {K V : Type 0} {LEN : ℕ} (cmp : K → K → Ordering) where
   bare_pairs : (tree : Tree K V LEN) → leaves_under tree.arenas.nodes tree.root ≡ [] → pairs_of tree ≡ []
   bare_pairs tree bare = by_root tree.root bare
     where
-      by_root : (root : Option (ℕ × ℕ)) → leaves_under tree.arenas.nodes root ≡ [] → walk_under tree.arenas root ≡ []
+      by_root : (root : Option Root) → leaves_under tree.arenas.nodes root ≡ [] → walk_under tree.arenas root ≡ []
       by_root None none = refl
       by_root (Some root) none = rw none refl
 
@@ -74,7 +75,7 @@ module _ {K V : Type 0} {LEN : ℕ} (cmp : K → K → Ordering) where
 
   module _ (upsert : Bool) (old new : Tree K V LEN) (key : K) (val : V) where
     -- the first pair
-    pub stored_first : (id : ℕ) → leaves_under old.arenas.nodes old.root ≡ [] → new.root ≡ Some (id, 1) → HasOnly cmp new.arenas id key val → IsPacked cmp None 1 new.arenas id → Stores cmp upsert old new key val (Ok New)
+    pub stored_first : (id : ℕ) → leaves_under old.arenas.nodes old.root ≡ [] → new.root ≡ Some (root_at id 1) → HasOnly cmp new.arenas id key val → IsPacked cmp None 1 new.arenas id → Stores cmp upsert old new key val (Ok New)
     stored_first id bare root only packed = record {
       whole = rw root only.tree;
       pairs = rw (bare_pairs old bare) (refl, rw root only.pairs);
@@ -98,10 +99,10 @@ module _ {K V : Type 0} {LEN : ℕ} (cmp : K → K → Ordering) where
     }
 
     -- a pair under the root
-    module _ (id level : ℕ) (result : Result (StoreResult K V) (K × V)) (was : old.root ≡ Some (id, level)) (now : new.root ≡ Some (id, level)) (whole : IsWhole cmp old)
+    module _ (id level : ℕ) (result : Result (StoreResult K V) (K × V)) (was : old.root ≡ Some (root_at id level)) (now : new.root ≡ Some (root_at id level)) (whole : IsWhole cmp old)
         (inserts : IsPart cmp level old.arenas id → InsertsUnder cmp upsert level old.arenas new.arenas id result key val)
         (retired : IsRetired level old.arenas id → (result ≡ Ok (Full key val)) × Unchanged old.arenas new.arenas) where
-      here : IsWhole cmp (record old { root = Some (id, level) })
+      here : IsWhole cmp (record old { root = Some (root_at id level) })
       here = rw was at whole
 
       under : IsTotalOrder cmp → Stands cmp level old.arenas None id None → asks_split result ≡ false → Stores cmp upsert old new key val result
@@ -116,7 +117,7 @@ module _ {K V : Type 0} {LEN : ℕ} (cmp : K → K → Ordering) where
             lowers = omega (arith, ins.lowers, was_spare, is_spare);
             spent = λ so. was_spare ∙ ins.spent so (λ asks. here.top.0);
             first = λ none taken. absurd (omega (arith, here.top.0, ap depth_of was, none));
-            kept = λ so. rw (was, now) (refl, spare_unchanged old.arenas new.arenas (Some (id, level)) (ins.unchanged so), packed_unchanged cmp old.arenas new.arenas (Some (id, level)) (ins.unchanged so));
+            kept = λ so. rw (was, now) (refl, spare_unchanged old.arenas new.arenas (Some (root_at id level)) (ins.unchanged so), packed_unchanged cmp old.arenas new.arenas (Some (root_at id level)) (ins.unchanged so));
             packed = λ so smaller packed. rw now (packed_under_root o upsert old.arenas new.arenas id level key val result stands (rw was at packed) (rw was at smaller) ins so);
           }
 
@@ -147,10 +148,10 @@ module _ {K V : Type 0} {LEN : ℕ} (cmp : K → K → Ordering) where
           kept : Unchanged old.arenas new.arenas → (pairs_of new ≡ pairs_of old) × (spare_of new ≡ spare_of old) × (packed_of cmp new ≡ packed_of cmp old) × IsWhole cmp new
           kept same =
               rw (was, now) (
-                walk_unchanged old.arenas new.arenas (Some (id, level)) same,
-                spare_unchanged old.arenas new.arenas (Some (id, level)) same,
-                packed_unchanged cmp old.arenas new.arenas (Some (id, level)) same,
-                tree_unchanged old.arenas new.arenas (Some (id, level)) same here,
+                walk_unchanged old.arenas new.arenas (Some (root_at id level)) same,
+                spare_unchanged old.arenas new.arenas (Some (root_at id level)) same,
+                packed_unchanged cmp old.arenas new.arenas (Some (root_at id level)) same,
+                tree_unchanged old.arenas new.arenas (Some (root_at id level)) same here,
               )
 
           by_top : (Stands cmp level old.arenas None id None ⊎ IsRetiredRoot old.arenas id level) → NoRoom k v
@@ -214,25 +215,25 @@ module _ {K V : Type 0} {LEN : ℕ} (cmp : K → K → Ordering) where
   }
 
   -- what is known of the root of a tree
-  pub part_or_retired : (a : TreeArenas K V LEN) (id level : ℕ) → IsTree cmp a (Some (id, level)) → IsPart cmp level a id ⊎ IsRetired level a id
+  pub part_or_retired : (a : TreeArenas K V LEN) (id level : ℕ) → IsTree cmp a (Some (root_at id level)) → IsPart cmp level a id ⊎ IsRetired level a id
   part_or_retired a id level tree = by_top tree.top.1
     where
       by_top : (Stands cmp level a None id None ⊎ IsRetiredRoot a id level) → IsPart cmp level a id ⊎ IsRetired level a id
       by_top (inl stands) = inl (tree_part a id level tree stands)
       by_top (inr gone) = inr (rw gone.0 gone.1)
 
-  pub stands_or_retired : (a : TreeArenas K V LEN) (id level : ℕ) → IsTree cmp a (Some (id, level)) → StandsOrRetired cmp level a id
+  pub stands_or_retired : (a : TreeArenas K V LEN) (id level : ℕ) → IsTree cmp a (Some (root_at id level)) → StandsOrRetired cmp level a id
   stands_or_retired a id level tree = by_top tree.top.1
     where
       by_top : (Stands cmp level a None id None ⊎ IsRetiredRoot a id level) → StandsOrRetired cmp level a id
       by_top (inl stands) = inl stands
       by_top (inr gone) = inr (rw gone.0 gone.1)
 
-  pub root_there : (a : TreeArenas K V LEN) (id level : ℕ) → IsTree cmp a (Some (id, level)) → IsSome (get a.nodes id)
+  pub root_there : (a : TreeArenas K V LEN) (id level : ℕ) → IsTree cmp a (Some (root_at id level)) → IsSome (get a.nodes id)
   root_there a id level tree = node_at cmp a id level tree.top.0 (stands_or_retired a id level tree)
 
   -- a root without a child has no leaf
-  pub childless_root : (a : TreeArenas K V LEN) (id level : ℕ) → IsTree cmp a (Some (id, level)) → IsRetiredNode (get a.nodes id) → leaves_at level a.nodes id ≡ []
+  pub childless_root : (a : TreeArenas K V LEN) (id level : ℕ) → IsTree cmp a (Some (root_at id level)) → IsRetiredNode (get a.nodes id) → leaves_at level a.nodes id ≡ []
   childless_root a id level tree retired = by_level level tree.top.0
     where
       by_level : (level : ℕ) → 0 < level → leaves_at level a.nodes id ≡ []
@@ -240,7 +241,7 @@ module _ {K V : Type 0} {LEN : ℕ} (cmp : K → K → Ordering) where
       by_level (suc level) deep = rw (no_children (get a.nodes id) retired).1 refl
 
   -- and one with a child stands
-  pub root_part : (a : TreeArenas K V LEN) (id level : ℕ) → IsTree cmp a (Some (id, level)) → (IsRetiredNode (get a.nodes id) → ⊥) → IsPart cmp level a id
+  pub root_part : (a : TreeArenas K V LEN) (id level : ℕ) → IsTree cmp a (Some (root_at id level)) → (IsRetiredNode (get a.nodes id) → ⊥) → IsPart cmp level a id
   root_part a id level tree kept = by_top tree.top.1
     where
       by_top : (Stands cmp level a None id None ⊎ IsRetiredRoot a id level) → IsPart cmp level a id
@@ -248,7 +249,7 @@ module _ {K V : Type 0} {LEN : ℕ} (cmp : K → K → Ordering) where
       by_top (inr gone) = absurd (kept gone.1)
 
   -- where it has no room, it has no room as a part
-  pub full_root : (a : TreeArenas K V LEN) (id level : ℕ) → IsTree cmp a (Some (id, level)) → (IsRetiredNode (get a.nodes id) → ⊥) → IsRetired level a id ⊎ (room level a id ≡ 0) → IsPart cmp level a id × (room level a id ≡ 0)
+  pub full_root : (a : TreeArenas K V LEN) (id level : ℕ) → IsTree cmp a (Some (root_at id level)) → (IsRetiredNode (get a.nodes id) → ⊥) → IsRetired level a id ⊎ (room level a id ≡ 0) → IsPart cmp level a id × (room level a id ≡ 0)
   full_root a id level tree kept full = (root_part a id level tree kept, by_level level tree.top.0 full)
     where
       by_level : (level : ℕ) → 0 < level → IsRetired level a id ⊎ (room level a id ≡ 0) → room level a id ≡ 0
@@ -257,14 +258,14 @@ module _ {K V : Type 0} {LEN : ℕ} (cmp : K → K → Ordering) where
       by_level (suc level) deep (inr none) = none
 
   -- the root was split under a new one, and then the pair was inserted there
-  module _ (upsert : Bool) (old mid new : Tree K V LEN) (key : K) (val : V) (result : Result (StoreResult K V) (K × V)) (root top depth : ℕ) (was : old.root ≡ Some (root, depth))
-      (between : mid.root ≡ Some (top, suc depth)) (now : new.root ≡ Some (top, suc depth)) (whole : IsWhole cmp old) (raised : RaisesRoot cmp depth old.arenas mid.arenas root top)
+  module _ (upsert : Bool) (old mid new : Tree K V LEN) (key : K) (val : V) (result : Result (StoreResult K V) (K × V)) (root top depth : ℕ) (was : old.root ≡ Some (root_at root depth))
+      (between : mid.root ≡ Some (root_at top (suc depth))) (now : new.root ≡ Some (root_at top (suc depth))) (whole : IsWhole cmp old) (raised : RaisesRoot cmp depth old.arenas mid.arenas root top)
       (inserts : IsPart cmp (suc depth) mid.arenas top → InsertsUnder cmp upsert (suc depth) mid.arenas new.arenas top result key val)
       (retired : IsRetired (suc depth) mid.arenas top → (result ≡ Ok (Full key val)) × Unchanged mid.arenas new.arenas) where
-    here_before : IsTree cmp old.arenas (Some (root, depth))
+    here_before : IsTree cmp old.arenas (Some (root_at root depth))
     here_before = rw was at whole
 
-    pub raised_whole : IsTree cmp mid.arenas (Some (top, suc depth))
+    pub raised_whole : IsTree cmp mid.arenas (Some (root_at top (suc depth)))
     raised_whole = tree_raised old.arenas mid.arenas root top depth here_before raised
 
     pub takes_it : asks_split result ≡ false

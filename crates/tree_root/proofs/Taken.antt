@@ -3,7 +3,8 @@ use Rattle.std.proofs.Common.{◌≡◌, ◌⊎◌, ℕ, zero, suc, ◌<◌, ◌
 use Rattle.tree_model.proofs.Common.{pair_at}
 use Rattle.tree_array.specs.declared.answers.RemoveResult.{RemoveResult}
 use Rattle.tree_array.specs.declared.answers.RemoveResult.TheVariants.{Success, Retired, Fail}
-use Rattle.tree_node.proofs.Common.{get, TreeArenas, IsPart, IsOfLevel, IsRetired, Stands, leaves_at, walk, spare, IsRetiredRoot, IsTree, walk_under}
+use Rattle.tree_node.proofs.Common.{get, TreeArenas, IsPart, IsOfLevel, IsRetired, Stands, leaves_at, walk, spare, IsRetiredRoot, IsTree, walk_under, root_at}
+use Rattle.tree_node.specs.declared.node.Root.{Root}
 use Rattle.tree_remove.specs.Lowering.{LowersRoot}
 use Rattle.tree_remove.specs.Removes.{RemovesUnder, TakesOut, removal_told}
 use Rattle.tree_remove.specs.Takes.{IsEntry, stored_at}
@@ -32,8 +33,8 @@ module _ {K V : Type 0} {LEN : ℕ} (cmp : K → K → Ordering) (Says : V → B
     kept = λ so. rw same (refl, refl, refl);
   }
 
-  module _ (id level : ℕ) (was : old.root ≡ Some (id, level)) (whole : IsWhole cmp old) where
-    here : IsTree cmp old.arenas (Some (id, level))
+  module _ (id level : ℕ) (was : old.root ≡ Some (root_at id level)) (whole : IsWhole cmp old) where
+    here : IsTree cmp old.arenas (Some (root_at id level))
     here = rw was at whole
 
     -- nothing was removed, and nothing has changed
@@ -47,7 +48,7 @@ module _ {K V : Type 0} {LEN : ℕ} (cmp : K → K → Ordering) (Says : V → B
 
     -- the pair went, and then the root was lowered
     module _ (mid : TreeArenas K V LEN) (result : RemoveResult) (gone : TakesOut cmp Says (walk level old.arenas id) key (walk level mid id)) (r : RemovesUnder cmp Says level old.arenas mid id result key)
-        (spare_mid : (spare_under old.arenas (Some (id, level)) ≤ spare_under mid (Some (id, level))) ⊎ (leaves_at level mid.nodes id ≡ [])) (lowers : LowersRoot cmp level mid new.arenas id new.root) where
+        (spare_mid : (spare_under old.arenas (Some (root_at id level)) ≤ spare_under mid (Some (root_at id level))) ⊎ (leaves_at level mid.nodes id ≡ [])) (lowers : LowersRoot cmp level mid new.arenas id new.root) where
       pub lowered : Takes cmp Says old new key true
       lowered = record {
         whole = tree_lowered mid new.arenas id level new.root (nodes_after old.arenas mid id level here r.replaces) (leaves_after old.arenas mid id level here r.replaces) (chain_after old.arenas mid id level here r.replaces) lowers;
@@ -61,7 +62,7 @@ module _ {K V : Type 0} {LEN : ℕ} (cmp : K → K → Ordering) (Says : V → B
 
     -- the spare of the part after the removal
     pub spare_kept : (mid : TreeArenas K V LEN) → Stands cmp level old.arenas None id None → Stands cmp level mid None id None → spare level old.arenas id ≤ spare level mid id
-        → spare_under old.arenas (Some (id, level)) ≤ spare_under mid (Some (id, level))
+        → spare_under old.arenas (Some (root_at id level)) ≤ spare_under mid (Some (root_at id level))
     spare_kept mid before after spares = rw (spare_standing cmp old.arenas id level before, spare_standing cmp mid id level after) spares
 
     -- a retired root has no leaf
@@ -96,7 +97,7 @@ module _ {K V : Type 0} {LEN : ℕ} (cmp : K → K → Ordering) (Says : V → B
     -- it went, and the root stays
     taken_beside : new.root ≡ old.root → RemovesUnder cmp Says level old.arenas new.arenas id Success key → Takes cmp Says old new key true
     taken_beside root r =
-        let still : new.root ≡ Some (id, level) = root ∙ was in
+        let still : new.root ≡ Some (root_at id level) = root ∙ was in
         let part = still_part new.arenas r in
         record {
           whole = rw still (tree_after old.arenas new.arenas id level here r.replaces (here.top.0, inl part.stands));
@@ -149,6 +150,6 @@ module _ {K V : Type 0} {LEN : ℕ} {cmp : K → K → Ordering} (level : ℕ) (
 pub stored_found : {K V : Type 0} {LEN : ℕ} (cmp : K → K → Ordering) (tree : Tree K V LEN) (place : EntryPlace) (pair : K × V) → IsStored cmp tree place pair → pair_at cmp (pairs_of tree) pair.0 ≡ Some pair
 stored_found cmp tree place pair stored = by_root tree.root stored
   where
-    by_root : (root : Option (ℕ × ℕ)) → IsStoredUnder cmp tree.arenas root place pair → pair_at cmp (walk_under tree.arenas root) pair.0 ≡ Some pair
+    by_root : (root : Option Root) → IsStoredUnder cmp tree.arenas root place pair → pair_at cmp (walk_under tree.arenas root) pair.0 ≡ Some pair
     by_root None stored = absurd stored
     by_root (Some root) stored = stored.found

@@ -19,11 +19,12 @@ use Rattle.tree_model.specs.Pairs.{IsAbsent, IsAscending, above, below, pair_at,
 use Rattle.tree_model.proofs.Ascending.{IsAscending-put}
 use Rattle.tree_model.proofs.LookUps.{equal_from_test, pair_at-put, same_look_ups}
 use Rattle.tree_node.specs.declared.node.NodeOf.{NodeOf}
+use Rattle.tree_node.specs.declared.node.Root.{Root}
 use Rattle.tree_node.specs.Arenas.{TreeArenas}
 use Rattle.tree_node.specs.Parts.{IsPart, KeepsBounds, Replaces, Unchanged}
 use Rattle.tree_node.specs.Shape.{found_spare, leaf_spare, least}
 use Rattle.tree_node.specs.Tree.{HasChildFor, IsAbove, IsUpTo, Stands, keyed, leaves_at, unbounded, walk}
-use Rattle.tree_node.specs.Whole.{IsTree, spare_under}
+use Rattle.tree_node.specs.Whole.{IsTree, root_at, spare_under}
 use Rattle.tree_node.proofs.Between.{put_between}
 use Rattle.tree_node.proofs.ChildChanges.{child_part, new_walk, node_keeps, node_replaces, old_walk}
 use Rattle.tree_node.proofs.Children.{walk-leaf}
@@ -161,9 +162,9 @@ module _ {K V : Type 0} {LEN : ℕ} (cmp : K → K → Ordering) (a : TreeArenas
       by_node later None = refl
       by_node later (Some node) = rw (full_alike level (LEN ^ suc level) (keyed node).entries, by_last later (unbounded node)) refl
 
-  shape_alike : (root : Option (ℕ × ℕ)) → (spare_under now root ≡ spare_under a root) × (packed_under cmp now root ≡ packed_under cmp a root)
+  shape_alike : (root : Option Root) → (spare_under now root ≡ spare_under a root) × (packed_under cmp now root ≡ packed_under cmp a root)
   shape_alike None = (refl, refl)
-  shape_alike (Some root) = (rw (least_alike (leaves_at root.1 a.nodes root.0)) refl, rw (packed_alike root.1 root.0) refl)
+  shape_alike (Some root) = (rw (least_alike (leaves_at root.level a.nodes root.id)) refl, rw (packed_alike root.level root.id) refl)
 
 -- nothing has changed
 pub nothing_set : {K V : Type 0} {LEN : ℕ} (cmp : K → K → Ordering) (old new : Tree K V LEN) → IsWhole cmp old → new.root ≡ old.root → Unchanged old.arenas new.arenas → KeepsKeys cmp old new × (pairs_of new ≡ pairs_of old)
@@ -178,9 +179,9 @@ nothing_set cmp old new whole root same =
     )
 
 -- the leaf that a key leads to, which its search looks through
-module _ {K V : Type 0} {LEN : ℕ} {cmp : K → K → Ordering} (o : IsTotalOrder cmp) (old : Tree K V LEN) (whole : IsWhole cmp old) (key : K) (root level node id : ℕ) (is : old.root ≡ Some (root, level)) (leads : LeadsTo cmp key level old.arenas root node id)
+module _ {K V : Type 0} {LEN : ℕ} {cmp : K → K → Ordering} (o : IsTotalOrder cmp) (old : Tree K V LEN) (whole : IsWhole cmp old) (key : K) (root level node id : ℕ) (is : old.root ≡ Some (root_at root level)) (leads : LeadsTo cmp key level old.arenas root node id)
     (leaf : LeafOf K V LEN) (was : get old.arenas.leaves id ≡ Some leaf) where
-  tree : IsTree cmp old.arenas (Some (root, level))
+  tree : IsTree cmp old.arenas (Some (root_at root level))
   tree = rw is at whole
 
   -- it is absent

@@ -3,6 +3,7 @@ use Rattle.std.specs.Prelude.{ℕ, Option, None, Some, Result, Ok, Err}
 use Rattle.tree_append.specs.Appends.{IsLastLeaf}
 use Rattle.tree_array.specs.declared.answers.StoreResult.{StoreResult}
 use Rattle.tree_array.specs.declared.answers.StoreResult.TheVariants.{New}
+use Rattle.tree_node.specs.declared.node.Root.{Root}
 use Rattle.tree_node.specs.Arenas.{TreeArenas}
 use Rattle.tree_root.specs.declared.tree.Tree.{Tree}
 
@@ -13,9 +14,9 @@ appended (Err pair) = Err pair
 
 module _ {K V : Type 0} {LEN : ℕ} where
   -- this is the last leaf under the root, and it has a pair
-  abbrev pub IsLastUnder : TreeArenas K V LEN → Option (ℕ × ℕ) → ℕ → Type 0
+  abbrev pub IsLastUnder : TreeArenas K V LEN → Option Root → ℕ → Type 0
   IsLastUnder arenas None leaf = ⊥
-  IsLastUnder arenas (Some root) leaf = IsLastLeaf root.1 arenas root.0 leaf
+  IsLastUnder arenas (Some root) leaf = IsLastLeaf root.level arenas root.id leaf
 
   abbrev pub IsLast : Tree K V LEN → ℕ → Type 0
   IsLast tree leaf = IsLastUnder tree.arenas tree.root leaf

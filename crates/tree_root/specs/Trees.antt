@@ -11,6 +11,7 @@ use Rattle.tree_model.specs.declared.commands.InsertError.TheVariants.{Duplicate
 use Rattle.tree_model.specs.Edits.{RemovesIf}
 use Rattle.tree_model.specs.Pairs.{cut}
 use Rattle.tree_insert.specs.Inserts.{Inserts, declined, refused, stores}
+use Rattle.tree_node.specs.declared.node.Root.{Root}
 use Rattle.tree_node.specs.Arenas.{TreeArenas}
 use Rattle.tree_node.specs.Whole.{IsTree, depth_of, leaves_under, spare_under, walk_under}
 use Rattle.tree_split.specs.Packed.{packed_under}
@@ -45,9 +46,9 @@ module _ {K V : Type 0} {LEN : ℕ} where
   KeepsShape cmp old new = (depth_of new.root ≡ depth_of old.root) × (spare_of new ≡ spare_of old) × (packed_of cmp new ≡ packed_of cmp old)
 
   -- the pair is stored at this place
-  abbrev pub IsStoredUnder : (K → K → Ordering) → TreeArenas K V LEN → Option (ℕ × ℕ) → EntryPlace → K × V → Type 0
+  abbrev pub IsStoredUnder : (K → K → Ordering) → TreeArenas K V LEN → Option Root → EntryPlace → K × V → Type 0
   IsStoredUnder cmp arenas None place pair = ⊥
-  IsStoredUnder cmp arenas (Some root) place pair = IsEntry cmp root.1 arenas root.0 place.leaf place.slot pair
+  IsStoredUnder cmp arenas (Some root) place pair = IsEntry cmp root.level arenas root.id place.leaf place.slot pair
 
   abbrev pub IsStored : (K → K → Ordering) → Tree K V LEN → EntryPlace → K × V → Type 0
   IsStored cmp tree place pair = IsStoredUnder cmp tree.arenas tree.root place pair

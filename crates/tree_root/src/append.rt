@@ -1,18 +1,18 @@
 //! Appends to a tree: pairs whose keys are larger than all.
-ghost use Rattle.std.specs.Prelude.{◌≡◌, ℕ, IfOk, None, Some, true};
+ghost use Rattle.std.specs.Prelude.{◌≡◌, ◌++◌, ◌∷◌, [], IfOk, None, true};
 ghost use Rattle.std.specs.List.{AllByRecursion};
 ghost use Rattle.std.specs.Option.{ForSome};
 ghost use Rattle.std.specs.declared.cmp.Ordering.TheVariants.{Less};
 ghost use Rattle.tree_array.specs.Length.{IsLen};
-ghost use Rattle.tree_node.specs.Shape.{room};
-ghost use Rattle.tree_root.specs.Lasts.{IsLast, appended};
 ghost use Rattle.tree_model.specs.Pairs.{IsAscending};
+ghost use Rattle.tree_root.specs.Lasts.{IsLast, appended};
+ghost use Rattle.tree_root.specs.Runs.{Gathers};
 ghost use Rattle.tree_root.specs.Trees.{IsWhole, Stores, packed_of, pairs_of};
 
 use crate::tree::{Stored, Tree};
 use std::alloc::{AllocError, Global};
-use tree_append::{append_to, append_under, last_leaf_at};
-use tree_array::array::{IndexKey, StoreResult};
+use tree_append::{append_run, append_to, last_leaf_at};
+use tree_array::array::{IndexKey, RunOf};
 use tree_leaf::arena::LeafId;
 use tree_model::InsertError;
 
@@ -41,25 +41,94 @@ impl<K: IndexKey, V: Drop, const LEN: usize> Tree<K, V, LEN> {
         ensures packed { IfOk result (λ tree. packed_of K.cmp tree ≡ true) }
     {
         let mut tree = Tree::with_room(alloc, pairs.len())?;
-        let mut last = None;
+        tree.append_sorted(pairs)?;
+        Ok(tree)
+    }
+
+    /// Appends pairs whose keys ascend and are larger than all. Returns `Err` if an allocation is refused.
+    fn append_sorted(&mut self, pairs: Vec<(K, V)>) -> Result<(), AllocError>
+        requires len { IsLen LEN }
+        requires whole { IsWhole K.cmp self.old }
+        requires ascending { IsAscending K.cmp (pairs_of self.old ++ pairs.items) }
+        ensures { IfOk result (λ _. Gathers K.cmp self.old self.new [] [] pairs.items) }
+    {
+        let mut run = RunOf::new();
         for (key, value) in pairs {
-            match tree.append(&mut last, key, value) {
+            self.gather(&mut run, key, value)?;
+        }
+        self.append_run(&mut run)
+    }
+
+    /// Puts a pair behind a run, and appends the run to the tree first if it is full. Returns `Err` if an allocation is
+    /// refused.
+    ///
+    /// The caller must pass a pair whose key is larger than those of the run, which are larger than those of the tree.
+    #[inline(always)]
+    pub fn gather(&mut self, run: &mut RunOf<K, V, LEN>, key: K, val: V) -> Result<(), AllocError>
+        requires len { IsLen LEN }
+        requires whole { IsWhole K.cmp self.old }
+        requires ascending { IsAscending K.cmp ((pairs_of self.old ++ run.old) ++ (key, val) ∷ []) }
+        ensures { IfOk result (λ _. Gathers K.cmp self.old self.new run.old run.new ((key, val) ∷ [])) }
+    {
+        if run.is_full() {
+            self.append_run(run)?;
+        }
+        run.push(key, val);
+        Ok(())
+    }
+
+    /// Appends the pairs of a run, which has none afterwards. Returns `Err` if an allocation is refused.
+    ///
+    /// The run becomes the last leaf as a whole, under its node, which is found along the unbounded children. If that node
+    /// is full, or the tree has no leaf yet, its pairs are appended one by one.
+    ///
+    /// The caller must pass a run whose keys are larger than those of the tree.
+    #[inline(never)]
+    pub fn append_run(&mut self, run: &mut RunOf<K, V, LEN>) -> Result<(), AllocError>
+        requires len { IsLen LEN }
+        requires whole { IsWhole K.cmp self.old }
+        requires ascending { IsAscending K.cmp (pairs_of self.old ++ run.old) }
+        ensures gathers { IfOk result (λ _. Gathers K.cmp self.old self.new run.old [] []) }
+        ensures left { IfOk result (λ _. run.new ≡ []) }
+    {
+        let Some(root) = self.root else {
+            return self.append_each(run);
+        };
+        if append_run(&mut self.arenas, root.level, root.id, run)? {
+            return Ok(());
+        }
+        self.append_each(run)
+    }
+
+    /// Appends the pairs of a run one by one: the first by a descent, and those that find a free slot in the last leaf there.
+    #[inline(never)]
+    fn append_each(&mut self, run: &mut RunOf<K, V, LEN>) -> Result<(), AllocError>
+        requires len { IsLen LEN }
+        requires whole { IsWhole K.cmp self.old }
+        requires ascending { IsAscending K.cmp (pairs_of self.old ++ run.old) }
+        ensures gathers { IfOk result (λ _. Gathers K.cmp self.old self.new run.old [] []) }
+        ensures left { IfOk result (λ _. run.new ≡ []) }
+    {
+        let mut array = run.close();
+        let mut last = None;
+        while let Some(slot) = array.slot_at(0) {
+            let (key, val, _) = array.take(slot);
+            match self.append(&mut last, key, val) {
                 Ok(()) => {}
                 Err(_) => return Err(AllocError),
             }
         }
-        Ok(tree)
+        Ok(())
     }
 
     /// Stores a pair whose key is larger than all, and keeps the last leaf in `last`, to be passed with the next pair.
     ///
     /// Returns `Err` with the pair if an allocation is refused. If `last` has a free slot, the pair is put there: that
-    /// compares and allocates nothing. If it has none, the leaf is split under its node, which is found along the
-    /// unbounded children. If that node is full too, or `last` is `None`, costs what [`store`](Tree::store) does.
+    /// compares and allocates nothing. Otherwise costs what [`store`](Tree::store) does.
     ///
     /// The caller must pass no leaf but the last one.
     #[inline(always)]
-    pub fn append(&mut self, last: &mut Option<LeafId>, key: K, val: V) -> Result<(), (K, V)>
+    fn append(&mut self, last: &mut Option<LeafId>, key: K, val: V) -> Result<(), (K, V)>
         requires len { IsLen LEN }
         requires whole { IsWhole K.cmp self.old }
         requires last { ForSome last.old (IsLast self.old) }
@@ -72,30 +141,7 @@ impl<K: IndexKey, V: Drop, const LEN: usize> Tree<K, V, LEN> {
         };
         match append_to(&mut self.arenas, leaf, key, val) {
             Ok(()) => Ok(()),
-            Err((key, val)) => self.append_behind(last, key, val),
-        }
-    }
-
-    /// Appends a pair for which `last` has no free slot. If the leaf is split under its node or built anew, it keeps its
-    /// number, so `last` stays as it is. Its own function, so that the common append stays short.
-    #[inline(never)]
-    fn append_behind(&mut self, last: &mut Option<LeafId>, key: K, val: V) -> Result<(), (K, V)>
-        requires len { IsLen LEN }
-        requires whole { IsWhole K.cmp self.old }
-        requires full { (leaf : ℕ) × (last.old ≡ Some leaf) × IsLast self.old leaf × (room 0 self.old.arenas leaf ≡ 0) }
-        requires beyond { AllByRecursion (λ p. K.cmp p.0 key ≡ Less) (pairs_of self.old) }
-        ensures stores { Stores K.cmp true self.old self.new key val (appended result) }
-        ensures last { IfOk result (λ _. ForSome last.new (IsLast self.new)) }
-    {
-        let Some((root, depth)) = self.root else {
-            unreachable!()
-        };
-        match append_under(&mut self.arenas, depth, root, key, val) {
-            Ok(StoreResult::New) => Ok(()),
-            Ok(StoreResult::Replaced) => unreachable!(),
-            Ok(StoreResult::Duplicate(_, _)) => unreachable!(),
-            Ok(StoreResult::Full(key, val)) => self.append_below(last, key, val),
-            Err(pair) => Err(pair),
+            Err((key, val)) => self.append_below(last, key, val),
         }
     }
 
@@ -124,7 +170,7 @@ impl<K: IndexKey, V: Drop, const LEN: usize> Tree<K, V, LEN> {
         requires { IsWhole K.cmp self.now }
         ensures { ForSome result (IsLast self.now) }
     {
-        let (root, depth) = self.root?;
-        last_leaf_at(&self.arenas, depth, root)
+        let root = self.root?;
+        last_leaf_at(&self.arenas, root.level, root.id)
     }
 }

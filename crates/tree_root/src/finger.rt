@@ -2,7 +2,7 @@
 ghost use Rattle.std.specs.Prelude.{ℕ, MatchOption, Some};
 ghost use Rattle.tree_descent.specs.Ways.{LeadsTo};
 ghost use Rattle.tree_node.specs.Tree.{IsRetired};
-ghost use Rattle.tree_node.specs.Whole.{IsTree};
+ghost use Rattle.tree_node.specs.Whole.{IsTree, root_at};
 
 use tree_descent::descent::{holds, leaf_for};
 use tree_leaf::arena::{LeafId, NodeId};
@@ -39,7 +39,7 @@ impl Finger {
         root: NodeId,
         key: &K,
     ) -> Option<LeafId>
-        requires { IsTree K.cmp arenas.now (Some (root, depth)) }
+        requires { IsTree K.cmp arenas.now (Some (root_at root depth)) }
         ensures { MatchOption result (IsRetired depth arenas.now root)
             (λ leaf. (node : ℕ) × LeadsTo K.cmp key.now depth arenas.now root node leaf) }
     {

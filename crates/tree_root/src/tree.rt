@@ -22,9 +22,9 @@ use tree_descent::look_ups::search_at;
 use tree_insert::insertion::{Crowded, insert_at, insert_crowded, insert_with_room};
 use tree_insert::planting::plant;
 use tree_insert::root::split_root_at;
-use tree_leaf::arena::{LeafId, NodeId};
+use tree_leaf::arena::LeafId;
 use tree_model::InsertError;
-use tree_node::node::ArenasOf;
+use tree_node::node::{ArenasOf, Root};
 use tree_remove::entries::{EntryPlace, entry_for, take_entry};
 use tree_remove::lowering::lower_root_at;
 use tree_remove::removal::{remove_alone, remove_beside};
@@ -38,10 +38,10 @@ pub enum Stored {
     Replaced,
 }
 
-/// A tree: its arenas, its root with the root's level, if there is one, and a finger for removals.
+/// A tree: its arenas, its root, if there is one, and a finger for removals.
 pub struct Tree<K: IndexKey, V: Drop, const LEN: usize> {
     pub arenas: ArenasOf<K, V, LEN>,
-    pub root: Option<(NodeId, usize)>,
+    pub root: Option<Root>,
     finger: Finger,
 }
 
@@ -82,16 +82,22 @@ impl<K: IndexKey, V: Drop, const LEN: usize> Tree<K, V, LEN> {
         requires whole { IsWhole K.cmp self.old }
         ensures { Stores K.cmp UPSERT self.old self.new key val (told result) }
     {
-        let Some((root, depth)) = self.root else {
+        let Some(root) = self.root else {
             return self.store_first(key, val);
         };
-        match insert_with_room::<UPSERT, K, V, LEN>(&mut self.arenas, depth, root, key, val) {
-            Err(crowded) => self.store_crowded::<UPSERT>(root, depth, crowded),
+        match insert_with_room::<UPSERT, K, V, LEN>(
+            &mut self.arenas,
+            root.level,
+            root.id,
+            key,
+            val,
+        ) {
+            Err(crowded) => self.store_crowded::<UPSERT>(root, crowded),
             Ok(answer) => match answer {
                 StoreResult::New => Ok(Stored::New),
                 StoreResult::Replaced => Ok(Stored::Replaced),
                 StoreResult::Duplicate(key, val) => Err(InsertError::Duplicate(key, val)),
-                StoreResult::Full(key, val) => self.store_grown::<UPSERT>(root, depth, key, val),
+                StoreResult::Full(key, val) => self.store_grown::<UPSERT>(root, key, val),
             },
         }
     }
@@ -100,23 +106,23 @@ impl<K: IndexKey, V: Drop, const LEN: usize> Tree<K, V, LEN> {
     #[inline(never)]
     fn store_crowded<const UPSERT: bool>(
         &mut self,
-        root: NodeId,
-        depth: usize,
+        root: Root,
         crowded: Crowded<K, V>,
     ) -> Result<Stored, InsertError<K, V>>
         requires len { IsLen LEN }
         requires whole { IsWhole K.cmp self.old }
-        requires root { self.old.root ≡ Some (root, depth) }
-        requires way { LeadsTo K.cmp crowded.key depth self.old.arenas root crowded.place.node crowded.place.leaf }
+        requires root { self.old.root ≡ Some root }
+        requires way { LeadsTo K.cmp crowded.key root.level self.old.arenas root.id
+            crowded.place.node crowded.place.leaf }
         ensures { Stores K.cmp UPSERT self.old self.new crowded.key crowded.val (told result) }
     {
-        match insert_crowded::<UPSERT, K, V, LEN>(&mut self.arenas, depth, root, crowded) {
+        match insert_crowded::<UPSERT, K, V, LEN>(&mut self.arenas, root.level, root.id, crowded) {
             Err((key, val)) => Err(InsertError::OutOfMemory(key, val)),
             Ok(answer) => match answer {
                 StoreResult::New => Ok(Stored::New),
                 StoreResult::Replaced => Ok(Stored::Replaced),
                 StoreResult::Duplicate(key, val) => Err(InsertError::Duplicate(key, val)),
-                StoreResult::Full(key, val) => self.store_grown::<UPSERT>(root, depth, key, val),
+                StoreResult::Full(key, val) => self.store_grown::<UPSERT>(root, key, val),
             },
         }
     }
@@ -130,8 +136,8 @@ impl<K: IndexKey, V: Drop, const LEN: usize> Tree<K, V, LEN> {
     {
         match plant(&mut self.arenas, self.root, key, val) {
             Err((key, val)) => Err(InsertError::OutOfMemory(key, val)),
-            Ok(root) => {
-                self.root = Some((root, 1));
+            Ok(id) => {
+                self.root = Some(Root { id, level: 1 });
                 Ok(Stored::New)
             }
         }
@@ -141,27 +147,27 @@ impl<K: IndexKey, V: Drop, const LEN: usize> Tree<K, V, LEN> {
     /// split under a new root.
     fn store_grown<const UPSERT: bool>(
         &mut self,
-        root: NodeId,
-        depth: usize,
+        root: Root,
         key: K,
         val: V,
     ) -> Result<Stored, InsertError<K, V>>
         requires len { IsLen LEN }
         requires whole { IsWhole K.cmp self.old }
-        requires root { self.old.root ≡ Some (root, depth) }
-        requires full { IsRetired depth self.old.arenas root ⊎ (room depth self.old.arenas root ≡ 0) }
+        requires root { self.old.root ≡ Some root }
+        requires full { IsRetired root.level self.old.arenas root.id ⊎ (room root.level self.old.arenas root.id ≡ 0) }
         requires new { IsNew K.cmp UPSERT (pairs_of self.old) key }
         requires spent { spare_of self.old ≡ 0 }
         ensures { Stores K.cmp UPSERT self.old self.new key val (told result) }
     {
-        if self.arenas.node(root).is_childless() {
+        if self.arenas.node(root.id).is_childless() {
             return self.store_first(key, val);
         }
-        let Ok(top) = split_root_at(&mut self.arenas, depth, root) else {
+        let Ok(top) = split_root_at(&mut self.arenas, root.level, root.id) else {
             return Err(InsertError::OutOfMemory(key, val));
         };
-        self.root = Some((top, depth + 1));
-        match insert_at::<UPSERT, K, V, LEN>(&mut self.arenas, depth + 1, top, key, val) {
+        let level = root.level + 1;
+        self.root = Some(Root { id: top, level });
+        match insert_at::<UPSERT, K, V, LEN>(&mut self.arenas, level, top, key, val) {
             Err((key, val)) => Err(InsertError::OutOfMemory(key, val)),
             Ok(answer) => match answer {
                 StoreResult::New => Ok(Stored::New),
@@ -185,15 +191,15 @@ impl<K: IndexKey, V: Drop, const LEN: usize> Tree<K, V, LEN> {
             (λ pair. FnOnceTakesAt F.FnOnce condition pair.1) }
         ensures { Takes K.cmp (FnOnceReturnsAt F.FnOnce condition) self.old self.new key.now result }
     {
-        let Some((root, depth)) = self.root else {
+        let Some(root) = self.root else {
             return false;
         };
-        let Some(leaf) = self.finger.leaf_for(&self.arenas, depth, root, key) else {
+        let Some(leaf) = self.finger.leaf_for(&self.arenas, root.level, root.id, key) else {
             return false;
         };
-        match remove_beside(&mut self.arenas, depth, root, leaf, key, condition) {
+        match remove_beside(&mut self.arenas, root.level, root.id, leaf, key, condition) {
             Ok(removed) => removed,
-            Err(condition) => self.remove_alone(root, depth, leaf, key, condition),
+            Err(condition) => self.remove_alone(root, leaf, key, condition),
         }
     }
 
@@ -201,28 +207,27 @@ impl<K: IndexKey, V: Drop, const LEN: usize> Tree<K, V, LEN> {
     #[inline(never)]
     fn remove_alone<F: FnOnce(&V) -> bool + Drop>(
         &mut self,
-        root: NodeId,
-        depth: usize,
+        root: Root,
         leaf: LeafId,
         key: &K,
         condition: F,
     ) -> bool
         requires whole { IsWhole K.cmp self.old }
-        requires root { self.old.root ≡ Some (root, depth) }
-        requires way { (node : ℕ) × LeadsTo K.cmp key.now depth self.old.arenas root node leaf }
+        requires root { self.old.root ≡ Some root }
+        requires way { (node : ℕ) × LeadsTo K.cmp key.now root.level self.old.arenas root.id node leaf }
         requires callable { ForSome (pair_at K.cmp (pairs_of self.old) key.now)
             (λ pair. FnOnceTakesAt F.FnOnce condition pair.1) }
         ensures { Takes K.cmp (FnOnceReturnsAt F.FnOnce condition) self.old self.new key.now result }
     {
         self.finger.goes_on(&self.arenas);
-        match remove_alone(&mut self.arenas, depth, root, leaf, key, condition) {
+        match remove_alone(&mut self.arenas, root.level, root.id, leaf, key, condition) {
             RemoveResult::Fail => false,
             RemoveResult::Success => {
-                self.root = lower_root_at(&mut self.arenas, depth, root);
+                self.root = lower_root_at(&mut self.arenas, root.level, root.id);
                 true
             }
             RemoveResult::Retired => {
-                self.root = lower_root_at(&mut self.arenas, depth, root);
+                self.root = lower_root_at(&mut self.arenas, root.level, root.id);
                 true
             }
         }
@@ -235,8 +240,8 @@ impl<K: IndexKey, V: Drop, const LEN: usize> Tree<K, V, LEN> {
         ensures { MatchOption result (IsAbsent K.cmp (pairs_of self.now) key.now)
             (λ place. (pair : K × V) × (K.cmp pair.0 key.now ≡ Equal) × IsStored K.cmp self.now place pair) }
     {
-        let (root, depth) = self.root?;
-        entry_for(&self.arenas, depth, root, key)
+        let root = self.root?;
+        entry_for(&self.arenas, root.level, root.id, key)
     }
 
     /// Takes out the pair that is stored at a place, and returns it. Makes no comparisons, but for a descent by its key if it
@@ -247,11 +252,11 @@ impl<K: IndexKey, V: Drop, const LEN: usize> Tree<K, V, LEN> {
         ensures pair { (pair : K × V) → IsStored K.cmp self.old place pair → result ≡ pair }
         ensures takes { Takes K.cmp surely self.old self.new result.0 true }
     {
-        let Some((root, depth)) = self.root else {
+        let Some(root) = self.root else {
             unreachable!()
         };
-        let (key, value, _) = take_entry(&mut self.arenas, depth, root, place);
-        self.root = lower_root_at(&mut self.arenas, depth, root);
+        let (key, value, _) = take_entry(&mut self.arenas, root.level, root.id, place);
+        self.root = lower_root_at(&mut self.arenas, root.level, root.id);
         (key, value)
     }
 
@@ -264,11 +269,11 @@ impl<K: IndexKey, V: Drop, const LEN: usize> Tree<K, V, LEN> {
         requires { IsWhole K.cmp self.old }
         ensures { Cuts K.cmp (low_of bounds.entry) (high_of bounds.entry) self.old self.new result }
     {
-        let Some((root, depth)) = self.root else {
+        let Some(root) = self.root else {
             return 0;
         };
-        let removed = remove_range_at(&mut self.arenas, depth, root, bounds);
-        self.root = lower_root_at(&mut self.arenas, depth, root);
+        let removed = remove_range_at(&mut self.arenas, root.level, root.id, bounds);
+        self.root = lower_root_at(&mut self.arenas, root.level, root.id);
         removed.pairs
     }
 
@@ -291,8 +296,8 @@ impl<K: IndexKey, V: Drop, const LEN: usize> Tree<K, V, LEN> {
         ensures counted { J.count judge.new ≤ J.count judge.old + LEN * (depth_of self.now.root + 1) }
         ensures halved { J.count judge.new ≤ J.count judge.old + searched LEN * (depth_of self.now.root + 1) }
     {
-        let (root, depth) = self.root?;
-        search_at(&self.arenas, depth, root, judge)
+        let root = self.root?;
+        search_at(&self.arenas, root.level, root.id, judge)
     }
 
     /// Returns how many slots the leaves have, which is at least the number of pairs. Runs in constant time.

@@ -18,10 +18,10 @@ impl<K: IndexKey, V: Drop, const LEN: usize> Tree<K, V, LEN> {
             ((result ≡ Err val) × (pairs_of self.new ≡ pairs_of self.old))
             (λ pair. (result ≡ Ok pair.1) × (pairs_of self.new ≡ put K.cmp (pairs_of self.old) pair.0 val)) }
     {
-        let Some((root, depth)) = self.root else {
+        let Some(root) = self.root else {
             return Err(val);
         };
-        let Some(place) = leaf_for(&self.arenas, depth, root, key, false) else {
+        let Some(place) = leaf_for(&self.arenas, root.level, root.id, key, false) else {
             return Err(val);
         };
         let array = self.arenas.leaf_mut(place.leaf).array_mut();
@@ -42,10 +42,10 @@ impl<K: IndexKey, V: Drop, const LEN: usize> Tree<K, V, LEN> {
             (λ pair. (result ≡ true) × (val : V) × F.post change pair.1 val
             × (pairs_of self.new ≡ put K.cmp (pairs_of self.old) pair.0 val)) }
     {
-        let Some((root, depth)) = self.root else {
+        let Some(root) = self.root else {
             return false;
         };
-        let Some(place) = leaf_for(&self.arenas, depth, root, key, false) else {
+        let Some(place) = leaf_for(&self.arenas, root.level, root.id, key, false) else {
             return false;
         };
         let array = self.arenas.leaf_mut(place.leaf).array_mut();

@@ -19,9 +19,10 @@ use tree_index::{Command, IndexKey, InsertError, Reply, SameClone, TreeIndexOf};
 /// for key in first..=last {
 ///     commands.push(Command::Insert(key, key))?;
 /// }
-/// let Ok(replies) = run(index, commands) else {
-///     return Err(AllocError);
-/// };
+///
+/// fn run(&mut self, commands: Vec<Command<u64, u64>>) -> Result<Vec<Reply<u64>>, AllocError> {
+///     run(self, commands)
+/// }
 /// ```
 pub fn run<K: IndexKey, V: SameClone, const LEN: usize>(
     index: &mut TreeIndexOf<K, V, LEN>,

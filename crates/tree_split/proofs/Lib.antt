@@ -1,6 +1,7 @@
 pub mod Arrays
 pub mod Ascended
 pub mod Boundaries
+pub mod Common
 pub mod Edges
 pub mod Fulls
 pub mod LowSplits

@@ -1,17 +1,16 @@
 -- A child that gives its lower part to a new one before it, and the node above it, which is written with the separator.
-use Rattle.std.proofs.Common.{◌≡◌, ◌⊎◌, ℕ, zero, suc, ◌-◌, ◌<◌, ◌≤◌, min, Bool, true, false, cond, List, [], ◌∷◌, ◌++◌, map, length, length-append, Option, Some, None, refl, sym, ap, ◌∙◌, arith, append_assoc, inl, inr, Ordering}
-use Rattle.tree_model.proofs.Common.{AllByRecursion, IsTotalOrder, cases_eq, IsAbsent}
-use Rattle.tree_array.proofs.Common.{Arrivals, spend, spent_at, all_map}
-use Rattle.tree_node.proofs.Common.{get, times, uses, times-append, times-cons, none_here, TreeArenas, IsPart, Replaces, room, spare, AreParted, IsAbove, IsBelow, HasChildFor, Stands, keyed, unbounded, child_at, is_from, walk, leaves_at, children_of}
+use Rattle.std.proofs.Common.{◌≡◌, ℕ, zero, suc, ◌<◌, ◌≤◌, ◌^◌, min, true, List, [], ◌∷◌, ◌++◌, map, length, length-append, Option, Some, None, refl, sym, ap, ◌∙◌, arith, append-nil, append_assoc, inl, inr, Ordering}
+use Rattle.tree_array.proofs.Common.{spend, spent_at}
+use Rattle.tree_node.proofs.Common.{Agrees, AllByRecursion, AreParted, Arrivals, HasChildFor, IsAbove, IsAbsent, IsBelow, IsPart, IsTotalOrder, Replaces, Stands, TreeArenas, Updates, Updates-with_value, agrees_here, all-append, cases_eq, child_at, children_of, found_keyed, get, is_from, keyed, length-map, none_here, node_is, node_made, room, same_stands, same_walk, spare, stands_each, times, times-append, times-cons, unbounded, walk, with_value}
 use Rattle.tree_node.specs.declared.node.NodeOf.{NodeOf}
-use Rattle.std.proofs.lemmas.List.{length-map}
 use Rattle.tree_node.specs.Parts.{PutsChild}
 use Rattle.tree_node.specs.Shape.{found_room}
-use Rattle.tree_node.proofs.Frames.{Agrees, agrees_here, same_stands}
-use Rattle.tree_node.proofs.Lifts.{front_agrees, back_agrees, changed_agree, leaves_once_in, lifted, walk_now, walk_was}
-use Rattle.tree_node.proofs.Places.{first_child, later_children, low_at, high_at, children_at, children_put, routed_by, child_between, separator_absent, separator_put, parted_low}
-use Rattle.tree_node.proofs.Spares.{spares-cons, spares-single, spares_same, spare_split}
-use Rattle.tree_node.proofs.Standing.{node_is}
+use Rattle.tree_node.proofs.Lifts.{Lifted, leaves_once_in, lifts, node_stays}
+use Rattle.tree_node.proofs.Places.{IsAt, child_between, children_around, children_put, high_at, later_children, low_at, parted_low, routed_by, separator_absent, separator_put, separators_beside}
+use Rattle.tree_node.proofs.Spares.{spares-cons, spares-single}
+use Rattle.tree_split.specs.Packed.{HasLast, IsPacked}
+use Rattle.tree_split.proofs.Arrays.{packed_stored}
+use Rattle.tree_split.proofs.Edges.{counts_same, one_last, same_packed}
 
 -- The part under x has become the parts under y and x, in this order, with this separator between them: x keeps its number, and y is new. `Within` says of bounds that the separator fits between them.
 pub record SplitsLow {K V : Type 0} {LEN : ℕ} (cmp : K → K → Ordering) (Within : Option K → Option K → Type 0) (level : ℕ) (old new : TreeArenas K V LEN) (x y : ℕ) (separator : K) : Type 0 where
@@ -32,181 +31,176 @@ pub record GainsLow {K V : Type 0} {LEN : ℕ} (cmp : K → K → Ordering) (Wit
   pub low_room : 0 < room level mid y → 0 < room level new y
   pub high_room : 0 < room level mid x → 0 < room level new x
   -- what belonged to x belongs to one of the two
-  pub routed : (key : K) (child : ℕ) → HasChildFor cmp key (get old.nodes id) x → HasChildFor cmp key (get new.nodes id) child → ((child ≡ y) × (is_from cmp key separator ≡ true)) ⊎ (child ≡ x)
+  pub routed : (key : K) (child : ℕ) → HasChildFor cmp key (get old.nodes id) x → HasChildFor cmp key (get new.nodes id) child
+      → (is_from cmp key separator ≡ true → 0 < room level mid y) → 0 < room level mid x → 0 < room level new child
   pub gained : (z : ℕ) → 0 < times z (children_of new.nodes id) → times z (children_of old.nodes id) ≡ 0 → z ≡ y
 
-module _ {K V : Type 0} {LEN : ℕ} {cmp : K → K → Ordering} (o : IsTotalOrder cmp) (Within : Option K → Option K → Type 0) (level : ℕ) (old mid : TreeArenas K V LEN) (id x y : ℕ) (separator : K)
-    (part : IsPart cmp (suc level) old id) (splits : SplitsLow cmp Within level old mid x y separator)
-    (node : NodeOf K LEN) (was_node : get old.nodes id ≡ Some node)
-    (before onward : List (K × ℕ)) (last : ℕ) (last_is : unbounded node ≡ Some last) (entries : (keyed node).entries ≡ before ++ onward) (child : first_child onward last ≡ x)
-    (inner : (low high : Option K) → Within low high → Within (low_at low before) (high_at onward high)) where
+-- x is a child of a node under which a part stands, and has become y and x
+pub record PartsChild {K V : Type 0} {LEN : ℕ} (cmp : K → K → Ordering) (Within : Option K → Option K → Type 0)
+    (level : ℕ) (old mid : TreeArenas K V LEN) (id x y : ℕ) (separator : K) : Type 0 where
+  pub part : IsPart cmp (suc level) old id
+  pub splits : SplitsLow cmp Within level old mid x y separator
+  pub at : IsAt (keyed part.stands.node).entries part.stands.last x
+  pub inner : (low high : Option K) → Within low high → Within (low_at low at.before) (high_at at.onward high)
+  pub within : Within None None
+
+-- the place of the last child
+abbrev pub last_place : {K V : Type 0} {LEN : ℕ} {cmp : K → K → Ordering} (level : ℕ) (old : TreeArenas K V LEN) (id : ℕ)
+    (s : Stands cmp (suc level) old None id None) (x : ℕ)
+    → HasLast (get old.nodes id) x → IsAt (keyed s.node).entries s.last x
+last_place level old id s x last =
+    record { before = (keyed s.node).entries; onward = []; split = sym (append-nil _); child = one_last (get old.nodes id) s.last x (rw s.here s.last_is) last }
+
+module _ {K V : Type 0} {LEN : ℕ} {cmp : K → K → Ordering} (o : IsTotalOrder cmp) {Within : Option K → Option K → Type 0} {level : ℕ}
+    {old mid : TreeArenas K V LEN} {id x y : ℕ} {separator : K}
+    (d : PartsChild cmp Within level old mid id x y separator) where
+  abbrev stood : Stands cmp (suc level) old None id None
+  stood = d.part.stands
+
+  abbrev front : List ℕ
+  front = map (λ c. c.1) d.at.before
+
+  abbrev back : List ℕ
+  back = later_children d.at.onward stood.last
+
+  was : children_of old.nodes id ≡ front ++ (x ∷ [] ++ back)
+  was = children_around level old None id None stood x d.at
+
+  -- the node stays as long as it isn't written
+  pub stays : get mid.nodes id ≡ get old.nodes id
+  stays = node_stays level old id d.part front x back was mid (y ∷ (x ∷ [])) d.splits.replaces
+
   -- at some bounds of the node
   module _ (low high : Option K) (within : Within low high) (s : Stands cmp (suc level) old low id high) where
-    same_last : s.last ≡ last
-    same_last =
-        let both : Some s.last ≡ Some last = sym s.last_is ∙ rw (node_is level old low id high s node was_node) last_is in
-        cc
+    parted : AreParted cmp (Stands cmp level old) low (d.at.before ++ d.at.onward) stood.last high
+    parted =
+        let same_last : s.last ≡ stood.last = cc (s.here, s.last_is, stood.here, stood.last_is) in
+        rw (node_is level old low id high s stood.node stood.here, d.at.split, same_last) at s.parted
 
-    pub parted : AreParted cmp (Stands cmp level old) low (before ++ onward) last high
-    parted = rw (node_is level old low id high s node was_node, entries, same_last) at s.parted
+    child_stood : Stands cmp level old (low_at low d.at.before) x (high_at d.at.onward high)
+    child_stood = rw d.at.child at (child_between o (Stands cmp level old) low d.at.before d.at.onward stood.last high parted)
 
-    child_stood : Stands cmp level old (low_at low before) x (high_at onward high)
-    child_stood = rw child at (child_between o (Stands cmp level old) low before onward last high parted)
+    sides : IsAbove cmp (low_at low d.at.before) separator × IsBelow cmp separator (high_at d.at.onward high)
+    sides = d.splits.separates (low_at low d.at.before) (high_at d.at.onward high) (d.inner low high within) child_stood
 
-    pub separates_here : IsAbove cmp (low_at low before) separator × IsBelow cmp separator (high_at onward high)
-    separates_here = splits.separates (low_at low before) (high_at onward high) (inner low high within) child_stood
+  at_bounds : AreParted cmp (Stands cmp level old) None (d.at.before ++ d.at.onward) stood.last None
+  at_bounds = parted None None d.within stood
 
-  -- no child of the node has the separator yet
-  pub absent_here : Within None None → IsAbsent cmp (keyed node).entries separator
-  absent_here within =
-      let s : Stands cmp (suc level) old None id None = part.stands in
-      let fits = separates_here None None within s in
-      rw entries (separator_absent o (Stands cmp level old) separator None before onward last None (parted None None within s) fits.0 fits.1)
+  fits : IsAbove cmp (low_at None d.at.before) separator × IsBelow cmp separator (high_at d.at.onward None)
+  fits = sides None None d.within stood
 
-  module _ (within : Within None None) (new : TreeArenas K V LEN) (node' : NodeOf K LEN) (is_node : get new.nodes id ≡ Some node') (puts : PutsChild cmp node node' separator y)
-      (others : (n : ℕ) → (n ≡ id → ⊥) → get new.nodes n ≡ get mid.nodes n) (leaves : new.leaves ≡ mid.leaves) where
-    stands_here : Stands cmp (suc level) old None id None
-    stands_here = part.stands
+  module _ (above : NodeOf K LEN) (is_above : get mid.nodes id ≡ Some above) where
+    above_is : above ≡ stood.node
+    above_is = cc (stays, is_above, stood.here)
 
-    pub entries_now : (keyed node').entries ≡ before ++ (separator, y) ∷ onward
-    entries_now =
-        let fits = separates_here None None within stands_here in
-        ap (λ (a : Arrivals K ℕ). a.entries) puts.put
-        ∙ rw entries (separator_put o (Stands cmp level old) separator None before onward last None (parted None None within stands_here) fits.0 fits.1 y)
+    -- no child of the node has the separator yet
+    pub absent_here : IsAbsent cmp (keyed above).entries separator
+    absent_here = rw (above_is, d.at.split)
+        (separator_absent o (Stands cmp level old) separator None d.at.before d.at.onward stood.last None at_bounds fits.0 fits.1)
 
-    pub last_now : unbounded node' ≡ Some last
-    last_now = puts.last ∙ last_is
+    module _ (node' : NodeOf K LEN) (puts : PutsChild cmp above node' separator y) where
+      abbrev new : TreeArenas K V LEN
+      new = record mid { nodes = with_value mid.nodes id node' }
 
-    abbrev front : List ℕ
-    front = map (λ c. c.1) before
+      update : Updates mid.nodes new.nodes id (Some node')
+      update = Updates-with_value mid.nodes id node' (rw is_above refl)
 
-    abbrev back : List ℕ
-    back = later_children onward last
+      pub entries_now : (keyed node').entries ≡ d.at.before ++ (separator, y) ∷ d.at.onward
+      entries_now =
+          ap (λ (a : Arrivals K ℕ). a.entries) puts.put
+          ∙ rw (above_is, d.at.split) (separator_put o (Stands cmp level old) separator None d.at.before d.at.onward stood.last None at_bounds fits.0 fits.1 y)
 
-    was : children_of old.nodes id ≡ front ++ (x ∷ [] ++ back)
-    was = rw (was_node, last_is, entries, children_at before onward last, child) refl
+      pub last_now : unbounded node' ≡ Some stood.last
+      last_now = puts.last ∙ rw above_is stood.last_is
 
-    now : children_of new.nodes id ≡ front ++ (y ∷ (x ∷ []) ++ back)
-    now = rw (is_node, last_now, entries_now, children_put before onward last separator y, child) refl
+      now : children_of new.nodes id ≡ front ++ (y ∷ (x ∷ []) ++ back)
+      now = rw (update.changed, last_now, entries_now, children_put d.at.before d.at.onward stood.last separator y, d.at.child) refl
 
-    leaves_once : (n : ℕ) → times n (leaves_at (suc level) old.nodes id) ≤ uses old.leaves n
-    leaves_once = leaves_once_in (suc level) old id part
+      lift : Lifted level old mid new id front (x ∷ []) (y ∷ (x ∷ [])) back
+      lift =
+          lifts level old mid new id front (x ∷ []) (y ∷ (x ∷ [])) back d.splits.replaces was now d.part.nodes_once (leaves_once_in (suc level) old id d.part)
+          (λ n differs. update.others n differs) (rw update.changed refl) refl
 
-    pub fronts : AllByRecursion (λ c. Agrees level old new c) front
-    fronts = front_agrees level old mid new id front (x ∷ []) (y ∷ (x ∷ [])) back splits.replaces was now part.nodes_once leaves_once others (rw is_node refl) leaves
+      -- the two children stay as they are
+      pub changed : AllByRecursion (λ c. Agrees level mid new c) (y ∷ (x ∷ []))
+      changed = lift.changed
 
-    backs : AllByRecursion (λ c. Agrees level old new c) back
-    backs = back_agrees level old mid new id front (x ∷ []) (y ∷ (x ∷ [])) back splits.replaces was now part.nodes_once leaves_once others (rw is_node refl) leaves
+      same_room : (lev z : ℕ) → Agrees lev mid new z → room lev new z ≡ room lev mid z
+      same_room zero z same = refl
+      same_room (suc lev) z same = ap found_room (agrees_here lev mid new z same)
 
-    pub changed : AllByRecursion (λ c. Agrees level mid new c) (y ∷ (x ∷ []))
-    changed = changed_agree level old mid new id front (x ∷ []) (y ∷ (x ∷ [])) back splits.replaces was now part.nodes_once leaves_once others (rw is_node refl) leaves
+      routed_now : (P : ℕ → Type 0) (k : K) (old_child new_child : ℕ) → HasChildFor cmp k (get old.nodes id) old_child → HasChildFor cmp k (get new.nodes id) new_child
+          → (is_from cmp k separator ≡ true → P y) → P old_child → P new_child
+      routed_now P k old_child new_child which which' low high =
+          let was_child : child_at (is_from cmp k) (d.at.before ++ d.at.onward) stood.last ≡ old_child =
+          cc (rw (stood.here, stood.last_is, d.at.split) at which) in
+          let is_child : child_at (is_from cmp k) (d.at.before ++ (separator, y) ∷ d.at.onward) stood.last ≡ new_child =
+          cc (rw (update.changed, last_now, entries_now) at which') in
+          rw is_child at (routed_by (is_from cmp k) P d.at.before d.at.onward stood.last separator y low (rw was_child high))
 
-    replaces_node : Replaces (suc level) old new (id ∷ []) (id ∷ [])
-    replaces_node = lifted level old mid new id front (x ∷ []) (y ∷ (x ∷ [])) back splits.replaces was now part.nodes_once leaves_once others (rw is_node refl) leaves
-
-    same_pairs : walk (suc level) new id ≡ walk (suc level) old id
-    same_pairs =
-        rw (
-          walk_now level old mid new id front (x ∷ []) (y ∷ (x ∷ [])) back splits.replaces was now part.nodes_once leaves_once others (rw is_node refl) leaves,
-          walk_was level old mid new id front (x ∷ []) (y ∷ (x ∷ [])) back splits.replaces was now part.nodes_once leaves_once others (rw is_node refl) leaves,
-          ← splits.pairs,
-          append_assoc (walk level mid y) (walk level mid x) [],
-        ) refl
-
-    more_spare : spare (suc level) old id ≤ spare (suc level) new id
-    more_spare =
-        omega (
+      -- the node has the two children in place of the one
+      pub gains_low : GainsLow cmp Within level old mid new id x y separator
+      gains_low = record {
+        pairs = rw (lift.walk_now, lift.walk_was, ← d.splits.pairs, append_assoc (walk level mid y) (walk level mid x) []) refl;
+        stands = λ low high fits s.
+            let inside = d.inner low high fits in
+            let child = child_stood low high fits s in
+            let lower = same_stands cmp level mid new y lift.changed.0 (low_at low d.at.before) (Some separator) (d.splits.lower _ _ inside child) in
+            let upper = same_stands cmp level mid new x lift.changed.1.0 (Some separator) (high_at d.at.onward high) (d.splits.upper _ _ inside child) in
+            let kind = puts.kind level (rw (node_is level old low id high s stood.node stood.here, ← above_is) at s.kind) in
+            node_made update.changed kind last_now entries_now (rw entries_now at puts.few)
+            (parted_low o (Stands cmp level old) (Stands cmp level new) separator y low d.at.before d.at.onward stood.last high (parted low high fits s)
+            (sides low high fits s).0 (sides low high fits s).1 (stands_each cmp level old new front lift.fronts)
+            lower (rw d.at.child upper) (stands_each cmp level old new back lift.backs));
+        replaces = lift.replaces;
+        spares = omega (
           arith,
-          splits.spares,
-          spare_split level old id front (x ∷ []) back was,
-          spare_split level new id front (y ∷ (x ∷ [])) back now,
+          d.splits.spares,
+          lift.spare_was,
+          lift.spare_now,
           spares-single level old x,
           spares-single level mid x,
           spares-cons level mid y (x ∷ []),
-          spares_same level mid new (y ∷ (x ∷ [])) changed,
-          spares_same level old new front fronts,
-          spares_same level old new back backs,
-        )
+        );
+        spends =
+            let arrivals = (keyed stood.node).arrivals in
+            let one_more = length-append (spend cmp arrivals separator) (Some (separator, y) ∷ []) in
+            let as_many = length-map arrivals (spent_at cmp separator) in
+            rw (stood.here, update.changed, stood.last_is, last_now, puts.put, above_is) (grind arith);
+        low_room = λ some. rw (same_room level y lift.changed.0) some;
+        high_room = λ some. rw (same_room level x lift.changed.1.0) some;
+        routed = λ key child which routed low high.
+            routed_now (λ z. 0 < room level new z) key x child which routed (λ from. rw (same_room level y lift.changed.0) (low from))
+            (rw (same_room level x lift.changed.1.0) high);
+        gained = λ z inside outside. elim (cases_eq z y) [
+          | inl same ↦ same
+          | inr differs ↦
+              let before = rw (was, times-append z front (x ∷ back)) at outside in
+              let after = rw (now, times-append z front (y ∷ (x ∷ back)), times-cons z y (x ∷ back), none_here z y differs) at inside in
+              absurd (omega arith)
+        ];
+      }
 
-    stands_now : (low high : Option K) → Within low high → Stands cmp (suc level) old low id high → Stands cmp (suc level) new low id high
-    stands_now low high fits s =
-        let inside = inner low high fits in
-        let stood = child_stood low high fits s in
-        let sides = separates_here low high fits s in
-        record {
-          node = node';
-          here = is_node;
-          kind = puts.kind level (rw (node_is level old low id high s node was_node) at s.kind);
-          last = last;
-          last_is = last_now;
-          few = puts.few;
-          parted = rw entries_now
-              (parted_low o (Stands cmp level old) (Stands cmp level new) separator y low before onward last high (parted low high fits s) sides.0 sides.1
-              (all_map (λ c same. same_stands cmp level old new c same) _ fronts)
-              (same_stands cmp level mid new y changed.0 (low_at low before) (Some separator) (splits.lower (low_at low before) (high_at onward high) inside stood))
-              (rw child (same_stands cmp level mid new x changed.1.0 (Some separator) (high_at onward high) (splits.upper (low_at low before) (high_at onward high) inside stood)))
-              (all_map (λ c same. same_stands cmp level old new c same) _ backs));
-        }
-
-    -- one place of the node's array is taken
-    spends_one : room (suc level) old id ≤ suc (room (suc level) new id)
-    spends_one = rw (was_node, is_node, last_is, last_now, puts.put) (by_mark (keyed node).retired (length (keyed node).arrivals) _ one_more)
-      where
-        one_more : length (spend cmp (keyed node).arrivals separator ++ Some (separator, y) ∷ []) ≡ suc (length (keyed node).arrivals)
-        one_more = omega (arith, length-append (spend cmp (keyed node).arrivals separator) (Some (separator, y) ∷ []), length-map (keyed node).arrivals (spent_at cmp separator))
-
-        by_mark : (b : Bool) (n m : ℕ) → m ≡ suc n → cond b 0 (LEN - n) ≤ suc (cond b 0 (LEN - m))
-        by_mark true n m e = omega arith
-        by_mark false n m e = omega (arith, e)
-
-    same_room : (lev z : ℕ) → Agrees lev mid new z → room lev new z ≡ room lev mid z
-    same_room zero z same = rw leaves refl
-    same_room (suc lev) z same = ap found_room (agrees_here lev mid new z same)
-
-    new_room : 0 < room level mid y → 0 < room level new y
-    new_room some = rw (same_room level y changed.0) some
-
-    old_room : 0 < room level mid x → 0 < room level new x
-    old_room some = rw (same_room level x changed.1.0) some
-
-    routed_now : (P : ℕ → Type 0) (k : K) (old_child new_child : ℕ) → HasChildFor cmp k (get old.nodes id) old_child → HasChildFor cmp k (get new.nodes id) new_child
-        → (is_from cmp k separator ≡ true → P y) → P old_child → P new_child
-    routed_now P k old_child new_child which which' low high =
-        let before_is : Some (child_at (is_from cmp k) (before ++ onward) last) ≡ Some old_child = rw (was_node, last_is, entries) at which in
-        let now_is : Some (child_at (is_from cmp k) (before ++ (separator, y) ∷ onward) last) ≡ Some new_child = rw (is_node, last_now, entries_now) at which' in
-        let was_child : child_at (is_from cmp k) (before ++ onward) last ≡ old_child = cc in
-        let is_child : child_at (is_from cmp k) (before ++ (separator, y) ∷ onward) last ≡ new_child = cc in
-        rw is_child at (routed_by (is_from cmp k) P before onward last separator y low (rw was_child high))
-
-    gained_is : (z : ℕ) → 0 < times z (children_of new.nodes id) → times z (children_of old.nodes id) ≡ 0 → z ≡ y
-    gained_is z inside outside = elim (cases_eq z y) [
-      | inl same ↦ same
-      | inr differs ↦
-          absurd (
-          omega (
-            arith,
-            inside,
-            outside,
-            ap (times z) was,
-            ap (times z) now,
-            times-append z front (x ∷ back),
-            times-append z front (y ∷ (x ∷ back)),
-            times-cons z y (x ∷ back),
-            none_here z y differs,
+      -- where a packed part's last child gave it, the part stays packed, and has a keyed child more
+      pub packed_split : d.at.onward ≡ [] → (beyond : Option K) → HasLast (get old.nodes id) x
+          → (e : IsPacked cmp beyond (suc level) old id) → length (walk level mid y) ≡ LEN ^ suc level
+          → IsPacked cmp beyond level mid x → IsBelow cmp separator beyond
+          → IsPacked cmp beyond (suc level) new id × (found_keyed (get old.nodes id) < found_keyed (get new.nodes id))
+      packed_split ends beyond last e full edge less =
+          let node_here : e.node ≡ above = cc (stays, is_above, e.here) in
+          let lower : (keyed e.node).entries ≡ d.at.before = rw (node_here, above_is, d.at.split, ends) (append-nil d.at.before) in
+          let grown : (keyed node').entries ≡ d.at.before ++ (separator, y) ∷ [] = rw ends at entries_now in
+          let smaller = (separators_beside o (Stands cmp level old) separator None d.at.before d.at.onward stood.last None at_bounds fits.0 fits.1).0 in
+          let counted = counts_same level old new (LEN ^ suc level) d.at.before lift.fronts (rw lower at e.full) in (
+            record {
+              node = node';
+              here = update.changed;
+              packed = rw puts.put (packed_stored o (keyed above) separator y (rw node_here at e.packed) (rw (← node_here, lower) smaller));
+              keys = rw grown (all-append _ d.at.before ((separator, y) ∷ []) (rw lower at e.keys) (less, tt));
+              full = rw grown (all-append _ d.at.before ((separator, y) ∷ []) counted (ap length (same_walk level mid new y lift.changed.0) ∙ full, tt));
+              last = x;
+              last_is = puts.last ∙ rw (← node_here) (e.last_is ∙ ap Some (one_last (get old.nodes id) e.last x (rw e.here e.last_is) last));
+              edge = same_packed cmp beyond level mid new x lift.changed.1.0 edge;
+            },
+            rw (e.here, update.changed, lower, grown) (omega (arith, length-append d.at.before ((separator, y) ∷ []))),
           )
-          )
-    ]
-
-    -- the node has the two children in place of the one
-    pub gains_low : GainsLow cmp Within level old mid new id x y separator
-    gains_low = record {
-      pairs = same_pairs;
-      stands = stands_now;
-      replaces = replaces_node;
-      spares = more_spare;
-      spends = spends_one;
-      low_room = new_room;
-      high_room = old_room;
-      routed = λ key child which routed. routed_now (λ z. ((z ≡ y) × (is_from cmp key separator ≡ true)) ⊎ (z ≡ x)) key x child which routed (λ from. inl (refl, from)) (inr refl);
-      gained = gained_is;
-    }

@@ -1,15 +1,11 @@
 -- A tree is packed if it is as full as can be along its right edge: the way from the root by unbounded children to the last leaf. Keys that arrive in ascending order leave it so.
 use Rattle.std.specs.Prelude.{◌≡◌, ℕ, zero, suc, ◌<◌, ◌==◌, ◌^◌, leb, Bool, true, false, not, ◌&&◌, ◌||◌, List, [], ◌∷◌, length, Option, None, Some}
-use Rattle.std.specs.List.{AllByRecursion}
 use Rattle.std.specs.Ordering.{is_eq}
-use Rattle.std.specs.declared.cmp.Ordering.{Ordering}
-use Rattle.slab.specs.Slab.{Slab, get}
-use Rattle.tree_array.specs.Arrivals.{Arrivals}
-use Rattle.tree_leaf.specs.declared.leaf.LeafOf.{LeafOf}
+use Rattle.tree_node.specs.Arenas.{AllByRecursion, Arrivals, LeafOf, Ordering, Slab, TreeArenas, get}
 use Rattle.tree_node.specs.declared.node.NodeOf.{NodeOf}
-use Rattle.tree_node.specs.Arenas.{TreeArenas}
 use Rattle.tree_node.specs.Shape.{found_keyed}
 use Rattle.tree_node.specs.Tree.{IsBelow, keyed, unbounded, walk}
+use Rattle.tree_node.specs.declared.node.Root.{Root}
 
 module _ {K : Type 0} (cmp : K → K → Ordering) where
   -- the arrivals have, in turn, the keys of the entries: so none is spent, and they ascend
@@ -82,6 +78,6 @@ module _ {K : Type 0} (cmp : K → K → Ordering) where
   packed_at {LEN = LEN} (suc level) arenas id = node_packed (packed_at level arenas) (λ child. length (walk level arenas child)) (LEN ^ suc level) (get arenas.nodes id)
 
   -- Whether a whole tree is packed: from depth 2 on its root has a keyed child too. A tree without a root is packed.
-  abbrev pub packed_under : {V : Type 0} {LEN : ℕ} → TreeArenas K V LEN → Option (ℕ × ℕ) → Bool
+  abbrev pub packed_under : {V : Type 0} {LEN : ℕ} → TreeArenas K V LEN → Option Root → Bool
   packed_under arenas None = true
-  packed_under arenas (Some root) = packed_at root.1 arenas root.0 && (leb root.1 1 || not (found_keyed (get arenas.nodes root.0) == 0))
+  packed_under arenas (Some root) = packed_at root.level arenas root.id && (leb root.level 1 || not (found_keyed (get arenas.nodes root.id) == 0))

@@ -1,20 +1,11 @@
 -- What making room in a part leaves: a child that has none gives its lower part to a new child before it, or is built anew.
-use Rattle.std.specs.Prelude.{◌≡◌, ◌⊎◌, ℕ, suc, ◌+◌, ◌-◌, ◌<◌, ◌≤◌, ◌==◌, ◌&&◌, Bool, true, false, List, [], ◌∷◌, ◌++◌, length, Option, Some, None, if◌then◌else◌}
-use Rattle.std.specs.List.{AllByRecursion}
-use Rattle.std.specs.declared.cmp.Ordering.{Ordering}
-use Rattle.std.specs.declared.cmp.Ordering.TheVariants.{Less}
+use Rattle.std.specs.Prelude.{◌≡◌, ◌⊎◌, ℕ, suc, ◌-◌, ◌<◌, ◌≤◌, ◌==◌, ◌&&◌, Bool, true, false, List, [], ◌∷◌, ◌++◌, length, Option, Some, None, if◌then◌else◌}
 use Rattle.std.specs.Ordering.{is_lt}
-use Rattle.slab.specs.Slab.{get}
-use Rattle.tree_array.specs.Arrivals.{Arrivals, boundary, in_order}
-use Rattle.tree_array.specs.Length.{limit}
-use Rattle.tree_leaf.specs.declared.leaf.LeafOf.{LeafOf}
-use Rattle.tree_leaf.specs.Counting.{times}
-use Rattle.tree_leaf.specs.Entries.{leaf_entries}
+use Rattle.tree_node.specs.Arenas.{AllByRecursion, Arrivals, LeafOf, Less, Ordering, TreeArenas, boundary, get, in_order, leaf_entries, limit, times}
 use Rattle.tree_node.specs.declared.node.NodeOf.{NodeOf}
-use Rattle.tree_node.specs.Arenas.{TreeArenas}
-use Rattle.tree_node.specs.Tree.{IsAbove, IsUpTo, HasChildFor, Stands, keyed, unbounded, children_of, walk}
 use Rattle.tree_node.specs.Parts.{KeepsBounds, Replaces, Unchanged}
 use Rattle.tree_node.specs.Shape.{held, room, found_keyed, spare}
+use Rattle.tree_node.specs.Tree.{IsAbove, IsUpTo, HasChildFor, Stands, keyed, unbounded, children_of, walk}
 use Rattle.tree_split.specs.Packed.{HasLast, IsPacked}
 
 -- The parent takes no child more, and the child has too many to be built anew. Nothing has changed.

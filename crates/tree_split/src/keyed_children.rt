@@ -26,8 +26,8 @@ pub fn parting_place<K: Ord + Drop, I: Drop, const LEN: usize>(
     }
 }
 
-/// Puts a child under its separator. Makes at most 4 comparisons (3 among 7 slots). The caller must pass a separator that
-/// is new in an array with room.
+/// Puts a child under its separator. Makes one comparison if the separator is larger than all, else at most 5 (4 among
+/// 7 slots). The caller must pass a separator that is new in an array with room.
 pub fn put_keyed<K: Ord + Drop, I: Drop, const LEN: usize>(
     children: &mut ArrayOf<K, I, LEN>,
     separator: K,
@@ -38,5 +38,5 @@ pub fn put_keyed<K: Ord + Drop, I: Drop, const LEN: usize>(
     ensures put { children.new ≡ stored K.cmp children.old separator child }
     ensures few { length children.new.entries ≤ LEN }
 {
-    let _ = children.insert::<false>(separator, child);
+    let _ = children.store_beyond::<false>(true, separator, child);
 }

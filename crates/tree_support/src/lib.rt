@@ -1,15 +1,17 @@
 //! What the tests of an index and of its nodes share: a walk over a tree, which tells what is wrong with it, keys that count their
-//! comparisons, and scenarios that are played over an index of either size.
+//! comparisons, an index of numbers as tests call it, and scenarios that are played over an index of either size.
 #![tactic(auto)]
 
 mod asked;
 mod flaw;
 mod index;
+mod numbers;
 mod scenario;
 mod walker;
 
 pub use asked::Asked;
 pub use flaw::Flaw;
 pub use index::flaws;
-pub use scenario::{Scenario, at_both_sizes};
+pub use numbers::{Numbers, ascend, put};
+pub use scenario::{Scenario, succeeds_at_both_sizes};
 pub use walker::walk;

@@ -196,7 +196,7 @@ fn lists_backward<const LEN: usize>(
 }
 
 /// The pair of an entry.
-fn copied(entry: Option<(&u64, &u64)>) -> Option<(u64, u64)> {
+pub(crate) fn copied(entry: Option<(&u64, &u64)>) -> Option<(u64, u64)> {
     let (key, value) = entry?;
     Some((*key, *value))
 }

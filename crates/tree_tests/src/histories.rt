@@ -48,6 +48,10 @@ fn keeps_its_small_calls_steps(rt: &impl Abort, alloc: Global) -> Result<(), All
 
 #[test]
 fn keeps_its_calls(rt: HostRuntime) {
-    assert!(rt; succeeds(rt.alloc(), || keeps_its_calls_steps(&rt, rt.alloc())));
-    assert!(rt; succeeds(rt.alloc(), || keeps_its_small_calls_steps(&rt, rt.alloc())));
+    assert!(rt;
+        succeeds(rt.alloc(), || {
+            keeps_its_calls_steps(&rt, rt.alloc())?;
+            keeps_its_small_calls_steps(&rt, rt.alloc())
+        })
+    );
 }

@@ -1,9 +1,11 @@
 //! Worked calls of the index, and its texts.
 use crate::keys::Tagged;
 use std::alloc::{AllocError, Global};
+use std::fmt::Debug;
 use std::process::Abort;
 use test_support::refusals::succeeds;
 use tree_index::{InsertError, SmallTreeIndex, TreeIndex, TreeIndexOf};
+use tree_support::{Numbers, Scenario, put, succeeds_at_both_sizes};
 
 /// The index of these pairs.
 fn index_of(alloc: Global, pairs: &[(u64, u64)]) -> Result<TreeIndex<u64, u64>, AllocError> {
@@ -16,38 +18,37 @@ fn index_of(alloc: Global, pairs: &[(u64, u64)]) -> Result<TreeIndex<u64, u64>, 
     Ok(index)
 }
 
-/// Stores the pair of 1 and 10.
-fn put<const LEN: usize>(index: &mut TreeIndexOf<u64, u64, LEN>) -> Result<(), AllocError> {
-    match index.insert_sync(1, 10) {
-        Ok(()) => Ok(()),
-        Err(_) => Err(AllocError),
+/// An index of numbers whose conditions are counted.
+trait Conditioned: Numbers {
+    /// Removes the pair of the key 1 by `remove_if_sync` if it has this value. Returns whether it did, and how often the
+    /// condition was asked.
+    fn remove_value(&mut self, wanted: u64) -> (bool, u64);
+}
+
+impl<const LEN: usize> Conditioned for TreeIndexOf<u64, u64, LEN> {
+    fn remove_value(&mut self, wanted: u64) -> (bool, u64) {
+        let mut asked = 0u64;
+        let removed = self.remove_if_sync(&1, |value| {
+            asked = asked.saturating_add(1);
+            *value == wanted
+        });
+        (removed, asked)
     }
 }
 
-/// Whether a removal says that the key 1 was present.
-fn removes<const LEN: usize>(index: &mut TreeIndexOf<u64, u64, LEN>) -> bool {
-    index.remove_sync(&1)
-}
-
 /// An insert of a key that is present keeps the first pair.
-fn keeps_the_first<const LEN: usize>(
-    rt: &impl Abort,
-    index: &mut TreeIndexOf<u64, u64, LEN>,
-) -> Result<(), AllocError> {
-    put(index)?;
-    assert!(rt; index.insert_sync(1, 11) == Err(InsertError::Duplicate(1, 11)));
-    assert!(rt; index.peek(&1).copied() == Some(10));
+fn keeps_the_first(rt: &impl Abort, index: &mut impl Numbers) -> Result<(), AllocError> {
+    put(index, 1, 10)?;
+    assert!(rt; index.insert(1, 11) == Err(InsertError::Duplicate(1, 11)));
+    assert!(rt; index.peek(1) == Some(10));
     Ok(())
 }
 
 /// A removal says whether the key was present.
-fn says_whether_it_removed<const LEN: usize>(
-    rt: &impl Abort,
-    index: &mut TreeIndexOf<u64, u64, LEN>,
-) -> Result<(), AllocError> {
-    assert!(rt; !removes(index));
-    put(index)?;
-    assert!(rt; removes(index));
+fn says_whether_it_removed(rt: &impl Abort, index: &mut impl Numbers) -> Result<(), AllocError> {
+    assert!(rt; !index.remove(1));
+    put(index, 1, 10)?;
+    assert!(rt; index.remove(1));
     Ok(())
 }
 
@@ -56,47 +57,37 @@ fn says_whether_it_removed<const LEN: usize>(
 static CONDITIONS: [(u64, bool, u64); 3] = [(0, false, 1), (10, true, 1), (10, false, 0)];
 
 /// The condition is asked once of a key that is present, and never of an absent one.
-fn asks_its_condition_once<const LEN: usize>(
+fn asks_its_condition_once(
     rt: &impl Abort,
-    index: &mut TreeIndexOf<u64, u64, LEN>,
+    index: &mut impl Conditioned,
 ) -> Result<(), AllocError> {
-    put(index)?;
+    put(index, 1, 10)?;
     for (wanted, removes, times) in &CONDITIONS {
-        let mut asked = 0u64;
-        let removed = index.remove_if_sync(&1, |value| {
-            asked = asked.saturating_add(1);
-            *value == *wanted
-        });
-        assert!(rt; removed == *removes && asked == *times);
+        assert!(rt; index.remove_value(*wanted) == (*removes, *times));
     }
     Ok(())
 }
 
-fn expect_calls<const LEN: usize>(
-    rt: &impl Abort,
-    index: &mut TreeIndexOf<u64, u64, LEN>,
-) -> Result<(), AllocError> {
-    keeps_the_first(rt, index)?;
-    index.clear();
-    says_whether_it_removed(rt, index)?;
-    index.clear();
-    asks_its_condition_once(rt, index)
+/// Makes the calls, each time over an empty index.
+#[derive(Drop)]
+struct Calls<'r, R> {
+    rt: &'r R,
 }
 
-fn calls_steps(rt: &impl Abort, alloc: Global) -> Result<(), AllocError> {
-    let mut index: TreeIndex<u64, u64> = TreeIndex::new(alloc);
-    expect_calls(rt, &mut index)
-}
-
-fn small_calls_steps(rt: &impl Abort, alloc: Global) -> Result<(), AllocError> {
-    let mut index: SmallTreeIndex<u64, u64> = SmallTreeIndex::new(alloc);
-    expect_calls(rt, &mut index)
+impl<R: Abort, I: Conditioned> Scenario<I> for Calls<'_, R> {
+    fn play(&self, index: &mut I) -> Result<(), AllocError> {
+        keeps_the_first(self.rt, index)?;
+        index.clear();
+        says_whether_it_removed(self.rt, index)?;
+        index.clear();
+        asks_its_condition_once(self.rt, index)
+    }
 }
 
 #[test]
 fn answers_inserts_and_removals(rt: HostRuntime) {
-    assert!(rt; succeeds(rt.alloc(), || calls_steps(&rt, rt.alloc())));
-    assert!(rt; succeeds(rt.alloc(), || small_calls_steps(&rt, rt.alloc())));
+    let scenario = Calls { rt: &rt };
+    assert!(rt; succeeds_at_both_sizes(rt.alloc(), &scenario));
 }
 
 /// Pairs, and the text of their index.
@@ -108,7 +99,19 @@ static TEXTS: [(&[(u64, u64)], &str); 2] = [
     ),
 ];
 
-/// Compares what `Debug` writes of the index of these pairs.
+/// Compares what `Debug` writes.
+fn expect_text(
+    rt: &impl Abort,
+    alloc: Global,
+    shown: &impl Debug,
+    wanted: &str,
+) -> Result<(), AllocError> {
+    let text = format!(in alloc; "{shown:?}")?;
+    assert!(rt; text.as_str() == wanted);
+    Ok(())
+}
+
+/// Compares the text of the index of these pairs.
 fn expect_shown(
     rt: &impl Abort,
     alloc: Global,
@@ -116,9 +119,7 @@ fn expect_shown(
     wanted: &str,
 ) -> Result<(), AllocError> {
     let index = index_of(alloc, pairs)?;
-    let shown = format!(in alloc; "{index:?}")?;
-    assert!(rt; shown.as_str() == wanted);
-    Ok(())
+    expect_text(rt, alloc, &index, wanted)
 }
 
 #[test]
@@ -151,28 +152,52 @@ fn five(tag: char) -> Tagged {
     Tagged { number: 5, tag }
 }
 
-/// An upsert replaces the stored key as well as its value.
-fn replaces_the_key<const LEN: usize>(
-    rt: &impl Abort,
-    index: &mut TreeIndexOf<Tagged, u64, LEN>,
-) -> Result<(), AllocError> {
-    for (tag, value) in [('a', 1), ('b', 2)] {
-        if index.upsert_sync(five(tag), value).is_err() {
-            return Err(AllocError);
-        }
-    }
-    let entry = index.peek_entry(&five('c'));
-    assert!(rt; entry.is_some_and(|(key, value)| key.tag == 'b' && *value == 2));
-    keeps_the_key(rt, index);
-    Ok(())
+/// An index whose keys have tags.
+trait TaggedKeys {
+    /// Stores a value at the key 5 with a tag by `upsert_sync`.
+    fn upsert(&mut self, tag: char, value: u64) -> Result<(), AllocError>;
+
+    /// Replaces the value at the key 5 by `replace_sync`.
+    fn replace(&mut self, tag: char, value: u64) -> Result<u64, u64>;
+
+    /// Adds 1 to the value at the key 5 by `modify_sync`.
+    fn count_up(&mut self, tag: char) -> bool;
+
+    /// Returns the tag and the value that `peek_entry` finds at the key 5.
+    fn entry(&self, tag: char) -> Option<(char, u64)>;
 }
 
-/// A value that is replaced, or changed, leaves the stored key.
-fn keeps_the_key<const LEN: usize>(rt: &impl Abort, index: &mut TreeIndexOf<Tagged, u64, LEN>) {
-    assert!(rt; index.replace_sync(&five('d'), 3) == Ok(2));
-    assert!(rt; index.modify_sync(&five('e'), |value| value.wrapping_add(1)));
-    let entry = index.peek_entry(&five('f'));
-    assert!(rt; entry.is_some_and(|(key, value)| key.tag == 'b' && *value == 4));
+impl<const LEN: usize> TaggedKeys for TreeIndexOf<Tagged, u64, LEN> {
+    fn upsert(&mut self, tag: char, value: u64) -> Result<(), AllocError> {
+        match self.upsert_sync(five(tag), value) {
+            Ok(()) => Ok(()),
+            Err(_) => Err(AllocError),
+        }
+    }
+
+    fn replace(&mut self, tag: char, value: u64) -> Result<u64, u64> {
+        self.replace_sync(&five(tag), value)
+    }
+
+    fn count_up(&mut self, tag: char) -> bool {
+        self.modify_sync(&five(tag), |value| value.wrapping_add(1))
+    }
+
+    fn entry(&self, tag: char) -> Option<(char, u64)> {
+        self.peek_entry(&five(tag))
+            .map(|(key, value)| (key.tag, *value))
+    }
+}
+
+/// An upsert replaces the stored key as well as its value. A value that is replaced, or changed, leaves the stored key.
+fn replaces_the_key(rt: &impl Abort, index: &mut impl TaggedKeys) -> Result<(), AllocError> {
+    index.upsert('a', 1)?;
+    index.upsert('b', 2)?;
+    assert!(rt; index.entry('c') == Some(('b', 2)));
+    assert!(rt; index.replace('d', 3) == Ok(2));
+    assert!(rt; index.count_up('e'));
+    assert!(rt; index.entry('f') == Some(('b', 4)));
+    Ok(())
 }
 
 fn replaces_the_key_steps(rt: &impl Abort, alloc: Global) -> Result<(), AllocError> {
@@ -187,6 +212,10 @@ fn replaces_a_small_key_steps(rt: &impl Abort, alloc: Global) -> Result<(), Allo
 
 #[test]
 fn replaces_the_stored_key(rt: HostRuntime) {
-    assert!(rt; succeeds(rt.alloc(), || replaces_the_key_steps(&rt, rt.alloc())));
-    assert!(rt; succeeds(rt.alloc(), || replaces_a_small_key_steps(&rt, rt.alloc())));
+    assert!(rt;
+        succeeds(rt.alloc(), || {
+            replaces_the_key_steps(&rt, rt.alloc())?;
+            replaces_a_small_key_steps(&rt, rt.alloc())
+        })
+    );
 }

@@ -1,6 +1,7 @@
 //! What look-ups compare: how often, and which keys.
 ghost use Rattle.std.specs.Prelude.{◌≡◌, ◌<◌};
 
+use crate::asked::AskedKeys;
 use std::alloc::{AllocError, Global};
 use std::cell::Cell;
 use std::cmp::Ordering;
@@ -10,10 +11,10 @@ use std::sync::ledger::{Blank, Ledger};
 use test_support::refusals::succeeds;
 use tree_array::array::{Judge, KeyJudge, Steps};
 use tree_index::{SmallTreeIndex, TreeIndex, TreeIndexOf};
-use tree_support::Asked;
+use tree_support::{Asked, Numbers, Scenario, put, succeeds_at_both_sizes};
 
 /// What a judge looks a key up in.
-trait LookedUp<K: Ord> {
+pub trait LookedUp<K: Ord> {
     /// Whether the judge finds a pair.
     fn finds<J: Judge<K>>(&self, judge: &mut J) -> bool;
 }
@@ -31,7 +32,7 @@ impl<const LEN: usize> LookedUp<u64> for TreeIndexOf<u64, u64, LEN> {
 }
 
 /// Whether a judge of the key finds a pair.
-fn is_found<K: Ord, I: LookedUp<K>>(index: &I, key: &K) -> bool {
+pub(crate) fn is_found<K: Ord, I: LookedUp<K>>(index: &I, key: &K) -> bool {
     is_found_by::<K, I, Brand>(index, key, Blank::new(1))
 }
 
@@ -45,9 +46,9 @@ fn is_found_by<K: Ord, I: LookedUp<K>, L: Ledger>(index: &I, key: &K, blank: Bla
 }
 
 /// Makes each look-up of a number, which compare it at most so often.
-fn look_up<'c, const LEN: usize>(
+fn look_up<'c>(
     rt: &impl Abort,
-    index: &TreeIndexOf<Asked<'c>, u64, LEN>,
+    index: &impl AskedKeys<'c>,
     counter: &'c Cell<u64>,
     number: u64,
     most: u64,
@@ -56,56 +57,16 @@ fn look_up<'c, const LEN: usize>(
     counter.set(0);
     let there = index.contains(&key);
     assert!(rt; counter.replace(0) <= most);
-    for (is_there, asked) in lent(index, &key, counter) {
+    let found = [
+        (index.is_peeked(&key), counter.replace(0)),
+        (index.is_entry(&key), counter.replace(0)),
+        (index.is_shown(&key), counter.replace(0)),
+        (index.is_read(&key), counter.replace(0)),
+        (is_found(index, &key), counter.replace(0)),
+    ];
+    for (is_there, asked) in found {
         assert!(rt; is_there == there && asked <= most);
     }
-    for (is_there, asked) in found(index, &key, counter) {
-        assert!(rt; is_there == there && asked <= most);
-    }
-    expect_read(rt, index, key, there);
-    assert!(rt; counter.get() <= most);
-}
-
-/// Whether calls that lend a pair find a key, and how often each compares it.
-fn lent<'c, const LEN: usize>(
-    index: &TreeIndexOf<Asked<'c>, u64, LEN>,
-    key: &Asked<'c>,
-    counter: &'c Cell<u64>,
-) -> [(bool, u64); 2] {
-    [
-        (index.peek(key).is_some(), counter.replace(0)),
-        (index.peek_entry(key).is_some(), counter.replace(0)),
-    ]
-}
-
-/// The same of a reader and of a judge.
-fn found<'c, const LEN: usize>(
-    index: &TreeIndexOf<Asked<'c>, u64, LEN>,
-    key: &Asked<'c>,
-    counter: &'c Cell<u64>,
-) -> [(bool, u64); 2] {
-    [
-        (is_read(index, key), counter.replace(0)),
-        (is_found(index, key), counter.replace(0)),
-    ]
-}
-
-/// Whether a reader gets a pair.
-fn is_read<'c, const LEN: usize>(
-    index: &TreeIndexOf<Asked<'c>, u64, LEN>,
-    key: &Asked<'c>,
-) -> bool {
-    index.peek_with(key, |_, value| *value).is_some()
-}
-
-/// A reader gets a pair by the other call too.
-fn expect_read<'c, const LEN: usize>(
-    rt: &impl Abort,
-    index: &TreeIndexOf<Asked<'c>, u64, LEN>,
-    key: Asked<'c>,
-    there: bool,
-) {
-    assert!(rt; index.read_sync(&key, |_, value| *value).is_some() == there);
 }
 
 /// How many pairs an index has when it is looked up in, and how many comparisons an array takes at most.
@@ -126,9 +87,9 @@ static SMALL_SIZES: Sizes = Sizes {
 };
 
 /// Looks up each key of an index of the even numbers up to the last, and those beside it.
-fn look_up_all<'c, const LEN: usize>(
+fn look_up_all<'c>(
     rt: &impl Abort,
-    index: &TreeIndexOf<Asked<'c>, u64, LEN>,
+    index: &impl AskedKeys<'c>,
     counter: &'c Cell<u64>,
     last: u64,
     most: u64,
@@ -140,21 +101,16 @@ fn look_up_all<'c, const LEN: usize>(
 }
 
 /// Stores even numbers, and looks all up at each of the sizes.
-fn compares_few<'c, const LEN: usize>(
+fn compares_few<'c>(
     rt: &impl Abort,
-    index: &mut TreeIndexOf<Asked<'c>, u64, LEN>,
+    index: &mut impl AskedKeys<'c>,
     counter: &'c Cell<u64>,
     sizes: &Sizes,
 ) -> Result<(), AllocError> {
     let [_, _, count] = sizes.counts;
     for number in 1..=count {
         let last = number.saturating_mul(2);
-        if index
-            .insert_sync(Asked::new(last, counter), number)
-            .is_err()
-        {
-            return Err(AllocError);
-        }
+        index.store(last, counter)?;
         if sizes.counts.contains(&number) {
             look_up_all(rt, index, counter, last, sizes.most);
         }
@@ -177,8 +133,12 @@ fn compares_fewer_keys_steps(rt: &impl Abort, alloc: Global) -> Result<(), Alloc
 /// At most one array a level is searched, and the leaf, with at most four comparisons each among 15 slots, and three among 7.
 #[test]
 fn compares_few_keys(rt: HostRuntime) {
-    assert!(rt; succeeds(rt.alloc(), || compares_few_keys_steps(&rt, rt.alloc())));
-    assert!(rt; succeeds(rt.alloc(), || compares_fewer_keys_steps(&rt, rt.alloc())));
+    assert!(rt;
+        succeeds(rt.alloc(), || {
+            compares_few_keys_steps(&rt, rt.alloc())?;
+            compares_fewer_keys_steps(&rt, rt.alloc())
+        })
+    );
 }
 
 /// A judge, and the stored key that it found equal to its own.
@@ -223,37 +183,30 @@ fn found_and_asked_by<I: LookedUp<u64>, L: Ledger>(
 }
 
 /// Stores the even numbers up to 482, and looks all numbers up.
-fn asks_the_key<const LEN: usize>(
-    rt: &impl Abort,
-    index: &mut TreeIndexOf<u64, u64, LEN>,
-) -> Result<(), AllocError> {
-    for number in 1..=241u64 {
-        if index.insert_sync(number.saturating_mul(2), number).is_err() {
-            return Err(AllocError);
+#[derive(Drop)]
+struct Asking<'r, R> {
+    rt: &'r R,
+}
+
+impl<R: Abort, I: Numbers + LookedUp<u64>> Scenario<I> for Asking<'_, R> {
+    fn play(&self, index: &mut I) -> Result<(), AllocError> {
+        let rt = self.rt;
+        for number in 1..=241u64 {
+            put(index, number.saturating_mul(2), number)?;
         }
+        for key in 0..=483u64 {
+            let there = (2..=482).contains(&key) && key % 2 == 0;
+            let wanted = if there { Some(key) } else { None };
+            let told = found_and_asked(index, key);
+            assert!(rt; told == (there, wanted));
+        }
+        Ok(())
     }
-    for key in 0..=483u64 {
-        let there = (2..=482).contains(&key) && key % 2 == 0;
-        let wanted = if there { Some(key) } else { None };
-        let told = found_and_asked(index, key);
-        assert!(rt; told == (there, wanted));
-    }
-    Ok(())
-}
-
-fn asks_the_key_it_finds_steps(rt: &impl Abort, alloc: Global) -> Result<(), AllocError> {
-    let mut index: TreeIndex<u64, u64> = TreeIndex::new(alloc);
-    asks_the_key(rt, &mut index)
-}
-
-fn asks_the_small_key_steps(rt: &impl Abort, alloc: Global) -> Result<(), AllocError> {
-    let mut index: SmallTreeIndex<u64, u64> = SmallTreeIndex::new(alloc);
-    asks_the_key(rt, &mut index)
 }
 
 /// A look-up that finds a pair has asked its judge of that very key, and one that finds none has asked of no equal key.
 #[test]
 fn asks_the_key_it_finds(rt: HostRuntime) {
-    assert!(rt; succeeds(rt.alloc(), || asks_the_key_it_finds_steps(&rt, rt.alloc())));
-    assert!(rt; succeeds(rt.alloc(), || asks_the_small_key_steps(&rt, rt.alloc())));
+    let scenario = Asking { rt: &rt };
+    assert!(rt; succeeds_at_both_sizes(rt.alloc(), &scenario));
 }

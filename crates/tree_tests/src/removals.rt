@@ -1,40 +1,32 @@
 //! How many comparisons removals make.
+use crate::asked::AskedKeys;
 use std::alloc::{AllocError, Global};
 use std::cell::Cell;
-use std::ops::Bound;
 use std::process::Abort;
 use test_support::refusals::succeeds;
-use tree_index::{SmallTreeIndex, TreeIndex, TreeIndexOf};
+use tree_index::{SmallTreeIndex, TreeIndex};
 use tree_support::Asked;
 
 const KEYS: u64 = 3616;
 
 /// Stores the keys up to the last in ascending order.
-fn fill<'c, const LEN: usize>(
-    index: &mut TreeIndexOf<Asked<'c>, u64, LEN>,
-    counter: &'c Cell<u64>,
-) -> Result<(), AllocError> {
+fn fill<'c>(index: &mut impl AskedKeys<'c>, counter: &'c Cell<u64>) -> Result<(), AllocError> {
     for number in 1..=KEYS {
-        if index
-            .insert_sync(Asked::new(number, counter), number)
-            .is_err()
-        {
-            return Err(AllocError);
-        }
+        index.store(number, counter)?;
     }
     Ok(())
 }
 
 /// Removes the keys from 226 to 3375, with at most so many comparisons.
-fn compares_at_the_borders<'c, const LEN: usize>(
+fn compares_at_the_borders<'c>(
     rt: &impl Abort,
-    index: &mut TreeIndexOf<Asked<'c>, u64, LEN>,
+    index: &mut impl AskedKeys<'c>,
     counter: &'c Cell<u64>,
 ) -> Result<(), AllocError> {
     fill(index, counter)?;
     let (low, high) = (Asked::new(226, counter), Asked::new(3375, counter));
     counter.set(0);
-    index.remove_range_sync((Bound::Included(&low), Bound::Included(&high)));
+    index.remove_range(&low, &high);
     assert!(rt; counter.get() <= 150 && index.len() == 466);
     Ok(())
 }
@@ -54,28 +46,31 @@ fn small_borders_steps(rt: &impl Abort, alloc: Global) -> Result<(), AllocError>
 /// Of 3,616 keys 3,150 go, and the two borders alone are compared.
 #[test]
 fn compares_at_the_borders_alone(rt: HostRuntime) {
-    assert!(rt; succeeds(rt.alloc(), || borders_steps(&rt, rt.alloc())));
-    assert!(rt; succeeds(rt.alloc(), || small_borders_steps(&rt, rt.alloc())));
+    assert!(rt;
+        succeeds(rt.alloc(), || {
+            borders_steps(&rt, rt.alloc())?;
+            small_borders_steps(&rt, rt.alloc())
+        })
+    );
 }
 
 /// Removes a key, which is there. Returns how many comparisons that makes.
-fn compared_by_removal<'c, const LEN: usize>(
+fn compared_by_removal<'c>(
     rt: &impl Abort,
-    index: &mut TreeIndexOf<Asked<'c>, u64, LEN>,
+    index: &mut impl AskedKeys<'c>,
     counter: &'c Cell<u64>,
     number: u64,
 ) -> u64 {
     let key = Asked::new(number, counter);
     counter.set(0);
-    let removed = index.remove_sync(&key);
-    assert!(rt; removed);
+    assert!(rt; index.remove(&key));
     counter.get()
 }
 
 /// Removes all keys one by one in ascending order. All but so many removals make few comparisons.
-fn descends_seldom<'c, const LEN: usize>(
+fn descends_seldom<'c>(
     rt: &impl Abort,
-    index: &mut TreeIndexOf<Asked<'c>, u64, LEN>,
+    index: &mut impl AskedKeys<'c>,
     counter: &'c Cell<u64>,
     few: u64,
     descents: u64,
@@ -107,6 +102,10 @@ fn small_run_steps(rt: &impl Abort, alloc: Global) -> Result<(), AllocError> {
 /// key with two keys of its leaf, and searches there.
 #[test]
 fn descends_seldom_in_a_run(rt: HostRuntime) {
-    assert!(rt; succeeds(rt.alloc(), || run_steps(&rt, rt.alloc())));
-    assert!(rt; succeeds(rt.alloc(), || small_run_steps(&rt, rt.alloc())));
+    assert!(rt;
+        succeeds(rt.alloc(), || {
+            run_steps(&rt, rt.alloc())?;
+            small_run_steps(&rt, rt.alloc())
+        })
+    );
 }

@@ -3,8 +3,9 @@ use std::alloc::{AllocError, Global};
 use std::ops::Bound;
 use std::process::Abort;
 use test_support::refusals::succeeds;
-use tree_index::{Command, Reply, SmallTreeIndex, TreeIndex, TreeIndexOf};
+use tree_index::{Command, Reply, TreeIndex, TreeIndexOf};
 use tree_runs::run;
+use tree_support::{Numbers, Scenario, succeeds_at_both_sizes};
 
 /// Commands of every kind, and the reply to each by an index that was empty.
 static COMMANDS: [(Command<u64, u64>, Reply<u64>); 10] = [
@@ -23,19 +24,25 @@ static COMMANDS: [(Command<u64, u64>, Reply<u64>); 10] = [
     (Command::Clear, Reply::Done),
 ];
 
-/// Runs the commands over a new index. Returns `Err` if memory is refused.
-fn replies<const LEN: usize>(
-    alloc: Global,
-    index: &mut TreeIndexOf<u64, u64, LEN>,
-) -> Result<Vec<Reply<u64>>, AllocError> {
+/// An index of numbers that runs commands.
+trait Runs: Numbers {
+    /// Calls `run`.
+    fn run(&mut self, commands: Vec<Command<u64, u64>>) -> Result<Vec<Reply<u64>>, AllocError>;
+}
+
+impl<const LEN: usize> Runs for TreeIndexOf<u64, u64, LEN> {
+    fn run(&mut self, commands: Vec<Command<u64, u64>>) -> Result<Vec<Reply<u64>>, AllocError> {
+        run(self, commands)
+    }
+}
+
+/// Returns the commands.
+fn commands(alloc: Global) -> Result<Vec<Command<u64, u64>>, AllocError> {
     let mut commands = Vec::new(alloc);
     for (command, _) in &COMMANDS {
         commands.push(*command)?;
     }
-    match run(index, commands) {
-        Ok(replies) => Ok(replies),
-        Err(_) => Err(AllocError),
-    }
+    Ok(commands)
 }
 
 /// Compares the replies with the wanted ones.
@@ -50,25 +57,28 @@ fn expect_replies(rt: &impl Abort, replies: &[Reply<u64>]) -> Result<(), AllocEr
     Ok(())
 }
 
-fn runs_every_command_steps(rt: &impl Abort, alloc: Global) -> Result<(), AllocError> {
-    let mut index: TreeIndex<u64, u64> = TreeIndex::new(alloc);
-    expect_replies(rt, &replies(alloc, &mut index)?)
+/// Runs the commands over a new index.
+#[derive(Drop)]
+struct Running<'r, R> {
+    rt: &'r R,
+    alloc: Global,
 }
 
-fn runs_every_small_command_steps(rt: &impl Abort, alloc: Global) -> Result<(), AllocError> {
-    let mut index: SmallTreeIndex<u64, u64> = SmallTreeIndex::new(alloc);
-    expect_replies(rt, &replies(alloc, &mut index)?)
+impl<R: Abort, I: Runs> Scenario<I> for Running<'_, R> {
+    fn play(&self, index: &mut I) -> Result<(), AllocError> {
+        let list = commands(self.alloc)?;
+        let replies = index.run(list)?;
+        expect_replies(self.rt, &replies)
+    }
 }
 
 #[test]
 fn runs_every_command(rt: HostRuntime) {
-    assert!(rt; succeeds(rt.alloc(), || runs_every_command_steps(&rt, rt.alloc())));
-    assert!(rt;
-        succeeds(
-            rt.alloc(),
-            || runs_every_small_command_steps(&rt, rt.alloc())
-        )
-    );
+    let scenario = Running {
+        rt: &rt,
+        alloc: rt.alloc(),
+    };
+    assert!(rt; succeeds_at_both_sizes(rt.alloc(), &scenario));
 }
 
 /// So many ascending inserts, and the depth then.
@@ -87,7 +97,7 @@ static DEPTHS: [(u64, usize); 9] = [
 /// Runs the inserts of the keys from the first to the last.
 fn run_inserts(
     alloc: Global,
-    index: &mut TreeIndex<u64, u64>,
+    index: &mut impl Runs,
     first: u64,
     last: u64,
 ) -> Result<(), AllocError> {
@@ -96,24 +106,32 @@ fn run_inserts(
     for key in first..=last {
         commands.push(Command::Insert(key, key))?;
     }
-    let Ok(replies) = run(index, commands) else {
-        return Err(AllocError);
-    };
+    let replies = index.run(commands)?;
     if replies.iter().any(|reply| matches!(reply, Reply::Refused)) {
         return Err(AllocError);
     }
     Ok(())
 }
 
-fn runs_ascending_inserts_steps(rt: &impl Abort, alloc: Global) -> Result<(), AllocError> {
-    let mut index: TreeIndex<u64, u64> = TreeIndex::new(alloc);
+/// Compares the depth and the length.
+fn expect_grown(rt: &impl Abort, index: &impl Numbers, (count, depth): (u64, usize)) {
+    assert!(rt; index.depth() == depth && index.len() as u64 == count);
+}
+
+/// Runs so many inserts as a row says after those of the row before it.
+fn run_rows(rt: &impl Abort, alloc: Global, index: &mut impl Runs) -> Result<(), AllocError> {
     let mut stored: u64 = 0;
-    for (count, depth) in &DEPTHS {
-        run_inserts(alloc, &mut index, stored.saturating_add(1), *count)?;
-        stored = *count;
-        assert_eq!(rt; (index.depth(), index.len() as u64), (*depth, stored));
+    for row in &DEPTHS {
+        run_inserts(alloc, index, stored.saturating_add(1), row.0)?;
+        stored = row.0;
+        expect_grown(rt, index, *row);
     }
     Ok(())
+}
+
+fn runs_ascending_inserts_steps(rt: &impl Abort, alloc: Global) -> Result<(), AllocError> {
+    let mut index: TreeIndex<u64, u64> = TreeIndex::new(alloc);
+    run_rows(rt, alloc, &mut index)
 }
 
 #[test]

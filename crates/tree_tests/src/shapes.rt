@@ -2,21 +2,8 @@
 use std::alloc::{AllocError, Global};
 use std::process::Abort;
 use test_support::refusals::succeeds;
-use tree_index::{TreeIndex, TreeIndexOf};
-
-/// Inserts the keys from the first to the last.
-fn grow<const LEN: usize>(
-    index: &mut TreeIndexOf<u64, u64, LEN>,
-    first: u64,
-    last: u64,
-) -> Result<(), AllocError> {
-    for key in first..=last {
-        if index.insert_sync(key, key).is_err() {
-            return Err(AllocError);
-        }
-    }
-    Ok(())
-}
+use tree_index::{SmallTreeIndex, TreeIndex, TreeIndexOf};
+use tree_support::{Numbers, ascend, put};
 
 /// So many ascending keys, and the depth then. With seven slots a leaf node holds 8 leaves of 7, a node over such nodes
 /// 7 of 49 pairs and one of 56, and the next level 7 of 343 pairs and one of 399.
@@ -30,15 +17,20 @@ static DEPTHS: [(u64, usize); 7] = [
     (2801, 4),
 ];
 
-fn grows_with_seven_slots_steps(rt: &impl Abort, alloc: Global) -> Result<(), AllocError> {
-    let mut index: TreeIndexOf<u64, u64, 7> = TreeIndexOf::new(alloc);
+/// Stores ascending keys, and compares the depths.
+fn expect_depths(rt: &impl Abort, index: &mut impl Numbers) -> Result<(), AllocError> {
     let mut stored: u64 = 0;
     for (count, depth) in &DEPTHS {
-        grow(&mut index, stored.saturating_add(1), *count)?;
+        ascend(index, stored.saturating_add(1), *count, 1)?;
         stored = *count;
         assert!(rt; index.depth() == *depth);
     }
     Ok(())
+}
+
+fn grows_with_seven_slots_steps(rt: &impl Abort, alloc: Global) -> Result<(), AllocError> {
+    let mut index: SmallTreeIndex<u64, u64> = SmallTreeIndex::new(alloc);
+    expect_depths(rt, &mut index)
 }
 
 #[test]
@@ -46,10 +38,21 @@ fn grows_by_a_level_with_seven_slots(rt: HostRuntime) {
     assert!(rt; succeeds(rt.alloc(), || grows_with_seven_slots_steps(&rt, rt.alloc())));
 }
 
-/// The numbers of leaves and nodes.
-fn counts(index: &TreeIndex<u64, u64>) -> (usize, usize) {
-    let (arenas, _) = index.parts();
-    (arenas.leaf_count(), arenas.node_count())
+/// An index of numbers whose leaves and nodes are counted.
+trait Shaped: Numbers {
+    /// Returns the depth, and the numbers of leaves and nodes.
+    fn shape(&self) -> Shape;
+}
+
+impl Shaped for TreeIndex<u64, u64> {
+    fn shape(&self) -> Shape {
+        let (arenas, _) = self.parts();
+        (
+            TreeIndexOf::depth(self),
+            arenas.leaf_count(),
+            arenas.node_count(),
+        )
+    }
 }
 
 /// The depth, and the numbers of leaves and nodes.
@@ -104,48 +107,28 @@ static ROWS: [Row; 5] = [
 ];
 
 /// Removes the keys of a row.
-fn shrink(index: &mut TreeIndex<u64, u64>, row: &Row) {
+fn shrink(index: &mut impl Numbers, row: &Row) {
     let (first, last) = row.removed;
     for key in first..=last {
         let mirrored = first.saturating_add(last.saturating_sub(key));
-        let _ = index.remove_sync(if row.descending { &mirrored } else { &key });
+        let _ = index.remove(if row.descending { mirrored } else { key });
     }
-}
-
-/// Compares the shape.
-fn expect_shape(rt: &impl Abort, index: &TreeIndex<u64, u64>, (depth, leaves, nodes): Shape) {
-    assert!(rt; index.depth() == depth && counts(index) == (leaves, nodes));
 }
 
 /// An index of one level has no pair, and then takes one.
-fn expect_begun_anew(rt: &impl Abort, index: &mut TreeIndex<u64, u64>) -> Result<(), AllocError> {
+fn expect_begun_anew(rt: &impl Abort, index: &mut impl Numbers) -> Result<(), AllocError> {
     assert!(rt; index.len() == 0);
-    if index.insert_sync(1, 1).is_err() {
-        return Err(AllocError);
-    }
+    put(index, 1, 1)?;
     assert!(rt; index.depth() == 1 && index.spare() == 14 && index.len() == 1);
     Ok(())
 }
 
-/// Grows an index to the first shape of a row.
-fn expect_grown(
-    rt: &impl Abort,
-    index: &mut TreeIndex<u64, u64>,
-    row: &Row,
-) -> Result<(), AllocError> {
-    grow(index, row.keys.0, row.keys.1)?;
-    expect_shape(rt, index, row.grown);
-    Ok(())
-}
-
-/// Removes the keys of a row, which leaves its last shape.
-fn expect_shrunk(
-    rt: &impl Abort,
-    index: &mut TreeIndex<u64, u64>,
-    row: &Row,
-) -> Result<(), AllocError> {
+/// Grows an index to the first shape of a row. Then removes the keys of the row, which leaves its last shape.
+fn expect_shapes(rt: &impl Abort, index: &mut impl Shaped, row: &Row) -> Result<(), AllocError> {
+    ascend(index, row.keys.0, row.keys.1, 1)?;
+    assert!(rt; index.shape() == row.grown);
     shrink(index, row);
-    expect_shape(rt, index, row.left);
+    assert!(rt; index.shape() == row.left);
     let (_, leaves, _) = row.left;
     if leaves == 0 {
         expect_begun_anew(rt, index)?;
@@ -155,8 +138,7 @@ fn expect_shrunk(
 
 fn expect_row(rt: &impl Abort, alloc: Global, row: &Row) -> Result<(), AllocError> {
     let mut index: TreeIndex<u64, u64> = TreeIndex::new(alloc);
-    expect_grown(rt, &mut index, row)?;
-    expect_shrunk(rt, &mut index, row)
+    expect_shapes(rt, &mut index, row)
 }
 
 #[test]

@@ -77,55 +77,135 @@ impl IndexKey for Counted<'_> {
 
 type Index<'c, const LEN: usize> = TreeIndexOf<Counted<'c>, Counted<'c>, LEN>;
 
-/// Each pair holds a key and a value, and each leaf but the last a separator.
-fn expect_alive<const LEN: usize>(rt: &impl Abort, index: &Index<'_, LEN>, tally: &Tally) {
+/// A pair that comes back, if memory was refused.
+type Refused<'c> = Option<(Counted<'c>, Counted<'c>)>;
+
+/// What an insert returns.
+type Inserted<'c> = Result<(), InsertError<Counted<'c>, Counted<'c>>>;
+
+/// An index of counted keys and values, as its tests call it.
+trait CountedPairs<'c> {
+    /// Calls `insert_sync`.
+    fn insert(&mut self, key: Counted<'c>, value: Counted<'c>) -> Inserted<'c>;
+
+    /// Calls `upsert_sync`.
+    fn upsert(&mut self, key: Counted<'c>, value: Counted<'c>) -> Refused<'c>;
+
+    /// Calls `remove_sync`.
+    fn remove(&mut self, key: &Counted<'c>);
+
+    /// Removes the pair of a key by `remove_if_sync` if its value is even.
+    fn remove_even(&mut self, key: &Counted<'c>);
+
+    /// Removes the keys from one to below another by `remove_range_sync`.
+    fn remove_range(&mut self, low: &Counted<'c>, high: &Counted<'c>);
+
+    /// Calls `clear`.
+    fn clear(&mut self);
+
+    /// Returns whether `peek` finds a key.
+    fn has(&self, key: &Counted<'c>) -> bool;
+
+    /// Calls `len`.
+    fn len(&self) -> usize;
+
+    /// Returns the number of leaves.
+    fn leaves(&self) -> usize;
+}
+
+impl<'c, const LEN: usize> CountedPairs<'c> for Index<'c, LEN> {
+    fn insert(&mut self, key: Counted<'c>, value: Counted<'c>) -> Inserted<'c> {
+        self.insert_sync(key, value)
+    }
+
+    fn upsert(&mut self, key: Counted<'c>, value: Counted<'c>) -> Refused<'c> {
+        self.upsert_sync(key, value).err()
+    }
+
+    fn remove(&mut self, key: &Counted<'c>) {
+        let _ = self.remove_sync(key);
+    }
+
+    fn remove_even(&mut self, key: &Counted<'c>) {
+        let _ = self.remove_if_sync(key, |value| value.number % 2 == 0);
+    }
+
+    fn remove_range(&mut self, low: &Counted<'c>, high: &Counted<'c>) {
+        self.remove_range_sync((Bound::Included(low), Bound::Excluded(high)));
+    }
+
+    fn clear(&mut self) {
+        TreeIndexOf::clear(self);
+    }
+
+    fn has(&self, key: &Counted<'c>) -> bool {
+        self.peek(key).is_some()
+    }
+
+    fn len(&self) -> usize {
+        TreeIndexOf::len(self)
+    }
+
+    fn leaves(&self) -> usize {
+        leaf_count(self)
+    }
+}
+
+/// The number of leaves of an index.
+fn leaf_count<const LEN: usize>(index: &Index<'_, LEN>) -> usize {
     let (arenas, _) = index.parts();
-    let separators = arenas.leaf_count().saturating_sub(1);
+    arenas.leaf_count()
+}
+
+/// Each pair holds a key and a value, and each leaf but the last a separator.
+fn expect_alive<'c>(rt: &impl Abort, index: &impl CountedPairs<'c>, tally: &Tally) {
+    let separators = index.leaves().saturating_sub(1);
     let held = index.len().saturating_mul(2).saturating_add(separators);
     assert!(rt; tally.has_alive(held));
 }
 
+/// The pair that an insert was refused memory for.
+fn pair_of(inserted: Inserted<'_>) -> Refused<'_> {
+    match inserted {
+        Err(InsertError::OutOfMemory(key, value)) => Some((key, value)),
+        _ => None,
+    }
+}
+
+/// `Err` if memory was refused.
+fn outcome(refused: Refused<'_>) -> Result<(), AllocError> {
+    match refused {
+        Some(_) => Err(AllocError),
+        None => Ok(()),
+    }
+}
+
 /// Makes one random call. Returns `Err` if memory was refused.
-fn call<'c, const LEN: usize>(
-    index: &mut Index<'c, LEN>,
+fn call<'c>(
+    index: &mut impl CountedPairs<'c>,
     chance: &mut Chance,
     tally: &'c Tally,
 ) -> Result<(), AllocError> {
     let number = chance.below(300);
     let key = Counted::new(number, tally);
     match chance.below(40) {
-        0..16 => {
-            if let Err(InsertError::OutOfMemory(_, _)) = index.insert_sync(
-                key,
-                Counted::new(number, tally),
-            ) {
-                return Err(AllocError);
-            }
-        }
-        16..26 => {
-            if index.upsert_sync(key, Counted::new(number, tally)).is_err() {
-                return Err(AllocError);
-            }
-        }
-        26..31 => {
-            let _ = index.remove_if_sync(&key, |value| value.number % 2 == 0);
-        }
+        0..16 => return outcome(pair_of(index.insert(key, Counted::new(number, tally)))),
+        16..26 => return outcome(index.upsert(key, Counted::new(number, tally))),
+        26..31 => index.remove_even(&key),
         31 => {
             let end = Counted::new(number.saturating_add(40), tally);
-            index.remove_range_sync((Bound::Included(&key), Bound::Excluded(&end)));
+            index.remove_range(&key, &end);
         }
         32 if number < 100 => index.clear(),
-        _ => {
-            let _ = index.remove_sync(&key);
-        }
+        _ => index.remove(&key),
     }
     Ok(())
 }
 
 /// Makes random calls, and counts what is alive after each.
-fn make_calls<'c, const LEN: usize>(
+fn make_calls<'c>(
     rt: &impl Abort,
-    index: &mut Index<'c, LEN>,
+    index: &mut impl CountedPairs<'c>,
     tally: &'c Tally,
 ) -> Result<(), AllocError> {
     let mut chance = Chance::new(1);
@@ -167,38 +247,32 @@ fn drops_each_key_and_value_once(rt: HostRuntime) {
 }
 
 /// Compares which of the greatest keys are there: all but this one, of those from it on.
-fn expect_absent<'c, const LEN: usize>(
+fn expect_absent<'c>(
     rt: &impl Abort,
-    index: &Index<'c, LEN>,
+    index: &impl CountedPairs<'c>,
     tally: &'c Tally,
     number: u64,
 ) {
     for other in number..300 {
-        let there = index.peek(&Counted::new(other, tally)).is_some();
+        let there = index.has(&Counted::new(other, tally));
         assert!(rt; there == (other != number));
     }
 }
 
 /// Stores an absent key, by an insert if it is even and else by an upsert. Returns the pair if memory was refused.
-fn store<'c, const LEN: usize>(
-    index: &mut Index<'c, LEN>,
-    tally: &'c Tally,
-    number: u64,
-) -> Option<(Counted<'c>, Counted<'c>)> {
+fn store<'c>(index: &mut impl CountedPairs<'c>, tally: &'c Tally, number: u64) -> Refused<'c> {
     let (key, value) = (Counted::new(number, tally), Counted::new(number, tally));
     if number % 2 == 1 {
-        return index.upsert_sync(key, value).err();
-    }
-    match index.insert_sync(key, value) {
-        Err(InsertError::OutOfMemory(key, value)) => Some((key, value)),
-        _ => None,
+        index.upsert(key, value)
+    } else {
+        pair_of(index.insert(key, value))
     }
 }
 
 /// Stores a key while clones are refused, and again with clones if that refused it. Returns whether it did.
-fn store_twice<'c, const LEN: usize>(
+fn store_twice<'c>(
     rt: &impl Abort,
-    index: &mut Index<'c, LEN>,
+    index: &mut impl CountedPairs<'c>,
     tally: &'c Tally,
     number: u64,
 ) -> Result<bool, AllocError> {
@@ -210,16 +284,16 @@ fn store_twice<'c, const LEN: usize>(
     };
     assert!(rt; key.number == number && value.number == number);
     expect_absent(rt, index, tally, number);
-    if index.insert_sync(key, value).is_err() {
+    if index.insert(key, value).is_err() {
         return Err(AllocError);
     }
     Ok(true)
 }
 
 /// Stores descending keys while clones are refused. Returns how many were refused.
-fn refused_clones<'c, const LEN: usize>(
+fn refused_clones<'c>(
     rt: &impl Abort,
-    index: &mut Index<'c, LEN>,
+    index: &mut impl CountedPairs<'c>,
     tally: &'c Tally,
 ) -> Result<u64, AllocError> {
     let mut refused = 0u64;

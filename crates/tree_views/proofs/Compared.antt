@@ -1,6 +1,5 @@
 -- Lists of pairs that are compared one by one.
-use Rattle.std.proofs.Common.{◌≡◌, true, false, Option, Some, refl, Ordering, Less, Equal, Greater}
-use Rattle.std.specs.Ordering.{is_ne, partial_ordering_then}
+use Rattle.tree_views.proofs.Common.{◌≡◌, true, false, Option, Some, refl, Ordering, Less, Equal, Greater, is_ne, partial_ordering_then}
 
 module _ (rest : Option Ordering) where
   -- an order that decides, and one that leaves it to the rest

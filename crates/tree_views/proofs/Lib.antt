@@ -1,3 +1,4 @@
+pub mod Common
 pub mod Compared
 pub mod Taken
 pub mod Walked

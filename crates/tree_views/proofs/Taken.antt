@@ -1,16 +1,8 @@
 -- Walks over the keys of an index, or over its values.
-use Rattle.std.proofs.Common.{◌≡◌, true, List, [], ◌∷◌, ◌++◌, map, reverse, Option, Some, None, Bor, length, refl, sym, ap, ◌∙◌, arith, Ordering, length-append}
-use Rattle.tree_model.proofs.Common.{⊤, IsTotalOrder, MakesProgress, reverse_onto, reverse-reverse, lent_entry, Moves, rest, Cursor}
-use Rattle.tree_model.specs.declared.way.Way.TheVariants.{On, Back}
-use Rattle.tree_array.proofs.Common.{filter_all}
-use Rattle.std.specs.Iterator.{at_most}
-use Rattle.std.specs.Map.Iter.{TakesFirst, TakesLast}
-use Rattle.std.proofs.lemmas.List.{map_push}
+use Rattle.tree_views.proofs.Common.{◌≡◌, true, List, [], ◌∷◌, ◌++◌, map, reverse, Option, Some, None, Bor, length, refl, sym, ap, ◌∙◌, arith, Ordering, length-append, ⊤, IsTotalOrder, MakesProgress}
+use Rattle.tree_views.proofs.Common.{reverse_onto, reverse-reverse, lent_entry, Moves, rest, Cursor, On, Back, filter_all, at_most, TakesFirst, TakesLast, map_push, between, IsOpen, takes_first}
+use Rattle.tree_views.proofs.Common.{GoesThroughAll}
 use Rattle.tree_chain.specs.Rest.{TakesFirst as TakesEntry}
-use Rattle.tree_model.specs.Rest.{between}
-use Rattle.tree_ranges.specs.Ranged.{IsOpen}
-use Rattle.tree_ranges.proofs.Yields.{takes_first}
-use Rattle.tree_views.specs.Keys.{GoesThroughAll}
 use Rattle.tree_views.proofs.Walked.{all_pass}
 
 -- what is taken from either end leaves less

@@ -1,11 +1,7 @@
 -- Cursors that take all pairs of an index.
-use Rattle.std.proofs.Common.{◌≡◌, Bool, true, false, Option, Some, None, List, [], ◌∷◌, Bor, refl, ◌∙◌, is_some, not, Ordering}
-use Rattle.tree_model.proofs.Common.{AllByRecursion, Unbounded, fresh, rest}
-use Rattle.tree_model.specs.declared.way.Way.TheVariants.{On}
-use Rattle.tree_array.proofs.Common.{filter_all}
-use Rattle.std.specs.Cmp.Lexicographic.{pointwise}
+use Rattle.tree_views.proofs.Common.{◌≡◌, Bool, true, false, Option, Some, None, List, [], ◌∷◌, Bor, refl, ◌∙◌, is_some, not, Ordering, AllByRecursion, Unbounded, fresh, rest, On, filter_all}
+use Rattle.tree_views.proofs.Common.{pointwise, rest_fresh}
 use Rattle.tree_chain.specs.Rest.{TakesFirst}
-use Rattle.tree_ranges.proofs.Yields.{rest_fresh}
 
 pub all_pass : {X : Type 0} (xs : List X) → AllByRecursion (λ x. true ≡ true) xs
 all_pass [] = tt

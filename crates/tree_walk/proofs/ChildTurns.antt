@@ -1,19 +1,9 @@
 -- A walk over the slots of an array of children: the child at its place, and what holds of each.
-use Rattle.std.proofs.Common.{◌≡◌, ℕ, zero, suc, List, [], ◌∷◌, ◌++◌, map, drop, slice_get, Some, None, IsSome, refl, sym, ap, ◌∙◌}
-use Rattle.tree_model.proofs.Common.{AllByRecursion}
-use Rattle.tree_array.proofs.Common.{Arrivals, arrival, Walk}
-use Rattle.tree_node.proofs.Common.{in_turn}
-use Rattle.std.proofs.lemmas.Option.{slice_get-map}
-use Rattle.tree_array.specs.Walk.{StepsOn, place_ahead, standing}
-use Rattle.tree_chain.proofs.Steps.{same_place}
-use Rattle.tree_node.proofs.Lists.{all_middle}
+use Rattle.tree_walk.proofs.Common.{◌≡◌, ℕ, List, [], ◌∷◌, map, drop, slice_get, Some, None, IsSome, refl, sym, ap, ◌∙◌, AllByRecursion, Arrivals, StepsOn, Walk, arrival, in_turn}
+use Rattle.tree_walk.proofs.Common.{place_ahead, standing, slice_get-map, same_place, all_middle}
 pub use Rattle.tree_walk.specs.Children.{IsOverKeyed, keyed_children}
-
--- what holds of all holds of the one at a place
-holds_at : {X : Type 0} (P : X → Type 0) (xs ys : List X) (place : ℕ) (x : X) → slice_get xs place ≡ Some x → AllByRecursion P (xs ++ ys) → P x
-holds_at P [] ys place x is each = absurd (cc)
-holds_at P (y ∷ xs) ys zero x is each = let same : x ≡ y = cc in rw same each.0
-holds_at P (y ∷ xs) ys (suc place) x is each = holds_at P xs ys place x is each.1
+use Rattle.tree_model.proofs.Lists.{all_at}
+use Rattle.tree_node.proofs.Cuts.{all_front}
 
 module _ {K X : Type 0} (keyed : Arrivals K X) where
   -- a walk begins
@@ -51,7 +41,7 @@ module _ {K X : Type 0} (keyed : Arrivals K X) where
 module _ {K : Type 0} (keyed : Arrivals K ℕ) (last : ℕ) (P : ℕ → Type 0) (each : AllByRecursion P (in_turn keyed.entries (Some last))) where
   -- what holds of all children holds of each in its turn, and of the last
   pub holds_in_turn : (old new : Walk) (child : ℕ) → ChildTurn keyed old new child → P child
-  holds_in_turn old new child turn = holds_at P (keyed_children keyed) (last ∷ []) (place_ahead old.at) child turn.there each
+  holds_in_turn old new child turn = all_at P (keyed_children keyed) (place_ahead old.at) child (all_front P (keyed_children keyed) (last ∷ []) each) turn.there
 
   pub holds_at_last : P last
   holds_at_last = all_middle P (keyed_children keyed) last [] each

@@ -1,10 +1,6 @@
 -- A search through children in turn, either way, for the first leaf with an entry.
-use Rattle.std.proofs.Common.{◌≡◌, ℕ, ◌<◌, Bool, true, false, List, [], ◌∷◌, ◌++◌, length, reverse, Option, Some, None, is_some, refl, ap, ◌∙◌, append_assoc, IsTrue, arith, flat_map, append-nil}
-use Rattle.tree_model.proofs.Common.{AllByRecursion, reverse_onto, flat_map-append, along}
-use Rattle.tree_model.specs.declared.way.Way.{Way}
-use Rattle.tree_model.specs.declared.way.Way.TheVariants.{On, Back}
-use Rattle.tree_node.proofs.Common.{Slab, LeafOf, leaf_entries, entries_of}
-use Rattle.tree_walk.specs.Ends.{FindsFirst, IsFirstOn, passed}
+use Rattle.tree_walk.proofs.Common.{◌≡◌, ℕ, ◌<◌, Bool, true, false, List, [], ◌∷◌, ◌++◌, length, reverse, Option, Some, None, is_some, refl, ap, ◌∙◌, append_assoc, IsTrue, arith, flat_map, append-nil}
+use Rattle.tree_walk.proofs.Common.{AllByRecursion, reverse_onto, flat_map-append, along, Back, FindsFirst, IsFirstOn, LeafOf, On, Slab, Way, entries_of, leaf_entries, passed}
 
 -- what comes first on the way, and then the rest, in the order of the keys
 abbrev joined : Way → List ℕ → List ℕ → List ℕ
@@ -36,11 +32,10 @@ module _ {K V : Type 0} {LEN : ℕ} (leaves : Slab (LeafOf K V LEN)) where
   alone_without leaf none = rw (append-nil, none) refl
 
   pub alone_with : (leaf : ℕ) (empty : Bool) → (leaf_entries leaves leaf ≡ [] → IsTrue empty) → empty ≡ false → (way : Way) → IsFirstOn way leaves (leaf ∷ []) leaf
-  alone_with leaf empty test some way = record { front = []; back = []; parts = refl; none_passed = by_way way; entry = filled (leaf_entries leaves leaf) test }
+  alone_with leaf empty test some way = record { front = []; back = []; parts = refl; none_passed = none; entry = filled (leaf_entries leaves leaf) test }
     where
-      by_way : (way : Way) → entries_of leaves (passed way [] []) ≡ []
-      by_way On = refl
-      by_way Back = refl
+      none : entries_of leaves (passed way [] []) ≡ []
+      none = elim way as (λ way. entries_of leaves (passed way [] []) ≡ []) [ On ↦ refl | Back ↦ refl ]
 
       filled : (entries : List (K × V)) → (entries ≡ [] → IsTrue empty) → 0 < length entries
       filled [] test = absurd (let none : empty ≡ true = test refl in cc)
@@ -57,11 +52,7 @@ module _ {K V : Type 0} {LEN : ℕ} (leaves : Slab (LeafOf K V LEN)) where
 
     module _ {Holds : ℕ → Type 0} (left : List ℕ) (sought : IsSought Holds left) where
       pub nowhere : left ≡ [] → FindsFirst way leaves all None
-      nowhere is = sought.suffices None (rw is (by_way way))
-        where
-          by_way : (way : Way) → entries_of leaves (flat_map f (along way [])) ≡ []
-          by_way On = refl
-          by_way Back = refl
+      nowhere is = sought.suffices None (rw is (elim way as (λ way. entries_of leaves (flat_map f (along way [])) ≡ []) [ On ↦ refl | Back ↦ refl ]))
 
       module _ (child : ℕ) (rest : List ℕ) (is : left ≡ child ∷ rest) where
         pub holds : Holds child

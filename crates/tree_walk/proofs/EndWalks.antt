@@ -1,25 +1,11 @@
 -- Where a walk of a part begins: in a leaf of the chain, at the first entry of the part on its way.
-use Rattle.std.proofs.Common.{◌≡◌, ℕ, suc, ◌+◌, ◌-◌, ◌<◌, List, [], ◌∷◌, ◌++◌, length, slice_get, None, refl, sym, subst, arith, append_assoc, length-append, append-nil}
-use Rattle.tree_model.proofs.Common.{flat_map-append}
-use Rattle.tree_model.specs.declared.way.Way.{Way}
-use Rattle.tree_model.specs.declared.way.Way.TheVariants.{On, Back}
-use Rattle.tree_node.proofs.Common.{Slab, LeafOf, IsChain, leaf_entries, entries_of, TreeArenas, leaves_at}
-use Rattle.tree_chain.proofs.Common.{LeafWalk, standing, first_of, last_of}
-use Rattle.tree_walk.specs.Ends.{BeginsPart, IsFirstOn, IsLinked, first_on, passed}
+use Rattle.tree_walk.proofs.Common.{◌≡◌, ℕ, ◌<◌, List, [], ◌∷◌, ◌++◌, length, reverse, None, refl, subst, arith, append_assoc, append-nil, flat_map-append, reverse-append, Back, BeginsPart, IsChain}
+use Rattle.tree_walk.proofs.Common.{IsFirstOn, IsLinked, LeafOf, LeafWalk, On, Slab, TreeArenas, Way, entries_of, first_along, first_of, leaf_entries, leaves_at, length-reverse, passed, first_on}
+use Rattle.tree_chain.proofs.Common.{standing}
 
-module _ {X : Type 0} where
-  first-append : (xs ys : List X) → 0 < length xs → first_of (xs ++ ys) ≡ first_of xs
-  first-append [] ys some = absurd (omega (arith, some))
-  first-append (x ∷ xs) ys some = refl
-
-  behind-append : (xs ys : List X) (i : ℕ) → slice_get (xs ++ ys) (length xs + i) ≡ slice_get ys i
-  behind-append [] ys i = let e : 0 + i ≡ i = omega arith in rw e refl
-  behind-append (x ∷ xs) ys i = let e : suc (length xs) + i ≡ suc (length xs + i) = omega arith in rw e (behind-append xs ys i)
-
-  last-append : (xs ys : List X) → 0 < length ys → last_of (xs ++ ys) ≡ last_of ys
-  last-append xs ys some =
-      let e : length (xs ++ ys) - 1 ≡ length xs + (length ys - 1) = omega (arith, length-append xs ys) in
-      rw e (behind-append xs ys (length ys - 1))
+first-append : {X : Type 0} (xs ys : List X) → 0 < length xs → first_of xs ≡ first_of (xs ++ ys)
+first-append [] ys some = absurd (omega arith)
+first-append (x ∷ xs) ys some = refl
 
 module _ {K V : Type 0} {LEN : ℕ} (leaves : Slab (LeafOf K V LEN)) where
   -- the first entry of the leaf is the first of all these leaves
@@ -28,8 +14,16 @@ module _ {K V : Type 0} {LEN : ℕ} (leaves : Slab (LeafOf K V LEN)) where
     where
       by_way : (way : Way) → entries_of leaves (passed way is.front is.back) ≡ []
           → first_on way (leaf_entries leaves id) ≡ first_on way (entries_of leaves is.front ++ (leaf_entries leaves id ++ entries_of leaves is.back))
-      by_way On none = rw none (sym (first-append (leaf_entries leaves id) (entries_of leaves is.back) is.entry))
-      by_way Back none = rw (none, append-nil (leaf_entries leaves id)) (sym (last-append (entries_of leaves is.front) (leaf_entries leaves id) is.entry))
+      by_way On none = rw none (first-append (leaf_entries leaves id) (entries_of leaves is.back) is.entry)
+      by_way Back none =
+          rw (
+            none,
+            append-nil (leaf_entries leaves id),
+            first_along Back (leaf_entries leaves id),
+            first_along Back (entries_of leaves is.front ++ leaf_entries leaves id),
+            reverse-append (entries_of leaves is.front) (leaf_entries leaves id),
+          )
+          (first-append (reverse (leaf_entries leaves id)) (reverse (entries_of leaves is.front)) (rw length-reverse is.entry))
 
 -- a leaf of a part is in the chain of the part
 pub leaf_in_chain : {K V : Type 0} {LEN : ℕ} (level : ℕ) (a : TreeArenas K V LEN) (id leaf : ℕ) (front back : List ℕ)
@@ -38,10 +32,8 @@ leaf_in_chain level a id leaf front back parts linked =
     let grouped : linked.0 ++ (leaves_at level a.nodes id ++ linked.1) ≡ (linked.0 ++ front) ++ leaf ∷ (back ++ linked.1) = rw parts (simp append_assoc) in
     (linked.0 ++ front, back ++ linked.1, subst (IsChain a.leaves) grouped linked.2)
 
-module _ {K V : Type 0} {LEN : ℕ} (way : Way) (level : ℕ) (a : TreeArenas K V LEN) (id leaf : ℕ) (is : IsFirstOn way a.leaves (leaves_at level a.nodes id) leaf) where
-  pub begins_there : (begun : LeafWalk K V LEN) → begun ≡ standing a.leaves leaf None → BeginsPart way level a id begun
-  begins_there begun same = rw same (record {
-    unopened = refl;
-    leaf = is;
-    entry = first_of_all a.leaves way (leaves_at level a.nodes id) leaf is;
-  })
+pub begins_there : {K V : Type 0} {LEN : ℕ} (way : Way) (level : ℕ) (a : TreeArenas K V LEN) (id leaf : ℕ)
+    → IsFirstOn way a.leaves (leaves_at level a.nodes id) leaf → (begun : LeafWalk K V LEN) → begun ≡ standing a.leaves leaf None
+    → BeginsPart way level a id begun
+begins_there way level a id leaf is begun same = rw same
+    (record { unopened = refl; leaf = is; entry = first_of_all a.leaves way (leaves_at level a.nodes id) leaf is })

@@ -1,16 +1,7 @@
 -- The children of a node in turn, either way: which they are, and that a step takes the first of those still to come.
-use Rattle.std.proofs.Common.{◌≡◌, ℕ, true, false, List, ◌∷◌, ◌++◌, length, take, reverse, Option, Some, None, is_some, refl, sym, ap, ◌∙◌, arith, option_to_list, append-nil, take_all}
-use Rattle.tree_model.proofs.Common.{MakesProgress, reverse-append, along}
-use Rattle.tree_model.specs.declared.way.Way.{Way}
-use Rattle.tree_model.specs.declared.way.Way.TheVariants.{On, Back}
-use Rattle.tree_array.proofs.Common.{Arrivals, arrival, Walk}
-use Rattle.tree_chain.proofs.Common.{next_place}
-use Rattle.std.specs.Iterator.{item_count}
-use Rattle.std.proofs.lemmas.List.{length-map}
-use Rattle.tree_array.specs.Walk.{standing}
-use Rattle.tree_chain.specs.Ways.{StepsOver}
-use Rattle.tree_chain.proofs.Along.{step_takes}
-use Rattle.tree_walk.specs.Children.{IsOverKeyed, all_children, is_back, keyed_children, to_come}
+use Rattle.tree_walk.proofs.Common.{◌≡◌, ℕ, true, false, List, ◌∷◌, ◌++◌, length, take, reverse, Option, Some, None, is_some, refl, sym, ap, ◌∙◌, arith, option_to_list, append-nil, take_all}
+use Rattle.tree_walk.proofs.Common.{MakesProgress, reverse-append, along, Arrivals, Back, IsOverKeyed, On, Walk, Way, all_children, arrival, is_back, keyed_children, length-map, next_place, standing}
+use Rattle.tree_walk.proofs.Common.{step_takes, to_come, item_count, StepsOver}
 use Rattle.tree_walk.proofs.ChildTurns.{child_at}
 
 reverse-option : {X : Type 0} (x : Option X) → reverse (option_to_list x) ≡ option_to_list x

@@ -1,10 +1,5 @@
 -- The least number over leaves, found as the children above them are gone through in turn.
-use Rattle.std.proofs.Common.{◌≡◌, ℕ, ◌+◌, ◌-◌, ◌<◌, ◌≤◌, cond, List, [], ◌∷◌, min, sym, ap, ◌∙◌, arith, flat_map, le-leb}
-use Rattle.tree_model.proofs.Common.{AllByRecursion}
-use Rattle.tree_array.proofs.Common.{limit}
-use Rattle.std.proofs.lemmas.Bool.{lt-leb}
-use Rattle.tree_node.specs.Shape.{least, spare_for}
-use Rattle.tree_node.proofs.Spares.{least-then}
+use Rattle.tree_walk.proofs.Common.{◌≡◌, ℕ, ◌+◌, ◌-◌, ◌<◌, ◌≤◌, cond, List, [], ◌∷◌, min, sym, ap, ◌∙◌, arith, flat_map, le-leb, AllByRecursion, least, limit, spare_for, lt-leb, least-then}
 
 -- the lesser of a number and that of one leaf
 pub least_of_one : (f : ℕ → ℕ) (so_far leaf free next : ℕ) → next ≡ min so_far free → free ≡ f leaf → next ≡ least so_far f (leaf ∷ [])

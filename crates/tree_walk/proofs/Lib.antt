@@ -1,4 +1,5 @@
 pub mod ChildTurns
+pub mod Common
 pub mod EndSearch
 pub mod EndWalks
 pub mod InTurn

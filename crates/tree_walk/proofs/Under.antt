@@ -1,16 +1,7 @@
 -- The leaves under a node are those under its children, each of which stands one level below it.
-use Rattle.std.proofs.Common.{◌≡◌, ℕ, zero, suc, ◌-◌, ◌<◌, List, [], Option, Some, None, inl, inr, refl, sym, ◌∙◌, arith, Ordering}
-use Rattle.tree_model.proofs.Common.{AllByRecursion, reverse-reverse, along}
-use Rattle.tree_model.specs.declared.way.Way.{Way}
-use Rattle.tree_model.specs.declared.way.Way.TheVariants.{On, Back}
-use Rattle.tree_array.proofs.Common.{all_map}
-use Rattle.tree_node.proofs.Common.{ContainsKey, get, TreeArenas, IsRetiredNode, StandsOrRetired, keyed, unbounded, leaves_at, leaves_of}
-use Rattle.tree_node.specs.declared.branch.BranchOf.{BranchOf}
-use Rattle.tree_node.specs.declared.node.NodeOf.{NodeOf}
-use Rattle.tree_node.specs.declared.node.NodeOf.TheVariants.{Internal, Leaf}
-use Rattle.tree_chain.proofs.Along.{all_along}
-use Rattle.tree_node.proofs.ChildrenStand.{no_leaves, over_leaves, over_nodes}
-use Rattle.tree_walk.specs.Children.{all_children}
+use Rattle.tree_walk.proofs.Common.{◌≡◌, ℕ, zero, suc, ◌-◌, ◌<◌, List, [], Option, Some, None, inl, inr, refl, sym, ◌∙◌, arith, Ordering, AllByRecursion, reverse-reverse, along, Back, ContainsKey}
+use Rattle.tree_walk.proofs.Common.{IsRetiredNode, On, StandsOrRetired, TreeArenas, Way, all_along, all_children, all_map, get, keyed, leaves_at, leaves_of, no_leaves, over_leaves, over_nodes}
+use Rattle.tree_walk.proofs.Common.{unbounded, BranchOf, NodeOf, Internal, Leaf}
 
 along-twice : (way : Way) (ids : List ℕ) → along way (along way ids) ≡ ids
 along-twice On ids = refl
@@ -40,23 +31,24 @@ module _ {K V : Type 0} {LEN : ℕ} (cmp : K → K → Ordering) (a : TreeArenas
       absurd (let some = rw (← is, s.last_is) at none in cc)
   no_keyed (suc level) inner (inr retired) node here none = let r : IsRetiredNode (Some node) = rw here at retired in r.0
 
-  over_none : (below : ℕ) (Holds : ℕ → Type 0) (node : NodeOf K LEN) → get a.nodes id ≡ Some node → unbounded node ≡ None → children ≡ along way (all_children (keyed node) None) → IsOver level a id below Holds way children
-  over_none below Holds node here none is =
-      let empty : all_children (keyed node) None ≡ [] = rw (no_keyed level inner given node here none) refl in
-      turned level a id below Holds way [] children (rw empty at is) (no_leaves cmp a id level inner given node here none) tt
+  -- those of a node with an unbounded child stand, and one without has none
+  over : (below : ℕ) (Holds : ℕ → Type 0) (node : NodeOf K LEN) → get a.nodes id ≡ Some node → children ≡ along way (all_children (keyed node) (unbounded node))
+      → ((last : ℕ) → unbounded node ≡ Some last → (leaves_at level a.nodes id ≡ leaves_of below a.nodes
+      (all_children (keyed node) (Some last))) × AllByRecursion Holds (all_children (keyed node) (Some last)))
+      → IsOver level a id below Holds way children
+  over below Holds node here is stand = by_last (unbounded node) refl is
+    where
+      by_last : (last : Option ℕ) → unbounded node ≡ last → children ≡ along way (all_children (keyed node) last) → IsOver level a id below Holds way children
+      by_last None none is =
+          let empty : all_children (keyed node) None ≡ [] = rw (no_keyed level inner given node here none) refl in
+          turned level a id below Holds way [] children (rw empty at is) (no_leaves cmp a id level inner given node here none) tt
+      by_last (Some last) last_is is = turned level a id below Holds way _ children is (stand last last_is).0 (stand last last_is).1
 
   pub leaf_node_over : (node : BranchOf K ℕ LEN) → get a.nodes id ≡ Some (Leaf node) → children ≡ along way (all_children node.children node.unbounded_child) → IsOver level a id 0 (ContainsKey a.leaves) way children
-  leaf_node_over node here = by_last node.unbounded_child refl
-    where
-      by_last : (last : Option ℕ) → node.unbounded_child ≡ last → children ≡ along way (all_children node.children last) → IsOver level a id 0 (ContainsKey a.leaves) way children
-      by_last None none is = over_none 0 (ContainsKey a.leaves) (Leaf node) here none is
-      by_last (Some last) last_is is = let over = over_leaves cmp a id level inner given node here last last_is in turned level a id 0 (ContainsKey a.leaves) way _ children is over.leaves over.there
+  leaf_node_over node here is = over 0 (ContainsKey a.leaves) (Leaf node) here is
+      (λ last last_is. let there = over_leaves cmp a id level inner given node here last last_is in (there.leaves, there.there))
 
   pub node_over : (node : BranchOf K ℕ LEN) → get a.nodes id ≡ Some (Internal node) → children ≡ along way (all_children node.children node.unbounded_child) → IsOver level a id (level - 1) (StandsBelow level a cmp) way children
-  node_over node here = by_last node.unbounded_child refl
-    where
-      by_last : (last : Option ℕ) → node.unbounded_child ≡ last → children ≡ along way (all_children node.children last) → IsOver level a id (level - 1) (StandsBelow level a cmp) way children
-      by_last None none is = over_none (level - 1) (StandsBelow level a cmp) (Internal node) here none is
-      by_last (Some last) last_is is =
-          let over = over_nodes cmp a id level inner given node here last last_is in
-          turned level a id (level - 1) (StandsBelow level a cmp) way _ children is over.leaves (all_map (λ child t. (over.inner, t)) _ over.stand)
+  node_over node here is =
+      over (level - 1) (StandsBelow level a cmp) (Internal node) here is (λ last last_is.
+      let there = over_nodes cmp a id level inner given node here last last_is in (there.leaves, all_map (λ child t. (there.inner, t)) _ there.stand))

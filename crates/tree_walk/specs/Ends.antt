@@ -6,7 +6,7 @@ use Rattle.tree_model.specs.declared.way.Way.{Way}
 use Rattle.tree_model.specs.declared.way.Way.TheVariants.{On, Back}
 use Rattle.tree_leaf.specs.Chain.{IsChain}
 use Rattle.tree_leaf.specs.Entries.{leaf_entries, entries_of}
-use Rattle.tree_chain.specs.Walks.{LeafWalk, here, standing, first_of, last_of}
+use Rattle.tree_chain.specs.Walks.{LeafWalk, first_on, here, standing}
 use Rattle.tree_node.specs.Arenas.{TreeArenas}
 use Rattle.tree_node.specs.Tree.{leaves_at, walk}
 
@@ -14,11 +14,6 @@ use Rattle.tree_node.specs.Tree.{leaves_at, walk}
 abbrev pub passed : Way → List ℕ → List ℕ → List ℕ
 passed On front back = front
 passed Back front back = back
-
--- the entry that a walk this way comes to first
-abbrev pub first_on : {X : Type 0} → Way → List X → Option X
-first_on On entries = first_of entries
-first_on Back entries = last_of entries
 
 module _ {K V : Type 0} {LEN : ℕ} where
   -- the leaf has an entry, and those of these leaves that a walk this way passes before it have none

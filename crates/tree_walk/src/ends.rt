@@ -1,12 +1,8 @@
 //! The least and the greatest entry under the number of a node, at its level.
-ghost use Rattle.std.specs.Prelude.{◌≡◌, ◌<◌, [], ◌∷◌, MatchOption};
-ghost use Rattle.std.specs.List.{AllByRecursion};
-ghost use Rattle.slab.specs.Slab.{ContainsKey};
-ghost use Rattle.tree_model.specs.declared.way.Way.{Way};
+ghost use Rattle.std.specs.Prelude.{◌≡◌, ◌<◌, [], MatchOption};
 ghost use Rattle.tree_model.specs.declared.way.Way.TheVariants.{On, Back};
-ghost use Rattle.tree_model.specs.Ways.{along};
 ghost use Rattle.tree_walk.specs.Ends.{BeginsPart, FindsFirst, IsLinked};
-ghost use Rattle.tree_node.specs.Tree.{StandsOrRetired, leaves_at, leaves_of, walk};
+ghost use Rattle.tree_node.specs.Tree.{StandsOrRetired, leaves_at, walk};
 
 use crate::children::{ChildWalk, ChildrenOf};
 use crate::leaves::array_of;
@@ -79,7 +75,12 @@ fn end_leaf_at<K: Ord + Drop, V: Drop, S: ChildWalk, const LEN: usize>(
     match arenas.node(id) {
         NodeOf::Leaf(node) => {
             let leaves = ChildrenOf::<K, LeafId, S, LEN>::new(&node.children, node.unbounded_child);
-            end_of_leaves(arenas, leaves)
+            for leaf in leaves {
+                if !array_of(arenas, leaf).is_empty() {
+                    return Some(leaf);
+                }
+            }
+            None
         }
         NodeOf::Internal(node) => {
             let children = ChildrenOf::<K, NodeId, S, LEN>::new(
@@ -94,37 +95,5 @@ fn end_leaf_at<K: Ord + Drop, V: Drop, S: ChildWalk, const LEN: usize>(
             }
             None
         }
-    }
-}
-
-/// Returns the first of these leaves that has an entry.
-fn end_of_leaves<K: Ord + Drop, V: Drop, S: ChildWalk, const LEN: usize>(
-    arenas: &ArenasOf<K, V, LEN>,
-    leaves: ChildrenOf<K, LeafId, S, LEN>,
-) -> Option<LeafId>
-    requires { AllByRecursion (ContainsKey arenas.now.leaves) leaves }
-    ensures { FindsFirst S.way arenas.now.leaves (leaves_of 0 arenas.now.nodes (along S.way leaves.entry)) result }
-{
-    for leaf in leaves {
-        let found = with_entry(arenas, leaf);
-        if found.is_some() {
-            return found;
-        }
-    }
-    None
-}
-
-/// Returns the leaf if it has an entry.
-fn with_entry<K: Ord + Drop, V: Drop, const LEN: usize>(
-    arenas: &ArenasOf<K, V, LEN>,
-    leaf: LeafId,
-) -> Option<LeafId>
-    requires { ContainsKey arenas.now.leaves leaf }
-    ensures { (way : Way) → FindsFirst way arenas.now.leaves (leaf ∷ []) result }
-{
-    if array_of(arenas, leaf).is_empty() {
-        None
-    } else {
-        Some(leaf)
     }
 }

@@ -5,7 +5,7 @@ ghost use Rattle.tree_array.specs.Arrivals.{free};
 ghost use Rattle.tree_array.specs.Sound.{IsSound};
 ghost use Rattle.tree_node.specs.Shape.{leaf_spare, least};
 ghost use Rattle.tree_node.specs.Tree.{StandsOrRetired, leaves_at};
-ghost use Rattle.tree_node.specs.Whole.{spare_under};
+ghost use Rattle.tree_node.specs.Whole.{root_at, spare_under};
 
 use crate::children::ChildrenOn;
 use crate::leaves::array_of;
@@ -26,7 +26,7 @@ pub fn spare_at<K: Ord + Drop, V: Drop, const LEN: usize>(
 ) -> u8
     requires node { 0 < level }
     requires stands { StandsOrRetired K.cmp level arenas.now id }
-    ensures { result ≡ spare_under arenas.now (Some (id, level)) }
+    ensures { result ≡ spare_under arenas.now (Some (root_at id level)) }
 {
     let node = arenas.node(id);
     if node.is_childless() {

@@ -5,7 +5,7 @@ ghost use Rattle.std.specs.declared.cmp.Ordering.TheVariants.{Equal};
 ghost use Rattle.tree_array.specs.Arrivals.{arrival, with_val};
 ghost use Rattle.tree_model.specs.Pairs.{IsAbsent, pair_at};
 
-use super::ArrayOf;
+use super::{ArrayOf, order_of};
 use tree_cells::search::{Place, find_key};
 
 impl<K: Ord + Drop, V: Drop, const LEN: usize> ArrayOf<K, V, LEN> {
@@ -17,7 +17,7 @@ impl<K: Ord + Drop, V: Drop, const LEN: usize> ArrayOf<K, V, LEN> {
             (λ slot. (pair : K × V) × (K.cmp pair.0 key.now ≡ Equal) × (arrival self.now.arrivals slot ≡ Some pair)
             × (pair_at K.cmp self.now.entries key.now ≡ Some pair)) }
     {
-        match find_key(&self.cells, self.order, self.cells.counts().entries, key) {
+        match find_key(&self.cells, order_of(self.order, &self.cells), key) {
             Place::At { place: _, slot } => Some(slot),
             Place::Before { place: _, slot: _ } => None,
         }

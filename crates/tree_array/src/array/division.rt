@@ -1,15 +1,16 @@
 //! How the pairs of an array are divided between two new ones.
-ghost use Rattle.std.specs.Prelude.{◌≡◌, ℕ, ◌+◌, ◌-◌, ◌≤◌, [], List, Option, None, length, take, drop, slice_get};
-ghost use Rattle.tree_array.specs.Arrivals.{arrival, boundary, drained, in_order, reachable, sorted};
-ghost use Rattle.tree_array.specs.Moves.{HasEmptied};
+ghost use Rattle.std.specs.Prelude.{◌≡◌, ℕ, ◌+◌, ◌-◌, ◌≤◌, [], List, Option, length, take, drop, slice_get};
+ghost use Rattle.tree_array.specs.Arrivals.{boundary, drained, in_order};
 ghost use Rattle.tree_array.specs.Sound.{IsSound};
+ghost use Rattle.tree_cells.specs.Arrivals.{held};
+ghost use Rattle.tree_cells.specs.Moves.{HasLeft};
 ghost use Rattle.tree_cells.specs.Tabled.{IsTabled};
-ghost use Rattle.tree_order.specs.Order.{picked};
+ghost use Rattle.tree_order.specs.Order.{names};
 
-use super::ArrayOf;
+use super::{ArrayOf, order_of};
 use std::mem;
-use tree_cells::cells::{Cells, Counts};
-use tree_order::order::{RETIRED, clamp, count_rises, in_turn};
+use tree_cells::cells::Cells;
+use tree_order::order::{Order, RETIRED, clamp};
 
 impl<K: Ord + Drop, V: Drop, const LEN: usize> ArrayOf<K, V, LEN> {
     /// Returns where to split: how many entries go low, how many there are, and whether all of `LEN` arrived in
@@ -19,14 +20,12 @@ impl<K: Ord + Drop, V: Drop, const LEN: usize> ArrayOf<K, V, LEN> {
         ensures boundary { result ≡ boundary K.cmp LEN self.now }
         ensures sound { IsSound K.cmp LEN self.now }
     {
-        let Counts {
-            entries: count,
-            arrivals,
-        } = self.cells.counts();
+        let order = order_of(self.order, &self.cells);
+        let count = order.count;
         if count as usize <= LEN * 3 / 4 {
             return (LEN as u8, count as usize, false);
         }
-        let rises = count_rises(self.order, count, arrivals);
+        let rises = order.count_rises(self.cells.counts().arrivals);
         if 2 * rises + 1 < count {
             (rises + 1, count as usize, false)
         } else {
@@ -65,6 +64,7 @@ impl<K: Ord + Drop, V: Drop, const LEN: usize> ArrayOf<K, V, LEN> {
 
     /// Does what [`distribute`](ArrayOf::distribute) does, but returns the entry at place `boundary`, if there is
     /// one.
+    #[tactic(auto, using(crate::proofs::Dealt::drained_same))]
     pub fn distribute_apart(
         &mut self,
         boundary: u8,
@@ -127,15 +127,15 @@ fn move_places<K: Ord, V, const LEN: usize>(
 )
     requires ends { from ≤ end }
     requires tabled { (old : List (Option (K × V))) × (made count : ℕ)
-        × IsTabled K.cmp LEN old order made count × (end ≤ count) × HasEmptied old cells.old.pairs order count from }
+        × IsTabled K.cmp LEN old (names order count) made × (end ≤ count) × HasLeft old cells.old.pairs order 0 from }
     requires new { to.old ≡ in_order [] }
     ensures moved { (old : List (Option (K × V))) (made count : ℕ)
-        → IsTabled K.cmp LEN old order made count → end ≤ count → HasEmptied old cells.old.pairs order count from
-        → HasEmptied old cells.new.pairs order count end
-        × (to.new ≡ in_order (take (end - from) (drop from (sorted K.cmp (reachable (picked (arrival old) made)))))) }
+        → IsTabled K.cmp LEN old (names order count) made → end ≤ count → HasLeft old cells.old.pairs order 0 from
+        → HasLeft old cells.new.pairs order 0 end
+        × (to.new ≡ in_order (take (end - from) (drop from (held old (names order count))))) }
     ensures whole { length cells.new.pairs ≡ length cells.old.pairs }
     ensures counts { cells.new.counts ≡ cells.old.counts }
 {
     cells.take_places(order, from, end, &mut to.cells);
-    to.order = in_turn::<LEN>(end - from);
+    to.order = Order::<LEN>::in_turn(end - from).word;
 }

@@ -3,12 +3,13 @@ ghost use Rattle.std.specs.Prelude.{◌≡◌, ◌<◌, false, length, true};
 ghost use Rattle.std.specs.List.{AllByRecursion};
 ghost use Rattle.std.specs.declared.cmp.Ordering.TheVariants.{Less};
 ghost use Rattle.tree_array.specs.Arrivals.{stored};
-ghost use Rattle.tree_array.specs.Insertion.{IsFull, IsInsert, IsStore, PartsEntries};
+ghost use Rattle.tree_array.specs.Insertion.{IsFull, IsInsert, IsStore};
+ghost use Rattle.tree_cells.specs.Place.{Parts};
 
-use super::{ArrayOf, InsertResult, StoreResult};
+use super::{ArrayOf, InsertResult, StoreResult, order_of};
 use tree_cells::cells::Counts;
 use tree_cells::search::{Place, find_key_beyond};
-use tree_order::order::{clamp, inserted, renamed};
+use tree_order::order::clamp;
 
 impl<K: Ord + Drop, V: Drop, const LEN: usize> ArrayOf<K, V, LEN> {
     /// Stores a pair in the next slot. With `UPSERT` it replaces the pair with an equal key, key and
@@ -41,22 +42,23 @@ impl<K: Ord + Drop, V: Drop, const LEN: usize> ArrayOf<K, V, LEN> {
     ) -> StoreResult<K, V>
         ensures { IsStore K.cmp LEN UPSERT self.old key val result self.new }
     {
-        let Counts { entries, arrivals } = self.cells.counts();
-        match find_key_beyond(&self.cells, self.order, entries, &key, rightmost) {
+        let order = order_of(self.order, &self.cells);
+        match find_key_beyond(&self.cells, order, &key, rightmost) {
             Place::At { place, slot } => {
                 if !UPSERT {
                     StoreResult::Duplicate(key, val)
                 } else if self.is_full() {
                     StoreResult::Full(key, val)
                 } else {
-                    let order = renamed::<LEN>(self.order, place, entries, arrivals);
+                    let arrivals = self.cells.counts().arrivals;
+                    let order = order.rename(place, arrivals);
                     let _ = self.cells.take(slot);
                     let counts = Counts {
-                        entries,
+                        entries: order.count,
                         arrivals: arrivals + 1,
                     };
                     self.cells.put(arrivals, key, val, counts);
-                    self.order = order;
+                    self.order = order.word;
                     StoreResult::Replaced
                 }
             }
@@ -90,16 +92,16 @@ impl<K: Ord + Drop, V: Drop, const LEN: usize> ArrayOf<K, V, LEN> {
     fn let_in(&mut self, place: u8, key: K, val: V)
         requires room { length self.old.arrivals < LEN }
         requires live { self.old.retired ≡ false }
-        requires parts { PartsEntries K.cmp self.old.entries key place }
+        requires parts { Parts K.cmp self.old.entries key place }
         ensures { self.new ≡ stored K.cmp self.old key val }
     {
-        let Counts { entries, arrivals } = self.cells.counts();
-        let order = inserted::<LEN>(self.order, place, entries, arrivals);
+        let arrivals = self.cells.counts().arrivals;
+        let order = order_of(self.order, &self.cells).insert(place, arrivals);
         let counts = Counts {
-            entries: entries + 1,
+            entries: order.count,
             arrivals: arrivals + 1,
         };
         self.cells.put(arrivals, key, val, counts);
-        self.order = order;
+        self.order = order.word;
     }
 }

@@ -6,12 +6,11 @@ ghost use Rattle.tree_array.specs.Arrivals.{arrival, removed, with_val, without_
 ghost use Rattle.tree_array.specs.Removal.{IsRemoval, removal_of};
 ghost use Rattle.tree_model.specs.Pairs.{IsAbsent, high_of, low_of, pair_at};
 
-use super::{ArrayOf, RemoveResult};
+use super::{ArrayOf, RemoveResult, order_of};
 use std::ops::Bound;
-use tree_cells::cells::Counts;
 use tree_cells::search::{Place, find_key};
 use tree_model::range_contains;
-use tree_order::order::{ordinals, place_of, removed as removed_from, slot_at};
+use tree_order::order::RETIRED;
 
 impl<K: Ord + Drop, V: Drop, const LEN: usize> ArrayOf<K, V, LEN> {
     /// Takes the pair of a slot, which must be reachable and is then spent. Returns `Retired` with the last
@@ -22,7 +21,7 @@ impl<K: Ord + Drop, V: Drop, const LEN: usize> ArrayOf<K, V, LEN> {
         ensures left { self.new ≡ removed K.cmp self.old result.0 }
         ensures answer { result.2 ≡ removal_of self.new }
     {
-        let place = place_of(self.order, self.cells.counts().entries, slot);
+        let place = order_of(self.order, &self.cells).place_of(slot);
         self.take_at(place)
     }
 
@@ -33,16 +32,17 @@ impl<K: Ord + Drop, V: Drop, const LEN: usize> ArrayOf<K, V, LEN> {
         ensures left { self.new ≡ removed K.cmp self.old result.0 }
         ensures answer { result.2 ≡ removal_of self.new }
     {
-        let entries = self.cells.counts().entries;
-        let slot = slot_at(self.order, place);
-        let order = removed_from::<LEN>(self.order, place, entries);
-        let (key, val) = self.cells.take(slot);
-        self.order = order;
-        self.cells.set_entries(entries - 1);
-        if entries == 1 {
-            return (key, val, RemoveResult::Retired);
-        }
-        (key, val, RemoveResult::Success)
+        let order = order_of(self.order, &self.cells);
+        let (key, val) = self.cells.take(order.slot_at(place));
+        let order = order.remove(place);
+        self.order = order.word;
+        self.cells.set_entries(order.count);
+        let removal = if order.word == RETIRED {
+            RemoveResult::Retired
+        } else {
+            RemoveResult::Success
+        };
+        (key, val, removal)
     }
 
     /// Removes the pair with a key if the condition says so of its value. Calls the condition once if the key
@@ -60,7 +60,7 @@ impl<K: Ord + Drop, V: Drop, const LEN: usize> ArrayOf<K, V, LEN> {
             (λ pair. (said : Bool) × FnOnceReturnsAt F.FnOnce condition pair.1 said
             × IsRemoval K.cmp self.old key.now said result self.new) }
     {
-        match find_key(&self.cells, self.order, self.cells.counts().entries, key) {
+        match find_key(&self.cells, order_of(self.order, &self.cells), key) {
             Place::At { place, slot } => {
                 let (_, val) = self.cells.pair(slot);
                 if condition(val) {
@@ -79,8 +79,8 @@ impl<K: Ord + Drop, V: Drop, const LEN: usize> ArrayOf<K, V, LEN> {
     pub fn remove_range(&mut self, bounds: (Bound<&K>, Bound<&K>))
         ensures { self.new ≡ without_range K.cmp self.old (low_of bounds.entry) (high_of bounds.entry) }
     {
-        let Counts { entries, arrivals } = self.cells.counts();
-        let ordinals = ordinals(self.order, entries);
+        let arrivals = self.cells.counts().arrivals;
+        let ordinals = order_of(self.order, &self.cells).ordinals();
         for slot in 0..arrivals {
             if ordinals[slot as usize] > 0 && range_contains(bounds, self.key(slot)) {
                 let _ = self.take(slot);

@@ -5,21 +5,22 @@ ghost use Rattle.tree_array.specs.Length.{searched};
 ghost use Rattle.tree_array.specs.Spans.{Spans};
 ghost use Rattle.tree_model.specs.Pairs.{Finds, IsAbsent, pair_at};
 
-use super::ArrayOf;
+use super::{ArrayOf, order_of};
 use tree_cells::judge::{Asks, Judge};
 use tree_cells::search::{Place, find};
-use tree_order::order::{BEYOND, last_slot, slot_at};
+use tree_order::order::BEYOND;
 
 impl<K: Ord + Drop, V: Drop, const LEN: usize> ArrayOf<K, V, LEN> {
     /// Returns the pair with the judge's key, or `None` if the key is absent. Makes at most 4 comparisons
     /// (3 among 7 slots).
+    #[tactic(auto, using(tree_cells::proofs::Halving::searched_few))]
     pub fn search_entry<J: Judge<K>>(&self, judge: &mut J) -> Option<(&K, &V)>
         ensures found { Finds K.cmp self.now.entries (J.key judge.old) result }
         ensures same_key { J.key judge.new ≡ J.key judge.old }
         ensures counted { J.count judge.new ≤ J.count judge.old + LEN }
         ensures halved { J.count judge.new ≤ J.count judge.old + searched LEN }
     {
-        match find(&self.cells, self.order, self.cells.counts().entries, judge) {
+        match find(&self.cells, order_of(self.order, &self.cells), judge) {
             Place::At { place: _, slot } => Some(self.cells.pair(slot)),
             Place::Before { place: _, slot: _ } => None,
         }
@@ -38,17 +39,20 @@ impl<K: Ord + Drop, V: Drop, const LEN: usize> ArrayOf<K, V, LEN> {
         Some(val)
     }
 
-    /// Returns the slot of the least key that isn't less than the judge's, or `None` if all are. Makes at most
-    /// 4 comparisons (3 among 7 slots).
-    pub fn min_greater_equal<J: Judge<K>>(&self, judge: &mut J) -> Option<u8>
-        ensures found { MatchOption result (least_from K.cmp self.now.entries (J.key judge.old) ≡ None)
+    /// Returns the slot of the least key that isn't less than that of the asked, a judge or the key itself, or `None` if
+    /// all are. Makes at most 4 comparisons (3 among 7 slots).
+    #[tactic(auto, using(tree_cells::proofs::Halving::searched_few))]
+    #[inline(always)]
+    pub fn min_greater_equal<By, A: Asks<K, By>>(&self, asked: &mut A) -> Option<u8>
+        ensures found { MatchOption result (least_from K.cmp self.now.entries (A.key asked.old) ≡ None)
             (λ slot. (pair : _) × (arrival self.now.arrivals slot ≡ Some pair)
-            × (least_from K.cmp self.now.entries (J.key judge.old) ≡ Some pair)) }
-        ensures same_key { J.key judge.new ≡ J.key judge.old }
-        ensures counted { J.count judge.new ≤ J.count judge.old + LEN }
-        ensures halved { J.count judge.new ≤ J.count judge.old + searched LEN }
+            × (least_from K.cmp self.now.entries (A.key asked.old) ≡ Some pair)) }
+        ensures same_key { A.key asked.new ≡ A.key asked.old }
+        ensures counted { A.count asked.new ≤ A.count asked.old + LEN }
+        ensures halved { A.count asked.new ≤ A.count asked.old + searched LEN }
     {
-        self.least_for(judge)
+        let slot = find(&self.cells, order_of(self.order, &self.cells), asked).slot();
+        if slot < BEYOND { Some(slot) } else { None }
     }
 
     /// Returns the slot of the least key that isn't less than this one, or `None` if all are. Makes at most
@@ -59,7 +63,7 @@ impl<K: Ord + Drop, V: Drop, const LEN: usize> ArrayOf<K, V, LEN> {
             (λ slot. (pair : _) × (arrival self.now.arrivals slot ≡ Some pair)
             × (least_from K.cmp self.now.entries key.now ≡ Some pair)) }
     {
-        self.least_for(&mut &*key)
+        self.min_greater_equal(&mut &*key)
     }
 
     /// Returns the slot of the entry at this place in key order, counted from 0, or `None` behind the last.
@@ -69,8 +73,9 @@ impl<K: Ord + Drop, V: Drop, const LEN: usize> ArrayOf<K, V, LEN> {
             (λ slot. (pair : _) × (arrival self.now.arrivals slot ≡ Some pair)
             × (slice_get self.now.entries place ≡ Some pair)) }
     {
-        if place < self.cells.counts().entries {
-            Some(slot_at(self.order, place))
+        let order = order_of(self.order, &self.cells);
+        if place < order.count {
+            Some(order.slot_at(place))
         } else {
             None
         }
@@ -82,11 +87,11 @@ impl<K: Ord + Drop, V: Drop, const LEN: usize> ArrayOf<K, V, LEN> {
             (λ slot. (pair : _) × (arrival self.now.arrivals slot ≡ Some pair)
             × (front : _) × (self.now.entries ≡ front ++ pair ∷ [])) }
     {
-        let count = self.cells.counts().entries;
-        if count == 0 {
+        let order = order_of(self.order, &self.cells);
+        if order.count == 0 {
             return None;
         }
-        Some(last_slot::<LEN>(self.order, count))
+        Some(order.last())
     }
 
     /// Returns whether a key lies between the first and the last one, or is one of these. Makes at most two comparisons.
@@ -101,20 +106,5 @@ impl<K: Ord + Drop, V: Drop, const LEN: usize> ArrayOf<K, V, LEN> {
             return false;
         };
         self.key(first).cmp(key).is_le() && key.cmp(self.key(last)).is_le()
-    }
-
-    /// Returns the slot of the least key that isn't less than that of the asked.
-    #[inline(always)]
-    fn least_for<By, A: Asks<K, By>>(&self, asked: &mut A) -> Option<u8>
-        ensures found { MatchOption result (least_from K.cmp self.now.entries (A.key asked.old) ≡ None)
-            (λ slot. (pair : _) × (arrival self.now.arrivals slot ≡ Some pair)
-            × (least_from K.cmp self.now.entries (A.key asked.old) ≡ Some pair)) }
-        ensures same_key { A.key asked.new ≡ A.key asked.old }
-        ensures counted { A.count asked.new ≤ A.count asked.old + LEN }
-        ensures halved { A.count asked.new ≤ A.count asked.old + searched LEN }
-    {
-        let count = self.cells.counts().entries;
-        let slot = find(&self.cells, self.order, count, asked).slot();
-        if slot < BEYOND { Some(slot) } else { None }
     }
 }

@@ -60,6 +60,7 @@ impl ArrayIter {
     }
 
     /// Returns the slot that the walk stands at, if it has begun.
+    #[tactic(auto, using(crate::proofs::Stepped::stands_at))]
     pub fn slot(&self) -> Option<u8>
         ensures { result ≡ option_and_then (slice_get self.now.slots) self.now.at }
     {
@@ -70,6 +71,7 @@ impl ArrayIter {
     }
 
     /// Returns how many places lie ahead of a walk against the order of the keys.
+    #[tactic(auto, using(crate::proofs::Stepped::behind_none, crate::proofs::Stepped::behind_some))]
     #[inline]
     fn places_behind(&self) -> u8
         ensures { result ≡ places_behind (length self.now.slots) self.now.at }
@@ -82,6 +84,7 @@ impl ArrayIter {
     }
 
     /// Goes one slot back. Returns `None` and keeps its place before the first slot.
+    #[tactic(auto, using(crate::proofs::Stepped::behind_few))]
     #[inline]
     fn step_back(&mut self) -> Option<u8>
         ensures { StepsBack self.old result self.new }
@@ -148,6 +151,7 @@ impl Iterator for ArrayIter {
 
     ghost remaining = { left_on };
 
+    #[tactic(auto, using(crate::proofs::Stepped::stays))]
     #[inline]
     fn next(&mut self) -> Option<u8> {
         if self.ahead < self.count {

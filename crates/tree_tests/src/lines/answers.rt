@@ -1,9 +1,10 @@
 //! The answers to requests, in whatever pieces the lines come and the answers go.
+use super::engine::Answers;
 use super::streams::{Failing, Sink, Source};
 use std::alloc::{AllocError, Global};
+use std::process::Abort;
 use test_support::refusals::succeeds;
 use tree_index::TreeIndex;
-use tree_lines::run_lines;
 
 /// Lines, and the answers to them over a new index.
 static ROWS: [(&str, &str); 12] = [
@@ -44,20 +45,29 @@ static ROWS: [(&str, &str); 12] = [
 
 /// The answers to these lines are these, where so many bytes are read and written at a time. Returns `Err` if not, as
 /// where memory was refused.
-fn expect_answers(
-    alloc: Global,
+fn are_answered(
+    index: &mut impl Answers,
     (lines, wanted): (&str, &str),
     (read, written): (usize, usize),
 ) -> Result<(), AllocError> {
     let mut input = Source::new(lines.as_bytes(), read, Failing::never());
     let mut output = Sink::new(written, Failing::never());
-    let mut index: TreeIndex<u64, u64> = TreeIndex::new(alloc);
-    let outcome = run_lines(&mut index, &mut input, &mut output);
+    let outcome = index.run(&mut input, &mut output);
     if outcome == Ok(()) && output.taken() == wanted.as_bytes() {
         Ok(())
     } else {
         Err(AllocError)
     }
+}
+
+/// A new index answers these lines so.
+fn expect_answers(
+    alloc: Global,
+    row: (&str, &str),
+    pieces: (usize, usize),
+) -> Result<(), AllocError> {
+    let mut index: TreeIndex<u64, u64> = TreeIndex::new(alloc);
+    are_answered(&mut index, row, pieces)
 }
 
 #[test]
@@ -86,16 +96,27 @@ static STORE_AND_PEEK: [&str; 9] = [
     "upsert 9 10\npeek 9\n",
 ];
 
-#[test]
-fn answers_that_memory_is_refused(rt: HostRuntime) {
-    let mut index: TreeIndex<u64, u64> = TreeIndex::new(rt.alloc());
+/// Answers the lines, and returns what goes out.
+fn answers_to(rt: &impl Abort, index: &mut impl Answers, lines: &str) -> Sink {
+    let mut input = lines.as_bytes();
+    let mut output = Sink::new(256, Failing::never());
+    assert!(rt; index.run(&mut input, &mut output) == Ok(()));
+    output
+}
+
+/// Stores and looks up at each key.
+fn expect_stored_or_refused(rt: &impl Abort, index: &mut impl Answers) {
     for lines in &STORE_AND_PEEK {
-        let mut input = lines.as_bytes();
-        let mut output = Sink::new(256, Failing::never());
-        assert!(rt; run_lines(&mut index, &mut input, &mut output) == Ok(()));
+        let output = answers_to(rt, index, *lines);
         let answers = output.taken();
         assert!(rt; answers == b"ok\n10\n".as_slice() || answers == b"refused\nnone\n".as_slice());
     }
+}
+
+#[test]
+fn answers_that_memory_is_refused(rt: HostRuntime) {
+    let mut index: TreeIndex<u64, u64> = TreeIndex::new(rt.alloc());
+    expect_stored_or_refused(&rt, &mut index);
 }
 
 /// An insert and a look-up, and both again; the answers with memory, where the first insert is refused it, and where both
@@ -113,8 +134,6 @@ static TWICE: (&str, [&str; 3]) = (
 fn answers_again_what_was_refused(rt: HostRuntime) {
     let mut index: TreeIndex<u64, u64> = TreeIndex::new(rt.alloc());
     let (lines, answers) = TWICE;
-    let mut input = lines.as_bytes();
-    let mut output = Sink::new(256, Failing::never());
-    assert!(rt; run_lines(&mut index, &mut input, &mut output) == Ok(()));
+    let output = answers_to(&rt, &mut index, lines);
     assert!(rt; answers.iter().any(|it| it.as_bytes() == output.taken()));
 }

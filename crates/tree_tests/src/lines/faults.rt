@@ -1,10 +1,11 @@
 //! Runs in which a read or a write fails.
+use super::engine::Answers;
 use super::streams::{Failing, Failure, Sink, Source};
 use std::alloc::{AllocError, Global};
 use std::process::Abort;
 use test_support::refusals::succeeds;
 use tree_index::TreeIndex;
-use tree_lines::{ToolFault, WriteFailed, run_lines};
+use tree_lines::{ToolFault, WriteFailed};
 
 /// Lines, the answers to them, and the pairs before the first line and after each, as `iter` answers them.
 struct Script {
@@ -72,11 +73,11 @@ impl Ended {
 }
 
 /// Runs the lines of a reader over an index, which is cleared first.
-fn run(index: &mut TreeIndex<u64, u64>, mut input: Source<'_>, mut output: Sink) -> Ended {
+fn run(index: &mut impl Answers, mut input: Source<'_>, mut output: Sink) -> Ended {
     index.clear();
-    let outcome = run_lines(index, &mut input, &mut output);
+    let outcome = index.run(&mut input, &mut output);
     let (mut walk, mut pairs) = (b"iter\n".as_slice(), Sink::new(256, Failing::never()));
-    let _ = run_lines(index, &mut walk, &mut pairs);
+    let _ = index.run(&mut walk, &mut pairs);
     Ended {
         outcome,
         output,
@@ -92,7 +93,7 @@ fn prepare(index: &mut TreeIndex<u64, u64>) -> Result<(), AllocError> {
 /// Whether each line that a line feed ended before the failed read is applied and answered, and no other one. A run ends
 /// well where the read that finds no more bytes passes.
 fn shows_a_failed_read(
-    index: &mut TreeIndex<u64, u64>,
+    index: &mut impl Answers,
     script: &Script,
     piece: usize,
     failing: Failing,
@@ -118,7 +119,7 @@ fn shows_a_failed_read(
 }
 
 /// Fails each read of a script in turn.
-fn fail_reads(rt: &impl Abort, index: &mut TreeIndex<u64, u64>, script: &Script) {
+fn fail_reads(rt: &impl Abort, index: &mut impl Answers, script: &Script) {
     for by in [Failure::Broken, Failure::Interrupted] {
         for piece in &PIECES {
             for passes in 0..=script.lines.len() as u64 {
@@ -132,13 +133,18 @@ fn fail_reads(rt: &impl Abort, index: &mut TreeIndex<u64, u64>, script: &Script)
     }
 }
 
-fn read_fails_steps(rt: &impl Abort, alloc: Global) -> Result<(), AllocError> {
-    let mut index: TreeIndex<u64, u64> = TreeIndex::new(alloc);
-    prepare(&mut index)?;
+/// Fails each read of each script in turn.
+fn fail_each_read(rt: &impl Abort, index: &mut TreeIndex<u64, u64>) -> Result<(), AllocError> {
+    prepare(index)?;
     for script in &SCRIPTS {
-        fail_reads(rt, &mut index, script);
+        fail_reads(rt, index, script);
     }
     Ok(())
+}
+
+fn read_fails_steps(rt: &impl Abort, alloc: Global) -> Result<(), AllocError> {
+    let mut index: TreeIndex<u64, u64> = TreeIndex::new(alloc);
+    fail_each_read(rt, &mut index)
 }
 
 #[test]
@@ -149,7 +155,7 @@ fn tells_that_a_read_failed(rt: HostRuntime) {
 /// Whether each line before the one whose answer broke off is applied and answered, and that one is applied. A run whose
 /// writes all pass ends well.
 fn shows_a_failed_write(
-    index: &mut TreeIndex<u64, u64>,
+    index: &mut impl Answers,
     script: &Script,
     piece: usize,
     failing: Failing,
@@ -173,7 +179,7 @@ fn shows_a_failed_write(
 }
 
 /// Fails each write of a script in turn.
-fn fail_writes(rt: &impl Abort, index: &mut TreeIndex<u64, u64>, script: &Script) {
+fn fail_writes(rt: &impl Abort, index: &mut impl Answers, script: &Script) {
     for by in [Failure::Broken, Failure::Interrupted, Failure::Stalled] {
         for piece in &PIECES {
             for passes in 0..script.answers.len() as u64 {
@@ -187,13 +193,18 @@ fn fail_writes(rt: &impl Abort, index: &mut TreeIndex<u64, u64>, script: &Script
     }
 }
 
-fn write_fails_steps(rt: &impl Abort, alloc: Global) -> Result<(), AllocError> {
-    let mut index: TreeIndex<u64, u64> = TreeIndex::new(alloc);
-    prepare(&mut index)?;
+/// Fails each write of each script in turn.
+fn fail_each_write(rt: &impl Abort, index: &mut TreeIndex<u64, u64>) -> Result<(), AllocError> {
+    prepare(index)?;
     for script in &SCRIPTS {
-        fail_writes(rt, &mut index, script);
+        fail_writes(rt, index, script);
     }
     Ok(())
+}
+
+fn write_fails_steps(rt: &impl Abort, alloc: Global) -> Result<(), AllocError> {
+    let mut index: TreeIndex<u64, u64> = TreeIndex::new(alloc);
+    fail_each_write(rt, &mut index)
 }
 
 #[test]

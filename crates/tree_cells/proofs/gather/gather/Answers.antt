@@ -1,63 +1,68 @@
-use Rattle.std.proofs.Common.{◌≡◌, ◌≢◌, ℕ, ◌+◌, ◌-◌, ◌<◌, ◌≤◌, Some, None, length, get_or, sym, ◌∙◌, ap, arith}
+use Rattle.std.proofs.Common.{◌≡◌, ◌≢◌, ℕ, ◌+◌, ◌-◌, ◌<◌, ◌≤◌, Some, None, length, refl, ◌∙◌, ap, arith}
 use Rattle.tree_order.specs.Order.{named}
-use Rattle.tree_cells.proofs.Halving.{named_later}
-use Rattle.tree_cells.proofs.Moves.{moved_more, none_in_turn, none_left, stands_still}
+use Rattle.tree_order.proofs.Words.{named_later}
+use Rattle.tree_cells.specs.Cells.{zipped}
+use Rattle.tree_cells.proofs.Moves.{left_more, none_in_turn, none_left, stands_still, turn_more}
 use Rattle.tree_cells.proofs.Sizes.{steps}
+use Rattle.tree_cells.proofs.Zips.{has_both, has_none, is_pair, length-zipped, pair_set, paired_at, rows_alike}
 use Rattle.tree_cells.proofs.gather.gather.Goals as goal
 
-pub loop-place-init : goal.loop-place-init
-loop-place-init g c = record {
-  rest = λ i. named_later c.args.order c.args.from i;
-  keys_turn = none_in_turn c.args.keys.now.slots c.args.to_keys.now.slots c.args.order c.args.from c.requires.no_keys;
-  keys_left = none_left c.args.keys.now.slots c.args.order c.args.from;
-  vals_turn = none_in_turn c.args.vals.now.slots c.args.to_vals.now.slots c.args.order c.args.from c.requires.no_vals;
-  vals_left = none_left c.args.vals.now.slots c.args.order c.args.from;
-}
+-- the slot that the loop is at is that of the next place
+at_place : (rest order place : ℕ) {slot : ℕ} → slot ≡ named rest 0 → ((i : ℕ) → named rest i ≡ named order (place + i)) → slot ≡ named order place
+at_place rest order place is later = let same : place + 0 ≡ place = omega arith in is ∙ later 0 ∙ ap (named order) same
 
--- the slot that the loop is at is that of the next place, and its key and its value are where they were
+pub loop-place-init : goal.loop-place-init
+loop-place-init g c =
+    let to = rows_alike c.args.to_keys.now.whole c.args.to_vals.now.whole (record { alike = λ p. rw (c.requires.no_keys p, c.requires.no_vals p) refl }) in
+    record {
+      rest = λ i. named_later c.args.order c.args.from i;
+      rows = rows_alike c.args.keys.now.whole c.args.vals.now.whole c.requires.alike;
+      to = to;
+      turn = none_in_turn _ _ c.args.order c.args.from (λ p. paired_at to p ∙ rw (c.requires.no_keys p) refl);
+      left = none_left _ c.args.order c.args.from;
+    }
+
+-- its pair is where it was, and the slot that it goes to is empty
 pub take-requires : goal.take-requires
 take-requires g c =
-    let place = c.loop-place.place in
-    let on : c.args.from ≤ place = omega (arith, c.loop-place.auto.place) in
-    let same : place + 0 ≡ place = omega arith in
-    let is : c.slot_at-slot.result ≡ named c.args.order place = c.slot_at-slot.ensures ∙ c.loop-place.invariant.rest 0 ∙ ap (named c.args.order) same in
-    (search steps, rw (is, stands_still c.loop-place.invariant.keys_left on (λ i le lt. c.requires.apart i place le lt c.loop-place-test.true)) (c.requires.keys place on c.loop-place-test.true))
+    let inv = c.loop-place.invariant in
+    let stays = stands_still inv.left c.loop-place.auto.place (λ i le lt. c.requires.apart i c.loop-place.place le lt c.loop-place-test.true) in
+    (search steps, rw (at_place c.loop-place.rest c.args.order c.loop-place.place c.slot_at-slot.ensures inv.rest) (has_both inv.rows (named c.args.order c.loop-place.place) (rw stays (c.requires.stand c.loop-place.place c.loop-place.auto.place c.loop-place-test.true))).0)
 
 pub take-requires-in-loop-place : goal.take-requires-in-loop-place
 take-requires-in-loop-place g c =
-    let place = c.loop-place.place in
-    let on : c.args.from ≤ place = omega (arith, c.loop-place.auto.place) in
-    let same : place + 0 ≡ place = omega arith in
-    let is : c.slot_at-slot.result ≡ named c.args.order place = c.slot_at-slot.ensures ∙ c.loop-place.invariant.rest 0 ∙ ap (named c.args.order) same in
-    (search steps, rw (is, stands_still c.loop-place.invariant.vals_left on (λ i le lt. c.requires.apart i place le lt c.loop-place-test.true)) (c.requires.vals place on c.loop-place-test.true))
+    let inv = c.loop-place.invariant in
+    let stays = stands_still inv.left c.loop-place.auto.place (λ i le lt. c.requires.apart i c.loop-place.place le lt c.loop-place-test.true) in
+    (search steps, rw (at_place c.loop-place.rest c.args.order c.loop-place.place c.slot_at-slot.ensures inv.rest) (has_both inv.rows (named c.args.order c.loop-place.place) (rw stays (c.requires.stand c.loop-place.place c.loop-place.auto.place c.loop-place-test.true))).1)
+
+pub put-requires : goal.put-requires
+put-requires g c = (search steps, (omega (arith, c.loop-place-test.true, c.requires.few), (has_none c.loop-place.invariant.to _ (c.loop-place.invariant.turn.none _ (omega (arith, c.loop-place.auto.place)))).0))
+
+pub put-requires-in-loop-place : goal.put-requires-in-loop-place
+put-requires-in-loop-place g c = (search steps, (omega (arith, c.loop-place-test.true, c.requires.few), (has_none c.loop-place.invariant.to _ (c.loop-place.invariant.turn.none _ (omega (arith, c.loop-place.auto.place)))).1))
 
 pub loop-place-preserved : goal.loop-place-preserved
 loop-place-preserved g c =
+    let inv = c.loop-place.invariant in
     let place = c.loop-place.place in
-    let on : c.args.from ≤ place = omega (arith, c.loop-place.auto.place) in
+    let is = at_place c.loop-place.rest c.args.order c.loop-place.place c.slot_at-slot.ensures inv.rest in
+    let there = is_pair inv.rows c.slot_at-slot.result _ _ c.take.ensures.value c.take-in-loop-place.ensures.value in
+    let within : place - c.args.from < length (zipped c.loop-place.to_keys.slots c.loop-place.to_vals.slots) = omega (arith, c.loop-place-test.true, c.requires.few, c.loop-place.to_keys.whole, length-zipped _ _ inv.to.same) in
     let apart : (i : ℕ) → c.args.from ≤ i → i < place → named c.args.order i ≢ named c.args.order place = λ i le lt. c.requires.apart i place le lt c.loop-place-test.true in
-    let same : place + 0 ≡ place = omega arith in
-    let is : c.slot_at-slot.result ≡ named c.args.order place = c.slot_at-slot.ensures ∙ c.loop-place.invariant.rest 0 ∙ ap (named c.args.order) same in
-    let key_within : place - c.args.from < length c.loop-place.to_keys.slots = omega (arith, c.loop-place-test.true, c.requires.few, c.loop-place.to_keys.whole) in
-    let val_within : place - c.args.from < length c.loop-place.to_vals.slots = omega (arith, c.loop-place-test.true, c.requires.few, c.loop-place.to_vals.whole) in
-    let keys = moved_more c.loop-place.invariant.keys_left c.loop-place.invariant.keys_turn on apart key_within c.slot_at-slot.result is c.take.result c.take.ensures.value in
-    let vals = moved_more c.loop-place.invariant.vals_left c.loop-place.invariant.vals_turn on apart val_within c.slot_at-slot.result is c.take-in-loop-place.result c.take-in-loop-place.ensures.value in
+    let gone = pair_set inv.rows c.slot_at-slot.result None None refl in
+    let come = pair_set inv.to (place - c.args.from) (Some c.take.result) (Some c.take-in-loop-place.result) refl in
     record {
       rest = λ i.
           let next : place + (1 + i) ≡ place + 1 + i = omega arith in
-          named_later c.loop-place.rest 1 i ∙ c.loop-place.invariant.rest (1 + i) ∙ ap (named c.args.order) next;
-      keys_turn = rw c.put.ensures keys.0;
-      keys_left = rw c.take.ensures.spent keys.1;
-      vals_turn = rw c.put-in-loop-place.ensures vals.0;
-      vals_left = rw c.take-in-loop-place.ensures.spent vals.1;
+          named_later c.loop-place.rest 1 i ∙ inv.rest (1 + i) ∙ ap (named c.args.order) next;
+      rows = rw (c.take.ensures.spent, c.take-in-loop-place.ensures.spent) (rows_alike gone.same refl gone.alike);
+      to = rw (c.put.ensures, c.put-in-loop-place.ensures) (rows_alike come.same refl come.alike);
+      turn = rw (c.put.ensures, c.put-in-loop-place.ensures, come.view) (turn_more inv.left c.loop-place.auto.place apart inv.turn within _ (rw is at there));
+      left = rw (c.take.ensures.spent, c.take-in-loop-place.ensures.spent, gone.view, is) (left_more inv.left c.loop-place.auto.place apart);
     }
 
-pub returns-clause-keys_left : goal.returns-clause-keys_left
-returns-clause-keys_left g c =
+pub returns : goal.returns
+returns g c =
+    let inv = c.loop-place.invariant in
     let all : c.loop-place.place ≡ c.args.end = omega (arith, c.loop-place-test.false, c.loop-place.auto.place-end c.requires.ends) in
-    rw all at c.loop-place.invariant.keys_left
-
-pub returns-clause-vals_left : goal.returns-clause-vals_left
-returns-clause-vals_left g c =
-    let all : c.loop-place.place ≡ c.args.end = omega (arith, c.loop-place-test.false, c.loop-place.auto.place-end c.requires.ends) in
-    rw all at c.loop-place.invariant.vals_left
+    record { turn = rw all at inv.turn; left = rw all at inv.left; alike = inv.rows.alike; to_alike = inv.to.alike }

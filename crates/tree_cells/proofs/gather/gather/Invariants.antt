@@ -1,13 +1,15 @@
 use Rattle.std.proofs.Common.{◌≡◌, ℕ, ◌+◌}
+use Rattle.tree_cells.specs.Cells.{zipped}
 use Rattle.tree_cells.specs.Moves.{HasInTurn, HasLeft}
 use Rattle.tree_order.specs.Order.{named}
+use Rattle.tree_cells.proofs.Zips.{AreSeenAs}
 use Rattle.tree_cells.proofs.gather.gather.Given as goal
 
 abbrev pub invariant-loop-place : goal.invariant-loop-place
 invariant-loop-place g l = record {
   rest : (i : ℕ) → named l.rest i ≡ named l.order (l.place + i);
-  keys_turn : HasInTurn l.fn.keys.slots l.to_keys.slots l.order l.from l.place;
-  keys_left : HasLeft l.fn.keys.slots l.keys.slots l.order l.from l.place;
-  vals_turn : HasInTurn l.fn.vals.slots l.to_vals.slots l.order l.from l.place;
-  vals_left : HasLeft l.fn.vals.slots l.vals.slots l.order l.from l.place;
+  rows : AreSeenAs l.keys.slots l.vals.slots (zipped l.keys.slots l.vals.slots);
+  to : AreSeenAs l.to_keys.slots l.to_vals.slots (zipped l.to_keys.slots l.to_vals.slots);
+  turn : HasInTurn (zipped l.fn.keys.slots l.fn.vals.slots) (zipped l.to_keys.slots l.to_vals.slots) l.order l.from l.place;
+  left : HasLeft (zipped l.fn.keys.slots l.fn.vals.slots) (zipped l.keys.slots l.vals.slots) l.order l.from l.place;
 }

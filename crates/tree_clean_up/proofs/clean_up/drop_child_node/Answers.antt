@@ -1,8 +1,5 @@
-use Rattle.std.proofs.Common.{ℕ, refl, rules}
-use Rattle.tree_node.proofs.Common.{ContainsKey}
-use Rattle.tree_node.proofs.Standing.{no_children}
-use Rattle.tree_clean_up.proofs.NodeDrops.{node_dropped}
-use Rattle.tree_clean_up.proofs.NodeWrites.{has_node}
+use Rattle.tree_clean_up.proofs.Common.{ContainsKey, no_children, refl, rules, ℕ}
+use Rattle.tree_clean_up.proofs.NodeDrops.{has_node, node_dropped}
 use Rattle.tree_clean_up.proofs.clean_up.drop_child_node.Goals as goal
 
 pub remove_node-requires : goal.remove_node-requires

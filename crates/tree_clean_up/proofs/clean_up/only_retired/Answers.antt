@@ -1,8 +1,7 @@
-use Rattle.std.proofs.Common.{◌≡◌, [], sym, ◌∙◌, true, false, inl, arith}
-use Rattle.tree_node.proofs.Common.{ContainsKey, fits}
-use Rattle.tree_node.specs.declared.node.NodeOf.TheVariants.{Leaf}
-use Rattle.tree_clean_up.proofs.OnlyLeaves.{only_there, others_left, not_retired, is_only}
+use Rattle.tree_clean_up.proofs.Common.{Arrivals, ContainsKey, [], ap, arith, fits, inl, refl, sym, ◌∙◌, ◌≡◌}
+use Rattle.tree_clean_up.proofs.OnlyLeaves.{is_only, not_retired, only_stands, others_left}
 use Rattle.tree_node.proofs.Levels.{node_at}
+use Rattle.tree_node.specs.declared.node.NodeOf.TheVariants.{Leaf}
 use Rattle.tree_clean_up.proofs.clean_up.only_retired.Goals.{then-not-is_retired-via-then-not-is_retired, then-not-is_retired-via-else-not-is_retired+then-not-is_empty-2}
 use Rattle.tree_clean_up.proofs.clean_up.only_retired.Goals as goal
 
@@ -14,23 +13,23 @@ node-requires g c =
 pub returns-then-not-is_empty : goal.returns-then-not-is_empty
 returns-then-not-is_empty g c =
     others_left c.args.arenas.now c.args.id (Leaf c.in-Leaf.node) (rw c.in-Leaf.is at c.node.ensures) c.in_ok-last.last c.in_ok-last.was
-    (λ none. let both : false ≡ true = sym c.if-not-is_empty.true ∙ c.is_empty.ensures.1 none in cc)
+    (λ none. cc (c.is_empty.ensures.1 none))
 
 pub leaf-requires : goal.leaf-requires
 leaf-requires g c =
     let none : c.in-Leaf.node.children.entries ≡ [] = c.is_empty.ensures.0 c.if-not-is_empty.false in
-    let there : ContainsKey c.args.arenas.now.leaves c.in_ok-last.last =
-    only_there c.args.arenas.now c.args.id (Leaf c.in-Leaf.node) (rw c.in-Leaf.is at c.node.ensures) c.in_ok-last.last c.in_ok-last.was g.K.Ord.cmp c.requires none in
-    (search fits, (search fits, there))
+    let here = rw c.in-Leaf.is at c.node.ensures in
+    let last = only_stands c.args.arenas.now c.args.id (Leaf c.in-Leaf.node) here c.in_ok-last.last c.in_ok-last.was g.K.Ord.cmp 0 c.requires none in
+    (search fits, (search fits, rw last.here refl))
 
 pub returns-then-not-is_retired : goal.returns-then-not-is_retired
 returns-then-not-is_retired g c =
     not_retired c.args.arenas.now c.args.id (Leaf c.in-Leaf.node) (rw c.in-Leaf.is at c.node.ensures) c.in_ok-last.last c.in_ok-last.was c.leaf.result.now c.leaf.ensures
     (λ retired. elim c.then-not-is_retired.branch [
       | then-not-is_retired-via-then-not-is_retired w ↦
-          let both : false ≡ true = sym w.if-not-is_retired.true ∙ c.is_retired.ensures ∙ rw c.array-array.ensures retired.0 in cc
+          cc (w.if-not-is_retired.true, c.is_retired.ensures, ap (λ (x : Arrivals _ _). x.retired) c.array-array.ensures, retired.0)
       | then-not-is_retired-via-else-not-is_retired+then-not-is_empty-2 w ↦
-          let both : false ≡ true = sym w.if-not-is_empty-2.true ∙ w.is_empty-else-not-is_retired.ensures.1 (rw c.array-array.ensures retired.1) in cc
+          cc (w.if-not-is_empty-2.true, w.is_empty-else-not-is_retired.ensures.1 (rw c.array-array.ensures retired.1))
     ])
 
 pub returns : goal.returns

@@ -1,6 +1,4 @@
-use Rattle.std.proofs.Common.{refl, ◌∙◌, rules}
-use Rattle.tree_node.proofs.Common.{ContainsKey, fits}
-use Rattle.tree_leaf.proofs.Chains.{same_array_used}
+use Rattle.tree_clean_up.proofs.Common.{ContainsKey, fits, refl, rules, same_array_used, ◌∙◌}
 use Rattle.tree_clean_up.proofs.EmptyNodes.{emptied}
 use Rattle.tree_clean_up.proofs.LeafDrops.{leaf_dropped}
 use Rattle.tree_clean_up.proofs.clean_up.retire_if_empty.Goals as goal

@@ -1,8 +1,5 @@
-use Rattle.std.proofs.Common.{rules, IsSome, refl}
-use Rattle.tree_array.proofs.Common.{arrival}
-use Rattle.tree_node.proofs.Common.{ContainsKey, keyed}
-use Rattle.slab.proofs.SlabLemmas.{Updates-with_value}
-use Rattle.tree_clean_up.proofs.NodeWrites.{has_node}
+use Rattle.tree_clean_up.proofs.Common.{ContainsKey, IsSome, Updates-with_value, arrival, keyed, refl, rules}
+use Rattle.tree_clean_up.proofs.NodeDrops.{has_node}
 use Rattle.tree_clean_up.proofs.clean_up.take_keyed.Goals as goal
 
 pub node_mut-requires : goal.node_mut-requires

@@ -1,5 +1,4 @@
-use Rattle.std.proofs.Common.{refl}
-use Rattle.slab.proofs.SlabLemmas.{Updates-with_value}
+use Rattle.tree_clean_up.proofs.Common.{Updates-with_value, refl}
 use Rattle.tree_clean_up.proofs.clean_up.take_unbounded.Goals as goal
 
 pub returns-clause-nodes : goal.returns-clause-nodes

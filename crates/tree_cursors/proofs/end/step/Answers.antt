@@ -1,15 +1,12 @@
 use Rattle.std.proofs.Common.{sym}
-use Rattle.tree_model.proofs.Common.{bound_map}
+use Rattle.tree_cursors.proofs.Ends.{goes_to, leaves_tree}
 use Rattle.tree_cursors.proofs.end.step.Goals as goal
 
 pub returns-in-None-clause-place : goal.returns-in-None-clause-place
-returns-in-None-clause-place g c = rw c.in-At.is (c.in-None.ensures _)
+returns-in-None-clause-place g c =
+    rw c.in-At.is (leaves_tree c.args.arenas.now c.args.root c.requires.tree g.S.SlotWalk.way c.in-At.walk (rw c.in-At.is at c.requires.stands) c.advance.new.walk c.in-None.ensures _)
 
-pub returns-in-Some-clause-place : goal.returns-in-Some-clause-place
-returns-in-Some-clause-place g c = rw c.in-At.is ((c.in-Some.ensures (bound_map (λ k. k.now) c.args.bound)).0)
-
-pub returns-in-Some-clause-stands : goal.returns-in-Some-clause-stands
-returns-in-Some-clause-stands g c = (c.in-Some.ensures (bound_map (λ k. k.now) c.args.bound)).1
-
-pub returns-in-Some-clause-pair : goal.returns-in-Some-clause-pair
-returns-in-Some-clause-pair g c = sym ((c.in-Some.ensures (bound_map (λ k. k.now) c.args.bound)).2)
+pub returns-in-Some : goal.returns-in-Some
+returns-in-Some g c =
+    let moved = goes_to c.args.arenas.now c.args.root c.requires.tree g.S.SlotWalk.way c.in-At.walk (rw c.in-At.is at c.requires.stands) c.advance.new.walk (c.in-Some.key, c.in-Some.value) c.in-Some.ensures in
+    record { place = rw c.in-At.is (moved.place _); stands = moved.stands; pair = sym moved.pair }

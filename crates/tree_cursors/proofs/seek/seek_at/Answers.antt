@@ -1,5 +1,4 @@
-use Rattle.std.proofs.Common.{sym}
-use Rattle.tree_chain.proofs.Rests.{count_falls}
+use Rattle.tree_cursors.proofs.Common.{sym, count_falls}
 use Rattle.tree_cursors.proofs.Seeks.{nearest, none_in_empty, none_in_part, none_left, old_chain, opened_sought, still_sought}
 use Rattle.tree_cursors.proofs.seek.seek_at.Goals as goal
 
@@ -17,7 +16,7 @@ pub loop-key-smaller : goal.loop-key-smaller
 loop-key-smaller g c =
     let linked = c.requires.linked in
     let sought = c.loop-key.invariant linked.0 linked.1 linked.2 in
-    count_falls g.S.SlotWalk.way _ _ (c.in-Some.key, c.in-Some.field-0-1) sought.front sought.back (old_chain _ _ _ _ _ _ linked.2 _ sought) (λ front back chain. (c.in-Some.ensures front back chain).0)
+    count_falls g.S.SlotWalk.way _ _ (c.in-Some.key, c.in-Some.field-0-1) sought.front sought.back (old_chain _ _ _ _ _ _ linked.2 _ sought) c.in-Some.ensures
 
 pub loop-key-preserved : goal.loop-key-preserved
 loop-key-preserved g c = λ front back chain.

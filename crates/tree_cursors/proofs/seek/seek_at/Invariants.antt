@@ -1,8 +1,4 @@
-use Rattle.std.proofs.Common.{◌++◌, List, ℕ}
-use Rattle.tree_model.proofs.Common.{bound_map}
-use Rattle.tree_node.proofs.Common.{IsChain, leaves_at}
-use Rattle.tree_chain.proofs.Rests.{count_left}
-use Rattle.tree_cursors.specs.Seek.{path}
+use Rattle.tree_cursors.proofs.Common.{◌++◌, List, ℕ, bound_map, IsChain, leaves_at, count_left, path}
 use Rattle.tree_cursors.proofs.Seeks.{IsSought}
 use Rattle.tree_cursors.proofs.seek.seek_at.Given as goal
 

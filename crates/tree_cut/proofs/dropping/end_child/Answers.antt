@@ -1,8 +1,17 @@
-use Rattle.tree_cut.proofs.Turns.{turn_first_there, turn_last_there}
+use Rattle.tree_cut.proofs.Common.{◌+◌, ◌∙◌, Some, take, arith, refl, drop_all, keyed, node_children, unbounded, cut_whole}
+use Rattle.tree_cut.proofs.Turns.{length-turns}
 use Rattle.tree_cut.proofs.dropping.end_child.Goals as goal
 
 pub returns-in-First-clause-child : goal.returns-in-First-clause-child
-returns-in-First-clause-child g c = rw c.in-First.is (turn_first_there _ _ _ c.requires c.child_at.ensures.child)
+returns-in-First-clause-child g c = rw c.in-First.is (_, cut_whole _ 0 _ c.child_at.ensures.child)
 
 pub returns-in-Last-clause-child : goal.returns-in-Last-clause-child
-returns-in-Last-clause-child g c = rw c.in-Last.is (turn_last_there _ _ _ _ c.requires c.keyed_count.ensures.count c.child_at-in-Last.ensures.child)
+returns-in-Last-clause-child g c =
+    let node = c.args.node.now in
+    let count = c.keyed_count.result in
+    let long = length-turns (keyed node).entries (unbounded node) c.requires in
+    rw c.in-Last.is (
+      take count (node_children (Some node)),
+      cut_whole _ count _ c.child_at-in-Last.ensures.child
+          ∙ rw (drop_all (count + 1) (node_children (Some node)) (omega (arith, long, c.keyed_count.ensures.count))) refl,
+    )

@@ -1,5 +1,6 @@
 use Rattle.std.proofs.Common.{rules, ◌≡◌, None, ◌∙◌, refl, sym, arith}
 use Rattle.tree_node.proofs.Common.{ContainsKey, child_of}
+use Rattle.tree_node.specs.declared.node.NodeOf.TheVariants.{Internal}
 use Rattle.tree_array.specs.Length.{searched}
 use Rattle.tree_descent.proofs.Asked.{asked_last, asked_on}
 use Rattle.tree_descent.proofs.Found.{arrives, goes_down, is_there, starts, stops}
@@ -8,19 +9,19 @@ use Rattle.tree_descent.proofs.look_ups.leaf_by.Goals as goal
 pub loop-node-init : goal.loop-node-init
 loop-node-init g c = record {
   same_key = refl;
-  down = starts g.K.Ord.cmp c.args.arenas.now (g.J.Judge.key c.args.judge.now) c.args.level c.args.id c.requires.node c.requires.stands;
+  down = starts g.K.Ord.cmp c.args.arenas.now (g.A.Asks.key c.args.asked.now) c.args.level c.args.id c.requires.node c.requires.stands;
   counted = omega arith;
   halved = omega arith;
 }
 
 pub node-requires : goal.node-requires
 node-requires g c =
-    let there : ContainsKey c.args.arenas.now.nodes c.loop-node.at = is_there g.met.K.Ord.total c.args.arenas.now (g.J.Judge.key c.args.judge.now) c.args.level c.args.id c.loop-node.above c.loop-node.at c.loop-node.invariant.down in
+    let there : ContainsKey c.args.arenas.now.nodes c.loop-node.at = is_there g.met.K.Ord.total c.args.arenas.now (g.A.Asks.key c.args.asked.now) c.args.level c.args.id c.loop-node.above c.loop-node.at c.loop-node.invariant.down in
     search rules
 
 pub returns-in-Leaf-clause-found : goal.returns-in-Leaf-clause-found
 returns-in-Leaf-clause-found g c =
-    arrives g.met.K.Ord.total c.args.arenas.now (g.J.Judge.key c.args.judge.now) c.args.level c.args.id c.loop-node.above c.loop-node.at c.loop-node.invariant.down c.in-Leaf.node (rw c.in-Leaf.is at c.node.ensures) c.child_for.result (rw c.loop-node.invariant.same_key at c.child_for.ensures.child)
+    arrives g.met.K.Ord.total c.args.arenas.now (g.A.Asks.key c.args.asked.now) c.args.level c.args.id c.loop-node.above c.loop-node.at c.loop-node.invariant.down c.in-Leaf.node (rw c.in-Leaf.is at c.node.ensures) c.child_for.result (rw c.loop-node.invariant.same_key at c.child_for.ensures.child)
 
 pub returns-in-Leaf-clause-counted : goal.returns-in-Leaf-clause-counted
 returns-in-Leaf-clause-counted g c =
@@ -32,8 +33,8 @@ returns-in-Leaf-clause-halved g c =
 
 pub returns-in_err-at-in-Internal-clause-found : goal.returns-in_err-at-in-Internal-clause-found
 returns-in_err-at-in-Internal-clause-found g c =
-    let none : child_of g.K.Ord.cmp (g.J.Judge.key c.args.judge.now) c.in-Internal.node.children.entries c.in-Internal.node.unbounded_child ≡ None = sym (rw (c.loop-node.invariant.same_key, c.in_err-at-in-Internal.was) at c.child_for-in-Internal.ensures.child) in
-    rw c.from_residual.ensures (stops g.met.K.Ord.total c.args.arenas.now (g.J.Judge.key c.args.judge.now) c.args.level c.args.id c.loop-node.above c.loop-node.at c.loop-node.invariant.down c.in-Internal.node (rw c.in-Internal.is at c.node.ensures) none)
+    let none : child_of g.K.Ord.cmp (g.A.Asks.key c.args.asked.now) c.in-Internal.node.children.entries c.in-Internal.node.unbounded_child ≡ None = sym (rw (c.loop-node.invariant.same_key, c.in_err-at-in-Internal.was) at c.child_for-in-Internal.ensures.child) in
+    rw c.from_residual.ensures (stops g.met.K.Ord.total c.args.arenas.now (g.A.Asks.key c.args.asked.now) c.args.level c.args.id c.loop-node.above c.loop-node.at c.loop-node.invariant.down (Internal c.in-Internal.node) (rw c.in-Internal.is at c.node.ensures) none)
 
 pub returns-in_err-at-in-Internal-clause-counted : goal.returns-in_err-at-in-Internal-clause-counted
 returns-in_err-at-in-Internal-clause-counted g c =
@@ -49,10 +50,10 @@ loop-node-smaller g c = omega (arith, c.loop-node.invariant.down.inner)
 pub loop-node-preserved : goal.loop-node-preserved
 loop-node-preserved g c =
     let inner = c.loop-node.invariant.down.inner in
-    let chosen : child_of g.K.Ord.cmp (g.J.Judge.key c.args.judge.now) c.in-Internal.node.children.entries c.in-Internal.node.unbounded_child ≡ _ = sym (rw (c.loop-node.invariant.same_key, c.in_ok-at-in-Internal.was) at c.child_for-in-Internal.ensures.child) in
+    let chosen : child_of g.K.Ord.cmp (g.A.Asks.key c.args.asked.now) c.in-Internal.node.children.entries c.in-Internal.node.unbounded_child ≡ _ = sym (rw (c.loop-node.invariant.same_key, c.in_ok-at-in-Internal.was) at c.child_for-in-Internal.ensures.child) in
     record {
       same_key = c.child_for-in-Internal.ensures.same_key ∙ c.loop-node.invariant.same_key;
-      down = goes_down g.met.K.Ord.total c.args.arenas.now (g.J.Judge.key c.args.judge.now) c.args.level c.args.id c.loop-node.above c.loop-node.at c.loop-node.invariant.down c.in-Internal.node (rw c.in-Internal.is at c.node.ensures) _ chosen;
+      down = goes_down g.met.K.Ord.total c.args.arenas.now (g.A.Asks.key c.args.asked.now) c.args.level c.args.id c.loop-node.above c.loop-node.at c.loop-node.invariant.down c.in-Internal.node (rw c.in-Internal.is at c.node.ensures) _ chosen;
       counted = asked_on g.row.LEN c.loop-node.above _ _ _ inner c.loop-node.invariant.counted c.child_for-in-Internal.ensures.counted;
       halved = asked_on (searched g.row.LEN) c.loop-node.above _ _ _ inner c.loop-node.invariant.halved c.child_for-in-Internal.ensures.halved;
     }

@@ -1,6 +1,4 @@
-use Rattle.std.proofs.Common.{Ok, ap}
-use Rattle.tree_node.proofs.Common.{fits}
-use Rattle.tree_descent.proofs.Ways.{part_not_retired}
+use Rattle.tree_insert.proofs.Common.{Ok, ap, fits, part_not_retired}
 use Rattle.tree_insert.proofs.insertion.insert_at.Goals as goal
 
 pub insert_crowded-requires : goal.insert_crowded-requires
@@ -8,18 +6,10 @@ insert_crowded-requires g c =
     let back = c.in-Err.ensures.crowded in
     (search fits, (search fits, (c.requires.node, rw (back.0, back.1) back.3)))
 
-pub returns-in-Ok-clause-inserts : goal.returns-in-Ok-clause-inserts
-returns-in-Ok-clause-inserts g c part = c.in-Ok.ensures.inserts part
-
 pub returns-in-Ok-clause-retired : goal.returns-in-Ok-clause-retired
 returns-in-Ok-clause-retired g c retired =
     let full = c.in-Ok.ensures.retired retired in
     (ap Ok full.0, full.1)
-
-pub returns-in-Err-clause-inserts : goal.returns-in-Err-clause-inserts
-returns-in-Err-clause-inserts g c part =
-    let back = c.in-Err.ensures.crowded in
-    rw (back.0, back.1, back.2) at c.insert_crowded.ensures
 
 pub returns-in-Err-clause-retired : goal.returns-in-Err-clause-retired
 returns-in-Err-clause-retired g c retired =

@@ -1,4 +1,4 @@
-use Rattle.std.proofs.Common.{◌∙◌}
+use Rattle.tree_insert.proofs.Common.{◌∙◌}
 use Rattle.tree_insert.proofs.FirstPairs.{first_stored}
 use Rattle.tree_insert.proofs.planting.leaf_with.Goals as goal
 

@@ -1,5 +1,4 @@
-use Rattle.tree_node.proofs.Common.{fits}
-use Rattle.tree_node.proofs.Bare.{no_other}
+use Rattle.tree_insert.proofs.Common.{fits, no_other}
 use Rattle.tree_insert.proofs.planting.plant.Goals as goal
 
 pub plant_root-requires : goal.plant_root-requires

@@ -1,12 +1,5 @@
-use Rattle.std.proofs.Common.{arith, refl, ap, ◌∙◌}
-use Rattle.tree_array.proofs.Common.{Arrivals}
-use Rattle.tree_node.proofs.Common.{ContainsKey, Slab, get, with_value, fits}
-use Rattle.tree_node.specs.declared.node.NodeOf.TheVariants.{Leaf}
-use Rattle.slab.proofs.SlabLemmas.{Updates-with_value}
-use Rattle.tree_leaf.specs.Arena.{HasPlaces}
-use Rattle.tree_node.proofs.Bare.{has_only, some_slots}
-use Rattle.tree_node.proofs.Unchanged.{unchanged_by_keeping}
-use Rattle.tree_split.proofs.Variants.{children_fit}
+use Rattle.tree_insert.proofs.Common.{Arrivals, ContainsKey, HasPlaces, Leaf, Slab, Updates-with_value, ap, arith, children_fit, fits, get, has_only, refl, some_slots, unchanged_by_keeping}
+use Rattle.tree_insert.proofs.Common.{with_value, ◌∙◌}
 use Rattle.tree_insert.proofs.FirstPairs.{packed_first}
 use Rattle.tree_insert.proofs.planting.plant_again.Goals as goal
 
@@ -49,4 +42,6 @@ pub returns-clause-packed : goal.returns-clause-packed
 returns-clause-packed g c =
     let kept = unchanged_by_keeping c.args.arenas.now c.reserve.new.self c.in-Ok.ensures.0 in
     let node = Updates-with_value c.add_leaf.new.self.nodes c.args.root (Leaf c.new.result) (rw (c.add_leaf.ensures.nodes, kept.nodes c.args.root) c.requires.retired.here) in
-    packed_first g.met.K.Ord.total (record c.add_leaf.new.self { nodes = with_value c.add_leaf.new.self.nodes c.args.root (Leaf c.new.result) }) c.args.root (Leaf c.new.result) c.in-Ok-add_leaf.leaf c.leaf_with.result c.args.key c.args.val node.changed c.new.ensures.keyed c.new.ensures.unbounded c.in-Ok-add_leaf.ensures.leaves.updates.changed c.leaf_with.ensures.array
+    let arenas = record c.add_leaf.new.self { nodes = with_value c.add_leaf.new.self.nodes c.args.root (Leaf c.new.result) } in
+    packed_first g.met.K.Ord.total arenas c.args.root _ c.in-Ok-add_leaf.leaf c.leaf_with.result c.args.key c.args.val node.changed c.new.ensures.keyed
+    c.new.ensures.unbounded c.in-Ok-add_leaf.ensures.leaves.updates.changed c.leaf_with.ensures.array

@@ -1,9 +1,4 @@
-use Rattle.std.proofs.Common.{None, refl, ap, ◌∙◌}
-use Rattle.tree_array.proofs.Common.{Arrivals}
-use Rattle.tree_node.proofs.Common.{Slab, get, fits}
-use Rattle.tree_node.specs.declared.node.NodeOf.TheVariants.{Leaf}
-use Rattle.tree_node.proofs.Bare.{bare_leaves, bare_nodes, has_only, some_slots}
-use Rattle.tree_node.proofs.Unchanged.{unchanged_by_keeping}
+use Rattle.tree_insert.proofs.Common.{Arrivals, Leaf, None, Slab, ap, bare_leaves, bare_nodes, fits, get, has_only, refl, some_slots, unchanged_by_keeping, ◌∙◌}
 use Rattle.tree_insert.proofs.FirstPairs.{packed_first}
 use Rattle.tree_insert.proofs.planting.plant_root.Goals as goal
 
@@ -29,5 +24,6 @@ returns-clause-plants g c =
 
 pub returns-clause-packed : goal.returns-clause-packed
 returns-clause-packed g c =
-    packed_first g.met.K.Ord.total c.add_node.new.self c.in-Ok-add_node.id (Leaf c.new.result) c.in-Ok-add_leaf.leaf c.leaf_with.result c.args.key c.args.val c.in-Ok-add_node.ensures.nodes.updates.changed c.new.ensures.keyed c.new.ensures.unbounded
+    packed_first g.met.K.Ord.total c.add_node.new.self c.in-Ok-add_node.id _ c.in-Ok-add_leaf.leaf c.leaf_with.result c.args.key c.args.val
+    c.in-Ok-add_node.ensures.nodes.updates.changed c.new.ensures.keyed c.new.ensures.unbounded
     (rw c.add_node.ensures.leaves c.in-Ok-add_leaf.ensures.leaves.updates.changed) c.leaf_with.ensures.array

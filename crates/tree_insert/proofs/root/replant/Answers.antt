@@ -1,13 +1,6 @@
-use Rattle.std.proofs.Common.{refl, sym, ap, ◌∙◌}
-use Rattle.tree_array.proofs.Common.{Arrivals}
-use Rattle.tree_node.proofs.Common.{ContainsKey, Slab, get, fits}
-use Rattle.tree_node.specs.declared.node.NodeOf.TheVariants.{Leaf}
-use Rattle.slab.proofs.SlabLemmas.{Updates-with_value}
-use Rattle.tree_node.proofs.Unchanged.{unchanged_by_keeping}
-use Rattle.tree_node.proofs.Standing.{no_children}
+use Rattle.tree_insert.proofs.Common.{Arrivals, ContainsKey, Leaf, Slab, Updates-with_value, ap, children_fit, fits, get, on_err, refl, sym, unchanged_by_keeping, ◌∙◌}
 use Rattle.tree_insert.proofs.Replants.{replants}
-use Rattle.tree_split.proofs.Results.{on_err}
-use Rattle.tree_split.proofs.Variants.{children_fit}
+use Rattle.tree_node.proofs.Standing.{no_children}
 use Rattle.tree_insert.proofs.root.replant.Goals as goal
 
 pub new-leaf-requires : goal.new-leaf-requires
@@ -19,19 +12,19 @@ add_leaf-requires g c = search fits
 pub node_mut-requires : goal.node_mut-requires
 node_mut-requires g c =
     let kept = unchanged_by_keeping c.args.arenas.now c.reserve.new.self c.in_ok-reserve.ensures.0 in
-    let there : ContainsKey c.add_leaf.new.self.nodes c.args.root = rw (c.add_leaf.ensures.nodes, kept.nodes c.args.root) (no_children (get c.args.arenas.now.nodes c.args.root) c.requires.retired).0 in
+    let there : ContainsKey c.add_leaf.new.self.nodes c.args.root = rw (c.add_leaf.ensures.nodes, kept.nodes c.args.root) (no_children _ c.requires.retired).0 in
     (search fits, there)
 
 pub returns-clause-done : goal.returns-clause-done
 returns-clause-done g c =
     let kept = unchanged_by_keeping c.args.arenas.now c.reserve.new.self c.in_ok-reserve.ensures.0 in
     let leaf = c.in-Ok.ensures.leaves in
-    let there : ContainsKey c.add_leaf.new.self.nodes c.args.root = rw (c.add_leaf.ensures.nodes, kept.nodes c.args.root) (no_children (get c.args.arenas.now.nodes c.args.root) c.requires.retired).0 in
+    let there : ContainsKey c.add_leaf.new.self.nodes c.args.root = rw (c.add_leaf.ensures.nodes, kept.nodes c.args.root) (no_children _ c.requires.retired).0 in
     let node = Updates-with_value c.add_leaf.new.self.nodes c.args.root (Leaf c.new.result) there in (
       refl,
       replants g.K.Ord.cmp c.args.arenas.now _ c.args.root c.in-Ok.added (Leaf c.new.result) c.new-leaf.result
           node.changed tt (ap (λ (a : Arrivals _ _). a.entries) c.new.ensures.keyed) c.new.ensures.unbounded
-          leaf.updates.changed c.new-leaf.ensures.array c.new-leaf.ensures.prev c.new-leaf.ensures.next (sym (kept.leaves c.in-Ok.added) ∙ leaf.was_free)
+          _ leaf c.new-leaf.ensures.array c.new-leaf.ensures.prev c.new-leaf.ensures.next (sym (kept.leaves c.in-Ok.added) ∙ leaf.was_free)
           (λ n differs. node.others n differs ∙ ap (λ (s : Slab _). get s n) c.add_leaf.ensures.nodes ∙ kept.nodes n)
           (λ n differs. leaf.updates.others n differs ∙ kept.leaves n),
     )

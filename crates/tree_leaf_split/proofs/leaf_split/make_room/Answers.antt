@@ -1,17 +1,9 @@
-use Rattle.std.proofs.Common.{rules, ◌≡◌, ◌∙◌, ◌<◌, ◌≤◌, ◌==◌, ℕ, true, length, arith, Option, None, Some, refl, sym, ap}
-use Rattle.tree_model.proofs.Common.{nat_tests}
-use Rattle.tree_array.proofs.Common.{limit, IsSound, HasRoom}
-use Rattle.tree_node.proofs.Common.{get, fits, keyed}
-use Rattle.tree_node.specs.declared.node.NodeOf.TheVariants.{Leaf}
+use Rattle.std.proofs.Common.{rules, ◌≡◌, ◌∙◌, ◌<◌, ◌==◌, ℕ, length, Option, None, Some, refl, ap}
 use Rattle.std.specs.Option.{option_eq}
-use Rattle.tree_split.specs.Splits.{IsCut, is_at, low_part, GoesWhole}
-use Rattle.tree_split.proofs.Fulls.{full_room, not_full_room}
-use Rattle.tree_leaf_split.proofs.LeafRooms.{entries_kept, entries_parted, gives_all, leaf_room_by_rebuild, leaf_used}
-use Rattle.tree_split.proofs.Results.{on_err, same_value, of_value}
+use Rattle.tree_split.proofs.Common.{fits, full_room, is_at, limit, not_full_room, on_err}
+use Rattle.tree_node.specs.declared.node.NodeOf.TheVariants.{Leaf}
+use Rattle.tree_leaf_split.proofs.LeafRooms.{entries_kept, entries_parted, gives_all, leaf_room_by_rebuild, leaf_used, may_split}
 use Rattle.tree_leaf_split.proofs.leaf_split.make_room.Goals as goal
-
-equal_itself : (n : ℕ) → (n == n) ≡ true
-equal_itself n = let same : n ≤ n = omega arith in grind (arith, nat_tests)
 
 pub node-requires : goal.node-requires
 node-requires g c = (search fits, search rules)
@@ -24,13 +16,18 @@ leaf_mut-requires g c = (search fits, (search fits, leaf_used g.met.K.Ord.total 
 
 pub returns-in_default-low_count-clause-done : goal.returns-in_default-low_count-clause-done
 returns-in_default-low_count-clause-done g c =
-    let read : c.leaf.result.now ≡ c.leaf_mut.result.now = same_value _ _ (sym c.leaf.ensures ∙ c.leaf_mut.ensures.value) in
-    let few : length c.leaf_mut.result.now.array.entries ≤ limit g.row.LEN = rw (c.array.ensures, read) at c.in_default-low_count.ensures.cut in
-    let sound : IsSound g.K.Ord.cmp g.row.LEN c.leaf_mut.result.now.array = rw (c.array.ensures, read) at c.low_count.ensures.sound in
-    rw (c.rebuild.ensures, c.array_mut.ensures.value) (
-      leaf_room_by_rebuild g.met.K.Ord.total c.args.arenas.now c.args.id c.args.target c.args.key.now c.requires.part c.requires.child _ c.node.ensures c.leaf_mut.result.now c.leaf_mut.ensures.value sound few,
-      c.requires.child,
-    )
+    let made = leaf_room_by_rebuild g.met.K.Ord.total c.args.target c.args.key.now c.requires.part c.requires.child c.leaf_mut.ensures.value c.leaf.ensures c.array.ensures
+    c.in_default-low_count.ensures.cut c.low_count.ensures.sound in
+    rw (c.rebuild.ensures, c.array_mut.ensures.value) (made, c.requires.child)
+
+pub returns-in_default-low_count-clause-shares : goal.returns-in_default-low_count-clause-shares
+returns-in_default-low_count-clause-shares g c = λ made.
+    rw (c.rebuild.ensures, c.array_mut.ensures.value)
+    (entries_kept g.met.K.Ord.total c.args.target c.args.key.now c.requires.part c.requires.child c.leaf_mut.ensures.value c.leaf.ensures c.array.ensures
+    c.in_default-low_count.ensures.cut)
+
+pub returns-in_default-low_count-clause-last : goal.returns-in_default-low_count-clause-last
+returns-in_default-low_count-clause-last g c = λ last beyond. (refl, last)
 
 pub returns-then-full-clause-done : goal.returns-then-full-clause-done
 returns-then-full-clause-done g c =
@@ -44,64 +41,30 @@ returns-then-full-clause-done g c =
 
 pub split_leaf-requires : goal.split_leaf-requires
 split_leaf-requires g c =
+    let some = not_full_room (Leaf c.in-Leaf.node) (λ full. cc (c.is_full-full.ensures.1 full, c.if-full.false)) in
     let here = c.node.ensures ∙ ap Some c.in-Leaf.is in
-    let cut : IsCut g.K.Ord.cmp c.args.key.now c.in-Some.count c.leaf.result.now.array.entries = rw c.array.ensures at c.in-Some.ensures.cut.1 in
-    let some = not_full_room (Leaf c.in-Leaf.node) (λ full. let yes = c.is_full-full.ensures.1 full in let no = c.if-full.false in cc) in (
-      search rules,
-      (
-        search rules,
-        (
-          c.requires.part,
-          (
-            c.requires.child,
-            (
-              of_value (get c.args.arenas.now.leaves c.args.target) c.leaf.result.now c.leaf.ensures (λ leaf. IsSound g.K.Ord.cmp g.row.LEN leaf.array) (rw (← c.array.ensures) c.low_count.ensures.sound),
-              (
-                of_value (get c.args.arenas.now.leaves c.args.target) c.leaf.result.now c.leaf.ensures (λ leaf. GoesWhole g.row.LEN leaf.array c.in-Some.count) (rw (← c.array.ensures) c.in-Some.ensures.whole),
-                (rw c.leaf.ensures cut, of_value (get c.args.arenas.now.nodes c.args.id) (Leaf c.in-Leaf.node) here (λ node. HasRoom g.row.LEN (keyed node)) some),
-              ),
-            ),
-          ),
-        ),
-      ),
-    )
-
-pub returns-clause-done : goal.returns-clause-done
-returns-clause-done g c =
-    let cut : IsCut g.K.Ord.cmp c.args.key.now c.in-Some.count c.leaf.result.now.array.entries = rw c.array.ensures at c.in-Some.ensures.cut.1 in
-    let rule : c.in-Some.count ≡ low_part g.K.Ord.cmp g.row.LEN c.eq-last.result c.leaf.result.now.array c.args.key.now = rw c.array.ensures at c.in-Some.ensures.rule in
-    let sound : IsSound g.K.Ord.cmp g.row.LEN c.leaf.result.now.array = rw c.array.ensures at c.low_count.ensures.sound in
-    c.in_ok-home.ensures.done
-    (gives_all g.met.K.Ord.total c.args.arenas.now c.args.id c.args.target c.args.key.now c.requires.part c.requires.child c.leaf.result.now c.leaf.ensures sound (Leaf c.in-Leaf.node) (c.node.ensures ∙ ap Some c.in-Leaf.is)
-    c.eq-last.result (λ at_last. c.eq-last.ensures ∙ rw at_last (equal_itself c.args.target)) c.in-Some.count rule)
-
-pub returns-in_err-home-clause-many : goal.returns-in_err-home-clause-many
-returns-in_err-home-clause-many g c =
-    let many : limit g.row.LEN < length c.leaf.result.now.array.entries = rw c.array.ensures at c.in-Some.ensures.cut.0 in
-    on_err c.from_residual.result (rw c.leaf.ensures many)
+    let may = may_split c.args.arenas.now c.args.id c.args.target c.leaf.ensures c.array.ensures c.low_count.ensures.sound c.in-Some.ensures.cut.1 c.in-Some.ensures.whole here some in
+    (search rules, (search rules, (c.requires.part, (c.requires.child, may))))
 
 -- the leaf is the unbounded child where the node says so
 told_last : (found : Option ℕ) (child : ℕ) → option_eq ◌==◌ found (Some child) ≡ is_at found child
 told_last None child = refl
 told_last (Some last) child = refl
 
-pub returns-in_default-low_count-clause-shares : goal.returns-in_default-low_count-clause-shares
-returns-in_default-low_count-clause-shares g c = λ made.
-    let read : c.leaf.result.now ≡ c.leaf_mut.result.now = same_value _ _ (sym c.leaf.ensures ∙ c.leaf_mut.ensures.value) in
-    let few : length c.leaf_mut.result.now.array.entries ≤ limit g.row.LEN = rw (c.array.ensures, read) at c.in_default-low_count.ensures.cut in
-    rw (c.rebuild.ensures, c.array_mut.ensures.value)
-    (entries_kept g.met.K.Ord.total c.args.arenas.now c.args.id c.args.target c.args.key.now c.requires.part c.requires.child _ c.node.ensures c.leaf_mut.result.now c.leaf_mut.ensures.value few)
+pub returns-clause-done : goal.returns-clause-done
+returns-clause-done g c =
+    c.in_ok-home.ensures.done
+    (gives_all g.met.K.Ord.total c.args.target c.args.key.now c.requires.part c.requires.child c.leaf.ensures c.array.ensures (c.node.ensures ∙ ap Some c.in-Leaf.is)
+    (c.eq-last.ensures ∙ told_last c.in-Leaf.node.unbounded_child c.args.target) c.in-Some.ensures.rule c.low_count.ensures.sound)
 
 pub returns-clause-shares : goal.returns-clause-shares
 returns-clause-shares g c = λ made.
-    let rule : c.in-Some.count ≡ low_part g.K.Ord.cmp g.row.LEN c.eq-last.result c.leaf.result.now.array c.args.key.now = rw c.array.ensures at c.in-Some.ensures.rule in
-    let last : c.eq-last.result ≡ is_at c.in-Leaf.node.unbounded_child c.args.target = c.eq-last.ensures ∙ told_last c.in-Leaf.node.unbounded_child c.args.target in
-    let some = not_full_room (Leaf c.in-Leaf.node) (λ full. let yes = c.is_full-full.ensures.1 full in let no = c.if-full.false in cc) in
-    entries_parted g.met.K.Ord.total c.args.arenas.now c.args.id c.args.target c.args.key.now c.requires.part c.requires.child (Leaf c.in-Leaf.node) (c.node.ensures ∙ ap Some c.in-Leaf.is)
-    c.split_leaf.new.arenas c.leaf.result.now c.leaf.ensures c.eq-last.result last c.in-Some.count rule some c.in_ok-home.ensures.shares
-
-pub returns-in_default-low_count-clause-last : goal.returns-in_default-low_count-clause-last
-returns-in_default-low_count-clause-last g c = λ last beyond. (refl, last)
+    let some = not_full_room (Leaf c.in-Leaf.node) (λ full. cc (c.is_full-full.ensures.1 full, c.if-full.false)) in
+    entries_parted g.met.K.Ord.total c.args.target c.args.key.now c.requires.part c.requires.child c.leaf.ensures c.array.ensures (c.node.ensures ∙ ap Some c.in-Leaf.is)
+    (c.eq-last.ensures ∙ told_last c.in-Leaf.node.unbounded_child c.args.target) c.in-Some.ensures.rule some c.split_leaf.new.arenas c.in_ok-home.ensures.shares
 
 pub returns-clause-last : goal.returns-clause-last
 returns-clause-last g c = c.in_ok-home.ensures.last
+
+pub returns-in_err-home-clause-many : goal.returns-in_err-home-clause-many
+returns-in_err-home-clause-many g c = on_err c.from_residual.result (rw (c.leaf.ensures, ← c.array.ensures) c.in-Some.ensures.cut.0)

@@ -1,5 +1,5 @@
 use Rattle.std.proofs.Common.{refl}
-use Rattle.tree_node.proofs.SameKinds.{outer_kind}
+use Rattle.tree_node.proofs.Common.{outer_kind}
 use Rattle.tree_leaf_split.proofs.leaf_split.put_leaf.Goals as goal
 
 pub returns : goal.returns

@@ -1,9 +1,7 @@
-use Rattle.std.proofs.Common.{rules, ◌≡◌, ◌-◌, ◌∙◌, drop, take, slice_get, None, Some, refl, arith}
-use Rattle.tree_array.proofs.Common.{in_order}
-use Rattle.tree_node.proofs.Common.{ContainsKey, Stands, fits}
-use Rattle.tree_leaf_split.proofs.LeafRooms.{chain_through, entries_shared, home_by_split, last_by_split, leaf_read, leaf_room_by_split, leaf_used, parent_kind, parent_was, room_after_write, separator_is_new}
-use Rattle.tree_split.proofs.Results.{on_err}
-use Rattle.tree_node.proofs.Unchanged.{unchanged_by_keeping}
+use Rattle.std.proofs.Common.{rules, ◌≡◌, ◌∙◌, refl, sym, arith}
+use Rattle.tree_split.proofs.Common.{ContainsKey, fits}
+use Rattle.tree_leaf_split.proofs.LeafRooms.{home_by_split, last_by_split, leaf_placed, leaf_room_by_split, leaf_used, parent_kind, parted_so, separator_is_new}
+use Rattle.tree_leaf_split.proofs.LeafSplits.{entries_given}
 use Rattle.tree_leaf_split.proofs.leaf_split.split_leaf.Goals as goal
 
 pub leaf-requires : goal.leaf-requires
@@ -15,96 +13,41 @@ separator_at-requires g c =
     let here = rw c.leaf.ensures at c.requires.cut in
     (search rules, rw c.array.ensures (omega (arith, here.some, here.within)))
 
-pub leaf_mut-requires : goal.leaf_mut-requires
-leaf_mut-requires g c =
-    (search fits, (search fits, rw c.in_ok-reserve.ensures.0.leaves.slots (leaf_used g.met.K.Ord.total c.args.arenas.now c.args.id c.args.target c.args.key.now c.requires.part c.requires.child)))
-
-pub add_before-requires : goal.add_before-requires
-add_before-requires g c =
-    (search (rules, c.requires-raw), (search (fits, c.requires-raw), chain_through g.met.K.Ord.total c.args.arenas.now c.args.id c.args.target c.args.key.now c.requires.part c.requires.child _ c.in_ok-reserve.ensures.0 c.leaf_mut.result.now _ c.leaf_mut.ensures.value))
-
-pub unreachable-requires : goal.unreachable-requires
-unreachable-requires g c =
-    c.in_default.ensures.0.no_room (room_after_write _ c.args.target c.leaf_mut.result.now c.leaf_mut.ensures.value _ c.in_ok-reserve.ensures.1)
+pub divide_leaf-requires : goal.divide_leaf-requires
+divide_leaf-requires g c =
+    let placed = leaf_placed g.met.K.Ord.total c.args.arenas.now c.args.id c.args.target c.args.key.now c.requires.part c.requires.child in
+    (search fits, (search fits, (placed, (c.requires.sound, c.requires.whole))))
 
 pub node_mut-requires : goal.node_mut-requires
 node_mut-requires g c =
-    let stood : Stands g.K.Ord.cmp 1 c.args.arenas.now None c.args.id None = c.requires.part.stands in
-    let there : ContainsKey c.add_before.new.arenas.nodes c.args.id = rw (c.in-Ok.ensures.nodes, c.in_ok-reserve.ensures.0.nodes.slots, stood.here) refl in
+    let there : ContainsKey c.divide_leaf.new.arenas.nodes c.args.id = rw (c.in_ok-low.ensures.done.nodes c.args.id, c.requires.part.stands.here) refl in
     (search (fits, c.requires-raw), there)
 
 pub put_leaf-requires : goal.put_leaf-requires
 put_leaf-requires g c =
-    let separator = c.in_ok-separator.ensures in
-    let read : c.leaf.result.now ≡ c.leaf_mut.result.now =
-    leaf_read c.args.arenas.now c.reserve.new.self c.in_ok-reserve.ensures.0 c.args.target c.leaf.result.now c.leaf_mut.result.now c.leaf.ensures c.leaf_mut.ensures.value in
-    let high : c.cut_low.new.array ≡ in_order (drop c.args.count c.leaf_mut.result.now.array.entries) = rw c.array_mut.ensures.value at c.cut_low.ensures.high in
-    let low : c.cut_low.new.low ≡ in_order (take c.args.count c.leaf_mut.result.now.array.entries) = rw c.array_mut.ensures.value at c.cut_low.ensures.low in
-    let last : slice_get c.leaf_mut.result.now.array.entries (c.args.count - 1) ≡ Some separator.0 = rw (c.array.ensures, read) at separator.1 in
-    let node = parent_was g.met.K.Ord.total c.args.arenas.now c.args.id c.args.target c.args.key.now c.requires.part c.requires.child _ _ _ c.args.count c.leaf_mut.result.now _ _ separator.0 c.in_ok-separator.separator
-    c.in_ok-reserve.ensures.0 c.leaf_mut.ensures.value high low c.in-Ok.ensures last separator.2 c.requires.cut c.requires.sound _ c.node_mut.ensures.value in (
-      search (fits, c.requires-raw),
-      (
-        parent_kind g.met.K.Ord.total c.args.arenas.now c.args.id c.args.target c.args.key.now c.requires.part c.requires.child _ _ _ c.args.count c.leaf_mut.result.now _ _ separator.0 c.in_ok-separator.separator
-            c.in_ok-reserve.ensures.0 c.leaf_mut.ensures.value high low c.in-Ok.ensures last separator.2 c.requires.cut c.requires.sound _ c.node_mut.ensures.value,
-        (
-          separator_is_new g.met.K.Ord.total c.args.arenas.now c.args.id c.args.target c.args.key.now c.requires.part c.requires.child _ _ _ c.args.count c.leaf_mut.result.now _ _ separator.0 c.in_ok-separator.separator
-              c.in_ok-reserve.ensures.0 c.leaf_mut.ensures.value high low c.in-Ok.ensures last separator.2 c.requires.cut c.requires.sound _ c.node_mut.ensures.value,
-          c.requires.room _ node,
-        ),
-      ),
-    )
+    let d = c.in_ok-low.ensures.done in
+    let p = parted_so c.requires.part c.requires.child d c.requires.sound c.leaf.ensures c.array.ensures c.in_ok-separator.ensures c.requires.cut in
+    let here = c.node_mut.ensures.value in
+    let absent = separator_is_new g.met.K.Ord.total p _ here in
+    (search (fits, c.requires-raw), (parent_kind g.met.K.Ord.total p _ here, (absent, c.requires.room _ (sym (d.nodes c.args.id) ∙ here))))
 
 pub returns-clause-done : goal.returns-clause-done
 returns-clause-done g c = λ gives.
-    let separator = c.in_ok-separator.ensures in
-    let read : c.leaf.result.now ≡ c.leaf_mut.result.now =
-    leaf_read c.args.arenas.now c.reserve.new.self c.in_ok-reserve.ensures.0 c.args.target c.leaf.result.now c.leaf_mut.result.now c.leaf.ensures c.leaf_mut.ensures.value in
-    let high : c.cut_low.new.array ≡ in_order (drop c.args.count c.leaf_mut.result.now.array.entries) = rw c.array_mut.ensures.value at c.cut_low.ensures.high in
-    let low : c.cut_low.new.low ≡ in_order (take c.args.count c.leaf_mut.result.now.array.entries) = rw c.array_mut.ensures.value at c.cut_low.ensures.low in
-    let last : slice_get c.leaf_mut.result.now.array.entries (c.args.count - 1) ≡ Some separator.0 = rw (c.array.ensures, read) at separator.1 in (
-      leaf_room_by_split g.met.K.Ord.total c.args.arenas.now c.args.id c.args.target c.args.key.now c.requires.part c.requires.child _ _ _ c.args.count c.leaf_mut.result.now _ _ separator.0 c.in_ok-separator.separator
-          c.in_ok-reserve.ensures.0 c.leaf_mut.ensures.value high low c.in-Ok.ensures last separator.2 c.requires.cut c.requires.sound _ c.node_mut.ensures.value gives _ c.put_leaf.ensures,
-      rw c.side_for-home.ensures (home_by_split g.met.K.Ord.total c.args.arenas.now c.args.id c.args.target c.args.key.now c.requires.part c.requires.child _ _ _ c.args.count c.leaf_mut.result.now _ _ separator.0 c.in_ok-separator.separator
-          c.in_ok-reserve.ensures.0 c.leaf_mut.ensures.value high low c.in-Ok.ensures last separator.2 c.requires.cut c.requires.sound _ c.node_mut.ensures.value _ c.put_leaf.ensures),
-    )
+    let p = parted_so c.requires.part c.requires.child c.in_ok-low.ensures.done c.requires.sound c.leaf.ensures c.array.ensures c.in_ok-separator.ensures c.requires.cut in
+    let here = c.node_mut.ensures.value in
+    let home = home_by_split g.met.K.Ord.total p _ here _ c.put_leaf.ensures in
+    (leaf_room_by_split g.met.K.Ord.total p _ here _ c.put_leaf.ensures gives, rw c.side_for-home.ensures home)
 
 pub returns-clause-shares : goal.returns-clause-shares
-returns-clause-shares g c =
-    let separator = c.in_ok-separator.ensures in
-    let read : c.leaf.result.now ≡ c.leaf_mut.result.now =
-    leaf_read c.args.arenas.now c.reserve.new.self c.in_ok-reserve.ensures.0 c.args.target c.leaf.result.now c.leaf_mut.result.now c.leaf.ensures c.leaf_mut.ensures.value in
-    let high : c.cut_low.new.array ≡ in_order (drop c.args.count c.leaf_mut.result.now.array.entries) = rw c.array_mut.ensures.value at c.cut_low.ensures.high in
-    let low : c.cut_low.new.low ≡ in_order (take c.args.count c.leaf_mut.result.now.array.entries) = rw c.array_mut.ensures.value at c.cut_low.ensures.low in
-    let last : slice_get c.leaf_mut.result.now.array.entries (c.args.count - 1) ≡ Some separator.0 = rw (c.array.ensures, read) at separator.1 in
-    entries_shared g.met.K.Ord.total c.args.arenas.now c.args.id c.args.target c.args.key.now c.requires.part c.requires.child _ _ _ c.args.count c.leaf_mut.result.now _ _ separator.0 c.in_ok-separator.separator
-    c.in_ok-reserve.ensures.0 c.leaf_mut.ensures.value high low c.in-Ok.ensures last separator.2 c.requires.cut c.requires.sound _ c.node_mut.ensures.value
+returns-clause-shares g c = entries_given c.in_ok-low.ensures.done c.requires.cut.within
+
+pub returns-clause-high : goal.returns-clause-high
+returns-clause-high g c = λ leaf is.
+    let d = c.in_ok-low.ensures.done in
+    let same : d.high ≡ leaf = cc (d.high_here, is) in
+    rw (d.was, ← same) d.high_is
 
 pub returns-clause-last : goal.returns-clause-last
 returns-clause-last g c =
-    let separator = c.in_ok-separator.ensures in
-    let read : c.leaf.result.now ≡ c.leaf_mut.result.now =
-    leaf_read c.args.arenas.now c.reserve.new.self c.in_ok-reserve.ensures.0 c.args.target c.leaf.result.now c.leaf_mut.result.now c.leaf.ensures c.leaf_mut.ensures.value in
-    let high : c.cut_low.new.array ≡ in_order (drop c.args.count c.leaf_mut.result.now.array.entries) = rw c.array_mut.ensures.value at c.cut_low.ensures.high in
-    let low : c.cut_low.new.low ≡ in_order (take c.args.count c.leaf_mut.result.now.array.entries) = rw c.array_mut.ensures.value at c.cut_low.ensures.low in
-    let last : slice_get c.leaf_mut.result.now.array.entries (c.args.count - 1) ≡ Some separator.0 = rw (c.array.ensures, read) at separator.1 in
-    rw c.side_for-home.ensures (last_by_split g.met.K.Ord.total c.args.arenas.now c.args.id c.args.target c.args.key.now c.requires.part c.requires.child _ _ _ c.args.count c.leaf_mut.result.now _ _ separator.0 c.in_ok-separator.separator
-    c.in_ok-reserve.ensures.0 c.leaf_mut.ensures.value high low c.in-Ok.ensures last separator.2 c.requires.cut c.requires.sound _ c.node_mut.ensures.value _ c.put_leaf.ensures)
-
-pub returns-in_err-reserve-clause-err : goal.returns-in_err-reserve-clause-err
-returns-in_err-reserve-clause-err g c =
-    on_err c.from_residual-in_err-reserve.result (unchanged_by_keeping _ _ c.in_err-reserve.ensures.0)
-
-pub new-low-requires : goal.new-low-requires
-new-low-requires g c = (search fits, (c.requires.sound c.leaf.result.now c.leaf.ensures).is_len)
-
-pub cut_low-requires : goal.cut_low-requires
-cut_low-requires g c =
-    let read : c.leaf.result.now ≡ c.leaf_mut.result.now =
-    leaf_read c.args.arenas.now c.reserve.new.self c.in_ok-reserve.ensures.0 c.args.target c.leaf.result.now c.leaf_mut.result.now c.leaf.ensures c.leaf_mut.ensures.value in (
-      search rules,
-      (
-        rw (c.array_mut.ensures.value, ← read) (c.requires.sound c.leaf.result.now c.leaf.ensures),
-        (rw (c.array_mut.ensures.value, ← read) (c.requires.whole c.leaf.result.now c.leaf.ensures), c.array_mut-2.ensures.value ∙ c.new-low.ensures.array),
-      ),
-    )
+    let p = parted_so c.requires.part c.requires.child c.in_ok-low.ensures.done c.requires.sound c.leaf.ensures c.array.ensures c.in_ok-separator.ensures c.requires.cut in
+    rw c.side_for-home.ensures (last_by_split g.met.K.Ord.total p _ c.node_mut.ensures.value _ c.put_leaf.ensures)

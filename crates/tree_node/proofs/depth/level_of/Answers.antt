@@ -1,48 +1,37 @@
-use Rattle.std.proofs.Common.{rules, arith, ◌<◌}
-use Rattle.tree_node.proofs.Common.{ContainsKey, StandsOrRetired}
+use Rattle.std.proofs.Common.{rules, arith}
 use Rattle.tree_node.proofs.Depths.{starts, step, counted}
 use Rattle.tree_node.proofs.Levels.{node_at}
 use Rattle.tree_node.proofs.depth.level_of.Goals as goal
 
 pub node-requires : goal.node-requires
 node-requires g c =
-    let inner : 0 < g.level = assumption c.requires in
-    let stands : StandsOrRetired g.K.Ord.cmp g.level c.args.arenas.now c.args.id = assumption c.requires in
-    let there : ContainsKey c.args.arenas.now.nodes c.args.id = node_at g.K.Ord.cmp c.args.arenas.now c.args.id g.level inner stands in
+    let there = node_at g.K.Ord.cmp c.args.arenas.now c.args.id g.level (assumption c.requires) (assumption c.requires) in
     search rules
 
 pub loop-below-init : goal.loop-below-init
 loop-below-init g c =
-    let inner : 0 < g.level = assumption c.requires in
-    let stands : StandsOrRetired g.K.Ord.cmp g.level c.args.arenas.now c.args.id = assumption c.requires in
-    rw c.last_node-below.ensures (starts g.K.Ord.cmp c.args.arenas.now g.level c.args.id _ inner stands (omega arith) _ c.node.ensures)
+    rw c.last_node-below.ensures (starts g.K.Ord.cmp c.args.arenas.now g.level c.args.id (assumption c.requires) (assumption c.requires) _ c.node.ensures)
 
 pub overflow_add-count : goal.overflow_add-count
 overflow_add-count g c =
-    let down = step _ _ _ _ c.node_count-nodes.result c.loop-below.count _ c.in-Some.at c.in-Some.is c.loop-below.invariant in
+    let down = step _ _ g.level _ c.loop-below.count _ c.in-Some.at c.in-Some.is c.loop-below.invariant in
     omega (arith, down.lower, down.fits)
 
 pub node-requires-in-Some : goal.node-requires-in-Some
 node-requires-in-Some g c =
-    let there : ContainsKey c.args.arenas.now.nodes c.in-Some.at = (step _ _ _ _ c.node_count-nodes.result c.loop-below.count _ c.in-Some.at c.in-Some.is c.loop-below.invariant).there in
+    let there = (step _ _ g.level _ c.loop-below.count _ c.in-Some.at c.in-Some.is c.loop-below.invariant).there in
     search rules
 
 pub loop-below-smaller : goal.loop-below-smaller
-loop-below-smaller g c =
-    let down = step _ _ _ _ c.node_count-nodes.result c.loop-below.count _ c.in-Some.at c.in-Some.is c.loop-below.invariant in
-    omega (arith, down.lower)
+loop-below-smaller g c = omega (arith, (step _ _ g.level _ c.loop-below.count _ c.in-Some.at c.in-Some.is c.loop-below.invariant).lower)
 
 pub loop-below-preserved : goal.loop-below-preserved
 loop-below-preserved g c =
-    let down = step _ _ _ _ c.node_count-nodes.result c.loop-below.count _ c.in-Some.at c.in-Some.is c.loop-below.invariant in
-    rw c.last_node-below-in-Some.ensures (down.goes_on _ c.node-in-Some.ensures)
+    rw c.last_node-below-in-Some.ensures
+    ((step _ _ g.level _ c.loop-below.count _ c.in-Some.at c.in-Some.is c.loop-below.invariant).goes_on _ c.node-in-Some.ensures)
 
 pub returns-clause-stands : goal.returns-clause-stands
-returns-clause-stands g c =
-    let inner : 0 < g.level = assumption c.requires in
-    (counted _ _ g.level _ c.node_count-nodes.result inner c.loop-below.count _ c.in_default.is c.loop-below.invariant).0
+returns-clause-stands g c = (counted _ _ g.level _ (assumption c.requires) c.loop-below.count _ c.in_default.is c.loop-below.invariant).0
 
 pub returns-clause-retired : goal.returns-clause-retired
-returns-clause-retired g c =
-    let inner : 0 < g.level = assumption c.requires in
-    (counted _ _ g.level _ c.node_count-nodes.result inner c.loop-below.count _ c.in_default.is c.loop-below.invariant).1
+returns-clause-retired g c = (counted _ _ g.level _ (assumption c.requires) c.loop-below.count _ c.in_default.is c.loop-below.invariant).1

@@ -1,5 +1,5 @@
 use Rattle.std.proofs.Common.{refl}
-use Rattle.tree_node.proofs.SameKinds.{inner_kind}
+use Rattle.tree_node.proofs.Common.{inner_kind}
 use Rattle.tree_node_split.proofs.node_split.put_node.Goals as goal
 
 pub returns : goal.returns

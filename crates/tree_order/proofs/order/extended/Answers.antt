@@ -1,28 +1,18 @@
-use Rattle.std.proofs.Common.{◌∙◌, arith}
-use Rattle.tree_order.proofs.Filled.{tail_whole, word_small, word_fits, word_same, word_tail}
-use Rattle.tree_order.proofs.Slots.{len_small}
+use Rattle.std.proofs.Common.{◌-◌, [], ◌∷◌, ◌++◌, replicate, ◌∙◌, ap, arith, append_assoc, length-append}
+use Rattle.std.proofs.lemmas.List.{length-replicate}
+use Rattle.std.proofs.lemmas.List.Elements.{All-append, All-replicate}
+use Rattle.tree_order.specs.Order.{packed, IsSmall}
+use Rattle.tree_order.proofs.Rows.{one_small}
+use Rattle.tree_order.proofs.Words.{joins, repeated}
 use Rattle.tree_order.proofs.order.extended.Goals as goal
 
-pub overflow_add-places : goal.overflow_add-places
-overflow_add-places g c =
+pub returns : goal.returns
+returns g c = λ slots small whole is.
     let r = c.requires in
-    let len = len_small g.row.LEN r.len in
-    record { fits = rw (tail_whole g.row.LEN c.args.places c.args.count c.args.slot len r.few r.small r.slot) (word_fits g.row.LEN c.args.places c.args.count c.args.slot len r.few r.small r.slot) }
-
-pub closed-requires-clause-small : goal.closed-requires-clause-small
-closed-requires-clause-small g c =
-    let r = c.requires in
-    let len = len_small g.row.LEN r.len in
-    rw (tail_whole g.row.LEN c.args.places c.args.count c.args.slot len r.few r.small r.slot) (word_small g.row.LEN c.args.places c.args.count c.args.slot len r.few r.small r.slot)
-
-pub returns-clause-same : goal.returns-clause-same
-returns-clause-same g c = λ i lt.
-    let r = c.requires in
-    let len = len_small g.row.LEN r.len in
-    c.closed.ensures.same i (omega (arith, lt, r.few)) ∙ rw (tail_whole g.row.LEN c.args.places c.args.count c.args.slot len r.few r.small r.slot) (word_same g.row.LEN c.args.places c.args.count c.args.slot len r.few r.small r.slot i lt)
-
-pub returns-clause-tail : goal.returns-clause-tail
-returns-clause-tail g c = λ i le lt.
-    let r = c.requires in
-    let len = len_small g.row.LEN r.len in
-    c.closed.ensures.same i lt ∙ rw (tail_whole g.row.LEN c.args.places c.args.count c.args.slot len r.few r.small r.slot) (word_tail g.row.LEN c.args.places c.args.count c.args.slot len r.few r.small r.slot i le lt)
+    let spare = g.row.LEN - c.args.count in
+    let tail = replicate spare c.args.slot in
+    let tails = All-replicate IsSmall spare c.args.slot r.slot in
+    let few = length-replicate spare c.args.slot in
+    let front = joins slots tail c.args.count c.args.places _ small tails whole (omega (arith, few)) is (repeated c.args.slot spare (omega arith)) in
+    joins (slots ++ tail) (15 ∷ []) g.row.LEN _ 15 (All-append IsSmall slots tail small tails) (one_small 15 (omega arith)) (omega (arith, length-append slots tail, few)) (omega (arith, length-append slots tail, few)) front (omega arith)
+    ∙ ap packed (append_assoc slots tail (15 ∷ []))

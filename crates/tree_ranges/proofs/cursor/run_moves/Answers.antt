@@ -1,15 +1,13 @@
-use Rattle.std.proofs.Common.{◌≡◌, ◌≤◌, ◌+◌, length, arith}
-use Rattle.tree_model.proofs.Common.{IsAscending}
-use Rattle.tree_model.specs.declared.way.Way.TheVariants.{On, Back}
-use Rattle.std.proofs.lemmas.Grind.{common_steps}
-use Rattle.tree_model.specs.Moves.{after_all, answers, told}
-use Rattle.tree_model.specs.Rest.{StandsInside}
+use Rattle.tree_ranges.proofs.Common.{arith, Back, On, common_steps}
 use Rattle.tree_ranges.proofs.Ended.{ended_all, inside_from}
 use Rattle.tree_ranges.proofs.cursor.run_moves.Goals as goal
 
 pub returns-clause-ended : goal.returns-clause-ended
 returns-clause-ended g c =
-    ended_all g.met.K.Ord.total On c.args.moves.now c.loop-step.step-index (g.C.Cursor.cursor c.args.cursor.now) (g.C.Cursor.cursor c.loop-step.cursor) _ c.loop-step.invariant.answered c.loop-step-test.false c.loop-step.invariant.ascending (λ _. tt)
+    let Seen = g.C.Cursor.cursor in
+    let inv = c.loop-step.invariant in
+    ended_all g.met.K.Ord.total On c.args.moves.now c.loop-step.step-index (Seen c.args.cursor.now) (Seen c.loop-step.cursor) _
+    inv.answered c.loop-step-test.false inv.ascending inv.inside
 
 pub returns-clause-ended_back : goal.returns-clause-ended_back
 returns-clause-ended_back g c =

@@ -1,7 +1,4 @@
-use Rattle.std.proofs.Common.{◌≡◌, ◌+◌, ◌-◌, ◌≤◌, ◌++◌, length, vec_len, vec_capacity, drop, map}
-use Rattle.tree_model.proofs.Common.{IsAscending}
-use Rattle.tree_model.specs.Rest.{StandsInside}
-use Rattle.tree_model.specs.Moves.{after_all, answers, told}
+use Rattle.tree_ranges.proofs.Common.{◌≡◌, ◌+◌, ◌-◌, ◌≤◌, ◌++◌, length, vec_len, vec_capacity, drop, map, IsAscending, StandsInside, after_all, answers, told}
 use Rattle.tree_ranges.proofs.cursor.run_moves.Given as goal
 
 -- the moves that are left complete the answers so far

@@ -1,12 +1,14 @@
-use Rattle.std.proofs.Common.{◌∙◌}
-use Rattle.tree_model.proofs.Common.{map-append}
-use Rattle.tree_ranges.specs.Ranged.{way_of}
+use Rattle.tree_ranges.proofs.Common.{◌∙◌, refl, map-append, way_of}
 use Rattle.tree_ranges.proofs.Moving.{comes_nearer}
-use Rattle.tree_ranges.proofs.Yields.{fresh_begun, rest_fresh, walked_all, walked_from, walked_on}
+use Rattle.tree_ranges.proofs.Yields.{fresh_begun, rest_fresh, walked_all, walked_on}
 use Rattle.tree_ranges.proofs.laws.pairs_along.Goals as goal
 
 pub loop-pair-init : goal.loop-pair-init
-loop-pair-init g c = rw c.new-pairs.ensures.items (walked_from g.met.K.Ord.total (way_of c.args.backward) _ (fresh_begun g.K.Ord.cmp _ c.requires (way_of c.args.backward)))
+loop-pair-init g c = rw c.new-pairs.ensures.items (record {
+  same = refl;
+  left =
+      λ ascending. (fresh_begun g.K.Ord.cmp _ c.requires (way_of c.args.backward), refl);
+})
 
 pub loop-pair-preserved : goal.loop-pair-preserved
 loop-pair-preserved g c = rw (c.in_ok-push.ensures.items, map-append) (walked_on g.met.K.Ord.total (way_of c.args.backward) _ _ _ _ c.loop-pair.invariant c.in-Some.pair c.in-Some.ensures)

@@ -1,6 +1,4 @@
-use Rattle.std.proofs.Common.{map}
-use Rattle.tree_model.proofs.Common.{lent_entry}
-use Rattle.tree_ranges.specs.Ranged.{moves_left, way_of}
+use Rattle.tree_ranges.proofs.Common.{map, lent_entry, moves_left, way_of}
 use Rattle.tree_ranges.proofs.Yields.{IsWalked}
 use Rattle.tree_ranges.proofs.laws.pairs_along.Given as goal
 

@@ -1,104 +1,82 @@
-use Rattle.std.proofs.Common.{rules, arith}
-use Rattle.tree_node.proofs.Common.{ContainsKey, fits}
-use Rattle.tree_node.specs.declared.node.NodeOf.TheVariants.{Internal, Leaf}
-use Rattle.tree_remove.proofs.EmptiedLeaves.{above_leaf_nodes, before_of, child_fails, child_goes, child_retired, child_stays, dropped_part, dropped_removes, emptied_below, emptied_of, has_child, leaf_linked, leaf_slot, levels_below, node_now, stays_part, stays_removes}
-use Rattle.tree_remove.proofs.NodeRemovals.{settled_if_empty}
-use Rattle.tree_remove.specs.Takes.IsEmptied.{emptied_from}
+use Rattle.tree_remove.proofs.Common.{emptied_from, fits, rules}
+use Rattle.tree_remove.proofs.EmptiedLeaves.{emptied_of, has_child, node_now, over_leaf, over_node}
 use Rattle.tree_remove.proofs.emptied.+drop_emptied.Goals as goal
 
 pub node-requires : goal.node-requires
-node-requires g t c =
-    let there : ContainsKey c.args.arenas.now.nodes c.args.id = node_now g.met.K.Ord.total c.args.level c.requires.node (before_of c.requires.emptied) c.args.arenas.now c.args.id c.args.key.now (emptied_of c.requires.emptied) in
-    search rules
-
-pub node-requires-room-N-Destruct : goal.node-requires-room-N-Destruct
-node-requires-room-N-Destruct g t c κs within = search fits
-
-pub child_place_for-requires : goal.child_place_for-requires
-child_place_for-requires g t c = search rules
-
-pub returns-in_default-clause-removes : goal.returns-in_default-clause-removes
-returns-in_default-clause-removes g t c = λ before e.
-    absurd (has_child g.met.K.Ord.total c.args.level c.requires.node before c.args.arenas.now c.args.id c.args.key.now e (Leaf c.in-Leaf.node) (rw c.in-Leaf.is at c.node.ensures) (rw c.in_default.is at c.child_place_for.ensures.place))
-
-pub returns-in_default-clause-settled : goal.returns-in_default-clause-settled
-returns-in_default-clause-settled g t c = λ one success only. (cc)
-
-pub child_place_for-requires-in-Internal : goal.child_place_for-requires-in-Internal
-child_place_for-requires-in-Internal g t c = search rules
-
-pub returns-in_default-child_place_for-clause-removes : goal.returns-in_default-child_place_for-clause-removes
-returns-in_default-child_place_for-clause-removes g t c = λ before e.
-    absurd (has_child g.met.K.Ord.total c.args.level c.requires.node before c.args.arenas.now c.args.id c.args.key.now e (Internal c.in-Internal.node) (rw c.in-Internal.is at c.node.ensures) (rw c.in_default-child_place_for.is at c.child_place_for-in-Internal.ensures.place))
-
-pub returns-in_default-child_place_for-clause-settled : goal.returns-in_default-child_place_for-clause-settled
-returns-in_default-child_place_for-clause-settled g t c = λ one success only. (cc)
+node-requires g t c = search (rules, node_now g.met.K.Ord.total c.requires.node (emptied_of c.requires.emptied))
 
 pub drop_keyed_leaf-requires : goal.drop_keyed_leaf-requires
-drop_keyed_leaf-requires g t c = (
-  search rules,
-  (
-    search fits,
-    (
-      leaf_linked g.met.K.Ord.total c.args.level c.requires.node (before_of c.requires.emptied) c.args.arenas.now c.args.id c.args.key.now (emptied_of c.requires.emptied) c.in-Leaf.node (rw c.in-Leaf.is at c.node.ensures) c.in-Some.place.child c.in-Some.place.slot (rw c.in-Some.is at c.child_place_for.ensures.place),
-      rw c.in-Some-slot.is at (leaf_slot g.met.K.Ord.total c.args.level c.requires.node (before_of c.requires.emptied) c.args.arenas.now c.args.id c.args.key.now (emptied_of c.requires.emptied) c.in-Leaf.node (rw c.in-Leaf.is at c.node.ensures) c.in-Some.place.child c.in-Some.place.slot (rw c.in-Some.is at c.child_place_for.ensures.place)),
-    ),
-  ),
-)
+drop_keyed_leaf-requires g t c =
+    let over = over_leaf g.met.K.Ord.total c.requires.node (emptied_of c.requires.emptied) c.in-Some.place.child c.in-Some.place.slot
+    (rw c.in-Leaf.is at c.node.ensures) (rw c.in-Some.is at c.child_place_for.ensures.place) in
+    (search rules, (search fits, (over.linked, rw c.in-Some-slot.is at over.has_slot)))
 
 pub retire_if_empty-requires : goal.retire_if_empty-requires
 retire_if_empty-requires g t c =
-    (search fits, (search fits, dropped_part g.met.K.Ord.total c.args.level c.requires.node (before_of c.requires.emptied) c.args.arenas.now c.args.id c.args.key.now (emptied_of c.requires.emptied) c.in-Leaf.node (rw c.in-Leaf.is at c.node.ensures) c.in-Some.place.child c.in-Some.place.slot (rw c.in-Some.is at c.child_place_for.ensures.place) c.in-Some-slot.slot c.in-Some-slot.is _ c.drop_keyed_leaf.ensures))
-
-pub returns-in-Some-slot-clause-removes : goal.returns-in-Some-slot-clause-removes
-returns-in-Some-slot-clause-removes g t c = λ before e.
-    dropped_removes g.met.K.Ord.total c.args.level c.requires.node before c.args.arenas.now c.args.id c.args.key.now e c.in-Leaf.node (rw c.in-Leaf.is at c.node.ensures) c.in-Some.place.child c.in-Some.place.slot (rw c.in-Some.is at c.child_place_for.ensures.place) c.in-Some-slot.slot c.in-Some-slot.is _ c.drop_keyed_leaf.ensures _ _ c.retire_if_empty.ensures
+    let over = over_leaf g.met.K.Ord.total c.requires.node (emptied_of c.requires.emptied) c.in-Some.place.child c.in-Some.place.slot
+    (rw c.in-Leaf.is at c.node.ensures) (rw c.in-Some.is at c.child_place_for.ensures.place) in
+    (search fits, (search fits, over.part _ (over.drops _ _ c.in-Some-slot.is c.drop_keyed_leaf.ensures)))
 
 pub retire_if_empty-requires-in-None : goal.retire_if_empty-requires-in-None
 retire_if_empty-requires-in-None g t c =
-    (search rules, (search fits, stays_part g.met.K.Ord.total c.args.level c.requires.node (before_of c.requires.emptied) c.args.arenas.now c.args.id c.args.key.now (emptied_of c.requires.emptied) c.in-Leaf.node (rw c.in-Leaf.is at c.node.ensures) c.in-Some.place.child c.in-Some.place.slot (rw c.in-Some.is at c.child_place_for.ensures.place)))
-
-pub returns-in-None-clause-removes : goal.returns-in-None-clause-removes
-returns-in-None-clause-removes g t c = λ before e.
-    stays_removes g.met.K.Ord.total c.args.level c.requires.node before c.args.arenas.now c.args.id c.args.key.now e c.in-Leaf.node (rw c.in-Leaf.is at c.node.ensures) c.in-Some.place.child c.in-Some.place.slot (rw c.in-Some.is at c.child_place_for.ensures.place) _ _ c.retire_if_empty-in-None.ensures
-
-pub overflow_sub-level : goal.overflow_sub-level
-overflow_sub-level g t c = omega (arith, c.requires.node)
+    let over = over_leaf g.met.K.Ord.total c.requires.node (emptied_of c.requires.emptied) c.in-Some.place.child c.in-Some.place.slot
+    (rw c.in-Leaf.is at c.node.ensures) (rw c.in-Some.is at c.child_place_for.ensures.place) in
+    (search rules, (search fits, over.part _ over.stays))
 
 pub drop_emptied-requires : goal.drop_emptied-requires
 drop_emptied-requires g t c κs within =
-    let inner = levels_below g.met.K.Ord.total c.args.level c.requires.node (before_of c.requires.emptied) c.args.arenas.now c.args.id c.args.key.now (emptied_of c.requires.emptied) c.in-Internal.node (rw c.in-Internal.is at c.node.ensures) c.in-Some-child_place_for.place.child c.in-Some-child_place_for.place.slot (rw c.in-Some-child_place_for.is at c.child_place_for-in-Internal.ensures.place) in
-    let below = emptied_from (before_of c.requires.emptied) (emptied_below g.met.K.Ord.total c.args.level c.requires.node (before_of c.requires.emptied) c.args.arenas.now c.args.id c.args.key.now (emptied_of c.requires.emptied) c.in-Internal.node (rw c.in-Internal.is at c.node.ensures) c.in-Some-child_place_for.place.child c.in-Some-child_place_for.place.slot (rw c.in-Some-child_place_for.is at c.child_place_for-in-Internal.ensures.place)) in
-    (search rules, (within.0, (within.1, (search rules, (search rules, (search fits, (inner, below)))))))
+    let place = c.in-Some-child_place_for.place in
+    let over = over_node g.met.K.Ord.total c.requires.node (emptied_of c.requires.emptied) place.child place.slot (rw c.in-Internal.is at c.node.ensures)
+    (rw c.in-Some-child_place_for.is at c.child_place_for-in-Internal.ensures.place) in
+    (search rules, (within.0, (within.1, (search rules, (search rules, (search fits, (over.inner, emptied_from _ over.below)))))))
 
 pub drop_child_node-requires : goal.drop_child_node-requires
 drop_child_node-requires g t c =
-    let retired = child_retired g.met.K.Ord.total c.args.level c.requires.node (before_of c.requires.emptied) c.args.arenas.now c.args.id c.args.key.now (emptied_of c.requires.emptied) c.in-Internal.node (rw c.in-Internal.is at c.node.ensures) c.in-Some-child_place_for.place.child c.in-Some-child_place_for.place.slot (rw c.in-Some-child_place_for.is at c.child_place_for-in-Internal.ensures.place) _ _ (c.drop_emptied.ensures.removes (before_of c.requires.emptied) (emptied_below g.met.K.Ord.total c.args.level c.requires.node (before_of c.requires.emptied) c.args.arenas.now c.args.id c.args.key.now (emptied_of c.requires.emptied) c.in-Internal.node (rw c.in-Internal.is at c.node.ensures) c.in-Some-child_place_for.place.child c.in-Some-child_place_for.place.slot (rw c.in-Some-child_place_for.is at c.child_place_for-in-Internal.ensures.place))) c.in-Retired.is in
+    let place = c.in-Some-child_place_for.place in
+    let over = over_node g.met.K.Ord.total c.requires.node (emptied_of c.requires.emptied) place.child place.slot (rw c.in-Internal.is at c.node.ensures)
+    (rw c.in-Some-child_place_for.is at c.child_place_for-in-Internal.ensures.place) in
+    let retired = over.retired _ (rw c.in-Retired.is at (c.drop_emptied.ensures _ over.below).removes) in
     (search rules, (search fits, (retired.0, (retired.1, retired.2))))
 
-pub returns-in-Retired-clause-removes : goal.returns-in-Retired-clause-removes
-returns-in-Retired-clause-removes g t c = λ before e.
-    child_goes g.met.K.Ord.total c.args.level c.requires.node before c.args.arenas.now c.args.id c.args.key.now e c.in-Internal.node (rw c.in-Internal.is at c.node.ensures) c.in-Some-child_place_for.place.child c.in-Some-child_place_for.place.slot (rw c.in-Some-child_place_for.is at c.child_place_for-in-Internal.ensures.place) _ _ (c.drop_emptied.ensures.removes before (emptied_below g.met.K.Ord.total c.args.level c.requires.node before c.args.arenas.now c.args.id c.args.key.now e c.in-Internal.node (rw c.in-Internal.is at c.node.ensures) c.in-Some-child_place_for.place.child c.in-Some-child_place_for.place.slot (rw c.in-Some-child_place_for.is at c.child_place_for-in-Internal.ensures.place))) c.in-Retired.is _ _ c.drop_child_node.ensures
+pub returns-in_default : goal.returns-in_default
+returns-in_default g t c before e =
+    let none = rw c.in_default.is at c.child_place_for.ensures.place in
+    absurd (has_child g.met.K.Ord.total c.requires.node e (rw c.in-Leaf.is at c.node.ensures) none)
 
-pub returns-in-Success-clause-removes : goal.returns-in-Success-clause-removes
-returns-in-Success-clause-removes g t c = λ before e.
-    child_stays g.met.K.Ord.total c.args.level c.requires.node before c.args.arenas.now c.args.id c.args.key.now e c.in-Internal.node (rw c.in-Internal.is at c.node.ensures) c.in-Some-child_place_for.place.child c.in-Some-child_place_for.place.slot (rw c.in-Some-child_place_for.is at c.child_place_for-in-Internal.ensures.place) _ _ (c.drop_emptied.ensures.removes before (emptied_below g.met.K.Ord.total c.args.level c.requires.node before c.args.arenas.now c.args.id c.args.key.now e c.in-Internal.node (rw c.in-Internal.is at c.node.ensures) c.in-Some-child_place_for.place.child c.in-Some-child_place_for.place.slot (rw c.in-Some-child_place_for.is at c.child_place_for-in-Internal.ensures.place))) c.in-Success.is
+pub returns-in_default-child_place_for : goal.returns-in_default-child_place_for
+returns-in_default-child_place_for g t c before e =
+    let none = rw c.in_default-child_place_for.is at c.child_place_for-in-Internal.ensures.place in
+    absurd (has_child g.met.K.Ord.total c.requires.node e (rw c.in-Internal.is at c.node.ensures) none)
 
-pub returns-in-Fail-clause-removes : goal.returns-in-Fail-clause-removes
-returns-in-Fail-clause-removes g t c = λ before e.
-    child_fails g.met.K.Ord.total c.args.level c.requires.node before c.args.arenas.now c.args.id c.args.key.now e c.in-Internal.node (rw c.in-Internal.is at c.node.ensures) c.in-Some-child_place_for.place.child c.in-Some-child_place_for.place.slot (rw c.in-Some-child_place_for.is at c.child_place_for-in-Internal.ensures.place) _ _ (c.drop_emptied.ensures.removes before (emptied_below g.met.K.Ord.total c.args.level c.requires.node before c.args.arenas.now c.args.id c.args.key.now e c.in-Internal.node (rw c.in-Internal.is at c.node.ensures) c.in-Some-child_place_for.place.child c.in-Some-child_place_for.place.slot (rw c.in-Some-child_place_for.is at c.child_place_for-in-Internal.ensures.place))) c.in-Fail.is
+pub returns-in-Some-slot : goal.returns-in-Some-slot
+returns-in-Some-slot g t c before e =
+    let over = over_leaf g.met.K.Ord.total c.requires.node e c.in-Some.place.child c.in-Some.place.slot
+    (rw c.in-Leaf.is at c.node.ensures) (rw c.in-Some.is at c.child_place_for.ensures.place) in
+    over.settled _ _ _ (over.drops _ _ c.in-Some-slot.is c.drop_keyed_leaf.ensures) c.retire_if_empty.ensures
 
-pub returns-in-Some-slot-clause-settled : goal.returns-in-Some-slot-clause-settled
-returns-in-Some-slot-clause-settled g t c = λ one success. settled_if_empty _ _ c.args.id _ c.retire_if_empty.ensures success
+pub returns-in-None : goal.returns-in-None
+returns-in-None g t c before e =
+    let over = over_leaf g.met.K.Ord.total c.requires.node e c.in-Some.place.child c.in-Some.place.slot
+    (rw c.in-Leaf.is at c.node.ensures) (rw c.in-Some.is at c.child_place_for.ensures.place) in
+    over.settled _ _ _ over.stays c.retire_if_empty-in-None.ensures
 
-pub returns-in-None-clause-settled : goal.returns-in-None-clause-settled
-returns-in-None-clause-settled g t c = λ one success. settled_if_empty _ _ c.args.id _ c.retire_if_empty-in-None.ensures success
+pub returns-in-Retired : goal.returns-in-Retired
+returns-in-Retired g t c before e =
+    let place = c.in-Some-child_place_for.place in
+    let over = over_node g.met.K.Ord.total c.requires.node e place.child place.slot (rw c.in-Internal.is at c.node.ensures)
+    (rw c.in-Some-child_place_for.is at c.child_place_for-in-Internal.ensures.place) in
+    over.goes _ _ _ (rw c.in-Retired.is at (c.drop_emptied.ensures before over.below).removes) c.drop_child_node.ensures
 
-pub returns-in-Retired-clause-settled : goal.returns-in-Retired-clause-settled
-returns-in-Retired-clause-settled g t c = λ one success. absurd (above_leaf_nodes g.met.K.Ord.total c.args.level c.requires.node (before_of c.requires.emptied) c.args.arenas.now c.args.id c.args.key.now (emptied_of c.requires.emptied) c.in-Internal.node (rw c.in-Internal.is at c.node.ensures) c.in-Some-child_place_for.place.child c.in-Some-child_place_for.place.slot (rw c.in-Some-child_place_for.is at c.child_place_for-in-Internal.ensures.place) one)
+pub returns-in-Success : goal.returns-in-Success
+returns-in-Success g t c before e =
+    let place = c.in-Some-child_place_for.place in
+    let over = over_node g.met.K.Ord.total c.requires.node e place.child place.slot (rw c.in-Internal.is at c.node.ensures)
+    (rw c.in-Some-child_place_for.is at c.child_place_for-in-Internal.ensures.place) in
+    over.stays _ _ (λ is. absurd (cc)) (rw c.in-Success.is at (c.drop_emptied.ensures before over.below).removes)
 
-pub returns-in-Success-clause-settled : goal.returns-in-Success-clause-settled
-returns-in-Success-clause-settled g t c = λ one success. absurd (above_leaf_nodes g.met.K.Ord.total c.args.level c.requires.node (before_of c.requires.emptied) c.args.arenas.now c.args.id c.args.key.now (emptied_of c.requires.emptied) c.in-Internal.node (rw c.in-Internal.is at c.node.ensures) c.in-Some-child_place_for.place.child c.in-Some-child_place_for.place.slot (rw c.in-Some-child_place_for.is at c.child_place_for-in-Internal.ensures.place) one)
-
-pub returns-in-Fail-clause-settled : goal.returns-in-Fail-clause-settled
-returns-in-Fail-clause-settled g t c = λ one success only. (cc)
+pub returns-in-Fail : goal.returns-in-Fail
+returns-in-Fail g t c before e =
+    let place = c.in-Some-child_place_for.place in
+    let over = over_node g.met.K.Ord.total c.requires.node e place.child place.slot (rw c.in-Internal.is at c.node.ensures)
+    (rw c.in-Some-child_place_for.is at c.child_place_for-in-Internal.ensures.place) in
+    over.stays _ _ (λ is. absurd (cc)) (rw c.in-Fail.is at (c.drop_emptied.ensures before over.below).removes)

@@ -1,27 +1,35 @@
-use Rattle.tree_node.proofs.Common.{fits}
+use Rattle.tree_remove.proofs.Common.{emptied_from, fits}
 use Rattle.tree_remove.proofs.EntryPlaces.{entry_emptied, entry_settled, entry_stays, found_in_leaf}
-use Rattle.tree_remove.specs.Takes.IsEmptied.{emptied_from}
 use Rattle.tree_remove.proofs.entries.take_entry.Goals.{in-Retired, in-Success, in-Fail}
 use Rattle.tree_remove.proofs.entries.take_entry.Goals as goal
 
 pub take_slot-key-requires : goal.take_slot-key-requires
 take_slot-key-requires g c =
-    (search fits, (search fits, (c.requires.entry.0, c.requires.entry.1.stored, found_in_leaf g.met.K.Ord.total c.args.level c.requires.node c.args.arenas.now c.args.id c.args.place.leaf c.args.place.slot c.requires.entry.0 c.requires.entry.1)))
+    let entry = c.requires.entry in
+    (search fits, (search fits, (entry.0, entry.1.stored, found_in_leaf g.met.K.Ord.total c.requires.node entry.1)))
 
 pub drop_emptied-result-requires : goal.drop_emptied-result-requires
 drop_emptied-result-requires g c =
-    (search fits, (search fits, (c.requires.node, emptied_from c.args.arenas.now (entry_emptied g.met.K.Ord.total c.args.level c.requires.node c.args.arenas.now c.args.id c.args.place.leaf c.args.place.slot c.requires.entry.0 c.requires.entry.1 c.take_slot-key.new.arenas (c.take_slot-key.result.0, c.take_slot-key.result.1) c.take_slot-key.ensures.taken _ c.take_slot-key.ensures.removes c.in-Retired.is))))
+    let emptied = entry_emptied g.met.K.Ord.total c.requires.node c.requires.entry.1 c.take_slot-key.ensures.taken c.take_slot-key.ensures.removes
+    c.in-Retired.is in
+    (search fits, (search fits, (c.requires.node, emptied_from c.args.arenas.now emptied)))
 
 pub returns-clause-removes : goal.returns-clause-removes
-returns-clause-removes g c = elim c.match-removal.branch [
-  | in-Retired w ↦ rw (w.arenas-is, w.result-is) (w.drop_emptied-result.ensures.removes c.args.arenas.now (entry_emptied g.met.K.Ord.total c.args.level c.requires.node c.args.arenas.now c.args.id c.args.place.leaf c.args.place.slot c.requires.entry.0 c.requires.entry.1 c.take_slot-key.new.arenas (c.take_slot-key.result.0, c.take_slot-key.result.1) c.take_slot-key.ensures.taken _ c.take_slot-key.ensures.removes w.in-Retired.is))
-  | in-Success w ↦ rw (w.arenas-is, w.result-is, ← w.in-Success.is) (entry_stays g.met.K.Ord.total c.args.level c.requires.node c.args.arenas.now c.args.id c.args.place.leaf c.args.place.slot c.requires.entry.0 c.requires.entry.1 c.take_slot-key.new.arenas (c.take_slot-key.result.0, c.take_slot-key.result.1) c.take_slot-key.ensures.taken _ c.take_slot-key.ensures.removes (λ is. absurd (cc)))
-  | in-Fail w ↦ rw (w.arenas-is, w.result-is, ← w.in-Fail.is) (entry_stays g.met.K.Ord.total c.args.level c.requires.node c.args.arenas.now c.args.id c.args.place.leaf c.args.place.slot c.requires.entry.0 c.requires.entry.1 c.take_slot-key.new.arenas (c.take_slot-key.result.0, c.take_slot-key.result.1) c.take_slot-key.ensures.taken _ c.take_slot-key.ensures.removes (λ is. absurd (cc)))
-]
+returns-clause-removes g c =
+    let stays = entry_stays g.met.K.Ord.total c.requires.node c.requires.entry.1 c.take_slot-key.ensures.taken c.take_slot-key.ensures.removes in
+    let emptied = entry_emptied g.met.K.Ord.total c.requires.node c.requires.entry.1 c.take_slot-key.ensures.taken c.take_slot-key.ensures.removes in
+    elim c.match-removal.branch [
+      | in-Retired w ↦ rw (w.arenas-is, w.result-is) (w.drop_emptied-result.ensures c.args.arenas.now (emptied w.in-Retired.is)).removes
+      | in-Success w ↦ rw (w.arenas-is, w.result-is, ← w.in-Success.is) (stays (λ is. absurd (cc)))
+      | in-Fail w ↦ rw (w.arenas-is, w.result-is, ← w.in-Fail.is) (stays (λ is. absurd (cc)))
+    ]
 
 pub returns-clause-settled : goal.returns-clause-settled
-returns-clause-settled g c = elim c.match-removal.branch [
-  | in-Retired w ↦ rw (w.arenas-is, w.result-is) w.drop_emptied-result.ensures.settled
-  | in-Success w ↦ rw (w.arenas-is, w.result-is) (λ one success. entry_settled g.met.K.Ord.total c.args.level c.requires.node c.args.arenas.now c.args.id c.args.place.leaf c.args.place.slot c.requires.entry.0 c.requires.entry.1 c.take_slot-key.new.arenas (c.take_slot-key.result.0, c.take_slot-key.result.1) c.take_slot-key.ensures.taken _ c.take_slot-key.ensures.removes (c.take_slot-key.ensures.settled w.in-Success.is) one)
-  | in-Fail w ↦ rw (w.arenas-is, w.result-is) (λ one success only. (cc))
-]
+returns-clause-settled g c =
+    let emptied = entry_emptied g.met.K.Ord.total c.requires.node c.requires.entry.1 c.take_slot-key.ensures.taken c.take_slot-key.ensures.removes in
+    let settled = entry_settled g.met.K.Ord.total c.requires.node c.requires.entry.1 c.take_slot-key.ensures.taken c.take_slot-key.ensures.removes in
+    elim c.match-removal.branch [
+      | in-Retired w ↦ rw (w.arenas-is, w.result-is) (w.drop_emptied-result.ensures c.args.arenas.now (emptied w.in-Retired.is)).settled
+      | in-Success w ↦ rw (w.arenas-is, w.result-is) (λ one success. settled (c.take_slot-key.ensures.settled w.in-Success.is) one)
+      | in-Fail w ↦ rw (w.arenas-is, w.result-is) (λ one success only. (cc))
+    ]

@@ -1,5 +1,4 @@
-use Rattle.std.proofs.Common.{Ok, ap}
-use Rattle.tree_node.proofs.Common.{fits}
+use Rattle.tree_remove.proofs.Common.{Ok, ap, fits}
 use Rattle.tree_remove.proofs.Ways.{fails_at}
 use Rattle.tree_remove.proofs.removal.remove_at.Goals as goal
 

@@ -1,46 +1,38 @@
-use Rattle.std.proofs.Common.{◌<◌, length}
-use Rattle.tree_array.specs.declared.answers.RemoveResult.TheVariants.{Success, Fail}
-use Rattle.tree_node.proofs.Common.{walk, fits}
-use Rattle.tree_node.proofs.Children.{walk-leaf}
-use Rattle.tree_remove.proofs.Descents.{leaf_at}
-use Rattle.tree_remove.proofs.Ways.{found_on_way, leaf_on_way, not_emptied, removes_on_way, settled_on_way}
+use Rattle.tree_remove.proofs.Common.{fits, length, walk, walk-leaf, ◌<◌}
+use Rattle.tree_remove.proofs.Ways.{led_to, not_emptied, removes_on_way, settled_on_way}
 use Rattle.tree_remove.proofs.removal.remove_beside.Goals as goal
 
 pub leaf-requires : goal.leaf-requires
 leaf-requires g c =
-    let way = c.requires.way.1 in
-    let part = leaf_on_way g.met.K.Ord.total c.args.arenas.now c.args.key.now c.args.leaf c.args.level c.requires.node c.args.id c.requires.way.0 way.0 way.1 way.2 in
-    (search fits, (search fits, leaf_at c.args.arenas.now c.args.leaf part))
+    let led = led_to g.met.K.Ord.total c.args.key.now c.args.level c.requires.node c.args.arenas.now c.args.id c.requires.way.0 c.args.leaf c.requires.way.1 in
+    (search fits, (search fits, led.there))
 
 pub remove_in_leaf-requires : goal.remove_in_leaf-requires
 remove_in_leaf-requires g c =
-    let way = c.requires.way.1 in
-    let part = leaf_on_way g.met.K.Ord.total c.args.arenas.now c.args.key.now c.args.leaf c.args.level c.requires.node c.args.id c.requires.way.0 way.0 way.1 way.2 in
-    let found = found_on_way g.met.K.Ord.total c.args.arenas.now c.args.key.now c.args.leaf c.args.level c.requires.node c.args.id c.requires.way.0 way.0 way.1 way.2 in
-    (search fits, (search fits, (leaf_at c.args.arenas.now c.args.leaf part, rw found at c.requires.callable)))
+    let led = led_to g.met.K.Ord.total c.args.key.now c.args.level c.requires.node c.args.arenas.now c.args.id c.requires.way.0 c.args.leaf c.requires.way.1 in
+    (search fits, (search fits, (led.there, rw led.found at c.requires.callable)))
 
 pub unreachable-requires : goal.unreachable-requires
 unreachable-requires g c =
-    let way = c.requires.way.1 in
-    let part = leaf_on_way g.met.K.Ord.total c.args.arenas.now c.args.key.now c.args.leaf c.args.level c.requires.node c.args.id c.requires.way.0 way.0 way.1 way.2 in
-    let many : 1 < length (walk 0 c.args.arenas.now c.args.leaf) = rw (walk-leaf c.args.arenas.now c.args.leaf c.leaf.result.now c.leaf.ensures, ← c.array.ensures, ← c.len.ensures) c.if-len-le1.false in
-    not_emptied g.met.K.Ord.total _ c.args.arenas.now _ c.args.key.now c.args.leaf c.remove_in_leaf.result part many c.remove_in_leaf.ensures.removes c.in-Retired.is
+    let led = led_to g.met.K.Ord.total c.args.key.now c.args.level c.requires.node c.args.arenas.now c.args.id c.requires.way.0 c.args.leaf c.requires.way.1 in
+    let entries = walk-leaf c.args.arenas.now c.args.leaf c.leaf.result.now c.leaf.ensures in
+    let many : 1 < length (walk 0 c.args.arenas.now c.args.leaf) = rw (entries, ← c.array.ensures, ← c.len.ensures) c.if-len-le1.false in
+    not_emptied g.met.K.Ord.total led.part many (rw c.in-Retired.is at c.remove_in_leaf.ensures.removes)
 
 pub returns-then-len-le1-clause-alone : goal.returns-then-len-le1-clause-alone
-returns-then-len-le1-clause-alone g c = rw (walk-leaf c.args.arenas.now c.args.leaf c.leaf.result.now c.leaf.ensures, ← c.array.ensures, ← c.len.ensures) c.if-len-le1.true
+returns-then-len-le1-clause-alone g c = rw (walk-leaf c.args.arenas.now c.args.leaf c.leaf.result.now c.leaf.ensures, ← c.array.ensures, ← c.len.ensures)
+    c.if-len-le1.true
 
 pub returns-in-Success-clause-removes : goal.returns-in-Success-clause-removes
 returns-in-Success-clause-removes g c =
-    let way = c.requires.way.1 in
-    removes_on_way g.met.K.Ord.total _ c.args.arenas.now _ c.args.key.now c.args.leaf Success (λ is. absurd (cc)) c.in-Success.ensures.removes c.args.level c.requires.node c.args.id c.requires.way.0 way.0 way.1 way.2
+    removes_on_way g.met.K.Ord.total _ (λ is. absurd (cc)) c.in-Success.ensures.removes c.args.level c.requires.node c.args.id c.requires.way.0 c.requires.way.1
 
 pub returns-in-Success-clause-settled : goal.returns-in-Success-clause-settled
-returns-in-Success-clause-settled g c = λ ok one.
-    let way = c.requires.way.1 in
-    settled_on_way g.met.K.Ord.total c.args.key.now c.args.arenas.now c.remove_in_leaf.new.arenas c.args.level c.args.id c.requires.way.0 c.args.leaf one way.0 way.1 way.2
+returns-in-Success-clause-settled g c ok one =
+    settled_on_way g.met.K.Ord.total c.args.key.now c.args.arenas.now c.remove_in_leaf.new.arenas c.args.level c.args.id c.requires.way.0 c.args.leaf one
+    c.requires.way.1
     c.remove_in_leaf.ensures.removes.replaces (c.remove_in_leaf.ensures.settled c.in-Success.is)
 
 pub returns-in-Fail-clause-removes : goal.returns-in-Fail-clause-removes
 returns-in-Fail-clause-removes g c =
-    let way = c.requires.way.1 in
-    removes_on_way g.met.K.Ord.total _ c.args.arenas.now _ c.args.key.now c.args.leaf Fail (λ is. absurd (cc)) c.in-Fail.ensures.removes c.args.level c.requires.node c.args.id c.requires.way.0 way.0 way.1 way.2
+    removes_on_way g.met.K.Ord.total _ (λ is. absurd (cc)) c.in-Fail.ensures.removes c.args.level c.requires.node c.args.id c.requires.way.0 c.requires.way.1

@@ -1,23 +1,22 @@
-use Rattle.std.proofs.Common.{◌≡◌, ◌∙◌, true, [], Some, sym}
-use Rattle.tree_node.proofs.Common.{fits}
-use Rattle.tree_node.proofs.Children.{walk-leaf}
-use Rattle.tree_remove.proofs.LeafRemovals.{leaf_settled, removes_in_leaf}
+use Rattle.tree_remove.proofs.Common.{fits, walk-leaf, ◌≡◌}
+use Rattle.tree_remove.proofs.LeafRemovals.{leaf_settled, removes_in_leaf, told}
 use Rattle.tree_remove.proofs.removal.remove_in_leaf.Goals as goal
 
 pub leaf_mut-requires : goal.leaf_mut-requires
 leaf_mut-requires g c = (search fits, (search fits, c.requires.there))
 
 pub remove_if-requires : goal.remove_if-requires
-remove_if-requires g c = (search fits, rw c.array_mut.ensures.value (rw (walk-leaf c.args.arenas.now c.args.id c.leaf_mut.result.now c.leaf_mut.ensures.value) at c.requires.callable))
+remove_if-requires g c =
+    let callable = rw (walk-leaf c.args.arenas.now c.args.id c.leaf_mut.result.now c.leaf_mut.ensures.value) at c.requires.callable in
+    (search fits, rw c.array_mut.ensures.value callable)
 
-pub returns-clause-removes : goal.returns-clause-removes
-returns-clause-removes g c =
+pub returns : goal.returns
+returns g c =
     let asked = rw c.array_mut.ensures.value at c.remove_if.ensures in
-    let read : c.leaf.result.now ≡ c.leaf_mut.result.now = let both : Some c.leaf.result.now ≡ Some c.leaf_mut.result.now = sym c.leaf.ensures ∙ c.leaf_mut.ensures.value in cc in
-    let none_retired : c.leaf_mut.result.now.array.retired ≡ true → c.leaf_mut.result.now.array.entries ≡ [] = rw (c.array.ensures, read) at c.free.ensures.sound.none_retired in
-    removes_in_leaf g.met.K.Ord.total _ c.args.arenas.now c.args.id c.leaf_mut.result.now c.remove_if.new.self c.args.key.now c.leaf_mut.ensures.value c.remove_if.result none_retired asked.absent asked.present
-
-pub returns-clause-settled : goal.returns-clause-settled
-returns-clause-settled g c =
-    let asked = rw c.array_mut.ensures.value at c.remove_if.ensures in
-    leaf_settled g.met.K.Ord.total _ c.args.arenas.now c.args.id c.leaf_mut.result.now c.remove_if.new.self c.args.key.now c.leaf_mut.ensures.value c.remove_if.result asked.absent asked.present
+    let read : c.leaf.result.now ≡ c.leaf_mut.result.now = cc (c.leaf.ensures, c.leaf_mut.ensures.value) in
+    let none_retired = rw (c.array.ensures, read) at c.free.ensures.sound.none_retired in
+    record {
+      removes = removes_in_leaf g.met.K.Ord.total _ c.args.arenas.now c.args.id _ _ _ _ c.leaf_mut.ensures.value none_retired
+          (told _ _ _ _ _ _ asked.absent asked.present);
+      settled = leaf_settled g.met.K.Ord.total _ c.args.arenas.now c.args.id _ _ _ _ c.leaf_mut.ensures.value (told _ _ _ _ _ _ asked.absent asked.present);
+    }

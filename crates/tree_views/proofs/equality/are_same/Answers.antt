@@ -1,6 +1,4 @@
-use Rattle.std.proofs.Common.{◌∙◌, sym}
-use Rattle.tree_model.specs.declared.way.Way.TheVariants.{On}
-use Rattle.tree_ranges.proofs.Yields.{takes_first}
+use Rattle.tree_views.proofs.Common.{◌∙◌, sym, On, takes_first}
 use Rattle.tree_views.proofs.Walked.{ends_both}
 use Rattle.tree_views.proofs.equality.are_same.Goals as goal
 

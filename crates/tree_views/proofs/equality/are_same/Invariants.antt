@@ -1,8 +1,4 @@
-use Rattle.std.proofs.Common.{◌≡◌, ◌&&◌}
-use Rattle.tree_model.proofs.Common.{HasBegun, rest}
-use Rattle.tree_model.specs.declared.way.Way.TheVariants.{On}
-use Rattle.std.specs.Cmp.Lexicographic.{pointwise}
-use Rattle.tree_ranges.specs.Ranged.{moves_left}
+use Rattle.tree_views.proofs.Common.{◌≡◌, ◌&&◌, HasBegun, rest, On, pointwise, moves_left}
 use Rattle.tree_views.proofs.equality.are_same.Given as goal
 
 -- what is left agrees where all did

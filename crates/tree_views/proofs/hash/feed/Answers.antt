@@ -1,8 +1,4 @@
-use Rattle.std.proofs.Common.{◌++◌, ◌∙◌, sym}
-use Rattle.tree_model.specs.declared.way.Way.TheVariants.{On}
-use Rattle.std.specs.Hash.{fed_then}
-use Rattle.std.proofs.lemmas.Grind.{fold-append}
-use Rattle.tree_ranges.proofs.Yields.{takes_first}
+use Rattle.tree_views.proofs.Common.{◌++◌, ◌∙◌, sym, On, fed_then, fold-append, takes_first}
 use Rattle.tree_views.proofs.hash.feed.Goals as goal
 
 pub loop-key-preserved : goal.loop-key-preserved

@@ -1,7 +1,4 @@
-use Rattle.std.proofs.Common.{◌≡◌, ◌++◌, flat_map, fold}
-use Rattle.tree_model.proofs.Common.{HasBegun, rest}
-use Rattle.tree_model.specs.declared.way.Way.TheVariants.{On}
-use Rattle.tree_ranges.specs.Ranged.{moves_left}
+use Rattle.tree_views.proofs.Common.{◌≡◌, ◌++◌, flat_map, fold, HasBegun, rest, On, moves_left}
 use Rattle.tree_views.proofs.hash.feed.Given as goal
 
 -- what is left leads from the hasher to where all would have led it

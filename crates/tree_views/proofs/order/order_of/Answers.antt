@@ -1,6 +1,4 @@
-use Rattle.std.proofs.Common.{◌∙◌, sym}
-use Rattle.tree_model.specs.declared.way.Way.TheVariants.{On}
-use Rattle.tree_ranges.proofs.Yields.{takes_first}
+use Rattle.tree_views.proofs.Common.{◌∙◌, sym, On, takes_first}
 use Rattle.tree_views.proofs.Compared.{decides, leaves_open}
 use Rattle.tree_views.proofs.order.order_of.Goals as goal
 

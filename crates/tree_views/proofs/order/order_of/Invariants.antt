@@ -1,9 +1,4 @@
-use Rattle.std.proofs.Common.{◌≡◌}
-use Rattle.tree_model.proofs.Common.{HasBegun, rest}
-use Rattle.tree_model.specs.declared.way.Way.TheVariants.{On}
-use Rattle.std.specs.Cmp.Lexicographic.{slice_partial_cmp}
-use Rattle.std.specs.Ordering.{partial_ordering_then}
-use Rattle.tree_ranges.specs.Ranged.{moves_left}
+use Rattle.tree_views.proofs.Common.{◌≡◌, HasBegun, rest, On, slice_partial_cmp, partial_ordering_then, moves_left}
 use Rattle.tree_views.proofs.order.order_of.Given as goal
 
 -- what is left has the order that all had

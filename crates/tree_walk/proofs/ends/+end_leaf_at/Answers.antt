@@ -1,8 +1,5 @@
-use Rattle.std.proofs.Common.{rules, sym, ap, ◌∙◌, ◌<◌, ◌-◌, length, arith}
-use Rattle.tree_model.proofs.Common.{AllByRecursion}
-use Rattle.tree_node.proofs.Common.{ContainsKey, StandsOrRetired, leaves_at, fits}
-use Rattle.tree_node.proofs.Levels.{node_at}
-use Rattle.tree_walk.proofs.EndSearch.{begins, goes_on, holds, nowhere, stops}
+use Rattle.tree_walk.proofs.Common.{Some, None, refl, rules, sym, ◌∙◌, ◌<◌, ◌-◌, ContainsKey, StandsOrRetired, fits, leaves_at, node_at}
+use Rattle.tree_walk.proofs.EndSearch.{alone_with, alone_without, begins, goes_on, holds, nowhere, stops}
 use Rattle.tree_walk.proofs.Under.{leaf_node_over, node_over}
 use Rattle.tree_walk.proofs.ends.+end_leaf_at.Goals as goal
 
@@ -11,61 +8,44 @@ node-requires g t c =
     let there : ContainsKey c.args.arenas.now.nodes c.args.id = node_at g.K.Ord.cmp c.args.arenas.now c.args.id c.args.level c.requires.node c.requires.stands in
     search rules
 
-pub node-requires-room-N-Destruct : goal.node-requires-room-N-Destruct
-node-requires-room-N-Destruct g t c κs within = search fits
+pub loop-leaf-init : goal.loop-leaf-init
+loop-leaf-init g t c =
+    let over = leaf_node_over g.K.Ord.cmp c.args.arenas.now c.args.id c.args.level c.requires.node c.requires.stands g.S.SlotWalk.way c.into_iter-leaf-iterator.result c.in-Leaf.node (rw c.in-Leaf.is at c.node.ensures) (c.into_iter-leaf-iterator.ensures.into_iter_gives ∙ c.new-leaves.ensures) in
+    begins c.args.arenas.now.leaves (leaves_at 0 c.args.arenas.now.nodes) g.S.SlotWalk.way (leaves_at c.args.level c.args.arenas.now.nodes c.args.id) c.into_iter-leaf-iterator.result over.leaves over.each
 
-pub new-leaves-requires : goal.new-leaves-requires
-new-leaves-requires g t c = search rules
-
-pub end_of_leaves-requires : goal.end_of_leaves-requires
-end_of_leaves-requires g t c =
-    let over = leaf_node_over g.K.Ord.cmp c.args.arenas.now c.args.id c.args.level c.requires.node c.requires.stands g.S.SlotWalk.way c.new-leaves.result c.in-Leaf.node (rw c.in-Leaf.is at c.node.ensures) c.new-leaves.ensures in
-    let there : AllByRecursion (ContainsKey c.args.arenas.now.leaves) c.new-leaves.result = over.each in
+pub array_of-requires : goal.array_of-requires
+array_of-requires g t c =
+    let there : ContainsKey c.args.arenas.now.leaves c.in-Some.leaf = holds _ _ _ _ _ c.loop-leaf.invariant _ _ c.in-Some.ensures.steps in
     search (rules, fits)
 
-pub returns-in-Leaf : goal.returns-in-Leaf
-returns-in-Leaf g t c =
-    let over = leaf_node_over g.K.Ord.cmp c.args.arenas.now c.args.id c.args.level c.requires.node c.requires.stands g.S.SlotWalk.way c.new-leaves.result c.in-Leaf.node (rw c.in-Leaf.is at c.node.ensures) c.new-leaves.ensures in
-    rw over.leaves c.end_of_leaves.ensures
+pub returns-then-not-is_empty : goal.returns-then-not-is_empty
+returns-then-not-is_empty g t c = stops _ _ _ _ _ c.loop-leaf.invariant _ _ c.in-Some.ensures.steps (Some c.in-Some.leaf)
+    (alone_with c.args.arenas.now.leaves c.in-Some.leaf _ (rw c.array_of.ensures.entries c.is_empty.ensures.1) c.if-not-is_empty.true _) refl
 
-pub new-children-requires : goal.new-children-requires
-new-children-requires g t c = search rules
+pub loop-leaf-preserved : goal.loop-leaf-preserved
+loop-leaf-preserved g t c = goes_on _ _ _ _ _ c.loop-leaf.invariant _ _ c.in-Some.ensures.steps None
+    (alone_without c.args.arenas.now.leaves c.in-Some.leaf (rw c.array_of.ensures.entries (c.is_empty.ensures.0 c.if-not-is_empty.false))) refl
+
+pub returns-in-None : goal.returns-in-None
+returns-in-None g t c = nowhere _ _ _ _ _ c.loop-leaf.invariant c.in-None.ensures.steps.0
 
 pub loop-child-init : goal.loop-child-init
 loop-child-init g t c =
     let over = node_over g.K.Ord.cmp c.args.arenas.now c.args.id c.args.level c.requires.node c.requires.stands g.S.SlotWalk.way c.into_iter-child-iterator.result c.in-Internal.node (rw c.in-Internal.is at c.node.ensures) (c.into_iter-child-iterator.ensures.into_iter_gives ∙ c.new-children.ensures) in
     begins c.args.arenas.now.leaves (leaves_at (c.args.level - 1) c.args.arenas.now.nodes) g.S.SlotWalk.way (leaves_at c.args.level c.args.arenas.now.nodes c.args.id) c.into_iter-child-iterator.result over.leaves over.each
 
-pub next-requires : goal.next-requires
-next-requires g t c = search rules
-
-pub overflow_sub-level : goal.overflow_sub-level
-overflow_sub-level g t c = omega (arith, c.requires.node)
-
 pub end_leaf_at-found-requires : goal.end_leaf_at-found-requires
 end_leaf_at-found-requires g t c κs within =
-    let below = holds _ _ _ _ _ c.loop-child.invariant _ _ c.in-Some.ensures.steps in
+    let below = holds _ _ _ _ _ c.loop-child.invariant _ _ c.in-Some-child.ensures.steps in
     let inner : 0 < c.args.level - 1 = below.0 in
-    let stands : StandsOrRetired g.K.Ord.cmp (c.args.level - 1) c.args.arenas.now c.in-Some.child = below.1 in
+    let stands : StandsOrRetired g.K.Ord.cmp (c.args.level - 1) c.args.arenas.now c.in-Some-child.child = below.1 in
     (search rules, (within.0, (within.1.0, (within.1.1, (search rules, search rules)))))
 
-pub is_some-requires : goal.is_some-requires
-is_some-requires g t c κs = search rules
-
-pub drop-child-iterator-inside-requires : goal.drop-child-iterator-inside-requires
-drop-child-iterator-inside-requires g t c κs within = search rules
-
 pub returns-then-is_some : goal.returns-then-is_some
-returns-then-is_some g t c = stops _ _ _ _ _ c.loop-child.invariant _ _ c.in-Some.ensures.steps _ c.end_leaf_at-found.ensures (sym c.is_some.ensures ∙ c.if-is_some.true)
-
-pub loop-child-smaller : goal.loop-child-smaller
-loop-child-smaller g t c = omega (arith, ap length c.in-Some.ensures.steps)
+returns-then-is_some g t c = stops _ _ _ _ _ c.loop-child.invariant _ _ c.in-Some-child.ensures.steps _ c.end_leaf_at-found.ensures (sym c.is_some.ensures ∙ c.if-is_some.true)
 
 pub loop-child-preserved : goal.loop-child-preserved
-loop-child-preserved g t c = goes_on _ _ _ _ _ c.loop-child.invariant _ _ c.in-Some.ensures.steps _ c.end_leaf_at-found.ensures (sym c.is_some.ensures ∙ c.if-is_some.false)
+loop-child-preserved g t c = goes_on _ _ _ _ _ c.loop-child.invariant _ _ c.in-Some-child.ensures.steps _ c.end_leaf_at-found.ensures (sym c.is_some.ensures ∙ c.if-is_some.false)
 
-pub drop-child-iterator-inside-requires-in-Internal : goal.drop-child-iterator-inside-requires-in-Internal
-drop-child-iterator-inside-requires-in-Internal g t c κs within = search rules
-
-pub returns-in-None : goal.returns-in-None
-returns-in-None g t c = nowhere _ _ _ _ _ c.loop-child.invariant c.in-None.ensures.steps.0
+pub returns-in-None-child : goal.returns-in-None-child
+returns-in-None-child g t c = nowhere _ _ _ _ _ c.loop-child.invariant c.in-None-child.ensures.steps.0

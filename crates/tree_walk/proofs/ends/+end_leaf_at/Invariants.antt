@@ -1,11 +1,14 @@
-use Rattle.std.proofs.Common.{◌-◌}
-use Rattle.tree_node.proofs.Common.{leaves_at}
+use Rattle.tree_walk.proofs.Common.{◌-◌, ContainsKey, leaves_at}
 use Rattle.tree_walk.proofs.EndSearch.{IsSought}
 use Rattle.tree_walk.proofs.Under.{StandsBelow}
 use Rattle.tree_walk.proofs.ends.+end_leaf_at.Given as goal
 
 abbrev pub decreases-end_leaf_at : goal.decreases-end_leaf_at
 decreases-end_leaf_at g l = l.level
+
+abbrev pub invariant-loop-leaf : goal.invariant-loop-leaf
+invariant-loop-leaf g l =
+    IsSought l.arenas.leaves (leaves_at 0 l.arenas.nodes) g.S.SlotWalk.way (leaves_at l.level l.arenas.nodes l.fn.id) (ContainsKey l.arenas.leaves) l.leaf-iterator
 
 abbrev pub invariant-loop-child : goal.invariant-loop-child
 invariant-loop-child g l =

@@ -1,5 +1,4 @@
-use Rattle.std.proofs.Common.{rules, List, ℕ, ◌++◌, ◌∷◌}
-use Rattle.tree_node.proofs.Common.{IsChain, fits}
+use Rattle.tree_walk.proofs.Common.{rules, List, ℕ, ◌++◌, ◌∷◌, IsChain, fits}
 use Rattle.tree_walk.proofs.EndWalks.{leaf_in_chain, begins_there}
 use Rattle.tree_walk.proofs.ends.walk_from_end.Goals as goal
 

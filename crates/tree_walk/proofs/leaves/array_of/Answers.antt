@@ -1,9 +1,5 @@
 use Rattle.std.proofs.Common.{refl}
-use Rattle.tree_node.proofs.Common.{fits}
 use Rattle.tree_walk.proofs.leaves.array_of.Goals as goal
-
-pub leaf-requires : goal.leaf-requires
-leaf-requires g c = (search fits, (search fits, c.requires))
 
 pub returns : goal.returns
 returns g c = record { entries = rw (c.leaf.ensures, c.array.ensures) refl; spare = rw (c.leaf.ensures, c.array.ensures) refl }

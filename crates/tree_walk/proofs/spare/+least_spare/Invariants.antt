@@ -1,6 +1,4 @@
-use Rattle.std.proofs.Common.{◌-◌}
-use Rattle.tree_node.proofs.Common.{ContainsKey, leaves_at}
-use Rattle.tree_node.specs.Shape.{leaf_spare, least}
+use Rattle.tree_walk.proofs.Common.{◌-◌, ContainsKey, leaf_spare, least, leaves_at}
 use Rattle.tree_walk.proofs.LeastFree.{IsLeft}
 use Rattle.tree_walk.proofs.Under.{StandsBelow}
 use Rattle.tree_walk.proofs.spare.+least_spare.Given as goal

@@ -1,10 +1,4 @@
-use Rattle.std.proofs.Common.{rules, refl, arith, w8}
-use Rattle.tree_array.proofs.Common.{len_small}
-use Rattle.tree_node.proofs.Common.{ContainsKey}
-use Rattle.std.proofs.Math.Facts.{Fits-of_lt}
-use Rattle.tree_node.proofs.ChildrenStand.{no_leaves, stands_unless}
-use Rattle.tree_node.proofs.Levels.{node_at}
-use Rattle.tree_node.proofs.Whole.{spare_standing}
+use Rattle.tree_walk.proofs.Common.{rules, refl, arith, w8, ContainsKey, Fits-of_lt, len_small, no_leaves, node_at, stands_unless, spare_standing}
 use Rattle.tree_walk.proofs.spare.spare_at.Goals as goal
 
 pub node-node-requires : goal.node-node-requires

@@ -1,12 +1,6 @@
-use Rattle.std.proofs.Common.{rules, ◌∙◌, arith, w8, sym}
-use Rattle.tree_array.proofs.Common.{len_small}
-use Rattle.tree_node.proofs.Common.{fits}
-use Rattle.std.proofs.Math.Facts.{Fits-of_lt}
+use Rattle.tree_walk.proofs.Common.{◌∙◌, arith, w8, sym, Fits-of_lt, len_small}
 use Rattle.tree_walk.proofs.LeastFree.{spare_large, spare_small}
 use Rattle.tree_walk.proofs.spare.spare_in.Goals as goal
-
-pub array_of-array-requires : goal.array_of-array-requires
-array_of-array-requires g c = search (rules, fits)
 
 pub overflow_cast-result : goal.overflow_cast-result
 overflow_cast-result g c = Fits-of_lt {w = w8} (omega (arith, len_small _ c.slots_left_in-left.ensures.sound.is_len))

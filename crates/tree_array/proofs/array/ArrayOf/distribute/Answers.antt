@@ -1,68 +1,49 @@
-use Rattle.std.proofs.Common.{◌≡◌, ◌-◌, ◌≤◌, List, take, drop, ◌∙◌, ap, rules, arith, length-drop, take_all}
-use Rattle.tree_array.proofs.Common.{Arrivals, in_order}
-use Rattle.tree_array.proofs.Emptied.{emptied_none}
-use Rattle.tree_array.proofs.Kept.{count_seen}
-use Rattle.tree_array.proofs.Marked.{fields}
-use Rattle.tree_array.proofs.Moved.{clamped_within, cut_same, emptied_seen, emptied_tabled, none_left}
+use Rattle.std.proofs.Common.{◌≡◌, ◌-◌, ◌≤◌, drop, refl, ◌∙◌, ap, rules, arith, length-drop, take_all}
+use Rattle.tree_array.proofs.Common.{in_order}
+use Rattle.tree_array.proofs.Emptied.{emptied_all}
+use Rattle.tree_array.proofs.Kept.{count_seen, entries_seen, fields}
+use Rattle.tree_array.proofs.Moved.{clamped_within, cut_same, emptied_fields}
+use Rattle.tree_cells.proofs.Moves.{none_left}
 use Rattle.tree_array.proofs.array.ArrayOf.distribute.Goals as goal
 
 pub move_places-requires : goal.move_places-requires
 move_places-requires g c =
-    let o = g.met.K.Ord.total in
-    let a = fields c.self.inside.cells c.counts-count.result c.counts-count.ensures.entries c.counts-count.ensures.arrivals c.self.invariant c.self.view_is in
+    let a = fields refl c.counts-count.ensures.entries refl c.self.invariant c.self.view_is in
     let within : c.clamp-cut.result ≤ c.counts-count.result.entries = rw c.clamp-cut.ensures (clamped_within c.counts-count.result.entries c.args.boundary) in
-    (search rules, (search rules, (omega arith, ((c.self.inside.cells.pairs, c.counts-count.result.arrivals, c.counts-count.result.entries, a.it, within, emptied_none _ _ _), c.requires.low))))
+    (search rules, (search rules, (omega arith, ((c.self.inside.cells.pairs, c.self.inside.cells.counts.arrivals, c.counts-count.result.entries, a.it.table, within, none_left _ _ _), c.requires.low))))
 
 pub move_places-requires-2 : goal.move_places-requires-2
 move_places-requires-2 g c =
-    let o = g.met.K.Ord.total in
-    let a = fields c.self.inside.cells c.counts-count.result c.counts-count.ensures.entries c.counts-count.ensures.arrivals c.self.invariant c.self.view_is in
+    let a = fields refl c.counts-count.ensures.entries refl c.self.invariant c.self.view_is in
     let within : c.clamp-cut.result ≤ c.counts-count.result.entries = rw c.clamp-cut.ensures (clamped_within c.counts-count.result.entries c.args.boundary) in
-    let first = c.move_places.ensures.moved c.self.inside.cells.pairs c.counts-count.result.arrivals c.counts-count.result.entries a.it within (emptied_none _ _ _) in
-    (search rules, (search rules, (within, ((c.self.inside.cells.pairs, c.counts-count.result.arrivals, c.counts-count.result.entries, a.it, omega arith, first.0), c.requires.high))))
+    let first = c.move_places.ensures.moved c.self.inside.cells.pairs c.self.inside.cells.counts.arrivals c.counts-count.result.entries a.it.table within (none_left _ _ _) in
+    (search rules, (search rules, (within, ((c.self.inside.cells.pairs, c.self.inside.cells.counts.arrivals, c.counts-count.result.entries, a.it.table, omega arith, first.0), c.requires.high))))
 
 pub invariant_of-self : goal.invariant_of-self
 invariant_of-self g c =
-    let o = g.met.K.Ord.total in
-    let a = fields c.self.inside.cells c.counts-count.result c.counts-count.ensures.entries c.counts-count.ensures.arrivals c.self.invariant c.self.view_is in
+    let a = fields refl c.counts-count.ensures.entries refl c.self.invariant c.self.view_is in
     let within : c.clamp-cut.result ≤ c.counts-count.result.entries = rw c.clamp-cut.ensures (clamped_within c.counts-count.result.entries c.args.boundary) in
-    let first = c.move_places.ensures.moved c.self.inside.cells.pairs c.counts-count.result.arrivals c.counts-count.result.entries a.it within (emptied_none _ _ _) in
-    let second = c.move_places-2.ensures.moved c.self.inside.cells.pairs c.counts-count.result.arrivals c.counts-count.result.entries a.it (omega arith) first.0 in
+    let first = c.move_places.ensures.moved c.self.inside.cells.pairs c.self.inside.cells.counts.arrivals c.counts-count.result.entries a.it.table within (none_left _ _ _) in
+    let second = c.move_places-2.ensures.moved c.self.inside.cells.pairs c.self.inside.cells.counts.arrivals c.counts-count.result.entries a.it.table (omega arith) first.0 in
     let kept = c.set_entries.ensures in
-    let whole = c.move_places-2.ensures.whole ∙ c.move_places.ensures.whole ∙ a.it.whole in
-    rw (kept.pairs, kept.entries, kept.arrivals, c.move_places-2.ensures.counts, c.move_places.ensures.counts, ← c.counts-count.ensures.arrivals) (emptied_tabled o a.it c.move_places-2.new.cells.pairs (none_left o a.it second.0) _ whole)
+    let whole = c.move_places-2.ensures.whole ∙ c.move_places.ensures.whole ∙ a.it.table.whole in
+    rw (kept.pairs, kept.entries, kept.arrivals, c.move_places-2.ensures.counts, c.move_places.ensures.counts) (emptied_fields a c.move_places-2.new.cells.pairs (emptied_all g.met.K.Ord.total a.it.table second.0 refl) whole).it
 
-pub returns-clause-low : goal.returns-clause-low
-returns-clause-low g c =
-    let o = g.met.K.Ord.total in
-    let a = fields c.self.inside.cells c.counts-count.result c.counts-count.ensures.entries c.counts-count.ensures.arrivals c.self.invariant c.self.view_is in
-    let within : c.clamp-cut.result ≤ c.counts-count.result.entries = rw c.clamp-cut.ensures (clamped_within c.counts-count.result.entries c.args.boundary) in
-    let first = c.move_places.ensures.moved c.self.inside.cells.pairs c.counts-count.result.arrivals c.counts-count.result.entries a.it within (emptied_none _ _ _) in
-    let entries = ap (λ (a : Arrivals _ _). a.entries) a.view in
-    let few = count_seen o a.it _ a.view in
-    let same : take c.clamp-cut.result c.args.self.now.entries ≡ take c.args.boundary c.args.self.now.entries = rw c.clamp-cut.ensures (cut_same c.args.self.now.entries c.counts-count.result.entries c.args.boundary few).0 in
-    let all : c.clamp-cut.result - 0 ≡ c.clamp-cut.result = omega arith in
-    first.1 ∙ ap (λ (pairs : List _). in_order (take (c.clamp-cut.result - 0) pairs)) entries ∙ rw all (ap in_order same)
-
-pub returns-clause-high : goal.returns-clause-high
-returns-clause-high g c =
-    let o = g.met.K.Ord.total in
-    let a = fields c.self.inside.cells c.counts-count.result c.counts-count.ensures.entries c.counts-count.ensures.arrivals c.self.invariant c.self.view_is in
-    let within : c.clamp-cut.result ≤ c.counts-count.result.entries = rw c.clamp-cut.ensures (clamped_within c.counts-count.result.entries c.args.boundary) in
-    let first = c.move_places.ensures.moved c.self.inside.cells.pairs c.counts-count.result.arrivals c.counts-count.result.entries a.it within (emptied_none _ _ _) in
-    let second = c.move_places-2.ensures.moved c.self.inside.cells.pairs c.counts-count.result.arrivals c.counts-count.result.entries a.it (omega arith) first.0 in
-    let entries = ap (λ (a : Arrivals _ _). a.entries) a.view in
-    let few = count_seen o a.it _ a.view in
-    let same : drop c.clamp-cut.result c.args.self.now.entries ≡ drop c.args.boundary c.args.self.now.entries = rw c.clamp-cut.ensures (cut_same c.args.self.now.entries c.counts-count.result.entries c.args.boundary few).1 in
-    let rest = take_all (c.counts-count.result.entries - c.clamp-cut.result) (drop c.clamp-cut.result c.args.self.now.entries) (omega (arith, length-drop c.clamp-cut.result c.args.self.now.entries, few)) in
-    second.1 ∙ ap (λ (pairs : List _). in_order (take (c.counts-count.result.entries - c.clamp-cut.result) (drop c.clamp-cut.result pairs))) entries ∙ ap in_order (rest ∙ same)
-
-pub returns-clause-left : goal.returns-clause-left
-returns-clause-left g c =
-    let o = g.met.K.Ord.total in
-    let a = fields c.self.inside.cells c.counts-count.result c.counts-count.ensures.entries c.counts-count.ensures.arrivals c.self.invariant c.self.view_is in
-    let within : c.clamp-cut.result ≤ c.counts-count.result.entries = rw c.clamp-cut.ensures (clamped_within c.counts-count.result.entries c.args.boundary) in
-    let first = c.move_places.ensures.moved c.self.inside.cells.pairs c.counts-count.result.arrivals c.counts-count.result.entries a.it within (emptied_none _ _ _) in
-    let second = c.move_places-2.ensures.moved c.self.inside.cells.pairs c.counts-count.result.arrivals c.counts-count.result.entries a.it (omega arith) first.0 in
+pub returns : goal.returns
+returns g c =
+    let a = fields refl c.counts-count.ensures.entries refl c.self.invariant c.self.view_is in
+    let cut = c.clamp-cut.result in
+    let count = c.counts-count.result.entries in
+    let within : cut ≤ count = rw c.clamp-cut.ensures (clamped_within count c.args.boundary) in
+    let first = c.move_places.ensures.moved c.self.inside.cells.pairs c.self.inside.cells.counts.arrivals count a.it.table within (none_left _ _ _) in
+    let second = c.move_places-2.ensures.moved c.self.inside.cells.pairs c.self.inside.cells.counts.arrivals count a.it.table (omega arith) first.0 in
     let kept = c.set_entries.ensures in
-    rw (kept.pairs, kept.arrivals, c.move_places-2.ensures.counts, c.move_places.ensures.counts, ← c.counts-count.ensures.arrivals) (emptied_seen o a.it c.move_places-2.new.cells.pairs (none_left o a.it second.0) _ c.args.self.now a.view)
+    let whole = c.move_places-2.ensures.whole ∙ c.move_places.ensures.whole ∙ a.it.table.whole in
+    let few = count_seen a in
+    let same = rw (← c.clamp-cut.ensures) at (cut_same c.args.self.now.entries count c.args.boundary few) in
+    let all : cut - 0 ≡ cut = omega arith in
+    record {
+      low = rw (all, ← entries_seen a) at first.1 ∙ ap in_order same.0;
+      high = rw (← entries_seen a) at second.1 ∙ ap in_order (take_all (count - cut) (drop cut c.args.self.now.entries) (omega (arith, length-drop cut c.args.self.now.entries, few)) ∙ same.1);
+      left = rw (kept.pairs, kept.entries, kept.arrivals, c.move_places-2.ensures.counts, c.move_places.ensures.counts) (emptied_fields a c.move_places-2.new.cells.pairs (emptied_all g.met.K.Ord.total a.it.table second.0 refl) whole).view;
+    }

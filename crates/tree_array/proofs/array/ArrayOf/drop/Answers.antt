@@ -1,16 +1,24 @@
-use Rattle.tree_array.proofs.Emptied.{emptied_none, emptied_stands, emptied_more, emptied_all}
-use Rattle.tree_array.proofs.Marked.{tabled}
+use Rattle.std.proofs.Common.{refl, arith}
+use Rattle.tree_array.proofs.Emptied.{emptied_all, emptied_more, left_stands}
+use Rattle.tree_array.proofs.Kept.{fields}
+use Rattle.tree_cells.proofs.Moves.{none_left}
 use Rattle.tree_cells.proofs.Sizes.{steps}
 use Rattle.tree_array.proofs.array.ArrayOf.drop.Goals as goal
 
 pub loop-place-init : goal.loop-place-init
-loop-place-init g c = emptied_none _ _ _
+loop-place-init g c = none_left _ _ _
 
 pub take-requires : goal.take-requires
-take-requires g c = (search steps, rw c.slot_at.ensures (emptied_stands g.met.K.Ord.total (tabled c.self.inside.cells c.counts-count.result c.counts-count.ensures.entries c.counts-count.ensures.arrivals c.self.invariant) c.loop-place.invariant c.loop-place-test.true))
+take-requires g c =
+    let a = fields refl c.counts-count.ensures.entries refl c.self.invariant c.self.view_is in
+    (search steps, rw c.slot_at.ensures (left_stands g.met.K.Ord.total a.it.table c.loop-place.invariant c.loop-place.place (omega arith) c.loop-place-test.true))
 
 pub loop-place-preserved : goal.loop-place-preserved
-loop-place-preserved g c = rw (c.take.ensures.spent, c.slot_at.ensures) (emptied_more g.met.K.Ord.total (tabled c.self.inside.cells c.counts-count.result c.counts-count.ensures.entries c.counts-count.ensures.arrivals c.self.invariant) c.loop-place.invariant c.loop-place-test.true)
+loop-place-preserved g c =
+    let a = fields refl c.counts-count.ensures.entries refl c.self.invariant c.self.view_is in
+    rw (c.take.ensures.spent, c.slot_at.ensures) (emptied_more g.met.K.Ord.total a.it.table c.loop-place.invariant c.loop-place-test.true)
 
 pub discard-requires : goal.discard-requires
-discard-requires g c = (search steps, emptied_all g.met.K.Ord.total (tabled c.self.inside.cells c.counts-count.result c.counts-count.ensures.entries c.counts-count.ensures.arrivals c.self.invariant) c.loop-place.invariant c.loop-place-test.false)
+discard-requires g c =
+    let a = fields refl c.counts-count.ensures.entries refl c.self.invariant c.self.view_is in
+    (search steps, emptied_all g.met.K.Ord.total a.it.table c.loop-place.invariant (omega (arith, c.loop-place-test.false, c.loop-place.auto.place-end)))

@@ -1,5 +1,5 @@
-use Rattle.tree_array.specs.Moves.{HasEmptied}
+use Rattle.tree_cells.specs.Moves.{HasLeft}
 use Rattle.tree_array.proofs.array.ArrayOf.drop.Given as goal
 
 abbrev pub invariant-loop-place : goal.invariant-loop-place
-invariant-loop-place g l = HasEmptied l.initial.cells.pairs l.cells.pairs l.order l.count l.place
+invariant-loop-place g l = HasLeft l.initial.cells.pairs l.cells.pairs l.order 0 l.place

@@ -1,9 +1,9 @@
-use Rattle.std.proofs.Common.{◌∙◌, rules}
-use Rattle.tree_array.proofs.Seen.{arrival_seen, reachable_seen}
+use Rattle.std.proofs.Common.{refl, ◌∙◌, rules}
+use Rattle.tree_array.proofs.Kept.{arrival_seen, fields, reachable_seen}
 use Rattle.tree_array.proofs.array.ArrayOf.key.Goals as goal
 
 pub key-requires : goal.key-requires
-key-requires g c = (search rules, reachable_seen _ _ _ _ c.self.view_is c.self.invariant c.args.slot c.requires)
+key-requires g c = (search rules, reachable_seen (fields refl refl refl c.self.invariant c.self.view_is) c.args.slot c.requires)
 
 pub returns : goal.returns
-returns g c = (c.key.ensures.0, arrival_seen _ _ _ _ c.self.view_is c.self.invariant c.args.slot ∙ c.key.ensures.1)
+returns g c = (c.key.ensures.0, arrival_seen (fields refl refl refl c.self.invariant c.self.view_is) c.args.slot ∙ c.key.ensures.1)

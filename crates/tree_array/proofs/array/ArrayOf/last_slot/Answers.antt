@@ -1,20 +1,15 @@
-use Rattle.std.proofs.Common.{◌<◌, ◌∙◌, ap, arith}
-use Rattle.tree_model.proofs.Common.{nil_from_length}
-use Rattle.tree_array.proofs.Common.{arrival}
-use Rattle.tree_array.proofs.Kept.{count_seen, last_place}
-use Rattle.tree_array.proofs.Seen.{arrival_seen, entries_seen}
-use Rattle.tree_array.proofs.Marked.{fields}
+use Rattle.std.proofs.Common.{◌+◌, ◌-◌, take, refl, ◌∙◌, arith}
+use Rattle.tree_model.proofs.Common.{drop_all, nil_from_length}
+use Rattle.tree_cells.proofs.Sides.{split_at}
+use Rattle.tree_array.proofs.Kept.{count_seen, fields, place_seen}
 use Rattle.tree_array.proofs.array.ArrayOf.last_slot.Goals as goal
 
-pub returns-then-count-eq0 : goal.returns-then-count-eq0
-returns-then-count-eq0 g c =
-    let a = fields c.self.inside.cells c.counts-count.result c.counts-count.ensures.entries c.counts-count.ensures.arrivals c.self.invariant c.self.view_is in
-    nil_from_length _ (count_seen g.met.K.Ord.total a.it _ a.view ∙ c.if-count-eq0.true)
+pub returns-then-order-eq0 : goal.returns-then-order-eq0
+returns-then-order-eq0 g c = nil_from_length _ (count_seen (fields c.order_of-order.ensures.word c.order_of-order.ensures.count refl c.self.invariant c.self.view_is) ∙ c.if-order-eq0.true)
 
 pub returns : goal.returns
 returns g c =
-    let a = fields c.self.inside.cells c.counts-count.result c.counts-count.ensures.entries c.counts-count.ensures.arrivals c.self.invariant c.self.view_is in
-    let it = a.it in
-    let some : 0 < c.counts-count.result.entries = omega (arith, c.if-count-eq0.false) in
-    let last = last_place g.met.K.Ord.total it some in
-    (last.0, arrival_seen _ _ _ _ a.view it c.last_slot.result ∙ ap (arrival c.self.inside.cells.pairs) c.last_slot.ensures ∙ last.1, last.2, entries_seen g.K.Ord.cmp c.self.inside.cells.pairs c.counts-count.result.arrivals _ a.view ∙ last.3)
+    let a = fields c.order_of-order.ensures.word c.order_of-order.ensures.count refl c.self.invariant c.self.view_is in
+    let last = c.order_of-order.result.count - 1 in
+    let s = place_seen a last _ c.last.ensures in
+    (s.0, s.1, take last c.args.self.now.entries, split_at c.args.self.now.entries last s.0 s.2 ∙ rw (drop_all (last + 1) c.args.self.now.entries (omega (arith, count_seen a, c.if-order-eq0.false))) refl)

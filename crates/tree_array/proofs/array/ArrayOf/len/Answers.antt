@@ -1,9 +1,6 @@
-use Rattle.std.proofs.Common.{sym}
-use Rattle.tree_array.proofs.Kept.{count_is}
-use Rattle.tree_array.proofs.Marked.{fields}
+use Rattle.std.proofs.Common.{refl, sym}
+use Rattle.tree_array.proofs.Kept.{count_seen, fields}
 use Rattle.tree_array.proofs.array.ArrayOf.len.Goals as goal
 
 pub returns : goal.returns
-returns g c =
-    let a = fields c.self.inside.cells c.counts.result c.counts.ensures.entries c.counts.ensures.arrivals c.self.invariant c.self.view_is in
-    rw (← a.view) (sym (count_is g.met.K.Ord.total a.it))
+returns g c = sym (count_seen (fields refl c.counts.ensures.entries refl c.self.invariant c.self.view_is))

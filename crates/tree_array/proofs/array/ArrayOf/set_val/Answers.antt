@@ -1,24 +1,18 @@
-use Rattle.std.proofs.Common.{◌∙◌, ap, rules}
-use Rattle.tree_array.proofs.Common.{Arrivals}
-use Rattle.tree_array.specs.Arrivals.{with_val}
-use Rattle.tree_array.proofs.Seen.{arrival_seen, reachable_seen}
-use Rattle.tree_cells.proofs.Tabled.{valued_tabled}
-use Rattle.tree_array.proofs.Valued.{valued_seen}
+use Rattle.std.proofs.Common.{refl, ◌∙◌, rules}
+use Rattle.tree_array.proofs.Kept.{arrival_seen, fields, reachable_seen}
+use Rattle.tree_array.proofs.Valued.{valued}
 use Rattle.tree_array.proofs.array.ArrayOf.set_val.Goals as goal
 
 pub replace-requires : goal.replace-requires
-replace-requires g c = (search rules, reachable_seen _ _ _ _ c.self.view_is c.self.invariant c.args.slot c.requires)
+replace-requires g c = (search rules, reachable_seen (fields refl refl refl c.self.invariant c.self.view_is) c.args.slot c.requires)
 
 pub invariant_of-self : goal.invariant_of-self
 invariant_of-self g c =
     let replaced = c.replace.ensures in
-    rw (replaced.pairs.2, replaced.counts) (valued_tabled g.met.K.Ord.total c.self.invariant c.args.slot replaced.pairs.0 _ c.args.val replaced.pairs.1)
+    rw (replaced.pairs.2, replaced.counts) (valued g.met.K.Ord.total c.self.invariant c.self.view_is c.args.slot replaced.pairs.0 _ c.args.val replaced.pairs.1).it
 
 pub returns : goal.returns
 returns g c =
-    let replaced = c.replace.ensures in (
-      replaced.pairs.0,
-      arrival_seen _ _ _ _ c.self.view_is c.self.invariant c.args.slot ∙ replaced.pairs.1,
-      rw (replaced.pairs.2, replaced.counts) (valued_seen g.met.K.Ord.total c.self.invariant c.args.slot replaced.pairs.0 _ c.args.val replaced.pairs.1 _)
-          ∙ ap (λ (array : Arrivals _ _). with_val g.K.Ord.cmp array c.args.slot replaced.pairs.0 c.args.val) c.self.view_is,
-    )
+    let replaced = c.replace.ensures in
+    let there = arrival_seen (fields refl refl refl c.self.invariant c.self.view_is) c.args.slot ∙ replaced.pairs.1 in
+    (replaced.pairs.0, there, rw (replaced.pairs.2, replaced.counts) (valued g.met.K.Ord.total c.self.invariant c.self.view_is c.args.slot replaced.pairs.0 _ c.args.val replaced.pairs.1).view)

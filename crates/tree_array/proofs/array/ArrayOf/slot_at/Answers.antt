@@ -1,21 +1,12 @@
-use Rattle.std.proofs.Common.{◌∙◌, ap, arith}
-use Rattle.tree_array.proofs.Common.{arrival}
+use Rattle.std.proofs.Common.{refl, arith}
 use Rattle.std.proofs.lemmas.Option.{slice_get_past}
-use Rattle.tree_array.proofs.Kept.{count_seen, entry_seen}
-use Rattle.tree_array.proofs.Seen.{arrival_seen}
-use Rattle.tree_array.proofs.Marked.{fields}
+use Rattle.tree_array.proofs.Kept.{count_seen, fields, place_seen}
 use Rattle.tree_array.proofs.array.ArrayOf.slot_at.Goals as goal
 
-pub returns-then-place-counts : goal.returns-then-place-counts
-returns-then-place-counts g c =
-    let a = fields c.self.inside.cells c.counts.result c.counts.ensures.entries c.counts.ensures.arrivals c.self.invariant c.self.view_is in
-    let o = g.met.K.Ord.total in
-    let it = a.it in
-    let s = it.in_order.stands c.args.place c.if-place-counts.true in
-    (s.0, arrival_seen _ _ _ _ a.view it c.slot_at.result ∙ ap (arrival c.self.inside.cells.pairs) c.slot_at.ensures ∙ s.1, entry_seen o it _ a.view c.args.place s.0 c.if-place-counts.true s.1)
+pub returns-then-place-order : goal.returns-then-place-order
+returns-then-place-order g c = place_seen (fields c.order_of-order.ensures.word c.order_of-order.ensures.count refl c.self.invariant c.self.view_is) c.args.place _ c.slot_at.ensures
 
-pub returns-else-place-counts : goal.returns-else-place-counts
-returns-else-place-counts g c =
-    let a = fields c.self.inside.cells c.counts.result c.counts.ensures.entries c.counts.ensures.arrivals c.self.invariant c.self.view_is in
-    let few = count_seen g.met.K.Ord.total a.it _ a.view in
-    slice_get_past c.args.self.now.entries c.args.place (omega (arith, few, c.if-place-counts.false))
+pub returns-else-place-order : goal.returns-else-place-order
+returns-else-place-order g c =
+    let a = fields c.order_of-order.ensures.word c.order_of-order.ensures.count refl c.self.invariant c.self.view_is in
+    slice_get_past c.args.self.now.entries c.args.place (omega (arith, count_seen a, c.if-place-order.false))

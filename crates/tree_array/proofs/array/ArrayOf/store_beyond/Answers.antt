@@ -1,78 +1,57 @@
-use Rattle.std.proofs.Common.{IsSome, refl, sym, ◌∙◌, ap, subst, rules, arith}
+use Rattle.std.proofs.Common.{refl, rules, arith}
 use Rattle.tree_model.proofs.Common.{nat_tests}
-use Rattle.tree_array.proofs.Common.{Arrivals, arrival, stored, IsSound, len_small, ordinals_of}
+use Rattle.tree_array.proofs.Common.{len_small}
 use Rattle.std.proofs.lemmas.Bool.{true_from_ne_false}
-use Rattle.tree_array.proofs.Emptied.{spent_still}
-use Rattle.tree_cells.proofs.Found.{found_at, before_none}
-use Rattle.tree_array.proofs.Kept.{sound, stored_few}
-use Rattle.tree_array.proofs.Seen.{retired_seen}
-use Rattle.tree_array.proofs.Stored.{made_early, moved_seen, parts_before, parts_entries, room_from_not_full}
-use Rattle.tree_cells.proofs.Tabled.{moved_tabled}
-use Rattle.tree_order.specs.Order.{is_retired}
-use Rattle.tree_order.proofs.Live.{filled_live}
-use Rattle.tree_array.proofs.Marked.{fields, marked}
+use Rattle.tree_cells.proofs.Tabled.{length-held, spent, stands_some}
+use Rattle.tree_array.proofs.Kept.{entries_seen, fields, found_seen, is_stored, kept, made_seen, none_seen}
+use Rattle.tree_array.proofs.Stored.{moved_fields, parts_before, room_from_not_full}
+use Rattle.tree_order.proofs.Words.{length-names, named_at}
 use Rattle.tree_array.proofs.array.ArrayOf.store_beyond.Goals as goal
 
 -- ---- a place has the key
-pub renamed-order-requires-clause-slot : goal.renamed-order-requires-clause-slot
-renamed-order-requires-clause-slot g c =
-    let a = fields c.self.inside.cells c.counts-entries.result c.counts-entries.ensures.entries c.counts-entries.ensures.arrivals c.self.invariant c.self.view_is in
-    omega (arith, a.it.few_made, len_small g.row.LEN a.it.is_len)
+pub rename-order-requires : goal.rename-order-requires
+rename-order-requires g c =
+    let a = fields c.order_of-order.ensures.word c.order_of-order.ensures.count c.counts-arrivals.ensures.arrivals c.self.invariant c.self.view_is in
+    (search rules, ((named_at c.order_of-order.result.word c.order_of-order.result.count c.in-At.place c.in-At.slot c.in-At.ensures.1).0, omega (arith, a.it.table.few_made, len_small g.row.LEN a.it.table.is_len)))
 
 pub take-requires : goal.take-requires
-take-requires g c =
-    let a = fields c.self.inside.cells c.counts-entries.result c.counts-entries.ensures.entries c.counts-entries.ensures.arrivals c.self.invariant c.self.view_is in
-    let place = c.in-At.ensures in
-    (search rules, subst IsSome (sym (ap (arrival c.self.inside.cells.pairs) (sym place.1) ∙ place.0.there)) refl)
+take-requires g c = (search rules, stands_some (fields c.order_of-order.ensures.word c.order_of-order.ensures.count refl c.self.invariant c.self.view_is).it.table.in_order _ _ c.in-At.ensures.1)
 
 pub put-requires : goal.put-requires
 put-requires g c =
-    let a = fields c.self.inside.cells c.counts-entries.result c.counts-entries.ensures.entries c.counts-entries.ensures.arrivals c.self.invariant c.self.view_is in
-    let it = a.it in
+    let a = fields c.order_of-order.ensures.word c.order_of-order.ensures.count c.counts-arrivals.ensures.arrivals c.self.invariant c.self.view_is in
     let room = room_from_not_full g.row.LEN c.args.self.now c.if-is_full.ensures.1 in
-    let early = made_early g.K.Ord.cmp c.self.inside.cells.pairs g.row.LEN c.counts-entries.result.arrivals (is_retired c.self.inside.order) c.args.self.now a.view (omega (arith, room.0)) in
-    (search rules, (early, rw c.take.ensures.spent (spent_still c.self.inside.cells.pairs c.in-At.slot c.counts-entries.result.arrivals (it.unmade c.counts-entries.result.arrivals (omega arith)))))
+    let place = c.in-At.ensures in
+    (search rules, (omega (arith, room.0, made_seen a), rw c.take.ensures.spent ((spent g.met.K.Ord.total a.it.table place.1 place.0).0.unmade _ (omega arith))))
 
 pub invariant_of-self : goal.invariant_of-self
 invariant_of-self g c =
-    let a = fields c.self.inside.cells c.counts-entries.result c.counts-entries.ensures.entries c.counts-entries.ensures.arrivals c.self.invariant c.self.view_is in
-    let it = a.it in
-    let place = c.in-At.ensures in
+    let a = fields c.order_of-order.ensures.word c.order_of-order.ensures.count c.counts-arrivals.ensures.arrivals c.self.invariant c.self.view_is in
     let room = room_from_not_full g.row.LEN c.args.self.now c.if-is_full.ensures.1 in
-    let early = made_early g.K.Ord.cmp c.self.inside.cells.pairs g.row.LEN c.counts-entries.result.arrivals (is_retired c.self.inside.order) c.args.self.now a.view (omega (arith, room.0)) in
-    let named = c.renamed-order.ensures in
-    rw (c.put.ensures.pairs, c.put.ensures.counts, c.take.ensures.spent, ← place.1) (moved_tabled g.met.K.Ord.total it early (c.args.key, c.args.val) c.in-At.place place.0 _ named.filled named.here named.others)
+    let place = c.in-At.ensures in
+    let renamed = c.rename-order.ensures in
+    rw (c.put.ensures.pairs, c.put.ensures.counts, c.take.ensures.spent) (moved_fields g.met.K.Ord.total a (omega (arith, room.0, made_seen a)) c.args.key c.args.val room.1 place.1 place.0 renamed.count renamed.names c.rename-order.result.whole).it
 
 pub returns-else-is_full : goal.returns-else-is_full
 returns-else-is_full g c =
-    let a = fields c.self.inside.cells c.counts-entries.result c.counts-entries.ensures.entries c.counts-entries.ensures.arrivals c.self.invariant c.self.view_is in
+    let a = fields c.order_of-order.ensures.word c.order_of-order.ensures.count c.counts-arrivals.ensures.arrivals c.self.invariant c.self.view_is in
     let o = g.met.K.Ord.total in
-    let it = a.it in
-    let place = c.in-At.ensures in
     let room = room_from_not_full g.row.LEN c.args.self.now c.if-is_full.ensures.1 in
-    let early = made_early g.K.Ord.cmp c.self.inside.cells.pairs g.row.LEN c.counts-entries.result.arrivals (is_retired c.self.inside.order) c.args.self.now a.view (omega (arith, room.0)) in
-    let live = sym (retired_seen g.K.Ord.cmp c.self.inside.cells.pairs c.counts-entries.result.arrivals (is_retired c.self.inside.order) a.view) ∙ room.1 in
-    let new_is =
-    rw (c.put.ensures.pairs, c.put.ensures.counts, filled_live it.is_len c.renamed-order.ensures.filled, ← live, c.take.ensures.spent, ← place.1) (moved_seen o it early c.args.key c.args.val _ c.in-At.place place.0)
-    ∙ ap (λ (array : Arrivals _ _). stored g.K.Ord.cmp array c.args.key c.args.val) a.view in (
-      record {
-        new_is = new_is;
-        room = room;
-        absent = λ h. grind (arith, nat_tests, c.if-not-this.false);
-        few = stored_few g.K.Ord.cmp g.row.LEN _ c.args.key c.args.val _ new_is room (subst (IsSound g.K.Ord.cmp g.row.LEN) a.view (sound o it _ (marked a.it))).entries_few;
-      },
+    let place = c.in-At.ensures in
+    let renamed = c.rename-order.ensures in
+    let new_is = moved_fields o a (omega (arith, room.0, made_seen a)) c.args.key c.args.val room.1 place.1 place.0 renamed.count renamed.names c.rename-order.result.whole in (
+      is_stored (kept a o) room (λ h. grind (arith, nat_tests, c.if-not-this.false)) (rw (c.put.ensures.pairs, c.put.ensures.counts, c.take.ensures.spent) new_is.view),
       true_from_ne_false _ (λ h. grind (arith, nat_tests, c.if-not-this.false)),
-      rw (← a.view, found_at o (ordinals_of o it) c.args.key _ _ place.0.there place.0.same) refl,
+      rw (found_seen a o place.0) refl,
     )
 
 pub returns-then-not-this : goal.returns-then-not-this
 returns-then-not-this g c =
-    let a = fields c.self.inside.cells c.counts-entries.result c.counts-entries.ensures.entries c.counts-entries.ensures.arrivals c.self.invariant c.self.view_is in
-    let place = c.in-At.ensures in
+    let a = fields c.order_of-order.ensures.word c.order_of-order.ensures.count refl c.self.invariant c.self.view_is in
     record {
       back = record { new_is = refl; same_key = refl; same_val = refl };
       only_insert = rw c.if-not-this.true refl;
-      present = rw (← a.view, found_at g.met.K.Ord.total (ordinals_of g.met.K.Ord.total a.it) c.args.key _ _ place.0.there place.0.same) refl;
+      present = rw (found_seen a g.met.K.Ord.total c.in-At.ensures.0) refl;
     }
 
 pub returns-then-is_full : goal.returns-then-is_full
@@ -85,32 +64,23 @@ returns-then-is_full g c = record {
 -- ---- no place has the key
 pub returns-then-is_full-2 : goal.returns-then-is_full-2
 returns-then-is_full-2 g c =
-    let a = fields c.self.inside.cells c.counts-entries.result c.counts-entries.ensures.entries c.counts-entries.ensures.arrivals c.self.invariant c.self.view_is in
+    let a = fields c.order_of-order.ensures.word c.order_of-order.ensures.count refl c.self.invariant c.self.view_is in
     record {
       back = record { new_is = refl; same_key = refl; same_val = refl };
       full = c.if-is_full-2.ensures.0 refl;
-      absent = λ h. rw (← a.view) (before_none g.met.K.Ord.total a.it _ _ _ c.in-Before.ensures);
+      absent = λ h. none_seen a g.met.K.Ord.total _ _ _ c.in-Before.ensures;
     }
 
 pub let_in-requires : goal.let_in-requires
 let_in-requires g c =
-    let a = fields c.self.inside.cells c.counts-entries.result c.counts-entries.ensures.entries c.counts-entries.ensures.arrivals c.self.invariant c.self.view_is in
-    let o = g.met.K.Ord.total in
-    let it = a.it in
+    let a = fields c.order_of-order.ensures.word c.order_of-order.ensures.count refl c.self.invariant c.self.view_is in
     let room = room_from_not_full g.row.LEN c.args.self.now c.if-is_full-2.ensures.1 in
-    (search rules, (omega (arith, room.0), (room.1, rw (c.clamp.ensures, c.counts-entries-else-is_full-2.ensures.entries, ← c.counts-entries.ensures.entries, ← a.view) (parts_entries o it c.args.key _ (parts_before o it c.args.key _ _ c.in-Before.ensures)))))
+    let names = length-names c.order_of-order.result.word c.order_of-order.result.count in
+    (search rules, (omega (arith, room.0), (room.1, rw (c.clamp.ensures, c.counts-entries.ensures.entries, ← c.order_of-order.ensures.count, entries_seen a) (parts_before _ c.args.key _ _ _ _ (omega (arith, length-held a.it.table.in_order, names)) names c.in-Before.ensures))))
 
 pub returns-else-is_full-2 : goal.returns-else-is_full-2
 returns-else-is_full-2 g c =
-    let a = fields c.self.inside.cells c.counts-entries.result c.counts-entries.ensures.entries c.counts-entries.ensures.arrivals c.self.invariant c.self.view_is in
-    let o = g.met.K.Ord.total in
-    let it = a.it in
-    let room = room_from_not_full g.row.LEN c.args.self.now c.if-is_full-2.ensures.1 in (
-      record {
-        new_is = c.let_in.ensures;
-        room = room;
-        absent = λ h. rw (← a.view) (before_none o it _ _ _ c.in-Before.ensures);
-        few = stored_few g.K.Ord.cmp g.row.LEN _ c.args.key c.args.val _ c.let_in.ensures room (subst (IsSound g.K.Ord.cmp g.row.LEN) a.view (sound o it _ (marked a.it))).entries_few;
-      },
-      rw (← a.view) (before_none o it _ _ _ c.in-Before.ensures),
-    )
+    let a = fields c.order_of-order.ensures.word c.order_of-order.ensures.count refl c.self.invariant c.self.view_is in
+    let room = room_from_not_full g.row.LEN c.args.self.now c.if-is_full-2.ensures.1 in
+    let absent = none_seen a g.met.K.Ord.total _ _ _ c.in-Before.ensures in
+    (is_stored (kept a g.met.K.Ord.total) room (λ h. absent) c.let_in.ensures, absent)

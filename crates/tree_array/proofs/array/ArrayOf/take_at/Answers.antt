@@ -1,112 +1,56 @@
-use Rattle.std.proofs.Common.{◌<◌, refl, sym, ◌∙◌, ap, rules, arith}
-use Rattle.tree_array.proofs.Common.{Arrivals, arrival, removed, few_places}
-use Rattle.tree_array.proofs.Kept.{count_seen, entry_seen}
-use Rattle.tree_cells.proofs.Tabled.{dropped_tabled, stands_some}
-use Rattle.tree_array.proofs.Taken.{left_seen, not_zero}
-use Rattle.tree_order.specs.Order.{is_retired}
-use Rattle.tree_array.proofs.Marked.{fields}
-use Rattle.tree_order.proofs.Live.{filled_live}
+use Rattle.std.proofs.Common.{◌≡◌, ℕ, List, Option, Some, slice_get, Ordering, refl, sym, ◌∙◌, ap, rules, arith}
+use Rattle.tree_model.proofs.Common.{IsTotalOrder, nat_tests, tied_itself}
+use Rattle.std.proofs.lemmas.Option.{same_Some}
+use Rattle.tree_cells.specs.Arrivals.{arrival, held}
+use Rattle.tree_cells.specs.Place.{HasKey}
+use Rattle.tree_cells.specs.Tabled.{IsInOrder}
+use Rattle.tree_cells.proofs.Tabled.{stands, stands_some}
+use Rattle.tree_array.proofs.Kept.{arrival_seen, count_seen, fields, place_seen}
+use Rattle.tree_array.proofs.Taken.{taken}
+use Rattle.tree_order.proofs.Words.{length-names}
+use Rattle.tree_array.proofs.array.ArrayOf.take_at.Goals.{then-order-eq-RETIRED, else-order-eq-RETIRED}
 use Rattle.tree_array.proofs.array.ArrayOf.take_at.Goals as goal
 
-pub slot_at-slot-requires : goal.slot_at-slot-requires
-slot_at-slot-requires g c =
-    let a = fields c.self.inside.cells c.counts-entries.result c.counts-entries.ensures.entries c.counts-entries.ensures.arrivals c.self.invariant c.self.view_is in
-    let few = count_seen g.met.K.Ord.total a.it _ a.view in
-    omega (arith, c.requires, few, few_places g.met.K.Ord.total a.it)
-
-pub removed-order-requires-clause-place : goal.removed-order-requires-clause-place
-removed-order-requires-clause-place g c =
-    let a = fields c.self.inside.cells c.counts-entries.result c.counts-entries.ensures.entries c.counts-entries.ensures.arrivals c.self.invariant c.self.view_is in
-    let few = count_seen g.met.K.Ord.total a.it _ a.view in
-    omega (arith, c.requires, few)
-
-pub removed-order-requires-clause-filled : goal.removed-order-requires-clause-filled
-removed-order-requires-clause-filled g c =
-    let a = fields c.self.inside.cells c.counts-entries.result c.counts-entries.ensures.entries c.counts-entries.ensures.arrivals c.self.invariant c.self.view_is in
-    let few = count_seen g.met.K.Ord.total a.it _ a.view in
-    a.it.filled (omega (arith, c.requires, few))
+pub slot_at-requires : goal.slot_at-requires
+slot_at-requires g c = omega (arith, c.requires, count_seen (fields c.order_of-order.ensures.word c.order_of-order.ensures.count refl c.self.invariant c.self.view_is))
 
 pub take-key-requires : goal.take-key-requires
-take-key-requires g c =
-    let a = fields c.self.inside.cells c.counts-entries.result c.counts-entries.ensures.entries c.counts-entries.ensures.arrivals c.self.invariant c.self.view_is in
-    let few = count_seen g.met.K.Ord.total a.it _ a.view in
-    let lt : c.args.place < c.counts-entries.result.entries = omega (arith, c.requires, few) in
-    (search rules, rw c.slot_at-slot.ensures (stands_some a.it.in_order c.args.place lt))
+take-key-requires g c = (search rules, stands_some (fields c.order_of-order.ensures.word c.order_of-order.ensures.count refl c.self.invariant c.self.view_is).it.table.in_order c.args.place _ c.slot_at.ensures)
+
+pub remove-order-requires : goal.remove-order-requires
+remove-order-requires g c = omega (arith, c.requires, count_seen (fields c.order_of-order.ensures.word c.order_of-order.ensures.count refl c.self.invariant c.self.view_is))
 
 pub set_entries-requires : goal.set_entries-requires
 set_entries-requires g c =
-    let a = fields c.self.inside.cells c.counts-entries.result c.counts-entries.ensures.entries c.counts-entries.ensures.arrivals c.self.invariant c.self.view_is in
-    (search rules, rw (c.take-key.ensures.counts, ← c.counts-entries.ensures.arrivals) (omega (arith, a.it.few_count)))
+    let a = fields c.order_of-order.ensures.word c.order_of-order.ensures.count refl c.self.invariant c.self.view_is in
+    (search rules, rw c.take-key.ensures.counts (omega (arith, a.it.table.few, length-names c.order_of-order.result.word c.order_of-order.result.count, c.remove-order.ensures.count)))
 
-pub overflow_sub-entries : goal.overflow_sub-entries
-overflow_sub-entries g c =
-    let a = fields c.self.inside.cells c.counts-entries.result c.counts-entries.ensures.entries c.counts-entries.ensures.arrivals c.self.invariant c.self.view_is in
-    let few = count_seen g.met.K.Ord.total a.it _ a.view in
-    omega (arith, c.requires, few)
+-- the entry at the place has the key that is returned
+has : {K V : Type 0} {cmp : K → K → Ordering} (o : IsTotalOrder cmp) {cells : List (Option (K × V))} {slots : List ℕ} (it : IsInOrder cmp cells slots) (i p : ℕ) (pair : K × V) → slice_get slots i ≡ Some p → arrival cells p ≡ Some pair → HasKey cmp (held cells slots) pair.0 i
+has o it i p pair there stands_there =
+    let s = stands it i p there in
+    record { pair = pair; there = s.2 ∙ ap (λ (e : _ × _). Some e) (same_Some s.0 pair (sym s.1 ∙ stands_there)); same = tied_itself o pair.0 }
 
 pub invariant_of-self : goal.invariant_of-self
 invariant_of-self g c =
-    let a = fields c.self.inside.cells c.counts-entries.result c.counts-entries.ensures.entries c.counts-entries.ensures.arrivals c.self.invariant c.self.view_is in
-    let out = c.removed-order.ensures in
-    let few = count_seen g.met.K.Ord.total a.it _ a.view in
-    let lt : c.args.place < c.counts-entries.result.entries = omega (arith, c.requires, few) in
-    let kept = c.set_entries.ensures in
-    rw (kept.pairs, kept.entries, kept.arrivals, c.take-key.ensures.spent, c.take-key.ensures.counts, ← c.counts-entries.ensures.arrivals) (dropped_tabled g.met.K.Ord.total a.it c.args.place lt _ out.filled out.below out.above _ (sym c.slot_at-slot.ensures))
-
-pub invariant_of-self-2 : goal.invariant_of-self-2
-invariant_of-self-2 g c =
-    let a = fields c.self.inside.cells c.counts-entries.result c.counts-entries.ensures.entries c.counts-entries.ensures.arrivals c.self.invariant c.self.view_is in
-    let out = c.removed-order.ensures in
-    let few = count_seen g.met.K.Ord.total a.it _ a.view in
-    let lt : c.args.place < c.counts-entries.result.entries = omega (arith, c.requires, few) in
-    let kept = c.set_entries.ensures in
-    rw (kept.pairs, kept.entries, kept.arrivals, c.take-key.ensures.spent, c.take-key.ensures.counts, ← c.counts-entries.ensures.arrivals) (dropped_tabled g.met.K.Ord.total a.it c.args.place lt _ out.filled out.below out.above _ (sym c.slot_at-slot.ensures))
-
-pub returns-then-entries-eq1-clause-pair : goal.returns-then-entries-eq1-clause-pair
-returns-then-entries-eq1-clause-pair g c =
-    let a = fields c.self.inside.cells c.counts-entries.result c.counts-entries.ensures.entries c.counts-entries.ensures.arrivals c.self.invariant c.self.view_is in
-    let few = count_seen g.met.K.Ord.total a.it _ a.view in
-    let lt : c.args.place < c.counts-entries.result.entries = omega (arith, c.requires, few) in
-    entry_seen g.met.K.Ord.total a.it _ a.view c.args.place _ lt (ap (arrival c.self.inside.cells.pairs) (sym c.slot_at-slot.ensures) ∙ c.take-key.ensures.pair)
-
-pub returns-then-entries-eq1-clause-left : goal.returns-then-entries-eq1-clause-left
-returns-then-entries-eq1-clause-left g c =
-    let a = fields c.self.inside.cells c.counts-entries.result c.counts-entries.ensures.entries c.counts-entries.ensures.arrivals c.self.invariant c.self.view_is in
+    let a = fields c.order_of-order.ensures.word c.order_of-order.ensures.count refl c.self.invariant c.self.view_is in
     let o = g.met.K.Ord.total in
-    let out = c.removed-order.ensures in
-    let few = count_seen o a.it _ a.view in
-    let lt : c.args.place < c.counts-entries.result.entries = omega (arith, c.requires, few) in
-    let after = dropped_tabled o a.it c.args.place lt _ out.filled out.below out.above _ (sym c.slot_at-slot.ensures) in
     let kept = c.set_entries.ensures in
-    rw (kept.pairs, kept.arrivals, c.take-key.ensures.spent, c.take-key.ensures.counts, ← c.counts-entries.ensures.arrivals) (left_seen o a.it c.args.place _ lt (sym c.slot_at-slot.ensures) _ c.take-key.ensures.pair after (is_retired c.self.inside.order) _ (out.retired c.if-entries-eq1.true ∙ rw c.if-entries-eq1.true refl))
-    ∙ ap (λ (array : Arrivals _ _). removed g.K.Ord.cmp array c.take-key.result.0) a.view
+    let left = c.remove-order.ensures in
+    rw (kept.pairs, kept.entries, kept.arrivals, c.take-key.ensures.spent, c.take-key.ensures.counts) (taken o a c.slot_at.ensures (has o a.it.table.in_order c.args.place _ _ c.slot_at.ensures c.take-key.ensures.pair) left.count left.names c.remove-order.result.whole (λ none. left.retired (omega (arith, none, left.count, c.requires, count_seen a)))).it
 
-pub returns-then-entries-eq1-clause-answer : goal.returns-then-entries-eq1-clause-answer
-returns-then-entries-eq1-clause-answer g c = rw (c.removed-order.ensures.retired c.if-entries-eq1.true) refl
-
-pub returns-clause-pair : goal.returns-clause-pair
-returns-clause-pair g c =
-    let a = fields c.self.inside.cells c.counts-entries.result c.counts-entries.ensures.entries c.counts-entries.ensures.arrivals c.self.invariant c.self.view_is in
-    let few = count_seen g.met.K.Ord.total a.it _ a.view in
-    let lt : c.args.place < c.counts-entries.result.entries = omega (arith, c.requires, few) in
-    entry_seen g.met.K.Ord.total a.it _ a.view c.args.place _ lt (ap (arrival c.self.inside.cells.pairs) (sym c.slot_at-slot.ensures) ∙ c.take-key.ensures.pair)
-
-pub returns-clause-left : goal.returns-clause-left
-returns-clause-left g c =
-    let a = fields c.self.inside.cells c.counts-entries.result c.counts-entries.ensures.entries c.counts-entries.ensures.arrivals c.self.invariant c.self.view_is in
+pub returns : goal.returns
+returns g c =
+    let a = fields c.order_of-order.ensures.word c.order_of-order.ensures.count refl c.self.invariant c.self.view_is in
     let o = g.met.K.Ord.total in
-    let out = c.removed-order.ensures in
-    let few = count_seen o a.it _ a.view in
-    let lt : c.args.place < c.counts-entries.result.entries = omega (arith, c.requires, few) in
-    let after = dropped_tabled o a.it c.args.place lt _ out.filled out.below out.above _ (sym c.slot_at-slot.ensures) in
     let kept = c.set_entries.ensures in
-    let some : 1 < c.counts-entries.result.entries = omega (arith, lt, c.if-entries-eq1.false) in
-    rw (kept.pairs, kept.arrivals, c.take-key.ensures.spent, c.take-key.ensures.counts, ← c.counts-entries.ensures.arrivals) (left_seen o a.it c.args.place _ lt (sym c.slot_at-slot.ensures) _ c.take-key.ensures.pair after (is_retired c.self.inside.order) _ (filled_live a.it.is_len (out.filled some) ∙ sym (not_zero _ (λ e. omega (arith, e, some)))))
-    ∙ ap (λ (array : Arrivals _ _). removed g.K.Ord.cmp array c.take-key.result.0) a.view
-
-pub returns-clause-answer : goal.returns-clause-answer
-returns-clause-answer g c =
-    let a = fields c.self.inside.cells c.counts-entries.result c.counts-entries.ensures.entries c.counts-entries.ensures.arrivals c.self.invariant c.self.view_is in
-    let few = count_seen g.met.K.Ord.total a.it _ a.view in
-    let some : 1 < c.counts-entries.result.entries = omega (arith, c.requires, few, c.if-entries-eq1.false) in
-    rw (filled_live a.it.is_len (c.removed-order.ensures.filled some)) refl
+    let left = c.remove-order.ensures in
+    let s = place_seen a c.args.place _ c.slot_at.ensures in
+    record {
+      pair = s.2 ∙ sym s.1 ∙ arrival_seen a _ ∙ c.take-key.ensures.pair;
+      left = rw (kept.pairs, kept.entries, kept.arrivals, c.take-key.ensures.spent, c.take-key.ensures.counts) (taken o a c.slot_at.ensures (has o a.it.table.in_order c.args.place _ _ c.slot_at.ensures c.take-key.ensures.pair) left.count left.names c.remove-order.result.whole (λ none. left.retired (omega (arith, none, left.count, c.requires, count_seen a)))).view;
+      answer = elim c.if-order-eq-RETIRED.branch [
+        | then-order-eq-RETIRED w ↦ rw (w.removal-is, w.if-order-eq-RETIRED.true) refl
+        | else-order-eq-RETIRED w ↦ rw w.removal-is (grind (arith, nat_tests, w.if-order-eq-RETIRED.false))
+      ];
+    }

@@ -1,40 +1,29 @@
-use Rattle.std.proofs.Common.{◌+◌, take, drop, sym, ◌∙◌, ap, subst, add-one, rules, arith}
+use Rattle.std.proofs.Common.{◌+◌, refl, sym, ◌∙◌, add-one, rules, arith}
 use Rattle.tree_model.proofs.Common.{drop_all}
-use Rattle.tree_array.proofs.Common.{Arrivals, IsSound}
 use Rattle.std.proofs.lemmas.Option.{slice_get_past}
 use Rattle.tree_array.proofs.Dealt.{parted}
-use Rattle.tree_array.proofs.Kept.{count_seen, sound}
-use Rattle.tree_array.proofs.Marked.{fields, marked}
+use Rattle.tree_array.proofs.Kept.{count_seen, fields, kept}
 use Rattle.tree_array.proofs.array.ArrayOf.take_place.Goals as goal
 
-pub returns-then-place-counts-clause-taken : goal.returns-then-place-counts-clause-taken
-returns-then-place-counts-clause-taken g c =
-    let a = fields c.self.inside.cells c.counts.result c.counts.ensures.entries c.counts.ensures.arrivals c.self.invariant c.self.view_is in
-    let few = count_seen g.met.K.Ord.total a.it _ a.view in
-    sym (slice_get_past c.args.self.now.entries c.args.place (omega (arith, few, c.if-place-counts.true)))
-
-pub returns-then-place-counts-clause-high : goal.returns-then-place-counts-clause-high
-returns-then-place-counts-clause-high g c =
-    let a = fields c.self.inside.cells c.counts.result c.counts.ensures.entries c.counts.ensures.arrivals c.self.invariant c.self.view_is in
-    let few = count_seen g.met.K.Ord.total a.it _ a.view in
-    drop_all c.args.place c.args.self.now.entries (omega (arith, few, c.if-place-counts.true)) ∙ sym (drop_all (c.args.place + 1) c.args.self.now.entries (omega (arith, few, c.if-place-counts.true)))
+pub returns-then-place-counts : goal.returns-then-place-counts
+returns-then-place-counts g c =
+    let few = count_seen (fields refl refl refl c.self.invariant c.self.view_is) in
+    record {
+      taken = sym (slice_get_past c.args.self.now.entries c.args.place (omega (arith, few, c.if-place-counts.true)));
+      low = refl;
+      high = drop_all c.args.place c.args.self.now.entries (omega (arith, few, c.if-place-counts.true)) ∙ sym (drop_all (c.args.place + 1) c.args.self.now.entries (omega (arith, few, c.if-place-counts.true)));
+      arrivals = refl;
+    }
 
 pub take_at-key-requires : goal.take_at-key-requires
-take_at-key-requires g c =
-    let a = fields c.self.inside.cells c.counts.result c.counts.ensures.entries c.counts.ensures.arrivals c.self.invariant c.self.view_is in
-    let few = count_seen g.met.K.Ord.total a.it _ a.view in
-    (search rules, omega (arith, few, c.if-place-counts.false))
+take_at-key-requires g c = (search rules, omega (arith, count_seen (fields refl refl refl c.self.invariant c.self.view_is), c.if-place-counts.false))
 
 pub returns-clause-low : goal.returns-clause-low
 returns-clause-low g c =
-    let a = fields c.self.inside.cells c.counts.result c.counts.ensures.entries c.counts.ensures.arrivals c.self.invariant c.self.view_is in
-    let o = g.met.K.Ord.total in
-    let kept = subst (IsSound g.K.Ord.cmp g.row.LEN) a.view (sound o a.it _ (marked a.it)) in
-    ap (λ (a : Arrivals _ _). take c.args.place a.entries) c.take_at-key.ensures.left ∙ (parted o c.args.place c.args.self.now.entries _ kept.ascending c.take_at-key.ensures.pair).0
+    let sound = kept (fields refl refl refl c.self.invariant c.self.view_is) g.met.K.Ord.total in
+    rw c.take_at-key.ensures.left (parted g.met.K.Ord.total c.args.place c.args.self.now.entries _ sound.ascending c.take_at-key.ensures.pair).0
 
 pub returns-clause-high : goal.returns-clause-high
 returns-clause-high g c =
-    let a = fields c.self.inside.cells c.counts.result c.counts.ensures.entries c.counts.ensures.arrivals c.self.invariant c.self.view_is in
-    let o = g.met.K.Ord.total in
-    let kept = subst (IsSound g.K.Ord.cmp g.row.LEN) a.view (sound o a.it _ (marked a.it)) in
-    ap (λ (a : Arrivals _ _). drop c.args.place a.entries) c.take_at-key.ensures.left ∙ (rw (add-one c.args.place) (parted o c.args.place c.args.self.now.entries _ kept.ascending c.take_at-key.ensures.pair).1)
+    let sound = kept (fields refl refl refl c.self.invariant c.self.view_is) g.met.K.Ord.total in
+    rw (c.take_at-key.ensures.left, add-one c.args.place) (parted g.met.K.Ord.total c.args.place c.args.self.now.entries _ sound.ascending c.take_at-key.ensures.pair).1

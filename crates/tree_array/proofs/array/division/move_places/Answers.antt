@@ -1,7 +1,9 @@
-use Rattle.std.proofs.Common.{◌≡◌, ◌+◌, ◌-◌, arith, rules}
-use Rattle.tree_array.proofs.Common.{few_places}
-use Rattle.tree_array.proofs.Moved.{emptied_run, in_turn_run, left_stands, moved_seen, moved_tabled, none_made, none_new}
+use Rattle.std.proofs.Common.{◌-◌, refl, arith, rules}
+use Rattle.tree_array.proofs.Emptied.{emptied_run, in_turn_run, left_stands}
+use Rattle.tree_array.proofs.Kept.{fields}
+use Rattle.tree_array.proofs.Moved.{moved_fields, none_new}
 use Rattle.tree_cells.proofs.Tabled.{places_apart}
+use Rattle.tree_order.proofs.Words.{length-names}
 use Rattle.tree_array.proofs.array.division.move_places.Goals as goal
 
 pub take_places-requires : goal.take_places-requires
@@ -9,26 +11,25 @@ take_places-requires g c =
     let o = g.met.K.Ord.total in
     let t = c.requires.tabled in
     let it = t.3 in
-    let to = c.to.inside.cells in
-    let none = none_made g.K.Ord.cmp to.pairs to.counts.arrivals _ _ c.to.view_is c.requires.new in
-    (search rules, (c.requires.ends, (omega (arith, t.4, it.few_count, it.few_made), (omega (arith, t.4, few_places o it), ((λ i le lt. left_stands o it t.4 t.5 i le lt), ((λ i j le lt less. places_apart o it.in_order i j (omega (arith, t.4)) (omega (arith, t.4)) (λ e. omega arith)), (none_new g.K.Ord.cmp to.pairs to.counts.arrivals _ _ c.to.view_is c.requires.new c.to.invariant.unmade, (c.to.invariant.whole, (omega (arith, none, c.to.invariant.few_count), none)))))))))
+    let none = none_new (fields refl refl refl c.to.invariant c.to.view_is) c.requires.new in
+    let names = length-names c.args.order t.2 in
+    (search rules, (c.requires.ends, (omega (arith, t.4, it.few, it.few_made, names), (omega (arith, t.4, it.few, it.few_made, names, c.to.invariant.order.small), ((λ i le lt. left_stands o it t.5 i le (omega (arith, lt, t.4))), ((λ i j le lt less. places_apart _ _ it.in_order o i j (omega (arith, t.4)) (omega (arith, t.4)) (λ e. omega arith)), (none.2, (c.to.invariant.table.whole, (none.1, none.0)))))))))
 
-pub in_turn-to-inside-requires-clause-few : goal.in_turn-to-inside-requires-clause-few
-in_turn-to-inside-requires-clause-few g c =
+pub in_turn-requires : goal.in_turn-requires
+in_turn-requires g c =
     let t = c.requires.tabled in
-    omega (arith, t.4, t.3.few_count, t.3.few_made)
+    (search rules, (c.to.invariant.order.small, omega (arith, t.4, t.3.few, t.3.few_made, length-names c.args.order t.2)))
 
 pub invariant_of-to : goal.invariant_of-to
 invariant_of-to g c =
-    let o = g.met.K.Ord.total in
     let t = c.requires.tabled in
     let moved = c.take_places.ensures in
-    let sum : c.args.from + (c.args.end - c.args.from) ≡ c.args.end = omega (arith, c.requires.ends) in
-    rw (moved.entries, moved.arrivals) (moved_tabled o t.3 c.args.from (c.args.end - c.args.from) c.args.end sum t.4 (in_turn_run o t.3 t.4 t.5 moved.turn) moved.whole _ c.in_turn-to-inside.ensures.same c.in_turn-to-inside.ensures.filled)
+    let turn = in_turn_run g.met.K.Ord.total t.3 t.5 t.4 moved.turn in
+    rw (moved.entries, moved.arrivals) (moved_fields _ _ t.3 c.args.from (c.args.end - c.args.from) c.args.end (omega (arith, c.requires.ends)) t.4 turn moved.whole c.in_turn.ensures.names (rw c.in_turn.ensures.count at c.in_turn.result.whole) c.in_turn.ensures.live).it
 
 pub returns-clause-moved : goal.returns-clause-moved
-returns-clause-moved g c = λ old made count it few h.
+returns-clause-moved g c = λ old made count it few left.
     let o = g.met.K.Ord.total in
     let moved = c.take_places.ensures in
-    let sum : c.args.from + (c.args.end - c.args.from) ≡ c.args.end = omega (arith, c.requires.ends) in
-    (emptied_run o it few h c.requires.ends moved.left, rw (moved.arrivals, c.in_turn-to-inside.ensures.live) (moved_seen o it c.args.from (c.args.end - c.args.from) c.args.end sum few (in_turn_run o it few h moved.turn) moved.whole _ c.in_turn-to-inside.ensures.same c.in_turn-to-inside.ensures.filled))
+    let turn = in_turn_run o it left few moved.turn in
+    (emptied_run o it left few c.requires.ends moved.left, rw (moved.entries, moved.arrivals) (moved_fields _ _ it c.args.from (c.args.end - c.args.from) c.args.end (omega (arith, c.requires.ends)) few turn moved.whole c.in_turn.ensures.names (rw c.in_turn.ensures.count at c.in_turn.result.whole) c.in_turn.ensures.live).view)

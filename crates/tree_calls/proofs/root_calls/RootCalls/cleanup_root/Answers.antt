@@ -1,7 +1,4 @@
-use Rattle.std.proofs.Common.{rules}
-use Rattle.tree_node.proofs.Common.{fits}
-use Rattle.tree_calls.proofs.FoundLevels.{found_part}
-use Rattle.tree_calls.proofs.FoundRoots.{lowered_at}
+use Rattle.tree_calls.proofs.FoundLevels.{rules, fits, found_part, lowered_at}
 use Rattle.tree_calls.proofs.root_calls.RootCalls.cleanup_root.Goals as goal
 
 pub level_of_root-level-requires : goal.level_of_root-level-requires
@@ -11,14 +8,14 @@ level_of_root-level-requires g c κs within =
 pub lower_root_at-requires : goal.lower_root_at-requires
 lower_root_at-requires g c =
     let found = c.level_of_root-level.ensures in
-    (search rules, (search fits, (found.node, (found_part g.K.Ord.cmp c.args.arenas.now c.args.root g.level c.level_of_root-level.result (assumption c.requires) found.node found.level (assumption c.requires), found.kind))))
+    (search rules, (search fits, (found.node, (found_part found.level found.node (assumption c.requires) (assumption c.requires), found.kind))))
 
-pub returns-in_err-id : goal.returns-in_err-id
-returns-in_err-id g c =
+pub returns-in_err-lowered : goal.returns-in_err-lowered
+returns-in_err-lowered g c =
     let found = c.level_of_root-level.ensures in
-    rw c.from_residual.ensures (lowered_at g.K.Ord.cmp c.args.arenas.now c.args.root g.level c.level_of_root-level.result (assumption c.requires) found.node found.level (assumption c.requires) _ _ (rw c.in_err-id.was at c.lower_root_at.ensures))
+    rw c.from_residual.ensures (lowered_at found.level found.node (assumption c.requires) (assumption c.requires) (rw c.in_err-lowered.was at c.lower_root_at.ensures))
 
 pub returns : goal.returns
 returns g c =
     let found = c.level_of_root-level.ensures in
-    (_, lowered_at g.K.Ord.cmp c.args.arenas.now c.args.root g.level c.level_of_root-level.result (assumption c.requires) found.node found.level (assumption c.requires) _ _ (rw c.in_ok-id.was at c.lower_root_at.ensures))
+    (c.in_ok-lowered.lowered.level, lowered_at found.level found.node (assumption c.requires) (assumption c.requires) (rw c.in_ok-lowered.was at c.lower_root_at.ensures))

@@ -1,8 +1,8 @@
-use Rattle.std.proofs.Common.{Some, set, sym, ◌∙◌, ap, rules}
+use Rattle.std.proofs.Common.{Some, refl, ◌∙◌, ap, rules}
 use Rattle.tree_cells.specs.Arrivals.{arrival}
 use Rattle.tree_cells.specs.Cells.{Held}
 use Rattle.tree_cells.proofs.Moves.{none_replicated}
-use Rattle.tree_cells.proofs.Zips.{first_seen, first_alike}
+use Rattle.tree_cells.proofs.Zips.{none_seen, pair_set}
 use Rattle.tree_cells.proofs.cells.Cells.begin.Goals as goal
 
 pub discard-requires : goal.discard-requires
@@ -11,8 +11,8 @@ discard-requires g c =
 
 pub invariant_of-self : goal.invariant_of-self
 invariant_of-self g c =
-    rw (c.replace-old.ensures.after, c.with.ensures, c.with-2.ensures) (first_alike g.row.LEN c.args.cell c.args.key c.args.val)
+    rw (c.replace-old.ensures.after, c.with.ensures, c.with-2.ensures) (pair_set (none_seen g.row.LEN) c.args.cell (Some c.args.key) (Some c.args.val) refl).alike
 
 pub returns-clause-pairs : goal.returns-clause-pairs
 returns-clause-pairs g c =
-    rw (c.replace-old.ensures.after, c.with.ensures, c.with-2.ensures) (first_seen g.row.LEN c.args.cell c.args.key c.args.val ∙ ap (λ (held : Held _ _). set held.pairs c.args.cell (Some (c.args.key, c.args.val))) (sym c.requires.bare))
+    rw (c.replace-old.ensures.after, c.with.ensures, c.with-2.ensures, c.requires.bare) (pair_set (none_seen g.row.LEN) c.args.cell (Some c.args.key) (Some c.args.val) refl).view

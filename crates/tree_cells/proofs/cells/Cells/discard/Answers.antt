@@ -1,15 +1,9 @@
 use Rattle.tree_cells.proofs.Sizes.{steps}
-use Rattle.tree_cells.proofs.Zips.{as_seen, has_none}
+use Rattle.tree_cells.proofs.Zips.{has_none, rows_seen}
 use Rattle.tree_cells.proofs.cells.Cells.discard.Goals as goal
 
 pub discard-requires : goal.discard-requires
-discard-requires g c =
-    let rows = c.in-Some.rows in
-    let seen = as_seen rows.keys.slots rows.vals.slots rows.counts _ _ (rw c.in-Some.is at c.self.view_is) rows.keys.whole rows.vals.whole in
-    (search steps, λ p. (has_none seen (rw c.in-Some.is at c.self.invariant) p (c.requires p)).0)
+discard-requires g c = (search steps, λ p. (has_none (rows_seen c.in-Some.is c.self.view_is c.self.invariant) p (c.requires p)).0)
 
 pub discard-requires-in-Some : goal.discard-requires-in-Some
-discard-requires-in-Some g c =
-    let rows = c.in-Some.rows in
-    let seen = as_seen rows.keys.slots rows.vals.slots rows.counts _ _ (rw c.in-Some.is at c.self.view_is) rows.keys.whole rows.vals.whole in
-    (search steps, λ p. (has_none seen (rw c.in-Some.is at c.self.invariant) p (c.requires p)).1)
+discard-requires-in-Some g c = (search steps, λ p. (has_none (rows_seen c.in-Some.is c.self.view_is c.self.invariant) p (c.requires p)).1)

@@ -1,16 +1,12 @@
 use Rattle.tree_cells.proofs.Sizes.{steps}
-use Rattle.tree_cells.proofs.Zips.{as_seen, has_both, is_pair, val_there}
+use Rattle.tree_cells.proofs.Zips.{has_both, is_pair, rows_seen, val_there}
 use Rattle.tree_cells.proofs.cells.Cells.key.Goals as goal
 
 pub get-requires : goal.get-requires
-get-requires g c =
-    let rows = c.in-Some.rows in
-    let seen = as_seen rows.keys.slots rows.vals.slots rows.counts _ _ (rw c.in-Some.is at c.self.view_is) rows.keys.whole rows.vals.whole in
-    (search steps, (has_both seen c.args.cell c.requires).0)
+get-requires g c = (search steps, (has_both (rows_seen c.in-Some.is c.self.view_is c.self.invariant) c.args.cell c.requires).0)
 
 pub returns : goal.returns
 returns g c =
-    let rows = c.in-Some.rows in
-    let seen = as_seen rows.keys.slots rows.vals.slots rows.counts _ _ (rw c.in-Some.is at c.self.view_is) rows.keys.whole rows.vals.whole in
-    let val = val_there seen c.args.cell c.requires in
-    (val.0, is_pair seen c.args.cell _ val.0 c.get.ensures val.1)
+    let rows = rows_seen c.in-Some.is c.self.view_is c.self.invariant in
+    let val = val_there rows c.args.cell c.requires in
+    (val.0, is_pair rows c.args.cell _ val.0 c.get.ensures val.1)

@@ -1,21 +1,12 @@
 use Rattle.tree_cells.proofs.Sizes.{steps}
-use Rattle.tree_cells.proofs.Zips.{as_seen, has_both, is_pair}
+use Rattle.tree_cells.proofs.Zips.{has_both, is_pair, rows_seen}
 use Rattle.tree_cells.proofs.cells.Cells.pair.Goals as goal
 
 pub get-requires : goal.get-requires
-get-requires g c =
-    let rows = c.in-Some.rows in
-    let seen = as_seen rows.keys.slots rows.vals.slots rows.counts _ _ (rw c.in-Some.is at c.self.view_is) rows.keys.whole rows.vals.whole in
-    (search steps, (has_both seen c.args.cell c.requires).0)
+get-requires g c = (search steps, (has_both (rows_seen c.in-Some.is c.self.view_is c.self.invariant) c.args.cell c.requires).0)
 
 pub get-requires-in-Some : goal.get-requires-in-Some
-get-requires-in-Some g c =
-    let rows = c.in-Some.rows in
-    let seen = as_seen rows.keys.slots rows.vals.slots rows.counts _ _ (rw c.in-Some.is at c.self.view_is) rows.keys.whole rows.vals.whole in
-    (search steps, (has_both seen c.args.cell c.requires).1)
+get-requires-in-Some g c = (search steps, (has_both (rows_seen c.in-Some.is c.self.view_is c.self.invariant) c.args.cell c.requires).1)
 
 pub returns : goal.returns
-returns g c =
-    let rows = c.in-Some.rows in
-    let seen = as_seen rows.keys.slots rows.vals.slots rows.counts _ _ (rw c.in-Some.is at c.self.view_is) rows.keys.whole rows.vals.whole in
-    is_pair seen c.args.cell _ _ c.get.ensures c.get-in-Some.ensures
+returns g c = is_pair (rows_seen c.in-Some.is c.self.view_is c.self.invariant) c.args.cell _ _ c.get.ensures c.get-in-Some.ensures

@@ -1,28 +1,20 @@
 use Rattle.std.proofs.Common.{Some, refl, rules}
 use Rattle.tree_cells.proofs.Sizes.{steps}
-use Rattle.tree_cells.proofs.Zips.{as_seen, has_none, pairs_set, stay_alike}
+use Rattle.tree_cells.proofs.Zips.{has_none, pair_set, rows_seen}
 use Rattle.tree_cells.proofs.cells.Cells.put.Goals as goal
 
 pub put-requires : goal.put-requires
-put-requires g c =
-    let rows = c.in-Some.rows in
-    let seen = as_seen rows.keys.slots rows.vals.slots rows.counts _ _ (rw c.in-Some.is at c.self.view_is) rows.keys.whole rows.vals.whole in
-    (search steps, (search rules, (has_none seen (rw c.in-Some.is at c.self.invariant) c.args.cell c.requires.empty).0))
+put-requires g c = (search steps, (search rules, (has_none (rows_seen c.in-Some.is c.self.view_is c.self.invariant) c.args.cell c.requires.empty).0))
 
 pub put-requires-in-Some : goal.put-requires-in-Some
-put-requires-in-Some g c =
-    let rows = c.in-Some.rows in
-    let seen = as_seen rows.keys.slots rows.vals.slots rows.counts _ _ (rw c.in-Some.is at c.self.view_is) rows.keys.whole rows.vals.whole in
-    (search steps, (search rules, (has_none seen (rw c.in-Some.is at c.self.invariant) c.args.cell c.requires.empty).1))
+put-requires-in-Some g c = (search steps, (search rules, (has_none (rows_seen c.in-Some.is c.self.view_is c.self.invariant) c.args.cell c.requires.empty).1))
 
 pub invariant_of-self : goal.invariant_of-self
 invariant_of-self g c =
-    let rows = c.in-Some.rows in
-    let seen = as_seen rows.keys.slots rows.vals.slots rows.counts _ _ (rw c.in-Some.is at c.self.view_is) rows.keys.whole rows.vals.whole in
-    rw (c.put.ensures, c.put-in-Some.ensures) (stay_alike seen (rw c.in-Some.is at c.self.invariant) c.args.cell (Some c.args.key) (Some c.args.val) refl)
+    let rows = rows_seen c.in-Some.is c.self.view_is c.self.invariant in
+    rw (c.put.ensures, c.put-in-Some.ensures) (pair_set rows c.args.cell (Some c.args.key) (Some c.args.val) refl).alike
 
 pub returns-in-Some-clause-pairs : goal.returns-in-Some-clause-pairs
 returns-in-Some-clause-pairs g c =
-    let rows = c.in-Some.rows in
-    let seen = as_seen rows.keys.slots rows.vals.slots rows.counts _ _ (rw c.in-Some.is at c.self.view_is) rows.keys.whole rows.vals.whole in
-    rw (c.put.ensures, c.put-in-Some.ensures) (pairs_set seen c.args.cell (Some c.args.key) (Some c.args.val))
+    let rows = rows_seen c.in-Some.is c.self.view_is c.self.invariant in
+    rw (c.put.ensures, c.put-in-Some.ensures) (pair_set rows c.args.cell (Some c.args.key) (Some c.args.val) refl).view

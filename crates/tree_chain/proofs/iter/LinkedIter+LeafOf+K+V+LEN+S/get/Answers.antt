@@ -6,4 +6,4 @@ pub entry-requires : goal.entry-requires
 entry-requires g c = (search rules, stood_reachable _ _ _ _ c.self.invariant.0 _ (sym c.slot.ensures ∙ c.in_ok-slot.was))
 
 pub returns : goal.returns
-returns g c = rw (← c.self.view_is) (stood_read _ _ _ _ c.self.invariant.0 _ _ (sym c.slot.ensures ∙ c.in_ok-slot.was) c.entry.ensures)
+returns g c = rw (← c.self.view_is) (stood_read _ _ _ _ c.self.invariant.0 _ (sym c.slot.ensures ∙ c.in_ok-slot.was) _ c.entry.ensures)

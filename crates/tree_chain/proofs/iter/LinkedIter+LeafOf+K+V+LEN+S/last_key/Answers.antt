@@ -1,23 +1,18 @@
-use Rattle.std.proofs.Common.{rules, None, ◌∙◌, ap}
-use Rattle.tree_array.proofs.Common.{Walk}
-use Rattle.tree_array.specs.Walk.{standing as array_standing}
+use Rattle.std.proofs.Common.{rules}
 use Rattle.tree_chain.proofs.Steps.{all_slots, slot_reachable, first_read, none_first}
 use Rattle.tree_chain.proofs.iter.LinkedIter+LeafOf+K+V+LEN+S.last_key.Goals as goal
 
 pub returns-in_err-last : goal.returns-in_err-last
 returns-in_err-last g c =
-    let same = c.rev-slots.ensures.walk ∙ c.again.ensures in
-    let fresh = c.rewind.ensures ∙ ap (λ (walk : Walk). array_standing walk.slots None) same in
-    rw (c.from_residual.ensures, ← c.self.view_is, ← c.rev-slots.ensures.way) (none_first _ _ _ _ _ c.self.invariant.0 fresh _ _ (λ entry. entry.0) c.in_err-last.ensures.steps)
+    let all = all_slots _ _ _ _ c.self.invariant.0 c.rewind.ensures c.rev-slots.ensures.walk c.again.ensures in
+    rw (c.from_residual.ensures, ← c.self.view_is, ← c.rev-slots.ensures.way) (none_first _ _ _ _ all.0 all.1 _ _ (λ entry. entry.0) c.in_err-last.ensures.steps)
 
 pub entry-requires : goal.entry-requires
 entry-requires g c =
-    let same = c.rev-slots.ensures.walk ∙ c.again.ensures in
-    let fresh = c.rewind.ensures ∙ ap (λ (walk : Walk). array_standing walk.slots None) same in
-    (search rules, slot_reachable _ _ _ _ (all_slots _ _ _ _ c.self.invariant.0 _ fresh) _ _ c.in_ok-last.ensures.steps.1)
+    let all = all_slots _ _ _ _ c.self.invariant.0 c.rewind.ensures c.rev-slots.ensures.walk c.again.ensures in
+    (search rules, slot_reachable _ _ _ _ all.0 _ _ c.in_ok-last.ensures.steps.1)
 
 pub returns : goal.returns
 returns g c =
-    let same = c.rev-slots.ensures.walk ∙ c.again.ensures in
-    let fresh = c.rewind.ensures ∙ ap (λ (walk : Walk). array_standing walk.slots None) same in
-    rw (← c.self.view_is, ← c.rev-slots.ensures.way) (first_read _ _ _ _ _ c.self.invariant.0 fresh _ _ _ _ c.in_ok-last.ensures.steps c.entry.ensures)
+    let all = all_slots _ _ _ _ c.self.invariant.0 c.rewind.ensures c.rev-slots.ensures.walk c.again.ensures in
+    rw (← c.self.view_is, ← c.rev-slots.ensures.way) (first_read _ _ _ _ all.0 all.1 _ _ _ _ c.in_ok-last.ensures.steps c.entry.ensures)

@@ -1,5 +1,4 @@
-use Rattle.std.proofs.Common.{rules, ◌∙◌, sym}
-use Rattle.tree_leaf.proofs.Chains.{chain_used}
+use Rattle.tree_chain.proofs.Common.{rules, ◌∙◌, sym, chain_used}
 use Rattle.tree_chain.proofs.Ways.{next_there, none_passed}
 use Rattle.tree_chain.proofs.stand.Stand+LeafOf+K+V+LEN.at.Goals as goal
 
@@ -8,5 +7,5 @@ leaf_at-leaf-requires g c = (search rules, chain_used _ _ _ _ c.requires.2)
 
 pub look_up-ahead-requires : goal.look_up-ahead-requires
 look_up-ahead-requires g c =
-    let now = none_passed _ c.args.way _ _ _ _ c.requires.2 c.leaf_at-leaf.ensures in
+    let now = none_passed _ c.args.way _ _ _ c.requires.2 _ c.leaf_at-leaf.ensures in
     (search rules, λ id is. next_there _ _ _ _ _ (rw (sym c.link.ensures ∙ is) at now))

@@ -3,7 +3,7 @@ use Rattle.tree_chain.proofs.Ways.{hops_fall, lands, lands_last, next_there, non
 use Rattle.tree_chain.proofs.stand.Stand+LeafOf+K+V+LEN.landing.Goals as goal
 
 pub loop-ahead-init : goal.loop-ahead-init
-loop-ahead-init g c = λ front back chain. sees _ _ _ _ _ _ c.requires.ahead (none_passed _ c.args.way front _ back _ chain c.requires.leaf)
+loop-ahead-init g c = λ front back chain. sees _ _ _ _ _ _ c.requires.ahead (none_passed _ c.args.way front _ back chain _ c.requires.leaf)
 
 pub leaf_at-requires : goal.leaf_at-requires
 leaf_at-requires g c = (search rules, next_there _ _ _ _ _ (rw c.in-Some.is at (c.loop-ahead.invariant _ _ c.requires.chain.2)).1)
@@ -20,7 +20,7 @@ look_up-ahead-requires g c =
 pub loop-ahead-smaller : goal.loop-ahead-smaller
 loop-ahead-smaller g c =
     let now = (rw c.in-Some.is at (c.loop-ahead.invariant _ _ c.requires.chain.2)).1 in
-    rw (c.in-Some.is, c.look_up-ahead.ensures, c.link.ensures, number_seen c.args.self.now.leaves.now _) (hops_fall _ _ _ _ now.left now.leads c.leaf_at.ensures now.few)
+    rw (c.in-Some.is, c.look_up-ahead.ensures, c.link.ensures, number_seen c.args.self.now.leaves.now _) (hops_fall _ _ _ _ _ now _ c.leaf_at.ensures)
 
 pub loop-ahead-preserved : goal.loop-ahead-preserved
 loop-ahead-preserved g c = λ front back chain.

@@ -1,6 +1,4 @@
-use Rattle.std.proofs.Common.{◌++◌, ◌∷◌, List, ℕ}
-use Rattle.tree_chain.proofs.Common.{leaves_on}
-use Rattle.tree_leaf.specs.Chain.{IsChain}
+use Rattle.tree_chain.proofs.Common.{◌++◌, ◌∷◌, List, ℕ, IsChain, leaves_on}
 use Rattle.tree_chain.proofs.Ways.{Sees, hops_left, number_of}
 use Rattle.tree_chain.proofs.stand.Stand+LeafOf+K+V+LEN.landing.Given as goal
 

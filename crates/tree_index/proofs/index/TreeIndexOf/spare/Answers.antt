@@ -6,7 +6,7 @@ use Rattle.tree_index.proofs.index.TreeIndexOf.spare.Goals as goal
 pub spare_at-requires : goal.spare_at-requires
 spare_at-requires g c =
     let tree = rw c.in-Some.is at c.self.invariant.1 in
-    (search fits, (search fits, (tree.top.0, stands_or_retired g.K.Ord.cmp c.self.inside.tree.arenas c.in-Some.root c.in-Some.depth tree)))
+    (search fits, (search fits, (tree.top.0, stands_or_retired g.K.Ord.cmp c.self.inside.tree.arenas c.in-Some.root.id c.in-Some.root.level tree)))
 
 pub returns-in-Some : goal.returns-in-Some
 returns-in-Some g c = rw (← c.self.view_is, c.in-Some.is) c.spare_at.ensures

@@ -1,5 +1,4 @@
-use Rattle.std.proofs.Common.{refl}
-use Rattle.tree_model.proofs.Common.{err_from_is_err_and}
+use Rattle.tree_leaf.proofs.Common.{refl, err_from_is_err_and}
 use Rattle.tree_leaf.proofs.Rooms.{grown, untouched, reserved}
 use Rattle.tree_leaf.proofs.arena.SlotsOf.reserve.Goals as goal
 

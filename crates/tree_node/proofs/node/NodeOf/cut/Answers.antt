@@ -1,5 +1,5 @@
 use Rattle.std.proofs.Common.{rules}
-use Rattle.tree_node.proofs.SameKinds.{inner_kind, outer_kind}
+use Rattle.tree_node.proofs.Common.{inner_kind, outer_kind}
 use Rattle.tree_node.proofs.node.NodeOf.cut.Goals as goal
 
 pub cut-separator-requires : goal.cut-separator-requires
@@ -9,29 +9,7 @@ pub cut-separator-requires-in-Leaf : goal.cut-separator-requires-in-Leaf
 cut-separator-requires-in-Leaf g c = (search rules, (c.requires.len, rw c.in-Leaf.is at c.requires.within))
 
 pub returns-in-Internal : goal.returns-in-Internal
-returns-in-Internal g c =
-    let cut = c.cut-separator.ensures in
-    rw c.in-Internal.is (record {
-      middle = cut.middle.0;
-      apart = cut.middle.1;
-      low_keyed = cut.low;
-      low_last = cut.middle.2;
-      high_keyed = cut.high;
-      high_last = cut.last;
-      low_kind = inner_kind _ _;
-      high_kind = inner_kind _ _;
-    })
+returns-in-Internal g c = let cut = c.cut-separator.ensures in rw c.in-Internal.is (search (rules, inner_kind))
 
 pub returns-in-Leaf : goal.returns-in-Leaf
-returns-in-Leaf g c =
-    let cut = c.cut-separator-in-Leaf.ensures in
-    rw c.in-Leaf.is (record {
-      middle = cut.middle.0;
-      apart = cut.middle.1;
-      low_keyed = cut.low;
-      low_last = cut.middle.2;
-      high_keyed = cut.high;
-      high_last = cut.last;
-      low_kind = outer_kind _ _;
-      high_kind = outer_kind _ _;
-    })
+returns-in-Leaf g c = let cut = c.cut-separator-in-Leaf.ensures in rw c.in-Leaf.is (search (rules, outer_kind))

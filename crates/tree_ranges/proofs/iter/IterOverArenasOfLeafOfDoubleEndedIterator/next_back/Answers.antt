@@ -1,4 +1,4 @@
-use Rattle.tree_model.specs.declared.way.Way.TheVariants.{Back}
+use Rattle.tree_ranges.proofs.Common.{Back}
 use Rattle.tree_ranges.proofs.Moving.{makes_progress}
 use Rattle.tree_ranges.proofs.iter.IterOverArenasOfLeafOfDoubleEndedIterator.next_back.Goals as goal
 

@@ -1,4 +1,4 @@
-use Rattle.tree_model.specs.declared.way.Way.TheVariants.{On}
+use Rattle.tree_ranges.proofs.Common.{On}
 use Rattle.tree_ranges.proofs.Moving.{makes_progress}
 use Rattle.tree_ranges.proofs.iter.IterOverArenasOfLeafOfIterator.next.Goals as goal
 

@@ -14,8 +14,8 @@ remove_alone-requires g c =
 pub lower_root_at-self-requires : goal.lower_root_at-self-requires
 lower_root_at-self-requires g c =
     let tree = rw c.requires.root at c.requires.whole in
-    let part = still_part g.K.Ord.cmp _ c.args.self.now c.args.self.now c.args.key.now c.args.root c.args.depth c.requires.root c.requires.whole c.remove_alone.new.arenas c.in-Success.ensures.removes in
-    (search fits, (search fits, (tree.top.0, (inl part, root_level c.args.depth part))))
+    let part = still_part g.K.Ord.cmp _ c.args.self.now c.args.self.now c.args.key.now c.args.root.id c.args.root.level c.requires.root c.requires.whole c.remove_alone.new.arenas c.in-Success.ensures.removes in
+    (search fits, (search fits, (tree.top.0, (inl part, root_level c.args.root.level part))))
 
 pub lower_root_at-self-requires-in-Retired : goal.lower_root_at-self-requires-in-Retired
 lower_root_at-self-requires-in-Retired g c =
@@ -24,12 +24,12 @@ lower_root_at-self-requires-in-Retired g c =
 
 pub returns-in-Fail : goal.returns-in-Fail
 returns-in-Fail g c =
-    kept g.K.Ord.cmp _ c.args.self.now _ c.args.key.now c.args.root c.args.depth c.requires.root c.requires.whole refl c.in-Fail.ensures.removes
+    kept g.K.Ord.cmp _ c.args.self.now _ c.args.key.now c.args.root.id c.args.root.level c.requires.root c.requires.whole refl c.in-Fail.ensures.removes
 
 pub returns-in-Success : goal.returns-in-Success
 returns-in-Success g c =
-    taken g.K.Ord.cmp _ c.args.self.now _ c.args.key.now c.args.root c.args.depth c.requires.root c.requires.whole c.remove_alone.new.arenas c.in-Success.ensures.removes c.lower_root_at-self.ensures
+    taken g.K.Ord.cmp _ c.args.self.now _ c.args.key.now c.args.root.id c.args.root.level c.requires.root c.requires.whole c.remove_alone.new.arenas c.in-Success.ensures.removes c.lower_root_at-self.ensures
 
 pub returns-in-Retired : goal.returns-in-Retired
 returns-in-Retired g c =
-    last_taken g.K.Ord.cmp _ c.args.self.now _ c.args.key.now c.args.root c.args.depth c.requires.root c.requires.whole c.remove_alone.new.arenas c.in-Retired.ensures.removes c.lower_root_at-self-in-Retired.ensures
+    last_taken g.K.Ord.cmp _ c.args.self.now _ c.args.key.now c.args.root.id c.args.root.level c.requires.root c.requires.whole c.remove_alone.new.arenas c.in-Retired.ensures.removes c.lower_root_at-self-in-Retired.ensures

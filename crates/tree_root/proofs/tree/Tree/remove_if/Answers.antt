@@ -14,8 +14,8 @@ leaf_for-requires g c = (search fits, (search fits, rw c.in-Some.is at c.require
 pub returns-in_default-leaf_for : goal.returns-in_default-leaf_for
 returns-in_default-leaf_for g c =
     let tree = rw c.in-Some.is at c.requires.whole in
-    kept g.K.Ord.cmp _ c.args.self.now _ c.args.key.now c.in-Some.root c.in-Some.depth c.in-Some.is c.requires.whole refl
-    (fails_at g.K.Ord.cmp _ c.args.key.now c.in-Some.depth tree.top.0 c.args.self.now.arenas c.in-Some.root c.in_default-leaf_for.ensures)
+    kept g.K.Ord.cmp _ c.args.self.now _ c.args.key.now c.in-Some.root.id c.in-Some.root.level c.in-Some.is c.requires.whole refl
+    (fails_at g.K.Ord.cmp _ c.args.key.now c.in-Some.root.level tree.top.0 c.args.self.now.arenas c.in-Some.root.id c.in_default-leaf_for.ensures)
 
 pub remove_beside-requires : goal.remove_beside-requires
 remove_beside-requires g c =
@@ -34,7 +34,7 @@ remove_alone-requires g c =
 
 pub returns-in-Ok : goal.returns-in-Ok
 returns-in-Ok g c =
-    told_taken g.K.Ord.cmp _ c.args.self.now _ c.args.key.now c.in-Some.root c.in-Some.depth c.in-Some.is c.requires.whole refl c.in-Ok.removed c.in-Ok.ensures.removes
+    told_taken g.K.Ord.cmp _ c.args.self.now _ c.args.key.now c.in-Some.root.id c.in-Some.root.level c.in-Some.is c.requires.whole refl c.in-Ok.removed c.in-Ok.ensures.removes
 
 pub returns-in-Err : goal.returns-in-Err
 returns-in-Err g c =

@@ -14,13 +14,13 @@ take_entry-key-requires g c =
 pub lower_root_at-self-requires : goal.lower_root_at-self-requires
 lower_root_at-self-requires g c =
     let tree = rw c.in-Some.is at c.requires.whole in
-    let after = root_after g.K.Ord.cmp surely c.args.self.now c.args.self.now c.take_entry-key.result.0 c.in-Some.root c.in-Some.depth c.in-Some.is c.requires.whole c.take_entry-key.new.arenas (c.take_entry-key.result.0, c.take_entry-key.result.1) (found_again c.in-Some.depth c.args.self.now.arenas c.in-Some.root c.args.place.leaf c.args.place.slot c.requires.stored.0 (c.take_entry-key.result.0, c.take_entry-key.result.1) (rw c.in-Some.is at c.requires.stored.1) c.take_entry-key.ensures.taken) (λ v no. (cc)) c.take_entry-key.result.2 c.take_entry-key.ensures.removes in
+    let after = root_after g.K.Ord.cmp surely c.args.self.now c.args.self.now c.take_entry-key.result.0 c.in-Some.root.id c.in-Some.root.level c.in-Some.is c.requires.whole c.take_entry-key.new.arenas (c.take_entry-key.result.0, c.take_entry-key.result.1) (found_again c.in-Some.root.level c.args.self.now.arenas c.in-Some.root.id c.args.place.leaf c.args.place.slot c.requires.stored.0 (c.take_entry-key.result.0, c.take_entry-key.result.1) (rw c.in-Some.is at c.requires.stored.1) c.take_entry-key.ensures.taken) (λ v no. (cc)) c.take_entry-key.result.2 c.take_entry-key.ensures.removes in
     (search fits, (search fits, (tree.top.0, (after.0, after.1))))
 
 pub returns-clause-pair : goal.returns-clause-pair
 returns-clause-pair g c = λ pair stored.
-    same_stored c.in-Some.depth c.args.self.now.arenas c.in-Some.root c.args.place.leaf c.args.place.slot pair (c.take_entry-key.result.0, c.take_entry-key.result.1) (rw c.in-Some.is at stored) c.take_entry-key.ensures.taken
+    same_stored c.in-Some.root.level c.args.self.now.arenas c.in-Some.root.id c.args.place.leaf c.args.place.slot pair (c.take_entry-key.result.0, c.take_entry-key.result.1) (rw c.in-Some.is at stored) c.take_entry-key.ensures.taken
 
 pub returns-clause-takes : goal.returns-clause-takes
 returns-clause-takes g c =
-    pair_taken g.K.Ord.cmp surely c.args.self.now _ c.take_entry-key.result.0 c.in-Some.root c.in-Some.depth c.in-Some.is c.requires.whole c.take_entry-key.new.arenas (c.take_entry-key.result.0, c.take_entry-key.result.1) (found_again c.in-Some.depth c.args.self.now.arenas c.in-Some.root c.args.place.leaf c.args.place.slot c.requires.stored.0 (c.take_entry-key.result.0, c.take_entry-key.result.1) (rw c.in-Some.is at c.requires.stored.1) c.take_entry-key.ensures.taken) (λ v no. (cc)) c.take_entry-key.result.2 c.take_entry-key.ensures.removes c.lower_root_at-self.ensures
+    pair_taken g.K.Ord.cmp surely c.args.self.now _ c.take_entry-key.result.0 c.in-Some.root.id c.in-Some.root.level c.in-Some.is c.requires.whole c.take_entry-key.new.arenas (c.take_entry-key.result.0, c.take_entry-key.result.1) (found_again c.in-Some.root.level c.args.self.now.arenas c.in-Some.root.id c.args.place.leaf c.args.place.slot c.requires.stored.0 (c.take_entry-key.result.0, c.take_entry-key.result.1) (rw c.in-Some.is at c.requires.stored.1) c.take_entry-key.ensures.taken) (λ v no. (cc)) c.take_entry-key.result.2 c.take_entry-key.ensures.removes c.lower_root_at-self.ensures

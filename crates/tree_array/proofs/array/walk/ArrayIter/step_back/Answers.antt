@@ -4,16 +4,6 @@ use Rattle.tree_array.specs.Walk.{places_behind}
 use Rattle.tree_array.proofs.Stepped.{before, behind_few, stepped_back}
 use Rattle.tree_array.proofs.array.walk.ArrayIter.step_back.Goals as goal
 
-pub slot_at-requires : goal.slot_at-requires
-slot_at-requires c =
-    let is : c.places_behind-behind.result ≡ places_behind (length (names c.self.inside.order c.self.inside.count)) (before c.self.inside.ahead) = rw (← c.self.view_is) at c.places_behind-behind.ensures in
-    omega (arith, is, c.self.invariant.0, behind_few c.self.inside.order c.self.inside.count c.self.inside.ahead c.self.invariant.1)
-
-pub invariant_of-self : goal.invariant_of-self
-invariant_of-self c =
-    let is : c.places_behind-behind.result ≡ places_behind (length (names c.self.inside.order c.self.inside.count)) (before c.self.inside.ahead) = rw (← c.self.view_is) at c.places_behind-behind.ensures in
-    (c.self.invariant.0, omega (arith, is, behind_few c.self.inside.order c.self.inside.count c.self.inside.ahead c.self.invariant.1))
-
 pub returns-then-behind-gt0 : goal.returns-then-behind-gt0
 returns-then-behind-gt0 c =
     let is : c.places_behind-behind.result ≡ places_behind (length (names c.self.inside.order c.self.inside.count)) (before c.self.inside.ahead) = rw (← c.self.view_is) at c.places_behind-behind.ensures in

@@ -1,6 +1,6 @@
 use Rattle.std.proofs.Common.{◌≡◌, ◌+◌, ◌-◌, ap, ◌∙◌, arith}
 use Rattle.tree_array.proofs.Common.{named}
-use Rattle.tree_array.proofs.Stepped.{goes_on, stays, stepped_on}
+use Rattle.tree_array.proofs.Stepped.{goes_on, stepped_on}
 use Rattle.tree_array.proofs.array.walk.ArrayIterIterator.next.Goals as goal
 
 pub returns-then-self-clause-steps : goal.returns-then-self-clause-steps
@@ -10,7 +10,3 @@ returns-then-self-clause-steps c =
 
 pub returns-then-self-clause-goes : goal.returns-then-self-clause-goes
 returns-then-self-clause-goes c = goes_on _ _ _ (returns-then-self-clause-steps c)
-
-pub returns-else-self-clause-steps : goal.returns-else-self-clause-steps
-returns-else-self-clause-steps c =
-    rw (← c.self.view_is) (stays c.self.inside.order c.self.inside.count c.self.inside.ahead (omega (arith, c.if-self.false)))

@@ -1,0 +1,8 @@
+use Rattle.tree_node.proofs.Common.{fits}
+use Rattle.cursor_tests.proofs.walks.run_range.Goals as goal
+
+pub range-requires : goal.range-requires
+range-requires g c = search fits
+
+pub expect_range_at_once-requires : goal.expect_range_at_once-requires
+expect_range_at_once-requires g c = search fits

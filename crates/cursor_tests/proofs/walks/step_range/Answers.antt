@@ -1,0 +1,8 @@
+use Rattle.tree_node.proofs.Common.{fits}
+use Rattle.cursor_tests.proofs.walks.step_range.Goals as goal
+
+pub range-requires : goal.range-requires
+range-requires g c = search fits
+
+pub expect_stepped-requires : goal.expect_stepped-requires
+expect_stepped-requires g c = search fits

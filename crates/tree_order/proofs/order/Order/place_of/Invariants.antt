@@ -1,0 +1,6 @@
+use Rattle.std.proofs.Common.{◌≢◌, ℕ, ◌<◌}
+use Rattle.tree_order.specs.Order.{named}
+use Rattle.tree_order.proofs.order.Order.place_of.Given as goal
+
+abbrev pub invariant-loop-place : goal.invariant-loop-place
+invariant-loop-place g l = (i : ℕ) → i < l.place → named l.fn.self.word i ≢ l.slot

@@ -1,0 +1,160 @@
+//! An index of numbers, as its tests call it.
+use crate::walker::copied;
+use std::alloc::AllocError;
+use tree_index::{InsertError, TreeIndexOf};
+
+/// An index of numbers, as its tests call it.
+///
+/// Each function makes one call. To the proof of a test that is written over any such index its type is a bare name, and calls
+/// have no clauses. So a function that makes many calls costs little, where each call on an index makes its proof dearer.
+pub trait Numbers {
+    /// Returns how many pairs a leaf holds.
+    fn pairs_a_leaf(&self) -> usize;
+
+    /// Calls `len`.
+    fn len(&self) -> usize;
+
+    /// Calls `is_empty`.
+    fn is_empty(&self) -> bool;
+
+    /// Calls `depth`.
+    fn depth(&self) -> usize;
+
+    /// Calls `spare`.
+    fn spare(&self) -> u8;
+
+    /// Calls `insert_sync`.
+    fn insert(&mut self, key: u64, value: u64) -> Result<(), InsertError<u64, u64>>;
+
+    /// Calls `upsert_sync`.
+    fn upsert(&mut self, key: u64, value: u64) -> Result<(), (u64, u64)>;
+
+    /// Calls `replace_sync`.
+    fn replace(&mut self, key: u64, value: u64) -> Result<u64, u64>;
+
+    /// Calls `remove_sync`.
+    fn remove(&mut self, key: u64) -> bool;
+
+    /// Calls `take_sync`.
+    fn take(&mut self, key: u64) -> Option<(u64, u64)>;
+
+    /// Calls `pop_first`.
+    fn pop_first(&mut self) -> Option<(u64, u64)>;
+
+    /// Calls `pop_last`.
+    fn pop_last(&mut self) -> Option<(u64, u64)>;
+
+    /// Calls `clear`.
+    fn clear(&mut self);
+
+    /// Calls `peek`.
+    fn peek(&self, key: u64) -> Option<u64>;
+
+    /// Calls `first`.
+    fn first(&self) -> Option<(u64, u64)>;
+
+    /// Calls `last`.
+    fn last(&self) -> Option<(u64, u64)>;
+
+    /// Calls `at_or_below`.
+    fn at_or_below(&self, key: u64) -> Option<(u64, u64)>;
+
+    /// Calls `at_or_above`.
+    fn at_or_above(&self, key: u64) -> Option<(u64, u64)>;
+}
+
+impl<const LEN: usize> Numbers for TreeIndexOf<u64, u64, LEN> {
+    fn pairs_a_leaf(&self) -> usize {
+        LEN
+    }
+
+    fn len(&self) -> usize {
+        TreeIndexOf::len(self)
+    }
+
+    fn is_empty(&self) -> bool {
+        TreeIndexOf::is_empty(self)
+    }
+
+    fn depth(&self) -> usize {
+        TreeIndexOf::depth(self)
+    }
+
+    fn spare(&self) -> u8 {
+        TreeIndexOf::spare(self)
+    }
+
+    fn insert(&mut self, key: u64, value: u64) -> Result<(), InsertError<u64, u64>> {
+        self.insert_sync(key, value)
+    }
+
+    fn upsert(&mut self, key: u64, value: u64) -> Result<(), (u64, u64)> {
+        self.upsert_sync(key, value)
+    }
+
+    fn replace(&mut self, key: u64, value: u64) -> Result<u64, u64> {
+        self.replace_sync(&key, value)
+    }
+
+    fn remove(&mut self, key: u64) -> bool {
+        self.remove_sync(&key)
+    }
+
+    fn take(&mut self, key: u64) -> Option<(u64, u64)> {
+        self.take_sync(&key)
+    }
+
+    fn pop_first(&mut self) -> Option<(u64, u64)> {
+        TreeIndexOf::pop_first(self)
+    }
+
+    fn pop_last(&mut self) -> Option<(u64, u64)> {
+        TreeIndexOf::pop_last(self)
+    }
+
+    fn clear(&mut self) {
+        TreeIndexOf::clear(self);
+    }
+
+    fn peek(&self, key: u64) -> Option<u64> {
+        TreeIndexOf::peek(self, &key).copied()
+    }
+
+    fn first(&self) -> Option<(u64, u64)> {
+        copied(TreeIndexOf::first(self))
+    }
+
+    fn last(&self) -> Option<(u64, u64)> {
+        copied(TreeIndexOf::last(self))
+    }
+
+    fn at_or_below(&self, key: u64) -> Option<(u64, u64)> {
+        copied(TreeIndexOf::at_or_below(self, &key))
+    }
+
+    fn at_or_above(&self, key: u64) -> Option<(u64, u64)> {
+        copied(TreeIndexOf::at_or_above(self, &key))
+    }
+}
+
+/// Stores a pair. Returns `Err` if it is refused, for whatever reason.
+pub fn put(index: &mut impl Numbers, key: u64, value: u64) -> Result<(), AllocError> {
+    match index.insert(key, value) {
+        Ok(()) => Ok(()),
+        Err(_) => Err(AllocError),
+    }
+}
+
+/// Stores the numbers from the first to the last, each times a factor, as its own value.
+pub fn ascend(
+    index: &mut impl Numbers,
+    first: u64,
+    last: u64,
+    factor: u64,
+) -> Result<(), AllocError> {
+    for number in first..=last {
+        let key = number.saturating_mul(factor);
+        put(index, key, key)?;
+    }
+    Ok(())
+}
