@@ -1,25 +1,11 @@
 -- The way of a key that is larger than all leads along the right edge.
-use Rattle.std.proofs.Common.{◌≡◌, ℕ, zero, suc, ◌-◌, ◌<◌, List, [], ◌∷◌, ◌++◌, map, length, length-append, Option, Some, None, refl, sym, ap, ◌∙◌, arith, sub-one}
-use Rattle.std.specs.List.{flat_map, AllByRecursion}
-use Rattle.std.specs.declared.cmp.Ordering.{Ordering}
-use Rattle.std.specs.declared.cmp.Ordering.TheVariants.{Less}
-use Rattle.std.specs.Cmp.{IsTotalOrder}
-use Rattle.std.proofs.lemmas.List.{append-nil}
+use Rattle.tree_insert.proofs.Common.{AllByRecursion, HasChildFor, HasLast, IsPart, IsTotalOrder, Less, List, NodeOf, None, Option, Ordering, Slab, Some, Stands, TreeArenas, [], ap, append-nil}
+use Rattle.tree_insert.proofs.Common.{arith, child_part, get, keyed, length, length-append, node_replaces, one_last, refl, same_node, sub-one, suc, sym, walk, walk-children, zero, ℕ, ◌++◌, ◌-◌}
+use Rattle.tree_insert.proofs.Common.{◌<◌, ◌∙◌, ◌∷◌, ◌≡◌}
+use Rattle.tree_append.proofs.Common.{AreParted, IsAbove, IsOnEdge, IsOnWay, IsRetiredNode, Replaces, all_behind, child_at, flat_map, is_from, leaf_entries, map}
 use Rattle.std.proofs.lemmas.List.Concat.{flat_map-append}
-use Rattle.slab.specs.Slab.{Slab, get}
-use Rattle.tree_append.specs.Appends.{IsOnEdge}
-use Rattle.tree_descent.specs.Ways.{IsOnWay}
-use Rattle.tree_leaf.specs.Entries.{leaf_entries}
-use Rattle.tree_node.specs.declared.node.NodeOf.{NodeOf}
-use Rattle.tree_node.specs.Arenas.{TreeArenas}
-use Rattle.tree_node.specs.Parts.{IsPart, Replaces}
-use Rattle.tree_node.specs.Tree.{AreParted, HasChildFor, IsAbove, IsRetiredNode, Stands, child_at, is_from, keyed, walk}
 use Rattle.tree_node.proofs.Bare.{parted_last}
-use Rattle.tree_node.proofs.ChildChanges.{child_part, node_replaces, same_node}
-use Rattle.tree_node.proofs.Cuts.{all_behind}
-use Rattle.tree_node.proofs.Walks.{above_next, walk-children, walk_above}
-use Rattle.tree_split.specs.Packed.{HasLast}
-use Rattle.tree_split.proofs.Edges.{one_last}
+use Rattle.tree_node.proofs.Walks.{above_next, walk_above}
 
 -- a retired node has no last child
 pub no_last : {K : Type 0} {LEN : ℕ} (slot : Option (NodeOf K LEN)) → IsRetiredNode slot → (child : ℕ) → HasLast slot child → ⊥
@@ -68,8 +54,7 @@ module _ {K V : Type 0} {LEN : ℕ} {cmp : K → K → Ordering} (o : IsTotalOrd
 
   last_below : (level : ℕ) (low : Option K) (id child : ℕ) → Stands cmp (suc level) a low id None → HasLast (get a.nodes id) child → LastBelow level id child
   last_below level low id child s last =
-      let both : Some s.last ≡ Some child = sym s.last_is ∙ rw s.here at last in
-      let same : s.last ≡ child = cc in
+      let same : s.last ≡ child = cc (s.last_is, rw s.here at last) in
       let below = parted_last cmp a (Stands cmp level a) low (keyed s.node).entries child None (rw same at s.parted) in
       record {
         bound = below.0;
@@ -86,15 +71,6 @@ module _ {K V : Type 0} {LEN : ℕ} {cmp : K → K → Ordering} (o : IsTotalOrd
       omega (arith, ap length below.walked, length-append below.front (walk level a edge.0), some_walked level below.bound edge.0 below.stands edge.2)
 
   module _ (key : K) where
-    -- a key larger than all of a part belongs to its last child
-    last_for : (level : ℕ) (low : Option K) (id child : ℕ) (s : Stands cmp (suc level) a low id None) → HasLast (get a.nodes id) child → 0 < length (walk level a child)
-        → AllByRecursion (λ p. cmp p.0 key ≡ Less) (walk level a child) → HasChildFor cmp key (get a.nodes id) child
-    last_for level low id child s last any smaller =
-        let both : Some s.last ≡ Some child = sym s.last_is ∙ rw s.here at last in
-        let same : s.last ≡ child = cc in
-        let goes = goes_last o key (Stands cmp level a) child None (λ bound st. above_first o key bound (walk level a child) any (walk_above o level a bound child None st) smaller) low (keyed s.node).entries (rw same at s.parted) in
-        rw (s.here, s.last_is, same) (ap Some goes.0)
-
     -- the step along the edge
     record Step (level : ℕ) (id child : ℕ) : Type 0 where
       which : HasChildFor cmp key (get a.nodes id) child
@@ -105,9 +81,12 @@ module _ {K V : Type 0} {LEN : ℕ} {cmp : K → K → Ordering} (o : IsTotalOrd
     step : (level : ℕ) (low : Option K) (id : ℕ) → Stands cmp (suc level) a low id None → (edge : IsOnEdge (suc level) a.nodes id leaf) → AllByRecursion (λ p. cmp p.0 key ≡ Less) (walk (suc level) a id) → Step level id edge.0
     step level low id s edge smaller =
         let below = last_below level low id edge.0 s edge.1 in
-        let any = some_walked level below.bound edge.0 below.stands edge.2 in
         let left = all_behind _ below.front (walk level a edge.0) (rw below.walked at smaller) in
-        record { which = last_for level low id edge.0 s edge.1 any left; bound = below.bound; stands = below.stands; smaller = left }
+        let same : s.last ≡ edge.0 = cc (s.last_is, rw s.here at edge.1) in
+        let over = λ (bound : Option K) (st : Stands cmp level a bound edge.0 None).
+        above_first o key bound (walk level a edge.0) (some_walked level bound edge.0 st edge.2) (walk_above o level a bound edge.0 None st) left in
+        let goes = goes_last o key (Stands cmp level a) edge.0 None over low (keyed s.node).entries (rw same at s.parted) in
+        record { which = rw (s.here, s.last_is, same) (ap Some goes.0); bound = below.bound; stands = below.stands; smaller = left }
 
     -- so the key is larger than all in the leaf
     pub larger_there : (level : ℕ) (low : Option K) (id : ℕ) → Stands cmp level a low id None → IsOnEdge level a.nodes id leaf → AllByRecursion (λ p. cmp p.0 key ≡ Less) (walk level a id) → AllByRecursion (λ p. cmp p.0 key ≡ Less) (walk 0 a leaf)
@@ -116,12 +95,12 @@ module _ {K V : Type 0} {LEN : ℕ} {cmp : K → K → Ordering} (o : IsTotalOrd
 
     -- The way of the key leads along the edge: to the leaf node at its end, and to the leaf under it.
     pub edge_way : (level : ℕ) (low : Option K) (id : ℕ) → Stands cmp (suc level) a low id None → IsOnEdge (suc level) a.nodes id leaf → AllByRecursion (λ p. cmp p.0 key ≡ Less) (walk (suc level) a id)
-        → (node : ℕ) × IsOnWay cmp key level a id node × HasChildFor cmp key (get a.nodes node) leaf × IsOnEdge level a.nodes id node × AllByRecursion (λ p. cmp p.0 key ≡ Less) (walk 1 a node)
-    edge_way zero low id s edge smaller = let along = step zero low id s edge smaller in (id, refl, rw edge.2 at along.which, refl, smaller)
+        → (node : ℕ) × IsOnWay cmp key level a id node × HasChildFor cmp key (get a.nodes node) leaf × IsOnEdge level a.nodes id node
+    edge_way zero low id s edge smaller = let along = step zero low id s edge smaller in (id, refl, rw edge.2 at along.which, refl)
     edge_way (suc level) low id s edge smaller =
         let along = step (suc level) low id s edge smaller in
         let further = edge_way level along.bound edge.0 along.stands edge.2 along.smaller in
-        (further.0, (edge.0, along.which, further.1), further.2, (edge.0, edge.1, further.3), further.4)
+        (further.0, (edge.0, along.which, further.1), further.2, (edge.0, edge.1, further.3))
 
     -- a change under the node at the end of the edge leaves the edge
     pub edge_stays : (new : TreeArenas K V LEN) (node : ℕ) → Replaces 1 a new (node ∷ []) (node ∷ []) → (level id : ℕ) → IsPart cmp (suc level) a id → IsOnEdge (suc level) a.nodes id leaf → AllByRecursion (λ p. cmp p.0 key ≡ Less) (walk (suc level) a id)

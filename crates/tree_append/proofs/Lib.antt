@@ -1,6 +1,5 @@
+mod Common
 pub mod Edges
-mod Ends
 mod Lasts
-mod Rooms
 mod Runs
 mod Stored

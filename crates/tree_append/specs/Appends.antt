@@ -1,15 +1,10 @@
 -- The last leaf of a part of a tree, and what an append to it leaves.
-use Rattle.std.specs.Prelude.{◌≡◌, ℕ, zero, suc, ◌<◌, ◌⊎◌, Bool, true, false, List, [], ◌∷◌, ◌++◌, length, Result, Ok, Err}
-use Rattle.std.specs.List.{AllByRecursion}
+use Rattle.std.specs.Prelude.{◌≡◌, ℕ, zero, suc, ◌-◌, ◌<◌, ◌⊎◌, Bool, true, false, List, [], ◌∷◌, ◌++◌, length, IsSome, Result, Ok, Err}
 use Rattle.std.specs.Option.{ForSome}
-use Rattle.std.specs.declared.cmp.Ordering.{Ordering}
-use Rattle.std.specs.declared.cmp.Ordering.TheVariants.{Less}
-use Rattle.slab.specs.Slab.{Slab, get}
 use Rattle.tree_array.specs.declared.answers.StoreResult.TheVariants.{New}
 use Rattle.tree_array.specs.Insertion.{IsFull}
 use Rattle.tree_insert.specs.Inserts.{InsertsUnder}
-use Rattle.tree_leaf.specs.Entries.{leaf_entries}
-use Rattle.tree_node.specs.Arenas.{TreeArenas}
+use Rattle.tree_node.specs.Arenas.{AllByRecursion, Less, Ordering, Slab, TreeArenas, get, leaf_entries}
 use Rattle.tree_node.specs.declared.node.NodeOf.{NodeOf}
 use Rattle.tree_node.specs.Parts.{IsPart}
 use Rattle.tree_node.specs.Tree.{IsRetired, walk}
@@ -21,6 +16,13 @@ IsOnEdge zero nodes id target = id ≡ target
 IsOnEdge (suc level) nodes id target = (child : ℕ) × HasLast (get nodes id) child × IsOnEdge level nodes child target
 
 module _ {K V : Type 0} {LEN : ℕ} where
+  -- the edge from a number ends at this node, the last one on it, and at this leaf, its last child
+  pub record EndsEdge (level : ℕ) (arenas : TreeArenas K V LEN) (id node leaf : ℕ) : Type 0 where
+    pub edge : IsOnEdge (level - 1) arenas.nodes id node
+    pub last : HasLast (get arenas.nodes node) leaf
+    pub below : IsOnEdge level arenas.nodes id leaf
+    pub there : IsSome (get arenas.leaves leaf)
+
   -- this is the last leaf under the number, and it has a pair
   abbrev pub IsLastLeaf : ℕ → TreeArenas K V LEN → ℕ → ℕ → Type 0
   IsLastLeaf level arenas id leaf = IsOnEdge level arenas.nodes id leaf × (0 < length (leaf_entries arenas.leaves leaf))

@@ -1,12 +1,10 @@
 //! Appends to the last leaf of a part of a tree.
-ghost use Rattle.std.specs.Prelude.{◌≡◌, ◌⊎◌, ◌-◌, ◌<◌, ◌++◌, ℕ, IfOk, None};
+ghost use Rattle.std.specs.Prelude.{◌≡◌, ◌⊎◌, ◌<◌, ◌++◌, ℕ, IfOk, MatchOption, None};
 ghost use Rattle.std.specs.Option.{ForNone, ForSome};
-ghost use Rattle.slab.specs.Slab.{ContainsKey, get};
-ghost use Rattle.tree_append.specs.Appends.{Appends, AppendsRun, HasNoLastLeaf, IsLastFor, IsLastLeaf, IsOnEdge};
+ghost use Rattle.tree_append.specs.Appends.{Appends, AppendsRun, EndsEdge, HasNoLastLeaf, IsLastFor, IsLastLeaf};
 ghost use Rattle.tree_model.specs.Pairs.{IsAscending};
 ghost use Rattle.tree_node.specs.Parts.{IsPart};
 ghost use Rattle.tree_node.specs.Tree.{IsRetired, Stands, walk};
-ghost use Rattle.tree_split.specs.Packed.{HasLast};
 
 use std::alloc::AllocError;
 use tree_array::array::{IndexKey, RunOf};
@@ -51,10 +49,8 @@ fn edge_at<K: IndexKey, V: Drop, const LEN: usize>(
 ) -> Option<EdgeEnd>
     requires node { 0 < level }
     requires stands { Stands K.cmp level arenas.now None id None ⊎ IsRetired level arenas.now id }
-    ensures edge { ForSome result (λ end. IsOnEdge (level - 1) arenas.now.nodes id end.node) }
-    ensures last { ForSome result (λ end. HasLast (get arenas.now.nodes end.node) end.leaf) }
-    ensures there { ForSome result (λ end. ContainsKey arenas.now.leaves end.leaf) }
-    ensures none { ForNone result (IsRetired level arenas.now id) }
+    ensures { MatchOption result (IsRetired level arenas.now id)
+        (λ end. EndsEdge level arenas.now id end.node end.leaf) }
 {
     let mut at = id;
     let mut above = level - 1;

@@ -1,36 +1,17 @@
 -- What every array keeps.
-use Rattle.std.proofs.Common.{◌≡◌, ◌↔◌, IsTrue, ℕ, suc, ◌+◌, ◌==◌, ◌<◌, ◌≤◌, Bool, false, List, [], ◌∷◌, map, length, slice_get, Option, None, Some, IsSome, refl, sym, ◌∙◌, ap, subst, inl, inr, arith, Ordering, Equal}
-use Rattle.tree_model.proofs.Common.{IsAbsent, IsTotalOrder, cases_lt, false≢true, nat_tests, nil_from_length, pair_at}
-use Rattle.tree_array.proofs.Common.{Arrivals, arrival, ascents, reachable, sorted, stored, HasRoom, named, names, IsSound, seen, equal_from_test, length-picked, arrival-all, len_small, ordinals_of, picked, IsArray}
-use Rattle.std.proofs.lemmas.Bool.{false_from_ne_true}
-use Rattle.std.proofs.lemmas.Simd.{map-map}
-use Rattle.tree_model.proofs.Lengths.{length-put, without_absent, without_few}
-use Rattle.tree_model.proofs.Lists.{find_none}
-use Rattle.tree_array.specs.Arrivals.{numbered, slots_in_order}
-use Rattle.tree_array.specs.Insertion.{IsStored}
-use Rattle.tree_cells.specs.Arrivals.{held}
-use Rattle.tree_cells.specs.Place.{HasKey, IsPlace}
-use Rattle.tree_cells.specs.declared.search.Place.TheVariants.{Before}
-use Rattle.tree_cells.proofs.Entries.{all-reachable}
-use Rattle.tree_cells.proofs.Found.{same_slots, sorted_held}
-use Rattle.tree_cells.proofs.Picks.{reachable_few, some_of}
-use Rattle.tree_cells.proofs.Rises.{ascents_few, counted_all}
-use Rattle.tree_cells.proofs.Sides.{before_none, key_found}
-use Rattle.tree_cells.proofs.Sorted.{pair_at-sorted, values-sorted, with_values}
-use Rattle.tree_cells.proofs.Tabled.{early, length-held, listed_at, one_arrival, stands}
-use Rattle.tree_order.specs.Order.{is_retired, ordinal_in, rises_in}
-use Rattle.tree_order.proofs.Live.{live}
-use Rattle.tree_order.proofs.Words.{length-names, slice_get-names}
+use Rattle.std.proofs.Common.{◌≡◌, ◌↔◌, IsTrue, ℕ, suc, ◌+◌, ◌==◌, ◌<◌, Bool, false, List, [], ◌∷◌, map, length, slice_get, Option, None, Some, IsSome, refl, sym, ◌∙◌, ap, subst, inl, inr, arith, Ordering, Equal}
+use Rattle.tree_array.proofs.Common.{IsAbsent, IsTotalOrder, cases_lt, false≢true, nat_tests, nil_from_length, pair_at, Arrivals, arrival, ascents, reachable, sorted, stored, HasRoom, named}
+use Rattle.tree_array.proofs.Common.{names, IsSound, seen, equal_from_test, length-picked, arrival-all, len_small, ordinals_of, picked, IsArray, false_from_ne_true, map-map, length-put}
+use Rattle.tree_array.proofs.Common.{without_absent, without_few, find_none, numbered, slots_in_order, IsStored, held, HasKey, IsPlace, Before, all-reachable, same_slots, sorted_held}
+use Rattle.tree_array.proofs.Common.{reachable_few, some_of, counted_all, before_none, key_found, pair_at-sorted, values-sorted, with_values, early, length-held, listed_at}
+use Rattle.tree_array.proofs.Common.{one_arrival, stands, is_retired, ordinal_in, rises_in, live, length-names, slice_get-names}
 
 -- ---- the slots of the entries
 module _ {K V : Type 0} (cmp : K → K → Ordering) where
   -- the keys of the reachable arrivals, with what their numbers name
   numbered_seen : (g : ℕ → Option (K × V)) (n : ℕ) (arrivals : List (Option (K × V))) → ((q : ℕ) → g (n + q) ≡ arrival arrivals q) → with_values cmp (λ (slot : K × ℕ). g slot.1) (numbered n arrivals) ≡ with_values cmp (λ (e : K × V). Some e) (reachable arrivals)
   numbered_seen g n [] same = refl
-  numbered_seen g n (None ∷ arrivals) same = numbered_seen g (suc n) arrivals (λ q. ap g (omega arith) ∙ same (suc q))
-  numbered_seen g n (Some e ∷ arrivals) same =
-      let first : g n ≡ Some e = ap g (omega arith) ∙ same 0 in
-      rw (first, numbered_seen g (suc n) arrivals (λ q. ap g (omega arith) ∙ same (suc q))) refl
+  numbered_seen g n (a ∷ arrivals) same = grind (arith, same 0, numbered_seen g (suc n) arrivals (λ q. ap g (omega arith) ∙ same (suc q)))
 
   -- the slots in order are those of the entries
   pub slots-sorted : (g : ℕ → Option (K × V)) (arrivals : List (Option (K × V))) → ((q : ℕ) → g q ≡ arrival arrivals q) → map g (map (λ (slot : K × ℕ). slot.1) (sorted cmp (numbered 0 arrivals))) ≡ map Some (sorted cmp (reachable arrivals))
@@ -128,10 +109,10 @@ module _ {K V : Type 0} {cmp : K → K → Ordering} {len : ℕ} {cells : List (
     none_seen key place slot h = ap (λ (entries : List (K × V)). pair_at cmp entries key) entries_seen ∙ before_none o (held cells (names word count)) key (names word count) place slot h
 
     -- the rises of ordinals are the ascents of keys
-    pub rises_seen : (rises_in (ordinal_in (named word) count) made ≡ ascents cmp (reachable array.arrivals)) × (rises_in (ordinal_in (named word) count) made ≤ count)
+    pub rises_seen : rises_in (ordinal_in (named word) count) made ≡ ascents cmp (reachable array.arrivals)
     rises_seen =
-        let risen = counted_all (ordinals_of o word count a.it.table) (omega (arith, a.it.table.few_made, len_small len a.it.table.is_len)) ∙ ap (λ (arrivals : List (Option (K × V))). ascents cmp (reachable arrivals)) (sym arrivals_seen) in
-        (risen, omega (arith, risen, ascents_few cmp (reachable array.arrivals), kept.count, count_seen))
+        counted_all (ordinals_of o word count a.it.table) (omega (arith, a.it.table.few_made, len_small len a.it.table.is_len))
+        ∙ ap (λ (arrivals : List (Option (K × V))). ascents cmp (reachable arrivals)) (sym arrivals_seen)
 
   -- each place names one of the fifteen slots
   pub named_few : (i : ℕ) → i < count → named word i < 15

@@ -1,33 +1,34 @@
--- Pairs that are moved place by place into the cells of a new array.
-use Rattle.std.proofs.Common.{◌≡◌, ℕ, zero, suc, ◌+◌, ◌<◌, ◌≤◌, false, List, [], ◌∷◌, length, map, take, drop, get_or, Option, None, Some, refl, sym, ◌∙◌, ap, inl, inr, arith, Ordering, get_or-drop, get_or-take, length-drop, length-take, take_all}
-use Rattle.tree_model.proofs.Common.{nat_tests, IsAscending, cases_lt, drop_all}
-use Rattle.std.specs.List.{range_with_len}
-use Rattle.tree_array.proofs.Common.{Arrivals, arrival, in_order, names, picked, length-picked, arrival-all, IsTabled}
-use Rattle.std.proofs.lemmas.List.{get_or-map, length-map, same_lists}
-use Rattle.std.proofs.lemmas.List.FromFn.{get_or-map-range_with_len, get_or-range_with_len, length-map-range_with_len, length-range_with_len}
-use Rattle.std.proofs.lemmas.Option.{get_or_from_slice_get, none-some}
-use Rattle.tree_model.proofs.Lists.{all_at}
-use Rattle.tree_array.specs.Arrivals.{drained}
-use Rattle.tree_cells.specs.Arrivals.{held}
-use Rattle.tree_cells.specs.Moves.{HasInTurn}
-use Rattle.tree_order.specs.Order.{clamped, is_retired, IsOrder}
+-- Pairs that are moved place by place into the cells of a new array, and the emptying of the cells that they leave.
+use Rattle.std.proofs.Common.{◌≡◌, ℕ, zero, suc, ◌+◌, ◌<◌, ◌≤◌, false, List, [], ◌∷◌, length, map, take, drop, get_or, Option, None, Some, refl, sym, ◌∙◌, ap, inl, inr, arith, Ordering, get_or-drop, get_or-take, length-drop, length-take, set, IsSome, subst}
+use Rattle.tree_array.proofs.Common.{IsAscending, cases_lt, range_with_len, Arrivals, arrival, in_order, names, picked, length-picked, arrival-all, IsTabled, get_or-map}
+use Rattle.tree_array.proofs.Common.{length-map, same_lists, get_or-map-range_with_len, get_or-range_with_len, length-map-range_with_len, length-range_with_len, get_or_from_slice_get}
+use Rattle.tree_array.proofs.Common.{none-some, all_at, drained, held, HasInTurn, is_retired, IsOrder, all_before, held_is, in_order_as, length-held, none_tabled, place_stands, length-names}
+use Rattle.tree_array.proofs.Common.{IsTotalOrder, named, HasLeft, left_more, left_on, cases_option, listed_at, places_apart, named_at}
 use Rattle.tree_array.proofs.Dealt.{spent_list}
 use Rattle.tree_array.proofs.Kept.{count_seen, made_seen, AreFields}
 use Rattle.tree_array.proofs.Seen.{same_arrays}
-use Rattle.tree_array.proofs.Stored.{clamped_early, clamped_late}
-use Rattle.tree_cells.proofs.Sides.{all_before}
-use Rattle.tree_cells.proofs.Tabled.{held_is, in_order_as, length-held, none_tabled, place_stands}
-use Rattle.tree_order.proofs.Words.{length-names}
 
--- a place that is clamped to the entries parts them as it does
-pub cut_same : {X : Type 0} (xs : List X) (count place : ℕ) → length xs ≡ count → (take (clamped count place) xs ≡ take place xs) × (drop (clamped count place) xs ≡ drop place xs)
-cut_same xs count place is = elim (cases_lt place count) [
-  | inl lt ↦ rw (clamped_early count place lt) (refl, refl)
-  | inr ge ↦ rw (clamped_late count place ge) (take_all count xs (omega arith) ∙ sym (take_all place xs (omega arith)), drop_all count xs (omega arith) ∙ sym (drop_all place xs (omega arith)))
-]
+module _ {K V : Type 0} {cmp : K → K → Ordering} (o : IsTotalOrder cmp) {len : ℕ} {old new : List (Option (K × V))} {word made count place : ℕ} (it : IsTabled cmp len old (names word count) made) (left : HasLeft old new word 0 place) where
+  kept_there : (i : ℕ) → place ≤ i → i < count → arrival new (named word i) ≡ arrival old (named word i)
+  kept_there i le lt = left.others (named word i) (λ j from less. places_apart word count it.in_order o j i (omega arith) lt (λ e. omega arith))
 
-pub clamped_within : (count place : ℕ) → clamped count place ≤ count
-clamped_within count place = grind (arith, nat_tests)
+  pub left_stands : (i : ℕ) → place ≤ i → i < count → IsSome (arrival new (named word i))
+  left_stands i le lt = let s = place_stands word count it.in_order i lt in subst IsSome (sym (kept_there i le lt ∙ s.1)) refl
+
+  pub emptied_more : place < count → HasLeft old (set new (named word place) None) word 0 (place + 1)
+  emptied_more lt = left_more left (omega arith) (λ i from less. places_apart word count it.in_order o i place (omega arith) lt (λ e. omega arith))
+
+  -- the pairs of some more places leave
+  module _ {next : List (Option (K × V))} {end : ℕ} (few : end ≤ count) where
+    pub emptied_run : place ≤ end → HasLeft new next word place end → HasLeft old next word 0 end
+    emptied_run ends more = left_on left more (omega arith) (λ i j early le less. places_apart word count it.in_order o i j (omega arith) (omega arith) (λ e. omega arith)) ends
+
+    pub in_turn_run : HasInTurn new next word place end → HasInTurn old next word place end
+    in_turn_run turn = record { here = λ i lt. turn.here i lt ∙ kept_there (place + i) (omega arith) (omega arith); none = turn.none }
+
+  pub emptied_all : place ≡ count → (p : ℕ) → arrival new p ≡ None
+  emptied_all all p =
+      grind (arith, cases_option (arrival old p), left.others p, left.gone, listed_at it p, named_at word count, place_stands word count it.in_order)
 
 module _ {K V : Type 0} (cmp : K → K → Ordering) where
   ascending-drop : (n : ℕ) (entries : List (K × V)) → IsAscending cmp entries → IsAscending cmp (drop n entries)

@@ -1,14 +1,9 @@
 -- Arrivals within two bounds that are spent one by one.
-use Rattle.std.proofs.Common.{◌≡◌, ◌≢◌, ℕ, ◌+◌, ◌<◌, ◌≤◌, true, false, if◌then◌else◌, List, [], map, length, Option, None, Some, refl, sym, ◌∙◌, ap, inl, inr, arith, not, ◌&&◌, ◌||◌, Ordering, is_eq, ext_get_or}
-use Rattle.tree_model.proofs.Common.{Bound, IsTotalOrder, cases_eq, tied_itself, nat_tests, nil_from_length, cut, within, without}
-use Rattle.tree_array.proofs.Common.{Arrivals, arrival, reachable, removed, sorted, spent_at, IsSound, equal_from_test}
-use Rattle.std.proofs.lemmas.Bool.{false_from_ne_true}
-use Rattle.std.proofs.lemmas.List.{length-map}
-use Rattle.std.proofs.lemmas.Option.{none-some}
-use Rattle.tree_array.specs.Arrivals.{cut_at, is_empty, without_range}
+use Rattle.std.proofs.Common.{◌≡◌, ◌≢◌, ℕ, ◌+◌, ◌<◌, ◌≤◌, true, false, List, [], map, length, Option, None, Some, refl, sym, ◌∙◌, ap, arith, not, ◌&&◌, ◌||◌, Ordering, is_eq, ext_get_or}
+use Rattle.tree_array.proofs.Common.{Bound, IsTotalOrder, cases_eq, tied_itself, nat_tests, nil_from_length, cut, without, Arrivals, arrival, reachable, removed, sorted, spent_at, IsSound}
+use Rattle.tree_array.proofs.Common.{equal_from_test, false_from_ne_true, length-map, none-some, cut_at, is_empty, without_range, entries-cut, entries-spend, all_spent}
+use Rattle.tree_model.proofs.Common.{within}
 use Rattle.tree_array.proofs.Dealt.{arrival-map}
-use Rattle.tree_cells.proofs.Entries.{entries-cut, entries-spend}
-use Rattle.tree_cells.proofs.Picks.{all_spent}
 use Rattle.tree_array.proofs.Seen.{same_arrays, unspent}
 
 module _ {K V : Type 0} (cmp : K → K → Ordering) (low high : Bound K) where
@@ -39,10 +34,7 @@ module _ {K V : Type 0} {cmp : K → K → Ordering} (o : IsTotalOrder cmp) (low
     pub cut_kept : cut_at cmp low high (arrival mid.arrivals n) ≡ arrival mid.arrivals n → IsCutTo cmp low high old (n + 1) mid
     cut_kept stays = record {
       whole = so_far.whole;
-      cut = λ p lt. elim (cases_eq p n) [
-        | inl here ↦ rw here (sym stays ∙ ap (cut_at cmp low high) (so_far.rest n (omega arith)))
-        | inr differs ↦ so_far.cut p (omega arith)
-      ];
+      cut = λ p lt. grind (arith, stays, so_far.rest n, so_far.cut p, cases_eq p n);
       rest = λ p le. so_far.rest p (omega arith);
       entries = so_far.entries;
       retired = so_far.retired;
@@ -58,8 +50,7 @@ module _ {K V : Type 0} {cmp : K → K → Ordering} (o : IsTotalOrder cmp) (low
       other p differs e some = false_from_ne_true _ (λ h. differs (kept.distinct p n e (key, val) some was (equal_from_test _ h)))
 
       cut_other : (a : Option (K × V)) → ((e : K × V) → a ≡ Some e → is_eq (cmp e.0 key) ≡ false) → spent_at cmp key (cut_at cmp low high a) ≡ cut_at cmp low high a
-      cut_other None others = refl
-      cut_other (Some e) others = let stays = unspent cmp key (Some e) others in elim (within cmp low high e.0) as (λ b. spent_at cmp key (if b then None else Some e) ≡ (if b then None else Some e)) [ true ↦ refl | false ↦ stays ]
+      cut_other a others = grind (arith, unspent cmp key a others)
 
       -- so the array wasn't empty, nor retired
       some_entry : old.entries ≡ [] → ⊥
@@ -74,10 +65,7 @@ module _ {K V : Type 0} {cmp : K → K → Ordering} (o : IsTotalOrder cmp) (low
       pub cut_taken : IsCutTo cmp low high old (n + 1) new
       cut_taken = rw new_is record {
         whole = length-map mid.arrivals (spent_at cmp key) ∙ so_far.whole;
-        cut = λ p lt. arrival-map (spent_at cmp key) refl mid.arrivals p ∙ elim (cases_eq p n) [
-          | inl here ↦ rw (here, there, was, tied_itself o key, inside) refl
-          | inr differs ↦ ap (spent_at cmp key) (so_far.cut p (omega arith)) ∙ cut_other (arrival old.arrivals p) (other p differs)
-        ];
+        cut = λ p lt. grind (arith, arrival-map (spent_at cmp key) refl mid.arrivals p, cases_eq p n, there, was, tied_itself o key, inside, so_far.cut p, cut_other (arrival old.arrivals p), other p);
         rest = λ p le.
             let differs : p ≢ n = λ e. omega arith in
             arrival-map (spent_at cmp key) refl mid.arrivals p ∙ ap (spent_at cmp key) (so_far.rest p (omega arith)) ∙ unspent cmp key (arrival old.arrivals p) (other p differs);

@@ -1,19 +1,9 @@
 -- A run: a pair that is pushed, and the array that a run becomes.
-use Rattle.std.proofs.Common.{◌≡◌, ◌≢◌, ℕ, zero, suc, ◌+◌, ◌<◌, ◌≤◌, true, false, List, [], ◌∷◌, ◌++◌, map, length, set, replicate, Option, Some, None, refl, sym, ap, ◌∙◌, inl, inr, arith, take_all, Ordering, Less, length-append}
-use Rattle.std.specs.List.{range_with_len}
-use Rattle.std.proofs.lemmas.List.{length-map, length-replicate, map-id}
-use Rattle.std.proofs.lemmas.List.FromFn.{length-range_with_len, map-range_with_len_more}
-use Rattle.tree_model.proofs.Common.{AllByRecursion, IsTotalOrder, cases_lt, drop_all, map-append}
-use Rattle.tree_model.proofs.LookUps.{absent_beyond, put_beyond}
-use Rattle.tree_array.proofs.Common.{arrival, in_order, names, spend, stored, IsLen}
-use Rattle.tree_array.specs.Insertion.{IsStore}
-use Rattle.tree_array.specs.Runs.{IsRun, gathered}
+use Rattle.std.proofs.Common.{◌≡◌, ◌≢◌, ℕ, zero, suc, ◌+◌, ◌<◌, ◌≤◌, true, List, [], ◌∷◌, ◌++◌, map, length, set, replicate, Option, Some, None, refl, sym, ◌∙◌, inl, inr, arith, Ordering, Less, length-append}
+use Rattle.tree_array.proofs.Common.{range_with_len, length-map, length-replicate, length-range_with_len, AllByRecursion, IsTotalOrder, cases_lt}
+use Rattle.tree_array.proofs.Common.{map-append, absent_beyond, put_beyond, arrival, in_order, spend, stored, IsLen, IsStore, IsRun, gathered, none_replicated, added}
+use Rattle.tree_array.proofs.Common.{places, get_or-range_with_len, same_lists, length-held, none_tabled, inserted}
 use Rattle.tree_array.specs.declared.answers.StoreResult.TheVariants.{New}
-use Rattle.tree_cells.specs.Arrivals.{held}
-use Rattle.tree_cells.proofs.Moves.{none_replicated}
-use Rattle.tree_cells.proofs.Tabled.{added, length-held, none_tabled}
-use Rattle.tree_order.specs.Order.{inserted, is_retired, IsOrder}
-use Rattle.tree_array.proofs.Kept.{AreFields}
 use Rattle.tree_array.proofs.Seen.{same_arrays}
 use Rattle.tree_array.proofs.Stored.{parts_behind}
 
@@ -24,20 +14,11 @@ module _ {K V : Type 0} (cmp : K → K → Ordering) where
 
   -- a pair with a larger key arrives in turn
   stored_in_order : (l : List (K × V)) (key : K) (val : V) → AllByRecursion (λ p. cmp p.0 key ≡ Less) l → stored cmp (in_order l) key val ≡ in_order (l ++ (key, val) ∷ [])
-  stored_in_order l key val smaller =
-      same_arrays _ _ _ _ _ _ (ap (λ (a : List (Option (K × V))). a ++ Some (key, val) ∷ []) (spent_none l key smaller) ∙ sym (map-append (λ (p : K × V). Some p) l ((key, val) ∷ []))) refl (put_beyond cmp l key val smaller)
+  stored_in_order l key val smaller = grind (arith, same_arrays, spent_none, map-append, put_beyond)
 
   -- and is stored
   pub in_order_stores : (len : ℕ) (l : List (K × V)) (key : K) (val : V) → AllByRecursion (λ p. cmp p.0 key ≡ Less) l → length l < len → IsStore cmp len true (in_order l) key val New (in_order (l ++ (key, val) ∷ []))
-  in_order_stores len l key val smaller room = (
-    record {
-      new_is = sym (stored_in_order l key val smaller);
-      room = (omega (arith, room, length-map l (λ (p : K × V). Some p)), refl);
-      absent = λ h. absent_beyond cmp l key smaller;
-      few = omega (arith, room, length-append l ((key, val) ∷ []));
-    },
-    absent_beyond cmp l key smaller,
-  )
+  in_order_stores len l key val smaller room = grind (arith, stored_in_order, length-map, absent_beyond, length-append)
 
   -- cells without a pair
   pub first_run : (len : ℕ) → IsLen len → IsRun {K = K} {V = V} cmp len (replicate len None) 0 0
@@ -45,10 +26,7 @@ module _ {K V : Type 0} (cmp : K → K → Ordering) where
 
 -- the next slot comes behind those in turn
 next_in_turn : (n : ℕ) → inserted n n (range_with_len 0 n) ≡ range_with_len 0 (n + 1)
-next_in_turn n =
-    let whole = length-range_with_len 0 n in
-    let more = map-range_with_len_more (λ (p : ℕ). p) 0 n n (omega arith) in
-    rw (take_all n (range_with_len 0 n) (omega (arith, whole)), drop_all n (range_with_len 0 n) (omega (arith, whole))) (sym (rw (map-id (range_with_len 0 n), map-id (range_with_len 0 (n + 1))) at more))
+next_in_turn n = same_lists _ _ (grind (arith, places, length-range_with_len)) (λ k d h. grind (arith, places, length-range_with_len, get_or-range_with_len))
 
 module _ {K V : Type 0} {cmp : K → K → Ordering} {len count made : ℕ} {cells : List (Option (K × V))} (it : IsRun cmp len cells count made) where
   -- a run has as many pairs as it counts, and no more than slots
@@ -63,13 +41,6 @@ module _ {K V : Type 0} {cmp : K → K → Ordering} {len count made : ℕ} {cel
       begins zero pairs some stand = absurd (omega (arith, some))
       begins (suc n) [] some stand = absurd (cc)
       begins (suc n) (pair ∷ rest) some stand = (pair, rest, refl, cc)
-
-  -- an order of these slots makes an array of them
-  pub run_fields : {word m n : ℕ} → n ≡ count → names word n ≡ range_with_len 0 n → m ≡ n → IsOrder len word m → is_retired word ≡ false → AreFields cmp len cells word count made (in_order (gathered cells count))
-  run_fields is turn same order alive = record {
-    it = record { table = rw (rw is at turn) it.table; order = rw (same, is) at order };
-    view = rw it.all (same_arrays _ _ _ _ _ _ it.table.in_order.stand alive (ap (held cells) (rw is at turn)));
-  }
 
   -- a pair is pushed, whose key is larger than all
   module _ (room : length (gathered cells count) ≢ len) where

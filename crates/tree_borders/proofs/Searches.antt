@@ -29,10 +29,7 @@ module _ {K X : Type 0} {cmp : K → K → Ordering} (o : IsTotalOrder cmp) (key
 
   found_ge : (pairs : List (K × X)) (pair : K × X) → least_from cmp pairs key ≡ Some pair → is_ge (cmp pair.0 key) ≡ true
   found_ge [] pair is = cc
-  found_ge (c ∷ pairs) pair is = elim (cases_Bool (is_ge (cmp c.0 key))) [
-    | inl from ↦ let same : pair ≡ c = cc (rw from at is) in rw same from
-    | inr past ↦ found_ge pairs pair (rw past at is)
-  ]
+  found_ge (c ∷ pairs) pair is = grind (arith, found_ge pairs pair)
 
   -- from the found one on
   others_from : (pairs : List (K × X)) (place : ℕ) (pair : K × X) → IsAscending cmp pairs → slice_get pairs place ≡ Some pair → is_ge (cmp pair.0 key) ≡ true
@@ -41,10 +38,7 @@ module _ {K X : Type 0} {cmp : K → K → Ordering} (o : IsTotalOrder cmp) (key
   others_from (c ∷ pairs) zero pair ascending is ge =
       let same : c ≡ pair = cc in
       let here : is_ge (cmp c.0 key) ≡ true = rw same ge in
-      (here, all_map (λ d less. larger_ge c.0 d.0 here less) _ ascending.0)
-    where
-      larger_ge : (s t : K) → is_ge (cmp s key) ≡ true → cmp s t ≡ Less → is_ge (cmp t key) ≡ true
-      larger_ge s t ge less = grind (arith, o.trans s t key)
+      (here, all_map (λ d less. grind (arith, here, less, o.trans c.0 d.0 key)) _ ascending.0)
   others_from (c ∷ pairs) (suc place) pair ascending is ge = others_from pairs place pair ascending.1 is ge
 
   -- after smaller ones, one that isn't smaller is the found one

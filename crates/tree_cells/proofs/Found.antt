@@ -1,12 +1,6 @@
 -- What the entries of an array are among its arrivals, and what look-ups find there.
-use Rattle.std.proofs.Common.{◌≡◌, ℕ, zero, suc, Bool, true, false, cond, List, [], ◌∷◌, find, map, Option, None, Some, refl, sym, ◌∙◌, Ordering}
-use Rattle.tree_model.proofs.Common.{IsTotalOrder, pair_at, tied_back, tied_itself}
-use Rattle.std.proofs.lemmas.Option.{none-some, same_Some}
-use Rattle.tree_model.proofs.Lists.{find_none}
-use Rattle.tree_model.proofs.LookUps.{equal_from_test}
-use Rattle.tree_cells.specs.Arrivals.{arrival, held, reachable, sorted}
-use Rattle.tree_cells.specs.Tabled.{IsTabled}
-use Rattle.tree_order.specs.Order.{picked}
+use Rattle.std.proofs.Common.{arith, ◌≡◌, ℕ, zero, suc, Bool, true, false, List, [], ◌∷◌, find, map, Option, None, Some, inl, inr, refl, sym, ◌∙◌, Ordering}
+use Rattle.tree_cells.proofs.Common.{cases_Bool, IsTotalOrder, pair_at, tied_back, tied_itself, none-some, same_Some, find_none, equal_from_test, arrival, held, reachable, sorted, IsTabled, picked}
 use Rattle.tree_cells.proofs.Entries.{sorted_as}
 use Rattle.tree_cells.proofs.Picks.{arrival-all}
 use Rattle.tree_cells.proofs.Sides.{all_behind, key_found}
@@ -17,26 +11,15 @@ module _ {K V : Type 0} (test : K × V → Bool) where
   found_arrival : (arrivals : List (Option (K × V))) (e : K × V) → find test (reachable arrivals) ≡ Some e → (p : ℕ) × (arrival arrivals p ≡ Some e) × (test e ≡ true)
   found_arrival [] e some = absurd (none-some e some)
   found_arrival (None ∷ arrivals) e some = let p = found_arrival arrivals e some in (suc p.0, p.1, p.2)
-  found_arrival (Some f ∷ arrivals) e some = go (test f) refl (found_arrival arrivals e) some
-    where
-      go : (b : Bool) → test f ≡ b → (find test (reachable arrivals) ≡ Some e → (p : ℕ) × (arrival arrivals p ≡ Some e) × (test e ≡ true)) → cond b (Some f) (find test (reachable arrivals)) ≡ Some e → (p : ℕ) × (arrival (Some f ∷ arrivals) p ≡ Some e) × (test e ≡ true)
-      go true passes again here = (0, here, rw (← same_Some f e here) passes)
-      go false fails again there = let p = again there in (suc p.0, p.1, p.2)
+  found_arrival (Some f ∷ arrivals) e some = elim (cases_Bool (test f)) [
+    | inl passes ↦ (0, rw passes at some, rw (← same_Some f e (rw passes at some)) passes)
+    | inr fails ↦ let p = found_arrival arrivals e (rw fails at some) in (suc p.0, p.1, p.2)
+  ]
 
   all_fail : (arrivals : List (Option (K × V))) (p : ℕ) (e : K × V) → arrival arrivals p ≡ Some e → find test (reachable arrivals) ≡ None → test e ≡ false
-  all_fail [] p e there none = absurd (none-some e there)
-  all_fail (None ∷ arrivals) zero e there none = absurd (none-some e there)
-  all_fail (None ∷ arrivals) (suc p) e there none = all_fail arrivals p e there none
-  all_fail (Some f ∷ arrivals) zero e there none = go (test f) refl none
-    where
-      go : (b : Bool) → test f ≡ b → cond b (Some f) (find test (reachable arrivals)) ≡ None → test e ≡ false
-      go true passes some = absurd (none-some f (sym some))
-      go false fails none = rw (← same_Some f e there) fails
-  all_fail (Some f ∷ arrivals) (suc p) e there none = go (test f) (all_fail arrivals p e there) none
-    where
-      go : (b : Bool) → (find test (reachable arrivals) ≡ None → test e ≡ false) → cond b (Some f) (find test (reachable arrivals)) ≡ None → test e ≡ false
-      go true again some = absurd (none-some f (sym some))
-      go false again none = again none
+  all_fail [] p e there none = absurd (cc)
+  all_fail (a ∷ arrivals) zero e there none = grind arith
+  all_fail (a ∷ arrivals) (suc p) e there none = grind (arith, all_fail arrivals p e)
 
 module _ {K V : Type 0} {cmp : K → K → Ordering} (o : IsTotalOrder cmp) {len : ℕ} {cells : List (Option (K × V))} {slots : List ℕ} {made : ℕ} (it : IsTabled cmp len cells slots made) where
   -- a look-up among arrivals finds what it finds among entries

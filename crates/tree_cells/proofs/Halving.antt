@@ -1,25 +1,10 @@
 -- One step of the search by halving.
-use Rattle.std.proofs.Common.{◌≡◌, ◌≢◌, ℕ, ◌+◌, ◌-◌, ◌*◌, ◌/◌, ◌^◌, ◌<◌, ◌≤◌, true, false, List, length, Option, Some, IsSome, slice_get, refl, sym, ◌∙◌, ap, subst, inl, inr, arith, Ordering, Less, Equal, Greater, is_eq, is_gt, shr-shr}
-use Rattle.tree_model.proofs.Common.{IsTotalOrder, false≢true, cases_eq, cases_lt, nat_tests}
+use Rattle.std.proofs.Common.{◌≡◌, ◌≢◌, ℕ, ◌+◌, ◌-◌, ◌*◌, ◌/◌, ◌^◌, ◌<◌, ◌≤◌, true, false, List, length, Option, Some, IsSome, slice_get, refl, sym, ◌∙◌, ap, subst, inr, arith, min, Ordering, Less, Equal, Greater, is_eq, is_gt, shr-shr}
+use Rattle.tree_cells.proofs.Common.{IsTotalOrder, cases_eq, cases_lt, nat_tests, arrival, held, against, searched, IsPlace, IsWindow, Parts, AreSlots, At}
+use Rattle.tree_cells.proofs.Common.{Before, IsLen, named, names, greater_from_less, greater_trans, named_beyond, named_tail, length-names, named_at, named_later, slice_get-names}
 use mir.Val.{bool_byte}
-use Rattle.std.proofs.lemmas.Option.{same_Some}
-use Rattle.tree_cells.specs.Arrivals.{arrival, held}
-use Rattle.tree_cells.specs.Place.{against, nearest, searched, IsPlace, IsWindow, Parts}
-use Rattle.tree_cells.specs.Tabled.{AreSlots}
-use Rattle.tree_cells.specs.declared.search.Place.TheVariants.{At, Before}
-use Rattle.tree_order.specs.Length.{IsLen}
-use Rattle.tree_order.specs.Order.{named, names}
-use Rattle.tree_model.proofs.Order.{greater_from_less, greater_trans}
 use Rattle.tree_cells.proofs.Sides.{all_before, all_behind, ascending_at}
 use Rattle.tree_cells.proofs.Tabled.{length-held, place_stands, slot_there}
-use Rattle.tree_order.proofs.Rows.{named_beyond, named_tail}
-use Rattle.tree_order.proofs.Words.{length-names, named_at, named_later, slice_get-names}
-
-nearest_early : (count place : ℕ) → place < count → nearest count place ≡ place
-nearest_early count place lt = grind (arith, nat_tests)
-
-nearest_late : (count place : ℕ) → count ≤ place → nearest count place ≡ count - 1
-nearest_late count place le = grind (arith, nat_tests)
 
 pub searched_more : (len : ℕ) → 7 < len → searched len ≡ 4
 searched_more len lt = grind (arith, nat_tests)
@@ -32,23 +17,16 @@ searched_some len = grind (arith, nat_tests)
 
 module _ {K V : Type 0} {cmp : K → K → Ordering} (o : IsTotalOrder cmp) {cells : List (Option (K × V))} {len word count : ℕ} (slots : AreSlots cmp len cells word count) where
   -- each place names the slot of an entry, the last one behind all
-  named_nearest : (i : ℕ) → i < len → (nearest count i < count) × (named word i ≡ named word (nearest count i))
-  named_nearest i lt = elim (cases_lt i count) [
-    | inl early ↦ rw (nearest_early count i early) (early, refl)
-    | inr late ↦ rw (nearest_late count i late) (omega arith, named_tail slots.order slots.some i late lt)
-  ]
+  named_near : (i : ℕ) → i < len → named word i ≡ named word (min i (count - 1))
+  named_near i lt = grind (arith, named_tail slots.order slots.some i, cases_lt i count)
 
-  stands_near : (i : ℕ) → i < len → (e : K × V) × (arrival cells (named word i) ≡ Some e) × (slice_get (held cells (names word count)) (nearest count i) ≡ Some e)
+  stands_near : (i : ℕ) → i < len → (e : K × V) × (arrival cells (named word i) ≡ Some e) × (slice_get (held cells (names word count)) (min i (count - 1)) ≡ Some e)
   stands_near i lt =
-      let near = named_nearest i lt in
-      let s = place_stands word count slots.in_order (nearest count i) near.0 in
-      (s.0, ap (arrival cells) near.1 ∙ s.1, s.2)
+      let s = place_stands word count slots.in_order (min i (count - 1)) (omega (arith, slots.some)) in
+      (s.0, ap (arrival cells) (named_near i lt) ∙ s.1, s.2)
 
   pub stands_all : (i : ℕ) → i < len → IsSome (arrival cells (named word i))
   stands_all i lt = subst IsSome (sym (stands_near i lt).1) refl
-
-  near_rises : (i j : ℕ) → i ≤ j → nearest count i ≤ nearest count j
-  near_rises i j le = grind (arith, nat_tests)
 
   module _ (key : K) where
     abbrev answer_at : ℕ → Ordering
@@ -59,12 +37,8 @@ module _ {K V : Type 0} {cmp : K → K → Ordering} (o : IsTotalOrder cmp) {cel
     falls i j le lt =
         let s = stands_near i (omega arith) in
         let t = stands_near j lt in
-        rw (s.1, t.1) (elim (cases_eq (nearest count i) (nearest count j)) [
-          | inl same ↦ let one = same_Some s.0 t.0 (sym s.2 ∙ ap (slice_get (held cells (names word count))) same ∙ t.2) in rw one (λ h. h, λ h. h)
-          | inr differs ↦
-              let less = ascending_at cmp (held cells (names word count)) slots.in_order.ascend (nearest count i) (nearest count j) s.0 t.0 (omega (arith, near_rises i j le)) s.2 t.2 in
-              (λ greater. greater_trans o key t.0.0 s.0.0 greater (greater_from_less o s.0.0 t.0.0 less), λ before. o.trans key s.0.0 t.0.0 before less)
-        ])
+        let less = ascending_at cmp (held cells (names word count)) slots.in_order.ascend (min i (count - 1)) (min j (count - 1)) s.0 t.0 in
+        grind (arith, s.1, s.2, t.1, t.2, less, cases_eq (min i (count - 1)) (min j (count - 1)), greater_trans o key t.0.0 s.0.0, greater_from_less o s.0.0 t.0.0, o.trans key s.0.0 t.0.0)
 
     -- what holds of the answers at places holds of their entries
     entry_answer : (i : ℕ) (e : K × V) → slice_get (held cells (names word count)) i ≡ Some e → (i < count) × (cmp key e.0 ≡ answer_at i)
@@ -92,17 +66,6 @@ module _ {K V : Type 0} {cmp : K → K → Ordering} (o : IsTotalOrder cmp) {cel
         let at_slot = named_at word count (count - 1) slot at_last in
         let last : answer_at (count - 1) ≡ Greater = ap (against cmp key) (ap (arrival cells) at_slot.1 ∙ there) ∙ greater in
         behind_all count 15 (omega arith) refl (λ i lt. (falls i (count - 1) (omega arith) (omega (arith, slots.order.few))).0 last)
-
-    -- the first window, among seven slots or among fifteen
-    pub window_all : {width : ℕ} → len ≡ width → width ≤ 15 → IsWindow cmp cells word key len 0 word 0 width
-    window_all is small = record {
-      reach = omega arith;
-      few = omega arith;
-      left = omega arith;
-      smaller = λ i lt. absurd (omega arith);
-      larger = λ none i le lt. absurd (omega arith);
-      equal = λ more. absurd (omega arith);
-    }
 
     module _ {place rest met : ℕ} (half : ℕ) (w : IsWindow cmp cells word key len place rest met (2 * half + 1)) where
       middle_within : place + half < len
@@ -142,7 +105,7 @@ module _ {K V : Type 0} {cmp : K → K → Ordering} (o : IsTotalOrder cmp) {cel
           larger = λ none i le lt. (falls (place + half) i le lt).1 (here Less less);
           equal = λ more.
               let q = w.equal more in
-              absurd (let h : Less ≡ Equal = sym ((falls (place + half) (place + (2 * half + 1)) (omega arith) q.0).1 (here Less less)) ∙ q.1 in cc);
+              absurd (cc ((falls (place + half) (place + (2 * half + 1)) (omega arith) q.0).1 (here Less less), q.1));
         }
 
         pub window_equal : cmp key e.0 ≡ Equal → IsWindow cmp cells word key len place rest (met + 1) half
@@ -157,25 +120,20 @@ module _ {K V : Type 0} {cmp : K → K → Ordering} (o : IsTotalOrder cmp) {cel
 
         -- one step, by what the comparison with the middle answers
         pub halved_up : (answer : Ordering) → answer ≡ cmp key e.0 → is_gt answer ≡ true → IsWindow cmp cells word key len (place + half + 1) (rest / 2 ^ (4 * half + 4)) (met + bool_byte (is_eq answer)) half
-        halved_up Less is up = absurd (false≢true up)
-        halved_up Equal is up = absurd (false≢true up)
-        halved_up Greater is up = let f : met + 0 ≡ met = omega arith in rw f (window_greater (sym is))
+        halved_up answer is up = grind (arith, window_greater)
 
         pub halved_down : (answer : Ordering) → answer ≡ cmp key e.0 → is_gt answer ≡ false → IsWindow cmp cells word key len place rest (met + bool_byte (is_eq answer)) half
-        halved_down Less is down = let f : met + 0 ≡ met = omega arith in rw f (window_less (sym is))
-        halved_down Equal is down = window_equal (sym is)
-        halved_down Greater is down = absurd (false≢true (sym down))
+        halved_down answer is down = grind (arith, window_less, window_equal)
 
     -- an equal key at the end of a window
     module _ {place rest met width : ℕ} (w : IsWindow cmp cells word key len place rest met width) where
-      pub end_placed : 0 < met → IsPlace cmp (held cells (names word count)) key (names word count) (At (nearest count (place + width)) (named rest width))
+      pub end_placed : 0 < met → IsPlace cmp (held cells (names word count)) key (names word count) (At (min (place + width) (count - 1)) (named rest width))
       end_placed more =
           let q = w.equal more in
-          let near = named_nearest (place + width) q.0 in
           let s = stands_near (place + width) q.0 in
-          let slot : named word (nearest count (place + width)) ≡ named rest width = sym near.1 ∙ sym (named_later word place width) ∙ ap (λ (rest : ℕ). named rest width) (sym w.left) in (
+          let slot : named word (min (place + width) (count - 1)) ≡ named rest width = sym (named_near (place + width) q.0) ∙ sym (named_later word place width) ∙ ap (λ (rest : ℕ). named rest width) (sym w.left) in (
             record { pair = s.0; there = s.2; same = sym (ap (against cmp key) s.1) ∙ q.1 },
-            slice_get-names word count (nearest count (place + width)) near.0 ∙ ap (λ (p : ℕ). Some p) slot,
+            slice_get-names word count _ (omega (arith, slots.some)) ∙ ap (λ (p : ℕ). Some p) slot,
           )
 
     -- nothing is left of a window
@@ -185,25 +143,15 @@ module _ {K V : Type 0} {cmp : K → K → Ordering} (o : IsTotalOrder cmp) {cel
 
       -- the place is that of an entry, or behind all slots: else slots.in_order names the entry before it, which is smaller
       early_place : place < len → answer_at place ≢ Greater → place < count
-      early_place within differs = elim (cases_lt place count) [
-        | inl lt ↦ lt
-        | inr ge ↦ absurd (differs (ap (λ (p : ℕ). against cmp key (arrival cells p)) (named_tail slots.order slots.some place ge within) ∙ w.smaller (count - 1) (omega arith)))
-      ]
+      early_place within differs = grind (arith, cases_lt, against, named_tail, slots.order, slots.some, w.smaller)
 
       pub place_equal : 0 < met → IsPlace cmp (held cells (names word count)) key (names word count) (At place (named rest 0))
       place_equal more =
           let q = rw still at (w.equal more) in
           let lt = early_place q.0 (λ greater. let h : Equal ≡ Greater = sym q.1 ∙ greater in cc) in
-          rw (still, nearest_early count place lt) at (end_placed w more)
+          let same : min (place + 0) (count - 1) ≡ place = omega arith in
+          rw same at (end_placed w more)
 
       pub place_apart : met ≡ 0 → IsPlace cmp (held cells (names word count)) key (names word count) (Before place (named rest 0))
       place_apart none =
-          let slot : named rest 0 ≡ named word place = rw (w.left) (named_later word place 0 ∙ ap (named word) still) in
-          elim (cases_lt place len) [
-            | inl within ↦
-                let lt = early_place within (λ greater. let h : Less ≡ Greater = sym (w.larger none place (omega arith) within) ∙ greater in cc) in
-                inl (parts_at place (omega arith) w.smaller (λ i le lt. w.larger none i (omega arith) (omega (arith, slots.order.few))), slice_get-names word count place lt ∙ ap (λ (p : ℕ). Some p) (sym slot))
-            | inr past ↦
-                let e : place ≡ len = omega (arith, w.reach) in
-                behind_all place (named rest 0) (omega (arith, slots.order.few)) (slot ∙ ap (named word) e ∙ named_beyond slots.order slots.some) (λ i lt. w.smaller i (omega (arith, slots.order.few)))
-          ]
+          grind (arith, w.left, named_later, still, cases_lt, early_place, w.larger, parts_at, w.smaller, slots.order.few, slice_get-names, w.reach, behind_all, named_beyond, slots.order, slots.some)

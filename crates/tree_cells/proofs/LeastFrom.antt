@@ -1,13 +1,8 @@
 -- The least entry whose key isn't less than another.
 use Rattle.std.proofs.Common.{◌≡◌, ℕ, zero, suc, ◌<◌, ◌≤◌, true, List, [], ◌∷◌, length, take, slice_get, None, Some, refl, ap, inl, inr, arith, Ordering, Greater, take_all, is_ge}
-use Rattle.tree_model.proofs.Common.{IsTotalOrder, AllByRecursion, IsAscending, tied_back}
-use Rattle.std.proofs.lemmas.Option.{none-some, same_Some}
-use Rattle.tree_cells.specs.Arrivals.{least_from}
-use Rattle.tree_cells.specs.Place.{IsPlace, slot_of}
+use Rattle.tree_cells.proofs.Common.{IsTotalOrder, AllByRecursion, IsAscending, tied_back, none-some, same_Some, least_from, IsPlace, slot_of, At, Before, all_map, find_none}
+use Rattle.tree_cells.proofs.Common.{greater_from_less, less_from_greater}
 use Rattle.tree_cells.specs.declared.search.Place.{Place}
-use Rattle.tree_cells.specs.declared.search.Place.TheVariants.{At, Before}
-use Rattle.tree_model.proofs.Lists.{all_map, find_none}
-use Rattle.tree_model.proofs.Order.{greater_from_less, less_from_greater}
 use Rattle.tree_cells.proofs.Sides.{next_larger, sides_key}
 
 module _ {K V : Type 0} {cmp : K → K → Ordering} (o : IsTotalOrder cmp) (key : K) where

@@ -1,25 +1,15 @@
 -- The entries on either side of a key.
-use Rattle.std.proofs.Common.{◌≡◌, ℕ, zero, suc, ◌+◌, ◌<◌, ◌≤◌, false, List, [], ◌∷◌, ◌++◌, filter, take, drop, slice_get, None, Some, refl, sym, ◌∙◌, ap, subst, inl, inr, arith, append-nil, take-append-drop, Ordering, Less, Equal, Greater, is_lt, is_eq, is_gt}
-use Rattle.tree_model.proofs.Common.{IsTotalOrder, AllByRecursion, IsAscending, cases_order, filter-append, pair_at, put, tied_back, without, above, below}
-use Rattle.std.proofs.lemmas.List.{drop_more}
-use Rattle.std.proofs.lemmas.Option.{get_or_from_slice_get, none-some, same_Some, slice_get_within}
-use Rattle.tree_model.proofs.Lists.{all_at, all_map, all-append, filter_all, filter_none, find_after, find_none}
-use Rattle.tree_model.proofs.Order.{greater_from_less, less_from_greater}
-use Rattle.tree_cells.specs.Place.{HasKey, IsPlace, Parts}
-use Rattle.tree_cells.specs.declared.search.Place.TheVariants.{Before}
-use Rattle.tree_order.specs.Order.{edited}
+use Rattle.std.proofs.Common.{◌-◌, ◌≡◌, ℕ, ◌+◌, ◌<◌, ◌≤◌, false, List, [], ◌∷◌, ◌++◌, take, drop, slice_get, length-take, length-drop, get_or-take, get_or-drop, None, Some, refl, sym, ◌∙◌, ap, subst, inl, inr, arith, append-nil, take-append-drop, Ordering, Less, Equal, Greater, is_eq}
+use Rattle.tree_cells.proofs.Common.{IsTotalOrder, AllByRecursion, IsAscending, cases_order, filter-append, pair_at, put, tied_back, without, above, below, drop_more, get_or_from_slice_get}
+use Rattle.tree_cells.proofs.Common.{slice_get_within, all_at, all_map, all-append, filter_all, filter_none, find_after, find_none, greater_from_less}
+use Rattle.tree_cells.proofs.Common.{recursion_from_All, slice_get-get_or, less_from_greater, HasKey, IsPlace, Parts, Before, edited}
 
 module _ {X : Type 0} (P : X → Type 0) where
   pub all_before : (xs : List X) (n : ℕ) → ((i : ℕ) (x : X) → i < n → slice_get xs i ≡ Some x → P x) → AllByRecursion P (take n xs)
-  all_before xs zero each = tt
-  all_before [] (suc n) each = tt
-  all_before (x ∷ xs) (suc n) each = (each 0 x (omega arith) refl, all_before xs n (λ i y lt there. each (suc i) y (omega arith) there))
+  all_before xs n each = recursion_from_All P (take n xs) (λ k d lt. each k _ (omega (arith, lt, length-take n xs)) (slice_get-get_or xs k d (omega (arith, lt, length-take n xs)) ∙ ap (λ (x : X). Some x) (sym (get_or-take n xs k d (omega (arith, lt, length-take n xs))))))
 
   pub all_behind : (xs : List X) (n : ℕ) → ((i : ℕ) (x : X) → n ≤ i → slice_get xs i ≡ Some x → P x) → AllByRecursion P (drop n xs)
-  all_behind [] zero each = tt
-  all_behind (x ∷ xs) zero each = (each 0 x (omega arith) refl, all_behind xs 0 (λ i y le there. each (suc i) y (omega arith) there))
-  all_behind [] (suc n) each = tt
-  all_behind (x ∷ xs) (suc n) each = all_behind xs n (λ i y le there. each (suc i) y (omega arith) there)
+  all_behind xs n each = recursion_from_All P (drop n xs) (λ k d lt. each (n + k) _ (omega arith) (slice_get-get_or xs (n + k) d (omega (arith, lt, length-drop n xs)) ∙ ap (λ (x : X). Some x) (sym (get_or-drop n xs k d))))
 
 module _ {X : Type 0} (xs : List X) (i : ℕ) (x : X) (there : slice_get xs i ≡ Some x) where
   -- a list by its element at a place
@@ -31,19 +21,14 @@ module _ {X : Type 0} (xs : List X) (i : ℕ) (x : X) (there : slice_get xs i �
 
 module _ {K V : Type 0} (cmp : K → K → Ordering) where
   pub ascending_at : (entries : List (K × V)) → IsAscending cmp entries → (i j : ℕ) (e f : K × V) → i < j → slice_get entries i ≡ Some e → slice_get entries j ≡ Some f → cmp e.0 f.0 ≡ Less
-  ascending_at [] h i j e f lt at_i at_j = absurd (none-some e at_i)
-  ascending_at (x ∷ entries) h i zero e f lt at_i at_j = absurd (omega arith)
-  ascending_at (x ∷ entries) h zero (suc j) e f lt at_i at_j = rw (← same_Some x e at_i) (all_at (λ g. cmp x.0 g.0 ≡ Less) entries j f h.0 at_j)
-  ascending_at (x ∷ entries) h (suc i) (suc j) e f lt at_i at_j = ascending_at entries h.1 i j e f (omega arith) at_i at_j
+  ascending_at [] h i j e f lt at_i at_j = absurd (cc)
+  ascending_at (x ∷ entries) h i j e f lt at_i at_j =
+      grind (arith, all_at (λ g. cmp x.0 g.0 ≡ Less) entries (j - 1) f h.0, ascending_at entries h.1 (i - 1) (j - 1) e f)
 
 module _ {K V : Type 0} {cmp : K → K → Ordering} (o : IsTotalOrder cmp) where
   -- entries with equal keys stand at one place
   pub one_entry : (entries : List (K × V)) → IsAscending cmp entries → (i j : ℕ) (e f : K × V) → slice_get entries i ≡ Some e → slice_get entries j ≡ Some f → cmp e.0 f.0 ≡ Equal → i ≡ j
-  one_entry entries h i j e f at_i at_j same = elim (cases_order i j) [
-    | inl one ↦ one
-    | inr (inl less) ↦ absurd (let q : Less ≡ Equal = sym (ascending_at cmp entries h i j e f less at_i at_j) ∙ same in cc)
-    | inr (inr more) ↦ absurd (let q : Greater ≡ Equal = sym (greater_from_less o f.0 e.0 (ascending_at cmp entries h j i f e more at_j at_i)) ∙ same in cc)
-  ]
+  one_entry entries h i j e f at_i at_j same = grind (arith, ascending_at, greater_from_less, cases_order)
 
   -- the entries before n are smaller than a key, those between have it, and those from m on are larger
   pub record AreSides (entries : List (K × V)) (key : K) (n m : ℕ) (between : List (K × V)) : Type 0 where
@@ -66,15 +51,11 @@ module _ {K V : Type 0} {cmp : K → K → Ordering} (o : IsTotalOrder cmp) wher
   module _ {entries : List (K × V)} {key : K} {n m : ℕ} {between : List (K × V)} (s : AreSides entries key n m between) where
     below_is : below cmp entries key ≡ take n entries
     below_is =
-        let test = λ (e : K × V). is_lt (cmp e.0 key) in
-        ap (filter test) s.whole ∙ filter-append test (take n entries) (between ++ drop m entries)
-        ∙ rw (filter-append test between (drop m entries), filter_all test (take n entries) (all_map (λ e h. ap is_lt (less_from_greater o key e.0 h)) (take n entries) s.smaller), filter_none test between (all_map (λ e h. ap is_lt (tied_back o key e.0 h)) between s.equal), filter_none test (drop m entries) (all_map (λ e h. ap is_lt (greater_from_less o key e.0 h)) (drop m entries) s.larger)) (append-nil (take n entries))
+        grind (arith, s.whole, filter-append, filter_all, all_map, less_from_greater, s.smaller, filter_none, tied_back, s.equal, greater_from_less, s.larger, append-nil)
 
     above_is : above cmp entries key ≡ drop m entries
     above_is =
-        let test = λ (e : K × V). is_gt (cmp e.0 key) in
-        ap (filter test) s.whole ∙ filter-append test (take n entries) (between ++ drop m entries)
-        ∙ rw (filter-append test between (drop m entries), filter_none test (take n entries) (all_map (λ e h. ap is_gt (less_from_greater o key e.0 h)) (take n entries) s.smaller), filter_none test between (all_map (λ e h. ap is_gt (tied_back o key e.0 h)) between s.equal), filter_all test (drop m entries) (all_map (λ e h. ap is_gt (greater_from_less o key e.0 h)) (drop m entries) s.larger)) refl
+        grind (arith, s.whole, filter-append, filter_none, all_map, less_from_greater, s.smaller, tied_back, s.equal, filter_all, greater_from_less, s.larger)
 
     -- so an edit there puts a pair, or leaves its key out
     pub put_is : (val : V) → put cmp entries key val ≡ edited n m ((key, val) ∷ []) entries

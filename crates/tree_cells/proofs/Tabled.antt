@@ -1,27 +1,11 @@
 -- The slots of an order and the pairs in them, and what stays of them as pairs come and go.
-use Rattle.std.proofs.Common.{◌≡◌, ◌≢◌, ◌⊎◌, ℕ, zero, suc, ◌+◌, ◌<◌, ◌≤◌, List, [], ◌∷◌, ◌++◌, map, length, set, take, drop, slice_get, Option, None, Some, IsSome, MatchOption, Contains, refl, sym, ◌∙◌, ap, subst, inl, inr, arith, length-append, length-drop, length-set, get_or-set_same, get_or-set_other, take-append-drop, Ordering, Less, Equal, Greater}
-use Rattle.tree_model.proofs.Common.{AllByRecursion, IsAscending, IsTotalOrder, cases_eq, cases_lt, put, tied_itself, without, get_or_past, map-append}
-use Rattle.std.proofs.lemmas.List.{drop_at, drop-map, length-map, length-take-le, take_at, take-map}
-use Rattle.std.proofs.lemmas.List.Elements.{Contains-append_cases, Contains-append_left, Contains-append_right}
-use Rattle.std.proofs.lemmas.Option.{none-some, same_Some, slice_get-get_or, slice_get_within}
-use Rattle.tree_model.proofs.Ascending.{IsAscending-put, IsAscending-without}
-use Rattle.tree_model.proofs.Lists.{all_at, all_map}
-use Rattle.tree_cells.specs.Arrivals.{arrival, held, reachable}
-use Rattle.tree_cells.specs.Place.{HasKey, Parts}
-use Rattle.tree_cells.specs.Tabled.{IsInOrder, IsSetAt, IsTabled}
-use Rattle.tree_order.specs.Length.{IsLen}
-use Rattle.tree_order.specs.Order.{edited, inserted, named, names, renamed, taken_out}
+use Rattle.std.proofs.Common.{◌≡◌, ◌≢◌, ◌⊎◌, ℕ, zero, suc, ◌+◌, ◌<◌, ◌≤◌, List, [], ◌∷◌, ◌++◌, map, length, set, take, drop, slice_get, option_map, Option, None, Some, IsSome, Contains, refl, sym, ◌∙◌, ap, subst, inl, inr, arith, length-append, length-drop, length-set, get_or-set_same, get_or-set_other, take-append-drop, Ordering, Less, Equal, Greater}
+use Rattle.tree_cells.proofs.Common.{AllByRecursion, IsAscending, IsTotalOrder, cases_eq, cases_lt, put, tied_itself, without, map-append, drop_at, drop-map, length-map}
+use Rattle.tree_cells.proofs.Common.{length-take-le, take_at, take-map, Contains-append_cases, Contains-append_left, Contains-append_right, none-some, same_Some, slice_get-get_or}
+use Rattle.tree_cells.proofs.Common.{slice_get_within, IsAscending-put, IsAscending-without, all_at, all_map, arrival, held, reachable, HasKey, Parts, IsInOrder, IsSetAt, IsTabled, IsLen}
+use Rattle.tree_cells.proofs.Common.{places, same_lists, slice_get-map, edited, inserted, named, names, renamed, taken_out, slice_get-names}
+use Rattle.tree_cells.proofs.Picks.{cases_option}
 use Rattle.tree_cells.proofs.Sides.{one_entry, sides_key, sides_parts, put_is, split_at, without_is}
-use Rattle.tree_order.proofs.Words.{slice_get-names}
-
--- what stands in the slot at a place is the entry at this place, or there is neither
-pub entry_at : {X : Type 0} (pair_of : ℕ → Option X) (slots : List ℕ) (entries : List X) → map pair_of slots ≡ map Some entries → (place : ℕ)
-    → MatchOption (slice_get slots place) (slice_get entries place ≡ None) (λ slot. (x : X) × (pair_of slot ≡ Some x) × (slice_get entries place ≡ Some x))
-entry_at pair_of [] [] same place = refl
-entry_at pair_of [] (x ∷ entries) same place = absurd (cc)
-entry_at pair_of (slot ∷ slots) [] same place = absurd (cc)
-entry_at pair_of (slot ∷ slots) (x ∷ entries) same zero = (x, cc, refl)
-entry_at pair_of (slot ∷ slots) (x ∷ entries) same (suc place) = let rest : map pair_of slots ≡ map Some entries = cc in entry_at pair_of slots entries rest place
 
 module _ {K V : Type 0} where
   reachable_some : (entries : List (K × V)) → reachable (map Some entries) ≡ entries
@@ -32,20 +16,11 @@ module _ {K V : Type 0} where
   held_is cells slots entries stand = ap reachable stand ∙ reachable_some entries
 
   pub in_order_as : {cmp : K → K → Ordering} (cells : List (Option (K × V))) (slots : List ℕ) (entries : List (K × V)) → map (arrival cells) slots ≡ map Some entries → IsAscending cmp entries → IsInOrder cmp cells slots
-  in_order_as cells slots entries stand ascend =
-      let same = held_is cells slots entries stand in
-      record { stand = rw same stand; ascend = rw same ascend }
+  in_order_as cells slots entries stand ascend = grind (arith, held_is)
 
   -- a write, as a change of one arrival
   pub set_at : (cells : List (Option (K × V))) (n : ℕ) (o : Option (K × V)) → n < length cells → IsSetAt (arrival cells) (arrival (set cells n o)) n o
   set_at cells n o lt = record { here = get_or-set_same cells n o None lt; others = λ q differs. get_or-set_other cells n q o None differs }
-
-  -- a pair stands in one of the cells
-  pub within : (cells : List (Option (K × V))) (p : ℕ) (e : K × V) → arrival cells p ≡ Some e → p < length cells
-  within cells p e some = elim (cases_lt p (length cells)) [
-    | inl lt ↦ lt
-    | inr ge ↦ absurd (none-some e (sym (get_or_past cells p None ge) ∙ some))
-  ]
 
 -- ---- the places of slots in order
 module _ {K V : Type 0} {cmp : K → K → Ordering} {cells : List (Option (K × V))} {slots : List ℕ} (it : IsInOrder cmp cells slots) where
@@ -53,7 +28,9 @@ module _ {K V : Type 0} {cmp : K → K → Ordering} {cells : List (Option (K ×
   length-held = omega (arith, ap length it.stand, length-map slots (arrival cells), length-map (held cells slots) (λ (e : K × V). Some e))
 
   pub stands : (i p : ℕ) → slice_get slots i ≡ Some p → (e : K × V) × (arrival cells p ≡ Some e) × (slice_get (held cells slots) i ≡ Some e)
-  stands i p there = rw there at (entry_at (arrival cells) slots (held cells slots) it.stand i)
+  stands i p there =
+      let same : Some (arrival cells p) ≡ option_map Some (slice_get (held cells slots) i) = rw (slice_get-map, there, slice_get-map) at (ap (λ (found : List (Option (K × V))). slice_get found i) it.stand) in
+      elim (cases_option (slice_get (held cells slots) i)) [ inl none ↦ absurd (none-some _ (sym (rw none at same))) | inr (e, some) ↦ (e, same_Some _ _ (rw some at same), some) ]
 
   pub stands_some : (i p : ℕ) → slice_get slots i ≡ Some p → IsSome (arrival cells p)
   stands_some i p there = subst IsSome (sym (stands i p there).1) refl
@@ -97,29 +74,18 @@ module _ {K V : Type 0} {cmp : K → K → Ordering} {len : ℕ} {cells : List (
 
   -- two arrivals with equal keys are one
   pub one_arrival : IsTotalOrder cmp → (p q : ℕ) (e f : K × V) → arrival cells p ≡ Some e → arrival cells q ≡ Some f → cmp e.0 f.0 ≡ Equal → p ≡ q
-  one_arrival o p q e f here there same =
-      let l = listed_at p e here in
-      let m = listed_at q f there in
-      same_Some p q (sym l.1 ∙ ap (slice_get slots) (one_entry o (held cells slots) it.in_order.ascend l.0 m.0 e f l.2 m.2 same) ∙ m.1)
+  one_arrival o p q e f here there same = grind (arith, listed_at, same_Some, one_entry, it.in_order.ascend)
 
   pub early : (i p : ℕ) → slice_get slots i ≡ Some p → p < made
-  early i p there = elim (cases_lt p made) [
-    | inl low ↦ low
-    | inr high ↦ let s = stands it.in_order i p there in absurd (none-some s.0 (sym (it.unmade p high) ∙ s.1))
-  ]
+  early i p there = let s = stands it.in_order i p there in grind (arith, it.unmade p, s.1, cases_lt p made)
 
 -- ---- a write to a cell
 module _ {K V : Type 0} (cells : List (Option (K × V))) (p : ℕ) (o : Option (K × V)) where
   -- the slots of other pairs keep them
   kept : (slots : List ℕ) (entries : List (K × V)) → map (arrival cells) slots ≡ map Some entries → AllByRecursion (λ e. arrival cells p ≢ Some e) entries → map (arrival (set cells p o)) slots ≡ map Some entries
-  kept [] [] stand apart = refl
-  kept [] (e ∷ entries) stand apart = absurd (cc)
+  kept [] entries stand apart = grind arith
   kept (q ∷ slots) [] stand apart = absurd (cc)
-  kept (q ∷ slots) (e ∷ entries) stand apart =
-      let here : arrival cells q ≡ Some e = cc in
-      let rest : map (arrival cells) slots ≡ map Some entries = cc in
-      let differs : q ≢ p = λ same. apart.0 (ap (arrival cells) (sym same) ∙ here) in
-      rw (kept slots entries rest apart.1) (ap (λ (first : Option (K × V)). first ∷ map Some entries) (get_or-set_other cells p q o None differs ∙ here))
+  kept (q ∷ slots) (e ∷ entries) stand apart = grind (arith, kept slots entries, apart.0, apart.1, get_or-set_other cells p q o None)
 
   -- so do those before a place n and from m on
   edited_stand : (slots : List ℕ) (entries : List (K × V)) (n m : ℕ) (others : List ℕ) (between : List (K × V)) → map (arrival cells) slots ≡ map Some entries
@@ -134,13 +100,11 @@ module _ {K V : Type 0} (cells : List (Option (K × V))) (p : ℕ) (o : Option (
 
 -- a slot stays listed, unless it is one of those between
 still_listed : (slots old others : List ℕ) (n m q : ℕ) → slots ≡ edited n m old slots → Contains slots q → Contains old q ⊎ Contains (edited n m others slots) q
-still_listed slots old others n m q whole there = elim (Contains-append_cases (take n slots) (old ++ drop m slots) q (subst (λ (slots : List ℕ). Contains slots q) whole there)) [
-  | inl low ↦ inr (Contains-append_left (take n slots) (others ++ drop m slots) q low)
-  | inr rest ↦ elim (Contains-append_cases old (drop m slots) q rest) [
-    | inl here ↦ inl here
-    | inr high ↦ inr (Contains-append_right (take n slots) (others ++ drop m slots) q (Contains-append_right others (drop m slots) q high))
-  ]
-]
+still_listed slots old others n m q whole there =
+    let parts = Contains-append_cases (take n slots) (old ++ drop m slots) q (subst (λ (slots : List ℕ). Contains slots q) whole there) in
+    let low = Contains-append_left (take n slots) (others ++ drop m slots) q in
+    let high = Contains-append_right (take n slots) (others ++ drop m slots) q in
+    grind (arith, parts, Contains-append_cases old (drop m slots) q, low, high, Contains-append_right others (drop m slots) q)
 
 only : (p q : ℕ) → Contains (p ∷ []) q → q ≡ p
 only p q (zero, lt, here) = sym here
@@ -148,9 +112,7 @@ only p q (suc i, lt, here) = absurd (omega arith)
 
 -- an edit of what an edit left
 pub edited_twice : {X : Type 0} (n : ℕ) (others xs : List X) → n ≤ length xs → edited n n others (taken_out n xs) ≡ edited n (n + 1) others xs
-edited_twice n others xs le =
-    let whole = length-take-le n xs le in
-    rw (take_at (take n xs) (drop (n + 1) xs) n whole, drop_at (take n xs) (drop (n + 1) xs) n whole) refl
+edited_twice n others xs le = same_lists _ _ (grind (arith, places)) (λ k d h. grind (arith, places))
 
 module _ {K V : Type 0} {cmp : K → K → Ordering} (o : IsTotalOrder cmp) {len : ℕ} {cells : List (Option (K × V))} {slots : List ℕ} {made : ℕ} (it : IsTabled cmp len cells slots made) where
   -- a write to one cell, and an edit of the slots from the n-th up to the m-th, of which none but its own was one
@@ -167,13 +129,10 @@ module _ {K V : Type 0} {cmp : K → K → Ordering} (o : IsTotalOrder cmp) {len
           few = omega (arith, length-append (take n slots) (others ++ drop m slots), length-append others (drop m slots), length-take-le n slots (omega arith), length-drop m slots);
           unmade = λ q le. let differs : q ≢ p = λ same. omega arith in get_or-set_other cells p q w None differs ∙ it.unmade q (omega arith);
           in_order = in_order_as (set cells p w) (edited n m others slots) entries stand ascend;
-          listed = λ q e some. elim (cases_eq q p) [
-            | inl here ↦ rw here (Contains-append_right (take n slots) (others ++ drop m slots) p (Contains-append_left others (drop m slots) p (own e (sym (get_or-set_same cells p w None (omega (arith, it.whole))) ∙ rw here at some))))
-            | inr other ↦ elim (still_listed slots old others n m q whole (it.listed q e (sym (get_or-set_other cells p q w None other) ∙ some))) [
-              | inl gone ↦ absurd (other (alone q gone))
-              | inr still ↦ still
-            ]
-          ];
+          listed = λ q e some.
+              let here = Contains-append_right (take n slots) (others ++ drop m slots) p in
+              let stays = still_listed slots old others n m q whole in
+              grind (arith, here, Contains-append_left others (drop m slots) p, own e, get_or-set_same cells p w None, it.whole, stays, it.listed q e, get_or-set_other cells p q w None, alone q, cases_eq q p);
         },
         held_is (set cells p w) (edited n m others slots) entries stand,
       )

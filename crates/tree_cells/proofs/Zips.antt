@@ -1,45 +1,34 @@
 -- Keys and values that stand apart, as pairs.
-use Rattle.std.proofs.Common.{◌≡◌, ℕ, zero, suc, List, [], ◌∷◌, length, set, replicate, get_or, Option, None, Some, IsSome, MatchOption, is_some, refl, sym, ◌∙◌, ap, subst, inl, inr, arith, get_or-set_same, get_or-set_other, length-set}
-use Rattle.tree_model.proofs.Common.{⊤, false≢true, cases_eq, cases_lt, get_or_past}
-use Rattle.std.proofs.lemmas.List.{length-replicate, set-get_or}
-use Rattle.tree_cells.specs.Arrivals.{arrival}
+use Rattle.std.proofs.Common.{◌-◌, ◌≡◌, ℕ, zero, suc, List, [], ◌∷◌, length, set, replicate, get_or, Option, None, Some, IsSome, MatchOption, is_some, refl, sym, ◌∙◌, ap, subst, arith, get_or-set_same, get_or-set_other, length-set}
+use Rattle.tree_cells.proofs.Common.{⊤, cases_eq, cases_lt, get_or_past, length-replicate, set-get_or, arrival, pair_up, seen_cells, zipped, AreFilledAlike, Held}
+use Rattle.std.proofs.lemmas.Simd.{length-zip2}
 use Rattle.tree_cells.proofs.Moves.{none_replicated}
 use Rattle.tree_cells.proofs.Picks.{some_of}
-use Rattle.tree_cells.specs.Cells.{pair_up, seen_cells, zipped, AreFilledAlike, Held}
 use Rattle.tree_cells.specs.declared.cells.Rows.{Rows}
 
 module _ {K V : Type 0} where
   zipped_at : (keys : List (Option K)) (vals : List (Option V)) (p : ℕ) → length keys ≡ length vals → arrival (zipped keys vals) p ≡ pair_up (get_or keys p None) (get_or vals p None)
   zipped_at [] vals p e = refl
   zipped_at (key ∷ keys) [] p e = absurd (omega (arith, e))
-  zipped_at (key ∷ keys) (val ∷ vals) zero e = refl
-  zipped_at (key ∷ keys) (val ∷ vals) (suc p) e = zipped_at keys vals p (omega (arith, e))
+  zipped_at (key ∷ keys) (val ∷ vals) p e = grind (arith, zipped_at keys vals (p - 1))
 
   pub length-zipped : (keys : List (Option K)) (vals : List (Option V)) → length keys ≡ length vals → length (zipped keys vals) ≡ length keys
-  length-zipped [] vals e = refl
-  length-zipped (key ∷ keys) [] e = absurd (omega (arith, e))
-  length-zipped (key ∷ keys) (val ∷ vals) e = omega (arith, length-zipped keys vals (omega (arith, e)))
+  length-zipped keys vals e = length-zip2 pair_up keys vals e
 
   zipped_set : (keys : List (Option K)) (vals : List (Option V)) (p : ℕ) (key : Option K) (val : Option V) → length keys ≡ length vals → zipped (set keys p key) (set vals p val) ≡ set (zipped keys vals) p (pair_up key val)
   zipped_set [] vals p k v e = refl
   zipped_set (key ∷ keys) [] p k v e = absurd (omega (arith, e))
-  zipped_set (key ∷ keys) (val ∷ vals) zero k v e = refl
-  zipped_set (key ∷ keys) (val ∷ vals) (suc p) k v e = ap (λ (q : List (Option (K × V))). pair_up key val ∷ q) (zipped_set keys vals p k v (omega (arith, e)))
+  zipped_set (key ∷ keys) (val ∷ vals) p k v e = grind (arith, zipped_set keys vals (p - 1) k v)
 
   zipped_none : (n : ℕ) → zipped {K = K} {V = V} (replicate n None) (replicate n None) ≡ replicate n None
   zipped_none zero = refl
   zipped_none (suc n) = ap (λ (q : List (Option (K × V))). None ∷ q) (zipped_none n)
 
   both_some : (key : Option K) (val : Option V) → IsSome (pair_up key val) → IsSome key × IsSome val
-  both_some None val h = absurd (false≢true h)
-  both_some (Some key) None h = absurd (false≢true h)
-  both_some (Some key) (Some val) h = (refl, refl)
+  both_some key val h = grind arith
 
   both_none : (key : Option K) (val : Option V) → is_some key ≡ is_some val → pair_up key val ≡ None → (key ≡ None) × (val ≡ None)
-  both_none None None same h = (refl, refl)
-  both_none None (Some val) same h = absurd (false≢true same)
-  both_none (Some key) None same h = absurd (false≢true (sym same))
-  both_none (Some key) (Some val) same h = cc
+  both_none key val same h = grind arith
 
   -- a row of keys and one of values, as contracts see them
   pub record AreSeenAs (keys : List (Option K)) (vals : List (Option V)) (pairs : List (Option (K × V))) : Type 0 where
@@ -51,6 +40,9 @@ module _ {K V : Type 0} where
   pub rows_seen : {len : ℕ} {cells : Option (Rows K V len)} {rows : Rows K V len} {held : Held K V} → cells ≡ Some rows → seen_cells len (λ (rows : Rows K V len). record { pairs = zipped rows.keys.slots rows.vals.slots; counts = rows.counts }) cells ≡ held
       → MatchOption cells ⊤ (λ (rows : Rows K V len). AreFilledAlike rows.keys.slots rows.vals.slots) → AreSeenAs rows.keys.slots rows.vals.slots held.pairs
   rows_seen {rows = rows} is view alike = record { view = ap (λ (held : Held K V). held.pairs) (rw is at view); same = rows.keys.whole ∙ sym rows.vals.whole; alike = rw is at alike }
+
+  pub counts_seen : {len : ℕ} {cells : Option (Rows K V len)} {rows : Rows K V len} {held : Held K V} → cells ≡ Some rows → seen_cells len (λ (rows : Rows K V len). record { pairs = zipped rows.keys.slots rows.vals.slots; counts = rows.counts }) cells ≡ held → rows.counts ≡ held.counts
+  counts_seen is view = ap (λ (held : Held K V). held.counts) (rw is at view)
 
   pub rows_alike : {len : ℕ} {keys : List (Option K)} {vals : List (Option V)} → length keys ≡ len → length vals ≡ len → AreFilledAlike keys vals → AreSeenAs keys vals (zipped keys vals)
   rows_alike whole whole' alike = record { view = refl; same = whole ∙ sym whole'; alike = alike }
@@ -88,13 +80,7 @@ module _ {K V : Type 0} where
       view = zipped_set keys vals p key val rows.same ∙ ap (λ (q : List (Option (K × V))). set q p (pair_up key val)) rows.view;
       same = length-set keys p key ∙ rows.same ∙ sym (length-set vals p val);
       alike = record {
-        alike = λ q. elim (cases_eq q p) [
-          | inl here ↦ elim (cases_lt p (length keys)) [
-            | inl lt ↦ rw (here, get_or-set_same keys p key None lt, get_or-set_same vals p val None (omega (arith, rows.same))) same
-            | inr ge ↦ rw (get_or_past (set keys p key) q None (omega (arith, length-set keys p key)), get_or_past (set vals p val) q None (omega (arith, rows.same, length-set vals p val))) refl
-          ]
-          | inr other ↦ rw (get_or-set_other keys p q key None other, get_or-set_other vals p q val None other) (rows.alike.alike q)
-        ];
+        alike = λ q. grind (arith, same, rows.same, rows.alike.alike q, get_or-set_same, get_or-set_other, get_or_past, length-set, cases_eq q p, cases_lt p (length keys));
       };
     }
 

@@ -1,5 +1,5 @@
 -- Where a key stands in the order of an array.
-use Rattle.std.specs.Prelude.{◌≡◌, ◌⊎◌, ℕ, ◌+◌, ◌*◌, ◌/◌, ◌^◌, ◌<◌, ◌≤◌, ◌-◌, List, take, drop, length, Option, None, Some, if◌then◌else◌, ltb, slice_get}
+use Rattle.std.specs.Prelude.{◌≡◌, ◌⊎◌, ℕ, ◌+◌, ◌*◌, ◌/◌, ◌^◌, ◌<◌, ◌≤◌, List, take, drop, length, Option, None, Some, if◌then◌else◌, ltb, slice_get}
 use Rattle.std.specs.List.{AllByRecursion}
 use Rattle.std.specs.declared.cmp.Ordering.{Ordering}
 use Rattle.std.specs.declared.cmp.Ordering.TheVariants.{Less, Equal, Greater}
@@ -11,10 +11,6 @@ use Rattle.tree_order.specs.Order.{named}
 -- a search compares at most so often: 3 times among 7, 4 times among 15
 abbrev pub searched : ℕ → ℕ
 searched len = if ltb 7 len then 4 else 3
-
--- the place, or that of the last entry where it lies behind that
-abbrev pub nearest : ℕ → ℕ → ℕ
-nearest count place = if ltb place count then place else count - 1
 
 -- the slot that a place names
 abbrev pub slot_of : Place → ℕ

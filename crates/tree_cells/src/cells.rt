@@ -1,5 +1,5 @@
 //! The cells of an array, keys apart from values. No byte says which cells hold a pair: the order of the array does.
-ghost use Rattle.std.specs.Prelude.{◌≡◌, ◌≢◌, ℕ, ◌-◌, ◌<◌, ◌≤◌, None, Some, IsSome, length, slice_set};
+ghost use Rattle.std.specs.Prelude.{◌≡◌, ◌≢◌, ℕ, ◌+◌, ◌-◌, ◌<◌, ◌≤◌, None, Some, IsSome, length, slice_set};
 ghost use Rattle.tree_cells.specs.Arrivals.{arrival};
 ghost use Rattle.tree_cells.specs.Cells.{bare};
 ghost use Rattle.tree_cells.specs.Moves.{HasInTurn, HasLeft};
@@ -106,35 +106,46 @@ impl<K, V, const LEN: usize> Cells<K, V, LEN> {
         }
     }
 
-    /// Puts a pair into a cell, and sets the counts. The caller must know that the cell holds none.
-    pub fn put(&mut self, cell: u8, key: K, val: V, counts: Counts)
-        requires within { cell < LEN }
-        requires empty { arrival self.old.pairs cell ≡ None }
-        ensures pairs { self.new.pairs ≡ slice_set self.old.pairs cell (Some (key, val)) }
-        ensures counts { self.new.counts ≡ counts }
+    /// Puts a pair into the first cell behind the arrivals, and sets the count of the entries. The caller must know that the
+    /// cell holds none.
+    pub fn push(&mut self, key: K, val: V, entries: u8)
+        requires within { self.old.counts.arrivals < LEN }
+        requires few { LEN ≤ 15 }
+        requires empty { arrival self.old.pairs self.old.counts.arrivals ≡ None }
+        ensures pairs { self.new.pairs ≡ slice_set self.old.pairs self.old.counts.arrivals (Some (key, val)) }
+        ensures entries { self.new.counts.entries ≡ entries }
+        ensures arrivals { self.new.counts.arrivals ≡ self.old.counts.arrivals + 1 }
     {
         match &mut self.rows {
             Some(rows) => {
+                let cell = rows.counts.arrivals;
                 rows.keys.put(cell as usize, key);
                 rows.vals.put(cell as usize, val);
-                rows.counts = counts;
+                rows.counts = Counts {
+                    entries,
+                    arrivals: cell + 1,
+                };
             }
-            None => self.begin(cell, key, val, counts),
+            None => self.begin(key, val, entries),
         }
     }
 
-    /// Makes the rows, with a first pair in a cell. Its own function, so that a put into rows that are there is short.
+    /// Makes the rows, with a pair in the first cell. Its own function, so that a put into rows that are there is short.
     #[inline(never)]
-    fn begin(&mut self, cell: u8, key: K, val: V, counts: Counts)
-        requires within { cell < LEN }
+    fn begin(&mut self, key: K, val: V, entries: u8)
+        requires within { 0 < LEN }
         requires bare { self.old ≡ bare LEN }
-        ensures pairs { self.new.pairs ≡ slice_set self.old.pairs cell (Some (key, val)) }
-        ensures counts { self.new.counts ≡ counts }
+        ensures pairs { self.new.pairs ≡ slice_set self.old.pairs 0 (Some (key, val)) }
+        ensures entries { self.new.counts.entries ≡ entries }
+        ensures arrivals { self.new.counts.arrivals ≡ 1 }
     {
         let rows = Rows {
-            keys: Row::with(cell as usize, key),
-            counts,
-            vals: Row::with(cell as usize, val),
+            keys: Row::with(0, key),
+            counts: Counts {
+                entries,
+                arrivals: 1,
+            },
+            vals: Row::with(0, val),
         };
         let old = mem::replace(&mut self.rows, Some(rows));
         Cells { rows: old }.discard();

@@ -1,7 +1,7 @@
 //! Searches of an array by halving.
-ghost use Rattle.std.specs.Prelude.{◌≡◌, ◌+◌, ◌-◌, ◌*◌, ◌<◌, ◌≤◌};
+ghost use Rattle.std.specs.Prelude.{◌≡◌, ◌+◌, ◌-◌, ◌*◌, ◌<◌, ◌≤◌, min};
 ghost use Rattle.tree_cells.specs.Arrivals.{held};
-ghost use Rattle.tree_cells.specs.Place.{searched, nearest, IsPlace, IsWindow, slot_of};
+ghost use Rattle.tree_cells.specs.Place.{searched, IsPlace, IsWindow, slot_of};
 ghost use Rattle.tree_cells.specs.Tabled.{AreSlots, IsInOrder};
 ghost use Rattle.tree_order.specs.Length.{IsLen};
 ghost use Rattle.tree_order.specs.Order.{named, names};
@@ -51,7 +51,7 @@ impl Window {
     fn end(self, width: u8, count: u8) -> Place
         requires some { 0 < count }
         requires within { self.place + width < 15 }
-        ensures { result ≡ Place.At (nearest count (self.place + width)) (named self.rest width) }
+        ensures { result ≡ Place.At (min (self.place + width) (count - 1)) (named self.rest width) }
     {
         let place = self.place + width;
         let slot = slot_at(self.rest, width);
@@ -77,7 +77,7 @@ fn ignored<K>(key: &K) -> u8 {
 ///
 /// A search for a small key makes them all, and has no branch on what one of them answers. For a key of more
 /// than 16 bytes an equal one ends the search.
-#[tactic(auto, using(crate::proofs::Halving::searched_some, tree_order::proofs::Slots::len_small))]
+#[tactic(auto, using(crate::proofs::Halving::searched_some, tree_order::proofs::Words::len_small))]
 #[inline(always)]
 pub fn find<K: Ord, V, By, A: Asks<K, By>, const LEN: usize>(
     cells: &Cells<K, V, LEN>,

@@ -1,6 +1,8 @@
 -- A list that a walk steps through from either end: what lies ahead of it, and what a step takes of that.
 use Rattle.tree_chain.proofs.Common.{◌≡◌, ℕ, suc, ◌+◌, ◌-◌, ◌<◌, List, [], ◌∷◌, ◌++◌, length, drop, take, reverse, slice_get, get_or, Option, Some, None, refl, sym, ap, ◌∙◌, arith, flat_map}
 use Rattle.tree_chain.proofs.Common.{append-nil, take-suc, take_all, AllByRecursion, reverse_onto, drop_all, reverse-append, reverse-reverse, flat_map-append, along, Back, On, StepsOver, Way, ahead}
+use Rattle.std.proofs.Common.{if◌then◌else◌, option_and_then}
+use Rattle.tree_chain.proofs.Common.{◌==◌, true, false, nat_tests, slice_get_past}
 use Rattle.tree_chain.proofs.Common.{drop_more, first_of, first_on, get_or_from_slice_get, next_place, places_left, slice_get-get_or, slice_get_within, reverse_aux, place_ahead, places_behind}
 
 -- the entry at a place begins what lies from there on, and ends what lies up to it
@@ -9,6 +11,13 @@ begins xs place x is = drop_more xs place x (slice_get_within xs place x is) ∙
 
 ends : {X : Type 0} (xs : List X) (place : ℕ) (x : X) → slice_get xs place ≡ Some x → take (suc place) xs ≡ take place xs ++ x ∷ []
 ends xs place x is = take-suc xs place x (slice_get_within xs place x is) ∙ ap (λ y. take place xs ++ y ∷ []) (get_or_from_slice_get xs place x x is)
+
+pub not_none : {X : Type 0} (x : X) (xs : List X) → (length (x ∷ xs) == 0) ≡ false
+not_none x xs = grind (arith, nat_tests)
+
+-- the place that a walk stands at once it has come to the first element on its way, if there is one
+abbrev pub first_at : {X : Type 0} → Way → List X → Option ℕ
+first_at way xs = if length xs == 0 then None else Some (next_place way (length xs) None)
 
 -- what holds of all of a list holds of them in another order
 pub all_reversed : {X : Type 0} (P : X → Type 0) (xs ys : List X) → AllByRecursion P xs → AllByRecursion P ys → AllByRecursion P (reverse_aux xs ys)
@@ -20,13 +29,11 @@ all_along P On xs all = all
 all_along P Back xs all = all_reversed P xs [] all tt
 
 pub along-nil : (X : Type 0) (way : Way) → along {X = X} way [] ≡ []
-along-nil X On = refl
-along-nil X Back = refl
+along-nil X way = grind arith
 
 -- all places are left before the first step
 pub all_left : (way : Way) (count : ℕ) → places_left way count None ≡ count
-all_left On count = omega arith
-all_left Back count = refl
+all_left way count = grind arith
 
 module _ {X : Type 0} where
   pub along_empty : (way : Way) (xs : List X) → along way xs ≡ [] → xs ≡ []
@@ -51,8 +58,7 @@ module _ {X : Type 0} where
 
   -- a step leaves fewer places
   pub fewer_left : (way : Way) (xs : List X) (old new : Option ℕ) (x : X) → StepsOver way xs old (Some x) new → places_left way (length xs) new < places_left way (length xs) old
-  fewer_left On xs old new x steps = rw steps.2 (omega (arith, steps.0))
-  fewer_left Back xs old new x steps = rw steps.2 (omega (arith, steps.0))
+  fewer_left way xs old new x steps = rw steps.2 (grind (arith, steps.0))
 
   -- a list with an element has a first step
   pub record FirstStep (way : Way) (xs : List X) : Type 0 where
@@ -64,8 +70,20 @@ module _ {X : Type 0} where
   first_step Back x xs = record { first = get_or (x ∷ xs) (length (x ∷ xs) - 1) x; steps = (omega arith, slice_get-get_or (x ∷ xs) (length (x ∷ xs) - 1) x (omega arith), refl) }
 
   pub first_place : (way : Way) (xs : List X) → first_on way xs ≡ slice_get xs (next_place way (length xs) None)
-  first_place On xs = refl
-  first_place Back xs = refl
+  first_place way xs = grind arith
+
+  -- the first step of a walk leads to the first element on its way, if there is one
+  pub first_taken : (way : Way) (xs : List X) (taken : Option X) (at : Option ℕ) → StepsOver way xs None taken at → (taken ≡ first_on way xs) × (at ≡ first_at way xs)
+  first_taken way xs None at steps =
+      let none : (length xs == 0) ≡ true = grind (arith, nat_tests, all_left way (length xs), steps.0) in
+      rw (first_place way xs, slice_get_past xs (next_place way (length xs) None) (omega (arith, all_left way (length xs), steps.0)), none) (refl, steps.1)
+  first_taken way xs (Some x) at steps =
+      let some : (length xs == 0) ≡ false = grind (arith, nat_tests, all_left way (length xs), steps.0) in
+      rw (first_place way xs, steps.1, some) (refl, steps.2)
+
+  pub first_stood : (way : Way) (xs : List X) → option_and_then (slice_get xs) (first_at way xs) ≡ first_on way xs
+  first_stood way [] = sym (first_place way [])
+  first_stood way (x ∷ xs) = rw (not_none x xs) (sym (first_place way (x ∷ xs)))
 
   pub first_along : (way : Way) (xs : List X) → first_on way xs ≡ first_of (along way xs)
   first_along On xs = refl

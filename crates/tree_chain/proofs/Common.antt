@@ -8,7 +8,7 @@ pub use Rattle.std.proofs.lemmas.Option.{get_or_from_slice_get, slice_get-get_or
 pub use Rattle.std.proofs.lemmas.Result.{IfOk-weaker}
 pub use Rattle.tree_array.proofs.Common.{Walk, arrival}
 pub use Rattle.tree_array.specs.Walk.{place_ahead, places_behind}
-pub use Rattle.tree_chain.specs.Rest.{AreLeft, AreOnTheWay, HasTaken, Takes, TakesFirst, left_of, whole_way}
+pub use Rattle.tree_chain.specs.Rest.{AreLeft, AreOnTheWay, HasTaken, StandsIn, Takes, left_of, whole_way}
 pub use Rattle.tree_chain.specs.Walks.{IsStand, Jumps, LeafWalk, Steps, first_of, first_on, here, jumped, last_of, left_in_leaf, standing, stood_on}
 pub use Rattle.tree_chain.specs.Ways.{StepsOver, ahead, beside, beyond, landing, leaves_on, next_place, places_left, seen, seen_at}
 pub use Rattle.tree_chain.specs.declared.stand.Beside.{Beside}

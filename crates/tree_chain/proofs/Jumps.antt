@@ -1,11 +1,9 @@
 -- Where a jump over leaves ends, and which entry it finds.
-use Rattle.std.proofs.Common.{◌≡◌, ℕ, ◌==◌, Bool, true, false, cond, if◌then◌else◌, List, [], ◌∷◌, ◌++◌, length, reverse, Option, Some, None, option_map, refl, sym, ap, ◌∙◌, arith, append_assoc, eqb-true, inl, inr, ◌⊎◌, Bor, flat_map}
-use Rattle.tree_model.proofs.Common.{AllByRecursion, nat_tests, nil_from_length, reverse_onto, reverse-append, reverse-reverse, lent_entry, along}
-use Rattle.tree_chain.proofs.Common.{Back, LeafOf, LeafWalk, On, Slab, Steps, Way, beyond, entries_of, first_of, first_on, jumped, landing, leaf_entries, leaves_on, next_place, standing}
-use Rattle.tree_chain.proofs.Along.{all_ahead, all_left, along-flat_map, along-nil, along_empty, first_along, first_place, step_takes}
-
-pub not_none : {X : Type 0} (x : X) (xs : List X) → (length (x ∷ xs) == 0) ≡ false
-not_none x xs = grind (arith, nat_tests)
+use Rattle.std.proofs.Common.{◌≡◌, ℕ, ◌==◌, Bool, true, false, cond, List, [], ◌∷◌, ◌++◌, length, reverse, Option, Some, None, option_map, refl, sym, ap, ◌∙◌, arith, append_assoc, eqb-true, inl, inr, ◌⊎◌, Bor, flat_map}
+use Rattle.tree_model.proofs.Common.{AllByRecursion, nil_from_length, reverse_onto, reverse-append, reverse-reverse, lent_entry, along}
+use Rattle.tree_chain.proofs.Common.{Back, LeafOf, LeafWalk, On, Slab, Steps, Way, ahead, beyond, entries_of, first_of, first_on, jumped, landing, leaf_entries, leaves_on, standing}
+use Rattle.tree_chain.proofs.Along.{all_ahead, along-flat_map, along-nil, along_empty, first_along, first_at, first_place, first_step, first_taken, not_none, step_takes}
+use Rattle.std.specs.Map.Iter.{TakesFirst}
 
 -- a number on the way of a walk parts the chain anew
 pub record Onward (way : Way) (chain : List ℕ) (next : ℕ) (ids : List ℕ) : Type 0 where
@@ -33,6 +31,11 @@ onward Back front id back passed next ids is =
           rw whole (sym (append_assoc (reverse ids) (next ∷ reverse passed) (id ∷ back)));
       rest = reverse-reverse ids;
     }
+
+-- what is taken first is the first
+pub first_is : {X : Type 0} (left : List X) (first : Option X) (rest : List X) → TakesFirst (λ x. x) left first rest → first ≡ first_of left
+first_is left None rest takes = rw takes.0 refl
+first_is left (Some x) rest takes = rw takes refl
 
 module _ {K V : Type 0} {LEN : ℕ} (leaves : Slab (LeafOf K V LEN)) where
   abbrev pub IsEmpty : ℕ → Type 0
@@ -71,12 +74,7 @@ module _ {K V : Type 0} {LEN : ℕ} (leaves : Slab (LeafOf K V LEN)) where
   -- or nowhere, where no leaf follows
   pub lands_nowhere : (before : Option ℕ) (ids : List ℕ) → landing leaves before ids ≡ None → (before ≡ None) × (ids ≡ [])
   lands_nowhere before [] is = (is, refl)
-  lands_nowhere before (x ∷ ids) is = absurd (by_test (length (leaf_entries leaves x) == 0) (lands_nowhere (Some x) ids) is)
-    where
-      by_test : (empty : Bool) → (landing leaves (Some x) ids ≡ None → (Some x ≡ None) × (ids ≡ []))
-          → cond empty (landing leaves (Some x) ids) (Some x) ≡ None → ⊥
-      by_test true again is = let none = (again is).0 in cc
-      by_test false again is = cc
+  lands_nowhere before (x ∷ ids) is = let again = lands_nowhere (Some x) ids in absurd (grind arith)
 
   module _ (way : Way) where
     -- the entries of these leaves in the order of the way, the nearest leaf first
@@ -91,27 +89,26 @@ module _ {K V : Type 0} {LEN : ℕ} (leaves : Slab (LeafOf K V LEN)) where
     met_over [] ids empty = refl
     met_over (x ∷ front) ids empty = rw (none_there x empty.0, along-nil (K × V) way) (met_over front ids empty.1)
 
-    -- a jump that lands in a leaf, and there takes a step
-    pub jumps : (here : ℕ) (at : Option ℕ) (landed new : LeafWalk K V LEN) (front back : List ℕ) (id : ℕ) (result : Option (Bor K × Bor V)) → landing leaves None (leaves_on way front back) ≡ Some id → landed ≡ standing leaves id None → Steps way landed result new
-        → (new ≡ jumped way (standing leaves here at) (landing leaves None (leaves_on way front back))) × (option_map lent_entry result ≡ first_on way (entries_of leaves (beyond way front back)))
-    jumps here at landed new front back id result is fresh steps =
-        rw (is, first_along way (entries_of leaves (beyond way front back)), met_beyond front back, l.parts, met_over l.front (id ∷ l.back) l.empty) (by_result result (rw fresh at steps))
+    -- the first entry of the leaf in which a jump lands is that of all these leaves, and the others are left
+    pub landed : (ids : List ℕ) (id : ℕ) (l : Lands ids id)
+        → TakesFirst (λ x. x) (met ids) (first_on way (leaf_entries leaves id)) (ahead way (leaf_entries leaves id) (first_at way (leaf_entries leaves id)) ++ met l.back)
+    landed ids id l = rw (l.parts, met_over l.front (id ∷ l.back) l.empty) (by_entries (leaf_entries leaves id) refl)
       where
-        l : Lands (leaves_on way front back) id
-        l = lands_in (leaves_on way front back) id is
+        by_entries : (e : List (K × V)) → leaf_entries leaves id ≡ e → TakesFirst (λ x. x) (along way e ++ met l.back) (first_on way e) (ahead way e (first_at way e) ++ met l.back)
+        by_entries [] is = rw (l.last (rw is refl), first_place way [], all_ahead way [], along-nil (K × V) way) (refl, refl)
+        by_entries (x ∷ e) is =
+            let first = first_step way x e in
+            let taken = sym (all_ahead way (x ∷ e)) ∙ step_takes way (x ∷ e) None _ first.first first.steps in
+            rw (first_place way (x ∷ e), first.steps.1, not_none x e, taken) refl
 
-        by_result : (r : Option (Bor K × Bor V)) → Steps way (standing leaves id None) r new
-            → (new ≡ standing leaves id (if length (leaf_entries leaves id) == 0 then None else Some (next_place way (length (leaf_entries leaves id)) None)))
-            × (option_map lent_entry r ≡ first_of (along way (leaf_entries leaves id) ++ met l.back))
-        by_result None step =
-            let left = sym (all_left way (length (leaf_entries leaves id))) ∙ step.1.0 in
-            let empty : IsEmpty id = grind (arith, nat_tests, left) in
-            rw (empty, l.last empty, none_there id empty, along-nil (K × V) way) (step.0 ∙ ap (standing leaves id) step.1.1, refl)
-        by_result (Some entry) step =
-            let left = all_left way (length (leaf_entries leaves id)) in
-            let filled : (length (leaf_entries leaves id) == 0) ≡ false = grind (arith, nat_tests, left, step.1.0) in
-            let taken = sym (all_ahead way (leaf_entries leaves id)) ∙ step_takes way (leaf_entries leaves id) None new.at (lent_entry entry) step.1 in
-            rw (filled, taken) (step.0 ∙ ap (standing leaves id) step.1.2, refl)
+    -- a jump that lands in a leaf, and there takes a step
+    pub jumps : (here : ℕ) (at : Option ℕ) (begun new : LeafWalk K V LEN) (front back : List ℕ) (id : ℕ) (result : Option (Bor K × Bor V)) → landing leaves None (leaves_on way front back) ≡ Some id → begun ≡ standing leaves id None → Steps way begun result new
+        → (new ≡ jumped way (standing leaves here at) (landing leaves None (leaves_on way front back))) × (option_map lent_entry result ≡ first_on way (entries_of leaves (beyond way front back)))
+    jumps here at begun new front back id result is fresh steps =
+        let step = rw fresh at steps in
+        let first = first_taken way (leaf_entries leaves id) (option_map lent_entry result) new.at step.1 in
+        rw (is, ← first.1, first_along way (entries_of leaves (beyond way front back)), met_beyond front back)
+        (step.0, first.0 ∙ first_is _ _ _ (landed _ id (lands_in (leaves_on way front back) id is)))
 
     -- a walk with no leaf on its way stays
     pub stays : (here : ℕ) (at : Option ℕ) (front back : List ℕ) → landing leaves None (leaves_on way front back) ≡ None

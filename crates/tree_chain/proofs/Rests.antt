@@ -1,14 +1,26 @@
 -- What is left of a walk on its way: a step or a jump takes the first of it, and its count falls.
-use Rattle.std.proofs.Common.{◌≡◌, ℕ, ◌+◌, ◌<◌, ◌==◌, true, List, [], ◌∷◌, ◌++◌, length, Option, Some, None, option_map, sum_by, IfSome, refl, sym, ap, ◌∙◌, arith, length-append, append-nil, Bor}
+use Rattle.std.proofs.Common.{◌≡◌, ℕ, ◌+◌, ◌<◌, List, [], ◌∷◌, ◌++◌, length, Option, Some, None, option_map, sum_by, IfSome, refl, sym, ap, ◌∙◌, arith, length-append, append-nil, Bor}
 use Rattle.tree_model.proofs.Common.{reverse-append, flat_map-append, lent_entry, along}
-use Rattle.tree_chain.proofs.Common.{AreLeft, AreOnTheWay, Back, HasTaken, IsChain, Jumps, LeafOf, LeafWalk, On, Slab, Steps, Takes, TakesFirst, Way, ahead, beyond, entries_of, first_of, get, here, jumped, landing, leaf_entries, leaves_on, left_of, next_place, standing, stood_on, whole_way}
+use Rattle.tree_chain.proofs.Common.{AreLeft, AreOnTheWay, Back, HasTaken, IsChain, Jumps, LeafOf, LeafWalk, On, Slab, StandsIn, Steps, Takes, Way, ahead, beyond, entries_of, first_of, get, here, jumped, landing, leaf_entries, leaves_on, left_of, standing, stood_on, whole_way}
 use Rattle.std.proofs.lemmas.List.Sums.{sum_by-cons}
-use Rattle.tree_chain.proofs.Along.{all_ahead, along-nil, first_along, first_step, none_ahead, step_takes}
-use Rattle.tree_chain.proofs.Jumps.{Lands, lands_in, lands_nowhere, met, met_beyond, met_over, not_none, onward}
+use Rattle.tree_chain.proofs.Along.{all_ahead, first_along, first_at, first_stood, none_ahead, step_takes}
+use Rattle.tree_chain.proofs.Jumps.{first_is, landed, lands_in, lands_nowhere, met, met_beyond, onward}
+use Rattle.std.specs.Map.Iter.{TakesFirst}
 use Rattle.tree_chain.proofs.Ways.{At, beside_slot, beside_slot_is, few, sum_is, sum_on}
 
 abbrev pub IsInChain : {K V : Type 0} {LEN : ℕ} → LeafWalk K V LEN → Type 0
 IsInChain walk = (front back : List ℕ) × IsChain walk.leaves (front ++ walk.leaf ∷ back)
+
+-- from one leaf of a chain to another, a walk still stands in the chain
+abbrev pub stands_on : {K V : Type 0} {LEN : ℕ} {leaves : Slab (LeafOf K V LEN)} {chain : List ℕ} {old new : LeafWalk K V LEN} (from : StandsIn leaves chain old)
+    → StandsIn old.leaves (from.front ++ old.leaf ∷ from.back) new → StandsIn leaves chain new
+stands_on from to = record { same = to.same ∙ from.same; front = to.front; back = to.back; stands = to.stands ∙ from.stands }
+
+-- what is lent is taken
+pub takes_lent : {K V : Type 0} (left : List (K × V)) (r : Option (Bor K × Bor V)) (taken : Option (K × V)) (rest : List (K × V)) → option_map lent_entry r ≡ taken
+    → TakesFirst (λ x. x) left taken rest → TakesFirst lent_entry left r rest
+takes_lent left None taken rest is takes = rw (← is) at takes
+takes_lent left (Some x) taken rest is takes = rw (← is) at takes
 
 module _ {K V : Type 0} {LEN : ℕ} (way : Way) where
   left_met : (walk : LeafWalk K V LEN) (front back : List ℕ) → left_of way walk front back ≡ ahead way (here walk) walk.at ++ met walk.leaves way (leaves_on way front back)
@@ -18,74 +30,43 @@ module _ {K V : Type 0} {LEN : ℕ} (way : Way) where
   pub took : (old new : LeafWalk K V LEN) (result : Option (Bor K × Bor V)) → (result ≡ None → ⊥) → Steps way old result new → Takes way old result new
   took old new None some steps = absurd (some refl)
   took old new (Some entry) some steps = λ front back chain. record {
-    same = ap (λ (walk : LeafWalk K V LEN). walk.leaves) steps.0;
-    front = front;
-    back = back;
-    stands = ap (λ (walk : LeafWalk K V LEN). front ++ walk.leaf ∷ back) steps.0;
+    stand = record { same = rw steps.0 refl; front = front; back = back; stands = rw steps.0 refl };
     takes = rw steps.0 (ap (λ entries. entries ++ along way (entries_of old.leaves (beyond way front back))) (step_takes way (here old) old.at new.at (lent_entry entry) steps.1));
     on = ap stood_on (steps.0 ∙ ap (standing old.leaves old.leaf) steps.1.2) ∙ steps.1.1;
   }
 
   -- a jump over the leaves on the way, from a place with no entry ahead in its leaf
   module _ (walk new : LeafWalk K V LEN) (front back : List ℕ) where
-    -- to a place with nothing left, or to the first entry of a leaf
-    none_taken : (result : Option (Bor K × Bor V)) (before behind : List ℕ) → new.leaves ≡ walk.leaves
-        → before ++ new.leaf ∷ behind ≡ front ++ walk.leaf ∷ back → left_of way new before behind ≡ [] → option_map lent_entry result ≡ None
-        → HasTaken way walk.leaves (front ++ walk.leaf ∷ back) [] result new
-    none_taken None before behind same stands none is = record { same = same; front = before; back = behind; stands = stands; takes = (refl, none); on = tt }
-    none_taken (Some entry) before behind same stands none is = absurd (cc)
-
-    first_taken : (result : Option (Bor K × Bor V)) (entry : K × V) (entries : List (K × V)) → option_map lent_entry result ≡ Some entry
-        → TakesFirst (entry ∷ entries) result entries
-    first_taken None entry entries is = absurd (cc)
-    first_taken (Some taken) entry entries is = let same : entry ≡ lent_entry taken = cc in rw same refl
-
-    stood_taken : (result : Option (Bor K × Bor V)) (found : Option (K × V)) → option_map lent_entry result ≡ found → IfSome result (λ entry. found ≡ Some (lent_entry entry))
-    stood_taken None found is = tt
-    stood_taken (Some entry) found is = sym is
+    stood_taken : (result : Option (Bor K × Bor V)) (found stood : Option (K × V)) → option_map lent_entry result ≡ found → ((x : K × V) → found ≡ Some x → stood ≡ Some x)
+        → IfSome result (λ entry. stood ≡ Some (lent_entry entry))
+    stood_taken None found stood is same = tt
+    stood_taken (Some entry) found stood is same = same (lent_entry entry) (sym is)
 
     jump_takes : (result : Option (Bor K × Bor V)) → ahead way (here walk) walk.at ≡ [] → new ≡ jumped way walk (landing walk.leaves None (leaves_on way front back))
         → option_map lent_entry result ≡ first_of (met walk.leaves way (leaves_on way front back))
         → HasTaken way walk.leaves (front ++ walk.leaf ∷ back) (met walk.leaves way (leaves_on way front back)) result new
     jump_takes result none is first = by_landing (landing walk.leaves None (leaves_on way front back)) refl
       where
-        by_entries : (id : ℕ) → landing walk.leaves None (leaves_on way front back) ≡ Some id → (l : Lands walk.leaves (leaves_on way front back) id) (entries : List (K × V)) → leaf_entries walk.leaves id ≡ entries
-            → HasTaken way walk.leaves (front ++ walk.leaf ∷ back) (along way (leaf_entries walk.leaves id) ++ met walk.leaves way l.back) result new
-        by_entries id at l [] e =
-            let to = onward way front walk.leaf back l.front id l.back l.parts in
-            let empty : (length (leaf_entries walk.leaves id) == 0) ≡ true = rw e refl in
-            let there : new ≡ standing walk.leaves id None = is ∙ rw (at, e) refl in
-            rw (e, l.last empty, along-nil (K × V) way) (none_taken result to.front to.back (rw there refl) (rw there to.stands)
-            (rw there (left_met (standing walk.leaves id None) to.front to.back ∙ rw (e, to.rest, l.last empty, all_ahead way [], along-nil (K × V) way) refl))
-            (first ∙ rw (l.parts, met_over walk.leaves way l.front (id ∷ l.back) l.empty, e, l.last empty, along-nil (K × V) way) refl))
-        by_entries id at l (entry ∷ entries) e =
-            let to = onward way front walk.leaf back l.front id l.back l.parts in
-            let place = Some (next_place way (length (entry ∷ entries)) None) in
-            let there : new ≡ standing walk.leaves id place = is ∙ rw (at, e, not_none entry entries) refl in
-            let step = first_step way entry entries in
-            let found : stood_on (standing walk.leaves id place) ≡ Some step.first = rw e step.steps.1 in
-            let taken = sym (all_ahead way (entry ∷ entries)) ∙ step_takes way (entry ∷ entries) None _ step.first step.steps in
-            let told : option_map lent_entry result ≡ Some step.first =
-            first ∙ rw (l.parts, met_over walk.leaves way l.front (id ∷ l.back) l.empty, e, taken) refl in
-            rw (e, taken, there) (record {
-              same = refl;
-              front = to.front;
-              back = to.back;
-              stands = to.stands;
-              takes = rw (left_met (standing walk.leaves id place) to.front to.back, e, to.rest) (first_taken result step.first _ told);
-              on = stood_taken result _ (told ∙ sym found);
-            })
-
         by_landing : (at : Option ℕ) → landing walk.leaves None (leaves_on way front back) ≡ at
             → HasTaken way walk.leaves (front ++ walk.leaf ∷ back) (met walk.leaves way (leaves_on way front back)) result new
         by_landing None at =
             let gone = (lands_nowhere walk.leaves None (leaves_on way front back) at).1 in
-            let there : new ≡ walk = is ∙ rw at refl in
-            rw gone (none_taken result front back (rw there refl) (rw there refl) (rw there (left_met walk front back ∙ rw (none, gone) refl))
-            (first ∙ rw gone refl))
+            let told : option_map lent_entry result ≡ None = first ∙ rw gone refl in
+            rw (is, at, gone) (record {
+              stand = record { same = refl; front = front; back = back; stands = refl };
+              takes = rw (left_met walk front back, none, gone) (takes_lent [] result None [] told (refl, refl));
+              on = stood_taken result None _ told (λ x some. absurd (cc));
+            })
         by_landing (Some id) at =
             let l = lands_in walk.leaves (leaves_on way front back) id at in
-            rw (l.parts, met_over walk.leaves way l.front (id ∷ l.back) l.empty) (by_entries id at l (leaf_entries walk.leaves id) refl)
+            let to = onward way front walk.leaf back l.front id l.back l.parts in
+            let takes = landed walk.leaves way _ id l in
+            let told = first ∙ sym (first_is _ _ _ takes) in
+            rw (is, at) (record {
+              stand = record { same = refl; front = to.front; back = to.back; stands = to.stands };
+              takes = rw (left_met (standing walk.leaves id (first_at way (leaf_entries walk.leaves id))) to.front to.back, to.rest) (takes_lent _ result _ _ told takes);
+              on = stood_taken result _ _ told (λ x some. first_stood way (leaf_entries walk.leaves id) ∙ some);
+            })
 
   -- a step that finds none in the leaf, and then a jump
   pub next_then_jump : (old between new : LeafWalk K V LEN) (result : Option (Bor K × Bor V)) → Steps way old None between → Jumps way between result new → Takes way old result new
@@ -130,20 +111,21 @@ module _ {K V : Type 0} {LEN : ℕ} (way : Way) where
   pub count_falls : (old new : LeafWalk K V LEN) (entry : Bor K × Bor V) (front back : List ℕ) → IsChain old.leaves (front ++ old.leaf ∷ back) → Takes way old (Some entry) new → count_left new < count_left old
   count_falls old new entry front back chain takes =
       let taken = takes front back chain in
-      let still : IsChain new.leaves (taken.front ++ new.leaf ∷ taken.back) = rw (taken.same, taken.stands) chain in
-      omega (arith, count_is old front back chain, count_is new taken.front taken.back still, ap length taken.takes)
+      let to = taken.stand in
+      omega (arith, count_is old front back chain, count_is new to.front to.back (rw (to.same, to.stands) chain), ap length taken.takes)
 
   module _ (old new : LeafWalk K V LEN) where
     -- it stays in its chain
     pub chain_on : (result : Option (Bor K × Bor V)) → Takes way old result new → IsInChain old → IsInChain new
-    chain_on result takes given = let taken = takes given.0 given.1 given.2 in (taken.front, taken.back, rw (taken.same, taken.stands) given.2)
+    chain_on result takes given = let to = (takes given.0 given.1 given.2).stand in (to.front, to.back, rw (to.same, to.stands) given.2)
 
     -- what was left is what is taken and what is left then
     pub left_then : (entry : Bor K × Bor V) (entries : List (Bor K × Bor V)) → Takes way old (Some entry) new → AreLeft way new entries
         → AreLeft way old (entry ∷ entries)
     left_then entry entries takes left = λ front back chain.
         let taken = takes front back chain in
-        ap (λ rest. lent_entry entry ∷ rest) (left taken.front taken.back (rw (taken.same, taken.stands) chain)) ∙ sym taken.takes
+        let to = taken.stand in
+        ap (λ rest. lent_entry entry ∷ rest) (left to.front to.back (rw (to.same, to.stands) chain)) ∙ sym taken.takes
 
     pub none_then : (result : Option (Bor K × Bor V)) → result ≡ None → Takes way old result new → AreLeft way old []
     none_then None none takes = λ front back chain. sym (takes front back chain).takes.0

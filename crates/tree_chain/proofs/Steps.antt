@@ -1,9 +1,9 @@
 -- The slots that a walk goes through, and the entries of the leaf that it stands in.
-use Rattle.std.proofs.Common.{◌≡◌, ℕ, zero, suc, List, [], ◌∷◌, map, length, slice_get, Option, Some, None, IsSome, option_and_then, option_map, refl, sym, ap, ◌∙◌, arith, Bor}
+use Rattle.std.proofs.Common.{◌≡◌, ℕ, zero, suc, List, [], ◌∷◌, map, length, slice_get, Option, Some, None, IsSome, option_and_then, option_map, refl, sym, ap, ◌∙◌, Bor}
 use Rattle.tree_model.proofs.Common.{MakesProgress, lent_entry}
-use Rattle.tree_chain.proofs.Common.{IsStand, LeafOf, LeafWalk, Slab, Steps, StepsOver, Walk, Way, arrival, first_on, here, leaf_entries, left_in_leaf, length-map, next_place, slice_get_past, standing, stood_on}
+use Rattle.tree_chain.proofs.Common.{IsStand, LeafOf, LeafWalk, Slab, Steps, StepsOver, Walk, Way, arrival, first_on, here, leaf_entries, left_in_leaf, length-map, standing, stood_on}
 use Rattle.tree_array.specs.Walk.{standing as array_standing}
-use Rattle.tree_chain.proofs.Along.{all_left, fewer_left, first_place}
+use Rattle.tree_chain.proofs.Along.{fewer_left, first_taken}
 
 -- one place of two lists of which one lists what the other names
 pub same_place : {X Y : Type 0} (find : X → Option Y) (xs : List X) (ys : List Y) → map find xs ≡ map Some ys → (place : ℕ) (x : X) → slice_get xs place ≡ Some x → (y : Y) × (find x ≡ Some y) × (slice_get ys place ≡ Some y)
@@ -60,24 +60,14 @@ module _ {K V : Type 0} {LEN : ℕ} (leaves : Slab (LeafOf K V LEN)) (id : ℕ) 
     (fresh : all.at ≡ None) (way : Way) (new : Option ℕ) where
   -- the first step from before the first slot reads the entry that comes first on the way, and there is none where the leaf has no entry
   pub first_read : (slot : ℕ) (read : K × V) → StepsOver way all.slots all.at (Some slot) new → arrival leaf.array.arrivals slot ≡ Some read → Some read.0 ≡ option_map (λ entry. entry.0) (first_on way (leaf_entries leaves id))
-  first_read slot read steps found = rw (
-    first_place way (leaf_entries leaves id),
-    (rw fresh at (step_read leaves id leaf all stand way new slot read steps found)).1,
-  ) refl
+  first_read slot read steps found = ap (option_map (λ entry. entry.0)) (first_taken way _ (Some read) new (rw fresh at (step_read leaves id leaf all stand way new slot read steps found))).0
 
   pub none_first : {X : Type 0} (key : K × V → X) → StepsOver way all.slots all.at None new → None ≡ option_map key (first_on way (leaf_entries leaves id))
-  none_first key steps =
-      let there = rw fresh at (none_read leaves id leaf all stand way new steps) in
-      let empty : length (leaf_entries leaves id) ≡ 0 = sym (all_left way (length (leaf_entries leaves id))) ∙ there.0 in
-      rw (first_place way (leaf_entries leaves id), slice_get_past (leaf_entries leaves id) (next_place way (length (leaf_entries leaves id)) None) (omega (arith, empty))) refl
+  none_first key steps = ap (option_map key) (first_taken way _ None new (rw fresh at (none_read leaves id leaf all stand way new steps))).0
 
 -- each step leaves fewer
-pub progress : {K V : Type 0} {LEN : ℕ} {can : LeafWalk K V LEN → Type 0} → ((walk : LeafWalk K V LEN) → can walk)
-    → (way : Way) (s t : LeafWalk K V LEN) (r : Option (Bor K × Bor V)) → Steps way s r t → MakesProgress can (left_in_leaf way) s r t
-progress can way s t None steps = record { on = λ finite. tt; keeps = tt; rests = λ finite. tt }
-progress can way s t (Some entry) steps = record {
-  on =
-      λ finite. (can t, tt, rw steps.0 (fewer_left way (here s) s.at t.at (lent_entry entry) steps.1));
-  keeps = can t;
-  rests = λ finite. tt;
-}
+pub with_progress : {K V : Type 0} {LEN : ℕ} {can : LeafWalk K V LEN → Type 0} → ((walk : LeafWalk K V LEN) → can walk) → (way : Way) (s t : LeafWalk K V LEN) (r : Option (Bor K × Bor V))
+    → Steps way s r t → record { steps : Steps way s r t; goes : MakesProgress can (left_in_leaf way) s r t }
+with_progress can way s t None steps = record { steps = steps; goes = record { on = λ finite. tt; keeps = tt; rests = λ finite. tt } }
+with_progress can way s t (Some entry) steps =
+    record { steps = steps; goes = record { on = λ finite. (can t, tt, rw steps.0 (fewer_left way (here s) s.at t.at (lent_entry entry) steps.1)); keeps = can t; rests = λ finite. tt } }

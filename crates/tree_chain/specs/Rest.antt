@@ -1,6 +1,7 @@
 -- What is left of a walk on its way through a chain, and that a walk with its jumps takes it entry by entry.
-use Rattle.std.specs.Prelude.{◌≡◌, ℕ, List, [], ◌∷◌, ◌++◌, map, reverse, Option, None, Some, IfSome}
+use Rattle.std.specs.Prelude.{◌≡◌, ℕ, List, [], ◌∷◌, ◌++◌, map, reverse, Option, Some, IfSome}
 use Rattle.std.specs.Borrow.{Bor}
+use Rattle.std.specs.Map.Iter.{TakesFirst}
 use Rattle.slab.specs.Slab.{Slab}
 use Rattle.tree_leaf.specs.declared.leaf.LeafOf.{LeafOf}
 use Rattle.tree_model.specs.declared.way.Way.{Way}
@@ -12,11 +13,6 @@ use Rattle.tree_model.specs.Rest.{lent_entry}
 use Rattle.tree_chain.specs.Ways.{ahead, beyond}
 use Rattle.tree_model.specs.Ways.{along}
 
--- the first entry is taken and the others are left, or there was none
-abbrev pub TakesFirst : {K V : Type 0} → List (K × V) → Option (Bor K × Bor V) → List (K × V) → Type 0
-TakesFirst left None rest = (left ≡ []) × (rest ≡ [])
-TakesFirst left (Some entry) rest = left ≡ lent_entry entry ∷ rest
-
 module _ {K V : Type 0} {LEN : ℕ} where
   -- of the entries of a chain, in which these leaves stand before the walk's leaf and behind it, those that lie ahead of the walk, in its order
   abbrev pub left_of : Way → LeafWalk K V LEN → List ℕ → List ℕ → List (K × V)
@@ -27,13 +23,17 @@ module _ {K V : Type 0} {LEN : ℕ} where
   whole_way On leaves front id back = entries_of leaves (id ∷ back)
   whole_way Back leaves front id back = reverse (entries_of leaves (front ++ id ∷ []))
 
-  -- the walk stands in a leaf of the chain, and of what was left it has taken the first entry, on which it stands
-  pub record HasTaken (way : Way) (leaves : Slab (LeafOf K V LEN)) (chain : List ℕ) (left : List (K × V)) (result : Option (Bor K × Bor V)) (new : LeafWalk K V LEN) : Type 0 where
-    pub same : new.leaves ≡ leaves
+  -- the walk stands in a leaf of the chain
+  pub record StandsIn (leaves : Slab (LeafOf K V LEN)) (chain : List ℕ) (walk : LeafWalk K V LEN) : Type 0 where
+    pub same : walk.leaves ≡ leaves
     pub front : List ℕ
     pub back : List ℕ
-    pub stands : front ++ new.leaf ∷ back ≡ chain
-    pub takes : TakesFirst left result (left_of way new front back)
+    pub stands : front ++ walk.leaf ∷ back ≡ chain
+
+  -- and of what was left it has taken the first entry, on which it stands
+  pub record HasTaken (way : Way) (leaves : Slab (LeafOf K V LEN)) (chain : List ℕ) (left : List (K × V)) (result : Option (Bor K × Bor V)) (new : LeafWalk K V LEN) : Type 0 where
+    pub stand : StandsIn leaves chain new
+    pub takes : TakesFirst lent_entry left result (left_of way new stand.front stand.back)
     pub on : IfSome result (λ entry. stood_on new ≡ Some (lent_entry entry))
 
   -- over every chain that the leaf is in

@@ -87,6 +87,14 @@ impl<'t, K: Ord + Drop, V: Drop, S: SlotWalk, const LEN: usize> LinkedIter<
     pub fn jump(&mut self) -> Option<(&'t K, &'t V)>
         ensures { Jumps S.way self.old result self.new }
     {
+        self.enter_next()
+    }
+
+    /// Does what [`jump`](LinkedIter::jump) does, inlined in a loop over all entries.
+    #[inline(always)]
+    pub(crate) fn enter_next(&mut self) -> Option<(&'t K, &'t V)>
+        ensures { Jumps S.way self.old result self.new }
+    {
         let id = self.stand.landing(S::way())?;
         *self = Self::in_leaf(self.stand.leaves, id);
         self.next()

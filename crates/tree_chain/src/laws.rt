@@ -19,7 +19,7 @@ pub fn next_or_jump<'t, K: Ord + Drop, V: Drop, S: SlotWalk, const LEN: usize>(
     ensures { Takes S.way walk.old result walk.new }
 {
     match walk.next() {
-        None => walk.jump(),
+        None => walk.enter_next(),
         entry => entry,
     }
 }

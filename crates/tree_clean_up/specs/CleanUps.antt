@@ -1,13 +1,18 @@
 -- How a retired child is taken out of its node and dropped, and what that leaves.
-use Rattle.std.specs.Prelude.{◌≡◌, ℕ, [], ◌∷◌, Option, None, Some, IsSome, ⊤}
+use Rattle.std.specs.Prelude.{◌≡◌, ℕ, ◌+◌, List, [], ◌∷◌, Option, None, Some, IsSome, ⊤}
 use Rattle.slab.specs.Slab.{Updates}
 use Rattle.tree_array.specs.declared.answers.RemoveResult.{RemoveResult}
 use Rattle.tree_array.specs.declared.answers.RemoveResult.TheVariants.{Success, Retired, Fail}
 use Rattle.tree_node.specs.declared.node.NodeOf.{NodeOf}
-use Rattle.tree_node.specs.Arenas.{Ordering, Slab, TreeArenas, arrival, get, removed}
+use Rattle.tree_node.specs.Arenas.{Ordering, Slab, TreeArenas, arrival, get, removed, times, uses}
 use Rattle.tree_node.specs.Changes.{MovesLast}
 use Rattle.tree_node.specs.Parts.{Replaces}
 use Rattle.tree_node.specs.Tree.{IsOfLevel, keyed, unbounded, children_of, HasKind, IsRetired, walk}
+
+-- of an arena exactly these numbers are free now
+pub record FreesIn {T : Type 0} (old new : Slab T) (ids : List ℕ) : Type 0 where
+  pub kept : (n : ℕ) → times n ids ≡ 0 → get new n ≡ get old n
+  pub counted : (n : ℕ) → uses new n + times n ids ≡ uses old n
 
 module _ {K : Type 0} (cmp : K → K → Ordering) where
   module _ {LEN : ℕ} (old new : Slab (NodeOf K LEN)) (id : ℕ) where

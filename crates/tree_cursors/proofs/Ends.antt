@@ -1,16 +1,11 @@
 -- The place of a walk among the pairs of a tree, and where it goes.
-use Rattle.tree_cursors.proofs.Common.{◌≡◌, ℕ, zero, ◌+◌, ◌<◌, ◌==◌, true, false, List, [], ◌∷◌, ◌++◌, length, drop, take, reverse, slice_get, inl, inr, suc, Option, Some, None, refl, sym, ap}
-use Rattle.tree_cursors.proofs.Common.{◌∙◌, arith, length-append, length-drop, append-nil, length-take, Bor, Ordering, cases_eq, nat_tests, flat_map-append, Bound, lent_entry, along, at_place, meets}
+use Rattle.tree_cursors.proofs.Common.{◌≡◌, ℕ, zero, ◌+◌, ◌<◌, List, [], ◌∷◌, ◌++◌, length, reverse, slice_get, inl, inr, suc, Option, Some, None, refl, sym, ap}
+use Rattle.tree_cursors.proofs.Common.{◌∙◌, arith, length-append, length-drop, append-nil, length-take, Bor, Ordering, nat_tests, flat_map-append, Bound, lent_entry, along, at_place, meets}
 use Rattle.tree_cursors.proofs.Common.{next_end, unopened, Way, On, Back, Slab, LeafOf, IsChain, times, entries_of, leaf_entries, one_here, times-cons, uses_le_one, TreeArenas, StandsOrRetired}
 use Rattle.tree_cursors.proofs.Common.{leaves_at, walk, IsTree, leaves_under, walk_under, root_at, Root, LeafWalk, Steps, standing, beyond, length-reverse, slice_get_within, Takes}
-use Rattle.tree_cursors.proofs.Common.{left_of, here, stood_on, StandsInside, ahead, places_left, counted, took, exhausted, IsLinked, Seeks, path, End, Unopened, At, Exhausted, EndStands}
+use Rattle.tree_cursors.proofs.Common.{left_of, StandsInside, ahead, places_left, counted, took, exhausted, IsLinked, Seeks, path, stands_on, End, Unopened, At, Exhausted, EndStands}
 use Rattle.tree_cursors.proofs.Common.{GoesTo, Stands, StepsInLeaf, end_of, place_at, place_in, place_of}
 use Rattle.tree_cursors.proofs.Places.{beside_is, beside_none, first_is, first_none}
-
--- without a pair an end goes nowhere
-pub goes_nowhere : {K : Type 0} (V : Type 0) (cmp : K → K → Ordering) (way : Way) (bound : Bound K) → exhausted ≡ next_end {V = V} cmp way bound [] unopened
-goes_nowhere V cmp On bound = refl
-goes_nowhere V cmp Back bound = refl
 
 -- elements of joined lists
 get_left : {X : Type 0} (xs ys : List X) (i : ℕ) (x : X) → slice_get xs i ≡ Some x → slice_get (xs ++ ys) i ≡ Some x
@@ -23,20 +18,13 @@ get_right [] ys i n is = ap (slice_get ys) (omega (arith, is))
 get_right (x ∷ xs) ys i zero is = absurd (omega (arith, is))
 get_right (x ∷ xs) ys i (suc n) is = get_right xs ys i n (omega (arith, is))
 
-same_number : (n : ℕ) → (n == n) ≡ true
-same_number n = grind arith
-
 module _ {K V : Type 0} {LEN : ℕ} (leaves : Slab (LeafOf K V LEN)) where
   -- in a list that a number stands in once, its leaf begins behind the entries of the leaves before
   place_split : (front : List ℕ) (id : ℕ) (back : List ℕ) (i : ℕ) → times id front ≡ 0 → place_in leaves (front ++ id ∷ back) id i ≡ length (entries_of leaves front) + i
-  place_split [] id back i once = rw (same_number id) (omega arith)
-  place_split (x ∷ front) id back i once = elim (cases_eq id x) [
-    | inl same ↦ absurd (omega (arith, once, times-cons id x front, one_here id x same))
-    | inr differs ↦
-        let no : (x == id) ≡ false = grind (arith, nat_tests, differs) in
-        let rest : times id front ≡ 0 = omega (arith, once, times-cons id x front) in
-        rw (no, place_split front id back i rest) (omega (arith, length-append (leaf_entries leaves x) (entries_of leaves front)))
-  ]
+  place_split [] id back i once = grind (arith, nat_tests)
+  place_split (x ∷ front) id back i once =
+      let again = place_split front id back i in
+      grind (arith, nat_tests, times-cons id x front, one_here id x, length-append (leaf_entries leaves x) (entries_of leaves front))
 
 -- where a walk stands among the entries of its chain, and how many are left of it either way
 pub record IsPlaced {K V : Type 0} {LEN : ℕ} (leaves : Slab (LeafOf K V LEN)) (front : List ℕ) (back : List ℕ) (pairs : List (K × V)) (ids : List ℕ) (walk : LeafWalk K V LEN) (pair : K × V) : Type 0 where
@@ -47,9 +35,6 @@ pub record IsPlaced {K V : Type 0} {LEN : ℕ} (leaves : Slab (LeafOf K V LEN)) 
   pub left : (way : Way) → length (left_of way walk front back) ≡ places_left way (length pairs) (Some place)
 
 module _ {K V : Type 0} {LEN : ℕ} (leaves : Slab (LeafOf K V LEN)) (front : List ℕ) (id : ℕ) (back : List ℕ) (chain : IsChain leaves (front ++ id ∷ back)) where
-  once_in_front : times id front ≡ 0
-  once_in_front = omega (arith, counted leaves front id back chain id, uses_le_one leaves id, times-cons id id back, one_here id id refl)
-
   module _ (pair : K × V) (i : ℕ) (is : slice_get (leaf_entries leaves id) i ≡ Some pair) where
     abbrev before : ℕ
     before = length (entries_of leaves front)
@@ -63,46 +48,34 @@ module _ {K V : Type 0} {LEN : ℕ} (leaves : Slab (LeafOf K V LEN)) (front : Li
     left_is : (way : Way) → length (ahead way (leaf_entries leaves id) (Some i) ++ along way (entries_of leaves (beyond way front back))) ≡ places_left way (length (entries_of leaves (front ++ id ∷ back))) (Some (before + i))
     left_is On =
         let within = slice_get_within (leaf_entries leaves id) i pair is in
-        rw parts (omega (
-          arith,
-          within,
-          length-append (drop (i + 1) (leaf_entries leaves id)) (entries_of leaves back),
-          length-drop (i + 1) (leaf_entries leaves id),
-          length-append (entries_of leaves front) (leaf_entries leaves id ++ entries_of leaves back),
-          length-append (leaf_entries leaves id) (entries_of leaves back),
-        ))
+        rw parts (omega (arith, within, length-append {A = K × V}, length-drop (i + 1) (leaf_entries leaves id)))
     left_is Back =
         let within = slice_get_within (leaf_entries leaves id) i pair is in
-        omega (arith, within, length-append (reverse (take i (leaf_entries leaves id))) (reverse (entries_of leaves front)), length-reverse (take i (leaf_entries leaves id)), length-reverse (entries_of leaves front), length-take i (leaf_entries leaves id))
+        omega (arith, within, length-append {A = K × V}, length-reverse {A = K × V}, length-take i (leaf_entries leaves id))
 
     placed : IsPlaced leaves front back (entries_of leaves (front ++ id ∷ back)) (front ++ id ∷ back) (standing leaves id (Some i)) pair
     placed = record {
       place = before + i;
-      place_is = ap at_place (place_split leaves front id back i once_in_front);
+      place_is = ap at_place (place_split leaves front id back i (omega (arith, counted leaves front id back chain id, uses_le_one leaves id, times-cons id id back, one_here id id refl)));
       inside = slice_get_within (entries_of leaves (front ++ id ∷ back)) (before + i) pair found;
       there = found;
       left = left_is;
     }
-
-module _ {K V : Type 0} {LEN : ℕ} (leaves : Slab (LeafOf K V LEN)) (ids : List ℕ) (chain : IsChain leaves ids) where
-  -- a walk that stands on an entry of the chain
-  pub placed_on : (walk : LeafWalk K V LEN) (pair : K × V) → walk.leaves ≡ leaves → (front back : List ℕ) → front ++ walk.leaf ∷ back ≡ ids → stood_on walk ≡ Some pair → IsPlaced leaves front back (entries_of leaves ids) ids walk pair
-  placed_on walk pair same front back stands here = by_place walk.at refl
-    where
-      by_place : (at : Option ℕ) → walk.at ≡ at → IsPlaced leaves front back (entries_of leaves ids) ids walk pair
-      by_place None is = absurd (let none = rw is at here in cc)
-      by_place (Some i) is =
-          let this : walk ≡ standing leaves walk.leaf (Some i) = rw (← same, ← is) refl in
-          let there : slice_get (leaf_entries leaves walk.leaf) i ≡ Some pair = rw (same, is) at here in
-          rw (this, ← stands) (placed leaves front walk.leaf back (rw stands chain) pair i there)
 
 module _ {K V : Type 0} {LEN : ℕ} {cmp : K → K → Ordering} (a : TreeArenas K V LEN) (root : Option Root) (tree : IsTree cmp a root) where
   pairs_are : walk_under a root ≡ entries_of a.leaves (leaves_under a.nodes root)
   pairs_are = elim root as (λ root. walk_under a root ≡ entries_of a.leaves (leaves_under a.nodes root)) [ None ↦ refl | Some root ↦ refl ]
 
   -- the place of a walk that stands in the tree
-  pub placed_in : (now : LeafWalk K V LEN) (s : Stands a root now) → IsPlaced a.leaves s.front s.back (walk_under a root) (leaves_under a.nodes root) now s.pair
-  placed_in now s = rw pairs_are (placed_on a.leaves (leaves_under a.nodes root) tree.chain now s.pair s.same s.front s.back s.stands s.here)
+  pub placed_in : (now : LeafWalk K V LEN) (s : Stands a root now) → IsPlaced a.leaves s.stand.front s.stand.back (walk_under a root) (leaves_under a.nodes root) now s.pair
+  placed_in now s = rw pairs_are (by_place now.at refl)
+    where
+      by_place : (at : Option ℕ) → now.at ≡ at → IsPlaced a.leaves s.stand.front s.stand.back (entries_of a.leaves (leaves_under a.nodes root)) (leaves_under a.nodes root) now s.pair
+      by_place None is = absurd (let none = rw is at s.here in cc)
+      by_place (Some i) is =
+          let this : now ≡ standing a.leaves now.leaf (Some i) = rw (← s.stand.same, ← is) refl in
+          let there : slice_get (leaf_entries a.leaves now.leaf) i ≡ Some s.pair = rw (s.stand.same, is) at s.here in
+          rw (this, ← s.stand.stands) (placed a.leaves s.stand.front now.leaf s.stand.back (rw s.stand.stands tree.chain) s.pair i there)
 
   -- an end that stands in the tree is at one of its places
   pub end_inside : (end : End (LeafWalk K V LEN)) → EndStands a root end → StandsInside (walk_under a root) (end_of a root end)
@@ -111,14 +84,14 @@ module _ {K V : Type 0} {LEN : ℕ} {cmp : K → K → Ordering} (a : TreeArenas
   end_inside Exhausted s = tt
 
   module _ (way : Way) (old : LeafWalk K V LEN) (s : Stands a root old) (new : LeafWalk K V LEN) where
-    pub old_chain : IsChain old.leaves (s.front ++ old.leaf ∷ s.back)
-    old_chain = rw (s.same, s.stands) tree.chain
+    pub old_chain : IsChain old.leaves (s.stand.front ++ old.leaf ∷ s.stand.back)
+    old_chain = rw (s.stand.same, s.stand.stands) tree.chain
 
     -- a walk that goes on stands one place along
     pub goes_to : (entry : Bor K × Bor V) → Takes way old (Some entry) new → GoesTo a root cmp way (At old) entry (At new)
     goes_to entry takes =
-        let next = takes s.front s.back old_chain in
-        let stands : Stands a root new = record { same = next.same ∙ s.same; front = next.front; back = next.back; stands = next.stands ∙ s.stands; pair = lent_entry entry; here = next.on } in
+        let next = takes s.stand.front s.stand.back old_chain in
+        let stands : Stands a root new = record { stand = stands_on s.stand next.stand; pair = lent_entry entry; here = next.on } in
         let from = placed_in old s in
         let to = placed_in new stands in
         let fewer : places_left way (length (walk_under a root)) (Some from.place) ≡ suc (places_left way (length (walk_under a root)) (Some to.place)) =
@@ -128,7 +101,7 @@ module _ {K V : Type 0} {LEN : ℕ} {cmp : K → K → Ordering} (a : TreeArenas
     -- or it has left the tree
     pub leaves_tree : Takes way old None new → (bound : Bound K) → exhausted ≡ next_end cmp way bound (walk_under a root) (place_of a root old)
     leaves_tree takes bound =
-        let next = takes s.front s.back old_chain in
+        let next = takes s.stand.front s.stand.back old_chain in
         let from = placed_in old s in
         let none : places_left way (length (walk_under a root)) (Some from.place) ≡ 0 = sym (from.left way) ∙ ap length next.takes.0 in
         rw (from.place_is, beside_none way (length (walk_under a root)) from.place none) refl
@@ -158,8 +131,9 @@ module _ {K V : Type 0} {LEN : ℕ} {cmp : K → K → Ordering} (a : TreeArenas
         → Stands a (Some (root_at id level)) found × (place_of a (Some (root_at id level)) found ≡ next_end cmp way bound (walk level a id) unopened)
     found_end found seeks =
         let near = seeks [] [] whole_chain in
+        let n = near.stand in
         let stands : Stands a (Some (root_at id level)) found =
-        record { same = near.same; front = near.front; back = near.back; stands = near.stands ∙ append-nil (leaves_at level a.nodes id); pair = near.pair; here = near.here } in
+        record { stand = record { same = n.same; front = n.front; back = n.back; stands = n.stands ∙ append-nil (leaves_at level a.nodes id) }; pair = near.pair; here = near.here } in
         let at = placed_in a (Some (root_at id level)) tree found stands in
         let first = first_is (λ pair. meets cmp way bound pair.0) way (walk level a id) near.before near.pair _ at.place (sym (path_is way) ∙ near.parts) near.none_before near.met at.inside (sym (at.left way)) in
         (stands, rw (at.place_is, first) refl)

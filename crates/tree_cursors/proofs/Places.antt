@@ -1,5 +1,5 @@
 -- The first place on a way whose element passes, and the place beside one, told by how many places are left behind it.
-use Rattle.tree_cursors.proofs.Common.{◌≡◌, ℕ, suc, zero, ◌+◌, ◌<◌, ltb, Bool, true, false, List, [], ◌∷◌, ◌++◌, length, reverse, slice_get, Some, None, refl, sym, ap, ◌∙◌, arith, length-append}
+use Rattle.tree_cursors.proofs.Common.{◌≡◌, ℕ, suc, zero, ◌<◌, ltb, Bool, true, false, List, [], ◌∷◌, ◌++◌, length, reverse, slice_get, Some, None, refl, sym, ap, ◌∙◌, arith, length-append}
 use Rattle.tree_cursors.proofs.Common.{append_assoc, is_lt, Ordering, Less, Greater, AllByRecursion, IsTotalOrder, nat_tests, tied_itself, reverse_onto, reverse-append, reverse-reverse, IsAscending}
 use Rattle.tree_cursors.proofs.Common.{along, greatest_place, all_at, Way, On, Back, greater_from_less, length-reverse, places_left, all_reversed, first_place, least_place, place_beside}
 
@@ -42,35 +42,19 @@ module _ {X : Type 0} (test : X → Bool) where
 
 -- one place along, one fewer is left
 pub beside_is : (way : Way) (len i j : ℕ) → i < len → j < len → places_left way len (Some i) ≡ suc (places_left way len (Some j)) → place_beside way len i ≡ Some j
-beside_is On len i j inside there fewer =
-    let next : i + 1 ≡ j = omega arith in
-    let test : ltb (i + 1) len ≡ true = grind (arith, nat_tests) in
-    rw (test, next) refl
+beside_is On len i j inside there fewer = grind (arith, nat_tests)
 beside_is Back len i j inside there fewer = rw fewer refl
 
 pub beside_none : (way : Way) (len i : ℕ) → places_left way len (Some i) ≡ 0 → place_beside way len i ≡ None
-beside_none On len i none =
-    let test : ltb (i + 1) len ≡ false = grind (arith, nat_tests) in
-    rw test refl
+beside_none On len i none = grind (arith, nat_tests)
 beside_none Back len i none = rw none refl
 
 -- keys compare as their places
 pub places_compare : {K V : Type 0} {cmp : K → K → Ordering} → IsTotalOrder cmp → (l : List (K × V)) (i j : ℕ) (x y : K × V) → IsAscending cmp l → slice_get l i ≡ Some x → slice_get l j ≡ Some y → is_lt (cmp x.0 y.0) ≡ ltb i j
 places_compare o [] i j x y ascending at_i at_j = absurd (cc)
-places_compare {cmp = cmp} o (p ∷ ps) zero zero x y ascending at_i at_j =
-    let first : x ≡ p = cc in
-    let second : y ≡ p = cc in
-    rw (first, second, tied_itself o p.0) refl
+places_compare o (p ∷ ps) zero zero x y ascending at_i at_j = grind (arith, nat_tests, tied_itself o p.0)
 places_compare {cmp = cmp} o (p ∷ ps) zero (suc j) x y ascending at_i at_j =
-    let first : x ≡ p = cc in
-    let later : cmp p.0 y.0 ≡ Less = all_at (λ q. cmp p.0 q.0 ≡ Less) ps j y ascending.0 at_j in
-    let test : ltb 0 (suc j) ≡ true = grind (arith, nat_tests) in
-    rw (first, later, test) refl
+    let later : cmp p.0 y.0 ≡ Less = all_at (λ q. cmp p.0 q.0 ≡ Less) ps j y ascending.0 at_j in grind (arith, nat_tests)
 places_compare {cmp = cmp} o (p ∷ ps) (suc i) zero x y ascending at_i at_j =
-    let second : y ≡ p = cc in
-    let later : cmp x.0 p.0 ≡ Greater = greater_from_less o p.0 x.0 (all_at (λ q. cmp p.0 q.0 ≡ Less) ps i x ascending.0 at_i) in
-    let test : ltb (suc i) 0 ≡ false = grind (arith, nat_tests) in
-    rw (second, later, test) refl
-places_compare o (p ∷ ps) (suc i) (suc j) x y ascending at_i at_j =
-    let test : ltb (suc i) (suc j) ≡ ltb i j = grind (arith, nat_tests) in
-    rw test (places_compare o ps i j x y ascending.1 at_i at_j)
+    let later : cmp x.0 p.0 ≡ Greater = greater_from_less o p.0 x.0 (all_at (λ q. cmp p.0 q.0 ≡ Less) ps i x ascending.0 at_i) in grind (arith, nat_tests)
+places_compare o (p ∷ ps) (suc i) (suc j) x y ascending at_i at_j = grind (arith, nat_tests, places_compare o ps i j x y ascending.1 at_i at_j)

@@ -1,8 +1,8 @@
 -- A walk that seeks the first pair within a bound: what it has passed, and what is left.
-use Rattle.tree_cursors.proofs.Common.{◌≡◌, ℕ, true, false, List, [], ◌∷◌, ◌++◌, Option, None, Some, MatchOption, ◌⊎◌, inl, inr, refl, sym, ap, ◌∙◌, append_assoc, Bor, Ordering, Less, append-nil}
-use Rattle.tree_cursors.proofs.Common.{AllByRecursion, Bound, Included, Excluded, IsTotalOrder, reverse-append, flat_map-append, lent_entry, along, meets, Way, On, Back, all-append, all_map}
+use Rattle.tree_cursors.proofs.Common.{◌≡◌, ℕ, true, false, List, [], ◌∷◌, ◌++◌, Option, None, Some, MatchOption, ◌⊎◌, refl, sym, ap, ◌∙◌, append_assoc, Bor, Ordering, Less, append-nil}
+use Rattle.tree_cursors.proofs.Common.{AllByRecursion, arith, Bound, Included, Excluded, IsTotalOrder, reverse-append, flat_map-append, lent_entry, along, meets, Way, On, Back, all-append, all_map}
 use Rattle.tree_cursors.proofs.Common.{greater_from_less, Slab, LeafOf, IsChain, entries_of, leaf_entries, TreeArenas, leaves_at, walk, LeafWalk, standing, beyond, HasTaken, Takes, left_of, all_ahead}
-use Rattle.tree_cursors.proofs.Common.{all_along, BeginsPart, passed, IsLeafFor, IsNearest, NoneMeets, Opens, path}
+use Rattle.tree_cursors.proofs.Common.{all_along, BeginsPart, passed, IsLeafFor, IsNearest, NoneMeets, Opens, StandsIn, path, stands_on}
 use Rattle.tree_node.proofs.Cuts.{all_front}
 
 -- the bound is at this key
@@ -12,12 +12,10 @@ IsAt key bound = (bound ≡ Included key) ⊎ (bound ≡ Excluded key)
 module _ {K V : Type 0} {cmp : K → K → Ordering} (o : IsTotalOrder cmp) (key : K) (bound : Bound K) where
   -- smaller keys are not within a lower bound, and larger ones not within an upper bound
   smaller_out : IsAt key bound → (pairs : List (K × V)) → AllByRecursion (λ pair. cmp pair.0 key ≡ Less) pairs → NoneMeets cmp On bound pairs
-  smaller_out (inl included) pairs all = all_map (λ (pair : K × V) (less : cmp pair.0 key ≡ Less). rw (included, greater_from_less o pair.0 key less) refl) pairs all
-  smaller_out (inr excluded) pairs all = all_map (λ (pair : K × V) (less : cmp pair.0 key ≡ Less). rw (excluded, greater_from_less o pair.0 key less) refl) pairs all
+  smaller_out at pairs all = all_map (λ (pair : K × V) (less : cmp pair.0 key ≡ Less). let greater = greater_from_less o pair.0 key less in grind arith) pairs all
 
   larger_out : IsAt key bound → (pairs : List (K × V)) → AllByRecursion (λ pair. cmp key pair.0 ≡ Less) pairs → NoneMeets cmp Back bound pairs
-  larger_out (inl included) pairs all = all_map (λ (pair : K × V) (more : cmp key pair.0 ≡ Less). rw (included, greater_from_less o key pair.0 more) refl) pairs all
-  larger_out (inr excluded) pairs all = all_map (λ (pair : K × V) (more : cmp key pair.0 ≡ Less). rw (excluded, greater_from_less o key pair.0 more) refl) pairs all
+  larger_out at pairs all = all_map (λ (pair : K × V) (more : cmp key pair.0 ≡ Less). let greater = greater_from_less o key pair.0 more in grind arith) pairs all
 
 module _ {K V : Type 0} {LEN : ℕ} {cmp : K → K → Ordering} (o : IsTotalOrder cmp) (level : ℕ) (a : TreeArenas K V LEN) (id : ℕ) (way : Way) (key : K) (bound : Bound K) (leaf : ℕ) (is : IsLeafFor cmp key level a id leaf) where
   -- a walk that stands unopened in the leaf of the bound's key
@@ -42,34 +40,28 @@ opens_unbounded cmp way level a id bound (Some begun) begins = record {
 module _ {K V : Type 0} {LEN : ℕ} (cmp : K → K → Ordering) (way : Way) (bound : Bound K) (pairs : List (K × V)) (leaves : Slab (LeafOf K V LEN)) (chain : List ℕ) where
   -- of these pairs the walk has passed some that aren't within the bound, and the others are left
   pub record IsSought (now : LeafWalk K V LEN) : Type 0 where
-    pub same : now.leaves ≡ leaves
-    pub front : List ℕ
-    pub back : List ℕ
-    pub stands : front ++ now.leaf ∷ back ≡ chain
+    pub stand : StandsIn leaves chain now
     pub before : List (K × V)
-    pub parts : pairs ≡ before ++ left_of way now front back
+    pub parts : pairs ≡ before ++ left_of way now stand.front stand.back
     pub none_before : NoneMeets cmp way bound before
 
   module _ (is_chain : IsChain leaves chain) (old : LeafWalk K V LEN) (sought : IsSought old) where
-    pub old_chain : IsChain old.leaves (sought.front ++ old.leaf ∷ sought.back)
-    old_chain = rw (sought.same, sought.stands) is_chain
+    pub old_chain : IsChain old.leaves (sought.stand.front ++ old.leaf ∷ sought.stand.back)
+    old_chain = rw (sought.stand.same, sought.stand.stands) is_chain
 
     module _ (new : LeafWalk K V LEN) where
       -- no entry is left
       pub none_left : Takes way old None new → NoneMeets cmp way bound pairs
       none_left takes =
-          rw (sought.parts, (takes sought.front sought.back old_chain).takes.0, append-nil sought.before) sought.none_before
+          rw (sought.parts, (takes sought.stand.front sought.stand.back old_chain).takes.0, append-nil sought.before) sought.none_before
 
       module _ (entry : Bor K × Bor V) (takes : Takes way old (Some entry) new) where
-        took : HasTaken way old.leaves (sought.front ++ old.leaf ∷ sought.back) (left_of way old sought.front sought.back) (Some entry) new
-        took = takes sought.front sought.back old_chain
+        took : HasTaken way old.leaves (sought.stand.front ++ old.leaf ∷ sought.stand.back) (left_of way old sought.stand.front sought.stand.back) (Some entry) new
+        took = takes sought.stand.front sought.stand.back old_chain
 
         pub nearest : meets cmp way bound entry.0.now ≡ true → IsNearest cmp way bound pairs leaves chain new
         nearest met = record {
-          same = took.same ∙ sought.same;
-          front = took.front;
-          back = took.back;
-          stands = took.stands ∙ sought.stands;
+          stand = stands_on sought.stand took.stand;
           before = sought.before;
           pair = lent_entry entry;
           here = took.on;
@@ -80,12 +72,9 @@ module _ {K V : Type 0} {LEN : ℕ} (cmp : K → K → Ordering) (way : Way) (bo
 
         pub still_sought : meets cmp way bound entry.0.now ≡ false → IsSought new
         still_sought missed = record {
-          same = took.same ∙ sought.same;
-          front = took.front;
-          back = took.back;
-          stands = took.stands ∙ sought.stands;
+          stand = stands_on sought.stand took.stand;
           before = sought.before ++ lent_entry entry ∷ [];
-          parts = sought.parts ∙ ap (λ (rest : List (K × V)). sought.before ++ rest) took.takes ∙ sym (append_assoc sought.before (lent_entry entry ∷ []) (left_of way new took.front took.back));
+          parts = sought.parts ∙ ap (λ (rest : List (K × V)). sought.before ++ rest) took.takes ∙ sym (append_assoc sought.before (lent_entry entry ∷ []) _);
           none_before = all-append _ sought.before (lent_entry entry ∷ []) sought.none_before (missed, tt);
         }
 
@@ -103,10 +92,7 @@ module _ {K V : Type 0} {LEN : ℕ} (cmp : K → K → Ordering) (level : ℕ) (
   pub opened_sought : (way : Way) (begun : LeafWalk K V LEN) → Opens cmp way level a id bound begun → (front back : List ℕ)
       → IsSought cmp way bound (path way level a id front back) a.leaves (front ++ (leaves_at level a.nodes id ++ back)) begun
   opened_sought way begun opens front back = rw opens.unopened (record {
-    same = refl;
-    front = front ++ opens.front;
-    back = opens.back ++ back;
-    stands = rw opens.parts (simp append_assoc);
+    stand = record { same = refl; front = front ++ opens.front; back = opens.back ++ back; stands = rw opens.parts (simp append_assoc) };
     before = along way (entries_of a.leaves (passed way opens.front opens.back));
     parts = rw (all_ahead way (leaf_entries a.leaves begun.leaf), opens.parts, flat_map-append (leaf_entries a.leaves) opens.front (begun.leaf ∷ opens.back)) (by_way way);
     none_before = all_along _ way _ opens.none_before;

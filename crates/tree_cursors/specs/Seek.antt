@@ -8,7 +8,7 @@ use Rattle.tree_leaf.specs.declared.leaf.LeafOf.{LeafOf}
 use Rattle.tree_model.specs.declared.way.Way.{Way}
 use Rattle.tree_leaf.specs.Chain.{IsChain}
 use Rattle.tree_leaf.specs.Entries.{entries_of}
-use Rattle.tree_chain.specs.Rest.{left_of}
+use Rattle.tree_chain.specs.Rest.{StandsIn, left_of}
 use Rattle.tree_chain.specs.Walks.{LeafWalk, standing, stood_on}
 use Rattle.tree_model.specs.Ways.{along}
 use Rattle.tree_chain.specs.Ways.{beyond}
@@ -36,14 +36,11 @@ module _ {K V : Type 0} {LEN : ℕ} (cmp : K → K → Ordering) (way : Way) whe
 
   -- the walk stands in a leaf of the chain on the first of these pairs that is within the bound
   pub record IsNearest (bound : Bound K) (pairs : List (K × V)) (leaves : Slab (LeafOf K V LEN)) (chain : List ℕ) (found : LeafWalk K V LEN) : Type 0 where
-    pub same : found.leaves ≡ leaves
-    pub front : List ℕ
-    pub back : List ℕ
-    pub stands : front ++ found.leaf ∷ back ≡ chain
+    pub stand : StandsIn leaves chain found
     pub before : List (K × V)
     pub pair : K × V
     pub here : stood_on found ≡ Some pair
-    pub parts : pairs ≡ before ++ pair ∷ left_of way found front back
+    pub parts : pairs ≡ before ++ pair ∷ left_of way found stand.front stand.back
     pub none_before : NoneMeets cmp way bound before
     pub met : meets cmp way bound pair.0 ≡ true
 

@@ -1,11 +1,12 @@
 -- What contracts see of a cursor over a tree.
-use Rattle.std.specs.Prelude.{◌≡◌, ℕ, ◌+◌, ◌==◌, if◌then◌else◌, List, [], ◌∷◌, ◌++◌, length, Option, Some, None}
+use Rattle.std.specs.Prelude.{◌≡◌, ℕ, ◌+◌, ◌==◌, if◌then◌else◌, List, [], ◌∷◌, length, Option, Some, None}
 use Rattle.std.specs.Borrow.{Bor}
 use Rattle.std.specs.Range.Bound.{bound_map}
 use Rattle.std.specs.declared.cmp.Ordering.{Ordering}
 use Rattle.std.specs.declared.ops.Bound.{Bound}
 use Rattle.slab.specs.Slab.{Slab}
 use Rattle.tree_leaf.specs.Entries.{leaf_entries}
+use Rattle.tree_chain.specs.Rest.{StandsIn}
 use Rattle.tree_chain.specs.Walks.{LeafWalk, here, stood_on}
 use Rattle.tree_chain.specs.Ways.{places_left}
 use Rattle.tree_model.specs.Rest.{lent_entry}
@@ -46,10 +47,7 @@ module _ {K V : Type 0} {LEN : ℕ} (arenas : TreeArenas K V LEN) (root : Option
 
   -- the walk stands on an entry of a leaf of the tree
   pub record Stands (walk : LeafWalk K V LEN) : Type 0 where
-    pub same : walk.leaves ≡ arenas.leaves
-    pub front : List ℕ
-    pub back : List ℕ
-    pub stands : front ++ walk.leaf ∷ back ≡ leaves_under arenas.nodes root
+    pub stand : StandsIn arenas.leaves (leaves_under arenas.nodes root) walk
     pub pair : K × V
     pub here : stood_on walk ≡ Some pair
 

@@ -1,8 +1,4 @@
 //! The two ways of an end of a cursor: on to larger keys, and back to smaller ones.
-ghost use Rattle.std.specs.Prelude.{◌≡◌};
-ghost use Rattle.tree_model.specs.Cursor.{meets};
-ghost use Rattle.tree_model.specs.Pairs.{lent_bound};
-
 use std::ops::Bound;
 use tree_array::array::{ArrayIter, ArrayRevIter};
 use tree_chain::Reversible;

@@ -1,8 +1,7 @@
 -- The children of a node that are cut one after another, from behind.
-use Rattle.tree_cut.proofs.Common.{sub-one, ◌≡◌, ℕ, zero, suc, ◌+◌, ◌-◌, ◌≤◌, ◌<◌, List, [], ◌∷◌, ◌++◌, take, drop, length, length-append, length-take, None, refl, sym, ap, ◌∙◌, arith, flat_map, Ordering, take-append-drop, AllByRecursion, IsTotalOrder, Bound, flat_map-append, filter-append, cut, all-append, filter_all, get, TreeArenas, IsPart, KeepsBounds, NodeStands, Replaces, Stands, children_of, keyed, walk, BeginsAt, EndsAt, Narrows, CutsAt, CutsUnder, HasNoEmpty, keyed_of, take-take, all_passed, all_front, part_after, replaces_refl, replaces_trans, walk-children, add-one}
-use Rattle.tree_cut.proofs.Nodes.{as_node}
+use Rattle.tree_cut.proofs.Common.{sub-one, ◌≡◌, ℕ, suc, ◌+◌, ◌-◌, ◌≤◌, ◌<◌, List, [], ◌∷◌, ◌++◌, take, drop, length, length-append, length-take, None, refl, sym, ap, ◌∙◌, arith, flat_map, Ordering, take-append-drop, AllByRecursion, IsTotalOrder, Bound, flat_map-append, filter-append, cut, all-append, filter_all, get, TreeArenas, IsPart, KeepsBounds, NodeStands, Replaces, Stands, children_of, keyed, walk, BeginsAt, EndsAt, Narrows, CutsAt, CutsUnder, HasNoEmpty, keyed_of, take-take, all_passed, all_front, part_after, replaces_refl, replaces_trans, walk-children, add-one}
+use Rattle.tree_cut.proofs.Nodes.{as_node, TurnAt, split_here, turn}
 use Rattle.tree_cut.proofs.Outside.{IsOutside, backs_outside, fronts_outside, high_met, low_opened, narrowed_cut}
-use Rattle.tree_cut.proofs.Turns.{TurnAt, split_here, turn}
 
 -- what holds of all holds of the first
 all_take : {X : Type 0} (P : X → Type 0) (n : ℕ) (xs : List X) → AllByRecursion P xs → AllByRecursion P (take n xs)
@@ -17,8 +16,7 @@ module _ {K V : Type 0} (cmp : K → K → Ordering) (low high : Bound K) where
 
 module _ {K V : Type 0} {LEN : ℕ} (a : TreeArenas K V LEN) (id : ℕ) where
   walk_below : (level : ℕ) → 0 < level → walk level a id ≡ flat_map (walk (level - 1) a) (children_of a.nodes id)
-  walk_below zero inner = absurd (omega (arith, inner))
-  walk_below (suc level) inner = rw (sub-one (suc level)) (walk-children level a id)
+  walk_below level inner = grind (arith, sub-one, walk-children)
 
   walk_split : (level place : ℕ) → 0 < level → walk level a id
       ≡ flat_map (walk (level - 1) a) (take place (children_of a.nodes id)) ++ flat_map (walk (level - 1) a) (drop place (children_of a.nodes id))
@@ -48,22 +46,9 @@ module _ {K V : Type 0} {LEN : ℕ} {cmp : K → K → Ordering} (o : IsTotalOrd
       → CutState cmp low high first last level start start id (last + 1) 0
   starts inner part begins ends =
       let s = as_node cmp level start id inner part.stands in
-      record {
-        inner = inner;
-        pairs = refl;
-        counted = omega arith;
-        stands = λ above below t. t;
-        replaces = replaces_refl level start (id ∷ []);
-        no_empty = λ before. before;
-        part = part;
-        begins = begins;
-        ends = ends;
-        upto = omega arith;
-        same = refl;
-        done =
-            rw (add-one, s.here, s.last_is)
-            (backs_outside o low high (level - 1) start None _ s.last None s.parted last (rw s.here at ends.within) (rw s.here at ends.closed));
-      }
+      let done : IsOutside cmp low high (flat_map (walk (level - 1) start) (drop (last + 1) (children_of start.nodes id))) =
+      rw (add-one, s.here, s.last_is) (backs_outside o low high (level - 1) start None _ s.last None s.parted last (rw s.here at ends.within) (rw s.here at ends.closed)) in
+      grind (arith, done, inner, part, begins, ends, replaces_refl)
 
   module _ {now : TreeArenas K V LEN} {place gone : ℕ} (state : CutState cmp low high first last level start now id place gone) where
     abbrev s : NodeStands cmp (Stands cmp (level - 1) now) (level - 1) now.nodes None id None
@@ -118,10 +103,7 @@ module _ {K V : Type 0} {LEN : ℕ} {cmp : K → K → Ordering} (o : IsTotalOrd
       steps no_empty = record {
         inner = state.inner;
         pairs = rw (walk_is, cut_middle cmp low high, ← walk_was) state.pairs;
-        counted =
-            let long = simp length-append at (ap length walk_was) in
-            let left = simp length-append at (ap length walk_is) in
-            omega (arith, state.counted, cuts.counted, ap length same_cut, long, left);
+        counted = grind (arith, state.counted, cuts.counted, same_cut, walk_was, walk_is, length-append);
         stands = λ above below t. cuts.stands above below (state.stands above below t);
         replaces = replaces_trans level start now new (id ∷ []) (id ∷ []) (id ∷ []) state.replaces cuts.replaces;
         no_empty = λ none_empty. no_empty (state.no_empty none_empty);
@@ -141,10 +123,4 @@ module _ {K V : Type 0} {LEN : ℕ} {cmp : K → K → Ordering} (o : IsTotalOrd
         let front : IsOutside cmp low high (flat_map (walk (level - 1) now) (take place (children_of now.nodes id))) =
         rw (s.here, s.last_is) (fronts_outside o low high (level - 1) now None _ s.last None s.parted place (rw s.here at (reach.1 few)) missed) in
         let outside : IsOutside cmp low high (walk level now id) = rw (walk_split now id level place state.inner) (all-append _ _ _ front state.done) in
-        record {
-          pairs = sym (filter_all _ _ outside) ∙ state.pairs;
-          counted = state.counted;
-          stands = state.stands;
-          replaces = state.replaces;
-          no_empty = state.no_empty;
-        }
+        grind (arith, filter_all, outside, state.pairs, state.counted, state.stands, state.replaces, state.no_empty)

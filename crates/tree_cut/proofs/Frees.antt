@@ -1,28 +1,10 @@
 -- A part is freed: its node, and then the parts of its children one after another.
-use Rattle.tree_cut.proofs.Common.{◌≡◌, ℕ, ◌+◌, ◌-◌, ◌≤◌, List, [], ◌∷◌, ◌++◌, length, length-append, slice_get, take, drop, Some, None, refl, ap, ◌∙◌, arith, flat_map, Ordering, append-nil, take_all, flat_map-append, Slab, get, LeafOf, Loses, times, uses, same_array_refl, times-nil, times-append, times-cons, one_here, uses_le_one, TreeArenas, Stands, leaves_at, nodes_at, leaves_of, nodes_of, keyed, node_children, unbounded, walk, NodeOf, Part, Node, IsAt, StandsOnce, Frees, FreesIn, part_id, cut_whole, cut_with, Agrees, same_leaves, same_nodes, same_stands, same_walk, all_middle, lost_counted, IsPart, leaves_once_in}
-use Rattle.tree_cut.proofs.Nodes.{NodeAt, node_under}
-use Rattle.tree_cut.proofs.Turns.{length-turns}
+use Rattle.tree_cut.proofs.Common.{◌≡◌, ℕ, ◌+◌, ◌-◌, ◌≤◌, List, ◌∷◌, ◌++◌, length, length-append, slice_get, take, drop, Some, None, refl, ap, ◌∙◌, arith, flat_map, Ordering, append-nil, take_all, flat_map-append, LeafOf, Loses, times, uses, same_array_refl, times-append, times-cons, uses_le_one, TreeArenas, Stands, leaves_at, nodes_at, leaves_of, nodes_of, keyed, node_children, walk, NodeOf, Part, Node, IsAt, StandsOnce, Frees, FreesIn, part_id, cut_whole, cut_with, Agrees, same_leaves, same_nodes, same_stands, same_walk, all_middle, frees_both, frees_lost, frees_none, IsPart, leaves_once_in}
+use Rattle.tree_cut.proofs.Nodes.{NodeAt, node_under, length-turns}
 
 -- a part stands once
 pub part_once : {K V : Type 0} {LEN : ℕ} {cmp : K → K → Ordering} {level : ℕ} {a : TreeArenas K V LEN} {id : ℕ} → IsPart cmp level a id → StandsOnce cmp level a id
 part_once {level = level} {a = a} {id = id} part = record { stands = part.stands; nodes_once = part.nodes_once; leaves_once = leaves_once_in level a id part }
-
-module _ {T : Type 0} {s t : Slab T} where
-  -- what is freed after some numbers is freed with them
-  frees_both : {u : Slab T} {xs ys : List ℕ} → FreesIn s t xs → FreesIn t u ys → FreesIn s u (xs ++ ys)
-  frees_both {xs = xs} {ys = ys} first second = record {
-    kept = λ n none. second.kept n (omega (arith, none, times-append n xs ys)) ∙ first.kept n (omega (arith, none, times-append n xs ys));
-    counted = λ n. omega (arith, times-append n xs ys, first.counted n, second.counted n);
-  }
-
-  frees_lost : {id : ℕ} {value : T} → Loses s t id value → FreesIn s t (id ∷ [])
-  frees_lost {id} {value} loses = record {
-    kept = λ n none. loses.updates.others n (λ same. omega (arith, none, times-cons n id [], one_here n id same));
-    counted = λ n. omega (arith, lost_counted s t id value loses n, times-cons n id [], times-nil n);
-  }
-
-  frees_none : t ≡ s → FreesIn s t []
-  frees_none same = record { kept = λ n none. rw same refl; counted = λ n. rw same (omega (arith, times-nil n)) }
 
 -- a leaf that was taken out is a part that was freed
 pub frees_leaf : {K V : Type 0} {LEN : ℕ} {a b : TreeArenas K V LEN} {id : ℕ} {leaf : LeafOf K V LEN} → Loses a.leaves b.leaves id leaf → b.nodes ≡ a.nodes
@@ -56,11 +38,8 @@ module _ {K V : Type 0} {LEN : ℕ} {cmp : K → K → Ordering} {level below : 
 
   pub all_freed : length (keyed node).entries + 1 ≤ place → Frees level old now id × (gone ≡ length (walk level old id))
   all_freed past =
-      let long = length-turns (keyed node).entries (unbounded node) state.above.has_last in
-      let all : take place children ≡ children = take_all place children (omega (arith, past, long)) in (
-        record { nodes = rw (state.above.nodes, ← all) state.nodes; leaves = rw (state.above.leaves, ← all) state.leaves },
-        rw (state.above.walk_is, ← all) state.counted,
-      )
+      let all : take place children ≡ children = grind (arith, length-turns, state.above.has_last, take_all, past) in
+      grind (arith, all, state.above.nodes, state.above.leaves, state.above.walk_is, state.nodes, state.leaves, state.counted)
 
   -- the child at the place is freed next
   module _ {x : ℕ} (there : slice_get children place ≡ Some x) where
@@ -77,30 +56,21 @@ module _ {K V : Type 0} {LEN : ℕ} {cmp : K → K → Ordering} {level below : 
     longer f = rw (cut_with children place x there, flat_map-append f front, append-nil (f x)) refl
 
     nodes_few : (n : ℕ) → times n (id ∷ nodes_of below old.nodes front) + times n (nodes_at below old.nodes x) ≤ uses old.nodes n
-    nodes_few n =
-        let all = rw (state.above.nodes, split (nodes_at below old.nodes)) at (state.once.nodes_once n) in
-        omega (arith, all, times-cons n id, times-append n)
+    nodes_few n = grind (arith, state.above.nodes, split, state.once.nodes_once, times-cons, times-append)
 
     leaves_few : (n : ℕ) → times n (leaves_of below old.nodes front) + times n (leaves_at below old.nodes x) ≤ uses old.leaves n
     leaves_few n = let all = rw (state.above.leaves, split (leaves_at below old.nodes)) at (state.once.leaves_once n) in omega (arith, all, times-append n)
 
     agrees : Agrees below old now x
-    agrees = record {
-      nodes = λ n inside. state.nodes.kept n (omega (arith, inside, nodes_few n, uses_le_one old.nodes n));
-      leaves = λ n inside. rw (state.leaves.kept n (omega (arith, inside, leaves_few n, uses_le_one old.leaves n))) (same_array_refl (get old.leaves n));
-    }
+    agrees = grind (arith, state.nodes.kept, nodes_few, uses_le_one, state.leaves.kept, leaves_few, same_array_refl)
 
     pub next_once : StandsOnce cmp below now x
-    next_once = record {
-      stands = same_stands cmp below old now x agrees None None (all_middle (λ y. Stands cmp below old None y None) front x rest (rw (← cut_whole children place x there) state.above.stand));
-      nodes_once = λ n. rw (same_nodes below old now x agrees) (omega (arith, nodes_few n, state.nodes.counted n));
-      leaves_once = λ n. rw (same_leaves below old now x agrees) (omega (arith, leaves_few n, state.leaves.counted n));
-    }
+    next_once =
+        let s = same_stands cmp below old now x agrees None None (all_middle (λ y. Stands cmp below old None y None) front x rest (rw (← cut_whole children place x there) state.above.stand)) in
+        grind (arith, s, same_nodes below old now x agrees, same_leaves below old now x agrees, nodes_few, leaves_few, state.nodes.counted, state.leaves.counted)
 
     pub next_few : gone + length (walk below now x) ≤ length (walk level old id)
-    next_few =
-        rw (same_walk below old now x agrees, state.above.walk_is, split (walk below old))
-        (omega (arith, state.counted, length-append (flat_map (walk below old) front), length-append (walk below old x)))
+    next_few = grind (arith, same_walk, agrees, state.above.walk_is, split, state.counted, length-append)
 
     pub next_freed : {next : TreeArenas K V LEN} {went : ℕ} → Frees below now next x → went ≡ length (walk below now x)
         → AreFreed cmp level below old next id node (place + 1) (gone + went)

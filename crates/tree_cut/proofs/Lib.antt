@@ -2,8 +2,6 @@ pub mod Common
 pub mod CutLoop
 pub mod Ends
 pub mod Frees
-pub mod NoEmpty
 pub mod Nodes
 pub mod OneChild
 pub mod Outside
-pub mod Turns

@@ -1,19 +1,62 @@
 -- A node above the leaves, seen from a program that counts its level: its children stand one level below. It may be retired, or have a child alone.
-use Rattle.tree_cut.proofs.Common.{sub-one, ◌≡◌, ℕ, zero, suc, ◌-◌, ◌<◌, ◌∷◌, None, Some, IsSome, refl, sym, ap, ◌∙◌, arith, flat_map, Ordering, ◌⊎◌, Bool, true, false, [], inl, inr, ◌+◌, length, slice_get, append-nil, AllByRecursion, get, TreeArenas, HasKind, NodeStands, Stands, keyed, leaves_at, leaves_of, node_children, nodes_at, nodes_of, unbounded, walk, NodeOf, HasNoEmpty, HasPair, Part, Leaf, Node, IsAt, part_id, Bound, IsPart, IsRetired, IsRetiredNode, CutsUnder, drop_all, children_stand, node_is, walk-children, retired_at, retired_walk, replaces_refl, cut_whole, all_at, nil_from_length, length-append, slice_get_cases}
-use Rattle.tree_cut.proofs.Turns.{keyed_child, length-turns}
+use Rattle.tree_cut.proofs.Common.{AllByRecursion, Bool, Bound, CutsUnder, HasKind, HasNoEmpty, HasPair, IsAt, IsPart, IsRetired, IsRetiredNode, IsSome, Leaf, List, Node, NodeOf, NodeStands, None}
+use Rattle.tree_cut.proofs.Common.{Option, Ordering, Part, Some, Stands, TreeArenas, [], all_at, ap, append-nil, arith, children_stand, cut_whole, drop, drop_all, false, first_child, flat_map, get}
+use Rattle.tree_cut.proofs.Common.{in_turn, inl, inr, keyed, keyed_of, keyed_or, later_children, leaves_at, leaves_of, length, length-append, length-map, map, nil_from_length, node_children}
+use Rattle.tree_cut.proofs.Common.{node_is, nodes_at, nodes_of, part_id, refl, replaces_refl, retired_at, retired_walk, slice_get, slice_get-map, slice_get_cases, slice_get_within, sub-one, suc}
+use Rattle.tree_cut.proofs.Common.{sym, take, true, unbounded, walk, walk-children, zero, ℕ, ◌+◌, ◌-◌, ◌<◌, ◌∙◌, ◌∷◌, ◌≡◌, ◌≤◌, ◌⊎◌}
+
+-- an element comes before those at later places
+pub split_here : {X : Type 0} (xs : List X) (place : ℕ) (x : X) → slice_get xs place ≡ Some x → drop place xs ≡ x ∷ drop (suc place) xs
+split_here [] place x is = absurd (cc)
+split_here (y ∷ xs) zero x is = let same : y ≡ x = cc in rw same refl
+split_here (y ∷ xs) (suc place) x is = split_here xs place x is
+
+module _ {K : Type 0} where
+  pub length-turns : (pairs : List (K × ℕ)) (last : Option ℕ) → IsSome last → length (in_turn pairs last) ≡ length pairs + 1
+  length-turns pairs last some = grind (arith, length-append, length-map)
+
+  -- what stands at a place, and around it
+  pub record TurnAt (pairs : List (K × ℕ)) (last place x : ℕ) : Type 0 where
+    pub within : place ≤ length pairs
+    pub here : slice_get (in_turn pairs (Some last)) place ≡ Some x
+    pub first : first_child (drop place pairs) last ≡ x
+    pub before : take place (in_turn pairs (Some last)) ≡ map (λ c. c.1) (take place pairs)
+    pub behind : drop (suc place) (in_turn pairs (Some last)) ≡ later_children (drop place pairs) last
+
+  pub turn : (pairs : List (K × ℕ)) (last place x : ℕ) → slice_get (in_turn pairs (Some last)) place ≡ Some x → TurnAt pairs last place x
+  turn [] last zero x is = record { within = omega arith; here = is; first = (cc); before = refl; behind = refl }
+  turn [] last (suc place) x is = absurd (cc)
+  turn (c ∷ pairs) last zero x is = record { within = omega arith; here = is; first = (cc); before = refl; behind = refl }
+  turn (c ∷ pairs) last (suc place) x is =
+      let t = turn pairs last place x is in
+      record { within = omega (arith, t.within); here = is; first = t.first; before = ap (λ ids. c.1 ∷ ids) t.before; behind = t.behind }
+
+  -- a keyed child stands at its place, and behind all of them the unbounded one
+  pub turn_here : (pairs : List (K × ℕ)) (last : Option ℕ) (place x : ℕ) → IsSome last → place ≤ length pairs → keyed_or (slice_get pairs place) last ≡ Some x
+      → slice_get (in_turn pairs last) place ≡ Some x
+  turn_here pairs None place x some within is = absurd (cc)
+  turn_here [] (Some last) zero x some within is = is
+  turn_here [] (Some last) (suc place) x some within is = absurd (omega (arith, within))
+  turn_here (c ∷ pairs) (Some last) zero x some within is = is
+  turn_here (c ∷ pairs) (Some last) (suc place) x some within is = turn_here pairs (Some last) place x some (omega (arith, within)) is
+
+  keyed_turn : (pairs : List (K × ℕ)) (last : Option ℕ) (place : ℕ) (c : K × ℕ) → slice_get pairs place ≡ Some c → slice_get (in_turn pairs last) place ≡ Some c.1
+  keyed_turn pairs None place c is = rw (slice_get-map (λ d. d.1) pairs place, is) refl
+  keyed_turn pairs (Some last) place c is = turn_here pairs (Some last) place c.1 refl (omega (arith, slice_get_within pairs place c is)) (rw is refl)
+
+pub keyed_child : {K : Type 0} {LEN : ℕ} (slot : Option (NodeOf K LEN)) (place : ℕ) (c : K × ℕ) → slice_get (keyed_of slot) place ≡ Some c
+    → slice_get (node_children slot) place ≡ Some c.1
+keyed_child slot place c is = grind (arith, keyed_turn)
 
 -- a node stands at any level but that of leaves
 pub at_node : (level id : ℕ) → 0 < level → IsAt level (Node id)
-at_node zero id inner = omega (arith, inner)
-at_node (suc level) id inner = tt
+at_node level id inner = grind arith
 
 pub above_leaves : {part : Part} {id : ℕ} (level : ℕ) → part ≡ Node id → IsAt level part → 0 < level
-above_leaves zero is kind = absurd (rw is at kind)
-above_leaves (suc level) is kind = omega arith
+above_leaves level is kind = grind arith
 
 pub at_leaves : {part : Part} {id : ℕ} (level : ℕ) → part ≡ Leaf id → IsAt level part → level ≡ 0
-at_leaves zero is kind = refl
-at_leaves (suc level) is kind = absurd (rw is at kind)
+at_leaves level is kind = grind arith
 
 module _ {K V : Type 0} {LEN : ℕ} (cmp : K → K → Ordering) where
   -- what the children of a node say of it
@@ -62,16 +105,12 @@ module _ {K V : Type 0} {LEN : ℕ} (cmp : K → K → Ordering) where
 
   pub leaf_there : (level : ℕ) (a : TreeArenas K V LEN) {part : Part} {id : ℕ} → part ≡ Leaf id → IsAt level part → Stands cmp level a None (part_id part) None
       → IsSome (get a.leaves id)
-  leaf_there zero a {id = id} is kind s = let here : Stands cmp 0 a None id None = rw is at s in rw here.here refl
-  leaf_there (suc level) a is kind s = absurd (rw is at kind)
+  leaf_there level a is kind s = grind arith
 
 module _ {K V : Type 0} {LEN : ℕ} (cmp : K → K → Ordering) where
   -- under a retired node nothing is cut
   pub childless_cut : (low high : Bound K) (level : ℕ) (a : TreeArenas K V LEN) (id : ℕ) → 0 < level → IsRetired level a id → CutsUnder cmp low high level a a id 0
-  childless_cut low high level a id inner retired =
-      let none : walk level a id ≡ [] = retired_walk a id level inner retired in
-      let same = replaces_refl level a (id ∷ []) in
-      record { pairs = rw none refl; counted = omega arith; stands = λ above below s. s; replaces = same; no_empty = λ before. before }
+  childless_cut low high level a id inner retired = grind (arith, retired_walk a id level inner retired, replaces_refl)
 
   -- a node that isn't retired is a part
   pub standing : {level : ℕ} {a : TreeArenas K V LEN} {id : ℕ} {node : NodeOf K LEN} {childless : Bool} → 0 < level → IsPart cmp level a id ⊎ IsRetired level a id
@@ -101,8 +140,4 @@ module _ {K V : Type 0} {LEN : ℕ} {cmp : K → K → Ordering} {level below : 
   only_child none {child} found =
       let long = length-turns (keyed node).entries (unbounded node) at.has_last in
       let only : node_children (Some node) ≡ child ∷ [] = cut_whole _ 0 child found ∙ rw (drop_all (0 + 1) (node_children (Some node)) (omega (arith, long, none))) refl in
-      record {
-        stands = (rw only at at.stand).0;
-        same_walk = at.walk_is ∙ rw only (append-nil (walk below a child));
-        no_empty = λ before. (rw only at (at.no_empty before).1).0;
-      }
+      grind (arith, only, at.stand, at.walk_is, append-nil, at.no_empty)

@@ -1,12 +1,10 @@
 -- Children of a node whose keys are outside two bounds, and keys of one child that need one bound alone.
-use Rattle.tree_cut.proofs.Common.{◌≡◌, ◌≢◌, ℕ, zero, suc, ◌≤◌, ◌<◌, Bool, true, false, not, cond, List, [], ◌∷◌, filter, take, drop, length, Option, Some, None, refl, ap, arith, inl, inr, flat_map, Ordering, Less, is_le, is_lt, take-append-drop, AllByRecursion, IsTotalOrder, Bound, Included, Excluded, Unbounded, cases_Bool, cases_eq, cut, within, all_map, all-append, TreeArenas, AreParted, IsAbove, IsUpTo, Stands, in_turn, walk, meets_lower, meets_upper, Narrows, back_total, less_from_test, all_both, less_upto, child_between, first_child, high_at, low_at, parted_within, walk_within, walk_above, walk_up_to}
+use Rattle.tree_cut.proofs.Common.{◌≡◌, ◌≢◌, ℕ, zero, suc, ◌≤◌, ◌<◌, Bool, true, false, not, cond, List, [], ◌∷◌, filter, take, drop, length, Option, Some, None, refl, ap, arith, inl, inr, flat_map, Ordering, Less, is_le, take-append-drop, AllByRecursion, IsTotalOrder, Bound, Unbounded, cases_Bool, cut, within, all_map, all-append, TreeArenas, AreParted, IsAbove, IsUpTo, Stands, in_turn, walk, meets_lower, meets_upper, Narrows, back_total, less_from_test, all_both, less_upto, child_between, first_child, high_at, low_at, parted_within, walk_within, walk_above, walk_up_to}
 
 -- a key that meets a lower bound carries it over to each larger key
 lower_up : {K : Type 0} {cmp : K → K → Ordering} → IsTotalOrder cmp → (low : Bound K) (k s : K) → meets_lower cmp low k ≡ true → is_le (cmp k s) ≡ true
     → meets_lower cmp low s ≡ true
-lower_up o (Included low) k s h le = grind (arith, less_upto o low k s, o.congr low k s)
-lower_up o (Excluded low) k s h le = ap is_lt (less_upto o low k s (less_from_test _ h) le)
-lower_up o Unbounded k s h le = refl
+lower_up o low k s h le = grind (arith, less_upto, o.congr, less_from_test)
 
 filter_alike : {X : Type 0} (test other : X → Bool) (xs : List X) → AllByRecursion (λ x. test x ≡ other x) xs → filter test xs ≡ filter other xs
 filter_alike test other [] same = refl
@@ -15,10 +13,7 @@ filter_alike test other (x ∷ xs) same = rw same.0 (ap (λ rest. cond (other x)
 -- a key that meets a bound where it isn't left to test meets both
 narrows_alike : {K : Type 0} {bound result : Bound K} {place own : ℕ} → Narrows bound result place own → (test : Bound K → Bool) → test Unbounded ≡ true
     → (place ≢ own → test bound ≡ true) → test result ≡ test bound
-narrows_alike {place = place} {own = own} narrows test free met = elim (cases_eq place own) [
-  | inl same ↦ rw (narrows.kept same) refl
-  | inr differs ↦ rw (narrows.opened differs, met differs) free
-]
+narrows_alike narrows test free met = grind (arith, narrows.kept, narrows.opened, met)
 
 -- no key of these pairs is within the bounds
 abbrev pub IsOutside : {K V : Type 0} → (K → K → Ordering) → Bound K → Bound K → List (K × V) → Type 0
@@ -27,14 +22,11 @@ IsOutside cmp low high pairs = AllByRecursion (λ p. not (within cmp low high p.
 module _ {K : Type 0} {cmp : K → K → Ordering} (o : IsTotalOrder cmp) (low high : Bound K) where
   -- one that meets an upper bound carries it over to each smaller one
   upper_down : (high : Bound K) (k s : K) → meets_upper cmp high s ≡ true → is_le (cmp k s) ≡ true → meets_upper cmp high k ≡ true
-  upper_down (Included high) k s h le = lower_up (back_total o) (Included high) s k h le
-  upper_down (Excluded high) k s h le = lower_up (back_total o) (Excluded high) s k h le
-  upper_down Unbounded k s h le = refl
+  upper_down high k s h le = grind (arith, lower_up, back_total)
 
   -- a key up to a separator that misses the lower bound is outside the bounds, and so is one above what closes them
   key_before : (s k : K) → meets_lower cmp low s ≡ false → is_le (cmp k s) ≡ true → not (within cmp low high k) ≡ true
-  key_before s k misses le =
-      elim (cases_Bool (meets_lower cmp low k)) [ inl meets ↦ absurd (cc (lower_up o low k s meets le, misses)) | inr fails ↦ rw fails refl ]
+  key_before s k misses le = grind (arith, cases_Bool, lower_up)
 
   key_after : (k : K) → meets_upper cmp high k ≡ false → not (within cmp low high k) ≡ true
   key_after k misses = elim (cases_Bool (meets_lower cmp low k)) [ inl meets ↦ rw (misses, meets) refl | inr fails ↦ rw fails refl ]
@@ -75,9 +67,7 @@ module _ {K : Type 0} {cmp : K → K → Ordering} (o : IsTotalOrder cmp) (low h
         → IsOutside cmp low high (flat_map (walk level a) (drop (suc place) (in_turn pairs (Some last))))
     backs_outside before [] last after parted zero within closed = tt
     backs_outside before [] last after parted (suc place) within closed = absurd (omega (arith, within))
-    backs_outside before (c ∷ pairs) last after parted zero within closed =
-        all_map (λ p h. key_after p.0 (closed.0 p.0 h)) _
-        (parted_within o (Stands cmp level a) (walk level a) (walk_within o level a) (Some c.0) pairs last after parted.3).above
+    backs_outside before (c ∷ pairs) last after parted zero within closed = grind (arith, all_map, key_after, closed.0, parted_within, walk_within, parted.3)
     backs_outside before (c ∷ pairs) last after parted (suc place) within closed =
         backs_outside (Some c.0) pairs last after parted.3 place (omega (arith, within)) closed
 

@@ -1,7 +1,7 @@
 -- The number of a leaf or of a node, and parts that are freed.
-use Rattle.std.specs.Prelude.{◌≡◌, ℕ, zero, suc, ◌+◌, ◌≤◌, List, [], ◌∷◌, ◌++◌, None, ⊤}
+use Rattle.std.specs.Prelude.{◌≡◌, ℕ, zero, suc, ◌≤◌, List, [], ◌∷◌, ◌++◌, None, ⊤}
 use Rattle.std.specs.declared.cmp.Ordering.{Ordering}
-use Rattle.slab.specs.Slab.{Slab, get}
+use Rattle.tree_clean_up.specs.CleanUps.{FreesIn}
 use Rattle.tree_leaf.specs.Counting.{times, uses}
 use Rattle.tree_node.specs.Arenas.{TreeArenas}
 use Rattle.tree_node.specs.Tree.{Stands, leaves_at, nodes_at}
@@ -25,11 +25,6 @@ IsAt (suc level) (Node id) = ⊤
 abbrev pub IsEnd : End → List ℕ → ℕ → Type 0
 IsEnd First ids id = (rest : List ℕ) × (ids ≡ id ∷ rest)
 IsEnd Last ids id = (front : List ℕ) × (ids ≡ front ++ id ∷ [])
-
--- of an arena exactly these numbers are free now
-pub record FreesIn {T : Type 0} (old new : Slab T) (ids : List ℕ) : Type 0 where
-  pub kept : (n : ℕ) → times n ids ≡ 0 → get new n ≡ get old n
-  pub counted : (n : ℕ) → uses new n + times n ids ≡ uses old n
 
 module _ {K V : Type 0} {LEN : ℕ} where
   -- a part stands under the number, and reaches each number once at most

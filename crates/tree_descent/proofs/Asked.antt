@@ -1,10 +1,9 @@
 -- How many comparisons a way down makes, one array a level.
-use Rattle.std.proofs.Common.{ℕ, zero, suc, ◌+◌, ◌-◌, ◌*◌, ◌<◌, ◌≤◌, arith, add-one, sub-one, mul-suc}
+use Rattle.std.proofs.Common.{ℕ, ◌+◌, ◌-◌, ◌*◌, ◌<◌, ◌≤◌, arith, add-one, mul-suc}
 
 -- one array is asked at a level, and one at each below it may be still
 pub asked_on : (len above x y most : ℕ) → 0 < above → x + len * above ≤ most → y ≤ x + len → y + len * (above - 1) ≤ most
-asked_on len zero x y most inner before asked = absurd (omega (arith, inner))
-asked_on len (suc above) x y most inner before asked = rw sub-one (omega (arith, rw mul-suc at before, asked))
+asked_on len above x y most inner before asked = grind arith
 
 -- or it is the last one
 pub asked_last : (len above x y most : ℕ) → 0 < above → x + len * above ≤ most → y ≤ x + len → y ≤ most

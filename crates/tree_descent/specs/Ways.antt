@@ -1,12 +1,8 @@
 -- The way down from a node to the leaf that a key belongs to.
 use Rattle.std.specs.Prelude.{◌≡◌, ℕ, zero, suc, ◌-◌, List, ◌∷◌, ◌++◌, IsSome}
-use Rattle.std.specs.List.{AllByRecursion}
-use Rattle.std.specs.declared.cmp.Ordering.{Ordering}
-use Rattle.std.specs.declared.cmp.Ordering.TheVariants.{Less}
-use Rattle.slab.specs.Slab.{get}
 use Rattle.tree_leaf.specs.Entries.{entries_of}
 use Rattle.tree_model.specs.Pairs.{AllLarger}
-use Rattle.tree_node.specs.Arenas.{TreeArenas}
+use Rattle.tree_node.specs.Arenas.{AllByRecursion, Less, Ordering, TreeArenas, get}
 use Rattle.tree_node.specs.Parts.{IsPart}
 use Rattle.tree_node.specs.Tree.{HasChildFor, leaves_at}
 

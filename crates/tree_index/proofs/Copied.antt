@@ -33,7 +33,8 @@ module _ {K V : Type 0} {LEN : ℕ} where
   left_after : (old new : LeafWalk K V LEN) (entry : Bor K × Bor V) (left : List (K × V)) → HasLeft old left → Takes On old (Some entry) new → (rest : List (K × V)) × (left ≡ lent_entry entry ∷ rest) × HasLeft new rest
   left_after old new entry left has takes =
       let taken = takes has.front has.back has.chain in
-      (left_of On new taken.front taken.back, sym has.are ∙ taken.takes, record { front = taken.front; back = taken.back; chain = rw (taken.same, taken.stands) has.chain; are = refl })
+      let to = taken.stand in
+      (left_of On new to.front to.back, sym has.are ∙ taken.takes, record { front = to.front; back = to.back; chain = rw (to.same, to.stands) has.chain; are = refl })
 
   -- and one that gives none has none
   none_after : (old new : LeafWalk K V LEN) (left : List (K × V)) → HasLeft old left → Takes On old None new → left ≡ []

@@ -1,6 +1,6 @@
 -- The names that most proofs here cite, passed on from one place. Declares nothing.
 pub use Rattle.std.proofs.Common.{Bool, Err, IfOk, IsSome, Less, List, None, Ok, Option, Ordering, Result, Some, [], add-one, ap, append-nil, arith, cond, false, inl, inr, is_some, length}
-pub use Rattle.std.proofs.Common.{length-append, min, refl, rules, sub-one, suc, sym, true, zero, ℕ, ◌++◌, ◌+◌, ◌-◌, ◌<◌, ◌==◌, ◌∙◌, ◌∷◌, ◌≡◌, ◌≢◌, ◌≤◌, ◌⊎◌}
+pub use Rattle.std.proofs.Common.{length-append, min, refl, rules, sub-one, suc, sym, true, unwrap_or, zero, ℕ, ◌++◌, ◌+◌, ◌-◌, ◌<◌, ◌==◌, ◌∙◌, ◌∷◌, ◌≡◌, ◌≢◌, ◌≤◌, ◌⊎◌}
 pub use Rattle.std.proofs.lemmas.Result.{on_err_weaker}
 pub use Rattle.std.specs.Result.{OnErr}
 pub use Rattle.tree_array.proofs.Common.{IsFull, all-filter, spend, spent_at}

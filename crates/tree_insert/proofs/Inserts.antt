@@ -1,9 +1,9 @@
 -- An insert in a leaf, and in the child that a key belongs to.
-use Rattle.tree_insert.proofs.Common.{AllByRecursion, AllLarger, Arrivals, Bool, Duplicate, Err, Full, HasChildFor, Inserts, InsertsUnder, IsPacked, IsPart, IsStore, IsStored, IsTotalOrder, LeafOf}
-use Rattle.tree_insert.proofs.Common.{Less, List, New, None, Ok, Ordering, Replaced, Result, Some, StoreResult, TreeArenas, Unchanged, [], all-append, all-filter, ap, arith, array_replaces}
-use Rattle.tree_insert.proofs.Common.{asks_split, back_walk_above, cases_eq, declined, edge_below, false, free, front_walk_below, get, here_now, inl, inr, length, length-append, new_spare, new_walk}
-use Rattle.tree_insert.proofs.Common.{node_replaces, node_stands, none_free, old_spare, old_walk, on_err_weaker, packed_above, packed_stored, put, refl, refused, same_node, spare_written, spend}
-use Rattle.tree_insert.proofs.Common.{spent_at, sub-one, suc, sym, updated, walk, with_array, zero, ℕ, ◌++◌, ◌-◌, ◌<◌, ◌∙◌, ◌∷◌, ◌≡◌}
+use Rattle.tree_insert.proofs.Common.{AllByRecursion, AllLarger, Arrivals, Bool, Duplicate, Err, Full, HasChildFor, Inserts, InsertsUnder, IsPacked, IsPart, IsStore, IsStored, IsTotalOrder}
+use Rattle.tree_insert.proofs.Common.{LeafOf, Less, List, New, None, Ok, Ordering, Replaced, Result, Some, StoreResult, TreeArenas, Unchanged, [], all-append, all-filter, ap, arith}
+use Rattle.tree_insert.proofs.Common.{array_replaces, asks_split, back_walk_above, cases_eq, declined, edge_below, false, free, front_walk_below, get, here_now, inl, inr, length, length-append}
+use Rattle.tree_insert.proofs.Common.{new_spare, new_walk, node_replaces, node_stands, none_free, old_spare, old_walk, on_err_weaker, packed_above, packed_stored, put, refl, refused}
+use Rattle.tree_insert.proofs.Common.{same_node, spare_written, spend, spent_at, sub-one, suc, sym, updated, walk, with_array, zero, ℕ, ◌++◌, ◌-◌, ◌<◌, ◌∙◌, ◌∷◌, ◌≡◌}
 use Rattle.std.proofs.lemmas.List.{length-map}
 use Rattle.tree_insert.proofs.Restarts.{changes_nothing}
 use Rattle.tree_model.proofs.Ascending.{IsAscending-put}
@@ -27,9 +27,6 @@ module _ {K V : Type 0} {LEN : ℕ} {cmp : K → K → Ordering} (o : IsTotalOrd
   walk_was : walk 0 a id ≡ leaf.array.entries
   walk_was = walk-leaf a id leaf was
 
-  walk_is : walk 0 new id ≡ array.entries
-  walk_is = walk-leaf new id _ (here_now a id leaf array was)
-
   -- the array is what it was, and so is everything
   nothing_changed : array ≡ leaf.array → Unchanged a new
   nothing_changed same = record {
@@ -47,49 +44,43 @@ module _ {K V : Type 0} {LEN : ℕ} {cmp : K → K → Ordering} (o : IsTotalOrd
   success : (result : StoreResult K V) → refused {K = K} {V = V} (Ok result) ≡ false → asks_split {K = K} {V = V} (Ok result) ≡ false
       → declined {K = K} {V = V} (Ok result) ≡ false → Inserts cmp upsert (Ok result) leaf.array.entries key val array.entries
       → IsStored cmp LEN upsert leaf.array key val array → InsertsUnder cmp upsert 0 a new id (Ok result) key val
-  success result taken no_split accepted pairs ins = record {
-    pairs = rw (walk_was, walk_is) pairs;
-    stands = λ low high above up_to s.
-        let both : Some s.leaf ≡ Some leaf = sym s.here ∙ was in
-        let is : s.leaf ≡ leaf = cc in
-        record {
-          leaf = record leaf { array = array };
-          here = here_now a id leaf array was;
-          few = ins.few;
-          ascending = rw entries (IsAscending-put o leaf.array.entries key val (rw is at s.ascending));
-          above = rw entries (all_put _ leaf.array.entries above (rw is at s.above));
-          up_to = rw entries (all_put _ leaf.array.entries up_to (rw is at s.up_to));
-        };
-    replaces = array_replaces a id leaf array was;
-    lowers =
-        let written = spare_written LEN (length leaf.array.entries) (free LEN leaf.array) (length (put cmp leaf.array.entries key val))
-        (LEN - length (spend cmp leaf.array.arrivals key ++ Some (key, val) ∷ []))
-        (omega (arith, length-put cmp leaf.array.entries key val, without_few cmp leaf.array.entries key)) (omega (arith, more, ins.room.0)) in
-        rw (was, here_now a id leaf array was, ins.new_is, ins.room.1) (omega (arith, written));
-    spent = λ so deep. absurd (cc);
-    full = λ so. absurd (cc);
-    divided = tt;
-    unchanged = λ so. absurd (cc);
-    packed = λ so e. (packed_put e, omega arith);
-  }
-    where
-      entries : array.entries ≡ put cmp leaf.array.entries key val
-      entries = rw ins.new_is refl
-
-      packed_put : IsPacked cmp (Some key) 0 a id → IsPacked cmp None 0 new id
-      packed_put e =
-          let both : Some e.leaf ≡ Some leaf = sym e.here ∙ was in
-          let is : e.leaf ≡ leaf = cc in
-          let smaller : AllByRecursion (λ p. cmp p.0 key ≡ Less) leaf.array.entries = rw is at e.ends in
-          record {
-            leaf = record leaf { array = array };
-            here = here_now a id leaf array was;
-            packed = rw ins.new_is (packed_stored o leaf.array key val (rw is at e.packed) smaller);
-            ends = rw (entries, put_beyond cmp leaf.array.entries key val smaller) (omega (arith, length-append leaf.array.entries ((key, val) ∷ [])));
-          }
-
-      more : length (spend cmp leaf.array.arrivals key ++ Some (key, val) ∷ []) ≡ suc (length leaf.array.arrivals)
-      more = omega (arith, length-append (spend cmp leaf.array.arrivals key) (Some (key, val) ∷ []), length-map leaf.array.arrivals (spent_at cmp key))
+  success result taken no_split accepted pairs ins =
+      let entries : array.entries ≡ put cmp leaf.array.entries key val = rw ins.new_is refl in
+      let more : length (spend cmp leaf.array.arrivals key ++ Some (key, val) ∷ []) ≡ suc (length leaf.array.arrivals) =
+      omega (arith, length-append (spend cmp leaf.array.arrivals key) (Some (key, val) ∷ []), length-map leaf.array.arrivals (spent_at cmp key)) in
+      record {
+        pairs = let walk_is : walk 0 new id ≡ array.entries = walk-leaf new id _ (here_now a id leaf array was) in rw (walk_was, walk_is) pairs;
+        stands = λ low high above up_to s.
+            let is : s.leaf ≡ leaf = cc (s.here, was) in
+            record {
+              leaf = record leaf { array = array };
+              here = here_now a id leaf array was;
+              few = ins.few;
+              ascending = rw entries (IsAscending-put o leaf.array.entries key val (rw is at s.ascending));
+              above = rw entries (all_put _ leaf.array.entries above (rw is at s.above));
+              up_to = rw entries (all_put _ leaf.array.entries up_to (rw is at s.up_to));
+            };
+        replaces = array_replaces a id leaf array was;
+        lowers =
+            let written = spare_written LEN (length leaf.array.entries) (free LEN leaf.array) (length (put cmp leaf.array.entries key val))
+            (LEN - length (spend cmp leaf.array.arrivals key ++ Some (key, val) ∷ []))
+            (omega (arith, length-put cmp leaf.array.entries key val, without_few cmp leaf.array.entries key)) (omega (arith, more, ins.room.0)) in
+            rw (was, here_now a id leaf array was, ins.new_is, ins.room.1) (omega (arith, written));
+        spent = λ so deep. absurd (cc);
+        full = λ so. absurd (cc);
+        divided = tt;
+        unchanged = λ so. absurd (cc);
+        packed = λ so e.
+            let is : e.leaf ≡ leaf = cc (e.here, was) in
+            let smaller : AllByRecursion (λ p. cmp p.0 key ≡ Less) leaf.array.entries = rw is at e.ends in
+            let placed : IsPacked cmp None 0 new id = record {
+              leaf = record leaf { array = array };
+              here = here_now a id leaf array was;
+              packed = rw ins.new_is (packed_stored o leaf.array key val (rw is at e.packed) smaller);
+              ends = rw (entries, put_beyond cmp leaf.array.entries key val smaller) (omega (arith, length-append leaf.array.entries ((key, val) ∷ [])));
+            } in
+            (placed, omega arith);
+      }
 
   -- what an array answers of an insert, of its leaf
   pub inserts_in_leaf : (result : StoreResult K V) → IsStore cmp LEN upsert leaf.array key val result array → InsertsUnder cmp upsert 0 a new id (Ok result) key val

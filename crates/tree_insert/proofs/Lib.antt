@@ -1,12 +1,10 @@
-mod Attempts
-mod Common
+pub mod Common
 pub mod Crowded
-mod FirstPairs
 pub mod Inserts
 pub mod LeafNodes
+mod Plantings
 pub mod RaisedTrees
 mod Raises
-mod Replants
 mod Restarts
 pub mod Retries
 pub mod Ways

@@ -1,8 +1,8 @@
 -- A root that comes under a new one, in which it is split.
-use Rattle.tree_insert.proofs.Common.{Agrees, Gains, HasKind, Internal, IsLen, IsPacked, IsPart, KeepsBoth, None, Option, Ordering, RaisesRoot, Some, SplitsChild, Stands, TreeArenas, Unchanged, []}
-use Rattle.tree_insert.proofs.Common.{add-one, agrees_here, ap, append-nil, arith, cases_eq, chain_same, children_of, cond, get, head_here, in_order, inl, inr, is_some, leaves_at, nodes_at, none_here}
-use Rattle.tree_insert.proofs.Common.{one_here, refl, room, same_array_refl, same_leaves, same_nodes, same_packed, same_stands, same_walk, sub-one, suc, sym, times, times-cons, unchanged_by_keeping}
-use Rattle.tree_insert.proofs.Common.{uses, uses_none, uses_same, uses_some, walk, walk-children, zero, ℕ, ◌+◌, ◌<◌, ◌==◌, ◌∙◌, ◌∷◌, ◌≡◌}
+use Rattle.tree_insert.proofs.Common.{Agrees, Gains, HasKind, Internal, IsLen, IsPacked, IsPart, KeepsBoth, None, Ordering, RaisesRoot, Some, SplitsChild, Stands, TreeArenas, Unchanged, []}
+use Rattle.tree_insert.proofs.Common.{add-one, agrees_here, ap, append-nil, arith, cases_eq, chain_same, children_of, cond, get, head_here, in_order, inl, inr, is_some, leaves_at, nodes_at}
+use Rattle.tree_insert.proofs.Common.{none_here, one_here, refl, room, same_array_refl, same_leaves, same_nodes, same_packed, same_stands, same_walk, sub-one, suc, sym, times, times-cons}
+use Rattle.tree_insert.proofs.Common.{unchanged_by_keeping, uses, uses_none, uses_same, uses_some, walk, walk-children, zero, ℕ, ◌+◌, ◌<◌, ◌==◌, ◌∙◌, ◌∷◌, ◌≡◌}
 use Rattle.tree_node.proofs.Common.{single_leaves, single_nodes}
 use Rattle.tree_node.specs.declared.branch.BranchOf.{BranchOf}
 
@@ -55,9 +55,6 @@ module _ {K V : Type 0} {LEN : ℕ} {cmp : K → K → Ordering} (depth : ℕ) (
   top_nodes : (n : ℕ) → times n (nodes_at (suc depth) mid.nodes id) ≡ cond (id == n) 1 0 + times n (nodes_at depth old.nodes root)
   top_nodes n = rw (times-cons n id, top_children, single_nodes depth mid.nodes root, same_nodes depth old mid root agrees) refl
 
-  top_walk : walk (suc depth) mid id ≡ walk depth old root
-  top_walk = walk-children depth mid id ∙ rw top_children (append-nil (walk depth mid root) ∙ same_walk depth old mid root agrees)
-
   uses_now : (n : ℕ) → uses mid.nodes n ≡ uses old.nodes n + cond (id == n) 1 0
   uses_now n = elim (cases_eq n id) [
     | inl at_id ↦
@@ -82,48 +79,6 @@ module _ {K V : Type 0} {LEN : ℕ} {cmp : K → K → Ordering} (depth : ℕ) (
   top_room : 6 < room (suc depth) mid id
   top_room = rw (gains.updates.changed, last, keyed_none) (omega arith)
 
-  -- with the packed part as its only child, the new root is packed too
-  top_packed : (beyond : Option K) → IsPacked cmp beyond depth old root → IsPacked cmp beyond (suc depth) mid id
-  top_packed beyond e = record {
-    node = Internal top;
-    here = gains.updates.changed;
-    packed = rw keyed_none refl;
-    keys = rw keyed_none tt;
-    full = rw keyed_none tt;
-    last = root;
-    last_is = last;
-    edge = same_packed cmp beyond depth old mid root agrees e;
-  }
-
-  raises : (new : TreeArenas K V LEN) → SplitsChild cmp (suc depth) mid new id root → ((n : ℕ) → get new.leaves n ≡ get mid.leaves n)
-      → RaisesRoot cmp depth old new root id
-  raises new split others = record {
-    pairs = split.pairs ∙ top_walk;
-    stands = split.keeps None None top_stands;
-    nodes_kept = λ n used outside.
-        let differs : n ≡ id → ⊥ = λ at_id. let none : get old.nodes n ≡ None = rw at_id was_free in let gone = rw none at used in cc in
-        split.replaces.nodes_kept n (rw (nodes_stay n differs) used)
-        (omega (arith, outside, ap (times n) (single_nodes (suc depth) mid.nodes id), top_nodes n, none_here n id differs))
-        ∙ nodes_stay n differs;
-    leaves_kept = λ n. others n ∙ leaves_stay n;
-    nodes_counted = λ n.
-        let was = ap (times n) (single_nodes (suc depth) mid.nodes id) in
-        let is = ap (times n) (single_nodes (suc depth) new.nodes id) in
-        omega (arith, split.replaces.nodes_counted n, was, is, top_nodes n, uses_now n);
-    leaves_counted = λ n.
-        let was = ap (times n) (single_leaves (suc depth) mid.nodes id ∙ top_leaves) in
-        let is = ap (times n) (single_leaves (suc depth) new.nodes id) in
-        omega (arith, split.replaces.leaves_counted n, was, is, uses_same old.leaves mid.leaves n (ap is_some (leaves_stay n)));
-    chained = λ front back chain.
-        rw (single_leaves (suc depth) new.nodes id) at (split.replaces.chained front back
-        (rw (single_leaves (suc depth) mid.nodes id, top_leaves) (chain_same old.leaves mid.leaves leaves_stay _ chain)));
-    roomy = omega (arith, split.spends, top_room);
-    packed = λ beyond none e.
-        let more = split.packed beyond (rw gains.updates.changed last) (rw sub-one (room_agrees depth deep agrees ∙ none)) (top_packed beyond e) in
-        (more.0, omega (arith, more.1));
-    routed = λ key child which. rw sub-one at (split.routed key (rw (gains.updates.changed, last, keyed_none) refl) child which);
-  }
-
   pub raised_top : RaisedTop cmp depth (depth + 1) old mid root id
   raised_top = rw add-one (record {
     part = record {
@@ -135,5 +90,41 @@ module _ {K V : Type 0} {LEN : ℕ} {cmp : K → K → Ordering} (depth : ℕ) (
     };
     inside = rw top_children (head_here root []);
     roomy = top_room;
-    raises_by = raises;
+    raises_by = λ new split others. record {
+      pairs = split.pairs ∙ walk-children depth mid id ∙ rw top_children (append-nil (walk depth mid root) ∙ same_walk depth old mid root agrees);
+      stands = split.keeps None None top_stands;
+      nodes_kept = λ n used outside.
+          let differs : n ≡ id → ⊥ = λ at_id. let none : get old.nodes n ≡ None = rw at_id was_free in let gone = rw none at used in cc in
+          split.replaces.nodes_kept n (rw (nodes_stay n differs) used)
+          (omega (arith, outside, ap (times n) (single_nodes (suc depth) mid.nodes id), top_nodes n, none_here n id differs))
+          ∙ nodes_stay n differs;
+      leaves_kept = λ n. others n ∙ leaves_stay n;
+      nodes_counted = λ n.
+          let was = ap (times n) (single_nodes (suc depth) mid.nodes id) in
+          let is = ap (times n) (single_nodes (suc depth) new.nodes id) in
+          omega (arith, split.replaces.nodes_counted n, was, is, top_nodes n, uses_now n);
+      leaves_counted = λ n.
+          let was = ap (times n) (single_leaves (suc depth) mid.nodes id ∙ top_leaves) in
+          let is = ap (times n) (single_leaves (suc depth) new.nodes id) in
+          omega (arith, split.replaces.leaves_counted n, was, is, uses_same old.leaves mid.leaves n (ap is_some (leaves_stay n)));
+      chained = λ front back chain.
+          rw (single_leaves (suc depth) new.nodes id) at (split.replaces.chained front back
+          (rw (single_leaves (suc depth) mid.nodes id, top_leaves) (chain_same old.leaves mid.leaves leaves_stay _ chain)));
+      roomy = omega (arith, split.spends, top_room);
+      packed = λ beyond none e.
+          -- with the packed part as its only child, the new root is packed too
+          let top_packed : IsPacked cmp beyond (suc depth) mid id = record {
+            node = Internal top;
+            here = gains.updates.changed;
+            packed = rw keyed_none refl;
+            keys = rw keyed_none tt;
+            full = rw keyed_none tt;
+            last = root;
+            last_is = last;
+            edge = same_packed cmp beyond depth old mid root agrees e;
+          } in
+          let more = split.packed beyond (rw gains.updates.changed last) (rw sub-one (room_agrees depth deep agrees ∙ none)) top_packed in
+          (more.0, omega (arith, more.1));
+      routed = λ key child which. rw sub-one at (split.routed key (rw (gains.updates.changed, last, keyed_none) refl) child which);
+    };
   })

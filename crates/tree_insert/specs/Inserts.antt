@@ -15,35 +15,26 @@ use Rattle.tree_split.specs.Packed.{IsPacked}
 module _ {K V : Type 0} where
   -- there was no room, in the arrays or in memory
   abbrev pub refused : Result (StoreResult K V) (K × V) → Bool
-  refused (Ok New) = false
-  refused (Ok Replaced) = false
-  refused (Ok (Duplicate k v)) = false
   refused (Ok (Full k v)) = true
   refused (Err pair) = true
+  refused result = false
 
   -- the pair was stored
   abbrev pub stores : Result (StoreResult K V) (K × V) → Bool
   stores (Ok New) = true
   stores (Ok Replaced) = true
-  stores (Ok (Duplicate k v)) = false
-  stores (Ok (Full k v)) = false
-  stores (Err pair) = false
+  stores result = false
 
   -- a split is asked for
   abbrev pub asks_split : Result (StoreResult K V) (K × V) → Bool
-  asks_split (Ok New) = false
-  asks_split (Ok Replaced) = false
-  asks_split (Ok (Duplicate k v)) = false
   asks_split (Ok (Full k v)) = true
-  asks_split (Err pair) = false
+  asks_split result = false
 
   -- the pair comes back, and not for want of memory
   abbrev pub declined : Result (StoreResult K V) (K × V) → Bool
-  declined (Ok New) = false
-  declined (Ok Replaced) = false
   declined (Ok (Duplicate k v)) = true
   declined (Ok (Full k v)) = true
-  declined (Err pair) = false
+  declined result = false
 
   -- the answer without what was there before
   abbrev pub plain_answer : Result (StoreResult K V) (K × V) → Result (InsertResult K V) (K × V)

@@ -173,14 +173,6 @@ fn insert_from<const UPSERT: bool, K: IndexKey, V: Drop, const LEN: usize>(
     ensures { InsertsUnder K.cmp UPSERT level arenas.old arenas.new id result key val }
 {
     match arenas.node(id) {
-        NodeOf::Leaf(node) => {
-            let Some(place) = node.child_place_beyond(&key, rightmost) else {
-                return Ok(StoreResult::Full(key, val));
-            };
-            let leaf = place.child;
-            let last = rightmost && place.slot.is_none();
-            insert_under_leaf_node::<UPSERT, K, V, LEN>(arenas, id, leaf, last, key, val)
-        }
         NodeOf::Internal(node) => {
             let Some(place) = node.child_place_beyond(&key, rightmost) else {
                 return Ok(StoreResult::Full(key, val));
@@ -206,6 +198,14 @@ fn insert_from<const UPSERT: bool, K: IndexKey, V: Drop, const LEN: usize>(
                     answer => Ok(answer),
                 },
             }
+        }
+        NodeOf::Leaf(node) => {
+            let Some(place) = node.child_place_beyond(&key, rightmost) else {
+                return Ok(StoreResult::Full(key, val));
+            };
+            let leaf = place.child;
+            let last = rightmost && place.slot.is_none();
+            insert_under_leaf_node::<UPSERT, K, V, LEN>(arenas, id, leaf, last, key, val)
         }
     }
 }

@@ -1,28 +1,22 @@
 -- A new leaf that comes into a chain before another one: it is added, then spliced to the leaf before and to the one behind.
-use Rattle.tree_leaf.proofs.Common.{◌≡◌, ◌≢◌, ℕ, ◌+◌, ◌≤◌, ◌==◌, cond, List, [], ◌∷◌, ◌++◌, Some, None, IsSome, refl, sym, ap, ◌∙◌, append_assoc, arith, inl, inr, cases_eq, Slab, get, LeafOf, SlotsOf}
+use Rattle.tree_leaf.proofs.Common.{◌≡◌, ◌≢◌, ℕ, ◌+◌, ◌≤◌, ◌==◌, cond, List, [], ◌∷◌, ◌++◌, Some, None, IsSome, refl, ◌∙◌, append_assoc, arith, nat_tests, Slab, get, LeafOf, SlotsOf}
 use Rattle.tree_leaf.proofs.Common.{times, uses, last_or, AreLinked, IsChain, SameArray, Gains, Splices, GainsBefore}
-use Rattle.tree_leaf.proofs.Counts.{times-nil, times-append, times-cons, one_here, none_here, uses_le_one, uses_some, uses_none}
+use Rattle.tree_leaf.proofs.Counts.{times-nil, times-append, times-cons, one_here, uses_le_one, uses_some, uses_none}
 use Rattle.tree_leaf.proofs.Chains.{first_inside, last_inside, last_or-append, linked_left, linked_right, linked_kept, same_array_uses, same_array_trans, neighbours, counted}
 use Rattle.tree_leaf.proofs.Splices.{run_spliced, untouched_leaf}
 
 module _ {T : Type 0} (old new : Slab T) (id : ℕ) (value : T) (gains : Gains old new id value) where
   -- what was in use is so still, and the new number is
   pub still_used : (n : ℕ) → IsSome (get old n) → IsSome (get new n)
-  still_used n used = elim (cases_eq n id) [
-    | inl same ↦ rw (same, gains.updates.changed) refl
-    | inr differs ↦ rw (gains.updates.others n differs) used
-  ]
+  still_used n used = grind (arith, gains.updates.changed, gains.updates.others n)
 
   pub new_used : (n : ℕ) → Some id ≡ Some n → IsSome (get new n)
-  new_used n is = let same : n ≡ id = cc in rw (same, gains.updates.changed) refl
+  new_used n is = grind (arith, gains.updates.changed)
 
 -- a new leaf without neighbours is a chain by itself
 pub alone : {K V : Type 0} {LEN : ℕ} (old new : Slab (LeafOf K V LEN)) (id : ℕ) (leaf : LeafOf K V LEN) → Gains old new id leaf → leaf.prev ≡ None → leaf.next ≡ None → IsChain new (id ∷ [])
 alone old new id leaf gains prev next = record {
-  once = λ n. elim (cases_eq n id) [
-    | inl same ↦ omega (arith, times-cons n id [], times-nil n, one_here n id same, uses_some new n (new_used old new id leaf gains n (ap Some (sym same))))
-    | inr differs ↦ omega (arith, times-cons n id [], times-nil n, none_here n id differs)
-  ];
+  once = λ n. grind (arith, nat_tests, times-cons n id [], times-nil n, uses_some new id (rw gains.updates.changed refl));
   linked = rw gains.updates.changed ((prev, next), tt);
 }
 
@@ -30,17 +24,12 @@ module _ {K V N : Type 0} {LEN : ℕ} (old added joined new : SlotsOf K V N LEN)
     (was : get old.leaves at ≡ Some after) (gains : Gains old.leaves added.leaves id leaf)
     (first : Splices added joined after.prev (Some id)) (second : Splices joined new (Some id) (Some at)) where
   used_not_id : (n : ℕ) → IsSome (get old.leaves n) → n ≡ id → ⊥
-  used_not_id n used same = let none : get old.leaves n ≡ None = rw same gains.was_free in let bad = rw none at used in cc
-
-  at_not_id : at ≡ id → ⊥
-  at_not_id same = used_not_id at (rw was refl) same
+  used_not_id n used same = grind (arith, gains.was_free)
 
   -- a leaf that is neither the new one nor beside it stays as it was
   others : (n : ℕ) → n ≢ id → n ≢ at → after.prev ≢ Some n → get new.leaves n ≡ get old.leaves n
   others n not_id not_at not_prev =
-      untouched_leaf _ _ _ _ _ second.next_changed second.prev_changed n (λ is. let same : n ≡ id = cc in not_id same) (λ is. let same : n ≡ at = cc in not_at same)
-      ∙ untouched_leaf _ _ _ _ _ first.next_changed first.prev_changed n not_prev (λ is. let same : n ≡ id = cc in not_id same)
-      ∙ gains.updates.others n not_id
+      grind (arith, untouched_leaf _ _ _ _ _ second.next_changed second.prev_changed n, untouched_leaf _ _ _ _ _ first.next_changed first.prev_changed n, gains.updates.others n)
 
   kept : (n : ℕ) → n ≢ id → SameArray (get old.leaves n) (get new.leaves n)
   kept n not_id = rw (gains.updates.others n not_id) at (same_array_trans _ _ _ (first.kept n) (second.kept n))
@@ -51,17 +40,11 @@ module _ {K V N : Type 0} {LEN : ℕ} (old added joined new : SlotsOf K V N LEN)
 
     here : get new.leaves id ≡ Some (record leaf { prev = after.prev; next = Some at })
     here =
-        let joined_here : get joined.leaves id ≡ Some (record leaf { prev = after.prev }) = first.prev_changed.here id leaf refl (first.next_changed.others id prev_not_id ∙ gains.updates.changed) in
-        second.prev_changed.others id (λ is. let same : at ≡ id = cc in at_not_id same) ∙ second.next_changed.here id (record leaf { prev = after.prev }) refl joined_here
+        grind (arith, first.prev_changed.here id, first.next_changed.others id, prev_not_id, gains.updates.changed, second.prev_changed.others id, used_not_id at, was, second.next_changed.here id)
 
     uses_now : (n : ℕ) → uses new.leaves n ≡ uses old.leaves n + cond (id == n) 1 0
-    uses_now n = elim (cases_eq n id) [
-      | inl same ↦
-          let now : IsSome (get new.leaves n) = rw (same, here) refl in
-          let before : get old.leaves n ≡ None = rw same gains.was_free in
-          omega (arith, uses_some new.leaves n now, uses_none old.leaves n before, one_here n id same)
-      | inr differs ↦ omega (arith, same_array_uses old.leaves new.leaves n (kept n differs), none_here n id differs)
-    ]
+    uses_now n =
+        grind (arith, nat_tests, same_array_uses old.leaves new.leaves n, kept n, uses_some new.leaves id, here, uses_none old.leaves id gains.was_free)
 
     module _ (front back : List ℕ) (chain : IsChain old.leaves (front ++ at ∷ back)) where
       prev_is : last_or None front ≡ after.prev
@@ -82,11 +65,7 @@ module _ {K V N : Type 0} {LEN : ℕ} (old added joined new : SlotsOf K V N LEN)
 
       back_joined : AreLinked joined.leaves after.prev (at ∷ back) None
       back_joined = linked_kept old.leaves joined.leaves after.prev (at ∷ back) None
-          (λ n inside.
-          untouched_leaf _ _ _ _ _ first.next_changed first.prev_changed n
-          (λ is. omega (arith, inside, once n, last_inside front n (prev_is ∙ is), uses_le_one new.leaves n))
-          (λ is. let same : n ≡ id = cc in not_id n (omega arith) same)
-          ∙ gains.updates.others n (not_id n (omega arith)))
+          (λ n inside. grind (arith, untouched_leaf _ _ _ _ _ first.next_changed first.prev_changed n, once n, last_inside front n, prev_is, uses_le_one new.leaves n, not_id n, gains.updates.others n))
           (rw prev_is at (linked_right old.leaves None front (at ∷ back) None chain.linked))
 
       chained : IsChain new.leaves (front ++ id ∷ (at ∷ back))

@@ -1,11 +1,10 @@
 -- Chains of linked leaves: their parts, and which leaves stand beside one.
-use Rattle.tree_leaf.proofs.Common.{◌≡◌, ℕ, ◌+◌, ◌≤◌, List, [], ◌∷◌, ◌++◌, Option, Some, None, IsSome, is_some, refl, sym, ◌∙◌, arith, Slab, get, LeafOf, times, uses, first_or, last_or, AreLinked}
-use Rattle.tree_leaf.proofs.Common.{IsChain, SameArray}
+use Rattle.tree_leaf.proofs.Common.{◌≡◌, ℕ, ◌+◌, ◌≤◌, List, [], ◌∷◌, ◌++◌, Option, Some, None, IsSome, refl, ◌∙◌, arith, Slab, get, LeafOf, times, uses, first_or, last_or, AreLinked}
+use Rattle.tree_leaf.proofs.Common.{IsChain, SameArray, nat_tests}
 use Rattle.tree_leaf.proofs.Counts.{times-append, times-cons, one_here, in_use, uses_same}
 
 pub first_or-append : (xs ys : List ℕ) (after : Option ℕ) → first_or (xs ++ ys) after ≡ first_or xs (first_or ys after)
-first_or-append [] ys after = refl
-first_or-append (x ∷ xs) ys after = refl
+first_or-append xs ys after = grind arith
 
 pub last_or-append : (before : Option ℕ) (xs ys : List ℕ) → last_or before (xs ++ ys) ≡ last_or (last_or before xs) ys
 last_or-append before [] ys = refl
@@ -21,8 +20,7 @@ last_inside [] n is = absurd (cc)
 last_inside (y ∷ rest) n is = last_within y rest n is
 
 pub first_inside : (ys : List ℕ) (n : ℕ) → first_or ys None ≡ Some n → 1 ≤ times n ys
-first_inside [] n is = absurd (cc)
-first_inside (y ∷ rest) n is = let same : n ≡ y = cc in omega (arith, times-cons n y rest, one_here n y same)
+first_inside ys n is = grind (arith, nat_tests, times-cons)
 
 module _ {K V : Type 0} {LEN : ℕ} where
   -- the links of leaves in two lists, one behind the other, are those of each
@@ -42,30 +40,21 @@ module _ {K V : Type 0} {LEN : ℕ} where
   -- leaves that stay are linked as they were
   pub linked_kept : (old new : Slab (LeafOf K V LEN)) (before : Option ℕ) (xs : List ℕ) (after : Option ℕ) → ((n : ℕ) → 1 ≤ times n xs → get new n ≡ get old n) → AreLinked old before xs after → AreLinked new before xs after
   linked_kept old new before [] after same linked = tt
-  linked_kept old new before (x ∷ xs) after same linked = (
-    rw (same x (omega (arith, times-cons x x xs, one_here x x refl))) linked.0,
-    linked_kept old new (Some x) xs after (λ n inside. same n (omega (arith, times-cons n x xs))) linked.1,
-  )
+  linked_kept old new before (x ∷ xs) after same linked =
+      grind (arith, same x, times-cons x x xs, one_here x x refl, linked_kept old new (Some x) xs after (λ n inside. same n (omega (arith, times-cons n x xs))) linked.1)
 
   -- a leaf with the same array is in use alike
   pub same_array_uses : (old new : Slab (LeafOf K V LEN)) (n : ℕ) → SameArray (get old n) (get new n) → uses new n ≡ uses old n
-  same_array_uses old new n same = uses_same old new n (by_slot (get old n) same)
-    where
-      by_slot : (slot : Option (LeafOf K V LEN)) → SameArray slot (get new n) → is_some (get new n) ≡ is_some slot
-      by_slot None h = rw h refl
-      by_slot (Some leaf) h = rw h.1 refl
+  same_array_uses old new n same = uses_same old new n (grind arith)
 
   pub same_array_refl : (slot : Option (LeafOf K V LEN)) → SameArray slot slot
-  same_array_refl None = refl
-  same_array_refl (Some leaf) = (leaf, refl, refl)
+  same_array_refl slot = grind arith
 
   pub same_array_trans : (a b c : Option (LeafOf K V LEN)) → SameArray a b → SameArray b c → SameArray a c
-  same_array_trans None b c first second = rw first at second
-  same_array_trans (Some leaf) b c first second = let next = rw first.1 at second in (next.0, next.1, next.2 ∙ first.2)
+  same_array_trans a b c first second = grind arith
 
   pub same_array_used : (old new : Option (LeafOf K V LEN)) → SameArray old new → IsSome old → IsSome new
-  same_array_used None new same used = absurd (cc)
-  same_array_used (Some leaf) new same used = rw same.1 refl
+  same_array_used old new same used = grind arith
 
   module _ (leaves : Slab (LeafOf K V LEN)) (front : List ℕ) (id : ℕ) (back : List ℕ) (chain : IsChain leaves (front ++ id ∷ back)) where
     -- a number of a chain stands in it once, and is in use
@@ -78,10 +67,7 @@ module _ {K V : Type 0} {LEN : ℕ} where
     -- the leaves beside it are those that its links name, and they are in use
     module _ (leaf : LeafOf K V LEN) (here : get leaves id ≡ Some leaf) where
       pub neighbours : (last_or None front ≡ leaf.prev) × (first_or back None ≡ leaf.next)
-      neighbours =
-          let between = (linked_right leaves None front (id ∷ back) None chain.linked).0 in
-          let links = rw here at between in
-          (sym links.0, sym links.1)
+      neighbours = grind (arith, linked_right, chain.linked)
 
       pub prev_used : (n : ℕ) → leaf.prev ≡ Some n → IsSome (get leaves n)
       prev_used n is = in_use leaves n (omega (arith, counted n, last_inside front n (neighbours.0 ∙ is)))

@@ -1,5 +1,5 @@
 -- Counts of numbers in lists, and of their uses.
-use Rattle.tree_leaf.proofs.Common.{◌≡◌, ℕ, ◌+◌, ◌≤◌, ◌==◌, Bool, true, false, cond, List, [], ◌∷◌, ◌++◌, Option, Some, None, is_some, IsSome, refl, arith, nat_tests, sum_by-append, sum_by-cons, Slab}
+use Rattle.tree_leaf.proofs.Common.{◌≡◌, ℕ, ◌+◌, ◌≤◌, ◌==◌, cond, List, [], ◌∷◌, ◌++◌, None, is_some, IsSome, refl, arith, nat_tests, sum_by-append, sum_by-cons, Slab}
 use Rattle.tree_leaf.proofs.Common.{get}
 use Rattle.tree_leaf.specs.Counting.{times, uses}
 
@@ -26,20 +26,12 @@ module _ {T : Type 0} where
   -- a number is in use once or not at all
   pub uses_le_one : (arena : Slab T) (n : ℕ) → uses arena n ≤ 1
   unfolding uses
-  uses_le_one arena n = at_most (is_some (get arena n))
-    where
-      at_most : (b : Bool) → cond {A = ℕ} b 1 0 ≤ 1
-      at_most true = omega arith
-      at_most false = omega arith
+  uses_le_one arena n = grind arith
 
   -- what is counted as used is in use
   pub in_use : (arena : Slab T) (n : ℕ) → 1 ≤ uses arena n → IsSome (get arena n)
   unfolding uses
-  in_use arena n used = some (get arena n) used
-    where
-      some : (slot : Option T) → 1 ≤ cond {A = ℕ} (is_some slot) 1 0 → IsSome slot
-      some None h = absurd (omega (arith, h))
-      some (Some value) h = refl
+  in_use arena n used = grind arith
 
   pub uses_some : (arena : Slab T) (n : ℕ) → IsSome (get arena n) → uses arena n ≡ 1
   unfolding uses

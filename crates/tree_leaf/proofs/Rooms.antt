@@ -1,30 +1,21 @@
 -- What is kept in an arena, and the room that is left in it.
-use Rattle.tree_leaf.proofs.Common.{◌≡◌, ℕ, ◌+◌, ◌≤◌, Result, Ok, Err, IsOk, OnOk, Option, Some, None, is_some, cond, ap, refl, ◌∙◌, arith, sum_by-set, Slab, get, ContainsKey, slab_len, HasRoomFor}
-use Rattle.tree_leaf.proofs.Common.{Updates, with_value, ContainsKey-within, SlotsOf, Keeps, Loses, KeepsBoth, Reserves, SameRoom}
+use Rattle.tree_leaf.proofs.Common.{◌≡◌, ℕ, ◌+◌, ◌≤◌, Result, IsOk, OnOk, Option, Some, None, is_some, cond, refl, arith, sum_by-set, Slab, get, ContainsKey, slab_len, HasRoomFor}
+use Rattle.tree_leaf.proofs.Common.{Updates, with_value, ContainsKey-within, SlotsOf, Keeps, Loses, KeepsBoth, Refuses, Reserves, SameRoom}
 
 module _ {T : Type 0} where
   -- an arena that has changed at most in how much fits, which is no less
   pub grown : (old new : Slab T) → new ≡ record old { capacity = new.capacity } → old.capacity ≤ new.capacity → Keeps old new
-  grown old new same more_fits =
-      let slots : new.slots ≡ old.slots = ap (λ (s : Slab T). s.slots) same in
-      let counted : slab_len new ≡ slab_len old = ap (λ (s : Slab T). slab_len s) same in
-      record { slots = slots; room = λ more had. omega (arith, counted) }
+  grown old new same more_fits = grind arith
 
-  -- nothing is changed in an arena that is as it was
-  pub untouched : (old new : Slab T) → new ≡ old → Keeps old new
-  untouched old new same = rw same (record { slots = refl; room = λ more had. had })
+  -- where memory is refused the value comes back
+  pub refused : {old new : Slab T} {value back : T} → back ≡ value → new ≡ record old { capacity = new.capacity } → old.capacity ≤ new.capacity
+      → (HasRoomFor old 1 → ⊥) → Refuses old new value back
+  refused same rest more_fits none = record { same = same; kept = grown _ _ rest more_fits; no_room = none }
 
   -- the place of a value that was taken out is room
   pub lost : (old new : Slab T) (id : ℕ) (value : T) → get old id ≡ Some value → Updates old new id None → slab_len new + 1 ≡ slab_len old → new.capacity ≡ old.capacity → Loses old new id value
   lost old new id value here updates counted capacity = record { here = here; updates = updates; counted = counted; room = λ more had. omega arith }
 
-module _ {K V N : Type 0} {LEN : ℕ} where
-  -- what the second of two reserves answers is what both answer, where the first one went through
-  pub reserved : {A E : Type 0} (old new : SlotsOf K V N LEN) (more_leaves more_nodes : ℕ) (result : Result A E) → KeepsBoth old new → HasRoomFor new.leaves more_leaves → OnOk result (HasRoomFor new.nodes more_nodes) → (HasRoomFor old.nodes more_nodes → IsOk result) → Reserves old new more_leaves more_nodes result
-  reserved old new more_leaves more_nodes (Ok x) kept leaves nodes succeeds = (kept, record { leaves = leaves; nodes = nodes })
-  reserved old new more_leaves more_nodes (Err e) kept leaves nodes succeeds = (kept, λ had. let ok = succeeds had.nodes in (cc))
-
-module _ {T : Type 0} where
   -- a value that takes the place of another takes no room
   pub rewritten : (arena : Slab T) (id : ℕ) (value : T) → ContainsKey arena id → SameRoom arena (with_value arena id value)
   rewritten arena id value used =
@@ -32,5 +23,7 @@ module _ {T : Type 0} where
       let was : cond {A = ℕ} (is_some (get arena id)) 1 0 ≡ 1 = rw used refl in
       record { counted = omega (arith, set_there, was); capacity = refl }
 
-  pub same_room_trans : (a b c : Slab T) → SameRoom a b → SameRoom b c → SameRoom a c
-  same_room_trans a b c first second = record { counted = second.counted ∙ first.counted; capacity = second.capacity ∙ first.capacity }
+module _ {K V N : Type 0} {LEN : ℕ} where
+  -- what the second of two reserves answers is what both answer, where the first one went through
+  pub reserved : {A E : Type 0} (old new : SlotsOf K V N LEN) (more_leaves more_nodes : ℕ) (result : Result A E) → KeepsBoth old new → HasRoomFor new.leaves more_leaves → OnOk result (HasRoomFor new.nodes more_nodes) → (HasRoomFor old.nodes more_nodes → IsOk result) → Reserves old new more_leaves more_nodes result
+  reserved old new more_leaves more_nodes result kept leaves nodes succeeds = grind arith

@@ -33,8 +33,17 @@ impl<K: Ord + Drop, V: Drop, const LEN: usize> LeafOf<K, V, LEN> {
         ensures prev { result.prev ≡ None }
         ensures next { result.next ≡ None }
     {
+        Self::of(ArrayOf::new())
+    }
+
+    /// Creates a leaf with an array and no neighbours. Allocates nothing.
+    pub fn of(array: ArrayOf<K, V, LEN>) -> Self
+        ensures array { result.array ≡ array }
+        ensures prev { result.prev ≡ None }
+        ensures next { result.next ≡ None }
+    {
         LeafOf {
-            array: ArrayOf::new(),
+            array,
             prev: None,
             next: None,
         }

@@ -1,7 +1,7 @@
 -- A leaf node that makes room for a key: its leaf is split or built anew.
 use Rattle.std.proofs.Common.{◌≡◌, ℕ, ◌-◌, ◌≤◌, Bool, true, ◌∷◌, drop, length, Option, Some, None, IsSome, refl, sym, ap, ◌∙◌, arith, inl, inr, false, slice_get, if◌then◌else◌, Ordering, Less, Equal, is_ge}
 use Rattle.std.proofs.lemmas.Bool.{eq-eqb}
-use Rattle.tree_split.proofs.Common.{AllByRecursion, GivesAll, GivesFirst, HasChildFor, HasKind, HasLast, HasMadeRoom, HasRoom, Arrivals, IsAbsent, IsCut, IsForKey, IsPacked, IsPart, IsSound, IsTotalOrder, KeepsPacked, LeafOf, PartsChild, PutsChild, SharesEntries, TreeArenas, Updates-with_value, absent_here, all_given, all_map, child_at, child_is, child_part, chosen_past, edge_below, entries_now, gains_low, get, here_now, high_for, in_order, is_at, is_from, is_last, keyed, last_child, last_for, last_now, last_place, leaf_entries, leaf_part, leaf_rebuilt, limit, low_for, low_part, one_last, packed_split, place_for, room_made_by_rebuild, unbounded, with_array, with_value}
+use Rattle.tree_split.proofs.Common.{AllByRecursion, GivesAll, GivesFirst, HasChildFor, HasKind, HasLast, HasMadeRoom, HasRoom, Arrivals, IsAbsent, IsCut, IsForKey, IsPacked, IsPart, IsSound, IsTotalOrder, LeafOf, PartsChild, PutsChild, SharesEntries, TreeArenas, Updates-with_value, absent_here, all_given, all_map, child_at, child_is, child_part, chosen_past, edge_below, entries_now, gains_low, get, here_now, high_for, in_order, is_at, is_from, is_last, keyed, last_child, last_for, last_now, last_place, leaf_entries, leaf_part, leaf_rebuilt, limit, low_for, low_part, one_last, packed_split, place_for, room_made_by_rebuild, unbounded, with_array, with_value}
 use Rattle.std.specs.Option.{ForSome}
 use Rattle.tree_model.proofs.Common.{drop_all}
 use Rattle.tree_node.specs.declared.node.NodeOf.{NodeOf}
@@ -9,7 +9,7 @@ use Rattle.tree_split.proofs.Fulls.{none_free}
 use Rattle.tree_split.specs.Splits.{GoesWhole}
 use Rattle.tree_leaf_split.specs.Divides.{DividesLeaf}
 use Rattle.tree_leaf_split.specs.Lasts.{HoldsAnew, IsEmptied, StaysLast}
-use Rattle.tree_leaf_split.proofs.LeafSplits.{IsBetween, IsParted, edge_left, high_room, leaf_splits_low, low_full, low_room, past, separator_smaller}
+use Rattle.tree_leaf_split.proofs.LeafSplits.{IsBetween, IsParted, edge_goes_on, high_room, leaf_splits_low, low_room, past}
 
 module _ {K V : Type 0} {LEN : ℕ} {cmp : K → K → Ordering} (o : IsTotalOrder cmp) (old : TreeArenas K V LEN) (id x : ℕ) (key : K) (part : IsPart cmp 1 old id) (which : HasChildFor cmp key (get old.nodes id) x) where
   -- the leaf is a part itself
@@ -138,27 +138,23 @@ module _ {K V : Type 0} {LEN : ℕ} {cmp : K → K → Ordering} (o : IsTotalOrd
       here : get new.nodes id ≡ Some node'
       here = (Updates-with_value mid.nodes id node' (rw is_node refl)).changed
 
-      packed_still : GivesAll cmp old id x count key → (child : ℕ) → KeepsPacked cmp (Some key) 1 old new id child
-      packed_still gives child last' none e =
-          let last : HasLast (get old.nodes id) x = last_for cmp 1 (omega arith) old id x key which e in
-          let edge : IsPacked cmp (Some key) 0 old x = edge_below o 0 old id x key part which e in
-          let all : count ≡ LEN = gives which (rw (one_last (get old.nodes id) child x last' last) at none) e in
-          let same : e.node ≡ part.stands.node = cc (e.here, part.stands.here) in
-          let at_end : PartsChild cmp (IsBetween cmp key) 0 old mid id x y separator = record {
-            part = part;
-            splits = leaf_splits_low o p;
-            at = last_place 0 old id part.stands x last;
-            inner = λ low high inside. (low_for cmp key low (keyed part.stands.node).entries (rw same at e.keys) inside.0, inside.1);
-            within = (tt, tt);
-          } in
-          packed_split o at_end node is_node node' puts refl (Some key) last e (low_full o p edge all)
-          (edge_left o p edge all) (separator_smaller o p edge all)
-
       pub leaf_room_by_split : GivesAll cmp old id x count key → HasMadeRoom cmp 1 old new id key
       leaf_room_by_split gives =
           let gains = gains_low o parts node is_node node' puts in
           record {
-            packed = packed_still gives;
+            packed = λ child last' none e.
+                let last : HasLast (get old.nodes id) x = last_for cmp 1 (omega arith) old id x key which e in
+                let edge : IsPacked cmp (Some key) 0 old x = edge_below o 0 old id x key part which e in
+                let on = edge_goes_on o p edge (gives which (rw (one_last (get old.nodes id) child x last' last) at none) e) in
+                let same : e.node ≡ part.stands.node = cc (e.here, part.stands.here) in
+                let at_end : PartsChild cmp (IsBetween cmp key) 0 old mid id x y separator = record {
+                  part = part;
+                  splits = leaf_splits_low o p;
+                  at = last_place 0 old id part.stands x last;
+                  inner = λ low high inside. (low_for cmp key low (keyed part.stands.node).entries (rw same at e.keys) inside.0, inside.1);
+                  within = (tt, tt);
+                } in
+                packed_split o at_end node is_node node' puts refl (Some key) last e on.0 on.1 on.2;
             pairs = gains.pairs;
             stands = λ low high above up_to s. gains.stands low high (above, up_to) s;
             replaces = gains.replaces;

@@ -1,5 +1,5 @@
 -- A leaf that gives its first entries to a new one before it.
-use Rattle.std.proofs.Common.{◌≡◌, ℕ, ◌+◌, ◌-◌, ◌<◌, ◌≤◌, ◌==◌, ◌^◌, min, true, cond, ◌⊎◌, List, [], ◌∷◌, ◌++◌, length, take, drop, slice_get, Option, Some, None, IsSome, refl, sym, ap, ◌∙◌, arith, append_assoc, inl, inr, Ordering, Less, Equal, length-take, length-drop, take-append-drop}
+use Rattle.std.proofs.Common.{◌≡◌, ℕ, ◌+◌, ◌-◌, ◌<◌, ◌≤◌, ◌==◌, ◌^◌, true, cond, ◌⊎◌, List, [], ◌∷◌, ◌++◌, length, take, drop, slice_get, Option, Some, None, IsSome, refl, sym, ap, ◌∙◌, arith, append_assoc, inl, inr, Ordering, Less, Equal, length-take, length-drop, take-append-drop}
 use Rattle.tree_split.proofs.Common.{AllByRecursion, AllLarger, Arrivals, GivesFirst, HasChildFor, IsAbove, IsAscending, IsBelow, IsChain, IsCut, IsPacked, IsPart, IsSound, IsTotalOrder, IsUpTo, LeafOf, Replaces, SplitsLow, TreeArenas, all-append, all_behind, all_front, all_map, alike, alike_after, array_replaces, cases_eq, cut_whole, get, here_now, in_order, is_from, leaf_entries, length-map, less_upto, none_here, one_here, one_power, packed_in_order, room, same_array_uses, spare_anew, spare_beside, tied_back, times, times-cons, unchanged_by_keeping, unchanged_replaces, updated, upto_from_less, uses, uses_none, uses_some, walk, walk-leaf, with_array}
 use Rattle.slab.specs.Slab.{HasRoomFor}
 use Rattle.tree_leaf.proofs.Rooms.{rewritten}
@@ -152,30 +152,6 @@ module _ {K V : Type 0} {LEN : ℕ} {cmp : K → K → Ordering} (o : IsTotalOrd
     upper_larger : AllLarger cmp p.pair.0 upper
     upper_larger = (ascending_behind cmp lower (p.pair ∷ upper) ascends).0
 
-    low_stands : LeafStands cmp mid.leaves below y (Some separator)
-    low_stands =
-        let again : (lower ++ p.pair ∷ []) ++ upper ≡ lower ++ (p.pair ∷ upper) = simp append_assoc in
-        let front = smaller_front cmp lower p.pair upper ascends in
-        let smaller = all_map (λ q less. upto_from_less o q.0 separator (alike_after o p.pair.0 separator q.0 Less p.cloned less)) lower front in
-        record {
-          leaf = d.low;
-          here = d.low_here;
-          few = rw d.low_is (omega (arith, length-take count d.leaf.array.entries, few));
-          ascending = rw low_entries (ascending_front cmp (lower ++ p.pair ∷ []) upper (rw again ascends));
-          above = rw low_entries (all_front _ (lower ++ p.pair ∷ []) upper (rw again all_above));
-          up_to = rw low_entries (all-append _ lower (p.pair ∷ []) smaller (rw p.cloned refl, tt));
-        }
-
-    high_stands : LeafStands cmp mid.leaves (Some separator) x above
-    high_stands = record {
-      leaf = d.high;
-      here = d.high_here;
-      few = rw (high_entries, length-drop count d.leaf.array.entries) (omega (arith, few));
-      ascending = rw high_entries (ascending_behind cmp lower (p.pair ∷ upper) ascends).1;
-      above = rw high_entries (all_map (λ q less. separator_below q.0 less) upper upper_larger);
-      up_to = rw high_entries upper_up_to;
-    }
-
     above_low : IsAbove cmp below separator
     above_low = by_bound below (all_behind _ lower (p.pair ∷ upper) all_above).0
       where
@@ -203,8 +179,26 @@ module _ {K V : Type 0} {LEN : ℕ} {cmp : K → K → Ordering} (o : IsTotalOrd
         rw (walk-leaf old x d.leaf d.was, walk-leaf mid y d.low d.low_here, walk-leaf mid x d.high d.high_here, d.high_is, d.low_is)
         (take-append-drop count d.leaf.array.entries);
     separates = λ below above within s. (above_low below above s, below_high below above s within.1);
-    lower = λ below above within s. low_stands below above s;
-    upper = λ below above within s. high_stands below above s;
+    lower = λ below above within s.
+        let again : (lower ++ p.pair ∷ []) ++ upper ≡ lower ++ (p.pair ∷ upper) = simp append_assoc in
+        let front = smaller_front cmp lower p.pair upper (ascends below above s) in
+        let smaller = all_map (λ q less. upto_from_less o q.0 separator (alike_after o p.pair.0 separator q.0 Less p.cloned less)) lower front in
+        record {
+          leaf = d.low;
+          here = d.low_here;
+          few = rw d.low_is (omega (arith, length-take count d.leaf.array.entries, few));
+          ascending = rw low_entries (ascending_front cmp (lower ++ p.pair ∷ []) upper (rw again (ascends below above s)));
+          above = rw low_entries (all_front _ (lower ++ p.pair ∷ []) upper (rw again (all_above below above s)));
+          up_to = rw low_entries (all-append _ lower (p.pair ∷ []) smaller (rw p.cloned refl, tt));
+        };
+    upper = λ below above within s. record {
+      leaf = d.high;
+      here = d.high_here;
+      few = rw (high_entries, length-drop count d.leaf.array.entries) (omega (arith, few));
+      ascending = rw high_entries (ascending_behind cmp lower (p.pair ∷ upper) (ascends below above s)).1;
+      above = rw high_entries (all_map (λ q less. separator_below q.0 less) upper (upper_larger below above s));
+      up_to = rw high_entries (upper_up_to below above s);
+    };
     replaces = d.replaces;
     spares =
         let was = spare_beside old x d.leaf d.was p.sound.entries_few p.sound.few in
@@ -219,28 +213,18 @@ module _ {K V : Type 0} {LEN : ℕ} {cmp : K → K → Ordering} (o : IsTotalOrd
 
   -- and so has the new one, where the key goes there
   pub low_room : is_from cmp key separator ≡ true → 0 < room 0 mid y
-  low_room from = rw (d.low_here, d.low_is, length-map (take count d.leaf.array.entries) Some, length-take count d.leaf.array.entries) (by_cut p.cut.stays)
-    where
-      by_cut : (count < length d.leaf.array.entries) ⊎ AllByRecursion (λ q. cmp q.0 key ≡ Less) d.leaf.array.entries
-          → 0 < LEN - min count (length d.leaf.array.entries)
-      by_cut (inl some) = omega (arith, some, few)
-      by_cut (inr beyond) = absurd (cc (rw (past beyond) at from))
+  low_room from =
+      rw (d.low_here, d.low_is, length-map (take count d.leaf.array.entries) Some, length-take count d.leaf.array.entries)
+      (elim p.cut.stays [ inl some ↦ omega (arith, some, few) | inr beyond ↦ absurd (cc (rw (past beyond) at from)) ])
 
   -- all its entries go from the last leaf of a packed part
-  module _ (e : IsPacked cmp (Some key) 0 old x) (all : count ≡ LEN) where
-    smaller : AllByRecursion (λ q. cmp q.0 key ≡ Less) d.leaf.array.entries
-    smaller = let same : e.leaf ≡ d.leaf = cc (e.here, d.was) in rw same at e.ends
-
-    pub edge_left : IsPacked cmp (Some key) 0 mid x
-    edge_left = record {
-      leaf = d.high;
-      here = d.high_here;
-      packed = packed_in_order o d.high.array upper d.high_is;
-      ends = rw high_entries (all_behind _ lower (p.pair ∷ upper) (rw whole at smaller)).1;
-    }
-
-    pub low_full : length (walk 0 mid y) ≡ LEN ^ 1
-    low_full = rw (walk-leaf mid y d.low d.low_here, d.low_is, one_power LEN) (omega (arith, length-take count d.leaf.array.entries, p.cut.within, few, all))
-
-    pub separator_smaller : cmp separator key ≡ Less
-    separator_smaller = past smaller
+  pub edge_goes_on : IsPacked cmp (Some key) 0 old x → count ≡ LEN
+      → (length (walk 0 mid y) ≡ LEN ^ 1) × IsPacked cmp (Some key) 0 mid x × (cmp separator key ≡ Less)
+  edge_goes_on e all =
+      let same : e.leaf ≡ d.leaf = cc (e.here, d.was) in
+      let smaller : AllByRecursion (λ q. cmp q.0 key ≡ Less) d.leaf.array.entries = rw same at e.ends in
+      let left = (all_behind _ lower (p.pair ∷ upper) (rw whole at smaller)).1 in (
+        rw (walk-leaf mid y d.low d.low_here, d.low_is, one_power LEN) (omega (arith, length-take count d.leaf.array.entries, p.cut.within, few, all)),
+        record { leaf = d.high; here = d.high_here; packed = packed_in_order o d.high.array upper d.high_is; ends = rw high_entries left },
+        past smaller,
+      )

@@ -183,9 +183,9 @@ fn divide_leaf<K: Ord + Drop, V: Drop, const LEN: usize>(
     ensures err { OnErr result (Unchanged arenas.old arenas.new) }
 {
     arenas.reserve(1, 0)?;
-    let mut low = LeafOf::new();
-    cut_low(arenas.leaf_mut(target).array_mut(), count, low.array_mut());
-    let Ok(low_id) = add_before(arenas, target, low) else {
+    let mut low = ArrayOf::new();
+    cut_low(arenas.leaf_mut(target).array_mut(), count, &mut low);
+    let Ok(low_id) = add_before(arenas, target, LeafOf::of(low)) else {
         unreachable!()
     };
     Ok(low_id)

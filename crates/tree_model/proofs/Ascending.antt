@@ -1,5 +1,5 @@
 -- The edits of a list of pairs keep it ascending.
-use Rattle.std.proofs.Common.{◌≡◌, ◌∙◌, sym, inl, inr, true, Bool, List, [], ◌∷◌, ◌++◌, filter, Ordering, Less, Equal, Greater, is_lt, is_gt, arith}
+use Rattle.std.proofs.Common.{◌≡◌, ◌∙◌, sym, true, Bool, List, [], ◌∷◌, ◌++◌, filter, Ordering, Less, Equal, Greater, is_lt, is_gt, arith}
 use Rattle.std.proofs.lemmas.Bool.{cases_Bool}
 use Rattle.tree_model.proofs.Common.{Bound, IsTotalOrder, AllByRecursion, AllLarger, IsAscending, below, above, put, without, cut}
 use Rattle.tree_model.proofs.Order.{less_from_greater}
@@ -17,8 +17,7 @@ greater_from_test c h = grind arith
 module _ {K V : Type 0} (cmp : K → K → Ordering) where
   pub IsAscending-filter : (test : K × V → Bool) (l : List (K × V)) → IsAscending cmp l → IsAscending cmp (filter test l)
   IsAscending-filter test [] h = tt
-  IsAscending-filter test (p ∷ ps) h =
-      let rest = IsAscending-filter test ps h.1 in elim (cases_Bool (test p)) [ inl kept ↦ rw kept (all-filter _ test ps h.0, rest) | inr dropped ↦ rw dropped rest ]
+  IsAscending-filter test (p ∷ ps) h = grind (arith, cases_Bool, all-filter, IsAscending-filter test ps h.1)
 
   -- two ascending lists, each key of the first smaller than every key of the second
   pub IsAscending-append : (xs ys : List (K × V)) → IsAscending cmp xs → IsAscending cmp ys → AllByRecursion (λ p. AllLarger cmp p.0 ys) xs → IsAscending cmp (xs ++ ys)

@@ -1,7 +1,7 @@
 -- A history that an answered command is added to goes on replaying to the entries, and a history replays to one list.
-use Rattle.std.proofs.Common.{◌≡◌, List, [], ◌∷◌, ◌++◌, Option, Some, None, refl, sym, ap, ◌∙◌, subst, rules, Bool, filter, option_map, Ordering, is_lt, is_gt, inl, inr, arith}
+use Rattle.std.proofs.Common.{◌≡◌, List, [], ◌∷◌, ◌++◌, Option, refl, sym, ap, ◌∙◌, subst, rules, Bool, filter, option_map, Ordering, is_lt, is_gt, arith}
 use Rattle.std.proofs.lemmas.Bool.{cases_Bool}
-use Rattle.tree_model.proofs.Common.{IsTotalOrder, Bound, Included, Excluded, Unbounded, alike_right, tied_itself, Command, Insert, Upsert, Remove, RemoveRange, Clear, Peek, Reply, Stored, Duplicate, Removed, Done, Found, below, IsAbsent, IsPresent, pair_at, put, without, cut}
+use Rattle.tree_model.proofs.Common.{IsTotalOrder, Bound, alike_right, tied_itself, Command, Insert, Upsert, Remove, RemoveRange, Clear, Peek, Reply, Stored, Duplicate, Removed, Done, Found, below, IsAbsent, IsPresent, pair_at, put, without, cut}
 use Rattle.tree_model.specs.declared.commands.Reply.TheVariants.{Refused}
 use Rattle.tree_model.specs.declared.commands.Record.{Record}
 use Rattle.tree_model.specs.Pairs.{meets_lower, meets_upper}
@@ -23,16 +23,12 @@ module _ {K V A B : Type 0} (cmp : K → K → Ordering) (seen_key : K → A) (s
   same-filter : (test other : K → Bool) → ((x y : K) → IsSameKey cmp seen_key x y → test x ≡ other y)
       → (ps qs : List (K × V)) → IsSamePairs cmp seen_key seen ps qs → IsSamePairs cmp seen_key seen (filter (λ p. test p.0) ps) (filter (λ q. other q.0) qs)
   same-filter test other alike [] [] h = tt
-  same-filter test other alike (p ∷ ps) (q ∷ qs) h =
-      let again = same-filter test other alike ps qs h.2 in
-      rw (alike p.0 q.0 h.0) (elim (cases_Bool (other q.0)) [ inl kept ↦ rw kept (h.0, h.1, again) | inr dropped ↦ rw dropped again ])
+  same-filter test other alike (p ∷ ps) (q ∷ qs) h = grind (arith, cases_Bool, same-filter test other alike ps qs h.2)
   same-filter test other alike ps qs h = absurd h
 
   -- a step says of a reply what it says of its clone
   step_seen : (old new : List (K × V)) (command : Command K V) (reply r : Reply V) → IsSameReply cmp seen_key seen reply r → Step cmp seen old command reply new → Step cmp seen old command r new
-  step_seen old new (Remove key) (Removed was) (Removed w) e step = subst (λ b. Step cmp seen old (Remove key) (Removed b) new) e step
-  step_seen old new (Peek key) (Found found) (Found f) e step = (sym e ∙ step.0, step.1)
-  step_seen old new command reply r e step = search rules
+  step_seen old new command reply r e step = grind arith
 
 module _ {K V A B : Type 0} {cmp : K → K → Ordering} (o : IsTotalOrder cmp) (seen_key : K → A) (seen : V → B) where
   -- clones of two keys compare as the keys do
@@ -100,14 +96,11 @@ same_key_itself o seen_key key = record { equal = tied_itself o key; alike = ref
 
 -- and so is a bound
 pub same_bound_itself : {K A : Type 0} {cmp : K → K → Ordering} (o : IsTotalOrder cmp) (seen_key : K → A) (bound : Bound K) → IsSameBound cmp seen_key bound bound
-same_bound_itself o seen_key (Included key) = same_key_itself o seen_key key
-same_bound_itself o seen_key (Excluded key) = same_key_itself o seen_key key
-same_bound_itself o seen_key Unbounded = tt
+same_bound_itself o seen_key bound = grind arith
 
 -- what is seen of a pair's value
 pub seen_value : {K V B : Type 0} (seen : V → B) (found : Option (K × V)) → option_map seen (option_map (λ pair. pair.1) found) ≡ option_map (λ pair. seen pair.1) found
-seen_value seen None = refl
-seen_value seen (Some pair) = refl
+seen_value seen found = grind arith
 
 -- a command with its reply leaves one list
 one_step : {K V S : Type 0} (cmp : K → K → Ordering) (seen : V → S) (old l m : List (K × V)) (command : Command K V) (reply : Reply V) → Step cmp seen old command reply l → Step cmp seen old command reply m → l ≡ m
@@ -116,6 +109,4 @@ one_step cmp seen old l m command reply h i = grind arith
 -- a history replays to one list
 pub one_replay : {K V S : Type 0} (cmp : K → K → Ordering) (seen : V → S) (old : List (K × V)) (history : List (Record K V)) (l m : List (K × V)) → Replays cmp seen old history l → Replays cmp seen old history m → l ≡ m
 one_replay cmp seen old [] l m h i = h ∙ sym i
-one_replay cmp seen old (r ∷ records) l m h i =
-    let first : h.0 ≡ i.0 = one_step cmp seen old h.0 i.0 r.command r.reply h.2 i.2 in
-    one_replay cmp seen i.0 records l m (subst (λ mid. Replays cmp seen mid records l) first h.3) i.3
+one_replay cmp seen old (r ∷ records) l m h i = grind (arith, one_step, one_replay cmp seen i.0 records l m)

@@ -1,9 +1,8 @@
 -- How long an edit leaves a list of pairs.
-use Rattle.std.proofs.Common.{◌≡◌, ℕ, suc, ◌+◌, ◌≤◌, if◌then◌else◌, List, [], ◌∷◌, filter, length, length-append, refl, arith, Ordering, Less, is_lt, is_eq, is_gt, Equal}
+use Rattle.std.proofs.Common.{◌≡◌, ℕ, suc, ◌+◌, ◌≤◌, if◌then◌else◌, List, [], ◌∷◌, filter, length, length-append, refl, arith, Ordering, is_lt, is_eq, is_gt}
 use Rattle.tree_model.proofs.Common.{IsTotalOrder, IsAbsent, IsAscending, IsPresent, above, below, put, without, tied_back}
 use Rattle.tree_model.proofs.Lists.{all_map}
 use Rattle.tree_model.proofs.LookUps.{none_larger}
-use Rattle.tree_model.proofs.Order.{alike}
 
 -- an element goes to one of three lists
 one_of_three : {X : Type 0} (c : Ordering) (x : X) (less same more : List X) (n : ℕ) → length less + (length same + length more) ≡ n
@@ -37,9 +36,7 @@ module _ {K V : Type 0} {cmp : K → K → Ordering} (o : IsTotalOrder cmp) wher
   -- a present key stands once
   one_equal : (l : List (K × V)) (k : K) → IsAscending cmp l → IsPresent cmp l k → length (equal_to cmp l k) ≡ 1
   one_equal [] k ascending present = absurd (cc)
-  one_equal (p ∷ ps) k ascending present =
-      let alone = λ (same : cmp p.0 k ≡ Equal). none_equal cmp ps k (none_larger o k ps (all_map (λ r later. alike o k p.0 r.0 Less (tied_back o p.0 k same) later) ps ascending.0)) in
-      grind (arith, alone, one_equal ps k ascending.1)
+  one_equal (p ∷ ps) k ascending present = grind (arith, none_larger, all_map, none_equal, tied_back, one_equal ps k ascending.1)
 
   pub without_present : (l : List (K × V)) (k : K) → IsAscending cmp l → IsPresent cmp l k → suc (length (without cmp l k)) ≡ length l
   without_present l k ascending present = simp length-append (omega (arith, sides cmp l k, one_equal l k ascending present))

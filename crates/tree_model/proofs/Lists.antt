@@ -1,5 +1,5 @@
 -- Facts on each element of a list, and what a filter or a search makes of a list whose elements all pass, or all fail.
-use Rattle.std.proofs.Common.{◌≡◌, ℕ, zero, suc, Bool, true, false, cond, List, [], ◌∷◌, ◌++◌, filter, find, slice_get, Some, None, refl, ap, inl, inr, if◌then◌else◌, arith}
+use Rattle.std.proofs.Common.{◌≡◌, ℕ, zero, suc, Bool, true, false, cond, List, [], ◌∷◌, ◌++◌, filter, find, slice_get, Some, None, refl, ap, if◌then◌else◌, arith}
 use Rattle.std.proofs.lemmas.Bool.{cases_Bool}
 use Rattle.std.proofs.lemmas.List.Folds.{find-append}
 use Rattle.tree_model.proofs.Common.{AllByRecursion}
@@ -17,14 +17,12 @@ module _ {X : Type 0} where
   -- what holds of each element holds of each that a filter keeps
   pub all-filter : (P : X → Type 0) (test : X → Bool) (xs : List X) → AllByRecursion P xs → AllByRecursion P (filter test xs)
   all-filter P test [] h = tt
-  all-filter P test (x ∷ xs) h =
-      let rest = all-filter P test xs h.1 in elim (cases_Bool (test x)) [ inl passed ↦ rw passed (h.0, rest) | inr failed ↦ rw failed rest ]
+  all-filter P test (x ∷ xs) h = grind (arith, cases_Bool, all-filter P test xs h.1)
 
   -- each element that a filter keeps passes its test
   pub all_passed : (P : X → Type 0) (test : X → Bool) → ((x : X) → test x ≡ true → P x) → (xs : List X) → AllByRecursion P (filter test xs)
   all_passed P test f [] = tt
-  all_passed P test f (x ∷ xs) =
-      let rest = all_passed P test f xs in elim (cases_Bool (test x)) [ inl passed ↦ rw passed (f x passed, rest) | inr failed ↦ rw failed rest ]
+  all_passed P test f (x ∷ xs) = grind (arith, cases_Bool, all_passed P test f xs)
 
   -- what holds of each element holds of the one at a place
   pub all_at : (P : X → Type 0) (xs : List X) (i : ℕ) (x : X) → AllByRecursion P xs → slice_get xs i ≡ Some x → P x

@@ -1,9 +1,9 @@
 -- What a look-up finds in a list of pairs after an edit, and that an ascending list is known by its look-ups.
 use Rattle.std.proofs.Common.{◌≡◌, Bool, true, if◌then◌else◌, List, [], ◌∷◌, ◌++◌, filter, None, Some, refl, sym, ◌∙◌, ap, not, Ordering, Less, Equal, is_lt, is_eq, is_gt, arith}
-use Rattle.tree_model.proofs.Common.{AllByRecursion, Bound, IsAbsent, IsTotalOrder, tied_itself, tied_back, AllLarger, IsAscending, pair_at, below, above, put, without, within, cut}
+use Rattle.tree_model.proofs.Common.{AllByRecursion, Bound, IsAbsent, IsTotalOrder, tied_itself, AllLarger, IsAscending, pair_at, below, above, put, without, within, cut}
 use Rattle.std.proofs.lemmas.Option.{none-some}
 use Rattle.std.proofs.lemmas.List.Folds.{find-append}
-use Rattle.tree_model.proofs.Order.{greater_from_less, alike_after}
+use Rattle.tree_model.proofs.Order.{greater_from_less}
 use Rattle.tree_model.proofs.Lists.{all_map, filter_all, filter_none, find_none, find-filter}
 
 -- an answer that a test takes for equal is Equal
@@ -28,8 +28,7 @@ module _ {K V : Type 0} {cmp : K → K → Ordering} (o : IsTotalOrder cmp) (key
 
   -- a pair with the key is within the bounds exactly if the key is
   pub same_within : (low high : Bound K) (pair : K × V) → is_eq (cmp pair.0 key) ≡ true → within cmp low high pair.0 ≡ within cmp low high key
-  same_within low high pair h =
-      let same = λ (b : K). alike_after o key pair.0 b (cmp b key) (tied_back o pair.0 key (equal_from_test _ h)) refl in grind (arith, as_key pair, same)
+  same_within low high pair h = grind arith
 
   -- a key is in what is cut exactly where it was in the list and isn't within the bounds
   pub pair_at-cut : (l : List (K × V)) (low high : Bound K) → pair_at cmp (cut cmp l low high) key ≡ (if within cmp low high key then None else pair_at cmp l key)
@@ -42,11 +41,7 @@ absent_beyond cmp l key smaller = find_none (λ p. is_eq (cmp p.0 key)) l (all_m
 
 -- and its pair is put at the end
 pub put_beyond : {K V : Type 0} (cmp : K → K → Ordering) (l : List (K × V)) (key : K) (val : V) → AllByRecursion (λ p. cmp p.0 key ≡ Less) l → put cmp l key val ≡ l ++ (key, val) ∷ []
-put_beyond cmp l key val smaller =
-    rw (
-      filter_all (λ p. is_lt (cmp p.0 key)) l (all_map (λ p less. ap is_lt less) l smaller),
-      filter_none (λ p. is_gt (cmp p.0 key)) l (all_map (λ p less. ap is_gt less) l smaller),
-    ) refl
+put_beyond cmp l key val smaller = grind (arith, all_map, filter_all, filter_none)
 
 module _ {K V : Type 0} {cmp : K → K → Ordering} (o : IsTotalOrder cmp) where
   -- no key is found below all

@@ -1,6 +1,6 @@
 -- A tree without leaves, and one with a single leaf.
-use Rattle.std.proofs.Common.{◌≡◌, ◌≢◌, ℕ, zero, suc, ◌<◌, ◌≤◌, List, [], ◌∷◌, length, length-append, Option, Some, None, IsSome, inl, inr, refl, ap, arith, append-nil, slice_index_or, Ordering}
-use Rattle.tree_node.proofs.Common.{AreParted, HasKind, IsLen, IsRetiredNode, IsTree, LeafOf, NodeOf, Slab, Stands, TreeArenas, flat_map-append, get, in_order, keyed, last_free, leaves_at, leaves_under, no_children, node_made, nodes_at, none_here, one_here, times, times-cons, times-nil, unbounded, uses, uses_none, uses_some, nat_tests, IsEmpty, HasNoOther, HasOnly, Root}
+use Rattle.std.proofs.Common.{◌≡◌, ◌≢◌, ℕ, zero, suc, ◌<◌, ◌≤◌, List, [], ◌∷◌, length, length-append, Option, Some, None, IsSome, inl, refl, ap, arith, append-nil, slice_index_or, Ordering}
+use Rattle.tree_node.proofs.Common.{AreParted, HasKind, IsLen, IsRetiredNode, IsTree, LeafOf, NodeOf, Slab, Stands, TreeArenas, flat_map-append, get, in_order, keyed, last_free, leaves_at, leaves_under, no_children, node_made, none_here, one_here, times, times-cons, times-nil, unbounded, uses, uses_none, uses_some, nat_tests, IsEmpty, HasNoOther, HasOnly, Root}
 
 -- a number that isn't in use
 free_number : {T : Type 0} (arena : Slab T) (n : ℕ) → uses arena n ≡ 0 → get arena n ≡ None
@@ -14,9 +14,7 @@ module _ {K V : Type 0} {LEN : ℕ} (cmp : K → K → Ordering) (a : TreeArenas
   -- a part that stands has a leaf
   pub has_leaf : (level : ℕ) (low : Option K) (id : ℕ) (high : Option K) → Stands cmp level a low id high → 0 < length (leaves_at level a.nodes id)
   has_leaf zero low id high s = omega arith
-  has_leaf (suc level) low id high s =
-      let lower = has_leaf level None s.last None (last_free cmp level a low id high s) in
-      rw (s.here, s.last_is) (simp (flat_map-append, length-append, append-nil) (omega (arith, lower)))
+  has_leaf (suc level) low id high s = grind (arith, nat_tests, flat_map-append, append-nil, last_free, length-append, has_leaf level None s.last None (last_free cmp level a low id high s))
 
 module _ {K V : Type 0} {LEN : ℕ} {cmp : K → K → Ordering} (a : TreeArenas K V LEN) where
   -- a tree without leaves has no number in use but that of a retired leaf node
@@ -27,21 +25,10 @@ module _ {K V : Type 0} {LEN : ℕ} {cmp : K → K → Ordering} (a : TreeArenas
   bare_nodes n tree = free_number a.nodes n (omega (arith, tree.nodes_once n, times-nil n))
 
   retired_top : (root : Root) → IsTree cmp a (Some root) → leaves_at root.level a.nodes root.id ≡ [] → (root.level ≡ 1) × IsRetiredNode (get a.nodes root.id)
-  retired_top root tree bare = elim tree.top.1 [
-    | inl s ↦ absurd (omega (arith, has_leaf cmp a root.level None root.id None s, ap length bare))
-    | inr retired ↦ (retired.0, retired.1)
-  ]
+  retired_top root tree bare = grind (arith, nat_tests, has_leaf)
 
   pub no_other : (root : Root) → IsTree cmp a (Some root) → leaves_at root.level a.nodes root.id ≡ [] → HasNoOther a root.id
-  no_other root tree bare =
-      let top = retired_top root tree bare in
-      let none = no_children (get a.nodes root.id) top.1 in
-      let alone : nodes_at root.level a.nodes root.id ≡ root.id ∷ [] = rw (top.0, none.1) refl in
-      record {
-        here = none.0;
-        nodes = λ n differs. free_number a.nodes n (omega (arith, tree.nodes_once n, ap (times n) alone, times-cons n root.id [], times-nil n, none_here n root.id differs));
-        leaves = bare_leaves (Some root) tree bare;
-      }
+  no_other root tree bare = grind (arith, nat_tests, times-cons, none_here, bare_leaves, no_children, times-nil, retired_top, free_number)
 
 pub some_slots : (len : ℕ) → IsLen len → 1 ≤ len
 some_slots len is_len = omega arith
@@ -63,9 +50,7 @@ module _ {K V : Type 0} {LEN : ℕ} (cmp : K → K → Ordering) (a : TreeArenas
   alone arena only there others n = grind (arith, nat_tests, times-cons n only [], times-nil n, one_here n only, none_here n only, uses_some arena n, uses_none arena n)
 
   stands : Stands cmp 1 a None id None
-  stands =
-      over_one cmp a id node last here kind no_keyed last_is
-      (record { leaf = leaf; here = leaf_here; few = rw array (omega (arith, some)); ascending = rw array (tt, tt); above = rw array (tt, tt); up_to = rw array (tt, tt) })
+  stands = grind (arith, nat_tests)
 
   pub has_only : HasOnly cmp a id key val
   has_only = record {
@@ -81,9 +66,4 @@ module _ {K V : Type 0} {LEN : ℕ} (cmp : K → K → Ordering) (a : TreeArenas
 
 -- arenas without numbers in use hold the tree without a root
 pub empty_tree : {K V : Type 0} {LEN : ℕ} (cmp : K → K → Ordering) (a : TreeArenas K V LEN) → IsEmpty a → IsTree cmp a None
-empty_tree cmp a empty = record {
-  top = tt;
-  nodes_once = λ n. omega (arith, times-nil n, uses_none a.nodes n (ap (λ slots. slice_index_or slots n None) empty.nodes));
-  leaves_once = λ n. omega (arith, times-nil n, uses_none a.leaves n (ap (λ slots. slice_index_or slots n None) empty.leaves));
-  chain = record { once = λ n. omega (arith, times-nil n); linked = tt };
-}
+empty_tree cmp a empty = grind (arith, nat_tests, uses_none, times-nil, slice_index_or)

@@ -1,24 +1,15 @@
 -- Leaves that stand apart from a part: none of its leaves, nor beside one.
-use Rattle.std.proofs.Common.{◌≡◌, ◌≢◌, ℕ, ◌≤◌, List, [], ◌∷◌, ◌++◌, Option, Some, None, IsSome, refl, ◌∙◌, arith}
-use Rattle.tree_node.specs.Arenas.{IsChain, LeafOf, Slab, get, times}
-use Rattle.tree_leaf.specs.Chain.{first_or, last_or, AreLinked}
-use Rattle.tree_leaf.proofs.Chains.{linked_right, neighbours}
-use Rattle.tree_node.specs.Parts.{LeadsOutside, StandsApart}
+use Rattle.std.proofs.Common.{◌≡◌, ◌≢◌, ℕ, ◌≤◌, List, [], ◌∷◌, ◌++◌, Option, Some, None, IsSome, ◌∙◌, arith}
+use Rattle.tree_node.proofs.Common.{IsChain, LeafOf, Slab, get, times, first_or, last_or, AreLinked, linked_right, neighbours, LeadsOutside, StandsApart}
 
 module _ {K V : Type 0} {LEN : ℕ} where
   -- where a leaf outside these stays and is outside those, so is what leads to it
   module _ (a b : Slab (LeafOf K V LEN)) (xs ys : List ℕ) (stays : (m : ℕ) → IsSome (get a m) → times m xs ≡ 0 → IsSome (get b m) × (times m ys ≡ 0)) where
     leads_after : (link : Option ℕ) → LeadsOutside a xs link → LeadsOutside b ys link
-    leads_after None out = tt
-    leads_after (Some m) out = stays m out.0 out.1
+    leads_after link out = grind arith
 
     pub apart_after : (n : ℕ) (leaf : LeafOf K V LEN) → get b n ≡ Some leaf → StandsApart a xs n leaf → StandsApart b ys n leaf
-    apart_after n leaf here apart = record {
-      here = here;
-      outside = (stays n (rw apart.here refl) apart.outside).1;
-      prev = leads_after leaf.prev apart.prev;
-      next = leads_after leaf.next apart.next;
-    }
+    apart_after n leaf here apart = grind arith
 
   -- fewer leaves are left to be apart from
   pub apart_from_fewer : (leaves : Slab (LeafOf K V LEN)) (xs ys : List ℕ) → ((m : ℕ) → times m xs ≡ 0 → times m ys ≡ 0) → (n : ℕ) (leaf : LeafOf K V LEN) → StandsApart leaves xs n leaf → StandsApart leaves ys n leaf
@@ -33,8 +24,7 @@ module _ {K V : Type 0} {LEN : ℕ} where
 
     -- and the first one behind it leads back
     leads_back : (x : ℕ) (back : List ℕ) → AreLinked leaves (Some x) back None → first_or back None ≡ Some n → leaf.prev ≡ Some x
-    leads_back x [] linked is = absurd (cc)
-    leads_back x (y ∷ back) linked is = let same : y ≡ n = cc in (rw (same, here) at linked.0).0
+    leads_back x back linked is = grind arith
 
     module _ (front : List ℕ) (x : ℕ) (back : List ℕ) (chain : IsChain leaves (front ++ x ∷ back)) (at_x : LeafOf K V LEN) (x_here : get leaves x ≡ Some at_x)
         (ids : List ℕ) (inside : 1 ≤ times x ids) (apart : StandsApart leaves ids n leaf) where
@@ -46,7 +36,4 @@ module _ {K V : Type 0} {LEN : ℕ} where
           omega (arith, inside, out.1)
 
       pub not_behind : at_x.next ≢ Some n
-      not_behind is =
-          let leads : leaf.prev ≡ Some x = leads_back x back (linked_right leaves None front (x ∷ back) None chain.linked).1 ((neighbours leaves front x back chain at_x x_here).1 ∙ is) in
-          let out = rw leads at apart.prev in
-          omega (arith, inside, out.1)
+      not_behind = grind (arith, linked_right, leads_back)

@@ -1,8 +1,6 @@
 -- A key between the pairs before it and the pairs behind it.
 use Rattle.std.proofs.Common.{◌≡◌, List, ◌++◌, ◌∙◌, ap, append_assoc, Ordering, Less, is_eq, is_gt, is_lt, append-nil}
-use Rattle.tree_model.proofs.Common.{AllByRecursion, IsTotalOrder, filter-append, AllLarger, above, below, pair_at, put, without}
-use Rattle.tree_array.proofs.Common.{all_map, filter_all, filter_none}
-use Rattle.tree_model.proofs.Ascending.{all_above}
+use Rattle.tree_node.proofs.Words.{AllByRecursion, IsTotalOrder, filter-append, AllLarger, above, below, pair_at, put, without, all_map, filter_all, filter_none, all_above}
 use Rattle.tree_model.proofs.Lists.{find_after, find_before, find_none}
 use Rattle.tree_model.proofs.LookUps.{none_larger}
 

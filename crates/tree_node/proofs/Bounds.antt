@@ -1,8 +1,7 @@
 -- How many pairs stand under a number at most.
 use Rattle.std.proofs.Common.{ℕ, zero, suc, ◌+◌, ◌*◌, ◌^◌, ◌≤◌, List, [], ◌∷◌, length, length-append, Option, None, arith, mul-suc, flat_map, append-nil, Ordering, mul-add}
-use Rattle.tree_node.proofs.Common.{AllByRecursion, IsPart, Stands, TreeArenas, children_of, flat_map-append, last_free, leaves_at, length-map, nodes_at, parted_all, walk, walk-children, slab_len}
+use Rattle.tree_node.proofs.Common.{AllByRecursion, IsPart, Stands, TreeArenas, children_of, flat_map-append, last_free, leaves_at, length-map, nodes_at, parted_all, walk, walk-children, slab_len, once_fits}
 use Rattle.std.proofs.Math.Nat.{mul-le-mul_left, pow-suc, pow-zero}
-use Rattle.tree_leaf.proofs.Pigeonhole.{once_fits}
 
 -- lists of a bounded length, one after another
 length-flat_map : {X Y : Type 0} (f : X → List Y) (most : ℕ) (xs : List X) → AllByRecursion (λ x. length (f x) ≤ most) xs → length (flat_map f xs) ≤ most * length xs
@@ -37,9 +36,7 @@ module _ {K V : Type 0} {LEN : ℕ} (cmp : K → K → Ordering) (a : TreeArenas
   -- a part has a node at each level
   level_few : (level : ℕ) (low : Option K) (id : ℕ) (high : Option K) → Stands cmp level a low id high → level ≤ length (nodes_at level a.nodes id)
   level_few zero low id high s = omega arith
-  level_few (suc level) low id high s =
-      let lower = level_few level None s.last None (last_free cmp level a low id high s) in
-      rw (s.here, s.last_is) (simp (flat_map-append, length-append, append-nil) (omega (arith, lower)))
+  level_few (suc level) low id high s = grind (arith, flat_map-append, append-nil, last_free, length-append, level_few level None s.last None (last_free cmp level a low id high s))
 
   -- a part has no more levels than nodes are in use
   pub part_levels : (level : ℕ) (id : ℕ) → IsPart cmp level a id → level ≤ slab_len a.nodes

@@ -1,11 +1,8 @@
 -- The children of a node that stands or is retired, and the one that a key belongs to.
-use Rattle.std.proofs.Common.{◌≡◌, ℕ, suc, [], map, Option, Some, None, IsSome, inl, inr, refl, append-nil, arith}
-use Rattle.tree_model.proofs.Common.{IsTotalOrder}
-use Rattle.tree_node.specs.Arenas.{AllByRecursion, LeafOf, NodeOf, Ordering, TreeArenas, get}
-use Rattle.tree_node.specs.Tree.{HasChildFor, Stands, StandsOrRetired, children_of, front_at, is_from, keyed, walk}
+use Rattle.std.proofs.Common.{◌≡◌, ℕ, suc, [], map, Option, Some, None, IsSome, refl, append-nil, arith}
+use Rattle.tree_node.proofs.Words.{IsTotalOrder, AllByRecursion, LeafOf, NodeOf, Ordering, TreeArenas, get, HasChildFor, Stands, StandsOrRetired, children_of, front_at, is_from, keyed, walk}
 use Rattle.tree_node.proofs.Frames.{parted_all}
 use Rattle.tree_node.proofs.Lists.{all_middle}
-use Rattle.tree_node.proofs.Standing.{no_children}
 use Rattle.tree_node.proofs.Walks.{children_are}
 use Rattle.tree_node.proofs.Widens.{stands_free}
 
@@ -37,13 +34,11 @@ module _ {K V : Type 0} {LEN : ℕ} {cmp : K → K → Ordering} (o : IsTotalOrd
 module _ {K V : Type 0} {LEN : ℕ} {cmp : K → K → Ordering} (level : ℕ) (a : TreeArenas K V LEN) (id : ℕ) where
   -- a node is there
   pub node_there : StandsOrRetired cmp (suc level) a id → IsSome (get a.nodes id)
-  node_there (inl s) = rw s.here refl
-  node_there (inr retired) = (no_children (get a.nodes id) retired).0
+  node_there given = grind arith
 
   -- a node with a child for a key is not retired
   pub stands_over : StandsOrRetired cmp (suc level) a id → (k : K) (child : ℕ) → HasChildFor cmp k (get a.nodes id) child → Stands cmp (suc level) a None id None
-  stands_over (inl s) k child routed = s
-  stands_over (inr retired) k child routed = grind arith
+  stands_over given k child routed = grind arith
 
 module _ {K V : Type 0} {LEN : ℕ} (a : TreeArenas K V LEN) (id : ℕ) where
   -- a leaf that stands is there, and its walk is its entries

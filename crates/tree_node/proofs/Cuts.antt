@@ -1,8 +1,6 @@
 -- A list cut at a place.
 use Rattle.std.proofs.Common.{◌≡◌, ℕ, ◌+◌, List, [], ◌∷◌, ◌++◌, take, drop, slice_get, Some, add-one, sym, ap, ◌∙◌, Ordering, Less, take-append-drop}
-use Rattle.tree_model.proofs.Common.{AllByRecursion, IsAscending}
-use Rattle.std.proofs.lemmas.List.{drop_more}
-use Rattle.std.proofs.lemmas.Option.{get_or_from_slice_get, slice_get_within}
+use Rattle.tree_node.proofs.Words.{AllByRecursion, IsAscending, drop_more, get_or_from_slice_get, slice_get_within}
 use Rattle.tree_array.proofs.Dealt.{one_more}
 
 module _ {X : Type 0} where

@@ -1,7 +1,6 @@
 -- The way down from a node by the unbounded children: its nodes are different ones, one at each level.
-use Rattle.std.proofs.Common.{◌≡◌, ℕ, zero, suc, ◌+◌, ◌<◌, ◌≤◌, List, [], ◌∷◌, length, Option, Some, None, IsSome, unwrap_or, ◌⊎◌, inl, inr, refl, ap, arith, Ordering}
-use Rattle.tree_node.proofs.Common.{IsRetired, NodeOf, Slab, Stands, StandsOrRetired, TreeArenas, cases_eq, get, last_free, none_here, times, times-cons, times-nil, unbounded, uses, uses_some, slab_len, nat_tests}
-use Rattle.tree_leaf.proofs.Pigeonhole.{once_fits}
+use Rattle.std.proofs.Common.{◌≡◌, ℕ, zero, suc, ◌+◌, ◌<◌, ◌≤◌, List, [], ◌∷◌, length, Option, Some, None, unwrap_or, inl, inr, refl, ap, arith, Ordering}
+use Rattle.tree_node.proofs.Common.{IsRetired, NodeOf, Slab, Stands, StandsOrRetired, TreeArenas, cases_eq, get, last_free, none_here, times, times-cons, times-nil, unbounded, uses, uses_some, slab_len, nat_tests, once_fits}
 use Rattle.tree_node.specs.Depth.{last_node}
 use Rattle.tree_node.proofs.Levels.{stands_not_retired}
 
@@ -51,48 +50,20 @@ module _ {K V : Type 0} {LEN : ℕ} (cmp : K → K → Ordering) (a : TreeArenas
       once : (n : ℕ) → times n (down level a.nodes id) ≤ uses a.nodes n
       once n = let found = on_the_way level id s n in let used = λ (inside : 1 ≤ times n (down level a.nodes id)). (found.1 inside).2.here in grind (arith, found.0, used, uses_some a.nodes n)
 
-  -- so many levels above the leaf nodes, the way goes on to a node that stands below; at a leaf node it ends
-  abbrev pub Below : ℕ → Option ℕ → Type 0
-  Below zero below = below ≡ None
-  Below (suc left) below = (at : ℕ) × (below ≡ Some at) × Stands cmp (suc left) a None at None
-
-  below_of : (level : ℕ) (id : ℕ) (node : NodeOf K LEN) → Stands cmp (suc level) a None id None → get a.nodes id ≡ Some node → Below level (last_node node)
-  below_of zero id node s here = grind arith
-  below_of (suc level) id node s here = (s.last, grind arith, last_free cmp (suc level) a None id None s)
-
-  -- So many levels are counted on the way down, and as many as are missing are left. A retired node has no way down.
+  -- So many levels are counted on the way down, which goes on to a node that stands below, or ends. A retired node has no way down.
   abbrev pub Counts : (level id count : ℕ) → Option ℕ → Type 0
-  Counts level id count below =
-      (Stands cmp level a None id None × (left : ℕ) × (count + left ≡ level) × Below left below) ⊎ (IsRetired level a id × (count ≡ 1) × (below ≡ None))
+  Counts level id count None = (Stands cmp level a None id None → count ≡ level) × (IsRetired level a id → count ≡ 1)
+  Counts level id count (Some at) = Stands cmp level a None id None × (left : ℕ) × (count + suc left ≡ level) × Stands cmp (suc left) a None at None × (level ≤ slab_len a.nodes)
 
-  pub starts : (level id : ℕ) → 0 < level → StandsOrRetired cmp level a id → (node : NodeOf K LEN) → get a.nodes id ≡ Some node
-      → Counts level id 1 (last_node node)
+  -- with the node that the way has come to
+  pub counts_on : (level id count left at : ℕ) → 0 < level → Stands cmp level a None id None → count + left ≡ level → Stands cmp (suc left) a None at None
+      → (node : NodeOf K LEN) → get a.nodes at ≡ Some node → Counts level id count (last_node node)
+  counts_on level id count zero at inner s sum t node here = let not = stands_not_retired cmp a id level inner s in grind arith
+  counts_on level id count (suc left) at inner s sum t node here =
+      let is : last_node node ≡ Some t.last = grind arith in
+      rw is (s, left, sum, last_free cmp (suc left) a None at None t, level_fits level id s)
+
+  pub starts : (level id : ℕ) → 0 < level → StandsOrRetired cmp level a id → (node : NodeOf K LEN) → get a.nodes id ≡ Some node → Counts level id 1 (last_node node)
   starts zero id inner given node here = absurd (omega (arith, inner))
-  starts (suc level) id inner (inl s) node here = inl (s, level, omega arith, below_of level id node s here)
-  starts (suc level) id inner (inr retired) node here = inr (retired, refl, grind arith)
-
-  -- where the way goes on, a node is there, and one level more is counted
-  pub record Step (level id count at : ℕ) : Type 0 where
-    pub there : IsSome (get a.nodes at)
-    pub lower : count < level
-    pub fits : level ≤ slab_len a.nodes
-    pub goes_on : (node : NodeOf K LEN) → get a.nodes at ≡ Some node → Counts level id (count + 1) (last_node node)
-
-  pub step : (level id count : ℕ) (below : Option ℕ) (at : ℕ) → below ≡ Some at → Counts level id count below → Step level id count at
-  step level id count below at is (inr ended) = absurd (cc (is, ended.2))
-  step level id count below at is (inl (s, zero, sum, way)) = absurd (cc)
-  step level id count below at is (inl (s, suc left, sum, way)) =
-      let this : way.0 ≡ at = cc (way.1, is) in
-      let t : Stands cmp (suc left) a None at None = rw this at way.2 in
-      record {
-        there = rw t.here refl;
-        lower = omega (arith, sum);
-        fits = level_fits level id s;
-        goes_on = λ node here. inl (s, left, omega (arith, sum), below_of left at node t here);
-      }
-
-  pub counted : (level id : ℕ) → 0 < level → (count : ℕ) (below : Option ℕ) → below ≡ None → Counts level id count below
-      → (Stands cmp level a None id None → count ≡ level) × (IsRetired level a id → count ≡ 1)
-  counted level id inner count below is (inr ended) = (λ s. absurd (stands_not_retired cmp a id level inner s ended.0), λ retired. ended.1)
-  counted level id inner count below is (inl (s, zero, sum, way)) = (λ t. omega (arith, sum), λ retired. absurd (stands_not_retired cmp a id level inner s retired))
-  counted level id inner count below is (inl (s, suc left, sum, way)) = absurd (cc (way.1, is))
+  starts (suc level) id inner (inl s) node here = counts_on (suc level) id 1 level id inner s (omega arith) s node here
+  starts (suc level) id inner (inr retired) node here = let not = λ (s : Stands cmp (suc level) a None id None). stands_not_retired cmp a id (suc level) inner s retired in grind arith

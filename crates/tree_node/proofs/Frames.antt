@@ -1,9 +1,6 @@
 -- What stays of a part where what it reaches stays.
-use Rattle.std.proofs.Common.{◌≡◌, ℕ, zero, suc, ◌≤◌, List, [], ◌∷◌, ◌++◌, map, Option, Some, refl, ap, arith, flat_map, append-nil}
-use Rattle.tree_array.proofs.Common.{all_map}
-use Rattle.tree_leaf.proofs.Counts.{one_here, times-append, times-cons}
-use Rattle.tree_node.specs.Arenas.{AllByRecursion, NodeOf, Ordering, SameArray, Slab, TreeArenas, get, times}
-use Rattle.tree_node.specs.Tree.{AreParted, Stands, children_of, leaves_at, leaves_of, nodes_at, nodes_of, walk}
+use Rattle.std.proofs.Common.{◌≡◌, ℕ, zero, suc, ◌≤◌, List, [], ◌∷◌, ◌++◌, map, Option, Some, refl, arith, flat_map, append-nil}
+use Rattle.tree_node.proofs.Words.{all_map, one_here, times-append, times-cons, AllByRecursion, NodeOf, Ordering, SameArray, Slab, TreeArenas, get, times, AreParted, Stands, children_of, leaves_at, leaves_of, nodes_at, nodes_of, walk}
 use Rattle.tree_node.proofs.Lists.{flat_map_same}
 use Rattle.tree_node.proofs.Standing.{node_kept}
 
@@ -20,10 +17,7 @@ each_of (x ∷ xs) h = (h x (head_here x xs), each_of xs (λ n inside. h n (omeg
 pub each_part : (f : ℕ → List ℕ) (P : ℕ → Type 0) (xs : List ℕ) → ((n : ℕ) → 1 ≤ times n (flat_map f xs) → P n)
     → AllByRecursion (λ x. (n : ℕ) → 1 ≤ times n (f x) → P n) xs
 each_part f P [] h = tt
-each_part f P (x ∷ xs) h = (
-  λ n inside. h n (omega (arith, times-append n (f x) (flat_map f xs))),
-  each_part f P xs (λ n inside. h n (omega (arith, times-append n (f x) (flat_map f xs)))),
-)
+each_part f P (x ∷ xs) h = grind (arith, times-append, each_part f P xs)
 
 pub all_both : {X : Type 0} (P Q : X → Type 0) (xs : List X) → AllByRecursion P xs → AllByRecursion Q xs → AllByRecursion (λ x. P x × Q x) xs
 all_both P Q [] p q = tt
@@ -47,8 +41,7 @@ pub parted_map : {K : Type 0} (cmp : K → K → Ordering) (A B : Option K → �
     → AllByRecursion (λ x. (low high : Option K) → A low x high → B low x high) (map (λ c. c.1) pairs ++ last ∷ [])
     → AreParted cmp A low pairs last high → AreParted cmp B low pairs last high
 parted_map cmp A B low [] last high each parted = each.0 low high parted
-parted_map cmp A B low (c ∷ rest) last high each parted =
-    (each.0 low (Some c.0) parted.0, parted.1, parted.2, parted_map cmp A B (Some c.0) rest last high each.1 parted.3)
+parted_map cmp A B low (c ∷ rest) last high each parted = grind (arith, parted_map cmp A B (Some c.0) rest last high each.1 parted.3)
 
 module _ {K V : Type 0} {LEN : ℕ} where
   -- what the part reaches is the same in both arenas, but for links
@@ -74,18 +67,14 @@ module _ {K V : Type 0} {LEN : ℕ} where
 
   pub same_leaves : (level : ℕ) (a b : TreeArenas K V LEN) (id : ℕ) → Agrees level a b id → leaves_at level b.nodes id ≡ leaves_at level a.nodes id
   same_leaves zero a b id same = refl
-  same_leaves (suc level) a b id same =
-      rw (agrees_here level a b id same) (flat_map_same _ _ _ (all_map (λ x below. same_leaves level a b x below) _ (agrees_below level a b id same)))
+  same_leaves (suc level) a b id same = grind (arith, all_map, agrees_here, agrees_below, flat_map_same, same_leaves level a b)
 
   pub same_nodes : (level : ℕ) (a b : TreeArenas K V LEN) (id : ℕ) → Agrees level a b id → nodes_at level b.nodes id ≡ nodes_at level a.nodes id
   same_nodes zero a b id same = refl
-  same_nodes (suc level) a b id same =
-      rw (agrees_here level a b id same) (ap (λ xs. id ∷ xs) (flat_map_same _ _ _ (all_map (λ x below. same_nodes level a b x below) _ (agrees_below level a b id same))))
+  same_nodes (suc level) a b id same = grind (arith, flat_map_same, agrees_below, all_map, agrees_here, same_nodes level a b)
 
   pub same_walk : (level : ℕ) (a b : TreeArenas K V LEN) (id : ℕ) → Agrees level a b id → walk level b id ≡ walk level a id
-  same_walk level a b id same =
-      rw (same_leaves level a b id same)
-      (flat_map_same _ _ _ (each_of (leaves_at level a.nodes id) (λ n inside. let here = same.leaves n inside in grind arith)))
+  same_walk level a b id same = grind (arith, each_of, flat_map_same, same_leaves)
 
   -- several parts that agree have the same leaves, nodes and walks
   pub record Stay (level : ℕ) (a b : TreeArenas K V LEN) (xs : List ℕ) : Type 0 where
@@ -94,21 +83,12 @@ module _ {K V : Type 0} {LEN : ℕ} where
     pub walks : flat_map (walk level b) xs ≡ flat_map (walk level a) xs
 
   pub stay : (level : ℕ) (a b : TreeArenas K V LEN) (xs : List ℕ) → AllByRecursion (λ x. Agrees level a b x) xs → Stay level a b xs
-  stay level a b xs same = record {
-    leaves = flat_map_same _ _ xs (all_map (λ x. same_leaves level a b x) _ same);
-    nodes = flat_map_same _ _ xs (all_map (λ x. same_nodes level a b x) _ same);
-    walks = flat_map_same _ _ xs (all_map (λ x. same_walk level a b x) _ same);
-  }
+  stay level a b xs same = grind (arith, all_map, same_nodes, same_walk, same_leaves, flat_map_same)
 
 module _ {K V : Type 0} {LEN : ℕ} (cmp : K → K → Ordering) where
   pub same_stands : (level : ℕ) (a b : TreeArenas K V LEN) (id : ℕ) → Agrees level a b id → (low high : Option K) → Stands cmp level a low id high → Stands cmp level b low id high
-  same_stands zero a b id same low high s =
-      let there = rw s.here at (same.leaves id (head_here id [])) in
-      record { leaf = there.0; here = there.1; few = rw there.2 s.few; ascending = rw there.2 s.ascending; above = rw there.2 s.above; up_to = rw there.2 s.up_to }
-  same_stands (suc level) a b id same low high s =
-      let each = all_map (λ x below. same_stands level a b x below) _ (agrees_below level a b id same) in
-      node_kept s (agrees_here level a b id same)
-      (parted_map cmp (Stands cmp level a) (Stands cmp level b) low _ _ high (rw (s.here, s.last_is) at each) s.parted)
+  same_stands zero a b id same low high s = grind (arith, parted_map, agrees_below, all_map, node_kept, agrees_here, head_here)
+  same_stands (suc level) a b id same low high s = grind (arith, parted_map, agrees_below, all_map, node_kept, agrees_here, head_here, same_stands level a b)
 
   pub stands_each : (level : ℕ) (a b : TreeArenas K V LEN) (xs : List ℕ) → AllByRecursion (λ x. Agrees level a b x) xs
       → AllByRecursion (λ x. (low high : Option K) → Stands cmp level a low x high → Stands cmp level b low x high) xs

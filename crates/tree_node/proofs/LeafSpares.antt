@@ -35,5 +35,4 @@ module _ {K V : Type 0} {LEN : ℕ} where
 
   -- and one that was built anew takes as many
   pub spare_anew : (a : TreeArenas K V LEN) (id : ℕ) (leaf : LeafOf K V LEN) (entries : List (K × V)) → get a.leaves id ≡ Some leaf → leaf.array ≡ in_order entries → LEN - length entries ≤ spare 0 a id
-  spare_anew a id leaf entries here anew =
-      rw (here, anew, length-map entries Some) (omega (arith, spare_at_least LEN (length entries) (LEN - length entries)))
+  spare_anew a id leaf entries here anew = grind (arith, nat_tests, length-map, spare_at_least)

@@ -1,5 +1,5 @@
 -- What the kind of a node says of its level, what a retired one lacks, and that all children of another stand.
-use Rattle.std.proofs.Common.{◌≡◌, ℕ, zero, suc, ◌<◌, [], Some, None, IsSome, inl, inr, refl, arith, Ordering, ◌-◌, List, sub-one}
+use Rattle.std.proofs.Common.{◌≡◌, ℕ, zero, suc, ◌<◌, [], Some, None, IsSome, inl, refl, arith, Ordering, ◌-◌, List, sub-one}
 use Rattle.tree_node.proofs.Common.{HasKind, IsRetired, IsRetiredNode, NodeOf, Stands, StandsOrRetired, TreeArenas, child_of, get, keyed, node_is, node_there, unbounded, walk, AllByRecursion, BranchOf, Internal, Leaf, all_map, all_stand, in_turn, leaf_there, leaves_at, leaves_of}
 
 module _ {K V : Type 0} {LEN : ℕ} (cmp : K → K → Ordering) (a : TreeArenas K V LEN) (id : ℕ) where
@@ -13,8 +13,7 @@ module _ {K V : Type 0} {LEN : ℕ} (cmp : K → K → Ordering) (a : TreeArenas
 
   -- it is retired where it has no child
   pub retired_at : (level : ℕ) → 0 < level → (node : NodeOf K LEN) → get a.nodes id ≡ Some node → (IsRetiredNode (Some node) → IsRetired level a id) × (IsRetired level a id → IsRetiredNode (Some node))
-  retired_at zero inner node here = absurd (omega (arith, inner))
-  retired_at (suc level) inner node here = rw here (λ retired. retired, λ retired. retired)
+  retired_at level inner node here = grind arith
 
   -- what stands isn't retired
   pub stands_not_retired : (level : ℕ) → 0 < level → Stands cmp level a None id None → IsRetired level a id → ⊥
@@ -22,9 +21,7 @@ module _ {K V : Type 0} {LEN : ℕ} (cmp : K → K → Ordering) (a : TreeArenas
 
   -- and has a child for each key
   pub childless : (level : ℕ) → 0 < level → StandsOrRetired cmp level a id → (k : K) (node : NodeOf K LEN) → get a.nodes id ≡ Some node → child_of cmp k (keyed node).entries (unbounded node) ≡ None → IsRetired level a id
-  childless level inner (inr retired) k node here none = retired
-  childless zero inner (inl s) k node here none = absurd (omega (arith, inner))
-  childless (suc level) inner (inl s) k node here none = grind (arith, s.here, s.last_is)
+  childless level inner given k node here none = grind arith
 
   -- all children of a node stand
   module _ (level : ℕ) (node : NodeOf K LEN) (here : get a.nodes id ≡ Some node) where
@@ -37,8 +34,7 @@ module _ {K V : Type 0} {LEN : ℕ} (cmp : K → K → Ordering) (a : TreeArenas
 
   -- and one that isn't retired stands
   pub stands_unless : (level : ℕ) → 0 < level → StandsOrRetired cmp level a id → (node : NodeOf K LEN) → get a.nodes id ≡ Some node → (IsRetiredNode (Some node) → ⊥) → Stands cmp level a None id None
-  stands_unless level inner (inl s) node here not = s
-  stands_unless level inner (inr retired) node here not = absurd (not ((retired_at level inner node here).1 retired))
+  stands_unless level inner given node here not = grind arith
 
   -- so does one with an unbounded child
   stands_over_last : (level : ℕ) → 0 < level → StandsOrRetired cmp level a id → (node : NodeOf K LEN) → get a.nodes id ≡ Some node

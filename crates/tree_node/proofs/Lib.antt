@@ -25,3 +25,4 @@ pub mod Unchanged
 pub mod Walks
 pub mod Whole
 pub mod Widens
+pub mod Words

@@ -10,8 +10,7 @@ grouped_as a b c d e = simp append_assoc
 
 -- a part has each of its leaves once
 pub leaves_once_in : {K V : Type 0} {LEN : ℕ} {cmp : K → K → Ordering} (level : ℕ) (a : TreeArenas K V LEN) (id : ℕ) → IsPart cmp level a id → (n : ℕ) → times n (leaves_at level a.nodes id) ≤ uses a.leaves n
-leaves_once_in level a id part n =
-    omega (arith, part.chain.once n, times-append n part.front (leaves_at level a.nodes id ++ part.back), times-append n (leaves_at level a.nodes id) part.back)
+leaves_once_in level a id part n = grind (arith, nat_tests, times-append)
 
 -- how often a number stands in three lists
 abbrev three : ℕ → List ℕ → List ℕ → List ℕ → ℕ

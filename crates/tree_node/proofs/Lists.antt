@@ -1,7 +1,6 @@
 -- Lists of lists.
 use Rattle.std.proofs.Common.{◌≡◌, ℕ, ◌<◌, ◌≤◌, List, [], ◌∷◌, ◌++◌, Option, Some, length, slice_get, inl, inr, refl, ◌∙◌, flat_map, arith}
-use Rattle.std.proofs.lemmas.Option.{slice_get_cases}
-use Rattle.tree_model.proofs.Common.{AllByRecursion, flat_map-append}
+use Rattle.tree_node.proofs.Words.{slice_get_cases, AllByRecursion, flat_map-append}
 
 module _ {X : Type 0} where
   pub all_yes : {P : X → Type 0} → ((x : X) → P x) → (xs : List X) → AllByRecursion P xs

@@ -1,5 +1,5 @@
 -- What the kind of a node says of its level, and what stands at a level that a program counts.
-use Rattle.std.proofs.Common.{◌≡◌, ◌⊎◌, ℕ, zero, suc, ◌<◌, None, Some, IsSome, refl, arith, inl, inr, Ordering}
+use Rattle.std.proofs.Common.{◌≡◌, ◌⊎◌, ℕ, zero, suc, ◌<◌, None, Some, IsSome, refl, arith, Ordering}
 use Rattle.tree_node.proofs.Common.{BranchOf, HasChildFor, Internal, IsPart, IsRetired, IsRetiredNode, IsTotalOrder, Leaf, NodeOf, Stands, TreeArenas, child_at, children_of, get, head_here, is_from, keyed, times, times-append}
 use Rattle.tree_node.proofs.ChildChanges.{back, was}
 use Rattle.tree_node.proofs.Levels.{node_at, retired_at, stands_not_retired}
@@ -28,8 +28,7 @@ module _ {K V : Type 0} {LEN : ℕ} {cmp : K → K → Ordering} where
 
   -- a node is there
   pub node_used : (level : ℕ) → 0 < level → (a : TreeArenas K V LEN) (id : ℕ) → IsPart cmp level a id ⊎ IsRetired level a id → IsSome (get a.nodes id)
-  node_used level deep a id (inl part) = node_at cmp a id level deep (inl part.stands)
-  node_used level deep a id (inr retired) = node_at cmp a id level deep (inr retired)
+  node_used level deep a id given = grind (arith, node_at)
 
   -- a part that stands isn't retired
   pub not_retired : (level : ℕ) → 0 < level → (a : TreeArenas K V LEN) (id : ℕ) → IsPart cmp level a id → (node : NodeOf K LEN) → get a.nodes id ≡ Some node → IsRetiredNode (Some node) → ⊥

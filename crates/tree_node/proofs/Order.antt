@@ -1,7 +1,6 @@
 -- What a total order says of keys up to one another.
 use Rattle.std.proofs.Common.{◌≡◌, true, false, arith, refl, Ordering, Less, is_le, is_ge}
-use Rattle.tree_model.proofs.Common.{IsTotalOrder}
-use Rattle.tree_array.proofs.Common.{alike, alike_after}
+use Rattle.tree_node.proofs.Words.{IsTotalOrder, alike, alike_after}
 
 pub less_from_no_ge : (c : Ordering) → is_ge c ≡ false → c ≡ Less
 less_from_no_ge c h = grind arith

@@ -1,7 +1,6 @@
 -- A place among the children of a node: the child there is the first keyed one from there on, else the unbounded one.
 use Rattle.std.proofs.Common.{◌≡◌, ℕ, suc, ◌<◌, Bool, true, false, List, [], ◌∷◌, ◌++◌, map, None, Option, Some, refl, sym, ap, ◌∙◌, arith, inl, inr, Ordering, Less}
-use Rattle.tree_node.proofs.Common.{AllByRecursion, AllLarger, AreParted, IsAbove, IsAbsent, IsBelow, IsTotalOrder, IsUpTo, Stands, TreeArenas, all_yes, below_next, cases_Bool, cases_eq, child_at, children_of, is_from, keyed, less_from_test, none_here, parted_map, separators_around, times, times-cons, times-nil, upto_from_test, put}
-use Rattle.tree_node.proofs.Between.{found_between, put_between}
+use Rattle.tree_node.proofs.Common.{AllByRecursion, AllLarger, AreParted, IsAbove, IsAbsent, IsBelow, IsTotalOrder, IsUpTo, Stands, TreeArenas, all_yes, below_next, cases_Bool, cases_eq, child_at, children_of, is_from, keyed, less_from_test, none_here, parted_map, separators_around, times, times-cons, times-nil, upto_from_test, put, found_between, put_between}
 
 module _ {K : Type 0} where
   -- the child at the place, and those behind it
@@ -30,10 +29,7 @@ module _ {K : Type 0} where
 
   -- each child has a place
   pub place_of : (pairs : List (K × ℕ)) (last x : ℕ) → 0 < times x (map (λ c. c.1) pairs ++ last ∷ []) → IsAt pairs last x
-  place_of [] last x inside = elim (cases_eq x last) [
-    | inl same ↦ record { before = []; onward = []; split = refl; child = sym same }
-    | inr differs ↦ absurd (omega (arith, inside, times-cons x last [], times-nil x, none_here x last differs))
-  ]
+  place_of [] last x inside = grind (arith, times-cons, none_here, times-nil, cases_eq)
   place_of (c ∷ rest) last x inside = elim (cases_eq x c.1) [
     | inl same ↦ record { before = []; onward = c ∷ rest; split = refl; child = sym same }
     | inr differs ↦
@@ -41,12 +37,9 @@ module _ {K : Type 0} where
         record { before = c ∷ later.before; onward = later.onward; split = ap (λ xs. c ∷ xs) later.split; child = later.child }
   ]
 
-  onward_children : (onward : List (K × ℕ)) (last : ℕ) → map (λ c. c.1) onward ++ last ∷ [] ≡ first_child onward last ∷ later_children onward last
-  onward_children onward last = grind arith
-
   -- the children are those before the place, the one there, and those behind it
   pub children_at : (before onward : List (K × ℕ)) (last : ℕ) → map (λ c. c.1) (before ++ onward) ++ last ∷ [] ≡ map (λ c. c.1) before ++ (first_child onward last ∷ later_children onward last)
-  children_at [] onward last = onward_children onward last
+  children_at [] onward last = grind arith
   children_at (c ∷ rest) onward last = ap (λ xs. c.1 ∷ xs) (children_at rest onward last)
 
   -- so those of a node that stands
@@ -58,7 +51,7 @@ module _ {K : Type 0} where
   -- and a new one comes before it
   pub children_put : (before onward : List (K × ℕ)) (last : ℕ) (s : K) (y : ℕ)
       → map (λ c. c.1) (before ++ (s, y) ∷ onward) ++ last ∷ [] ≡ map (λ c. c.1) before ++ (y ∷ (first_child onward last ∷ later_children onward last))
-  children_put before onward last s y = children_at before ((s, y) ∷ onward) last ∙ rw (onward_children onward last) refl
+  children_put before onward last s y = children_at before ((s, y) ∷ onward) last ∙ rw (children_at [] onward last) refl
 
   -- then a key belongs to the new one, or to the one that it belonged to
   pub routed_by : (test : K → Bool) (P : ℕ → Type 0) (before onward : List (K × ℕ)) (last : ℕ) (s : K) (y : ℕ) → (test s ≡ true → P y) → P (child_at test (before ++ onward) last)
@@ -114,10 +107,8 @@ module _ {K : Type 0} {cmp : K → K → Ordering} (o : IsTotalOrder cmp) where
         → AllByRecursion (λ x. (low high : Option K) → A low x high → B low x high) (later_children onward last)
         → AreParted cmp B low (before ++ (s, y) ∷ onward) last high
     parted_low B s y low [] [] last high parted above below front lower upper back = (lower, above, below, upper)
-    parted_low B s y low [] (c ∷ rest) last high parted above below front lower upper back =
-        (lower, above, below_next o high s c.0 below parted.2, (upper, below, parted.2, parted_map cmp A B (Some c.0) rest last high back parted.3))
-    parted_low B s y low (c ∷ rest) onward last high parted above below front lower upper back =
-        (front.0 low (Some c.0) parted.0, parted.1, parted.2, parted_low B s y (Some c.0) rest onward last high parted.3 above below front.1 lower upper back)
+    parted_low B s y low [] (c ∷ rest) last high parted above below front lower upper back = grind (arith, parted_map, below_next)
+    parted_low B s y low (c ∷ rest) onward last high parted above below front lower upper back = grind (arith, parted_low B s y (Some c.0) rest onward last high)
 
     -- a separator between the bounds there is above each before it, and below each behind it
     module _ (s : K) (low : Option K) (before onward : List (K × ℕ)) (last : ℕ) (high : Option K) (parted : AreParted cmp A low (before ++ onward) last high)

@@ -1,5 +1,5 @@
 -- The child that a key belongs to is that of the least separator from the key on.
-use Rattle.std.proofs.Common.{◌≡◌, ℕ, List, [], ◌∷◌, ◌++◌, Option, Some, None, MatchOption, refl, sym, ap, ◌∙◌, arith, Ordering, Greater}
+use Rattle.std.proofs.Common.{◌≡◌, ℕ, List, [], ◌∷◌, ◌++◌, Option, Some, None, MatchOption, refl, arith, Ordering, Greater}
 use Rattle.tree_node.proofs.Common.{Arrivals, IsAscending, IsTotalOrder, all_behind, child_of, arrival, greater_from_less, least_from, less_from_greater}
 use Rattle.tree_node.specs.Routing.{IsSlotFor}
 
@@ -16,8 +16,7 @@ module _ {K X : Type 0} (cmp : K → K → Ordering) (k : K) where
   -- the child that was read from where the search of the separators ended
   pub routed_at : (children : Arrivals K X) (last child : X) (slot : Option ℕ)
       → IsSlotFor cmp k children slot → MatchOption slot (child ≡ last) (λ s. (separator : K) × (arrival children.arrivals s ≡ Some (separator, child))) → child_of cmp k children.entries (Some last) ≡ Some child
-  routed_at children last child None past is = routed_past children.entries last past ∙ ap Some (sym is)
-  routed_at children last child (Some s) found read = let same : found.0 ≡ (read.0, child) = cc (found.1, read.1) in cc (routed_to children.entries last found.0 found.2)
+  routed_at children last child slot past is = grind (arith, routed_to, routed_past)
 
 -- a key is larger than each of ascending separators exactly where it is larger than the last
 module _ {K X : Type 0} {cmp : K → K → Ordering} (o : IsTotalOrder cmp) (key : K) where

@@ -25,9 +25,7 @@ least_same most f g (x ∷ xs) same = rw (same.0, least_same most f g xs same.1)
 module _ {K V : Type 0} {LEN : ℕ} where
   -- a part that stays has the same room
   pub same_spare : (level : ℕ) (a b : TreeArenas K V LEN) (id : ℕ) → Agrees level a b id → spare level b id ≡ spare level a id
-  same_spare level a b id same =
-      rw (same_leaves level a b id same)
-      (least_same LEN _ _ _ (each_of (leaves_at level a.nodes id) (λ n inside. let here = same.leaves n inside in grind arith)))
+  same_spare level a b id same = grind (arith, each_of, least_same, same_leaves)
 
   -- the least room of several parts
   abbrev pub spares : ℕ → TreeArenas K V LEN → List ℕ → ℕ
@@ -41,8 +39,7 @@ module _ {K V : Type 0} {LEN : ℕ} where
 
   pub spares_same : (level : ℕ) (a b : TreeArenas K V LEN) (xs : List ℕ) → AllByRecursion (λ x. Agrees level a b x) xs → spares level b xs ≡ spares level a xs
   spares_same level a b [] same = refl
-  spares_same level a b (x ∷ xs) same =
-      omega (arith, spares-cons level a x xs, spares-cons level b x xs, same_spare level a b x same.0, spares_same level a b xs same.1)
+  spares_same level a b (x ∷ xs) same = grind (arith, spares-cons, same_spare, spares_same level a b xs same.1)
 
   -- the room of a node is the least of that of its children
   pub spare_split : (level : ℕ) (a : TreeArenas K V LEN) (id : ℕ) (front ids back : List ℕ) → children_of a.nodes id ≡ front ++ (ids ++ back)

@@ -1,8 +1,6 @@
 -- What stands under a number.
 use Rattle.std.proofs.Common.{◌≡◌, ℕ, suc, ◌≤◌, List, [], length, Option, Some, IsSome, ◌∙◌, arith}
-use Rattle.tree_node.specs.Arenas.{Internal, Leaf, NodeOf, Ordering, Slab, TreeArenas, get}
-use Rattle.tree_node.specs.Tree.{AreParted, HasKind, IsRetiredNode, NodeStands, Stands, keyed, node_children, unbounded}
-use Rattle.tree_node.specs.declared.branch.BranchOf.{BranchOf}
+use Rattle.tree_node.proofs.Words.{Internal, Leaf, NodeOf, Ordering, Slab, TreeArenas, get, AreParted, HasKind, IsRetiredNode, NodeStands, Stands, keyed, node_children, unbounded, BranchOf}
 
 -- the node that stands under a number is the one there
 pub node_is : {K V : Type 0} {LEN : ℕ} {cmp : K → K → Ordering} (level : ℕ) (a : TreeArenas K V LEN) (low : Option K) (id : ℕ) (high : Option K) (s : Stands cmp (suc level) a low id high)
@@ -20,8 +18,7 @@ pub node_made : {K : Type 0} {LEN level : ℕ} {cmp : K → K → Ordering} {Chi
     {nodes : Slab (NodeOf K LEN)} {low high : Option K} {id last : ℕ}
     {node : NodeOf K LEN} {pairs : List (K × ℕ)} → get nodes id ≡ Some node → HasKind level node → unbounded node ≡ Some last → (keyed node).entries ≡ pairs
     → length pairs ≤ LEN → AreParted cmp Child low pairs last high → NodeStands cmp Child level nodes low id high
-node_made {last = last} {node = node} here kind last_is are few parted =
-    record { node = node; here = here; kind = kind; last = last; last_is = last_is; few = rw are few; parted = rw are parted }
+node_made here kind last_is are few parted = grind arith
 
 -- a retired node has no child
 pub no_children : {K : Type 0} {LEN : ℕ} (slot : Option (NodeOf K LEN)) → IsRetiredNode slot → IsSome slot × (node_children slot ≡ [])

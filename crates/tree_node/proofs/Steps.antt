@@ -1,6 +1,6 @@
 -- Two changes of a part, one after the other.
-use Rattle.std.proofs.Common.{◌≡◌, ℕ, List, [], ◌∷◌, None, IsSome, refl, ap, ◌∙◌, arith, Ordering}
-use Rattle.tree_node.proofs.Common.{IsPart, Replaces, Stands, TreeArenas, get, in_use, leaves_of, same_array_refl, single_leaves, single_nodes, times, uses_le_one, uses_some, same_array_trans}
+use Rattle.std.proofs.Common.{◌≡◌, ℕ, List, [], ◌∷◌, None, IsSome, ◌∙◌, arith, Ordering}
+use Rattle.tree_node.proofs.Common.{IsPart, Replaces, Stands, TreeArenas, get, in_use, leaves_of, single_leaves, single_nodes, times, uses_le_one, uses_some, same_array_trans}
 use Rattle.tree_node.proofs.Beside.{apart_after}
 
 module _ {K V : Type 0} {LEN : ℕ} where
@@ -25,22 +25,9 @@ module _ {K V : Type 0} {LEN : ℕ} where
 
   -- a part that doesn't change
   pub replaces_refl : (level : ℕ) (a : TreeArenas K V LEN) (xs : List ℕ) → Replaces level a a xs xs
-  replaces_refl level a xs = record {
-    nodes_kept = λ n used outside. refl;
-    leaves_kept = λ n used outside. same_array_refl (get a.leaves n);
-    links_kept = λ n leaf apart. apart.here;
-    nodes_counted = λ n. refl;
-    leaves_counted = λ n. refl;
-    chained = λ front back chain. chain;
-  }
+  replaces_refl level a xs = grind arith
 
 module _ {K V : Type 0} {LEN : ℕ} (cmp : K → K → Ordering) (level : ℕ) where
   -- what has become of a part is one, if it stands
   pub part_after : (old new : TreeArenas K V LEN) (id : ℕ) → IsPart cmp level old id → Stands cmp level new None id None → Replaces level old new (id ∷ []) (id ∷ []) → IsPart cmp level new id
-  part_after old new id part stands r = record {
-    stands = stands;
-    nodes_once = λ n. omega (arith, part.nodes_once n, r.nodes_counted n, ap (times n) (single_nodes level old.nodes id), ap (times n) (single_nodes level new.nodes id));
-    front = part.front;
-    back = part.back;
-    chain = rw (single_leaves level new.nodes id) at (r.chained part.front part.back (rw (single_leaves level old.nodes id) part.chain));
-  }
+  part_after old new id part stands r = grind (arith, single_leaves, single_nodes)

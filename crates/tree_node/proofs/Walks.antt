@@ -1,11 +1,6 @@
 -- The walk of what stands under a number: its bounds, and where a key is in it.
-use Rattle.std.proofs.Common.{◌≡◌, ℕ, zero, suc, Bool, List, [], ◌∷◌, ◌++◌, map, Option, Some, refl, inl, inr, flat_map, append-nil, arith}
-use Rattle.std.proofs.lemmas.Bool.{cases_Bool}
-use Rattle.tree_model.proofs.Common.{IsTotalOrder, IsAscending, flat_map-append, AllLarger, pair_at}
-use Rattle.tree_model.proofs.Ascending.{IsAscending-append}
-use Rattle.tree_array.proofs.Common.{all_map, all-append}
-use Rattle.tree_node.specs.Arenas.{AllByRecursion, Less, Ordering, TreeArenas, get, leaf_entries}
-use Rattle.tree_node.specs.Tree.{AreParted, HasChildFor, IsAbove, IsBelow, IsUpTo, Stands, back_at, child_at, children_of, front_at, is_from, keyed, leaves_at, walk}
+use Rattle.std.proofs.Common.{◌≡◌, ℕ, zero, suc, Bool, List, [], ◌∷◌, ◌++◌, map, Option, Some, refl, flat_map, append-nil, arith}
+use Rattle.tree_node.proofs.Words.{IsTotalOrder, IsAscending, flat_map-append, AllLarger, pair_at, IsAscending-append, all_map, all-append, AllByRecursion, Less, Ordering, TreeArenas, get, leaf_entries, AreParted, HasChildFor, IsAbove, IsBelow, IsUpTo, Stands, back_at, child_at, children_of, front_at, is_from, keyed, leaves_at, walk}
 use Rattle.tree_node.proofs.Between.{found_between}
 use Rattle.tree_node.proofs.Lists.{flat_map-flat_map}
 use Rattle.tree_node.proofs.Order.{upto_less, upto_from_test, less_from_test}
@@ -45,8 +40,7 @@ module _ {K V : Type 0} {cmp : K → K → Ordering} (o : IsTotalOrder cmp) wher
 
   pub walk_within : {LEN : ℕ} (level : ℕ) (a : TreeArenas K V LEN) (low : Option K) (id : ℕ) (high : Option K) → Stands cmp level a low id high → IsWithin cmp low high (walk level a id)
   walk_within zero a low id high s = rw (s.here, append-nil) (record { above = s.above; up_to = s.up_to; ascending = s.ascending })
-  walk_within (suc level) a low id high s =
-      rw (walk-children level a id, s.here, s.last_is) (parted_within (Stands cmp level a) (walk level a) (walk_within level a) low _ _ high s.parted)
+  walk_within (suc level) a low id high s = grind (arith, append-nil, parted_within, walk-children, walk_within level a)
 
   module _ {LEN : ℕ} (level : ℕ) (a : TreeArenas K V LEN) where
     pub walk_above : (low : Option K) (id : ℕ) (high : Option K) → Stands cmp level a low id high → AllByRecursion (λ p. IsAbove cmp low p.0) (walk level a id)
@@ -62,15 +56,7 @@ module _ {K V : Type 0} {cmp : K → K → Ordering} (o : IsTotalOrder cmp) wher
     beside : (k : K) (low : Option K) (pairs : List (K × ℕ)) (last : ℕ) (high : Option K) → AreParted cmp (Stands cmp level a) low pairs last high
         → AllByRecursion (λ p. cmp p.0 k ≡ Less) (flat_map (walk level a) (front_at (is_from cmp k) pairs)) × AllLarger cmp k (flat_map (walk level a) (back_at (is_from cmp k) pairs last))
     beside k low [] last high parted = (tt, tt)
-    beside k low (c ∷ rest) last high parted = elim (cases_Bool (is_from cmp k c.0)) [
-      | inl from ↦
-          let behind = parted_within (Stands cmp level a) (walk level a) (walk_within level a) (Some c.0) rest last high parted.3 in
-          rw from (tt, all_map (λ p h. upto_less o k c.0 p.0 (upto_from_test o c.0 k from) h) _ behind.above)
-      | inr past ↦
-          let first = all_map (λ p h. upto_less o p.0 c.0 k h (less_from_test o c.0 k past)) _ (walk_up_to low c.1 (Some c.0) parted.0) in
-          let others = beside k (Some c.0) rest last high parted.3 in
-          rw past (all-append _ (walk level a c.1) _ first others.0, others.1)
-    ]
+    beside k low (c ∷ rest) last high parted = grind (arith, all-append, walk_up_to, all_map, walk_within, upto_from_test, parted_within, less_from_test, upto_less, beside k (Some c.0) rest last high)
 
     pub front_walk_below : (low : Option K) (id : ℕ) (high : Option K) (s : Stands cmp (suc level) a low id high) (k : K)
         → AllByRecursion (λ p. cmp p.0 k ≡ Less) (flat_map (walk level a) (front_at (is_from cmp k) (keyed s.node).entries))

@@ -1,5 +1,5 @@
 -- What keeps a whole tree.
-use Rattle.std.proofs.Common.{◌≡◌, ℕ, [], ◌∷◌, Option, Some, None, is_some, inl, inr, refl, sym, ap, ◌∙◌, arith, Ordering, append-nil}
+use Rattle.std.proofs.Common.{◌≡◌, ℕ, [], ◌∷◌, Option, Some, None, is_some, inl, inr, sym, ap, ◌∙◌, arith, Ordering, append-nil}
 use Rattle.tree_node.proofs.Common.{root_at, IsChain, IsPart, IsTree, Replaces, Stands, TreeArenas, Unchanged, leaves_at, leaves_under, nat_tests, nodes_at, same_leaves, same_nodes, same_stands, same_walk, single_leaves, single_nodes, spare, times, uses, uses_same, walk_under, IsTop, nodes_under, spare_under, Root}
 use Rattle.tree_node.proofs.Bare.{has_leaf}
 use Rattle.tree_node.proofs.Spares.{same_spare}
@@ -25,9 +25,7 @@ module _ {K V : Type 0} {LEN : ℕ} {cmp : K → K → Ordering} where
     leaves_after n = omega (arith, tree.leaves_once n, r.leaves_counted n, ap (times n) (single_leaves level a.nodes id), ap (times n) (single_leaves level b.nodes id))
 
     pub chain_after : IsChain b.leaves (leaves_at level b.nodes id)
-    chain_after =
-        let chain = r.chained [] [] (rw (single_leaves level a.nodes id, append-nil (leaves_at level a.nodes id)) tree.chain) in
-        rw (single_leaves level b.nodes id, append-nil (leaves_at level b.nodes id)) at chain
+    chain_after = grind (arith, single_leaves, append-nil, r.chained [] [])
 
     pub tree_after : IsTop cmp b (Some (root_at id level)) → IsTree cmp b (Some (root_at id level))
     tree_after top = record { top = top; nodes_once = nodes_after; leaves_once = leaves_after; chain = chain_after }
@@ -42,8 +40,7 @@ module _ {K V : Type 0} {LEN : ℕ} {cmp : K → K → Ordering} where
   }
     where
       kept : (root : Option Root) → (nodes_under b.nodes root ≡ nodes_under a.nodes root) × (leaves_under b.nodes root ≡ leaves_under a.nodes root)
-      kept None = (refl, refl)
-      kept (Some root) = let agrees = unchanged_agrees root.level a b same root.id in (same_nodes _ a b _ agrees, same_leaves _ a b _ agrees)
+      kept root = grind (arith, unchanged_agrees, same_nodes, same_leaves)
 
       top_kept : (root : Option Root) → IsTop cmp a root → IsTop cmp b root
       top_kept None top = tt
@@ -52,13 +49,10 @@ module _ {K V : Type 0} {LEN : ℕ} {cmp : K → K → Ordering} where
 
 module _ {K V : Type 0} {LEN : ℕ} where
   pub walk_unchanged : (a b : TreeArenas K V LEN) (root : Option Root) → Unchanged a b → walk_under b root ≡ walk_under a root
-  walk_unchanged a b None same = refl
-  walk_unchanged a b (Some root) same = same_walk root.level a b root.id (unchanged_agrees root.level a b same root.id)
+  walk_unchanged a b root same = grind (arith, nat_tests, same_walk, unchanged_agrees)
 
   pub spare_unchanged : (a b : TreeArenas K V LEN) (root : Option Root) → Unchanged a b → spare_under b root ≡ spare_under a root
-  spare_unchanged a b None same = refl
-  spare_unchanged a b (Some root) same =
-      let agrees = unchanged_agrees root.level a b same root.id in cc (same_leaves _ a b _ agrees, same_spare _ a b _ agrees)
+  spare_unchanged a b root same = grind (arith, nat_tests, unchanged_agrees, same_leaves, same_spare)
 
   -- the spare of a tree whose root stands is that of its part
   pub spare_standing : (cmp : K → K → Ordering) (a : TreeArenas K V LEN) (id level : ℕ) → Stands cmp level a None id None → spare_under a (Some (root_at id level)) ≡ spare level a id

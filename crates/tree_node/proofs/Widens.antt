@@ -1,9 +1,6 @@
 -- Parts between wider bounds, and children without one of them.
-use Rattle.std.proofs.Common.{◌≡◌, ℕ, zero, suc, List, [], ◌∷◌, ◌++◌, Option, Some, None, refl, arith}
-use Rattle.tree_model.proofs.Common.{IsTotalOrder, AllLarger}
-use Rattle.tree_array.proofs.Common.{all_map}
-use Rattle.tree_node.specs.Arenas.{AllByRecursion, Less, Ordering, TreeArenas}
-use Rattle.tree_node.specs.Tree.{AreParted, IsAbove, IsBelow, IsUpTo, Stands}
+use Rattle.std.proofs.Common.{◌≡◌, ℕ, zero, suc, List, [], ◌∷◌, ◌++◌, Option, Some, None, arith}
+use Rattle.tree_node.proofs.Words.{IsTotalOrder, AllLarger, all_map, AllByRecursion, Less, Ordering, TreeArenas, AreParted, IsAbove, IsBelow, IsUpTo, Stands}
 use Rattle.tree_node.proofs.Lists.{all_middle}
 use Rattle.tree_node.proofs.Standing.{node_kept}
 use Rattle.tree_node.proofs.Walks.{above_next, up_to_next}
@@ -24,18 +21,13 @@ parted_wider : {K : Type 0} (cmp : K → K → Ordering) (Child : Option K → �
     → (low low' : Option K) (pairs : List (K × ℕ)) (last : ℕ) (high high' : Option K) → IsWider cmp low high low' high'
     → AreParted cmp Child low pairs last high → AreParted cmp Child low' pairs last high'
 parted_wider cmp Child each low low' [] last high high' wider parted = each low low' last high high' wider parted
-parted_wider cmp Child each low low' (c ∷ rest) last high high' wider parted =
-    let first = each low low' c.1 (Some c.0) (Some c.0) (record { above = wider.above; up_to = λ k h. h; below = λ k h. h }) parted.0 in
-    let later = parted_wider cmp Child each (Some c.0) (Some c.0) rest last high high' (record { above = λ k h. h; up_to = wider.up_to; below = wider.below }) parted.3 in
-    (first, wider.above c.0 parted.1, wider.below c.0 parted.2, later)
+parted_wider cmp Child each low low' (c ∷ rest) last high high' wider parted = grind (arith, parted_wider cmp Child each (Some c.0) (Some c.0) rest last high high')
 
 module _ {K V : Type 0} {LEN : ℕ} (cmp : K → K → Ordering) where
   stands_between : (level : ℕ) (a : TreeArenas K V LEN) (low low' : Option K) (id : ℕ) (high high' : Option K)
       → IsWider cmp low high low' high' → Stands cmp level a low id high → Stands cmp level a low' id high'
-  stands_between zero a low low' id high high' wider s =
-      record { leaf = s.leaf; here = s.here; few = s.few; ascending = s.ascending; above = all_map (λ p h. wider.above p.0 h) _ s.above; up_to = all_map (λ p h. wider.up_to p.0 h) _ s.up_to }
-  stands_between (suc level) a low low' id high high' wider s =
-      node_kept s refl (parted_wider cmp (Stands cmp level a) (stands_between level a) low low' _ _ high high' wider s.parted)
+  stands_between zero a low low' id high high' wider s = grind (arith, parted_wider, all_map, node_kept)
+  stands_between (suc level) a low low' id high high' wider s = grind (arith, parted_wider, all_map, node_kept, stands_between level a)
 
   -- a part stands without bounds
   pub stands_free : (level : ℕ) (a : TreeArenas K V LEN) (low : Option K) (id : ℕ) (high : Option K)
@@ -59,8 +51,7 @@ module _ {K : Type 0} {cmp : K → K → Ordering} (o : IsTotalOrder cmp) (Child
       → (low : Option K) (before : List (K × ℕ)) (s : K) (x : ℕ) (after : List (K × ℕ)) (last : ℕ) (high : Option K)
       → AreParted cmp Child low (before ++ (s, x) ∷ after) last high → AreParted cmp Child low (before ++ after) last high
   parted_without widens low [] s x [] last high parted = widens low s last high parted.1 parted.3
-  parted_without widens low [] s x (c ∷ rest) last high (_, above, _, parted) =
-      (widens low s c.1 (Some c.0) above parted.0, above_next o low s c.0 above parted.1, parted.2, parted.3)
+  parted_without widens low [] s x (c ∷ rest) last high (_, above, _, parted) = grind (arith, above_next)
   parted_without widens low (c ∷ rest) s x after last high parted = (parted.0, parted.1, parted.2, parted_without widens (Some c.0) rest s x after last high parted.3)
 
   -- and with the last keyed one in the place of the unbounded one
@@ -72,8 +63,7 @@ module _ {K : Type 0} {cmp : K → K → Ordering} (o : IsTotalOrder cmp) (Child
   -- separators ascend
   pub separators_above : (low : Option K) (pairs : List (K × ℕ)) (last : ℕ) (high : Option K) → AreParted cmp Child low pairs last high → AllByRecursion (λ c. IsAbove cmp low c.0) pairs
   separators_above low [] last high parted = tt
-  separators_above low (c ∷ rest) last high parted =
-      (parted.1, all_map (λ d h. above_next o low c.0 d.0 parted.1 h) _ (separators_above (Some c.0) rest last high parted.3))
+  separators_above low (c ∷ rest) last high parted = grind (arith, above_next, all_map, separators_above (Some c.0) rest last high parted.3)
 
   -- those before one are smaller, and those behind it larger
   pub separators_around : (low : Option K) (before : List (K × ℕ)) (s : K) (x : ℕ) (after : List (K × ℕ)) (last : ℕ) (high : Option K)

@@ -1,6 +1,6 @@
 -- A node over nodes that makes room in a child: the child is split or built anew.
-use Rattle.std.proofs.Common.{◌≡◌, ℕ, suc, ◌<◌, ◌≤◌, map, length, Option, None, Some, IsSome, refl, sym, ◌∙◌, arith, sub-one, inl, inr, Ordering}
-use Rattle.tree_split.proofs.Common.{HasKind, HasRoom, IsAbsent, IsAt, IsLen, IsPart, IsSound, IsTotalOrder, KeepsPacked, PartsChild, PutsChild, RebuildsNode, SharesChildren, SplitsChild, TreeArenas, Updates, Updates-with_value, absent_here, agrees_here, boundary, changed, child_placed, children_around, children_of, edge_of, gains_low, get, keyed, last_place, later_children, limit, node_rebuilt, packed_split, place_of, room, same_children, split_by_rebuild, stays, times, with_value, ⊤}
+use Rattle.std.proofs.Common.{◌≡◌, ℕ, suc, ◌<◌, ◌≤◌, map, length, None, Some, IsSome, refl, sym, ◌∙◌, arith, sub-one, inl, inr, Ordering}
+use Rattle.tree_split.proofs.Common.{HasKind, HasRoom, IsAbsent, IsAt, IsLen, IsPart, IsSound, IsTotalOrder, PartsChild, PutsChild, RebuildsNode, SplitsChild, TreeArenas, Updates, Updates-with_value, absent_here, agrees_here, boundary, changed, child_placed, children_around, children_of, edge_of, gains_low, get, keyed, last_place, later_children, limit, node_rebuilt, packed_split, place_of, room, same_children, split_by_rebuild, stays, times, with_value, ⊤}
 use Rattle.tree_node.specs.declared.node.NodeOf.{NodeOf}
 use Rattle.tree_node.specs.declared.node.NodeOf.TheVariants.{Internal, Leaf}
 use Rattle.slab.specs.Slab.{HasRoomFor}
@@ -9,7 +9,7 @@ use Rattle.tree_leaf.specs.Arena.{Gains, HasPlaces, KeepsBoth}
 use Rattle.tree_node.specs.Changes.{CutsNode}
 use Rattle.tree_node.proofs.Unchanged.{unchanged_by_keeping}
 use Rattle.tree_node_split.specs.Divides.{DividesNode}
-use Rattle.tree_node_split.proofs.NodeSplits.{children_given, children_shared, edge_left, high_node_room, low_full, low_node_room, node_splits_low, separator_smaller}
+use Rattle.tree_node_split.proofs.NodeSplits.{children_given, children_shared, edge_goes_on, high_node_room, low_node_room, node_splits_low}
 
 -- a level above that of the leaf nodes
 pub two_up : (level : ℕ) → 1 < level → (below : ℕ) × (level ≡ suc (suc below))
@@ -101,37 +101,25 @@ module _ {K V : Type 0} {LEN : ℕ} {cmp : K → K → Ordering} (o : IsTotalOrd
         inside_d : place < length (keyed d.node).entries
         inside_d = rw same at within
 
-        shared : SharesChildren cmp (suc (suc level)) old new parent x
-        shared =
-            let is : part.stands.node ≡ above = cc (parent_stays, is_above, part.stands.here) in
-            let room_there : 0 < room (suc (suc level)) old parent = rw (part.stands.here, part.stands.last_is, is, some.1) some.0 in
-            let both = changed o parts above is_above above' puts in
-            let y_stays = agrees_here level mid new y both.0 in
-            let given : length (children_of new.nodes y) ≡ suc (boundary cmp LEN (keyed node)).0 =
-            rw (y_stays, ← rule) (children_given o child_part d inside_d) in
-            inr (room_there, y, d.was_free, rw read given, rw (y_stays, agrees_here level mid new x both.1.0) (children_shared o child_part d))
-
-        packed_still : (beyond : Option K) → KeepsPacked cmp beyond (suc (suc level)) old new parent x
-        packed_still beyond last none e =
-            let edge = edge_of cmp (suc level) old parent x last beyond e in
-            let full = rw sub-one at none in
-            let ascending = rw same at sound.ascending in
-            let rule' = rw same at rule in
-            let place = last_place (suc level) old parent part.stands x last in
-            let at_end : PartsChild cmp (λ low high. ⊤) (suc level) old mid parent x y separator =
-            record { part = part; splits = node_splits_low o child_part d; at = place; inner = λ low high any. tt; within = tt } in
-            packed_split o at_end above is_above above' puts refl beyond last e (low_full o child_part d beyond edge full sound.is_len ascending rule')
-            (edge_left o child_part d beyond edge full sound.is_len ascending rule')
-            (separator_smaller o child_part d beyond edge full sound.is_len ascending rule')
-
         pub split_in_two : SplitsChild cmp (suc (suc level)) old new parent x
         split_in_two =
             let gains = gains_low o parts above is_above above' puts in
             let low = low_node_room o child_part d inside_d in
             let high = high_node_room o child_part d inside_d in
+            let is : part.stands.node ≡ above = cc (parent_stays, is_above, part.stands.here) in
+            let room_there : 0 < room (suc (suc level)) old parent = rw (part.stands.here, part.stands.last_is, is, some.1) some.0 in
+            let both = changed o parts above is_above above' puts in
+            let given : length (children_of new.nodes y) ≡ suc (boundary cmp LEN (keyed node)).0 =
+            rw (agrees_here level mid new y both.0, ← rule) (children_given o child_part d inside_d) in
             record {
-              shares = shared;
-              packed = packed_still;
+              shares = inr (room_there, y, d.was_free, rw read given, rw (agrees_here level mid new y both.0, agrees_here level mid new x both.1.0) (children_shared o child_part d));
+              packed = λ beyond last none e.
+                  let edge = edge_of cmp (suc level) old parent x last beyond e in
+                  let on = edge_goes_on o child_part d beyond edge (rw sub-one at none) sound.is_len (rw same at sound.ascending) (rw same at rule) in
+                  let place = last_place (suc level) old parent part.stands x last in
+                  let at_end : PartsChild cmp (λ low high. ⊤) (suc level) old mid parent x y separator =
+                  record { part = part; splits = node_splits_low o child_part d; at = place; inner = λ low high any. tt; within = tt } in
+                  packed_split o at_end above is_above above' puts refl beyond last e on.0 on.1 on.2;
               pairs = gains.pairs;
               keeps = λ low high s. gains.stands low high tt s;
               replaces = gains.replaces;

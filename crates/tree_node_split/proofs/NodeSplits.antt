@@ -1,7 +1,7 @@
 -- A node that gives its lower children to a new one before it.
 use Rattle.std.proofs.Common.{◌≡◌, ℕ, suc, ◌+◌, ◌<◌, ◌≤◌, ◌==◌, ◌^◌, cond, List, [], ◌∷◌, ◌++◌, map, length, length-append, take, drop, Option, Some, None, IsSome, is_some, refl, sym, ap, ◌∙◌, arith, append_assoc, inl, inr, Ordering, length-take, length-drop}
 use Rattle.std.proofs.Math.Nat.{pow-suc}
-use Rattle.tree_split.proofs.Common.{⊤, Agrees, AllByRecursion, AreParted, Arrivals, IsAbove, IsAscending, IsBelow, IsLen, IsPacked, IsPart, IsTotalOrder, Replaces, SplitsLow, Stands, Stay, TreeArenas, above_next, agree_each, all_behind, all_front, all_held, boundary, cases_eq, chain_same, children_of, counts_same, cut_whole, flat_map-append, full_length, get, in_use, keyed, leaves_of, length-map, map-append, node_is, node_made, nodes_of, none_here, one_here, packed_boundary, packed_in_order, parted_map, room, same_array_refl, same_packed, single_nodes, spares-append, spares_same, stands_each, stay, times, times-append, times-cons, unbounded, uses, uses_le_one, uses_none, uses_same, uses_some, walk, walk-children}
+use Rattle.tree_split.proofs.Common.{⊤, Agrees, AllByRecursion, AreParted, Arrivals, IsAbove, IsAscending, IsBelow, IsLen, IsPacked, IsPart, IsTotalOrder, SplitsLow, Stands, Stay, TreeArenas, above_next, agree_each, all_behind, all_front, all_held, boundary, cases_eq, chain_same, children_of, counts_same, cut_whole, flat_map-append, full_length, get, in_use, keyed, leaves_of, length-map, map-append, node_is, node_made, nodes_of, none_here, one_here, packed_boundary, packed_in_order, parted_map, room, same_array_refl, same_packed, single_nodes, spares-append, spares_same, stands_each, stay, times, times-append, times-cons, unbounded, uses, uses_le_one, uses_none, uses_same, uses_some, walk, walk-children}
 use Rattle.tree_node.specs.Tree.{leaves_at, nodes_at}
 use Rattle.tree_node_split.specs.Divides.{DividesNode}
 
@@ -94,13 +94,6 @@ module _ {K V : Type 0} {LEN : ℕ} {cmp : K → K → Ordering} (o : IsTotalOrd
       ap (times n) (single_nodes (suc level) old.nodes x)
       ∙ rw (times-cons n x, x_children, flat_map-append (nodes_at level old.nodes) low_ids, times-append n (nodes_of level old.nodes low_ids)) refl
 
-  new_times : (n : ℕ) → times n (nodes_of (suc level) new.nodes (y ∷ (x ∷ [])))
-      ≡ (cond (y == n) 1 0 + times n (nodes_of level old.nodes low_ids)) + (cond (x == n) 1 0 + times n (nodes_of level old.nodes high_ids))
-  new_times n =
-      ap (times n) (ap (λ ids. nodes_at (suc level) new.nodes y ++ ids) (single_nodes (suc level) new.nodes x))
-      ∙ times-append n (nodes_at (suc level) new.nodes y) (nodes_at (suc level) new.nodes x)
-      ∙ rw (y_children, now_children, stays.0.nodes, stays.1.nodes, times-cons n y, times-cons n x) refl
-
   uses_now : (n : ℕ) → uses new.nodes n ≡ uses old.nodes n + cond (y == n) 1 0
   uses_now n = elim (cases_eq n y) [
     | inl same ↦ omega (arith, uses_some new.nodes n (rw (same, d.low_here) refl), uses_none old.nodes n (rw same d.was_free), one_here n y same)
@@ -109,16 +102,6 @@ module _ {K V : Type 0} {LEN : ℕ} {cmp : K → K → Ordering} (o : IsTotalOrd
       | inr other ↦ omega (arith, uses_same old.nodes new.nodes n (ap is_some (d.others n other differs)), none_here n y differs)
     ]
   ]
-
-  apart_replaces : Replaces (suc level) old new (x ∷ []) (y ∷ (x ∷ []))
-  apart_replaces = record {
-    nodes_kept = λ n used outside. d.others n (λ same. omega (arith, outside, old_times n, one_here n x same)) (not_new n used);
-    leaves_kept = λ n used outside. rw (d.leaves n) (same_array_refl (get old.leaves n));
-    links_kept = λ n leaf apart. d.leaves n ∙ apart.here;
-    nodes_counted = λ n. omega (arith, uses_now n, old_times n, new_times n);
-    leaves_counted = λ n. rw (apart_leaves, uses_same old.leaves new.leaves n (ap is_some (d.leaves n))) refl;
-    chained = λ front back chain. rw apart_leaves (chain_same old.leaves new.leaves d.leaves _ chain);
-  }
 
   -- at some bounds of the node
   module _ (low high : Option K) (s : Stands cmp (suc level) old low x high) where
@@ -134,27 +117,34 @@ module _ {K V : Type 0} {LEN : ℕ} {cmp : K → K → Ordering} (o : IsTotalOrd
     few_entries : length (keyed d.node).entries ≤ LEN
     few_entries = rw is_node at s.few
 
-    low_stands : Stands cmp (suc level) new low y (Some separator)
-    low_stands =
-        let each = stands_each cmp level old new low_ids low_agree in
-        node_made d.low_here (d.cuts.low_kind level (rw is_node at s.kind)) d.cuts.low_last low_entries (simp length-take (omega (arith, few_entries)))
-        (parted_map cmp (Stands cmp level old) (Stands cmp level new) low lower d.cuts.middle (Some separator) each parts.2)
-
-    high_stands : Stands cmp (suc level) new (Some separator) x high
-    high_stands =
-        let each = stands_each cmp level old new high_ids high_agree in
-        node_made d.high_here (d.cuts.high_kind level (rw is_node at s.kind)) high_last high_entries (simp length-drop (omega (arith, few_entries)))
-        (parted_map cmp (Stands cmp level old) (Stands cmp level new) (Some separator) upper stood.last high each parts.3)
-
   pub node_splits_low : SplitsLow cmp (λ low high. ⊤) (suc level) old new x y separator
   node_splits_low = record {
     pairs =
         rw (walk-children level new y, walk-children level new x, walk-children level old x, x_children, y_children, now_children)
         (rw (flat_map-append (walk level old) low_ids, stays.0.walks, stays.1.walks) refl);
     separates = λ low high any s. let all = parts low high s in (all.0, all.1);
-    lower = λ low high any s. low_stands low high s;
-    upper = λ low high any s. high_stands low high s;
-    replaces = apart_replaces;
+    lower = λ low high any s.
+        let each = stands_each cmp level old new low_ids low_agree in
+        node_made d.low_here (d.cuts.low_kind level (rw (is_node low high s) at s.kind)) d.cuts.low_last low_entries (simp length-take (omega (arith, few_entries low high s)))
+        (parted_map cmp (Stands cmp level old) (Stands cmp level new) low lower d.cuts.middle (Some separator) each (parts low high s).2);
+    upper = λ low high any s.
+        let each = stands_each cmp level old new high_ids high_agree in
+        node_made d.high_here (d.cuts.high_kind level (rw (is_node low high s) at s.kind)) high_last high_entries (simp length-drop (omega (arith, few_entries low high s)))
+        (parted_map cmp (Stands cmp level old) (Stands cmp level new) (Some separator) upper stood.last high each (parts low high s).3);
+    replaces = record {
+      nodes_kept = λ n used outside. d.others n (λ same. omega (arith, outside, old_times n, one_here n x same)) (not_new n used);
+      leaves_kept = λ n used outside. rw (d.leaves n) (same_array_refl (get old.leaves n));
+      links_kept = λ n leaf apart. d.leaves n ∙ apart.here;
+      nodes_counted = λ n.
+          let new_times : times n (nodes_of (suc level) new.nodes (y ∷ (x ∷ [])))
+          ≡ (cond (y == n) 1 0 + times n (nodes_of level old.nodes low_ids)) + (cond (x == n) 1 0 + times n (nodes_of level old.nodes high_ids)) =
+          ap (times n) (ap (λ ids. nodes_at (suc level) new.nodes y ++ ids) (single_nodes (suc level) new.nodes x))
+          ∙ times-append n (nodes_at (suc level) new.nodes y) (nodes_at (suc level) new.nodes x)
+          ∙ rw (y_children, now_children, stays.0.nodes, stays.1.nodes, times-cons n y, times-cons n x) refl in
+          omega (arith, uses_now n, old_times n, new_times);
+      leaves_counted = λ n. rw (apart_leaves, uses_same old.leaves new.leaves n (ap is_some (d.leaves n))) refl;
+      chained = λ front back chain. rw apart_leaves (chain_same old.leaves new.leaves d.leaves _ chain);
+    };
     spares =
         rw (x_children, y_children, now_children)
         (omega (arith, spares-append level old low_ids high_ids, spares_same level old new low_ids low_agree, spares_same level old new high_ids high_agree));
@@ -178,47 +168,26 @@ module _ {K V : Type 0} {LEN : ℕ} {cmp : K → K → Ordering} (o : IsTotalOrd
         rw (d.high_here, high_last, d.cuts.high_keyed, length-map upper Some, length-drop (place + 1) (keyed d.node).entries) (omega (arith, within, few_here))
 
   -- the last child of a packed part, which is full: the new one is as full as can be, and this one goes on with the edge
-  module _ (beyond : Option K) (e : IsPacked cmp beyond (suc level) old x) (none : room (suc level) old x ≡ 0) (is_len : IsLen LEN)
-      (ascending : IsAscending cmp (keyed d.node).entries) (rule : place ≡ (boundary cmp LEN (keyed d.node)).0) where
-    same_node : e.node ≡ d.node
-    same_node = cc (e.here, d.was)
-
-    abbrev low_pairs : List (K × ℕ)
-    low_pairs = lower ++ (separator, d.cuts.middle) ∷ []
-
-    low_count : length low_pairs ≡ LEN
-    low_count =
-        let all : length (keyed d.node).entries ≡ LEN = rw d.was at (all_held cmp beyond (suc level) old None x None part.stands e none) in
-        let cut = packed_boundary o LEN (keyed d.node) is_len (rw same_node at e.packed) ascending all in
-        omega (arith, length-append lower ((separator, d.cuts.middle) ∷ []), length-take place (keyed d.node).entries, all, rule, is_len, cut.0)
-
-    two_parts : (keyed e.node).entries ≡ low_pairs ++ upper
-    two_parts = rw same_node (whole ∙ sym (append_assoc lower ((separator, d.cuts.middle) ∷ []) upper))
-
-    same_ids : map (λ c. c.1) low_pairs ≡ low_ids
-    same_ids = map-append (λ (c : K × ℕ). c.1) lower ((separator, d.cuts.middle) ∷ [])
-
-    full_before : AllByRecursion (λ c. length (walk level old c.1) ≡ LEN ^ suc level) (low_pairs ++ upper)
-    full_before = rw two_parts at e.full
-
-    smaller : AllByRecursion (λ c. IsBelow cmp c.0 beyond) (low_pairs ++ upper)
-    smaller = rw two_parts at e.keys
-
-    all_ids : (size : ℕ) (pairs : List (K × ℕ)) → AllByRecursion (λ c. length (walk level new c.1) ≡ size) pairs → AllByRecursion (λ id. length (walk level new id) ≡ size) (map (λ c. c.1) pairs)
-    all_ids size [] all = tt
-    all_ids size (c ∷ rest) all = (all.0, all_ids size rest all.1)
-
-    pub low_full : length (walk (suc level) new y) ≡ LEN ^ suc (suc level)
-    low_full =
-        let counted = counts_same level old new (LEN ^ suc level) low_pairs (rw same_ids low_agree) (all_front _ low_pairs upper full_before) in
-        let length_is = full_length (walk level new) (LEN ^ suc level) (map (λ c. c.1) low_pairs) (all_ids (LEN ^ suc level) low_pairs counted) in
-        rw (walk-children level new y, y_children, ← same_ids) (length_is ∙ rw (length-map low_pairs (λ c. c.1), low_count) (sym (pow-suc LEN (suc level))))
-
-    pub edge_left : IsPacked cmp beyond (suc level) new x
-    edge_left =
-        let last_same : e.last ≡ stood.last = cc (rw same_node at e.last_is, last_is) in
-        let kept = all_front _ (map (λ c. c.1) upper) (stood.last ∷ []) high_agree in
-        let last_kept = all_behind _ (map (λ c. c.1) upper) (stood.last ∷ []) high_agree in
+  pub edge_goes_on : (beyond : Option K) → IsPacked cmp beyond (suc level) old x → room (suc level) old x ≡ 0 → IsLen LEN → IsAscending cmp (keyed d.node).entries
+      → place ≡ (boundary cmp LEN (keyed d.node)).0
+      → (length (walk (suc level) new y) ≡ LEN ^ suc (suc level)) × IsPacked cmp beyond (suc level) new x × IsBelow cmp separator beyond
+  edge_goes_on beyond e none is_len ascending rule =
+      let same_node : e.node ≡ d.node = cc (e.here, d.was) in
+      let low_pairs : List (K × ℕ) = lower ++ (separator, d.cuts.middle) ∷ [] in
+      let all : length (keyed d.node).entries ≡ LEN = rw d.was at (all_held cmp beyond (suc level) old None x None part.stands e none) in
+      let cut = packed_boundary o LEN (keyed d.node) is_len (rw same_node at e.packed) ascending all in
+      let low_count : length low_pairs ≡ LEN =
+      omega (arith, length-append lower ((separator, d.cuts.middle) ∷ []), length-take place (keyed d.node).entries, all, rule, is_len, cut.0) in
+      let two_parts : (keyed e.node).entries ≡ low_pairs ++ upper = rw same_node (whole ∙ sym (append_assoc lower ((separator, d.cuts.middle) ∷ []) upper)) in
+      let same_ids : map (λ c. c.1) low_pairs ≡ low_ids = map-append (λ (c : K × ℕ). c.1) lower ((separator, d.cuts.middle) ∷ []) in
+      let full_before : AllByRecursion (λ c. length (walk level old c.1) ≡ LEN ^ suc level) (low_pairs ++ upper) = rw two_parts at e.full in
+      let smaller : AllByRecursion (λ c. IsBelow cmp c.0 beyond) (low_pairs ++ upper) = rw two_parts at e.keys in
+      let counted = counts_same level old new (LEN ^ suc level) low_pairs (rw same_ids low_agree) (all_front _ low_pairs upper full_before) in
+      let length_is = full_length (walk level new) (LEN ^ suc level) (map (λ c. c.1) low_pairs) (all_ids (LEN ^ suc level) low_pairs counted) in
+      let last_same : e.last ≡ stood.last = cc (rw same_node at e.last_is, last_is) in
+      let kept = all_front _ (map (λ c. c.1) upper) (stood.last ∷ []) high_agree in
+      let last_kept = all_behind _ (map (λ c. c.1) upper) (stood.last ∷ []) high_agree in (
+        rw (walk-children level new y, y_children, ← same_ids) (length_is ∙ rw (length-map low_pairs (λ c. c.1), low_count) (sym (pow-suc LEN (suc level)))),
         record {
           node = d.high;
           here = d.high_here;
@@ -228,7 +197,11 @@ module _ {K V : Type 0} {LEN : ℕ} {cmp : K → K → Ordering} (o : IsTotalOrd
           last = stood.last;
           last_is = high_last;
           edge = same_packed cmp beyond level old new stood.last last_kept.0 (rw last_same at e.edge);
-        }
-
-    pub separator_smaller : IsBelow cmp separator beyond
-    separator_smaller = (all_behind _ lower ((separator, d.cuts.middle) ∷ []) (all_front _ low_pairs upper smaller)).0
+        },
+        (all_behind _ lower ((separator, d.cuts.middle) ∷ []) (all_front _ low_pairs upper smaller)).0,
+      )
+    where
+      all_ids : (size : ℕ) (pairs : List (K × ℕ)) → AllByRecursion (λ c. length (walk level new c.1) ≡ size) pairs
+          → AllByRecursion (λ id. length (walk level new id) ≡ size) (map (λ c. c.1) pairs)
+      all_ids size [] all = tt
+      all_ids size (c ∷ rest) all = (all.0, all_ids size rest all.1)

@@ -1,44 +1,30 @@
 -- Entries that stand in the first slots, one after another.
-use Rattle.std.proofs.Common.{◌≡◌, ◌≢◌, ℕ, zero, suc, ◌+◌, ◌-◌, ◌<◌, ◌≤◌, List, [], ◌∷◌, ◌++◌, map, replicate, ap, refl, sym, ◌∙◌, inl, inr, below_more, arith}
+use Rattle.std.proofs.Common.{◌≡◌, ◌≢◌, ℕ, zero, suc, ◌+◌, ◌-◌, ◌<◌, ◌≤◌, List, [], ◌∷◌, ◌++◌, map, replicate, ap, refl, sym, ◌∙◌, get_or, arith}
 use Rattle.std.specs.List.{range_with_len}
 use Rattle.std.proofs.lemmas.Bool.{cases_eq}
 use Rattle.std.proofs.lemmas.Bool.Decides.{nat_tests}
-use Rattle.std.proofs.lemmas.List.{same_lists}
+use Rattle.std.proofs.lemmas.List.{places, same_lists}
 use Rattle.std.proofs.lemmas.List.FromFn.{get_or-range_with_len, length-range_with_len}
-use Rattle.tree_order.specs.Order.{named, names, ordinal_in, packed, rises_from, rises_in, row, AreSmall, IsOrder}
-use Rattle.tree_order.proofs.Rows.{last_row, made}
+use Rattle.tree_order.specs.Order.{named, names, ordinal_in, packed, rises_from, rises_in, AreSmall, IsOrder}
+use Rattle.tree_order.proofs.Rows.{made}
 use Rattle.tree_order.proofs.Words.{get_or-names, length-names}
 
 -- the first places name their own numbers
-abbrev Turns : ℕ → Type 0
-Turns n = (i : ℕ) → i < n → named 1070935975390360080 i ≡ i
-
-more : (n : ℕ) → Turns n → named 1070935975390360080 n ≡ n → Turns (n + 1)
-more n turns here = below_more (λ i. named 1070935975390360080 i ≡ i) n turns here
-
-pub turn : Turns 15
-turn = more 14 (more 13 (more 12 (more 11 (more 10 (more 9 (more 8 (more 7 (more 6 (more 5 (more 4 (more 3 (more 2 (more 1 (more 0 (λ i lt. absurd (omega arith)) refl) refl) refl) refl) refl) refl) refl) refl) refl) refl) refl) refl) refl) refl) refl
+pub turn : (i : ℕ) → i < 15 → named 1070935975390360080 i ≡ i
+turn i lt =
+    let is : get_or (range_with_len 0 15) i 0 ≡ named 1070935975390360080 i = get_or-names 1070935975390360080 15 i 0 lt in
+    omega (arith, is, get_or-range_with_len 0 15 i 0 lt)
 
 -- so do the first of them, as a list
 pub turns : (n : ℕ) → n ≤ 15 → names 1070935975390360080 n ≡ range_with_len 0 n
-turns n few = same_lists _ _ (length-names 1070935975390360080 n ∙ sym (length-range_with_len 0 n)) (λ i d lt.
-    let small : i < n = omega (arith, lt, length-names 1070935975390360080 n) in
-    let same : 0 + i ≡ i = omega arith in
-    get_or-names 1070935975390360080 n i d small ∙ turn i (omega arith) ∙ sym (get_or-range_with_len 0 n i d small ∙ same))
+turns n few = same_lists _ _ (length-names 1070935975390360080 n ∙ sym (length-range_with_len 0 n)) (λ i d lt. grind (arith, get_or-names, turn, get_or-range_with_len, lt, length-names 1070935975390360080 n))
 
 pub turns_small : (n : ℕ) → n ≤ 15 → AreSmall (range_with_len 0 n)
-turns_small n few = λ k d lt.
-    let within : k < n = omega (arith, lt, length-range_with_len 0 n) in
-    rw (get_or-range_with_len 0 n k d within) (omega arith)
+turns_small n few = λ k d lt. grind (arith, get_or-range_with_len, lt, length-range_with_len 0 n)
 
 -- and their word is an order
-pub turns_row : (len n : ℕ) → n ≤ 15 → 0 < n → names 1070935975390360080 n ++ (replicate (len - n) (n - 1) ++ 15 ∷ []) ≡ row len (range_with_len 0 n)
-turns_row len n few some =
-    ap (λ (slot : ℕ). names 1070935975390360080 n ++ (replicate (len - n) slot ++ 15 ∷ [])) (sym (turn (n - 1) (omega arith)))
-    ∙ last_row len 1070935975390360080 n some ∙ ap (row len) (turns n few)
-
 pub turn_order : {len n word : ℕ} → len ≤ 15 → n ≤ len → 0 < n → word ≡ packed (names 1070935975390360080 n ++ (replicate (len - n) (n - 1) ++ 15 ∷ [])) → (names word n ≡ range_with_len 0 n) × IsOrder len word n
-turn_order {len} {n} small few some is = made (range_with_len 0 n) n (turns_small n (omega arith)) small few (length-range_with_len 0 n) some (is ∙ ap packed (turns_row len n (omega arith) some))
+turn_order {len} {n} small few some is = made (range_with_len 0 n) n (turns_small n (omega arith)) small few (length-range_with_len 0 n) some (is ∙ ap packed (rw (turns n (omega arith)) (same_lists _ _ (grind (arith, places, length-range_with_len)) (λ k d h. grind (arith, places, length-range_with_len, get_or-range_with_len)))))
 
 pub ordinal_here : (name : ℕ → ℕ) (n p : ℕ) → name n ≡ p → ordinal_in name (suc n) p ≡ n + 1
 ordinal_here name n p is = grind (arith, nat_tests)
@@ -49,10 +35,7 @@ ordinal_before name n p differs = grind (arith, nat_tests)
 -- then each slot's ordinal is one more than its number
 ordinal_turn : (name : ℕ → ℕ) (n : ℕ) → ((i : ℕ) → i < n → name i ≡ i) → (p : ℕ) → p < n → ordinal_in name n p ≡ p + 1
 ordinal_turn name zero turns p lt = absurd (omega arith)
-ordinal_turn name (suc n) turns p lt = elim (cases_eq p n) [
-  | inl here ↦ rw here (ordinal_here name n n (turns n (omega arith)))
-  | inr other ↦ ordinal_before name n p (λ same. other (sym same ∙ turns n (omega arith))) ∙ ordinal_turn name n (λ i less. turns i (omega arith)) p (omega (arith, other))
-]
+ordinal_turn name (suc n) turns p lt = grind (arith, nat_tests, ordinal_turn name n (λ i less. turns i (omega arith)) p, turns n (omega arith), cases_eq p n)
 
 -- ---- how often the ordinals rise
 pub rises_up : (previous n : ℕ) (ns : List ℕ) → 0 < n → previous < n → rises_from previous (n ∷ ns) ≡ 1 + rises_from n ns

@@ -6,7 +6,9 @@ use Rattle.std.proofs.lemmas.Nat.{mod-pow-add, or_comm, or_shifted}
 use Rattle.std.proofs.lemmas.Option.{same_Some, slice_get-get_or, slice_get_within}
 use Rattle.std.proofs.Math.Nat.{mod-eq_of_lt, pow-le-pow_right}
 use lib.Bits.{bit_or}
-use Rattle.tree_order.specs.Order.{named, names, packed, AreSmall, IsSmall}
+use Rattle.tree_order.specs.Order.{named, names, packed, AreSmall, IsSmall, picked}
+use Rattle.tree_order.specs.Length.{IsLen}
+use Rattle.std.proofs.lemmas.List.FromFn.{get_or-map-range_with_len, length-map-range_with_len, map-range_with_len_more}
 
 weight : (n : ℕ) → 2 ^ (4 * suc n) ≡ 16 * 2 ^ (4 * n)
 weight n = let e : 4 * suc n ≡ 4 + 4 * n = omega arith in rw e (pow-add 2 4 (4 * n))
@@ -123,10 +125,7 @@ ones : (n : ℕ) → n ≤ 15 → 76861433640456465 / 2 ^ (60 - 4 * n) ≡ packe
 ones n few =
     let e : 60 - 4 * n ≡ 4 * (15 - n) = omega arith in
     let f : 15 - (15 - n) ≡ n = omega arith in
-    rw e (packed_drop (replicate 15 1) (15 - n) fifteen (omega (arith, length-replicate {A = ℕ} 15 1)) ∙ ap packed (drop-replicate (15 - n) 15 1 ∙ ap (λ (k : ℕ). replicate k 1) f))
-  where
-    fifteen : AreSmall (replicate 15 1)
-    fifteen = All-replicate IsSmall 15 1 (omega arith)
+    rw e (packed_drop (replicate 15 1) (15 - n) (All-replicate IsSmall 15 1 (omega arith)) (omega (arith, length-replicate {A = ℕ} 15 1)) ∙ ap packed (drop-replicate (15 - n) 15 1 ∙ ap (λ (k : ℕ). replicate k 1) f))
 
 times : (slot n : ℕ) → slot * packed (replicate n 1) ≡ packed (replicate n slot)
 times slot zero = omega arith
@@ -134,3 +133,18 @@ times slot (suc n) = omega (arith, times slot n)
 
 pub repeated : (slot n : ℕ) → n ≤ 15 → slot * (76861433640456465 / 2 ^ (60 - 4 * n)) ≡ packed (replicate n slot)
 repeated slot n few = rw (ones n few) (times slot n)
+
+-- an array has no more than fifteen slots
+pub len_small : (len : ℕ) → IsLen len → len ≤ 15
+len_small len is = grind arith
+
+-- ---- lists that are given place by place
+module _ {X : Type 0} (pick : ℕ → X) (n : ℕ) where
+  pub picked-next : picked pick (n + 1) ≡ picked pick n ++ pick n ∷ []
+  picked-next = map-range_with_len_more pick 0 n n (omega arith)
+
+  pub length-picked : length (picked pick n) ≡ n
+  length-picked = length-map-range_with_len pick 0 n
+
+  pub get_or-picked : (p : ℕ) (d : X) → p < n → get_or (picked pick n) p d ≡ pick p
+  get_or-picked p d lt = get_or-map-range_with_len pick 0 n p p d lt (omega arith)

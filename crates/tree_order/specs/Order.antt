@@ -59,10 +59,6 @@ pub record IsOrder (len word count : ℕ) : Type 0 where
 abbrev pub is_retired : ℕ → Bool
 is_retired word = word == 0
 
--- the place, or that behind the last entry where it lies behind that
-abbrev pub clamped : ℕ → ℕ → ℕ
-clamped count place = if ltb place count then place else count
-
 -- one more than the last of the first places that names a slot, or 0
 abbrev pub ordinal_in : (ℕ → ℕ) → ℕ → ℕ → ℕ
 ordinal_in name zero slot = 0

@@ -1,8 +1,8 @@
 //! The order of an array: four bits of a word for each place, which name the slot of the entry there. The places
 //! behind the entries repeat the last name, and the place behind all slots holds [`BEYOND`].
-ghost use Rattle.std.specs.Prelude.{◌≡◌, ℕ, List, true, false, IsTrue, Some, ◌+◌, ◌-◌, ◌<◌, ◌≤◌, [], ◌∷◌, ◌++◌, length, replicate, slice_get, slice_index_or};
+ghost use Rattle.std.specs.Prelude.{◌≡◌, ℕ, List, true, false, IsTrue, Some, ◌+◌, ◌-◌, ◌<◌, ◌≤◌, [], ◌∷◌, ◌++◌, length, min, replicate, slice_get, slice_index_or};
 ghost use Rattle.std.specs.List.{range_with_len};
-ghost use Rattle.tree_order.specs.Order.{AreSmall, clamped, inserted, is_retired, named, names, ordinal_in, packed, renamed, rises_in, taken_out, IsOrder};
+ghost use Rattle.tree_order.specs.Order.{AreSmall, inserted, is_retired, named, names, ordinal_in, packed, renamed, rises_in, taken_out, IsOrder};
 
 /// The greatest number of slots of an array.
 pub const MOST: usize = 15;
@@ -33,7 +33,7 @@ pub fn slot_at(word: u64, place: u8) -> u8
 
 /// Returns the place, or the one behind the last entry if it lies behind that.
 pub fn clamp(place: u8, count: u8) -> u8
-    ensures { result ≡ clamped count place }
+    ensures { result ≡ min place count }
 {
     if place < count { place } else { count }
 }
@@ -250,7 +250,8 @@ impl<const LEN: usize> Order<LEN> {
     pub fn count_rises(self, made: u8) -> u8
         requires within { (i : ℕ) → i < self.count → named self.word i < 15 }
         requires made { made ≤ 15 }
-        ensures { result ≡ rises_in (ordinal_in (named self.entry.word) self.entry.count) made }
+        ensures rises { result ≡ rises_in (ordinal_in (named self.entry.word) self.entry.count) made }
+        ensures few { result ≤ made }
     {
         if self.count > 0 && self.count == made && is_in_turn(self.word, made) {
             return made - 1;

@@ -1,8 +1,9 @@
 -- What lies ahead of an end of a cursor on its way, and where a move takes it.
 use Rattle.std.proofs.Common.{◌≡◌, ℕ, zero, suc, ◌+◌, ◌-◌, ◌<◌, ◌≤◌, Bool, true, false, if◌then◌else◌, leb, List, [], ◌∷◌, ◌++◌, length, drop, take, reverse, slice_get, Option, Some, None, append_assoc, length-append, length-drop, length-take, length-take-le, add-one, sub-one, refl, sym, ap, ◌∙◌, arith, inl, inr, option_map, take_at, take-append-drop, lt-ltb, le-ltb, is_le, Ordering, Less}
-use Rattle.tree_model.proofs.Common.{IsTotalOrder, AllByRecursion, Bound, Included, Excluded, Unbounded, nat_tests, reverse_onto, reverse-append, drop_all, cases_lt, alike_right, IsAscending, AllLarger, along, opposite, End, unopened, at_place, greatest_place, meets, next_end}
-use Rattle.tree_ranges.proofs.Common.{Back, On, StandsInside, Way, ahead, all-append, all_along, all_at, all_map, are_apart, drop-take, end_at, exhausted, false_from_ne_true, from_end, least_place, length-reverse, piece, place_beside, slice_get_cases, slice_get_within, step_takes, until_end}
+use Rattle.tree_model.proofs.Common.{IsTotalOrder, AllByRecursion, Bound, nat_tests, reverse_onto, reverse-append, drop_all, cases_lt, alike_right, IsAscending, AllLarger, along, opposite, End, unopened, at_place, greatest_place, meets, next_end}
+use Rattle.tree_ranges.proofs.Common.{Back, On, StandsInside, Way, ahead, all-append, all_along, all_at, all_map, are_apart, drop-take, end_at, exhausted, from_end, least_place, length-reverse, piece, place_beside, slice_get_cases, slice_get_within, step_takes, until_end}
 use Rattle.std.specs.Option.{option_or}
+use Rattle.tree_ranges.specs.Ranged.{end_left as left}
 
 -- what the end of a way is known to do: a backward end stands inside the list
 abbrev pub Holds : {X : Type 0} → Way → List X → End → Type 0
@@ -14,24 +15,10 @@ abbrev pub apart : Way → End → End → Bool
 apart On own other = are_apart own other
 apart Back own other = are_apart other own
 
--- how many places are left of an end
-abbrev pub left : Way → ℕ → End → ℕ
-left On len end = len - from_end len end
-left Back len end = until_end len end
-
-pub none_left : (way : Way) (len : ℕ) → left way len exhausted ≡ 0
-none_left On len = omega arith
-none_left Back len = refl
-
 -- the ends are apart where more places are left of both than there are
 pub apart_is : (way : Way) (len j : ℕ) (other : End) → j < len
     → apart way (at_place j) other ≡ leb len (left way len (at_place j) + left (opposite way) len other)
-apart_is On len j unopened lt = grind (arith, nat_tests)
-apart_is On len j (at_place k) lt = grind (arith, nat_tests)
-apart_is On len j exhausted lt = grind (arith, nat_tests)
-apart_is Back len j unopened lt = grind (arith, nat_tests)
-apart_is Back len j (at_place k) lt = grind (arith, nat_tests)
-apart_is Back len j exhausted lt = grind (arith, nat_tests)
+apart_is way len j other lt = grind (arith, nat_tests)
 
 module _ {X : Type 0} where
   pub there_is : (xs : List X) (j : ℕ) → j < length xs → (x : X) × (slice_get xs j ≡ Some x)
@@ -43,21 +30,18 @@ module _ {X : Type 0} where
   ahead_of Back xs end = reverse (take (until_end (length xs) end) xs)
 
   pub at_ahead : (way : Way) (xs : List X) (i : ℕ) → ahead_of way xs (at_place i) ≡ ahead way xs (Some i)
-  at_ahead On xs i = refl
-  at_ahead Back xs i = refl
+  at_ahead way xs i = grind arith
 
   pub holds_inside : (way : Way) (xs : List X) (end : End) → StandsInside xs end → Holds way xs end
   holds_inside On xs end inside = tt
   holds_inside Back xs end inside = inside
 
   within_until : (xs : List X) (end : End) → StandsInside xs end → until_end (length xs) end ≤ length xs
-  within_until xs unopened inside = omega arith
-  within_until xs (at_place k) inside = omega arith
-  within_until xs exhausted inside = omega arith
+  within_until xs end inside = grind arith
 
   pub left_is : (way : Way) (xs : List X) (end : End) → Holds way xs end → length (ahead_of way xs end) ≡ left way (length xs) end
-  left_is On xs end held = length-drop (from_end (length xs) end) xs
-  left_is Back xs end held = length-reverse (take (until_end (length xs) end) xs) ∙ length-take-le (until_end (length xs) end) xs (within_until xs end held)
+  left_is On xs end held = length-drop (from_end (length xs) end) xs ∙ grind arith
+  left_is Back xs end held = length-reverse (take (until_end (length xs) end) xs) ∙ length-take-le (until_end (length xs) end) xs (within_until xs end held) ∙ grind arith
 
   -- what stands between two ends, told by the end of a way and the other one, is the first of what lies ahead
   abbrev pub between_on : Way → List X → End → End → List X
@@ -80,11 +64,11 @@ module _ {X : Type 0} where
   pub between_is : (way : Way) (xs : List X) (own other : End) → Holds way xs own → Holds (opposite way) xs other
       → along way (between_on way xs own other) ≡ take (left way (length xs) own + left (opposite way) (length xs) other - length xs) (ahead_of way xs own)
   between_is On xs own other held inside =
-      cut (from_end (length xs) own) (until_end (length xs) other) xs ∙ ap (λ n. take n (ahead_of On xs own)) (omega (arith, within_until xs other inside))
+      cut (from_end (length xs) own) (until_end (length xs) other) xs ∙ ap (λ n. take n (ahead_of On xs own)) (grind (arith, within_until xs other inside))
   between_is Back xs own other inside held =
       let ahead = take (until_end (length xs) own) xs in
       cut_turned (from_end (length xs) other) ahead
-      ∙ ap (λ n. take n (reverse ahead)) (omega (arith, length-take-le (until_end (length xs) own) xs (within_until xs own inside), within_until xs own inside))
+      ∙ ap (λ n. take n (reverse ahead)) (grind (arith, length-take-le (until_end (length xs) own) xs (within_until xs own inside), within_until xs own inside))
 
 -- none of these passes
 abbrev pub Fails : {X : Type 0} → (X → Bool) → List X → Type 0
@@ -202,20 +186,6 @@ module _ {K : Type 0} {cmp : K → K → Ordering} (o : IsTotalOrder cmp) where
   pub above_le : (h x y : K) → is_le (cmp h x) ≡ true → cmp x y ≡ Less → cmp h y ≡ Less
   above_le h x y le less = grind (arith, o.trans, o.congr)
 
-  -- past the bound at which a way begins, all later keys are
-  pub persists : (way : Way) (bound : Bound K) (x y : K) → Later cmp way x y → meets cmp way bound x ≡ true → meets cmp way bound y ≡ true
-  persists On (Included h) x y later met = grind (arith, o.trans, o.congr)
-  persists On (Excluded h) x y later met = grind (arith, o.trans, o.congr)
-  persists Back (Included h) x y later met = grind (arith, o.trans, o.congr, alike_right o)
-  persists Back (Excluded h) x y later met = grind (arith, o.trans, o.congr, alike_right o)
-  persists On Unbounded x y later met = refl
-  persists Back Unbounded x y later met = refl
-
-  -- and behind the bound at which it stops, none is within that bound
-  pub stops : (way : Way) (bound : Bound K) (x y : K) → Later cmp way x y → meets cmp (opposite way) bound x ≡ false → meets cmp (opposite way) bound y ≡ false
-  stops On bound x y later missed = false_from_ne_true _ (λ met. let again = persists Back bound y x later met in cc)
-  stops Back bound x y later missed = false_from_ne_true _ (λ met. let again = persists On bound y x later met in cc)
-
   module _ {V : Type 0} where
     -- what lies ahead of a place comes later
     on_later : (l : List (K × V)) (j : ℕ) (x : K × V) → IsAscending cmp l → slice_get l j ≡ Some x → AllLarger cmp x.0 (drop (j + 1) l)
@@ -236,7 +206,7 @@ module _ {K : Type 0} {cmp : K → K → Ordering} (o : IsTotalOrder cmp) where
     -- so all of it is within the bound at which the way begins if the place is, and nothing of it within the one where it stops if the place isn't
     module _ (way : Way) (bound : Bound K) (l : List (K × V)) (j : ℕ) (x : K × V) (ascending : IsAscending cmp l) (here : slice_get l j ≡ Some x) where
       pub all_pass : meets cmp way bound x.0 ≡ true → Pass way (λ pair. meets cmp way bound pair.0) l (at_place j)
-      all_pass met = all_map (λ y later. persists way bound x.0 y.0 later met) (ahead_of way l (at_place j)) (all_later way l j x ascending here)
+      all_pass met = all_map (λ y later. grind (arith, o.trans, o.congr, alike_right o, later, met)) (ahead_of way l (at_place j)) (all_later way l j x ascending here)
 
       pub all_fail : meets cmp (opposite way) bound x.0 ≡ false → Fails (λ pair. meets cmp (opposite way) bound pair.0) (ahead_of way l (at_place j))
-      all_fail missed = all_map (λ y later. stops way bound x.0 y.0 later missed) (ahead_of way l (at_place j)) (all_later way l j x ascending here)
+      all_fail missed = all_map (λ y later. grind (arith, o.trans, o.congr, alike_right o, later, missed)) (ahead_of way l (at_place j)) (all_later way l j x ascending here)

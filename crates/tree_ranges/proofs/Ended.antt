@@ -1,23 +1,19 @@
 -- An end that has answered None answers None for ever.
-use Rattle.tree_ranges.proofs.Common.{◌≡◌, ◌⊎◌, ℕ, zero, suc, ◌+◌, ◌<◌, ◌≤◌, Bool, true, false, if◌then◌else◌, List, [], ◌∷◌, ◌++◌, drop, append-nil, length, slice_get, Option, Some, None, refl, sym}
+use Rattle.tree_ranges.proofs.Common.{◌≡◌, ◌⊎◌, ℕ, zero, suc, ◌+◌, ◌<◌, ◌≤◌, Bool, true, false, if◌then◌else◌, List, [], ◌∷◌, ◌++◌, drop, append-nil, length, slice_get, Option, None, refl, sym}
 use Rattle.tree_ranges.proofs.Common.{ap, ◌∙◌, arith, inl, inr, is_some, le-leb, Ordering, IsTotalOrder, Bound, IsAscending, cases_lt, opposite, Cursor, End, unopened, at_place}
-use Rattle.tree_ranges.proofs.Common.{element_at, meets, next_end, shown, AllNone, Back, Ended, On, StandsInside, Told, Way, after, and_parts, answer, answers, bound_on, can_turn, cases_Bool, end_on}
+use Rattle.tree_ranges.proofs.Common.{element_at, meets, next_end, shown, AllNone, Back, Ended, On, StandsInside, Told, Way, after, and_parts, answer, answers, bound_on, can_turn, end_on}
 use Rattle.tree_ranges.proofs.Common.{exhausted, flipped, is_unopened, lt-leb, move_on, moved, option_where, pair, shown_apart, slice_get_within, turned, Move, Next, NextBack, Get, GetBack, Flip}
 use Rattle.tree_ranges.proofs.Common.{drop_of_length-le}
 use Rattle.tree_node.proofs.Cuts.{all_behind}
-use Rattle.tree_ranges.proofs.Ahead.{ComesTo, Fails, Holds, ahead_of, all_fail, apart, apart_is, comes, fewer, inside_then, left, none_left}
-use Rattle.tree_ranges.proofs.Flips.{one_flipped, same_flipped}
+use Rattle.tree_ranges.specs.Ranged.{end_left as left}
+use Rattle.tree_ranges.proofs.Ahead.{ComesTo, Fails, Holds, ahead_of, all_fail, apart, apart_is, comes, fewer, inside_then}
 use Rattle.tree_ranges.proofs.Yields.{if_none}
 
 -- an end that shows a pair stands inside
 inside_shown : {X : Type 0} (l : List X) (test : X → Bool) (end : End) → is_some (option_where test (element_at l end)) ≡ true → StandsInside l end
 inside_shown l test unopened shows = tt
 inside_shown l test exhausted shows = tt
-inside_shown {X} l test (at_place i) shows = by_element (slice_get l i) refl shows
-  where
-    by_element : (e : Option X) → slice_get l i ≡ e → is_some (option_where test e) ≡ true → i < length l
-    by_element None is shows = absurd (cc)
-    by_element (Some x) is shows = slice_get_within l i x is
+inside_shown l test (at_place i) shows = grind (arith, slice_get_within)
 
 module _ {K V : Type 0} {cmp : K → K → Ordering} (o : IsTotalOrder cmp) where
   abbrev fits : Way → Cursor K V → K × V → Bool
@@ -43,7 +39,7 @@ module _ {K V : Type 0} {cmp : K → K → Ordering} (o : IsTotalOrder cmp) wher
         by_new : (new : End) → ComesTo way (λ pair. meets cmp way bound pair.0) l old new → left way (length l) new ≤ left way (length l) old
         by_new unopened to = absurd to
         by_new (at_place j) to = omega (arith, fewer way (λ pair. meets cmp way bound pair.0) l old j to held)
-        by_new exhausted to = omega (arith, none_left way (length l))
+        by_new exhausted to = omega arith
 
     -- it stays so whichever end moves
     over_own : (test begins : K × V → Bool) (own new other : End) → Holds way l own → ComesTo way begins l own new → IsOverAt way test l own other
@@ -51,7 +47,7 @@ module _ {K V : Type 0} {cmp : K → K → Ordering} (o : IsTotalOrder cmp) wher
     over_own test begins unopened new other held to over = absurd over
     over_own test begins own unopened other held to over = absurd to
     over_own test begins own exhausted other held to over = tt
-    over_own test begins exhausted (at_place j) other held to over = absurd (omega (arith, none_left way (length l), fewer way begins l exhausted j to held))
+    over_own test begins exhausted (at_place j) other held to over = absurd (omega (arith, fewer way begins l exhausted j to held))
     over_own test begins (at_place i) (at_place j) other held to (inl hidden) =
         let fails = all_behind _ to.skipped (to.item ∷ _) (rw to.parts at hidden.1) in
         inl (rw (to.here, fails.0) refl, fails.1)
@@ -84,41 +80,22 @@ module _ {K V : Type 0} {cmp : K → K → Ordering} (o : IsTotalOrder cmp) wher
         | inr le ↦
             let lt = slice_get_within l j to.item to.here in
             let hidden = rw (apart_is way (length l) j other lt, le-leb (length l) _ le) at none in
-            inl (hidden, all_fail o way bound l j to.item ascending to.here (missed _ to.item (rw to.here at hidden)))
+            let missed : meets cmp (opposite way) bound to.item.0 ≡ false = let hides = rw to.here at hidden in grind arith in
+            inl (hidden, all_fail o way bound l j to.item ascending to.here missed)
       ]
-    where
-      missed : (b : Bool) (x : K × V) → if◌then◌else◌ {A = Option (K × V)} b (Some x) None ≡ None → b ≡ false
-      missed true x is = absurd (cc)
-      missed false x is = refl
 
   -- a cursor with such an end isn't flipped
   not_flipped : (way : Way) (c : Cursor K V) → is_unopened (end_on way c) ≡ false
       → (is_unopened (end_on (opposite way) c) ≡ true → is_some (shown cmp way c) ≡ false) → flipped cmp c ≡ c
-  not_flipped On c opened hides = elim (cases_Bool (is_unopened c.backward)) [
-    | inl new ↦ sym
-        (one_flipped cmp c false true opened new (hides new)).0
-    | inr other ↦ sym (same_flipped cmp c false opened other).0
-  ]
-  not_flipped Back c opened hides = elim (cases_Bool (is_unopened c.forward)) [
-    | inl new ↦ sym
-        (one_flipped cmp c true true new opened (hides new)).0
-    | inr other ↦ sym (same_flipped cmp c false other opened).0
-  ]
+  not_flipped way c opened hides = grind arith
 
   over_flip : (way : Way) (c : Cursor K V) → IsOver way c → flipped cmp c ≡ c
   over_flip way c over = by_own (end_on way c) refl over
     where
-      unmet : (way : Way) (j : ℕ) (other : End) → is_unopened other ≡ true
-          → left way (length c.pairs) (at_place j) + left (opposite way) (length c.pairs) other < length c.pairs → ⊥
-      unmet On j unopened new met = omega arith
-      unmet Back j unopened new met = omega arith
-      unmet way j (at_place k) new met = cc
-      unmet way j exhausted new met = cc
-
       by_own : (own : End) → end_on way c ≡ own → IsOverAt way (fits way c) c.pairs own (end_on (opposite way) c) → flipped cmp c ≡ c
       by_own unopened is over = absurd over
       by_own (at_place j) is (inl hidden) = not_flipped way c (rw is refl) (λ new. rw (is, hidden.0) refl)
-      by_own (at_place j) is (inr met) = not_flipped way c (rw is refl) (λ new. absurd (unmet way j (end_on (opposite way) c) new met))
+      by_own (at_place j) is (inr met) = not_flipped way c (rw is refl) (λ new. absurd (grind arith))
       by_own exhausted is over = not_flipped way c (rw is refl) (λ new. rw is refl)
 
   -- what holds of every cursor that has moved
@@ -126,8 +103,13 @@ module _ {K V : Type 0} {cmp : K → K → Ordering} (o : IsTotalOrder cmp) wher
     ascending : IsAscending cmp c.pairs
     inside : StandsInside c.pairs c.backward
 
-  sound_flip : (c : Cursor K V) → IsSound c → IsSound (flipped cmp c)
-  sound_flip c sound = by_turn (can_turn cmp On c) refl (can_turn cmp Back c)
+  sound_after : (m : Move) (c : Cursor K V) → IsSound c → IsSound (after cmp m c)
+  sound_after Next c sound = record { ascending = sound.ascending; inside = sound.inside }
+  sound_after NextBack c sound =
+      record { ascending = sound.ascending; inside = inside_then Back _ c.pairs c.backward _ (comes cmp Back c.high c.pairs c.backward sound.inside) }
+  sound_after Get c sound = sound
+  sound_after GetBack c sound = sound
+  sound_after Flip c sound = by_turn (can_turn cmp On c) refl (can_turn cmp Back c)
     where
       by_turn : (on : Bool) → can_turn cmp On c ≡ on → (back : Bool) → IsSound (if on then turned cmp On c else if back then turned cmp Back c else c)
       by_turn true is back = record {
@@ -136,14 +118,6 @@ module _ {K V : Type 0} {cmp : K → K → Ordering} (o : IsTotalOrder cmp) wher
       }
       by_turn false is true = record { ascending = sound.ascending; inside = tt }
       by_turn false is false = sound
-
-  sound_after : (m : Move) (c : Cursor K V) → IsSound c → IsSound (after cmp m c)
-  sound_after Next c sound = record { ascending = sound.ascending; inside = sound.inside }
-  sound_after NextBack c sound =
-      record { ascending = sound.ascending; inside = inside_then Back _ c.pairs c.backward _ (comes cmp Back c.high c.pairs c.backward sound.inside) }
-  sound_after Get c sound = sound
-  sound_after GetBack c sound = sound
-  sound_after Flip c sound = sound_flip c sound
 
   over_after : (way : Way) (m : Move) (c : Cursor K V) → IsSound c → IsOver way c → IsOver way (after cmp m c)
   over_after On Next c sound over = over_own On c.pairs (fits On c) _ c.forward _ c.backward tt (comes cmp On c.low c.pairs c.forward tt) over
@@ -158,8 +132,7 @@ module _ {K V : Type 0} {cmp : K → K → Ordering} (o : IsTotalOrder cmp) wher
   -- the move of this end, what it answers and what it makes of the cursor
   own_move : (way : Way) (c : Cursor K V) → (answer cmp (move_on way) c ≡ pair (shown_apart cmp way (moved cmp way c))) × (after cmp
       (move_on way) c ≡ moved cmp way c)
-  own_move On c = (refl, refl)
-  own_move Back c = (refl, refl)
+  own_move way c = grind arith
 
   told_over : (way : Way) (c : Cursor K V) → IsSound c → IsOver way c → shown_apart cmp way (moved cmp way c) ≡ None
   told_over On c sound over =

@@ -1,22 +1,18 @@
 -- What a flip comes to, by which ends are unopened and what they show.
-use Rattle.tree_ranges.proofs.Common.{◌≡◌, ℕ, Bool, true, false, if◌then◌else◌, Option, Some, None, Bor, refl, sym, ap, ◌∙◌, is_some, not, Ordering, IsTotalOrder, Bound, Cursor, lent, shown, Back}
-use Rattle.tree_ranges.proofs.Common.{Flips, IsOpen, Kept, LeafWalk, On, TreeArenas, can_flip, can_turn, end_inside, flipped, is_new, is_unopened, seen, turned, way_of, Root}
+use Rattle.tree_ranges.proofs.Common.{◌≡◌, ℕ, Bool, true, false, if◌then◌else◌, Option, Bor, sym, ap, ◌∙◌, is_some, not, Ordering, IsTotalOrder, Bound, Cursor, lent, shown, Back}
+use Rattle.tree_ranges.proofs.Common.{Flips, arith, IsOpen, Kept, LeafWalk, On, TreeArenas, can_flip, can_turn, end_inside, flipped, is_new, is_unopened, seen, turned, way_of, Root}
 use Rattle.tree_cursors.specs.declared.end.End.{End as TreeEnd}
 use Rattle.tree_ranges.proofs.Shown.{new_is, pairs_ascend}
 
 module _ {K V : Type 0} (cmp : K → K → Ordering) (c : Cursor K V) where
   -- where both ends or none were moved
   pub same_flipped : (new : Bool) → is_unopened c.forward ≡ new → is_unopened c.backward ≡ new → (c ≡ flipped cmp c) × (new ≡ can_flip cmp c)
-  same_flipped true f b = rw (f, b) (refl, refl)
-  same_flipped false f b = rw (f, b) (refl, refl)
+  same_flipped new f b = grind arith
 
   -- where one was, by whether it shows no pair
   pub one_flipped : (new none : Bool) → is_unopened c.forward ≡ new → is_unopened c.backward ≡ not new → is_some (shown cmp (way_of new) c) ≡ not none
       → ((if none then c else turned cmp (way_of new) c) ≡ flipped cmp c) × (not none ≡ can_flip cmp c)
-  one_flipped true true f b is = rw (f, b, is) (refl, refl)
-  one_flipped true false f b is = rw (f, b, is) (refl, refl)
-  one_flipped false true f b is = rw (f, b, is) (refl, refl)
-  one_flipped false false f b is = rw (f, b, is) (refl, refl)
+  one_flipped new none f b is = grind arith
 
   -- both bounds stay open
   pub flipped_open : IsOpen c → IsOpen (flipped cmp c)
@@ -26,11 +22,6 @@ module _ {K V : Type 0} (cmp : K → K → Ordering) (c : Cursor K V) where
       by_turns true back = record { low = bounds.low; high = bounds.high }
       by_turns false true = record { low = bounds.low; high = bounds.high }
       by_turns false false = bounds
-
--- of an answer that is lent, whether it is a pair
-some_lent : {K V : Type 0} (r : Option (Bor K × Bor V)) → is_some (lent r) ≡ is_some r
-some_lent None = refl
-some_lent (Some x) = refl
 
 module _ {K V : Type 0} {LEN : ℕ} {cmp : K → K → Ordering} (o : IsTotalOrder cmp) (a : TreeArenas K V LEN) (root : Option Root) (low high : Bound (Bor K)) (f b : TreeEnd (LeafWalk K V LEN)) (kept : Kept a root cmp f b) where
   abbrev c : Cursor K V
@@ -52,4 +43,4 @@ module _ {K V : Type 0} {LEN : ℕ} {cmp : K → K → Ordering} (o : IsTotalOrd
       → is_some r ≡ not none
       → Flips cmp c (not none) (if none then c else turned cmp (way_of new) c)
   flips_one new none f_is b_is r shows is = flips _ _
-      (one_flipped cmp c new none (forward_new ∙ f_is) (backward_new ∙ b_is) (ap is_some (sym shows) ∙ some_lent r ∙ is))
+      (one_flipped cmp c new none (forward_new ∙ f_is) (backward_new ∙ b_is) (ap is_some (sym shows) ∙ grind (arith, is)))

@@ -1,9 +1,9 @@
 -- The moves of a cursor over a tree, and that each answer brings it nearer to its end.
 use Rattle.tree_ranges.proofs.Common.{◌≡◌, ℕ, ◌<◌, Bool, true, false, if◌then◌else◌, List, length, Option, Some, None, is_some, Bor, sym, ap, ◌∙◌, arith, Ordering, ⊤, IsTotalOrder, MakesProgress}
-use Rattle.tree_ranges.proofs.Common.{Bound, lent_entry, Moves, lent, opposite, Cursor, End, unopened, at_place, element_at, meets, next_end, Back, EndStands, Kept, LeafWalk, On, TreeArenas, Way}
+use Rattle.tree_ranges.proofs.Common.{Bound, lent_entry, Moves, lent, Cursor, End, unopened, at_place, element_at, meets, next_end, Back, EndStands, Kept, LeafWalk, On, TreeArenas, Way}
 use Rattle.tree_ranges.proofs.Common.{are_apart, bound_on, end_inside, end_left, end_of, end_on, exhausted, moves_left, option_where, pair_of, seen, shown_apart, walk_under, with_end, at_most, Root}
 use Rattle.tree_cursors.specs.declared.end.End.{End as TreeEnd}
-use Rattle.tree_ranges.proofs.Ahead.{ComesTo, Holds, comes, fewer, left}
+use Rattle.tree_ranges.proofs.Ahead.{ComesTo, Holds, comes, fewer}
 use Rattle.tree_ranges.proofs.Shown.{element_is, pairs_ascend}
 use Rattle.tree_ranges.proofs.Yields.{if_none}
 
@@ -37,9 +37,6 @@ module _ {K V : Type 0} {LEN : ℕ} {cmp : K → K → Ordering} (o : IsTotalOrd
           (lent pair) else None)) → Moves cmp Back c r (seen a root low high f new)
       moves_back place told = moves Back _ place (rw there (told (record { tree = kept.tree; forward_stands = kept.forward_stands; backward_stands = stands })))
 
-left_end : (way : Way) (len : ℕ) (end : End) → end_left way len end ≡ left way len end
-left_end way len end = grind arith
-
 module _ {K V : Type 0} (cmp : K → K → Ordering) where
   -- an end that comes to a pair has fewer left
   nearer : (way : Way) (bound : Bound K) (l : List (K × V)) (old : End) (apart : Bool) (test : K × V → Bool) (x : K × V) → Holds way l old
@@ -50,29 +47,15 @@ module _ {K V : Type 0} (cmp : K → K → Ordering) where
       by_new : (new : End) → ComesTo way (λ pair. meets cmp way bound pair.0) l old new
           → (if apart then option_where test (element_at l new) else None) ≡ Some x → end_left way (length l) new < end_left way (length l) old
       by_new unopened to shows = absurd to
-      by_new (at_place j) to shows = omega (
-        arith,
-        left_end way (length l) (at_place j),
-        left_end way (length l) old,
-        fewer way (λ pair. meets cmp way bound pair.0) l old j to held,
-      )
+      by_new (at_place j) to shows = omega (arith, fewer way (λ pair. meets cmp way bound pair.0) l old j to held)
       by_new exhausted to shows = absurd (let none = if_none {X = K × V} apart in cc)
-
-  same_pair : (apart : Bool) (test : K × V → Bool) (e : Option (K × V)) (x : K × V) → (if apart then option_where test e else None) ≡ Some x → e ≡ Some x
-  same_pair false test e x is = absurd (cc)
-  same_pair true test None x is = absurd (cc)
-  same_pair true test (Some y) x is = by_test (test y) is
-    where
-      by_test : (b : Bool) → (if b then Some y else None) ≡ Some x → Some y ≡ Some x
-      by_test true is = is
-      by_test false is = absurd (cc)
 
   -- a move that gives a pair gives the one at its end
   pub gives_element : (way : Way) (s t : Cursor K V) (given r : Option (Bor K × Bor V)) → Moves cmp way s given t → is_some given ≡ true
       → lent r ≡ element_at t.pairs (end_on way t) → Moves cmp way s r t
   gives_element way s t None r moves some here = absurd (cc)
   gives_element way s t (Some x) r moves some here =
-      let shows = same_pair (are_apart t.forward t.backward) (λ pair. meets cmp (opposite way) (bound_on (opposite way) t) pair.0) _ (lent_entry x) (sym moves.answers) in
+      let shows : element_at t.pairs (end_on way t) ≡ Some (lent_entry x) = grind (arith, moves.answers) in
       record { moves = moves.moves; answers = here ∙ shows ∙ moves.answers; ascending = moves.ascending; inside = moves.inside }
 
   pub gives_none : (way : Way) (s t : Cursor K V) (given : Option (Bor K × Bor V)) → Moves cmp way s given t → is_some given ≡ false → Moves cmp way s None t
@@ -85,6 +68,8 @@ module _ {K V : Type 0} (cmp : K → K → Ordering) where
   comes_nearer Back s t x moves =
       rw moves.moves (omega (arith, nearer Back s.high s.pairs s.backward _ _ (lent_entry x) moves.inside (sym (rw moves.moves at moves.answers))))
 
-  pub makes_progress : (way : Way) (s t : Cursor K V) (r : Option (Bor K × Bor V)) → Moves cmp way s r t → MakesProgress (λ _. ⊤) (λ c. at_most (moves_left c)) s r t
-  makes_progress way s t None moves = record { on = λ _. tt; keeps = tt; rests = λ _. tt }
-  makes_progress way s t (Some x) moves = record { on = λ _. (tt, tt, comes_nearer way s t x moves); keeps = tt; rests = λ _. tt }
+  -- a move, with the progress that it makes
+  pub with_progress : (way : Way) (s t : Cursor K V) (r : Option (Bor K × Bor V)) → Moves cmp way s r t
+      → record { steps : Moves cmp way s r t; goes : MakesProgress (λ _. ⊤) (λ c. at_most (moves_left c)) s r t }
+  with_progress way s t None moves = record { steps = moves; goes = record { on = λ _. tt; keeps = tt; rests = λ _. tt } }
+  with_progress way s t (Some x) moves = record { steps = moves; goes = record { on = λ _. (tt, tt, comes_nearer way s t x moves); keeps = tt; rests = λ _. tt } }

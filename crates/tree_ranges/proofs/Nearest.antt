@@ -1,5 +1,5 @@
 -- Where a key is in an ascending list, told by the first place whose key isn't smaller.
-use Rattle.tree_ranges.proofs.Common.{◌≡◌, ℕ, zero, suc, ◌-◌, ◌<◌, ◌==◌, Bool, true, false, if◌then◌else◌, List, [], ◌∷◌, length, slice_get, Option, Some, None, refl, ap, arith, is_some, option_map}
+use Rattle.tree_ranges.proofs.Common.{◌≡◌, ℕ, zero, suc, ◌<◌, ◌==◌, Bool, true, false, if◌then◌else◌, List, [], ◌∷◌, length, slice_get, Option, Some, None, refl, ap, arith, is_some, option_map}
 use Rattle.tree_ranges.proofs.Common.{is_eq, is_le, Ordering, Less, Equal, Greater, IsTotalOrder, Included, Unbounded, nat_tests, AllLarger, IsAscending, below, pair_at, End, unopened, at_place}
 use Rattle.tree_ranges.proofs.Common.{element_at, greatest_place, meets, next_end, Cursor, Back, On, all_map, end_at, least_place, located, located_at, slice_get_within, with_ends, ProximityOf, Exact}
 use Rattle.tree_ranges.proofs.Common.{Between, Smaller, Larger, Empty, none_larger, ordering_reverse, is_at, located_beside, located_past}
@@ -20,9 +20,7 @@ module _ {K V : Type 0} {cmp : K → K → Ordering} (o : IsTotalOrder cmp) (k :
       → IsFound (x ∷ xs) (if is_le (ordering_reverse r) then Some 0 else option_map (λ i. suc i) found)
   found_more x xs larger None is Less h = (rw h (ap (λ n. suc n) is.0), rw h is.1)
   found_more x xs larger (Some n) is Less h = (is.0, is.1, rw h (ap (λ n. suc n) is.2), rw h is.3)
-  found_more x xs larger found is Equal h =
-      let later = all_above x xs larger (rw (o.antisymm k x.0, h) refl) in
-      (x, refl, rw (h, (parted o k xs later).0) refl, rw h refl)
+  found_more x xs larger found is Equal h = (x, refl, rw (h, (parted o k xs (all_above x xs larger (rw (o.antisymm k x.0, h) refl))).0) refl, rw h refl)
   found_more x xs larger found is Greater h =
       let later = all_above x xs larger (rw (o.antisymm k x.0, h) refl) in
       (x, refl, rw (h, (parted o k xs later).0) refl, rw (h, none_larger o k xs later) refl)
@@ -33,18 +31,9 @@ module _ {K V : Type 0} {cmp : K → K → Ordering} (o : IsTotalOrder cmp) (k :
 
 module _ {K V : Type 0} (cmp : K → K → Ordering) where
   -- what is told by an end at a place of the list, and where no key is larger
-  exact_at : (l : List (K × V)) (n : ℕ) → n < length l → Exact (with_ends l (at_place n) unopened) ≡ located_at l n true
-  exact_at l n lt = let some : (length l == 0) ≡ false = grind (arith, nat_tests) in rw some refl
-
   beside_at : (l : List (K × V)) (n : ℕ) → n < length l → located_beside cmp l (at_place n) ≡ located_at l n false
   beside_at l zero lt = let some : (length l == 0) ≡ false = grind (arith, nat_tests) in rw some refl
-  beside_at l (suc n) lt =
-      let before = there_is l n (omega arith) in
-      let some : (length l == 0) ≡ false = grind (arith, nat_tests) in
-      let not_first : (suc n == 0) ≡ false = grind (arith, nat_tests) in
-      let not_all : (suc n == length l) ≡ false = grind (arith, nat_tests) in
-      let one_before : suc n - 1 ≡ n = omega arith in
-      rw (before.1, some, not_first, not_all, one_before) refl
+  beside_at l (suc n) lt = let before = there_is l n (omega arith) in grind (arith, nat_tests)
 
   last_place : (x : K × V) (xs : List (K × V)) → greatest_place (λ _. true) (x ∷ xs) ≡ Some (length xs)
   last_place x [] = refl
@@ -54,10 +43,7 @@ module _ {K V : Type 0} (cmp : K → K → Ordering) where
   past_at [] = refl
   past_at (x ∷ xs) =
       let last = there_is (x ∷ xs) (length xs) (omega arith) in
-      let some : (suc (length xs) == 0) ≡ false = grind (arith, nat_tests) in
-      let all : (suc (length xs) == suc (length xs)) ≡ true = grind (arith, nat_tests) in
-      let one_before : suc (length xs) - 1 ≡ length xs = omega arith in
-      rw (last_place x xs, last.1, some, all, one_before) refl
+      let at = last_place x xs in grind (arith, nat_tests)
 
   -- where a key is, by what a search from it on has come to
   abbrev pub located_by : List (K × V) → K → End → Option (K × V) → ProximityOf (Cursor K V)
@@ -71,7 +57,7 @@ module _ {K V : Type 0} {cmp : K → K → Ordering} (o : IsTotalOrder cmp) (k :
   found_is (Some n) is e here = rw (← here, is.1, is.2, is.3) (by_test (is_eq (cmp is.0.0 k)) (slice_get_within l n is.0 is.1))
     where
       by_test : (b : Bool) → n < length l → (if b then Exact (with_ends l (at_place n) unopened) else located_beside cmp l (at_place n)) ≡ located_at l n b
-      by_test true lt = exact_at cmp l n lt
+      by_test true lt = let some : (length l == 0) ≡ false = grind (arith, nat_tests) in rw some refl
       by_test false lt = beside_at cmp l n lt
 
   pub located_is : (first : End) → first ≡ next_end cmp On (Included k) l unopened → (e : Option (K × V)) → element_at l first ≡ e

@@ -1,8 +1,9 @@
 -- The first entry of a part that is within a bound, told by the part's last one.
 use Rattle.tree_ranges.proofs.Common.{◌≡◌, ℕ, zero, suc, ◌<◌, true, false, List, [], ◌∷◌, ◌++◌, length, reverse, Option, Some, None, Bor, append_assoc, refl, sym, ap, ◌∙◌, arith, inl, inr, Ordering}
 use Rattle.tree_ranges.proofs.Common.{IsTotalOrder, AllByRecursion, Bound, reverse-reverse, reverse-append, reverse_onto, IsAscending, lent, along, opposite, meets, Back, LeafWalk, On}
-use Rattle.tree_ranges.proofs.Common.{StandsOrRetired, Steps, StepsOver, TreeArenas, Way, all_ahead, all_along, all_at, all_left, both_ways, first_on, first_place, first_step, get, here, next_place}
+use Rattle.tree_ranges.proofs.Common.{StandsOrRetired, Steps, TreeArenas, Way, all_ahead, all_along, all_at, all_left, both_ways, first_on, first_place, first_step, get, here, next_place}
 use Rattle.tree_ranges.proofs.Common.{no_children, slice_get_within, step_takes, walk, walk_ascends, BeginsPart, IsLinked, NoneMeets, Seeks, Approximates}
+use Rattle.tree_chain.proofs.Along.{first_taken as first_step_takes}
 use Rattle.tree_ranges.proofs.Ahead.{all_fail, at_ahead}
 
 module _ {X : Type 0} (P : X → Type 0) where
@@ -21,10 +22,6 @@ module _ {X : Type 0} (P : X → Type 0) where
       (found.0, rw (same, ← found.1) refl)
 
 module _ {X : Type 0} where
-  one_taken : (way : Way) (taken : Option X) (at : Option ℕ) (xs : List X) → 0 < length xs → StepsOver way xs None taken at → taken ≡ first_on way xs
-  one_taken way None at xs some over = absurd (omega (arith, over.0, all_left way (length xs)))
-  one_taken way (Some x) at xs some over = sym (first_place way xs ∙ over.1)
-
   -- an element on a way stands between others
   parted : (way : Way) (xs before : List X) (x : X) (behind : List X) → along way xs ≡ before ++ x ∷ behind
       → (front : List X) × (back : List X) × (xs ≡ front ++ x ∷ back)
@@ -62,15 +59,14 @@ module _ {K V : Type 0} {LEN : ℕ} (cmp : K → K → Ordering) (way : Way) (le
       let inside = one_of_first (λ (p : K × V). meets cmp way bound p.0 ≡ false)
       (along way (walk level a id)) _ near.before near.pair _ near.parts near.none_before some in
       let parts = parted way (walk level a id) near.before near.pair inside.0 inside.1 in
-      record { same = near.same; front = parts.0; pair = near.pair; back = parts.1; parts = parts.2; here = near.here; met = near.met }
+      record { same = near.stand.same; front = parts.0; pair = near.pair; back = parts.1; parts = parts.2; here = near.here; met = near.met }
 
 -- a walk that begins a part takes the part's first entry
 pub first_taken : {K V : Type 0} {LEN : ℕ} (way : Way) (level : ℕ) (a : TreeArenas K V LEN) (id : ℕ) (begun new : LeafWalk K V LEN) (r : Option (Bor K × Bor V))
     → BeginsPart way level a id begun → Steps way begun r new → lent r ≡ first_on way (walk level a id)
 first_taken way level a id begun new r begins steps =
-    let same = ap (λ w. w.leaves) begins.unopened in
     let fresh = ap (λ w. w.at) begins.unopened in
-    one_taken way (lent r) new.at (here begun) (rw same begins.leaf.entry) (rw fresh at steps.1) ∙ begins.entry
+    (first_step_takes way (here begun) (lent r) new.at (rw fresh at steps.1)).0 ∙ begins.entry
 
 -- the entries of a part ascend
 pub part_ascends : {K V : Type 0} {LEN : ℕ} {cmp : K → K → Ordering} (o : IsTotalOrder cmp) (a : TreeArenas K V LEN) (id level : ℕ) → 0 < level → StandsOrRetired cmp level a id → IsAscending cmp (walk level a id)

@@ -1,25 +1,20 @@
 -- A move answers the first of the pairs that are left on its way.
-use Rattle.std.proofs.Common.{drop, take-append-drop, ◌≡◌, ℕ, ◌+◌, ◌-◌, ◌≤◌, Bool, true, false, ◌&&◌, if◌then◌else◌, List, [], ◌∷◌, ◌++◌, length, take, reverse, Option, Some, None, Bor, append_assoc, append-nil, refl, sym, ap, ◌∙◌, suc, arith, inl, inr, filter, le-leb, Ordering, take_all, take-add, take_at, drop_at}
-use Rattle.tree_model.proofs.Common.{IsTotalOrder, reverse_onto, filter-append, cases_lt, IsAscending, within, lent_entry, HasBegun, Moves, lent, rest, along, opposite, Cursor, End, unopened, at_place, element_at, meets, next_end}
-use Rattle.tree_ranges.proofs.Common.{Back, IsFresh, On, StandsWhere, Way, all_map, and_right, between, bound_on, cases_Bool, exhausted, filter_none, lt-leb, moved, option_where, pairs_within, slice_get_within, take-append-le}
-use Rattle.tree_chain.specs.Rest.{TakesFirst}
+use Rattle.std.proofs.Common.{drop, take-append-drop, ◌≡◌, ℕ, ◌+◌, ◌-◌, ◌≤◌, Bool, true, false, ◌&&◌, if◌then◌else◌, List, [], ◌∷◌, ◌++◌, length, take, reverse, Option, Some, None, Bor, append_assoc, append-nil, refl, sym, ◌∙◌, suc, arith, inl, inr, filter, le-leb, Ordering, take_all, take-add, take_at, drop_at}
+use Rattle.tree_model.proofs.Common.{IsTotalOrder, reverse_onto, filter-append, cases_lt, IsAscending, within, lent_entry, HasBegun, Moves, rest, along, opposite, Cursor, End, unopened, at_place, element_at, meets, next_end}
+use Rattle.tree_ranges.proofs.Common.{Back, IsFresh, On, StandsWhere, Way, all_map, and_right, between, bound_on, cases_Bool, exhausted, filter_none, lt-leb, option_where, pairs_within, slice_get_within, take-append-le}
+use Rattle.std.specs.Map.Iter.{TakesFirst}
+use Rattle.tree_chain.proofs.Rests.{takes_lent}
 use Rattle.std.proofs.Math.Bool.{and_comm}
 use Rattle.tree_node.proofs.Cuts.{all_front}
-use Rattle.tree_ranges.proofs.Ahead.{ComesTo, Fails, Holds, Pass, ahead_of, all_fail, all_pass, apart, apart_is, between_is, between_on, comes, fewer, holds_inside, left}
+use Rattle.tree_ranges.specs.Ranged.{end_left as left}
+use Rattle.tree_ranges.proofs.Ahead.{ComesTo, Fails, Holds, Pass, ahead_of, all_fail, all_pass, apart, apart_is, between_is, between_on, comes, fewer, holds_inside}
 
 -- what was left, what was answered and what is left
-abbrev pub Splits : {X : Type 0} → List X → Option X → List X → Type 0
-Splits left None others = (left ≡ []) × (others ≡ [])
-Splits left (Some x) others = left ≡ x ∷ others
-
-takes_lent : {K V : Type 0} (left : List (K × V)) (r : Option (Bor K × Bor V)) (shown : Option (K × V)) (others : List (K × V)) → lent r ≡ shown
-    → Splits left shown others → TakesFirst left r others
-takes_lent left None shown others is splits = rw (← is) at splits
-takes_lent left (Some x) shown others is splits = rw (← is) at splits
+abbrev Splits : {X : Type 0} → List X → Option X → List X → Type 0
+Splits = TakesFirst (λ x. x)
 
 pub if_none : {X : Type 0} (b : Bool) → if◌then◌else◌ {A = Option X} b None None ≡ None
-if_none true = refl
-if_none false = refl
+if_none b = grind arith
 
 module _ {X : Type 0} where
   take_fails : (test : X → Bool) (n : ℕ) (xs : List X) → Fails test xs → Fails test (take n xs)
@@ -42,13 +37,9 @@ module _ {X : Type 0} where
     splits : (skipped : List X) (x : X) (others : List X) → Fails begins skipped → begins x ≡ true → (stops x ≡ false → Fails stops others)
         → Splits (filter inside (skipped ++ x ∷ others)) (option_where stops (Some x)) (filter inside others)
     splits skipped x others fails met over = rw (filter-append inside skipped (x ∷ others), none_begins skipped fails, both x, met)
-        (elim (cases_Bool (stops x)) [
-          | inl shows ↦ rw shows refl
-          | inr hides ↦
-              let none = filter_none inside others (all_map {P = λ y. stops y ≡ false} {Q = λ y. inside y ≡ false}
-              (λ y missed. both y ∙ and_right (begins y) (stops y) missed) others (over hides)) in
-              rw (hides, none) (refl, refl)
-        ])
+        (let none = λ (hides : stops x ≡ false). filter_none inside others (all_map {P = λ y. stops y ≡ false} {Q = λ y. inside y ≡ false}
+        (λ y missed. both y ∙ and_right (begins y) (stops y) missed) others (over hides)) in
+        elim (cases_Bool (stops x)) [ inl shows ↦ rw shows refl | inr hides ↦ rw (hides, none hides) (refl, refl) ])
 
 module _ {K V : Type 0} {cmp : K → K → Ordering} (o : IsTotalOrder cmp) (c : Cursor K V) (ascending : IsAscending cmp c.pairs) where
   abbrev inside : K × V → Bool
@@ -61,8 +52,7 @@ module _ {K V : Type 0} {cmp : K → K → Ordering} (o : IsTotalOrder cmp) (c :
   stops way pair = meets cmp (opposite way) (bound_on (opposite way) c) pair.0
 
   both : (way : Way) (pair : K × V) → inside pair ≡ (begins way pair && stops way pair)
-  both On pair = refl
-  both Back pair = and_comm (begins On pair) (begins Back pair)
+  both way pair = grind (arith, and_comm (begins On pair) (begins Back pair))
 
   module _ (way : Way) where
     pass : (own : End) → StandsWhere (begins way) c.pairs own → Pass way (begins way) c.pairs own
@@ -127,7 +117,8 @@ module _ {K V : Type 0} {cmp : K → K → Ordering} (o : IsTotalOrder cmp) (c :
 
 module _ {K V : Type 0} {cmp : K → K → Ordering} (o : IsTotalOrder cmp) where
   -- a cursor that moves takes the first of what is left on its way
-  pub takes_first : (way : Way) (s t : Cursor K V) (r : Option (Bor K × Bor V)) → Moves cmp way s r t → HasBegun cmp way s → HasBegun cmp way t × TakesFirst (rest cmp way s) r (rest cmp way t)
+  pub takes_first : (way : Way) (s t : Cursor K V) (r : Option (Bor K × Bor V)) → Moves cmp way s r t → HasBegun cmp way s
+      → HasBegun cmp way t × TakesFirst lent_entry (rest cmp way s) r (rest cmp way t)
   takes_first On s t r moves begun =
       let step = step o s moves.ascending On s.forward s.backward tt moves.inside begun in
       rw moves.moves (step.1, takes_lent _ r _ _ (rw moves.moves at moves.answers) step.0)
@@ -141,14 +132,10 @@ pub record IsWalked {K V : Type 0} (cmp : K → K → Ordering) (way : Way) (sta
   pub left : IsAscending cmp start.pairs → HasBegun cmp way now × (given ++ rest cmp way now ≡ rest cmp way start)
 
 module _ {K V : Type 0} {cmp : K → K → Ordering} (o : IsTotalOrder cmp) (way : Way) (start : Cursor K V) where
-  moved_pairs : (way : Way) (s : Cursor K V) → (moved cmp way s).pairs ≡ s.pairs
-  moved_pairs On s = refl
-  moved_pairs Back s = refl
-
   module _ (s t : Cursor K V) (given : List (K × V)) (walked : IsWalked cmp way start s given) where
     pub walked_on : (x : Bor K × Bor V) → Moves cmp way s (Some x) t → IsWalked cmp way start t (given ++ lent_entry x ∷ [])
     walked_on x moves = record {
-      same = ap (λ (c : Cursor K V). c.pairs) moves.moves ∙ moved_pairs way s ∙ walked.same;
+      same = rw moves.moves (grind (arith, walked.same));
       left = λ ascending.
           let was = walked.left ascending in
           let takes = takes_first o way s t (Some x) moves was.0 in
@@ -172,11 +159,8 @@ module _ {K V : Type 0} (cmp : K → K → Ordering) (c : Cursor K V) (new : IsF
 
   filter_turned : (test : K × V → Bool) (xs : List (K × V)) → filter test (reverse xs) ≡ reverse (filter test xs)
   filter_turned test [] = refl
-  filter_turned test (x ∷ xs) = rw (reverse_onto xs x [], filter-append test (reverse xs) (x ∷ []), filter_turned test xs) (by_test (test x))
-    where
-      by_test : (b : Bool) → reverse (filter test xs) ++ (if b then x ∷ [] else []) ≡ reverse (if b then x ∷ filter test xs else filter test xs)
-      by_test true = sym (reverse_onto (filter test xs) x [])
-      by_test false = append-nil (reverse (filter test xs))
+  filter_turned test (x ∷ xs) = rw (reverse_onto xs x [], filter-append test (reverse xs) (x ∷ []), filter_turned test xs)
+      (grind (arith, reverse_onto (filter test xs) x [], append-nil (reverse (filter test xs))))
 
   pub rest_fresh : (way : Way) → rest cmp way c ≡ along way (pairs_within cmp c)
   rest_fresh On = rw whole refl

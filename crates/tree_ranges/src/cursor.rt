@@ -9,12 +9,10 @@ ghost use Rattle.tree_model.specs.Moves.{Ended, after, after_all, answer, answer
 ghost use Rattle.tree_model.specs.Rest.{Moves, StandsInside, lent};
 ghost use Rattle.tree_ranges.specs.Ranged.{Flips};
 
-use crate::iter::IterOver;
-use crate::range::RangeOver;
+use crate::iter::IterOf;
+use crate::range::RangeOf;
 use std::alloc::{AllocError, Global};
-use tree_leaf::leaf::LeafOf;
 use tree_model::{Answer, Move};
-use tree_node::node::ArenasOf;
 
 /// A cursor with two ends over pairs in the order of their keys.
 pub trait Cursor<'t, K: Ord + Drop + 't, V: Drop + 't>: DoubleEndedIterator<Item = (&'t K, &'t V)> {
@@ -47,7 +45,7 @@ pub trait Cursor<'t, K: Ord + Drop + 't, V: Drop + 't>: DoubleEndedIterator<Item
 }
 
 impl<'t, K: Ord + Drop + 't, V: Drop + 't, const LEN: usize> Cursor<'t, K, V>
-    for RangeOver<'t, K, V, ArenasOf<K, V, LEN>, LeafOf<K, V, LEN>> {
+    for RangeOf<'t, K, V, LEN> {
     ghost cursor = { λ s. s };
 
     ghost may_move = { λ s. tt };
@@ -59,20 +57,20 @@ impl<'t, K: Ord + Drop + 't, V: Drop + 't, const LEN: usize> Cursor<'t, K, V>
     ghost moves_back = { λ s r t h. h };
 
     fn get(&self) -> Option<(&'t K, &'t V)> {
-        RangeOver::get(self)
+        RangeOf::get(self)
     }
 
     fn get_back(&self) -> Option<(&'t K, &'t V)> {
-        RangeOver::get_back(self)
+        RangeOf::get_back(self)
     }
 
     fn flip(&mut self) -> bool {
-        RangeOver::flip(self)
+        RangeOf::flip(self)
     }
 }
 
 impl<'t, K: Ord + Drop + 't, V: Drop + 't, const LEN: usize> Cursor<'t, K, V>
-    for IterOver<'t, K, V, ArenasOf<K, V, LEN>, LeafOf<K, V, LEN>> {
+    for IterOf<'t, K, V, LEN> {
     ghost cursor = { λ s. s };
 
     ghost may_move = { λ s. tt };
@@ -84,15 +82,15 @@ impl<'t, K: Ord + Drop + 't, V: Drop + 't, const LEN: usize> Cursor<'t, K, V>
     ghost moves_back = { λ s r t h. h };
 
     fn get(&self) -> Option<(&'t K, &'t V)> {
-        IterOver::get(self)
+        IterOf::get(self)
     }
 
     fn get_back(&self) -> Option<(&'t K, &'t V)> {
-        IterOver::get_back(self)
+        IterOf::get_back(self)
     }
 
     fn flip(&mut self) -> bool {
-        IterOver::flip(self)
+        IterOf::flip(self)
     }
 }
 

@@ -10,7 +10,7 @@ ghost use Rattle.tree_model.specs.Rest.{Moves, StandsInside, lent};
 ghost use Rattle.tree_cursors.specs.View.{Kept, end_of};
 ghost use Rattle.tree_ranges.specs.Ranged.{Flips, IsOpen, moves_left};
 
-use crate::range::{RangeOver, Ranged};
+use crate::range::{RangeOf, RangeOver, Ranged};
 use std::alloc::AllocError;
 use std::fmt;
 use std::iter::FusedIterator;
@@ -52,13 +52,7 @@ impl<'t, K, V, A: Ranged<K, V, L>, L: Walked> Model for IterOver<'t, K, V, A, L>
     ghost invariant = { λ a. IsOpen a.range };
 }
 
-impl<'t, K: Ord + Drop + 't, V: Drop + 't, const LEN: usize> IterOver<
-    't,
-    K,
-    V,
-    ArenasOf<K, V, LEN>,
-    LeafOf<K, V, LEN>,
-> {
+impl<'t, K: Ord + Drop + 't, V: Drop + 't, const LEN: usize> IterOf<'t, K, V, LEN> {
     /// Creates a cursor over all pairs of a tree. Runs in constant time. The caller must lend the arenas of a
     /// well-formed tree with its root.
     pub fn new(arenas: &'t ArenasOf<K, V, LEN>, root: Option<Root>) -> Self
@@ -115,8 +109,7 @@ impl<'t, K: Ord + Drop + 't, V: Drop + 't, const LEN: usize> IterOver<
     }
 }
 
-impl<'t, K: Ord + Drop + 't, V: Drop + 't, const LEN: usize> Iterator
-    for IterOver<'t, K, V, ArenasOf<K, V, LEN>, LeafOf<K, V, LEN>> {
+impl<'t, K: Ord + Drop + 't, V: Drop + 't, const LEN: usize> Iterator for IterOf<'t, K, V, LEN> {
     type Item = (&'t K, &'t V);
 
     ghost next_gives = { Moves K.cmp On };
@@ -130,7 +123,7 @@ impl<'t, K: Ord + Drop + 't, V: Drop + 't, const LEN: usize> Iterator
 }
 
 impl<'t, K: Ord + Drop + 't, V: Drop + 't, const LEN: usize> DoubleEndedIterator
-    for IterOver<'t, K, V, ArenasOf<K, V, LEN>, LeafOf<K, V, LEN>> {
+    for IterOf<'t, K, V, LEN> {
     ghost next_back_gives = { Moves K.cmp Back };
 
     #[inline(always)]
@@ -140,7 +133,7 @@ impl<'t, K: Ord + Drop + 't, V: Drop + 't, const LEN: usize> DoubleEndedIterator
 }
 
 impl<'t, K: Ord + Drop + 't, V: Drop + 't, const LEN: usize> FusedIterator
-    for IterOver<'t, K, V, ArenasOf<K, V, LEN>, LeafOf<K, V, LEN>> {}
+    for IterOf<'t, K, V, LEN> {}
 
 impl<'t, K, V, A: Ranged<K, V, L>, L: Walked> Clone for IterOver<'t, K, V, A, L> {
     ghost is_clone = { λ cursor clone. clone ≡ cursor };
@@ -154,13 +147,12 @@ impl<'t, K, V, A: Ranged<K, V, L>, L: Walked> Clone for IterOver<'t, K, V, A, L>
     }
 }
 
-impl<'t, K: Ord + Drop + 't, V: Drop + 't, const LEN: usize> From<
-    RangeOver<'t, K, V, ArenasOf<K, V, LEN>, LeafOf<K, V, LEN>>,
-> for IterOver<'t, K, V, ArenasOf<K, V, LEN>, LeafOf<K, V, LEN>> {
+impl<'t, K: Ord + Drop + 't, V: Drop + 't, const LEN: usize> From<RangeOf<'t, K, V, LEN>>
+    for IterOf<'t, K, V, LEN> {
     ghost from_gives = { λ range iter. iter ≡ opened range };
 
     /// Keeps the tree and both ends, and opens both bounds.
-    fn from(range: RangeOver<'t, K, V, ArenasOf<K, V, LEN>, LeafOf<K, V, LEN>>) -> Self {
+    fn from(range: RangeOf<'t, K, V, LEN>) -> Self {
         IterOver {
             range: range.opened(),
         }
@@ -168,7 +160,7 @@ impl<'t, K: Ord + Drop + 't, V: Drop + 't, const LEN: usize> From<
 }
 
 impl<'t, K: Ord + Drop + fmt::Debug + 't, V: Drop + fmt::Debug + 't, const LEN: usize> fmt::Debug
-    for IterOver<'t, K, V, ArenasOf<K, V, LEN>, LeafOf<K, V, LEN>> {
+    for IterOf<'t, K, V, LEN> {
     fn fmt<W: fmt::Write>(&self, f: &mut fmt::Formatter<W>) -> fmt::Result {
         f.debug_struct("Iter")
             .field("forward", &self.get())

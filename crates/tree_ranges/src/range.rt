@@ -83,13 +83,7 @@ impl<'t, K, V, A: Ranged<K, V, L>, L: Walked> Model for RangeOver<'t, K, V, A, L
     ghost invariant = { λ a. A.kept a.arenas.now a.root a.forward a.backward };
 }
 
-impl<'t, K: Ord + Drop + 't, V: Drop + 't, const LEN: usize> RangeOver<
-    't,
-    K,
-    V,
-    ArenasOf<K, V, LEN>,
-    LeafOf<K, V, LEN>,
-> {
+impl<'t, K: Ord + Drop + 't, V: Drop + 't, const LEN: usize> RangeOf<'t, K, V, LEN> {
     /// Creates a cursor over the pairs of a tree whose keys are within two bounds. Runs in constant time. The
     /// caller must lend the arenas of a well-formed tree with its root.
     pub fn new(
@@ -179,9 +173,8 @@ impl<'t, K: Ord + Drop + 't, V: Drop + 't, const LEN: usize> RangeOver<
         }
     }
 
-    /// Moves the forward end, and returns whether the move gives the pair that the end then stands on. Stays out of the way
-    /// of the moves in a leaf, and answers in a register, so that these need no room for an answer in memory.
-    #[inline(never)]
+    /// Moves the forward end, and returns whether the move gives the pair that the end then stands on. Answers in a register,
+    /// so that the moves in a leaf need no room for an answer in memory.
     fn goes_elsewhere(&mut self) -> bool
         ensures { (pair : _) × Moves K.cmp On self.old pair self.new × (result ≡ is_some pair) }
     {
@@ -195,7 +188,6 @@ impl<'t, K: Ord + Drop + 't, V: Drop + 't, const LEN: usize> RangeOver<
     }
 
     /// Moves the backward end, as [`goes_elsewhere`](RangeOver::goes_elsewhere) moves the forward one.
-    #[inline(never)]
     fn goes_back_elsewhere(&mut self) -> bool
         ensures { (pair : _) × Moves K.cmp Back self.old pair self.new × (result ≡ is_some pair) }
     {
@@ -213,8 +205,7 @@ impl<'t, K: Ord + Drop + 't, V: Drop + 't, const LEN: usize> RangeOver<
     }
 }
 
-impl<'t, K: Ord + Drop + 't, V: Drop + 't, const LEN: usize> Iterator
-    for RangeOver<'t, K, V, ArenasOf<K, V, LEN>, LeafOf<K, V, LEN>> {
+impl<'t, K: Ord + Drop + 't, V: Drop + 't, const LEN: usize> Iterator for RangeOf<'t, K, V, LEN> {
     type Item = (&'t K, &'t V);
 
     ghost next_gives = { Moves K.cmp On };
@@ -234,7 +225,7 @@ impl<'t, K: Ord + Drop + 't, V: Drop + 't, const LEN: usize> Iterator
 }
 
 impl<'t, K: Ord + Drop + 't, V: Drop + 't, const LEN: usize> DoubleEndedIterator
-    for RangeOver<'t, K, V, ArenasOf<K, V, LEN>, LeafOf<K, V, LEN>> {
+    for RangeOf<'t, K, V, LEN> {
     ghost next_back_gives = { Moves K.cmp Back };
 
     #[inline(always)]
@@ -250,7 +241,7 @@ impl<'t, K: Ord + Drop + 't, V: Drop + 't, const LEN: usize> DoubleEndedIterator
 }
 
 impl<'t, K: Ord + Drop + 't, V: Drop + 't, const LEN: usize> FusedIterator
-    for RangeOver<'t, K, V, ArenasOf<K, V, LEN>, LeafOf<K, V, LEN>> {}
+    for RangeOf<'t, K, V, LEN> {}
 
 impl<'t, K, V, A: Ranged<K, V, L>, L: Walked> Clone for RangeOver<'t, K, V, A, L> {
     ghost is_clone = { λ cursor clone. clone ≡ cursor };
@@ -271,7 +262,7 @@ impl<'t, K, V, A: Ranged<K, V, L>, L: Walked> Clone for RangeOver<'t, K, V, A, L
 }
 
 impl<'t, K: Ord + Drop + fmt::Debug + 't, V: Drop + fmt::Debug + 't, const LEN: usize> fmt::Debug
-    for RangeOver<'t, K, V, ArenasOf<K, V, LEN>, LeafOf<K, V, LEN>> {
+    for RangeOf<'t, K, V, LEN> {
     fn fmt<W: fmt::Write>(&self, f: &mut fmt::Formatter<W>) -> fmt::Result {
         f.debug_struct("Range")
             .field("forward", &self.get())

@@ -1,20 +1,11 @@
 -- The leaf of a key that lost its last pair, seen from a node above it: how the drop of each child that is left empty makes the removal one under that node.
-use Rattle.tree_remove.proofs.Common.{Bool, BranchOf, DropsChild, DropsEmptied, DropsKeyed, Emptied, Fail, HasChildIn, Internal, IsChain, IsChildAt, IsEmptied, IsOnWay, IsPart, IsRetiredNode, IsSome}
+use Rattle.tree_remove.proofs.Common.{Bool, BranchOf, DropsChild, DropsEmptied, DropsKeyed, Emptied, HasChildIn, Internal, IsChain, IsChildAt, IsOnWay, IsPart, IsRetiredNode, IsSome}
 use Rattle.tree_remove.proofs.Common.{IsTotalOrder, LeadsTo, Leaf, List, NodeOf, None, Option, Ordering, RemoveResult, RemovesUnder, Retired, RetiresIfEmpty, Some, Success, TakesOut, TreeArenas}
-use Rattle.tree_remove.proofs.Common.{arith, emptied_from, get, inl, node_used, only_child, outer_level, pair_at, refl, some_child, sub-one, suc, surely, sym, times-nil, true}
+use Rattle.tree_remove.proofs.Common.{arith, get, inl, node_used, only_child, outer_level, pair_at, refl, some_child, sub-one, suc, surely, sym, times-nil, true}
 use Rattle.tree_remove.proofs.Common.{unbounded, walk, zero, ℕ, ◌++◌, ◌-◌, ◌<◌, ◌∙◌, ◌∷◌, ◌≡◌}
 use Rattle.tree_node.proofs.Levels.{kind_of}
-use Rattle.tree_remove.proofs.ChildDrops.{child_goes, keyed_goes}
-use Rattle.tree_remove.proofs.Descents.{ChildIn, apart_below, child_in, part_below, slot_kept}
+use Rattle.tree_remove.proofs.ChildDrops.{child_goes, keyed_goes, ChildIn, apart_below, child_in, part_below, slot_kept}
 use Rattle.tree_remove.proofs.NodeRemovals.{leaf_kept, part_left, removes_settled, settled_if_empty, stays_above}
-
--- the arenas before
-module _ {K V : Type 0} {LEN : ℕ} {cmp : K → K → Ordering} {level : ℕ} {now : TreeArenas K V LEN} {id : ℕ} {key : K} where
-  abbrev pub before_of : IsEmptied cmp level now id key → TreeArenas K V LEN
-  before_of (emptied_from before e) = before
-
-  pub emptied_of : (h : IsEmptied cmp level now id key) → Emptied cmp level (before_of h) now id key
-  emptied_of (emptied_from before e) = e
 
 module _ {K V : Type 0} {LEN : ℕ} (cmp : K → K → Ordering) where
   -- a leaf node over the leaf, and what is left of the part once it is dropped or kept
@@ -52,8 +43,7 @@ module _ {K V : Type 0} {LEN : ℕ} {cmp : K → K → Ordering} (o : IsTotalOrd
 
   -- and has a child
   pub has_child : {node : NodeOf K LEN} → get now.nodes id ≡ Some node → unbounded node ≡ None → ⊥
-  has_child here none =
-      cc (rw (sym node_same ∙ here, none) at (some_child level deep before id e.way.0 key).1)
+  has_child here none = grind (arith, node_same, some_child, e.way.0)
 
   pub over_leaf : {node : BranchOf K ℕ LEN} (child : ℕ) (slot : Option ℕ) → get now.nodes id ≡ Some (Leaf node)
       → IsChildAt cmp key node.children node.unbounded_child child slot → OverLeaf cmp level before now id child key slot
@@ -102,19 +92,11 @@ module _ {K V : Type 0} {LEN : ℕ} {cmp : K → K → Ordering} (o : IsTotalOrd
 -- the leaf of a key lost its last pair, of which some condition said so
 pub emptied_by : {K V : Type 0} {LEN : ℕ} {cmp : K → K → Ordering} {Says : V → Bool → Type 0} {level : ℕ} {before now : TreeArenas K V LEN} {id leaf : ℕ}
     {key : K} (node : ℕ) → LeadsTo cmp key level before id node leaf → RemovesUnder cmp Says 0 before now leaf Retired key → Emptied cmp level before now id key
-emptied_by {leaf = leaf} node leads r =
+emptied_by {cmp = cmp} {before = before} {now = now} {leaf = leaf} {key = key} node leads r =
     let out = r.pairs.0 in
-    record {
-      node = node;
-      leaf = leaf;
-      way = leads;
-      removes = record {
-        pairs = (record { pair = out.pair; was = out.was; said = refl; left = out.left }, r.pairs.1);
-        leaves = r.leaves;
-        replaces = r.replaces;
-        spare = r.spare;
-      };
-    }
+    let taken : TakesOut cmp surely (walk 0 before leaf) key (walk 0 now leaf) = record { pair = out.pair; was = out.was; said = refl; left = out.left } in
+    let removes : RemovesUnder cmp surely 0 before now leaf Retired key = grind (arith, taken, r.pairs, r.leaves, r.replaces, r.spare) in
+    record { node = node; leaf = leaf; way = leads; removes = removes }
 
 -- what surely goes is what the condition said so of
 module _ {K V : Type 0} {LEN : ℕ} (cmp : K → K → Ordering) (Says : V → Bool → Type 0) (level : ℕ) (before now : TreeArenas K V LEN) (id : ℕ) (key : K)
@@ -126,6 +108,4 @@ module _ {K V : Type 0} {LEN : ℕ} (cmp : K → K → Ordering) (Says : V → B
       record { pair = t.pair; was = t.was; said = rw same says; left = t.left }
 
   pub goes_as_said : (result : RemoveResult) → RemovesUnder cmp surely level before now id result key → RemovesUnder cmp Says level before now id result key
-  goes_as_said Success r = record { pairs = as_said r.pairs; leaves = r.leaves; replaces = r.replaces; spare = r.spare }
-  goes_as_said Retired r = record { pairs = (as_said r.pairs.0, r.pairs.1); leaves = r.leaves; replaces = r.replaces; spare = r.spare }
-  goes_as_said Fail r = absurd (let no = r.pairs.0 pair found in cc)
+  goes_as_said result r = grind (arith, as_said, r.pairs, r.leaves, r.replaces, r.spare, found)

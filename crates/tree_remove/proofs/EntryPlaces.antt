@@ -1,8 +1,7 @@
 -- A pair by its place: where it is found, and that an equal key leads there too.
-use Rattle.tree_remove.proofs.Common.{Arrivals, Emptied, Equal, HasChildFor, HasOnlyRetired, IsAbsent, IsEntry, IsOnWay, IsRetired, IsSome, IsTotalOrder, LeadsTo, LeafOf, List, NodeOf, None, Option}
-use Rattle.tree_remove.proofs.Common.{Ordering, RemoveResult, RemovesUnder, Retired, Some, TreeArenas, [], alike_right, ap, arrival, child_at, child_of, get, is_from, keyed, pair_at, refl, removal_of}
-use Rattle.tree_remove.proofs.Common.{removed, stored_at, suc, surely, sym, tied_back, unbounded, walk, walk-leaf, walk-retired, zero, ℕ, ◌-◌, ◌<◌, ◌∙◌, ◌∷◌, ◌≡◌}
-use Rattle.tree_remove.proofs.LeafRemovals.{Takes}
+use Rattle.tree_remove.proofs.Common.{Emptied, Equal, HasChildFor, HasOnlyRetired, IsAbsent, IsEntry, IsOnWay, IsRetired, IsSome, IsTotalOrder, LeadsTo, LeafOf, List, NodeOf, Option}
+use Rattle.tree_remove.proofs.Common.{Ordering, RemoveResult, RemovesUnder, Retired, Some, TreeArenas, [], alike_right, arith, arrival, child_at, get, is_from, pair_at, refl}
+use Rattle.tree_remove.proofs.Common.{stored_at, suc, surely, sym, tied_back, walk, walk-leaf, walk-retired, zero, ℕ, ◌-◌, ◌<◌, ◌∙◌, ◌∷◌, ◌≡◌}
 use Rattle.tree_remove.proofs.Ways.{found_on_way, removes_on_way, settled_on_way}
 
 -- either of two equal keys
@@ -15,13 +14,8 @@ module _ {K : Type 0} {cmp : K → K → Ordering} (o : IsTotalOrder cmp) (key a
   child_alike [] last = refl
   child_alike (c ∷ rest) last = rw (alike_right o key alike c.0 same, child_alike rest last) refl
 
-  of_alike : (pairs : List (K × ℕ)) (last : Option ℕ) → child_of cmp alike pairs last ≡ child_of cmp key pairs last
-  of_alike pairs None = refl
-  of_alike pairs (Some last) = ap Some (sym (child_alike pairs last))
-
   which_alike : {LEN : ℕ} (found : Option (NodeOf K LEN)) (id : ℕ) → HasChildFor cmp key found id → HasChildFor cmp alike found id
-  which_alike None id h = h
-  which_alike (Some node) id h = of_alike (keyed node).entries (unbounded node) ∙ h
+  which_alike found id h = grind (arith, child_alike)
 
   module _ {V : Type 0} {LEN : ℕ} (a : TreeArenas K V LEN) where
     way_alike : (steps id target : ℕ) → IsOnWay cmp key steps a id target → IsOnWay cmp alike steps a id target
@@ -49,26 +43,19 @@ module _ {K V : Type 0} {LEN : ℕ} {cmp : K → K → Ordering} (o : IsTotalOrd
     -- and a pair that its leaf has is an entry
     pub entry_there : (slot : ℕ) (pair : K × V) → cmp pair.0 key ≡ Equal → stored_at (get a.leaves leaf) slot ≡ Some pair
         → pair_at cmp (walk 0 a leaf) key ≡ Some pair → IsEntry cmp level a id leaf slot pair
-    entry_there slot pair same stored found = record {
-      stored = stored;
-      found = pair_alike o pair.0 key same (walk level a id) ∙ found_there ∙ found;
-      node = node;
-      way = leads_alike o key pair.0 (tied_back o pair.0 key same) a level id node leaf leads;
-    }
+    entry_there slot pair same stored found =
+        let way = leads_alike o key pair.0 (tied_back o pair.0 key same) a level id node leaf leads in
+        grind (arith, stored, pair_alike o pair.0 key same, found_there, found, way)
 
 -- the leaf of an entry is there
 pub leaf_stored : {K V : Type 0} {LEN : ℕ} (found : Option (LeafOf K V LEN)) (slot : ℕ) (pair : K × V) → stored_at found slot ≡ Some pair → IsSome found
-leaf_stored None slot pair h = absurd (cc)
-leaf_stored (Some leaf) slot pair h = refl
+leaf_stored found slot pair h = grind arith
 
--- the pair of a slot is taken out of its leaf
-pub slot_takes : {K V : Type 0} {LEN : ℕ} {cmp : K → K → Ordering} (a : TreeArenas K V LEN) (id slot : ℕ) {leaf : LeafOf K V LEN} {array : Arrivals K V}
-    {result : RemoveResult} {pair taken : K × V} → get a.leaves id ≡ Some leaf → stored_at (get a.leaves id) slot ≡ Some pair
-    → pair_at cmp (walk 0 a id) pair.0 ≡ Some pair → arrival leaf.array.arrivals slot ≡ Some taken → array ≡ removed cmp leaf.array taken.0
-    → result ≡ removal_of array → Takes cmp surely leaf.array array taken.0 result
-slot_takes a id slot {leaf} {pair = pair} {taken = taken} here stored found there left answer =
-    let same : pair ≡ taken = cc (rw here at stored, there) in
-    record { pair = taken; found = rw (walk-leaf a id leaf here, same) at found; says = refl; taken = left; answer = answer }
+-- the pair of a slot is the one that its key has
+pub slot_found : {K V : Type 0} {LEN : ℕ} (cmp : K → K → Ordering) (a : TreeArenas K V LEN) (id slot : ℕ) {leaf : LeafOf K V LEN} {pair taken : K × V}
+    → get a.leaves id ≡ Some leaf → stored_at (get a.leaves id) slot ≡ Some pair → pair_at cmp (walk 0 a id) pair.0 ≡ Some pair
+    → arrival leaf.array.arrivals slot ≡ Some taken → pair_at cmp leaf.array.entries taken.0 ≡ Some taken
+slot_found cmp a id slot {leaf} {pair} {taken} here stored found there = grind (arith, walk-leaf)
 
 -- an entry is taken out of its leaf
 module _ {K V : Type 0} {LEN : ℕ} {cmp : K → K → Ordering} (o : IsTotalOrder cmp) {level : ℕ} {before : TreeArenas K V LEN} {id leaf slot : ℕ} {pair : K × V}
@@ -80,9 +67,7 @@ module _ {K V : Type 0} {LEN : ℕ} {cmp : K → K → Ordering} (o : IsTotalOrd
   module _ {now : TreeArenas K V LEN} {taken : K × V} {result : RemoveResult} (stored : stored_at (get before.leaves leaf) slot ≡ Some taken)
       (removes : RemovesUnder cmp surely 0 before now leaf result taken.0) where
     leads : LeadsTo cmp taken.0 level before id entry.node leaf
-    leads =
-        let same : pair ≡ taken = cc (entry.stored, stored) in
-        rw same at entry.way
+    leads = grind (arith, entry.stored, entry.way)
 
     -- it was the last one
     pub entry_emptied : result ≡ Retired → Emptied cmp level before now id taken.0

@@ -1,7 +1,5 @@
 mod Common
 pub mod ChildDrops
-pub mod ChildSides
-pub mod Descents
 pub mod EmptiedLeaves
 pub mod EntryPlaces
 pub mod LeafRemovals

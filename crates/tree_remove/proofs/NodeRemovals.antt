@@ -1,10 +1,8 @@
 -- A removal in the child that a key belongs to, of the part under its node, where the child stays.
-use Rattle.tree_remove.proofs.Common.{AllByRecursion, AllLarger, Bool, Fail, HasChildFor, HasOnlyRetired, IsPart, IsRetired, IsTotalOrder, KeepsBounds, LeafOf, Leaves, Less, List, None, Option}
-use Rattle.tree_remove.proofs.Common.{Ordering, RemoveResult, Removes, RemovesUnder, Replaces, Retired, RetiresIfEmpty, Some, Stands, Success, TakesOut, TreeArenas, [], arith, back_walk_above}
+use Rattle.tree_remove.proofs.Common.{AllByRecursion, AllLarger, Bool, Fail, HasChildFor, HasOnlyRetired, IsPart, IsRetired, IsTotalOrder, KeepsBounds, Leaves, Less, List, None, Option}
+use Rattle.tree_remove.proofs.Common.{Ordering, RemoveResult, Removes, RemovesUnder, Replaces, Retired, RetiresIfEmpty, Stands, Success, TakesOut, TreeArenas, [], arith, back_walk_above}
 use Rattle.tree_remove.proofs.Common.{found_between, front_walk_below, get, leaves_at, new_spare, new_walk, no_children, node_keeps, node_replaces, old_spare, old_walk, part_after, refl}
-use Rattle.tree_remove.proofs.Common.{replaces_trans, spare, spare_le, suc, sym, walk, without_between, ℕ, ◌++◌, ◌∙◌, ◌∷◌, ◌≡◌, ◌≤◌}
-use Rattle.tree_node.proofs.ChildChanges.{now}
-use Rattle.tree_node.specs.Tree.{IsRetiredLeaf}
+use Rattle.tree_remove.proofs.Common.{replaces_trans, spare, spare_le, suc, walk, without_between, ℕ, ◌++◌, ◌∙◌, ◌∷◌, ◌≡◌, ◌≤◌}
 
 -- what is taken out between smaller and larger keys is taken out of all
 pub taken_between : {K V : Type 0} {cmp : K → K → Ordering} (o : IsTotalOrder cmp) (Says : V → Bool → Type 0) (key : K) (front old new back : List (K × V))
@@ -26,14 +24,10 @@ module _ {K V : Type 0} {LEN : ℕ} {cmp : K → K → Ordering} (o : IsTotalOrd
   above : {new : TreeArenas K V LEN} {result : RemoveResult} → Replaces level old new (child ∷ []) (child ∷ []) → spare level old child ≤ spare level new child
       → Removes cmp Says result (walk (suc level) old id) key (walk (suc level) new id) → Leaves cmp Says result (suc level) old new id
       → RemovesUnder cmp Says (suc level) old new id result key
-  above {new} r spares pairs leaves = record {
-    pairs = pairs;
-    leaves = leaves;
-    replaces = node_replaces o level old id child key part which None None st new r;
-    spare =
-        let was = old_spare o level old id child key part which None None st new r in
-        omega (arith, was, new_spare o level old id child key part which None None st new r, spares);
-  }
+  above {new} r spares pairs leaves =
+      let was = old_spare o level old id child key part which None None st new r in
+      let now = new_spare o level old id child key part which None None st new r in
+      grind (arith, pairs, leaves, node_replaces o level old id child key part which None None st new r, was, now)
 
   -- the child lost the pair, and stands
   pub kept_above : {new : TreeArenas K V LEN} → TakesOut cmp Says (walk level old child) key (walk level new child) → KeepsBounds cmp level old new child
@@ -52,43 +46,19 @@ module _ {K V : Type 0} {LEN : ℕ} {cmp : K → K → Ordering} (o : IsTotalOrd
   stays_above Retired stays removes = absurd (stays refl)
   stays_above {new} Fail stays removes =
       let r = removes.replaces in
-      above {result = Fail} r removes.spare
-      (rw (old_walk o level old id child key part which None None st new r, new_walk o level old id child key part which None None st new r) (
-        λ pair is. removes.pairs.0 pair (sym (found_between o key _ _ _ (front_walk_below o level old None id None st key)
-            (back_walk_above o level old None id None st key)) ∙ is),
-        rw removes.pairs.1 refl,
-      ))
-      removes.leaves
-
-one_only : (front : List ℕ) (x : ℕ) (back : List ℕ) {y : ℕ} → y ∷ [] ≡ front ++ x ∷ back → y ≡ x
-one_only [] x back same = cc
-one_only (a ∷ []) x back same = absurd (cc)
-one_only (a ∷ (c ∷ front)) x back same = absurd (cc)
+      let found = found_between o key _ (walk level old child) _ (front_walk_below o level old None id None st key) (back_walk_above o level old None id None st key) in
+      let were = old_walk o level old id child key part which None None st new r in
+      above {result = Fail} r removes.spare (grind (arith, were, new_walk o level old id child key part which None None st new r, found, removes.pairs)) removes.leaves
 
 -- a leaf node isn't left with a retired leaf alone where its own clean-up succeeds
 pub settled_if_empty : {K V : Type 0} {LEN : ℕ} (old new : TreeArenas K V LEN) (id : ℕ) (result : RemoveResult) → RetiresIfEmpty old new id result
     → result ≡ Success → HasOnlyRetired new id → ⊥
-settled_if_empty old new id Success settles success = rw settles.0 settles.1
-settled_if_empty old new id Retired settles success = absurd (cc)
-settled_if_empty old new id Fail settles success = absurd settles
-
--- a leaf node with a leaf that isn't retired isn't left with a retired one alone
-pub settled_above : {K V : Type 0} {LEN : ℕ} {cmp : K → K → Ordering} (o : IsTotalOrder cmp) (key : K) (old new : TreeArenas K V LEN) (id child : ℕ)
-    → IsPart cmp 1 old id → HasChildFor cmp key (get old.nodes id) child → Replaces 0 old new (child ∷ []) (child ∷ []) → (IsRetired 0 new child → ⊥)
-    → HasOnlyRetired new id → ⊥
-settled_above {cmp = cmp} o key old new id child part which r live only =
-    let s : Stands cmp 1 old None id None = part.stands in
-    let same = one_only _ child _ (sym only.1.0 ∙ now o 0 old id child key part which None None s new r) in
-    live (rw same at only.1.1)
+settled_if_empty old new id result settles success = grind arith
 
 module _ {K V : Type 0} {LEN : ℕ} (cmp : K → K → Ordering) where
   -- a retired leaf stands between all bounds
   retired_stands : (a : TreeArenas K V LEN) (id : ℕ) → IsRetired 0 a id → (low high : Option K) → Stands cmp 0 a low id high
-  retired_stands a id retired low high = by_leaf (get a.leaves id) refl retired
-    where
-      by_leaf : (found : Option (LeafOf K V LEN)) → get a.leaves id ≡ found → IsRetiredLeaf found → Stands cmp 0 a low id high
-      by_leaf None here r = absurd r
-      by_leaf (Some leaf) here r = record { leaf = leaf; here = here; few = rw r.1 (omega arith); ascending = rw r.1 tt; above = rw r.1 tt; up_to = rw r.1 tt }
+  retired_stands a id retired low high = grind arith
 
   module _ (Says : V → Bool → Type 0) (key : K) where
     -- a retired leaf stays under its node
@@ -108,12 +78,6 @@ module _ {K V : Type 0} {LEN : ℕ} (cmp : K → K → Ordering) where
     removes_settled Success removes settles = rw settles.0 removes
     removes_settled {old} {mid} {new} {id} Retired removes settles =
         let no_leaf : leaves_at 1 new.nodes id ≡ [] = rw ((no_children (get new.nodes id) settles.retired).1) refl in
-        let none : walk 1 new id ≡ [] = rw no_leaf refl in
-        let all_room : spare 1 new id ≡ LEN = rw no_leaf refl in
-        record {
-          pairs = (rw none (rw settles.pairs at removes.pairs), none);
-          leaves = (settles.retired, settles.kind);
-          replaces = replaces_trans 1 old mid new (id ∷ []) (id ∷ []) (id ∷ []) removes.replaces settles.replaces;
-          spare = omega (arith, all_room, spare_le 1 old id);
-        }
+        let replaces = replaces_trans 1 old mid new (id ∷ []) (id ∷ []) (id ∷ []) removes.replaces settles.replaces in
+        grind (arith, no_leaf, removes.pairs, settles.pairs, settles.retired, settles.kind, replaces, spare_le 1 old id)
     removes_settled Fail removes settles = absurd settles

@@ -1,9 +1,10 @@
 -- A removal in the leaf that a key belongs to, seen from the node where its way starts.
-use Rattle.tree_remove.proofs.Common.{Bool, Fail, HasChildFor, HasOnlyRetired, IsAscending, IsOnWay, IsPart, IsRetired, IsSome, IsTotalOrder, LeadsTo, None, Ordering, RemoveResult, RemovesUnder}
-use Rattle.tree_remove.proofs.Common.{Replaces, Retired, Stands, TreeArenas, [], arith, child_part, found_in_child, get, leaf_there, length, pair_at, refl, replaces_refl, sub-one, suc, sym}
-use Rattle.tree_remove.proofs.Common.{walk, walk-leaf, walk-retired, without, without_present, zero, ℕ, ◌-◌, ◌<◌, ◌∙◌, ◌∷◌, ◌≡◌}
+use Rattle.tree_remove.proofs.Common.{Bool, Fail, HasChildFor, HasOnlyRetired, IsOnWay, IsPart, IsRetired, IsSome, IsTotalOrder, LeadsTo, None, Ordering, RemoveResult, RemovesUnder}
+use Rattle.tree_remove.proofs.Common.{Replaces, Retired, Stands, TreeArenas, [], arith, child_part, found_in_child, get, keyed, leaf_there, length, pair_at, replaces_refl, same_node, sub-one, suc}
+use Rattle.tree_remove.proofs.Common.{walk, walk-leaf, walk-retired, without_present, zero, ℕ, ◌-◌, ◌<◌, ◌∙◌, ◌∷◌, ◌≡◌}
+use Rattle.tree_clean_up.proofs.EmptyNodes.{only_unbounded}
 use Rattle.tree_descent.proofs.Ways.{part_on_way}
-use Rattle.tree_remove.proofs.NodeRemovals.{settled_above, stays_above}
+use Rattle.tree_remove.proofs.NodeRemovals.{stays_above}
 
 module _ {K V : Type 0} {LEN : ℕ} {cmp : K → K → Ordering} (o : IsTotalOrder cmp) (a : TreeArenas K V LEN) (key : K) (leaf : ℕ) where
   -- the leaf has the pair that the part has
@@ -40,12 +41,8 @@ led_to o key level deep a id node leaf way =
 pub not_emptied : {K V : Type 0} {LEN : ℕ} {cmp : K → K → Ordering} (o : IsTotalOrder cmp) {Says : V → Bool → Type 0}
     {old new : TreeArenas K V LEN} {key : K} {leaf : ℕ} → IsPart cmp 0 old leaf → 1 < length (walk 0 old leaf)
     → RemovesUnder cmp Says 0 old new leaf Retired key → ⊥
-not_emptied {cmp = cmp} o {old = old} {key = key} {leaf = leaf} part many removes =
-    let s : Stands cmp 0 old None leaf None = part.stands in
-    let ascending : IsAscending cmp (walk 0 old leaf) = rw (walk-leaf old leaf s.leaf s.here) s.ascending in
-    let one = without_present o (walk 0 old leaf) key ascending (rw removes.pairs.0.was refl) in
-    let none : without cmp (walk 0 old leaf) key ≡ [] = sym removes.pairs.0.left ∙ removes.pairs.1 in
-    omega (arith, many, rw none at one)
+not_emptied o part many removes =
+    grind (arith, part.stands, walk-leaf, without_present, removes.pairs.0.was, removes.pairs.0.left, removes.pairs.1)
 
 module _ {K V : Type 0} {LEN : ℕ} {cmp : K → K → Ordering} (o : IsTotalOrder cmp) (Says : V → Bool → Type 0) {old new : TreeArenas K V LEN} {key : K}
     {leaf : ℕ} {result : RemoveResult}
@@ -62,16 +59,16 @@ module _ {K V : Type 0} {LEN : ℕ} {cmp : K → K → Ordering} (o : IsTotalOrd
 -- a leaf node whose leaf was left a pair isn't left with a retired leaf alone
 pub settled_on_way : {K V : Type 0} {LEN : ℕ} {cmp : K → K → Ordering} (o : IsTotalOrder cmp) (key : K) (old new : TreeArenas K V LEN) (level id node leaf : ℕ)
     → level ≡ 1 → LeadsTo cmp key level old id node leaf → Replaces 0 old new (leaf ∷ []) (leaf ∷ []) → (IsRetired 0 new leaf → ⊥) → HasOnlyRetired new id → ⊥
-settled_on_way o key old new level id node leaf one leads replaces live =
-    let same : id ≡ node = rw one at leads.1 in
-    settled_above o key old new id leaf (rw one at leads.0) (rw same leads.2) replaces live
+settled_on_way {cmp = cmp} o key old new level id node leaf one leads r live only =
+    let part : IsPart cmp 1 old id = rw one at leads.0 in
+    let s : Stands cmp 1 old None id None = part.stands in
+    let to : id ≡ node = rw one at leads.1 in
+    let which : HasChildFor cmp key (get old.nodes id) leaf = rw to leads.2 in
+    let alone = only_unbounded (keyed s.node).entries s.last only.0 (rw (same_node o 0 old id leaf key part which None None s new r, s.here, s.last_is) at only.1.0) in
+    let same : only.0 ≡ leaf = cc (alone.1, rw (s.here, s.last_is, alone.0) at which) in
+    live (rw same at only.1.1)
 
 -- what is retired has no key
 pub fails_at : {K V : Type 0} {LEN : ℕ} (cmp : K → K → Ordering) (Says : V → Bool → Type 0) (key : K) (level : ℕ) → 0 < level
     → (a : TreeArenas K V LEN) (id : ℕ) → IsRetired level a id → RemovesUnder cmp Says level a a id Fail key
-fails_at cmp Says key level deep a id retired = record {
-  pairs = (λ pair is. absurd (let found = rw (walk-retired level a id retired) at is in cc), refl);
-  leaves = record { leaves = λ n. refl; nodes = λ n. refl };
-  replaces = replaces_refl level a (id ∷ []);
-  spare = omega arith;
-}
+fails_at cmp Says key level deep a id retired = grind (arith, walk-retired, replaces_refl)

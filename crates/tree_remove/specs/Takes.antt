@@ -25,10 +25,6 @@ module _ {K V : Type 0} {LEN : ℕ} (cmp : K → K → Ordering) (level : ℕ) w
     pub way : LeadsTo cmp key level before id node leaf
     pub removes : RemovesUnder cmp surely 0 before now leaf Retired key
 
-  -- it did so from some arenas
-  pub data IsEmptied (now : TreeArenas K V LEN) (id : ℕ) (key : K) : Type 0 where
-    emptied_from : (before : TreeArenas K V LEN) → Emptied before now id key → IsEmptied now id key
-
   -- that leaf is gone, and each node without a child; a leaf node isn't left with a retired leaf alone
   pub record DropsEmptied (before new : TreeArenas K V LEN) (id : ℕ) (result : RemoveResult) (key : K) : Type 0 where
     pub removes : RemovesUnder cmp surely level before new id result key

@@ -1,7 +1,7 @@
 //! What a removal leaves that took the last pair of a leaf: the leaf is dropped, and each node that is left without a child.
 ghost use Rattle.std.specs.Prelude.{◌<◌};
 ghost use Rattle.tree_node.specs.Arenas.{TreeArenas};
-ghost use Rattle.tree_remove.specs.Takes.{DropsEmptied, Emptied, IsEmptied};
+ghost use Rattle.tree_remove.specs.Takes.{DropsEmptied, Emptied};
 
 use tree_array::array::RemoveResult;
 use tree_clean_up::{drop_child_node, drop_keyed_leaf, retire_if_empty};
@@ -20,7 +20,7 @@ pub fn drop_emptied<K: Ord + Drop, V: Drop, const LEN: usize>(
     key: &K,
 ) -> RemoveResult
     requires node { 0 < level }
-    requires emptied { IsEmptied K.cmp level arenas.old id key.now }
+    requires emptied { (before : TreeArenas K V LEN) × Emptied K.cmp level before arenas.old id key.now }
     ensures { (before : TreeArenas K V LEN) → Emptied K.cmp level before arenas.old id key.now
         → DropsEmptied K.cmp level before arenas.new id result key.now }
 {
@@ -29,13 +29,10 @@ pub fn drop_emptied<K: Ord + Drop, V: Drop, const LEN: usize>(
             let Some(place) = node.child_place_for(key) else {
                 return RemoveResult::Fail;
             };
-            match place.slot {
-                Some(slot) => {
-                    drop_keyed_leaf(arenas, id, place.child, slot);
-                    retire_if_empty(arenas, id)
-                }
-                None => retire_if_empty(arenas, id),
+            if let Some(slot) = place.slot {
+                drop_keyed_leaf(arenas, id, place.child, slot);
             }
+            retire_if_empty(arenas, id)
         }
         NodeOf::Internal(node) => {
             let Some(place) = node.child_place_for(key) else {
@@ -43,8 +40,7 @@ pub fn drop_emptied<K: Ord + Drop, V: Drop, const LEN: usize>(
             };
             match drop_emptied(arenas, level - 1, place.child, key) {
                 RemoveResult::Retired => drop_child_node(arenas, id, place.child, place.slot),
-                RemoveResult::Success => RemoveResult::Success,
-                RemoveResult::Fail => RemoveResult::Fail,
+                kept => kept,
             }
         }
     }

@@ -63,8 +63,7 @@ pub fn take_entry<K: Ord + Drop, V: Drop, const LEN: usize>(
     let (key, value, removal) = take_slot(arenas, place);
     let result = match removal {
         RemoveResult::Retired => drop_emptied(arenas, level, id, &key),
-        RemoveResult::Success => RemoveResult::Success,
-        RemoveResult::Fail => RemoveResult::Fail,
+        kept => kept,
     };
     (key, value, result)
 }

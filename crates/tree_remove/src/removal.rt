@@ -104,8 +104,7 @@ pub fn remove_alone<K: Ord + Drop, V: Drop, F: FnOnce(&V) -> bool + Drop, const 
 {
     match remove_in_leaf(arenas, leaf, key, condition) {
         RemoveResult::Retired => drop_emptied(arenas, level, id, key),
-        RemoveResult::Success => RemoveResult::Success,
-        RemoveResult::Fail => RemoveResult::Fail,
+        kept => kept,
     }
 }
 

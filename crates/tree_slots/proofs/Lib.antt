@@ -1,2 +1,2 @@
-mod Apart
+mod Common
 mod Slots

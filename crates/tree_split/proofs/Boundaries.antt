@@ -1,16 +1,10 @@
 -- The boundary of an array parts its entries: some are before it, and some are not.
-use Rattle.std.proofs.Common.{◌≡◌, ℕ, ◌<◌, ◌≤◌, List, [], ◌∷◌, length, refl, arith, inl, inr, Ordering}
-use Rattle.std.proofs.lemmas.Bool.{cases_lt, le-leb}
-use Rattle.tree_array.proofs.Common.{ascents, reachable}
-use Rattle.tree_array.specs.Arrivals.{boundary_of}
-use Rattle.tree_node.proofs.Common.{Arrivals, IsLen, IsSound, boundary, limit, nat_tests}
+use Rattle.std.proofs.Common.{◌≡◌, ℕ, ◌<◌, ◌≤◌, List, [], ◌∷◌, length, arith, Ordering}
+use Rattle.tree_split.proofs.Words.{ascents, reachable, boundary_of, Arrivals, IsSound, boundary, limit, nat_tests}
 
 module _ (len count rises : ℕ) where
   pub boundary_count : (boundary_of len count rises).1 ≡ count
   boundary_count = grind (arith, nat_tests)
-
-  boundary_parts : IsLen len → limit len < count → rises < count → (0 < (boundary_of len count rises).0) × ((boundary_of len count rises).0 < count)
-  boundary_parts is_len many fewer = grind (arith, nat_tests)
 
 module _ {K V : Type 0} (cmp : K → K → Ordering) where
   ascents_below : (pair : K × V) (pairs : List (K × V)) → ascents cmp (pair ∷ pairs) ≤ length pairs
@@ -26,19 +20,11 @@ module _ {K V : Type 0} (cmp : K → K → Ordering) where
   pub parted_by : (len : ℕ) (array : Arrivals K V) → IsSound cmp len array → limit len < length array.entries
       → (0 < (boundary cmp len array).0) × ((boundary cmp len array).0 < length array.entries)
   parted_by len array sound many =
-      let fewer : ascents cmp (reachable array.arrivals) < length array.entries =
-      rw sound.count (ascents_fewer (reachable array.arrivals) (omega (arith, sound.count, many))) in
-      boundary_parts len (length array.entries) (ascents cmp (reachable array.arrivals)) sound.is_len many fewer
+      let fewer = ascents_fewer (reachable array.arrivals) (omega (arith, sound.count, many)) in grind (arith, nat_tests, sound.count, sound.is_len)
 
   -- the boundary is the number of slots where the entries are within the limit, and nowhere else
   pub few_by_boundary : (len : ℕ) (array : Arrivals K V) → IsSound cmp len array → (boundary cmp len array).0 ≡ len → length array.entries ≤ limit len
-  few_by_boundary len array sound at_len = elim (cases_lt (limit len) (length array.entries)) [
-    | inl many ↦ absurd (omega (arith, at_len, (parted_by len array sound many).1, sound.entries_few, sound.few))
-    | inr few ↦ few
-  ]
+  few_by_boundary len array sound at_len = grind (arith, at_len, parted_by len array sound, sound.entries_few, sound.few)
 
   pub many_by_boundary : (len : ℕ) (array : Arrivals K V) → ((boundary cmp len array).0 ≡ len → ⊥) → limit len < length array.entries
-  many_by_boundary len array not_at_len = elim (cases_lt (limit len) (length array.entries)) [
-    | inl many ↦ many
-    | inr few ↦ absurd (not_at_len (rw (le-leb (length array.entries) (limit len) few) refl))
-  ]
+  many_by_boundary len array not_at_len = grind (arith, nat_tests)

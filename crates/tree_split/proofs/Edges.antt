@@ -1,18 +1,13 @@
 -- Parts that are packed along their right edge: what keeps them so, and how many pairs they have.
 use Rattle.std.proofs.Common.{◌≡◌, ℕ, zero, suc, ◌*◌, ◌<◌, ◌≤◌, ◌^◌, List, [], ◌∷◌, ◌++◌, map, length, length-append, Option, Some, None, refl, sym, ap, ◌∙◌, arith, mul-suc, flat_map, Ordering, Less, append-nil}
-use Rattle.tree_node.proofs.Common.{Agrees, AllByRecursion, HasChildFor, IsAbove, IsBelow, IsPart, IsTotalOrder, Replaces, Slab, Stands, TreeArenas, above_next, agrees_below, agrees_here, all_behind, all_front, all_map, child_at, flat_map-append, front_at, get, head_here, is_from, keyed, last_free, node_is, same_walk, stands_free, walk, walk-children, walk-leaf, walk_above}
-use Rattle.tree_node.specs.declared.node.NodeOf.{NodeOf}
-use Rattle.tree_node.proofs.ChildChanges.{fronts, same_node}
-use Rattle.tree_node.proofs.Places.{child_between, low_at, separators_beside}
-use Rattle.tree_split.specs.Packed.{HasLast, IsPacked, IsPackedNode}
+use Rattle.tree_split.proofs.Words.{Agrees, AllByRecursion, HasChildFor, IsAbove, IsBelow, IsPart, IsTotalOrder, Replaces, Slab, Stands, TreeArenas, above_next, agrees_below, agrees_here, all_behind, all_front, all_map, child_at, flat_map-append, front_at, get, head_here, is_from, keyed, last_free, node_is, same_walk, stands_free, walk, walk-children, walk-leaf, walk_above, NodeOf, fronts, same_node, child_between, low_at, separators_beside, HasLast, IsPacked, IsPackedNode}
 
 -- a node that stays is packed where its keyed children are full and its last child is packed
 pub packed_on : {K : Type 0} {LEN : ℕ} {cmp : K → K → Ordering} {beyond beyond' : Option K} {Old New : ℕ → Type 0}
     {was is : ℕ → ℕ} {size : ℕ} {a b : Slab (NodeOf K LEN)} {id : ℕ}
     (e : IsPackedNode cmp beyond Old was size a id) → get b id ≡ get a id → AllByRecursion (λ c. IsBelow cmp c.0 beyond') (keyed e.node).entries
     → AllByRecursion (λ c. is c.1 ≡ size) (keyed e.node).entries → New e.last → IsPackedNode cmp beyond' New is size b id
-packed_on e same keys full edge =
-    record { node = e.node; here = same ∙ e.here; packed = e.packed; keys = keys; full = full; last = e.last; last_is = e.last_is; edge = edge }
+packed_on e same keys full edge = grind arith
 
 module _ {K V : Type 0} {LEN : ℕ} where
   -- children that stay have as many pairs as before
@@ -24,9 +19,7 @@ module _ {K V : Type 0} {LEN : ℕ} where
   module _ (cmp : K → K → Ordering) (beyond : Option K) where
     -- a part that stays is packed as it was
     pub same_packed : (level : ℕ) (a b : TreeArenas K V LEN) (id : ℕ) → Agrees level a b id → IsPacked cmp beyond level a id → IsPacked cmp beyond level b id
-    same_packed zero a b id same e =
-        let now = rw e.here at (same.leaves id (head_here id [])) in
-        record { leaf = now.0; here = now.1; packed = rw now.2 e.packed; ends = rw now.2 e.ends }
+    same_packed zero a b id same e = grind (arith, head_here, counts_same, all_behind, all_front, agrees_below, agrees_here, packed_on)
     same_packed (suc level) a b id same e =
         let ids : List ℕ = map (λ c. c.1) (keyed e.node).entries in
         let below : AllByRecursion (λ x. Agrees level a b x) (ids ++ e.last ∷ []) = rw (e.here, e.last_is) at (agrees_below level a b id same) in
@@ -44,8 +37,7 @@ module _ {K X : Type 0} (cmp : K → K → Ordering) (k : K) where
   all_before (c ∷ rest) smaller = rw smaller.0 (ap (λ xs. c.1 ∷ xs) (all_before rest smaller.1))
 
 pub one_last : {K : Type 0} {LEN : ℕ} (slot : Option (NodeOf K LEN)) (x y : ℕ) → HasLast slot x → HasLast slot y → x ≡ y
-one_last None x y first second = absurd first
-one_last (Some node) x y first second = cc (first, second)
+one_last slot x y first second = grind arith
 
 module _ {K V : Type 0} {LEN : ℕ} (cmp : K → K → Ordering) where
   -- a key beyond the edge belongs to the last child
@@ -105,9 +97,7 @@ module _ {K V : Type 0} {LEN : ℕ} (cmp : K → K → Ordering) where
 -- as many pairs as full parts have
 pub full_length : {A : Type 0} (part : ℕ → List A) (size : ℕ) (ids : List ℕ) → AllByRecursion (λ x. length (part x) ≡ size) ids → length (flat_map part ids) ≡ size * length ids
 full_length part size [] full = omega arith
-full_length part size (x ∷ rest) full =
-    let later = full_length part size rest full.1 in
-    rw mul-suc (omega (arith, full.0, later, length-append (part x) (flat_map part rest)))
+full_length part size (x ∷ rest) full = grind (arith, length-append, mul-suc, full_length part size rest full.1)
 
 -- what a pair is above is what a larger key is above
 some_above : {K V : Type 0} {cmp : K → K → Ordering} → IsTotalOrder cmp → (low : Option K) (k : K) (pairs : List (K × V)) → 0 < length pairs

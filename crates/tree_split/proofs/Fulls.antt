@@ -1,9 +1,6 @@
 -- Where an array or a node takes no more, and where it does.
 use Rattle.std.proofs.Common.{◌≡◌, ℕ, cond, Some, arith}
-use Rattle.tree_array.proofs.Common.{IsFull}
-use Rattle.tree_node.proofs.Common.{Arrivals, HasRoom, cases_Bool, free, keyed}
-use Rattle.tree_node.specs.declared.node.NodeOf.{NodeOf}
-use Rattle.tree_node.specs.Shape.{found_room}
+use Rattle.tree_split.proofs.Words.{IsFull, Arrivals, HasRoom, cases_Bool, free, keyed, NodeOf, found_room}
 
 -- a full array takes nothing more
 pub none_free : {K V : Type 0} (LEN : ℕ) (array : Arrivals K V) → IsFull LEN array → cond array.retired 0 (free LEN array) ≡ 0

@@ -10,3 +10,4 @@ pub mod Rebuilds
 pub mod Results
 pub mod Tests
 pub mod Variants
+pub mod Words

@@ -1,14 +1,6 @@
 -- A child that gives its lower part to a new one before it, and the node above it, which is written with the separator.
-use Rattle.std.proofs.Common.{◌≡◌, ℕ, zero, suc, ◌<◌, ◌≤◌, ◌^◌, min, true, List, [], ◌∷◌, ◌++◌, map, length, length-append, Option, Some, None, refl, sym, ap, ◌∙◌, arith, append-nil, append_assoc, inl, inr, Ordering}
-use Rattle.tree_array.proofs.Common.{spend, spent_at}
-use Rattle.tree_node.proofs.Common.{Agrees, AllByRecursion, AreParted, Arrivals, HasChildFor, IsAbove, IsAbsent, IsBelow, IsPart, IsTotalOrder, Replaces, Stands, TreeArenas, Updates, Updates-with_value, agrees_here, all-append, cases_eq, child_at, children_of, found_keyed, get, is_from, keyed, length-map, none_here, node_is, node_made, room, same_stands, same_walk, spare, stands_each, times, times-append, times-cons, unbounded, walk, with_value}
-use Rattle.tree_node.specs.declared.node.NodeOf.{NodeOf}
-use Rattle.tree_node.specs.Parts.{PutsChild}
-use Rattle.tree_node.specs.Shape.{found_room}
-use Rattle.tree_node.proofs.Lifts.{Lifted, leaves_once_in, lifts, node_stays}
-use Rattle.tree_node.proofs.Places.{IsAt, child_between, children_around, children_put, high_at, later_children, low_at, parted_low, routed_by, separator_absent, separator_put, separators_beside}
-use Rattle.tree_node.proofs.Spares.{spares-cons, spares-single}
-use Rattle.tree_split.specs.Packed.{HasLast, IsPacked}
+use Rattle.std.proofs.Common.{◌≡◌, ℕ, suc, ◌<◌, ◌≤◌, ◌^◌, min, true, List, [], ◌∷◌, ◌++◌, map, length, length-append, Option, Some, None, refl, sym, ap, ◌∙◌, arith, append-nil, append_assoc, inl, inr, Ordering}
+use Rattle.tree_split.proofs.Words.{spend, spent_at, Agrees, AllByRecursion, AreParted, Arrivals, HasChildFor, IsAbove, IsAbsent, IsBelow, IsPart, IsTotalOrder, Replaces, Stands, TreeArenas, Updates, Updates-with_value, agrees_here, all-append, cases_eq, child_at, children_of, found_keyed, get, is_from, keyed, length-map, none_here, node_is, node_made, room, same_stands, same_walk, spare, stands_each, times, times-append, times-cons, unbounded, walk, with_value, NodeOf, PutsChild, Lifted, leaves_once_in, lifts, node_stays, IsAt, child_between, children_around, children_put, high_at, later_children, low_at, parted_low, routed_by, separator_absent, separator_put, separators_beside, spares-cons, spares-single, HasLast, IsPacked}
 use Rattle.tree_split.proofs.Arrays.{packed_stored}
 use Rattle.tree_split.proofs.Edges.{counts_same, one_last, same_packed}
 
@@ -126,8 +118,7 @@ module _ {K V : Type 0} {LEN : ℕ} {cmp : K → K → Ordering} (o : IsTotalOrd
       changed = lift.changed
 
       same_room : (lev z : ℕ) → Agrees lev mid new z → room lev new z ≡ room lev mid z
-      same_room zero z same = refl
-      same_room (suc lev) z same = ap found_room (agrees_here lev mid new z same)
+      same_room lev z same = grind (arith, agrees_here)
 
       routed_now : (P : ℕ → Type 0) (k : K) (old_child new_child : ℕ) → HasChildFor cmp k (get old.nodes id) old_child → HasChildFor cmp k (get new.nodes id) new_child
           → (is_from cmp k separator ≡ true → P y) → P old_child → P new_child

@@ -1,13 +1,7 @@
 -- What a packed part that is full gives to a new one before it.
 use Rattle.std.proofs.Common.{◌≡◌, ◌⊎◌, ℕ, zero, suc, ◌≤◌, ◌^◌, false, true, cond, List, [], ◌∷◌, ◌++◌, length, Option, refl, ap, ◌∙◌, arith, inl, inr, is_lt, Ordering, Less}
 use Rattle.std.proofs.Math.Nat.{pow-suc, pow-zero}
-use Rattle.std.proofs.lemmas.Bool.{and_parts}
-use Rattle.std.specs.Cmp.Derive.{both_true}
-use Rattle.tree_array.proofs.Common.{ascents, reachable}
-use Rattle.tree_model.proofs.Ascending.{less_from_test}
-use Rattle.tree_node.proofs.Common.{AllByRecursion, Arrivals, IsSound, IsTotalOrder, Stands, TreeArenas, free, held, keyed, node_is, room}
-use Rattle.tree_split.specs.Packed.{IsPacked, is_packed_array}
-use Rattle.tree_split.specs.Splits.{all_smaller, low_part}
+use Rattle.tree_split.proofs.Words.{and_parts, both_true, ascents, reachable, less_from_test, AllByRecursion, Arrivals, IsSound, IsTotalOrder, Stands, TreeArenas, free, held, keyed, node_is, room, IsPacked, is_packed_array, all_smaller, low_part}
 use Rattle.tree_split.proofs.Arrays.{packed_boundary, packed_full, packed_marks}
 use Rattle.tree_split.proofs.Boundaries.{boundary_count}
 
@@ -37,8 +31,7 @@ module _ {K V : Type 0} (cmp : K → K → Ordering) (key : K) where
 
   pub all_beyond : (pairs : List (K × V)) → all_smaller cmp key pairs ≡ true → AllByRecursion (λ p. cmp p.0 key ≡ Less) pairs
   all_beyond [] so = tt
-  all_beyond (p ∷ rest) so = let both = and_parts (is_lt (cmp p.0 key)) (all_smaller cmp key rest) so in
-      (less_from_test (cmp p.0 key) both.0, all_beyond rest both.1)
+  all_beyond (p ∷ rest) so = grind (arith, less_from_test, and_parts, all_beyond rest)
 
   -- the last of them decides
   pub beyond_last : (front : List (K × V)) (pair : K × V) → AllByRecursion (λ p. cmp p.0 key ≡ Less) front ⊎ (is_lt (cmp pair.0 key) ≡ false) → all_smaller cmp key (front ++ pair ∷ []) ≡ is_lt (cmp pair.0 key)

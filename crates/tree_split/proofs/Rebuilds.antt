@@ -1,16 +1,7 @@
 -- A child that is built anew in its place, with what it had, and the node above it.
 use Rattle.std.proofs.Common.{◌≡◌, ℕ, suc, ◌<◌, ◌≤◌, List, [], ◌∷◌, ◌++◌, map, length, Option, Some, None, refl, sym, ap, ◌∙◌, arith, sub-one, Ordering}
-use Rattle.tree_node.proofs.Common.{Arrivals, HasChildFor, IsLen, IsPart, IsSound, KeepsBounds, LeafOf, Replaces, Stands, TreeArenas, Updates, Updates-with_value, all-append, children_of, get, held, in_order, keyed, length-map, limit, node_is, node_kept, node_made, only_child, parted_map, room, spare, stands_each, walk, walk-leaf, with_value}
-use Rattle.tree_node.specs.declared.node.NodeOf.{NodeOf}
-use Rattle.tree_node.specs.Changes.{RebuildsNode}
-use Rattle.tree_node.proofs.LeafSpares.{spare_anew, spare_beside}
-use Rattle.tree_node.proofs.LeafWrites.{with_array, here_now, array_replaces}
-use Rattle.tree_node.proofs.Lifts.{Lifted, child_lifts, leaves_once_in, lifts, node_stays}
-use Rattle.tree_node.proofs.Places.{IsAt, children_around, later_children}
-use Rattle.tree_node.proofs.Spares.{spares-single}
+use Rattle.tree_split.proofs.Words.{Arrivals, HasChildFor, IsLen, IsPart, IsSound, KeepsBounds, LeafOf, Replaces, Stands, TreeArenas, Updates, Updates-with_value, all-append, children_of, get, held, in_order, keyed, length-map, limit, node_is, node_kept, node_made, only_child, parted_map, room, spare, stands_each, walk, walk-leaf, with_value, NodeOf, RebuildsNode, spare_anew, spare_beside, with_array, here_now, array_replaces, Lifted, child_lifts, leaves_once_in, lifts, node_stays, IsAt, children_around, later_children, spares-single, HasLast, HasMadeRoom, KeepsPacked, SharesChildren, SplitsChild}
 use Rattle.tree_node.proofs.Steps.{replaces_refl}
-use Rattle.tree_split.specs.Packed.{HasLast}
-use Rattle.tree_split.specs.Splits.{HasMadeRoom, KeepsPacked, SharesChildren, SplitsChild}
 use Rattle.tree_split.proofs.Edges.{edge_of, last_for, last_stands, one_last}
 use Rattle.tree_split.proofs.PackedSplits.{all_held}
 

@@ -1,7 +1,7 @@
 -- The children of a node fit in memory where the node does, of either kind.
 use Rattle.std.proofs.Common.{ℕ, ◌+◌, ◌<◌, ◌^◌, max, arith}
 use prog.Memory.{up}
-use Rattle.tree_array.proofs.Common.{last_field, before_last, in_some}
+use Rattle.tree_split.proofs.Words.{last_field, before_last, in_some}
 
 -- what the first variant of an enum holds
 pub first_variant_fits : (align tag other size : ℕ) → up align (max (up tag 1 + size) other) < 2 ^ 63 → size < 2 ^ 63

@@ -1,10 +1,9 @@
 //! The keyed children of a node: where an array of them divides, and one more is put among them.
 ghost use Rattle.std.specs.Prelude.{◌≡◌, ◌<◌, ◌≤◌, IfSome, MatchOption, length};
-ghost use Rattle.tree_array.specs.Arrivals.{boundary, stored};
 ghost use Rattle.tree_array.specs.Insertion.{HasRoom};
-ghost use Rattle.tree_array.specs.Length.{limit};
 ghost use Rattle.tree_array.specs.Sound.{IsSound};
 ghost use Rattle.tree_model.specs.Pairs.{IsAbsent};
+ghost use Rattle.tree_node.specs.Arenas.{boundary, limit, stored};
 
 use tree_array::array::ArrayOf;
 

@@ -1,4 +1,3 @@
 pub mod Common
-pub mod Compared
 pub mod Taken
 pub mod Walked

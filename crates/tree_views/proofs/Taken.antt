@@ -2,7 +2,6 @@
 use Rattle.tree_views.proofs.Common.{◌≡◌, true, List, [], ◌∷◌, ◌++◌, map, reverse, Option, Some, None, Bor, length, refl, sym, ap, ◌∙◌, arith, Ordering, length-append, ⊤, IsTotalOrder, MakesProgress}
 use Rattle.tree_views.proofs.Common.{reverse_onto, reverse-reverse, lent_entry, Moves, rest, Cursor, On, Back, filter_all, at_most, TakesFirst, TakesLast, map_push, between, IsOpen, takes_first}
 use Rattle.tree_views.proofs.Common.{GoesThroughAll}
-use Rattle.tree_chain.specs.Rest.{TakesFirst as TakesEntry}
 use Rattle.tree_views.proofs.Walked.{all_pass}
 
 -- what is taken from either end leaves less
@@ -15,6 +14,12 @@ module _ {A X : Type 0} (shows : A → X) (s t : List X) where
   last_progress None takes = record { on = λ _. tt; keeps = tt; rests = λ _. tt }
   last_progress (Some x) takes = record { on = λ _. (tt, tt, omega (arith, ap length takes ∙ length-append t (shows x ∷ []))); keeps = tt; rests = λ _. tt }
 
+  pub with_first : (r : Option A) → TakesFirst shows s r t → record { steps : TakesFirst shows s r t; goes : MakesProgress (λ _. ⊤) (λ xs. at_most (length xs)) s r t }
+  with_first r takes = record { steps = takes; goes = first_progress r takes }
+
+  pub with_last : (r : Option A) → TakesLast shows s r t → record { steps : TakesLast shows s r t; goes : MakesProgress (λ _. ⊤) (λ xs. at_most (length xs)) s r t }
+  with_last r takes = record { steps = takes; goes = last_progress r takes }
+
 module _ {K V : Type 0} (cmp : K → K → Ordering) where
   -- the way back gives what the way on does, in reverse
   rest_back : (c : Cursor K V) → IsOpen c → rest cmp Back c ≡ reverse (rest cmp On c)
@@ -25,11 +30,11 @@ module _ {K V : Type 0} (cmp : K → K → Ordering) where
       )
 
 module _ {K V X : Type 0} {cmp : K → K → Ordering} (o : IsTotalOrder cmp) (f : K × V → X) (s t : Cursor K V) (goes : GoesThroughAll cmp s) where
-  mapped_first : (left after : List (K × V)) (r : Option (Bor K × Bor V)) → TakesEntry left r after → TakesFirst (λ pair. f (lent_entry pair)) (map f left) r (map f after)
+  mapped_first : (left after : List (K × V)) (r : Option (Bor K × Bor V)) → TakesFirst lent_entry left r after → TakesFirst (λ pair. f (lent_entry pair)) (map f left) r (map f after)
   mapped_first left after None takes = rw takes.0 (refl, rw takes.1 refl)
   mapped_first left after (Some pair) takes = rw takes refl
 
-  mapped_last : (left after : List (K × V)) (r : Option (Bor K × Bor V)) → TakesEntry (reverse left) r (reverse after) → TakesLast (λ pair. f (lent_entry pair)) (map f left) r (map f after)
+  mapped_last : (left after : List (K × V)) (r : Option (Bor K × Bor V)) → TakesFirst lent_entry (reverse left) r (reverse after) → TakesLast (λ pair. f (lent_entry pair)) (map f left) r (map f after)
   mapped_last left after None takes =
       let none = sym (reverse-reverse left) ∙ ap reverse takes.0 in
       let none_after = sym (reverse-reverse after) ∙ ap reverse takes.1 in

@@ -1,6 +1,6 @@
 -- A search through children in turn, either way, for the first leaf with an entry.
 use Rattle.tree_walk.proofs.Common.{◌≡◌, ℕ, ◌<◌, Bool, true, false, List, [], ◌∷◌, ◌++◌, length, reverse, Option, Some, None, is_some, refl, ap, ◌∙◌, append_assoc, IsTrue, arith, flat_map, append-nil}
-use Rattle.tree_walk.proofs.Common.{AllByRecursion, reverse_onto, flat_map-append, along, Back, FindsFirst, IsFirstOn, LeafOf, On, Slab, Way, entries_of, leaf_entries, passed}
+use Rattle.tree_walk.proofs.Common.{AllByRecursion, reverse_onto, flat_map-append, along, Back, FindsFirst, IsFirstOn, LeafOf, On, Slab, Way, entries_of, leaf_entries}
 
 -- what comes first on the way, and then the rest, in the order of the keys
 abbrev joined : Way → List ℕ → List ℕ → List ℕ
@@ -32,11 +32,8 @@ module _ {K V : Type 0} {LEN : ℕ} (leaves : Slab (LeafOf K V LEN)) where
   alone_without leaf none = rw (append-nil, none) refl
 
   pub alone_with : (leaf : ℕ) (empty : Bool) → (leaf_entries leaves leaf ≡ [] → IsTrue empty) → empty ≡ false → (way : Way) → IsFirstOn way leaves (leaf ∷ []) leaf
-  alone_with leaf empty test some way = record { front = []; back = []; parts = refl; none_passed = none; entry = filled (leaf_entries leaves leaf) test }
+  alone_with leaf empty test some way = record { front = []; back = []; parts = refl; none_passed = grind arith; entry = filled (leaf_entries leaves leaf) test }
     where
-      none : entries_of leaves (passed way [] []) ≡ []
-      none = elim way as (λ way. entries_of leaves (passed way [] []) ≡ []) [ On ↦ refl | Back ↦ refl ]
-
       filled : (entries : List (K × V)) → (entries ≡ [] → IsTrue empty) → 0 < length entries
       filled [] test = absurd (let none : empty ≡ true = test refl in cc)
       filled (x ∷ entries) test = omega arith
@@ -47,17 +44,11 @@ module _ {K V : Type 0} {LEN : ℕ} (leaves : Slab (LeafOf K V LEN)) where
       pub each : AllByRecursion Holds left
       pub suffices : (result : Option ℕ) → FindsFirst way leaves (flat_map f (along way left)) result → FindsFirst way leaves all result
 
-    pub begins : {Holds : ℕ → Type 0} (left : List ℕ) → all ≡ flat_map f (along way left) → AllByRecursion Holds left → IsSought Holds left
-    begins left is each = record { each = each; suffices = λ result found. rw is found }
-
     module _ {Holds : ℕ → Type 0} (left : List ℕ) (sought : IsSought Holds left) where
       pub nowhere : left ≡ [] → FindsFirst way leaves all None
       nowhere is = sought.suffices None (rw is (elim way as (λ way. entries_of leaves (flat_map f (along way [])) ≡ []) [ On ↦ refl | Back ↦ refl ]))
 
       module _ (child : ℕ) (rest : List ℕ) (is : left ≡ child ∷ rest) where
-        pub holds : Holds child
-        holds = (rw is at sought.each).0
-
         module _ (result : Option ℕ) (found : FindsFirst way leaves (f child) result) where
           pub stops : is_some result ≡ true → FindsFirst way leaves all result
           stops some = sought.suffices result (rw (is, leaves_joined f way child rest) (by_result result found some))

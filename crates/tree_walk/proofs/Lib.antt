@@ -1,4 +1,3 @@
-pub mod ChildTurns
 pub mod Common
 pub mod EndSearch
 pub mod EndWalks

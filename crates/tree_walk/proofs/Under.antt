@@ -1,11 +1,7 @@
 -- The leaves under a node are those under its children, each of which stands one level below it.
-use Rattle.tree_walk.proofs.Common.{◌≡◌, ℕ, zero, suc, ◌-◌, ◌<◌, List, [], Option, Some, None, inl, inr, refl, sym, ◌∙◌, arith, Ordering, AllByRecursion, reverse-reverse, along, Back, ContainsKey}
-use Rattle.tree_walk.proofs.Common.{IsRetiredNode, On, StandsOrRetired, TreeArenas, Way, all_along, all_children, all_map, get, keyed, leaves_at, leaves_of, no_leaves, over_leaves, over_nodes}
+use Rattle.tree_walk.proofs.Common.{◌≡◌, ℕ, zero, suc, ◌-◌, ◌<◌, List, [], Option, Some, None, inl, inr, refl, arith, Ordering, AllByRecursion, reverse-reverse, along, ContainsKey}
+use Rattle.tree_walk.proofs.Common.{IsRetiredNode, StandsOrRetired, TreeArenas, Way, all_along, all_children, all_map, get, keyed, leaves_at, leaves_of, no_leaves, over_leaves, over_nodes}
 use Rattle.tree_walk.proofs.Common.{unbounded, BranchOf, NodeOf, Internal, Leaf}
-
-along-twice : (way : Way) (ids : List ℕ) → along way (along way ids) ≡ ids
-along-twice On ids = refl
-along-twice Back ids = reverse-reverse ids
 
 module _ {K V : Type 0} {LEN : ℕ} (level : ℕ) (a : TreeArenas K V LEN) where
   -- a child of a node over nodes is no leaf, and stands or is retired
@@ -20,15 +16,12 @@ module _ {K V : Type 0} {LEN : ℕ} (level : ℕ) (a : TreeArenas K V LEN) where
   -- in the order of the keys or against it
   turned : (id below : ℕ) (Holds : ℕ → Type 0) (way : Way) (children left : List ℕ) → left ≡ along way children → leaves_at level a.nodes id ≡ leaves_of below a.nodes children → AllByRecursion Holds children
       → IsOver id below Holds way left
-  turned id below Holds way children left is leaves each = record { leaves = rw (is, along-twice way children) leaves; each = rw is (all_along Holds way children each) }
+  turned id below Holds way children left is leaves each = record { leaves = rw is (grind (arith, reverse-reverse, leaves)); each = rw is (all_along Holds way children each) }
 
 module _ {K V : Type 0} {LEN : ℕ} (cmp : K → K → Ordering) (a : TreeArenas K V LEN) (id level : ℕ) (inner : 0 < level) (given : StandsOrRetired cmp level a id) (way : Way) (children : List ℕ) where
   no_keyed : (level : ℕ) → 0 < level → StandsOrRetired cmp level a id → (node : NodeOf K LEN) → get a.nodes id ≡ Some node → unbounded node ≡ None → (keyed node).entries ≡ []
   no_keyed zero inner given node here none = absurd (omega (arith, inner))
-  no_keyed (suc level) inner (inl s) node here none =
-      let same : Some s.node ≡ Some node = sym s.here ∙ here in
-      let is : s.node ≡ node = cc in
-      absurd (let some = rw (← is, s.last_is) at none in cc)
+  no_keyed (suc level) inner (inl s) node here none = grind (arith, s.here, s.last_is)
   no_keyed (suc level) inner (inr retired) node here none = let r : IsRetiredNode (Some node) = rw here at retired in r.0
 
   -- those of a node with an unbounded child stand, and one without has none

@@ -7,7 +7,6 @@ ghost use Rattle.tree_array.specs.Insertion.{IsFull, IsInsert, IsStore};
 ghost use Rattle.tree_cells.specs.Place.{Parts};
 
 use super::{ArrayOf, InsertResult, StoreResult, order_of};
-use tree_cells::cells::Counts;
 use tree_cells::search::{Place, find_key_beyond};
 use tree_order::order::clamp;
 
@@ -53,11 +52,7 @@ impl<K: Ord + Drop, V: Drop, const LEN: usize> ArrayOf<K, V, LEN> {
                     let arrivals = self.cells.counts().arrivals;
                     let order = order.rename(place, arrivals);
                     let _ = self.cells.take(slot);
-                    let counts = Counts {
-                        entries: order.count,
-                        arrivals: arrivals + 1,
-                    };
-                    self.cells.put(arrivals, key, val, counts);
+                    self.cells.push(key, val, order.count);
                     self.order = order.word;
                     StoreResult::Replaced
                 }
@@ -97,11 +92,7 @@ impl<K: Ord + Drop, V: Drop, const LEN: usize> ArrayOf<K, V, LEN> {
     {
         let arrivals = self.cells.counts().arrivals;
         let order = order_of(self.order, &self.cells).insert(place, arrivals);
-        let counts = Counts {
-            entries: order.count,
-            arrivals: arrivals + 1,
-        };
-        self.cells.put(arrivals, key, val, counts);
+        self.cells.push(key, val, order.count);
         self.order = order.word;
     }
 }

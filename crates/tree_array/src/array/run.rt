@@ -9,7 +9,7 @@ ghost use Rattle.tree_array.specs.Runs.{IsRun, gathered};
 use super::ArrayOf;
 use std::marker::Model;
 use std::mem;
-use tree_cells::cells::{Cells, Counts};
+use tree_cells::cells::Cells;
 use tree_order::order::{EMPTY, Order};
 
 /// Up to `LEN` pairs, 7 or 15, in ascending order of their keys, which become an array at once. So the word that keeps the
@@ -54,7 +54,7 @@ impl<K: Ord + Drop, V: Drop, const LEN: usize> RunOf<K, V, LEN> {
     pub fn is_full(&self) -> bool
         ensures { IsTrue result ↔ (length self.now ≡ LEN) }
     {
-        self.cells.counts().entries as usize == LEN
+        self.cells.counts().arrivals as usize == LEN
     }
 
     /// Returns the first key, or `None` if the run has no pair.
@@ -77,12 +77,8 @@ impl<K: Ord + Drop, V: Drop, const LEN: usize> RunOf<K, V, LEN> {
         requires larger { AllByRecursion (λ pair. K.cmp pair.0 key ≡ Less) self.old }
         ensures { self.new ≡ self.old ++ (key, val) ∷ [] }
     {
-        let count = self.cells.counts().entries;
-        let counts = Counts {
-            entries: count + 1,
-            arrivals: count + 1,
-        };
-        self.cells.put(count, key, val, counts);
+        let count = self.cells.counts().arrivals;
+        self.cells.push(key, val, count + 1);
     }
 
     /// Returns the array of the pairs, and leaves the run without one.

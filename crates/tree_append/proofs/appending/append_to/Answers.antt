@@ -1,7 +1,5 @@
-use Rattle.std.proofs.Common.{◌≡◌, None, Some, false, true, refl, sym, ◌∙◌}
-use Rattle.tree_array.specs.Insertion.{IsFull}
-use Rattle.tree_node.proofs.Children.{walk-leaf}
-use Rattle.tree_node.proofs.Sizes.{fits}
+use Rattle.tree_insert.proofs.Common.{IsFull, None, fits, refl, ◌≡◌}
+use Rattle.tree_append.proofs.Common.{walk-leaf}
 use Rattle.tree_append.proofs.Edges.{larger_there}
 use Rattle.tree_append.proofs.Stored.{appended, some_leaf}
 use Rattle.tree_append.proofs.appending.append_to.Goals as goal
@@ -15,20 +13,17 @@ leaf_mut-requires g c = (search fits, (search fits, some_leaf _ c.requires.2.las
 pub returns-then-is_full : goal.returns-then-is_full
 returns-then-is_full g c level id for =
     let full = rw c.array.ensures at c.is_full.ensures.0 c.if-is_full.true in
-    (refl, refl, refl, λ found is. let both : Some c.leaf.result.now ≡ Some found = sym c.leaf.ensures ∙ is in let same : c.leaf.result.now ≡ found = cc in rw (← same) full)
+    (refl, refl, refl, λ found is. let same : c.leaf.result.now ≡ found = cc (c.leaf.ensures, is) in rw (← same) full)
 
 pub append-requires : goal.append-requires
 append-requires g c =
     let for = c.requires.2 in
-    let both : Some c.leaf.result.now ≡ Some c.leaf_mut.result.now = sym c.leaf.ensures ∙ c.leaf_mut.ensures.value in
-    let read : c.leaf.result.now ≡ c.leaf_mut.result.now = cc in
-    let room : IsFull g.row.LEN c.leaf_mut.result.now.array → ⊥ = λ full. absurd (let both : false ≡ true = sym c.if-is_full.false ∙ c.is_full.ensures.1 (rw (c.array.ensures, read) full) in cc) in
+    let read : c.leaf.result.now ≡ c.leaf_mut.result.now = cc (c.leaf.ensures, c.leaf_mut.ensures.value) in
+    let room : IsFull g.row.LEN c.leaf_mut.result.now.array → ⊥ = λ full. cc (c.if-is_full.false, c.is_full.ensures.1 (rw (c.array.ensures, read) full)) in
     let larger = larger_there g.met.K.Ord.total c.args.arenas.now c.args.leaf for.last.1 c.args.key c.requires.0 None c.requires.1 for.part.stands for.last.0 for.beyond in
     (search fits, rw c.array_mut.ensures.value (room, rw (walk-leaf c.args.arenas.now c.args.leaf c.leaf_mut.result.now c.leaf_mut.ensures.value) at larger))
 
 pub returns : goal.returns
 returns g c level id for =
-    let both : Some c.leaf.result.now ≡ Some c.leaf_mut.result.now = sym c.leaf.ensures ∙ c.leaf_mut.ensures.value in
-    let read : c.leaf.result.now ≡ c.leaf_mut.result.now = cc in
-    let room : IsFull g.row.LEN c.leaf_mut.result.now.array → ⊥ = λ full. absurd (let both : false ≡ true = sym c.if-is_full.false ∙ c.is_full.ensures.1 (rw (c.array.ensures, read) full) in cc) in
-    appended g.met.K.Ord.total c.args.arenas.now c.args.leaf c.leaf_mut.result.now c.append.new.self c.args.key c.args.val c.leaf_mut.ensures.value room (rw c.array_mut.ensures.value at c.append.ensures) level id for
+    appended g.met.K.Ord.total c.args.arenas.now c.args.leaf c.leaf_mut.result.now c.append.new.self c.args.key c.args.val c.leaf_mut.ensures.value
+    (rw c.array_mut.ensures.value at c.append.ensures) for

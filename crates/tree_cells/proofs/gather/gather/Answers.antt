@@ -1,10 +1,5 @@
-use Rattle.std.proofs.Common.{◌≡◌, ◌≢◌, ℕ, ◌+◌, ◌-◌, ◌<◌, ◌≤◌, Some, None, length, refl, ◌∙◌, ap, arith}
-use Rattle.tree_order.specs.Order.{named}
-use Rattle.tree_order.proofs.Words.{named_later}
-use Rattle.tree_cells.specs.Cells.{zipped}
-use Rattle.tree_cells.proofs.Moves.{left_more, none_in_turn, none_left, stands_still, turn_more}
-use Rattle.tree_cells.proofs.Sizes.{steps}
-use Rattle.tree_cells.proofs.Zips.{has_both, has_none, is_pair, length-zipped, pair_set, paired_at, rows_alike}
+use Rattle.tree_cells.proofs.Lemmas.{◌≡◌, ◌≢◌, ℕ, ◌+◌, ◌-◌, ◌<◌, ◌≤◌, Some, None, length, refl, ◌∙◌, ap, arith, named, named_later, zipped, left_more, none_in_turn, none_left, stands_still}
+use Rattle.tree_cells.proofs.Lemmas.{turn_more, steps, has_both, has_none, is_pair, length-zipped, pair_set, paired_at, rows_alike}
 use Rattle.tree_cells.proofs.gather.gather.Goals as goal
 
 -- the slot that the loop is at is that of the next place
@@ -28,12 +23,6 @@ take-requires g c =
     let inv = c.loop-place.invariant in
     let stays = stands_still inv.left c.loop-place.auto.place (λ i le lt. c.requires.apart i c.loop-place.place le lt c.loop-place-test.true) in
     (search steps, rw (at_place c.loop-place.rest c.args.order c.loop-place.place c.slot_at-slot.ensures inv.rest) (has_both inv.rows (named c.args.order c.loop-place.place) (rw stays (c.requires.stand c.loop-place.place c.loop-place.auto.place c.loop-place-test.true))).0)
-
-pub take-requires-in-loop-place : goal.take-requires-in-loop-place
-take-requires-in-loop-place g c =
-    let inv = c.loop-place.invariant in
-    let stays = stands_still inv.left c.loop-place.auto.place (λ i le lt. c.requires.apart i c.loop-place.place le lt c.loop-place-test.true) in
-    (search steps, rw (at_place c.loop-place.rest c.args.order c.loop-place.place c.slot_at-slot.ensures inv.rest) (has_both inv.rows (named c.args.order c.loop-place.place) (rw stays (c.requires.stand c.loop-place.place c.loop-place.auto.place c.loop-place-test.true))).1)
 
 pub put-requires : goal.put-requires
 put-requires g c = (search steps, (omega (arith, c.loop-place-test.true, c.requires.few), (has_none c.loop-place.invariant.to _ (c.loop-place.invariant.turn.none _ (omega (arith, c.loop-place.auto.place)))).0))

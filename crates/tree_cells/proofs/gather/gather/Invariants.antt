@@ -1,8 +1,4 @@
-use Rattle.std.proofs.Common.{◌≡◌, ℕ, ◌+◌}
-use Rattle.tree_cells.specs.Cells.{zipped}
-use Rattle.tree_cells.specs.Moves.{HasInTurn, HasLeft}
-use Rattle.tree_order.specs.Order.{named}
-use Rattle.tree_cells.proofs.Zips.{AreSeenAs}
+use Rattle.tree_cells.proofs.Lemmas.{◌≡◌, ℕ, ◌+◌, zipped, HasInTurn, HasLeft, named, AreSeenAs}
 use Rattle.tree_cells.proofs.gather.gather.Given as goal
 
 abbrev pub invariant-loop-place : goal.invariant-loop-place

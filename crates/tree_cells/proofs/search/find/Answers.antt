@@ -1,9 +1,4 @@
-use Rattle.std.proofs.Common.{◌≡◌, ℕ, List, Option, Ordering, arith, rules}
-use Rattle.tree_cells.specs.Tabled.{AreSlots, IsInOrder}
-use Rattle.tree_order.specs.Order.{names, IsOrder}
-use Rattle.tree_cells.proofs.Halving.{end_placed, place_apart, place_equal}
-use Rattle.tree_cells.proofs.Tabled.{stands_some}
-use Rattle.tree_order.proofs.Slots.{len_small}
+use Rattle.tree_cells.proofs.Lemmas.{◌≡◌, ℕ, List, Option, Ordering, arith, rules, AreSlots, IsInOrder, names, IsOrder, end_placed, place_apart, place_equal, stands_some, len_small}
 use Rattle.tree_cells.proofs.search.find.Goals as goal
 
 pub key-requires : goal.key-requires

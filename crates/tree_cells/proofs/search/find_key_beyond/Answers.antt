@@ -1,7 +1,4 @@
-use Rattle.std.proofs.Common.{sym, ◌∙◌, rules}
-use Rattle.tree_model.proofs.Ascending.{greater_from_test}
-use Rattle.tree_cells.proofs.Halving.{beyond_last}
-use Rattle.tree_cells.proofs.Tabled.{stands_some}
+use Rattle.tree_cells.proofs.Lemmas.{sym, ◌∙◌, rules, greater_from_test, beyond_last, stands_some}
 use Rattle.tree_cells.proofs.search.find_key_beyond.Goals as goal
 
 pub key-requires : goal.key-requires

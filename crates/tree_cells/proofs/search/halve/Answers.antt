@@ -1,5 +1,4 @@
-use Rattle.std.proofs.Common.{sym, rules, arith}
-use Rattle.tree_cells.proofs.Halving.{halved_down, halved_up, middle_stands, window_equal, window_greater, window_less}
+use Rattle.tree_cells.proofs.Lemmas.{sym, rules, arith, halved_down, halved_up, middle_stands, window_equal, window_greater, window_less}
 use Rattle.tree_cells.proofs.search.halve.Goals as goal
 
 pub key-stored-requires : goal.key-stored-requires

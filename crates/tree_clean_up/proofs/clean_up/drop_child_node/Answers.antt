@@ -1,11 +1,9 @@
-use Rattle.tree_clean_up.proofs.Common.{ContainsKey, no_children, refl, rules, ℕ}
-use Rattle.tree_clean_up.proofs.NodeDrops.{has_node, node_dropped}
+use Rattle.tree_clean_up.proofs.Common.{no_children, refl, rules, ℕ}
+use Rattle.tree_clean_up.proofs.Drops.{has_node, node_dropped}
 use Rattle.tree_clean_up.proofs.clean_up.drop_child_node.Goals as goal
 
 pub remove_node-requires : goal.remove_node-requires
-remove_node-requires g c =
-    let there : ContainsKey c.args.arenas.now.nodes c.args.child = (no_children _ c.requires.retired).0 in
-    search rules
+remove_node-requires g c = search (rules, (no_children _ c.requires.retired).0)
 
 pub take_keyed-requires : goal.take_keyed-requires
 take_keyed-requires g c = (search rules, (search rules, rw (c.remove_node.ensures.nodes.updates.others c.args.id c.requires.apart) (rw c.in-Some.is at c.requires.slot)))

@@ -1,12 +1,11 @@
-use Rattle.tree_clean_up.proofs.Common.{ContainsKey, fits, refl, rules, same_array_used, ◌∙◌}
+use Rattle.tree_clean_up.proofs.Common.{fits, refl, rules, same_array_used, ◌∙◌}
 use Rattle.tree_clean_up.proofs.EmptyNodes.{emptied}
-use Rattle.tree_clean_up.proofs.LeafDrops.{leaf_dropped}
+use Rattle.tree_clean_up.proofs.Drops.{leaf_dropped}
 use Rattle.tree_clean_up.proofs.clean_up.retire_if_empty.Goals as goal
 
 pub remove_leaf-requires : goal.remove_leaf-requires
 remove_leaf-requires g c =
-    let there : ContainsKey c.unlink.new.arenas.leaves c.in-Some.last = same_array_used _ _ (c.unlink.ensures.splices.kept c.in-Some.last) (rw c.unlink.ensures.here refl) in
-    (search fits, (search fits, there))
+    (search fits, (search fits, same_array_used _ _ (c.unlink.ensures.splices.kept c.in-Some.last) (rw c.unlink.ensures.here refl)))
 
 pub take_unbounded-requires : goal.take_unbounded-requires
 take_unbounded-requires g c = (search rules, (search fits, rw (c.remove_leaf.ensures.nodes ∙ c.unlink.ensures.splices.nodes) (rw c.requires.stands.here refl)))

@@ -1,16 +1,12 @@
-use Rattle.tree_clean_up.proofs.Common.{ContainsKey, IsSome, Updates-with_value, arrival, keyed, refl, rules}
-use Rattle.tree_clean_up.proofs.NodeDrops.{has_node}
+use Rattle.tree_clean_up.proofs.Common.{Updates-with_value, refl, rules}
+use Rattle.tree_clean_up.proofs.Drops.{has_node}
 use Rattle.tree_clean_up.proofs.clean_up.take_keyed.Goals as goal
 
 pub node_mut-requires : goal.node_mut-requires
-node_mut-requires g c =
-    let there : ContainsKey c.args.arenas.now.nodes c.args.id = has_node _ _ c.requires in
-    search rules
+node_mut-requires g c = search (rules, has_node _ _ c.requires)
 
 pub take_keyed-requires : goal.take_keyed-requires
-take_keyed-requires g c =
-    let there : IsSome (arrival (keyed c.node_mut.result.now).arrivals c.args.slot) = rw c.node_mut.ensures.value at c.requires in
-    (search rules, there)
+take_keyed-requires g c = (search rules, rw c.node_mut.ensures.value at c.requires)
 
 pub returns-clause-nodes : goal.returns-clause-nodes
 returns-clause-nodes g c =

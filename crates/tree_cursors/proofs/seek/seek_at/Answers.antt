@@ -16,7 +16,7 @@ pub loop-key-smaller : goal.loop-key-smaller
 loop-key-smaller g c =
     let linked = c.requires.linked in
     let sought = c.loop-key.invariant linked.0 linked.1 linked.2 in
-    count_falls g.S.SlotWalk.way _ _ (c.in-Some.key, c.in-Some.field-0-1) sought.front sought.back (old_chain _ _ _ _ _ _ linked.2 _ sought) c.in-Some.ensures
+    count_falls g.S.SlotWalk.way _ _ (c.in-Some.key, c.in-Some.field-0-1) sought.stand.front sought.stand.back (old_chain _ _ _ _ _ _ linked.2 _ sought) c.in-Some.ensures
 
 pub loop-key-preserved : goal.loop-key-preserved
 loop-key-preserved g c = λ front back chain.

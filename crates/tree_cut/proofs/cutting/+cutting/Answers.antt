@@ -50,9 +50,6 @@ cut_part-count_fits-requires g t c =
 pub cut_part-node-node-requires : goal.cut_part-node-node-requires
 cut_part-node-node-requires g t c = search (rules, node_there g.K.Ord.cmp c.args.level c.args.arenas.now c.in-Node.is c.requires.kind c.requires.part.stands)
 
-pub cut_part-overflow_add-place : goal.cut_part-overflow_add-place
-cut_part-overflow_add-place g t c = omega (arith, c.last_place-last.ensures.few)
-
 pub cut_part-loop-place-init : goal.cut_part-loop-place-init
 cut_part-loop-place-init g t c =
     starts g.met.K.Ord.total (above_leaves c.args.level c.in-Node.is c.requires.kind) (rw c.in-Node.is at c.requires.part)

@@ -1,7 +1,6 @@
 use Rattle.tree_cut.proofs.Common.{rules, None, arith, sym, ap, length, get, keyed, fits, no_children, retired_at}
 use Rattle.tree_node.proofs.NodeKinds.{node_used as node_there}
-use Rattle.tree_cut.proofs.Nodes.{at_node, node_at, node_used, childless_cut, standing}
-use Rattle.tree_cut.proofs.Turns.{length-turns}
+use Rattle.tree_cut.proofs.Nodes.{at_node, node_at, node_used, childless_cut, standing, length-turns}
 use Rattle.tree_cut.proofs.cutting.remove_range_at.Goals as goal
 
 pub node-requires : goal.node-requires

@@ -1,5 +1,5 @@
 use Rattle.tree_cut.proofs.Common.{rules, ap, ◌∙◌, length, fits}
-use Rattle.tree_cut.proofs.Ends.{beside_used, first_used, last_used, spliced_once, spliced_walk, part_dropped}
+use Rattle.tree_cut.proofs.Ends.{beside_used, first_used, last_used, spliced_once, spliced_walk, dropped}
 use Rattle.tree_cut.proofs.dropping.drop_part.Goals as goal
 
 pub leaf-requires : goal.leaf-requires
@@ -21,7 +21,7 @@ free_part-requires g c =
 
 pub returns-clause-dropped : goal.returns-clause-dropped
 returns-clause-dropped g c =
-    part_dropped c.requires.part c.end_leaf-first.ensures c.end_leaf-last.ensures c.leaf.ensures c.leaf-2.ensures c.prev-left.ensures c.next-right.ensures
+    dropped c.requires.part c.end_leaf-first.ensures c.end_leaf-last.ensures c.leaf.ensures c.leaf-2.ensures c.prev-left.ensures c.next-right.ensures
     c.splice_link.ensures c.free_part.ensures.frees
 
 pub returns-clause-gone : goal.returns-clause-gone

@@ -1,5 +1,5 @@
 use Rattle.tree_cut.proofs.Common.{◌+◌, ◌∙◌, Some, take, arith, refl, drop_all, keyed, node_children, unbounded, cut_whole}
-use Rattle.tree_cut.proofs.Turns.{length-turns}
+use Rattle.tree_cut.proofs.Nodes.{length-turns}
 use Rattle.tree_cut.proofs.dropping.end_child.Goals as goal
 
 pub returns-in-First-clause-child : goal.returns-in-First-clause-child

@@ -1,5 +1,5 @@
 use Rattle.tree_cut.proofs.Common.{sym, ◌∙◌}
-use Rattle.tree_cut.proofs.Turns.{turn_here}
+use Rattle.tree_cut.proofs.Nodes.{turn_here}
 use Rattle.tree_cut.proofs.parts.child_at.Goals as goal
 
 pub returns-in-Some-clause-child : goal.returns-in-Some-clause-child

@@ -1,6 +1,6 @@
 use Rattle.std.proofs.Common.{◌≡◌, ◌+◌, ◌*◌, ◌≤◌}
-use Rattle.tree_array.specs.Length.{searched}
-use Rattle.tree_descent.proofs.Found.{IsDown}
+use Rattle.tree_descent.proofs.Words.{searched}
+use Rattle.tree_descent.proofs.Ways.{IsDown}
 use Rattle.tree_descent.proofs.look_ups.leaf_by.Given as goal
 
 abbrev pub invariant-loop-node : goal.invariant-loop-node

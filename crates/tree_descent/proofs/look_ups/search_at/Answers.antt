@@ -1,7 +1,5 @@
 use Rattle.std.proofs.Common.{refl}
-use Rattle.tree_node.proofs.Common.{fits}
-use Rattle.tree_array.specs.Length.{searched}
-use Rattle.tree_node.proofs.Levels.{retired_walk}
+use Rattle.tree_descent.proofs.Words.{fits, searched, retired_walk}
 use Rattle.tree_descent.proofs.Asked.{leaf_asked}
 use Rattle.tree_descent.proofs.Found.{found_in_leaf}
 use Rattle.tree_descent.proofs.look_ups.search_at.Goals as goal

@@ -1,4 +1,4 @@
-use Rattle.tree_insert.proofs.Attempts.{attempts}
+use Rattle.tree_insert.proofs.Retries.{attempts}
 use Rattle.tree_insert.proofs.insertion.+insert_from.Given as goal
 
 abbrev pub decreases-insert_from : goal.decreases-insert_from

@@ -6,9 +6,8 @@ use Rattle.tree_insert.proofs.insertion.insert_crowded.Goals as goal
 
 pub insert_under_leaf_node-requires : goal.insert_under_leaf_node-requires
 insert_under_leaf_node-requires g c =
-    let way = c.requires.way in
-    let part = node_on_way g.met.K.Ord.total c.args.arenas.now c.args.crowded.key c.args.level c.requires.node c.args.id _ way.0 way.1 in
-    (search rules, (search rules, (part, way.2)))
+    let part = node_on_way g.met.K.Ord.total c.args.arenas.now c.args.crowded.key c.args.level c.requires.node c.args.id _ c.requires.way.0 c.requires.way.1 in
+    (search rules, (search rules, (part, c.requires.way.2)))
 
 pub insert_from-requires : goal.insert_from-requires
 insert_from-requires g c =

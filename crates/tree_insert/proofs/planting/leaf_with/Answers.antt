@@ -1,5 +1,5 @@
 use Rattle.tree_insert.proofs.Common.{◌∙◌}
-use Rattle.tree_insert.proofs.FirstPairs.{first_stored}
+use Rattle.tree_insert.proofs.Plantings.{first_stored}
 use Rattle.tree_insert.proofs.planting.leaf_with.Goals as goal
 
 pub returns-clause-array : goal.returns-clause-array

@@ -1,6 +1,6 @@
-use Rattle.tree_insert.proofs.Common.{Arrivals, ContainsKey, HasPlaces, Leaf, Slab, Updates-with_value, ap, arith, children_fit, fits, get, has_only, refl, some_slots, unchanged_by_keeping}
-use Rattle.tree_insert.proofs.Common.{with_value, ◌∙◌}
-use Rattle.tree_insert.proofs.FirstPairs.{packed_first}
+use Rattle.tree_insert.proofs.Common.{Arrivals, HasPlaces, Leaf, Slab, Updates-with_value, ap, arith, children_fit, fits, get, has_only, refl, some_slots}
+use Rattle.tree_insert.proofs.Common.{unchanged_by_keeping, with_value, ◌∙◌}
+use Rattle.tree_insert.proofs.Plantings.{packed_first}
 use Rattle.tree_insert.proofs.planting.plant_again.Goals as goal
 
 pub returns-in_default-clause-plants : goal.returns-in_default-clause-plants
@@ -18,8 +18,7 @@ add_leaf-requires g c = search fits
 pub node_mut-requires : goal.node_mut-requires
 node_mut-requires g c =
     let kept = unchanged_by_keeping c.args.arenas.now c.reserve.new.self c.in-Ok.ensures.0 in
-    let there : ContainsKey c.add_leaf.new.self.nodes c.args.root = rw (c.add_leaf.ensures.nodes, kept.nodes c.args.root) c.requires.retired.here in
-    (search fits, there)
+    (search fits, rw (c.add_leaf.ensures.nodes, kept.nodes c.args.root) c.requires.retired.here)
 
 pub returns-clause-plants : goal.returns-clause-plants
 returns-clause-plants g c =

@@ -1,5 +1,5 @@
 use Rattle.tree_insert.proofs.Common.{Arrivals, Leaf, None, Slab, ap, bare_leaves, bare_nodes, fits, get, has_only, refl, some_slots, unchanged_by_keeping, ◌∙◌}
-use Rattle.tree_insert.proofs.FirstPairs.{packed_first}
+use Rattle.tree_insert.proofs.Plantings.{packed_first}
 use Rattle.tree_insert.proofs.planting.plant_root.Goals as goal
 
 pub returns-in_default-clause-plants : goal.returns-in_default-clause-plants

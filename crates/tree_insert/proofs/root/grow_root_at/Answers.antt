@@ -11,9 +11,8 @@ node-node-requires g c = (search fits, node_used c.args.depth c.requires.node c.
 
 pub replant-requires : goal.replant-requires
 replant-requires g c =
-    let none = c.is_childless.ensures.0 c.if-is_childless.true in
     let retired : IsRetired 1 c.args.arenas.now c.args.root = elim c.requires.part [
-      | inl part ↦ absurd (not_retired c.args.depth c.requires.node c.args.arenas.now c.args.root part _ c.node-node.ensures none)
+      | inl part ↦ absurd (not_retired c.args.depth c.requires.node c.args.arenas.now c.args.root part _ c.node-node.ensures (c.is_childless.ensures.0 c.if-is_childless.true))
       | inr retired ↦ rw c.node-node.ensures (retired_node c.args.depth c.requires.node c.args.arenas.now c.args.root retired _ c.node-node.ensures)
     ] in
     (search rules, (search fits, (c.slots_left.ensures.len, retired)))
@@ -28,13 +27,11 @@ split_root_at-requires g c =
 
 pub returns-then-is_childless-clause-raised : goal.returns-then-is_childless-clause-raised
 returns-then-is_childless-clause-raised g c part =
-    let none = c.is_childless.ensures.0 c.if-is_childless.true in
-    absurd (not_retired c.args.depth c.requires.node c.args.arenas.now c.args.root part _ c.node-node.ensures none)
+    absurd (not_retired c.args.depth c.requires.node c.args.arenas.now c.args.root part _ c.node-node.ensures (c.is_childless.ensures.0 c.if-is_childless.true))
 
 pub returns-then-is_childless-clause-places : goal.returns-then-is_childless-clause-places
 returns-then-is_childless-clause-places g c part =
-    let none = c.is_childless.ensures.0 c.if-is_childless.true in
-    absurd (not_retired c.args.depth c.requires.node c.args.arenas.now c.args.root part _ c.node-node.ensures none)
+    absurd (not_retired c.args.depth c.requires.node c.args.arenas.now c.args.root part _ c.node-node.ensures (c.is_childless.ensures.0 c.if-is_childless.true))
 
 pub returns-else-is_childless-clause-raised : goal.returns-else-is_childless-clause-raised
 returns-else-is_childless-clause-raised g c part = both_ok _ _ c.split_root_at.result c.split_root_at.ensures.done c.split_root_at.ensures.levels

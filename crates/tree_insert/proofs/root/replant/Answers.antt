@@ -1,5 +1,5 @@
 use Rattle.tree_insert.proofs.Common.{Arrivals, ContainsKey, Leaf, Slab, Updates-with_value, ap, children_fit, fits, get, on_err, refl, sym, unchanged_by_keeping, ◌∙◌}
-use Rattle.tree_insert.proofs.Replants.{replants}
+use Rattle.tree_insert.proofs.Plantings.{replants}
 use Rattle.tree_node.proofs.Standing.{no_children}
 use Rattle.tree_insert.proofs.root.replant.Goals as goal
 
@@ -12,8 +12,7 @@ add_leaf-requires g c = search fits
 pub node_mut-requires : goal.node_mut-requires
 node_mut-requires g c =
     let kept = unchanged_by_keeping c.args.arenas.now c.reserve.new.self c.in_ok-reserve.ensures.0 in
-    let there : ContainsKey c.add_leaf.new.self.nodes c.args.root = rw (c.add_leaf.ensures.nodes, kept.nodes c.args.root) (no_children _ c.requires.retired).0 in
-    (search fits, there)
+    (search fits, rw (c.add_leaf.ensures.nodes, kept.nodes c.args.root) (no_children _ c.requires.retired).0)
 
 pub returns-clause-done : goal.returns-clause-done
 returns-clause-done g c =

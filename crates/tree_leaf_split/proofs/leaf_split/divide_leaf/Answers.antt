@@ -14,7 +14,7 @@ cut_low-requires g c =
     let was = sym ((unchanged_by_keeping _ _ c.in_ok-reserve.ensures.0).leaves c.args.target) ∙ c.leaf_mut.ensures.value in
     let sound = rw (← c.array_mut.ensures.value) at (c.requires.sound c.leaf_mut.result.now was) in
     let whole = rw (← c.array_mut.ensures.value) at (c.requires.whole c.leaf_mut.result.now was) in
-    (search rules, (sound, (whole, c.array_mut-2.ensures.value ∙ c.new-low.ensures.array)))
+    (search rules, (sound, (whole, c.new-low.ensures)))
 
 pub add_before-requires : goal.add_before-requires
 add_before-requires g c =
@@ -33,7 +33,7 @@ pub returns-clause-done : goal.returns-clause-done
 returns-clause-done g c =
     let part = c.requires.part in
     let high : c.cut_low.new.array ≡ in_order (drop c.args.count c.leaf_mut.result.now.array.entries) = rw c.array_mut.ensures.value at c.cut_low.ensures.high in
-    let low : c.cut_low.new.low ≡ in_order (take c.args.count c.leaf_mut.result.now.array.entries) = rw c.array_mut.ensures.value at c.cut_low.ensures.low in
+    let low : c.of.result.array ≡ in_order (take c.args.count c.leaf_mut.result.now.array.entries) = rw c.array_mut.ensures.value at (c.of.ensures.array ∙ c.cut_low.ensures.low) in
     leaf_divided _ _ c.args.target c.args.count c.leaf_mut.result.now _ c.in_ok-reserve.ensures.0 c.leaf_mut.ensures.value _ _ _ high low c.in-Ok.ensures
     part.front part.back part.chain
 

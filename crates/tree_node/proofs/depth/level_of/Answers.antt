@@ -1,5 +1,6 @@
-use Rattle.std.proofs.Common.{rules, arith}
-use Rattle.tree_node.proofs.Depths.{starts, step, counted}
+use Rattle.std.proofs.Common.{◌+◌, IsSome, arith, refl, rules}
+use Rattle.tree_node.proofs.Common.{get}
+use Rattle.tree_node.proofs.Depths.{counts_on, starts}
 use Rattle.tree_node.proofs.Levels.{node_at}
 use Rattle.tree_node.proofs.depth.level_of.Goals as goal
 
@@ -12,26 +13,15 @@ pub loop-below-init : goal.loop-below-init
 loop-below-init g c =
     rw c.last_node-below.ensures (starts g.K.Ord.cmp c.args.arenas.now g.level c.args.id (assumption c.requires) (assumption c.requires) _ c.node.ensures)
 
-pub overflow_add-count : goal.overflow_add-count
-overflow_add-count g c =
-    let down = step _ _ g.level _ c.loop-below.count _ c.in-Some.at c.in-Some.is c.loop-below.invariant in
-    omega (arith, down.lower, down.fits)
-
 pub node-requires-in-Some : goal.node-requires-in-Some
 node-requires-in-Some g c =
-    let there = (step _ _ g.level _ c.loop-below.count _ c.in-Some.at c.in-Some.is c.loop-below.invariant).there in
-    search rules
-
-pub loop-below-smaller : goal.loop-below-smaller
-loop-below-smaller g c = omega (arith, (step _ _ g.level _ c.loop-below.count _ c.in-Some.at c.in-Some.is c.loop-below.invariant).lower)
+    let there : IsSome (get c.args.arenas.now.nodes c.in-Some.at) = rw (rw c.in-Some.is at c.loop-below.invariant).3.here refl in search rules
 
 pub loop-below-preserved : goal.loop-below-preserved
 loop-below-preserved g c =
+    let on = rw c.in-Some.is at c.loop-below.invariant in
     rw c.last_node-below-in-Some.ensures
-    ((step _ _ g.level _ c.loop-below.count _ c.in-Some.at c.in-Some.is c.loop-below.invariant).goes_on _ c.node-in-Some.ensures)
+    (counts_on g.K.Ord.cmp c.args.arenas.now g.level c.args.id (c.loop-below.count + 1) on.1 c.in-Some.at (assumption c.requires) on.0 (omega (arith, on.2)) on.3 _ c.node-in-Some.ensures)
 
-pub returns-clause-stands : goal.returns-clause-stands
-returns-clause-stands g c = (counted _ _ g.level _ (assumption c.requires) c.loop-below.count _ c.in_default.is c.loop-below.invariant).0
-
-pub returns-clause-retired : goal.returns-clause-retired
-returns-clause-retired g c = (counted _ _ g.level _ (assumption c.requires) c.loop-below.count _ c.in_default.is c.loop-below.invariant).1
+pub returns : goal.returns
+returns g c = let ended = rw c.in_default.is at c.loop-below.invariant in record { stands = ended.0; retired = ended.1 }

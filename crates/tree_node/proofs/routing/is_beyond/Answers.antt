@@ -1,6 +1,5 @@
 use Rattle.std.proofs.Common.{◌≡◌, sym, ◌∙◌, ap, is_gt}
-use Rattle.std.proofs.lemmas.Option.{same_Some}
-use Rattle.tree_model.proofs.Ascending.{greater_from_test}
+use Rattle.tree_node.proofs.Common.{same_Some, greater_from_test}
 use Rattle.tree_node.proofs.Routes.{beyond_last, last_exceeded}
 use Rattle.tree_node.proofs.routing.is_beyond.Goals as goal
 

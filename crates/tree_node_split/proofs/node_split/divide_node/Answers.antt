@@ -15,9 +15,6 @@ cut-separator-requires g c =
     let within : c.args.place < length (keyed c.node_mut.result.now).entries = rw same at c.requires.place.2 in
     (search rules, (c.requires.len, within))
 
-pub add_node-requires : goal.add_node-requires
-add_node-requires g c = search fits
-
 pub unreachable-requires : goal.unreachable-requires
 unreachable-requires g c =
     c.in_default.ensures.nodes.no_room (room_after_cut _ _ _ _ _ c.in_ok-reserve.ensures.0 c.node_mut.ensures.value c.in_ok-reserve.ensures.1)

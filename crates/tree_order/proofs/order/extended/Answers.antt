@@ -1,9 +1,5 @@
 use Rattle.std.proofs.Common.{◌-◌, [], ◌∷◌, ◌++◌, replicate, ◌∙◌, ap, arith, append_assoc, length-append}
-use Rattle.std.proofs.lemmas.List.{length-replicate}
-use Rattle.std.proofs.lemmas.List.Elements.{All-append, All-replicate}
-use Rattle.tree_order.specs.Order.{packed, IsSmall}
-use Rattle.tree_order.proofs.Rows.{one_small}
-use Rattle.tree_order.proofs.Words.{joins, repeated}
+use Rattle.tree_order.proofs.Common.{length-replicate, All-append, All-replicate, packed, IsSmall, one_small, joins, repeated}
 use Rattle.tree_order.proofs.order.extended.Goals as goal
 
 pub returns : goal.returns

@@ -1,6 +1,4 @@
-use Rattle.std.proofs.Common.{◌≡◌, ◌+◌, ◌-◌, ◌*◌, ◌/◌, ◌%◌, ◌^◌, arith}
-use Rattle.std.proofs.lemmas.Nat.{shl_whole, shr_below, shr_split}
-use Rattle.tree_order.proofs.Words.{word_low}
+use Rattle.tree_order.proofs.Common.{◌≡◌, ◌+◌, ◌-◌, ◌*◌, ◌/◌, ◌%◌, ◌^◌, arith, shl_whole, shr_below, shr_split, word_low}
 use Rattle.tree_order.proofs.order.first.Goals as goal
 
 pub returns : goal.returns

@@ -1,6 +1,4 @@
-use Rattle.std.proofs.Common.{List, ℕ, get_or, sym, ◌∙◌, ap, arith, eqb-true}
-use Rattle.tree_order.proofs.InTurn.{turn}
-use Rattle.tree_order.proofs.Words.{get_or-names, same_names}
+use Rattle.tree_order.proofs.Common.{List, ℕ, get_or, sym, ◌∙◌, ap, arith, eqb-true, turn, get_or-names, same_names}
 use Rattle.tree_order.proofs.order.is_in_turn.Goals as goal
 
 pub returns : goal.returns

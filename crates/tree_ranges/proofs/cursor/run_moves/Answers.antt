@@ -4,14 +4,13 @@ use Rattle.tree_ranges.proofs.cursor.run_moves.Goals as goal
 
 pub returns-clause-ended : goal.returns-clause-ended
 returns-clause-ended g c =
-    let Seen = g.C.Cursor.cursor in
     let inv = c.loop-step.invariant in
-    ended_all g.met.K.Ord.total On c.args.moves.now c.loop-step.step-index (Seen c.args.cursor.now) (Seen c.loop-step.cursor) _
-    inv.answered c.loop-step-test.false inv.ascending inv.inside
+    ended_all g.met.K.Ord.total On c.args.moves.now c.loop-step.step-index _ _ _ inv.answered c.loop-step-test.false inv.ascending inv.inside
 
 pub returns-clause-ended_back : goal.returns-clause-ended_back
 returns-clause-ended_back g c =
-    ended_all g.met.K.Ord.total Back c.args.moves.now c.loop-step.step-index (g.C.Cursor.cursor c.args.cursor.now) (g.C.Cursor.cursor c.loop-step.cursor) _ c.loop-step.invariant.answered c.loop-step-test.false c.loop-step.invariant.ascending c.loop-step.invariant.inside
+    let inv = c.loop-step.invariant in
+    ended_all g.met.K.Ord.total Back c.args.moves.now c.loop-step.step-index _ _ _ inv.answered c.loop-step-test.false inv.ascending inv.inside
 
 pub loop-step-preserved : goal.loop-step-preserved
 loop-step-preserved g c =

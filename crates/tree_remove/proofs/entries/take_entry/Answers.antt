@@ -1,6 +1,6 @@
-use Rattle.tree_remove.proofs.Common.{emptied_from, fits}
+use Rattle.tree_remove.proofs.Common.{fits}
 use Rattle.tree_remove.proofs.EntryPlaces.{entry_emptied, entry_settled, entry_stays, found_in_leaf}
-use Rattle.tree_remove.proofs.entries.take_entry.Goals.{in-Retired, in-Success, in-Fail}
+use Rattle.tree_remove.proofs.entries.take_entry.Goals.{in-Retired, in_default}
 use Rattle.tree_remove.proofs.entries.take_entry.Goals as goal
 
 pub take_slot-key-requires : goal.take_slot-key-requires
@@ -12,24 +12,22 @@ pub drop_emptied-result-requires : goal.drop_emptied-result-requires
 drop_emptied-result-requires g c =
     let emptied = entry_emptied g.met.K.Ord.total c.requires.node c.requires.entry.1 c.take_slot-key.ensures.taken c.take_slot-key.ensures.removes
     c.in-Retired.is in
-    (search fits, (search fits, (c.requires.node, emptied_from c.args.arenas.now emptied)))
+    (search fits, (search fits, (c.requires.node, (c.args.arenas.now, emptied))))
 
-pub returns-clause-removes : goal.returns-clause-removes
-returns-clause-removes g c =
-    let stays = entry_stays g.met.K.Ord.total c.requires.node c.requires.entry.1 c.take_slot-key.ensures.taken c.take_slot-key.ensures.removes in
-    let emptied = entry_emptied g.met.K.Ord.total c.requires.node c.requires.entry.1 c.take_slot-key.ensures.taken c.take_slot-key.ensures.removes in
-    elim c.match-removal.branch [
-      | in-Retired w ↦ rw (w.arenas-is, w.result-is) (w.drop_emptied-result.ensures c.args.arenas.now (emptied w.in-Retired.is)).removes
-      | in-Success w ↦ rw (w.arenas-is, w.result-is, ← w.in-Success.is) (stays (λ is. absurd (cc)))
-      | in-Fail w ↦ rw (w.arenas-is, w.result-is, ← w.in-Fail.is) (stays (λ is. absurd (cc)))
-    ]
-
-pub returns-clause-settled : goal.returns-clause-settled
-returns-clause-settled g c =
-    let emptied = entry_emptied g.met.K.Ord.total c.requires.node c.requires.entry.1 c.take_slot-key.ensures.taken c.take_slot-key.ensures.removes in
-    let settled = entry_settled g.met.K.Ord.total c.requires.node c.requires.entry.1 c.take_slot-key.ensures.taken c.take_slot-key.ensures.removes in
-    elim c.match-removal.branch [
-      | in-Retired w ↦ rw (w.arenas-is, w.result-is) (w.drop_emptied-result.ensures c.args.arenas.now (emptied w.in-Retired.is)).settled
-      | in-Success w ↦ rw (w.arenas-is, w.result-is) (λ one success. settled (c.take_slot-key.ensures.settled w.in-Success.is) one)
-      | in-Fail w ↦ rw (w.arenas-is, w.result-is) (λ one success only. (cc))
-    ]
+pub returns : goal.returns
+returns g c =
+    let took = c.take_slot-key.ensures in
+    let emptied = entry_emptied g.met.K.Ord.total c.requires.node c.requires.entry.1 took.taken took.removes in
+    let stays = entry_stays g.met.K.Ord.total c.requires.node c.requires.entry.1 took.taken took.removes in
+    let settled = entry_settled g.met.K.Ord.total c.requires.node c.requires.entry.1 took.taken took.removes in
+    record {
+      taken = took.taken;
+      removes = elim c.match-removal.branch [
+        | in-Retired w ↦ rw (w.arenas-is, w.result-is) (w.drop_emptied-result.ensures c.args.arenas.now (emptied w.in-Retired.is)).removes
+        | in_default w ↦ rw (w.arenas-is, w.result-is) (stays w.in_default.not-Retired)
+      ];
+      settled = elim c.match-removal.branch [
+        | in-Retired w ↦ rw (w.arenas-is, w.result-is) (w.drop_emptied-result.ensures c.args.arenas.now (emptied w.in-Retired.is)).settled
+        | in_default w ↦ rw (w.arenas-is, w.result-is) (λ one success. settled (took.settled success) one)
+      ];
+    }

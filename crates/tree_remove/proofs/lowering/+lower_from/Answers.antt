@@ -1,11 +1,9 @@
-use Rattle.tree_remove.proofs.Common.{ContainsKey, fits, inl, node_used, rules}
+use Rattle.tree_remove.proofs.Common.{fits, inl, node_used, rules}
 use Rattle.tree_remove.proofs.Lowerings.{keyed_stays, leaf_node_stays, over_one, retired_gone}
 use Rattle.tree_remove.proofs.lowering.+lower_from.Goals as goal
 
 pub node-requires : goal.node-requires
-node-requires g t c =
-    let there : ContainsKey c.args.arenas.now.nodes c.args.top = node_used c.args.level c.requires.node c.args.arenas.now c.args.top c.requires.part in
-    search rules
+node-requires g t c = search (rules, node_used c.args.level c.requires.node c.args.arenas.now c.args.top c.requires.part)
 
 pub returns-then-not-is_empty : goal.returns-then-not-is_empty
 returns-then-not-is_empty g t c =
@@ -13,9 +11,7 @@ returns-then-not-is_empty g t c =
     (λ none. cc (c.is_empty.ensures.1 none))
 
 pub remove_node-requires : goal.remove_node-requires
-remove_node-requires g t c =
-    let there : ContainsKey c.args.arenas.now.nodes c.args.top = node_used c.args.level c.requires.node c.args.arenas.now c.args.top c.requires.part in
-    search rules
+remove_node-requires g t c = search (rules, node_used c.args.level c.requires.node c.args.arenas.now c.args.top c.requires.part)
 
 pub returns-in_err-below-in-Internal : goal.returns-in_err-below-in-Internal
 returns-in_err-below-in-Internal g t c =

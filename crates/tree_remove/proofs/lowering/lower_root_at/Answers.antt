@@ -1,11 +1,9 @@
-use Rattle.tree_remove.proofs.Common.{ContainsKey, node_used, rules}
+use Rattle.tree_remove.proofs.Common.{node_used, rules}
 use Rattle.tree_remove.proofs.Lowerings.{keyed_stays, leaf_node_stays}
 use Rattle.tree_remove.proofs.lowering.lower_root_at.Goals as goal
 
 pub node-requires : goal.node-requires
-node-requires g c =
-    let there : ContainsKey c.args.arenas.now.nodes c.args.root = node_used c.args.level c.requires.node c.args.arenas.now c.args.root c.requires.part in
-    search rules
+node-requires g c = search (rules, node_used c.args.level c.requires.node c.args.arenas.now c.args.root c.requires.part)
 
 pub returns-then-not-is_empty : goal.returns-then-not-is_empty
 returns-then-not-is_empty g c =

@@ -3,7 +3,7 @@ use Rattle.tree_model.proofs.Common.{AllByRecursion}
 use Rattle.tree_array.proofs.Common.{arrival}
 use Rattle.tree_node.proofs.Common.{ContainsKey, StandsOrRetired, in_turn, fits}
 use Rattle.tree_node.proofs.Levels.{over_leaves, over_nodes, node_at}
-use Rattle.tree_walk.proofs.ChildTurns.{begins_over, slot_reachable, child_turn, holds_in_turn, holds_at_last}
+use Rattle.tree_support.proofs.ChildTurns.{begins_over, slot_reachable, child_turn, holds_in_turn, holds_at_last}
 use Rattle.tree_support.proofs.walker.+walk_node.Goals as goal
 
 pub node-requires : goal.node-requires

@@ -1,4 +1,4 @@
-use Rattle.tree_walk.proofs.ChildTurns.{IsOverKeyed}
+use Rattle.tree_support.proofs.ChildTurns.{IsOverKeyed}
 use Rattle.tree_support.proofs.walker.+walk_node.Given as goal
 
 abbrev pub decreases-walk_node : goal.decreases-walk_node

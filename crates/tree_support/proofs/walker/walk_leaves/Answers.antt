@@ -1,7 +1,7 @@
 use Rattle.std.proofs.Common.{rules, IsSome}
 use Rattle.tree_array.proofs.Common.{arrival}
 use Rattle.tree_node.proofs.Common.{ContainsKey, fits}
-use Rattle.tree_walk.proofs.ChildTurns.{begins_over, slot_reachable, child_turn, holds_in_turn, holds_at_last}
+use Rattle.tree_support.proofs.ChildTurns.{begins_over, slot_reachable, child_turn, holds_in_turn, holds_at_last}
 use Rattle.tree_support.proofs.walker.walk_leaves.Goals as goal
 
 pub loop-slot-init : goal.loop-slot-init

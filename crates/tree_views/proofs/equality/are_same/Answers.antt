@@ -1,33 +1,21 @@
-use Rattle.tree_views.proofs.Common.{◌∙◌, sym, On, takes_first}
-use Rattle.tree_views.proofs.Walked.{ends_both}
+use Rattle.tree_views.proofs.Common.{◌&&◌, ◌∙◌, sym}
+use Rattle.tree_views.proofs.Walked.{both_move, ends_both}
 use Rattle.tree_views.proofs.equality.are_same.Goals as goal
 
 pub returns-in_default-next : goal.returns-in_default-next
-returns-in_default-next g c =
-    let left = takes_first g.met.K.Ord.total On _ _ _ c.in-Some.ensures.steps c.loop-pair.invariant.first in
-    let right = takes_first g.met.K.Ord.total On _ _ _ c.in_default-next.ensures.steps c.loop-pair.invariant.second in
-    rw (left.1, right.1.0) at c.loop-pair.invariant.same
+returns-in_default-next g c = (both_move g.met.K.Ord.total c.loop-pair.invariant c.in-Some.ensures.steps c.in_default-next.ensures.steps).2
 
 pub returns-then-not-is_same_pair : goal.returns-then-not-is_same_pair
 returns-then-not-is_same_pair g c =
-    let left = takes_first g.met.K.Ord.total On _ _ _ c.in-Some.ensures.steps c.loop-pair.invariant.first in
-    let right = takes_first g.met.K.Ord.total On _ _ _ c.in-Some-next.ensures.steps c.loop-pair.invariant.second in
-    let told = sym c.is_same_pair.ensures ∙ c.if-not-is_same_pair.true in
-    rw (left.1, right.1, told) at c.loop-pair.invariant.same
+    let both = both_move g.met.K.Ord.total c.loop-pair.invariant c.in-Some.ensures.steps c.in-Some-next.ensures.steps in
+    rw (sym c.is_same_pair.ensures ∙ c.if-not-is_same_pair.true) at both.2
 
 pub loop-pair-preserved : goal.loop-pair-preserved
 loop-pair-preserved g c =
-    let left = takes_first g.met.K.Ord.total On _ _ _ c.in-Some.ensures.steps c.loop-pair.invariant.first in
-    let right = takes_first g.met.K.Ord.total On _ _ _ c.in-Some-next.ensures.steps c.loop-pair.invariant.second in
-    let told = sym c.is_same_pair.ensures ∙ c.if-not-is_same_pair.false in
-    record {
-      first = left.0;
-      second = right.0;
-      same = rw (left.1, right.1, told) at c.loop-pair.invariant.same;
-    }
+    let both = both_move g.met.K.Ord.total c.loop-pair.invariant c.in-Some.ensures.steps c.in-Some-next.ensures.steps in
+    record { first = both.0; second = both.1; same = rw (sym c.is_same_pair.ensures ∙ c.if-not-is_same_pair.false) at both.2 }
 
 pub returns : goal.returns
 returns g c =
-    let left = takes_first g.met.K.Ord.total On _ _ _ c.in_default.ensures.steps c.loop-pair.invariant.first in
-    let right = takes_first g.met.K.Ord.total On _ _ _ c.next-2.ensures.steps c.loop-pair.invariant.second in
-    ends_both _ _ _ _ c.next-2.result c.is_none.result left.1.0 right.1 c.is_none.ensures ∙ c.loop-pair.invariant.same
+    let both = both_move g.met.K.Ord.total c.loop-pair.invariant c.in_default.ensures.steps c.next-2.ensures.steps in
+    ends_both (λ p q. g.K.PartialEq.eq p.0 q.0 && g.V.PartialEq.eq p.1 q.1) c.next-2.result _ c.is_none.result c.is_none.ensures ∙ both.2

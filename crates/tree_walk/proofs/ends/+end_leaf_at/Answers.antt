@@ -1,22 +1,18 @@
-use Rattle.tree_walk.proofs.Common.{Some, None, refl, rules, sym, ◌∙◌, ◌<◌, ◌-◌, ContainsKey, StandsOrRetired, fits, leaves_at, node_at}
-use Rattle.tree_walk.proofs.EndSearch.{alone_with, alone_without, begins, goes_on, holds, nowhere, stops}
+use Rattle.tree_walk.proofs.Common.{Some, None, refl, rules, sym, ◌∙◌, fits, node_at}
+use Rattle.tree_walk.proofs.EndSearch.{alone_with, alone_without, goes_on, nowhere, stops}
 use Rattle.tree_walk.proofs.Under.{leaf_node_over, node_over}
 use Rattle.tree_walk.proofs.ends.+end_leaf_at.Goals as goal
 
 pub node-requires : goal.node-requires
-node-requires g t c =
-    let there : ContainsKey c.args.arenas.now.nodes c.args.id = node_at g.K.Ord.cmp c.args.arenas.now c.args.id c.args.level c.requires.node c.requires.stands in
-    search rules
+node-requires g t c = search (rules, node_at g.K.Ord.cmp _ _ _ c.requires.node c.requires.stands)
 
 pub loop-leaf-init : goal.loop-leaf-init
 loop-leaf-init g t c =
     let over = leaf_node_over g.K.Ord.cmp c.args.arenas.now c.args.id c.args.level c.requires.node c.requires.stands g.S.SlotWalk.way c.into_iter-leaf-iterator.result c.in-Leaf.node (rw c.in-Leaf.is at c.node.ensures) (c.into_iter-leaf-iterator.ensures.into_iter_gives ∙ c.new-leaves.ensures) in
-    begins c.args.arenas.now.leaves (leaves_at 0 c.args.arenas.now.nodes) g.S.SlotWalk.way (leaves_at c.args.level c.args.arenas.now.nodes c.args.id) c.into_iter-leaf-iterator.result over.leaves over.each
+    record { each = over.each; suffices = λ result found. rw over.leaves found }
 
 pub array_of-requires : goal.array_of-requires
-array_of-requires g t c =
-    let there : ContainsKey c.args.arenas.now.leaves c.in-Some.leaf = holds _ _ _ _ _ c.loop-leaf.invariant _ _ c.in-Some.ensures.steps in
-    search (rules, fits)
+array_of-requires g t c = search (rules, fits, (rw c.in-Some.ensures.steps at c.loop-leaf.invariant.each).0)
 
 pub returns-then-not-is_empty : goal.returns-then-not-is_empty
 returns-then-not-is_empty g t c = stops _ _ _ _ _ c.loop-leaf.invariant _ _ c.in-Some.ensures.steps (Some c.in-Some.leaf)
@@ -32,14 +28,12 @@ returns-in-None g t c = nowhere _ _ _ _ _ c.loop-leaf.invariant c.in-None.ensure
 pub loop-child-init : goal.loop-child-init
 loop-child-init g t c =
     let over = node_over g.K.Ord.cmp c.args.arenas.now c.args.id c.args.level c.requires.node c.requires.stands g.S.SlotWalk.way c.into_iter-child-iterator.result c.in-Internal.node (rw c.in-Internal.is at c.node.ensures) (c.into_iter-child-iterator.ensures.into_iter_gives ∙ c.new-children.ensures) in
-    begins c.args.arenas.now.leaves (leaves_at (c.args.level - 1) c.args.arenas.now.nodes) g.S.SlotWalk.way (leaves_at c.args.level c.args.arenas.now.nodes c.args.id) c.into_iter-child-iterator.result over.leaves over.each
+    record { each = over.each; suffices = λ result found. rw over.leaves found }
 
 pub end_leaf_at-found-requires : goal.end_leaf_at-found-requires
 end_leaf_at-found-requires g t c κs within =
-    let below = holds _ _ _ _ _ c.loop-child.invariant _ _ c.in-Some-child.ensures.steps in
-    let inner : 0 < c.args.level - 1 = below.0 in
-    let stands : StandsOrRetired g.K.Ord.cmp (c.args.level - 1) c.args.arenas.now c.in-Some-child.child = below.1 in
-    (search rules, (within.0, (within.1.0, (within.1.1, (search rules, search rules)))))
+    let below = (rw c.in-Some-child.ensures.steps at c.loop-child.invariant.each).0 in
+    (search rules, (within.0, (within.1.0, (within.1.1, (search (rules, below.0), search (rules, below.1))))))
 
 pub returns-then-is_some : goal.returns-then-is_some
 returns-then-is_some g t c = stops _ _ _ _ _ c.loop-child.invariant _ _ c.in-Some-child.ensures.steps _ c.end_leaf_at-found.ensures (sym c.is_some.ensures ∙ c.if-is_some.true)

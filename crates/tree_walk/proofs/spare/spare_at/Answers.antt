@@ -1,10 +1,8 @@
-use Rattle.tree_walk.proofs.Common.{rules, refl, arith, w8, ContainsKey, Fits-of_lt, len_small, no_leaves, node_at, stands_unless, spare_standing}
+use Rattle.tree_walk.proofs.Common.{rules, refl, arith, w8, Fits-of_lt, len_small, no_leaves, node_at, stands_unless, spare_standing}
 use Rattle.tree_walk.proofs.spare.spare_at.Goals as goal
 
 pub node-node-requires : goal.node-node-requires
-node-node-requires g c =
-    let there : ContainsKey c.args.arenas.now.nodes c.args.id = node_at g.K.Ord.cmp c.args.arenas.now c.args.id c.args.level c.requires.node c.requires.stands in
-    search rules
+node-node-requires g c = search (rules, node_at g.K.Ord.cmp _ _ _ c.requires.node c.requires.stands)
 
 pub returns-then-is_childless : goal.returns-then-is_childless
 returns-then-is_childless g c =

@@ -1,7 +1,4 @@
-use Rattle.std.proofs.Common.{refl, sym, rules, arith}
-use Rattle.tree_model.proofs.LookUps.{absent_beyond}
-use Rattle.tree_array.proofs.Kept.{count_seen, fields, is_stored, kept}
-use Rattle.tree_array.proofs.Stored.{parts_behind, room_from_not_full}
+use Rattle.tree_array.proofs.Lemmas.{refl, sym, rules, arith, absent_beyond, count_seen, fields, is_stored, kept, parts_behind, room_from_not_full}
 use Rattle.tree_array.proofs.array.ArrayOf.append.Goals as goal
 
 pub let_in-requires : goal.let_in-requires

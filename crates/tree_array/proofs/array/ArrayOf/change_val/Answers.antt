@@ -1,6 +1,4 @@
-use Rattle.std.proofs.Common.{refl, ◌∙◌, rules}
-use Rattle.tree_array.proofs.Kept.{arrival_seen, fields, reachable_seen}
-use Rattle.tree_array.proofs.Valued.{valued}
+use Rattle.tree_array.proofs.Lemmas.{refl, ◌∙◌, rules, arrival_seen, fields, reachable_seen, valued}
 use Rattle.tree_array.proofs.array.ArrayOf.change_val.Goals as goal
 
 pub change-requires : goal.change-requires

@@ -1,12 +1,5 @@
-use Rattle.std.proofs.Common.{refl, arith}
-use Rattle.tree_array.proofs.Emptied.{emptied_all, emptied_more, left_stands}
-use Rattle.tree_array.proofs.Kept.{fields}
-use Rattle.tree_cells.proofs.Moves.{none_left}
-use Rattle.tree_cells.proofs.Sizes.{steps}
+use Rattle.tree_array.proofs.Lemmas.{refl, arith, emptied_all, emptied_more, left_stands, fields, steps}
 use Rattle.tree_array.proofs.array.ArrayOf.drop.Goals as goal
-
-pub loop-place-init : goal.loop-place-init
-loop-place-init g c = none_left _ _ _
 
 pub take-requires : goal.take-requires
 take-requires g c =

@@ -1,4 +1,4 @@
-use Rattle.tree_cells.specs.Moves.{HasLeft}
+use Rattle.tree_array.proofs.Lemmas.{HasLeft}
 use Rattle.tree_array.proofs.array.ArrayOf.drop.Given as goal
 
 abbrev pub invariant-loop-place : goal.invariant-loop-place

@@ -1,5 +1,4 @@
-use Rattle.std.proofs.Common.{refl, arith}
-use Rattle.tree_array.proofs.Kept.{fields, kept, made_seen}
+use Rattle.tree_array.proofs.Lemmas.{refl, arith, fields, kept, made_seen}
 use Rattle.tree_array.proofs.array.ArrayOf.free.Goals as goal
 
 pub returns-clause-free : goal.returns-clause-free

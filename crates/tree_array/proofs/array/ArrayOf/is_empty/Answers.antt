@@ -1,5 +1,4 @@
-use Rattle.std.proofs.Common.{refl}
-use Rattle.tree_array.proofs.Kept.{empty_iff, fields}
+use Rattle.tree_array.proofs.Lemmas.{refl, empty_iff, fields}
 use Rattle.tree_array.proofs.array.ArrayOf.is_empty.Goals as goal
 
 pub returns : goal.returns

@@ -1,11 +1,5 @@
-use Rattle.std.proofs.Common.{◌+◌, ◌-◌, take, refl, ◌∙◌, arith}
-use Rattle.tree_model.proofs.Common.{drop_all, nil_from_length}
-use Rattle.tree_cells.proofs.Sides.{split_at}
-use Rattle.tree_array.proofs.Kept.{count_seen, fields, place_seen}
+use Rattle.tree_array.proofs.Lemmas.{◌+◌, ◌-◌, take, refl, ◌∙◌, arith, drop_all, split_at, count_seen, fields, place_seen}
 use Rattle.tree_array.proofs.array.ArrayOf.last_slot.Goals as goal
-
-pub returns-then-order-eq0 : goal.returns-then-order-eq0
-returns-then-order-eq0 g c = nil_from_length _ (count_seen (fields c.order_of-order.ensures.word c.order_of-order.ensures.count refl c.self.invariant c.self.view_is) ∙ c.if-order-eq0.true)
 
 pub returns : goal.returns
 returns g c =

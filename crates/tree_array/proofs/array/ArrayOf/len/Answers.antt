@@ -1,5 +1,4 @@
-use Rattle.std.proofs.Common.{refl, sym}
-use Rattle.tree_array.proofs.Kept.{count_seen, fields}
+use Rattle.tree_array.proofs.Lemmas.{refl, sym, count_seen, fields}
 use Rattle.tree_array.proofs.array.ArrayOf.len.Goals as goal
 
 pub returns : goal.returns

@@ -1,12 +1,6 @@
-use Rattle.std.proofs.Common.{◌≡◌, ◌<◌, ◌≤◌, ℕ, List, Option, None, Some, refl, sym, ◌∙◌, arith, Ordering}
-use Rattle.tree_model.proofs.Common.{IsTotalOrder}
-use Rattle.tree_array.proofs.Common.{arrival, least_from, len_small, names, Arrivals}
-use Rattle.tree_cells.specs.Arrivals.{held}
-use Rattle.tree_cells.specs.Place.{slot_of, IsPlace}
+use Rattle.tree_array.proofs.Lemmas.{◌≡◌, ◌<◌, ◌≤◌, ℕ, List, Option, None, Some, refl, sym, ◌∙◌, arith, Ordering, IsTotalOrder, arrival, least_from, len_small, names, Arrivals, held}
+use Rattle.tree_array.proofs.Lemmas.{slot_of, IsPlace, least_of, early, stands, arrival_seen, entries_seen, fields, AreFields}
 use Rattle.tree_cells.specs.declared.search.Place.{Place}
-use Rattle.tree_cells.proofs.LeastFrom.{least_of}
-use Rattle.tree_cells.proofs.Tabled.{early, stands}
-use Rattle.tree_array.proofs.Kept.{arrival_seen, entries_seen, fields, AreFields}
 use Rattle.tree_array.proofs.array.ArrayOf.min_greater_equal.Goals as goal
 
 -- what the slot of a place says of the entries of an array

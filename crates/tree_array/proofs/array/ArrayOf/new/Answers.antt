@@ -1,8 +1,4 @@
-use Rattle.std.proofs.Common.{arith}
-use Rattle.std.proofs.lemmas.List.{length-replicate}
-use Rattle.tree_array.proofs.Common.{len_small}
-use Rattle.tree_cells.proofs.Moves.{none_replicated}
-use Rattle.tree_cells.proofs.Tabled.{none_tabled}
+use Rattle.tree_array.proofs.Lemmas.{arith, length-replicate, len_small, none_replicated, none_tabled}
 use Rattle.tree_array.proofs.array.ArrayOf.new.Goals as goal
 
 pub invariant_of-result : goal.invariant_of-result

@@ -1,8 +1,4 @@
-use Rattle.std.proofs.Common.{◌≡◌, ℕ, ◌*◌, ◌/◌, ◌≤◌, true, leb, w8, refl, ◌∙◌, rules, arith}
-use Rattle.tree_model.proofs.Common.{nat_tests}
-use Rattle.tree_array.proofs.Common.{len_small}
-use Rattle.std.proofs.Math.Facts.{Fits-of_lt}
-use Rattle.tree_array.proofs.Kept.{count_seen, fields, kept, named_few, rises_seen}
+use Rattle.tree_array.proofs.Lemmas.{◌≡◌, ℕ, ◌*◌, ◌/◌, ◌≤◌, true, leb, refl, ◌∙◌, rules, arith, nat_tests, len_small, count_seen, fields, kept, named_few, rises_seen}
 use Rattle.tree_array.proofs.array.ArrayOf.optimal_boundary.Goals as goal
 
 within : (count most : ℕ) → count ≤ most → leb count most ≡ true
@@ -13,16 +9,6 @@ count_rises-rises-requires g c =
     let a = fields c.order_of-order.ensures.word c.order_of-order.ensures.count c.counts.ensures.arrivals c.self.invariant c.self.view_is in
     (search rules, (named_few a, omega (arith, a.it.table.few_made, len_small g.row.LEN a.it.table.is_len)))
 
-pub overflow_mul-rises : goal.overflow_mul-rises
-overflow_mul-rises g c =
-    let a = fields c.order_of-order.ensures.word c.order_of-order.ensures.count c.counts.ensures.arrivals c.self.invariant c.self.view_is in
-    Fits-of_lt {w = w8} (omega (arith, c.count_rises-rises.ensures, (rises_seen a g.met.K.Ord.total).1, a.it.order.few, a.it.order.small))
-
-pub overflow_add-rises : goal.overflow_add-rises
-overflow_add-rises g c =
-    let a = fields c.order_of-order.ensures.word c.order_of-order.ensures.count c.counts.ensures.arrivals c.self.invariant c.self.view_is in
-    Fits-of_lt {w = w8} (omega (arith, c.count_rises-rises.ensures, (rises_seen a g.met.K.Ord.total).1, a.it.order.few, a.it.order.small))
-
 pub returns-then-count : goal.returns-then-count
 returns-then-count g c =
     let a = fields c.order_of-order.ensures.word c.order_of-order.ensures.count refl c.self.invariant c.self.view_is in
@@ -31,11 +17,11 @@ returns-then-count g c =
 pub returns-then-rises-count : goal.returns-then-rises-count
 returns-then-rises-count g c =
     let a = fields c.order_of-order.ensures.word c.order_of-order.ensures.count c.counts.ensures.arrivals c.self.invariant c.self.view_is in
-    let rises = c.count_rises-rises.ensures ∙ (rises_seen a g.met.K.Ord.total).0 in
+    let rises = c.count_rises-rises.ensures.rises ∙ rises_seen a g.met.K.Ord.total in
     record { boundary = rw (count_seen a, ← rises) (grind (arith, nat_tests)); sound = kept a g.met.K.Ord.total }
 
 pub returns-else-rises-count : goal.returns-else-rises-count
 returns-else-rises-count g c =
     let a = fields c.order_of-order.ensures.word c.order_of-order.ensures.count c.counts.ensures.arrivals c.self.invariant c.self.view_is in
-    let rises = c.count_rises-rises.ensures ∙ (rises_seen a g.met.K.Ord.total).0 in
+    let rises = c.count_rises-rises.ensures.rises ∙ rises_seen a g.met.K.Ord.total in
     record { boundary = rw (count_seen a, ← rises) (grind (arith, nat_tests)); sound = kept a g.met.K.Ord.total }

@@ -1,10 +1,21 @@
-use Rattle.std.proofs.Common.{true, false, refl, sym, subst, ◌≡◌, ◌∙◌, ap, rules, arith, Equal}
-use Rattle.std.proofs.lemmas.Option.{none-some, same_Some}
-use Rattle.tree_cells.proofs.Tabled.{its_pair, stands_some}
-use Rattle.tree_array.proofs.Kept.{count_seen, entries_seen, fields, found_seen, none_seen}
-use Rattle.tree_array.proofs.Removed.{removed_alike}
-use Rattle.tree_order.proofs.Words.{named_at}
+use Rattle.std.proofs.Common.{arith, true, false, refl, sym, subst, ◌≡◌, ◌∙◌, ap, rules, Equal, List, [], ◌∷◌, Option, Ordering, is_lt, is_gt}
+use Rattle.tree_array.proofs.Lemmas.{none-some, same_Some, its_pair, stands_some, count_seen, entries_seen, fields, found_seen, none_seen, named_at, IsTotalOrder, alike_right, without}
+use Rattle.tree_array.proofs.Lemmas.{Arrivals, spend, removed, is_empty, filter_same, same_arrays}
 use Rattle.tree_array.proofs.array.ArrayOf.remove_if.Goals as goal
+
+module _ {K V : Type 0} {cmp : K → K → Ordering} (o : IsTotalOrder cmp) (key alike : K) (same : cmp key alike ≡ Equal) where
+  spend_alike : (arrivals : List (Option (K × V))) → spend cmp arrivals key ≡ spend cmp arrivals alike
+  spend_alike [] = refl
+  spend_alike (a ∷ arrivals) = grind (arith, spend_alike arrivals, λ (k : K). alike_right o key alike k same)
+
+  without_alike : (pairs : List (K × V)) → without cmp pairs key ≡ without cmp pairs alike
+  without_alike pairs =
+      rw (filter_same (λ pair. is_lt (cmp pair.0 key)) (λ pair. is_lt (cmp pair.0 alike)) (λ pair. ap is_lt (alike_right o key alike pair.0 same)) pairs, filter_same (λ pair. is_gt (cmp pair.0 key)) (λ pair. is_gt (cmp pair.0 alike)) (λ pair. ap is_gt (alike_right o key alike pair.0 same)) pairs) refl
+
+  pub removed_alike : (array : Arrivals K V) → removed cmp array key ≡ removed cmp array alike
+  removed_alike array =
+      let left = without_alike array.entries in
+      same_arrays _ _ _ _ _ _ (spend_alike array.arrivals) (ap is_empty left) left
 
 pub pair-requires : goal.pair-requires
 pair-requires g c = (search rules, stands_some (fields c.order_of.ensures.word c.order_of.ensures.count refl c.self.invariant c.self.view_is).it.table.in_order _ _ c.in-At.ensures.1)

@@ -1,9 +1,5 @@
-use Rattle.std.proofs.Common.{◌≡◌, ◌<◌, IsSome, None, refl, subst, sym, ◌∙◌, ap, rules, arith}
-use Rattle.tree_array.proofs.Common.{arrival, len_small}
-use Rattle.std.proofs.lemmas.Option.{same_Some}
-use Rattle.tree_array.proofs.Kept.{arrival_seen, fields, kept, made_seen, named_few}
-use Rattle.tree_array.proofs.Ranges.{cut_none, cut_kept, cut_taken, cut_all, kept_outside}
-use Rattle.tree_cells.proofs.Ranks.{live_some, live_none}
+use Rattle.tree_array.proofs.Lemmas.{◌≡◌, ◌<◌, IsSome, None, refl, subst, sym, ◌∙◌, ap, rules, arith, arrival, len_small, same_Some, arrival_seen, fields, kept, made_seen, named_few}
+use Rattle.tree_array.proofs.Lemmas.{cut_none, cut_kept, cut_taken, cut_all, kept_outside, live_some, live_none}
 use Rattle.tree_array.proofs.array.ArrayOf.remove_range.Goals.{then-ordinals-slot-gt0+then-range_contains, else-ordinals-slot-gt0, else-ordinals-slot-gt0-via-then-ordinals-slot-gt0+else-range_contains, else-ordinals-slot-gt0-via-else-ordinals-slot-gt0}
 use Rattle.tree_array.proofs.array.ArrayOf.remove_range.Goals as goal
 

@@ -1,5 +1,4 @@
-use Rattle.tree_model.proofs.Common.{bound_map}
-use Rattle.tree_array.proofs.Ranges.{IsCutTo}
+use Rattle.tree_array.proofs.Lemmas.{bound_map, IsCutTo}
 use Rattle.tree_array.proofs.array.ArrayOf.remove_range.Given as goal
 
 abbrev pub invariant-loop-slot : goal.invariant-loop-slot

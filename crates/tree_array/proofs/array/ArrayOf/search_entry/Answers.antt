@@ -1,7 +1,4 @@
-use Rattle.std.proofs.Common.{refl, sym, ◌∙◌, rules, arith}
-use Rattle.tree_cells.proofs.Halving.{searched_few}
-use Rattle.tree_cells.proofs.Tabled.{its_pair, stands_some}
-use Rattle.tree_array.proofs.Kept.{fields, found_seen, none_seen}
+use Rattle.tree_array.proofs.Lemmas.{arith, searched_few, refl, sym, ◌∙◌, rules, its_pair, stands_some, fields, found_seen, none_seen}
 use Rattle.tree_array.proofs.array.ArrayOf.search_entry.Goals as goal
 
 pub pair-requires : goal.pair-requires

@@ -1,6 +1,4 @@
-use Rattle.std.proofs.Common.{refl, arith}
-use Rattle.std.proofs.lemmas.Option.{slice_get_past}
-use Rattle.tree_array.proofs.Kept.{count_seen, fields, place_seen}
+use Rattle.tree_array.proofs.Lemmas.{refl, arith, slice_get_past, count_seen, fields, place_seen}
 use Rattle.tree_array.proofs.array.ArrayOf.slot_at.Goals as goal
 
 pub returns-then-place-order : goal.returns-then-place-order

@@ -1,7 +1,4 @@
-use Rattle.std.proofs.Common.{refl, ◌∙◌}
-use Rattle.tree_model.proofs.Common.{tied_back}
-use Rattle.tree_cells.proofs.Tabled.{its_pair}
-use Rattle.tree_array.proofs.Kept.{arrival_seen, fields, found_seen, none_seen}
+use Rattle.tree_array.proofs.Lemmas.{refl, ◌∙◌, tied_back, its_pair, arrival_seen, fields, found_seen, none_seen}
 use Rattle.tree_array.proofs.array.ArrayOf.slot_of.Goals as goal
 
 pub returns-in-At : goal.returns-in-At

@@ -1,11 +1,5 @@
-use Rattle.std.proofs.Common.{refl, rules, arith}
-use Rattle.tree_model.proofs.Common.{nat_tests}
-use Rattle.tree_array.proofs.Common.{len_small}
-use Rattle.std.proofs.lemmas.Bool.{true_from_ne_false}
-use Rattle.tree_cells.proofs.Tabled.{length-held, spent, stands_some}
-use Rattle.tree_array.proofs.Kept.{entries_seen, fields, found_seen, is_stored, kept, made_seen, none_seen}
-use Rattle.tree_array.proofs.Stored.{moved_fields, parts_before, room_from_not_full}
-use Rattle.tree_order.proofs.Words.{length-names, named_at}
+use Rattle.tree_array.proofs.Lemmas.{refl, rules, arith, nat_tests, len_small, true_from_ne_false, length-held, spent, stands_some, entries_seen, fields, found_seen, is_stored, kept}
+use Rattle.tree_array.proofs.Lemmas.{made_seen, none_seen, moved_fields, parts_before, room_from_not_full, length-names, named_at}
 use Rattle.tree_array.proofs.array.ArrayOf.store_beyond.Goals as goal
 
 -- ---- a place has the key
@@ -17,12 +11,12 @@ rename-order-requires g c =
 pub take-requires : goal.take-requires
 take-requires g c = (search rules, stands_some (fields c.order_of-order.ensures.word c.order_of-order.ensures.count refl c.self.invariant c.self.view_is).it.table.in_order _ _ c.in-At.ensures.1)
 
-pub put-requires : goal.put-requires
-put-requires g c =
+pub push-requires : goal.push-requires
+push-requires g c =
     let a = fields c.order_of-order.ensures.word c.order_of-order.ensures.count c.counts-arrivals.ensures.arrivals c.self.invariant c.self.view_is in
     let room = room_from_not_full g.row.LEN c.args.self.now c.if-is_full.ensures.1 in
     let place = c.in-At.ensures in
-    (search rules, (omega (arith, room.0, made_seen a), rw c.take.ensures.spent ((spent g.met.K.Ord.total a.it.table place.1 place.0).0.unmade _ (omega arith))))
+    (search rules, rw (c.take.ensures.counts, c.take.ensures.spent, ← c.counts-arrivals.ensures.arrivals) (omega (arith, room.0, made_seen a), (len_small g.row.LEN a.it.table.is_len, (spent g.met.K.Ord.total a.it.table place.1 place.0).0.unmade _ (omega arith))))
 
 pub invariant_of-self : goal.invariant_of-self
 invariant_of-self g c =
@@ -30,7 +24,7 @@ invariant_of-self g c =
     let room = room_from_not_full g.row.LEN c.args.self.now c.if-is_full.ensures.1 in
     let place = c.in-At.ensures in
     let renamed = c.rename-order.ensures in
-    rw (c.put.ensures.pairs, c.put.ensures.counts, c.take.ensures.spent) (moved_fields g.met.K.Ord.total a (omega (arith, room.0, made_seen a)) c.args.key c.args.val room.1 place.1 place.0 renamed.count renamed.names c.rename-order.result.whole).it
+    rw (c.push.ensures.pairs, c.push.ensures.entries, c.push.ensures.arrivals, c.take.ensures.counts, c.take.ensures.spent, ← c.counts-arrivals.ensures.arrivals) (moved_fields g.met.K.Ord.total a (omega (arith, room.0, made_seen a)) c.args.key c.args.val room.1 place.1 place.0 renamed.count renamed.names c.rename-order.result.whole).it
 
 pub returns-else-is_full : goal.returns-else-is_full
 returns-else-is_full g c =
@@ -40,7 +34,7 @@ returns-else-is_full g c =
     let place = c.in-At.ensures in
     let renamed = c.rename-order.ensures in
     let new_is = moved_fields o a (omega (arith, room.0, made_seen a)) c.args.key c.args.val room.1 place.1 place.0 renamed.count renamed.names c.rename-order.result.whole in (
-      is_stored (kept a o) room (λ h. grind (arith, nat_tests, c.if-not-this.false)) (rw (c.put.ensures.pairs, c.put.ensures.counts, c.take.ensures.spent) new_is.view),
+      is_stored (kept a o) room (λ h. grind (arith, nat_tests, c.if-not-this.false)) (rw (c.push.ensures.pairs, c.push.ensures.entries, c.push.ensures.arrivals, c.take.ensures.counts, c.take.ensures.spent, ← c.counts-arrivals.ensures.arrivals) new_is.view),
       true_from_ne_false _ (λ h. grind (arith, nat_tests, c.if-not-this.false)),
       rw (found_seen a o place.0) refl,
     )

@@ -1,6 +1,4 @@
-use Rattle.std.proofs.Common.{refl, sym, ◌∙◌, rules, arith}
-use Rattle.tree_array.proofs.Kept.{count_seen, fields, listed_seen, place_seen}
-use Rattle.tree_order.proofs.Words.{named_at}
+use Rattle.tree_array.proofs.Lemmas.{refl, sym, ◌∙◌, rules, arith, count_seen, fields, listed_seen, place_seen, named_at}
 use Rattle.tree_array.proofs.array.ArrayOf.take.Goals as goal
 
 pub place_of-place-requires : goal.place_of-place-requires

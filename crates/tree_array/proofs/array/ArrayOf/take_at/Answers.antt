@@ -1,15 +1,24 @@
-use Rattle.std.proofs.Common.{◌≡◌, ℕ, List, Option, Some, slice_get, Ordering, refl, sym, ◌∙◌, ap, rules, arith}
-use Rattle.tree_model.proofs.Common.{IsTotalOrder, nat_tests, tied_itself}
-use Rattle.std.proofs.lemmas.Option.{same_Some}
-use Rattle.tree_cells.specs.Arrivals.{arrival, held}
-use Rattle.tree_cells.specs.Place.{HasKey}
-use Rattle.tree_cells.specs.Tabled.{IsInOrder}
-use Rattle.tree_cells.proofs.Tabled.{stands, stands_some}
-use Rattle.tree_array.proofs.Kept.{arrival_seen, count_seen, fields, place_seen}
-use Rattle.tree_array.proofs.Taken.{taken}
-use Rattle.tree_order.proofs.Words.{length-names}
+use Rattle.std.proofs.Common.{◌-◌, true, set, length, None}
+use Rattle.tree_array.proofs.Lemmas.{◌≡◌, ℕ, List, Option, Some, slice_get, Ordering, refl, sym, ◌∙◌, ap, rules, arith, IsTotalOrder, nat_tests, tied_itself, same_Some, held, HasKey}
+use Rattle.tree_array.proofs.Lemmas.{IsInOrder, stands, stands_some, arrival_seen, count_seen, fields, place_seen, length-names, cases_lt, tied_back, without, Arrivals, arrival, names}
+use Rattle.tree_array.proofs.Lemmas.{removed, IsArray, is_empty, its_pair, length-held, set_at, spent, within, is_retired, taken_out, IsOrder, live, AreFields, same_arrays, spend_seen}
 use Rattle.tree_array.proofs.array.ArrayOf.take_at.Goals.{then-order-eq-RETIRED, else-order-eq-RETIRED}
 use Rattle.tree_array.proofs.array.ArrayOf.take_at.Goals as goal
+
+-- the array is seen without the key, and its mark says whether an entry is left
+module _ {K V : Type 0} {cmp : K → K → Ordering} (o : IsTotalOrder cmp) {len : ℕ} {cells : List (Option (K × V))} {word count made : ℕ} {array : Arrivals K V} (a : AreFields cmp len cells word count made array) {i p : ℕ} (is : slice_get (names word count) i ≡ Some p) {key : K} (has : HasKey cmp (held cells (names word count)) key i) {word' count' : ℕ} (fewer : count' ≡ count - 1) (placed : names word' (count - 1) ≡ taken_out i (names word count)) (order : IsOrder len word' count') where
+  pub taken : (count' ≡ 0 → is_retired word' ≡ true) → AreFields cmp len (set cells p None) word' count' made (removed cmp array key)
+  taken retires =
+      let old = its_pair o a.it.table is has in
+      let gone = spent o a.it.table is has in
+      let it : IsArray cmp len (set cells p None) word' count' made = record { table = rw (fewer, placed) gone.0; order = order } in
+      let entries = ap (held (set cells p None)) (ap (names word') fewer ∙ placed) ∙ gone.1 in
+      let left : length (without cmp (held cells (names word count)) key) ≡ count' = ap length (sym entries) ∙ length-held it.table.in_order ∙ length-names word' count' in
+      let mark : is_retired word' ≡ is_empty (without cmp (held cells (names word count)) key) = grind (arith, nat_tests, left, live order, retires, cases_lt 0 count') in
+      record {
+        it = it;
+        view = same_arrays _ _ _ _ _ _ (spend_seen o a.it.table key (arrival (set cells p None)) p has.pair old (tied_back o key has.pair.0 has.same) (set_at cells p None (within cells p has.pair old))) mark entries ∙ ap (λ (array : Arrivals K V). removed cmp array key) a.view;
+      }
 
 pub slot_at-requires : goal.slot_at-requires
 slot_at-requires g c = omega (arith, c.requires, count_seen (fields c.order_of-order.ensures.word c.order_of-order.ensures.count refl c.self.invariant c.self.view_is))

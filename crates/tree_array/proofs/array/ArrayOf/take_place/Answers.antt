@@ -1,8 +1,4 @@
-use Rattle.std.proofs.Common.{◌+◌, refl, sym, ◌∙◌, add-one, rules, arith}
-use Rattle.tree_model.proofs.Common.{drop_all}
-use Rattle.std.proofs.lemmas.Option.{slice_get_past}
-use Rattle.tree_array.proofs.Dealt.{parted}
-use Rattle.tree_array.proofs.Kept.{count_seen, fields, kept}
+use Rattle.tree_array.proofs.Lemmas.{◌+◌, refl, sym, ◌∙◌, add-one, rules, arith, drop_all, slice_get_past, parted, count_seen, fields, kept}
 use Rattle.tree_array.proofs.array.ArrayOf.take_place.Goals as goal
 
 pub returns-then-place-counts : goal.returns-then-place-counts

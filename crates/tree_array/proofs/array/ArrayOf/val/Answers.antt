@@ -1,5 +1,4 @@
-use Rattle.std.proofs.Common.{refl, ◌∙◌, rules}
-use Rattle.tree_array.proofs.Kept.{arrival_seen, fields, reachable_seen}
+use Rattle.tree_array.proofs.Lemmas.{refl, ◌∙◌, rules, arrival_seen, fields, reachable_seen}
 use Rattle.tree_array.proofs.array.ArrayOf.val.Goals as goal
 
 pub pair-requires : goal.pair-requires

@@ -1,9 +1,5 @@
-use Rattle.std.proofs.Common.{◌-◌, refl, arith, rules}
-use Rattle.tree_array.proofs.Emptied.{emptied_run, in_turn_run, left_stands}
-use Rattle.tree_array.proofs.Kept.{fields}
-use Rattle.tree_array.proofs.Moved.{moved_fields, none_new}
-use Rattle.tree_cells.proofs.Tabled.{places_apart}
-use Rattle.tree_order.proofs.Words.{length-names}
+use Rattle.tree_array.proofs.Lemmas.{◌-◌, refl, arith, rules, emptied_run, in_turn_run, left_stands, fields, none_new, places_apart, length-names}
+use Rattle.tree_array.proofs.Moved.{moved_fields}
 use Rattle.tree_array.proofs.array.division.move_places.Goals as goal
 
 pub take_places-requires : goal.take_places-requires

@@ -1,5 +1,4 @@
-use Rattle.tree_cells.proofs.Sizes.{steps}
-use Rattle.tree_cells.proofs.Zips.{has_none, rows_seen}
+use Rattle.tree_cells.proofs.Lemmas.{steps, has_none, rows_seen}
 use Rattle.tree_cells.proofs.cells.Cells.discard.Goals as goal
 
 pub discard-requires : goal.discard-requires

@@ -1,5 +1,4 @@
-use Rattle.tree_cells.proofs.Sizes.{steps}
-use Rattle.tree_cells.proofs.Zips.{has_both, is_pair, rows_seen, val_there}
+use Rattle.tree_cells.proofs.Lemmas.{steps, has_both, is_pair, rows_seen, val_there}
 use Rattle.tree_cells.proofs.cells.Cells.key.Goals as goal
 
 pub get-requires : goal.get-requires

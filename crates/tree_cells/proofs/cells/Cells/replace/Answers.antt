@@ -1,5 +1,4 @@
-use Rattle.tree_cells.proofs.Sizes.{steps}
-use Rattle.tree_cells.proofs.Zips.{has_both, is_pair, key_there, rows_seen, val_set}
+use Rattle.tree_cells.proofs.Lemmas.{steps, has_both, is_pair, key_there, rows_seen, val_set}
 use Rattle.tree_cells.proofs.cells.Cells.replace.Goals as goal
 
 pub replace-requires : goal.replace-requires

@@ -1,6 +1,4 @@
-use Rattle.std.proofs.Common.{None, refl, rules}
-use Rattle.tree_cells.proofs.Sizes.{steps}
-use Rattle.tree_cells.proofs.Zips.{has_both, is_pair, pair_set, rows_seen}
+use Rattle.tree_cells.proofs.Lemmas.{None, refl, rules, steps, has_both, is_pair, pair_set, rows_seen}
 use Rattle.tree_cells.proofs.cells.Cells.take.Goals as goal
 
 pub take-requires : goal.take-requires

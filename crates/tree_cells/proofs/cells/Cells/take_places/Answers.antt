@@ -1,9 +1,4 @@
-use Rattle.std.proofs.Common.{length, sym, ◌∙◌, ap, arith, rules}
-use Rattle.tree_model.proofs.Common.{false≢true}
-use Rattle.std.proofs.lemmas.Option.{same_Some}
-use Rattle.tree_cells.proofs.Moves.{none_replicated}
-use Rattle.tree_cells.proofs.Sizes.{steps}
-use Rattle.tree_cells.proofs.Zips.{length-zipped, rows_seen}
+use Rattle.tree_cells.proofs.Lemmas.{length, sym, ◌∙◌, ap, arith, rules, false≢true, same_Some, none_replicated, steps, length-zipped, rows_seen}
 use Rattle.tree_cells.proofs.cells.Cells.take_places.Goals as goal
 
 pub gather-requires : goal.gather-requires

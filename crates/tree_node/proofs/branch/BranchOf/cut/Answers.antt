@@ -1,5 +1,5 @@
 use Rattle.std.proofs.Common.{arith}
-use Rattle.tree_node.proofs.Lists.{found_within}
+use Rattle.tree_node.proofs.Common.{found_within}
 use Rattle.tree_node.proofs.branch.BranchOf.cut.Goals as goal
 
 pub unreachable-requires : goal.unreachable-requires

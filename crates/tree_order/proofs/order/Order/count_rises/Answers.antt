@@ -1,13 +1,10 @@
 use Rattle.std.proofs.Common.{◌≡◌, ◌+◌, ◌≤◌, ◌∷◌, drop, get_or, sym, ◌∙◌, ap, arith}
-use Rattle.std.proofs.lemmas.List.{at_drop_all, at_drop_more}
-use Rattle.tree_order.specs.Order.{named, ordinal_in, picked, rises_from, rises_in}
-use Rattle.tree_order.proofs.InTurn.{all_rise, rises_down, rises_up}
-use Rattle.tree_order.proofs.Picked.{get_or-picked, length-picked}
+use Rattle.tree_order.proofs.Common.{at_drop_all, at_drop_more, named, ordinal_in, picked, rises_from, rises_in, all_rise, rises_down, rises_up, get_or-picked, length-picked}
 use Rattle.tree_order.proofs.order.Order.count_rises.Goals.{then-previous-ordinal, else-previous-ordinal, then-ordinal-gt0, else-ordinal-gt0}
 use Rattle.tree_order.proofs.order.Order.count_rises.Goals as goal
 
-pub returns-then-is_in_turn : goal.returns-then-is_in_turn
-returns-then-is_in_turn g c =
+pub returns-then-is_in_turn-clause-rises : goal.returns-then-is_in_turn-clause-rises
+returns-then-is_in_turn-clause-rises g c =
     sym (all_rise (named c.args.self.word) c.args.made (omega (arith, c.if-self-gt0.true, c.if-self-made.true)) (c.is_in_turn.ensures c.if-is_in_turn.true)) ∙ ap (λ n. rises_in (ordinal_in (named c.args.self.word) n) c.args.made) (sym c.if-self-made.true)
 
 pub loop-slot-preserved : goal.loop-slot-preserved
@@ -33,7 +30,7 @@ loop-slot-preserved g c =
       ]
     ]
 
-pub returns : goal.returns
-returns g c =
+pub returns-clause-rises : goal.returns-clause-rises
+returns-clause-rises g c =
     let ordinals = picked (ordinal_in (named c.args.self.word) c.args.self.count) c.args.made in
     omega (arith, c.loop-slot.invariant.rises, at_drop_all (rises_from c.loop-slot.previous) ordinals c.loop-slot.slot (omega (arith, length-picked (ordinal_in (named c.args.self.word) c.args.self.count) c.args.made, c.loop-slot-test.false)))

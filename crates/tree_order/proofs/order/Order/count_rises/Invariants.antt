@@ -1,5 +1,4 @@
-use Rattle.std.proofs.Common.{◌≡◌, ◌+◌, ◌≤◌, drop}
-use Rattle.tree_order.specs.Order.{named, ordinal_in, picked, rises_from, rises_in}
+use Rattle.tree_order.proofs.Common.{◌≡◌, ◌+◌, ◌≤◌, drop, named, ordinal_in, picked, rises_from, rises_in}
 use Rattle.tree_order.proofs.order.Order.count_rises.Given as goal
 
 abbrev pub invariant-loop-slot : goal.invariant-loop-slot

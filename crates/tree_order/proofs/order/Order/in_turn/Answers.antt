@@ -1,7 +1,4 @@
-use Rattle.std.proofs.Common.{arith, rules}
-use Rattle.tree_order.proofs.InTurn.{turn_order}
-use Rattle.tree_order.proofs.Live.{live}
-use Rattle.tree_order.proofs.Words.{length-names, names_small}
+use Rattle.tree_order.proofs.Common.{arith, rules, turn_order, live, length-names, names_small}
 use Rattle.tree_order.proofs.order.Order.in_turn.Goals as goal
 
 pub invariant_of-result-2 : goal.invariant_of-result-2

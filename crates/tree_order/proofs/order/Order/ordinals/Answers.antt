@@ -1,8 +1,5 @@
 use Rattle.std.proofs.Common.{◌≡◌, ◌+◌, suc, inl, inr, refl, sym, ◌∙◌, ap, arith, length-set, get_or-set_same, get_or-set_other}
-use Rattle.std.proofs.lemmas.Bool.{cases_eq}
-use Rattle.tree_order.specs.Order.{named, ordinal_in}
-use Rattle.tree_order.proofs.InTurn.{ordinal_before, ordinal_here}
-use Rattle.tree_order.proofs.Words.{named_later}
+use Rattle.tree_order.proofs.Common.{cases_eq, named, ordinal_in, ordinal_before, ordinal_here, named_later}
 use Rattle.tree_order.proofs.order.Order.ordinals.Goals as goal
 
 pub bounds-ordinals-slot_at : goal.bounds-ordinals-slot_at

@@ -1,5 +1,4 @@
-use Rattle.std.proofs.Common.{◌≡◌, ℕ, ◌+◌, ◌<◌, length, slice_index_or}
-use Rattle.tree_order.specs.Order.{named, ordinal_in}
+use Rattle.tree_order.proofs.Common.{◌≡◌, ℕ, ◌+◌, ◌<◌, length, slice_index_or, named, ordinal_in}
 use Rattle.tree_order.proofs.order.Order.ordinals.Given as goal
 
 abbrev pub invariant-loop-place : goal.invariant-loop-place

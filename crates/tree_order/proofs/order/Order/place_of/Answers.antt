@@ -1,5 +1,4 @@
-use Rattle.std.proofs.Common.{arith}
-use Rattle.tree_order.proofs.Words.{named_at}
+use Rattle.tree_order.proofs.Common.{arith, named_at}
 use Rattle.tree_order.proofs.order.Order.place_of.Goals as goal
 
 pub unreachable-requires : goal.unreachable-requires

@@ -1,5 +1,4 @@
-use Rattle.std.proofs.Common.{◌≢◌, ℕ, ◌<◌}
-use Rattle.tree_order.specs.Order.{named}
+use Rattle.tree_order.proofs.Common.{◌≢◌, ℕ, ◌<◌, named}
 use Rattle.tree_order.proofs.order.Order.place_of.Given as goal
 
 abbrev pub invariant-loop-place : goal.invariant-loop-place

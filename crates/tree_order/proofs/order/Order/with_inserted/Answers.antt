@@ -1,8 +1,5 @@
 use Rattle.std.proofs.Common.{◌≡◌, ◌-◌, ◌*◌, ◌/◌, ◌^◌, ◌<◌, [], ◌∷◌, drop, refl, ◌∙◌, ap, inl, arith, length-drop}
-use Rattle.std.proofs.lemmas.List.Elements.{All-drop}
-use Rattle.tree_order.specs.Order.{names, IsSmall}
-use Rattle.tree_order.proofs.Rows.{edited_order, one_small, pushed}
-use Rattle.tree_order.proofs.Words.{joins, length-names, names_small, packed_drop}
+use Rattle.tree_order.proofs.Common.{All-drop, names, IsSmall, edited_order, one_small, pushed, joins, length-names, names_small, packed_drop}
 use Rattle.tree_order.proofs.order.Order.with_inserted.Goals as goal
 
 pub returns-then-place-self : goal.returns-then-place-self

@@ -1,8 +1,5 @@
 use Rattle.std.proofs.Common.{◌+◌, ◌-◌, ◌*◌, ◌/◌, ◌^◌, ◌<◌, [], ◌∙◌, ap, inr, arith}
-use Rattle.std.proofs.lemmas.List.Elements.{All-nil}
-use Rattle.tree_order.specs.Order.{names, IsSmall}
-use Rattle.tree_order.proofs.Rows.{edited_order, ended, last_is}
-use Rattle.tree_order.proofs.Words.{length-names, named_at, names_small, rest_behind}
+use Rattle.tree_order.proofs.Common.{All-nil, names, IsSmall, edited_order, ended, last_is, length-names, named_at, names_small, rest_behind}
 use Rattle.tree_order.proofs.order.Order.with_removed.Goals as goal
 
 pub returns-then-place-last : goal.returns-then-place-last

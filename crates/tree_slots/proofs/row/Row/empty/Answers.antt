@@ -1,4 +1,4 @@
-use Rattle.std.proofs.Common.{◌≡◌, ◌<◌, None, get_or, sym, ◌∙◌, arith, rules}
+use Rattle.tree_slots.proofs.Common.{None, arith, get_or, rules, sym, ◌<◌, ◌∙◌, ◌≡◌}
 use Rattle.std.proofs.lemmas.List.{same_lists, length-replicate, get_or-replicate}
 use Rattle.tree_slots.proofs.row.Row.empty.Goals as goal
 

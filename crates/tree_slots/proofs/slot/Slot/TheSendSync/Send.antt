@@ -1,8 +1,4 @@
-use Rattle.std.proofs.Common.{List, Option, None, Some}
-use mir.Val.{Val}
-use base.Shift.{Keyless}
-use denote.RattleType.{RattleType}
-use denote.Param.Send.{IsSend}
+use Rattle.tree_slots.proofs.Common.{IsSend, Keyless, List, None, Option, RattleType, Some, Val}
 use Rattle.tree_slots.specs.contracts.slot.Slot.{the_row}
 
 owned : (T : RattleType) → IsSend T → (d : Option T.Denot) (vs : List Val) → Keyless ((the_row T).own_val d vs)

@@ -1,9 +1,4 @@
-use Rattle.std.proofs.Common.{ℕ, ◌+◌, Option, None, Some}
-use base.Fml.{Lft}
-use base.Shift.{Keyless}
-use denote.RattleType.{RattleType}
-use denote.Param.Send.{IsSync}
-use Rattle.tree_slots.specs.Slot.{offset}
+use Rattle.tree_slots.proofs.Common.{IsSync, Keyless, Lft, None, Option, RattleType, Some, offset, ℕ, ◌+◌}
 use Rattle.tree_slots.specs.contracts.slot.Slot.{the_row}
 
 shared : (T : RattleType) → IsSync T → (d : Option T.Denot) (b o : ℕ) (κ : Lft) → Keyless ((the_row T).shr_at d b o κ)

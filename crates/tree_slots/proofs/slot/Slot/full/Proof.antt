@@ -1,30 +1,9 @@
 -- `full` lays the value in a slot.
-use Rattle.std.proofs.Common.{◌≡◌, T, ◌&&◌, true, List, [], ◌∷◌, ◌++◌, Some, sym, refl, subst}
-use mir.Syntax.{a_type}
-use mir.Val.{Val, vstruct, vcons, vnil, has_ty, WT}
-use mir.MapTy.{inst_fn}
-use base.Logic.{SProp, ent, emp, id⊢}
-use base.Fml.{ftrue}
-use prog.Wp.{WpFn}
-use types.Kit.{‵, raw, ◌⊛◌, ◌$◌, ◌∵◌, !, qed, by, move, keep, split, fsplit, fjoin, fpack, use0, rewrite, feq_i, suffices}
-use types.Run.{of_opd, no_more, and_then, returns, enter}
-use types.ByLocal.{alloc_all, pass_all, free_all, look_at, get, sets}
-use types.Part.{agg}
-use contract.Running.{tables}
-use contract.Monad.{fact, fact_i}
-use denote.Exit.{no}
-use denote.RattleType.{RattleType, Valss, owns}
-use denote.Signature.{types_at, plain}
-use denote.Steps.{nothing}
-use denote.Laws.{Typed}
-use denote.Param.{param, layout, layouts}
-use denote.Struct.Struct.{within}
-use denote.Triple.Entry.{alive}
-use denote.Triple.Walked.{Stays, stay_dropped, walk_of, Goes-dropped}
-use denote.Param.Laws.{param_laws}
-use Rattle.std.proofs.ResultValues.{and_tt}
+use Rattle.tree_slots.proofs.Common.{ !, Goes-dropped, List, RattleType, SProp, Some, Stays, T, Typed, Val, Valss, WT, WpFn, [], a_type, agg, alive, alloc_all, and_then, and_tt, by, emp, ent}
+use Rattle.tree_slots.proofs.Common.{enter, fact, fact_i, feq_i, fjoin, fpack, free_all, fsplit, ftrue, get, has_ty, id⊢, inst_fn, keep, layout, layouts, leaves, look_at, move, no, no_more}
+use Rattle.tree_slots.proofs.Common.{nothing, of_opd, owns, param, param_laws, pass_all, plain, proved_at, qed, raw, refl, returns, rewrite, sets, split, stay_dropped, subst, suffices, sym}
+use Rattle.tree_slots.proofs.Common.{tables, true, types_at, use0, vcons, vnil, vstruct, walk_of, within, ‵, ◌$◌, ◌&&◌, ◌++◌, ◌∵◌, ◌∷◌, ◌≡◌, ◌⊛◌}
 use Rattle.tree_slots.proofs.Slots.{alone}
-use Rattle.std.proofs.raw_atomic.Walks.{proved_at, leaves}
 use Rattle.tree_slots.specs.contracts.slot.Slot.full.{ended, clauses}
 use Rattle.tree_slots.specs.contracts.slot.Slot.full.Key.{name as #self}
 use Rattle.tree_slots.proofs.slot.Slot.full.Statement.{statement}

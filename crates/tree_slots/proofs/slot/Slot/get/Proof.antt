@@ -1,27 +1,10 @@
 -- `get` shows the value for as long as the slot is borrowed.
-use Rattle.std.proofs.Common.{◌≡◌, ℕ, ◌+◌, List, [], ◌∷◌, Option, Some, IsSome, refl}
-use mir.Syntax.{a_type, named}
-use mir.Val.{Val, vptr}
-use mir.MapTy.{inst_fn}
-use base.Logic.{SProp, emp, id⊢}
-use base.Fml.{Lft}
-use types.Kit.{‵, raw, ◌⊛◌, ◌$◌, ◌∵◌, !, qed, by, move, keep, split, fsplit, fjoin, feq_i, use0, use1, rewrite}
-use types.Run.{stop, fld, addr, returns, enter}
-use types.ByLocal.{alloc_all, pass_all, free_all, look_at, through, sets}
-use contract.Running.{tables}
-use contract.Monad.{fact, fact_i}
-use denote.Exit.{yes}
-use denote.RattleType.{RattleType, owns}
-use denote.Signature.{types_at, plain}
+use Rattle.tree_slots.proofs.Common.{ !, Goes-dropped, IsSome, Lft, List, Option, RattleType, SProp, Some, Stays, Val, [], a_type, addr, alloc_all, by, emp, enter, fact, fact_i, feq_i, fjoin, fld}
+use Rattle.tree_slots.proofs.Common.{free_all, fsplit, heard, hidden_shr, id⊢, inst_fn, keep, layouts, leaves, look_at, move, named, nothing, offset, owns, param, pass_all, plain, proved, qed}
+use Rattle.tree_slots.proofs.Common.{raw, refl, returns, rewrite, sets, shr_Tells, shr_vals, split, stay_dropped, stop, tables, through, types_at, use0, use1, vptr, walk_of, yes, ‵, ℕ, ◌$◌, ◌+◌}
+use Rattle.tree_slots.proofs.Common.{◌∵◌, ◌∷◌, ◌≡◌, ◌⊛◌}
 use denote.Builtin.{RefOf}
-use denote.Steps.{nothing, heard}
-use denote.Memory.{hidden_shr}
-use denote.Param.{param, layouts}
-use denote.Ref.{shr_vals, shr_Tells}
-use denote.Triple.Walked.{Stays, stay_dropped, walk_of, Goes-dropped}
-use Rattle.tree_slots.specs.Slot.{offset}
 use Rattle.tree_slots.proofs.Slots.{some_of}
-use Rattle.std.proofs.raw_atomic.Walks.{proved, leaves}
 use Rattle.tree_slots.specs.contracts.slot.Slot.get.{ended, clauses}
 use Rattle.tree_slots.specs.contracts.slot.Slot.get.Key.{name as #self}
 use Rattle.tree_slots.proofs.slot.Slot.get.Statement.{statement}

@@ -1,29 +1,9 @@
 -- `into_inner` takes the field out.
-use Rattle.std.proofs.Common.{◌≡◌, List, [], ◌∷◌, ◌++◌, Option, Some, IsSome, sym, refl, ◌∙◌, subst}
-use mir.Syntax.{a_type}
-use mir.Val.{Val, vstruct, vcons, vnil, of_list, has_ty}
-use mir.MapTy.{inst_fn}
-use base.Logic.{SProp, ent, emp, id⊢}
-use base.Fml.{ftrue, fsep}
-use prog.Wp.{WpFn}
-use types.Kit.{‵, raw, ◌⊛◌, ◌$◌, ◌∵◌, !, qed, by, move, keep, drop, split, fsplit, fjoin, fpick, feq_l, use0, rewrite, suffices}
-use types.Run.{of_opd, stop, fld, returns, enter}
-use types.ByLocal.{alloc_all, pass_all, free_all, look_at, get, get_in, sets}
-use types.Part.{sub, whole}
-use contract.Running.{tables}
-use contract.Monad.{fact, fact_i}
-use denote.Exit.{no}
-use denote.RattleType.{RattleType}
-use denote.Signature.{plain}
-use denote.Steps.{nothing, heard, peeks}
-use denote.Laws.{Is, shows}
-use denote.Param.{param, layout, layouts}
-use denote.Triple.Entry.{alive}
-use denote.Triple.Walked.{Stays, stay_dropped, walk_of, Goes-dropped}
-use denote.Param.Laws.{param_laws}
-use Rattle.std.proofs.ResultValues.{and_tt}
+use Rattle.tree_slots.proofs.Common.{ !, Goes-dropped, Is, IsSome, List, Option, RattleType, SProp, Some, Stays, Val, WpFn, [], a_type, alive, alloc_all, and_tt, by, drop, emp, ent, enter, fact}
+use Rattle.tree_slots.proofs.Common.{fact_i, feq_l, fjoin, fld, fpick, free_all, fsep, fsplit, ftrue, get, get_in, has_ty, heard, id⊢, inst_fn, keep, layout, layouts, leaves, look_at, move, no}
+use Rattle.tree_slots.proofs.Common.{nothing, of_list, of_opd, param, param_laws, pass_all, peeks, plain, proved_at, qed, raw, refl, returns, rewrite, sets, shows, split, stay_dropped, stop, sub}
+use Rattle.tree_slots.proofs.Common.{subst, suffices, sym, tables, use0, vcons, vnil, vstruct, walk_of, whole, ‵, ◌$◌, ◌++◌, ◌∙◌, ◌∵◌, ◌∷◌, ◌≡◌, ◌⊛◌}
 use Rattle.tree_slots.proofs.Slots.{alone, some_of}
-use Rattle.std.proofs.raw_atomic.Walks.{proved_at, leaves}
 use Rattle.tree_slots.specs.contracts.slot.Slot.into_inner.{ended, clauses}
 use Rattle.tree_slots.specs.contracts.slot.Slot.into_inner.Key.{name as #self}
 use Rattle.tree_slots.proofs.slot.Slot.into_inner.Statement.{statement}

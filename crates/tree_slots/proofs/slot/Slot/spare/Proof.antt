@@ -1,27 +1,10 @@
 -- `spare` reads the bytes of a slot, and leaves what it owns.
-use Rattle.std.proofs.Common.{◌≡◌, List, [], ◌∷◌, Option, None, sym, refl}
-use mir.Syntax.{a_type, named}
-use mir.Val.{Val, vptr}
-use mir.MapTy.{inst_fn}
-use base.Fraction.{full_share}
-use base.Logic.{SProp, emp}
-use base.Fml.{Fml, ftrue, fsep, flft}
-use types.Kit.{‵, raw, ◌⊛◌, at_ret, ◌$◌, ◌∵◌, !, qed, by, move, keep, drop, split, join, fsplit, fsplit3, fjoin, fjoin3, fpick, fpack, feq_i, use0, rewrite}
-use types.Run.{of_opd, stop, load, addr, first, blocks, exec, look_raw, returns, enter}
-use types.ByLocal.{alloc_all, pass_all, free_all, look_at, get, through, sets, sets_last, env}
-use contract.Running.{tables}
-use contract.Monad.{fact, fact_i}
-use denote.RattleType.{RattleType, owns}
-use denote.Signature.{types_at, plain}
-use denote.Steps.{nothing, opens, closes}
-use denote.Laws.{Typed}
-use denote.Memory.{cell_at}
-use denote.Param.{param, layout, layouts}
-use denote.Ref.{mut_vals, mut_Tells}
-use denote.Triple.Walked.{Stays, stay_ref, walk_of, Goes-ref}
+use Rattle.tree_slots.proofs.Common.{ !, Fml, Goes-ref, List, None, Option, RattleType, SProp, Stays, Typed, Val, [], a_type, addr, alloc_all, at_ret, blocks, by, cell_at, closes, drop, emp, enter}
+use Rattle.tree_slots.proofs.Common.{env, exec, fact, fact_i, feq_i, first, fjoin, fjoin3, flft, fpack, fpick, free_all, fsep, fsplit, fsplit3, ftrue, full_share, get, inst_fn, join, keep, layout}
+use Rattle.tree_slots.proofs.Common.{layouts, leaves, load, look_at, look_raw, move, mut_Tells, mut_vals, named, nothing, of_opd, opens, owns, param, pass_all, plain, proved, qed, raw, refl}
+use Rattle.tree_slots.proofs.Common.{returns, rewrite, sets, sets_last, split, stay_ref, stop, sym, tables, through, types_at, use0, vptr, walk_of, ‵, ◌$◌, ◌∵◌, ◌∷◌, ◌≡◌, ◌⊛◌}
 use Rattle.std.proofs.VecSteps.Shapes.{after}
 use Rattle.tree_slots.proofs.Slots.{alone}
-use Rattle.std.proofs.raw_atomic.Walks.{proved, leaves}
 use Rattle.tree_slots.specs.contracts.slot.Slot.spare.{ended, clauses}
 use Rattle.tree_slots.specs.contracts.slot.Slot.spare.Key.{name as #self}
 use Rattle.tree_slots.proofs.slot.Slot.spare.Statement.{statement}

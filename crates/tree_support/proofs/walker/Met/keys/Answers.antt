@@ -1,6 +1,6 @@
 use Rattle.std.proofs.Common.{rules, IsSome}
 use Rattle.tree_array.proofs.Common.{arrival}
-use Rattle.tree_walk.proofs.ChildTurns.{begins_over, slot_reachable, child_turn}
+use Rattle.tree_support.proofs.ChildTurns.{begins_over, slot_reachable, child_turn}
 use Rattle.tree_support.proofs.walker.Met.keys.Goals as goal
 
 pub loop-slot-init : goal.loop-slot-init

@@ -1,4 +1,4 @@
-use Rattle.tree_walk.proofs.ChildTurns.{IsOverKeyed}
+use Rattle.tree_support.proofs.ChildTurns.{IsOverKeyed}
 use Rattle.tree_support.proofs.walker.Met.keys.Given as goal
 
 abbrev pub invariant-loop-slot : goal.invariant-loop-slot

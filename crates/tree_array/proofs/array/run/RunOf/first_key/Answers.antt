@@ -1,12 +1,5 @@
-use Rattle.std.proofs.Common.{◌≡◌, refl, ◌∙◌, sym, arith, rules}
-use Rattle.tree_model.proofs.Common.{nil_from_length}
-use Rattle.tree_array.proofs.Runs.{first_there, length_run}
+use Rattle.tree_array.proofs.Lemmas.{◌≡◌, refl, ◌∙◌, sym, arith, rules, first_there, length_run}
 use Rattle.tree_array.proofs.array.run.RunOf.first_key.Goals as goal
-
-pub returns-then-counts-eq0 : goal.returns-then-counts-eq0
-returns-then-counts-eq0 g c =
-    let run = rw c.self.view_is at (length_run c.self.invariant) in
-    record { first = nil_from_length _ (run.0 ∙ sym c.counts.ensures.entries ∙ c.if-counts-eq0.true); few = omega (arith, run) }
 
 pub key-requires : goal.key-requires
 key-requires g c =

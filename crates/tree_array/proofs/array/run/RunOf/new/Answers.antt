@@ -1,4 +1,4 @@
-use Rattle.tree_array.proofs.Runs.{first_run}
+use Rattle.tree_array.proofs.Lemmas.{first_run}
 use Rattle.tree_array.proofs.array.run.RunOf.new.Goals as goal
 
 pub invariant_of-result : goal.invariant_of-result

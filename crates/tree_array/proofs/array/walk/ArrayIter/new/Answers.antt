@@ -1,10 +1,5 @@
-use Rattle.std.proofs.Common.{ℕ, List, None, refl, subst, sym, ap, arith}
-use Rattle.tree_array.specs.Walk.{IsOver, standing}
-use Rattle.tree_array.proofs.Kept.{fields, kept, slots_seen}
+use Rattle.tree_array.proofs.Lemmas.{ℕ, List, None, refl, subst, sym, ap, arith, IsOver, standing, fields, kept, slots_seen}
 use Rattle.tree_array.proofs.array.walk.ArrayIter.new.Goals as goal
-
-pub invariant_of-result : goal.invariant_of-result
-invariant_of-result g c = let order = c.array.invariant.order in (omega (arith, c.counts.ensures.entries, order.few, order.small), omega arith)
 
 pub returns : goal.returns
 returns g c =

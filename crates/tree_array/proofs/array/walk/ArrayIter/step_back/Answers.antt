@@ -1,7 +1,4 @@
-use Rattle.std.proofs.Common.{◌≡◌, ◌≤◌, length, arith}
-use Rattle.tree_order.specs.Order.{names}
-use Rattle.tree_array.specs.Walk.{places_behind}
-use Rattle.tree_array.proofs.Stepped.{before, behind_few, stepped_back}
+use Rattle.tree_array.proofs.Lemmas.{◌≡◌, ◌≤◌, length, arith, names, places_behind, before, behind_few, stepped_back}
 use Rattle.tree_array.proofs.array.walk.ArrayIter.step_back.Goals as goal
 
 pub returns-then-behind-gt0 : goal.returns-then-behind-gt0

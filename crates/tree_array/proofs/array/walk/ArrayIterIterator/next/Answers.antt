@@ -1,6 +1,4 @@
-use Rattle.std.proofs.Common.{◌≡◌, ◌+◌, ◌-◌, ap, ◌∙◌, arith}
-use Rattle.tree_array.proofs.Common.{named}
-use Rattle.tree_array.proofs.Stepped.{goes_on, stepped_on}
+use Rattle.tree_array.proofs.Lemmas.{◌≡◌, ◌+◌, ◌-◌, ap, ◌∙◌, arith, named, goes_on, stepped_on}
 use Rattle.tree_array.proofs.array.walk.ArrayIterIterator.next.Goals as goal
 
 pub returns-then-self-clause-steps : goal.returns-then-self-clause-steps
