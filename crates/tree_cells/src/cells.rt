@@ -106,8 +106,8 @@ impl<K, V, const LEN: usize> Cells<K, V, LEN> {
         }
     }
 
-    /// Puts a pair into the first cell behind the arrivals, and sets the count of the entries. The caller must know that the
-    /// cell holds none.
+    /// Puts a pair into the first cell behind the arrivals, and sets the count of the entries. The caller must know that there
+    /// is such a cell, and that it holds none.
     pub fn push(&mut self, key: K, val: V, entries: u8)
         requires within { self.old.counts.arrivals < LEN }
         requires few { LEN ≤ 15 }

@@ -36,7 +36,7 @@ impl<K: Ord + Drop, V: Drop, const LEN: usize> LeafOf<K, V, LEN> {
         Self::of(ArrayOf::new())
     }
 
-    /// Creates a leaf with an array and no neighbours. Allocates nothing.
+    /// Creates a leaf with an array and no neighbours. Runs in constant time, and allocates nothing.
     pub fn of(array: ArrayOf<K, V, LEN>) -> Self
         ensures array { result.array ≡ array }
         ensures prev { result.prev ≡ None }
