@@ -11,8 +11,17 @@ before ahead = if ahead == 0 then None else Some (ahead - 1)
 before_some : (ahead : ℕ) → 0 < ahead → before ahead ≡ Some (ahead - 1)
 before_some ahead some = grind (arith, nat_tests, some)
 
-ahead_of : (ahead : ℕ) → place_ahead (before ahead) ≡ ahead
+pub ahead_of : (ahead : ℕ) → place_ahead (before ahead) ≡ ahead
 ahead_of ahead = grind (arith, before_some ahead)
+
+-- how many places lie ahead of a walk back, by those that a walk on has passed
+pub left_behind : (len places : ℕ) (at : Option ℕ) → place_ahead at ≡ places + 1 → places_behind len at ≡ places
+left_behind len places None is = omega (arith, is)
+left_behind len places (Some place) is = omega (arith, is)
+
+pub all_behind : (len : ℕ) (at : Option ℕ) → place_ahead at ≡ 0 → places_behind len at ≡ len
+all_behind len None is = refl
+all_behind len (Some place) is = omega (arith, is)
 
 module _ (order count ahead : ℕ) where
   slot_named : (place slot : ℕ) → place < count → slot ≡ named order place → slice_get (names order count) place ≡ Some slot

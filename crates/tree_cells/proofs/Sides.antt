@@ -49,11 +49,11 @@ module _ {K V : Type 0} {cmp : K → K → Ordering} (o : IsTotalOrder cmp) wher
   }
 
   module _ {entries : List (K × V)} {key : K} {n m : ℕ} {between : List (K × V)} (s : AreSides entries key n m between) where
-    below_is : below cmp entries key ≡ take n entries
+    pub below_is : below cmp entries key ≡ take n entries
     below_is =
         grind (arith, s.whole, filter-append, filter_all, all_map, less_from_greater, s.smaller, filter_none, tied_back, s.equal, greater_from_less, s.larger, append-nil)
 
-    above_is : above cmp entries key ≡ drop m entries
+    pub above_is : above cmp entries key ≡ drop m entries
     above_is =
         grind (arith, s.whole, filter-append, filter_none, all_map, less_from_greater, s.smaller, tied_back, s.equal, filter_all, greater_from_less, s.larger)
 

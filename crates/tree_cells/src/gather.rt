@@ -32,7 +32,8 @@ pub(crate) fn gather<K, V, const LEN: usize>(
     requires no_vals { (p : ℕ) → slice_index_or to_vals.old.slots p None ≡ None }
     ensures turn { HasInTurn (zipped keys.old.slots vals.old.slots) (zipped to_keys.new.slots to_vals.new.slots)
         order from end }
-    ensures left { HasLeft (zipped keys.old.slots vals.old.slots) (zipped keys.new.slots vals.new.slots) order from end }
+    ensures left { HasLeft (zipped keys.old.slots vals.old.slots) (zipped keys.new.slots vals.new.slots)
+        order from end }
     ensures alike { AreFilledAlike keys.new.slots vals.new.slots }
     ensures to_alike { AreFilledAlike to_keys.new.slots to_vals.new.slots }
 {

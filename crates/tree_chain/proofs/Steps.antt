@@ -18,8 +18,12 @@ at_place xs None x is = absurd (cc)
 at_place xs (Some place) x is = (place, refl, is)
 
 module _ {K V : Type 0} {LEN : ℕ} (leaves : Slab (LeafOf K V LEN)) (id : ℕ) (leaf : LeafOf K V LEN) (slots : Walk) (stand : IsStand leaves id leaf slots) where
-  entries_here : leaf_entries leaves id ≡ leaf.array.entries
+  pub entries_here : leaf_entries leaves id ≡ leaf.array.entries
   entries_here = rw stand.there refl
+
+  -- the slots may stand at another place
+  pub stand_over : (other : Walk) → map (arrival leaf.array.arrivals) other.slots ≡ map Some leaf.array.entries → IsStand leaves id leaf other
+  stand_over other are = record { there = stand.there; front = stand.front; back = stand.back; chain = stand.chain; slots_are = are }
 
   -- there are as many slots as entries
   as_many : length slots.slots ≡ length (leaf_entries leaves id)

@@ -2,11 +2,17 @@
 use Rattle.tree_chain.proofs.Common.{is_some, ◌≡◌, ℕ, zero, suc, ◌+◌, ◌<◌, ◌≤◌, ◌==◌, true, false, List, [], ◌∷◌, ◌++◌, length, Option, Some, None, IsSome, option_map, sum_by, refl, sym, ap, ◌∙◌}
 use Rattle.tree_chain.proofs.Common.{arith, length-append, nat_tests, reverse_aux, Back, IsChain, LeafOf, On, Slab, Way, beside, chain_used, first_or, get, landing, last_or, leaf_entries, leaves_on}
 use Rattle.tree_chain.proofs.Common.{length-reverse, neighbours, seen, seen_at, count_by-le-length, sum_by-cons, once_fits, Beside}
+use Rattle.std.proofs.Common.{if◌then◌else◌}
 use Rattle.tree_chain.proofs.Jumps.{onward}
 
 -- the number of the leaf that is seen
 abbrev pub number_of : Option Beside → Option ℕ
 number_of ahead = option_map (λ next. next.id) ahead
+
+-- what is seen is what there is to see, and where nothing is seen there is nothing to say
+pub seen_if_some : {X : Type 0} (seen there : Option X) → seen ≡ there → seen ≡ (if is_some seen then there else None)
+seen_if_some None there same = refl
+seen_if_some (Some next) there same = same
 
 first_is : (ids : List ℕ) (id : ℕ) → Some id ≡ first_or ids None → (rest : List ℕ) × (ids ≡ id ∷ rest)
 first_is [] id is = absurd (cc)

@@ -1,9 +1,12 @@
 //! Walks over the entries of linked leaves, either way.
-ghost use Rattle.std.specs.Prelude.{◌≡◌, ◌++◌, ◌∷◌, None, ⊤, option_copied, option_map};
+ghost use Rattle.std.specs.Prelude.{◌≡◌, ◌++◌, ◌∷◌, None, ⊤, filter, not, option_copied, option_map};
+ghost use Rattle.std.specs.declared.ops.Bound.TheVariants.{Included};
 ghost use Rattle.tree_leaf.specs.Chain.{IsChain};
 ghost use Rattle.tree_chain.specs.Walks.{Jumps, Steps, first_of, first_on, here, last_of, left_in_leaf, standing, stood_on};
+ghost use Rattle.tree_chain.specs.Ways.{ahead};
+ghost use Rattle.tree_model.specs.Cursor.{meets};
 ghost use Rattle.tree_model.specs.Rest.{lent_entry};
-ghost use Rattle.tree_model.specs.Ways.{opposite};
+ghost use Rattle.tree_model.specs.Ways.{along, opposite};
 
 use crate::slot_walk::{Reversible, SlotWalk};
 use crate::stand::{Stand, Walked};
@@ -13,6 +16,7 @@ use std::marker::Model;
 use tree_array::array::{ArrayIter, ArrayRevIter};
 use tree_leaf::arena::{LeafId, SlotsOf};
 use tree_leaf::leaf::LeafOf;
+use tree_model::Way;
 
 /// An iterator over the entries of linked leaves of a type, the way that its iterator over the slots of a
 /// leaf goes. It stands in one leaf, unopened or on an entry of it. `next` goes through that leaf alone,
@@ -36,14 +40,14 @@ pub type RevIterOf<'t, K, V, const LEN: usize> = LinkedIter<'t, LeafOf<K, V, LEN
 pub type RevIter<'t, K, V> = RevIterOf<'t, K, V, 15>;
 
 impl<'t, L: Walked, S: SlotWalk> Model for LinkedIter<'t, L, S> {
-    ghost use Rattle.std.specs.Prelude.{◌≡◌};
+    ghost use Rattle.std.specs.Prelude.{◌≡◌, if◌then◌else◌, is_some, None};
     ghost use Rattle.tree_chain.specs.Walks.{LinkedWalk, standing};
 
     ghost Value = { LinkedWalk L };
 
     ghost view = { λ a. standing a.stand.leaves.now a.stand.id (S.walk a.slots).at };
 
-    ghost invariant = { λ a. L.stands a.stand.leaves.now a.stand.id a.stand.leaf.now (S.walk a.slots) × (a.stand.ahead ≡ L.ahead S.way a.stand.leaves.now a.stand.leaf.now) };
+    ghost invariant = { λ a. L.stands a.stand.leaves.now a.stand.id a.stand.leaf.now (S.walk a.slots) × (a.stand.ahead ≡ (if is_some a.stand.ahead then L.ahead S.way a.stand.leaves.now a.stand.leaf.now else None)) };
 }
 
 impl<'t, K: Ord + Drop, V: Drop, S: SlotWalk, const LEN: usize> LinkedIter<
@@ -57,17 +61,35 @@ impl<'t, K: Ord + Drop, V: Drop, S: SlotWalk, const LEN: usize> LinkedIter<
         requires { (front back : _) × IsChain arenas.now.leaves (front ++ id ∷ back) }
         ensures { result ≡ standing arenas.now.leaves id None }
     {
-        Self::in_leaf(arenas.leaves(), id)
+        let stand = Stand::at(arenas.leaves(), id);
+        let slots = S::at(ArrayIter::new(stand.leaf.array()));
+        LinkedIter { stand, slots }
     }
 
-    /// Creates an iterator that stands unopened in a leaf of a chain.
-    fn in_leaf(leaves: &'t Slab<LeafOf<K, V, LEN>>, id: LeafId) -> Self
+    /// Creates an iterator that comes from another leaf: it stands unopened in this one, and looks ahead.
+    fn entering(leaves: &'t Slab<LeafOf<K, V, LEN>>, id: LeafId) -> Self
         requires { (front back : _) × IsChain leaves.now (front ++ id ∷ back) }
         ensures { result ≡ standing leaves.now id None }
     {
-        let stand = Stand::at(leaves, id, S::way());
+        let stand = Stand::looking(leaves, id, S::way());
         let slots = S::at(ArrayIter::new(stand.leaf.array()));
         LinkedIter { stand, slots }
+    }
+
+    /// Goes in its leaf to the last entry that comes before this key on the way, or to before the first entry. Makes at most 4
+    /// comparisons with 15 slots, and 3 with 7.
+    #[inline(always)]
+    pub fn pass(&mut self, key: &K)
+        ensures stays { self.new ≡ standing self.old.leaves self.old.leaf self.new.at }
+        ensures passed { along S.way (here self.old)
+            ≡ along S.way (filter (λ pair. not (meets K.cmp S.way (Included key.now) pair.0)) (here self.old))
+            ++ ahead S.way (here self.old) self.new.at }
+    {
+        let array = self.stand.leaf.array();
+        match S::way() {
+            Way::On => self.slots = S::at(ArrayIter::below(array, key)),
+            Way::Back => self.slots = S::at(ArrayRevIter::above(array, key).rev()),
+        }
     }
 
     /// Returns the entry that the iterator stands on, or `None` before the first `next` in a leaf. Runs in
@@ -96,7 +118,7 @@ impl<'t, K: Ord + Drop, V: Drop, S: SlotWalk, const LEN: usize> LinkedIter<
         ensures { Jumps S.way self.old result self.new }
     {
         let id = self.stand.landing(S::way())?;
-        *self = Self::in_leaf(self.stand.leaves, id);
+        *self = Self::entering(self.stand.leaves, id);
         self.next()
     }
 
@@ -129,9 +151,8 @@ impl<'t, K: Ord + Drop, V: Drop, S: Reversible, const LEN: usize> LinkedIter<
     pub fn rev(self) -> LinkedIter<'t, LeafOf<K, V, LEN>, S::Reverse>
         ensures { result ≡ self.entry }
     {
-        let stand = Stand::at(self.stand.leaves, self.stand.id, S::Reverse::way());
         LinkedIter {
-            stand,
+            stand: self.stand.turned(),
             slots: self.slots.rev(),
         }
     }

@@ -1,5 +1,5 @@
 //! The leaf that an iterator stands in, and the leaves that it is linked to.
-ghost use Rattle.std.specs.Prelude.{◌≡◌, ◌++◌, ◌∷◌, None, Some, IsSome, List, ℕ};
+ghost use Rattle.std.specs.Prelude.{◌≡◌, ◌++◌, ◌∷◌, if◌then◌else◌, is_some, None, Some, IsSome, List, ℕ};
 ghost use Rattle.std.specs.Option.{ForSome};
 ghost use Rattle.slab.specs.Slab.{ContainsKey, get};
 ghost use Rattle.tree_array.specs.Arrivals.{arrival};
@@ -34,16 +34,18 @@ impl<K: Ord, V, const LEN: usize> Walked for LeafOf<K, V, LEN> {
     ghost ahead = { λ way leaves leaf. seen leaves (beside way leaf) };
 }
 
-/// What an iterator keeps of the leaf ahead, the one beside its leaf on its way: the number, and how many entries
-/// it has. The iterator looks there as soon as it comes into a leaf, so that the memory of the leaf ahead is on its
-/// way while the entries here are read.
+/// What an iterator has seen of the leaf ahead, the one beside its leaf on its way: the number, and how many entries
+/// it has.
 #[derive(Clone, Copy)]
 pub struct Beside {
     pub id: LeafId,
     pub len: usize,
 }
 
-/// The leaf that an iterator stands in, all leaves, and the leaf ahead on its way.
+/// The leaf that an iterator stands in, all leaves, and the leaf ahead on its way, if it has looked there.
+///
+/// As soon as an iterator comes from one leaf into the next it looks ahead, so that the memory of the leaf ahead is on its way
+/// while the entries here are read. In the leaf where it begins or turns about it doesn't look, since it often stays there.
 #[derive(Drop)]
 pub struct Stand<'t, L> {
     pub leaves: &'t Slab<L>,
@@ -64,12 +66,40 @@ impl<'t, L> Stand<'t, L> {
             ahead: self.ahead,
         }
     }
+
+    /// Stands in the same leaf once more, and hasn't looked ahead.
+    pub fn turned(&self) -> Self
+        ensures { result ≡ record self.now { ahead = None } }
+    {
+        Stand {
+            leaves: self.leaves,
+            id: self.id,
+            leaf: self.leaf,
+            ahead: None,
+        }
+    }
 }
 
 impl<'t, K: Ord + Drop, V: Drop, const LEN: usize> Stand<'t, LeafOf<K, V, LEN>> {
-    /// Stands in the leaf under a number, and looks up the leaf beside it on the way. The caller must name a
-    /// leaf of a chain.
-    pub fn at(leaves: &'t Slab<LeafOf<K, V, LEN>>, id: LeafId, way: Way) -> Self
+    /// Stands in the leaf under a number, and doesn't look ahead. The caller must name a leaf in use.
+    pub fn at(leaves: &'t Slab<LeafOf<K, V, LEN>>, id: LeafId) -> Self
+        requires { ContainsKey leaves.now id }
+        ensures leaves { result.leaves.now ≡ leaves.now }
+        ensures id { result.id ≡ id }
+        ensures leaf { get leaves.now id ≡ Some result.leaf.now }
+        ensures ahead { result.ahead ≡ None }
+    {
+        let leaf = leaf_at(leaves, id);
+        Stand {
+            leaves,
+            id,
+            leaf,
+            ahead: None,
+        }
+    }
+
+    /// Stands in the leaf under a number, and looks up the leaf ahead on the way. The caller must name a leaf of a chain.
+    pub fn looking(leaves: &'t Slab<LeafOf<K, V, LEN>>, id: LeafId, way: Way) -> Self
         requires { (front back : _) × IsChain leaves.now (front ++ id ∷ back) }
         ensures leaves { result.leaves.now ≡ leaves.now }
         ensures id { result.id ≡ id }
@@ -99,12 +129,13 @@ impl<'t, K: Ord + Drop, V: Drop, const LEN: usize> Stand<'t, LeafOf<K, V, LEN>> 
     pub fn landing(&self, way: Way) -> Option<LeafId>
         requires leaf { get self.now.leaves.now self.now.id ≡ Some self.now.leaf.now }
         requires chain { (front back : _) × IsChain self.now.leaves.now (front ++ self.now.id ∷ back) }
-        requires ahead { self.now.ahead ≡ seen self.now.leaves.now (beside way self.now.leaf.now) }
+        requires ahead { self.now.ahead
+            ≡ (if is_some self.now.ahead then seen self.now.leaves.now (beside way self.now.leaf.now) else None) }
         ensures { (front back : List ℕ) → IsChain self.now.leaves.now (front ++ self.now.id ∷ back)
             → result ≡ landing self.now.leaves.now None (leaves_on way front back) }
     {
         let mut passed = None;
-        let mut ahead = self.ahead;
+        let mut ahead = self.seen(way);
         while let Some(next) = ahead {
             let id = next.id;
             if next.len > 0 {
@@ -114,6 +145,20 @@ impl<'t, K: Ord + Drop, V: Drop, const LEN: usize> Stand<'t, LeafOf<K, V, LEN>> 
             ahead = look_up(self.leaves, link(leaf_at(self.leaves, id), way));
         }
         passed
+    }
+
+    /// Returns what it sees of the leaf ahead, and looks there if it hasn't yet.
+    fn seen(&self, way: Way) -> Option<Beside>
+        requires leaf { get self.now.leaves.now self.now.id ≡ Some self.now.leaf.now }
+        requires chain { (front back : _) × IsChain self.now.leaves.now (front ++ self.now.id ∷ back) }
+        requires ahead { self.now.ahead
+            ≡ (if is_some self.now.ahead then seen self.now.leaves.now (beside way self.now.leaf.now) else None) }
+        ensures { result ≡ seen self.now.leaves.now (beside way self.now.leaf.now) }
+    {
+        match self.ahead {
+            Some(next) => Some(next),
+            None => look_up(self.leaves, link(self.leaf, way)),
+        }
     }
 }
 

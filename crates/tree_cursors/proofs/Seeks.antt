@@ -1,7 +1,9 @@
 -- A walk that seeks the first pair within a bound: what it has passed, and what is left.
 use Rattle.tree_cursors.proofs.Common.{◌≡◌, ℕ, true, false, List, [], ◌∷◌, ◌++◌, Option, None, Some, MatchOption, ◌⊎◌, refl, sym, ap, ◌∙◌, append_assoc, Bor, Ordering, Less, append-nil}
 use Rattle.tree_cursors.proofs.Common.{AllByRecursion, arith, Bound, Included, Excluded, IsTotalOrder, reverse-append, flat_map-append, lent_entry, along, meets, Way, On, Back, all-append, all_map}
-use Rattle.tree_cursors.proofs.Common.{greater_from_less, Slab, LeafOf, IsChain, entries_of, leaf_entries, TreeArenas, leaves_at, walk, LeafWalk, standing, beyond, HasTaken, Takes, left_of, all_ahead}
+use Rattle.tree_cursors.proofs.Common.{greater_from_less, Slab, LeafOf, IsChain, entries_of, leaf_entries, TreeArenas, leaves_at, walk, LeafWalk, standing, beyond, HasTaken, Takes, left_of, all_ahead, ahead, here}
+use Rattle.std.proofs.Common.{filter, not, subst}
+use Rattle.tree_model.proofs.Lists.{all_passed}
 use Rattle.tree_cursors.proofs.Common.{all_along, BeginsPart, passed, IsLeafFor, IsNearest, NoneMeets, Opens, StandsIn, path, stands_on}
 use Rattle.tree_node.proofs.Cuts.{all_front}
 
@@ -37,6 +39,24 @@ opens_unbounded cmp way level a id bound (Some begun) begins = record {
   none_before = rw begins.leaf.none_passed tt;
 }
 
+-- of some pairs those that don't meet a key are not within the bound that includes it, nor within that which excludes it
+module _ {K V : Type 0} (cmp : K → K → Ordering) (way : Way) (key : K) (pairs : List (K × V)) where
+  abbrev pub Unmet : K × V → Type 0
+  Unmet pair = not (meets cmp way (Included key) pair.0) ≡ true
+
+  abbrev pub unmet : List (K × V)
+  unmet = along way (filter (λ pair. not (meets cmp way (Included key) pair.0)) pairs)
+
+  pub none_included : NoneMeets cmp way (Included key) unmet
+  none_included = all_along _ way _ (all_passed _ _ (λ (pair : K × V) (out : Unmet pair). grind arith) pairs)
+
+  pub none_excluded : NoneMeets cmp way (Excluded key) unmet
+  none_excluded = all_along _ way _ (all_passed _ _ (λ (pair : K × V) (out : Unmet pair). by_way way pair out) pairs)
+    where
+      by_way : (way : Way) (pair : K × V) → not (meets cmp way (Included key) pair.0) ≡ true → meets cmp way (Excluded key) pair.0 ≡ false
+      by_way On pair out = grind arith
+      by_way Back pair out = grind arith
+
 module _ {K V : Type 0} {LEN : ℕ} (cmp : K → K → Ordering) (way : Way) (bound : Bound K) (pairs : List (K × V)) (leaves : Slab (LeafOf K V LEN)) (chain : List ℕ) where
   -- of these pairs the walk has passed some that aren't within the bound, and the others are left
   pub record IsSought (now : LeafWalk K V LEN) : Type 0 where
@@ -44,6 +64,19 @@ module _ {K V : Type 0} {LEN : ℕ} (cmp : K → K → Ordering) (way : Way) (bo
     pub before : List (K × V)
     pub parts : pairs ≡ before ++ left_of way now stand.front stand.back
     pub none_before : NoneMeets cmp way bound before
+
+  -- a walk that was opened in its leaf, and there has passed some more that aren't
+  pub passed_sought : (old new : LeafWalk K V LEN) → IsSought old → old.at ≡ None → new ≡ standing old.leaves old.leaf new.at
+      → (passed : List (K × V)) × (along way (here old) ≡ passed ++ ahead way (here old) new.at) × NoneMeets cmp way bound passed → IsSought new
+  passed_sought old new sought fresh stays passes =
+      let rest = along way (entries_of old.leaves (beyond way sought.stand.front sought.stand.back)) in
+      let left = ap (λ (at : Option ℕ). ahead way (here old) at ++ rest) fresh ∙ ap (λ (xs : List (K × V)). xs ++ rest) (all_ahead way (here old) ∙ passes.1) ∙ append_assoc passes.0 (ahead way (here old) new.at) rest in
+      subst IsSought (sym stays) (record {
+        stand = record { same = sought.stand.same; front = sought.stand.front; back = sought.stand.back; stands = sought.stand.stands };
+        before = sought.before ++ passes.0;
+        parts = sought.parts ∙ ap (λ (xs : List (K × V)). sought.before ++ xs) left ∙ sym (append_assoc sought.before passes.0 _);
+        none_before = all-append _ sought.before passes.0 sought.none_before passes.2;
+      })
 
   module _ (is_chain : IsChain leaves chain) (old : LeafWalk K V LEN) (sought : IsSought old) where
     pub old_chain : IsChain old.leaves (sought.stand.front ++ old.leaf ∷ sought.stand.back)

@@ -1,10 +1,13 @@
 //! Opens a walk on the first key past a bound, either way.
-ghost use Rattle.std.specs.Prelude.{◌≡◌, ◌<◌, [], MatchOption};
+ghost use Rattle.std.specs.Prelude.{◌≡◌, ◌<◌, ◌++◌, [], List, MatchOption, None};
+ghost use Rattle.tree_chain.specs.Walks.{here, standing};
+ghost use Rattle.tree_chain.specs.Ways.{ahead};
+ghost use Rattle.tree_model.specs.Ways.{along};
 ghost use Rattle.tree_model.specs.Pairs.{lent_bound};
 ghost use Rattle.tree_node.specs.Tree.{StandsOrRetired, walk};
 ghost use Rattle.tree_walk.specs.Ends.{IsLinked};
 ghost use Rattle.tree_chain.specs.Rest.{Takes};
-ghost use Rattle.tree_cursors.specs.Seek.{Opens, Seeks};
+ghost use Rattle.tree_cursors.specs.Seek.{NoneMeets, Opens, Seeks};
 
 use crate::way::EndWay;
 use std::ops::Bound;
@@ -17,7 +20,7 @@ use tree_walk::ends::walk_from_end;
 
 /// Opens a walk on the first entry on its way whose key meets a bound, among the entries under a number of this
 /// level and those that the links lead to from there. Returns `None` only if no entry under the number meets the
-/// bound. Descends once, and then makes at most `LEN + 1` comparisons.
+/// bound. Descends once, and then makes at most 6 comparisons with 15 slots, and 5 with 7.
 ///
 /// The caller must name a well-formed part of a tree, whose leaves are in one chain, or a retired node, here
 /// and below.
@@ -33,6 +36,7 @@ pub fn seek_at<'t, K: Ord + Drop, V: Drop, S: EndWay, const LEN: usize>(
     ensures { Seeks K.cmp S.way level arenas.now id (lent_bound bound.entry) result }
 {
     let mut walk = open_at::<K, V, S, LEN>(arenas, level, id, bound)?;
+    pass(&mut walk, bound);
     while let Some((key, _)) = advance(&mut walk) {
         if S::meets(bound, key) {
             return Some(walk);
@@ -61,6 +65,24 @@ fn open_at<'t, K: Ord + Drop, V: Drop, S: EndWay, const LEN: usize>(
     };
     let leaf = leaf_by(arenas, level, id, &mut &*key)?;
     Some(LinkedIter::new(arenas, leaf))
+}
+
+/// Goes on in its leaf past entries that don't meet the bound.
+#[inline(always)]
+fn pass<'t, K: Ord + Drop, V: Drop, S: SlotWalk, const LEN: usize>(
+    walk: &mut LinkedIter<'t, LeafOf<K, V, LEN>, S>,
+    bound: Bound<&K>,
+)
+    requires { walk.old ≡ standing walk.old.leaves walk.old.leaf None }
+    ensures stays { walk.new ≡ standing walk.old.leaves walk.old.leaf walk.new.at }
+    ensures passes { (passed : List (K × V)) × (along S.way (here walk.old) ≡ passed ++ ahead S.way (here walk.old) walk.new.at)
+        × NoneMeets K.cmp S.way (lent_bound bound.entry) passed }
+{
+    match bound {
+        Bound::Included(key) => walk.pass(key),
+        Bound::Excluded(key) => walk.pass(key),
+        Bound::Unbounded => {}
+    }
 }
 
 /// Moves a walk to its next entry, in its leaf or behind a jump, and returns it. Returns `None` where no entry

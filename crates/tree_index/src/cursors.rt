@@ -83,7 +83,8 @@ impl<K: IndexKey, V: Drop, const LEN: usize> TreeIndexOf<K, V, LEN> {
     }
 
     /// Returns where a key is: present, or which pairs are beside it, with a cursor that stands there. Descends once,
-    /// or twice if every key is smaller. Allocates nothing.
+    /// or twice if every key is smaller. Makes at most `4 * (depth + 1) + 2` comparisons with 15 pairs a leaf, and
+    /// `3 * (depth + 1) + 2` with 7, and allocates nothing.
     ///
     /// ```
     /// fill(index, &[(1, 1), (3, 2), (5, 3), (7, 4)])?;

@@ -40,6 +40,12 @@ pub trait AskedKeys<'c>: LookedUp<Asked<'c>> {
 
     /// Returns whether the reader of `read_sync` gets a pair.
     fn is_read(&self, key: &Asked<'c>) -> bool;
+
+    /// Returns whether `at_or_above` finds a pair.
+    fn is_reached(&self, key: &Asked<'c>) -> bool;
+
+    /// Returns whether `at_or_below` finds a pair.
+    fn is_passed(&self, key: &Asked<'c>) -> bool;
 }
 
 impl<'c, const LEN: usize> AskedKeys<'c> for TreeIndexOf<Asked<'c>, u64, LEN> {
@@ -88,5 +94,13 @@ impl<'c, const LEN: usize> AskedKeys<'c> for TreeIndexOf<Asked<'c>, u64, LEN> {
 
     fn is_read(&self, key: &Asked<'c>) -> bool {
         self.read_sync(key, |_, value| *value).is_some()
+    }
+
+    fn is_reached(&self, key: &Asked<'c>) -> bool {
+        self.at_or_above(key).is_some()
+    }
+
+    fn is_passed(&self, key: &Asked<'c>) -> bool {
+        self.at_or_below(key).is_some()
     }
 }

@@ -69,6 +69,23 @@ fn look_up<'c>(
     }
 }
 
+/// Looks for the pairs beside a number, of the even numbers up to the last. That compares it at most so often.
+fn look_beside<'c>(
+    rt: &impl Abort,
+    index: &impl AskedKeys<'c>,
+    counter: &'c Cell<u64>,
+    number: u64,
+    last: u64,
+    most: u64,
+) {
+    let key = Asked::new(number, counter);
+    counter.set(0);
+    let reached = (index.is_reached(&key), counter.replace(0));
+    let passed = (index.is_passed(&key), counter.replace(0));
+    assert!(rt; reached.0 == (number <= last) && reached.1 <= most);
+    assert!(rt; passed.0 == (number > 1) && passed.1 <= most);
+}
+
 /// How many pairs an index has when it is looked up in, and how many comparisons an array takes at most.
 struct Sizes {
     counts: [u64; 3],
@@ -95,8 +112,10 @@ fn look_up_all<'c>(
     most: u64,
 ) {
     let levels = (index.depth() as u64).saturating_add(1);
+    let asked = levels.saturating_mul(most);
     for number in 1..=last.saturating_add(1) {
-        look_up(rt, index, counter, number, levels.saturating_mul(most));
+        look_up(rt, index, counter, number, asked);
+        look_beside(rt, index, counter, number, last, asked.saturating_add(2));
     }
 }
 
@@ -131,6 +150,7 @@ fn compares_fewer_keys_steps(rt: &impl Abort, alloc: Global) -> Result<(), Alloc
 }
 
 /// At most one array a level is searched, and the leaf, with at most four comparisons each among 15 slots, and three among 7.
+/// A look-up of the pairs beside a key makes at most two more.
 #[test]
 fn compares_few_keys(rt: HostRuntime) {
     assert!(rt;

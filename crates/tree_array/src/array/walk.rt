@@ -1,11 +1,13 @@
 //! Walks over the slots of an array, in the order of their keys and against it.
-ghost use Rattle.std.specs.Prelude.{◌≡◌, None, ⊤, length, option_and_then, slice_get};
-ghost use Rattle.tree_array.specs.Arrivals.{slots_in_order};
-ghost use Rattle.tree_array.specs.Walk.{IsOver, StepsBack, StepsOn, left_back, left_on, places_behind, standing};
+ghost use Rattle.std.specs.Prelude.{◌≡◌, ◌≤◌, None, Some, ⊤, drop, length, map, min, option_and_then, slice_get, take};
+ghost use Rattle.tree_array.specs.Arrivals.{arrival, slots_in_order};
+ghost use Rattle.tree_model.specs.Pairs.{above, below};
+ghost use Rattle.tree_array.specs.Walk.{IsOver, StepsBack, StepsOn, left_back, left_on, place_ahead, places_behind, standing};
 
-use super::ArrayOf;
+use super::{ArrayOf, order_of};
 use std::alloc::AllocError;
 use std::marker::Model;
+use tree_cells::search::{Place, find_key};
 use tree_order::order::slot_at;
 
 /// A walk over the reachable slots of an array in ascending order of their keys. It is of the array as
@@ -56,6 +58,40 @@ impl ArrayIter {
             order: array.order,
             count: array.cells.counts().entries,
             ahead: 0,
+        }
+    }
+
+    /// Creates a walk that stands at the last slot whose key is less than this one, or before the first slot. Makes at most 4
+    /// comparisons (3 among 7 slots).
+    #[inline(always)]
+    pub fn below<K: Ord + Drop, V: Drop, const LEN: usize>(
+        array: &ArrayOf<K, V, LEN>,
+        key: &K,
+    ) -> Self
+        ensures slots { map (arrival array.now.arrivals) result.slots ≡ map Some array.now.entries }
+        ensures passed { take (place_ahead result.at) array.now.entries ≡ below K.cmp array.now.entries key.now }
+    {
+        let order = order_of(array.order, &array.cells);
+        match find_key(&array.cells, order, key) {
+            Place::At { place, slot: _ } => Self::past(array, place),
+            Place::Before { place, slot: _ } => Self::past(array, place.min(order.count)),
+        }
+    }
+
+    /// Creates a walk that has passed so many slots, which there must be. Makes no comparisons.
+    #[inline(always)]
+    fn past<K: Ord + Drop, V: Drop, const LEN: usize>(
+        array: &ArrayOf<K, V, LEN>,
+        places: u8,
+    ) -> Self
+        requires { places ≤ length array.now.entries }
+        ensures slots { map (arrival array.now.arrivals) result.slots ≡ map Some array.now.entries }
+        ensures passed { place_ahead result.at ≡ places }
+    {
+        ArrayIter {
+            order: array.order,
+            count: array.cells.counts().entries,
+            ahead: places,
         }
     }
 
@@ -119,6 +155,40 @@ impl ArrayRevIter {
         ensures { result ≡ standing (slots_in_order K.cmp array.now) None }
     {
         ArrayIter::new(array).rev()
+    }
+
+    /// Creates a walk that stands at the first slot whose key is greater than this one, or before that of the greatest key.
+    /// Makes at most 4 comparisons (3 among 7 slots).
+    #[inline(always)]
+    pub fn above<K: Ord + Drop, V: Drop, const LEN: usize>(
+        array: &ArrayOf<K, V, LEN>,
+        key: &K,
+    ) -> Self
+        ensures slots { map (arrival array.now.arrivals) result.slots ≡ map Some array.now.entries }
+        ensures passed { drop (places_behind (length array.now.entries) result.at) array.now.entries
+            ≡ above K.cmp array.now.entries key.now }
+    {
+        match find_key(&array.cells, order_of(array.order, &array.cells), key) {
+            Place::At { place, slot: _ } => Self::over(array, place + 1),
+            Place::Before { place, slot: _ } => Self::over(array, place),
+        }
+    }
+
+    /// Creates a walk that goes over so many of the first slots, or over all if there are fewer. Makes no comparisons.
+    #[inline(always)]
+    fn over<K: Ord + Drop, V: Drop, const LEN: usize>(
+        array: &ArrayOf<K, V, LEN>,
+        places: u8,
+    ) -> Self
+        ensures slots { map (arrival array.now.arrivals) result.slots ≡ map Some array.now.entries }
+        ensures left { places_behind (length array.now.entries) result.at ≡ min places (length array.now.entries) }
+    {
+        let passed = if places < array.cells.counts().entries {
+            places + 1
+        } else {
+            0
+        };
+        ArrayIter::past(array, passed).rev()
     }
 
     /// Returns the slot that the walk stands at, if it has begun.

@@ -1,12 +1,14 @@
-use Rattle.tree_cursors.proofs.Common.{sym, count_falls}
-use Rattle.tree_cursors.proofs.Seeks.{nearest, none_in_empty, none_in_part, none_left, old_chain, opened_sought, still_sought}
+use Rattle.tree_cursors.proofs.Common.{ap, sym, count_falls}
+use Rattle.tree_cursors.proofs.Seeks.{nearest, none_in_empty, none_in_part, none_left, old_chain, opened_sought, passed_sought, still_sought}
 use Rattle.tree_cursors.proofs.seek.seek_at.Goals as goal
 
 pub returns-in_err-walk : goal.returns-in_err-walk
 returns-in_err-walk g c = rw c.from_residual.ensures (λ front back chain. none_in_empty g.K.Ord.cmp c.args.level c.args.arenas.now c.args.id _ g.S.SlotWalk.way c.in_err-walk.ensures)
 
 pub loop-key-init : goal.loop-key-init
-loop-key-init g c = λ front back chain. opened_sought g.K.Ord.cmp c.args.level c.args.arenas.now c.args.id _ g.S.SlotWalk.way _ c.in_ok-walk.ensures front back
+loop-key-init g c = λ front back chain.
+    let opened = opened_sought g.K.Ord.cmp c.args.level c.args.arenas.now c.args.id _ g.S.SlotWalk.way _ c.in_ok-walk.ensures front back in
+    passed_sought _ _ _ _ _ _ _ _ opened (ap (λ (walk : _). walk.at) c.in_ok-walk.ensures.unopened) c.pass.ensures.stays c.pass.ensures.passes
 
 pub returns-then-meets : goal.returns-then-meets
 returns-then-meets g c = λ front back chain.

@@ -3,7 +3,7 @@ use Rattle.tree_chain.proofs.Ways.{hops_fall, lands, lands_last, next_there, non
 use Rattle.tree_chain.proofs.stand.Stand+LeafOf+K+V+LEN.landing.Goals as goal
 
 pub loop-ahead-init : goal.loop-ahead-init
-loop-ahead-init g c = λ front back chain. sees _ _ _ _ _ _ c.requires.ahead (none_passed _ c.args.way front _ back chain _ c.requires.leaf)
+loop-ahead-init g c = λ front back chain. sees _ _ _ _ _ _ c.seen-ahead.ensures (none_passed _ c.args.way front _ back chain _ c.requires.leaf)
 
 pub leaf_at-requires : goal.leaf_at-requires
 leaf_at-requires g c = (search rules, next_there _ _ _ _ _ (rw c.in-Some.is at (c.loop-ahead.invariant _ _ c.requires.chain.2)).1)

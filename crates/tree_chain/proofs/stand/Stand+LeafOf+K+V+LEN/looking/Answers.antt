@@ -1,6 +1,6 @@
 use Rattle.tree_chain.proofs.Common.{rules, ◌∙◌, sym, chain_used}
 use Rattle.tree_chain.proofs.Ways.{next_there, none_passed}
-use Rattle.tree_chain.proofs.stand.Stand+LeafOf+K+V+LEN.at.Goals as goal
+use Rattle.tree_chain.proofs.stand.Stand+LeafOf+K+V+LEN.looking.Goals as goal
 
 pub leaf_at-leaf-requires : goal.leaf_at-leaf-requires
 leaf_at-leaf-requires g c = (search rules, chain_used _ _ _ _ c.requires.2)
