@@ -47,7 +47,8 @@ impl<'t, L: Walked, S: SlotWalk> Model for LinkedIter<'t, L, S> {
 
     ghost view = { λ a. standing a.stand.leaves.now a.stand.id (S.walk a.slots).at };
 
-    ghost invariant = { λ a. L.stands a.stand.leaves.now a.stand.id a.stand.leaf.now (S.walk a.slots) × (a.stand.ahead ≡ (if is_some a.stand.ahead then L.ahead S.way a.stand.leaves.now a.stand.leaf.now else None)) };
+    ghost invariant = { λ a. L.stands a.stand.leaves.now a.stand.id a.stand.leaf.now (S.walk a.slots)
+        × (a.stand.ahead ≡ (if is_some a.stand.ahead then L.ahead S.way a.stand.leaves.now a.stand.leaf.now else None)) };
 }
 
 impl<'t, K: Ord + Drop, V: Drop, S: SlotWalk, const LEN: usize> LinkedIter<

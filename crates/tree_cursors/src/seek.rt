@@ -75,7 +75,8 @@ fn pass<'t, K: Ord + Drop, V: Drop, S: SlotWalk, const LEN: usize>(
 )
     requires { walk.old ≡ standing walk.old.leaves walk.old.leaf None }
     ensures stays { walk.new ≡ standing walk.old.leaves walk.old.leaf walk.new.at }
-    ensures passes { (passed : List (K × V)) × (along S.way (here walk.old) ≡ passed ++ ahead S.way (here walk.old) walk.new.at)
+    ensures passes { (passed : List (K × V))
+        × (along S.way (here walk.old) ≡ passed ++ ahead S.way (here walk.old) walk.new.at)
         × NoneMeets K.cmp S.way (lent_bound bound.entry) passed }
 {
     match bound {
