@@ -22,7 +22,7 @@ ghost use Rattle.tree_clean_up.specs.CleanUps.{HasOnlyRetired};
 ghost use Rattle.tree_remove.specs.Removes.{RemovesUnder};
 
 use std::ops::Bound;
-use tree_array::array::{IndexKey, InsertResult, Judge, RemoveResult};
+use tree_array::array::{ArrayIter, ArrayRevIter, IndexKey, InsertResult, Judge, RemoveResult};
 use tree_chain::{IterOf, RevIterOf};
 use tree_cut::cutting::remove_range_at;
 use tree_descent::look_ups::search_at;
@@ -33,7 +33,7 @@ use tree_node::depth::level_of;
 use tree_node::node::{ArenasOf, NodeOf};
 use tree_ranges::approximate::approximate_at;
 use tree_remove::removal::remove_at;
-use tree_walk::ends::{max_at, min_at};
+use tree_walk::ends::walk_from_end;
 
 /// The calls on the number of a node, as `LeafNode::insert::<false, u64>(&mut arenas, id, key, val)`.
 ///
@@ -101,7 +101,7 @@ pub trait NodeCalls<K: Ord + Drop, const LEN: usize> {
         ensures { MatchOption result (walk level arenas.now id ≡ []) (BeginsPart On level arenas.now id) }
     {
         let level = found_level(arenas, id);
-        min_at(arenas, level, id)
+        walk_from_end::<K, V, ArrayIter, LEN>(arenas, level, id)
     }
 
     /// Returns a walk against key order that stands before the greatest entry under the node: the mirror of
@@ -117,7 +117,7 @@ pub trait NodeCalls<K: Ord + Drop, const LEN: usize> {
         ensures { MatchOption result (walk level arenas.now id ≡ []) (BeginsPart Back level arenas.now id) }
     {
         let level = found_level(arenas, id);
-        max_at(arenas, level, id)
+        walk_from_end::<K, V, ArrayRevIter, LEN>(arenas, level, id)
     }
 
     /// Opens a walk in key order on the entry under the node that is nearest to a key: the greatest whose key isn't larger,

@@ -153,7 +153,7 @@ impl<'t, K: Ord + Drop, V: Drop, S: Reversible, const LEN: usize> LinkedIter<
         ensures { result ≡ self.entry }
     {
         LinkedIter {
-            stand: self.stand.turned(),
+            stand: self.stand.seeing(None),
             slots: self.slots.rev(),
         }
     }
@@ -200,8 +200,9 @@ impl<'t, L: Walked, S: SlotWalk> Clone for LinkedIter<'t, L, S> {
     ghost is_infallible = { λ _. ⊤ };
 
     fn clone(&self) -> Result<Self, AllocError> {
-        let slots = self.slots.again();
-        let stand = self.stand.again();
-        Ok(LinkedIter { stand, slots })
+        Ok(LinkedIter {
+            stand: self.stand.seeing(self.stand.ahead),
+            slots: self.slots.again(),
+        })
     }
 }

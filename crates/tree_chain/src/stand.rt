@@ -55,27 +55,15 @@ pub struct Stand<'t, L> {
 }
 
 impl<'t, L> Stand<'t, L> {
-    /// Stands in the same leaf once more.
-    pub fn again(&self) -> Self
-        ensures { result ≡ self.now }
+    /// Stands in the same leaf once more, and has seen this of the leaf ahead.
+    pub fn seeing(&self, ahead: Option<Beside>) -> Self
+        ensures { result ≡ record self.now { ahead = ahead } }
     {
         Stand {
             leaves: self.leaves,
             id: self.id,
             leaf: self.leaf,
-            ahead: self.ahead,
-        }
-    }
-
-    /// Stands in the same leaf once more, and hasn't looked ahead.
-    pub fn turned(&self) -> Self
-        ensures { result ≡ record self.now { ahead = None } }
-    {
-        Stand {
-            leaves: self.leaves,
-            id: self.id,
-            leaf: self.leaf,
-            ahead: None,
+            ahead,
         }
     }
 }
@@ -106,14 +94,8 @@ impl<'t, K: Ord + Drop, V: Drop, const LEN: usize> Stand<'t, LeafOf<K, V, LEN>> 
         ensures leaf { get leaves.now id ≡ Some result.leaf.now }
         ensures ahead { result.ahead ≡ seen leaves.now (beside way result.leaf.now) }
     {
-        let leaf = leaf_at(leaves, id);
-        let ahead = look_up(leaves, link(leaf, way));
-        Stand {
-            leaves,
-            id,
-            leaf,
-            ahead,
-        }
+        let stand = Self::at(leaves, id);
+        stand.seeing(look_up(leaves, link(stand.leaf, way)))
     }
 
     /// Returns the entry of a slot. The caller must name a reachable slot.

@@ -7,11 +7,11 @@ ghost use Rattle.tree_root.specs.Trees.{IsWhole, pairs_of};
 
 use crate::index::TreeIndexOf;
 use std::alloc::{AllocError, Global};
-use tree_array::array::{IndexKey, RunOf};
+use tree_array::array::{ArrayIter, IndexKey, RunOf};
 use tree_chain::IterOf;
 use tree_chain::laws::next_or_jump;
 use tree_root::Tree;
-use tree_walk::ends::min_at;
+use tree_walk::ends::walk_from_end;
 
 impl<K: IndexKey, V: Drop + Clone, const LEN: usize> TreeIndexOf<K, V, LEN> {
     /// Returns a copy: an index of a clone of each key with a clone of its value, in the same order.
@@ -52,7 +52,7 @@ fn walk_of<K: IndexKey, V: Drop, const LEN: usize>(
     ensures { MatchOption result (pairs_of tree.now ≡ []) (λ pairs. HasLeft pairs (pairs_of tree.now)) }
 {
     let root = tree.root?;
-    min_at(&tree.arenas, root.level, root.id)
+    walk_from_end::<K, V, ArrayIter, LEN>(&tree.arenas, root.level, root.id)
 }
 
 /// Appends a clone of each pair of another tree. The tree must be empty.

@@ -174,7 +174,7 @@ fn insert_from<const UPSERT: bool, K: IndexKey, V: Drop, const LEN: usize>(
 {
     match arenas.node(id) {
         NodeOf::Internal(node) => {
-            let Some(place) = node.child_place_beyond(&key, rightmost) else {
+            let Some(place) = node.child_place(&key, rightmost) else {
                 return Ok(StoreResult::Full(key, val));
             };
             let child = place.child;
@@ -200,7 +200,7 @@ fn insert_from<const UPSERT: bool, K: IndexKey, V: Drop, const LEN: usize>(
             }
         }
         NodeOf::Leaf(node) => {
-            let Some(place) = node.child_place_beyond(&key, rightmost) else {
+            let Some(place) = node.child_place(&key, rightmost) else {
                 return Ok(StoreResult::Full(key, val));
             };
             let leaf = place.child;

@@ -2,7 +2,7 @@
 ghost use Rattle.std.specs.Prelude.{◌≡◌, [], ◌∷◌, None, IfOk};
 ghost use Rattle.tree_array.specs.Arrivals.{in_order};
 ghost use Rattle.tree_array.specs.Length.{IsLen};
-ghost use Rattle.tree_node.specs.Whole.{HasNoOther, IsTree, Plants, leaves_under};
+ghost use Rattle.tree_node.specs.Whole.{IsTree, Plants, leaves_under};
 ghost use Rattle.tree_split.specs.Packed.{IsPacked};
 
 use tree_leaf::arena::NodeId;
@@ -29,55 +29,26 @@ pub fn plant<K: Ord + Drop, V: Drop, const LEN: usize>(
     ensures plants { Plants K.cmp arenas.old arenas.new key val result }
     ensures packed { IfOk result (λ id. IsPacked K.cmp None 1 arenas.new id) }
 {
+    let nodes = if root.is_none() { 1 } else { 0 };
+    let Ok(()) = arenas.reserve(1, nodes) else {
+        return Err((key, val));
+    };
+    let Ok(leaf) = arenas.add_leaf(leaf_with(key, val)) else {
+        unreachable!()
+    };
+    let node = NodeOf::Leaf(LeafNodeOf::new(leaf));
     match root {
-        None => plant_root(arenas, key, val),
-        Some(root) => plant_again(arenas, root.id, key, val),
+        None => {
+            let Ok(id) = arenas.add_node(node) else {
+                unreachable!()
+            };
+            Ok(id)
+        }
+        Some(retired) => {
+            *arenas.node_mut(retired.id) = node;
+            Ok(retired.id)
+        }
     }
-}
-
-/// Adds a leaf with the pair, and a leaf node over it as the root.
-fn plant_root<K: Ord + Drop, V: Drop, const LEN: usize>(
-    arenas: &mut ArenasOf<K, V, LEN>,
-    key: K,
-    val: V,
-) -> Result<NodeId, (K, V)>
-    requires len { IsLen LEN }
-    requires tree { IsTree K.cmp arenas.old None }
-    ensures plants { Plants K.cmp arenas.old arenas.new key val result }
-    ensures packed { IfOk result (λ id. IsPacked K.cmp None 1 arenas.new id) }
-{
-    let Ok(()) = arenas.reserve(1, 1) else {
-        return Err((key, val));
-    };
-    let Ok(leaf) = arenas.add_leaf(leaf_with(key, val)) else {
-        unreachable!()
-    };
-    let Ok(id) = arenas.add_node(NodeOf::Leaf(LeafNodeOf::new(leaf))) else {
-        unreachable!()
-    };
-    Ok(id)
-}
-
-/// Adds a leaf with the pair, and puts a leaf node over it in place of the retired one.
-fn plant_again<K: Ord + Drop, V: Drop, const LEN: usize>(
-    arenas: &mut ArenasOf<K, V, LEN>,
-    root: NodeId,
-    key: K,
-    val: V,
-) -> Result<NodeId, (K, V)>
-    requires len { IsLen LEN }
-    requires retired { HasNoOther arenas.old root }
-    ensures plants { Plants K.cmp arenas.old arenas.new key val result }
-    ensures packed { IfOk result (λ id. IsPacked K.cmp None 1 arenas.new id) }
-{
-    let Ok(()) = arenas.reserve(1, 0) else {
-        return Err((key, val));
-    };
-    let Ok(leaf) = arenas.add_leaf(leaf_with(key, val)) else {
-        unreachable!()
-    };
-    *arenas.node_mut(root) = NodeOf::Leaf(LeafNodeOf::new(leaf));
-    Ok(root)
 }
 
 /// Returns a leaf that holds this pair alone.

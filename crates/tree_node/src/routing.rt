@@ -36,22 +36,12 @@ impl<K: Ord + Drop, I: Copy + Drop, const LEN: usize> BranchOf<K, I, LEN> {
 
     /// Returns the child that a key belongs to, as [`child_for`](BranchOf::child_for) does, and the slot of its
     /// separator. Makes as many comparisons, which no judge counts.
-    pub fn child_place_for(&self, key: &K) -> Option<ChildPlace<I>>
-        ensures place { MatchOption result (self.now.unbounded_child ≡ None)
-            (λ place. IsChildAt K.cmp key.now self.now.children self.now.unbounded_child place.child place.slot) }
-        ensures child { MatchOption result
-            (child_of K.cmp key.now self.now.children.entries self.now.unbounded_child ≡ None)
-            (λ place. child_of K.cmp key.now self.now.children.entries self.now.unbounded_child ≡ Some place.child) }
-    {
-        self.child_place_beyond(key, false)
-    }
-
-    /// Returns what [`child_place_for`](BranchOf::child_place_for) does. With `rightmost` it compares the key with the
-    /// last separator first, and answers the unbounded child at once if the key is larger: an insert asks so as long as
-    /// its way down keeps to the unbounded children, where keys that arrive in ascending order belong. That is at most
-    /// one comparison more.
+    ///
+    /// With `rightmost` it compares the key with the last separator first, and answers the unbounded child at once if the
+    /// key is larger: an insert asks so as long as its way down keeps to the unbounded children, where keys that arrive in
+    /// ascending order belong. That is at most one comparison more.
     #[inline]
-    pub fn child_place_beyond(&self, key: &K, rightmost: bool) -> Option<ChildPlace<I>>
+    pub fn child_place(&self, key: &K, rightmost: bool) -> Option<ChildPlace<I>>
         ensures place { MatchOption result (self.now.unbounded_child ≡ None)
             (λ place. IsChildAt K.cmp key.now self.now.children self.now.unbounded_child place.child place.slot) }
         ensures child { MatchOption result

@@ -78,8 +78,6 @@ fn first_at<'t, K: Ord + Drop, V: Drop, S: ChildWalk, const LEN: usize>(
     requires linked { IsLinked level arenas.now id }
     ensures { lent result ≡ first_on S.way (walk level arenas.now id) }
 {
-    match walk_from_end::<K, V, S, LEN>(arenas, level, id) {
-        None => None,
-        Some(mut begun) => begun.next(),
-    }
+    let mut begun = walk_from_end::<K, V, S, LEN>(arenas, level, id)?;
+    begun.next()
 }

@@ -26,7 +26,7 @@ pub fn drop_emptied<K: Ord + Drop, V: Drop, const LEN: usize>(
 {
     match arenas.node(id) {
         NodeOf::Leaf(node) => {
-            let Some(place) = node.child_place_for(key) else {
+            let Some(place) = node.child_place(key, false) else {
                 return RemoveResult::Fail;
             };
             if let Some(slot) = place.slot {
@@ -35,7 +35,7 @@ pub fn drop_emptied<K: Ord + Drop, V: Drop, const LEN: usize>(
             retire_if_empty(arenas, id)
         }
         NodeOf::Internal(node) => {
-            let Some(place) = node.child_place_for(key) else {
+            let Some(place) = node.child_place(key, false) else {
                 return RemoveResult::Fail;
             };
             match drop_emptied(arenas, level - 1, place.child, key) {

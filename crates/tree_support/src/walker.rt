@@ -7,12 +7,12 @@ ghost use Rattle.tree_node.specs.Tree.{StandsOrRetired, in_turn};
 ghost use Rattle.tree_walk.specs.Ends.{IsLinked};
 
 use crate::flaw::{Flaw, expect};
-use tree_array::array::{ArrayIter, ArrayOf};
+use tree_array::array::{ArrayIter, ArrayOf, ArrayRevIter};
 use tree_chain::{IterOf, RevIterOf};
 use tree_leaf::arena::{LeafId, NodeId};
 use tree_leaf::leaf::LeafOf;
 use tree_node::node::{ArenasOf, NodeOf};
-use tree_walk::ends::{max_at, min_at};
+use tree_walk::ends::walk_from_end;
 
 /// What a walk down has met: so many leaves, nodes and pairs, the greatest key or separator, and the last leaf.
 #[derive(Drop)]
@@ -162,7 +162,7 @@ fn lists_forward<const LEN: usize>(
     requires stands { StandsOrRetired nat_cmp level arenas.now id }
     requires linked { IsLinked level arenas.now id }
 {
-    let Some(mut walk) = min_at(arenas, level, id) else {
+    let Some(mut walk) = walk_from_end::<u64, u64, ArrayIter, LEN>(arenas, level, id) else {
         return pairs.is_empty();
     };
     for pair in pairs {
@@ -184,7 +184,7 @@ fn lists_backward<const LEN: usize>(
     requires stands { StandsOrRetired nat_cmp level arenas.now id }
     requires linked { IsLinked level arenas.now id }
 {
-    let Some(mut walk) = max_at(arenas, level, id) else {
+    let Some(mut walk) = walk_from_end::<u64, u64, ArrayRevIter, LEN>(arenas, level, id) else {
         return pairs.is_empty();
     };
     for pair in pairs.iter().rev() {

@@ -64,10 +64,8 @@ impl<'t, K: Ord + Drop + 't, V: Drop + 't, const LEN: usize> Iterator for KeysOf
     ghost remaining = { λ s. at_most (length s) };
 
     fn next(&mut self) -> Option<&'t K> {
-        match self.pairs.next() {
-            Some((key, _)) => Some(key),
-            None => None,
-        }
+        let (key, _) = self.pairs.next()?;
+        Some(key)
     }
 }
 
@@ -76,10 +74,8 @@ impl<'t, K: Ord + Drop + 't, V: Drop + 't, const LEN: usize> DoubleEndedIterator
     ghost next_back_gives = { TakesLast deref };
 
     fn next_back(&mut self) -> Option<&'t K> {
-        match self.pairs.next_back() {
-            Some((key, _)) => Some(key),
-            None => None,
-        }
+        let (key, _) = self.pairs.next_back()?;
+        Some(key)
     }
 }
 
@@ -149,10 +145,8 @@ impl<'t, K: Ord + Drop + 't, V: Drop + 't, const LEN: usize> Iterator for Values
     ghost remaining = { λ s. at_most (length s) };
 
     fn next(&mut self) -> Option<&'t V> {
-        match self.pairs.next() {
-            Some((_, value)) => Some(value),
-            None => None,
-        }
+        let (_, value) = self.pairs.next()?;
+        Some(value)
     }
 }
 
@@ -161,10 +155,8 @@ impl<'t, K: Ord + Drop + 't, V: Drop + 't, const LEN: usize> DoubleEndedIterator
     ghost next_back_gives = { TakesLast deref };
 
     fn next_back(&mut self) -> Option<&'t V> {
-        match self.pairs.next_back() {
-            Some((_, value)) => Some(value),
-            None => None,
-        }
+        let (_, value) = self.pairs.next_back()?;
+        Some(value)
     }
 }
 

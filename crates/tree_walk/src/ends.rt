@@ -1,53 +1,20 @@
-//! The least and the greatest entry under the number of a node, at its level.
+//! The least and the greatest entry under the number of a node.
 ghost use Rattle.std.specs.Prelude.{◌≡◌, ◌<◌, [], MatchOption};
-ghost use Rattle.tree_model.specs.declared.way.Way.TheVariants.{On, Back};
 ghost use Rattle.tree_walk.specs.Ends.{BeginsPart, FindsFirst, IsLinked};
 ghost use Rattle.tree_node.specs.Tree.{StandsOrRetired, leaves_at, walk};
 
 use crate::children::{ChildWalk, ChildrenOf};
 use crate::leaves::array_of;
-use tree_array::array::{ArrayIter, ArrayRevIter};
-use tree_chain::{IterOf, LinkedIter, RevIterOf};
+use tree_chain::LinkedIter;
 use tree_leaf::arena::{LeafId, NodeId};
 use tree_leaf::leaf::LeafOf;
 use tree_node::node::{ArenasOf, NodeOf};
 
-/// Returns a walk that stands before the least entry under a number of this level, in its leaf, or `None` if no
-/// entry is there. Makes no comparisons. Reads one array a level, and those of the leaves without an entry
+/// Returns a walk, either way, that stands before the entry under a number of this level that it comes to first, in its leaf,
+/// or `None` if no entry is there. Makes no comparisons. Reads one array a level, and those of the leaves without an entry
 /// before that one.
 ///
-/// The caller must see, here and below, that a well-formed part of a tree stands there, whose leaves are in
-/// one chain, or a retired node.
-pub fn min_at<'a, K: Ord + Drop, V: Drop, const LEN: usize>(
-    arenas: &'a ArenasOf<K, V, LEN>,
-    level: usize,
-    id: NodeId,
-) -> Option<IterOf<'a, K, V, LEN>>
-    requires node { 0 < level }
-    requires stands { StandsOrRetired K.cmp level arenas.now id }
-    requires linked { IsLinked level arenas.now id }
-    ensures { MatchOption result (walk level arenas.now id ≡ []) (BeginsPart On level arenas.now id) }
-{
-    walk_from_end::<K, V, ArrayIter, LEN>(arenas, level, id)
-}
-
-/// Returns a walk, against the order of keys, that stands before the greatest entry under a number of this level.
-/// The mirror of [`min_at`].
-pub fn max_at<'a, K: Ord + Drop, V: Drop, const LEN: usize>(
-    arenas: &'a ArenasOf<K, V, LEN>,
-    level: usize,
-    id: NodeId,
-) -> Option<RevIterOf<'a, K, V, LEN>>
-    requires node { 0 < level }
-    requires stands { StandsOrRetired K.cmp level arenas.now id }
-    requires linked { IsLinked level arenas.now id }
-    ensures { MatchOption result (walk level arenas.now id ≡ []) (BeginsPart Back level arenas.now id) }
-{
-    walk_from_end::<K, V, ArrayRevIter, LEN>(arenas, level, id)
-}
-
-/// Returns a walk, either way, that stands before the entry under a number of this level that it comes to first: what
-/// [`min_at`] and [`max_at`] return.
+/// The caller must see that a well-formed part of a tree stands there, whose leaves are in one chain, or a retired node.
 pub fn walk_from_end<'a, K: Ord + Drop, V: Drop, S: ChildWalk, const LEN: usize>(
     arenas: &'a ArenasOf<K, V, LEN>,
     level: usize,

@@ -1,11 +1,10 @@
 //! Walks over the slots of an array, in the order of their keys and against it.
-ghost use Rattle.std.specs.Prelude.{◌≡◌, ◌≤◌, None, Some, ⊤, drop, length, map, min, option_and_then, slice_get, take};
+ghost use Rattle.std.specs.Prelude.{◌≡◌, ◌≤◌, None, Some, drop, length, map, min, option_and_then, slice_get, take};
 ghost use Rattle.tree_array.specs.Arrivals.{arrival, slots_in_order};
 ghost use Rattle.tree_model.specs.Pairs.{above, below};
 ghost use Rattle.tree_array.specs.Walk.{IsOver, StepsBack, StepsOn, left_back, left_on, place_ahead, places_behind, standing};
 
 use super::{ArrayOf, order_of};
-use std::alloc::AllocError;
 use std::marker::Model;
 use tree_cells::search::{Place, find_key};
 use tree_order::order::slot_at;
@@ -14,7 +13,7 @@ use tree_order::order::slot_at;
 /// it stood when the walk was made. A slot is named by the number of its arrival.
 ///
 /// A `next` that returns `None` keeps the place.
-#[derive(Drop)]
+#[derive(Clone, Drop)]
 pub struct ArrayIter {
     order: u64,
     count: u8,
@@ -23,7 +22,7 @@ pub struct ArrayIter {
 }
 
 /// The walk in descending order.
-#[derive(Drop)]
+#[derive(Clone, Drop)]
 pub struct ArrayRevIter {
     walk: ArrayIter,
 }
@@ -150,13 +149,6 @@ impl ArrayIter {
 }
 
 impl ArrayRevIter {
-    /// Creates a walk that stands before the slot of the greatest key. Makes no comparisons.
-    pub fn new<K: Ord + Drop, V: Drop, const LEN: usize>(array: &ArrayOf<K, V, LEN>) -> Self
-        ensures { result ≡ standing (slots_in_order K.cmp array.now) None }
-    {
-        ArrayIter::new(array).rev()
-    }
-
     /// Creates a walk that stands at the first slot whose key is greater than this one, or before that of the greatest key.
     /// Makes at most 4 comparisons (3 among 7 slots).
     #[inline(always)]
@@ -243,30 +235,5 @@ impl Iterator for ArrayRevIter {
     #[inline]
     fn next(&mut self) -> Option<u8> {
         self.walk.step_back()
-    }
-}
-
-impl Clone for ArrayIter {
-    ghost is_clone = { λ walk clone. clone ≡ walk };
-
-    ghost is_infallible = { λ _. ⊤ };
-
-    fn clone(&self) -> Result<Self, AllocError> {
-        Ok(ArrayIter {
-            order: self.order,
-            count: self.count,
-            ahead: self.ahead,
-        })
-    }
-}
-
-impl Clone for ArrayRevIter {
-    ghost is_clone = { λ walk clone. clone ≡ walk };
-
-    ghost is_infallible = { λ _. ⊤ };
-
-    fn clone(&self) -> Result<Self, AllocError> {
-        let walk = self.walk.clone()?;
-        Ok(ArrayRevIter { walk })
     }
 }

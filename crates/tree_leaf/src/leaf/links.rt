@@ -52,14 +52,10 @@ pub fn add_before<K: Ord + Drop, V: Drop, N: Drop, const LEN: usize>(
     ensures { AddsBefore arenas.old arenas.new at leaf result }
 {
     let prev = arenas.leaf(at).prev;
-    match arenas.add_leaf(leaf) {
-        Ok(id) => {
-            splice_link(arenas, prev, Some(id));
-            splice_link(arenas, Some(id), Some(at));
-            Ok(id)
-        }
-        Err(leaf) => Err(leaf),
-    }
+    let id = arenas.add_leaf(leaf)?;
+    splice_link(arenas, prev, Some(id));
+    splice_link(arenas, Some(id), Some(at));
+    Ok(id)
 }
 
 /// Sets which leaf comes after the one at `at`, if that is one.

@@ -28,11 +28,11 @@ node-requires g t c = (search fits, node_used c.args.level c.requires.node c.arg
 
 pub returns-in_default : goal.returns-in_default
 returns-in_default g t c =
-    absurd (has_some c.requires.node c.requires.part c.args.key (rw c.in-Internal.is at c.node.ensures) (rw c.in_default.is at c.child_place_beyond.ensures.child))
+    absurd (has_some c.requires.node c.requires.part c.args.key (rw c.in-Internal.is at c.node.ensures) (rw c.in_default.is at c.child_place.ensures.child))
 
 pub insert_from-requires : goal.insert_from-requires
 insert_from-requires g t c κs within =
-    let which = goes c.requires.node c.requires.part c.args.key (rw c.in-Internal.is at c.node.ensures) (rw c.in-Some.is at c.child_place_beyond.ensures.child) in
+    let which = goes c.requires.node c.requires.part c.args.key (rw c.in-Internal.is at c.node.ensures) (rw c.in-Some.is at c.child_place.ensures.child) in
     let inner = inner_level c.args.level c.requires.node _ _ c.requires.part _ (rw c.in-Internal.is at c.node.ensures) in
     let deeper : 0 < c.args.level - 1 = omega (arith, inner) in
     let part = below_part g.met.K.Ord.total c.args.arenas.now c.args.key c.args.level c.requires.node c.args.id _ c.requires.part which in
@@ -41,14 +41,14 @@ insert_from-requires g t c κs within =
 pub split_child-requires : goal.split_child-requires
 split_child-requires g t c =
     let met = is_full c.requires.node c.requires.part c.args.key g.met.K.Ord.total (rw c.in-Internal.is at c.node.ensures)
-    (rw c.in-Some.is at c.child_place_beyond.ensures.child) c.insert_from.ensures c.in-Ok.is c.in-Full.is in
+    (rw c.in-Some.is at c.child_place.ensures.child) c.insert_from.ensures c.in-Ok.is c.in-Full.is in
     let inside = child_inside g.met.K.Ord.total c.args.level c.requires.node _ _ _ c.in-Full.key met.1.part (which_still met.1) in
     (search rules, (search rules, ((c.args.level, met.0, met.1.part), inside)))
 
 pub insert_from-requires-in-Ok-true : goal.insert_from-requires-in-Ok-true
 insert_from-requires-in-Ok-true g t c κs within =
     let met = is_full c.requires.node c.requires.part c.args.key g.met.K.Ord.total (rw c.in-Internal.is at c.node.ensures)
-    (rw c.in-Some.is at c.child_place_beyond.ensures.child) c.insert_from.ensures c.in-Ok.is c.in-Full.is in
+    (rw c.in-Some.is at c.child_place.ensures.child) c.insert_from.ensures c.in-Ok.is c.in-Full.is in
     let made = room_by_split met.1 c.requires.node (rw c.in-Ok-true.field-0-test at (c.in-Ok-true.ensures.done c.args.level met.0 met.1.part)) in
     let less = last_attempt met.1 c.requires.node made in
     let part = part_with_room met.1 c.requires.node made in
@@ -56,43 +56,43 @@ insert_from-requires-in-Ok-true g t c κs within =
 
 pub returns-in-Err : goal.returns-in-Err
 returns-in-Err g t c =
-    let which = goes c.requires.node c.requires.part c.args.key (rw c.in-Internal.is at c.node.ensures) (rw c.in-Some.is at c.child_place_beyond.ensures.child) in
+    let which = goes c.requires.node c.requires.part c.args.key (rw c.in-Internal.is at c.node.ensures) (rw c.in-Some.is at c.child_place.ensures.child) in
     inserts_in_node g.met.K.Ord.total c.args.level c.requires.node _ c.requires.part which (rw c.in-Err.is at c.insert_from.ensures) refl
 
 pub returns-in-Err-split_child : goal.returns-in-Err-split_child
 returns-in-Err-split_child g t c =
     let met = is_full c.requires.node c.requires.part c.args.key g.met.K.Ord.total (rw c.in-Internal.is at c.node.ensures)
-    (rw c.in-Some.is at c.child_place_beyond.ensures.child) c.insert_from.ensures c.in-Ok.is c.in-Full.is in
+    (rw c.in-Some.is at c.child_place.ensures.child) c.insert_from.ensures c.in-Ok.is c.in-Full.is in
     refused_room met.1 c.requires.node c.in-Err-split_child.ensures.err (rw (held_above _ _ c.args.level met.0) c.in-Err-split_child.ensures.many)
 
 pub returns-in-Ok-true : goal.returns-in-Ok-true
 returns-in-Ok-true g t c =
     let met = is_full c.requires.node c.requires.part c.args.key g.met.K.Ord.total (rw c.in-Internal.is at c.node.ensures)
-    (rw c.in-Some.is at c.child_place_beyond.ensures.child) c.insert_from.ensures c.in-Ok.is c.in-Full.is in
+    (rw c.in-Some.is at c.child_place.ensures.child) c.insert_from.ensures c.in-Ok.is c.in-Full.is in
     let made = room_by_split met.1 c.requires.node (rw c.in-Ok-true.field-0-test at (c.in-Ok-true.ensures.done c.args.level met.0 met.1.part)) in
     retried met.1 c.requires.node made _ c.insert_from-in-Ok-true.ensures
 
 pub returns-in-Ok-false : goal.returns-in-Ok-false
 returns-in-Ok-false g t c =
     let met = is_full c.requires.node c.requires.part c.args.key g.met.K.Ord.total (rw c.in-Internal.is at c.node.ensures)
-    (rw c.in-Some.is at c.child_place_beyond.ensures.child) c.insert_from.ensures c.in-Ok.is c.in-Full.is in
+    (rw c.in-Some.is at c.child_place.ensures.child) c.insert_from.ensures c.in-Ok.is c.in-Full.is in
     no_room_either met.1 c.requires.node (rw c.in-Ok-false.field-0-test at (c.in-Ok-false.ensures.done c.args.level met.0 met.1.part))
 
 pub returns-in_default-answer : goal.returns-in_default-answer
 returns-in_default-answer g t c =
-    let which = goes c.requires.node c.requires.part c.args.key (rw c.in-Internal.is at c.node.ensures) (rw c.in-Some.is at c.child_place_beyond.ensures.child) in
+    let which = goes c.requires.node c.requires.part c.args.key (rw c.in-Internal.is at c.node.ensures) (rw c.in-Some.is at c.child_place.ensures.child) in
     inserts_in_node g.met.K.Ord.total c.args.level c.requires.node _ c.requires.part which (rw c.in-Ok.is at c.insert_from.ensures)
     (no_split _ c.in_default-answer.not-Full)
 
-pub returns-in_default-child_place_beyond : goal.returns-in_default-child_place_beyond
-returns-in_default-child_place_beyond g t c =
-    let none = rw c.in_default-child_place_beyond.is at c.child_place_beyond-in-Leaf.ensures.child in
+pub returns-in_default-child_place : goal.returns-in_default-child_place
+returns-in_default-child_place g t c =
+    let none = rw c.in_default-child_place.is at c.child_place-in-Leaf.ensures.child in
     absurd (has_some c.requires.node c.requires.part c.args.key (rw c.in-Leaf.is at c.node.ensures) none)
 
 pub insert_under_leaf_node-requires : goal.insert_under_leaf_node-requires
 insert_under_leaf_node-requires g t c =
     let here = rw c.in-Leaf.is at c.node.ensures in
-    let which = goes c.requires.node c.requires.part c.args.key here (rw c.in-Some-child_place_beyond.is at c.child_place_beyond-in-Leaf.ensures.child) in
+    let which = goes c.requires.node c.requires.part c.args.key here (rw c.in-Some-child_place.is at c.child_place-in-Leaf.ensures.child) in
     let one = outer_level c.args.level c.requires.node _ _ c.requires.part _ here in
     (search (rules, fits), (search (rules, fits), (rw one at c.requires.part, which)))
 
