@@ -58,9 +58,7 @@ fn nearest_at<'t, K: Ord + Drop, V: Drop, S: EndWay, T: ChildWalk, const LEN: us
     requires linked { IsLinked level arenas.now id }
     ensures { Approximates K.cmp S.way level arenas.now id (Included key.now) result }
 {
-    let Some((last, _)) = first_at::<K, V, T, LEN>(arenas, level, id) else {
-        return None;
-    };
+    let (last, _) = first_at::<K, V, T, LEN>(arenas, level, id)?;
     if !S::meets(Bound::Included(key), last) {
         return None;
     }

@@ -4,7 +4,6 @@ ghost use Rattle.tree_walk.specs.Ends.{BeginsPart, FindsFirst, IsLinked};
 ghost use Rattle.tree_node.specs.Tree.{StandsOrRetired, leaves_at, walk};
 
 use crate::children::{ChildWalk, ChildrenOf};
-use crate::leaves::array_of;
 use tree_chain::LinkedIter;
 use tree_leaf::arena::{LeafId, NodeId};
 use tree_leaf::leaf::LeafOf;
@@ -43,7 +42,7 @@ fn end_leaf_at<K: Ord + Drop, V: Drop, S: ChildWalk, const LEN: usize>(
         NodeOf::Leaf(node) => {
             let leaves = ChildrenOf::<K, LeafId, S, LEN>::new(&node.children, node.unbounded_child);
             for leaf in leaves {
-                if !array_of(arenas, leaf).is_empty() {
+                if !arenas.leaf(leaf).array().is_empty() {
                     return Some(leaf);
                 }
             }

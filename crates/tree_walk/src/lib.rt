@@ -3,5 +3,4 @@
 
 pub mod children;
 pub mod ends;
-mod leaves;
 pub mod spare;

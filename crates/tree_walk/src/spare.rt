@@ -8,7 +8,6 @@ ghost use Rattle.tree_node.specs.Tree.{StandsOrRetired, leaves_at};
 ghost use Rattle.tree_node.specs.Whole.{root_at, spare_under};
 
 use crate::children::ChildrenOn;
-use crate::leaves::array_of;
 use tree_array::array::ArrayOf;
 use tree_leaf::arena::{LeafId, NodeId};
 use tree_node::node::{ArenasOf, NodeOf};
@@ -72,7 +71,7 @@ fn spare_in<K: Ord + Drop, V: Drop, const LEN: usize>(
     requires { ContainsKey arenas.now.leaves leaf }
     ensures { result ≡ leaf_spare arenas.now.leaves leaf }
 {
-    let array = array_of(arenas, leaf);
+    let array = arenas.leaf(leaf).array();
     let count = array.len();
     let left = slots_left_in(array) as usize;
     if count + left <= LEN * 3 / 4 {

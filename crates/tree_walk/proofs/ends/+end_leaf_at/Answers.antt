@@ -11,16 +11,16 @@ loop-leaf-init g t c =
     let over = leaf_node_over g.K.Ord.cmp c.args.arenas.now c.args.id c.args.level c.requires.node c.requires.stands g.S.SlotWalk.way c.into_iter-leaf-iterator.result c.in-Leaf.node (rw c.in-Leaf.is at c.node.ensures) (c.into_iter-leaf-iterator.ensures.into_iter_gives ∙ c.new-leaves.ensures) in
     record { each = over.each; suffices = λ result found. rw over.leaves found }
 
-pub array_of-requires : goal.array_of-requires
-array_of-requires g t c = search (rules, fits, (rw c.in-Some.ensures.steps at c.loop-leaf.invariant.each).0)
+pub leaf-requires : goal.leaf-requires
+leaf-requires g t c = search (rules, fits, (rw c.in-Some.ensures.steps at c.loop-leaf.invariant.each).0)
 
 pub returns-then-not-is_empty : goal.returns-then-not-is_empty
 returns-then-not-is_empty g t c = stops _ _ _ _ _ c.loop-leaf.invariant _ _ c.in-Some.ensures.steps (Some c.in-Some.leaf)
-    (alone_with c.args.arenas.now.leaves c.in-Some.leaf _ (rw c.array_of.ensures.entries c.is_empty.ensures.1) c.if-not-is_empty.true _) refl
+    (alone_with c.args.arenas.now.leaves c.in-Some.leaf _ (rw (c.leaf.ensures, ← c.array.ensures) c.is_empty.ensures.1) c.if-not-is_empty.true _) refl
 
 pub loop-leaf-preserved : goal.loop-leaf-preserved
 loop-leaf-preserved g t c = goes_on _ _ _ _ _ c.loop-leaf.invariant _ _ c.in-Some.ensures.steps None
-    (alone_without c.args.arenas.now.leaves c.in-Some.leaf (rw c.array_of.ensures.entries (c.is_empty.ensures.0 c.if-not-is_empty.false))) refl
+    (alone_without c.args.arenas.now.leaves c.in-Some.leaf (rw (c.leaf.ensures, ← c.array.ensures) (c.is_empty.ensures.0 c.if-not-is_empty.false))) refl
 
 pub returns-in-None : goal.returns-in-None
 returns-in-None g t c = nowhere _ _ _ _ _ c.loop-leaf.invariant c.in-None.ensures.steps.0
