@@ -149,6 +149,13 @@ impl ArrayIter {
 }
 
 impl ArrayRevIter {
+    /// Creates a walk that stands before the slot of the greatest key. Makes no comparisons.
+    pub fn new<K: Ord + Drop, V: Drop, const LEN: usize>(array: &ArrayOf<K, V, LEN>) -> Self
+        ensures { result ≡ standing (slots_in_order K.cmp array.now) None }
+    {
+        ArrayIter::new(array).rev()
+    }
+
     /// Creates a walk that stands at the first slot whose key is greater than this one, or before that of the greatest key.
     /// Makes at most 4 comparisons (3 among 7 slots).
     #[inline(always)]
