@@ -4,14 +4,20 @@ import os
 TOP = os.path.dirname(os.path.dirname(os.path.abspath(__file__)))
 
 
-def below_each():
-    """The crates that crates.txt names, each with those of this repository that it stands on."""
+def libraries_of_each():
+    """The crates that crates.txt names, each with the libraries that it uses: other crates, and those of the toolchain."""
     found = {}
     with open(os.path.join(TOP, "crates.txt"), encoding="utf-8") as lines:
         for line in lines:
             name, colon, below = line.partition("#")[0].partition(":")
             if colon:
                 found[name.split()[0]] = below.split()
+    return found
+
+
+def below_each():
+    """The same with those of this repository alone."""
+    found = libraries_of_each()
     return {name: [it for it in below if it in found] for name, below in found.items()}
 
 
