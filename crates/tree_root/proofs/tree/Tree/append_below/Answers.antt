@@ -11,3 +11,6 @@ unreachable-requires g c =
     let absent = absent_beyond g.K.Ord.cmp _ c.args.key c.requires.beyond in
     let none = rw absent at stores.pairs.1 in
     cc
+
+pub last_leaf-requires : goal.last_leaf-requires
+last_leaf-requires g c = search fits

@@ -13,3 +13,6 @@ returns-clause-pairs g c = sym (append-nil _) ∙ c.in_ok-append_sorted.ensures.
 
 pub returns-clause-packed : goal.returns-clause-packed
 returns-clause-packed g c = c.in_ok-append_sorted.ensures.packed (rw c.in_ok-tree.ensures.root refl)
+
+pub drop-tree-requires : goal.drop-tree-requires
+drop-tree-requires g c = search fits

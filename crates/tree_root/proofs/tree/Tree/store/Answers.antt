@@ -53,3 +53,6 @@ returns-in-Full g c =
 
 pub returns-in_default : goal.returns-in_default
 returns-in_default g c = c.store_first.ensures _
+
+pub store_first-requires : goal.store_first-requires
+store_first-requires g c = search fits

@@ -26,3 +26,6 @@ div_ceil-requires g c = elim c.requires [ inl is ↦ omega (arith, is) | inr is 
 
 pub reserve-requires : goal.reserve-requires
 reserve-requires g c = search fits
+
+pub drop-tree-requires : goal.drop-tree-requires
+drop-tree-requires g c = search fits
