@@ -33,7 +33,7 @@ pub use Rattle.tree_model.specs.declared.moves.Move.{Move}
 pub use Rattle.tree_model.specs.declared.moves.Move.TheVariants.{Flip, Get, GetBack, Next, NextBack}
 pub use Rattle.tree_model.specs.declared.proximity.ProximityOf.{ProximityOf}
 pub use Rattle.tree_model.specs.declared.proximity.ProximityOf.TheVariants.{Between, Empty, Exact, Larger, Smaller}
-pub use Rattle.tree_node.proofs.Common.{IsTree, StandsOrRetired, TreeArenas, get, walk, walk_under}
+pub use Rattle.tree_node.proofs.Common.{IsTree, StandsOrRetired, TreeArenas, fits, get, walk, walk_under}
 pub use Rattle.tree_node.proofs.Standing.{no_children}
 pub use Rattle.tree_node.proofs.Walks.{walk_ascends}
 pub use Rattle.tree_node.specs.declared.node.Root.{Root}

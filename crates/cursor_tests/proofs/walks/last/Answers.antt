@@ -6,3 +6,6 @@ range-range-requires g c = search fits
 
 pub next_back-requires : goal.next_back-requires
 next_back-requires g c = search fits
+
+pub numbers-requires : goal.numbers-requires
+numbers-requires g c = search fits

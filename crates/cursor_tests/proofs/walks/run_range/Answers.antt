@@ -6,3 +6,6 @@ range-requires g c = search fits
 
 pub expect_range_at_once-requires : goal.expect_range_at_once-requires
 expect_range_at_once-requires g c = search fits
+
+pub bounds-requires : goal.bounds-requires
+bounds-requires g c = search fits

@@ -6,3 +6,6 @@ range-requires g c = search fits
 
 pub expect_stepped-requires : goal.expect_stepped-requires
 expect_stepped-requires g c = search fits
+
+pub bounds-requires : goal.bounds-requires
+bounds-requires g c = search fits

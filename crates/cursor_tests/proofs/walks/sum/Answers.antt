@@ -6,3 +6,9 @@ into_iter-key-iterator-requires g c = search fits
 
 pub next-requires : goal.next-requires
 next-requires g c = search fits
+
+pub saturating_add-requires : goal.saturating_add-requires
+saturating_add-requires g c = search fits
+
+pub saturating_add-sum-requires : goal.saturating_add-sum-requires
+saturating_add-sum-requires g c = search fits

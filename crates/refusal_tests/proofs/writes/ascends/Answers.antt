@@ -9,3 +9,6 @@ next-requires g c = search fits
 
 pub next-requires-2 : goal.next-requires-2
 next-requires-2 g c = search fits
+
+pub is_some_and-requires : goal.is_some_and-requires
+is_some_and-requires g c = search fits

@@ -9,3 +9,9 @@ next_back-requires g c = search fits
 
 pub next_back-requires-2 : goal.next_back-requires-2
 next_back-requires-2 g c = search fits
+
+pub next-requires : goal.next-requires
+next-requires g c = search fits
+
+pub is_some_and-requires : goal.is_some_and-requires
+is_some_and-requires g c = search fits

@@ -9,3 +9,6 @@ next-requires g c = search fits
 
 pub next_back-requires : goal.next_back-requires
 next_back-requires g c = search fits
+
+pub is_some_and-is_first-requires : goal.is_some_and-is_first-requires
+is_some_and-is_first-requires g c = search fits

@@ -23,3 +23,21 @@ leaf_count-requires g c = search fits
 
 pub node_count-requires : goal.node_count-requires
 node_count-requires g c = search fits
+
+pub len-requires : goal.len-requires
+len-requires g c = search fits
+
+pub is_empty-requires : goal.is_empty-requires
+is_empty-requires g c = search fits
+
+pub expect-requires : goal.expect-requires
+expect-requires g c = search fits
+
+pub depth-requires : goal.depth-requires
+depth-requires g c = search fits
+
+pub expect-requires-2 : goal.expect-requires-2
+expect-requires-2 g c = search fits
+
+pub expect-requires-3 : goal.expect-requires-3
+expect-requires-3 g c = search fits

@@ -42,3 +42,15 @@ walk_node-requires-in-Internal g t c κs within =
     let inner : 0 < c.args.level - 1 = over.inner in
     let stands : StandsOrRetired nat_cmp (c.args.level - 1) c.args.arenas.now c.in-Some-unbounded_child.last = holds_at_last c.children-children.result.now _ _ (rw (← c.children-children.ensures) at over.stand) in
     (search rules, (within, (search rules, (search fits, (search fits, (inner, stands))))))
+
+pub saturating_add-met-requires : goal.saturating_add-met-requires
+saturating_add-met-requires g t c = search fits
+
+pub expect-requires : goal.expect-requires
+expect-requires g t c = search fits
+
+pub next-requires : goal.next-requires
+next-requires g t c = search fits
+
+pub separator-requires : goal.separator-requires
+separator-requires g t c = search fits

@@ -25,3 +25,18 @@ pub leaf-requires-2 : goal.leaf-requires-2
 leaf-requires-2 g c =
     let there : ContainsKey c.args.arenas.now.leaves c.args.last = holds_at_last c.args.keyed.now c.args.last _ c.requires in
     search (rules, fits)
+
+pub new-slot-items-requires : goal.new-slot-items-requires
+new-slot-items-requires g c = search fits
+
+pub next-requires : goal.next-requires
+next-requires g c = search fits
+
+pub leaf-requires-in-loop-slot : goal.leaf-requires-in-loop-slot
+leaf-requires-in-loop-slot g c = search fits
+
+pub separator-requires : goal.separator-requires
+separator-requires g c = search fits
+
+pub leaf-requires-3 : goal.leaf-requires-3
+leaf-requires-3 g c = search fits

@@ -1,4 +1,5 @@
 use Rattle.std.proofs.Common.{true, false}
+use Rattle.tree_ranges.proofs.Common.{fits}
 use Rattle.tree_ranges.proofs.Flips.{flips_one, flips_same}
 use Rattle.tree_ranges.proofs.range.RangeOf+K+V+LEN.flip.Goals as goal
 
@@ -35,3 +36,9 @@ invariant_of-self-2 g c =
 pub returns : goal.returns
 returns g c = rw (← c.self.view_is, c.replace-2.ensures.after, c.turned-self-inside-2.ensures, c.replace-2.ensures.value)
     (flips_one g.met.K.Ord.total _ _ _ _ _ _ c.self.invariant false false (cc) (cc) _ (rw (← c.self.view_is) at c.get.ensures.pair) (rw c.if-is_none-2.false at c.is_none-2.ensures))
+
+pub turned-self-inside-requires : goal.turned-self-inside-requires
+turned-self-inside-requires g c = search fits
+
+pub turned-self-inside-requires-2 : goal.turned-self-inside-requires-2
+turned-self-inside-requires-2 g c = search fits

@@ -6,3 +6,6 @@ index-requires g c = search fits
 
 pub write-requires-room-D-Display : goal.write-requires-room-D-Display
 write-requires-room-D-Display g c κs within = search fits
+
+pub history-history-requires : goal.history-history-requires
+history-history-requires g c = search fits

@@ -1,0 +1,26 @@
+use Rattle.tree_node.proofs.Common.{fits}
+use Rattle.cursor_tests.proofs.walks.expect_two_keys.Goals as goal
+
+pub next-requires : goal.next-requires
+next-requires g c = search fits
+
+pub numbers-requires : goal.numbers-requires
+numbers-requires g c = search fits
+
+pub next-requires-2 : goal.next-requires-2
+next-requires-2 g c = search fits
+
+pub numbers-requires-2 : goal.numbers-requires-2
+numbers-requires-2 g c = search fits
+
+pub next-requires-3 : goal.next-requires-3
+next-requires-3 g c = search fits
+
+pub numbers-requires-3 : goal.numbers-requires-3
+numbers-requires-3 g c = search fits
+
+pub next_back-requires : goal.next_back-requires
+next_back-requires g c = search fits
+
+pub numbers-requires-4 : goal.numbers-requires-4
+numbers-requires-4 g c = search fits
