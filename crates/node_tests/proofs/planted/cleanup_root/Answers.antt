@@ -6,3 +6,9 @@ use Rattle.node_tests.proofs.planted.cleanup_root.Goals as goal
 pub lower-requires : goal.lower-requires
 lower-requires g c =
     (search fits, (search fits, (c.requires.node, (planted_given nat_cmp c.args.arenas.now c.args.root g.row.LEVEL c.requires.planted, planted_kind nat_cmp c.args.arenas.now c.args.root g.row.LEVEL c.requires.planted))))
+
+pub leaf_count-requires : goal.leaf_count-requires
+leaf_count-requires g c = search fits
+
+pub node_count-requires : goal.node_count-requires
+node_count-requires g c = search fits

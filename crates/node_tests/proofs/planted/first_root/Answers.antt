@@ -16,3 +16,9 @@ returns g c =
     planted_over_one g.K.Ord.cmp _ c.in-Ok-add_node.root c.in-Ok.leaf (Leaf c.new-2.result) c.new.result
     c.in-Ok-add_node.ensures.nodes.updates.changed tt (ap (λ (a : Arrivals _ _). a.entries) c.new-2.ensures.keyed) c.new-2.ensures.unbounded
     (rw c.add_node.ensures.leaves c.in-Ok.ensures.leaves.updates.changed) c.new.ensures.array c.new.ensures.prev c.new.ensures.next
+
+pub drop-requires : goal.drop-requires
+drop-requires g c = search fits
+
+pub add_node-requires : goal.add_node-requires
+add_node-requires g c = search fits

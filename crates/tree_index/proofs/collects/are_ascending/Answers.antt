@@ -1,3 +1,4 @@
+use Rattle.tree_node.proofs.Common.{fits}
 use Rattle.std.proofs.Common.{refl, sym, ◌∙◌}
 use Rattle.tree_index.proofs.Sorted.{few_ascend, one_more_ascends}
 use Rattle.tree_index.proofs.collects.are_ascending.Goals as goal
@@ -9,3 +10,6 @@ loop-rest-preserved g c =
 
 pub returns : goal.returns
 returns g c = ((λ _. c.loop-rest.invariant.whole (few_ascend g.met.K.Ord.total c.loop-rest.rest.now c.in_default.len_below)), (λ _. refl))
+
+pub is_ge-requires : goal.is_ge-requires
+is_ge-requires g c = search fits

@@ -41,3 +41,6 @@ returns-clause-refused g c =
     let taken = takes_first g.met.K.Ord.total On _ _ _ c.in_default.ensures.steps c.loop-key.invariant.begun in
     let from = from_low g.K.Ord.cmp (bound_map (λ k. k.now) c.args.low) (pairs_of c.args.tree.now) c.new-pairs.result c.new-pairs.ensures in
     rw from at (passed_all g.F.FnMut c.args.keep _ c.loop-key.keep _ c.loop-key.invariant.asked taken.1.0)
+
+pub entry_for-requires : goal.entry_for-requires
+entry_for-requires g c = search fits

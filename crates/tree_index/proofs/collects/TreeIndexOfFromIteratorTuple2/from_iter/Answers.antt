@@ -16,3 +16,6 @@ returns g c =
     let ran = c.in_ok-extend.ensures.ran in
     let put : List (g.row.K.Denot × g.row.V.Denot) → List (g.row.K.Denot × g.row.V.Denot) = λ l. puts g.K.Ord.cmp l ran.1 in
     record { ran = (ran.0, ran.1, rw ran.2 c.into_iter-pairs.ensures.into_iter_gives, (ran.4.1.0, ran.4.1.1, λ _. (ran.4.0, ran.4.1.2)), ran.3 ∙ ap put c.new-index.ensures.pairs) }
+
+pub drop-index-requires : goal.drop-index-requires
+drop-index-requires g c = search fits

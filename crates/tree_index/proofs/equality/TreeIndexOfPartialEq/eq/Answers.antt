@@ -24,3 +24,9 @@ pub returns-else-len : goal.returns-else-len
 returns-else-len g c =
     let differ : nat_eq c.len.result c.len-2.result ≡ false = unequal_test _ _ c.if-len.false in
     rw differ (sym (unequal _ _ _ (λ same. c.if-len.false (c.len.ensures ∙ ap (λ n. min n 18446744073709551615) same ∙ sym c.len-2.ensures))))
+
+pub len-requires : goal.len-requires
+len-requires g c = search fits
+
+pub len-requires-2 : goal.len-requires-2
+len-requires-2 g c = search fits

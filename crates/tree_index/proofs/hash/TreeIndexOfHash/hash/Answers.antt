@@ -16,3 +16,6 @@ returns g c =
     let pairs = rw (c.iter.ensures, all_left g.K.Ord.cmp c.args.self.now.pairs) at c.feed.ensures in
     let input : g.row.K.Denot × g.row.V.Denot → HashWrites = λ p. g.K.Hash.hash_input p.0 ++ g.V.Hash.hash_input p.1 in
     fed_then g.H.Hasher.write c.args.state.now c.hash.new.state c.feed.new.state (usize (min (length c.args.self.now.pairs) 18446744073709551615)) (flat_map input c.args.self.now.pairs) counted pairs
+
+pub len-requires : goal.len-requires
+len-requires g c = search fits

@@ -1,3 +1,4 @@
+use Rattle.tree_node.proofs.Common.{fits}
 use Rattle.tree_index.proofs.Indexed.{inserted, not_inserted}
 use Rattle.tree_index.proofs.index.TreeIndexOf.insert_sync.Goals as goal
 
@@ -15,3 +16,6 @@ returns-in-Err-clause-spare g c = (not_inserted g.row.LEN g.K.Ord.cmp _ _ c.args
 
 pub returns-in-Ok-clause-packed : goal.returns-in-Ok-clause-packed
 returns-in-Ok-clause-packed g c = (inserted g.row.LEN g.K.Ord.cmp _ _ c.args.key c.args.value c.in-Ok.field-0 c.in-Ok.ensures).3
+
+pub store-requires : goal.store-requires
+store-requires g c = search fits

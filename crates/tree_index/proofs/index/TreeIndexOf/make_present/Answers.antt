@@ -1,3 +1,4 @@
+use Rattle.tree_node.proofs.Common.{fits}
 use Rattle.std.proofs.Common.{refl}
 use Rattle.tree_index.specs.Present.{MakesPresent}
 use Rattle.tree_index.proofs.Puts.{same_error}
@@ -27,3 +28,9 @@ returns-in-Ok g c =
     let stored = c.in-Ok.ensures in
     let same = g.met.K.IndexKey.clone_equal _ _ c.in_ok-same.ensures.cases in
     ((c.args.key, c.args.value), finds_stored g.met.K.Ord.total g.row.LEN old new c.args.key c.args.value c.in_ok-same.same same stored.pairs.1, stands_stored g.met.K.Ord.total g.row.LEN old new c.args.key c.args.value stored.pairs.0 stored.pairs.1 stored.spare stored.packed)
+
+pub contains-requires : goal.contains-requires
+contains-requires g c = search fits
+
+pub insert_sync-requires : goal.insert_sync-requires
+insert_sync-requires g c = search fits

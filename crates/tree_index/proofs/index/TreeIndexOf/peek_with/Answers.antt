@@ -1,3 +1,4 @@
+use Rattle.tree_node.proofs.Common.{fits}
 use Rattle.std.proofs.Common.{refl}
 use Rattle.tree_index.proofs.index.TreeIndexOf.peek_with.Goals as goal
 
@@ -12,3 +13,6 @@ returns g c = rw c.in_ok-key.ensures.found (record {
   same_value = refl;
   returned = c.reader.ensures;
 })
+
+pub peek_entry-requires : goal.peek_entry-requires
+peek_entry-requires g c = search fits

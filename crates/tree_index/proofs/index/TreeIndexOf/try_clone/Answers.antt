@@ -19,3 +19,6 @@ invariant_of-result g c =
 
 pub returns : goal.returns
 returns g c = rw (← c.self.view_is) c.in_ok-append_clones.ensures.clones
+
+pub len-requires : goal.len-requires
+len-requires g c = search fits

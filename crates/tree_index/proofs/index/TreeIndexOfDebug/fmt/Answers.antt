@@ -6,3 +6,6 @@ iter-requires g c = (search fits, (search fits, (search fits, search fits)))
 
 pub list_pairs-requires : goal.list_pairs-requires
 list_pairs-requires g c = (search fits, (search fits, search fits))
+
+pub depth-depth-requires : goal.depth-depth-requires
+depth-depth-requires g c = search fits
