@@ -1,3 +1,4 @@
+use Rattle.tree_node.proofs.Common.{fits}
 use Rattle.tree_set.proofs.Moves.{begun_on, left_ascends, takes_on}
 use Rattle.tree_set.proofs.elements.ElementsOver+K+ArenasOf+K+unit+LEN+LeafOf+K+unit+LEN.take_first.Goals as goal
 
@@ -18,3 +19,6 @@ returns-in_err-element-clause-ascending g c = rw (← c.self.view_is) (left_asce
 
 pub returns-clause-ascending : goal.returns-clause-ascending
 returns-clause-ascending g c = rw (← c.self.view_is) (left_ascends g.K.Ord.cmp c.self.inside.pairs c.in_ok-element.ensures.steps.ascending)
+
+pub next-requires : goal.next-requires
+next-requires g c = search fits
