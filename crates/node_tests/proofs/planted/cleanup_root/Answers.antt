@@ -12,3 +12,9 @@ leaf_count-requires g c = search fits
 
 pub node_count-requires : goal.node_count-requires
 node_count-requires g c = search fits
+
+pub leaf_count-requires-room-N-Destruct : goal.leaf_count-requires-room-N-Destruct
+leaf_count-requires-room-N-Destruct g c κs = search fits
+
+pub node_count-requires-room-N-Destruct : goal.node_count-requires-room-N-Destruct
+node_count-requires-room-N-Destruct g c κs = search fits

@@ -22,3 +22,9 @@ drop-requires g c = search fits
 
 pub add_node-requires : goal.add_node-requires
 add_node-requires g c = search fits
+
+pub add_leaf-requires-room-N-Destruct : goal.add_leaf-requires-room-N-Destruct
+add_leaf-requires-room-N-Destruct g c κs within = search fits
+
+pub add_node-requires-room-N-Destruct : goal.add_node-requires-room-N-Destruct
+add_node-requires-room-N-Destruct g c κs within = search fits

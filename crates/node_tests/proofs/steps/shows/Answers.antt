@@ -18,3 +18,12 @@ shape-requires g c = search fits
 
 pub marks-requires : goal.marks-requires
 marks-requires g c = search fits
+
+pub finds-requires-room-S-Searched : goal.finds-requires-room-S-Searched
+finds-requires-room-S-Searched g c κs within = search fits
+
+pub finds-requires-room-S-Searched-2 : goal.finds-requires-room-S-Searched-2
+finds-requires-room-S-Searched-2 g c κs within = search fits
+
+pub finds-requires-room-S-Searched-3 : goal.finds-requires-room-S-Searched-3
+finds-requires-room-S-Searched-3 g c κs within = search fits
