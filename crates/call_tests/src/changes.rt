@@ -4,19 +4,7 @@ use std::alloc::{AllocError, Global};
 use std::process::Abort;
 use test_support::refusals::succeeds;
 use tree_index::{TreeIndex, TreeIndexOf};
-use tree_support::{Numbers, Scenario, succeeds_at_both_sizes};
-
-/// An index of numbers whose values are changed.
-trait Changes: Numbers {
-    /// Adds to the value at a key by `modify_sync`, and returns whether there is one.
-    fn add(&mut self, key: u64, amount: u64) -> bool;
-}
-
-impl<const LEN: usize> Changes for TreeIndexOf<u64, u64, LEN> {
-    fn add(&mut self, key: u64, amount: u64) -> bool {
-        self.modify_sync(&key, |value| value.wrapping_add(amount))
-    }
-}
+use tree_support::{MoreCalls, Numbers, Scenario, succeeds_at_both_sizes};
 
 /// The length, the depth and the spare.
 fn shape_of(index: &impl Numbers) -> (usize, usize, u8) {
@@ -24,7 +12,7 @@ fn shape_of(index: &impl Numbers) -> (usize, usize, u8) {
 }
 
 /// Replaces and changes the value at a key, which is there or isn't.
-fn expect_changed(rt: &impl Abort, index: &mut impl Changes, key: u64, there: bool) {
+fn expect_changed(rt: &impl Abort, index: &mut impl MoreCalls, key: u64, there: bool) {
     let old = if there { Ok(key) } else { Err(7) };
     assert!(rt; index.replace(key, 7) == old);
     assert!(rt; index.add(key, key) == there);
@@ -37,7 +25,7 @@ fn expect_changed(rt: &impl Abort, index: &mut impl Changes, key: u64, there: bo
 }
 
 /// Replaces and changes the value at each key up to the last, of which the even ones are present, and at one more.
-fn changes_all(rt: &impl Abort, index: &mut impl Changes) {
+fn changes_all(rt: &impl Abort, index: &mut impl MoreCalls) {
     let shape = shape_of(index);
     let end = (shape.0 as u64).wrapping_mul(2);
     for key in 0..=end {
@@ -52,8 +40,8 @@ struct Changing<'r, R> {
     rt: &'r R,
 }
 
-impl<R: Abort, I: Changes> Scenario<I> for Changing<'_, R> {
-    fn play(&self, index: &mut I) -> Result<(), AllocError> {
+impl<R: Abort> Scenario for Changing<'_, R> {
+    fn play<I: MoreCalls>(&self, index: &mut I) -> Result<(), AllocError> {
         for (count, is_emptied) in fills(index.pairs_a_leaf()) {
             refill(index, *count, *is_emptied)?;
             changes_all(self.rt, index);

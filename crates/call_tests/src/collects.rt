@@ -5,7 +5,7 @@ use std::iter::FromIterator;
 use std::process::Abort;
 use test_support::refusals::succeeds;
 use tree_index::{FromSortedError, SmallTreeIndex, TreeIndex, TreeIndexOf};
-use tree_support::{Numbers, Scenario, succeeds_at_both_sizes};
+use tree_support::{MoreCalls, Numbers, Scenario, succeeds_at_both_sizes};
 
 /// Returns the pairs of 0, 2, 4 and so on, so many, each with its key as its value.
 fn ascending(alloc: Global, count: u64) -> Result<Vec<(u64, u64)>, AllocError> {
@@ -17,23 +17,8 @@ fn ascending(alloc: Global, count: u64) -> Result<Vec<(u64, u64)>, AllocError> {
     Ok(pairs)
 }
 
-/// An index of numbers that takes pairs of a list.
-trait Extended: Numbers {
-    /// Calls `try_extend`.
-    fn extend(&mut self, pairs: Vec<(u64, u64)>) -> Result<(), AllocError>;
-}
-
-impl<const LEN: usize> Extended for TreeIndexOf<u64, u64, LEN> {
-    fn extend(&mut self, pairs: Vec<(u64, u64)>) -> Result<(), AllocError> {
-        match self.try_extend(pairs) {
-            Ok(()) => Ok(()),
-            Err(_) => Err(AllocError),
-        }
-    }
-}
-
 /// Stores pairs of three keys, of which two come twice. The later pairs of both are there then, and one more.
-fn extends(rt: &impl Abort, alloc: Global, index: &mut impl Extended) -> Result<(), AllocError> {
+fn extends(rt: &impl Abort, alloc: Global, index: &mut impl MoreCalls) -> Result<(), AllocError> {
     let length = index.len();
     let pairs = vec![in alloc; (1, 10), (3, 30), (1, 11), (5, 50), (3, 33)]?;
     index.extend(pairs)?;
@@ -49,8 +34,8 @@ struct Extending<'r, R> {
     alloc: Global,
 }
 
-impl<R: Abort, I: Extended> Scenario<I> for Extending<'_, R> {
-    fn play(&self, index: &mut I) -> Result<(), AllocError> {
+impl<R: Abort> Scenario for Extending<'_, R> {
+    fn play<I: MoreCalls>(&self, index: &mut I) -> Result<(), AllocError> {
         for (count, is_emptied) in fills(index.pairs_a_leaf()) {
             refill(index, *count, *is_emptied)?;
             extends(self.rt, self.alloc, index)?;
@@ -92,7 +77,7 @@ static DEPTHS: [(u64, usize); 5] = [(0, 0), (1, 1), (15, 1), (241, 2), (3616, 3)
 static SMALL_DEPTHS: [(u64, usize); 5] = [(0, 0), (1, 1), (7, 1), (57, 2), (400, 3)];
 
 /// An index was built of so many pairs.
-fn expect_built(rt: &impl Abort, index: &impl Numbers, (count, depth): (u64, usize)) {
+fn expect_built(rt: &impl Abort, index: &impl MoreCalls, (count, depth): (u64, usize)) {
     assert!(rt; index.len() as u64 == count && index.depth() == depth);
     let last = count.wrapping_sub(1).wrapping_mul(2);
     assert!(rt; count == 0 || index.last() == Some((last, last)));

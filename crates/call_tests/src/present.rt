@@ -3,28 +3,13 @@ use crate::{fills, refill};
 use std::alloc::AllocError;
 use std::process::Abort;
 use tree_index::TreeIndexOf;
-use tree_support::{Numbers, Scenario, succeeds_at_both_sizes};
-
-/// An index of numbers that lends the value at a key.
-trait Lends: Numbers {
-    /// Returns the value that `peek_or_insert` lends.
-    fn lent(&mut self, key: u64, value: u64) -> Result<u64, AllocError>;
-}
-
-impl<const LEN: usize> Lends for TreeIndexOf<u64, u64, LEN> {
-    fn lent(&mut self, key: u64, value: u64) -> Result<u64, AllocError> {
-        match self.peek_or_insert(key, value) {
-            Ok(value) => Ok(*value),
-            Err(_) => Err(AllocError),
-        }
-    }
-}
+use tree_support::{MoreCalls, Numbers, Scenario, succeeds_at_both_sizes};
 
 /// A key between the others and one behind them, each asked twice: the key, the value passed, and the one that stands.
 static ASKED: [(u64, u64, u64); 4] = [(1, 7, 7), (u64::MAX, 8, 8), (1, 5, 7), (u64::MAX, 6, 8)];
 
 /// Asks for the keys, of which two are new.
-fn asks(rt: &impl Abort, index: &mut impl Lends) -> Result<(), AllocError> {
+fn asks(rt: &impl Abort, index: &mut impl MoreCalls) -> Result<(), AllocError> {
     let length = index.len();
     for (key, value, stands) in &ASKED {
         let found = index.lent(*key, *value)?;
@@ -40,8 +25,8 @@ struct Asking<'r, R> {
     rt: &'r R,
 }
 
-impl<R: Abort, I: Lends> Scenario<I> for Asking<'_, R> {
-    fn play(&self, index: &mut I) -> Result<(), AllocError> {
+impl<R: Abort> Scenario for Asking<'_, R> {
+    fn play<I: MoreCalls>(&self, index: &mut I) -> Result<(), AllocError> {
         for (count, is_emptied) in fills(index.pairs_a_leaf()) {
             refill(index, *count, *is_emptied)?;
             asks(self.rt, index)?;

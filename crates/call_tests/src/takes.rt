@@ -3,32 +3,13 @@ use std::alloc::{AllocError, Global};
 use std::process::Abort;
 use test_support::refusals::succeeds;
 use tree_index::{TreeIndex, TreeIndexOf};
-use tree_support::{Numbers, Scenario, ascend, succeeds_at_both_sizes};
+use tree_support::{MoreCalls, Numbers, Scenario, ascend, succeeds_at_both_sizes};
 
 /// How many pairs an index has, at fifteen pairs a leaf: none, one, a full leaf, two leaves, and two and three levels.
 static COUNTS: [u64; 6] = [0, 1, 15, 16, 241, 3_616];
 
 /// The same at seven pairs a leaf.
 static SMALL_COUNTS: [u64; 6] = [0, 1, 7, 8, 57, 400];
-
-/// An index of numbers that keeps some of its pairs.
-trait Keeps: Numbers {
-    /// Keeps the even keys by `retain_sync`.
-    fn keep_even(&mut self);
-
-    /// Keeps the values above this one by `retain_sync`.
-    fn keep_larger(&mut self, most: u64);
-}
-
-impl<const LEN: usize> Keeps for TreeIndexOf<u64, u64, LEN> {
-    fn keep_even(&mut self) {
-        self.retain_sync(|key, _| key % 2 == 0);
-    }
-
-    fn keep_larger(&mut self, most: u64) {
-        self.retain_sync(|_, value| *value > most);
-    }
-}
 
 /// Empties an index and stores the pairs of 1 to `count`.
 fn fill(index: &mut impl Numbers, count: u64) -> Result<(), AllocError> {
@@ -37,7 +18,7 @@ fn fill(index: &mut impl Numbers, count: u64) -> Result<(), AllocError> {
 }
 
 /// Takes the first pair and the last one in turn, until none is left.
-fn expect_both_ends(rt: &impl Abort, index: &mut impl Numbers, count: u64) {
+fn expect_both_ends(rt: &impl Abort, index: &mut impl MoreCalls, count: u64) {
     for low in 1..=count / 2 {
         let high = count.wrapping_add(1).wrapping_sub(low);
         assert!(rt; pops(index) == [Some((low, low)), Some((high, high))]);
@@ -51,12 +32,12 @@ fn expect_both_ends(rt: &impl Abort, index: &mut impl Numbers, count: u64) {
 }
 
 /// Takes the first pair, and then the last one.
-fn pops(index: &mut impl Numbers) -> [Option<(u64, u64)>; 2] {
+fn pops(index: &mut impl MoreCalls) -> [Option<(u64, u64)>; 2] {
     [index.pop_first(), index.pop_last()]
 }
 
 /// Takes each pair by its key, the last one first, so that leaves at the end are emptied one after another.
-fn expect_by_key(rt: &impl Abort, index: &mut impl Numbers, count: u64) {
+fn expect_by_key(rt: &impl Abort, index: &mut impl MoreCalls, count: u64) {
     for key in (1..=count).rev() {
         assert!(rt; [index.take(key), index.take(key)] == [Some((key, key)), None]);
     }
@@ -64,7 +45,7 @@ fn expect_by_key(rt: &impl Abort, index: &mut impl Numbers, count: u64) {
 }
 
 /// Keeps the even keys, and then none.
-fn expect_retained(rt: &impl Abort, index: &mut impl Keeps, count: u64) {
+fn expect_retained(rt: &impl Abort, index: &mut impl MoreCalls, count: u64) {
     index.keep_even();
     assert!(rt; index.len() as u64 == count / 2);
     assert!(rt; count < 2 || index.first() == Some((2, 2)));
@@ -79,8 +60,8 @@ struct Taking<'r, R> {
     rt: &'r R,
 }
 
-impl<R: Abort, I: Keeps> Scenario<I> for Taking<'_, R> {
-    fn play(&self, index: &mut I) -> Result<(), AllocError> {
+impl<R: Abort> Scenario for Taking<'_, R> {
+    fn play<I: MoreCalls>(&self, index: &mut I) -> Result<(), AllocError> {
         let is_small = index.pairs_a_leaf() == 7;
         for count in if is_small { SMALL_COUNTS } else { COUNTS } {
             fill(index, count)?;

@@ -4,7 +4,7 @@ ghost use Rattle.std.specs.Iterator.{IsFinite};
 use std::alloc::AllocError;
 use std::process::Abort;
 use tree_index::{SmallTreeIndex, TreeIndex};
-use tree_support::{Numbers, Scenario, put, succeeds_at_both_sizes};
+use tree_support::{Numbers, OwnScenario, put, succeeds_by_own_calls};
 
 /// The end of a walk that is asked.
 #[derive(Clone, Copy)]
@@ -128,7 +128,7 @@ struct Asking<'r, R> {
     row: Row,
 }
 
-impl<R: Abort, I: Listed> Scenario<I> for Asking<'_, R> {
+impl<R: Abort, I: Listed> OwnScenario<I> for Asking<'_, R> {
     fn play(&self, index: &mut I) -> Result<(), AllocError> {
         let (last, steps) = self.row;
         store(index, last)?;
@@ -141,7 +141,7 @@ impl<R: Abort, I: Listed> Scenario<I> for Asking<'_, R> {
 fn both_ends_give_keys_and_values(rt: HostRuntime) {
     for row in &ROWS {
         let scenario = Asking { rt: &rt, row: *row };
-        assert!(rt; succeeds_at_both_sizes(rt.alloc(), &scenario));
+        assert!(rt; succeeds_by_own_calls(rt.alloc(), &scenario));
     }
 }
 
@@ -164,7 +164,7 @@ struct Taking<'r, R> {
     rt: &'r R,
 }
 
-impl<R: Abort, I: Listed> Scenario<I> for Taking<'_, R> {
+impl<R: Abort, I: Listed> OwnScenario<I> for Taking<'_, R> {
     fn play(&self, index: &mut I) -> Result<(), AllocError> {
         let last = if index.pairs_a_leaf() == 7 { 100 } else { 300 };
         store(index, last)?;
@@ -176,5 +176,5 @@ impl<R: Abort, I: Listed> Scenario<I> for Taking<'_, R> {
 #[test]
 fn gives_all_of_three_levels(rt: HostRuntime) {
     let scenario = Taking { rt: &rt };
-    assert!(rt; succeeds_at_both_sizes(rt.alloc(), &scenario));
+    assert!(rt; succeeds_by_own_calls(rt.alloc(), &scenario));
 }

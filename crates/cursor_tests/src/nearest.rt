@@ -1,7 +1,7 @@
 //! The pairs at both ends of an index, and the nearest ones beside its keys.
 use std::alloc::AllocError;
 use std::process::Abort;
-use tree_support::{Numbers, Scenario, ascend, succeeds_at_both_sizes};
+use tree_support::{MoreCalls, Scenario, ascend, succeeds_at_both_sizes};
 
 /// The key of a pair, if there is one.
 fn key_of(pair: Option<(u64, u64)>) -> Option<u64> {
@@ -10,7 +10,7 @@ fn key_of(pair: Option<(u64, u64)>) -> Option<u64> {
 }
 
 /// The keys nearest to a key, from below and from above.
-fn nearest(index: &impl Numbers, key: u64) -> (Option<u64>, Option<u64>) {
+fn nearest(index: &impl MoreCalls, key: u64) -> (Option<u64>, Option<u64>) {
     (
         key_of(index.at_or_below(key)),
         key_of(index.at_or_above(key)),
@@ -18,12 +18,12 @@ fn nearest(index: &impl Numbers, key: u64) -> (Option<u64>, Option<u64>) {
 }
 
 /// The first and the last key.
-fn ends(index: &impl Numbers) -> (Option<u64>, Option<u64>) {
+fn ends(index: &impl MoreCalls) -> (Option<u64>, Option<u64>) {
     (key_of(index.first()), key_of(index.last()))
 }
 
 /// The first and the last of so many even keys, and what is beside keys beyond them.
-fn expect_ends(rt: &impl Abort, index: &impl Numbers, len: u32) {
+fn expect_ends(rt: &impl Abort, index: &impl MoreCalls, len: u32) {
     let top = 2 * u64::from(len);
     let (least, greatest) = if len > 0 {
         (Some(2), Some(top))
@@ -36,7 +36,7 @@ fn expect_ends(rt: &impl Abort, index: &impl Numbers, len: u32) {
 }
 
 /// What is beside each of so many even keys but the last, and beside the odd key above it.
-fn expect_beside(rt: &impl Abort, index: &impl Numbers, len: u32) {
+fn expect_beside(rt: &impl Abort, index: &impl MoreCalls, len: u32) {
     for number in 1..len {
         let key = 2 * u64::from(number);
         assert!(rt; nearest(index, key) == (Some(key), Some(key)));
@@ -45,7 +45,7 @@ fn expect_beside(rt: &impl Abort, index: &impl Numbers, len: u32) {
 }
 
 /// Removes every pair, the last one first, so that leaves at the end are emptied one after another.
-fn expect_emptied(rt: &impl Abort, index: &mut impl Numbers, len: u32) {
+fn expect_emptied(rt: &impl Abort, index: &mut impl MoreCalls, len: u32) {
     for number in (1..=len).rev() {
         assert!(rt; index.remove(2 * u64::from(number)));
         expect_ends(rt, index, number - 1);
@@ -62,8 +62,8 @@ struct Seeking<'r, R> {
     lengths: (u32, u32),
 }
 
-impl<R: Abort, I: Numbers> Scenario<I> for Seeking<'_, R> {
-    fn play(&self, index: &mut I) -> Result<(), AllocError> {
+impl<R: Abort> Scenario for Seeking<'_, R> {
+    fn play<I: MoreCalls>(&self, index: &mut I) -> Result<(), AllocError> {
         let (at_fifteen, at_seven) = self.lengths;
         let len = if index.pairs_a_leaf() == 7 {
             at_seven

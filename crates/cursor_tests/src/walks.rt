@@ -5,7 +5,10 @@ use std::ops::Bound;
 use std::process::Abort;
 use test_support::refusals::succeeds;
 use tree_index::{Cursor, IterOf, Move, ProximityOf, RangeOf, TreeIndex, TreeIndexOf, run_moves};
-use tree_support::{Numbers, Scenario, ascend, put, succeeds_at_both_sizes};
+use tree_support::{
+    MoreCalls, Numbers, OwnScenario, Scenario, ascend, put, succeeds_at_both_sizes,
+    succeeds_by_own_calls,
+};
 
 /// Pairs in the order in which they come, the bounds of a range over them, its moves with their answers, and then those
 /// of the cursor over all pairs that is made of it.
@@ -369,7 +372,7 @@ struct Walking<'r, R> {
     row: &'static Row,
 }
 
-impl<R: Abort, const LEN: usize> Scenario<TreeIndexOf<u64, u64, LEN>> for Walking<'_, R> {
+impl<R: Abort, const LEN: usize> OwnScenario<TreeIndexOf<u64, u64, LEN>> for Walking<'_, R> {
     fn play(&self, index: &mut TreeIndexOf<u64, u64, LEN>) -> Result<(), AllocError> {
         fill(index, self.row.pairs)?;
         expect_steps(self.rt, index, self.row);
@@ -385,7 +388,7 @@ fn walks_as_the_rows_say(rt: HostRuntime) {
             alloc: rt.alloc(),
             row,
         };
-        assert!(rt; succeeds_at_both_sizes(rt.alloc(), &scenario));
+        assert!(rt; succeeds_by_own_calls(rt.alloc(), &scenario));
     }
 }
 
@@ -429,7 +432,7 @@ struct Counting<'r, R> {
     rt: &'r R,
 }
 
-impl<R: Abort, const LEN: usize> Scenario<TreeIndexOf<u64, u64, LEN>> for Counting<'_, R> {
+impl<R: Abort, const LEN: usize> OwnScenario<TreeIndexOf<u64, u64, LEN>> for Counting<'_, R> {
     fn play(&self, index: &mut TreeIndexOf<u64, u64, LEN>) -> Result<(), AllocError> {
         let rt = self.rt;
         ascend(index, 1, 9, 1)?;
@@ -444,7 +447,7 @@ impl<R: Abort, const LEN: usize> Scenario<TreeIndexOf<u64, u64, LEN>> for Counti
 #[test]
 fn counts_what_is_within_the_bounds(rt: HostRuntime) {
     let scenario = Counting { rt: &rt };
-    assert!(rt; succeeds_at_both_sizes(rt.alloc(), &scenario));
+    assert!(rt; succeeds_by_own_calls(rt.alloc(), &scenario));
 }
 
 /// Moves a range over two keys in two leaves to its end, and then a clone of it.
@@ -483,32 +486,14 @@ fn a_clone_moves_alone(rt: HostRuntime) {
     assert!(rt; succeeds(rt.alloc(), || meets_at_a_leaf_steps(&rt, rt.alloc())));
 }
 
-/// The last pair that a fresh range over all pairs gives.
-fn last<const LEN: usize>(index: &TreeIndexOf<u64, u64, LEN>) -> Entry {
-    let mut range = index.range((Bound::Unbounded, Bound::Unbounded));
-    numbers(range.next_back())
-}
-
-/// An index of numbers whose last pair is found by a range.
-trait Ranged: Numbers {
-    /// The last pair.
-    fn last_in_range(&self) -> Entry;
-}
-
-impl<const LEN: usize> Ranged for TreeIndexOf<u64, u64, LEN> {
-    fn last_in_range(&self) -> Entry {
-        last(self)
-    }
-}
-
 /// Fills a leaf and puts a key into a new one, removes it, and then stores a larger one.
 #[derive(Drop)]
 struct Emptying<'r, R> {
     rt: &'r R,
 }
 
-impl<R: Abort, I: Ranged> Scenario<I> for Emptying<'_, R> {
-    fn play(&self, index: &mut I) -> Result<(), AllocError> {
+impl<R: Abort> Scenario for Emptying<'_, R> {
+    fn play<I: MoreCalls>(&self, index: &mut I) -> Result<(), AllocError> {
         let rt = self.rt;
         let key = index.pairs_a_leaf() as u64;
         let (before, behind) = (key.saturating_sub(1), key.saturating_add(1));
@@ -545,7 +530,7 @@ struct Locating<'r, R> {
     rt: &'r R,
 }
 
-impl<R: Abort, const LEN: usize> Scenario<TreeIndexOf<u64, u64, LEN>> for Locating<'_, R> {
+impl<R: Abort, const LEN: usize> OwnScenario<TreeIndexOf<u64, u64, LEN>> for Locating<'_, R> {
     fn play(&self, index: &mut TreeIndexOf<u64, u64, LEN>) -> Result<(), AllocError> {
         fill(index, &[(1, 1), (3, 2), (5, 3), (7, 4)])?;
         expect_between(self.rt, index);
@@ -556,5 +541,5 @@ impl<R: Abort, const LEN: usize> Scenario<TreeIndexOf<u64, u64, LEN>> for Locati
 #[test]
 fn stands_between_two_pairs(rt: HostRuntime) {
     let scenario = Locating { rt: &rt };
-    assert!(rt; succeeds_at_both_sizes(rt.alloc(), &scenario));
+    assert!(rt; succeeds_by_own_calls(rt.alloc(), &scenario));
 }

@@ -3,7 +3,7 @@ use std::alloc::{AllocError, Global};
 use std::process::Abort;
 use test_support::refusals::succeeds;
 use tree_index::TreeIndex;
-use tree_support::{Numbers, Scenario, ascend, succeeds_at_both_sizes};
+use tree_support::{MoreCalls, Numbers, Scenario, ascend, succeeds_at_both_sizes};
 
 /// How often one key was upserted, and the spare then, with fifteen slots and with seven.
 static SPARES: [(u64, u8); 9] = [
@@ -26,8 +26,8 @@ struct Rebuilding<'r, R> {
     rt: &'r R,
 }
 
-impl<R: Abort, I: Numbers> Scenario<I> for Rebuilding<'_, R> {
-    fn play(&self, index: &mut I) -> Result<(), AllocError> {
+impl<R: Abort> Scenario for Rebuilding<'_, R> {
+    fn play<I: MoreCalls>(&self, index: &mut I) -> Result<(), AllocError> {
         let is_small = index.pairs_a_leaf() == 7;
         let spares: &[(u64, u8)] = if is_small { &SMALL_SPARES } else { &SPARES };
         index.upsert(7, 1).map_err(|_| AllocError)?;

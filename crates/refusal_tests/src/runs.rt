@@ -5,7 +5,7 @@ use std::process::Abort;
 use test_support::refusals::is_out_of_memory;
 use tree_index::{Command, Reply, TreeIndexOf};
 use tree_runs::run;
-use tree_support::{Numbers, Scenario, flaws, succeeds_at_both_sizes};
+use tree_support::{Numbers, OwnScenario, flaws, succeeds_by_own_calls};
 
 /// Whether an insert and a look-up of the key were answered. Else the insert was refused, and the look-up found none.
 fn are_answered(rt: &impl Abort, replies: &[Reply<u64>], key: u64) -> bool {
@@ -98,7 +98,7 @@ struct Running<'r, R> {
     counts: (u64, u64),
 }
 
-impl<R: Abort, I: Runs> Scenario<I> for Running<'_, R> {
+impl<R: Abort, I: Runs> OwnScenario<I> for Running<'_, R> {
     fn play(&self, index: &mut I) -> Result<(), AllocError> {
         let (at_fifteen, at_seven) = self.counts;
         let is_small = index.pairs_a_leaf() == 7;
@@ -115,6 +115,6 @@ fn runs_again_what_was_refused(rt: HostRuntime) {
             alloc: rt.alloc(),
             counts: *counts,
         };
-        assert!(rt; succeeds_at_both_sizes(rt.alloc(), &scenario));
+        assert!(rt; succeeds_by_own_calls(rt.alloc(), &scenario));
     }
 }

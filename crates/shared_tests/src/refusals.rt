@@ -68,25 +68,14 @@ impl SameClone for Brittle {
     ghost clone_seen = { λ x y h. sym h };
 }
 
-/// Calls that are refused a clone leave entries, history and tally as they were, and are answered later.
-pub(crate) fn refused_calls<C: Ledger, S: Ledger, M: Ledger, F: Ledger, D: Ledger, R: Wait + Abort>(
+/// Calls that are refused a clone leave history and tally as they were, and are answered later.
+fn expect_refused<C: Ledger, S: Ledger, M: Ledger, F: Ledger, D: Ledger, R: Wait + Abort>(
     rt: &R,
-    alloc: Global,
-    workers: usize,
-    blanks: Blanks,
+    shared: &SharedTreeIndex<Brittle, Brittle, C, S, M, F, D>,
+    pass: &mut Pass<C, S, M, F, D>,
 ) -> Result<(), AllocError>
-    requires calls { IsBlankFor workers blanks.calls C.name C.parts }
-    requires stored { IsBlankFor workers blanks.stored S.name S.parts }
-    requires removed { IsBlankFor workers blanks.removed M.name M.parts }
-    requires found { IsBlankFor workers blanks.found F.name F.parts }
-    requires done { IsBlankFor workers blanks.done D.name D.parts }
+    requires { pass.old.calls ≤ 9 }
 {
-    let (shared, mut passes) = SharedTreeIndex::<Brittle, Brittle, C, S, M, F, D>::new(
-        alloc, workers, blanks,
-    )?;
-    let Some(pass) = passes.get_mut(0) else {
-        panic!(rt; "no pass")
-    };
     let Err(InsertError::OutOfMemory(key, value)) = shared.insert(
         rt,
         pass,
@@ -111,6 +100,29 @@ pub(crate) fn refused_calls<C: Ledger, S: Ledger, M: Ledger, F: Ledger, D: Ledge
     let after = pass.tally();
     assert!(rt; after == before && after.calls == 2);
     assert!(rt; shared.peek(rt, pass, &key)? == Some(Brittle::firm(10)));
+    Ok(())
+}
+
+/// Makes such calls, and closes the shared index. It has their one pair, and its history the calls that were answered.
+pub(crate) fn refused_calls<C: Ledger, S: Ledger, M: Ledger, F: Ledger, D: Ledger, R: Wait + Abort>(
+    rt: &R,
+    alloc: Global,
+    workers: usize,
+    blanks: Blanks,
+) -> Result<(), AllocError>
+    requires calls { IsBlankFor workers blanks.calls C.name C.parts }
+    requires stored { IsBlankFor workers blanks.stored S.name S.parts }
+    requires removed { IsBlankFor workers blanks.removed M.name M.parts }
+    requires found { IsBlankFor workers blanks.found F.name F.parts }
+    requires done { IsBlankFor workers blanks.done D.name D.parts }
+{
+    let (shared, mut passes) = SharedTreeIndex::<Brittle, Brittle, C, S, M, F, D>::new(
+        alloc, workers, blanks,
+    )?;
+    let Some(pass) = passes.get_mut(0) else {
+        panic!(rt; "no pass")
+    };
+    expect_refused(rt, &shared, pass)?;
     let Ok(closed) = shared.close(passes) else {
         panic!(rt; "not closed")
     };

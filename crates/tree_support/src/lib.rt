@@ -12,6 +12,6 @@ mod walker;
 pub use asked::Asked;
 pub use flaw::Flaw;
 pub use index::flaws;
-pub use numbers::{Numbers, ascend, put};
-pub use scenario::{Scenario, succeeds_at_both_sizes};
+pub use numbers::{MoreCalls, Numbers, ascend, put};
+pub use scenario::{OwnScenario, Scenario, succeeds_at_both_sizes, succeeds_by_own_calls};
 pub use walker::walk;

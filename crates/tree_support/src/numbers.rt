@@ -1,6 +1,7 @@
 //! An index of numbers, as its tests call it.
 use crate::walker::copied;
 use std::alloc::AllocError;
+use std::ops::Bound;
 use tree_index::{InsertError, TreeIndexOf};
 
 /// An index of numbers, as its tests call it.
@@ -29,11 +30,20 @@ pub trait Numbers {
     /// Calls `upsert_sync`.
     fn upsert(&mut self, key: u64, value: u64) -> Result<(), (u64, u64)>;
 
-    /// Calls `replace_sync`.
-    fn replace(&mut self, key: u64, value: u64) -> Result<u64, u64>;
-
     /// Calls `remove_sync`.
     fn remove(&mut self, key: u64) -> bool;
+
+    /// Calls `clear`.
+    fn clear(&mut self);
+
+    /// Calls `peek`.
+    fn peek(&self, key: u64) -> Option<u64>;
+}
+
+/// The calls that few tests make. So the proof of a test that passes an index as one of [`Numbers`] has none of them.
+pub trait MoreCalls: Numbers {
+    /// Calls `replace_sync`.
+    fn replace(&mut self, key: u64, value: u64) -> Result<u64, u64>;
 
     /// Calls `take_sync`.
     fn take(&mut self, key: u64) -> Option<(u64, u64)>;
@@ -43,12 +53,6 @@ pub trait Numbers {
 
     /// Calls `pop_last`.
     fn pop_last(&mut self) -> Option<(u64, u64)>;
-
-    /// Calls `clear`.
-    fn clear(&mut self);
-
-    /// Calls `peek`.
-    fn peek(&self, key: u64) -> Option<u64>;
 
     /// Calls `first`.
     fn first(&self) -> Option<(u64, u64)>;
@@ -61,6 +65,28 @@ pub trait Numbers {
 
     /// Calls `at_or_above`.
     fn at_or_above(&self, key: u64) -> Option<(u64, u64)>;
+
+    /// Returns the value that `peek_or_insert` lends.
+    fn lent(&mut self, key: u64, value: u64) -> Result<u64, AllocError>;
+
+    /// Adds to the value at a key by `modify_sync`, and returns whether there is one.
+    fn add(&mut self, key: u64, amount: u64) -> bool;
+
+    /// Calls `try_extend`.
+    fn extend(&mut self, pairs: Vec<(u64, u64)>) -> Result<(), AllocError>;
+
+    /// Keeps the even keys by `retain_sync`.
+    fn keep_even(&mut self);
+
+    /// Keeps the values above this one by `retain_sync`.
+    fn keep_larger(&mut self, most: u64);
+
+    /// Removes the pair of the key 1 by `remove_if_sync` if it has this value. Returns whether it did, and how often the
+    /// condition was asked.
+    fn remove_value(&mut self, wanted: u64) -> (bool, u64);
+
+    /// Returns the last pair of a range over all pairs.
+    fn last_in_range(&self) -> Option<(u64, u64)>;
 }
 
 impl<const LEN: usize> Numbers for TreeIndexOf<u64, u64, LEN> {
@@ -92,12 +118,22 @@ impl<const LEN: usize> Numbers for TreeIndexOf<u64, u64, LEN> {
         self.upsert_sync(key, value)
     }
 
-    fn replace(&mut self, key: u64, value: u64) -> Result<u64, u64> {
-        self.replace_sync(&key, value)
-    }
-
     fn remove(&mut self, key: u64) -> bool {
         self.remove_sync(&key)
+    }
+
+    fn clear(&mut self) {
+        TreeIndexOf::clear(self);
+    }
+
+    fn peek(&self, key: u64) -> Option<u64> {
+        TreeIndexOf::peek(self, &key).copied()
+    }
+}
+
+impl<const LEN: usize> MoreCalls for TreeIndexOf<u64, u64, LEN> {
+    fn replace(&mut self, key: u64, value: u64) -> Result<u64, u64> {
+        self.replace_sync(&key, value)
     }
 
     fn take(&mut self, key: u64) -> Option<(u64, u64)> {
@@ -110,14 +146,6 @@ impl<const LEN: usize> Numbers for TreeIndexOf<u64, u64, LEN> {
 
     fn pop_last(&mut self) -> Option<(u64, u64)> {
         TreeIndexOf::pop_last(self)
-    }
-
-    fn clear(&mut self) {
-        TreeIndexOf::clear(self);
-    }
-
-    fn peek(&self, key: u64) -> Option<u64> {
-        TreeIndexOf::peek(self, &key).copied()
     }
 
     fn first(&self) -> Option<(u64, u64)> {
@@ -134,6 +162,46 @@ impl<const LEN: usize> Numbers for TreeIndexOf<u64, u64, LEN> {
 
     fn at_or_above(&self, key: u64) -> Option<(u64, u64)> {
         copied(TreeIndexOf::at_or_above(self, &key))
+    }
+
+    fn lent(&mut self, key: u64, value: u64) -> Result<u64, AllocError> {
+        match self.peek_or_insert(key, value) {
+            Ok(value) => Ok(*value),
+            Err(_) => Err(AllocError),
+        }
+    }
+
+    fn add(&mut self, key: u64, amount: u64) -> bool {
+        self.modify_sync(&key, |value| value.wrapping_add(amount))
+    }
+
+    fn extend(&mut self, pairs: Vec<(u64, u64)>) -> Result<(), AllocError> {
+        match self.try_extend(pairs) {
+            Ok(()) => Ok(()),
+            Err(_) => Err(AllocError),
+        }
+    }
+
+    fn keep_even(&mut self) {
+        self.retain_sync(|key, _| key % 2 == 0);
+    }
+
+    fn keep_larger(&mut self, most: u64) {
+        self.retain_sync(|_, value| *value > most);
+    }
+
+    fn remove_value(&mut self, wanted: u64) -> (bool, u64) {
+        let mut asked = 0u64;
+        let removed = self.remove_if_sync(&1, |value| {
+            asked = asked.saturating_add(1);
+            *value == wanted
+        });
+        (removed, asked)
+    }
+
+    fn last_in_range(&self) -> Option<(u64, u64)> {
+        let mut range = self.range((Bound::Unbounded, Bound::Unbounded));
+        copied(range.next_back())
     }
 }
 

@@ -1,33 +1,56 @@
 //! What a test does with an index of either size.
+use crate::numbers::MoreCalls;
 use std::alloc::{AllocError, Global};
 use test_support::refusals::succeeds;
 use tree_index::{SmallTreeIndex, TreeIndex};
 
-/// What a test does with an index.
-pub trait Scenario<I> {
+/// What a test does with an index of numbers.
+///
+/// A test that passes an index pays for a proof of each call of its trait. A scenario has no type of index, so its test pays for
+/// none: the functions below pass the index, and are proved once.
+pub trait Scenario {
+    /// Plays it over an empty index. Returns `Err` if memory was refused on the way.
+    fn play<I: MoreCalls>(&self, index: &mut I) -> Result<(), AllocError>;
+}
+
+/// What a test does with an index by calls of its own, of a type of index.
+pub trait OwnScenario<I> {
     /// Plays it over an empty index. Returns `Err` if memory was refused on the way.
     fn play(&self, index: &mut I) -> Result<(), AllocError>;
 }
 
 /// Whether a scenario succeeds over an index of fifteen pairs a leaf and over one of seven, at once or, where memory was refused,
 /// the second time. So a test has no closure of its own, of which four functions would be proved.
-pub fn succeeds_at_both_sizes<
-    S: Scenario<TreeIndex<u64, u64>> + Scenario<SmallTreeIndex<u64, u64>>,
+pub fn succeeds_at_both_sizes<S: Scenario>(alloc: Global, scenario: &S) -> bool {
+    succeeds(alloc, || {
+        at_fifteen(alloc, scenario)?;
+        at_seven(alloc, scenario)
+    })
+}
+
+/// Plays a scenario. This function and the next ones own an index, so that no test has to: the loans of an owned index are what a
+/// proof costs most for.
+fn at_fifteen<S: Scenario>(alloc: Global, scenario: &S) -> Result<(), AllocError> {
+    let mut index: TreeIndex<u64, u64> = TreeIndex::new(alloc);
+    scenario.play(&mut index)
+}
+
+fn at_seven<S: Scenario>(alloc: Global, scenario: &S) -> Result<(), AllocError> {
+    let mut index: SmallTreeIndex<u64, u64> = SmallTreeIndex::new(alloc);
+    scenario.play(&mut index)
+}
+
+/// Whether a scenario by calls of its own succeeds, as [`succeeds_at_both_sizes`] tells.
+pub fn succeeds_by_own_calls<
+    S: OwnScenario<TreeIndex<u64, u64>> + OwnScenario<SmallTreeIndex<u64, u64>>,
 >(alloc: Global, scenario: &S) -> bool {
-    succeeds(alloc, || at_both_sizes(alloc, scenario))
+    succeeds(alloc, || {
+        own_at_fifteen(alloc, scenario)?;
+        own_at_seven(alloc, scenario)
+    })
 }
 
-/// Plays a scenario over both. The functions below own an index, so that no test has to: the loans of an owned index are what
-/// a proof costs most for.
-fn at_both_sizes<S: Scenario<TreeIndex<u64, u64>> + Scenario<SmallTreeIndex<u64, u64>>>(
-    alloc: Global,
-    scenario: &S,
-) -> Result<(), AllocError> {
-    at_fifteen(alloc, scenario)?;
-    at_seven(alloc, scenario)
-}
-
-fn at_fifteen<S: Scenario<TreeIndex<u64, u64>>>(
+fn own_at_fifteen<S: OwnScenario<TreeIndex<u64, u64>>>(
     alloc: Global,
     scenario: &S,
 ) -> Result<(), AllocError> {
@@ -35,7 +58,7 @@ fn at_fifteen<S: Scenario<TreeIndex<u64, u64>>>(
     scenario.play(&mut index)
 }
 
-fn at_seven<S: Scenario<SmallTreeIndex<u64, u64>>>(
+fn own_at_seven<S: OwnScenario<SmallTreeIndex<u64, u64>>>(
     alloc: Global,
     scenario: &S,
 ) -> Result<(), AllocError> {

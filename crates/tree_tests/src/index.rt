@@ -5,7 +5,7 @@ use std::fmt::Debug;
 use std::process::Abort;
 use test_support::refusals::succeeds;
 use tree_index::{InsertError, SmallTreeIndex, TreeIndex, TreeIndexOf};
-use tree_support::{Numbers, Scenario, put, succeeds_at_both_sizes};
+use tree_support::{MoreCalls, Numbers, Scenario, put, succeeds_at_both_sizes};
 
 /// The index of these pairs.
 fn index_of(alloc: Global, pairs: &[(u64, u64)]) -> Result<TreeIndex<u64, u64>, AllocError> {
@@ -16,24 +16,6 @@ fn index_of(alloc: Global, pairs: &[(u64, u64)]) -> Result<TreeIndex<u64, u64>, 
         }
     }
     Ok(index)
-}
-
-/// An index of numbers whose conditions are counted.
-trait Conditioned: Numbers {
-    /// Removes the pair of the key 1 by `remove_if_sync` if it has this value. Returns whether it did, and how often the
-    /// condition was asked.
-    fn remove_value(&mut self, wanted: u64) -> (bool, u64);
-}
-
-impl<const LEN: usize> Conditioned for TreeIndexOf<u64, u64, LEN> {
-    fn remove_value(&mut self, wanted: u64) -> (bool, u64) {
-        let mut asked = 0u64;
-        let removed = self.remove_if_sync(&1, |value| {
-            asked = asked.saturating_add(1);
-            *value == wanted
-        });
-        (removed, asked)
-    }
 }
 
 /// An insert of a key that is present keeps the first pair.
@@ -57,10 +39,7 @@ fn says_whether_it_removed(rt: &impl Abort, index: &mut impl Numbers) -> Result<
 static CONDITIONS: [(u64, bool, u64); 3] = [(0, false, 1), (10, true, 1), (10, false, 0)];
 
 /// The condition is asked once of a key that is present, and never of an absent one.
-fn asks_its_condition_once(
-    rt: &impl Abort,
-    index: &mut impl Conditioned,
-) -> Result<(), AllocError> {
+fn asks_its_condition_once(rt: &impl Abort, index: &mut impl MoreCalls) -> Result<(), AllocError> {
     put(index, 1, 10)?;
     for (wanted, removes, times) in &CONDITIONS {
         assert!(rt; index.remove_value(*wanted) == (*removes, *times));
@@ -74,8 +53,8 @@ struct Calls<'r, R> {
     rt: &'r R,
 }
 
-impl<R: Abort, I: Conditioned> Scenario<I> for Calls<'_, R> {
-    fn play(&self, index: &mut I) -> Result<(), AllocError> {
+impl<R: Abort> Scenario for Calls<'_, R> {
+    fn play<I: MoreCalls>(&self, index: &mut I) -> Result<(), AllocError> {
         keeps_the_first(self.rt, index)?;
         index.clear();
         says_whether_it_removed(self.rt, index)?;

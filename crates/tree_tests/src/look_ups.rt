@@ -11,7 +11,7 @@ use std::sync::ledger::{Blank, Ledger};
 use test_support::refusals::succeeds;
 use tree_array::array::{Judge, KeyJudge, Steps};
 use tree_index::{SmallTreeIndex, TreeIndex, TreeIndexOf};
-use tree_support::{Asked, Numbers, Scenario, put, succeeds_at_both_sizes};
+use tree_support::{Asked, Numbers, OwnScenario, put, succeeds_by_own_calls};
 
 /// What a judge looks a key up in.
 pub trait LookedUp<K: Ord> {
@@ -208,7 +208,7 @@ struct Asking<'r, R> {
     rt: &'r R,
 }
 
-impl<R: Abort, I: Numbers + LookedUp<u64>> Scenario<I> for Asking<'_, R> {
+impl<R: Abort, I: Numbers + LookedUp<u64>> OwnScenario<I> for Asking<'_, R> {
     fn play(&self, index: &mut I) -> Result<(), AllocError> {
         let rt = self.rt;
         for number in 1..=241u64 {
@@ -228,5 +228,5 @@ impl<R: Abort, I: Numbers + LookedUp<u64>> Scenario<I> for Asking<'_, R> {
 #[test]
 fn asks_the_key_it_finds(rt: HostRuntime) {
     let scenario = Asking { rt: &rt };
-    assert!(rt; succeeds_at_both_sizes(rt.alloc(), &scenario));
+    assert!(rt; succeeds_by_own_calls(rt.alloc(), &scenario));
 }

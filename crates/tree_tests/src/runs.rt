@@ -5,7 +5,7 @@ use std::process::Abort;
 use test_support::refusals::succeeds;
 use tree_index::{Command, Reply, TreeIndex, TreeIndexOf};
 use tree_runs::run;
-use tree_support::{Numbers, Scenario, succeeds_at_both_sizes};
+use tree_support::{Numbers, OwnScenario, succeeds_by_own_calls};
 
 /// Commands of every kind, and the reply to each by an index that was empty.
 static COMMANDS: [(Command<u64, u64>, Reply<u64>); 10] = [
@@ -25,7 +25,7 @@ static COMMANDS: [(Command<u64, u64>, Reply<u64>); 10] = [
 ];
 
 /// An index of numbers that runs commands.
-trait Runs: Numbers {
+trait Runs {
     /// Calls `run`.
     fn run(&mut self, commands: Vec<Command<u64, u64>>) -> Result<Vec<Reply<u64>>, AllocError>;
 }
@@ -64,7 +64,7 @@ struct Running<'r, R> {
     alloc: Global,
 }
 
-impl<R: Abort, I: Runs> Scenario<I> for Running<'_, R> {
+impl<R: Abort, I: Runs> OwnScenario<I> for Running<'_, R> {
     fn play(&self, index: &mut I) -> Result<(), AllocError> {
         let list = commands(self.alloc)?;
         let replies = index.run(list)?;
@@ -78,7 +78,7 @@ fn runs_every_command(rt: HostRuntime) {
         rt: &rt,
         alloc: rt.alloc(),
     };
-    assert!(rt; succeeds_at_both_sizes(rt.alloc(), &scenario));
+    assert!(rt; succeeds_by_own_calls(rt.alloc(), &scenario));
 }
 
 /// So many ascending inserts, and the depth then.
@@ -119,7 +119,11 @@ fn expect_grown(rt: &impl Abort, index: &impl Numbers, (count, depth): (u64, usi
 }
 
 /// Runs so many inserts as a row says after those of the row before it.
-fn run_rows(rt: &impl Abort, alloc: Global, index: &mut impl Runs) -> Result<(), AllocError> {
+fn run_rows(
+    rt: &impl Abort,
+    alloc: Global,
+    index: &mut (impl Runs + Numbers),
+) -> Result<(), AllocError> {
     let mut stored: u64 = 0;
     for row in &DEPTHS {
         run_inserts(alloc, index, stored.saturating_add(1), row.0)?;

@@ -17,6 +17,3 @@ pub returns : goal.returns
 returns g c =
     let given = internal_part nat_cmp g.row.LEVEL c.args.arenas.now c.args.root c.in-Some.last c.in-Internal.node c.requires.node c.requires.planted (rw c.in-Internal.is at c.node.ensures) (sym (rw c.in-Some.is at c.unbounded_child.ensures)) in
     planted_by_split nat_cmp g.row.LEVEL c.args.arenas.now c.split_node.new.arenas c.args.root c.in-Some.last c.split_node.result given.0.0 given.0.1 c.split_node.ensures.done c.split_node.ensures.err
-
-pub node-requires-room-N-Destruct : goal.node-requires-room-N-Destruct
-node-requires-room-N-Destruct g c κs = search fits

@@ -5,6 +5,7 @@ use Rattle.tree_lines.specs.Lines.{Says}
 use Rattle.tree_lines.specs.Progress.{Responds, answer_text}
 use Rattle.tree_requests.specs.Words.{ReadsAs}
 use Rattle.tree_requests.proofs.Spellings.{long_no_request}
+use Rattle.tree_node.proofs.Common.{fits}
 use Rattle.tree_lines.proofs.answers.answer_to.Goals as goal
 
 -- a line that is kept is kept whole
@@ -25,3 +26,12 @@ pub returns : goal.returns
 returns g c = λ begun kept.
     let whole = kept_whole (nat_le (length begun) 256) begun c.in-Some.text.now (sym (ap (option_map (λ text. text.now)) c.in-Some.is) ∙ c.text.ensures ∙ kept) in
     says_read g.row.LEN c.args.index.now.pairs c.respond.new.index.pairs begun c.in-Some.text.now (answer_text c.respond.new.index.pairs c.respond.result) c.request_of.result c.request_of.ensures c.respond.ensures whole
+
+pub text-requires : goal.text-requires
+text-requires g c = search fits
+
+pub request_of-requires : goal.request_of-requires
+request_of-requires g c = search fits
+
+pub respond-requires : goal.respond-requires
+respond-requires g c = search fits

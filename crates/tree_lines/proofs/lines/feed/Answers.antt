@@ -4,6 +4,7 @@ use Rattle.std.proofs.KnownBytes.{Appends-nil}
 use Rattle.tree_requests.specs.Lines.{with_feed}
 use Rattle.tree_lines.specs.Progress.{answer_text}
 use Rattle.tree_lines.proofs.Steps.{carries_byte, carries_line, breaks_line}
+use Rattle.tree_node.proofs.Common.{fits}
 use Rattle.tree_lines.proofs.lines.feed.Goals as goal
 
 -- the line goes on
@@ -21,3 +22,15 @@ returns-in_err-write_answer g c =
 pub returns : goal.returns
 returns g c =
     (with_feed (answer_text c.answer_to-answer.new.index.pairs c.answer_to-answer.result), c.in_ok-write_answer.ensures, rw (c.if-byte-ne10.false, c.clear.ensures) (carries_line g.row.LEN c.args.line.now c.args.index.now.pairs c.answer_to-answer.new.index.pairs (answer_text c.answer_to-answer.new.index.pairs c.answer_to-answer.result) c.answer_to-answer.ensures))
+
+pub push-requires : goal.push-requires
+push-requires g c = search fits
+
+pub answer_to-answer-requires : goal.answer_to-answer-requires
+answer_to-answer-requires g c = search fits
+
+pub write_answer-requires : goal.write_answer-requires
+write_answer-requires g c = search fits
+
+pub clear-requires : goal.clear-requires
+clear-requires g c = search fits

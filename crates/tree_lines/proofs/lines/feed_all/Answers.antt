@@ -3,6 +3,7 @@ use Rattle.tree_model.proofs.Common.{err_from_is_err_and}
 use Rattle.std.proofs.KnownBytes.{Appends-nil, Appends-trans}
 use Rattle.std.proofs.lemmas.Grind.{take_at_read}
 use Rattle.tree_lines.proofs.Steps.{carries_none, carries_more, breaks_among}
+use Rattle.tree_node.proofs.Common.{fits}
 use Rattle.tree_lines.proofs.lines.feed_all.Goals as goal
 
 pub loop-byte-init : goal.loop-byte-init
@@ -30,3 +31,6 @@ returns-in_err-feed g c =
     let parts = sym (take-append-drop (i + 1) bytes) ∙ ap (λ t. t ++ drop (i + 1) bytes) (take_at_read bytes i 0 c.loop-byte-test.true).1 in
     rw (failed.1)
     (c.loop-byte.invariant.written ++ fed.0, Appends-trans _ _ _ _ _ c.loop-byte.invariant.out fed.1, breaks_among g.row.LEN c.args.line.now c.loop-byte.line c.args.index.now.pairs c.loop-byte.index.pairs c.feed.new.index.pairs bytes (take i bytes) (get_or bytes i 0 ∷ []) (drop (i + 1) bytes) c.loop-byte.invariant.written fed.0 parts c.loop-byte.invariant.carried fed.2)
+
+pub feed-requires : goal.feed-requires
+feed-requires g c = search fits

@@ -3,6 +3,7 @@ use Rattle.std.specs.Io.KnownBytes.{Consumes}
 use Rattle.std.proofs.KnownBytes.{Appends-nil, Appends-trans, Consumes-nil, Consumes-trans, Consumes-kept}
 use Rattle.tree_lines.proofs.Steps.{carries_none, carries_more}
 use Rattle.tree_lines.proofs.Endings.{runs_to_fault, runs_to_end, runs_to_last, runs_to_break}
+use Rattle.tree_node.proofs.Common.{fits}
 use Rattle.tree_lines.proofs.lines.run_lines.Goals as goal
 
 pub loop-init : goal.loop-init
@@ -49,3 +50,12 @@ returns-in_default-feed_all g c =
 -- the input did not end
 pub returns : goal.returns
 returns g c = runs_to_fault g.row.LEN c.args.index.now.pairs c.loop.index.pairs _ _ _ _ _ _ c.loop.line c.loop.invariant.taken c.loop.invariant.out c.loop.invariant.carried
+
+pub new-line-requires : goal.new-line-requires
+new-line-requires g c = search fits
+
+pub end_lines-requires : goal.end_lines-requires
+end_lines-requires g c = search fits
+
+pub feed_all-requires : goal.feed_all-requires
+feed_all-requires g c = search fits
