@@ -1,8 +1,9 @@
 //! Lists of commands.
 ghost use Rattle.std.specs.Prelude.{◌≡◌, IfOk, OnErr};
 ghost use Rattle.tree_runs.specs.Climbs.{Climbs, PacksBy};
-ghost use Rattle.tree_runs.specs.Served.{AreServed, SpendsBy};
+ghost use Rattle.tree_runs.specs.Served.{AreServed, Spends, SpendsBy};
 ghost use Rattle.tree_model.specs.Runs.{Step, Runs};
+ghost use Rattle.tree_model.specs.declared.commands.Command.TheVariants.{Insert, Upsert};
 
 use std::alloc::AllocError;
 use tree_index::{Command, IndexKey, InsertError, Reply, SameClone, TreeIndexOf};
@@ -51,15 +52,8 @@ fn answer<K: IndexKey, V: SameClone, const LEN: usize>(
     ensures packed { PacksBy K.cmp LEN command index.old index.new result }
 {
     match command {
-        Command::Insert(key, value) => match index.insert_sync(key, value) {
-            Ok(()) => Reply::Stored,
-            Err(InsertError::Duplicate(_, _)) => Reply::Duplicate,
-            Err(InsertError::OutOfMemory(_, _)) => Reply::Refused,
-        },
-        Command::Upsert(key, value) => match index.upsert_sync(key, value) {
-            Ok(()) => Reply::Stored,
-            Err(_) => Reply::Refused,
-        },
+        Command::Insert(key, value) => insert(index, key, value),
+        Command::Upsert(key, value) => upsert(index, key, value),
         Command::Remove(key) => Reply::Removed(index.remove_sync(&key)),
         Command::RemoveRange(low, high) => {
             index.remove_range_sync((low.as_ref(), high.as_ref()));
@@ -77,4 +71,36 @@ fn answer<K: IndexKey, V: SameClone, const LEN: usize>(
             },
         },
     }
+}
+
+// Answers an insert. Apart from the others, so that a wrong body of it is tried in its own few goals.
+fn insert<K: IndexKey, V: SameClone, const LEN: usize>(
+    index: &mut TreeIndexOf<K, V, LEN>,
+    key: K,
+    value: V,
+) -> Reply<V>
+    ensures step { Step K.cmp V.seen index.old.pairs (Insert key value) result index.new.pairs }
+    ensures spare { Spends index.old.spare index.new.spare result }
+    ensures packed { PacksBy K.cmp LEN (Insert key value) index.old index.new result }
+{
+    match index.insert_sync(key, value) {
+        Ok(()) => Reply::Stored,
+        Err(InsertError::Duplicate(_, _)) => Reply::Duplicate,
+        Err(InsertError::OutOfMemory(_, _)) => Reply::Refused,
+    }
+}
+
+// Answers an upsert, apart for the same reason.
+fn upsert<K: IndexKey, V: SameClone, const LEN: usize>(
+    index: &mut TreeIndexOf<K, V, LEN>,
+    key: K,
+    value: V,
+) -> Reply<V>
+    ensures step { Step K.cmp V.seen index.old.pairs (Upsert key value) result index.new.pairs }
+    ensures spare { Spends index.old.spare index.new.spare result }
+{
+    let Ok(()) = index.upsert_sync(key, value) else {
+        return Reply::Refused;
+    };
+    Reply::Stored
 }

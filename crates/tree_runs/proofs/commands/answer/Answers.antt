@@ -13,13 +13,10 @@ returns-in-Remove-clause-step g c = rw c.in-Remove.is (c.remove_sync.ensures.ans
 pub returns-in-None-clause-step : goal.returns-in-None-clause-step
 returns-in-None-clause-step g c = rw c.in-Peek.is (ap (option_map g.V.SameClone.seen) c.in-None.ensures.found ∙ seen_value g.V.SameClone.seen _, refl)
 
-pub returns-in-Ok-clone-clause-step : goal.returns-in-Ok-clone-clause-step
-returns-in-Ok-clone-clause-step g c =
-    let same : g.V.SameClone.seen c.in-Some.value.now ≡ g.V.SameClone.seen c.in-Ok-clone.value = g.met.V.SameClone.clone_seen _ _ c.in-Ok-clone.ensures.cases in
+pub returns-in-Ok-clause-step : goal.returns-in-Ok-clause-step
+returns-in-Ok-clause-step g c =
+    let same : g.V.SameClone.seen c.in-Some.value.now ≡ g.V.SameClone.seen c.in-Ok.value = g.met.V.SameClone.clone_seen _ _ c.in-Ok.ensures.cases in
     rw c.in-Peek.is (ap Some (sym same) ∙ ap (option_map g.V.SameClone.seen) c.in-Some.ensures.found ∙ seen_value g.V.SameClone.seen _, refl)
 
 pub returns-clause-step : goal.returns-clause-step
 returns-clause-step g c = rw c.in-Peek.is (some_pair _ _ c.in-Some.ensures.found, refl)
-
-pub returns-in-Ok-clause-packed : goal.returns-in-Ok-clause-packed
-returns-in-Ok-clause-packed g c = rw c.in-Insert.is (c.in-Ok.ensures.spare, c.in-Ok.ensures.packed)
