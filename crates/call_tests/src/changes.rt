@@ -3,7 +3,7 @@ use crate::{fills, refill};
 use std::alloc::{AllocError, Global};
 use std::process::Abort;
 use test_support::refusals::succeeds;
-use tree_index::{TreeIndex, TreeIndexOf};
+use tree_index::TreeIndex;
 use tree_support::{MoreCalls, Numbers, Scenario, succeeds_at_both_sizes};
 
 /// The length, the depth and the spare.

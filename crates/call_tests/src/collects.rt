@@ -5,7 +5,7 @@ use std::iter::FromIterator;
 use std::process::Abort;
 use test_support::refusals::succeeds;
 use tree_index::{FromSortedError, SmallTreeIndex, TreeIndex, TreeIndexOf};
-use tree_support::{MoreCalls, Numbers, Scenario, succeeds_at_both_sizes};
+use tree_support::{MoreCalls, Scenario, succeeds_at_both_sizes};
 
 /// Returns the pairs of 0, 2, 4 and so on, so many, each with its key as its value.
 fn ascending(alloc: Global, count: u64) -> Result<Vec<(u64, u64)>, AllocError> {

@@ -2,8 +2,7 @@
 use crate::{fills, refill};
 use std::alloc::AllocError;
 use std::process::Abort;
-use tree_index::TreeIndexOf;
-use tree_support::{MoreCalls, Numbers, Scenario, succeeds_at_both_sizes};
+use tree_support::{MoreCalls, Scenario, succeeds_at_both_sizes};
 
 /// A key between the others and one behind them, each asked twice: the key, the value passed, and the one that stands.
 static ASKED: [(u64, u64, u64); 4] = [(1, 7, 7), (u64::MAX, 8, 8), (1, 5, 7), (u64::MAX, 6, 8)];

@@ -2,7 +2,7 @@
 use std::alloc::{AllocError, Global};
 use std::process::Abort;
 use test_support::refusals::succeeds;
-use tree_index::{TreeIndex, TreeIndexOf};
+use tree_index::TreeIndex;
 use tree_support::{MoreCalls, Numbers, Scenario, ascend, succeeds_at_both_sizes};
 
 /// How many pairs an index has, at fifteen pairs a leaf: none, one, a full leaf, two leaves, and two and three levels.

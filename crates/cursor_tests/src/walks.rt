@@ -1,5 +1,5 @@
 //! Worked walks of cursors.
-use crate::said::{Entry, Said, make, numbers, said_by};
+use crate::said::{Said, make, numbers, said_by};
 use std::alloc::{AllocError, Global};
 use std::ops::Bound;
 use std::process::Abort;
