@@ -1,4 +1,5 @@
-"""What crates.txt says of the crates of this repository, and where their edits are."""
+"""What crates.txt says of the crates of this repository, where their edits are, and sums of their text."""
+import hashlib
 import os
 
 TOP = os.path.dirname(os.path.dirname(os.path.abspath(__file__)))
@@ -25,3 +26,21 @@ def edits_of(crate, folder):
     """The names of the edits in a folder of a crate, `must-fail` or `wrong-bodies`."""
     path = os.path.join(TOP, "crates", crate, folder)
     return sorted(it for it in os.listdir(path) if it.endswith(".edit")) if os.path.isdir(path) else []
+
+
+def files_in(crate, part):
+    """The files of a part of a crate, in one order everywhere."""
+    for at, folders, files in os.walk(os.path.join(TOP, "crates", crate, part)):
+        folders.sort()
+        for file in sorted(files):
+            yield os.path.join(at, file)
+
+
+def sum_of_files(parts):
+    """A sum of the text of some parts of crates."""
+    told = hashlib.sha256()
+    for crate, part in parts:
+        for path in files_in(crate, part):
+            with open(path, "rb") as text:
+                told.update(repr((os.path.relpath(path, TOP), text.read())).encode())
+    return told.hexdigest()[:16]
