@@ -151,20 +151,16 @@ fn reserves<const LEN: usize>(rt: &impl Abort, arenas: &mut Places<LEN>) -> Resu
 }
 
 /// Adds nine leaves and nodes, and reserves places for three of them.
-fn refusals_change_nothing_steps<const LEN: usize>(
-    rt: &impl Abort,
-    alloc: Global,
-) -> Result<(), AllocError>
+fn grows<const LEN: usize>(rt: &impl Abort, arenas: &mut Places<LEN>) -> Result<(), AllocError>
     requires { IsLen LEN }
 {
-    let mut arenas: Places<LEN> = SlotsOf::new(alloc);
     let mut outcome = Ok(());
     for number in 0..9 {
         if number == 3 {
-            outcome = outcome.and(reserves(rt, &mut arenas));
+            outcome = outcome.and(reserves(rt, arenas));
         }
-        outcome = outcome.and(adds_leaf(rt, &mut arenas, number));
-        outcome = outcome.and(adds_node(rt, &mut arenas, number));
+        outcome = outcome.and(adds_leaf(rt, arenas, number));
+        outcome = outcome.and(adds_node(rt, arenas, number));
     }
     outcome
 }
@@ -172,15 +168,15 @@ fn refusals_change_nothing_steps<const LEN: usize>(
 #[test]
 fn refusals_change_nothing(rt: HostRuntime) {
     assert!(rt;
-        succeeds(
-            rt.alloc(),
-            || refusals_change_nothing_steps::<15>(&rt, rt.alloc())
-        )
+        succeeds(rt.alloc(), || {
+            let mut arenas: Places<15> = SlotsOf::new(rt.alloc());
+            grows(&rt, &mut arenas)
+        })
     );
     assert!(rt;
-        succeeds(
-            rt.alloc(),
-            || refusals_change_nothing_steps::<7>(&rt, rt.alloc())
-        )
+        succeeds(rt.alloc(), || {
+            let mut arenas: Places<7> = SlotsOf::new(rt.alloc());
+            grows(&rt, &mut arenas)
+        })
     );
 }
