@@ -4,7 +4,9 @@ use std::alloc::{AllocError, Global};
 use std::ops::Bound;
 use std::process::Abort;
 use test_support::refusals::succeeds;
-use tree_index::{Cursor, IterOf, Move, ProximityOf, RangeOf, TreeIndex, TreeIndexOf, run_moves};
+use tree_index::{
+    Cursor, IterOf, Move, ProximityOf, Range, RangeOf, TreeIndex, TreeIndexOf, run_moves,
+};
 use tree_support::{
     MoreCalls, Numbers, OwnScenario, Scenario, ascend, put, succeeds_at_both_sizes,
     succeeds_by_own_calls,
@@ -450,29 +452,24 @@ fn counts_what_is_within_the_bounds(rt: HostRuntime) {
     assert!(rt; succeeds_by_own_calls(rt.alloc(), &scenario));
 }
 
-/// Moves a range over two keys in two leaves to its end, and then a clone of it.
-fn expect_two_keys<const LEN: usize>(
-    rt: &impl Abort,
-    range: RangeOf<'_, u64, u64, LEN>,
-) -> Result<(), AllocError> {
+/// Whether a range over two keys in two leaves gives them and ends, and a clone of it moves alone.
+fn gives_two_keys(range: Range<'_, u64, u64>) -> Result<bool, AllocError> {
     let mut other = range.clone()?;
     let mut range = range;
-    let forward = [
+    let moved = [
         numbers(range.next()),
         numbers(range.next()),
         numbers(range.next()),
+        numbers(other.next_back()),
     ];
-    assert!(rt; forward == [Some((15, 15)), Some((16, 16)), None]);
-    assert!(rt; numbers(other.next_back()) == Some((16, 16)));
-    Ok(())
+    Ok(moved == [Some((15, 15)), Some((16, 16)), None, Some((16, 16))])
 }
 
 /// Moves such a range over an index.
 fn expect_clone(rt: &impl Abort, index: &TreeIndex<u64, u64>) -> Result<(), AllocError> {
-    expect_two_keys(
-        rt,
-        index.range((Bound::Excluded(&14), Bound::Excluded(&17))),
-    )
+    let range = index.range((Bound::Excluded(&14), Bound::Excluded(&17)));
+    assert!(rt; gives_two_keys(range)?);
+    Ok(())
 }
 
 fn meets_at_a_leaf_steps(rt: &impl Abort, alloc: Global) -> Result<(), AllocError> {
@@ -512,16 +509,19 @@ fn passes_an_empty_last_leaf(rt: HostRuntime) {
     assert!(rt; succeeds_at_both_sizes(rt.alloc(), &scenario));
 }
 
-/// The moves of a cursor between two pairs, which has left the list at both ends.
-fn expect_between<const LEN: usize>(rt: &impl Abort, index: &TreeIndexOf<u64, u64, LEN>) {
+/// Whether a cursor between two pairs shows both, and has left the list at both ends after a move of each.
+fn leaves_both_ends<const LEN: usize>(index: &TreeIndexOf<u64, u64, LEN>) -> bool {
     let ProximityOf::Between(ends) = index.locate(&2) else {
-        panic!(rt; "2 is between")
+        return false;
     };
     let mut ends = ends;
-    assert!(rt; numbers(ends.get()) == Some((1, 1)));
-    assert!(rt; numbers(ends.get_back()) == Some((3, 2)));
-    let moved = [numbers(ends.next()), numbers(ends.next_back())];
-    assert!(rt; moved == [None, None]);
+    let told = [
+        numbers(ends.get()),
+        numbers(ends.get_back()),
+        numbers(ends.next()),
+        numbers(ends.next_back()),
+    ];
+    told == [Some((1, 1)), Some((3, 2)), None, None]
 }
 
 /// Locates a key among four pairs.
@@ -533,7 +533,8 @@ struct Locating<'r, R> {
 impl<R: Abort, const LEN: usize> OwnScenario<TreeIndexOf<u64, u64, LEN>> for Locating<'_, R> {
     fn play(&self, index: &mut TreeIndexOf<u64, u64, LEN>) -> Result<(), AllocError> {
         fill(index, &[(1, 1), (3, 2), (5, 3), (7, 4)])?;
-        expect_between(self.rt, index);
+        let rt = self.rt;
+        assert!(rt; leaves_both_ends(index));
         Ok(())
     }
 }

@@ -90,11 +90,16 @@ impl<K: IndexKey, V: Drop, const LEN: usize> TreeIndexOf<K, V, LEN> {
     /// fill(index, &[(1, 1), (3, 2), (5, 3), (7, 4)])?;
     ///
     /// let ProximityOf::Between(ends) = index.locate(&2) else {
-    ///     panic!(rt; "2 is between")
+    ///     return false;
     /// };
-    ///
-    /// assert!(rt; numbers(ends.get()) == Some((1, 1)));
-    /// assert!(rt; numbers(ends.get_back()) == Some((3, 2)));
+    /// let mut ends = ends;
+    /// let told = [
+    ///     numbers(ends.get()),
+    ///     numbers(ends.get_back()),
+    ///     numbers(ends.next()),
+    ///     numbers(ends.next_back()),
+    /// ];
+    /// told == [Some((1, 1)), Some((3, 2)), None, None]
     /// ```
     pub fn locate(&self, key: &K) -> ProximityOf<IterOf<'_, K, V, LEN>>
         ensures { result ≡ located K.cmp self.now.pairs key.now }

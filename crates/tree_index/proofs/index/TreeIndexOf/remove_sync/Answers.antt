@@ -1,4 +1,3 @@
-use Rattle.tree_node.proofs.Common.{fits}
 use Rattle.std.proofs.Common.{rules}
 use Rattle.tree_index.proofs.index.TreeIndexOf.remove_sync.Goals as goal
 
@@ -8,6 +7,3 @@ returns-clause-answer g c = (c.remove_if_sync.ensures.always (λ v said says. se
 
 pub returns-clause-left : goal.returns-clause-left
 returns-clause-left g c = (c.remove_if_sync.ensures.always (λ v said says. search rules)).1
-
-pub remove_if_sync-requires : goal.remove_if_sync-requires
-remove_if_sync-requires g c = search fits

@@ -1,5 +1,5 @@
 use Rattle.tree_node.proofs.Common.{fits}
-use Rattle.cursor_tests.proofs.walks.expect_between.Goals as goal
+use Rattle.cursor_tests.proofs.walks.leaves_both_ends.Goals as goal
 
 pub locate-requires : goal.locate-requires
 locate-requires g c = search fits
