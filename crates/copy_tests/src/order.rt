@@ -31,17 +31,19 @@ fn hashed<const LEN: usize>(index: &TreeIndexOf<u64, u64, LEN>) -> u64 {
     hasher.finish()
 }
 
-/// Orders two indexes one way round and the other, and hashes both.
-fn expect_ordered<const LEN: usize>(
-    rt: &impl Abort,
+/// Returns whether two indexes have this order, both ways round, and equal hashes if they are equal, and only then.
+fn are_ordered<const LEN: usize>(
     first: &TreeIndexOf<u64, u64, LEN>,
     second: &TreeIndexOf<u64, u64, LEN>,
     order: Ordering,
-) {
-    assert!(rt; first.cmp(second) == order);
-    assert!(rt; second.cmp(first) == order.reverse());
-    assert!(rt; first.partial_cmp(second) == Some(order));
-    assert!(rt; (hashed(first) == hashed(second)) == order.is_eq());
+) -> bool {
+    let answers = (
+        first.cmp(second),
+        second.cmp(first),
+        first.partial_cmp(second),
+        hashed(first) == hashed(second),
+    );
+    answers == (order, order.reverse(), Some(order), order.is_eq())
 }
 
 /// Orders an index with that of these pairs, with fifteen pairs a leaf.
@@ -53,7 +55,7 @@ fn expect_beside(
     order: Ordering,
 ) -> Result<(), AllocError> {
     let second = index_of(alloc, pairs)?;
-    expect_ordered(rt, first, &second, order);
+    assert!(rt; are_ordered(first, &second, order));
     Ok(())
 }
 
@@ -66,7 +68,7 @@ fn expect_small_beside(
     order: Ordering,
 ) -> Result<(), AllocError> {
     let second = small_index_of(alloc, pairs)?;
-    expect_ordered(rt, first, &second, order);
+    assert!(rt; are_ordered(first, &second, order));
     Ok(())
 }
 

@@ -32,8 +32,7 @@ fn read(index: &TreeIndex<u64, u64>, key: u64) -> (Option<u64>, u64) {
 fn reads_steps(rt: &impl Abort, alloc: Global) -> Result<(), AllocError> {
     let index = index_of(alloc, &[(1, 10)])?;
     for (key, sum, times) in &READS {
-        assert!(rt; peeked(&index, *key) == (*sum, *times));
-        assert!(rt; read(&index, *key) == (*sum, *times));
+        assert!(rt; [peeked(&index, *key), read(&index, *key)] == [(*sum, *times); 2]);
     }
     Ok(())
 }

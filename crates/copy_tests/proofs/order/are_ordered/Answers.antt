@@ -1,20 +1,14 @@
 use Rattle.tree_node.proofs.Common.{fits}
-use Rattle.copy_tests.proofs.order.expect_ordered.Goals as goal
+use Rattle.copy_tests.proofs.order.are_ordered.Goals as goal
 
 pub cmp-requires : goal.cmp-requires
 cmp-requires g c = search fits
-
-pub eq-requires : goal.eq-requires
-eq-requires g c = search fits
 
 pub cmp-requires-2 : goal.cmp-requires-2
 cmp-requires-2 g c = search fits
 
 pub reverse-requires : goal.reverse-requires
 reverse-requires g c = search fits
-
-pub eq-requires-2 : goal.eq-requires-2
-eq-requires-2 g c = search fits
 
 pub partial_cmp-requires : goal.partial_cmp-requires
 partial_cmp-requires g c = search fits
