@@ -11,27 +11,27 @@ fn shape_of(index: &impl Numbers) -> (usize, usize, u8) {
     (index.len(), index.depth(), index.spare())
 }
 
-/// Replaces and changes the value at a key, which is there or isn't.
-fn expect_changed(rt: &impl Abort, index: &mut impl MoreCalls, key: u64, there: bool) {
-    let old = if there { Ok(key) } else { Err(7) };
-    assert!(rt; index.replace(key, 7) == old);
-    assert!(rt; index.add(key, key) == there);
-    let new = if there {
-        Some(key.wrapping_add(7))
+/// Returns whether the value at a key, which is there or isn't, is replaced and changed.
+fn is_changed(index: &mut impl MoreCalls, key: u64, there: bool) -> bool {
+    let answers = (index.replace(key, 7), index.add(key, key), index.peek(key));
+    let wanted = if there {
+        (Ok(key), true, Some(key.wrapping_add(7)))
     } else {
-        None
+        (Err(7), false, None)
     };
-    assert!(rt; index.peek(key) == new);
+    answers == wanted
 }
 
-/// Replaces and changes the value at each key up to the last, of which the even ones are present, and at one more.
-fn changes_all(rt: &impl Abort, index: &mut impl MoreCalls) {
+/// Returns whether the value at each key up to one behind the last is changed, of which the even ones are present.
+fn changes_all(index: &mut impl MoreCalls) -> bool {
     let shape = shape_of(index);
     let end = (shape.0 as u64).wrapping_mul(2);
     for key in 0..=end {
-        expect_changed(rt, index, key, key < end && key % 2 == 0);
+        if !is_changed(index, key, key < end && key % 2 == 0) {
+            return false;
+        }
     }
-    assert!(rt; shape_of(index) == shape);
+    shape_of(index) == shape
 }
 
 /// Changes the values of an index of each fill.
@@ -44,7 +44,7 @@ impl<R: Abort> Scenario for Changing<'_, R> {
     fn play<I: MoreCalls>(&self, index: &mut I) -> Result<(), AllocError> {
         for (count, is_emptied) in fills(index.pairs_a_leaf()) {
             refill(index, *count, *is_emptied)?;
-            changes_all(self.rt, index);
+            assert!(self.rt; changes_all(index));
         }
         Ok(())
     }
@@ -92,52 +92,41 @@ impl Names for TreeIndex<u64, String> {
     }
 }
 
-/// Replaces the name at a key, which is there, and at one that isn't.
-fn replaces_names(
-    rt: &impl Abort,
-    alloc: Global,
-    names: &mut impl Names,
-) -> Result<(), AllocError> {
+/// Returns whether the name at a key, which is there, is replaced, and the one for a key that isn't comes back.
+fn replaces_names(alloc: Global, names: &mut impl Names) -> Result<bool, AllocError> {
     let fig = String::from_str(alloc, "fig")?;
-    assert!(rt;
-        names
-            .replace(1, fig)
-            .is_ok_and(|name| name.as_str() == "pear")
-    );
+    if !names
+        .replace(1, fig)
+        .is_ok_and(|name| name.as_str() == "pear")
+    {
+        return Ok(false);
+    }
     let plum = String::from_str(alloc, "plum")?;
-    assert!(rt;
-        names
-            .replace(2, plum)
-            .is_err_and(|name| name.as_str() == "plum")
-    );
-    Ok(())
+    let replaced = names.replace(2, plum);
+    Ok(replaced.is_err_and(|name| name.as_str() == "plum"))
 }
 
-/// Changes the name at a key, which is there, and at one that isn't.
-fn changes_names(rt: &impl Abort, alloc: Global, names: &mut impl Names) -> Result<(), AllocError> {
+/// Returns whether the name at a key, which is there, is changed, and none at a key that isn't.
+fn changes_names(alloc: Global, names: &mut impl Names) -> Result<bool, AllocError> {
     let quince = String::from_str(alloc, "quince")?;
-    assert!(rt; names.change(1, quince));
+    if !names.change(1, quince) {
+        return Ok(false);
+    }
     let melon = String::from_str(alloc, "melon")?;
-    assert!(rt; !names.change(2, melon));
-    assert!(rt; names.has(1, "quince"));
-    Ok(())
+    Ok([names.change(2, melon), names.has(1, "quince")] == [false, true])
 }
 
-/// Stores a name, replaces it and changes it.
-fn changes_texts_in(
-    rt: &impl Abort,
-    alloc: Global,
-    names: &mut impl Names,
-) -> Result<(), AllocError> {
+/// Returns whether a name that is stored is replaced and changed.
+fn changes_texts_in(alloc: Global, names: &mut impl Names) -> Result<bool, AllocError> {
     let pear = String::from_str(alloc, "pear")?;
     names.put(1, pear)?;
-    replaces_names(rt, alloc, names)?;
-    changes_names(rt, alloc, names)
+    Ok(replaces_names(alloc, names)? && changes_names(alloc, names)?)
 }
 
 fn changes_texts_steps(rt: &impl Abort, alloc: Global) -> Result<(), AllocError> {
     let mut names: TreeIndex<u64, String> = TreeIndex::new(alloc);
-    changes_texts_in(rt, alloc, &mut names)
+    assert!(rt; changes_texts_in(alloc, &mut names)?);
+    Ok(())
 }
 
 #[test]

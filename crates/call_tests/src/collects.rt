@@ -17,14 +17,13 @@ fn ascending(alloc: Global, count: u64) -> Result<Vec<(u64, u64)>, AllocError> {
     Ok(pairs)
 }
 
-/// Stores pairs of three keys, of which two come twice. The later pairs of both are there then, and one more.
-fn extends(rt: &impl Abort, alloc: Global, index: &mut impl MoreCalls) -> Result<(), AllocError> {
+/// Stores pairs of three keys, of which two come twice. Returns whether the later ones are there, and one more.
+fn extends(alloc: Global, index: &mut impl MoreCalls) -> Result<bool, AllocError> {
     let length = index.len();
     let pairs = vec![in alloc; (1, 10), (3, 30), (1, 11), (5, 50), (3, 33)]?;
     index.extend(pairs)?;
-    assert!(rt; index.len() == length.wrapping_add(3));
-    assert!(rt; index.peek(1) == Some(11) && index.peek(3) == Some(33));
-    Ok(())
+    let answers = (index.len(), index.peek(1), index.peek(3));
+    Ok(answers == (length.wrapping_add(3), Some(11), Some(33)))
 }
 
 /// Extended an index of each fill.
@@ -38,7 +37,7 @@ impl<R: Abort> Scenario for Extending<'_, R> {
     fn play<I: MoreCalls>(&self, index: &mut I) -> Result<(), AllocError> {
         for (count, is_emptied) in fills(index.pairs_a_leaf()) {
             refill(index, *count, *is_emptied)?;
-            extends(self.rt, self.alloc, index)?;
+            assert!(self.rt; extends(self.alloc, index)?);
         }
         Ok(())
     }
@@ -76,17 +75,17 @@ static DEPTHS: [(u64, usize); 5] = [(0, 0), (1, 1), (15, 1), (241, 2), (3616, 3)
 /// The same for leaves of seven pairs.
 static SMALL_DEPTHS: [(u64, usize); 5] = [(0, 0), (1, 1), (7, 1), (57, 2), (400, 3)];
 
-/// An index was built of so many pairs.
-fn expect_built(rt: &impl Abort, index: &impl MoreCalls, (count, depth): (u64, usize)) {
-    assert!(rt; index.len() as u64 == count && index.depth() == depth);
+/// Returns whether an index was built of so many pairs.
+fn is_built(index: &impl MoreCalls, (count, depth): (u64, usize)) -> bool {
     let last = count.wrapping_sub(1).wrapping_mul(2);
-    assert!(rt; count == 0 || index.last() == Some((last, last)));
+    (index.len() as u64, index.depth()) == (count, depth)
+        && (count == 0 || index.last() == Some((last, last)))
 }
 
 fn builds_steps(rt: &impl Abort, alloc: Global, row: (u64, usize)) -> Result<(), AllocError> {
     let pairs = ascending(alloc, row.0)?;
     let index: TreeIndex<u64, u64> = sorted(TreeIndexOf::from_sorted(alloc, pairs))?;
-    expect_built(rt, &index, row);
+    assert!(rt; is_built(&index, row));
     Ok(())
 }
 
@@ -100,7 +99,7 @@ fn builds_from_sorted_pairs(rt: HostRuntime) {
 fn small_builds_steps(rt: &impl Abort, alloc: Global, row: (u64, usize)) -> Result<(), AllocError> {
     let pairs = ascending(alloc, row.0)?;
     let index: SmallTreeIndex<u64, u64> = sorted(TreeIndexOf::from_sorted(alloc, pairs))?;
-    expect_built(rt, &index, row);
+    assert!(rt; is_built(&index, row));
     Ok(())
 }
 

@@ -17,41 +17,62 @@ fn fill(index: &mut impl Numbers, count: u64) -> Result<(), AllocError> {
     ascend(index, 1, count, 1)
 }
 
-/// Takes the first pair and the last one in turn, until none is left.
-fn expect_both_ends(rt: &impl Abort, index: &mut impl MoreCalls, count: u64) {
-    for low in 1..=count / 2 {
-        let high = count.wrapping_add(1).wrapping_sub(low);
-        assert!(rt; pops(index) == [Some((low, low)), Some((high, high))]);
-    }
-    if count % 2 == 1 {
-        let middle = count / 2 + 1;
-        assert!(rt; pops(index) == [Some((middle, middle)), None]);
-    }
-    assert!(rt; pops(index) == [None, None]);
-    assert!(rt; index.is_empty());
-}
-
 /// Takes the first pair, and then the last one.
 fn pops(index: &mut impl MoreCalls) -> [Option<(u64, u64)>; 2] {
     [index.pop_first(), index.pop_last()]
 }
 
-/// Takes each pair by its key, the last one first, so that leaves at the end are emptied one after another.
-fn expect_by_key(rt: &impl Abort, index: &mut impl MoreCalls, count: u64) {
-    for key in (1..=count).rev() {
-        assert!(rt; [index.take(key), index.take(key)] == [Some((key, key)), None]);
+/// Returns whether the first pair and the last one come in turn, until none is left.
+fn gives_both_ends(index: &mut impl MoreCalls, count: u64) -> bool {
+    for low in 1..=count / 2 {
+        let high = count.wrapping_add(1).wrapping_sub(low);
+        if pops(index) != [Some((low, low)), Some((high, high))] {
+            return false;
+        }
     }
-    assert!(rt; index.is_empty() && index.depth() <= 1);
+    gives_middle(index, count)
 }
 
-/// Keeps the even keys, and then none.
-fn expect_retained(rt: &impl Abort, index: &mut impl MoreCalls, count: u64) {
+/// Returns whether the pair in the middle comes, if there is one, and none behind it.
+fn gives_middle(index: &mut impl MoreCalls, count: u64) -> bool {
+    let middle = count / 2 + 1;
+    if count % 2 == 1 && pops(index) != [Some((middle, middle)), None] {
+        return false;
+    }
+    (pops(index), index.is_empty()) == ([None, None], true)
+}
+
+/// Returns whether each pair comes by its key, the last one first, so that leaves at the end are emptied in turn.
+fn gives_by_key(index: &mut impl MoreCalls, count: u64) -> bool {
+    for key in (1..=count).rev() {
+        if [index.take(key), index.take(key)] != [Some((key, key)), None] {
+            return false;
+        }
+    }
+    index.is_empty() && index.depth() <= 1
+}
+
+/// Returns whether an index keeps the even keys, and then none.
+fn keeps_even(index: &mut impl MoreCalls, count: u64) -> bool {
     index.keep_even();
-    assert!(rt; index.len() as u64 == count / 2);
-    assert!(rt; count < 2 || index.first() == Some((2, 2)));
-    assert!(rt; [index.take(1), index.take(3)] == [None, None]);
+    let is_kept = index.len() as u64 == count / 2 && (count < 2 || index.first() == Some((2, 2)));
+    let odd = [index.take(1), index.take(3)];
     index.keep_larger(count);
-    assert!(rt; index.is_empty());
+    (is_kept, odd, index.is_empty()) == (true, [None, None], true)
+}
+
+/// Returns whether so many pairs are taken out from both ends, by key and by a test, each time all of them.
+fn gives_pairs(index: &mut impl MoreCalls, count: u64) -> Result<bool, AllocError> {
+    fill(index, count)?;
+    if !gives_both_ends(index, count) {
+        return Ok(false);
+    }
+    fill(index, count)?;
+    if !gives_by_key(index, count) {
+        return Ok(false);
+    }
+    fill(index, count)?;
+    Ok(keeps_even(index, count))
 }
 
 /// Takes the pairs out of indexes of several sizes.
@@ -64,12 +85,7 @@ impl<R: Abort> Scenario for Taking<'_, R> {
     fn play<I: MoreCalls>(&self, index: &mut I) -> Result<(), AllocError> {
         let is_small = index.pairs_a_leaf() == 7;
         for count in if is_small { SMALL_COUNTS } else { COUNTS } {
-            fill(index, count)?;
-            expect_both_ends(self.rt, index, count);
-            fill(index, count)?;
-            expect_by_key(self.rt, index, count);
-            fill(index, count)?;
-            expect_retained(self.rt, index, count);
+            assert!(self.rt; gives_pairs(index, count)?);
         }
         Ok(())
     }
@@ -81,20 +97,31 @@ fn takes_pairs_out(rt: HostRuntime) {
     assert!(rt; succeeds_at_both_sizes(rt.alloc(), &scenario));
 }
 
-/// Asks both ends in turn for the pairs of 1 to 241.
-fn expect_by_value<I: DoubleEndedIterator<Item = (u64, u64)>>(rt: &impl Abort, pairs: I)
+/// Returns whether both ends give in turn the pairs of 1 to 241.
+fn gives_by_value<I: DoubleEndedIterator<Item = (u64, u64)>>(pairs: I) -> bool
     requires first { (s : I) → I.can_next s }
     requires last { (s : I) → I.can_next_back s }
 {
     let mut pairs = pairs;
-    assert!(rt; pairs.next() == Some((1, 1)) && pairs.next_back() == Some((241, 241)));
-    assert!(rt; pairs.next_back() == Some((240, 240)) && pairs.next() == Some((2, 2)));
+    let given = [
+        pairs.next(),
+        pairs.next_back(),
+        pairs.next_back(),
+        pairs.next(),
+    ];
+    given
+        == [
+            Some((1, 1)),
+            Some((241, 241)),
+            Some((240, 240)),
+            Some((2, 2)),
+        ]
 }
 
 fn gives_by_value_steps(rt: &impl Abort, alloc: Global) -> Result<(), AllocError> {
     let mut index: TreeIndex<u64, u64> = TreeIndex::new(alloc);
     fill(&mut index, 241)?;
-    expect_by_value(rt, index.into_iter());
+    assert!(rt; gives_by_value(index.into_iter()));
     Ok(())
 }
 

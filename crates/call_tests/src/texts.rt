@@ -26,20 +26,25 @@ fn length_of(lengths: &TreeIndex<Text, usize>, word: &str) -> Option<usize> {
     peek_text(lengths, word).map(|(_, length)| *length)
 }
 
-/// Looks up all words.
-fn expect_words(rt: &impl Abort, lengths: &TreeIndex<Text, usize>) {
+/// Returns whether each word is found with its length, and no other one.
+fn has_words(lengths: &TreeIndex<Text, usize>) -> bool {
     for word in &WORDS {
-        assert!(rt; length_of(lengths, *word) == Some(word.len()));
+        if length_of(lengths, *word) != Some(word.len()) {
+            return false;
+        }
     }
     for word in &OTHERS {
-        assert!(rt; length_of(lengths, *word).is_none());
+        if length_of(lengths, *word).is_some() {
+            return false;
+        }
     }
+    true
 }
 
 fn counts_words(rt: &impl Abort, alloc: Global) -> Result<(), AllocError> {
     let mut lengths: TreeIndex<Text, usize> = TreeIndex::new(alloc);
     store_words(alloc, &mut lengths)?;
-    expect_words(rt, &lengths);
+    assert!(rt; has_words(&lengths));
     Ok(())
 }
 
@@ -69,20 +74,25 @@ fn number_of(lengths: &TreeIndex<Bytes, usize>, bytes: &[u8]) -> Option<usize> {
     peek_bytes(lengths, bytes).map(|(_, length)| *length)
 }
 
-/// Looks up all bytes.
-fn expect_bytes(rt: &impl Abort, lengths: &TreeIndex<Bytes, usize>) {
+/// Returns whether all bytes are found with their number, and no others.
+fn has_bytes(lengths: &TreeIndex<Bytes, usize>) -> bool {
     for bytes in &BYTES {
-        assert!(rt; number_of(lengths, *bytes) == Some(bytes.len()));
+        if number_of(lengths, *bytes) != Some(bytes.len()) {
+            return false;
+        }
     }
     for bytes in &OTHER_BYTES {
-        assert!(rt; number_of(lengths, *bytes).is_none());
+        if number_of(lengths, *bytes).is_some() {
+            return false;
+        }
     }
+    true
 }
 
 fn counts_bytes(rt: &impl Abort, alloc: Global) -> Result<(), AllocError> {
     let mut lengths: TreeIndex<Bytes, usize> = TreeIndex::new(alloc);
     store_bytes(alloc, &mut lengths)?;
-    expect_bytes(rt, &lengths);
+    assert!(rt; has_bytes(&lengths));
     Ok(())
 }
 
