@@ -2,7 +2,7 @@
 use std::alloc::{AllocError, Global};
 use std::process::Abort;
 use test_support::refusals::succeeds;
-use tree_index::{Command, Reply};
+use tree_index::{Command, Record, Reply};
 use tree_state::{State, StateOf};
 
 /// Calls of a new state, and the reply to each.
@@ -13,37 +13,44 @@ static CALLS: [(Command<u64, u64>, Reply<u64>); 4] = [
     (Command::Peek(2), Reply::Found(None)),
 ];
 
-/// The calls of a history, with their replies.
-fn expect_history<const LEN: usize>(rt: &impl Abort, state: &StateOf<u64, u64, LEN>) {
-    assert!(rt; state.history().len() == CALLS.len());
-    for (record, (command, reply)) in state.history().iter().zip(&CALLS) {
-        assert!(rt; record.command == *command && record.reply == *reply);
+/// Whether a history has the calls with their replies.
+fn has_the_calls(history: &[Record<u64, u64>]) -> bool {
+    if history.len() != CALLS.len() {
+        return false;
     }
+    for (record, (command, reply)) in history.iter().zip(&CALLS) {
+        if record.command != *command || record.reply != *reply {
+            return false;
+        }
+    }
+    true
 }
 
-/// Makes the calls of a new state. The history has them with their replies then.
-fn expect_calls<const LEN: usize>(
-    rt: &impl Abort,
+/// Makes the calls of a new state. Returns whether each is replied to as wanted, and whether the history has them with
+/// their replies then.
+fn keeps_each_call<const LEN: usize>(
     state: &mut StateOf<u64, u64, LEN>,
-) -> Result<(), AllocError> {
+) -> Result<bool, AllocError> {
     for (command, reply) in &CALLS {
         match state.apply(*command) {
-            Ok(told) => assert!(rt; told == *reply),
+            Ok(told) if told == *reply => {}
+            Ok(_) => return Ok(false),
             Err(_) => return Err(AllocError),
         }
     }
-    expect_history(rt, state);
-    Ok(())
+    Ok(has_the_calls(state.history()))
 }
 
 fn keeps_its_calls_steps(rt: &impl Abort, alloc: Global) -> Result<(), AllocError> {
     let mut state: State<u64, u64> = State::new(alloc);
-    expect_calls(rt, &mut state)
+    assert!(rt; keeps_each_call(&mut state)?);
+    Ok(())
 }
 
 fn keeps_its_small_calls_steps(rt: &impl Abort, alloc: Global) -> Result<(), AllocError> {
     let mut state: StateOf<u64, u64, 7> = StateOf::new(alloc);
-    expect_calls(rt, &mut state)
+    assert!(rt; keeps_each_call(&mut state)?);
+    Ok(())
 }
 
 #[test]

@@ -18,36 +18,51 @@ fn index_of(alloc: Global, pairs: &[(u64, u64)]) -> Result<TreeIndex<u64, u64>, 
     Ok(index)
 }
 
-/// An insert of a key that is present keeps the first pair.
-fn keeps_the_first(rt: &impl Abort, index: &mut impl Numbers) -> Result<(), AllocError> {
+/// Whether an insert of a key that is present keeps the first pair.
+fn keeps_the_first(index: &mut impl Numbers) -> Result<bool, AllocError> {
     put(index, 1, 10)?;
-    assert!(rt; index.insert(1, 11) == Err(InsertError::Duplicate(1, 11)));
-    assert!(rt; index.peek(1) == Some(10));
-    Ok(())
+    let told = (index.insert(1, 11), index.peek(1));
+    Ok(told == (Err(InsertError::Duplicate(1, 11)), Some(10)))
 }
 
-/// A removal says whether the key was present.
-fn says_whether_it_removed(rt: &impl Abort, index: &mut impl Numbers) -> Result<(), AllocError> {
-    assert!(rt; !index.remove(1));
+/// Whether a removal says if the key was present.
+fn says_whether_it_removed(index: &mut impl Numbers) -> Result<bool, AllocError> {
+    if index.remove(1) {
+        return Ok(false);
+    }
     put(index, 1, 10)?;
-    assert!(rt; index.remove(1));
-    Ok(())
+    Ok(index.remove(1))
 }
 
 /// Values that the condition wants of the key 1, in turn, whether the pair is removed, and how often the condition is
 /// asked.
 static CONDITIONS: [(u64, bool, u64); 3] = [(0, false, 1), (10, true, 1), (10, false, 0)];
 
-/// The condition is asked once of a key that is present, and never of an absent one.
-fn asks_its_condition_once(rt: &impl Abort, index: &mut impl MoreCalls) -> Result<(), AllocError> {
+/// Whether the condition is asked once of a key that is present, and never of an absent one.
+fn asks_its_condition_once(index: &mut impl MoreCalls) -> Result<bool, AllocError> {
     put(index, 1, 10)?;
     for (wanted, removes, times) in &CONDITIONS {
-        assert!(rt; index.remove_value(*wanted) == (*removes, *times));
+        if index.remove_value(*wanted) != (*removes, *times) {
+            return Ok(false);
+        }
     }
-    Ok(())
+    Ok(true)
 }
 
-/// Makes the calls, each time over an empty index.
+/// Makes the calls, each time over an empty index. Returns whether each is answered as wanted.
+fn answers_each_call(index: &mut impl MoreCalls) -> Result<bool, AllocError> {
+    if !keeps_the_first(index)? {
+        return Ok(false);
+    }
+    index.clear();
+    if !says_whether_it_removed(index)? {
+        return Ok(false);
+    }
+    index.clear();
+    asks_its_condition_once(index)
+}
+
+/// Makes the calls.
 #[derive(Drop)]
 struct Calls<'r, R> {
     rt: &'r R,
@@ -55,11 +70,9 @@ struct Calls<'r, R> {
 
 impl<R: Abort> Scenario for Calls<'_, R> {
     fn play<I: MoreCalls>(&self, index: &mut I) -> Result<(), AllocError> {
-        keeps_the_first(self.rt, index)?;
-        index.clear();
-        says_whether_it_removed(self.rt, index)?;
-        index.clear();
-        asks_its_condition_once(self.rt, index)
+        let rt = self.rt;
+        assert!(rt; answers_each_call(index)?);
+        Ok(())
     }
 }
 
@@ -168,25 +181,28 @@ impl<const LEN: usize> TaggedKeys for TreeIndexOf<Tagged, u64, LEN> {
     }
 }
 
-/// An upsert replaces the stored key as well as its value. A value that is replaced, or changed, leaves the stored key.
-fn replaces_the_key(rt: &impl Abort, index: &mut impl TaggedKeys) -> Result<(), AllocError> {
+/// Whether an upsert replaces the stored key as well as its value, and a value that is replaced, or changed, leaves the
+/// stored key.
+fn replaces_the_key(index: &mut impl TaggedKeys) -> Result<bool, AllocError> {
     index.upsert('a', 1)?;
     index.upsert('b', 2)?;
-    assert!(rt; index.entry('c') == Some(('b', 2)));
-    assert!(rt; index.replace('d', 3) == Ok(2));
-    assert!(rt; index.count_up('e'));
-    assert!(rt; index.entry('f') == Some(('b', 4)));
-    Ok(())
+    let stored = index.entry('c');
+    let replaced = index.replace('d', 3);
+    let counted = index.count_up('e');
+    let told = (stored, replaced, counted, index.entry('f'));
+    Ok(told == (Some(('b', 2)), Ok(2), true, Some(('b', 4))))
 }
 
 fn replaces_the_key_steps(rt: &impl Abort, alloc: Global) -> Result<(), AllocError> {
     let mut index: TreeIndex<Tagged, u64> = TreeIndex::new(alloc);
-    replaces_the_key(rt, &mut index)
+    assert!(rt; replaces_the_key(&mut index)?);
+    Ok(())
 }
 
 fn replaces_a_small_key_steps(rt: &impl Abort, alloc: Global) -> Result<(), AllocError> {
     let mut index: SmallTreeIndex<Tagged, u64> = SmallTreeIndex::new(alloc);
-    replaces_the_key(rt, &mut index)
+    assert!(rt; replaces_the_key(&mut index)?);
+    Ok(())
 }
 
 #[test]

@@ -11,7 +11,7 @@ use std::sync::ledger::{Blank, Ledger};
 use test_support::refusals::succeeds;
 use tree_array::array::{Judge, KeyJudge, Steps};
 use tree_index::{SmallTreeIndex, TreeIndex, TreeIndexOf};
-use tree_support::{Asked, Numbers, OwnScenario, put, succeeds_by_own_calls};
+use tree_support::{Asked, OwnScenario, succeeds_by_own_calls};
 
 /// What a judge looks a key up in.
 pub trait LookedUp<K: Ord> {
@@ -45,19 +45,18 @@ fn is_found_by<K: Ord, I: LookedUp<K>, L: Ledger>(index: &I, key: &K, blank: Bla
     index.finds(&mut judge)
 }
 
-/// Makes each look-up of a number, which compare it at most so often.
-fn look_up<'c>(
-    rt: &impl Abort,
+/// Whether the look-ups of a number all find it or none does, and each compares it at most so often.
+fn looks_up_alike<'c>(
     index: &impl AskedKeys<'c>,
     counter: &'c Cell<u64>,
     number: u64,
     most: u64,
-) {
+) -> bool {
     let key = Asked::new(number, counter);
     counter.set(0);
     let there = index.contains(&key);
-    assert!(rt; counter.replace(0) <= most);
     let found = [
+        (there, counter.replace(0)),
         (index.is_peeked(&key), counter.replace(0)),
         (index.is_entry(&key), counter.replace(0)),
         (index.is_shown(&key), counter.replace(0)),
@@ -65,25 +64,27 @@ fn look_up<'c>(
         (is_found(index, &key), counter.replace(0)),
     ];
     for (is_there, asked) in found {
-        assert!(rt; is_there == there && asked <= most);
+        if is_there != there || asked > most {
+            return false;
+        }
     }
+    true
 }
 
-/// Looks for the pairs beside a number, of the even numbers up to the last. That compares it at most so often.
-fn look_beside<'c>(
-    rt: &impl Abort,
+/// Whether the pairs beside a number, of the even numbers up to the last, are found where there are such, and each
+/// look-up compares it at most so often.
+fn finds_those_beside<'c>(
     index: &impl AskedKeys<'c>,
     counter: &'c Cell<u64>,
     number: u64,
     last: u64,
     most: u64,
-) {
+) -> bool {
     let key = Asked::new(number, counter);
     counter.set(0);
     let reached = (index.is_reached(&key), counter.replace(0));
     let passed = (index.is_passed(&key), counter.replace(0));
-    assert!(rt; reached.0 == (number <= last) && reached.1 <= most);
-    assert!(rt; passed.0 == (number > 1) && passed.1 <= most);
+    (reached.0, passed.0) == (number <= last, number > 1) && reached.1 <= most && passed.1 <= most
 }
 
 /// How many pairs an index has when it is looked up in, and how many comparisons an array takes at most.
@@ -103,20 +104,25 @@ static SMALL_SIZES: Sizes = Sizes {
     most: 3,
 };
 
-/// Looks up each key of an index of the even numbers up to the last, and those beside it.
-fn look_up_all<'c>(
-    rt: &impl Abort,
+/// Whether the look-ups of each key agree, in an index of the even numbers up to the last, and those beside each are
+/// found.
+fn looks_up_all<'c>(
     index: &impl AskedKeys<'c>,
     counter: &'c Cell<u64>,
     last: u64,
     most: u64,
-) {
+) -> bool {
     let levels = (index.depth() as u64).saturating_add(1);
     let asked = levels.saturating_mul(most);
     for number in 1..=last.saturating_add(1) {
-        look_up(rt, index, counter, number, asked);
-        look_beside(rt, index, counter, number, last, asked.saturating_add(2));
+        let beside = asked.saturating_add(2);
+        if !looks_up_alike(index, counter, number, asked)
+            || !finds_those_beside(index, counter, number, last, beside)
+        {
+            return false;
+        }
     }
+    true
 }
 
 /// Stores even numbers, and looks all up at each of the sizes.
@@ -131,7 +137,7 @@ fn compares_few<'c>(
         let last = number.saturating_mul(2);
         index.store(last, counter)?;
         if sizes.counts.contains(&number) {
-            look_up_all(rt, index, counter, last, sizes.most);
+            assert!(rt; looks_up_all(index, counter, last, sizes.most));
         }
     }
     Ok(())
@@ -202,24 +208,47 @@ fn found_and_asked_by<I: LookedUp<u64>, L: Ledger>(
     (found, recording.equal)
 }
 
+/// An index of numbers that stores a pair.
+trait Stores {
+    /// Calls `insert_sync`.
+    fn store(&mut self, key: u64, value: u64) -> Result<(), AllocError>;
+}
+
+impl<const LEN: usize> Stores for TreeIndexOf<u64, u64, LEN> {
+    fn store(&mut self, key: u64, value: u64) -> Result<(), AllocError> {
+        match self.insert_sync(key, value) {
+            Ok(()) => Ok(()),
+            Err(_) => Err(AllocError),
+        }
+    }
+}
+
+/// Whether the look-ups up to 483 find the even numbers from 2 to 482 alone, and each that finds one has asked of that
+/// very key, and each other one of no equal key.
+fn asks_found_keys(index: &impl LookedUp<u64>) -> bool {
+    for key in 0..=483u64 {
+        let there = (2..=482).contains(&key) && key % 2 == 0;
+        let wanted = if there { Some(key) } else { None };
+        if found_and_asked(index, key) != (there, wanted) {
+            return false;
+        }
+    }
+    true
+}
+
 /// Stores the even numbers up to 482, and looks all numbers up.
 #[derive(Drop)]
 struct Asking<'r, R> {
     rt: &'r R,
 }
 
-impl<R: Abort, I: Numbers + LookedUp<u64>> OwnScenario<I> for Asking<'_, R> {
+impl<R: Abort, I: Stores + LookedUp<u64>> OwnScenario<I> for Asking<'_, R> {
     fn play(&self, index: &mut I) -> Result<(), AllocError> {
         let rt = self.rt;
         for number in 1..=241u64 {
-            put(index, number.saturating_mul(2), number)?;
+            index.store(number.saturating_mul(2), number)?;
         }
-        for key in 0..=483u64 {
-            let there = (2..=482).contains(&key) && key % 2 == 0;
-            let wanted = if there { Some(key) } else { None };
-            let told = found_and_asked(index, key);
-            assert!(rt; told == (there, wanted));
-        }
+        assert!(rt; asks_found_keys(index));
         Ok(())
     }
 }

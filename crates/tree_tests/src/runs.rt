@@ -45,16 +45,20 @@ fn commands(alloc: Global) -> Result<Vec<Command<u64, u64>>, AllocError> {
     Ok(commands)
 }
 
-/// Compares the replies with the wanted ones.
-fn expect_replies(rt: &impl Abort, replies: &[Reply<u64>]) -> Result<(), AllocError> {
-    assert!(rt; replies.len() == COMMANDS.len());
+/// Whether the replies are the wanted ones. Returns `Err` if memory was refused for one.
+fn are_wanted(replies: &[Reply<u64>]) -> Result<bool, AllocError> {
+    if replies.len() != COMMANDS.len() {
+        return Ok(false);
+    }
     for (reply, (_, wanted)) in replies.iter().zip(&COMMANDS) {
         if *reply == Reply::Refused {
             return Err(AllocError);
         }
-        assert!(rt; *reply == *wanted);
+        if *reply != *wanted {
+            return Ok(false);
+        }
     }
-    Ok(())
+    Ok(true)
 }
 
 /// Runs the commands over a new index.
@@ -68,7 +72,8 @@ impl<R: Abort, I: Runs> OwnScenario<I> for Running<'_, R> {
     fn play(&self, index: &mut I) -> Result<(), AllocError> {
         let list = commands(self.alloc)?;
         let replies = index.run(list)?;
-        expect_replies(self.rt, &replies)
+        assert!(self.rt; are_wanted(&replies)?);
+        Ok(())
     }
 }
 
@@ -94,6 +99,16 @@ static DEPTHS: [(u64, usize); 9] = [
     (54_241, 4),
 ];
 
+/// Returns the inserts of the keys from the first to the last.
+fn inserts(alloc: Global, first: u64, last: u64) -> Result<Vec<Command<u64, u64>>, AllocError> {
+    let count = last.saturating_sub(first).saturating_add(1);
+    let mut commands = Vec::with_capacity(alloc, count as usize)?;
+    for key in first..=last {
+        commands.push(Command::Insert(key, key))?;
+    }
+    Ok(commands)
+}
+
 /// Runs the inserts of the keys from the first to the last.
 fn run_inserts(
     alloc: Global,
@@ -101,13 +116,8 @@ fn run_inserts(
     first: u64,
     last: u64,
 ) -> Result<(), AllocError> {
-    let count = last.saturating_sub(first).saturating_add(1);
-    let mut commands = Vec::with_capacity(alloc, count as usize)?;
-    for key in first..=last {
-        commands.push(Command::Insert(key, key))?;
-    }
-    let replies = index.run(commands)?;
-    if replies.iter().any(|reply| matches!(reply, Reply::Refused)) {
+    let replies = index.run(inserts(alloc, first, last)?)?;
+    if replies.contains(&Reply::Refused) {
         return Err(AllocError);
     }
     Ok(())

@@ -115,30 +115,32 @@ fn shrink(index: &mut impl Numbers, row: &Row) {
     }
 }
 
-/// An index of one level has no pair, and then takes one.
-fn expect_begun_anew(rt: &impl Abort, index: &mut impl Numbers) -> Result<(), AllocError> {
-    assert!(rt; index.len() == 0);
+/// Whether an index of one level has no pair, and then takes one.
+fn begins_anew(index: &mut impl Numbers) -> Result<bool, AllocError> {
+    if index.len() != 0 {
+        return Ok(false);
+    }
     put(index, 1, 1)?;
-    assert!(rt; index.depth() == 1 && index.spare() == 14 && index.len() == 1);
-    Ok(())
+    Ok((index.depth(), index.spare(), index.len()) == (1, 14, 1))
 }
 
-/// Grows an index to the first shape of a row. Then removes the keys of the row, which leaves its last shape.
-fn expect_shapes(rt: &impl Abort, index: &mut impl Shaped, row: &Row) -> Result<(), AllocError> {
+/// Grows an index by the keys of a row, and removes those that the row names. Returns whether it has the first shape of
+/// the row when it has grown, and the last one in the end.
+fn takes_both_shapes(index: &mut impl Shaped, row: &Row) -> Result<bool, AllocError> {
     ascend(index, row.keys.0, row.keys.1, 1)?;
-    assert!(rt; index.shape() == row.grown);
+    let grown = index.shape();
     shrink(index, row);
-    assert!(rt; index.shape() == row.left);
-    let (_, leaves, _) = row.left;
-    if leaves == 0 {
-        expect_begun_anew(rt, index)?;
+    if [grown, index.shape()] != [row.grown, row.left] {
+        return Ok(false);
     }
-    Ok(())
+    let (_, leaves, _) = row.left;
+    Ok(leaves > 0 || begins_anew(index)?)
 }
 
 fn expect_row(rt: &impl Abort, alloc: Global, row: &Row) -> Result<(), AllocError> {
     let mut index: TreeIndex<u64, u64> = TreeIndex::new(alloc);
-    expect_shapes(rt, &mut index, row)
+    assert!(rt; takes_both_shapes(&mut index, row)?);
+    Ok(())
 }
 
 #[test]

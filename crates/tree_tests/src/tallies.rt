@@ -157,11 +157,11 @@ fn leaf_count<const LEN: usize>(index: &Index<'_, LEN>) -> usize {
     arenas.leaf_count()
 }
 
-/// Each pair holds a key and a value, and each leaf but the last a separator.
-fn expect_alive<'c>(rt: &impl Abort, index: &impl CountedPairs<'c>, tally: &Tally) {
+/// Whether what is alive is what the index holds: each pair a key and a value, and each leaf but the last a separator.
+fn keeps_alive<'c>(index: &impl CountedPairs<'c>, tally: &Tally) -> bool {
     let separators = index.leaves().saturating_sub(1);
     let held = index.len().saturating_mul(2).saturating_add(separators);
-    assert!(rt; tally.has_alive(held));
+    tally.has_alive(held)
 }
 
 /// The pair that an insert was refused memory for.
@@ -211,7 +211,7 @@ fn make_calls<'c>(
     let mut chance = Chance::new(1);
     for _ in 0..4000 {
         let outcome = call(index, &mut chance, tally);
-        expect_alive(rt, index, tally);
+        assert!(rt; keeps_alive(index, tally));
         outcome?;
     }
     Ok(())
@@ -246,17 +246,14 @@ fn drops_each_key_and_value_once(rt: HostRuntime) {
     assert!(rt; succeeds(rt.alloc(), || drops_once(&rt, rt.alloc())));
 }
 
-/// Compares which of the greatest keys are there: all but this one, of those from it on.
-fn expect_absent<'c>(
-    rt: &impl Abort,
-    index: &impl CountedPairs<'c>,
-    tally: &'c Tally,
-    number: u64,
-) {
+/// Whether of the greatest keys, from this one on, all but this one are there.
+fn lacks_it_alone<'c>(index: &impl CountedPairs<'c>, tally: &'c Tally, number: u64) -> bool {
     for other in number..300 {
-        let there = index.has(&Counted::new(other, tally));
-        assert!(rt; there == (other != number));
+        if index.has(&Counted::new(other, tally)) == (other == number) {
+            return false;
+        }
     }
+    true
 }
 
 /// Stores an absent key, by an insert if it is even and else by an upsert. Returns the pair if memory was refused.
@@ -282,8 +279,8 @@ fn store_twice<'c>(
     let Some((key, value)) = refused else {
         return Ok(false);
     };
-    assert!(rt; key.number == number && value.number == number);
-    expect_absent(rt, index, tally, number);
+    let numbers = [key.number, value.number];
+    assert!(rt; numbers == [number, number] && lacks_it_alone(index, tally, number));
     if index.insert(key, value).is_err() {
         return Err(AllocError);
     }
@@ -301,9 +298,9 @@ fn refused_clones<'c>(
         if store_twice(rt, index, tally, number)? {
             refused = refused.saturating_add(1);
         }
-        expect_alive(rt, index, tally);
+        assert!(rt; keeps_alive(index, tally));
     }
-    assert_eq!(rt; index.len(), 300);
+    assert!(rt; index.len() == 300);
     Ok(refused)
 }
 
@@ -322,11 +319,9 @@ fn fill_seven_slots(rt: &impl Abort, alloc: Global, tally: &Tally) -> Result<u64
 fn refuses_clones(rt: &impl Abort, alloc: Global) -> Result<(), AllocError> {
     let tally = Tally::new();
     let refused = fill_fifteen_slots(rt, alloc, &tally);
-    assert!(rt; tally.has_alive(0));
-    assert!(rt; refused? > 15);
+    assert!(rt; tally.has_alive(0) && refused? > 15);
     let refused = fill_seven_slots(rt, alloc, &tally);
-    assert!(rt; tally.has_alive(0));
-    assert!(rt; refused? > 30);
+    assert!(rt; tally.has_alive(0) && refused? > 30);
     Ok(())
 }
 

@@ -70,6 +70,13 @@ impl Ended {
     fn has_left(&self, pairs: Option<&&'static str>) -> bool {
         pairs.is_some_and(|text| text.as_bytes() == self.pairs.taken())
     }
+
+    /// Whether the run ended so, the answers are the first of a script, and the pairs are those behind so many lines.
+    fn shows(&self, script: &Script, outcome: Result<(), ToolFault>, applied: usize) -> bool {
+        self.outcome == outcome
+            && script.answers.starts_with(self.output.taken())
+            && self.has_left(script.pairs.get(applied))
+    }
 }
 
 /// Runs the lines of a reader over an index, which is cleared first.
@@ -111,11 +118,7 @@ fn shows_a_failed_read(
     let lines = count_lines(script.lines.get(..given).unwrap_or(script.lines));
     let answers = ended.output.taken();
     let are_lines = answers.is_empty() || answers.ends_with(b"\n");
-    ended.outcome == outcome
-        && are_lines
-        && script.answers.starts_with(answers)
-        && count_lines(answers) == lines
-        && ended.has_left(script.pairs.get(lines))
+    are_lines && count_lines(answers) == lines && ended.shows(script, outcome, lines)
 }
 
 /// Fails each read of a script in turn.
@@ -172,10 +175,7 @@ fn shows_a_failed_write(
     };
     let taken = answers.len() as u64;
     let is_in_place = is_whole || taken == failing.passes || piece > 1 && taken > failing.passes;
-    ended.outcome == outcome
-        && is_in_place
-        && script.answers.starts_with(answers)
-        && ended.has_left(script.pairs.get(applied))
+    is_in_place && ended.shows(script, outcome, applied)
 }
 
 /// Fails each write of a script in turn.
