@@ -59,22 +59,28 @@ fn upserts_of_one_key_allocate_once(rt: HostRuntime) {
     assert!(rt; succeeds_at_both_sizes(rt.alloc(), &scenario));
 }
 
-/// Removes four of the keys from 1 to 12, and inserts seven others.
-fn refill(rt: &impl Abort, index: &mut impl Numbers) {
-    assert!(rt; index.spare() == 3);
+/// Removes four of the keys from 1 to 12, and inserts seven others. Returns whether the spare is as wanted all along.
+fn refills(index: &mut impl Numbers) -> bool {
+    if index.spare() != 3 {
+        return false;
+    }
     for (key, spare) in [(1, 3), (2, 3), (3, 3), (4, 7)] {
-        assert!(rt; index.remove(key) && index.spare() == spare);
+        if !index.remove(key) || index.spare() != spare {
+            return false;
+        }
     }
     for key in 21..=27u64 {
-        assert!(rt; index.insert(key, key).is_ok());
+        if index.insert(key, key).is_err() {
+            return false;
+        }
     }
-    assert!(rt; index.spare() == 0 && index.len() == 15);
+    (index.spare(), index.len()) == (0, 15)
 }
 
 fn refills_steps(rt: &impl Abort, alloc: Global) -> Result<(), AllocError> {
     let mut index: TreeIndex<u64, u64> = TreeIndex::new(alloc);
     ascend(&mut index, 1, 12, 1)?;
-    refill(rt, &mut index);
+    assert!(rt; refills(&mut index));
     Ok(())
 }
 

@@ -89,51 +89,49 @@ fn shrink(alloc: Global, index: &mut impl NamedKeys, shape: &Shape) {
     }
 }
 
-/// Offers a second key that is equal to the one that was written.
-fn refuse_a_duplicate(rt: &impl Abort, alloc: Global, index: &mut impl NamedKeys, number: u64) {
+/// Whether a second key that is equal to the one that was written comes back, and no memory is asked for.
+fn refuses_a_duplicate(alloc: Global, index: &mut impl NamedKeys, number: u64) -> bool {
     match index.insert(Named::bare(alloc, number), 7) {
         Err(InsertError::Duplicate(key, value)) => {
-            assert!(rt; key.number == number && key.name.is_empty() && value == 7);
+            key.number == number && key.name.is_empty() && value == 7
         }
-        _ => panic!(rt; "a second key was stored, or memory asked for"),
+        _ => false,
     }
 }
 
-/// Looks up the key that was written, with both ends of a range too.
-fn look_up(rt: &impl Abort, index: &impl NamedKeys, key: &Named) {
-    assert!(rt; index.peek(key) == Some(0) && index.contains(key) && index.is_alone(key));
+/// Whether the key that was written is found, with both ends of a range too.
+fn looks_up(index: &impl NamedKeys, key: &Named) -> bool {
+    index.peek(key) == Some(0) && index.contains(key) && index.is_alone(key)
 }
 
-/// Removes the pair that was written, if its condition allows it.
-fn remove(rt: &impl Abort, index: &mut impl NamedKeys, key: &Named) {
-    assert!(rt; !index.remove_positive(key));
-    assert!(rt; index.remove(key));
+/// Whether the pair that was written is removed, but not where its condition forbids it.
+fn removes(index: &mut impl NamedKeys, key: &Named) -> bool {
+    !index.remove_positive(key) && index.remove(key)
 }
 
-/// Removes the pairs up to a key. Those of the rest stay.
-fn cut(rt: &impl Abort, index: &mut impl NamedKeys, pairs: &[(u64, u64)], key: &Named) {
+/// Removes the pairs up to a key. Returns whether those of the rest stay.
+fn cuts(index: &mut impl NamedKeys, pairs: &[(u64, u64)], key: &Named) -> bool {
     index.remove_up_to(key);
     let first = pairs.iter().position(|pair| pair.0 > key.number);
     let rest = pairs.get(first.unwrap_or(pairs.len())..).unwrap_or(&[]);
-    assert!(rt; stands(index, rest, 0));
+    stands(index, rest, 0)
 }
 
-/// Calls that allocate nothing answer, whatever is refused. At last the index is empty.
-fn answer_without_memory(
-    rt: &impl Abort,
+/// Whether calls that allocate nothing answer, whatever is refused. At last the index is empty.
+fn answers_without_memory(
     alloc: Global,
     index: &mut impl NamedKeys,
     pairs: &[(u64, u64)],
     number: u64,
-) {
+) -> bool {
     let key = Named::bare(alloc, number);
-    refuse_a_duplicate(rt, alloc, index, number);
-    look_up(rt, index, &key);
-    remove(rt, index, &key);
-    assert!(rt; stands(index, pairs, 0));
-    cut(rt, index, pairs, &key);
+    let is_found = refuses_a_duplicate(alloc, index, number) && looks_up(index, &key);
+    let is_cut = is_found
+        && removes(index, &key)
+        && stands(index, pairs, 0)
+        && cuts(index, pairs, &key);
     index.clear();
-    assert!(rt; index.is_empty() && index.depth() == 0);
+    is_cut && index.is_empty() && index.depth() == 0
 }
 
 /// Writes the pair of a shape into an index of these pairs, and makes the calls that allocate nothing.
@@ -147,8 +145,8 @@ fn write(
 ) -> Result<(), AllocError> {
     let (_, _, _, number, depth) = *shape;
     let refused = write_twice(rt, alloc, index, before, by, written(alloc, number)?)?;
-    assert!(rt; stands(index, after, number) && index.depth() == depth);
-    answer_without_memory(rt, alloc, index, before, number);
+    let is_written = stands(index, after, number) && index.depth() == depth;
+    assert!(rt; is_written && answers_without_memory(alloc, index, before, number));
     ample(refused)
 }
 
