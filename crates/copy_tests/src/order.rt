@@ -5,7 +5,7 @@ use std::cmp::Ordering;
 use std::hash::{DefaultHasher, Hash, Hasher};
 use std::process::Abort;
 use test_support::refusals::succeeds;
-use tree_index::TreeIndexOf;
+use tree_index::{TreeIndex, TreeIndexOf};
 
 /// The pairs of an index.
 type Pairs = &'static [(u64, u64)];
@@ -46,6 +46,16 @@ fn are_ordered<const LEN: usize>(
     answers == (order, order.reverse(), Some(order), order.is_eq())
 }
 
+/// Orders two indexes with fifteen pairs a leaf.
+fn expect_order(
+    rt: &impl Abort,
+    first: &TreeIndex<u64, u64>,
+    second: &TreeIndex<u64, u64>,
+    order: Ordering,
+) {
+    assert!(rt; first.partial_cmp(second) == Some(order));
+}
+
 /// Orders an index with that of these pairs, with fifteen pairs a leaf.
 fn expect_beside(
     rt: &impl Abort,
@@ -56,6 +66,7 @@ fn expect_beside(
 ) -> Result<(), AllocError> {
     let second = index_of(alloc, pairs)?;
     assert!(rt; are_ordered(first, &second, order));
+    expect_order(rt, first, &second, order);
     Ok(())
 }
 

@@ -78,9 +78,12 @@ impl<K: IndexKey + SameClone, V: SameClone, const LEN: usize> StateOf<K, V, LEN>
     /// passed.
     ///
     /// ```
-    /// assert!(rt; state.history().len() == CALLS.len());
-    /// for (record, (command, reply)) in state.history().iter().zip(&CALLS) {
-    ///     assert!(rt; record.command == *command && record.reply == *reply);
+    /// Ok(has_the_calls(state.history()))
+    ///
+    /// for (record, (command, reply)) in history.iter().zip(&CALLS) {
+    ///     if record.command != *command || record.reply != *reply {
+    ///         return false;
+    ///     }
     /// }
     /// ```
     pub fn history(&self) -> &[Record<K, V>]
@@ -111,7 +114,8 @@ impl<K: IndexKey + SameClone, V: SameClone, const LEN: usize> StateOf<K, V, LEN>
     ///
     /// ```
     /// match state.apply(*command) {
-    ///     Ok(told) => assert!(rt; told == *reply),
+    ///     Ok(told) if told == *reply => {}
+    ///     Ok(_) => return Ok(false),
     ///     Err(_) => return Err(AllocError),
     /// }
     /// ```
