@@ -15,34 +15,22 @@ use tree_shared::{Closed, Pass, SharedTreeIndex, Tally, Unclosed};
 
 const INSERT: Command<u64, u64> = Command::Insert(1, 10);
 
-/// With no worker nothing is counted.
-pub(crate) fn closes_without_workers<
-    C: Ledger,
-    S: Ledger,
-    M: Ledger,
-    F: Ledger,
-    D: Ledger,
-    R: Abort,
->(
-    rt: &R,
+/// Whether nothing is counted with no worker.
+pub(crate) fn closes_without_workers<C: Ledger, S: Ledger, M: Ledger, F: Ledger, D: Ledger>(
     shared: SharedTreeIndex<u64, u64, C, S, M, F, D>,
     passes: Vec<Pass<C, S, M, F, D>>,
-) -> Result<(), AllocError> {
-    let Some(closed) = closed_with(shared, passes) else {
-        panic!(rt; "not closed")
+) -> bool {
+    let nothing = Tally {
+        calls: 0,
+        stored: 0,
+        removed: 0,
+        found: 0,
+        done: 0,
     };
-    assert!(rt;
-        closed.tally
-            == Tally {
-                calls: 0,
-                stored: 0,
-                removed: 0,
-                found: 0,
-                done: 0
-            }
-    );
-    assert!(rt; closed.history.is_empty());
-    Ok(())
+    match closed_with(shared, passes) {
+        Some(closed) => closed.tally == nothing && closed.history.is_empty(),
+        None => false,
+    }
 }
 
 #[test]
@@ -50,7 +38,8 @@ fn nothing_is_counted_without_workers(rt: HostRuntime) {
     assert!(rt; succeeds(rt.alloc(), || play(&rt, rt.alloc(), 0, Scenario::NoWorker)));
 }
 
-/// With the pass of the only call, one of two, the index comes back, and with both it is closed. The call may be refused.
+/// Whether the index comes back with the pass of the only call, one of two, and is closed with both. `Err` if the call was
+/// refused.
 pub(crate) fn closes_with_all_passes<
     C: Ledger,
     S: Ledger,
@@ -62,31 +51,61 @@ pub(crate) fn closes_with_all_passes<
     rt: &R,
     shared: SharedTreeIndex<u64, u64, C, S, M, F, D>,
     mut passes: Vec<Pass<C, S, M, F, D>>,
-) -> Result<(), AllocError>
+) -> Result<bool, AllocError>
     requires { All (λ pass. pass ≡ none) passes.items }
 {
     let Some(idle) = passes.pop() else {
-        panic!(rt; "no pass")
+        return Ok(false);
     };
-    let Some(pass) = passes.get_mut(0) else {
-        panic!(rt; "one pass alone")
-    };
-    let inserted = reply_to(rt, &shared, pass, &INSERT);
+    let inserted = insert_by_first(rt, &shared, &mut passes);
     let calls = u64::from(inserted == Ok(Reply::Stored));
-    let Err(Unclosed::PassMissing(shared, mut passes)) = shared.close(passes) else {
-        panic!(rt; "closed without a pass")
+    let Err(Unclosed::PassMissing(shared, passes)) = shared.close(passes) else {
+        return Ok(false);
     };
-    let [pass] = passes.as_slice() else {
-        panic!(rt; "not the one pass")
-    };
-    assert!(rt; pass.tally().calls == calls);
+    if !closes_with(shared, passes, idle, calls)? {
+        return Ok(false);
+    }
+    Ok(inserted? == Reply::Stored)
+}
+
+// Makes the insert by the first pass. `Err` if it is refused, or there is no pass.
+fn insert_by_first<C: Ledger, S: Ledger, M: Ledger, F: Ledger, D: Ledger, R: Wait + Abort>(
+    rt: &R,
+    shared: &SharedTreeIndex<u64, u64, C, S, M, F, D>,
+    passes: &mut Vec<Pass<C, S, M, F, D>>,
+) -> Result<Reply<u64>, AllocError> {
+    match passes.get_mut(0) {
+        Some(pass) => reply_to(rt, shared, pass, &INSERT),
+        None => Err(AllocError),
+    }
+}
+
+// Whether the index is closed with a pass that has made so many calls and an idle one.
+fn closes_with<C: Ledger, S: Ledger, M: Ledger, F: Ledger, D: Ledger>(
+    shared: SharedTreeIndex<u64, u64, C, S, M, F, D>,
+    mut passes: Vec<Pass<C, S, M, F, D>>,
+    idle: Pass<C, S, M, F, D>,
+    calls: u64,
+) -> Result<bool, AllocError> {
+    if !is_one_pass(&passes, calls) {
+        return Ok(false);
+    }
     passes.push(idle)?;
-    let Some(closed) = closed_with(shared, passes) else {
-        panic!(rt; "not closed")
-    };
-    assert!(rt; is_left(calls, &closed));
-    inserted?;
-    Ok(())
+    match closed_with(shared, passes) {
+        Some(closed) => Ok(is_left(calls, &closed)),
+        None => Ok(false),
+    }
+}
+
+// Whether these are one pass that has made so many calls.
+fn is_one_pass<C: Ledger, S: Ledger, M: Ledger, F: Ledger, D: Ledger>(
+    passes: &[Pass<C, S, M, F, D>],
+    calls: u64,
+) -> bool {
+    match passes {
+        [pass] => pass.tally().calls == calls,
+        _ => false,
+    }
 }
 
 // Whether this is left of an insert that was answered once, or of one that was refused.
@@ -126,7 +145,7 @@ fn comes_back_without_a_pass(rt: HostRuntime) {
     );
 }
 
-/// The index and its history, while a pass is out. Its only call may be refused.
+/// Whether the index and its history come back while a pass is out. `Err` if its only call was refused.
 pub(crate) fn parts_while_a_pass_is_out<
     C: Ledger,
     S: Ledger,
@@ -138,18 +157,16 @@ pub(crate) fn parts_while_a_pass_is_out<
     rt: &R,
     shared: SharedTreeIndex<u64, u64, C, S, M, F, D>,
     mut passes: Vec<Pass<C, S, M, F, D>>,
-) -> Result<(), AllocError>
+) -> Result<bool, AllocError>
     requires { All (λ pass. pass ≡ none) passes.items }
 {
-    let Some(pass) = passes.get_mut(0) else {
-        panic!(rt; "no pass")
-    };
-    let inserted = reply_to(rt, &shared, pass, &INSERT);
+    let inserted = insert_by_first(rt, &shared, &mut passes);
     let calls = u64::from(inserted == Ok(Reply::Stored));
     let (index, history) = shared.into_parts();
-    assert!(rt; is_recorded(calls, &index, &history));
-    inserted?;
-    Ok(())
+    if !is_recorded(calls, &index, &history) {
+        return Ok(false);
+    }
+    Ok(inserted? == Reply::Stored)
 }
 
 #[test]

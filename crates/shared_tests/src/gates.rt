@@ -131,11 +131,10 @@ fn history_of<R: Threads + Wait + Abort + Sync, G: Gate + Sync>(
     match run_workers(rt, alloc, workers, n, gate) {
         Ok(closed) => {
             let (calls, all) = (closed.tally.calls, n.saturating_mul(workers as u64));
-            assert!(rt;
-                calls == all || calls.checked_add(1) == Some(all) || is_out_of_memory(alloc)
-            );
-            assert!(rt; calls < all || closed.tally.stored == n);
-            assert!(rt; closed.tally.stored == closed.index.len() as u64);
+            let fits = calls == all || calls.checked_add(1) == Some(all) || is_out_of_memory(alloc);
+            let stored = closed.tally.stored;
+            let length = closed.index.len() as u64;
+            assert!(rt; fits && (calls < all || stored == n) && stored == length);
             Ok(closed.history)
         }
         Err(StormError::Refused) => Err(AllocError),

@@ -114,48 +114,48 @@ pub(crate) fn make_calls<
     Ok(refused)
 }
 
-/// What the calls below leave, as far as they were answered: a history in which a refused call has no record.
-fn expect_recorded(
-    rt: &impl Abort,
+/// Whether the calls below leave this, as far as they were answered: a history in which a refused call has no record. `Err`
+/// if one was refused.
+fn are_recorded(
     history: &[Record<u64, u64>],
     tally: Tally,
     is_empty: bool,
     outcome: Result<bool, AllocError>,
-) -> Result<(), AllocError> {
-    assert!(rt; are_the_first_calls(history));
-    assert!(rt; tally.calls == history.len() as u64);
+) -> Result<bool, AllocError> {
+    let wanted = Tally {
+        calls: 10,
+        stored: 4,
+        removed: 1,
+        found: 1,
+        done: 2,
+    };
+    if !are_the_first_calls(history) || tally.calls != history.len() as u64 {
+        return Ok(false);
+    }
     let refused = outcome?;
-    assert!(rt;
-        tally
-            == Tally {
-                calls: 10,
-                stored: 4,
-                removed: 1,
-                found: 1,
-                done: 2
-            }
-    );
-    assert!(rt; is_empty);
-    if refused { Err(AllocError) } else { Ok(()) }
+    if refused && tally == wanted && is_empty {
+        return Err(AllocError);
+    }
+    Ok(!refused && tally == wanted && is_empty)
 }
 
-/// Each call.
+/// Whether each call is answered and recorded.
 pub(crate) fn each_call<C: Ledger, S: Ledger, M: Ledger, F: Ledger, D: Ledger, R: Wait + Abort>(
     rt: &R,
     shared: SharedTreeIndex<u64, u64, C, S, M, F, D>,
     mut passes: Vec<Pass<C, S, M, F, D>>,
-) -> Result<(), AllocError>
+) -> Result<bool, AllocError>
     requires { All (λ pass. pass ≡ none) passes.items }
 {
     let Some(pass) = passes.get_mut(0) else {
-        panic!(rt; "no pass")
+        return Ok(false);
     };
     let outcome = make_calls(rt, &shared, pass, &CALLS);
     let Ok(closed) = shared.close(passes) else {
-        panic!(rt; "not closed")
+        return Ok(false);
     };
     let is_empty = closed.index.is_empty();
-    expect_recorded(rt, &closed.history, closed.tally, is_empty, outcome)
+    are_recorded(&closed.history, closed.tally, is_empty, outcome)
 }
 
 static CALLS: [Row; 10] = [
@@ -184,7 +184,7 @@ fn are_the_first_calls(history: &[Record<u64, u64>]) -> bool {
     history.len() <= CALLS.len()
 }
 
-/// Each call over an index of seven pairs a leaf.
+/// The same over an index of seven pairs a leaf.
 pub(crate) fn each_small_call<
     C: Ledger,
     S: Ledger,
@@ -196,18 +196,18 @@ pub(crate) fn each_small_call<
     rt: &R,
     shared: SharedTreeIndexOf<u64, u64, C, S, M, F, D, 7>,
     mut passes: Vec<Pass<C, S, M, F, D>>,
-) -> Result<(), AllocError>
+) -> Result<bool, AllocError>
     requires { All (λ pass. pass ≡ none) passes.items }
 {
     let Some(pass) = passes.get_mut(0) else {
-        panic!(rt; "no pass")
+        return Ok(false);
     };
     let outcome = make_calls(rt, &shared, pass, &CALLS);
     let Ok(closed) = shared.close(passes) else {
-        panic!(rt; "not closed")
+        return Ok(false);
     };
     let is_empty = closed.index.is_empty();
-    expect_recorded(rt, &closed.history, closed.tally, is_empty, outcome)
+    are_recorded(&closed.history, closed.tally, is_empty, outcome)
 }
 
 #[test]
@@ -217,7 +217,8 @@ fn each_call_is_recorded(rt: HostRuntime) {
     }
 }
 
-/// An insert, which may be refused, and the removal of its key.
+/// Whether an insert, which may be refused, and the removal of its key are told as they were answered. `Err` if the insert
+/// was refused.
 pub(crate) fn insert_and_remove<
     C: Ledger,
     S: Ledger,
@@ -229,24 +230,30 @@ pub(crate) fn insert_and_remove<
     rt: &R,
     shared: SharedTreeIndex<u64, u64, C, S, M, F, D>,
     mut passes: Vec<Pass<C, S, M, F, D>>,
-) -> Result<(), AllocError>
+) -> Result<bool, AllocError>
     requires { All (λ pass. pass ≡ none) passes.items }
 {
     let Some(pass) = passes.get_mut(0) else {
-        panic!(rt; "no pass")
+        return Ok(false);
     };
     let inserted = reply_to(rt, &shared, pass, &Command::Insert(1, 10));
     let calls = u64::from(inserted.is_ok());
-    assert!(rt; pass.tally().calls == calls);
+    if pass.tally().calls != calls {
+        return Ok(false);
+    }
     let removed = reply_to(rt, &shared, pass, &Command::Remove(1))?;
-    assert!(rt; removed == Reply::Removed(inserted.is_ok()));
     let Some(closed) = closed_with(shared, passes) else {
-        panic!(rt; "not closed")
+        return Ok(false);
     };
-    assert!(rt; closed.tally.calls == calls + 1 && closed.history.len() as u64 == calls + 1);
-    assert!(rt; closed.index.is_empty());
-    inserted?;
-    Ok(())
+    let told = (
+        closed.tally.calls,
+        closed.history.len() as u64,
+        closed.index.is_empty(),
+    );
+    if removed != Reply::Removed(inserted.is_ok()) || told != (calls + 1, calls + 1, true) {
+        return Ok(false);
+    }
+    Ok(inserted? == Reply::Stored)
 }
 
 #[test]

@@ -5,7 +5,6 @@ use crate::one_worker::Row;
 use crate::replay::replays;
 use std::alloc::{AllocError, Global};
 use std::ops::Bound;
-use std::process::Abort;
 use tree_index::{Command, Record, Reply};
 use tree_shared::{ClosedOf, Tally};
 
@@ -141,22 +140,25 @@ fn ends_with(history: &[Record<u64, u64>], rows: &[Row]) -> bool {
     history.len() >= rows.len()
 }
 
-/// Sees that the history that a race leaves replays to the index, and that it has what was called. Returns `Err` if a call
-/// was refused, or a request of its own.
-pub(crate) fn expect_left<R: Abort, const LEN: usize>(
-    rt: &R,
+/// Whether the history that a race leaves replays to the index, and has what was called. `Err` if a call was refused, or a
+/// request of this function.
+pub(crate) fn is_left<const LEN: usize>(
     alloc: Global,
     closed: &ClosedOf<u64, u64, LEN>,
     race: Race,
     served: bool,
-) -> Result<(), AllocError> {
-    assert!(rt; replays(alloc, &closed.history, &closed.index)?);
-    assert!(rt; closed.tally.calls == closed.history.len() as u64);
+) -> Result<bool, AllocError> {
+    if !replays(alloc, &closed.history, &closed.index)?
+        || closed.tally.calls != closed.history.len() as u64
+    {
+        return Ok(false);
+    }
     if !served {
         return Err(AllocError);
     }
-    assert!(rt; race.has_each_call(&closed.history));
-    assert!(rt; ends_with(&closed.history, race.last_calls()));
-    assert!(rt; race.fits(closed.tally, closed.index.len()));
-    Ok(())
+    Ok(
+        race.has_each_call(&closed.history)
+            && ends_with(&closed.history, race.last_calls())
+            && race.fits(closed.tally, closed.index.len()),
+    )
 }

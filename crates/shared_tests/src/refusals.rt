@@ -7,7 +7,6 @@ ghost use Rattle.tree_tallies.specs.Ledgers.{IsBlankFor};
 use crate::scenario::{Scenario, play};
 use std::alloc::{AllocError, Global};
 use std::cell::Cell;
-use std::process::Abort;
 use std::sync::Wait;
 use std::sync::ledger::Ledger;
 use test_support::refusals::succeeds;
@@ -68,12 +67,12 @@ impl SameClone for Brittle {
     ghost clone_seen = { λ x y h. sym h };
 }
 
-/// Calls that are refused a clone leave history and tally as they were, and are answered later.
-fn expect_refused<C: Ledger, S: Ledger, M: Ledger, F: Ledger, D: Ledger, R: Wait + Abort>(
+/// Whether an insert that is refused a clone hands its pair back and leaves the tally, and is answered later.
+fn hands_an_insert_back<C: Ledger, S: Ledger, M: Ledger, F: Ledger, D: Ledger, R: Wait>(
     rt: &R,
     shared: &SharedTreeIndex<Brittle, Brittle, C, S, M, F, D>,
     pass: &mut Pass<C, S, M, F, D>,
-) -> Result<(), AllocError>
+) -> Result<bool, AllocError>
     requires { pass.old.calls ≤ 9 }
 {
     let Err(InsertError::OutOfMemory(key, value)) = shared.insert(
@@ -82,34 +81,51 @@ fn expect_refused<C: Ledger, S: Ledger, M: Ledger, F: Ledger, D: Ledger, R: Wait
         Brittle::new(1, 0),
         Brittle::firm(10),
     ) else {
-        panic!(rt; "stored without a record")
+        return Ok(false);
     };
-    assert!(rt; key.number == 1 && value.number == 10 && pass.tally().calls == 0);
-    assert!(rt; !shared.remove(rt, pass, &key)?);
+    if (key.number, value.number, pass.tally().calls) != (1, 10, 0) {
+        return Ok(false);
+    }
+    let removed = shared.remove(rt, pass, &key)?;
     shared
         .insert(rt, pass, key, Brittle::new(10, 1))
         .map_err(|_| AllocError)?;
-    let before = pass.tally();
-    let Err((key, value)) = shared.upsert(rt, pass, Brittle::firm(1), Brittle::new(11, 0)) else {
-        panic!(rt; "replaced without a record")
-    };
-    assert!(rt; key.number == 1 && value.number == 11);
-    assert!(rt; shared.remove(rt, pass, &Brittle::new(1, 0)).is_err());
-    assert!(rt; shared.peek(rt, pass, &Brittle::new(1, 0)).is_err());
-    assert!(rt; shared.peek(rt, pass, &key).is_err());
-    let after = pass.tally();
-    assert!(rt; after == before && after.calls == 2);
-    assert!(rt; shared.peek(rt, pass, &key)? == Some(Brittle::firm(10)));
-    Ok(())
+    Ok(!removed)
 }
 
-/// Makes such calls, and closes the shared index. It has their one pair, and its history the calls that were answered.
-pub(crate) fn refused_calls<C: Ledger, S: Ledger, M: Ledger, F: Ledger, D: Ledger, R: Wait + Abort>(
+/// Whether other calls that are refused a clone leave the tally of two calls, and hand a pair back. A look-up is answered
+/// then.
+fn leaves_the_tally<C: Ledger, S: Ledger, M: Ledger, F: Ledger, D: Ledger, R: Wait>(
+    rt: &R,
+    shared: &SharedTreeIndex<Brittle, Brittle, C, S, M, F, D>,
+    pass: &mut Pass<C, S, M, F, D>,
+) -> Result<bool, AllocError> {
+    let before = pass.tally();
+    if before.calls != 2 {
+        return Ok(false);
+    }
+    let Err((key, value)) = shared.upsert(rt, pass, Brittle::firm(1), Brittle::new(11, 0)) else {
+        return Ok(false);
+    };
+    let refused = (
+        shared.remove(rt, pass, &Brittle::new(1, 0)).is_err(),
+        shared.peek(rt, pass, &Brittle::new(1, 0)).is_err(),
+        shared.peek(rt, pass, &key).is_err(),
+    );
+    let told = (key.number, value.number, pass.tally() == before);
+    if refused != (true, true, true) || told != (1, 11, true) {
+        return Ok(false);
+    }
+    Ok(shared.peek(rt, pass, &key)? == Some(Brittle::firm(10)))
+}
+
+/// Whether such calls are answered so, and the closed index then has their one pair, and its history the answered calls.
+pub(crate) fn refused_calls<C: Ledger, S: Ledger, M: Ledger, F: Ledger, D: Ledger, R: Wait>(
     rt: &R,
     alloc: Global,
     workers: usize,
     blanks: Blanks,
-) -> Result<(), AllocError>
+) -> Result<bool, AllocError>
     requires calls { IsBlankFor workers blanks.calls C.name C.parts }
     requires stored { IsBlankFor workers blanks.stored S.name S.parts }
     requires removed { IsBlankFor workers blanks.removed M.name M.parts }
@@ -120,24 +136,20 @@ pub(crate) fn refused_calls<C: Ledger, S: Ledger, M: Ledger, F: Ledger, D: Ledge
         alloc, workers, blanks,
     )?;
     let Some(pass) = passes.get_mut(0) else {
-        panic!(rt; "no pass")
+        return Ok(false);
     };
-    expect_refused(rt, &shared, pass)?;
+    let answered = hands_an_insert_back(rt, &shared, pass)? && leaves_the_tally(rt, &shared, pass)?;
     let Ok(closed) = shared.close(passes) else {
-        panic!(rt; "not closed")
+        return Ok(false);
     };
-    assert!(rt;
-        closed.tally
-            == Tally {
-                calls: 3,
-                stored: 1,
-                removed: 0,
-                found: 1,
-                done: 0
-            }
-    );
-    assert!(rt; closed.history.len() == 3 && closed.index.len() == 1);
-    Ok(())
+    let wanted = Tally {
+        calls: 3,
+        stored: 1,
+        removed: 0,
+        found: 1,
+        done: 0,
+    };
+    Ok(answered && closed.tally == wanted && closed.history.len() == 3 && closed.index.len() == 1)
 }
 
 #[test]
@@ -145,15 +157,14 @@ fn refusals_leave_no_trace(rt: HostRuntime) {
     assert!(rt; succeeds(rt.alloc(), || play(&rt, rt.alloc(), 1, Scenario::Refusals)));
 }
 
-/// A look-up of a text, which may be refused. The next one finds the value then.
-pub(crate) fn looks_a_text_up<
-    C: Ledger,
-    S: Ledger,
-    M: Ledger,
-    F: Ledger,
-    D: Ledger,
-    R: Wait + Abort,
->(rt: &R, alloc: Global, workers: usize, blanks: Blanks) -> Result<(), AllocError>
+/// Whether a look-up of a text is told as it was answered. Where it is refused, the next one finds the value. `Err` if it
+/// was refused.
+pub(crate) fn looks_a_text_up<C: Ledger, S: Ledger, M: Ledger, F: Ledger, D: Ledger, R: Wait>(
+    rt: &R,
+    alloc: Global,
+    workers: usize,
+    blanks: Blanks,
+) -> Result<bool, AllocError>
     requires calls { IsBlankFor workers blanks.calls C.name C.parts }
     requires stored { IsBlankFor workers blanks.stored S.name S.parts }
     requires removed { IsBlankFor workers blanks.removed M.name M.parts }
@@ -164,7 +175,7 @@ pub(crate) fn looks_a_text_up<
         alloc, workers, blanks,
     )?;
     let Some(pass) = passes.get_mut(0) else {
-        panic!(rt; "no pass")
+        return Ok(false);
     };
     let (key, value) = (String::from_str(alloc, "k")?, String::from_str(alloc, "v")?);
     shared.insert(rt, pass, key, value).map_err(|_| AllocError)?;
@@ -172,25 +183,33 @@ pub(crate) fn looks_a_text_up<
 }
 
 // Looks a text up, a second time where that is refused.
-fn find_text<C: Ledger, S: Ledger, M: Ledger, F: Ledger, D: Ledger, R: Wait + Abort>(
+fn find_text<C: Ledger, S: Ledger, M: Ledger, F: Ledger, D: Ledger, R: Wait>(
     rt: &R,
     shared: &SharedTreeIndex<String, String, C, S, M, F, D>,
     pass: &mut Pass<C, S, M, F, D>,
     key: &String,
-) -> Result<(), AllocError>
+) -> Result<bool, AllocError>
     requires { pass.old.calls ≤ 1 }
 {
     let first = shared.peek(rt, pass, key);
     let is_refused = first.is_err();
-    assert!(rt; pass.tally().found == u64::from(!is_refused));
+    if pass.tally().found != u64::from(!is_refused) {
+        return Ok(false);
+    }
     let told = if is_refused {
         shared.peek(rt, pass, key)?
     } else {
         first?
     };
-    assert!(rt; told.as_deref() == Some("v"));
-    assert!(rt; pass.tally().found == 1 && pass.tally().calls == 2);
-    if is_refused { Err(AllocError) } else { Ok(()) }
+    let tally = pass.tally();
+    if told.as_deref() != Some("v") || (tally.found, tally.calls) != (1, 2) {
+        return Ok(false);
+    }
+    if is_refused {
+        Err(AllocError)
+    } else {
+        Ok(true)
+    }
 }
 
 #[test]

@@ -31,7 +31,7 @@ pub(crate) enum Scenario {
     SmallThreads(Race),
 }
 
-/// Plays a scenario for so many workers, with ledgers of its own.
+/// Plays a scenario for so many workers, with ledgers of its own, and sees that it is answered as it should be.
 pub(crate) fn play<R: Threads + Wait + Clock + Abort + Sync>(
     rt: &R,
     alloc: Global,
@@ -41,10 +41,14 @@ pub(crate) fn play<R: Threads + Wait + Clock + Abort + Sync>(
     requires { workers < usize.MAX }
 {
     let blanks = Blanks::new(workers);
-    play_with::<Brand, Brand, Brand, Brand, Brand, R>(rt, alloc, workers, scenario, blanks)
+    assert!(rt;
+        is_answered::<Brand, Brand, Brand, Brand, Brand, R>(rt, alloc, workers, scenario, blanks,)?
+    );
+    Ok(())
 }
 
-fn play_with<
+// Whether a scenario is answered as it should be.
+fn is_answered<
     C: Ledger + Send + Sync,
     S: Ledger + Send + Sync,
     M: Ledger + Send + Sync,
@@ -57,7 +61,7 @@ fn play_with<
     workers: usize,
     scenario: Scenario,
     blanks: Blanks,
-) -> Result<(), AllocError>
+) -> Result<bool, AllocError>
     requires calls { IsBlankFor workers blanks.calls C.name C.parts }
     requires stored { IsBlankFor workers blanks.stored S.name S.parts }
     requires removed { IsBlankFor workers blanks.removed M.name M.parts }
@@ -81,12 +85,12 @@ fn play_with<
     }
     let (shared, passes) = SharedTreeIndex::<u64, u64, C, S, M, F, D>::new(alloc, workers, blanks)?;
     match scenario {
-        Scenario::NoWorker => closes_without_workers(rt, shared, passes),
+        Scenario::NoWorker => Ok(closes_without_workers(shared, passes)),
         Scenario::PassAbsent => closes_with_all_passes(rt, shared, passes),
         Scenario::Parts => parts_while_a_pass_is_out(rt, shared, passes),
         Scenario::EachCall => each_call(rt, shared, passes),
         Scenario::InsertAndRemove => insert_and_remove(rt, shared, passes),
         Scenario::Threads(race) => run_race(rt, alloc, shared, passes, race),
-        _ => Ok(()),
+        _ => Ok(false),
     }
 }

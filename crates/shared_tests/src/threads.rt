@@ -1,7 +1,7 @@
 //! Threads that share an index.
 use crate::closed::closed_with;
 use crate::one_worker::{make_calls, reply_to};
-use crate::races::{Race, expect_left};
+use crate::races::{Race, is_left};
 use crate::scenario::{Scenario, play};
 use std::alloc::{AllocError, Global};
 use std::process::Abort;
@@ -117,7 +117,7 @@ fn raced<
     passes_of(alloc, racers, race)
 }
 
-/// Runs a race with these passes, and sees what it leaves.
+/// Runs a race with these passes. Returns whether it leaves what it can, or `Err` if a call was refused.
 pub(crate) fn run_race<
     C: Ledger + Send + Sync,
     S: Ledger + Send + Sync,
@@ -131,15 +131,15 @@ pub(crate) fn run_race<
     shared: SharedTreeIndex<u64, u64, C, S, M, F, D>,
     passes: Vec<Pass<C, S, M, F, D>>,
     race: Race,
-) -> Result<(), AllocError> {
+) -> Result<bool, AllocError> {
     let (mut passes, mut served) = raced(rt, alloc, &shared, passes, race)?;
     if let Some(pass) = passes.get_mut(0) {
         served &= make_calls(rt, &shared, pass, race.last_calls()) == Ok(false);
     }
     let Some(closed) = closed_with(shared, passes) else {
-        panic!(rt; "not closed")
+        return Ok(false);
     };
-    expect_left(rt, alloc, &closed, race, served)
+    is_left(alloc, &closed, race, served)
 }
 
 /// The same over an index of seven pairs a leaf.
@@ -156,15 +156,15 @@ pub(crate) fn run_small_race<
     shared: SharedTreeIndexOf<u64, u64, C, S, M, F, D, 7>,
     passes: Vec<Pass<C, S, M, F, D>>,
     race: Race,
-) -> Result<(), AllocError> {
+) -> Result<bool, AllocError> {
     let (mut passes, mut served) = raced(rt, alloc, &shared, passes, race)?;
     if let Some(pass) = passes.get_mut(0) {
         served &= make_calls(rt, &shared, pass, race.last_calls()) == Ok(false);
     }
     let Ok(closed) = shared.close(passes) else {
-        panic!(rt; "not closed")
+        return Ok(false);
     };
-    expect_left(rt, alloc, &closed, race, served)
+    is_left(alloc, &closed, race, served)
 }
 
 // Plays a race, a second time where memory is refused.

@@ -3,7 +3,7 @@ use Rattle.shared_tests.proofs.Rooms.{zeros_have_room}
 use Rattle.shared_tests.proofs.schedules.runs_at_seven.Goals as goal
 
 pub run_schedule-refused-requires : goal.run_schedule-refused-requires
-run_schedule-refused-requires g c = (
+run_schedule-refused-requires c = (
   omega arith,
   (
     c.in_ok-commands.ensures.workers,
