@@ -1,5 +1,6 @@
-//! Tests of the calls that are made of others: a value that is stored where its key is absent, pairs that are stored one
-//! after another, copies, look-ups of texts, values that are changed where they stand, and removals that return the pair.
+//! Tests of the calls on a whole index: a value that is stored where its key is absent, pairs that are stored one after another,
+//! copies, look-ups of texts and with a reader, values that are changed where they stand, removals that return the pair,
+//! equality, order and hashes; and of cursors and of sets.
 #![tactic(auto)]
 
 #[cfg(test)]
@@ -7,7 +8,21 @@ mod changes;
 #[cfg(test)]
 mod collects;
 #[cfg(test)]
+mod copies;
+#[cfg(test)]
+mod cursors;
+#[cfg(test)]
+mod equality;
+#[cfg(test)]
+mod indexes;
+#[cfg(test)]
+mod order;
+#[cfg(test)]
 mod present;
+#[cfg(test)]
+mod readers;
+#[cfg(test)]
+mod sets;
 #[cfg(test)]
 mod takes;
 #[cfg(test)]

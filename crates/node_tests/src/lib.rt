@@ -1,6 +1,8 @@
-//! Tests of the calls of the three types of nodes, each at keys of a concrete type.
+//! Tests of the calls of the three types of nodes, each at keys of a concrete type; and of slots, arrays and arenas.
 #![tactic(auto)]
 
+#[cfg(test)]
+mod arrays;
 #[cfg(test)]
 mod calls;
 #[cfg(test)]

@@ -1,4 +1,0 @@
-use Rattle.array_tests.proofs.array.found.found.Given as goal
-
-abbrev pub ghosts-found_by : goal.ghosts-found_by
-ghosts-found_by g a = record { name = a.blank.name; parts = a.blank.parts }

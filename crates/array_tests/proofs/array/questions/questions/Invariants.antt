@@ -1,4 +1,0 @@
-use Rattle.array_tests.proofs.array.questions.questions.Given as goal
-
-abbrev pub ghosts-questions_by : goal.ghosts-questions_by
-ghosts-questions_by g a = record { name = a.blank.name; parts = a.blank.parts }

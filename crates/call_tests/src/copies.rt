@@ -1,0 +1,181 @@
+//! Copies of an index.
+use crate::indexes::{are_equal, index_of, small_index_of};
+use std::alloc::{AllocError, Global};
+use std::process::Abort;
+use test_support::refusals::succeeds;
+use tree_index::{SmallTreeIndex, TreeIndex, TreeIndexOf};
+
+/// Copies an index, and once more where memory was refused.
+fn copies_again<F: Fn() -> Result<(), AllocError> + Drop>(copies: F) -> Result<(), AllocError>
+    requires { F.IsAlwaysCallable copies }
+{
+    if copies().is_ok() {
+        return Ok(());
+    }
+    copies()?;
+    Err(AllocError)
+}
+
+/// Removes a key of a copy of two pairs. Returns whether the copy was equal before and isn't now, and has a pair less.
+fn changes_alone<const LEN: usize>(
+    index: &TreeIndexOf<u64, u64, LEN>,
+    copy: &mut TreeIndexOf<u64, u64, LEN>,
+) -> bool {
+    are_equal(index, copy) && removes_one(copy) && has_one_more(index, copy)
+}
+
+fn removes_one<const LEN: usize>(copy: &mut TreeIndexOf<u64, u64, LEN>) -> bool {
+    copy.remove_sync(&1)
+}
+
+/// Returns whether an index of two pairs isn't equal to a copy, which has one.
+fn has_one_more<const LEN: usize>(
+    index: &TreeIndexOf<u64, u64, LEN>,
+    copy: &TreeIndexOf<u64, u64, LEN>,
+) -> bool {
+    !are_equal(index, copy) && (index.len(), copy.len()) == (2, 1)
+}
+
+/// Copies the index and changes the copy. A refusal leaves the index as it was.
+fn copies_alone(
+    rt: &impl Abort,
+    alloc: Global,
+    index: &TreeIndex<u64, u64>,
+) -> Result<(), AllocError> {
+    let copied = index.try_clone(alloc);
+    assert!(rt; index.peek(&1).copied() == Some(1) && index.len() == 2);
+    let mut copy = copied?;
+    assert!(rt; changes_alone(index, &mut copy));
+    Ok(())
+}
+
+fn changes_the_copy_alone_steps(rt: &impl Abort, alloc: Global) -> Result<(), AllocError> {
+    let index = index_of(alloc, &[(1, 1), (2, 2)])?;
+    copies_again(|| copies_alone(rt, alloc, &index))
+}
+
+#[test]
+fn changes_the_copy_alone(rt: HostRuntime) {
+    assert!(rt; succeeds(rt.alloc(), || changes_the_copy_alone_steps(&rt, rt.alloc())));
+}
+
+/// Does what [`copies_alone`] does, with seven pairs a leaf.
+fn copies_small_alone(
+    rt: &impl Abort,
+    alloc: Global,
+    index: &SmallTreeIndex<u64, u64>,
+) -> Result<(), AllocError> {
+    let copied = index.try_clone(alloc);
+    assert!(rt; index.peek(&1).copied() == Some(1) && index.len() == 2);
+    let mut copy = copied?;
+    assert!(rt; changes_alone(index, &mut copy));
+    Ok(())
+}
+
+/// Copies the index that this one is equal to.
+fn compares_and_copies(
+    rt: &impl Abort,
+    alloc: Global,
+    index: &SmallTreeIndex<u64, u64>,
+) -> Result<(), AllocError> {
+    let other = small_index_of(alloc, &[(2, 2), (1, 1)])?;
+    assert!(rt; are_equal(index, &other) && are_equal(&other, index));
+    copies_small_alone(rt, alloc, index)
+}
+
+fn changes_the_small_copy_alone_steps(rt: &impl Abort, alloc: Global) -> Result<(), AllocError> {
+    let index = small_index_of(alloc, &[(1, 1), (2, 2)])?;
+    copies_again(|| compares_and_copies(rt, alloc, &index))
+}
+
+#[test]
+fn changes_the_small_copy_alone(rt: HostRuntime) {
+    assert!(rt;
+        succeeds(
+            rt.alloc(),
+            || changes_the_small_copy_alone_steps(&rt, rt.alloc())
+        )
+    );
+}
+
+/// Copies an index of one pair. A refusal leaves the pair.
+fn leaves_its_source_steps(rt: &impl Abort, alloc: Global) -> Result<(), AllocError> {
+    let index = index_of(alloc, &[(1, 10)])?;
+    let copied = index.try_clone(alloc).map(|copy| copy.len());
+    assert!(rt; index.peek(&1).copied() == Some(10));
+    assert!(rt; copied? == 1);
+    Ok(())
+}
+
+#[test]
+fn leaves_its_source(rt: HostRuntime) {
+    assert!(rt; succeeds(rt.alloc(), || leaves_its_source_steps(&rt, rt.alloc())));
+}
+
+/// An index of forty texts.
+fn index_of_texts(alloc: Global) -> Result<TreeIndex<String, String>, AllocError> {
+    let mut index = TreeIndex::new(alloc);
+    for number in 0..40u64 {
+        let key = format!(in alloc; "key {number}")?;
+        let value = format!(in alloc; "value {number}")?;
+        if index.insert_sync(key, value).is_err() {
+            return Err(AllocError);
+        }
+    }
+    Ok(index)
+}
+
+/// Copies the index. The copy is equal to it.
+fn copies_equal_texts(
+    rt: &impl Abort,
+    alloc: Global,
+    index: &TreeIndex<String, String>,
+) -> Result<(), AllocError> {
+    let copy = index.try_clone(alloc)?;
+    assert!(rt; are_equal(&copy, index) && copy.len() == 40);
+    Ok(())
+}
+
+/// Clones of keys and values that allocate can be refused too.
+fn copies_texts_steps(rt: &impl Abort, alloc: Global) -> Result<(), AllocError> {
+    let index = index_of_texts(alloc)?;
+    copies_again(|| copies_equal_texts(rt, alloc, &index))
+}
+
+#[test]
+fn copies_texts(rt: HostRuntime) {
+    assert!(rt; succeeds(rt.alloc(), || copies_texts_steps(&rt, rt.alloc())));
+}
+
+/// An index of the keys from 0 to 99, with seven pairs a leaf.
+fn small_index(alloc: Global) -> Result<SmallTreeIndex<u64, u64>, AllocError> {
+    let mut index: SmallTreeIndex<u64, u64> = TreeIndexOf::new(alloc);
+    for key in 0..100u64 {
+        if index.insert_sync(key, key).is_err() {
+            return Err(AllocError);
+        }
+    }
+    Ok(index)
+}
+
+/// Copies the index. The copy is equal to it, and as deep.
+fn copies_leaves(
+    rt: &impl Abort,
+    alloc: Global,
+    index: &SmallTreeIndex<u64, u64>,
+) -> Result<(), AllocError> {
+    let copy = index.try_clone(alloc)?;
+    assert!(rt; are_equal(&copy, index) && copy.len() == 100 && copy.depth() == 2);
+    Ok(())
+}
+
+/// An index with seven pairs a leaf is copied by the same text.
+fn copies_small_leaves_steps(rt: &impl Abort, alloc: Global) -> Result<(), AllocError> {
+    let index = small_index(alloc)?;
+    copies_again(|| copies_leaves(rt, alloc, &index))
+}
+
+#[test]
+fn copies_small_leaves(rt: HostRuntime) {
+    assert!(rt; succeeds(rt.alloc(), || copies_small_leaves_steps(&rt, rt.alloc())));
+}

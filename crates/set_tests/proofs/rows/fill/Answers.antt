@@ -1,5 +1,0 @@
-use Rattle.tree_node.proofs.Common.{fits}
-use Rattle.set_tests.proofs.rows.fill.Goals as goal
-
-pub insert-requires : goal.insert-requires
-insert-requires g c = search fits

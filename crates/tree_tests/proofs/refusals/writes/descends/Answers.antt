@@ -1,0 +1,17 @@
+use Rattle.tree_node.proofs.Common.{fits}
+use Rattle.tree_tests.proofs.refusals.writes.descends.Goals as goal
+
+pub iter-walk-requires : goal.iter-walk-requires
+iter-walk-requires g c = search fits
+
+pub next_back-requires : goal.next_back-requires
+next_back-requires g c = search fits
+
+pub next_back-requires-2 : goal.next_back-requires-2
+next_back-requires-2 g c = search fits
+
+pub next-requires : goal.next-requires
+next-requires g c = search fits
+
+pub is_some_and-requires : goal.is_some_and-requires
+is_some_and-requires g c = search fits

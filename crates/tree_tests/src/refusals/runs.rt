@@ -1,0 +1,120 @@
+//! Lists of commands that are refused memory, whole or one of their commands.
+use crate::refusals::writes::{ample, ascending};
+use std::alloc::{AllocError, Global};
+use std::process::Abort;
+use test_support::refusals::is_out_of_memory;
+use tree_index::{Command, Reply, TreeIndexOf};
+use tree_runs::run;
+use tree_support::{Numbers, OwnScenario, flaws, succeeds_by_own_calls};
+
+/// Whether an insert and a look-up of the key were answered. Else the insert was refused, and the look-up found none.
+fn are_answered(rt: &impl Abort, replies: &[Reply<u64>], key: u64) -> bool {
+    if replies == [Reply::Stored, Reply::Found(Some(key))].as_slice() {
+        return true;
+    }
+    assert!(rt; replies == [Reply::Refused, Reply::Found(None)].as_slice());
+    false
+}
+
+/// An index of numbers that runs commands.
+trait Runs: Numbers {
+    /// Calls `run`.
+    fn run(&mut self, commands: Vec<Command<u64, u64>>) -> Result<Vec<Reply<u64>>, AllocError>;
+
+    /// Whether the index is whole and has these pairs.
+    fn is_whole(&self, pairs: &[(u64, u64)]) -> bool;
+}
+
+impl<const LEN: usize> Runs for TreeIndexOf<u64, u64, LEN> {
+    fn run(&mut self, commands: Vec<Command<u64, u64>>) -> Result<Vec<Reply<u64>>, AllocError> {
+        run(self, commands)
+    }
+
+    fn is_whole(&self, pairs: &[(u64, u64)]) -> bool {
+        flaws(self, pairs).is_ok()
+    }
+}
+
+/// Runs an insert and a look-up of an absent key over an index of these pairs. Returns whether the pair was stored. Where
+/// the room for the replies is refused, so is the run; where memory for the pair is, so is the insert. The index stands then.
+fn run_once(
+    rt: &impl Abort,
+    alloc: Global,
+    index: &mut impl Runs,
+    pairs: &[(u64, u64)],
+    key: u64,
+) -> Result<bool, AllocError> {
+    let commands = vec![in alloc; Command::Insert(key, key), Command::Peek(key)]?;
+    let is_stored = match index.run(commands) {
+        Ok(replies) => are_answered(rt, &replies, key),
+        Err(_) => false,
+    };
+    assert!(rt; is_stored || index.is_whole(pairs));
+    Ok(is_stored)
+}
+
+/// Runs both at once or the second time. Returns whether they were refused once. `Err` if they were refused both times, so
+/// that there is no memory.
+fn run_twice(
+    rt: &impl Abort,
+    alloc: Global,
+    index: &mut impl Runs,
+    pairs: &[(u64, u64)],
+    key: u64,
+) -> Result<bool, AllocError> {
+    if run_once(rt, alloc, index, pairs, key)? {
+        return Ok(false);
+    }
+    if run_once(rt, alloc, index, pairs, key)? {
+        return Ok(true);
+    }
+    assert!(rt; is_out_of_memory(alloc));
+    Err(AllocError)
+}
+
+/// So many ascending keys, at fifteen pairs a leaf and at seven, that the next one makes a leaf and a root, splits a leaf, splits
+/// a node over leaves, and splits a node over nodes.
+static COUNTS: [(u64, u64); 4] = [(0, 0), (15, 7), (240, 56), (3615, 399)];
+
+/// Stores so many pairs in an empty index, and runs both commands over it.
+fn run_over(
+    rt: &impl Abort,
+    alloc: Global,
+    index: &mut impl Runs,
+    count: u64,
+) -> Result<(), AllocError> {
+    let pairs = ascending(alloc, count)?;
+    for (key, value) in &pairs {
+        index.upsert(*key, *value).map_err(|_| AllocError)?;
+    }
+    ample(run_twice(rt, alloc, index, &pairs, count.saturating_add(1))?)
+}
+
+/// Runs both commands over so many pairs.
+#[derive(Drop)]
+struct Running<'r, R> {
+    rt: &'r R,
+    alloc: Global,
+    counts: (u64, u64),
+}
+
+impl<R: Abort, I: Runs> OwnScenario<I> for Running<'_, R> {
+    fn play(&self, index: &mut I) -> Result<(), AllocError> {
+        let (at_fifteen, at_seven) = self.counts;
+        let is_small = index.pairs_a_leaf() == 7;
+        let count = if is_small { at_seven } else { at_fifteen };
+        run_over(self.rt, self.alloc, index, count)
+    }
+}
+
+#[test]
+fn runs_again_what_was_refused(rt: HostRuntime) {
+    for counts in &COUNTS {
+        let scenario = Running {
+            rt: &rt,
+            alloc: rt.alloc(),
+            counts: *counts,
+        };
+        assert!(rt; succeeds_by_own_calls(rt.alloc(), &scenario));
+    }
+}
