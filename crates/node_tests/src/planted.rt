@@ -9,9 +9,11 @@ ghost use Rattle.tree_array.specs.Length.{IsLen};
 ghost use Rattle.node_tests.specs.Planted.{IsPlanted};
 
 use crate::searches::Searched;
+use crate::stored::Stored;
 use std::alloc::AllocError;
 use std::marker::PhantomData;
 use std::ops::Bound;
+use std::process::Abort;
 use tree_array::array::{IndexKey, InsertResult, Judge, RemoveResult};
 use tree_calls::internal_node_calls::InternalNodeCalls;
 use tree_calls::node_calls::NodeCalls;
@@ -125,6 +127,11 @@ fn copied(entry: Option<(&u64, &u64)>) -> Option<(u64, u64)> {
     Some((*key, *val))
 }
 
+/// How many leaves and nodes there are.
+fn counts<const LEN: usize>(arenas: &ArenasOf<u64, u64, LEN>) -> (usize, usize) {
+    (arenas.leaf_count(), arenas.node_count())
+}
+
 /// The depth, and how many leaves and nodes there are.
 pub(crate) fn shape<N: NodeCalls<u64, LEN>, const LEVEL: usize, const LEN: usize>(
     arenas: &ArenasOf<u64, u64, LEN>,
@@ -134,7 +141,8 @@ pub(crate) fn shape<N: NodeCalls<u64, LEN>, const LEVEL: usize, const LEN: usize
     requires planted { IsPlanted nat_cmp LEVEL arenas.now root }
 {
     let depth = N::depth(arenas, root);
-    (depth, arenas.leaf_count(), arenas.node_count())
+    let (leaves, nodes) = counts(arenas);
+    (depth, leaves, nodes)
 }
 
 /// Whether the root is retired, and whether its child may take its place.
@@ -167,17 +175,18 @@ impl<N: NodeCalls<u64, LEN>, const LEVEL: usize, const LEN: usize> Searched<Thro
     }
 }
 
-/// Whether a tree is whole and has these pairs.
-pub(crate) fn has_pairs<const LEN: usize>(
+/// Asserts that a tree is whole and has the pairs that are stored beside it.
+pub(crate) fn expect_pairs<const LEN: usize>(
+    rt: &impl Abort,
     arenas: &ArenasOf<u64, u64, LEN>,
     level: usize,
     root: NodeId,
-    pairs: &[(u64, u64)],
-) -> bool
+    stored: &Stored,
+)
     requires node { 0 < level }
     requires planted { IsPlanted nat_cmp level arenas.now root }
 {
-    walk(arenas, level, root, pairs).is_ok()
+    assert!(rt; walk(arenas, level, root, stored.pairs()).is_ok());
 }
 
 /// Makes room in the unbounded child of an internal root, and says whether it could.
@@ -260,5 +269,6 @@ pub(crate) fn cleanup_root<const LEVEL: usize, const LEN: usize>(
         Some(id) => Some(id != root),
         None => None,
     };
-    (moved, arenas.leaf_count(), arenas.node_count())
+    let (leaves, nodes) = counts(arenas);
+    (moved, leaves, nodes)
 }

@@ -4,7 +4,7 @@ ghost use Rattle.std.specs.Ordering.{nat_cmp};
 ghost use Rattle.tree_array.specs.Length.{IsLen};
 ghost use Rattle.node_tests.specs.Planted.{IsPlanted};
 
-use crate::planted::{cleanup_root, first_root, has_pairs, split_root};
+use crate::planted::{cleanup_root, expect_pairs, first_root, split_root};
 use crate::steps::{Step, answers};
 use crate::stored::Stored;
 use std::alloc::{AllocError, Global};
@@ -42,8 +42,19 @@ fn grows<const LEN: usize>(
     requires { IsLen LEN }
 {
     let mut arenas = ArenasOf::new(alloc);
-    let id = first_root(&mut arenas)?;
-    takes_lists::<LEN>(rt, &mut arenas, Root { level: 1, id }, lists, stored)
+    grows_in::<LEN>(rt, &mut arenas, lists, stored)
+}
+
+fn grows_in<const LEN: usize>(
+    rt: &impl Abort,
+    arenas: &mut ArenasOf<u64, u64, LEN>,
+    lists: &[&[Step]],
+    stored: &mut Stored,
+) -> Result<(), AllocError>
+    requires { IsLen LEN }
+{
+    let id = first_root(arenas)?;
+    takes_lists::<LEN>(rt, arenas, Root { level: 1, id }, lists, stored)
 }
 
 fn takes_lists<const LEN: usize>(
@@ -66,7 +77,7 @@ fn takes_lists<const LEN: usize>(
             root = takes(rt, arenas, root, step, stored)?;
         }
     }
-    assert!(rt; has_pairs(arenas, root.level, root.id, stored.pairs()));
+    expect_pairs(rt, arenas, root.level, root.id, stored);
     Ok(())
 }
 
@@ -138,7 +149,7 @@ fn splits_root<const LEVEL: usize, const LEN: usize>(
     if let Ok(root) = split_root::<LEVEL, LEN>(arenas, id) {
         return Ok(root);
     }
-    assert!(rt; has_pairs(arenas, LEVEL, id, stored.pairs()));
+    expect_pairs(rt, arenas, LEVEL, id, stored);
     stored.refuse();
     split_root::<LEVEL, LEN>(arenas, id)
 }

@@ -1,9 +1,10 @@
 //! Calls of a tree in rows, each with its answer.
+ghost use Rattle.std.specs.Prelude.{◌<◌};
 ghost use Rattle.std.specs.Ordering.{nat_cmp};
 ghost use Rattle.node_tests.specs.Planted.{IsPlanted};
 
 use crate::planted::{
-    Through, ends, has_pairs, insert, marks, near, remove_if, remove_range, shape, split_last,
+    Through, ends, expect_pairs, insert, marks, near, remove_if, remove_range, shape, split_last,
 };
 use crate::searches::finds;
 use crate::stored::Stored;
@@ -98,7 +99,7 @@ pub(crate) fn answers<N: NodeCalls<u64, LEN>, const LEVEL: usize, const LEN: usi
             let children = remove_range::<N, LEVEL, LEN>(arenas, root, low.as_ref(), high.as_ref());
             Ok(children == *left)
         }
-        Step::SplitLast(told) => Ok(splits::<N, LEVEL, LEN>(rt, arenas, root, stored)? == *told),
+        Step::SplitLast(told) => Ok(splits::<LEVEL, LEN>(rt, arenas, root, stored)? == *told),
         _ => Ok(shows::<N, LEVEL, LEN>(arenas, root, step)),
     }
 }
@@ -190,27 +191,33 @@ fn inserts_once<N: NodeCalls<u64, LEN>, const UPSERT: bool, const LEVEL: usize, 
     match insert::<N, u64, u64, UPSERT, LEVEL, LEN>(arenas, root, pair.0, pair.1) {
         Ok(answer) => Ok(answer),
         Err(back) => {
-            assert!(rt; back == pair && has_pairs(arenas, LEVEL, root, stored.pairs()));
+            expect_back(rt, back, pair);
+            expect_pairs(rt, arenas, LEVEL, root, stored);
             Err(AllocError)
         }
     }
 }
 
+/// Asserts that a refused pair came back.
+fn expect_back(rt: &impl Abort, back: (u64, u64), pair: (u64, u64)) {
+    assert!(rt; back == pair);
+}
+
 /// Makes room in the unbounded child of the root, at once or the second time. Returns whether it could.
-fn splits<N: NodeCalls<u64, LEN>, const LEVEL: usize, const LEN: usize>(
+fn splits<const LEVEL: usize, const LEN: usize>(
     rt: &impl Abort,
     arenas: &mut ArenasOf<u64, u64, LEN>,
     root: NodeId,
     stored: &mut Stored,
 ) -> Result<bool, AllocError>
-    requires kind { N.StandsAt LEVEL }
+    requires node { 0 < LEVEL }
     requires planted { IsPlanted nat_cmp LEVEL arenas.old root }
     ensures { IsPlanted nat_cmp LEVEL arenas.new root }
 {
     if let Ok(split) = split_last::<LEVEL, LEN>(arenas, root) {
         return Ok(split);
     }
-    assert!(rt; has_pairs(arenas, LEVEL, root, stored.pairs()));
+    expect_pairs(rt, arenas, LEVEL, root, stored);
     stored.refuse();
     split_last::<LEVEL, LEN>(arenas, root)
 }

@@ -7,14 +7,5 @@ pub lower-requires : goal.lower-requires
 lower-requires g c =
     (search fits, (search fits, (c.requires.node, (planted_given nat_cmp c.args.arenas.now c.args.root g.row.LEVEL c.requires.planted, planted_kind nat_cmp c.args.arenas.now c.args.root g.row.LEVEL c.requires.planted))))
 
-pub leaf_count-requires : goal.leaf_count-requires
-leaf_count-requires g c = search fits
-
-pub node_count-requires : goal.node_count-requires
-node_count-requires g c = search fits
-
-pub leaf_count-requires-room-N-Destruct : goal.leaf_count-requires-room-N-Destruct
-leaf_count-requires-room-N-Destruct g c κs = search fits
-
-pub node_count-requires-room-N-Destruct : goal.node_count-requires-room-N-Destruct
-node_count-requires-room-N-Destruct g c κs = search fits
+pub counts-leaves-requires : goal.counts-leaves-requires
+counts-leaves-requires g c = search fits

@@ -7,8 +7,5 @@ cleans-requires g c = search fits
 pub takes-requires : goal.takes-requires
 takes-requires g c = search fits
 
-pub pairs-requires : goal.pairs-requires
-pairs-requires g c = search fits
-
-pub has_pairs-requires : goal.has_pairs-requires
-has_pairs-requires g c = search fits
+pub expect_pairs-requires : goal.expect_pairs-requires
+expect_pairs-requires g c = search fits

@@ -1,7 +1,7 @@
 use Rattle.std.proofs.Common.{nat_cmp}
 use Rattle.tree_node.proofs.Common.{fits}
 use Rattle.node_tests.proofs.Plantings.{planted_stands, planted_linked}
-use Rattle.node_tests.proofs.planted.has_pairs.Goals as goal
+use Rattle.node_tests.proofs.planted.expect_pairs.Goals as goal
 
 pub walk-requires : goal.walk-requires
 walk-requires g c =
