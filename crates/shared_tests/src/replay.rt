@@ -49,8 +49,9 @@ fn has_the_pairs<const LEN: usize>(
     map: &BTreeMap<u64, u64>,
     index: &TreeIndexOf<u64, u64, LEN>,
 ) -> bool {
-    for (pair, wanted) in map.iter().zip(index.iter()) {
-        if pair != wanted {
+    let mut wanted = index.iter();
+    for pair in map.iter() {
+        if wanted.next() != Some(pair) {
             return false;
         }
     }
