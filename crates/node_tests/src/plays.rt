@@ -45,6 +45,7 @@ fn grows<const LEN: usize>(
     grows_in::<LEN>(rt, &mut arenas, lists, stored)
 }
 
+/// Plays the lists in empty arenas.
 fn grows_in<const LEN: usize>(
     rt: &impl Abort,
     arenas: &mut ArenasOf<u64, u64, LEN>,
