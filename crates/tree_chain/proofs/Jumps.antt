@@ -17,8 +17,7 @@ pub onward : (way : Way) (front : List ℕ) (id : ℕ) (back passed : List ℕ) 
 onward On front id back passed next ids is = record {
   front = front ++ id ∷ passed;
   back = ids;
-  stands =
-      rw is (append_assoc front (id ∷ passed) (next ∷ ids));
+  stands = rw is (append_assoc front (id ∷ passed) (next ∷ ids));
   rest = refl;
 }
 onward Back front id back passed next ids is =

@@ -1,12 +1,11 @@
 -- What is left of a walk on its way: a step or a jump takes the first of it, and its count falls.
-use Rattle.std.proofs.Common.{◌≡◌, ℕ, ◌+◌, ◌<◌, List, [], ◌∷◌, ◌++◌, length, Option, Some, None, option_map, sum_by, IfSome, refl, sym, ap, ◌∙◌, arith, length-append, append-nil, Bor}
+use Rattle.std.proofs.Common.{◌≡◌, ℕ, ◌+◌, ◌<◌, List, [], ◌∷◌, ◌++◌, length, Option, Some, None, option_and_then, option_map, sum_by, IfSome, refl, sym, ap, ◌∙◌, arith, length-append, append-nil, Bor}
 use Rattle.tree_model.proofs.Common.{reverse-append, flat_map-append, lent_entry, along}
-use Rattle.tree_chain.proofs.Common.{AreLeft, AreOnTheWay, Back, HasTaken, IsChain, Jumps, LeafOf, LeafWalk, On, Slab, StandsIn, Steps, Takes, Way, ahead, beyond, entries_of, first_of, get, here, jumped, landing, leaf_entries, leaves_on, left_of, standing, stood_on, whole_way}
-use Rattle.std.proofs.lemmas.List.Sums.{sum_by-cons}
+use Rattle.tree_chain.proofs.Common.{AreLeft, AreOnTheWay, Back, HasTaken, IsChain, Jumps, LeafOf, LeafWalk, On, Slab, StandsIn, Steps, Takes, Way, ahead, beside, beyond, entries_of, first_of, get, here, jumped, landing, leaf_entries, leaves_on, left_of, standing, stood_on, sum_by-cons, whole_way}
 use Rattle.tree_chain.proofs.Along.{all_ahead, first_along, first_at, first_stood, none_ahead, step_takes}
 use Rattle.tree_chain.proofs.Jumps.{first_is, landed, lands_in, lands_nowhere, met, met_beyond, onward}
 use Rattle.std.specs.Map.Iter.{TakesFirst}
-use Rattle.tree_chain.proofs.Ways.{At, beside_slot, beside_slot_is, few, sum_is, sum_on}
+use Rattle.tree_chain.proofs.Ways.{At, few, link_is, sum_is, sum_on}
 
 abbrev pub IsInChain : {K V : Type 0} {LEN : ℕ} → LeafWalk K V LEN → Type 0
 IsInChain walk = (front back : List ℕ) × IsChain walk.leaves (front ++ walk.leaf ∷ back)
@@ -82,7 +81,7 @@ module _ {K V : Type 0} {LEN : ℕ} (way : Way) where
   count_left walk =
       length (ahead way (here walk) walk.at)
       + sum_on walk.leaves way (λ id. length (along way (leaf_entries walk.leaves id))) (length walk.leaves.slots)
-      (beside_slot walk.leaves way (get walk.leaves walk.leaf))
+      (option_and_then (beside way) (get walk.leaves walk.leaf))
 
   length-met : (leaves : Slab (LeafOf K V LEN)) (ids : List ℕ) → sum_by (λ id. length (along way (leaf_entries leaves id))) ids ≡ length (met leaves way ids)
   length-met leaves [] = refl
@@ -99,7 +98,7 @@ module _ {K V : Type 0} {LEN : ℕ} (way : Way) where
       let at : At walk.leaves way walk.leaf (leaves_on way front back) = record { front = front; back = back; chain = chain; on = refl } in
       let sum = sum_is walk.leaves way (λ id. length (along way (leaf_entries walk.leaves id))) (length walk.leaves.slots) walk.leaf
       (leaves_on way front back) at (few walk.leaves way walk.leaf _ at) in
-      rw (beside_slot_is walk.leaves way walk.leaf _ at, left_met walk front back)
+      rw (link_is walk.leaves way walk.leaf _ at, left_met walk front back)
       (omega (
         arith,
         sum,

@@ -2,7 +2,7 @@
 use Rattle.tree_chain.proofs.Common.{is_some, ◌≡◌, ℕ, zero, suc, ◌+◌, ◌<◌, ◌≤◌, ◌==◌, true, false, List, [], ◌∷◌, ◌++◌, length, Option, Some, None, IsSome, option_map, sum_by, refl, sym, ap, ◌∙◌}
 use Rattle.tree_chain.proofs.Common.{arith, length-append, nat_tests, reverse_aux, Back, IsChain, LeafOf, On, Slab, Way, beside, chain_used, first_or, get, landing, last_or, leaf_entries, leaves_on}
 use Rattle.tree_chain.proofs.Common.{length-reverse, neighbours, seen, seen_at, count_by-le-length, sum_by-cons, once_fits, Beside}
-use Rattle.std.proofs.Common.{if◌then◌else◌}
+use Rattle.std.proofs.Common.{if◌then◌else◌, option_and_then}
 use Rattle.tree_chain.proofs.Jumps.{onward}
 
 -- the number of the leaf that is seen
@@ -22,17 +22,21 @@ last_is : (before : Option ℕ) (ids passed : List ℕ) → first_or passed None
 last_is before [] passed is = sym is
 last_is before (id ∷ ids) passed is = last_is (Some id) ids (id ∷ passed) refl
 
-module _ {K V : Type 0} {LEN : ℕ} (leaves : Slab (LeafOf K V LEN)) where
+module _ {K V : Type 0} {LEN : ℕ} (leaves : Slab (LeafOf K V LEN)) (way : Way) where
   -- what is seen of a leaf keeps its number
-  pub number_seen : (next : Option ℕ) → number_of (seen leaves next) ≡ next
+  pub number_seen : (next : Option ℕ) → number_of (seen way leaves next) ≡ next
   number_seen None = refl
   number_seen (Some id) = refl
 
-  -- and tells how many entries it has
-  counted : (next : Beside) → Some next ≡ seen leaves (Some next.id) → length (leaf_entries leaves next.id) ≡ next.len
-  counted next looked = let same : next ≡ seen_at leaves next.id = cc in sym (ap (λ n. n.len) same)
+  -- and is all that there is to see
+  pub seen_whole : (next : Beside) (id : Option ℕ) → Some next ≡ seen way leaves id → (id ≡ Some next.id) × (next ≡ seen_at way leaves next.id)
+  seen_whole next None looked = absurd (cc)
+  seen_whole next (Some id) looked = let same : next ≡ seen_at way leaves id = cc in rw same (refl, refl)
 
-module _ {K V : Type 0} {LEN : ℕ} (leaves : Slab (LeafOf K V LEN)) (way : Way) where
+  -- the leaf beyond it is the one beside it
+  pub beyond_beside : (next : Beside) (leaf : LeafOf K V LEN) → next ≡ seen_at way leaves next.id → get leaves next.id ≡ Some leaf → next.beyond ≡ beside way leaf
+  beyond_beside next leaf whole here = ap (λ n. n.beyond) whole ∙ rw here refl
+
   -- a leaf of a chain, from which the way leads through these leaves
   pub record At (id : ℕ) (ids : List ℕ) : Type 0 where
     pub front : List ℕ
@@ -44,8 +48,7 @@ module _ {K V : Type 0} {LEN : ℕ} (leaves : Slab (LeafOf K V LEN)) (way : Way)
   on_to id next ids at = let to = onward way at.front id at.back [] next ids at.on in record {
     front = to.front;
     back = to.back;
-    chain =
-        rw to.stands at.chain;
+    chain = rw to.stands at.chain;
     on = to.rest;
   }
 
@@ -68,15 +71,10 @@ module _ {K V : Type 0} {LEN : ℕ} (leaves : Slab (LeafOf K V LEN)) (way : Way)
         by_way On = sym (neighbours leaves at.front id at.back at.chain leaf here).1
         by_way Back = sym (neighbours leaves at.front id at.back at.chain leaf here).0 ∙ last_is None at.front [] refl
 
-  unfoldable pub beside_slot : Option (LeafOf K V LEN) → Option ℕ
-  beside_slot None = None
-  beside_slot (Some leaf) = beside way leaf
-
-  pub beside_slot_is : (id : ℕ) (ids : List ℕ) → At id ids → beside_slot (get leaves id) ≡ first_or ids None
-  unfolding beside_slot
-  beside_slot_is id ids at = by_slot (get leaves id) refl (used id ids at)
+  pub link_is : (id : ℕ) (ids : List ℕ) → At id ids → option_and_then (beside way) (get leaves id) ≡ first_or ids None
+  link_is id ids at = by_slot (get leaves id) refl (used id ids at)
     where
-      by_slot : (slot : Option (LeafOf K V LEN)) → get leaves id ≡ slot → IsSome slot → beside_slot slot ≡ first_or ids None
+      by_slot : (slot : Option (LeafOf K V LEN)) → get leaves id ≡ slot → IsSome slot → option_and_then (beside way) slot ≡ first_or ids None
       by_slot None is there = absurd (cc)
       by_slot (Some leaf) is there = beside_is id ids at leaf is
 
@@ -84,14 +82,14 @@ module _ {K V : Type 0} {LEN : ℕ} (leaves : Slab (LeafOf K V LEN)) (way : Way)
   unfoldable pub sum_on : (ℕ → ℕ) → ℕ → Option ℕ → ℕ
   sum_on f zero next = 0
   sum_on f (suc bound) None = 0
-  sum_on f (suc bound) (Some id) = f id + sum_on f bound (beside_slot (get leaves id))
+  sum_on f (suc bound) (Some id) = f id + sum_on f bound (option_and_then (beside way) (get leaves id))
 
   pub sum_is : (f : ℕ → ℕ) (bound id : ℕ) (ids : List ℕ) → At id ids → length ids ≤ bound → sum_on f bound (first_or ids None) ≡ sum_by f ids
   unfolding sum_on
   sum_is f zero id [] at few = refl
   sum_is f zero id (x ∷ ids) at few = absurd (omega arith)
   sum_is f (suc bound) id [] at few = refl
-  sum_is f (suc bound) id (x ∷ ids) at few = rw (beside_slot_is x ids (on_to id x ids at))
+  sum_is f (suc bound) id (x ∷ ids) at few = rw (link_is x ids (on_to id x ids at))
       (ap (λ n. f x + n) (sum_is f bound x ids (on_to id x ids at) (omega arith)) ∙ sym (sum_by-cons f x ids))
 
   -- how many links lead on
@@ -106,12 +104,15 @@ module _ {K V : Type 0} {LEN : ℕ} (leaves : Slab (LeafOf K V LEN)) (way : Way)
     pub next_is : next ≡ first_or left None
     pub same : landing leaves None start ≡ landing leaves passed left
 
-  -- it has passed leaves without entries, and sees the one ahead
-  abbrev pub Sees : List ℕ → Option ℕ → Option Beside → Type 0
-  Sees start passed ahead = (ahead ≡ seen leaves (number_of ahead)) × Passed start passed (number_of ahead)
+  -- it has passed leaves without entries, of which it has seen the last one, and sees the one ahead
+  pub record Sees (start : List ℕ) (passed ahead : Option Beside) : Type 0 where
+    pub behind : passed ≡ seen way leaves (number_of passed)
+    pub looked : ahead ≡ seen way leaves (number_of ahead)
+    pub now : Passed start (number_of passed) (number_of ahead)
 
-  pub sees : (start : List ℕ) (passed next : Option ℕ) (ahead : Option Beside) → ahead ≡ seen leaves next → Passed start passed next → Sees start passed ahead
-  sees start passed next ahead looked now = rw (looked, number_seen leaves next) (refl, now)
+  pub sees : (start : List ℕ) (passed : Option Beside) (next : Option ℕ) (ahead : Option Beside) → passed ≡ seen way leaves (number_of passed) → ahead ≡ seen way leaves next
+      → Passed start (number_of passed) next → Sees start passed ahead
+  sees start passed next ahead behind looked now = record { behind = behind; looked = rw (looked, number_seen next) refl; now = rw (looked, number_seen next) now }
 
   -- before the first link no leaf is passed
   pub none_passed : (front : List ℕ) (id : ℕ) (back : List ℕ) → IsChain leaves (front ++ id ∷ back) → (leaf : LeafOf K V LEN) → get leaves id ≡ Some leaf
@@ -128,39 +129,50 @@ module _ {K V : Type 0} {LEN : ℕ} (leaves : Slab (LeafOf K V LEN)) (way : Way)
     pub next_there : IsSome (get leaves id)
     next_there = used id opens.0 opens.2
 
-    -- after one link they are fewer
-    pub hops_fall : (leaf : LeafOf K V LEN) → get leaves id ≡ Some leaf → hops_left (beside way leaf) < hops_left (Some id)
-    unfolding hops_left
-    hops_fall leaf here =
-        let all = sum_is (λ id. 1) (length leaves.slots) now.id (id ∷ opens.0) (rw opens.1 at now.at) (few now.id _ (rw opens.1 at now.at)) in
-        rw (beside_is id opens.0 opens.2 leaf here)
-        (omega (arith, all, sum_by-cons (λ (n : ℕ). 1) id opens.0, sum_is (λ id. 1) (length leaves.slots) id opens.0 opens.2 (few id opens.0 opens.2)))
+  module _ (start : List ℕ) (passed : Option Beside) (next : Beside) (now : Sees start passed (Some next)) where
+    to : (rest : List ℕ) × (now.now.left ≡ next.id ∷ rest) × At next.id rest
+    to = opens start (number_of passed) next.id now.now
 
-  module _ (start : List ℕ) (passed : Option ℕ) (next : Beside) (now : Sees start passed (Some next)) where
+    whole : next ≡ seen_at way leaves next.id
+    whole = (seen_whole next (Some next.id) now.looked).1
+
+    beyond : next.beyond ≡ first_or to.0 None
+    beyond = ap (λ n. n.beyond) whole ∙ link_is next.id to.0 to.2
+
+    -- after one link they are fewer
+    pub hops_fall : hops_left next.beyond < hops_left (Some next.id)
+    unfolding hops_left
+    hops_fall =
+        let all = sum_is (λ id. 1) (length leaves.slots) now.now.id (next.id ∷ to.0) (rw to.1 at now.now.at) (few now.now.id _ (rw to.1 at now.now.at)) in
+        rw beyond (omega (arith, all, sum_by-cons (λ (n : ℕ). 1) next.id to.0, sum_is (λ id. 1) (length leaves.slots) next.id to.0 to.2 (few next.id to.0 to.2)))
+
     -- it lands in the leaf that it sees if that has an entry
-    pub lands : 0 < next.len → Some next.id ≡ landing leaves None start
+    pub lands : 0 < next.len → Some next ≡ seen way leaves (landing leaves None start)
     lands filled =
-        let some : (length (leaf_entries leaves next.id) == 0) ≡ false = grind (arith, nat_tests, counted leaves next now.0) in
-        sym (now.1.same ∙ rw ((opens start passed next.id now.1).1, some) refl)
+        let some : (length (leaf_entries leaves next.id) == 0) ≡ false = grind (arith, nat_tests, ap (λ n. n.len) whole) in
+        let there : landing leaves None start ≡ Some next.id = now.now.same ∙ rw (to.1, some) refl in
+        rw there now.looked
 
     -- else it passes the leaf
-    pub passes : (leaf : LeafOf K V LEN) → get leaves next.id ≡ Some leaf → next.len ≤ 0 → Passed start (Some next.id) (beside way leaf)
-    passes leaf here empty =
-        let to = opens start passed next.id now.1 in
-        let none : (length (leaf_entries leaves next.id) == 0) ≡ true = grind (arith, nat_tests, counted leaves next now.0) in
+    pub passes : next.len ≤ 0 → Passed start (Some next.id) next.beyond
+    passes empty =
+        let none : (length (leaf_entries leaves next.id) == 0) ≡ true = grind (arith, nat_tests, ap (λ n. n.len) whole) in
         record {
           id = next.id;
           left = to.0;
           at = to.2;
-          next_is = beside_is next.id to.0 to.2 leaf here;
-          same =
-              now.1.same ∙ ap (landing leaves passed) to.1 ∙ rw none refl;
+          next_is = beyond;
+          same = now.now.same ∙ ap (landing leaves (number_of passed)) to.1 ∙ rw none refl;
         }
 
+    -- the leaf beyond it is in use
+    pub beyond_there : next.len ≤ 0 → (id : ℕ) → next.beyond ≡ Some id → IsSome (get leaves id)
+    beyond_there empty id is = next_there start (Some next.id) id (rw is at (passes empty))
+
   -- at the end it lands in the last leaf
-  pub lands_last : (start : List ℕ) (passed next : Option ℕ) → Passed start passed next → next ≡ None → passed ≡ landing leaves None start
-  lands_last start passed next now none = by_left now.left (sym none ∙ now.next_is) now.same
+  pub lands_last : (start : List ℕ) (passed ahead : Option Beside) → Sees start passed ahead → ahead ≡ None → passed ≡ seen way leaves (landing leaves None start)
+  lands_last start passed ahead sees none = rw (by_left sees.now.left (ap number_of (sym none) ∙ sees.now.next_is) sees.now.same) at sees.behind
     where
-      by_left : (ids : List ℕ) → None ≡ first_or ids None → landing leaves None start ≡ landing leaves passed ids → passed ≡ landing leaves None start
+      by_left : (ids : List ℕ) → None ≡ first_or ids None → landing leaves None start ≡ landing leaves (number_of passed) ids → number_of passed ≡ landing leaves None start
       by_left [] is same = sym same
       by_left (x ∷ ids) is same = absurd (cc)

@@ -1,7 +1,7 @@
 -- Which way a walk goes: how it sees a list and steps through it, and which leaves the links lead it to.
 use Rattle.tree_model.specs.Ways.{along}
-use Rattle.std.specs.Prelude.{◌≡◌, ℕ, ◌-◌, ◌<◌, ◌==◌, if◌then◌else◌, List, [], ◌∷◌, length, drop, take, reverse, Option, Some, MatchOption, option_map, slice_get}
-use Rattle.slab.specs.Slab.{Slab}
+use Rattle.std.specs.Prelude.{◌≡◌, ℕ, ◌-◌, ◌<◌, ◌==◌, if◌then◌else◌, List, [], ◌∷◌, length, drop, take, reverse, Option, Some, MatchOption, option_and_then, option_map, slice_get}
+use Rattle.slab.specs.Slab.{Slab, get}
 use Rattle.tree_array.specs.Walk.{place_ahead, places_behind}
 use Rattle.tree_leaf.specs.declared.leaf.LeafOf.{LeafOf}
 use Rattle.tree_chain.specs.declared.stand.Beside.{Beside}
@@ -45,13 +45,13 @@ module _ {K V : Type 0} {LEN : ℕ} where
   beside On leaf = leaf.next
   beside Back leaf = leaf.prev
 
-  -- what a walk keeps of the leaf under this number
-  abbrev pub seen_at : Slab (LeafOf K V LEN) → ℕ → Beside
-  seen_at leaves id = record { id = id; len = length (leaf_entries leaves id) }
+  -- what a walk this way keeps of the leaf under this number
+  abbrev pub seen_at : Way → Slab (LeafOf K V LEN) → ℕ → Beside
+  seen_at way leaves id = record { id = id; len = length (leaf_entries leaves id); beyond = option_and_then (beside way) (get leaves id) }
 
   -- the same where there may be no leaf
-  abbrev pub seen : Slab (LeafOf K V LEN) → Option ℕ → Option Beside
-  seen leaves id = option_map (seen_at leaves) id
+  abbrev pub seen : Way → Slab (LeafOf K V LEN) → Option ℕ → Option Beside
+  seen way leaves id = option_map (seen_at way leaves) id
 
   -- the first of these leaves that has an entry, else the last, else what was before them
   abbrev pub landing : Slab (LeafOf K V LEN) → Option ℕ → List ℕ → Option ℕ

@@ -3,13 +3,13 @@ ghost use Rattle.std.specs.Prelude.{◌≡◌, ◌++◌, ◌∷◌, None, ⊤, f
 ghost use Rattle.std.specs.declared.ops.Bound.TheVariants.{Included};
 ghost use Rattle.tree_leaf.specs.Chain.{IsChain};
 ghost use Rattle.tree_chain.specs.Walks.{Jumps, Steps, first_of, first_on, here, last_of, left_in_leaf, standing, stood_on};
-ghost use Rattle.tree_chain.specs.Ways.{ahead};
+ghost use Rattle.tree_chain.specs.Ways.{ahead, seen_at};
 ghost use Rattle.tree_model.specs.Cursor.{meets};
 ghost use Rattle.tree_model.specs.Rest.{lent_entry};
 ghost use Rattle.tree_model.specs.Ways.{along, opposite};
 
 use crate::slot_walk::{Reversible, SlotWalk};
-use crate::stand::{Stand, Walked};
+use crate::stand::{Beside, Stand, Walked, look_up};
 use slab::Slab;
 use std::alloc::AllocError;
 use std::marker::Model;
@@ -67,12 +67,13 @@ impl<'t, K: Ord + Drop, V: Drop, S: SlotWalk, const LEN: usize> LinkedIter<
         LinkedIter { stand, slots }
     }
 
-    /// Creates an iterator that comes from another leaf: it stands unopened in this one, and looks ahead.
-    fn entering(leaves: &'t Slab<LeafOf<K, V, LEN>>, id: LeafId) -> Self
-        requires { (front back : _) × IsChain leaves.now (front ++ id ∷ back) }
-        ensures { result ≡ standing leaves.now id None }
+    /// Creates an iterator that comes from another leaf: it stands unopened in the one that was seen there, and looks ahead.
+    fn entering(leaves: &'t Slab<LeafOf<K, V, LEN>>, next: Beside) -> Self
+        requires chain { (front back : _) × IsChain leaves.now (front ++ next.id ∷ back) }
+        requires seen { next ≡ seen_at S.way leaves.now next.id }
+        ensures { result ≡ standing leaves.now next.id None }
     {
-        let stand = Stand::looking(leaves, id, S::way());
+        let stand = Stand::at(leaves, next.id).seeing(look_up(leaves, next.beyond, S::way()));
         let slots = S::at(ArrayIter::new(stand.leaf.array()));
         LinkedIter { stand, slots }
     }
@@ -100,7 +101,7 @@ impl<'t, K: Ord + Drop, V: Drop, S: SlotWalk, const LEN: usize> LinkedIter<
         ensures { option_map lent_entry result ≡ stood_on self.now }
     {
         let slot = self.slots.slot()?;
-        Some(self.stand.entry(slot))
+        Some(self.stand.leaf.entry(slot))
     }
 
     /// Goes to the next leaf on the way that has an entry, and returns the first entry there. Where none
@@ -118,8 +119,8 @@ impl<'t, K: Ord + Drop, V: Drop, S: SlotWalk, const LEN: usize> LinkedIter<
     pub(crate) fn enter_next(&mut self) -> Option<(&'t K, &'t V)>
         ensures { Jumps S.way self.old result self.new }
     {
-        let id = self.stand.landing(S::way())?;
-        *self = Self::entering(self.stand.leaves, id);
+        let next = self.stand.landing(S::way())?;
+        *self = Self::entering(self.stand.leaves, next);
         self.next()
     }
 
@@ -143,7 +144,7 @@ impl<'t, K: Ord + Drop, V: Drop, S: Reversible, const LEN: usize> LinkedIter<
         let mut slots = self.slots.again().rev();
         slots.rewind();
         let last = slots.step()?;
-        let (key, _) = self.stand.entry(last);
+        let (key, _) = self.stand.leaf.entry(last);
         Some(key)
     }
 
@@ -190,7 +191,7 @@ impl<'t, K: Ord + Drop, V: Drop, S: SlotWalk, const LEN: usize> Iterator
     #[inline]
     fn next(&mut self) -> Option<(&'t K, &'t V)> {
         let slot = self.slots.step()?;
-        Some(self.stand.entry(slot))
+        Some(self.stand.leaf.entry(slot))
     }
 }
 

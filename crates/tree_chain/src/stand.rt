@@ -1,10 +1,8 @@
 //! The leaf that an iterator stands in, and the leaves that it is linked to.
-ghost use Rattle.std.specs.Prelude.{◌≡◌, ◌++◌, ◌∷◌, if◌then◌else◌, is_some, None, Some, IsSome, List, ℕ};
+ghost use Rattle.std.specs.Prelude.{◌≡◌, ◌++◌, ◌∷◌, if◌then◌else◌, is_some, None, Some, List, ℕ};
 ghost use Rattle.std.specs.Option.{ForSome};
 ghost use Rattle.slab.specs.Slab.{ContainsKey, get};
-ghost use Rattle.tree_array.specs.Arrivals.{arrival};
 ghost use Rattle.tree_leaf.specs.Chain.{IsChain};
-ghost use Rattle.tree_model.specs.Rest.{lent_entry};
 ghost use Rattle.tree_chain.specs.Ways.{beside, landing, leaves_on, seen};
 
 use slab::Slab;
@@ -31,21 +29,23 @@ impl<K: Ord, V, const LEN: usize> Walked for LeafOf<K, V, LEN> {
 
     ghost stands = { IsStand };
 
-    ghost ahead = { λ way leaves leaf. seen leaves (beside way leaf) };
+    ghost ahead = { λ way leaves leaf. seen way leaves (beside way leaf) };
 }
 
-/// What an iterator has seen of the leaf ahead, the one beside its leaf on its way: the number, and how many entries
-/// it has.
+/// What an iterator has seen of the leaf ahead, the one beside its leaf on its way: the number, how many entries it has, and the
+/// number of the leaf beyond it.
 #[derive(Clone, Copy)]
 pub struct Beside {
     pub id: LeafId,
     pub len: usize,
+    pub beyond: Option<LeafId>,
 }
 
 /// The leaf that an iterator stands in, all leaves, and the leaf ahead on its way, if it has looked there.
 ///
 /// As soon as an iterator comes from one leaf into the next it looks ahead, so that the memory of the leaf ahead is on its way
-/// while the entries here are read. In the leaf where it begins or turns about it doesn't look, since it often stays there.
+/// while the entries here are read. It knows that leaf's number by then, so it needn't wait for a link. In the leaf where it
+/// begins or turns about it doesn't look, since it often stays there.
 #[derive(Drop)]
 pub struct Stand<'t, L> {
     pub leaves: &'t Slab<L>,
@@ -86,45 +86,25 @@ impl<'t, K: Ord + Drop, V: Drop, const LEN: usize> Stand<'t, LeafOf<K, V, LEN>> 
         }
     }
 
-    /// Stands in the leaf under a number, and looks up the leaf ahead on the way. The caller must name a leaf of a chain.
-    pub fn looking(leaves: &'t Slab<LeafOf<K, V, LEN>>, id: LeafId, way: Way) -> Self
-        requires { (front back : _) × IsChain leaves.now (front ++ id ∷ back) }
-        ensures leaves { result.leaves.now ≡ leaves.now }
-        ensures id { result.id ≡ id }
-        ensures leaf { get leaves.now id ≡ Some result.leaf.now }
-        ensures ahead { result.ahead ≡ seen leaves.now (beside way result.leaf.now) }
-    {
-        let stand = Self::at(leaves, id);
-        stand.seeing(look_up(leaves, link(stand.leaf, way)))
-    }
-
-    /// Returns the entry of a slot. The caller must name a reachable slot.
-    pub fn entry(&self, slot: u8) -> (&'t K, &'t V)
-        requires { IsSome (arrival self.now.leaf.now.array.arrivals slot) }
-        ensures { arrival self.now.leaf.now.array.arrivals slot ≡ Some (lent_entry result) }
-    {
-        self.leaf.entry(slot)
-    }
-
-    /// Returns where a jump lands: the next leaf on the way that has an entry, or else the last leaf on the
-    /// way. Returns `None` where no leaf follows. Runs in the number of leaves passed.
-    pub fn landing(&self, way: Way) -> Option<LeafId>
+    /// Returns what is seen of the leaf where a jump lands: the next leaf on the way that has an entry, or else the last leaf on
+    /// the way. Returns `None` where no leaf follows. Runs in the number of leaves passed.
+    pub fn landing(&self, way: Way) -> Option<Beside>
         requires leaf { get self.now.leaves.now self.now.id ≡ Some self.now.leaf.now }
         requires chain { (front back : _) × IsChain self.now.leaves.now (front ++ self.now.id ∷ back) }
         requires ahead { self.now.ahead
-            ≡ (if is_some self.now.ahead then seen self.now.leaves.now (beside way self.now.leaf.now) else None) }
+            ≡ (if is_some self.now.ahead then seen way self.now.leaves.now (beside way self.now.leaf.now) else None) }
         ensures { (front back : List ℕ) → IsChain self.now.leaves.now (front ++ self.now.id ∷ back)
-            → result ≡ landing self.now.leaves.now None (leaves_on way front back) }
+            → result ≡ seen way self.now.leaves.now (landing self.now.leaves.now None (leaves_on way front back)) }
     {
         let mut passed = None;
         let mut ahead = self.seen(way);
         while let Some(next) = ahead {
-            let id = next.id;
+            let beyond = next.beyond;
             if next.len > 0 {
-                return Some(id);
+                return Some(next);
             }
-            passed = Some(id);
-            ahead = look_up(self.leaves, link(leaf_at(self.leaves, id), way));
+            passed = Some(next);
+            ahead = look_up(self.leaves, beyond, way);
         }
         passed
     }
@@ -134,27 +114,32 @@ impl<'t, K: Ord + Drop, V: Drop, const LEN: usize> Stand<'t, LeafOf<K, V, LEN>> 
         requires leaf { get self.now.leaves.now self.now.id ≡ Some self.now.leaf.now }
         requires chain { (front back : _) × IsChain self.now.leaves.now (front ++ self.now.id ∷ back) }
         requires ahead { self.now.ahead
-            ≡ (if is_some self.now.ahead then seen self.now.leaves.now (beside way self.now.leaf.now) else None) }
-        ensures { result ≡ seen self.now.leaves.now (beside way self.now.leaf.now) }
+            ≡ (if is_some self.now.ahead then seen way self.now.leaves.now (beside way self.now.leaf.now) else None) }
+        ensures { result ≡ seen way self.now.leaves.now (beside way self.now.leaf.now) }
     {
         match self.ahead {
             Some(next) => Some(next),
-            None => look_up(self.leaves, link(self.leaf, way)),
+            None => look_up(self.leaves, link(self.leaf, way), way),
         }
     }
 }
 
 /// Looks up the leaf under a number, if there is a number. The caller must name one in use.
-fn look_up<K: Ord + Drop, V: Drop, const LEN: usize>(
+pub fn look_up<K: Ord + Drop, V: Drop, const LEN: usize>(
     leaves: &Slab<LeafOf<K, V, LEN>>,
     id: Option<LeafId>,
+    way: Way,
 ) -> Option<Beside>
     requires { ForSome id (ContainsKey leaves.now) }
-    ensures { result ≡ seen leaves.now id }
+    ensures { result ≡ seen way leaves.now id }
 {
     let id = id?;
-    let len = leaf_at(leaves, id).array().len();
-    Some(Beside { id, len })
+    let leaf = leaf_at(leaves, id);
+    Some(Beside {
+        id,
+        len: leaf.array().len(),
+        beyond: link(leaf, way),
+    })
 }
 
 /// Returns the leaf that a leaf links to on the way.
