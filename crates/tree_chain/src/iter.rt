@@ -1,4 +1,7 @@
 //! Walks over the entries of linked leaves, either way.
+//!
+//! The compiler keeps an iterator in registers where no function that it calls is lent one. So what a loop over the entries
+//! calls is inlined, and what it seldom calls takes and returns its parts by value.
 ghost use Rattle.std.specs.Prelude.{◌≡◌, ◌++◌, ◌∷◌, None, ⊤, filter, not, option_copied, option_map};
 ghost use Rattle.std.specs.declared.ops.Bound.TheVariants.{Included};
 ghost use Rattle.tree_leaf.specs.Chain.{IsChain};
@@ -107,16 +110,8 @@ impl<'t, K: Ord + Drop, V: Drop, S: SlotWalk, const LEN: usize> LinkedIter<
     /// Goes to the next leaf on the way that has an entry, and returns the first entry there. Where none
     /// has one, returns `None` and stands unopened in the last leaf on the way, or stays where it is if
     /// that is the last. Runs in the number of the leaves passed.
-    #[inline(never)]
-    pub fn jump(&mut self) -> Option<(&'t K, &'t V)>
-        ensures { Jumps S.way self.old result self.new }
-    {
-        self.enter_next()
-    }
-
-    /// Does what [`jump`](LinkedIter::jump) does, inlined in a loop over all entries.
     #[inline(always)]
-    pub(crate) fn enter_next(&mut self) -> Option<(&'t K, &'t V)>
+    pub fn jump(&mut self) -> Option<(&'t K, &'t V)>
         ensures { Jumps S.way self.old result self.new }
     {
         let next = self.stand.landing(S::way())?;

@@ -13,13 +13,14 @@ use tree_leaf::leaf::LeafOf;
 
 /// Returns the next entry of an iterator, in its leaf or behind a jump: the first that is left on its way. Returns
 /// `None` if none is left.
+#[inline(always)]
 pub fn next_or_jump<'t, K: Ord + Drop, V: Drop, S: SlotWalk, const LEN: usize>(
     walk: &mut LinkedIter<'t, LeafOf<K, V, LEN>, S>,
 ) -> Option<(&'t K, &'t V)>
     ensures { Takes S.way walk.old result walk.new }
 {
     match walk.next() {
-        None => walk.enter_next(),
+        None => walk.jump(),
         entry => entry,
     }
 }

@@ -88,6 +88,7 @@ impl<'t, K: Ord + Drop, V: Drop, const LEN: usize> Stand<'t, LeafOf<K, V, LEN>> 
 
     /// Returns what is seen of the leaf where a jump lands: the next leaf on the way that has an entry, or else the last leaf on
     /// the way. Returns `None` where no leaf follows. Runs in the number of leaves passed.
+    #[inline(always)]
     pub fn landing(&self, way: Way) -> Option<Beside>
         requires leaf { get self.now.leaves.now self.now.id ≡ Some self.now.leaf.now }
         requires chain { (front back : _) × IsChain self.now.leaves.now (front ++ self.now.id ∷ back) }
@@ -96,32 +97,38 @@ impl<'t, K: Ord + Drop, V: Drop, const LEN: usize> Stand<'t, LeafOf<K, V, LEN>> 
         ensures { (front back : List ℕ) → IsChain self.now.leaves.now (front ++ self.now.id ∷ back)
             → result ≡ seen way self.now.leaves.now (landing self.now.leaves.now None (leaves_on way front back)) }
     {
-        let mut passed = None;
-        let mut ahead = self.seen(way);
-        while let Some(next) = ahead {
-            let beyond = next.beyond;
+        if let Some(next) = self.ahead {
             if next.len > 0 {
                 return Some(next);
             }
-            passed = Some(next);
-            ahead = look_up(self.leaves, beyond, way);
         }
-        passed
+        landing_from(self.leaves, self.id, way)
     }
+}
 
-    /// Returns what it sees of the leaf ahead, and looks there if it hasn't yet.
-    fn seen(&self, way: Way) -> Option<Beside>
-        requires leaf { get self.now.leaves.now self.now.id ≡ Some self.now.leaf.now }
-        requires chain { (front back : _) × IsChain self.now.leaves.now (front ++ self.now.id ∷ back) }
-        requires ahead { self.now.ahead
-            ≡ (if is_some self.now.ahead then seen way self.now.leaves.now (beside way self.now.leaf.now) else None) }
-        ensures { result ≡ seen way self.now.leaves.now (beside way self.now.leaf.now) }
-    {
-        match self.ahead {
-            Some(next) => Some(next),
-            None => look_up(self.leaves, link(self.leaf, way), way),
+/// Does what [`landing`](Stand::landing) does, from the leaf under a number and without what an iterator has seen. Stays out of
+/// the way of most jumps. The caller must name a leaf of a chain.
+#[inline(never)]
+fn landing_from<K: Ord + Drop, V: Drop, const LEN: usize>(
+    leaves: &Slab<LeafOf<K, V, LEN>>,
+    id: LeafId,
+    way: Way,
+) -> Option<Beside>
+    requires { (front back : _) × IsChain leaves.now (front ++ id ∷ back) }
+    ensures { (front back : List ℕ) → IsChain leaves.now (front ++ id ∷ back)
+        → result ≡ seen way leaves.now (landing leaves.now None (leaves_on way front back)) }
+{
+    let mut passed = None;
+    let mut ahead = look_up(leaves, link(leaf_at(leaves, id), way), way);
+    while let Some(next) = ahead {
+        let beyond = next.beyond;
+        if next.len > 0 {
+            return Some(next);
         }
+        passed = Some(next);
+        ahead = look_up(leaves, beyond, way);
     }
+    passed
 }
 
 /// Looks up the leaf under a number, if there is a number. The caller must name one in use.

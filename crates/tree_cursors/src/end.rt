@@ -71,9 +71,8 @@ pub fn step_in_leaf<'t, K: Ord + Drop, V: Drop, S: EndWay, const LEN: usize>(
     }
 }
 
-/// Moves an end in place that was never moved, and returns the pair that it then stands on. Stays out of the way of the
-/// moves after the first.
-#[inline(never)]
+/// Moves an end in place that was never moved, and returns the pair that it then stands on.
+#[inline(always)]
 fn open<'t, K: Ord + Drop, V: Drop, S: EndWay, const LEN: usize>(
     arenas: &'t ArenasOf<K, V, LEN>,
     root: Option<Root>,
@@ -90,7 +89,8 @@ fn open<'t, K: Ord + Drop, V: Drop, S: EndWay, const LEN: usize>(
     pair_on(end)
 }
 
-/// Returns where an end goes that was never moved.
+/// Returns where an end goes that was never moved. Stays out of the way of the moves after the first.
+#[inline(never)]
 fn first_end<'t, K: Ord + Drop, V: Drop, S: EndWay, const LEN: usize>(
     arenas: &'t ArenasOf<K, V, LEN>,
     root: Option<Root>,
@@ -112,7 +112,7 @@ fn first_end<'t, K: Ord + Drop, V: Drop, S: EndWay, const LEN: usize>(
 
 /// Returns whether one walk stands on a smaller key than another one. Makes one comparison. The caller must have
 /// walks that stand on entries.
-#[inline(never)]
+#[inline(always)]
 pub fn comes_before<'t, K: Ord + Drop, V: Drop, S: SlotWalk, T: SlotWalk, const LEN: usize>(
     walk: &LinkedIter<'t, LeafOf<K, V, LEN>, S>,
     other: &LinkedIter<'t, LeafOf<K, V, LEN>, T>,

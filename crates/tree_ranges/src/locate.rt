@@ -52,6 +52,7 @@ pub fn locate<'t, K: Ord + Drop + 't, V: Drop + 't, const LEN: usize>(
 }
 
 /// Returns the end to which a move takes an end. The caller must pass an end that stands in the tree.
+#[inline(always)]
 fn stepped<'t, K: Ord + Drop, V: Drop, S: EndWay, const LEN: usize>(
     arenas: &'t ArenasOf<K, V, LEN>,
     root: Option<Root>,

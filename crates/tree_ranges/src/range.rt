@@ -173,8 +173,9 @@ impl<'t, K: Ord + Drop + 't, V: Drop + 't, const LEN: usize> RangeOf<'t, K, V, L
         }
     }
 
-    /// Moves the forward end, and returns whether the move gives the pair that the end then stands on. Answers in a register,
-    /// so that the moves in a leaf need no room for an answer in memory.
+    /// Moves the forward end, and returns whether the move gives the pair that the end then stands on. So a move to another leaf
+    /// leaves a path of its own to the caller's loop, beside that of the moves in a leaf.
+    #[inline(always)]
     fn goes_elsewhere(&mut self) -> bool
         ensures { (pair : _) × Moves K.cmp On self.old pair self.new × (result ≡ is_some pair) }
     {
@@ -188,6 +189,7 @@ impl<'t, K: Ord + Drop + 't, V: Drop + 't, const LEN: usize> RangeOf<'t, K, V, L
     }
 
     /// Moves the backward end, as [`goes_elsewhere`](RangeOver::goes_elsewhere) moves the forward one.
+    #[inline(always)]
     fn goes_back_elsewhere(&mut self) -> bool
         ensures { (pair : _) × Moves K.cmp Back self.old pair self.new × (result ≡ is_some pair) }
     {

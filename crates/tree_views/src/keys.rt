@@ -63,6 +63,7 @@ impl<'t, K: Ord + Drop + 't, V: Drop + 't, const LEN: usize> Iterator for KeysOf
 
     ghost remaining = { λ s. at_most (length s) };
 
+    #[inline(always)]
     fn next(&mut self) -> Option<&'t K> {
         let (key, _) = self.pairs.next()?;
         Some(key)
@@ -73,6 +74,7 @@ impl<'t, K: Ord + Drop + 't, V: Drop + 't, const LEN: usize> DoubleEndedIterator
     for KeysOf<'t, K, V, LEN> {
     ghost next_back_gives = { TakesLast deref };
 
+    #[inline(always)]
     fn next_back(&mut self) -> Option<&'t K> {
         let (key, _) = self.pairs.next_back()?;
         Some(key)
@@ -144,6 +146,7 @@ impl<'t, K: Ord + Drop + 't, V: Drop + 't, const LEN: usize> Iterator for Values
 
     ghost remaining = { λ s. at_most (length s) };
 
+    #[inline(always)]
     fn next(&mut self) -> Option<&'t V> {
         let (_, value) = self.pairs.next()?;
         Some(value)
@@ -154,6 +157,7 @@ impl<'t, K: Ord + Drop + 't, V: Drop + 't, const LEN: usize> DoubleEndedIterator
     for ValuesOf<'t, K, V, LEN> {
     ghost next_back_gives = { TakesLast deref };
 
+    #[inline(always)]
     fn next_back(&mut self) -> Option<&'t V> {
         let (_, value) = self.pairs.next_back()?;
         Some(value)

@@ -1,26 +1,9 @@
-use Rattle.std.proofs.Common.{rules, refl}
-use Rattle.tree_chain.proofs.Ways.{beyond_there, hops_fall, lands, lands_last, none_passed, number_seen, passes, sees}
+use Rattle.std.proofs.Common.{None, refl}
+use Rattle.tree_chain.proofs.Ways.{lands, none_passed, sees}
 use Rattle.tree_chain.proofs.stand.Stand+LeafOf+K+V+LEN.landing.Goals as goal
 
-pub loop-ahead-init : goal.loop-ahead-init
-loop-ahead-init g c = λ front back chain. sees _ _ _ _ _ _ refl c.seen-ahead.ensures (none_passed _ c.args.way front _ back chain _ c.requires.leaf)
-
 pub returns-then-next-gt0 : goal.returns-then-next-gt0
-returns-then-next-gt0 g c = λ front back chain. lands _ _ _ _ _ (rw c.in-Some.is at (c.loop-ahead.invariant front back chain)) c.if-next-gt0.true
-
-pub look_up-ahead-requires : goal.look_up-ahead-requires
-look_up-ahead-requires g c =
-    (search rules, beyond_there _ _ _ _ _ (rw c.in-Some.is at (c.loop-ahead.invariant _ _ c.requires.chain.2)) c.if-next-gt0.false)
-
-pub loop-ahead-smaller : goal.loop-ahead-smaller
-loop-ahead-smaller g c =
-    rw (c.in-Some.is, c.look_up-ahead.ensures, number_seen c.args.self.now.leaves.now c.args.way _)
-    (hops_fall _ _ _ _ _ (rw c.in-Some.is at (c.loop-ahead.invariant _ _ c.requires.chain.2)))
-
-pub loop-ahead-preserved : goal.loop-ahead-preserved
-loop-ahead-preserved g c = λ front back chain.
-    let now = rw c.in-Some.is at (c.loop-ahead.invariant front back chain) in
-    sees _ _ _ _ _ _ now.looked c.look_up-ahead.ensures (passes _ _ _ _ _ now c.if-next-gt0.false)
-
-pub returns : goal.returns
-returns g c = λ front back chain. lands_last _ _ _ _ _ (c.loop-ahead.invariant front back chain) c.in_default.is
+returns-then-next-gt0 g c = λ front back chain.
+    let leaves = c.args.self.now.leaves.now in
+    lands leaves c.args.way _ None c.in-Some.next
+    (sees leaves c.args.way _ None _ _ refl (rw c.in-Some.is at c.requires.ahead) (none_passed leaves c.args.way front _ back chain _ c.requires.leaf)) c.if-next-gt0.true

@@ -1,7 +1,7 @@
 use Rattle.std.proofs.Common.{rules, ◌∙◌, ap, sym}
 use Rattle.tree_chain.proofs.Jumps.{jumps, lands_in, onward, stays}
 use Rattle.tree_chain.proofs.Ways.{number_of, number_seen, seen_whole}
-use Rattle.tree_chain.proofs.iter.LinkedIter+LeafOf+K+V+LEN+S.enter_next.Goals as goal
+use Rattle.tree_chain.proofs.iter.LinkedIter+LeafOf+K+V+LEN+S.jump.Goals as goal
 
 pub returns-in_err-next : goal.returns-in_err-next
 returns-in_err-next g c =
