@@ -6,7 +6,7 @@ pub use Rattle.std.proofs.lemmas.Option.{slice_get_within}
 pub use Rattle.tree_array.proofs.Common.{all-append, all_map, greater_from_less}
 pub use Rattle.tree_chain.proofs.Along.{all_ahead, all_along, all_reversed}
 pub use Rattle.tree_chain.proofs.Common.{LeafWalk, Steps, beyond, standing}
-pub use Rattle.tree_chain.proofs.Rests.{count_falls, count_left, next_then_jump, stands_on, took}
+pub use Rattle.tree_chain.proofs.Rests.{count_falls, count_left, stands_on, took}
 pub use Rattle.tree_chain.specs.Rest.{HasTaken, StandsIn, Takes, left_of}
 pub use Rattle.tree_chain.specs.Walks.{here, stood_on}
 pub use Rattle.tree_chain.specs.Ways.{ahead, places_left}

@@ -9,9 +9,10 @@ ghost use Rattle.tree_model.specs.Cursor.{next_end, unopened};
 ghost use Rattle.tree_model.specs.Rest.{lent};
 ghost use Rattle.tree_cursors.specs.View.{EndStands, StepsInLeaf, end_of, pair_of};
 
-use crate::seek::{advance, seek_at};
+use crate::seek::seek_at;
 use crate::way::EndWay;
 use std::ops::Bound;
+use tree_chain::laws::next_or_jump;
 use tree_chain::{LinkedIter, SlotWalk};
 use tree_leaf::leaf::LeafOf;
 use tree_node::node::{ArenasOf, Root};
@@ -45,7 +46,7 @@ pub fn step<'t, K: Ord + Drop, V: Drop, S: EndWay, const LEN: usize>(
             let (key, value) = open(arenas, root, end, bound)?;
             Some((key, value))
         }
-        End::At(walk) => match advance(walk) {
+        End::At(walk) => match next_or_jump(walk) {
             Some((key, value)) => Some((key, value)),
             None => {
                 *end = End::Exhausted;

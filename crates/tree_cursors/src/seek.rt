@@ -6,11 +6,11 @@ ghost use Rattle.tree_model.specs.Ways.{along};
 ghost use Rattle.tree_model.specs.Pairs.{lent_bound};
 ghost use Rattle.tree_node.specs.Tree.{StandsOrRetired, walk};
 ghost use Rattle.tree_walk.specs.Ends.{IsLinked};
-ghost use Rattle.tree_chain.specs.Rest.{Takes};
 ghost use Rattle.tree_cursors.specs.Seek.{NoneMeets, Opens, Seeks};
 
 use crate::way::EndWay;
 use std::ops::Bound;
+use tree_chain::laws::next_or_jump;
 use tree_chain::{LinkedIter, SlotWalk};
 use tree_descent::look_ups::leaf_by;
 use tree_leaf::arena::NodeId;
@@ -37,7 +37,7 @@ pub fn seek_at<'t, K: Ord + Drop, V: Drop, S: EndWay, const LEN: usize>(
 {
     let mut walk = open_at::<K, V, S, LEN>(arenas, level, id, bound)?;
     pass(&mut walk, bound);
-    while let Some((key, _)) = advance(&mut walk) {
+    while let Some((key, _)) = next_or_jump(&mut walk) {
         if S::meets(bound, key) {
             return Some(walk);
         }
@@ -83,22 +83,5 @@ fn pass<'t, K: Ord + Drop, V: Drop, S: SlotWalk, const LEN: usize>(
         Bound::Included(key) => walk.pass(key),
         Bound::Excluded(key) => walk.pass(key),
         Bound::Unbounded => {}
-    }
-}
-
-/// Moves a walk to its next entry, in its leaf or behind a jump, and returns it. Returns `None` where no entry
-/// is left. Compares no keys.
-#[inline(always)]
-pub fn advance<'t, K: Ord + Drop, V: Drop, S: SlotWalk, const LEN: usize>(
-    walk: &mut LinkedIter<'t, LeafOf<K, V, LEN>, S>,
-) -> Option<(&'t K, &'t V)>
-    ensures { Takes S.way walk.old result walk.new }
-{
-    match walk.next() {
-        Some((key, value)) => Some((key, value)),
-        None => {
-            let (key, value) = walk.jump()?;
-            Some((key, value))
-        }
     }
 }
