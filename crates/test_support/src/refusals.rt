@@ -16,3 +16,40 @@ pub fn succeeds<F: Fn() -> Result<(), AllocError> + Drop>(alloc: Global, steps: 
 pub fn is_out_of_memory(alloc: Global) -> bool {
     Vec::<u8>::with_capacity(alloc, 1).is_err()
 }
+
+// How `bench/refusals` learns which call makes a request: `bench/refuse.c`, which stands before the allocator, knows a
+// block of one of these sizes, reads the name in it when it is freed, and never counts or refuses its request. Nothing
+// else asks for so many bytes.
+const BEGINS: usize = 40961;
+
+const ENDS: usize = 40963;
+
+const ANSWERS_AGAIN: usize = 40973;
+
+/// Tells `bench/refusals` that this thread's next requests are those of the call of this name. An ordinary run shows
+/// nothing of it.
+pub fn begins(alloc: Global, call: &str) {
+    note(alloc, BEGINS, call);
+}
+
+/// Tells `bench/refusals` that this thread's next requests are the test's own.
+pub fn ends(alloc: Global) {
+    note(alloc, ENDS, "");
+}
+
+/// Tells `bench/refusals` that the call of this name was made again after an allocation failed in it, and answered as it
+/// should.
+pub fn answers_again(alloc: Global, call: &str) {
+    note(alloc, ANSWERS_AGAIN, call);
+}
+
+/// Writes a name and a zero into a block of this size, and frees the block.
+fn note(alloc: Global, size: usize, call: &str) {
+    let Ok(mut block) = Vec::<u8>::with_capacity(alloc, size) else {
+        return;
+    };
+    for byte in call.as_bytes() {
+        let _ = block.push(*byte);
+    }
+    let _ = block.push(0);
+}
