@@ -47,11 +47,10 @@ def files_in(crate, part):
             yield os.path.join(at, file)
 
 
-def sum_of_files(parts):
-    """A sum of the text of some parts of crates."""
+def sum_of_files(parts, others=()):
+    """A sum of the text of some parts of crates, and of other files."""
     told = hashlib.sha256()
-    for crate, part in parts:
-        for path in files_in(crate, part):
-            with open(path, "rb") as text:
-                told.update(repr((os.path.relpath(path, TOP), text.read())).encode())
+    for path in [*(path for crate, part in parts for path in files_in(crate, part)), *others]:
+        with open(path, "rb") as text:
+            told.update(repr((os.path.relpath(path, TOP), text.read())).encode())
     return told.hexdigest()[:16]

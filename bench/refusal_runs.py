@@ -10,10 +10,9 @@ from typing import NamedTuple
 
 from crates import TOP
 
+EXPORTS = os.path.join(TOP, "bench", "exports.rs")
 WAYS = ("REFUSE_AT", "REFUSE_FROM")
 SHARE = 3
-# Files of bench/ that are linked in beside refuse.c, by crate.
-BROUGHT = {"tree_index_c": ["exports.c"]}
 # What refuse.c keeps of a run and of each call, and of how many calls.
 COUNTS, CALL = struct.Struct("3q"), struct.Struct("72s3q")
 CALLS = 400
@@ -48,18 +47,21 @@ class Job(NamedTuple):
 
 
 def copy_into(room):
-    """Copies what the tests are built from, without what earlier builds left."""
+    """Copies what the tests are built from, without what earlier builds left, and adds the tests of the exports."""
     shutil.copytree(os.path.join(TOP, "crates"), os.path.join(room, "crates"), ignore=shutil.ignore_patterns("out"))
     for name in ("crates.txt", "HANDLES"):
         shutil.copy(os.path.join(TOP, name), room)
+    if os.path.isfile(EXPORTS):
+        import exports
+
+        exports.put_into(room)
 
 
 def built(room, crate):
     """Builds the tests of a crate, and gives the program, or what was said if there is none."""
     home, program = os.path.join(room, "crates", crate), os.path.join(room, crate)
     os.mkdir(os.path.join(home, "c"))
-    for name in ["refuse.c", *BROUGHT.get(crate, [])]:
-        shutil.copy(os.path.join(TOP, "bench", name), os.path.join(home, "c"))
+    shutil.copy(os.path.join(TOP, "bench", "refuse.c"), os.path.join(home, "c"))
     words = {"RT_ALLOW_C": crate, "CFLAGS": f'-DKEPT=\\"{program}\\"'}
     # The program copies itself and ends, so rt says that it doesn't list its tests.
     done = subprocess.run(["rt", "try", "--test"], cwd=home, env={**os.environ, **words}, check=False, **PIPES)

@@ -10,8 +10,7 @@
 // itself there in place of running.
 //
 // A test tells which call makes its requests by blocks of the sizes below, with a name and a zero in each: see
-// crates/test_support/src/refusals.rt. Such a block is no request. Its name is read when it is freed. A test in C calls
-// begins, ends and answers_again, and its own malloc is no request either.
+// crates/test_support/src/refusals.rt. Such a block is no request. Its name is read when it is freed.
 #include <errno.h>
 #include <fcntl.h>
 #include <pthread.h>
@@ -89,20 +88,12 @@ void *__interceptor_realloc(void *block, size_t size) {
     return asks(__builtin_return_address(0)) && refuses() ? NULL : ___interceptor_realloc(block, size);
 }
 
-// This thread's next requests are those of the call of this name.
-void begins(const char *call) { calling = call_of(call); }
-
-// This thread's next requests are the test's own.
-void ends(void) { calling = NULL; }
-
-// The call of this name was made again after a refusal, and answered as it should.
-void answers_again(const char *call) { call_of(call)->answered++; }
-
 // Reads the note of this thread.
 static void read_note(void) {
-    if (note_size == BEGINS) begins(note);
-    if (note_size == ENDS) ends();
-    if (note_size == ANSWERS_AGAIN) answers_again(note);
+    if (note_size == ANSWERS_AGAIN)
+        call_of(note)->answered++;
+    else
+        calling = note_size == BEGINS ? call_of(note) : NULL;
     ___interceptor_free(note);
     note = NULL;
 }
