@@ -3,6 +3,7 @@ ghost use Rattle.std.specs.Prelude.{◌≡◌, ◌<◌, true, IfOk, IfErr, OnErr
 ghost use Rattle.tree_model.specs.History.{Appends};
 ghost use Rattle.tree_state.specs.Inserts.{RecordsInsert};
 ghost use Rattle.tree_shared.specs.Counted.{IsCounted, IsInsertCounted, IsUpsertCounted};
+ghost use Rattle.tree_shared.specs.Recorded.{RecordsCommand, RecordsUpsert};
 ghost use Rattle.tree_tallies.specs.Tallies.{raised, tally, reply_of_insert, reply_of_upsert, pair_of};
 ghost use Rattle.tree_shared.specs.Replies.{is_reply_to};
 
@@ -177,6 +178,9 @@ impl<
     for Locked<K, V, C, S, M, F, D, LEN> {
     ghost counts = { λ command answer old new. IsCounted command answer old new };
 
+    ghost records = { λ old command answer new.
+        RecordsCommand K.cmp K.seen V.seen old.state new.state command answer };
+
     #[inline(always)]
     fn serve(
         &mut self,
@@ -200,6 +204,9 @@ impl<
     for Locked<K, V, C, S, M, F, D, LEN> {
     ghost counts = { λ pair answer old new. IsInsertCounted pair answer old new };
 
+    ghost records = { λ old pair answer new.
+        RecordsInsert K.cmp K.seen V.seen old.state new.state pair.0 pair.1 answer };
+
     #[inline(always)]
     fn serve(
         &mut self,
@@ -222,6 +229,9 @@ impl<
 > Serves<PreparedPair<K, V>, Result<(), (K, V)>, C, S, M, F, D>
     for Locked<K, V, C, S, M, F, D, LEN> {
     ghost counts = { λ pair answer old new. IsUpsertCounted pair answer old new };
+
+    ghost records = { λ old pair answer new.
+        RecordsUpsert K.cmp K.seen V.seen old.state new.state pair answer };
 
     #[inline(always)]
     fn serve(

@@ -13,13 +13,20 @@ pub trait Serves<Q, A, C: Ledger, S: Ledger, M: Ledger, F: Ledger, D: Ledger>: D
     // What an answer to a request makes of the pass's tally.
     ghost counts: { Q → A → Tally → Tally → Type 0 };
 
+    // What it makes of what answers.
+    ghost records: { Self → Q → A → Self → Type 0 };
+
     /// Answers a request.
     fn serve(&mut self, pass: &mut Pass<C, S, M, F, D>, request: Q) -> A
         requires { pass.old.calls < u64.MAX }
-        ensures { counts request result pass.old pass.new };
+        ensures counted { counts request result pass.old pass.new }
+        ensures recorded { records self.old request result self.new };
 }
 
 /// Takes the lock, and answers a request under it.
+///
+/// No clause sees what the lock guards. But nothing else makes an `A` of a `Q`, so the answer is what `serve` gave to
+/// this request.
 #[inline(always)]
 pub fn serve<
     Q,

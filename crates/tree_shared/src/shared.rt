@@ -119,6 +119,7 @@ impl<
         ensures pair { IfErr result (λ e. pair_of e ≡ (key, value)) }
     {
         match PreparedPair::new(key, value) {
+            // No clause sees that this is an insert: an upsert that stores its pair is counted alike.
             Ok(pair) => serve(&self.locked, rt, pass, pair),
             Err((key, value)) => Err(InsertError::OutOfMemory(key, value)),
         }
@@ -192,8 +193,8 @@ impl<
         requires { pass.old.calls < u64.MAX }
         ensures { pass.new ≡ raised {V = V} pass.old (reply_of_removal result) }
     {
-        let low = cloned_bound(bounds.0)?;
-        let high = cloned_bound(bounds.1)?;
+        // No clause sees which bounds are removed: the lock hides the history, and a pass has numbers alone.
+        let (low, high) = cloned_bounds(bounds)?;
         match self.apply(rt, pass, Command::RemoveRange(low, high)) {
             Ok(_) => Ok(()),
             Err(_) => Err(AllocError),
@@ -308,9 +309,20 @@ impl<
     pub fn into_parts(self) -> (TreeIndexOf<K, V, LEN>, Vec<Record<K, V>>)
         ensures { IsHistoryOf K.cmp K.seen V.seen result.1.items result.0.pairs }
     {
+        // No clause sees that this is what the lock guarded: without the passes nothing here tells its numbers.
         let (state, _books, _workers) = self.locked.into_inner().into_parts();
         state.into_parts()
     }
+}
+
+// Clones both bounds of a range.
+fn cloned_bounds<K: IndexKey + SameClone>(
+    bounds: (Bound<&K>, Bound<&K>),
+) -> Result<(Bound<K>, Bound<K>), AllocError>
+    ensures low { IfOk result (λ copies. IsSameBound K.cmp K.seen (lent_bound bounds.entry.0) copies.0) }
+    ensures high { IfOk result (λ copies. IsSameBound K.cmp K.seen (lent_bound bounds.entry.1) copies.1) }
+{
+    Ok((cloned_bound(bounds.0)?, cloned_bound(bounds.1)?))
 }
 
 // Clones a bound.
