@@ -139,15 +139,21 @@ struct Making<'r> {
 /// Whether a call could allocate, and whether what it returned and left is right.
 type Outcome = (bool, bool);
 
-impl Making<'_> {
+impl<'r> Making<'r> {
     /// The pairs of the index.
-    fn before(&self) -> &[(u64, u64)] {
-        self.pairs.get(..self.count).unwrap_or(&[])
+    fn before(&self) -> &'r [(u64, u64)] {
+        match self.pairs.get(..self.count) {
+            Some(pairs) => pairs,
+            None => self.pairs,
+        }
     }
 
     /// The pairs up to a key, which is how many they are.
-    fn up_to(&self, key: u64) -> &[(u64, u64)] {
-        self.pairs.get(..key as usize).unwrap_or(&[])
+    fn up_to(&self, key: u64) -> &'r [(u64, u64)] {
+        match self.pairs.get(..key as usize) {
+            Some(pairs) => pairs,
+            None => self.pairs,
+        }
     }
 
     /// A list of the pairs that the call stores.

@@ -255,27 +255,22 @@ fn hands_back_commands_over_texts(rt: HostRuntime) {
 
 const RUN: &str = "run";
 
-/// Whether the replies to an insert and a look-up of a pair are those of an index that could allocate: with the second run the
-/// pair may be stored already. Else one of both was refused.
-fn are_answered(rt: &impl Abort, replies: &[Reply<String>], value: &str) -> bool {
+/// Whether an insert and a look-up of a pair were both answered, or one of both was refused. With a second run the pair may be
+/// stored already. `None` if the replies are wrong.
+fn are_answered(replies: &[Reply<String>], value: &str) -> Option<bool> {
     let [stored, found] = replies else {
-        return false;
+        return None;
     };
-    let is_stored = *stored != Reply::Refused;
-    assert!(rt; [Reply::Stored, Reply::Duplicate, Reply::Refused].contains(stored));
+    let is_stored = match stored {
+        Reply::Stored | Reply::Duplicate => true,
+        Reply::Refused => false,
+        _ => return None,
+    };
     match found {
-        Reply::Found(Some(text)) => is_stored && text.as_str() == value,
-        _ => {
-            assert!(rt;
-                *found
-                    == if is_stored {
-                        Reply::Refused
-                    } else {
-                        Reply::Found(None)
-                    }
-            );
-            false
-        }
+        Reply::Found(Some(text)) if is_stored && text.as_str() == value => Some(true),
+        Reply::Found(None) if !is_stored => Some(false),
+        Reply::Refused if is_stored => Some(false),
+        _ => None,
     }
 }
 
@@ -295,12 +290,13 @@ fn run_once(
     let answer = run(index, commands);
     ends(alloc);
     let is_answered = match answer {
-        Ok(replies) => are_answered(rt, &replies, value.as_str()),
-        Err(_) => false,
+        Ok(replies) => are_answered(&replies, value.as_str()),
+        Err(_) => Some(false),
     };
     let stored = pairs.get(..index.len()).unwrap_or(&[]);
-    assert!(rt; has(index, stored) && (!is_answered || stored.len() == pairs.len()));
-    Ok(is_answered)
+    let is_whole = has(index, stored) && (is_answered != Some(true) || stored.len() == pairs.len());
+    assert!(rt; is_answered.is_some() && is_whole);
+    Ok(is_answered == Some(true))
 }
 
 fn run_twice(
