@@ -22,6 +22,17 @@ def below_each():
     return {name: [it for it in below if it in found] for name, below in found.items()}
 
 
+def all_below(names, below):
+    """The crates that these stand on, at whatever remove."""
+    found = set()
+    left = list(names)
+    while left:
+        news = set(below[left.pop()]) - found
+        found |= news
+        left += news
+    return found
+
+
 def edits_of(crate, folder):
     """The names of the edits in a folder of a crate, `must-fail` or `wrong-bodies`."""
     path = os.path.join(TOP, "crates", crate, folder)
@@ -36,11 +47,10 @@ def files_in(crate, part):
             yield os.path.join(at, file)
 
 
-def sum_of_files(parts):
-    """A sum of the text of some parts of crates."""
+def sum_of_files(parts, others=()):
+    """A sum of the text of some parts of crates, and of other files."""
     told = hashlib.sha256()
-    for crate, part in parts:
-        for path in files_in(crate, part):
-            with open(path, "rb") as text:
-                told.update(repr((os.path.relpath(path, TOP), text.read())).encode())
+    for path in [*(path for crate, part in parts for path in files_in(crate, part)), *others]:
+        with open(path, "rb") as text:
+            told.update(repr((os.path.relpath(path, TOP), text.read())).encode())
     return told.hexdigest()[:16]
