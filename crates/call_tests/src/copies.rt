@@ -2,19 +2,8 @@
 use crate::indexes::{are_equal, index_of, small_index_of};
 use std::alloc::{AllocError, Global};
 use std::process::Abort;
-use test_support::refusals::succeeds;
+use test_support::refusals::{begins, ends, expect_granted, succeeds};
 use tree_index::{SmallTreeIndex, TreeIndex, TreeIndexOf};
-
-/// Copies an index, and once more where memory was refused.
-fn copies_again<F: Fn() -> Result<(), AllocError> + Drop>(copies: F) -> Result<(), AllocError>
-    requires { F.IsAlwaysCallable copies }
-{
-    if copies().is_ok() {
-        return Ok(());
-    }
-    copies()?;
-    Err(AllocError)
-}
 
 /// Removes a key of a copy of two pairs. Returns whether the copy was equal before and isn't now, and has a pair less.
 fn changes_alone<const LEN: usize>(
@@ -36,7 +25,7 @@ fn has_one_more<const LEN: usize>(
     !are_equal(index, copy) && (index.len(), copy.len()) == (2, 1)
 }
 
-/// Copies the index and changes the copy. A refusal leaves the index as it was.
+/// Copies the index and changes the copy. If an allocation fails, the index is as it was.
 fn copies_alone(
     rt: &impl Abort,
     alloc: Global,
@@ -51,7 +40,7 @@ fn copies_alone(
 
 fn changes_the_copy_alone_steps(rt: &impl Abort, alloc: Global) -> Result<(), AllocError> {
     let index = index_of(alloc, &[(1, 1), (2, 2)])?;
-    copies_again(|| copies_alone(rt, alloc, &index))
+    copies_alone(rt, alloc, &index)
 }
 
 #[test]
@@ -85,7 +74,7 @@ fn compares_and_copies(
 
 fn changes_the_small_copy_alone_steps(rt: &impl Abort, alloc: Global) -> Result<(), AllocError> {
     let index = small_index_of(alloc, &[(1, 1), (2, 2)])?;
-    copies_again(|| compares_and_copies(rt, alloc, &index))
+    compares_and_copies(rt, alloc, &index)
 }
 
 #[test]
@@ -98,7 +87,7 @@ fn changes_the_small_copy_alone(rt: HostRuntime) {
     );
 }
 
-/// Copies an index of one pair. A refusal leaves the pair.
+/// Copies an index of one pair. If an allocation fails, the pair stays.
 fn leaves_its_source_steps(rt: &impl Abort, alloc: Global) -> Result<(), AllocError> {
     let index = index_of(alloc, &[(1, 10)])?;
     let copied = index.try_clone(alloc).map(|copy| copy.len());
@@ -112,10 +101,10 @@ fn leaves_its_source(rt: HostRuntime) {
     assert!(rt; succeeds(rt.alloc(), || leaves_its_source_steps(&rt, rt.alloc())));
 }
 
-/// An index of forty texts.
+/// An index of twenty texts, in two leaves.
 fn index_of_texts(alloc: Global) -> Result<TreeIndex<String, String>, AllocError> {
     let mut index = TreeIndex::new(alloc);
-    for number in 0..40u64 {
+    for number in 0..20u64 {
         let key = format!(in alloc; "key {number}")?;
         let value = format!(in alloc; "value {number}")?;
         if index.insert_sync(key, value).is_err() {
@@ -125,21 +114,43 @@ fn index_of_texts(alloc: Global) -> Result<TreeIndex<String, String>, AllocError
     Ok(index)
 }
 
-/// Copies the index. The copy is equal to it.
+const TRY_CLONE: &str = "TreeIndex::try_clone";
+
+/// Copies an index that is equal to another one. Returns `false` if an allocation fails. The index is then as it was.
+fn is_copied(
+    rt: &impl Abort,
+    alloc: Global,
+    index: &TreeIndex<String, String>,
+    same: &TreeIndex<String, String>,
+) -> bool {
+    begins(alloc, TRY_CLONE);
+    let copy = index.try_clone(alloc);
+    ends(alloc);
+    assert!(rt; are_equal(index, same));
+    let Ok(copy) = copy else {
+        return false;
+    };
+    are_equal(&copy, same)
+}
+
+/// Copies an index at once or the second time.
 fn copies_equal_texts(
     rt: &impl Abort,
     alloc: Global,
     index: &TreeIndex<String, String>,
 ) -> Result<(), AllocError> {
-    let copy = index.try_clone(alloc)?;
-    assert!(rt; are_equal(&copy, index) && copy.len() == 40);
-    Ok(())
+    let same = index_of_texts(alloc)?;
+    if is_copied(rt, alloc, index, &same) {
+        return Ok(());
+    }
+    let is_granted = is_copied(rt, alloc, index, &same);
+    expect_granted(rt, alloc, TRY_CLONE, is_granted)
 }
 
-/// Clones of keys and values that allocate can be refused too.
+/// Clones of keys and values that allocate can fail too.
 fn copies_texts_steps(rt: &impl Abort, alloc: Global) -> Result<(), AllocError> {
     let index = index_of_texts(alloc)?;
-    copies_again(|| copies_equal_texts(rt, alloc, &index))
+    copies_equal_texts(rt, alloc, &index)
 }
 
 #[test]
@@ -172,7 +183,7 @@ fn copies_leaves(
 /// An index with seven pairs a leaf is copied by the same text.
 fn copies_small_leaves_steps(rt: &impl Abort, alloc: Global) -> Result<(), AllocError> {
     let index = small_index(alloc)?;
-    copies_again(|| copies_leaves(rt, alloc, &index))
+    copies_leaves(rt, alloc, &index)
 }
 
 #[test]

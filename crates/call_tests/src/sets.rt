@@ -1,4 +1,5 @@
-//! Tests of sets: worked rows at both sizes, and two sets side by side.
+//! Tests of sets: worked rows at both sizes, two sets side by side, and calls in which an allocation fails.
+mod refusals;
 mod rows;
 mod two_sets;
 

@@ -5,11 +5,11 @@ use test_support::refusals::succeeds;
 use tree_index::TreeIndex;
 use tree_support::{MoreCalls, Numbers, Scenario, ascend, succeeds_at_both_sizes};
 
-/// How many pairs an index has, at fifteen pairs a leaf: none, one, a full leaf, two leaves, and two and three levels.
-static COUNTS: [u64; 6] = [0, 1, 15, 16, 241, 3_616];
+/// How many pairs an index has, at fifteen pairs a leaf and at seven: none, one, a full leaf, two leaves, and two levels.
+static COUNTS: [(u64, u64); 5] = [(0, 0), (1, 1), (15, 7), (16, 8), (241, 57)];
 
-/// The same at seven pairs a leaf.
-static SMALL_COUNTS: [u64; 6] = [0, 1, 7, 8, 57, 400];
+/// So many that the tree has three levels.
+static DEEP_COUNTS: [(u64, u64); 1] = [(3_616, 400)];
 
 /// Empties an index and stores the pairs of 1 to `count`.
 fn fill(index: &mut impl Numbers, count: u64) -> Result<(), AllocError> {
@@ -75,26 +75,42 @@ fn gives_pairs(index: &mut impl MoreCalls, count: u64) -> Result<bool, AllocErro
     Ok(keeps_even(index, count))
 }
 
-/// Takes the pairs out of indexes of several sizes.
+/// Takes the pairs out of an index of so many.
 #[derive(Drop)]
 struct Taking<'r, R> {
     rt: &'r R,
+    counts: (u64, u64),
 }
 
 impl<R: Abort> Scenario for Taking<'_, R> {
     fn play<I: MoreCalls>(&self, index: &mut I) -> Result<(), AllocError> {
+        let (at_fifteen, at_seven) = self.counts;
         let is_small = index.pairs_a_leaf() == 7;
-        for count in if is_small { SMALL_COUNTS } else { COUNTS } {
-            assert!(self.rt; gives_pairs(index, count)?);
-        }
+        let count = if is_small { at_seven } else { at_fifteen };
+        assert!(self.rt; gives_pairs(index, count)?);
         Ok(())
+    }
+}
+
+/// Takes the pairs out of indexes of each of these numbers.
+fn take_of_each(rt: &impl Abort, alloc: Global, counts: &[(u64, u64)]) {
+    for counts in counts {
+        let scenario = Taking {
+            rt,
+            counts: *counts,
+        };
+        assert!(rt; succeeds_at_both_sizes(alloc, &scenario));
     }
 }
 
 #[test]
 fn takes_pairs_out(rt: HostRuntime) {
-    let scenario = Taking { rt: &rt };
-    assert!(rt; succeeds_at_both_sizes(rt.alloc(), &scenario));
+    take_of_each(&rt, rt.alloc(), &COUNTS);
+}
+
+#[test]
+fn takes_pairs_out_of_three_levels(rt: HostRuntime) {
+    take_of_each(&rt, rt.alloc(), &DEEP_COUNTS);
 }
 
 /// Returns whether both ends give in turn the pairs of 1 to 241.

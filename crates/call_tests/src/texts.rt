@@ -1,7 +1,7 @@
 //! Look-ups of texts and bytes that are lent.
 use std::alloc::{AllocError, Global};
 use std::process::Abort;
-use test_support::refusals::succeeds;
+use test_support::refusals::{begins, ends, expect_granted, succeeds};
 use tree_index::TreeIndex;
 use tree_texts::{Bytes, Text, peek_bytes, peek_text};
 
@@ -99,4 +99,54 @@ fn counts_bytes(rt: &impl Abort, alloc: Global) -> Result<(), AllocError> {
 #[test]
 fn finds_bytes(rt: HostRuntime) {
     assert!(rt; succeeds(rt.alloc(), || counts_bytes(&rt, rt.alloc())));
+}
+
+/// Whether a clone of a text, which is stored, is equal to it. Returns `false` if an allocation fails.
+fn is_text_cloned(alloc: Global, text: &Text) -> bool {
+    begins(alloc, "Text::clone");
+    let clone: Result<_, _> = text.clone();
+    ends(alloc);
+    let Ok(clone) = clone else {
+        return false;
+    };
+    clone == *text && text.as_str() == WORDS[0]
+}
+
+/// Clones a text at once or the second time.
+fn clones_text(rt: &impl Abort, alloc: Global) -> Result<(), AllocError> {
+    let text = Text::from(String::from_str(alloc, WORDS[0])?);
+    if is_text_cloned(alloc, &text) {
+        return Ok(());
+    }
+    expect_granted(rt, alloc, "Text::clone", is_text_cloned(alloc, &text))
+}
+
+/// Whether a clone of bytes is equal to them. Returns `false` if an allocation fails.
+fn are_bytes_cloned(alloc: Global, bytes: &Bytes) -> bool {
+    begins(alloc, "Bytes::clone");
+    let clone: Result<_, _> = bytes.clone();
+    ends(alloc);
+    let Ok(clone) = clone else {
+        return false;
+    };
+    clone == *bytes && bytes.as_slice() == BYTES[0]
+}
+
+/// Clones bytes at once or the second time.
+fn clones_bytes(rt: &impl Abort, alloc: Global) -> Result<(), AllocError> {
+    let bytes = Bytes::from(BYTES[0].to_vec(alloc)?);
+    if are_bytes_cloned(alloc, &bytes) {
+        return Ok(());
+    }
+    expect_granted(rt, alloc, "Bytes::clone", are_bytes_cloned(alloc, &bytes))
+}
+
+#[test]
+fn clones_again(rt: HostRuntime) {
+    assert!(rt;
+        succeeds(rt.alloc(), || {
+            clones_text(&rt, rt.alloc())?;
+            clones_bytes(&rt, rt.alloc())
+        })
+    );
 }

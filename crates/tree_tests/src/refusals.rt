@@ -1,8 +1,9 @@
-//! Tests of the index, of its histories and of its runs where memory is refused. `bench/refusals` refuses it; in an ordinary run of the
-//! tests nothing is refused.
+//! Tests of the index, of its histories and of its runs in which an allocation fails. `bench/refusals` makes each fail in turn; in an
+//! ordinary run of the tests none does.
 mod histories;
 mod keys;
 mod rebuilds;
 mod runs;
 mod shapes;
+mod texts;
 mod writes;

@@ -1,5 +1,5 @@
 //! The pairs at both ends of an index, and the nearest ones beside its keys.
-use std::alloc::AllocError;
+use std::alloc::{AllocError, Global};
 use std::process::Abort;
 use tree_support::{MoreCalls, Scenario, ascend, succeeds_at_both_sizes};
 
@@ -53,7 +53,10 @@ fn expect_emptied(rt: &impl Abort, index: &mut impl MoreCalls, len: u32) {
 }
 
 /// How many even keys are stored in an index of fifteen pairs a leaf, and in one of seven.
-static LENGTHS: [(u32, u32); 6] = [(0, 0), (1, 1), (15, 7), (16, 8), (241, 57), (3_616, 400)];
+static LENGTHS: [(u32, u32); 5] = [(0, 0), (1, 1), (15, 7), (16, 8), (241, 57)];
+
+/// So many that the tree has three levels.
+static DEEP_LENGTHS: [(u32, u32); 1] = [(3_616, 400)];
 
 /// Asks for the nearest pairs among so many.
 #[derive(Drop)]
@@ -78,13 +81,23 @@ impl<R: Abort> Scenario for Seeking<'_, R> {
     }
 }
 
-#[test]
-fn finds_the_nearest(rt: HostRuntime) {
-    for lengths in &LENGTHS {
+/// Asks for the nearest pairs among each of these numbers of keys.
+fn seek_in_each(rt: &impl Abort, alloc: Global, lengths: &[(u32, u32)]) {
+    for lengths in lengths {
         let scenario = Seeking {
-            rt: &rt,
+            rt,
             lengths: *lengths,
         };
-        assert!(rt; succeeds_at_both_sizes(rt.alloc(), &scenario));
+        assert!(rt; succeeds_at_both_sizes(alloc, &scenario));
     }
+}
+
+#[test]
+fn finds_the_nearest(rt: HostRuntime) {
+    seek_in_each(&rt, rt.alloc(), &LENGTHS);
+}
+
+#[test]
+fn finds_the_nearest_in_three_levels(rt: HostRuntime) {
+    seek_in_each(&rt, rt.alloc(), &DEEP_LENGTHS);
 }

@@ -3,7 +3,7 @@ use crate::cursors::said::{Said, make, numbers, said_by};
 use std::alloc::{AllocError, Global};
 use std::ops::Bound;
 use std::process::Abort;
-use test_support::refusals::succeeds;
+use test_support::refusals::{begins, ends, expect_granted, succeeds};
 use tree_index::{
     Cursor, IterOf, Move, ProximityOf, Range, RangeOf, TreeIndex, TreeIndexOf, run_moves,
 };
@@ -234,7 +234,7 @@ fn expect<'t, C: Cursor<'t, u64, u64>>(
     }
 }
 
-/// Makes the moves at once, which answer so, also after a refusal.
+/// Makes the moves at once, which answer so, also the second time if an allocation fails.
 fn expect_at_once<'t, C: Cursor<'t, u64, u64>>(
     rt: &impl Abort,
     alloc: Global,
@@ -242,31 +242,36 @@ fn expect_at_once<'t, C: Cursor<'t, u64, u64>>(
     moves: &[Move],
     answers: &[Said],
 ) -> Result<(), AllocError> {
-    if makes_at_once(rt, alloc, cursor, moves, answers).is_ok() {
+    if makes_at_once(rt, alloc, cursor, moves, answers) {
         return Ok(());
     }
-    makes_at_once(rt, alloc, cursor, moves, answers)?;
-    Err(AllocError)
+    let is_made = makes_at_once(rt, alloc, cursor, moves, answers);
+    expect_granted(rt, alloc, RUN_MOVES, is_made)
 }
 
-/// Makes the moves at once, which answer so. A refusal moves nothing.
+const RUN_MOVES: &str = "run_moves";
+
+/// Makes the moves at once, which answer so. Returns `false` if an allocation fails; nothing is moved then.
 fn makes_at_once<'t, C: Cursor<'t, u64, u64>>(
     rt: &impl Abort,
     alloc: Global,
     cursor: &mut C,
     moves: &[Move],
     answers: &[Said],
-) -> Result<(), AllocError> {
+) -> bool {
     let stood = (make(cursor, Move::Get), make(cursor, Move::GetBack));
-    let Ok(given) = run_moves(alloc, cursor, moves) else {
+    begins(alloc, RUN_MOVES);
+    let given = run_moves(alloc, cursor, moves);
+    ends(alloc);
+    let Ok(given) = given else {
         assert!(rt; (make(cursor, Move::Get), make(cursor, Move::GetBack)) == stood);
-        return Err(AllocError);
+        return false;
     };
     assert!(rt; given.len() == answers.len());
     for (one, answer) in given.iter().zip(answers) {
         assert!(rt; said_by(one) == *answer);
     }
-    Ok(())
+    true
 }
 
 /// Makes the moves of a row by a range, and those of the cursor that is made of it.

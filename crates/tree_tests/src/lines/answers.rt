@@ -3,8 +3,9 @@ use super::engine::Answers;
 use super::streams::{Failing, Sink, Source};
 use std::alloc::{AllocError, Global};
 use std::process::Abort;
-use test_support::refusals::succeeds;
+use test_support::refusals::{begins, ends, expect_granted, succeeds};
 use tree_index::TreeIndex;
+use tree_support::ascend;
 
 /// Lines, and the answers to them over a new index.
 static ROWS: [(&str, &str); 12] = [
@@ -82,58 +83,98 @@ fn answers_lines(rt: HostRuntime) {
     }
 }
 
-// A line that is refused memory is answered `refused` and its key stays absent; later lines are answered
-// as ever.
-static STORE_AND_PEEK: [&str; 9] = [
-    "insert 1 10\npeek 1\n",
-    "insert 2 10\npeek 2\n",
-    "insert 3 10\npeek 3\n",
-    "insert 4 10\npeek 4\n",
-    "insert 5 10\npeek 5\n",
-    "upsert 6 10\npeek 6\n",
-    "upsert 7 10\npeek 7\n",
-    "upsert 8 10\npeek 8\n",
-    "upsert 9 10\npeek 9\n",
-];
-
 /// Answers the lines, and returns what goes out.
-fn answers_to(rt: &impl Abort, index: &mut impl Answers, lines: &str) -> Sink {
+fn answers_to(rt: &impl Abort, alloc: Global, index: &mut impl Answers, lines: &str) -> Sink {
     let mut input = lines.as_bytes();
     let mut output = Sink::new(256, Failing::never());
-    assert!(rt; index.run(&mut input, &mut output) == Ok(()));
+    begins(alloc, RUN_LINES);
+    let outcome = index.run(&mut input, &mut output);
+    ends(alloc);
+    assert!(rt; outcome == Ok(()));
     output
 }
 
-/// Stores and looks up at each key.
-fn expect_stored_or_refused(rt: &impl Abort, index: &mut impl Answers) {
-    for lines in &STORE_AND_PEEK {
-        let output = answers_to(rt, index, *lines);
-        let answers = output.taken();
-        assert!(rt; answers == b"ok\n10\n".as_slice() || answers == b"refused\nnone\n".as_slice());
+const RUN_LINES: &str = "run_lines";
+
+/// Whether a write and a look-up are answered. Else the write was refused, and the look-up found none.
+fn is_stored(rt: &impl Abort, alloc: Global, index: &mut impl Answers, lines: &str) -> bool {
+    let output = answers_to(rt, alloc, index, lines);
+    let answers = output.taken();
+    assert!(rt; answers == b"ok\n10\n".as_slice() || answers == b"refused\nnone\n".as_slice());
+    answers.starts_with(b"ok")
+}
+
+/// Stores and looks up at once or the second time. `Err` if nothing can be allocated any more.
+fn store_twice(
+    rt: &impl Abort,
+    alloc: Global,
+    index: &mut impl Answers,
+    lines: &str,
+) -> Result<(), AllocError> {
+    if is_stored(rt, alloc, index, lines) {
+        return Ok(());
+    }
+    let is_granted = is_stored(rt, alloc, index, lines);
+    expect_granted(rt, alloc, RUN_LINES, is_granted)
+}
+
+/// How many ascending keys are stored, and lines that then store the next one: in a new index, and where a leaf and the arena of
+/// leaves are full, and the arena of nodes too.
+static STORE_AND_PEEK: [(u64, &str); 6] = [
+    (0, "insert 1 10\npeek 1\n"),
+    (0, "upsert 1 10\npeek 1\n"),
+    (60, "insert 61 10\npeek 61\n"),
+    (60, "upsert 61 10\npeek 61\n"),
+    (690, "insert 691 10\npeek 691\n"),
+    (690, "upsert 691 10\npeek 691\n"),
+];
+
+fn stores_steps(
+    rt: &impl Abort,
+    alloc: Global,
+    (count, lines): (u64, &str),
+) -> Result<(), AllocError> {
+    let mut index: TreeIndex<u64, u64> = TreeIndex::new(alloc);
+    ascend(&mut index, 1, count, 1)?;
+    store_twice(rt, alloc, &mut index, lines)
+}
+
+/// A write that can't allocate is answered `refused` and its key stays absent. The same line is then answered.
+#[test]
+fn answers_that_memory_is_refused(rt: HostRuntime) {
+    for row in &STORE_AND_PEEK {
+        assert!(rt; succeeds(rt.alloc(), || stores_steps(&rt, rt.alloc(), *row)));
     }
 }
 
-#[test]
-fn answers_that_memory_is_refused(rt: HostRuntime) {
-    let mut index: TreeIndex<u64, u64> = TreeIndex::new(rt.alloc());
-    expect_stored_or_refused(&rt, &mut index);
+/// An insert and a look-up, and both again; the answers if no allocation fails, and if one does in the first insert.
+static TWICE: (&str, &str, &str) = (
+    "insert 1 10\npeek 1\ninsert 1 10\npeek 1\n",
+    "ok\n10\nduplicate\n10\n",
+    "refused\nnone\nok\n10\n",
+);
+
+/// Answers the lines. If the second insert is refused too, nothing can be allocated any more.
+fn insert_in_both_lines(
+    rt: &impl Abort,
+    alloc: Global,
+    index: &mut impl Answers,
+) -> Result<(), AllocError> {
+    let (lines, answers, again) = TWICE;
+    let output = answers_to(rt, alloc, index, lines);
+    if output.taken() == answers.as_bytes() {
+        return Ok(());
+    }
+    assert!(rt; output.taken().starts_with(b"refused\nnone\n"));
+    expect_granted(rt, alloc, RUN_LINES, output.taken() == again.as_bytes())
 }
 
-/// An insert and a look-up, and both again; the answers with memory, where the first insert is refused it, and where both
-/// are.
-static TWICE: (&str, [&str; 3]) = (
-    "insert 1 10\npeek 1\ninsert 1 10\npeek 1\n",
-    [
-        "ok\n10\nduplicate\n10\n",
-        "refused\nnone\nok\n10\n",
-        "refused\nnone\nrefused\nnone\n",
-    ],
-);
+fn insert_in_both_lines_steps(rt: &impl Abort, alloc: Global) -> Result<(), AllocError> {
+    let mut index: TreeIndex<u64, u64> = TreeIndex::new(alloc);
+    insert_in_both_lines(rt, alloc, &mut index)
+}
 
 #[test]
 fn answers_again_what_was_refused(rt: HostRuntime) {
-    let mut index: TreeIndex<u64, u64> = TreeIndex::new(rt.alloc());
-    let (lines, answers) = TWICE;
-    let output = answers_to(&rt, &mut index, lines);
-    assert!(rt; answers.iter().any(|it| it.as_bytes() == output.taken()));
+    assert!(rt; succeeds(rt.alloc(), || insert_in_both_lines_steps(&rt, rt.alloc())));
 }

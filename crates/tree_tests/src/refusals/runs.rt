@@ -1,8 +1,8 @@
-//! Lists of commands that are refused memory, whole or one of their commands.
-use crate::refusals::writes::{ample, ascending};
+//! Lists of commands in which an allocation fails, for the replies or for one of the commands.
+use crate::refusals::writes::ascending;
 use std::alloc::{AllocError, Global};
 use std::process::Abort;
-use test_support::refusals::is_out_of_memory;
+use test_support::refusals::{begins, ends, expect_granted};
 use tree_index::{Command, Reply, TreeIndexOf};
 use tree_runs::run;
 use tree_support::{Numbers, OwnScenario, flaws, succeeds_by_own_calls};
@@ -35,8 +35,11 @@ impl<const LEN: usize> Runs for TreeIndexOf<u64, u64, LEN> {
     }
 }
 
-/// Runs an insert and a look-up of an absent key over an index of these pairs. Returns whether the pair was stored. Where
-/// the room for the replies is refused, so is the run; where memory for the pair is, so is the insert. The index stands then.
+const RUN: &str = "run";
+
+/// Runs an insert and a look-up of an absent key over an index of these pairs. Returns whether the pair was stored. If the
+/// room for the replies can't be allocated, the run is refused; if the insert can't allocate, it alone is. The index stands
+/// then.
 fn run_once(
     rt: &impl Abort,
     alloc: Global,
@@ -45,7 +48,10 @@ fn run_once(
     key: u64,
 ) -> Result<bool, AllocError> {
     let commands = vec![in alloc; Command::Insert(key, key), Command::Peek(key)]?;
-    let is_stored = match index.run(commands) {
+    begins(alloc, RUN);
+    let answer = index.run(commands);
+    ends(alloc);
+    let is_stored = match answer {
         Ok(replies) => are_answered(rt, &replies, key),
         Err(_) => false,
     };
@@ -53,23 +59,19 @@ fn run_once(
     Ok(is_stored)
 }
 
-/// Runs both at once or the second time. Returns whether they were refused once. `Err` if they were refused both times, so
-/// that there is no memory.
+/// Runs both at once or the second time. `Err` if nothing can be allocated any more.
 fn run_twice(
     rt: &impl Abort,
     alloc: Global,
     index: &mut impl Runs,
     pairs: &[(u64, u64)],
     key: u64,
-) -> Result<bool, AllocError> {
+) -> Result<(), AllocError> {
     if run_once(rt, alloc, index, pairs, key)? {
-        return Ok(false);
+        return Ok(());
     }
-    if run_once(rt, alloc, index, pairs, key)? {
-        return Ok(true);
-    }
-    assert!(rt; is_out_of_memory(alloc));
-    Err(AllocError)
+    let is_stored = run_once(rt, alloc, index, pairs, key)?;
+    expect_granted(rt, alloc, RUN, is_stored)
 }
 
 /// So many ascending keys, at fifteen pairs a leaf and at seven, that the next one makes a leaf and a root, splits a leaf, splits
@@ -87,7 +89,7 @@ fn run_over(
     for (key, value) in &pairs {
         index.upsert(*key, *value).map_err(|_| AllocError)?;
     }
-    ample(run_twice(rt, alloc, index, &pairs, count.saturating_add(1))?)
+    run_twice(rt, alloc, index, &pairs, count.saturating_add(1))
 }
 
 /// Runs both commands over so many pairs.

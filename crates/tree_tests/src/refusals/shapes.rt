@@ -1,6 +1,6 @@
-//! Writes at each shape of a tree at which memory may be refused, and the calls that allocate nothing.
+//! Writes at each shape of a tree at which an allocation may fail, and the calls that allocate nothing.
 use crate::refusals::keys::Named;
-use crate::refusals::writes::{Call, NamedKeys, Names, ample, stands, store, write_twice, written};
+use crate::refusals::writes::{Call, NamedKeys, Names, stands, store, write_twice, written};
 use std::alloc::{AllocError, Global};
 use std::process::Abort;
 use test_support::refusals::succeeds;
@@ -117,7 +117,7 @@ fn cuts(index: &mut impl NamedKeys, pairs: &[(u64, u64)], key: &Named) -> bool {
     stands(index, rest, 0)
 }
 
-/// Whether calls that allocate nothing answer, whatever is refused. At last the index is empty.
+/// Whether calls that allocate nothing answer, whatever allocation fails. At last the index is empty.
 fn answers_without_memory(
     alloc: Global,
     index: &mut impl NamedKeys,
@@ -144,10 +144,10 @@ fn write(
     (before, after): (&[(u64, u64)], &[(u64, u64)]),
 ) -> Result<(), AllocError> {
     let (_, _, _, number, depth) = *shape;
-    let refused = write_twice(rt, alloc, index, before, by, written(alloc, number)?)?;
+    write_twice(rt, alloc, index, before, by, written(alloc, number)?)?;
     let is_written = stands(index, after, number) && index.depth() == depth;
     assert!(rt; is_written && answers_without_memory(alloc, index, before, number));
-    ample(refused)
+    Ok(())
 }
 
 /// Grows an empty index to a shape, and writes.

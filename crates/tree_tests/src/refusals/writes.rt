@@ -1,9 +1,9 @@
-//! Writes that may be refused memory, and what is asked of an index then.
+//! Writes in which an allocation may fail, and what is asked of an index then.
 use crate::refusals::keys::Named;
 use std::alloc::{AllocError, Global};
 use std::ops::Bound;
 use std::process::Abort;
-use test_support::refusals::is_out_of_memory;
+use test_support::refusals::{begins, ends, expect_granted};
 use tree_index::{InsertError, TreeIndexOf};
 
 /// An index of names.
@@ -24,6 +24,16 @@ pub(crate) fn written(alloc: Global, number: u64) -> Result<Named, AllocError> {
 pub enum Call {
     Insert,
     Upsert,
+}
+
+impl Call {
+    /// The name by which the sweep of refusals knows the call.
+    fn name(self) -> &'static str {
+        match self {
+            Call::Insert => "TreeIndex::insert_sync",
+            Call::Upsert => "TreeIndex::upsert_sync",
+        }
+    }
 }
 
 /// An index of names, as its tests call it.
@@ -129,7 +139,7 @@ impl<const LEN: usize> NamedKeys for Names<LEN> {
     }
 }
 
-/// Stores a pair. Returns it if memory is refused.
+/// Stores a pair. Returns it if an allocation fails.
 pub(crate) fn store(
     index: &mut impl NamedKeys,
     by: Call,
@@ -194,24 +204,27 @@ fn descends<const LEN: usize>(index: &Names<LEN>, pairs: &[(u64, u64)], number: 
     walk.next_back().is_none()
 }
 
-/// Writes a pair to an index of these pairs. Returns its key if memory is refused: the very pair came back then, and the
-/// index stood.
+/// Writes a pair to an index of these pairs. Returns its key if an allocation fails: the very pair came back then, and
+/// the index stood.
 fn write_once(
     rt: &impl Abort,
+    alloc: Global,
     index: &mut impl NamedKeys,
     pairs: &[(u64, u64)],
     by: Call,
     key: Named,
 ) -> Option<Named> {
     let number = key.number;
-    let (key, value) = store(index, by, key, 0).err()?;
+    begins(alloc, by.name());
+    let written = store(index, by, key, 0);
+    ends(alloc);
+    let (key, value) = written.err()?;
     assert!(rt; key.number == number && key.name.as_str() == WRITTEN && value == 0);
     assert!(rt; stands(index, pairs, 0));
     Some(key)
 }
 
-/// Writes a pair to an index of these pairs, at once or the second time. Returns whether it was refused once. `Err` if it was
-/// refused both times, so that there is no memory.
+/// Writes a pair to an index of these pairs, at once or the second time. `Err` if nothing can be allocated any more.
 pub(crate) fn write_twice(
     rt: &impl Abort,
     alloc: Global,
@@ -219,20 +232,12 @@ pub(crate) fn write_twice(
     pairs: &[(u64, u64)],
     by: Call,
     key: Named,
-) -> Result<bool, AllocError> {
-    let Some(key) = write_once(rt, index, pairs, by, key) else {
-        return Ok(false);
+) -> Result<(), AllocError> {
+    let Some(key) = write_once(rt, alloc, index, pairs, by, key) else {
+        return Ok(());
     };
-    if write_once(rt, index, pairs, by, key).is_none() {
-        return Ok(true);
-    }
-    assert!(rt; is_out_of_memory(alloc));
-    Err(AllocError)
-}
-
-/// `Ok` unless something was refused. So a test makes its steps again then.
-pub(crate) fn ample(refused: bool) -> Result<(), AllocError> {
-    if refused { Err(AllocError) } else { Ok(()) }
+    let back = write_once(rt, alloc, index, pairs, by, key);
+    expect_granted(rt, alloc, by.name(), back.is_none())
 }
 
 /// The pairs of the keys up to the last one. The value at each key is its number.
