@@ -25,8 +25,9 @@
  * What a caller needn't see to: a call on a closed handle, on one that is open already, on one that was freed, or on one
  * that has the other kind of key answers TREE_INDEX_MISFIT, or 0 where it answers a number, and changes nothing.
  *
- * Costs are given in n, the number of pairs: a descent compares a key with O(log n) others. An allocation that is refused is
- * answered with TREE_INDEX_NO_MEMORY, and the pairs are as they were. Places that a call has nothing for keep what they held.
+ * Costs are given in n, the number of pairs: a descent compares a key with O(log n) others. If an allocation fails, a call
+ * answers TREE_INDEX_NO_MEMORY, and the pairs are as they were. Only the shape may have changed: an insert or an upsert may
+ * have made the tree deeper. Places that a call has nothing for keep what they held.
  */
 #ifndef TREE_INDEX_H
 #define TREE_INDEX_H
@@ -71,11 +72,11 @@ enum {
   TREE_INDEX_NO = 0,
   /* Yes: it was done. */
   TREE_INDEX_YES = 1,
-  /* An allocation was refused. Nothing changed. */
+  /* An allocation failed. The pairs are as they were. */
   TREE_INDEX_NO_MEMORY = 2,
   /* The handle doesn't fit the call: it is closed, or open where it must be closed, or has the other kind of key. Nothing changed. */
   TREE_INDEX_MISFIT = 3,
-  /* The places that the caller passed are too few for a key. Nothing changed but the length that is told. */
+  /* The places that the caller passed are too few for a key. Nothing changed but the length that is reported. */
   TREE_INDEX_NO_ROOM = 4,
 };
 
@@ -101,11 +102,12 @@ uint8_t tree_index_bytes_at_or_below(tree_index_handle *handle, const uint8_t *s
  * Runs in O(log n). Copies the key meanwhile. */
 uint8_t tree_index_bytes_at_or_above(tree_index_handle *handle, const uint8_t *sought, size_t sought_length, uint8_t *key, size_t key_length, tree_index_entry *entry);
 
-/* Writes the first pairs whose keys are within both bounds, in ascending order, and how many: `YES` with a count of
- * 0 means that there is none. Stops where a key has no room in what is left of `keys`, and at the last of `entries`.
- * `keys` gets the bytes of one key after another, and `entries` the length and the value of each. Answers `NO_ROOM`
- * if even the first key has no room, and writes its length to `count`. Runs in O(log n) and the number of entries.
- * Copies the keys of the bounds meanwhile. */
+/* Writes the first pairs whose keys are within both bounds, in ascending order, and how many.
+ * Stops at the first key that has no room in what is left of `keys`, and at the last of `entries`.
+ * `YES` with a count of 0 means that there is no pair, or no entry. `keys` gets the bytes of one
+ * key after another, and `entries` the length and the value of each. Answers `NO_ROOM` if even the
+ * first key has no room, and writes its length to `count`. Runs in O(log n) and the number of
+ * entries. Copies the keys of the bounds meanwhile. */
 uint8_t tree_index_bytes_fill(tree_index_handle *handle, uint8_t low_kind, const uint8_t *low, size_t low_length, uint8_t high_kind, const uint8_t *high, size_t high_length, uint8_t *keys, size_t keys_length, tree_index_entry *entries, size_t entries_length, size_t *count);
 
 /* Does what [`tree_index_bytes_fill`] does from the other end: the last pairs, in descending order. */
@@ -115,10 +117,11 @@ uint8_t tree_index_bytes_fill_back(tree_index_handle *handle, uint8_t low_kind, 
  * comparisons, and frees the leaves between the bounds whole. Copies the keys of the bounds meanwhile. */
 uint8_t tree_index_bytes_remove_range(tree_index_handle *handle, uint8_t low_kind, const uint8_t *low, size_t low_length, uint8_t high_kind, const uint8_t *high, size_t high_length);
 
-/* Opens a closed handle on an index of pairs whose keys strictly ascend. `keys` has the bytes of one key after
- * another, and `entries` the length and the value of each. Answers `NO` if the keys don't ascend, or if two are
- * equal, and `NO_ROOM` if they have more bytes than `keys`. The handle stays closed then. Runs in the number of
- * pairs. Copies the keys. */
+/* Opens a closed handle on an index of pairs whose keys strictly ascend. `keys` has the bytes of
+ * one key after another, and `entries` the length and the value of each. Answers `NO` if the keys
+ * don't ascend, or if two are equal, and `NO_ROOM` if they have more bytes than `keys`. The handle
+ * stays closed then. Compares each key with the next, and gathers the pairs into whole leaves.
+ * Copies the keys, and the pairs meanwhile. */
 uint8_t tree_index_bytes_from_sorted(tree_index_handle *handle, const uint8_t *keys, size_t keys_length, const tree_index_entry *entries, size_t entries_length);
 
 /* Opens a closed handle on a new, empty index of byte strings. Allocates one block. */
@@ -149,8 +152,8 @@ uint8_t tree_index_bytes_pop_first(tree_index_handle *handle, uint8_t *key, size
  * n). Copies the key meanwhile. */
 uint8_t tree_index_bytes_pop_last(tree_index_handle *handle, uint8_t *key, size_t key_length, tree_index_entry *entry);
 
-/* Opens the closed handle `to` on a copy of the index of `from`. A copy that is refused memory leaves `to` closed.
- * Runs in O(n). */
+/* Opens the closed handle `to` on a copy of the index of `from`. If an allocation fails, `to`
+ * stays closed. Runs in O(n). */
 uint8_t tree_index_copy(tree_index_handle *from, tree_index_handle *to);
 
 /* Frees the index of a handle and closes the handle. Does nothing to a closed one. Runs in O(n). */
@@ -159,7 +162,9 @@ void tree_index_free(tree_index_handle *handle);
 /* Returns the number of pairs, or 2^64 - 1 if there are more, and 0 if the handle is closed. Runs in constant time. */
 size_t tree_index_len(tree_index_handle *handle);
 
-/* Returns the number of levels of nodes, and 0 if there is no pair or the handle is closed. Runs in constant time. */
+/* Returns the number of levels of nodes, and 0 if the handle is closed. An index has no level
+ * before its first pair and after it was cleared, and keeps one when its last pair is removed.
+ * Runs in constant time. */
 size_t tree_index_depth(tree_index_handle *handle);
 
 /* Returns how many writes are sure not to allocate an array, whatever their keys, and 0 if the handle is closed.
@@ -201,8 +206,9 @@ size_t tree_index_fill_back(tree_index_handle *handle, uint8_t low_kind, uint64_
  * comparisons, and frees the leaves between the bounds whole. Allocates nothing. */
 uint8_t tree_index_remove_range(tree_index_handle *handle, uint8_t low_kind, uint64_t low, uint8_t high_kind, uint64_t high);
 
-/* Opens a closed handle on an index of these pairs, whose keys strictly ascend. Answers `NO` if they don't, or if
- * two are equal. The handle stays closed then. Runs in the number of pairs. */
+/* Opens a closed handle on an index of these pairs, whose keys strictly ascend. Answers `NO` if
+ * they don't, or if two are equal. The handle stays closed then. Compares each key with the next,
+ * and gathers the pairs into whole leaves. Copies the pairs meanwhile. */
 uint8_t tree_index_from_sorted(tree_index_handle *handle, const tree_index_pair *pairs, size_t pairs_length);
 
 /* Opens a closed handle on a new, empty index of numbers. Allocates one block. */

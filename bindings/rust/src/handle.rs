@@ -29,7 +29,7 @@ pub struct Entry {
     pub value: u64,
 }
 
-/// An allocation was refused, and nothing changed.
+/// An allocation failed, and the pairs are as they were.
 #[derive(Debug, Clone, Copy, PartialEq, Eq)]
 pub struct OutOfMemory;
 

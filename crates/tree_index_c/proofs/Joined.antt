@@ -52,11 +52,11 @@ module _ (all : List (List ℕ × ℕ)) (before : List ℕ) where
                 ∙ drop-append-add (joined (take at all)) (drop used before) (length bytes) ∙ drop-drop (length bytes) used before
 
         -- the next key has no room
-        pub stops_short : length now - used < length bytes → new ≡ now → FillsEntries all before new entries_before entries at
-        stops_short none same = record {
+        pub stops_short : (0 < at) → length now - used < length bytes → new ≡ now → FillsEntries all before new entries_before entries at
+        stops_short some none same = record {
           entries = filling.places ∙ ap (λ xs. map entry_of xs ++ drop at entries_before) first;
           keys = same ∙ was.keys ∙ ap (λ n. joined (take at all) ++ drop n before) (sym was.counted);
-          stops = inr (omega (arith, none, length_now, was.within, long_more, ap length is));
+          stops = inr (some, omega (arith, none, length_now, was.within, long_more, ap length is));
         }
 
         -- even the first key has no room

@@ -18,11 +18,11 @@ Writes None answer before after = (answer ≡ NO) × (after ≡ before)
 Writes (Some x) answer before after = (answer ≡ YES) × (after ≡ x)
 
 module _ {K : Type 0} (cmp : K → K → Ordering) where
-  -- A pair is stored if its key is absent. Memory is refused only `When` this holds.
+  -- A pair is stored if its key is absent, and nothing changes if it is present. An allocation fails only `When` this holds, and the pairs are as they were.
   abbrev pub Stores : Type 0 → K → ℕ → Index K ℕ → ℕ → Index K ℕ → Type 0
   Stores When key value old answer new =
       ((answer ≡ YES) × IsAbsent cmp old.pairs key × (new.pairs ≡ put cmp old.pairs key value))
-      ⊎ ((answer ≡ NO) × IsPresent cmp old.pairs key × (new.pairs ≡ old.pairs))
+      ⊎ ((answer ≡ NO) × IsPresent cmp old.pairs key × (new ≡ old))
       ⊎ ((answer ≡ NO_MEMORY) × When × (new.pairs ≡ old.pairs))
 
   -- A pair is stored, in place of one with an equal key.
@@ -31,7 +31,7 @@ module _ {K : Type 0} (cmp : K → K → Ordering) where
       ((answer ≡ YES) × (new.pairs ≡ put cmp old.pairs key value))
       ⊎ ((answer ≡ NO_MEMORY) × When × (new.pairs ≡ old.pairs))
 
-  -- The pair with a key is removed. Or memory was refused, and nothing changed.
+  -- The pair with a key is removed. Or an allocation failed, and nothing changed.
   abbrev pub RemovesOrRefuses : K → Index K ℕ → ℕ → Index K ℕ → Type 0
   RemovesOrRefuses key old answer new =
       (Says (IsPresent cmp old.pairs key) (IsAbsent cmp old.pairs key) answer × (new.pairs ≡ without cmp old.pairs key))

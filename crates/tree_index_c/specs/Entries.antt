@@ -26,12 +26,12 @@ WritesEntry (Some pair) answer before after entry_before entry_after =
     (entry_after ≡ entry_of pair)
     × (((answer ≡ YES) × (length pair.0 ≤ length before) × (after ≡ pair.0 ++ drop (length pair.0) before)) ⊎ ((answer ≡ NO_ROOM) × (length before < length pair.0) × (after ≡ before)))
 
--- the same, or memory was refused
+-- the same, or an allocation failed
 abbrev pub FindsEntry : Option (List ℕ × ℕ) → ℕ → List ℕ → List ℕ → Entry → Entry → Type 0
 FindsEntry found answer before after entry_before entry_after =
     WritesEntry found answer before after entry_before entry_after ⊎ ((answer ≡ NO_MEMORY) × (after ≡ before) × (entry_after ≡ entry_before))
 
--- The pair is written and removed, or it is neither. Or memory was refused.
+-- The pair is written and removed, or it is neither. Or an allocation failed.
 abbrev pub PopsEntry : Option (List ℕ × ℕ) → Index (List ℕ) ℕ → ℕ → List ℕ → List ℕ → Entry → Entry → Index (List ℕ) ℕ → Type 0
 PopsEntry found old answer before after entry_before entry_after new =
     (WritesEntry found answer before after entry_before entry_after × (answer ≡ YES → new.pairs ≡ left_of (slice_cmp nat_cmp) old.pairs found) × ((answer ≢ YES) → new ≡ old))
@@ -41,11 +41,11 @@ PopsEntry found old answer before after entry_before entry_after new =
 abbrev pub joined : List (List ℕ × ℕ) → List ℕ
 joined pairs = flat_map (λ pair. pair.0) pairs
 
--- The first of all are written, as many as there are entries and as their bytes have room. What isn't written stays.
+-- The first of all are written, as many as there are entries and as their bytes have room, and at least one if there is an entry for it. What isn't written stays.
 pub record FillsEntries (all : List (List ℕ × ℕ)) (keys_before keys_after : List ℕ) (entries_before entries_after : List Entry) (count : ℕ) : Type 0 where
   pub entries : entries_after ≡ map entry_of (take count all) ++ drop count entries_before
   pub keys : keys_after ≡ joined (take count all) ++ drop (length (joined (take count all))) keys_before
-  pub stops : (count ≡ min (length entries_before) (length all)) ⊎ (length keys_before < length (joined (take (count + 1) all)))
+  pub stops : (count ≡ min (length entries_before) (length all)) ⊎ ((0 < count) × (length keys_before < length (joined (take (count + 1) all))))
 
 -- What was written, or the length of the first key, which has no room.
 abbrev pub FillsBytes : List (List ℕ × ℕ) → List ℕ → List ℕ → List Entry → List Entry → Result ℕ ℕ → Type 0
@@ -53,14 +53,14 @@ FillsBytes all keys_before keys_after entries_before entries_after (Ok count) = 
 FillsBytes all keys_before keys_after entries_before entries_after (Err needed) =
     (map (λ pair. length pair.0) (take 1 all) ≡ needed ∷ []) × (length keys_before < needed) × (keys_after ≡ keys_before) × (entries_after ≡ entries_before)
 
--- the same as an answer and a number, or memory was refused
+-- the same as an answer and a number, or an allocation failed
 abbrev pub FillsOrRefuses : List (List ℕ × ℕ) → ℕ → List ℕ → List ℕ → List Entry → List Entry → ℕ → ℕ → Type 0
 FillsOrRefuses all answer keys_before keys_after entries_before entries_after count_before count_after =
     ((answer ≡ YES) × FillsBytes all keys_before keys_after entries_before entries_after (Ok count_after))
     ⊎ ((answer ≡ NO_ROOM) × FillsBytes all keys_before keys_after entries_before entries_after (Err count_after))
     ⊎ ((answer ≡ NO_MEMORY) × (keys_after ≡ keys_before) × (entries_after ≡ entries_before) × (count_after ≡ count_before))
 
--- what holds of two bounds, or of a call that was refused memory for their keys
+-- what holds of two bounds, or of a call that could not copy their keys
 abbrev pub IfBounds : Result (Bound (List ℕ) × Bound (List ℕ)) AllocError → ℕ → (Bound (List ℕ) → Bound (List ℕ) → Type 0) → Type 0 → Type 0
 IfBounds (Ok bounds) answer Holds Else = Holds bounds.0 bounds.1
 IfBounds (Err _) answer Holds Else = (answer ≡ NO_MEMORY) × Else

@@ -3,6 +3,6 @@ use Rattle.std.specs.Prelude.{◌≡◌, ◌⊎◌, ℕ, Option, None, Some}
 use Rattle.tree_index_c.specs.declared.status.TheConstants.{YES, NO_MEMORY}
 use Rattle.tree_index_c.specs.declared.store.Store.{Store}
 
--- The handle leads to this store, or memory was refused and it is closed.
+-- The handle leads to this store, or an allocation failed and it is closed.
 abbrev pub OpensOn : Store → ℕ → Option Store → Type 0
 OpensOn store answer new = ((answer ≡ YES) × (new ≡ Some store)) ⊎ ((answer ≡ NO_MEMORY) × (new ≡ None))

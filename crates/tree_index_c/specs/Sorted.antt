@@ -1,24 +1,16 @@
 -- Pairs that arrive in the order of their keys.
-use Rattle.std.specs.Prelude.{◌≡◌, ◌⊎◌, ℕ, ◌+◌, ◌<◌, ◌≤◌, Bool, true, false, List, [], ◌∷◌, ◌++◌, drop, length, take, Option, None, Some, Result, Ok, Err}
+use Rattle.std.specs.Prelude.{◌≡◌, ◌⊎◌, ℕ, ◌+◌, ◌<◌, ◌≤◌, true, List, [], ◌∷◌, drop, length, take, Option, None, Some}
 use Rattle.std.specs.Cmp.Lexicographic.{slice_cmp}
 use Rattle.std.specs.Ordering.{nat_cmp}
-use Rattle.std.specs.declared.cmp.Ordering.{Ordering}
-use Rattle.tree_index.specs.Copies.{AllSmaller}
-use Rattle.tree_index.specs.Index.{Index}
 use Rattle.tree_model.specs.Pairs.{IsAscending}
 use Rattle.tree_index_c.specs.declared.entry.Entry.{Entry}
 use Rattle.tree_index_c.specs.declared.status.TheConstants.{NO, YES, NO_MEMORY, MISFIT, NO_ROOM}
 use Rattle.tree_index_c.specs.declared.store.Store.{Store}
 use Rattle.tree_index_c.specs.declared.store.Store.TheVariants.{Numbers, Bytes}
 
--- The pair comes behind all others, if its key is larger than each of theirs.
-abbrev pub Appends : {K : Type 0} → (K → K → Ordering) → List (K × ℕ) → K × ℕ → Bool → List (K × ℕ) → Type 0
-Appends cmp old pair true new = AllSmaller cmp old pair.0 × (new ≡ old ++ pair ∷ [])
-Appends cmp old pair false new = AllSmaller cmp old pair.0 → ⊥
-
--- A closed handle is opened on an index of these pairs, if they ascend.
+-- A closed handle is opened on an index of these pairs, as full as can be, if they ascend.
 abbrev pub OpensSorted : List (ℕ × ℕ) → Option Store → ℕ → Option Store → Type 0
-OpensSorted pairs None answer (Some (Numbers index)) = (answer ≡ YES) × (index.pairs ≡ pairs)
+OpensSorted pairs None answer (Some (Numbers index)) = (answer ≡ YES) × (index.pairs ≡ pairs) × (index.packed ≡ true)
 OpensSorted pairs None answer (Some (Bytes index)) = ⊥
 OpensSorted pairs None answer None = ((answer ≡ NO) × (IsAscending nat_cmp pairs → ⊥)) ⊎ (answer ≡ NO_MEMORY)
 OpensSorted pairs (Some old) answer new = (answer ≡ MISFIT) × (new ≡ Some old)
@@ -40,14 +32,9 @@ Refuses bytes entries answer =
     ⊎ ((answer ≡ NO_ROOM) × (length bytes < size_of entries))
     ⊎ (answer ≡ NO_MEMORY)
 
--- an index of these pairs, or why there is none
-abbrev pub Parts : List ℕ → List Entry → Result (Index (List ℕ) ℕ) ℕ → Type 0
-Parts bytes entries (Ok index) = (size_of entries ≤ length bytes) × (index.pairs ≡ parted bytes entries)
-Parts bytes entries (Err answer) = Refuses bytes entries answer
-
--- A closed handle is opened on an index of these pairs, if they ascend and the bytes of their keys are there.
+-- A closed handle is opened on an index of these pairs, as full as can be, if they ascend and the bytes of their keys are there.
 abbrev pub OpensParted : List ℕ → List Entry → Option Store → ℕ → Option Store → Type 0
-OpensParted bytes entries None answer (Some (Bytes index)) = (answer ≡ YES) × Parts bytes entries (Ok index)
+OpensParted bytes entries None answer (Some (Bytes index)) = (answer ≡ YES) × (size_of entries ≤ length bytes) × (index.pairs ≡ parted bytes entries) × (index.packed ≡ true)
 OpensParted bytes entries None answer (Some (Numbers index)) = ⊥
 OpensParted bytes entries None answer None = Refuses bytes entries answer
 OpensParted bytes entries (Some old) answer new = (answer ≡ MISFIT) × (new ≡ Some old)

@@ -7,8 +7,8 @@ use crate::status::{MISFIT, NO_MEMORY};
 use crate::store::Store;
 use std::alloc::{AllocError, Global};
 
-/// Opens the closed handle `to` on a copy of the index of `from`. A copy that is refused memory leaves `to` closed.
-/// Runs in O(n).
+/// Opens the closed handle `to` on a copy of the index of `from`. If an allocation fails, `to`
+/// stays closed. Runs in O(n).
 #[unsafe(no_mangle)]
 pub extern "C" fn tree_index_copy(alloc: Global, from: &mut Handle, to: &mut Handle) -> u8
     ensures kept { held from.new ≡ held from.old }

@@ -30,7 +30,9 @@ pub extern "C" fn tree_index_len(alloc: Global, handle: &mut Handle) -> usize
     len
 }
 
-/// Returns the number of levels of nodes, and 0 if there is no pair or the handle is closed. Runs in constant time.
+/// Returns the number of levels of nodes, and 0 if the handle is closed. An index has no level
+/// before its first pair and after it was cleared, and keeps one when its last pair is removed.
+/// Runs in constant time.
 #[unsafe(no_mangle)]
 pub extern "C" fn tree_index_depth(alloc: Global, handle: &mut Handle) -> usize
     ensures kept { held handle.new ≡ held handle.old }

@@ -8,12 +8,13 @@ pub const NO: u8 = 0;
 /// Yes: it was done.
 pub const YES: u8 = 1;
 
-/// An allocation was refused. Nothing changed.
+/// An allocation failed. The pairs are as they were.
 pub const NO_MEMORY: u8 = 2;
 
 /// The handle doesn't fit the call: it is closed, or open where it must be closed, or has the other kind of key. Nothing
 /// changed.
 pub const MISFIT: u8 = 3;
 
-/// The places that the caller passed are too few for a key. Nothing changed but the length that is told.
+/// The places that the caller passed are too few for a key. Nothing changed but the length that is
+/// reported.
 pub const NO_ROOM: u8 = 4;

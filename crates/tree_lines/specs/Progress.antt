@@ -1,8 +1,10 @@
 -- The effect of bytes that are read: answers that are written, and a line that is begun.
-use Rattle.std.specs.Prelude.{◌≡◌, ◌≢◌, ℕ, List, [], ◌∷◌, ◌++◌, Option, Some, None, Result, Ok, Err, reverse, codes, decimal}
+use Rattle.std.specs.Prelude.{◌≡◌, ◌≢◌, ⊤, ℕ, List, [], ◌∷◌, ◌++◌, Option, Some, None, Result, Ok, Err, reverse, codes, decimal}
 use Rattle.std.specs.List.{AllByRecursion}
 use Rattle.std.specs.Io.KnownBytes.{Appends}
+use Rattle.tree_index.specs.Index.{Index}
 use Rattle.tree_requests.specs.declared.requests.Request.{Request}
+use Rattle.tree_requests.specs.declared.requests.Request.TheVariants.{Depth, Spare}
 use Rattle.tree_lines.specs.declared.answers.Answer.{Answer}
 use Rattle.tree_lines.specs.declared.answers.Answer.TheVariants.{Done, Duplicate, Refused, Missing, Truth, Unknown, Value, Ascending, Descending, Near}
 use Rattle.tree_requests.specs.Lines.{IsLine, with_feed, text_of, HasLines, last_line, clip}
@@ -21,6 +23,12 @@ answer_text pairs (Value n) = decimal n
 answer_text pairs (Ascending low high) = pairs_text (inside low high pairs)
 answer_text pairs Descending = pairs_text (reverse pairs)
 answer_text pairs (Near key) = near_text pairs key
+
+-- A depth and a spare that are answered are those of the index.
+abbrev pub MeasuresIndex : Index ℕ ℕ → Option Request → List ℕ → Type 0
+MeasuresIndex index (Some Depth) answer = answer ≡ decimal index.depth
+MeasuresIndex index (Some Spare) answer = answer ≡ decimal index.spare
+MeasuresIndex index request answer = ⊤
 
 -- A line has ended: a line feed follows it, or it is not empty and the text ends there.
 abbrev pub EndsLine : Type 0 → List ℕ → List ℕ → Type 0

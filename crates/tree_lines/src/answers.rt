@@ -1,10 +1,11 @@
 //! Applies the request of a line and writes its answer.
-ghost use Rattle.std.specs.Prelude.{◌≡◌, ℕ, List};
+ghost use Rattle.std.specs.Prelude.{◌≡◌, ℕ, List, Some};
 ghost use Rattle.std.specs.Ordering.{nat_cmp};
 ghost use Rattle.tree_model.specs.Edits.{RemovesIf};
-ghost use Rattle.tree_requests.specs.Lines.{clip, with_feed};
+ghost use Rattle.tree_requests.specs.Lines.{clip, spelling, with_feed};
+ghost use Rattle.tree_requests.specs.declared.requests.Request.{Request};
 ghost use Rattle.tree_lines.specs.Lines.{Says, SaysEqual};
-ghost use Rattle.tree_lines.specs.Progress.{answer_text, Responds};
+ghost use Rattle.tree_lines.specs.Progress.{answer_text, MeasuresIndex, Responds};
 ghost use Rattle.tree_requests.specs.Writing.{Writes};
 
 use crate::pairs::{write_ascending, write_descending, write_near};
@@ -43,8 +44,10 @@ pub fn answer_to<const LEN: usize>(
     index: &mut TreeIndexOf<u64, u64, LEN>,
     line: &BegunLine,
 ) -> Answer
-    ensures { (begun : List ℕ) → line.now ≡ clip begun →
+    ensures says { (begun : List ℕ) → line.now ≡ clip begun →
         Says LEN index.old.pairs begun (answer_text index.new.pairs result) index.new.pairs }
+    ensures measures { (request : Request) → line.now ≡ Some (spelling request) →
+        MeasuresIndex index.old (Some request) (answer_text index.new.pairs result) }
 {
     let Some(text) = line.text() else {
         return Answer::Unknown;
@@ -57,7 +60,8 @@ fn respond<const LEN: usize>(
     index: &mut TreeIndexOf<u64, u64, LEN>,
     request: Option<Request>,
 ) -> Answer
-    ensures { Responds LEN index.old.pairs request (answer_text index.new.pairs result) index.new.pairs }
+    ensures responds { Responds LEN index.old.pairs request (answer_text index.new.pairs result) index.new.pairs }
+    ensures measures { MeasuresIndex index.old request (answer_text index.new.pairs result) }
 {
     match request {
         None => Answer::Unknown,

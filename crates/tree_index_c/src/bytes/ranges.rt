@@ -19,11 +19,12 @@ use std::alloc::{AllocError, Global};
 use std::ops::Bound;
 use tree_index::{Range, TreeIndex};
 
-/// Writes the first pairs whose keys are within both bounds, in ascending order, and how many: `YES` with a count of
-/// 0 means that there is none. Stops where a key has no room in what is left of `keys`, and at the last of `entries`.
-/// `keys` gets the bytes of one key after another, and `entries` the length and the value of each. Answers `NO_ROOM`
-/// if even the first key has no room, and writes its length to `count`. Runs in O(log n) and the number of entries.
-/// Copies the keys of the bounds meanwhile.
+/// Writes the first pairs whose keys are within both bounds, in ascending order, and how many.
+/// Stops at the first key that has no room in what is left of `keys`, and at the last of `entries`.
+/// `YES` with a count of 0 means that there is no pair, or no entry. `keys` gets the bytes of one
+/// key after another, and `entries` the length and the value of each. Answers `NO_ROOM` if even the
+/// first key has no room, and writes its length to `count`. Runs in O(log n) and the number of
+/// entries. Copies the keys of the bounds meanwhile.
 #[unsafe(no_mangle)]
 pub extern "C" fn tree_index_bytes_fill(
     alloc: Global,

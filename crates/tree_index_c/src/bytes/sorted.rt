@@ -1,9 +1,7 @@
 //! Indexes of pairs that arrive in the order of their keys, which are strings of bytes.
-ghost use Rattle.std.specs.Prelude.{IfOk};
-ghost use Rattle.std.specs.Cmp.Lexicographic.{slice_cmp};
-ghost use Rattle.std.specs.Ordering.{nat_cmp};
+ghost use Rattle.std.specs.Prelude.{◌≡◌, ◌<◌, ◌≤◌, IfOk, MatchOption, length};
 ghost use Rattle.tree_index_c.specs.Held.{held};
-ghost use Rattle.tree_index_c.specs.Sorted.{Appends, OpensParted, Parts};
+ghost use Rattle.tree_index_c.specs.Sorted.{OpensParted, parted, size_of};
 
 use crate::byte_key::ByteKey;
 use crate::entry::Entry;
@@ -11,12 +9,13 @@ use crate::handle::Handle;
 use crate::status::{MISFIT, NO, NO_MEMORY, NO_ROOM};
 use crate::store::Store;
 use std::alloc::{AllocError, Global};
-use tree_index::{InsertError, TreeIndex};
+use tree_index::{FromSortedError, TreeIndex};
 
-/// Opens a closed handle on an index of pairs whose keys strictly ascend. `keys` has the bytes of one key after
-/// another, and `entries` the length and the value of each. Answers `NO` if the keys don't ascend, or if two are
-/// equal, and `NO_ROOM` if they have more bytes than `keys`. The handle stays closed then. Runs in the number of
-/// pairs. Copies the keys.
+/// Opens a closed handle on an index of pairs whose keys strictly ascend. `keys` has the bytes of
+/// one key after another, and `entries` the length and the value of each. Answers `NO` if the keys
+/// don't ascend, or if two are equal, and `NO_ROOM` if they have more bytes than `keys`. The handle
+/// stays closed then. Compares each key with the next, and gathers the pairs into whole leaves.
+/// Copies the keys, and the pairs meanwhile.
 #[unsafe(no_mangle)]
 pub extern "C" fn tree_index_bytes_from_sorted(
     alloc: Global,
@@ -29,48 +28,39 @@ pub extern "C" fn tree_index_bytes_from_sorted(
     if handle.is_open {
         return MISFIT;
     }
-    match index_of(alloc, keys, entries) {
+    let Ok(pairs) = pairs_of(alloc, keys, entries) else {
+        return NO_MEMORY;
+    };
+    let Some(pairs) = pairs else {
+        return NO_ROOM;
+    };
+    match TreeIndex::from_sorted(alloc, pairs) {
         Ok(index) => handle.open(alloc, Store::Bytes(index)),
-        Err(answer) => answer,
+        Err(FromSortedError::NotAscending(_)) => NO,
+        Err(FromSortedError::OutOfMemory) => NO_MEMORY,
     }
 }
 
-/// Returns the index, or what is answered where there is none.
-fn index_of(alloc: Global, keys: &[u8], entries: &[Entry]) -> Result<TreeIndex<ByteKey, u64>, u8>
-    ensures { Parts keys.now entries.now result }
+/// Copies pairs of C. Returns `None` if their keys have more bytes than there are.
+fn pairs_of(
+    alloc: Global,
+    keys: &[u8],
+    entries: &[Entry],
+) -> Result<Option<Vec<(ByteKey, u64)>>, AllocError>
+    ensures { IfOk result
+        (λ copy. MatchOption copy (length keys.now < size_of entries.now)
+        (λ pairs. (size_of entries.now ≤ length keys.now) × (pairs.items ≡ parted keys.now entries.now))) }
 {
-    let mut index = TreeIndex::new(alloc);
+    let mut pairs = Vec::with_capacity(alloc, entries.len())?;
     let mut used = 0;
     for at in 0..entries.len() {
         let Entry { length, value } = entries[at];
         if length > keys.len() - used {
-            return Err(NO_ROOM);
+            return Ok(None);
         }
-        let Ok(key) = ByteKey::from_bytes(alloc, &keys[used..used + length]) else {
-            return Err(NO_MEMORY);
-        };
-        match append(&mut index, key, value) {
-            Ok(true) => used += length,
-            Ok(false) => return Err(NO),
-            Err(_) => return Err(NO_MEMORY),
-        }
+        let key = ByteKey::from_bytes(alloc, &keys[used..used + length])?;
+        pairs.push((key, value))?;
+        used += length;
     }
-    Ok(index)
-}
-
-/// Stores a pair behind all others. Returns `false` if its key isn't larger than each of theirs.
-fn append(index: &mut TreeIndex<ByteKey, u64>, key: ByteKey, value: u64) -> Result<bool, AllocError>
-    ensures { IfOk result
-        (λ is_done. Appends (slice_cmp nat_cmp) index.old.pairs (key, value) is_done index.new.pairs) }
-{
-    if index.at_or_above(&key).is_some() {
-        return Ok(false);
-    }
-    let Err(refused) = index.insert_sync(key, value) else {
-        return Ok(true);
-    };
-    match refused {
-        InsertError::OutOfMemory(_, _) => Err(AllocError),
-        InsertError::Duplicate(_, _) => unreachable!(),
-    }
+    Ok(Some(pairs))
 }

@@ -12,8 +12,8 @@ use Rattle.tree_lines.proofs.answers.respond.Goals as goal
 responds_all : (LEN : ℕ) (old : List (ℕ × ℕ)) (asked : Option Request) (request : Request) → asked ≡ Some request → request ≡ Iter → Responds LEN old asked (pairs_text (inside Unbounded Unbounded old)) old
 responds_all LEN old asked request is same = rw (is, same) (ap pairs_text (within_open old), refl)
 
-pub returns-in-Some-Iter : goal.returns-in-Some-Iter
-returns-in-Some-Iter g c = responds_all g.row.LEN c.args.index.now.pairs c.args.request c.in-Some-Iter.field-0 c.in-Some-Iter.is (rw c.in-Some-Iter.is at c.in-Some-Iter.field-0-is)
+pub returns-in-Some-Iter-clause-responds : goal.returns-in-Some-Iter-clause-responds
+returns-in-Some-Iter-clause-responds g c = responds_all g.row.LEN c.args.index.now.pairs c.args.request c.in-Some-Iter.field-0 c.in-Some-Iter.is (rw c.in-Some-Iter.is at c.in-Some-Iter.field-0-is)
 
 pub insert_sync-requires : goal.insert_sync-requires
 insert_sync-requires g c = search fits

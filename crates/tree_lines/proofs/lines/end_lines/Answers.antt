@@ -12,7 +12,7 @@ returns-then-is_empty g c = ends_empty g.row.LEN c.args.line.now c.args.index.no
 -- the begun line was answered
 pub returns : goal.returns
 returns g c =
-    ends_line g.row.LEN c.args.line.now c.args.index.now.pairs c.answer_to-answer.new.index.pairs (answer_text c.answer_to-answer.new.index.pairs c.answer_to-answer.result) _ _ (λ e. false≢true (c.if-is_empty.ensures.1 e)) c.answer_to-answer.ensures c.write_answer.result c.write_answer.ensures
+    ends_line g.row.LEN c.args.line.now c.args.index.now.pairs c.answer_to-answer.new.index.pairs (answer_text c.answer_to-answer.new.index.pairs c.answer_to-answer.result) _ _ (λ e. false≢true (c.if-is_empty.ensures.1 e)) c.answer_to-answer.ensures.says c.write_answer.result c.write_answer.ensures
 
 pub is_empty-requires : goal.is_empty-requires
 is_empty-requires g c = search fits

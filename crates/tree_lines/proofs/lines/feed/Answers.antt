@@ -16,12 +16,12 @@ pub returns-in_err-write_answer : goal.returns-in_err-write_answer
 returns-in_err-write_answer g c =
     let failed = err_from_is_err_and c.from_residual.result c.from_residual.ensures.1 in
     let wrote = c.in_err-write_answer.ensures in
-    rw (failed.1, c.if-byte-ne10.false) (wrote.0, wrote.1, breaks_line g.row.LEN c.args.line.now c.args.index.now.pairs c.answer_to-answer.new.index.pairs (answer_text c.answer_to-answer.new.index.pairs c.answer_to-answer.result) wrote.0 c.answer_to-answer.ensures wrote.2)
+    rw (failed.1, c.if-byte-ne10.false) (wrote.0, wrote.1, breaks_line g.row.LEN c.args.line.now c.args.index.now.pairs c.answer_to-answer.new.index.pairs (answer_text c.answer_to-answer.new.index.pairs c.answer_to-answer.result) wrote.0 c.answer_to-answer.ensures.says wrote.2)
 
 -- the line was answered
 pub returns : goal.returns
 returns g c =
-    (with_feed (answer_text c.answer_to-answer.new.index.pairs c.answer_to-answer.result), c.in_ok-write_answer.ensures, rw (c.if-byte-ne10.false, c.clear.ensures) (carries_line g.row.LEN c.args.line.now c.args.index.now.pairs c.answer_to-answer.new.index.pairs (answer_text c.answer_to-answer.new.index.pairs c.answer_to-answer.result) c.answer_to-answer.ensures))
+    (with_feed (answer_text c.answer_to-answer.new.index.pairs c.answer_to-answer.result), c.in_ok-write_answer.ensures, rw (c.if-byte-ne10.false, c.clear.ensures) (carries_line g.row.LEN c.args.line.now c.args.index.now.pairs c.answer_to-answer.new.index.pairs (answer_text c.answer_to-answer.new.index.pairs c.answer_to-answer.result) c.answer_to-answer.ensures.says))
 
 pub push-requires : goal.push-requires
 push-requires g c = search fits

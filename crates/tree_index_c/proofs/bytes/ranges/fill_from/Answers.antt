@@ -25,7 +25,7 @@ returns-then-at-eq0 c =
 pub returns-then-not-write_bytes : goal.returns-then-not-write_bytes
 returns-then-not-write_bytes c =
     let was = c.loop-at.invariant in
-    stops_short _ _ _ _ _ _ _ was.1 _ _ (walks_to nat_list_cmp_total _ _ _ _ _ _ _ _ was.0 _ c.in-Some.ensures) c.loop-at.auto.keys _ c.as_bytes-bytes.ensures _ c.if-not-write_bytes.ensures.0 c.if-not-write_bytes.ensures.1
+    stops_short _ _ _ _ _ _ _ was.1 _ _ (walks_to nat_list_cmp_total _ _ _ _ _ _ _ _ was.0 _ c.in-Some.ensures) c.loop-at.auto.keys _ c.as_bytes-bytes.ensures _ (omega (arith, c.if-at-eq0.false)) c.if-not-write_bytes.ensures.0 c.if-not-write_bytes.ensures.1
 
 -- the key and its entry are written
 pub loop-at-preserved : goal.loop-at-preserved
