@@ -1,14 +1,9 @@
--- The ends of a storm.
-use Rattle.std.proofs.Common.{◌≡◌, ◌⊎◌, ℕ, ◌-◌, ◌^◌, min, List, length, Option, inl, inr, refl}
-use Rattle.tree_model.proofs.Common.{Appends}
-use Rattle.tree_lines.proofs.Pieces.{FailsIn}
-use Rattle.treetool.specs.Storm.{EndsStorm, RunsStorm}
+-- How a storm ends.
+use Rattle.std.proofs.Common.{◌≡◌, ℕ, List, Option, Result, Ok, Err, OnOk, OnErr, inl, inr, refl}
+use Rattle.tree_requests.specs.Writing.{Writes}
+use Rattle.treetool.specs.Storm.{WritesEnd}
 
-module _ (x y : Option (List ℕ)) (text : List ℕ) (status : ℕ) (ends : EndsStorm text status) where
-  -- all was written
-  pub ends_whole : Appends x y text → RunsStorm x y status
-  ends_whole out = (text, status, ends, inl (out, refl))
-
-  -- or a part of it
-  pub ends_in_part : FailsIn text x y → RunsStorm x y 2
-  ends_in_part failed = (text, status, ends, inr (failed.0, failed.1, failed.2, refl))
+-- a text was written, whole or in part
+pub ends_written : {T E : Type 0} (text : List ℕ) (status : ℕ) (x y : Option (List ℕ)) (written : Result T E) (result : ℕ) → Writes text x y written → OnOk written (result ≡ status) → OnErr written (result ≡ 2) → WritesEnd text status x y result
+ends_written text status x y (Ok u) result out whole part = inl (out, whole)
+ends_written text status x y (Err e) result out whole part = inr (out.0, out.1, out.2, part)
