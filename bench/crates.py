@@ -22,6 +22,17 @@ def below_each():
     return {name: [it for it in below if it in found] for name, below in found.items()}
 
 
+def all_below(names, below):
+    """The crates that these stand on, at whatever remove."""
+    found = set()
+    left = list(names)
+    while left:
+        news = set(below[left.pop()]) - found
+        found |= news
+        left += news
+    return found
+
+
 def edits_of(crate, folder):
     """The names of the edits in a folder of a crate, `must-fail` or `wrong-bodies`."""
     path = os.path.join(TOP, "crates", crate, folder)

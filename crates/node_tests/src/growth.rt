@@ -170,3 +170,60 @@ fn nodes_fill_and_divide(rt: HostRuntime) {
         })
     );
 }
+
+/// With four nodes the arena of nodes is full. So the fifth, which splits the full last child of the root, allocates.
+static SPLIT_WHEN_FULL: [Step; 8] = [
+    Step::SplitRoot(false),
+    Step::Insert(1, 690, 0, Told::Success),
+    Step::Shape(2, 46, 4),
+    Step::SplitLast(true),
+    Step::Shape(2, 46, 5),
+    Step::Find(675, Some(675)),
+    Step::Find(676, Some(676)),
+    Step::Insert(691, 691, 0, Told::Success),
+];
+
+/// The same with seven slots.
+static SMALL_SPLIT_WHEN_FULL: [Step; 8] = [
+    Step::SplitRoot(false),
+    Step::Insert(1, 154, 0, Told::Success),
+    Step::Shape(2, 22, 4),
+    Step::SplitLast(true),
+    Step::Shape(2, 22, 5),
+    Step::Find(147, Some(147)),
+    Step::Find(148, Some(148)),
+    Step::Insert(155, 155, 0, Told::Success),
+];
+
+/// The arena of nodes is full with four as well, when a new root is made. It is full again with eight, and both arenas then
+/// grow under the new root.
+static RAISED_WHEN_FULL: [Step; 6] = [
+    Step::SplitRoot(false),
+    Step::Insert(1, 690, 0, Told::Success),
+    Step::Shape(2, 46, 4),
+    Step::SplitRoot(false),
+    Step::Shape(3, 46, 5),
+    Step::Insert(691, 1400, 0, Told::Success),
+];
+
+/// The same with seven slots.
+static SMALL_RAISED_WHEN_FULL: [Step; 6] = [
+    Step::SplitRoot(false),
+    Step::Insert(1, 154, 0, Told::Success),
+    Step::Shape(2, 22, 4),
+    Step::SplitRoot(false),
+    Step::Shape(3, 22, 5),
+    Step::Insert(155, 400, 0, Told::Success),
+];
+
+#[test]
+fn full_arenas_grow(rt: HostRuntime) {
+    assert!(rt;
+        succeeds(rt.alloc(), || {
+            plays::<15>(&rt, rt.alloc(), &[&SPLIT_WHEN_FULL])?;
+            plays::<15>(&rt, rt.alloc(), &[&RAISED_WHEN_FULL])?;
+            plays::<7>(&rt, rt.alloc(), &[&SMALL_SPLIT_WHEN_FULL])?;
+            plays::<7>(&rt, rt.alloc(), &[&SMALL_RAISED_WHEN_FULL])
+        })
+    );
+}

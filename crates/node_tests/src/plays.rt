@@ -1,5 +1,5 @@
 //! Trees that grow from one empty leaf, step by step.
-ghost use Rattle.std.specs.Prelude.{◌<◌, IfOk};
+ghost use Rattle.std.specs.Prelude.{◌<◌, IfOk, OnErr};
 ghost use Rattle.std.specs.Ordering.{nat_cmp};
 ghost use Rattle.tree_array.specs.Length.{IsLen};
 ghost use Rattle.node_tests.specs.Planted.{IsPlanted};
@@ -147,10 +147,30 @@ fn splits_root<const LEVEL: usize, const LEN: usize>(
     ensures node { IfOk result (λ root. 0 < root.level) }
     ensures planted { IfOk result (λ root. IsPlanted nat_cmp root.level arenas.new root.id) }
 {
-    if let Ok(root) = split_root::<LEVEL, LEN>(arenas, id) {
+    if let Ok(root) = splits_root_once::<LEVEL, LEN>(arenas, id, stored) {
         return Ok(root);
     }
     expect_pairs(rt, arenas, LEVEL, id, stored);
-    stored.refuse();
-    split_root::<LEVEL, LEN>(arenas, id)
+    let root = splits_root_once::<LEVEL, LEN>(arenas, id, stored);
+    stored.made_again(rt, SPLIT_ROOT, root.is_ok())?;
+    root
+}
+
+const SPLIT_ROOT: &str = "Node::split_root";
+
+fn splits_root_once<const LEVEL: usize, const LEN: usize>(
+    arenas: &mut ArenasOf<u64, u64, LEN>,
+    id: NodeId,
+    stored: &Stored,
+) -> Result<Root, AllocError>
+    requires node { 0 < LEVEL }
+    requires planted { IsPlanted nat_cmp LEVEL arenas.old id }
+    ensures node { IfOk result (λ root. 0 < root.level) }
+    ensures split { IfOk result (λ root. IsPlanted nat_cmp root.level arenas.new root.id) }
+    ensures refused { OnErr result (IsPlanted nat_cmp LEVEL arenas.new id) }
+{
+    stored.begins(SPLIT_ROOT);
+    let root = split_root::<LEVEL, LEN>(arenas, id);
+    stored.ends();
+    root
 }

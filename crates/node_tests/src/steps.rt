@@ -157,7 +157,7 @@ fn inserts<N: NodeCalls<u64, LEN>, const UPSERT: bool, const LEVEL: usize, const
     Ok(true)
 }
 
-/// Inserts a pair, at once or the second time.
+/// Inserts a pair, at once or the second time. `Err` if it is refused both times.
 fn inserts_twice<N: NodeCalls<u64, LEN>, const UPSERT: bool, const LEVEL: usize, const LEN: usize>(
     rt: &impl Abort,
     arenas: &mut ArenasOf<u64, u64, LEN>,
@@ -172,8 +172,18 @@ fn inserts_twice<N: NodeCalls<u64, LEN>, const UPSERT: bool, const LEVEL: usize,
     if let Ok(answer) = inserts_once::<N, UPSERT, LEVEL, LEN>(rt, arenas, root, pair, stored) {
         return Ok(answer);
     }
-    stored.refuse();
-    inserts_once::<N, UPSERT, LEVEL, LEN>(rt, arenas, root, pair, stored)
+    let answer = inserts_once::<N, UPSERT, LEVEL, LEN>(rt, arenas, root, pair, stored);
+    stored.made_again(rt, insert_at(LEVEL), answer.is_ok())?;
+    answer
+}
+
+/// The name of the insert of the type of nodes that is tried at a level.
+fn insert_at(level: usize) -> &'static str {
+    match level {
+        1 => "LeafNode::insert",
+        2 => "InternalNode::insert",
+        _ => "Node::insert",
+    }
 }
 
 /// Inserts a pair. One that is refused comes back, and the tree has the pairs that it had.
@@ -188,7 +198,10 @@ fn inserts_once<N: NodeCalls<u64, LEN>, const UPSERT: bool, const LEVEL: usize, 
     requires planted { IsPlanted nat_cmp LEVEL arenas.old root }
     ensures { IsPlanted nat_cmp LEVEL arenas.new root }
 {
-    match insert::<N, u64, u64, UPSERT, LEVEL, LEN>(arenas, root, pair.0, pair.1) {
+    stored.begins(insert_at(LEVEL));
+    let answer = insert::<N, u64, u64, UPSERT, LEVEL, LEN>(arenas, root, pair.0, pair.1);
+    stored.ends();
+    match answer {
         Ok(answer) => Ok(answer),
         Err(back) => {
             expect_back(rt, back, pair);
@@ -214,12 +227,30 @@ fn splits<const LEVEL: usize, const LEN: usize>(
     requires planted { IsPlanted nat_cmp LEVEL arenas.old root }
     ensures { IsPlanted nat_cmp LEVEL arenas.new root }
 {
-    if let Ok(split) = split_last::<LEVEL, LEN>(arenas, root) {
+    if let Ok(split) = splits_once::<LEVEL, LEN>(arenas, root, stored) {
         return Ok(split);
     }
     expect_pairs(rt, arenas, LEVEL, root, stored);
-    stored.refuse();
-    split_last::<LEVEL, LEN>(arenas, root)
+    let split = splits_once::<LEVEL, LEN>(arenas, root, stored);
+    stored.made_again(rt, SPLIT_NODE, split.is_ok())?;
+    split
+}
+
+const SPLIT_NODE: &str = "InternalNode::split_node";
+
+fn splits_once<const LEVEL: usize, const LEN: usize>(
+    arenas: &mut ArenasOf<u64, u64, LEN>,
+    root: NodeId,
+    stored: &Stored,
+) -> Result<bool, AllocError>
+    requires node { 0 < LEVEL }
+    requires planted { IsPlanted nat_cmp LEVEL arenas.old root }
+    ensures { IsPlanted nat_cmp LEVEL arenas.new root }
+{
+    stored.begins(SPLIT_NODE);
+    let split = split_last::<LEVEL, LEN>(arenas, root);
+    stored.ends();
+    split
 }
 
 /// Whether each removal answers this, in descending order.

@@ -1,11 +1,14 @@
 //! What a test keeps beside a tree.
 use std::alloc::{AllocError, Global};
+use std::process::Abort;
+use test_support::refusals::{begins, ends, expect_granted};
 
 /// The pairs that a tree should have, in the order of their keys, and whether memory was refused.
 #[derive(Drop)]
 pub(crate) struct Stored {
     pairs: Vec<(u64, u64)>,
     refused: bool,
+    alloc: Global,
 }
 
 impl Stored {
@@ -15,6 +18,7 @@ impl Stored {
         Ok(Stored {
             pairs,
             refused: false,
+            alloc,
         })
     }
 
@@ -41,9 +45,25 @@ impl Stored {
         self.pairs.retain(|pair| pair.0 != key);
     }
 
-    /// Memory was refused.
-    pub(crate) fn refuse(&mut self) {
+    /// The requests that follow are those of this call.
+    pub(crate) fn begins(&self, call: &str) {
+        begins(self.alloc, call);
+    }
+
+    /// The requests that follow are the test's own.
+    pub(crate) fn ends(&self) {
+        ends(self.alloc);
+    }
+
+    /// A call was made again, since it was refused, and was granted or refused again. `Err` if there is no memory.
+    pub(crate) fn made_again(
+        &mut self,
+        rt: &impl Abort,
+        call: &str,
+        is_granted: bool,
+    ) -> Result<(), AllocError> {
         self.refused = true;
+        expect_granted(rt, self.alloc, call, is_granted)
     }
 
     /// `Err` if memory was refused.

@@ -1,5 +1,6 @@
 //! Tests of which requests for memory are refused.
 use std::alloc::{AllocError, Global};
+use std::process::Abort;
 
 /// Returns whether the steps of a test succeed, at once or, where memory was refused on the way, the second time.
 ///
@@ -15,6 +16,22 @@ pub fn succeeds<F: Fn() -> Result<(), AllocError> + Drop>(alloc: Global, steps: 
 /// Returns whether a small request is refused.
 pub fn is_out_of_memory(alloc: Global) -> bool {
     Vec::<u8>::with_capacity(alloc, 1).is_err()
+}
+
+/// Asserts that a call of this name, which was made again after an allocation failed in it, could allocate this time.
+/// Returns `Err` if nothing can be allocated any more, so that it couldn't.
+pub fn expect_granted(
+    rt: &impl Abort,
+    alloc: Global,
+    call: &str,
+    is_granted: bool,
+) -> Result<(), AllocError> {
+    if is_granted {
+        answers_again(alloc, call);
+        return Ok(());
+    }
+    assert!(rt; is_out_of_memory(alloc), "{call} is refused again");
+    Err(AllocError)
 }
 
 // How `bench/refusals` learns which call makes a request: `bench/refuse.c`, which stands before the allocator, knows a

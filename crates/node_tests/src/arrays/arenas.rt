@@ -4,7 +4,7 @@ ghost use Rattle.tree_array.specs.Length.{IsLen};
 use crate::arrays::expect::expect_eq;
 use std::alloc::{AllocError, Global};
 use std::process::Abort;
-use test_support::refusals::succeeds;
+use test_support::refusals::{begins, ends, expect_granted, succeeds};
 use tree_array::array::InsertResult;
 use tree_leaf::arena::{Slots, SlotsOf};
 use tree_leaf::leaf::{Leaf, LeafOf};
@@ -95,74 +95,150 @@ fn counts_of<const LEN: usize>(arenas: &Places<LEN>) -> (usize, usize) {
     (arenas.leaf_count(), arenas.node_count())
 }
 
-/// Adds a leaf. One that is refused comes back, and is added then.
-fn adds_leaf<const LEN: usize>(
+/// Whether the arenas have the leaves of the keys below this number, and no other ones.
+fn has_leaves<const LEN: usize>(arenas: &Places<LEN>, count: u64) -> bool {
+    for number in 0..count {
+        if !arenas
+            .leaves()
+            .get(number as usize)
+            .is_some_and(|leaf| leaf.array().slot_of(&number).is_some())
+        {
+            return false;
+        }
+    }
+    arenas.leaf_count() as u64 == count
+}
+
+/// Adds a leaf to arenas that have those of smaller keys. One that is refused comes back, and they have the same then.
+fn adds_leaf_once<const LEN: usize>(
     rt: &impl Abort,
+    alloc: Global,
     arenas: &mut Places<LEN>,
     number: u64,
+    leaf: LeafOf<u64, u64, LEN>,
+) -> Option<LeafOf<u64, u64, LEN>> {
+    let nodes = arenas.node_count();
+    begins(alloc, ADD_LEAF);
+    let answer = arenas.add_leaf(leaf);
+    ends(alloc);
+    let mut back = answer.err();
+    let count = match &mut back {
+        Some(leaf) => {
+            assert!(rt; has_alone(leaf, number));
+            number
+        }
+        None => number.saturating_add(1),
+    };
+    assert!(rt; has_leaves(arenas, count) && arenas.node_count() == nodes);
+    back
+}
+
+const ADD_LEAF: &str = "Slots::add_leaf";
+
+/// Adds a leaf, at once or the second time. Returns whether it was refused once. `Err` if it was refused both times.
+fn adds_leaf<const LEN: usize>(
+    rt: &impl Abort,
+    alloc: Global,
+    arenas: &mut Places<LEN>,
+    number: u64,
+) -> Result<bool, AllocError>
+    requires { IsLen LEN }
+{
+    let Some(back) = adds_leaf_once(rt, alloc, arenas, number, leaf_of(number)) else {
+        return Ok(false);
+    };
+    let again = adds_leaf_once(rt, alloc, arenas, number, back);
+    expect_granted(rt, alloc, ADD_LEAF, again.is_none())?;
+    Ok(true)
+}
+
+/// Adds a node. Returns whether it was refused: it comes back, and the arenas have as many leaves and nodes then.
+fn is_refused_a_node<const LEN: usize>(
+    rt: &impl Abort,
+    alloc: Global,
+    arenas: &mut Places<LEN>,
+    number: u64,
+) -> bool {
+    let (leaves, nodes) = counts_of(arenas);
+    begins(alloc, ADD_NODE);
+    let answer = arenas.add_node(number);
+    ends(alloc);
+    match answer {
+        Ok(id) => {
+            assert!(rt; *arenas.node(id) == number && arenas.node_count() > nodes);
+            false
+        }
+        Err(back) => {
+            assert!(rt; back == number && counts_of(arenas) == (leaves, nodes));
+            true
+        }
+    }
+}
+
+const ADD_NODE: &str = "Slots::add_node";
+
+/// Adds a node in the same way.
+fn adds_node<const LEN: usize>(
+    rt: &impl Abort,
+    alloc: Global,
+    arenas: &mut Places<LEN>,
+    number: u64,
+) -> Result<bool, AllocError> {
+    if !is_refused_a_node(rt, alloc, arenas, number) {
+        return Ok(false);
+    }
+    let again = is_refused_a_node(rt, alloc, arenas, number);
+    expect_granted(rt, alloc, ADD_NODE, !again)?;
+    Ok(true)
+}
+
+/// Reserves places. Returns whether that was refused. There are as many leaves and nodes as before either way.
+fn is_refused_places<const LEN: usize>(
+    rt: &impl Abort,
+    alloc: Global,
+    arenas: &mut Places<LEN>,
+) -> bool {
+    let counts = counts_of(arenas);
+    begins(alloc, RESERVE);
+    let answer = arenas.reserve(3, 3);
+    ends(alloc);
+    assert!(rt; counts_of(arenas) == counts);
+    answer.is_err()
+}
+
+const RESERVE: &str = "Slots::reserve";
+
+/// Reserves places in the same way.
+fn reserves<const LEN: usize>(
+    rt: &impl Abort,
+    alloc: Global,
+    arenas: &mut Places<LEN>,
+) -> Result<bool, AllocError> {
+    if !is_refused_places(rt, alloc, arenas) {
+        return Ok(false);
+    }
+    let again = is_refused_places(rt, alloc, arenas);
+    expect_granted(rt, alloc, RESERVE, !again)?;
+    Ok(true)
+}
+
+/// Adds nine leaves and nodes, and reserves places for three of them. `Err` if anything was refused.
+fn grows<const LEN: usize>(
+    rt: &impl Abort,
+    alloc: Global,
+    arenas: &mut Places<LEN>,
 ) -> Result<(), AllocError>
     requires { IsLen LEN }
 {
-    let counts = counts_of(arenas);
-    match arenas.add_leaf(leaf_of(number)) {
-        Ok(_) => Ok(()),
-        Err(mut back) => {
-            assert!(rt; has_alone(&mut back, number) && counts_of(arenas) == counts);
-            adds_back(arenas, back)
-        }
-    }
-}
-
-/// Adds a leaf that was refused before.
-fn adds_back<const LEN: usize>(
-    arenas: &mut Places<LEN>,
-    leaf: LeafOf<u64, u64, LEN>,
-) -> Result<(), AllocError> {
-    let _ = arenas.add_leaf(leaf);
-    Err(AllocError)
-}
-
-/// Adds a node. One that is refused comes back, and is added then.
-fn adds_node<const LEN: usize>(
-    rt: &impl Abort,
-    arenas: &mut Places<LEN>,
-    number: u64,
-) -> Result<(), AllocError> {
-    let counts = counts_of(arenas);
-    match arenas.add_node(number) {
-        Ok(_) => Ok(()),
-        Err(back) => {
-            assert!(rt; back == number && counts_of(arenas) == counts);
-            let _ = arenas.add_node(back);
-            Err(AllocError)
-        }
-    }
-}
-
-/// Reserves places. Where that is refused, there are as many leaves and nodes as before, and it succeeds then.
-fn reserves<const LEN: usize>(rt: &impl Abort, arenas: &mut Places<LEN>) -> Result<(), AllocError> {
-    let counts = counts_of(arenas);
-    let outcome = arenas.reserve(3, 3);
-    assert!(rt; counts_of(arenas) == counts);
-    if outcome.is_err() {
-        arenas.reserve(3, 3)?;
-    }
-    outcome
-}
-
-/// Adds nine leaves and nodes, and reserves places for three of them.
-fn grows<const LEN: usize>(rt: &impl Abort, arenas: &mut Places<LEN>) -> Result<(), AllocError>
-    requires { IsLen LEN }
-{
-    let mut outcome = Ok(());
+    let mut refused = false;
     for number in 0..9 {
         if number == 3 {
-            outcome = outcome.and(reserves(rt, arenas));
+            refused |= reserves(rt, alloc, arenas)?;
         }
-        outcome = outcome.and(adds_leaf(rt, arenas, number));
-        outcome = outcome.and(adds_node(rt, arenas, number));
+        refused |= adds_leaf(rt, alloc, arenas, number)?;
+        refused |= adds_node(rt, alloc, arenas, number)?;
     }
-    outcome
+    if refused { Err(AllocError) } else { Ok(()) }
 }
 
 #[test]
@@ -170,13 +246,13 @@ fn refusals_change_nothing(rt: HostRuntime) {
     assert!(rt;
         succeeds(rt.alloc(), || {
             let mut arenas: Places<15> = SlotsOf::new(rt.alloc());
-            grows(&rt, &mut arenas)
+            grows(&rt, rt.alloc(), &mut arenas)
         })
     );
     assert!(rt;
         succeeds(rt.alloc(), || {
             let mut arenas: Places<7> = SlotsOf::new(rt.alloc());
-            grows(&rt, &mut arenas)
+            grows(&rt, rt.alloc(), &mut arenas)
         })
     );
 }
