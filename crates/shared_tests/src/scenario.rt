@@ -3,7 +3,7 @@ ghost use Rattle.std.specs.Prelude.{◌≡◌, ◌<◌};
 ghost use Rattle.tree_tallies.specs.Ledgers.{IsBlankFor};
 
 use crate::calls::Row;
-use crate::closing::{closes_with_all_passes, closes_without_workers, parts_while_a_pass_is_out};
+use crate::closing::{closes_with_all_passes, closes_without_calls, parts_while_a_pass_is_out};
 use crate::one_worker::{each_call, grows, insert_and_remove};
 use crate::races::Race;
 use crate::refusals::{looks_a_text_up, refused_calls};
@@ -15,11 +15,16 @@ use std::sync::Wait;
 use std::sync::ledger::Ledger;
 use std::thread::Threads;
 use std::time::Clock;
+use test_support::refusals::{begins, ends};
 use tree_shared::{Blanks, SharedTreeIndex, SharedTreeIndexOf};
+
+/// The name of the call that makes a shared index, as `bench/refusals` lists it.
+pub(crate) const NEW: &str = "SharedTreeIndex::new";
 
 /// What a test does with a shared index.
 #[derive(Clone, Copy)]
 pub(crate) enum Scenario {
+    New,
     NoWorker,
     PassAbsent,
     Parts,
@@ -98,9 +103,13 @@ fn is_answered<
             _ => Ok(false),
         };
     }
-    let (shared, passes) = SharedTreeIndex::<u64, u64, C, S, M, F, D>::new(alloc, workers, blanks)?;
+    begins(alloc, NEW);
+    let made = SharedTreeIndex::<u64, u64, C, S, M, F, D>::new(alloc, workers, blanks);
+    ends(alloc);
+    let (shared, passes) = made?;
     match scenario {
-        Scenario::NoWorker => Ok(closes_without_workers(shared, passes)),
+        Scenario::New => Ok(passes.len() == workers && closes_without_calls(shared, passes)),
+        Scenario::NoWorker => Ok(closes_without_calls(shared, passes)),
         Scenario::PassAbsent => closes_with_all_passes(rt, shared, passes),
         Scenario::Parts => parts_while_a_pass_is_out(rt, shared, passes),
         Scenario::Calls(rows) => each_call(rt, alloc, shared, passes, rows),
