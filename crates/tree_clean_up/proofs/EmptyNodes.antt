@@ -1,10 +1,9 @@
 -- A leaf node whose only leaf is retired, and is dropped.
 use Rattle.tree_clean_up.proofs.Common.{Arrivals, DropsUnbounded, HasOnlyRetired, IsOnlyRetired, IsPart, List, NodeOf, None, Ordering, Retires, RetiresIfEmpty, Some, Stands, TreeArenas, []}
 use Rattle.tree_clean_up.proofs.Common.{ap, arith, children_of, get, in_turn, keyed, length, length-append, refl, suc, times-nil, unbounded}
-use Rattle.tree_clean_up.proofs.Common.{walk-children, ℕ, ◌∙◌, ◌∷◌, ◌≡◌}
+use Rattle.tree_clean_up.proofs.Common.{ℕ, ◌∙◌, ◌∷◌, ◌≡◌}
 use Rattle.tree_array.specs.declared.answers.RemoveResult.{RemoveResult}
 use Rattle.tree_array.specs.declared.answers.RemoveResult.TheVariants.{Fail, Retired, Success}
-use Rattle.tree_clean_up.proofs.Retired.{walk-retired}
 use Rattle.tree_clean_up.proofs.Siblings.{siblings}
 
 -- one child in all is the unbounded one
@@ -35,12 +34,12 @@ module _ {K V : Type 0} {LEN : ℕ} (cmp : K → K → Ordering) (old new : Tree
     no_keyed : (keyed drops.takes.node).entries ≡ []
     no_keyed = rw node_is (only_unbounded (keyed st.node).entries st.last last (rw (st.here, st.last_is) at only.0)).0
 
-    retires : keyed drops.takes.left ≡ keyed drops.takes.node → unbounded drops.takes.left ≡ None → Retires 1 old new id
+    retires : keyed drops.takes.left ≡ keyed drops.takes.node → unbounded drops.takes.left ≡ None → Retires old new id
     retires same gone =
         let none : (keyed drops.takes.left).entries ≡ [] = ap (λ (x : Arrivals K ℕ). x.entries) same ∙ no_keyed in
         let none_left : children_of new.nodes id ≡ [] = rw (drops.takes.updates.changed, none, gone) refl in
         record {
-          pairs = rw (walk-children 0 old id, only.0, walk-retired 0 old last only.1) refl;
+          only = (last, only);
           retired = rw drops.takes.updates.changed (none, gone);
           kind = rw drops.takes.updates.changed (drops.takes.kind 0 (rw node_is st.kind));
           replaces = (siblings {front = []} {back = []} part drops.dropped only.0 none_left drops.takes.updates.others (rw drops.takes.updates.changed refl) drops.leaves).lifts.replaces;

@@ -7,7 +7,7 @@ use Rattle.tree_node.specs.declared.node.NodeOf.{NodeOf}
 use Rattle.tree_node.specs.Arenas.{Ordering, Slab, TreeArenas, arrival, get, removed, times, uses}
 use Rattle.tree_node.specs.Changes.{MovesLast}
 use Rattle.tree_node.specs.Parts.{Replaces}
-use Rattle.tree_node.specs.Tree.{IsOfLevel, keyed, unbounded, children_of, HasKind, IsRetired, walk}
+use Rattle.tree_node.specs.Tree.{IsOfLevel, keyed, unbounded, children_of, HasKind, IsRetired}
 
 -- of an arena exactly these numbers are free now
 pub record FreesIn {T : Type 0} (old new : Slab T) (ids : List ℕ) : Type 0 where
@@ -69,15 +69,15 @@ module _ {K V : Type 0} {LEN : ℕ} where
   abbrev pub HasOnlyRetired : TreeArenas K V LEN → ℕ → Type 0
   HasOnlyRetired arenas id = (last : ℕ) × IsOnlyRetired arenas id last
 
-  -- the part that had no pair is retired
-  pub record Retires (level : ℕ) (old new : TreeArenas K V LEN) (id : ℕ) : Type 0 where
-    pub pairs : walk level old id ≡ []
-    pub retired : IsRetired level new id
-    pub kind : IsOfLevel level (get new.nodes id)
-    pub replaces : Replaces level old new (id ∷ []) (id ∷ [])
+  -- The only leaf of a leaf node was retired, and is freed. The node has no child left, and stays under its number.
+  pub record Retires (old new : TreeArenas K V LEN) (id : ℕ) : Type 0 where
+    pub only : HasOnlyRetired old id
+    pub retired : IsRetired 1 new id
+    pub kind : IsOfLevel 1 (get new.nodes id)
+    pub replaces : Replaces 1 old new (id ∷ []) (id ∷ [])
 
-  -- a leaf node is retired if it has no leaf but one that is retired, and else nothing changes
+  -- a leaf node is retired if its only leaf is a retired one, and else nothing changes
   abbrev pub RetiresIfEmpty : TreeArenas K V LEN → TreeArenas K V LEN → ℕ → RemoveResult → Type 0
   RetiresIfEmpty old new id Success = (new ≡ old) × (HasOnlyRetired old id → ⊥)
-  RetiresIfEmpty old new id Retired = Retires 1 old new id
+  RetiresIfEmpty old new id Retired = Retires old new id
   RetiresIfEmpty old new id Fail = ⊥

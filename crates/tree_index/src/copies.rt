@@ -1,8 +1,9 @@
 //! Copies of an index.
-ghost use Rattle.std.specs.Prelude.{◌≡◌, [], IfOk, MatchOption};
+ghost use Rattle.std.specs.Prelude.{◌≡◌, ◌-◌, ◌^◌, [], IfOk, MatchOption, length, min};
 ghost use Rattle.std.specs.List.{AllZip};
 ghost use Rattle.tree_array.specs.Length.{IsLen};
 ghost use Rattle.tree_index.specs.Copies.{HasLeft, IsPairClone};
+ghost use Rattle.tree_root.specs.Rooms.{HasRoomForPairs};
 ghost use Rattle.tree_root.specs.Trees.{IsWhole, pairs_of};
 
 use crate::index::TreeIndexOf;
@@ -55,7 +56,7 @@ fn walk_of<K: IndexKey, V: Drop, const LEN: usize>(
     walk_from_end::<K, V, ArrayIter, LEN>(&tree.arenas, root.level, root.id)
 }
 
-/// Appends a clone of each pair of another tree. The tree must be empty.
+/// Appends a clone of each pair of another tree. The tree must be empty, and have room for as many pairs.
 fn append_clones<K: IndexKey, V: Drop + Clone, const LEN: usize>(
     tree: &mut Tree<K, V, LEN>,
     other: &Tree<K, V, LEN>,
@@ -64,6 +65,7 @@ fn append_clones<K: IndexKey, V: Drop + Clone, const LEN: usize>(
     requires whole { IsWhole K.cmp tree.old }
     requires empty { pairs_of tree.old ≡ [] }
     requires other { IsWhole K.cmp other.now }
+    requires room { HasRoomForPairs tree.old.arenas (min (length (pairs_of other.now)) (2 ^ 64 - 1)) }
     ensures whole { IfOk result (λ _. IsWhole K.cmp tree.new) }
     ensures clones { IfOk result
         (λ _. AllZip (IsPairClone K.is_clone V.is_clone) (pairs_of other.now) (pairs_of tree.new)) }

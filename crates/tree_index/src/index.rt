@@ -316,9 +316,11 @@ impl<K: IndexKey, V: Drop, const LEN: usize> TreeIndexOf<K, V, LEN> {
         self.len == 0
     }
 
-    /// Returns the number of levels of nodes: 0 without a root, and 1 if the root is a leaf node. At depth *d* there
-    /// are at most `LEN * (LEN + 1)^d` pairs, and none at depth 0. Where *d* is above 1 and the index is packed, there are
-    /// more than `LEN^d`. Runs in constant time.
+    /// Returns the number of levels of nodes: 0 without a root, and 1 if the root is a leaf node. A root that is a leaf node
+    /// stays when its last pair is removed, so the depth is 1 then. After [`clear`](TreeIndexOf::clear) it is 0.
+    ///
+    /// At depth *d* there are at most `LEN * (LEN + 1)^d` pairs, and none at depth 0. If *d* is above 1 and the index is
+    /// packed, there are more than `LEN^d`. Runs in constant time.
     ///
     /// ```
     /// let copy = index.try_clone(alloc)?;

@@ -15,7 +15,9 @@ use tree_root::Tree;
 impl<K: IndexKey, V: Drop, const LEN: usize> TreeIndexOf<K, V, LEN> {
     /// Removes the pair with a key and returns it, or `None` if the key is absent.
     ///
-    /// Costs what [`remove_sync`](TreeIndexOf::remove_sync) does.
+    /// Descends once and searches one array per level and the leaf. Descends once more if the pair is the last of its leaf.
+    /// Always descends: unlike [`remove_sync`](TreeIndexOf::remove_sync), doesn't look first in the leaf of the last
+    /// removals. Allocates nothing.
     ///
     /// ```
     /// let (_, quantity) = offers.take_sync(&price)?;

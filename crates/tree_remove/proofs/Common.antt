@@ -5,7 +5,7 @@ pub use Rattle.tree_array.proofs.Common.{all-filter, arrival, least_from, remove
 pub use Rattle.tree_array.specs.Removal.{IsRemoval, removal_of}
 pub use Rattle.tree_array.specs.declared.answers.RemoveResult.{RemoveResult}
 pub use Rattle.tree_array.specs.declared.answers.RemoveResult.TheVariants.{Fail, Retired, Success}
-pub use Rattle.tree_clean_up.proofs.Retired.{walk-retired}
+pub use Rattle.tree_clean_up.proofs.Retired.{walk-only_retired, walk-retired}
 pub use Rattle.tree_clean_up.specs.CleanUps.{DropsChild, DropsKeyed, DropsUnbounded, HasChildIn, HasOnlyRetired, RetiresIfEmpty}
 pub use Rattle.tree_descent.specs.Ways.{IsOnWay, LeadsTo}
 pub use Rattle.tree_model.proofs.Common.{alike_right, pair_at, tied_back, without}

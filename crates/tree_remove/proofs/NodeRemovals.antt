@@ -2,7 +2,7 @@
 use Rattle.tree_remove.proofs.Common.{AllByRecursion, AllLarger, Bool, Fail, HasChildFor, HasOnlyRetired, IsPart, IsRetired, IsTotalOrder, KeepsBounds, Leaves, Less, List, None, Option}
 use Rattle.tree_remove.proofs.Common.{Ordering, RemoveResult, Removes, RemovesUnder, Replaces, Retired, RetiresIfEmpty, Stands, Success, TakesOut, TreeArenas, [], arith, back_walk_above}
 use Rattle.tree_remove.proofs.Common.{found_between, front_walk_below, get, leaves_at, new_spare, new_walk, no_children, node_keeps, node_replaces, old_spare, old_walk, part_after, refl}
-use Rattle.tree_remove.proofs.Common.{replaces_trans, spare, spare_le, suc, walk, without_between, ℕ, ◌++◌, ◌∙◌, ◌∷◌, ◌≡◌, ◌≤◌}
+use Rattle.tree_remove.proofs.Common.{replaces_trans, spare, spare_le, suc, walk, walk-only_retired, without_between, ℕ, ◌++◌, ◌∙◌, ◌∷◌, ◌≡◌, ◌≤◌}
 
 -- what is taken out between smaller and larger keys is taken out of all
 pub taken_between : {K V : Type 0} {cmp : K → K → Ordering} (o : IsTotalOrder cmp) (Says : V → Bool → Type 0) (key : K) (front old new back : List (K × V))
@@ -79,5 +79,5 @@ module _ {K V : Type 0} {LEN : ℕ} (cmp : K → K → Ordering) where
     removes_settled {old} {mid} {new} {id} Retired removes settles =
         let no_leaf : leaves_at 1 new.nodes id ≡ [] = rw ((no_children (get new.nodes id) settles.retired).1) refl in
         let replaces = replaces_trans 1 old mid new (id ∷ []) (id ∷ []) (id ∷ []) removes.replaces settles.replaces in
-        grind (arith, no_leaf, removes.pairs, settles.pairs, settles.retired, settles.kind, replaces, spare_le 1 old id)
+        grind (arith, no_leaf, removes.pairs, walk-only_retired mid id settles.only, settles.retired, settles.kind, replaces, spare_le 1 old id)
     removes_settled Fail removes settles = absurd settles

@@ -18,8 +18,8 @@ use tree_node::node::ArenasOf;
 /// value. The condition is called once if the key is there, and never otherwise.
 ///
 /// Returns `Fail` if the key is absent or the condition says no; nothing has changed then. Returns `Retired` if no child
-/// is left under the number, and `Success` otherwise. Makes at most `LEN * (level + 1)` comparisons and allocates
-/// nothing.
+/// is left under the number, and `Success` otherwise. Makes at most 4 comparisons a level and in the leaf (3 among 7 slots),
+/// and twice as many if the pair is the last of its leaf. Allocates nothing.
 ///
 /// The caller must see that a well-formed part of a tree, or a retired node, stands under the number, and that the
 /// condition may be called on the value at the key.

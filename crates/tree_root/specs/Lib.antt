@@ -1,3 +1,4 @@
 pub mod Lasts
+pub mod Rooms
 pub mod Runs
 pub mod Trees

@@ -1,11 +1,12 @@
 //! Appends to a tree: pairs whose keys are larger than all.
-ghost use Rattle.std.specs.Prelude.{◌≡◌, ◌++◌, ◌∷◌, [], IfOk, None, true};
+ghost use Rattle.std.specs.Prelude.{◌≡◌, ◌++◌, ◌∷◌, [], IfOk, None, length, true};
 ghost use Rattle.std.specs.List.{AllByRecursion};
 ghost use Rattle.std.specs.Option.{ForSome};
 ghost use Rattle.std.specs.declared.cmp.Ordering.TheVariants.{Less};
 ghost use Rattle.tree_array.specs.Length.{IsLen};
 ghost use Rattle.tree_model.specs.Pairs.{IsAscending};
 ghost use Rattle.tree_root.specs.Lasts.{IsLast, appended};
+ghost use Rattle.tree_root.specs.Rooms.{HasRoomForPairs};
 ghost use Rattle.tree_root.specs.Runs.{Gathers};
 ghost use Rattle.tree_root.specs.Trees.{IsWhole, Stores, packed_of, pairs_of};
 
@@ -23,6 +24,7 @@ impl<K: IndexKey, V: Drop, const LEN: usize> Tree<K, V, LEN> {
         requires { IsLen LEN }
         ensures whole { IfOk result (IsWhole K.cmp) }
         ensures root { IfOk result (λ tree. tree.root ≡ None) }
+        ensures room { IfOk result (λ tree. HasRoomForPairs tree.arenas pairs) }
     {
         let mut tree = Tree::new(alloc);
         let leaves = pairs.div_ceil(LEN);
@@ -45,11 +47,13 @@ impl<K: IndexKey, V: Drop, const LEN: usize> Tree<K, V, LEN> {
         Ok(tree)
     }
 
-    /// Appends pairs whose keys ascend and are larger than all. Returns `Err` if an allocation is refused.
+    /// Appends pairs whose keys ascend and are larger than all. Returns `Err` if an allocation is refused. The caller must
+    /// reserve the leaves and nodes that the pairs fill.
     fn append_sorted(&mut self, pairs: Vec<(K, V)>) -> Result<(), AllocError>
         requires len { IsLen LEN }
         requires whole { IsWhole K.cmp self.old }
         requires ascending { IsAscending K.cmp (pairs_of self.old ++ pairs.items) }
+        requires room { HasRoomForPairs self.old.arenas (length pairs.items) }
         ensures { IfOk result (λ _. Gathers K.cmp self.old self.new [] [] pairs.items) }
     {
         let mut run = RunOf::new();

@@ -7,6 +7,7 @@ ghost use Rattle.tree_array.specs.Length.{IsLen, searched};
 ghost use Rattle.tree_model.specs.Pairs.{Finds, IsAbsent, high_of, low_of, pair_at};
 ghost use Rattle.tree_descent.specs.Ways.{LeadsTo};
 ghost use Rattle.tree_insert.specs.Inserts.{IsNew};
+ghost use Rattle.tree_leaf.specs.Arena.{HasPlaces};
 ghost use Rattle.tree_node.specs.Shape.{room};
 ghost use Rattle.tree_node.specs.Tree.{IsRetired};
 ghost use Rattle.tree_node.specs.Whole.{depth_of, leaves_under};
@@ -277,10 +278,12 @@ impl<K: IndexKey, V: Drop, const LEN: usize> Tree<K, V, LEN> {
         removed.pairs
     }
 
-    /// Removes all pairs. Keeps the memory of the arenas.
+    /// Removes all pairs. The arenas keep their memory: as many leaves and nodes as had a place before can be added without
+    /// allocating.
     pub fn clear(&mut self)
         ensures whole { IsWhole K.cmp self.new }
         ensures root { self.new.root ≡ None }
+        ensures places { HasPlaces self.new.arenas self.old.arenas.leaves.capacity self.old.arenas.nodes.capacity }
     {
         self.arenas.clear();
         self.root = None;

@@ -7,7 +7,7 @@ pub with_room-requires : goal.with_room-requires
 with_room-requires g c = (search fits, c.self.invariant.0)
 
 pub append_clones-requires : goal.append_clones-requires
-append_clones-requires g c = (search fits, (c.self.invariant.0, (c.in_ok-tree.ensures.whole, (rw c.in_ok-tree.ensures.root refl, c.self.invariant.1))))
+append_clones-requires g c = (search fits, (c.self.invariant.0, (c.in_ok-tree.ensures.whole, (rw c.in_ok-tree.ensures.root refl, (c.self.invariant.1, rw (c.len.ensures, ← c.self.view_is) at c.in_ok-tree.ensures.room)))))
 
 pub drop-tree-requires : goal.drop-tree-requires
 drop-tree-requires g c = search fits

@@ -12,6 +12,9 @@ returns-clause-whole g c =
     let kept = c.in_ok-reserve.ensures.0 in
     tree_unchanged _ _ _ (record { leaves = λ n. rw kept.leaves.slots refl; nodes = λ n. rw kept.nodes.slots refl }) c.new-tree.ensures.whole
 
+pub returns-clause-room : goal.returns-clause-room
+returns-clause-room g c = rw (c.div_ceil.ensures, c.div_ceil-leaves.ensures) at c.in_ok-reserve.ensures.1
+
 pub div_ceil-leaves-requires : goal.div_ceil-leaves-requires
 div_ceil-leaves-requires g c = omega (arith, some_slots g.row.LEN c.requires)
 
