@@ -159,6 +159,7 @@ fn ample(holds: bool, outcome: Outcome) -> Result<bool, AllocError> {
 
 /// Makes these calls over numbers below 10 or texts of them. Returns whether they are answered as they should be, and leave
 /// the pairs that they should. `Err` if one was refused.
+#[tactic(auto, using(tree_node::proofs::Common::fits))]
 pub(crate) fn each_call<
     K: Numbered,
     V: Numbered,
@@ -228,6 +229,7 @@ fn ascending(alloc: Global, count: u64) -> Result<(Vec<Row>, Vec<(u64, u64)>), A
 
 /// Inserts so many pairs in key order, and walks the tree. Returns whether each is answered and stored. `Err` if one was
 /// refused.
+#[tactic(auto, using(tree_node::proofs::Common::fits))]
 pub(crate) fn grows<
     C: Ledger,
     S: Ledger,

@@ -47,6 +47,7 @@ pub(crate) fn pairs_after(rows: &[Row]) -> Places {
 }
 
 /// Returns whether an index has these pairs and no others.
+#[tactic(auto, using(tree_node::proofs::Common::fits))]
 pub(crate) fn has_pairs<K: Numbered, V: Numbered, const LEN: usize>(
     index: &TreeIndexOf<K, V, LEN>,
     places: &Places,

@@ -1,5 +1,5 @@
 -- What a gate answered several workers.
-use Rattle.std.proofs.Common.{◌≡◌, ℕ, ◌+◌, ◌<◌, ◌≤◌, Bool, true, false, ◌||◌, ◌⊎◌, inl, inr, sym, subst, arith}
+use Rattle.std.proofs.Common.{ℕ, ◌+◌, ◌<◌, ◌≤◌, Bool, true, false, ◌||◌, ◌⊎◌, inl, inr, sym, subst, arith}
 use Rattle.std.proofs.lemmas.Bool.{cases_lt}
 use Rattle.tree_tallies.specs.declared.tally.Tally.{Tally}
 use Rattle.tree_workers.specs.Workers.{AreAnswered, IsAnswered, IsTask, OnlyInserts}
