@@ -54,6 +54,7 @@ pub fn run_storm<R: Threads + Wait + Sync, G: Gate + Sync, W: Write>(
 }
 
 // Writes how a storm ended, and returns the exit status.
+#[tactic(auto, using(crate::proofs::Storms::ends_written))]
 fn write_end<W: Write>(ended: &Result<Closed<u64, u64>, StormError>, output: &mut W) -> u8
     requires { ForOk ended.now (λ closed. closed.tally ≡ tally closed.history.items) }
     ensures closed { IfOk ended.now (λ closed.
