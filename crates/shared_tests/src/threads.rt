@@ -1,6 +1,6 @@
 //! Threads that share an index.
+use crate::calls::{Outcome, make_calls, reply_to};
 use crate::closed::closed_with;
-use crate::one_worker::{make_calls, reply_to};
 use crate::races::{Race, is_left};
 use crate::scenario::{Scenario, play};
 use std::alloc::{AllocError, Global};
@@ -32,7 +32,7 @@ impl<C: Ledger, S: Ledger, M: Ledger, F: Ledger, D: Ledger> Racer<C, S, M, F, D>
     ) -> Self {
         for made in 0..race.calls(self.number) {
             let call = race.call(self.number, made);
-            self.served &= reply_to(rt, shared, &mut self.pass, &call).is_ok();
+            self.served &= reply_to(rt, shared, &mut self.pass, call).is_ok();
         }
         self
     }
@@ -134,7 +134,7 @@ pub(crate) fn run_race<
 ) -> Result<bool, AllocError> {
     let (mut passes, mut served) = raced(rt, alloc, &shared, passes, race)?;
     if let Some(pass) = passes.get_mut(0) {
-        served &= make_calls(rt, &shared, pass, race.last_calls()) == Ok(false);
+        served &= make_calls(rt, alloc, &shared, pass, race.last_calls()) == Ok(Outcome::Answered);
     }
     let Some(closed) = closed_with(shared, passes) else {
         return Ok(false);
@@ -159,7 +159,7 @@ pub(crate) fn run_small_race<
 ) -> Result<bool, AllocError> {
     let (mut passes, mut served) = raced(rt, alloc, &shared, passes, race)?;
     if let Some(pass) = passes.get_mut(0) {
-        served &= make_calls(rt, &shared, pass, race.last_calls()) == Ok(false);
+        served &= make_calls(rt, alloc, &shared, pass, race.last_calls()) == Ok(Outcome::Answered);
     }
     let Ok(closed) = shared.close(passes) else {
         return Ok(false);

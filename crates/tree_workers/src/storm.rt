@@ -1,9 +1,10 @@
 //! Workers that insert the same pairs at once.
-ghost use Rattle.std.specs.Prelude.{◌≡◌, ◌+◌, ◌≤◌, All, IfOk, vec_len};
+ghost use Rattle.std.specs.Prelude.{◌≡◌, ◌+◌, ◌*◌, ◌≤◌, true, false, All, IfErr, IfOk, vec_len};
 ghost use Rattle.std.specs.Ordering.{nat_cmp};
 ghost use Rattle.tree_model.specs.History.{IsHistoryOf};
 ghost use Rattle.tree_tallies.specs.Ledgers.{IsBlankFor};
-ghost use Rattle.tree_tallies.specs.Tallies.{none, tally};
+ghost use Rattle.tree_tallies.specs.Tallies.{none, sum_of, tally};
+ghost use Rattle.tree_workers.specs.Workers.{AreAnswered, OnlyInserts};
 
 use crate::gate::Gate;
 use crate::workers::run_all;
@@ -37,18 +38,30 @@ impl fmt::Display for StormError {
 impl Error for StormError {}
 
 impl From<AllocError> for StormError {
+    ghost use Rattle.tree_workers.specs.declared.storm.StormError.TheVariants.{Refused};
+
+    ghost from_gives = { λ _ e. e ≡ Refused };
+
     fn from(_refused: AllocError) -> StormError {
         StormError::Refused
     }
 }
 
 impl<T: Drop> From<AllocFailed<T>> for StormError {
+    ghost use Rattle.tree_workers.specs.declared.storm.StormError.TheVariants.{Refused};
+
+    ghost from_gives = { λ _ e. e ≡ Refused };
+
     fn from(_refused: AllocFailed<T>) -> StormError {
         StormError::Refused
     }
 }
 
 impl<T: Drop> From<SpawnError<T>> for StormError {
+    ghost use Rattle.tree_workers.specs.declared.storm.StormError.TheVariants.{Refused};
+
+    ghost from_gives = { λ _ e. e ≡ Refused };
+
     fn from(_refused: SpawnError<T>) -> StormError {
         StormError::Refused
     }
@@ -57,10 +70,11 @@ impl<T: Drop> From<SpawnError<T>> for StormError {
 /// Lets each worker insert the pairs (1, 1) to (n, n) in ascending order, through a pass and in a thread of its own,
 /// and closes the index once all have ended.
 ///
-/// Before each call a worker asks `gate`, and stops where that answers `false`; after the call it tells it. A call that
-/// is refused memory is left, and the worker goes on.
+/// Before each call a worker asks `gate`, and stops if that answers `false`; after the call it tells it. A call that
+/// cannot allocate is left, and the worker goes on.
 ///
-/// Returns `Refused` if memory or a thread is refused otherwise, and else `GateStopped` if the gate stopped a worker.
+/// Returns `Refused` if an allocation fails otherwise or a thread is refused, and else `GateStopped` if the gate stopped
+/// a worker.
 /// The caller must ask for 1 to 64 workers.
 ///
 /// ```
@@ -77,6 +91,10 @@ pub fn run_workers<R: Threads + Wait + Sync, G: Gate + Sync>(
     ensures replays { IfOk result
         (λ closed. IsHistoryOf nat_cmp (λ n. n) (λ n. n) closed.history.items closed.index.pairs) }
     ensures tally { IfOk result (λ closed. closed.tally ≡ tally closed.history.items) }
+    ensures inserts { IfOk result (λ closed. OnlyInserts (workers * n) closed.tally) }
+    ensures passed { IfOk result (λ closed. AreAnswered (G.answers gate.now) workers n false) }
+    ensures stopped { IfErr result
+        (λ e. e ≡ StormError.GateStopped → AreAnswered (G.answers gate.now) workers n true) }
 {
     let blanks = Blanks::new(workers);
     run_with::<Brand, Brand, Brand, Brand, Brand, R, G>(rt, alloc, workers, n, gate, blanks)
@@ -107,6 +125,10 @@ fn run_with<
     ensures replays { IfOk result
         (λ closed. IsHistoryOf nat_cmp (λ n. n) (λ n. n) closed.history.items closed.index.pairs) }
     ensures tally { IfOk result (λ closed. closed.tally ≡ tally closed.history.items) }
+    ensures inserts { IfOk result (λ closed. OnlyInserts (workers * n) closed.tally) }
+    ensures passed { IfOk result (λ closed. AreAnswered (G.answers gate.now) workers n false) }
+    ensures stopped { IfErr result
+        (λ e. e ≡ StormError.GateStopped → AreAnswered (G.answers gate.now) workers n true) }
 {
     let (shared, passes) = SharedTreeIndex::<u64, u64, C, S, M, F, D>::new(alloc, workers, blanks)?;
     run_over(rt, alloc, shared, passes, n, gate)
@@ -134,6 +156,10 @@ fn run_over<
     ensures replays { IfOk result
         (λ closed. IsHistoryOf nat_cmp (λ n. n) (λ n. n) closed.history.items closed.index.pairs) }
     ensures tally { IfOk result (λ closed. closed.tally ≡ tally closed.history.items) }
+    ensures inserts { IfOk result (λ closed. OnlyInserts (vec_len passes * n) closed.tally) }
+    ensures passed { IfOk result (λ closed. AreAnswered (G.answers gate.now) (vec_len passes) n false) }
+    ensures stopped { IfErr result
+        (λ e. e ≡ StormError.GateStopped → AreAnswered (G.answers gate.now) (vec_len passes) n true) }
 {
     match run_all(rt, alloc, &shared, passes, n, gate)? {
         (_, true) => Err(StormError::GateStopped),
@@ -149,6 +175,7 @@ fn closed_with<C: Ledger, S: Ledger, M: Ledger, F: Ledger, D: Ledger>(
     requires { C.parts ≤ vec_len passes + 1 }
     ensures replays { IsHistoryOf nat_cmp (λ n. n) (λ n. n) result.history.items result.index.pairs }
     ensures tally { result.tally ≡ tally result.history.items }
+    ensures passes { result.tally ≡ sum_of passes.items }
 {
     match shared.close(passes) {
         Ok(closed) => closed,

@@ -1,14 +1,27 @@
--- The ends of a storm.
-use Rattle.std.proofs.Common.{◌≡◌, ◌⊎◌, ℕ, ◌-◌, ◌^◌, min, List, length, Option, inl, inr, refl}
-use Rattle.tree_model.proofs.Common.{Appends}
-use Rattle.tree_lines.proofs.Pieces.{FailsIn}
-use Rattle.treetool.specs.Storm.{EndsStorm, RunsStorm}
+-- How a storm ends.
+use Rattle.std.proofs.Common.{◌≡◌, ◌⊎◌, ℕ, ◌*◌, List, Option, Result, Ok, Err, IfOk, IfErr, OnOk, OnErr, inl, inr, refl, sym, nat_cmp}
+use Rattle.tree_model.specs.History.{IsHistoryOf}
+use Rattle.tree_model.specs.declared.commands.Record.{Record}
+use Rattle.tree_requests.specs.Writing.{Writes}
+use Rattle.tree_tallies.specs.Tallies.{tally}
+use Rattle.tree_tallies.specs.declared.tally.Tally.{Tally}
+use Rattle.tree_workers.specs.Workers.{OnlyInserts}
+use Rattle.treetool.specs.Storm.{RunsStorm, WritesEnd, line_of, refused_line}
 
-module _ (x y : Option (List ℕ)) (text : List ℕ) (status : ℕ) (ends : EndsStorm text status) where
-  -- all was written
-  pub ends_whole : Appends x y text → RunsStorm x y status
-  ends_whole out = (text, status, ends, inl (out, refl))
+-- a text was written, whole or in part
+pub ends_written : {T E : Type 0} (text : List ℕ) (status : ℕ) (x y : Option (List ℕ)) (written : Result T E) (result : ℕ) → Writes text x y written → OnOk written (result ≡ status) → OnErr written (result ≡ 2) → WritesEnd text status x y result
+ends_written text status x y (Ok u) result out whole part = inl (out, whole)
+ends_written text status x y (Err e) result out whole part = inr (out.0, out.1, out.2, part)
 
-  -- or a part of it
-  pub ends_in_part : FailsIn text x y → RunsStorm x y 2
-  ends_in_part failed = (text, status, ends, inr (failed.0, failed.1, failed.2, refl))
+module _ {T E : Type 0} (x y : Option (List ℕ)) (ended : Result T E) (result : ℕ) (refused : IfErr ended (λ e. WritesEnd refused_line 3 x y result)) where
+  -- the end of a storm was written
+  pub runs_ended : (history : T → List (Record ℕ ℕ)) (pairs : T → List (ℕ × ℕ)) (told : T → Tally) (storm : ℕ × ℕ)
+      → IfOk ended (λ c. IsHistoryOf nat_cmp (λ (n : ℕ). n) (λ (n : ℕ). n) (history c) (pairs c)) → IfOk ended (λ c. told c ≡ tally (history c)) → IfOk ended (λ c. OnlyInserts (storm.0 * storm.1) (told c))
+      → IfOk ended (λ c. WritesEnd (line_of (history c) (pairs c)) 0 x y result) → RunsStorm storm x y result
+  runs_ended history pairs told storm replays is inserts wrote = ended_so ended refused replays is inserts wrote
+    where
+      ended_so : (end : Result T E) → IfErr end (λ e. WritesEnd refused_line 3 x y result)
+          → IfOk end (λ c. IsHistoryOf nat_cmp (λ (n : ℕ). n) (λ (n : ℕ). n) (history c) (pairs c)) → IfOk end (λ c. told c ≡ tally (history c)) → IfOk end (λ c. OnlyInserts (storm.0 * storm.1) (told c))
+          → IfOk end (λ c. WritesEnd (line_of (history c) (pairs c)) 0 x y result) → RunsStorm storm x y result
+      ended_so (Ok c) failed replays is inserts wrote = (line_of (history c) (pairs c), 0, inl (history c, pairs c, (replays, rw (sym is) inserts), refl, refl), wrote)
+      ended_so (Err e) failed replays is inserts wrote = (refused_line, 3, inr (refl, refl), failed)

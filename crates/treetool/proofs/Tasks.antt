@@ -23,6 +23,14 @@ asked_once words (Some a) None h k = absurd (k a h.0 h.1)
 asked_once words None (Some b) h k = absurd (h b k.0 k.1)
 asked_once words None None h k = refl
 
+-- arguments ask for one storm at most
+pub same_storm : (words : List (List ℕ)) (workers pairs more later : ℕ) → AsksFor words (Some (Storm workers pairs)) → AsksFor words (Some (Storm more later)) → (workers ≡ more) × (pairs ≡ later)
+same_storm words workers pairs more later h k =
+    let same = sym h.1 ∙ k.1 in (
+      decimal_injective workers more (omega (arith, h.0)) (omega (arith, k.0)) (ap (λ l. get_or l 1 []) same),
+      decimal_injective pairs later (omega (arith, h.0)) (omega (arith, k.0)) (ap (λ l. get_or l 2 []) same),
+    )
+
 -- arguments that are none of these ask for nothing
 pub asks_nothing : (words : List (List ℕ)) → (words ≡ [] → ⊥) → (words ≡ small_words → ⊥) → AsksForStorm words None → AsksFor words None
 asks_nothing words some other calm Lines fits e = some e

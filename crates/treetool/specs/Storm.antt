@@ -1,5 +1,5 @@
 -- The storm: its arguments, and what it writes.
-use Rattle.std.specs.Prelude.{◌≡◌, ◌≢◌, ◌⊎◌, ℕ, ◌-◌, ◌^◌, ◌≤◌, min, List, [], ◌∷◌, ◌++◌, length, Option, Some, None, codes, decimal}
+use Rattle.std.specs.Prelude.{◌≡◌, ◌≢◌, ◌⊎◌, ℕ, ◌-◌, ◌*◌, ◌^◌, ◌≤◌, min, List, [], ◌∷◌, ◌++◌, length, Option, Some, None, codes, decimal}
 use Rattle.std.specs.Io.KnownBytes.{Appends}
 use Rattle.std.specs.Ordering.{nat_cmp}
 use Rattle.tree_model.specs.History.{IsHistoryOf}
@@ -7,6 +7,7 @@ use Rattle.tree_model.specs.declared.commands.Record.{Record}
 use Rattle.tree_tallies.specs.Tallies.{tally}
 use Rattle.tree_requests.specs.Lines.{with_feed}
 use Rattle.tree_requests.specs.Writing.{IsFront}
+use Rattle.tree_workers.specs.Workers.{OnlyInserts}
 
 -- so many workers, and so many pairs for each
 abbrev pub IsStorm : ℕ × ℕ → Type 0
@@ -26,19 +27,30 @@ abbrev pub storm_line : ℕ → ℕ → ℕ → List ℕ
 storm_line calls stored length =
     (codes "calls " ++ decimal calls) ++ ((codes " stored " ++ decimal stored) ++ ((codes " length " ++ decimal length) ++ 10 ∷ []))
 
--- The line tells the tally of a history and the length of the index that it replays to.
-abbrev pub TellsHistory : List ℕ → Type 0
-TellsHistory text =
-    (history : List (Record ℕ ℕ)) × (pairs : List (ℕ × ℕ)) × IsHistoryOf nat_cmp (λ n. n) (λ n. n) history pairs
-    × (text ≡ storm_line (tally history).calls (tally history).stored (min (length pairs) (2 ^ 64 - 1)))
+-- the line of an index that was closed with this history: the history's tally, and how many pairs there are
+abbrev pub line_of : List (Record ℕ ℕ) → List (ℕ × ℕ) → List ℕ
+line_of history pairs = storm_line (tally history).calls (tally history).stored (min (length pairs) (2 ^ 64 - 1))
+
+abbrev pub refused_line : List ℕ
+refused_line = with_feed (codes "refused")
+
+-- A storm may close with this history: it replays to the pairs, and nothing but inserts was answered, at most one for each worker and pair.
+abbrev pub MayClose : ℕ × ℕ → List (Record ℕ ℕ) → List (ℕ × ℕ) → Type 0
+MayClose storm history pairs = IsHistoryOf nat_cmp (λ n. n) (λ n. n) history pairs × OnlyInserts (storm.0 * storm.1) (tally history)
 
 -- what a storm has to write, with its status
-abbrev pub EndsStorm : List ℕ → ℕ → Type 0
-EndsStorm text status = (TellsHistory text × (status ≡ 0)) ⊎ ((text ≡ with_feed (codes "refused")) × (status ≡ 3))
+abbrev pub EndsStorm : ℕ × ℕ → List ℕ → ℕ → Type 0
+EndsStorm storm text status =
+    ((history : List (Record ℕ ℕ)) × (pairs : List (ℕ × ℕ)) × MayClose storm history pairs × (text ≡ line_of history pairs) × (status ≡ 0))
+    ⊎ ((text ≡ refused_line) × (status ≡ 3))
 
--- It was written, or a part of it; the status is 2 then.
-abbrev pub RunsStorm : Option (List ℕ) → Option (List ℕ) → ℕ → Type 0
-RunsStorm contents contents' status =
-    (text : List ℕ) × (ends : ℕ) × EndsStorm text ends
-    × ((Appends contents contents' text × (status ≡ ends))
-    ⊎ ((part : List ℕ) × Appends contents contents' part × IsFront part text × (status ≡ 2)))
+-- The text was written, and its status returned; or a part of it was written, and the status is 2.
+abbrev pub WritesEnd : List ℕ → ℕ → Option (List ℕ) → Option (List ℕ) → ℕ → Type 0
+WritesEnd text status contents contents' result =
+    (Appends contents contents' text × (result ≡ status))
+    ⊎ ((part : List ℕ) × Appends contents contents' part × IsFront part text × (result ≡ 2))
+
+-- A storm was run, and its end written.
+abbrev pub RunsStorm : ℕ × ℕ → Option (List ℕ) → Option (List ℕ) → ℕ → Type 0
+RunsStorm storm contents contents' result =
+    (text : List ℕ) × (status : ℕ) × EndsStorm storm text status × WritesEnd text status contents contents' result

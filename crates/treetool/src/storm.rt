@@ -1,15 +1,18 @@
 //! The storm: threads that fill a shared index, and the line that tells what came of it.
-ghost use Rattle.std.specs.Prelude.{◌≤◌, ◌++◌, decimal, map};
+ghost use Rattle.std.specs.Prelude.{◌≡◌, ◌++◌, false, decimal, map, ForOk, IfErr, IfOk, OnErr, OnOk};
 ghost use Rattle.std.specs.String.{string_bytes};
 ghost use Rattle.tree_requests.specs.Writing.{Writes};
-ghost use Rattle.treetool.specs.Storm.{AsksForStorm, IsStorm, RunsStorm, storm_line};
+ghost use Rattle.tree_tallies.specs.Tallies.{tally};
+ghost use Rattle.tree_workers.specs.Workers.{AreAnswered};
+ghost use Rattle.treetool.specs.Storm.{AsksForStorm, IsStorm, RunsStorm, WritesEnd, line_of, refused_line, storm_line};
 
 use std::alloc::Global;
 use std::io::Write;
 use std::sync::Wait;
 use std::thread::Threads;
 use tree_lines::{WriteFailed, number_of, write_number, write_whole};
-use tree_workers::{OpenGate, run_workers};
+use tree_shared::Closed;
+use tree_workers::{Gate, StormError, run_workers};
 
 /// Returns the number of workers and of pairs that the arguments ask a storm for, or `None` if they ask for something
 /// else.
@@ -30,29 +33,61 @@ pub fn storm_of(arguments: &[String]) -> Option<(usize, u64)>
     Some((workers as usize, pairs))
 }
 
-/// Runs a storm, writes its line and returns the exit status: 0, or 3 with the line `refused` if the workers got no
-/// memory or no thread, or 2 if a write fails.
-pub fn run_storm<R: Threads + Wait + Sync, W: Write>(
+/// Runs a storm at a gate, writes its line and returns the exit status: 0, or 3 with the line `refused` if memory or a
+/// thread was refused or the gate stopped a worker, or 2 if a write fails.
+pub fn run_storm<R: Threads + Wait + Sync, G: Gate + Sync, W: Write>(
     rt: &R,
     alloc: Global,
     workers: usize,
     pairs: u64,
+    gate: &G,
     output: &mut W,
 ) -> u8
     requires { IsStorm (workers, pairs) }
-    ensures { RunsStorm (W.contents output.old) (W.contents output.new) result }
+    ensures line { RunsStorm (workers, pairs) (W.contents output.old) (W.contents output.new) result }
+
+    // With status 0 the gate let each worker make each of its calls.
+    ensures passed { result ≡ 0 → AreAnswered (G.answers gate.now) workers pairs false }
 {
-    let Ok(closed) = run_workers(rt, alloc, workers, pairs, &OpenGate) else {
-        return match write_whole(output, b"refused\n") {
-            Ok(()) => 3,
-            Err(_) => 2,
-        };
-    };
-    let (tally, length) = (closed.tally, closed.index.len() as u64);
-    match write_storm(output, tally.calls, tally.stored, length) {
-        Ok(()) => 0,
+    let ended = run_workers(rt, alloc, workers, pairs, gate);
+    write_end(&ended, output)
+}
+
+// Writes how a storm ended, and returns the exit status.
+#[tactic(auto, using(crate::proofs::Storms::ends_written))]
+fn write_end<W: Write>(ended: &Result<Closed<u64, u64>, StormError>, output: &mut W) -> u8
+    requires { ForOk ended.now (λ closed. closed.tally ≡ tally closed.history.items) }
+    ensures closed { IfOk ended.now (λ closed.
+        WritesEnd (line_of closed.history.items closed.index.pairs) 0
+        (W.contents output.old) (W.contents output.new) result) }
+    ensures refused { IfErr ended.now (λ _.
+        WritesEnd refused_line 3 (W.contents output.old) (W.contents output.new) result) }
+{
+    match ended {
+        Ok(closed) => status_of(write_closed(closed, output), 0),
+        Err(_) => status_of(write_whole(output, b"refused\n"), 3),
+    }
+}
+
+// Returns this status if all was written, or else 2.
+fn status_of(written: Result<(), WriteFailed>, status: u8) -> u8
+    ensures whole { OnOk written (result ≡ status) }
+    ensures part { OnErr written (result ≡ 2) }
+{
+    match written {
+        Ok(()) => status,
         Err(_) => 2,
     }
+}
+
+// Writes the line of a closed index.
+fn write_closed<W: Write>(closed: &Closed<u64, u64>, output: &mut W) -> Result<(), WriteFailed>
+    requires { closed.now.tally ≡ tally closed.now.history.items }
+    ensures { Writes (line_of closed.now.history.items closed.now.index.pairs)
+        (W.contents output.old) (W.contents output.new) result }
+{
+    let (tally, length) = (closed.tally, closed.index.len() as u64);
+    write_storm(output, tally.calls, tally.stored, length)
 }
 
 // Writes the line of a storm.

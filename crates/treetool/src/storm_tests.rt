@@ -1,10 +1,13 @@
 //! What storms write, and how they end.
+use crate::storm::run_storm;
 use crate::tests::{holds, is_out_of_memory, words_of};
 use crate::tool::tool;
-use std::alloc::Global;
+use std::alloc::{AllocError, Global};
 use std::io::Cursor;
 use std::sync::Wait;
+use std::sync::atomic::{AtomicU64, Ordering};
 use std::thread::Threads;
+use tree_workers::Gate;
 
 static STORMS: [(&str, &str); 7] = [
     ("storm 2 100", "calls 200 stored 100 length 100\n"),
@@ -81,18 +84,123 @@ fn tells_that_the_line_failed(rt: HostRuntime) {
     }
 }
 
-// A storm says that a thread or memory was refused before its calls. A call that is refused is left out of its line. Where
-// the two requests before it are refused, all are, so the first one of the storm too.
+// Counts the calls before which workers asked.
+#[derive(Drop)]
+struct Counter(AtomicU64);
+
+impl Gate for Counter {
+    fn before(&self, _worker: usize, _call: u64) -> bool {
+        self.0.fetch_add(1, Ordering::SeqCst);
+        true
+    }
+
+    fn after(&self, _worker: usize, _call: u64) {}
+}
+
+const STORED: End<'static> = (0, b"calls 1 stored 1 length 1\n");
+
+const LEFT: End<'static> = (0, b"calls 0 stored 0 length 0\n");
+
+const REFUSED: End<'static> = (3, b"refused\n");
+
+// What came of a storm of one worker and one pair.
+#[derive(Clone, Copy, PartialEq, Eq)]
+enum Storm {
+    // Its call was answered.
+    Answered,
+    // Its call was refused, and left.
+    CallRefused,
+    // It was refused before its call.
+    Refused,
+    // Its line or its status is another.
+    Wrong,
+}
+
+// What a status and a line tell of such a storm.
+fn storm_of(told: End<'_>) -> Storm {
+    if told == STORED {
+        return Storm::Answered;
+    }
+    if told == LEFT {
+        return Storm::CallRefused;
+    }
+    if told == REFUSED {
+        Storm::Refused
+    } else {
+        Storm::Wrong
+    }
+}
+
+// Runs such a storm. It is refused if its worker doesn't come to the call, and only then.
+fn run_at_gate<R: Threads + Wait + Sync>(rt: &R, alloc: Global) -> Storm {
+    let gate = Counter(AtomicU64::new(0));
+    let mut memory = [0; 64];
+    let mut output = Cursor::new(&mut memory[..]);
+    let status = run_storm(rt, alloc, 1, 1, &gate, &mut output);
+    let written = output.position() as usize;
+    let storm = storm_of((status, &memory[..written.min(64)]));
+    let asked = gate.0.load(Ordering::SeqCst);
+    if asked == u64::from(storm != Storm::Refused) {
+        storm
+    } else {
+        Storm::Wrong
+    }
+}
+
+// Runs such a storm by the program.
+fn run_by_tool<R: Threads + Wait + Sync>(rt: &R, alloc: Global, arguments: &[String]) -> Storm {
+    let mut memory = [0; 64];
+    let mut output = Cursor::new(&mut memory[..]);
+    let mut shown = [0; 64];
+    let mut errors = Cursor::new(&mut shown[..]);
+    let input = b"".as_slice();
+    let status = tool(rt, alloc, arguments, input, &mut output, &mut errors);
+    let (written, silent) = (output.position() as usize, errors.position() == 0);
+    if silent {
+        storm_of((status, &memory[..written.min(64)]))
+    } else {
+        Storm::Wrong
+    }
+}
+
+// Whether such a storm is answered. `Err` if memory or a thread was refused: then the same storm is answered the second time,
+// or memory is refused for good, and so it is refused before its call.
+fn is_answered<F: Fn() -> Storm + Drop>(alloc: Global, run: F) -> Result<bool, AllocError>
+    requires { F.IsAlwaysCallable run }
+{
+    let is_out = is_out_of_memory(alloc) && is_out_of_memory(alloc);
+    match run() {
+        Storm::Answered => return Ok(!is_out),
+        Storm::CallRefused if !is_out => {}
+        Storm::Refused => {}
+        _ => return Ok(false),
+    }
+    match run() {
+        Storm::Answered if !is_out => Err(AllocError),
+        Storm::Refused if is_out_of_memory(alloc) => Err(AllocError),
+        _ => Ok(false),
+    }
+}
+
 #[test]
 fn tells_that_memory_is_refused(rt: HostRuntime) {
-    let ends: [End<'_>; 3] = [
-        (3, b"refused\n"),
-        (0, b"calls 0 stored 0 length 0\n"),
-        (0, b"calls 1 stored 1 length 1\n"),
-    ];
-    if let Ok(arguments) = words_of(rt.alloc(), "storm 1 1") {
-        let all = is_out_of_memory(rt.alloc()) && is_out_of_memory(rt.alloc());
-        let count = if all { 1 } else { 3 };
-        assert!(rt; ends_with(&rt, rt.alloc(), &arguments, 64, &ends[..count]));
-    }
+    let once = || {
+        let answered = is_answered(rt.alloc(), || run_at_gate(&rt, rt.alloc()));
+        assert!(rt; answered != Ok(false));
+        answered == Ok(true)
+    };
+    assert!(rt; holds(rt.alloc(), once));
+}
+
+#[test]
+fn the_program_tells_that_memory_is_refused(rt: HostRuntime) {
+    let once = || match words_of(rt.alloc(), "storm 1 1") {
+        Ok(arguments) => {
+            let answered = is_answered(rt.alloc(), || run_by_tool(&rt, rt.alloc(), &arguments));
+            assert!(rt; answered != Ok(false));
+            answered == Ok(true)
+        }
+        Err(_) => false,
+    };
+    assert!(rt; holds(rt.alloc(), once));
 }

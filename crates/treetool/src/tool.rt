@@ -14,6 +14,7 @@ use std::sync::Wait;
 use std::thread::Threads;
 use tree_index::{SmallTreeIndex, TreeIndex, TreeIndexOf};
 use tree_lines::{run_lines, write_whole};
+use tree_workers::OpenGate;
 
 /// Runs the program and returns its exit status. `arguments` are those after the program's name.
 ///
@@ -61,7 +62,7 @@ fn run_tool<R: Threads + Wait + Sync, I: Read, W: Write, E: Write>(
 
     // Of a storm its line is written. The input is not read, and nothing is written to the errors.
     ensures storm { (workers pairs : _) → AsksFor (map string_bytes arguments.now) (Some (Storm workers pairs)) →
-        RunsStorm (W.contents output.old) (W.contents output.new) result
+        RunsStorm (workers, pairs) (W.contents output.old) (W.contents output.new) result
         × (input.new ≡ input.old) × (errors.new ≡ errors.old) }
 
     // Other arguments are refused. The input is not read, and nothing is written to the output.
@@ -72,7 +73,9 @@ fn run_tool<R: Threads + Wait + Sync, I: Read, W: Write, E: Write>(
     match task_of(arguments) {
         Some(Task::Lines) => answer_lines(alloc, input, output),
         Some(Task::SmallLines) => answer_small_lines(alloc, input, output),
-        Some(Task::Storm(workers, pairs)) => run_storm(rt, alloc, workers, pairs, output),
+        Some(Task::Storm(workers, pairs)) => run_storm(
+            rt, alloc, workers, pairs, &OpenGate, output,
+        ),
         None => {
             let _ = write_whole(errors, b"usage: treetool [--small | storm W N]\n");
             1

@@ -1,25 +1,10 @@
-use Rattle.std.proofs.Common.{inl, inr, refl, codes}
-use Rattle.tree_requests.specs.Lines.{with_feed}
-use Rattle.treetool.specs.Storm.{storm_line}
-use Rattle.treetool.proofs.Storms.{ends_in_part, ends_whole}
+use Rattle.treetool.proofs.Storms.{runs_ended}
 use Rattle.treetool.proofs.storm.run_storm.Goals as goal
 
--- the workers got no memory or no thread
-pub returns-in-Ok-write_whole : goal.returns-in-Ok-write_whole
-returns-in-Ok-write_whole g c = ends_whole _ _ (with_feed (codes "refused")) 3 (inr (refl, refl)) c.in-Ok-write_whole.ensures
-
-pub returns-in-Err : goal.returns-in-Err
-returns-in-Err g c = ends_in_part _ _ (with_feed (codes "refused")) 3 (inr (refl, refl)) c.in-Err.ensures
-
--- the line tells the history of the closed index
-pub returns-in-Ok-write_storm : goal.returns-in-Ok-write_storm
-returns-in-Ok-write_storm g c =
-    ends_whole _ _ (storm_line c.in-Ok.closed.tally.calls c.in-Ok.closed.tally.stored c.len.result) 0
-    (inl ((c.in-Ok.closed.history.items, c.in-Ok.closed.index.pairs, c.in-Ok.ensures.replays, rw (c.in-Ok.ensures.tally, c.len.ensures) refl), refl))
-    c.in-Ok-write_storm.ensures
-
-pub returns : goal.returns
-returns g c =
-    ends_in_part _ _ (storm_line c.in-Ok.closed.tally.calls c.in-Ok.closed.tally.stored c.len.result) 0
-    (inl ((c.in-Ok.closed.history.items, c.in-Ok.closed.index.pairs, c.in-Ok.ensures.replays, rw (c.in-Ok.ensures.tally, c.len.ensures) refl), refl))
-    c.in-Err-write_storm.ensures
+-- the end that was written is that of this storm
+pub returns-clause-line : goal.returns-clause-line
+returns-clause-line g c =
+    let ran = c.run_workers-ended.ensures in
+    let wrote = c.write_end.ensures in
+    runs_ended _ _ c.run_workers-ended.result _ wrote.refused (λ closed. closed.history.items) (λ closed. closed.index.pairs) (λ closed. closed.tally) (c.args.workers, c.args.pairs)
+        ran.replays ran.tally ran.inserts wrote.closed

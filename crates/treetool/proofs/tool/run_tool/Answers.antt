@@ -1,8 +1,9 @@
-use Rattle.std.proofs.Common.{map, Some, None, refl, string_bytes}
+use Rattle.std.proofs.Common.{map, Some, None, refl, sym, subst, string_bytes}
 use Rattle.tree_requests.proofs.Writes.{written_of}
 use Rattle.treetool.specs.declared.task.Task.TheVariants.{Lines, SmallLines, Storm}
+use Rattle.treetool.specs.Tasks.{AsksFor}
 use Rattle.treetool.specs.Tool.{usage_line}
-use Rattle.treetool.proofs.Tasks.{asks_no_other}
+use Rattle.treetool.proofs.Tasks.{asks_no_other, same_storm}
 use Rattle.treetool.proofs.tool.run_tool.Goals as goal
 
 -- lines were asked for
@@ -43,7 +44,9 @@ returns-in-Some-Storm g c =
     record {
       lines = λ asks. asks_no_other words (Some told) (Some Lines) asked asks (λ same. cc (same, is));
       small = λ asks. asks_no_other words (Some told) (Some SmallLines) asked asks (λ same. cc (same, is));
-      storm = λ workers pairs asks. (c.run_storm.ensures, refl, refl);
+      storm = λ workers pairs asks.
+          let same = same_storm words c.in-Some-Storm.workers c.in-Some-Storm.pairs workers pairs (subst (λ task. AsksFor words (Some task)) is asked) asks in
+          (rw (sym same.0, sym same.1) c.run_storm.ensures.line, refl, refl);
       usage = λ asks. asks_no_other words (Some told) None asked asks (λ same. cc (same));
     }
 
