@@ -1,6 +1,6 @@
 -- The bounds of the keys that begin with a prefix, and what they say of an index.
 use Rattle.std.specs.Prelude.{◌≡◌, ℕ, IsTrue, ◌+◌, List, [], ◌∷◌, filter, not, if◌then◌else◌, nat_eq}
-use Rattle.std.specs.List.{starts_with}
+use Rattle.std.specs.List.{AllByRecursion, starts_with}
 use Rattle.std.specs.Cmp.Lexicographic.{slice_cmp}
 use Rattle.std.specs.Ordering.{nat_cmp}
 use Rattle.std.specs.declared.ops.Bound.{Bound}
@@ -31,3 +31,7 @@ module _ {V : Type 0} where
 
   abbrev pub not_beginning_with : List ℕ → List (List ℕ × V) → List (List ℕ × V)
   not_beginning_with prefix pairs = filter (λ pair. not (starts_with nat_eq pair.0 prefix)) pairs
+
+  -- of each pair, whether it is within the bounds is whether its key begins with the prefix
+  abbrev pub TellsPrefix : List ℕ → Bound (List ℕ) × Bound (List ℕ) → List (List ℕ × V) → Type 0
+  TellsPrefix prefix bounds pairs = AllByRecursion (λ pair. within (slice_cmp nat_cmp) bounds.0 bounds.1 pair.0 ≡ starts_with nat_eq pair.0 prefix) pairs
