@@ -1,15 +1,13 @@
 -- An index between the bounds of a prefix: a key between them begins with the prefix if the last key there is one by IsKey.
-use Rattle.std.proofs.Common.{◌≡◌, ℕ, Bool, true, false, ◌&&◌, List, [], ◌∷◌, ◌++◌, filter, not, reverse, refl, sym, ◌∙◌, ap, arith, inl, inr, Less, is_le, nat_cmp}
+use Rattle.std.proofs.Common.{◌≡◌, ℕ, Bool, true, false, ◌&&◌, List, [], ◌∷◌, ◌++◌, filter, not, refl, sym, ◌∙◌, arith, inl, inr, Less, is_le, nat_cmp}
 use Rattle.std.proofs.lemmas.Bool.{cases_Bool, and_parts}
 use Rattle.std.proofs.lemmas.Bool.Decides.{nat_tests}
-use Rattle.std.proofs.lemmas.Grind.{reverse_onto}
-use Rattle.std.proofs.lemmas.List.{reverse-reverse}
 use Rattle.std.specs.Cmp.Lexicographic.{slice_cmp}
 use Rattle.std.specs.List.{starts_with}
-use Rattle.std.specs.Prelude.{nat_eq}
+use Rattle.std.specs.Prelude.{IsTrue, nat_eq, ◌↔◌, ◌≢◌}
 use Rattle.tree_model.proofs.Ascending.{IsAscending-filter}
 use Rattle.tree_model.proofs.Common.{AllByRecursion, Bound, IsAscending, cut, within}
-use Rattle.tree_model.proofs.Lists.{all_passed}
+use Rattle.tree_model.proofs.Lists.{all_passed, filter_all}
 use Rattle.tree_model.specs.Pairs.{meets_upper}
 use Rattle.tree_bytes.specs.Prefix.{BoundPrefix, TellsPrefix, beginning_with, not_beginning_with}
 
@@ -55,6 +53,20 @@ module _ {X : Type 0} where
   filter_agreed_not test other [] same = refl
   filter_agreed_not test other (x ∷ xs) same = rw (same.0, filter_agreed_not test other xs same.1) refl
 
+  -- a list isn't empty exactly if a test passes, which fails
+  no_pair : (xs : List X) {found : Bool} → (IsTrue found ↔ (xs ≢ [])) → found ≡ false → xs ≡ []
+  no_pair [] found none = refl
+  no_pair (x ∷ xs) found none = absurd (cc (found.1 (λ is. cc)))
+
+  -- a filter that keeps nothing
+  none_pass : (test : X → Bool) (xs : List X) → filter test xs ≡ [] → AllByRecursion (λ x. not (test x) ≡ true) xs
+  none_pass test [] none = tt
+  none_pass test (x ∷ xs) none =
+      elim (cases_Bool (test x)) [
+        | inl is ↦ let some = rw is at none in absurd (cc)
+        | inr isnt ↦ (rw isnt refl, none_pass test xs (rw isnt at none))
+      ]
+
 module _ {V : Type 0} where
   abbrev pairs_between : Bound (List ℕ) × Bound (List ℕ) → List (List ℕ × V) → List (List ℕ × V)
   pairs_between bounds pairs = filter (λ pair. within (slice_cmp nat_cmp) bounds.0 bounds.1 pair.0) pairs
@@ -77,23 +89,19 @@ module _ {V : Type 0} where
     tells_with all = tests_agree (λ pair. within (slice_cmp nat_cmp) bounds.0 bounds.1 pair.0) (λ pair. starts_with nat_eq pair.0 prefix) (λ pair. b.all pair.0) pairs all
 
     -- if no pair is between the bounds
-    pub tells_none : reverse (pairs_between bounds pairs) ≡ [] → TellsPrefix prefix bounds pairs
-    tells_none none =
-        let empty : pairs_between bounds pairs ≡ [] = sym (reverse-reverse (pairs_between bounds pairs)) ∙ ap reverse none in
-        tells_with (rw empty tt)
+    pub tells_none : pairs_between bounds pairs ≡ [] → TellsPrefix prefix bounds pairs
+    tells_none none = tells_with (rw none tt)
 
     -- if the last one there is known to be a key
-    pub tells_last : (last : List ℕ × V) (more : List (List ℕ × V)) → reverse (pairs_between bounds pairs) ≡ last ∷ more → IsAscending (slice_cmp nat_cmp) pairs → IsKey last.0 → TellsPrefix prefix bounds pairs
-    tells_last last more are ascending key =
-        let front : List (List ℕ × V) = reverse more in
-        let turned : pairs_between bounds pairs ≡ front ++ last ∷ [] = sym (reverse-reverse (pairs_between bounds pairs)) ∙ ap reverse are ∙ reverse_onto more last [] in
+    pub tells_last : (front : List (List ℕ × V)) (last : List ℕ × V) → pairs_between bounds pairs ≡ front ++ last ∷ [] → IsAscending (slice_cmp nat_cmp) pairs → IsKey last.0 → TellsPrefix prefix bounds pairs
+    tells_last front last are ascending key =
         let inside : AllByRecursion (λ pair. within (slice_cmp nat_cmp) bounds.0 bounds.1 pair.0 ≡ true) (front ++ last ∷ [])
-        = rw turned at (all_passed (λ pair. within (slice_cmp nat_cmp) bounds.0 bounds.1 pair.0 ≡ true) (λ pair. within (slice_cmp nat_cmp) bounds.0 bounds.1 pair.0) (λ pair is. is) pairs) in
+        = rw are at (all_passed (λ pair. within (slice_cmp nat_cmp) bounds.0 bounds.1 pair.0 ≡ true) (λ pair. within (slice_cmp nat_cmp) bounds.0 bounds.1 pair.0) (λ pair is. is) pairs) in
         let from : AllByRecursion (λ pair. is_le (slice_cmp nat_cmp prefix pair.0) ≡ true) (front ++ last ∷ [])
-        = rw turned at (all_passed (λ pair. is_le (slice_cmp nat_cmp prefix pair.0) ≡ true) (λ pair. within (slice_cmp nat_cmp) bounds.0 bounds.1 pair.0) from_prefix pairs) in
-        let ascend : IsAscending (slice_cmp nat_cmp) (front ++ last ∷ []) = rw turned at (IsAscending-filter (slice_cmp nat_cmp) (λ pair. within (slice_cmp nat_cmp) bounds.0 bounds.1 pair.0) pairs ascending) in
+        = rw are at (all_passed (λ pair. is_le (slice_cmp nat_cmp prefix pair.0) ≡ true) (λ pair. within (slice_cmp nat_cmp) bounds.0 bounds.1 pair.0) from_prefix pairs) in
+        let ascend : IsAscending (slice_cmp nat_cmp) (front ++ last ∷ []) = rw are at (IsAscending-filter (slice_cmp nat_cmp) (λ pair. within (slice_cmp nat_cmp) bounds.0 bounds.1 pair.0) pairs ascending) in
         let begins : starts_with nat_eq last.0 prefix ≡ true = sym (b.exact last.0 key) ∙ all_last (λ pair. within (slice_cmp nat_cmp) bounds.0 bounds.1 pair.0 ≡ true) front last inside in
-        tells_with (rw turned (all_begin prefix front last from ascend begins))
+        tells_with (rw are (all_begin prefix front last from ascend begins))
 
     -- so the pairs between the bounds are those that begin with the prefix
     pub between_is : TellsPrefix prefix bounds pairs → pairs_between bounds pairs ≡ beginning_with prefix pairs
@@ -102,3 +110,8 @@ module _ {V : Type 0} where
     -- and a cut leaves the others
     pub cut_is : TellsPrefix prefix bounds pairs → cut (slice_cmp nat_cmp) pairs bounds.0 bounds.1 ≡ not_beginning_with prefix pairs
     cut_is same = filter_agreed_not (λ pair. within (slice_cmp nat_cmp) bounds.0 bounds.1 pair.0) (λ pair. starts_with nat_eq pair.0 prefix) pairs same
+
+    -- if there is none, a cut would leave all
+    pub none_begin : TellsPrefix prefix bounds pairs → {found : Bool} → (IsTrue found ↔ (pairs_between bounds pairs ≢ [])) → found ≡ false → not_beginning_with prefix pairs ≡ pairs
+    none_begin same found none =
+        filter_all (λ pair. not (starts_with nat_eq pair.0 prefix)) pairs (none_pass (λ pair. starts_with nat_eq pair.0 prefix) pairs (sym (between_is same) ∙ no_pair (pairs_between bounds pairs) found none))
