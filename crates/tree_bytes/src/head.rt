@@ -6,8 +6,8 @@ ghost use Rattle.tree_bytes.specs.Head.{AreBytes, HasHead, head_of};
 
 use std::cmp::Ordering;
 
-/// Returns the first eight bytes as a number whose order is theirs. Fewer bytes are filled up with zeros. Runs in
-/// constant time.
+/// Returns the first eight bytes as a number whose order is theirs. Fewer bytes are filled up with
+/// zeros. Runs in constant time.
 #[inline(always)]
 pub fn head_of(bytes: &[u8]) -> u64
     ensures { HasHead result bytes.now }
@@ -32,10 +32,11 @@ fn head_of_few(bytes: &[u8]) -> u64
     head
 }
 
-/// Compares byte strings by their heads, and if these are equal by the bytes. The order is that of slices.
+/// Compares byte strings by their heads, and if these are equal by the bytes. The order is that of
+/// slices.
 ///
-/// Different heads decide without a look at the bytes. Equal ones take one comparison of numbers per eight bytes that
-/// the strings have in common.
+/// Different heads decide without a look at the bytes. Equal ones take one comparison of numbers
+/// per eight bytes that the strings have in common.
 #[inline(always)]
 pub fn cmp_headed(head: u64, bytes: &[u8], other_head: u64, other: &[u8]) -> Ordering
     requires head { HasHead head bytes.now }
@@ -71,8 +72,8 @@ fn cmp_tied(head: u64, bytes: &[u8], other: &[u8]) -> Ordering
     cmp_last(bytes, other)
 }
 
-/// Compares byte strings with the same head, if one of them has fewer than sixteen bytes. The last eight bytes that both
-/// have may overlap the head, so that no byte is read alone.
+/// Compares byte strings with the same head, if one of them has fewer than sixteen bytes. The last
+/// eight bytes that both have may overlap the head, so that no byte is read alone.
 #[inline(always)]
 fn cmp_last(bytes: &[u8], other: &[u8]) -> Ordering
     requires bytes { AreBytes bytes.now }
@@ -101,7 +102,8 @@ fn past(bytes: &[u8], count: usize) -> &[u8]
     &bytes[count..]
 }
 
-/// Returns whether two byte strings are the same. Different heads decide without a look at the bytes.
+/// Returns whether two byte strings are the same. Different heads decide without a look at the
+/// bytes.
 #[inline(always)]
 pub fn eq_headed(head: u64, bytes: &[u8], other_head: u64, other: &[u8]) -> bool
     requires head { HasHead head bytes.now }

@@ -6,8 +6,9 @@ ghost use Rattle.tree_bytes.specs.Prefix.{end_of};
 use std::alloc::{AllocError, Global};
 use std::ops::Bound;
 
-/// Returns the upper bound of the byte strings that begin with a prefix: the least one that is larger than all of them,
-/// excluded. There is no bound if each byte of the prefix is 255, or if the prefix is empty.
+/// Returns the upper bound of the byte strings that begin with a prefix: the least one that is
+/// larger than all of them, excluded. There is no bound if each byte of the prefix is 255, or if
+/// the prefix is empty.
 ///
 /// Returns `Err` if it cannot allocate the bound.
 pub fn end_of_prefix(alloc: Global, prefix: &[u8]) -> Result<Bound<Vec<u8>>, AllocError>
