@@ -1,1 +1,5 @@
+pub mod LastWithin
 pub mod Lent
+pub mod MappedBounds
+pub mod TextPrefixes
+pub mod Utf8Order

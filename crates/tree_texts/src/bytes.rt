@@ -5,6 +5,7 @@ ghost use Rattle.std.specs.Cmp.Lexicographic.{pointwise, slice_cmp, nat_list_eq_
 ghost use Rattle.std.specs.Ordering.{nat_cmp};
 ghost use Rattle.std.proofs.Common.{sym};
 ghost use Rattle.tree_model.specs.Keys.{equal_texts};
+ghost use Rattle.tree_bytes.specs.Head.{HasHead};
 
 use crate::text::Text;
 use std::alloc::AllocError;
@@ -12,22 +13,29 @@ use std::cmp::Ordering;
 use std::fmt;
 use std::marker::Model;
 use std::sync::ledger::Ledger;
+use tree_bytes::{cmp_headed, eq_headed, head_of};
 use tree_index::{IndexKey, Judge, SameClone, Steps};
 
 /// Bytes that are a key. Their order is that of the first difference, a prefix first.
 ///
-/// Contracts see the list of them, as they see a `&[u8]`. Made of a `Vec<u8>`, whose memory they keep.
+/// Contracts see the list of them, as they see a `&[u8]`. Made of a `Vec<u8>`, whose memory they
+/// keep. The first eight bytes are kept beside the pointer too, as a number, so a comparison that
+/// they decide reads no other memory.
 #[derive(Drop)]
 pub struct Bytes {
+    head: u64,
     bytes: Vec<u8>,
 }
 
 impl Model for Bytes {
     ghost use Rattle.std.specs.Prelude.{ℕ, List};
+    ghost use Rattle.tree_bytes.specs.Head.{HasHead};
 
     ghost Value = { List ℕ };
 
     ghost view = { λ a. a.bytes.items };
+
+    ghost invariant = { λ a. HasHead a.head a.bytes.items };
 }
 
 impl Bytes {
@@ -36,6 +44,14 @@ impl Bytes {
         ensures { result.now ≡ self.now }
     {
         self.bytes.as_slice()
+    }
+
+    /// Returns the first eight bytes as a number.
+    #[inline(always)]
+    pub(crate) fn head(&self) -> u64
+        ensures { HasHead result self.now }
+    {
+        self.head
     }
 
     /// Returns the bytes. Runs in constant time, and allocates nothing.
@@ -50,7 +66,10 @@ impl From<Vec<u8>> for Bytes {
     ghost from_gives = { λ bytes key. key ≡ bytes.items };
 
     fn from(bytes: Vec<u8>) -> Bytes {
-        Bytes { bytes }
+        Bytes {
+            head: head_of(bytes.as_slice()),
+            bytes,
+        }
     }
 }
 
@@ -59,7 +78,10 @@ impl Clone for Bytes {
 
     fn clone(&self) -> Result<Bytes, AllocError> {
         let bytes = self.bytes.clone()?;
-        Ok(Bytes { bytes })
+        Ok(Bytes {
+            head: self.head,
+            bytes,
+        })
     }
 }
 
@@ -69,7 +91,12 @@ impl PartialEq for Bytes {
     ghost laws = { partial_equiv_from_equiv nat_list_eq_equiv };
 
     fn eq(&self, other: &Self) -> bool {
-        self.as_slice() == other.as_slice()
+        eq_headed(
+            self.head,
+            self.bytes.as_slice(),
+            other.head,
+            other.bytes.as_slice(),
+        )
     }
 }
 
@@ -96,8 +123,14 @@ impl Ord for Bytes {
 
     ghost matches_eq = { texts_ties };
 
+    #[inline(always)]
     fn cmp(&self, other: &Self) -> Ordering {
-        self.as_slice().cmp(other.as_slice())
+        cmp_headed(
+            self.head,
+            self.bytes.as_slice(),
+            other.head,
+            other.bytes.as_slice(),
+        )
     }
 }
 
@@ -123,8 +156,10 @@ impl fmt::Debug for Bytes {
 /// The judge of bytes that are lent, among keys that own theirs. Allocates nothing.
 #[derive(Drop)]
 pub struct BytesJudge<'k, L: Ledger> {
+    head: u64,
     bytes: &'k [u8],
     steps: Steps<L>,
+    ghost headed: { HasHead head bytes.now },
 }
 
 impl<'k, L: Ledger> BytesJudge<'k, L> {
@@ -133,7 +168,11 @@ impl<'k, L: Ledger> BytesJudge<'k, L> {
         ensures bytes { result.bytes.now ≡ bytes.now }
         ensures steps { result.steps ≡ steps }
     {
-        BytesJudge { bytes, steps }
+        BytesJudge {
+            head: head_of(bytes),
+            bytes,
+            steps,
+        }
     }
 }
 
@@ -144,7 +183,7 @@ impl<L: Ledger> Judge<Bytes> for BytesJudge<'_, L> {
 
     fn judge(&mut self, stored: &Bytes) -> Ordering {
         self.steps.tick();
-        self.bytes.cmp(stored.as_slice())
+        cmp_headed(self.head, self.bytes, stored.head(), stored.as_slice())
     }
 }
 
@@ -156,6 +195,11 @@ impl<L: Ledger> Judge<Text> for BytesJudge<'_, L> {
 
     fn judge(&mut self, stored: &Text) -> Ordering {
         self.steps.tick();
-        self.bytes.cmp(stored.as_str().as_bytes())
+        cmp_headed(
+            self.head,
+            self.bytes,
+            stored.head(),
+            stored.as_str().as_bytes(),
+        )
     }
 }

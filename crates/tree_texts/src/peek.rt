@@ -11,7 +11,8 @@ use std::marker::Brand;
 use std::sync::ledger::{Blank, Ledger};
 use tree_index::{Seeks, Steps, TreeIndexOf};
 
-/// Returns the pair with a text as its key. Costs what [`peek`](TreeIndexOf::peek) does, and allocates nothing.
+/// Returns the pair with a text as its key. Costs what [`peek`](TreeIndexOf::peek) does, and
+/// allocates nothing.
 pub fn peek_text<'t, V: Drop, const LEN: usize>(
     index: &'t TreeIndexOf<Text, V, LEN>,
     text: &str,
@@ -36,7 +37,8 @@ fn text_by<'t, V: Drop, S: Seeks<Text, V>, L: Ledger>(
     index.seek(&mut judge)
 }
 
-/// Returns the pair with bytes as its key. Costs what [`peek`](TreeIndexOf::peek) does, and allocates nothing.
+/// Returns the pair with bytes as its key. Costs what [`peek`](TreeIndexOf::peek) does, and
+/// allocates nothing.
 pub fn peek_bytes<'t, V: Drop, const LEN: usize>(
     index: &'t TreeIndexOf<Bytes, V, LEN>,
     bytes: &[u8],

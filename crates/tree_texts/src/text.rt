@@ -5,28 +5,36 @@ ghost use Rattle.std.specs.Cmp.Lexicographic.{pointwise, slice_cmp, nat_list_eq_
 ghost use Rattle.std.specs.Ordering.{nat_cmp};
 ghost use Rattle.std.proofs.Common.{sym};
 ghost use Rattle.tree_model.specs.Keys.{equal_texts};
+ghost use Rattle.tree_bytes.specs.Head.{HasHead};
 
 use std::alloc::AllocError;
 use std::cmp::Ordering;
 use std::fmt;
 use std::marker::Model;
 use std::sync::ledger::Ledger;
+use tree_bytes::{cmp_headed, eq_headed, head_of};
 use tree_index::{IndexKey, Judge, SameClone, Steps};
 
 /// A text that is a key. Its order is that of its bytes.
 ///
 /// Contracts see it as its bytes, as they see a `&str`. Made of a `String`, whose memory it keeps.
+/// The first eight bytes are kept beside the pointer too, as a number, so a comparison that they
+/// decide reads no other memory.
 #[derive(Drop)]
 pub struct Text {
+    head: u64,
     text: String,
 }
 
 impl Model for Text {
     ghost use Rattle.std.specs.Prelude.{ℕ, List, string_bytes};
+    ghost use Rattle.tree_bytes.specs.Head.{HasHead};
 
     ghost Value = { List ℕ };
 
     ghost view = { λ a. string_bytes a.text };
+
+    ghost invariant = { λ a. HasHead a.head (string_bytes a.text) };
 }
 
 impl Text {
@@ -35,6 +43,14 @@ impl Text {
         ensures { result.now ≡ self.now }
     {
         self.text.as_str()
+    }
+
+    /// Returns the first eight bytes as a number.
+    #[inline(always)]
+    pub(crate) fn head(&self) -> u64
+        ensures { HasHead result self.now }
+    {
+        self.head
     }
 
     /// Returns the text. Runs in constant time, and allocates nothing.
@@ -49,7 +65,10 @@ impl From<String> for Text {
     ghost from_gives = { λ text key. key ≡ string_bytes text };
 
     fn from(text: String) -> Text {
-        Text { text }
+        Text {
+            head: head_of(text.as_bytes()),
+            text,
+        }
     }
 }
 
@@ -58,7 +77,10 @@ impl Clone for Text {
 
     fn clone(&self) -> Result<Text, AllocError> {
         let text = self.text.clone()?;
-        Ok(Text { text })
+        Ok(Text {
+            head: self.head,
+            text,
+        })
     }
 }
 
@@ -68,7 +90,12 @@ impl PartialEq for Text {
     ghost laws = { partial_equiv_from_equiv nat_list_eq_equiv };
 
     fn eq(&self, other: &Self) -> bool {
-        self.as_str() == other.as_str()
+        eq_headed(
+            self.head,
+            self.text.as_bytes(),
+            other.head,
+            other.text.as_bytes(),
+        )
     }
 }
 
@@ -95,8 +122,14 @@ impl Ord for Text {
 
     ghost matches_eq = { texts_ties };
 
+    #[inline(always)]
     fn cmp(&self, other: &Self) -> Ordering {
-        self.as_str().cmp(other.as_str())
+        cmp_headed(
+            self.head,
+            self.text.as_bytes(),
+            other.head,
+            other.text.as_bytes(),
+        )
     }
 }
 
@@ -128,8 +161,10 @@ impl fmt::Debug for Text {
 /// The judge of a text that is lent, among keys that own theirs. Allocates nothing.
 #[derive(Drop)]
 pub struct TextJudge<'k, L: Ledger> {
+    head: u64,
     text: &'k str,
     steps: Steps<L>,
+    ghost headed: { HasHead head text.now },
 }
 
 impl<'k, L: Ledger> TextJudge<'k, L> {
@@ -138,7 +173,11 @@ impl<'k, L: Ledger> TextJudge<'k, L> {
         ensures text { result.text.now ≡ text.now }
         ensures steps { result.steps ≡ steps }
     {
-        TextJudge { text, steps }
+        TextJudge {
+            head: head_of(text.as_bytes()),
+            text,
+            steps,
+        }
     }
 }
 
@@ -149,6 +188,11 @@ impl<L: Ledger> Judge<Text> for TextJudge<'_, L> {
 
     fn judge(&mut self, stored: &Text) -> Ordering {
         self.steps.tick();
-        self.text.cmp(stored.as_str())
+        cmp_headed(
+            self.head,
+            self.text.as_bytes(),
+            stored.head(),
+            stored.as_str().as_bytes(),
+        )
     }
 }
