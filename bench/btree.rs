@@ -34,11 +34,23 @@ enum Workload {
     RangesOf100,
     Nearest,
     CloneAndDrop,
-    InsertText,
-    PeekText,
+    InsertText(Spelling),
+    PeekText(Spelling),
+    WalkText(Spelling),
 }
 
-const ALL: [(Workload, &str); 22] = [
+/// How random keys that are texts are spelled.
+#[derive(Clone, Copy)]
+enum Spelling {
+    Digits,
+    Path,
+    Word,
+}
+
+use Spelling::{Digits, Path, Word};
+
+// The rows of strings, of keys of text and of keys of bytes are the same here.
+const ALL: [(Workload, &str); 35] = [
     (Workload::InsertAscending, "insert_ascending"),
     (Workload::AppendAscending, "append_ascending"),
     (Workload::InsertRandom, "insert_random"),
@@ -59,8 +71,21 @@ const ALL: [(Workload, &str); 22] = [
     (Workload::RangesOf100, "ranges_of_100"),
     (Workload::Nearest, "nearest"),
     (Workload::CloneAndDrop, "clone_and_drop"),
-    (Workload::InsertText, "insert_text"),
-    (Workload::PeekText, "peek_text"),
+    (Workload::InsertText(Digits), "insert_string"),
+    (Workload::PeekText(Digits), "peek_string"),
+    (Workload::InsertText(Digits), "insert_text"),
+    (Workload::PeekText(Digits), "peek_text"),
+    (Workload::WalkText(Digits), "walk_text"),
+    (Workload::InsertText(Digits), "insert_bytes"),
+    (Workload::PeekText(Digits), "peek_bytes"),
+    (Workload::InsertText(Path), "insert_string_paths"),
+    (Workload::PeekText(Path), "peek_string_paths"),
+    (Workload::InsertText(Path), "insert_text_paths"),
+    (Workload::PeekText(Path), "peek_text_paths"),
+    (Workload::InsertText(Word), "insert_string_words"),
+    (Workload::PeekText(Word), "peek_string_words"),
+    (Workload::InsertText(Word), "insert_text_words"),
+    (Workload::PeekText(Word), "peek_text_words"),
 ];
 
 struct Numbers {
@@ -97,8 +122,30 @@ fn ascending(first: usize, end: usize) -> Vec<u64> {
     (first..end).map(|number| number as u64).collect()
 }
 
-fn texts(numbers: &[u64]) -> Vec<String> {
-    numbers.iter().map(|number| format!("{number:016x}")).collect()
+/// Spells random numbers, each with its place.
+fn texts(spelling: Spelling, numbers: &[(u64, u64)]) -> Vec<String> {
+    numbers
+        .iter()
+        .map(|&(number, place)| match spelling {
+            Spelling::Digits => format!("{number:016x}"),
+            Spelling::Path => format!("/srv/data/customers/{number:016x}"),
+            Spelling::Word => {
+                let front = letters(place.wrapping_mul(0x9e37_79b1), 4);
+                front + &letters(number / 9, number % 9)
+            }
+        })
+        .collect()
+}
+
+/// So many letters and digits, five bits of the number each.
+fn letters(number: u64, count: u64) -> String {
+    (0..count)
+        .scan(number, |rest, _| {
+            let letter = char::from_digit((*rest % 32) as u32, 36);
+            *rest /= 32;
+            letter
+        })
+        .collect()
 }
 
 fn insert_all<K: Ord>(map: &mut BTreeMap<K, u64>, keys: Vec<K>) -> u64 {
@@ -210,7 +257,7 @@ impl<K: Ord + Clone> Scene<K> {
     fn run(&mut self, workload: Workload) -> u64 {
         let coming = take(&mut self.coming);
         match workload {
-            Workload::PeekHit | Workload::PeekMiss | Workload::PeekText => {
+            Workload::PeekHit | Workload::PeekMiss | Workload::PeekText(_) => {
                 peek_all(&self.map, &self.asked)
             }
             Workload::ModifyRandom => modify_all(&mut self.map, &self.asked),
@@ -220,7 +267,9 @@ impl<K: Ord + Clone> Scene<K> {
             Workload::CutByRetain => retain_others(&mut self.map, &self.asked),
             Workload::CutBySplitOff => split_off_middle(&mut self.map, &self.asked),
             Workload::BuildAndDrop => insert_all(&mut BTreeMap::new(), coming),
-            Workload::WalkAscending | Workload::WalkRandom => walk(self.map.values()),
+            Workload::WalkAscending | Workload::WalkRandom | Workload::WalkText(_) => {
+                walk(self.map.values())
+            }
             Workload::WalkBackAscending | Workload::WalkBackRandom => walk(self.map.values().rev()),
             Workload::RangesOf100 => walk_ranges(&self.map, &self.asked),
             Workload::Nearest => locate_all(&self.map, &self.asked),
@@ -278,21 +327,23 @@ fn scene_of_numbers(workload: Workload, size: usize) -> Scene<u64> {
     }
 }
 
-fn scene_of_texts(workload: Workload, size: usize) -> Scene<String> {
+fn scene_of_texts(workload: Workload, spelling: Spelling, size: usize) -> Scene<String> {
     let mut source = Numbers::new();
-    let mut numbers = source.list(size);
-    let keys = texts(&numbers);
+    let mut numbers: Vec<(u64, u64)> = source.list(size).into_iter().zip(0..).collect();
+    let keys = texts(spelling, &numbers);
     source.shuffle(&mut numbers);
-    let order = texts(&numbers);
+    let order = texts(spelling, &numbers);
     match workload {
-        Workload::PeekText => Scene::filled(keys, Vec::new(), order),
-        _ => Scene::empty(keys, order),
+        Workload::InsertText(_) => Scene::empty(keys, order),
+        _ => Scene::filled(keys, Vec::new(), order),
     }
 }
 
 fn measure(workload: Workload, size: usize) -> (Duration, usize, u64) {
     match workload {
-        Workload::InsertText | Workload::PeekText => scene_of_texts(workload, size).measure(workload),
+        Workload::InsertText(spelling) | Workload::PeekText(spelling) | Workload::WalkText(spelling) => {
+            scene_of_texts(workload, spelling, size).measure(workload)
+        }
         _ => scene_of_numbers(workload, size).measure(workload),
     }
 }
