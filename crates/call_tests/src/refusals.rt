@@ -3,7 +3,7 @@
 use std::alloc::{AllocError, Global};
 use std::iter::Extend;
 use std::process::Abort;
-use test_support::refusals::{begins, ends, expect_granted};
+use test_support::refusals::{begins, ends, is_granted_again};
 use tree_index::{InsertError, SmallTreeIndex, TreeIndex, TreeIndexOf};
 use tree_support::{Numbers, OwnScenario, ascend, flaws, succeeds_by_own_calls};
 
@@ -291,7 +291,8 @@ impl<'r> Making<'r> {
             return Ok(());
         }
         let is_granted = self.is_granted(rt, index)?;
-        expect_granted(rt, self.alloc, self.call.name(), is_granted)
+        assert!(rt; is_granted_again(self.alloc, self.call.name(), is_granted)?);
+        Ok(())
     }
 
     /// Makes the call once. Returns whether it could allocate.

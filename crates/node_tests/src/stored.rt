@@ -1,7 +1,7 @@
 //! What a test keeps beside a tree.
 use std::alloc::{AllocError, Global};
 use std::process::Abort;
-use test_support::refusals::{begins, ends, expect_granted};
+use test_support::refusals::{begins, ends, is_granted_again};
 
 /// The pairs that a tree should have, in the order of their keys, and whether memory was refused.
 #[derive(Drop)]
@@ -63,7 +63,8 @@ impl Stored {
         is_granted: bool,
     ) -> Result<(), AllocError> {
         self.refused = true;
-        expect_granted(rt, self.alloc, call, is_granted)
+        assert!(rt; is_granted_again(self.alloc, call, is_granted)?);
+        Ok(())
     }
 
     /// `Err` if memory was refused.

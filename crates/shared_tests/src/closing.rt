@@ -11,7 +11,7 @@ use std::sync::Wait;
 use std::sync::ledger::Ledger;
 use std::thread::Threads;
 use std::time::Clock;
-use test_support::refusals::{expect_granted, succeeds};
+use test_support::refusals::{is_granted_again, succeeds};
 use tree_index::{Command, Record, Reply, TreeIndex};
 use tree_shared::{Closed, Pass, SharedTreeIndex, Tally, Unclosed};
 
@@ -44,7 +44,7 @@ fn make_twice<R: Threads + Wait + Clock + Abort + Sync>(
         return Ok(());
     }
     let is_granted = play(rt, alloc, 2, Scenario::New).is_ok();
-    expect_granted(rt, alloc, NEW, is_granted)?;
+    assert!(rt; is_granted_again(alloc, NEW, is_granted)?);
     Err(AllocError)
 }
 

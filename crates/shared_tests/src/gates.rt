@@ -8,7 +8,7 @@ use std::sync::atomic::{AtomicBool, AtomicU64, Ordering};
 use std::thread;
 use std::thread::Threads;
 use std::time::{Clock, Duration};
-use test_support::refusals::{begins, ends, expect_granted, succeeds};
+use test_support::refusals::{begins, ends, is_granted_again, succeeds};
 use tree_index::{Command, Record};
 use tree_workers::{Gate, OpenGate, StormError, run_workers};
 
@@ -165,7 +165,7 @@ fn run_twice<R: Threads + Wait + Abort + Sync>(rt: &R, alloc: Global) -> Result<
     if is_answered(rt, alloc) {
         return Ok(());
     }
-    expect_granted(rt, alloc, "run_workers", is_answered(rt, alloc))?;
+    assert!(rt; is_granted_again(alloc, "run_workers", is_answered(rt, alloc))?);
     Err(AllocError)
 }
 

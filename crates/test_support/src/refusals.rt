@@ -1,6 +1,5 @@
 //! Tests of which requests for memory are refused.
 use std::alloc::{AllocError, Global};
-use std::process::Abort;
 
 /// Returns whether the steps of a test succeed, at once or, where memory was refused on the way, the second time.
 ///
@@ -18,20 +17,15 @@ pub fn is_out_of_memory(alloc: Global) -> bool {
     Vec::<u8>::with_capacity(alloc, 1).is_err()
 }
 
-/// Asserts that a call of this name, which was made again after an allocation failed in it, could allocate this time.
+/// Returns whether a call of this name, which was made again after an allocation failed in it, could allocate this time.
 /// Returns `Err` if nothing can be allocated any more, so that it couldn't.
-pub fn expect_granted(
-    rt: &impl Abort,
-    alloc: Global,
-    call: &str,
-    is_granted: bool,
-) -> Result<(), AllocError> {
+pub fn is_granted_again(alloc: Global, call: &str, is_granted: bool) -> Result<bool, AllocError> {
     if is_granted {
         answers_again(alloc, call);
-        return Ok(());
+    } else if is_out_of_memory(alloc) {
+        return Err(AllocError);
     }
-    assert!(rt; is_out_of_memory(alloc), "{call} is refused again");
-    Err(AllocError)
+    Ok(is_granted)
 }
 
 // How `bench/refusals` learns which call makes a request: `bench/refuse.c`, which stands before the allocator, knows a

@@ -3,7 +3,7 @@ use crate::cursors::said::{Said, make, numbers, said_by};
 use std::alloc::{AllocError, Global};
 use std::ops::Bound;
 use std::process::Abort;
-use test_support::refusals::{begins, ends, expect_granted, succeeds};
+use test_support::refusals::{begins, ends, is_granted_again, succeeds};
 use tree_index::{
     Cursor, IterOf, Move, ProximityOf, Range, RangeOf, TreeIndex, TreeIndexOf, run_moves,
 };
@@ -246,7 +246,8 @@ fn expect_at_once<'t, C: Cursor<'t, u64, u64>>(
         return Ok(());
     }
     let is_made = makes_at_once(rt, alloc, cursor, moves, answers);
-    expect_granted(rt, alloc, RUN_MOVES, is_made)
+    assert!(rt; is_granted_again(alloc, RUN_MOVES, is_made)?);
+    Ok(())
 }
 
 const RUN_MOVES: &str = "run_moves";

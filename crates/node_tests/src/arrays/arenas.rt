@@ -4,7 +4,7 @@ ghost use Rattle.tree_array.specs.Length.{IsLen};
 use crate::arrays::expect::expect_eq;
 use std::alloc::{AllocError, Global};
 use std::process::Abort;
-use test_support::refusals::{begins, ends, expect_granted, succeeds};
+use test_support::refusals::{begins, ends, is_granted_again, succeeds};
 use tree_array::array::InsertResult;
 use tree_leaf::arena::{Slots, SlotsOf};
 use tree_leaf::leaf::{Leaf, LeafOf};
@@ -148,7 +148,7 @@ fn adds_leaf<const LEN: usize>(
         return Ok(false);
     };
     let again = adds_leaf_once(rt, alloc, arenas, number, back);
-    expect_granted(rt, alloc, ADD_LEAF, again.is_none())?;
+    assert!(rt; is_granted_again(alloc, ADD_LEAF, again.is_none())?);
     Ok(true)
 }
 
@@ -188,7 +188,7 @@ fn adds_node<const LEN: usize>(
         return Ok(false);
     }
     let again = is_refused_a_node(rt, alloc, arenas, number);
-    expect_granted(rt, alloc, ADD_NODE, !again)?;
+    assert!(rt; is_granted_again(alloc, ADD_NODE, !again)?);
     Ok(true)
 }
 
@@ -218,7 +218,7 @@ fn reserves<const LEN: usize>(
         return Ok(false);
     }
     let again = is_refused_places(rt, alloc, arenas);
-    expect_granted(rt, alloc, RESERVE, !again)?;
+    assert!(rt; is_granted_again(alloc, RESERVE, !again)?);
     Ok(true)
 }
 

@@ -3,7 +3,7 @@ use crate::refusals::writes::ascending;
 use std::alloc::{AllocError, Global};
 use std::ops::Bound;
 use std::process::Abort;
-use test_support::refusals::{begins, ends, expect_granted, succeeds};
+use test_support::refusals::{begins, ends, is_granted_again, succeeds};
 use tree_index::{Command, InsertError, Reply};
 use tree_state::StateOf;
 use tree_support::flaws;
@@ -99,7 +99,7 @@ fn apply_twice(
         return Ok(reply);
     }
     let reply = applied(rt, alloc, state, pairs, command);
-    expect_granted(rt, alloc, name_of(&command), reply.is_some())?;
+    assert!(rt; is_granted_again(alloc, name_of(&command), reply.is_some())?);
     reply.ok_or(AllocError)
 }
 
@@ -132,7 +132,8 @@ fn insert_twice(
         return Ok(());
     }
     let is_granted = !is_refused_once(rt, alloc, state);
-    expect_granted(rt, alloc, INSERT, is_granted)
+    assert!(rt; is_granted_again(alloc, INSERT, is_granted)?);
+    Ok(())
 }
 
 /// A command, its reply, and the pairs after it.

@@ -2,7 +2,7 @@
 use crate::refusals::writes::ascending;
 use std::alloc::{AllocError, Global};
 use std::process::Abort;
-use test_support::refusals::{begins, ends, expect_granted};
+use test_support::refusals::{begins, ends, is_granted_again};
 use tree_index::{Command, Reply, TreeIndexOf};
 use tree_runs::run;
 use tree_support::{Numbers, OwnScenario, flaws, succeeds_by_own_calls};
@@ -71,7 +71,8 @@ fn run_twice(
         return Ok(());
     }
     let is_stored = run_once(rt, alloc, index, pairs, key)?;
-    expect_granted(rt, alloc, RUN, is_stored)
+    assert!(rt; is_granted_again(alloc, RUN, is_stored)?);
+    Ok(())
 }
 
 /// So many ascending keys, at fifteen pairs a leaf and at seven, that the next one makes a leaf and a root, splits a leaf, splits

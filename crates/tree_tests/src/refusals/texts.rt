@@ -3,7 +3,7 @@ use crate::refusals::histories::{INSERT, name_of};
 use std::alloc::{AllocError, Global};
 use std::ops::Bound;
 use std::process::Abort;
-use test_support::refusals::{begins, ends, expect_granted, succeeds};
+use test_support::refusals::{begins, ends, is_granted_again, succeeds};
 use tree_index::{Command, InsertError, Reply, TreeIndex};
 use tree_runs::run;
 use tree_state::State;
@@ -98,7 +98,7 @@ fn pass_twice(
         return Ok(reply);
     }
     let reply = passed(rt, alloc, state, way, command, pairs)?;
-    expect_granted(rt, alloc, name(way, command), reply.is_some())?;
+    assert!(rt; is_granted_again(alloc, name(way, command), reply.is_some())?);
     reply.ok_or(AllocError)
 }
 
@@ -309,7 +309,8 @@ fn run_twice(
         return Ok(());
     }
     let is_answered = run_once(rt, alloc, index, pairs)?;
-    expect_granted(rt, alloc, RUN, is_answered)
+    assert!(rt; is_granted_again(alloc, RUN, is_answered)?);
+    Ok(())
 }
 
 /// Stores clones of all pairs but the last.

@@ -3,7 +3,7 @@ use crate::refusals::keys::Named;
 use std::alloc::{AllocError, Global};
 use std::ops::Bound;
 use std::process::Abort;
-use test_support::refusals::{begins, ends, expect_granted};
+use test_support::refusals::{begins, ends, is_granted_again};
 use tree_index::{InsertError, TreeIndexOf};
 
 /// An index of names.
@@ -237,7 +237,8 @@ pub(crate) fn write_twice(
         return Ok(());
     };
     let back = write_once(rt, alloc, index, pairs, by, key);
-    expect_granted(rt, alloc, by.name(), back.is_none())
+    assert!(rt; is_granted_again(alloc, by.name(), back.is_none())?);
+    Ok(())
 }
 
 /// The pairs of the keys up to the last one. The value at each key is its number.
