@@ -20,6 +20,11 @@ use tree_index::{RangeOf, TreeIndexOf};
 /// 255, or if the prefix is empty.
 ///
 /// Returns `Err` if it cannot allocate the bounds.
+///
+/// ```
+/// let bounds = prefix_bounds(alloc, prefix)?;
+/// Ok(prefix_range(lengths, &bounds).count())
+/// ```
 pub fn prefix_bounds(
     alloc: Global,
     prefix: &[u8],
@@ -54,6 +59,10 @@ pub fn prefix_range<'t, V: Drop, const LEN: usize>(
 ///
 /// Returns `Err` if it cannot allocate the bounds of the prefix. No pair is removed then. Descends
 /// once, and then costs what [`remove_range_sync`](TreeIndexOf::remove_range_sync) does.
+///
+/// ```
+/// let found = remove_prefix(alloc, &mut lengths, *prefix)?;
+/// ```
 #[tactic(auto, using(tree_node::proofs::Sizes::fits))]
 pub fn remove_prefix<V: Drop, const LEN: usize>(
     alloc: Global,

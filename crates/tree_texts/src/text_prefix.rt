@@ -23,10 +23,8 @@ use tree_index::{RangeOf, TreeIndexOf};
 /// Returns `Err` if it cannot allocate the bounds.
 ///
 /// ```
-/// let bounds = text_prefix_bounds(alloc, "plum")?;
-/// for (word, count) in text_prefix_range(counts, &bounds) {
-///     println!(rt; "{word}: {count}")?;
-/// }
+/// let bounds = text_prefix_bounds(alloc, prefix)?;
+/// let mut there = text_prefix_range(lengths, &bounds);
 /// ```
 pub fn text_prefix_bounds(
     alloc: Global,
@@ -62,6 +60,10 @@ pub fn text_prefix_range<'t, V: Drop, const LEN: usize>(
 ///
 /// Returns `Err` if it cannot allocate the bounds of the prefix. No pair is removed then. Descends
 /// once, and then costs what [`remove_range_sync`](TreeIndexOf::remove_range_sync) does.
+///
+/// ```
+/// let found = remove_text_prefix(alloc, &mut lengths, *prefix)?;
+/// ```
 #[tactic(auto, using(tree_node::proofs::Sizes::fits))]
 pub fn remove_text_prefix<V: Drop, const LEN: usize>(
     alloc: Global,
