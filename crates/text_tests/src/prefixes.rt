@@ -82,7 +82,7 @@ fn walks_and_removes_words(rt: &impl Abort, alloc: Global) -> Result<(), AllocEr
         let found = remove_text_prefix(alloc, &mut lengths, *prefix)?;
         assert!(rt; found != wanted.is_empty());
         assert!(rt; walks_words(alloc, &lengths, *prefix, &[])?);
-        assert!(rt; lengths.len() as usize + wanted.len() == WORDS.len());
+        assert!(rt; lengths.len().saturating_add(wanted.len()) == WORDS.len());
     }
     Ok(())
 }
@@ -134,7 +134,11 @@ fn bytes_with(
     prefix: &[u8],
 ) -> Result<usize, AllocError> {
     let bounds = prefix_bounds(alloc, prefix)?;
-    Ok(prefix_range(lengths, &bounds).count())
+    let mut count: usize = 0;
+    for _pair in prefix_range(lengths, &bounds) {
+        count = count.saturating_add(1);
+    }
+    Ok(count)
 }
 
 /// Counts the bytes of each row, and removes them.
@@ -145,7 +149,7 @@ fn counts_and_removes_bytes(rt: &impl Abort, alloc: Global) -> Result<(), AllocE
         let found = remove_prefix(alloc, &mut lengths, *prefix)?;
         assert!(rt; found == (*wanted > 0));
         assert!(rt; bytes_with(alloc, &lengths, *prefix)? == 0);
-        assert!(rt; lengths.len() as usize + *wanted == BYTES.len());
+        assert!(rt; lengths.len().saturating_add(*wanted) == BYTES.len());
     }
     Ok(())
 }
