@@ -23,7 +23,10 @@ use tree_index::{RangeOf, TreeIndexOf};
 ///
 /// ```
 /// let bounds = prefix_bounds(alloc, prefix)?;
-/// Ok(prefix_range(lengths, &bounds).count())
+/// let mut count: usize = 0;
+/// for _pair in prefix_range(lengths, &bounds) {
+///     count = count.saturating_add(1);
+/// }
 /// ```
 pub fn prefix_bounds(
     alloc: Global,
