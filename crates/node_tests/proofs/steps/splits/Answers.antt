@@ -9,6 +9,3 @@ expect_pairs-requires g c = search fits
 
 pub splits_once-split-requires : goal.splits_once-split-requires
 splits_once-split-requires g c = search fits
-
-pub made_again-requires : goal.made_again-requires
-made_again-requires g c = search fits
