@@ -1,5 +1,5 @@
 -- How a storm ends.
-use Rattle.std.proofs.Common.{◌≡◌, ◌⊎◌, ℕ, ◌*◌, List, Option, Result, Ok, Err, IfOk, IfErr, OnOk, OnErr, inl, inr, refl, sym, nat_cmp}
+use Rattle.std.proofs.Common.{◌≡◌, ◌⊎◌, ℕ, ◌*◌, List, Option, Result, Ok, Err, IfOk, IfErr, OnOk, OnErr, inl, inr, refl, subst, arith, nat_cmp}
 use Rattle.tree_model.specs.History.{IsHistoryOf}
 use Rattle.tree_model.specs.declared.commands.Record.{Record}
 use Rattle.tree_requests.specs.Writing.{Writes}
@@ -23,5 +23,16 @@ module _ {T E : Type 0} (x y : Option (List ℕ)) (ended : Result T E) (result :
       ended_so : (end : Result T E) → IfErr end (λ e. WritesEnd refused_line 3 x y result)
           → IfOk end (λ c. IsHistoryOf nat_cmp (λ (n : ℕ). n) (λ (n : ℕ). n) (history c) (pairs c)) → IfOk end (λ c. told c ≡ tally (history c)) → IfOk end (λ c. OnlyInserts (storm.0 * storm.1) (told c))
           → IfOk end (λ c. WritesEnd (line_of (history c) (pairs c)) 0 x y result) → RunsStorm storm x y result
-      ended_so (Ok c) failed replays is inserts wrote = (line_of (history c) (pairs c), 0, inl (history c, pairs c, (replays, rw (sym is) inserts), refl, refl), wrote)
+      ended_so (Ok c) failed replays is inserts wrote = (line_of (history c) (pairs c), 0, inl (history c, pairs c, (replays, subst (OnlyInserts (storm.0 * storm.1)) is inserts), refl, refl), wrote)
       ended_so (Err e) failed replays is inserts wrote = (refused_line, 3, inr (refl, refl), failed)
+
+  -- a storm that ended with status 0 was closed
+  pub ended_well : (P : Type 0) → IfOk ended (λ _. P) → result ≡ 0 → P
+  ended_well P passed well = ended_so ended refused passed
+    where
+      not_refused : WritesEnd refused_line 3 x y result → P
+      not_refused (inl out) = absurd (omega (arith, out.1, well))
+      not_refused (inr out) = absurd (omega (arith, out.3, well))
+      ended_so : (end : Result T E) → IfErr end (λ e. WritesEnd refused_line 3 x y result) → IfOk end (λ _. P) → P
+      ended_so (Ok c) failed passed = passed
+      ended_so (Err e) failed passed = not_refused failed

@@ -1,5 +1,6 @@
 //! The storm: threads that fill a shared index, and the line that tells what came of it.
-ghost use Rattle.std.specs.Prelude.{◌≡◌, ◌++◌, false, decimal, map, ForOk, IfErr, IfOk, OnErr, OnOk};
+ghost use Rattle.std.specs.Prelude.{◌≡◌, ◌++◌, false, decimal, map, IfErr, IfOk, OnErr, OnOk};
+ghost use Rattle.std.specs.Result.{ForOk};
 ghost use Rattle.std.specs.String.{string_bytes};
 ghost use Rattle.tree_requests.specs.Writing.{Writes};
 ghost use Rattle.tree_tallies.specs.Tallies.{tally};
