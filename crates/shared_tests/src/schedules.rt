@@ -84,7 +84,7 @@ fn has_replies(history: &[Record<u64, u64>], replies: &[Reply<u64>]) -> bool {
 // Whether a history and tallies can be those of a schedule of which so many commands were refused. One alone is the first
 // one, or the last one, for which the history has to grow; the inserts are refused where no leaf can be allocated but a
 // record can; else all are.
-fn is_told(refused: usize, history: &[Record<u64, u64>], tallies: &[Tally; 2]) -> bool {
+fn are_all_told(refused: usize, history: &[Record<u64, u64>], tallies: &[Tally; 2]) -> bool {
     let [first, second] = tallies;
     let is_counted = history.len() as u64 == first.calls.saturating_add(second.calls);
     let fits = match refused {
@@ -96,6 +96,30 @@ fn is_told(refused: usize, history: &[Record<u64, u64>], tallies: &[Tally; 2]) -
     is_counted && fits
 }
 
+// Runs the schedule. Returns how many commands were refused, and the tallies. `Err` if the schedule can't be allocated.
+fn run_over<const LEN: usize>(
+    alloc: Global,
+    state: &mut StateOf<u64, u64, LEN>,
+) -> Result<(usize, [Tally; 2]), AllocError> {
+    let mut tallies = [NONE, NONE];
+    let commands = schedule(alloc)?;
+    begins(alloc, "run_schedule");
+    let refused = run_schedule(state, commands, &mut tallies);
+    ends(alloc);
+    Ok((refused, tallies))
+}
+
+// Whether a state of so many calls before a schedule, with no pairs then, is as it left it.
+fn is_left<const LEN: usize>(
+    state: &StateOf<u64, u64, LEN>,
+    calls: usize,
+    refused: usize,
+    tallies: &[Tally; 2],
+) -> bool {
+    let history = state.history().get(calls..).unwrap_or(&[]);
+    are_all_told(refused, history, tallies) && state.index().is_empty()
+}
+
 // Runs the schedule over a state without pairs. Returns how many commands were refused, and whether they were answered as
 // they should be. `Err` if the schedule can't be allocated.
 fn run_once<const LEN: usize>(
@@ -103,16 +127,8 @@ fn run_once<const LEN: usize>(
     state: &mut StateOf<u64, u64, LEN>,
 ) -> Result<(usize, bool), AllocError> {
     let calls = state.history().len();
-    let mut tallies = [NONE, NONE];
-    let commands = schedule(alloc)?;
-    begins(alloc, "run_schedule");
-    let refused = run_schedule(state, commands, &mut tallies);
-    ends(alloc);
-    let history = state.history().get(calls..).unwrap_or(&[]);
-    Ok((
-        refused,
-        is_told(refused, history, &tallies) && state.index().is_empty(),
-    ))
+    let (refused, tallies) = run_over(alloc, state)?;
+    Ok((refused, is_left(state, calls, refused, &tallies)))
 }
 
 // Runs the schedule, a second time if a command is refused. Returns whether it is answered as it should be. `Err` if a
@@ -145,7 +161,22 @@ fn run_at_seven(alloc: Global) -> Result<bool, AllocError> {
     run_twice(alloc, &mut state)
 }
 
+// Runs the schedule over a state of its own, and sees that it is answered as it should be. `Err` if a command is refused.
+fn run_anew(rt: &impl Abort, alloc: Global) -> Result<(), AllocError> {
+    let mut state: State<u64, u64> = State::new(alloc);
+    let mut tallies = [NONE, NONE];
+    let commands = schedule(alloc)?;
+    let refused = run_schedule(&mut state, commands, &mut tallies);
+    assert!(rt; are_all_told(refused, state.history(), &tallies));
+    if refused > 0 {
+        return Err(AllocError);
+    }
+    assert!(rt; state.index().is_empty());
+    Ok(())
+}
+
 fn expect_runs(rt: &impl Abort, alloc: Global) -> Result<(), AllocError> {
+    run_anew(rt, alloc)?;
     assert!(rt; run_at_fifteen(alloc)? && run_at_seven(alloc)?);
     Ok(())
 }
