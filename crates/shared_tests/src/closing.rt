@@ -2,23 +2,21 @@
 ghost use Rattle.std.specs.Prelude.{◌≡◌, All};
 ghost use Rattle.tree_tallies.specs.Tallies.{none};
 
-use crate::calls::reply_to;
 use crate::closed::closed_with;
-use crate::scenario::{NEW, Scenario, play};
-use std::alloc::{AllocError, Global};
+use crate::one_worker::reply_to;
+use crate::scenario::{Scenario, play};
+use std::alloc::AllocError;
 use std::process::Abort;
 use std::sync::Wait;
 use std::sync::ledger::Ledger;
-use std::thread::Threads;
-use std::time::Clock;
-use test_support::refusals::{is_granted_again, succeeds};
+use test_support::refusals::succeeds;
 use tree_index::{Command, Record, Reply, TreeIndex};
 use tree_shared::{Closed, Pass, SharedTreeIndex, Tally, Unclosed};
 
 const INSERT: Command<u64, u64> = Command::Insert(1, 10);
 
-/// Whether nothing is counted if no call was made.
-pub(crate) fn closes_without_calls<C: Ledger, S: Ledger, M: Ledger, F: Ledger, D: Ledger>(
+/// Whether nothing is counted with no worker.
+pub(crate) fn closes_without_workers<C: Ledger, S: Ledger, M: Ledger, F: Ledger, D: Ledger>(
     shared: SharedTreeIndex<u64, u64, C, S, M, F, D>,
     passes: Vec<Pass<C, S, M, F, D>>,
 ) -> bool {
@@ -33,24 +31,6 @@ pub(crate) fn closes_without_calls<C: Ledger, S: Ledger, M: Ledger, F: Ledger, D
         Some(closed) => closed.tally == nothing && closed.history.is_empty(),
         None => false,
     }
-}
-
-// Makes an index for two workers, a second time if that is refused. `Err` if it was refused.
-fn make_twice<R: Threads + Wait + Clock + Abort + Sync>(
-    rt: &R,
-    alloc: Global,
-) -> Result<(), AllocError> {
-    if play(rt, alloc, 2, Scenario::New).is_ok() {
-        return Ok(());
-    }
-    let is_granted = play(rt, alloc, 2, Scenario::New).is_ok();
-    assert!(rt; is_granted_again(alloc, NEW, is_granted)?);
-    Err(AllocError)
-}
-
-#[test]
-fn an_index_is_made_again(rt: HostRuntime) {
-    assert!(rt; succeeds(rt.alloc(), || make_twice(&rt, rt.alloc())));
 }
 
 #[test]
@@ -95,7 +75,7 @@ fn insert_by_first<C: Ledger, S: Ledger, M: Ledger, F: Ledger, D: Ledger, R: Wai
     passes: &mut Vec<Pass<C, S, M, F, D>>,
 ) -> Result<Reply<u64>, AllocError> {
     match passes.get_mut(0) {
-        Some(pass) => reply_to(rt, shared, pass, INSERT).map_err(|_| AllocError),
+        Some(pass) => reply_to(rt, shared, pass, &INSERT),
         None => Err(AllocError),
     }
 }

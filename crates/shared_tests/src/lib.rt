@@ -2,19 +2,13 @@
 //! of a schedule of several workers' commands.
 #![tactic(auto)]
 
-#[cfg(test)]
-mod calls;
 pub mod closed;
 #[cfg(test)]
 mod closing;
 #[cfg(test)]
 mod gates;
 #[cfg(test)]
-mod numbered;
-#[cfg(test)]
 mod one_worker;
-#[cfg(test)]
-mod pairs;
 #[cfg(test)]
 mod races;
 #[cfg(test)]

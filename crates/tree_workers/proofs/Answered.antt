@@ -29,6 +29,7 @@ one_started P xs last each end k x is = at (cases_lt k (length xs))
   where
     here : get_or (xs ++ last ∷ []) k x ≡ x
     here = get_or_from_slice_get (xs ++ last ∷ []) k x x is
+
     at : (k < length xs) ⊎ (length xs ≤ k) → P k x
     at (inl before) = each k x (slice_get_read xs (length xs) k x refl before (sym here ∙ get_or_append_left xs (last ∷ []) x k before))
     at (inr beyond) =

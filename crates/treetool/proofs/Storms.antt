@@ -33,6 +33,7 @@ module _ {T E : Type 0} (x y : Option (List ℕ)) (ended : Result T E) (result :
       not_refused : WritesEnd refused_line 3 x y result → P
       not_refused (inl out) = absurd (omega (arith, out.1, well))
       not_refused (inr out) = absurd (omega (arith, out.3, well))
+
       ended_so : (end : Result T E) → IfErr end (λ e. WritesEnd refused_line 3 x y result) → IfOk end (λ _. P) → P
       ended_so (Ok c) failed passed = passed
       ended_so (Err e) failed passed = not_refused failed

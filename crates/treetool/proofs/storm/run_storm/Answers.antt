@@ -9,7 +9,7 @@ returns-clause-line g c =
     let ran = c.run_workers-ended.ensures in
     let wrote = c.write_end.ensures in
     runs_ended _ _ c.run_workers-ended.result _ wrote.refused (λ closed. closed.history.items) (λ closed. closed.index.pairs) (λ closed. closed.tally) (c.args.workers, c.args.pairs)
-        ran.replays ran.tally ran.inserts wrote.closed
+    ran.replays ran.tally ran.inserts wrote.closed
 
 -- with status 0 it was closed, and so no worker was stopped
 pub returns-clause-passed : goal.returns-clause-passed

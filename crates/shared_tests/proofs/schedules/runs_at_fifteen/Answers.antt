@@ -1,6 +1,6 @@
 use Rattle.std.proofs.Common.{ℕ, nat_cmp, arith}
 use Rattle.shared_tests.proofs.Rooms.{zeros_have_room}
-use Rattle.shared_tests.proofs.schedules.run_anew.Goals as goal
+use Rattle.shared_tests.proofs.schedules.runs_at_fifteen.Goals as goal
 
 pub run_schedule-refused-requires : goal.run_schedule-refused-requires
 run_schedule-refused-requires g c = (
