@@ -1,6 +1,6 @@
 //! Tests of the calls on a whole index: a value that is stored where its key is absent, pairs that are stored one after another,
 //! copies, look-ups of texts and with a reader, values that are changed where they stand, removals that return the pair,
-//! equality, order and hashes; and of cursors and of sets.
+//! equality, order and hashes; and of cursors and of sets. In `refusals`, those of calls in which an allocation fails.
 #![tactic(auto)]
 
 #[cfg(test)]
@@ -21,6 +21,8 @@ mod order;
 mod present;
 #[cfg(test)]
 mod readers;
+#[cfg(test)]
+mod refusals;
 #[cfg(test)]
 mod sets;
 #[cfg(test)]
