@@ -4,23 +4,29 @@ use crate::tests::{holds, is_out_of_memory, words_of};
 use crate::tool::tool;
 use std::alloc::{AllocError, Global};
 use std::io::Cursor;
+use std::process::Abort;
 use std::sync::Wait;
 use std::sync::atomic::{AtomicU64, Ordering};
 use std::thread::Threads;
 use tree_workers::Gate;
 
-static STORMS: [(&str, &str); 7] = [
+// The line of a storm, and what it writes.
+type Row = (&'static str, &'static str);
+
+static STORMS: [Row; 5] = [
     ("storm 2 100", "calls 200 stored 100 length 100\n"),
     ("storm 2 0", "calls 0 stored 0 length 0\n"),
     ("storm 3 50", "calls 150 stored 50 length 50\n"),
     ("storm 64 1", "calls 64 stored 1 length 1\n"),
-    ("storm 64 1000", "calls 64000 stored 1000 length 1000\n"),
     ("storm 1 2000", "calls 2000 stored 2000 length 2000\n"),
-    (
-        "storm 1 100000",
-        "calls 100000 stored 100000 length 100000\n",
-    ),
 ];
+
+const MANY_WORKERS: Row = ("storm 64 1000", "calls 64000 stored 1000 length 1000\n");
+
+const MANY_PAIRS: Row = (
+    "storm 1 100000",
+    "calls 100000 stored 100000 length 100000\n",
+);
 
 // A status, and a text.
 type End<'e> = (u8, &'e [u8]);
@@ -59,14 +65,29 @@ fn storm_ends<R: Threads + Wait + Sync>(
     holds(alloc, once)
 }
 
+// Asserts that a storm ends with its row's text.
+fn expect_row<R: Threads + Wait + Abort + Sync>(rt: &R, alloc: Global, (line, text): Row) {
+    assert!(rt;
+        storm_ends(rt, alloc, line, 64, (0, text.as_bytes())),
+        "{line}"
+    );
+}
+
 #[test]
 fn tells_what_was_stored(rt: HostRuntime) {
-    for (line, text) in &STORMS {
-        assert!(rt;
-            storm_ends(&rt, rt.alloc(), line, 64, (0, text.as_bytes())),
-            "{line}"
-        );
+    for row in &STORMS {
+        expect_row(&rt, rt.alloc(), *row);
     }
+}
+
+#[test]
+fn tells_what_many_workers_stored(rt: HostRuntime) {
+    expect_row(&rt, rt.alloc(), MANY_WORKERS);
+}
+
+#[test]
+fn tells_of_many_pairs(rt: HostRuntime) {
+    expect_row(&rt, rt.alloc(), MANY_PAIRS);
 }
 
 // Rooms that end in each part of the line of the first storm, and before and behind it.
