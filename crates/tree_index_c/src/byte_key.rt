@@ -6,6 +6,7 @@ ghost use Rattle.std.specs.Cmp.{partial_order_from_own_ties};
 ghost use Rattle.std.specs.Cmp.Lexicographic.{slice_cmp};
 ghost use Rattle.std.specs.Cmp.Rules.{comparing};
 ghost use Rattle.std.specs.Ordering.{as_partial_cmp, eq_by_cmp, nat_cmp};
+ghost use Rattle.tree_bytes.specs.Head.{HasHead};
 ghost use Rattle.tree_model.specs.Keys.{equal_texts};
 ghost use Rattle.tree_model.specs.Pairs.{Finds};
 
@@ -13,20 +14,28 @@ use std::alloc::{AllocError, Global};
 use std::cmp::Ordering;
 use std::marker::{Brand, Model};
 use std::sync::ledger::{Blank, Ledger};
+use tree_bytes::{cmp_headed, head_of};
 use tree_index::{IndexKey, Judge, Steps, TreeIndex};
 
 /// A string of bytes. Keys are in the order of their first difference, and a prefix comes first.
+///
+/// The first eight bytes are kept beside the pointer too, as a number, so a comparison that they
+/// decide reads no other memory.
 #[derive(Drop)]
 pub struct ByteKey {
+    head: u64,
     bytes: Vec<u8>,
 }
 
 impl Model for ByteKey {
     ghost use Rattle.std.specs.Prelude.{ℕ, List};
+    ghost use Rattle.tree_bytes.specs.Head.{HasHead};
 
     ghost Value = { List ℕ };
 
     ghost view = { λ key. key.bytes.items };
+
+    ghost invariant = { λ key. HasHead key.head key.bytes.items };
 }
 
 impl ByteKey {
@@ -34,8 +43,9 @@ impl ByteKey {
     pub fn from_bytes(alloc: Global, bytes: &[u8]) -> Result<Self, AllocError>
         ensures { IfOk result (λ key. key ≡ bytes.now) }
     {
+        let head = head_of(bytes);
         let bytes = Vec::from_slice(alloc, bytes)?;
-        Ok(ByteKey { bytes })
+        Ok(ByteKey { head, bytes })
     }
 
     /// Returns the bytes.
@@ -52,7 +62,7 @@ impl PartialEq for ByteKey {
     ghost laws = { Prim.search (comparing, rules) };
 
     fn eq(&self, other: &Self) -> bool {
-        self.as_bytes().cmp(&other.as_bytes()).is_eq()
+        self.cmp(other).is_eq()
     }
 }
 
@@ -79,8 +89,9 @@ impl Ord for ByteKey {
 
     ghost matches_eq = { λ x y. refl };
 
+    #[inline(always)]
     fn cmp(&self, other: &Self) -> Ordering {
-        self.as_bytes().cmp(&other.as_bytes())
+        cmp_headed(self.head, self.as_bytes(), other.head, other.as_bytes())
     }
 }
 
@@ -88,8 +99,10 @@ impl Clone for ByteKey {
     ghost is_clone = { λ key clone. clone ≡ key };
 
     fn clone(&self) -> Result<Self, AllocError> {
+        let bytes = self.bytes.clone()?;
         Ok(ByteKey {
-            bytes: self.bytes.clone()?,
+            head: self.head,
+            bytes,
         })
     }
 }
@@ -101,8 +114,10 @@ impl IndexKey for ByteKey {
 /// Bytes that are sought among keys, without a copy, and a count of the comparisons.
 #[derive(Drop)]
 struct SliceJudge<'b, L: Ledger> {
+    head: u64,
     bytes: &'b [u8],
     steps: Steps<L>,
+    ghost headed: { HasHead head bytes.now },
 }
 
 impl<L: Ledger> Judge<ByteKey> for SliceJudge<'_, L> {
@@ -112,7 +127,7 @@ impl<L: Ledger> Judge<ByteKey> for SliceJudge<'_, L> {
 
     fn judge(&mut self, stored: &ByteKey) -> Ordering {
         self.steps.tick();
-        self.bytes.cmp(&stored.as_bytes())
+        cmp_headed(self.head, self.bytes, stored.head, stored.as_bytes())
     }
 }
 
@@ -134,6 +149,7 @@ fn find_counted<'t, L: Ledger>(
     ensures { Finds (slice_cmp nat_cmp) index.now.pairs bytes.now result }
 {
     let mut judge: SliceJudge<L> = SliceJudge {
+        head: head_of(bytes),
         bytes,
         steps: Steps::new(blank),
     };
