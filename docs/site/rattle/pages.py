@@ -16,6 +16,7 @@ from .marked import clause_block, code_block, folded, markdown, signature_nodes,
 
 LOGGER = logging.getLogger(__name__)
 NO_COST = "The source doesn't say."
+LANGUAGES = {"rt": "rattle", "c": "c", "h": "c", "cpp": "cpp", "rs": "rust", "py": "python"}
 # Where an example of a type stands that its own documentation doesn't have: the file and the item.
 EXAMPLES = {
     "TreeIndex": ("crates/usage_book/src/main.rt", "fn book_of"),
@@ -54,6 +55,16 @@ class Page(SphinxDirective):
         """A section with a title."""
         return nodes.section("", nodes.title(title, title), *children, ids=[anchor], names=[])
 
+    def shown(self, path, start):
+        """An item of a file as a block of code, with a link to where it stands."""
+        try:
+            line, text = reader.shown(path, start)
+        except (LookupError, OSError) as flaw:
+            raise self.error(str(flaw))
+        where = [nodes.Text("From "), nodes.literal("", path), nodes.Text(" "), source_link(reader.Place(path, line))]
+        language = LANGUAGES.get(path.rpartition(".")[2], "text")
+        return [code_block(text, language), nodes.paragraph("", "", *where, classes=["from"])]
+
     def fields(self, told):
         """A list of named texts of Markdown."""
         found = nodes.field_list()
@@ -73,7 +84,7 @@ class Page(SphinxDirective):
         name = f"{call.owner}.{call.name}" if call.owner else call.name
         parts = reader.parts_of_call(call)
         if not parts["what"]:
-            LOGGER.warning("%s has no documentation", name, location=(call.file, call.line))
+            LOGGER.warning("%s has no documentation", name, location=f"{call.file}:{call.line}")
         self.note(kind, name, name, " ".join(parts["what"][:1]))
         told = [("Errors", told_errors(call, parts)), ("Cost", markdown(parts["cost"]) or NO_COST)]
         content = [*self.parsed(markdown(parts["what"])), *([self.fields(told)] if kind == "call" else [])]
@@ -138,7 +149,7 @@ class TypePage(Page):
         """What a type is: its declaration, its documentation, an example, and what contracts see of it."""
         parts = reader.parts_of_doc(item.doc, False)
         if not parts["what"]:
-            LOGGER.warning("%s has no documentation", item.name, location=(item.file, item.line))
+            LOGGER.warning("%s has no documentation", item.name, location=f"{item.file}:{item.line}")
         for name in item.names:
             self.note("type", name, item.name, " ".join(parts["what"][:1]))
         others = [f"`{it}`" for it in item.names if it != item.name]
@@ -155,10 +166,7 @@ class TypePage(Page):
             return [code_block(it) for it in own]
         if item.name not in EXAMPLES:
             return []
-        path, start = EXAMPLES[item.name]
-        line, text = reader.shown(path, start)
-        link = nodes.paragraph("", "", nodes.Text("From "), nodes.literal("", path), nodes.Text(" "), source_link(reader.Place(path, line)))
-        return [code_block(text), link]
+        return self.shown(*EXAMPLES[item.name])
 
     def groups(self, item):
         """The calls of a type, by what they do."""

@@ -8,21 +8,10 @@
     Python: a language without an example has a text in its place
     ```
 """
-from docutils import nodes
-
-import reader
-from .marked import code_block, source_link
 from .pages import Page
 
-LANGUAGES = {".rt": "rattle", ".c": "c", ".h": "c", ".cpp": "cpp", ".rs": "rust", ".py": "python", ".md": "text"}
-
-
-def nodes_of(path, start):
-    """An item of a file as a block of code, with a link to where it stands."""
-    line, text = reader.shown(path, start)
-    language = LANGUAGES.get("." + path.rpartition(".")[2], "text")
-    link = nodes.paragraph("", "", nodes.Text("From "), nodes.literal("", path), nodes.Text(" "), source_link(reader.Place(path, line)), classes=["from"])
-    return [code_block(text, language), link]
+# What begins so is a part of a file, and not a text.
+FOLDERS = ("crates/", "bindings/")
 
 
 class Shown(Page):
@@ -32,10 +21,7 @@ class Shown(Page):
 
     def run(self):
         path, _, start = self.arguments[0].partition(" ")
-        try:
-            return nodes_of(path, start)
-        except (LookupError, OSError) as flaw:
-            raise self.error(str(flaw))
+        return self.shown(path, start)
 
 
 class Languages(Page):
@@ -54,8 +40,7 @@ class Languages(Page):
     def tab(self, told):
         """The lines of a tab: one or more items of files, or a text."""
         for item in told.split(" | "):
-            path = item.partition(" ")[0]
-            yield from [f"```{{rattle:shown}} {item}", "```"] if "/" in path and reader.exists(path) else [item]
+            yield from [f"```{{rattle:shown}} {item}", "```"] if item.startswith(FOLDERS) else [item]
             yield ""
 
 
