@@ -6,12 +6,12 @@ use test_support::refusals::succeeds;
 use tree_index::TreeIndex;
 use tree_support::{MoreCalls, Numbers, Scenario, succeeds_at_both_sizes};
 
-/// The length, the depth and the spare.
+// The length, the depth and the spare.
 fn shape_of(index: &impl Numbers) -> (usize, usize, u8) {
     (index.len(), index.depth(), index.spare())
 }
 
-/// Returns whether the value at a key, which is there or isn't, is replaced and changed.
+// Returns whether the value at a key, which is there or isn't, is replaced and changed.
 fn is_changed(index: &mut impl MoreCalls, key: u64, there: bool) -> bool {
     let answers = (index.replace(key, 7), index.add(key, key), index.peek(key));
     let wanted = if there {
@@ -22,7 +22,8 @@ fn is_changed(index: &mut impl MoreCalls, key: u64, there: bool) -> bool {
     answers == wanted
 }
 
-/// Returns whether the value at each key up to one behind the last is changed, of which the even ones are present.
+// Returns whether the value at each key up to one behind the last is changed, of which the even
+// ones are present.
 fn changes_all(index: &mut impl MoreCalls) -> bool {
     let shape = shape_of(index);
     let end = (shape.0 as u64).wrapping_mul(2);
@@ -34,7 +35,7 @@ fn changes_all(index: &mut impl MoreCalls) -> bool {
     shape_of(index) == shape
 }
 
-/// Changes the values of an index of each fill.
+// Changes the values of an index of each fill.
 #[derive(Drop)]
 struct Changing<'r, R> {
     rt: &'r R,
@@ -56,18 +57,18 @@ fn changes_values(rt: HostRuntime) {
     assert!(rt; succeeds_at_both_sizes(rt.alloc(), &scenario));
 }
 
-/// An index of texts. Texts own memory, which must be given back once.
+// An index of texts. Texts own memory, which must be given back once.
 trait Names {
-    /// Calls `insert_sync`.
+    // Calls `insert_sync`.
     fn put(&mut self, key: u64, name: String) -> Result<(), AllocError>;
 
-    /// Calls `replace_sync`.
+    // Calls `replace_sync`.
     fn replace(&mut self, key: u64, name: String) -> Result<String, String>;
 
-    /// Calls `modify_sync` to put a name in place of the one at a key.
+    // Calls `modify_sync` to put a name in place of the one at a key.
     fn change(&mut self, key: u64, name: String) -> bool;
 
-    /// Returns whether `peek` finds this name at a key.
+    // Returns whether `peek` finds this name at a key.
     fn has(&self, key: u64, name: &str) -> bool;
 }
 
@@ -92,7 +93,8 @@ impl Names for TreeIndex<u64, String> {
     }
 }
 
-/// Returns whether the name at a key, which is there, is replaced, and the one for a key that isn't comes back.
+// Returns whether the name at a key, which is there, is replaced, and the one for a key that isn't
+// comes back.
 fn replaces_names(alloc: Global, names: &mut impl Names) -> Result<bool, AllocError> {
     let fig = String::from_str(alloc, "fig")?;
     if !names
@@ -106,7 +108,7 @@ fn replaces_names(alloc: Global, names: &mut impl Names) -> Result<bool, AllocEr
     Ok(replaced.is_err_and(|name| name.as_str() == "plum"))
 }
 
-/// Returns whether the name at a key, which is there, is changed, and none at a key that isn't.
+// Returns whether the name at a key, which is there, is changed, and none at a key that isn't.
 fn changes_names(alloc: Global, names: &mut impl Names) -> Result<bool, AllocError> {
     let quince = String::from_str(alloc, "quince")?;
     if !names.change(1, quince) {
@@ -116,7 +118,7 @@ fn changes_names(alloc: Global, names: &mut impl Names) -> Result<bool, AllocErr
     Ok([names.change(2, melon), names.has(1, "quince")] == [false, true])
 }
 
-/// Returns whether a name that is stored is replaced and changed.
+// Returns whether a name that is stored is replaced and changed.
 fn changes_texts_in(alloc: Global, names: &mut impl Names) -> Result<bool, AllocError> {
     let pear = String::from_str(alloc, "pear")?;
     names.put(1, pear)?;

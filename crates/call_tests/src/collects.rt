@@ -7,7 +7,7 @@ use test_support::refusals::succeeds;
 use tree_index::{FromSortedError, SmallTreeIndex, TreeIndex, TreeIndexOf};
 use tree_support::{MoreCalls, Scenario, succeeds_at_both_sizes};
 
-/// Returns the pairs of 0, 2, 4 and so on, so many, each with its key as its value.
+// Returns the pairs of 0, 2, 4 and so on, so many, each with its key as its value.
 fn ascending(alloc: Global, count: u64) -> Result<Vec<(u64, u64)>, AllocError> {
     let mut pairs = Vec::new(alloc);
     for number in 0..count {
@@ -17,7 +17,8 @@ fn ascending(alloc: Global, count: u64) -> Result<Vec<(u64, u64)>, AllocError> {
     Ok(pairs)
 }
 
-/// Stores pairs of three keys, of which two come twice. Returns whether the later ones are there, and one more.
+// Stores pairs of three keys, of which two come twice. Returns whether the later ones are there,
+// and one more.
 fn extends(alloc: Global, index: &mut impl MoreCalls) -> Result<bool, AllocError> {
     let length = index.len();
     let pairs = vec![in alloc; (1, 10), (3, 30), (1, 11), (5, 50), (3, 33)]?;
@@ -26,7 +27,7 @@ fn extends(alloc: Global, index: &mut impl MoreCalls) -> Result<bool, AllocError
     Ok(answers == (length.wrapping_add(3), Some(11), Some(33)))
 }
 
-/// Extended an index of each fill.
+// Extended an index of each fill.
 #[derive(Drop)]
 struct Extending<'r, R> {
     rt: &'r R,
@@ -52,14 +53,14 @@ fn stores_each_pair(rt: HostRuntime) {
     assert!(rt; succeeds_at_both_sizes(rt.alloc(), &scenario));
 }
 
-/// Returns the pairs in the other order.
+// Returns the pairs in the other order.
 fn descending(alloc: Global, count: u64) -> Result<Vec<(u64, u64)>, AllocError> {
     let mut pairs = ascending(alloc, count)?;
     pairs.reverse();
     Ok(pairs)
 }
 
-/// Returns what was built, or that memory was refused.
+// Returns what was built, or that memory was refused.
 fn sorted<const LEN: usize>(
     index: Result<TreeIndexOf<u64, u64, LEN>, FromSortedError<u64, u64>>,
 ) -> Result<TreeIndexOf<u64, u64, LEN>, AllocError> {
@@ -69,13 +70,13 @@ fn sorted<const LEN: usize>(
     }
 }
 
-/// How many pairs that ascend make an index, and its depth.
+// How many pairs that ascend make an index, and its depth.
 static DEPTHS: [(u64, usize); 5] = [(0, 0), (1, 1), (15, 1), (241, 2), (3616, 3)];
 
-/// The same for leaves of seven pairs.
+// The same for leaves of seven pairs.
 static SMALL_DEPTHS: [(u64, usize); 5] = [(0, 0), (1, 1), (7, 1), (57, 2), (400, 3)];
 
-/// Returns whether an index was built of so many pairs.
+// Returns whether an index was built of so many pairs.
 fn is_built(index: &impl MoreCalls, (count, depth): (u64, usize)) -> bool {
     let last = count.wrapping_sub(1).wrapping_mul(2);
     (index.len() as u64, index.depth()) == (count, depth)
@@ -110,14 +111,14 @@ fn builds_from_sorted_pairs_in_small_leaves(rt: HostRuntime) {
     }
 }
 
-/// Pairs that don't ascend: equal keys, a smaller one, and equal keys behind others.
+// Pairs that don't ascend: equal keys, a smaller one, and equal keys behind others.
 static UNSORTED: [&[(u64, u64)]; 3] = [
     &[(1, 10), (1, 11)],
     &[(2, 20), (1, 10)],
     &[(0, 0), (5, 50), (5, 51)],
 ];
 
-/// Returns whether a copy of the pairs comes back as it was.
+// Returns whether a copy of the pairs comes back as it was.
 fn comes_back(
     alloc: Global,
     copy: Vec<(u64, u64)>,
@@ -146,13 +147,13 @@ fn hands_unsorted_pairs_back(rt: HostRuntime) {
     assert!(rt; succeeds(rt.alloc(), || hands_back_steps(&rt, rt.alloc())));
 }
 
-/// Returns whether a clone equals the index.
+// Returns whether a clone equals the index.
 fn is_cloned<const LEN: usize>(index: &TreeIndexOf<u64, u64, LEN>) -> Result<bool, AllocError> {
     let copy = index.clone()?;
     Ok(copy == *index)
 }
 
-/// An index has so many pairs, and is cloned.
+// An index has so many pairs, and is cloned.
 fn expect_cloned<const LEN: usize>(
     rt: &impl Abort,
     index: &TreeIndexOf<u64, u64, LEN>,

@@ -5,7 +5,8 @@ use std::process::Abort;
 use test_support::refusals::{begins, ends, is_granted_again, succeeds};
 use tree_index::{SmallTreeIndex, TreeIndex, TreeIndexOf};
 
-/// Removes a key of a copy of two pairs. Returns whether the copy was equal before and isn't now, and has a pair less.
+// Removes a key of a copy of two pairs. Returns whether the copy was equal before and isn't now,
+// and has a pair less.
 fn changes_alone<const LEN: usize>(
     index: &TreeIndexOf<u64, u64, LEN>,
     copy: &mut TreeIndexOf<u64, u64, LEN>,
@@ -17,7 +18,7 @@ fn removes_one<const LEN: usize>(copy: &mut TreeIndexOf<u64, u64, LEN>) -> bool 
     copy.remove_sync(&1)
 }
 
-/// Returns whether an index of two pairs isn't equal to a copy, which has one.
+// Returns whether an index of two pairs isn't equal to a copy, which has one.
 fn has_one_more<const LEN: usize>(
     index: &TreeIndexOf<u64, u64, LEN>,
     copy: &TreeIndexOf<u64, u64, LEN>,
@@ -25,7 +26,7 @@ fn has_one_more<const LEN: usize>(
     !are_equal(index, copy) && (index.len(), copy.len()) == (2, 1)
 }
 
-/// Copies the index and changes the copy. If an allocation fails, the index is as it was.
+// Copies the index and changes the copy. If an allocation fails, the index is as it was.
 fn copies_alone(
     rt: &impl Abort,
     alloc: Global,
@@ -48,7 +49,7 @@ fn changes_the_copy_alone(rt: HostRuntime) {
     assert!(rt; succeeds(rt.alloc(), || changes_the_copy_alone_steps(&rt, rt.alloc())));
 }
 
-/// Does what [`copies_alone`] does, with seven pairs a leaf.
+// Does what [`copies_alone`] does, with seven pairs a leaf.
 fn copies_small_alone(
     rt: &impl Abort,
     alloc: Global,
@@ -61,7 +62,7 @@ fn copies_small_alone(
     Ok(())
 }
 
-/// Copies the index that this one is equal to.
+// Copies the index that this one is equal to.
 fn compares_and_copies(
     rt: &impl Abort,
     alloc: Global,
@@ -87,7 +88,7 @@ fn changes_the_small_copy_alone(rt: HostRuntime) {
     );
 }
 
-/// Copies an index of one pair. If an allocation fails, the pair stays.
+// Copies an index of one pair. If an allocation fails, the pair stays.
 fn leaves_its_source_steps(rt: &impl Abort, alloc: Global) -> Result<(), AllocError> {
     let index = index_of(alloc, &[(1, 10)])?;
     let copied = index.try_clone(alloc).map(|copy| copy.len());
@@ -101,7 +102,7 @@ fn leaves_its_source(rt: HostRuntime) {
     assert!(rt; succeeds(rt.alloc(), || leaves_its_source_steps(&rt, rt.alloc())));
 }
 
-/// An index of twenty texts, in two leaves.
+// An index of twenty texts, in two leaves.
 fn index_of_texts(alloc: Global) -> Result<TreeIndex<String, String>, AllocError> {
     let mut index = TreeIndex::new(alloc);
     for number in 0..20u64 {
@@ -116,7 +117,8 @@ fn index_of_texts(alloc: Global) -> Result<TreeIndex<String, String>, AllocError
 
 const TRY_CLONE: &str = "TreeIndex::try_clone";
 
-/// Copies an index that is equal to another one. Returns `false` if an allocation fails. The index is then as it was.
+// Copies an index that is equal to another one. Returns `false` if an allocation fails. The index
+// is then as it was.
 fn is_copied(
     rt: &impl Abort,
     alloc: Global,
@@ -133,7 +135,7 @@ fn is_copied(
     are_equal(&copy, same)
 }
 
-/// Copies an index at once or the second time.
+// Copies an index at once or the second time.
 fn copies_equal_texts(
     rt: &impl Abort,
     alloc: Global,
@@ -148,7 +150,7 @@ fn copies_equal_texts(
     Ok(())
 }
 
-/// Clones of keys and values that allocate can fail too.
+// Clones of keys and values that allocate can fail too.
 fn copies_texts_steps(rt: &impl Abort, alloc: Global) -> Result<(), AllocError> {
     let index = index_of_texts(alloc)?;
     copies_equal_texts(rt, alloc, &index)
@@ -159,7 +161,7 @@ fn copies_texts(rt: HostRuntime) {
     assert!(rt; succeeds(rt.alloc(), || copies_texts_steps(&rt, rt.alloc())));
 }
 
-/// An index of the keys from 0 to 99, with seven pairs a leaf.
+// An index of the keys from 0 to 99, with seven pairs a leaf.
 fn small_index(alloc: Global) -> Result<SmallTreeIndex<u64, u64>, AllocError> {
     let mut index: SmallTreeIndex<u64, u64> = TreeIndexOf::new(alloc);
     for key in 0..100u64 {
@@ -170,7 +172,7 @@ fn small_index(alloc: Global) -> Result<SmallTreeIndex<u64, u64>, AllocError> {
     Ok(index)
 }
 
-/// Copies the index. The copy is equal to it, and as deep.
+// Copies the index. The copy is equal to it, and as deep.
 fn copies_leaves(
     rt: &impl Abort,
     alloc: Global,
@@ -181,7 +183,7 @@ fn copies_leaves(
     Ok(())
 }
 
-/// An index with seven pairs a leaf is copied by the same text.
+// An index with seven pairs a leaf is copied by the same text.
 fn copies_small_leaves_steps(rt: &impl Abort, alloc: Global) -> Result<(), AllocError> {
     let index = small_index(alloc)?;
     copies_leaves(rt, alloc, &index)

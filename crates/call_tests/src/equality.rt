@@ -5,10 +5,10 @@ use std::process::Abort;
 use test_support::refusals::succeeds;
 use tree_index::TreeIndex;
 
-/// The pairs of an index.
+// The pairs of an index.
 type Pairs = &'static [(u64, u64)];
 
-/// Pairs of two indexes in the order in which they are inserted, and whether the indexes are equal.
+// Pairs of two indexes in the order in which they are inserted, and whether the indexes are equal.
 static ROWS: [(Pairs, Pairs, bool); 7] = [
     (&[(1, 1), (2, 2)], &[(2, 2), (1, 1)], true),
     (&[(1, 10)], &[(1, 11)], false),
@@ -19,12 +19,13 @@ static ROWS: [(Pairs, Pairs, bool); 7] = [
     (&[(1, 1), (2, 2)], &[(1, 1), (2, 3)], false),
 ];
 
-/// Whether two indexes are equal, one way round and the other, and whether the first one equals itself.
+// Whether two indexes are equal, one way round and the other, and whether the first one equals
+// itself.
 fn compared(first: &TreeIndex<u64, u64>, second: &TreeIndex<u64, u64>) -> (bool, bool, bool) {
     (first == second, second == first, first == first)
 }
 
-/// Compares an index with that of these pairs.
+// Compares an index with that of these pairs.
 fn expect_compared(
     rt: &impl Abort,
     alloc: Global,

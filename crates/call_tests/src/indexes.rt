@@ -2,7 +2,7 @@
 use std::alloc::{AllocError, Global};
 use tree_index::{IndexKey, SmallTreeIndex, TreeIndex, TreeIndexOf};
 
-/// Inserts pairs in this order.
+// Inserts pairs in this order.
 fn insert_all<const LEN: usize>(
     index: &mut TreeIndexOf<u64, u64, LEN>,
     pairs: &[(u64, u64)],
@@ -15,7 +15,7 @@ fn insert_all<const LEN: usize>(
     Ok(())
 }
 
-/// Returns an index of pairs that are inserted in this order.
+// Returns an index of pairs that are inserted in this order.
 pub(crate) fn index_of(
     alloc: Global,
     pairs: &[(u64, u64)],
@@ -25,7 +25,7 @@ pub(crate) fn index_of(
     Ok(index)
 }
 
-/// Returns an index of pairs that are inserted in this order, with seven pairs a leaf.
+// Returns an index of pairs that are inserted in this order, with seven pairs a leaf.
 pub(crate) fn small_index_of(
     alloc: Global,
     pairs: &[(u64, u64)],
@@ -35,7 +35,7 @@ pub(crate) fn small_index_of(
     Ok(index)
 }
 
-/// Returns whether two indexes are equal.
+// Returns whether two indexes are equal.
 pub(crate) fn are_equal<K: IndexKey, V: PartialEq + Drop, const LEN: usize>(
     first: &TreeIndexOf<K, V, LEN>,
     second: &TreeIndexOf<K, V, LEN>,

@@ -1,6 +1,8 @@
-//! Tests of the calls on a whole index: a value that is stored where its key is absent, pairs that are stored one after another,
-//! copies, look-ups of texts and with a reader, values that are changed where they stand, removals that return the pair,
-//! equality, order and hashes; and of cursors and of sets. In `refusals`, those of calls in which an allocation fails.
+//! Tests of the calls on a whole index: a value that is stored where its key is absent, pairs that
+//! are stored one after another, copies, look-ups of texts and with a reader, walks and removals by
+//! a prefix, values that are changed where they stand, removals that return the pair, equality,
+//! order and hashes; and of cursors and of sets. In `refusals`, those of calls in which an
+//! allocation fails.
 #![tactic(auto)]
 
 #[cfg(test)]
@@ -17,6 +19,8 @@ mod equality;
 mod indexes;
 #[cfg(test)]
 mod order;
+#[cfg(test)]
+mod prefixes;
 #[cfg(test)]
 mod present;
 #[cfg(test)]
@@ -35,8 +39,9 @@ use std::alloc::AllocError;
 #[cfg(test)]
 use tree_support::Numbers;
 
-/// Makes the index one of the keys 0, 2, 4 and so on, so many, each with its key as its value, that were stored in ascending
-/// order. Removes the last of them if `is_emptied`, so that its leaf has no pair where it stood alone.
+// Makes the index one of the keys 0, 2, 4 and so on, so many, each with its key as its value, that
+// were stored in ascending order. Removes the last of them if `is_emptied`, so that its leaf has
+// no pair where it stood alone.
 #[cfg(test)]
 fn refill(index: &mut impl Numbers, count: u64, is_emptied: bool) -> Result<(), AllocError> {
     index.clear();
@@ -52,8 +57,8 @@ fn refill(index: &mut impl Numbers, count: u64, is_emptied: bool) -> Result<(), 
     Ok(())
 }
 
-/// How many pairs an index is filled with, and whether the last one is removed: none, one, a full leaf, a last leaf that a
-/// removal emptied, and three levels.
+// How many pairs an index is filled with, and whether the last one is removed: none, one, a full
+// leaf, a last leaf that a removal emptied, and three levels.
 #[cfg(test)]
 type Fill = (u64, bool);
 
@@ -66,11 +71,11 @@ static FILLS: [Fill; 5] = [
     (3616, false),
 ];
 
-/// The same for leaves of seven pairs.
+// The same for leaves of seven pairs.
 #[cfg(test)]
 static SMALL_FILLS: [Fill; 5] = [(0, false), (1, false), (7, false), (8, true), (400, false)];
 
-/// The fills of an index with so many pairs a leaf.
+// The fills of an index with so many pairs a leaf.
 #[cfg(test)]
 fn fills(pairs_a_leaf: usize) -> &'static [Fill] {
     if pairs_a_leaf == 7 {

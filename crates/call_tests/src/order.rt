@@ -7,10 +7,10 @@ use std::process::Abort;
 use test_support::refusals::succeeds;
 use tree_index::{TreeIndex, TreeIndexOf};
 
-/// The pairs of an index.
+// The pairs of an index.
 type Pairs = &'static [(u64, u64)];
 
-/// Pairs of two indexes in the order in which they are inserted, and the order of the indexes.
+// Pairs of two indexes in the order in which they are inserted, and the order of the indexes.
 type Row = (Pairs, Pairs, Ordering);
 
 static ROWS: [Row; 8] = [
@@ -24,14 +24,15 @@ static ROWS: [Row; 8] = [
     (&[(1, 1), (2, 2)], &[(1, 1), (2, 3)], Ordering::Less),
 ];
 
-/// What the hasher of the standard library makes of an index.
+// What the hasher of the standard library makes of an index.
 fn hashed<const LEN: usize>(index: &TreeIndexOf<u64, u64, LEN>) -> u64 {
     let mut hasher = DefaultHasher::new();
     index.hash(&mut hasher);
     hasher.finish()
 }
 
-/// Returns whether two indexes have this order, both ways round, and equal hashes if they are equal, and only then.
+// Returns whether two indexes have this order, both ways round, and equal hashes if they are
+// equal, and only then.
 fn are_ordered<const LEN: usize>(
     first: &TreeIndexOf<u64, u64, LEN>,
     second: &TreeIndexOf<u64, u64, LEN>,
@@ -46,7 +47,7 @@ fn are_ordered<const LEN: usize>(
     answers == (order, order.reverse(), Some(order), order.is_eq())
 }
 
-/// Orders two indexes with fifteen pairs a leaf.
+// Orders two indexes with fifteen pairs a leaf.
 fn expect_order(
     rt: &impl Abort,
     first: &TreeIndex<u64, u64>,
@@ -56,7 +57,7 @@ fn expect_order(
     assert!(rt; first.partial_cmp(second) == Some(order));
 }
 
-/// Orders an index with that of these pairs, with fifteen pairs a leaf.
+// Orders an index with that of these pairs, with fifteen pairs a leaf.
 fn expect_beside(
     rt: &impl Abort,
     alloc: Global,
@@ -70,7 +71,7 @@ fn expect_beside(
     Ok(())
 }
 
-/// The same with seven pairs a leaf.
+// The same with seven pairs a leaf.
 fn expect_small_beside(
     rt: &impl Abort,
     alloc: Global,

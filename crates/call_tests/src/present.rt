@@ -4,10 +4,11 @@ use std::alloc::AllocError;
 use std::process::Abort;
 use tree_support::{MoreCalls, Scenario, succeeds_at_both_sizes};
 
-/// A key between the others and one behind them, each asked twice: the key, the value passed, and the one that stands.
+// A key between the others and one behind them, each asked twice: the key, the value passed, and
+// the one that stands.
 static ASKED: [(u64, u64, u64); 4] = [(1, 7, 7), (u64::MAX, 8, 8), (1, 5, 7), (u64::MAX, 6, 8)];
 
-/// Returns whether each value that stands at a key is lent, and two keys are new.
+// Returns whether each value that stands at a key is lent, and two keys are new.
 fn lends_values(index: &mut impl MoreCalls) -> Result<bool, AllocError> {
     let length = index.len();
     for (key, value, stands) in &ASKED {
@@ -19,7 +20,7 @@ fn lends_values(index: &mut impl MoreCalls) -> Result<bool, AllocError> {
     Ok(index.len() == length.wrapping_add(2))
 }
 
-/// Asks an index of each fill.
+// Asks an index of each fill.
 #[derive(Drop)]
 struct Asking<'r, R> {
     rt: &'r R,

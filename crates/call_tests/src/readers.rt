@@ -5,10 +5,10 @@ use std::process::Abort;
 use test_support::refusals::succeeds;
 use tree_index::TreeIndex;
 
-/// Keys, what a reader that adds key and value returns, and how often it is called.
+// Keys, what a reader that adds key and value returns, and how often it is called.
 static READS: [(u64, Option<u64>, u64); 2] = [(1, Some(11), 1), (2, None, 0)];
 
-/// What `peek_with` returns for a key, and how often it called its reader.
+// What `peek_with` returns for a key, and how often it called its reader.
 fn peeked(index: &TreeIndex<u64, u64>, key: u64) -> (Option<u64>, u64) {
     let mut calls = 0u64;
     let sum = index.peek_with(&key, |key, value| {
@@ -18,7 +18,7 @@ fn peeked(index: &TreeIndex<u64, u64>, key: u64) -> (Option<u64>, u64) {
     (sum, calls)
 }
 
-/// What `read_sync` returns for a key, and how often it called its reader.
+// What `read_sync` returns for a key, and how often it called its reader.
 fn read(index: &TreeIndex<u64, u64>, key: u64) -> (Option<u64>, u64) {
     let mut calls = 0u64;
     let sum = index.read_sync(&key, |key, value| {
@@ -28,7 +28,7 @@ fn read(index: &TreeIndex<u64, u64>, key: u64) -> (Option<u64>, u64) {
     (sum, calls)
 }
 
-/// The reader is called once with a pair that is present, and never for an absent key.
+// The reader is called once with a pair that is present, and never for an absent key.
 fn reads_steps(rt: &impl Abort, alloc: Global) -> Result<(), AllocError> {
     let index = index_of(alloc, &[(1, 10)])?;
     for (key, sum, times) in &READS {

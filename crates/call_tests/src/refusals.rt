@@ -1,5 +1,5 @@
-//! Calls that store several pairs, copy or build an index, in which an allocation fails. `bench/refusals` makes each fail in turn; in
-//! an ordinary run of the tests none does.
+//! Calls that store several pairs, copy or build an index, in which an allocation fails.
+//! `bench/refusals` makes each fail in turn; in an ordinary run of the tests none does.
 use std::alloc::{AllocError, Global};
 use std::iter::Extend;
 use std::process::Abort;
@@ -7,7 +7,8 @@ use test_support::refusals::{begins, ends, is_granted_again};
 use tree_index::{InsertError, SmallTreeIndex, TreeIndex, TreeIndexOf};
 use tree_support::{Numbers, OwnScenario, ascend, flaws, succeeds_by_own_calls};
 
-/// What is done with an index: a call that allocates, or `clear` and as many inserts as there are pairs, which allocate nothing.
+// What is done with an index: a call that allocates, or `clear` and as many inserts as there are
+// pairs, which allocate nothing.
 #[derive(Clone, Copy, Debug)]
 enum Call {
     Refill,
@@ -23,7 +24,7 @@ enum Call {
 }
 
 impl Call {
-    /// The name by which the sweep of refusals knows the call.
+    // The name by which the sweep of refusals knows the call.
     fn name(self) -> &'static str {
         match self {
             Call::Refill => "TreeIndex::clear",
@@ -40,27 +41,27 @@ impl Call {
     }
 }
 
-/// A list of pairs.
+// A list of pairs.
 type Pairs = Vec<(u64, u64)>;
 
-/// An index of numbers, with the calls that allocate and are made again.
+// An index of numbers, with the calls that allocate and are made again.
 trait Made: Numbers + Drop {
-    /// Calls `try_extend`.
+    // Calls `try_extend`.
     fn try_extend(&mut self, pairs: Pairs) -> Result<(), (u64, u64)>;
 
-    /// Calls `extend`.
+    // Calls `extend`.
     fn extend(&mut self, pairs: Pairs) -> Result<(), AllocError>;
 
-    /// Returns the value that `peek_or_insert` lends.
+    // Returns the value that `peek_or_insert` lends.
     fn lent(&mut self, key: u64, value: u64) -> Option<u64>;
 
-    /// Calls `try_clone`.
+    // Calls `try_clone`.
     fn try_copy(&self, alloc: Global) -> Result<Self, AllocError>;
 
-    /// Calls `clone`.
+    // Calls `clone`.
     fn copy(&self) -> Result<Self, AllocError>;
 
-    /// Whether the index is whole and has these pairs.
+    // Whether the index is whole and has these pairs.
     fn is_whole(&self, pairs: &[(u64, u64)]) -> bool;
 }
 
@@ -90,12 +91,13 @@ impl<const LEN: usize> Made for TreeIndexOf<u64, u64, LEN> {
     }
 }
 
-/// An index of a size that is built of pairs. It is implemented at each size, since a call that makes an index asks which.
+// An index of a size that is built of pairs. It is implemented at each size, since a call that
+// makes an index asks which.
 trait Built: Made {
-    /// Calls `from_sorted`. Returns `None` if an allocation fails.
+    // Calls `from_sorted`. Returns `None` if an allocation fails.
     fn from_sorted(alloc: Global, pairs: Pairs) -> Option<Self>;
 
-    /// Calls `collect`.
+    // Calls `collect`.
     fn collected(alloc: Global, pairs: Pairs) -> Option<Self>;
 }
 
@@ -119,7 +121,8 @@ impl Built for SmallTreeIndex<u64, u64> {
     }
 }
 
-/// Pairs in key order, how many of them an index has, and a call on it that stores the others, or copies or builds it.
+// Pairs in key order, how many of them an index has, and a call on it that stores the others, or
+// copies or builds it.
 #[derive(Drop)]
 struct Making<'r> {
     alloc: Global,
@@ -128,11 +131,11 @@ struct Making<'r> {
     count: usize,
 }
 
-/// Whether a call could allocate, and whether what it returned and left is right.
+// Whether a call could allocate, and whether what it returned and left is right.
 type Outcome = (bool, bool);
 
 impl<'r> Making<'r> {
-    /// The pairs of the index.
+    // The pairs of the index.
     fn before(&self) -> &'r [(u64, u64)] {
         match self.pairs.get(..self.count) {
             Some(pairs) => pairs,
@@ -140,7 +143,7 @@ impl<'r> Making<'r> {
         }
     }
 
-    /// The pairs up to a key, which is how many they are.
+    // The pairs up to a key, which is how many they are.
     fn up_to(&self, key: u64) -> &'r [(u64, u64)] {
         match self.pairs.get(..key as usize) {
             Some(pairs) => pairs,
@@ -148,7 +151,7 @@ impl<'r> Making<'r> {
         }
     }
 
-    /// A list of the pairs that the call stores.
+    // A list of the pairs that the call stores.
     fn others(&self) -> Result<Pairs, AllocError> {
         self.pairs
             .get(self.count..)
@@ -156,20 +159,20 @@ impl<'r> Making<'r> {
             .to_vec(self.alloc)
     }
 
-    /// Clears the index and stores its pairs again. The arenas keep their memory, so nothing is allocated, and no allocation
-    /// can fail.
+    // Clears the index and stores its pairs again. The arenas keep their memory, so nothing is
+    // allocated, and no allocation can fail.
     fn refill(&self, index: &mut impl Made) -> Outcome {
         index.clear();
         let is_stored = ascend(index, 1, self.count as u64, 1).is_ok();
         (true, is_stored && index.is_whole(self.before()))
     }
 
-    /// The key of the next pair, which is its value too.
+    // The key of the next pair, which is its value too.
     fn next(&self) -> u64 {
         (self.count as u64).saturating_add(1)
     }
 
-    /// Stores the next pair by `insert_sync` or `upsert_sync`. A pair that is refused comes back.
+    // Stores the next pair by `insert_sync` or `upsert_sync`. A pair that is refused comes back.
     fn store(&self, index: &mut impl Made) -> Outcome {
         let key = self.next();
         begins(self.alloc, self.call.name());
@@ -184,7 +187,8 @@ impl<'r> Making<'r> {
         }
     }
 
-    /// Stores the other pairs by `try_extend`. A pair that is refused comes back, and those before it are stored.
+    // Stores the other pairs by `try_extend`. A pair that is refused comes back, and those before
+    // it are stored.
     fn try_extend(&self, index: &mut impl Made) -> Result<Outcome, AllocError> {
         let others = self.others()?;
         begins(self.alloc, self.call.name());
@@ -199,7 +203,7 @@ impl<'r> Making<'r> {
         }
     }
 
-    /// Stores the other pairs by `extend`. If one is refused, those before it are stored.
+    // Stores the other pairs by `extend`. If one is refused, those before it are stored.
     fn extend(&self, index: &mut impl Made) -> Result<Outcome, AllocError> {
         let others = self.others()?;
         begins(self.alloc, self.call.name());
@@ -213,7 +217,7 @@ impl<'r> Making<'r> {
         ))
     }
 
-    /// Stores the next pair by `peek_or_insert`.
+    // Stores the next pair by `peek_or_insert`.
     fn peek_or_insert(&self, index: &mut impl Made) -> Outcome {
         let key = self.next();
         begins(self.alloc, self.call.name());
@@ -225,7 +229,7 @@ impl<'r> Making<'r> {
         }
     }
 
-    /// Copies the index by `try_clone` or `clone`.
+    // Copies the index by `try_clone` or `clone`.
     fn copy<I: Made>(&self, index: &I) -> Outcome {
         begins(self.alloc, self.call.name());
         let copy = match self.call {
@@ -237,7 +241,7 @@ impl<'r> Making<'r> {
         (is_granted, is_copy && index.is_whole(self.before()))
     }
 
-    /// Builds an index of the same pairs by `from_sorted` or `collect`.
+    // Builds an index of the same pairs by `from_sorted` or `collect`.
     fn build<I: Built>(&self) -> Result<Outcome, AllocError> {
         let pairs = self.before().to_vec(self.alloc)?;
         begins(self.alloc, self.call.name());
@@ -249,7 +253,7 @@ impl<'r> Making<'r> {
         Ok(self.is_made(built))
     }
 
-    /// Whether an index was made, and if so whether it has the pairs.
+    // Whether an index was made, and if so whether it has the pairs.
     fn is_made<I: Made>(&self, made: Option<I>) -> Outcome {
         match made {
             Some(made) => (true, made.is_whole(self.before())),
@@ -257,7 +261,7 @@ impl<'r> Making<'r> {
         }
     }
 
-    /// Makes the call once.
+    // Makes the call once.
     fn make<I: Built>(&self, index: &mut I) -> Result<Outcome, AllocError> {
         match self.call {
             Call::Refill => Ok(self.refill(index)),
@@ -270,7 +274,7 @@ impl<'r> Making<'r> {
         }
     }
 
-    /// Makes the call at once or the second time. `Err` if nothing can be allocated any more.
+    // Makes the call at once or the second time. `Err` if nothing can be allocated any more.
     fn make_twice<I: Built>(&self, rt: &impl Abort, index: &mut I) -> Result<(), AllocError> {
         if self.is_granted(rt, index)? {
             return Ok(());
@@ -280,7 +284,7 @@ impl<'r> Making<'r> {
         Ok(())
     }
 
-    /// Makes the call once. Returns whether it could allocate.
+    // Makes the call once. Returns whether it could allocate.
     fn is_granted<I: Built>(&self, rt: &impl Abort, index: &mut I) -> Result<bool, AllocError> {
         let (is_granted, is_right) = self.make(index)?;
         assert!(rt; is_right, "{:?} after {}", self.call, self.count);
@@ -288,7 +292,7 @@ impl<'r> Making<'r> {
     }
 }
 
-/// The pair of an insert that was refused.
+// The pair of an insert that was refused.
 fn pair_of(answer: Result<(), InsertError<u64, u64>>) -> Result<(), (u64, u64)> {
     match answer {
         Ok(()) => Ok(()),
@@ -298,9 +302,10 @@ fn pair_of(answer: Result<(), InsertError<u64, u64>>) -> Result<(), (u64, u64)> 
     }
 }
 
-/// How many pairs an index has at a call, at fifteen pairs a leaf and at seven, and whether they are removed first: a new index, a
-/// retired root, full leaves where the arena of leaves is full too, a full node over leaves, one below a root where the arena of
-/// nodes is full too, and a full node over nodes.
+// How many pairs an index has at a call, at fifteen pairs a leaf and at seven, and whether they
+// are removed first: a new index, a retired root, full leaves where the arena of leaves is full
+// too, a full node over leaves, one below a root where the arena of nodes is full too, and a full
+// node over nodes.
 type Shape = (usize, usize, bool);
 
 static SHAPES: [Shape; 6] = [
@@ -312,7 +317,7 @@ static SHAPES: [Shape; 6] = [
     (3615, 399, false),
 ];
 
-/// Makes a call at a shape.
+// Makes a call at a shape.
 #[derive(Drop)]
 struct Calling<'r, R> {
     rt: &'r R,
@@ -321,7 +326,8 @@ struct Calling<'r, R> {
     shape: Shape,
 }
 
-/// Stores so many pairs, and removes them if the shape is that of a retired root. Returns how many are left.
+// Stores so many pairs, and removes them if the shape is that of a retired root. Returns how many
+// are left.
 fn grow(index: &mut impl Numbers, shape: Shape) -> Result<usize, AllocError> {
     let (at_fifteen, at_seven, is_emptied) = shape;
     let is_small = index.pairs_a_leaf() == 7;
@@ -336,7 +342,7 @@ fn grow(index: &mut impl Numbers, shape: Shape) -> Result<usize, AllocError> {
     Ok(0)
 }
 
-/// The pairs of the keys from 1 on, so many.
+// The pairs of the keys from 1 on, so many.
 fn ascending(alloc: Global, count: usize) -> Result<Pairs, AllocError> {
     let mut pairs = Vec::with_capacity(alloc, count)?;
     for key in 1..=count as u64 {
@@ -359,7 +365,8 @@ impl<R: Abort, I: Built> OwnScenario<I> for Calling<'_, R> {
     }
 }
 
-/// Makes a call at each shape. One function for all, since what passes a scenario pays for a proof of each call of an index.
+// Makes a call at each shape. One function for all, since what passes a scenario pays for a proof
+// of each call of an index.
 fn make_at_each_shape(rt: &impl Abort, alloc: Global, call: Call) {
     for shape in &SHAPES {
         let scenario = Calling {

@@ -1,4 +1,5 @@
-//! Tests of sets: worked rows at both sizes, two sets side by side, and calls in which an allocation fails.
+//! Tests of sets: worked rows at both sizes, two sets side by side, and calls in which an
+//! allocation fails.
 mod refusals;
 mod rows;
 mod two_sets;
@@ -6,7 +7,7 @@ mod two_sets;
 use std::alloc::AllocError;
 use tree_set::TreeSetOf;
 
-/// Inserts elements in this order.
+// Inserts elements in this order.
 pub(crate) fn insert_all<const LEN: usize>(
     set: &mut TreeSetOf<u64, LEN>,
     elements: &[u64],

@@ -5,24 +5,25 @@ use test_support::refusals::succeeds;
 use tree_index::TreeIndex;
 use tree_support::{MoreCalls, Numbers, Scenario, ascend, succeeds_at_both_sizes};
 
-/// How many pairs an index has, at fifteen pairs a leaf and at seven: none, one, a full leaf, two leaves, and two levels.
+// How many pairs an index has, at fifteen pairs a leaf and at seven: none, one, a full leaf, two
+// leaves, and two levels.
 static COUNTS: [(u64, u64); 5] = [(0, 0), (1, 1), (15, 7), (16, 8), (241, 57)];
 
-/// So many that the tree has three levels.
+// So many that the tree has three levels.
 static DEEP_COUNTS: [(u64, u64); 1] = [(3_616, 400)];
 
-/// Empties an index and stores the pairs of 1 to `count`.
+// Empties an index and stores the pairs of 1 to `count`.
 fn fill(index: &mut impl Numbers, count: u64) -> Result<(), AllocError> {
     index.clear();
     ascend(index, 1, count, 1)
 }
 
-/// Takes the first pair, and then the last one.
+// Takes the first pair, and then the last one.
 fn pops(index: &mut impl MoreCalls) -> [Option<(u64, u64)>; 2] {
     [index.pop_first(), index.pop_last()]
 }
 
-/// Returns whether the first pair and the last one come in turn, until none is left.
+// Returns whether the first pair and the last one come in turn, until none is left.
 fn gives_both_ends(index: &mut impl MoreCalls, count: u64) -> bool {
     for low in 1..=count / 2 {
         let high = count.wrapping_add(1).wrapping_sub(low);
@@ -33,7 +34,7 @@ fn gives_both_ends(index: &mut impl MoreCalls, count: u64) -> bool {
     gives_middle(index, count)
 }
 
-/// Returns whether the pair in the middle comes, if there is one, and none behind it.
+// Returns whether the pair in the middle comes, if there is one, and none behind it.
 fn gives_middle(index: &mut impl MoreCalls, count: u64) -> bool {
     let middle = count / 2 + 1;
     if count % 2 == 1 && pops(index) != [Some((middle, middle)), None] {
@@ -42,7 +43,8 @@ fn gives_middle(index: &mut impl MoreCalls, count: u64) -> bool {
     (pops(index), index.is_empty()) == ([None, None], true)
 }
 
-/// Returns whether each pair comes by its key, the last one first, so that leaves at the end are emptied in turn.
+// Returns whether each pair comes by its key, the last one first, so that leaves at the end are
+// emptied in turn.
 fn gives_by_key(index: &mut impl MoreCalls, count: u64) -> bool {
     for key in (1..=count).rev() {
         if [index.take(key), index.take(key)] != [Some((key, key)), None] {
@@ -52,7 +54,7 @@ fn gives_by_key(index: &mut impl MoreCalls, count: u64) -> bool {
     index.is_empty() && index.depth() <= 1
 }
 
-/// Returns whether an index keeps the even keys, and then none.
+// Returns whether an index keeps the even keys, and then none.
 fn keeps_even(index: &mut impl MoreCalls, count: u64) -> bool {
     index.keep_even();
     let is_kept = index.len() as u64 == count / 2 && (count < 2 || index.first() == Some((2, 2)));
@@ -61,7 +63,8 @@ fn keeps_even(index: &mut impl MoreCalls, count: u64) -> bool {
     (is_kept, odd, index.is_empty()) == (true, [None, None], true)
 }
 
-/// Returns whether so many pairs are taken out from both ends, by key and by a test, each time all of them.
+// Returns whether so many pairs are taken out from both ends, by key and by a test, each time all
+// of them.
 fn gives_pairs(index: &mut impl MoreCalls, count: u64) -> Result<bool, AllocError> {
     fill(index, count)?;
     if !gives_both_ends(index, count) {
@@ -75,7 +78,7 @@ fn gives_pairs(index: &mut impl MoreCalls, count: u64) -> Result<bool, AllocErro
     Ok(keeps_even(index, count))
 }
 
-/// Takes the pairs out of an index of so many.
+// Takes the pairs out of an index of so many.
 #[derive(Drop)]
 struct Taking<'r, R> {
     rt: &'r R,
@@ -92,7 +95,7 @@ impl<R: Abort> Scenario for Taking<'_, R> {
     }
 }
 
-/// Takes the pairs out of indexes of each of these numbers.
+// Takes the pairs out of indexes of each of these numbers.
 fn take_of_each(rt: &impl Abort, alloc: Global, counts: &[(u64, u64)]) {
     for counts in counts {
         let scenario = Taking {
@@ -113,7 +116,7 @@ fn takes_pairs_out_of_three_levels(rt: HostRuntime) {
     take_of_each(&rt, rt.alloc(), &DEEP_COUNTS);
 }
 
-/// Returns whether both ends give in turn the pairs of 1 to 241.
+// Returns whether both ends give in turn the pairs of 1 to 241.
 fn gives_by_value<I: DoubleEndedIterator<Item = (u64, u64)>>(pairs: I) -> bool
     requires first { (s : I) → I.can_next s }
     requires last { (s : I) → I.can_next_back s }

@@ -5,12 +5,12 @@ use test_support::refusals::{begins, ends, is_granted_again, succeeds};
 use tree_index::TreeIndex;
 use tree_texts::{Bytes, Text, peek_bytes, peek_text};
 
-/// Words in no order, and two that aren't stored.
+// Words in no order, and two that aren't stored.
 static WORDS: [&str; 4] = ["pear", "fig", "", "figs"];
 
 static OTHERS: [&str; 2] = ["fi", "apple"];
 
-/// Stores the words, each with its length.
+// Stores the words, each with its length.
 fn store_words(alloc: Global, lengths: &mut TreeIndex<Text, usize>) -> Result<(), AllocError> {
     for word in &WORDS {
         let key = Text::from(String::from_str(alloc, *word)?);
@@ -21,12 +21,12 @@ fn store_words(alloc: Global, lengths: &mut TreeIndex<Text, usize>) -> Result<()
     Ok(())
 }
 
-/// Returns the length that is stored with a word.
+// Returns the length that is stored with a word.
 fn length_of(lengths: &TreeIndex<Text, usize>, word: &str) -> Option<usize> {
     peek_text(lengths, word).map(|(_, length)| *length)
 }
 
-/// Returns whether each word is found with its length, and no other one.
+// Returns whether each word is found with its length, and no other one.
 fn has_words(lengths: &TreeIndex<Text, usize>) -> bool {
     for word in &WORDS {
         if length_of(lengths, *word) != Some(word.len()) {
@@ -53,12 +53,12 @@ fn finds_texts(rt: HostRuntime) {
     assert!(rt; succeeds(rt.alloc(), || counts_words(&rt, rt.alloc())));
 }
 
-/// Bytes in no order, and two that aren't stored.
+// Bytes in no order, and two that aren't stored.
 static BYTES: [&[u8]; 4] = [&[7, 0], &[], &[7], &[255]];
 
 static OTHER_BYTES: [&[u8]; 2] = [&[0], &[7, 0, 0]];
 
-/// Stores the bytes, each with their number.
+// Stores the bytes, each with their number.
 fn store_bytes(alloc: Global, lengths: &mut TreeIndex<Bytes, usize>) -> Result<(), AllocError> {
     for bytes in &BYTES {
         let key = Bytes::from((*bytes).to_vec(alloc)?);
@@ -69,12 +69,12 @@ fn store_bytes(alloc: Global, lengths: &mut TreeIndex<Bytes, usize>) -> Result<(
     Ok(())
 }
 
-/// Returns the number that is stored with bytes.
+// Returns the number that is stored with bytes.
 fn number_of(lengths: &TreeIndex<Bytes, usize>, bytes: &[u8]) -> Option<usize> {
     peek_bytes(lengths, bytes).map(|(_, length)| *length)
 }
 
-/// Returns whether all bytes are found with their number, and no others.
+// Returns whether all bytes are found with their number, and no others.
 fn has_bytes(lengths: &TreeIndex<Bytes, usize>) -> bool {
     for bytes in &BYTES {
         if number_of(lengths, *bytes) != Some(bytes.len()) {
@@ -101,7 +101,8 @@ fn finds_bytes(rt: HostRuntime) {
     assert!(rt; succeeds(rt.alloc(), || counts_bytes(&rt, rt.alloc())));
 }
 
-/// Whether a clone of a text, which is stored, is equal to it. Returns `false` if an allocation fails.
+// Whether a clone of a text, which is stored, is equal to it. Returns `false` if an allocation
+// fails.
 fn is_text_cloned(alloc: Global, text: &Text) -> bool {
     begins(alloc, "Text::clone");
     let clone: Result<_, _> = text.clone();
@@ -112,7 +113,7 @@ fn is_text_cloned(alloc: Global, text: &Text) -> bool {
     clone == *text && text.as_str() == WORDS[0]
 }
 
-/// Clones a text at once or the second time.
+// Clones a text at once or the second time.
 fn clones_text(rt: &impl Abort, alloc: Global) -> Result<(), AllocError> {
     let text = Text::from(String::from_str(alloc, WORDS[0])?);
     if is_text_cloned(alloc, &text) {
@@ -122,7 +123,7 @@ fn clones_text(rt: &impl Abort, alloc: Global) -> Result<(), AllocError> {
     Ok(())
 }
 
-/// Whether a clone of bytes is equal to them. Returns `false` if an allocation fails.
+// Whether a clone of bytes is equal to them. Returns `false` if an allocation fails.
 fn are_bytes_cloned(alloc: Global, bytes: &Bytes) -> bool {
     begins(alloc, "Bytes::clone");
     let clone: Result<_, _> = bytes.clone();
@@ -133,7 +134,7 @@ fn are_bytes_cloned(alloc: Global, bytes: &Bytes) -> bool {
     clone == *bytes && bytes.as_slice() == BYTES[0]
 }
 
-/// Clones bytes at once or the second time.
+// Clones bytes at once or the second time.
 fn clones_bytes(rt: &impl Abort, alloc: Global) -> Result<(), AllocError> {
     let bytes = Bytes::from(BYTES[0].to_vec(alloc)?);
     if are_bytes_cloned(alloc, &bytes) {

@@ -21,7 +21,7 @@ use Rattle.tree_node.proofs.Bare.{over_one}
 use Rattle.tree_node.proofs.Standing.{no_children}
 use Rattle.tree_remove.specs.Removes.{RemovesUnder}
 use Rattle.tree_clean_up.proofs.Retired.{walk-retired}
-use Rattle.tree_walk.specs.Ends.{IsLinked}
+use Rattle.tree_parts.specs.Ends.{IsLinked}
 use Rattle.node_tests.specs.Planted.{IsPlanted}
 
 -- what a split makes of a root that stands is planted

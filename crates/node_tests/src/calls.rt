@@ -5,8 +5,8 @@ use std::ops::Bound;
 use test_support::refusals::succeeds;
 use tree_array::array::RemoveResult;
 
-/// The calls of a root over one empty leaf, until the root is retired. If the root is an internal node, the leaf node
-/// below it is dropped then.
+// The calls of a root over one empty leaf, until the root is retired. If the root is an internal
+// node, the leaf node below it is dropped then.
 static FEW: [Step; 29] = [
     Step::Insert(10, 10, 1, Told::Success),
     Step::Insert(20, 20, 2, Told::Success),
@@ -41,7 +41,7 @@ static FEW: [Step; 29] = [
 
 static LEAF_NODE: [Step; 2] = [Step::Shape(1, 1, 1), Step::Marks(false, false)];
 
-/// A retired leaf node gets an empty leaf, and takes pairs again.
+// A retired leaf node gets an empty leaf, and takes pairs again.
 static PLANTED_ANEW: [Step; 8] = [
     Step::Marks(true, false),
     Step::SplitRoot(true),

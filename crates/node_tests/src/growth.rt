@@ -1,13 +1,14 @@
-//! How a tree of ascending keys gains and loses levels: a leaf node takes `LEN + 1` leaves of `LEN` pairs, and a node over
-//! leaf nodes takes `LEN` of them with `LEN` leaves each and one with `LEN + 1`.
+//! How a tree of ascending keys gains and loses levels: a leaf node takes `LEN + 1` leaves of `LEN`
+//! pairs, and a node over leaf nodes takes `LEN` of them with `LEN` leaves each and one with
+//! `LEN + 1`.
 use crate::plays::plays;
 use crate::steps::{Step, Told};
 use test_support::refusals::succeeds;
 use tree_array::array::RemoveResult;
 
-/// With fifteen slots a leaf node holds 240 pairs, and a node over leaf nodes 15 times 225 and 240. Its last child can't be
-/// split, but under a new root there is room for it. The keys up to 3375 stand under one child of the root of three levels.
-/// It has no other once those above are gone.
+// With fifteen slots a leaf node holds 240 pairs, and a node over leaf nodes 15 times 225 and 240.
+// Its last child can't be split, but under a new root there is room for it. The keys up to 3375
+// stand under one child of the root of three levels. It has no other once those above are gone.
 static LARGE: [Step; 48] = [
     Step::Insert(1, 120, 0, Told::Success),
     Step::Upsert(121, 240, 0, Told::Success),
@@ -59,8 +60,8 @@ static LARGE: [Step; 48] = [
     Step::CleanUp(true, 225, 16),
 ];
 
-/// With seven slots a leaf node holds 56 pairs, and a node over leaf nodes 7 times 49 and 56. The keys up to 343 stand
-/// under one child of the root of three levels.
+// With seven slots a leaf node holds 56 pairs, and a node over leaf nodes 7 times 49 and 56. The
+// keys up to 343 stand under one child of the root of three levels.
 static SMALL: [Step; 48] = [
     Step::Insert(1, 28, 0, Told::Success),
     Step::Upsert(29, 56, 0, Told::Success),
@@ -122,7 +123,7 @@ fn grows_to_three_levels(rt: HostRuntime) {
     );
 }
 
-/// A leaf node of fifteen slots over 240 ascending keys, which go one by one.
+// A leaf node of fifteen slots over 240 ascending keys, which go one by one.
 static FILLED_AND_EMPTIED: [Step; 7] = [
     Step::Insert(0, 239, 0, Told::Success),
     Step::Insert(240, 240, 7, Told::Full),
@@ -133,8 +134,8 @@ static FILLED_AND_EMPTIED: [Step; 7] = [
     Step::Shape(1, 0, 1),
 ];
 
-/// The one child of a root is full. When it is split, a new node takes all of its leaves but the last, so that there is room
-/// for as many leaves more before another node is needed.
+// The one child of a root is full. When it is split, a new node takes all of its leaves but the
+// last, so that there is room for as many leaves more before another node is needed.
 static DIVIDED: [Step; 9] = [
     Step::SplitRoot(false),
     Step::Insert(1, 240, 0, Told::Success),
@@ -147,7 +148,7 @@ static DIVIDED: [Step; 9] = [
     Step::Shape(2, 31, 3),
 ];
 
-/// The same with seven slots.
+// The same with seven slots.
 static SMALL_DIVIDED: [Step; 9] = [
     Step::SplitRoot(false),
     Step::Insert(1, 56, 0, Told::Success),
@@ -171,7 +172,8 @@ fn nodes_fill_and_divide(rt: HostRuntime) {
     );
 }
 
-/// With four nodes the arena of nodes is full. So the fifth, which splits the full last child of the root, allocates.
+// With four nodes the arena of nodes is full. So the fifth, which splits the full last child of
+// the root, allocates.
 static SPLIT_WHEN_FULL: [Step; 8] = [
     Step::SplitRoot(false),
     Step::Insert(1, 690, 0, Told::Success),
@@ -183,7 +185,7 @@ static SPLIT_WHEN_FULL: [Step; 8] = [
     Step::Insert(691, 691, 0, Told::Success),
 ];
 
-/// The same with seven slots.
+// The same with seven slots.
 static SMALL_SPLIT_WHEN_FULL: [Step; 8] = [
     Step::SplitRoot(false),
     Step::Insert(1, 154, 0, Told::Success),
@@ -195,8 +197,8 @@ static SMALL_SPLIT_WHEN_FULL: [Step; 8] = [
     Step::Insert(155, 155, 0, Told::Success),
 ];
 
-/// The arena of nodes is full with four as well, when a new root is made. It is full again with eight, and both arenas then
-/// grow under the new root.
+// The arena of nodes is full with four as well, when a new root is made. It is full again with
+// eight, and both arenas then grow under the new root.
 static RAISED_WHEN_FULL: [Step; 6] = [
     Step::SplitRoot(false),
     Step::Insert(1, 690, 0, Told::Success),
@@ -206,7 +208,7 @@ static RAISED_WHEN_FULL: [Step; 6] = [
     Step::Insert(691, 1400, 0, Told::Success),
 ];
 
-/// The same with seven slots.
+// The same with seven slots.
 static SMALL_RAISED_WHEN_FULL: [Step; 6] = [
     Step::SplitRoot(false),
     Step::Insert(1, 154, 0, Told::Success),

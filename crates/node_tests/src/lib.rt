@@ -1,4 +1,5 @@
-//! Tests of the calls of the three types of nodes, each at keys of a concrete type; and of slots, arrays and arenas.
+//! Tests of the calls of the three types of nodes, each at keys of a concrete type; and of slots,
+//! arrays and arenas.
 #![tactic(auto)]
 
 #[cfg(test)]

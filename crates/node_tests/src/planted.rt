@@ -10,21 +10,21 @@ ghost use Rattle.node_tests.specs.Planted.{IsPlanted};
 
 use crate::searches::Searched;
 use crate::stored::Stored;
+use port_calls::internal_node_calls::InternalNodeCalls;
+use port_calls::node_calls::NodeCalls;
+use port_calls::root_calls::RootCalls;
 use std::alloc::AllocError;
 use std::marker::PhantomData;
 use std::ops::Bound;
 use std::process::Abort;
 use tree_array::array::{IndexKey, InsertResult, Judge, RemoveResult};
-use tree_calls::internal_node_calls::InternalNodeCalls;
-use tree_calls::node_calls::NodeCalls;
-use tree_calls::root_calls::RootCalls;
 use tree_leaf::arena::NodeId;
 use tree_leaf::leaf::LeafOf;
 use tree_node::branch::{InternalNodeOf, LeafNodeOf};
 use tree_node::node::{ArenasOf, NodeOf, Root};
 use tree_support::walk;
 
-/// Adds a leaf node over one empty leaf.
+// Adds a leaf node over one empty leaf.
 pub(crate) fn first_root<K: IndexKey, V: Drop, const LEN: usize>(
     arenas: &mut ArenasOf<K, V, LEN>,
 ) -> Result<NodeId, AllocError>
@@ -76,7 +76,8 @@ pub(crate) fn remove_if<
     N::remove_if(arenas, root, key, condition)
 }
 
-/// Removes the pairs whose keys are within the bounds, and returns how many children the root has left.
+// Removes the pairs whose keys are within the bounds, and returns how many children the root has
+// left.
 pub(crate) fn remove_range<N: NodeCalls<u64, LEN>, const LEVEL: usize, const LEN: usize>(
     arenas: &mut ArenasOf<u64, u64, LEN>,
     root: NodeId,
@@ -90,7 +91,7 @@ pub(crate) fn remove_range<N: NodeCalls<u64, LEN>, const LEVEL: usize, const LEN
     N::remove_range(arenas, root, (low, high))
 }
 
-/// The entries that a walk in key order and a walk against it come to first.
+// The entries that a walk in key order and a walk against it come to first.
 pub(crate) fn ends<N: NodeCalls<u64, LEN>, const LEVEL: usize, const LEN: usize>(
     arenas: &ArenasOf<u64, u64, LEN>,
     root: NodeId,
@@ -109,7 +110,7 @@ pub(crate) fn ends<N: NodeCalls<u64, LEN>, const LEVEL: usize, const LEN: usize>
     (first, last)
 }
 
-/// The entry nearest to a key: at or below it with `LE`, and at or above it without.
+// The entry nearest to a key: at or below it with `LE`, and at or above it without.
 pub(crate) fn near<N: NodeCalls<u64, LEN>, const LE: bool, const LEVEL: usize, const LEN: usize>(
     arenas: &ArenasOf<u64, u64, LEN>,
     root: NodeId,
@@ -121,18 +122,18 @@ pub(crate) fn near<N: NodeCalls<u64, LEN>, const LE: bool, const LEVEL: usize, c
     copied(N::approximate::<LE, u64>(arenas, root, &key)?.get())
 }
 
-/// The pair of an entry.
+// The pair of an entry.
 fn copied(entry: Option<(&u64, &u64)>) -> Option<(u64, u64)> {
     let (key, val) = entry?;
     Some((*key, *val))
 }
 
-/// How many leaves and nodes there are.
+// How many leaves and nodes there are.
 fn counts<const LEN: usize>(arenas: &ArenasOf<u64, u64, LEN>) -> (usize, usize) {
     (arenas.leaf_count(), arenas.node_count())
 }
 
-/// The depth, and how many leaves and nodes there are.
+// The depth, and how many leaves and nodes there are.
 pub(crate) fn shape<N: NodeCalls<u64, LEN>, const LEVEL: usize, const LEN: usize>(
     arenas: &ArenasOf<u64, u64, LEN>,
     root: NodeId,
@@ -145,7 +146,7 @@ pub(crate) fn shape<N: NodeCalls<u64, LEN>, const LEVEL: usize, const LEN: usize
     (depth, leaves, nodes)
 }
 
-/// Whether the root is retired, and whether its child may take its place.
+// Whether the root is retired, and whether its child may take its place.
 pub(crate) fn marks<N: NodeCalls<u64, LEN>, const LEVEL: usize, const LEN: usize>(
     arenas: &ArenasOf<u64, u64, LEN>,
     root: NodeId,
@@ -157,7 +158,7 @@ pub(crate) fn marks<N: NodeCalls<u64, LEN>, const LEVEL: usize, const LEN: usize
     (retired, N::cleanup_needed(arenas, root))
 }
 
-/// The searches through the node type `N` at this level.
+// The searches through the node type `N` at this level.
 pub(crate) struct Through<N, const LEVEL: usize>(PhantomData<N>);
 
 impl<N: NodeCalls<u64, LEN>, const LEVEL: usize, const LEN: usize> Searched<Through<N, LEVEL>>
@@ -175,7 +176,7 @@ impl<N: NodeCalls<u64, LEN>, const LEVEL: usize, const LEN: usize> Searched<Thro
     }
 }
 
-/// Asserts that a tree is whole and has the pairs that are stored beside it.
+// Asserts that a tree is whole and has the pairs that are stored beside it.
 pub(crate) fn expect_pairs<const LEN: usize>(
     rt: &impl Abort,
     arenas: &ArenasOf<u64, u64, LEN>,
@@ -189,7 +190,7 @@ pub(crate) fn expect_pairs<const LEN: usize>(
     assert!(rt; walk(arenas, level, root, stored.pairs()).is_ok());
 }
 
-/// Makes room in the unbounded child of an internal root, and says whether it could.
+// Makes room in the unbounded child of an internal root, and says whether it could.
 pub(crate) fn split_last<const LEVEL: usize, const LEN: usize>(
     arenas: &mut ArenasOf<u64, u64, LEN>,
     root: NodeId,
@@ -207,7 +208,7 @@ pub(crate) fn split_last<const LEVEL: usize, const LEN: usize>(
     InternalNodeOf::split_node(arenas, root, last)
 }
 
-/// Makes room under a root, and returns its number then.
+// Makes room under a root, and returns its number then.
 fn grow<const LEVEL: usize, const LEN: usize>(
     arenas: &mut ArenasOf<u64, u64, LEN>,
     root: NodeId,
@@ -223,7 +224,7 @@ fn grow<const LEVEL: usize, const LEN: usize>(
     NodeOf::split_root(arenas, root)
 }
 
-/// Splits a root, and returns the root then. A retired one keeps its number.
+// Splits a root, and returns the root then. A retired one keeps its number.
 pub(crate) fn split_root<const LEVEL: usize, const LEN: usize>(
     arenas: &mut ArenasOf<u64, u64, LEN>,
     root: NodeId,
@@ -244,7 +245,7 @@ pub(crate) fn split_root<const LEVEL: usize, const LEN: usize>(
     }
 }
 
-/// Cleans up at a root, and returns the number of the new root.
+// Cleans up at a root, and returns the number of the new root.
 fn lower<const LEVEL: usize, const LEN: usize>(
     arenas: &mut ArenasOf<u64, u64, LEN>,
     root: NodeId,
@@ -256,8 +257,8 @@ fn lower<const LEVEL: usize, const LEN: usize>(
     NodeOf::cleanup_root(arenas, root)
 }
 
-/// Cleans up at a root. Returns whether the root moved, or `None` if no root is left, and how many leaves and nodes there
-/// are then.
+// Cleans up at a root. Returns whether the root moved, or `None` if no root is left, and how many
+// leaves and nodes there are then.
 pub(crate) fn cleanup_root<const LEVEL: usize, const LEN: usize>(
     arenas: &mut ArenasOf<u64, u64, LEN>,
     root: NodeId,

@@ -7,20 +7,20 @@ ghost use Rattle.node_tests.specs.Planted.{IsPlanted};
 use crate::planted::{cleanup_root, expect_pairs, first_root, split_root};
 use crate::steps::{Step, answers};
 use crate::stored::Stored;
+use port_calls::node_calls::NodeCalls;
 use std::alloc::{AllocError, Global};
 use std::process::Abort;
-use tree_calls::node_calls::NodeCalls;
 use tree_leaf::arena::NodeId;
 use tree_node::branch::{InternalNodeOf, LeafNodeOf};
 use tree_node::node::{ArenasOf, NodeOf, Root};
 
-/// More pairs than any tree has here.
+// More pairs than any tree has here.
 const MOST: usize = 5000;
 
-/// Takes the steps of each list in turn, each with its answer, on a leaf node over one empty leaf.
-///
-/// What is refused for lack of memory comes back, the tree is whole then and has the pairs that it had, and the same call
-/// succeeds the second time. `Err` if anything was refused.
+// Takes the steps of each list in turn, each with its answer, on a leaf node over one empty leaf.
+//
+// What is refused for lack of memory comes back, the tree is whole then and has the pairs that it
+// had, and the same call succeeds the second time. `Err` if anything was refused.
 pub(crate) fn plays<const LEN: usize>(
     rt: &impl Abort,
     alloc: Global,
@@ -45,7 +45,7 @@ fn grows<const LEN: usize>(
     grows_in::<LEN>(rt, &mut arenas, lists, stored)
 }
 
-/// Plays the lists in empty arenas.
+// Plays the lists in empty arenas.
 fn grows_in<const LEN: usize>(
     rt: &impl Abort,
     arenas: &mut ArenasOf<u64, u64, LEN>,
@@ -82,7 +82,8 @@ fn takes_lists<const LEN: usize>(
     Ok(())
 }
 
-/// Whether a clean-up at a root of three levels moves the root, or not, and leaves so many leaves and nodes.
+// Whether a clean-up at a root of three levels moves the root, or not, and leaves so many leaves
+// and nodes.
 fn cleans<const LEN: usize>(
     arenas: &mut ArenasOf<u64, u64, LEN>,
     root: Root,
@@ -93,7 +94,7 @@ fn cleans<const LEN: usize>(
     root.level == 3 && cleanup_root::<3, LEN>(arenas, root.id) == (Some(told.0), told.1, told.2)
 }
 
-/// Takes a step through the type of nodes that stands at the root's level. Returns the root then.
+// Takes a step through the type of nodes that stands at the root's level. Returns the root then.
 fn takes<const LEN: usize>(
     rt: &impl Abort,
     arenas: &mut ArenasOf<u64, u64, LEN>,
@@ -135,7 +136,7 @@ fn takes_by<N: NodeCalls<u64, LEN>, const LEVEL: usize, const LEN: usize>(
     Ok(Root { level: LEVEL, id })
 }
 
-/// Splits a root, at once or the second time.
+// Splits a root, at once or the second time.
 fn splits_root<const LEVEL: usize, const LEN: usize>(
     rt: &impl Abort,
     arenas: &mut ArenasOf<u64, u64, LEN>,

@@ -6,12 +6,12 @@ use std::sync::ledger::{Blank, Ledger};
 use tree_array::array::{Judge, KeyJudge, Steps};
 use tree_leaf::arena::NodeId;
 
-/// Arenas whose trees are searched through the type `T`.
+// Arenas whose trees are searched through the type `T`.
 pub(crate) trait Searched<T> {
     // A tree stands under the number.
     ghost Stands: { Self → ℕ → Type 0 };
 
-    /// The pair at the judge's key, and its value.
+    // The pair at the judge's key, and its value.
     fn search<J: Judge<u64>>(
         &self,
         root: NodeId,
@@ -20,7 +20,7 @@ pub(crate) trait Searched<T> {
         requires { Stands self.now root };
 }
 
-/// Whether both searches find this value at the key.
+// Whether both searches find this value at the key.
 pub(crate) fn finds<T, S: Searched<T>>(
     searched: &S,
     root: NodeId,

@@ -9,15 +9,15 @@ use crate::planted::{
 use crate::searches::finds;
 use crate::stored::Stored;
 use Told::{Duplicate, Full, Success};
+use port_calls::node_calls::NodeCalls;
 use std::alloc::AllocError;
 use std::ops::Bound;
 use std::process::Abort;
 use tree_array::array::{InsertResult, RemoveResult};
-use tree_calls::node_calls::NodeCalls;
 use tree_leaf::arena::NodeId;
 use tree_node::node::ArenasOf;
 
-/// What an insert answers. The pair that isn't stored comes back.
+// What an insert answers. The pair that isn't stored comes back.
 pub(crate) enum Told {
     Success,
     Duplicate,
@@ -25,7 +25,7 @@ pub(crate) enum Told {
 }
 
 impl Told {
-    /// The whole answer for a pair.
+    // The whole answer for a pair.
     fn of(&self, key: u64, val: u64) -> InsertResult<u64, u64> {
         match self {
             Success => InsertResult::Success,
@@ -35,38 +35,40 @@ impl Told {
     }
 }
 
-/// A call, or several of one kind, and what each should answer. The third number of those that take one is how much the
-/// value at a key is larger than the key.
+// A call, or several of one kind, and what each should answer. The third number of those that take
+// one is how much the value at a key is larger than the key.
 pub(crate) enum Step {
-    /// Inserts the keys from the first to the last.
+    // Inserts the keys from the first to the last.
     Insert(u64, u64, u64, Told),
-    /// Inserts them in place of what is at equal keys.
+    // Inserts them in place of what is at equal keys.
     Upsert(u64, u64, u64, Told),
-    /// Removes the keys from the last to the first, on the condition that they have this value.
+    // Removes the keys from the last to the first, on the condition that they have this value.
     Remove(u64, u64, u64, RemoveResult),
-    /// Removes the keys from the first to the last, whatever their values.
+    // Removes the keys from the first to the last, whatever their values.
     Drain(u64, u64, RemoveResult),
-    /// Removes the keys within both bounds, which there are none of. The root has this many children left.
+    // Removes the keys within both bounds, which there are none of. The root has this many
+    // children left.
     RemoveRange(Bound<u64>, Bound<u64>, usize),
-    /// Makes room in the unbounded child of the root, if it can.
+    // Makes room in the unbounded child of the root, if it can.
     SplitLast(bool),
-    /// Splits the root, and tells whether it keeps its number.
+    // Splits the root, and tells whether it keeps its number.
     SplitRoot(bool),
-    /// Finds the value at a key.
+    // Finds the value at a key.
     Find(u64, Option<u64>),
-    /// Finds the first pair and the last one.
+    // Finds the first pair and the last one.
     Ends(Option<(u64, u64)>, Option<(u64, u64)>),
-    /// Finds the pair nearest to a key, at or below it and at or above it.
+    // Finds the pair nearest to a key, at or below it and at or above it.
     Near(u64, Option<(u64, u64)>, Option<(u64, u64)>),
-    /// Tells the depth, and counts the leaves and the nodes in the arenas.
+    // Tells the depth, and counts the leaves and the nodes in the arenas.
     Shape(usize, usize, usize),
-    /// Tells whether the root is retired, and whether its child may take its place.
+    // Tells whether the root is retired, and whether its child may take its place.
     Marks(bool, bool),
-    /// Cleans up at the root, which is the last step. Tells whether the root moved, and counts the leaves and the nodes.
+    // Cleans up at the root, which is the last step. Tells whether the root moved, and counts the
+    // leaves and the nodes.
     CleanUp(bool, usize, usize),
 }
 
-/// Whether the tree answers the step so.
+// Whether the tree answers the step so.
 pub(crate) fn answers<N: NodeCalls<u64, LEN>, const LEVEL: usize, const LEN: usize>(
     rt: &impl Abort,
     arenas: &mut ArenasOf<u64, u64, LEN>,
@@ -104,7 +106,7 @@ pub(crate) fn answers<N: NodeCalls<u64, LEN>, const LEVEL: usize, const LEN: usi
     }
 }
 
-/// Whether the tree answers a step so that changes nothing.
+// Whether the tree answers a step so that changes nothing.
 fn shows<N: NodeCalls<u64, LEN>, const LEVEL: usize, const LEN: usize>(
     arenas: &ArenasOf<u64, u64, LEN>,
     root: NodeId,
@@ -130,7 +132,7 @@ fn shows<N: NodeCalls<u64, LEN>, const LEVEL: usize, const LEN: usize>(
     }
 }
 
-/// Whether each insert answers this.
+// Whether each insert answers this.
 fn inserts<N: NodeCalls<u64, LEN>, const UPSERT: bool, const LEVEL: usize, const LEN: usize>(
     rt: &impl Abort,
     arenas: &mut ArenasOf<u64, u64, LEN>,
@@ -157,7 +159,7 @@ fn inserts<N: NodeCalls<u64, LEN>, const UPSERT: bool, const LEVEL: usize, const
     Ok(true)
 }
 
-/// Inserts a pair, at once or the second time. `Err` if it is refused both times.
+// Inserts a pair, at once or the second time. `Err` if it is refused both times.
 fn inserts_twice<N: NodeCalls<u64, LEN>, const UPSERT: bool, const LEVEL: usize, const LEN: usize>(
     rt: &impl Abort,
     arenas: &mut ArenasOf<u64, u64, LEN>,
@@ -177,7 +179,7 @@ fn inserts_twice<N: NodeCalls<u64, LEN>, const UPSERT: bool, const LEVEL: usize,
     answer
 }
 
-/// The name of the insert of the type of nodes that is tried at a level.
+// The name of the insert of the type of nodes that is tried at a level.
 fn insert_at(level: usize) -> &'static str {
     match level {
         1 => "LeafNode::insert",
@@ -186,7 +188,7 @@ fn insert_at(level: usize) -> &'static str {
     }
 }
 
-/// Inserts a pair. One that is refused comes back, and the tree has the pairs that it had.
+// Inserts a pair. One that is refused comes back, and the tree has the pairs that it had.
 fn inserts_once<N: NodeCalls<u64, LEN>, const UPSERT: bool, const LEVEL: usize, const LEN: usize>(
     rt: &impl Abort,
     arenas: &mut ArenasOf<u64, u64, LEN>,
@@ -211,12 +213,13 @@ fn inserts_once<N: NodeCalls<u64, LEN>, const UPSERT: bool, const LEVEL: usize, 
     }
 }
 
-/// Asserts that a refused pair came back.
+// Asserts that a refused pair came back.
 fn expect_back(rt: &impl Abort, back: (u64, u64), pair: (u64, u64)) {
     assert!(rt; back == pair);
 }
 
-/// Makes room in the unbounded child of the root, at once or the second time. Returns whether it could.
+// Makes room in the unbounded child of the root, at once or the second time. Returns whether it
+// could.
 fn splits<const LEVEL: usize, const LEN: usize>(
     rt: &impl Abort,
     arenas: &mut ArenasOf<u64, u64, LEN>,
@@ -253,7 +256,7 @@ fn splits_once<const LEVEL: usize, const LEN: usize>(
     split
 }
 
-/// Whether each removal answers this, in descending order.
+// Whether each removal answers this, in descending order.
 fn removes<N: NodeCalls<u64, LEN>, const LEVEL: usize, const LEN: usize>(
     arenas: &mut ArenasOf<u64, u64, LEN>,
     root: NodeId,
@@ -281,7 +284,7 @@ fn removes<N: NodeCalls<u64, LEN>, const LEVEL: usize, const LEN: usize>(
     true
 }
 
-/// Whether each removal of a key answers this, in ascending order.
+// Whether each removal of a key answers this, in ascending order.
 fn drains<N: NodeCalls<u64, LEN>, const LEVEL: usize, const LEN: usize>(
     arenas: &mut ArenasOf<u64, u64, LEN>,
     root: NodeId,

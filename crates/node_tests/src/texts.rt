@@ -11,16 +11,16 @@ use tree_leaf::arena::NodeId;
 use tree_node::branch::LeafNode;
 use tree_node::node::Arenas;
 
-/// Arenas of texts, whose leaf nodes are called.
+// Arenas of texts, whose leaf nodes are called.
 type Texts = Arenas<String, String>;
 
-/// A call on a key, and what it should answer.
+// A call on a key, and what it should answer.
 enum Step {
-    /// Stores a value.
+    // Stores a value.
     Stores(&'static str, &'static str),
-    /// Hands the pair back, as the node is full.
+    // Hands the pair back, as the node is full.
     IsFull(&'static str, &'static str),
-    /// Removes the key if it has this value. With none, whatever it has.
+    // Removes the key if it has this value. With none, whatever it has.
     Removes(&'static str, Option<&'static str>, RemoveResult),
 }
 
@@ -33,7 +33,7 @@ static STEPS: [Step; 6] = [
     Step::IsFull("HI", "HO"),
 ];
 
-/// What an insert answers. `Err` if memory is refused.
+// What an insert answers. `Err` if memory is refused.
 fn inserted(
     texts: &mut Texts,
     root: NodeId,
@@ -50,7 +50,7 @@ fn inserted(
     answer.map_err(|_| AllocError)
 }
 
-/// What a removal answers, on the condition that the value is this one.
+// What a removal answers, on the condition that the value is this one.
 fn removed(
     texts: &mut Texts,
     root: NodeId,
@@ -73,7 +73,7 @@ fn removed(
     ))
 }
 
-/// Whether the leaf node answers the step so.
+// Whether the leaf node answers the step so.
 fn answers(texts: &mut Texts, root: NodeId, alloc: Global, step: &Step) -> Result<bool, AllocError>
     requires { IsPlanted string_cmp 1 texts.old root }
     ensures { IsPlanted string_cmp 1 texts.new root }

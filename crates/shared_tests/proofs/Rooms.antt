@@ -1,10 +1,10 @@
 -- Tallies of zeros have room for a short schedule.
 use Rattle.std.proofs.Common.{◌≡◌, ℕ, zero, suc, ◌<◌, List, [], ◌∷◌, length, refl, sym, subst, arith, slice_index_or, Ordering}
 use Rattle.tree_model.specs.declared.commands.Command.{Command}
-use Rattle.tree_tallies.specs.declared.tally.Tally.{Tally}
-use Rattle.tree_runs.specs.Schedules.{HasRoom, FitsEachRun}
-use Rattle.tree_tallies.specs.Tallies.{none}
-use Rattle.tree_runs.proofs.Schedules.{fits_each_run}
+use Rattle.tree_state.specs.declared.tally.Tally.{Tally}
+use Rattle.tree_state.specs.Schedules.{HasRoom, FitsEachRun}
+use Rattle.tree_state.specs.Tallies.{none}
+use Rattle.tree_state.proofs.Schedules.{fits_each_run}
 
 zero_at : (worker : ℕ) → slice_index_or (none ∷ none ∷ []) worker none ≡ none
 zero_at zero = refl

@@ -2,12 +2,13 @@
 ghost use Rattle.std.specs.Prelude.{◌≡◌, ◌+◌, ◌<◌, IfSome, IfNone, vec_len};
 ghost use Rattle.std.specs.Ordering.{nat_cmp};
 ghost use Rattle.tree_model.specs.History.{IsHistoryOf};
-ghost use Rattle.tree_tallies.specs.Tallies.{sum_of};
+ghost use Rattle.tree_state.specs.Tallies.{sum_of};
 
 use std::sync::ledger::Ledger;
 use tree_shared::{Closed, Pass, SharedTreeIndex};
 
-/// Closes a shared index with its passes. Returns `None` if a pass is absent; the index and the passes end then.
+/// Closes a shared index with its passes. Returns `None` if a pass is absent; the index and the
+/// passes end then.
 pub fn closed_with<C: Ledger, S: Ledger, M: Ledger, F: Ledger, D: Ledger>(
     shared: SharedTreeIndex<u64, u64, C, S, M, F, D>,
     passes: Vec<Pass<C, S, M, F, D>>,

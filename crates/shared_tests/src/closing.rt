@@ -1,22 +1,24 @@
 //! The end of the sharing.
 ghost use Rattle.std.specs.Prelude.{◌≡◌, All};
-ghost use Rattle.tree_tallies.specs.Tallies.{none};
+ghost use Rattle.tree_state.specs.Tallies.{none};
 
+use crate::calls::reply_to;
 use crate::closed::closed_with;
-use crate::one_worker::reply_to;
-use crate::scenario::{Scenario, play};
-use std::alloc::AllocError;
+use crate::scenario::{NEW, Scenario, play};
+use std::alloc::{AllocError, Global};
 use std::process::Abort;
 use std::sync::Wait;
 use std::sync::ledger::Ledger;
-use test_support::refusals::succeeds;
+use std::thread::Threads;
+use std::time::Clock;
+use test_support::refusals::{is_granted_again, succeeds};
 use tree_index::{Command, Record, Reply, TreeIndex};
 use tree_shared::{Closed, Pass, SharedTreeIndex, Tally, Unclosed};
 
 const INSERT: Command<u64, u64> = Command::Insert(1, 10);
 
-/// Whether nothing is counted with no worker.
-pub(crate) fn closes_without_workers<C: Ledger, S: Ledger, M: Ledger, F: Ledger, D: Ledger>(
+// Whether nothing is counted if no call was made.
+pub(crate) fn closes_without_calls<C: Ledger, S: Ledger, M: Ledger, F: Ledger, D: Ledger>(
     shared: SharedTreeIndex<u64, u64, C, S, M, F, D>,
     passes: Vec<Pass<C, S, M, F, D>>,
 ) -> bool {
@@ -33,13 +35,31 @@ pub(crate) fn closes_without_workers<C: Ledger, S: Ledger, M: Ledger, F: Ledger,
     }
 }
 
+// Makes an index for two workers, a second time if that is refused. `Err` if it was refused.
+fn make_twice<R: Threads + Wait + Clock + Abort + Sync>(
+    rt: &R,
+    alloc: Global,
+) -> Result<(), AllocError> {
+    if play(rt, alloc, 2, Scenario::New).is_ok() {
+        return Ok(());
+    }
+    let is_granted = play(rt, alloc, 2, Scenario::New).is_ok();
+    assert!(rt; is_granted_again(alloc, NEW, is_granted)?);
+    Err(AllocError)
+}
+
+#[test]
+fn an_index_is_made_again(rt: HostRuntime) {
+    assert!(rt; succeeds(rt.alloc(), || make_twice(&rt, rt.alloc())));
+}
+
 #[test]
 fn nothing_is_counted_without_workers(rt: HostRuntime) {
     assert!(rt; succeeds(rt.alloc(), || play(&rt, rt.alloc(), 0, Scenario::NoWorker)));
 }
 
-/// Whether the index comes back with the pass of the only call, one of two, and is closed with both. `Err` if the call was
-/// refused.
+// Whether the index comes back with the pass of the only call, one of two, and is closed with
+// both. `Err` if the call was refused.
 pub(crate) fn closes_with_all_passes<
     C: Ledger,
     S: Ledger,
@@ -75,7 +95,7 @@ fn insert_by_first<C: Ledger, S: Ledger, M: Ledger, F: Ledger, D: Ledger, R: Wai
     passes: &mut Vec<Pass<C, S, M, F, D>>,
 ) -> Result<Reply<u64>, AllocError> {
     match passes.get_mut(0) {
-        Some(pass) => reply_to(rt, shared, pass, &INSERT),
+        Some(pass) => reply_to(rt, shared, pass, INSERT).map_err(|_| AllocError),
         None => Err(AllocError),
     }
 }
@@ -120,7 +140,8 @@ fn is_left(calls: u64, closed: &Closed<u64, u64>) -> bool {
     closed.tally == wanted && is_recorded(calls, &closed.index, &closed.history)
 }
 
-// Whether an insert that was answered is in a history and in an index, and one that was refused in neither.
+// Whether an insert that was answered is in a history and in an index, and one that was refused in
+// neither.
 fn is_recorded(calls: u64, index: &TreeIndex<u64, u64>, history: &[Record<u64, u64>]) -> bool {
     match history {
         [] => calls == 0 && index.is_empty(),
@@ -145,7 +166,8 @@ fn comes_back_without_a_pass(rt: HostRuntime) {
     );
 }
 
-/// Whether the index and its history come back while a pass is out. `Err` if its only call was refused.
+// Whether the index and its history come back while a pass is out. `Err` if its only call was
+// refused.
 pub(crate) fn parts_while_a_pass_is_out<
     C: Ledger,
     S: Ledger,

@@ -8,9 +8,9 @@ use std::sync::atomic::{AtomicBool, AtomicU64, Ordering};
 use std::thread;
 use std::thread::Threads;
 use std::time::{Clock, Duration};
-use test_support::refusals::succeeds;
+use test_support::refusals::{begins, ends, is_granted_again, succeeds};
 use tree_index::{Command, Record};
-use tree_workers::{Gate, OpenGate, StormError, run_workers};
+use tree_shared::{Gate, OpenGate, StormError, run_workers};
 
 // Waits for a flag, at most so many milliseconds. Returns whether it was raised.
 fn is_raised<R: Clock>(rt: &R, flag: &AtomicBool, patience: u64) -> bool {
@@ -53,7 +53,8 @@ impl Turns {
     }
 }
 
-// Holds the first calls of two workers until both are there, and sees that each asks and tells by turns.
+// Holds the first calls of two workers until both are there, and sees that each asks and tells by
+// turns.
 #[derive(Drop)]
 struct Meeting<R> {
     rt: R,
@@ -117,8 +118,8 @@ fn is_out_of_memory(alloc: Global) -> bool {
     Vec::<u8>::with_capacity(alloc, 1).is_err()
 }
 
-// Returns the history of a storm that no gate stops. Its index and its tally fit it, and one refusal takes one call at most.
-// Returns `Err` if memory or a thread is refused before the calls.
+// Returns the history of a storm that no gate stops. Its index and its tally fit it, and one
+// refusal takes one call at most. Returns `Err` if memory or a thread is refused before the calls.
 fn history_of<R: Threads + Wait + Abort + Sync, G: Gate + Sync>(
     rt: &R,
     alloc: Global,
@@ -142,6 +143,38 @@ fn history_of<R: Threads + Wait + Abort + Sync, G: Gate + Sync>(
     }
 }
 
+// Runs a storm of two workers and three pairs. Returns whether each of its calls was answered.
+fn is_answered<R: Threads + Wait + Abort + Sync>(rt: &R, alloc: Global) -> bool {
+    begins(alloc, "run_workers");
+    let ended = run_workers(rt, alloc, 2, 3, &OpenGate);
+    ends(alloc);
+    match ended {
+        Ok(closed) => {
+            let (calls, stored) = (closed.tally.calls, closed.tally.stored);
+            assert!(rt; calls <= 6 && stored <= 3 && stored == closed.index.len() as u64);
+            calls == 6
+        }
+        Err(told) => {
+            assert!(rt; told == StormError::Refused);
+            false
+        }
+    }
+}
+
+// Runs such a storm, a second time if something is refused. `Err` if something was.
+fn run_twice<R: Threads + Wait + Abort + Sync>(rt: &R, alloc: Global) -> Result<(), AllocError> {
+    if is_answered(rt, alloc) {
+        return Ok(());
+    }
+    assert!(rt; is_granted_again(alloc, "run_workers", is_answered(rt, alloc))?);
+    Err(AllocError)
+}
+
+#[test]
+fn a_storm_is_run_again(rt: HostRuntime) {
+    assert!(rt; succeeds(rt.alloc(), || run_twice(&rt, rt.alloc())));
+}
+
 // Sees that the gate stops a storm.
 fn expect_stop<R: Threads + Wait + Abort + Sync, G: Gate + Sync>(
     rt: &R,
@@ -159,7 +192,8 @@ fn expect_stop<R: Threads + Wait + Abort + Sync, G: Gate + Sync>(
     }
 }
 
-// Workers that ran one after another would be stopped here. If both have started, they make all their calls, refused or not.
+// Workers that ran one after another would be stopped here. If both have started, they make all
+// their calls, refused or not.
 #[test]
 fn gate_needs_two_workers(rt: HostRuntime) {
     let steps = || {
@@ -182,8 +216,8 @@ fn gate_stops_a_worker_alone(rt: HostRuntime) {
     assert!(rt; succeeds(rt.alloc(), steps));
 }
 
-// Lets the second worker begin once the first has told its second call, and holds the first there until the second asks
-// for its own second call.
+// Lets the second worker begin once the first has told its second call, and holds the first there
+// until the second asks for its own second call.
 #[derive(Drop)]
 struct Relay<R> {
     rt: R,
@@ -217,7 +251,8 @@ fn inserts(history: &[Record<u64, u64>], keys: &[u64]) -> bool {
     history.len() == keys.len()
 }
 
-// Sees that the inserts of a storm are these, in this order. Returns `Err` if one is refused, or a thread.
+// Sees that the inserts of a storm are these, in this order. Returns `Err` if one is refused, or a
+// thread.
 fn expect_inserts<R: Threads + Wait + Abort + Sync, G: Gate + Sync>(
     rt: &R,
     alloc: Global,

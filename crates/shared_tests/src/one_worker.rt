@@ -1,162 +1,21 @@
 //! The calls of one worker.
 ghost use Rattle.std.specs.Prelude.{◌≡◌, All};
-ghost use Rattle.tree_tallies.specs.Tallies.{none};
+ghost use Rattle.tree_state.specs.Tallies.{none};
 
+use crate::calls::{Outcome, Row, make_calls, reply_to};
 use crate::closed::closed_with;
+use crate::numbered::{Numbered, has_calls};
+use crate::pairs::{has_pairs, pairs_after};
 use crate::scenario::{Scenario, play};
-use std::alloc::AllocError;
+use std::alloc::{AllocError, Global};
 use std::ops::Bound;
 use std::process::Abort;
 use std::sync::Wait;
 use std::sync::ledger::Ledger;
 use test_support::refusals::succeeds;
-use tree_index::{Command, InsertError, Record, Reply};
-use tree_shared::{Pass, SharedTreeIndex, SharedTreeIndexOf, Tally};
-
-/// A call, and the reply to it.
-pub(crate) type Row = (Command<u64, u64>, Reply<u64>);
-
-/// Returns what a call is answered. A pair that is refused comes back.
-pub(crate) fn reply_to<
-    C: Ledger,
-    S: Ledger,
-    M: Ledger,
-    F: Ledger,
-    D: Ledger,
-    R: Wait + Abort,
-    const LEN: usize,
->(
-    rt: &R,
-    shared: &SharedTreeIndexOf<u64, u64, C, S, M, F, D, LEN>,
-    pass: &mut Pass<C, S, M, F, D>,
-    command: &Command<u64, u64>,
-) -> Result<Reply<u64>, AllocError> {
-    if pass.tally().calls > 10_000 {
-        return Err(AllocError);
-    }
-    Ok(match command {
-        Command::Insert(key, value) => match shared.insert(rt, pass, *key, *value) {
-            Ok(()) => Reply::Stored,
-            Err(InsertError::Duplicate(_, _)) => Reply::Duplicate,
-            Err(back) => {
-                assert!(rt; back == InsertError::OutOfMemory(*key, *value));
-                return Err(AllocError);
-            }
-        },
-        Command::Upsert(key, value) => match shared.upsert(rt, pass, *key, *value) {
-            Ok(()) => Reply::Stored,
-            Err(back) => {
-                assert!(rt; back == (*key, *value));
-                return Err(AllocError);
-            }
-        },
-        Command::Remove(key) => Reply::Removed(shared.remove(rt, pass, key)?),
-        Command::RemoveRange(low, high) => {
-            shared.remove_range(rt, pass, (low.as_ref(), high.as_ref()))?;
-            Reply::Done
-        }
-        Command::Clear => {
-            shared.clear(rt, pass)?;
-            Reply::Done
-        }
-        Command::Peek(key) => Reply::Found(shared.peek(rt, pass, key)?),
-    })
-}
-
-// Makes a call, at once or the second time. Returns whether it was refused once; the pass counted nothing then. `Err` if it
-// was refused both times.
-fn call_twice<
-    C: Ledger,
-    S: Ledger,
-    M: Ledger,
-    F: Ledger,
-    D: Ledger,
-    R: Wait + Abort,
-    const LEN: usize,
->(
-    rt: &R,
-    shared: &SharedTreeIndexOf<u64, u64, C, S, M, F, D, LEN>,
-    pass: &mut Pass<C, S, M, F, D>,
-    (command, reply): &Row,
-) -> Result<bool, AllocError> {
-    let before = pass.tally();
-    let mut refused = false;
-    for _ in 0..2 {
-        if let Ok(told) = reply_to(rt, shared, pass, command) {
-            assert!(rt; told == *reply);
-            return Ok(refused);
-        }
-        assert!(rt; pass.tally() == before);
-        refused = true;
-    }
-    Err(AllocError)
-}
-
-/// Makes these calls, and sees that they are answered so. Returns whether one was refused.
-pub(crate) fn make_calls<
-    C: Ledger,
-    S: Ledger,
-    M: Ledger,
-    F: Ledger,
-    D: Ledger,
-    R: Wait + Abort,
-    const LEN: usize,
->(
-    rt: &R,
-    shared: &SharedTreeIndexOf<u64, u64, C, S, M, F, D, LEN>,
-    pass: &mut Pass<C, S, M, F, D>,
-    rows: &[Row],
-) -> Result<bool, AllocError> {
-    let mut refused = false;
-    for row in rows {
-        refused |= call_twice(rt, shared, pass, row)?;
-    }
-    Ok(refused)
-}
-
-/// Whether the calls below leave this, as far as they were answered: a history in which a refused call has no record. `Err`
-/// if one was refused.
-fn are_recorded(
-    history: &[Record<u64, u64>],
-    tally: Tally,
-    is_empty: bool,
-    outcome: Result<bool, AllocError>,
-) -> Result<bool, AllocError> {
-    let wanted = Tally {
-        calls: 10,
-        stored: 4,
-        removed: 1,
-        found: 1,
-        done: 2,
-    };
-    if !are_the_first_calls(history) || tally.calls != history.len() as u64 {
-        return Ok(false);
-    }
-    let refused = outcome?;
-    if refused && tally == wanted && is_empty {
-        return Err(AllocError);
-    }
-    Ok(!refused && tally == wanted && is_empty)
-}
-
-/// Whether each call is answered and recorded.
-pub(crate) fn each_call<C: Ledger, S: Ledger, M: Ledger, F: Ledger, D: Ledger, R: Wait + Abort>(
-    rt: &R,
-    shared: SharedTreeIndex<u64, u64, C, S, M, F, D>,
-    mut passes: Vec<Pass<C, S, M, F, D>>,
-) -> Result<bool, AllocError>
-    requires { All (λ pass. pass ≡ none) passes.items }
-{
-    let Some(pass) = passes.get_mut(0) else {
-        return Ok(false);
-    };
-    let outcome = make_calls(rt, &shared, pass, &CALLS);
-    let Ok(closed) = shared.close(passes) else {
-        return Ok(false);
-    };
-    let is_empty = closed.index.is_empty();
-    are_recorded(&closed.history, closed.tally, is_empty, outcome)
-}
+use tree_index::{Command, Reply};
+use tree_shared::{ClosedOf, Pass, SharedTreeIndex, SharedTreeIndexOf, Tally};
+use tree_support::flaws;
 
 static CALLS: [Row; 10] = [
     (Command::Insert(1, 10), Reply::Stored),
@@ -174,51 +33,240 @@ static CALLS: [Row; 10] = [
     (Command::Peek(1), Reply::Found(None)),
 ];
 
-// Whether a history is that of the first of the calls above.
-fn are_the_first_calls(history: &[Record<u64, u64>]) -> bool {
-    for (record, (command, reply)) in history.iter().zip(&CALLS) {
-        if record.command != *command || record.reply != *reply {
-            return false;
+const FIRST: Row = (Command::Insert(1, 6), Reply::Stored);
+
+const SECOND: Row = (Command::Insert(2, 7), Reply::Stored);
+
+const THIRD: Row = (Command::Insert(3, 8), Reply::Stored);
+
+const FOURTH: Row = (Command::Insert(4, 9), Reply::Stored);
+
+const MIDDLE: Command<u64, u64> = Command::RemoveRange(Bound::Included(2), Bound::Excluded(4));
+
+// Each call behind four others, where the history has to grow.
+static LAST_CALLS: [[Row; 5]; 7] = [
+    [
+        FIRST,
+        SECOND,
+        THIRD,
+        FOURTH,
+        (Command::Insert(5, 1), Reply::Stored),
+    ],
+    [
+        FIRST,
+        SECOND,
+        THIRD,
+        FOURTH,
+        (Command::Insert(4, 2), Reply::Duplicate),
+    ],
+    [
+        FIRST,
+        SECOND,
+        THIRD,
+        FOURTH,
+        (Command::Upsert(2, 3), Reply::Stored),
+    ],
+    [
+        FIRST,
+        SECOND,
+        THIRD,
+        FOURTH,
+        (Command::Remove(3), Reply::Removed(true)),
+    ],
+    [FIRST, SECOND, THIRD, FOURTH, (MIDDLE, Reply::Done)],
+    [FIRST, SECOND, THIRD, FOURTH, (Command::Clear, Reply::Done)],
+    [
+        FIRST,
+        SECOND,
+        THIRD,
+        FOURTH,
+        (Command::Peek(2), Reply::Found(Some(7))),
+    ],
+];
+
+// The tally of calls that are answered so.
+fn tally_of(rows: &[Row]) -> Tally {
+    let mut tally = Tally {
+        calls: rows.len() as u64,
+        ..Tally::default()
+    };
+    for (_, reply) in rows {
+        match reply {
+            Reply::Stored => tally.stored = tally.stored.saturating_add(1),
+            Reply::Removed(true) => tally.removed = tally.removed.saturating_add(1),
+            Reply::Found(Some(_)) => tally.found = tally.found.saturating_add(1),
+            Reply::Done => tally.done = tally.done.saturating_add(1),
+            _ => {}
         }
     }
-    history.len() <= CALLS.len()
+    tally
 }
 
-/// The same over an index of seven pairs a leaf.
-pub(crate) fn each_small_call<
+// Makes these calls by the first pass, and closes the index. Returns `None` if it can't be closed.
+fn closed_after<
+    K: Numbered,
+    V: Numbered,
     C: Ledger,
     S: Ledger,
     M: Ledger,
     F: Ledger,
     D: Ledger,
-    R: Wait + Abort,
+    R: Wait,
+    const LEN: usize,
 >(
     rt: &R,
-    shared: SharedTreeIndexOf<u64, u64, C, S, M, F, D, 7>,
+    alloc: Global,
+    shared: SharedTreeIndexOf<K, V, C, S, M, F, D, LEN>,
     mut passes: Vec<Pass<C, S, M, F, D>>,
-) -> Result<bool, AllocError>
-    requires { All (λ pass. pass ≡ none) passes.items }
-{
+    rows: &[Row],
+) -> Result<Option<(ClosedOf<K, V, LEN>, Outcome)>, AllocError> {
     let Some(pass) = passes.get_mut(0) else {
+        return Ok(None);
+    };
+    let outcome = make_calls(rt, alloc, &shared, pass, rows)?;
+    match shared.close(passes) {
+        Ok(closed) => Ok(Some((closed, outcome))),
+        Err(_) => Ok(None),
+    }
+}
+
+// Returns the calls that were answered: those that the history and its tally have, or `None` if
+// these have others.
+fn answered<'r, K: Numbered, V: Numbered, const LEN: usize>(
+    closed: &ClosedOf<K, V, LEN>,
+    outcome: Outcome,
+    rows: &'r [Row],
+) -> Option<&'r [Row]> {
+    let made = rows.get(..closed.history.len())?;
+    let fits = match outcome {
+        Outcome::Answered | Outcome::AnsweredAgain => made.len() == rows.len(),
+        Outcome::OutOfMemory => made.len() < rows.len(),
+        Outcome::Wrong => false,
+    };
+    if fits && closed.tally == tally_of(made) && has_calls(&closed.history, made) {
+        Some(made)
+    } else {
+        None
+    }
+}
+
+// `Ok` with this if nothing was refused. So a test makes its steps again otherwise.
+fn ample(holds: bool, outcome: Outcome) -> Result<bool, AllocError> {
+    if holds && outcome != Outcome::Answered {
+        return Err(AllocError);
+    }
+    Ok(holds)
+}
+
+// Makes these calls over numbers below 10 or texts of them. Returns whether they are answered as
+// they should be, and leave the pairs that they should. `Err` if one was refused.
+#[tactic(auto, using(tree_node::proofs::Common::fits))]
+pub(crate) fn each_call<
+    K: Numbered,
+    V: Numbered,
+    C: Ledger,
+    S: Ledger,
+    M: Ledger,
+    F: Ledger,
+    D: Ledger,
+    R: Wait,
+    const LEN: usize,
+>(
+    rt: &R,
+    alloc: Global,
+    shared: SharedTreeIndexOf<K, V, C, S, M, F, D, LEN>,
+    passes: Vec<Pass<C, S, M, F, D>>,
+    rows: &[Row],
+) -> Result<bool, AllocError> {
+    let Some((closed, outcome)) = closed_after(rt, alloc, shared, passes, rows)? else {
         return Ok(false);
     };
-    let outcome = make_calls(rt, &shared, pass, &CALLS);
-    let Ok(closed) = shared.close(passes) else {
-        return Ok(false);
+    let holds = match answered(&closed, outcome, rows) {
+        Some(made) => has_pairs(&closed.index, &pairs_after(made)),
+        None => false,
     };
-    let is_empty = closed.index.is_empty();
-    are_recorded(&closed.history, closed.tally, is_empty, outcome)
+    ample(holds, outcome)
 }
 
 #[test]
 fn each_call_is_recorded(rt: HostRuntime) {
-    for scenario in [Scenario::EachCall, Scenario::EachSmallCall] {
+    for scenario in [Scenario::Calls(&CALLS), Scenario::SmallCalls(&CALLS)] {
         assert!(rt; succeeds(rt.alloc(), || play(&rt, rt.alloc(), 1, scenario)));
     }
 }
 
-/// Whether an insert, which may be refused, and the removal of its key are told as they were answered. `Err` if the insert
-/// was refused.
+#[test]
+fn each_call_is_made_again(rt: HostRuntime) {
+    for rows in &LAST_CALLS {
+        for scenario in [Scenario::Calls(rows), Scenario::SmallCalls(rows)] {
+            assert!(rt; succeeds(rt.alloc(), || play(&rt, rt.alloc(), 1, scenario)));
+        }
+    }
+}
+
+// Keys and values whose clones allocate.
+#[test]
+fn each_call_over_texts_is_made_again(rt: HostRuntime) {
+    for rows in &LAST_CALLS {
+        assert!(rt;
+            succeeds(
+                rt.alloc(),
+                || play(&rt, rt.alloc(), 1, Scenario::TextCalls(rows))
+            )
+        );
+    }
+}
+
+// Inserts of so many pairs in key order, and the pairs.
+fn ascending(alloc: Global, count: u64) -> Result<(Vec<Row>, Vec<(u64, u64)>), AllocError> {
+    let mut rows = Vec::with_capacity(alloc, count as usize)?;
+    let mut pairs = Vec::with_capacity(alloc, count as usize)?;
+    for number in 1..=count {
+        rows.push((Command::Insert(number, number), Reply::Stored))?;
+        pairs.push((number, number))?;
+    }
+    Ok((rows, pairs))
+}
+
+// Inserts so many pairs in key order, and walks the tree. Returns whether each is answered and
+// stored. `Err` if one was refused.
+#[tactic(auto, using(tree_node::proofs::Common::fits))]
+pub(crate) fn grows<
+    C: Ledger,
+    S: Ledger,
+    M: Ledger,
+    F: Ledger,
+    D: Ledger,
+    R: Wait,
+    const LEN: usize,
+>(
+    rt: &R,
+    alloc: Global,
+    shared: SharedTreeIndexOf<u64, u64, C, S, M, F, D, LEN>,
+    passes: Vec<Pass<C, S, M, F, D>>,
+    count: u64,
+) -> Result<bool, AllocError> {
+    let (rows, pairs) = ascending(alloc, count)?;
+    let Some((closed, outcome)) = closed_after(rt, alloc, shared, passes, &rows)? else {
+        return Ok(false);
+    };
+    let holds = match answered(&closed, outcome, &rows) {
+        Some(made) => flaws(&closed.index, pairs.get(..made.len()).unwrap_or(&[])).is_ok(),
+        None => false,
+    };
+    ample(holds, outcome)
+}
+
+// The last pair makes a second level at fifteen pairs a leaf, and a third at seven.
+#[test]
+fn inserts_into_a_growing_tree_are_made_again(rt: HostRuntime) {
+    for scenario in [Scenario::Grows(241), Scenario::SmallGrows(400)] {
+        assert!(rt; succeeds(rt.alloc(), || play(&rt, rt.alloc(), 1, scenario)));
+    }
+}
+
+// Whether an insert, which may be refused, and the removal of its key are told as they were
+// answered. `Err` if the insert was refused.
 pub(crate) fn insert_and_remove<
     C: Ledger,
     S: Ledger,
@@ -236,12 +284,12 @@ pub(crate) fn insert_and_remove<
     let Some(pass) = passes.get_mut(0) else {
         return Ok(false);
     };
-    let inserted = reply_to(rt, &shared, pass, &Command::Insert(1, 10));
+    let inserted = reply_to(rt, &shared, pass, Command::Insert(1, 10)).map_err(|_| AllocError);
     let calls = u64::from(inserted.is_ok());
     if pass.tally().calls != calls {
         return Ok(false);
     }
-    let removed = reply_to(rt, &shared, pass, &Command::Remove(1))?;
+    let removed = reply_to(rt, &shared, pass, Command::Remove(1)).map_err(|_| AllocError)?;
     let Some(closed) = closed_with(shared, passes) else {
         return Ok(false);
     };

@@ -1,21 +1,22 @@
 //! Races over one index: what each racer calls, and what is left then.
 ghost use Rattle.std.specs.Prelude.{◌<◌};
 
-use crate::one_worker::Row;
+use crate::calls::Row;
 use crate::replay::replays;
 use std::alloc::{AllocError, Global};
 use std::ops::Bound;
 use tree_index::{Command, Record, Reply};
 use tree_shared::{ClosedOf, Tally};
 
-/// What racers do.
+// What racers do.
 #[derive(Clone, Copy)]
 pub(crate) enum Race {
-    /// Two insert the same pairs. Then one pass looks two keys up.
+    // Two insert the same pairs. Then one pass looks two keys up.
     Inserts,
-    /// Eight insert, upsert and remove the same keys.
+    // Eight insert, upsert and remove the same keys.
     Edits,
-    /// Three remove and insert the keys of a range, and a fourth removes a part of it and, now and then, all pairs.
+    // Three remove and insert the keys of a range, and a fourth removes a part of it and, now and
+    // then, all pairs.
     Cuts,
 }
 
@@ -27,7 +28,7 @@ static LOOK_UPS: [Row; 2] = [
 const CUT: Command<u64, u64> = Command::RemoveRange(Bound::Excluded(10), Bound::Included(30));
 
 impl Race {
-    /// The number of racers.
+    // The number of racers.
     pub(crate) fn racers(self) -> usize
         ensures { result < 9 }
     {
@@ -38,7 +39,7 @@ impl Race {
         }
     }
 
-    /// How many calls a racer makes.
+    // How many calls a racer makes.
     pub(crate) fn calls(self, racer: u64) -> u64 {
         match self {
             Race::Inserts => 100,
@@ -48,7 +49,7 @@ impl Race {
         }
     }
 
-    /// The next call of a racer that has made so many.
+    // The next call of a racer that has made so many.
     pub(crate) fn call(self, racer: u64, made: u64) -> Command<u64, u64> {
         match self {
             Race::Inserts => Command::Insert(made.saturating_add(1), made.saturating_add(1)),
@@ -66,7 +67,7 @@ impl Race {
         }
     }
 
-    /// What one pass calls once all racers have ended.
+    // What one pass calls once all racers have ended.
     pub(crate) fn last_calls(self) -> &'static [Row] {
         match self {
             Race::Inserts => &LOOK_UPS,
@@ -140,8 +141,8 @@ fn ends_with(history: &[Record<u64, u64>], rows: &[Row]) -> bool {
     history.len() >= rows.len()
 }
 
-/// Whether the history that a race leaves replays to the index, and has what was called. `Err` if a call was refused, or a
-/// request of this function.
+// Whether the history that a race leaves replays to the index, and has what was called. `Err` if a
+// call was refused, or a request of this function.
 pub(crate) fn is_left<const LEN: usize>(
     alloc: Global,
     closed: &ClosedOf<u64, u64, LEN>,

@@ -2,11 +2,12 @@
 ghost use Rattle.std.specs.Prelude.{◌≡◌, ◌≤◌, ℕ};
 ghost use Rattle.std.proofs.Common.{rules, sym};
 ghost use Rattle.tree_model.specs.Keys.{equal_numbers};
-ghost use Rattle.tree_tallies.specs.Ledgers.{IsBlankFor};
+ghost use Rattle.tree_state.specs.Ledgers.{IsBlankFor};
 
 use crate::scenario::{Scenario, play};
 use std::alloc::{AllocError, Global};
 use std::cell::Cell;
+use std::ops::Bound;
 use std::sync::Wait;
 use std::sync::ledger::Ledger;
 use test_support::refusals::succeeds;
@@ -67,7 +68,8 @@ impl SameClone for Brittle {
     ghost clone_seen = { λ x y h. sym h };
 }
 
-/// Whether an insert that is refused a clone hands its pair back and leaves the tally, and is answered later.
+// Whether an insert that is refused a clone hands its pair back and leaves the tally, and is
+// answered later.
 fn hands_an_insert_back<C: Ledger, S: Ledger, M: Ledger, F: Ledger, D: Ledger, R: Wait>(
     rt: &R,
     shared: &SharedTreeIndex<Brittle, Brittle, C, S, M, F, D>,
@@ -93,8 +95,8 @@ fn hands_an_insert_back<C: Ledger, S: Ledger, M: Ledger, F: Ledger, D: Ledger, R
     Ok(!removed)
 }
 
-/// Whether other calls that are refused a clone leave the tally of two calls, and hand a pair back. A look-up is answered
-/// then.
+// Whether other calls that are refused a clone leave the tally of two calls, and hand a pair back.
+// A look-up is answered then.
 fn leaves_the_tally<C: Ledger, S: Ledger, M: Ledger, F: Ledger, D: Ledger, R: Wait>(
     rt: &R,
     shared: &SharedTreeIndex<Brittle, Brittle, C, S, M, F, D>,
@@ -107,19 +109,35 @@ fn leaves_the_tally<C: Ledger, S: Ledger, M: Ledger, F: Ledger, D: Ledger, R: Wa
     let Err((key, value)) = shared.upsert(rt, pass, Brittle::firm(1), Brittle::new(11, 0)) else {
         return Ok(false);
     };
-    let refused = (
+    let (firm, brittle) = (Brittle::firm(1), Brittle::new(1, 0));
+    let refused = [
         shared.remove(rt, pass, &Brittle::new(1, 0)).is_err(),
+        shared
+            .remove_range(
+                rt,
+                pass,
+                (Bound::Included(&Brittle::new(1, 0)), Bound::Included(&firm)),
+            )
+            .is_err(),
+        shared
+            .remove_range(
+                rt,
+                pass,
+                (Bound::Included(&firm), Bound::Included(&brittle)),
+            )
+            .is_err(),
         shared.peek(rt, pass, &Brittle::new(1, 0)).is_err(),
         shared.peek(rt, pass, &key).is_err(),
-    );
+    ];
     let told = (key.number, value.number, pass.tally() == before);
-    if refused != (true, true, true) || told != (1, 11, true) {
+    if refused != [true; 5] || told != (1, 11, true) {
         return Ok(false);
     }
     Ok(shared.peek(rt, pass, &key)? == Some(Brittle::firm(10)))
 }
 
-/// Whether such calls are answered so, and the closed index then has their one pair, and its history the answered calls.
+// Whether such calls are answered so, and the closed index then has their one pair, and its
+// history the answered calls.
 pub(crate) fn refused_calls<C: Ledger, S: Ledger, M: Ledger, F: Ledger, D: Ledger, R: Wait>(
     rt: &R,
     alloc: Global,
@@ -157,8 +175,8 @@ fn refusals_leave_no_trace(rt: HostRuntime) {
     assert!(rt; succeeds(rt.alloc(), || play(&rt, rt.alloc(), 1, Scenario::Refusals)));
 }
 
-/// Whether a look-up of a text is told as it was answered. Where it is refused, the next one finds the value. `Err` if it
-/// was refused.
+// Whether a look-up of a text is told as it was answered. Where it is refused, the next one finds
+// the value. `Err` if it was refused.
 pub(crate) fn looks_a_text_up<C: Ledger, S: Ledger, M: Ledger, F: Ledger, D: Ledger, R: Wait>(
     rt: &R,
     alloc: Global,

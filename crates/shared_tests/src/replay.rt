@@ -4,8 +4,8 @@ use std::collections::BTreeMap;
 use std::ops::RangeBounds;
 use tree_index::{Command, Record, Reply, TreeIndexOf};
 
-/// Returns whether a map that is empty at first gives each command the reply in the history, and then has the pairs of
-/// the index.
+// Returns whether a map that is empty at first gives each command the reply in the history, and
+// then has the pairs of the index.
 pub(crate) fn replays<const LEN: usize>(
     alloc: Global,
     history: &[Record<u64, u64>],

@@ -1,9 +1,10 @@
 //! Scenarios over a shared index, and the one place where its five ledgers are named.
 ghost use Rattle.std.specs.Prelude.{◌≡◌, ◌<◌};
-ghost use Rattle.tree_tallies.specs.Ledgers.{IsBlankFor};
+ghost use Rattle.tree_state.specs.Ledgers.{IsBlankFor};
 
-use crate::closing::{closes_with_all_passes, closes_without_workers, parts_while_a_pass_is_out};
-use crate::one_worker::{each_call, each_small_call, insert_and_remove};
+use crate::calls::Row;
+use crate::closing::{closes_with_all_passes, closes_without_calls, parts_while_a_pass_is_out};
+use crate::one_worker::{each_call, grows, insert_and_remove};
 use crate::races::Race;
 use crate::refusals::{looks_a_text_up, refused_calls};
 use crate::threads::{run_race, run_small_race};
@@ -14,16 +15,24 @@ use std::sync::Wait;
 use std::sync::ledger::Ledger;
 use std::thread::Threads;
 use std::time::Clock;
+use test_support::refusals::{begins, ends};
 use tree_shared::{Blanks, SharedTreeIndex, SharedTreeIndexOf};
 
-/// What a test does with a shared index.
+// The name of the call that makes a shared index, as `bench/refusals` lists it.
+pub(crate) const NEW: &str = "SharedTreeIndex::new";
+
+// What a test does with a shared index.
 #[derive(Clone, Copy)]
 pub(crate) enum Scenario {
+    New,
     NoWorker,
     PassAbsent,
     Parts,
-    EachCall,
-    EachSmallCall,
+    Calls(&'static [Row]),
+    SmallCalls(&'static [Row]),
+    TextCalls(&'static [Row]),
+    Grows(u64),
+    SmallGrows(u64),
     InsertAndRemove,
     Refusals,
     LookUpOfText,
@@ -31,7 +40,8 @@ pub(crate) enum Scenario {
     SmallThreads(Race),
 }
 
-/// Plays a scenario for so many workers, with ledgers of its own, and sees that it is answered as it should be.
+// Plays a scenario for so many workers, with ledgers of its own, and sees that it is answered as
+// it should be.
 pub(crate) fn play<R: Threads + Wait + Clock + Abort + Sync>(
     rt: &R,
     alloc: Global,
@@ -74,21 +84,37 @@ fn is_answered<
     if let Scenario::LookUpOfText = scenario {
         return looks_a_text_up::<C, S, M, F, D, R>(rt, alloc, workers, blanks);
     }
-    if let Scenario::EachSmallCall | Scenario::SmallThreads(_) = scenario {
+    if let Scenario::TextCalls(rows) = scenario {
+        let (shared, passes) = SharedTreeIndex::<String, String, C, S, M, F, D>::new(
+            alloc, workers, blanks,
+        )?;
+        return each_call(rt, alloc, shared, passes, rows);
+    }
+    if let Scenario::SmallCalls(_)
+    | Scenario::SmallGrows(_)
+    | Scenario::SmallThreads(_) = scenario
+    {
         let (shared, passes) = SharedTreeIndexOf::<u64, u64, C, S, M, F, D, 7>::new(
             alloc, workers, blanks,
         )?;
         return match scenario {
+            Scenario::SmallCalls(rows) => each_call(rt, alloc, shared, passes, rows),
+            Scenario::SmallGrows(count) => grows(rt, alloc, shared, passes, count),
             Scenario::SmallThreads(race) => run_small_race(rt, alloc, shared, passes, race),
-            _ => each_small_call(rt, shared, passes),
+            _ => Ok(false),
         };
     }
-    let (shared, passes) = SharedTreeIndex::<u64, u64, C, S, M, F, D>::new(alloc, workers, blanks)?;
+    begins(alloc, NEW);
+    let made = SharedTreeIndex::<u64, u64, C, S, M, F, D>::new(alloc, workers, blanks);
+    ends(alloc);
+    let (shared, passes) = made?;
     match scenario {
-        Scenario::NoWorker => Ok(closes_without_workers(shared, passes)),
+        Scenario::New => Ok(passes.len() == workers && closes_without_calls(shared, passes)),
+        Scenario::NoWorker => Ok(closes_without_calls(shared, passes)),
         Scenario::PassAbsent => closes_with_all_passes(rt, shared, passes),
         Scenario::Parts => parts_while_a_pass_is_out(rt, shared, passes),
-        Scenario::EachCall => each_call(rt, shared, passes),
+        Scenario::Calls(rows) => each_call(rt, alloc, shared, passes, rows),
+        Scenario::Grows(count) => grows(rt, alloc, shared, passes, count),
         Scenario::InsertAndRemove => insert_and_remove(rt, shared, passes),
         Scenario::Threads(race) => run_race(rt, alloc, shared, passes, race),
         _ => Ok(false),

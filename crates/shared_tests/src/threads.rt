@@ -1,6 +1,6 @@
 //! Threads that share an index.
+use crate::calls::{Outcome, make_calls};
 use crate::closed::closed_with;
-use crate::one_worker::{make_calls, reply_to};
 use crate::races::{Race, is_left};
 use crate::scenario::{Scenario, play};
 use std::alloc::{AllocError, Global};
@@ -12,7 +12,55 @@ use std::thread;
 use std::thread::Threads;
 use std::time::{Clock, Duration};
 use test_support::refusals::succeeds;
+use tree_index::{Command, InsertError, Reply};
 use tree_shared::{Pass, SharedTreeIndex, SharedTreeIndexOf};
+
+// Returns what a racer's call is answered. A pair that is refused comes back.
+fn reply_to<
+    C: Ledger,
+    S: Ledger,
+    M: Ledger,
+    F: Ledger,
+    D: Ledger,
+    R: Wait + Abort,
+    const LEN: usize,
+>(
+    rt: &R,
+    shared: &SharedTreeIndexOf<u64, u64, C, S, M, F, D, LEN>,
+    pass: &mut Pass<C, S, M, F, D>,
+    command: &Command<u64, u64>,
+) -> Result<Reply<u64>, AllocError> {
+    if pass.tally().calls > 10_000 {
+        return Err(AllocError);
+    }
+    Ok(match command {
+        Command::Insert(key, value) => match shared.insert(rt, pass, *key, *value) {
+            Ok(()) => Reply::Stored,
+            Err(InsertError::Duplicate(_, _)) => Reply::Duplicate,
+            Err(back) => {
+                assert!(rt; back == InsertError::OutOfMemory(*key, *value));
+                return Err(AllocError);
+            }
+        },
+        Command::Upsert(key, value) => match shared.upsert(rt, pass, *key, *value) {
+            Ok(()) => Reply::Stored,
+            Err(back) => {
+                assert!(rt; back == (*key, *value));
+                return Err(AllocError);
+            }
+        },
+        Command::Remove(key) => Reply::Removed(shared.remove(rt, pass, key)?),
+        Command::RemoveRange(low, high) => {
+            shared.remove_range(rt, pass, (low.as_ref(), high.as_ref()))?;
+            Reply::Done
+        }
+        Command::Clear => {
+            shared.clear(rt, pass)?;
+            Reply::Done
+        }
+        Command::Peek(key) => Reply::Found(shared.peek(rt, pass, key)?),
+    })
+}
 
 // A thread's number and pass, and whether each of its calls was answered.
 #[derive(Drop)]
@@ -73,8 +121,8 @@ fn passes_of<C: Ledger, S: Ledger, M: Ledger, F: Ledger, D: Ledger>(
 // What is added to the number of threads where one waited in vain.
 const TOO_LATE: u64 = 1 << 32;
 
-// Waits a while for as many threads as there are racers. Returns whether they all came: where a thread or its memory is
-// refused, its racer comes once another has raced.
+// Waits a while for as many threads as there are racers. Returns whether they all came: where a
+// thread or its memory is refused, its racer comes once another has raced.
 fn all_meet<R: Clock>(rt: &R, here: &AtomicU64, racers: u64) -> bool {
     here.fetch_add(1, Ordering::SeqCst);
     for _ in 0..3_000 {
@@ -117,7 +165,8 @@ fn raced<
     passes_of(alloc, racers, race)
 }
 
-/// Runs a race with these passes. Returns whether it leaves what it can, or `Err` if a call was refused.
+// Runs a race with these passes. Returns whether it leaves what it can, or `Err` if a call was
+// refused.
 pub(crate) fn run_race<
     C: Ledger + Send + Sync,
     S: Ledger + Send + Sync,
@@ -134,7 +183,7 @@ pub(crate) fn run_race<
 ) -> Result<bool, AllocError> {
     let (mut passes, mut served) = raced(rt, alloc, &shared, passes, race)?;
     if let Some(pass) = passes.get_mut(0) {
-        served &= make_calls(rt, &shared, pass, race.last_calls()) == Ok(false);
+        served &= make_calls(rt, alloc, &shared, pass, race.last_calls()) == Ok(Outcome::Answered);
     }
     let Some(closed) = closed_with(shared, passes) else {
         return Ok(false);
@@ -142,7 +191,7 @@ pub(crate) fn run_race<
     is_left(alloc, &closed, race, served)
 }
 
-/// The same over an index of seven pairs a leaf.
+// The same over an index of seven pairs a leaf.
 pub(crate) fn run_small_race<
     C: Ledger + Send + Sync,
     S: Ledger + Send + Sync,
@@ -159,7 +208,7 @@ pub(crate) fn run_small_race<
 ) -> Result<bool, AllocError> {
     let (mut passes, mut served) = raced(rt, alloc, &shared, passes, race)?;
     if let Some(pass) = passes.get_mut(0) {
-        served &= make_calls(rt, &shared, pass, race.last_calls()) == Ok(false);
+        served &= make_calls(rt, alloc, &shared, pass, race.last_calls()) == Ok(Outcome::Answered);
     }
     let Ok(closed) = shared.close(passes) else {
         return Ok(false);

@@ -1,11 +1,13 @@
 //! Tests of which requests for memory are refused.
 use std::alloc::{AllocError, Global};
 
-/// Returns whether the steps of a test succeed, at once or, where memory was refused on the way, the second time.
+/// Returns whether the steps of a test succeed, at once or, where memory was refused on the way,
+/// the second time.
 ///
-/// In an ordinary run nothing is refused, so a call that refuses without need fails the test. With one refusal the steps
-/// succeed the second time. Where each request is refused from some point on, they can't; then a request of this
-/// function is refused too, and the test ends well: what the steps assert is what it shows.
+/// In an ordinary run nothing is refused, so a call that refuses without need fails the test. With
+/// one refusal the steps succeed the second time. Where each request is refused from some point on,
+/// they can't; then a request of this function is refused too, and the test ends well: what the
+/// steps assert is what it shows.
 pub fn succeeds<F: Fn() -> Result<(), AllocError> + Drop>(alloc: Global, steps: F) -> bool
     requires { F.IsAlwaysCallable steps }
 {
@@ -17,8 +19,9 @@ pub fn is_out_of_memory(alloc: Global) -> bool {
     Vec::<u8>::with_capacity(alloc, 1).is_err()
 }
 
-/// Returns whether a call of this name, which was made again after an allocation failed in it, could allocate this time.
-/// Returns `Err` if nothing can be allocated any more, so that it couldn't.
+/// Returns whether a call of this name, which was made again after an allocation failed in it,
+/// could allocate this time. Returns `Err` if nothing can be allocated any more, so that it
+/// couldn't.
 pub fn is_granted_again(alloc: Global, call: &str, is_granted: bool) -> Result<bool, AllocError> {
     if is_granted {
         answers_again(alloc, call);
@@ -28,17 +31,17 @@ pub fn is_granted_again(alloc: Global, call: &str, is_granted: bool) -> Result<b
     Ok(is_granted)
 }
 
-// How `bench/refusals` learns which call makes a request: `bench/refuse.c`, which stands before the allocator, knows a
-// block of one of these sizes, reads the name in it when it is freed, and never counts or refuses its request. Nothing
-// else asks for so many bytes.
+// How `bench/refusals` learns which call makes a request: `bench/refuse.c`, which stands before the
+// allocator, knows a block of one of these sizes, reads the name in it when it is freed, and never
+// counts or refuses its request. Nothing else asks for so many bytes.
 const BEGINS: usize = 40961;
 
 const ENDS: usize = 40963;
 
 const ANSWERS_AGAIN: usize = 40973;
 
-/// Tells `bench/refusals` that this thread's next requests are those of the call of this name. An ordinary run shows
-/// nothing of it.
+/// Tells `bench/refusals` that this thread's next requests are those of the call of this name. An
+/// ordinary run shows nothing of it.
 pub fn begins(alloc: Global, call: &str) {
     note(alloc, BEGINS, call);
 }
@@ -48,13 +51,13 @@ pub fn ends(alloc: Global) {
     note(alloc, ENDS, "");
 }
 
-/// Tells `bench/refusals` that the call of this name was made again after an allocation failed in it, and answered as it
-/// should.
+/// Tells `bench/refusals` that the call of this name was made again after an allocation failed in
+/// it, and answered as it should.
 pub fn answers_again(alloc: Global, call: &str) {
     note(alloc, ANSWERS_AGAIN, call);
 }
 
-/// Writes a name and a zero into a block of this size, and frees the block.
+// Writes a name and a zero into a block of this size, and frees the block.
 fn note(alloc: Global, size: usize, call: &str) {
     let Ok(mut block) = Vec::<u8>::with_capacity(alloc, size) else {
         return;

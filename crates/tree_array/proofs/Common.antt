@@ -31,5 +31,5 @@ pub use Rattle.tree_model.proofs.Lengths.{length-put, without_absent, without_fe
 pub use Rattle.tree_model.proofs.Lists.{all_map, all-append, filter_none, filter_all, all-filter, all_at, find_none, filter_same}
 pub use Rattle.tree_model.proofs.LookUps.{equal_from_test, absent_beyond, put_beyond}
 pub use Rattle.tree_model.proofs.Order.{greater_from_less, less_from_greater, alike, alike_after}
-pub use Rattle.tree_order.proofs.Common.{length-picked, len_small, named, names, picked, is_retired, length-names, IsOrder, live, named_at, slice_get-names, inserted, ordinal_in, rises_in}
-pub use Rattle.tree_order.proofs.Common.{renamed, picked-next, taken_out}
+pub use Rattle.tree_cells.proofs.OrderCommon.{length-picked, len_small, named, names, picked, is_retired, length-names, IsOrder, live, named_at, slice_get-names, inserted, ordinal_in, rises_in}
+pub use Rattle.tree_cells.proofs.OrderCommon.{renamed, picked-next, taken_out}

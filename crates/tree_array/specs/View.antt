@@ -3,7 +3,7 @@ use Rattle.std.specs.Prelude.{ℕ, Bool, List, Option}
 use Rattle.std.specs.declared.cmp.Ordering.{Ordering}
 use Rattle.tree_cells.specs.Arrivals.{held}
 use Rattle.tree_cells.specs.Tabled.{IsTabled}
-use Rattle.tree_order.specs.Order.{is_retired, names, picked, IsOrder}
+use Rattle.tree_cells.specs.Order.{is_retired, names, picked, IsOrder}
 use Rattle.tree_array.specs.Arrivals.{Arrivals, arrival}
 
 module _ {K V : Type 0} where

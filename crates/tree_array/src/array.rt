@@ -4,7 +4,7 @@ ghost use Rattle.tree_array.specs.Arrivals.{Arrivals, arrival, free, in_order};
 ghost use Rattle.tree_array.specs.Insertion.{IsFull};
 ghost use Rattle.tree_array.specs.Length.{IsLen};
 ghost use Rattle.tree_array.specs.Sound.{IsSound};
-ghost use Rattle.tree_order.specs.Order.{IsOrder};
+ghost use Rattle.tree_cells.specs.Order.{IsOrder};
 
 pub use crate::answers::{
     DIMENSION, Dimension, InsertResult, RemoveResult, SMALL_DIMENSION, StoreResult,
@@ -12,7 +12,7 @@ pub use crate::answers::{
 use std::marker::Model;
 use tree_cells::cells::Cells;
 pub use tree_cells::judge::{Asks, Judge, KeyJudge, Steps};
-use tree_order::order::{EMPTY, Order, RETIRED, slot_at};
+use tree_cells::order::{EMPTY, Order, RETIRED, slot_at};
 
 mod changes;
 mod division;
@@ -29,9 +29,10 @@ pub use walk::{ArrayIter, ArrayRevIter};
 /// A fixed array of `LEN` slots, 7 or 15, in which pairs arrive one after another and are found in
 /// the order of their keys.
 ///
-/// A pair that is stored takes the next slot. A pair that is removed or replaced is dropped, and its
-/// slot stays spent. An array whose last pair was removed is retired, and takes no more until it is rebuilt.
-/// Keys stand apart from values, and one word keeps the order of the keys. No call allocates.
+/// A pair that is stored takes the next slot. A pair that is removed or replaced is dropped, and
+/// its slot stays spent. An array whose last pair was removed is retired, and takes no more until
+/// it is rebuilt. Keys stand apart from values, and one word keeps the order of the keys. No call
+/// allocates.
 pub struct ArrayOf<K: Ord, V, const LEN: usize> {
     order: u64,
     cells: Cells<K, V, LEN>,
@@ -51,7 +52,7 @@ impl<K: Ord, V, const LEN: usize> Model for ArrayOf<K, V, LEN> {
     ghost invariant = { λ a. IsArray K.cmp LEN a.cells.pairs a.order a.cells.counts.entries a.cells.counts.arrivals };
 }
 
-/// Returns the order of an array, by the word that it keeps and the count of its entries.
+// Returns the order of an array, by the word that it keeps and the count of its entries.
 #[inline(always)]
 fn order_of<K, V, const LEN: usize>(word: u64, cells: &Cells<K, V, LEN>) -> Order<LEN>
     requires { IsOrder LEN word cells.now.counts.entries }

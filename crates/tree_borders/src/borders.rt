@@ -9,7 +9,8 @@ use std::ops::Bound;
 use tree_array::array::ArrayOf;
 use tree_node::node::NodeOf;
 
-/// Returns the place of the first child that may have a key that meets a lower bound. Searches the node's array once.
+/// Returns the place of the first child that may have a key that meets a lower bound. Searches the
+/// node's array once.
 pub fn first_place<K: Ord + Drop, const LEN: usize>(node: &NodeOf<K, LEN>, low: Bound<&K>) -> u8
     ensures { BeginsAt K.cmp (lent_bound low.entry) (keyed node.now).entries result }
 {
@@ -20,7 +21,8 @@ pub fn first_place<K: Ord + Drop, const LEN: usize>(node: &NodeOf<K, LEN>, low: 
     }
 }
 
-/// Returns the place of the last child that may have a key that meets an upper bound. Searches the node's array once.
+/// Returns the place of the last child that may have a key that meets an upper bound. Searches the
+/// node's array once.
 pub fn last_place<K: Ord + Drop, const LEN: usize>(node: &NodeOf<K, LEN>, high: Bound<&K>) -> u8
     ensures ends { EndsAt K.cmp (lent_bound high.entry) (keyed node.now).entries result }
     ensures few { result < 16 }
@@ -32,7 +34,7 @@ pub fn last_place<K: Ord + Drop, const LEN: usize>(node: &NodeOf<K, LEN>, high: 
     }
 }
 
-/// Returns the place of the child that a key belongs to.
+// Returns the place of the child that a key belongs to.
 fn place_in<K: Ord + Drop, const LEN: usize>(node: &NodeOf<K, LEN>, key: &K) -> u8
     ensures parts { PartsAt K.cmp key.now (keyed node.now).entries result }
     ensures few { result < 16 }
@@ -43,7 +45,8 @@ fn place_in<K: Ord + Drop, const LEN: usize>(node: &NodeOf<K, LEN>, key: &K) -> 
     }
 }
 
-/// Returns the place of the least separator that isn't less than a key, or the number of separators if all are.
+// Returns the place of the least separator that isn't less than a key, or the number of separators
+// if all are.
 fn place_for<K: Ord + Drop, I: Drop, const LEN: usize>(children: &ArrayOf<K, I, LEN>, key: &K) -> u8
     ensures parts { PartsAt K.cmp key.now children.now.entries result }
     ensures few { result < 16 }
@@ -63,8 +66,8 @@ fn place_for<K: Ord + Drop, I: Drop, const LEN: usize>(children: &ArrayOf<K, I, 
     all
 }
 
-/// Returns the bounds that are left to test in the child at a place: the lower one in the first child, the upper one in
-/// the last, and none between them.
+/// Returns the bounds that are left to test in the child at a place: the lower one in the first
+/// child, the upper one in the last, and none between them.
 pub fn narrowed<'a, K>(
     bounds: (Bound<&'a K>, Bound<&'a K>),
     place: u8,

@@ -30,7 +30,7 @@ pub fn keyed_count<K: Ord + Drop, const LEN: usize>(node: &NodeOf<K, LEN>) -> u8
     }
 }
 
-/// Returns how many entries an array has.
+// Returns how many entries an array has.
 pub(crate) fn count<K: Ord + Drop, I: Drop, const LEN: usize>(children: &ArrayOf<K, I, LEN>) -> u8
     ensures count { result ≡ length children.now.entries }
     ensures few { result < 16 }

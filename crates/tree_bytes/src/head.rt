@@ -20,7 +20,7 @@ pub fn head_of(bytes: &[u8]) -> u64
     ])
 }
 
-/// Does what [`head_of`] does, byte by byte.
+// Does what [`head_of`] does, byte by byte.
 fn head_of_few(bytes: &[u8]) -> u64
     ensures { HasHead result bytes.now }
 {
@@ -52,7 +52,7 @@ pub fn cmp_headed(head: u64, bytes: &[u8], other_head: u64, other: &[u8]) -> Ord
     }
 }
 
-/// Compares byte strings with the same head, eight bytes at a time.
+// Compares byte strings with the same head, eight bytes at a time.
 fn cmp_tied(head: u64, bytes: &[u8], other: &[u8]) -> Ordering
     requires head { HasHead head bytes.now }
     requires other { HasHead head other.now }
@@ -72,8 +72,8 @@ fn cmp_tied(head: u64, bytes: &[u8], other: &[u8]) -> Ordering
     cmp_last(bytes, other)
 }
 
-/// Compares byte strings with the same head, if one of them has fewer than sixteen bytes. The last
-/// eight bytes that both have may overlap the head, so that no byte is read alone.
+// Compares byte strings with the same head, if one of them has fewer than sixteen bytes. The last
+// eight bytes that both have may overlap the head, so that no byte is read alone.
 #[inline(always)]
 fn cmp_last(bytes: &[u8], other: &[u8]) -> Ordering
     requires bytes { AreBytes bytes.now }
@@ -93,7 +93,7 @@ fn cmp_last(bytes: &[u8], other: &[u8]) -> Ordering
     bytes.len().cmp(&other.len())
 }
 
-/// Lends what follows the first `count` bytes.
+// Lends what follows the first `count` bytes.
 #[inline(always)]
 fn past(bytes: &[u8], count: usize) -> &[u8]
     requires { count ≤ length bytes.now }

@@ -23,7 +23,7 @@ pub fn end_of_prefix(alloc: Global, prefix: &[u8]) -> Result<Bound<Vec<u8>>, All
     Ok(Bound::Excluded(end))
 }
 
-/// Returns how many bytes there are up to the last one below 255, with that one.
+// Returns how many bytes there are up to the last one below 255, with that one.
 fn up_to_last_below_255(bytes: &[u8]) -> usize
     ensures within { result ≤ length bytes.now }
     ensures last { 0 < result → slice_index bytes.now (result - 1) < 255 }

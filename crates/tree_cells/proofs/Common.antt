@@ -20,5 +20,5 @@ pub use Rattle.tree_model.proofs.Common.{above, below, map-append, Bound, within
 pub use Rattle.tree_model.proofs.Lists.{find_none, all_map, all_at, find_kept, find_dropped, all-append, filter_all, filter_none, find_after}
 pub use Rattle.tree_model.proofs.LookUps.{equal_from_test, pair_at-without, pair_at-cut, same_look_ups, pair_at-put}
 pub use Rattle.tree_model.proofs.Order.{greater_from_less, less_from_greater, greater_trans}
-pub use Rattle.tree_order.proofs.Common.{named, picked, names, IsLen, length-names, named_at, slice_get-names, edited, named_beyond, named_tail, named_later, length-picked, get_or-picked}
-pub use Rattle.tree_order.proofs.Common.{ordinal_in, ordinal_here, ordinal_before, rises_from, rises_in, rises_down, rises_up, inserted, renamed, taken_out}
+pub use Rattle.tree_cells.proofs.OrderCommon.{named, picked, names, IsLen, length-names, named_at, slice_get-names, edited, named_beyond, named_tail, named_later, length-picked, get_or-picked}
+pub use Rattle.tree_cells.proofs.OrderCommon.{ordinal_in, ordinal_here, ordinal_before, rises_from, rises_in, rises_down, rises_up, inserted, renamed, taken_out}

@@ -19,4 +19,4 @@ pub use Rattle.tree_cells.proofs.Tabled.{in_order_as, each_arrival, moved, spent
 pub use Rattle.tree_cells.proofs.Zips.{rows_seen, has_both, is_pair, pair_set, has_none, key_there, val_set, length-zipped, none_seen, val_there, counts_seen, paired_at, rows_alike}
 pub use Rattle.tree_cells.proofs.Zips.{AreSeenAs}
 pub use Rattle.tree_model.proofs.Ascending.{greater_from_test}
-pub use Rattle.tree_order.proofs.Common.{IsOrder, len_small}
+pub use Rattle.tree_cells.proofs.OrderCommon.{IsOrder, len_small}

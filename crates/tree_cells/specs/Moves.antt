@@ -1,6 +1,6 @@
 -- What leaves some slots, place by place, and stands in the first ones of other slots then.
 use Rattle.std.specs.Prelude.{◌≡◌, ◌≢◌, ℕ, ◌+◌, ◌<◌, ◌≤◌, List, Option, None, slice_index_or}
-use Rattle.tree_order.specs.Order.{named}
+use Rattle.tree_cells.specs.Order.{named}
 
 module _ {X : Type 0} where
   -- the slots of the places from one up to another are empty, and the other slots are what they were

@@ -6,7 +6,7 @@ use Rattle.std.specs.declared.cmp.Ordering.TheVariants.{Less, Equal, Greater}
 use Rattle.tree_cells.specs.declared.search.Place.{Place}
 use Rattle.tree_cells.specs.declared.search.Place.TheVariants.{At, Before}
 use Rattle.tree_cells.specs.Arrivals.{arrival}
-use Rattle.tree_order.specs.Order.{named}
+use Rattle.tree_cells.specs.Order.{named}
 
 -- a search compares at most so often: 3 times among 7, 4 times among 15
 abbrev pub searched : ℕ → ℕ

@@ -4,8 +4,8 @@ use Rattle.std.specs.List.{Contains}
 use Rattle.std.specs.declared.cmp.Ordering.{Ordering}
 use Rattle.tree_model.specs.Pairs.{IsAscending}
 use Rattle.tree_cells.specs.Arrivals.{arrival, held}
-use Rattle.tree_order.specs.Length.{IsLen}
-use Rattle.tree_order.specs.Order.{names, IsOrder}
+use Rattle.tree_cells.specs.Length.{IsLen}
+use Rattle.tree_cells.specs.Order.{names, IsOrder}
 
 -- one function is another but for its answer at p
 pub record IsSetAt {A : Type 0} (old new : ℕ → A) (p : ℕ) (x : A) : Type 0 where

@@ -1,9 +1,10 @@
-//! The cells of an array, keys apart from values. No byte says which cells hold a pair: the order of the array does.
+//! The cells of an array, keys apart from values. No byte says which cells hold a pair: the order
+//! of the array does.
 ghost use Rattle.std.specs.Prelude.{◌≡◌, ◌≢◌, ℕ, ◌+◌, ◌-◌, ◌<◌, ◌≤◌, None, Some, IsSome, length, slice_set};
 ghost use Rattle.tree_cells.specs.Arrivals.{arrival};
 ghost use Rattle.tree_cells.specs.Cells.{bare};
 ghost use Rattle.tree_cells.specs.Moves.{HasInTurn, HasLeft};
-ghost use Rattle.tree_order.specs.Order.{named};
+ghost use Rattle.tree_cells.specs.Order.{named};
 
 use crate::gather::gather;
 use std::marker::Model;
@@ -19,18 +20,18 @@ pub struct Counts {
     pub arrivals: u8,
 }
 
-/// The rows of keys and of values.
-///
-/// The counts stand between them: they are read before a search, so that the memory in the middle of a leaf is asked for
-/// at the same time as its head.
+// The rows of keys and of values.
+//
+// The counts stand between them: they are read before a search, so that the memory in the middle
+// of a leaf is asked for at the same time as its head.
 struct Rows<K, V, const LEN: usize> {
     keys: Row<K, LEN>,
     counts: Counts,
     vals: Row<V, LEN>,
 }
 
-/// The cells, each with a pair or none, and the counts of their array. There are no rows before the first pair, whose
-/// bytes then fill them, and the counts are 0.
+/// The cells, each with a pair or none, and the counts of their array. There are no rows before the
+/// first pair, whose bytes then fill them, and the counts are 0.
 pub struct Cells<K, V, const LEN: usize> {
     rows: Option<Rows<K, V, LEN>>,
 }
@@ -106,8 +107,8 @@ impl<K, V, const LEN: usize> Cells<K, V, LEN> {
         }
     }
 
-    /// Puts a pair into the first cell behind the arrivals, and sets the count of the entries. The caller must know that there
-    /// is such a cell, and that it holds none.
+    /// Puts a pair into the first cell behind the arrivals, and sets the count of the entries. The
+    /// caller must know that there is such a cell, and that it holds none.
     pub fn push(&mut self, key: K, val: V, entries: u8)
         requires within { self.old.counts.arrivals < LEN }
         requires few { LEN ≤ 15 }
@@ -130,7 +131,8 @@ impl<K, V, const LEN: usize> Cells<K, V, LEN> {
         }
     }
 
-    /// Makes the rows, with a pair in the first cell. Its own function, so that a put into rows that are there is short.
+    // Makes the rows, with a pair in the first cell. Its own function, so that a put into rows
+    // that are there is short.
     #[inline(never)]
     fn begin(&mut self, key: K, val: V, entries: u8)
         requires within { 0 < LEN }
@@ -164,9 +166,9 @@ impl<K, V, const LEN: usize> Cells<K, V, LEN> {
         }
     }
 
-    /// Moves the pairs of the places from `from` up to `end` of an order into the first of other cells, in turn, whose
-    /// counts they are then. The caller must know that each of these places names a pair, that no two name the same, and
-    /// that the other cells hold none and count none.
+    /// Moves the pairs of the places from `from` up to `end` of an order into the first of other
+    /// cells, in turn, whose counts they are then. The caller must know that each of these places
+    /// names a pair, that no two name the same, and that the other cells hold none and count none.
     pub fn take_places(&mut self, order: u64, from: u8, end: u8, to: &mut Self)
         requires ends { from ≤ end }
         requires few { end ≤ LEN }
@@ -218,7 +220,8 @@ impl<K, V, const LEN: usize> Cells<K, V, LEN> {
         }
     }
 
-    /// Replaces the value of a cell and returns the old one. The caller must know that it holds a pair.
+    /// Replaces the value of a cell and returns the old one. The caller must know that it holds a
+    /// pair.
     pub fn replace(&mut self, cell: u8, val: V) -> V
         requires { IsSome (arrival self.old.pairs cell) }
         ensures pairs { (key : K) × (arrival self.old.pairs cell ≡ Some (key, result))

@@ -1,16 +1,17 @@
-//! Keys and values that are moved from the slots that an order names into the first slots of other rows.
+//! Keys and values that are moved from the slots that an order names into the first slots of other
+//! rows.
 ghost use Rattle.std.specs.Prelude.{◌≡◌, ℕ, ◌≢◌, ◌<◌, ◌≤◌, IsSome, None, slice_index_or};
 ghost use Rattle.tree_cells.specs.Arrivals.{arrival};
 ghost use Rattle.tree_cells.specs.Cells.{zipped, AreFilledAlike};
 ghost use Rattle.tree_cells.specs.Moves.{HasInTurn, HasLeft};
-ghost use Rattle.tree_order.specs.Order.{named};
+ghost use Rattle.tree_cells.specs.Order.{named};
 
-use tree_order::order::slot_at;
+use crate::order::slot_at;
 use tree_slots::row::Row;
 
-/// Moves the keys and the values of the places from `from` up to `end` into the first slots of other rows, in turn. The
-/// caller must know that each of these places names a key and a value, that no two name the same, and that the other rows
-/// hold none.
+// Moves the keys and the values of the places from `from` up to `end` into the first slots of
+// other rows, in turn. The caller must know that each of these places names a key and a value,
+// that no two name the same, and that the other rows hold none.
 #[inline(always)]
 pub(crate) fn gather<K, V, const LEN: usize>(
     keys: &mut Row<K, LEN>,

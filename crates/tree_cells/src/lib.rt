@@ -1,7 +1,8 @@
-//! The cells of an array, and searches of them by halving.
+//! The cells of an array, the order of its entries in one word, and searches by halving.
 #![tactic(auto)]
 
 pub mod cells;
 mod gather;
 pub mod judge;
+pub mod order;
 pub mod search;

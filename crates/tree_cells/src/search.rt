@@ -3,16 +3,17 @@ ghost use Rattle.std.specs.Prelude.{◌≡◌, ◌+◌, ◌-◌, ◌*◌, ◌<�
 ghost use Rattle.tree_cells.specs.Arrivals.{held};
 ghost use Rattle.tree_cells.specs.Place.{searched, IsPlace, IsWindow, slot_of};
 ghost use Rattle.tree_cells.specs.Tabled.{AreSlots, IsInOrder};
-ghost use Rattle.tree_order.specs.Length.{IsLen};
-ghost use Rattle.tree_order.specs.Order.{named, names};
+ghost use Rattle.tree_cells.specs.Length.{IsLen};
+ghost use Rattle.tree_cells.specs.Order.{named, names};
 
 use crate::cells::Cells;
 use crate::judge::Asks;
+use crate::order::{BEYOND, Order, slot_at};
 use std::cmp::Ordering;
 use std::mem::size_of_val;
-use tree_order::order::{BEYOND, Order, slot_at};
 
-/// Keys of more bytes are compared with a branch for each answer: so a processor reads on before a dear comparison has answered.
+// Keys of more bytes are compared with a branch for each answer: so a processor reads on before
+// an expensive comparison has answered.
 const WIDE: usize = 16;
 
 /// Where a key stands in the order of an array.
@@ -20,7 +21,8 @@ const WIDE: usize = 16;
 pub enum Place {
     /// It is that of the entry at this place, in this slot.
     At { place: u8, slot: u8 },
-    /// It comes before the entry at this place, in this slot; or behind all entries, and the slot is [`BEYOND`].
+    /// It comes before the entry at this place, in this slot; or behind all entries, and the slot
+    /// is [`BEYOND`].
     Before { place: u8, slot: u8 },
 }
 
@@ -36,18 +38,20 @@ impl Place {
     }
 }
 
-/// What a search has found out: all entries before `place` have smaller keys, and none behind the window has.
+// What a search has found out: all entries before `place` have smaller keys, and none behind the
+// window has.
 #[derive(Clone, Copy)]
 struct Window {
     place: u8,
-    /// The order from the place on.
+    // The order from the place on.
     rest: u64,
-    /// How many of the keys that were met are equal.
+    // How many of the keys that were met are equal.
     met: u8,
 }
 
 impl Window {
-    /// Returns the place of the equal key, which was met at the end of the window, among so many entries.
+    // Returns the place of the equal key, which was met at the end of the window, among so many
+    // entries.
     fn end(self, width: u8, count: u8) -> Place
         requires some { 0 < count }
         requires within { self.place + width < 15 }
@@ -66,18 +70,19 @@ impl Window {
     }
 }
 
-/// Returns how many equal keys are met before a search goes on in spite of one. One ends a search among wide keys, and
-/// none one among others.
+// Returns how many equal keys are met before a search goes on in spite of one. One ends a search
+// among wide keys, and none one among others.
 #[inline(always)]
 fn ignored<K>(key: &K) -> u8 {
     if size_of_val(key) > WIDE { 0 } else { u8::MAX }
 }
 
-/// Finds where the key of the asked stands. Makes at most 4 comparisons among 15 slots, and 3 among 7.
+/// Finds where the key of the asked stands. Makes at most 4 comparisons among 15 slots, and 3 among
+/// 7.
 ///
-/// A search for a small key makes them all, and has no branch on what one of them answers. For a key of more
-/// than 16 bytes an equal one ends the search.
-#[tactic(auto, using(crate::proofs::Halving::searched_some, tree_order::proofs::Words::len_small))]
+/// A search for a small key makes them all, and has no branch on what one of them answers. For a
+/// key of more than 16 bytes an equal one ends the search.
+#[tactic(auto, using(crate::proofs::Halving::searched_some, tree_cells::proofs::Words::len_small))]
 #[inline(always)]
 pub fn find<K: Ord, V, By, A: Asks<K, By>, const LEN: usize>(
     cells: &Cells<K, V, LEN>,
@@ -125,7 +130,7 @@ pub fn find<K: Ord, V, By, A: Asks<K, By>, const LEN: usize>(
     }
 }
 
-/// Begins with a window of seven places.
+// Begins with a window of seven places.
 #[tactic(auto, using(crate::proofs::Halving::searched_more))]
 #[inline(always)]
 fn begin<K: Ord, V, By, A: Asks<K, By>, const LEN: usize>(
@@ -152,7 +157,7 @@ fn begin<K: Ord, V, By, A: Asks<K, By>, const LEN: usize>(
     }
 }
 
-/// Halves a window, by one comparison with the key in its middle.
+// Halves a window, by one comparison with the key in its middle.
 #[inline(always)]
 fn halve<K: Ord, V, By, A: Asks<K, By>, const LEN: usize>(
     cells: &Cells<K, V, LEN>,
@@ -210,8 +215,9 @@ pub fn find_key<K: Ord, V, const LEN: usize>(
     find(cells, order, &mut &*key)
 }
 
-/// Finds where a key stands, as [`find_key`] does. With `rightmost` it compares the key with the last one first, and a
-/// larger key is done: there belong keys that arrive in ascending order. That is at most one comparison more.
+/// Finds where a key stands, as [`find_key`] does. With `rightmost` it compares the key with the
+/// last one first, and a larger key is done: there belong keys that arrive in ascending order. That
+/// is at most one comparison more.
 #[inline(always)]
 pub fn find_key_beyond<K: Ord, V, const LEN: usize>(
     cells: &Cells<K, V, LEN>,

@@ -1,7 +1,8 @@
 //! Walks over the entries of linked leaves, either way.
 //!
-//! The compiler keeps an iterator in registers where no function that it calls is lent one. So what a loop over the entries
-//! calls is inlined, and what it seldom calls takes and returns its parts by value.
+//! The compiler keeps an iterator in registers where no function that it calls is lent one. So what
+//! a loop over the entries calls is inlined, and what it rarely calls takes and returns its parts
+//! by value.
 ghost use Rattle.std.specs.Prelude.{◌≡◌, ◌++◌, ◌∷◌, None, ⊤, filter, not, option_copied, option_map};
 ghost use Rattle.std.specs.declared.ops.Bound.TheVariants.{Included};
 ghost use Rattle.tree_leaf.specs.Chain.{IsChain};
@@ -21,9 +22,10 @@ use tree_leaf::arena::{LeafId, SlotsOf};
 use tree_leaf::leaf::LeafOf;
 use tree_model::Way;
 
-/// An iterator over the entries of linked leaves of a type, the way that its iterator over the slots of a
-/// leaf goes. It stands in one leaf, unopened or on an entry of it. `next` goes through that leaf alone,
-/// and `jump` to the next leaf that has an entry. No call compares keys or allocates.
+/// An iterator over the entries of linked leaves of a type, the way that its iterator over the
+/// slots of a leaf goes. It stands in one leaf, unopened or on an entry of it. `next` goes through
+/// that leaf alone, and `jump` to the next leaf that has an entry. No call compares keys or
+/// allocates.
 #[derive(Drop)]
 pub struct LinkedIter<'t, L: Walked, S: SlotWalk> {
     stand: Stand<'t, L>,
@@ -59,8 +61,8 @@ impl<'t, K: Ord + Drop, V: Drop, S: SlotWalk, const LEN: usize> LinkedIter<
     LeafOf<K, V, LEN>,
     S,
 > {
-    /// Creates an iterator that stands unopened in a leaf. Runs in constant time. The caller must name a leaf
-    /// of a chain.
+    /// Creates an iterator that stands unopened in a leaf. Runs in constant time. The caller must
+    /// name a leaf of a chain.
     pub fn new<N: Drop>(arenas: &'t SlotsOf<K, V, N, LEN>, id: LeafId) -> Self
         requires { (front back : _) × IsChain arenas.now.leaves (front ++ id ∷ back) }
         ensures { result ≡ standing arenas.now.leaves id None }
@@ -70,7 +72,8 @@ impl<'t, K: Ord + Drop, V: Drop, S: SlotWalk, const LEN: usize> LinkedIter<
         LinkedIter { stand, slots }
     }
 
-    /// Creates an iterator that comes from another leaf: it stands unopened in the one that was seen there, and looks ahead.
+    // Creates an iterator that comes from another leaf: it stands unopened in the one that was
+    // seen there, and looks ahead.
     fn entering(leaves: &'t Slab<LeafOf<K, V, LEN>>, next: Beside) -> Self
         requires chain { (front back : _) × IsChain leaves.now (front ++ next.id ∷ back) }
         requires seen { next ≡ seen_at S.way leaves.now next.id }
@@ -81,8 +84,8 @@ impl<'t, K: Ord + Drop, V: Drop, S: SlotWalk, const LEN: usize> LinkedIter<
         LinkedIter { stand, slots }
     }
 
-    /// Goes in its leaf to the last entry that comes before this key on the way, or to before the first entry. Makes at most 4
-    /// comparisons with 15 slots, and 3 with 7.
+    /// Goes in its leaf to the last entry that comes before this key on the way, or to before the
+    /// first entry. Makes at most 4 comparisons with 15 slots, and 3 with 7.
     #[inline(always)]
     pub fn pass(&mut self, key: &K)
         ensures stays { self.new ≡ standing self.old.leaves self.old.leaf self.new.at }
@@ -97,8 +100,8 @@ impl<'t, K: Ord + Drop, V: Drop, S: SlotWalk, const LEN: usize> LinkedIter<
         }
     }
 
-    /// Returns the entry that the iterator stands on, or `None` before the first `next` in a leaf. Runs in
-    /// constant time.
+    /// Returns the entry that the iterator stands on, or `None` before the first `next` in a leaf.
+    /// Runs in constant time.
     #[inline]
     pub fn get(&self) -> Option<(&'t K, &'t V)>
         ensures { option_map lent_entry result ≡ stood_on self.now }
@@ -107,9 +110,9 @@ impl<'t, K: Ord + Drop, V: Drop, S: SlotWalk, const LEN: usize> LinkedIter<
         Some(self.stand.leaf.entry(slot))
     }
 
-    /// Goes to the next leaf on the way that has an entry, and returns the first entry there. Where none
-    /// has one, returns `None` and stands unopened in the last leaf on the way, or stays where it is if
-    /// that is the last. Runs in the number of the leaves passed.
+    /// Goes to the next leaf on the way that has an entry, and returns the first entry there. Where
+    /// none has one, returns `None` and stands unopened in the last leaf on the way, or stays where
+    /// it is if that is the last. Runs in the number of the leaves passed.
     #[inline(always)]
     pub fn jump(&mut self) -> Option<(&'t K, &'t V)>
         ensures { Jumps S.way self.old result self.new }
@@ -132,7 +135,7 @@ impl<'t, K: Ord + Drop, V: Drop, S: Reversible, const LEN: usize> LinkedIter<
     LeafOf<K, V, LEN>,
     S,
 > {
-    /// Returns the key that comes last on the way in its leaf, if the leaf has an entry.
+    // Returns the key that comes last on the way in its leaf, if the leaf has an entry.
     fn last_key(&self) -> Option<&'t K>
         ensures { option_copied result ≡ option_map (λ entry. entry.0) (first_on (opposite S.way) (here self.now)) }
     {
@@ -143,8 +146,8 @@ impl<'t, K: Ord + Drop, V: Drop, S: Reversible, const LEN: usize> LinkedIter<
         Some(key)
     }
 
-    /// Turns about at its place. An unopened iterator turns into an unopened one in the same leaf. Runs in
-    /// constant time.
+    /// Turns about at its place. An unopened iterator turns into an unopened one in the same leaf.
+    /// Runs in constant time.
     pub fn rev(self) -> LinkedIter<'t, LeafOf<K, V, LEN>, S::Reverse>
         ensures { result ≡ self.entry }
     {
@@ -156,8 +159,8 @@ impl<'t, K: Ord + Drop, V: Drop, S: Reversible, const LEN: usize> LinkedIter<
 }
 
 impl<'t, K: Ord + Drop, V: Drop, const LEN: usize> LinkedIter<'t, LeafOf<K, V, LEN>, ArrayIter> {
-    /// Returns the largest key of the leaf that the iterator stands in, if the leaf has an entry. Runs in
-    /// constant time.
+    /// Returns the largest key of the leaf that the iterator stands in, if the leaf has an entry.
+    /// Runs in constant time.
     pub fn max_key(&self) -> Option<&'t K>
         ensures { option_copied result ≡ option_map (λ entry. entry.0) (last_of (here self.now)) }
     {
@@ -166,8 +169,8 @@ impl<'t, K: Ord + Drop, V: Drop, const LEN: usize> LinkedIter<'t, LeafOf<K, V, L
 }
 
 impl<'t, K: Ord + Drop, V: Drop, const LEN: usize> LinkedIter<'t, LeafOf<K, V, LEN>, ArrayRevIter> {
-    /// Returns the least key of the leaf that the iterator stands in, if the leaf has an entry. Runs in
-    /// constant time.
+    /// Returns the least key of the leaf that the iterator stands in, if the leaf has an entry.
+    /// Runs in constant time.
     pub fn min_key(&self) -> Option<&'t K>
         ensures { option_copied result ≡ option_map (λ entry. entry.0) (first_of (here self.now)) }
     {

@@ -1,5 +1,5 @@
-//! Laws of iterators over linked leaves, each as the contract of a small function: an iterator with its
-//! jumps gives all entries of the chain on its way, in order.
+//! Laws of iterators over linked leaves, each as the contract of a small function: an iterator with
+//! its jumps gives all entries of the chain on its way, in order.
 ghost use Rattle.std.specs.Prelude.{◌++◌, ◌∷◌, IfOk};
 ghost use Rattle.tree_model.specs.declared.way.Way.TheVariants.{On, Back};
 ghost use Rattle.tree_leaf.specs.Chain.{IsChain};
@@ -11,8 +11,8 @@ use std::alloc::{AllocError, Global};
 use tree_leaf::arena::{LeafId, SlotsOf};
 use tree_leaf::leaf::LeafOf;
 
-/// Returns the next entry of an iterator, in its leaf or behind a jump: the first that is left on its way. Returns
-/// `None` if none is left.
+/// Returns the next entry of an iterator, in its leaf or behind a jump: the first that is left on
+/// its way. Returns `None` if none is left.
 #[inline(always)]
 pub fn next_or_jump<'t, K: Ord + Drop, V: Drop, S: SlotWalk, const LEN: usize>(
     walk: &mut LinkedIter<'t, LeafOf<K, V, LEN>, S>,
@@ -25,8 +25,9 @@ pub fn next_or_jump<'t, K: Ord + Drop, V: Drop, S: SlotWalk, const LEN: usize>(
     }
 }
 
-/// Returns all entries that are left of an iterator, in the order of its way. Returns `Err` if memory for the list
-/// is refused. The caller must have an iterator that stands in a leaf of a chain.
+/// Returns all entries that are left of an iterator, in the order of its way. Returns `Err` if
+/// memory for the list is refused. The caller must have an iterator that stands in a leaf of a
+/// chain.
 pub fn entries_left<'t, K: Ord + Drop, V: Drop, S: SlotWalk, const LEN: usize>(
     alloc: Global,
     mut walk: LinkedIter<'t, LeafOf<K, V, LEN>, S>,
@@ -41,8 +42,8 @@ pub fn entries_left<'t, K: Ord + Drop, V: Drop, S: SlotWalk, const LEN: usize>(
     Ok(entries)
 }
 
-/// Returns all entries of a leaf and of those behind it, in ascending order. Returns `Err` if memory for the list
-/// is refused. The caller must name a leaf of a chain.
+/// Returns all entries of a leaf and of those behind it, in ascending order. Returns `Err` if
+/// memory for the list is refused. The caller must name a leaf of a chain.
 pub fn entries_on<'t, K: Ord + Drop, V: Drop, N: Drop, const LEN: usize>(
     alloc: Global,
     arenas: &'t SlotsOf<K, V, N, LEN>,
@@ -54,8 +55,8 @@ pub fn entries_on<'t, K: Ord + Drop, V: Drop, N: Drop, const LEN: usize>(
     entries_left(alloc, IterOf::new(arenas, id))
 }
 
-/// Returns all entries of a leaf and of those before it, in descending order. Returns `Err` if memory for the list
-/// is refused. The caller must name a leaf of a chain.
+/// Returns all entries of a leaf and of those before it, in descending order. Returns `Err` if
+/// memory for the list is refused. The caller must name a leaf of a chain.
 pub fn entries_back<'t, K: Ord + Drop, V: Drop, N: Drop, const LEN: usize>(
     alloc: Global,
     arenas: &'t SlotsOf<K, V, N, LEN>,

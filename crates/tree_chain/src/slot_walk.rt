@@ -1,10 +1,10 @@
-//! The trait that both iterators over the slots of an array implement, so that an iterator over leaves is
-//! written once.
+//! The trait that both iterators over the slots of an array implement, so that an iterator over
+//! leaves is written once.
 use tree_array::array::{ArrayIter, ArrayRevIter};
 use tree_model::Way;
 
-/// An iterator over the slots of an array: [`ArrayIter`] in ascending order of the keys, [`ArrayRevIter`]
-/// in descending order. No call compares keys or allocates.
+/// An iterator over the slots of an array: [`ArrayIter`] in ascending order of the keys,
+/// [`ArrayRevIter`] in descending order. No call compares keys or allocates.
 pub trait SlotWalk: Drop {
     ghost use Rattle.std.specs.Prelude.{◌≡◌, None, option_and_then, slice_get};
     ghost use Rattle.tree_array.specs.Walk.{Walk, standing};
@@ -27,8 +27,8 @@ pub trait SlotWalk: Drop {
     fn slot(&self) -> Option<u8>
         ensures { result ≡ option_and_then (slice_get (walk self.now).slots) (walk self.now).at };
 
-    /// Goes to the next slot on its way and returns it. Returns `None` and keeps its place where there is
-    /// none.
+    /// Goes to the next slot on its way and returns it. Returns `None` and keeps its place where
+    /// there is none.
     fn step(&mut self) -> Option<u8>
         ensures slots { (walk self.new).slots ≡ (walk self.old).slots }
         ensures steps { StepsOver way (walk self.old).slots (walk self.old).at result (walk self.new).at };

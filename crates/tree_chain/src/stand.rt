@@ -32,8 +32,8 @@ impl<K: Ord, V, const LEN: usize> Walked for LeafOf<K, V, LEN> {
     ghost ahead = { λ way leaves leaf. seen way leaves (beside way leaf) };
 }
 
-/// What an iterator has seen of the leaf ahead, the one beside its leaf on its way: the number, how many entries it has, and the
-/// number of the leaf beyond it.
+/// What an iterator has seen of the leaf ahead, the one beside its leaf on its way: the number, how
+/// many entries it has, and the number of the leaf beyond it.
 #[derive(Clone, Copy)]
 pub struct Beside {
     pub id: LeafId,
@@ -41,11 +41,13 @@ pub struct Beside {
     pub beyond: Option<LeafId>,
 }
 
-/// The leaf that an iterator stands in, all leaves, and the leaf ahead on its way, if it has looked there.
+/// The leaf that an iterator stands in, all leaves, and the leaf ahead on its way, if it has looked
+/// there.
 ///
-/// As soon as an iterator comes from one leaf into the next it looks ahead, so that the memory of the leaf ahead is on its way
-/// while the entries here are read. It knows that leaf's number by then, so it needn't wait for a link. In the leaf where it
-/// begins or turns about it doesn't look, since it often stays there.
+/// As soon as an iterator comes from one leaf into the next it looks ahead, so that the memory of
+/// the leaf ahead is on its way while the entries here are read. It knows that leaf's number by
+/// then, so it needn't wait for a link. In the leaf where it begins or turns about it doesn't look,
+/// since it often stays there.
 #[derive(Drop)]
 pub struct Stand<'t, L> {
     pub leaves: &'t Slab<L>,
@@ -69,7 +71,8 @@ impl<'t, L> Stand<'t, L> {
 }
 
 impl<'t, K: Ord + Drop, V: Drop, const LEN: usize> Stand<'t, LeafOf<K, V, LEN>> {
-    /// Stands in the leaf under a number, and doesn't look ahead. The caller must name a leaf in use.
+    /// Stands in the leaf under a number, and doesn't look ahead. The caller must name a leaf in
+    /// use.
     pub fn at(leaves: &'t Slab<LeafOf<K, V, LEN>>, id: LeafId) -> Self
         requires { ContainsKey leaves.now id }
         ensures leaves { result.leaves.now ≡ leaves.now }
@@ -86,8 +89,9 @@ impl<'t, K: Ord + Drop, V: Drop, const LEN: usize> Stand<'t, LeafOf<K, V, LEN>> 
         }
     }
 
-    /// Returns what is seen of the leaf where a jump lands: the next leaf on the way that has an entry, or else the last leaf on
-    /// the way. Returns `None` where no leaf follows. Runs in the number of leaves passed.
+    /// Returns what is seen of the leaf where a jump lands: the next leaf on the way that has an
+    /// entry, or else the last leaf on the way. Returns `None` where no leaf follows. Runs in the
+    /// number of leaves passed.
     #[inline(always)]
     pub fn landing(&self, way: Way) -> Option<Beside>
         requires leaf { get self.now.leaves.now self.now.id ≡ Some self.now.leaf.now }
@@ -106,8 +110,8 @@ impl<'t, K: Ord + Drop, V: Drop, const LEN: usize> Stand<'t, LeafOf<K, V, LEN>> 
     }
 }
 
-/// Does what [`landing`](Stand::landing) does, from the leaf under a number and without what an iterator has seen. Stays out of
-/// the way of most jumps. The caller must name a leaf of a chain.
+// Does what [`landing`](Stand::landing) does, from the leaf under a number and without what an
+// iterator has seen. Stays out of the way of most jumps. The caller must name a leaf of a chain.
 #[inline(never)]
 fn landing_from<K: Ord + Drop, V: Drop, const LEN: usize>(
     leaves: &Slab<LeafOf<K, V, LEN>>,
@@ -149,7 +153,7 @@ pub fn look_up<K: Ord + Drop, V: Drop, const LEN: usize>(
     })
 }
 
-/// Returns the leaf that a leaf links to on the way.
+// Returns the leaf that a leaf links to on the way.
 fn link<K: Ord + Drop, V: Drop, const LEN: usize>(
     leaf: &LeafOf<K, V, LEN>,
     way: Way,

@@ -1,7 +1,8 @@
 //! Clean-up after a removal that retired a child.
 //!
-//! The node above a retired child drops it in the same removal. So no keyed child is ever found retired, nor any child of
-//! an internal node, and each function here drops the one child that it is given.
+//! The node above a retired child drops it in the same removal. So no keyed child is ever found
+//! retired, nor any child of an internal node, and each function here drops the one child that it
+//! is given.
 ghost use Rattle.std.specs.Prelude.{◌≡◌, ℕ, suc, ◌++◌, ◌∷◌, IsSome, MatchOption, None, Some};
 ghost use Rattle.tree_clean_up.specs.CleanUps.{DropsChild, DropsKeyed, HasChildIn, HasOnlyRetired, IsOnlyRetired, RetiresIfEmpty, TakesKeyed, TakesUnbounded};
 ghost use Rattle.tree_node.specs.Arenas.{IsChain, get};
@@ -13,8 +14,8 @@ use tree_leaf::arena::{LeafId, NodeId};
 use tree_leaf::leaf::unlink;
 use tree_node::node::{ArenasOf, NodeOf};
 
-/// Drops a keyed leaf and takes it out of its node, by the slot of its separator. The caller must name a leaf of a chain,
-/// and the slot of a keyed child.
+/// Drops a keyed leaf and takes it out of its node, by the slot of its separator. The caller must
+/// name a leaf of a chain, and the slot of a keyed child.
 pub fn drop_keyed_leaf<K: Ord + Drop, V: Drop, const LEN: usize>(
     arenas: &mut ArenasOf<K, V, LEN>,
     id: NodeId,
@@ -30,9 +31,9 @@ pub fn drop_keyed_leaf<K: Ord + Drop, V: Drop, const LEN: usize>(
     take_keyed(arenas, id, slot);
 }
 
-/// Drops a retired child of an internal node and takes it out of the node: by the slot of its separator if it is a keyed
-/// child, and as the unbounded child without one. The caller must name a retired node other than this one, and the slot
-/// of a keyed child, if any.
+/// Drops a retired child of an internal node and takes it out of the node: by the slot of its
+/// separator if it is a keyed child, and as the unbounded child without one. The caller must name a
+/// retired node other than this one, and the slot of a keyed child, if any.
 pub fn drop_child_node<K: Ord + Drop, V: Drop, const LEN: usize>(
     arenas: &mut ArenasOf<K, V, LEN>,
     id: NodeId,
@@ -54,8 +55,8 @@ pub fn drop_child_node<K: Ord + Drop, V: Drop, const LEN: usize>(
     }
 }
 
-/// Drops the unbounded leaf of a leaf node if it is retired and there is no keyed leaf. The node is retired then. The caller
-/// must name a well-formed leaf node.
+/// Drops the unbounded leaf of a leaf node if it is retired and there is no keyed leaf. The node is
+/// retired then. The caller must name a well-formed leaf node.
 pub fn retire_if_empty<K: Ord + Drop, V: Drop, const LEN: usize>(
     arenas: &mut ArenasOf<K, V, LEN>,
     id: NodeId,
@@ -71,7 +72,7 @@ pub fn retire_if_empty<K: Ord + Drop, V: Drop, const LEN: usize>(
     take_unbounded(arenas, id)
 }
 
-/// Returns the unbounded leaf of a leaf node if it is retired and there is no keyed leaf.
+// Returns the unbounded leaf of a leaf node if it is retired and there is no keyed leaf.
 fn only_retired<K: Ord + Drop, V: Drop, const LEN: usize>(
     arenas: &ArenasOf<K, V, LEN>,
     id: NodeId,
@@ -93,8 +94,8 @@ fn only_retired<K: Ord + Drop, V: Drop, const LEN: usize>(
     Some(last)
 }
 
-/// Takes a keyed child out of its node, by the slot of its separator. Other children keep their slots. The caller must name
-/// the slot of a keyed child.
+/// Takes a keyed child out of its node, by the slot of its separator. Other children keep their
+/// slots. The caller must name the slot of a keyed child.
 pub fn take_keyed<K: Ord + Drop, V: Drop, const LEN: usize>(
     arenas: &mut ArenasOf<K, V, LEN>,
     id: NodeId,
@@ -107,8 +108,8 @@ pub fn take_keyed<K: Ord + Drop, V: Drop, const LEN: usize>(
     arenas.node_mut(id).take_keyed(slot);
 }
 
-/// Takes the unbounded child out of its node. The keyed child with the greatest separator takes its place; if there is
-/// none, the node is retired.
+// Takes the unbounded child out of its node. The keyed child with the greatest separator takes its
+// place; if there is none, the node is retired.
 fn take_unbounded<K: Ord + Drop, V: Drop, const LEN: usize>(
     arenas: &mut ArenasOf<K, V, LEN>,
     id: NodeId,

@@ -14,7 +14,7 @@ pub use Rattle.tree_cursors.specs.Seek.{IsNearest, NoneMeets, Opens, Seeks, path
 pub use Rattle.tree_cursors.specs.View.{EndStands, GoesTo, Stands, StepsInLeaf, end_of, place_at, place_in, place_of}
 pub use Rattle.tree_cursors.specs.declared.end.End.{End}
 pub use Rattle.tree_cursors.specs.declared.end.End.TheVariants.{At, Exhausted, Unopened}
-pub use Rattle.tree_descent.specs.Ways.{IsLeafFor}
+pub use Rattle.tree_node.specs.Ways.{IsLeafFor}
 pub use Rattle.tree_leaf.proofs.Chains.{counted}
 pub use Rattle.tree_model.proofs.Common.{AllByRecursion, Bound, Excluded, Included, IsAscending, IsTotalOrder, along, at_place, bound_map, cases_eq, flat_map-append, greatest_place, lent_entry, meets}
 pub use Rattle.tree_model.proofs.Common.{nat_tests, next_end, reverse-append, reverse-reverse, reverse_onto, tied_itself, unopened}
@@ -27,5 +27,5 @@ pub use Rattle.tree_node.proofs.Common.{IsChain, IsTree, LeafOf, Slab, StandsOrR
 pub use Rattle.tree_node.proofs.Common.{times-cons, uses_le_one, walk, walk_under}
 pub use Rattle.tree_node.proofs.Levels.{retired_walk}
 pub use Rattle.tree_node.specs.declared.node.Root.{Root}
-pub use Rattle.tree_walk.proofs.EndWalks.{leaf_in_chain}
-pub use Rattle.tree_walk.specs.Ends.{BeginsPart, IsLinked, passed}
+pub use Rattle.tree_parts.proofs.EndWalks.{leaf_in_chain}
+pub use Rattle.tree_parts.specs.Ends.{BeginsPart, IsLinked, passed}

@@ -1,4 +1,13 @@
+pub mod Ahead
 pub mod Common
+pub mod Ended
 pub mod Ends
+pub mod Flips
+pub mod Moving
+pub mod Nearest
 pub mod Places
+pub mod RangesCommon
 pub mod Seeks
+pub mod Shown
+pub mod Within
+pub mod Yields

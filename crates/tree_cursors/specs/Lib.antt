@@ -1,2 +1,5 @@
+pub mod Approximate
+pub mod Beside
+pub mod Ranged
 pub mod Seek
 pub mod View

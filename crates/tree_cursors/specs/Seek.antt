@@ -14,7 +14,7 @@ use Rattle.tree_model.specs.Ways.{along}
 use Rattle.tree_chain.specs.Ways.{beyond}
 use Rattle.tree_node.specs.Arenas.{TreeArenas}
 use Rattle.tree_node.specs.Tree.{leaves_at, walk}
-use Rattle.tree_walk.specs.Ends.{passed}
+use Rattle.tree_parts.specs.Ends.{passed}
 use Rattle.tree_model.specs.Cursor.{meets}
 
 -- no key of these pairs is within the bound at which the way begins

@@ -25,8 +25,9 @@ pub enum End<W> {
     Exhausted,
 }
 
-/// Moves an end in place, and returns the pair that it then stands on: one that was never moved goes to the first key
-/// that meets its bound, and any other one entry along. Descends only for the first move. Makes no comparisons after it.
+/// Moves an end in place, and returns the pair that it then stands on: one that was never moved
+/// goes to the first key that meets its bound, and any other one entry along. Descends only for the
+/// first move. Makes no comparisons after it.
 #[inline(always)]
 pub fn step<'t, K: Ord + Drop, V: Drop, S: EndWay, const LEN: usize>(
     arenas: &'t ArenasOf<K, V, LEN>,
@@ -57,8 +58,9 @@ pub fn step<'t, K: Ord + Drop, V: Drop, S: EndWay, const LEN: usize>(
     }
 }
 
-/// Moves an end one entry along in its leaf, and returns that entry. Returns `None` and changes nothing if the end stands in
-/// no leaf, or on the last entry of its leaf on its way. Makes no comparisons.
+/// Moves an end one entry along in its leaf, and returns that entry. Returns `None` and changes
+/// nothing if the end stands in no leaf, or on the last entry of its leaf on its way. Makes no
+/// comparisons.
 #[inline(always)]
 pub fn step_in_leaf<'t, K: Ord + Drop, V: Drop, S: EndWay, const LEN: usize>(
     end: &mut End<LinkedIter<'t, LeafOf<K, V, LEN>, S>>,
@@ -72,7 +74,7 @@ pub fn step_in_leaf<'t, K: Ord + Drop, V: Drop, S: EndWay, const LEN: usize>(
     }
 }
 
-/// Moves an end in place that was never moved, and returns the pair that it then stands on.
+// Moves an end in place that was never moved, and returns the pair that it then stands on.
 #[inline(always)]
 fn open<'t, K: Ord + Drop, V: Drop, S: EndWay, const LEN: usize>(
     arenas: &'t ArenasOf<K, V, LEN>,
@@ -90,7 +92,8 @@ fn open<'t, K: Ord + Drop, V: Drop, S: EndWay, const LEN: usize>(
     pair_on(end)
 }
 
-/// Returns where an end goes that was never moved. Stays out of the way of the moves after the first.
+// Returns where an end goes that was never moved. Stays out of the way of the moves after the
+// first.
 #[inline(never)]
 fn first_end<'t, K: Ord + Drop, V: Drop, S: EndWay, const LEN: usize>(
     arenas: &'t ArenasOf<K, V, LEN>,
@@ -111,8 +114,8 @@ fn first_end<'t, K: Ord + Drop, V: Drop, S: EndWay, const LEN: usize>(
     }
 }
 
-/// Returns whether one walk stands on a smaller key than another one. Makes one comparison. The caller must have
-/// walks that stand on entries.
+/// Returns whether one walk stands on a smaller key than another one. Makes one comparison. The
+/// caller must have walks that stand on entries.
 #[inline(always)]
 pub fn comes_before<'t, K: Ord + Drop, V: Drop, S: SlotWalk, T: SlotWalk, const LEN: usize>(
     walk: &LinkedIter<'t, LeafOf<K, V, LEN>, S>,

@@ -1,6 +1,16 @@
-//! Cursors over a tree in arenas, with two ends.
+//! Cursors over the pairs of a tree, from both ends.
+//!
+//! An end of a cursor finds its bound by a search from the root ([`seek`]); from there it walks
+//! from leaf to leaf.
 #![tactic(auto)]
 
+pub mod approximate;
+pub mod cursor;
 pub mod end;
+mod ends;
+pub mod iter;
+pub mod laws;
+pub mod locate;
+pub mod range;
 pub mod seek;
 pub mod way;

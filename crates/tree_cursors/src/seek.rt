@@ -5,25 +5,26 @@ ghost use Rattle.tree_chain.specs.Ways.{ahead};
 ghost use Rattle.tree_model.specs.Ways.{along};
 ghost use Rattle.tree_model.specs.Pairs.{lent_bound};
 ghost use Rattle.tree_node.specs.Tree.{StandsOrRetired, walk};
-ghost use Rattle.tree_walk.specs.Ends.{IsLinked};
+ghost use Rattle.tree_parts.specs.Ends.{IsLinked};
 ghost use Rattle.tree_cursors.specs.Seek.{NoneMeets, Opens, Seeks};
 
 use crate::way::EndWay;
 use std::ops::Bound;
 use tree_chain::laws::next_or_jump;
 use tree_chain::{LinkedIter, SlotWalk};
-use tree_descent::look_ups::leaf_by;
 use tree_leaf::arena::NodeId;
 use tree_leaf::leaf::LeafOf;
+use tree_node::look_ups::leaf_by;
 use tree_node::node::ArenasOf;
-use tree_walk::ends::walk_from_end;
+use tree_parts::ends::walk_from_end;
 
-/// Opens a walk on the first entry on its way whose key meets a bound, among the entries under a number of this
-/// level and those that the links lead to from there. Returns `None` only if no entry under the number meets the
-/// bound. Descends once, and then makes at most 6 comparisons with 15 slots, and 5 with 7.
+/// Opens a walk on the first entry on its way whose key meets a bound, among the entries under a
+/// number of this level and those that the links lead to from there. Returns `None` only if no
+/// entry under the number meets the bound. Descends once, and then makes at most 6 comparisons with
+/// 15 slots, and 5 with 7.
 ///
-/// The caller must name a well-formed part of a tree, whose leaves are in one chain, or a retired node, here
-/// and below.
+/// The caller must name a well-formed part of a tree, whose leaves are in one chain, or a retired
+/// node, here and below.
 pub fn seek_at<'t, K: Ord + Drop, V: Drop, S: EndWay, const LEN: usize>(
     arenas: &'t ArenasOf<K, V, LEN>,
     level: usize,
@@ -45,7 +46,7 @@ pub fn seek_at<'t, K: Ord + Drop, V: Drop, S: EndWay, const LEN: usize>(
     None
 }
 
-/// Opens a walk in a leaf before which no entry on the way meets the bound.
+// Opens a walk in a leaf before which no entry on the way meets the bound.
 fn open_at<'t, K: Ord + Drop, V: Drop, S: EndWay, const LEN: usize>(
     arenas: &'t ArenasOf<K, V, LEN>,
     level: usize,
@@ -67,7 +68,7 @@ fn open_at<'t, K: Ord + Drop, V: Drop, S: EndWay, const LEN: usize>(
     Some(LinkedIter::new(arenas, leaf))
 }
 
-/// Goes on in its leaf past entries that don't meet the bound.
+// Goes on in its leaf past entries that don't meet the bound.
 #[inline(always)]
 fn pass<'t, K: Ord + Drop, V: Drop, S: SlotWalk, const LEN: usize>(
     walk: &mut LinkedIter<'t, LeafOf<K, V, LEN>, S>,

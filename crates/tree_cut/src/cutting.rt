@@ -18,21 +18,26 @@ use tree_node::node::ArenasOf;
 /// What a removal of a range answers.
 #[derive(Clone, Copy, Drop)]
 pub struct RangeRemoved {
-    /// How many children the node has left: the keyed ones, and one for the unbounded one if there is one.
+    /// How many children the node has left: the keyed ones, and one for the unbounded one if there
+    /// is one.
     pub children: usize,
     /// How many pairs were removed.
     pub pairs: u128,
 }
 
-/// Removes the pairs whose keys are within the bounds from under the number of a node of this level.
+/// Removes the pairs whose keys are within the bounds from under the number of a node of this
+/// level.
 ///
-/// Reversed bounds contain no key. What stands under the number keeps its level and an unbounded child at each level. A
-/// child whose keys are all within the bounds is dropped whole, and so is a keyed child that the removal leaves empty.
+/// Reversed bounds contain no key. What stands under the number keeps its level and an unbounded
+/// child at each level. A child whose keys are all within the bounds is dropped whole, and so is a
+/// keyed child that the removal leaves empty.
 ///
-/// Searches at most two arrays per level for each bound, and makes at most two comparisons per slot of two leaves. What
-/// is dropped whole costs time for each leaf and node in it, and no comparisons. Allocates nothing.
+/// Searches at most two arrays per level for each bound, and makes at most two comparisons per slot
+/// of two leaves. What is dropped whole costs time for each leaf and node in it, and no
+/// comparisons. Allocates nothing.
 ///
-/// The caller must see that a well-formed part of a tree, or a retired node, stands under the number.
+/// The caller must see that a well-formed part of a tree, or a retired node, stands under the
+/// number.
 pub fn remove_range_at<K: Ord + Drop, V: Drop, const LEN: usize>(
     arenas: &mut ArenasOf<K, V, LEN>,
     level: usize,
@@ -59,7 +64,7 @@ pub fn remove_range_at<K: Ord + Drop, V: Drop, const LEN: usize>(
     }
 }
 
-/// Removes the keys within the bounds from a part, and returns how many there were.
+// Removes the keys within the bounds from a part, and returns how many there were.
 #[cycle(cutting)]
 fn cut_part<K: Ord + Drop, V: Drop, const LEN: usize>(
     arenas: &mut ArenasOf<K, V, LEN>,
@@ -97,8 +102,8 @@ fn cut_part<K: Ord + Drop, V: Drop, const LEN: usize>(
     }
 }
 
-/// Removes the keys within the bounds from the child at a place, and returns how many there were. A keyed child is
-/// dropped if no bound is left to test, or if it is left empty.
+// Removes the keys within the bounds from the child at a place, and returns how many there were. A
+// keyed child is dropped if no bound is left to test, or if it is left empty.
 #[cycle(cutting)]
 fn cut_child<K: Ord + Drop, V: Drop, const LEN: usize>(
     arenas: &mut ArenasOf<K, V, LEN>,
@@ -127,7 +132,7 @@ fn cut_child<K: Ord + Drop, V: Drop, const LEN: usize>(
     gone
 }
 
-/// Removes the keys within the bounds from a leaf, and returns how many there were.
+// Removes the keys within the bounds from a leaf, and returns how many there were.
 fn cut_leaf<K: Ord + Drop, V: Drop, const LEN: usize>(
     arenas: &mut ArenasOf<K, V, LEN>,
     id: LeafId,
@@ -142,7 +147,7 @@ fn cut_leaf<K: Ord + Drop, V: Drop, const LEN: usize>(
     (before - array.len()) as u128
 }
 
-/// Returns whether no pair stands in a part, as its unbounded children tell.
+// Returns whether no pair stands in a part, as its unbounded children tell.
 fn is_empty<K: Ord + Drop, V: Drop, const LEN: usize>(
     arenas: &ArenasOf<K, V, LEN>,
     level: usize,

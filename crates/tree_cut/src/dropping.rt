@@ -14,15 +14,15 @@ use tree_leaf::arena::{LeafId, NodeId};
 use tree_leaf::leaf::splice_link;
 use tree_node::node::{ArenasOf, NodeOf};
 
-/// The two ends of a part.
+// The two ends of a part.
 #[derive(Clone, Copy, Drop)]
 pub(crate) enum End {
     First,
     Last,
 }
 
-/// Drops the keyed child at a place with all that stands under it, and takes it out of its node. Returns how many pairs
-/// stood there.
+// Drops the keyed child at a place with all that stands under it, and takes it out of its node.
+// Returns how many pairs stood there.
 pub(crate) fn drop_child<K: Ord + Drop, V: Drop, const LEN: usize>(
     arenas: &mut ArenasOf<K, V, LEN>,
     level: usize,
@@ -45,8 +45,8 @@ pub(crate) fn drop_child<K: Ord + Drop, V: Drop, const LEN: usize>(
     gone
 }
 
-/// Drops a part: the leaves on both sides of it become neighbours, and exactly the numbers that it reached are free.
-/// Returns how many pairs stood there.
+// Drops a part: the leaves on both sides of it become neighbours, and exactly the numbers that it
+// reached are free. Returns how many pairs stood there.
 fn drop_part<K: Ord + Drop, V: Drop, const LEN: usize>(
     arenas: &mut ArenasOf<K, V, LEN>,
     level: usize,
@@ -65,7 +65,7 @@ fn drop_part<K: Ord + Drop, V: Drop, const LEN: usize>(
     free_part(arenas, level, part)
 }
 
-/// Returns the first or the last leaf of a part.
+// Returns the first or the last leaf of a part.
 fn end_leaf<K: Ord + Drop, V: Drop, const LEN: usize>(
     arenas: &ArenasOf<K, V, LEN>,
     level: usize,
@@ -86,7 +86,7 @@ fn end_leaf<K: Ord + Drop, V: Drop, const LEN: usize>(
     }
 }
 
-/// Returns the first or the last child of a node, which must have an unbounded one.
+// Returns the first or the last child of a node, which must have an unbounded one.
 fn end_child<K: Ord + Drop, const LEN: usize>(node: &NodeOf<K, LEN>, end: End) -> Part
     requires { IsSome (unbounded node.now) }
     ensures child { IsEnd end (node_children (Some node.now)) (part_id result) }
@@ -98,7 +98,7 @@ fn end_child<K: Ord + Drop, const LEN: usize>(node: &NodeOf<K, LEN>, end: End) -
     }
 }
 
-/// Frees exactly the numbers that are reached from a part. Returns how many pairs stood there.
+// Frees exactly the numbers that are reached from a part. Returns how many pairs stood there.
 fn free_part<K: Ord + Drop, V: Drop, const LEN: usize>(
     arenas: &mut ArenasOf<K, V, LEN>,
     level: usize,
@@ -125,7 +125,7 @@ fn free_part<K: Ord + Drop, V: Drop, const LEN: usize>(
     }
 }
 
-/// Says that the pairs of a part can be counted. Runs in constant time.
+// Says that the pairs of a part can be counted. Runs in constant time.
 pub(crate) fn count_fits<K: Ord + Drop, V: Drop, const LEN: usize>(
     arenas: &ArenasOf<K, V, LEN>,
     level: usize,

@@ -8,15 +8,16 @@ use tree_array::array::ArrayOf;
 use tree_leaf::arena::{LeafId, NodeId};
 use tree_node::node::NodeOf;
 
-/// The number of a leaf or of a node.
+// The number of a leaf or of a node.
 #[derive(Clone, Copy, Drop)]
 pub(crate) enum Part {
     Leaf(LeafId),
     Node(NodeId),
 }
 
-/// Returns the child of a node at a place in the order of the keys, counted from 0: a keyed child, or the unbounded one
-/// behind them all. The node must have an unbounded child, and the place must be one of its children's.
+// Returns the child of a node at a place in the order of the keys, counted from 0: a keyed child,
+// or the unbounded one behind them all. The node must have an unbounded child, and the place must
+// be one of its children's.
 pub(crate) fn child_at<K: Ord + Drop, const LEN: usize>(node: &NodeOf<K, LEN>, place: u8) -> Part
     requires last { IsSome (unbounded node.now) }
     requires place { place ≤ length (keyed node.now).entries }
@@ -35,7 +36,7 @@ pub(crate) fn child_at<K: Ord + Drop, const LEN: usize>(node: &NodeOf<K, LEN>, p
     }
 }
 
-/// Returns the keyed child at a place, or else the unbounded one.
+// Returns the keyed child at a place, or else the unbounded one.
 fn id_at<K: Ord + Drop, I: Copy + Drop, const LEN: usize>(
     children: &ArrayOf<K, I, LEN>,
     unbounded: Option<I>,

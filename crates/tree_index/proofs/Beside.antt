@@ -11,7 +11,7 @@ use Rattle.tree_model.specs.Cursor.{moved, option_where, shown_apart, with_ends}
 use Rattle.tree_model.specs.Located.{located}
 use Rattle.tree_index.specs.Nearest.{at_or_above, at_or_below}
 use Rattle.tree_model.proofs.LookUps.{none_larger}
-use Rattle.tree_ranges.proofs.Nearest.{all_above}
+use Rattle.tree_cursors.proofs.Nearest.{all_above}
 
 -- every pair passes where the bound is open
 where_open : {X : Type 0} (found : Option X) → option_where (λ _. true) found ≡ found

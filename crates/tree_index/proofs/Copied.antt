@@ -8,7 +8,7 @@ use Rattle.tree_array.proofs.Common.{all-append, all_map, alike_after}
 use Rattle.tree_chain.specs.Rest.{Takes, left_of}
 use Rattle.tree_chain.specs.Walks.{LeafWalk}
 use Rattle.tree_node.proofs.Common.{TreeArenas, IsTree, leaf_entries, leaves_at, root_at, walk}
-use Rattle.tree_walk.specs.Ends.{BeginsPart, IsLinked}
+use Rattle.tree_parts.specs.Ends.{BeginsPart, IsLinked}
 use Rattle.tree_index.specs.Copies.{AllSmaller, HasLeft}
 
 -- all is behind nothing

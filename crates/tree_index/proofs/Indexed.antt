@@ -9,7 +9,7 @@ use Rattle.tree_node.specs.declared.node.Root.{Root}
 use Rattle.tree_model.specs.declared.commands.InsertError.TheVariants.{Duplicate as SameKey, OutOfMemory}
 use Rattle.tree_model.specs.Edits.{Inserts as InsertsPair, handed_back}
 use Rattle.tree_model.proofs.Lengths.{length-put, without_absent, without_present}
-use Rattle.tree_walk.specs.Ends.{IsLinked}
+use Rattle.tree_parts.specs.Ends.{IsLinked}
 use Rattle.tree_insert.specs.Inserts.{Inserts, declined}
 use Rattle.tree_node.specs.Whole.{IsTop, depth_of}
 use Rattle.tree_node.proofs.Walks.{walk_ascends}

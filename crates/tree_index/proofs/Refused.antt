@@ -10,7 +10,7 @@ use Rattle.tree_model.proofs.Lengths.{without_present}
 use Rattle.tree_model.proofs.Ascending.{IsAscending-filter}
 use Rattle.tree_model.proofs.LookUps.{found_first, same_within}
 use Rattle.tree_node.proofs.Between.{found_between, without_between}
-use Rattle.tree_ranges.proofs.Yields.{rest_fresh}
+use Rattle.tree_cursors.proofs.Yields.{rest_fresh}
 use Rattle.tree_views.proofs.Walked.{all_pass}
 use Rattle.tree_index.specs.Retained.{AnswersAt, Passes, Refuses, Retains, low_behind}
 

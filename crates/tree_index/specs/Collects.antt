@@ -13,7 +13,7 @@ module _ {K V : Type 0} (cmp : K → K → Ordering) where
   abbrev pub puts : List (K × V) → List (K × V) → List (K × V)
   puts l pairs = fold (λ list pair. put cmp list pair.0 pair.1) l pairs
 
-  -- Pairs that a source gives were put in order: all of them, or those before the one that was refused memory, which comes back.
+  -- Pairs that a source gives were put in order: all of them, or those before the one for which an allocation failed, which comes back.
   pub record PutsPairs {U T : Type 0} (becomes : U → T → Type 0) (steps : T → Option (K × V) → T → Type 0) (source : U) (old new : Index K V) (result : Result (Unit {0}) (K × V)) : Type 0 where
     pub from : T
     pub became : becomes source from

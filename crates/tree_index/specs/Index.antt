@@ -48,7 +48,7 @@ module _ {K V : Type 0} where
   abbrev pub StaysPacked : (K → K → Ordering) → Index K V → Index K V → K → Type 0
   StaysPacked cmp old new key = AllByRecursion (λ p. cmp p.0 key ≡ Less) old.pairs → old.packed ≡ true → new.packed ≡ true
 
-  -- The pair is stored, or it comes back for a duplicate or for want of memory.
+  -- The pair is stored, or it comes back as a duplicate or for lack of memory.
   pub record StoresPair (cmp : K → K → Ordering) (upsert : Bool) (LEN : ℕ) (old new : Index K V) (key : K) (val : V) (result : Result Stored (InsertError K V)) : Type 0 where
     pub pairs : Inserts cmp upsert (told result) old.pairs key val new.pairs
     pub spent : refused (told result) ≡ true → old.spare ≡ 0

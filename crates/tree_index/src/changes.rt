@@ -8,10 +8,12 @@ use crate::index::TreeIndexOf;
 use tree_array::array::IndexKey;
 
 impl<K: IndexKey, V: Drop, const LEN: usize> TreeIndexOf<K, V, LEN> {
-    /// Passes the value at a key to a function, and stores what it returns in its stead. Returns whether the key is present.
+    /// Passes the value at a key to a function, and stores what it returns in its stead. Returns
+    /// whether the key is present.
     ///
-    /// Calls the function once if the key is present, else never. The function must accept the value of the key. The stored
-    /// key stays, and no slot is spent. Makes as many comparisons as [`peek`](TreeIndexOf::peek), and allocates nothing.
+    /// Calls the function once if the key is present, else never. The function must accept the
+    /// value of the key. The stored key stays, and no slot is spent. Makes as many comparisons as
+    /// [`peek`](TreeIndexOf::peek), and allocates nothing.
     ///
     /// ```
     /// fn add(&mut self, key: u64, amount: u64) -> bool {
@@ -27,10 +29,11 @@ impl<K: IndexKey, V: Drop, const LEN: usize> TreeIndexOf<K, V, LEN> {
         self.tree.change_value(key, change)
     }
 
-    /// Replaces the value at a key and returns the old one. Returns `Err` with the value if the key is absent.
+    /// Replaces the value at a key and returns the old one. Returns `Err` with the value if the key
+    /// is absent.
     ///
-    /// The stored key stays, and no slot is spent, as an [`upsert_sync`](TreeIndexOf::upsert_sync) spends one. Makes as many
-    /// comparisons as [`peek`](TreeIndexOf::peek), and allocates nothing.
+    /// The stored key stays, and no slot is spent, as an [`upsert_sync`](TreeIndexOf::upsert_sync)
+    /// spends one. Makes as many comparisons as [`peek`](TreeIndexOf::peek), and allocates nothing.
     ///
     /// ```
     /// fn replace(&mut self, key: u64, name: String) -> Result<String, String> {

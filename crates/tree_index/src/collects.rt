@@ -34,11 +34,12 @@ impl<K, V> fmt::Display for FromSortedError<K, V> {
 impl<K: fmt::Debug + Drop, V: fmt::Debug + Drop> Error for FromSortedError<K, V> {}
 
 impl<K: IndexKey, V: Drop, const LEN: usize> TreeIndexOf<K, V, LEN> {
-    /// Stores each pair of an iterator. A pair with an equal key is replaced, so of pairs with equal keys the last one
-    /// stays.
+    /// Stores each pair of an iterator. A pair with an equal key is replaced, so of pairs with
+    /// equal keys the last one stays.
     ///
-    /// Returns `Err` with the first pair for which an allocation is refused, and takes no pair after it. The pairs before
-    /// it stay stored. Costs what [`upsert_sync`](TreeIndexOf::upsert_sync) does for each pair. The iterator must end.
+    /// Returns `Err` with the first pair for which an allocation is refused, and takes no pair
+    /// after it. The pairs before it stay stored. Costs what
+    /// [`upsert_sync`](TreeIndexOf::upsert_sync) does for each pair. The iterator must end.
     ///
     /// ```
     /// match self.try_extend(pairs) {
@@ -61,12 +62,13 @@ impl<K: IndexKey, V: Drop, const LEN: usize> TreeIndexOf<K, V, LEN> {
 
     /// Returns an index of pairs whose keys ascend.
     ///
-    /// Returns `NotAscending` with the pairs if a key isn't larger than the one before it. Returns `OutOfMemory` if an
-    /// allocation is refused. Nothing of the index is left then, and the pairs are dropped.
+    /// Returns `NotAscending` with the pairs if a key isn't larger than the one before it. Returns
+    /// `OutOfMemory` if an allocation is refused. Nothing of the index is left then, and the pairs
+    /// are dropped.
     ///
-    /// Compares each key with the one before it. Gathers the pairs into whole leaves and makes a few comparisons for each
-    /// leaf, and those of a descent for each full leaf node. Reserves memory for as many leaves. The caller must choose 7 or
-    /// 15 for `LEN`.
+    /// Compares each key with the one before it. Gathers the pairs into whole leaves and makes a
+    /// few comparisons for each leaf, and those of a descent for each full leaf node. Reserves
+    /// memory for as many leaves. The caller must choose 7 or 15 for `LEN`.
     ///
     /// ```
     /// TreeIndex::from_sorted(alloc, samples)
@@ -86,7 +88,7 @@ impl<K: IndexKey, V: Drop, const LEN: usize> TreeIndexOf<K, V, LEN> {
     }
 }
 
-/// Returns whether each key is larger than the one before it.
+// Returns whether each key is larger than the one before it.
 fn are_ascending<K: Ord, V>(pairs: &[(K, V)]) -> bool
     ensures { IsTrue result ↔ IsAscending K.cmp pairs.now }
 {
@@ -100,7 +102,8 @@ fn are_ascending<K: Ord, V>(pairs: &[(K, V)]) -> bool
     true
 }
 
-/// Stores each pair as [`try_extend`](TreeIndexOf::try_extend) does, and drops a pair that is refused memory.
+/// Stores each pair as [`try_extend`](TreeIndexOf::try_extend) does, and drops a pair
+/// for which an allocation fails.
 impl<K: IndexKey, V: Drop, const LEN: usize> Extend<(K, V)> for TreeIndexOf<K, V, LEN> {
     ghost extend_gives = { λ old pairs new. new.pairs ≡ puts K.cmp old.pairs pairs };
 
@@ -112,8 +115,8 @@ impl<K: IndexKey, V: Drop, const LEN: usize> Extend<(K, V)> for TreeIndexOf<K, V
     }
 }
 
-/// Collects pairs into an index. Of pairs with equal keys the last one stays. If an allocation is refused, nothing of the
-/// index is left.
+/// Collects pairs into an index. Of pairs with equal keys the last one stays. If an allocation is
+/// refused, nothing of the index is left.
 impl<K: IndexKey, V: Drop, const LEN: usize> FromIterator<(K, V)> for TreeIndexOf<K, V, LEN> {
     type Alloc = Global;
 

@@ -11,15 +11,17 @@ use std::alloc::{AllocError, Global};
 use tree_array::array::{ArrayIter, IndexKey, RunOf};
 use tree_chain::IterOf;
 use tree_chain::laws::next_or_jump;
+use tree_parts::ends::walk_from_end;
 use tree_root::Tree;
-use tree_walk::ends::walk_from_end;
 
 impl<K: IndexKey, V: Drop + Clone, const LEN: usize> TreeIndexOf<K, V, LEN> {
-    /// Returns a copy: an index of a clone of each key with a clone of its value, in the same order.
+    /// Returns a copy: an index of a clone of each key with a clone of its value, in the same
+    /// order.
     ///
-    /// Returns `Err` if an allocation is refused, one of a clone among them; nothing of the copy is left then. Reserves
-    /// memory for as many leaves as the pairs fill. Gathers the clones into whole leaves and makes a few comparisons for each
-    /// leaf, and those of a descent for each full leaf node.
+    /// Returns `Err` if an allocation is refused, one of a clone among them; nothing of the copy is
+    /// left then. Reserves memory for as many leaves as the pairs fill. Gathers the clones into
+    /// whole leaves and makes a few comparisons for each leaf, and those of a descent for each full
+    /// leaf node.
     ///
     /// ```
     /// pub fn snapshot(
@@ -45,7 +47,7 @@ impl<K: IndexKey, V: Drop + Clone, const LEN: usize> TreeIndexOf<K, V, LEN> {
     }
 }
 
-/// Returns a walk over all pairs of a tree, or `None` if it has no pair.
+// Returns a walk over all pairs of a tree, or `None` if it has no pair.
 fn walk_of<K: IndexKey, V: Drop, const LEN: usize>(
     tree: &Tree<K, V, LEN>,
 ) -> Option<IterOf<'_, K, V, LEN>>
@@ -56,7 +58,8 @@ fn walk_of<K: IndexKey, V: Drop, const LEN: usize>(
     walk_from_end::<K, V, ArrayIter, LEN>(&tree.arenas, root.level, root.id)
 }
 
-/// Appends a clone of each pair of another tree. The tree must be empty, and have room for as many pairs.
+// Appends a clone of each pair of another tree. The tree must be empty, and have room for as many
+// pairs.
 fn append_clones<K: IndexKey, V: Drop + Clone, const LEN: usize>(
     tree: &mut Tree<K, V, LEN>,
     other: &Tree<K, V, LEN>,

@@ -8,18 +8,18 @@ ghost use Rattle.tree_model.specs.Pairs.{high_of, low_of};
 use crate::index::TreeIndexOf;
 use std::ops::Bound;
 use tree_array::array::IndexKey;
+use tree_cursors::iter::{IterOf, IterOver};
+use tree_cursors::locate::locate;
+use tree_cursors::range::{RangeOf, RangeOver};
 use tree_model::ProximityOf;
-use tree_ranges::iter::{IterOf, IterOver};
-use tree_ranges::locate::locate;
-use tree_ranges::range::{RangeOf, RangeOver};
 use tree_views::keys::{KeysOf, KeysOver, ValuesOf, ValuesOver};
 
 impl<K: IndexKey, V: Drop, const LEN: usize> TreeIndexOf<K, V, LEN> {
     /// Returns a cursor over all pairs, from both ends. Runs in constant time.
     ///
-    /// The first move of an end descends once. Each move after it makes no comparison, but for one of the two ends if
-    /// both are opened, and reads the next entry of its leaf or follows links up to the next leaf with an entry. Allocates
-    /// nothing.
+    /// The first move of an end descends once. Each move after it makes no comparison, but for one
+    /// of the two ends if both are opened, and reads the next entry of its leaf or follows links up
+    /// to the next leaf with an entry. Allocates nothing.
     ///
     /// ```
     /// let mut left = asks.iter();
@@ -33,7 +33,8 @@ impl<K: IndexKey, V: Drop, const LEN: usize> TreeIndexOf<K, V, LEN> {
         IterOver::new(&self.tree.arenas, self.tree.root)
     }
 
-    /// Returns the keys in ascending order, from both ends. Runs in constant time and allocates nothing.
+    /// Returns the keys in ascending order, from both ends. Runs in constant time and allocates
+    /// nothing.
     ///
     /// ```
     /// pub fn first_article(stock: &TreeIndex<u64, u64>) -> Option<u64>
@@ -48,7 +49,8 @@ impl<K: IndexKey, V: Drop, const LEN: usize> TreeIndexOf<K, V, LEN> {
         KeysOver::new(self.iter())
     }
 
-    /// Returns the values in ascending order of their keys, from both ends. Runs in constant time and allocates nothing.
+    /// Returns the values in ascending order of their keys, from both ends. Runs in constant time
+    /// and allocates nothing.
     ///
     /// ```
     /// let mut pieces: u64 = 0;
@@ -62,11 +64,11 @@ impl<K: IndexKey, V: Drop, const LEN: usize> TreeIndexOf<K, V, LEN> {
         ValuesOver::new(self.iter())
     }
 
-    /// Returns a cursor over the pairs whose keys are within both bounds, from both ends. Bounds that contain no key,
-    /// reversed ones among them, give no pair. Runs in constant time.
+    /// Returns a cursor over the pairs whose keys are within both bounds, from both ends. Bounds
+    /// that contain no key, reversed ones among them, give no pair. Runs in constant time.
     ///
-    /// The moves cost what those of [`iter`](TreeIndexOf::iter) do, and one comparison more, with the bound at which
-    /// the end stops.
+    /// The moves cost what those of [`iter`](TreeIndexOf::iter) do, and one comparison more, with
+    /// the bound at which the end stops.
     ///
     /// ```
     /// let mut offers = prices.range((low.as_ref(), high.as_ref()));
@@ -82,9 +84,9 @@ impl<K: IndexKey, V: Drop, const LEN: usize> TreeIndexOf<K, V, LEN> {
         RangeOver::new(&self.tree.arenas, self.tree.root, bounds)
     }
 
-    /// Returns where a key is: present, or which pairs are beside it, with a cursor that stands there. Descends once,
-    /// or twice if every key is smaller. Makes at most `4 * (depth + 1) + 2` comparisons with 15 pairs a leaf, and
-    /// `3 * (depth + 1) + 2` with 7, and allocates nothing.
+    /// Returns where a key is: present, or which pairs are beside it, with a cursor that stands
+    /// there. Descends once, or twice if every key is smaller. Makes at most `4 * (depth + 1) + 2`
+    /// comparisons with 15 pairs a leaf, and `3 * (depth + 1) + 2` with 7, and allocates nothing.
     ///
     /// ```
     /// fill(index, &[(1, 1), (3, 2), (5, 3), (7, 4)])?;

@@ -7,9 +7,9 @@ use crate::index::TreeIndexOf;
 use tree_array::array::IndexKey;
 use tree_views::equality::are_same;
 
-/// Two indexes are equal if they have as many pairs and, one by one, equal keys and equal values. What their trees
-/// look like doesn't matter. Compares no pair if the lengths differ, else each pair until one differs. Allocates
-/// nothing.
+/// Two indexes are equal if they have as many pairs and, one by one, equal keys and equal values.
+/// What their trees look like doesn't matter. Compares no pair if the lengths differ, else each
+/// pair until one differs. Allocates nothing.
 ///
 /// ```
 /// (first == second, second == first, first == first)

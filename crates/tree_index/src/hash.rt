@@ -8,7 +8,8 @@ use std::hash::{Hash, Hasher};
 use tree_array::array::IndexKey;
 use tree_views::hash::feed;
 
-/// Feeds what [`len`](TreeIndexOf::len) tells, and then each pair in order, its key before its value. Allocates nothing.
+/// Feeds what [`len`](TreeIndexOf::len) tells, and then each pair in order, its key before its
+/// value. Allocates nothing.
 ///
 /// ```
 /// let mut hasher = DefaultHasher::new();

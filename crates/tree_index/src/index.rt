@@ -16,9 +16,9 @@ use tree_array::array::{IndexKey, Judge};
 use tree_leaf::arena::NodeId;
 use tree_model::InsertError;
 use tree_node::node::ArenasOf;
+use tree_parts::spare::spare_at;
 use tree_root::{Stored, Tree};
 use tree_views::listing::list_pairs;
-use tree_walk::spare::spare_at;
 
 /// An ordered index of pairs of a key and a value, with fifteen pairs a leaf. See [`TreeIndexOf`].
 pub type TreeIndex<K, V> = TreeIndexOf<K, V, 15>;
@@ -26,18 +26,20 @@ pub type TreeIndex<K, V> = TreeIndexOf<K, V, 15>;
 /// An ordered index with seven pairs a leaf. See [`TreeIndexOf`].
 pub type SmallTreeIndex<K, V> = TreeIndexOf<K, V, 7>;
 
-/// An ordered index of pairs of a key and a value: a B-plus tree with up to `LEN` pairs a leaf and `LEN + 1` children
-/// a node. `LEN` is 7 or 15.
+/// An ordered index of pairs of a key and a value: a B-plus tree with up to `LEN` pairs a leaf and
+/// `LEN + 1` children a node. `LEN` is 7 or 15.
 ///
-/// Contracts see the list of its pairs, strictly ascending by key; its depth, which is the number of levels of nodes;
-/// its spare, which is how many writes are sure not to allocate; and whether it is packed, which is as full as can be
-/// along the right edge of its tree. Pairs that arrive in ascending order leave it so.
+/// Contracts see the list of its pairs, strictly ascending by key; its depth, which is the number
+/// of levels of nodes; its spare, which is how many writes are sure not to allocate; and whether it
+/// is packed, which is as full as can be along the right edge of its tree. Pairs that arrive in
+/// ascending order leave it so.
 ///
-/// Costs are in terms of the depth. An array is searched with at most 4 comparisons among 15 slots, and 3 among 7.
+/// Costs are in terms of the depth. An array is searched with at most 4 comparisons among 15 slots,
+/// and 3 among 7.
 pub struct TreeIndexOf<K: IndexKey, V: Drop, const LEN: usize> {
     pub(crate) tree: Tree<K, V, LEN>,
     pub(crate) len: u128,
-    /// What the tree allocates with, for clones. It takes no bytes.
+    // What the tree allocates with, for clones. It takes no bytes.
     pub(crate) alloc: Global,
 }
 
@@ -91,14 +93,14 @@ impl<K: IndexKey, V: Drop, const LEN: usize> TreeIndexOf<K, V, LEN> {
 
     /// Stores a pair if its key is absent.
     ///
-    /// Returns `Duplicate` if the key is present, and `OutOfMemory` if the key is absent and an allocation is
-    /// refused. Both hand the pair back, and the pairs are as they were. Nothing is refused while the spare is above
-    /// 0.
+    /// Returns `Duplicate` if the key is present, and `OutOfMemory` if the key is absent and an
+    /// allocation is refused. Both hand the pair back, and the pairs are as they were. Nothing is
+    /// refused while the spare is above 0.
     ///
-    /// Descends once and searches one array per level and the leaf. If the leaf has a free slot, allocates nothing.
-    /// If the leaf is full, searches the leaf and the node above it once more. If that node is full too, descends once
-    /// more; where that splits an array, searches again from its level on. Allocates at most one leaf, one node per level
-    /// and a new root.
+    /// Descends once and searches one array per level and the leaf. If the leaf has a free slot,
+    /// allocates nothing. If the leaf is full, searches the leaf and the node above it once more.
+    /// If that node is full too, descends once more; where that splits an array, searches again
+    /// from its level on. Allocates at most one leaf, one node per level and a new root.
     ///
     /// ```
     /// match prices.insert_sync(item, price) {
@@ -120,9 +122,10 @@ impl<K: IndexKey, V: Drop, const LEN: usize> TreeIndexOf<K, V, LEN> {
 
     /// Stores a pair. A pair with an equal key is replaced, key and value.
     ///
-    /// Returns `Err` with the pair if an allocation is refused; the pairs are then as they were. Nothing is refused
-    /// while the spare is above 0. Costs what [`insert_sync`](TreeIndexOf::insert_sync) does. A replaced pair leaves
-    /// its slot spent until its leaf is built anew or split.
+    /// Returns `Err` with the pair if an allocation is refused; the pairs are then as they were.
+    /// Nothing is refused while the spare is above 0. Costs what
+    /// [`insert_sync`](TreeIndexOf::insert_sync) does. A replaced pair leaves its slot spent until
+    /// its leaf is rebuilt or split.
     ///
     /// ```
     /// let old = balances.peek(&account).copied().unwrap_or(0);
@@ -142,9 +145,9 @@ impl<K: IndexKey, V: Drop, const LEN: usize> TreeIndexOf<K, V, LEN> {
 
     /// Removes the pair with a key. Returns whether there was one.
     ///
-    /// Descends once and searches one array per level and the leaf, and twice where the leaf has one pair alone. If the last
-    /// two removals went to one leaf, first compares the key with the first and the last one there: between them it needs
-    /// no descent. Allocates nothing.
+    /// Descends once and searches one array per level and the leaf, and twice where the leaf has
+    /// one pair alone. If the last two removals went to one leaf, first compares the key with the
+    /// first and the last one there: between them it needs no descent. Allocates nothing.
     ///
     /// ```
     /// pub fn withdraw(stock: &mut TreeIndex<u64, u64>, article: u64) -> bool
@@ -164,8 +167,8 @@ impl<K: IndexKey, V: Drop, const LEN: usize> TreeIndexOf<K, V, LEN> {
 
     /// Removes the pair with a key if the condition holds of its value. Returns whether it did.
     ///
-    /// Calls the condition once if the key is present, else never. The condition must accept the value of the key.
-    /// Costs what [`remove_sync`](TreeIndexOf::remove_sync) does.
+    /// Calls the condition once if the key is present, else never. The condition must accept the
+    /// value of the key. Costs what [`remove_sync`](TreeIndexOf::remove_sync) does.
     ///
     /// ```
     /// balances.remove_if_sync(&account, |balance| *balance == 0)
@@ -187,13 +190,13 @@ impl<K: IndexKey, V: Drop, const LEN: usize> TreeIndexOf<K, V, LEN> {
         removed
     }
 
-    /// Removes every pair whose key is within both bounds. Bounds that contain no key, reversed ones among them, remove
-    /// nothing.
+    /// Removes every pair whose key is within both bounds. Bounds that contain no key, reversed
+    /// ones among them, remove nothing.
     ///
-    /// Drops the parts of the tree between the bounds whole, each leaf and node of them once. Makes comparisons only at
-    /// the two ends of the range: at most two searches per level and bound, and two comparisons per slot of two leaves,
-    /// however many pairs it removes. Allocates nothing. What [`spare`](TreeIndexOf::spare) says afterwards is not
-    /// promised.
+    /// Drops the parts of the tree between the bounds whole, each leaf and node of them once. Makes
+    /// comparisons only at the two ends of the range: at most two searches per level and bound, and
+    /// two comparisons per slot of two leaves, however many pairs it removes. Allocates nothing.
+    /// What [`spare`](TreeIndexOf::spare) says afterwards is not promised.
     ///
     /// ```
     /// samples.remove_range_sync((Bound::Unbounded, Bound::Excluded(&time)));
@@ -206,7 +209,8 @@ impl<K: IndexKey, V: Drop, const LEN: usize> TreeIndexOf<K, V, LEN> {
 
     /// Removes all pairs. The depth is 0 afterwards.
     ///
-    /// Drops each pair, leaf and node once. Allocates nothing, and keeps the memory of leaves and nodes for later writes.
+    /// Drops each pair, leaf and node once. Allocates nothing, and keeps the memory of leaves and
+    /// nodes for later writes.
     ///
     /// ```
     /// let was_empty = stock.is_empty();
@@ -225,8 +229,8 @@ impl<K: IndexKey, V: Drop, const LEN: usize> TreeIndexOf<K, V, LEN> {
 
     /// Returns the value of a key, or `None` if the key is absent.
     ///
-    /// Makes at most `4 * (depth + 1)` comparisons with 15 pairs a leaf, and `3 * (depth + 1)` with 7. Allocates
-    /// nothing.
+    /// Makes at most `4 * (depth + 1)` comparisons with 15 pairs a leaf, and `3 * (depth + 1)` with
+    /// 7. Allocates nothing.
     ///
     /// ```
     /// assert!(rt; index.peek(&1).copied() == Some(10));
@@ -258,8 +262,9 @@ impl<K: IndexKey, V: Drop, const LEN: usize> TreeIndexOf<K, V, LEN> {
         pair_of(self, key)
     }
 
-    /// Returns the pair with the judge's key, as it is stored. The judge keeps its key, and is asked at most
-    /// `4 * (depth + 1)` times with 15 pairs a leaf, and `3 * (depth + 1)` times with 7.
+    /// Returns the pair with the judge's key, as it is stored. The judge keeps its key, and is
+    /// asked at most `4 * (depth + 1)` times with 15 pairs a leaf, and `3 * (depth + 1)` times with
+    /// 7.
     ///
     /// ```
     /// let mut judge: KeyJudge<K, L> = KeyJudge::new(key, Steps::new(blank));
@@ -316,11 +321,12 @@ impl<K: IndexKey, V: Drop, const LEN: usize> TreeIndexOf<K, V, LEN> {
         self.len == 0
     }
 
-    /// Returns the number of levels of nodes: 0 without a root, and 1 if the root is a leaf node. A root that is a leaf node
-    /// stays when its last pair is removed, so the depth is 1 then. After [`clear`](TreeIndexOf::clear) it is 0.
+    /// Returns the number of levels of nodes: 0 without a root, and 1 if the root is a leaf node. A
+    /// root that is a leaf node stays when its last pair is removed, so the depth is 1 then. After
+    /// [`clear`](TreeIndexOf::clear) it is 0.
     ///
-    /// At depth *d* there are at most `LEN * (LEN + 1)^d` pairs, and none at depth 0. If *d* is above 1 and the index is
-    /// packed, there are more than `LEN^d`. Runs in constant time.
+    /// At depth *d* there are at most `LEN * (LEN + 1)^d` pairs, and none at depth 0. If *d* is
+    /// above 1 and the index is packed, there are more than `LEN^d`. Runs in constant time.
     ///
     /// ```
     /// let copy = index.try_clone(alloc)?;
@@ -338,10 +344,10 @@ impl<K: IndexKey, V: Drop, const LEN: usize> TreeIndexOf<K, V, LEN> {
         }
     }
 
-    /// Returns how many writes are sure not to allocate, whatever their keys: the least number that any leaf takes, and 0
-    /// without a leaf. A leaf takes as many writes as it has slots never used. If it is sure to be built anew in place
-    /// once these are filled, it takes as many as it has slots without a pair. Reads every node and leaf, and makes no
-    /// comparisons.
+    /// Returns how many writes are sure not to allocate, whatever their keys: the least number that
+    /// any leaf takes, and 0 without a leaf. A leaf takes as many writes as it has slots never
+    /// used. If it is sure to be rebuilt in place once these are filled, it takes as many as it
+    /// has slots without a pair. Reads every node and leaf, and makes no comparisons.
     ///
     /// ```
     /// samples.spare() > 0 && samples.upsert_sync(time, value).is_ok()
@@ -355,8 +361,8 @@ impl<K: IndexKey, V: Drop, const LEN: usize> TreeIndexOf<K, V, LEN> {
         }
     }
 
-    /// Returns the arenas of the tree, and the number of its root if it has one. Every number in use in the arenas is
-    /// reached from the root exactly once. Runs in constant time.
+    /// Returns the arenas of the tree, and the number of its root if it has one. Every number in
+    /// use in the arenas is reached from the root exactly once. Runs in constant time.
     ///
     /// ```
     /// let (arenas, _) = index.parts();
@@ -371,7 +377,7 @@ impl<K: IndexKey, V: Drop, const LEN: usize> TreeIndexOf<K, V, LEN> {
         }
     }
 
-    /// Stores a pair and counts it. With `UPSERT` it replaces the pair with an equal key.
+    // Stores a pair and counts it. With `UPSERT` it replaces the pair with an equal key.
     #[inline(always)]
     fn store<const UPSERT: bool>(&mut self, key: K, value: V) -> Result<Stored, InsertError<K, V>>
         ensures { StoresPair K.cmp UPSERT LEN self.old self.new key value result }
@@ -389,7 +395,7 @@ impl<K: IndexKey, V: Drop, const LEN: usize> TreeIndexOf<K, V, LEN> {
     }
 }
 
-/// Returns true, whatever the value.
+// Returns true, whatever the value.
 fn always<V>(_: &V) -> bool
     ensures { result ≡ true }
 {

@@ -1,7 +1,7 @@
 //! An ordered index that answers as one strictly ascending list of pairs.
 //!
-//! A type of the caller's own is a key once it has an `impl IndexKey`, whose one law says that a clone compares equal
-//! to its source:
+//! A type of the caller's own is a key once it has an `impl IndexKey`, whose one law says that a
+//! clone compares equal to its source:
 //!
 //! ```
 //! impl IndexKey for Price {
@@ -47,13 +47,13 @@ pub use index::{SmallTreeIndex, TreeIndex, TreeIndexOf};
 pub use into_iter::{IntoIter, IntoIterOf};
 pub use seek::Seeks;
 pub use tree_array::array::{Judge, KeyJudge, Steps};
+pub use tree_cursors::cursor::{Cursor, run_moves};
+pub use tree_cursors::iter::{Iter, IterOf};
+pub use tree_cursors::locate::Proximity;
+pub use tree_cursors::range::{Range, RangeOf};
 pub use tree_leaf::arena::NodeId;
 pub use tree_model::{
     Answer, Command, IndexKey, InsertError, Move, ProximityOf, Record, Reply, SameClone,
 };
 pub use tree_node::node::{Arenas, ArenasOf};
-pub use tree_ranges::cursor::{Cursor, run_moves};
-pub use tree_ranges::iter::{Iter, IterOf};
-pub use tree_ranges::locate::Proximity;
-pub use tree_ranges::range::{Range, RangeOf};
 pub use tree_views::keys::{Keys, KeysOf, Values, ValuesOf};

@@ -9,8 +9,8 @@ use tree_array::array::IndexKey;
 use tree_model::ProximityOf;
 
 impl<K: IndexKey, V: Drop, const LEN: usize> TreeIndexOf<K, V, LEN> {
-    /// Returns the pair with the smallest key, or `None` if there is no pair. Descends once, and makes no comparison.
-    /// Allocates nothing.
+    /// Returns the pair with the smallest key, or `None` if there is no pair. Descends once, and
+    /// makes no comparison. Allocates nothing.
     ///
     /// ```
     /// let (price, _) = asks.first()?;
@@ -22,8 +22,8 @@ impl<K: IndexKey, V: Drop, const LEN: usize> TreeIndexOf<K, V, LEN> {
         self.iter().next()
     }
 
-    /// Returns the pair with the largest key, or `None` if there is no pair. Descends once, and makes no comparison.
-    /// Allocates nothing.
+    /// Returns the pair with the largest key, or `None` if there is no pair. Descends once, and
+    /// makes no comparison. Allocates nothing.
     ///
     /// ```
     /// let (price, _) = bids.last()?;
@@ -35,8 +35,8 @@ impl<K: IndexKey, V: Drop, const LEN: usize> TreeIndexOf<K, V, LEN> {
         self.iter().next_back()
     }
 
-    /// Returns the pair with a key, or else the one with the next smaller key. Returns `None` if every key is larger.
-    /// Costs what [`locate`](TreeIndexOf::locate) does.
+    /// Returns the pair with a key, or else the one with the next smaller key. Returns `None` if
+    /// every key is larger. Costs what [`locate`](TreeIndexOf::locate) does.
     ///
     /// ```
     /// pub fn article_up_to(stock: &TreeIndex<u64, u64>, number: u64) -> Option<(&u64, &u64)>
@@ -57,8 +57,8 @@ impl<K: IndexKey, V: Drop, const LEN: usize> TreeIndexOf<K, V, LEN> {
         }
     }
 
-    /// Returns the pair with a key, or else the one with the next larger key. Returns `None` if every key is smaller.
-    /// Costs what [`locate`](TreeIndexOf::locate) does.
+    /// Returns the pair with a key, or else the one with the next larger key. Returns `None` if
+    /// every key is smaller. Costs what [`locate`](TreeIndexOf::locate) does.
     ///
     /// ```
     /// pub fn ask_from(asks: &TreeIndex<u64, u64>, price: u64) -> Option<(&u64, &u64)>

@@ -8,8 +8,9 @@ use std::cmp::Ordering;
 use tree_array::array::IndexKey;
 use tree_views::order::order_of;
 
-/// Indexes are ordered as the lists of their pairs are: the first two pairs that differ decide, their keys before their
-/// values, and if none do, the index with more pairs is greater. Compares each pair until one differs. Allocates nothing.
+/// Indexes are ordered as the lists of their pairs are: the first two pairs that differ decide,
+/// their keys before their values, and if none do, the index with more pairs is greater. Compares
+/// each pair until one differs. Allocates nothing.
 ///
 /// ```
 /// assert!(rt; first.partial_cmp(second) == Some(order));

@@ -7,10 +7,11 @@ use crate::index::TreeIndexOf;
 use tree_array::array::IndexKey;
 
 impl<K: IndexKey, V: Drop, const LEN: usize> TreeIndexOf<K, V, LEN> {
-    /// Passes the pair with a key to a reader and returns what the reader returns, or `None` if the key is absent.
+    /// Passes the pair with a key to a reader and returns what the reader returns, or `None` if the
+    /// key is absent.
     ///
-    /// Calls the reader once if the key is present, else never. The reader must accept the pair of the key. Costs what
-    /// [`peek`](TreeIndexOf::peek) does, and the call.
+    /// Calls the reader once if the key is present, else never. The reader must accept the pair of
+    /// the key. Costs what [`peek`](TreeIndexOf::peek) does, and the call.
     ///
     /// ```
     /// let sum = index.peek_with(&key, |key, value| {

@@ -8,15 +8,17 @@ ghost use Rattle.tree_root.specs.Trees.{IsStored, IsWhole, pairs_of};
 use crate::index::TreeIndexOf;
 use std::ops::Bound;
 use tree_array::array::IndexKey;
-use tree_ranges::range::RangeOver;
+use tree_cursors::range::RangeOver;
 use tree_remove::entries::EntryPlace;
 use tree_root::Tree;
 
 impl<K: IndexKey, V: Drop, const LEN: usize> TreeIndexOf<K, V, LEN> {
-    /// Removes each pair of which `keep` returns `false`. Calls it once on each pair, in ascending order of the keys.
+    /// Removes each pair of which `keep` returns `false`. Calls it once on each pair, in ascending
+    /// order of the keys.
     ///
     /// A pair that stays costs a move of a cursor. A pair that is removed costs what
-    /// [`take_sync`](TreeIndexOf::take_sync) does, and a descent to the pair after it. Allocates nothing.
+    /// [`take_sync`](TreeIndexOf::take_sync) does, and a descent to the pair after it. Allocates
+    /// nothing.
     ///
     /// ```
     /// offers.retain_sync(|_, quantity| *quantity > 0);
@@ -37,8 +39,8 @@ impl<K: IndexKey, V: Drop, const LEN: usize> TreeIndexOf<K, V, LEN> {
         }
     }
 
-    /// Removes the first pair behind one that is gone, or the first of all, of which `keep` returns `false`. Returns it with
-    /// the test, or `None` if there is no such pair.
+    // Removes the first pair behind one that is gone, or the first of all, of which `keep` returns
+    // `false`. Returns it with the test, or `None` if there is no such pair.
     fn take_refused<F: FnMut(&K, &V) -> bool + Drop>(
         &mut self,
         gone: &Option<(K, V)>,
@@ -65,7 +67,7 @@ impl<K: IndexKey, V: Drop, const LEN: usize> TreeIndexOf<K, V, LEN> {
     }
 }
 
-/// Returns the bound behind a pair, which is open if there is none.
+// Returns the bound behind a pair, which is open if there is none.
 fn bound_behind<K, V>(gone: &Option<(K, V)>) -> Bound<&K>
     ensures { lent_bound result ≡ low_behind gone.now }
 {
@@ -75,7 +77,8 @@ fn bound_behind<K, V>(gone: &Option<(K, V)>) -> Bound<&K>
     }
 }
 
-/// Returns where the first pair from a bound on is stored of which `keep` returns `false`, with the test.
+// Returns where the first pair from a bound on is stored of which `keep` returns `false`, with the
+// test.
 fn refused_place<'t, K: IndexKey, V: Drop, F: FnMut(&K, &V) -> bool + Drop, const LEN: usize>(
     tree: &'t Tree<K, V, LEN>,
     low: Bound<&'t K>,

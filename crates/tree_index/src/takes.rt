@@ -8,16 +8,16 @@ ghost use Rattle.tree_root.specs.Trees.{IsStored, IsWhole, pairs_of};
 
 use crate::index::TreeIndexOf;
 use tree_array::array::IndexKey;
-use tree_ranges::iter::IterOver;
+use tree_cursors::iter::IterOver;
 use tree_remove::entries::EntryPlace;
 use tree_root::Tree;
 
 impl<K: IndexKey, V: Drop, const LEN: usize> TreeIndexOf<K, V, LEN> {
     /// Removes the pair with a key and returns it, or `None` if the key is absent.
     ///
-    /// Descends once and searches one array per level and the leaf. Descends once more if the pair is the last of its leaf.
-    /// Always descends: unlike [`remove_sync`](TreeIndexOf::remove_sync), doesn't look first in the leaf of the last
-    /// removals. Allocates nothing.
+    /// Descends once and searches one array per level and the leaf. Descends once more if the pair
+    /// is the last of its leaf. Always descends: unlike [`remove_sync`](TreeIndexOf::remove_sync),
+    /// doesn't look first in the leaf of the last removals. Allocates nothing.
     ///
     /// ```
     /// let (_, quantity) = offers.take_sync(&price)?;
@@ -36,8 +36,8 @@ impl<K: IndexKey, V: Drop, const LEN: usize> TreeIndexOf<K, V, LEN> {
 
     /// Removes the pair with the smallest key and returns it, or `None` if there is no pair.
     ///
-    /// Descends twice: to the pair without a comparison, and by its key. Descends once more if the pair is the last of its
-    /// leaf. Allocates nothing.
+    /// Descends twice: to the pair without a comparison, and by its key. Descends once more if the
+    /// pair is the last of its leaf. Allocates nothing.
     ///
     /// ```
     /// asks.pop_first()
@@ -53,8 +53,8 @@ impl<K: IndexKey, V: Drop, const LEN: usize> TreeIndexOf<K, V, LEN> {
         Some(pair)
     }
 
-    /// Removes the pair with the largest key and returns it, or `None` if there is no pair. Costs what
-    /// [`pop_first`](TreeIndexOf::pop_first) does.
+    /// Removes the pair with the largest key and returns it, or `None` if there is no pair. Costs
+    /// what [`pop_first`](TreeIndexOf::pop_first) does.
     ///
     /// ```
     /// bids.pop_last()
@@ -71,7 +71,7 @@ impl<K: IndexKey, V: Drop, const LEN: usize> TreeIndexOf<K, V, LEN> {
     }
 }
 
-/// Returns where the first pair of a tree is stored, or `None` if there is no pair.
+// Returns where the first pair of a tree is stored, or `None` if there is no pair.
 fn first_place<K: IndexKey, V: Drop, const LEN: usize>(tree: &Tree<K, V, LEN>) -> Option<EntryPlace>
     requires { IsWhole K.cmp tree.now }
     ensures { MatchOption result (pairs_of tree.now ≡ [])
@@ -81,7 +81,7 @@ fn first_place<K: IndexKey, V: Drop, const LEN: usize>(tree: &Tree<K, V, LEN>) -
     tree.entry_for(key)
 }
 
-/// Returns where the last pair of a tree is stored, or `None` if there is no pair.
+// Returns where the last pair of a tree is stored, or `None` if there is no pair.
 fn last_place<K: IndexKey, V: Drop, const LEN: usize>(tree: &Tree<K, V, LEN>) -> Option<EntryPlace>
     requires { IsWhole K.cmp tree.now }
     ensures { MatchOption result (pairs_of tree.now ≡ [])

@@ -3,8 +3,8 @@ use Rattle.std.proofs.Common.{◌≡◌, ℕ, ◌+◌, ◌<◌, ◌≤◌, List,
 use Rattle.tree_model.proofs.Common.{IsTotalOrder, Bound, lent_entry, HasBegun, Moves, rest, along, Cursor, fresh}
 use Rattle.tree_model.specs.declared.way.Way.{Way}
 use Rattle.std.proofs.Math.ListN.{set}
-use Rattle.tree_ranges.specs.Ranged.{IsFresh, pairs_within}
-use Rattle.tree_ranges.proofs.Yields.{fresh_begun, rest_fresh, takes_first}
+use Rattle.tree_cursors.specs.Ranged.{IsFresh, pairs_within}
+use Rattle.tree_cursors.proofs.Yields.{fresh_begun, rest_fresh, takes_first}
 use Rattle.tree_index_c.specs.Pairs.{Fills}
 use Rattle.tree_index_c.proofs.Filled.{Filling, filling_none, filling_more, fills_places, fills_all}
 

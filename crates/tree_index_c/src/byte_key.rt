@@ -111,7 +111,7 @@ impl IndexKey for ByteKey {
     ghost clone_equal = { equal_texts };
 }
 
-/// Bytes that are sought among keys, without a copy, and a count of the comparisons.
+// Bytes that are sought among keys, without a copy, and a count of the comparisons.
 #[derive(Drop)]
 struct SliceJudge<'b, L: Ledger> {
     head: u64,

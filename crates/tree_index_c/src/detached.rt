@@ -1,4 +1,5 @@
-//! A box without its box: the pointer and the allocator, and the value that is still owned behind them.
+//! A box without its box: the pointer and the allocator, and the value that is still owned behind
+//! them.
 ghost use Rattle.std.specs.Prelude.{◌≡◌};
 ghost use Rattle.std.specs.Box.Ownership.{box_owns};
 

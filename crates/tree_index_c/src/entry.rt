@@ -14,8 +14,8 @@ pub struct Entry {
     pub value: u64,
 }
 
-/// Writes the bytes of a key to the first places, and its length and its value to an entry. Where the places are too few it
-/// writes the entry alone.
+/// Writes the bytes of a key to the first places, and its length and its value to an entry. Where
+/// the places are too few it writes the entry alone.
 pub fn write_entry(pair: Option<(&ByteKey, &u64)>, places: &mut [u8], entry: &mut Entry) -> u8
     ensures { WritesEntry (lent pair.entry) result places.old places.new entry.old entry.new }
 {
@@ -34,7 +34,8 @@ pub fn write_entry(pair: Option<(&ByteKey, &u64)>, places: &mut [u8], entry: &mu
     }
 }
 
-/// Writes bytes to the places from one on. Returns whether they have room there, and writes nothing if they haven't.
+/// Writes bytes to the places from one on. Returns whether they have room there, and writes nothing
+/// if they haven't.
 pub fn write_bytes(bytes: &[u8], from: usize, places: &mut [u8]) -> bool
     requires { from ≤ length places.old }
     ensures { WritesBytes bytes.now from places.old result places.new }

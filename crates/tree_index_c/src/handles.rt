@@ -16,7 +16,8 @@ pub extern "C" fn tree_index_free(alloc: Global, handle: &mut Handle)
     drop(handle.take(alloc));
 }
 
-/// Returns the number of pairs, or 2^64 - 1 if there are more, and 0 if the handle is closed. Runs in constant time.
+/// Returns the number of pairs, or 2^64 - 1 if there are more, and 0 if the handle is closed. Runs
+/// in constant time.
 #[unsafe(no_mangle)]
 pub extern "C" fn tree_index_len(alloc: Global, handle: &mut Handle) -> usize
     ensures kept { held handle.new ≡ held handle.old }
@@ -46,8 +47,8 @@ pub extern "C" fn tree_index_depth(alloc: Global, handle: &mut Handle) -> usize
     depth
 }
 
-/// Returns how many writes are sure not to allocate an array, whatever their keys, and 0 if the handle is closed.
-/// Runs in O(n).
+/// Returns how many writes are sure not to allocate an array, whatever their keys, and 0 if the
+/// handle is closed. Runs in O(n).
 #[unsafe(no_mangle)]
 pub extern "C" fn tree_index_spare(alloc: Global, handle: &mut Handle) -> u8
     ensures kept { held handle.new ≡ held handle.old }
@@ -61,7 +62,8 @@ pub extern "C" fn tree_index_spare(alloc: Global, handle: &mut Handle) -> u8
     spare
 }
 
-/// Removes all pairs. Answers `YES`, also if there was none. Runs in O(n). Keeps the memory for later pairs.
+/// Removes all pairs. Answers `YES`, also if there was none. Runs in O(n). Keeps the memory for
+/// later pairs.
 #[unsafe(no_mangle)]
 pub extern "C" fn tree_index_clear(alloc: Global, handle: &mut Handle) -> u8
     ensures { Empties (held handle.old) result (held handle.new) }

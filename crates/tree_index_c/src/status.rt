@@ -11,8 +11,8 @@ pub const YES: u8 = 1;
 /// An allocation failed. The pairs are as they were.
 pub const NO_MEMORY: u8 = 2;
 
-/// The handle doesn't fit the call: it is closed, or open where it must be closed, or has the other kind of key. Nothing
-/// changed.
+/// The handle doesn't fit the call: it is closed, or open where it must be closed, or has the other
+/// kind of key. Nothing changed.
 pub const MISFIT: u8 = 3;
 
 /// The places that the caller passed are too few for a key. Nothing changed but the length that is

@@ -7,12 +7,12 @@ pub use Rattle.tree_array.proofs.Common.{IsFull, all-filter, spend, spent_at}
 pub use Rattle.tree_array.specs.Insertion.{IsInsert, IsStore, IsStored}
 pub use Rattle.tree_array.specs.declared.answers.StoreResult.{StoreResult}
 pub use Rattle.tree_array.specs.declared.answers.StoreResult.TheVariants.{Duplicate, Full, New, Replaced}
-pub use Rattle.tree_descent.proofs.Ways.{below_part, part_not_retired, part_on_way}
-pub use Rattle.tree_descent.specs.Ways.{LeadsTo}
+pub use Rattle.tree_node.proofs.Ways.{below_part, part_not_retired, part_on_way}
+pub use Rattle.tree_node.specs.Ways.{LeadsTo}
 pub use Rattle.tree_insert.specs.Inserts.{HasToDivide, Inserts, InsertsUnder, IsNew, asks_split, declined, refused, stores}
 pub use Rattle.tree_insert.specs.Roots.{RaisesRoot, Replants}
 pub use Rattle.tree_leaf.specs.Arena.{Gains, HasPlaces, KeepsBoth}
-pub use Rattle.tree_leaf_split.proofs.LeafRooms.{leaf_used}
+pub use Rattle.tree_split.proofs.LeafRooms.{leaf_used}
 pub use Rattle.tree_model.proofs.Common.{false≢true, put}
 pub use Rattle.tree_node.proofs.Bare.{bare_leaves, bare_nodes, has_only, no_other, over_one, some_slots}
 pub use Rattle.tree_node.proofs.ChildChanges.{child_part, new_spare, new_walk, node_replaces, node_stands, old_spare, old_walk, same_node}

@@ -1,10 +1,15 @@
-pub mod Common
-pub mod Crowded
-pub mod Inserts
-pub mod LeafNodes
+mod Common
+mod Lasts
 mod Plantings
-pub mod RaisedTrees
 mod Raises
 mod Restarts
+mod Runs
+mod Stored
+pub mod Common
+pub mod Crowded
+pub mod Edges
+pub mod Inserts
+pub mod LeafNodes
+pub mod RaisedTrees
 pub mod Retries
 pub mod Ways

@@ -1,7 +1,7 @@
 -- An insert in the leaf that a key belongs to, or under its leaf node, seen from the node where the way starts.
 use Rattle.tree_insert.proofs.Common.{Arrivals, Bool, HasChildFor, InsertsUnder, IsFull, IsPart, IsSome, IsStore, IsTotalOrder, LeadsTo, None, Ok, Ordering, Result, StoreResult, TreeArenas, arith}
 use Rattle.tree_insert.proofs.Common.{asks_split, child_part, false, get, leaf_used, part_on_way, room, stores, sub-one, suc, zero, ℕ, ◌-◌, ◌<◌, ◌≡◌}
-use Rattle.tree_descent.specs.Ways.{IsOnWay}
+use Rattle.tree_node.specs.Ways.{IsOnWay}
 use Rattle.tree_insert.proofs.Inserts.{inserts_in_node, no_split}
 
 module _ {K V : Type 0} {LEN : ℕ} {cmp : K → K → Ordering} (o : IsTotalOrder cmp) (a : TreeArenas K V LEN) (key : K) where

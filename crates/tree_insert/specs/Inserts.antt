@@ -30,7 +30,7 @@ module _ {K V : Type 0} where
   asks_split (Ok (Full k v)) = true
   asks_split result = false
 
-  -- the pair comes back, and not for want of memory
+  -- the pair comes back, and not for lack of memory
   abbrev pub declined : Result (StoreResult K V) (K × V) → Bool
   declined (Ok (Duplicate k v)) = true
   declined (Ok (Full k v)) = true
@@ -42,7 +42,7 @@ module _ {K V : Type 0} where
   plain_answer (Err pair) = Err pair
 
 module _ {K V : Type 0} (cmp : K → K → Ordering) where
-  -- A leaf or a node below the number, on the way of the key, has to be divided: its array has no room, and too many to be built anew.
+  -- A leaf or a node below the number, on the way of the key, has to be divided: its array has no room, and too many to be rebuilt.
   abbrev pub HasToDivide : {LEN : ℕ} → ℕ → TreeArenas K V LEN → ℕ → K → Type 0
   HasToDivide zero arenas id key = ⊥
   HasToDivide {LEN = LEN} (suc level) arenas id key =
@@ -66,10 +66,10 @@ module _ {K V : Type 0} (cmp : K → K → Ordering) (upsert : Bool) where
     -- the part stays between the bounds that it had, if the key is between them
     pub stands : (low high : Option K) → IsAbove cmp low key → IsUpTo cmp key high → Stands cmp level old low id high → Stands cmp level new low id high
     pub replaces : Replaces level old new (id ∷ []) (id ∷ [])
-    -- a write takes one of the spare, and is refused only where none is spare; but a leaf by itself asks for a split also where it will be built anew
+    -- a write takes one of the spare, and is refused only where none is spare; but a leaf by itself asks for a split also where it will be rebuilt
     pub lowers : spare level old id ≤ suc (spare level new id)
     pub spent : refused result ≡ true → (asks_split result ≡ true → 0 < level) → spare level old id ≡ 0
-    -- a split is asked for only where no array on the way of the key has room, nor can be built anew
+    -- a split is asked for only where no array on the way of the key has room, nor can be rebuilt
     pub full : asks_split result ≡ true → IsCrowded cmp level old id key
     -- memory is wanted, and so refused, only where a leaf or a node has to be divided
     pub divided : OnErr result (HasToDivide cmp level old id key)

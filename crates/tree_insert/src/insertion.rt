@@ -2,18 +2,17 @@
 ghost use Rattle.std.specs.Prelude.{◌≡◌, ◌⊎◌, ◌<◌, ℕ, IfErr, IfOk, Ok};
 ghost use Rattle.slab.specs.Slab.{get};
 ghost use Rattle.tree_array.specs.declared.answers.StoreResult.TheVariants.{Full as FullResult};
-ghost use Rattle.tree_descent.specs.Ways.{LeadsTo};
+ghost use Rattle.tree_node.specs.Ways.{LeadsTo};
 ghost use Rattle.tree_insert.specs.Inserts.{InsertsUnder};
 ghost use Rattle.tree_node.specs.Parts.{IsPart, Unchanged};
 ghost use Rattle.tree_node.specs.Shape.{room};
 ghost use Rattle.tree_node.specs.Tree.{HasChildFor, IsRetired};
 
 use tree_array::array::{IndexKey, StoreResult};
-use tree_descent::descent::{LeafPlace, leaf_for};
 use tree_leaf::arena::{LeafId, NodeId};
-use tree_leaf_split::make_room;
+use tree_node::descent::{LeafPlace, leaf_for};
 use tree_node::node::{ArenasOf, NodeOf};
-use tree_node_split::split_child;
+use tree_split::{make_room, split_child};
 
 /// A pair for which the leaf that its key belongs to has no room.
 #[derive(Drop)]
@@ -23,22 +22,25 @@ pub struct Crowded<K, V> {
     pub val: V,
 }
 
-/// Inserts a pair under the number of a node of this level. With `UPSERT` it replaces a pair with an equal key.
+/// Inserts a pair under the number of a node of this level. With `UPSERT` it replaces a pair with
+/// an equal key.
 ///
 /// - Returns `Duplicate` if an equal key is there and `UPSERT` is false, even if no slot is free.
-/// - Returns `Full` if a child has to be split and the node has no slot for the separator, so that its parent must split
-///   the node first, or if the node is retired.
-/// - Returns `Err` if a leaf or a node on the way of the key has to be split and memory is refused. Arrays may have been
-///   split by then, but the entries are what they were.
+/// - Returns `Full` if a child has to be split and the node has no slot for the separator, so that
+///   its parent must split the node first, or if the node is retired.
+/// - Returns `Err` if a leaf or a node on the way of the key has to be split and memory is refused.
+///   Arrays may have been split by then, but the entries are what they were.
 ///
 /// Each of the three hands the pair back; the first two leave everything unchanged.
 ///
-/// Makes at most 4 comparisons in each node on the path and in the leaf (3 among 7 slots), and one more in all. If the
-/// leaf is full and its leaf node has room, the leaf is split or built anew: the leaf and the node are searched once more,
-/// with three comparisons beside. Otherwise the descent restarts at the top and, once a child is split or built anew, at the
-/// child's parent. Allocates one leaf and one node a level at most. A split of a leaf clones one key.
+/// Makes at most 4 comparisons in each node on the path and in the leaf (3 among 7 slots), and one
+/// more in all. If the leaf is full and its leaf node has room, the leaf is split or rebuilt:
+/// the leaf and the node are searched once more, with three comparisons beside. Otherwise the
+/// descent restarts at the top and, once a child is split or rebuilt, at the child's parent.
+/// Allocates one leaf and one node a level at most. A split of a leaf clones one key.
 ///
-/// The caller must see that a well-formed part of a tree, or a retired node, stands under the number.
+/// The caller must see that a well-formed part of a tree, or a retired node, stands under the
+/// number.
 #[inline(always)]
 pub fn insert_at<const UPSERT: bool, K: IndexKey, V: Drop, const LEN: usize>(
     arenas: &mut ArenasOf<K, V, LEN>,
@@ -60,10 +62,11 @@ pub fn insert_at<const UPSERT: bool, K: IndexKey, V: Drop, const LEN: usize>(
     }
 }
 
-/// Inserts a pair, as [`insert_at`] does, if the leaf that its key belongs to has room. No node changes.
+/// Inserts a pair, as [`insert_at`] does, if the leaf that its key belongs to has room. No node
+/// changes.
 ///
-/// Returns `Err` with the pair and the leaf, and changes nothing, if the leaf has no room. Returns `Full` if the node is
-/// retired.
+/// Returns `Err` with the pair and the leaf, and changes nothing, if the leaf has no room. Returns
+/// `Full` if the node is retired.
 #[inline(always)]
 pub fn insert_with_room<const UPSERT: bool, K: IndexKey, V: Drop, const LEN: usize>(
     arenas: &mut ArenasOf<K, V, LEN>,
@@ -98,8 +101,8 @@ pub fn insert_with_room<const UPSERT: bool, K: IndexKey, V: Drop, const LEN: usi
     )
 }
 
-/// Inserts a pair, as [`insert_at`] does, for which its leaf has no room. The caller must see that the way of the key leads
-/// to that leaf.
+/// Inserts a pair, as [`insert_at`] does, for which its leaf has no room. The caller must see that
+/// the way of the key leads to that leaf.
 #[inline(never)]
 pub fn insert_crowded<const UPSERT: bool, K: IndexKey, V: Drop, const LEN: usize>(
     arenas: &mut ArenasOf<K, V, LEN>,
@@ -130,8 +133,9 @@ pub fn insert_crowded<const UPSERT: bool, K: IndexKey, V: Drop, const LEN: usize
     }
 }
 
-/// Inserts a pair, as [`insert_at`] does, under a leaf node in the leaf that its key belongs to. If the leaf is full, it
-/// is split or built anew first. `rightmost` says that the way down has kept to the unbounded children.
+// Inserts a pair, as [`insert_at`] does, under a leaf node in the leaf that its key belongs to. If
+// the leaf is full, it is split or rebuilt first. `rightmost` says that the way down has kept
+// to the unbounded children.
 fn insert_under_leaf_node<const UPSERT: bool, K: IndexKey, V: Drop, const LEN: usize>(
     arenas: &mut ArenasOf<K, V, LEN>,
     id: NodeId,
@@ -158,8 +162,9 @@ fn insert_under_leaf_node<const UPSERT: bool, K: IndexKey, V: Drop, const LEN: u
     }
 }
 
-/// Inserts a pair, as [`insert_at`] does, with a way back on which full children are split. `rightmost` says that the way
-/// down has kept to the unbounded children so far, so that the key is compared with the last separator first.
+// Inserts a pair, as [`insert_at`] does, with a way back on which full children are split.
+// `rightmost` says that the way down has kept to the unbounded children so far, so that the key is
+// compared with the last separator first.
 fn insert_from<const UPSERT: bool, K: IndexKey, V: Drop, const LEN: usize>(
     arenas: &mut ArenasOf<K, V, LEN>,
     level: usize,

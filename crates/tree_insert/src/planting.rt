@@ -10,11 +10,11 @@ use tree_leaf::leaf::LeafOf;
 use tree_node::branch::LeafNodeOf;
 use tree_node::node::{ArenasOf, NodeOf, Root};
 
-/// Puts the first pair into a tree without leaves, and returns the root's number. The root is a new leaf node, or the one
-/// that was retired, which gets a leaf again.
+/// Puts the first pair into a tree without leaves, and returns the root's number. The root is a new
+/// leaf node, or the one that was retired, which gets a leaf again.
 ///
-/// Returns `Err` with the pair if memory is refused; nothing has changed then. Allocates one leaf, and one node if there
-/// is no root; isn't refused where these were reserved. Makes no comparisons.
+/// Returns `Err` with the pair if memory is refused; nothing has changed then. Allocates one leaf,
+/// and one node if there is no root; isn't refused where these were reserved. Makes no comparisons.
 ///
 /// The caller must see that `LEN` is 7 or 15, and that the tree has no leaf.
 pub fn plant<K: Ord + Drop, V: Drop, const LEN: usize>(
@@ -51,7 +51,7 @@ pub fn plant<K: Ord + Drop, V: Drop, const LEN: usize>(
     }
 }
 
-/// Returns a leaf that holds this pair alone.
+// Returns a leaf that holds this pair alone.
 fn leaf_with<K: Ord + Drop, V: Drop, const LEN: usize>(key: K, val: V) -> LeafOf<K, V, LEN>
     requires { IsLen LEN }
     ensures array { result.array ≡ in_order ((key, val) ∷ []) }

@@ -11,20 +11,23 @@ use tree_leaf::arena::NodeId;
 use tree_leaf::leaf::LeafOf;
 use tree_node::branch::{InternalNodeOf, LeafNodeOf};
 use tree_node::node::{ArenasOf, NodeOf};
-use tree_node_split::split_child;
+use tree_split::split_child;
 
-/// Makes room at a root, and returns the number of the root that stands then: the next insert under it finds room.
+/// Makes room at a root, and returns the number of the root that stands then: the next insert under
+/// it finds room.
 ///
-/// A retired root keeps its number and becomes a leaf node, at level 1, over a new, empty leaf. Any other root comes
-/// under a new one, a level higher, and is split there, or built anew if it has few keyed children.
+/// A retired root keeps its number and becomes a leaf node, at level 1, over a new, empty leaf. Any
+/// other root comes under a new one, a level higher, and is split there, or rebuilt if it has
+/// few keyed children.
 ///
-/// Returns `Err` if memory is refused; nothing has changed then. Allocates one leaf for a retired root and two nodes at
-/// most for any other, and isn't refused where these were reserved.
+/// Returns `Err` if memory is refused; nothing has changed then. Allocates one leaf for a retired
+/// root and two nodes at most for any other, and isn't refused where these were reserved.
 ///
-/// Makes no comparisons: a retired root has no key, and the separator that a split gives to the new root is the first
-/// in its array.
+/// Makes no comparisons: a retired root has no key, and the separator that a split gives to the new
+/// root is the first in its array.
 ///
-/// The caller must see that a well-formed tree of this depth stands under the root, or that the root is retired.
+/// The caller must see that a well-formed tree of this depth stands under the root, or that the
+/// root is retired.
 pub fn grow_root_at<K: Ord + Drop, V: Drop, const LEN: usize>(
     arenas: &mut ArenasOf<K, V, LEN>,
     depth: usize,
@@ -49,13 +52,15 @@ pub fn grow_root_at<K: Ord + Drop, V: Drop, const LEN: usize>(
     }
 }
 
-/// Puts a root under a new one and splits it there at its array's boundary, or builds it anew if at most three quarters
-/// of its slots hold keyed children. Returns the new root's number.
+/// Puts a root under a new one and splits it there at its array's boundary, or rebuilds it if at
+/// most three quarters of its slots hold keyed children. Returns the new root's number.
 ///
-/// Returns `Err` if memory is refused; nothing has changed then. Allocates two nodes at most, and isn't refused where two
-/// were reserved. Makes no comparisons: the separator of a split is the first in the new root's array.
+/// Returns `Err` if memory is refused; nothing has changed then. Allocates two nodes at most, and
+/// isn't refused where two were reserved. Makes no comparisons: the separator of a split is the
+/// first in the new root's array.
 ///
-/// The caller must see that a well-formed tree of this depth stands under the root, which isn't retired.
+/// The caller must see that a well-formed tree of this depth stands under the root, which isn't
+/// retired.
 pub fn split_root_at<K: Ord + Drop, V: Drop, const LEN: usize>(
     arenas: &mut ArenasOf<K, V, LEN>,
     depth: usize,
@@ -83,8 +88,8 @@ pub fn split_root_at<K: Ord + Drop, V: Drop, const LEN: usize>(
     }
 }
 
-/// Puts a leaf node over a new, empty leaf in place of a retired node. Returns `Err` if memory is refused; nothing has
-/// changed then.
+// Puts a leaf node over a new, empty leaf in place of a retired node. Returns `Err` if memory is
+// refused; nothing has changed then.
 fn replant<K: Ord + Drop, V: Drop, const LEN: usize>(
     arenas: &mut ArenasOf<K, V, LEN>,
     root: NodeId,

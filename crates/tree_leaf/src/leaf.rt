@@ -25,8 +25,8 @@ pub type Leaf<K, V> = LeafOf<K, V, 15>;
 impl<K: Ord + Drop, V: Drop, const LEN: usize> LeafOf<K, V, LEN> {
     ghost use Rattle.tree_leaf.specs.Lending.{lends_array};
 
-    /// Creates a leaf with an empty array and no neighbours. Allocates nothing. The caller must choose 7
-    /// or 15 for `LEN`.
+    /// Creates a leaf with an empty array and no neighbours. Allocates nothing. The caller must
+    /// choose 7 or 15 for `LEN`.
     pub fn new() -> Self
         requires { IsLen LEN }
         ensures array { result.array ≡ in_order [] }
@@ -36,7 +36,8 @@ impl<K: Ord + Drop, V: Drop, const LEN: usize> LeafOf<K, V, LEN> {
         Self::of(ArrayOf::new())
     }
 
-    /// Creates a leaf with an array and no neighbours. Runs in constant time, and allocates nothing.
+    /// Creates a leaf with an array and no neighbours. Runs in constant time, and allocates
+    /// nothing.
     pub fn of(array: ArrayOf<K, V, LEN>) -> Self
         ensures array { result.array ≡ array }
         ensures prev { result.prev ≡ None }

@@ -4,9 +4,9 @@ use Rattle.tree_model.proofs.Common.{Appends}
 use Rattle.std.specs.Io.KnownBytes.{Consumes, IsAtEnd}
 use Rattle.std.proofs.KnownBytes.{Appends-nil, Appends-trans, Consumes-trans}
 use Rattle.tree_lines.specs.declared.lines.ToolFault.TheVariants.{Read, Write}
-use Rattle.tree_requests.specs.Lines.{with_feed, text_of, last_line, clip}
+use Rattle.tree_lines.specs.Spelling.{with_feed, text_of, last_line, clip}
 use Rattle.tree_lines.specs.Lines.{Says, Script}
-use Rattle.tree_requests.specs.Writing.{Writes}
+use Rattle.tree_lines.specs.Writing.{Writes}
 use Rattle.tree_lines.specs.Progress.{Carried, Carries, Breaks, EndsInput}
 use Rattle.tree_lines.specs.Runs.{RunsLines}
 use Rattle.tree_lines.proofs.Scripts.{text_of-append, Script-append}

@@ -1,5 +1,10 @@
-pub mod Pieces
-pub mod Located
-pub mod Scripts
-pub mod Steps
+pub mod Decimals
 pub mod Endings
+pub mod FirstWords
+pub mod Located
+pub mod Names
+pub mod Pieces
+pub mod Scripts
+pub mod Spellings
+pub mod Steps
+pub mod Writes

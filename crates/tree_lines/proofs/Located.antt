@@ -9,7 +9,7 @@ use Rattle.tree_model.specs.declared.proximity.ProximityOf.{ProximityOf}
 use Rattle.tree_model.specs.declared.proximity.ProximityOf.TheVariants.{Exact, Between, Smaller, Larger, Empty}
 use Rattle.tree_model.specs.Cursor.{with_ends}
 use Rattle.tree_model.specs.Located.{located, located_at}
-use Rattle.tree_requests.specs.Lines.{behind_spaces}
+use Rattle.tree_lines.specs.Spelling.{behind_spaces}
 use Rattle.tree_lines.specs.Lines.{beside_text, first_pair, last_pair, near_text, pair_text}
 use Rattle.tree_lines.specs.Pairs.{listed, told_text}
 

@@ -4,12 +4,12 @@ use Rattle.tree_model.proofs.Common.{Appends, Unbounded, nat_cmp_total, lent_ent
 use Rattle.tree_model.specs.declared.way.Way.{Way}
 use Rattle.tree_model.specs.declared.way.Way.TheVariants.{Back}
 use Rattle.std.proofs.KnownBytes.{Appends-nil, Appends-trans}
-use Rattle.tree_ranges.specs.Ranged.{IsFresh, pairs_within}
-use Rattle.tree_ranges.proofs.Yields.{fresh_begun, rest_fresh, takes_first}
-use Rattle.tree_requests.specs.Lines.{behind_spaces, with_feed}
+use Rattle.tree_cursors.specs.Ranged.{IsFresh, pairs_within}
+use Rattle.tree_cursors.proofs.Yields.{fresh_begun, rest_fresh, takes_first}
+use Rattle.tree_lines.specs.Spelling.{behind_spaces, with_feed}
 use Rattle.tree_lines.specs.Lines.{inside, pair_text, pairs_text}
 use Rattle.tree_lines.specs.Pairs.{left_text, listed, parted_text, told_text}
-use Rattle.tree_requests.specs.Writing.{IsFront, Writes}
+use Rattle.tree_lines.specs.Writing.{IsFront, Writes}
 
 -- so much of a text was written, and the rest is left
 pub record IsBegun (text : List ℕ) (x y : Option (List ℕ)) (left : List ℕ) : Type 0 where

@@ -1,7 +1,7 @@
 -- Lines and scripts, one after another.
 use Rattle.std.proofs.Common.{◌≡◌, ℕ, List, [], ◌∷◌, ◌++◌, refl, sym, ap, ◌∙◌, subst, append_assoc, append-nil}
 use Rattle.tree_model.proofs.Lists.{all-append}
-use Rattle.tree_requests.specs.Lines.{IsLine, with_feed, text_of, HasLines}
+use Rattle.tree_lines.specs.Spelling.{IsLine, with_feed, text_of, HasLines}
 use Rattle.tree_lines.specs.Lines.{Script}
 
 pub text_of-append : (a b : List (List ℕ)) → text_of (a ++ b) ≡ text_of a ++ text_of b

@@ -1,9 +1,9 @@
 -- Steps of a run over lines: the effect of bytes, one piece after another.
 use Rattle.std.proofs.Common.{◌≡◌, ◌≢◌, ℕ, List, [], ◌∷◌, ◌++◌, Option, Some, refl, sym, ap, ◌∙◌, append_assoc, append-nil}
 use Rattle.tree_model.proofs.Lists.{all-append}
-use Rattle.tree_requests.specs.Lines.{IsLine, with_feed, text_of, HasLines, clip}
+use Rattle.tree_lines.specs.Spelling.{IsLine, with_feed, text_of, HasLines, clip}
 use Rattle.tree_lines.specs.Lines.{Says, Script}
-use Rattle.tree_requests.specs.Writing.{IsFront}
+use Rattle.tree_lines.specs.Writing.{IsFront}
 use Rattle.tree_lines.specs.Progress.{Carries, EndsLine, BrokeOff, Breaks}
 use Rattle.tree_lines.proofs.Scripts.{text_of-append, Script-append, HasLines-more}
 

@@ -5,9 +5,9 @@ use Rattle.std.specs.Ordering.{nat_cmp}
 use Rattle.std.specs.declared.ops.Bound.{Bound}
 use Rattle.tree_model.specs.Pairs.{above, below, cut, pair_at, put, within, without}
 use Rattle.tree_model.specs.Edits.{RemovesIf}
-use Rattle.tree_requests.specs.declared.requests.Request.{Request}
-use Rattle.tree_requests.specs.declared.requests.Request.TheVariants.{Insert, Upsert, Remove, RemoveIf, RemoveRange, Clear, Peek, Contains, Len, Depth, Spare, Iter, Back, Range, Locate}
-use Rattle.tree_requests.specs.Lines.{Fits, behind_spaces, spelling}
+use Rattle.tree_lines.specs.declared.requests.Request.{Request}
+use Rattle.tree_lines.specs.declared.requests.Request.TheVariants.{Insert, Upsert, Remove, RemoveIf, RemoveRange, Clear, Peek, Contains, Len, Depth, Spare, Iter, Back, Range, Locate}
+use Rattle.tree_lines.specs.Spelling.{Fits, behind_spaces, spelling}
 
 -- the spelling of a truth value
 abbrev pub truth : Bool → List ℕ

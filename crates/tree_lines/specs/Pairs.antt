@@ -1,6 +1,6 @@
 -- Texts of pairs, piece by piece.
 use Rattle.std.specs.Prelude.{ℕ, Bool, true, false, List, [], ◌∷◌, ◌++◌, map, Option, Some, None}
-use Rattle.tree_requests.specs.Lines.{behind_spaces, with_feed}
+use Rattle.tree_lines.specs.Spelling.{behind_spaces, with_feed}
 use Rattle.tree_lines.specs.Lines.{pair_text, pairs_text}
 
 -- a pair, behind a space unless it is the first

@@ -3,13 +3,13 @@ use Rattle.std.specs.Prelude.{◌≡◌, ◌≢◌, ⊤, ℕ, List, [], ◌∷�
 use Rattle.std.specs.List.{AllByRecursion}
 use Rattle.std.specs.Io.KnownBytes.{Appends}
 use Rattle.tree_index.specs.Index.{Index}
-use Rattle.tree_requests.specs.declared.requests.Request.{Request}
-use Rattle.tree_requests.specs.declared.requests.Request.TheVariants.{Depth, Spare}
+use Rattle.tree_lines.specs.declared.requests.Request.{Request}
+use Rattle.tree_lines.specs.declared.requests.Request.TheVariants.{Depth, Spare}
 use Rattle.tree_lines.specs.declared.answers.Answer.{Answer}
 use Rattle.tree_lines.specs.declared.answers.Answer.TheVariants.{Done, Duplicate, Refused, Missing, Truth, Unknown, Value, Ascending, Descending, Near}
-use Rattle.tree_requests.specs.Lines.{IsLine, with_feed, text_of, HasLines, last_line, clip}
+use Rattle.tree_lines.specs.Spelling.{IsLine, with_feed, text_of, HasLines, last_line, clip}
 use Rattle.tree_lines.specs.Lines.{Script, Says, Answers, truth, pairs_text, inside, near_text}
-use Rattle.tree_requests.specs.Writing.{IsFront}
+use Rattle.tree_lines.specs.Writing.{IsFront}
 
 -- the text of an answer, by the pairs of the index that gave it
 abbrev pub answer_text : List (ℕ × ℕ) → Answer → List ℕ

@@ -3,7 +3,7 @@ use Rattle.std.specs.Prelude.{◌≡◌, ℕ, List, ◌++◌, Option, Result, Ok
 use Rattle.std.specs.Io.KnownBytes.{Appends, Consumes, IsAtEnd}
 use Rattle.tree_lines.specs.declared.lines.ToolFault.{ToolFault}
 use Rattle.tree_lines.specs.declared.lines.ToolFault.TheVariants.{Read, Write}
-use Rattle.tree_requests.specs.Lines.{text_of, HasLines, last_line}
+use Rattle.tree_lines.specs.Spelling.{text_of, HasLines, last_line}
 use Rattle.tree_lines.specs.Lines.{Script}
 use Rattle.tree_lines.specs.Progress.{BrokeOff}
 

@@ -2,17 +2,17 @@
 ghost use Rattle.std.specs.Prelude.{◌≡◌, ℕ, List, Some};
 ghost use Rattle.std.specs.Ordering.{nat_cmp};
 ghost use Rattle.tree_model.specs.Edits.{RemovesIf};
-ghost use Rattle.tree_requests.specs.Lines.{clip, spelling, with_feed};
-ghost use Rattle.tree_requests.specs.declared.requests.Request.{Request};
+ghost use Rattle.tree_lines.specs.Spelling.{clip, spelling, with_feed};
+ghost use Rattle.tree_lines.specs.declared.requests.Request.{Request};
 ghost use Rattle.tree_lines.specs.Lines.{Says, SaysEqual};
 ghost use Rattle.tree_lines.specs.Progress.{answer_text, MeasuresIndex, Responds};
-ghost use Rattle.tree_requests.specs.Writing.{Writes};
+ghost use Rattle.tree_lines.specs.Writing.{Writes};
 
 use crate::pairs::{write_ascending, write_descending, write_near};
+use crate::{BegunLine, Request, ShortText, WriteFailed, request_of, write_whole};
 use std::io::Write;
 use std::ops::Bound;
 use tree_index::{InsertError, TreeIndexOf};
-use tree_requests::{BegunLine, Request, ShortText, WriteFailed, request_of, write_whole};
 
 /// The answer to a line.
 #[derive(Clone, Copy, Debug)]
@@ -110,7 +110,8 @@ fn remove_value<const LEN: usize>(
     index.remove_if_sync(&key, |stored| *stored == value)
 }
 
-/// Writes an answer and a line feed. Pairs are written one by one out of the index that gave the answer.
+/// Writes an answer and a line feed. Pairs are written one by one out of the index that gave the
+/// answer.
 ///
 /// Returns `Err` if a write fails; part of the line may have been written.
 pub fn write_answer<W: Write, const LEN: usize>(

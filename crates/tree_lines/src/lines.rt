@@ -4,11 +4,11 @@ ghost use Rattle.tree_lines.specs.Progress.{EndsInput, Feeds};
 ghost use Rattle.tree_lines.specs.Runs.{RunsLines};
 
 use crate::answers::{answer_to, write_answer};
+use crate::{BegunLine, WriteFailed};
 use std::error::Error;
 use std::fmt;
 use std::io::{Read, Write};
 use tree_index::TreeIndexOf;
-use tree_requests::{BegunLine, WriteFailed};
 
 /// Why [`run_lines`] stopped before the end of its input.
 #[derive(Clone, Copy, Debug, PartialEq, Eq)]

@@ -1,15 +1,15 @@
 //! Writes pairs out of an index, one by one.
 ghost use Rattle.std.specs.Prelude.{◌≡◌, ◌++◌, Bool, if◌then◌else◌, [], ◌∷◌, map, reverse};
-ghost use Rattle.tree_requests.specs.Lines.{behind_spaces, with_feed};
+ghost use Rattle.tree_lines.specs.Spelling.{behind_spaces, with_feed};
 ghost use Rattle.tree_lines.specs.Lines.{inside, near_text, pair_text, pairs_text};
 ghost use Rattle.tree_lines.specs.Pairs.{listed, parted_text, told_text};
-ghost use Rattle.tree_requests.specs.Writing.{Writes};
+ghost use Rattle.tree_lines.specs.Writing.{Writes};
 ghost use Rattle.tree_model.specs.Rest.{lent};
 
+use crate::{ShortText, WriteFailed, write_whole};
 use std::io::Write;
 use std::ops::Bound;
 use tree_index::{ProximityOf, TreeIndexOf};
-use tree_requests::{ShortText, WriteFailed, write_whole};
 
 /// Writes the pairs whose keys are within both bounds, in ascending order, and a line feed.
 ///

@@ -6,13 +6,13 @@ use Rattle.tree_model.specs.declared.commands.InsertError.{InsertError}
 use Rattle.tree_model.specs.declared.commands.InsertError.TheVariants.{Duplicate, OutOfMemory}
 use Rattle.tree_model.specs.Pairs.{IsPresent, IsAbsent, pair_at, put, without}
 
--- the pair that an insert hands back
+-- the pair that an insert returns
 abbrev pub handed_back : {K V : Type 0} → InsertError K V → K × V
 handed_back (Duplicate key value) = (key, value)
 handed_back (OutOfMemory key value) = (key, value)
 
 module _ {K V : Type 0} (cmp : K → K → Ordering) where
-  -- The pair is stored, where its key was absent. Or it comes back and nothing changed: as a duplicate where its key is present, for want of memory where it is absent.
+  -- The pair is stored, where its key was absent. Or it comes back and nothing changed: as a duplicate where its key is present, for lack of memory where it is absent.
   abbrev pub Inserts : {T : Type 0} → List (K × V) → K → V → Result T (InsertError K V) → List (K × V) → Type 0
   Inserts old k v (Ok _) new = IsAbsent cmp old k × (new ≡ put cmp old k v)
   Inserts old k v (Err (Duplicate key value)) new = IsPresent cmp old k × (key ≡ k) × (value ≡ v) × (new ≡ old)

@@ -4,7 +4,8 @@ ghost use Rattle.tree_model.specs.Pairs.{high_of, lent_bound, low_of, meets_lowe
 
 use std::ops::Bound;
 
-/// Returns whether a key is within both bounds. Reversed bounds contain no key. Makes at most two comparisons.
+/// Returns whether a key is within both bounds. Reversed bounds contain no key. Makes at most two
+/// comparisons.
 pub fn range_contains<K: Ord>(bounds: (Bound<&K>, Bound<&K>), key: &K) -> bool
     ensures { result ≡ within K.cmp (low_of bounds.entry) (high_of bounds.entry) key.now }
 {

@@ -54,7 +54,8 @@ pub struct Record<K, V> {
 pub enum InsertError<K, V> {
     /// The key is present.
     Duplicate(K, V),
-    /// An allocation was refused. An index answers this of an absent key alone, a call that keeps a history of any key.
+    /// An allocation was refused. An index answers this of an absent key alone, a call that keeps a
+    /// history of any key.
     OutOfMemory(K, V),
 }
 

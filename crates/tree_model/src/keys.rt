@@ -4,16 +4,18 @@ ghost use Rattle.std.specs.declared.cmp.Ordering.TheVariants.{Equal};
 ghost use Rattle.std.proofs.Common.{sym};
 ghost use Rattle.tree_model.specs.Keys.{equal_booleans, equal_integers, equal_numbers, equal_texts};
 
-/// A key of an index. Its order is total and agrees with its equality, as `Ord` requires, and a clone compares equal
-/// to its source.
+/// A key of an index. Its order is total and agrees with its equality, as `Ord` requires, and a
+/// clone compares equal to its source.
 ///
-/// An index clones a key where it needs a separator. A clone that is refused memory refuses the insert.
+/// An index clones a key where it needs a separator. If a clone cannot allocate, the
+/// insert returns `Err`.
 pub trait IndexKey: Clone + Ord + Drop {
     ghost clone_equal: { (x y : Self) → Self.is_clone x y → Self.cmp x y ≡ Equal };
 }
 
-/// A key or a value that a history may keep a clone of. Contracts see a value as its `seen`, and a clone is seen as
-/// its source is. What is seen is of the value's own type, unless an impl says otherwise.
+/// A key or a value that a history may keep a clone of. Contracts see a value as its `seen`, and a
+/// clone is seen as its source is. What is seen is of the value's own type, unless an impl says
+/// otherwise.
 pub trait SameClone: Clone + Drop {
     ghost Seen: { Type 0 } = { Self };
 

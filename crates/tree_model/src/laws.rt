@@ -1,5 +1,5 @@
-//! Laws of the definitions. Each is the contract of a function that does nothing: call it where a proof needs the
-//! law.
+//! Laws of the definitions. Each is the contract of a function that does nothing: call it where a
+//! proof needs the law.
 ghost use Rattle.tree_model.specs.Laws.{EditsKeepOrder, EditsAreFound, LookUpsTellLists, LaterPutStays};
 
 /// Storing, removing and cutting keep an ascending list ascending.
@@ -8,7 +8,8 @@ pub fn edits_keep_order<K: Ord, V>()
     ensures { EditsKeepOrder K V K.cmp }
 {}
 
-/// A look-up after an edit finds what the edit left at its key, and finds what it found before at every other key.
+/// A look-up after an edit finds what the edit left at its key, and finds what it found before at
+/// every other key.
 pub fn edits_are_found<K: Ord, V>()
     ensures { EditsAreFound K V K.cmp }
 {}

@@ -1,6 +1,6 @@
-//! What an index means: a list of pairs in strictly ascending key order, the commands that it answers, and the
-//! histories of its calls. What a cursor over it means: the list, two bounds and two ends, its moves, and where a
-//! key is.
+//! What an index means: a list of pairs in strictly ascending key order, the commands that it
+//! answers, and the histories of its calls. What a cursor over it means: the list, two bounds and
+//! two ends, its moves, and where a key is.
 #![tactic(auto)]
 
 mod bounds;

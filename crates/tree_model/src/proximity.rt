@@ -5,8 +5,8 @@
 pub enum ProximityOf<C> {
     /// The key is present. The forward end stands on it.
     Exact(C),
-    /// The key is absent. The forward end stands on the nearest smaller key, the backward end on the nearest
-    /// larger one.
+    /// The key is absent. The forward end stands on the nearest smaller key, the backward end on
+    /// the nearest larger one.
     Between(C),
     /// All keys are smaller. The backward end stands on the largest one.
     Smaller(C),

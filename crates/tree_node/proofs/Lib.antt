@@ -1,3 +1,4 @@
+pub mod Asked
 pub mod Bare
 pub mod Beside
 pub mod Between
@@ -7,7 +8,10 @@ pub mod Children
 pub mod Common
 pub mod Cuts
 pub mod Depths
+pub mod DescentWords
+pub mod Found
 pub mod Frames
+pub mod Holders
 pub mod LeafSpares
 pub mod LeafWrites
 pub mod Levels
@@ -23,6 +27,7 @@ pub mod Standing
 pub mod Steps
 pub mod Unchanged
 pub mod Walks
+pub mod Ways
 pub mod Whole
 pub mod Widens
 pub mod Words

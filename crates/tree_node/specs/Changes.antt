@@ -16,7 +16,7 @@ pub record CutsNode {K : Type 0} {LEN : ℕ} (old : NodeOf K LEN) (place : ℕ) 
   pub low_kind : (level : ℕ) → HasKind level old → HasKind level low
   pub high_kind : (level : ℕ) → HasKind level old → HasKind level new
 
--- a node has the same children, each of which arrived anew
+-- a node has the same children, each of which arrived again
 pub record RebuildsNode {K : Type 0} {LEN : ℕ} (old new : NodeOf K LEN) : Type 0 where
   pub rebuilt : keyed new ≡ in_order (keyed old).entries
   pub last : unbounded new ≡ unbounded old

@@ -5,4 +5,5 @@ pub mod Parts
 pub mod Routing
 pub mod Shape
 pub mod Tree
+pub mod Ways
 pub mod Whole

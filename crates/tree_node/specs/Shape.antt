@@ -17,7 +17,7 @@ module _ {K V : Type 0} {LEN : ℕ} where
   abbrev pub leaf_free : Slab (LeafOf K V LEN) → ℕ → ℕ
   leaf_free leaves id = found_free (get leaves id)
 
--- how many writes, whatever their keys, an array takes that has so many entries and so many free slots: those that fill it, or, where it will be built anew in place by then, those that fill it once it was
+-- how many writes, whatever their keys, an array takes that has so many entries and so many free slots: those that fill it, or, where it will be rebuilt in place by then, those that fill it once it was
 abbrev pub spare_for : ℕ → ℕ → ℕ → ℕ
 spare_for len count room = if leb (count + room) (limit len) then len - count else room
 
@@ -58,7 +58,7 @@ module _ {K V : Type 0} {LEN : ℕ} where
   held zero arenas id = length (leaf_entries arenas.leaves id)
   held (suc level) arenas id = found_keyed (get arenas.nodes id)
 
-  -- no array on the way of the key has room, and each below the number has too many to be built anew
+  -- no array on the way of the key has room, and each below the number has too many to be rebuilt
   abbrev pub IsCrowded : (K → K → Ordering) → ℕ → TreeArenas K V LEN → ℕ → K → Type 0
   IsCrowded cmp zero arenas id key = room zero arenas id ≡ 0
   IsCrowded cmp (suc level) arenas id key =

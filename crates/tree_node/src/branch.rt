@@ -6,8 +6,9 @@ ghost use Rattle.tree_array.specs.Length.{IsLen};
 use tree_array::array::ArrayOf;
 use tree_leaf::arena::{LeafId, NodeId};
 
-/// A node whose children have numbers of one type. It has up to `LEN` keyed children, each under a separator that no key
-/// of the child exceeds, and an unbounded child for the keys above all separators. A retired node has no child.
+/// A node whose children have numbers of one type. It has up to `LEN` keyed children, each under a
+/// separator that no key of the child exceeds, and an unbounded child for the keys above all
+/// separators. A retired node has no child.
 #[derive(Drop)]
 pub struct BranchOf<K: Ord, I, const LEN: usize> {
     // Beside the order of the keys in memory, since each way down reads both.
@@ -28,7 +29,8 @@ pub type InternalNode<K> = InternalNodeOf<K, 15>;
 pub type LeafNode<K> = LeafNodeOf<K, 15>;
 
 impl<K: Ord + Drop, I: Copy + Drop, const LEN: usize> BranchOf<K, I, LEN> {
-    /// Creates a node without keyed children. Allocates nothing. The caller must choose 7 or 15 for `LEN`.
+    /// Creates a node without keyed children. Allocates nothing. The caller must choose 7 or 15 for
+    /// `LEN`.
     pub fn new(unbounded: I) -> Self
         requires { IsLen LEN }
         ensures keyed { result.children ≡ in_order [] }

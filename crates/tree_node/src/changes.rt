@@ -1,4 +1,4 @@
-//! Changes of a node: its children are parted, arrive anew, or lose one.
+//! Changes of a node: its children are parted, arrive again, or lose one.
 ghost use Rattle.std.specs.Prelude.{◌≡◌, ◌+◌, ◌<◌, ℕ, Some, IsSome, take, drop, length, slice_get};
 ghost use Rattle.tree_array.specs.Arrivals.{arrival, in_order, removed};
 ghost use Rattle.tree_array.specs.Length.{IsLen};
@@ -10,9 +10,9 @@ use crate::node::NodeOf;
 use tree_array::array::{ArrayOf, RemoveResult};
 
 impl<K: Ord + Drop, I: Copy + Drop, const LEN: usize> BranchOf<K, I, LEN> {
-    /// Moves the children up to the one at this place to a new node, which has that one as its unbounded child. Returns
-    /// its separator and the new node. The keyed children of both nodes arrive anew, in ascending order. The caller must
-    /// name the place of a keyed child.
+    /// Moves the children up to the one at this place to a new node, which has that one as its
+    /// unbounded child. Returns its separator and the new node. The keyed children of both nodes
+    /// arrive again, in ascending order. The caller must name the place of a keyed child.
     pub fn cut(&mut self, place: u8) -> (K, Self)
         requires len { IsLen LEN }
         requires within { place < length self.old.children.entries }
@@ -38,8 +38,9 @@ impl<K: Ord + Drop, I: Copy + Drop, const LEN: usize> BranchOf<K, I, LEN> {
         )
     }
 
-    /// Takes the unbounded child out. The keyed child with the greatest separator takes its place, and its separator is
-    /// dropped. Returns `Retired` if there is none, so that the node has no child left, else `Success`.
+    /// Takes the unbounded child out. The keyed child with the greatest separator takes its place,
+    /// and its separator is dropped. Returns `Retired` if there is none, so that the node has no
+    /// child left, else `Success`.
     pub fn take_unbounded(&mut self) -> RemoveResult
         ensures { MovesLast K.cmp self.old.children self.new.children self.new.unbounded_child result }
     {
@@ -58,7 +59,7 @@ impl<K: Ord + Drop, I: Copy + Drop, const LEN: usize> BranchOf<K, I, LEN> {
 }
 
 impl<K: Ord + Drop, const LEN: usize> NodeOf<K, LEN> {
-    /// Builds the array of the keyed children anew, in ascending order.
+    /// Rebuilds the array of the keyed children, in ascending order.
     pub fn rebuild(&mut self)
         ensures { RebuildsNode self.old self.new }
     {
@@ -68,7 +69,8 @@ impl<K: Ord + Drop, const LEN: usize> NodeOf<K, LEN> {
         }
     }
 
-    /// Moves the children up to the one at this place to a new node of the same kind, as [`BranchOf::cut`] does.
+    /// Moves the children up to the one at this place to a new node of the same kind, as
+    /// [`BranchOf::cut`] does.
     pub fn cut(&mut self, place: u8) -> (K, Self)
         requires len { IsLen LEN }
         requires within { place < length (keyed self.old).entries }
@@ -86,8 +88,8 @@ impl<K: Ord + Drop, const LEN: usize> NodeOf<K, LEN> {
         }
     }
 
-    /// Takes the keyed child of a slot out. Other children keep their slots. The caller must name the slot of a keyed
-    /// child.
+    /// Takes the keyed child of a slot out. Other children keep their slots. The caller must name
+    /// the slot of a keyed child.
     #[tactic(auto, using(crate::proofs::Standing::inner_kind, crate::proofs::Standing::outer_kind))]
     pub fn take_keyed(&mut self, slot: u8)
         requires { IsSome (arrival (keyed self.old).arrivals slot) }

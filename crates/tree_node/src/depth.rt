@@ -6,8 +6,8 @@ ghost use Rattle.tree_node.specs.Tree.{IsRetired, Stands, StandsOrRetired};
 use crate::node::{ArenasOf, NodeOf};
 use tree_leaf::arena::NodeId;
 
-/// Returns the level of a node: the number of nodes on the path from it to a leaf, counting itself. A retired node is
-/// at level 1. Reads one node per level and makes no comparisons.
+/// Returns the level of a node: the number of nodes on the path from it to a leaf, counting itself.
+/// A retired node is at level 1. Reads one node per level and makes no comparisons.
 ///
 /// The caller must name a node under which a well-formed part of a tree stands, or a retired node.
 pub fn level_of<K: Ord + Drop, V: Drop, const LEN: usize>(
@@ -32,7 +32,7 @@ pub fn level_of<K: Ord + Drop, V: Drop, const LEN: usize>(
 }
 
 impl<K: Ord + Drop, const LEN: usize> NodeOf<K, LEN> {
-    /// Returns the unbounded child if it is a node.
+    // Returns the unbounded child if it is a node.
     fn last_node(&self) -> Option<NodeId>
         ensures { result ≡ last_node self.now }
     {

@@ -17,9 +17,10 @@ pub struct ChildPlace<I> {
 }
 
 impl<K: Ord + Drop, I: Copy + Drop, const LEN: usize> BranchOf<K, I, LEN> {
-    /// Returns the child that the key of the asked, a judge or the key itself, belongs to: the child under the least
-    /// separator that the key doesn't exceed, or else the unbounded child. Returns `None` if the node is retired. Makes at
-    /// most 4 comparisons among 15 slots, and 3 among 7.
+    /// Returns the child that the key of the asked, a judge or the key itself, belongs to: the
+    /// child under the least separator that the key doesn't exceed, or else the unbounded child.
+    /// Returns `None` if the node is retired. Makes at most 4 comparisons among 15 slots, and 3
+    /// among 7.
     #[inline(always)]
     pub fn child_for<By, A: Asks<K, By>>(&self, asked: &mut A) -> Option<I>
         ensures child { result ≡ child_of K.cmp (A.key asked.old) self.now.children.entries self.now.unbounded_child }
@@ -34,12 +35,13 @@ impl<K: Ord + Drop, I: Copy + Drop, const LEN: usize> BranchOf<K, I, LEN> {
         Some(*child_at(&self.children, last, slot))
     }
 
-    /// Returns the child that a key belongs to, as [`child_for`](BranchOf::child_for) does, and the slot of its
-    /// separator. Makes as many comparisons, which no judge counts.
+    /// Returns the child that a key belongs to, as [`child_for`](BranchOf::child_for) does, and the
+    /// slot of its separator. Makes as many comparisons, which no judge counts.
     ///
-    /// With `rightmost` it compares the key with the last separator first, and answers the unbounded child at once if the
-    /// key is larger: an insert asks so as long as its way down keeps to the unbounded children, where keys that arrive in
-    /// ascending order belong. That is at most one comparison more.
+    /// With `rightmost` it compares the key with the last separator first, and answers the
+    /// unbounded child at once if the key is larger: an insert asks so as long as its way down
+    /// keeps to the unbounded children, where keys that arrive in ascending order belong. That is
+    /// at most one comparison more.
     #[inline]
     pub fn child_place(&self, key: &K, rightmost: bool) -> Option<ChildPlace<I>>
         ensures place { MatchOption result (self.now.unbounded_child ≡ None)
@@ -57,8 +59,8 @@ impl<K: Ord + Drop, I: Copy + Drop, const LEN: usize> BranchOf<K, I, LEN> {
     }
 }
 
-/// Returns the child that a key belongs to, where `unbounded` is the unbounded one. Makes as many comparisons as
-/// [`child_for`](BranchOf::child_for), which no judge counts.
+/// Returns the child that a key belongs to, where `unbounded` is the unbounded one. Makes as many
+/// comparisons as [`child_for`](BranchOf::child_for), which no judge counts.
 #[inline(always)]
 pub fn child_by_key<K: Ord + Drop, I: Copy + Drop, const LEN: usize>(
     children: &ArrayOf<K, I, LEN>,
@@ -70,8 +72,8 @@ pub fn child_by_key<K: Ord + Drop, I: Copy + Drop, const LEN: usize>(
     *child_at(children, unbounded, children.slot_for(key))
 }
 
-/// Returns the slot of the least separator that a key doesn't exceed, or `None` if it is larger than each. With
-/// `rightmost` it compares the key with the last separator first.
+// Returns the slot of the least separator that a key doesn't exceed, or `None` if it is larger
+// than each. With `rightmost` it compares the key with the last separator first.
 #[inline(always)]
 fn slot_beyond<K: Ord + Drop, I: Copy + Drop, const LEN: usize>(
     children: &ArrayOf<K, I, LEN>,
@@ -86,8 +88,8 @@ fn slot_beyond<K: Ord + Drop, I: Copy + Drop, const LEN: usize>(
     children.slot_for(key)
 }
 
-/// Returns whether a key is larger than each separator, and so belongs to the unbounded child. Makes one comparison at
-/// most, with the last separator.
+/// Returns whether a key is larger than each separator, and so belongs to the unbounded child.
+/// Makes one comparison at most, with the last separator.
 #[inline(always)]
 pub fn is_beyond<K: Ord + Drop, I: Copy + Drop, const LEN: usize>(
     children: &ArrayOf<K, I, LEN>,
@@ -103,8 +105,8 @@ pub fn is_beyond<K: Ord + Drop, I: Copy + Drop, const LEN: usize>(
     }
 }
 
-/// Returns the keyed child in a slot, or the unbounded child if there is no slot. Lends it, so that a place in memory is
-/// chosen and read once.
+// Returns the keyed child in a slot, or the unbounded child if there is no slot. Lends it, so that
+// a place in memory is chosen and read once.
 #[inline]
 fn child_at<'a, K: Ord + Drop, I: Copy + Drop, const LEN: usize>(
     children: &'a ArrayOf<K, I, LEN>,

@@ -7,7 +7,7 @@ pub use Rattle.tree_array.specs.declared.answers.RemoveResult.{RemoveResult}
 pub use Rattle.tree_array.specs.declared.answers.RemoveResult.TheVariants.{Fail, Retired, Success}
 pub use Rattle.tree_clean_up.proofs.Retired.{walk-only_retired, walk-retired}
 pub use Rattle.tree_clean_up.specs.CleanUps.{DropsChild, DropsKeyed, DropsUnbounded, HasChildIn, HasOnlyRetired, RetiresIfEmpty}
-pub use Rattle.tree_descent.specs.Ways.{IsOnWay, LeadsTo}
+pub use Rattle.tree_node.specs.Ways.{IsOnWay, LeadsTo}
 pub use Rattle.tree_model.proofs.Common.{alike_right, pair_at, tied_back, without}
 pub use Rattle.tree_model.proofs.Lengths.{without_few, without_present}
 pub use Rattle.tree_node.proofs.Between.{found_between, without_between}

@@ -3,7 +3,7 @@ use Rattle.tree_remove.proofs.Common.{Bool, Fail, HasChildFor, HasOnlyRetired, I
 use Rattle.tree_remove.proofs.Common.{Replaces, Retired, Stands, TreeArenas, [], arith, child_part, found_in_child, get, keyed, leaf_there, length, pair_at, replaces_refl, same_node, sub-one, suc}
 use Rattle.tree_remove.proofs.Common.{walk, walk-leaf, walk-retired, without_present, zero, ℕ, ◌-◌, ◌<◌, ◌∙◌, ◌∷◌, ◌≡◌}
 use Rattle.tree_clean_up.proofs.EmptyNodes.{only_unbounded}
-use Rattle.tree_descent.proofs.Ways.{part_on_way}
+use Rattle.tree_node.proofs.Ways.{part_on_way}
 use Rattle.tree_remove.proofs.NodeRemovals.{stays_above}
 
 module _ {K V : Type 0} {LEN : ℕ} {cmp : K → K → Ordering} (o : IsTotalOrder cmp) (a : TreeArenas K V LEN) (key : K) (leaf : ℕ) where

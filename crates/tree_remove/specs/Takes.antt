@@ -1,7 +1,7 @@
 -- A pair by its place, and what a removal leaves that took the last pair of a leaf.
 use Rattle.std.specs.Prelude.{◌≡◌, ℕ, Option, None, Some}
 use Rattle.tree_clean_up.specs.CleanUps.{HasOnlyRetired}
-use Rattle.tree_descent.specs.Ways.{LeadsTo}
+use Rattle.tree_node.specs.Ways.{LeadsTo}
 use Rattle.tree_remove.specs.Removes.{LeafOf, Ordering, RemoveResult, RemovesUnder, Retired, Success, TreeArenas}
 use Rattle.tree_remove.specs.Removes.{arrival, get, pair_at, surely, walk}
 

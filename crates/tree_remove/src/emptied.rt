@@ -1,4 +1,5 @@
-//! What a removal leaves that took the last pair of a leaf: the leaf is dropped, and each node that is left without a child.
+//! What a removal leaves that took the last pair of a leaf: the leaf is dropped, and each node that
+//! is left without a child.
 ghost use Rattle.std.specs.Prelude.{◌<◌};
 ghost use Rattle.tree_node.specs.Arenas.{TreeArenas};
 ghost use Rattle.tree_remove.specs.Takes.{DropsEmptied, Emptied};
@@ -8,11 +9,11 @@ use tree_clean_up::{drop_child_node, drop_keyed_leaf, retire_if_empty};
 use tree_leaf::arena::NodeId;
 use tree_node::node::{ArenasOf, NodeOf};
 
-/// Drops the leaf of a key, which a removal emptied, and on the way back each node that is left without a child. An unbounded
-/// leaf stays while its node has another one.
+/// Drops the leaf of a key, which a removal emptied, and on the way back each node that is left
+/// without a child. An unbounded leaf stays while its node has another one.
 ///
-/// Returns `Retired` if no child is left under the number, and `Success` otherwise. Descends once, by the key that was
-/// removed, and allocates nothing.
+/// Returns `Retired` if no child is left under the number, and `Success` otherwise. Descends once,
+/// by the key that was removed, and allocates nothing.
 pub fn drop_emptied<K: Ord + Drop, V: Drop, const LEN: usize>(
     arenas: &mut ArenasOf<K, V, LEN>,
     level: usize,

@@ -8,21 +8,24 @@ ghost use Rattle.tree_remove.specs.Takes.{IsEntry, stored_at};
 
 use crate::emptied::drop_emptied;
 use tree_array::array::RemoveResult;
-use tree_descent::descent::leaf_for;
 use tree_leaf::arena::{LeafId, NodeId};
+use tree_node::descent::leaf_for;
 use tree_node::node::ArenasOf;
 
-/// Where a pair is stored: its leaf, and its slot there. It stays there until the leaf is written to.
+/// Where a pair is stored: its leaf, and its slot there. It stays there until the leaf is written
+/// to.
 #[derive(Drop)]
 pub struct EntryPlace {
     pub leaf: LeafId,
     pub slot: u8,
 }
 
-/// Returns where the pair with an equal key is stored under the number of a node of this level, or `None` if the key is
-/// absent. Makes at most 4 comparisons a level and in the leaf (3 among 7 slots).
+/// Returns where the pair with an equal key is stored under the number of a node of this level, or
+/// `None` if the key is absent. Makes at most 4 comparisons a level and in the leaf (3 among 7
+/// slots).
 ///
-/// The caller must see that a well-formed part of a tree, or a retired node, stands under the number.
+/// The caller must see that a well-formed part of a tree, or a retired node, stands under the
+/// number.
 pub fn entry_for<K: Ord + Drop, V: Drop, const LEN: usize>(
     arenas: &ArenasOf<K, V, LEN>,
     level: usize,
@@ -43,11 +46,13 @@ pub fn entry_for<K: Ord + Drop, V: Drop, const LEN: usize>(
     })
 }
 
-/// Takes out the pair that is stored at a place under the number of a node of this level, and returns it.
+/// Takes out the pair that is stored at a place under the number of a node of this level, and
+/// returns it.
 ///
-/// Returns `Retired` with it if no child is left under the number, and `Success` otherwise. If the pair is the last of its
-/// leaf, descends once by its key, and drops the leaf and each node that is left without a child. Makes no comparisons
-/// otherwise, and allocates nothing. The caller must name a place at which [`entry_for`] finds a pair.
+/// Returns `Retired` with it if no child is left under the number, and `Success` otherwise. If the
+/// pair is the last of its leaf, descends once by its key, and drops the leaf and each node that is
+/// left without a child. Makes no comparisons otherwise, and allocates nothing. The caller must
+/// name a place at which [`entry_for`] finds a pair.
 pub fn take_entry<K: Ord + Drop, V: Drop, const LEN: usize>(
     arenas: &mut ArenasOf<K, V, LEN>,
     level: usize,
@@ -68,7 +73,8 @@ pub fn take_entry<K: Ord + Drop, V: Drop, const LEN: usize>(
     (key, value, result)
 }
 
-/// Takes the pair of a slot out of its leaf. Returns `Retired` with the last pair of the leaf, and `Success` otherwise.
+// Takes the pair of a slot out of its leaf. Returns `Retired` with the last pair of the leaf, and
+// `Success` otherwise.
 fn take_slot<K: Ord + Drop, V: Drop, const LEN: usize>(
     arenas: &mut ArenasOf<K, V, LEN>,
     place: EntryPlace,

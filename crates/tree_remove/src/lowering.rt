@@ -9,11 +9,12 @@ use tree_node::node::{ArenasOf, NodeOf, Root};
 
 /// Returns the root that is left after a removal.
 ///
-/// While the root is an internal node without keyed children, its unbounded child takes its place. A retired internal root
-/// leaves `None`. A root that is a leaf node stays, retired or not. Drops one node for each level that is lost; makes no
-/// comparisons and allocates nothing.
+/// While the root is an internal node without keyed children, its unbounded child takes its place.
+/// A retired internal root leaves `None`. A root that is a leaf node stays, retired or not. Drops
+/// one node for each level that is lost; makes no comparisons and allocates nothing.
 ///
-/// The caller must see that a well-formed part of a tree, or a retired node, stands under the number.
+/// The caller must see that a well-formed part of a tree, or a retired node, stands under the
+/// number.
 #[inline(always)]
 pub fn lower_root_at<K: Ord + Drop, V: Drop, const LEN: usize>(
     arenas: &mut ArenasOf<K, V, LEN>,
@@ -36,8 +37,8 @@ pub fn lower_root_at<K: Ord + Drop, V: Drop, const LEN: usize>(
     }
 }
 
-/// Does what [`lower_root_at`] does, for as many levels as it takes. Its own function, so that a root that stays, as most
-/// do, costs a removal no call.
+// Does what [`lower_root_at`] does, for as many levels as it takes. Its own function, so that a
+// root that stays, as most do, costs a removal no call.
 fn lower_from<K: Ord + Drop, V: Drop, const LEN: usize>(
     arenas: &mut ArenasOf<K, V, LEN>,
     level: usize,

@@ -3,26 +3,28 @@ ghost use Rattle.std.specs.Prelude.{◌≡◌, ◌⊎◌, ◌<◌, ◌≤◌, �
 ghost use Rattle.std.specs.Fn.{FnOnceReturnsAt, FnOnceTakesAt};
 ghost use Rattle.std.specs.Option.{ForSome};
 ghost use Rattle.slab.specs.Slab.{ContainsKey};
-ghost use Rattle.tree_descent.specs.Ways.{LeadsTo};
+ghost use Rattle.tree_node.specs.Ways.{LeadsTo};
 ghost use Rattle.tree_clean_up.specs.CleanUps.{HasOnlyRetired};
 ghost use Rattle.tree_node.specs.Parts.{IsPart};
 ghost use Rattle.tree_remove.specs.Removes.{IsRetired, RemovesUnder, pair_at, removal_told, walk};
 
 use crate::emptied::drop_emptied;
 use tree_array::array::RemoveResult;
-use tree_descent::descent::leaf_for;
 use tree_leaf::arena::{LeafId, NodeId};
+use tree_node::descent::leaf_for;
 use tree_node::node::ArenasOf;
 
-/// Removes the pair with an equal key from under the number of a node of this level, if the condition says yes of its
-/// value. The condition is called once if the key is there, and never otherwise.
+/// Removes the pair with an equal key from under the number of a node of this level, if the
+/// condition says yes of its value. The condition is called once if the key is there, and never
+/// otherwise.
 ///
-/// Returns `Fail` if the key is absent or the condition says no; nothing has changed then. Returns `Retired` if no child
-/// is left under the number, and `Success` otherwise. Makes at most 4 comparisons a level and in the leaf (3 among 7 slots),
-/// and twice as many if the pair is the last of its leaf. Allocates nothing.
+/// Returns `Fail` if the key is absent or the condition says no; nothing has changed then. Returns
+/// `Retired` if no child is left under the number, and `Success` otherwise. Makes at most 4
+/// comparisons a level and in the leaf (3 among 7 slots), and twice as many if the pair is the last
+/// of its leaf. Allocates nothing.
 ///
-/// The caller must see that a well-formed part of a tree, or a retired node, stands under the number, and that the
-/// condition may be called on the value at the key.
+/// The caller must see that a well-formed part of a tree, or a retired node, stands under the
+/// number, and that the condition may be called on the value at the key.
 pub fn remove_at<K: Ord + Drop, V: Drop, F: FnOnce(&V) -> bool + Drop, const LEN: usize>(
     arenas: &mut ArenasOf<K, V, LEN>,
     level: usize,
@@ -48,8 +50,8 @@ pub fn remove_at<K: Ord + Drop, V: Drop, F: FnOnce(&V) -> bool + Drop, const LEN
     }
 }
 
-/// Removes a pair, as [`remove_at`] does, from the leaf that its key belongs to, if this has another one, so that no node
-/// changes. Returns whether it did. Reads no node.
+/// Removes a pair, as [`remove_at`] does, from the leaf that its key belongs to, if this has
+/// another one, so that no node changes. Returns whether it did. Reads no node.
 ///
 /// Returns `Err` with the condition, and changes nothing, if the leaf has one pair alone or none.
 #[inline(always)]
@@ -84,8 +86,8 @@ pub fn remove_beside<K: Ord + Drop, V: Drop, F: FnOnce(&V) -> bool + Drop, const
     }
 }
 
-/// Removes a pair, as [`remove_at`] does, from the leaf that its key belongs to. If it is the last of its leaf, descends
-/// once more, and drops the leaf and each node that is left without a child.
+/// Removes a pair, as [`remove_at`] does, from the leaf that its key belongs to. If it is the last
+/// of its leaf, descends once more, and drops the leaf and each node that is left without a child.
 pub fn remove_alone<K: Ord + Drop, V: Drop, F: FnOnce(&V) -> bool + Drop, const LEN: usize>(
     arenas: &mut ArenasOf<K, V, LEN>,
     level: usize,
@@ -108,7 +110,7 @@ pub fn remove_alone<K: Ord + Drop, V: Drop, F: FnOnce(&V) -> bool + Drop, const 
     }
 }
 
-/// Removes the pair with an equal key from a leaf, if the condition says yes of its value.
+// Removes the pair with an equal key from a leaf, if the condition says yes of its value.
 #[inline(always)]
 fn remove_in_leaf<K: Ord + Drop, V: Drop, F: FnOnce(&V) -> bool + Drop, const LEN: usize>(
     arenas: &mut ArenasOf<K, V, LEN>,

@@ -5,10 +5,10 @@ use Rattle.std.specs.declared.cmp.Ordering.{Ordering}
 use Rattle.std.specs.declared.cmp.Ordering.TheVariants.{Less}
 use Rattle.std.specs.Cmp.{IsTotalOrder}
 use Rattle.slab.specs.Slab.{get}
-use Rattle.tree_append.specs.Appends.{AppendsUnder, IsLastFor, IsLastLeaf}
-use Rattle.tree_append.proofs.Edges.{no_last}
+use Rattle.tree_insert.specs.Appends.{AppendsUnder, IsLastFor, IsLastLeaf}
+use Rattle.tree_insert.proofs.Edges.{no_last}
 use Rattle.tree_array.specs.declared.answers.StoreResult.{StoreResult}
-use Rattle.tree_descent.proofs.Ways.{part_not_retired}
+use Rattle.tree_node.proofs.Ways.{part_not_retired}
 use Rattle.tree_insert.specs.Inserts.{InsertsUnder, asks_split}
 use Rattle.tree_node.specs.Arenas.{TreeArenas}
 use Rattle.tree_node.specs.declared.node.Root.{Root}

@@ -2,7 +2,7 @@
 use Rattle.std.proofs.Common.{◌≡◌, ℕ, true, List, [], ◌∷◌, ◌++◌, slice_get, Option, Some, None, Ok, refl, sym, ap, ◌∙◌, append_assoc, append-nil}
 use Rattle.std.specs.declared.cmp.Ordering.{Ordering}
 use Rattle.std.specs.Cmp.{IsTotalOrder}
-use Rattle.tree_append.specs.Appends.{AppendsEach}
+use Rattle.tree_insert.specs.Appends.{AppendsEach}
 use Rattle.tree_array.specs.declared.answers.StoreResult.TheVariants.{New}
 use Rattle.tree_model.specs.Pairs.{IsAscending, without}
 use Rattle.tree_model.proofs.Ascending.{without_first}

@@ -7,7 +7,7 @@ use Rattle.tree_array.specs.declared.answers.StoreResult.TheVariants.{New, Repla
 use Rattle.tree_node.proofs.Common.{get, TreeArenas, IsPart, Unchanged, room, spare, IsRetired, IsRetiredNode, Stands, StandsOrRetired, leaves_at, IsRetiredRoot, IsTree, leaves_under, walk_under, root_at}
 use Rattle.tree_node.specs.declared.node.Root.{Root}
 use Rattle.std.proofs.lemmas.Bool.{false_from_ne_true}
-use Rattle.tree_descent.proofs.Ways.{part_not_retired}
+use Rattle.tree_node.proofs.Ways.{part_not_retired}
 use Rattle.tree_insert.specs.Inserts.{Inserts, InsertsUnder, IsNew, asks_split, declined, stores}
 use Rattle.tree_insert.specs.Roots.{RaisesRoot}
 use Rattle.tree_node.specs.Whole.{HasOnly, depth_of}

@@ -31,7 +31,7 @@ use Rattle.tree_node.proofs.Children.{walk-leaf}
 use Rattle.tree_node.proofs.LeafWrites.{array_replaces, here_now, updated, with_array}
 use Rattle.tree_node.proofs.Walks.{back_walk_above, front_walk_below}
 use Rattle.tree_node.proofs.Whole.{spare_unchanged, tree_after, tree_unchanged, walk_unchanged}
-use Rattle.tree_descent.specs.Ways.{IsOnWay, LeadsTo}
+use Rattle.tree_node.specs.Ways.{IsOnWay, LeadsTo}
 use Rattle.tree_remove.proofs.EntryPlaces.{absent_there, leads_alike, pair_alike}
 use Rattle.tree_remove.proofs.Ways.{found_on_way, leaf_on_way}
 use Rattle.tree_split.specs.Packed.{all_full, in_turn, last_packed, leaf_packed, node_packed, packed_at, packed_under}

@@ -1,6 +1,6 @@
 -- The last leaf of a tree, and what an append answers.
 use Rattle.std.specs.Prelude.{ℕ, Option, None, Some, Result, Ok, Err}
-use Rattle.tree_append.specs.Appends.{IsLastLeaf}
+use Rattle.tree_insert.specs.Appends.{IsLastLeaf}
 use Rattle.tree_array.specs.declared.answers.StoreResult.{StoreResult}
 use Rattle.tree_array.specs.declared.answers.StoreResult.TheVariants.{New}
 use Rattle.tree_node.specs.declared.node.Root.{Root}

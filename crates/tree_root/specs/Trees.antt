@@ -53,7 +53,7 @@ module _ {K V : Type 0} {LEN : ℕ} where
   abbrev pub IsStored : (K → K → Ordering) → Tree K V LEN → EntryPlace → K × V → Type 0
   IsStored cmp tree place pair = IsStoredUnder cmp tree.arenas tree.root place pair
 
-  -- The pair is stored, or it comes back for a duplicate or for want of memory.
+  -- The pair is stored, or it comes back as a duplicate or for lack of memory.
   pub record Stores (cmp : K → K → Ordering) (upsert : Bool) (old new : Tree K V LEN) (key : K) (val : V) (result : Result (StoreResult K V) (K × V)) : Type 0 where
     pub whole : IsWhole cmp new
     pub pairs : Inserts cmp upsert result (pairs_of old) key val (pairs_of new)

@@ -12,14 +12,14 @@ ghost use Rattle.tree_root.specs.Trees.{IsWhole, Stores, packed_of, pairs_of};
 
 use crate::tree::{Stored, Tree};
 use std::alloc::{AllocError, Global};
-use tree_append::{append_run, append_to, last_leaf_at};
 use tree_array::array::{IndexKey, RunOf};
+use tree_insert::{append_run, append_to, last_leaf_at};
 use tree_leaf::arena::LeafId;
 use tree_model::InsertError;
 
 impl<K: IndexKey, V: Drop, const LEN: usize> Tree<K, V, LEN> {
-    /// Creates an empty tree with room for so many pairs that are appended: their leaves and nodes are reserved. Returns
-    /// `Err` if an allocation is refused. Allocates nothing for no pair.
+    /// Creates an empty tree with room for so many pairs that are appended: their leaves and nodes
+    /// are reserved. Returns `Err` if an allocation is refused. Allocates nothing for no pair.
     pub fn with_room(alloc: Global, pairs: usize) -> Result<Self, AllocError>
         requires { IsLen LEN }
         ensures whole { IfOk result (IsWhole K.cmp) }
@@ -32,9 +32,9 @@ impl<K: IndexKey, V: Drop, const LEN: usize> Tree<K, V, LEN> {
         Ok(tree)
     }
 
-    /// Returns a tree of pairs whose keys ascend, which the caller must see to. Returns `Err` if an allocation is refused;
-    /// nothing of the tree is left then. Makes no comparisons but a few for each leaf, and those of a descent for each leaf
-    /// node.
+    /// Returns a tree of pairs whose keys ascend, which the caller must see to. Returns `Err` if an
+    /// allocation is refused; nothing of the tree is left then. Makes no comparisons but a few for
+    /// each leaf, and those of a descent for each leaf node.
     pub fn from_sorted(alloc: Global, pairs: Vec<(K, V)>) -> Result<Self, AllocError>
         requires len { IsLen LEN }
         requires ascending { IsAscending K.cmp pairs.items }
@@ -47,8 +47,8 @@ impl<K: IndexKey, V: Drop, const LEN: usize> Tree<K, V, LEN> {
         Ok(tree)
     }
 
-    /// Appends pairs whose keys ascend and are larger than all. Returns `Err` if an allocation is refused. The caller must
-    /// reserve the leaves and nodes that the pairs fill.
+    // Appends pairs whose keys ascend and are larger than all. Returns `Err` if an allocation is
+    // refused. The caller must reserve the leaves and nodes that the pairs fill.
     fn append_sorted(&mut self, pairs: Vec<(K, V)>) -> Result<(), AllocError>
         requires len { IsLen LEN }
         requires whole { IsWhole K.cmp self.old }
@@ -63,10 +63,11 @@ impl<K: IndexKey, V: Drop, const LEN: usize> Tree<K, V, LEN> {
         self.append_run(&mut run)
     }
 
-    /// Puts a pair behind a run, and appends the run to the tree first if it is full. Returns `Err` if an allocation is
-    /// refused.
+    /// Puts a pair behind a run, and appends the run to the tree first if it is full. Returns `Err`
+    /// if an allocation is refused.
     ///
-    /// The caller must pass a pair whose key is larger than those of the run, which are larger than those of the tree.
+    /// The caller must pass a pair whose key is larger than those of the run, which are larger than
+    /// those of the tree.
     #[inline(always)]
     pub fn gather(&mut self, run: &mut RunOf<K, V, LEN>, key: K, val: V) -> Result<(), AllocError>
         requires len { IsLen LEN }
@@ -81,10 +82,12 @@ impl<K: IndexKey, V: Drop, const LEN: usize> Tree<K, V, LEN> {
         Ok(())
     }
 
-    /// Appends the pairs of a run, which has none afterwards. Returns `Err` if an allocation is refused.
+    /// Appends the pairs of a run, which has none afterwards. Returns `Err` if an allocation is
+    /// refused.
     ///
-    /// The run becomes the last leaf as a whole, under its node, which is found along the unbounded children. If that node
-    /// is full, or the tree has no leaf yet, its pairs are appended one by one.
+    /// The run becomes the last leaf as a whole, under its node, which is found along the unbounded
+    /// children. If that node is full, or the tree has no leaf yet, its pairs are appended one by
+    /// one.
     ///
     /// The caller must pass a run whose keys are larger than those of the tree.
     #[inline(never)]
@@ -104,7 +107,8 @@ impl<K: IndexKey, V: Drop, const LEN: usize> Tree<K, V, LEN> {
         self.append_each(run)
     }
 
-    /// Appends the pairs of a run one by one: the first by a descent, and those that find a free slot in the last leaf there.
+    // Appends the pairs of a run one by one: the first by a descent, and those that find a free
+    // slot in the last leaf there.
     #[inline(never)]
     fn append_each(&mut self, run: &mut RunOf<K, V, LEN>) -> Result<(), AllocError>
         requires len { IsLen LEN }
@@ -125,12 +129,14 @@ impl<K: IndexKey, V: Drop, const LEN: usize> Tree<K, V, LEN> {
         Ok(())
     }
 
-    /// Stores a pair whose key is larger than all, and keeps the last leaf in `last`, to be passed with the next pair.
-    ///
-    /// Returns `Err` with the pair if an allocation is refused. If `last` has a free slot, the pair is put there: that
-    /// compares and allocates nothing. Otherwise costs what [`store`](Tree::store) does.
-    ///
-    /// The caller must pass no leaf but the last one.
+    // Stores a pair whose key is larger than all, and keeps the last leaf in `last`, to be passed
+    // with the next pair.
+    //
+    // Returns `Err` with the pair if an allocation is refused. If `last` has a free slot, the pair
+    // is put there: that compares and allocates nothing. Otherwise costs what
+    // [`store`](Tree::store) does.
+    //
+    // The caller must pass no leaf but the last one.
     #[inline(always)]
     fn append(&mut self, last: &mut Option<LeafId>, key: K, val: V) -> Result<(), (K, V)>
         requires len { IsLen LEN }
@@ -149,7 +155,7 @@ impl<K: IndexKey, V: Drop, const LEN: usize> Tree<K, V, LEN> {
         }
     }
 
-    /// Appends a pair by a descent. Its own function, so that the common append stays short.
+    // Appends a pair by a descent. Its own function, so that the common append stays short.
     #[inline(never)]
     fn append_below(&mut self, last: &mut Option<LeafId>, key: K, val: V) -> Result<(), (K, V)>
         requires len { IsLen LEN }
@@ -169,7 +175,8 @@ impl<K: IndexKey, V: Drop, const LEN: usize> Tree<K, V, LEN> {
         }
     }
 
-    /// Returns the last leaf, or `None` if there is none or it has no pair. Runs in O(depth), and makes no comparisons.
+    // Returns the last leaf, or `None` if there is none or it has no pair. Runs in O(depth), and
+    // makes no comparisons.
     fn last_leaf(&self) -> Option<LeafId>
         requires { IsWhole K.cmp self.now }
         ensures { ForSome result (IsLast self.now) }

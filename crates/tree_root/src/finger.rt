@@ -1,17 +1,17 @@
 //! The leaf that the last removals went to.
 ghost use Rattle.std.specs.Prelude.{ℕ, MatchOption, Some};
-ghost use Rattle.tree_descent.specs.Ways.{LeadsTo};
+ghost use Rattle.tree_node.specs.Ways.{LeadsTo};
 ghost use Rattle.tree_node.specs.Tree.{IsRetired};
 ghost use Rattle.tree_node.specs.Whole.{IsTree, root_at};
 
-use tree_descent::descent::{holds, leaf_for};
 use tree_leaf::arena::{LeafId, NodeId};
+use tree_node::descent::{holds, leaf_for};
 use tree_node::node::ArenasOf;
 
 /// The leaf that the last removal descended to, and whether the one before went there too.
 ///
-/// It is a hint, which may be out of date: it is taken only if the key lies in the leaf that has the number now. So no
-/// clause speaks of it, and no other call has to keep it right.
+/// It is a hint, which may be out of date: it is taken only if the key lies in the leaf that has
+/// the number now. So no clause speaks of it, and no other call has to keep it right.
 #[derive(Clone, Copy)]
 pub struct Finger {
     leaf: LeafId,
@@ -29,8 +29,9 @@ impl Finger {
 
     /// Returns the leaf that a key belongs to in a tree, or `None` if the root is retired.
     ///
-    /// If the last two removals descended to one leaf, and the key lies between the first and the last key there, takes
-    /// that leaf, by two comparisons. Else descends, by at most 4 comparisons a level (3 among 7 slots).
+    /// If the last two removals descended to one leaf, and the key lies between the first and the
+    /// last key there, takes that leaf, by two comparisons. Else descends, by at most 4 comparisons
+    /// a level (3 among 7 slots).
     #[inline(always)]
     pub fn leaf_for<K: Ord + Drop, V: Drop, const LEN: usize>(
         &mut self,

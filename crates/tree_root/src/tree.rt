@@ -5,7 +5,7 @@ ghost use Rattle.std.specs.Option.{ForSome};
 ghost use Rattle.std.specs.declared.cmp.Ordering.TheVariants.{Equal};
 ghost use Rattle.tree_array.specs.Length.{IsLen, searched};
 ghost use Rattle.tree_model.specs.Pairs.{Finds, IsAbsent, high_of, low_of, pair_at};
-ghost use Rattle.tree_descent.specs.Ways.{LeadsTo};
+ghost use Rattle.tree_node.specs.Ways.{LeadsTo};
 ghost use Rattle.tree_insert.specs.Inserts.{IsNew};
 ghost use Rattle.tree_leaf.specs.Arena.{HasPlaces};
 ghost use Rattle.tree_node.specs.Shape.{room};
@@ -19,12 +19,12 @@ use std::alloc::Global;
 use std::ops::Bound;
 use tree_array::array::{IndexKey, Judge, RemoveResult, StoreResult};
 use tree_cut::cutting::remove_range_at;
-use tree_descent::look_ups::search_at;
 use tree_insert::insertion::{Crowded, insert_at, insert_crowded, insert_with_room};
 use tree_insert::planting::plant;
 use tree_insert::root::split_root_at;
 use tree_leaf::arena::LeafId;
 use tree_model::InsertError;
+use tree_node::look_ups::search_at;
 use tree_node::node::{ArenasOf, Root};
 use tree_remove::entries::{EntryPlace, entry_for, take_entry};
 use tree_remove::lowering::lower_root_at;
@@ -46,7 +46,8 @@ pub struct Tree<K: IndexKey, V: Drop, const LEN: usize> {
     finger: Finger,
 }
 
-// Written out, so that it is proved here and not once more in each crate that drops a tree inside another type.
+// Written out, so that it is proved here and not once more in each crate that drops a tree inside
+// another type.
 impl<K: IndexKey, V: Drop, const LEN: usize> Drop for Tree<K, V, LEN> {
     fn drop(self) {
         let Tree {
@@ -74,9 +75,10 @@ impl<K: IndexKey, V: Drop, const LEN: usize> Tree<K, V, LEN> {
 
     /// Stores a pair. With `UPSERT` it replaces the pair with an equal key.
     ///
-    /// Returns `Err` with the pair if an equal key is there and `UPSERT` is false, or if memory is refused. Makes at
-    /// most 4 comparisons a level and in the leaf (3 among 7 slots), and one more in all. If the leaf is full, it searches
-    /// the leaf and its node once more, or descends once more.
+    /// Returns `Err` with the pair if an equal key is there and `UPSERT` is false, or if memory is
+    /// refused. Makes at most 4 comparisons a level and in the leaf (3 among 7 slots), and one more
+    /// in all. If the leaf is full, it searches the leaf and its node once more, or descends once
+    /// more.
     #[inline(always)]
     pub fn store<const UPSERT: bool>(&mut self, key: K, val: V) -> Result<Stored, InsertError<K, V>>
         requires len { IsLen LEN }
@@ -103,7 +105,8 @@ impl<K: IndexKey, V: Drop, const LEN: usize> Tree<K, V, LEN> {
         }
     }
 
-    /// Stores a pair for which its leaf has no room. Its own function, so that the common insert stays short.
+    // Stores a pair for which its leaf has no room. Its own function, so that the common insert
+    // stays short.
     #[inline(never)]
     fn store_crowded<const UPSERT: bool>(
         &mut self,
@@ -128,7 +131,7 @@ impl<K: IndexKey, V: Drop, const LEN: usize> Tree<K, V, LEN> {
         }
     }
 
-    /// Stores the first pair.
+    // Stores the first pair.
     fn store_first(&mut self, key: K, val: V) -> Result<Stored, InsertError<K, V>>
         requires len { IsLen LEN }
         requires whole { IsWhole K.cmp self.old }
@@ -144,8 +147,8 @@ impl<K: IndexKey, V: Drop, const LEN: usize> Tree<K, V, LEN> {
         }
     }
 
-    /// Stores a pair for which the root has no room: a retired root gets the pair as its only one, and any other is
-    /// split under a new root.
+    // Stores a pair for which the root has no room: a retired root gets the pair as its only one,
+    // and any other is split under a new root.
     fn store_grown<const UPSERT: bool>(
         &mut self,
         root: Root,
@@ -180,12 +183,12 @@ impl<K: IndexKey, V: Drop, const LEN: usize> Tree<K, V, LEN> {
         }
     }
 
-    /// Removes the pair at a key where the condition says so of its value, and says whether it did. Makes at most
-    /// 4 comparisons a level and in the leaf (3 among 7 slots), and twice as many if the pair is the last of its leaf.
-    /// Allocates nothing.
+    /// Removes the pair at a key where the condition says so of its value, and says whether it did.
+    /// Makes at most 4 comparisons a level and in the leaf (3 among 7 slots), and twice as many if
+    /// the pair is the last of its leaf. Allocates nothing.
     ///
-    /// If the last two removals went to one leaf, the key is first compared with the first and the last one there. Between
-    /// them it needs no descent.
+    /// If the last two removals went to one leaf, the key is first compared with the first and the
+    /// last one there. Between them it needs no descent.
     pub fn remove_if<F: FnOnce(&V) -> bool + Drop>(&mut self, key: &K, condition: F) -> bool
         requires whole { IsWhole K.cmp self.old }
         requires callable { ForSome (pair_at K.cmp (pairs_of self.old) key.now)
@@ -204,7 +207,8 @@ impl<K: IndexKey, V: Drop, const LEN: usize> Tree<K, V, LEN> {
         }
     }
 
-    /// Does what [`remove_if`](Tree::remove_if) does, with the leaf that the key belongs to, which the removal may retire.
+    // Does what [`remove_if`](Tree::remove_if) does, with the leaf that the key belongs to, which
+    // the removal may retire.
     #[inline(never)]
     fn remove_alone<F: FnOnce(&V) -> bool + Drop>(
         &mut self,
@@ -234,8 +238,8 @@ impl<K: IndexKey, V: Drop, const LEN: usize> Tree<K, V, LEN> {
         }
     }
 
-    /// Returns where the pair with a key is stored, or `None` if the key is absent. Makes at most 4 comparisons a level and
-    /// in the leaf (3 among 7 slots).
+    /// Returns where the pair with a key is stored, or `None` if the key is absent. Makes at most 4
+    /// comparisons a level and in the leaf (3 among 7 slots).
     pub fn entry_for(&self, key: &K) -> Option<EntryPlace>
         requires { IsWhole K.cmp self.now }
         ensures { MatchOption result (IsAbsent K.cmp (pairs_of self.now) key.now)
@@ -245,8 +249,8 @@ impl<K: IndexKey, V: Drop, const LEN: usize> Tree<K, V, LEN> {
         entry_for(&self.arenas, root.level, root.id, key)
     }
 
-    /// Takes out the pair that is stored at a place, and returns it. Makes no comparisons, but for a descent by its key if it
-    /// is the last pair of its leaf. Allocates nothing.
+    /// Takes out the pair that is stored at a place, and returns it. Makes no comparisons, but for
+    /// a descent by its key if it is the last pair of its leaf. Allocates nothing.
     pub fn take_entry(&mut self, place: EntryPlace) -> (K, V)
         requires whole { IsWhole K.cmp self.old }
         requires stored { (pair : K × V) × IsStored K.cmp self.old place pair }
@@ -261,11 +265,11 @@ impl<K: IndexKey, V: Drop, const LEN: usize> Tree<K, V, LEN> {
         (key, value)
     }
 
-    /// Removes every pair whose key is within both bounds, and returns how many there were. Reversed bounds contain no
-    /// key.
+    /// Removes every pair whose key is within both bounds, and returns how many there were.
+    /// Reversed bounds contain no key.
     ///
-    /// Drops whole parts of the tree between the bounds. Searches at most two arrays per level for each bound, and makes
-    /// at most two comparisons per slot of two leaves. Allocates nothing.
+    /// Drops whole parts of the tree between the bounds. Searches at most two arrays per level for
+    /// each bound, and makes at most two comparisons per slot of two leaves. Allocates nothing.
     pub fn remove_range(&mut self, bounds: (Bound<&K>, Bound<&K>)) -> u128
         requires { IsWhole K.cmp self.old }
         ensures { Cuts K.cmp (low_of bounds.entry) (high_of bounds.entry) self.old self.new result }
@@ -278,8 +282,8 @@ impl<K: IndexKey, V: Drop, const LEN: usize> Tree<K, V, LEN> {
         removed.pairs
     }
 
-    /// Removes all pairs. The arenas keep their memory: as many leaves and nodes as had a place before can be added without
-    /// allocating.
+    /// Removes all pairs. The arenas keep their memory: as many leaves and nodes as had a place
+    /// before can be added without allocating.
     pub fn clear(&mut self)
         ensures whole { IsWhole K.cmp self.new }
         ensures root { self.new.root ≡ None }
@@ -289,8 +293,8 @@ impl<K: IndexKey, V: Drop, const LEN: usize> Tree<K, V, LEN> {
         self.root = None;
     }
 
-    /// Returns the pair with the judge's key. Makes at most 4 comparisons per level and in the leaf with 15 slots,
-    /// and 3 with 7.
+    /// Returns the pair with the judge's key. Makes at most 4 comparisons per level and in the leaf
+    /// with 15 slots, and 3 with 7.
     #[inline(always)]
     pub fn search<J: Judge<K>>(&self, judge: &mut J) -> Option<(&K, &V)>
         requires { IsWhole K.cmp self.now }
@@ -303,7 +307,8 @@ impl<K: IndexKey, V: Drop, const LEN: usize> Tree<K, V, LEN> {
         search_at(&self.arenas, root.level, root.id, judge)
     }
 
-    /// Returns how many slots the leaves have, which is at least the number of pairs. Runs in constant time.
+    /// Returns how many slots the leaves have, which is at least the number of pairs. Runs in
+    /// constant time.
     pub fn slots(&self) -> u128
         requires len { IsLen LEN }
         requires whole { IsWhole K.cmp self.now }

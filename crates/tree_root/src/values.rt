@@ -6,11 +6,12 @@ ghost use Rattle.tree_root.specs.Trees.{IsWhole, KeepsKeys, pairs_of};
 
 use crate::tree::Tree;
 use tree_array::array::IndexKey;
-use tree_descent::descent::leaf_for;
+use tree_node::descent::leaf_for;
 
 impl<K: IndexKey, V: Drop, const LEN: usize> Tree<K, V, LEN> {
-    /// Replaces the value at a key, and returns the old one. Returns `Err` with the value if the key is absent. The stored key
-    /// stays. Makes at most 4 comparisons a level and in the leaf (3 among 7 slots), and allocates nothing.
+    /// Replaces the value at a key, and returns the old one. Returns `Err` with the value if the
+    /// key is absent. The stored key stays. Makes at most 4 comparisons a level and in the leaf (3
+    /// among 7 slots), and allocates nothing.
     pub fn replace_value(&mut self, key: &K, val: V) -> Result<V, V>
         requires { IsWhole K.cmp self.old }
         ensures keys { KeepsKeys K.cmp self.old self.new }
@@ -31,8 +32,9 @@ impl<K: IndexKey, V: Drop, const LEN: usize> Tree<K, V, LEN> {
         }
     }
 
-    /// Passes the value at a key to a function, and stores what it returns in its stead. Returns whether the key is there, and
-    /// calls the function only then. Costs what [`replace_value`](Tree::replace_value) does, and the call.
+    /// Passes the value at a key to a function, and stores what it returns in its stead. Returns
+    /// whether the key is there, and calls the function only then. Costs what
+    /// [`replace_value`](Tree::replace_value) does, and the call.
     pub fn change_value<F: FnOnce(V) -> V + Drop>(&mut self, key: &K, change: F) -> bool
         requires whole { IsWhole K.cmp self.old }
         requires callable { ForSome (pair_at K.cmp (pairs_of self.old) key.now) (λ pair. F.pre change pair.1) }

@@ -5,11 +5,11 @@ ghost use Rattle.tree_set.specs.Sets.{IsAscending};
 use crate::elements::ElementsOver;
 use std::marker::Model;
 use tree_chain::Walked;
+use tree_cursors::range::Ranged;
 use tree_leaf::leaf::LeafOf;
 use tree_node::node::ArenasOf;
-use tree_ranges::range::Ranged;
 
-/// The elements that are left, the first of which was already taken from its cursor.
+// The elements that are left, the first of which was already taken from its cursor.
 #[derive(Drop)]
 pub(crate) struct Ahead<'t, K: Ord, A: Ranged<K, (), L>, L: Walked> {
     first: Option<&'t K>,
@@ -34,7 +34,7 @@ impl<'t, K: Ord + Drop + 't, const LEN: usize> Ahead<
     ArenasOf<K, (), LEN>,
     LeafOf<K, (), LEN>,
 > {
-    /// Takes the first element, and keeps it.
+    // Takes the first element, and keeps it.
     pub(crate) fn new(
         elements: ElementsOver<'t, K, ArenasOf<K, (), LEN>, LeafOf<K, (), LEN>>,
     ) -> Self
@@ -46,7 +46,7 @@ impl<'t, K: Ord + Drop + 't, const LEN: usize> Ahead<
         Ahead { first, others }
     }
 
-    /// Returns the first element, and leaves it. Makes no move.
+    // Returns the first element, and leaves it. Makes no move.
     #[inline(always)]
     pub(crate) fn peek(&self) -> Option<&'t K>
         ensures { MatchOption result (self.now ≡ []) (λ x. self.now ≡ x.now ∷ drop 1 self.now) }
@@ -54,7 +54,7 @@ impl<'t, K: Ord + Drop + 't, const LEN: usize> Ahead<
         self.first
     }
 
-    /// Leaves the first element out.
+    // Leaves the first element out.
     #[inline(always)]
     pub(crate) fn advance(&mut self)
         ensures { self.new ≡ drop 1 self.old }

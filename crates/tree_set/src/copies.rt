@@ -9,9 +9,10 @@ use tree_index::IndexKey;
 impl<K: IndexKey, const LEN: usize> TreeSetOf<K, LEN> {
     /// Returns a copy: a set of a clone of each element, in the same order.
     ///
-    /// Returns `Err` if it cannot allocate, a clone among the rest. Nothing of the copy is left then. Reserves memory for as
-    /// many leaves as the elements fill. Appends the clones as whole leaves: makes a few comparisons for each leaf, and
-    /// those of a descent for each full leaf node.
+    /// Returns `Err` if it cannot allocate, a clone among the rest. Nothing of the copy is left
+    /// then. Reserves memory for as many leaves as the elements fill. Appends the clones as whole
+    /// leaves: makes a few comparisons for each leaf, and those of a descent for each full leaf
+    /// node.
     ///
     /// ```
     /// let mut second = first.try_clone(alloc)?;

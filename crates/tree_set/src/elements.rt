@@ -1,15 +1,15 @@
 //! The elements of a set, from both ends.
 ghost use Rattle.std.specs.Prelude.{◌≡◌};
 ghost use Rattle.std.specs.Iterator.{YieldsFirstRef, YieldsLastRef, item_count};
-ghost use Rattle.tree_ranges.specs.Ranged.{IsFresh, pairs_within};
+ghost use Rattle.tree_cursors.specs.Ranged.{IsFresh, pairs_within};
 ghost use Rattle.tree_set.specs.Sets.{IsAscending, keys_of};
 
 use std::iter::FusedIterator;
 use std::marker::Model;
 use tree_chain::Walked;
+use tree_cursors::range::{RangeOf, RangeOver, Ranged};
 use tree_leaf::leaf::LeafOf;
 use tree_node::node::ArenasOf;
-use tree_ranges::range::{RangeOf, RangeOver, Ranged};
 
 /// The elements that a cursor over pairs has still to give, from both ends.
 ///
@@ -44,7 +44,7 @@ impl<'t, K: Ord + Drop + 't, const LEN: usize> ElementsOver<
     ArenasOf<K, (), LEN>,
     LeafOf<K, (), LEN>,
 > {
-    /// Returns the elements of the pairs of a cursor that was never moved. Runs in constant time.
+    // Returns the elements of the pairs of a cursor that was never moved. Runs in constant time.
     pub(crate) fn new(pairs: RangeOf<'t, K, (), LEN>) -> Self
         requires { IsFresh pairs }
         ensures { result ≡ keys_of (pairs_within K.cmp pairs.entry) }
@@ -52,7 +52,7 @@ impl<'t, K: Ord + Drop + 't, const LEN: usize> ElementsOver<
         ElementsOver { pairs }
     }
 
-    /// Takes the first element, and tells that the elements ascend.
+    // Takes the first element, and tells that the elements ascend.
     #[inline(always)]
     pub(crate) fn take_first(&mut self) -> Option<&'t K>
         ensures taken { YieldsFirstRef (λ s. s) self.old result self.new }

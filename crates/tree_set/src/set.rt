@@ -67,10 +67,12 @@ impl<K: IndexKey, const LEN: usize> TreeSetOf<K, LEN> {
         }
     }
 
-    /// Stores an element, unless an equal one is present, which stays as it was. Returns whether the element is new.
+    /// Stores an element, unless an equal one is present, which stays as it was. Returns whether
+    /// the element is new.
     ///
-    /// Returns `Err` with the element if it is new and an allocation is refused. The set is then as it was. Costs what
-    /// [`insert_sync`](TreeIndexOf::insert_sync) does: a descent, and where the leaf is full a second one at most.
+    /// Returns `Err` with the element if it is new and an allocation is refused. The set is then as
+    /// it was. Costs what [`insert_sync`](TreeIndexOf::insert_sync) does: a descent, and where the
+    /// leaf is full a second one at most.
     ///
     /// ```
     /// pub fn invite(invited: &mut TreeSet<u64>, guest: u64) -> Result<bool, u64>
@@ -105,11 +107,12 @@ impl<K: IndexKey, const LEN: usize> TreeSetOf<K, LEN> {
         self.index.remove_sync(element)
     }
 
-    /// Removes every element within both bounds. Bounds that contain no element, reversed ones among them, remove
-    /// nothing.
+    /// Removes every element within both bounds. Bounds that contain no element, reversed ones
+    /// among them, remove nothing.
     ///
-    /// Drops the parts of the tree between the bounds whole, and makes comparisons only at the two ends of the range,
-    /// as [`remove_range_sync`](TreeIndexOf::remove_range_sync) does. Allocates nothing.
+    /// Drops the parts of the tree between the bounds whole, and makes comparisons only at the two
+    /// ends of the range, as [`remove_range_sync`](TreeIndexOf::remove_range_sync) does. Allocates
+    /// nothing.
     ///
     /// ```
     /// set.remove_range((Bound::Included(&3), Bound::Excluded(&9)));
@@ -121,7 +124,8 @@ impl<K: IndexKey, const LEN: usize> TreeSetOf<K, LEN> {
         self.index.remove_range_sync(bounds);
     }
 
-    /// Removes all elements. Drops each once. Allocates nothing, and keeps the memory of the tree for later inserts.
+    /// Removes all elements. Drops each once. Allocates nothing, and keeps the memory of the tree
+    /// for later inserts.
     ///
     /// ```
     /// set.clear();
@@ -135,8 +139,8 @@ impl<K: IndexKey, const LEN: usize> TreeSetOf<K, LEN> {
 
     /// Returns the element that equals the given one, as it is stored.
     ///
-    /// Makes at most `4 * (depth + 1)` comparisons with 15 elements a leaf, and `3 * (depth + 1)` with 7. Allocates
-    /// nothing.
+    /// Makes at most `4 * (depth + 1)` comparisons with 15 elements a leaf, and `3 * (depth + 1)`
+    /// with 7. Allocates nothing.
     ///
     /// ```
     /// pub fn invitation(invited: &TreeSet<u64>, guest: u64) -> Option<&u64>
@@ -189,8 +193,9 @@ impl<K: IndexKey, const LEN: usize> TreeSetOf<K, LEN> {
 
     /// Returns the elements in ascending order, from both ends. Runs in constant time.
     ///
-    /// The first move of an end descends once. Each move after it reads the next element of its leaf, or follows links up
-    /// to the next leaf with an element, and makes at most one comparison. Allocates nothing.
+    /// The first move of an end descends once. Each move after it reads the next element of its
+    /// leaf, or follows links up to the next leaf with an element, and makes at most one
+    /// comparison. Allocates nothing.
     ///
     /// ```
     /// for element in set {
@@ -206,8 +211,8 @@ impl<K: IndexKey, const LEN: usize> TreeSetOf<K, LEN> {
         ElementsOver::new(self.index.range((Bound::Unbounded, Bound::Unbounded)))
     }
 
-    /// Returns the elements within both bounds in ascending order, from both ends. Bounds that contain no element,
-    /// reversed ones among them, give none. Runs in constant time.
+    /// Returns the elements within both bounds in ascending order, from both ends. Bounds that
+    /// contain no element, reversed ones among them, give none. Runs in constant time.
     ///
     /// The moves cost what those of [`iter`](TreeSetOf::iter) do, and one comparison more.
     ///
@@ -220,10 +225,11 @@ impl<K: IndexKey, const LEN: usize> TreeSetOf<K, LEN> {
         ElementsOver::new(self.index.range(bounds))
     }
 
-    /// Returns the elements that this set or the other has, in ascending order. Of two equal ones it gives this set's.
+    /// Returns the elements that this set or the other has, in ascending order. Of two equal ones
+    /// it gives this set's.
     ///
-    /// Descends once in each set. A move makes at most one comparison between the sets, and at most one move in each.
-    /// Allocates nothing.
+    /// Descends once in each set. A move makes at most one comparison between the sets, and at most
+    /// one move in each. Allocates nothing.
     ///
     /// ```
     /// for digit in first.union(second) {
@@ -243,8 +249,8 @@ impl<K: IndexKey, const LEN: usize> TreeSetOf<K, LEN> {
 
     /// Returns the elements of this set that the other has too, in ascending order.
     ///
-    /// Descends once in each set. A move makes at most one comparison between the sets for each element that it passes
-    /// in either. Allocates nothing.
+    /// Descends once in each set. A move makes at most one comparison between the sets for each
+    /// element that it passes in either. Allocates nothing.
     ///
     /// ```
     /// for digit in first.intersection(second) {
@@ -279,8 +285,8 @@ impl<K: IndexKey, const LEN: usize> TreeSetOf<K, LEN> {
         }
     }
 
-    /// Returns the elements that one of the two sets has and the other lacks, in ascending order. Costs what
-    /// [`intersection`](TreeSetOf::intersection) does.
+    /// Returns the elements that one of the two sets has and the other lacks, in ascending order.
+    /// Costs what [`intersection`](TreeSetOf::intersection) does.
     ///
     /// ```
     /// for digit in first.symmetric_difference(second) {
@@ -300,7 +306,8 @@ impl<K: IndexKey, const LEN: usize> TreeSetOf<K, LEN> {
         }
     }
 
-    /// Returns the smallest element, or `None` if the set is empty. Descends once, and makes no comparison.
+    /// Returns the smallest element, or `None` if the set is empty. Descends once, and makes no
+    /// comparison.
     ///
     /// ```
     /// (set.first().copied(), set.last().copied())
@@ -312,7 +319,8 @@ impl<K: IndexKey, const LEN: usize> TreeSetOf<K, LEN> {
         Some(element)
     }
 
-    /// Returns the largest element, or `None` if the set is empty. Descends once, and makes no comparison.
+    /// Returns the largest element, or `None` if the set is empty. Descends once, and makes no
+    /// comparison.
     ///
     /// ```
     /// (set.first().copied(), set.last().copied())

@@ -7,13 +7,14 @@ use std::cmp::Ordering;
 use std::iter::FusedIterator;
 use std::marker::Model;
 use tree_chain::Walked;
+use tree_cursors::range::Ranged;
 use tree_leaf::leaf::LeafOf;
 use tree_node::node::ArenasOf;
-use tree_ranges::range::Ranged;
 
 /// The elements that one of two sets has and the other lacks, in ascending order.
 ///
-/// A move makes at most one comparison between the sets for each element that it passes. Allocates nothing.
+/// A move makes at most one comparison between the sets for each element that it passes. Allocates
+/// nothing.
 #[derive(Drop)]
 pub struct SymmetricDifferenceOver<'t, K: Ord, A: Ranged<K, (), L>, L: Walked> {
     pub(crate) first: Ahead<'t, K, A, L>,
@@ -55,7 +56,7 @@ impl<'t, K: Ord + Drop + 't, const LEN: usize> Iterator
 impl<'t, K: Ord + Drop + 't, const LEN: usize> FusedIterator
     for SymmetricDifferenceOver<'t, K, ArenasOf<K, (), LEN>, LeafOf<K, (), LEN>> {}
 
-/// Takes the first element that one has and the other lacks.
+// Takes the first element that one has and the other lacks.
 fn of_one<'t, K: Ord + Drop + 't, const LEN: usize>(
     first: &mut Ahead<'t, K, ArenasOf<K, (), LEN>, LeafOf<K, (), LEN>>,
     second: &mut Ahead<'t, K, ArenasOf<K, (), LEN>, LeafOf<K, (), LEN>>,

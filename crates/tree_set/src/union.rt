@@ -6,13 +6,15 @@ use std::cmp::Ordering;
 use std::iter::FusedIterator;
 use std::marker::Model;
 use tree_chain::Walked;
+use tree_cursors::range::Ranged;
 use tree_leaf::leaf::LeafOf;
 use tree_node::node::ArenasOf;
-use tree_ranges::range::Ranged;
 
-/// The elements of either of two sets, in ascending order. Of two equal ones it gives that of the first set.
+/// The elements of either of two sets, in ascending order. Of two equal ones it gives that of the
+/// first set.
 ///
-/// A move makes at most one comparison between the sets, and at most one move in each. Allocates nothing.
+/// A move makes at most one comparison between the sets, and at most one move in each. Allocates
+/// nothing.
 #[derive(Drop)]
 pub struct UnionOver<'t, K: Ord, A: Ranged<K, (), L>, L: Walked> {
     pub(crate) first: Ahead<'t, K, A, L>,

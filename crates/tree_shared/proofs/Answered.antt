@@ -11,9 +11,9 @@ use Rattle.tree_model.specs.History.{Log, IsAnswered, Appends}
 use Rattle.tree_model.specs.Runs.{Step}
 use Rattle.tree_shared.specs.Replies.{is_reply_to}
 use Rattle.tree_state.specs.Inserts.{RecordsInsert}
-use Rattle.tree_tallies.specs.Tallies.{is_refused, is_removed, found_value, tally, raised, reply_of_insert}
-use Rattle.tree_tallies.specs.declared.tally.Tally.{Tally}
-use Rattle.tree_tallies.proofs.Tallied.{tally_next}
+use Rattle.tree_state.specs.Tallies.{is_refused, is_removed, found_value, tally, raised, reply_of_insert}
+use Rattle.tree_state.specs.declared.tally.Tally.{Tally}
+use Rattle.tree_state.proofs.Tallied.{tally_next}
 
 -- an answer is of the command's kind
 reply_kind : {K V S : Type 0} (cmp : K → K → Ordering) (seen : V → S) (old new : List (K × V)) (command : Command K V) (reply : Reply V) → Step cmp seen old command reply new → IsAnswered reply → is_reply_to command reply ≡ true

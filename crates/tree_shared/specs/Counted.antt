@@ -4,8 +4,8 @@ use Rattle.tree_model.specs.declared.commands.Command.{Command}
 use Rattle.tree_model.specs.declared.commands.InsertError.{InsertError}
 use Rattle.tree_model.specs.declared.commands.Reply.{Reply}
 use Rattle.tree_shared.specs.Replies.{is_reply_to}
-use Rattle.tree_tallies.specs.Tallies.{raised, pair_of, reply_of_insert, reply_of_upsert}
-use Rattle.tree_tallies.specs.declared.tally.Tally.{Tally}
+use Rattle.tree_state.specs.Tallies.{raised, pair_of, reply_of_insert, reply_of_upsert}
+use Rattle.tree_state.specs.declared.tally.Tally.{Tally}
 
 -- A reply is of the command's kind, and counted. A refused command comes back, and nothing is counted.
 pub record IsCounted {K V : Type 0} (command : Command K V) (answer : Result (Reply V) (Command K V)) (old new : Tally) : Type 0 where

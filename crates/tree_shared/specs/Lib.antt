@@ -1,3 +1,4 @@
 pub mod Counted
 pub mod Recorded
 pub mod Replies
+pub mod Workers

@@ -5,7 +5,7 @@ use std::error::Error;
 use std::fmt;
 use std::sync::ledger::Ledger;
 use tree_index::{IndexKey, Record, SameClone, TreeIndexOf};
-use tree_tallies::{Pass, Tally};
+use tree_state::{Pass, Tally};
 
 /// What a closed index of fifteen pairs a leaf leaves. See [`ClosedOf`].
 pub type Closed<K, V> = ClosedOf<K, V, 15>;

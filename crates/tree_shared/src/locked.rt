@@ -4,14 +4,13 @@ ghost use Rattle.tree_model.specs.History.{Appends};
 ghost use Rattle.tree_state.specs.Inserts.{RecordsInsert};
 ghost use Rattle.tree_shared.specs.Counted.{IsCounted, IsInsertCounted, IsUpsertCounted};
 ghost use Rattle.tree_shared.specs.Recorded.{RecordsCommand, RecordsUpsert};
-ghost use Rattle.tree_tallies.specs.Tallies.{raised, tally, reply_of_insert, reply_of_upsert, pair_of};
+ghost use Rattle.tree_state.specs.Tallies.{raised, tally, reply_of_insert, reply_of_upsert, pair_of};
 ghost use Rattle.tree_shared.specs.Replies.{is_reply_to};
 
 use crate::serves::Serves;
 use std::sync::ledger::Ledger;
 use tree_index::{Command, IndexKey, InsertError, Reply, SameClone};
-use tree_state::{PreparedPair, StateOf};
-use tree_tallies::{Books, Pass, Workers};
+use tree_state::{Books, Pass, PreparedPair, StateOf, Workers};
 
 /// What lies under the lock: the state, and the books that tally its history. `LEN` is 7 or 15.
 pub struct Locked<

@@ -1,14 +1,15 @@
 //! What a lock guards, as a call sees it that takes the lock.
 ghost use Rattle.std.specs.Prelude.{◌<◌};
-ghost use Rattle.tree_tallies.specs.declared.tally.Tally.{Tally};
+ghost use Rattle.tree_state.specs.declared.tally.Tally.{Tally};
 
 use std::sync::ledger::Ledger;
 use std::sync::{Mutex, Wait};
-use tree_tallies::Pass;
+use tree_state::Pass;
 
 /// What answers requests, and counts the answers in the pass of the worker that asks.
 ///
-/// A call that takes the lock knows what it guards by this trait alone, so it speaks of no number of slots.
+/// A call that takes the lock knows what it guards by this trait alone, so it speaks of no number
+/// of slots.
 pub trait Serves<Q, A, C: Ledger, S: Ledger, M: Ledger, F: Ledger, D: Ledger>: Drop {
     // What an answer to a request makes of the pass's tally.
     ghost counts: { Q → A → Tally → Tally → Type 0 };
@@ -25,8 +26,8 @@ pub trait Serves<Q, A, C: Ledger, S: Ledger, M: Ledger, F: Ledger, D: Ledger>: D
 
 /// Takes the lock, and answers a request under it.
 ///
-/// No clause sees what the lock guards. But nothing else makes an `A` of a `Q`, so the answer is what `serve` gave to
-/// this request.
+/// No clause sees what the lock guards. But nothing else makes an `A` of a `Q`, so the answer is
+/// what `serve` gave to this request.
 #[inline(always)]
 pub fn serve<
     Q,

@@ -3,9 +3,9 @@ ghost use Rattle.std.specs.Prelude.{◌≡◌, ◌+◌, ◌<◌, All, true, vec_
 ghost use Rattle.tree_array.specs.Length.{IsLen};
 ghost use Rattle.tree_model.specs.History.{IsHistoryOf, IsSameBound};
 ghost use Rattle.tree_model.specs.Pairs.{lent_bound};
-ghost use Rattle.tree_tallies.specs.Ledgers.{IsBlankFor};
+ghost use Rattle.tree_state.specs.Ledgers.{IsBlankFor};
 ghost use Rattle.tree_shared.specs.Replies.{is_reply_to};
-ghost use Rattle.tree_tallies.specs.Tallies.{none, raised, sum_of, tally, pair_of, reply_of_insert, reply_of_upsert, reply_of_remove, reply_of_removal, reply_of_peek};
+ghost use Rattle.tree_state.specs.Tallies.{none, raised, sum_of, tally, pair_of, reply_of_insert, reply_of_upsert, reply_of_remove, reply_of_removal, reply_of_peek};
 
 use crate::closing::{ClosedOf, UnclosedOf};
 use crate::locked::Locked;
@@ -17,16 +17,17 @@ use std::ops::Bound;
 use std::sync::ledger::Ledger;
 use std::sync::{Mutex, Wait};
 use tree_index::{Command, IndexKey, InsertError, Record, Reply, SameClone, TreeIndexOf};
-use tree_state::{PreparedPair, StateOf};
-use tree_tallies::{Blanks, Books, Ledgers, Pass, Workers, found_value, is_removed};
+use tree_state::{
+    Blanks, Books, Ledgers, Pass, PreparedPair, StateOf, Workers, found_value, is_removed,
+};
 
 /// An index of fifteen pairs a leaf that threads share by reference. See [`SharedTreeIndexOf`].
 pub type SharedTreeIndex<K, V, C, S, M, F, D> = SharedTreeIndexOf<K, V, C, S, M, F, D, 15>;
 
 /// An index that threads share by reference, each with a pass of its own. `LEN` is 7 or 15.
 ///
-/// One lock guards the index, the history of its calls and the tally of the history, and each call takes it once. A
-/// call is counted in the pass it is made by.
+/// One lock guards the index, the history of its calls and the tally of the history, and each call
+/// takes it once. A call is counted in the pass it is made by.
 #[derive(Drop)]
 pub struct SharedTreeIndexOf<
     K: IndexKey + SameClone,
@@ -53,8 +54,8 @@ impl<
 > SharedTreeIndexOf<K, V, C, S, M, F, D, LEN> {
     /// Creates an empty index, and a pass for each worker, which has counted nothing.
     ///
-    /// Returns `Err` if an allocation is refused. The caller must choose 7 or 15 for `LEN`, and make the blanks for as
-    /// many workers.
+    /// Returns `Err` if an allocation is refused. The caller must choose 7 or 15 for `LEN`, and
+    /// make the blanks for as many workers.
     ///
     /// ```
     /// let (owners, mut passes) = SharedTreeIndex::<u64, u64, C, S, M, F, D>::new(alloc, 2, blanks)?;
@@ -98,9 +99,9 @@ impl<
 
     /// Stores a pair if its key is absent.
     ///
-    /// Returns `Duplicate` if the key is present, and `OutOfMemory` if an allocation is refused, for the pair or for
-    /// the history, also where the key is present. Both hand the pair back. After `OutOfMemory` nothing changed. Clones
-    /// the pair before it takes the lock.
+    /// Returns `Duplicate` if the key is present, and `OutOfMemory` if an allocation is refused,
+    /// for the pair or for the history, also where the key is present. Both hand the pair back.
+    /// After `OutOfMemory` nothing changed. Clones the pair before it takes the lock.
     ///
     /// ```
     /// for number in numbers {
@@ -119,7 +120,8 @@ impl<
         ensures pair { IfErr result (λ e. pair_of e ≡ (key, value)) }
     {
         match PreparedPair::new(key, value) {
-            // No clause sees that this is an insert: an upsert that stores its pair is counted alike.
+            // No clause sees that this is an insert: an upsert that stores its pair is counted
+            // alike.
             Ok(pair) => serve(&self.locked, rt, pass, pair),
             Err((key, value)) => Err(InsertError::OutOfMemory(key, value)),
         }
@@ -127,8 +129,8 @@ impl<
 
     /// Stores a pair. A pair with an equal key is replaced, key and value.
     ///
-    /// Returns `Err` with the pair if an allocation is refused; nothing changed then. Clones the pair before it takes
-    /// the lock.
+    /// Returns `Err` with the pair if an allocation is refused; nothing changed then. Clones the
+    /// pair before it takes the lock.
     ///
     /// ```
     /// Command::Upsert(key, value) => match shared.upsert(rt, pass, *key, *value) {
@@ -156,7 +158,8 @@ impl<
 
     /// Removes the pair with a key. Returns whether there was one.
     ///
-    /// Returns `Err` if an allocation is refused; nothing changed then. Clones the key before it takes the lock.
+    /// Returns `Err` if an allocation is refused; nothing changed then. Clones the key before it
+    /// takes the lock.
     ///
     /// ```
     /// Command::Remove(key) => Reply::Removed(shared.remove(rt, pass, key)?),
@@ -179,7 +182,8 @@ impl<
 
     /// Removes every pair whose key is within both bounds.
     ///
-    /// Returns `Err` if an allocation is refused; nothing changed then. Clones the bounds before it takes the lock.
+    /// Returns `Err` if an allocation is refused; nothing changed then. Clones the bounds before it
+    /// takes the lock.
     ///
     /// ```
     /// shared.remove_range(rt, pass, (low.as_ref(), high.as_ref()))?;
@@ -193,7 +197,8 @@ impl<
         requires { pass.old.calls < u64.MAX }
         ensures { pass.new ≡ raised {V = V} pass.old (reply_of_removal result) }
     {
-        // No clause sees which bounds are removed: the lock hides the history, and a pass has numbers alone.
+        // No clause sees which bounds are removed: the lock hides the history, and a pass has
+        // numbers alone.
         let (low, high) = cloned_bounds(bounds)?;
         match self.apply(rt, pass, Command::RemoveRange(low, high)) {
             Ok(_) => Ok(()),
@@ -220,7 +225,8 @@ impl<
 
     /// Returns a clone of the value of a key.
     ///
-    /// Returns `Err` if an allocation is refused; nothing changed then. Clones the key before it takes the lock.
+    /// Returns `Err` if an allocation is refused; nothing changed then. Clones the key before it
+    /// takes the lock.
     ///
     /// ```
     /// Command::Peek(key) => Reply::Found(shared.peek(rt, pass, key)?),
@@ -309,7 +315,8 @@ impl<
     pub fn into_parts(self) -> (TreeIndexOf<K, V, LEN>, Vec<Record<K, V>>)
         ensures { IsHistoryOf K.cmp K.seen V.seen result.1.items result.0.pairs }
     {
-        // No clause sees that this is what the lock guarded: without the passes nothing here tells its numbers.
+        // No clause sees that this is what the lock guarded: without the passes nothing here tells
+        // its numbers.
         let (state, _books, _workers) = self.locked.into_inner().into_parts();
         state.into_parts()
     }

@@ -5,17 +5,18 @@ use crate::slot::Slot;
 use std::array;
 use std::mem::ManuallyDrop;
 
-/// A row of `LEN` slots, of the size of `LEN` values. A contract sees the value or `None` of each slot.
+/// A row of `LEN` slots, of the size of `LEN` values. A contract sees the value or `None` of each
+/// slot.
 ///
-/// As with a [`Slot`], no byte says which slots own a value, and a row is not dropped by itself: it ends by
-/// [`discard`](Row::discard), which wants every slot empty. Each call runs in constant time but
-/// [`with`](Row::with) and [`spare`](Row::spare), which copy one slot's bytes into each slot.
+/// As with a [`Slot`], no byte says which slots own a value, and a row is not dropped by itself: it
+/// ends by [`discard`](Row::discard), which wants every slot empty. Each call runs in constant time
+/// but [`with`](Row::with) and [`spare`](Row::spare), which copy one slot's bytes into each slot.
 pub struct Row<T, const LEN: usize> {
     slots: [Slot<T>; LEN],
     ghost whole: { length slots ≡ LEN },
 }
 
-/// An empty slot, of which a row takes its bytes.
+// An empty slot, of which a row takes its bytes.
 struct Blank<T> {
     slot: Slot<T>,
     ghost empty: { is_some slot ≡ false },
@@ -61,7 +62,8 @@ impl<T, const LEN: usize> Row<T, LEN> {
         Row { slots }
     }
 
-    /// Creates a row without a value, whose bytes are copies of the first slot's. This row stays what it was.
+    /// Creates a row without a value, whose bytes are copies of the first slot's. This row stays
+    /// what it was.
     pub fn spare(&mut self) -> Self
         requires { 0 < LEN }
         ensures empty { result.slots ≡ replicate LEN None }
@@ -92,7 +94,8 @@ impl<T, const LEN: usize> Row<T, LEN> {
         self.slots[index].put(value);
     }
 
-    /// Takes the value out of a slot and leaves it empty. The caller must know that there is a value.
+    /// Takes the value out of a slot and leaves it empty. The caller must know that there is a
+    /// value.
     pub fn take(&mut self, index: usize) -> T
         requires { IsSome (slice_index_or self.old.slots index None) }
         ensures value { slice_index_or self.old.slots index None ≡ Some result }
@@ -101,7 +104,8 @@ impl<T, const LEN: usize> Row<T, LEN> {
         self.slots[index].take()
     }
 
-    /// Puts a value into a slot and returns the one that was there. The caller must know that there was one.
+    /// Puts a value into a slot and returns the one that was there. The caller must know that there
+    /// was one.
     pub fn replace(&mut self, index: usize, value: T) -> T
         requires { IsSome (slice_index_or self.old.slots index None) }
         ensures before { slice_index_or self.old.slots index None ≡ Some result }

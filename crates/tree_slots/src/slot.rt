@@ -6,11 +6,13 @@ ghost use Rattle.tree_slots.specs.Slot.{owned, lent};
 use std::marker::{Move, Owns, Send, Sync};
 use std::mem::{self, ManuallyDrop};
 
-/// Memory for one value, of the size of the value. A contract sees the value that the slot owns, or `None`.
+/// Memory for one value, of the size of the value. A contract sees the value that the slot owns, or
+/// `None`.
 ///
-/// The bytes of an empty slot are a copy of some value's bytes, which nothing owns and nothing reads.
-/// A slot is not dropped by itself: it ends by [`into_inner`](Slot::into_inner), which wants a value, or by
-/// [`discard`](Slot::discard), which wants none. So no value is leaked, and none is dropped twice.
+/// The bytes of an empty slot are a copy of some value's bytes, which nothing owns and nothing
+/// reads. A slot is not dropped by itself: it ends by [`into_inner`](Slot::into_inner), which wants
+/// a value, or by [`discard`](Slot::discard), which wants none. So no value is leaked, and none is
+/// dropped twice.
 pub struct Slot<T> {
     value: T,
 }

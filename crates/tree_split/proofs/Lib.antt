@@ -4,7 +4,11 @@ pub mod Boundaries
 pub mod Common
 pub mod Edges
 pub mod Fulls
+pub mod LeafRooms
+pub mod LeafSplits
 pub mod LowSplits
+pub mod NodeRooms
+pub mod NodeSplits
 pub mod PackedSplits
 pub mod Rebuilds
 pub mod Results

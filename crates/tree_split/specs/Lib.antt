@@ -1,2 +1,5 @@
+pub mod DividesLeaf
+pub mod DividesNode
+pub mod Lasts
 pub mod Packed
 pub mod Splits

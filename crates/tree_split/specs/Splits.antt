@@ -1,4 +1,4 @@
--- What making room in a part leaves: a child that has none gives its lower part to a new child before it, or is built anew.
+-- What making room in a part leaves: a child that has none gives its lower part to a new child before it, or is rebuilt.
 use Rattle.std.specs.Prelude.{◌≡◌, ◌⊎◌, ℕ, suc, ◌-◌, ◌<◌, ◌≤◌, ◌==◌, ◌&&◌, Bool, true, false, List, [], ◌∷◌, ◌++◌, length, Option, Some, None, if◌then◌else◌}
 use Rattle.std.specs.Ordering.{is_lt}
 use Rattle.tree_node.specs.Arenas.{AllByRecursion, Arrivals, LeafOf, Less, Ordering, TreeArenas, boundary, get, in_order, leaf_entries, limit, times}
@@ -8,7 +8,7 @@ use Rattle.tree_node.specs.Shape.{held, room, found_keyed, spare}
 use Rattle.tree_node.specs.Tree.{IsAbove, IsUpTo, HasChildFor, Stands, keyed, unbounded, children_of, walk}
 use Rattle.tree_split.specs.Packed.{HasLast, IsPacked}
 
--- The parent takes no child more, and the child has too many to be built anew. Nothing has changed.
+-- The parent takes no child more, and the child has too many to be rebuilt. Nothing has changed.
 pub record LacksRoom {K V : Type 0} {LEN : ℕ} (level : ℕ) (old new : TreeArenas K V LEN) (parent target : ℕ) : Type 0 where
   pub full : room level old parent ≡ 0
   pub many : limit LEN < held (level - 1) old target
@@ -19,7 +19,7 @@ abbrev pub node_boundary : {K : Type 0} {LEN : ℕ} → (K → K → Ordering) �
 node_boundary cmp None = 0
 node_boundary {LEN = LEN} cmp (Some node) = (boundary cmp LEN (keyed node)).0
 
--- The child was built anew over its children, of which it had few; or its parent had room, and a new node got the first of them, up to the one at the boundary.
+-- The child was rebuilt over its children, of which it had few; or its parent had room, and a new node got the first of them, up to the one at the boundary.
 abbrev pub SharesChildren : {K V : Type 0} {LEN : ℕ} → (K → K → Ordering) → ℕ → TreeArenas K V LEN → TreeArenas K V LEN → ℕ → ℕ → Type 0
 SharesChildren {LEN = LEN} cmp level old new parent target =
     ((held (level - 1) old target ≤ limit LEN) × (children_of new.nodes target ≡ children_of old.nodes target))
@@ -114,7 +114,7 @@ abbrev pub GivesFirst : {K V : Type 0} {LEN : ℕ} → TreeArenas K V LEN → Tr
 GivesFirst old new target count =
     (low : ℕ) × (get old.leaves low ≡ None) × (length (leaf_entries new.leaves low) ≡ count) × (leaf_entries old.leaves target ≡ leaf_entries new.leaves low ++ leaf_entries new.leaves target)
 
--- The leaf was built anew with its entries, of which it had few; or its node had room, and a new leaf got the first of them, by the rule.
+-- The leaf was rebuilt with its entries, of which it had few; or its node had room, and a new leaf got the first of them, by the rule.
 abbrev pub SharesEntries : {K V : Type 0} {LEN : ℕ} → (K → K → Ordering) → TreeArenas K V LEN → TreeArenas K V LEN → ℕ → ℕ → K → Type 0
 SharesEntries {LEN = LEN} cmp old new id target key =
     ((held 0 old target ≤ limit LEN) × (leaf_entries new.leaves target ≡ leaf_entries old.leaves target))

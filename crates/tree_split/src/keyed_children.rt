@@ -7,8 +7,8 @@ ghost use Rattle.tree_node.specs.Arenas.{boundary, limit, stored};
 
 use tree_array::array::ArrayOf;
 
-/// Returns the place of the child at which the array divides, which is its boundary, or `None` if the array is built anew
-/// instead.
+/// Returns the place of the child at which the array divides, which is its boundary, or `None` if
+/// the array is rebuilt instead.
 pub fn parting_place<K: Ord + Drop, I: Drop, const LEN: usize>(
     children: &ArrayOf<K, I, LEN>,
 ) -> Option<u8>
@@ -25,8 +25,8 @@ pub fn parting_place<K: Ord + Drop, I: Drop, const LEN: usize>(
     }
 }
 
-/// Puts a child under its separator. Makes one comparison if the separator is larger than all, else at most 5 (4 among
-/// 7 slots). The caller must pass a separator that is new in an array with room.
+/// Puts a child under its separator. Makes one comparison if the separator is larger than all, else
+/// at most 5 (4 among 7 slots). The caller must pass a separator that is new in an array with room.
 pub fn put_keyed<K: Ord + Drop, I: Drop, const LEN: usize>(
     children: &mut ArrayOf<K, I, LEN>,
     separator: K,

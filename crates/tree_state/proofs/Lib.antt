@@ -1,1 +1,5 @@
+pub mod Climbs
 pub mod Rooms
+pub mod Schedules
+pub mod Served
+pub mod Tallied

@@ -7,7 +7,7 @@ use Rattle.tree_model.specs.declared.commands.InsertError.{InsertError}
 use Rattle.tree_model.specs.declared.commands.InsertError.TheVariants.{Duplicate, OutOfMemory}
 use Rattle.tree_model.specs.History.{Log, Appends}
 
--- The pair was stored, or comes back as a duplicate, and the call went into the history. Or the pair comes back for want of memory, and nothing changed.
+-- The pair was stored, or comes back as a duplicate, and the call went into the history. Or the pair comes back for lack of memory, and nothing changed.
 abbrev pub RecordsInsert : {K V A B T : Type 0} → (K → K → Ordering) → (K → A) → (V → B) → Log K V → Log K V → K → V → Result T (InsertError K V) → Type 0
 RecordsInsert cmp seen_key seen old new k v (Ok _) = Appends cmp seen_key seen old new (Insert k v) reply.Stored
 RecordsInsert cmp seen_key seen old new k v (Err (Duplicate key value)) = Appends cmp seen_key seen old new (Insert k v) reply.Duplicate × (key ≡ k) × (value ≡ v)

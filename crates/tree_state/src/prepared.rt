@@ -9,7 +9,8 @@ use tree_index::{IndexKey, SameClone};
 
 /// A pair with the clones of it that a history keeps. Contracts see the pair.
 ///
-/// Who shares a state behind a lock prepares a pair before taking the lock, so that these clones aren't made under it.
+/// Who shares a state behind a lock prepares a pair before taking the lock, so that these clones
+/// aren't made under it.
 #[derive(Drop)]
 pub struct PreparedPair<K: IndexKey + SameClone, V: SameClone> {
     pub(crate) key: K,
@@ -60,7 +61,7 @@ impl<K: IndexKey + SameClone + fmt::Debug, V: SameClone + fmt::Debug> fmt::Debug
     }
 }
 
-/// Clones a key and a value.
+// Clones a key and a value.
 fn cloned_pair<K: IndexKey + SameClone, V: SameClone>(
     key: &K,
     value: &V,

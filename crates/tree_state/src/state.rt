@@ -15,10 +15,11 @@ use tree_index::{Command, IndexKey, InsertError, Record, Reply, SameClone, TreeI
 /// An index of fifteen pairs a leaf with the history of its calls. See [`StateOf`].
 pub type State<K, V> = StateOf<K, V, 15>;
 
-/// An index with the history of its calls. Contracts see the list of its pairs and the history. `LEN` is 7 or 15.
+/// An index with the history of its calls. Contracts see the list of its pairs and the history.
+/// `LEN` is 7 or 15.
 ///
-/// The type keeps that the history replays to that list: from the empty list, each reply is the one that the list
-/// gives, and none is `Refused`.
+/// The type keeps that the history replays to that list: from the empty list, each reply is the one
+/// that the list gives, and none is `Refused`.
 pub struct StateOf<K: IndexKey + SameClone, V: SameClone, const LEN: usize> {
     index: TreeIndexOf<K, V, LEN>,
     history: Vec<Record<K, V>>,
@@ -44,7 +45,8 @@ impl<K: IndexKey + SameClone, V: SameClone, const LEN: usize> Model for StateOf<
 }
 
 impl<K: IndexKey + SameClone, V: SameClone, const LEN: usize> StateOf<K, V, LEN> {
-    /// Creates an empty index without a history. Allocates nothing. The caller must choose 7 or 15 for `LEN`.
+    /// Creates an empty index without a history. Allocates nothing. The caller must choose 7 or 15
+    /// for `LEN`.
     ///
     /// ```
     /// let mut state: State<u64, u64> = State::new(alloc);
@@ -74,8 +76,8 @@ impl<K: IndexKey + SameClone, V: SameClone, const LEN: usize> StateOf<K, V, LEN>
         &self.index
     }
 
-    /// Returns the answered commands in order, each with its reply. Its keys and values are clones of those that were
-    /// passed.
+    /// Returns the answered commands in order, each with its reply. Its keys and values are clones
+    /// of those that were passed.
     ///
     /// ```
     /// Ok(has_the_calls(state.history()))
@@ -109,8 +111,9 @@ impl<K: IndexKey + SameClone, V: SameClone, const LEN: usize> StateOf<K, V, LEN>
 
     /// Answers a command, and appends a clone of it with its reply to the history.
     ///
-    /// Returns `Err` with the command if an allocation is refused; index and history are then as they were. The room
-    /// for the record and the clones are allocated before the index changes. A reply is never `Refused`.
+    /// Returns `Err` with the command if an allocation is refused; index and history are then as
+    /// they were. The room for the record and the clones are allocated before the index changes. A
+    /// reply is never `Refused`.
     ///
     /// ```
     /// match state.apply(*command) {
@@ -139,7 +142,8 @@ impl<K: IndexKey + SameClone, V: SameClone, const LEN: usize> StateOf<K, V, LEN>
         }
     }
 
-    /// Does what [`apply`](StateOf::apply) does with an insert, and hands the pair back for a duplicate too.
+    /// Does what [`apply`](StateOf::apply) does with an insert, and hands the pair back for a
+    /// duplicate too.
     ///
     /// After `OutOfMemory` index and history are as they were.
     ///
@@ -158,7 +162,8 @@ impl<K: IndexKey + SameClone, V: SameClone, const LEN: usize> StateOf<K, V, LEN>
         }
     }
 
-    /// Does what [`insert`](StateOf::insert) does, with a pair whose clones for the history are made.
+    /// Does what [`insert`](StateOf::insert) does, with a pair whose clones for the history are
+    /// made.
     ///
     /// ```
     /// match PreparedPair::new(key, value) {
@@ -209,9 +214,11 @@ impl<K: IndexKey + SameClone, V: SameClone, const LEN: usize> StateOf<K, V, LEN>
         }
     }
 
-    /// Does what [`apply`](StateOf::apply) does with an upsert, with a pair whose clones for the history are made.
+    /// Does what [`apply`](StateOf::apply) does with an upsert, with a pair whose clones for the
+    /// history are made.
     ///
-    /// Returns `Err` with the pair if an allocation is refused; index and history are then as they were.
+    /// Returns `Err` with the pair if an allocation is refused; index and history are then as they
+    /// were.
     ///
     /// ```
     /// match self.upsert_prepared(pair) {

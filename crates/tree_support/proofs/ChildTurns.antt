@@ -1,9 +1,9 @@
 -- The turn of a child, as a walk goes through the slots of an array of children.
-use Rattle.tree_walk.proofs.Common.{◌≡◌, ℕ, List, [], ◌∷◌, map, drop, slice_get, Some, None, IsSome, refl, ap, AllByRecursion, Arrivals, StepsOn, Walk, arrival, in_turn}
-use Rattle.tree_walk.proofs.Common.{place_ahead, standing, all_middle}
-use Rattle.tree_walk.proofs.InTurn.{child_at, reachable_at}
-use Rattle.tree_walk.specs.Children.{keyed_children}
-pub use Rattle.tree_walk.specs.Children.{IsOverKeyed}
+use Rattle.tree_parts.proofs.Common.{◌≡◌, ℕ, List, [], ◌∷◌, map, drop, slice_get, Some, None, IsSome, refl, ap, AllByRecursion, Arrivals, StepsOn, Walk, arrival, in_turn}
+use Rattle.tree_parts.proofs.Common.{place_ahead, standing, all_middle}
+use Rattle.tree_parts.proofs.InTurn.{child_at, reachable_at}
+use Rattle.tree_parts.specs.Children.{keyed_children}
+pub use Rattle.tree_parts.specs.Children.{IsOverKeyed}
 use Rattle.tree_model.proofs.Lists.{all_at}
 use Rattle.tree_node.proofs.Cuts.{all_front}
 

@@ -17,7 +17,7 @@ pub enum Flaw {
     Pairs,
 }
 
-/// Returns the flaw unless this holds.
+// Returns the flaw unless this holds.
 pub(crate) fn expect(holds: bool, flaw: Flaw) -> Result<(), Flaw> {
     if holds { Ok(()) } else { Err(flaw) }
 }

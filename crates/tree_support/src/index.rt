@@ -3,8 +3,8 @@ use crate::flaw::{Flaw, expect};
 use crate::walker::walk;
 use tree_index::TreeIndexOf;
 
-/// Walks the tree of an index, down its levels and along its leaves. Returns `Err` if it isn't whole or its pairs aren't
-/// these.
+/// Walks the tree of an index, down its levels and along its leaves. Returns `Err` if it isn't
+/// whole or its pairs aren't these.
 pub fn flaws<const LEN: usize>(
     index: &TreeIndexOf<u64, u64, LEN>,
     pairs: &[(u64, u64)],

@@ -1,5 +1,6 @@
-//! What the tests of an index and of its nodes share: a walk over a tree, which tells what is wrong with it, keys that count their
-//! comparisons, an index of numbers as tests call it, and scenarios that are played over an index of either size.
+//! What the tests of an index and of its nodes share: a walk over a tree, which tells what is wrong
+//! with it, keys that count their comparisons, an index of numbers as tests call it, and scenarios
+//! that are played over an index of either size.
 #![tactic(auto)]
 
 mod asked;

@@ -6,8 +6,9 @@ use tree_index::{InsertError, TreeIndexOf};
 
 /// An index of numbers, as its tests call it.
 ///
-/// Each function makes one call. To the proof of a test that is written over any such index its type is a bare name, and calls
-/// have no clauses. So a function that makes many calls costs little, where each call on an index makes its proof dearer.
+/// Each function makes one call. To the proof of a test that is written over any such index its
+/// type is a bare name, and calls have no clauses. So a function that makes many calls costs
+/// little, where each call on an index makes its proof dearer.
 pub trait Numbers {
     /// Returns how many pairs a leaf holds.
     fn pairs_a_leaf(&self) -> usize;
@@ -40,7 +41,8 @@ pub trait Numbers {
     fn peek(&self, key: u64) -> Option<u64>;
 }
 
-/// The calls that few tests make. So the proof of a test that passes an index as one of [`Numbers`] has none of them.
+/// The calls that few tests make. So the proof of a test that passes an index as one of [`Numbers`]
+/// has none of them.
 pub trait MoreCalls: Numbers {
     /// Calls `replace_sync`.
     fn replace(&mut self, key: u64, value: u64) -> Result<u64, u64>;
@@ -81,8 +83,8 @@ pub trait MoreCalls: Numbers {
     /// Keeps the values above this one by `retain_sync`.
     fn keep_larger(&mut self, most: u64);
 
-    /// Removes the pair of the key 1 by `remove_if_sync` if it has this value. Returns whether it did, and how often the
-    /// condition was asked.
+    /// Removes the pair of the key 1 by `remove_if_sync` if it has this value. Returns whether it
+    /// did, and how often the condition was asked.
     fn remove_value(&mut self, wanted: u64) -> (bool, u64);
 
     /// Returns the last pair of a range over all pairs.

@@ -6,8 +6,8 @@ use tree_index::{SmallTreeIndex, TreeIndex};
 
 /// What a test does with an index of numbers.
 ///
-/// A test that passes an index pays for a proof of each call of its trait. A scenario has no type of index, so its test pays for
-/// none: the functions below pass the index, and are proved once.
+/// A test that passes an index pays for a proof of each call of its trait. A scenario has no type
+/// of index, so its test pays for none: the functions below pass the index, and are proved once.
 pub trait Scenario {
     /// Plays it over an empty index. Returns `Err` if memory was refused on the way.
     fn play<I: MoreCalls>(&self, index: &mut I) -> Result<(), AllocError>;
@@ -19,8 +19,9 @@ pub trait OwnScenario<I> {
     fn play(&self, index: &mut I) -> Result<(), AllocError>;
 }
 
-/// Whether a scenario succeeds over an index of fifteen pairs a leaf and over one of seven, at once or, where memory was refused,
-/// the second time. So a test has no closure of its own, of which four functions would be proved.
+/// Whether a scenario succeeds over an index of fifteen pairs a leaf and over one of seven, at once
+/// or, where memory was refused, the second time. So a test has no closure of its own, of which
+/// four functions would be proved.
 pub fn succeeds_at_both_sizes<S: Scenario>(alloc: Global, scenario: &S) -> bool {
     succeeds(alloc, || {
         at_fifteen(alloc, scenario)?;
@@ -28,8 +29,8 @@ pub fn succeeds_at_both_sizes<S: Scenario>(alloc: Global, scenario: &S) -> bool 
     })
 }
 
-/// Plays a scenario. This function and the next ones own an index, so that no test has to: the loans of an owned index are what a
-/// proof costs most for.
+// Plays a scenario. This function and the next ones own an index, so that no test has to: the
+// loans of an owned index are what a proof costs most for.
 fn at_fifteen<S: Scenario>(alloc: Global, scenario: &S) -> Result<(), AllocError> {
     let mut index: TreeIndex<u64, u64> = TreeIndex::new(alloc);
     scenario.play(&mut index)

@@ -1,10 +1,11 @@
-//! Walks over the part of a tree that stands under a number: down its levels, and along the links of its leaves.
+//! Walks over the part of a tree that stands under a number: down its levels, and along the links
+//! of its leaves.
 ghost use Rattle.std.specs.Prelude.{◌<◌, Some};
 ghost use Rattle.std.specs.List.{AllByRecursion};
 ghost use Rattle.std.specs.Ordering.{nat_cmp};
 ghost use Rattle.slab.specs.Slab.{ContainsKey};
 ghost use Rattle.tree_node.specs.Tree.{StandsOrRetired, in_turn};
-ghost use Rattle.tree_walk.specs.Ends.{IsLinked};
+ghost use Rattle.tree_parts.specs.Ends.{IsLinked};
 
 use crate::flaw::{Flaw, expect};
 use tree_array::array::{ArrayIter, ArrayOf, ArrayRevIter};
@@ -12,9 +13,10 @@ use tree_chain::{IterOf, RevIterOf};
 use tree_leaf::arena::{LeafId, NodeId};
 use tree_leaf::leaf::LeafOf;
 use tree_node::node::{ArenasOf, NodeOf};
-use tree_walk::ends::walk_from_end;
+use tree_parts::ends::walk_from_end;
 
-/// What a walk down has met: so many leaves, nodes and pairs, the greatest key or separator, and the last leaf.
+// What a walk down has met: so many leaves, nodes and pairs, the greatest key or separator, and
+// the last leaf.
 #[derive(Drop)]
 struct Met {
     leaves: usize,
@@ -25,7 +27,7 @@ struct Met {
 }
 
 impl Met {
-    /// Nothing yet.
+    // Nothing yet.
     fn new() -> Self {
         Met {
             leaves: 0,
@@ -36,7 +38,7 @@ impl Met {
         }
     }
 
-    /// A key, which is larger than all before it.
+    // A key, which is larger than all before it.
     fn key(&mut self, key: u64) -> Result<(), Flaw> {
         if let Some(low) = self.low {
             expect(low < key, Flaw::Order)?;
@@ -46,7 +48,8 @@ impl Met {
         Ok(())
     }
 
-    /// A separator, which is no smaller than the keys under its child. Before the child so many keys were met.
+    // A separator, which is no smaller than the keys under its child. Before the child so many
+    // keys were met.
     fn separator(&mut self, separator: u64, before: usize) -> Result<(), Flaw> {
         if let Some(low) = self.low {
             expect(low <= separator, Flaw::Order)?;
@@ -56,7 +59,7 @@ impl Met {
         Ok(())
     }
 
-    /// A leaf, which is linked behind the one before it.
+    // A leaf, which is linked behind the one before it.
     fn leaf<V: Drop, const LEN: usize>(
         &mut self,
         id: LeafId,
@@ -68,7 +71,7 @@ impl Met {
         self.keys(leaf.array())
     }
 
-    /// The keys of an array.
+    // The keys of an array.
     fn keys<V: Drop, const LEN: usize>(
         &mut self,
         array: &ArrayOf<u64, V, LEN>,
@@ -130,8 +133,8 @@ fn walk_node<V: Drop, const LEN: usize>(
     }
 }
 
-/// Walks down from a node that is alone in its arenas, and along its leaves. Returns `Err` unless every number in use is met
-/// once and the pairs are these.
+/// Walks down from a node that is alone in its arenas, and along its leaves. Returns `Err` unless
+/// every number in use is met once and the pairs are these.
 pub fn walk<const LEN: usize>(
     arenas: &ArenasOf<u64, u64, LEN>,
     level: usize,
@@ -151,7 +154,7 @@ pub fn walk<const LEN: usize>(
     expect(lists_backward(arenas, level, id, pairs), Flaw::Pairs)
 }
 
-/// Whether the leaves of a part, walked on, have these pairs.
+// Whether the leaves of a part, walked on, have these pairs.
 fn lists_forward<const LEN: usize>(
     arenas: &ArenasOf<u64, u64, LEN>,
     level: usize,
@@ -173,7 +176,7 @@ fn lists_forward<const LEN: usize>(
     following(&mut walk).is_none()
 }
 
-/// Whether the leaves of a part, walked back, have these pairs.
+// Whether the leaves of a part, walked back, have these pairs.
 fn lists_backward<const LEN: usize>(
     arenas: &ArenasOf<u64, u64, LEN>,
     level: usize,
@@ -195,7 +198,7 @@ fn lists_backward<const LEN: usize>(
     preceding(&mut walk).is_none()
 }
 
-/// The pair of an entry.
+// The pair of an entry.
 pub(crate) fn copied(entry: Option<(&u64, &u64)>) -> Option<(u64, u64)> {
     let (key, value) = entry?;
     Some((*key, *value))

@@ -5,7 +5,7 @@ use test_support::refusals::succeeds;
 use tree_index::{Command, Record, Reply};
 use tree_state::{State, StateOf};
 
-/// Calls of a new state, and the reply to each.
+// Calls of a new state, and the reply to each.
 static CALLS: [(Command<u64, u64>, Reply<u64>); 4] = [
     (Command::Insert(1, 10), Reply::Stored),
     (Command::Insert(1, 11), Reply::Duplicate),
@@ -13,7 +13,7 @@ static CALLS: [(Command<u64, u64>, Reply<u64>); 4] = [
     (Command::Peek(2), Reply::Found(None)),
 ];
 
-/// Whether a history has the calls with their replies.
+// Whether a history has the calls with their replies.
 fn has_the_calls(history: &[Record<u64, u64>]) -> bool {
     if history.len() != CALLS.len() {
         return false;
@@ -26,8 +26,8 @@ fn has_the_calls(history: &[Record<u64, u64>]) -> bool {
     true
 }
 
-/// Makes the calls of a new state. Returns whether each is replied to as wanted, and whether the history has them with
-/// their replies then.
+// Makes the calls of a new state. Returns whether each is replied to as wanted, and whether the
+// history has them with their replies then.
 fn keeps_each_call<const LEN: usize>(
     state: &mut StateOf<u64, u64, LEN>,
 ) -> Result<bool, AllocError> {

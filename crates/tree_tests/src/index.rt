@@ -7,7 +7,7 @@ use test_support::refusals::succeeds;
 use tree_index::{InsertError, SmallTreeIndex, TreeIndex, TreeIndexOf};
 use tree_support::{MoreCalls, Numbers, Scenario, put, succeeds_at_both_sizes};
 
-/// The index of these pairs.
+// The index of these pairs.
 fn index_of(alloc: Global, pairs: &[(u64, u64)]) -> Result<TreeIndex<u64, u64>, AllocError> {
     let mut index = TreeIndex::new(alloc);
     for (key, value) in pairs {
@@ -18,14 +18,14 @@ fn index_of(alloc: Global, pairs: &[(u64, u64)]) -> Result<TreeIndex<u64, u64>, 
     Ok(index)
 }
 
-/// Whether an insert of a key that is present keeps the first pair.
+// Whether an insert of a key that is present keeps the first pair.
 fn keeps_the_first(index: &mut impl Numbers) -> Result<bool, AllocError> {
     put(index, 1, 10)?;
     let told = (index.insert(1, 11), index.peek(1));
     Ok(told == (Err(InsertError::Duplicate(1, 11)), Some(10)))
 }
 
-/// Whether a removal says if the key was present.
+// Whether a removal says if the key was present.
 fn says_whether_it_removed(index: &mut impl Numbers) -> Result<bool, AllocError> {
     if index.remove(1) {
         return Ok(false);
@@ -34,11 +34,11 @@ fn says_whether_it_removed(index: &mut impl Numbers) -> Result<bool, AllocError>
     Ok(index.remove(1))
 }
 
-/// Values that the condition wants of the key 1, in turn, whether the pair is removed, and how often the condition is
-/// asked.
+// Values that the condition wants of the key 1, in turn, whether the pair is removed, and how
+// often the condition is asked.
 static CONDITIONS: [(u64, bool, u64); 3] = [(0, false, 1), (10, true, 1), (10, false, 0)];
 
-/// Whether the condition is asked once of a key that is present, and never of an absent one.
+// Whether the condition is asked once of a key that is present, and never of an absent one.
 fn asks_its_condition_once(index: &mut impl MoreCalls) -> Result<bool, AllocError> {
     put(index, 1, 10)?;
     for (wanted, removes, times) in &CONDITIONS {
@@ -49,7 +49,7 @@ fn asks_its_condition_once(index: &mut impl MoreCalls) -> Result<bool, AllocErro
     Ok(true)
 }
 
-/// Makes the calls, each time over an empty index. Returns whether each is answered as wanted.
+// Makes the calls, each time over an empty index. Returns whether each is answered as wanted.
 fn answers_each_call(index: &mut impl MoreCalls) -> Result<bool, AllocError> {
     if !keeps_the_first(index)? {
         return Ok(false);
@@ -62,7 +62,7 @@ fn answers_each_call(index: &mut impl MoreCalls) -> Result<bool, AllocError> {
     asks_its_condition_once(index)
 }
 
-/// Makes the calls.
+// Makes the calls.
 #[derive(Drop)]
 struct Calls<'r, R> {
     rt: &'r R,
@@ -82,7 +82,7 @@ fn answers_inserts_and_removals(rt: HostRuntime) {
     assert!(rt; succeeds_at_both_sizes(rt.alloc(), &scenario));
 }
 
-/// Pairs, and the text of their index.
+// Pairs, and the text of their index.
 static TEXTS: [(&[(u64, u64)], &str); 2] = [
     (&[], "TreeIndex { depth: 0, entries: [] }"),
     (
@@ -91,7 +91,7 @@ static TEXTS: [(&[(u64, u64)], &str); 2] = [
     ),
 ];
 
-/// Compares what `Debug` writes.
+// Compares what `Debug` writes.
 fn expect_text(
     rt: &impl Abort,
     alloc: Global,
@@ -103,7 +103,7 @@ fn expect_text(
     Ok(())
 }
 
-/// Compares the text of the index of these pairs.
+// Compares the text of the index of these pairs.
 fn expect_shown(
     rt: &impl Abort,
     alloc: Global,
@@ -139,23 +139,23 @@ fn tells_why_a_pair_was_refused(rt: HostRuntime) {
     );
 }
 
-/// The key 5 with a tag, which its order doesn't see.
+// The key 5 with a tag, which its order doesn't see.
 fn five(tag: char) -> Tagged {
     Tagged { number: 5, tag }
 }
 
-/// An index whose keys have tags.
+// An index whose keys have tags.
 trait TaggedKeys {
-    /// Stores a value at the key 5 with a tag by `upsert_sync`.
+    // Stores a value at the key 5 with a tag by `upsert_sync`.
     fn upsert(&mut self, tag: char, value: u64) -> Result<(), AllocError>;
 
-    /// Replaces the value at the key 5 by `replace_sync`.
+    // Replaces the value at the key 5 by `replace_sync`.
     fn replace(&mut self, tag: char, value: u64) -> Result<u64, u64>;
 
-    /// Adds 1 to the value at the key 5 by `modify_sync`.
+    // Adds 1 to the value at the key 5 by `modify_sync`.
     fn count_up(&mut self, tag: char) -> bool;
 
-    /// Returns the tag and the value that `peek_entry` finds at the key 5.
+    // Returns the tag and the value that `peek_entry` finds at the key 5.
     fn entry(&self, tag: char) -> Option<(char, u64)>;
 }
 
@@ -181,8 +181,8 @@ impl<const LEN: usize> TaggedKeys for TreeIndexOf<Tagged, u64, LEN> {
     }
 }
 
-/// Whether an upsert replaces the stored key as well as its value, and a value that is replaced, or changed, leaves the
-/// stored key.
+// Whether an upsert replaces the stored key as well as its value, and a value that is replaced, or
+// changed, leaves the stored key.
 fn replaces_the_key(index: &mut impl TaggedKeys) -> Result<bool, AllocError> {
     index.upsert('a', 1)?;
     index.upsert('b', 2)?;

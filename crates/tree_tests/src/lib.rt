@@ -1,4 +1,5 @@
-//! Tests of the index, its histories, its runs and its lines through their public items, where no contract says what they show.
+//! Tests of the index, its histories, its runs and its lines through their public items, where no
+//! contract says what they show.
 #![tactic(auto)]
 
 #[cfg(test)]

@@ -31,7 +31,7 @@ impl<const LEN: usize> LookedUp<u64> for TreeIndexOf<u64, u64, LEN> {
     }
 }
 
-/// Whether a judge of the key finds a pair.
+// Whether a judge of the key finds a pair.
 pub(crate) fn is_found<K: Ord, I: LookedUp<K>>(index: &I, key: &K) -> bool {
     is_found_by::<K, I, Brand>(index, key, Blank::new(1))
 }
@@ -45,7 +45,8 @@ fn is_found_by<K: Ord, I: LookedUp<K>, L: Ledger>(index: &I, key: &K, blank: Bla
     index.finds(&mut judge)
 }
 
-/// Whether the look-ups of a number all find it or none does, and each compares it at most so often.
+// Whether the look-ups of a number all find it or none does, and each compares it at most so
+// often.
 fn looks_up_alike<'c>(
     index: &impl AskedKeys<'c>,
     counter: &'c Cell<u64>,
@@ -71,8 +72,8 @@ fn looks_up_alike<'c>(
     true
 }
 
-/// Whether the pairs beside a number, of the even numbers up to the last, are found where there are such, and each
-/// look-up compares it at most so often.
+// Whether the pairs beside a number, of the even numbers up to the last, are found where there are
+// such, and each look-up compares it at most so often.
 fn finds_those_beside<'c>(
     index: &impl AskedKeys<'c>,
     counter: &'c Cell<u64>,
@@ -87,7 +88,8 @@ fn finds_those_beside<'c>(
     (reached.0, passed.0) == (number <= last, number > 1) && reached.1 <= most && passed.1 <= most
 }
 
-/// How many pairs an index has when it is looked up in, and how many comparisons an array takes at most.
+// How many pairs an index has when it is looked up in, and how many comparisons an array takes at
+// most.
 struct Sizes {
     counts: [u64; 3],
     most: u64,
@@ -98,14 +100,14 @@ static SIZES: Sizes = Sizes {
     most: 4,
 };
 
-/// The same with seven pairs a leaf.
+// The same with seven pairs a leaf.
 static SMALL_SIZES: Sizes = Sizes {
     counts: [1, 57, 400],
     most: 3,
 };
 
-/// Whether the look-ups of each key agree, in an index of the even numbers up to the last, and those beside each are
-/// found.
+// Whether the look-ups of each key agree, in an index of the even numbers up to the last, and
+// those beside each are found.
 fn looks_up_all<'c>(
     index: &impl AskedKeys<'c>,
     counter: &'c Cell<u64>,
@@ -125,7 +127,7 @@ fn looks_up_all<'c>(
     true
 }
 
-/// Stores even numbers, and looks all up at each of the sizes.
+// Stores even numbers, and looks all up at each of the sizes.
 fn compares_few<'c>(
     rt: &impl Abort,
     index: &mut impl AskedKeys<'c>,
@@ -155,20 +157,20 @@ fn compares_fewer_keys_steps(rt: &impl Abort, alloc: Global) -> Result<(), Alloc
     compares_few(rt, &mut index, &counter, &SMALL_SIZES)
 }
 
-/// At most one array a level is searched, and the leaf, with at most four comparisons each among 15 slots. A look-up of the
-/// pairs beside a key makes at most two more.
+// At most one array a level is searched, and the leaf, with at most four comparisons each among 15
+// slots. A look-up of the pairs beside a key makes at most two more.
 #[test]
 fn compares_few_keys(rt: HostRuntime) {
     assert!(rt; succeeds(rt.alloc(), || compares_few_keys_steps(&rt, rt.alloc())));
 }
 
-/// The same with seven slots, and at most three comparisons.
+// The same with seven slots, and at most three comparisons.
 #[test]
 fn compares_fewer_keys_with_seven_slots(rt: HostRuntime) {
     assert!(rt; succeeds(rt.alloc(), || compares_fewer_keys_steps(&rt, rt.alloc())));
 }
 
-/// A judge, and the stored key that it found equal to its own.
+// A judge, and the stored key that it found equal to its own.
 #[derive(Drop)]
 struct Recording<J> {
     judge: J,
@@ -189,7 +191,8 @@ impl<J: Judge<u64>> Judge<u64> for Recording<J> {
     }
 }
 
-/// Whether a judge of the key finds a pair, and the stored key that the judge was asked and found equal.
+// Whether a judge of the key finds a pair, and the stored key that the judge was asked and found
+// equal.
 fn found_and_asked<I: LookedUp<u64>>(index: &I, key: u64) -> (bool, Option<u64>) {
     found_and_asked_by::<I, Brand>(index, key, Blank::new(1))
 }
@@ -209,9 +212,9 @@ fn found_and_asked_by<I: LookedUp<u64>, L: Ledger>(
     (found, recording.equal)
 }
 
-/// An index of numbers that stores a pair.
+// An index of numbers that stores a pair.
 trait Stores {
-    /// Calls `insert_sync`.
+    // Calls `insert_sync`.
     fn store(&mut self, key: u64, value: u64) -> Result<(), AllocError>;
 }
 
@@ -224,8 +227,8 @@ impl<const LEN: usize> Stores for TreeIndexOf<u64, u64, LEN> {
     }
 }
 
-/// Whether the look-ups up to 483 find the even numbers from 2 to 482 alone, and each that finds one has asked of that
-/// very key, and each other one of no equal key.
+// Whether the look-ups up to 483 find the even numbers from 2 to 482 alone, and each that finds
+// one has asked of that very key, and each other one of no equal key.
 fn asks_found_keys(index: &impl LookedUp<u64>) -> bool {
     for key in 0..=483u64 {
         let there = (2..=482).contains(&key) && key % 2 == 0;
@@ -237,7 +240,7 @@ fn asks_found_keys(index: &impl LookedUp<u64>) -> bool {
     true
 }
 
-/// Stores the even numbers up to 482, and looks all numbers up.
+// Stores the even numbers up to 482, and looks all numbers up.
 #[derive(Drop)]
 struct Asking<'r, R> {
     rt: &'r R,
@@ -254,7 +257,8 @@ impl<R: Abort, I: Stores + LookedUp<u64>> OwnScenario<I> for Asking<'_, R> {
     }
 }
 
-/// A look-up that finds a pair has asked its judge of that very key, and one that finds none has asked of no equal key.
+// A look-up that finds a pair has asked its judge of that very key, and one that finds none has
+// asked of no equal key.
 #[test]
 fn asks_the_key_it_finds(rt: HostRuntime) {
     let scenario = Asking { rt: &rt };

@@ -9,7 +9,7 @@ use tree_support::Asked;
 
 const KEYS: u64 = 3616;
 
-/// Stores the keys up to the last in ascending order.
+// Stores the keys up to the last in ascending order.
 fn fill<'c>(index: &mut impl AskedKeys<'c>, counter: &'c Cell<u64>) -> Result<(), AllocError> {
     for number in 1..=KEYS {
         index.store(number, counter)?;
@@ -17,7 +17,7 @@ fn fill<'c>(index: &mut impl AskedKeys<'c>, counter: &'c Cell<u64>) -> Result<()
     Ok(())
 }
 
-/// Removes the keys from 226 to 3375, with at most so many comparisons.
+// Removes the keys from 226 to 3375, with at most so many comparisons.
 fn compares_at_the_borders<'c>(
     rt: &impl Abort,
     index: &mut impl AskedKeys<'c>,
@@ -43,7 +43,7 @@ fn small_borders_steps(rt: &impl Abort, alloc: Global) -> Result<(), AllocError>
     compares_at_the_borders(rt, &mut index, &counter)
 }
 
-/// Of 3,616 keys 3,150 go, and the two borders alone are compared.
+// Of 3,616 keys 3,150 go, and the two borders alone are compared.
 #[test]
 fn compares_at_the_borders_alone(rt: HostRuntime) {
     assert!(rt;
@@ -54,7 +54,7 @@ fn compares_at_the_borders_alone(rt: HostRuntime) {
     );
 }
 
-/// Removes a key, which is there. Returns how many comparisons that makes.
+// Removes a key, which is there. Returns how many comparisons that makes.
 fn compared_by_removal<'c>(
     rt: &impl Abort,
     index: &mut impl AskedKeys<'c>,
@@ -67,7 +67,7 @@ fn compared_by_removal<'c>(
     counter.get()
 }
 
-/// Removes all keys one by one in ascending order. All but so many removals make few comparisons.
+// Removes all keys one by one in ascending order. All but so many removals make few comparisons.
 fn descends_seldom<'c>(
     rt: &impl Abort,
     index: &mut impl AskedKeys<'c>,
@@ -98,8 +98,8 @@ fn small_run_steps(rt: &impl Abort, alloc: Global) -> Result<(), AllocError> {
     descends_seldom(rt, &mut index, &counter, 5, 519)
 }
 
-/// In a run of removals the first two descend, and those that empty one of the 242 or 517 leaves. Each other one compares its
-/// key with two keys of its leaf, and searches there.
+// In a run of removals the first two descend, and those that empty one of the 242 or 517 leaves.
+// Each other one compares its key with two keys of its leaf, and searches there.
 #[test]
 fn descends_seldom_in_a_run(rt: HostRuntime) {
     assert!(rt;

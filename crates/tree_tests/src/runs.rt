@@ -4,10 +4,10 @@ use std::ops::Bound;
 use std::process::Abort;
 use test_support::refusals::succeeds;
 use tree_index::{Command, Reply, TreeIndex, TreeIndexOf};
-use tree_runs::run;
+use tree_state::run;
 use tree_support::{Numbers, OwnScenario, succeeds_by_own_calls};
 
-/// Commands of every kind, and the reply to each by an index that was empty.
+// Commands of every kind, and the reply to each by an index that was empty.
 static COMMANDS: [(Command<u64, u64>, Reply<u64>); 10] = [
     (Command::Insert(1, 10), Reply::Stored),
     (Command::Insert(1, 11), Reply::Duplicate),
@@ -24,9 +24,9 @@ static COMMANDS: [(Command<u64, u64>, Reply<u64>); 10] = [
     (Command::Clear, Reply::Done),
 ];
 
-/// An index of numbers that runs commands.
+// An index of numbers that runs commands.
 trait Runs {
-    /// Calls `run`.
+    // Calls `run`.
     fn run(&mut self, commands: Vec<Command<u64, u64>>) -> Result<Vec<Reply<u64>>, AllocError>;
 }
 
@@ -36,7 +36,7 @@ impl<const LEN: usize> Runs for TreeIndexOf<u64, u64, LEN> {
     }
 }
 
-/// Returns the commands.
+// Returns the commands.
 fn commands(alloc: Global) -> Result<Vec<Command<u64, u64>>, AllocError> {
     let mut commands = Vec::new(alloc);
     for (command, _) in &COMMANDS {
@@ -45,7 +45,7 @@ fn commands(alloc: Global) -> Result<Vec<Command<u64, u64>>, AllocError> {
     Ok(commands)
 }
 
-/// Whether the replies are the wanted ones. Returns `Err` if memory was refused for one.
+// Whether the replies are the wanted ones. Returns `Err` if memory was refused for one.
 fn are_wanted(replies: &[Reply<u64>]) -> Result<bool, AllocError> {
     if replies.len() != COMMANDS.len() {
         return Ok(false);
@@ -61,7 +61,7 @@ fn are_wanted(replies: &[Reply<u64>]) -> Result<bool, AllocError> {
     Ok(true)
 }
 
-/// Runs the commands over a new index.
+// Runs the commands over a new index.
 #[derive(Drop)]
 struct Running<'r, R> {
     rt: &'r R,
@@ -86,7 +86,7 @@ fn runs_every_command(rt: HostRuntime) {
     assert!(rt; succeeds_by_own_calls(rt.alloc(), &scenario));
 }
 
-/// So many ascending inserts, and the depth then.
+// So many ascending inserts, and the depth then.
 static DEPTHS: [(u64, usize); 9] = [
     (0, 0),
     (1, 1),
@@ -99,7 +99,7 @@ static DEPTHS: [(u64, usize); 9] = [
     (54_241, 4),
 ];
 
-/// Returns the inserts of the keys from the first to the last.
+// Returns the inserts of the keys from the first to the last.
 fn inserts(alloc: Global, first: u64, last: u64) -> Result<Vec<Command<u64, u64>>, AllocError> {
     let count = last.saturating_sub(first).saturating_add(1);
     let mut commands = Vec::with_capacity(alloc, count as usize)?;
@@ -109,7 +109,7 @@ fn inserts(alloc: Global, first: u64, last: u64) -> Result<Vec<Command<u64, u64>
     Ok(commands)
 }
 
-/// Runs the inserts of the keys from the first to the last.
+// Runs the inserts of the keys from the first to the last.
 fn run_inserts(
     alloc: Global,
     index: &mut impl Runs,
@@ -123,12 +123,12 @@ fn run_inserts(
     Ok(())
 }
 
-/// Compares the depth and the length.
+// Compares the depth and the length.
 fn expect_grown(rt: &impl Abort, index: &impl Numbers, (count, depth): (u64, usize)) {
     assert!(rt; index.depth() == depth && index.len() as u64 == count);
 }
 
-/// Runs so many inserts as a row says after those of the row before it.
+// Runs so many inserts as a row says after those of the row before it.
 fn run_rows(
     rt: &impl Abort,
     alloc: Global,

@@ -1,12 +1,14 @@
-//! How deep a tree is, and how many leaves and nodes it has, as the rules of splits and of removals give it.
+//! How deep a tree is, and how many leaves and nodes it has, as the rules of splits and of removals
+//! give it.
 use std::alloc::{AllocError, Global};
 use std::process::Abort;
 use test_support::refusals::succeeds;
 use tree_index::{SmallTreeIndex, TreeIndex, TreeIndexOf};
 use tree_support::{Numbers, ascend, put};
 
-/// So many ascending keys, and the depth then. With seven slots a leaf node holds 8 leaves of 7, a node over such nodes
-/// 7 of 49 pairs and one of 56, and the next level 7 of 343 pairs and one of 399.
+// So many ascending keys, and the depth then. With seven slots a leaf node holds 8 leaves of 7, a
+// node over such nodes 7 of 49 pairs and one of 56, and the next level 7 of 343 pairs and one of
+// 399.
 static DEPTHS: [(u64, usize); 7] = [
     (1, 1),
     (56, 1),
@@ -17,7 +19,7 @@ static DEPTHS: [(u64, usize); 7] = [
     (2801, 4),
 ];
 
-/// Stores ascending keys, and compares the depths.
+// Stores ascending keys, and compares the depths.
 fn expect_depths(rt: &impl Abort, index: &mut impl Numbers) -> Result<(), AllocError> {
     let mut stored: u64 = 0;
     for (count, depth) in &DEPTHS {
@@ -38,9 +40,9 @@ fn grows_by_a_level_with_seven_slots(rt: HostRuntime) {
     assert!(rt; succeeds(rt.alloc(), || grows_with_seven_slots_steps(&rt, rt.alloc())));
 }
 
-/// An index of numbers whose leaves and nodes are counted.
+// An index of numbers whose leaves and nodes are counted.
 trait Shaped: Numbers {
-    /// Returns the depth, and the numbers of leaves and nodes.
+    // Returns the depth, and the numbers of leaves and nodes.
     fn shape(&self) -> Shape;
 }
 
@@ -55,11 +57,11 @@ impl Shaped for TreeIndex<u64, u64> {
     }
 }
 
-/// The depth, and the numbers of leaves and nodes.
+// The depth, and the numbers of leaves and nodes.
 type Shape = (usize, usize, usize);
 
-/// Keys that come in ascending order, the keys that are removed then in ascending or descending order, and the shapes
-/// before and after.
+// Keys that come in ascending order, the keys that are removed then in ascending or descending
+// order, and the shapes before and after.
 struct Row {
     keys: (u64, u64),
     grown: Shape,
@@ -106,7 +108,7 @@ static ROWS: [Row; 5] = [
     },
 ];
 
-/// Removes the keys of a row.
+// Removes the keys of a row.
 fn shrink(index: &mut impl Numbers, row: &Row) {
     let (first, last) = row.removed;
     for key in first..=last {
@@ -115,7 +117,7 @@ fn shrink(index: &mut impl Numbers, row: &Row) {
     }
 }
 
-/// Whether an index of one level has no pair, and then takes one.
+// Whether an index of one level has no pair, and then takes one.
 fn begins_anew(index: &mut impl Numbers) -> Result<bool, AllocError> {
     if index.len() != 0 {
         return Ok(false);
@@ -124,8 +126,8 @@ fn begins_anew(index: &mut impl Numbers) -> Result<bool, AllocError> {
     Ok((index.depth(), index.spare(), index.len()) == (1, 14, 1))
 }
 
-/// Grows an index by the keys of a row, and removes those that the row names. Returns whether it has the first shape of
-/// the row when it has grown, and the last one in the end.
+// Grows an index by the keys of a row, and removes those that the row names. Returns whether it
+// has the first shape of the row when it has grown, and the last one in the end.
 fn takes_both_shapes(index: &mut impl Shaped, row: &Row) -> Result<bool, AllocError> {
     ascend(index, row.keys.0, row.keys.1, 1)?;
     let grown = index.shape();

@@ -11,7 +11,7 @@ use test_support::refusals::succeeds;
 use tree_index::{InsertError, TreeIndexOf};
 use tree_model::IndexKey;
 
-/// How many were made and dropped, and whether clones are refused.
+// How many were made and dropped, and whether clones are refused.
 #[derive(Drop)]
 struct Tally {
     made: Cell<u64>,
@@ -28,13 +28,13 @@ impl Tally {
         }
     }
 
-    /// Whether so many are alive, and each of the others was dropped once.
+    // Whether so many are alive, and each of the others was dropped once.
     fn has_alive(&self, alive: usize) -> bool {
         self.made.get() == self.dropped.get().saturating_add(alive as u64)
     }
 }
 
-/// A number that is counted where it is made, cloned and dropped, and compares by the number alone.
+// A number that is counted where it is made, cloned and dropped, and compares by the number alone.
 #[derive_where(PartialEq, Eq, PartialOrd, Ord)]
 struct Counted<'c> {
     number: u64,
@@ -77,39 +77,39 @@ impl IndexKey for Counted<'_> {
 
 type Index<'c, const LEN: usize> = TreeIndexOf<Counted<'c>, Counted<'c>, LEN>;
 
-/// A pair that comes back, if memory was refused.
+// A pair that comes back, if memory was refused.
 type Refused<'c> = Option<(Counted<'c>, Counted<'c>)>;
 
-/// What an insert returns.
+// What an insert returns.
 type Inserted<'c> = Result<(), InsertError<Counted<'c>, Counted<'c>>>;
 
-/// An index of counted keys and values, as its tests call it.
+// An index of counted keys and values, as its tests call it.
 trait CountedPairs<'c> {
-    /// Calls `insert_sync`.
+    // Calls `insert_sync`.
     fn insert(&mut self, key: Counted<'c>, value: Counted<'c>) -> Inserted<'c>;
 
-    /// Calls `upsert_sync`.
+    // Calls `upsert_sync`.
     fn upsert(&mut self, key: Counted<'c>, value: Counted<'c>) -> Refused<'c>;
 
-    /// Calls `remove_sync`.
+    // Calls `remove_sync`.
     fn remove(&mut self, key: &Counted<'c>);
 
-    /// Removes the pair of a key by `remove_if_sync` if its value is even.
+    // Removes the pair of a key by `remove_if_sync` if its value is even.
     fn remove_even(&mut self, key: &Counted<'c>);
 
-    /// Removes the keys from one to below another by `remove_range_sync`.
+    // Removes the keys from one to below another by `remove_range_sync`.
     fn remove_range(&mut self, low: &Counted<'c>, high: &Counted<'c>);
 
-    /// Calls `clear`.
+    // Calls `clear`.
     fn clear(&mut self);
 
-    /// Returns whether `peek` finds a key.
+    // Returns whether `peek` finds a key.
     fn has(&self, key: &Counted<'c>) -> bool;
 
-    /// Calls `len`.
+    // Calls `len`.
     fn len(&self) -> usize;
 
-    /// Returns the number of leaves.
+    // Returns the number of leaves.
     fn leaves(&self) -> usize;
 }
 
@@ -151,20 +151,21 @@ impl<'c, const LEN: usize> CountedPairs<'c> for Index<'c, LEN> {
     }
 }
 
-/// The number of leaves of an index.
+// The number of leaves of an index.
 fn leaf_count<const LEN: usize>(index: &Index<'_, LEN>) -> usize {
     let (arenas, _) = index.parts();
     arenas.leaf_count()
 }
 
-/// Whether what is alive is what the index holds: each pair a key and a value, and each leaf but the last a separator.
+// Whether what is alive is what the index holds: each pair a key and a value, and each leaf but
+// the last a separator.
 fn keeps_alive<'c>(index: &impl CountedPairs<'c>, tally: &Tally) -> bool {
     let separators = index.leaves().saturating_sub(1);
     let held = index.len().saturating_mul(2).saturating_add(separators);
     tally.has_alive(held)
 }
 
-/// The pair that an insert was refused memory for.
+// The pair for which an insert could not allocate.
 fn pair_of(inserted: Inserted<'_>) -> Refused<'_> {
     match inserted {
         Err(InsertError::OutOfMemory(key, value)) => Some((key, value)),
@@ -172,7 +173,7 @@ fn pair_of(inserted: Inserted<'_>) -> Refused<'_> {
     }
 }
 
-/// `Err` if memory was refused.
+// `Err` if memory was refused.
 fn outcome(refused: Refused<'_>) -> Result<(), AllocError> {
     match refused {
         Some(_) => Err(AllocError),
@@ -180,7 +181,7 @@ fn outcome(refused: Refused<'_>) -> Result<(), AllocError> {
     }
 }
 
-/// Makes one random call. Returns `Err` if memory was refused.
+// Makes one random call. Returns `Err` if memory was refused.
 fn call<'c>(
     index: &mut impl CountedPairs<'c>,
     chance: &mut Chance,
@@ -202,7 +203,7 @@ fn call<'c>(
     Ok(())
 }
 
-/// Makes random calls, and counts what is alive after each.
+// Makes random calls, and counts what is alive after each.
 fn make_calls<'c>(
     rt: &impl Abort,
     index: &mut impl CountedPairs<'c>,
@@ -217,13 +218,13 @@ fn make_calls<'c>(
     Ok(())
 }
 
-/// Makes the calls of an index of fifteen slots, and drops it.
+// Makes the calls of an index of fifteen slots, and drops it.
 fn use_fifteen_slots(rt: &impl Abort, alloc: Global, tally: &Tally) -> Result<(), AllocError> {
     let mut index: Index<15> = TreeIndexOf::new(alloc);
     make_calls(rt, &mut index, tally)
 }
 
-/// Makes the calls of an index of seven slots, and drops it.
+// Makes the calls of an index of seven slots, and drops it.
 fn use_seven_slots(rt: &impl Abort, alloc: Global, tally: &Tally) -> Result<(), AllocError> {
     let mut index: Index<7> = TreeIndexOf::new(alloc);
     make_calls(rt, &mut index, tally)
@@ -239,14 +240,14 @@ fn drops_once(rt: &impl Abort, alloc: Global) -> Result<(), AllocError> {
     outcome
 }
 
-/// After inserts, refusals of a duplicate and of memory, upserts, removals, splits and cuts, and when the index is
-/// dropped.
+// After inserts, refusals of a duplicate and of memory, upserts, removals, splits and cuts, and
+// when the index is dropped.
 #[test]
 fn drops_each_key_and_value_once(rt: HostRuntime) {
     assert!(rt; succeeds(rt.alloc(), || drops_once(&rt, rt.alloc())));
 }
 
-/// Whether of the greatest keys, from this one on, all but this one are there.
+// Whether of the greatest keys, from this one on, all but this one are there.
 fn lacks_it_alone<'c>(index: &impl CountedPairs<'c>, tally: &'c Tally, number: u64) -> bool {
     for other in number..300 {
         if index.has(&Counted::new(other, tally)) == (other == number) {
@@ -256,7 +257,8 @@ fn lacks_it_alone<'c>(index: &impl CountedPairs<'c>, tally: &'c Tally, number: u
     true
 }
 
-/// Stores an absent key, by an insert if it is even and else by an upsert. Returns the pair if memory was refused.
+// Stores an absent key, by an insert if it is even and else by an upsert. Returns the pair if
+// memory was refused.
 fn store<'c>(index: &mut impl CountedPairs<'c>, tally: &'c Tally, number: u64) -> Refused<'c> {
     let (key, value) = (Counted::new(number, tally), Counted::new(number, tally));
     if number % 2 == 1 {
@@ -266,7 +268,8 @@ fn store<'c>(index: &mut impl CountedPairs<'c>, tally: &'c Tally, number: u64) -
     }
 }
 
-/// Stores a key while clones are refused, and again with clones if that refused it. Returns whether it did.
+// Stores a key while clones are refused, and again with clones if that refused it. Returns whether
+// it did.
 fn store_twice<'c>(
     rt: &impl Abort,
     index: &mut impl CountedPairs<'c>,
@@ -287,7 +290,7 @@ fn store_twice<'c>(
     Ok(true)
 }
 
-/// Stores descending keys while clones are refused. Returns how many were refused.
+// Stores descending keys while clones are refused. Returns how many were refused.
 fn refused_clones<'c>(
     rt: &impl Abort,
     index: &mut impl CountedPairs<'c>,
@@ -304,13 +307,13 @@ fn refused_clones<'c>(
     Ok(refused)
 }
 
-/// Fills an index of fifteen slots while clones are refused, and drops it.
+// Fills an index of fifteen slots while clones are refused, and drops it.
 fn fill_fifteen_slots(rt: &impl Abort, alloc: Global, tally: &Tally) -> Result<u64, AllocError> {
     let mut index: Index<15> = TreeIndexOf::new(alloc);
     refused_clones(rt, &mut index, tally)
 }
 
-/// Fills an index of seven slots while clones are refused, and drops it.
+// Fills an index of seven slots while clones are refused, and drops it.
 fn fill_seven_slots(rt: &impl Abort, alloc: Global, tally: &Tally) -> Result<u64, AllocError> {
     let mut index: Index<7> = TreeIndexOf::new(alloc);
     refused_clones(rt, &mut index, tally)
@@ -325,7 +328,8 @@ fn refuses_clones(rt: &impl Abort, alloc: Global) -> Result<(), AllocError> {
     Ok(())
 }
 
-/// A write that must split clones a separator. Where that is refused, the pair comes back and no pair changed.
+// A write that must split clones a separator. Where that is refused, the pair comes back and no
+// pair changed.
 #[test]
 fn hands_back_the_pair_where_a_clone_is_refused(rt: HostRuntime) {
     assert!(rt; succeeds(rt.alloc(), || refuses_clones(&rt, rt.alloc())));

@@ -5,8 +5,8 @@ use Rattle.std.proofs.lemmas.List.{reverse-reverse}
 use Rattle.std.specs.Map.Iter.{TakesLast}
 use Rattle.tree_model.proofs.Common.{Cursor, IsTotalOrder, Moves, lent_entry, rest}
 use Rattle.tree_model.specs.declared.way.Way.TheVariants.{Back}
-use Rattle.tree_ranges.specs.Ranged.{IsFresh, pairs_within}
-use Rattle.tree_ranges.proofs.Yields.{fresh_begun, rest_fresh, takes_first}
+use Rattle.tree_cursors.specs.Ranged.{IsFresh, pairs_within}
+use Rattle.tree_cursors.proofs.Yields.{fresh_begun, rest_fresh, takes_first}
 
 pub last_moved : {K V : Type 0} {cmp : K → K → Ordering} (o : IsTotalOrder cmp) (c t : Cursor K V) (r : Option (Bor K × Bor V)) → IsFresh c → Moves cmp Back c r t
     → (front : List (K × V)) × TakesLast lent_entry (pairs_within cmp c) r front

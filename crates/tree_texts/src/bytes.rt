@@ -46,7 +46,7 @@ impl Bytes {
         self.bytes.as_slice()
     }
 
-    /// Returns the first eight bytes as a number.
+    // Returns the first eight bytes as a number.
     #[inline(always)]
     pub(crate) fn head(&self) -> u64
         ensures { HasHead result self.now }

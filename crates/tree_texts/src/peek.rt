@@ -22,7 +22,7 @@ pub fn peek_text<'t, V: Drop, const LEN: usize>(
     text_by::<V, TreeIndexOf<Text, V, LEN>, Brand>(index, text.as_bytes(), Blank::new(1))
 }
 
-/// The text is passed as its bytes, since no ghost can be picked at a call that takes a text.
+// The text is passed as its bytes, since no ghost can be picked at a call that takes a text.
 fn text_by<'t, V: Drop, S: Seeks<Text, V>, L: Ledger>(
     index: &'t S,
     text: &[u8],

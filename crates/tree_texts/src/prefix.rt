@@ -6,7 +6,7 @@ ghost use Rattle.tree_bytes.specs.Head.{AreBytes};
 ghost use Rattle.tree_bytes.specs.Prefix.{BoundPrefix, TellsPrefix, beginning_with, not_beginning_with};
 ghost use Rattle.tree_model.specs.Cursor.{fresh};
 ghost use Rattle.tree_model.specs.Pairs.{high_of, low_of, within};
-ghost use Rattle.tree_ranges.specs.Ranged.{pairs_within};
+ghost use Rattle.tree_cursors.specs.Ranged.{pairs_within};
 
 use crate::bytes::Bytes;
 use crate::within::last_within;
@@ -85,10 +85,10 @@ pub fn remove_prefix<V: Drop, const LEN: usize>(
     Ok(found)
 }
 
-/// Returns whether a pair is within two bounds. Descends once.
-///
-/// If the bounds are those of a prefix, every pair within them begins with it if the last one does.
-/// That one is read here, and so known to be bytes.
+// Returns whether a pair is within two bounds. Descends once.
+//
+// If the bounds are those of a prefix, every pair within them begins with it if the last one does.
+// That one is read here, and so known to be bytes.
 #[tactic(auto, using(tree_node::proofs::Sizes::fits))]
 fn has_bytes_between<V: Drop, const LEN: usize>(
     index: &TreeIndexOf<Bytes, V, LEN>,

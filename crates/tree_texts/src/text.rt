@@ -45,7 +45,7 @@ impl Text {
         self.text.as_str()
     }
 
-    /// Returns the first eight bytes as a number.
+    // Returns the first eight bytes as a number.
     #[inline(always)]
     pub(crate) fn head(&self) -> u64
         ensures { HasHead result self.now }

@@ -7,7 +7,7 @@ ghost use Rattle.std.specs.Str.{IsUtf8};
 ghost use Rattle.tree_bytes.specs.Prefix.{BoundPrefix, TellsPrefix, beginning_with, not_beginning_with};
 ghost use Rattle.tree_model.specs.Cursor.{fresh};
 ghost use Rattle.tree_model.specs.Pairs.{high_of, low_of, within};
-ghost use Rattle.tree_ranges.specs.Ranged.{pairs_within};
+ghost use Rattle.tree_cursors.specs.Ranged.{pairs_within};
 ghost use Rattle.tree_texts.specs.TextPrefix.{next_char, text_end};
 
 use crate::text::Text;
@@ -83,10 +83,10 @@ pub fn remove_text_prefix<V: Drop, const LEN: usize>(
     Ok(found)
 }
 
-/// Returns whether a pair is within two bounds. Descends once.
-///
-/// If the bounds are those of a prefix, every pair within them begins with it if the last one does.
-/// That one is read here, and so known to be a text.
+// Returns whether a pair is within two bounds. Descends once.
+//
+// If the bounds are those of a prefix, every pair within them begins with it if the last one does.
+// That one is read here, and so known to be a text.
 #[tactic(auto, using(tree_node::proofs::Sizes::fits))]
 fn has_text_between<V: Drop, const LEN: usize>(
     index: &TreeIndexOf<Text, V, LEN>,
@@ -106,7 +106,7 @@ fn has_text_between<V: Drop, const LEN: usize>(
     }
 }
 
-/// Returns the least text that is larger than all that begin with a prefix.
+// Returns the least text that is larger than all that begin with a prefix.
 fn end_of_text(prefix: String) -> Result<Bound<Text>, AllocError>
     ensures { IfOk result (λ high. high ≡ text_end (string_bytes prefix)) }
 {
@@ -120,8 +120,8 @@ fn end_of_text(prefix: String) -> Result<Bound<Text>, AllocError>
     Ok(Bound::Unbounded)
 }
 
-/// Returns the next character, or `None` after the last one. No character is between U+D7FF and
-/// U+E000.
+// Returns the next character, or `None` after the last one. No character is between U+D7FF and
+// U+E000.
 fn char_after(c: char) -> Option<char>
     ensures scalar { IsScalar c }
     ensures next { MatchOption result (c ≡ 0x10FFFF) (λ next. (c ≢ 0x10FFFF) × (next ≡ next_char c)) }

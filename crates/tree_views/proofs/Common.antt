@@ -12,6 +12,6 @@ pub use Rattle.tree_array.proofs.Common.{filter_all}
 pub use Rattle.tree_model.proofs.Common.{AllByRecursion, Cursor, HasBegun, IsTotalOrder, MakesProgress, Moves, Unbounded, fresh, lent_entry, rest, reverse-reverse, reverse_onto, ⊤}
 pub use Rattle.tree_model.specs.Rest.{between}
 pub use Rattle.tree_model.specs.declared.way.Way.TheVariants.{Back, On}
-pub use Rattle.tree_ranges.proofs.Yields.{rest_fresh, takes_first}
-pub use Rattle.tree_ranges.specs.Ranged.{IsOpen, moves_left}
+pub use Rattle.tree_cursors.proofs.Yields.{rest_fresh, takes_first}
+pub use Rattle.tree_cursors.specs.Ranged.{IsOpen, moves_left}
 pub use Rattle.tree_views.specs.Keys.{GoesThroughAll}

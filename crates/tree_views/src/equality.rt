@@ -4,8 +4,8 @@ ghost use Rattle.std.specs.Cmp.Lexicographic.{pointwise};
 ghost use Rattle.tree_model.specs.Rest.{HasBegun, rest};
 ghost use Rattle.tree_model.specs.declared.way.Way.TheVariants.{On};
 
+use tree_cursors::iter::IterOf;
 use tree_model::IndexKey;
-use tree_ranges::iter::IterOf;
 
 /// Returns whether two cursors have as many pairs left on their way on, and equal ones, one by one.
 pub fn are_same<'t, K: IndexKey + 't, V: Drop + PartialEq + 't, const LEN: usize>(

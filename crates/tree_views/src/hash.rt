@@ -5,8 +5,8 @@ ghost use Rattle.tree_model.specs.Rest.{HasBegun, rest};
 ghost use Rattle.tree_model.specs.declared.way.Way.TheVariants.{On};
 
 use std::hash::{Hash, Hasher};
+use tree_cursors::iter::IterOf;
 use tree_model::IndexKey;
-use tree_ranges::iter::IterOf;
 
 /// Feeds the pairs that a cursor has left on its way on.
 pub fn feed<'t, K: IndexKey + Hash + 't, V: Drop + Hash + 't, H: Hasher, const LEN: usize>(

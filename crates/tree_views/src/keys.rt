@@ -8,10 +8,10 @@ use std::alloc::AllocError;
 use std::iter::FusedIterator;
 use std::marker::Model;
 use tree_chain::Walked;
+use tree_cursors::iter::IterOver;
+use tree_cursors::range::Ranged;
 use tree_leaf::leaf::LeafOf;
 use tree_node::node::ArenasOf;
-use tree_ranges::iter::IterOver;
-use tree_ranges::range::Ranged;
 
 /// The keys of an index in ascending order, from both ends.
 ///
@@ -46,8 +46,8 @@ impl<'t, K: Ord, V, A: Ranged<K, V, L>, L: Walked> Model for KeysOver<'t, K, V, 
 }
 
 impl<'t, K: Ord, V, A: Ranged<K, V, L>, L: Walked> KeysOver<'t, K, V, A, L> {
-    /// Creates a walk over the keys of the pairs that a cursor has left. Runs in constant time. The caller must pass a
-    /// cursor whose ends stand within its list, as those of a new one do.
+    /// Creates a walk over the keys of the pairs that a cursor has left. Runs in constant time. The
+    /// caller must pass a cursor whose ends stand within its list, as those of a new one do.
     pub fn new(pairs: IterOver<'t, K, V, A, L>) -> Self
         requires { GoesThroughAll K.cmp pairs }
         ensures { result ≡ keys_left K.cmp pairs.entry }
@@ -105,7 +105,8 @@ pub struct ValuesOver<'t, K: Ord, V, A: Ranged<K, V, L>, L: Walked> {
     pairs: IterOver<'t, K, V, A, L>,
 }
 
-/// The values of an index in ascending order of their keys, from both ends, with up to `LEN` pairs a leaf.
+/// The values of an index in ascending order of their keys, from both ends, with up to `LEN` pairs
+/// a leaf.
 pub type ValuesOf<'t, K, V, const LEN: usize> = ValuesOver<
     't,
     K,
@@ -114,7 +115,8 @@ pub type ValuesOf<'t, K, V, const LEN: usize> = ValuesOver<
     LeafOf<K, V, LEN>,
 >;
 
-/// The values of an index in ascending order of their keys, from both ends, with up to fifteen pairs a leaf.
+/// The values of an index in ascending order of their keys, from both ends, with up to fifteen
+/// pairs a leaf.
 pub type Values<'t, K, V> = ValuesOf<'t, K, V, 15>;
 
 impl<'t, K: Ord, V, A: Ranged<K, V, L>, L: Walked> Model for ValuesOver<'t, K, V, A, L> {
@@ -129,8 +131,8 @@ impl<'t, K: Ord, V, A: Ranged<K, V, L>, L: Walked> Model for ValuesOver<'t, K, V
 }
 
 impl<'t, K: Ord, V, A: Ranged<K, V, L>, L: Walked> ValuesOver<'t, K, V, A, L> {
-    /// Creates a walk over the values of the pairs that a cursor has left. Runs in constant time. The caller must pass a
-    /// cursor whose ends stand within its list, as those of a new one do.
+    /// Creates a walk over the values of the pairs that a cursor has left. Runs in constant time.
+    /// The caller must pass a cursor whose ends stand within its list, as those of a new one do.
     pub fn new(pairs: IterOver<'t, K, V, A, L>) -> Self
         requires { GoesThroughAll K.cmp pairs }
         ensures { result ≡ values_left K.cmp pairs.entry }

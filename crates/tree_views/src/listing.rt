@@ -1,6 +1,6 @@
 //! The pairs that a cursor has left, as `Debug` prints them.
 use std::fmt;
-use tree_ranges::iter::IterOf;
+use tree_cursors::iter::IterOf;
 
 /// Prints the pairs that a cursor has left on its way on, as a list.
 pub fn list_pairs<

@@ -6,8 +6,8 @@ ghost use Rattle.tree_model.specs.Rest.{HasBegun, rest};
 ghost use Rattle.tree_model.specs.declared.way.Way.TheVariants.{On};
 
 use std::cmp::Ordering;
+use tree_cursors::iter::IterOf;
 use tree_model::IndexKey;
-use tree_ranges::iter::IterOf;
 
 /// Returns the order of the pairs that two cursors have left on their way on.
 pub fn order_of<'t, K: IndexKey + 't, V: Drop + PartialOrd + 't, const LEN: usize>(

@@ -2,10 +2,10 @@
 use Rattle.std.proofs.Common.{◌≡◌, ◌⊎◌, ℕ, ◌*◌, List, Option, Result, Ok, Err, IfOk, IfErr, OnOk, OnErr, inl, inr, refl, subst, arith, nat_cmp}
 use Rattle.tree_model.specs.History.{IsHistoryOf}
 use Rattle.tree_model.specs.declared.commands.Record.{Record}
-use Rattle.tree_requests.specs.Writing.{Writes}
-use Rattle.tree_tallies.specs.Tallies.{tally}
-use Rattle.tree_tallies.specs.declared.tally.Tally.{Tally}
-use Rattle.tree_workers.specs.Workers.{OnlyInserts}
+use Rattle.tree_lines.specs.Writing.{Writes}
+use Rattle.tree_state.specs.Tallies.{tally}
+use Rattle.tree_state.specs.declared.tally.Tally.{Tally}
+use Rattle.tree_shared.specs.Workers.{OnlyInserts}
 use Rattle.treetool.specs.Storm.{RunsStorm, WritesEnd, line_of, refused_line}
 
 -- a text was written, whole or in part

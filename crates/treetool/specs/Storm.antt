@@ -4,10 +4,10 @@ use Rattle.std.specs.Io.KnownBytes.{Appends}
 use Rattle.std.specs.Ordering.{nat_cmp}
 use Rattle.tree_model.specs.History.{IsHistoryOf}
 use Rattle.tree_model.specs.declared.commands.Record.{Record}
-use Rattle.tree_tallies.specs.Tallies.{tally}
-use Rattle.tree_requests.specs.Lines.{with_feed}
-use Rattle.tree_requests.specs.Writing.{IsFront}
-use Rattle.tree_workers.specs.Workers.{OnlyInserts}
+use Rattle.tree_state.specs.Tallies.{tally}
+use Rattle.tree_lines.specs.Spelling.{with_feed}
+use Rattle.tree_lines.specs.Writing.{IsFront}
+use Rattle.tree_shared.specs.Workers.{OnlyInserts}
 
 -- so many workers, and so many pairs for each
 abbrev pub IsStorm : ℕ × ℕ → Type 0

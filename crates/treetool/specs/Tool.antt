@@ -2,8 +2,8 @@
 use Rattle.std.specs.Prelude.{◌≡◌, ◌⊎◌, ℕ, List, [], Option, Result, Ok, Err, codes}
 use Rattle.std.specs.Io.KnownBytes.{Appends}
 use Rattle.tree_lines.specs.declared.lines.ToolFault.{ToolFault}
-use Rattle.tree_requests.specs.Lines.{with_feed}
-use Rattle.tree_requests.specs.Writing.{IsFront}
+use Rattle.tree_lines.specs.Spelling.{with_feed}
+use Rattle.tree_lines.specs.Writing.{IsFront}
 use Rattle.tree_lines.specs.Runs.{RunsLines}
 
 abbrev pub usage_line : List ℕ

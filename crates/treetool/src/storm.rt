@@ -2,9 +2,9 @@
 ghost use Rattle.std.specs.Prelude.{◌≡◌, ◌++◌, false, decimal, map, IfErr, IfOk, OnErr, OnOk};
 ghost use Rattle.std.specs.Result.{ForOk};
 ghost use Rattle.std.specs.String.{string_bytes};
-ghost use Rattle.tree_requests.specs.Writing.{Writes};
-ghost use Rattle.tree_tallies.specs.Tallies.{tally};
-ghost use Rattle.tree_workers.specs.Workers.{AreAnswered};
+ghost use Rattle.tree_lines.specs.Writing.{Writes};
+ghost use Rattle.tree_state.specs.Tallies.{tally};
+ghost use Rattle.tree_shared.specs.Workers.{AreAnswered};
 ghost use Rattle.treetool.specs.Storm.{AsksForStorm, IsStorm, RunsStorm, WritesEnd, line_of, refused_line, storm_line};
 
 use std::alloc::Global;
@@ -12,11 +12,10 @@ use std::io::Write;
 use std::sync::Wait;
 use std::thread::Threads;
 use tree_lines::{WriteFailed, number_of, write_number, write_whole};
-use tree_shared::Closed;
-use tree_workers::{Gate, StormError, run_workers};
+use tree_shared::{Closed, Gate, StormError, run_workers};
 
-/// Returns the number of workers and of pairs that the arguments ask a storm for, or `None` if they ask for something
-/// else.
+/// Returns the number of workers and of pairs that the arguments ask a storm for, or `None` if they
+/// ask for something else.
 pub fn storm_of(arguments: &[String]) -> Option<(usize, u64)>
     ensures { AsksForStorm (map string_bytes arguments.now) result }
 {
@@ -34,8 +33,8 @@ pub fn storm_of(arguments: &[String]) -> Option<(usize, u64)>
     Some((workers as usize, pairs))
 }
 
-/// Runs a storm at a gate, writes its line and returns the exit status: 0, or 3 with the line `refused` if memory or a
-/// thread was refused or the gate stopped a worker, or 2 if a write fails.
+/// Runs a storm at a gate, writes its line and returns the exit status: 0, or 3 with the line
+/// `refused` if memory or a thread was refused or the gate stopped a worker, or 2 if a write fails.
 pub fn run_storm<R: Threads + Wait + Sync, G: Gate + Sync, W: Write>(
     rt: &R,
     alloc: Global,

@@ -8,7 +8,7 @@ use std::process::Abort;
 use std::sync::Wait;
 use std::sync::atomic::{AtomicU64, Ordering};
 use std::thread::Threads;
-use tree_workers::Gate;
+use tree_shared::Gate;
 
 // The line of a storm, and what it writes.
 type Row = (&'static str, &'static str);
@@ -31,7 +31,8 @@ const MANY_PAIRS: Row = (
 // A status, and a text.
 type End<'e> = (u8, &'e [u8]);
 
-// Whether the program, with room for some bytes of output, ends with one of these statuses and its text, and shows no error.
+// Whether the program, with room for some bytes of output, ends with one of these statuses and its
+// text, and shows no error.
 fn ends_with<R: Threads + Wait + Sync>(
     rt: &R,
     alloc: Global,
@@ -184,8 +185,8 @@ fn run_by_tool<R: Threads + Wait + Sync>(rt: &R, alloc: Global, arguments: &[Str
     }
 }
 
-// Whether such a storm is answered. `Err` if memory or a thread was refused: then the same storm is answered the second time,
-// or memory is refused for good, and so it is refused before its call.
+// Whether such a storm is answered. `Err` if memory or a thread was refused: then the same storm is
+// answered the second time, or memory is refused for good, and so it is refused before its call.
 fn is_answered<F: Fn() -> Storm + Drop>(alloc: Global, run: F) -> Result<bool, AllocError>
     requires { F.IsAlwaysCallable run }
 {

@@ -28,7 +28,8 @@ const LINES: &str =
 
 const ANSWERS: &str = "ok\nduplicate\n\n?\nsmaller 1=10\nok\n1\nok\nempty\n0\n";
 
-// How the calls of a stream go: each moves so many bytes at most, and so many pass. Later ones fail, or move no byte.
+// How the calls of a stream go: each moves so many bytes at most, and so many pass. Later ones
+// fail, or move no byte.
 #[derive(Clone, Copy, Debug)]
 struct Calls {
     piece: usize,
@@ -86,8 +87,8 @@ impl<S: Write> Write for Stream<S> {
     }
 }
 
-// Whether the program, over these lines and with such reads and writes, ends with this status, writes these answers and
-// shows no error.
+// Whether the program, over these lines and with such reads and writes, ends with this status,
+// writes these answers and shows no error.
 fn ends_with<R: Threads + Wait + Sync>(
     rt: &R,
     alloc: Global,
@@ -111,8 +112,8 @@ fn ends_with<R: Threads + Wait + Sync>(
     ended == status && silent && &memory[..written.min(64)] == answers
 }
 
-// Whether this holds, at once or the second time: a run that is refused memory answers otherwise. Where both were refused
-// some, a request of this function is refused too.
+// Whether this holds, at once or the second time: a run in which an allocation fails answers
+// otherwise. Where both were refused some, a request of this function is refused too.
 pub(crate) fn holds<F: Fn() -> bool + Drop>(alloc: Global, once: F) -> bool
     requires { F.IsAlwaysCallable once }
 {
@@ -157,8 +158,8 @@ fn answers_within(bytes: usize) -> &'static [u8] {
     answers
 }
 
-// Whether the program ends as it should with each number of reads that pass, of so many bytes, where the next one fails. Where
-// the read that finds no more bytes passes, it ends well.
+// Whether the program ends as it should with each number of reads that pass, of so many bytes,
+// where the next one fails. Where the read that finds no more bytes passes, it ends well.
 fn tells_failed_reads<R: Threads + Wait + Sync>(
     rt: &R,
     alloc: Global,
@@ -280,8 +281,8 @@ static UNKNOWN: [&str; 22] = [
     "storm 1 1 --small",
 ];
 
-// Whether these arguments, with so many writes of a byte to the errors that pass, have status 1 and show this. The input
-// is not read, and nothing is written to the output.
+// Whether these arguments, with so many writes of a byte to the errors that pass, have status 1 and
+// show this. The input is not read, and nothing is written to the output.
 fn shows<R: Threads + Wait + Sync>(
     rt: &R,
     alloc: Global,

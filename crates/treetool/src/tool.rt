@@ -14,18 +14,20 @@ use std::sync::Wait;
 use std::thread::Threads;
 use tree_index::{SmallTreeIndex, TreeIndex, TreeIndexOf};
 use tree_lines::{run_lines, write_whole};
-use tree_workers::OpenGate;
+use tree_shared::OpenGate;
 
 /// Runs the program and returns its exit status. `arguments` are those after the program's name.
 ///
-/// Without arguments it answers the requests of `input` over an index that is empty at first, with fifteen pairs a leaf;
-/// with the argument `--small` it does so with seven. The status is 0 at the end of the input and 2 if a read or a
+/// Without arguments it answers the requests of `input` over an index that is empty at first, with
+/// fifteen pairs a leaf; with the argument `--small` it does so with seven. The status is 0 at the
+/// end of the input and 2 if a read or a write fails.
+///
+/// With the arguments of a storm it runs the storm and writes its line to `output`. The status is 0
+/// then, 2 if the write fails, and 3, with the line `refused`, if the workers got no memory or no
+/// thread.
+///
+/// With other arguments it writes the usage line to `errors`; the status is then 1, even if that
 /// write fails.
-///
-/// With the arguments of a storm it runs the storm and writes its line to `output`. The status is 0 then, 2 if
-/// the write fails, and 3, with the line `refused`, if the workers got no memory or no thread.
-///
-/// With other arguments it writes the usage line to `errors`; the status is then 1, even if that write fails.
 pub fn tool<R: Threads + Wait + Sync, I: Read + Drop, W: Write + Drop, E: Write + Drop>(
     rt: &R,
     alloc: Global,
@@ -52,7 +54,8 @@ fn run_tool<R: Threads + Wait + Sync, I: Read, W: Write, E: Write>(
     output: &mut W,
     errors: &mut E,
 ) -> u8
-    // Lines are answered over an index of the size that is asked for, and nothing is written to the errors.
+    // Lines are answered over an index of the size that is asked for, and nothing is written to the
+    // errors.
     ensures lines { AsksFor (map string_bytes arguments.now) (Some Lines) →
         AnswersLines 15 (I.remaining input.old) (I.remaining input.new)
         (W.contents output.old) (W.contents output.new) result × (errors.new ≡ errors.old) }
@@ -101,8 +104,9 @@ fn answer_small_lines<I: Read, W: Write>(alloc: Global, input: &mut I, output: &
     answer_over(&mut index, input, output)
 }
 
-// Answers lines over an index that is empty, and returns the exit status. An index of a number of slots that isn't known can
-// be borrowed here, but not made: its proof would have to say how large it is.
+// Answers lines over an index that is empty, and returns the exit status. An index of a number of
+// slots that isn't known can be borrowed here, but not made: its proof would have to say how large
+// it is.
 fn answer_over<I: Read, W: Write, const LEN: usize>(
     index: &mut TreeIndexOf<u64, u64, LEN>,
     input: &mut I,

@@ -3,8 +3,8 @@ use Rattle.std.proofs.Common.{◌≡◌, ℕ, Bool, true, false, if◌then◌els
 use Rattle.tree_model.proofs.Common.{Unbounded, nat_cmp_total, reverse_onto, filter-append, lent_entry, HasBegun, Moves, rest, within, Cursor, fresh}
 use Rattle.tree_model.specs.declared.way.Way.TheVariants.{On, Back}
 use Rattle.tree_model.specs.Rest.{between}
-use Rattle.tree_ranges.specs.Ranged.{IsFresh, pairs_within}
-use Rattle.tree_ranges.proofs.Yields.{fresh_begun, rest_fresh, takes_first}
+use Rattle.tree_cursors.specs.Ranged.{IsFresh, pairs_within}
+use Rattle.tree_cursors.proofs.Yields.{fresh_begun, rest_fresh, takes_first}
 use Rattle.usage.specs.Walks.{AreEnds, highest}
 
 -- the highest price so far and those that are left

@@ -7,14 +7,16 @@ ghost use Rattle.tree_model.specs.Pairs.{pair_at, without};
 
 use tree_index::TreeIndex;
 
-/// Fills the lowest ask: removes it and returns its price and quantity, or `None` if there is no ask.
+/// Fills the lowest ask: removes it and returns its price and quantity, or `None` if there is no
+/// ask.
 pub fn fill(asks: &mut TreeIndex<u64, u64>) -> Option<(u64, u64)>
     ensures { TakesFirst (λ ask. ask) asks.old.pairs result asks.new.pairs }
 {
     asks.pop_first()
 }
 
-/// Fills the highest bid: removes it and returns its price and quantity, or `None` if there is no bid.
+/// Fills the highest bid: removes it and returns its price and quantity, or `None` if there is no
+/// bid.
 pub fn fill_bid(bids: &mut TreeIndex<u64, u64>) -> Option<(u64, u64)>
     ensures { TakesLast (λ bid. bid) bids.old.pairs result bids.new.pairs }
 {

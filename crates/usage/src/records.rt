@@ -22,7 +22,8 @@ impl From<(u64, u64)> for Refusal {
 
 /// Adds an amount to the balance of an account, which is 0 if there is none.
 ///
-/// Returns `Err` if the sum is too large or an allocation is refused. The balances are then as they were.
+/// Returns `Err` if the sum is too large or an allocation is refused. The balances are then as they
+/// were.
 pub fn deposit(balances: &mut TreeIndex<u64, u64>, account: u64, amount: u64) -> Result<(), Refusal>
     ensures stored { OnOk result (balances.new.pairs ≡
         put nat_cmp balances.old.pairs account (balance_of balances.old.pairs account + amount)) }

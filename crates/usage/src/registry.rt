@@ -23,8 +23,8 @@ impl<const MOST: usize> Registry<MOST> {
         }
     }
 
-    /// Registers a name for an owner. Returns `false` if the registry is full, the name is taken or an allocation is
-    /// refused; the owners are then as they were.
+    /// Registers a name for an owner. Returns `false` if the registry is full, the name is taken or
+    /// an allocation is refused; the owners are then as they were.
     pub fn register(&mut self, name: u64, owner: u64) -> bool
         ensures stored { IsTrue result → self.new.owners.pairs ≡ put nat_cmp self.old.owners.pairs name owner }
         ensures refused { result ≡ false → self.new.owners.pairs ≡ self.old.owners.pairs }

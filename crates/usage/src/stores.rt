@@ -1,4 +1,5 @@
-//! Pairs that are stored where their keys are absent, many at once, or found by a text that is lent.
+//! Pairs that are stored where their keys are absent, many at once, or found by a text that is
+//! lent.
 ghost use Rattle.std.specs.Prelude.{◌≡◌, ◌↔◌, IsTrue, Some, IfOk, OnOk, OnErr, unwrap_or};
 ghost use Rattle.std.specs.Cmp.Lexicographic.{slice_cmp};
 ghost use Rattle.std.specs.Option.{option_map};

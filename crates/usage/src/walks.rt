@@ -52,7 +52,7 @@ pub fn price_at_or_below(prices: &TreeIndex<u64, u64>, item: u64) -> Option<u64>
     }
 }
 
-/// Returns the price of an offer, if there is one.
+// Returns the price of an offer, if there is one.
 fn price_of(offer: Option<(&u64, &u64)>) -> Option<u64>
     ensures { result ≡ option_map (λ pair. pair.1) (lent offer.entry) }
 {

@@ -1,4 +1,5 @@
-//! The order book that README shows: the best bid and the best ask, and the asks that are left after a cancel.
+//! The order book that README shows: the best bid and the best ask, and the asks that are left
+//! after a cancel.
 #![tactic(auto)]
 
 use std::alloc::{AllocError, Global};
@@ -6,7 +7,7 @@ use std::io;
 use std::ops::Bound;
 use tree_index::TreeIndex;
 
-/// Returns the quantity at each price.
+// Returns the quantity at each price.
 fn book_of(alloc: Global, orders: &[(u64, u64)]) -> Result<TreeIndex<u64, u64>, AllocError> {
     let mut book = TreeIndex::new(alloc);
     for (price, quantity) in orders {

@@ -11,7 +11,7 @@ use Rattle.tree_model.specs.declared.commands.Record.{Record}
 use Rattle.tree_model.specs.Runs.{Step}
 use Rattle.tree_model.specs.History.{IsHistoryOf, IsSamePairs, Replays}
 use Rattle.tree_model.proofs.Lengths.{length-put, without_few}
-use Rattle.tree_tallies.specs.Tallies.{is_stored, tally}
+use Rattle.tree_state.specs.Tallies.{is_stored, tally}
 
 module _ {K V S : Type 0} (cmp : K → K → Ordering) (seen : V → S) where
   same_length : (new old : List (K × V)) → new ≡ old → length new ≡ length old

@@ -2,8 +2,8 @@
 ghost use Rattle.std.specs.Prelude.{◌≡◌, ◌+◌, ◌≤◌, IfOk, length};
 ghost use Rattle.std.specs.Ordering.{nat_cmp};
 ghost use Rattle.tree_model.specs.History.{IsHistoryOf};
-ghost use Rattle.tree_tallies.specs.Ledgers.{IsBlankFor};
-ghost use Rattle.tree_tallies.specs.Tallies.{none, plus, tally, tally_of};
+ghost use Rattle.tree_state.specs.Ledgers.{IsBlankFor};
+ghost use Rattle.tree_state.specs.Tallies.{none, plus, tally, tally_of};
 
 use std::alloc::{AllocError, Global};
 use std::marker::Brand;
@@ -26,7 +26,8 @@ pub struct Claims {
     pub told: (Tally, Tally),
 }
 
-// Claims each number for the owner, unless it is claimed already. A claim that is refused memory is left.
+// Claims each number for the owner, unless it is claimed already. A claim that cannot allocate is
+// left.
 fn claim<C: Ledger, S: Ledger, M: Ledger, F: Ledger, D: Ledger, R: Wait>(
     rt: &R,
     owners: &SharedTreeIndex<u64, u64, C, S, M, F, D>,
@@ -82,10 +83,10 @@ pub fn claim_both<C: Shared, S: Shared, M: Shared, F: Shared, D: Shared, R: Thre
     }
 }
 
-/// Lets two threads claim the same numbers, one for owner 1 and one for owner 2. A number goes to the owner whose claim
-/// comes first. A claim that is refused memory is left.
+/// Lets two threads claim the same numbers, one for owner 1 and one for owner 2. A number goes to
+/// the owner whose claim comes first. A claim that cannot allocate is left.
 ///
-/// Returns `Err` if the index is refused memory for its passes.
+/// Returns `Err` if the index cannot allocate its passes.
 pub fn claimed_by_two<R: Threads + Wait + Sync>(
     rt: &R,
     alloc: Global,

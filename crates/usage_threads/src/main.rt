@@ -1,6 +1,8 @@
-//! Two threads that claim numbers in one shared index, as docs/USING.md shows them, and a storm of eight workers.
+//! Two threads that claim numbers in one shared index, as docs/USING.md shows them, and a storm of
+//! eight workers.
 //!
-//! Prints a line of each: the calls that were answered, the pairs that were stored and the pairs that are there.
+//! Prints a line of each: the calls that were answered, the pairs that were stored and the pairs
+//! that are there.
 #![tactic(auto)]
 
 mod claims;
@@ -8,15 +10,14 @@ mod claims;
 use crate::claims::claimed_by_two;
 use std::alloc::AllocError;
 use std::io;
-use tree_shared::Closed;
-use tree_workers::{OpenGate, StormError, run_workers};
+use tree_shared::{Closed, OpenGate, StormError, run_workers};
 
-/// Why a line is absent.
+// Why a line is absent.
 #[derive(Debug, Drop)]
 enum Trouble {
-    /// Memory or a thread was refused.
+    // Memory or a thread was refused.
     Refused,
-    /// A line could not be written.
+    // A line could not be written.
     Unwritten,
 }
 
@@ -46,7 +47,7 @@ fn main(rt: HostRuntime) -> Result<(), Trouble> {
     show(&rt, &closed, 8000)
 }
 
-// Prints what came of so many calls. Returns `Err` if one of them was refused memory.
+// Prints what came of so many calls. Returns `Err` if an allocation failed in one of them.
 fn show(rt: &impl Print, closed: &Closed<u64, u64>, made: u64) -> Result<(), Trouble> {
     let (calls, stored, length) = (closed.tally.calls, closed.tally.stored, closed.index.len());
     if calls < made {

@@ -6,14 +6,15 @@ use std::process::Abort;
 use tree_index::{SmallTreeIndex, TreeIndex};
 use tree_support::{Numbers, OwnScenario, put, succeeds_by_own_calls};
 
-/// The end of a walk that is asked.
+// The end of a walk that is asked.
 #[derive(Clone, Copy)]
 enum End {
     First,
     Last,
 }
 
-/// How many keys from 1 on are stored, each with ten times itself, the ends that are asked, and the keys that come.
+// How many keys from 1 on are stored, each with ten times itself, the ends that are asked, and the
+// keys that come.
 type Row = (u64, &'static [(End, Option<u64>)]);
 
 static ROWS: [Row; 6] = [
@@ -51,7 +52,7 @@ static ROWS: [Row; 6] = [
     ),
 ];
 
-/// Stores the keys from 1 to the last, each with ten times itself.
+// Stores the keys from 1 to the last, each with ten times itself.
 fn store(index: &mut impl Numbers, last: u64) -> Result<(), AllocError> {
     for key in 1..=last {
         put(index, key, key.saturating_mul(10))?;
@@ -59,7 +60,7 @@ fn store(index: &mut impl Numbers, last: u64) -> Result<(), AllocError> {
     Ok(())
 }
 
-/// Asks an end of a walk.
+// Asks an end of a walk.
 fn ask<'t, I: DoubleEndedIterator<Item = &'t u64>>(walk: &mut I, end: End) -> Option<u64>
     requires first { I.can_next walk.old }
     requires last { I.can_next_back walk.old }
@@ -70,7 +71,7 @@ fn ask<'t, I: DoubleEndedIterator<Item = &'t u64>>(walk: &mut I, end: End) -> Op
     }
 }
 
-/// Asks the ends of a walk, which gives the wanted keys times a factor.
+// Asks the ends of a walk, which gives the wanted keys times a factor.
 fn expect_steps<'t, I: DoubleEndedIterator<Item = &'t u64>>(
     rt: &impl Abort,
     walk: I,
@@ -87,13 +88,13 @@ fn expect_steps<'t, I: DoubleEndedIterator<Item = &'t u64>>(
     }
 }
 
-/// An index of numbers whose keys and values are walked over. It is implemented at each size, since code for any size would
-/// owe a proof of the size of each walk.
+// An index of numbers whose keys and values are walked over. It is implemented at each size, since
+// code for any size would owe a proof of the size of each walk.
 trait Listed: Numbers {
-    /// Asks the ends of a walk over the keys, and of one over the values.
+    // Asks the ends of a walk over the keys, and of one over the values.
     fn expect_ends<R: Abort>(&self, rt: &R, steps: &[(End, Option<u64>)]);
 
-    /// Takes all keys up to the last, and all values.
+    // Takes all keys up to the last, and all values.
     fn expect_whole<R: Abort>(&self, rt: &R, last: u64);
 }
 
@@ -121,7 +122,7 @@ impl Listed for SmallTreeIndex<u64, u64> {
     }
 }
 
-/// Asks the ends of walks as a row says.
+// Asks the ends of walks as a row says.
 #[derive(Drop)]
 struct Asking<'r, R> {
     rt: &'r R,
@@ -145,7 +146,7 @@ fn both_ends_give_keys_and_values(rt: HostRuntime) {
     }
 }
 
-/// Takes all that a walk gives, which is the keys up to the last times a factor.
+// Takes all that a walk gives, which is the keys up to the last times a factor.
 fn expect_all<'t, I: Iterator<Item = &'t u64>>(rt: &impl Abort, walk: I, last: u64, factor: u64)
     requires can { I.can_next walk }
     requires ends { IsFinite (I.remaining walk) }
@@ -158,7 +159,7 @@ fn expect_all<'t, I: Iterator<Item = &'t u64>>(rt: &impl Abort, walk: I, last: u
     assert!(rt; given == last);
 }
 
-/// Takes all keys and values of three levels.
+// Takes all keys and values of three levels.
 #[derive(Drop)]
 struct Taking<'r, R> {
     rt: &'r R,

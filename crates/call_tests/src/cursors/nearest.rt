@@ -3,13 +3,13 @@ use std::alloc::{AllocError, Global};
 use std::process::Abort;
 use tree_support::{MoreCalls, Scenario, ascend, succeeds_at_both_sizes};
 
-/// The key of a pair, if there is one.
+// The key of a pair, if there is one.
 fn key_of(pair: Option<(u64, u64)>) -> Option<u64> {
     let (key, _) = pair?;
     Some(key)
 }
 
-/// The keys nearest to a key, from below and from above.
+// The keys nearest to a key, from below and from above.
 fn nearest(index: &impl MoreCalls, key: u64) -> (Option<u64>, Option<u64>) {
     (
         key_of(index.at_or_below(key)),
@@ -17,12 +17,12 @@ fn nearest(index: &impl MoreCalls, key: u64) -> (Option<u64>, Option<u64>) {
     )
 }
 
-/// The first and the last key.
+// The first and the last key.
 fn ends(index: &impl MoreCalls) -> (Option<u64>, Option<u64>) {
     (key_of(index.first()), key_of(index.last()))
 }
 
-/// The first and the last of so many even keys, and what is beside keys beyond them.
+// The first and the last of so many even keys, and what is beside keys beyond them.
 fn expect_ends(rt: &impl Abort, index: &impl MoreCalls, len: u32) {
     let top = 2 * u64::from(len);
     let (least, greatest) = if len > 0 {
@@ -35,7 +35,7 @@ fn expect_ends(rt: &impl Abort, index: &impl MoreCalls, len: u32) {
     assert!(rt; nearest(index, top + 1) == (greatest, None));
 }
 
-/// What is beside each of so many even keys but the last, and beside the odd key above it.
+// What is beside each of so many even keys but the last, and beside the odd key above it.
 fn expect_beside(rt: &impl Abort, index: &impl MoreCalls, len: u32) {
     for number in 1..len {
         let key = 2 * u64::from(number);
@@ -44,7 +44,7 @@ fn expect_beside(rt: &impl Abort, index: &impl MoreCalls, len: u32) {
     }
 }
 
-/// Removes every pair, the last one first, so that leaves at the end are emptied one after another.
+// Removes every pair, the last one first, so that leaves at the end are emptied one after another.
 fn expect_emptied(rt: &impl Abort, index: &mut impl MoreCalls, len: u32) {
     for number in (1..=len).rev() {
         assert!(rt; index.remove(2 * u64::from(number)));
@@ -52,13 +52,13 @@ fn expect_emptied(rt: &impl Abort, index: &mut impl MoreCalls, len: u32) {
     }
 }
 
-/// How many even keys are stored in an index of fifteen pairs a leaf, and in one of seven.
+// How many even keys are stored in an index of fifteen pairs a leaf, and in one of seven.
 static LENGTHS: [(u32, u32); 5] = [(0, 0), (1, 1), (15, 7), (16, 8), (241, 57)];
 
-/// So many that the tree has three levels.
+// So many that the tree has three levels.
 static DEEP_LENGTHS: [(u32, u32); 1] = [(3_616, 400)];
 
-/// Asks for the nearest pairs among so many.
+// Asks for the nearest pairs among so many.
 #[derive(Drop)]
 struct Seeking<'r, R> {
     rt: &'r R,
@@ -81,7 +81,7 @@ impl<R: Abort> Scenario for Seeking<'_, R> {
     }
 }
 
-/// Asks for the nearest pairs among each of these numbers of keys.
+// Asks for the nearest pairs among each of these numbers of keys.
 fn seek_in_each(rt: &impl Abort, alloc: Global, lengths: &[(u32, u32)]) {
     for lengths in lengths {
         let scenario = Seeking {

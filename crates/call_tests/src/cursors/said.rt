@@ -1,7 +1,7 @@
 //! The answers of cursors over numbers, as values that can be compared.
 use tree_index::{Answer, Cursor, Move};
 
-/// A pair of numbers, if there is one.
+// A pair of numbers, if there is one.
 pub(crate) type Entry = Option<(u64, u64)>;
 
 /// What a cursor over numbers answered.
@@ -11,13 +11,13 @@ pub enum Said {
     Flag(bool),
 }
 
-/// The numbers that a cursor lends.
+// The numbers that a cursor lends.
 pub(crate) fn numbers(pair: Option<(&u64, &u64)>) -> Entry {
     let (key, value) = pair?;
     Some((*key, *value))
 }
 
-/// What an answer of a cursor says.
+// What an answer of a cursor says.
 pub(crate) fn said_by(answer: &Answer<'_, u64, u64>) -> Said {
     match answer {
         Answer::Pair(pair) => Said::Pair(numbers(*pair)),
@@ -25,7 +25,7 @@ pub(crate) fn said_by(answer: &Answer<'_, u64, u64>) -> Said {
     }
 }
 
-/// Makes a move of a cursor.
+// Makes a move of a cursor.
 pub(crate) fn make<'t, C: Cursor<'t, u64, u64>>(cursor: &mut C, step: Move) -> Said {
     match step {
         Move::Next => Said::Pair(numbers(cursor.next())),

@@ -7,7 +7,7 @@ use std::process::Abort;
 use test_support::refusals::succeeds;
 use tree_index::TreeIndex;
 
-/// Compares what `Debug` writes.
+// Compares what `Debug` writes.
 fn expect_text<T: Debug>(
     rt: &impl Abort,
     alloc: Global,
@@ -19,7 +19,7 @@ fn expect_text<T: Debug>(
     Ok(())
 }
 
-/// Pairs, a key, and the text of where it is.
+// Pairs, a key, and the text of where it is.
 type Place = (&'static [(u64, u64)], u64, &'static str);
 
 static PLACES: [Place; 3] = [
@@ -36,7 +36,7 @@ static PLACES: [Place; 3] = [
     (&[], 9, "Empty"),
 ];
 
-/// Compares the text of where a key is in an index of these pairs.
+// Compares the text of where a key is in an index of these pairs.
 fn expect_place(
     rt: &impl Abort,
     alloc: Global,
@@ -59,7 +59,7 @@ fn shows_where_a_key_is(rt: HostRuntime) {
     }
 }
 
-/// The text of a walk that has made its first move.
+// The text of a walk that has made its first move.
 fn expect_begun(
     rt: &impl Abort,
     alloc: Global,
@@ -71,7 +71,7 @@ fn expect_begun(
     expect_text(rt, alloc, &iter, begun)
 }
 
-/// The texts of a range that has made a move from one end, and then from the other.
+// The texts of a range that has made a move from one end, and then from the other.
 fn expect_begun_range(
     rt: &impl Abort,
     alloc: Global,

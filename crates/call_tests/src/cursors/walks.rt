@@ -12,8 +12,8 @@ use tree_support::{
     succeeds_by_own_calls,
 };
 
-/// Pairs in the order in which they come, the bounds of a range over them, its moves with their answers, and then those
-/// of the cursor over all pairs that is made of it.
+// Pairs in the order in which they come, the bounds of a range over them, its moves with their
+// answers, and then those of the cursor over all pairs that is made of it.
 struct Row {
     pairs: &'static [(u64, u64)],
     bounds: (Bound<u64>, Bound<u64>),
@@ -214,7 +214,7 @@ static ROWS: [Row; 11] = [
     },
 ];
 
-/// Stores pairs in an index.
+// Stores pairs in an index.
 pub(crate) fn fill(index: &mut impl Numbers, pairs: &[(u64, u64)]) -> Result<(), AllocError> {
     for (key, value) in pairs {
         put(index, *key, *value)?;
@@ -222,7 +222,7 @@ pub(crate) fn fill(index: &mut impl Numbers, pairs: &[(u64, u64)]) -> Result<(),
     Ok(())
 }
 
-/// Makes the moves, which answer so.
+// Makes the moves, which answer so.
 fn expect<'t, C: Cursor<'t, u64, u64>>(
     rt: &impl Abort,
     cursor: &mut C,
@@ -234,7 +234,7 @@ fn expect<'t, C: Cursor<'t, u64, u64>>(
     }
 }
 
-/// Makes the moves at once, which answer so, also the second time if an allocation fails.
+// Makes the moves at once, which answer so, also the second time if an allocation fails.
 fn expect_at_once<'t, C: Cursor<'t, u64, u64>>(
     rt: &impl Abort,
     alloc: Global,
@@ -252,7 +252,8 @@ fn expect_at_once<'t, C: Cursor<'t, u64, u64>>(
 
 const RUN_MOVES: &str = "run_moves";
 
-/// Makes the moves at once, which answer so. Returns `false` if an allocation fails; nothing is moved then.
+// Makes the moves at once, which answer so. Returns `false` if an allocation fails; nothing is
+// moved then.
 fn makes_at_once<'t, C: Cursor<'t, u64, u64>>(
     rt: &impl Abort,
     alloc: Global,
@@ -275,7 +276,7 @@ fn makes_at_once<'t, C: Cursor<'t, u64, u64>>(
     true
 }
 
-/// Makes the moves of a row by a range, and those of the cursor that is made of it.
+// Makes the moves of a row by a range, and those of the cursor that is made of it.
 fn expect_stepped<const LEN: usize>(rt: &impl Abort, range: RangeOf<'_, u64, u64, LEN>, row: &Row) {
     let mut range = range;
     expect(rt, &mut range, row.moves, row.answers);
@@ -283,7 +284,7 @@ fn expect_stepped<const LEN: usize>(rt: &impl Abort, range: RangeOf<'_, u64, u64
     expect(rt, &mut opened, row.opened_moves, row.opened_answers);
 }
 
-/// Makes the same moves, each list at once.
+// Makes the same moves, each list at once.
 fn expect_range_at_once<const LEN: usize>(
     rt: &impl Abort,
     alloc: Global,
@@ -296,13 +297,13 @@ fn expect_range_at_once<const LEN: usize>(
     expect_at_once(rt, alloc, &mut opened, row.opened_moves, row.opened_answers)
 }
 
-/// Makes the moves of a row over all pairs by a cursor.
+// Makes the moves of a row over all pairs by a cursor.
 fn expect_iter<const LEN: usize>(rt: &impl Abort, iter: IterOf<'_, u64, u64, LEN>, row: &Row) {
     let mut iter = iter;
     expect(rt, &mut iter, row.moves, row.answers);
 }
 
-/// Makes the same moves at once.
+// Makes the same moves at once.
 fn expect_iter_at_once<const LEN: usize>(
     rt: &impl Abort,
     alloc: Global,
@@ -314,18 +315,18 @@ fn expect_iter_at_once<const LEN: usize>(
 }
 
 impl Row {
-    /// The bounds of the range.
+    // The bounds of the range.
     fn bounds(&self) -> (Bound<&u64>, Bound<&u64>) {
         (self.bounds.0.as_ref(), self.bounds.1.as_ref())
     }
 }
 
-/// Makes the moves of a row by a range over an index.
+// Makes the moves of a row by a range over an index.
 fn step_range<const LEN: usize>(rt: &impl Abort, index: &TreeIndexOf<u64, u64, LEN>, row: &Row) {
     expect_stepped(rt, index.range(row.bounds()), row);
 }
 
-/// Makes the same moves at once.
+// Makes the same moves at once.
 fn run_range<const LEN: usize>(
     rt: &impl Abort,
     alloc: Global,
@@ -335,12 +336,12 @@ fn run_range<const LEN: usize>(
     expect_range_at_once(rt, alloc, index.range(row.bounds()), row)
 }
 
-/// Makes the moves of a row by a cursor over all pairs of an index.
+// Makes the moves of a row by a cursor over all pairs of an index.
 fn step_iter<const LEN: usize>(rt: &impl Abort, index: &TreeIndexOf<u64, u64, LEN>, row: &Row) {
     expect_iter(rt, index.iter(), row);
 }
 
-/// Makes the same moves at once.
+// Makes the same moves at once.
 fn run_iter<const LEN: usize>(
     rt: &impl Abort,
     alloc: Global,
@@ -350,7 +351,8 @@ fn run_iter<const LEN: usize>(
     expect_iter_at_once(rt, alloc, index.iter(), row)
 }
 
-/// Makes the moves of a row one by one, by a range and, if its bounds are open, by a cursor over all pairs.
+// Makes the moves of a row one by one, by a range and, if its bounds are open, by a cursor over
+// all pairs.
 fn expect_steps<const LEN: usize>(rt: &impl Abort, index: &TreeIndexOf<u64, u64, LEN>, row: &Row) {
     step_range(rt, index, row);
     if row.bounds == (Bound::Unbounded, Bound::Unbounded) {
@@ -358,7 +360,7 @@ fn expect_steps<const LEN: usize>(rt: &impl Abort, index: &TreeIndexOf<u64, u64,
     }
 }
 
-/// Makes the same moves at once.
+// Makes the same moves at once.
 fn expect_runs<const LEN: usize>(
     rt: &impl Abort,
     alloc: Global,
@@ -372,7 +374,7 @@ fn expect_runs<const LEN: usize>(
     Ok(())
 }
 
-/// Walks as a row says.
+// Walks as a row says.
 #[derive(Drop)]
 struct Walking<'r, R> {
     rt: &'r R,
@@ -400,14 +402,14 @@ fn walks_as_the_rows_say(rt: HostRuntime) {
     }
 }
 
-/// Bounds, and how many of the keys from 1 to 9 are within them.
+// Bounds, and how many of the keys from 1 to 9 are within them.
 static COUNTS: [(Bound<u64>, Bound<u64>, usize); 3] = [
     (Bound::Included(1), Bound::Excluded(1), 0),
     (Bound::Included(4), Bound::Excluded(8), 4),
     (Bound::Included(4), Bound::Included(8), 5),
 ];
 
-/// How many pairs a loop over a range gives.
+// How many pairs a loop over a range gives.
 fn count<const LEN: usize>(range: RangeOf<'_, u64, u64, LEN>) -> usize {
     let mut counted: usize = 0;
     for _pair in range {
@@ -416,7 +418,7 @@ fn count<const LEN: usize>(range: RangeOf<'_, u64, u64, LEN>) -> usize {
     counted
 }
 
-/// The sum of the keys and values that a loop over an index gives.
+// The sum of the keys and values that a loop over an index gives.
 fn sum<const LEN: usize>(index: &TreeIndexOf<u64, u64, LEN>) -> u64 {
     let mut sum: u64 = 0;
     for (key, value) in index {
@@ -425,7 +427,7 @@ fn sum<const LEN: usize>(index: &TreeIndexOf<u64, u64, LEN>) -> u64 {
     sum
 }
 
-/// How many pairs of an index are within bounds.
+// How many pairs of an index are within bounds.
 fn count_within<const LEN: usize>(
     index: &TreeIndexOf<u64, u64, LEN>,
     low: Bound<&u64>,
@@ -434,7 +436,7 @@ fn count_within<const LEN: usize>(
     count(index.range((low, high)))
 }
 
-/// Counts the keys from 1 to 9 within bounds.
+// Counts the keys from 1 to 9 within bounds.
 #[derive(Drop)]
 struct Counting<'r, R> {
     rt: &'r R,
@@ -458,7 +460,7 @@ fn counts_what_is_within_the_bounds(rt: HostRuntime) {
     assert!(rt; succeeds_by_own_calls(rt.alloc(), &scenario));
 }
 
-/// Whether a range over two keys in two leaves gives them and ends, and a clone of it moves alone.
+// Whether a range over two keys in two leaves gives them and ends, and a clone of it moves alone.
 fn gives_two_keys(range: Range<'_, u64, u64>) -> Result<bool, AllocError> {
     let mut other = range.clone()?;
     let mut range = range;
@@ -471,7 +473,7 @@ fn gives_two_keys(range: Range<'_, u64, u64>) -> Result<bool, AllocError> {
     Ok(moved == [Some((15, 15)), Some((16, 16)), None, Some((16, 16))])
 }
 
-/// Moves such a range over an index.
+// Moves such a range over an index.
 fn expect_clone(rt: &impl Abort, index: &TreeIndex<u64, u64>) -> Result<(), AllocError> {
     let range = index.range((Bound::Excluded(&14), Bound::Excluded(&17)));
     assert!(rt; gives_two_keys(range)?);
@@ -489,7 +491,7 @@ fn a_clone_moves_alone(rt: HostRuntime) {
     assert!(rt; succeeds(rt.alloc(), || meets_at_a_leaf_steps(&rt, rt.alloc())));
 }
 
-/// Fills a leaf and puts a key into a new one, removes it, and then stores a larger one.
+// Fills a leaf and puts a key into a new one, removes it, and then stores a larger one.
 #[derive(Drop)]
 struct Emptying<'r, R> {
     rt: &'r R,
@@ -515,7 +517,8 @@ fn passes_an_empty_last_leaf(rt: HostRuntime) {
     assert!(rt; succeeds_at_both_sizes(rt.alloc(), &scenario));
 }
 
-/// Whether a cursor between two pairs shows both, and has left the list at both ends after a move of each.
+// Whether a cursor between two pairs shows both, and has left the list at both ends after a move
+// of each.
 fn leaves_both_ends<const LEN: usize>(index: &TreeIndexOf<u64, u64, LEN>) -> bool {
     let ProximityOf::Between(ends) = index.locate(&2) else {
         return false;
@@ -530,7 +533,7 @@ fn leaves_both_ends<const LEN: usize>(index: &TreeIndexOf<u64, u64, LEN>) -> boo
     told == [Some((1, 1)), Some((3, 2)), None, None]
 }
 
-/// Locates a key among four pairs.
+// Locates a key among four pairs.
 #[derive(Drop)]
 struct Locating<'r, R> {
     rt: &'r R,

@@ -4,7 +4,7 @@ use std::process::Abort;
 use test_support::refusals::{begins, ends, is_granted_again, succeeds};
 use tree_set::{SmallTreeSet, TreeSetOf};
 
-/// Ascending texts, so many.
+// Ascending texts, so many.
 fn ascending(alloc: Global, count: u64) -> Result<Vec<String>, AllocError> {
     let mut texts = Vec::with_capacity(alloc, count as usize)?;
     for number in 0..count {
@@ -13,7 +13,7 @@ fn ascending(alloc: Global, count: u64) -> Result<Vec<String>, AllocError> {
     Ok(texts)
 }
 
-/// Whether a set has these elements.
+// Whether a set has these elements.
 fn has(set: &SmallTreeSet<String>, texts: &[String]) -> bool {
     let mut walk = set.iter();
     for text in texts {
@@ -26,8 +26,8 @@ fn has(set: &SmallTreeSet<String>, texts: &[String]) -> bool {
 
 const INSERT: &str = "TreeSet::insert";
 
-/// Inserts the last text into a set of the others. Returns `false` if an allocation fails: the text came back then, and the set
-/// is as it was.
+// Inserts the last text into a set of the others. Returns `false` if an allocation fails: the text
+// came back then, and the set is as it was.
 fn insert_once(
     rt: &impl Abort,
     alloc: Global,
@@ -53,7 +53,7 @@ fn insert_once(
     }
 }
 
-/// Inserts a text at once or the second time.
+// Inserts a text at once or the second time.
 fn insert_twice(
     rt: &impl Abort,
     alloc: Global,
@@ -68,7 +68,7 @@ fn insert_twice(
     Ok(())
 }
 
-/// Inserts clones of all texts but the last.
+// Inserts clones of all texts but the last.
 fn fill(set: &mut SmallTreeSet<String>, texts: &[String]) -> Result<(), AllocError> {
     let Some((_, others)) = texts.split_last() else {
         return Ok(());
@@ -81,8 +81,8 @@ fn fill(set: &mut SmallTreeSet<String>, texts: &[String]) -> Result<(), AllocErr
     Ok(())
 }
 
-/// How many elements a set has before an insert: none, a full leaf, full leaves where the arena of leaves is full too, and a full
-/// node where the arena of nodes is.
+// How many elements a set has before an insert: none, a full leaf, full leaves where the arena of
+// leaves is full too, and a full node where the arena of nodes is.
 static COUNTS: [u64; 4] = [0, 7, 28, 154];
 
 fn inserts_steps(rt: &impl Abort, alloc: Global, count: u64) -> Result<(), AllocError> {
@@ -99,10 +99,11 @@ fn inserts_again(rt: HostRuntime) {
     }
 }
 
-/// The calls that copy a set.
+// The calls that copy a set.
 static COPIES: [&str; 2] = ["TreeSet::try_clone", "TreeSet::clone"];
 
-/// Copies a set of these texts by the call of this name. Returns `false` if an allocation fails. The set is then as it was.
+// Copies a set of these texts by the call of this name. Returns `false` if an allocation fails.
+// The set is then as it was.
 fn is_copied(
     rt: &impl Abort,
     alloc: Global,
@@ -125,7 +126,7 @@ fn is_copied(
     has(&copy, texts)
 }
 
-/// Copies a set at once or the second time.
+// Copies a set at once or the second time.
 fn copy_twice(
     rt: &impl Abort,
     alloc: Global,

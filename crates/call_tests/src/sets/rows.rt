@@ -6,7 +6,7 @@ use std::process::Abort;
 use test_support::refusals::succeeds;
 use tree_set::{SmallTreeSet, TreeSet, TreeSetOf};
 
-/// Inserts the numbers below `count`, the largest first.
+// Inserts the numbers below `count`, the largest first.
 fn fill<const LEN: usize>(set: &mut TreeSetOf<u64, LEN>, count: u64) -> Result<(), AllocError> {
     for number in (0..count).rev() {
         if set.insert(number).is_err() {
@@ -16,13 +16,13 @@ fn fill<const LEN: usize>(set: &mut TreeSetOf<u64, LEN>, count: u64) -> Result<(
     Ok(())
 }
 
-/// Returns whether the set has the numbers below `count`, and tells so.
+// Returns whether the set has the numbers below `count`, and tells so.
 fn has_run<const LEN: usize>(set: &TreeSetOf<u64, LEN>, count: u64) -> bool {
     (set.len() as u64, set.is_empty(), set.contains(&count)) == (count, count == 0, false)
         && (count == 0 || set.contains(&(count - 1)))
 }
 
-/// Returns whether a walk gives 0, 1, 2 and so on up to `count`.
+// Returns whether a walk gives 0, 1, 2 and so on up to `count`.
 fn walks_run(set: &TreeSet<u64>, count: u64) -> bool {
     let mut next = 0u64;
     for element in set {
@@ -34,12 +34,12 @@ fn walks_run(set: &TreeSet<u64>, count: u64) -> bool {
     next == count
 }
 
-/// Returns the ends of the set.
+// Returns the ends of the set.
 fn ends(set: &TreeSet<u64>) -> (Option<u64>, Option<u64>) {
     (set.first().copied(), set.last().copied())
 }
 
-/// The numbers of elements: none, one, a full leaf, and so many that the tree has three levels.
+// The numbers of elements: none, one, a full leaf, and so many that the tree has three levels.
 static COUNTS: [u64; 4] = [0, 1, 15, 400];
 
 fn walks_rows_steps(rt: &impl Abort, alloc: Global) -> Result<(), AllocError> {
@@ -58,7 +58,7 @@ fn walks_rows(rt: HostRuntime) {
     assert!(rt; succeeds(rt.alloc(), || walks_rows_steps(&rt, rt.alloc())));
 }
 
-/// The same for leaves of seven elements.
+// The same for leaves of seven elements.
 static SMALL_COUNTS: [u64; 4] = [0, 1, 7, 200];
 
 fn fills_small_rows_steps(rt: &impl Abort, alloc: Global) -> Result<(), AllocError> {

@@ -5,7 +5,7 @@ use std::process::Abort;
 use test_support::refusals::succeeds;
 use tree_set::{TreeSet, TreeSetOf};
 
-/// Returns the digits that the union gives, as one number.
+// Returns the digits that the union gives, as one number.
 fn of_either(first: &TreeSet<u64>, second: &TreeSet<u64>) -> u64 {
     let mut digits = 0u64;
     for digit in first.union(second) {
@@ -14,7 +14,7 @@ fn of_either(first: &TreeSet<u64>, second: &TreeSet<u64>) -> u64 {
     digits
 }
 
-/// Returns those that the intersection gives.
+// Returns those that the intersection gives.
 fn of_both(first: &TreeSet<u64>, second: &TreeSet<u64>) -> u64 {
     let mut digits = 0u64;
     for digit in first.intersection(second) {
@@ -23,7 +23,7 @@ fn of_both(first: &TreeSet<u64>, second: &TreeSet<u64>) -> u64 {
     digits
 }
 
-/// Returns those that the difference gives.
+// Returns those that the difference gives.
 fn of_first(first: &TreeSet<u64>, second: &TreeSet<u64>) -> u64 {
     let mut digits = 0u64;
     for digit in first.difference(second) {
@@ -32,7 +32,7 @@ fn of_first(first: &TreeSet<u64>, second: &TreeSet<u64>) -> u64 {
     digits
 }
 
-/// Returns those that the symmetric difference gives.
+// Returns those that the symmetric difference gives.
 fn of_one(first: &TreeSet<u64>, second: &TreeSet<u64>) -> u64 {
     let mut digits = 0u64;
     for digit in first.symmetric_difference(second) {
@@ -41,7 +41,8 @@ fn of_one(first: &TreeSet<u64>, second: &TreeSet<u64>) -> u64 {
     digits
 }
 
-/// Digits of a second set, and what is of either, of both, of the first alone and of one alone, beside 1, 3 and 5.
+// Digits of a second set, and what is of either, of both, of the first alone and of one alone,
+// beside 1, 3 and 5.
 static ROWS: [(&[u64], u64, u64, u64, u64); 4] = [
     (&[], 135, 0, 135, 135),
     (&[3, 4], 1345, 3, 15, 145),
@@ -49,7 +50,7 @@ static ROWS: [(&[u64], u64, u64, u64, u64); 4] = [
     (&[9, 2], 12359, 0, 135, 12359),
 ];
 
-/// Fills the second set with the digits of each row.
+// Fills the second set with the digits of each row.
 fn compares(
     rt: &impl Abort,
     first: &TreeSet<u64>,
@@ -65,13 +66,13 @@ fn compares(
     Ok(())
 }
 
-/// Returns whether a clone equals the set.
+// Returns whether a clone equals the set.
 fn is_cloned(set: &TreeSet<u64>) -> Result<bool, AllocError> {
     let copy = set.clone()?;
     Ok(copy == *set)
 }
 
-/// Compares with a set that is a copy at first.
+// Compares with a set that is a copy at first.
 fn compares_with_another(
     rt: &impl Abort,
     alloc: Global,

@@ -9,7 +9,7 @@ use tree_array::array::InsertResult;
 use tree_leaf::arena::{Slots, SlotsOf};
 use tree_leaf::leaf::{Leaf, LeafOf};
 
-/// How many leaves and nodes there are.
+// How many leaves and nodes there are.
 fn counts(arenas: &Slots<u64, u64, u8>) -> (usize, usize) {
     (arenas.leaf_count(), arenas.node_count())
 }
@@ -47,7 +47,7 @@ fn come_and_go(rt: &impl Abort, alloc: Global) -> Result<(), AllocError> {
     nodes_come_and_go(rt, &mut arenas)
 }
 
-/// Where places are reserved, no more memory is asked for.
+// Where places are reserved, no more memory is asked for.
 fn reserved_places_serve(rt: &impl Abort, alloc: Global) -> Result<(), AllocError> {
     let mut arenas: Slots<u64, u64, u8> = Slots::new(alloc);
     arenas.reserve(1, 1)?;
@@ -72,7 +72,7 @@ fn numbers_come_and_go(rt: HostRuntime) {
     );
 }
 
-/// A leaf with a pair of this key.
+// A leaf with a pair of this key.
 fn leaf_of<const LEN: usize>(key: u64) -> LeafOf<u64, u64, LEN>
     requires { IsLen LEN }
 {
@@ -81,21 +81,21 @@ fn leaf_of<const LEN: usize>(key: u64) -> LeafOf<u64, u64, LEN>
     leaf
 }
 
-/// Whether a leaf has a pair with this key, and no other one.
+// Whether a leaf has a pair with this key, and no other one.
 fn has_alone<const LEN: usize>(leaf: &mut LeafOf<u64, u64, LEN>, key: u64) -> bool {
     leaf.array_mut().insert::<false>(key, 0) == InsertResult::Duplicate(key, 0)
         && (leaf.array().free() as usize).checked_add(1) == Some(LEN)
 }
 
-/// Arenas whose nodes are numbers.
+// Arenas whose nodes are numbers.
 type Places<const LEN: usize> = SlotsOf<u64, u64, u64, LEN>;
 
-/// How many leaves and nodes there are.
+// How many leaves and nodes there are.
 fn counts_of<const LEN: usize>(arenas: &Places<LEN>) -> (usize, usize) {
     (arenas.leaf_count(), arenas.node_count())
 }
 
-/// Whether the arenas have the leaves of the keys below this number, and no other ones.
+// Whether the arenas have the leaves of the keys below this number, and no other ones.
 fn has_leaves<const LEN: usize>(arenas: &Places<LEN>, count: u64) -> bool {
     for number in 0..count {
         if !arenas
@@ -109,7 +109,8 @@ fn has_leaves<const LEN: usize>(arenas: &Places<LEN>, count: u64) -> bool {
     arenas.leaf_count() as u64 == count
 }
 
-/// Adds a leaf to arenas that have those of smaller keys. One that is refused comes back, and they have the same then.
+// Adds a leaf to arenas that have those of smaller keys. One that is refused comes back, and they
+// have the same then.
 fn adds_leaf_once<const LEN: usize>(
     rt: &impl Abort,
     alloc: Global,
@@ -135,7 +136,8 @@ fn adds_leaf_once<const LEN: usize>(
 
 const ADD_LEAF: &str = "Slots::add_leaf";
 
-/// Adds a leaf, at once or the second time. Returns whether it was refused once. `Err` if it was refused both times.
+// Adds a leaf, at once or the second time. Returns whether it was refused once. `Err` if it was
+// refused both times.
 fn adds_leaf<const LEN: usize>(
     rt: &impl Abort,
     alloc: Global,
@@ -152,7 +154,8 @@ fn adds_leaf<const LEN: usize>(
     Ok(true)
 }
 
-/// Adds a node. Returns whether it was refused: it comes back, and the arenas have as many leaves and nodes then.
+// Adds a node. Returns whether it was refused: it comes back, and the arenas have as many leaves
+// and nodes then.
 fn is_refused_a_node<const LEN: usize>(
     rt: &impl Abort,
     alloc: Global,
@@ -177,7 +180,7 @@ fn is_refused_a_node<const LEN: usize>(
 
 const ADD_NODE: &str = "Slots::add_node";
 
-/// Adds a node in the same way.
+// Adds a node in the same way.
 fn adds_node<const LEN: usize>(
     rt: &impl Abort,
     alloc: Global,
@@ -192,7 +195,8 @@ fn adds_node<const LEN: usize>(
     Ok(true)
 }
 
-/// Reserves places. Returns whether that was refused. There are as many leaves and nodes as before either way.
+// Reserves places. Returns whether that was refused. There are as many leaves and nodes as before
+// either way.
 fn is_refused_places<const LEN: usize>(
     rt: &impl Abort,
     alloc: Global,
@@ -208,7 +212,7 @@ fn is_refused_places<const LEN: usize>(
 
 const RESERVE: &str = "Slots::reserve";
 
-/// Reserves places in the same way.
+// Reserves places in the same way.
 fn reserves<const LEN: usize>(
     rt: &impl Abort,
     alloc: Global,
@@ -222,7 +226,8 @@ fn reserves<const LEN: usize>(
     Ok(true)
 }
 
-/// Adds nine leaves and nodes, and reserves places for three of them. `Err` if anything was refused.
+// Adds nine leaves and nodes, and reserves places for three of them. `Err` if anything was
+// refused.
 fn grows<const LEN: usize>(
     rt: &impl Abort,
     alloc: Global,

@@ -1,7 +1,7 @@
 //! A value that counts its drops.
 use std::cell::Cell;
 
-/// A number that adds one to a count when it is dropped.
+// A number that adds one to a count when it is dropped.
 pub(crate) struct Token<'c> {
     pub(crate) number: u64,
     drops: &'c Cell<u64>,

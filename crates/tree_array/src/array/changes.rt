@@ -9,8 +9,8 @@ use super::{ArrayOf, order_of};
 use tree_cells::search::{Place, find_key};
 
 impl<K: Ord + Drop, V: Drop, const LEN: usize> ArrayOf<K, V, LEN> {
-    /// Returns the slot of the pair with an equal key, or `None` if the key is absent. Makes at most 4 comparisons
-    /// (3 among 7 slots).
+    /// Returns the slot of the pair with an equal key, or `None` if the key is absent. Makes at
+    /// most 4 comparisons (3 among 7 slots).
     #[inline(always)]
     pub fn slot_of(&self, key: &K) -> Option<u8>
         ensures { MatchOption result (IsAbsent K.cmp self.now.entries key.now)
@@ -23,8 +23,8 @@ impl<K: Ord + Drop, V: Drop, const LEN: usize> ArrayOf<K, V, LEN> {
         }
     }
 
-    /// Passes the value of a slot, which must be reachable, to a function, and puts what it returns into the slot. Makes no
-    /// comparisons.
+    /// Passes the value of a slot, which must be reachable, to a function, and puts what it returns
+    /// into the slot. Makes no comparisons.
     pub fn change_val<F: FnOnce(V) -> V + Drop>(&mut self, slot: u8, change: F)
         requires pair { IsSome (arrival self.old.arrivals slot) }
         requires callable { ForSome (arrival self.old.arrivals slot) (λ pair. F.pre change pair.1) }

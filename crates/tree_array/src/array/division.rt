@@ -5,17 +5,17 @@ ghost use Rattle.tree_array.specs.Sound.{IsSound};
 ghost use Rattle.tree_cells.specs.Arrivals.{held};
 ghost use Rattle.tree_cells.specs.Moves.{HasLeft};
 ghost use Rattle.tree_cells.specs.Tabled.{IsTabled};
-ghost use Rattle.tree_order.specs.Order.{names};
+ghost use Rattle.tree_cells.specs.Order.{names};
 
 use super::{ArrayOf, order_of};
 use std::mem;
 use tree_cells::cells::Cells;
-use tree_order::order::{Order, RETIRED, clamp};
+use tree_cells::order::{Order, RETIRED, clamp};
 
 impl<K: Ord + Drop, V: Drop, const LEN: usize> ArrayOf<K, V, LEN> {
-    /// Returns where to split: how many entries go low, how many there are, and whether all of `LEN` arrived in
-    /// ascending order. Up to three quarters of `LEN` entries there is no split, and the first number is `LEN`.
-    /// Makes no comparisons.
+    /// Returns where to split: how many entries go low, how many there are, and whether all of
+    /// `LEN` arrived in ascending order. Up to three quarters of `LEN` entries there is no split,
+    /// and the first number is `LEN`. Makes no comparisons.
     pub fn optimal_boundary(&self) -> (u8, usize, bool)
         ensures boundary { result ≡ boundary K.cmp LEN self.now }
         ensures sound { IsSound K.cmp LEN self.now }
@@ -33,8 +33,9 @@ impl<K: Ord + Drop, V: Drop, const LEN: usize> ArrayOf<K, V, LEN> {
         }
     }
 
-    /// Moves the first `boundary` entries into `low`, which must be new, and keeps the others. The entries of both arrays
-    /// arrive anew, in ascending order, so that no slot is spent. Makes no comparisons.
+    /// Moves the first `boundary` entries into `low`, which must be new, and keeps the others. The
+    /// entries of both arrays arrive again, in ascending order, so that no slot is spent. Makes no
+    /// comparisons.
     pub fn divide(&mut self, boundary: u8, low: &mut Self)
         requires { low.old ≡ in_order [] }
         ensures low { low.new ≡ in_order (take boundary self.old.entries) }
@@ -45,8 +46,9 @@ impl<K: Ord + Drop, V: Drop, const LEN: usize> ArrayOf<K, V, LEN> {
         let _ = mem::replace(self, high);
     }
 
-    /// Moves the first `boundary` entries into `low` and the others into `high`, arriving in ascending order.
-    /// Afterwards this array is empty and retired. `low` and `high` must be new. Makes no comparisons.
+    /// Moves the first `boundary` entries into `low` and the others into `high`, arriving in
+    /// ascending order. Afterwards this array is empty and retired. `low` and `high` must be new.
+    /// Makes no comparisons.
     pub fn distribute(&mut self, boundary: u8, low: &mut Self, high: &mut Self)
         requires low { low.old ≡ in_order [] }
         requires high { high.old ≡ in_order [] }
@@ -62,8 +64,8 @@ impl<K: Ord + Drop, V: Drop, const LEN: usize> ArrayOf<K, V, LEN> {
         self.cells.set_entries(0);
     }
 
-    /// Does what [`distribute`](ArrayOf::distribute) does, but returns the entry at place `boundary`, if there is
-    /// one.
+    /// Does what [`distribute`](ArrayOf::distribute) does, but returns the entry at place
+    /// `boundary`, if there is one.
     #[tactic(auto, using(crate::proofs::Dealt::drained_same))]
     pub fn distribute_apart(
         &mut self,
@@ -83,8 +85,8 @@ impl<K: Ord + Drop, V: Drop, const LEN: usize> ArrayOf<K, V, LEN> {
         apart
     }
 
-    /// Lets the entries arrive anew in ascending order, so that no slot is spent. A retired array takes pairs again.
-    /// Makes no comparisons.
+    /// Lets the entries arrive again in ascending order, so that no slot is spent. A retired array
+    /// takes pairs again. Makes no comparisons.
     pub fn rebuild(&mut self)
         ensures { self.new ≡ in_order self.old.entries }
     {
@@ -92,16 +94,17 @@ impl<K: Ord + Drop, V: Drop, const LEN: usize> ArrayOf<K, V, LEN> {
         self.divide(0, &mut none);
     }
 
-    /// Creates a new array of as many slots.
+    // Creates a new array of as many slots.
     fn sibling(&self) -> Self
         ensures { result ≡ in_order [] }
     {
-        // What every array keeps, such as that its slots are 7 or 15, is known where a field is read.
+        // What every array keeps, such as that its slots are 7 or 15, is known where a field is
+        // read.
         let _ = &self.cells;
         ArrayOf::new()
     }
 
-    /// Takes the entry at this place, if there is one.
+    // Takes the entry at this place, if there is one.
     fn take_place(&mut self, place: u8) -> Option<(K, V)>
         ensures taken { result ≡ slice_get self.old.entries place }
         ensures low { take place self.new.entries ≡ take place self.old.entries }
@@ -116,8 +119,8 @@ impl<K: Ord + Drop, V: Drop, const LEN: usize> ArrayOf<K, V, LEN> {
     }
 }
 
-/// Moves the pairs of the places from `from` up to `end` into another array, which must be new, where they arrive in
-/// ascending order. Makes no comparisons.
+// Moves the pairs of the places from `from` up to `end` into another array, which must be new,
+// where they arrive in ascending order. Makes no comparisons.
 fn move_places<K: Ord, V, const LEN: usize>(
     cells: &mut Cells<K, V, LEN>,
     order: u64,

@@ -7,16 +7,17 @@ ghost use Rattle.tree_array.specs.Insertion.{IsFull, IsInsert, IsStore};
 ghost use Rattle.tree_cells.specs.Place.{Parts};
 
 use super::{ArrayOf, InsertResult, StoreResult, order_of};
+use tree_cells::order::clamp;
 use tree_cells::search::{Place, find_key_beyond};
-use tree_order::order::clamp;
 
 impl<K: Ord + Drop, V: Drop, const LEN: usize> ArrayOf<K, V, LEN> {
-    /// Stores a pair in the next slot. With `UPSERT` it replaces the pair with an equal key, key and
-    /// value, whose slot is then spent.
+    /// Stores a pair in the next slot. With `UPSERT` it replaces the pair with an equal key, key
+    /// and value, whose slot is then spent.
     ///
-    /// Returns `Duplicate` if `UPSERT` is false and an equal key is there, also if no slot is free. Returns
-    /// `Full` if no slot is free or the array is retired, with `UPSERT` also for a key that is there. Both
-    /// hand the pair back and change nothing. Makes at most 4 comparisons (3 among 7 slots).
+    /// Returns `Duplicate` if `UPSERT` is false and an equal key is there, also if no slot is free.
+    /// Returns `Full` if no slot is free or the array is retired, with `UPSERT` also for a key that
+    /// is there. Both hand the pair back and change nothing. Makes at most 4 comparisons (3 among 7
+    /// slots).
     pub fn insert<const UPSERT: bool>(&mut self, key: K, val: V) -> InsertResult<K, V>
         ensures { IsInsert K.cmp LEN UPSERT self.old key val result self.new }
     {
@@ -30,8 +31,8 @@ impl<K: Ord + Drop, V: Drop, const LEN: usize> ArrayOf<K, V, LEN> {
         self.store_beyond::<UPSERT>(false, key, val)
     }
 
-    /// Does what [`store`](ArrayOf::store) does. With `rightmost` it compares the key with the last one first: where that
-    /// is smaller, this is the only comparison, and else there is one more.
+    /// Does what [`store`](ArrayOf::store) does. With `rightmost` it compares the key with the last
+    /// one first: where that is smaller, this is the only comparison, and else there is one more.
     #[inline(always)]
     pub fn store_beyond<const UPSERT: bool>(
         &mut self,
@@ -70,8 +71,8 @@ impl<K: Ord + Drop, V: Drop, const LEN: usize> ArrayOf<K, V, LEN> {
         }
     }
 
-    /// Stores a pair whose key is larger than all. Makes no comparisons. The caller must see that the key is, and that the
-    /// array isn't full.
+    /// Stores a pair whose key is larger than all. Makes no comparisons. The caller must see that
+    /// the key is, and that the array isn't full.
     #[inline(always)]
     pub fn append(&mut self, key: K, val: V)
         requires room { IsFull LEN self.old → ⊥ }
@@ -82,7 +83,8 @@ impl<K: Ord + Drop, V: Drop, const LEN: usize> ArrayOf<K, V, LEN> {
         self.let_in(entries, key, val);
     }
 
-    /// Stores a pair whose key is larger than those of the first `place` entries and smaller than the others.
+    // Stores a pair whose key is larger than those of the first `place` entries and smaller than
+    // the others.
     #[inline(always)]
     fn let_in(&mut self, place: u8, key: K, val: V)
         requires room { length self.old.arrivals < LEN }

@@ -8,13 +8,13 @@ ghost use Rattle.tree_model.specs.Pairs.{IsAbsent, high_of, low_of, pair_at};
 
 use super::{ArrayOf, RemoveResult, order_of};
 use std::ops::Bound;
+use tree_cells::order::RETIRED;
 use tree_cells::search::{Place, find_key};
 use tree_model::range_contains;
-use tree_order::order::RETIRED;
 
 impl<K: Ord + Drop, V: Drop, const LEN: usize> ArrayOf<K, V, LEN> {
-    /// Takes the pair of a slot, which must be reachable and is then spent. Returns `Retired` with the last
-    /// pair, else `Success`. Makes no comparisons.
+    /// Takes the pair of a slot, which must be reachable and is then spent. Returns `Retired` with
+    /// the last pair, else `Success`. Makes no comparisons.
     pub fn take(&mut self, slot: u8) -> (K, V, RemoveResult)
         requires { IsSome (arrival self.old.arrivals slot) }
         ensures pair { arrival self.old.arrivals slot ≡ Some (result.0, result.1) }
@@ -25,7 +25,8 @@ impl<K: Ord + Drop, V: Drop, const LEN: usize> ArrayOf<K, V, LEN> {
         self.take_at(place)
     }
 
-    /// Takes the entry at this place in the order of keys. Returns what [`take`](ArrayOf::take) does.
+    // Takes the entry at this place in the order of keys. Returns what [`take`](ArrayOf::take)
+    // does.
     pub(super) fn take_at(&mut self, place: u8) -> (K, V, RemoveResult)
         requires { place < length self.old.entries }
         ensures pair { slice_get self.old.entries place ≡ Some (result.0, result.1) }
@@ -45,12 +46,12 @@ impl<K: Ord + Drop, V: Drop, const LEN: usize> ArrayOf<K, V, LEN> {
         (key, val, removal)
     }
 
-    /// Removes the pair with a key if the condition says so of its value. Calls the condition once if the key
-    /// is there, else never.
+    /// Removes the pair with a key if the condition says so of its value. Calls the condition once
+    /// if the key is there, else never.
     ///
-    /// Returns `Fail` if the key is absent or the condition said no, and nothing changed; `Retired` if the
-    /// last pair went; else `Success`. Makes at most 4 comparisons (3 among 7 slots). The condition must be
-    /// callable on the value that is stored with the key.
+    /// Returns `Fail` if the key is absent or the condition said no, and nothing changed; `Retired`
+    /// if the last pair went; else `Success`. Makes at most 4 comparisons (3 among 7 slots). The
+    /// condition must be callable on the value that is stored with the key.
     #[inline(always)]
     pub fn remove_if<F: FnOnce(&V) -> bool + Drop>(&mut self, key: &K, condition: F) -> RemoveResult
         requires { ForSome (pair_at K.cmp self.old.entries key.now) (λ pair. FnOnceTakesAt F.FnOnce condition pair.1) }
@@ -74,8 +75,8 @@ impl<K: Ord + Drop, V: Drop, const LEN: usize> ArrayOf<K, V, LEN> {
         }
     }
 
-    /// Removes the pairs whose keys are within the bounds, and retires the array if the last one went.
-    /// Makes at most two comparisons per slot.
+    /// Removes the pairs whose keys are within the bounds, and retires the array if the last one
+    /// went. Makes at most two comparisons per slot.
     pub fn remove_range(&mut self, bounds: (Bound<&K>, Bound<&K>))
         ensures { self.new ≡ without_range K.cmp self.old (low_of bounds.entry) (high_of bounds.entry) }
     {

@@ -10,10 +10,11 @@ use super::ArrayOf;
 use std::marker::Model;
 use std::mem;
 use tree_cells::cells::Cells;
-use tree_order::order::{EMPTY, Order};
+use tree_cells::order::{EMPTY, Order};
 
-/// Up to `LEN` pairs, 7 or 15, in ascending order of their keys, which become an array at once. So the word that keeps the
-/// order is computed once, and not for each pair. No call compares keys or allocates.
+/// Up to `LEN` pairs, 7 or 15, in ascending order of their keys, which become an array at once. So
+/// the word that keeps the order is computed once, and not for each pair. No call compares keys or
+/// allocates.
 pub struct RunOf<K: Ord, V, const LEN: usize> {
     // The word of an array without a pair. By this field a run is laid out as an array is.
     order: u64,
@@ -70,7 +71,8 @@ impl<K: Ord + Drop, V: Drop, const LEN: usize> RunOf<K, V, LEN> {
         }
     }
 
-    /// Puts a pair behind the others. The caller must see that its key is larger than all, and that the run isn't full.
+    /// Puts a pair behind the others. The caller must see that its key is larger than all, and that
+    /// the run isn't full.
     #[inline(always)]
     pub fn push(&mut self, key: K, val: V)
         requires room { length self.old ≢ LEN }
@@ -90,7 +92,7 @@ impl<K: Ord + Drop, V: Drop, const LEN: usize> RunOf<K, V, LEN> {
     }
 }
 
-/// Returns the array of cells in which the pairs stand in turn, in ascending order.
+// Returns the array of cells in which the pairs stand in turn, in ascending order.
 fn array_in_turn<K: Ord, V, const LEN: usize>(cells: Cells<K, V, LEN>) -> ArrayOf<K, V, LEN>
     requires { IsRun K.cmp LEN cells.pairs cells.counts.entries cells.counts.arrivals }
     ensures { result ≡ in_order (gathered cells.pairs cells.counts.entries) }

@@ -7,12 +7,12 @@ ghost use Rattle.tree_model.specs.Pairs.{Finds, IsAbsent, pair_at};
 
 use super::{ArrayOf, order_of};
 use tree_cells::judge::{Asks, Judge};
+use tree_cells::order::BEYOND;
 use tree_cells::search::{Place, find};
-use tree_order::order::BEYOND;
 
 impl<K: Ord + Drop, V: Drop, const LEN: usize> ArrayOf<K, V, LEN> {
-    /// Returns the pair with the judge's key, or `None` if the key is absent. Makes at most 4 comparisons
-    /// (3 among 7 slots).
+    /// Returns the pair with the judge's key, or `None` if the key is absent. Makes at most 4
+    /// comparisons (3 among 7 slots).
     #[tactic(auto, using(tree_cells::proofs::Halving::searched_few))]
     pub fn search_entry<J: Judge<K>>(&self, judge: &mut J) -> Option<(&K, &V)>
         ensures found { Finds K.cmp self.now.entries (J.key judge.old) result }
@@ -26,8 +26,8 @@ impl<K: Ord + Drop, V: Drop, const LEN: usize> ArrayOf<K, V, LEN> {
         }
     }
 
-    /// Returns the value with the judge's key, or `None` if the key is absent. Makes at most 4 comparisons
-    /// (3 among 7 slots).
+    /// Returns the value with the judge's key, or `None` if the key is absent. Makes at most 4
+    /// comparisons (3 among 7 slots).
     pub fn search_val<J: Judge<K>>(&self, judge: &mut J) -> Option<&V>
         ensures found { MatchOption result (IsAbsent K.cmp self.now.entries (J.key judge.old))
             (λ val. (key : K) × (pair_at K.cmp self.now.entries (J.key judge.old) ≡ Some (key, val.now))) }
@@ -39,8 +39,8 @@ impl<K: Ord + Drop, V: Drop, const LEN: usize> ArrayOf<K, V, LEN> {
         Some(val)
     }
 
-    /// Returns the slot of the least key that isn't less than that of the asked, a judge or the key itself, or `None` if
-    /// all are. Makes at most 4 comparisons (3 among 7 slots).
+    /// Returns the slot of the least key that isn't less than that of the asked, a judge or the key
+    /// itself, or `None` if all are. Makes at most 4 comparisons (3 among 7 slots).
     #[tactic(auto, using(tree_cells::proofs::Halving::searched_few))]
     #[inline(always)]
     pub fn min_greater_equal<By, A: Asks<K, By>>(&self, asked: &mut A) -> Option<u8>
@@ -55,8 +55,8 @@ impl<K: Ord + Drop, V: Drop, const LEN: usize> ArrayOf<K, V, LEN> {
         if slot < BEYOND { Some(slot) } else { None }
     }
 
-    /// Returns the slot of the least key that isn't less than this one, or `None` if all are. Makes at most
-    /// 4 comparisons (3 among 7 slots), which no judge counts.
+    /// Returns the slot of the least key that isn't less than this one, or `None` if all are. Makes
+    /// at most 4 comparisons (3 among 7 slots), which no judge counts.
     #[inline(always)]
     pub fn slot_for(&self, key: &K) -> Option<u8>
         ensures { MatchOption result (least_from K.cmp self.now.entries key.now ≡ None)
@@ -66,8 +66,8 @@ impl<K: Ord + Drop, V: Drop, const LEN: usize> ArrayOf<K, V, LEN> {
         self.min_greater_equal(&mut &*key)
     }
 
-    /// Returns the slot of the entry at this place in key order, counted from 0, or `None` behind the last.
-    /// Makes no comparisons.
+    /// Returns the slot of the entry at this place in key order, counted from 0, or `None` behind
+    /// the last. Makes no comparisons.
     pub fn slot_at(&self, place: u8) -> Option<u8>
         ensures { MatchOption result (slice_get self.now.entries place ≡ None)
             (λ slot. (pair : _) × (arrival self.now.arrivals slot ≡ Some pair)
@@ -81,7 +81,8 @@ impl<K: Ord + Drop, V: Drop, const LEN: usize> ArrayOf<K, V, LEN> {
         }
     }
 
-    /// Returns the slot of the entry with the greatest key, or `None` if there is no entry. Makes no comparisons.
+    /// Returns the slot of the entry with the greatest key, or `None` if there is no entry. Makes
+    /// no comparisons.
     pub fn last_slot(&self) -> Option<u8>
         ensures { MatchOption result (self.now.entries ≡ [])
             (λ slot. (pair : _) × (arrival self.now.arrivals slot ≡ Some pair)
@@ -94,7 +95,8 @@ impl<K: Ord + Drop, V: Drop, const LEN: usize> ArrayOf<K, V, LEN> {
         Some(order.last())
     }
 
-    /// Returns whether a key lies between the first and the last one, or is one of these. Makes at most two comparisons.
+    /// Returns whether a key lies between the first and the last one, or is one of these. Makes at
+    /// most two comparisons.
     #[inline(always)]
     pub fn spans(&self, key: &K) -> bool
         ensures { IsTrue result ↔ Spans K.cmp self.now.entries key.now }

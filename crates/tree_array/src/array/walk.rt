@@ -6,18 +6,19 @@ ghost use Rattle.tree_array.specs.Walk.{IsOver, StepsBack, StepsOn, left_back, l
 
 use super::{ArrayOf, order_of};
 use std::marker::Model;
+use tree_cells::order::slot_at;
 use tree_cells::search::{Place, find_key};
-use tree_order::order::slot_at;
 
-/// A walk over the reachable slots of an array in ascending order of their keys. It is of the array as
-/// it stood when the walk was made. A slot is named by the number of its arrival.
+/// A walk over the reachable slots of an array in ascending order of their keys. It is of the array
+/// as it stood when the walk was made. A slot is named by the number of its arrival.
 ///
 /// A `next` that returns `None` keeps the place.
 #[derive(Clone, Drop)]
 pub struct ArrayIter {
     order: u64,
     count: u8,
-    /// The place that the walk goes to. It stands at the one before, or has not begun if there is none.
+    // The place that the walk goes to. It stands at the one before, or has not begun if there is
+    // none.
     ahead: u8,
 }
 
@@ -30,7 +31,7 @@ pub struct ArrayRevIter {
 impl Model for ArrayIter {
     ghost use Rattle.std.specs.Prelude.{◌≤◌, ◌-◌, ◌==◌, None, Some, if◌then◌else◌};
     ghost use Rattle.tree_array.specs.Walk.{Walk, standing};
-    ghost use Rattle.tree_order.specs.Order.{names};
+    ghost use Rattle.tree_cells.specs.Order.{names};
 
     ghost Value = { Walk };
 
@@ -60,8 +61,8 @@ impl ArrayIter {
         }
     }
 
-    /// Creates a walk that stands at the last slot whose key is less than this one, or before the first slot. Makes at most 4
-    /// comparisons (3 among 7 slots).
+    /// Creates a walk that stands at the last slot whose key is less than this one, or before the
+    /// first slot. Makes at most 4 comparisons (3 among 7 slots).
     #[inline(always)]
     pub fn below<K: Ord + Drop, V: Drop, const LEN: usize>(
         array: &ArrayOf<K, V, LEN>,
@@ -77,7 +78,7 @@ impl ArrayIter {
         }
     }
 
-    /// Creates a walk that has passed so many slots, which there must be. Makes no comparisons.
+    // Creates a walk that has passed so many slots, which there must be. Makes no comparisons.
     #[inline(always)]
     fn past<K: Ord + Drop, V: Drop, const LEN: usize>(
         array: &ArrayOf<K, V, LEN>,
@@ -105,7 +106,7 @@ impl ArrayIter {
         Some(slot_at(self.order, self.ahead - 1))
     }
 
-    /// Returns how many places lie ahead of a walk against the order of the keys.
+    // Returns how many places lie ahead of a walk against the order of the keys.
     #[tactic(auto, using(crate::proofs::Stepped::behind_none, crate::proofs::Stepped::behind_some))]
     #[inline]
     fn places_behind(&self) -> u8
@@ -118,7 +119,7 @@ impl ArrayIter {
         }
     }
 
-    /// Goes one slot back. Returns `None` and keeps its place before the first slot.
+    // Goes one slot back. Returns `None` and keeps its place before the first slot.
     #[tactic(auto, using(crate::proofs::Stepped::behind_few))]
     #[inline]
     fn step_back(&mut self) -> Option<u8>
@@ -156,8 +157,8 @@ impl ArrayRevIter {
         ArrayIter::new(array).rev()
     }
 
-    /// Creates a walk that stands at the first slot whose key is greater than this one, or before that of the greatest key.
-    /// Makes at most 4 comparisons (3 among 7 slots).
+    /// Creates a walk that stands at the first slot whose key is greater than this one, or before
+    /// that of the greatest key. Makes at most 4 comparisons (3 among 7 slots).
     #[inline(always)]
     pub fn above<K: Ord + Drop, V: Drop, const LEN: usize>(
         array: &ArrayOf<K, V, LEN>,
@@ -173,7 +174,8 @@ impl ArrayRevIter {
         }
     }
 
-    /// Creates a walk that goes over so many of the first slots, or over all if there are fewer. Makes no comparisons.
+    // Creates a walk that goes over so many of the first slots, or over all if there are fewer.
+    // Makes no comparisons.
     #[inline(always)]
     fn over<K: Ord + Drop, V: Drop, const LEN: usize>(
         array: &ArrayOf<K, V, LEN>,

@@ -6,8 +6,8 @@ ghost use Rattle.tree_cells.specs.Arrivals.{arrival};
 use super::Cells;
 
 impl<K, V, const LEN: usize> Cells<K, V, LEN> {
-    /// Passes the value of a cell to a function, and puts what it returns into the cell. The caller must know that the cell
-    /// holds a pair.
+    /// Passes the value of a cell to a function, and puts what it returns into the cell. The caller
+    /// must know that the cell holds a pair.
     pub fn change<F: FnOnce(V) -> V + Drop>(&mut self, cell: u8, change: F)
         requires pair { IsSome (arrival self.old.pairs cell) }
         requires callable { ForSome (arrival self.old.pairs cell) (λ pair. F.pre change pair.1) }

@@ -17,8 +17,8 @@ use crate::status::{MISFIT, NO, NO_MEMORY, YES};
 use crate::store::Store;
 use std::alloc::Global;
 
-/// Writes the value of a key. Answers `NO`, and writes nothing, if the key is absent. Runs in O(log n). Copies
-/// nothing.
+/// Writes the value of a key. Answers `NO`, and writes nothing, if the key is absent. Runs in O(log
+/// n). Copies nothing.
 #[unsafe(no_mangle)]
 pub extern "C" fn tree_index_bytes_peek(
     alloc: Global,
@@ -55,8 +55,9 @@ pub extern "C" fn tree_index_bytes_contains(alloc: Global, handle: &mut Handle, 
     answer
 }
 
-/// Writes the pair with the smallest key. Answers `NO`, and writes nothing, if there is no pair, and `NO_ROOM` if the
-/// key has too few places: the entry is written then, and tells the key's length. Runs in O(log n).
+/// Writes the pair with the smallest key. Answers `NO`, and writes nothing, if there is no pair,
+/// and `NO_ROOM` if the key has too few places: the entry is written then, and tells the key's
+/// length. Runs in O(log n).
 #[unsafe(no_mangle)]
 pub extern "C" fn tree_index_bytes_first(
     alloc: Global,
@@ -76,7 +77,8 @@ pub extern "C" fn tree_index_bytes_first(
     answer
 }
 
-/// Writes the pair with the largest key. Answers as [`tree_index_bytes_first`] does. Runs in O(log n).
+/// Writes the pair with the largest key. Answers as [`tree_index_bytes_first`] does. Runs in O(log
+/// n).
 #[unsafe(no_mangle)]
 pub extern "C" fn tree_index_bytes_last(
     alloc: Global,
@@ -96,8 +98,8 @@ pub extern "C" fn tree_index_bytes_last(
     answer
 }
 
-/// Writes the pair with a key, or else the one with the next smaller key. Answers as [`tree_index_bytes_first`] does.
-/// Runs in O(log n). Copies the key meanwhile.
+/// Writes the pair with a key, or else the one with the next smaller key. Answers as
+/// [`tree_index_bytes_first`] does. Runs in O(log n). Copies the key meanwhile.
 #[unsafe(no_mangle)]
 pub extern "C" fn tree_index_bytes_at_or_below(
     alloc: Global,
@@ -119,8 +121,8 @@ pub extern "C" fn tree_index_bytes_at_or_below(
     answer
 }
 
-/// Writes the pair with a key, or else the one with the next larger key. Answers as [`tree_index_bytes_first`] does.
-/// Runs in O(log n). Copies the key meanwhile.
+/// Writes the pair with a key, or else the one with the next larger key. Answers as
+/// [`tree_index_bytes_first`] does. Runs in O(log n). Copies the key meanwhile.
 #[unsafe(no_mangle)]
 pub extern "C" fn tree_index_bytes_at_or_above(
     alloc: Global,

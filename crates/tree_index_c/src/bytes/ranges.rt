@@ -8,7 +8,7 @@ ghost use Rattle.tree_index_c.specs.Entries.{FillsBytes, FillsOrRefuses, IfBound
 ghost use Rattle.tree_index_c.specs.Held.{OnBytes, held};
 ghost use Rattle.tree_index_c.specs.Pairs.{bound_at, pairs_between};
 ghost use Rattle.tree_model.specs.Pairs.{cut};
-ghost use Rattle.tree_ranges.specs.Ranged.{way_of};
+ghost use Rattle.tree_cursors.specs.Ranged.{way_of};
 
 use crate::byte_key::ByteKey;
 use crate::entry::{Entry, write_bytes};
@@ -52,7 +52,8 @@ pub extern "C" fn tree_index_bytes_fill(
     answer
 }
 
-/// Does what [`tree_index_bytes_fill`] does from the other end: the last pairs, in descending order.
+/// Does what [`tree_index_bytes_fill`] does from the other end: the last pairs, in descending
+/// order.
 #[unsafe(no_mangle)]
 pub extern "C" fn tree_index_bytes_fill_back(
     alloc: Global,
@@ -80,8 +81,9 @@ pub extern "C" fn tree_index_bytes_fill_back(
     answer
 }
 
-/// Removes every pair whose key is within both bounds. Answers `YES`, also if there was none. Makes O(log n)
-/// comparisons, and frees the leaves between the bounds whole. Copies the keys of the bounds meanwhile.
+/// Removes every pair whose key is within both bounds. Answers `YES`, also if there was none. Makes
+/// O(log n) comparisons, and frees the leaves between the bounds whole. Copies the keys of the
+/// bounds meanwhile.
 #[unsafe(no_mangle)]
 pub extern "C" fn tree_index_bytes_remove_range(
     alloc: Global,

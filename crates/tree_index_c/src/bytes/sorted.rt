@@ -41,7 +41,7 @@ pub extern "C" fn tree_index_bytes_from_sorted(
     }
 }
 
-/// Copies pairs of C. Returns `None` if their keys have more bytes than there are.
+// Copies pairs of C. Returns `None` if their keys have more bytes than there are.
 fn pairs_of(
     alloc: Global,
     keys: &[u8],

@@ -27,9 +27,9 @@ pub extern "C" fn tree_index_bytes_new(alloc: Global, handle: &mut Handle) -> u8
     handle.open(alloc, Store::Bytes(TreeIndex::new(alloc)))
 }
 
-/// Stores a pair if its key is absent, with a copy of the key. Answers `NO`, and changes nothing, if it is present.
-/// Runs in O(log n). Allocates at most the copy, a copy of a key between leaves, a leaf, a node a level and a new
-/// root.
+/// Stores a pair if its key is absent, with a copy of the key. Answers `NO`, and changes nothing,
+/// if it is present. Runs in O(log n). Allocates at most the copy, a copy of a key between leaves,
+/// a leaf, a node a level and a new root.
 #[unsafe(no_mangle)]
 pub extern "C" fn tree_index_bytes_insert(
     alloc: Global,
@@ -48,8 +48,8 @@ pub extern "C" fn tree_index_bytes_insert(
     answer
 }
 
-/// Stores a pair with a copy of its key, in place of one with an equal key. Answers `YES` either way. Costs what
-/// [`tree_index_bytes_insert`] does.
+/// Stores a pair with a copy of its key, in place of one with an equal key. Answers `YES` either
+/// way. Costs what [`tree_index_bytes_insert`] does.
 #[unsafe(no_mangle)]
 pub extern "C" fn tree_index_bytes_upsert(
     alloc: Global,
@@ -68,7 +68,8 @@ pub extern "C" fn tree_index_bytes_upsert(
     answer
 }
 
-/// Removes the pair with a key. Answers whether there was one. Runs in O(log n). Copies the key meanwhile.
+/// Removes the pair with a key. Answers whether there was one. Runs in O(log n). Copies the key
+/// meanwhile.
 #[unsafe(no_mangle)]
 pub extern "C" fn tree_index_bytes_remove(alloc: Global, handle: &mut Handle, key: &[u8]) -> u8
     ensures { OnBytes (λ old. RemovesOrRefuses (slice_cmp nat_cmp) key.now old)
@@ -82,8 +83,8 @@ pub extern "C" fn tree_index_bytes_remove(alloc: Global, handle: &mut Handle, ke
     answer
 }
 
-/// Removes the pair with a key and writes its value. Answers `NO`, and writes nothing, if the key is absent. Runs in
-/// O(log n). Copies the key meanwhile.
+/// Removes the pair with a key and writes its value. Answers `NO`, and writes nothing, if the key
+/// is absent. Runs in O(log n). Copies the key meanwhile.
 #[unsafe(no_mangle)]
 pub extern "C" fn tree_index_bytes_take(
     alloc: Global,
@@ -102,9 +103,9 @@ pub extern "C" fn tree_index_bytes_take(
     answer
 }
 
-/// Removes the pair with the smallest key and writes it. Answers `NO`, and writes nothing, if there is none, and
-/// `NO_ROOM` if the key has too few places: the pair stays then, and the entry tells its length. Runs in O(log n).
-/// Copies the key meanwhile.
+/// Removes the pair with the smallest key and writes it. Answers `NO`, and writes nothing, if there
+/// is none, and `NO_ROOM` if the key has too few places: the pair stays then, and the entry tells
+/// its length. Runs in O(log n). Copies the key meanwhile.
 #[unsafe(no_mangle)]
 pub extern "C" fn tree_index_bytes_pop_first(
     alloc: Global,
@@ -124,8 +125,8 @@ pub extern "C" fn tree_index_bytes_pop_first(
     answer
 }
 
-/// Removes the pair with the largest key and writes it. Answers as [`tree_index_bytes_pop_first`] does. Runs in O(log
-/// n). Copies the key meanwhile.
+/// Removes the pair with the largest key and writes it. Answers as [`tree_index_bytes_pop_first`]
+/// does. Runs in O(log n). Copies the key meanwhile.
 #[unsafe(no_mangle)]
 pub extern "C" fn tree_index_bytes_pop_last(
     alloc: Global,

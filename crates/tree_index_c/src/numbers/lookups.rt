@@ -15,7 +15,8 @@ use crate::status::{MISFIT, NO, YES};
 use crate::store::Store;
 use std::alloc::Global;
 
-/// Writes the value of a key. Answers `NO`, and writes nothing, if the key is absent. Runs in O(log n).
+/// Writes the value of a key. Answers `NO`, and writes nothing, if the key is absent. Runs in O(log
+/// n).
 #[unsafe(no_mangle)]
 pub extern "C" fn tree_index_peek(
     alloc: Global,
@@ -51,7 +52,8 @@ pub extern "C" fn tree_index_contains(alloc: Global, handle: &mut Handle, key: u
     answer
 }
 
-/// Writes the pair with the smallest key. Answers `NO`, and writes nothing, if there is no pair. Runs in O(log n).
+/// Writes the pair with the smallest key. Answers `NO`, and writes nothing, if there is no pair.
+/// Runs in O(log n).
 #[unsafe(no_mangle)]
 pub extern "C" fn tree_index_first(alloc: Global, handle: &mut Handle, pair: &mut Pair) -> u8
     ensures { OnNumbers
@@ -66,7 +68,8 @@ pub extern "C" fn tree_index_first(alloc: Global, handle: &mut Handle, pair: &mu
     answer
 }
 
-/// Writes the pair with the largest key. Answers `NO`, and writes nothing, if there is no pair. Runs in O(log n).
+/// Writes the pair with the largest key. Answers `NO`, and writes nothing, if there is no pair.
+/// Runs in O(log n).
 #[unsafe(no_mangle)]
 pub extern "C" fn tree_index_last(alloc: Global, handle: &mut Handle, pair: &mut Pair) -> u8
     ensures { OnNumbers
@@ -81,8 +84,8 @@ pub extern "C" fn tree_index_last(alloc: Global, handle: &mut Handle, pair: &mut
     answer
 }
 
-/// Writes the pair with a key, or else the one with the next smaller key. Answers `NO`, and writes nothing, if there
-/// is neither. Runs in O(log n).
+/// Writes the pair with a key, or else the one with the next smaller key. Answers `NO`, and writes
+/// nothing, if there is neither. Runs in O(log n).
 #[unsafe(no_mangle)]
 pub extern "C" fn tree_index_at_or_below(
     alloc: Global,
@@ -102,8 +105,8 @@ pub extern "C" fn tree_index_at_or_below(
     answer
 }
 
-/// Writes the pair with a key, or else the one with the next larger key. Answers `NO`, and writes nothing, if there
-/// is neither. Runs in O(log n).
+/// Writes the pair with a key, or else the one with the next larger key. Answers `NO`, and writes
+/// nothing, if there is neither. Runs in O(log n).
 #[unsafe(no_mangle)]
 pub extern "C" fn tree_index_at_or_above(
     alloc: Global,

@@ -6,7 +6,7 @@ ghost use Rattle.tree_model.specs.Rest.{Moves};
 ghost use Rattle.tree_index_c.specs.Held.{OnNumbers, held, numbers_in};
 ghost use Rattle.tree_index_c.specs.Pairs.{Fills, as_pair, bound_at, pairs_between};
 ghost use Rattle.tree_model.specs.Pairs.{cut};
-ghost use Rattle.tree_ranges.specs.Ranged.{way_of};
+ghost use Rattle.tree_cursors.specs.Ranged.{way_of};
 
 use crate::handle::Handle;
 use crate::pair::{Pair, bound_of};
@@ -16,8 +16,9 @@ use std::alloc::Global;
 use std::ops::Bound;
 use tree_index::{Range, TreeIndex};
 
-/// Writes the first pairs whose keys are within both bounds, in ascending order, as many as there are places. Returns
-/// how many it wrote, and 0 if the handle holds no index of numbers. Runs in O(log n) and the number of places.
+/// Writes the first pairs whose keys are within both bounds, in ascending order, as many as there
+/// are places. Returns how many it wrote, and 0 if the handle holds no index of numbers. Runs in
+/// O(log n) and the number of places.
 #[unsafe(no_mangle)]
 pub extern "C" fn tree_index_fill(
     alloc: Global,
@@ -42,8 +43,9 @@ pub extern "C" fn tree_index_fill(
     count
 }
 
-/// Writes the last pairs whose keys are within both bounds, in descending order, as many as there are places. Returns
-/// how many it wrote, and 0 if the handle holds no index of numbers. Runs in O(log n) and the number of places.
+/// Writes the last pairs whose keys are within both bounds, in descending order, as many as there
+/// are places. Returns how many it wrote, and 0 if the handle holds no index of numbers. Runs in
+/// O(log n) and the number of places.
 #[unsafe(no_mangle)]
 pub extern "C" fn tree_index_fill_back(
     alloc: Global,
@@ -68,8 +70,8 @@ pub extern "C" fn tree_index_fill_back(
     count
 }
 
-/// Removes every pair whose key is within both bounds. Answers `YES`, also if there was none. Makes O(log n)
-/// comparisons, and frees the leaves between the bounds whole. Allocates nothing.
+/// Removes every pair whose key is within both bounds. Answers `YES`, also if there was none. Makes
+/// O(log n) comparisons, and frees the leaves between the bounds whole. Allocates nothing.
 #[unsafe(no_mangle)]
 pub extern "C" fn tree_index_remove_range(
     alloc: Global,

@@ -31,7 +31,7 @@ pub extern "C" fn tree_index_from_sorted(alloc: Global, handle: &mut Handle, pai
     }
 }
 
-/// Copies pairs of C.
+// Copies pairs of C.
 fn pairs_of(alloc: Global, pairs: &[Pair]) -> Result<Vec<(u64, u64)>, AllocError>
     ensures { IfOk result (λ copy. copy.items ≡ map pair_of pairs.now) }
 {

@@ -26,8 +26,8 @@ pub extern "C" fn tree_index_new(alloc: Global, handle: &mut Handle) -> u8
     handle.open(alloc, Store::Numbers(TreeIndex::new(alloc)))
 }
 
-/// Stores a pair if its key is absent. Answers `NO`, and changes nothing, if it is present. Runs in O(log n).
-/// Allocates at most a leaf, a node a level and a new root.
+/// Stores a pair if its key is absent. Answers `NO`, and changes nothing, if it is present. Runs in
+/// O(log n). Allocates at most a leaf, a node a level and a new root.
 #[unsafe(no_mangle)]
 pub extern "C" fn tree_index_insert(alloc: Global, handle: &mut Handle, key: u64, value: u64) -> u8
     ensures { OnNumbers (λ old. Stores nat_cmp (old.spare ≡ 0) key value old)
@@ -41,8 +41,8 @@ pub extern "C" fn tree_index_insert(alloc: Global, handle: &mut Handle, key: u64
     answer
 }
 
-/// Stores a pair, in place of one with an equal key. Answers `YES` either way. Runs in O(log n). Allocates at most a
-/// leaf, a node a level and a new root.
+/// Stores a pair, in place of one with an equal key. Answers `YES` either way. Runs in O(log n).
+/// Allocates at most a leaf, a node a level and a new root.
 #[unsafe(no_mangle)]
 pub extern "C" fn tree_index_upsert(alloc: Global, handle: &mut Handle, key: u64, value: u64) -> u8
     ensures { OnNumbers (λ old. Replaces nat_cmp (old.spare ≡ 0) key value old)
@@ -71,8 +71,8 @@ pub extern "C" fn tree_index_remove(alloc: Global, handle: &mut Handle, key: u64
     answer
 }
 
-/// Removes the pair with a key and writes its value. Answers `NO`, and writes nothing, if the key is absent. Runs in
-/// O(log n). Allocates nothing.
+/// Removes the pair with a key and writes its value. Answers `NO`, and writes nothing, if the key
+/// is absent. Runs in O(log n). Allocates nothing.
 #[unsafe(no_mangle)]
 pub extern "C" fn tree_index_take(
     alloc: Global,
@@ -93,8 +93,8 @@ pub extern "C" fn tree_index_take(
     answer
 }
 
-/// Removes the pair with the smallest key and writes it. Answers `NO`, and writes nothing, if there is none. Runs in
-/// O(log n). Allocates nothing.
+/// Removes the pair with the smallest key and writes it. Answers `NO`, and writes nothing, if there
+/// is none. Runs in O(log n). Allocates nothing.
 #[unsafe(no_mangle)]
 pub extern "C" fn tree_index_pop_first(alloc: Global, handle: &mut Handle, pair: &mut Pair) -> u8
     ensures { OnNumbers
@@ -109,8 +109,8 @@ pub extern "C" fn tree_index_pop_first(alloc: Global, handle: &mut Handle, pair:
     answer
 }
 
-/// Removes the pair with the largest key and writes it. Answers `NO`, and writes nothing, if there is none. Runs in
-/// O(log n). Allocates nothing.
+/// Removes the pair with the largest key and writes it. Answers `NO`, and writes nothing, if there
+/// is none. Runs in O(log n). Allocates nothing.
 #[unsafe(no_mangle)]
 pub extern "C" fn tree_index_pop_last(alloc: Global, handle: &mut Handle, pair: &mut Pair) -> u8
     ensures { OnNumbers

@@ -8,8 +8,8 @@ ghost use Rattle.tree_leaf.specs.Links.{AddsBefore, ChangesAt, SameRoom, Splices
 use crate::arena::{LeafId, SlotsOf};
 use crate::leaf::LeafOf;
 
-/// Removes a leaf from its chain: its two neighbours become neighbours of each other. The leaf stays in its
-/// arena. Runs in constant time. The caller must name a leaf of a chain.
+/// Removes a leaf from its chain: its two neighbours become neighbours of each other. The leaf
+/// stays in its arena. Runs in constant time. The caller must name a leaf of a chain.
 pub fn unlink<K: Ord + Drop, V: Drop, N: Drop, const LEN: usize>(
     arenas: &mut SlotsOf<K, V, N, LEN>,
     id: LeafId,
@@ -23,8 +23,9 @@ pub fn unlink<K: Ord + Drop, V: Drop, N: Drop, const LEN: usize>(
     splice_link(arenas, left, right);
 }
 
-/// Makes two leaves neighbours of each other. What stood between them in a chain is out of it, and `None`
-/// stands for an end of the chain. Runs in constant time. The caller must name numbers in use.
+/// Makes two leaves neighbours of each other. What stood between them in a chain is out of it, and
+/// `None` stands for an end of the chain. Runs in constant time. The caller must name numbers in
+/// use.
 pub fn splice_link<K: Ord + Drop, V: Drop, N: Drop, const LEN: usize>(
     arenas: &mut SlotsOf<K, V, N, LEN>,
     left: Option<LeafId>,
@@ -40,9 +41,9 @@ pub fn splice_link<K: Ord + Drop, V: Drop, N: Drop, const LEN: usize>(
     set_prev(arenas, after, before);
 }
 
-/// Adds a leaf to the arena and links it right before the one at `at`. Returns `Err` with the leaf, and
-/// changes no leaf and no link, if there is no room for it and memory is refused. Runs in amortized constant
-/// time. The caller must name a leaf of a chain by `at`.
+/// Adds a leaf to the arena and links it right before the one at `at`. Returns `Err` with the leaf,
+/// and changes no leaf and no link, if there is no room for it and memory is refused. Runs in
+/// amortized constant time. The caller must name a leaf of a chain by `at`.
 pub fn add_before<K: Ord + Drop, V: Drop, N: Drop, const LEN: usize>(
     arenas: &mut SlotsOf<K, V, N, LEN>,
     at: LeafId,
@@ -58,7 +59,7 @@ pub fn add_before<K: Ord + Drop, V: Drop, N: Drop, const LEN: usize>(
     Ok(id)
 }
 
-/// Sets which leaf comes after the one at `at`, if that is one.
+// Sets which leaf comes after the one at `at`, if that is one.
 fn set_next<K: Ord + Drop, V: Drop, N: Drop, const LEN: usize>(
     arenas: &mut SlotsOf<K, V, N, LEN>,
     at: Option<LeafId>,
@@ -74,7 +75,7 @@ fn set_next<K: Ord + Drop, V: Drop, N: Drop, const LEN: usize>(
     }
 }
 
-/// Sets which leaf comes before the one at `at`, if that is one.
+// Sets which leaf comes before the one at `at`, if that is one.
 fn set_prev<K: Ord + Drop, V: Drop, N: Drop, const LEN: usize>(
     arenas: &mut SlotsOf<K, V, N, LEN>,
     at: Option<LeafId>,

@@ -7,7 +7,7 @@ use test_support::refusals::{begins, ends, is_granted_again, succeeds};
 use tree_index::TreeIndex;
 use tree_support::ascend;
 
-/// Lines, and the answers to them over a new index.
+// Lines, and the answers to them over a new index.
 static ROWS: [(&str, &str); 12] = [
     ("insert 1 10\npeek 1\n", "ok\n10\n"),
     (
@@ -44,8 +44,8 @@ static ROWS: [(&str, &str); 12] = [
     ),
 ];
 
-/// The answers to these lines are these, where so many bytes are read and written at a time. Returns `Err` if not, as
-/// where memory was refused.
+// The answers to these lines are these, where so many bytes are read and written at a time.
+// Returns `Err` if not, as where memory was refused.
 fn are_answered(
     index: &mut impl Answers,
     (lines, wanted): (&str, &str),
@@ -61,7 +61,7 @@ fn are_answered(
     }
 }
 
-/// A new index answers these lines so.
+// A new index answers these lines so.
 fn expect_answers(
     alloc: Global,
     row: (&str, &str),
@@ -83,7 +83,7 @@ fn answers_lines(rt: HostRuntime) {
     }
 }
 
-/// Answers the lines, and returns what goes out.
+// Answers the lines, and returns what goes out.
 fn answers_to(rt: &impl Abort, alloc: Global, index: &mut impl Answers, lines: &str) -> Sink {
     let mut input = lines.as_bytes();
     let mut output = Sink::new(256, Failing::never());
@@ -96,7 +96,8 @@ fn answers_to(rt: &impl Abort, alloc: Global, index: &mut impl Answers, lines: &
 
 const RUN_LINES: &str = "run_lines";
 
-/// Whether a write and a look-up are answered. Else the write was refused, and the look-up found none.
+// Whether a write and a look-up are answered. Else the write was refused, and the look-up found
+// none.
 fn is_stored(rt: &impl Abort, alloc: Global, index: &mut impl Answers, lines: &str) -> bool {
     let output = answers_to(rt, alloc, index, lines);
     let answers = output.taken();
@@ -104,7 +105,7 @@ fn is_stored(rt: &impl Abort, alloc: Global, index: &mut impl Answers, lines: &s
     answers.starts_with(b"ok")
 }
 
-/// Stores and looks up at once or the second time. `Err` if nothing can be allocated any more.
+// Stores and looks up at once or the second time. `Err` if nothing can be allocated any more.
 fn store_twice(
     rt: &impl Abort,
     alloc: Global,
@@ -119,8 +120,8 @@ fn store_twice(
     Ok(())
 }
 
-/// How many ascending keys are stored, and lines that then store the next one: in a new index, and where a leaf and the arena of
-/// leaves are full, and the arena of nodes too.
+// How many ascending keys are stored, and lines that then store the next one: in a new index, and
+// where a leaf and the arena of leaves are full, and the arena of nodes too.
 static STORE_AND_PEEK: [(u64, &str); 6] = [
     (0, "insert 1 10\npeek 1\n"),
     (0, "upsert 1 10\npeek 1\n"),
@@ -140,7 +141,8 @@ fn stores_steps(
     store_twice(rt, alloc, &mut index, lines)
 }
 
-/// A write that can't allocate is answered `refused` and its key stays absent. The same line is then answered.
+// A write that can't allocate is answered `refused` and its key stays absent. The same line is
+// then answered.
 #[test]
 fn answers_that_memory_is_refused(rt: HostRuntime) {
     for row in &STORE_AND_PEEK {
@@ -148,14 +150,15 @@ fn answers_that_memory_is_refused(rt: HostRuntime) {
     }
 }
 
-/// An insert and a look-up, and both again; the answers if no allocation fails, and if one does in the first insert.
+// An insert and a look-up, and both again; the answers if no allocation fails, and if one does in
+// the first insert.
 static TWICE: (&str, &str, &str) = (
     "insert 1 10\npeek 1\ninsert 1 10\npeek 1\n",
     "ok\n10\nduplicate\n10\n",
     "refused\nnone\nok\n10\n",
 );
 
-/// Answers the lines. If the second insert is refused too, nothing can be allocated any more.
+// Answers the lines. If the second insert is refused too, nothing can be allocated any more.
 fn insert_in_both_lines(
     rt: &impl Abort,
     alloc: Global,

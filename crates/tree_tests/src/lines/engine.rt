@@ -3,12 +3,12 @@ use std::io::{Read, Write};
 use tree_index::{TreeIndex, TreeIndexOf};
 use tree_lines::{ToolFault, run_lines};
 
-/// An index that answers lines, as its tests call it.
+// An index that answers lines, as its tests call it.
 pub(crate) trait Answers {
-    /// Calls `clear`.
+    // Calls `clear`.
     fn clear(&mut self);
 
-    /// Calls `run_lines`.
+    // Calls `run_lines`.
     fn run<R: Read, W: Write>(&mut self, input: &mut R, output: &mut W) -> Result<(), ToolFault>;
 }
 

@@ -7,7 +7,8 @@ use test_support::refusals::succeeds;
 use tree_index::TreeIndex;
 use tree_lines::{ToolFault, WriteFailed};
 
-/// Lines, the answers to them, and the pairs before the first line and after each, as `iter` answers them.
+// Lines, the answers to them, and the pairs before the first line and after each, as `iter`
+// answers them.
 struct Script {
     lines: &'static [u8],
     answers: &'static [u8],
@@ -43,10 +44,10 @@ static SCRIPTS: [Script; 3] = [
     },
 ];
 
-/// How many bytes a call moves at most: one, two, or more than a script has.
+// How many bytes a call moves at most: one, two, or more than a script has.
 static PIECES: [usize; 3] = [1, 2, 256];
 
-/// The number of line feeds.
+// The number of line feeds.
 fn count_lines(bytes: &[u8]) -> usize {
     let mut count: usize = 0;
     for byte in bytes {
@@ -57,7 +58,7 @@ fn count_lines(bytes: &[u8]) -> usize {
     count
 }
 
-/// How a run ended, what went out, and the pairs that it left.
+// How a run ended, what went out, and the pairs that it left.
 #[derive(Drop)]
 struct Ended {
     outcome: Result<(), ToolFault>,
@@ -66,12 +67,13 @@ struct Ended {
 }
 
 impl Ended {
-    /// Whether these pairs are left.
+    // Whether these pairs are left.
     fn has_left(&self, pairs: Option<&&'static str>) -> bool {
         pairs.is_some_and(|text| text.as_bytes() == self.pairs.taken())
     }
 
-    /// Whether the run ended so, the answers are the first of a script, and the pairs are those behind so many lines.
+    // Whether the run ended so, the answers are the first of a script, and the pairs are those
+    // behind so many lines.
     fn shows(&self, script: &Script, outcome: Result<(), ToolFault>, applied: usize) -> bool {
         self.outcome == outcome
             && script.answers.starts_with(self.output.taken())
@@ -79,7 +81,7 @@ impl Ended {
     }
 }
 
-/// Runs the lines of a reader over an index, which is cleared first.
+// Runs the lines of a reader over an index, which is cleared first.
 fn run(index: &mut impl Answers, mut input: Source<'_>, mut output: Sink) -> Ended {
     index.clear();
     let outcome = index.run(&mut input, &mut output);
@@ -92,13 +94,13 @@ fn run(index: &mut impl Answers, mut input: Source<'_>, mut output: Sink) -> End
     }
 }
 
-/// Stores a pair, so that the index allocates no more for a script.
+// Stores a pair, so that the index allocates no more for a script.
 fn prepare(index: &mut TreeIndex<u64, u64>) -> Result<(), AllocError> {
     index.upsert_sync(1, 1).map_err(|_| AllocError)
 }
 
-/// Whether each line that a line feed ended before the failed read is applied and answered, and no other one. A run ends
-/// well where the read that finds no more bytes passes.
+// Whether each line that a line feed ended before the failed read is applied and answered, and no
+// other one. A run ends well where the read that finds no more bytes passes.
 fn shows_a_failed_read(
     index: &mut impl Answers,
     script: &Script,
@@ -121,7 +123,7 @@ fn shows_a_failed_read(
     are_lines && count_lines(answers) == lines && ended.shows(script, outcome, lines)
 }
 
-/// Fails each read of a script in turn.
+// Fails each read of a script in turn.
 fn fail_reads(rt: &impl Abort, index: &mut impl Answers, script: &Script) {
     for by in [Failure::Broken, Failure::Interrupted] {
         for piece in &PIECES {
@@ -136,7 +138,7 @@ fn fail_reads(rt: &impl Abort, index: &mut impl Answers, script: &Script) {
     }
 }
 
-/// Fails each read of each script in turn.
+// Fails each read of each script in turn.
 fn fail_each_read(rt: &impl Abort, index: &mut TreeIndex<u64, u64>) -> Result<(), AllocError> {
     prepare(index)?;
     for script in &SCRIPTS {
@@ -155,8 +157,8 @@ fn tells_that_a_read_failed(rt: HostRuntime) {
     assert!(rt; succeeds(rt.alloc(), || read_fails_steps(&rt, rt.alloc())));
 }
 
-/// Whether each line before the one whose answer broke off is applied and answered, and that one is applied. A run whose
-/// writes all pass ends well.
+// Whether each line before the one whose answer broke off is applied and answered, and that one is
+// applied. A run whose writes all pass ends well.
 fn shows_a_failed_write(
     index: &mut impl Answers,
     script: &Script,
@@ -178,7 +180,7 @@ fn shows_a_failed_write(
     is_in_place && ended.shows(script, outcome, applied)
 }
 
-/// Fails each write of a script in turn.
+// Fails each write of a script in turn.
 fn fail_writes(rt: &impl Abort, index: &mut impl Answers, script: &Script) {
     for by in [Failure::Broken, Failure::Interrupted, Failure::Stalled] {
         for piece in &PIECES {
@@ -193,7 +195,7 @@ fn fail_writes(rt: &impl Abort, index: &mut impl Answers, script: &Script) {
     }
 }
 
-/// Fails each write of each script in turn.
+// Fails each write of each script in turn.
 fn fail_each_write(rt: &impl Abort, index: &mut TreeIndex<u64, u64>) -> Result<(), AllocError> {
     prepare(index)?;
     for script in &SCRIPTS {

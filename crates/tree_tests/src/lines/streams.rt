@@ -19,7 +19,7 @@ pub struct Failing {
 }
 
 impl Failing {
-    /// No call fails that a test makes.
+    // No call fails that a test makes.
     pub(crate) fn never() -> Failing {
         Failing {
             passes: u64::MAX,
@@ -92,7 +92,7 @@ impl Sink {
         }
     }
 
-    /// Returns the bytes that were taken.
+    // Returns the bytes that were taken.
     pub(crate) fn taken(&self) -> &[u8] {
         &self.taken[..self.length.min(256)]
     }

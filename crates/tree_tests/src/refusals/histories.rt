@@ -8,18 +8,18 @@ use tree_index::{Command, InsertError, Reply};
 use tree_state::StateOf;
 use tree_support::flaws;
 
-/// A state of numbers, as its tests call it.
+// A state of numbers, as its tests call it.
 trait Recorded {
-    /// Calls `apply`.
+    // Calls `apply`.
     fn apply(&mut self, command: Command<u64, u64>) -> Result<Reply<u64>, Command<u64, u64>>;
 
-    /// Calls `insert`.
+    // Calls `insert`.
     fn insert(&mut self, key: u64, value: u64) -> Result<(), InsertError<u64, u64>>;
 
-    /// Returns how many calls are in the history.
+    // Returns how many calls are in the history.
     fn calls(&self) -> usize;
 
-    /// Whether the index is whole and has these pairs.
+    // Whether the index is whole and has these pairs.
     fn is_whole(&self, pairs: &[(u64, u64)]) -> bool;
 }
 
@@ -41,17 +41,17 @@ impl<const LEN: usize> Recorded for StateOf<u64, u64, LEN> {
     }
 }
 
-/// Whether the index of a state is whole and has these pairs.
+// Whether the index of a state is whole and has these pairs.
 fn is_whole<const LEN: usize>(state: &StateOf<u64, u64, LEN>, pairs: &[(u64, u64)]) -> bool {
     flaws(state.index(), pairs).is_ok()
 }
 
-/// Whether so many calls are in the history, and the index is whole and has these pairs.
+// Whether so many calls are in the history, and the index is whole and has these pairs.
 fn stands(state: &impl Recorded, calls: usize, pairs: &[(u64, u64)]) -> bool {
     state.calls() == calls && state.is_whole(pairs)
 }
 
-/// The name by which the sweep of refusals knows the call that applies a command.
+// The name by which the sweep of refusals knows the call that applies a command.
 pub(crate) fn name_of<K, V>(command: &Command<K, V>) -> &'static str {
     match command {
         Command::Insert(_, _) => "State::apply Insert",
@@ -65,8 +65,8 @@ pub(crate) fn name_of<K, V>(command: &Command<K, V>) -> &'static str {
 
 pub(crate) const INSERT: &str = "State::insert";
 
-/// Applies a command to a state of these pairs. Returns `None` if an allocation fails: the command came back then, and the
-/// state stood.
+// Applies a command to a state of these pairs. Returns `None` if an allocation fails: the command
+// came back then, and the state stood.
 fn applied(
     rt: &impl Abort,
     alloc: Global,
@@ -87,7 +87,7 @@ fn applied(
     }
 }
 
-/// Applies a command, at once or the second time. `Err` if nothing can be allocated any more.
+// Applies a command, at once or the second time. `Err` if nothing can be allocated any more.
 fn apply_twice(
     rt: &impl Abort,
     alloc: Global,
@@ -103,8 +103,8 @@ fn apply_twice(
     reply.ok_or(AllocError)
 }
 
-/// Inserts the pair of 1 and 1 into an empty state. Returns whether an allocation failed: the pair came back then, and the
-/// state stood.
+// Inserts the pair of 1 and 1 into an empty state. Returns whether an allocation failed: the pair
+// came back then, and the state stood.
 fn is_refused_a_pair(rt: &impl Abort, state: &mut impl Recorded) -> bool {
     let calls = state.calls();
     let Err(back) = state.insert(1, 1) else {
@@ -114,7 +114,7 @@ fn is_refused_a_pair(rt: &impl Abort, state: &mut impl Recorded) -> bool {
     true
 }
 
-/// Does what [`is_refused_a_pair`] does, and tells the sweep of refusals.
+// Does what [`is_refused_a_pair`] does, and tells the sweep of refusals.
 fn is_refused_once(rt: &impl Abort, alloc: Global, state: &mut impl Recorded) -> bool {
     begins(alloc, INSERT);
     let is_refused = is_refused_a_pair(rt, state);
@@ -122,7 +122,8 @@ fn is_refused_once(rt: &impl Abort, alloc: Global, state: &mut impl Recorded) ->
     is_refused
 }
 
-/// Inserts the pair of 1 and 1 into an empty state, at once or the second time. `Err` if nothing can be allocated any more.
+// Inserts the pair of 1 and 1 into an empty state, at once or the second time. `Err` if nothing
+// can be allocated any more.
 fn insert_twice(
     rt: &impl Abort,
     alloc: Global,
@@ -136,10 +137,10 @@ fn insert_twice(
     Ok(())
 }
 
-/// A command, its reply, and the pairs after it.
+// A command, its reply, and the pairs after it.
 type Row = (Command<u64, u64>, Reply<u64>, &'static [(u64, u64)]);
 
-/// Commands of each kind, over a state of the pair of 1 and 1.
+// Commands of each kind, over a state of the pair of 1 and 1.
 static COMMANDS: [Row; 8] = [
     (Command::Insert(1, 3), Reply::Duplicate, &[(1, 1)]),
     (Command::Peek(1), Reply::Found(Some(1)), &[(1, 1)]),
@@ -155,7 +156,7 @@ static COMMANDS: [Row; 8] = [
     (Command::Clear, Reply::Done, &[]),
 ];
 
-/// Applies the command of a row to a state of these pairs.
+// Applies the command of a row to a state of these pairs.
 fn expect_row(
     rt: &impl Abort,
     alloc: Global,
@@ -169,7 +170,7 @@ fn expect_row(
     Ok(())
 }
 
-/// Makes the calls of an empty state again and again, so that the history allocates as it grows.
+// Makes the calls of an empty state again and again, so that the history allocates as it grows.
 fn apply_each(rt: &impl Abort, alloc: Global, state: &mut impl Recorded) -> Result<(), AllocError> {
     for _ in 0..20 {
         insert_twice(rt, alloc, state)?;
@@ -202,10 +203,11 @@ fn hands_back_each_command(rt: HostRuntime) {
     );
 }
 
-/// How many records a history has room for after its first call, as a vector grows. So a call behind these allocates.
+// How many records a history has room for after its first call, as a vector grows. So a call
+// behind these allocates.
 const ROOM: usize = 4;
 
-/// The pairs before a command that finds the history full, and its row.
+// The pairs before a command that finds the history full, and its row.
 static AT_A_FULL_HISTORY: [(&[(u64, u64)], Row); 8] = [
     (&[], (Command::Insert(1, 1), Reply::Stored, &[(1, 1)])),
     (&[], (Command::Upsert(1, 2), Reply::Stored, &[(1, 2)])),
@@ -230,7 +232,7 @@ static AT_A_FULL_HISTORY: [(&[(u64, u64)], Row); 8] = [
     (&[(1, 1)], (Command::Clear, Reply::Done, &[])),
 ];
 
-/// Applies a command before those that are looked at.
+// Applies a command before those that are looked at.
 fn prepare(state: &mut impl Recorded, command: Command<u64, u64>) -> Result<(), AllocError> {
     match state.apply(command) {
         Ok(_) => Ok(()),
@@ -238,7 +240,7 @@ fn prepare(state: &mut impl Recorded, command: Command<u64, u64>) -> Result<(), 
     }
 }
 
-/// Stores pairs in a new state, and looks a key up until the history is full.
+// Stores pairs in a new state, and looks a key up until the history is full.
 fn fill_history(state: &mut impl Recorded, pairs: &[(u64, u64)]) -> Result<(), AllocError> {
     for (key, value) in pairs {
         prepare(state, Command::Insert(*key, *value))?;
@@ -259,7 +261,7 @@ fn full_history_steps(
     expect_row(rt, alloc, &mut state, pairs, row)
 }
 
-/// Each kind of command behind a history without room.
+// Each kind of command behind a history without room.
 #[test]
 fn hands_back_each_command_at_a_full_history(rt: HostRuntime) {
     for row in &AT_A_FULL_HISTORY {
@@ -285,8 +287,8 @@ fn hands_back_a_pair_at_a_full_history(rt: HostRuntime) {
     );
 }
 
-/// Inserts pairs in key order: the first one into an empty state, and later ones where a leaf is full, a node over leaves
-/// and a node over nodes.
+// Inserts pairs in key order: the first one into an empty state, and later ones where a leaf is
+// full, a node over leaves and a node over nodes.
 fn fill(
     rt: &impl Abort,
     alloc: Global,
@@ -311,7 +313,7 @@ fn small_fills(rt: &impl Abort, alloc: Global, pairs: &[(u64, u64)]) -> Result<(
     fill(rt, alloc, &mut state, pairs)
 }
 
-/// The last pair makes a third level.
+// The last pair makes a third level.
 #[test]
 fn hands_back_inserts_into_a_growing_tree(rt: HostRuntime) {
     assert!(rt;

@@ -18,7 +18,7 @@ pub struct Named {
 }
 
 impl Named {
-    /// The key of a number, without a name. Allocates nothing.
+    // The key of a number, without a name. Allocates nothing.
     pub(crate) fn bare(alloc: Global, number: u64) -> Self {
         Named {
             number,

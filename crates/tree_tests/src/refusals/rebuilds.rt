@@ -1,11 +1,11 @@
-//! Leaves that are built anew in place, without an allocation.
+//! Leaves that are rebuilt in place, without an allocation.
 use std::alloc::{AllocError, Global};
 use std::process::Abort;
 use test_support::refusals::succeeds;
 use tree_index::TreeIndex;
 use tree_support::{MoreCalls, Numbers, Scenario, ascend, succeeds_at_both_sizes};
 
-/// How often one key was upserted, and the spare then, with fifteen slots and with seven.
+// How often one key was upserted, and the spare then, with fifteen slots and with seven.
 static SPARES: [(u64, u8); 9] = [
     (1, 14),
     (2, 13),
@@ -20,7 +20,7 @@ static SPARES: [(u64, u8); 9] = [
 
 static SMALL_SPARES: [(u64, u8); 5] = [(1, 6), (2, 5), (3, 6), (7, 6), (8, 5)];
 
-/// Upserts the key 7 of an empty index again and again. Only the first upsert allocates.
+// Upserts the key 7 of an empty index again and again. Only the first upsert allocates.
 #[derive(Drop)]
 struct Rebuilding<'r, R> {
     rt: &'r R,
@@ -41,14 +41,14 @@ impl<R: Abort> Scenario for Rebuilding<'_, R> {
     }
 }
 
-/// Upserts the key, of which there were so many upserts, until there were `count`.
+// Upserts the key, of which there were so many upserts, until there were `count`.
 fn upsert_again(rt: &impl Abort, index: &mut impl Numbers, upserts: u64, count: u64) {
     for value in upserts.saturating_add(1)..=count {
         assert!(rt; index.upsert(7, value).is_ok());
     }
 }
 
-/// Compares the spare, and the value of the last upsert.
+// Compares the spare, and the value of the last upsert.
 fn expect_spare(rt: &impl Abort, index: &impl Numbers, spare: u8, value: u64) {
     assert!(rt; index.spare() == spare && index.peek(7) == Some(value));
 }
@@ -59,7 +59,8 @@ fn upserts_of_one_key_allocate_once(rt: HostRuntime) {
     assert!(rt; succeeds_at_both_sizes(rt.alloc(), &scenario));
 }
 
-/// Removes four of the keys from 1 to 12, and inserts seven others. Returns whether the spare is as wanted all along.
+// Removes four of the keys from 1 to 12, and inserts seven others. Returns whether the spare is as
+// wanted all along.
 fn refills(index: &mut impl Numbers) -> bool {
     if index.spare() != 3 {
         return false;

@@ -4,10 +4,11 @@ use std::alloc::{AllocError, Global};
 use std::process::Abort;
 use test_support::refusals::{begins, ends, is_granted_again};
 use tree_index::{Command, Reply, TreeIndexOf};
-use tree_runs::run;
+use tree_state::run;
 use tree_support::{Numbers, OwnScenario, flaws, succeeds_by_own_calls};
 
-/// Whether an insert and a look-up of the key were answered. Else the insert was refused, and the look-up found none.
+// Whether an insert and a look-up of the key were answered. Else the insert was refused, and the
+// look-up found none.
 fn are_answered(rt: &impl Abort, replies: &[Reply<u64>], key: u64) -> bool {
     if replies == [Reply::Stored, Reply::Found(Some(key))].as_slice() {
         return true;
@@ -16,12 +17,12 @@ fn are_answered(rt: &impl Abort, replies: &[Reply<u64>], key: u64) -> bool {
     false
 }
 
-/// An index of numbers that runs commands.
+// An index of numbers that runs commands.
 trait Runs: Numbers {
-    /// Calls `run`.
+    // Calls `run`.
     fn run(&mut self, commands: Vec<Command<u64, u64>>) -> Result<Vec<Reply<u64>>, AllocError>;
 
-    /// Whether the index is whole and has these pairs.
+    // Whether the index is whole and has these pairs.
     fn is_whole(&self, pairs: &[(u64, u64)]) -> bool;
 }
 
@@ -37,9 +38,9 @@ impl<const LEN: usize> Runs for TreeIndexOf<u64, u64, LEN> {
 
 const RUN: &str = "run";
 
-/// Runs an insert and a look-up of an absent key over an index of these pairs. Returns whether the pair was stored. If the
-/// room for the replies can't be allocated, the run is refused; if the insert can't allocate, it alone is. The index stands
-/// then.
+// Runs an insert and a look-up of an absent key over an index of these pairs. Returns whether the
+// pair was stored. If the room for the replies can't be allocated, the run is refused; if the
+// insert can't allocate, it alone is. The index stands then.
 fn run_once(
     rt: &impl Abort,
     alloc: Global,
@@ -59,7 +60,7 @@ fn run_once(
     Ok(is_stored)
 }
 
-/// Runs both at once or the second time. `Err` if nothing can be allocated any more.
+// Runs both at once or the second time. `Err` if nothing can be allocated any more.
 fn run_twice(
     rt: &impl Abort,
     alloc: Global,
@@ -75,11 +76,11 @@ fn run_twice(
     Ok(())
 }
 
-/// So many ascending keys, at fifteen pairs a leaf and at seven, that the next one makes a leaf and a root, splits a leaf, splits
-/// a node over leaves, and splits a node over nodes.
+// So many ascending keys, at fifteen pairs a leaf and at seven, that the next one makes a leaf and
+// a root, splits a leaf, splits a node over leaves, and splits a node over nodes.
 static COUNTS: [(u64, u64); 4] = [(0, 0), (15, 7), (240, 56), (3615, 399)];
 
-/// Stores so many pairs in an empty index, and runs both commands over it.
+// Stores so many pairs in an empty index, and runs both commands over it.
 fn run_over(
     rt: &impl Abort,
     alloc: Global,
@@ -93,7 +94,7 @@ fn run_over(
     run_twice(rt, alloc, index, &pairs, count.saturating_add(1))
 }
 
-/// Runs both commands over so many pairs.
+// Runs both commands over so many pairs.
 #[derive(Drop)]
 struct Running<'r, R> {
     rt: &'r R,

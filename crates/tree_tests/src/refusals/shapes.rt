@@ -1,4 +1,5 @@
-//! Writes at each shape of a tree at which an allocation may fail, and the calls that allocate nothing.
+//! Writes at each shape of a tree at which an allocation may fail, and the calls that allocate
+//! nothing.
 use crate::refusals::keys::Named;
 use crate::refusals::writes::{Call, NamedKeys, Names, stands, store, write_twice, written};
 use std::alloc::{AllocError, Global};
@@ -6,16 +7,16 @@ use std::process::Abort;
 use test_support::refusals::succeeds;
 use tree_index::{InsertError, TreeIndexOf};
 
-/// How many ascending keys are stored, and the distance of one to the next, which is the first one too. Then the keys that
-/// are removed, from the first to the last, none if the last one is smaller. Then the absent key of a write, and the depth
-/// after it.
+// How many ascending keys are stored, and the distance of one to the next, which is the first one
+// too. Then the keys that are removed, from the first to the last, none if the last one is
+// smaller. Then the absent key of a write, and the depth after it.
 type Shape = (u64, u64, (u64, u64), u64, usize);
 
 const NONE: (u64, u64) = (1, 0);
 
-/// With fifteen slots: a new index and a retired root; a full leaf, at its end and within, and a leaf that is built anew; a
-/// full node over leaves that is the root, at its end and within, and one below a root, where the arena of nodes is full
-/// too.
+// With fifteen slots: a new index and a retired root; a full leaf, at its end and within, and a
+// leaf that is rebuilt; a full node over leaves that is the root, at its end and within, and
+// one below a root, where the arena of nodes is full too.
 static LARGE: [Shape; 9] = [
     (0, 1, NONE, 1, 1),
     (1, 1, (1, 1), 8, 1),
@@ -28,14 +29,15 @@ static LARGE: [Shape; 9] = [
     (690, 1, NONE, 691, 2),
 ];
 
-/// A full root over nodes over leaves; and with three levels a full leaf and a full node over leaves.
+// A full root over nodes over leaves; and with three levels a full leaf and a full node over
+// leaves.
 static DEEP: [Shape; 3] = [
     (3615, 1, NONE, 3616, 3),
     (3630, 1, NONE, 3631, 3),
     (3840, 1, NONE, 3841, 3),
 ];
 
-/// The same as both with seven slots.
+// The same as both with seven slots.
 static SMALL: [Shape; 12] = [
     (0, 1, NONE, 1, 1),
     (1, 1, (1, 1), 8, 1),
@@ -51,8 +53,8 @@ static SMALL: [Shape; 12] = [
     (448, 1, NONE, 449, 3),
 ];
 
-/// The pairs of a shape, before its write or after it. The value at each key is its number, and 0 at the one that is
-/// written.
+// The pairs of a shape, before its write or after it. The value at each key is its number, and 0
+// at the one that is written.
 fn pairs_of(alloc: Global, shape: &Shape, is_after: bool) -> Result<Vec<(u64, u64)>, AllocError> {
     let (count, step, (first, last), key, _) = *shape;
     let greatest = count.saturating_mul(step);
@@ -68,8 +70,8 @@ fn pairs_of(alloc: Global, shape: &Shape, is_after: bool) -> Result<Vec<(u64, u6
     Ok(pairs)
 }
 
-/// Stores the pairs of a shape in an empty index. The keys near that of the write allocate where they are cloned, as a
-/// split does with one of them.
+// Stores the pairs of a shape in an empty index. The keys near that of the write allocate where
+// they are cloned, as a split does with one of them.
 fn grow(alloc: Global, index: &mut impl NamedKeys, shape: &Shape) -> Result<(), AllocError> {
     let (count, step, _, key, _) = *shape;
     for place in 1..=count {
@@ -81,7 +83,7 @@ fn grow(alloc: Global, index: &mut impl NamedKeys, shape: &Shape) -> Result<(), 
     Ok(())
 }
 
-/// Removes the keys of a shape.
+// Removes the keys of a shape.
 fn shrink(alloc: Global, index: &mut impl NamedKeys, shape: &Shape) {
     let (first, last) = shape.2;
     for number in first..=last {
@@ -89,7 +91,8 @@ fn shrink(alloc: Global, index: &mut impl NamedKeys, shape: &Shape) {
     }
 }
 
-/// Whether a second key that is equal to the one that was written comes back, and no memory is asked for.
+// Whether a second key that is equal to the one that was written comes back, and no memory is
+// asked for.
 fn refuses_a_duplicate(alloc: Global, index: &mut impl NamedKeys, number: u64) -> bool {
     match index.insert(Named::bare(alloc, number), 7) {
         Err(InsertError::Duplicate(key, value)) => {
@@ -99,17 +102,17 @@ fn refuses_a_duplicate(alloc: Global, index: &mut impl NamedKeys, number: u64) -
     }
 }
 
-/// Whether the key that was written is found, with both ends of a range too.
+// Whether the key that was written is found, with both ends of a range too.
 fn looks_up(index: &impl NamedKeys, key: &Named) -> bool {
     index.peek(key) == Some(0) && index.contains(key) && index.is_alone(key)
 }
 
-/// Whether the pair that was written is removed, but not where its condition forbids it.
+// Whether the pair that was written is removed, but not where its condition forbids it.
 fn removes(index: &mut impl NamedKeys, key: &Named) -> bool {
     !index.remove_positive(key) && index.remove(key)
 }
 
-/// Removes the pairs up to a key. Returns whether those of the rest stay.
+// Removes the pairs up to a key. Returns whether those of the rest stay.
 fn cuts(index: &mut impl NamedKeys, pairs: &[(u64, u64)], key: &Named) -> bool {
     index.remove_up_to(key);
     let first = pairs.iter().position(|pair| pair.0 > key.number);
@@ -117,7 +120,8 @@ fn cuts(index: &mut impl NamedKeys, pairs: &[(u64, u64)], key: &Named) -> bool {
     stands(index, rest, 0)
 }
 
-/// Whether calls that allocate nothing answer, whatever allocation fails. At last the index is empty.
+// Whether calls that allocate nothing answer, whatever allocation fails. At last the index is
+// empty.
 fn answers_without_memory(
     alloc: Global,
     index: &mut impl NamedKeys,
@@ -134,7 +138,8 @@ fn answers_without_memory(
     is_cut && index.is_empty() && index.depth() == 0
 }
 
-/// Writes the pair of a shape into an index of these pairs, and makes the calls that allocate nothing.
+// Writes the pair of a shape into an index of these pairs, and makes the calls that allocate
+// nothing.
 fn write(
     rt: &impl Abort,
     alloc: Global,
@@ -150,7 +155,7 @@ fn write(
     Ok(())
 }
 
-/// Grows an empty index to a shape, and writes.
+// Grows an empty index to a shape, and writes.
 fn write_at(
     rt: &impl Abort,
     alloc: Global,
@@ -180,7 +185,7 @@ fn small_writes_steps(
     write_at(rt, alloc, &mut index, shape, by)
 }
 
-/// Writes at each of these shapes, with fifteen slots.
+// Writes at each of these shapes, with fifteen slots.
 fn write_at_each(rt: &impl Abort, alloc: Global, shapes: &[Shape], by: Call) {
     for shape in shapes {
         assert!(rt;
@@ -190,7 +195,7 @@ fn write_at_each(rt: &impl Abort, alloc: Global, shapes: &[Shape], by: Call) {
     }
 }
 
-/// Writes at each shape, with seven slots.
+// Writes at each shape, with seven slots.
 fn write_at_each_small(rt: &impl Abort, alloc: Global, by: Call) {
     for shape in &SMALL {
         assert!(rt;

@@ -5,23 +5,22 @@ use std::ops::Bound;
 use std::process::Abort;
 use test_support::refusals::{begins, ends, is_granted_again, succeeds};
 use tree_index::{Command, InsertError, Reply, TreeIndex};
-use tree_runs::run;
-use tree_state::State;
+use tree_state::{State, run};
 
-/// A command over texts.
+// A command over texts.
 type Texts = Command<String, String>;
 
-/// A pair of texts.
+// A pair of texts.
 type Pair = (String, String);
 
-/// The way in which a state takes an insert.
+// The way in which a state takes an insert.
 #[derive(Clone, Copy)]
 enum Way {
     Apply,
     Insert,
 }
 
-/// Passes a command to a state.
+// Passes a command to a state.
 fn pass(
     state: &mut State<String, String>,
     way: Way,
@@ -37,7 +36,7 @@ fn pass(
     }
 }
 
-/// The name by which the sweep of refusals knows the call that takes a command.
+// The name by which the sweep of refusals knows the call that takes a command.
 fn name(way: Way, command: &Texts) -> &'static str {
     match way {
         Way::Apply => name_of(command),
@@ -45,7 +44,7 @@ fn name(way: Way, command: &Texts) -> &'static str {
     }
 }
 
-/// Whether an index has these pairs.
+// Whether an index has these pairs.
 fn has(index: &TreeIndex<String, String>, pairs: &[Pair]) -> bool {
     let mut walk = index.iter();
     for pair in pairs {
@@ -56,13 +55,13 @@ fn has(index: &TreeIndex<String, String>, pairs: &[Pair]) -> bool {
     walk.next().is_none()
 }
 
-/// Whether so many calls are in the history, and the index has these pairs.
+// Whether so many calls are in the history, and the index has these pairs.
 fn stands(state: &State<String, String>, calls: usize, pairs: &[Pair]) -> bool {
     state.history().len() == calls && has(state.index(), pairs)
 }
 
-/// Passes a clone of a command to a state of these pairs. Returns `None` if an allocation fails in the call: the command
-/// came back then, and the state stood.
+// Passes a clone of a command to a state of these pairs. Returns `None` if an allocation fails in
+// the call: the command came back then, and the state stood.
 fn passed(
     rt: &impl Abort,
     alloc: Global,
@@ -85,7 +84,7 @@ fn passed(
     }
 }
 
-/// Passes a command, at once or the second time. `Err` if nothing can be allocated any more.
+// Passes a command, at once or the second time. `Err` if nothing can be allocated any more.
 fn pass_twice(
     rt: &impl Abort,
     alloc: Global,
@@ -102,7 +101,7 @@ fn pass_twice(
     reply.ok_or(AllocError)
 }
 
-/// Ascending texts, one more than a leaf has room for, each with itself.
+// Ascending texts, one more than a leaf has room for, each with itself.
 fn ascending(alloc: Global) -> Result<Vec<Pair>, AllocError> {
     let mut pairs = Vec::with_capacity(alloc, 16)?;
     for number in 10..26u64 {
@@ -113,7 +112,8 @@ fn ascending(alloc: Global) -> Result<Vec<Pair>, AllocError> {
     Ok(pairs)
 }
 
-/// Inserts pairs in key order into an empty state. The last one splits the leaf, which clones a separator.
+// Inserts pairs in key order into an empty state. The last one splits the leaf, which clones a
+// separator.
 fn fill(
     rt: &impl Abort,
     alloc: Global,
@@ -137,7 +137,7 @@ fn fills(rt: &impl Abort, alloc: Global, way: Way) -> Result<(), AllocError> {
     fill(rt, alloc, &mut state, way, &pairs)
 }
 
-/// Keys and values that allocate where they are cloned, for the history and as a separator.
+// Keys and values that allocate where they are cloned, for the history and as a separator.
 #[test]
 fn hands_back_inserts_of_texts(rt: HostRuntime) {
     for way in [Way::Apply, Way::Insert] {
@@ -145,14 +145,14 @@ fn hands_back_inserts_of_texts(rt: HostRuntime) {
     }
 }
 
-/// A command over texts, and its reply.
+// A command over texts, and its reply.
 type Row = (
     Command<&'static str, &'static str>,
     Reply<&'static str>,
     &'static [(&'static str, &'static str)],
 );
 
-/// Commands of each kind, over the texts that the one before leaves.
+// Commands of each kind, over the texts that the one before leaves.
 static COMMANDS: [Row; 7] = [
     (Command::Insert("a", "1"), Reply::Stored, &[("a", "1")]),
     (Command::Upsert("a", "2"), Reply::Stored, &[("a", "2")]),
@@ -171,7 +171,7 @@ fn owned(alloc: Global, text: &str) -> Result<String, AllocError> {
     String::from_str(alloc, text)
 }
 
-/// The bound of an owned text.
+// The bound of an owned text.
 fn owned_bound(alloc: Global, bound: &Bound<&'static str>) -> Result<Bound<String>, AllocError> {
     match bound {
         Bound::Included(text) => Ok(Bound::Included(owned(alloc, *text)?)),
@@ -180,7 +180,7 @@ fn owned_bound(alloc: Global, bound: &Bound<&'static str>) -> Result<Bound<Strin
     }
 }
 
-/// The command over owned texts.
+// The command over owned texts.
 fn owned_command(
     alloc: Global,
     command: &Command<&'static str, &'static str>,
@@ -202,7 +202,7 @@ fn owned_command(
     }
 }
 
-/// The pairs of owned texts.
+// The pairs of owned texts.
 fn owned_pairs(
     alloc: Global,
     texts: &[(&'static str, &'static str)],
@@ -214,7 +214,7 @@ fn owned_pairs(
     Ok(pairs)
 }
 
-/// Whether a reply is this one.
+// Whether a reply is this one.
 fn is_reply(told: &Reply<String>, wanted: Reply<&'static str>) -> bool {
     match (told, wanted) {
         (Reply::Found(Some(text)), Reply::Found(Some(wanted))) => text.as_str() == wanted,
@@ -224,7 +224,7 @@ fn is_reply(told: &Reply<String>, wanted: Reply<&'static str>) -> bool {
     }
 }
 
-/// Applies the command of a row to a state of these pairs, and returns those that it leaves.
+// Applies the command of a row to a state of these pairs, and returns those that it leaves.
 fn apply_row(
     rt: &impl Abort,
     alloc: Global,
@@ -234,8 +234,9 @@ fn apply_row(
 ) -> Result<Vec<Pair>, AllocError> {
     let command = owned_command(alloc, &row.0)?;
     let after = owned_pairs(alloc, row.2)?;
+    let calls = state.history().len();
     let told = pass_twice(rt, alloc, state, Way::Apply, &command, pairs)?;
-    assert!(rt; is_reply(&told, row.1) && has(state.index(), &after));
+    assert!(rt; is_reply(&told, row.1) && stands(state, calls.wrapping_add(1), &after));
     Ok(after)
 }
 
@@ -255,8 +256,8 @@ fn hands_back_commands_over_texts(rt: HostRuntime) {
 
 const RUN: &str = "run";
 
-/// Whether an insert and a look-up of a pair were both answered, or one of both was refused. With a second run the pair may be
-/// stored already. `None` if the replies are wrong.
+// Whether an insert and a look-up of a pair were both answered, or one of both was refused. With a
+// second run the pair may be stored already. `None` if the replies are wrong.
 fn are_answered(replies: &[Reply<String>], value: &str) -> Option<bool> {
     let [stored, found] = replies else {
         return None;
@@ -274,7 +275,8 @@ fn are_answered(replies: &[Reply<String>], value: &str) -> Option<bool> {
     }
 }
 
-/// Runs an insert and a look-up of the last pair over an index of the others, or of all. Returns whether both were answered.
+// Runs an insert and a look-up of the last pair over an index of the others, or of all. Returns
+// whether both were answered.
 fn run_once(
     rt: &impl Abort,
     alloc: Global,
@@ -313,7 +315,7 @@ fn run_twice(
     Ok(())
 }
 
-/// Stores clones of all pairs but the last.
+// Stores clones of all pairs but the last.
 fn store_all_but_last(
     index: &mut TreeIndex<String, String>,
     pairs: &[Pair],
@@ -334,7 +336,7 @@ fn runs_steps(rt: &impl Abort, alloc: Global) -> Result<(), AllocError> {
     run_twice(rt, alloc, &mut index, &pairs)
 }
 
-/// The insert clones a separator, and the look-up its value.
+// The insert clones a separator, and the look-up its value.
 #[test]
 fn runs_again_over_texts(rt: HostRuntime) {
     assert!(rt; succeeds(rt.alloc(), || runs_steps(&rt, rt.alloc())));

@@ -9,10 +9,10 @@ use tree_index::{InsertError, TreeIndexOf};
 /// An index of names.
 pub type Names<const LEN: usize> = TreeIndexOf<Named, u64, LEN>;
 
-/// The name of a key that is written.
+// The name of a key that is written.
 const WRITTEN: &str = "written";
 
-/// The key of a number that is written.
+// The key of a number that is written.
 pub(crate) fn written(alloc: Global, number: u64) -> Result<Named, AllocError> {
     let mut key = Named::bare(alloc, number);
     key.name.push_str(WRITTEN)?;
@@ -27,7 +27,7 @@ pub enum Call {
 }
 
 impl Call {
-    /// The name by which the sweep of refusals knows the call.
+    // The name by which the sweep of refusals knows the call.
     fn name(self) -> &'static str {
         match self {
             Call::Insert => "TreeIndex::insert_sync",
@@ -139,7 +139,7 @@ impl<const LEN: usize> NamedKeys for Names<LEN> {
     }
 }
 
-/// Stores a pair. Returns it if an allocation fails.
+// Stores a pair. Returns it if an allocation fails.
 pub(crate) fn store(
     index: &mut impl NamedKeys,
     by: Call,
@@ -155,20 +155,20 @@ pub(crate) fn store(
     }
 }
 
-/// Whether an entry is this pair, as it was stored: without a name, or with one if it has the number of the key that was
-/// written.
+// Whether an entry is this pair, as it was stored: without a name, or with one if it has the
+// number of the key that was written.
 fn is_stored((key, value): (&Named, &u64), pair: (u64, u64), number: u64) -> bool {
     let name = if key.number == number { WRITTEN } else { "" };
     (key.number, *value) == pair && key.name.as_str() == name
 }
 
-/// Whether the index has these pairs, walked from both ends. No key has a name but that of this number, which was written;
-/// with 0 none was.
+// Whether the index has these pairs, walked from both ends. No key has a name but that of this
+// number, which was written; with 0 none was.
 pub(crate) fn stands(index: &impl NamedKeys, pairs: &[(u64, u64)], number: u64) -> bool {
     index.len() == pairs.len() && index.ascends(pairs, number) && index.descends(pairs, number)
 }
 
-/// Whether the range from a key to itself has that key alone.
+// Whether the range from a key to itself has that key alone.
 fn is_alone<const LEN: usize>(index: &Names<LEN>, key: &Named) -> bool {
     let mut range = index.range((Bound::Included(key), Bound::Included(key)));
     let is_first = range.next().is_some_and(|(at, _)| at.number == key.number);
@@ -176,7 +176,7 @@ fn is_alone<const LEN: usize>(index: &Names<LEN>, key: &Named) -> bool {
     is_first && is_last
 }
 
-/// Whether a walk from the first pair gives these.
+// Whether a walk from the first pair gives these.
 fn ascends<const LEN: usize>(index: &Names<LEN>, pairs: &[(u64, u64)], number: u64) -> bool {
     let mut walk = index.iter();
     for pair in pairs {
@@ -190,7 +190,7 @@ fn ascends<const LEN: usize>(index: &Names<LEN>, pairs: &[(u64, u64)], number: u
     walk.next().is_none()
 }
 
-/// Whether a walk from the last pair gives these.
+// Whether a walk from the last pair gives these.
 fn descends<const LEN: usize>(index: &Names<LEN>, pairs: &[(u64, u64)], number: u64) -> bool {
     let mut walk = index.iter();
     for pair in pairs.iter().rev() {
@@ -204,8 +204,8 @@ fn descends<const LEN: usize>(index: &Names<LEN>, pairs: &[(u64, u64)], number: 
     walk.next_back().is_none()
 }
 
-/// Writes a pair to an index of these pairs. Returns its key if an allocation fails: the very pair came back then, and
-/// the index stood.
+// Writes a pair to an index of these pairs. Returns its key if an allocation fails: the very pair
+// came back then, and the index stood.
 fn write_once(
     rt: &impl Abort,
     alloc: Global,
@@ -224,7 +224,8 @@ fn write_once(
     Some(key)
 }
 
-/// Writes a pair to an index of these pairs, at once or the second time. `Err` if nothing can be allocated any more.
+// Writes a pair to an index of these pairs, at once or the second time. `Err` if nothing can be
+// allocated any more.
 pub(crate) fn write_twice(
     rt: &impl Abort,
     alloc: Global,
@@ -241,7 +242,7 @@ pub(crate) fn write_twice(
     Ok(())
 }
 
-/// The pairs of the keys up to the last one. The value at each key is its number.
+// The pairs of the keys up to the last one. The value at each key is its number.
 pub(crate) fn ascending(alloc: Global, count: u64) -> Result<Vec<(u64, u64)>, AllocError> {
     let mut pairs = Vec::with_capacity(alloc, count as usize)?;
     for key in 1..=count {

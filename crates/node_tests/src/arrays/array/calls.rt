@@ -4,7 +4,7 @@ use crate::arrays::expect::expect_eq;
 use std::process::Abort;
 use tree_array::array::{Array, ArrayOf, DIMENSION, InsertResult, RemoveResult};
 
-/// The array in which these keys arrived, each with itself as its value.
+// The array in which these keys arrived, each with itself as its value.
 fn of(keys: &[u64]) -> Array<u64, u64> {
     let mut array = Array::new();
     for key in keys {
@@ -21,15 +21,15 @@ fn small_of(keys: &[u64]) -> ArrayOf<u64, u64, 7> {
     array
 }
 
-/// Whether the marks are these: no entry, no slot to spare, retired.
+// Whether the marks are these: no entry, no slot to spare, retired.
 fn marks(array: &Array<u64, u64>) -> (bool, bool, bool) {
     (array.is_empty(), array.is_full(), array.is_retired())
 }
 
-/// The pair of a key, its value, and the slot of the least key from it on.
+// The pair of a key, its value, and the slot of the least key from it on.
 type AtKey = (u64, Found);
 
-/// Compares what the searches find.
+// Compares what the searches find.
 fn expect_found(rt: &impl Abort, array: &Array<u64, u64>, rows: &[AtKey]) {
     for (key, wanted) in rows {
         expect_eq(rt, found(array, *key), *wanted);
@@ -63,7 +63,7 @@ fn stores_in_seven_slots(rt: HostRuntime) {
     expect_eq(&rt, (DIMENSION.len, DIMENSION.bits), (15, 4));
 }
 
-/// The array in which one key arrived fifteen times.
+// The array in which one key arrived fifteen times.
 fn of_one_key(rt: &impl Abort) -> Array<u64, u64> {
     let mut array = Array::new();
     for val in 0..15 {
@@ -106,8 +106,8 @@ fn retires(rt: HostRuntime) {
     expect_eq(&rt, array.insert::<false>(6, 6), InsertResult::Full(6, 6));
 }
 
-/// Keys in the order of their arrival, and where their array is to be divided, how many there are, and whether all
-/// came in ascending order.
+// Keys in the order of their arrival, and where their array is to be divided, how many there are,
+// and whether all came in ascending order.
 type Division = (&'static [u64], (u8, usize, bool));
 
 static DIVISIONS: [Division; 5] = [
@@ -133,7 +133,7 @@ static DIVISIONS: [Division; 5] = [
     ),
 ];
 
-/// Whether the array of these arrivals is to be divided there.
+// Whether the array of these arrivals is to be divided there.
 fn divides(division: &Division) -> bool {
     of(division.0).optimal_boundary() == division.1
 }
@@ -156,7 +156,7 @@ static SMALL_DIVISIONS: [Division; 8] = [
     (&[1, 2, 3, 4, 5], (7, 5, false)),
 ];
 
-/// Whether the array of seven slots with these arrivals is to be divided there.
+// Whether the array of seven slots with these arrivals is to be divided there.
 fn divides_small(division: &Division) -> bool {
     small_of(division.0).optimal_boundary() == division.1
 }

@@ -39,7 +39,7 @@ impl<const LEN: usize> Searched for ArrayOf<u64, u64, LEN> {
     }
 }
 
-/// What the searches find by a key.
+// What the searches find by a key.
 pub(crate) fn found<S: Searched>(searched: &S, key: u64) -> Found {
     found_by::<S, Brand>(searched, key, Blank::new(1))
 }

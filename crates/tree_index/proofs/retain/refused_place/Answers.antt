@@ -2,7 +2,7 @@ use Rattle.std.proofs.Common.{[], of_calls, refl}
 use Rattle.tree_model.proofs.Common.{bound_map}
 use Rattle.tree_model.specs.declared.way.Way.TheVariants.{On}
 use Rattle.tree_node.proofs.Common.{fits}
-use Rattle.tree_ranges.proofs.Yields.{takes_first}
+use Rattle.tree_cursors.proofs.Yields.{takes_first}
 use Rattle.tree_root.specs.Trees.{pairs_of}
 use Rattle.tree_index.proofs.Ended.{stored_where}
 use Rattle.tree_index.proofs.Indexed.{pairs_ascend}

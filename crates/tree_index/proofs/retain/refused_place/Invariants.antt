@@ -1,7 +1,7 @@
 use Rattle.tree_model.proofs.Common.{HasBegun, rest}
 use Rattle.tree_model.specs.declared.way.Way.TheVariants.{On}
 use denote.Param.Always.{always_mut}
-use Rattle.tree_ranges.specs.Ranged.{moves_left}
+use Rattle.tree_cursors.specs.Ranged.{moves_left}
 use Rattle.tree_index.proofs.Refused.{HasPassed}
 use Rattle.tree_index.proofs.retain.refused_place.Given as goal
 

@@ -1,13 +1,13 @@
 use Rattle.std.proofs.Common.{◌≡◌, ℕ, Bool, true, false, if◌then◌else◌, List, [], ◌∷◌, length, Option, Some, None, inl, inr, refl, sym, ap, ◌∙◌, nat_eq, nat_le, option_map, decimal}
 use Rattle.tree_model.proofs.Common.{false≢true}
 use Rattle.tree_index.specs.Index.{Index}
-use Rattle.tree_requests.specs.declared.requests.Request.{Request}
-use Rattle.tree_requests.specs.declared.requests.Request.TheVariants.{Depth, Spare}
-use Rattle.tree_requests.specs.Lines.{Fits, spelling}
+use Rattle.tree_lines.specs.declared.requests.Request.{Request}
+use Rattle.tree_lines.specs.declared.requests.Request.TheVariants.{Depth, Spare}
+use Rattle.tree_lines.specs.Spelling.{Fits, spelling}
 use Rattle.tree_lines.specs.Lines.{Says}
 use Rattle.tree_lines.specs.Progress.{MeasuresIndex, Responds, answer_text}
-use Rattle.tree_requests.specs.Words.{ReadsAs}
-use Rattle.tree_requests.proofs.Spellings.{long_no_request}
+use Rattle.tree_lines.specs.Words.{ReadsAs}
+use Rattle.tree_lines.proofs.Spellings.{long_no_request}
 use Rattle.tree_node.proofs.Common.{fits}
 use Rattle.tree_lines.proofs.answers.answer_to.Goals as goal
 

@@ -1,7 +1,7 @@
 use Rattle.std.proofs.Common.{◌≡◌, ℕ, List, Option, Some, ap, refl}
 use Rattle.tree_model.proofs.Common.{Unbounded}
-use Rattle.tree_requests.specs.declared.requests.Request.{Request}
-use Rattle.tree_requests.specs.declared.requests.Request.TheVariants.{Iter}
+use Rattle.tree_lines.specs.declared.requests.Request.{Request}
+use Rattle.tree_lines.specs.declared.requests.Request.TheVariants.{Iter}
 use Rattle.tree_lines.specs.Lines.{inside, pairs_text}
 use Rattle.tree_lines.specs.Progress.{Responds}
 use Rattle.tree_lines.proofs.Pieces.{within_open}

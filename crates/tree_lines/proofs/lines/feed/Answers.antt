@@ -1,7 +1,7 @@
 use Rattle.std.proofs.Common.{[]}
 use Rattle.tree_model.proofs.Common.{err_from_is_err_and}
 use Rattle.std.proofs.KnownBytes.{Appends-nil}
-use Rattle.tree_requests.specs.Lines.{with_feed}
+use Rattle.tree_lines.specs.Spelling.{with_feed}
 use Rattle.tree_lines.specs.Progress.{answer_text}
 use Rattle.tree_lines.proofs.Steps.{carries_byte, carries_line, breaks_line}
 use Rattle.tree_node.proofs.Common.{fits}

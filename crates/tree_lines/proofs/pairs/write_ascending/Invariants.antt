@@ -1,5 +1,5 @@
 use Rattle.tree_model.specs.declared.way.Way.TheVariants.{On}
-use Rattle.tree_requests.specs.Lines.{with_feed}
+use Rattle.tree_lines.specs.Spelling.{with_feed}
 use Rattle.tree_lines.specs.Lines.{inside, pairs_text}
 use Rattle.tree_lines.proofs.Pieces.{IsLineBegun}
 use Rattle.tree_lines.proofs.pairs.write_ascending.Given as goal

@@ -2,7 +2,7 @@ use Rattle.std.proofs.Common.{nat_cmp}
 use Rattle.tree_model.proofs.Common.{err_from_is_err_and}
 use Rattle.tree_model.specs.declared.way.Way.TheVariants.{Back}
 use Rattle.tree_node.proofs.Common.{fits}
-use Rattle.tree_ranges.proofs.Moving.{comes_nearer}
+use Rattle.tree_cursors.proofs.Moving.{comes_nearer}
 use Rattle.tree_lines.proofs.Pieces.{line_ends, line_fails, line_goes_on, line_back_of_all}
 use Rattle.tree_lines.proofs.pairs.write_descending.Goals as goal
 

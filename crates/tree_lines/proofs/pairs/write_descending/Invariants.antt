@@ -1,7 +1,7 @@
 use Rattle.std.proofs.Common.{reverse}
 use Rattle.tree_model.specs.declared.way.Way.TheVariants.{Back}
-use Rattle.tree_ranges.specs.Ranged.{moves_left}
-use Rattle.tree_requests.specs.Lines.{with_feed}
+use Rattle.tree_cursors.specs.Ranged.{moves_left}
+use Rattle.tree_lines.specs.Spelling.{with_feed}
 use Rattle.tree_lines.specs.Lines.{pairs_text}
 use Rattle.tree_lines.proofs.Pieces.{IsLineBegun}
 use Rattle.tree_lines.proofs.pairs.write_descending.Given as goal

@@ -1,5 +1,5 @@
 use Rattle.std.proofs.Common.{[], ◌∷◌, ◌++◌, length-append, arith, decimal}
-use Rattle.tree_requests.proofs.Decimals.{length-decimal}
+use Rattle.tree_lines.proofs.Decimals.{length-decimal}
 use Rattle.tree_lines.proofs.pairs.write_pair.Goals as goal
 
 -- each number has at most twenty digits

@@ -1,5 +1,5 @@
 use Rattle.std.proofs.Common.{false}
-use Rattle.tree_workers.specs.Workers.{AreAnswered}
+use Rattle.tree_shared.specs.Workers.{AreAnswered}
 use Rattle.treetool.proofs.Storms.{ended_well, runs_ended}
 use Rattle.treetool.proofs.storm.run_storm.Goals as goal
 

@@ -1,5 +1,5 @@
 use Rattle.std.proofs.Common.{map, Some, None, refl, sym, subst, string_bytes}
-use Rattle.tree_requests.proofs.Writes.{written_of}
+use Rattle.tree_lines.proofs.Writes.{written_of}
 use Rattle.treetool.specs.declared.task.Task.TheVariants.{Lines, SmallLines, Storm}
 use Rattle.treetool.specs.Tasks.{AsksFor}
 use Rattle.treetool.specs.Tool.{usage_line}

@@ -1,5 +1,5 @@
 use Rattle.std.proofs.Common.{◌≡◌, ◌≤◌}
-use Rattle.tree_tallies.specs.Tallies.{tally_of}
+use Rattle.tree_state.specs.Tallies.{tally_of}
 use Rattle.usage_threads.proofs.claims.claim.Given as goal
 
 -- a call at most for each number so far, and nothing but claims

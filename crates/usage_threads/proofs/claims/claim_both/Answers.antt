@@ -1,7 +1,7 @@
 use Rattle.std.proofs.Common.{◌≡◌, sym, ap, ◌∙◌, arith, nat_cmp}
 use Rattle.std.proofs.lemmas.Grind.{common_steps}
-use Rattle.tree_tallies.specs.Tallies.{plus}
-use Rattle.tree_tallies.specs.declared.tally.Tally.{Tally}
+use Rattle.tree_state.specs.Tallies.{plus}
+use Rattle.tree_state.specs.declared.tally.Tally.{Tally}
 use Rattle.usage_threads.proofs.Growth.{stored_all}
 use Rattle.usage_threads.proofs.claims.claim_both.Goals as goal
 

@@ -1,6 +1,6 @@
 use Rattle.std.proofs.Common.{length, refl, ap, arith}
 use Rattle.std.proofs.lemmas.Cmp.{nat_list_cmp_total}
-use Rattle.tree_ranges.specs.Ranged.{way_of}
+use Rattle.tree_cursors.specs.Ranged.{way_of}
 use Rattle.tree_index_c.specs.Entries.{entry_of}
 use Rattle.tree_index_c.proofs.Joined.{joining_more, joining_none, stops_at_once, stops_full, stops_short}
 use Rattle.tree_index_c.proofs.Walking.{walks_first, walks_on, walks_out, walks_to}

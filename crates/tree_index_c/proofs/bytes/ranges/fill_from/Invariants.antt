@@ -1,7 +1,7 @@
 use Rattle.std.proofs.Common.{◌≡◌, ◌≤◌, length, nat_cmp}
 use Rattle.tree_model.proofs.Common.{slice_cmp, along}
 use Rattle.std.proofs.lemmas.Cmp.{nat_list_cmp_total}
-use Rattle.tree_ranges.specs.Ranged.{way_of}
+use Rattle.tree_cursors.specs.Ranged.{way_of}
 use Rattle.tree_index_c.specs.Entries.{entry_of}
 use Rattle.tree_index_c.specs.Pairs.{pairs_between}
 use Rattle.tree_index_c.proofs.Joined.{Joining}

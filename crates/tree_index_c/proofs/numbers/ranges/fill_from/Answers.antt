@@ -1,6 +1,6 @@
 use Rattle.std.proofs.Common.{refl, arith}
 use Rattle.tree_model.proofs.Common.{nat_cmp_total}
-use Rattle.tree_ranges.specs.Ranged.{way_of}
+use Rattle.tree_cursors.specs.Ranged.{way_of}
 use Rattle.tree_index_c.specs.Pairs.{as_pair}
 use Rattle.tree_index_c.proofs.Walking.{walks_first, walks_full, walks_on, walks_out}
 use Rattle.tree_index_c.proofs.numbers.ranges.fill_from.Goals as goal

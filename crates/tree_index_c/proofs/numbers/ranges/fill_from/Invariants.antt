@@ -1,6 +1,6 @@
 use Rattle.std.proofs.Common.{◌≡◌, ◌≤◌, length, nat_cmp}
 use Rattle.tree_model.proofs.Common.{nat_cmp_total, along}
-use Rattle.tree_ranges.specs.Ranged.{way_of}
+use Rattle.tree_cursors.specs.Ranged.{way_of}
 use Rattle.tree_index_c.specs.Pairs.{as_pair, pairs_between}
 use Rattle.tree_index_c.proofs.Walking.{Walking}
 use Rattle.tree_index_c.proofs.numbers.ranges.fill_from.Given as goal

@@ -1,7 +1,7 @@
 use Rattle.std.proofs.Common.{sym, ap, ◌∙◌}
 use Rattle.tree_node.proofs.Common.{fits}
-use Rattle.tree_tallies.specs.Tallies.{raised, tally}
-use Rattle.tree_tallies.proofs.Tallied.{not_refused, tally_next}
+use Rattle.tree_state.specs.Tallies.{raised, tally}
+use Rattle.tree_state.proofs.Tallied.{not_refused, tally_next}
 use Rattle.tree_shared.proofs.Answered.{kind_of}
 use Rattle.tree_shared.proofs.locked.Locked.apply.Goals as goal
 

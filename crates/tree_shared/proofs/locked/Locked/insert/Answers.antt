@@ -1,7 +1,7 @@
 use Rattle.std.proofs.Common.{rules, refl, sym, ap, ◌∙◌}
 use Rattle.tree_model.specs.declared.commands.Reply.TheVariants.{Duplicate}
 use Rattle.tree_node.proofs.Common.{fits}
-use Rattle.tree_tallies.specs.Tallies.{tally, reply_of_insert}
+use Rattle.tree_state.specs.Tallies.{tally, reply_of_insert}
 use Rattle.tree_shared.proofs.Answered.{insert_kept, insert_tallied}
 use Rattle.tree_shared.proofs.locked.Locked.insert.Goals as goal
 

@@ -2,8 +2,8 @@ use Rattle.std.proofs.Common.{sym, ap, ◌∙◌}
 use Rattle.tree_model.specs.declared.commands.Command.TheVariants.{Upsert}
 use Rattle.tree_model.specs.declared.commands.Reply.TheVariants.{Stored}
 use Rattle.tree_node.proofs.Common.{fits}
-use Rattle.tree_tallies.specs.Tallies.{raised, tally}
-use Rattle.tree_tallies.proofs.Tallied.{tally_next}
+use Rattle.tree_state.specs.Tallies.{raised, tally}
+use Rattle.tree_state.proofs.Tallied.{tally_next}
 use Rattle.tree_shared.proofs.locked.Locked.upsert.Goals as goal
 
 pub upsert_prepared-requires : goal.upsert_prepared-requires

@@ -1,5 +1,5 @@
 use Rattle.std.proofs.Common.{ap, ◌∙◌}
-use Rattle.tree_tallies.specs.Tallies.{raised}
+use Rattle.tree_state.specs.Tallies.{raised}
 use Rattle.tree_shared.proofs.Answered.{clear_reply}
 use Rattle.tree_shared.proofs.shared.SharedTreeIndexOf.clear.Goals as goal
 

@@ -1,7 +1,7 @@
 use Rattle.std.proofs.Common.{sym, ap, ◌∙◌, arith}
 use Rattle.tree_node.proofs.Common.{fits}
-use Rattle.tree_tallies.specs.Tallies.{tally}
-use Rattle.tree_tallies.proofs.Tallied.{fits_tally}
+use Rattle.tree_state.specs.Tallies.{tally}
+use Rattle.tree_state.proofs.Tallied.{fits_tally}
 use Rattle.tree_shared.proofs.shared.SharedTreeIndexOf.close.Goals as goal
 
 pub take_all-tally-requires-clause-fits : goal.take_all-tally-requires-clause-fits

@@ -1,9 +1,9 @@
 use Rattle.std.proofs.Common.{◌≡◌, ap, ◌∙◌, sym, rules, arith}
 use Rattle.tree_node.proofs.Common.{fits}
 use Rattle.std.proofs.lemmas.List.Elements.{All-push}
-use Rattle.tree_tallies.specs.Ledgers.{Standing}
-use Rattle.tree_tallies.specs.Tallies.{none, tally}
-use Rattle.tree_tallies.specs.declared.tally.Tally.{Tally}
+use Rattle.tree_state.specs.Ledgers.{Standing}
+use Rattle.tree_state.specs.Tallies.{none, tally}
+use Rattle.tree_state.specs.declared.tally.Tally.{Tally}
 use Rattle.tree_shared.proofs.shared.SharedTreeIndexOf.new.Goals as goal
 
 pub loop-i-init : goal.loop-i-init

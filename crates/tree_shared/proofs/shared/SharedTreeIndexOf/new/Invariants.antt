@@ -1,5 +1,5 @@
 use Rattle.std.proofs.Common.{◌≡◌, ◌+◌, vec_len, All}
-use Rattle.tree_tallies.specs.Tallies.{none}
+use Rattle.tree_state.specs.Tallies.{none}
 use Rattle.tree_shared.proofs.shared.SharedTreeIndexOf.new.Given as goal
 
 abbrev pub invariant-loop-i : goal.invariant-loop-i

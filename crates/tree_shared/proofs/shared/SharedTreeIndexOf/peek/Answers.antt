@@ -1,6 +1,6 @@
 use Rattle.std.proofs.Common.{ap, ◌∙◌, sym}
 use Rattle.tree_model.specs.declared.commands.Reply.TheVariants.{Found}
-use Rattle.tree_tallies.specs.Tallies.{raised}
+use Rattle.tree_state.specs.Tallies.{raised}
 use Rattle.tree_shared.proofs.Answered.{peek_reply}
 use Rattle.tree_shared.proofs.shared.SharedTreeIndexOf.peek.Goals as goal
 

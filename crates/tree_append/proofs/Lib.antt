@@ -1,5 +1,0 @@
-mod Common
-pub mod Edges
-mod Lasts
-mod Runs
-mod Stored

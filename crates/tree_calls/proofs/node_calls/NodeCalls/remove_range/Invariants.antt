@@ -1,4 +1,0 @@
-use Rattle.tree_calls.proofs.node_calls.NodeCalls.remove_range.Given as goal
-
-abbrev pub ghost-found_level : goal.ghost-found_level
-ghost-found_level g a = g.level

@@ -1,5 +1,0 @@
-pub mod Asked
-pub mod Found
-pub mod Holders
-pub mod Ways
-pub mod Words

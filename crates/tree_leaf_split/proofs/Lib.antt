@@ -1,2 +1,0 @@
-pub mod LeafRooms
-pub mod LeafSplits

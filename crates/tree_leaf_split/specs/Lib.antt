@@ -1,2 +1,0 @@
-pub mod Divides
-pub mod Lasts

@@ -1,0 +1,76 @@
+//! The line that is being read.
+ghost use Rattle.std.specs.Prelude.{◌≡◌, ◌↔◌, IsTrue, ℕ, List, [], ◌∷◌, ◌++◌, Some};
+ghost use Rattle.std.specs.Option.{option_map};
+ghost use Rattle.tree_lines.specs.Spelling.{clip};
+
+use std::marker::Model;
+
+/// The bytes of a line whose line feed has not come yet.
+///
+/// It keeps up to 256 bytes. Of a longer line it keeps only that it is too long.
+#[derive(Drop)]
+pub struct BegunLine {
+    bytes: [u8; 256],
+    length: usize,
+    is_long: bool,
+}
+
+impl Model for BegunLine {
+    ghost use Rattle.std.specs.Prelude.{◌≤◌, ℕ, List, Option, Some, None, take, if◌then◌else◌};
+
+    ghost Value = { Option (List ℕ) };
+
+    ghost view = { λ a. if a.is_long then None else Some (take a.length a.bytes) };
+
+    ghost invariant = { λ a. a.length ≤ 256 };
+}
+
+impl BegunLine {
+    /// Creates an empty line.
+    pub fn new() -> Self
+        ensures { result ≡ Some [] }
+    {
+        BegunLine {
+            bytes: [0; 256],
+            length: 0,
+            is_long: false,
+        }
+    }
+
+    /// Returns the bytes, or `None` if the line is too long.
+    pub fn text(&self) -> Option<&[u8]>
+        ensures { option_map (λ text. text.now) result ≡ self.now }
+    {
+        if self.is_long {
+            return None;
+        }
+        Some(&self.bytes[..self.length])
+    }
+
+    /// Returns whether no byte has come.
+    pub fn is_empty(&self) -> bool
+        ensures { IsTrue result ↔ (self.now ≡ Some []) }
+    {
+        self.length == 0 && !self.is_long
+    }
+
+    /// Appends a byte.
+    pub fn push(&mut self, byte: u8)
+        ensures { (begun : List ℕ) → self.old ≡ clip begun → self.new ≡ clip (begun ++ byte ∷ []) }
+    {
+        if self.length < 256 {
+            self.bytes[self.length] = byte;
+            self.length += 1;
+        } else {
+            self.is_long = true;
+        }
+    }
+
+    /// Empties the line, so that the next one can begin.
+    pub fn clear(&mut self)
+        ensures { self.new ≡ Some [] }
+    {
+        self.length = 0;
+        self.is_long = false;
+    }
+}

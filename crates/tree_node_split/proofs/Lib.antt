@@ -1,2 +1,0 @@
-pub mod NodeRooms
-pub mod NodeSplits

@@ -1,4 +1,0 @@
-pub mod Common
-pub mod InTurn
-pub mod Rows
-pub mod Words

@@ -1,9 +1,0 @@
-pub mod Ahead
-pub mod Common
-pub mod Ended
-pub mod Flips
-pub mod Moving
-pub mod Nearest
-pub mod Shown
-pub mod Within
-pub mod Yields

@@ -1,3 +1,0 @@
-pub mod Approximate
-pub mod Beside
-pub mod Ranged

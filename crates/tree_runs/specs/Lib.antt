@@ -1,3 +1,0 @@
-pub mod Climbs
-pub mod Schedules
-pub mod Served

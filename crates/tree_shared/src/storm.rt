@@ -1,0 +1,183 @@
+//! Workers that insert the same pairs at once.
+ghost use Rattle.std.specs.Prelude.{◌≡◌, ◌+◌, ◌*◌, ◌≤◌, true, false, All, IfErr, IfOk, vec_len};
+ghost use Rattle.std.specs.Ordering.{nat_cmp};
+ghost use Rattle.tree_model.specs.History.{IsHistoryOf};
+ghost use Rattle.tree_state.specs.Ledgers.{IsBlankFor};
+ghost use Rattle.tree_state.specs.Tallies.{none, sum_of, tally};
+ghost use Rattle.tree_shared.specs.Workers.{AreAnswered, OnlyInserts};
+
+use crate::gate::Gate;
+use crate::workers::run_all;
+use crate::{Blanks, Closed, Pass, SharedTreeIndex};
+use std::alloc::{AllocError, AllocFailed, Global};
+use std::error::Error;
+use std::fmt;
+use std::marker::Brand;
+use std::sync::Wait;
+use std::sync::ledger::Ledger;
+use std::thread::{SpawnError, Threads};
+
+/// Why a storm left no closed index.
+#[derive(Clone, Copy, PartialEq, Eq, Debug, Drop)]
+pub enum StormError {
+    /// Memory or a thread was refused.
+    Refused,
+    /// The gate stopped a worker.
+    GateStopped,
+}
+
+impl fmt::Display for StormError {
+    fn fmt<W: fmt::Write>(&self, f: &mut fmt::Formatter<W>) -> fmt::Result {
+        match self {
+            StormError::Refused => write!(f, "memory or a thread was refused"),
+            StormError::GateStopped => write!(f, "the gate stopped a worker"),
+        }
+    }
+}
+
+impl Error for StormError {}
+
+impl From<AllocError> for StormError {
+    ghost use Rattle.tree_shared.specs.declared.storm.StormError.TheVariants.{Refused};
+
+    ghost from_gives = { λ _ e. e ≡ Refused };
+
+    fn from(_refused: AllocError) -> StormError {
+        StormError::Refused
+    }
+}
+
+impl<T: Drop> From<AllocFailed<T>> for StormError {
+    ghost use Rattle.tree_shared.specs.declared.storm.StormError.TheVariants.{Refused};
+
+    ghost from_gives = { λ _ e. e ≡ Refused };
+
+    fn from(_refused: AllocFailed<T>) -> StormError {
+        StormError::Refused
+    }
+}
+
+impl<T: Drop> From<SpawnError<T>> for StormError {
+    ghost use Rattle.tree_shared.specs.declared.storm.StormError.TheVariants.{Refused};
+
+    ghost from_gives = { λ _ e. e ≡ Refused };
+
+    fn from(_refused: SpawnError<T>) -> StormError {
+        StormError::Refused
+    }
+}
+
+/// Lets each worker insert the pairs (1, 1) to (n, n) in ascending order, through a pass and in a
+/// thread of its own, and closes the index once all have ended.
+///
+/// Before each call a worker asks `gate`, and stops if that answers `false`; after the call it
+/// tells it. A call that cannot allocate is left, and the worker goes on.
+///
+/// Returns `Refused` if an allocation fails otherwise or a thread is refused, and else
+/// `GateStopped` if the gate stopped a worker. The caller must ask for 1 to 64 workers.
+///
+/// ```
+/// let closed = run_workers(&rt, rt.alloc(), 8, 1000, &OpenGate)?;
+/// ```
+pub fn run_workers<R: Threads + Wait + Sync, G: Gate + Sync>(
+    rt: &R,
+    alloc: Global,
+    workers: usize,
+    n: u64,
+    gate: &G,
+) -> Result<Closed<u64, u64>, StormError>
+    requires { (1 ≤ workers) × (workers ≤ 64) }
+    ensures replays { IfOk result
+        (λ closed. IsHistoryOf nat_cmp (λ n. n) (λ n. n) closed.history.items closed.index.pairs) }
+    ensures tally { IfOk result (λ closed. closed.tally ≡ tally closed.history.items) }
+    ensures inserts { IfOk result (λ closed. OnlyInserts (workers * n) closed.tally) }
+    ensures passed { IfOk result (λ closed. AreAnswered (G.answers gate.now) workers n false) }
+    ensures stopped { IfErr result
+        (λ e. e ≡ StormError.GateStopped → AreAnswered (G.answers gate.now) workers n true) }
+{
+    let blanks = Blanks::new(workers);
+    run_with::<Brand, Brand, Brand, Brand, Brand, R, G>(rt, alloc, workers, n, gate, blanks)
+}
+
+// Makes the index with these blanks, and closes it.
+fn run_with<
+    C: Ledger + Send + Sync,
+    S: Ledger + Send + Sync,
+    M: Ledger + Send + Sync,
+    F: Ledger + Send + Sync,
+    D: Ledger + Send + Sync,
+    R: Threads + Wait + Sync,
+    G: Gate + Sync,
+>(
+    rt: &R,
+    alloc: Global,
+    workers: usize,
+    n: u64,
+    gate: &G,
+    blanks: Blanks,
+) -> Result<Closed<u64, u64>, StormError>
+    requires calls { IsBlankFor workers blanks.calls C.name C.parts }
+    requires stored { IsBlankFor workers blanks.stored S.name S.parts }
+    requires removed { IsBlankFor workers blanks.removed M.name M.parts }
+    requires found { IsBlankFor workers blanks.found F.name F.parts }
+    requires done { IsBlankFor workers blanks.done D.name D.parts }
+    ensures replays { IfOk result
+        (λ closed. IsHistoryOf nat_cmp (λ n. n) (λ n. n) closed.history.items closed.index.pairs) }
+    ensures tally { IfOk result (λ closed. closed.tally ≡ tally closed.history.items) }
+    ensures inserts { IfOk result (λ closed. OnlyInserts (workers * n) closed.tally) }
+    ensures passed { IfOk result (λ closed. AreAnswered (G.answers gate.now) workers n false) }
+    ensures stopped { IfErr result
+        (λ e. e ≡ StormError.GateStopped → AreAnswered (G.answers gate.now) workers n true) }
+{
+    let (shared, passes) = SharedTreeIndex::<u64, u64, C, S, M, F, D>::new(alloc, workers, blanks)?;
+    run_over(rt, alloc, shared, passes, n, gate)
+}
+
+// Lets the workers insert through all passes of an index, and closes it.
+fn run_over<
+    C: Ledger + Send + Sync,
+    S: Ledger + Send + Sync,
+    M: Ledger + Send + Sync,
+    F: Ledger + Send + Sync,
+    D: Ledger + Send + Sync,
+    R: Threads + Wait + Sync,
+    G: Gate + Sync,
+>(
+    rt: &R,
+    alloc: Global,
+    shared: SharedTreeIndex<u64, u64, C, S, M, F, D>,
+    passes: Vec<Pass<C, S, M, F, D>>,
+    n: u64,
+    gate: &G,
+) -> Result<Closed<u64, u64>, StormError>
+    requires all { C.parts ≤ vec_len passes + 1 }
+    requires unused { All (λ pass. pass ≡ none) passes.items }
+    ensures replays { IfOk result
+        (λ closed. IsHistoryOf nat_cmp (λ n. n) (λ n. n) closed.history.items closed.index.pairs) }
+    ensures tally { IfOk result (λ closed. closed.tally ≡ tally closed.history.items) }
+    ensures inserts { IfOk result (λ closed. OnlyInserts (vec_len passes * n) closed.tally) }
+    ensures passed { IfOk result (λ closed. AreAnswered (G.answers gate.now) (vec_len passes) n false) }
+    ensures stopped { IfErr result
+        (λ e. e ≡ StormError.GateStopped → AreAnswered (G.answers gate.now) (vec_len passes) n true) }
+{
+    match run_all(rt, alloc, &shared, passes, n, gate)? {
+        (_, true) => Err(StormError::GateStopped),
+        (passes, false) => Ok(closed_with(shared, passes)),
+    }
+}
+
+// Closes an index with all its passes.
+fn closed_with<C: Ledger, S: Ledger, M: Ledger, F: Ledger, D: Ledger>(
+    shared: SharedTreeIndex<u64, u64, C, S, M, F, D>,
+    passes: Vec<Pass<C, S, M, F, D>>,
+) -> Closed<u64, u64>
+    requires { C.parts ≤ vec_len passes + 1 }
+    ensures replays { IsHistoryOf nat_cmp (λ n. n) (λ n. n) result.history.items result.index.pairs }
+    ensures tally { result.tally ≡ tally result.history.items }
+    ensures passes { result.tally ≡ sum_of passes.items }
+{
+    match shared.close(passes) {
+        Ok(closed) => closed,
+        Err(_) => unreachable!(),
+    }
+}

@@ -1,0 +1,178 @@
+//! A thread for each pass of a shared index.
+ghost use Rattle.std.specs.Prelude.{◌≡◌, ℕ, [], Some, All, IfErr, IfOk, slice_get, vec_len};
+ghost use Rattle.tree_state.specs.Tallies.{none};
+ghost use Rattle.tree_shared.specs.Workers.{AreAnswered, IsAnswered, IsTask, OnlyInserts};
+
+use crate::gate::Gate;
+use crate::storm::StormError;
+use crate::{Pass, SharedTreeIndex};
+use std::alloc::Global;
+use std::snapshot::Snapshot;
+use std::sync::Wait;
+use std::sync::ledger::Ledger;
+use std::thread;
+use std::thread::{Promise, PromisedHandle, Scope, Threads};
+
+// A worker's pass once the worker ended, and whether its gate stopped it.
+#[derive(Drop)]
+struct Ended<C: Ledger, S: Ledger, M: Ledger, F: Ledger, D: Ledger> {
+    pass: Pass<C, S, M, F, D>,
+    stopped: bool,
+}
+
+// A worker of this number has tried n calls at this gate, unless that stopped it.
+#[derive(Drop)]
+struct Task<G> {
+    gate: Snapshot<G>,
+    worker: usize,
+    n: u64,
+}
+
+impl<C: Ledger, S: Ledger, M: Ledger, F: Ledger, D: Ledger, G: Gate> Promise<Ended<C, S, M, F, D>>
+    for Task<G> {
+    ghost kept_by = { λ task ended. OnlyInserts task.n ended.pass
+        × IsAnswered (G.answers task.gate.value task.worker) task.n ended.stopped };
+}
+
+// Inserts the pairs (1, 1) to (n, n). An insert that is refused is left.
+fn work<C: Ledger, S: Ledger, M: Ledger, F: Ledger, D: Ledger, R: Wait, G: Gate>(
+    rt: &R,
+    shared: &SharedTreeIndex<u64, u64, C, S, M, F, D>,
+    mut pass: Pass<C, S, M, F, D>,
+    worker: usize,
+    n: u64,
+    gate: &G,
+) -> Ended<C, S, M, F, D>
+    requires { pass ≡ none }
+    ensures inserts { OnlyInserts n result.pass }
+    ensures gate { IsAnswered (G.answers gate.now worker) n result.stopped }
+{
+    for done in 0..n {
+        let call = done + 1;
+        if !gate.before(worker, call) {
+            return Ended {
+                pass,
+                stopped: true,
+            };
+        }
+        let _ = shared.insert(rt, &mut pass, call, call);
+        gate.after(worker, call);
+    }
+    Ended {
+        pass,
+        stopped: false,
+    }
+}
+
+// Starts a thread for each pass.
+fn start_all<
+    's,
+    E: 's,
+    C: Ledger + Send + Sync + 's,
+    S: Ledger + Send + Sync + 's,
+    M: Ledger + Send + Sync + 's,
+    F: Ledger + Send + Sync + 's,
+    D: Ledger + Send + Sync + 's,
+    R: Wait + Sync,
+    G: Gate + Sync,
+>(
+    scope: &Scope<'s, E>,
+    alloc: Global,
+    rt: &'s R,
+    shared: &'s SharedTreeIndex<u64, u64, C, S, M, F, D>,
+    passes: Vec<Pass<C, S, M, F, D>>,
+    n: u64,
+    gate: &'s G,
+) -> Result<Vec<PromisedHandle<Ended<C, S, M, F, D>, Task<G>>>, StormError>
+    requires { All (λ pass. pass ≡ none) passes.items }
+    ensures count { IfOk result (λ handles. vec_len handles ≡ vec_len passes) }
+    ensures promised { IfOk result (λ handles. (worker : ℕ) (handle : _) →
+        slice_get handles.items worker ≡ Some handle → IsTask gate.now worker n handle.promise) }
+    ensures refused { IfErr result (λ e. e ≡ StormError.Refused) }
+{
+    let mut handles = Vec::with_capacity(alloc, passes.len())?;
+    let mut worker = 0;
+    for pass in passes {
+        let job = move || -> Ended<C, S, M, F, D>
+            requires { pass ≡ none }
+            ensures inserts { OnlyInserts n result.pass }
+            ensures gate { IsAnswered (G.answers gate.entry.now worker) n result.stopped }
+        { work(rt, shared, pass, worker, n, gate) };
+        let task = Task {
+            gate: Snapshot::of(gate),
+            worker,
+            n,
+        };
+        handles.push(scope.spawn_with(task, job)?)?;
+        worker += 1;
+    }
+    Ok(handles)
+}
+
+// Joins each thread, and puts its pass behind those in a vector, which has room. Returns whether
+// one was stopped too.
+fn join_all<C: Ledger, S: Ledger, M: Ledger, F: Ledger, D: Ledger, R: Threads, G: Gate>(
+    rt: &R,
+    handles: Vec<PromisedHandle<Ended<C, S, M, F, D>, Task<G>>>,
+    mut back: Vec<Pass<C, S, M, F, D>>,
+) -> Result<(Vec<Pass<C, S, M, F, D>>, bool), StormError>
+    requires { back.items ≡ [] }
+    ensures count { IfOk result (λ ended. vec_len ended.0 ≡ vec_len handles) }
+    ensures kept { IfOk result (λ ended. (gate : G) (n : ℕ) →
+        ((worker : ℕ) (handle : _) → slice_get handles.items worker ≡ Some handle
+        → IsTask gate worker n handle.promise)
+        → All (OnlyInserts n) ended.0.items × AreAnswered (G.answers gate) (vec_len handles) n ended.1) }
+    ensures refused { IfErr result (λ e. e ≡ StormError.Refused) }
+{
+    let mut stopped = false;
+    for handle in handles {
+        let ended = handle.join(rt);
+        stopped |= ended.stopped;
+        back.push(ended.pass)?;
+    }
+    Ok((back, stopped))
+}
+
+/// Inserts the pairs (1, 1) to (n, n) through each pass, by a thread for each. Returns the passes
+/// once all threads ended, and whether the gate stopped one.
+///
+/// Returns `Err` if an allocation fails or a thread is refused.
+pub fn run_all<
+    C: Ledger + Send + Sync,
+    S: Ledger + Send + Sync,
+    M: Ledger + Send + Sync,
+    F: Ledger + Send + Sync,
+    D: Ledger + Send + Sync,
+    R: Threads + Wait + Sync,
+    G: Gate + Sync,
+>(
+    rt: &R,
+    alloc: Global,
+    shared: &SharedTreeIndex<u64, u64, C, S, M, F, D>,
+    passes: Vec<Pass<C, S, M, F, D>>,
+    n: u64,
+    gate: &G,
+) -> Result<(Vec<Pass<C, S, M, F, D>>, bool), StormError>
+    requires { All (λ pass. pass ≡ none) passes.items }
+    ensures count { IfOk result (λ ended. vec_len ended.0 ≡ vec_len passes) }
+    ensures inserts { IfOk result (λ ended. All (OnlyInserts n) ended.0.items) }
+    ensures gate { IfOk result (λ ended. AreAnswered (G.answers gate.now) (vec_len passes) n ended.1) }
+    ensures refused { IfErr result (λ e. e ≡ StormError.Refused) }
+{
+    thread::scope(
+        thread::scope_env(),
+        rt,
+        move |scope| -> Result<(Vec<Pass<C, S, M, F, D>>, bool), StormError>
+            requires { All (λ pass. pass ≡ none) passes.items }
+            ensures count { IfOk result (λ ended. vec_len ended.0 ≡ vec_len passes) }
+            ensures inserts { IfOk result (λ ended. All (OnlyInserts n) ended.0.items) }
+            ensures gate { IfOk result
+                (λ ended. AreAnswered (G.answers gate.entry.now) (vec_len passes) n ended.1) }
+            ensures refused { IfErr result (λ e. e ≡ StormError.Refused) }
+        {
+            let back = Vec::with_capacity(alloc, passes.len())?;
+            let handles = start_all(scope, alloc, rt, shared, passes, n, gate)?;
+            join_all(rt, handles, back)
+        },
+    )
+}

@@ -1,0 +1,190 @@
+//! The five ledgers of a shared index.
+ghost use Rattle.std.specs.Prelude.{◌≡◌, ◌+◌, ◌<◌, ◌≤◌, false, vec_len};
+ghost use Rattle.tree_state.specs.Ledgers.{Standing, standing, Fits, IsBlankFor};
+ghost use Rattle.tree_state.specs.Tallies.{is_refused, none, plus, raised, sum_of, tally_of};
+ghost use Rattle.tree_state.specs.declared.tally.Tally.{Tally};
+
+use crate::blanks::Blanks;
+use crate::column::Column;
+use crate::pass::Pass;
+use crate::replies::{is_done, is_found, is_removed, is_stored};
+use crate::tally::Tally;
+use std::marker::{Model, PhantomData};
+use std::sync::ledger::Ledger;
+use tree_model::Reply;
+
+/// The five columns. Contracts see how many parts of each are here, what these count, and what is
+/// counted in all.
+#[derive(Drop)]
+pub struct Ledgers<C: Ledger, S: Ledger, M: Ledger, F: Ledger, D: Ledger> {
+    calls: Column<C>,
+    stored: Column<S>,
+    removed: Column<M>,
+    found: Column<F>,
+    done: Column<D>,
+}
+
+impl<C: Ledger, S: Ledger, M: Ledger, F: Ledger, D: Ledger> Model for Ledgers<C, S, M, F, D> {
+    ghost Value = { Standing };
+
+    ghost view = { λ l. record { parts = l.calls.kept.parts; kept = tally_of l.calls.number l.stored.number l.removed.number l.found.number l.done.number; totals = tally_of l.calls.book.total l.stored.book.total l.removed.book.total l.found.book.total l.done.book.total } };
+
+    ghost invariant = { λ l. (l.stored.kept.parts ≡ l.calls.kept.parts) × (l.removed.kept.parts ≡ l.calls.kept.parts) × (l.found.kept.parts ≡ l.calls.kept.parts) × (l.done.kept.parts ≡ l.calls.kept.parts) };
+}
+
+impl<C: Ledger, S: Ledger, M: Ledger, F: Ledger, D: Ledger> Ledgers<C, S, M, F, D> {
+    /// Opens the ledgers. Every part is here, and nothing is counted.
+    pub fn open(workers: usize, blanks: Blanks) -> Ledgers<C, S, M, F, D>
+        requires calls { IsBlankFor workers blanks.calls C.name C.parts }
+        requires stored { IsBlankFor workers blanks.stored S.name S.parts }
+        requires removed { IsBlankFor workers blanks.removed M.name M.parts }
+        requires found { IsBlankFor workers blanks.found F.name F.parts }
+        requires done { IsBlankFor workers blanks.done D.name D.parts }
+        ensures { result ≡ standing (workers + 1) none none }
+    {
+        Ledgers {
+            calls: Column::open(blanks.calls),
+            stored: Column::open(blanks.stored),
+            removed: Column::open(blanks.removed),
+            found: Column::open(blanks.found),
+            done: Column::open(blanks.done),
+        }
+    }
+
+    /// Hands a pass out.
+    pub fn hand_out(&mut self) -> Pass<C, S, M, F, D>
+        requires { 1 < self.old.parts }
+        ensures zero { result ≡ none }
+        ensures parts { self.new.parts + 1 ≡ self.old.parts }
+        ensures kept { self.new.kept ≡ self.old.kept }
+        ensures totals { self.new.totals ≡ self.old.totals }
+    {
+        Pass {
+            calls: self.calls.hand_out(),
+            stored: self.stored.hand_out(),
+            removed: self.removed.hand_out(),
+            found: self.found.hand_out(),
+            done: self.done.hand_out(),
+        }
+    }
+
+    /// Counts a reply that is no refusal, here and in the pass.
+    pub fn count<V>(&mut self, pass: &mut Pass<C, S, M, F, D>, reply: &Reply<V>)
+        requires room { pass.old.calls < u64.MAX }
+        requires answered { is_refused reply.now ≡ false }
+        ensures pass { pass.new ≡ raised pass.old reply.now }
+        ensures parts { self.new.parts ≡ self.old.parts }
+        ensures kept { self.new.kept ≡ self.old.kept }
+        ensures totals { self.new.totals ≡ raised self.old.totals reply.now }
+    {
+        self.calls.raise(&mut pass.calls, true);
+        self.stored.raise(&mut pass.stored, is_stored(reply));
+        self.removed.raise(&mut pass.removed, is_removed(reply));
+        self.found.raise(&mut pass.found, is_found(reply));
+        self.done.raise(&mut pass.done, is_done(reply));
+    }
+
+    // Takes a pass back, with what it counted.
+    fn take_back(&mut self, pass: Pass<C, S, M, F, D>)
+        requires { Fits self.old.totals }
+        ensures parts { self.new.parts ≡ self.old.parts + 1 }
+        ensures within { self.new.parts ≤ C.parts }
+        ensures kept { self.new.kept ≡ plus self.old.kept pass }
+        ensures totals { self.new.totals ≡ self.old.totals }
+    {
+        let Pass {
+            calls,
+            stored,
+            removed,
+            found,
+            done,
+        } = pass;
+        self.calls.take_back(calls);
+        self.stored.take_back(stored);
+        self.removed.take_back(removed);
+        self.found.take_back(found);
+        self.done.take_back(done);
+    }
+
+    /// Takes every pass back. Returns what they counted, which is what is counted in all.
+    pub fn take_all(
+        mut self,
+        workers: &Workers<C, S, M, F, D>,
+        passes: Vec<Pass<C, S, M, F, D>>,
+    ) -> Tally
+        requires rest { (self.parts ≡ 1) × (self.kept ≡ none) }
+        requires fits { Fits self.totals }
+        requires each { workers.now.number ≤ vec_len passes }
+        ensures totals { result ≡ self.totals }
+        ensures passes { result ≡ sum_of passes.items }
+    {
+        for pass in passes {
+            self.take_back(pass);
+        }
+        self.settle(workers)
+    }
+
+    // Returns what the parts count once every part is here, which is what is counted in all.
+    fn settle(mut self, workers: &Workers<C, S, M, F, D>) -> Tally
+        requires { self.parts ≡ workers.now.number + 1 }
+        ensures kept { result ≡ self.kept }
+        ensures totals { result ≡ self.totals }
+    {
+        // Read for what the type keeps: how many parts each ledger has.
+        let _ = &workers.number;
+        self.calls.settle();
+        self.stored.settle();
+        self.removed.settle();
+        self.found.settle();
+        self.done.settle();
+        Tally {
+            calls: self.calls.number(),
+            stored: self.stored.number(),
+            removed: self.removed.number(),
+            found: self.found.number(),
+            done: self.done.number(),
+        }
+    }
+}
+
+/// How many workers the ledgers were made for: a ledger has one part more.
+#[derive(Drop)]
+pub struct Workers<C: Ledger, S: Ledger, M: Ledger, F: Ledger, D: Ledger> {
+    /// The number of workers.
+    pub number: usize,
+    /// The ledgers, which the type alone names.
+    pub of: PhantomData<(C, S, M, F, D)>,
+    ghost calls: { number + 1 ≡ C.parts },
+    ghost stored: { number + 1 ≡ S.parts },
+    ghost removed: { number + 1 ≡ M.parts },
+    ghost found: { number + 1 ≡ F.parts },
+    ghost done: { number + 1 ≡ D.parts },
+}
+
+/// The ledgers while passes are out: one part of each is here, and counts nothing. Contracts see
+/// the tally of all calls.
+#[derive(Drop)]
+pub struct Books<C: Ledger, S: Ledger, M: Ledger, F: Ledger, D: Ledger> {
+    /// The ledgers.
+    pub ledgers: Ledgers<C, S, M, F, D>,
+}
+
+impl<C: Ledger, S: Ledger, M: Ledger, F: Ledger, D: Ledger> Model for Books<C, S, M, F, D> {
+    ghost Value = { Tally };
+
+    ghost view = { λ b. b.ledgers.totals };
+
+    ghost invariant = { λ b. (b.ledgers.parts ≡ 1) × (b.ledgers.kept ≡ none) };
+}
+
+impl<C: Ledger, S: Ledger, M: Ledger, F: Ledger, D: Ledger> Books<C, S, M, F, D> {
+    /// Counts a reply that is no refusal, here and in the pass.
+    pub fn count<V>(&mut self, pass: &mut Pass<C, S, M, F, D>, reply: &Reply<V>)
+        requires room { pass.old.calls < u64.MAX }
+        requires answered { is_refused reply.now ≡ false }
+        ensures books { self.new ≡ raised self.old reply.now }
+        ensures pass { pass.new ≡ raised pass.old reply.now }
+    {
+        self.ledgers.count(pass, reply);
+    }
+}

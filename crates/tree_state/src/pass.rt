@@ -1,0 +1,61 @@
+//! What a worker calls the index by.
+ghost use Rattle.std.specs.Prelude.{◌≡◌, ◌≤◌};
+ghost use Rattle.tree_state.specs.Tallies.{tally_of};
+ghost use Rattle.tree_state.specs.declared.tally.Tally.{Tally};
+
+use crate::count::Count;
+use crate::tally::Tally;
+use std::fmt;
+use std::marker::Model;
+use std::sync::ledger::Ledger;
+
+/// What a worker calls a shared index by. Contracts see the tally of the worker's calls.
+///
+/// A pass is a part of each of the index's five ledgers, so its type ties it to that index. It
+/// can't be cloned.
+#[derive(Drop)]
+pub struct Pass<C: Ledger, S: Ledger, M: Ledger, F: Ledger, D: Ledger> {
+    pub(crate) calls: Count<C>,
+    pub(crate) stored: Count<S>,
+    pub(crate) removed: Count<M>,
+    pub(crate) found: Count<F>,
+    pub(crate) done: Count<D>,
+}
+
+impl<C: Ledger, S: Ledger, M: Ledger, F: Ledger, D: Ledger> Model for Pass<C, S, M, F, D> {
+    ghost Value = { Tally };
+
+    ghost view = { λ p. tally_of p.calls p.stored p.removed p.found p.done };
+
+    // Each other number is at most `calls`, so that none passes what fits.
+    ghost invariant = { λ p. (p.stored ≤ p.calls) × (p.removed ≤ p.calls) × (p.found ≤ p.calls) × (p.done ≤ p.calls) };
+}
+
+impl<C: Ledger, S: Ledger, M: Ledger, F: Ledger, D: Ledger> Pass<C, S, M, F, D> {
+    /// Returns the tally of the calls that were made by this pass. Each number is at most that of
+    /// the calls.
+    ///
+    /// ```
+    /// let told = (passes[0].tally(), passes[1].tally());
+    /// ```
+    pub fn tally(&self) -> Tally
+        ensures tally { result ≡ self.now }
+        ensures within { (result.stored ≤ result.calls) × (result.removed ≤ result.calls)
+            × (result.found ≤ result.calls) × (result.done ≤ result.calls) }
+    {
+        Tally {
+            calls: self.calls.get(),
+            stored: self.stored.get(),
+            removed: self.removed.get(),
+            found: self.found.get(),
+            done: self.done.get(),
+        }
+    }
+}
+
+impl<C: Ledger, S: Ledger, M: Ledger, F: Ledger, D: Ledger> fmt::Debug for Pass<C, S, M, F, D> {
+    fn fmt<W: fmt::Write>(&self, f: &mut fmt::Formatter<W>) -> fmt::Result {
+        let tally = self.tally();
+        write!(f, "Pass {{ tally: {tally:?} }}")
+    }
+}
