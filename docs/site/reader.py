@@ -24,8 +24,6 @@ CRATES = (
     "tree_texts",
     "tree_state",
     "tree_shared",
-    "tree_runs",
-    "tree_workers",
     "tree_lines",
 )
 # The groups of calls on a page, in the order in which they stand there. A call of another name goes by what it takes.
@@ -264,7 +262,7 @@ def laws():
     """The laws of the crates, which a proof cites: functions whose contracts say what is known."""
     found = []
     for crate in CONTRACTS.below_each():
-        if "src/laws.rt" in CONTRACTS.files_of(crate) and crate in ("tree_model", "tree_state", "tree_ranges"):
+        if "src/laws.rt" in CONTRACTS.files_of(crate) and crate in ("tree_model", "tree_state", "tree_cursors"):
             path = path_of(crate, "src/laws.rt")
             items = [lines for file, _, lines in source().items(crate) if file == "src/laws.rt" and lines[0].startswith("pub fn")]
             found += [function_at(crate, path, lines, True) for lines in items]
@@ -333,7 +331,7 @@ def calls():
 
 def public_calls(crate, homes):
     """The name and the documentation of each public call of what a crate exports from itself or from a crate that it stands for."""
-    names = CONTRACTS.aimed_at(source(), [it for it in CONTRACTS.exports_of(crate) if it[1] in homes])
+    names = CONTRACTS.aimed_at(source(), [it for it in CONTRACTS.exports_of(crate) if it[1] in homes and it[0] not in CONTRACTS.FOR_CRATES.get(it[1], ())])
     public = {name for name, home in names if home in homes}
     for home in homes:
         for file, _, lines in source().items(home):

@@ -8,8 +8,11 @@ ghost use Rattle.tree_lines.specs.Lines.{Says, SaysEqual};
 ghost use Rattle.tree_lines.specs.Progress.{answer_text, MeasuresIndex, Responds};
 ghost use Rattle.tree_lines.specs.Writing.{Writes};
 
+use crate::begun_line::BegunLine;
 use crate::pairs::{write_ascending, write_descending, write_near};
-use crate::{BegunLine, Request, ShortText, WriteFailed, request_of, write_whole};
+use crate::requests::request_of;
+use crate::short_text::ShortText;
+use crate::{Request, WriteFailed, write_whole};
 use std::io::Write;
 use std::ops::Bound;
 use tree_index::{InsertError, TreeIndexOf};

@@ -14,9 +14,7 @@ mod short_text;
 mod words;
 mod writing;
 
-pub use begun_line::BegunLine;
 pub use lines::{ToolFault, run_lines};
 pub use numbers::number_of;
-pub use requests::{Request, request_of};
-pub use short_text::ShortText;
+pub use requests::Request;
 pub use writing::{WriteFailed, write_number, write_whole};

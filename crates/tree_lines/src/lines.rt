@@ -3,8 +3,9 @@ ghost use Rattle.std.specs.Prelude.{◌∷◌, []};
 ghost use Rattle.tree_lines.specs.Progress.{EndsInput, Feeds};
 ghost use Rattle.tree_lines.specs.Runs.{RunsLines};
 
+use crate::WriteFailed;
 use crate::answers::{answer_to, write_answer};
-use crate::{BegunLine, WriteFailed};
+use crate::begun_line::BegunLine;
 use std::error::Error;
 use std::fmt;
 use std::io::{Read, Write};

@@ -6,7 +6,8 @@ ghost use Rattle.tree_lines.specs.Pairs.{listed, parted_text, told_text};
 ghost use Rattle.tree_lines.specs.Writing.{Writes};
 ghost use Rattle.tree_model.specs.Rest.{lent};
 
-use crate::{ShortText, WriteFailed, write_whole};
+use crate::short_text::ShortText;
+use crate::{WriteFailed, write_whole};
 use std::io::Write;
 use std::ops::Bound;
 use tree_index::{ProximityOf, TreeIndexOf};
