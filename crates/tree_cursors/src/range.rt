@@ -128,7 +128,7 @@ impl<'t, K: Ord + Drop + 't, V: Drop + 't, const LEN: usize> RangeOf<'t, K, V, L
 
     /// Gives the place of the one end that is opened to the other, and returns `true`, if that end
     /// shows a pair. Returns `true` and changes nothing if neither end is opened. Otherwise returns
-    /// `false` and changes nothing.
+    /// `false` and changes nothing. Makes at most one comparison.
     pub fn flip(&mut self) -> bool
         ensures { Flips K.cmp self.old result self.new }
     {

@@ -10,7 +10,7 @@ use tree_array::array::{Judge, KeyJudge, Steps};
 pub trait Seeks<K: Ord, V> {
     ghost pairs: { Self → List (K × V) };
 
-    /// Returns the pair with the judge's key.
+    /// Returns the pair with the judge's key. An index makes the comparisons of one descent.
     fn seek<J: Judge<K>>(&self, judge: &mut J) -> Option<(&K, &V)>
         ensures ascending { IsAscending K.cmp (pairs self.now) }
         ensures found { Finds K.cmp (pairs self.now) (J.key judge.old) result };

@@ -23,6 +23,7 @@ pub fn two_numbers_of(text: &[u8]) -> Option<(u64, u64)>
 }
 
 /// Parses a number. Returns `None` if the word is anything else or the number exceeds `u64`.
+/// Allocates nothing.
 ///
 /// ```
 /// let workers = number_of(workers.as_bytes())?;

@@ -22,7 +22,7 @@ impl Error for WriteFailed {}
 /// Writes all of the bytes, by as many writes as that takes.
 ///
 /// Returns `Err` if a write fails or takes no byte; a front of the bytes may have been written. An
-/// interrupted write is not tried again.
+/// interrupted write is not tried again. Allocates nothing.
 ///
 /// ```
 /// let _ = write_whole(errors, b"usage: treetool [--small | storm W N]\n");

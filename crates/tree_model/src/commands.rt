@@ -60,7 +60,7 @@ pub enum InsertError<K, V> {
 }
 
 impl<K, V> InsertError<K, V> {
-    /// Returns the pair that was not stored.
+    /// Returns the pair that was not stored, in constant time.
     pub fn into_pair(self) -> (K, V)
         ensures { result ≡ handed_back self }
     {

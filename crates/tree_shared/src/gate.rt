@@ -8,11 +8,12 @@ pub trait Gate {
     // answered.
     ghost answers: { Self → ℕ → ℕ → Bool → Type 0 } = { λ _ _ _ _. ⊤ };
 
-    /// Comes before each call. A worker that is answered `false` stops.
+    /// Comes before each call. A worker that is answered `false` stops. It costs each call one
+    /// question, outside the lock.
     fn before(&self, worker: usize, call: u64) -> bool
         ensures { answers self.now worker call result };
 
-    /// Comes after each call, once it is answered.
+    /// Comes after each call, once it is answered. It costs each call one report, outside the lock.
     fn after(&self, worker: usize, call: u64)
         requires { answers self.now worker call true };
 }

@@ -54,8 +54,8 @@ impl<
 > SharedTreeIndexOf<K, V, C, S, M, F, D, LEN> {
     /// Creates an empty index, and a pass for each worker, which has counted nothing.
     ///
-    /// Returns `Err` if an allocation is refused. The caller must choose 7 or 15 for `LEN`, and
-    /// make the blanks for as many workers.
+    /// Returns `Err` if it cannot allocate the passes, which is all it allocates. The caller must
+    /// choose 7 or 15 for `LEN`, and make the blanks for as many workers.
     ///
     /// ```
     /// let (owners, mut passes) = SharedTreeIndex::<u64, u64, C, S, M, F, D>::new(alloc, 2, blanks)?;
@@ -208,7 +208,8 @@ impl<
 
     /// Removes all pairs.
     ///
-    /// Returns `Err` if an allocation is refused; nothing changed then.
+    /// Returns `Err` if it cannot allocate the record of the call, which is all it allocates;
+    /// nothing changed then. Drops each pair under the lock.
     ///
     /// ```
     /// shared.clear(rt, pass)?;

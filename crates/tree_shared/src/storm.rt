@@ -76,6 +76,9 @@ impl<T: Drop> From<SpawnError<T>> for StormError {
 /// Returns `Refused` if an allocation fails otherwise or a thread is refused, and else
 /// `GateStopped` if the gate stopped a worker. The caller must ask for 1 to 64 workers.
 ///
+/// Starts a thread for each worker. Allocates the passes, a vector of handles and one of the passes
+/// that come back, and what the inserts allocate, for the history too.
+///
 /// ```
 /// let closed = run_workers(&rt, rt.alloc(), 8, 1000, &OpenGate)?;
 /// ```

@@ -20,7 +20,8 @@ pub struct Blanks {
 }
 
 impl Blanks {
-    /// Creates blanks for `workers` passes: a part for each, and one that stays with the index.
+    /// Creates blanks for `workers` passes: a part for each, and one that stays with the
+    /// index. Runs in constant time.
     ///
     /// ```
     /// claim_both::<Brand, Brand, Brand, Brand, Brand, R>(rt, alloc, numbers, Blanks::new(2))

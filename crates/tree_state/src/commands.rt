@@ -10,11 +10,16 @@ use tree_index::{Command, IndexKey, InsertError, Reply, SameClone, TreeIndexOf};
 
 /// Applies the commands in turn and returns a reply to each.
 ///
-/// Returns `Err` if there is no memory for the replies; nothing changed then. A command in
-/// which an allocation fails gets the reply `Refused` and leaves the pairs as they were, and the
-/// run goes on. Of the writes before the first command that removes, as many as the index had spare
-/// are not refused. Where all commands are inserts of ascending keys into an index without a tree,
-/// and none is refused, the depth is at most 1, or there are more than `LEN^depth` of them.
+/// Returns `Err` if it cannot allocate the replies; nothing changed then. A command in which an
+/// allocation fails gets the reply `Refused` and leaves the pairs as they were, and the run goes
+/// on.
+///
+/// Of the writes before the first command that removes, as many as the index had spare are not
+/// refused. If all commands are inserts of ascending keys into an index without a tree, and none
+/// is refused, the depth is at most 1, or there are more than `LEN^depth` of them.
+///
+/// Allocates the replies at once, before the first command; each command costs what the call of the
+/// index costs. A `Peek` clones the value that it finds.
 ///
 /// ```
 /// for key in first..=last {

@@ -33,7 +33,7 @@ impl<C: Ledger, S: Ledger, M: Ledger, F: Ledger, D: Ledger> Model for Pass<C, S,
 
 impl<C: Ledger, S: Ledger, M: Ledger, F: Ledger, D: Ledger> Pass<C, S, M, F, D> {
     /// Returns the tally of the calls that were made by this pass. Each number is at most that of
-    /// the calls.
+    /// the calls. Runs in constant time.
     ///
     /// ```
     /// let told = (passes[0].tally(), passes[1].tally());

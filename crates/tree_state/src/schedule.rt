@@ -11,6 +11,9 @@ use tree_index::{Command, IndexKey, SameClone};
 /// The commands stand with the number of their worker, which the caller must keep below the number
 /// of tallies. In no way in which the schedule may run may a number of a tally pass `u64::MAX`.
 ///
+/// Each command costs what [`StateOf::apply`] costs. A command is dropped if an allocation fails in
+/// it.
+///
 /// ```
 /// let commands = schedule(alloc)?;
 /// let refused = run_schedule(&mut state, commands, &mut tallies);

@@ -65,7 +65,7 @@ impl<K: IndexKey + SameClone, V: SameClone, const LEN: usize> StateOf<K, V, LEN>
         }
     }
 
-    /// Returns the index, for reading.
+    /// Returns the index, for reading, in constant time.
     ///
     /// ```
     /// assert!(rt; state.index().is_empty());

@@ -19,7 +19,7 @@ use tree_index::{RangeOf, TreeIndexOf};
 /// that is larger than all of them, excluded. There is no upper bound if each byte of the prefix is
 /// 255, or if the prefix is empty.
 ///
-/// Returns `Err` if it cannot allocate the bounds.
+/// Returns `Err` if it cannot allocate the two bounds, which is all it allocates.
 ///
 /// ```
 /// let bounds = prefix_bounds(alloc, prefix)?;

@@ -20,7 +20,7 @@ use tree_index::{RangeOf, TreeIndexOf};
 /// text that is larger than all of them, excluded. There is no upper bound if each character of the
 /// prefix is the last one, U+10FFFF, or if the prefix is empty.
 ///
-/// Returns `Err` if it cannot allocate the bounds.
+/// Returns `Err` if it cannot allocate the two bounds, which is all it allocates.
 ///
 /// ```
 /// let bounds = text_prefix_bounds(alloc, prefix)?;
