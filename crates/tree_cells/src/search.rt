@@ -82,7 +82,7 @@ fn ignored<K>(key: &K) -> u8 {
 ///
 /// A search for a small key makes them all, and has no branch on what one of them answers. For a
 /// key of more than 16 bytes an equal one ends the search.
-#[tactic(auto, using(crate::proofs::Halving::searched_some, tree_cells::proofs::Words::len_small))]
+#[tactic(auto, using(crate::proofs::Halving::searched_some, crate::proofs::Words::len_small))]
 #[inline(always)]
 pub fn find<K: Ord, V, By, A: Asks<K, By>, const LEN: usize>(
     cells: &Cells<K, V, LEN>,

@@ -1,4 +1,4 @@
-mod Common
+mod AppendCommon
 mod Lasts
 mod Plantings
 mod Raises
