@@ -1,5 +1,5 @@
-//! The six calls of a shared index, each made again if an allocation fails in it.
-use crate::numbered::{Numbered, command_of, is_command, is_reply};
+//! The six calls of a shared index over texts, each made again if an allocation fails in it.
+use crate::texts::{Texts, command_of, is_command, is_reply};
 use std::alloc::{AllocError, Global};
 use std::sync::Wait;
 use std::sync::ledger::Ledger;
@@ -37,22 +37,12 @@ fn name_of(command: &Command<u64, u64>) -> &'static str {
 }
 
 // Returns what a call is answered. Returns `Err` with its command if it is refused.
-pub(crate) fn reply_to<
-    K: Numbered,
-    V: Numbered,
-    C: Ledger,
-    S: Ledger,
-    M: Ledger,
-    F: Ledger,
-    D: Ledger,
-    R: Wait,
-    const LEN: usize,
->(
+fn reply_to<C: Ledger, S: Ledger, M: Ledger, F: Ledger, D: Ledger, R: Wait, const LEN: usize>(
     rt: &R,
-    shared: &SharedTreeIndexOf<K, V, C, S, M, F, D, LEN>,
+    shared: &SharedTreeIndexOf<String, String, C, S, M, F, D, LEN>,
     pass: &mut Pass<C, S, M, F, D>,
-    command: Command<K, V>,
-) -> Result<Reply<V>, Command<K, V>> {
+    command: Texts,
+) -> Result<Reply<String>, Texts> {
     if pass.tally().calls > 10_000 {
         return Err(command);
     }
@@ -89,24 +79,14 @@ pub(crate) fn reply_to<
 
 // Makes a call of this row. Returns whether it was answered as it should be, or `Err` with its
 // command if it was refused: `None` if it didn't come back, or the call was counted.
-fn call_once<
-    K: Numbered,
-    V: Numbered,
-    C: Ledger,
-    S: Ledger,
-    M: Ledger,
-    F: Ledger,
-    D: Ledger,
-    R: Wait,
-    const LEN: usize,
->(
+fn call_once<C: Ledger, S: Ledger, M: Ledger, F: Ledger, D: Ledger, R: Wait, const LEN: usize>(
     rt: &R,
     alloc: Global,
-    shared: &SharedTreeIndexOf<K, V, C, S, M, F, D, LEN>,
+    shared: &SharedTreeIndexOf<String, String, C, S, M, F, D, LEN>,
     pass: &mut Pass<C, S, M, F, D>,
-    command: Command<K, V>,
+    command: Texts,
     row: &Row,
-) -> Result<bool, Option<Command<K, V>>> {
+) -> Result<bool, Option<Texts>> {
     let before = pass.tally();
     begins(alloc, name_of(&row.0));
     let told = reply_to(rt, shared, pass, command);
@@ -119,20 +99,10 @@ fn call_once<
 }
 
 // Makes a call, a second time if it is refused. Returns `Err` if a request of the test's own is.
-fn call_twice<
-    K: Numbered,
-    V: Numbered,
-    C: Ledger,
-    S: Ledger,
-    M: Ledger,
-    F: Ledger,
-    D: Ledger,
-    R: Wait,
-    const LEN: usize,
->(
+fn call_twice<C: Ledger, S: Ledger, M: Ledger, F: Ledger, D: Ledger, R: Wait, const LEN: usize>(
     rt: &R,
     alloc: Global,
-    shared: &SharedTreeIndexOf<K, V, C, S, M, F, D, LEN>,
+    shared: &SharedTreeIndexOf<String, String, C, S, M, F, D, LEN>,
     pass: &mut Pass<C, S, M, F, D>,
     row: &Row,
 ) -> Result<Outcome, AllocError> {
@@ -155,8 +125,6 @@ fn call_twice<
 // Makes these calls, each a second time if it is refused, up to one that is refused both times or
 // goes wrong. Returns `Err` if a request of the test's own is refused.
 pub(crate) fn make_calls<
-    K: Numbered,
-    V: Numbered,
     C: Ledger,
     S: Ledger,
     M: Ledger,
@@ -167,7 +135,7 @@ pub(crate) fn make_calls<
 >(
     rt: &R,
     alloc: Global,
-    shared: &SharedTreeIndexOf<K, V, C, S, M, F, D, LEN>,
+    shared: &SharedTreeIndexOf<String, String, C, S, M, F, D, LEN>,
     pass: &mut Pass<C, S, M, F, D>,
     rows: &[Row],
 ) -> Result<Outcome, AllocError> {

@@ -2,8 +2,8 @@
 ghost use Rattle.std.specs.Prelude.{◌≡◌, All};
 ghost use Rattle.tree_state.specs.Tallies.{none};
 
-use crate::calls::reply_to;
 use crate::closed::closed_with;
+use crate::numbers::reply_to;
 use crate::scenario::{NEW, Scenario, play};
 use std::alloc::{AllocError, Global};
 use std::process::Abort;
@@ -95,7 +95,7 @@ fn insert_by_first<C: Ledger, S: Ledger, M: Ledger, F: Ledger, D: Ledger, R: Wai
     passes: &mut Vec<Pass<C, S, M, F, D>>,
 ) -> Result<Reply<u64>, AllocError> {
     match passes.get_mut(0) {
-        Some(pass) => reply_to(rt, shared, pass, INSERT).map_err(|_| AllocError),
+        Some(pass) => reply_to(rt, shared, pass, &INSERT),
         None => Err(AllocError),
     }
 }

@@ -10,7 +10,9 @@ mod closing;
 #[cfg(test)]
 mod gates;
 #[cfg(test)]
-mod numbered;
+mod growth;
+#[cfg(test)]
+mod numbers;
 #[cfg(test)]
 mod one_worker;
 #[cfg(test)]
@@ -25,5 +27,7 @@ mod replay;
 mod scenario;
 #[cfg(test)]
 mod schedules;
+#[cfg(test)]
+mod texts;
 #[cfg(test)]
 mod threads;

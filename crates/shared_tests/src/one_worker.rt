@@ -2,11 +2,12 @@
 ghost use Rattle.std.specs.Prelude.{◌≡◌, All};
 ghost use Rattle.tree_state.specs.Tallies.{none};
 
-use crate::calls::{Outcome, Row, make_calls, reply_to};
+use crate::calls::{Outcome, Row, make_calls};
 use crate::closed::closed_with;
-use crate::numbered::{Numbered, has_calls};
+use crate::numbers::reply_to;
 use crate::pairs::{has_pairs, pairs_after};
 use crate::scenario::{Scenario, play};
+use crate::texts::has_calls;
 use std::alloc::{AllocError, Global};
 use std::ops::Bound;
 use std::process::Abort;
@@ -15,20 +16,19 @@ use std::sync::ledger::Ledger;
 use test_support::refusals::succeeds;
 use tree_index::{Command, Reply};
 use tree_shared::{ClosedOf, Pass, SharedTreeIndex, SharedTreeIndexOf, Tally};
-use tree_support::flaws;
 
 static CALLS: [Row; 10] = [
-    (Command::Insert(1, 10), Reply::Stored),
-    (Command::Insert(2, 20), Reply::Stored),
-    (Command::Insert(3, 30), Reply::Stored),
-    (Command::Upsert(1, 11), Reply::Stored),
+    (Command::Insert(1, 4), Reply::Stored),
+    (Command::Insert(2, 5), Reply::Stored),
+    (Command::Insert(3, 6), Reply::Stored),
+    (Command::Upsert(1, 7), Reply::Stored),
     (Command::Remove(2), Reply::Removed(true)),
     (Command::Remove(2), Reply::Removed(false)),
     (
         Command::RemoveRange(Bound::Included(3), Bound::Unbounded),
         Reply::Done,
     ),
-    (Command::Peek(1), Reply::Found(Some(11))),
+    (Command::Peek(1), Reply::Found(Some(7))),
     (Command::Clear, Reply::Done),
     (Command::Peek(1), Reply::Found(None)),
 ];
@@ -103,23 +103,13 @@ fn tally_of(rows: &[Row]) -> Tally {
 }
 
 // Makes these calls by the first pass, and closes the index. Returns `None` if it can't be closed.
-fn closed_after<
-    K: Numbered,
-    V: Numbered,
-    C: Ledger,
-    S: Ledger,
-    M: Ledger,
-    F: Ledger,
-    D: Ledger,
-    R: Wait,
-    const LEN: usize,
->(
+fn closed_after<C: Ledger, S: Ledger, M: Ledger, F: Ledger, D: Ledger, R: Wait, const LEN: usize>(
     rt: &R,
     alloc: Global,
-    shared: SharedTreeIndexOf<K, V, C, S, M, F, D, LEN>,
+    shared: SharedTreeIndexOf<String, String, C, S, M, F, D, LEN>,
     mut passes: Vec<Pass<C, S, M, F, D>>,
     rows: &[Row],
-) -> Result<Option<(ClosedOf<K, V, LEN>, Outcome)>, AllocError> {
+) -> Result<Option<(ClosedOf<String, String, LEN>, Outcome)>, AllocError> {
     let Some(pass) = passes.get_mut(0) else {
         return Ok(None);
     };
@@ -132,8 +122,8 @@ fn closed_after<
 
 // Returns the calls that were answered: those that the history and its tally have, or `None` if
 // these have others.
-fn answered<'r, K: Numbered, V: Numbered, const LEN: usize>(
-    closed: &ClosedOf<K, V, LEN>,
+fn answered<'r, const LEN: usize>(
+    closed: &ClosedOf<String, String, LEN>,
     outcome: Outcome,
     rows: &'r [Row],
 ) -> Option<&'r [Row]> {
@@ -151,19 +141,17 @@ fn answered<'r, K: Numbered, V: Numbered, const LEN: usize>(
 }
 
 // `Ok` with this if nothing was refused. So a test makes its steps again otherwise.
-fn ample(holds: bool, outcome: Outcome) -> Result<bool, AllocError> {
+pub(crate) fn ample(holds: bool, outcome: Outcome) -> Result<bool, AllocError> {
     if holds && outcome != Outcome::Answered {
         return Err(AllocError);
     }
     Ok(holds)
 }
 
-// Makes these calls over numbers below 10 or texts of them. Returns whether they are answered as
+// Makes these calls over texts of numbers below 10. Returns whether they are answered as
 // they should be, and leave the pairs that they should. `Err` if one was refused.
 #[tactic(auto, using(tree_node::proofs::Common::fits))]
 pub(crate) fn each_call<
-    K: Numbered,
-    V: Numbered,
     C: Ledger,
     S: Ledger,
     M: Ledger,
@@ -174,7 +162,7 @@ pub(crate) fn each_call<
 >(
     rt: &R,
     alloc: Global,
-    shared: SharedTreeIndexOf<K, V, C, S, M, F, D, LEN>,
+    shared: SharedTreeIndexOf<String, String, C, S, M, F, D, LEN>,
     passes: Vec<Pass<C, S, M, F, D>>,
     rows: &[Row],
 ) -> Result<bool, AllocError> {
@@ -204,67 +192,6 @@ fn each_call_is_made_again(rt: HostRuntime) {
     }
 }
 
-// Keys and values whose clones allocate.
-#[test]
-fn each_call_over_texts_is_made_again(rt: HostRuntime) {
-    for rows in &LAST_CALLS {
-        assert!(rt;
-            succeeds(
-                rt.alloc(),
-                || play(&rt, rt.alloc(), 1, Scenario::TextCalls(rows))
-            )
-        );
-    }
-}
-
-// Inserts of so many pairs in key order, and the pairs.
-fn ascending(alloc: Global, count: u64) -> Result<(Vec<Row>, Vec<(u64, u64)>), AllocError> {
-    let mut rows = Vec::with_capacity(alloc, count as usize)?;
-    let mut pairs = Vec::with_capacity(alloc, count as usize)?;
-    for number in 1..=count {
-        rows.push((Command::Insert(number, number), Reply::Stored))?;
-        pairs.push((number, number))?;
-    }
-    Ok((rows, pairs))
-}
-
-// Inserts so many pairs in key order, and walks the tree. Returns whether each is answered and
-// stored. `Err` if one was refused.
-#[tactic(auto, using(tree_node::proofs::Common::fits))]
-pub(crate) fn grows<
-    C: Ledger,
-    S: Ledger,
-    M: Ledger,
-    F: Ledger,
-    D: Ledger,
-    R: Wait,
-    const LEN: usize,
->(
-    rt: &R,
-    alloc: Global,
-    shared: SharedTreeIndexOf<u64, u64, C, S, M, F, D, LEN>,
-    passes: Vec<Pass<C, S, M, F, D>>,
-    count: u64,
-) -> Result<bool, AllocError> {
-    let (rows, pairs) = ascending(alloc, count)?;
-    let Some((closed, outcome)) = closed_after(rt, alloc, shared, passes, &rows)? else {
-        return Ok(false);
-    };
-    let holds = match answered(&closed, outcome, &rows) {
-        Some(made) => flaws(&closed.index, pairs.get(..made.len()).unwrap_or(&[])).is_ok(),
-        None => false,
-    };
-    ample(holds, outcome)
-}
-
-// The last pair makes a second level at fifteen pairs a leaf, and a third at seven.
-#[test]
-fn inserts_into_a_growing_tree_are_made_again(rt: HostRuntime) {
-    for scenario in [Scenario::Grows(241), Scenario::SmallGrows(400)] {
-        assert!(rt; succeeds(rt.alloc(), || play(&rt, rt.alloc(), 1, scenario)));
-    }
-}
-
 // Whether an insert, which may be refused, and the removal of its key are told as they were
 // answered. `Err` if the insert was refused.
 pub(crate) fn insert_and_remove<
@@ -284,12 +211,12 @@ pub(crate) fn insert_and_remove<
     let Some(pass) = passes.get_mut(0) else {
         return Ok(false);
     };
-    let inserted = reply_to(rt, &shared, pass, Command::Insert(1, 10)).map_err(|_| AllocError);
+    let inserted = reply_to(rt, &shared, pass, &Command::Insert(1, 10));
     let calls = u64::from(inserted.is_ok());
     if pass.tally().calls != calls {
         return Ok(false);
     }
-    let removed = reply_to(rt, &shared, pass, Command::Remove(1)).map_err(|_| AllocError)?;
+    let removed = reply_to(rt, &shared, pass, &Command::Remove(1))?;
     let Some(closed) = closed_with(shared, passes) else {
         return Ok(false);
     };

@@ -1,6 +1,6 @@
 //! The pairs that calls leave, worked out on a row of ten places.
 use crate::calls::Row;
-use crate::numbered::Numbered;
+use crate::texts::is_text;
 use std::ops::RangeBounds;
 use tree_index::{Command, TreeIndexOf};
 
@@ -46,10 +46,15 @@ pub(crate) fn pairs_after(rows: &[Row]) -> Places {
     places
 }
 
+// Returns how many places have a value.
+fn stored_in(places: &Places) -> usize {
+    places.iter().filter(|place| place.is_some()).count()
+}
+
 // Returns whether an index has these pairs and no others.
 #[tactic(auto, using(tree_node::proofs::Common::fits))]
-pub(crate) fn has_pairs<K: Numbered, V: Numbered, const LEN: usize>(
-    index: &TreeIndexOf<K, V, LEN>,
+pub(crate) fn has_pairs<const LEN: usize>(
+    index: &TreeIndexOf<String, String, LEN>,
     places: &Places,
 ) -> bool {
     let mut walk = index.iter();
@@ -58,10 +63,10 @@ pub(crate) fn has_pairs<K: Numbered, V: Numbered, const LEN: usize>(
             let Some((key, stored)) = walk.next() else {
                 return false;
             };
-            if !key.is(number as u64) || !stored.is(*value) {
+            if !is_text(key, number as u64) || !is_text(stored, *value) {
                 return false;
             }
         }
     }
-    walk.next().is_none() && index.len() == places.iter().flatten().count()
+    walk.next().is_none() && index.len() == stored_in(places)
 }

@@ -4,7 +4,8 @@ ghost use Rattle.tree_state.specs.Ledgers.{IsBlankFor};
 
 use crate::calls::Row;
 use crate::closing::{closes_with_all_passes, closes_without_calls, parts_while_a_pass_is_out};
-use crate::one_worker::{each_call, grows, insert_and_remove};
+use crate::growth::grows;
+use crate::one_worker::{each_call, insert_and_remove};
 use crate::races::Race;
 use crate::refusals::{looks_a_text_up, refused_calls};
 use crate::threads::{run_race, run_small_race};
@@ -30,7 +31,6 @@ pub(crate) enum Scenario {
     Parts,
     Calls(&'static [Row]),
     SmallCalls(&'static [Row]),
-    TextCalls(&'static [Row]),
     Grows(u64),
     SmallGrows(u64),
     InsertAndRemove,
@@ -84,21 +84,23 @@ fn is_answered<
     if let Scenario::LookUpOfText = scenario {
         return looks_a_text_up::<C, S, M, F, D, R>(rt, alloc, workers, blanks);
     }
-    if let Scenario::TextCalls(rows) = scenario {
+    if let Scenario::Calls(rows) = scenario {
         let (shared, passes) = SharedTreeIndex::<String, String, C, S, M, F, D>::new(
             alloc, workers, blanks,
         )?;
         return each_call(rt, alloc, shared, passes, rows);
     }
-    if let Scenario::SmallCalls(_)
-    | Scenario::SmallGrows(_)
-    | Scenario::SmallThreads(_) = scenario
-    {
+    if let Scenario::SmallCalls(rows) = scenario {
+        let (shared, passes) = SharedTreeIndexOf::<String, String, C, S, M, F, D, 7>::new(
+            alloc, workers, blanks,
+        )?;
+        return each_call(rt, alloc, shared, passes, rows);
+    }
+    if let Scenario::SmallGrows(_) | Scenario::SmallThreads(_) = scenario {
         let (shared, passes) = SharedTreeIndexOf::<u64, u64, C, S, M, F, D, 7>::new(
             alloc, workers, blanks,
         )?;
         return match scenario {
-            Scenario::SmallCalls(rows) => each_call(rt, alloc, shared, passes, rows),
             Scenario::SmallGrows(count) => grows(rt, alloc, shared, passes, count),
             Scenario::SmallThreads(race) => run_small_race(rt, alloc, shared, passes, race),
             _ => Ok(false),
@@ -113,7 +115,6 @@ fn is_answered<
         Scenario::NoWorker => Ok(closes_without_calls(shared, passes)),
         Scenario::PassAbsent => closes_with_all_passes(rt, shared, passes),
         Scenario::Parts => parts_while_a_pass_is_out(rt, shared, passes),
-        Scenario::Calls(rows) => each_call(rt, alloc, shared, passes, rows),
         Scenario::Grows(count) => grows(rt, alloc, shared, passes, count),
         Scenario::InsertAndRemove => insert_and_remove(rt, shared, passes),
         Scenario::Threads(race) => run_race(rt, alloc, shared, passes, race),

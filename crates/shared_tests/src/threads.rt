@@ -1,6 +1,6 @@
 //! Threads that share an index.
-use crate::calls::{Outcome, make_calls};
 use crate::closed::closed_with;
+use crate::numbers::{are_answered, reply_to};
 use crate::races::{Race, is_left};
 use crate::scenario::{Scenario, play};
 use std::alloc::{AllocError, Global};
@@ -12,55 +12,7 @@ use std::thread;
 use std::thread::Threads;
 use std::time::{Clock, Duration};
 use test_support::refusals::succeeds;
-use tree_index::{Command, InsertError, Reply};
 use tree_shared::{Pass, SharedTreeIndex, SharedTreeIndexOf};
-
-// Returns what a racer's call is answered. A pair that is refused comes back.
-fn reply_to<
-    C: Ledger,
-    S: Ledger,
-    M: Ledger,
-    F: Ledger,
-    D: Ledger,
-    R: Wait + Abort,
-    const LEN: usize,
->(
-    rt: &R,
-    shared: &SharedTreeIndexOf<u64, u64, C, S, M, F, D, LEN>,
-    pass: &mut Pass<C, S, M, F, D>,
-    command: &Command<u64, u64>,
-) -> Result<Reply<u64>, AllocError> {
-    if pass.tally().calls > 10_000 {
-        return Err(AllocError);
-    }
-    Ok(match command {
-        Command::Insert(key, value) => match shared.insert(rt, pass, *key, *value) {
-            Ok(()) => Reply::Stored,
-            Err(InsertError::Duplicate(_, _)) => Reply::Duplicate,
-            Err(back) => {
-                assert!(rt; back == InsertError::OutOfMemory(*key, *value));
-                return Err(AllocError);
-            }
-        },
-        Command::Upsert(key, value) => match shared.upsert(rt, pass, *key, *value) {
-            Ok(()) => Reply::Stored,
-            Err(back) => {
-                assert!(rt; back == (*key, *value));
-                return Err(AllocError);
-            }
-        },
-        Command::Remove(key) => Reply::Removed(shared.remove(rt, pass, key)?),
-        Command::RemoveRange(low, high) => {
-            shared.remove_range(rt, pass, (low.as_ref(), high.as_ref()))?;
-            Reply::Done
-        }
-        Command::Clear => {
-            shared.clear(rt, pass)?;
-            Reply::Done
-        }
-        Command::Peek(key) => Reply::Found(shared.peek(rt, pass, key)?),
-    })
-}
 
 // A thread's number and pass, and whether each of its calls was answered.
 #[derive(Drop)]
@@ -183,7 +135,7 @@ pub(crate) fn run_race<
 ) -> Result<bool, AllocError> {
     let (mut passes, mut served) = raced(rt, alloc, &shared, passes, race)?;
     if let Some(pass) = passes.get_mut(0) {
-        served &= make_calls(rt, alloc, &shared, pass, race.last_calls()) == Ok(Outcome::Answered);
+        served &= are_answered(rt, &shared, pass, race.last_calls());
     }
     let Some(closed) = closed_with(shared, passes) else {
         return Ok(false);
@@ -208,7 +160,7 @@ pub(crate) fn run_small_race<
 ) -> Result<bool, AllocError> {
     let (mut passes, mut served) = raced(rt, alloc, &shared, passes, race)?;
     if let Some(pass) = passes.get_mut(0) {
-        served &= make_calls(rt, alloc, &shared, pass, race.last_calls()) == Ok(Outcome::Answered);
+        served &= are_answered(rt, &shared, pass, race.last_calls());
     }
     let Ok(closed) = shared.close(passes) else {
         return Ok(false);
