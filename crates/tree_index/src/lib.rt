@@ -15,7 +15,8 @@
 //!
 //! ```
 //! pub fn price_by<J: Judge<u64>>(prices: &TreeIndex<u64, u64>, judge: &mut J) -> Option<u64>
-//!     ensures price { result ≡ option_map (λ pair. pair.1) (pair_at nat_cmp prices.now.pairs (J.key judge.old)) }
+//!     ensures price { result ≡ option_map (λ pair. pair.1)
+//!         (pair_at nat_cmp prices.now.pairs (J.key judge.old)) }
 //!     ensures counted { J.count judge.new ≤ J.count judge.old + 4 * (prices.now.depth + 1) }
 //! {
 //!     let (_, price) = prices.peek_entry_by(judge)?;

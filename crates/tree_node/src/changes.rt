@@ -1,4 +1,4 @@
-//! Changes of a node: its children are parted, arrive again, or lose one.
+//! Changes of a node: its children are divided, arrive again, or lose one.
 ghost use Rattle.std.specs.Prelude.{◌≡◌, ◌+◌, ◌<◌, ℕ, Some, IsSome, take, drop, length, slice_get};
 ghost use Rattle.tree_array.specs.Arrivals.{arrival, in_order, removed};
 ghost use Rattle.tree_array.specs.Length.{IsLen};

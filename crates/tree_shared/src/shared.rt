@@ -58,7 +58,7 @@ impl<
     /// choose 7 or 15 for `LEN`, and make the blanks for as many workers.
     ///
     /// ```
-    /// let (owners, mut passes) = SharedTreeIndex::<u64, u64, C, S, M, F, D>::new(alloc, 2, blanks)?;
+    /// let (held, mut passes) = SharedTreeIndex::<u64, u64, C, S, M, F, D>::new(alloc, 2, blanks)?;
     /// let [one, two] = passes.as_mut_slice() else {
     ///     unreachable!()
     /// };
@@ -270,7 +270,7 @@ impl<
     /// Returns `PassMissing` if a pass is absent, with the shared index and the passes.
     ///
     /// ```
-    /// match owners.close(passes) {
+    /// match held.close(passes) {
     ///     Ok(closed) => Ok(Claims { closed, told }),
     ///     Err(_) => unreachable!(),
     /// }

@@ -60,8 +60,8 @@ pub fn archive(
 
 /// Returns how often a word was counted.
 pub fn count_of(counts: &TreeIndex<Text, u64>, word: &str) -> u64
-    ensures { result
-        ≡ unwrap_or (option_map (λ pair. pair.1) (pair_at (slice_cmp nat_cmp) counts.now.pairs word.now)) 0 }
+    ensures { result ≡ unwrap_or (option_map (λ pair. pair.1)
+        (pair_at (slice_cmp nat_cmp) counts.now.pairs word.now)) 0 }
 {
     match peek_text(counts, word) {
         Some((_, count)) => *count,

@@ -63,7 +63,7 @@ pub fn claim_both<C: Shared, S: Shared, M: Shared, F: Shared, D: Shared, R: Thre
     ensures owned { IfOk result
         (λ claims. length claims.closed.index.pairs ≤ claims.told.0.stored + claims.told.1.stored) }
 {
-    let (owners, mut passes) = SharedTreeIndex::<u64, u64, C, S, M, F, D>::new(alloc, 2, blanks)?;
+    let (held, mut passes) = SharedTreeIndex::<u64, u64, C, S, M, F, D>::new(alloc, 2, blanks)?;
     let [one, two] = passes.as_mut_slice() else {
         unreachable!()
     };
@@ -71,13 +71,13 @@ pub fn claim_both<C: Shared, S: Shared, M: Shared, F: Shared, D: Shared, R: Thre
         rt,
         ||
             requires { one.now ≡ none }
-        { claim(rt, &owners, one, 1, numbers) },
+        { claim(rt, &held, one, 1, numbers) },
         ||
             requires { two.now ≡ none }
-        { claim(rt, &owners, two, 2, numbers) },
+        { claim(rt, &held, two, 2, numbers) },
     );
     let told = (passes[0].tally(), passes[1].tally());
-    match owners.close(passes) {
+    match held.close(passes) {
         Ok(closed) => Ok(Claims { closed, told }),
         Err(_) => unreachable!(),
     }
