@@ -6,7 +6,7 @@ pub use Rattle.tree_array.specs.declared.answers.RemoveResult.{RemoveResult}
 pub use Rattle.tree_array.specs.declared.answers.RemoveResult.TheVariants.{Success, Retired, Fail}
 pub use Rattle.tree_array.specs.declared.answers.StoreResult.TheVariants.{Full}
 pub use Rattle.port_calls.specs.Found.{IsFound}
-pub use Rattle.tree_chain.proofs.Common.{LeafWalk, Way, On, Back}
+pub use Rattle.tree_leaf.proofs.ChainCommon.{LeafWalk, Way, On, Back}
 pub use Rattle.tree_cut.proofs.Nodes.{childless_cut}
 pub use Rattle.tree_cut.specs.Cuts.{CutsUnder}
 pub use Rattle.tree_model.proofs.Common.{Bound, err_from_is_err_and}

@@ -24,11 +24,11 @@ ghost use Rattle.tree_remove.specs.Removes.{RemovesUnder};
 
 use std::ops::Bound;
 use tree_array::array::{ArrayIter, ArrayRevIter, IndexKey, InsertResult, Judge, RemoveResult};
-use tree_chain::{IterOf, RevIterOf};
 use tree_cursors::approximate::approximate_at;
 use tree_cut::cutting::remove_range_at;
 use tree_insert::insertion::insert_at;
 use tree_leaf::arena::NodeId;
+use tree_leaf::{IterOf, RevIterOf};
 use tree_node::branch::{InternalNodeOf, LeafNodeOf};
 use tree_node::depth::level_of;
 use tree_node::look_ups::search_at;

@@ -4,12 +4,12 @@ pub use Rattle.std.proofs.Common.{length-append, length-drop, length-take, ltb, 
 pub use Rattle.std.proofs.lemmas.List.{length-reverse}
 pub use Rattle.std.proofs.lemmas.Option.{slice_get_within}
 pub use Rattle.tree_array.proofs.Common.{all-append, all_map, greater_from_less}
-pub use Rattle.tree_chain.proofs.Along.{all_ahead, all_along, all_reversed}
-pub use Rattle.tree_chain.proofs.Common.{LeafWalk, Steps, beyond, standing}
-pub use Rattle.tree_chain.proofs.Rests.{count_falls, count_left, stands_on, took}
-pub use Rattle.tree_chain.specs.Rest.{HasTaken, StandsIn, Takes, left_of}
-pub use Rattle.tree_chain.specs.Walks.{here, stood_on}
-pub use Rattle.tree_chain.specs.Ways.{ahead, places_left}
+pub use Rattle.tree_leaf.proofs.Along.{all_ahead, all_along, all_reversed}
+pub use Rattle.tree_leaf.proofs.ChainCommon.{LeafWalk, Steps, beyond, standing}
+pub use Rattle.tree_leaf.proofs.Rests.{count_falls, count_left, stands_on, took}
+pub use Rattle.tree_leaf.specs.Rest.{HasTaken, StandsIn, Takes, left_of}
+pub use Rattle.tree_leaf.specs.Walks.{here, stood_on}
+pub use Rattle.tree_leaf.specs.Ways.{ahead, places_left}
 pub use Rattle.tree_cursors.specs.Seek.{IsNearest, NoneMeets, Opens, Seeks, path}
 pub use Rattle.tree_cursors.specs.View.{EndStands, GoesTo, Stands, StepsInLeaf, end_of, place_at, place_in, place_of}
 pub use Rattle.tree_cursors.specs.declared.end.End.{End}

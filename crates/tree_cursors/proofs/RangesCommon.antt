@@ -10,10 +10,10 @@ pub use Rattle.std.proofs.lemmas.Option.{slice_get_cases, slice_get_within}
 pub use Rattle.std.specs.Iterator.{at_most}
 pub use Rattle.std.specs.Ordering.{ordering_reverse}
 pub use Rattle.tree_array.proofs.Common.{all-append, all_map, filter_none}
-pub use Rattle.tree_chain.proofs.Along.{all_ahead, all_along, all_left, first_place, first_step, step_takes}
-pub use Rattle.tree_chain.proofs.Common.{Back, LeafWalk, On, Steps, Way, next_place}
-pub use Rattle.tree_chain.specs.Walks.{first_on, here, stood_on}
-pub use Rattle.tree_chain.specs.Ways.{StepsOver, ahead}
+pub use Rattle.tree_leaf.proofs.Along.{all_ahead, all_along, all_left, first_place, first_step, step_takes}
+pub use Rattle.tree_leaf.proofs.ChainCommon.{Back, LeafWalk, On, Steps, Way, next_place}
+pub use Rattle.tree_leaf.specs.Walks.{first_on, here, stood_on}
+pub use Rattle.tree_leaf.specs.Ways.{StepsOver, ahead}
 pub use Rattle.tree_cursors.proofs.Ends.{end_inside, placed_in, root_stands}
 pub use Rattle.tree_cursors.proofs.Places.{places_compare}
 pub use Rattle.tree_cursors.specs.Seek.{NoneMeets, Seeks}

@@ -3,7 +3,7 @@ use Rattle.tree_cursors.proofs.RangesCommon.{◌≡◌, ℕ, zero, suc, ◌<◌,
 use Rattle.tree_cursors.proofs.RangesCommon.{IsTotalOrder, AllByRecursion, Bound, reverse-reverse, reverse-append, reverse_onto, IsAscending, lent, along, opposite, meets, Back, LeafWalk, On}
 use Rattle.tree_cursors.proofs.RangesCommon.{StandsOrRetired, Steps, TreeArenas, Way, all_ahead, all_along, all_at, all_left, both_ways, first_on, first_place, first_step, get, here, next_place}
 use Rattle.tree_cursors.proofs.RangesCommon.{no_children, slice_get_within, step_takes, walk, walk_ascends, BeginsPart, IsLinked, NoneMeets, Seeks, Approximates}
-use Rattle.tree_chain.proofs.Along.{first_taken as first_step_takes}
+use Rattle.tree_leaf.proofs.Along.{first_taken as first_step_takes}
 use Rattle.tree_cursors.proofs.Ahead.{all_fail, at_ahead}
 
 module _ {X : Type 0} (P : X → Type 0) where

@@ -3,7 +3,7 @@ use Rattle.std.proofs.Common.{drop, take-append-drop, ◌≡◌, ℕ, ◌+◌, �
 use Rattle.tree_model.proofs.Common.{IsTotalOrder, reverse_onto, filter-append, cases_lt, IsAscending, within, lent_entry, HasBegun, Moves, rest, along, opposite, Cursor, End, unopened, at_place, element_at, meets, next_end}
 use Rattle.tree_cursors.proofs.RangesCommon.{Back, IsFresh, On, StandsWhere, Way, all_map, and_right, between, bound_on, cases_Bool, exhausted, filter_none, lt-leb, option_where, pairs_within, slice_get_within, take-append-le}
 use Rattle.std.specs.Map.Iter.{TakesFirst}
-use Rattle.tree_chain.proofs.Rests.{takes_lent}
+use Rattle.tree_leaf.proofs.Rests.{takes_lent}
 use Rattle.std.proofs.Math.Bool.{and_comm}
 use Rattle.tree_node.proofs.Cuts.{all_front}
 use Rattle.tree_cursors.specs.Ranged.{end_left as left}

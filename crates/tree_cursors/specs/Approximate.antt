@@ -3,7 +3,7 @@ use Rattle.std.specs.Prelude.{◌≡◌, ℕ, true, List, ◌∷◌, ◌++◌, O
 use Rattle.std.specs.declared.cmp.Ordering.{Ordering}
 use Rattle.std.specs.declared.ops.Bound.{Bound}
 use Rattle.tree_model.specs.declared.way.Way.{Way}
-use Rattle.tree_chain.specs.Walks.{LeafWalk, stood_on}
+use Rattle.tree_leaf.specs.Walks.{LeafWalk, stood_on}
 use Rattle.tree_node.specs.Arenas.{TreeArenas}
 use Rattle.tree_node.specs.Tree.{walk}
 use Rattle.tree_model.specs.Cursor.{meets}

@@ -5,8 +5,8 @@ use Rattle.std.specs.declared.ops.Bound.TheVariants.{Unbounded}
 use Rattle.tree_model.specs.Pairs.{IsAscending, within}
 use Rattle.tree_model.specs.declared.way.Way.{Way}
 use Rattle.tree_model.specs.declared.way.Way.TheVariants.{On, Back}
-use Rattle.tree_chain.specs.Walks.{LeafWalk}
-use Rattle.tree_chain.specs.Ways.{places_left}
+use Rattle.tree_leaf.specs.Walks.{LeafWalk}
+use Rattle.tree_leaf.specs.Ways.{places_left}
 use Rattle.tree_node.specs.declared.node.Root.{Root}
 use Rattle.tree_node.specs.Arenas.{TreeArenas}
 use Rattle.tree_model.specs.Cursor.{Cursor, End, unopened, at_place, exhausted, are_apart, can_flip, flipped}

@@ -8,10 +8,10 @@ use Rattle.tree_leaf.specs.declared.leaf.LeafOf.{LeafOf}
 use Rattle.tree_model.specs.declared.way.Way.{Way}
 use Rattle.tree_leaf.specs.Chain.{IsChain}
 use Rattle.tree_leaf.specs.Entries.{entries_of}
-use Rattle.tree_chain.specs.Rest.{StandsIn, left_of}
-use Rattle.tree_chain.specs.Walks.{LeafWalk, standing, stood_on}
+use Rattle.tree_leaf.specs.Rest.{StandsIn, left_of}
+use Rattle.tree_leaf.specs.Walks.{LeafWalk, standing, stood_on}
 use Rattle.tree_model.specs.Ways.{along}
-use Rattle.tree_chain.specs.Ways.{beyond}
+use Rattle.tree_leaf.specs.Ways.{beyond}
 use Rattle.tree_node.specs.Arenas.{TreeArenas}
 use Rattle.tree_node.specs.Tree.{leaves_at, walk}
 use Rattle.tree_parts.specs.Ends.{passed}

@@ -6,9 +6,9 @@ use Rattle.std.specs.declared.cmp.Ordering.{Ordering}
 use Rattle.std.specs.declared.ops.Bound.{Bound}
 use Rattle.slab.specs.Slab.{Slab}
 use Rattle.tree_leaf.specs.Entries.{leaf_entries}
-use Rattle.tree_chain.specs.Rest.{StandsIn}
-use Rattle.tree_chain.specs.Walks.{LeafWalk, here, stood_on}
-use Rattle.tree_chain.specs.Ways.{places_left}
+use Rattle.tree_leaf.specs.Rest.{StandsIn}
+use Rattle.tree_leaf.specs.Walks.{LeafWalk, here, stood_on}
+use Rattle.tree_leaf.specs.Ways.{places_left}
 use Rattle.tree_model.specs.Rest.{lent_entry}
 use Rattle.tree_leaf.specs.declared.leaf.LeafOf.{LeafOf}
 use Rattle.tree_model.specs.declared.way.Way.{Way}

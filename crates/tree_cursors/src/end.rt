@@ -2,7 +2,7 @@
 ghost use Rattle.std.specs.Prelude.{◌≡◌, Some};
 ghost use Rattle.std.specs.Ordering.{is_lt};
 ghost use Rattle.std.specs.declared.ops.Bound.{Bound as AnyBound};
-ghost use Rattle.tree_chain.specs.Walks.{stood_on};
+ghost use Rattle.tree_leaf.specs.Walks.{stood_on};
 ghost use Rattle.tree_model.specs.Pairs.{lent_bound};
 ghost use Rattle.tree_node.specs.Whole.{IsTree, walk_under};
 ghost use Rattle.tree_model.specs.Cursor.{next_end, unopened};
@@ -12,9 +12,9 @@ ghost use Rattle.tree_cursors.specs.View.{EndStands, StepsInLeaf, end_of, pair_o
 use crate::seek::seek_at;
 use crate::way::EndWay;
 use std::ops::Bound;
-use tree_chain::laws::next_or_jump;
-use tree_chain::{LinkedIter, SlotWalk};
+use tree_leaf::laws::next_or_jump;
 use tree_leaf::leaf::LeafOf;
+use tree_leaf::{LinkedIter, SlotWalk};
 use tree_node::node::{ArenasOf, Root};
 
 /// Where an end of a cursor is: it was never moved, it stands on an entry, or it has left the tree.

@@ -10,8 +10,8 @@ ghost use Rattle.tree_cursors.specs.Ranged.{TellsApart, is_new};
 use crate::end::{End, comes_before, pair_on};
 use crate::way::EndWay;
 use std::ops::Bound;
-use tree_chain::{IterOf, LinkedIter, RevIterOf, Reversible, SlotWalk, Walked};
 use tree_leaf::leaf::LeafOf;
+use tree_leaf::{IterOf, LinkedIter, RevIterOf, Reversible, SlotWalk, Walked};
 
 /// Returns whether neither end is exhausted, and the forward one stands before the backward one.
 /// Makes at most one comparison. The caller must have ends that stand in one tree.

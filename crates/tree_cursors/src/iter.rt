@@ -17,8 +17,8 @@ use std::fmt;
 use std::iter::FusedIterator;
 use std::marker::Model;
 use std::ops::Bound;
-use tree_chain::{IterOf as WalkOf, RevIterOf as RevWalkOf, Walked};
 use tree_leaf::leaf::LeafOf;
+use tree_leaf::{IterOf as WalkOf, RevIterOf as RevWalkOf, Walked};
 use tree_node::node::{ArenasOf, Root};
 
 /// All pairs of a tree, from both ends.

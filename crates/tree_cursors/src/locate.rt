@@ -11,7 +11,7 @@ use crate::ends::{again, has_pair, stands_at, turned};
 use crate::iter::{IterOf, IterOver};
 use crate::way::EndWay;
 use std::ops::Bound;
-use tree_chain::LinkedIter;
+use tree_leaf::LinkedIter;
 use tree_leaf::leaf::LeafOf;
 use tree_model::ProximityOf;
 use tree_node::node::{ArenasOf, Root};

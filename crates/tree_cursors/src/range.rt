@@ -17,9 +17,9 @@ use std::marker::{Model, PhantomData};
 use std::ops::Bound;
 use std::{fmt, mem};
 use tree_array::array::{ArrayIter, ArrayRevIter};
-use tree_chain::{IterOf as WalkOf, LinkedIter, RevIterOf as RevWalkOf, Walked};
 use tree_leaf::arena::NodeId;
 use tree_leaf::leaf::LeafOf;
+use tree_leaf::{IterOf as WalkOf, LinkedIter, RevIterOf as RevWalkOf, Walked};
 use tree_node::node::{ArenasOf, Root};
 
 /// A type of arenas to go through with a cursor, with what the cursor keeps. It has no methods.
@@ -27,7 +27,7 @@ pub trait Ranged<K, V, L: Walked> {
     ghost use Rattle.std.specs.Prelude.{Option};
     ghost use Rattle.std.specs.Borrow.{Bor};
     ghost use Rattle.std.specs.declared.ops.Bound.{Bound as AnyBound};
-    ghost use Rattle.tree_chain.specs.Walks.{LinkedWalk};
+    ghost use Rattle.tree_leaf.specs.Walks.{LinkedWalk};
     ghost use Rattle.tree_model.specs.Cursor.{Cursor};
     ghost use Rattle.tree_node.specs.declared.node.Root.{Root as TreeRoot};
     ghost use Rattle.tree_cursors.specs.declared.end.End.{End as TreeEnd};

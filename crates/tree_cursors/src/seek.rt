@@ -1,7 +1,7 @@
 //! Opens a walk on the first key past a bound, either way.
 ghost use Rattle.std.specs.Prelude.{◌≡◌, ◌<◌, ◌++◌, [], List, MatchOption, None};
-ghost use Rattle.tree_chain.specs.Walks.{here, standing};
-ghost use Rattle.tree_chain.specs.Ways.{ahead};
+ghost use Rattle.tree_leaf.specs.Walks.{here, standing};
+ghost use Rattle.tree_leaf.specs.Ways.{ahead};
 ghost use Rattle.tree_model.specs.Ways.{along};
 ghost use Rattle.tree_model.specs.Pairs.{lent_bound};
 ghost use Rattle.tree_node.specs.Tree.{StandsOrRetired, walk};
@@ -10,10 +10,10 @@ ghost use Rattle.tree_cursors.specs.Seek.{NoneMeets, Opens, Seeks};
 
 use crate::way::EndWay;
 use std::ops::Bound;
-use tree_chain::laws::next_or_jump;
-use tree_chain::{LinkedIter, SlotWalk};
 use tree_leaf::arena::NodeId;
+use tree_leaf::laws::next_or_jump;
 use tree_leaf::leaf::LeafOf;
+use tree_leaf::{LinkedIter, SlotWalk};
 use tree_node::look_ups::leaf_by;
 use tree_node::node::ArenasOf;
 use tree_parts::ends::walk_from_end;

@@ -1,7 +1,7 @@
 //! The two ways of an end of a cursor: on to larger keys, and back to smaller ones.
 use std::ops::Bound;
 use tree_array::array::{ArrayIter, ArrayRevIter};
-use tree_chain::Reversible;
+use tree_leaf::Reversible;
 use tree_model::{is_above, is_below};
 use tree_parts::children::ChildWalk;
 

@@ -3,7 +3,7 @@ use Rattle.std.proofs.Common.{◌≡◌, ℕ, zero, suc, ◌+◌, ◌-◌, ◌==
 use Rattle.tree_model.proofs.Common.{IsTotalOrder, Unbounded, nat_tests, Cursor, at_place, fresh, greatest_place, shown, unopened, AllLarger, IsAscending, above, below, pair_at, nil_from_length}
 use Rattle.tree_model.specs.declared.way.Way.TheVariants.{On, Back}
 use Rattle.tree_array.proofs.Common.{all_map, filter_none, greater_from_less}
-use Rattle.tree_chain.proofs.Common.{first_of, last_of}
+use Rattle.tree_leaf.proofs.ChainCommon.{first_of, last_of}
 use Rattle.std.specs.Option.{option_or}
 use Rattle.tree_model.specs.declared.proximity.ProximityOf.{ProximityOf}
 use Rattle.tree_model.specs.declared.proximity.ProximityOf.TheVariants.{Exact, Between, Smaller, Larger, Empty}

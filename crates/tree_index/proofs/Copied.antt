@@ -5,8 +5,8 @@ use Rattle.tree_model.proofs.Common.{IsTotalOrder, AllByRecursion, AllLarger, Is
 use Rattle.tree_model.proofs.Ascending.{IsAscending-append}
 use Rattle.tree_model.specs.declared.way.Way.TheVariants.{On}
 use Rattle.tree_array.proofs.Common.{all-append, all_map, alike_after}
-use Rattle.tree_chain.specs.Rest.{Takes, left_of}
-use Rattle.tree_chain.specs.Walks.{LeafWalk}
+use Rattle.tree_leaf.specs.Rest.{Takes, left_of}
+use Rattle.tree_leaf.specs.Walks.{LeafWalk}
 use Rattle.tree_node.proofs.Common.{TreeArenas, IsTree, leaf_entries, leaves_at, root_at, walk}
 use Rattle.tree_parts.specs.Ends.{BeginsPart, IsLinked}
 use Rattle.tree_index.specs.Copies.{AllSmaller, HasLeft}

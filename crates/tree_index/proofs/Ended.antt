@@ -1,7 +1,7 @@
 -- What a pair that was taken out leaves of a list: the first one, the last one, or the one at a key.
 use Rattle.std.proofs.Common.{◌≡◌, ℕ, suc, ◌-◌, arith, MatchOption, List, [], ◌∷◌, ◌++◌, length, Option, Some, None, refl, sym, ap, ◌∙◌, append-nil, Ordering, Equal, is_lt, is_gt}
 use Rattle.tree_model.proofs.Common.{IsTotalOrder, alike_right, tied_itself, IsAbsent, IsAscending, pair_at, without}
-use Rattle.tree_chain.proofs.Common.{first_of, last_of}
+use Rattle.tree_leaf.proofs.ChainCommon.{first_of, last_of}
 use Rattle.tree_model.proofs.Ascending.{without_first}
 use Rattle.tree_model.proofs.Lists.{filter_same}
 use Rattle.tree_model.proofs.LookUps.{found_first}

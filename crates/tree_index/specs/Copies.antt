@@ -3,8 +3,8 @@ use Rattle.std.specs.Prelude.{◌≡◌, ℕ, List, ◌∷◌, ◌++◌}
 use Rattle.std.specs.List.{AllByRecursion}
 use Rattle.std.specs.declared.cmp.Ordering.{Ordering}
 use Rattle.std.specs.declared.cmp.Ordering.TheVariants.{Less}
-use Rattle.tree_chain.specs.Rest.{left_of}
-use Rattle.tree_chain.specs.Walks.{LeafWalk}
+use Rattle.tree_leaf.specs.Rest.{left_of}
+use Rattle.tree_leaf.specs.Walks.{LeafWalk}
 use Rattle.tree_leaf.specs.Chain.{IsChain}
 use Rattle.tree_model.specs.declared.way.Way.TheVariants.{On}
 

@@ -2,7 +2,7 @@
 use Rattle.std.specs.Prelude.{List, Option}
 use Rattle.std.specs.Option.{option_or}
 use Rattle.std.specs.declared.cmp.Ordering.{Ordering}
-use Rattle.tree_chain.specs.Walks.{first_of, last_of}
+use Rattle.tree_leaf.specs.Walks.{first_of, last_of}
 use Rattle.tree_model.specs.Pairs.{above, below, pair_at}
 
 module _ {K V : Type 0} (cmp : K → K → Ordering) where

@@ -9,8 +9,8 @@ ghost use Rattle.tree_root.specs.Trees.{IsWhole, pairs_of};
 use crate::index::TreeIndexOf;
 use std::alloc::{AllocError, Global};
 use tree_array::array::{ArrayIter, IndexKey, RunOf};
-use tree_chain::IterOf;
-use tree_chain::laws::next_or_jump;
+use tree_leaf::IterOf;
+use tree_leaf::laws::next_or_jump;
 use tree_parts::ends::walk_from_end;
 use tree_root::Tree;
 

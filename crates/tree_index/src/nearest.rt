@@ -1,6 +1,6 @@
 //! The pairs at both ends of an index, and the nearest pair on one side of a key.
 ghost use Rattle.std.specs.Prelude.{◌≡◌};
-ghost use Rattle.tree_chain.specs.Walks.{first_of, last_of};
+ghost use Rattle.tree_leaf.specs.Walks.{first_of, last_of};
 ghost use Rattle.tree_model.specs.Rest.{lent};
 ghost use Rattle.tree_index.specs.Nearest.{at_or_above, at_or_below};
 

@@ -1,7 +1,7 @@
 //! Removals that return the pair.
 ghost use Rattle.std.specs.Prelude.{◌≡◌, [], None, Some, MatchOption};
 ghost use Rattle.std.specs.Map.Iter.{TakesFirst, TakesLast};
-ghost use Rattle.tree_chain.specs.Walks.{first_of, last_of};
+ghost use Rattle.tree_leaf.specs.Walks.{first_of, last_of};
 ghost use Rattle.tree_index.specs.Index.{KeepsSpare};
 ghost use Rattle.tree_model.specs.Pairs.{pair_at, without};
 ghost use Rattle.tree_root.specs.Trees.{IsStored, IsWhole, pairs_of};

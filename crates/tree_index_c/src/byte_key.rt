@@ -6,7 +6,7 @@ ghost use Rattle.std.specs.Cmp.{partial_order_from_own_ties};
 ghost use Rattle.std.specs.Cmp.Lexicographic.{slice_cmp};
 ghost use Rattle.std.specs.Cmp.Rules.{comparing};
 ghost use Rattle.std.specs.Ordering.{as_partial_cmp, eq_by_cmp, nat_cmp};
-ghost use Rattle.tree_bytes.specs.Head.{HasHead};
+ghost use Rattle.tree_texts.specs.Head.{HasHead};
 ghost use Rattle.tree_model.specs.Keys.{equal_texts};
 ghost use Rattle.tree_model.specs.Pairs.{Finds};
 
@@ -14,8 +14,8 @@ use std::alloc::{AllocError, Global};
 use std::cmp::Ordering;
 use std::marker::{Brand, Model};
 use std::sync::ledger::{Blank, Ledger};
-use tree_bytes::{cmp_headed, head_of};
 use tree_index::{IndexKey, Judge, Steps, TreeIndex};
+use tree_texts::{cmp_headed, head_of};
 
 /// A string of bytes. Keys are in the order of their first difference, and a prefix comes first.
 ///
@@ -29,7 +29,7 @@ pub struct ByteKey {
 
 impl Model for ByteKey {
     ghost use Rattle.std.specs.Prelude.{ℕ, List};
-    ghost use Rattle.tree_bytes.specs.Head.{HasHead};
+    ghost use Rattle.tree_texts.specs.Head.{HasHead};
 
     ghost Value = { List ℕ };
 

@@ -1,7 +1,14 @@
 pub mod Additions
+pub mod Along
+pub mod ChainCommon
 pub mod Chains
 pub mod Common
 pub mod Counts
+pub mod Jumps
+pub mod Passes
 pub mod Pigeonhole
+pub mod Rests
 pub mod Rooms
 pub mod Splices
+pub mod Steps
+pub mod Ways

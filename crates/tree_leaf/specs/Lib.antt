@@ -4,3 +4,6 @@ pub mod Counting
 pub mod Entries
 pub mod Lending
 pub mod Links
+pub mod Rest
+pub mod Walks
+pub mod Ways

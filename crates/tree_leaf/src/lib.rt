@@ -1,5 +1,14 @@
-//! Leaves and nodes under numbers, and the links that make leaves one chain.
+//! Leaves and nodes under numbers, the links that make leaves one chain, and walks over the entries of
+//! a chain, either way.
 #![tactic(auto)]
 
 pub mod arena;
+mod iter;
+pub mod laws;
 pub mod leaf;
+mod slot_walk;
+mod stand;
+
+pub use iter::{Iter, IterOf, LinkedIter, RevIter, RevIterOf};
+pub use slot_walk::{Reversible, SlotWalk};
+pub use stand::Walked;

@@ -1,7 +1,7 @@
 -- Where a walk of a part begins: in a leaf of the chain, at the first entry of the part on its way.
 use Rattle.tree_parts.proofs.Common.{◌≡◌, ℕ, ◌<◌, List, [], ◌∷◌, ◌++◌, length, reverse, None, refl, subst, arith, append_assoc, append-nil, flat_map-append, reverse-append, Back, BeginsPart, IsChain}
 use Rattle.tree_parts.proofs.Common.{IsFirstOn, IsLinked, LeafOf, LeafWalk, On, Slab, TreeArenas, Way, entries_of, first_along, first_of, leaf_entries, leaves_at, length-reverse, passed, first_on}
-use Rattle.tree_chain.proofs.Common.{standing}
+use Rattle.tree_leaf.proofs.ChainCommon.{standing}
 
 first-append : {X : Type 0} (xs ys : List X) → 0 < length xs → first_of xs ≡ first_of (xs ++ ys)
 first-append [] ys some = absurd (omega arith)

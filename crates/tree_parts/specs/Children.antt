@@ -4,7 +4,7 @@ use Rattle.tree_array.specs.Arrivals.{Arrivals, arrival}
 use Rattle.tree_array.specs.Walk.{Walk}
 use Rattle.tree_model.specs.declared.way.Way.{Way}
 use Rattle.tree_model.specs.declared.way.Way.TheVariants.{On, Back}
-use Rattle.tree_chain.specs.Ways.{ahead}
+use Rattle.tree_leaf.specs.Ways.{ahead}
 
 -- the way against the order of the keys, on which the unbounded child comes first
 abbrev pub is_back : Way → Bool

@@ -6,7 +6,7 @@ use Rattle.tree_model.specs.declared.way.Way.{Way}
 use Rattle.tree_model.specs.declared.way.Way.TheVariants.{On, Back}
 use Rattle.tree_leaf.specs.Chain.{IsChain}
 use Rattle.tree_leaf.specs.Entries.{leaf_entries, entries_of}
-use Rattle.tree_chain.specs.Walks.{LeafWalk, first_on, here, standing}
+use Rattle.tree_leaf.specs.Walks.{LeafWalk, first_on, here, standing}
 use Rattle.tree_node.specs.Arenas.{TreeArenas}
 use Rattle.tree_node.specs.Tree.{leaves_at, walk}
 

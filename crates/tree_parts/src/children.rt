@@ -6,7 +6,7 @@ ghost use Rattle.tree_parts.specs.Children.{all_children};
 
 use std::marker::Model;
 use tree_array::array::{ArrayIter, ArrayOf, ArrayRevIter};
-use tree_chain::SlotWalk;
+use tree_leaf::SlotWalk;
 
 /// An iterator over the slots of an array that goes through the keyed children of a node.
 pub trait ChildWalk: SlotWalk {

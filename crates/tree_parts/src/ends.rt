@@ -4,7 +4,7 @@ ghost use Rattle.tree_parts.specs.Ends.{BeginsPart, FindsFirst, IsLinked};
 ghost use Rattle.tree_node.specs.Tree.{StandsOrRetired, leaves_at, walk};
 
 use crate::children::{ChildWalk, ChildrenOf};
-use tree_chain::LinkedIter;
+use tree_leaf::LinkedIter;
 use tree_leaf::arena::{LeafId, NodeId};
 use tree_leaf::leaf::LeafOf;
 use tree_node::node::{ArenasOf, NodeOf};

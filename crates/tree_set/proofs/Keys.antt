@@ -2,7 +2,7 @@
 use Rattle.std.proofs.Common.{◌≡◌, ◌↔◌, IsTrue, Bool, true, false, cond, List, [], ◌∷◌, filter, find, Option, Some, None, Ok, Err, Bor, refl, sym, ap, ◌∙◌, inl, inr, MatchOption, is_some, not, ◌&&◌, ◌||◌, option_copied, option_map, is_lt, is_eq, is_gt, Ordering, Less}
 use Rattle.tree_model.proofs.Common.{AllByRecursion, Bound, Unbounded, map-append}
 use Rattle.tree_array.proofs.Common.{filter_all}
-use Rattle.tree_chain.proofs.Common.{first_of, last_of}
+use Rattle.tree_leaf.proofs.ChainCommon.{first_of, last_of}
 use Rattle.std.specs.List.{AllZip, list_any}
 use Rattle.std.specs.Cmp.Lexicographic.{pointwise}
 use Rattle.std.proofs.Math.Bool.{and-true}

@@ -4,8 +4,8 @@ ghost use Rattle.tree_set.specs.Sets.{IsAscending};
 
 use crate::elements::ElementsOver;
 use std::marker::Model;
-use tree_chain::Walked;
 use tree_cursors::range::Ranged;
+use tree_leaf::Walked;
 use tree_leaf::leaf::LeafOf;
 use tree_node::node::ArenasOf;
 

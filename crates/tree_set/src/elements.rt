@@ -6,8 +6,8 @@ ghost use Rattle.tree_set.specs.Sets.{IsAscending, keys_of};
 
 use std::iter::FusedIterator;
 use std::marker::Model;
-use tree_chain::Walked;
 use tree_cursors::range::{RangeOf, RangeOver, Ranged};
+use tree_leaf::Walked;
 use tree_leaf::leaf::LeafOf;
 use tree_node::node::ArenasOf;
 

@@ -6,8 +6,8 @@ use crate::ahead::Ahead;
 use std::cmp::Ordering;
 use std::iter::FusedIterator;
 use std::marker::Model;
-use tree_chain::Walked;
 use tree_cursors::range::Ranged;
+use tree_leaf::Walked;
 use tree_leaf::leaf::LeafOf;
 use tree_node::node::ArenasOf;
 

@@ -2,7 +2,7 @@
 ghost use Rattle.std.specs.Prelude.{◌≡◌, ◌↔◌, IsTrue, ◌^◌, ◌-◌, ◌&&◌, ◌||◌, min, not, filter, [], length};
 ghost use Rattle.std.specs.Option.{option_copied};
 ghost use Rattle.tree_array.specs.Length.{IsLen};
-ghost use Rattle.tree_chain.specs.Walks.{first_of, last_of};
+ghost use Rattle.tree_leaf.specs.Walks.{first_of, last_of};
 ghost use Rattle.tree_model.specs.Pairs.{high_of, low_of, within};
 ghost use Rattle.tree_set.specs.Merges.{difference, intersection, symmetric_difference, union};
 ghost use Rattle.tree_set.specs.Sets.{Inserts, IsAscending, cut, element_at, has, without};

@@ -9,9 +9,9 @@ ghost use Rattle.tree_parts.specs.Ends.{IsLinked};
 
 use crate::flaw::{Flaw, expect};
 use tree_array::array::{ArrayIter, ArrayOf, ArrayRevIter};
-use tree_chain::{IterOf, RevIterOf};
 use tree_leaf::arena::{LeafId, NodeId};
 use tree_leaf::leaf::LeafOf;
+use tree_leaf::{IterOf, RevIterOf};
 use tree_node::node::{ArenasOf, NodeOf};
 use tree_parts::ends::walk_from_end;
 

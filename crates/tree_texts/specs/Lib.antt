@@ -1,1 +1,3 @@
+pub mod Head
+pub mod Prefix
 pub mod TextPrefix

@@ -5,15 +5,15 @@ ghost use Rattle.std.specs.Cmp.Lexicographic.{pointwise, slice_cmp, nat_list_eq_
 ghost use Rattle.std.specs.Ordering.{nat_cmp};
 ghost use Rattle.std.proofs.Common.{sym};
 ghost use Rattle.tree_model.specs.Keys.{equal_texts};
-ghost use Rattle.tree_bytes.specs.Head.{HasHead};
+ghost use Rattle.tree_texts.specs.Head.{HasHead};
 
 use crate::text::Text;
+use crate::{cmp_headed, eq_headed, head_of};
 use std::alloc::AllocError;
 use std::cmp::Ordering;
 use std::fmt;
 use std::marker::Model;
 use std::sync::ledger::Ledger;
-use tree_bytes::{cmp_headed, eq_headed, head_of};
 use tree_index::{IndexKey, Judge, SameClone, Steps};
 
 /// Bytes that are a key. Their order is that of the first difference, a prefix first.
@@ -29,7 +29,7 @@ pub struct Bytes {
 
 impl Model for Bytes {
     ghost use Rattle.std.specs.Prelude.{ℕ, List};
-    ghost use Rattle.tree_bytes.specs.Head.{HasHead};
+    ghost use Rattle.tree_texts.specs.Head.{HasHead};
 
     ghost Value = { List ℕ };
 

@@ -13,17 +13,25 @@
 //!     }
 //! }
 //! ```
+//!
+//! Such a key keeps a head beside the pointer to its bytes: the first eight bytes as a number whose
+//! order is theirs. So a comparison of two keys with different heads reads no other memory. If the
+//! heads are equal, [`cmp_headed`] compares what follows eight bytes at a time.
 #![tactic(auto)]
 
 mod bytes;
+mod head;
 mod peek;
 mod prefix;
+mod prefix_end;
 mod text;
 mod text_prefix;
 mod within;
 
 pub use bytes::{Bytes, BytesJudge};
+pub use head::{cmp_headed, eq_headed, head_of};
 pub use peek::{peek_bytes, peek_text};
 pub use prefix::{prefix_bounds, prefix_range, remove_prefix};
+pub use prefix_end::end_of_prefix;
 pub use text::{Text, TextJudge};
 pub use text_prefix::{remove_text_prefix, text_prefix_bounds, text_prefix_range};

@@ -2,17 +2,17 @@
 ghost use Rattle.std.specs.Prelude.{◌≡◌, ◌≢◌, ◌↔◌, ℕ, IfOk, IsTrue, List, [], OnErr, filter};
 ghost use Rattle.std.specs.Cmp.Lexicographic.{slice_cmp};
 ghost use Rattle.std.specs.Ordering.{nat_cmp};
-ghost use Rattle.tree_bytes.specs.Head.{AreBytes};
-ghost use Rattle.tree_bytes.specs.Prefix.{BoundPrefix, TellsPrefix, beginning_with, not_beginning_with};
+ghost use Rattle.tree_texts.specs.Head.{AreBytes};
+ghost use Rattle.tree_texts.specs.Prefix.{BoundPrefix, TellsPrefix, beginning_with, not_beginning_with};
 ghost use Rattle.tree_model.specs.Cursor.{fresh};
 ghost use Rattle.tree_model.specs.Pairs.{high_of, low_of, within};
 ghost use Rattle.tree_cursors.specs.Ranged.{pairs_within};
 
 use crate::bytes::Bytes;
+use crate::end_of_prefix;
 use crate::within::last_within;
 use std::alloc::{AllocError, Global};
 use std::ops::Bound;
-use tree_bytes::end_of_prefix;
 use tree_index::{RangeOf, TreeIndexOf};
 
 /// Returns the bounds of the keys that begin with a prefix: the prefix, included, and the least key

@@ -5,14 +5,14 @@ ghost use Rattle.std.specs.Cmp.Lexicographic.{pointwise, slice_cmp, nat_list_eq_
 ghost use Rattle.std.specs.Ordering.{nat_cmp};
 ghost use Rattle.std.proofs.Common.{sym};
 ghost use Rattle.tree_model.specs.Keys.{equal_texts};
-ghost use Rattle.tree_bytes.specs.Head.{HasHead};
+ghost use Rattle.tree_texts.specs.Head.{HasHead};
 
+use crate::{cmp_headed, eq_headed, head_of};
 use std::alloc::AllocError;
 use std::cmp::Ordering;
 use std::fmt;
 use std::marker::Model;
 use std::sync::ledger::Ledger;
-use tree_bytes::{cmp_headed, eq_headed, head_of};
 use tree_index::{IndexKey, Judge, SameClone, Steps};
 
 /// A text that is a key. Its order is that of its bytes.
@@ -28,7 +28,7 @@ pub struct Text {
 
 impl Model for Text {
     ghost use Rattle.std.specs.Prelude.{ℕ, List, string_bytes};
-    ghost use Rattle.tree_bytes.specs.Head.{HasHead};
+    ghost use Rattle.tree_texts.specs.Head.{HasHead};
 
     ghost Value = { List ℕ };
 

@@ -4,7 +4,7 @@ ghost use Rattle.std.specs.Char.{IsScalar};
 ghost use Rattle.std.specs.Cmp.Lexicographic.{slice_cmp};
 ghost use Rattle.std.specs.Ordering.{nat_cmp};
 ghost use Rattle.std.specs.Str.{IsUtf8};
-ghost use Rattle.tree_bytes.specs.Prefix.{BoundPrefix, TellsPrefix, beginning_with, not_beginning_with};
+ghost use Rattle.tree_texts.specs.Prefix.{BoundPrefix, TellsPrefix, beginning_with, not_beginning_with};
 ghost use Rattle.tree_model.specs.Cursor.{fresh};
 ghost use Rattle.tree_model.specs.Pairs.{high_of, low_of, within};
 ghost use Rattle.tree_cursors.specs.Ranged.{pairs_within};

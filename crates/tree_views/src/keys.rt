@@ -7,9 +7,9 @@ ghost use Rattle.tree_views.specs.Keys.{GoesThroughAll, keys_left, values_left};
 use std::alloc::AllocError;
 use std::iter::FusedIterator;
 use std::marker::Model;
-use tree_chain::Walked;
 use tree_cursors::iter::IterOver;
 use tree_cursors::range::Ranged;
+use tree_leaf::Walked;
 use tree_leaf::leaf::LeafOf;
 use tree_node::node::ArenasOf;
 

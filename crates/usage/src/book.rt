@@ -2,7 +2,7 @@
 ghost use Rattle.std.specs.Prelude.{◌≡◌, slice_get};
 ghost use Rattle.std.specs.Option.{option_map};
 ghost use Rattle.std.specs.Ordering.{nat_cmp};
-ghost use Rattle.tree_chain.specs.Walks.{first_of, last_of};
+ghost use Rattle.tree_leaf.specs.Walks.{first_of, last_of};
 ghost use Rattle.tree_model.specs.Rest.{lent};
 ghost use Rattle.tree_index.specs.Nearest.{at_or_above};
 ghost use Rattle.tree_model.specs.Pairs.{cut};

@@ -2,7 +2,7 @@
 ghost use Rattle.std.specs.Prelude.{◌≡◌, ◌↔◌, ◌^◌, ◌-◌, IsTrue, [], map, min};
 ghost use Rattle.std.specs.List.{sum};
 ghost use Rattle.std.specs.Ordering.{nat_cmp};
-ghost use Rattle.tree_chain.specs.Walks.{first_of};
+ghost use Rattle.tree_leaf.specs.Walks.{first_of};
 ghost use Rattle.tree_model.specs.Rest.{lent};
 ghost use Rattle.tree_index.specs.Nearest.{at_or_below};
 ghost use Rattle.tree_model.specs.Pairs.{IsPresent, without};

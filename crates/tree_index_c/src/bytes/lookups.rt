@@ -3,7 +3,7 @@ ghost use Rattle.std.specs.Prelude.{◌≡◌, Some};
 ghost use Rattle.std.specs.Cmp.Lexicographic.{slice_cmp};
 ghost use Rattle.std.specs.Option.{option_map};
 ghost use Rattle.std.specs.Ordering.{nat_cmp};
-ghost use Rattle.tree_chain.specs.Walks.{first_of, last_of};
+ghost use Rattle.tree_leaf.specs.Walks.{first_of, last_of};
 ghost use Rattle.tree_index.specs.Nearest.{at_or_above, at_or_below};
 ghost use Rattle.tree_index_c.specs.Answers.{Says, Writes};
 ghost use Rattle.tree_index_c.specs.Entries.{FindsEntry, WritesEntry};

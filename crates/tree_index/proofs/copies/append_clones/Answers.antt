@@ -1,6 +1,6 @@
 use Rattle.std.proofs.Common.{[], ◌∷◌, ◌++◌, Some, append-nil, ap, refl, sym, ◌∙◌}
 use Rattle.std.proofs.lemmas.Result.{IfOk-weaker}
-use Rattle.tree_chain.proofs.Rests.{count_falls}
+use Rattle.tree_leaf.proofs.Rests.{count_falls}
 use Rattle.tree_model.specs.declared.way.Way.TheVariants.{On}
 use Rattle.tree_node.proofs.Common.{fits}
 use Rattle.tree_root.specs.Runs.{Gathers}

@@ -1,5 +1,5 @@
 use Rattle.std.proofs.Common.{◌++◌}
-use Rattle.tree_chain.proofs.Rests.{count_left}
+use Rattle.tree_leaf.proofs.Rests.{count_left}
 use Rattle.tree_model.specs.declared.way.Way.TheVariants.{On}
 use Rattle.tree_root.specs.Trees.{IsWhole, pairs_of}
 use Rattle.tree_index.specs.Copies.{IsPairClone}

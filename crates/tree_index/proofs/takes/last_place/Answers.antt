@@ -1,6 +1,6 @@
 use Rattle.std.proofs.Common.{◌≡◌, [], Some, sym}
 use Rattle.tree_node.proofs.Common.{fits}
-use Rattle.tree_chain.proofs.Common.{last_of}
+use Rattle.tree_leaf.proofs.ChainCommon.{last_of}
 use Rattle.tree_root.specs.Trees.{pairs_of}
 use Rattle.tree_index.proofs.Beside.{begins_back}
 use Rattle.tree_index.proofs.Ended.{stored_where, last_found, none_last_of}

@@ -1,6 +1,6 @@
 use Rattle.std.proofs.Common.{◌≡◌, ◌∙◌, ap, refl}
-use Rattle.tree_bytes.specs.Prefix.{end_of}
-use Rattle.tree_bytes.proofs.Prefixes.{prefix_all, prefix_within}
+use Rattle.tree_texts.specs.Prefix.{end_of}
+use Rattle.tree_texts.proofs.Prefixes.{prefix_all, prefix_within}
 use Rattle.tree_model.proofs.Common.{Included}
 use Rattle.tree_texts.proofs.MappedBounds.{mapped}
 use Rattle.tree_texts.proofs.prefix.prefix_bounds.Goals as goal

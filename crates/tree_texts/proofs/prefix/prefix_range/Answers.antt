@@ -1,7 +1,7 @@
 use Rattle.std.proofs.Common.{ℕ, List, Bor, refl}
-use Rattle.tree_bytes.specs.Head.{AreBytes}
-use Rattle.tree_bytes.specs.Prefix.{BoundPrefix}
-use Rattle.tree_bytes.proofs.Ranges.{between_is}
+use Rattle.tree_texts.specs.Head.{AreBytes}
+use Rattle.tree_texts.specs.Prefix.{BoundPrefix}
+use Rattle.tree_texts.proofs.Ranges.{between_is}
 use Rattle.tree_model.proofs.Common.{Bound}
 use Rattle.tree_model.specs.Pairs.{high_of, low_of}
 use Rattle.tree_texts.proofs.prefix.prefix_range.Goals as goal

@@ -1,7 +1,7 @@
 use Rattle.std.proofs.Common.{◌≡◌, ℕ, List, Bor, ◌∙◌, sym, ap}
-use Rattle.tree_bytes.specs.Head.{AreBytes}
-use Rattle.tree_bytes.specs.Prefix.{BoundPrefix, TellsPrefix}
-use Rattle.tree_bytes.proofs.Ranges.{between_is, cut_is, none_begin}
+use Rattle.tree_texts.specs.Head.{AreBytes}
+use Rattle.tree_texts.specs.Prefix.{BoundPrefix, TellsPrefix}
+use Rattle.tree_texts.proofs.Ranges.{between_is, cut_is, none_begin}
 use Rattle.tree_model.proofs.Common.{Bound}
 use Rattle.tree_model.specs.Pairs.{high_of, low_of}
 use Rattle.tree_texts.proofs.prefix.remove_prefix.Goals as goal

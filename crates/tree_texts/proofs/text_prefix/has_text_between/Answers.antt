@@ -1,4 +1,4 @@
-use Rattle.tree_bytes.proofs.Ranges.{tells_none, tells_last}
+use Rattle.tree_texts.proofs.Ranges.{tells_none, tells_last}
 use Rattle.tree_texts.proofs.text_prefix.has_text_between.Goals as goal
 
 pub returns-in-Some-clause-prefix : goal.returns-in-Some-clause-prefix

@@ -1,3 +1,0 @@
-pub mod Heads
-pub mod Prefixes
-pub mod Ranges

@@ -1,6 +1,0 @@
-use Rattle.std.proofs.Common.{◌≡◌}
-use Rattle.tree_bytes.specs.Head.{leading}
-use Rattle.tree_bytes.proofs.head.head_of_few.Given as goal
-
-abbrev pub invariant-loop-at : goal.invariant-loop-at
-invariant-loop-at l = l.head ≡ leading l.at l.bytes

@@ -1,9 +1,0 @@
-use Rattle.tree_chain.proofs.Common.{rules, IfOk-weaker, On}
-use Rattle.tree_chain.proofs.Rests.{fresh_gives}
-use Rattle.tree_chain.proofs.laws.entries_on.Goals as goal
-
-pub entries_left-requires : goal.entries_left-requires
-entries_left-requires g c = (search rules, rw c.new.ensures c.requires)
-
-pub returns : goal.returns
-returns g c = IfOk-weaker c.entries_left.result _ _ (λ entries. fresh_gives c.args.arenas.now.leaves c.args.id On c.new.result entries.items c.new.ensures) c.entries_left.ensures
