@@ -1,7 +1,7 @@
 pub mod Ahead
 pub mod Common
+pub mod EndPairs
 pub mod Ended
-pub mod Ends
 pub mod Flips
 pub mod Moving
 pub mod Nearest

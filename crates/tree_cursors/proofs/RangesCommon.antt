@@ -14,7 +14,7 @@ pub use Rattle.tree_leaf.proofs.Along.{all_ahead, all_along, all_left, first_pla
 pub use Rattle.tree_leaf.proofs.ChainCommon.{Back, LeafWalk, On, Steps, Way, next_place}
 pub use Rattle.tree_leaf.specs.Walks.{first_on, here, stood_on}
 pub use Rattle.tree_leaf.specs.Ways.{StepsOver, ahead}
-pub use Rattle.tree_cursors.proofs.Ends.{end_inside, placed_in, root_stands}
+pub use Rattle.tree_cursors.proofs.EndPairs.{end_inside, placed_in, root_stands}
 pub use Rattle.tree_cursors.proofs.Places.{places_compare}
 pub use Rattle.tree_cursors.specs.Seek.{NoneMeets, Seeks}
 pub use Rattle.tree_cursors.specs.View.{EndStands, Kept, end_of, pair_of, seen}

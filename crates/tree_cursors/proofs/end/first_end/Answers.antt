@@ -1,5 +1,5 @@
 use Rattle.tree_cursors.proofs.Common.{rules, arith, bound_map, fits}
-use Rattle.tree_cursors.proofs.Ends.{found_end, found_none, root_linked, root_stands}
+use Rattle.tree_cursors.proofs.EndPairs.{found_end, found_none, root_linked, root_stands}
 use Rattle.tree_cursors.proofs.end.first_end.Goals as goal
 
 pub seek_at-requires : goal.seek_at-requires

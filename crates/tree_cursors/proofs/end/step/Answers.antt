@@ -1,5 +1,5 @@
 use Rattle.std.proofs.Common.{sym}
-use Rattle.tree_cursors.proofs.Ends.{goes_to, leaves_tree}
+use Rattle.tree_cursors.proofs.EndPairs.{goes_to, leaves_tree}
 use Rattle.tree_cursors.proofs.end.step.Goals as goal
 
 pub returns-in-None-clause-place : goal.returns-in-None-clause-place

@@ -1,4 +1,4 @@
-use Rattle.tree_cursors.proofs.Ends.{steps_in_leaf}
+use Rattle.tree_cursors.proofs.EndPairs.{steps_in_leaf}
 use Rattle.tree_cursors.proofs.end.step_in_leaf.Goals as goal
 
 pub returns-in-At : goal.returns-in-At
