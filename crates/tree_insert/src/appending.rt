@@ -1,5 +1,5 @@
 //! Appends to the last leaf of a part of a tree.
-ghost use Rattle.std.specs.Prelude.{◌≡◌, ◌×◌, ◌⊎◌, ◌<◌, ◌++◌, ℕ, IfOk, MatchOption, None, OnErr};
+ghost use Rattle.std.specs.Prelude.{◌≡◌, ◌⊎◌, ◌<◌, ◌++◌, ℕ, IfOk, MatchOption, None, OnErr};
 ghost use Rattle.std.specs.Option.{ForNone, ForSome};
 ghost use Rattle.tree_insert.specs.Appends.{Appends, AppendsRun, EndsEdge, HasNoLastLeaf, IsLastFor, IsLastLeaf};
 ghost use Rattle.tree_model.specs.Pairs.{IsAscending};
