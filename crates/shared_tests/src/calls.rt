@@ -2,10 +2,9 @@
 use crate::texts::{Texts, command_of, is_command, is_reply};
 use std::alloc::{AllocError, Global};
 use std::sync::Wait;
-use std::sync::ledger::Ledger;
 use test_support::refusals::{answers_again, begins, ends, is_out_of_memory};
 use tree_index::{Command, InsertError, Reply};
-use tree_shared::{Pass, SharedTreeIndexOf};
+use tree_shared::{Books, PassOf, SharedOver};
 
 // A call, and the reply to it.
 pub(crate) type Row = (Command<u64, u64>, Reply<u64>);
@@ -37,10 +36,10 @@ fn name_of(command: &Command<u64, u64>) -> &'static str {
 }
 
 // Returns what a call is answered. Returns `Err` with its command if it is refused.
-fn reply_to<C: Ledger, S: Ledger, M: Ledger, F: Ledger, D: Ledger, R: Wait, const LEN: usize>(
+fn reply_to<B: Books, R: Wait, const LEN: usize>(
     rt: &R,
-    shared: &SharedTreeIndexOf<String, String, C, S, M, F, D, LEN>,
-    pass: &mut Pass<C, S, M, F, D>,
+    shared: &SharedOver<String, String, B, LEN>,
+    pass: &mut PassOf<B>,
     command: Texts,
 ) -> Result<Reply<String>, Texts> {
     if pass.tally().calls > 10_000 {
@@ -79,11 +78,11 @@ fn reply_to<C: Ledger, S: Ledger, M: Ledger, F: Ledger, D: Ledger, R: Wait, cons
 
 // Makes a call of this row. Returns whether it was answered as it should be, or `Err` with its
 // command if it was refused: `None` if it didn't come back, or the call was counted.
-fn call_once<C: Ledger, S: Ledger, M: Ledger, F: Ledger, D: Ledger, R: Wait, const LEN: usize>(
+fn call_once<B: Books, R: Wait, const LEN: usize>(
     rt: &R,
     alloc: Global,
-    shared: &SharedTreeIndexOf<String, String, C, S, M, F, D, LEN>,
-    pass: &mut Pass<C, S, M, F, D>,
+    shared: &SharedOver<String, String, B, LEN>,
+    pass: &mut PassOf<B>,
     command: Texts,
     row: &Row,
 ) -> Result<bool, Option<Texts>> {
@@ -99,11 +98,11 @@ fn call_once<C: Ledger, S: Ledger, M: Ledger, F: Ledger, D: Ledger, R: Wait, con
 }
 
 // Makes a call, a second time if it is refused. Returns `Err` if a request of the test's own is.
-fn call_twice<C: Ledger, S: Ledger, M: Ledger, F: Ledger, D: Ledger, R: Wait, const LEN: usize>(
+fn call_twice<B: Books, R: Wait, const LEN: usize>(
     rt: &R,
     alloc: Global,
-    shared: &SharedTreeIndexOf<String, String, C, S, M, F, D, LEN>,
-    pass: &mut Pass<C, S, M, F, D>,
+    shared: &SharedOver<String, String, B, LEN>,
+    pass: &mut PassOf<B>,
     row: &Row,
 ) -> Result<Outcome, AllocError> {
     let command = command_of(alloc, &row.0)?;
@@ -124,19 +123,11 @@ fn call_twice<C: Ledger, S: Ledger, M: Ledger, F: Ledger, D: Ledger, R: Wait, co
 
 // Makes these calls, each a second time if it is refused, up to one that is refused both times or
 // goes wrong. Returns `Err` if a request of the test's own is refused.
-pub(crate) fn make_calls<
-    C: Ledger,
-    S: Ledger,
-    M: Ledger,
-    F: Ledger,
-    D: Ledger,
-    R: Wait,
-    const LEN: usize,
->(
+pub(crate) fn make_calls<B: Books, R: Wait, const LEN: usize>(
     rt: &R,
     alloc: Global,
-    shared: &SharedTreeIndexOf<String, String, C, S, M, F, D, LEN>,
-    pass: &mut Pass<C, S, M, F, D>,
+    shared: &SharedOver<String, String, B, LEN>,
+    pass: &mut PassOf<B>,
     rows: &[Row],
 ) -> Result<Outcome, AllocError> {
     let mut outcome = Outcome::Answered;

@@ -4,19 +4,18 @@ ghost use Rattle.std.specs.Ordering.{nat_cmp};
 ghost use Rattle.tree_model.specs.History.{IsHistoryOf};
 ghost use Rattle.tree_state.specs.Tallies.{sum_of};
 
-use std::sync::ledger::Ledger;
-use tree_shared::{Closed, Pass, SharedTreeIndex};
+use tree_shared::{Books, Closed, PassOf, SharedOver};
 
 /// Closes a shared index with its passes. Returns `None` if a pass is absent; the index and the
 /// passes end then.
-pub fn closed_with<C: Ledger, S: Ledger, M: Ledger, F: Ledger, D: Ledger>(
-    shared: SharedTreeIndex<u64, u64, C, S, M, F, D>,
-    passes: Vec<Pass<C, S, M, F, D>>,
+pub fn closed_with<B: Books>(
+    shared: SharedOver<u64, u64, B, 15>,
+    passes: Vec<PassOf<B>>,
 ) -> Option<Closed<u64, u64>>
     ensures replays { IfSome result
         (λ closed. IsHistoryOf nat_cmp (λ n. n) (λ n. n) closed.history.items closed.index.pairs) }
     ensures tally { IfSome result (λ closed. closed.tally ≡ sum_of passes.items) }
-    ensures missing { IfNone result (vec_len passes + 1 < C.parts) }
+    ensures missing { IfNone result (vec_len passes + 1 < B.calls.parts) }
 {
     match shared.close(passes) {
         Ok(closed) => Some(closed),

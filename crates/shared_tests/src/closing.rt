@@ -8,19 +8,18 @@ use crate::scenario::{NEW, Scenario, play};
 use std::alloc::{AllocError, Global};
 use std::process::Abort;
 use std::sync::Wait;
-use std::sync::ledger::Ledger;
 use std::thread::Threads;
 use std::time::Clock;
 use test_support::refusals::{is_granted_again, succeeds};
 use tree_index::{Command, Record, Reply, TreeIndex};
-use tree_shared::{Closed, Pass, SharedTreeIndex, Tally, Unclosed};
+use tree_shared::{Books, Closed, PassOf, SharedOver, Tally, UnclosedOver};
 
 const INSERT: Command<u64, u64> = Command::Insert(1, 10);
 
 // Whether nothing is counted if no call was made.
-pub(crate) fn closes_without_calls<C: Ledger, S: Ledger, M: Ledger, F: Ledger, D: Ledger>(
-    shared: SharedTreeIndex<u64, u64, C, S, M, F, D>,
-    passes: Vec<Pass<C, S, M, F, D>>,
+pub(crate) fn closes_without_calls<B: Books>(
+    shared: SharedOver<u64, u64, B, 15>,
+    passes: Vec<PassOf<B>>,
 ) -> bool {
     let nothing = Tally {
         calls: 0,
@@ -60,17 +59,10 @@ fn nothing_is_counted_without_workers(rt: HostRuntime) {
 
 // Whether the index comes back with the pass of the only call, one of two, and is closed with
 // both. `Err` if the call was refused.
-pub(crate) fn closes_with_all_passes<
-    C: Ledger,
-    S: Ledger,
-    M: Ledger,
-    F: Ledger,
-    D: Ledger,
-    R: Wait + Abort,
->(
+pub(crate) fn closes_with_all_passes<B: Books, R: Wait + Abort>(
     rt: &R,
-    shared: SharedTreeIndex<u64, u64, C, S, M, F, D>,
-    mut passes: Vec<Pass<C, S, M, F, D>>,
+    shared: SharedOver<u64, u64, B, 15>,
+    mut passes: Vec<PassOf<B>>,
 ) -> Result<bool, AllocError>
     requires { All (λ pass. pass ≡ none) passes.items }
 {
@@ -79,7 +71,7 @@ pub(crate) fn closes_with_all_passes<
     };
     let inserted = insert_by_first(rt, &shared, &mut passes);
     let calls = u64::from(inserted == Ok(Reply::Stored));
-    let Err(Unclosed::PassMissing(shared, passes)) = shared.close(passes) else {
+    let Err(UnclosedOver::PassMissing(shared, passes)) = shared.close(passes) else {
         return Ok(false);
     };
     if !closes_with(shared, passes, idle, calls)? {
@@ -89,10 +81,10 @@ pub(crate) fn closes_with_all_passes<
 }
 
 // Makes the insert by the first pass. `Err` if it is refused, or there is no pass.
-fn insert_by_first<C: Ledger, S: Ledger, M: Ledger, F: Ledger, D: Ledger, R: Wait + Abort>(
+fn insert_by_first<B: Books, R: Wait + Abort>(
     rt: &R,
-    shared: &SharedTreeIndex<u64, u64, C, S, M, F, D>,
-    passes: &mut Vec<Pass<C, S, M, F, D>>,
+    shared: &SharedOver<u64, u64, B, 15>,
+    passes: &mut Vec<PassOf<B>>,
 ) -> Result<Reply<u64>, AllocError> {
     match passes.get_mut(0) {
         Some(pass) => reply_to(rt, shared, pass, &INSERT),
@@ -101,10 +93,10 @@ fn insert_by_first<C: Ledger, S: Ledger, M: Ledger, F: Ledger, D: Ledger, R: Wai
 }
 
 // Whether the index is closed with a pass that has made so many calls and an idle one.
-fn closes_with<C: Ledger, S: Ledger, M: Ledger, F: Ledger, D: Ledger>(
-    shared: SharedTreeIndex<u64, u64, C, S, M, F, D>,
-    mut passes: Vec<Pass<C, S, M, F, D>>,
-    idle: Pass<C, S, M, F, D>,
+fn closes_with<B: Books>(
+    shared: SharedOver<u64, u64, B, 15>,
+    mut passes: Vec<PassOf<B>>,
+    idle: PassOf<B>,
     calls: u64,
 ) -> Result<bool, AllocError> {
     if !is_one_pass(&passes, calls) {
@@ -118,10 +110,7 @@ fn closes_with<C: Ledger, S: Ledger, M: Ledger, F: Ledger, D: Ledger>(
 }
 
 // Whether these are one pass that has made so many calls.
-fn is_one_pass<C: Ledger, S: Ledger, M: Ledger, F: Ledger, D: Ledger>(
-    passes: &[Pass<C, S, M, F, D>],
-    calls: u64,
-) -> bool {
+fn is_one_pass<B: Books>(passes: &[PassOf<B>], calls: u64) -> bool {
     match passes {
         [pass] => pass.tally().calls == calls,
         _ => false,
@@ -168,17 +157,10 @@ fn comes_back_without_a_pass(rt: HostRuntime) {
 
 // Whether the index and its history come back while a pass is out. `Err` if its only call was
 // refused.
-pub(crate) fn parts_while_a_pass_is_out<
-    C: Ledger,
-    S: Ledger,
-    M: Ledger,
-    F: Ledger,
-    D: Ledger,
-    R: Wait + Abort,
->(
+pub(crate) fn parts_while_a_pass_is_out<B: Books, R: Wait + Abort>(
     rt: &R,
-    shared: SharedTreeIndex<u64, u64, C, S, M, F, D>,
-    mut passes: Vec<Pass<C, S, M, F, D>>,
+    shared: SharedOver<u64, u64, B, 15>,
+    mut passes: Vec<PassOf<B>>,
 ) -> Result<bool, AllocError>
     requires { All (λ pass. pass ≡ none) passes.items }
 {

@@ -6,26 +6,17 @@ use crate::scenario::{Scenario, play};
 use std::alloc::{AllocError, Global};
 use std::process::Abort;
 use std::sync::Wait;
-use std::sync::ledger::Ledger;
 use test_support::refusals::succeeds;
 use tree_index::{Command, Record, Reply};
-use tree_shared::{ClosedOf, Pass, SharedTreeIndexOf, Tally};
+use tree_shared::{Books, ClosedOf, PassOf, SharedOver, Tally};
 use tree_support::flaws;
 
 // Inserts the numbers from 1 on, so many, up to one that is refused both times or goes wrong.
-fn insert_all<
-    C: Ledger,
-    S: Ledger,
-    M: Ledger,
-    F: Ledger,
-    D: Ledger,
-    R: Wait + Abort,
-    const LEN: usize,
->(
+fn insert_all<B: Books, R: Wait + Abort, const LEN: usize>(
     rt: &R,
     alloc: Global,
-    shared: &SharedTreeIndexOf<u64, u64, C, S, M, F, D, LEN>,
-    pass: &mut Pass<C, S, M, F, D>,
+    shared: &SharedOver<u64, u64, B, LEN>,
+    pass: &mut PassOf<B>,
     count: u64,
 ) -> Outcome {
     let mut outcome = Outcome::Answered;
@@ -88,19 +79,11 @@ fn is_grown<const LEN: usize>(
 
 // Inserts so many numbers in ascending order, closes the index and walks its tree. Returns whether
 // each is answered and stored. `Err` if one was refused.
-pub(crate) fn grows<
-    C: Ledger,
-    S: Ledger,
-    M: Ledger,
-    F: Ledger,
-    D: Ledger,
-    R: Wait + Abort,
-    const LEN: usize,
->(
+pub(crate) fn grows<B: Books, R: Wait + Abort, const LEN: usize>(
     rt: &R,
     alloc: Global,
-    shared: SharedTreeIndexOf<u64, u64, C, S, M, F, D, LEN>,
-    mut passes: Vec<Pass<C, S, M, F, D>>,
+    shared: SharedOver<u64, u64, B, LEN>,
+    mut passes: Vec<PassOf<B>>,
     count: u64,
 ) -> Result<bool, AllocError> {
     let pairs = ascending(alloc, count)?;

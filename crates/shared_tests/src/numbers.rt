@@ -3,24 +3,15 @@ use crate::calls::{Outcome, Row};
 use std::alloc::{AllocError, Global};
 use std::process::Abort;
 use std::sync::Wait;
-use std::sync::ledger::Ledger;
 use test_support::refusals::{answers_again, begins, ends, is_out_of_memory};
 use tree_index::{Command, InsertError, Reply};
-use tree_shared::{Pass, SharedTreeIndexOf};
+use tree_shared::{Books, PassOf, SharedOver};
 
 // Returns what a call is answered. Returns `Err` if an allocation fails in it.
-pub(crate) fn reply_to<
-    C: Ledger,
-    S: Ledger,
-    M: Ledger,
-    F: Ledger,
-    D: Ledger,
-    R: Wait + Abort,
-    const LEN: usize,
->(
+pub(crate) fn reply_to<B: Books, R: Wait + Abort, const LEN: usize>(
     rt: &R,
-    shared: &SharedTreeIndexOf<u64, u64, C, S, M, F, D, LEN>,
-    pass: &mut Pass<C, S, M, F, D>,
+    shared: &SharedOver<u64, u64, B, LEN>,
+    pass: &mut PassOf<B>,
     command: &Command<u64, u64>,
 ) -> Result<Reply<u64>, AllocError> {
     if pass.tally().calls > 10_000 {
@@ -56,18 +47,10 @@ pub(crate) fn reply_to<
 }
 
 // Makes these calls. Returns whether each was answered as it should be.
-pub(crate) fn are_answered<
-    C: Ledger,
-    S: Ledger,
-    M: Ledger,
-    F: Ledger,
-    D: Ledger,
-    R: Wait + Abort,
-    const LEN: usize,
->(
+pub(crate) fn are_answered<B: Books, R: Wait + Abort, const LEN: usize>(
     rt: &R,
-    shared: &SharedTreeIndexOf<u64, u64, C, S, M, F, D, LEN>,
-    pass: &mut Pass<C, S, M, F, D>,
+    shared: &SharedOver<u64, u64, B, LEN>,
+    pass: &mut PassOf<B>,
     rows: &[Row],
 ) -> bool {
     for (command, reply) in rows {
@@ -82,19 +65,11 @@ pub(crate) fn are_answered<
 const INSERT: &str = "SharedTreeIndex::insert";
 
 // Inserts an absent number, a second time if an allocation fails.
-pub(crate) fn insert_twice<
-    C: Ledger,
-    S: Ledger,
-    M: Ledger,
-    F: Ledger,
-    D: Ledger,
-    R: Wait + Abort,
-    const LEN: usize,
->(
+pub(crate) fn insert_twice<B: Books, R: Wait + Abort, const LEN: usize>(
     rt: &R,
     alloc: Global,
-    shared: &SharedTreeIndexOf<u64, u64, C, S, M, F, D, LEN>,
-    pass: &mut Pass<C, S, M, F, D>,
+    shared: &SharedOver<u64, u64, B, LEN>,
+    pass: &mut PassOf<B>,
     number: u64,
 ) -> Outcome {
     let insert = Command::Insert(number, number);

@@ -12,10 +12,9 @@ use std::alloc::{AllocError, Global};
 use std::ops::Bound;
 use std::process::Abort;
 use std::sync::Wait;
-use std::sync::ledger::Ledger;
 use test_support::refusals::succeeds;
 use tree_index::{Command, Reply};
-use tree_shared::{ClosedOf, Pass, SharedTreeIndex, SharedTreeIndexOf, Tally};
+use tree_shared::{Books, ClosedOf, PassOf, SharedOver, Tally};
 
 static CALLS: [Row; 10] = [
     (Command::Insert(1, 4), Reply::Stored),
@@ -103,11 +102,11 @@ fn tally_of(rows: &[Row]) -> Tally {
 }
 
 // Makes these calls by the first pass, and closes the index. Returns `None` if it can't be closed.
-fn closed_after<C: Ledger, S: Ledger, M: Ledger, F: Ledger, D: Ledger, R: Wait, const LEN: usize>(
+fn closed_after<B: Books, R: Wait, const LEN: usize>(
     rt: &R,
     alloc: Global,
-    shared: SharedTreeIndexOf<String, String, C, S, M, F, D, LEN>,
-    mut passes: Vec<Pass<C, S, M, F, D>>,
+    shared: SharedOver<String, String, B, LEN>,
+    mut passes: Vec<PassOf<B>>,
     rows: &[Row],
 ) -> Result<Option<(ClosedOf<String, String, LEN>, Outcome)>, AllocError> {
     let Some(pass) = passes.get_mut(0) else {
@@ -151,19 +150,11 @@ pub(crate) fn ample(holds: bool, outcome: Outcome) -> Result<bool, AllocError> {
 // Makes these calls over texts of numbers below 10. Returns whether they are answered as
 // they should be, and leave the pairs that they should. `Err` if one was refused.
 #[tactic(auto, using(tree_node::proofs::Common::fits))]
-pub(crate) fn each_call<
-    C: Ledger,
-    S: Ledger,
-    M: Ledger,
-    F: Ledger,
-    D: Ledger,
-    R: Wait,
-    const LEN: usize,
->(
+pub(crate) fn each_call<B: Books, R: Wait, const LEN: usize>(
     rt: &R,
     alloc: Global,
-    shared: SharedTreeIndexOf<String, String, C, S, M, F, D, LEN>,
-    passes: Vec<Pass<C, S, M, F, D>>,
+    shared: SharedOver<String, String, B, LEN>,
+    passes: Vec<PassOf<B>>,
     rows: &[Row],
 ) -> Result<bool, AllocError> {
     let Some((closed, outcome)) = closed_after(rt, alloc, shared, passes, rows)? else {
@@ -194,17 +185,10 @@ fn each_call_is_made_again(rt: HostRuntime) {
 
 // Whether an insert, which may be refused, and the removal of its key are told as they were
 // answered. `Err` if the insert was refused.
-pub(crate) fn insert_and_remove<
-    C: Ledger,
-    S: Ledger,
-    M: Ledger,
-    F: Ledger,
-    D: Ledger,
-    R: Wait + Abort,
->(
+pub(crate) fn insert_and_remove<B: Books, R: Wait + Abort>(
     rt: &R,
-    shared: SharedTreeIndex<u64, u64, C, S, M, F, D>,
-    mut passes: Vec<Pass<C, S, M, F, D>>,
+    shared: SharedOver<u64, u64, B, 15>,
+    mut passes: Vec<PassOf<B>>,
 ) -> Result<bool, AllocError>
     requires { All (λ pass. pass ≡ none) passes.items }
 {

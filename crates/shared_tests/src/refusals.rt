@@ -9,10 +9,9 @@ use std::alloc::{AllocError, Global};
 use std::cell::Cell;
 use std::ops::Bound;
 use std::sync::Wait;
-use std::sync::ledger::Ledger;
 use test_support::refusals::succeeds;
 use tree_index::{IndexKey, InsertError, SameClone};
-use tree_shared::{Blanks, Pass, SharedTreeIndex, Tally};
+use tree_shared::{Blanks, Books, PassOf, SharedOver, Tally};
 
 // A number that refuses one of its clones, after so many that it gives.
 #[derive(Drop)]
@@ -70,10 +69,10 @@ impl SameClone for Brittle {
 
 // Whether an insert that is refused a clone hands its pair back and leaves the tally, and is
 // answered later.
-fn hands_an_insert_back<C: Ledger, S: Ledger, M: Ledger, F: Ledger, D: Ledger, R: Wait>(
+fn hands_an_insert_back<B: Books, R: Wait>(
     rt: &R,
-    shared: &SharedTreeIndex<Brittle, Brittle, C, S, M, F, D>,
-    pass: &mut Pass<C, S, M, F, D>,
+    shared: &SharedOver<Brittle, Brittle, B, 15>,
+    pass: &mut PassOf<B>,
 ) -> Result<bool, AllocError>
     requires { pass.old.calls ≤ 9 }
 {
@@ -97,10 +96,10 @@ fn hands_an_insert_back<C: Ledger, S: Ledger, M: Ledger, F: Ledger, D: Ledger, R
 
 // Whether other calls that are refused a clone leave the tally of two calls, and hand a pair back.
 // A look-up is answered then.
-fn leaves_the_tally<C: Ledger, S: Ledger, M: Ledger, F: Ledger, D: Ledger, R: Wait>(
+fn leaves_the_tally<B: Books, R: Wait>(
     rt: &R,
-    shared: &SharedTreeIndex<Brittle, Brittle, C, S, M, F, D>,
-    pass: &mut Pass<C, S, M, F, D>,
+    shared: &SharedOver<Brittle, Brittle, B, 15>,
+    pass: &mut PassOf<B>,
 ) -> Result<bool, AllocError> {
     let before = pass.tally();
     if before.calls != 2 {
@@ -138,21 +137,19 @@ fn leaves_the_tally<C: Ledger, S: Ledger, M: Ledger, F: Ledger, D: Ledger, R: Wa
 
 // Whether such calls are answered so, and the closed index then has their one pair, and its
 // history the answered calls.
-pub(crate) fn refused_calls<C: Ledger, S: Ledger, M: Ledger, F: Ledger, D: Ledger, R: Wait>(
+pub(crate) fn refused_calls<B: Books, R: Wait>(
     rt: &R,
     alloc: Global,
     workers: usize,
     blanks: Blanks,
 ) -> Result<bool, AllocError>
-    requires calls { IsBlankFor workers blanks.calls C.name C.parts }
-    requires stored { IsBlankFor workers blanks.stored S.name S.parts }
-    requires removed { IsBlankFor workers blanks.removed M.name M.parts }
-    requires found { IsBlankFor workers blanks.found F.name F.parts }
-    requires done { IsBlankFor workers blanks.done D.name D.parts }
+    requires calls { IsBlankFor workers blanks.calls B.calls.name B.calls.parts }
+    requires stored { IsBlankFor workers blanks.stored B.stored.name B.stored.parts }
+    requires removed { IsBlankFor workers blanks.removed B.removed.name B.removed.parts }
+    requires found { IsBlankFor workers blanks.found B.found.name B.found.parts }
+    requires done { IsBlankFor workers blanks.done B.done.name B.done.parts }
 {
-    let (shared, mut passes) = SharedTreeIndex::<Brittle, Brittle, C, S, M, F, D>::new(
-        alloc, workers, blanks,
-    )?;
+    let (shared, mut passes) = SharedOver::<Brittle, Brittle, B, 15>::new(alloc, workers, blanks)?;
     let Some(pass) = passes.get_mut(0) else {
         return Ok(false);
     };
@@ -177,21 +174,19 @@ fn refusals_leave_no_trace(rt: HostRuntime) {
 
 // Whether a look-up of a text is told as it was answered. Where it is refused, the next one finds
 // the value. `Err` if it was refused.
-pub(crate) fn looks_a_text_up<C: Ledger, S: Ledger, M: Ledger, F: Ledger, D: Ledger, R: Wait>(
+pub(crate) fn looks_a_text_up<B: Books, R: Wait>(
     rt: &R,
     alloc: Global,
     workers: usize,
     blanks: Blanks,
 ) -> Result<bool, AllocError>
-    requires calls { IsBlankFor workers blanks.calls C.name C.parts }
-    requires stored { IsBlankFor workers blanks.stored S.name S.parts }
-    requires removed { IsBlankFor workers blanks.removed M.name M.parts }
-    requires found { IsBlankFor workers blanks.found F.name F.parts }
-    requires done { IsBlankFor workers blanks.done D.name D.parts }
+    requires calls { IsBlankFor workers blanks.calls B.calls.name B.calls.parts }
+    requires stored { IsBlankFor workers blanks.stored B.stored.name B.stored.parts }
+    requires removed { IsBlankFor workers blanks.removed B.removed.name B.removed.parts }
+    requires found { IsBlankFor workers blanks.found B.found.name B.found.parts }
+    requires done { IsBlankFor workers blanks.done B.done.name B.done.parts }
 {
-    let (shared, mut passes) = SharedTreeIndex::<String, String, C, S, M, F, D>::new(
-        alloc, workers, blanks,
-    )?;
+    let (shared, mut passes) = SharedOver::<String, String, B, 15>::new(alloc, workers, blanks)?;
     let Some(pass) = passes.get_mut(0) else {
         return Ok(false);
     };
@@ -201,10 +196,10 @@ pub(crate) fn looks_a_text_up<C: Ledger, S: Ledger, M: Ledger, F: Ledger, D: Led
 }
 
 // Looks a text up, a second time where that is refused.
-fn find_text<C: Ledger, S: Ledger, M: Ledger, F: Ledger, D: Ledger, R: Wait>(
+fn find_text<B: Books, R: Wait>(
     rt: &R,
-    shared: &SharedTreeIndex<String, String, C, S, M, F, D>,
-    pass: &mut Pass<C, S, M, F, D>,
+    shared: &SharedOver<String, String, B, 15>,
+    pass: &mut PassOf<B>,
     key: &String,
 ) -> Result<bool, AllocError>
     requires { pass.old.calls ≤ 1 }

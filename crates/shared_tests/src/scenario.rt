@@ -13,11 +13,10 @@ use std::alloc::{AllocError, Global};
 use std::marker::Brand;
 use std::process::Abort;
 use std::sync::Wait;
-use std::sync::ledger::Ledger;
 use std::thread::Threads;
 use std::time::Clock;
 use test_support::refusals::{begins, ends};
-use tree_shared::{Blanks, SharedTreeIndex, SharedTreeIndexOf};
+use tree_shared::{Blanks, Books, SharedOver};
 
 // The name of the call that makes a shared index, as `bench/refusals` lists it.
 pub(crate) const NEW: &str = "SharedTreeIndex::new";
@@ -51,55 +50,40 @@ pub(crate) fn play<R: Threads + Wait + Clock + Abort + Sync>(
     requires { workers < usize.MAX }
 {
     let blanks = Blanks::new(workers);
-    assert!(rt;
-        is_answered::<Brand, Brand, Brand, Brand, Brand, R>(rt, alloc, workers, scenario, blanks,)?
-    );
+    assert!(rt; is_answered::<Brand, R>(rt, alloc, workers, scenario, blanks,)?);
     Ok(())
 }
 
 // Whether a scenario is answered as it should be.
-fn is_answered<
-    C: Ledger + Send + Sync,
-    S: Ledger + Send + Sync,
-    M: Ledger + Send + Sync,
-    F: Ledger + Send + Sync,
-    D: Ledger + Send + Sync,
-    R: Threads + Wait + Clock + Abort + Sync,
->(
+fn is_answered<B: Books + Send + Sync, R: Threads + Wait + Clock + Abort + Sync>(
     rt: &R,
     alloc: Global,
     workers: usize,
     scenario: Scenario,
     blanks: Blanks,
 ) -> Result<bool, AllocError>
-    requires calls { IsBlankFor workers blanks.calls C.name C.parts }
-    requires stored { IsBlankFor workers blanks.stored S.name S.parts }
-    requires removed { IsBlankFor workers blanks.removed M.name M.parts }
-    requires found { IsBlankFor workers blanks.found F.name F.parts }
-    requires done { IsBlankFor workers blanks.done D.name D.parts }
+    requires calls { IsBlankFor workers blanks.calls B.calls.name B.calls.parts }
+    requires stored { IsBlankFor workers blanks.stored B.stored.name B.stored.parts }
+    requires removed { IsBlankFor workers blanks.removed B.removed.name B.removed.parts }
+    requires found { IsBlankFor workers blanks.found B.found.name B.found.parts }
+    requires done { IsBlankFor workers blanks.done B.done.name B.done.parts }
 {
     if let Scenario::Refusals = scenario {
-        return refused_calls::<C, S, M, F, D, R>(rt, alloc, workers, blanks);
+        return refused_calls::<B, R>(rt, alloc, workers, blanks);
     }
     if let Scenario::LookUpOfText = scenario {
-        return looks_a_text_up::<C, S, M, F, D, R>(rt, alloc, workers, blanks);
+        return looks_a_text_up::<B, R>(rt, alloc, workers, blanks);
     }
     if let Scenario::Calls(rows) = scenario {
-        let (shared, passes) = SharedTreeIndex::<String, String, C, S, M, F, D>::new(
-            alloc, workers, blanks,
-        )?;
+        let (shared, passes) = SharedOver::<String, String, B, 15>::new(alloc, workers, blanks)?;
         return each_call(rt, alloc, shared, passes, rows);
     }
     if let Scenario::SmallCalls(rows) = scenario {
-        let (shared, passes) = SharedTreeIndexOf::<String, String, C, S, M, F, D, 7>::new(
-            alloc, workers, blanks,
-        )?;
+        let (shared, passes) = SharedOver::<String, String, B, 7>::new(alloc, workers, blanks)?;
         return each_call(rt, alloc, shared, passes, rows);
     }
     if let Scenario::SmallGrows(_) | Scenario::SmallThreads(_) = scenario {
-        let (shared, passes) = SharedTreeIndexOf::<u64, u64, C, S, M, F, D, 7>::new(
-            alloc, workers, blanks,
-        )?;
+        let (shared, passes) = SharedOver::<u64, u64, B, 7>::new(alloc, workers, blanks)?;
         return match scenario {
             Scenario::SmallGrows(count) => grows(rt, alloc, shared, passes, count),
             Scenario::SmallThreads(race) => run_small_race(rt, alloc, shared, passes, race),
@@ -107,7 +91,7 @@ fn is_answered<
         };
     }
     begins(alloc, NEW);
-    let made = SharedTreeIndex::<u64, u64, C, S, M, F, D>::new(alloc, workers, blanks);
+    let made = SharedOver::<u64, u64, B, 15>::new(alloc, workers, blanks);
     ends(alloc);
     let (shared, passes) = made?;
     match scenario {

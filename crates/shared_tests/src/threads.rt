@@ -7,27 +7,26 @@ use std::alloc::{AllocError, Global};
 use std::process::Abort;
 use std::sync::Wait;
 use std::sync::atomic::{AtomicU64, Ordering};
-use std::sync::ledger::Ledger;
 use std::thread;
 use std::thread::Threads;
 use std::time::{Clock, Duration};
 use test_support::refusals::succeeds;
-use tree_shared::{Pass, SharedTreeIndex, SharedTreeIndexOf};
+use tree_shared::{Books, PassOf, SharedOver};
 
 // A thread's number and pass, and whether each of its calls was answered.
 #[derive(Drop)]
-struct Racer<C: Ledger, S: Ledger, M: Ledger, F: Ledger, D: Ledger> {
+struct Racer<B: Books> {
     number: u64,
-    pass: Pass<C, S, M, F, D>,
+    pass: PassOf<B>,
     served: bool,
 }
 
-impl<C: Ledger, S: Ledger, M: Ledger, F: Ledger, D: Ledger> Racer<C, S, M, F, D> {
+impl<B: Books> Racer<B> {
     // Makes its calls.
     fn run<R: Wait + Abort, const LEN: usize>(
         mut self,
         rt: &R,
-        shared: &SharedTreeIndexOf<u64, u64, C, S, M, F, D, LEN>,
+        shared: &SharedOver<u64, u64, B, LEN>,
         race: Race,
     ) -> Self {
         for made in 0..race.calls(self.number) {
@@ -39,10 +38,7 @@ impl<C: Ledger, S: Ledger, M: Ledger, F: Ledger, D: Ledger> Racer<C, S, M, F, D>
 }
 
 // A racer for each pass, numbered from 0.
-fn racers<C: Ledger, S: Ledger, M: Ledger, F: Ledger, D: Ledger>(
-    alloc: Global,
-    passes: Vec<Pass<C, S, M, F, D>>,
-) -> Result<Vec<Racer<C, S, M, F, D>>, AllocError> {
+fn racers<B: Books>(alloc: Global, passes: Vec<PassOf<B>>) -> Result<Vec<Racer<B>>, AllocError> {
     let mut racers = Vec::with_capacity(alloc, passes.len())?;
     for pass in passes {
         let number = racers.len() as u64;
@@ -56,11 +52,11 @@ fn racers<C: Ledger, S: Ledger, M: Ledger, F: Ledger, D: Ledger>(
 }
 
 // The passes of racers, and whether each call of each was answered.
-fn passes_of<C: Ledger, S: Ledger, M: Ledger, F: Ledger, D: Ledger>(
+fn passes_of<B: Books>(
     alloc: Global,
-    racers: Vec<Racer<C, S, M, F, D>>,
+    racers: Vec<Racer<B>>,
     race: Race,
-) -> Result<(Vec<Pass<C, S, M, F, D>>, bool), AllocError> {
+) -> Result<(Vec<PassOf<B>>, bool), AllocError> {
     let mut passes = Vec::with_capacity(alloc, racers.len())?;
     let mut served = true;
     for racer in racers {
@@ -89,21 +85,13 @@ fn all_meet<R: Clock>(rt: &R, here: &AtomicU64, racers: u64) -> bool {
 }
 
 // Lets a thread for each pass make its calls, once all are there.
-fn raced<
-    C: Ledger + Send + Sync,
-    S: Ledger + Send + Sync,
-    M: Ledger + Send + Sync,
-    F: Ledger + Send + Sync,
-    D: Ledger + Send + Sync,
-    R: Threads + Wait + Clock + Abort + Sync,
-    const LEN: usize,
->(
+fn raced<B: Books + Send + Sync, R: Threads + Wait + Clock + Abort + Sync, const LEN: usize>(
     rt: &R,
     alloc: Global,
-    shared: &SharedTreeIndexOf<u64, u64, C, S, M, F, D, LEN>,
-    passes: Vec<Pass<C, S, M, F, D>>,
+    shared: &SharedOver<u64, u64, B, LEN>,
+    passes: Vec<PassOf<B>>,
     race: Race,
-) -> Result<(Vec<Pass<C, S, M, F, D>>, bool), AllocError> {
+) -> Result<(Vec<PassOf<B>>, bool), AllocError> {
     let here = AtomicU64::new(0);
     let racers = thread::map_vec(
         rt,
@@ -119,18 +107,11 @@ fn raced<
 
 // Runs a race with these passes. Returns whether it leaves what it can, or `Err` if a call was
 // refused.
-pub(crate) fn run_race<
-    C: Ledger + Send + Sync,
-    S: Ledger + Send + Sync,
-    M: Ledger + Send + Sync,
-    F: Ledger + Send + Sync,
-    D: Ledger + Send + Sync,
-    R: Threads + Wait + Clock + Abort + Sync,
->(
+pub(crate) fn run_race<B: Books + Send + Sync, R: Threads + Wait + Clock + Abort + Sync>(
     rt: &R,
     alloc: Global,
-    shared: SharedTreeIndex<u64, u64, C, S, M, F, D>,
-    passes: Vec<Pass<C, S, M, F, D>>,
+    shared: SharedOver<u64, u64, B, 15>,
+    passes: Vec<PassOf<B>>,
     race: Race,
 ) -> Result<bool, AllocError> {
     let (mut passes, mut served) = raced(rt, alloc, &shared, passes, race)?;
@@ -144,18 +125,11 @@ pub(crate) fn run_race<
 }
 
 // The same over an index of seven pairs a leaf.
-pub(crate) fn run_small_race<
-    C: Ledger + Send + Sync,
-    S: Ledger + Send + Sync,
-    M: Ledger + Send + Sync,
-    F: Ledger + Send + Sync,
-    D: Ledger + Send + Sync,
-    R: Threads + Wait + Clock + Abort + Sync,
->(
+pub(crate) fn run_small_race<B: Books + Send + Sync, R: Threads + Wait + Clock + Abort + Sync>(
     rt: &R,
     alloc: Global,
-    shared: SharedTreeIndexOf<u64, u64, C, S, M, F, D, 7>,
-    passes: Vec<Pass<C, S, M, F, D>>,
+    shared: SharedOver<u64, u64, B, 7>,
+    passes: Vec<PassOf<B>>,
     race: Race,
 ) -> Result<bool, AllocError> {
     let (mut passes, mut served) = raced(rt, alloc, &shared, passes, race)?;

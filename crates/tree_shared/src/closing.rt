@@ -1,11 +1,10 @@
 //! What is left when the sharing of an index ends.
 
-use crate::shared::SharedTreeIndexOf;
+use crate::shared::SharedOver;
 use std::error::Error;
 use std::fmt;
-use std::sync::ledger::Ledger;
 use tree_index::{IndexKey, Record, SameClone, TreeIndexOf};
-use tree_state::{Pass, Tally};
+use tree_state::{Books, PassOf, Tally};
 
 /// What a closed index of fifteen pairs a leaf leaves. See [`ClosedOf`].
 pub type Closed<K, V> = ClosedOf<K, V, 15>;
@@ -24,20 +23,19 @@ pub struct ClosedOf<K: IndexKey, V: Drop, const LEN: usize> {
 /// Why an index of fifteen pairs a leaf was not closed. See [`UnclosedOf`].
 pub type Unclosed<K, V, C, S, M, F, D> = UnclosedOf<K, V, C, S, M, F, D, 15>;
 
+/// Why an index was not closed. See [`UnclosedOver`].
+pub type UnclosedOf<K, V, C, S, M, F, D, const LEN: usize> = UnclosedOver<
+    K,
+    V,
+    (C, S, M, F, D),
+    LEN,
+>;
+
 /// Why an index was not closed. Hands everything back. `LEN` is 7 or 15.
 #[derive(Drop)]
-pub enum UnclosedOf<
-    K: IndexKey + SameClone,
-    V: SameClone,
-    C: Ledger,
-    S: Ledger,
-    M: Ledger,
-    F: Ledger,
-    D: Ledger,
-    const LEN: usize,
-> {
+pub enum UnclosedOver<K: IndexKey + SameClone, V: SameClone, B: Books, const LEN: usize> {
     /// A pass is absent.
-    PassMissing(SharedTreeIndexOf<K, V, C, S, M, F, D, LEN>, Vec<Pass<C, S, M, F, D>>),
+    PassMissing(SharedOver<K, V, B, LEN>, Vec<PassOf<B>>),
 }
 
 impl<K: IndexKey + fmt::Debug, V: Drop + fmt::Debug, const LEN: usize> fmt::Debug
@@ -53,18 +51,14 @@ impl<K: IndexKey + fmt::Debug, V: Drop + fmt::Debug, const LEN: usize> fmt::Debu
     }
 }
 
-impl<K, V, C, S, M, F, D, const LEN: usize> fmt::Debug for UnclosedOf<K, V, C, S, M, F, D, LEN>
+impl<K, V, B, const LEN: usize> fmt::Debug for UnclosedOver<K, V, B, LEN>
 where
     K: IndexKey + SameClone,
     V: SameClone,
-    C: Ledger,
-    S: Ledger,
-    M: Ledger,
-    F: Ledger,
-    D: Ledger,
+    B: Books,
 {
     fn fmt<W: fmt::Write>(&self, f: &mut fmt::Formatter<W>) -> fmt::Result {
-        let UnclosedOf::PassMissing(_, passes) = self;
+        let UnclosedOver::PassMissing(_, passes) = self;
         write!(
             f,
             "PassMissing(SharedTreeIndex {{ .. }}, {:?})",
@@ -73,28 +67,20 @@ where
     }
 }
 
-impl<K, V, C, S, M, F, D, const LEN: usize> fmt::Display for UnclosedOf<K, V, C, S, M, F, D, LEN>
+impl<K, V, B, const LEN: usize> fmt::Display for UnclosedOver<K, V, B, LEN>
 where
     K: IndexKey + SameClone,
     V: SameClone,
-    C: Ledger,
-    S: Ledger,
-    M: Ledger,
-    F: Ledger,
-    D: Ledger,
+    B: Books,
 {
     fn fmt<W: fmt::Write>(&self, f: &mut fmt::Formatter<W>) -> fmt::Result {
         write!(f, "a pass is missing")
     }
 }
 
-impl<K, V, C, S, M, F, D, const LEN: usize> Error for UnclosedOf<K, V, C, S, M, F, D, LEN>
+impl<K, V, B, const LEN: usize> Error for UnclosedOver<K, V, B, LEN>
 where
     K: IndexKey + SameClone,
     V: SameClone,
-    C: Ledger,
-    S: Ledger,
-    M: Ledger,
-    F: Ledger,
-    D: Ledger,
+    B: Books,
 {}

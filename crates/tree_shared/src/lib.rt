@@ -14,8 +14,8 @@ mod shared;
 mod storm;
 mod workers;
 
-pub use closing::{Closed, ClosedOf, Unclosed, UnclosedOf};
+pub use closing::{Closed, ClosedOf, Unclosed, UnclosedOf, UnclosedOver};
 pub use gate::{Gate, OpenGate};
-pub use shared::{SharedTreeIndex, SharedTreeIndexOf};
+pub use shared::{SharedOver, SharedTreeIndex, SharedTreeIndexOf};
 pub use storm::{StormError, run_workers};
-pub use tree_state::{Blanks, Pass, Tally};
+pub use tree_state::{Blanks, Books, Pass, PassOf, Tally};

@@ -8,38 +8,20 @@ ghost use Rattle.tree_state.specs.Tallies.{raised, tally, reply_of_insert, reply
 ghost use Rattle.tree_shared.specs.Replies.{is_reply_to};
 
 use crate::serves::Serves;
-use std::sync::ledger::Ledger;
 use tree_index::{Command, IndexKey, InsertError, Reply, SameClone};
-use tree_state::{Books, Pass, PreparedPair, StateOf, Workers};
+use tree_state::{Books, BooksOf, PassOf, PreparedPair, StateOf, Workers};
 
 /// What lies under the lock: the state, and the books that tally its history. `LEN` is 7 or 15.
-pub struct Locked<
-    K: IndexKey + SameClone,
-    V: SameClone,
-    C: Ledger,
-    S: Ledger,
-    M: Ledger,
-    F: Ledger,
-    D: Ledger,
-    const LEN: usize,
-> {
+pub struct Locked<K: IndexKey + SameClone, V: SameClone, B: Books, const LEN: usize> {
     pub(crate) state: StateOf<K, V, LEN>,
-    pub(crate) books: Books<C, S, M, F, D>,
-    pub(crate) workers: Workers<C, S, M, F, D>,
+    pub(crate) books: BooksOf<B>,
+    pub(crate) workers: Workers<B>,
     ghost tallied: { books ≡ tally state.history },
 }
 
 // Written out, so that it is proved here and not once more in each crate that shares an index.
-impl<
-    K: IndexKey + SameClone,
-    V: SameClone,
-    C: Ledger,
-    S: Ledger,
-    M: Ledger,
-    F: Ledger,
-    D: Ledger,
-    const LEN: usize,
-> Drop for Locked<K, V, C, S, M, F, D, LEN> {
+impl<K: IndexKey + SameClone, V: SameClone, B: Books, const LEN: usize> Drop
+    for Locked<K, V, B, LEN> {
     fn drop(self) {
         let Locked {
             state,
@@ -52,24 +34,9 @@ impl<
     }
 }
 
-impl<
-    K: IndexKey + SameClone,
-    V: SameClone,
-    C: Ledger,
-    S: Ledger,
-    M: Ledger,
-    F: Ledger,
-    D: Ledger,
-    const LEN: usize,
-> Locked<K, V, C, S, M, F, D, LEN> {
+impl<K: IndexKey + SameClone, V: SameClone, B: Books, const LEN: usize> Locked<K, V, B, LEN> {
     /// Returns the state, the books that tally its history, and what is known of the workers.
-    pub fn into_parts(
-        self,
-    ) -> (
-        StateOf<K, V, LEN>,
-        Books<C, S, M, F, D>,
-        Workers<C, S, M, F, D>,
-    )
+    pub fn into_parts(self) -> (StateOf<K, V, LEN>, BooksOf<B>, Workers<B>)
         ensures parts { (result.0 ≡ self.state) × (result.1 ≡ self.books) × (result.2 ≡ self.workers) }
         ensures tallied { result.1 ≡ tally result.0.history }
     {
@@ -87,7 +54,7 @@ impl<
     #[inline(always)]
     pub fn apply(
         &mut self,
-        pass: &mut Pass<C, S, M, F, D>,
+        pass: &mut PassOf<B>,
         command: Command<K, V>,
     ) -> Result<Reply<V>, Command<K, V>>
         requires room { pass.old.calls < u64.MAX }
@@ -114,7 +81,7 @@ impl<
     #[inline(always)]
     pub fn insert(
         &mut self,
-        pass: &mut Pass<C, S, M, F, D>,
+        pass: &mut PassOf<B>,
         pair: PreparedPair<K, V>,
     ) -> Result<(), InsertError<K, V>>
         requires room { pass.old.calls < u64.MAX }
@@ -140,11 +107,7 @@ impl<
     ///
     /// Returns `Err` with the pair if an allocation is refused; nothing changed then.
     #[inline(always)]
-    pub fn upsert(
-        &mut self,
-        pass: &mut Pass<C, S, M, F, D>,
-        pair: PreparedPair<K, V>,
-    ) -> Result<(), (K, V)>
+    pub fn upsert(&mut self, pass: &mut PassOf<B>, pair: PreparedPair<K, V>) -> Result<(), (K, V)>
         requires room { pass.old.calls < u64.MAX }
         ensures ok { IfOk result
             (λ _. Appends K.cmp K.seen V.seen self.old.state self.new.state
@@ -164,17 +127,11 @@ impl<
     }
 }
 
-impl<
-    K: IndexKey + SameClone,
-    V: SameClone,
-    C: Ledger,
-    S: Ledger,
-    M: Ledger,
-    F: Ledger,
-    D: Ledger,
-    const LEN: usize,
-> Serves<Command<K, V>, Result<Reply<V>, Command<K, V>>, C, S, M, F, D>
-    for Locked<K, V, C, S, M, F, D, LEN> {
+impl<K: IndexKey + SameClone, V: SameClone, B: Books, const LEN: usize> Serves<
+    Command<K, V>,
+    Result<Reply<V>, Command<K, V>>,
+    B,
+> for Locked<K, V, B, LEN> {
     ghost counts = { λ command answer old new. IsCounted command answer old new };
 
     ghost records = { λ old command answer new.
@@ -183,24 +140,18 @@ impl<
     #[inline(always)]
     fn serve(
         &mut self,
-        pass: &mut Pass<C, S, M, F, D>,
+        pass: &mut PassOf<B>,
         command: Command<K, V>,
     ) -> Result<Reply<V>, Command<K, V>> {
         self.apply(pass, command)
     }
 }
 
-impl<
-    K: IndexKey + SameClone,
-    V: SameClone,
-    C: Ledger,
-    S: Ledger,
-    M: Ledger,
-    F: Ledger,
-    D: Ledger,
-    const LEN: usize,
-> Serves<PreparedPair<K, V>, Result<(), InsertError<K, V>>, C, S, M, F, D>
-    for Locked<K, V, C, S, M, F, D, LEN> {
+impl<K: IndexKey + SameClone, V: SameClone, B: Books, const LEN: usize> Serves<
+    PreparedPair<K, V>,
+    Result<(), InsertError<K, V>>,
+    B,
+> for Locked<K, V, B, LEN> {
     ghost counts = { λ pair answer old new. IsInsertCounted pair answer old new };
 
     ghost records = { λ old pair answer new.
@@ -209,35 +160,25 @@ impl<
     #[inline(always)]
     fn serve(
         &mut self,
-        pass: &mut Pass<C, S, M, F, D>,
+        pass: &mut PassOf<B>,
         pair: PreparedPair<K, V>,
     ) -> Result<(), InsertError<K, V>> {
         self.insert(pass, pair)
     }
 }
 
-impl<
-    K: IndexKey + SameClone,
-    V: SameClone,
-    C: Ledger,
-    S: Ledger,
-    M: Ledger,
-    F: Ledger,
-    D: Ledger,
-    const LEN: usize,
-> Serves<PreparedPair<K, V>, Result<(), (K, V)>, C, S, M, F, D>
-    for Locked<K, V, C, S, M, F, D, LEN> {
+impl<K: IndexKey + SameClone, V: SameClone, B: Books, const LEN: usize> Serves<
+    PreparedPair<K, V>,
+    Result<(), (K, V)>,
+    B,
+> for Locked<K, V, B, LEN> {
     ghost counts = { λ pair answer old new. IsUpsertCounted pair answer old new };
 
     ghost records = { λ old pair answer new.
         RecordsUpsert K.cmp K.seen V.seen old.state new.state pair answer };
 
     #[inline(always)]
-    fn serve(
-        &mut self,
-        pass: &mut Pass<C, S, M, F, D>,
-        pair: PreparedPair<K, V>,
-    ) -> Result<(), (K, V)> {
+    fn serve(&mut self, pass: &mut PassOf<B>, pair: PreparedPair<K, V>) -> Result<(), (K, V)> {
         self.upsert(pass, pair)
     }
 }

@@ -2,15 +2,14 @@
 ghost use Rattle.std.specs.Prelude.{◌<◌};
 ghost use Rattle.tree_state.specs.declared.tally.Tally.{Tally};
 
-use std::sync::ledger::Ledger;
 use std::sync::{Mutex, Wait};
-use tree_state::Pass;
+use tree_state::{Books, PassOf};
 
 /// What answers requests, and counts the answers in the pass of the worker that asks.
 ///
 /// A call that takes the lock knows what it guards by this trait alone, so it speaks of no number
 /// of slots.
-pub trait Serves<Q, A, C: Ledger, S: Ledger, M: Ledger, F: Ledger, D: Ledger>: Drop {
+pub trait Serves<Q, A, B: Books>: Drop {
     // What an answer to a request makes of the pass's tally.
     ghost counts: { Q → A → Tally → Tally → Type 0 };
 
@@ -18,7 +17,7 @@ pub trait Serves<Q, A, C: Ledger, S: Ledger, M: Ledger, F: Ledger, D: Ledger>: D
     ghost records: { Self → Q → A → Self → Type 0 };
 
     /// Answers a request.
-    fn serve(&mut self, pass: &mut Pass<C, S, M, F, D>, request: Q) -> A
+    fn serve(&mut self, pass: &mut PassOf<B>, request: Q) -> A
         requires { pass.old.calls < u64.MAX }
         ensures counted { counts request result pass.old pass.new }
         ensures recorded { records self.old request result self.new };
@@ -29,17 +28,12 @@ pub trait Serves<Q, A, C: Ledger, S: Ledger, M: Ledger, F: Ledger, D: Ledger>: D
 /// No clause sees what the lock guards. But nothing else makes an `A` of a `Q`, so the answer is
 /// what `serve` gave to this request.
 #[inline(always)]
-pub fn serve<
-    Q,
-    A,
-    C: Ledger,
-    S: Ledger,
-    M: Ledger,
-    F: Ledger,
-    D: Ledger,
-    T: Serves<Q, A, C, S, M, F, D>,
-    R: Wait,
->(lock: &Mutex<T>, rt: &R, pass: &mut Pass<C, S, M, F, D>, request: Q) -> A
+pub fn serve<Q, A, B: Books, T: Serves<Q, A, B>, R: Wait>(
+    lock: &Mutex<T>,
+    rt: &R,
+    pass: &mut PassOf<B>,
+    request: Q,
+) -> A
     requires { pass.old.calls < u64.MAX }
     ensures { T.counts request result pass.old pass.new }
 {

@@ -7,51 +7,41 @@ ghost use Rattle.tree_state.specs.Ledgers.{IsBlankFor};
 ghost use Rattle.tree_shared.specs.Replies.{is_reply_to};
 ghost use Rattle.tree_state.specs.Tallies.{none, raised, sum_of, tally, pair_of, reply_of_insert, reply_of_upsert, reply_of_remove, reply_of_removal, reply_of_peek};
 
-use crate::closing::{ClosedOf, UnclosedOf};
+use crate::closing::{ClosedOf, UnclosedOver};
 use crate::locked::Locked;
 use crate::serves::serve;
 use std::alloc::{AllocError, Global};
 use std::fmt;
 use std::marker::PhantomData;
 use std::ops::Bound;
-use std::sync::ledger::Ledger;
 use std::sync::{Mutex, Wait};
 use tree_index::{Command, IndexKey, InsertError, Record, Reply, SameClone, TreeIndexOf};
 use tree_state::{
-    Blanks, Books, Ledgers, Pass, PreparedPair, StateOf, Workers, found_value, is_removed,
+    Blanks, Books, BooksOf, Ledgers, PassOf, PreparedPair, StateOf, Workers, found_value,
+    is_removed,
 };
 
-/// An index of fifteen pairs a leaf that threads share by reference. See [`SharedTreeIndexOf`].
+/// An index of fifteen pairs a leaf that threads share by reference. See [`SharedOver`].
 pub type SharedTreeIndex<K, V, C, S, M, F, D> = SharedTreeIndexOf<K, V, C, S, M, F, D, 15>;
+
+/// An index that threads share by reference, whose five ledgers are types. See [`SharedOver`].
+pub type SharedTreeIndexOf<K, V, C, S, M, F, D, const LEN: usize> = SharedOver<
+    K,
+    V,
+    (C, S, M, F, D),
+    LEN,
+>;
 
 /// An index that threads share by reference, each with a pass of its own. `LEN` is 7 or 15.
 ///
 /// One lock guards the index, the history of its calls and the tally of the history, and each call
 /// takes it once. A call is counted in the pass it is made by.
 #[derive(Drop)]
-pub struct SharedTreeIndexOf<
-    K: IndexKey + SameClone,
-    V: SameClone,
-    C: Ledger,
-    S: Ledger,
-    M: Ledger,
-    F: Ledger,
-    D: Ledger,
-    const LEN: usize,
-> {
-    locked: Mutex<Locked<K, V, C, S, M, F, D, LEN>>,
+pub struct SharedOver<K: IndexKey + SameClone, V: SameClone, B: Books, const LEN: usize> {
+    locked: Mutex<Locked<K, V, B, LEN>>,
 }
 
-impl<
-    K: IndexKey + SameClone,
-    V: SameClone,
-    C: Ledger,
-    S: Ledger,
-    M: Ledger,
-    F: Ledger,
-    D: Ledger,
-    const LEN: usize,
-> SharedTreeIndexOf<K, V, C, S, M, F, D, LEN> {
+impl<K: IndexKey + SameClone, V: SameClone, B: Books, const LEN: usize> SharedOver<K, V, B, LEN> {
     /// Creates an empty index, and a pass for each worker, which has counted nothing.
     ///
     /// Returns `Err` if it cannot allocate the passes, which is all it allocates. The caller must
@@ -67,13 +57,13 @@ impl<
         alloc: Global,
         workers: usize,
         blanks: Blanks,
-    ) -> Result<(Self, Vec<Pass<C, S, M, F, D>>), AllocError>
+    ) -> Result<(Self, Vec<PassOf<B>>), AllocError>
         requires len { IsLen LEN }
-        requires calls { IsBlankFor workers blanks.calls C.name C.parts }
-        requires stored { IsBlankFor workers blanks.stored S.name S.parts }
-        requires removed { IsBlankFor workers blanks.removed M.name M.parts }
-        requires found { IsBlankFor workers blanks.found F.name F.parts }
-        requires done { IsBlankFor workers blanks.done D.name D.parts }
+        requires calls { IsBlankFor workers blanks.calls B.calls.name B.calls.parts }
+        requires stored { IsBlankFor workers blanks.stored B.stored.name B.stored.parts }
+        requires removed { IsBlankFor workers blanks.removed B.removed.name B.removed.parts }
+        requires found { IsBlankFor workers blanks.found B.found.name B.found.parts }
+        requires done { IsBlankFor workers blanks.done B.done.name B.done.parts }
         ensures count { IfOk result (λ made. vec_len made.1 ≡ workers) }
         ensures zero { IfOk result (λ made. All (λ pass. pass ≡ none) made.1.items) }
     {
@@ -88,10 +78,10 @@ impl<
         };
         let locked = Locked {
             state: StateOf::new(alloc),
-            books: Books { ledgers },
+            books: BooksOf { ledgers },
             workers,
         };
-        let shared = SharedTreeIndexOf {
+        let shared = SharedOver {
             locked: Mutex::new(locked),
         };
         Ok((shared, passes))
@@ -111,7 +101,7 @@ impl<
     pub fn insert<R: Wait>(
         &self,
         rt: &R,
-        pass: &mut Pass<C, S, M, F, D>,
+        pass: &mut PassOf<B>,
         key: K,
         value: V,
     ) -> Result<(), InsertError<K, V>>
@@ -144,7 +134,7 @@ impl<
     pub fn upsert<R: Wait>(
         &self,
         rt: &R,
-        pass: &mut Pass<C, S, M, F, D>,
+        pass: &mut PassOf<B>,
         key: K,
         value: V,
     ) -> Result<(), (K, V)>
@@ -164,12 +154,7 @@ impl<
     /// ```
     /// Command::Remove(key) => Reply::Removed(shared.remove(rt, pass, key)?),
     /// ```
-    pub fn remove<R: Wait>(
-        &self,
-        rt: &R,
-        pass: &mut Pass<C, S, M, F, D>,
-        key: &K,
-    ) -> Result<bool, AllocError>
+    pub fn remove<R: Wait>(&self, rt: &R, pass: &mut PassOf<B>, key: &K) -> Result<bool, AllocError>
         requires { pass.old.calls < u64.MAX }
         ensures { pass.new ≡ raised {V = V} pass.old (reply_of_remove result) }
     {
@@ -191,7 +176,7 @@ impl<
     pub fn remove_range<R: Wait>(
         &self,
         rt: &R,
-        pass: &mut Pass<C, S, M, F, D>,
+        pass: &mut PassOf<B>,
         bounds: (Bound<&K>, Bound<&K>),
     ) -> Result<(), AllocError>
         requires { pass.old.calls < u64.MAX }
@@ -214,7 +199,7 @@ impl<
     /// ```
     /// shared.clear(rt, pass)?;
     /// ```
-    pub fn clear<R: Wait>(&self, rt: &R, pass: &mut Pass<C, S, M, F, D>) -> Result<(), AllocError>
+    pub fn clear<R: Wait>(&self, rt: &R, pass: &mut PassOf<B>) -> Result<(), AllocError>
         requires { pass.old.calls < u64.MAX }
         ensures { pass.new ≡ raised {V = V} pass.old (reply_of_removal result) }
     {
@@ -235,7 +220,7 @@ impl<
     pub fn peek<R: Wait>(
         &self,
         rt: &R,
-        pass: &mut Pass<C, S, M, F, D>,
+        pass: &mut PassOf<B>,
         key: &K,
     ) -> Result<Option<V>, AllocError>
         requires { pass.old.calls < u64.MAX }
@@ -253,7 +238,7 @@ impl<
     fn apply<R: Wait>(
         &self,
         rt: &R,
-        pass: &mut Pass<C, S, M, F, D>,
+        pass: &mut PassOf<B>,
         command: Command<K, V>,
     ) -> Result<Reply<V>, Command<K, V>>
         requires { pass.old.calls < u64.MAX }
@@ -277,14 +262,14 @@ impl<
     /// ```
     pub fn close(
         self,
-        passes: Vec<Pass<C, S, M, F, D>>,
-    ) -> Result<ClosedOf<K, V, LEN>, UnclosedOf<K, V, C, S, M, F, D, LEN>>
+        passes: Vec<PassOf<B>>,
+    ) -> Result<ClosedOf<K, V, LEN>, UnclosedOver<K, V, B, LEN>>
         ensures replays { IfOk result
             (λ closed. IsHistoryOf K.cmp K.seen V.seen closed.history.items closed.index.pairs) }
         ensures tally { IfOk result (λ closed. closed.tally ≡ tally closed.history.items) }
         ensures passes { IfOk result (λ closed. closed.tally ≡ sum_of passes.items) }
-        ensures missing { OnErr result (vec_len passes + 1 < C.parts) }
-        ensures given_back { IfErr result (λ e. (shared : _) × (e ≡ UnclosedOf.PassMissing shared passes)) }
+        ensures missing { OnErr result (vec_len passes + 1 < B.calls.parts) }
+        ensures given_back { IfErr result (λ e. (shared : _) × (e ≡ UnclosedOver.PassMissing shared passes)) }
     {
         let (state, books, workers) = self.locked.into_inner().into_parts();
         if passes.len() < workers.number {
@@ -293,13 +278,13 @@ impl<
                 books,
                 workers,
             };
-            let shared = SharedTreeIndexOf {
+            let shared = SharedOver {
                 locked: Mutex::new(locked),
             };
-            return Err(UnclosedOf::PassMissing(shared, passes));
+            return Err(UnclosedOver::PassMissing(shared, passes));
         }
         let (index, history) = state.into_parts();
-        let Books { ledgers } = books;
+        let BooksOf { ledgers } = books;
         let tally = ledgers.take_all(&workers, passes);
         Ok(ClosedOf {
             index,
@@ -345,16 +330,11 @@ fn cloned_bound<K: IndexKey + SameClone>(bound: Bound<&K>) -> Result<Bound<K>, A
 }
 
 /// Takes no lock, and so shows no pair.
-impl<K, V, C, S, M, F, D, const LEN: usize> fmt::Debug
-    for SharedTreeIndexOf<K, V, C, S, M, F, D, LEN>
+impl<K, V, B, const LEN: usize> fmt::Debug for SharedOver<K, V, B, LEN>
 where
     K: IndexKey + SameClone,
     V: SameClone,
-    C: Ledger,
-    S: Ledger,
-    M: Ledger,
-    F: Ledger,
-    D: Ledger,
+    B: Books,
 {
     fn fmt<W: fmt::Write>(&self, f: &mut fmt::Formatter<W>) -> fmt::Result {
         write!(f, "SharedTreeIndex {{ .. }}")

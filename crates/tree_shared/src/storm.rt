@@ -8,13 +8,12 @@ ghost use Rattle.tree_shared.specs.Workers.{AreAnswered, OnlyInserts};
 
 use crate::gate::Gate;
 use crate::workers::run_all;
-use crate::{Blanks, Closed, Pass, SharedTreeIndex};
+use crate::{Blanks, Books, Closed, PassOf, SharedOver};
 use std::alloc::{AllocError, AllocFailed, Global};
 use std::error::Error;
 use std::fmt;
 use std::marker::Brand;
 use std::sync::Wait;
-use std::sync::ledger::Ledger;
 use std::thread::{SpawnError, Threads};
 
 /// Why a storm left no closed index.
@@ -99,19 +98,11 @@ pub fn run_workers<R: Threads + Wait + Sync, G: Gate + Sync>(
         (λ e. e ≡ StormError.GateStopped → AreAnswered (G.answers gate.now) workers n true) }
 {
     let blanks = Blanks::new(workers);
-    run_with::<Brand, Brand, Brand, Brand, Brand, R, G>(rt, alloc, workers, n, gate, blanks)
+    run_with::<Brand, R, G>(rt, alloc, workers, n, gate, blanks)
 }
 
 // Makes the index with these blanks, and closes it.
-fn run_with<
-    C: Ledger + Send + Sync,
-    S: Ledger + Send + Sync,
-    M: Ledger + Send + Sync,
-    F: Ledger + Send + Sync,
-    D: Ledger + Send + Sync,
-    R: Threads + Wait + Sync,
-    G: Gate + Sync,
->(
+fn run_with<B: Books + Send + Sync, R: Threads + Wait + Sync, G: Gate + Sync>(
     rt: &R,
     alloc: Global,
     workers: usize,
@@ -119,11 +110,11 @@ fn run_with<
     gate: &G,
     blanks: Blanks,
 ) -> Result<Closed<u64, u64>, StormError>
-    requires calls { IsBlankFor workers blanks.calls C.name C.parts }
-    requires stored { IsBlankFor workers blanks.stored S.name S.parts }
-    requires removed { IsBlankFor workers blanks.removed M.name M.parts }
-    requires found { IsBlankFor workers blanks.found F.name F.parts }
-    requires done { IsBlankFor workers blanks.done D.name D.parts }
+    requires calls { IsBlankFor workers blanks.calls B.calls.name B.calls.parts }
+    requires stored { IsBlankFor workers blanks.stored B.stored.name B.stored.parts }
+    requires removed { IsBlankFor workers blanks.removed B.removed.name B.removed.parts }
+    requires found { IsBlankFor workers blanks.found B.found.name B.found.parts }
+    requires done { IsBlankFor workers blanks.done B.done.name B.done.parts }
     ensures replays { IfOk result
         (λ closed. IsHistoryOf nat_cmp (λ n. n) (λ n. n) closed.history.items closed.index.pairs) }
     ensures tally { IfOk result (λ closed. closed.tally ≡ tally closed.history.items) }
@@ -132,28 +123,20 @@ fn run_with<
     ensures stopped { IfErr result
         (λ e. e ≡ StormError.GateStopped → AreAnswered (G.answers gate.now) workers n true) }
 {
-    let (shared, passes) = SharedTreeIndex::<u64, u64, C, S, M, F, D>::new(alloc, workers, blanks)?;
+    let (shared, passes) = SharedOver::<u64, u64, B, 15>::new(alloc, workers, blanks)?;
     run_over(rt, alloc, shared, passes, n, gate)
 }
 
 // Lets the workers insert through all passes of an index, and closes it.
-fn run_over<
-    C: Ledger + Send + Sync,
-    S: Ledger + Send + Sync,
-    M: Ledger + Send + Sync,
-    F: Ledger + Send + Sync,
-    D: Ledger + Send + Sync,
-    R: Threads + Wait + Sync,
-    G: Gate + Sync,
->(
+fn run_over<B: Books + Send + Sync, R: Threads + Wait + Sync, G: Gate + Sync>(
     rt: &R,
     alloc: Global,
-    shared: SharedTreeIndex<u64, u64, C, S, M, F, D>,
-    passes: Vec<Pass<C, S, M, F, D>>,
+    shared: SharedOver<u64, u64, B, 15>,
+    passes: Vec<PassOf<B>>,
     n: u64,
     gate: &G,
 ) -> Result<Closed<u64, u64>, StormError>
-    requires all { C.parts ≤ vec_len passes + 1 }
+    requires all { B.calls.parts ≤ vec_len passes + 1 }
     requires unused { All (λ pass. pass ≡ none) passes.items }
     ensures replays { IfOk result
         (λ closed. IsHistoryOf nat_cmp (λ n. n) (λ n. n) closed.history.items closed.index.pairs) }
@@ -170,11 +153,11 @@ fn run_over<
 }
 
 // Closes an index with all its passes.
-fn closed_with<C: Ledger, S: Ledger, M: Ledger, F: Ledger, D: Ledger>(
-    shared: SharedTreeIndex<u64, u64, C, S, M, F, D>,
-    passes: Vec<Pass<C, S, M, F, D>>,
+fn closed_with<B: Books>(
+    shared: SharedOver<u64, u64, B, 15>,
+    passes: Vec<PassOf<B>>,
 ) -> Closed<u64, u64>
-    requires { C.parts ≤ vec_len passes + 1 }
+    requires { B.calls.parts ≤ vec_len passes + 1 }
     ensures replays { IsHistoryOf nat_cmp (λ n. n) (λ n. n) result.history.items result.index.pairs }
     ensures tally { result.tally ≡ tally result.history.items }
     ensures passes { result.tally ≡ sum_of passes.items }

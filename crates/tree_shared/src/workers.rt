@@ -5,18 +5,17 @@ ghost use Rattle.tree_shared.specs.Workers.{AreAnswered, IsAnswered, IsTask, Onl
 
 use crate::gate::Gate;
 use crate::storm::StormError;
-use crate::{Pass, SharedTreeIndex};
+use crate::{Books, PassOf, SharedOver};
 use std::alloc::Global;
 use std::snapshot::Snapshot;
 use std::sync::Wait;
-use std::sync::ledger::Ledger;
 use std::thread;
 use std::thread::{Promise, PromisedHandle, Scope, Threads};
 
 // A worker's pass once the worker ended, and whether its gate stopped it.
 #[derive(Drop)]
-struct Ended<C: Ledger, S: Ledger, M: Ledger, F: Ledger, D: Ledger> {
-    pass: Pass<C, S, M, F, D>,
+struct Ended<B: Books> {
+    pass: PassOf<B>,
     stopped: bool,
 }
 
@@ -28,21 +27,20 @@ struct Task<G> {
     n: u64,
 }
 
-impl<C: Ledger, S: Ledger, M: Ledger, F: Ledger, D: Ledger, G: Gate> Promise<Ended<C, S, M, F, D>>
-    for Task<G> {
+impl<B: Books, G: Gate> Promise<Ended<B>> for Task<G> {
     ghost kept_by = { λ task ended. OnlyInserts task.n ended.pass
         × IsAnswered (G.answers task.gate.value task.worker) task.n ended.stopped };
 }
 
 // Inserts the pairs (1, 1) to (n, n). An insert that is refused is left.
-fn work<C: Ledger, S: Ledger, M: Ledger, F: Ledger, D: Ledger, R: Wait, G: Gate>(
+fn work<B: Books, R: Wait, G: Gate>(
     rt: &R,
-    shared: &SharedTreeIndex<u64, u64, C, S, M, F, D>,
-    mut pass: Pass<C, S, M, F, D>,
+    shared: &SharedOver<u64, u64, B, 15>,
+    mut pass: PassOf<B>,
     worker: usize,
     n: u64,
     gate: &G,
-) -> Ended<C, S, M, F, D>
+) -> Ended<B>
     requires { pass ≡ none }
     ensures inserts { OnlyInserts n result.pass }
     ensures gate { IsAnswered (G.answers gate.now worker) n result.stopped }
@@ -65,25 +63,15 @@ fn work<C: Ledger, S: Ledger, M: Ledger, F: Ledger, D: Ledger, R: Wait, G: Gate>
 }
 
 // Starts a thread for each pass.
-fn start_all<
-    's,
-    E: 's,
-    C: Ledger + Send + Sync + 's,
-    S: Ledger + Send + Sync + 's,
-    M: Ledger + Send + Sync + 's,
-    F: Ledger + Send + Sync + 's,
-    D: Ledger + Send + Sync + 's,
-    R: Wait + Sync,
-    G: Gate + Sync,
->(
+fn start_all<'s, E: 's, B: Books + Send + Sync + 's, R: Wait + Sync, G: Gate + Sync>(
     scope: &Scope<'s, E>,
     alloc: Global,
     rt: &'s R,
-    shared: &'s SharedTreeIndex<u64, u64, C, S, M, F, D>,
-    passes: Vec<Pass<C, S, M, F, D>>,
+    shared: &'s SharedOver<u64, u64, B, 15>,
+    passes: Vec<PassOf<B>>,
     n: u64,
     gate: &'s G,
-) -> Result<Vec<PromisedHandle<Ended<C, S, M, F, D>, Task<G>>>, StormError>
+) -> Result<Vec<PromisedHandle<Ended<B>, Task<G>>>, StormError>
     requires { All (λ pass. pass ≡ none) passes.items }
     ensures count { IfOk result (λ handles. vec_len handles ≡ vec_len passes) }
     ensures promised { IfOk result (λ handles. (worker : ℕ) (handle : _) →
@@ -93,7 +81,7 @@ fn start_all<
     let mut handles = Vec::with_capacity(alloc, passes.len())?;
     let mut worker = 0;
     for pass in passes {
-        let job = move || -> Ended<C, S, M, F, D>
+        let job = move || -> Ended<B>
             requires { pass ≡ none }
             ensures inserts { OnlyInserts n result.pass }
             ensures gate { IsAnswered (G.answers gate.entry.now worker) n result.stopped }
@@ -111,11 +99,11 @@ fn start_all<
 
 // Joins each thread, and puts its pass behind those in a vector, which has room. Returns whether
 // one was stopped too.
-fn join_all<C: Ledger, S: Ledger, M: Ledger, F: Ledger, D: Ledger, R: Threads, G: Gate>(
+fn join_all<B: Books, R: Threads, G: Gate>(
     rt: &R,
-    handles: Vec<PromisedHandle<Ended<C, S, M, F, D>, Task<G>>>,
-    mut back: Vec<Pass<C, S, M, F, D>>,
-) -> Result<(Vec<Pass<C, S, M, F, D>>, bool), StormError>
+    handles: Vec<PromisedHandle<Ended<B>, Task<G>>>,
+    mut back: Vec<PassOf<B>>,
+) -> Result<(Vec<PassOf<B>>, bool), StormError>
     requires { back.items ≡ [] }
     ensures count { IfOk result (λ ended. vec_len ended.0 ≡ vec_len handles) }
     ensures kept { IfOk result (λ ended. (gate : G) (n : ℕ) →
@@ -137,22 +125,14 @@ fn join_all<C: Ledger, S: Ledger, M: Ledger, F: Ledger, D: Ledger, R: Threads, G
 /// once all threads ended, and whether the gate stopped one.
 ///
 /// Returns `Err` if an allocation fails or a thread is refused.
-pub fn run_all<
-    C: Ledger + Send + Sync,
-    S: Ledger + Send + Sync,
-    M: Ledger + Send + Sync,
-    F: Ledger + Send + Sync,
-    D: Ledger + Send + Sync,
-    R: Threads + Wait + Sync,
-    G: Gate + Sync,
->(
+pub fn run_all<B: Books + Send + Sync, R: Threads + Wait + Sync, G: Gate + Sync>(
     rt: &R,
     alloc: Global,
-    shared: &SharedTreeIndex<u64, u64, C, S, M, F, D>,
-    passes: Vec<Pass<C, S, M, F, D>>,
+    shared: &SharedOver<u64, u64, B, 15>,
+    passes: Vec<PassOf<B>>,
     n: u64,
     gate: &G,
-) -> Result<(Vec<Pass<C, S, M, F, D>>, bool), StormError>
+) -> Result<(Vec<PassOf<B>>, bool), StormError>
     requires { All (λ pass. pass ≡ none) passes.items }
     ensures count { IfOk result (λ ended. vec_len ended.0 ≡ vec_len passes) }
     ensures inserts { IfOk result (λ ended. All (OnlyInserts n) ended.0.items) }
@@ -162,7 +142,7 @@ pub fn run_all<
     thread::scope(
         thread::scope_env(),
         rt,
-        move |scope| -> Result<(Vec<Pass<C, S, M, F, D>>, bool), StormError>
+        move |scope| -> Result<(Vec<PassOf<B>>, bool), StormError>
             requires { All (λ pass. pass ≡ none) passes.items }
             ensures count { IfOk result (λ ended. vec_len ended.0 ≡ vec_len passes) }
             ensures inserts { IfOk result (λ ended. All (OnlyInserts n) ended.0.items) }

@@ -16,6 +16,14 @@ standing parts kept totals = record { parts = parts; kept = kept; totals = total
 abbrev pub Fits : Tally → Type 0
 Fits t = (t.calls < 2 ^ 64) × (t.stored < 2 ^ 64) × (t.removed < 2 ^ 64) × (t.found < 2 ^ 64) × (t.done < 2 ^ 64)
 
+-- the name of a ledger, and how many parts it has
+pub record Named : Type 0 where
+  pub name : ℕ
+  pub parts : ℕ
+
+abbrev pub named : Blank → Named
+named blank = record { name = blank.name; parts = blank.parts }
+
 -- a blank of this ledger, with a part for each worker and one more
 abbrev pub IsBlankFor : ℕ → Blank → ℕ → ℕ → Type 0
 IsBlankFor workers blank name parts = (blank.name ≡ name) × (blank.parts ≡ parts) × (blank.parts ≡ workers + 1)

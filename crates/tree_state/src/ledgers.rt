@@ -5,26 +5,26 @@ ghost use Rattle.tree_state.specs.Tallies.{is_refused, none, plus, raised, sum_o
 ghost use Rattle.tree_state.specs.declared.tally.Tally.{Tally};
 
 use crate::blanks::Blanks;
+use crate::books::{Books, Calls, Done, Found, Removed, Stored};
 use crate::column::Column;
-use crate::pass::Pass;
+use crate::pass::PassOf;
 use crate::replies::{is_done, is_found, is_removed, is_stored};
 use crate::tally::Tally;
 use std::marker::{Model, PhantomData};
-use std::sync::ledger::Ledger;
 use tree_model::Reply;
 
 /// The five columns. Contracts see how many parts of each are here, what these count, and what is
 /// counted in all.
 #[derive(Drop)]
-pub struct Ledgers<C: Ledger, S: Ledger, M: Ledger, F: Ledger, D: Ledger> {
-    calls: Column<C>,
-    stored: Column<S>,
-    removed: Column<M>,
-    found: Column<F>,
-    done: Column<D>,
+pub struct Ledgers<B: Books> {
+    calls: Column<Calls<B>>,
+    stored: Column<Stored<B>>,
+    removed: Column<Removed<B>>,
+    found: Column<Found<B>>,
+    done: Column<Done<B>>,
 }
 
-impl<C: Ledger, S: Ledger, M: Ledger, F: Ledger, D: Ledger> Model for Ledgers<C, S, M, F, D> {
+impl<B: Books> Model for Ledgers<B> {
     ghost Value = { Standing };
 
     ghost view = { λ l. record { parts = l.calls.kept.parts; kept = tally_of l.calls.number l.stored.number l.removed.number l.found.number l.done.number; totals = tally_of l.calls.book.total l.stored.book.total l.removed.book.total l.found.book.total l.done.book.total } };
@@ -32,14 +32,14 @@ impl<C: Ledger, S: Ledger, M: Ledger, F: Ledger, D: Ledger> Model for Ledgers<C,
     ghost invariant = { λ l. (l.stored.kept.parts ≡ l.calls.kept.parts) × (l.removed.kept.parts ≡ l.calls.kept.parts) × (l.found.kept.parts ≡ l.calls.kept.parts) × (l.done.kept.parts ≡ l.calls.kept.parts) };
 }
 
-impl<C: Ledger, S: Ledger, M: Ledger, F: Ledger, D: Ledger> Ledgers<C, S, M, F, D> {
+impl<B: Books> Ledgers<B> {
     /// Opens the ledgers. Every part is here, and nothing is counted.
-    pub fn open(workers: usize, blanks: Blanks) -> Ledgers<C, S, M, F, D>
-        requires calls { IsBlankFor workers blanks.calls C.name C.parts }
-        requires stored { IsBlankFor workers blanks.stored S.name S.parts }
-        requires removed { IsBlankFor workers blanks.removed M.name M.parts }
-        requires found { IsBlankFor workers blanks.found F.name F.parts }
-        requires done { IsBlankFor workers blanks.done D.name D.parts }
+    pub fn open(workers: usize, blanks: Blanks) -> Ledgers<B>
+        requires calls { IsBlankFor workers blanks.calls B.calls.name B.calls.parts }
+        requires stored { IsBlankFor workers blanks.stored B.stored.name B.stored.parts }
+        requires removed { IsBlankFor workers blanks.removed B.removed.name B.removed.parts }
+        requires found { IsBlankFor workers blanks.found B.found.name B.found.parts }
+        requires done { IsBlankFor workers blanks.done B.done.name B.done.parts }
         ensures { result ≡ standing (workers + 1) none none }
     {
         Ledgers {
@@ -52,14 +52,14 @@ impl<C: Ledger, S: Ledger, M: Ledger, F: Ledger, D: Ledger> Ledgers<C, S, M, F, 
     }
 
     /// Hands a pass out.
-    pub fn hand_out(&mut self) -> Pass<C, S, M, F, D>
+    pub fn hand_out(&mut self) -> PassOf<B>
         requires { 1 < self.old.parts }
         ensures zero { result ≡ none }
         ensures parts { self.new.parts + 1 ≡ self.old.parts }
         ensures kept { self.new.kept ≡ self.old.kept }
         ensures totals { self.new.totals ≡ self.old.totals }
     {
-        Pass {
+        PassOf {
             calls: self.calls.hand_out(),
             stored: self.stored.hand_out(),
             removed: self.removed.hand_out(),
@@ -69,7 +69,7 @@ impl<C: Ledger, S: Ledger, M: Ledger, F: Ledger, D: Ledger> Ledgers<C, S, M, F, 
     }
 
     /// Counts a reply that is no refusal, here and in the pass.
-    pub fn count<V>(&mut self, pass: &mut Pass<C, S, M, F, D>, reply: &Reply<V>)
+    pub fn count<V>(&mut self, pass: &mut PassOf<B>, reply: &Reply<V>)
         requires room { pass.old.calls < u64.MAX }
         requires answered { is_refused reply.now ≡ false }
         ensures pass { pass.new ≡ raised pass.old reply.now }
@@ -85,14 +85,14 @@ impl<C: Ledger, S: Ledger, M: Ledger, F: Ledger, D: Ledger> Ledgers<C, S, M, F, 
     }
 
     // Takes a pass back, with what it counted.
-    fn take_back(&mut self, pass: Pass<C, S, M, F, D>)
+    fn take_back(&mut self, pass: PassOf<B>)
         requires { Fits self.old.totals }
         ensures parts { self.new.parts ≡ self.old.parts + 1 }
-        ensures within { self.new.parts ≤ C.parts }
+        ensures within { self.new.parts ≤ B.calls.parts }
         ensures kept { self.new.kept ≡ plus self.old.kept pass }
         ensures totals { self.new.totals ≡ self.old.totals }
     {
-        let Pass {
+        let PassOf {
             calls,
             stored,
             removed,
@@ -107,11 +107,7 @@ impl<C: Ledger, S: Ledger, M: Ledger, F: Ledger, D: Ledger> Ledgers<C, S, M, F, 
     }
 
     /// Takes every pass back. Returns what they counted, which is what is counted in all.
-    pub fn take_all(
-        mut self,
-        workers: &Workers<C, S, M, F, D>,
-        passes: Vec<Pass<C, S, M, F, D>>,
-    ) -> Tally
+    pub fn take_all(mut self, workers: &Workers<B>, passes: Vec<PassOf<B>>) -> Tally
         requires rest { (self.parts ≡ 1) × (self.kept ≡ none) }
         requires fits { Fits self.totals }
         requires each { workers.now.number ≤ vec_len passes }
@@ -125,7 +121,7 @@ impl<C: Ledger, S: Ledger, M: Ledger, F: Ledger, D: Ledger> Ledgers<C, S, M, F, 
     }
 
     // Returns what the parts count once every part is here, which is what is counted in all.
-    fn settle(mut self, workers: &Workers<C, S, M, F, D>) -> Tally
+    fn settle(mut self, workers: &Workers<B>) -> Tally
         requires { self.parts ≡ workers.now.number + 1 }
         ensures kept { result ≡ self.kept }
         ensures totals { result ≡ self.totals }
@@ -149,27 +145,27 @@ impl<C: Ledger, S: Ledger, M: Ledger, F: Ledger, D: Ledger> Ledgers<C, S, M, F, 
 
 /// How many workers the ledgers were made for: a ledger has one part more.
 #[derive(Drop)]
-pub struct Workers<C: Ledger, S: Ledger, M: Ledger, F: Ledger, D: Ledger> {
+pub struct Workers<B: Books> {
     /// The number of workers.
     pub number: usize,
     /// The ledgers, which the type alone names.
-    pub of: PhantomData<(C, S, M, F, D)>,
-    ghost calls: { number + 1 ≡ C.parts },
-    ghost stored: { number + 1 ≡ S.parts },
-    ghost removed: { number + 1 ≡ M.parts },
-    ghost found: { number + 1 ≡ F.parts },
-    ghost done: { number + 1 ≡ D.parts },
+    pub of: PhantomData<B>,
+    ghost calls: { number + 1 ≡ B.calls.parts },
+    ghost stored: { number + 1 ≡ B.stored.parts },
+    ghost removed: { number + 1 ≡ B.removed.parts },
+    ghost found: { number + 1 ≡ B.found.parts },
+    ghost done: { number + 1 ≡ B.done.parts },
 }
 
 /// The ledgers while passes are out: one part of each is here, and counts nothing. Contracts see
 /// the tally of all calls.
 #[derive(Drop)]
-pub struct Books<C: Ledger, S: Ledger, M: Ledger, F: Ledger, D: Ledger> {
+pub struct BooksOf<B: Books> {
     /// The ledgers.
-    pub ledgers: Ledgers<C, S, M, F, D>,
+    pub ledgers: Ledgers<B>,
 }
 
-impl<C: Ledger, S: Ledger, M: Ledger, F: Ledger, D: Ledger> Model for Books<C, S, M, F, D> {
+impl<B: Books> Model for BooksOf<B> {
     ghost Value = { Tally };
 
     ghost view = { λ b. b.ledgers.totals };
@@ -177,9 +173,9 @@ impl<C: Ledger, S: Ledger, M: Ledger, F: Ledger, D: Ledger> Model for Books<C, S
     ghost invariant = { λ b. (b.ledgers.parts ≡ 1) × (b.ledgers.kept ≡ none) };
 }
 
-impl<C: Ledger, S: Ledger, M: Ledger, F: Ledger, D: Ledger> Books<C, S, M, F, D> {
+impl<B: Books> BooksOf<B> {
     /// Counts a reply that is no refusal, here and in the pass.
-    pub fn count<V>(&mut self, pass: &mut Pass<C, S, M, F, D>, reply: &Reply<V>)
+    pub fn count<V>(&mut self, pass: &mut PassOf<B>, reply: &Reply<V>)
         requires room { pass.old.calls < u64.MAX }
         requires answered { is_refused reply.now ≡ false }
         ensures books { self.new ≡ raised self.old reply.now }

@@ -1,11 +1,12 @@
 //! An ordered index that keeps the history of its calls, and lists of commands that one thread
 //! answers in turn, also those of several workers.
 //!
-//! Each worker's [`Pass`] counts the calls of the worker, and the [`Books`] count those of all.
-//! Once every pass is back, the passes' tallies add up to that of the books.
+//! Each worker's [`PassOf`] counts the calls of the worker, and the [`BooksOf`] the index count
+//! those of all. Once every pass is back, the passes' tallies add up to that of the books.
 #![tactic(auto)]
 
 mod blanks;
+mod books;
 mod column;
 mod commands;
 mod count;
@@ -19,9 +20,10 @@ mod state;
 mod tally;
 
 pub use blanks::Blanks;
+pub use books::Books;
 pub use commands::run;
-pub use ledgers::{Books, Ledgers, Workers};
-pub use pass::Pass;
+pub use ledgers::{BooksOf, Ledgers, Workers};
+pub use pass::{Pass, PassOf};
 pub use prepared::PreparedPair;
 pub use replies::{found_value, is_removed};
 pub use schedule::run_schedule;

@@ -3,26 +3,29 @@ ghost use Rattle.std.specs.Prelude.{◌≡◌, ◌≤◌};
 ghost use Rattle.tree_state.specs.Tallies.{tally_of};
 ghost use Rattle.tree_state.specs.declared.tally.Tally.{Tally};
 
+use crate::books::{Books, Calls, Done, Found, Removed, Stored};
 use crate::count::Count;
 use crate::tally::Tally;
 use std::fmt;
 use std::marker::Model;
-use std::sync::ledger::Ledger;
+
+/// What a worker calls a shared index by. See [`PassOf`].
+pub type Pass<C, S, M, F, D> = PassOf<(C, S, M, F, D)>;
 
 /// What a worker calls a shared index by. Contracts see the tally of the worker's calls.
 ///
 /// A pass is a part of each of the index's five ledgers, so its type ties it to that index. It
 /// can't be cloned.
 #[derive(Drop)]
-pub struct Pass<C: Ledger, S: Ledger, M: Ledger, F: Ledger, D: Ledger> {
-    pub(crate) calls: Count<C>,
-    pub(crate) stored: Count<S>,
-    pub(crate) removed: Count<M>,
-    pub(crate) found: Count<F>,
-    pub(crate) done: Count<D>,
+pub struct PassOf<B: Books> {
+    pub(crate) calls: Count<Calls<B>>,
+    pub(crate) stored: Count<Stored<B>>,
+    pub(crate) removed: Count<Removed<B>>,
+    pub(crate) found: Count<Found<B>>,
+    pub(crate) done: Count<Done<B>>,
 }
 
-impl<C: Ledger, S: Ledger, M: Ledger, F: Ledger, D: Ledger> Model for Pass<C, S, M, F, D> {
+impl<B: Books> Model for PassOf<B> {
     ghost Value = { Tally };
 
     ghost view = { λ p. tally_of p.calls p.stored p.removed p.found p.done };
@@ -31,7 +34,7 @@ impl<C: Ledger, S: Ledger, M: Ledger, F: Ledger, D: Ledger> Model for Pass<C, S,
     ghost invariant = { λ p. (p.stored ≤ p.calls) × (p.removed ≤ p.calls) × (p.found ≤ p.calls) × (p.done ≤ p.calls) };
 }
 
-impl<C: Ledger, S: Ledger, M: Ledger, F: Ledger, D: Ledger> Pass<C, S, M, F, D> {
+impl<B: Books> PassOf<B> {
     /// Returns the tally of the calls that were made by this pass. Each number is at most that of
     /// the calls. Runs in constant time.
     ///
@@ -53,7 +56,7 @@ impl<C: Ledger, S: Ledger, M: Ledger, F: Ledger, D: Ledger> Pass<C, S, M, F, D> 
     }
 }
 
-impl<C: Ledger, S: Ledger, M: Ledger, F: Ledger, D: Ledger> fmt::Debug for Pass<C, S, M, F, D> {
+impl<B: Books> fmt::Debug for PassOf<B> {
     fn fmt<W: fmt::Write>(&self, f: &mut fmt::Formatter<W>) -> fmt::Result {
         let tally = self.tally();
         write!(f, "Pass {{ tally: {tally:?} }}")

@@ -1,16 +1,5 @@
 use Rattle.tree_shared.proofs.storm.run_workers.Given as goal
+use Rattle.tree_state.specs.Ledgers.{named}
 
-abbrev pub ghosts-run_with-C-Ledger : goal.ghosts-run_with-C-Ledger
-ghosts-run_with-C-Ledger g a = record { name = a.blanks.calls.name; parts = a.blanks.calls.parts }
-
-abbrev pub ghosts-run_with-S-Ledger : goal.ghosts-run_with-S-Ledger
-ghosts-run_with-S-Ledger g a = record { name = a.blanks.stored.name; parts = a.blanks.stored.parts }
-
-abbrev pub ghosts-run_with-M-Ledger : goal.ghosts-run_with-M-Ledger
-ghosts-run_with-M-Ledger g a = record { name = a.blanks.removed.name; parts = a.blanks.removed.parts }
-
-abbrev pub ghosts-run_with-F-Ledger : goal.ghosts-run_with-F-Ledger
-ghosts-run_with-F-Ledger g a = record { name = a.blanks.found.name; parts = a.blanks.found.parts }
-
-abbrev pub ghosts-run_with-D-Ledger : goal.ghosts-run_with-D-Ledger
-ghosts-run_with-D-Ledger g a = record { name = a.blanks.done.name; parts = a.blanks.done.parts }
+abbrev pub ghosts-run_with-B-Books : goal.ghosts-run_with-B-Books
+ghosts-run_with-B-Books g a = record { calls = named a.blanks.calls; stored = named a.blanks.stored; removed = named a.blanks.removed; found = named a.blanks.found; done = named a.blanks.done }

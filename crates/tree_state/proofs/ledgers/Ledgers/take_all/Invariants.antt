@@ -6,6 +6,6 @@ abbrev pub invariant-loop-pass : goal.invariant-loop-pass
 invariant-loop-pass g l = record {
   parts : l.self.parts ≡ 1 + length l.yielded;
   kept : l.self.kept ≡ sum_of l.yielded;
-  within : l.self.parts ≤ g.C.Ledger.parts;
+  within : l.self.parts ≤ g.B.Books.calls.parts;
   totals : l.self.totals ≡ l.initial.self.totals;
 }

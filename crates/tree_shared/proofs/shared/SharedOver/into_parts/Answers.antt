@@ -1,5 +1,5 @@
 use Rattle.tree_node.proofs.Common.{fits}
-use Rattle.tree_shared.proofs.shared.SharedTreeIndexOf.into_parts.Goals as goal
+use Rattle.tree_shared.proofs.shared.SharedOver.into_parts.Goals as goal
 
 pub into_parts-state-requires : goal.into_parts-state-requires
 into_parts-state-requires g c = search fits

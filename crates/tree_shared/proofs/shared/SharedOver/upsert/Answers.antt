@@ -1,8 +1,11 @@
 use Rattle.tree_node.proofs.Common.{fits}
-use Rattle.tree_shared.proofs.shared.SharedTreeIndexOf.apply.Goals as goal
+use Rattle.tree_shared.proofs.shared.SharedOver.upsert.Goals as goal
 
 pub serve-requires-room-T-Serves : goal.serve-requires-room-T-Serves
 serve-requires-room-T-Serves g c κs within = search fits
 
 pub serve-requires-room-T-Destruct : goal.serve-requires-room-T-Destruct
 serve-requires-room-T-Destruct g c κs within = search fits
+
+pub returns-clause-pair : goal.returns-clause-pair
+returns-clause-pair g c = rw c.in_ok-pair.ensures.pair at c.serve.ensures.handed_back

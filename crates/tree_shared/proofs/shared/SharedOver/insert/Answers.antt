@@ -1,5 +1,5 @@
 use Rattle.tree_node.proofs.Common.{fits}
-use Rattle.tree_shared.proofs.shared.SharedTreeIndexOf.insert.Goals as goal
+use Rattle.tree_shared.proofs.shared.SharedOver.insert.Goals as goal
 
 pub serve-requires-room-T-Serves : goal.serve-requires-room-T-Serves
 serve-requires-room-T-Serves g c κs within = search fits

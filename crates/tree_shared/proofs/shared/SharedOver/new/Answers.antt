@@ -4,7 +4,7 @@ use Rattle.std.proofs.lemmas.List.Elements.{All-push}
 use Rattle.tree_state.specs.Ledgers.{Standing}
 use Rattle.tree_state.specs.Tallies.{none, tally}
 use Rattle.tree_state.specs.declared.tally.Tally.{Tally}
-use Rattle.tree_shared.proofs.shared.SharedTreeIndexOf.new.Goals as goal
+use Rattle.tree_shared.proofs.shared.SharedOver.new.Goals as goal
 
 pub loop-i-init : goal.loop-i-init
 loop-i-init g c = record {

@@ -2,7 +2,7 @@ use Rattle.std.proofs.Common.{sym, ap, ◌∙◌, arith}
 use Rattle.tree_node.proofs.Common.{fits}
 use Rattle.tree_state.specs.Tallies.{tally}
 use Rattle.tree_state.proofs.Tallied.{fits_tally}
-use Rattle.tree_shared.proofs.shared.SharedTreeIndexOf.close.Goals as goal
+use Rattle.tree_shared.proofs.shared.SharedOver.close.Goals as goal
 
 pub take_all-tally-requires-clause-fits : goal.take_all-tally-requires-clause-fits
 take_all-tally-requires-clause-fits g c =

@@ -1,6 +1,6 @@
 use Rattle.std.proofs.Common.{◌≡◌, ◌+◌, vec_len, All}
 use Rattle.tree_state.specs.Tallies.{none}
-use Rattle.tree_shared.proofs.shared.SharedTreeIndexOf.new.Given as goal
+use Rattle.tree_shared.proofs.shared.SharedOver.new.Given as goal
 
 abbrev pub invariant-loop-i : goal.invariant-loop-i
 invariant-loop-i g l = record {
