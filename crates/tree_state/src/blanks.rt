@@ -24,7 +24,7 @@ impl Blanks {
     /// index. Runs in constant time.
     ///
     /// ```
-    /// claim_both::<Brand, R>(rt, alloc, numbers, Blanks::new(2))
+    /// claim_both::<Brand, Brand, Brand, Brand, Brand, R>(rt, alloc, numbers, Blanks::new(2))
     /// ```
     pub fn new(workers: usize) -> Blanks
         requires { workers < usize.MAX }
