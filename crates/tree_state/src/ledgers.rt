@@ -6,22 +6,22 @@ ghost use Rattle.tree_state.specs.declared.tally.Tally.{Tally};
 
 use crate::blanks::Blanks;
 use crate::books::{Books, Calls, Done, Found, Removed, Stored};
-use crate::column::Column;
+use crate::counter::Counter;
 use crate::pass::PassOf;
 use crate::replies::{is_done, is_found, is_removed, is_stored};
 use crate::tally::Tally;
 use std::marker::{Model, PhantomData};
 use tree_model::Reply;
 
-/// The five columns. Contracts see how many parts of each are here, what these count, and what is
+/// The five counters. Contracts see how many parts of each are here, what these count, and what is
 /// counted in all.
 #[derive(Drop)]
 pub struct Ledgers<B: Books> {
-    calls: Column<Calls<B>>,
-    stored: Column<Stored<B>>,
-    removed: Column<Removed<B>>,
-    found: Column<Found<B>>,
-    done: Column<Done<B>>,
+    calls: Counter<Calls<B>>,
+    stored: Counter<Stored<B>>,
+    removed: Counter<Removed<B>>,
+    found: Counter<Found<B>>,
+    done: Counter<Done<B>>,
 }
 
 impl<B: Books> Model for Ledgers<B> {
@@ -43,11 +43,11 @@ impl<B: Books> Ledgers<B> {
         ensures { result ≡ standing (workers + 1) none none }
     {
         Ledgers {
-            calls: Column::open(blanks.calls),
-            stored: Column::open(blanks.stored),
-            removed: Column::open(blanks.removed),
-            found: Column::open(blanks.found),
-            done: Column::open(blanks.done),
+            calls: Counter::open(blanks.calls),
+            stored: Counter::open(blanks.stored),
+            removed: Counter::open(blanks.removed),
+            found: Counter::open(blanks.found),
+            done: Counter::open(blanks.done),
         }
     }
 

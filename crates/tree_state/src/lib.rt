@@ -7,9 +7,9 @@
 
 mod blanks;
 mod books;
-mod column;
 mod commands;
-mod count;
+mod counted_share;
+mod counter;
 pub mod laws;
 mod ledgers;
 mod pass;

@@ -4,7 +4,7 @@ ghost use Rattle.tree_state.specs.Tallies.{tally_of};
 ghost use Rattle.tree_state.specs.declared.tally.Tally.{Tally};
 
 use crate::books::{Books, Calls, Done, Found, Removed, Stored};
-use crate::count::Count;
+use crate::counted_share::CountedShare;
 use crate::tally::Tally;
 use std::fmt;
 use std::marker::Model;
@@ -18,11 +18,11 @@ pub type Pass<C, S, M, F, D> = PassOf<(C, S, M, F, D)>;
 /// can't be cloned.
 #[derive(Drop)]
 pub struct PassOf<B: Books> {
-    pub(crate) calls: Count<Calls<B>>,
-    pub(crate) stored: Count<Stored<B>>,
-    pub(crate) removed: Count<Removed<B>>,
-    pub(crate) found: Count<Found<B>>,
-    pub(crate) done: Count<Done<B>>,
+    pub(crate) calls: CountedShare<Calls<B>>,
+    pub(crate) stored: CountedShare<Stored<B>>,
+    pub(crate) removed: CountedShare<Removed<B>>,
+    pub(crate) found: CountedShare<Found<B>>,
+    pub(crate) done: CountedShare<Done<B>>,
 }
 
 impl<B: Books> Model for PassOf<B> {

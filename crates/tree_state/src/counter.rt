@@ -1,22 +1,22 @@
 //! One number of the tally of all calls.
 ghost use Rattle.std.specs.Prelude.{◌≡◌, ◌+◌, ◌<◌, ◌≤◌, cond};
 
-use crate::count::Count;
+use crate::counted_share::CountedShare;
 use std::sync::ledger::{Blank, Book, Ledger, Share};
 
 /// One number of the tally: the book of its ledger, and the parts that are not out, with what they
 /// count.
 #[derive(Drop)]
-pub struct Column<L: Ledger> {
+pub struct Counter<L: Ledger> {
     book: Book<L>,
     kept: Share<L>,
     number: u64,
     ghost backed: { kept.amount ≡ number },
 }
 
-impl<L: Ledger> Column<L> {
+impl<L: Ledger> Counter<L> {
     /// Opens the ledger. Every part is here, and counts nothing.
-    pub fn open(blank: Blank) -> Column<L>
+    pub fn open(blank: Blank) -> Counter<L>
         requires name { blank.name ≡ L.name }
         requires parts { blank.parts ≡ L.parts }
         ensures total { result.book.total ≡ 0 }
@@ -24,7 +24,7 @@ impl<L: Ledger> Column<L> {
         ensures number { result.number ≡ 0 }
     {
         let (book, kept) = blank.open::<L>();
-        Column {
+        Counter {
             book,
             kept,
             number: 0,
@@ -39,7 +39,7 @@ impl<L: Ledger> Column<L> {
     }
 
     /// Hands one part out, which counts nothing yet.
-    pub fn hand_out(&mut self) -> Count<L>
+    pub fn hand_out(&mut self) -> CountedShare<L>
         requires { 1 < self.old.kept.parts }
         ensures zero { result ≡ 0 }
         ensures total { self.new.book.total ≡ self.old.book.total }
@@ -47,11 +47,11 @@ impl<L: Ledger> Column<L> {
         ensures number { self.new.number ≡ self.old.number }
     {
         let share = self.kept.split_off(1, 0);
-        Count { number: 0, share }
+        CountedShare { number: 0, share }
     }
 
     /// Adds one to the book and to the count if `rises` is true.
-    pub fn raise(&mut self, count: &mut Count<L>, rises: bool)
+    pub fn raise(&mut self, count: &mut CountedShare<L>, rises: bool)
         requires { count.old < u64.MAX }
         ensures total { self.new.book.total ≡ self.old.book.total + cond rises 1 0 }
         ensures count { count.new ≡ count.old + cond rises 1 0 }
@@ -65,15 +65,15 @@ impl<L: Ledger> Column<L> {
     }
 
     /// Takes one part back, with its number.
-    pub fn take_back(&mut self, count: Count<L>)
+    pub fn take_back(&mut self, count: CountedShare<L>)
         requires { self.old.book.total ≤ u64.MAX }
         ensures total { self.new.book.total ≡ self.old.book.total }
         ensures parts { self.new.kept.parts ≡ self.old.kept.parts + 1 }
         ensures within { self.new.kept.parts ≤ L.parts }
         ensures number { self.new.number ≡ self.old.number + count }
     {
-        let Count { number, share } = count;
-        let Column {
+        let CountedShare { number, share } = count;
+        let Counter {
             book,
             kept,
             number: sum,

@@ -7,12 +7,12 @@ use std::sync::ledger::{Ledger, Share};
 /// One number of a pass, and the share of its ledger that stands behind it. Contracts see the
 /// number.
 #[derive(Drop)]
-pub struct Count<L: Ledger> {
+pub struct CountedShare<L: Ledger> {
     pub(crate) number: u64,
     pub(crate) share: Share<L>,
 }
 
-impl<L: Ledger> Model for Count<L> {
+impl<L: Ledger> Model for CountedShare<L> {
     ghost Value = { ℕ };
 
     ghost view = { λ c. c.number };
@@ -20,7 +20,7 @@ impl<L: Ledger> Model for Count<L> {
     ghost invariant = { λ c. (c.share.parts ≡ 1) × (c.share.amount ≡ c.number) };
 }
 
-impl<L: Ledger> Count<L> {
+impl<L: Ledger> CountedShare<L> {
     /// Returns the number.
     pub fn get(&self) -> u64
         ensures { result ≡ self.now }
