@@ -27,7 +27,7 @@ leaf_mut-requires g c =
     let some = some_found c.leaf.ensures (λ none. cc (c.if-is_empty.false, c.is_empty.ensures.1 (rw c.array-last.ensures none))) in
     let ascending = rw first.2 at c.requires.ascending in
     let for = takes_larger (c.in-Some-first_key.key.now, first.0) first.1 c.in-Some.ensures ascending c.requires.node c.requires.part some in
-    let emptied = rw c.if-not-branch.false at c.in_ok-empty_last.ensures in
+    let emptied = rw c.if-not-branch.false at c.in_ok-empty_last.ensures.done in
     (search fits, (search fits, emptied_there _ first.1 c.in-Some.ensures ascending g.met.K.Ord.total for c.empty_last.new.arenas emptied))
 
 pub array_mut-requires : goal.array_mut-requires
@@ -39,7 +39,7 @@ returns-clause-done g c =
     let some = some_found c.leaf.ensures (λ none. cc (c.if-is_empty.false, c.is_empty.ensures.1 (rw c.array-last.ensures none))) in
     let ascending = rw first.2 at c.requires.ascending in
     let for = takes_larger (c.in-Some-first_key.key.now, first.0) first.1 c.in-Some.ensures ascending c.requires.node c.requires.part some in
-    let emptied = rw c.if-not-branch.false at c.in_ok-empty_last.ensures in
+    let emptied = rw c.if-not-branch.false at c.in_ok-empty_last.ensures.done in
     let each = run_appended _ first.1 c.in-Some.ensures ascending g.met.K.Ord.total for c.empty_last.new.arenas emptied _ c.leaf_mut.result.now
     c.leaf_mut.ensures.value (rw (c.close.ensures.array, first.2) refl) (rw first.2 at c.in-Some-first_key.ensures.few) in
     (c.in-Some.end.leaf, for.last, rw first.2 each, c.close.ensures.left)
