@@ -14,16 +14,16 @@ append_run-requires g c =
 
 pub returns-then-branch-clause-gathers : goal.returns-then-branch-clause-gathers
 returns-then-branch-clause-gathers g c =
-    let appends = rw c.if-branch.true at c.in_ok-append_run.ensures in
+    let appends = rw c.if-branch.true at c.in_ok-append_run.ensures.done in
     each_gathered c.args.self.now c.args.run.now g.met.K.Ord.total c.in-Some.root.id c.in-Some.root.level appends.0 c.args.run.now c.args.self.now c.append_run.new.arenas c.in-Some.is c.requires.whole (rw c.in-Some.is appends.1) c.requires.ascending
     (none_gathered c.args.self.now c.args.run.now c.requires.whole) appends.2
 
 pub append_each-requires-2 : goal.append_each-requires-2
 append_each-requires-2 g c =
-    let back = rw c.if-branch.false at c.in_ok-append_run.ensures in
+    let back = rw c.if-branch.false at c.in_ok-append_run.ensures.done in
     (search fits, (search fits, (c.requires.len, (rw back.0 c.requires.whole, rw (back.0, back.1) c.requires.ascending))))
 
 pub returns-clause-gathers : goal.returns-clause-gathers
 returns-clause-gathers g c =
-    let back = rw c.if-branch.false at c.in_ok-append_run.ensures in
+    let back = rw c.if-branch.false at c.in_ok-append_run.ensures.done in
     rw (back.0, back.1) at c.append_each-2.ensures.gathers
