@@ -8,7 +8,7 @@ use std::process::Abort;
 use std::sync::Wait;
 use test_support::refusals::succeeds;
 use tree_index::{Command, Record, Reply};
-use tree_shared::{Books, ClosedOf, PassOf, SharedOver, Tally};
+use tree_shared::{Books, PassOf, SharedOver, Tally};
 use tree_support::flaws;
 
 // Inserts the numbers from 1 on, so many, up to one that is refused both times or goes wrong.
@@ -51,18 +51,15 @@ fn ascending(alloc: Global, count: u64) -> Result<Vec<(u64, u64)>, AllocError> {
     Ok(pairs)
 }
 
-// Returns whether an index was closed with the inserts that an outcome leaves, and its tree is well
-// formed.
-#[tactic(auto, using(tree_node::proofs::Common::fits))]
-fn is_grown<const LEN: usize>(
-    closed: &ClosedOf<u64, u64, LEN>,
+// Returns the pairs whose inserts a history and its tally have, or `None` if these have others.
+fn inserted<'p>(
+    history: &[Record<u64, u64>],
+    tally: Tally,
     outcome: Outcome,
-    pairs: &[(u64, u64)],
-) -> bool {
-    let Some(made) = pairs.get(..closed.history.len()) else {
-        return false;
-    };
-    let tally = Tally {
+    pairs: &'p [(u64, u64)],
+) -> Option<&'p [(u64, u64)]> {
+    let made = pairs.get(..history.len())?;
+    let wanted = Tally {
         calls: made.len() as u64,
         stored: made.len() as u64,
         ..Tally::default()
@@ -72,17 +69,19 @@ fn is_grown<const LEN: usize>(
         Outcome::OutOfMemory => made.len() < pairs.len(),
         Outcome::Wrong => false,
     };
-    fits && closed.tally == tally
-        && are_inserts(&closed.history)
-        && flaws(&closed.index, made).is_ok()
+    if fits && tally == wanted && are_inserts(history) {
+        Some(made)
+    } else {
+        None
+    }
 }
 
-// Inserts so many numbers in ascending order, closes the index and walks its tree. Returns whether
-// each is answered and stored. `Err` if one was refused.
-pub(crate) fn grows<B: Books, R: Wait + Abort, const LEN: usize>(
+// Inserts so many numbers in ascending order by the first pass, closes the index and walks its
+// tree. Returns whether each is answered and stored. `Err` if one was refused.
+pub(crate) fn grows<B: Books, R: Wait + Abort>(
     rt: &R,
     alloc: Global,
-    shared: SharedOver<u64, u64, B, LEN>,
+    shared: SharedOver<u64, u64, B, 15>,
     mut passes: Vec<PassOf<B>>,
     count: u64,
 ) -> Result<bool, AllocError> {
@@ -91,10 +90,37 @@ pub(crate) fn grows<B: Books, R: Wait + Abort, const LEN: usize>(
         return Ok(false);
     };
     let outcome = insert_all(rt, alloc, &shared, pass, count);
-    match shared.close(passes) {
-        Ok(closed) => ample(is_grown(&closed, outcome, &pairs), outcome),
-        Err(_) => Ok(false),
-    }
+    let Ok(closed) = shared.close(passes) else {
+        return Ok(false);
+    };
+    let holds = match inserted(&closed.history, closed.tally, outcome, &pairs) {
+        Some(made) => flaws(&closed.index, made).is_ok(),
+        None => false,
+    };
+    ample(holds, outcome)
+}
+
+// The same over an index of seven pairs a leaf.
+pub(crate) fn grows_small<B: Books, R: Wait + Abort>(
+    rt: &R,
+    alloc: Global,
+    shared: SharedOver<u64, u64, B, 7>,
+    mut passes: Vec<PassOf<B>>,
+    count: u64,
+) -> Result<bool, AllocError> {
+    let pairs = ascending(alloc, count)?;
+    let Some(pass) = passes.get_mut(0) else {
+        return Ok(false);
+    };
+    let outcome = insert_all(rt, alloc, &shared, pass, count);
+    let Ok(closed) = shared.close(passes) else {
+        return Ok(false);
+    };
+    let holds = match inserted(&closed.history, closed.tally, outcome, &pairs) {
+        Some(made) => flaws(&closed.index, made).is_ok(),
+        None => false,
+    };
+    ample(holds, outcome)
 }
 
 // The last pair makes a second level at fifteen pairs a leaf, and a third at seven.

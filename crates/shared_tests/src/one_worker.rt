@@ -101,24 +101,6 @@ fn tally_of(rows: &[Row]) -> Tally {
     tally
 }
 
-// Makes these calls by the first pass, and closes the index. Returns `None` if it can't be closed.
-fn closed_after<B: Books, R: Wait, const LEN: usize>(
-    rt: &R,
-    alloc: Global,
-    shared: SharedOver<String, String, B, LEN>,
-    mut passes: Vec<PassOf<B>>,
-    rows: &[Row],
-) -> Result<Option<(ClosedOf<String, String, LEN>, Outcome)>, AllocError> {
-    let Some(pass) = passes.get_mut(0) else {
-        return Ok(None);
-    };
-    let outcome = make_calls(rt, alloc, &shared, pass, rows)?;
-    match shared.close(passes) {
-        Ok(closed) => Ok(Some((closed, outcome))),
-        Err(_) => Ok(None),
-    }
-}
-
 // Returns the calls that were answered: those that the history and its tally have, or `None` if
 // these have others.
 fn answered<'r, const LEN: usize>(
@@ -147,19 +129,46 @@ pub(crate) fn ample(holds: bool, outcome: Outcome) -> Result<bool, AllocError> {
     Ok(holds)
 }
 
-// Makes these calls over texts of numbers below 10. Returns whether they are answered as
-// they should be, and leave the pairs that they should. `Err` if one was refused.
-#[tactic(auto, using(tree_node::proofs::Common::fits))]
-pub(crate) fn each_call<B: Books, R: Wait, const LEN: usize>(
+// Makes these calls over texts of numbers below 10. Returns whether they are answered as they
+// should be, and leave the pairs that they should. `Err` if one was refused.
+pub(crate) fn each_call<B: Books, R: Wait>(
     rt: &R,
     alloc: Global,
-    shared: SharedOver<String, String, B, LEN>,
-    passes: Vec<PassOf<B>>,
+    shared: SharedOver<String, String, B, 15>,
+    mut passes: Vec<PassOf<B>>,
     rows: &[Row],
 ) -> Result<bool, AllocError> {
-    let Some((closed, outcome)) = closed_after(rt, alloc, shared, passes, rows)? else {
+    let Some(pass) = passes.get_mut(0) else {
         return Ok(false);
     };
+    let outcome = make_calls(rt, alloc, &shared, pass, rows);
+    let Ok(closed) = shared.close(passes) else {
+        return Ok(false);
+    };
+    let outcome = outcome?;
+    let holds = match answered(&closed, outcome, rows) {
+        Some(made) => has_pairs(&closed.index, &pairs_after(made)),
+        None => false,
+    };
+    ample(holds, outcome)
+}
+
+// The same over an index of seven pairs a leaf.
+pub(crate) fn each_small_call<B: Books, R: Wait>(
+    rt: &R,
+    alloc: Global,
+    shared: SharedOver<String, String, B, 7>,
+    mut passes: Vec<PassOf<B>>,
+    rows: &[Row],
+) -> Result<bool, AllocError> {
+    let Some(pass) = passes.get_mut(0) else {
+        return Ok(false);
+    };
+    let outcome = make_calls(rt, alloc, &shared, pass, rows);
+    let Ok(closed) = shared.close(passes) else {
+        return Ok(false);
+    };
+    let outcome = outcome?;
     let holds = match answered(&closed, outcome, rows) {
         Some(made) => has_pairs(&closed.index, &pairs_after(made)),
         None => false,

@@ -4,8 +4,8 @@ ghost use Rattle.tree_state.specs.Ledgers.{IsBlankFor};
 
 use crate::calls::Row;
 use crate::closing::{closes_with_all_passes, closes_without_calls, parts_while_a_pass_is_out};
-use crate::growth::grows;
-use crate::one_worker::{each_call, insert_and_remove};
+use crate::growth::{grows, grows_small};
+use crate::one_worker::{each_call, each_small_call, insert_and_remove};
 use crate::races::Race;
 use crate::refusals::{looks_a_text_up, refused_calls};
 use crate::threads::{run_race, run_small_race};
@@ -80,12 +80,12 @@ fn is_answered<B: Books + Send + Sync, R: Threads + Wait + Clock + Abort + Sync>
     }
     if let Scenario::SmallCalls(rows) = scenario {
         let (shared, passes) = SharedOver::<String, String, B, 7>::new(alloc, workers, blanks)?;
-        return each_call(rt, alloc, shared, passes, rows);
+        return each_small_call(rt, alloc, shared, passes, rows);
     }
     if let Scenario::SmallGrows(_) | Scenario::SmallThreads(_) = scenario {
         let (shared, passes) = SharedOver::<u64, u64, B, 7>::new(alloc, workers, blanks)?;
         return match scenario {
-            Scenario::SmallGrows(count) => grows(rt, alloc, shared, passes, count),
+            Scenario::SmallGrows(count) => { grows_small(rt, alloc, shared, passes, count) }
             Scenario::SmallThreads(race) => run_small_race(rt, alloc, shared, passes, race),
             _ => Ok(false),
         };
