@@ -130,18 +130,18 @@ def next_jobs(runs, share):
     return [Job(test, way, number + step) for (test, way), (number, refused) in last.items() if refused]
 
 
-def sweep(pool, tests, seconds, share=None, end=float("inf")):
-    """Runs each test without a refusal and then with each, quick tests first. No run begins after the time of the end. Gives how many
-    runs were left out for it."""
+def sweep(pool, tests, seconds, share=None, limit=float("inf")):
+    """Runs each test without a refusal and then with each, quick tests first. No run with a refusal begins more than so many seconds
+    after those without. Gives how many runs were left out for it."""
+    for test, first in zip(tests, pool.map(lambda test: ran(test, seconds, {}), tests)):
+        test.first = first
+    end = time.monotonic() + limit
 
     def run(job):
-        return None if time.monotonic() > end else ran(job.test, seconds, {job.way: str(job.number)} if job.way else {})
+        return None if time.monotonic() > end else ran(job.test, seconds, {job.way: str(job.number)})
 
-    firsts = list(pool.map(run, [Job(test, "", 0) for test in tests]))
-    for test, first in zip(tests, firsts):
-        test.first = first
-    left = firsts.count(None)
-    jobs = sorted(first_jobs([test for test in tests if test.first], share), key=lambda job: job.test.first.seconds)
+    left = 0
+    jobs = sorted(first_jobs(tests, share), key=lambda job: job.test.first.seconds)
     while jobs:
         runs = [(job, done) for job, done in zip(jobs, pool.map(run, jobs)) if done]
         for job, done in runs:
