@@ -8,9 +8,9 @@ import tempfile
 import time
 from typing import NamedTuple
 
+import tried
 from crates import TOP
 
-EXPORTS = os.path.join(TOP, "bench", "exports.rs")
 WAYS = ("REFUSE_AT", "REFUSE_FROM")
 SHARE = 3
 # What refuse.c keeps of a run and of each call, and of how many calls.
@@ -47,14 +47,11 @@ class Job(NamedTuple):
 
 
 def copy_into(room):
-    """Copies what the tests are built from, without what earlier builds left, and adds the tests of the exports."""
+    """Copies what the tests are built from, without what earlier builds left, and adds the tests that are tried."""
     shutil.copytree(os.path.join(TOP, "crates"), os.path.join(room, "crates"), ignore=shutil.ignore_patterns("out"))
     for name in ("crates.txt", "HANDLES"):
         shutil.copy(os.path.join(TOP, name), room)
-    if os.path.isfile(EXPORTS):
-        import exports
-
-        exports.put_into(room)
+    tried.put_into(room)
 
 
 def built(room, crate):

@@ -1,8 +1,7 @@
 //! Tests of the calls on a whole index: a value that is stored where its key is absent, pairs that
 //! are stored one after another, copies, look-ups of texts and with a reader, walks and removals by
 //! a prefix, values that are changed where they stand, removals that return the pair, equality,
-//! order and hashes; and of cursors and of sets. In `refusals`, those of calls in which an
-//! allocation fails.
+//! order and hashes; and of cursors and of sets.
 #![tactic(auto)]
 
 #[cfg(test)]
@@ -25,8 +24,6 @@ mod prefixes;
 mod present;
 #[cfg(test)]
 mod readers;
-#[cfg(test)]
-mod refusals;
 #[cfg(test)]
 mod sets;
 #[cfg(test)]

@@ -1,6 +1,4 @@
-//! Tests of sets: worked rows at both sizes, two sets side by side, and calls in which an
-//! allocation fails.
-mod refusals;
+//! Tests of sets: worked rows at both sizes, and two sets side by side.
 mod rows;
 mod two_sets;
 

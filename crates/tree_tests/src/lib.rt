@@ -15,8 +15,6 @@ mod lines;
 #[cfg(test)]
 mod look_ups;
 #[cfg(test)]
-mod refusals;
-#[cfg(test)]
 mod removals;
 #[cfg(test)]
 mod runs;

@@ -1,5 +1,5 @@
 //! Tests of the index, of its histories and of its runs in which an allocation fails.
-//! `bench/refusals` makes each fail in turn; in an ordinary run of the tests none does.
+//! `bench/refusals` makes each fail in turn.
 mod histories;
 mod keys;
 mod rebuilds;
