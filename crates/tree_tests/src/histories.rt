@@ -2,8 +2,9 @@
 use std::alloc::{AllocError, Global};
 use std::process::Abort;
 use test_support::refusals::succeeds;
-use tree_index::{Command, Record, Reply};
+use tree_index::{Command, InsertError, Record, Reply};
 use tree_state::{State, StateOf};
+use tree_support::flaws;
 
 // Calls of a new state, and the reply to each.
 static CALLS: [(Command<u64, u64>, Reply<u64>); 4] = [
@@ -61,4 +62,34 @@ fn keeps_its_calls(rt: HostRuntime) {
             keeps_its_small_calls_steps(&rt, rt.alloc())
         })
     );
+}
+
+// Whether so many calls are in the history, and the index is whole and has these pairs.
+fn stands(state: &State<u64, u64>, calls: usize, pairs: &[(u64, u64)]) -> bool {
+    state.history().len() == calls && flaws(state.index(), pairs).is_ok()
+}
+
+// Inserts the pair of 1 and 1 into an empty state. Returns whether an allocation failed: the pair
+// came back then, and the state stood.
+fn is_refused_a_pair(rt: &impl Abort, state: &mut State<u64, u64>) -> bool {
+    let calls = state.history().len();
+    let Err(back) = state.insert(1, 1) else {
+        return false;
+    };
+    assert!(rt; back == InsertError::OutOfMemory(1, 1) && stands(state, calls, &[]));
+    true
+}
+
+fn hands_a_pair_back_steps(rt: &impl Abort, alloc: Global) -> Result<(), AllocError> {
+    let mut state: State<u64, u64> = State::new(alloc);
+    if is_refused_a_pair(rt, &mut state) && is_refused_a_pair(rt, &mut state) {
+        return Err(AllocError);
+    }
+    assert!(rt; stands(&state, 1, &[(1, 1)]));
+    Ok(())
+}
+
+#[test]
+fn hands_a_pair_back(rt: HostRuntime) {
+    assert!(rt; succeeds(rt.alloc(), || hands_a_pair_back_steps(&rt, rt.alloc())));
 }
