@@ -1,5 +1,5 @@
-//! Leaves and nodes under numbers, the links that make leaves one chain, and walks over the entries of
-//! a chain, either way.
+//! Leaves and nodes under numbers, the links that make leaves one chain, and walks over the entries
+//! of a chain, either way.
 #![tactic(auto)]
 
 pub mod arena;
