@@ -4,13 +4,13 @@ ghost use Rattle.tree_state.specs.Tallies.{none};
 
 use crate::closed::closed_with;
 use crate::numbers::reply_to;
-use crate::scenario::{NEW, Scenario, play};
+use crate::scenario::{Scenario, play};
 use std::alloc::{AllocError, Global};
 use std::process::Abort;
 use std::sync::Wait;
 use std::thread::Threads;
 use std::time::Clock;
-use test_support::refusals::{is_granted_again, succeeds};
+use test_support::refusals::succeeds;
 use tree_index::{Command, Record, Reply, TreeIndex};
 use tree_shared::{Books, Closed, PassOf, SharedOver, Tally, UnclosedOver};
 
@@ -32,24 +32,6 @@ pub(crate) fn closes_without_calls<B: Books>(
         Some(closed) => closed.tally == nothing && closed.history.is_empty(),
         None => false,
     }
-}
-
-// Makes an index for two workers, a second time if that is refused. `Err` if it was refused.
-fn make_twice<R: Threads + Wait + Clock + Abort + Sync>(
-    rt: &R,
-    alloc: Global,
-) -> Result<(), AllocError> {
-    if play(rt, alloc, 2, Scenario::New).is_ok() {
-        return Ok(());
-    }
-    let is_granted = play(rt, alloc, 2, Scenario::New).is_ok();
-    assert!(rt; is_granted_again(alloc, NEW, is_granted)?);
-    Err(AllocError)
-}
-
-#[test]
-fn an_index_is_made_again(rt: HostRuntime) {
-    assert!(rt; succeeds(rt.alloc(), || make_twice(&rt, rt.alloc())));
 }
 
 #[test]

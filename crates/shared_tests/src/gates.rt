@@ -8,7 +8,7 @@ use std::sync::atomic::{AtomicBool, AtomicU64, Ordering};
 use std::thread;
 use std::thread::Threads;
 use std::time::{Clock, Duration};
-use test_support::refusals::{begins, ends, is_granted_again, succeeds};
+use test_support::refusals::succeeds;
 use tree_index::{Command, Record};
 use tree_shared::{Gate, OpenGate, StormError, run_workers};
 
@@ -141,38 +141,6 @@ fn history_of<R: Threads + Wait + Abort + Sync, G: Gate + Sync>(
         Err(StormError::Refused) => Err(AllocError),
         Err(StormError::GateStopped) => panic!(rt; "the gate stopped a worker"),
     }
-}
-
-// Runs a storm of two workers and three pairs. Returns whether each of its calls was answered.
-fn is_answered<R: Threads + Wait + Abort + Sync>(rt: &R, alloc: Global) -> bool {
-    begins(alloc, "run_workers");
-    let ended = run_workers(rt, alloc, 2, 3, &OpenGate);
-    ends(alloc);
-    match ended {
-        Ok(closed) => {
-            let (calls, stored) = (closed.tally.calls, closed.tally.stored);
-            assert!(rt; calls <= 6 && stored <= 3 && stored == closed.index.len() as u64);
-            calls == 6
-        }
-        Err(told) => {
-            assert!(rt; told == StormError::Refused);
-            false
-        }
-    }
-}
-
-// Runs such a storm, a second time if something is refused. `Err` if something was.
-fn run_twice<R: Threads + Wait + Abort + Sync>(rt: &R, alloc: Global) -> Result<(), AllocError> {
-    if is_answered(rt, alloc) {
-        return Ok(());
-    }
-    assert!(rt; is_granted_again(alloc, "run_workers", is_answered(rt, alloc))?);
-    Err(AllocError)
-}
-
-#[test]
-fn a_storm_is_run_again(rt: HostRuntime) {
-    assert!(rt; succeeds(rt.alloc(), || run_twice(&rt, rt.alloc())));
 }
 
 // Sees that the gate stops a storm.

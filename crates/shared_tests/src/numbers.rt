@@ -1,14 +1,14 @@
 //! Calls of a shared index over numbers.
-use crate::calls::{Outcome, Row};
 use std::alloc::{AllocError, Global};
-use std::process::Abort;
 use std::sync::Wait;
-use test_support::refusals::{answers_again, begins, ends, is_out_of_memory};
 use tree_index::{Command, InsertError, Reply};
 use tree_shared::{Books, PassOf, SharedOver};
 
+// A call, and the reply to it.
+pub(crate) type Row = (Command<u64, u64>, Reply<u64>);
+
 // Returns what a call is answered. Returns `Err` if an allocation fails in it.
-pub(crate) fn reply_to<B: Books, R: Wait + Abort, const LEN: usize>(
+pub(crate) fn reply_to<B: Books, R: Wait, const LEN: usize>(
     rt: &R,
     shared: &SharedOver<u64, u64, B, LEN>,
     pass: &mut PassOf<B>,
@@ -21,17 +21,11 @@ pub(crate) fn reply_to<B: Books, R: Wait + Abort, const LEN: usize>(
         Command::Insert(key, value) => match shared.insert(rt, pass, *key, *value) {
             Ok(()) => Reply::Stored,
             Err(InsertError::Duplicate(_, _)) => Reply::Duplicate,
-            Err(back) => {
-                assert!(rt; back == InsertError::OutOfMemory(*key, *value));
-                return Err(AllocError);
-            }
+            Err(InsertError::OutOfMemory(_, _)) => return Err(AllocError),
         },
         Command::Upsert(key, value) => match shared.upsert(rt, pass, *key, *value) {
             Ok(()) => Reply::Stored,
-            Err(back) => {
-                assert!(rt; back == (*key, *value));
-                return Err(AllocError);
-            }
+            Err(_) => return Err(AllocError),
         },
         Command::Remove(key) => Reply::Removed(shared.remove(rt, pass, key)?),
         Command::RemoveRange(low, high) => {
@@ -47,7 +41,7 @@ pub(crate) fn reply_to<B: Books, R: Wait + Abort, const LEN: usize>(
 }
 
 // Makes these calls. Returns whether each was answered as it should be.
-pub(crate) fn are_answered<B: Books, R: Wait + Abort, const LEN: usize>(
+pub(crate) fn are_answered<B: Books, R: Wait, const LEN: usize>(
     rt: &R,
     shared: &SharedOver<u64, u64, B, LEN>,
     pass: &mut PassOf<B>,
@@ -60,36 +54,4 @@ pub(crate) fn are_answered<B: Books, R: Wait + Abort, const LEN: usize>(
         }
     }
     true
-}
-
-const INSERT: &str = "SharedTreeIndex::insert";
-
-// Inserts an absent number, a second time if an allocation fails.
-pub(crate) fn insert_twice<B: Books, R: Wait + Abort, const LEN: usize>(
-    rt: &R,
-    alloc: Global,
-    shared: &SharedOver<u64, u64, B, LEN>,
-    pass: &mut PassOf<B>,
-    number: u64,
-) -> Outcome {
-    let insert = Command::Insert(number, number);
-    begins(alloc, INSERT);
-    let told = reply_to(rt, shared, pass, &insert);
-    ends(alloc);
-    match told {
-        Ok(Reply::Stored) => return Outcome::Answered,
-        Ok(_) => return Outcome::Wrong,
-        Err(_) => {}
-    }
-    begins(alloc, INSERT);
-    let told = reply_to(rt, shared, pass, &insert);
-    ends(alloc);
-    match told {
-        Ok(Reply::Stored) => {
-            answers_again(alloc, INSERT);
-            Outcome::AnsweredAgain
-        }
-        Err(_) if is_out_of_memory(alloc) => Outcome::OutOfMemory,
-        _ => Outcome::Wrong,
-    }
 }

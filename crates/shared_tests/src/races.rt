@@ -1,7 +1,7 @@
 //! Races over one index: what each racer calls, and what is left then.
 ghost use Rattle.std.specs.Prelude.{◌<◌};
 
-use crate::calls::Row;
+use crate::numbers::Row;
 use crate::replay::replays;
 use std::alloc::{AllocError, Global};
 use std::ops::Bound;

@@ -2,12 +2,8 @@
 ghost use Rattle.std.specs.Prelude.{◌≡◌, ◌<◌};
 ghost use Rattle.tree_state.specs.Ledgers.{IsBlankFor};
 
-use crate::calls::Row;
 use crate::closing::{closes_with_all_passes, closes_without_calls, parts_while_a_pass_is_out};
-use crate::growth::{grows, grows_small};
-use crate::one_worker::{each_call, each_small_call, insert_and_remove};
 use crate::races::Race;
-use crate::refusals::{looks_a_text_up, refused_calls};
 use crate::threads::{run_race, run_small_race};
 use std::alloc::{AllocError, Global};
 use std::marker::Brand;
@@ -15,26 +11,14 @@ use std::process::Abort;
 use std::sync::Wait;
 use std::thread::Threads;
 use std::time::Clock;
-use test_support::refusals::{begins, ends};
 use tree_shared::{Blanks, Books, SharedOver};
-
-// The name of the call that makes a shared index, as `bench/refusals` lists it.
-pub(crate) const NEW: &str = "SharedTreeIndex::new";
 
 // What a test does with a shared index.
 #[derive(Clone, Copy)]
 pub(crate) enum Scenario {
-    New,
     NoWorker,
     PassAbsent,
     Parts,
-    Calls(&'static [Row]),
-    SmallCalls(&'static [Row]),
-    Grows(u64),
-    SmallGrows(u64),
-    InsertAndRemove,
-    Refusals,
-    LookUpOfText,
     Threads(Race),
     SmallThreads(Race),
 }
@@ -68,40 +52,16 @@ fn is_answered<B: Books + Send + Sync, R: Threads + Wait + Clock + Abort + Sync>
     requires found { IsBlankFor workers blanks.found B.found.name B.found.parts }
     requires done { IsBlankFor workers blanks.done B.done.name B.done.parts }
 {
-    if let Scenario::Refusals = scenario {
-        return refused_calls::<B, R>(rt, alloc, workers, blanks);
-    }
-    if let Scenario::LookUpOfText = scenario {
-        return looks_a_text_up::<B, R>(rt, alloc, workers, blanks);
-    }
-    if let Scenario::Calls(rows) = scenario {
-        let (shared, passes) = SharedOver::<String, String, B, 15>::new(alloc, workers, blanks)?;
-        return each_call(rt, alloc, shared, passes, rows);
-    }
-    if let Scenario::SmallCalls(rows) = scenario {
-        let (shared, passes) = SharedOver::<String, String, B, 7>::new(alloc, workers, blanks)?;
-        return each_small_call(rt, alloc, shared, passes, rows);
-    }
-    if let Scenario::SmallGrows(_) | Scenario::SmallThreads(_) = scenario {
+    if let Scenario::SmallThreads(race) = scenario {
         let (shared, passes) = SharedOver::<u64, u64, B, 7>::new(alloc, workers, blanks)?;
-        return match scenario {
-            Scenario::SmallGrows(count) => { grows_small(rt, alloc, shared, passes, count) }
-            Scenario::SmallThreads(race) => run_small_race(rt, alloc, shared, passes, race),
-            _ => Ok(false),
-        };
+        return run_small_race(rt, alloc, shared, passes, race);
     }
-    begins(alloc, NEW);
-    let made = SharedOver::<u64, u64, B, 15>::new(alloc, workers, blanks);
-    ends(alloc);
-    let (shared, passes) = made?;
+    let (shared, passes) = SharedOver::<u64, u64, B, 15>::new(alloc, workers, blanks)?;
     match scenario {
-        Scenario::New => Ok(passes.len() == workers && closes_without_calls(shared, passes)),
         Scenario::NoWorker => Ok(closes_without_calls(shared, passes)),
         Scenario::PassAbsent => closes_with_all_passes(rt, shared, passes),
         Scenario::Parts => parts_while_a_pass_is_out(rt, shared, passes),
-        Scenario::Grows(count) => grows(rt, alloc, shared, passes, count),
-        Scenario::InsertAndRemove => insert_and_remove(rt, shared, passes),
         Scenario::Threads(race) => run_race(rt, alloc, shared, passes, race),
-        _ => Ok(false),
+        Scenario::SmallThreads(_) => Ok(false),
     }
 }

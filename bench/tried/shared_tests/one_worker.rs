@@ -1,20 +1,78 @@
-//! The calls of one worker.
+//! The calls of one worker, in which an allocation fails.
 ghost use Rattle.std.specs.Prelude.{◌≡◌, All};
 ghost use Rattle.tree_state.specs.Tallies.{none};
 
-use crate::calls::{Outcome, Row, make_calls};
+use crate::calls::{Outcome, make_calls};
 use crate::closed::closed_with;
-use crate::numbers::reply_to;
+use crate::growth::{grows, grows_small};
+use crate::numbers::{Row, reply_to};
 use crate::pairs::{has_pairs, pairs_after};
-use crate::scenario::{Scenario, play};
+use crate::refusals::{looks_a_text_up, refused_calls};
 use crate::texts::has_calls;
 use std::alloc::{AllocError, Global};
+use std::marker::Brand;
 use std::ops::Bound;
 use std::process::Abort;
 use std::sync::Wait;
 use test_support::refusals::succeeds;
 use tree_index::{Command, Reply};
-use tree_shared::{Books, ClosedOf, PassOf, SharedOver, Tally};
+use tree_shared::{Blanks, Books, ClosedOf, PassOf, SharedOver, Tally};
+
+// What a test does with a shared index.
+#[derive(Clone, Copy)]
+pub(crate) enum Scenario {
+    Calls(&'static [Row]),
+    SmallCalls(&'static [Row]),
+    Grows(u64),
+    SmallGrows(u64),
+    InsertAndRemove,
+    Clones,
+    LookUpOfText,
+}
+
+// Plays a scenario for one worker, with ledgers of its own, and sees that it is answered as it
+// should be.
+pub(crate) fn play<R: Wait + Abort>(
+    rt: &R,
+    alloc: Global,
+    scenario: Scenario,
+) -> Result<(), AllocError> {
+    assert!(rt; is_answered::<Brand, R>(rt, alloc, scenario, Blanks::new(1))?);
+    Ok(())
+}
+
+// Whether a scenario is answered as it should be.
+fn is_answered<B: Books, R: Wait + Abort>(
+    rt: &R,
+    alloc: Global,
+    scenario: Scenario,
+    blanks: Blanks,
+) -> Result<bool, AllocError> {
+    match scenario {
+        Scenario::Calls(rows) => {
+            let (shared, passes) = SharedOver::<String, String, B, 15>::new(alloc, 1, blanks)?;
+            each_call(rt, alloc, shared, passes, rows)
+        }
+        Scenario::SmallCalls(rows) => {
+            let (shared, passes) = SharedOver::<String, String, B, 7>::new(alloc, 1, blanks)?;
+            each_small_call(rt, alloc, shared, passes, rows)
+        }
+        Scenario::Grows(count) => {
+            let (shared, passes) = SharedOver::<u64, u64, B, 15>::new(alloc, 1, blanks)?;
+            grows(rt, alloc, shared, passes, count)
+        }
+        Scenario::SmallGrows(count) => {
+            let (shared, passes) = SharedOver::<u64, u64, B, 7>::new(alloc, 1, blanks)?;
+            grows_small(rt, alloc, shared, passes, count)
+        }
+        Scenario::InsertAndRemove => {
+            let (shared, passes) = SharedOver::<u64, u64, B, 15>::new(alloc, 1, blanks)?;
+            insert_and_remove(rt, shared, passes)
+        }
+        Scenario::Clones => refused_calls::<B, R>(rt, alloc, 1, blanks),
+        Scenario::LookUpOfText => looks_a_text_up::<B, R>(rt, alloc, 1, blanks),
+    }
+}
 
 static CALLS: [Row; 10] = [
     (Command::Insert(1, 4), Reply::Stored),
@@ -179,7 +237,7 @@ pub(crate) fn each_small_call<B: Books, R: Wait>(
 #[test]
 fn each_call_is_recorded(rt: HostRuntime) {
     for scenario in [Scenario::Calls(&CALLS), Scenario::SmallCalls(&CALLS)] {
-        assert!(rt; succeeds(rt.alloc(), || play(&rt, rt.alloc(), 1, scenario)));
+        assert!(rt; succeeds(rt.alloc(), || play(&rt, rt.alloc(), scenario)));
     }
 }
 
@@ -187,7 +245,7 @@ fn each_call_is_recorded(rt: HostRuntime) {
 fn each_call_is_made_again(rt: HostRuntime) {
     for rows in &LAST_CALLS {
         for scenario in [Scenario::Calls(rows), Scenario::SmallCalls(rows)] {
-            assert!(rt; succeeds(rt.alloc(), || play(&rt, rt.alloc(), 1, scenario)));
+            assert!(rt; succeeds(rt.alloc(), || play(&rt, rt.alloc(), scenario)));
         }
     }
 }
@@ -229,7 +287,7 @@ fn a_refused_insert_leaves_no_trace(rt: HostRuntime) {
     assert!(rt;
         succeeds(
             rt.alloc(),
-            || play(&rt, rt.alloc(), 1, Scenario::InsertAndRemove)
+            || play(&rt, rt.alloc(), Scenario::InsertAndRemove)
         )
     );
 }

@@ -1,13 +1,11 @@
 //! The six calls of a shared index over texts, each made again if an allocation fails in it.
+use crate::numbers::Row;
 use crate::texts::{Texts, command_of, is_command, is_reply};
 use std::alloc::{AllocError, Global};
 use std::sync::Wait;
 use test_support::refusals::{answers_again, begins, ends, is_out_of_memory};
 use tree_index::{Command, InsertError, Reply};
 use tree_shared::{Books, PassOf, SharedOver};
-
-// A call, and the reply to it.
-pub(crate) type Row = (Command<u64, u64>, Reply<u64>);
 
 // What came of calls, each made again if an allocation failed in it.
 #[derive(Clone, Copy, PartialEq, Eq)]

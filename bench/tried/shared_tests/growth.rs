@@ -1,15 +1,46 @@
 //! Inserts into a shared index that gains levels.
 use crate::calls::Outcome;
-use crate::numbers::insert_twice;
-use crate::one_worker::ample;
-use crate::scenario::{Scenario, play};
+use crate::numbers::reply_to;
+use crate::one_worker::{Scenario, ample, play};
 use std::alloc::{AllocError, Global};
 use std::process::Abort;
 use std::sync::Wait;
-use test_support::refusals::succeeds;
+use test_support::refusals::{answers_again, begins, ends, is_out_of_memory, succeeds};
 use tree_index::{Command, Record, Reply};
 use tree_shared::{Books, PassOf, SharedOver, Tally};
 use tree_support::flaws;
+
+const INSERT: &str = "SharedTreeIndex::insert";
+
+// Inserts an absent number, a second time if an allocation fails.
+fn insert_twice<B: Books, R: Wait + Abort, const LEN: usize>(
+    rt: &R,
+    alloc: Global,
+    shared: &SharedOver<u64, u64, B, LEN>,
+    pass: &mut PassOf<B>,
+    number: u64,
+) -> Outcome {
+    let insert = Command::Insert(number, number);
+    begins(alloc, INSERT);
+    let told = reply_to(rt, shared, pass, &insert);
+    ends(alloc);
+    match told {
+        Ok(Reply::Stored) => return Outcome::Answered,
+        Ok(_) => return Outcome::Wrong,
+        Err(_) => {}
+    }
+    begins(alloc, INSERT);
+    let told = reply_to(rt, shared, pass, &insert);
+    ends(alloc);
+    match told {
+        Ok(Reply::Stored) => {
+            answers_again(alloc, INSERT);
+            Outcome::AnsweredAgain
+        }
+        Err(_) if is_out_of_memory(alloc) => Outcome::OutOfMemory,
+        _ => Outcome::Wrong,
+    }
+}
 
 // Inserts the numbers from 1 on, so many, up to one that is refused both times or goes wrong.
 fn insert_all<B: Books, R: Wait + Abort, const LEN: usize>(
@@ -127,6 +158,6 @@ pub(crate) fn grows_small<B: Books, R: Wait + Abort>(
 #[test]
 fn inserts_into_a_growing_tree_are_made_again(rt: HostRuntime) {
     for scenario in [Scenario::Grows(241), Scenario::SmallGrows(400)] {
-        assert!(rt; succeeds(rt.alloc(), || play(&rt, rt.alloc(), 1, scenario)));
+        assert!(rt; succeeds(rt.alloc(), || play(&rt, rt.alloc(), scenario)));
     }
 }

@@ -1,5 +1,5 @@
 //! The pairs that calls leave, worked out on a row of ten places.
-use crate::calls::Row;
+use crate::numbers::Row;
 use crate::texts::is_text;
 use std::ops::RangeBounds;
 use tree_index::{Command, TreeIndexOf};

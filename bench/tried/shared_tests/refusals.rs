@@ -4,7 +4,7 @@ ghost use Rattle.std.proofs.Common.{rules, sym};
 ghost use Rattle.tree_model.specs.Keys.{equal_numbers};
 ghost use Rattle.tree_state.specs.Ledgers.{IsBlankFor};
 
-use crate::scenario::{Scenario, play};
+use crate::one_worker::{Scenario, play};
 use std::alloc::{AllocError, Global};
 use std::cell::Cell;
 use std::ops::Bound;
@@ -169,7 +169,7 @@ pub(crate) fn refused_calls<B: Books, R: Wait>(
 
 #[test]
 fn refusals_leave_no_trace(rt: HostRuntime) {
-    assert!(rt; succeeds(rt.alloc(), || play(&rt, rt.alloc(), 1, Scenario::Refusals)));
+    assert!(rt; succeeds(rt.alloc(), || play(&rt, rt.alloc(), Scenario::Clones)));
 }
 
 // Whether a look-up of a text is told as it was answered. Where it is refused, the next one finds
@@ -230,7 +230,7 @@ fn a_refused_look_up_finds_nothing(rt: HostRuntime) {
     assert!(rt;
         succeeds(
             rt.alloc(),
-            || play(&rt, rt.alloc(), 1, Scenario::LookUpOfText)
+            || play(&rt, rt.alloc(), Scenario::LookUpOfText)
         )
     );
 }
