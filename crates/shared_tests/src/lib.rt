@@ -1,5 +1,5 @@
-//! Tests of the shared index: its calls by many threads, and its end; of workers at a gate; and of a
-//! schedule of several workers' commands.
+//! Tests of the shared index: its calls by many threads, and its end; of workers at a gate; and of
+//! a schedule of several workers' commands.
 #![tactic(auto)]
 
 pub mod closed;

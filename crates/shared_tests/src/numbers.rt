@@ -1,5 +1,6 @@
 //! Calls of a shared index over numbers.
-use std::alloc::{AllocError, Global};
+use std::alloc::AllocError;
+use std::process::Abort;
 use std::sync::Wait;
 use tree_index::{Command, InsertError, Reply};
 use tree_shared::{Books, PassOf, SharedOver};
@@ -8,7 +9,7 @@ use tree_shared::{Books, PassOf, SharedOver};
 pub(crate) type Row = (Command<u64, u64>, Reply<u64>);
 
 // Returns what a call is answered. Returns `Err` if an allocation fails in it.
-pub(crate) fn reply_to<B: Books, R: Wait, const LEN: usize>(
+pub(crate) fn reply_to<B: Books, R: Wait + Abort, const LEN: usize>(
     rt: &R,
     shared: &SharedOver<u64, u64, B, LEN>,
     pass: &mut PassOf<B>,
@@ -25,7 +26,10 @@ pub(crate) fn reply_to<B: Books, R: Wait, const LEN: usize>(
         },
         Command::Upsert(key, value) => match shared.upsert(rt, pass, *key, *value) {
             Ok(()) => Reply::Stored,
-            Err(_) => return Err(AllocError),
+            Err(back) => {
+                assert!(rt; back == (*key, *value));
+                return Err(AllocError);
+            }
         },
         Command::Remove(key) => Reply::Removed(shared.remove(rt, pass, key)?),
         Command::RemoveRange(low, high) => {
@@ -41,7 +45,7 @@ pub(crate) fn reply_to<B: Books, R: Wait, const LEN: usize>(
 }
 
 // Makes these calls. Returns whether each was answered as it should be.
-pub(crate) fn are_answered<B: Books, R: Wait, const LEN: usize>(
+pub(crate) fn are_answered<B: Books, R: Wait + Abort, const LEN: usize>(
     rt: &R,
     shared: &SharedOver<u64, u64, B, LEN>,
     pass: &mut PassOf<B>,

@@ -23,7 +23,7 @@ struct Racer<B: Books> {
 
 impl<B: Books> Racer<B> {
     // Makes its calls.
-    fn run<R: Wait, const LEN: usize>(
+    fn run<R: Wait + Abort, const LEN: usize>(
         mut self,
         rt: &R,
         shared: &SharedOver<u64, u64, B, LEN>,
