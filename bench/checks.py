@@ -18,10 +18,10 @@ def root_of(folder):
     return next(it for it in ("src/main.rt", "src/lib.rt") if os.path.exists(os.path.join(folder, it)))
 
 
-def words_of(crate, folder):
-    """The words that check a crate which stands in a folder: its root, its libraries, and the logic."""
+def words_of(crate, folder, top=TOP):
+    """The words that check a crate which stands in a folder: its root, its libraries, which a gate has left in the crates below a folder, and the logic."""
     libraries = libraries_of_each()
-    own = {name: os.path.join(TOP, "crates", name, "out", "rlib", f"{name}.rlib") for name in libraries}
+    own = {name: os.path.join(top, "crates", name, "out", "rlib", f"{name}.rlib") for name in libraries}
     words = ["--crate-name", crate, root_of(folder), "-L", f"dependency={kit()}/rlibs"]
     for name in libraries:
         words += ["-L", f"dependency={os.path.dirname(own[name])}"] if os.path.isdir(own[name]) else []

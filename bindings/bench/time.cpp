@@ -32,11 +32,11 @@ struct Index {
   void upsert(uint64_t key) { map.upsert(key, key); }
   uint64_t find(uint64_t key) const { return map.find(key).value_or(0); }
   uint64_t above(uint64_t key) const { auto at = map.at_or_above(key); return at ? at->first : 0; }
-  uint64_t walk() const { uint64_t sum = 0; for (auto &pair : map) sum += pair.first ^ pair.second; return sum; }
+  uint64_t walk() const { uint64_t sum = 0; for (const auto &pair : map) sum += pair.first ^ pair.second; return sum; }
   uint64_t walk_from(uint64_t key, int count) const {
     tree_index::bound low = tree_index::bound::including(key);
     uint64_t sum = 0;
-    for (auto &pair : map.range(low, {})) { sum += pair.first; if (--count == 0) break; }
+    for (const auto &pair : map.range(low, {})) { sum += pair.first; if (--count == 0) break; }
     return sum;
   }
   void erase(uint64_t key) { map.erase(key); }
@@ -49,7 +49,7 @@ template <class Map> struct Std {
   void upsert(uint64_t key) { map[key] = key; }
   uint64_t find(uint64_t key) const { auto at = map.find(key); return at == map.end() ? 0 : at->second; }
   uint64_t above(uint64_t key) const { auto at = map.lower_bound(key); return at == map.end() ? 0 : at->first; }
-  uint64_t walk() const { uint64_t sum = 0; for (auto &pair : map) sum += pair.first ^ pair.second; return sum; }
+  uint64_t walk() const { uint64_t sum = 0; for (const auto &pair : map) sum += pair.first ^ pair.second; return sum; }
   uint64_t walk_from(uint64_t key, int count) const {
     uint64_t sum = 0;
     for (auto at = map.lower_bound(key); at != map.end() && count-- > 0; ++at) sum += at->first;

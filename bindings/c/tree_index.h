@@ -25,7 +25,7 @@
  * What a caller needn't see to: a call on a closed handle, on one that is open already, on one that was freed, or on one
  * that has the other kind of key answers TREE_INDEX_MISFIT, or 0 where it answers a number, and changes nothing.
  *
- * Costs are given in n, the number of pairs: a descent compares a key with O(log n) others. If an allocation fails, a call
+ * Costs are given in n, the number of pairs: a descent compares a key with O(log n) others. If it cannot allocate, a call
  * answers TREE_INDEX_NO_MEMORY, and the pairs are as they were. Only the shape may have changed: an insert or an upsert may
  * have made the tree deeper. Places that a call has nothing for keep what they held.
  */
@@ -80,26 +80,28 @@ enum {
   TREE_INDEX_NO_ROOM = 4,
 };
 
-/* Writes the value of a key. Answers `NO`, and writes nothing, if the key is absent. Runs in O(log n). Copies
- * nothing. */
+/* Writes the value of a key. Answers `NO`, and writes nothing, if the key is absent. Runs in O(log
+ * n). Copies nothing. */
 uint8_t tree_index_bytes_peek(tree_index_handle *handle, const uint8_t *key, size_t key_length, uint64_t *value);
 
 /* Answers whether a key is present. Runs in O(log n). Copies nothing. */
 uint8_t tree_index_bytes_contains(tree_index_handle *handle, const uint8_t *key, size_t key_length);
 
-/* Writes the pair with the smallest key. Answers `NO`, and writes nothing, if there is no pair, and `NO_ROOM` if the
- * key has too few places: the entry is written then, and tells the key's length. Runs in O(log n). */
+/* Writes the pair with the smallest key. Answers `NO`, and writes nothing, if there is no pair,
+ * and `NO_ROOM` if the key has too few places: the entry is written then, and tells the key's
+ * length. Runs in O(log n). */
 uint8_t tree_index_bytes_first(tree_index_handle *handle, uint8_t *key, size_t key_length, tree_index_entry *entry);
 
-/* Writes the pair with the largest key. Answers as [`tree_index_bytes_first`] does. Runs in O(log n). */
+/* Writes the pair with the largest key. Answers as [`tree_index_bytes_first`] does. Runs in O(log
+ * n). */
 uint8_t tree_index_bytes_last(tree_index_handle *handle, uint8_t *key, size_t key_length, tree_index_entry *entry);
 
-/* Writes the pair with a key, or else the one with the next smaller key. Answers as [`tree_index_bytes_first`] does.
- * Runs in O(log n). Copies the key meanwhile. */
+/* Writes the pair with a key, or else the one with the next smaller key. Answers as
+ * [`tree_index_bytes_first`] does. Runs in O(log n). Copies the key meanwhile. */
 uint8_t tree_index_bytes_at_or_below(tree_index_handle *handle, const uint8_t *sought, size_t sought_length, uint8_t *key, size_t key_length, tree_index_entry *entry);
 
-/* Writes the pair with a key, or else the one with the next larger key. Answers as [`tree_index_bytes_first`] does.
- * Runs in O(log n). Copies the key meanwhile. */
+/* Writes the pair with a key, or else the one with the next larger key. Answers as
+ * [`tree_index_bytes_first`] does. Runs in O(log n). Copies the key meanwhile. */
 uint8_t tree_index_bytes_at_or_above(tree_index_handle *handle, const uint8_t *sought, size_t sought_length, uint8_t *key, size_t key_length, tree_index_entry *entry);
 
 /* Writes the first pairs whose keys are within both bounds, in ascending order, and how many.
@@ -110,11 +112,13 @@ uint8_t tree_index_bytes_at_or_above(tree_index_handle *handle, const uint8_t *s
  * entries. Copies the keys of the bounds meanwhile. */
 uint8_t tree_index_bytes_fill(tree_index_handle *handle, uint8_t low_kind, const uint8_t *low, size_t low_length, uint8_t high_kind, const uint8_t *high, size_t high_length, uint8_t *keys, size_t keys_length, tree_index_entry *entries, size_t entries_length, size_t *count);
 
-/* Does what [`tree_index_bytes_fill`] does from the other end: the last pairs, in descending order. */
+/* Does what [`tree_index_bytes_fill`] does from the other end: the last pairs, in descending
+ * order. */
 uint8_t tree_index_bytes_fill_back(tree_index_handle *handle, uint8_t low_kind, const uint8_t *low, size_t low_length, uint8_t high_kind, const uint8_t *high, size_t high_length, uint8_t *keys, size_t keys_length, tree_index_entry *entries, size_t entries_length, size_t *count);
 
-/* Removes every pair whose key is within both bounds. Answers `YES`, also if there was none. Makes O(log n)
- * comparisons, and frees the leaves between the bounds whole. Copies the keys of the bounds meanwhile. */
+/* Removes every pair whose key is within both bounds. Answers `YES`, also if there was none. Makes
+ * O(log n) comparisons, and frees the leaves between the bounds whole. Copies the keys of the
+ * bounds meanwhile. */
 uint8_t tree_index_bytes_remove_range(tree_index_handle *handle, uint8_t low_kind, const uint8_t *low, size_t low_length, uint8_t high_kind, const uint8_t *high, size_t high_length);
 
 /* Opens a closed handle on an index of pairs whose keys strictly ascend. `keys` has the bytes of
@@ -127,29 +131,30 @@ uint8_t tree_index_bytes_from_sorted(tree_index_handle *handle, const uint8_t *k
 /* Opens a closed handle on a new, empty index of byte strings. Allocates one block. */
 uint8_t tree_index_bytes_new(tree_index_handle *handle);
 
-/* Stores a pair if its key is absent, with a copy of the key. Answers `NO`, and changes nothing, if it is present.
- * Runs in O(log n). Allocates at most the copy, a copy of a key between leaves, a leaf, a node a level and a new
- * root. */
+/* Stores a pair if its key is absent, with a copy of the key. Answers `NO`, and changes nothing,
+ * if it is present. Runs in O(log n). Allocates at most the copy, a copy of a key between leaves,
+ * a leaf, a node a level and a new root. */
 uint8_t tree_index_bytes_insert(tree_index_handle *handle, const uint8_t *key, size_t key_length, uint64_t value);
 
-/* Stores a pair with a copy of its key, in place of one with an equal key. Answers `YES` either way. Costs what
- * [`tree_index_bytes_insert`] does. */
+/* Stores a pair with a copy of its key, in place of one with an equal key. Answers `YES` either
+ * way. Costs what [`tree_index_bytes_insert`] does. */
 uint8_t tree_index_bytes_upsert(tree_index_handle *handle, const uint8_t *key, size_t key_length, uint64_t value);
 
-/* Removes the pair with a key. Answers whether there was one. Runs in O(log n). Copies the key meanwhile. */
+/* Removes the pair with a key. Answers whether there was one. Runs in O(log n). Copies the key
+ * meanwhile. */
 uint8_t tree_index_bytes_remove(tree_index_handle *handle, const uint8_t *key, size_t key_length);
 
-/* Removes the pair with a key and writes its value. Answers `NO`, and writes nothing, if the key is absent. Runs in
- * O(log n). Copies the key meanwhile. */
+/* Removes the pair with a key and writes its value. Answers `NO`, and writes nothing, if the key
+ * is absent. Runs in O(log n). Copies the key meanwhile. */
 uint8_t tree_index_bytes_take(tree_index_handle *handle, const uint8_t *key, size_t key_length, uint64_t *value);
 
-/* Removes the pair with the smallest key and writes it. Answers `NO`, and writes nothing, if there is none, and
- * `NO_ROOM` if the key has too few places: the pair stays then, and the entry tells its length. Runs in O(log n).
- * Copies the key meanwhile. */
+/* Removes the pair with the smallest key and writes it. Answers `NO`, and writes nothing, if there
+ * is none, and `NO_ROOM` if the key has too few places: the pair stays then, and the entry tells
+ * its length. Runs in O(log n). Copies the key meanwhile. */
 uint8_t tree_index_bytes_pop_first(tree_index_handle *handle, uint8_t *key, size_t key_length, tree_index_entry *entry);
 
-/* Removes the pair with the largest key and writes it. Answers as [`tree_index_bytes_pop_first`] does. Runs in O(log
- * n). Copies the key meanwhile. */
+/* Removes the pair with the largest key and writes it. Answers as [`tree_index_bytes_pop_first`]
+ * does. Runs in O(log n). Copies the key meanwhile. */
 uint8_t tree_index_bytes_pop_last(tree_index_handle *handle, uint8_t *key, size_t key_length, tree_index_entry *entry);
 
 /* Opens the closed handle `to` on a copy of the index of `from`. If an allocation fails, `to`
@@ -159,7 +164,8 @@ uint8_t tree_index_copy(tree_index_handle *from, tree_index_handle *to);
 /* Frees the index of a handle and closes the handle. Does nothing to a closed one. Runs in O(n). */
 void tree_index_free(tree_index_handle *handle);
 
-/* Returns the number of pairs, or 2^64 - 1 if there are more, and 0 if the handle is closed. Runs in constant time. */
+/* Returns the number of pairs, or 2^64 - 1 if there are more, and 0 if the handle is closed. Runs
+ * in constant time. */
 size_t tree_index_len(tree_index_handle *handle);
 
 /* Returns the number of levels of nodes, and 0 if the handle is closed. An index has no level
@@ -167,43 +173,49 @@ size_t tree_index_len(tree_index_handle *handle);
  * Runs in constant time. */
 size_t tree_index_depth(tree_index_handle *handle);
 
-/* Returns how many writes are sure not to allocate an array, whatever their keys, and 0 if the handle is closed.
- * Runs in O(n). */
+/* Returns how many writes are sure not to allocate an array, whatever their keys, and 0 if the
+ * handle is closed. Runs in O(n). */
 uint8_t tree_index_spare(tree_index_handle *handle);
 
-/* Removes all pairs. Answers `YES`, also if there was none. Runs in O(n). Keeps the memory for later pairs. */
+/* Removes all pairs. Answers `YES`, also if there was none. Runs in O(n). Keeps the memory for
+ * later pairs. */
 uint8_t tree_index_clear(tree_index_handle *handle);
 
-/* Writes the value of a key. Answers `NO`, and writes nothing, if the key is absent. Runs in O(log n). */
+/* Writes the value of a key. Answers `NO`, and writes nothing, if the key is absent. Runs in O(log
+ * n). */
 uint8_t tree_index_peek(tree_index_handle *handle, uint64_t key, uint64_t *value);
 
 /* Answers whether a key is present. Runs in O(log n). */
 uint8_t tree_index_contains(tree_index_handle *handle, uint64_t key);
 
-/* Writes the pair with the smallest key. Answers `NO`, and writes nothing, if there is no pair. Runs in O(log n). */
+/* Writes the pair with the smallest key. Answers `NO`, and writes nothing, if there is no pair.
+ * Runs in O(log n). */
 uint8_t tree_index_first(tree_index_handle *handle, tree_index_pair *pair);
 
-/* Writes the pair with the largest key. Answers `NO`, and writes nothing, if there is no pair. Runs in O(log n). */
+/* Writes the pair with the largest key. Answers `NO`, and writes nothing, if there is no pair.
+ * Runs in O(log n). */
 uint8_t tree_index_last(tree_index_handle *handle, tree_index_pair *pair);
 
-/* Writes the pair with a key, or else the one with the next smaller key. Answers `NO`, and writes nothing, if there
- * is neither. Runs in O(log n). */
+/* Writes the pair with a key, or else the one with the next smaller key. Answers `NO`, and writes
+ * nothing, if there is neither. Runs in O(log n). */
 uint8_t tree_index_at_or_below(tree_index_handle *handle, uint64_t key, tree_index_pair *pair);
 
-/* Writes the pair with a key, or else the one with the next larger key. Answers `NO`, and writes nothing, if there
- * is neither. Runs in O(log n). */
+/* Writes the pair with a key, or else the one with the next larger key. Answers `NO`, and writes
+ * nothing, if there is neither. Runs in O(log n). */
 uint8_t tree_index_at_or_above(tree_index_handle *handle, uint64_t key, tree_index_pair *pair);
 
-/* Writes the first pairs whose keys are within both bounds, in ascending order, as many as there are places. Returns
- * how many it wrote, and 0 if the handle holds no index of numbers. Runs in O(log n) and the number of places. */
+/* Writes the first pairs whose keys are within both bounds, in ascending order, as many as there
+ * are places. Returns how many it wrote, and 0 if the handle holds no index of numbers. Runs in
+ * O(log n) and the number of places. */
 size_t tree_index_fill(tree_index_handle *handle, uint8_t low_kind, uint64_t low, uint8_t high_kind, uint64_t high, tree_index_pair *places, size_t places_length);
 
-/* Writes the last pairs whose keys are within both bounds, in descending order, as many as there are places. Returns
- * how many it wrote, and 0 if the handle holds no index of numbers. Runs in O(log n) and the number of places. */
+/* Writes the last pairs whose keys are within both bounds, in descending order, as many as there
+ * are places. Returns how many it wrote, and 0 if the handle holds no index of numbers. Runs in
+ * O(log n) and the number of places. */
 size_t tree_index_fill_back(tree_index_handle *handle, uint8_t low_kind, uint64_t low, uint8_t high_kind, uint64_t high, tree_index_pair *places, size_t places_length);
 
-/* Removes every pair whose key is within both bounds. Answers `YES`, also if there was none. Makes O(log n)
- * comparisons, and frees the leaves between the bounds whole. Allocates nothing. */
+/* Removes every pair whose key is within both bounds. Answers `YES`, also if there was none. Makes
+ * O(log n) comparisons, and frees the leaves between the bounds whole. Allocates nothing. */
 uint8_t tree_index_remove_range(tree_index_handle *handle, uint8_t low_kind, uint64_t low, uint8_t high_kind, uint64_t high);
 
 /* Opens a closed handle on an index of these pairs, whose keys strictly ascend. Answers `NO` if
@@ -214,27 +226,27 @@ uint8_t tree_index_from_sorted(tree_index_handle *handle, const tree_index_pair 
 /* Opens a closed handle on a new, empty index of numbers. Allocates one block. */
 uint8_t tree_index_new(tree_index_handle *handle);
 
-/* Stores a pair if its key is absent. Answers `NO`, and changes nothing, if it is present. Runs in O(log n).
- * Allocates at most a leaf, a node a level and a new root. */
+/* Stores a pair if its key is absent. Answers `NO`, and changes nothing, if it is present. Runs in
+ * O(log n). Allocates at most a leaf, a node a level and a new root. */
 uint8_t tree_index_insert(tree_index_handle *handle, uint64_t key, uint64_t value);
 
-/* Stores a pair, in place of one with an equal key. Answers `YES` either way. Runs in O(log n). Allocates at most a
- * leaf, a node a level and a new root. */
+/* Stores a pair, in place of one with an equal key. Answers `YES` either way. Runs in O(log n).
+ * Allocates at most a leaf, a node a level and a new root. */
 uint8_t tree_index_upsert(tree_index_handle *handle, uint64_t key, uint64_t value);
 
 /* Removes the pair with a key. Answers whether there was one. Runs in O(log n). Allocates nothing. */
 uint8_t tree_index_remove(tree_index_handle *handle, uint64_t key);
 
-/* Removes the pair with a key and writes its value. Answers `NO`, and writes nothing, if the key is absent. Runs in
- * O(log n). Allocates nothing. */
+/* Removes the pair with a key and writes its value. Answers `NO`, and writes nothing, if the key
+ * is absent. Runs in O(log n). Allocates nothing. */
 uint8_t tree_index_take(tree_index_handle *handle, uint64_t key, uint64_t *value);
 
-/* Removes the pair with the smallest key and writes it. Answers `NO`, and writes nothing, if there is none. Runs in
- * O(log n). Allocates nothing. */
+/* Removes the pair with the smallest key and writes it. Answers `NO`, and writes nothing, if there
+ * is none. Runs in O(log n). Allocates nothing. */
 uint8_t tree_index_pop_first(tree_index_handle *handle, tree_index_pair *pair);
 
-/* Removes the pair with the largest key and writes it. Answers `NO`, and writes nothing, if there is none. Runs in
- * O(log n). Allocates nothing. */
+/* Removes the pair with the largest key and writes it. Answers `NO`, and writes nothing, if there
+ * is none. Runs in O(log n). Allocates nothing. */
 uint8_t tree_index_pop_last(tree_index_handle *handle, tree_index_pair *pair);
 
 /* End of the declarations. */

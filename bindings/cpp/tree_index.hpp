@@ -1,8 +1,9 @@
 // TreeIndex for C++17, in one header over tree_index.h: an ordered index of numbers, and one of byte strings.
 //
-// An index owns its handle: it moves and swaps, and copies by copy() alone. Look-ups answer by std::optional. The only
-// exception is std::bad_alloc, where an allocation was refused; the pairs are then as they were. Threads that share an
-// index take a lock around each call, look-ups too.
+// An index owns its handle: it moves and swaps, and copies by copy() alone. Look-ups return a std::optional. A call throws
+// std::bad_alloc if it cannot allocate, and the pairs are then as they were; at() throws std::out_of_range for an absent key.
+// Walks are forward ranges of C++20, and give pairs by value. Threads that share an index take a lock around each call,
+// look-ups too.
 #pragma once
 
 #include <algorithm>
@@ -10,13 +11,18 @@
 #include <cstddef>
 #include <cstdint>
 #include <iterator>
+#include <memory>
 #include <new>
 #include <optional>
+#include <stdexcept>
 #include <string>
 #include <string_view>
 #include <type_traits>
 #include <utility>
 #include <vector>
+#if __cplusplus >= 202002L
+#include <ranges>
+#endif
 
 #include "tree_index.h"
 
@@ -24,10 +30,16 @@ namespace tree_index {
 
 namespace inside {
 
-// Answers whether a write was done, and throws where memory was refused.
+// Answers whether a write was done, and throws if it could not allocate.
 inline bool done(uint8_t answer) {
   if (answer == TREE_INDEX_NO_MEMORY) throw std::bad_alloc();
   return answer == TREE_INDEX_YES;
+}
+
+// The value that a look-up found, or an exception.
+inline uint64_t value_at(std::optional<uint64_t> found) {
+  if (!found) throw std::out_of_range("tree_index: the key is absent");
+  return *found;
 }
 
 // An open handle and its end.
@@ -47,6 +59,15 @@ public:
   void swap(owner &other) noexcept { std::swap(handle_, other.handle_); }
   ::tree_index_handle *get() const noexcept { return &handle_; }
 };
+
+// What `->` of a walk leads to, since a walk gives its pairs by value.
+template <class Pair> struct arrow {
+  Pair pair;
+  const Pair *operator->() const noexcept { return &pair; }
+};
+
+// How many pairs a walk reads ahead, and how many it reads first if it was begun for one pair.
+constexpr std::size_t most_ahead = 64, few_ahead = 4;
 
 // Where each type is a whole number. An argument `{}` is none, and so is taken as a bound.
 template <class... Numbers> using if_numbers = std::enable_if_t<(std::is_integral_v<Numbers> && ...)>;
@@ -73,6 +94,7 @@ public:
 
   class iterator;
   class range_type;
+  using const_iterator = iterator;
 
   // Allocates one block.
   index() { inside::done(tree_index_new(owner_.get())); }
@@ -118,6 +140,8 @@ public:
     uint64_t value;
     return tree_index_peek(owner_.get(), key, &value) == TREE_INDEX_YES ? std::optional(value) : std::nullopt;
   }
+  // The same, or std::out_of_range if the key is absent.
+  uint64_t at(uint64_t key) const { return inside::value_at(find(key)); }
   bool contains(uint64_t key) const { return tree_index_contains(owner_.get(), key) == TREE_INDEX_YES; }
   size_type size() const noexcept { return tree_index_len(owner_.get()); }
   bool empty() const noexcept { return size() == 0; }
@@ -143,6 +167,9 @@ public:
   template <class Low, class High, class = inside::if_numbers<Low, High>> range_type range(Low low, High high) const;
   range_type range(bound low, bound high) const;
   range_type reversed(bound low = {}, bound high = {}) const;
+  // A walk from the first key that isn't smaller than this one, or from the first that is larger.
+  iterator lower_bound(uint64_t key) const;
+  iterator upper_bound(uint64_t key) const;
 
 private:
   struct closed {};
@@ -154,54 +181,61 @@ private:
   }
 };
 
-// A walk that reads 64 pairs ahead.
+// A walk over an index. A copy goes on by itself.
 class index::iterator {
-  static constexpr std::size_t ahead = 64;
+  // What was read ahead: only the first `count` places have pairs.
+  struct page {
+    std::array<tree_index_pair, inside::most_ahead> places;
+    std::size_t at = 0, count = 0;
+
+    page() noexcept {}
+    page(const page &other) noexcept { *this = other; }
+    page &operator=(const page &other) noexcept {
+      std::copy_n(other.places.begin(), other.count, places.begin());
+      at = other.at;
+      count = other.count;
+      return *this;
+    }
+    const tree_index_pair &pair() const noexcept { return places[at]; }
+  };
 
   const index *of_ = nullptr;
   bool descends_ = false;
   bound low_, high_;
-  std::array<tree_index_pair, ahead> places_;
-  std::size_t at_ = 0, count_ = 0;
-  index::value_type pair_;
+  page page_;
 
-  void read() {
+  void read(std::size_t most) noexcept {
     auto call = descends_ ? tree_index_fill_back : tree_index_fill;
-    count_ = call(of_->owner_.get(), low_.kind, low_.key, high_.kind, high_.key, places_.data(), ahead);
-    at_ = 0;
-    if (count_ == 0) {
-      of_ = nullptr;
-      return;
-    }
-    (descends_ ? high_ : low_) = bound::excluding(places_[count_ - 1].key);
-    show();
+    page_.count = call(of_->owner_.get(), low_.kind, low_.key, high_.kind, high_.key, page_.places.data(), most);
+    page_.at = 0;
+    if (page_.count == 0) of_ = nullptr;
+    else (descends_ ? high_ : low_) = bound::excluding(page_.places[page_.count - 1].key);
   }
-  void show() { pair_ = {places_[at_].key, places_[at_].value}; }
 
 public:
+  using iterator_concept = std::forward_iterator_tag;
   using iterator_category = std::input_iterator_tag;
   using value_type = index::value_type;
   using difference_type = std::ptrdiff_t;
-  using pointer = const value_type *;
-  using reference = const value_type &;
+  using pointer = inside::arrow<value_type>;
+  using reference = value_type;
 
-  iterator() = default;
-  iterator(const index *of, bool descends, bound low, bound high) : of_(of), descends_(descends), low_(low), high_(high) { read(); }
+  iterator() noexcept = default;
+  iterator(const index *of, bool descends, bound low, bound high, std::size_t first = inside::most_ahead) noexcept : of_(of), descends_(descends), low_(low), high_(high) { read(first); }
 
-  reference operator*() const { return pair_; }
-  pointer operator->() const { return &pair_; }
-  iterator &operator++() {
-    if (++at_ == count_) read();
-    else show();
+  reference operator*() const noexcept { return {page_.pair().key, page_.pair().value}; }
+  pointer operator->() const noexcept { return {**this}; }
+  iterator &operator++() noexcept {
+    if (++page_.at == page_.count) read(inside::most_ahead);
     return *this;
   }
-  iterator operator++(int) {
+  iterator operator++(int) noexcept {
     iterator was = *this;
     ++*this;
     return was;
   }
-  friend bool operator==(const iterator &a, const iterator &b) { return a.of_ == b.of_ && (!a.of_ || a.pair_.first == b.pair_.first); }
-  friend bool operator!=(const iterator &a, const iterator &b) { return !(a == b); }
+  friend bool operator==(const iterator &a, const iterator &b) noexcept { return a.of_ == b.of_ && (!a.of_ || a.page_.pair().key == b.page_.pair().key); }
+  friend bool operator!=(const iterator &a, const iterator &b) noexcept { return !(a == b); }
 };
 
 class index::range_type {
@@ -210,9 +244,9 @@ class index::range_type {
   bound low_, high_;
 
 public:
-  range_type(const index *of, bool descends, bound low, bound high) : of_(of), descends_(descends), low_(low), high_(high) {}
-  iterator begin() const { return iterator(of_, descends_, low_, high_); }
-  iterator end() const { return iterator(); }
+  range_type(const index *of, bool descends, bound low, bound high) noexcept : of_(of), descends_(descends), low_(low), high_(high) {}
+  iterator begin() const noexcept { return iterator(of_, descends_, low_, high_); }
+  iterator end() const noexcept { return iterator(); }
 };
 
 inline index::iterator index::begin() const { return iterator(this, false, {}, {}); }
@@ -220,6 +254,8 @@ inline index::iterator index::end() const { return iterator(); }
 template <class Low, class High, class> index::range_type index::range(Low low, High high) const { return range(bound::including(low), bound::excluding(high)); }
 inline index::range_type index::range(bound low, bound high) const { return range_type(this, false, low, high); }
 inline index::range_type index::reversed(bound low, bound high) const { return range_type(this, true, low, high); }
+inline index::iterator index::lower_bound(uint64_t key) const { return iterator(this, false, bound::including(key), {}, inside::few_ahead); }
+inline index::iterator index::upper_bound(uint64_t key) const { return iterator(this, false, bound::excluding(key), {}, inside::few_ahead); }
 
 // A bound of a range of keys that are byte strings. `byte_bound{}`, or `{}` in its place, is no bound.
 struct byte_bound {
@@ -233,7 +269,7 @@ struct byte_bound {
 class byte_index {
   inside::owner owner_;
 
-  static const uint8_t *at(std::string_view key) {
+  static const uint8_t *bytes_of(std::string_view key) {
     static const uint8_t none = 0;
     return key.empty() ? &none : reinterpret_cast<const uint8_t *>(key.data());
   }
@@ -246,6 +282,7 @@ public:
 
   class iterator;
   class range_type;
+  using const_iterator = iterator;
 
   // Allocates one block.
   byte_index() { inside::done(tree_index_bytes_new(owner_.get())); }
@@ -262,16 +299,16 @@ public:
   void swap(byte_index &other) noexcept { owner_.swap(other.owner_); }
   friend void swap(byte_index &a, byte_index &b) noexcept { a.swap(b); }
 
-  bool insert(std::string_view key, uint64_t value) { return inside::done(tree_index_bytes_insert(owner_.get(), at(key), key.size(), value)); }
-  void upsert(std::string_view key, uint64_t value) { inside::done(tree_index_bytes_upsert(owner_.get(), at(key), key.size(), value)); }
+  bool insert(std::string_view key, uint64_t value) { return inside::done(tree_index_bytes_insert(owner_.get(), bytes_of(key), key.size(), value)); }
+  void upsert(std::string_view key, uint64_t value) { inside::done(tree_index_bytes_upsert(owner_.get(), bytes_of(key), key.size(), value)); }
   // Removals copy the key, or the keys of the bounds, meanwhile.
-  size_type erase(std::string_view key) { return inside::done(tree_index_bytes_remove(owner_.get(), at(key), key.size())); }
+  size_type erase(std::string_view key) { return inside::done(tree_index_bytes_remove(owner_.get(), bytes_of(key), key.size())); }
   std::optional<uint64_t> take(std::string_view key) {
     uint64_t value;
-    return inside::done(tree_index_bytes_take(owner_.get(), at(key), key.size(), &value)) ? std::optional(value) : std::nullopt;
+    return inside::done(tree_index_bytes_take(owner_.get(), bytes_of(key), key.size(), &value)) ? std::optional(value) : std::nullopt;
   }
   void erase_range(const byte_bound &low, const byte_bound &high) {
-    inside::done(tree_index_bytes_remove_range(owner_.get(), low.kind, at(low.key), low.key.size(), high.kind, at(high.key), high.key.size()));
+    inside::done(tree_index_bytes_remove_range(owner_.get(), low.kind, bytes_of(low.key), low.key.size(), high.kind, bytes_of(high.key), high.key.size()));
   }
   void clear() noexcept { tree_index_clear(owner_.get()); }
   std::optional<value_type> pop_first() {
@@ -284,9 +321,10 @@ public:
   // Look-ups by a key copy nothing.
   std::optional<uint64_t> find(std::string_view key) const {
     uint64_t value;
-    return tree_index_bytes_peek(owner_.get(), at(key), key.size(), &value) == TREE_INDEX_YES ? std::optional(value) : std::nullopt;
+    return tree_index_bytes_peek(owner_.get(), bytes_of(key), key.size(), &value) == TREE_INDEX_YES ? std::optional(value) : std::nullopt;
   }
-  bool contains(std::string_view key) const { return tree_index_bytes_contains(owner_.get(), at(key), key.size()) == TREE_INDEX_YES; }
+  uint64_t at(std::string_view key) const { return inside::value_at(find(key)); }
+  bool contains(std::string_view key) const { return tree_index_bytes_contains(owner_.get(), bytes_of(key), key.size()) == TREE_INDEX_YES; }
   size_type size() const noexcept { return tree_index_len(owner_.get()); }
   bool empty() const noexcept { return size() == 0; }
   size_type depth() const noexcept { return tree_index_depth(owner_.get()); }
@@ -297,10 +335,10 @@ public:
     return pair_by([this](uint8_t *key, size_t length, tree_index_entry *entry) { return tree_index_bytes_last(owner_.get(), key, length, entry); });
   }
   std::optional<value_type> at_or_below(std::string_view sought) const {
-    return pair_by([&](uint8_t *key, size_t length, tree_index_entry *entry) { return tree_index_bytes_at_or_below(owner_.get(), at(sought), sought.size(), key, length, entry); });
+    return pair_by([&](uint8_t *key, size_t length, tree_index_entry *entry) { return tree_index_bytes_at_or_below(owner_.get(), bytes_of(sought), sought.size(), key, length, entry); });
   }
   std::optional<value_type> at_or_above(std::string_view sought) const {
-    return pair_by([&](uint8_t *key, size_t length, tree_index_entry *entry) { return tree_index_bytes_at_or_above(owner_.get(), at(sought), sought.size(), key, length, entry); });
+    return pair_by([&](uint8_t *key, size_t length, tree_index_entry *entry) { return tree_index_bytes_at_or_above(owner_.get(), bytes_of(sought), sought.size(), key, length, entry); });
   }
 
   // The pairs in order. After a write begin a new walk: an old one may still give up to 64 pairs as they were before.
@@ -308,6 +346,9 @@ public:
   iterator end() const;
   range_type range(byte_bound low = {}, byte_bound high = {}) const;
   range_type reversed(byte_bound low = {}, byte_bound high = {}) const;
+  // A walk from the first key that isn't smaller than this one, or from the first that is larger.
+  iterator lower_bound(std::string_view key) const;
+  iterator upper_bound(std::string_view key) const;
 
 private:
   struct closed {};
@@ -329,53 +370,67 @@ private:
   }
 };
 
-// A walk that reads up to 64 pairs ahead.
+// A walk over an index. A copy goes on by itself, and shares what was read ahead. If a step cannot allocate, the walk stays.
 class byte_index::iterator {
-  static constexpr std::size_t ahead = 64;
+  // What was read ahead: the bytes of one key after another, and the length and the value of each.
+  struct page {
+    std::vector<uint8_t> keys;
+    std::array<tree_index_entry, inside::most_ahead> entries;
+    std::size_t count = 0;
+  };
 
   const byte_index *of_ = nullptr;
   bool descends_ = false;
   byte_bound low_, high_;
-  std::vector<byte_index::value_type> pairs_;
-  std::size_t at_ = 0;
+  std::shared_ptr<const page> page_;
+  // The entry, and where its key begins.
+  std::size_t at_ = 0, from_ = 0;
 
-  void read() {
-    std::vector<uint8_t> keys(2048);
-    std::array<tree_index_entry, ahead> entries;
-    std::size_t count = 0, from = 0;
+  const tree_index_entry &entry() const { return page_->entries[at_]; }
+  std::string_view key() const { return {reinterpret_cast<const char *>(page_->keys.data()) + from_, entry().length}; }
+
+  void read(std::size_t most) {
+    auto made = std::make_shared<page>();
+    made->keys.resize(32 * most);
     auto call = descends_ ? tree_index_bytes_fill_back : tree_index_bytes_fill;
     for (;;) {
-      uint8_t answer = call(of_->owner_.get(), low_.kind, at(low_.key), low_.key.size(), high_.kind, at(high_.key), high_.key.size(), keys.data(), keys.size(), entries.data(), ahead, &count);
-      if (answer != TREE_INDEX_NO_ROOM) {
-        inside::done(answer);
-        break;
-      }
-      keys.resize(count);
+      uint8_t answer = call(of_->owner_.get(), low_.kind, bytes_of(low_.key), low_.key.size(), high_.kind, bytes_of(high_.key), high_.key.size(), made->keys.data(), made->keys.size(), made->entries.data(), most, &made->count);
+      if (inside::done(answer) || answer != TREE_INDEX_NO_ROOM) break;
+      made->keys.resize(made->count);
     }
-    at_ = 0;
-    pairs_.clear();
-    for (std::size_t n = 0; n < count; n++) {
-      pairs_.emplace_back(std::string(keys.begin() + from, keys.begin() + from + entries[n].length), entries[n].value);
-      from += entries[n].length;
+    if (made->count == 0) {
+      of_ = nullptr;
+      page_.reset();
+      return;
     }
-    if (count == 0) of_ = nullptr;
-    else (descends_ ? high_ : low_) = byte_bound::excluding(pairs_.back().first);
+    std::size_t last = made->count - 1, before = 0;
+    for (std::size_t n = 0; n < last; n++) before += made->entries[n].length;
+    std::string_view bytes(reinterpret_cast<const char *>(made->keys.data()), made->keys.size());
+    (descends_ ? high_ : low_) = byte_bound::excluding(bytes.substr(before, made->entries[last].length));
+    page_ = std::move(made);
+    at_ = from_ = 0;
   }
 
 public:
+  using iterator_concept = std::forward_iterator_tag;
   using iterator_category = std::input_iterator_tag;
   using value_type = byte_index::value_type;
   using difference_type = std::ptrdiff_t;
-  using pointer = const value_type *;
-  using reference = const value_type &;
+  using pointer = inside::arrow<value_type>;
+  using reference = value_type;
 
   iterator() = default;
-  iterator(const byte_index *of, bool descends, byte_bound low, byte_bound high) : of_(of), descends_(descends), low_(std::move(low)), high_(std::move(high)) { read(); }
+  iterator(const byte_index *of, bool descends, byte_bound low, byte_bound high, std::size_t first = inside::most_ahead) : of_(of), descends_(descends), low_(std::move(low)), high_(std::move(high)) { read(first); }
 
-  reference operator*() const { return pairs_[at_]; }
-  pointer operator->() const { return &pairs_[at_]; }
+  reference operator*() const { return {std::string(key()), entry().value}; }
+  pointer operator->() const { return {**this}; }
   iterator &operator++() {
-    if (++at_ == pairs_.size()) read();
+    if (at_ + 1 == page_->count) {
+      read(inside::most_ahead);
+    } else {
+      from_ += entry().length;
+      at_++;
+    }
     return *this;
   }
   iterator operator++(int) {
@@ -383,7 +438,7 @@ public:
     ++*this;
     return was;
   }
-  friend bool operator==(const iterator &a, const iterator &b) { return a.of_ == b.of_ && (!a.of_ || a->first == b->first); }
+  friend bool operator==(const iterator &a, const iterator &b) { return a.of_ == b.of_ && (!a.of_ || a.key() == b.key()); }
   friend bool operator!=(const iterator &a, const iterator &b) { return !(a == b); }
 };
 
@@ -402,5 +457,14 @@ inline byte_index::iterator byte_index::begin() const { return iterator(this, fa
 inline byte_index::iterator byte_index::end() const { return iterator(); }
 inline byte_index::range_type byte_index::range(byte_bound low, byte_bound high) const { return range_type(this, false, std::move(low), std::move(high)); }
 inline byte_index::range_type byte_index::reversed(byte_bound low, byte_bound high) const { return range_type(this, true, std::move(low), std::move(high)); }
+inline byte_index::iterator byte_index::lower_bound(std::string_view key) const { return iterator(this, false, byte_bound::including(key), {}, inside::few_ahead); }
+inline byte_index::iterator byte_index::upper_bound(std::string_view key) const { return iterator(this, false, byte_bound::excluding(key), {}, inside::few_ahead); }
 
 } // namespace tree_index
+
+#ifdef __cpp_lib_ranges
+// A range of an index is a view, and its walks outlive it, since they read the index.
+template <> inline constexpr bool std::ranges::enable_view<tree_index::index::range_type> = true;
+template <> inline constexpr bool std::ranges::enable_borrowed_range<tree_index::index::range_type> = true;
+template <> inline constexpr bool std::ranges::enable_borrowed_range<tree_index::byte_index::range_type> = true;
+#endif

@@ -1,16 +1,18 @@
 """Builds the extension over libtree_index_c.a.
 
 TREE_INDEX_LIB_DIR and TREE_INDEX_INCLUDE_DIR name the folders of the archive and of tree_index.h, as `make install` of
-bindings/c fills them. Without them the archive that bindings/run built is taken.
+bindings/c fills them. Without them those of the checkout are taken.
 """
 import os
 import pathlib
+import platform
 
 from setuptools import Extension, setup
 
-C = pathlib.Path(__file__).resolve().parent.parent / "c"
-INCLUDE = os.environ.get("TREE_INDEX_INCLUDE_DIR", str(C))
-ARCHIVE = os.path.join(os.environ.get("TREE_INDEX_LIB_DIR", str(C / "build")), "libtree_index_c.a")
+BINDINGS = pathlib.Path(__file__).resolve().parent.parent
+INCLUDE = os.environ.get("TREE_INDEX_INCLUDE_DIR", str(BINDINGS / "c"))
+FOLDER = os.environ.get("TREE_INDEX_LIB_DIR", str(BINDINGS / "dist" / f"{platform.machine()}-linux-gnu"))
+ARCHIVE = os.path.join(FOLDER, "libtree_index_c.a")
 flags = os.environ.get("TREE_INDEX_CFLAGS", "").split()
 
 setup(

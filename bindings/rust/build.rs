@@ -1,15 +1,22 @@
-//! Links the static library, and the three functions of the C library's heap that it calls.
+//! Links the static library.
 //!
-//! `TREE_INDEX_LIB_DIR` names the folder of both, which `make install` of `bindings/c` fills. Without it the archive that
-//! `bindings/run` built is taken, and else the linker's own folders are searched.
+//! `TREE_INDEX_LIB_DIR` names its folder. Without it the archive of `bindings/dist` is taken if the checkout has one for the
+//! target, and else the linker's own folders are searched.
+use std::env;
 use std::path::{Path, PathBuf};
+
+/// Returns the folder of the checkout's archive for the target, if it has one.
+fn in_checkout() -> Option<PathBuf> {
+    let target = ["ARCH", "OS", "ENV"].map(|part| env::var(format!("CARGO_CFG_TARGET_{part}")).unwrap_or_default());
+    let here = env::var_os("CARGO_MANIFEST_DIR")?;
+    let folder = Path::new(&here).join("../dist").join(target.join("-"));
+    folder.is_dir().then_some(folder)
+}
 
 fn main() {
     println!("cargo:rerun-if-env-changed=TREE_INDEX_LIB_DIR");
-    let here = std::env::var("CARGO_MANIFEST_DIR").unwrap_or_default();
-    let built = Path::new(&here).join("../c/build");
-    let named = std::env::var("TREE_INDEX_LIB_DIR").ok().map(PathBuf::from);
-    if let Some(folder) = named.or(built.is_dir().then_some(built)) {
+    let named = env::var_os("TREE_INDEX_LIB_DIR").map(PathBuf::from);
+    if let Some(folder) = named.or_else(in_checkout) {
         println!("cargo:rustc-link-search=native={}", folder.display());
         println!("cargo:rerun-if-changed={}", folder.join("libtree_index_c.a").display());
     }

@@ -4,6 +4,7 @@
 #include <cstdlib>
 #include <map>
 #include <random>
+#include <stdexcept>
 
 #define WANT(what)                                                  \
   do {                                                              \
@@ -24,11 +25,28 @@ template <class Map> static auto last_before(const Map &map, typename Map::const
   return at == map.begin() ? pair_at(map.end(), map.end()) : pair_at(std::prev(at), map.end());
 }
 template <class Walk, class It> static void same(const Walk &walk, It at, It end) {
-  for (auto &pair : walk) {
+  for (const auto &pair : walk) {
     WANT(at != end && pair.first == at->first && pair.second == at->second);
     ++at;
   }
   WANT(at == end);
+}
+
+// What at() returns, or nothing if it throws.
+template <class Index, class Key> static std::optional<uint64_t> value_at(const Index &index, const Key &key) {
+  try {
+    return index.at(key);
+  } catch (const std::out_of_range &) {
+    return std::nullopt;
+  }
+}
+
+// A walk from a place gives what a map's does, for a few steps.
+template <class Walk, class It> static void same_from(Walk walk, Walk end, It at, It last) {
+  for (int steps = 0; steps < 80 && walk != end; steps++, at++) {
+    WANT(at != last && walk->first == at->first && (*walk++).second == at->second);
+  }
+  WANT((walk == end) == (at == last));
 }
 
 static void numbers(uint64_t keys, int calls) {
@@ -43,7 +61,10 @@ static void numbers(uint64_t keys, int calls) {
     case 3: index.upsert(key, value); map[key] = value; break;
     case 4: WANT(index.erase(key) == map.erase(key)); break;
     case 5: WANT(index.take(key) == (is ? std::optional(at->second) : std::nullopt)); map.erase(key); break;
-    case 6: WANT(index.find(key) == (is ? std::optional(at->second) : std::nullopt) && index.contains(key) == is && index.size() == map.size()); break;
+    case 6:
+      WANT(index.find(key) == (is ? std::optional(at->second) : std::nullopt) && index.contains(key) == is && index.size() == map.size());
+      WANT(value_at(index, key) == index.find(key));
+      break;
     case 7:
       WANT(index.at_or_above(key) == pair_at(at, map.end()) && index.at_or_below(key) == last_before(map, is ? std::next(at) : at));
       WANT(index.first() == pair_at(map.begin(), map.end()) && index.last() == last_before(map, map.end()));
@@ -53,6 +74,8 @@ static void numbers(uint64_t keys, int calls) {
       auto end = map.lower_bound(high);
       same(index.range(key, high), at, end);
       same(index.reversed(tree_index::bound::including(key), tree_index::bound::excluding(high)), std::make_reverse_iterator(end), std::make_reverse_iterator(at));
+      same_from(index.lower_bound(key), index.end(), at, map.end());
+      same_from(index.upper_bound(key), index.end(), map.upper_bound(key), map.end());
       break;
     }
     default:
@@ -100,6 +123,7 @@ static void byte_strings(size_t longest, int calls) {
     case 5: WANT(index.take(key) == (is ? std::optional(at->second) : std::nullopt)); map.erase(key); break;
     case 6:
       WANT(index.find(key) == (is ? std::optional(at->second) : std::nullopt) && index.contains(key) == is && index.size() == map.size());
+      WANT(value_at(index, key) == index.find(key));
       WANT(index.at_or_above(key) == pair_at(at, map.end()) && index.at_or_below(key) == last_before(map, is ? std::next(at) : at));
       break;
     case 7: {
@@ -107,6 +131,8 @@ static void byte_strings(size_t longest, int calls) {
       auto from = map.lower_bound(key), to = map.upper_bound(other);
       same(index.range(tree_index::byte_bound::including(key), tree_index::byte_bound::including(other)), from, to);
       same(index.reversed(tree_index::byte_bound::including(key), tree_index::byte_bound::including(other)), std::make_reverse_iterator(to), std::make_reverse_iterator(from));
+      same_from(index.lower_bound(key), index.end(), from, map.end());
+      same_from(index.upper_bound(other), index.end(), to, map.end());
       break;
     }
     default:

@@ -5,7 +5,7 @@ void *__real_malloc(size_t size);
 void *__real_realloc(void *block, size_t size);
 void __real_free(void *block);
 
-static long requests, refused_at, blocks, refusals;
+static long requests, refused_at, blocks, refusals, got_by;
 
 static int is_refused(void) { return ++requests == refused_at && ++refusals; }
 
@@ -35,15 +35,18 @@ static const uint8_t *bytes_of(uint64_t key, uint8_t *room) {
   return room;
 }
 
-/* A call that was refused changed nothing, and succeeds the second time. */
+/* A call that answers NO_MEMORY was refused and changed nothing, and succeeds the second time. Another that was refused got
+ * by with less, as one that asked for room for all pairs at once, and did what it does with ample memory. */
 static void again(int is_bytes, uint8_t (*call)(int, uint64_t), uint64_t key) {
   size_t before = tree_index_len(&index_);
   long was = refusals;
   uint8_t answer = call(is_bytes, key);
-  if (refusals > was) {
-    WANT(answer == TREE_INDEX_NO_MEMORY);
+  if (answer == TREE_INDEX_NO_MEMORY) {
+    WANT(refusals > was);
     WANT(tree_index_len(&index_) == before);
     answer = call(is_bytes, key);
+  } else {
+    got_by += refusals > was;
   }
   WANT(answer == TREE_INDEX_YES);
 }
@@ -132,8 +135,10 @@ static int run(int is_bytes, long at) {
 int main(void) {
   for (int is_bytes = 0; is_bytes < 2; is_bytes++) {
     long at = 1;
+    got_by = 0;
     while (run(is_bytes, at)) at++;
-    printf("C, %s: each of %ld requests for memory refused in turn: nothing lost, each call done the second time, no block left\n", is_bytes ? "byte strings" : "numbers", at - 1);
+    WANT(got_by <= 1);
+    printf("C, %s: each of %ld requests for memory refused in turn: nothing lost, each call done the second time or by a smaller request, no block left\n", is_bytes ? "byte strings" : "numbers", at - 1);
   }
   return 0;
 }

@@ -47,7 +47,7 @@ static bool run(long at) {
   }
   std::optional<tree_index::index> copy;
   refusals += twice([&] { copy = numbers->copy(); });
-  refusals += twice([&] { std::size_t count = 0; for (auto &pair : *words) count += pair.second < 300; want(count == 300, "a walk over words"); });
+  refusals += twice([&] { std::size_t count = 0; for (const auto &pair : *words) count += pair.second < 300; want(count == 300, "a walk over words"); });
   refused_at = -1;
   want(copy->size() == 300 && numbers->size() == 300 && words->size() == 300, "the pairs at the end");
   return refusals > 0;

@@ -1,11 +1,14 @@
 """The mapping beside a dict, and beside sortedcontainers.SortedDict where it is installed."""
+import ast
 import collections.abc
 import copy
 import gc
+import os
 import pickle
 import random
 import sys
 
+import tree_index
 from tree_index import TreeIndex
 
 try:
@@ -86,6 +89,22 @@ def test_long_keys():
     assert index.peekitem() == (b"T" * 57001, 19) and index.peekitem(2) == (b"C" * 6001, 2)
 
 
+def test_places():
+    for key_of in (lambda n: n * 3 - 100, lambda n: b"%04d" % n):
+        for count in (0, 1, 10, 200):
+            index, plain = TreeIndex((key_of(n), n) for n in range(count)), [key_of(n) for n in range(count)]
+            chance = random.Random(count)
+            place = lambda: chance.choice([None, chance.randrange(-count - 3, count + 4)])
+            for _ in range(300):
+                part = slice(place(), place(), chance.choice([None, 1, -1, 2, -3, count + 1]))
+                assert index.keys()[part] == plain[part] and index.values()[part] == list(range(count))[part]
+                assert index.items()[part] == list(index.items())[part]
+            for at in range(-count, count):
+                assert index.keys()[at] == plain[at] and index.items()[at] == index.peekitem(at)
+            assert refused(IndexError, index.keys().__getitem__, count) and refused(IndexError, index.items().__getitem__, -count - 1)
+            assert refused(TypeError, index.values().__getitem__, "x") and refused(TypeError, index.__getitem__, slice(1, 2))
+
+
 def test_is_a_mapping():
     index = TreeIndex({2: "b", 1: "a"})
     assert isinstance(index, collections.abc.MutableMapping)
@@ -98,6 +117,16 @@ def test_is_a_mapping():
     assert not index and list(index) == [] and refused(KeyError, index.popitem) and refused(IndexError, index.peekitem)
     index[b"now of bytes"] = 1
     assert list(index) == [b"now of bytes"]
+
+
+def test_stubs_name_what_is_there():
+    with open(os.path.splitext(tree_index.__file__)[0] + ".pyi", encoding="utf-8") as stubs:
+        classes = [it for it in ast.parse(stubs.read()).body if isinstance(it, ast.ClassDef)]
+    told = {it.name: {item.name for item in it.body if isinstance(item, ast.FunctionDef)} for it in classes}
+    assert all(name in dir(getattr(tree_index, kind)) for kind, names in told.items() for name in names)
+    own = {name for name in dir(TreeIndex) if not name.startswith("_")}
+    assert own - set(dir(collections.abc.MutableMapping)) <= told["TreeIndex"]
+    assert os.path.exists(os.path.join(os.path.dirname(tree_index.__file__), "py.typed"))
 
 
 def test_keys_that_do_not_fit():

@@ -197,9 +197,25 @@ impl<K: AsRef<[u8]>> FromIterator<(K, u64)> for ByteIndex {
     }
 }
 
+/// Copies every pair. Panics if an allocation fails; [`try_clone`](ByteIndex::try_clone) doesn't.
+impl Clone for ByteIndex {
+    fn clone(&self) -> Self {
+        self.try_clone().expect("memory for a copy")
+    }
+}
+
 impl fmt::Debug for ByteIndex {
     fn fmt(&self, f: &mut fmt::Formatter<'_>) -> fmt::Result {
         f.debug_map().entries(self.iter().map(|(key, value)| (String::from_utf8_lossy(&key).into_owned(), value))).finish()
+    }
+}
+
+impl<'t> IntoIterator for &'t ByteIndex {
+    type Item = (Vec<u8>, u64);
+    type IntoIter = ByteRange<'t>;
+
+    fn into_iter(self) -> ByteRange<'t> {
+        self.iter()
     }
 }
 

@@ -186,6 +186,13 @@ impl FromIterator<(u64, u64)> for TreeIndex {
     }
 }
 
+/// Copies every pair. Panics if an allocation fails; [`try_clone`](TreeIndex::try_clone) doesn't.
+impl Clone for TreeIndex {
+    fn clone(&self) -> Self {
+        self.try_clone().expect("memory for a copy")
+    }
+}
+
 impl fmt::Debug for TreeIndex {
     fn fmt(&self, f: &mut fmt::Formatter<'_>) -> fmt::Result {
         f.debug_map().entries(self.iter()).finish()

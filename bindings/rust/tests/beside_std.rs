@@ -148,6 +148,40 @@ fn answers_as_btree_map_over_bytes() {
 }
 
 #[test]
+fn is_used_as_a_standard_map_is() {
+    let pairs = || (0..200).map(|key| (key * 7 % 200, key));
+    let mut index: TreeIndex = pairs().collect();
+    let mut map: BTreeMap<u64, u64> = pairs().collect();
+    index.extend([(5, 1), (500, 2)]);
+    map.extend([(5, 1), (500, 2)]);
+    let mut copy = index.clone();
+    copy.clear();
+    assert_eq!(format!("{index:?} {copy:?}"), format!("{map:?} {{}}"));
+    let mut walked = Vec::new();
+    for (key, value) in &index {
+        walked.push((key, value));
+    }
+    assert_eq!(walked, map.into_iter().collect::<Vec<_>>());
+}
+
+#[test]
+fn of_bytes_is_used_as_a_standard_map_is() {
+    let words = || (0..200).map(|key| (format!("{:03}", key * 7 % 200), key));
+    let mut index: ByteIndex = words().collect();
+    let mut map: BTreeMap<String, u64> = words().collect();
+    index.extend([("005", 1), ("more", 2)]);
+    map.extend([("005".to_owned(), 1), ("more".to_owned(), 2)]);
+    let mut copy = index.clone();
+    copy.clear();
+    assert_eq!(format!("{index:?} {copy:?}"), format!("{map:?} {{}}"));
+    let mut walked = Vec::new();
+    for (key, value) in &index {
+        walked.push((String::from_utf8(key).unwrap(), value));
+    }
+    assert_eq!(walked, map.into_iter().collect::<Vec<_>>());
+}
+
+#[test]
 fn is_shared_behind_a_lock() {
     let shared = Arc::new(Mutex::new(TreeIndex::new().unwrap()));
     let workers: Vec<_> = (0..4)

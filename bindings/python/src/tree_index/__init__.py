@@ -12,6 +12,7 @@ between -2**63 and 2**63 - 1, or bytes, as the first key decides. Its values are
 TreeIndex({104: 'b'})
 """
 from collections.abc import ItemsView, KeysView, MutableMapping, ValuesView
+from itertools import islice
 
 from ._core import Index
 
@@ -20,14 +21,33 @@ __all__ = ["TreeIndex"]
 _KEYS, _VALUES, _ITEMS = range(3)
 
 
-class _Keys(KeysView):
+class _Places:
+    """What is at a place of a view, or at the places of a slice. It walks there from the nearer end, since an index counts no places."""
+
+    __slots__ = ()
+
+    def __getitem__(self, place):
+        if not isinstance(place, slice):
+            at = range(len(self))[place]
+            return self[at : at + 1][0]
+        places = range(len(self))[place]
+        if not places:
+            return []
+        low, high = sorted((places[0], places[-1]))
+        before, behind = low, len(self) - 1 - high
+        walk, skipped = (iter(self), before) if before <= behind else (reversed(self), behind)
+        found = list(islice(walk, skipped, skipped + high - low + 1, abs(places.step)))
+        return found if (before <= behind) == (places.step > 0) else found[::-1]
+
+
+class _Keys(_Places, KeysView):
     __slots__ = ()
 
     def __reversed__(self):
         return reversed(self._mapping)
 
 
-class _Values(ValuesView):
+class _Values(_Places, ValuesView):
     __slots__ = ()
 
     def __iter__(self):
@@ -37,7 +57,7 @@ class _Values(ValuesView):
         return self._mapping._walk(_VALUES, True)
 
 
-class _Items(ItemsView):
+class _Items(_Places, ItemsView):
     __slots__ = ()
 
     def __iter__(self):

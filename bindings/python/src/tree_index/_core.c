@@ -76,6 +76,10 @@ static int read_key(PyObject *object, Key *key) {
     key->bytes = (const uint8_t *)bytes;
     return 0;
   }
+  if (PySlice_Check(object)) {
+    PyErr_SetString(PyExc_TypeError, "an index has no slices: irange() walks from one key to another, and keys()[i:j] to a place");
+    return -1;
+  }
   PyErr_Format(PyExc_TypeError, "a key is an int or a bytes, not %R", (PyObject *)Py_TYPE(object));
   return -1;
 }

@@ -1,0 +1,24 @@
+"""What the stubs of the package say. mypy reads this file, and nothing runs it: each line that is ignored must be an error."""
+from typing import Iterator, List, Optional, Tuple
+
+from tree_index import TreeIndex
+
+prices: TreeIndex[int, str] = TreeIndex({101: "five", 104: "one"})
+sizes = TreeIndex([(b"a", 1.5), (b"b", 2.5)])
+
+value: str = prices[101]
+default: Optional[str] = prices.get(102)
+size: float = sizes.setdefault(b"c", 3.5)
+near: Optional[Tuple[int, str]] = prices.at_or_above(100)
+last: Tuple[bytes, float] = sizes.peekitem()
+walk: Iterator[int] = prices.irange(101, reverse=True)
+gone: List[Tuple[bytes, float]] = sizes.pop_range(maximum=b"b")
+both: TreeIndex[int, str] = prices | {107: "three"}
+place: int = prices.keys()[0]
+places: List[Tuple[int, str]] = prices.items()[-2:]
+backwards: Iterator[str] = reversed(prices.values())
+
+prices[101:104]  # type: ignore[index]
+prices[b"x"]  # type: ignore[index]
+sizes[b"x"] = "large"  # type: ignore[assignment]
+names: TreeIndex[str, int]  # type: ignore[type-var]
