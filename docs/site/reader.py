@@ -514,6 +514,8 @@ def words():
         ahead += words_in(item.file, "\n".join(CONTRACTS.clauses_of(item.lines))).items()
     for item in (it for kind in types().values() for it in kind.impls):
         ahead += words_in(item.file, " ".join(text for _, text in item.ghosts)).items()
+    for item in (it for it in types().values() if it.kind == "trait"):
+        ahead += words_in(item.file, "\n".join(it for it in item.lines if it.strip().startswith("ghost "))).items()
     while ahead:
         key, word = ahead.pop()
         if key not in found:

@@ -8,6 +8,8 @@ import reader
 
 LINK = re.compile(r"\[`([^`]+)`\](?:\(([^)]+)\))?")
 PIECE = re.compile(r"((?:requires|ensures)\*?(?: \w+)?(?= \{))|(\.?[^\W\d][\w'-]*)|([^\w.]+|.)", re.S)
+# Names of the standard library that documentation links to, which have no page here.
+STANDARD = {"Brand"}
 KEYWORDS = set("fn pub self Self mut const impl for where enum struct trait type ghost".split())
 # The widest signature that stands on one line.
 WIDTH = 88
@@ -19,7 +21,7 @@ def role_of(match):
     owner, _, name = target.rpartition("::")
     if reader.page_of(owner) or not owner and target in reader.functions():
         return f"{{rattle:call}}`{text} <{target}>`"
-    if owner or target.startswith("http"):
+    if owner or target in STANDARD or target.startswith("http"):
         return f"`{text}`"
     return f"{{rattle:type}}`{text} <{target}>`"
 
