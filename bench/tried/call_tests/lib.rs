@@ -25,7 +25,7 @@ mod refusals;
 #[cfg(test)]
 mod set_refusals;
 #[cfg(test)]
-mod small_sets;
+mod sets;
 #[cfg(test)]
 mod takes;
 #[cfg(test)]

@@ -94,7 +94,9 @@ fn compares_with_its_clone(
     let mut copy = index.clone()?;
     assert!(rt; compared(index, &copy) == (true, true, true) && hashed(index) == hashed(&copy));
     let more = vec![in alloc; (9, 5)]?;
-    copy.try_extend(more).map_err(|_| AllocError)?;
+    if copy.try_extend(more).is_err() {
+        return Err(AllocError);
+    }
     expect_order(rt, index, &copy, Ordering::Less);
     Ok(())
 }

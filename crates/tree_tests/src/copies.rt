@@ -3,12 +3,18 @@ use crate::indexes::index_of;
 use std::alloc::{AllocError, Global};
 use std::process::Abort;
 use test_support::refusals::succeeds;
-use tree_index::{SmallTreeIndex, TreeIndexOf};
+use tree_index::{SmallTreeIndex, TreeIndex, TreeIndexOf};
+
+// Copies an index, and returns the length of the copy.
+fn copied_length(alloc: Global, index: &TreeIndex<u64, u64>) -> Result<usize, AllocError> {
+    let copy = index.try_clone(alloc)?;
+    Ok(copy.len())
+}
 
 // Copies an index of one pair. If an allocation fails, the pair stays.
 fn leaves_its_source_steps(rt: &impl Abort, alloc: Global) -> Result<(), AllocError> {
     let index = index_of(alloc, &[(1, 10)])?;
-    let copied = index.try_clone(alloc).map(|copy| copy.len());
+    let copied = copied_length(alloc, &index);
     assert!(rt; index.peek(&1).copied() == Some(10));
     assert!(rt; copied? == 1);
     Ok(())

@@ -51,6 +51,12 @@ fn store_words(alloc: Global) -> Result<TreeIndex<Text, usize>, AllocError> {
     Ok(lengths)
 }
 
+// The word of a pair, if there is one.
+fn word_of<'t>(pair: Option<(&'t Text, &'t usize)>) -> Option<&'t str> {
+    let (word, _) = pair?;
+    Some(word.as_str())
+}
+
 // Returns whether the words with a prefix are these, from either end.
 fn walks_words(
     alloc: Global,
@@ -62,12 +68,12 @@ fn walks_words(
     let mut there = text_prefix_range(lengths, &bounds);
     let mut back = text_prefix_range(lengths, &bounds);
     for word in wanted {
-        if there.next().map(|(key, _)| key.as_str()) != Some(*word) {
+        if word_of(there.next()) != Some(*word) {
             return Ok(false);
         }
     }
     for word in wanted.iter().rev() {
-        if back.next_back().map(|(key, _)| key.as_str()) != Some(*word) {
+        if word_of(back.next_back()) != Some(*word) {
             return Ok(false);
         }
     }

@@ -69,7 +69,10 @@ struct Ended {
 impl Ended {
     // Whether these pairs are left.
     fn has_left(&self, pairs: Option<&&'static str>) -> bool {
-        pairs.is_some_and(|text| text.as_bytes() == self.pairs.taken())
+        match pairs {
+            Some(text) => text.as_bytes() == self.pairs.taken(),
+            None => false,
+        }
     }
 
     // Whether the run ended so, the answers are the first of a script, and the pairs are those
@@ -96,7 +99,10 @@ fn run(index: &mut impl Answers, mut input: Source<'_>, mut output: Sink) -> End
 
 // Stores a pair, so that the index allocates no more for a script.
 fn prepare(index: &mut TreeIndex<u64, u64>) -> Result<(), AllocError> {
-    index.upsert_sync(1, 1).map_err(|_| AllocError)
+    match index.upsert_sync(1, 1) {
+        Ok(()) => Ok(()),
+        Err(_) => Err(AllocError),
+    }
 }
 
 // Whether each line that a line feed ended before the failed read is applied and answered, and no
