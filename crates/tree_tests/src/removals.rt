@@ -27,10 +27,7 @@ fn fill<'c>(index: &mut impl RemovedKeys<'c>, counter: &'c Cell<u64>) -> Result<
 }
 
 // Returns whether the keys from 226 to 3375 are removed, with at most 150 comparisons.
-fn compares_at_the_borders<'c>(
-    index: &mut impl RemovedKeys<'c>,
-    counter: &'c Cell<u64>,
-) -> bool {
+fn compares_at_the_borders<'c>(index: &mut impl RemovedKeys<'c>, counter: &'c Cell<u64>) -> bool {
     let (low, high) = (Asked::new(226, counter), Asked::new(3375, counter));
     counter.set(0);
     index.remove_range(&low, &high);

@@ -46,7 +46,11 @@ fn compares_with_a_copy(
 ) -> Result<(), AllocError> {
     let mut second = first.try_clone(alloc)?;
     insert_all(&mut second, &[4])?;
-    let told = [of_either(first, &second), of_both(first, &second), of_one(first, &second)];
+    let told = [
+        of_either(first, &second),
+        of_both(first, &second),
+        of_one(first, &second),
+    ];
     assert!(rt; told == [1345, 135, 4]);
     Ok(())
 }
