@@ -3,12 +3,12 @@ ghost use Rattle.std.specs.Prelude.{◌≡◌, ◌<◌, All, length, IfOk};
 
 use std::alloc::{AllocError, Global};
 use std::process::Abort;
-use test_support::refusals::succeeds;
+use test_support::refusals::{answers_again, begins, ends, is_out_of_memory, succeeds};
 use tree_index::{Command, Record, Reply};
 use tree_shared::Tally;
-use tree_state::{State, run_schedule};
+use tree_state::{State, StateOf, run_schedule};
 
-pub(crate) const NONE: Tally = Tally {
+const NONE: Tally = Tally {
     calls: 0,
     stored: 0,
     removed: 0,
@@ -16,7 +16,7 @@ pub(crate) const NONE: Tally = Tally {
     done: 0,
 };
 
-pub(crate) fn schedule(alloc: Global) -> Result<Vec<(usize, Command<u64, u64>)>, AllocError>
+fn schedule(alloc: Global) -> Result<Vec<(usize, Command<u64, u64>)>, AllocError>
     ensures workers { IfOk result (λ made. All (λ entry. entry.0 < 2) made.items) }
     ensures few { IfOk result (λ made. length made.items ≡ 5) }
 {
@@ -83,11 +83,7 @@ fn has_replies(history: &[Record<u64, u64>], replies: &[Reply<u64>]) -> bool {
 // Whether a history and tallies can be those of a schedule of which so many commands were refused.
 // One alone is the first one, or the last one, for which the history has to grow; the inserts are
 // refused where no leaf can be allocated but a record can; else all are.
-pub(crate) fn are_all_told(
-    refused: usize,
-    history: &[Record<u64, u64>],
-    tallies: &[Tally; 2],
-) -> bool {
+fn are_all_told(refused: usize, history: &[Record<u64, u64>], tallies: &[Tally; 2]) -> bool {
     let [first, second] = tallies;
     let is_counted = history.len() as u64 == first.calls.saturating_add(second.calls);
     let fits = match refused {
@@ -97,6 +93,72 @@ pub(crate) fn are_all_told(
         _ => refused == REPLIES.len() && history.is_empty(),
     };
     is_counted && fits
+}
+
+// Runs the schedule. Returns how many commands were refused, and the tallies. `Err` if the schedule
+// can't be allocated.
+fn run_over<const LEN: usize>(
+    alloc: Global,
+    state: &mut StateOf<u64, u64, LEN>,
+) -> Result<(usize, [Tally; 2]), AllocError> {
+    let mut tallies = [NONE, NONE];
+    let commands = schedule(alloc)?;
+    begins(alloc, "run_schedule");
+    let refused = run_schedule(state, commands, &mut tallies);
+    ends(alloc);
+    Ok((refused, tallies))
+}
+
+// Whether a state of so many calls before a schedule, with no pairs then, is as it left it.
+fn is_left<const LEN: usize>(
+    state: &StateOf<u64, u64, LEN>,
+    calls: usize,
+    refused: usize,
+    tallies: &[Tally; 2],
+) -> bool {
+    let history = state.history().get(calls..).unwrap_or(&[]);
+    are_all_told(refused, history, tallies) && state.index().is_empty()
+}
+
+// Runs the schedule over a state without pairs. Returns how many commands were refused, and whether
+// they were answered as they should be. `Err` if the schedule can't be allocated.
+fn run_once<const LEN: usize>(
+    alloc: Global,
+    state: &mut StateOf<u64, u64, LEN>,
+) -> Result<(usize, bool), AllocError> {
+    let calls = state.history().len();
+    let (refused, tallies) = run_over(alloc, state)?;
+    Ok((refused, is_left(state, calls, refused, &tallies)))
+}
+
+// Runs the schedule, a second time if a command is refused. Returns whether it is answered as it
+// should be. `Err` if a command was refused.
+fn run_twice<const LEN: usize>(
+    alloc: Global,
+    state: &mut StateOf<u64, u64, LEN>,
+) -> Result<bool, AllocError> {
+    let (refused, holds) = run_once(alloc, state)?;
+    if refused == 0 || !holds {
+        return Ok(holds);
+    }
+    let (refused, holds) = run_once(alloc, state)?;
+    if !holds || refused > 0 && !is_out_of_memory(alloc) {
+        return Ok(false);
+    }
+    if refused == 0 {
+        answers_again(alloc, "run_schedule");
+    }
+    Err(AllocError)
+}
+
+fn run_at_fifteen(alloc: Global) -> Result<bool, AllocError> {
+    let mut state: State<u64, u64> = State::new(alloc);
+    run_twice(alloc, &mut state)
+}
+
+fn run_at_seven(alloc: Global) -> Result<bool, AllocError> {
+    let mut state: StateOf<u64, u64, 7> = StateOf::new(alloc);
+    run_twice(alloc, &mut state)
 }
 
 // Runs the schedule over a state of its own, and sees that it is answered as it should be. `Err` if
@@ -114,7 +176,13 @@ fn run_anew(rt: &impl Abort, alloc: Global) -> Result<(), AllocError> {
     Ok(())
 }
 
+fn expect_runs(rt: &impl Abort, alloc: Global) -> Result<(), AllocError> {
+    run_anew(rt, alloc)?;
+    assert!(rt; run_at_fifteen(alloc)? && run_at_seven(alloc)?);
+    Ok(())
+}
+
 #[test]
 fn runs_in_order(rt: HostRuntime) {
-    assert!(rt; succeeds(rt.alloc(), || run_anew(&rt, rt.alloc())));
+    assert!(rt; succeeds(rt.alloc(), || expect_runs(&rt, rt.alloc())));
 }
