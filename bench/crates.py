@@ -5,15 +5,20 @@ import os
 TOP = os.path.dirname(os.path.dirname(os.path.abspath(__file__)))
 
 
-def libraries_of_each():
-    """The crates that crates.txt names, each with the libraries that it uses: other crates, and those of the toolchain."""
+def libraries_in(path):
+    """The crates that a file in the form of crates.txt names, each with the libraries that it uses."""
     found = {}
-    with open(os.path.join(TOP, "crates.txt"), encoding="utf-8") as lines:
+    with open(path, encoding="utf-8") as lines:
         for line in lines:
             name, colon, below = line.partition("#")[0].partition(":")
             if colon:
                 found[name.split()[0]] = below.split()
     return found
+
+
+def libraries_of_each():
+    """The crates that crates.txt names, each with the libraries that it uses: other crates, and those of the toolchain."""
+    return libraries_in(os.path.join(TOP, "crates.txt"))
 
 
 def below_each():

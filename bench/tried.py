@@ -1,23 +1,45 @@
 """Puts the tests that are tried, and not proved, into a copy of the repository.
 
-bench/tried/CRATE has them, as modules of that crate. Their only purpose is that bench/refusals refuses their requests for memory, of which no
-proof says anything, and a proof of them takes longer than one of the calls that they test. C can't call the exports of `tree_index_c` in a
-program that `rt try --test` builds, so those are tested in Rattle.
+bench/tried/CRATE has them, as modules of that crate, or as a crate of its own if crates.txt has no line for it; bench/tried/crates.txt names
+what they need besides. No proof says anything of the requests for memory that bench/refusals refuses them, and clauses say what the calls
+answer that they make. C can't call the exports of `tree_index_c` in a program that `rt try --test` builds, so those are tested in Rattle.
 """
 import os
 import re
 import shutil
 
-from crates import TOP
+from crates import TOP, below_each, libraries_in, libraries_of_each
 
 TRIED = os.path.join(TOP, "bench", "tried")
 EXPORTS = "tree_index_c"
 
 
-def files_for(crate):
+def libraries():
+    """What the tests of each crate need besides what crates.txt names."""
+    return libraries_in(os.path.join(TRIED, "crates.txt"))
+
+
+def own_crates():
+    """The crates that have nothing but tests that are tried, and what these share."""
+    return [name for name in libraries() if name not in libraries_of_each()]
+
+
+def files_of(crate):
     """The files of the tests of a crate that are tried, in one order everywhere."""
     found = (os.path.join(at, name) for at, _, names in os.walk(os.path.join(TRIED, crate)) for name in names)
     return sorted(found)
+
+
+def built_from(crate):
+    """What the tests of a crate are built from besides the crates below it: crates of the repository, and files that are tried."""
+    found, left = set(), [crate]
+    while left:
+        name = left.pop()
+        if name not in found:
+            found.add(name)
+            left += libraries().get(name, [])
+    files = [path for name in sorted(found) if name == crate or name in own_crates() for path in files_of(name)]
+    return [name for name in found if name in below_each()], files
 
 
 def edited(path, form, text):
@@ -28,17 +50,28 @@ def edited(path, form, text):
         file.write(re.sub(form, text, old, flags=re.M))
 
 
-def put_into(room):
-    """Adds the tests to their crates, and lets those of the exports call what is private to a module."""
-    for crate in sorted(os.listdir(TRIED)):
-        source = os.path.join(room, "crates", crate, "src")
-        for path in files_for(crate):
-            to = os.path.join(source, os.path.relpath(path, os.path.join(TRIED, crate)).removesuffix(".rs") + ".rt")
-            os.makedirs(os.path.dirname(to), exist_ok=True)
-            shutil.copy(path, to)
+def put_files(room, crate):
+    """Copies the tests of a crate into it, as modules of it unless it has nothing else."""
+    source = os.path.join(room, "crates", crate, "src")
+    for path in files_of(crate):
+        to = os.path.join(source, os.path.relpath(path, os.path.join(TRIED, crate)).removesuffix(".rs") + ".rt")
+        os.makedirs(os.path.dirname(to), exist_ok=True)
+        shutil.copy(path, to)
+    if crate not in own_crates():
         modules = sorted(it.removesuffix(".rs") for it in os.listdir(os.path.join(TRIED, crate)) if it.endswith(".rs"))
         with open(os.path.join(source, "lib.rt"), "a", encoding="utf-8") as text:
             text.writelines(f"\n#[cfg(test)]\nmod {name};\n" for name in modules)
+
+
+def put_into(room):
+    """Adds the tests to their crates, with the libraries that they need, and lets those of the exports call what is private to a module."""
+    listed = os.path.join(room, "crates.txt")
+    for crate, names in libraries().items():
+        put_files(room, crate)
+        if crate in own_crates():
+            with open(listed, "a", encoding="utf-8") as lines:
+                lines.write(f"{crate}: {' '.join(names)}\n")
+        else:
+            edited(listed, rf"^({crate}\b[^:\n]*: .*)$", rf"\1 {' '.join(names)}")
     for name in ("bytes.rt", "numbers.rt"):
         edited(os.path.join(room, "crates", EXPORTS, "src", name), r"^mod ", "pub mod ")
-    edited(os.path.join(room, "crates.txt"), rf"^({EXPORTS} staticlib: .*)$", r"\1 test_support")

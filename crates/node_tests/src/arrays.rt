@@ -1,6 +1,5 @@
-//! Tests of slots, of arrays, and of the arenas of leaves and nodes, through their public items.
-mod arenas;
-mod array;
-mod expect;
+//! Tests of slots and of arrays through their public items.
+pub(crate) mod array;
+pub(crate) mod expect;
 mod slots;
 mod token;

@@ -1,4 +1,4 @@
-//! Tests of slots, arrays and arenas.
+//! Tests of slots and arrays.
 #![tactic(auto)]
 
 #[cfg(test)]

@@ -1,16 +1,19 @@
 //! An index whose keys count their comparisons.
+use crate::keys::Asked;
 use crate::look_ups::LookedUp;
 use std::alloc::AllocError;
 use std::cell::Cell;
 use std::ops::Bound;
 use tree_index::TreeIndexOf;
-use tree_support::Asked;
 
-/// An index whose keys count their comparisons, as its tests call it.
-pub trait AskedKeys<'c>: LookedUp<Asked<'c>> {
+/// An index whose keys count their comparisons.
+pub trait StoredKeys<'c> {
     /// Stores a number at its key by `insert_sync`.
     fn store(&mut self, number: u64, counter: &'c Cell<u64>) -> Result<(), AllocError>;
+}
 
+/// The same, as tests of removals call it.
+pub trait RemovedKeys<'c>: StoredKeys<'c> {
     /// Calls `remove_sync`.
     fn remove(&mut self, key: &Asked<'c>) -> bool;
 
@@ -19,10 +22,10 @@ pub trait AskedKeys<'c>: LookedUp<Asked<'c>> {
 
     /// Calls `len`.
     fn len(&self) -> usize;
+}
 
-    /// Calls `is_empty`.
-    fn is_empty(&self) -> bool;
-
+/// The same, as tests of look-ups call it.
+pub trait AskedKeys<'c>: StoredKeys<'c> + LookedUp<Asked<'c>> {
     /// Calls `depth`.
     fn depth(&self) -> usize;
 
@@ -48,14 +51,16 @@ pub trait AskedKeys<'c>: LookedUp<Asked<'c>> {
     fn is_passed(&self, key: &Asked<'c>) -> bool;
 }
 
-impl<'c, const LEN: usize> AskedKeys<'c> for TreeIndexOf<Asked<'c>, u64, LEN> {
+impl<'c, const LEN: usize> StoredKeys<'c> for TreeIndexOf<Asked<'c>, u64, LEN> {
     fn store(&mut self, number: u64, counter: &'c Cell<u64>) -> Result<(), AllocError> {
         match self.insert_sync(Asked::new(number, counter), number) {
             Ok(()) => Ok(()),
             Err(_) => Err(AllocError),
         }
     }
+}
 
+impl<'c, const LEN: usize> RemovedKeys<'c> for TreeIndexOf<Asked<'c>, u64, LEN> {
     fn remove(&mut self, key: &Asked<'c>) -> bool {
         self.remove_sync(key)
     }
@@ -67,11 +72,9 @@ impl<'c, const LEN: usize> AskedKeys<'c> for TreeIndexOf<Asked<'c>, u64, LEN> {
     fn len(&self) -> usize {
         TreeIndexOf::len(self)
     }
+}
 
-    fn is_empty(&self) -> bool {
-        TreeIndexOf::is_empty(self)
-    }
-
+impl<'c, const LEN: usize> AskedKeys<'c> for TreeIndexOf<Asked<'c>, u64, LEN> {
     fn depth(&self) -> usize {
         TreeIndexOf::depth(self)
     }

@@ -1,37 +1,35 @@
-//! Worked calls of the index, and its texts.
-use crate::keys::Tagged;
+//! Calls of the index that take a condition or change a value, and its texts.
+use crate::cursor_texts::expect_text;
+use crate::indexes::index_of;
+use crate::numbers::Stores;
 use std::alloc::{AllocError, Global};
-use std::fmt::Debug;
 use std::process::Abort;
 use test_support::refusals::succeeds;
 use tree_index::{InsertError, SmallTreeIndex, TreeIndex, TreeIndexOf};
-use tree_support::{MoreCalls, Numbers, Scenario, put, succeeds_at_both_sizes};
 
-// The index of these pairs.
-fn index_of(alloc: Global, pairs: &[(u64, u64)]) -> Result<TreeIndex<u64, u64>, AllocError> {
-    let mut index = TreeIndex::new(alloc);
-    for (key, value) in pairs {
-        if index.upsert_sync(*key, *value).is_err() {
-            return Err(AllocError);
-        }
-    }
-    Ok(index)
+// An index of numbers, with calls that take a closure.
+trait Conditional: Stores {
+    // Adds to the value at a key by `modify_sync`, and returns whether there is one.
+    fn add(&mut self, key: u64, amount: u64) -> bool;
+
+    // Removes the pair of the key 1 by `remove_if_sync` if it has this value. Returns whether it
+    // did, and how often the condition was asked.
+    fn remove_value(&mut self, wanted: u64) -> (bool, u64);
 }
 
-// Whether an insert of a key that is present keeps the first pair.
-fn keeps_the_first(index: &mut impl Numbers) -> Result<bool, AllocError> {
-    put(index, 1, 10)?;
-    let told = (index.insert(1, 11), index.peek(1));
-    Ok(told == (Err(InsertError::Duplicate(1, 11)), Some(10)))
-}
-
-// Whether a removal says if the key was present.
-fn says_whether_it_removed(index: &mut impl Numbers) -> Result<bool, AllocError> {
-    if index.remove(1) {
-        return Ok(false);
+impl<const LEN: usize> Conditional for TreeIndexOf<u64, u64, LEN> {
+    fn add(&mut self, key: u64, amount: u64) -> bool {
+        self.modify_sync(&key, |value| value.wrapping_add(amount))
     }
-    put(index, 1, 10)?;
-    Ok(index.remove(1))
+
+    fn remove_value(&mut self, wanted: u64) -> (bool, u64) {
+        let mut asked = 0u64;
+        let removed = self.remove_if_sync(&1, |value| {
+            asked = asked.saturating_add(1);
+            *value == wanted
+        });
+        (removed, asked)
+    }
 }
 
 // Values that the condition wants of the key 1, in turn, whether the pair is removed, and how
@@ -39,8 +37,11 @@ fn says_whether_it_removed(index: &mut impl Numbers) -> Result<bool, AllocError>
 static CONDITIONS: [(u64, bool, u64); 3] = [(0, false, 1), (10, true, 1), (10, false, 0)];
 
 // Whether the condition is asked once of a key that is present, and never of an absent one.
-fn asks_its_condition_once(index: &mut impl MoreCalls) -> Result<bool, AllocError> {
-    put(index, 1, 10)?;
+fn asks_once(index: &mut impl Conditional) -> Result<bool, AllocError> {
+    index.store(1, 5)?;
+    if [index.add(1, 5), index.add(2, 5)] != [true, false] {
+        return Ok(false);
+    }
     for (wanted, removes, times) in &CONDITIONS {
         if index.remove_value(*wanted) != (*removes, *times) {
             return Ok(false);
@@ -49,37 +50,26 @@ fn asks_its_condition_once(index: &mut impl MoreCalls) -> Result<bool, AllocErro
     Ok(true)
 }
 
-// Makes the calls, each time over an empty index. Returns whether each is answered as wanted.
-fn answers_each_call(index: &mut impl MoreCalls) -> Result<bool, AllocError> {
-    if !keeps_the_first(index)? {
-        return Ok(false);
-    }
-    index.clear();
-    if !says_whether_it_removed(index)? {
-        return Ok(false);
-    }
-    index.clear();
-    asks_its_condition_once(index)
+fn asks_once_steps(rt: &impl Abort, alloc: Global) -> Result<(), AllocError> {
+    let mut index: TreeIndex<u64, u64> = TreeIndex::new(alloc);
+    assert!(rt; asks_once(&mut index)?);
+    Ok(())
 }
 
-// Makes the calls.
-#[derive(Drop)]
-struct Calls<'r, R> {
-    rt: &'r R,
-}
-
-impl<R: Abort> Scenario for Calls<'_, R> {
-    fn play<I: MoreCalls>(&self, index: &mut I) -> Result<(), AllocError> {
-        let rt = self.rt;
-        assert!(rt; answers_each_call(index)?);
-        Ok(())
-    }
+fn small_asks_once_steps(rt: &impl Abort, alloc: Global) -> Result<(), AllocError> {
+    let mut index: SmallTreeIndex<u64, u64> = SmallTreeIndex::new(alloc);
+    assert!(rt; asks_once(&mut index)?);
+    Ok(())
 }
 
 #[test]
-fn answers_inserts_and_removals(rt: HostRuntime) {
-    let scenario = Calls { rt: &rt };
-    assert!(rt; succeeds_at_both_sizes(rt.alloc(), &scenario));
+fn asks_its_condition_once(rt: HostRuntime) {
+    assert!(rt;
+        succeeds(rt.alloc(), || {
+            asks_once_steps(&rt, rt.alloc())?;
+            small_asks_once_steps(&rt, rt.alloc())
+        })
+    );
 }
 
 // Pairs, and the text of their index.
@@ -90,18 +80,6 @@ static TEXTS: [(&[(u64, u64)], &str); 2] = [
         "TreeIndex { depth: 1, entries: [(1, 10), (3, 4)] }",
     ),
 ];
-
-// Compares what `Debug` writes.
-fn expect_text(
-    rt: &impl Abort,
-    alloc: Global,
-    shown: &impl Debug,
-    wanted: &str,
-) -> Result<(), AllocError> {
-    let text = format!(in alloc; "{shown:?}")?;
-    assert!(rt; text.as_str() == wanted);
-    Ok(())
-}
 
 // Compares the text of the index of these pairs.
 fn expect_shown(
@@ -136,81 +114,5 @@ fn tells_why_a_pair_was_refused(rt: HostRuntime) {
             rt.alloc(),
             || tells_why_a_pair_was_refused_steps(&rt, rt.alloc())
         )
-    );
-}
-
-// The key 5 with a tag, which its order doesn't see.
-fn five(tag: char) -> Tagged {
-    Tagged { number: 5, tag }
-}
-
-// An index whose keys have tags.
-trait TaggedKeys {
-    // Stores a value at the key 5 with a tag by `upsert_sync`.
-    fn upsert(&mut self, tag: char, value: u64) -> Result<(), AllocError>;
-
-    // Replaces the value at the key 5 by `replace_sync`.
-    fn replace(&mut self, tag: char, value: u64) -> Result<u64, u64>;
-
-    // Adds 1 to the value at the key 5 by `modify_sync`.
-    fn count_up(&mut self, tag: char) -> bool;
-
-    // Returns the tag and the value that `peek_entry` finds at the key 5.
-    fn entry(&self, tag: char) -> Option<(char, u64)>;
-}
-
-impl<const LEN: usize> TaggedKeys for TreeIndexOf<Tagged, u64, LEN> {
-    fn upsert(&mut self, tag: char, value: u64) -> Result<(), AllocError> {
-        match self.upsert_sync(five(tag), value) {
-            Ok(()) => Ok(()),
-            Err(_) => Err(AllocError),
-        }
-    }
-
-    fn replace(&mut self, tag: char, value: u64) -> Result<u64, u64> {
-        self.replace_sync(&five(tag), value)
-    }
-
-    fn count_up(&mut self, tag: char) -> bool {
-        self.modify_sync(&five(tag), |value| value.wrapping_add(1))
-    }
-
-    fn entry(&self, tag: char) -> Option<(char, u64)> {
-        self.peek_entry(&five(tag))
-            .map(|(key, value)| (key.tag, *value))
-    }
-}
-
-// Whether an upsert replaces the stored key as well as its value, and a value that is replaced, or
-// changed, leaves the stored key.
-fn replaces_the_key(index: &mut impl TaggedKeys) -> Result<bool, AllocError> {
-    index.upsert('a', 1)?;
-    index.upsert('b', 2)?;
-    let stored = index.entry('c');
-    let replaced = index.replace('d', 3);
-    let counted = index.count_up('e');
-    let told = (stored, replaced, counted, index.entry('f'));
-    Ok(told == (Some(('b', 2)), Ok(2), true, Some(('b', 4))))
-}
-
-fn replaces_the_key_steps(rt: &impl Abort, alloc: Global) -> Result<(), AllocError> {
-    let mut index: TreeIndex<Tagged, u64> = TreeIndex::new(alloc);
-    assert!(rt; replaces_the_key(&mut index)?);
-    Ok(())
-}
-
-fn replaces_a_small_key_steps(rt: &impl Abort, alloc: Global) -> Result<(), AllocError> {
-    let mut index: SmallTreeIndex<Tagged, u64> = SmallTreeIndex::new(alloc);
-    assert!(rt; replaces_the_key(&mut index)?);
-    Ok(())
-}
-
-#[test]
-fn replaces_the_stored_key(rt: HostRuntime) {
-    assert!(rt;
-        succeeds(rt.alloc(), || {
-            replaces_the_key_steps(&rt, rt.alloc())?;
-            replaces_a_small_key_steps(&rt, rt.alloc())
-        })
     );
 }

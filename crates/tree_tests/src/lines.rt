@@ -1,6 +1,5 @@
-//! Lines of requests through the engine, over readers and writers that come and go in pieces, fail
-//! or cannot allocate.
-mod answers;
-mod engine;
+//! Lines of requests through the engine, over readers and writers that come and go in pieces or
+//! fail.
+pub(crate) mod engine;
 mod faults;
-mod streams;
+pub(crate) mod streams;

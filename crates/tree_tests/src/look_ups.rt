@@ -2,6 +2,8 @@
 ghost use Rattle.std.specs.Prelude.{◌≡◌, ◌<◌};
 
 use crate::asked::AskedKeys;
+use crate::keys::Asked;
+use crate::numbers::Stores;
 use std::alloc::{AllocError, Global};
 use std::cell::Cell;
 use std::cmp::Ordering;
@@ -11,7 +13,6 @@ use std::sync::ledger::{Blank, Ledger};
 use test_support::refusals::succeeds;
 use tree_array::array::{Judge, KeyJudge, Steps};
 use tree_index::{SmallTreeIndex, TreeIndex, TreeIndexOf};
-use tree_support::{Asked, OwnScenario, succeeds_by_own_calls};
 
 /// What a judge looks a key up in.
 pub trait LookedUp<K: Ord> {
@@ -212,21 +213,6 @@ fn found_and_asked_by<I: LookedUp<u64>, L: Ledger>(
     (found, recording.equal)
 }
 
-// An index of numbers that stores a pair.
-trait Stores {
-    // Calls `insert_sync`.
-    fn store(&mut self, key: u64, value: u64) -> Result<(), AllocError>;
-}
-
-impl<const LEN: usize> Stores for TreeIndexOf<u64, u64, LEN> {
-    fn store(&mut self, key: u64, value: u64) -> Result<(), AllocError> {
-        match self.insert_sync(key, value) {
-            Ok(()) => Ok(()),
-            Err(_) => Err(AllocError),
-        }
-    }
-}
-
 // Whether the look-ups up to 483 find the even numbers from 2 to 482 alone, and each that finds
 // one has asked of that very key, and each other one of no equal key.
 fn asks_found_keys(index: &impl LookedUp<u64>) -> bool {
@@ -241,26 +227,35 @@ fn asks_found_keys(index: &impl LookedUp<u64>) -> bool {
 }
 
 // Stores the even numbers up to 482, and looks all numbers up.
-#[derive(Drop)]
-struct Asking<'r, R> {
-    rt: &'r R,
+fn expect_asked(
+    rt: &impl Abort,
+    index: &mut (impl Stores + LookedUp<u64>),
+) -> Result<(), AllocError> {
+    for number in 1..=241u64 {
+        index.store(number.saturating_mul(2), number)?;
+    }
+    assert!(rt; asks_found_keys(index));
+    Ok(())
 }
 
-impl<R: Abort, I: Stores + LookedUp<u64>> OwnScenario<I> for Asking<'_, R> {
-    fn play(&self, index: &mut I) -> Result<(), AllocError> {
-        let rt = self.rt;
-        for number in 1..=241u64 {
-            index.store(number.saturating_mul(2), number)?;
-        }
-        assert!(rt; asks_found_keys(index));
-        Ok(())
-    }
+fn asks_found_keys_steps(rt: &impl Abort, alloc: Global) -> Result<(), AllocError> {
+    let mut index: TreeIndex<u64, u64> = TreeIndex::new(alloc);
+    expect_asked(rt, &mut index)
+}
+
+fn small_asks_found_keys_steps(rt: &impl Abort, alloc: Global) -> Result<(), AllocError> {
+    let mut index: SmallTreeIndex<u64, u64> = SmallTreeIndex::new(alloc);
+    expect_asked(rt, &mut index)
 }
 
 // A look-up that finds a pair has asked its judge of that very key, and one that finds none has
 // asked of no equal key.
 #[test]
 fn asks_the_key_it_finds(rt: HostRuntime) {
-    let scenario = Asking { rt: &rt };
-    assert!(rt; succeeds_by_own_calls(rt.alloc(), &scenario));
+    assert!(rt;
+        succeeds(rt.alloc(), || {
+            asks_found_keys_steps(&rt, rt.alloc())?;
+            small_asks_found_keys_steps(&rt, rt.alloc())
+        })
+    );
 }

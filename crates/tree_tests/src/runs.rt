@@ -1,89 +1,27 @@
-//! Lists of commands that an index answers.
+//! The depth of an index that runs ascending inserts.
 use std::alloc::{AllocError, Global};
-use std::ops::Bound;
 use std::process::Abort;
 use test_support::refusals::succeeds;
-use tree_index::{Command, Reply, TreeIndex, TreeIndexOf};
+use tree_index::{Command, Reply, TreeIndex};
 use tree_state::run;
-use tree_support::{Numbers, OwnScenario, succeeds_by_own_calls};
-
-// Commands of every kind, and the reply to each by an index that was empty.
-static COMMANDS: [(Command<u64, u64>, Reply<u64>); 10] = [
-    (Command::Insert(1, 10), Reply::Stored),
-    (Command::Insert(1, 11), Reply::Duplicate),
-    (Command::Upsert(1, 12), Reply::Stored),
-    (Command::Peek(1), Reply::Found(Some(12))),
-    (Command::Remove(2), Reply::Removed(false)),
-    (Command::Insert(3, 30), Reply::Stored),
-    (
-        Command::RemoveRange(Bound::Included(2), Bound::Unbounded),
-        Reply::Done,
-    ),
-    (Command::Remove(1), Reply::Removed(true)),
-    (Command::Peek(1), Reply::Found(None)),
-    (Command::Clear, Reply::Done),
-];
 
 // An index of numbers that runs commands.
 trait Runs {
     // Calls `run`.
     fn run(&mut self, commands: Vec<Command<u64, u64>>) -> Result<Vec<Reply<u64>>, AllocError>;
+
+    // Returns the length and the depth.
+    fn sizes(&self) -> (u64, usize);
 }
 
-impl<const LEN: usize> Runs for TreeIndexOf<u64, u64, LEN> {
+impl Runs for TreeIndex<u64, u64> {
     fn run(&mut self, commands: Vec<Command<u64, u64>>) -> Result<Vec<Reply<u64>>, AllocError> {
         run(self, commands)
     }
-}
 
-// Returns the commands.
-fn commands(alloc: Global) -> Result<Vec<Command<u64, u64>>, AllocError> {
-    let mut commands = Vec::new(alloc);
-    for (command, _) in &COMMANDS {
-        commands.push(*command)?;
+    fn sizes(&self) -> (u64, usize) {
+        (self.len() as u64, self.depth())
     }
-    Ok(commands)
-}
-
-// Whether the replies are the wanted ones. Returns `Err` if memory was refused for one.
-fn are_wanted(replies: &[Reply<u64>]) -> Result<bool, AllocError> {
-    if replies.len() != COMMANDS.len() {
-        return Ok(false);
-    }
-    for (reply, (_, wanted)) in replies.iter().zip(&COMMANDS) {
-        if *reply == Reply::Refused {
-            return Err(AllocError);
-        }
-        if *reply != *wanted {
-            return Ok(false);
-        }
-    }
-    Ok(true)
-}
-
-// Runs the commands over a new index.
-#[derive(Drop)]
-struct Running<'r, R> {
-    rt: &'r R,
-    alloc: Global,
-}
-
-impl<R: Abort, I: Runs> OwnScenario<I> for Running<'_, R> {
-    fn play(&self, index: &mut I) -> Result<(), AllocError> {
-        let list = commands(self.alloc)?;
-        let replies = index.run(list)?;
-        assert!(self.rt; are_wanted(&replies)?);
-        Ok(())
-    }
-}
-
-#[test]
-fn runs_every_command(rt: HostRuntime) {
-    let scenario = Running {
-        rt: &rt,
-        alloc: rt.alloc(),
-    };
-    assert!(rt; succeeds_by_own_calls(rt.alloc(), &scenario));
 }
 
 // So many ascending inserts, and the depth then.
@@ -123,22 +61,13 @@ fn run_inserts(
     Ok(())
 }
 
-// Compares the depth and the length.
-fn expect_grown(rt: &impl Abort, index: &impl Numbers, (count, depth): (u64, usize)) {
-    assert!(rt; index.depth() == depth && index.len() as u64 == count);
-}
-
 // Runs so many inserts as a row says after those of the row before it.
-fn run_rows(
-    rt: &impl Abort,
-    alloc: Global,
-    index: &mut (impl Runs + Numbers),
-) -> Result<(), AllocError> {
+fn run_rows(rt: &impl Abort, alloc: Global, index: &mut impl Runs) -> Result<(), AllocError> {
     let mut stored: u64 = 0;
     for row in &DEPTHS {
         run_inserts(alloc, index, stored.saturating_add(1), row.0)?;
         stored = row.0;
-        expect_grown(rt, index, *row);
+        assert!(rt; index.sizes() == *row);
     }
     Ok(())
 }

@@ -1,10 +1,10 @@
 //! How deep a tree is, and how many leaves and nodes it has, as the rules of splits and of removals
 //! give it.
+use crate::numbers::{Stores, ascend};
 use std::alloc::{AllocError, Global};
 use std::process::Abort;
 use test_support::refusals::succeeds;
 use tree_index::{SmallTreeIndex, TreeIndex, TreeIndexOf};
-use tree_support::{Numbers, ascend, put};
 
 // So many ascending keys, and the depth then. With seven slots a leaf node holds 8 leaves of 7, a
 // node over such nodes 7 of 49 pairs and one of 56, and the next level 7 of 343 pairs and one of
@@ -19,11 +19,23 @@ static DEPTHS: [(u64, usize); 7] = [
     (2801, 4),
 ];
 
+// An index of numbers that grows.
+trait Grown: Stores {
+    // Calls `depth`.
+    fn depth(&self) -> usize;
+}
+
+impl Grown for SmallTreeIndex<u64, u64> {
+    fn depth(&self) -> usize {
+        TreeIndexOf::depth(self)
+    }
+}
+
 // Stores ascending keys, and compares the depths.
-fn expect_depths(rt: &impl Abort, index: &mut impl Numbers) -> Result<(), AllocError> {
+fn expect_depths(rt: &impl Abort, index: &mut impl Grown) -> Result<(), AllocError> {
     let mut stored: u64 = 0;
     for (count, depth) in &DEPTHS {
-        ascend(index, stored.saturating_add(1), *count, 1)?;
+        ascend(index, stored.saturating_add(1), *count)?;
         stored = *count;
         assert!(rt; index.depth() == *depth);
     }
@@ -41,19 +53,29 @@ fn grows_by_a_level_with_seven_slots(rt: HostRuntime) {
 }
 
 // An index of numbers whose leaves and nodes are counted.
-trait Shaped: Numbers {
+trait Shaped: Stores {
+    // Calls `remove_sync`.
+    fn remove(&mut self, key: u64) -> bool;
+
     // Returns the depth, and the numbers of leaves and nodes.
     fn shape(&self) -> Shape;
+
+    // Returns the depth, the spare and the length.
+    fn sizes(&self) -> (usize, u8, usize);
 }
 
 impl Shaped for TreeIndex<u64, u64> {
+    fn remove(&mut self, key: u64) -> bool {
+        self.remove_sync(&key)
+    }
+
     fn shape(&self) -> Shape {
         let (arenas, _) = self.parts();
-        (
-            TreeIndexOf::depth(self),
-            arenas.leaf_count(),
-            arenas.node_count(),
-        )
+        (self.depth(), arenas.leaf_count(), arenas.node_count())
+    }
+
+    fn sizes(&self) -> (usize, u8, usize) {
+        (self.depth(), self.spare(), self.len())
     }
 }
 
@@ -109,7 +131,7 @@ static ROWS: [Row; 5] = [
 ];
 
 // Removes the keys of a row.
-fn shrink(index: &mut impl Numbers, row: &Row) {
+fn shrink(index: &mut impl Shaped, row: &Row) {
     let (first, last) = row.removed;
     for key in first..=last {
         let mirrored = first.saturating_add(last.saturating_sub(key));
@@ -118,18 +140,19 @@ fn shrink(index: &mut impl Numbers, row: &Row) {
 }
 
 // Whether an index of one level has no pair, and then takes one.
-fn begins_anew(index: &mut impl Numbers) -> Result<bool, AllocError> {
-    if index.len() != 0 {
+fn begins_anew(index: &mut impl Shaped) -> Result<bool, AllocError> {
+    let (_, _, len) = index.sizes();
+    if len != 0 {
         return Ok(false);
     }
-    put(index, 1, 1)?;
-    Ok((index.depth(), index.spare(), index.len()) == (1, 14, 1))
+    index.store(1, 1)?;
+    Ok(index.sizes() == (1, 14, 1))
 }
 
 // Grows an index by the keys of a row, and removes those that the row names. Returns whether it
 // has the first shape of the row when it has grown, and the last one in the end.
 fn takes_both_shapes(index: &mut impl Shaped, row: &Row) -> Result<bool, AllocError> {
-    ascend(index, row.keys.0, row.keys.1, 1)?;
+    ascend(index, row.keys.0, row.keys.1)?;
     let grown = index.shape();
     shrink(index, row);
     if [grown, index.shape()] != [row.grown, row.left] {

@@ -218,35 +218,6 @@ fn make_calls<'c>(
     Ok(())
 }
 
-// Makes the calls of an index of fifteen slots, and drops it.
-fn use_fifteen_slots(rt: &impl Abort, alloc: Global, tally: &Tally) -> Result<(), AllocError> {
-    let mut index: Index<15> = TreeIndexOf::new(alloc);
-    make_calls(rt, &mut index, tally)
-}
-
-// Makes the calls of an index of seven slots, and drops it.
-fn use_seven_slots(rt: &impl Abort, alloc: Global, tally: &Tally) -> Result<(), AllocError> {
-    let mut index: Index<7> = TreeIndexOf::new(alloc);
-    make_calls(rt, &mut index, tally)
-}
-
-fn drops_once(rt: &impl Abort, alloc: Global) -> Result<(), AllocError> {
-    let tally = Tally::new();
-    let outcome = use_fifteen_slots(rt, alloc, &tally);
-    assert!(rt; tally.has_alive(0));
-    outcome?;
-    let outcome = use_seven_slots(rt, alloc, &tally);
-    assert!(rt; tally.has_alive(0));
-    outcome
-}
-
-// After inserts, refusals of a duplicate and of memory, upserts, removals, splits and cuts, and
-// when the index is dropped.
-#[test]
-fn drops_each_key_and_value_once(rt: HostRuntime) {
-    assert!(rt; succeeds(rt.alloc(), || drops_once(&rt, rt.alloc())));
-}
-
 // Whether of the greatest keys, from this one on, all but this one are there.
 fn lacks_it_alone<'c>(index: &impl CountedPairs<'c>, tally: &'c Tally, number: u64) -> bool {
     for other in number..300 {
@@ -307,30 +278,84 @@ fn refused_clones<'c>(
     Ok(refused)
 }
 
-// Fills an index of fifteen slots while clones are refused, and drops it.
-fn fill_fifteen_slots(rt: &impl Abort, alloc: Global, tally: &Tally) -> Result<u64, AllocError> {
+// What is done with an index.
+#[derive(Clone, Copy)]
+enum Use {
+    // Random calls.
+    Calls,
+    // Stores of descending keys while clones are refused.
+    Stores,
+}
+
+// Uses an index. Returns how many stores were refused for a clone.
+fn use_index<'c>(
+    rt: &impl Abort,
+    index: &mut impl CountedPairs<'c>,
+    tally: &'c Tally,
+    way: Use,
+) -> Result<u64, AllocError> {
+    match way {
+        Use::Calls => {
+            make_calls(rt, index, tally)?;
+            Ok(0)
+        }
+        Use::Stores => refused_clones(rt, index, tally),
+    }
+}
+
+// Uses an index of fifteen slots, and drops it.
+fn use_fifteen_slots(
+    rt: &impl Abort,
+    alloc: Global,
+    tally: &Tally,
+    way: Use,
+) -> Result<u64, AllocError> {
     let mut index: Index<15> = TreeIndexOf::new(alloc);
-    refused_clones(rt, &mut index, tally)
+    use_index(rt, &mut index, tally, way)
 }
 
-// Fills an index of seven slots while clones are refused, and drops it.
-fn fill_seven_slots(rt: &impl Abort, alloc: Global, tally: &Tally) -> Result<u64, AllocError> {
+// Uses an index of seven slots, and drops it.
+fn use_seven_slots(
+    rt: &impl Abort,
+    alloc: Global,
+    tally: &Tally,
+    way: Use,
+) -> Result<u64, AllocError> {
     let mut index: Index<7> = TreeIndexOf::new(alloc);
-    refused_clones(rt, &mut index, tally)
+    use_index(rt, &mut index, tally, way)
 }
 
-fn refuses_clones(rt: &impl Abort, alloc: Global) -> Result<(), AllocError> {
+// Uses an index of each size, of which no key and no value is left then. At least so many stores
+// are refused for a clone.
+fn drops_each_once(
+    rt: &impl Abort,
+    alloc: Global,
+    way: Use,
+    (least, least_small): (u64, u64),
+) -> Result<(), AllocError> {
     let tally = Tally::new();
-    let refused = fill_fifteen_slots(rt, alloc, &tally);
-    assert!(rt; tally.has_alive(0) && refused? > 15);
-    let refused = fill_seven_slots(rt, alloc, &tally);
-    assert!(rt; tally.has_alive(0) && refused? > 30);
+    let refused = use_fifteen_slots(rt, alloc, &tally, way);
+    assert!(rt; tally.has_alive(0) && refused? >= least);
+    let refused = use_seven_slots(rt, alloc, &tally, way);
+    assert!(rt; tally.has_alive(0) && refused? >= least_small);
     Ok(())
+}
+
+// Whether each key and value is dropped once.
+fn drops_once(rt: &impl Abort, alloc: Global, way: Use, least: (u64, u64)) -> bool {
+    succeeds(alloc, || drops_each_once(rt, alloc, way, least))
+}
+
+// After inserts, refusals of a duplicate and of memory, upserts, removals, splits and cuts, and
+// when the index is dropped.
+#[test]
+fn drops_each_key_and_value_once(rt: HostRuntime) {
+    assert!(rt; drops_once(&rt, rt.alloc(), Use::Calls, (0, 0)));
 }
 
 // A write that must split clones a separator. Where that is refused, the pair comes back and no
 // pair changed.
 #[test]
 fn hands_back_the_pair_where_a_clone_is_refused(rt: HostRuntime) {
-    assert!(rt; succeeds(rt.alloc(), || refuses_clones(&rt, rt.alloc())));
+    assert!(rt; drops_once(&rt, rt.alloc(), Use::Stores, (16, 31)));
 }

@@ -1,4 +1,4 @@
 //! Calls of an array through its public items.
-mod calls;
+pub(crate) mod calls;
 mod found;
 mod questions;

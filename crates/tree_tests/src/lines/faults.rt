@@ -69,7 +69,10 @@ struct Ended {
 impl Ended {
     // Whether these pairs are left.
     fn has_left(&self, pairs: Option<&&'static str>) -> bool {
-        pairs.is_some_and(|text| text.as_bytes() == self.pairs.taken())
+        match pairs {
+            Some(text) => text.as_bytes() == self.pairs.taken(),
+            None => false,
+        }
     }
 
     // Whether the run ended so, the answers are the first of a script, and the pairs are those
@@ -96,7 +99,10 @@ fn run(index: &mut impl Answers, mut input: Source<'_>, mut output: Sink) -> End
 
 // Stores a pair, so that the index allocates no more for a script.
 fn prepare(index: &mut TreeIndex<u64, u64>) -> Result<(), AllocError> {
-    index.upsert_sync(1, 1).map_err(|_| AllocError)
+    match index.upsert_sync(1, 1) {
+        Ok(()) => Ok(()),
+        Err(_) => Err(AllocError),
+    }
 }
 
 // Whether each line that a line feed ended before the failed read is applied and answered, and no
@@ -138,25 +144,6 @@ fn fail_reads(rt: &impl Abort, index: &mut impl Answers, script: &Script) {
     }
 }
 
-// Fails each read of each script in turn.
-fn fail_each_read(rt: &impl Abort, index: &mut TreeIndex<u64, u64>) -> Result<(), AllocError> {
-    prepare(index)?;
-    for script in &SCRIPTS {
-        fail_reads(rt, index, script);
-    }
-    Ok(())
-}
-
-fn read_fails_steps(rt: &impl Abort, alloc: Global) -> Result<(), AllocError> {
-    let mut index: TreeIndex<u64, u64> = TreeIndex::new(alloc);
-    fail_each_read(rt, &mut index)
-}
-
-#[test]
-fn tells_that_a_read_failed(rt: HostRuntime) {
-    assert!(rt; succeeds(rt.alloc(), || read_fails_steps(&rt, rt.alloc())));
-}
-
 // Whether each line before the one whose answer broke off is applied and answered, and that one is
 // applied. A run whose writes all pass ends well.
 fn shows_a_failed_write(
@@ -195,23 +182,52 @@ fn fail_writes(rt: &impl Abort, index: &mut impl Answers, script: &Script) {
     }
 }
 
-// Fails each write of each script in turn.
-fn fail_each_write(rt: &impl Abort, index: &mut TreeIndex<u64, u64>) -> Result<(), AllocError> {
+// What fails.
+#[derive(Clone, Copy)]
+enum Failed {
+    Reads,
+    Writes,
+}
+
+// Fails each read or each write of a script in turn.
+fn fail_calls(rt: &impl Abort, index: &mut impl Answers, script: &Script, failed: Failed) {
+    match failed {
+        Failed::Reads => fail_reads(rt, index, script),
+        Failed::Writes => fail_writes(rt, index, script),
+    }
+}
+
+// Does so with each script.
+fn fail_each(
+    rt: &impl Abort,
+    index: &mut TreeIndex<u64, u64>,
+    failed: Failed,
+) -> Result<(), AllocError> {
     prepare(index)?;
     for script in &SCRIPTS {
-        fail_writes(rt, index, script);
+        fail_calls(rt, index, script, failed);
     }
     Ok(())
 }
 
-fn write_fails_steps(rt: &impl Abort, alloc: Global) -> Result<(), AllocError> {
+fn fails_steps(rt: &impl Abort, alloc: Global, failed: Failed) -> Result<(), AllocError> {
     let mut index: TreeIndex<u64, u64> = TreeIndex::new(alloc);
-    fail_each_write(rt, &mut index)
+    fail_each(rt, &mut index, failed)
+}
+
+// Whether each read or each write that fails is told.
+fn is_told(rt: &impl Abort, alloc: Global, failed: Failed) -> bool {
+    succeeds(alloc, || fails_steps(rt, alloc, failed))
+}
+
+#[test]
+fn tells_that_a_read_failed(rt: HostRuntime) {
+    assert!(rt; is_told(&rt, rt.alloc(), Failed::Reads));
 }
 
 #[test]
 fn tells_that_a_write_failed(rt: HostRuntime) {
-    assert!(rt; succeeds(rt.alloc(), || write_fails_steps(&rt, rt.alloc())));
+    assert!(rt; is_told(&rt, rt.alloc(), Failed::Writes));
 }
 
 fn shows_faults_steps(rt: &impl Abort, alloc: Global) -> Result<(), AllocError> {

@@ -1,5 +1,0 @@
-use Rattle.tree_node.proofs.Common.{fits}
-use Rattle.tree_support.proofs.numbers.TreeIndexOfU64U64MoreCalls.remove_value.Goals as goal
-
-pub remove_if_sync-removed-requires : goal.remove_if_sync-removed-requires
-remove_if_sync-removed-requires g c = search fits

@@ -1,5 +1,0 @@
-use Rattle.tree_node.proofs.Common.{fits}
-use Rattle.tree_support.proofs.numbers.TreeIndexOfU64U64Numbers.insert.Goals as goal
-
-pub insert_sync-requires : goal.insert_sync-requires
-insert_sync-requires g c = search fits

@@ -1,5 +1,0 @@
-use Rattle.tree_node.proofs.Common.{fits}
-use Rattle.tree_support.proofs.numbers.TreeIndexOfU64U64Numbers.remove.Goals as goal
-
-pub remove_sync-requires : goal.remove_sync-requires
-remove_sync-requires g c = search fits

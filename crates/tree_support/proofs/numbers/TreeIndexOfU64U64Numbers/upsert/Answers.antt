@@ -1,5 +1,0 @@
-use Rattle.tree_node.proofs.Common.{fits}
-use Rattle.tree_support.proofs.numbers.TreeIndexOfU64U64Numbers.upsert.Goals as goal
-
-pub upsert_sync-requires : goal.upsert_sync-requires
-upsert_sync-requires g c = search fits

@@ -1,5 +1,0 @@
-use Rattle.tree_node.proofs.Common.{fits}
-use Rattle.tree_tests.proofs.runs.TreeIndexOfU64U64Runs.run.Goals as goal
-
-pub run-requires : goal.run-requires
-run-requires g c = search fits
