@@ -49,8 +49,8 @@ enum Spelling {
 
 use Spelling::{Digits, Path, Word};
 
-// The rows of strings, of keys of text and of keys of bytes are the same here.
-const ALL: [(Workload, &str); 35] = [
+// The rows of strings, of keys of text and of keys of bytes are the same here, and so are those of batches.
+const ALL: [(Workload, &str); 38] = [
     (Workload::InsertAscending, "insert_ascending"),
     (Workload::AppendAscending, "append_ascending"),
     (Workload::InsertRandom, "insert_random"),
@@ -59,6 +59,8 @@ const ALL: [(Workload, &str); 35] = [
     (Workload::ModifyRandom, "modify_random"),
     (Workload::PeekHit, "peek_hit"),
     (Workload::PeekMiss, "peek_miss"),
+    (Workload::PeekHit, "peek_batch"),
+    (Workload::PeekMiss, "peek_batch_miss"),
     (Workload::RemoveRandom, "remove_random"),
     (Workload::RemoveMiddle, "remove_middle"),
     (Workload::CutByRetain, "cut_beside_retain"),
@@ -75,6 +77,7 @@ const ALL: [(Workload, &str); 35] = [
     (Workload::PeekText(Digits), "peek_string"),
     (Workload::InsertText(Digits), "insert_text"),
     (Workload::PeekText(Digits), "peek_text"),
+    (Workload::PeekText(Digits), "peek_batch_text"),
     (Workload::WalkText(Digits), "walk_text"),
     (Workload::InsertText(Digits), "insert_bytes"),
     (Workload::PeekText(Digits), "peek_bytes"),

@@ -22,6 +22,7 @@ CRATES = (
     "tree_index",
     "tree_set",
     "tree_texts",
+    "tree_batches",
     "tree_state",
     "tree_shared",
     "tree_lines",

@@ -1,3 +1,4 @@
+pub mod Baskets
 pub mod Price
 pub mod Records
 pub mod Walks

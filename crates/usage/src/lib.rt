@@ -6,6 +6,7 @@ ghost use Rattle.std.specs.Option.{option_map};
 ghost use Rattle.std.specs.Ordering.{nat_cmp};
 ghost use Rattle.tree_model.specs.Pairs.{pair_at};
 
+mod baskets;
 mod book;
 mod fills;
 mod guests;
@@ -18,6 +19,7 @@ mod stock;
 mod stores;
 mod walks;
 
+pub use baskets::{cost_of, first_in, has_all};
 pub use book::{ask_from, best_ask, best_bid, cancel, second_ask};
 pub use fills::{fill, fill_bid, remove_filled, take_back};
 pub use guests::{invitation, invite, next_to_ask};

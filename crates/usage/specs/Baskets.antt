@@ -1,0 +1,10 @@
+-- What the items of a basket have in common.
+use Rattle.std.specs.Prelude.{ℕ, Bool, true, ◌&&◌, List, [], ◌∷◌, Option, unwrap_or}
+
+-- a price, or nothing
+abbrev pub or_nothing : Option ℕ → ℕ
+or_nothing price = unwrap_or price 0
+
+abbrev pub are_all_true : List Bool → Bool
+are_all_true [] = true
+are_all_true (b ∷ bs) = b && are_all_true bs
