@@ -1,11 +1,11 @@
 -- Each step of the readers and of the writer keeps the rule.
-use Rattle.std.proofs.Common.{◌≡◌, ℕ, ◌≢◌, Result, Ok, Err, MatchResult, List, [], ◌∷◌, ◌++◌, fold, set, refl, sym, ap, ◌∙◌, subst, ⊎_elim, append-nil, append_assoc}
+use Rattle.std.proofs.Common.{◌≡◌, ℕ, ◌+◌, ◌≢◌, Result, Ok, Err, MatchResult, List, [], ◌∷◌, ◌++◌, fold, set, refl, sym, ap, ◌∙◌, subst, ⊎_elim, append-nil, append_assoc}
 use mathlib.Core.Option.{some}
 use lib.ListN.{get_elem?}
 use Rattle.atomic_table.proofs.Lists.{at_set, at_snoc}
 use Rattle.tree_model.specs.declared.commands.Command.{Command}
 use Rattle.tree_readers.specs.Knowns.{BeginsWithAll}
-use Rattle.tree_readers.specs.Rules.{known, Keeps, Sees}
+use Rattle.tree_readers.specs.Rules.{known, Keeps, Sees, Shows}
 use Rattle.tree_readers.specs.declared.rule.Known.{Known}
 
 begins_all : {X : Type 0} (xs ys : List X) (fronts : List (List X)) → BeginsWithAll xs fronts → BeginsWithAll (xs ++ ys) fronts
@@ -37,12 +37,20 @@ module _ {K V : Type 0} where
   turns seat v commands rest all same views h at =
       subst (λ (l : List (Command K V)). (w : Known K V) × Keeps l (set views seat w) × Sees v l w) (sym same)
       (let l : List (Command K V) = commands ++ rest in let more = keeps_more commands rest views h in
-      (known (l ∷ []), keeps_set l views seat (known (l ∷ [])) more (begins_itself l), (more seat v at, refl)))
+      (known (l ∷ []) v.shows, keeps_set l views seat (known (l ∷ []) v.shows) more (begins_itself l), (more seat v at, refl)))
+
+  -- the same of the writer
+  pub turns_shown : (seat : ℕ) (v : Known K V) (commands rest all : List (Command K V)) → all ≡ commands ++ rest → (views : List (Known K V)) → Keeps commands views → get_elem? views seat ≡ some v
+      → (w : Known K V) × Keeps all (set views seat w) × Shows v all w
+  turns_shown seat v commands rest all same views h at =
+      subst (λ (l : List (Command K V)). (w : Known K V) × Keeps l (set views seat w) × Shows v l w) (sym same)
+      (let l : List (Command K V) = commands ++ rest in let more = keeps_more commands rest views h in
+      (known (l ∷ []) (v.shows + 1), keeps_set l views seat (known (l ∷ []) (v.shows + 1)) more (begins_itself l), (more seat v at, refl, refl)))
 
   -- a reader that knows the empty front may come
-  pub admits : (commands : List (Command K V)) (views : List (Known K V)) → Keeps commands views → Keeps commands (views ++ known ([] ∷ []) ∷ [])
+  pub admits : (commands : List (Command K V)) (views : List (Known K V)) → Keeps commands views → Keeps commands (views ++ known ([] ∷ []) 0 ∷ [])
   admits commands views h seat v at =
-      ⊎_elim (h seat v) (λ (e : known ([] ∷ []) ≡ v). subst (λ (z : Known K V). BeginsWithAll commands z.fronts) e ((commands, refl), tt)) (at_snoc views (known ([] ∷ [])) v seat at)
+      ⊎_elim (h seat v) (λ (e : known ([] ∷ []) 0 ≡ v). subst (λ (z : Known K V). BeginsWithAll commands z.fronts) e ((commands, refl), tt)) (at_snoc views (known ([] ∷ []) 0) v seat at)
 
   -- what one knows may be told
   pub forks : (commands : List (Command K V)) (views : List (Known K V)) (seat : ℕ) (v : Known K V) → Keeps commands views → get_elem? views seat ≡ some v → Keeps commands (set views seat v ++ v ∷ [])
@@ -50,16 +58,17 @@ module _ {K V : Type 0} where
       ⊎_elim (keeps_set commands views seat v h (h seat v at) j u) (λ (same : v ≡ u). subst (λ (z : Known K V). BeginsWithAll commands z.fronts) same (h seat v at)) (at_snoc (set views seat v) v u j e)
 
   -- and taken in
-  pub merges : (commands : List (Command K V)) (views : List (Known K V)) (seat other : ℕ) (v w : Known K V) → Keeps commands views → get_elem? views seat ≡ some v → ¬ (other ≡ seat) → get_elem? (set views seat (known (v.fronts ++ w.fronts))) other ≡ some w
-      → Keeps commands (set (set views seat (known (v.fronts ++ w.fronts))) other (known []))
+  pub merges : (commands : List (Command K V)) (views : List (Known K V)) (seat other : ℕ) (v w : Known K V) → Keeps commands views → get_elem? views seat ≡ some v → ¬ (other ≡ seat) → get_elem? (set views seat (known (v.fronts ++ w.fronts) v.shows)) other ≡ some w
+      → Keeps commands (set (set views seat (known (v.fronts ++ w.fronts) v.shows)) other (known [] 0))
   merges commands views seat other v w h at apart there =
-      let both : Known K V = known (v.fronts ++ w.fronts) in
+      let both : Known K V = known (v.fronts ++ w.fronts) v.shows in
       let theirs : BeginsWithAll commands w.fronts = ⊎_elim (λ (t : (other ≡ seat) × (both ≡ w)). absurd (apart t.0)) (λ (t : (other ≢ seat) × (get_elem? views other ≡ some w)). h other w t.1) (at_set views seat other both w there) in
-      keeps_set commands (set views seat both) other (known []) (keeps_set commands views seat both h (begins_both commands v.fronts w.fronts (h seat v at) theirs)) tt
+      keeps_set commands (set views seat both) other (known [] 0) (keeps_set commands views seat both h (begins_both commands v.fronts w.fronts (h seat v at) theirs)) tt
 
-  -- What a call of publish leaves: the writer knows what is published, which has grown by what was pending, or is as it was. `of` is what a copy took in.
-  pub shown : {T E : Type 0} (of : T → List (Command K V)) (result : Result (Unit {0}) E) (v w : Known K V) (x y : T) (pending left : List (Command K V)) → v ≡ known (of x ∷ [])
-      → MatchResult result (λ _. (of y ≡ fold (λ l c. l ++ c ∷ []) (of x) pending) × (left ≡ [])) (λ _. (y ≡ x) × (left ≡ pending)) → MatchResult result (λ _. Sees v (of y) w) (λ _. w ≡ v)
-      → (w ≡ known (of y ∷ [])) × MatchResult result (λ _. (of y ≡ of x ++ pending) × (left ≡ [])) (λ _. (of y ≡ of x) × (left ≡ pending))
-  shown of (Ok done) v w x y pending left knows values rule = (rule.1, (values.0 ∙ fold_snoc (of x) pending, values.1))
-  shown of (Err e) v w x y pending left knows values rule = (rule ∙ (knows ∙ ap (λ l. known (l ∷ [])) (sym (ap of values.0))), (ap of values.0, values.1))
+  -- What a call of publish leaves: the writer knows what is published, which has grown by what was pending and was shown, or is as it was. `of` is what a copy took in.
+  pub shown : {T E : Type 0} (of : T → List (Command K V)) (result : Result (Unit {0}) E) (v w : Known K V) (x y : T) (pending left : List (Command K V)) → v.fronts ≡ of x ∷ []
+      → MatchResult result (λ _. (of y ≡ fold (λ l c. l ++ c ∷ []) (of x) pending) × (left ≡ [])) (λ _. (y ≡ x) × (left ≡ pending)) → MatchResult result (λ _. Shows v (of y) w) (λ _. w ≡ v)
+      → (w.fronts ≡ of y ∷ []) × MatchResult result (λ _. (of y ≡ of x ++ pending) × (left ≡ []) × (w.shows ≡ v.shows + 1)) (λ _. (of y ≡ of x) × (left ≡ pending) × (w.shows ≡ v.shows))
+  shown of (Ok done) v w x y pending left knows values rule = (rule.1, (values.0 ∙ fold_snoc (of x) pending, values.1, rule.2))
+  shown of (Err e) v w x y pending left knows values rule =
+      (ap (λ (k : Known K V). k.fronts) rule ∙ (knows ∙ ap (λ l. l ∷ []) (sym (ap of values.0))), (ap of values.0, values.1, ap (λ (k : Known K V). k.shows) rule))

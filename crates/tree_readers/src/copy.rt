@@ -13,10 +13,10 @@ use std::marker::Model;
 use std::snapshot::Snapshot;
 use tree_index::{Command, IndexKey, SameClone, TreeIndexOf};
 
-/// A copy of the index. Contracts see its pairs and the commands that it took in, of which it
-/// stores nothing. `LEN` is 7 or 15.
+/// A copy of the index. `LEN` is 7 or 15.
 ///
-/// The type keeps that the pairs are those after the commands, or clones of them.
+/// Contracts see its pairs and the commands that it took in, which it doesn't store. The type keeps
+/// that the pairs are those after the commands, or clones of them.
 pub struct CopyOf<K: IndexKey + SameClone, V: SameClone, const LEN: usize> {
     index: TreeIndexOf<K, V, LEN>,
     past: Snapshot<Past<Command<K, V>>>,

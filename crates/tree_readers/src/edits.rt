@@ -7,8 +7,8 @@ use std::alloc::AllocError;
 use std::ops::Bound;
 use tree_index::{Command, IndexKey, InsertError, SameClone, TreeIndexOf};
 
-// Does to an index what a command says. Returns `Err` with the command if it cannot allocate; the
-// pairs are then as they were.
+// Carries out a command on an index. Returns `Err` with the command if it cannot allocate; then the
+// pairs are as they were.
 pub(crate) fn edit<K: IndexKey + SameClone, V: SameClone, const LEN: usize>(
     index: &mut TreeIndexOf<K, V, LEN>,
     command: Command<K, V>,

@@ -1,4 +1,4 @@
-//! Why there is no reader, and why a handle doesn't lend its index.
+//! Why a writer makes no reader, and why a handle doesn't lend its index.
 use std::error::Error;
 use std::fmt;
 
@@ -19,7 +19,7 @@ impl Error for NoPlace {}
 pub enum EnterError {
     /// The writer was closed or dropped.
     Closed,
-    /// An earlier guard of the handle was forgotten, and the reader with it.
+    /// The handle has no reader: an earlier guard was forgotten, and the reader with it.
     Forgotten,
 }
 

@@ -1,8 +1,10 @@
-//! A handle that lends the index, and has its reader again once the guard is dropped.
+//! A handle to an index, and the guard by which it lends the index.
 ghost use Rattle.std.specs.Prelude.{◌≡◌, [], ◌∷◌, None, Some, IfErr, IfOk, IfSome, IsErrOf, IsSome};
+ghost use Rattle.std.specs.Borrow.{sem, RestsIfErr};
 ghost use Rattle.tree_model.specs.History.{IsSamePairs};
 ghost use Rattle.tree_readers.specs.Fronts.{after};
 ghost use Rattle.tree_readers.specs.Knowns.{BeginsWithAll};
+ghost use Rattle.tree_readers.specs.contracts.handle.HandleOver.{the_row};
 
 use crate::errors::EnterError;
 use crate::reader::{ReaderOf, ReadingOf};
@@ -12,11 +14,17 @@ use tree_index::{IndexKey, SameClone, TreeIndexOf};
 /// A handle to an index of fifteen pairs a leaf. See [`HandleOver`].
 pub type Handle<K, V> = HandleOf<K, V, 15>;
 
+/// A handle to an index of seven pairs a leaf. See [`HandleOver`].
+pub type SmallHandle<K, V> = HandleOf<K, V, 7>;
+
 /// A handle to an index of `LEN` pairs a leaf, 7 or 15. See [`HandleOver`].
 pub type HandleOf<K, V, const LEN: usize> = HandleOver<ReaderOf<K, V, LEN>>;
 
 /// What a handle to an index of fifteen pairs a leaf lends. See [`GuardOver`].
 pub type Guard<'a, K, V> = GuardOf<'a, K, V, 15>;
+
+/// What a handle to an index of seven pairs a leaf lends. See [`GuardOver`].
+pub type SmallGuard<'a, K, V> = GuardOf<'a, K, V, 7>;
 
 /// What a handle to an index of `LEN` pairs a leaf, 7 or 15, lends. See [`GuardOver`].
 pub type GuardOf<'a, K, V, const LEN: usize> = GuardOver<
@@ -44,14 +52,41 @@ impl<K: IndexKey + SameClone, V: SameClone, const LEN: usize> Leave<ReaderOf<K, 
     }
 }
 
-/// A reader that enters by reference, for a caller that keeps it.
+/// A reader outside the index that may enter it.
+pub trait Enter: Drop {
+    /// The reader inside.
+    type Inside: Leave<Self>;
+
+    // What it sees, by what it knows.
+    ghost sees: { Self → Self.Inside → Type 0 };
+
+    /// Enters the index. Returns `Err` with the reader if the writer was closed or dropped.
+    fn enter_to(self) -> Result<Self::Inside, Self>
+        ensures ok { IfOk result (λ inside. sees self inside) }
+        ensures err { IfErr result (λ reader. reader ≡ self) };
+}
+
+impl<K: IndexKey + SameClone, V: SameClone, const LEN: usize> Enter for ReaderOf<K, V, LEN> {
+    type Inside = ReadingOf<K, V, LEN>;
+
+    ghost sees = { λ reader reading. BeginsWithAll reading.commands reader };
+
+    fn enter_to(self) -> Result<ReadingOf<K, V, LEN>, Self> {
+        self.enter()
+    }
+}
+
+/// A reader that enters by reference, for a caller that keeps it in a field or lends it on.
 #[derive(Drop)]
 pub struct HandleOver<H: Drop> {
     /// The reader. A guard has it while it lives, and keeps it if it is forgotten.
     pub reader: Option<H>,
 }
 
-/// What a handle lends: the index, until it is dropped. The handle then has its reader again.
+/// What a handle lends: the index, until the guard is dropped. Then the handle has its reader
+/// again.
+///
+/// A guard that is forgotten stays inside, and stops the writer.
 pub struct GuardOver<'a, H: Drop, G: Leave<H>> {
     /// The handle.
     pub home: &'a mut HandleOver<H>,
@@ -68,22 +103,30 @@ impl<H: Drop, G: Leave<H>> Drop for GuardOver<'_, H, G> {
     }
 }
 
-impl<K: IndexKey + SameClone, V: SameClone, const LEN: usize> HandleOver<ReaderOf<K, V, LEN>> {
+impl<H: Enter> HandleOver<H> {
     /// Lends the index that was published last. It stays as it is until the guard is dropped.
     ///
-    /// Returns `Closed` if the writer was closed or dropped, and `Forgotten` if an earlier guard of
-    /// the handle was forgotten. Doesn't wait, allocates nothing, and runs in constant time.
-    pub fn enter(&mut self) -> Result<GuardOf<'_, K, V, LEN>, EnterError>
+    /// Returns `Err(Closed)` if the writer was closed or dropped, and `Err(Forgotten)` if an
+    /// earlier guard was forgotten. The handle is then as it was. Doesn't wait, allocates nothing,
+    /// and runs in constant time.
+    ///
+    /// ```
+    /// match handle.enter() {
+    ///     Ok(guard) => guard.peek(&item).copied(),
+    ///     Err(_) => None,
+    /// }
+    /// ```
+    pub fn enter(&mut self) -> Result<GuardOver<'_, H, H::Inside>, EnterError>
+        ensures* kept { sem 𝓛 (RestsIfErr (the_row H.row) self.entry (λ guard. guard.home.ghost_name) result (λ last. last.reader ≡ self.old.reader)) }
         ensures same_reference { IfOk result (λ guard. guard.home.ghost_name ≡ self.entry.ghost_name) }
-        ensures front { IfOk result
-            (λ guard. IfSome self.old.reader (λ fronts. BeginsWithAll guard.reading.commands fronts)) }
+        ensures front { IfOk result (λ guard. IfSome self.old.reader (λ reader. H.sees reader guard.reading)) }
         ensures forgotten { self.old.reader ≡ None → IsErrOf result EnterError.Forgotten }
         ensures closed { IsSome self.old.reader → IfErr result (λ error. error ≡ EnterError.Closed) }
     {
         let Some(reader) = self.reader.take() else {
             return Err(EnterError::Forgotten);
         };
-        match reader.enter() {
+        match reader.enter_to() {
             Ok(reading) => Ok(GuardOver {
                 home: self,
                 reading,

@@ -5,8 +5,8 @@ use std::marker::Model;
 use std::mem;
 use std::snapshot::Snapshot;
 
-/// A list of what was done, for clauses alone. Nothing of it is stored: only snapshots of it are
-/// kept, and these take no bytes.
+/// A list of what was done, for clauses alone. Only snapshots of it are kept, and these take no
+/// bytes.
 #[cycle(past)]
 #[derive(Drop)]
 pub struct Past<O: Drop> {

@@ -34,9 +34,9 @@ pub type ReadingOf<K, V, const LEN: usize> = ReadingOver<K, V, CopyOf<K, V, LEN>
 
 /// A reader outside the index. It may be sent to another thread.
 ///
-/// Contracts see the lists of commands that it knows of: each list of published commands that it
-/// saw, or that its writer had published when it made the reader. `T` is a [`CopyOf`] and `P` is
-/// [`Fronts`], as the type's other names have it.
+/// Contracts see lists of commands that it knows of, with each of which the published commands
+/// begin: what its writer had published when it made the reader, or what the reader saw last. `T`
+/// is a [`CopyOf`] and `P` is [`Fronts`], as the aliases of this type have it.
 pub struct ReaderOver<
     K: IndexKey + SameClone,
     V: SameClone,
@@ -76,9 +76,13 @@ impl<
 impl<K: IndexKey + SameClone, V: SameClone, const LEN: usize> ReaderOf<K, V, LEN> {
     /// Enters the index that was published last. It stays as it is until the reader leaves.
     ///
-    /// The commands that left its pairs begin with each list that the reader knows of. Returns
-    /// `Err` with the reader if the writer was closed or dropped. Doesn't wait, allocates nothing,
-    /// and runs in constant time.
+    /// Its pairs are those after a list of commands that begins with each list that the reader
+    /// knows of. Returns `Err` with the reader if the writer was closed or dropped. Doesn't wait,
+    /// allocates nothing, and runs in constant time.
+    ///
+    /// ```
+    /// let reading = reader.enter()?;
+    /// ```
     pub fn enter(self) -> Result<ReadingOf<K, V, LEN>, Self>
         ensures ok { IfOk result (λ r. BeginsWithAll r.commands self) }
         ensures err { IfErr result (λ r. r ≡ self) }
@@ -91,6 +95,10 @@ impl<K: IndexKey + SameClone, V: SameClone, const LEN: usize> ReaderOf<K, V, LEN
     }
 
     /// Returns a handle, which enters by reference.
+    ///
+    /// ```
+    /// let mut handle = reader.into_handle();
+    /// ```
     pub fn into_handle(self) -> HandleOf<K, V, LEN>
         ensures { result.reader ≡ Some self }
     {
@@ -101,7 +109,7 @@ impl<K: IndexKey + SameClone, V: SameClone, const LEN: usize> ReaderOf<K, V, LEN
 /// A reader inside the index. Until it leaves, or is dropped, the writer may have to wait for it.
 ///
 /// Contracts see the pairs, and the commands that left them. `T` is a [`CopyOf`] and `P` is
-/// [`Fronts`], as the type's other names have it.
+/// [`Fronts`], as the aliases of this type have it.
 pub struct ReadingOver<
     K: IndexKey + SameClone,
     V: SameClone,
@@ -131,17 +139,20 @@ impl<
     P: Protocol<T, Known<K, V>>,
 > Model for ReadingOver<K, V, T, P> {
     ghost use Rattle.std.specs.Prelude.{◌≡◌, [], ◌∷◌};
-    ghost use Rattle.tree_readers.specs.Rules.{known};
 
     ghost Value = { T };
 
     ghost view = { λ r. r.reading.part.value };
 
-    ghost invariant = { λ r. r.reading.place.me.0.client ≡ known (T.state r.reading.part.value ∷ []) };
+    ghost invariant = { λ r. r.reading.place.me.0.client.fronts ≡ T.state r.reading.part.value ∷ [] };
 }
 
 impl<K: IndexKey + SameClone, V: SameClone, const LEN: usize> ReadingOf<K, V, LEN> {
     /// Returns the index, for reading, in constant time.
+    ///
+    /// ```
+    /// let price = reading.index().peek(&item).copied();
+    /// ```
     pub fn index(&self) -> &TreeIndexOf<K, V, LEN>
         ensures pairs { result.now.pairs ≡ self.now.pairs }
         ensures front { IsSamePairs K.cmp K.seen V.seen result.now.pairs (after K.cmp self.now.commands) }
@@ -152,6 +163,10 @@ impl<K: IndexKey + SameClone, V: SameClone, const LEN: usize> ReadingOf<K, V, LE
     /// Leaves the index. The reader knows of the commands that left its pairs.
     ///
     /// Doesn't wait, allocates nothing, and runs in constant time.
+    ///
+    /// ```
+    /// reader = reading.leave();
+    /// ```
     pub fn leave(self) -> ReaderOf<K, V, LEN>
         ensures { result ≡ self.commands ∷ [] }
     {

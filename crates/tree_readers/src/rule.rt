@@ -1,7 +1,7 @@
 //! The rule of the readers and the writer: the published commands begin with all that any of them
 //! knows.
 ghost use Rattle.std.specs.Prelude.{[], ◌∷◌, ◌++◌};
-ghost use Rattle.tree_readers.specs.Rules.{Keeps, Sees, known};
+ghost use Rattle.tree_readers.specs.Rules.{Keeps, Sees, Shows, known};
 
 use crate::copy::CopyOf;
 use atomic_table::{Join, Split};
@@ -9,11 +9,12 @@ use crossbeam_utils::rule::{Outcome, Protocol};
 use std::collections::LinkedList;
 use tree_index::{Command, IndexKey, SameClone};
 
-/// What a reader or the writer knows: lists with which the published commands begin. No value of it
-/// is made.
+/// What a reader or the writer knows. No value of it is made.
 pub struct Known<K, V> {
-    /// The lists.
+    /// Lists with which the published commands begin.
     pub fronts: LinkedList<LinkedList<Command<K, V>>>,
+    /// How many times the writer has shown another copy, if it is the writer that knows it.
+    pub shows: u64,
 }
 
 /// The rule: the commands that the shown copy took in begin with each list that a reader or the
@@ -26,7 +27,7 @@ impl<K: IndexKey + SameClone, V: SameClone, const LEN: usize> Protocol<
 > for Fronts {
     ghost holds = { λ copy views. Keeps copy.commands views };
 
-    ghost first = { known ([] ∷ []) };
+    ghost first = { known ([] ∷ []) 0 };
 }
 
 // What is published is known afterwards, and begins with all that was known.
@@ -37,6 +38,16 @@ impl<K: IndexKey + SameClone, V: SameClone, const LEN: usize> Outcome<
     Known<K, V>,
 > for Look {
     ghost then = { λ v x y w. Sees v y.commands w };
+}
+
+// The same of the writer, which has shown another copy.
+pub(crate) struct Showing;
+
+impl<K: IndexKey + SameClone, V: SameClone, const LEN: usize> Outcome<
+    CopyOf<K, V, LEN>,
+    Known<K, V>,
+> for Showing {
+    ghost then = { λ v x y w. Shows v y.commands w };
 }
 
 // How the writer passes on what it knows, and keeps it.
@@ -52,7 +63,7 @@ impl<K, V> Split<Known<K, V>> for Telling {
 pub(crate) struct Learning;
 
 impl<K, V> Join<Known<K, V>> for Learning {
-    ghost both = { λ v w. known (v.fronts ++ w.fronts) };
+    ghost both = { λ v w. known (v.fronts ++ w.fronts) v.shows };
 
-    ghost spent = { known [] };
+    ghost spent = { known [] 0 };
 }

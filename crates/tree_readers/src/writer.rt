@@ -1,18 +1,17 @@
 //! The writer.
-ghost use Rattle.std.specs.Prelude.{◌≡◌, ◌⊎◌, ◌^◌, ◌<◌, [], ◌∷◌, ◌++◌, drop, IfOk, MatchResult};
+ghost use Rattle.std.specs.Prelude.{◌≡◌, ◌⊎◌, ◌+◌, ◌^◌, ◌<◌, [], ◌∷◌, ◌++◌, drop, IfOk, MatchResult};
 ghost use Rattle.left_right.specs.Sides.{view};
 ghost use Rattle.tree_array.specs.Length.{IsLen};
 ghost use Rattle.tree_model.specs.History.{IsSamePairs};
 ghost use Rattle.tree_model.specs.declared.commands.Command.TheVariants.{Insert, Upsert, Remove, RemoveRange, Clear};
 ghost use Rattle.tree_readers.specs.Fronts.{after};
-ghost use Rattle.tree_readers.specs.Rules.{known};
-ghost use Rattle.tree_readers.specs.Views.{Awaits, AwaitsOne, IsUnchanged, Publishes};
+ghost use Rattle.tree_readers.specs.Views.{Awaits, AwaitsOne, Flushes, IsUnchanged, Publishes};
 
 use crate::copy::CopyOf;
 use crate::errors::NoPlace;
 use crate::queue::{pass_on, push, push_all};
 use crate::reader::{ReaderOf, ReaderOver};
-use crate::rule::{Fronts, Known, Learning, Look, Telling};
+use crate::rule::{Fronts, Known, Learning, Showing, Telling};
 use core::mem::replace_with;
 use crossbeam_utils::rule::Protocol;
 use left_right::Absorb;
@@ -35,11 +34,12 @@ pub type WriterOf<K, V, R, const LEN: usize> = WriterOver<K, V, R, CopyOf<K, V, 
 
 /// What changes an index while others read it. It may be sent to another thread.
 ///
-/// Contracts see the published commands, whose pairs readers see, and the pending ones, which wait
-/// for the next call of `publish`. `R` is the handle by which the writer waits. `T` is a [`CopyOf`]
-/// and `P` is [`Fronts`], as the type's other names have it.
+/// Contracts see the commands that are published, whose pairs readers see, those that are pending
+/// until the next call of `publish`, and how many times readers were shown another copy. `R` is the
+/// handle by which the writer waits. `T` is a [`CopyOf`] and `P` is [`Fronts`], as the aliases of
+/// this type have it.
 ///
-/// Its drop waits for the readers inside, as [`close`](WriterOf::close) does.
+/// A drop waits for the readers inside, as [`close`](WriterOf::close) does.
 pub struct WriterOver<
     K: IndexKey + SameClone,
     V: SameClone,
@@ -75,7 +75,6 @@ impl<
     P: Protocol<T, Known<K, V>>,
 > Model for WriterOver<K, V, R, T, P> {
     ghost use Rattle.std.specs.Prelude.{◌≡◌, [], ◌∷◌, ◌++◌, drop};
-    ghost use Rattle.tree_readers.specs.Rules.{known};
     ghost use Rattle.tree_readers.specs.Views.{WriterView};
 
     ghost Value = { WriterView K V };
@@ -83,9 +82,10 @@ impl<
     ghost view = { λ w. record {
       published = T.state w.sides.desk.shown.value;
       pending = drop w.sides.behind w.sides.log.items ++ w.queue.items;
+      shows = w.sides.desk.place.me.0.client.shows;
     } };
 
-    ghost invariant = { λ w. w.sides.desk.place.me.0.client ≡ known (T.state w.sides.desk.shown.value ∷ []) };
+    ghost invariant = { λ w. w.sides.desk.place.me.0.client.fronts ≡ T.state w.sides.desk.shown.value ∷ [] };
 }
 
 impl<K: IndexKey + SameClone, V: SameClone, R: Wait + Drop, const LEN: usize> WriterOf<
@@ -94,11 +94,15 @@ impl<K: IndexKey + SameClone, V: SameClone, R: Wait + Drop, const LEN: usize> Wr
     R,
     LEN,
 > {
-    /// Creates an empty index with room for so many readers. The caller must choose 7 or 15 for
-    /// `LEN`, and at least one reader.
+    /// Creates a writer of an empty index, with places for so many readers. The caller must choose
+    /// 7 or 15 for `LEN`, and at least one place and fewer than 2 to the power of 32.
     ///
-    /// Returns `Err` if it cannot allocate. Allocates the two copies and a place for each reader,
-    /// and nothing for pairs.
+    /// Returns `Err` if it cannot allocate. Allocates the two copies and the places, and nothing
+    /// for pairs.
+    ///
+    /// ```
+    /// let writer: Writer<u64, u64, &HostRuntime> = Writer::new(rt.alloc(), &rt, 4)?;
+    /// ```
     pub fn new(alloc: Global, rt: R, readers: usize) -> Result<Self, AllocError>
         requires len { IsLen LEN }
         requires readers { (0 < readers) × (readers < 2 ^ 32) }
@@ -114,11 +118,15 @@ impl<K: IndexKey + SameClone, V: SameClone, R: Wait + Drop, const LEN: usize> Wr
         })
     }
 
-    /// Creates a reader, which knows of the published commands: what it sees is after these at
-    /// least.
+    /// Creates a reader, which knows of the published commands: whenever it enters, it sees the
+    /// pairs after these at least. So it is a receipt for what was published.
     ///
     /// Returns `Err` if each place for a reader is in use. A place is free again once its reader is
-    /// dropped. Allocates nothing. Looks at each place until one is free.
+    /// dropped. Looks at each place until one is free, and allocates nothing.
+    ///
+    /// ```
+    /// let receipt = writer.reader()?;
+    /// ```
     pub fn reader(&mut self) -> Result<ReaderOf<K, V, LEN>, NoPlace>
         ensures kept { self.new ≡ self.old }
         ensures reader { IfOk result (λ r. r ≡ [] ∷ self.old.published ∷ []) }
@@ -131,6 +139,10 @@ impl<K: IndexKey + SameClone, V: SameClone, R: Wait + Drop, const LEN: usize> Wr
     }
 
     /// Returns the index that readers see, in constant time.
+    ///
+    /// ```
+    /// let index = writer.published();
+    /// ```
     pub fn published(&self) -> &TreeIndexOf<K, V, LEN>
         ensures { IsSamePairs K.cmp K.seen V.seen result.now.pairs (after K.cmp self.now.published) }
     {
@@ -141,6 +153,10 @@ impl<K: IndexKey + SameClone, V: SameClone, R: Wait + Drop, const LEN: usize> Wr
     ///
     /// Returns `Err` with the command if it cannot allocate. Runs in constant time, except when the
     /// queue of the pending commands grows.
+    ///
+    /// ```
+    /// writer.append(Command::Insert(4, 40))?;
+    /// ```
     pub fn append(&mut self, command: Command<K, V>) -> Result<(), Command<K, V>>
         ensures { AwaitsOne self.old command result self.new }
     {
@@ -149,8 +165,12 @@ impl<K: IndexKey + SameClone, V: SameClone, R: Wait + Drop, const LEN: usize> Wr
 
     /// Keeps each command of a batch for the next call of `publish`, and leaves the batch empty.
     ///
-    /// Returns `Err` if it cannot allocate. No command is pending then that wasn't, and the batch
-    /// still has all of its commands. Reserves memory for the whole batch first.
+    /// Returns `Err` if it cannot allocate. Then it kept none of them, and the batch still has all
+    /// of its commands. Allocates at most once, before the first command is moved.
+    ///
+    /// ```
+    /// writer.append_all(&mut batch)?;
+    /// ```
     pub fn append_all(&mut self, batch: &mut VecDeque<Command<K, V>>) -> Result<(), AllocError>
         ensures { MatchResult result
             (λ _. Awaits self.old batch.old.items self.new × (batch.new.items ≡ []))
@@ -161,6 +181,10 @@ impl<K: IndexKey + SameClone, V: SameClone, R: Wait + Drop, const LEN: usize> Wr
 
     /// Keeps an insert for the next call of `publish`. It stores the pair if no pair has its key by
     /// then. Returns what [`append`](WriterOf::append) does.
+    ///
+    /// ```
+    /// writer.insert(1, 10)?;
+    /// ```
     pub fn insert(&mut self, key: K, value: V) -> Result<(), Command<K, V>>
         ensures { AwaitsOne self.old (Insert key value) result self.new }
     {
@@ -169,6 +193,10 @@ impl<K: IndexKey + SameClone, V: SameClone, R: Wait + Drop, const LEN: usize> Wr
 
     /// Keeps an upsert for the next call of `publish`. It stores the pair, and replaces one with an
     /// equal key. Returns what [`append`](WriterOf::append) does.
+    ///
+    /// ```
+    /// writer.upsert(3, 30)?;
+    /// ```
     pub fn upsert(&mut self, key: K, value: V) -> Result<(), Command<K, V>>
         ensures { AwaitsOne self.old (Upsert key value) result self.new }
     {
@@ -177,6 +205,10 @@ impl<K: IndexKey + SameClone, V: SameClone, R: Wait + Drop, const LEN: usize> Wr
 
     /// Keeps the removal of a key for the next call of `publish`. Returns what
     /// [`append`](WriterOf::append) does.
+    ///
+    /// ```
+    /// writer.remove(3)?;
+    /// ```
     pub fn remove(&mut self, key: K) -> Result<(), Command<K, V>>
         ensures { AwaitsOne self.old (Remove key) result self.new }
     {
@@ -185,6 +217,10 @@ impl<K: IndexKey + SameClone, V: SameClone, R: Wait + Drop, const LEN: usize> Wr
 
     /// Keeps the removal of every pair within two bounds for the next call of `publish`. Returns
     /// what [`append`](WriterOf::append) does.
+    ///
+    /// ```
+    /// writer.remove_range(Bound::Included(5), Bound::Excluded(9))?;
+    /// ```
     pub fn remove_range(&mut self, low: Bound<K>, high: Bound<K>) -> Result<(), Command<K, V>>
         ensures { AwaitsOne self.old (RemoveRange low high) result self.new }
     {
@@ -193,6 +229,10 @@ impl<K: IndexKey + SameClone, V: SameClone, R: Wait + Drop, const LEN: usize> Wr
 
     /// Keeps the removal of all pairs for the next call of `publish`. Returns what
     /// [`append`](WriterOf::append) does.
+    ///
+    /// ```
+    /// writer.clear()?;
+    /// ```
     pub fn clear(&mut self) -> Result<(), Command<K, V>>
         ensures { AwaitsOne self.old Clear result self.new }
     {
@@ -201,10 +241,14 @@ impl<K: IndexKey + SameClone, V: SameClone, R: Wait + Drop, const LEN: usize> Wr
 
     /// Shows readers every pending command, all at once.
     ///
-    /// Returns `Err` if it cannot allocate. Readers then see what they saw, the commands are still
+    /// Returns `Err` if it cannot allocate. Then readers see what they saw, the commands are still
     /// pending, and the next call goes on where this one stopped. Waits for the readers that still
-    /// read the copy of the call before. Carries out each command on both copies, one of them by
-    /// the next call, and looks at each reader's place.
+    /// read the copy of the call before. Carries out each pending command on one copy, and those of
+    /// the call before on the same one, and looks at each reader's place.
+    ///
+    /// ```
+    /// writer.publish()?;
+    /// ```
     pub fn publish(&mut self) -> Result<(), AllocError>
         ensures { MatchResult result (λ _. Publishes self.old self.new) (λ _. IsUnchanged self.old self.new) }
     {
@@ -212,22 +256,31 @@ impl<K: IndexKey + SameClone, V: SameClone, R: Wait + Drop, const LEN: usize> Wr
         replace_with(&mut self.sides, &self.rt, show::<K, V, R, LEN>)
     }
 
-    /// Publishes twice, so that both copies have each command and what was removed is dropped.
+    /// Publishes twice, so that both copies have each command and what was removed is dropped. It
+    /// waits and costs as two calls of [`publish`](WriterOf::publish).
     ///
     /// Returns `Err` if it cannot allocate. Then either nothing changed, or all is published and
     /// the copy that no reader enters lacks some of it until the next call.
+    ///
+    /// ```
+    /// writer.flush()?;
+    /// ```
     pub fn flush(&mut self) -> Result<(), AllocError>
-        ensures { MatchResult result (λ _. Publishes self.old self.new)
+        ensures { MatchResult result (λ _. Flushes self.old self.new)
             (λ _. IsUnchanged self.old self.new ⊎ Publishes self.old self.new) }
     {
         self.publish()?;
         self.publish()
     }
 
-    /// Ends the sharing, and returns the index that was published last. Readers enter no more.
-    /// Pending commands are dropped.
+    /// Returns the index that was published last. Its readers enter no more. Commands that are
+    /// pending are dropped.
     ///
-    /// Waits for the readers inside. Allocates nothing.
+    /// Waits for the readers inside, and allocates nothing.
+    ///
+    /// ```
+    /// let index = writer.close();
+    /// ```
     pub fn close(self) -> TreeIndexOf<K, V, LEN>
         ensures { IsSamePairs K.cmp K.seen V.seen result.pairs (after K.cmp self.published) }
     {
@@ -246,13 +299,14 @@ fn show<K: IndexKey + SameClone, V: SameClone, R: Wait, const LEN: usize>(
     sides: SidesOf<K, V, LEN>,
     rt: &R,
 ) -> (SidesOf<K, V, LEN>, Result<(), AllocError>)
-    requires { view sides.desk.place ≡ known (sides.desk.shown.value.commands ∷ []) }
-    ensures knows { view result.0.desk.place ≡ known (result.0.desk.shown.value.commands ∷ []) }
+    requires { (view sides.desk.place).fronts ≡ sides.desk.shown.value.commands ∷ [] }
+    ensures knows { (view result.0.desk.place).fronts ≡ result.0.desk.shown.value.commands ∷ [] }
     ensures commands { MatchResult result.1
         (λ _. (result.0.desk.shown.value.commands ≡ sides.desk.shown.value.commands ++ drop sides.behind sides.log.items)
-        × (drop result.0.behind result.0.log.items ≡ []))
+        × (drop result.0.behind result.0.log.items ≡ []) × ((view result.0.desk.place).shows ≡ (view sides.desk.place).shows + 1))
         (λ _. (result.0.desk.shown.value.commands ≡ sides.desk.shown.value.commands)
-        × (drop result.0.behind result.0.log.items ≡ drop sides.behind sides.log.items)) }
+        × (drop result.0.behind result.0.log.items ≡ drop sides.behind sides.log.items)
+        × ((view result.0.desk.place).shows ≡ (view sides.desk.place).shows)) }
 {
-    sides.publish_as::<Look, R>(rt)
+    sides.publish_as::<Showing, R>(rt)
 }
