@@ -1,6 +1,6 @@
 """Puts the tests that are tried, and not proved, into a copy of the repository.
 
-bench/tried/CRATE has them, as modules of that crate, or as a crate of its own if crates.txt has no line for it; bench/tried/crates.txt names
+bench/tried/CRATE has them, as modules of that crate, or as a crate of its own if crates.txt has no line for it; bench/tried/libraries.txt names
 what they need besides. No proof says anything of the requests for memory that bench/refusals refuses them, and clauses say what the calls
 answer that they make. C can't call the exports of `tree_index_c` in a program that `rt try --test` builds, so those are tested in Rattle.
 """
@@ -16,7 +16,7 @@ EXPORTS = "tree_index_c"
 
 def libraries():
     """What the tests of each crate need besides what crates.txt names."""
-    return libraries_in(os.path.join(TRIED, "crates.txt"))
+    return libraries_in(os.path.join(TRIED, "libraries.txt"))
 
 
 def own_crates():

@@ -25,6 +25,7 @@ CRATES = (
     "tree_batches",
     "tree_state",
     "tree_shared",
+    "tree_readers",
     "tree_lines",
 )
 # The groups of calls on a page, in the order in which they stand there. A call of another name goes by what it takes.
