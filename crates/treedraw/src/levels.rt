@@ -1,5 +1,6 @@
 //! How full the levels of a tree are, which is all that a picture shows of a large one.
-use crate::shape::{KeyRow, Shape};
+use crate::rows::KeyRow;
+use crate::shape::Shape;
 
 /// The arrays of a level.
 #[derive(Clone, Copy)]

@@ -3,9 +3,13 @@
 #![tactic(auto)]
 
 mod dot;
+mod draw;
+mod language;
 mod levels;
 mod options;
+mod places;
 mod reading;
+mod rows;
 mod shape;
 mod svg;
 mod text;

@@ -1,7 +1,7 @@
 //! What the arguments of the program ask for.
 
 /// Of which trees pictures are drawn, and how.
-#[derive(Clone, Copy, Debug)]
+#[derive(Clone, Copy)]
 pub struct Options {
     /// `--svg`: as SVG, and not as DOT.
     pub is_svg: bool,

@@ -3,7 +3,8 @@ ghost use Rattle.std.specs.Prelude.{◌<◌};
 ghost use Rattle.std.specs.Ordering.{nat_cmp};
 ghost use Rattle.tree_node.specs.Tree.{StandsOrRetired};
 
-use crate::shape::{Child, ChildRow, KeyRow, Shape};
+use crate::rows::{Child, ChildRow, KeyRow};
+use crate::shape::Shape;
 use std::alloc::{AllocError, Global};
 use tree_array::array::{ArrayIter, ArrayOf};
 use tree_index::TreeIndexOf;

@@ -1,19 +1,20 @@
 //! The program over streams that are passed to it.
 ghost use Rattle.std.specs.Prelude.{◌<◌, ◌≤◌, length};
 
+use crate::dot::DOT;
+use crate::draw::draw;
+use crate::language::Language;
 use crate::options::{Options, options_of};
 use crate::reading::shape_of;
-use crate::{dot, svg};
+use crate::shape::Shape;
+use crate::svg::SVG;
 use std::alloc::{AllocError, Global};
 use std::io::{self, Read, Write};
 use tree_index::{SmallTreeIndex, TreeIndex, TreeIndexOf};
 use tree_lines::{run_lines, write_whole};
 
-/// The most pairs of a tree that is drawn. Of a larger one each level is a bar.
-const MOST_PAIRS: usize = 2_000;
-
 /// Why not all pictures were written.
-#[derive(Clone, Copy, Debug, PartialEq, Eq)]
+#[derive(Clone, Copy)]
 pub enum DrawFault {
     /// A write failed or took no byte.
     Write,
@@ -138,7 +139,7 @@ fn draw_line<W: Write, const LEN: usize>(
     }
 }
 
-// Applies a line, and returns a picture of the tree after it, with what the line changed.
+// Applies a line, and returns a picture of the tree after it.
 fn picture_of<const LEN: usize>(
     alloc: Global,
     index: &mut TreeIndexOf<u64, u64, LEN>,
@@ -148,12 +149,23 @@ fn picture_of<const LEN: usize>(
     let before = shape_of(alloc, index)?;
     apply(index, line);
     let now = shape_of(alloc, index)?;
+    drawn(alloc, &before, &now, line, options)
+}
+
+// Returns a picture of the tree after a line.
+fn drawn(
+    alloc: Global,
+    before: &Shape,
+    now: &Shape,
+    line: &[u8],
+    options: Options,
+) -> Result<Vec<u8>, AllocError> {
     let mut picture = Vec::new(alloc);
-    match (options.is_svg, now.pairs > MOST_PAIRS) {
-        (false, false) => dot::draw_tree(&mut picture, &before, &now, line)?,
-        (false, true) => dot::draw_levels(&mut picture, &now, line)?,
-        (true, false) => svg::draw_tree(&mut picture, &before, &now, line)?,
-        (true, true) => svg::draw_levels(&mut picture, &now, line)?,
-    }
+    draw(&mut picture, language_of(options), before, now, line)?;
     Ok(picture)
+}
+
+// Returns the language that the options ask for.
+fn language_of(options: Options) -> &'static Language {
+    if options.is_svg { &SVG } else { &DOT }
 }
