@@ -1,5 +1,5 @@
 -- A walk over the slots of an array, each of which has a key.
-use Rattle.tree_parts.proofs.Common.{◌≡◌, ℕ, List, map, drop, Option, Some, None, IsSome, ap, Arrivals, StepsOn, Walk, arrival, place_ahead, standing}
+use Rattle.tree_parts.proofs.Common.{◌≡◌, ℕ, List, map, drop, Some, None, IsSome, ap, Arrivals, StepsOn, Walk, arrival, place_ahead, standing}
 use Rattle.tree_parts.proofs.InTurn.{reachable_at}
 pub use Rattle.tree_parts.specs.Children.{IsOverKeyed}
 

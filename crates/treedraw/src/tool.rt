@@ -45,9 +45,9 @@ pub fn tool<I: Read, O: Write, E: Write>(
         return 2;
     };
     let drawn = if options.is_small {
-        draw_small(alloc, script.as_slice(), options, output)
+        draw_small(alloc, lines_of(script.as_slice()), options, output)
     } else {
-        draw_large(alloc, script.as_slice(), options, output)
+        draw_large(alloc, lines_of(script.as_slice()), options, output)
     };
     match drawn {
         Ok(()) => 0,
@@ -89,17 +89,33 @@ fn draw_lines<W: Write, const LEN: usize>(
     let mut left = script;
     while !left.is_empty() {
         let (line, behind) = first_line(left);
-        if options.is_every || behind.is_empty() {
-            draw_line(alloc, index, line, options, output)?;
-        } else {
-            apply(index, line);
-        }
+        let is_drawn = options.is_every || behind.is_empty();
+        take_line(alloc, index, line, is_drawn, options, output)?;
         left = behind;
     }
-    if script.is_empty() {
-        return draw_line(alloc, index, script, options, output);
-    }
     Ok(())
+}
+
+// Applies a line, and draws the tree after it if that is asked for.
+fn take_line<W: Write, const LEN: usize>(
+    alloc: Global,
+    index: &mut TreeIndexOf<u64, u64, LEN>,
+    line: &[u8],
+    is_drawn: bool,
+    options: Options,
+    output: &mut W,
+) -> Result<(), DrawFault> {
+    if is_drawn {
+        draw_line(alloc, index, line, options, output)
+    } else {
+        apply(index, line);
+        Ok(())
+    }
+}
+
+// Returns the lines of a script. An empty script is one line without a request.
+fn lines_of(script: &[u8]) -> &[u8] {
+    if script.is_empty() { b"\n" } else { script }
 }
 
 // Returns the first line of a text with its line feed, and what is behind it.
@@ -147,12 +163,23 @@ fn picture_of<const LEN: usize>(
     options: Options,
 ) -> Result<Vec<u8>, AllocError> {
     let before = shape_of(alloc, index)?;
-    apply(index, line);
-    let now = shape_of(alloc, index)?;
-    drawn(alloc, &before, &now, line, options)
+    picture_after(alloc, index, &before, line, options)
 }
 
-// Returns a picture of the tree after a line.
+// Applies a line, and returns a picture of what it changed.
+fn picture_after<const LEN: usize>(
+    alloc: Global,
+    index: &mut TreeIndexOf<u64, u64, LEN>,
+    before: &Shape,
+    line: &[u8],
+    options: Options,
+) -> Result<Vec<u8>, AllocError> {
+    apply(index, line);
+    let now = shape_of(alloc, index)?;
+    drawn(alloc, before, &now, line, options)
+}
+
+// Returns a picture of a tree and what a line changed in it.
 fn drawn(
     alloc: Global,
     before: &Shape,
