@@ -1,6 +1,6 @@
-"""Runs `treetool` on scripts, for the programs of bench/ that compare its answers.
+"""Runs `treetool`, or another program that reads its lines, on scripts, for the programs that compare what it writes.
 
-A script is the bytes of its requests. Without a program, `rt try` builds crates/treetool, unproved and with checks of each access, and runs
+A script is the bytes of its requests. Without a program, `rt try` builds the crate, unproved and with checks of each access, and runs
 it on all scripts of a call. It leaves no program behind, so each call builds once, which takes about half a minute.
 """
 import os
@@ -14,10 +14,12 @@ SECONDS = 600
 
 
 class Tool(NamedTuple):
-    """A built `treetool`, or crates/treetool where none is given, and whether it has the index of seven slots."""
+    """A built program, or a crate of crates/ if none is given, whether it has the index of seven slots, and its other options."""
 
     program: str | None = None
     small: bool = False
+    crate: str = "treetool"
+    options: tuple = ()
 
     def slots(self):
         """How many slots an array of its index has."""
@@ -25,7 +27,7 @@ class Tool(NamedTuple):
 
     def arguments(self):
         """The arguments after the program's name."""
-        return ["--small"] if self.small else []
+        return [*self.options, *(["--small"] if self.small else [])]
 
     def runs(self, scripts):
         """Runs the program once on each script, and gives each run."""
@@ -46,7 +48,7 @@ def run(tool, script):
 
 
 def tries(tool, scripts):
-    """Builds crates/treetool by `rt try`, and runs it on each script."""
+    """Builds a crate by `rt try`, and runs it on each script."""
     with tempfile.TemporaryDirectory(prefix="treetool-") as folder:
         names = [f"{place:06}" for place in range(len(scripts))]
         os.mkdir(os.path.join(folder, "cases"))
@@ -56,13 +58,13 @@ def tries(tool, scripts):
         with open(os.path.join(folder, "output"), "w+b") as output:
             command = ["rt", "try", "--seconds", str(SECONDS), "--cases", os.path.join(folder, "cases")]
             command += ["--", *tool.arguments()]
-            home = os.path.join(TOP, "crates", "treetool")
+            home = os.path.join(TOP, "crates", tool.crate)
             done = subprocess.run(command, cwd=home, stdout=output, stderr=subprocess.PIPE, check=False)
             output.seek(0)
             outputs = outputs_of(output.read(), names)
     ends = ends_of(done.stderr.decode(errors="replace"))
     if not ends:
-        sys.exit(f"bench: rt try did not run treetool:\n{done.stderr.decode(errors='replace')}")
+        sys.exit(f"bench: rt try did not run {tool.crate}:\n{done.stderr.decode(errors='replace')}")
     return [Ran(outputs.get(name, b""), ends.get(name, "no end was told")) for name in names]
 
 

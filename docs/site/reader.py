@@ -392,12 +392,17 @@ def can_fail(call):
     return "Result<" in CONTRACTS.head_of(call.lines).rpartition(" -> ")[2]
 
 
+# The cost of a call whose documentation has none: what allocates is passed an allocator or holds one, and returns a failure.
+NO_ALLOCATION = "Allocates nothing: no failure of an allocation is returned."
+
+
 def parts_of_call(call):
-    """The parts of the documentation of a call. Its errors and its cost may be told by a sentence that says what it does."""
+    """The parts of the documentation of a call. Its errors and its cost may be told by a sentence that says something else too."""
     parts = parts_of_doc(call.doc, can_fail(call))
     told = [it for text in parts["what"] for it in sentences_of(text)]
     parts["errors"] = parts["errors"] or [it for it in told if can_fail(call) and ERROR.search(it)]
-    parts["cost"] = parts["cost"] or [it for it in told if COST.search(it)]
+    told += [it for text in parts["errors"] for it in sentences_of(text)]
+    parts["cost"] = parts["cost"] or [it for it in told if COST.search(it)] or ([] if can_fail(call) else [NO_ALLOCATION])
     return parts
 
 

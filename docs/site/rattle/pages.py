@@ -15,7 +15,6 @@ import reader
 from .marked import clause_block, code_block, folded, markdown, signature_nodes, signature_text, source_link
 
 LOGGER = logging.getLogger(__name__)
-NO_COST = "The source doesn't say."
 LANGUAGES = {"rt": "rattle", "c": "c", "h": "c", "cpp": "cpp", "rs": "rust", "py": "python"}
 # Where an example of a type stands that its own documentation doesn't have: the file and the item.
 EXAMPLES = {
@@ -86,7 +85,9 @@ class Page(SphinxDirective):
         if not parts["what"]:
             LOGGER.warning("%s has no documentation", name, location=f"{call.file}:{call.line}")
         self.note(kind, name, name, " ".join(parts["what"][:1]))
-        told = [("Errors", told_errors(call, parts)), ("Cost", markdown(parts["cost"]) or NO_COST)]
+        if not parts["cost"]:
+            LOGGER.warning("%s has no cost", name, location=f"{call.file}:{call.line}")
+        told = [("Errors", told_errors(call, parts)), ("Cost", markdown(parts["cost"]))]
         content = [*self.parsed(markdown(parts["what"])), *([self.fields(told)] if kind == "call" else [])]
         content += [code_block(it) for it in parts["examples"]]
         clauses = reader.clauses_of(call)

@@ -5,6 +5,7 @@
 
     ```{rattle:languages}
     Rattle: crates/usage/src/book.rt pub fn cancel
+    C: tasks.c static void cancel
     Python: a language without an example has a text in its place
     ```
 """
@@ -12,6 +13,8 @@ from .pages import Page
 
 # What begins so is a part of a file, and not a text.
 FOLDERS = ("crates/", "bindings/")
+# The programs that have the examples of the tasks, which are named by their file alone.
+TASKS = "bindings/programs/tasks/"
 
 
 class Shown(Page):
@@ -40,6 +43,7 @@ class Languages(Page):
     def tab(self, told):
         """The lines of a tab: one or more items of files, or a text."""
         for item in told.split(" | "):
+            item = TASKS + item if item.startswith("tasks.") else item
             yield from [f"```{{rattle:shown}} {item}", "```"] if item.startswith(FOLDERS) else [item]
             yield ""
 
