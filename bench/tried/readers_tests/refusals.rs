@@ -149,7 +149,7 @@ static EDITS: [Command<u64, u64>; 4] = [
     Command::Insert(30, 30),
 ];
 
-// Publishes a batch, which is the first to need room in the queue.
+// Flushes a batch, which is the first to need room in the queue and in both copies.
 fn publish_batch<R: Wait + Drop>(
     rt: &impl Abort,
     alloc: Global,
@@ -160,7 +160,7 @@ fn publish_batch<R: Wait + Drop>(
     batch.push_back(Command::Upsert(41, 41))?;
     batch.push_back(Command::Remove(99))?;
     append_all_twice(rt, alloc, writer, &mut batch)?;
-    publish_twice(rt, alloc, writer, PUBLISH, &[], &BATCHED)
+    publish_twice(rt, alloc, writer, FLUSH, &[], &BATCHED)
 }
 
 // Publishes a batch, replaces its pairs, and edits these. At each step the reader sees all of it.

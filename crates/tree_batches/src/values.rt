@@ -121,7 +121,7 @@ pub type ContainsEachOf<'t, 'k, K, V, const LEN: usize> = ContainsEachOver<
     ArenasOf<K, V, LEN>,
 >;
 
-/// Whether each key of a list is present, with up to fifteen pairs a leaf. See [`ContainsEachOver`].
+/// Whether each key of a list is present, with fifteen pairs a leaf. See [`ContainsEachOver`].
 pub type ContainsEach<'t, 'k, K, V> = ContainsEachOf<'t, 'k, K, V, 15>;
 
 impl<'t, 'k, K: Ord, V, A: Batched<K, V>> Model for ContainsEachOver<'t, 'k, K, V, A> {

@@ -101,7 +101,7 @@ impl<K: IndexKey + SameClone, V: SameClone, R: Wait + Drop, const LEN: usize> Wr
     /// for pairs.
     ///
     /// ```
-    /// let mut writer: Writer<u64, u64, &HostRuntime> = Writer::new(rt.alloc(), &rt, 2)?;
+    /// let writer: Writer<u64, u64, &HostRuntime> = Writer::new(rt.alloc(), &rt, 4)?;
     /// ```
     pub fn new(alloc: Global, rt: R, readers: usize) -> Result<Self, AllocError>
         requires len { IsLen LEN }

@@ -3,7 +3,7 @@ use crate::trouble::Trouble;
 use std::alloc::{AllocError, Global};
 use std::collections::VecDeque;
 use std::ops::Bound;
-use std::sync::Wait;
+use std::sync::{Mutex, Wait};
 use tree_index::Command;
 use tree_readers::{Handle, Writer};
 
@@ -40,8 +40,8 @@ fn lent(handle: &mut Handle<u64, u64>, item: u64) -> Option<u64> {
     }
 }
 
-/// Makes each call but those that begin and end a writer. Returns the price of item 2 by a handle.
-pub fn call_each<R: Wait + Drop>(
+// Makes each call by the writer itself. Returns the price of item 2 by a handle.
+fn call_alone<R: Wait + Drop>(
     writer: &mut Writer<u64, u64, R>,
     alloc: Global,
 ) -> Result<u64, Trouble> {
@@ -50,4 +50,14 @@ pub fn call_each<R: Wait + Drop>(
     let reader = writer.reader()?;
     let mut handle = reader.into_handle();
     Ok(lent(&mut handle, 2).unwrap_or(0))
+}
+
+/// Makes each call but those that begin and end a writer. Returns the price of item 2 by a handle.
+pub fn call_each<R: Wait + Drop, W: Wait>(
+    rt: &W,
+    prices: &Mutex<Writer<u64, u64, R>>,
+    alloc: Global,
+) -> Result<u64, Trouble> {
+    let mut guard = prices.lock(rt);
+    call_alone(&mut *guard, alloc)
 }

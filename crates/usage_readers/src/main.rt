@@ -11,8 +11,8 @@ mod rounds;
 mod trouble;
 
 use crate::calls::call_each;
-use crate::prices::{close, quote_and_read};
-use crate::rounds::{Seen, look_on, show_all};
+use crate::prices::{close, quote_and_read, reader_of};
+use crate::rounds::{Seen, race};
 use crate::trouble::Trouble;
 use std::io;
 use std::sync::Mutex;
@@ -29,27 +29,15 @@ fn main(rt: HostRuntime) -> Result<(), Trouble> {
         || quote_and_read(&rt, &prices, 2, 200),
     );
     let (one, two) = (one?.unwrap_or(0), two?.unwrap_or(0));
-    let count = close(prices);
-    println!(rt; "item 1 at {one}, item 2 at {two}, {count} prices")?;
-    let mut writer: Writer<u64, u64, &HostRuntime> = Writer::new(rt.alloc(), &rt, 2)?;
-    let (one, two) = (writer.reader()?, writer.reader()?);
+    println!(rt; "item 1 at {one}, item 2 at {two}")?;
+    let (one, two) = (reader_of(&rt, &prices)?, reader_of(&rt, &prices)?);
     let ended = AtomicU64::new(0);
-    // If no thread can be made, the first closure runs before the second.
-    let (shown, (one, two)) = join(
-        &rt,
-        || show_all(&mut writer, &ended),
-        || join(
-            &rt,
-            || look_on(&rt, one, &ended),
-            || look_on(&rt, two, &ended),
-        ),
-    );
+    let (shown, (one, two)) = race(&rt, &prices, one, two, &ended);
     shown?;
     show(&rt, 1, one)?;
     show(&rt, 2, two)?;
-    let lent = call_each(&mut writer, rt.alloc())?;
-    let index = writer.close();
-    let left = index.len();
+    let lent = call_each(&rt, &prices, rt.alloc())?;
+    let left = close(prices);
     println!(rt; "item 2 at {lent} by a handle, {left} prices")?;
     Ok(())
 }

@@ -73,8 +73,19 @@ pub fn quote_and_read<R: Wait + Drop, W: Wait>(
     Ok(read)
 }
 
+/// Creates a reader.
+pub fn reader_of<R: Wait + Drop, W: Wait>(
+    rt: &W,
+    prices: &Mutex<Writer<u64, u64, R>>,
+) -> Result<Reader<u64, u64>, Trouble> {
+    let mut guard = prices.lock(rt);
+    let reader = guard.reader()?;
+    Ok(reader)
+}
+
 /// Ends the quotes. Returns how many prices there are.
 pub fn close<R: Wait + Drop>(prices: Mutex<Writer<u64, u64, R>>) -> usize {
-    let index = prices.into_inner().close();
+    let writer = prices.into_inner();
+    let index = writer.close();
     index.len()
 }

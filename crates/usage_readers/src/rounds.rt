@@ -1,8 +1,9 @@
 //! A writer that changes all prices at once, round by round, and readers that look at them
 //! meanwhile.
 use crate::trouble::Trouble;
-use std::sync::Wait;
 use std::sync::atomic::{AtomicU64, Ordering};
+use std::sync::{Mutex, Wait};
+use std::thread::{Threads, join};
 use tree_index::TreeIndex;
 use tree_readers::{Reader, Writer};
 
@@ -33,8 +34,8 @@ fn look(index: &TreeIndex<u64, u64>, seen: Seen) -> Seen {
     }
 }
 
-/// Looks at the prices until the writer has ended, and once more.
-pub fn look_on<R: Wait>(rt: &R, mut reader: Reader<u64, u64>, ended: &AtomicU64) -> Seen {
+// Looks at the prices until the writer has ended, and once more.
+fn look_on<R: Wait>(rt: &R, mut reader: Reader<u64, u64>, ended: &AtomicU64) -> Seen {
     let mut seen = Seen {
         round: 0,
         is_whole: true,
@@ -54,6 +55,16 @@ pub fn look_on<R: Wait>(rt: &R, mut reader: Reader<u64, u64>, ended: &AtomicU64)
     seen
 }
 
+// Lets two readers look at the prices until the writer has ended, and once more.
+fn look_both<R: Threads + Wait + Sync>(
+    rt: &R,
+    one: Reader<u64, u64>,
+    two: Reader<u64, u64>,
+    ended: &AtomicU64,
+) -> (Seen, Seen) {
+    join(rt, || look_on(rt, one, ended), || look_on(rt, two, ended))
+}
+
 // Stores each item at the price of a round, and shows all of them at once.
 fn show_round<R: Wait + Drop>(writer: &mut Writer<u64, u64, R>, round: u64) -> Result<(), Trouble> {
     for item in 0..ITEMS {
@@ -71,12 +82,31 @@ fn show_rounds<R: Wait + Drop>(writer: &mut Writer<u64, u64, R>) -> Result<(), T
     Ok(())
 }
 
-/// Shows each round, and lets the readers end.
-pub fn show_all<R: Wait + Drop>(
-    writer: &mut Writer<u64, u64, R>,
+// Shows each round, and lets the readers end.
+fn show_all<R: Wait + Drop, W: Wait>(
+    rt: &W,
+    prices: &Mutex<Writer<u64, u64, R>>,
     ended: &AtomicU64,
 ) -> Result<(), Trouble> {
-    let shown = show_rounds(writer);
+    let mut guard = prices.lock(rt);
+    let shown = show_rounds(&mut *guard);
     ended.store(1, Ordering::SeqCst);
     shown
+}
+
+/// Lets two readers look at the prices while a writer changes them. Returns whether it showed each
+/// round, and what each reader saw.
+pub fn race<R: Threads + Wait + Sync, W: Wait + Drop + Send>(
+    rt: &R,
+    prices: &Mutex<Writer<u64, u64, W>>,
+    one: Reader<u64, u64>,
+    two: Reader<u64, u64>,
+    ended: &AtomicU64,
+) -> (Result<(), Trouble>, (Seen, Seen)) {
+    // If no thread can be made, the first closure runs before the second.
+    join(
+        rt,
+        || show_all(rt, prices, ended),
+        || look_both(rt, one, two, ended),
+    )
 }
