@@ -2,7 +2,8 @@
 ghost use Rattle.std.specs.Prelude.{◌≡◌, ◌⊎◌, ◌+◌, ◌^◌, ◌<◌, IfOk, OnErr};
 ghost use Rattle.std.specs.Ordering.{nat_cmp};
 ghost use Rattle.slab.specs.Slab.{get};
-ghost use Rattle.tree_insert.specs.Roots.{RaisesRoot, Replants};
+ghost use Rattle.port_calls.specs.Replanted.{Replants};
+ghost use Rattle.tree_insert.specs.Roots.{RaisesRoot};
 ghost use Rattle.tree_node.specs.Parts.{IsPart, Unchanged};
 ghost use Rattle.tree_node.specs.Tree.{IsOfLevel, IsRetired};
 ghost use Rattle.tree_array.specs.Length.{IsLen};

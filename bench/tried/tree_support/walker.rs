@@ -8,10 +8,11 @@ ghost use Rattle.tree_node.specs.Tree.{StandsOrRetired, in_turn};
 ghost use Rattle.tree_parts.specs.Ends.{IsLinked};
 
 use crate::flaw::{Flaw, expect};
-use tree_array::array::{ArrayIter, ArrayOf, ArrayRevIter};
+use tree_array::array::{ArrayIter, ArrayOf};
 use tree_leaf::arena::{LeafId, NodeId};
 use tree_leaf::leaf::LeafOf;
 use tree_leaf::{IterOf, RevIterOf};
+use tree_model::{Backward, Forward};
 use tree_node::node::{ArenasOf, NodeOf};
 use tree_parts::ends::walk_from_end;
 
@@ -165,7 +166,7 @@ fn lists_forward<const LEN: usize>(
     requires stands { StandsOrRetired nat_cmp level arenas.now id }
     requires linked { IsLinked level arenas.now id }
 {
-    let Some(mut walk) = walk_from_end::<u64, u64, ArrayIter, LEN>(arenas, level, id) else {
+    let Some(mut walk) = walk_from_end::<u64, u64, Forward, LEN>(arenas, level, id) else {
         return pairs.is_empty();
     };
     for pair in pairs {
@@ -187,7 +188,7 @@ fn lists_backward<const LEN: usize>(
     requires stands { StandsOrRetired nat_cmp level arenas.now id }
     requires linked { IsLinked level arenas.now id }
 {
-    let Some(mut walk) = walk_from_end::<u64, u64, ArrayRevIter, LEN>(arenas, level, id) else {
+    let Some(mut walk) = walk_from_end::<u64, u64, Backward, LEN>(arenas, level, id) else {
         return pairs.is_empty();
     };
     for pair in pairs.iter().rev() {

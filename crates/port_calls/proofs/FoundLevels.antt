@@ -18,7 +18,7 @@ pub use Rattle.tree_node.specs.declared.branch.BranchOf.{BranchOf}
 pub use Rattle.tree_node.specs.declared.node.NodeOf.{NodeOf}
 pub use Rattle.tree_node.specs.declared.node.NodeOf.TheVariants.{Internal}
 pub use Rattle.tree_node.specs.declared.node.Root.{Root}
-pub use Rattle.tree_cursors.specs.Approximate.{Approximates}
+pub use Rattle.port_calls.specs.Approximate.{Approximates}
 pub use Rattle.tree_remove.specs.Lowering.{LowersRoot}
 pub use Rattle.tree_remove.specs.Removes.{RemovesUnder}
 pub use Rattle.tree_parts.specs.Ends.{BeginsPart, IsLinked}

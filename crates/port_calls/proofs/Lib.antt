@@ -1,1 +1,3 @@
 pub mod FoundLevels
+mod Replanted
+mod Within

@@ -1,2 +1,4 @@
+pub mod Approximate
 pub mod CleanUps
 pub mod Found
+pub mod Replanted

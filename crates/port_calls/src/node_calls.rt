@@ -18,17 +18,18 @@ ghost use Rattle.tree_model.specs.Pairs.{Finds, IsAbsent, high_of, low_of, pair_
 ghost use Rattle.tree_parts.specs.Ends.{BeginsPart, IsLinked};
 ghost use Rattle.tree_node.specs.Parts.{IsPart, Unchanged};
 ghost use Rattle.tree_node.specs.Tree.{IsRetired, Stands, StandsOrRetired, children_of, walk};
-ghost use Rattle.tree_cursors.specs.Approximate.{Approximates};
+ghost use Rattle.port_calls.specs.Approximate.{Approximates};
 ghost use Rattle.tree_clean_up.specs.CleanUps.{HasOnlyRetired};
 ghost use Rattle.tree_remove.specs.Removes.{RemovesUnder};
 
+use crate::approximate::approximate_at;
 use std::ops::Bound;
-use tree_array::array::{ArrayIter, ArrayRevIter, IndexKey, InsertResult, Judge, RemoveResult};
-use tree_cursors::approximate::approximate_at;
+use tree_array::array::{IndexKey, InsertResult, Judge, RemoveResult};
 use tree_cut::cutting::remove_range_at;
 use tree_insert::insertion::insert_at;
 use tree_leaf::arena::NodeId;
 use tree_leaf::{IterOf, RevIterOf};
+use tree_model::{Backward, Forward};
 use tree_node::branch::{InternalNodeOf, LeafNodeOf};
 use tree_node::depth::level_of;
 use tree_node::look_ups::search_at;
@@ -105,7 +106,7 @@ pub trait NodeCalls<K: Ord + Drop, const LEN: usize> {
         ensures { MatchOption result (walk level arenas.now id ≡ []) (BeginsPart On level arenas.now id) }
     {
         let level = found_level(arenas, id);
-        walk_from_end::<K, V, ArrayIter, LEN>(arenas, level, id)
+        walk_from_end::<K, V, Forward, LEN>(arenas, level, id)
     }
 
     /// Returns a walk against key order that stands before the greatest entry under the node: the
@@ -121,7 +122,7 @@ pub trait NodeCalls<K: Ord + Drop, const LEN: usize> {
         ensures { MatchOption result (walk level arenas.now id ≡ []) (BeginsPart Back level arenas.now id) }
     {
         let level = found_level(arenas, id);
-        walk_from_end::<K, V, ArrayRevIter, LEN>(arenas, level, id)
+        walk_from_end::<K, V, Backward, LEN>(arenas, level, id)
     }
 
     /// Opens a walk in key order on the entry under the node that is nearest to a key: the greatest

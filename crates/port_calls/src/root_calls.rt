@@ -1,16 +1,17 @@
 //! How a tree gains and loses levels at its root.
 ghost use Rattle.std.specs.Prelude.{◌≡◌, ◌⊎◌, ◌+◌, ◌^◌, ◌<◌, IfOk, IsOk, MatchOption, None, OnErr, Some, ℕ};
 ghost use Rattle.slab.specs.Slab.{get};
-ghost use Rattle.tree_insert.specs.Roots.{RaisesRoot, Replants};
+ghost use Rattle.port_calls.specs.Replanted.{Replants};
+ghost use Rattle.tree_insert.specs.Roots.{RaisesRoot};
 ghost use Rattle.tree_leaf.specs.Arena.{HasPlaces};
 ghost use Rattle.tree_node.specs.Parts.{IsPart, Unchanged};
 ghost use Rattle.tree_node.specs.Tree.{IsOfLevel, IsRetired};
 ghost use Rattle.tree_node.specs.Whole.{root_at};
 ghost use Rattle.tree_remove.specs.Lowering.{LowersRoot};
 
+use crate::growth::grow_root_at;
 use crate::node_calls::found_level;
 use std::alloc::AllocError;
-use tree_insert::root::grow_root_at;
 use tree_leaf::arena::NodeId;
 use tree_node::depth::level_of;
 use tree_node::node::{ArenasOf, NodeOf};

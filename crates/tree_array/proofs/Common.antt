@@ -12,7 +12,7 @@ pub use Rattle.tree_array.specs.Length.{IsLen, limit}
 pub use Rattle.tree_array.specs.Runs.{IsRun, gathered}
 pub use Rattle.tree_array.specs.Sound.{IsSound}
 pub use Rattle.tree_array.specs.View.{seen, shown, IsArray}
-pub use Rattle.tree_array.specs.Walk.{Walk, StepsBack, StepsOn, place_ahead, places_behind, standing}
+pub use Rattle.tree_array.specs.Walk.{Walk, Steps, StepsOver, next_place, place_ahead, places_behind, places_left, standing}
 pub use Rattle.tree_array.specs.declared.answers.RemoveResult.{RemoveResult}
 pub use Rattle.tree_array.specs.declared.answers.RemoveResult.TheVariants.{Success, Fail, Retired}
 pub use Rattle.tree_array.specs.declared.answers.StoreResult.{StoreResult}
@@ -33,3 +33,5 @@ pub use Rattle.tree_model.proofs.LookUps.{equal_from_test, absent_beyond, put_be
 pub use Rattle.tree_model.proofs.Order.{greater_from_less, less_from_greater, alike, alike_after}
 pub use Rattle.tree_cells.proofs.OrderCommon.{length-picked, len_small, named, names, picked, is_retired, length-names, IsOrder, live, named_at, slice_get-names, inserted, ordinal_in, rises_in}
 pub use Rattle.tree_cells.proofs.OrderCommon.{renamed, picked-next, taken_out}
+pub use Rattle.tree_model.specs.declared.way.Way.{Way}
+pub use Rattle.tree_model.specs.declared.way.Way.TheVariants.{Back, On}

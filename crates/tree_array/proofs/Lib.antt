@@ -4,6 +4,7 @@ pub mod Dealt
 mod Kept
 mod Lemmas
 mod Moved
+mod Places
 mod Ranges
 pub mod Runs
 mod Seen

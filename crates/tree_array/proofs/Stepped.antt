@@ -1,8 +1,8 @@
 -- Steps of a walk whose slots are named by a word.
 use Rattle.std.proofs.Common.{◌≡◌, ℕ, ◌+◌, ◌-◌, ◌==◌, ◌<◌, ◌≤◌, if◌then◌else◌, length, slice_get, Option, None, Some, refl, sym, ap, ◌∙◌, arith, option_and_then}
-use Rattle.tree_array.proofs.Common.{⊤, cases_eq, nat_tests, MakesProgress, named, names, Walk, slice_get_within, length-names, slice_get-names, StepsBack, StepsOn, place_ahead}
+use Rattle.tree_array.proofs.Common.{⊤, cases_eq, nat_tests, MakesProgress, named, names, Walk, slice_get_within, length-names, slice_get-names, Steps, On, Back, Way, place_ahead}
 use Rattle.tree_array.proofs.Common.{places_behind, standing}
-use Rattle.tree_array.specs.Walk.{left_on}
+use Rattle.tree_array.specs.Walk.{steps_left}
 
 -- the place before this one, if there is one
 abbrev pub before : ℕ → Option ℕ
@@ -40,16 +40,17 @@ module _ (order count ahead : ℕ) where
   pub behind_few : ahead ≤ count → places_behind (length (names order count)) (before ahead) ≤ count
   behind_few few = grind (arith, behind_none, behind_some, cases_eq ahead 0)
 
-  pub stepped_on : (slot : ℕ) → ahead < count → slot ≡ named order ahead → StepsOn (standing (names order count) (before ahead)) (Some slot) (standing (names order count) (before (ahead + 1)))
-  stepped_on slot lt is = grind (arith, before_some, ahead_of, slot_named)
+  pub stepped_on : (slot : ℕ) → ahead < count → slot ≡ named order ahead → Steps On (standing (names order count) (before ahead)) (Some slot) (standing (names order count) (before (ahead + 1)))
+  stepped_on slot lt is = rw (ahead_of ahead, length-names order count) (refl, (omega (arith, lt), slot_named ahead slot lt is, before_some (ahead + 1) (omega arith) ∙ ap (λ (x : ℕ). Some x) (omega arith)))
 
-  pub stays : count ≤ ahead → StepsOn (standing (names order count) (before ahead)) None (standing (names order count) (before ahead))
-  stays le = rw (ahead_of ahead) (omega (arith, le, length-names order count), refl)
+  pub stays : count ≤ ahead → Steps On (standing (names order count) (before ahead)) None (standing (names order count) (before ahead))
+  stays le = rw (ahead_of ahead) (refl, (omega (arith, le, length-names order count), refl))
 
   pub stepped_back : (place slot : ℕ) → place ≡ places_behind (length (names order count)) (before ahead) → 0 < place → place ≤ count → slot ≡ named order (place - 1)
-      → StepsBack (standing (names order count) (before ahead)) (Some slot) (standing (names order count) (before place))
-  stepped_back place slot behind some few is = rw (← behind, before_some place some) (some, slot_named (place - 1) slot (omega (arith, some, few)) is, refl)
+      → Steps Back (standing (names order count) (before ahead)) (Some slot) (standing (names order count) (before place))
+  stepped_back place slot behind some few is = rw (← behind, before_some place some) (refl, (some, slot_named (place - 1) slot (omega (arith, some, few)) is, refl))
 
 -- a step leaves fewer
-pub goes_on : (old new : Walk) (result : Option ℕ) → StepsOn old result new → MakesProgress (λ _. ⊤) left_on old result new
-goes_on old new result steps = grind (arith, slice_get_within)
+pub goes_on : (way : Way) (old new : Walk) (result : Option ℕ) → Steps way old result new → MakesProgress (λ _. ⊤) (steps_left way) old result new
+goes_on On old new result steps = grind (arith, slice_get_within)
+goes_on Back old new result steps = grind (arith, slice_get_within)

@@ -3,6 +3,8 @@ use Rattle.std.specs.Prelude.{◌≡◌, ℕ, ◌+◌, ◌-◌, ◌<◌, ◌≤�
 use Rattle.std.specs.Iterator.{Count, at_most}
 use Rattle.std.specs.declared.cmp.Ordering.{Ordering}
 use Rattle.tree_model.specs.Pairs.{IsAscending}
+use Rattle.tree_model.specs.declared.way.Way.{Way}
+use Rattle.tree_model.specs.declared.way.Way.TheVariants.{On, Back}
 use Rattle.tree_array.specs.Arrivals.{Arrivals, arrival}
 
 -- the slots in the order of their keys, and the place among them that the walk stands at, if it has begun
@@ -24,28 +26,30 @@ abbrev pub places_behind : ℕ → Option ℕ → ℕ
 places_behind len None = len
 places_behind len (Some place) = place
 
--- one step on, or none at the end, where the walk keeps its place
-abbrev pub StepsOn : Walk → Option ℕ → Walk → Type 0
-StepsOn old result new =
-    let place = place_ahead old.at in
-    MatchOption result
-    ((length old.slots ≤ place) × (new ≡ old))
-    (λ slot. (slice_get old.slots place ≡ Some slot) × (new ≡ standing old.slots (Some place)))
+-- of so many places, how many lie ahead of a walk this way, and the one that a step goes to
+abbrev pub places_left : Way → ℕ → Option ℕ → ℕ
+places_left On len at = len - place_ahead at
+places_left Back len at = places_behind len at
 
--- one step back, or none before the first slot, where the walk keeps its place
-abbrev pub StepsBack : Walk → Option ℕ → Walk → Type 0
-StepsBack old result new =
-    let behind = places_behind (length old.slots) old.at in
+abbrev pub next_place : Way → ℕ → Option ℕ → ℕ
+next_place On len at = place_ahead at
+next_place Back len at = places_behind len at - 1
+
+-- one step through a list, to the next place, or none at the end, where the walk keeps its place
+abbrev pub StepsOver : {X : Type 0} → Way → List X → Option ℕ → Option X → Option ℕ → Type 0
+StepsOver way xs old result new =
+    let place = next_place way (length xs) old in
     MatchOption result
-    ((behind ≡ 0) × (new ≡ old))
-    (λ slot. (0 < behind) × (slice_get old.slots (behind - 1) ≡ Some slot) × (new ≡ standing old.slots (Some (behind - 1))))
+    ((places_left way (length xs) old ≡ 0) × (new ≡ old))
+    (λ x. (0 < places_left way (length xs) old) × (slice_get xs place ≡ Some x) × (new ≡ Some place))
+
+-- one step of a walk through its slots
+abbrev pub Steps : Way → Walk → Option ℕ → Walk → Type 0
+Steps way old result new = (new.slots ≡ old.slots) × StepsOver way old.slots old.at result new.at
 
 -- how many steps are left at most
-abbrev pub left_on : Walk → Count
-left_on walk = at_most (length walk.slots - place_ahead walk.at)
-
-abbrev pub left_back : Walk → Count
-left_back walk = at_most (places_behind (length walk.slots) walk.at)
+abbrev pub steps_left : Way → Walk → Count
+steps_left way walk = at_most (places_left way (length walk.slots) walk.at)
 
 -- the slots that lie ahead of the walk are those of the entries, which ascend and are no more than slots
 pub record IsOver {K V : Type 0} (cmp : K → K → Ordering) (len : ℕ) (array : Arrivals K V) (walk : Walk) : Type 0 where

@@ -6,9 +6,7 @@ ghost use Rattle.tree_array.specs.Length.{IsLen};
 ghost use Rattle.tree_array.specs.Sound.{IsSound};
 ghost use Rattle.tree_cells.specs.Order.{IsOrder};
 
-pub use crate::answers::{
-    DIMENSION, Dimension, InsertResult, RemoveResult, SMALL_DIMENSION, StoreResult,
-};
+pub use crate::answers::{InsertResult, RemoveResult, StoreResult};
 use std::marker::Model;
 use tree_cells::cells::Cells;
 pub use tree_cells::judge::{Asks, Judge, KeyJudge, Steps};
@@ -24,7 +22,7 @@ mod walk;
 
 pub use run::RunOf;
 pub use tree_model::{IndexKey, SameClone, range_contains};
-pub use walk::{ArrayIter, ArrayRevIter};
+pub use walk::{ArrayIter, ArrayRevIter, ArrayWalk};
 
 /// A fixed array of `LEN` slots, 7 or 15, in which pairs arrive one after another and are found in
 /// the order of their keys.

@@ -1,7 +1,7 @@
 //! The order of an array: four bits of a word for each place, which name the slot of the entry
 //! there. The places behind the entries repeat the last name, and the place behind all slots holds
 //! [`BEYOND`].
-ghost use Rattle.std.specs.Prelude.{◌≡◌, ℕ, List, true, false, IsTrue, Some, ◌+◌, ◌-◌, ◌<◌, ◌≤◌, [], ◌∷◌, ◌++◌, length, min, replicate, slice_get, slice_index_or};
+ghost use Rattle.std.specs.Prelude.{◌≡◌, ℕ, List, true, false, IsTrue, Some, ◌+◌, ◌-◌, ◌<◌, ◌≤◌, [], ◌∷◌, ◌++◌, length, replicate, slice_get, slice_index_or};
 ghost use Rattle.std.specs.List.{range_with_len};
 ghost use Rattle.tree_cells.specs.Order.{AreSmall, inserted, is_retired, named, names, ordinal_in, packed, renamed, rises_in, taken_out, IsOrder};
 
@@ -31,13 +31,6 @@ pub fn slot_at(word: u64, place: u8) -> u8
     ensures { result ≡ named word place }
 {
     (word >> (4 * place) & 15) as u8
-}
-
-/// Returns the place, or the one behind the last entry if it lies behind that.
-pub fn clamp(place: u8, count: u8) -> u8
-    ensures { result ≡ min place count }
-{
-    if place < count { place } else { count }
 }
 
 // Keeps the first places alone.

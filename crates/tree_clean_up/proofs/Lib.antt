@@ -1,3 +1,4 @@
+pub mod Bounds
 mod Common
 pub mod Drops
 pub mod EmptyNodes

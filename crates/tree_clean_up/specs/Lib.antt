@@ -1,1 +1,2 @@
 pub mod CleanUps
+pub mod Places

@@ -9,7 +9,8 @@ pub use Rattle.tree_leaf.proofs.ChainCommon.{LeafWalk, Steps, beyond, standing}
 pub use Rattle.tree_leaf.proofs.Rests.{count_falls, count_left, stands_on, took}
 pub use Rattle.tree_leaf.specs.Rest.{HasTaken, StandsIn, Takes, left_of}
 pub use Rattle.tree_leaf.specs.Walks.{here, stood_on}
-pub use Rattle.tree_leaf.specs.Ways.{ahead, places_left}
+pub use Rattle.tree_array.specs.Walk.{places_left}
+pub use Rattle.tree_leaf.specs.Ways.{ahead}
 pub use Rattle.tree_cursors.specs.Seek.{IsNearest, NoneMeets, Opens, Seeks, path}
 pub use Rattle.tree_cursors.specs.View.{EndStands, GoesTo, Stands, StepsInLeaf, end_of, place_at, place_in, place_of}
 pub use Rattle.tree_cursors.specs.declared.end.End.{End}

@@ -9,5 +9,4 @@ pub mod Places
 pub mod RangesCommon
 pub mod Seeks
 pub mod Shown
-pub mod Within
 pub mod Yields

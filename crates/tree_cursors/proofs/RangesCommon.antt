@@ -13,7 +13,8 @@ pub use Rattle.tree_array.proofs.Common.{all-append, all_map, filter_none}
 pub use Rattle.tree_leaf.proofs.Along.{all_ahead, all_along, all_left, first_place, first_step, step_takes}
 pub use Rattle.tree_leaf.proofs.ChainCommon.{Back, LeafWalk, On, Steps, Way, next_place}
 pub use Rattle.tree_leaf.specs.Walks.{first_on, here, stood_on}
-pub use Rattle.tree_leaf.specs.Ways.{StepsOver, ahead}
+pub use Rattle.tree_array.specs.Walk.{StepsOver}
+pub use Rattle.tree_leaf.specs.Ways.{ahead}
 pub use Rattle.tree_cursors.proofs.EndPairs.{end_inside, placed_in, root_stands}
 pub use Rattle.tree_cursors.proofs.Places.{places_compare}
 pub use Rattle.tree_cursors.specs.Seek.{NoneMeets, Seeks}
@@ -37,7 +38,6 @@ pub use Rattle.tree_node.proofs.Common.{IsTree, StandsOrRetired, TreeArenas, fit
 pub use Rattle.tree_node.proofs.Standing.{no_children}
 pub use Rattle.tree_node.proofs.Walks.{walk_ascends}
 pub use Rattle.tree_node.specs.declared.node.Root.{Root}
-pub use Rattle.tree_cursors.specs.Approximate.{Approximates}
 pub use Rattle.tree_cursors.specs.Beside.{is_at, located_beside, located_past}
 pub use Rattle.tree_cursors.specs.Ranged.{Flips, IsFresh, IsOpen, end_left, is_new, moves_left, pairs_within, way_of}
 pub use Rattle.tree_parts.specs.Ends.{BeginsPart, IsLinked}

@@ -2,9 +2,15 @@
 use Rattle.tree_cursors.proofs.RangesCommon.{◌≡◌, ℕ, Bool, Option, Some, None, refl, sym, ◌∙◌, is_lt, Ordering, IsTotalOrder, Included, IsAscending, element_at, next_end, unopened, EndStands}
 use Rattle.tree_cursors.proofs.RangesCommon.{IsTree, Kept, LeafWalk, On, TreeArenas, are_apart, end_of, is_new, is_unopened, located, pair_of, placed_in, stood_on, walk}
 use Rattle.tree_cursors.proofs.RangesCommon.{false, if◌then◌else◌, is_some, is_at, located_beside, located_past, walk_under, root_stands, places_compare, Unopened, At, Exhausted, Root}
-use Rattle.tree_cursors.proofs.Within.{part_ascends}
+use Rattle.tree_cursors.proofs.RangesCommon.{zero, suc, ◌<◌, arith, inl, inr, StandsOrRetired, get, no_children, walk_ascends}
 use Rattle.tree_cursors.specs.declared.end.End.{End as TreeEnd}
 use Rattle.tree_cursors.proofs.Nearest.{located_by, located_is}
+
+-- the entries of a part ascend
+pub part_ascends : {K V : Type 0} {LEN : ℕ} {cmp : K → K → Ordering} (o : IsTotalOrder cmp) (a : TreeArenas K V LEN) (id level : ℕ) → 0 < level → StandsOrRetired cmp level a id → IsAscending cmp (walk level a id)
+part_ascends o a id zero inner given = absurd (omega arith)
+part_ascends o a id (suc level) inner (inl s) = walk_ascends o (suc level) a None id None s
+part_ascends o a id (suc level) inner (inr retired) = rw (no_children (get a.nodes id) retired).1 tt
 
 module _ {K V : Type 0} {LEN : ℕ} {cmp : K → K → Ordering} (a : TreeArenas K V LEN) (root : Option Root) (tree : IsTree cmp a root) where
   pub pairs_ascend : IsTotalOrder cmp → IsAscending cmp (walk_under a root)

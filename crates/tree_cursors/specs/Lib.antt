@@ -1,4 +1,3 @@
-pub mod Approximate
 pub mod Beside
 pub mod Ranged
 pub mod Seek

@@ -6,7 +6,7 @@ use Rattle.tree_model.specs.Pairs.{IsAscending, within}
 use Rattle.tree_model.specs.declared.way.Way.{Way}
 use Rattle.tree_model.specs.declared.way.Way.TheVariants.{On, Back}
 use Rattle.tree_leaf.specs.Walks.{LeafWalk}
-use Rattle.tree_leaf.specs.Ways.{places_left}
+use Rattle.tree_array.specs.Walk.{places_left}
 use Rattle.tree_node.specs.declared.node.Root.{Root}
 use Rattle.tree_node.specs.Arenas.{TreeArenas}
 use Rattle.tree_model.specs.Cursor.{Cursor, End, unopened, at_place, exhausted, are_apart, can_flip, flipped}

@@ -8,7 +8,7 @@ use Rattle.slab.specs.Slab.{Slab}
 use Rattle.tree_leaf.specs.Entries.{leaf_entries}
 use Rattle.tree_leaf.specs.Rest.{StandsIn}
 use Rattle.tree_leaf.specs.Walks.{LeafWalk, here, stood_on}
-use Rattle.tree_leaf.specs.Ways.{places_left}
+use Rattle.tree_array.specs.Walk.{places_left}
 use Rattle.tree_model.specs.Rest.{lent_entry}
 use Rattle.tree_leaf.specs.declared.leaf.LeafOf.{LeafOf}
 use Rattle.tree_model.specs.declared.way.Way.{Way}

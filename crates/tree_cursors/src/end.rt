@@ -10,11 +10,11 @@ ghost use Rattle.tree_model.specs.Rest.{lent};
 ghost use Rattle.tree_cursors.specs.View.{EndStands, StepsInLeaf, end_of, pair_of};
 
 use crate::seek::seek_at;
-use crate::way::EndWay;
 use std::ops::Bound;
 use tree_leaf::laws::next_or_jump;
 use tree_leaf::leaf::LeafOf;
-use tree_leaf::{LinkedIter, SlotWalk};
+use tree_leaf::LinkedIter;
+use tree_model::Direction;
 use tree_node::node::{ArenasOf, Root};
 
 /// Where an end of a cursor is: it was never moved, it stands on an entry, or it has left the tree.
@@ -29,15 +29,15 @@ pub enum End<W> {
 /// goes to the first key that meets its bound, and any other one entry along. Descends only for the
 /// first move. Makes no comparisons after it.
 #[inline(always)]
-pub fn step<'t, K: Ord + Drop, V: Drop, S: EndWay, const LEN: usize>(
+pub fn step<'t, K: Ord + Drop, V: Drop, D: Direction, const LEN: usize>(
     arenas: &'t ArenasOf<K, V, LEN>,
     root: Option<Root>,
-    end: &mut End<LinkedIter<'t, LeafOf<K, V, LEN>, S>>,
+    end: &mut End<LinkedIter<'t, LeafOf<K, V, LEN>, D>>,
     bound: Bound<&K>,
 ) -> Option<(&'t K, &'t V)>
     requires tree { IsTree K.cmp arenas.now root }
     requires stands { EndStands arenas.now root end.old }
-    ensures place { end_of arenas.now root end.new ≡ next_end K.cmp S.way
+    ensures place { end_of arenas.now root end.new ≡ next_end K.cmp D.way
         (lent_bound bound.entry) (walk_under arenas.now root) (end_of arenas.now root end.old) }
     ensures stands { EndStands arenas.now root end.new }
     ensures pair { lent result ≡ pair_of end.new }
@@ -62,10 +62,10 @@ pub fn step<'t, K: Ord + Drop, V: Drop, S: EndWay, const LEN: usize>(
 /// nothing if the end stands in no leaf, or on the last entry of its leaf on its way. Makes no
 /// comparisons.
 #[inline(always)]
-pub fn step_in_leaf<'t, K: Ord + Drop, V: Drop, S: EndWay, const LEN: usize>(
-    end: &mut End<LinkedIter<'t, LeafOf<K, V, LEN>, S>>,
+pub fn step_in_leaf<'t, K: Ord + Drop, V: Drop, D: Direction, const LEN: usize>(
+    end: &mut End<LinkedIter<'t, LeafOf<K, V, LEN>, D>>,
 ) -> Option<(&'t K, &'t V)>
-    ensures { StepsInLeaf K.cmp S.way end.old result end.new }
+    ensures { StepsInLeaf K.cmp D.way end.old result end.new }
 {
     match end {
         End::At(walk) => walk.next(),
@@ -76,14 +76,14 @@ pub fn step_in_leaf<'t, K: Ord + Drop, V: Drop, S: EndWay, const LEN: usize>(
 
 // Moves an end in place that was never moved, and returns the pair that it then stands on.
 #[inline(always)]
-fn open<'t, K: Ord + Drop, V: Drop, S: EndWay, const LEN: usize>(
+fn open<'t, K: Ord + Drop, V: Drop, D: Direction, const LEN: usize>(
     arenas: &'t ArenasOf<K, V, LEN>,
     root: Option<Root>,
-    end: &mut End<LinkedIter<'t, LeafOf<K, V, LEN>, S>>,
+    end: &mut End<LinkedIter<'t, LeafOf<K, V, LEN>, D>>,
     bound: Bound<&K>,
 ) -> Option<(&'t K, &'t V)>
     requires { IsTree K.cmp arenas.now root }
-    ensures place { end_of arenas.now root end.new ≡ next_end K.cmp S.way
+    ensures place { end_of arenas.now root end.new ≡ next_end K.cmp D.way
         (lent_bound bound.entry) (walk_under arenas.now root) unopened }
     ensures stands { EndStands arenas.now root end.new }
     ensures pair { lent result ≡ pair_of end.new }
@@ -95,20 +95,20 @@ fn open<'t, K: Ord + Drop, V: Drop, S: EndWay, const LEN: usize>(
 // Returns where an end goes that was never moved. Stays out of the way of the moves after the
 // first.
 #[inline(never)]
-fn first_end<'t, K: Ord + Drop, V: Drop, S: EndWay, const LEN: usize>(
+fn first_end<'t, K: Ord + Drop, V: Drop, D: Direction, const LEN: usize>(
     arenas: &'t ArenasOf<K, V, LEN>,
     root: Option<Root>,
     bound: Bound<&K>,
-) -> End<LinkedIter<'t, LeafOf<K, V, LEN>, S>>
+) -> End<LinkedIter<'t, LeafOf<K, V, LEN>, D>>
     requires { IsTree K.cmp arenas.now root }
-    ensures place { end_of arenas.now root result ≡ next_end K.cmp S.way
+    ensures place { end_of arenas.now root result ≡ next_end K.cmp D.way
         (lent_bound bound.entry) (walk_under arenas.now root) unopened }
     ensures stands { EndStands arenas.now root result }
 {
     let Some(top) = root else {
         return End::Exhausted;
     };
-    match seek_at::<K, V, S, LEN>(arenas, top.level, top.id, bound) {
+    match seek_at::<K, V, D, LEN>(arenas, top.level, top.id, bound) {
         Some(walk) => End::At(walk),
         None => End::Exhausted,
     }
@@ -117,9 +117,9 @@ fn first_end<'t, K: Ord + Drop, V: Drop, S: EndWay, const LEN: usize>(
 /// Returns whether one walk stands on a smaller key than another one. Makes one comparison. The
 /// caller must have walks that stand on entries.
 #[inline(always)]
-pub fn comes_before<'t, K: Ord + Drop, V: Drop, S: SlotWalk, T: SlotWalk, const LEN: usize>(
-    walk: &LinkedIter<'t, LeafOf<K, V, LEN>, S>,
-    other: &LinkedIter<'t, LeafOf<K, V, LEN>, T>,
+pub fn comes_before<'t, K: Ord + Drop, V: Drop, D: Direction, E: Direction, const LEN: usize>(
+    walk: &LinkedIter<'t, LeafOf<K, V, LEN>, D>,
+    other: &LinkedIter<'t, LeafOf<K, V, LEN>, E>,
 ) -> bool
     ensures { (first second : _) → stood_on walk.now ≡ Some first
         → stood_on other.now ≡ Some second → result ≡ is_lt (K.cmp first.0 second.0) }
@@ -135,8 +135,8 @@ pub fn comes_before<'t, K: Ord + Drop, V: Drop, S: SlotWalk, T: SlotWalk, const 
 
 /// Returns the pair that an end stands on, if it stands on one. Runs in constant time.
 #[inline(always)]
-pub fn pair_on<'t, K: Ord + Drop, V: Drop, S: SlotWalk, const LEN: usize>(
-    end: &End<LinkedIter<'t, LeafOf<K, V, LEN>, S>>,
+pub fn pair_on<'t, K: Ord + Drop, V: Drop, D: Direction, const LEN: usize>(
+    end: &End<LinkedIter<'t, LeafOf<K, V, LEN>, D>>,
 ) -> Option<(&'t K, &'t V)>
     ensures { lent result ≡ pair_of end.now }
 {

@@ -8,10 +8,10 @@ ghost use Rattle.tree_cursors.specs.Beside.{is_at};
 ghost use Rattle.tree_cursors.specs.Ranged.{TellsApart, is_new};
 
 use crate::end::{End, comes_before, pair_on};
-use crate::way::EndWay;
 use std::ops::Bound;
 use tree_leaf::leaf::LeafOf;
-use tree_leaf::{IterOf, LinkedIter, RevIterOf, Reversible, SlotWalk, Walked};
+use tree_leaf::{IterOf, LinkedIter, RevIterOf, Walked};
+use tree_model::{Direction, meets};
 
 /// Returns whether neither end is exhausted, and the forward one stands before the backward one.
 /// Makes at most one comparison. The caller must have ends that stand in one tree.
@@ -33,7 +33,7 @@ pub fn are_apart<'t, K: Ord + Drop, V: Drop, const LEN: usize>(
 /// at which the other end begins, which goes this way. Makes at most two comparisons. The caller
 /// must have ends that stand in one tree.
 #[inline(always)]
-pub fn if_apart<'t, K: Ord + Drop, V: Drop, T: EndWay, const LEN: usize>(
+pub fn if_apart<'t, K: Ord + Drop, V: Drop, E: Direction, const LEN: usize>(
     pair: Option<(&'t K, &'t V)>,
     forward: &End<IterOf<'t, K, V, LEN>>,
     backward: &End<RevIterOf<'t, K, V, LEN>>,
@@ -41,38 +41,38 @@ pub fn if_apart<'t, K: Ord + Drop, V: Drop, T: EndWay, const LEN: usize>(
 ) -> Option<(&'t K, &'t V)>
     ensures { (arenas root : _) → Kept arenas root K.cmp forward.now backward.now → lent result
         ≡ (if are_apart (end_of arenas root forward.now) (end_of arenas root backward.now)
-        then option_where (λ pair. meets K.cmp T.way (lent_bound bound.entry) pair.0) (lent pair.entry) else None) }
+        then option_where (λ pair. meets K.cmp E.way (lent_bound bound.entry) pair.0) (lent pair.entry) else None) }
 {
     if !are_apart(forward, backward) {
         return None;
     }
-    within::<K, V, T>(pair, bound)
+    within::<K, V, E>(pair, bound)
 }
 
 /// Returns the pair that an end stands on, if its key is within the bound at which the other end
 /// begins. Makes at most one comparison.
-pub fn shown<'t, K: Ord + Drop, V: Drop, S: SlotWalk, T: EndWay, const LEN: usize>(
-    end: &End<LinkedIter<'t, LeafOf<K, V, LEN>, S>>,
+pub fn shown<'t, K: Ord + Drop, V: Drop, D: Direction, E: Direction, const LEN: usize>(
+    end: &End<LinkedIter<'t, LeafOf<K, V, LEN>, D>>,
     bound: Bound<&K>,
 ) -> Option<(&'t K, &'t V)>
-    ensures { lent result ≡ option_where (λ pair. meets K.cmp T.way (lent_bound bound.entry) pair.0)
+    ensures { lent result ≡ option_where (λ pair. meets K.cmp E.way (lent_bound bound.entry) pair.0)
         (pair_of end.now) }
 {
-    within::<K, V, T>(pair_on(end), bound)
+    within::<K, V, E>(pair_on(end), bound)
 }
 
 // Returns a pair if its key is within the bound at which an end of this way begins. Makes at most
 // one comparison.
 #[inline(always)]
-fn within<'t, K: Ord, V, T: EndWay>(
+fn within<'t, K: Ord, V, E: Direction>(
     pair: Option<(&'t K, &'t V)>,
     bound: Bound<&K>,
 ) -> Option<(&'t K, &'t V)>
-    ensures { lent result ≡ option_where (λ pair. meets K.cmp T.way (lent_bound bound.entry) pair.0)
+    ensures { lent result ≡ option_where (λ pair. meets K.cmp E.way (lent_bound bound.entry) pair.0)
         (lent pair.entry) }
 {
     let (key, value) = pair?;
-    if T::meets(bound, key) {
+    if meets::<K, E>(bound, key) {
         Some((key, value))
     } else {
         None
@@ -80,8 +80,8 @@ fn within<'t, K: Ord, V, T: EndWay>(
 }
 
 /// Returns whether an end stands on a pair.
-pub fn has_pair<'t, K: Ord + Drop, V: Drop, S: SlotWalk, const LEN: usize>(
-    end: &End<LinkedIter<'t, LeafOf<K, V, LEN>, S>>,
+pub fn has_pair<'t, K: Ord + Drop, V: Drop, D: Direction, const LEN: usize>(
+    end: &End<LinkedIter<'t, LeafOf<K, V, LEN>, D>>,
 ) -> bool
     ensures { result ≡ is_some (pair_of end.now) }
 {
@@ -92,8 +92,8 @@ pub fn has_pair<'t, K: Ord + Drop, V: Drop, S: SlotWalk, const LEN: usize>(
 }
 
 /// Returns whether an end stands on a pair whose key equals this one. Makes at most one comparison.
-pub fn stands_at<'t, K: Ord + Drop, V: Drop, S: SlotWalk, const LEN: usize>(
-    end: &End<LinkedIter<'t, LeafOf<K, V, LEN>, S>>,
+pub fn stands_at<'t, K: Ord + Drop, V: Drop, D: Direction, const LEN: usize>(
+    end: &End<LinkedIter<'t, LeafOf<K, V, LEN>, D>>,
     key: &K,
 ) -> bool
     ensures { result ≡ is_at K.cmp key.now (pair_of end.now) }
@@ -111,23 +111,23 @@ pub fn is_unopened<W>(end: &End<W>) -> bool
     matches!(end, End::Unopened)
 }
 
-/// Returns the end that goes the other way from the same place.
-pub fn turned<'t, K: Ord + Drop, V: Drop, S: Reversible, const LEN: usize>(
-    end: End<LinkedIter<'t, LeafOf<K, V, LEN>, S>>,
-) -> End<LinkedIter<'t, LeafOf<K, V, LEN>, S::Reverse>>
+/// Returns the end that goes another way from the same place.
+pub fn turned<'t, K: Ord + Drop, V: Drop, D: Direction, E: Direction, const LEN: usize>(
+    end: End<LinkedIter<'t, LeafOf<K, V, LEN>, D>>,
+) -> End<LinkedIter<'t, LeafOf<K, V, LEN>, E>>
     ensures { result ≡ end.entry }
 {
     match end {
         End::Unopened => End::Unopened,
-        End::At(walk) => End::At(walk.rev()),
+        End::At(walk) => End::At(walk.facing()),
         End::Exhausted => End::Exhausted,
     }
 }
 
 /// Returns an end at the same place.
-pub fn again<'t, L: Walked, S: SlotWalk>(
-    end: &End<LinkedIter<'t, L, S>>,
-) -> End<LinkedIter<'t, L, S>>
+pub fn again<'t, L: Walked, D: Direction>(
+    end: &End<LinkedIter<'t, L, D>>,
+) -> End<LinkedIter<'t, L, D>>
     ensures { result ≡ end.now }
 {
     match end {

@@ -4,7 +4,6 @@
 //! from leaf to leaf.
 #![tactic(auto)]
 
-pub mod approximate;
 pub mod cursor;
 pub mod end;
 mod ends;
@@ -13,4 +12,3 @@ pub mod laws;
 pub mod locate;
 pub mod range;
 pub mod seek;
-pub mod way;

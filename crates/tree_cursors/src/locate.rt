@@ -9,11 +9,10 @@ ghost use Rattle.tree_cursors.specs.View.{EndStands, end_of};
 use crate::end::{End, step};
 use crate::ends::{again, has_pair, stands_at, turned};
 use crate::iter::{IterOf, IterOver};
-use crate::way::EndWay;
 use std::ops::Bound;
 use tree_leaf::LinkedIter;
 use tree_leaf::leaf::LeafOf;
-use tree_model::ProximityOf;
+use tree_model::{Backward, Direction, ProximityOf};
 use tree_node::node::{ArenasOf, Root};
 
 /// Where a key is among pairs, with fifteen pairs a leaf.
@@ -44,7 +43,7 @@ pub fn locate<'t, K: Ord + Drop + 't, V: Drop + 't, const LEN: usize>(
         }
         return ProximityOf::Smaller(IterOver::standing(arenas, root, End::Unopened, last));
     }
-    let before = stepped(arenas, tree, turned(again(&first)), open);
+    let before = stepped::<K, V, Backward, LEN>(arenas, tree, turned(again(&first)), open);
     if has_pair(&before) {
         ProximityOf::Between(IterOver::standing(arenas, root, turned(before), turned(first)))
     } else {
@@ -55,15 +54,15 @@ pub fn locate<'t, K: Ord + Drop + 't, V: Drop + 't, const LEN: usize>(
 // Returns the end to which a move takes an end. The caller must pass an end that stands in the
 // tree.
 #[inline(always)]
-fn stepped<'t, K: Ord + Drop, V: Drop, S: EndWay, const LEN: usize>(
+fn stepped<'t, K: Ord + Drop, V: Drop, D: Direction, const LEN: usize>(
     arenas: &'t ArenasOf<K, V, LEN>,
     root: Option<Root>,
-    end: End<LinkedIter<'t, LeafOf<K, V, LEN>, S>>,
+    end: End<LinkedIter<'t, LeafOf<K, V, LEN>, D>>,
     bound: Bound<&K>,
-) -> End<LinkedIter<'t, LeafOf<K, V, LEN>, S>>
+) -> End<LinkedIter<'t, LeafOf<K, V, LEN>, D>>
     requires tree { IsTree K.cmp arenas.now root }
     requires stands { EndStands arenas.now root end }
-    ensures place { end_of arenas.now root result ≡ next_end K.cmp S.way (lent_bound bound.entry)
+    ensures place { end_of arenas.now root result ≡ next_end K.cmp D.way (lent_bound bound.entry)
         (walk_under arenas.now root) (end_of arenas.now root end.entry) }
     ensures stands { EndStands arenas.now root result }
 {

@@ -16,10 +16,10 @@ use std::iter::FusedIterator;
 use std::marker::{Model, PhantomData};
 use std::ops::Bound;
 use std::{fmt, mem};
-use tree_array::array::{ArrayIter, ArrayRevIter};
 use tree_leaf::arena::NodeId;
 use tree_leaf::leaf::LeafOf;
 use tree_leaf::{IterOf as WalkOf, LinkedIter, RevIterOf as RevWalkOf, Walked};
+use tree_model::{Backward, Forward};
 use tree_node::node::{ArenasOf, Root};
 
 /// A type of arenas to go through with a cursor, with what the cursor keeps. It has no methods.
@@ -56,8 +56,8 @@ pub struct RangeOver<'t, K, V, A: Ranged<K, V, L>, L: Walked> {
     root: Option<Root>,
     low: Bound<&'t K>,
     high: Bound<&'t K>,
-    forward: End<LinkedIter<'t, L, ArrayIter>>,
-    backward: End<LinkedIter<'t, L, ArrayRevIter>>,
+    forward: End<LinkedIter<'t, L, Forward>>,
+    backward: End<LinkedIter<'t, L, Backward>>,
     values: PhantomData<V>,
 }
 
@@ -113,7 +113,7 @@ impl<'t, K: Ord + Drop + 't, V: Drop + 't, const LEN: usize> RangeOf<'t, K, V, L
         ensures ascending { IsAscending K.cmp self.now.pairs }
         ensures inside { StandsInside self.now.pairs self.now.backward }
     {
-        shown::<K, V, ArrayIter, ArrayRevIter, LEN>(&self.forward, self.high)
+        shown::<K, V, Forward, Backward, LEN>(&self.forward, self.high)
     }
 
     /// Returns the pair of the backward end, if the end stands on one within the lower bound. Makes
@@ -123,7 +123,7 @@ impl<'t, K: Ord + Drop + 't, V: Drop + 't, const LEN: usize> RangeOf<'t, K, V, L
         ensures ascending { IsAscending K.cmp self.now.pairs }
         ensures inside { StandsInside self.now.pairs self.now.backward }
     {
-        shown::<K, V, ArrayRevIter, ArrayIter, LEN>(&self.backward, self.low)
+        shown::<K, V, Backward, Forward, LEN>(&self.backward, self.low)
     }
 
     /// Gives the place of the one end that is opened to the other, and returns `true`, if that end
@@ -183,7 +183,7 @@ impl<'t, K: Ord + Drop + 't, V: Drop + 't, const LEN: usize> RangeOf<'t, K, V, L
         ensures { (pair : _) × Moves K.cmp On self.old pair self.new × (result ≡ is_some pair) }
     {
         let pair = step(self.arenas, self.root, &mut self.forward, self.low);
-        if_apart::<K, V, ArrayRevIter, LEN>(
+        if_apart::<K, V, Backward, LEN>(
             pair,
             &self.forward,
             &self.backward,
@@ -198,7 +198,7 @@ impl<'t, K: Ord + Drop + 't, V: Drop + 't, const LEN: usize> RangeOf<'t, K, V, L
         ensures { (pair : _) × Moves K.cmp Back self.old pair self.new × (result ≡ is_some pair) }
     {
         let pair = step(self.arenas, self.root, &mut self.backward, self.high);
-        if_apart::<K, V, ArrayIter, LEN>(pair, &self.forward, &self.backward, self.low).is_some()
+        if_apart::<K, V, Forward, LEN>(pair, &self.forward, &self.backward, self.low).is_some()
     }
 
     // Opens both bounds, and keeps both ends.
@@ -226,7 +226,7 @@ impl<'t, K: Ord + Drop + 't, V: Drop + 't, const LEN: usize> Iterator for RangeO
             }
             return None;
         };
-        if_apart::<K, V, ArrayRevIter, LEN>(Some(pair), &self.forward, &self.backward, self.high)
+        if_apart::<K, V, Backward, LEN>(Some(pair), &self.forward, &self.backward, self.high)
     }
 }
 
@@ -242,7 +242,7 @@ impl<'t, K: Ord + Drop + 't, V: Drop + 't, const LEN: usize> DoubleEndedIterator
             }
             return None;
         };
-        if_apart::<K, V, ArrayIter, LEN>(Some(pair), &self.forward, &self.backward, self.low)
+        if_apart::<K, V, Forward, LEN>(Some(pair), &self.forward, &self.backward, self.low)
     }
 }
 

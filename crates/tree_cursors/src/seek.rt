@@ -8,12 +8,12 @@ ghost use Rattle.tree_node.specs.Tree.{StandsOrRetired, walk};
 ghost use Rattle.tree_parts.specs.Ends.{IsLinked};
 ghost use Rattle.tree_cursors.specs.Seek.{NoneMeets, Opens, Seeks};
 
-use crate::way::EndWay;
 use std::ops::Bound;
 use tree_leaf::arena::NodeId;
 use tree_leaf::laws::next_or_jump;
 use tree_leaf::leaf::LeafOf;
-use tree_leaf::{LinkedIter, SlotWalk};
+use tree_leaf::LinkedIter;
+use tree_model::{Direction, meets};
 use tree_node::look_ups::leaf_by;
 use tree_node::node::ArenasOf;
 use tree_parts::ends::walk_from_end;
@@ -25,21 +25,21 @@ use tree_parts::ends::walk_from_end;
 ///
 /// The caller must name a well-formed part of a tree, whose leaves are in one chain, or a retired
 /// node, here and below.
-pub fn seek_at<'t, K: Ord + Drop, V: Drop, S: EndWay, const LEN: usize>(
+pub fn seek_at<'t, K: Ord + Drop, V: Drop, D: Direction, const LEN: usize>(
     arenas: &'t ArenasOf<K, V, LEN>,
     level: usize,
     id: NodeId,
     bound: Bound<&K>,
-) -> Option<LinkedIter<'t, LeafOf<K, V, LEN>, S>>
+) -> Option<LinkedIter<'t, LeafOf<K, V, LEN>, D>>
     requires node { 0 < level }
     requires stands { StandsOrRetired K.cmp level arenas.now id }
     requires linked { IsLinked level arenas.now id }
-    ensures { Seeks K.cmp S.way level arenas.now id (lent_bound bound.entry) result }
+    ensures { Seeks K.cmp D.way level arenas.now id (lent_bound bound.entry) result }
 {
-    let mut walk = open_at::<K, V, S, LEN>(arenas, level, id, bound)?;
+    let mut walk = open_at::<K, V, D, LEN>(arenas, level, id, bound)?;
     pass(&mut walk, bound);
     while let Some((key, _)) = next_or_jump(&mut walk) {
-        if S::meets(bound, key) {
+        if meets::<K, D>(bound, key) {
             return Some(walk);
         }
     }
@@ -47,22 +47,22 @@ pub fn seek_at<'t, K: Ord + Drop, V: Drop, S: EndWay, const LEN: usize>(
 }
 
 // Opens a walk in a leaf before which no entry on the way meets the bound.
-fn open_at<'t, K: Ord + Drop, V: Drop, S: EndWay, const LEN: usize>(
+fn open_at<'t, K: Ord + Drop, V: Drop, D: Direction, const LEN: usize>(
     arenas: &'t ArenasOf<K, V, LEN>,
     level: usize,
     id: NodeId,
     bound: Bound<&K>,
-) -> Option<LinkedIter<'t, LeafOf<K, V, LEN>, S>>
+) -> Option<LinkedIter<'t, LeafOf<K, V, LEN>, D>>
     requires node { 0 < level }
     requires stands { StandsOrRetired K.cmp level arenas.now id }
     requires linked { IsLinked level arenas.now id }
     ensures { MatchOption result (walk level arenas.now id ≡ [])
-        (Opens K.cmp S.way level arenas.now id (lent_bound bound.entry)) }
+        (Opens K.cmp D.way level arenas.now id (lent_bound bound.entry)) }
 {
     let key = match bound {
         Bound::Included(key) => key,
         Bound::Excluded(key) => key,
-        Bound::Unbounded => return walk_from_end::<K, V, S, LEN>(arenas, level, id),
+        Bound::Unbounded => return walk_from_end::<K, V, D, LEN>(arenas, level, id),
     };
     let leaf = leaf_by(arenas, level, id, &mut &*key)?;
     Some(LinkedIter::new(arenas, leaf))
@@ -70,15 +70,15 @@ fn open_at<'t, K: Ord + Drop, V: Drop, S: EndWay, const LEN: usize>(
 
 // Goes on in its leaf past entries that don't meet the bound.
 #[inline(always)]
-fn pass<'t, K: Ord + Drop, V: Drop, S: SlotWalk, const LEN: usize>(
-    walk: &mut LinkedIter<'t, LeafOf<K, V, LEN>, S>,
+fn pass<'t, K: Ord + Drop, V: Drop, D: Direction, const LEN: usize>(
+    walk: &mut LinkedIter<'t, LeafOf<K, V, LEN>, D>,
     bound: Bound<&K>,
 )
     requires { walk.old ≡ standing walk.old.leaves walk.old.leaf None }
     ensures stays { walk.new ≡ standing walk.old.leaves walk.old.leaf walk.new.at }
     ensures passes { (passed : List (K × V))
-        × (along S.way (here walk.old) ≡ passed ++ ahead S.way (here walk.old) walk.new.at)
-        × NoneMeets K.cmp S.way (lent_bound bound.entry) passed }
+        × (along D.way (here walk.old) ≡ passed ++ ahead D.way (here walk.old) walk.new.at)
+        × NoneMeets K.cmp D.way (lent_bound bound.entry) passed }
 {
     match bound {
         Bound::Included(key) => walk.pass(key),

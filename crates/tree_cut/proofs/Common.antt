@@ -8,8 +8,7 @@ pub use Rattle.std.proofs.lemmas.List.Filters.{length-filter_both}
 pub use Rattle.std.proofs.lemmas.Option.{slice_get_within, slice_get-map, slice_get_cases}
 pub use Rattle.tree_array.proofs.Common.{all-filter, arrival, filter_all, filter_none}
 pub use Rattle.tree_array.specs.Arrivals.{without_range}
-pub use Rattle.tree_borders.proofs.Searches.{none_past}
-pub use Rattle.tree_borders.specs.Places.{BeginsAt, EndsAt, Narrows, keyed_or}
+pub use Rattle.tree_clean_up.specs.Places.{BeginsAt, EndsAt, Narrows, keyed_or}
 pub use Rattle.tree_clean_up.proofs.Drops.{part_dropped, frees_both, frees_lost, frees_none}
 pub use Rattle.tree_clean_up.proofs.Siblings.{LosesKeyed, Siblings, loses_keyed, siblings}
 pub use Rattle.tree_clean_up.specs.CleanUps.{FreesIn, TakesKeyed}

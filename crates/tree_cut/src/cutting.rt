@@ -10,8 +10,8 @@ ghost use Rattle.tree_node.specs.Tree.{IsRetired, Stands, children_of, walk};
 use crate::dropping::{count_fits, drop_child};
 use crate::parts::{Part, child_at};
 use std::ops::Bound;
-use tree_borders::borders::{first_place, is_open, last_place, narrowed};
-use tree_borders::places::{keyed_count, slot_at};
+use tree_clean_up::borders::{first_place, is_open, last_place, narrowed};
+use tree_clean_up::places::{keyed_count, slot_at};
 use tree_leaf::arena::{LeafId, NodeId};
 use tree_node::node::ArenasOf;
 

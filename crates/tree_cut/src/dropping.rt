@@ -8,7 +8,7 @@ ghost use Rattle.tree_node.specs.Parts.{IsPart, Replaces};
 ghost use Rattle.tree_node.specs.Tree.{HasKind, Stands, leaves_at, node_children, unbounded, walk};
 
 use crate::parts::{Part, child_at};
-use tree_borders::places::{keyed_count, slot_at};
+use tree_clean_up::places::{keyed_count, slot_at};
 use tree_clean_up::take_keyed;
 use tree_leaf::arena::{LeafId, NodeId};
 use tree_leaf::leaf::splice_link;

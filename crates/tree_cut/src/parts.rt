@@ -1,6 +1,6 @@
 //! Parts: what stands under a number, and the children of a node by their places.
 ghost use Rattle.std.specs.Prelude.{◌≡◌, ◌≤◌, IsSome, Some, length, slice_get, ℕ};
-ghost use Rattle.tree_borders.specs.Places.{keyed_or};
+ghost use Rattle.tree_clean_up.specs.Places.{keyed_or};
 ghost use Rattle.tree_cut.specs.Parts.{IsAt, part_id};
 ghost use Rattle.tree_node.specs.Tree.{HasKind, keyed, node_children, unbounded};
 

@@ -8,9 +8,10 @@ ghost use Rattle.tree_root.specs.Trees.{IsWhole, pairs_of};
 
 use crate::index::TreeIndexOf;
 use std::alloc::{AllocError, Global};
-use tree_array::array::{ArrayIter, IndexKey, RunOf};
+use tree_array::array::{IndexKey, RunOf};
 use tree_leaf::IterOf;
 use tree_leaf::laws::next_or_jump;
+use tree_model::Forward;
 use tree_parts::ends::walk_from_end;
 use tree_root::Tree;
 
@@ -55,7 +56,7 @@ fn walk_of<K: IndexKey, V: Drop, const LEN: usize>(
     ensures { MatchOption result (pairs_of tree.now ≡ []) (λ pairs. HasLeft pairs (pairs_of tree.now)) }
 {
     let root = tree.root?;
-    walk_from_end::<K, V, ArrayIter, LEN>(&tree.arenas, root.level, root.id)
+    walk_from_end::<K, V, Forward, LEN>(&tree.arenas, root.level, root.id)
 }
 
 // Appends a clone of each pair of another tree. The tree must be empty, and have room for as many

@@ -6,6 +6,7 @@ ghost use Rattle.tree_model.specs.Pairs.{IsAscending, lent_bound, within, withou
 ghost use Rattle.tree_root.specs.Trees.{IsStored, IsWhole, pairs_of};
 
 use crate::index::TreeIndexOf;
+use crate::takes::take_at;
 use std::ops::Bound;
 use tree_array::array::IndexKey;
 use tree_cursors::range::RangeOver;
@@ -61,9 +62,7 @@ impl<K: IndexKey, V: Drop, const LEN: usize> TreeIndexOf<K, V, LEN> {
         let Some(place) = place else {
             return (keep, None);
         };
-        let pair = self.tree.take_entry(place);
-        self.len -= 1;
-        (keep, Some(pair))
+        (keep, Some(take_at(&mut self.tree, &mut self.len, place)))
     }
 }
 

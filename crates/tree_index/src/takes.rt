@@ -1,10 +1,11 @@
 //! Removals that return the pair.
-ghost use Rattle.std.specs.Prelude.{◌≡◌, [], None, Some, MatchOption};
+ghost use Rattle.std.specs.Prelude.{◌≡◌, [], None, Some, MatchOption, length, true};
 ghost use Rattle.std.specs.Map.Iter.{TakesFirst, TakesLast};
 ghost use Rattle.tree_leaf.specs.Walks.{first_of, last_of};
 ghost use Rattle.tree_index.specs.Index.{KeepsSpare};
 ghost use Rattle.tree_model.specs.Pairs.{pair_at, without};
-ghost use Rattle.tree_root.specs.Trees.{IsStored, IsWhole, pairs_of};
+ghost use Rattle.tree_remove.specs.Removes.{surely};
+ghost use Rattle.tree_root.specs.Trees.{IsStored, IsWhole, Takes, pairs_of};
 
 use crate::index::TreeIndexOf;
 use tree_array::array::IndexKey;
@@ -29,9 +30,7 @@ impl<K: IndexKey, V: Drop, const LEN: usize> TreeIndexOf<K, V, LEN> {
         ensures kept { result ≡ None → self.new ≡ self.old }
     {
         let place = self.tree.entry_for(key)?;
-        let pair = self.tree.take_entry(place);
-        self.len -= 1;
-        Some(pair)
+        Some(take_at(&mut self.tree, &mut self.len, place))
     }
 
     /// Removes the pair with the smallest key and returns it, or `None` if there is no pair.
@@ -48,9 +47,7 @@ impl<K: IndexKey, V: Drop, const LEN: usize> TreeIndexOf<K, V, LEN> {
         ensures kept { result ≡ None → self.new ≡ self.old }
     {
         let place = first_place(&self.tree)?;
-        let pair = self.tree.take_entry(place);
-        self.len -= 1;
-        Some(pair)
+        Some(take_at(&mut self.tree, &mut self.len, place))
     }
 
     /// Removes the pair with the largest key and returns it, or `None` if there is no pair. Costs
@@ -65,10 +62,27 @@ impl<K: IndexKey, V: Drop, const LEN: usize> TreeIndexOf<K, V, LEN> {
         ensures kept { result ≡ None → self.new ≡ self.old }
     {
         let place = last_place(&self.tree)?;
-        let pair = self.tree.take_entry(place);
-        self.len -= 1;
-        Some(pair)
+        Some(take_at(&mut self.tree, &mut self.len, place))
     }
+}
+
+// Takes out the pair at a place of a tree whose pairs are counted, and returns it.
+#[inline(always)]
+pub(crate) fn take_at<K: IndexKey, V: Drop, const LEN: usize>(
+    tree: &mut Tree<K, V, LEN>,
+    len: &mut u128,
+    place: EntryPlace,
+) -> (K, V)
+    requires whole { IsWhole K.cmp tree.old }
+    requires counted { len.old ≡ length (pairs_of tree.old) }
+    requires stored { (pair : K × V) × IsStored K.cmp tree.old place pair }
+    ensures pair { (pair : K × V) → IsStored K.cmp tree.old place pair → result ≡ pair }
+    ensures takes { Takes K.cmp surely tree.old tree.new result.0 true }
+    ensures counted { len.new ≡ length (pairs_of tree.new) }
+{
+    let pair = tree.take_entry(place);
+    *len -= 1;
+    pair
 }
 
 // Returns where the first pair of a tree is stored, or `None` if there is no pair.

@@ -10,7 +10,7 @@ pub use Rattle.tree_array.specs.declared.answers.StoreResult.TheVariants.{Duplic
 pub use Rattle.tree_node.proofs.Ways.{below_part, part_not_retired, part_on_way}
 pub use Rattle.tree_node.specs.Ways.{LeadsTo}
 pub use Rattle.tree_insert.specs.Inserts.{HasToDivide, Inserts, InsertsUnder, IsNew, asks_split, declined, refused, stores}
-pub use Rattle.tree_insert.specs.Roots.{RaisesRoot, Replants}
+pub use Rattle.tree_insert.specs.Roots.{RaisesRoot}
 pub use Rattle.tree_leaf.specs.Arena.{Gains, HasPlaces, KeepsBoth}
 pub use Rattle.tree_split.proofs.LeafRooms.{leaf_used}
 pub use Rattle.tree_model.proofs.Common.{false≢true, put}

@@ -1,7 +1,7 @@
--- How a tree grows at its root: a full root comes under a new one, and a retired one gets a leaf again.
-use Rattle.std.specs.Prelude.{◌≡◌, ◌≢◌, ℕ, suc, ◌+◌, ◌<◌, List, [], ◌∷◌, ◌++◌, Option, None, IsSome}
+-- How a tree grows at its root: a full root comes under a new one.
+use Rattle.std.specs.Prelude.{◌≡◌, ℕ, suc, ◌+◌, ◌<◌, List, ◌++◌, Option, None, IsSome}
 use Rattle.tree_node.specs.Arenas.{IsChain, Ordering, TreeArenas, get, times, uses}
-use Rattle.tree_node.specs.Shape.{room, found_keyed, spare}
+use Rattle.tree_node.specs.Shape.{room, found_keyed}
 use Rattle.tree_node.specs.Tree.{HasChildFor, Stands, leaves_at, nodes_at, walk}
 use Rattle.tree_split.specs.Packed.{IsPacked}
 
@@ -20,17 +20,3 @@ pub record RaisesRoot {K V : Type 0} {LEN : ℕ} (cmp : K → K → Ordering) (d
   pub routed : (key : K) (child : ℕ) → HasChildFor cmp key (get new.nodes id) child → 0 < room depth new child
   -- a packed part that was full is so under the new root, which has a keyed child
   pub packed : (beyond : Option K) → room depth old root ≡ 0 → IsPacked cmp beyond depth old root → IsPacked cmp beyond (suc depth) new id × (0 < found_keyed (get new.nodes id))
-
--- A leaf node stands under the number, over an empty leaf that nothing else is linked to.
-pub record Replants {K V : Type 0} {LEN : ℕ} (cmp : K → K → Ordering) (old new : TreeArenas K V LEN) (root : ℕ) : Type 0 where
-  pub pairs : walk 1 new root ≡ []
-  pub stands : Stands cmp 1 new None root None
-  pub leaf : ℕ
-  pub was_free : get old.leaves leaf ≡ None
-  pub leaves : leaves_at 1 new.nodes root ≡ leaf ∷ []
-  pub chain : IsChain new.leaves (leaf ∷ [])
-  -- no slot of the leaf is used, so that the next insert is neither refused nor asks for a split
-  pub unused : spare 1 new root ≡ LEN
-  -- what stands under every other number stays
-  pub nodes_kept : (n : ℕ) → n ≢ root → get new.nodes n ≡ get old.nodes n
-  pub leaves_kept : (n : ℕ) → n ≢ leaf → get new.leaves n ≡ get old.leaves n

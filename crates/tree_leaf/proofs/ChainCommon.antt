@@ -7,10 +7,10 @@ pub use Rattle.std.proofs.lemmas.List.Sums.{count_by-le-length, sum_by-cons}
 pub use Rattle.std.proofs.lemmas.Option.{get_or_from_slice_get, slice_get-get_or, slice_get_past, slice_get_within}
 pub use Rattle.std.proofs.lemmas.Result.{IfOk-weaker}
 pub use Rattle.tree_array.proofs.Common.{Walk, arrival}
-pub use Rattle.tree_array.specs.Walk.{place_ahead, places_behind}
+pub use Rattle.tree_array.specs.Walk.{StepsOver, next_place, place_ahead, places_behind, places_left}
 pub use Rattle.tree_leaf.specs.Rest.{AreLeft, AreOnTheWay, HasTaken, StandsIn, Takes, left_of, whole_way}
 pub use Rattle.tree_leaf.specs.Walks.{IsStand, Jumps, LeafWalk, Steps, first_of, first_on, here, jumped, last_of, left_in_leaf, standing, stood_on}
-pub use Rattle.tree_leaf.specs.Ways.{StepsOver, ahead, beside, beyond, landing, leaves_on, next_place, places_left, seen, seen_at}
+pub use Rattle.tree_leaf.specs.Ways.{ahead, beside, beyond, landing, leaves_on, seen, seen_at}
 pub use Rattle.tree_leaf.specs.declared.stand.Beside.{Beside}
 pub use Rattle.tree_leaf.proofs.Chains.{chain_used, neighbours}
 pub use Rattle.tree_leaf.proofs.Pigeonhole.{once_fits}

@@ -1,8 +1,8 @@
 -- The slots that a walk goes through, and the entries of the leaf that it stands in.
-use Rattle.std.proofs.Common.{◌≡◌, ℕ, zero, suc, List, [], ◌∷◌, map, length, slice_get, Option, Some, None, IsSome, option_and_then, option_map, refl, sym, ap, ◌∙◌, Bor}
+use Rattle.std.proofs.Common.{◌≡◌, ℕ, zero, suc, List, [], ◌∷◌, map, length, slice_get, Option, Some, None, IsSome, option_and_then, option_map, refl, sym, ap, ◌∙◌, Bor, Ordering}
 use Rattle.tree_model.proofs.Common.{MakesProgress, lent_entry}
 use Rattle.tree_leaf.proofs.ChainCommon.{IsStand, LeafOf, LeafWalk, Slab, Steps, StepsOver, Walk, Way, arrival, first_on, here, leaf_entries, left_in_leaf, length-map, standing, stood_on}
-use Rattle.tree_array.specs.Walk.{standing as array_standing}
+use Rattle.tree_array.specs.Walk.{IsOver, standing as array_standing}
 use Rattle.tree_leaf.proofs.Along.{fewer_left, first_taken}
 
 -- one place of two lists of which one lists what the other names
@@ -56,9 +56,9 @@ module _ {K V : Type 0} {LEN : ℕ} (leaves : Slab (LeafOf K V LEN)) (id : ℕ) 
   pub none_read : (way : Way) (new : Option ℕ) → StepsOver way slots.slots slots.at None new → StepsOver way (leaf_entries leaves id) slots.at None new
   none_read way new steps = rw (← as_many) steps
 
-  -- a walk over the same slots, turned and gone back to before the first
-  pub all_slots : {all turned again : Walk} → all ≡ array_standing turned.slots None → turned ≡ again → again ≡ slots → IsStand leaves id leaf all × (all.at ≡ None)
-  all_slots fresh turns same = rw (fresh, turns, same) (record { there = stand.there; front = stand.front; back = stand.back; chain = stand.chain; slots_are = stand.slots_are }, refl)
+  -- a walk over all slots that has not begun
+  pub all_slots : {cmp : K → K → Ordering} {len : ℕ} (all : Walk) (named : List ℕ) → all ≡ array_standing named None → IsOver cmp len leaf.array all → IsStand leaves id leaf all × (all.at ≡ None)
+  all_slots all named fresh over = let at : all.at ≡ None = rw fresh refl in (stand_over all (rw at at over.slots), at)
 
 module _ {K V : Type 0} {LEN : ℕ} (leaves : Slab (LeafOf K V LEN)) (id : ℕ) (leaf : LeafOf K V LEN) (all : Walk) (stand : IsStand leaves id leaf all)
     (fresh : all.at ≡ None) (way : Way) (new : Option ℕ) where

@@ -5,13 +5,13 @@ use Rattle.std.specs.Borrow.{Bor}
 use Rattle.std.specs.Iterator.{Count, at_most}
 use Rattle.slab.specs.Slab.{Slab, get}
 use Rattle.tree_array.specs.Arrivals.{arrival}
-use Rattle.tree_array.specs.Walk.{Walk}
+use Rattle.tree_array.specs.Walk.{StepsOver, Walk, next_place, places_left}
 use Rattle.tree_leaf.specs.declared.leaf.LeafOf.{LeafOf}
 use Rattle.tree_model.specs.declared.way.Way.{Way}
 use Rattle.tree_model.specs.declared.way.Way.TheVariants.{On, Back}
 use Rattle.tree_leaf.specs.Chain.{IsChain}
 use Rattle.tree_leaf.specs.Entries.{leaf_entries, entries_of}
-use Rattle.tree_leaf.specs.Ways.{StepsOver, beyond, landing, leaves_on, next_place, places_left}
+use Rattle.tree_leaf.specs.Ways.{beyond, landing, leaves_on}
 
 -- the leaves, the number of the one that the walk stands in, and the place among its entries, if the walk has begun there
 pub record LinkedWalk (L : Type 0) : Type 0 where

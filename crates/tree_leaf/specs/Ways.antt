@@ -1,6 +1,6 @@
--- Which way a walk goes: how it sees a list and steps through it, and which leaves the links lead it to.
+-- Which way a walk goes: what lies ahead of it in a list, and which leaves the links lead it to.
 use Rattle.tree_model.specs.Ways.{along}
-use Rattle.std.specs.Prelude.{◌≡◌, ℕ, ◌-◌, ◌<◌, ◌==◌, if◌then◌else◌, List, [], ◌∷◌, length, drop, take, reverse, Option, Some, MatchOption, option_and_then, option_map, slice_get}
+use Rattle.std.specs.Prelude.{ℕ, ◌==◌, if◌then◌else◌, List, [], ◌∷◌, length, drop, take, reverse, Option, Some, option_and_then, option_map}
 use Rattle.slab.specs.Slab.{Slab, get}
 use Rattle.tree_array.specs.Walk.{place_ahead, places_behind}
 use Rattle.tree_leaf.specs.declared.leaf.LeafOf.{LeafOf}
@@ -9,27 +9,10 @@ use Rattle.tree_model.specs.declared.way.Way.{Way}
 use Rattle.tree_model.specs.declared.way.Way.TheVariants.{On, Back}
 use Rattle.tree_leaf.specs.Entries.{leaf_entries}
 
--- of so many places, how many lie ahead of a walk this way, and the one that a step goes to
-abbrev pub places_left : Way → ℕ → Option ℕ → ℕ
-places_left On len at = len - place_ahead at
-places_left Back len at = places_behind len at
-
-abbrev pub next_place : Way → ℕ → Option ℕ → ℕ
-next_place On len at = place_ahead at
-next_place Back len at = places_behind len at - 1
-
 -- what lies ahead of a walk this way, in its order
 abbrev pub ahead : {X : Type 0} → Way → List X → Option ℕ → List X
 ahead On xs at = drop (place_ahead at) xs
 ahead Back xs at = reverse (take (places_behind (length xs) at) xs)
-
--- one step through a list, to the next place, or none at the end, where the walk keeps its place
-abbrev pub StepsOver : {X : Type 0} → Way → List X → Option ℕ → Option X → Option ℕ → Type 0
-StepsOver way xs old result new =
-    let place = next_place way (length xs) old in
-    MatchOption result
-    ((places_left way (length xs) old ≡ 0) × (new ≡ old))
-    (λ x. (0 < places_left way (length xs) old) × (slice_get xs place ≡ Some x) × (new ≡ Some place))
 
 -- of the leaves before and behind one, those that the way leads to: in the order of the chain, and the nearest first
 abbrev pub beyond : Way → List ℕ → List ℕ → List ℕ

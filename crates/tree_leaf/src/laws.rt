@@ -8,16 +8,16 @@ ghost use Rattle.tree_leaf.specs.Rest.{AreLeft, AreOnTheWay, Takes};
 use crate::arena::{LeafId, SlotsOf};
 use crate::iter::{IterOf, LinkedIter, RevIterOf};
 use crate::leaf::LeafOf;
-use crate::slot_walk::SlotWalk;
 use std::alloc::{AllocError, Global};
+use tree_model::Direction;
 
 /// Returns the next entry of an iterator, in its leaf or behind a jump: the first that is left on
 /// its way. Returns `None` if none is left.
 #[inline(always)]
-pub fn next_or_jump<'t, K: Ord + Drop, V: Drop, S: SlotWalk, const LEN: usize>(
-    walk: &mut LinkedIter<'t, LeafOf<K, V, LEN>, S>,
+pub fn next_or_jump<'t, K: Ord + Drop, V: Drop, D: Direction, const LEN: usize>(
+    walk: &mut LinkedIter<'t, LeafOf<K, V, LEN>, D>,
 ) -> Option<(&'t K, &'t V)>
-    ensures { Takes S.way walk.old result walk.new }
+    ensures { Takes D.way walk.old result walk.new }
 {
     match walk.next() {
         None => walk.jump(),
@@ -28,12 +28,12 @@ pub fn next_or_jump<'t, K: Ord + Drop, V: Drop, S: SlotWalk, const LEN: usize>(
 /// Returns all entries that are left of an iterator, in the order of its way. Returns `Err` if
 /// memory for the list is refused. The caller must have an iterator that stands in a leaf of a
 /// chain.
-pub fn entries_left<'t, K: Ord + Drop, V: Drop, S: SlotWalk, const LEN: usize>(
+pub fn entries_left<'t, K: Ord + Drop, V: Drop, D: Direction, const LEN: usize>(
     alloc: Global,
-    mut walk: LinkedIter<'t, LeafOf<K, V, LEN>, S>,
+    mut walk: LinkedIter<'t, LeafOf<K, V, LEN>, D>,
 ) -> Result<Vec<(&'t K, &'t V)>, AllocError>
     requires { (front back : _) × IsChain walk.leaves (front ++ walk.leaf ∷ back) }
-    ensures { IfOk result (λ entries. AreLeft S.way walk.entry entries.items) }
+    ensures { IfOk result (λ entries. AreLeft D.way walk.entry entries.items) }
 {
     let mut entries = Vec::new(alloc);
     while let Some(entry) = next_or_jump(&mut walk) {

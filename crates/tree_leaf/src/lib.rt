@@ -6,9 +6,7 @@ pub mod arena;
 mod iter;
 pub mod laws;
 pub mod leaf;
-mod slot_walk;
 mod stand;
 
 pub use iter::{Iter, IterOf, LinkedIter, RevIter, RevIterOf};
-pub use slot_walk::{Reversible, SlotWalk};
 pub use stand::Walked;

@@ -1,7 +1,9 @@
 //! Two bounds on keys.
 ghost use Rattle.std.specs.Prelude.{◌≡◌};
+ghost use Rattle.tree_model.specs.Cursor.{meets};
 ghost use Rattle.tree_model.specs.Pairs.{high_of, lent_bound, low_of, meets_lower, meets_upper, within};
 
+use crate::way::{Direction, Way};
 use std::ops::Bound;
 
 /// Returns whether a key is within both bounds. Reversed bounds contain no key. Makes at most two
@@ -31,5 +33,17 @@ pub fn is_below<K: Ord>(high: Bound<&K>, key: &K) -> bool
         Bound::Included(high) => key.cmp(high).is_le(),
         Bound::Excluded(high) => key.cmp(high).is_lt(),
         Bound::Unbounded => true,
+    }
+}
+
+/// Returns whether a key is within the bound at which a way begins: the lower bound on the way on,
+/// and the upper bound on the way back. Makes at most one comparison.
+#[inline(always)]
+pub fn meets<K: Ord, D: Direction>(bound: Bound<&K>, key: &K) -> bool
+    ensures { result ≡ meets K.cmp D.way (lent_bound bound.entry) key.now }
+{
+    match D::way() {
+        Way::On => is_above(bound, key),
+        Way::Back => is_below(bound, key),
     }
 }

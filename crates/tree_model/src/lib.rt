@@ -12,9 +12,9 @@ mod moves;
 mod proximity;
 mod way;
 
-pub use bounds::{is_above, is_below, range_contains};
+pub use bounds::{is_above, is_below, meets, range_contains};
 pub use commands::{Command, InsertError, Record, Reply};
 pub use keys::{IndexKey, SameClone};
 pub use moves::{Answer, Move};
 pub use proximity::ProximityOf;
-pub use way::Way;
+pub use way::{Backward, Direction, Forward, Way};

@@ -88,19 +88,19 @@ fn slot_beyond<K: Ord + Drop, I: Copy + Drop, const LEN: usize>(
     children.slot_for(key)
 }
 
-/// Returns whether a key is larger than each separator, and so belongs to the unbounded child.
-/// Makes one comparison at most, with the last separator.
+/// Returns whether a key is larger than each key of an array. In the array of a node, it belongs to
+/// the unbounded child then. Makes one comparison at most, with the last key.
 #[inline(always)]
-pub fn is_beyond<K: Ord + Drop, I: Copy + Drop, const LEN: usize>(
-    children: &ArrayOf<K, I, LEN>,
+pub fn is_beyond<K: Ord + Drop, V: Drop, const LEN: usize>(
+    array: &ArrayOf<K, V, LEN>,
     key: &K,
 ) -> bool
-    ensures { IsTrue result ↔ (least_from K.cmp children.now.entries key.now ≡ None) }
+    ensures { IsTrue result ↔ (least_from K.cmp array.now.entries key.now ≡ None) }
 {
     // The contract of `free` says that the keys ascend.
-    let _ = children.free();
-    match children.last_slot() {
-        Some(slot) => key.cmp(children.key(slot)).is_gt(),
+    let _ = array.free();
+    match array.last_slot() {
+        Some(slot) => key.cmp(array.key(slot)).is_gt(),
         None => true,
     }
 }

@@ -7,12 +7,11 @@ pub use Rattle.std.proofs.lemmas.List.{length-map, length-reverse}
 pub use Rattle.std.proofs.lemmas.Option.{slice_get-map}
 pub use Rattle.std.specs.Iterator.{item_count}
 pub use Rattle.tree_array.proofs.Common.{Arrivals, Walk, all_map, arrival, len_small, limit}
-pub use Rattle.tree_array.specs.Walk.{StepsOn, place_ahead, standing}
+pub use Rattle.tree_array.specs.Walk.{Steps, StepsOver, place_ahead, standing}
 pub use Rattle.tree_leaf.proofs.Along.{all_along, first_along, step_takes}
 pub use Rattle.tree_leaf.proofs.ChainCommon.{Back, LeafWalk, On, Way, first_of, next_place}
 pub use Rattle.tree_leaf.proofs.Steps.{same_place}
 pub use Rattle.tree_leaf.specs.Walks.{first_on}
-pub use Rattle.tree_leaf.specs.Ways.{StepsOver}
 pub use Rattle.tree_model.proofs.Common.{AllByRecursion, MakesProgress, along, flat_map-append, reverse-append, reverse-reverse, reverse_onto}
 pub use Rattle.tree_node.proofs.Common.{ContainsKey, IsChain, IsRetiredNode, LeafOf, Slab, StandsOrRetired, TreeArenas, entries_of, fits, get, in_turn, keyed, leaf_entries, leaves_at, leaves_of}
 pub use Rattle.tree_node.proofs.Common.{unbounded}
@@ -24,5 +23,5 @@ pub use Rattle.tree_node.specs.Shape.{leaf_spare, least, spare_for}
 pub use Rattle.tree_node.specs.declared.branch.BranchOf.{BranchOf}
 pub use Rattle.tree_node.specs.declared.node.NodeOf.{NodeOf}
 pub use Rattle.tree_node.specs.declared.node.NodeOf.TheVariants.{Internal, Leaf}
-pub use Rattle.tree_parts.specs.Children.{IsOverKeyed, all_children, is_back, keyed_children, to_come}
+pub use Rattle.tree_parts.specs.Children.{IsOverKeyed, all_children, keyed_children, to_come}
 pub use Rattle.tree_parts.specs.Ends.{BeginsPart, FindsFirst, IsFirstOn, IsLinked, passed}

@@ -1,6 +1,6 @@
 -- The children of a node in turn, either way: which they are, and that a step takes the first of those still to come.
-use Rattle.tree_parts.proofs.Common.{◌≡◌, ℕ, true, false, List, ◌∷◌, ◌++◌, length, take, reverse, Option, Some, None, is_some, refl, sym, ap, ◌∙◌, arith, option_to_list, append-nil, take_all}
-use Rattle.tree_parts.proofs.Common.{MakesProgress, reverse-append, along, Arrivals, Back, IsOverKeyed, On, Walk, Way, all_children, arrival, is_back, keyed_children, length-map, next_place, standing}
+use Rattle.tree_parts.proofs.Common.{◌≡◌, ℕ, false, List, ◌∷◌, ◌++◌, length, take, reverse, Option, Some, None, is_some, refl, sym, ap, ◌∙◌, arith, option_to_list, append-nil, take_all}
+use Rattle.tree_parts.proofs.Common.{MakesProgress, reverse-append, along, Arrivals, Back, IsOverKeyed, Walk, Way, all_children, arrival, keyed_children, length-map, next_place, standing}
 use Rattle.tree_parts.proofs.Common.{IsSome, item_count, same_place, slice_get, slice_get-map, step_takes, StepsOver, to_come}
 
 reverse-option : {X : Type 0} (x : Option X) → reverse (option_to_list x) ≡ option_to_list x
@@ -27,12 +27,11 @@ module _ {K X : Type 0} (keyed : Arrivals K X) where
         rw (slice_get-map (λ (c : K × X). c.1) keyed.entries place, at.2, this) refl
 
   -- before the first step against the order of the keys all are still to come
-  pub all_back : (walk fresh : Walk) (slots : List ℕ) → walk ≡ fresh → fresh ≡ standing slots None → (way : Way) (unbounded : Option X) → is_back way ≡ true
-      → to_come way (keyed_children keyed) walk.at unbounded None ≡ along way (all_children keyed unbounded)
-  all_back walk fresh slots same is On unbounded back = absurd (cc)
-  all_back walk fresh slots same is Back unbounded back =
+  pub all_back : (fresh : Walk) (slots : List ℕ) → fresh ≡ standing slots None → (unbounded : Option X)
+      → to_come Back (keyed_children keyed) fresh.at unbounded None ≡ along Back (all_children keyed unbounded)
+  all_back fresh slots is unbounded =
       let children : List X = keyed_children keyed in
-      let at_start : walk.at ≡ None = rw (same, is) refl in
+      let at_start : fresh.at ≡ None = rw is refl in
       let all : take (length children) children ≡ children = take_all (length children) children (omega arith) in
       rw (at_start, all, append-nil (reverse children))
       (sym (reverse-append children (option_to_list unbounded) ∙ ap (λ ys. ys ++ reverse children) (reverse-option unbounded)))

@@ -1,15 +1,9 @@
 -- The children of a node that are still to come, on a walk either way.
-use Rattle.std.specs.Prelude.{◌≡◌, ℕ, Bool, true, false, List, ◌++◌, map, Option, Some, option_to_list}
+use Rattle.std.specs.Prelude.{◌≡◌, ℕ, List, ◌++◌, map, Option, Some, option_to_list}
 use Rattle.tree_array.specs.Arrivals.{Arrivals, arrival}
 use Rattle.tree_array.specs.Walk.{Walk}
 use Rattle.tree_model.specs.declared.way.Way.{Way}
-use Rattle.tree_model.specs.declared.way.Way.TheVariants.{On, Back}
 use Rattle.tree_leaf.specs.Ways.{ahead}
-
--- the way against the order of the keys, on which the unbounded child comes first
-abbrev pub is_back : Way → Bool
-is_back On = false
-is_back Back = true
 
 module _ {K X : Type 0} (keyed : Arrivals K X) where
   -- the keyed children in order

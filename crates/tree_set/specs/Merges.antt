@@ -1,5 +1,5 @@
 -- The elements of either of two ascending lists, of both, of the first alone, and of one alone.
-use Rattle.std.specs.Prelude.{true, not, List, filter}
+use Rattle.std.specs.Prelude.{◌≡◌, true, not, List, filter}
 use Rattle.std.specs.Set.{sorted_merge}
 use Rattle.std.specs.declared.cmp.Ordering.{Ordering}
 use Rattle.tree_set.specs.Sets.{IsAscending, has}
@@ -24,3 +24,8 @@ module _ {K : Type 0} (cmp : K → K → Ordering) (xs ys : List K) where
   pub record AreAscending : Type 0 where
     pub first : IsAscending cmp xs
     pub second : IsAscending cmp ys
+
+-- where elements of two ascending lists were passed, what an operation gives of them is what it gave before
+pub record IsPassed {K : Type 0} (cmp : K → K → Ordering) (op : (K → K → Ordering) → List K → List K → List K) (xs ys old_xs old_ys : List K) : Type 0 where
+  pub ascending : AreAscending cmp xs ys
+  pub same : op cmp xs ys ≡ op cmp old_xs old_ys

@@ -16,6 +16,14 @@ pub(crate) struct Ahead<'t, K: Ord, A: Ranged<K, (), L>, L: Walked> {
     others: ElementsOver<'t, K, A, L>,
 }
 
+// The elements that are left, with up to `LEN` elements a leaf.
+pub(crate) type AheadOf<'t, K, const LEN: usize> = Ahead<
+    't,
+    K,
+    ArenasOf<K, (), LEN>,
+    LeafOf<K, (), LEN>,
+>;
+
 impl<'t, K: Ord, A: Ranged<K, (), L>, L: Walked> Model for Ahead<'t, K, A, L> {
     ghost use Rattle.std.specs.Prelude.{◌≡◌, List, [], IfNone};
     ghost use Rattle.std.specs.List.{cons_option};

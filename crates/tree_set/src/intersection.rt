@@ -2,7 +2,7 @@
 ghost use Rattle.std.specs.Iterator.{YieldsFirstRef, item_count};
 ghost use Rattle.tree_set.specs.Merges.{AreAscending, intersection};
 
-use crate::ahead::Ahead;
+use crate::ahead::{Ahead, AheadOf};
 use std::cmp::Ordering;
 use std::iter::FusedIterator;
 use std::marker::Model;
@@ -58,8 +58,8 @@ impl<'t, K: Ord + Drop + 't, const LEN: usize> FusedIterator
 
 // Takes the first element that both have.
 fn common<'t, K: Ord + Drop + 't, const LEN: usize>(
-    first: &mut Ahead<'t, K, ArenasOf<K, (), LEN>, LeafOf<K, (), LEN>>,
-    second: &mut Ahead<'t, K, ArenasOf<K, (), LEN>, LeafOf<K, (), LEN>>,
+    first: &mut AheadOf<'t, K, LEN>,
+    second: &mut AheadOf<'t, K, LEN>,
 ) -> Option<&'t K>
     requires { AreAscending K.cmp first.old second.old }
     ensures ascending { AreAscending K.cmp first.new second.new }

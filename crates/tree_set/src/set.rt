@@ -7,7 +7,7 @@ ghost use Rattle.tree_model.specs.Pairs.{high_of, low_of, within};
 ghost use Rattle.tree_set.specs.Merges.{difference, intersection, symmetric_difference, union};
 ghost use Rattle.tree_set.specs.Sets.{Inserts, IsAscending, cut, element_at, has, without};
 
-use crate::ahead::Ahead;
+use crate::ahead::{Ahead, AheadOf};
 use crate::difference::{Difference, DifferenceOver};
 use crate::elements::{Elements, ElementsOver};
 use crate::intersection::{Intersection, IntersectionOver};
@@ -241,10 +241,8 @@ impl<K: IndexKey, const LEN: usize> TreeSetOf<K, LEN> {
         ensures elements { (k : K) → has K.cmp result k ≡ (has K.cmp self.now k || has K.cmp other.now k) }
         ensures ascending { IsAscending K.cmp result }
     {
-        UnionOver {
-            first: Ahead::new(self.iter()),
-            second: Ahead::new(other.iter()),
-        }
+        let (first, second) = self.both_ahead(other);
+        UnionOver { first, second }
     }
 
     /// Returns the elements of this set that the other has too, in ascending order.
@@ -262,10 +260,8 @@ impl<K: IndexKey, const LEN: usize> TreeSetOf<K, LEN> {
         ensures elements { (k : K) → has K.cmp result k ≡ (has K.cmp self.now k && has K.cmp other.now k) }
         ensures ascending { IsAscending K.cmp result }
     {
-        IntersectionOver {
-            first: Ahead::new(self.iter()),
-            second: Ahead::new(other.iter()),
-        }
+        let (first, second) = self.both_ahead(other);
+        IntersectionOver { first, second }
     }
 
     /// Returns the elements of this set that the other lacks, in ascending order. Costs what
@@ -279,10 +275,8 @@ impl<K: IndexKey, const LEN: usize> TreeSetOf<K, LEN> {
         ensures elements { (k : K) → has K.cmp result k ≡ (has K.cmp self.now k && not (has K.cmp other.now k)) }
         ensures ascending { IsAscending K.cmp result }
     {
-        DifferenceOver {
-            first: Ahead::new(self.iter()),
-            second: Ahead::new(other.iter()),
-        }
+        let (first, second) = self.both_ahead(other);
+        DifferenceOver { first, second }
     }
 
     /// Returns the elements that one of the two sets has and the other lacks, in ascending order.
@@ -300,10 +294,16 @@ impl<K: IndexKey, const LEN: usize> TreeSetOf<K, LEN> {
             || (has K.cmp other.now k && not (has K.cmp self.now k))) }
         ensures ascending { IsAscending K.cmp result }
     {
-        SymmetricDifferenceOver {
-            first: Ahead::new(self.iter()),
-            second: Ahead::new(other.iter()),
-        }
+        let (first, second) = self.both_ahead(other);
+        SymmetricDifferenceOver { first, second }
+    }
+
+    // Returns the elements of this set and of another, each with its first one taken.
+    fn both_ahead<'t>(&'t self, other: &'t Self) -> (AheadOf<'t, K, LEN>, AheadOf<'t, K, LEN>)
+        ensures first { (result.0 ≡ self.now) × IsAscending K.cmp self.now }
+        ensures second { (result.1 ≡ other.now) × IsAscending K.cmp other.now }
+    {
+        (Ahead::new(self.iter()), Ahead::new(other.iter()))
     }
 
     /// Returns the smallest element, or `None` if the set is empty. Descends once, and makes no

@@ -1,5 +1,6 @@
 -- What a packed part that is full gives to a new one before it.
-use Rattle.std.proofs.Common.{◌≡◌, ◌⊎◌, ℕ, zero, suc, ◌≤◌, ◌^◌, false, true, cond, List, [], ◌∷◌, ◌++◌, length, Option, refl, ap, ◌∙◌, arith, inl, inr, is_lt, Ordering, Less}
+use Rattle.std.proofs.Common.{◌≡◌, ◌↔◌, ℕ, zero, suc, ◌≤◌, ◌^◌, Bool, IsTrue, true, cond, List, [], ◌∷◌, length, Option, None, refl, ap, ◌∙◌, arith, is_lt, Ordering, Less}
+use Rattle.tree_array.specs.Arrivals.{least_from}
 use Rattle.std.proofs.Math.Nat.{pow-suc, pow-zero}
 use Rattle.tree_split.proofs.Words.{and_parts, both_true, ascents, reachable, less_from_test, AllByRecursion, Arrivals, IsSound, IsTotalOrder, Stands, TreeArenas, free, held, keyed, node_is, room, IsPacked, is_packed_array, all_smaller, low_part}
 use Rattle.tree_split.proofs.Arrays.{packed_boundary, packed_full, packed_marks}
@@ -33,11 +34,13 @@ module _ {K V : Type 0} (cmp : K → K → Ordering) (key : K) where
   all_beyond [] so = tt
   all_beyond (p ∷ rest) so = grind (arith, less_from_test, and_parts, all_beyond rest)
 
-  -- the last of them decides
-  pub beyond_last : (front : List (K × V)) (pair : K × V) → AllByRecursion (λ p. cmp p.0 key ≡ Less) front ⊎ (is_lt (cmp pair.0 key) ≡ false) → all_smaller cmp key (front ++ pair ∷ []) ≡ is_lt (cmp pair.0 key)
-  beyond_last [] pair known = grind arith
-  beyond_last (p ∷ rest) pair (inl smaller) = rw smaller.0 (beyond_last rest pair (inl smaller.1))
-  beyond_last (p ∷ rest) pair (inr not) = let later = beyond_last rest pair (inr not) in grind arith
+  -- that no key is least from this one on tells whether all are smaller
+  least_of_none : (pairs : List (K × V)) → (least_from cmp pairs key ≡ None) ↔ (all_smaller cmp key pairs ≡ true)
+  least_of_none [] = ((λ _. refl), (λ _. refl))
+  least_of_none (p ∷ rest) = grind (arith, least_of_none rest)
+
+  pub told_beyond : (pairs : List (K × V)) (told : Bool) → (IsTrue told ↔ (least_from cmp pairs key ≡ None)) → told ≡ all_smaller cmp key pairs
+  told_beyond pairs told by_least = grind (arith, least_of_none pairs)
 
 module _ {K V : Type 0} {cmp : K → K → Ordering} where
   -- a packed array without room gives all its entries, where the key is beyond them

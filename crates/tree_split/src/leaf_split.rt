@@ -12,7 +12,7 @@ ghost use Rattle.tree_split.specs.Lasts.{EmptiesLast, HoldsAnew, StaysLast};
 ghost use Rattle.tree_model.specs.Pairs.{IsAbsent};
 ghost use Rattle.tree_node.specs.Parts.{IsPart, PutsChild, Unchanged};
 ghost use Rattle.tree_split.specs.Packed.{HasLast};
-ghost use Rattle.tree_split.specs.Splits.{GivesAll, GivesFirst, GoesWhole, IsCut, RoomResult, SharesEntries, all_smaller, low_part};
+ghost use Rattle.tree_split.specs.Splits.{GivesAll, GivesFirst, GoesWhole, IsCut, RoomResult, SharesEntries, low_part};
 ghost use Rattle.tree_node.specs.Tree.{HasChildFor, HasKind, is_from, keyed};
 
 use crate::put_keyed;
@@ -23,6 +23,7 @@ use tree_array::array::{ArrayOf, IndexKey};
 use tree_leaf::arena::{LeafId, NodeId};
 use tree_leaf::leaf::{LeafOf, add_before};
 use tree_node::node::{ArenasOf, NodeOf};
+use tree_node::routing::is_beyond;
 
 /// Makes room for a key in the leaf that the key belongs to, and returns the leaf that it belongs
 /// to then. The first rule that applies decides:
@@ -128,17 +129,6 @@ fn low_count<K: Ord + Drop, V: Drop, const LEN: usize>(
         Some(count as u8)
     } else {
         Some(boundary)
-    }
-}
-
-// Returns true if the key is larger than every key in the array. Makes at most one comparison.
-fn is_beyond<K: Ord + Drop, V: Drop, const LEN: usize>(array: &ArrayOf<K, V, LEN>, key: &K) -> bool
-    requires { IsSound K.cmp LEN array.now }
-    ensures { result ≡ all_smaller K.cmp key.now array.now.entries }
-{
-    match array.last_slot() {
-        Some(slot) => array.key(slot).cmp(key).is_lt(),
-        None => true,
     }
 }
 

@@ -7,6 +7,7 @@ pub use Rattle.std.specs.Cmp.Lexicographic.{pointwise, slice_partial_cmp}
 pub use Rattle.std.specs.Hash.{fed_then}
 pub use Rattle.std.specs.Iterator.{at_most}
 pub use Rattle.std.specs.Map.Iter.{TakesFirst, TakesLast}
+pub use Rattle.std.specs.Option.{option_map}
 pub use Rattle.std.specs.Ordering.{is_ne, partial_ordering_then}
 pub use Rattle.tree_array.proofs.Common.{filter_all}
 pub use Rattle.tree_model.proofs.Common.{AllByRecursion, Cursor, HasBegun, IsTotalOrder, MakesProgress, Moves, Unbounded, fresh, lent_entry, rest, reverse-reverse, reverse_onto, ⊤}

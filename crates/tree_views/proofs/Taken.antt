@@ -1,5 +1,5 @@
 -- Walks over the keys of an index, or over its values.
-use Rattle.tree_views.proofs.Common.{◌≡◌, true, List, [], ◌∷◌, ◌++◌, map, reverse, Option, Some, None, Bor, length, refl, sym, ap, ◌∙◌, arith, Ordering, length-append, ⊤, IsTotalOrder, MakesProgress}
+use Rattle.tree_views.proofs.Common.{◌≡◌, true, List, [], ◌∷◌, ◌++◌, map, reverse, Option, Some, None, Bor, length, refl, sym, ap, ◌∙◌, arith, Ordering, length-append, ⊤, IsTotalOrder, MakesProgress, option_map}
 use Rattle.tree_views.proofs.Common.{reverse_onto, reverse-reverse, lent_entry, Moves, rest, Cursor, On, Back, filter_all, at_most, TakesFirst, TakesLast, map_push, between, IsOpen, takes_first}
 use Rattle.tree_views.proofs.Common.{GoesThroughAll}
 use Rattle.tree_views.proofs.Walked.{all_pass}
@@ -14,11 +14,21 @@ module _ {A X : Type 0} (shows : A → X) (s t : List X) where
   last_progress None takes = record { on = λ _. tt; keeps = tt; rests = λ _. tt }
   last_progress (Some x) takes = record { on = λ _. (tt, tt, omega (arith, ap length takes ∙ length-append t (shows x ∷ []))); keeps = tt; rests = λ _. tt }
 
-  pub with_first : (r : Option A) → TakesFirst shows s r t → record { steps : TakesFirst shows s r t; goes : MakesProgress (λ _. ⊤) (λ xs. at_most (length xs)) s r t }
-  with_first r takes = record { steps = takes; goes = first_progress r takes }
+-- the same of a part of what is taken
+module _ {A B X : Type 0} (part : A → B) (shows : B → X) (s t : List X) where
+  first_part : (r : Option A) → TakesFirst (λ a. shows (part a)) s r t → TakesFirst shows s (option_map part r) t
+  first_part None takes = takes
+  first_part (Some x) takes = takes
 
-  pub with_last : (r : Option A) → TakesLast shows s r t → record { steps : TakesLast shows s r t; goes : MakesProgress (λ _. ⊤) (λ xs. at_most (length xs)) s r t }
-  with_last r takes = record { steps = takes; goes = last_progress r takes }
+  last_part : (r : Option A) → TakesLast (λ a. shows (part a)) s r t → TakesLast shows s (option_map part r) t
+  last_part None takes = takes
+  last_part (Some x) takes = takes
+
+  pub with_first : (r : Option A) → TakesFirst (λ a. shows (part a)) s r t → record { steps : TakesFirst shows s (option_map part r) t; goes : MakesProgress (λ _. ⊤) (λ xs. at_most (length xs)) s (option_map part r) t }
+  with_first r takes = record { steps = first_part r takes; goes = first_progress shows s t (option_map part r) (first_part r takes) }
+
+  pub with_last : (r : Option A) → TakesLast (λ a. shows (part a)) s r t → record { steps : TakesLast shows s (option_map part r) t; goes : MakesProgress (λ _. ⊤) (λ xs. at_most (length xs)) s (option_map part r) t }
+  with_last r takes = record { steps = last_part r takes; goes = last_progress shows s t (option_map part r) (last_part r takes) }
 
 module _ {K V : Type 0} (cmp : K → K → Ordering) where
   -- the way back gives what the way on does, in reverse

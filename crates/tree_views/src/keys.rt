@@ -2,6 +2,7 @@
 ghost use Rattle.std.specs.Prelude.{◌≡◌, length, ⊤};
 ghost use Rattle.std.specs.Iterator.{at_most};
 ghost use Rattle.std.specs.Map.Iter.{TakesFirst, TakesLast, deref};
+ghost use Rattle.std.specs.Option.{option_map};
 ghost use Rattle.tree_views.specs.Keys.{GoesThroughAll, keys_left, values_left};
 
 use std::alloc::AllocError;
@@ -65,8 +66,7 @@ impl<'t, K: Ord + Drop + 't, V: Drop + 't, const LEN: usize> Iterator for KeysOf
 
     #[inline(always)]
     fn next(&mut self) -> Option<&'t K> {
-        let (key, _) = self.pairs.next()?;
-        Some(key)
+        key_of(self.pairs.next())
     }
 }
 
@@ -76,8 +76,7 @@ impl<'t, K: Ord + Drop + 't, V: Drop + 't, const LEN: usize> DoubleEndedIterator
 
     #[inline(always)]
     fn next_back(&mut self) -> Option<&'t K> {
-        let (key, _) = self.pairs.next_back()?;
-        Some(key)
+        key_of(self.pairs.next_back())
     }
 }
 
@@ -94,6 +93,15 @@ impl<'t, K: Ord, V, A: Ranged<K, V, L>, L: Walked> Clone for KeysOver<'t, K, V, 
             pairs: self.pairs.clone()?,
         })
     }
+}
+
+// Returns the key of a pair, if there is one.
+#[inline(always)]
+fn key_of<'t, K, V>(pair: Option<(&'t K, &'t V)>) -> Option<&'t K>
+    ensures { result ≡ option_map (λ pair. pair.0) pair.entry }
+{
+    let (key, _) = pair?;
+    Some(key)
 }
 
 /// The values of an index in ascending order of their keys, from both ends.
@@ -150,8 +158,7 @@ impl<'t, K: Ord + Drop + 't, V: Drop + 't, const LEN: usize> Iterator for Values
 
     #[inline(always)]
     fn next(&mut self) -> Option<&'t V> {
-        let (_, value) = self.pairs.next()?;
-        Some(value)
+        value_of(self.pairs.next())
     }
 }
 
@@ -161,8 +168,7 @@ impl<'t, K: Ord + Drop + 't, V: Drop + 't, const LEN: usize> DoubleEndedIterator
 
     #[inline(always)]
     fn next_back(&mut self) -> Option<&'t V> {
-        let (_, value) = self.pairs.next_back()?;
-        Some(value)
+        value_of(self.pairs.next_back())
     }
 }
 
@@ -179,4 +185,13 @@ impl<'t, K: Ord, V, A: Ranged<K, V, L>, L: Walked> Clone for ValuesOver<'t, K, V
             pairs: self.pairs.clone()?,
         })
     }
+}
+
+// Returns the value of a pair, if there is one.
+#[inline(always)]
+fn value_of<'t, K, V>(pair: Option<(&'t K, &'t V)>) -> Option<&'t V>
+    ensures { result ≡ option_map (λ pair. pair.1) pair.entry }
+{
+    let (_, value) = pair?;
+    Some(value)
 }

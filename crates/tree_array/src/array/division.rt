@@ -10,7 +10,7 @@ ghost use Rattle.tree_cells.specs.Order.{names};
 use super::{ArrayOf, order_of};
 use std::mem;
 use tree_cells::cells::Cells;
-use tree_cells::order::{Order, RETIRED, clamp};
+use tree_cells::order::{Order, RETIRED};
 
 impl<K: Ord + Drop, V: Drop, const LEN: usize> ArrayOf<K, V, LEN> {
     /// Returns where to split: how many entries go low, how many there are, and whether all of
@@ -57,7 +57,7 @@ impl<K: Ord + Drop, V: Drop, const LEN: usize> ArrayOf<K, V, LEN> {
         ensures left { self.new ≡ drained self.old }
     {
         let count = self.cells.counts().entries;
-        let cut = clamp(boundary, count);
+        let cut = boundary.min(count);
         move_places(&mut self.cells, self.order, 0, cut, low);
         move_places(&mut self.cells, self.order, cut, count, high);
         self.order = RETIRED;

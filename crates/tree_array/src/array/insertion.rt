@@ -7,7 +7,6 @@ ghost use Rattle.tree_array.specs.Insertion.{IsFull, IsInsert, IsStore};
 ghost use Rattle.tree_cells.specs.Place.{Parts};
 
 use super::{ArrayOf, InsertResult, StoreResult, order_of};
-use tree_cells::order::clamp;
 use tree_cells::search::{Place, find_key_beyond};
 
 impl<K: Ord + Drop, V: Drop, const LEN: usize> ArrayOf<K, V, LEN> {
@@ -64,7 +63,7 @@ impl<K: Ord + Drop, V: Drop, const LEN: usize> ArrayOf<K, V, LEN> {
                 } else {
                     // Read once more, so that the search needn't keep it.
                     let entries = self.cells.counts().entries;
-                    self.let_in(clamp(place, entries), key, val);
+                    self.let_in(place.min(entries), key, val);
                     StoreResult::New
                 }
             }

@@ -1,14 +1,14 @@
 //! Searches of an array by halving: at most 4 comparisons among 15 slots, and 3 among 7.
-ghost use Rattle.std.specs.Prelude.{◌≡◌, ◌↔◌, ◌+◌, ◌≤◌, [], ◌∷◌, ◌++◌, IsTrue, MatchOption, None, Some, slice_get};
+ghost use Rattle.std.specs.Prelude.{◌≡◌, ◌↔◌, ◌+◌, ◌<◌, ◌≤◌, [], ◌∷◌, ◌++◌, IsTrue, MatchOption, None, Some, slice_get};
 ghost use Rattle.tree_array.specs.Arrivals.{arrival, least_from};
 ghost use Rattle.tree_array.specs.Length.{searched};
-ghost use Rattle.tree_array.specs.Spans.{Spans};
+ghost use Rattle.tree_array.specs.Spans.{PartsAt, Spans};
 ghost use Rattle.tree_model.specs.Pairs.{Finds, IsAbsent, pair_at};
 
 use super::{ArrayOf, order_of};
 use tree_cells::judge::{Asks, Judge};
 use tree_cells::order::BEYOND;
-use tree_cells::search::{Place, find};
+use tree_cells::search::{Place, find, find_key};
 
 impl<K: Ord + Drop, V: Drop, const LEN: usize> ArrayOf<K, V, LEN> {
     /// Returns the pair with the judge's key, or `None` if the key is absent. Makes at most 4
@@ -27,7 +27,7 @@ impl<K: Ord + Drop, V: Drop, const LEN: usize> ArrayOf<K, V, LEN> {
     }
 
     /// Returns the value with the judge's key, or `None` if the key is absent. Makes at most 4
-    /// comparisons (3 among 7 slots).
+    /// comparisons (3 among 7 slots). No call of an index needs it.
     pub fn search_val<J: Judge<K>>(&self, judge: &mut J) -> Option<&V>
         ensures found { MatchOption result (IsAbsent K.cmp self.now.entries (J.key judge.old))
             (λ val. (key : K) × (pair_at K.cmp self.now.entries (J.key judge.old) ≡ Some (key, val.now))) }
@@ -64,6 +64,20 @@ impl<K: Ord + Drop, V: Drop, const LEN: usize> ArrayOf<K, V, LEN> {
             × (least_from K.cmp self.now.entries key.now ≡ Some pair)) }
     {
         self.min_greater_equal(&mut &*key)
+    }
+
+    /// Returns how many keys are less than this one, which is the place in key order where it stands
+    /// or belongs, counted from 0. Makes at most 4 comparisons (3 among 7 slots).
+    #[inline(always)]
+    pub fn place_for(&self, key: &K) -> u8
+        ensures parts { PartsAt K.cmp key.now self.now.entries result }
+        ensures few { result < 16 }
+    {
+        let order = order_of(self.order, &self.cells);
+        match find_key(&self.cells, order, key) {
+            Place::At { place, slot: _ } => place,
+            Place::Before { place, slot: _ } => place.min(order.count),
+        }
     }
 
     /// Returns the slot of the entry at this place in key order, counted from 0, or `None` behind

@@ -1,8 +1,9 @@
 //! What the calls of an array answer, on arrays worked out by hand.
 use super::found::{Found, found};
 use crate::arrays::expect::expect_eq;
+use port_calls::dimension::DIMENSION;
 use std::process::Abort;
-use tree_array::array::{Array, ArrayOf, DIMENSION, InsertResult, RemoveResult};
+use tree_array::array::{Array, ArrayOf, InsertResult, RemoveResult};
 
 // The array in which these keys arrived, each with itself as its value.
 pub(crate) fn of(keys: &[u64]) -> Array<u64, u64> {

@@ -1,7 +1,13 @@
-use Rattle.tree_cut.proofs.Common.{rules, ◌-◌, arith, refl, keyed, fits, none_past}
+use Rattle.std.proofs.Common.{◌≡◌, ℕ, ◌<◌, List, length, slice_get, None, inl, inr}
+use Rattle.std.proofs.lemmas.Option.{slice_get_cases}
+use Rattle.tree_cut.proofs.Common.{rules, ◌-◌, arith, refl, keyed, fits}
 use Rattle.tree_cut.proofs.Nodes.{node_at, node_used}
 use Rattle.tree_cut.proofs.OneChild.{child_at}
 use Rattle.tree_cut.proofs.dropping.drop_child.Goals as goal
+
+-- a keyed child is at each place before the last
+none_past : {X : Type 0} (xs : List X) (place : ℕ) → place < length xs → slice_get xs place ≡ None → ⊥
+none_past xs place within none = elim (slice_get_cases xs place).1 [ inl there ↦ cc (there.2, none) | inr past ↦ omega (arith, within, past.0) ]
 
 pub node-node-requires : goal.node-node-requires
 node-node-requires g c = search (rules, node_used g.K.Ord.cmp c.args.level c.args.arenas.now c.args.id c.requires.node c.requires.part.stands)

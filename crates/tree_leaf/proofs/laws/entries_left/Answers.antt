@@ -13,7 +13,7 @@ loop-entry-preserved g c = (
 )
 
 pub loop-entry-smaller : goal.loop-entry-smaller
-loop-entry-smaller g c = count_falls g.S.SlotWalk.way _ _ _ _ _ c.loop-entry.invariant.0.2 c.in-Some.ensures
+loop-entry-smaller g c = count_falls g.D.Direction.way _ _ _ _ _ c.loop-entry.invariant.0.2 c.in-Some.ensures
 
 pub returns : goal.returns
 returns g c = rw append-nil at (c.loop-entry.invariant.1 [] (none_then _ _ _ _ c.in_default.is c.next_or_jump.ensures))

@@ -8,7 +8,7 @@ node-requires g t c = search (rules, node_at g.K.Ord.cmp _ _ _ c.requires.node c
 
 pub loop-leaf-init : goal.loop-leaf-init
 loop-leaf-init g t c =
-    let over = leaf_node_over g.K.Ord.cmp c.args.arenas.now c.args.id c.args.level c.requires.node c.requires.stands g.S.SlotWalk.way c.into_iter-leaf-iterator.result c.in-Leaf.node (rw c.in-Leaf.is at c.node.ensures) (c.into_iter-leaf-iterator.ensures.into_iter_gives ∙ c.new-leaves.ensures) in
+    let over = leaf_node_over g.K.Ord.cmp c.args.arenas.now c.args.id c.args.level c.requires.node c.requires.stands g.D.Direction.way c.into_iter-leaf-iterator.result c.in-Leaf.node (rw c.in-Leaf.is at c.node.ensures) (c.into_iter-leaf-iterator.ensures.into_iter_gives ∙ c.new-leaves.ensures) in
     record { each = over.each; suffices = λ result found. rw over.leaves found }
 
 pub leaf-requires : goal.leaf-requires
@@ -27,7 +27,7 @@ returns-in-None g t c = nowhere _ _ _ _ _ c.loop-leaf.invariant c.in-None.ensure
 
 pub loop-child-init : goal.loop-child-init
 loop-child-init g t c =
-    let over = node_over g.K.Ord.cmp c.args.arenas.now c.args.id c.args.level c.requires.node c.requires.stands g.S.SlotWalk.way c.into_iter-child-iterator.result c.in-Internal.node (rw c.in-Internal.is at c.node.ensures) (c.into_iter-child-iterator.ensures.into_iter_gives ∙ c.new-children.ensures) in
+    let over = node_over g.K.Ord.cmp c.args.arenas.now c.args.id c.args.level c.requires.node c.requires.stands g.D.Direction.way c.into_iter-child-iterator.result c.in-Internal.node (rw c.in-Internal.is at c.node.ensures) (c.into_iter-child-iterator.ensures.into_iter_gives ∙ c.new-children.ensures) in
     record { each = over.each; suffices = λ result found. rw over.leaves found }
 
 pub end_leaf_at-found-requires : goal.end_leaf_at-found-requires

@@ -8,8 +8,8 @@ decreases-end_leaf_at g l = l.level
 
 abbrev pub invariant-loop-leaf : goal.invariant-loop-leaf
 invariant-loop-leaf g l =
-    IsSought l.arenas.leaves (leaves_at 0 l.arenas.nodes) g.S.SlotWalk.way (leaves_at l.level l.arenas.nodes l.fn.id) (ContainsKey l.arenas.leaves) l.leaf-iterator
+    IsSought l.arenas.leaves (leaves_at 0 l.arenas.nodes) g.D.Direction.way (leaves_at l.level l.arenas.nodes l.fn.id) (ContainsKey l.arenas.leaves) l.leaf-iterator
 
 abbrev pub invariant-loop-child : goal.invariant-loop-child
 invariant-loop-child g l =
-    IsSought l.arenas.leaves (leaves_at (l.level - 1) l.arenas.nodes) g.S.SlotWalk.way (leaves_at l.level l.arenas.nodes l.fn.id) (StandsBelow l.level l.arenas g.K.Ord.cmp) l.child-iterator
+    IsSought l.arenas.leaves (leaves_at (l.level - 1) l.arenas.nodes) g.D.Direction.way (leaves_at l.level l.arenas.nodes l.fn.id) (StandsBelow l.level l.arenas g.K.Ord.cmp) l.child-iterator

@@ -10,4 +10,4 @@ new-requires g c =
     (search rules, (search fits, chain))
 
 pub returns : goal.returns
-returns g c = begins_there g.S.SlotWalk.way c.args.level c.args.arenas.now c.args.id c.in_ok-leaf.leaf c.in_ok-leaf.ensures _ c.new.ensures
+returns g c = begins_there g.D.Direction.way c.args.level c.args.arenas.now c.args.id c.in_ok-leaf.leaf c.in_ok-leaf.ensures _ c.new.ensures

@@ -1,13 +1,10 @@
-use Rattle.std.proofs.Common.{◌≡◌, ◌+◌, length}
-use Rattle.tree_set.specs.Merges.{AreAscending, difference}
+use Rattle.std.proofs.Common.{◌+◌, length}
+use Rattle.tree_set.specs.Merges.{IsPassed, difference}
 use Rattle.tree_set.proofs.difference.alone.Given as goal
 
 -- what was passed changes nothing
 abbrev pub invariant-loop-x : goal.invariant-loop-x
-invariant-loop-x g l = record {
-  ascending : AreAscending g.K.Ord.cmp l.first l.second;
-  same : difference g.K.Ord.cmp l.first l.second ≡ difference g.K.Ord.cmp l.initial.first l.initial.second;
-}
+invariant-loop-x g l = IsPassed g.K.Ord.cmp difference l.first l.second l.initial.first l.initial.second
 
 abbrev pub decreases-loop-x : goal.decreases-loop-x
 decreases-loop-x g l = length l.first + length l.second

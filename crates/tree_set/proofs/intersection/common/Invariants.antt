@@ -1,13 +1,10 @@
-use Rattle.std.proofs.Common.{◌≡◌, ◌+◌, length}
-use Rattle.tree_set.specs.Merges.{AreAscending, intersection}
+use Rattle.std.proofs.Common.{◌+◌, length}
+use Rattle.tree_set.specs.Merges.{IsPassed, intersection}
 use Rattle.tree_set.proofs.intersection.common.Given as goal
 
 -- what was passed changes nothing
 abbrev pub invariant-loop-x : goal.invariant-loop-x
-invariant-loop-x g l = record {
-  ascending : AreAscending g.K.Ord.cmp l.first l.second;
-  same : intersection g.K.Ord.cmp l.first l.second ≡ intersection g.K.Ord.cmp l.initial.first l.initial.second;
-}
+invariant-loop-x g l = IsPassed g.K.Ord.cmp intersection l.first l.second l.initial.first l.initial.second
 
 abbrev pub decreases-loop-x : goal.decreases-loop-x
 decreases-loop-x g l = length l.first + length l.second

@@ -26,7 +26,7 @@ invariant_of-self g c =
 pub returns : goal.returns
 returns g c =
     let a = fields refl c.counts-count.ensures.entries refl c.self.invariant c.self.view_is in
-    let cut = c.clamp-cut.result in
+    let cut = c.min-cut.result in
     let first = c.move_places.ensures.moved _ _ _ a.it.table (omega arith) (none_left _ _ _) in
     let second = c.move_places-2.ensures.moved _ _ _ a.it.table (omega arith) first.0 in
     let kept = c.set_entries.ensures in

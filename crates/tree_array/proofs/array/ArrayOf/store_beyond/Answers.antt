@@ -70,7 +70,7 @@ let_in-requires g c =
     let a = fields c.order_of-order.ensures.word c.order_of-order.ensures.count refl c.self.invariant c.self.view_is in
     let room = room_from_not_full g.row.LEN c.args.self.now c.if-is_full-2.ensures.1 in
     let names = length-names c.order_of-order.result.word c.order_of-order.result.count in
-    (search rules, (omega (arith, room.0), (room.1, rw (c.clamp.ensures, c.counts-entries.ensures.entries, ← c.order_of-order.ensures.count, entries_seen a) (parts_before _ c.args.key _ _ _ _ (omega (arith, length-held a.it.table.in_order, names)) names c.in-Before.ensures))))
+    (search rules, (omega (arith, room.0), (room.1, rw (c.min.ensures, c.counts-entries.ensures.entries, ← c.order_of-order.ensures.count, entries_seen a) (parts_before _ c.args.key _ _ _ _ (omega (arith, length-held a.it.table.in_order, names)) names c.in-Before.ensures))))
 
 pub returns-else-is_full-2 : goal.returns-else-is_full-2
 returns-else-is_full-2 g c =

@@ -1,26 +1,10 @@
 use Rattle.tree_node.proofs.Common.{fits}
-use Rattle.std.proofs.Common.{refl, ◌∙◌}
+use Rattle.std.proofs.Common.{refl}
 use Rattle.tree_set.proofs.Merged.{alone_ascends, alone_elements}
 use Rattle.tree_set.proofs.set.TreeSetOf.difference.Goals as goal
 
 pub returns : goal.returns
-returns g c =
-    let first = c.new.ensures.same ∙ c.iter.ensures in
-    let second = c.new-2.ensures.same ∙ c.iter-2.ensures in
-    rw (first, second) (record {
-      alone = refl;
-      elements = λ k. alone_elements g.met.K.Ord.total c.args.self.now c.args.other.now k;
-      ascending = alone_ascends g.met.K.Ord.total c.args.self.now c.args.other.now (rw first at c.new.ensures.ascending);
-    })
+returns g c = rw (c.both_ahead.ensures.first.0, c.both_ahead.ensures.second.0) (record { alone = refl; elements = λ k. alone_elements g.met.K.Ord.total c.args.self.now c.args.other.now k; ascending = alone_ascends g.met.K.Ord.total c.args.self.now c.args.other.now c.both_ahead.ensures.first.1 })
 
-pub iter-requires : goal.iter-requires
-iter-requires g c = search fits
-
-pub new-requires : goal.new-requires
-new-requires g c = search fits
-
-pub iter-requires-2 : goal.iter-requires-2
-iter-requires-2 g c = search fits
-
-pub new-requires-2 : goal.new-requires-2
-new-requires-2 g c = search fits
+pub both_ahead-requires : goal.both_ahead-requires
+both_ahead-requires g c = search fits

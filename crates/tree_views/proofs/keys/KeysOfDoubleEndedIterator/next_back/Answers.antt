@@ -5,11 +5,5 @@ use Rattle.tree_views.proofs.keys.KeysOfDoubleEndedIterator.next_back.Goals as g
 pub invariant_of-self : goal.invariant_of-self
 invariant_of-self g c = (goes_back g.met.K.Ord.total (λ pair. pair.0) _ _ c.self.invariant _ c.next_back.ensures.steps).0
 
-pub invariant_of-self-2 : goal.invariant_of-self-2
-invariant_of-self-2 g c = (goes_back g.met.K.Ord.total (λ pair. pair.0) _ _ c.self.invariant _ c.next_back.ensures.steps).0
-
-pub returns-in_err-key : goal.returns-in_err-key
-returns-in_err-key g c = rw (c.from_residual.ensures, ← c.self.view_is) (with_last deref _ _ _ (goes_back g.met.K.Ord.total (λ pair. pair.0) _ _ c.self.invariant _ c.in_err-key.ensures.steps).1)
-
 pub returns : goal.returns
-returns g c = rw (← c.self.view_is) (with_last deref _ _ _ (goes_back g.met.K.Ord.total (λ pair. pair.0) _ _ c.self.invariant _ c.in_ok-key.ensures.steps).1)
+returns g c = rw (c.key_of.ensures, ← c.self.view_is) (with_last (λ pair. pair.0) deref _ _ _ (goes_back g.met.K.Ord.total (λ pair. pair.0) _ _ c.self.invariant _ c.next_back.ensures.steps).1)

@@ -16,7 +16,7 @@ past-requires g c =
 pub returns-clause-left : goal.returns-clause-left
 returns-clause-left g c =
     let a = fields refl c.counts.ensures.entries refl c.array.invariant c.array.view_is in
-    rw c.rev.ensures (elim c.if-places-counts.branch [
+    elim c.if-places-counts.branch [
       | then-places-counts w ↦ omega (arith, count_seen a, w.if-places-counts.true, left_behind (length c.args.array.now.entries) c.args.places c.past.result.at (c.past.ensures.passed ∙ w.passed-is))
       | else-places-counts w ↦ omega (arith, count_seen a, w.if-places-counts.false, all_behind (length c.args.array.now.entries) c.past.result.at (c.past.ensures.passed ∙ w.passed-is))
-    ])
+    ]
