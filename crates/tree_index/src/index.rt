@@ -114,10 +114,8 @@ impl<K: IndexKey, V: Drop, const LEN: usize> TreeIndexOf<K, V, LEN> {
         ensures spare { SpendsInsert LEN self.old self.new result }
         ensures packed { IfOk result (λ _. StaysPacked K.cmp self.old self.new key) }
     {
-        match self.store::<false>(key, value) {
-            Ok(_) => Ok(()),
-            Err(error) => Err(error),
-        }
+        self.store::<false>(key, value)?;
+        Ok(())
     }
 
     /// Stores a pair. A pair with an equal key is replaced, key and value.

@@ -183,25 +183,23 @@ fn insert_from<const UPSERT: bool, K: IndexKey, V: Drop, const LEN: usize>(
                 return Ok(StoreResult::Full(key, val));
             };
             let child = place.child;
-            match insert_from::<UPSERT, K, V, LEN>(
+            let answer = insert_from::<UPSERT, K, V, LEN>(
                 arenas,
                 level - 1,
                 child,
                 rightmost & place.slot.is_none(),
                 key,
                 val,
-            ) {
-                Err(pair) => Err(pair),
-                Ok(answer) => match answer {
-                    StoreResult::Full(key, val) => match split_child(arenas, id, child) {
-                        Err(_) => Err((key, val)),
-                        Ok(false) => Ok(StoreResult::Full(key, val)),
-                        Ok(true) => insert_from::<UPSERT, K, V, LEN>(
-                            arenas, level, id, rightmost, key, val,
-                        ),
-                    },
-                    answer => Ok(answer),
-                },
+            )?;
+            let StoreResult::Full(key, val) = answer else {
+                return Ok(answer);
+            };
+            match split_child(arenas, id, child) {
+                Err(_) => Err((key, val)),
+                Ok(false) => Ok(StoreResult::Full(key, val)),
+                Ok(true) => {
+                    insert_from::<UPSERT, K, V, LEN>(arenas, level, id, rightmost, key, val)
+                }
             }
         }
         NodeOf::Leaf(node) => {

@@ -1,3 +1,4 @@
+use Rattle.tree_model.proofs.Common.{err_from_is_err_and}
 use Rattle.tree_insert.proofs.Common.{Bool, Full, HasChildFor, InsertsUnder, Internal, IsPart, IsTotalOrder, NodeOf, None, Ok, Ordering, Result, Some, StoreResult, TreeArenas, arith, below_part}
 use Rattle.tree_insert.proofs.Common.{child_inside, child_of, fits, get, inl, inner_level, keyed, node_used, outer_level, refl, rules, some_child, unbounded, ℕ, ◌-◌, ◌<◌, ◌≡◌}
 use Rattle.tree_node.specs.declared.branch.BranchOf.{BranchOf}
@@ -41,47 +42,48 @@ insert_from-requires g t c κs within =
 pub split_child-requires : goal.split_child-requires
 split_child-requires g t c =
     let met = is_full c.requires.node c.requires.part c.args.key g.met.K.Ord.total (rw c.in-Internal.is at c.node.ensures)
-    (rw c.in-Some.is at c.child_place.ensures.child) c.insert_from.ensures c.in-Ok.is c.in-Full.is in
+    (rw c.in-Some.is at c.child_place.ensures.child) c.insert_from.ensures c.in_ok-answer-in-Internal.was c.in-Full.is in
     let inside = child_inside g.met.K.Ord.total c.args.level c.requires.node _ _ _ c.in-Full.key met.1.part (which_still met.1) in
     (search rules, (search rules, ((c.args.level, met.0, met.1.part), inside)))
 
 pub insert_from-requires-in-Ok-true : goal.insert_from-requires-in-Ok-true
 insert_from-requires-in-Ok-true g t c κs within =
     let met = is_full c.requires.node c.requires.part c.args.key g.met.K.Ord.total (rw c.in-Internal.is at c.node.ensures)
-    (rw c.in-Some.is at c.child_place.ensures.child) c.insert_from.ensures c.in-Ok.is c.in-Full.is in
+    (rw c.in-Some.is at c.child_place.ensures.child) c.insert_from.ensures c.in_ok-answer-in-Internal.was c.in-Full.is in
     let made = room_by_split met.1 c.requires.node (rw c.in-Ok-true.field-0-test at (c.in-Ok-true.ensures.done c.args.level met.0 met.1.part)) in
     let less = last_attempt met.1 c.requires.node made in
     let part = part_with_room met.1 c.requires.node made in
     (omega (arith, less), (search rules, (within.0, (within.1, (search rules, (search (rules, c.requires-raw), (search (fits, c.requires-raw), (c.requires.node, part))))))))
 
+pub returns-in_err-answer-in-Internal : goal.returns-in_err-answer-in-Internal
+returns-in_err-answer-in-Internal g t c =
+    let which = goes c.requires.node c.requires.part c.args.key (rw c.in-Internal.is at c.node.ensures) (rw c.in-Some.is at c.child_place.ensures.child) in
+    let failed = err_from_is_err_and c.from_residual.result c.from_residual.ensures.1 in
+    rw (failed.1, failed.2) (inserts_in_node g.met.K.Ord.total c.args.level c.requires.node _ c.requires.part which (rw c.in_err-answer-in-Internal.was at c.insert_from.ensures) refl)
+
 pub returns-in-Err : goal.returns-in-Err
 returns-in-Err g t c =
-    let which = goes c.requires.node c.requires.part c.args.key (rw c.in-Internal.is at c.node.ensures) (rw c.in-Some.is at c.child_place.ensures.child) in
-    inserts_in_node g.met.K.Ord.total c.args.level c.requires.node _ c.requires.part which (rw c.in-Err.is at c.insert_from.ensures) refl
-
-pub returns-in-Err-split_child : goal.returns-in-Err-split_child
-returns-in-Err-split_child g t c =
     let met = is_full c.requires.node c.requires.part c.args.key g.met.K.Ord.total (rw c.in-Internal.is at c.node.ensures)
-    (rw c.in-Some.is at c.child_place.ensures.child) c.insert_from.ensures c.in-Ok.is c.in-Full.is in
-    refused_room met.1 c.requires.node c.in-Err-split_child.ensures.err (rw (held_above _ _ c.args.level met.0) c.in-Err-split_child.ensures.many)
+    (rw c.in-Some.is at c.child_place.ensures.child) c.insert_from.ensures c.in_ok-answer-in-Internal.was c.in-Full.is in
+    refused_room met.1 c.requires.node c.in-Err.ensures.err (rw (held_above _ _ c.args.level met.0) c.in-Err.ensures.many)
 
 pub returns-in-Ok-true : goal.returns-in-Ok-true
 returns-in-Ok-true g t c =
     let met = is_full c.requires.node c.requires.part c.args.key g.met.K.Ord.total (rw c.in-Internal.is at c.node.ensures)
-    (rw c.in-Some.is at c.child_place.ensures.child) c.insert_from.ensures c.in-Ok.is c.in-Full.is in
+    (rw c.in-Some.is at c.child_place.ensures.child) c.insert_from.ensures c.in_ok-answer-in-Internal.was c.in-Full.is in
     let made = room_by_split met.1 c.requires.node (rw c.in-Ok-true.field-0-test at (c.in-Ok-true.ensures.done c.args.level met.0 met.1.part)) in
     retried met.1 c.requires.node made _ c.insert_from-in-Ok-true.ensures
 
 pub returns-in-Ok-false : goal.returns-in-Ok-false
 returns-in-Ok-false g t c =
     let met = is_full c.requires.node c.requires.part c.args.key g.met.K.Ord.total (rw c.in-Internal.is at c.node.ensures)
-    (rw c.in-Some.is at c.child_place.ensures.child) c.insert_from.ensures c.in-Ok.is c.in-Full.is in
+    (rw c.in-Some.is at c.child_place.ensures.child) c.insert_from.ensures c.in_ok-answer-in-Internal.was c.in-Full.is in
     no_room_either met.1 c.requires.node (rw c.in-Ok-false.field-0-test at (c.in-Ok-false.ensures.done c.args.level met.0 met.1.part))
 
 pub returns-in_default-answer : goal.returns-in_default-answer
 returns-in_default-answer g t c =
     let which = goes c.requires.node c.requires.part c.args.key (rw c.in-Internal.is at c.node.ensures) (rw c.in-Some.is at c.child_place.ensures.child) in
-    inserts_in_node g.met.K.Ord.total c.args.level c.requires.node _ c.requires.part which (rw c.in-Ok.is at c.insert_from.ensures)
+    inserts_in_node g.met.K.Ord.total c.args.level c.requires.node _ c.requires.part which (rw c.in_ok-answer-in-Internal.was at c.insert_from.ensures)
     (no_split _ c.in_default-answer.not-Full)
 
 pub returns-in_default-child_place : goal.returns-in_default-child_place
