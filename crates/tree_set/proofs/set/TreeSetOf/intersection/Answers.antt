@@ -4,7 +4,7 @@ use Rattle.tree_set.proofs.Merged.{common_ascends, common_elements}
 use Rattle.tree_set.proofs.set.TreeSetOf.intersection.Goals as goal
 
 pub returns : goal.returns
-returns g c = rw (c.both_ahead.ensures.first.0, c.both_ahead.ensures.second.0) (record { common = refl; elements = λ k. common_elements g.met.K.Ord.total c.args.self.now c.args.other.now k; ascending = common_ascends g.met.K.Ord.total c.args.self.now c.args.other.now c.both_ahead.ensures.first.1 })
+returns g c = rw (c.both_ahead-first.ensures.first.0, c.both_ahead-first.ensures.second.0) (record { common = refl; elements = λ k. common_elements g.met.K.Ord.total c.args.self.now c.args.other.now k; ascending = common_ascends g.met.K.Ord.total c.args.self.now c.args.other.now c.both_ahead-first.ensures.first.1 })
 
-pub both_ahead-requires : goal.both_ahead-requires
-both_ahead-requires g c = search fits
+pub both_ahead-first-requires : goal.both_ahead-first-requires
+both_ahead-first-requires g c = search fits
