@@ -1,9 +1,9 @@
 //! Eight threads that store numbers of their own in one shared index.
-ghost use Rattle.std.specs.Prelude.{◌≡◌, ◌*◌, ◌<◌, ◌≤◌, [], All, IfOk, OnOk, length, vec_len};
+ghost use Rattle.std.specs.Prelude.{◌≡◌, ◌<◌, ◌≤◌, [], All, IfOk, OnOk, length, vec_len};
 ghost use Rattle.std.specs.Ordering.{nat_cmp};
 ghost use Rattle.tree_model.specs.History.{IsHistoryOf};
 ghost use Rattle.tree_state.specs.Ledgers.{IsBlankFor};
-ghost use Rattle.tree_state.specs.Tallies.{none, tally, tally_of};
+ghost use Rattle.tree_state.specs.Tallies.{none, tally};
 ghost use Rattle.usage_threads.specs.Inserts.{IsOfInserts};
 
 use crate::trouble::Trouble;
