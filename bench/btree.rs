@@ -1,5 +1,6 @@
 //! The workloads of `bench/treebench` over `std::collections::BTreeMap`: the same keys, the same arguments, the same
-//! lines of output. With `shared` first, those of `bench/sharebench`.
+//! lines of output. With `shared` first, those of `bench/sharebench`; with `reads`, those of `bench/readbench`.
+mod reads;
 mod shared;
 
 use shared::Load;
@@ -420,8 +421,15 @@ fn main() {
                 return shared::show_time(load);
             }
         }
+        [first, kind, keys, calls] if first == "reads" => {
+            if let (Some(keys), Some(calls)) = (number(keys), number(calls)) {
+                if reads::show_rates(kind, keys as u64, calls as u64) {
+                    return;
+                }
+            }
+        }
         _ => {}
     }
-    eprintln!("usage: btree [[WORKLOAD] KEYS REPEATS | memory KEYS | shared | shared KEYS THREADS CALLS]");
+    eprintln!("usage: btree [[WORKLOAD] KEYS REPEATS | memory KEYS | shared | shared KEYS THREADS CALLS | reads KIND KEYS CALLS]");
     exit(1);
 }

@@ -128,18 +128,18 @@ impl Load {
     }
 }
 
-struct Numbers {
+pub struct Numbers {
     last: u64,
 }
 
 impl Numbers {
-    fn new(thread: u64) -> Self {
+    pub fn new(thread: u64) -> Self {
         Numbers {
             last: (thread + 1).wrapping_mul(0x9e37_79b9_7f4a_7c15) | 1,
         }
     }
 
-    fn draw(&mut self) -> u64 {
+    pub fn draw(&mut self) -> u64 {
         self.last ^= self.last << 13;
         self.last ^= self.last >> 7;
         self.last ^= self.last << 17;

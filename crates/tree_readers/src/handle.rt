@@ -1,5 +1,5 @@
 //! A handle to an index, and the guard by which it lends the index.
-ghost use Rattle.std.specs.Prelude.{◌≡◌, [], ◌∷◌, None, Some, IfErr, IfOk, IfSome, IsErrOf, IsSome};
+ghost use Rattle.std.specs.Prelude.{◌≡◌, [], ◌∷◌, None, Some, IfErr, IfOk, IfSome, IsErrOf};
 ghost use Rattle.std.specs.Borrow.{sem, RestsIfErr};
 ghost use Rattle.tree_model.specs.History.{IsSamePairs};
 ghost use Rattle.tree_readers.specs.Fronts.{after};
@@ -60,16 +60,22 @@ pub trait Enter: Drop {
     // What it sees, by what it knows.
     ghost sees: { Self → Self.Inside → Type 0 };
 
+    // That it was refused.
+    ghost refuses: { Self → Type 0 };
+
     /// Enters the index. Returns `Err` with the reader if the writer was closed or dropped.
     fn enter_to(self) -> Result<Self::Inside, Self>
         ensures ok { IfOk result (λ inside. sees self inside) }
-        ensures err { IfErr result (λ reader. reader ≡ self) };
+        ensures err { IfErr result (λ reader. (reader ≡ self) × refuses self) };
 }
 
 impl<K: IndexKey + SameClone, V: SameClone, const LEN: usize> Enter for ReaderOf<K, V, LEN> {
     type Inside = ReadingOf<K, V, LEN>;
 
     ghost sees = { λ reader reading. BeginsWithAll reading.commands reader };
+
+    // No clause of the library says when a reader is refused.
+    ghost refuses = { λ reader. Unit {0} };
 
     fn enter_to(self) -> Result<ReadingOf<K, V, LEN>, Self> {
         self.enter()
@@ -121,7 +127,8 @@ impl<H: Enter> HandleOver<H> {
         ensures same_reference { IfOk result (λ guard. guard.home.ghost_name ≡ self.entry.ghost_name) }
         ensures front { IfOk result (λ guard. IfSome self.old.reader (λ reader. H.sees reader guard.reading)) }
         ensures forgotten { self.old.reader ≡ None → IsErrOf result EnterError.Forgotten }
-        ensures closed { IsSome self.old.reader → IfErr result (λ error. error ≡ EnterError.Closed) }
+        ensures closed { IfSome self.old.reader
+            (λ reader. IfErr result (λ error. (error ≡ EnterError.Closed) × H.refuses reader)) }
     {
         let Some(reader) = self.reader.take() else {
             return Err(EnterError::Forgotten);

@@ -101,12 +101,12 @@ impl<K: IndexKey + SameClone, V: SameClone, R: Wait + Drop, const LEN: usize> Wr
     /// for pairs.
     ///
     /// ```
-    /// let writer: Writer<u64, u64, &HostRuntime> = Writer::new(rt.alloc(), &rt, 4)?;
+    /// let writer: Writer<u64, u64, &R> = Writer::new(rt.alloc(), rt, 4)?;
     /// ```
     pub fn new(alloc: Global, rt: R, readers: usize) -> Result<Self, AllocError>
         requires len { IsLen LEN }
         requires readers { (0 < readers) × (readers < 2 ^ 32) }
-        ensures { IfOk result (λ w. (w.published ≡ []) × (w.pending ≡ [])) }
+        ensures { IfOk result (λ w. (w.published ≡ []) × (w.pending ≡ []) × (w.shows ≡ 0)) }
     {
         let first = CopyOf::new(alloc);
         let second = CopyOf::new(alloc);

@@ -1,1 +1,3 @@
 pub mod Growth
+pub mod Inserted
+pub mod Shown

@@ -8,7 +8,7 @@ ghost use Rattle.tree_model.specs.declared.commands.Command.{Command};
 ghost use Rattle.tree_model.specs.declared.commands.Command.TheVariants.{Upsert};
 ghost use Rattle.tree_readers.specs.Fronts.{after};
 ghost use Rattle.tree_readers.specs.Knowns.{BeginsWithAll};
-ghost use Rattle.usage_readers.specs.Receipts.{IsReceipt};
+ghost use Rattle.usage_threads.specs.Receipts.{IsReceipt};
 
 use crate::trouble::Trouble;
 use std::sync::{Mutex, Wait};

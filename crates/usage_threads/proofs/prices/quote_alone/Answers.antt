@@ -1,6 +1,6 @@
 use Rattle.std.proofs.Common.{◌++◌}
-use Rattle.usage_readers.proofs.Shown.{shown_last}
-use Rattle.usage_readers.proofs.prices.quote_alone.Goals as goal
+use Rattle.usage_threads.proofs.Shown.{shown_last}
+use Rattle.usage_threads.proofs.prices.quote_alone.Goals as goal
 
 -- the list that ends with the price is what the reader was told
 pub returns : goal.returns
