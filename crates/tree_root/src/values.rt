@@ -32,7 +32,7 @@ impl<K: IndexKey, V: Drop, const LEN: usize> Tree<K, V, LEN> {
         }
     }
 
-    /// Passes the value at a key to a function, and stores what it returns in its stead. Returns
+    /// Passes the value at a key to a function, and stores what it returns in its place. Returns
     /// whether the key is there, and calls the function only then. Costs what
     /// [`replace_value`](Tree::replace_value) does, and the call.
     pub fn change_value<F: FnOnce(V) -> V + Drop>(&mut self, key: &K, change: F) -> bool
