@@ -11,7 +11,7 @@ use crate::leaf::LeafOf;
 use std::alloc::{AllocError, Global};
 use tree_model::Direction;
 
-/// Returns the next entry of an iterator, in its leaf or behind a jump: the first that is left on
+/// Returns the next entry of an iterator, in its leaf or after a jump: the first that is left on
 /// its way. Returns `None` if none is left.
 #[inline(always)]
 pub fn next_or_jump<'t, K: Ord + Drop, V: Drop, D: Direction, const LEN: usize>(
@@ -26,7 +26,7 @@ pub fn next_or_jump<'t, K: Ord + Drop, V: Drop, D: Direction, const LEN: usize>(
 }
 
 /// Returns all entries that are left of an iterator, in the order of its way. Returns `Err` if it
-/// cannot allocate the list. The caller must have an iterator that stands in a leaf of a chain.
+/// cannot allocate the list. The caller must pass an iterator in a leaf of a chain.
 pub fn entries_left<'t, K: Ord + Drop, V: Drop, D: Direction, const LEN: usize>(
     alloc: Global,
     mut walk: LinkedIter<'t, LeafOf<K, V, LEN>, D>,
