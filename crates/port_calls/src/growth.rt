@@ -14,21 +14,20 @@ use tree_leaf::leaf::LeafOf;
 use tree_node::branch::LeafNodeOf;
 use tree_node::node::{ArenasOf, NodeOf};
 
-/// Makes room at a root, and returns the number of the root that stands then: the next insert under
-/// it finds room.
+/// Makes room at a root, and returns the number of the root afterwards: the next insert under it
+/// finds room.
 ///
 /// A retired root keeps its number and becomes a leaf node, at level 1, over a new, empty leaf. Any
-/// other root comes under a new one, a level higher, and is split there, or rebuilt if it has
-/// few keyed children.
+/// other root is put under a new one, a level higher, and is split there, or rebuilt if it has few
+/// keyed children.
 ///
-/// Returns `Err` if memory is refused; nothing has changed then. Allocates one leaf for a retired
-/// root and two nodes at most for any other, and isn't refused where these were reserved.
+/// Returns `Err` if it cannot allocate; nothing has changed then. Allocates one leaf for a retired
+/// root and two nodes at most for any other, and doesn't fail if these were reserved.
 ///
 /// Makes no comparisons: a retired root has no key, and the separator that a split gives to the new
 /// root is the first in its array.
 ///
-/// The caller must see that a well-formed tree of this depth stands under the root, or that the
-/// root is retired.
+/// The caller must name the root of a well-formed tree of this depth, or a retired root.
 pub fn grow_root_at<K: Ord + Drop, V: Drop, const LEN: usize>(
     arenas: &mut ArenasOf<K, V, LEN>,
     depth: usize,
@@ -53,8 +52,8 @@ pub fn grow_root_at<K: Ord + Drop, V: Drop, const LEN: usize>(
     }
 }
 
-// Puts a leaf node over a new, empty leaf in place of a retired node. Returns `Err` if memory is
-// refused; nothing has changed then.
+// Puts a leaf node over a new, empty leaf in place of a retired node. Returns `Err` if it cannot
+// allocate; nothing has changed then.
 fn replant<K: Ord + Drop, V: Drop, const LEN: usize>(
     arenas: &mut ArenasOf<K, V, LEN>,
     root: NodeId,

@@ -23,12 +23,12 @@ pub trait InternalNodeCalls<K: Ord + Drop, const LEN: usize> {
     /// 3. The child's lower children go to a new node of its kind, which becomes a keyed child
     ///    before it. The separator comes from the child, so that no key is cloned.
     ///
-    /// Returns `Err` if memory is refused, and then nothing changed; never if a place for one more
+    /// Returns `Err` if it cannot allocate, and then nothing changed; never if a place for one more
     /// node was reserved. Makes no comparisons but those of the insert into the parent. Allocates
     /// at most one node. No leaf changes.
     ///
-    /// The caller must give the number of an internal node under which a well-formed part of a tree
-    /// stands, and a child of it.
+    /// The caller must give the number of an internal node which has a well-formed part of a tree
+    /// under it, and a child of it.
     final fn split_node<V: Drop>(
         arenas: &mut ArenasOf<K, V, LEN>,
         parent: NodeId,

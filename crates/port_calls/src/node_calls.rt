@@ -40,11 +40,11 @@ use tree_remove::removal::remove_at;
 /// The calls on the number of a node, as
 /// `LeafNode::insert::<false, u64>(&mut arenas, id, key, val)`.
 ///
-/// The caller must give the number of a node of this type, under which a well-formed part of a tree
-/// stands or which is retired. The ghost parameter `level` is the level of that part. Each call but
+/// The caller must give the number of a node of this type, which has a well-formed part of a tree
+/// under it or is retired. The ghost parameter `level` is the level of that part. Each call but
 /// `is_retired` and `cleanup_needed` first reads one node per level, to find the level.
 pub trait NodeCalls<K: Ord + Drop, const LEN: usize> {
-    // At which levels nodes of this type stand.
+    // At which levels nodes of this type are.
     ghost StandsAt: { ℕ → Type 0 };
 
     // All of them above the leaves.
@@ -90,8 +90,8 @@ pub trait NodeCalls<K: Ord + Drop, const LEN: usize> {
         Some(val)
     }
 
-    /// Returns a walk in key order that stands before the least entry under the node, so that its
-    /// `next` answers that entry. Returns `None` if no entry is there. Makes no comparisons, and
+    /// Returns a walk in key order that is before the least entry under the node, so that its
+    /// `next` returns that entry. Returns `None` if no entry is there. Makes no comparisons, and
     /// allocates nothing.
     ///
     /// The leaves under the node must be in one chain.
@@ -109,7 +109,7 @@ pub trait NodeCalls<K: Ord + Drop, const LEN: usize> {
         walk_from_end::<K, V, Forward, LEN>(arenas, level, id)
     }
 
-    /// Returns a walk against key order that stands before the greatest entry under the node: the
+    /// Returns a walk against key order that is before the greatest entry under the node: the
     /// mirror of [`min`](NodeCalls::min).
     final fn max<'a, V: Drop>(
         arenas: &'a ArenasOf<K, V, LEN>,
@@ -169,8 +169,8 @@ pub trait NodeCalls<K: Ord + Drop, const LEN: usize> {
     }
 
     /// Returns whether the node is an internal node without keyed children, so that its unbounded
-    /// child, if there is one, may stand in its place. False for a leaf node. Runs in constant
-    /// time.
+    /// child, if there is one, may take its place. Returns `false` for a leaf node. Runs in
+    /// constant time.
     final fn cleanup_needed<V: Drop>(arenas: &ArenasOf<K, V, LEN>, id: NodeId) -> bool
         ghost level: { ℕ }
         requires kind { StandsAt level }
@@ -187,8 +187,8 @@ pub trait NodeCalls<K: Ord + Drop, const LEN: usize> {
     ///
     /// Returns `Duplicate` if `UPSERT` is false and an equal key is there, and `Full` if the node
     /// is retired or if a child has to be split and the node has no room for one more, so that its
-    /// parent must make room in it. Neither changes anything. Returns `Err` if memory is refused;
-    /// the entries are then what they were. Each of them hands the pair back.
+    /// parent must make room in it. Neither changes anything. Returns `Err` if it cannot allocate;
+    /// the entries are then what they were. Each of them returns the pair.
     ///
     /// Makes at most 4 comparisons per level and in the leaf (3 among 7 slots); if an array on the
     /// path is full, the descent restarts at its level. Allocates one leaf or node for each one
@@ -214,13 +214,13 @@ pub trait NodeCalls<K: Ord + Drop, const LEN: usize> {
         Ok(answer.into_insert())
     }
 
-    /// Removes the pair with a key if the condition says so of its value. Calls the condition once
-    /// if the key is there, else never.
+    /// Removes the pair with a key if the condition returns `true` for its value. Calls the
+    /// condition once if the key is present, else never.
     ///
-    /// Returns `Fail` if the key is absent or the condition said no, and then nothing changed;
-    /// `Retired` if the node has no child left; else `Success`. A child that lost its last pair is
-    /// dropped, except for the unbounded leaf of a leaf node that has keyed ones. Makes at most
-    /// `LEN * (level + 1)` comparisons, and allocates nothing.
+    /// Returns `Fail` if the key is absent or the condition returned `false`, and then nothing
+    /// changed; `Retired` if the node has no child left; else `Success`. A child that lost its last
+    /// pair is dropped, except for the unbounded leaf of a leaf node that has keyed ones. Makes at
+    /// most `LEN * (level + 1)` comparisons, and allocates nothing.
     ///
     /// The condition must accept the value at the key.
     final fn remove_if<V: Drop, F: FnOnce(&V) -> bool + Drop>(

@@ -24,11 +24,11 @@ pub trait RootCalls<K: Ord + Drop, const LEN: usize> {
     /// and splits it there. A retired root keeps its number and becomes a leaf node over one empty
     /// leaf.
     ///
-    /// Returns `Err` if memory is refused, and then nothing changed; never if places for two nodes
+    /// Returns `Err` if it cannot allocate, and then nothing changed; never if places for two nodes
     /// were reserved, or, under a retired root, a place for a leaf. Allocates at most two nodes, or
     /// one leaf.
     ///
-    /// The caller must give the number of a root under which a well-formed tree stands or which is
+    /// The caller must give the number of a root that has a well-formed tree under it or is
     /// retired.
     final fn split_root<V: Drop>(
         arenas: &mut ArenasOf<K, V, LEN>,
@@ -53,7 +53,7 @@ pub trait RootCalls<K: Ord + Drop, const LEN: usize> {
     /// its unbounded child, again and again, and `None` is left of a retired internal root. A leaf
     /// node stays the root, retired or not. Makes no comparisons, and allocates nothing.
     ///
-    /// The caller must give the number of a root under which a well-formed tree stands or which is
+    /// The caller must give the number of a root that has a well-formed tree under it or is
     /// retired.
     final fn cleanup_root<V: Drop>(arenas: &mut ArenasOf<K, V, LEN>, root: NodeId) -> Option<NodeId>
         ghost level: { ℕ }
@@ -71,8 +71,7 @@ pub trait RootCalls<K: Ord + Drop, const LEN: usize> {
 
 impl<K: Ord + Drop, const LEN: usize> RootCalls<K, LEN> for NodeOf<K, LEN> {}
 
-// Returns the level of a root, and 2 for a retired internal node, which doesn't tell at which
-// level it stood.
+// Returns the level of a root, and 2 for a retired internal node, whose level is no longer known.
 fn level_of_root<K: Ord + Drop, V: Drop, const LEN: usize>(
     arenas: &ArenasOf<K, V, LEN>,
     root: NodeId,

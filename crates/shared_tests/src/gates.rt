@@ -113,7 +113,7 @@ impl<R: Clock> Gate for Meeting<R> {
     }
 }
 
-// Whether a small request for memory is refused.
+// Whether a small allocation fails.
 fn is_out_of_memory(alloc: Global) -> bool {
     Vec::<u8>::with_capacity(alloc, 1).is_err()
 }

@@ -1,33 +1,33 @@
-//! What the calls of an array answer.
+//! What the calls of an array return.
 ghost use Rattle.std.specs.Prelude.{◌≡◌};
 ghost use Rattle.tree_array.specs.Insertion.{as_insert};
 
-/// What an insert answers.
+/// The result of an insert.
 #[derive(Clone, Copy, Debug, PartialEq, Eq, Drop)]
 pub enum InsertResult<K, V> {
     /// The pair was stored.
     Success,
-    /// An equal key is there, and nothing changed. The pair comes back.
+    /// An equal key is there, and nothing changed. The pair is returned.
     Duplicate(K, V),
-    /// There is no room, and nothing changed. The pair comes back.
+    /// There is no room, and nothing changed. The pair is returned.
     Full(K, V),
 }
 
-/// What a store answers: an [`InsertResult`] that tells a new key from one that was there.
+/// The result of a store: an [`InsertResult`] that distinguishes a new key from one that was there.
 #[derive(Clone, Copy, Debug, PartialEq, Eq, Drop)]
 pub enum StoreResult<K, V> {
     /// The pair was stored, and its key is new.
     New,
     /// The pair was stored in place of one with an equal key.
     Replaced,
-    /// An equal key is there, and nothing changed. The pair comes back.
+    /// An equal key is there, and nothing changed. The pair is returned.
     Duplicate(K, V),
-    /// There is no room, and nothing changed. The pair comes back.
+    /// There is no room, and nothing changed. The pair is returned.
     Full(K, V),
 }
 
 impl<K, V> StoreResult<K, V> {
-    /// Returns the answer without what was there before.
+    /// Returns the result without what was there before.
     pub fn into_insert(self) -> InsertResult<K, V>
         ensures { result ≡ as_insert self }
     {
@@ -39,7 +39,7 @@ impl<K, V> StoreResult<K, V> {
     }
 }
 
-/// What a removal answers.
+/// The result of a removal.
 #[derive(Clone, Copy, Debug, PartialEq, Eq)]
 pub enum RemoveResult {
     /// The key was removed, and others are left.

@@ -29,8 +29,8 @@ pub use walk::{ArrayIter, ArrayRevIter, ArrayWalk};
 ///
 /// A pair that is stored takes the next slot. A pair that is removed or replaced is dropped, and
 /// its slot stays spent. An array whose last pair was removed is retired, and takes no more until
-/// it is rebuilt. Keys stand apart from values, and one word keeps the order of the keys. No call
-/// allocates.
+/// it is rebuilt. Keys are stored separately from values, and one word keeps the order of the keys.
+/// No call allocates.
 pub struct ArrayOf<K: Ord, V, const LEN: usize> {
     order: u64,
     cells: Cells<K, V, LEN>,
@@ -83,7 +83,8 @@ impl<K: Ord + Drop, V: Drop, const LEN: usize> ArrayOf<K, V, LEN> {
         }
     }
 
-    /// Returns how many slots were never used. Its contract also says what every array keeps.
+    /// Returns how many slots were never used. Its contract also states the invariants of every
+    /// array.
     pub fn free(&self) -> u8
         ensures free { result ≡ free LEN self.now }
         ensures sound { IsSound K.cmp LEN self.now }

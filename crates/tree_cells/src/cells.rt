@@ -1,5 +1,5 @@
-//! The cells of an array, keys apart from values. No byte says which cells hold a pair: the order
-//! of the array does.
+//! The cells of an array, keys separate from values. No byte records which cells hold a pair: the
+//! order of the array does.
 ghost use Rattle.std.specs.Prelude.{◌≡◌, ◌≢◌, ℕ, ◌+◌, ◌-◌, ◌<◌, ◌≤◌, None, Some, IsSome, length, slice_set};
 ghost use Rattle.tree_cells.specs.Arrivals.{arrival};
 ghost use Rattle.tree_cells.specs.Cells.{bare};
@@ -22,8 +22,8 @@ pub struct Counts {
 
 // The rows of keys and of values.
 //
-// The counts stand between them: they are read before a search, so that the memory in the middle
-// of a leaf is asked for at the same time as its head.
+// The counts are between them: they are read before a search, so that the memory in the middle of a
+// leaf is fetched at the same time as its head.
 struct Rows<K, V, const LEN: usize> {
     keys: Row<K, LEN>,
     counts: Counts,
@@ -83,7 +83,7 @@ impl<K, V, const LEN: usize> Cells<K, V, LEN> {
         }
     }
 
-    /// Returns the key of a cell. The caller must know that it holds a pair.
+    /// Returns the key of a cell. The caller must name a cell that holds a pair.
     #[inline]
     pub fn key(&self, cell: u8) -> &K
         requires { IsSome (arrival self.now.pairs cell) }
@@ -95,7 +95,7 @@ impl<K, V, const LEN: usize> Cells<K, V, LEN> {
         }
     }
 
-    /// Returns the pair of a cell. The caller must know that it holds one.
+    /// Returns the pair of a cell. The caller must name a cell that holds one.
     #[inline]
     pub fn pair(&self, cell: u8) -> (&K, &V)
         requires { IsSome (arrival self.now.pairs cell) }
@@ -108,7 +108,7 @@ impl<K, V, const LEN: usize> Cells<K, V, LEN> {
     }
 
     /// Puts a pair into the first cell behind the arrivals, and sets the count of the entries. The
-    /// caller must know that there is such a cell, and that it holds none.
+    /// caller must have such a cell, which holds none.
     pub fn push(&mut self, key: K, val: V, entries: u8)
         requires within { self.old.counts.arrivals < LEN }
         requires few { LEN ≤ 15 }
@@ -153,7 +153,7 @@ impl<K, V, const LEN: usize> Cells<K, V, LEN> {
         Cells { rows: old }.discard();
     }
 
-    /// Takes the pair of a cell. The caller must know that it holds one.
+    /// Takes the pair of a cell. The caller must name a cell that holds one.
     pub fn take(&mut self, cell: u8) -> (K, V)
         requires { IsSome (arrival self.old.pairs cell) }
         ensures pair { arrival self.old.pairs cell ≡ Some result }
@@ -167,8 +167,8 @@ impl<K, V, const LEN: usize> Cells<K, V, LEN> {
     }
 
     /// Moves the pairs of the places from `from` up to `end` of an order into the first of other
-    /// cells, in turn, whose counts they are then. The caller must know that each of these places
-    /// names a pair, that no two name the same, and that the other cells hold none and count none.
+    /// cells, in turn, and sets the counts of the other cells. Each of these places must name a
+    /// pair, no two the same, and the other cells must hold none and count none.
     pub fn take_places(&mut self, order: u64, from: u8, end: u8, to: &mut Self)
         requires ends { from ≤ end }
         requires few { end ≤ LEN }
@@ -220,8 +220,8 @@ impl<K, V, const LEN: usize> Cells<K, V, LEN> {
         }
     }
 
-    /// Replaces the value of a cell and returns the old one. The caller must know that it holds a
-    /// pair.
+    /// Replaces the value of a cell and returns the old one. The caller must name a cell that holds
+    /// a pair.
     pub fn replace(&mut self, cell: u8, val: V) -> V
         requires { IsSome (arrival self.old.pairs cell) }
         ensures pairs { (key : K) × (arrival self.old.pairs cell ≡ Some (key, result))
@@ -234,7 +234,7 @@ impl<K, V, const LEN: usize> Cells<K, V, LEN> {
         }
     }
 
-    /// Ends cells that hold no pair. The caller must know that they hold none.
+    /// Ends the cells, which must hold no pair.
     pub fn discard(self)
         requires { (p : ℕ) → arrival self.pairs p ≡ None }
     {

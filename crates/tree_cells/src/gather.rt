@@ -9,9 +9,9 @@ ghost use Rattle.tree_cells.specs.Order.{named};
 use crate::order::slot_at;
 use tree_slots::row::Row;
 
-// Moves the keys and the values of the places from `from` up to `end` into the first slots of
-// other rows, in turn. The caller must know that each of these places names a key and a value,
-// that no two name the same, and that the other rows hold none.
+// Moves the keys and the values of the places from `from` up to `end` into the first slots of other
+// rows, in turn. Each of these places must name a key and a value, no two the same, and the other
+// rows must hold none.
 #[inline(always)]
 pub(crate) fn gather<K, V, const LEN: usize>(
     keys: &mut Row<K, LEN>,

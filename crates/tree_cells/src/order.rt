@@ -8,7 +8,7 @@ ghost use Rattle.tree_cells.specs.Order.{AreSmall, inserted, is_retired, named, 
 /// The greatest number of slots of an array.
 pub const MOST: usize = 15;
 
-/// The name that stands behind all slots.
+/// The name that is behind all slots.
 pub const BEYOND: u8 = 15;
 
 /// The order of an array that has lost its last entry. No other order is this one, as [`BEYOND`]
@@ -42,8 +42,7 @@ fn first(word: u64, count: u8) -> u64
     word - (word >> bits << bits)
 }
 
-// Puts the name of a slot at each place from `count` on, and says behind all that nothing stands
-// there.
+// Puts the name of a slot at each place from `count` on, and [`BEYOND`] behind all places.
 fn extended<const LEN: usize>(places: u64, count: u8, slot: u8) -> u64
     requires len { LEN ≤ 15 }
     requires few { count ≤ LEN }
@@ -75,7 +74,7 @@ impl<const LEN: usize> Order<LEN> {
         Order { word, count }
     }
 
-    /// Creates the order of entries that stand in the first slots, one after another.
+    /// Creates the order of entries that are in the first slots, one after another.
     pub fn in_turn(count: u8) -> Self
         requires len { LEN ≤ 15 }
         requires few { count ≤ LEN }
@@ -110,7 +109,7 @@ impl<const LEN: usize> Order<LEN> {
         slot_at(self.word, LEN as u8 - 1)
     }
 
-    /// Lets a slot in before the entries from `place` on.
+    /// Inserts a slot before the entries from `place` on.
     pub fn insert(self, place: u8, slot: u8) -> Self
         requires place { place ≤ self.count }
         requires room { self.count < LEN }
@@ -125,7 +124,7 @@ impl<const LEN: usize> Order<LEN> {
         }
     }
 
-    // Returns the word of this order with a slot let in.
+    // Returns the word of this order with a slot inserted.
     fn with_inserted(self, place: u8, slot: u8) -> u64
         requires place { place ≤ self.count }
         requires room { self.count < LEN }
@@ -143,8 +142,8 @@ impl<const LEN: usize> Order<LEN> {
         }
     }
 
-    /// Takes the entry at a place out. The word of what is left is [`RETIRED`] without the last
-    /// entry.
+    /// Takes out the entry at a place. If it was the last entry, the word that is left is
+    /// [`RETIRED`].
     pub fn remove(self, place: u8) -> Self
         requires { place < self.count }
         ensures count { result.count ≡ self.entry.count - 1 }
@@ -214,8 +213,8 @@ impl<const LEN: usize> Order<LEN> {
         extended::<LEN>(first(places, place) | rest << (4 * place), LEN as u8, slot)
     }
 
-    /// Returns the place of the entry in a slot, by a walk over the places. The caller must know
-    /// that there is one.
+    /// Returns the place of the entry in a slot, by a walk over the places. The caller must name
+    /// the slot of an entry.
     #[tactic(auto, using(crate::proofs::Words::naming))]
     pub fn place_of(self, slot: u8) -> u8
         requires { (i : ℕ) × (slice_get (names self.word self.count) i ≡ Some slot) }
@@ -273,8 +272,8 @@ impl<const LEN: usize> Order<LEN> {
     }
 }
 
-// Returns whether the entries stand in the first slots, one after another, as those do that
-// arrived in ascending order.
+// Returns whether the entries are in the first slots, one after another, as those that arrived in
+// ascending order are.
 fn is_in_turn(word: u64, count: u8) -> bool
     requires { count ≤ 15 }
     ensures { IsTrue result → (i : ℕ) → i < count → named word i ≡ i }

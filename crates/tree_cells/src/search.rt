@@ -12,17 +12,17 @@ use crate::order::{BEYOND, Order, slot_at};
 use std::cmp::Ordering;
 use std::mem::size_of_val;
 
-// Keys of more bytes are compared with a branch for each answer: so a processor reads on before
-// an expensive comparison has answered.
+// Keys of more bytes are compared with a branch for each answer: so a processor reads on before an
+// expensive comparison is done.
 const WIDE: usize = 16;
 
-/// Where a key stands in the order of an array.
+/// Where a key is in the order of an array.
 #[derive(Clone, Copy)]
 pub enum Place {
-    /// It is that of the entry at this place, in this slot.
+    /// The key equals that of the entry at this place, which is stored in this slot.
     At { place: u8, slot: u8 },
-    /// It comes before the entry at this place, in this slot; or behind all entries, and the slot
-    /// is [`BEYOND`].
+    /// The key belongs before the entry at this place, which is stored in this slot; or behind all
+    /// entries, and then the slot is [`BEYOND`].
     Before { place: u8, slot: u8 },
 }
 
@@ -77,11 +77,10 @@ fn ignored<K>(key: &K) -> u8 {
     if size_of_val(key) > WIDE { 0 } else { u8::MAX }
 }
 
-/// Finds where the key of the asked stands. Makes at most 4 comparisons among 15 slots, and 3 among
-/// 7.
+/// Finds where the sought key is. Makes at most 4 comparisons among 15 slots, and 3 among 7.
 ///
-/// A search for a small key makes them all, and has no branch on what one of them answers. For a
-/// key of more than 16 bytes an equal one ends the search.
+/// A search for a small key makes them all, and has no branch on the result of one. For a key of
+/// more than 16 bytes an equal one ends the search.
 #[tactic(auto, using(crate::proofs::Halving::searched_some, crate::proofs::Words::len_small))]
 #[inline(always)]
 pub fn find<K: Ord, V, By, A: Asks<K, By>, const LEN: usize>(
@@ -200,7 +199,7 @@ fn halve<K: Ord, V, By, A: Asks<K, By>, const LEN: usize>(
     Window { place, rest, met }
 }
 
-/// Finds where a key stands, with comparisons that nobody counts.
+/// Finds where a key is, with comparisons that nobody counts.
 #[inline(always)]
 pub fn find_key<K: Ord, V, const LEN: usize>(
     cells: &Cells<K, V, LEN>,
@@ -215,9 +214,9 @@ pub fn find_key<K: Ord, V, const LEN: usize>(
     find(cells, order, &mut &*key)
 }
 
-/// Finds where a key stands, as [`find_key`] does. With `rightmost` it compares the key with the
-/// last one first, and a larger key is done: there belong keys that arrive in ascending order. That
-/// is at most one comparison more.
+/// Finds where a key is, as [`find_key`] does. With `rightmost` it first compares the key with the
+/// last one, and ends if the key is larger, as keys that arrive in ascending order are. That is at
+/// most one comparison more.
 #[inline(always)]
 pub fn find_key_beyond<K: Ord, V, const LEN: usize>(
     cells: &Cells<K, V, LEN>,

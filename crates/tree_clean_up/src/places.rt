@@ -1,4 +1,4 @@
-//! The keyed children of a node by their places: how many there are, and in which slot one stands.
+//! The keyed children of a node by their places: how many there are, and in which slot one is.
 ghost use Rattle.std.specs.Prelude.{◌≡◌, ◌<◌, MatchOption, None, Some, length, slice_get};
 ghost use Rattle.tree_array.specs.Arrivals.{arrival};
 ghost use Rattle.tree_node.specs.Tree.{keyed};
@@ -34,7 +34,7 @@ fn count<K: Ord + Drop, I: Drop, const LEN: usize>(children: &ArrayOf<K, I, LEN>
     ensures count { result ≡ length children.now.entries }
     ensures few { result < 16 }
 {
-    // The contract of `free` says how many entries an array has at most.
+    // The contract of `free` states how many entries an array has at most.
     let _ = children.free();
     children.len() as u8
 }

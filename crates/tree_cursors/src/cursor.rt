@@ -18,23 +18,23 @@ use tree_model::{Answer, Move};
 pub trait Cursor<'t, K: Ord + Drop + 't, V: Drop + 't>: DoubleEndedIterator<Item = (&'t K, &'t V)> {
     ghost cursor: { Self → Seen K V };
 
-    /// Returns the pair of the forward end, if the end stands on one within the upper bound. Makes
-    /// at most one comparison.
+    /// Returns the pair of the forward end, if the end is on one within the upper bound. Makes at
+    /// most one comparison.
     fn get(&self) -> Option<(&'t K, &'t V)>
         ensures pair { lent result ≡ shown K.cmp On (cursor self.now) }
         ensures ascending { IsAscending K.cmp (cursor self.now).pairs }
         ensures inside { StandsInside (cursor self.now).pairs (cursor self.now).backward };
 
-    /// Returns the pair of the backward end, if the end stands on one within the lower bound. Makes
-    /// at most one comparison.
+    /// Returns the pair of the backward end, if the end is on one within the lower bound. Makes at
+    /// most one comparison.
     fn get_back(&self) -> Option<(&'t K, &'t V)>
         ensures pair { lent result ≡ shown K.cmp Back (cursor self.now) }
         ensures ascending { IsAscending K.cmp (cursor self.now).pairs }
         ensures inside { StandsInside (cursor self.now).pairs (cursor self.now).backward };
 
-    /// Gives the place of the one end that is opened to the other, and returns `true`, if that end
-    /// shows a pair. Returns `true` and changes nothing if neither end is opened. Otherwise returns
-    /// `false` and changes nothing. Makes at most one comparison.
+    /// If exactly one end has been opened and shows a pair, moves its place to the other end,
+    /// leaves the first unopened and returns `true`. Returns `true` and changes nothing if neither
+    /// end is opened; otherwise returns `false` and changes nothing. Makes at most one comparison.
     fn flip(&mut self) -> bool
         ensures { Flips K.cmp (cursor self.old) result (cursor self.new) };
 
@@ -116,8 +116,8 @@ fn make_move<'t, K: Ord + Drop + 't, V: Drop + 't, C: Cursor<'t, K, V>>(
     }
 }
 
-/// Makes the moves in turn, and returns their answers. Once `next` has answered `None`, it answers
-/// no pair any more, whatever moves stand between; nor does `next_back`.
+/// Makes the moves in turn, and returns their answers. Once `next` has returned `None`, it returns
+/// no further pair, whatever moves are made in between; nor does `next_back`.
 ///
 /// Returns `Err`, and makes no move, if it cannot allocate the answers, which is all it allocates.
 pub fn run_moves<'t, K: Ord + Drop + 't, V: Drop + 't, C: Cursor<'t, K, V>>(

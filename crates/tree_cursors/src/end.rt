@@ -17,7 +17,7 @@ use tree_leaf::LinkedIter;
 use tree_model::Direction;
 use tree_node::node::{ArenasOf, Root};
 
-/// Where an end of a cursor is: it was never moved, it stands on an entry, or it has left the tree.
+/// Where an end of a cursor is: it was never moved, it is on an entry, or it has left the tree.
 #[derive(Drop)]
 pub enum End<W> {
     Unopened,
@@ -25,9 +25,9 @@ pub enum End<W> {
     Exhausted,
 }
 
-/// Moves an end in place, and returns the pair that it then stands on: one that was never moved
-/// goes to the first key that meets its bound, and any other one entry along. Descends only for the
-/// first move. Makes no comparisons after it.
+/// Moves an end in place, and returns the pair that it is then on. An end that was never moved goes
+/// to the first key that meets its bound, and any other end goes one entry along. Descends only for
+/// the first move. Makes no comparisons after it.
 #[inline(always)]
 pub fn step<'t, K: Ord + Drop, V: Drop, D: Direction, const LEN: usize>(
     arenas: &'t ArenasOf<K, V, LEN>,
@@ -59,7 +59,7 @@ pub fn step<'t, K: Ord + Drop, V: Drop, D: Direction, const LEN: usize>(
 }
 
 /// Moves an end one entry along in its leaf, and returns that entry. Returns `None` and changes
-/// nothing if the end stands in no leaf, or on the last entry of its leaf on its way. Makes no
+/// nothing if the end is in no leaf, or on the last entry of its leaf on its way. Makes no
 /// comparisons.
 #[inline(always)]
 pub fn step_in_leaf<'t, K: Ord + Drop, V: Drop, D: Direction, const LEN: usize>(
@@ -74,7 +74,7 @@ pub fn step_in_leaf<'t, K: Ord + Drop, V: Drop, D: Direction, const LEN: usize>(
     }
 }
 
-// Moves an end in place that was never moved, and returns the pair that it then stands on.
+// Moves an end that was never moved in place, and returns the pair that it is then on.
 #[inline(always)]
 fn open<'t, K: Ord + Drop, V: Drop, D: Direction, const LEN: usize>(
     arenas: &'t ArenasOf<K, V, LEN>,
@@ -92,8 +92,7 @@ fn open<'t, K: Ord + Drop, V: Drop, D: Direction, const LEN: usize>(
     pair_on(end)
 }
 
-// Returns where an end goes that was never moved. Stays out of the way of the moves after the
-// first.
+// Returns where an end that was never moved goes. Not inlined into the moves after the first.
 #[inline(never)]
 fn first_end<'t, K: Ord + Drop, V: Drop, D: Direction, const LEN: usize>(
     arenas: &'t ArenasOf<K, V, LEN>,
@@ -114,8 +113,8 @@ fn first_end<'t, K: Ord + Drop, V: Drop, D: Direction, const LEN: usize>(
     }
 }
 
-/// Returns whether one walk stands on a smaller key than another one. Makes one comparison. The
-/// caller must have walks that stand on entries.
+/// Returns whether one walk is on a smaller key than another. Makes one comparison. The caller must
+/// pass walks that are on entries.
 #[inline(always)]
 pub fn comes_before<'t, K: Ord + Drop, V: Drop, D: Direction, E: Direction, const LEN: usize>(
     walk: &LinkedIter<'t, LeafOf<K, V, LEN>, D>,
@@ -133,7 +132,7 @@ pub fn comes_before<'t, K: Ord + Drop, V: Drop, D: Direction, E: Direction, cons
     key.cmp(other_key).is_lt()
 }
 
-/// Returns the pair that an end stands on, if it stands on one. Runs in constant time.
+/// Returns the pair that an end is on, if it is on one. Runs in constant time.
 #[inline(always)]
 pub fn pair_on<'t, K: Ord + Drop, V: Drop, D: Direction, const LEN: usize>(
     end: &End<LinkedIter<'t, LeafOf<K, V, LEN>, D>>,

@@ -1,4 +1,4 @@
-//! What a cursor asks its two ends.
+//! What a cursor reads from its two ends.
 ghost use Rattle.std.specs.Prelude.{◌≡◌, None, if◌then◌else◌, is_some};
 ghost use Rattle.tree_model.specs.Cursor.{are_apart, meets, option_where};
 ghost use Rattle.tree_model.specs.Pairs.{lent_bound};
@@ -13,8 +13,8 @@ use tree_leaf::leaf::LeafOf;
 use tree_leaf::{IterOf, LinkedIter, RevIterOf, Walked};
 use tree_model::{Direction, meets};
 
-/// Returns whether neither end is exhausted, and the forward one stands before the backward one.
-/// Makes at most one comparison. The caller must have ends that stand in one tree.
+/// Returns whether neither end is exhausted, and the forward one is before the backward one. Makes
+/// at most one comparison. The caller must pass ends that are in one tree.
 #[inline(always)]
 pub fn are_apart<'t, K: Ord + Drop, V: Drop, const LEN: usize>(
     forward: &End<IterOf<'t, K, V, LEN>>,
@@ -29,9 +29,9 @@ pub fn are_apart<'t, K: Ord + Drop, V: Drop, const LEN: usize>(
     }
 }
 
-/// Returns the pair that an end has moved to, if the ends are apart and its key is within the bound
-/// at which the other end begins, which goes this way. Makes at most two comparisons. The caller
-/// must have ends that stand in one tree.
+/// Returns the pair that an end has moved to, if the ends have not met and its key is within the
+/// bound at which the other end begins, which goes this way. Makes at most two comparisons. The
+/// caller must pass ends that are in one tree.
 #[inline(always)]
 pub fn if_apart<'t, K: Ord + Drop, V: Drop, E: Direction, const LEN: usize>(
     pair: Option<(&'t K, &'t V)>,
@@ -49,7 +49,7 @@ pub fn if_apart<'t, K: Ord + Drop, V: Drop, E: Direction, const LEN: usize>(
     within::<K, V, E>(pair, bound)
 }
 
-/// Returns the pair that an end stands on, if its key is within the bound at which the other end
+/// Returns the pair that an end is on, if its key is within the bound at which the other end
 /// begins. Makes at most one comparison.
 pub fn shown<'t, K: Ord + Drop, V: Drop, D: Direction, E: Direction, const LEN: usize>(
     end: &End<LinkedIter<'t, LeafOf<K, V, LEN>, D>>,
@@ -79,7 +79,7 @@ fn within<'t, K: Ord, V, E: Direction>(
     }
 }
 
-/// Returns whether an end stands on a pair.
+/// Returns whether an end is on a pair.
 pub fn has_pair<'t, K: Ord + Drop, V: Drop, D: Direction, const LEN: usize>(
     end: &End<LinkedIter<'t, LeafOf<K, V, LEN>, D>>,
 ) -> bool
@@ -91,7 +91,7 @@ pub fn has_pair<'t, K: Ord + Drop, V: Drop, D: Direction, const LEN: usize>(
     }
 }
 
-/// Returns whether an end stands on a pair whose key equals this one. Makes at most one comparison.
+/// Returns whether an end is on a pair whose key equals this one. Makes at most one comparison.
 pub fn stands_at<'t, K: Ord + Drop, V: Drop, D: Direction, const LEN: usize>(
     end: &End<LinkedIter<'t, LeafOf<K, V, LEN>, D>>,
     key: &K,

@@ -65,7 +65,7 @@ impl<'t, K: Ord + Drop + 't, V: Drop + 't, const LEN: usize> IterOf<'t, K, V, LE
     }
 
     // Creates a cursor over all pairs of a tree, with these ends. The caller must pass ends that
-    // stand in the tree.
+    // are in the tree.
     pub(crate) fn standing(
         arenas: &'t ArenasOf<K, V, LEN>,
         root: Option<Root>,
@@ -81,7 +81,7 @@ impl<'t, K: Ord + Drop + 't, V: Drop + 't, const LEN: usize> IterOf<'t, K, V, LE
         }
     }
 
-    /// Returns the pair of the forward end, if the end stands on one. Runs in constant time.
+    /// Returns the pair of the forward end, if the end is on one. Runs in constant time.
     pub fn get(&self) -> Option<(&'t K, &'t V)>
         ensures pair { lent result ≡ shown K.cmp On self.now }
         ensures bounds { IsOpen self.now }
@@ -91,7 +91,7 @@ impl<'t, K: Ord + Drop + 't, V: Drop + 't, const LEN: usize> IterOf<'t, K, V, LE
         self.range.get()
     }
 
-    /// Returns the pair of the backward end, if the end stands on one. Runs in constant time.
+    /// Returns the pair of the backward end, if the end is on one. Runs in constant time.
     pub fn get_back(&self) -> Option<(&'t K, &'t V)>
         ensures pair { lent result ≡ shown K.cmp Back self.now }
         ensures bounds { IsOpen self.now }
@@ -101,9 +101,9 @@ impl<'t, K: Ord + Drop + 't, V: Drop + 't, const LEN: usize> IterOf<'t, K, V, LE
         self.range.get_back()
     }
 
-    /// Gives the place of the one end that is opened to the other, and returns `true`, if that end
-    /// shows a pair. Returns `true` and changes nothing if neither end is opened. Otherwise returns
-    /// `false` and changes nothing. Runs in constant time.
+    /// If exactly one end has been opened and shows a pair, moves its place to the other end,
+    /// leaves the first unopened and returns `true`. Returns `true` and changes nothing if neither
+    /// end is opened; otherwise returns `false` and changes nothing. Runs in constant time.
     pub fn flip(&mut self) -> bool
         ensures { Flips K.cmp self.old result self.new }
     {

@@ -9,8 +9,8 @@ use crate::cursor::Cursor;
 use std::alloc::{AllocError, Global};
 
 /// Moves the forward end until it gives no pair, and returns what it gave: all pairs within the
-/// bounds, in ascending order. Returns `Err` if memory for the list is refused. The caller must
-/// pass a cursor that was never moved.
+/// bounds, in ascending order. Returns `Err` if it cannot allocate the list. The caller must pass a
+/// cursor that was never moved.
 pub fn pairs_ascending<'t, K: Ord + Drop + 't, V: Drop + 't, C: Cursor<'t, K, V>>(
     alloc: Global,
     cursor: &mut C,
@@ -22,8 +22,8 @@ pub fn pairs_ascending<'t, K: Ord + Drop + 't, V: Drop + 't, C: Cursor<'t, K, V>
 }
 
 /// Moves the backward end until it gives no pair, and returns what it gave: all pairs within the
-/// bounds, in descending order. Returns `Err` if memory for the list is refused. The caller must
-/// pass a cursor that was never moved.
+/// bounds, in descending order. Returns `Err` if it cannot allocate the list. The caller must pass
+/// a cursor that was never moved.
 pub fn pairs_descending<'t, K: Ord + Drop + 't, V: Drop + 't, C: Cursor<'t, K, V>>(
     alloc: Global,
     cursor: &mut C,

@@ -1,7 +1,7 @@
 //! Cursors over the pairs of a tree, from both ends.
 //!
-//! An end of a cursor finds its bound by a search from the root ([`seek`]); from there it walks
-//! from leaf to leaf.
+//! An end of a cursor finds its bound by a search from the root ([`seek`]), and then walks from
+//! leaf to leaf.
 #![tactic(auto)]
 
 pub mod cursor;

@@ -18,9 +18,9 @@ use tree_node::node::{ArenasOf, Root};
 /// Where a key is among pairs, with fifteen pairs a leaf.
 pub type Proximity<'t, K, V> = ProximityOf<IterOf<'t, K, V, 15>>;
 
-/// Returns where a key is: present, or which pairs are beside it, with a cursor that stands there.
-/// Descends once, or twice where all keys are smaller. The caller must lend the arenas of a
-/// well-formed tree with its root.
+/// Returns where a key is: present, or between which pairs, with a cursor at that place. Descends
+/// once, or twice if all keys are smaller. The caller must lend the arenas of a well-formed tree
+/// with its root.
 pub fn locate<'t, K: Ord + Drop + 't, V: Drop + 't, const LEN: usize>(
     arenas: &'t ArenasOf<K, V, LEN>,
     root: Option<Root>,
@@ -51,8 +51,7 @@ pub fn locate<'t, K: Ord + Drop + 't, V: Drop + 't, const LEN: usize>(
     }
 }
 
-// Returns the end to which a move takes an end. The caller must pass an end that stands in the
-// tree.
+// Returns an end after one move. The caller must pass an end that is in the tree.
 #[inline(always)]
 fn stepped<'t, K: Ord + Drop, V: Drop, D: Direction, const LEN: usize>(
     arenas: &'t ArenasOf<K, V, LEN>,

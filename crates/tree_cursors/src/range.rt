@@ -48,8 +48,8 @@ impl<K: Ord + Drop, V: Drop, const LEN: usize> Ranged<K, V, LeafOf<K, V, LEN>>
 
 /// The pairs of a tree within two bounds, from both ends.
 ///
-/// Contracts see the list of all pairs, the two bounds and the two ends: each was never moved,
-/// stands at a place of the list, or is exhausted for ever.
+/// Contracts see the list of all pairs, the two bounds and the two ends: each was never moved, is
+/// at a place of the list, or is exhausted for ever.
 #[derive(Drop)]
 pub struct RangeOver<'t, K, V, A: Ranged<K, V, L>, L: Walked> {
     arenas: &'t A,
@@ -106,8 +106,8 @@ impl<'t, K: Ord + Drop + 't, V: Drop + 't, const LEN: usize> RangeOf<'t, K, V, L
         }
     }
 
-    /// Returns the pair of the forward end, if the end stands on one within the upper bound. Makes
-    /// at most one comparison.
+    /// Returns the pair of the forward end, if the end is on one within the upper bound. Makes at
+    /// most one comparison.
     pub fn get(&self) -> Option<(&'t K, &'t V)>
         ensures pair { lent result ≡ shown K.cmp On self.now }
         ensures ascending { IsAscending K.cmp self.now.pairs }
@@ -116,8 +116,8 @@ impl<'t, K: Ord + Drop + 't, V: Drop + 't, const LEN: usize> RangeOf<'t, K, V, L
         shown::<K, V, Forward, Backward, LEN>(&self.forward, self.high)
     }
 
-    /// Returns the pair of the backward end, if the end stands on one within the lower bound. Makes
-    /// at most one comparison.
+    /// Returns the pair of the backward end, if the end is on one within the lower bound. Makes at
+    /// most one comparison.
     pub fn get_back(&self) -> Option<(&'t K, &'t V)>
         ensures pair { lent result ≡ shown K.cmp Back self.now }
         ensures ascending { IsAscending K.cmp self.now.pairs }
@@ -126,9 +126,9 @@ impl<'t, K: Ord + Drop + 't, V: Drop + 't, const LEN: usize> RangeOf<'t, K, V, L
         shown::<K, V, Backward, Forward, LEN>(&self.backward, self.low)
     }
 
-    /// Gives the place of the one end that is opened to the other, and returns `true`, if that end
-    /// shows a pair. Returns `true` and changes nothing if neither end is opened. Otherwise returns
-    /// `false` and changes nothing. Makes at most one comparison.
+    /// If exactly one end has been opened and shows a pair, moves its place to the other end,
+    /// leaves the first unopened and returns `true`. Returns `true` and changes nothing if neither
+    /// end is opened; otherwise returns `false` and changes nothing. Makes at most one comparison.
     pub fn flip(&mut self) -> bool
         ensures { Flips K.cmp self.old result self.new }
     {
@@ -153,7 +153,7 @@ impl<'t, K: Ord + Drop + 't, V: Drop + 't, const LEN: usize> RangeOf<'t, K, V, L
     }
 
     // Creates a cursor over all pairs of a tree, with these ends. The caller must pass ends that
-    // stand in the tree.
+    // are in the tree.
     pub(crate) fn standing(
         arenas: &'t ArenasOf<K, V, LEN>,
         root: Option<Root>,
@@ -175,9 +175,9 @@ impl<'t, K: Ord + Drop + 't, V: Drop + 't, const LEN: usize> RangeOf<'t, K, V, L
         }
     }
 
-    // Moves the forward end, and returns whether the move gives the pair that the end then stands
-    // on. So a move to another leaf leaves a path of its own to the caller's loop, beside that of
-    // the moves in a leaf.
+    // Moves the forward end, and returns whether the move gives the pair that the end is then on.
+    // So in the caller's loop a move to another leaf has a path separate from that of moves within
+    // a leaf.
     #[inline(always)]
     fn goes_elsewhere(&mut self) -> bool
         ensures { (pair : _) × Moves K.cmp On self.old pair self.new × (result ≡ is_some pair) }

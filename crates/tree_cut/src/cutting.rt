@@ -15,7 +15,7 @@ use tree_clean_up::places::{keyed_count, slot_at};
 use tree_leaf::arena::{LeafId, NodeId};
 use tree_node::node::ArenasOf;
 
-/// What a removal of a range answers.
+/// The result of a removal of a range.
 #[derive(Clone, Copy, Drop)]
 pub struct RangeRemoved {
     /// How many children the node has left: the keyed ones, and one for the unbounded one if there
@@ -28,16 +28,15 @@ pub struct RangeRemoved {
 /// Removes the pairs whose keys are within the bounds from under the number of a node of this
 /// level.
 ///
-/// Reversed bounds contain no key. What stands under the number keeps its level and an unbounded
-/// child at each level. A child whose keys are all within the bounds is dropped whole, and so is a
-/// keyed child that the removal leaves empty.
+/// Reversed bounds contain no key. What is under the number keeps its level and an unbounded child
+/// at each level. A child whose keys are all within the bounds is dropped whole, and so is a keyed
+/// child that the removal leaves empty.
 ///
 /// Searches at most two arrays per level for each bound, and makes at most two comparisons per slot
 /// of two leaves. What is dropped whole costs time for each leaf and node in it, and no
 /// comparisons. Allocates nothing.
 ///
-/// The caller must see that a well-formed part of a tree, or a retired node, stands under the
-/// number.
+/// The caller must name a well-formed part of a tree, or a retired node.
 pub fn remove_range_at<K: Ord + Drop, V: Drop, const LEN: usize>(
     arenas: &mut ArenasOf<K, V, LEN>,
     level: usize,
@@ -147,7 +146,7 @@ fn cut_leaf<K: Ord + Drop, V: Drop, const LEN: usize>(
     (before - array.len()) as u128
 }
 
-// Returns whether no pair stands in a part, as its unbounded children tell.
+// Returns whether a part has no pair, along its unbounded children.
 fn is_empty<K: Ord + Drop, V: Drop, const LEN: usize>(
     arenas: &ArenasOf<K, V, LEN>,
     level: usize,

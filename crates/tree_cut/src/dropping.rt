@@ -21,8 +21,8 @@ pub(crate) enum End {
     Last,
 }
 
-// Drops the keyed child at a place with all that stands under it, and takes it out of its node.
-// Returns how many pairs stood there.
+// Drops the keyed child at a place with all that is under it, and takes it out of its node. Returns
+// how many pairs were there.
 pub(crate) fn drop_child<K: Ord + Drop, V: Drop, const LEN: usize>(
     arenas: &mut ArenasOf<K, V, LEN>,
     level: usize,
@@ -46,7 +46,7 @@ pub(crate) fn drop_child<K: Ord + Drop, V: Drop, const LEN: usize>(
 }
 
 // Drops a part: the leaves on both sides of it become neighbours, and exactly the numbers that it
-// reached are free. Returns how many pairs stood there.
+// reached are free. Returns how many pairs were there.
 fn drop_part<K: Ord + Drop, V: Drop, const LEN: usize>(
     arenas: &mut ArenasOf<K, V, LEN>,
     level: usize,
@@ -98,7 +98,7 @@ fn end_child<K: Ord + Drop, const LEN: usize>(node: &NodeOf<K, LEN>, end: End) -
     }
 }
 
-// Frees exactly the numbers that are reached from a part. Returns how many pairs stood there.
+// Frees exactly the numbers that are reached from a part. Returns how many pairs were there.
 fn free_part<K: Ord + Drop, V: Drop, const LEN: usize>(
     arenas: &mut ArenasOf<K, V, LEN>,
     level: usize,
@@ -125,7 +125,7 @@ fn free_part<K: Ord + Drop, V: Drop, const LEN: usize>(
     }
 }
 
-// Says that the pairs of a part can be counted. Runs in constant time.
+// Shows that the pairs of a part can be counted. Runs in constant time.
 pub(crate) fn count_fits<K: Ord + Drop, V: Drop, const LEN: usize>(
     arenas: &ArenasOf<K, V, LEN>,
     level: usize,
@@ -135,7 +135,8 @@ pub(crate) fn count_fits<K: Ord + Drop, V: Drop, const LEN: usize>(
     requires once { StandsOnce K.cmp level arenas.now id }
     ensures { length (walk level arenas.now id) < 2 ^ 127 }
 {
-    // The contracts of both say how many slots a leaf has, and how many leaves there are, at most.
+    // The contracts of both state how many slots a leaf has, and how many leaves there are, at
+    // most.
     let _ = arenas.node(id).slots_left();
     let _ = arenas.leaf_count();
 }

@@ -1,4 +1,4 @@
-//! Parts: what stands under a number, and the children of a node by their places.
+//! Parts: what is under a number, and the children of a node by their places.
 ghost use Rattle.std.specs.Prelude.{◌≡◌, ◌≤◌, IsSome, Some, length, slice_get, ℕ};
 ghost use Rattle.tree_clean_up.specs.Places.{keyed_or};
 ghost use Rattle.tree_cut.specs.Parts.{IsAt, part_id};

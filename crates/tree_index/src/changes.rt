@@ -1,4 +1,4 @@
-//! Values that are changed where they stand.
+//! Values that are changed in place.
 ghost use Rattle.std.specs.Prelude.{◌≡◌, Err, MatchOption, Ok, false, true};
 ghost use Rattle.std.specs.Option.{ForSome};
 ghost use Rattle.tree_index.specs.Index.{with_value};
@@ -8,7 +8,7 @@ use crate::index::TreeIndexOf;
 use tree_array::array::IndexKey;
 
 impl<K: IndexKey, V: Drop, const LEN: usize> TreeIndexOf<K, V, LEN> {
-    /// Passes the value at a key to a function, and stores what it returns in its stead. Returns
+    /// Passes the value at a key to a function, and stores what it returns in its place. Returns
     /// whether the key is present.
     ///
     /// Calls the function once if the key is present, else never. The function must accept the

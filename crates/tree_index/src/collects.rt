@@ -18,7 +18,7 @@ use tree_root::Tree;
 pub enum FromSortedError<K, V> {
     /// A key isn't larger than the one before it. These are the pairs, as they were passed.
     NotAscending(Vec<(K, V)>),
-    /// An allocation was refused.
+    /// An allocation failed.
     OutOfMemory,
 }
 
@@ -37,9 +37,9 @@ impl<K: IndexKey, V: Drop, const LEN: usize> TreeIndexOf<K, V, LEN> {
     /// Stores each pair of an iterator. A pair with an equal key is replaced, so of pairs with
     /// equal keys the last one stays.
     ///
-    /// Returns `Err` with the first pair for which an allocation is refused, and takes no pair
-    /// after it. The pairs before it stay stored. Costs what
-    /// [`upsert_sync`](TreeIndexOf::upsert_sync) does for each pair. The iterator must end.
+    /// Returns `Err` with the first pair for which an allocation fails, and takes no pair after it.
+    /// The pairs before it stay stored. Costs what [`upsert_sync`](TreeIndexOf::upsert_sync) does
+    /// for each pair. The iterator must end.
     ///
     /// ```
     /// match self.try_extend(pairs) {
@@ -63,8 +63,8 @@ impl<K: IndexKey, V: Drop, const LEN: usize> TreeIndexOf<K, V, LEN> {
     /// Returns an index of pairs whose keys ascend.
     ///
     /// Returns `NotAscending` with the pairs if a key isn't larger than the one before it. Returns
-    /// `OutOfMemory` if an allocation is refused. Nothing of the index is left then, and the pairs
-    /// are dropped.
+    /// `OutOfMemory` if an allocation fails. Nothing of the index is left then, and the pairs are
+    /// dropped.
     ///
     /// Compares each key with the one before it. Gathers the pairs into whole leaves and makes a
     /// few comparisons for each leaf, and those of a descent for each full leaf node. Reserves
@@ -115,8 +115,8 @@ impl<K: IndexKey, V: Drop, const LEN: usize> Extend<(K, V)> for TreeIndexOf<K, V
     }
 }
 
-/// Collects pairs into an index. Of pairs with equal keys the last one stays. If an allocation is
-/// refused, nothing of the index is left.
+/// Collects pairs into an index. Of pairs with equal keys the last one stays. If an allocation
+/// fails, nothing of the index is left.
 impl<K: IndexKey, V: Drop, const LEN: usize> FromIterator<(K, V)> for TreeIndexOf<K, V, LEN> {
     type Alloc = Global;
 

@@ -19,7 +19,7 @@ impl<K: IndexKey, V: Drop + Clone, const LEN: usize> TreeIndexOf<K, V, LEN> {
     /// Returns a copy: an index of a clone of each key with a clone of its value, in the same
     /// order.
     ///
-    /// Returns `Err` if an allocation is refused, one of a clone among them; nothing of the copy is
+    /// Returns `Err` if an allocation fails, including one made by a clone; nothing of the copy is
     /// left then. Reserves memory for as many leaves as the pairs fill. Gathers the clones into
     /// whole leaves and makes a few comparisons for each leaf, and those of a descent for each full
     /// leaf node.

@@ -17,9 +17,9 @@ use tree_views::keys::{KeysOf, KeysOver, ValuesOf, ValuesOver};
 impl<K: IndexKey, V: Drop, const LEN: usize> TreeIndexOf<K, V, LEN> {
     /// Returns a cursor over all pairs, from both ends. Runs in constant time.
     ///
-    /// The first move of an end descends once. Each move after it makes no comparison, but for one
-    /// of the two ends if both are opened, and reads the next entry of its leaf or follows links up
-    /// to the next leaf with an entry. Allocates nothing.
+    /// The first move of an end descends once. Each later move reads the next entry of its leaf, or
+    /// follows links to the next leaf with an entry. It makes one comparison if both ends are
+    /// opened, else none. Allocates nothing.
     ///
     /// ```
     /// let mut left = asks.iter();
@@ -84,8 +84,8 @@ impl<K: IndexKey, V: Drop, const LEN: usize> TreeIndexOf<K, V, LEN> {
         RangeOver::new(&self.tree.arenas, self.tree.root, bounds)
     }
 
-    /// Returns where a key is: present, or which pairs are beside it, with a cursor that stands
-    /// there. Descends once, or twice if every key is smaller. Makes at most `4 * (depth + 1) + 2`
+    /// Returns where a key is: present, or between which pairs, with a cursor at that place.
+    /// Descends once, or twice if every key is smaller. Makes at most `4 * (depth + 1) + 2`
     /// comparisons with 15 pairs a leaf, and `3 * (depth + 1) + 2` with 7, and allocates nothing.
     ///
     /// ```

@@ -8,7 +8,7 @@ use std::hash::{Hash, Hasher};
 use tree_array::array::IndexKey;
 use tree_views::hash::feed;
 
-/// Feeds what [`len`](TreeIndexOf::len) tells, and then each pair in order, its key before its
+/// Feeds what [`len`](TreeIndexOf::len) returns, and then each pair in order, its key before its
 /// value. Allocates nothing.
 ///
 /// ```

@@ -94,13 +94,13 @@ impl<K: IndexKey, V: Drop, const LEN: usize> TreeIndexOf<K, V, LEN> {
     /// Stores a pair if its key is absent.
     ///
     /// Returns `Duplicate` if the key is present, and `OutOfMemory` if the key is absent and an
-    /// allocation is refused. Both hand the pair back, and the pairs are as they were. Nothing is
-    /// refused while the spare is above 0.
+    /// allocation fails. Both return the pair and leave the index's pairs unchanged. Doesn't fail
+    /// to allocate while the spare is above 0.
     ///
     /// Descends once and searches one array per level and the leaf. If the leaf has a free slot,
     /// allocates nothing. If the leaf is full, searches the leaf and the node above it once more.
-    /// If that node is full too, descends once more; where that splits an array, searches again
-    /// from its level on. Allocates at most one leaf, one node per level and a new root.
+    /// If that node is full too, descends once more; if that splits an array, searches again from
+    /// its level on. Allocates at most one leaf, one node per level and a new root.
     ///
     /// ```
     /// match prices.insert_sync(item, price) {
@@ -120,8 +120,8 @@ impl<K: IndexKey, V: Drop, const LEN: usize> TreeIndexOf<K, V, LEN> {
 
     /// Stores a pair. A pair with an equal key is replaced, key and value.
     ///
-    /// Returns `Err` with the pair if an allocation is refused; the pairs are then as they were.
-    /// Nothing is refused while the spare is above 0. Costs what
+    /// Returns `Err` with the pair if an allocation fails; the index's pairs are then unchanged.
+    /// Doesn't fail to allocate while the spare is above 0. Costs what
     /// [`insert_sync`](TreeIndexOf::insert_sync) does. A replaced pair leaves its slot spent until
     /// its leaf is rebuilt or split.
     ///
@@ -143,9 +143,9 @@ impl<K: IndexKey, V: Drop, const LEN: usize> TreeIndexOf<K, V, LEN> {
 
     /// Removes the pair with a key. Returns whether there was one.
     ///
-    /// Descends once and searches one array per level and the leaf, and twice where the leaf has
-    /// one pair alone. If the last two removals went to one leaf, first compares the key with the
-    /// first and the last one there: between them it needs no descent. Allocates nothing.
+    /// Descends once and searches one array per level and the leaf, and twice if the leaf has only
+    /// that pair. If the last two removals went to one leaf, first compares the key with the first
+    /// and the last one there: between them it needs no descent. Allocates nothing.
     ///
     /// ```
     /// pub fn withdraw(stock: &mut TreeIndex<u64, u64>, article: u64) -> bool
@@ -163,7 +163,8 @@ impl<K: IndexKey, V: Drop, const LEN: usize> TreeIndexOf<K, V, LEN> {
         self.remove_if_sync(key, always)
     }
 
-    /// Removes the pair with a key if the condition holds of its value. Returns whether it did.
+    /// Removes the pair with a key if the condition returns `true` for its value. Returns whether
+    /// it did.
     ///
     /// Calls the condition once if the key is present, else never. The condition must accept the
     /// value of the key. Costs what [`remove_sync`](TreeIndexOf::remove_sync) does.
@@ -194,7 +195,7 @@ impl<K: IndexKey, V: Drop, const LEN: usize> TreeIndexOf<K, V, LEN> {
     /// Drops the parts of the tree between the bounds whole, each leaf and node of them once. Makes
     /// comparisons only at the two ends of the range: at most two searches per level and bound, and
     /// two comparisons per slot of two leaves, however many pairs it removes. Allocates nothing.
-    /// What [`spare`](TreeIndexOf::spare) says afterwards is not promised.
+    /// What [`spare`](TreeIndexOf::spare) returns afterwards is not promised.
     ///
     /// ```
     /// samples.remove_range_sync((Bound::Unbounded, Bound::Excluded(&time)));
@@ -260,9 +261,8 @@ impl<K: IndexKey, V: Drop, const LEN: usize> TreeIndexOf<K, V, LEN> {
         pair_of(self, key)
     }
 
-    /// Returns the pair with the judge's key, as it is stored. The judge keeps its key, and is
-    /// asked at most `4 * (depth + 1)` times with 15 pairs a leaf, and `3 * (depth + 1)` times with
-    /// 7.
+    /// Returns the pair with the judge's key, as it is stored. The judge keeps its key, and makes
+    /// at most `4 * (depth + 1)` comparisons with 15 pairs a leaf, and `3 * (depth + 1)` with 7.
     ///
     /// ```
     /// let mut judge: KeyJudge<K, L> = KeyJudge::new(key, Steps::new(blank));

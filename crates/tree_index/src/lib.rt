@@ -1,6 +1,6 @@
 //! An ordered index that answers as one strictly ascending list of pairs.
 //!
-//! A type of the caller's own is a key once it has an `impl IndexKey`, whose one law says that a
+//! A type of the caller's own is a key once it has an `impl IndexKey`, whose one law states that a
 //! clone compares equal to its source:
 //!
 //! ```
@@ -24,7 +24,7 @@
 //! }
 //! ```
 //!
-//! Both stand whole in the crate `usage`, where they are proved.
+//! Both are in the crate `usage` in full, where they are proved.
 #![tactic(auto)]
 
 mod changes;

@@ -25,7 +25,7 @@ impl<K: IndexKey, V: Drop + PartialOrd, const LEN: usize> PartialOrd for TreeInd
     }
 }
 
-/// The order that [`partial_cmp`](PartialOrd::partial_cmp) tells.
+/// The order that [`partial_cmp`](PartialOrd::partial_cmp) returns.
 impl<K: IndexKey, V: Drop + Ord, const LEN: usize> Ord for TreeIndexOf<K, V, LEN> {
     ghost cmp = { λ a b. slice_cmp (λ p q. ordering_then (K.cmp p.0 q.0) (V.cmp p.1 q.1)) a.pairs b.pairs };
 

@@ -11,13 +11,14 @@ impl<K: IndexKey, V: Drop, const LEN: usize> TreeIndexOf<K, V, LEN> {
     /// Returns the value at a key. If the key is absent, stores the pair first.
     ///
     /// If the key is present, its pair stays as it is, and the pair that was passed is dropped.
-    /// Returns `Err` if the key is absent and an allocation is refused. The pairs are then as they
-    /// were, and the pair that was passed is dropped: [`insert_sync`](TreeIndexOf::insert_sync)
-    /// hands it back.
+    /// Returns `Err` if the key is absent and an allocation fails. The index's pairs are then
+    /// unchanged, and the pair that was passed is dropped;
+    /// [`insert_sync`](TreeIndexOf::insert_sync) returns it instead.
     ///
     /// If the key is present, looks it up twice and allocates nothing. If it is absent, clones it,
     /// looks it up before and after, and costs what [`insert_sync`](TreeIndexOf::insert_sync) does.
-    /// If the clone allocates nothing, nothing is refused while the spare is above 0.
+    /// If the clone allocates nothing, the call doesn't fail to allocate while the spare is above
+    /// 0.
     ///
     /// ```
     /// let first = prices.peek_or_insert(item, price)?;
@@ -35,7 +36,8 @@ impl<K: IndexKey, V: Drop, const LEN: usize> TreeIndexOf<K, V, LEN> {
         }
     }
 
-    // Stores a pair if its key is absent. Returns a key that finds what stands at its key then.
+    // Stores a pair if its key is absent. Returns a key that finds the pair that is then stored at
+    // it.
     fn make_present(&mut self, key: K, value: V) -> Result<K, AllocError>
         ensures { MakesPresent K.cmp K.is_infallible LEN self.old key value result self.new }
     {

@@ -1,4 +1,4 @@
-//! Removals of all pairs that a test refuses.
+//! Removals of all pairs for which a test returns `false`.
 ghost use Rattle.std.specs.Prelude.{◌≡◌, filter, MatchOption};
 ghost use Rattle.std.specs.declared.ops.Bound.TheVariants.{Unbounded};
 ghost use Rattle.tree_index.specs.Retained.{Passes, Refuses, Retains, low_behind};
@@ -14,8 +14,8 @@ use tree_remove::entries::EntryPlace;
 use tree_root::Tree;
 
 impl<K: IndexKey, V: Drop, const LEN: usize> TreeIndexOf<K, V, LEN> {
-    /// Removes each pair of which `keep` returns `false`. Calls it once on each pair, in ascending
-    /// order of the keys.
+    /// Removes each pair for which `keep` returns `false`. Calls it once for each pair, in
+    /// ascending order of the keys.
     ///
     /// A pair that stays costs a move of a cursor. A pair that is removed costs what
     /// [`take_sync`](TreeIndexOf::take_sync) does, and a descent to the pair after it. Allocates
@@ -40,7 +40,7 @@ impl<K: IndexKey, V: Drop, const LEN: usize> TreeIndexOf<K, V, LEN> {
         }
     }
 
-    // Removes the first pair behind one that is gone, or the first of all, of which `keep` returns
+    // Removes the first pair after one that is gone, or the first of all, for which `keep` returns
     // `false`. Returns it with the test, or `None` if there is no such pair.
     fn take_refused<F: FnMut(&K, &V) -> bool + Drop>(
         &mut self,
@@ -66,7 +66,7 @@ impl<K: IndexKey, V: Drop, const LEN: usize> TreeIndexOf<K, V, LEN> {
     }
 }
 
-// Returns the bound behind a pair, which is open if there is none.
+// Returns the bound after a pair, which is open if there is none.
 fn bound_behind<K, V>(gone: &Option<(K, V)>) -> Bound<&K>
     ensures { lent_bound result ≡ low_behind gone.now }
 {
@@ -76,7 +76,7 @@ fn bound_behind<K, V>(gone: &Option<(K, V)>) -> Bound<&K>
     }
 }
 
-// Returns where the first pair from a bound on is stored of which `keep` returns `false`, with the
+// Returns where the first pair from a bound on for which `keep` returns `false` is stored, with the
 // test.
 fn refused_place<'t, K: IndexKey, V: Drop, F: FnMut(&K, &V) -> bool + Drop, const LEN: usize>(
     tree: &'t Tree<K, V, LEN>,

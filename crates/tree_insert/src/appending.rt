@@ -15,8 +15,7 @@ use tree_split::empty_last;
 /// Returns the last leaf under the number of a node of this level, or `None` if the leaf has no
 /// pair or the node is retired. Runs in O(level), and makes no comparisons.
 ///
-/// The caller must see that a well-formed part of a tree, or a retired node, stands under the
-/// number.
+/// The caller must name a well-formed part of a tree, or a retired node.
 pub fn last_leaf_at<K: IndexKey, V: Drop, const LEN: usize>(
     arenas: &ArenasOf<K, V, LEN>,
     level: usize,
@@ -74,8 +73,8 @@ fn edge_at<K: IndexKey, V: Drop, const LEN: usize>(
 /// Returns `Err` with the pair, and changes nothing, if the leaf has no free slot. Makes no
 /// comparisons, and allocates nothing.
 ///
-/// The caller must see that the leaf is the last one under some number and has a pair, and that the
-/// key is larger than all under that number.
+/// The caller must name the last leaf under some number, which has a pair, and pass a key that is
+/// larger than all under that number.
 #[inline(always)]
 pub fn append_to<K: IndexKey, V: Drop, const LEN: usize>(
     arenas: &mut ArenasOf<K, V, LEN>,
@@ -100,10 +99,10 @@ pub fn append_to<K: IndexKey, V: Drop, const LEN: usize>(
 ///
 /// Returns `false`, and changes nothing, if the last leaf isn't full or its pairs didn't arrive in
 /// ascending order, if its node has no slot for another keyed child, or if the run has no pair.
-/// Returns `Err` if memory is refused. Runs in O(level). Allocates one leaf at most. Makes the
+/// Returns `Err` if it cannot allocate. Runs in O(level). Allocates one leaf at most. Makes the
 /// comparisons of [`empty_last`] alone.
 ///
-/// The caller must see that the keys of the run are larger than all under the number.
+/// The caller must pass a run whose keys are larger than all under the number.
 pub fn append_run<K: IndexKey, V: Drop, const LEN: usize>(
     arenas: &mut ArenasOf<K, V, LEN>,
     level: usize,

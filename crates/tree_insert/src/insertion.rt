@@ -28,19 +28,18 @@ pub struct Crowded<K, V> {
 /// - Returns `Duplicate` if an equal key is there and `UPSERT` is false, even if no slot is free.
 /// - Returns `Full` if a child has to be split and the node has no slot for the separator, so that
 ///   its parent must split the node first, or if the node is retired.
-/// - Returns `Err` if a leaf or a node on the way of the key has to be split and memory is refused.
-///   Arrays may have been split by then, but the entries are what they were.
+/// - Returns `Err` if a leaf or a node on the path of the key has to be split and an allocation
+///   fails. Arrays may have been split by then, but the entries are what they were.
 ///
-/// Each of the three hands the pair back; the first two leave everything unchanged.
+/// Each of the three returns the pair; the first two leave everything unchanged.
 ///
 /// Makes at most 4 comparisons in each node on the path and in the leaf (3 among 7 slots), and one
-/// more in all. If the leaf is full and its leaf node has room, the leaf is split or rebuilt:
-/// the leaf and the node are searched once more, with three comparisons beside. Otherwise the
-/// descent restarts at the top and, once a child is split or rebuilt, at the child's parent.
-/// Allocates one leaf and one node a level at most. A split of a leaf clones one key.
+/// more in all. If the leaf is full and its leaf node has room, the leaf is split or rebuilt: the
+/// leaf and the node are searched once more, with three more comparisons. Otherwise the descent
+/// restarts at the top and, once a child is split or rebuilt, at the child's parent. Allocates one
+/// leaf and one node a level at most. A split of a leaf clones one key.
 ///
-/// The caller must see that a well-formed part of a tree, or a retired node, stands under the
-/// number.
+/// The caller must name a well-formed part of a tree, or a retired node.
 #[inline(always)]
 pub fn insert_at<const UPSERT: bool, K: IndexKey, V: Drop, const LEN: usize>(
     arenas: &mut ArenasOf<K, V, LEN>,
@@ -101,8 +100,8 @@ pub fn insert_with_room<const UPSERT: bool, K: IndexKey, V: Drop, const LEN: usi
     )
 }
 
-/// Inserts a pair, as [`insert_at`] does, for which its leaf has no room. The caller must see that
-/// the way of the key leads to that leaf.
+/// Inserts a pair, as [`insert_at`] does, for which its leaf has no room. The caller must name the
+/// leaf that the path of the key leads to.
 #[inline(never)]
 pub fn insert_crowded<const UPSERT: bool, K: IndexKey, V: Drop, const LEN: usize>(
     arenas: &mut ArenasOf<K, V, LEN>,
@@ -134,8 +133,8 @@ pub fn insert_crowded<const UPSERT: bool, K: IndexKey, V: Drop, const LEN: usize
 }
 
 // Inserts a pair, as [`insert_at`] does, under a leaf node in the leaf that its key belongs to. If
-// the leaf is full, it is split or rebuilt first. `rightmost` says that the way down has kept
-// to the unbounded children.
+// the leaf is full, it is split or rebuilt first. `rightmost` means that the descent has kept to
+// the unbounded children.
 fn insert_under_leaf_node<const UPSERT: bool, K: IndexKey, V: Drop, const LEN: usize>(
     arenas: &mut ArenasOf<K, V, LEN>,
     id: NodeId,
@@ -163,7 +162,7 @@ fn insert_under_leaf_node<const UPSERT: bool, K: IndexKey, V: Drop, const LEN: u
 }
 
 // Inserts a pair, as [`insert_at`] does, with a way back on which full children are split.
-// `rightmost` says that the way down has kept to the unbounded children so far, so that the key is
+// `rightmost` means that the descent has kept to the unbounded children so far, so that the key is
 // compared with the last separator first.
 fn insert_from<const UPSERT: bool, K: IndexKey, V: Drop, const LEN: usize>(
     arenas: &mut ArenasOf<K, V, LEN>,

@@ -13,10 +13,10 @@ use tree_node::node::{ArenasOf, NodeOf, Root};
 /// Puts the first pair into a tree without leaves, and returns the root's number. The root is a new
 /// leaf node, or the one that was retired, which gets a leaf again.
 ///
-/// Returns `Err` with the pair if memory is refused; nothing has changed then. Allocates one leaf,
-/// and one node if there is no root; isn't refused where these were reserved. Makes no comparisons.
+/// Returns `Err` with the pair if it cannot allocate; nothing has changed then. Allocates one leaf,
+/// and one node if there is no root; doesn't fail if these were reserved. Makes no comparisons.
 ///
-/// The caller must see that `LEN` is 7 or 15, and that the tree has no leaf.
+/// The caller must choose 7 or 15 for `LEN`, and pass a tree without a leaf.
 pub fn plant<K: Ord + Drop, V: Drop, const LEN: usize>(
     arenas: &mut ArenasOf<K, V, LEN>,
     root: Option<Root>,

@@ -13,12 +13,11 @@ use tree_split::split_child;
 /// Puts a root under a new one and splits it there at its array's boundary, or rebuilds it if at
 /// most three quarters of its slots hold keyed children. Returns the new root's number.
 ///
-/// Returns `Err` if memory is refused; nothing has changed then. Allocates two nodes at most, and
-/// isn't refused where two were reserved. Makes no comparisons: the separator of a split is the
-/// first in the new root's array.
+/// Returns `Err` if it cannot allocate; nothing has changed then. Allocates two nodes at most, and
+/// doesn't fail if two were reserved. Makes no comparisons: the separator of a split is the first
+/// in the new root's array.
 ///
-/// The caller must see that a well-formed tree of this depth stands under the root, which isn't
-/// retired.
+/// The caller must name the root of a well-formed tree of this depth, which isn't retired.
 pub fn split_root_at<K: Ord + Drop, V: Drop, const LEN: usize>(
     arenas: &mut ArenasOf<K, V, LEN>,
     depth: usize,

@@ -46,7 +46,7 @@ impl<K: Ord + Drop, V: Drop, N: Drop, const LEN: usize> SlotsOf<K, V, N, LEN> {
     }
 
     /// Makes room for so many more leaves and nodes, which can then be added without allocating.
-    /// Returns `Err` if memory is refused; what stands under each number stays either way.
+    /// Returns `Err` if it cannot allocate; what is under each number stays either way.
     pub fn reserve(&mut self, leaves: usize, nodes: usize) -> Result<(), AllocError>
         ensures { Reserves self.old self.new leaves nodes result }
     {
@@ -55,7 +55,8 @@ impl<K: Ord + Drop, V: Drop, N: Drop, const LEN: usize> SlotsOf<K, V, N, LEN> {
     }
 
     /// Adds a leaf under a number that was not in use, and returns the number. Returns `Err` with
-    /// the leaf if there is no room for it and memory is refused. Runs in amortized constant time.
+    /// the leaf if there is no room for it and the allocation fails. Runs in amortized constant
+    /// time.
     pub fn add_leaf(&mut self, leaf: LeafOf<K, V, LEN>) -> Result<LeafId, LeafOf<K, V, LEN>>
         ensures leaves { Adds self.old.leaves self.new.leaves leaf result }
         ensures nodes { self.new.nodes ≡ self.old.nodes }
@@ -67,7 +68,8 @@ impl<K: Ord + Drop, V: Drop, N: Drop, const LEN: usize> SlotsOf<K, V, N, LEN> {
     }
 
     /// Adds a node under a number that was not in use, and returns the number. Returns `Err` with
-    /// the node if there is no room for it and memory is refused. Runs in amortized constant time.
+    /// the node if there is no room for it and the allocation fails. Runs in amortized constant
+    /// time.
     pub fn add_node(&mut self, node: N) -> Result<NodeId, N>
         ensures nodes { Adds self.old.nodes self.new.nodes node result }
         ensures leaves { self.new.leaves ≡ self.old.leaves }

@@ -22,9 +22,8 @@ use tree_array::array::{ArrayIter, ArrayRevIter, ArrayWalk};
 use tree_model::{Backward, Direction, Forward, Way};
 
 /// An iterator over the entries of linked leaves of a type, the way that its iterator over the
-/// slots of a leaf goes. It stands in one leaf, unopened or on an entry of it. `next` goes through
-/// that leaf alone, and `jump` to the next leaf that has an entry. No call compares keys or
-/// allocates.
+/// slots of a leaf goes. It is in one leaf, unopened or on an entry of it. `next` goes through that
+/// leaf alone, and `jump` to the next leaf that has an entry. No call compares keys or allocates.
 #[derive(Drop)]
 pub struct LinkedIter<'t, L: Walked, D: Direction> {
     stand: Stand<'t, L>,
@@ -60,8 +59,8 @@ impl<'t, K: Ord + Drop, V: Drop, D: Direction, const LEN: usize> LinkedIter<
     LeafOf<K, V, LEN>,
     D,
 > {
-    /// Creates an iterator that stands unopened in a leaf. Runs in constant time. The caller must
-    /// name a leaf of a chain.
+    /// Creates an unopened iterator in a leaf. Runs in constant time. The caller must name a leaf
+    /// of a chain.
     pub fn new<N: Drop>(arenas: &'t SlotsOf<K, V, N, LEN>, id: LeafId) -> Self
         requires { (front back : _) × IsChain arenas.now.leaves (front ++ id ∷ back) }
         ensures { result ≡ standing arenas.now.leaves id None }
@@ -71,8 +70,8 @@ impl<'t, K: Ord + Drop, V: Drop, D: Direction, const LEN: usize> LinkedIter<
         LinkedIter { stand, slots }
     }
 
-    // Creates an iterator that comes from another leaf: it stands unopened in the one that was
-    // seen there, and looks ahead.
+    // Creates an iterator that comes from another leaf: it is unopened in the leaf that was seen
+    // there, and looks ahead.
     fn entering(leaves: &'t Slab<LeafOf<K, V, LEN>>, next: Beside) -> Self
         requires chain { (front back : _) × IsChain leaves.now (front ++ next.id ∷ back) }
         requires seen { next ≡ seen_at D.way leaves.now next.id }
@@ -99,8 +98,8 @@ impl<'t, K: Ord + Drop, V: Drop, D: Direction, const LEN: usize> LinkedIter<
         }
     }
 
-    /// Returns the entry that the iterator stands on, or `None` before the first `next` in a leaf.
-    /// Runs in constant time.
+    /// Returns the entry that the iterator is on, or `None` before the first `next` in a leaf. Runs
+    /// in constant time.
     #[inline]
     pub fn get(&self) -> Option<(&'t K, &'t V)>
         ensures { option_map lent_entry result ≡ stood_on self.now }
@@ -109,9 +108,9 @@ impl<'t, K: Ord + Drop, V: Drop, D: Direction, const LEN: usize> LinkedIter<
         Some(self.stand.leaf.entry(slot))
     }
 
-    /// Goes to the next leaf on the way that has an entry, and returns the first entry there. Where
-    /// none has one, returns `None` and stands unopened in the last leaf on the way, or stays where
-    /// it is if that is the last. Runs in the number of the leaves passed.
+    /// Goes to the next leaf on the way that has an entry, and returns the first entry there. If
+    /// none has one, returns `None` and is unopened in the last leaf on the way, or stays where it
+    /// is if that is the last. Runs in the number of the leaves passed.
     #[inline(always)]
     pub fn jump(&mut self) -> Option<(&'t K, &'t V)>
         ensures { Jumps D.way self.old result self.new }
@@ -150,8 +149,8 @@ impl<'t, K: Ord + Drop, V: Drop, D: Direction, const LEN: usize> LinkedIter<
 }
 
 impl<'t, K: Ord + Drop, V: Drop, const LEN: usize> LinkedIter<'t, LeafOf<K, V, LEN>, Forward> {
-    /// Returns the largest key of the leaf that the iterator stands in, if the leaf has an entry.
-    /// Runs in constant time.
+    /// Returns the largest key of the leaf that the iterator is in, if the leaf has an entry. Runs
+    /// in constant time.
     pub fn max_key(&self) -> Option<&'t K>
         ensures { option_copied result ≡ option_map (λ entry. entry.0) (last_of (here self.now)) }
     {
@@ -168,8 +167,8 @@ impl<'t, K: Ord + Drop, V: Drop, const LEN: usize> LinkedIter<'t, LeafOf<K, V, L
 }
 
 impl<'t, K: Ord + Drop, V: Drop, const LEN: usize> LinkedIter<'t, LeafOf<K, V, LEN>, Backward> {
-    /// Returns the least key of the leaf that the iterator stands in, if the leaf has an entry.
-    /// Runs in constant time.
+    /// Returns the least key of the leaf that the iterator is in, if the leaf has an entry. Runs in
+    /// constant time.
     pub fn min_key(&self) -> Option<&'t K>
         ensures { option_copied result ≡ option_map (λ entry. entry.0) (first_of (here self.now)) }
     {

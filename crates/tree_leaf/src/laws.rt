@@ -11,7 +11,7 @@ use crate::leaf::LeafOf;
 use std::alloc::{AllocError, Global};
 use tree_model::Direction;
 
-/// Returns the next entry of an iterator, in its leaf or behind a jump: the first that is left on
+/// Returns the next entry of an iterator, in its leaf or after a jump: the first that is left on
 /// its way. Returns `None` if none is left.
 #[inline(always)]
 pub fn next_or_jump<'t, K: Ord + Drop, V: Drop, D: Direction, const LEN: usize>(
@@ -25,9 +25,8 @@ pub fn next_or_jump<'t, K: Ord + Drop, V: Drop, D: Direction, const LEN: usize>(
     }
 }
 
-/// Returns all entries that are left of an iterator, in the order of its way. Returns `Err` if
-/// memory for the list is refused. The caller must have an iterator that stands in a leaf of a
-/// chain.
+/// Returns all entries that are left of an iterator, in the order of its way. Returns `Err` if it
+/// cannot allocate the list. The caller must pass an iterator in a leaf of a chain.
 pub fn entries_left<'t, K: Ord + Drop, V: Drop, D: Direction, const LEN: usize>(
     alloc: Global,
     mut walk: LinkedIter<'t, LeafOf<K, V, LEN>, D>,
@@ -42,8 +41,8 @@ pub fn entries_left<'t, K: Ord + Drop, V: Drop, D: Direction, const LEN: usize>(
     Ok(entries)
 }
 
-/// Returns all entries of a leaf and of those behind it, in ascending order. Returns `Err` if
-/// memory for the list is refused. The caller must name a leaf of a chain.
+/// Returns all entries of a leaf and of those behind it, in ascending order. Returns `Err` if it
+/// cannot allocate the list. The caller must name a leaf of a chain.
 pub fn entries_on<'t, K: Ord + Drop, V: Drop, N: Drop, const LEN: usize>(
     alloc: Global,
     arenas: &'t SlotsOf<K, V, N, LEN>,
@@ -55,8 +54,8 @@ pub fn entries_on<'t, K: Ord + Drop, V: Drop, N: Drop, const LEN: usize>(
     entries_left(alloc, IterOf::new(arenas, id))
 }
 
-/// Returns all entries of a leaf and of those before it, in descending order. Returns `Err` if
-/// memory for the list is refused. The caller must name a leaf of a chain.
+/// Returns all entries of a leaf and of those before it, in descending order. Returns `Err` if it
+/// cannot allocate the list. The caller must name a leaf of a chain.
 pub fn entries_back<'t, K: Ord + Drop, V: Drop, N: Drop, const LEN: usize>(
     alloc: Global,
     arenas: &'t SlotsOf<K, V, N, LEN>,

@@ -1,4 +1,4 @@
-//! Leaves: an array each, and links to the leaves beside it.
+//! Leaves: an array each, and links to the leaves before and after it.
 ghost use Rattle.std.specs.Prelude.{◌≡◌, [], None, Some, IsSome};
 ghost use Rattle.std.specs.Borrow.{sem};
 ghost use Rattle.tree_array.specs.Arrivals.{arrival, in_order};

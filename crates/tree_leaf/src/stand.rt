@@ -1,4 +1,4 @@
-//! The leaf that an iterator stands in, and the leaves that it is linked to.
+//! The leaf that an iterator is in, and the leaves that it is linked to.
 ghost use Rattle.std.specs.Prelude.{◌≡◌, ◌++◌, ◌∷◌, if◌then◌else◌, is_some, None, Some, List, ℕ};
 ghost use Rattle.std.specs.Option.{ForSome};
 ghost use Rattle.slab.specs.Slab.{ContainsKey, get};
@@ -32,8 +32,8 @@ impl<K: Ord, V, const LEN: usize> Walked for LeafOf<K, V, LEN> {
     ghost ahead = { λ way leaves leaf. seen way leaves (beside way leaf) };
 }
 
-/// What an iterator has seen of the leaf ahead, the one beside its leaf on its way: the number, how
-/// many entries it has, and the number of the leaf beyond it.
+/// What an iterator has read of the leaf ahead, the next one on its way: the number, how many
+/// entries it has, and the number of the leaf beyond it.
 #[derive(Clone, Copy)]
 pub struct Beside {
     pub id: LeafId,
@@ -41,7 +41,7 @@ pub struct Beside {
     pub beyond: Option<LeafId>,
 }
 
-/// The leaf that an iterator stands in, all leaves, and the leaf ahead on its way, if it has looked
+/// The leaf that an iterator is in, all leaves, and the leaf ahead on its way, if it has looked
 /// there.
 ///
 /// As soon as an iterator comes from one leaf into the next it looks ahead, so that the memory of
@@ -57,7 +57,7 @@ pub struct Stand<'t, L> {
 }
 
 impl<'t, L> Stand<'t, L> {
-    /// Stands in the same leaf once more, and has seen this of the leaf ahead.
+    /// Returns a stand in the same leaf, which has read this of the leaf ahead.
     pub fn seeing(&self, ahead: Option<Beside>) -> Self
         ensures { result ≡ record self.now { ahead = ahead } }
     {
@@ -71,8 +71,8 @@ impl<'t, L> Stand<'t, L> {
 }
 
 impl<'t, K: Ord + Drop, V: Drop, const LEN: usize> Stand<'t, LeafOf<K, V, LEN>> {
-    /// Stands in the leaf under a number, and doesn't look ahead. The caller must name a leaf in
-    /// use.
+    /// Returns a stand in the leaf under a number, which hasn't looked ahead. The caller must name
+    /// a leaf in use.
     pub fn at(leaves: &'t Slab<LeafOf<K, V, LEN>>, id: LeafId) -> Self
         requires { ContainsKey leaves.now id }
         ensures leaves { result.leaves.now ≡ leaves.now }
@@ -90,7 +90,7 @@ impl<'t, K: Ord + Drop, V: Drop, const LEN: usize> Stand<'t, LeafOf<K, V, LEN>> 
     }
 
     /// Returns what is seen of the leaf where a jump lands: the next leaf on the way that has an
-    /// entry, or else the last leaf on the way. Returns `None` where no leaf follows. Runs in the
+    /// entry, or else the last leaf on the way. Returns `None` if no leaf follows. Runs in the
     /// number of leaves passed.
     #[inline(always)]
     pub fn landing(&self, way: Way) -> Option<Beside>

@@ -38,7 +38,7 @@ pub enum Answer {
     Ascending(Bound<u64>, Bound<u64>),
     /// All pairs, in descending order.
     Descending,
-    /// Where a key is, present or between which pairs.
+    /// Where a key is: present, or between which pairs.
     Near(u64),
 }
 
@@ -58,7 +58,7 @@ pub fn answer_to<const LEN: usize>(
     respond(index, request_of(text))
 }
 
-// Applies a request and returns the answer; `None` stands for a line that is not a request.
+// Applies a request and returns the answer; `None` is a line that is not a request.
 fn respond<const LEN: usize>(
     index: &mut TreeIndexOf<u64, u64, LEN>,
     request: Option<Request>,

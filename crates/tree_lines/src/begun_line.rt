@@ -5,9 +5,9 @@ ghost use Rattle.tree_lines.specs.Spelling.{clip};
 
 use std::marker::Model;
 
-/// The bytes of a line whose line feed has not come yet.
+/// The bytes of a line whose line feed hasn't been read yet.
 ///
-/// It keeps up to 256 bytes. Of a longer line it keeps only that it is too long.
+/// It stores up to 256 bytes. Of a longer line it stores only that it is too long.
 #[derive(Drop)]
 pub struct BegunLine {
     bytes: [u8; 256],
@@ -47,7 +47,7 @@ impl BegunLine {
         Some(&self.bytes[..self.length])
     }
 
-    /// Returns whether no byte has come.
+    /// Returns whether the line has no byte.
     pub fn is_empty(&self) -> bool
         ensures { IsTrue result ↔ (self.now ≡ Some []) }
     {

@@ -39,8 +39,9 @@ impl Error for ToolFault {}
 ///
 /// Returns `Err(ToolFault::Read)` if a read fails: each line that a line feed ended is applied and
 /// answered, and what was read after the last line feed is not applied. Returns
-/// `Err(ToolFault::Write)` if a write fails or takes no byte: the request whose answer broke off is
-/// applied, and each line before it is applied and answered. Interrupted calls are not tried again.
+/// `Err(ToolFault::Write)` if a write fails or takes no byte: the request whose answer was cut
+/// short is applied, and each line before it is applied and answered. Interrupted calls are not
+/// tried again.
 ///
 /// Reads at most 256 bytes at a time. The engine allocates nothing; an insert or an upsert may
 /// allocate in the index.

@@ -51,7 +51,7 @@ pub fn write_descending<W: Write, const LEN: usize>(
     write_whole(output, b"\n")
 }
 
-/// Writes where a key is, with its pair or those beside it, and a line feed.
+/// Writes where a key is, with its pair or its neighbours, and a line feed.
 ///
 /// Returns `Err` if a write fails; part of the line may have been written. Allocates nothing.
 pub fn write_near<W: Write, const LEN: usize>(
@@ -73,7 +73,7 @@ pub fn write_near<W: Write, const LEN: usize>(
     }
 }
 
-// Writes a word, then each pair that there is behind a space, and a line feed.
+// Writes a word, then each of the pairs that exists after a space, and a line feed.
 fn write_told<W: Write>(
     output: &mut W,
     word: &[u8],
@@ -89,7 +89,7 @@ fn write_told<W: Write>(
     write_whole(output, b"\n")
 }
 
-// Writes a pair behind a space, or nothing if there is none.
+// Writes a space and a pair, or nothing if there is none.
 fn write_if_any<W: Write>(output: &mut W, pair: Option<(&u64, &u64)>) -> Result<(), WriteFailed>
     ensures { Writes (behind_spaces (map pair_text (listed (lent pair.entry))))
         (W.contents output.old) (W.contents output.new) result }
@@ -100,7 +100,7 @@ fn write_if_any<W: Write>(output: &mut W, pair: Option<(&u64, &u64)>) -> Result<
     }
 }
 
-// Writes a pair, behind a space unless it is the first of its line.
+// Writes a pair, after a space unless it is the first of its line.
 fn write_pair<W: Write>(
     output: &mut W,
     is_first: bool,

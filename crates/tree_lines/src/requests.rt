@@ -23,23 +23,23 @@ pub enum Request {
     RemoveRange(Bound<u64>, Bound<u64>),
     /// `clear`: removes all pairs.
     Clear,
-    /// `peek K`: asks for the value at a key.
+    /// `peek K`: returns the value at a key.
     Peek(u64),
-    /// `contains K`: asks whether a key is present.
+    /// `contains K`: returns whether a key is present.
     Contains(u64),
-    /// `len`: asks for the number of pairs.
+    /// `len`: returns the number of pairs.
     Len,
-    /// `depth`: asks for the number of levels of nodes.
+    /// `depth`: returns the number of levels of nodes.
     Depth,
-    /// `spare`: asks how many writes are sure not to allocate.
+    /// `spare`: returns how many writes are sure not to allocate.
     Spare,
-    /// `iter`: asks for all pairs, in ascending order.
+    /// `iter`: returns all pairs, in ascending order.
     Iter,
-    /// `back`: asks for all pairs, in descending order.
+    /// `back`: returns all pairs, in descending order.
     Back,
-    /// `range LO HI`: asks for the pairs whose keys are within both bounds, in ascending order.
+    /// `range LO HI`: returns the pairs whose keys are within both bounds, in ascending order.
     Range(Bound<u64>, Bound<u64>),
-    /// `locate K`: asks where a key is, present or between which pairs.
+    /// `locate K`: returns where a key is: present, or between which pairs.
     Locate(u64),
 }
 

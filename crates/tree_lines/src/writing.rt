@@ -21,7 +21,7 @@ impl Error for WriteFailed {}
 
 /// Writes all of the bytes, by as many writes as that takes.
 ///
-/// Returns `Err` if a write fails or takes no byte; a front of the bytes may have been written. An
+/// Returns `Err` if a write fails or takes no byte; a prefix of the bytes may have been written. An
 /// interrupted write is not tried again. Allocates nothing.
 ///
 /// ```

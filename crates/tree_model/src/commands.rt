@@ -36,7 +36,7 @@ pub enum Reply<V> {
     Done,
     /// The value of the key, or `None` if the key is absent.
     Found(Option<V>),
-    /// An allocation was refused, and nothing changed.
+    /// An allocation failed, and nothing changed.
     Refused,
 }
 
@@ -49,13 +49,13 @@ pub struct Record<K, V> {
     pub reply: Reply<V>,
 }
 
-/// The error of an insert. It hands the pair back.
+/// The error of an insert, with the pair that was not stored.
 #[derive(Clone, Copy, Debug, PartialEq, Eq, Drop)]
 pub enum InsertError<K, V> {
     /// The key is present.
     Duplicate(K, V),
-    /// An allocation was refused. An index answers this of an absent key alone, a call that keeps a
-    /// history of any key.
+    /// An allocation failed. An index returns this only for an absent key, a call that keeps a
+    /// history for any key.
     OutOfMemory(K, V),
 }
 

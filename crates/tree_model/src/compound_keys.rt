@@ -1,4 +1,4 @@
-//! Keys and values that are made of others: tuples, options, texts that are lent, and bytes.
+//! Keys and values that are made of others: tuples, options, borrowed texts, and bytes.
 ghost use Rattle.std.specs.Prelude.{ℕ, List, Option};
 ghost use Rattle.std.specs.Option.{option_map};
 ghost use Rattle.std.proofs.Common.{ap, sym, rules};
@@ -44,7 +44,7 @@ impl<V: SameClone> SameClone for Option<V> {
     ghost clone_seen = { Prim.search rules };
 }
 
-/// A text that is lent. It is seen as its bytes.
+/// A borrowed text. It is seen as its bytes.
 impl IndexKey for &str {
     ghost clone_equal = { λ x y h. equal_texts x.now y.now (ap (λ t. t.now) h) };
 }
@@ -57,7 +57,7 @@ impl SameClone for &str {
     ghost clone_seen = { λ x y h. sym (ap (λ t. t.now) h) };
 }
 
-/// Bytes that are lent. They are seen as they are.
+/// Borrowed bytes. They are seen as they are.
 impl IndexKey for &[u8] {
     ghost clone_equal = { λ x y h. equal_texts x.now y.now (ap (λ t. t.now) h) };
 }

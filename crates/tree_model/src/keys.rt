@@ -7,14 +7,14 @@ ghost use Rattle.tree_model.specs.Keys.{equal_booleans, equal_integers, equal_nu
 /// A key of an index. Its order is total and agrees with its equality, as `Ord` requires, and a
 /// clone compares equal to its source.
 ///
-/// An index clones a key where it needs a separator. If a clone cannot allocate, the
-/// insert returns `Err`.
+/// An index clones a key when it needs a separator. If a clone cannot allocate, the insert returns
+/// `Err`.
 pub trait IndexKey: Clone + Ord + Drop {
     ghost clone_equal: { (x y : Self) → Self.is_clone x y → Self.cmp x y ≡ Equal };
 }
 
 /// A key or a value that a history may keep a clone of. Contracts see a value as its `seen`, and a
-/// clone is seen as its source is. What is seen is of the value's own type, unless an impl says
+/// clone is seen as its source is. What is seen is of the value's own type, unless an impl states
 /// otherwise.
 pub trait SameClone: Clone + Drop {
     ghost Seen: { Type 0 } = { Self };

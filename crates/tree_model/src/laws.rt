@@ -1,4 +1,4 @@
-//! Laws of the definitions. Each is the contract of a function that does nothing: call it where a
+//! Laws of the definitions. Each is the contract of a function that does nothing: call it if a
 //! proof needs the law.
 ghost use Rattle.tree_model.specs.Laws.{EditsKeepOrder, EditsAreFound, LookUpsTellLists, LaterPutStays};
 

@@ -11,11 +11,11 @@ pub enum Move {
     Get,
     /// Returns the pair of the backward end.
     GetBack,
-    /// Gives the place of the one end that is opened to the other.
+    /// Moves the place of the one opened end to the other end.
     Flip,
 }
 
-/// What a cursor answers to a call.
+/// What a cursor returns from a call.
 #[derive(Debug, Drop)]
 pub enum Answer<'t, K, V> {
     /// The pair of an end, if it shows one.

@@ -11,7 +11,7 @@ use tree_leaf::arena::{LeafId, NodeId};
 /// separators. A retired node has no child.
 #[derive(Drop)]
 pub struct BranchOf<K: Ord, I, const LEN: usize> {
-    // Beside the order of the keys in memory, since each way down reads both.
+    // Beside the order of the keys in memory, since each descent reads both.
     pub unbounded_child: Option<I>,
     pub children: ArrayOf<K, I, LEN>,
 }

@@ -9,7 +9,7 @@ use tree_leaf::arena::NodeId;
 /// Returns the level of a node: the number of nodes on the path from it to a leaf, counting itself.
 /// A retired node is at level 1. Reads one node per level and makes no comparisons.
 ///
-/// The caller must name a node under which a well-formed part of a tree stands, or a retired node.
+/// The caller must name a well-formed part of a tree, or a retired node.
 pub fn level_of<K: Ord + Drop, V: Drop, const LEN: usize>(
     arenas: &ArenasOf<K, V, LEN>,
     id: NodeId,

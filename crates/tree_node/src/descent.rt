@@ -1,4 +1,4 @@
-//! The way down from a node to the leaf that a key belongs to.
+//! The descent from a node to the leaf that a key belongs to.
 ghost use Rattle.std.specs.Prelude.{◌≡◌, ◌↔◌, ◌⊎◌, ◌-◌, ◌<◌, ℕ, IsTrue, MatchOption, Some};
 ghost use Rattle.slab.specs.Slab.{get};
 ghost use Rattle.tree_array.specs.Spans.{Spans};
@@ -18,20 +18,19 @@ pub struct LeafPlace {
     /// The leaf node above it.
     pub node: NodeId,
     pub leaf: LeafId,
-    /// Whether the way down kept to the unbounded children.
+    /// Whether the descent kept to the unbounded children.
     pub rightmost: bool,
 }
 
 /// Returns the leaf that a key belongs to under the number of a node of this level, or `None` if
 /// the node is retired.
 ///
-/// With `rightmost` the way down compares the key with the last separator first as long as it keeps
+/// With `rightmost` the descent first compares the key with the last separator as long as it keeps
 /// to the unbounded children, where keys that arrive in ascending order belong. Makes at most 4
 /// comparisons per level among 15 slots and 3 among 7, and with `rightmost` one more at one level.
 /// Changes nothing, and so needs no way back.
 ///
-/// The caller must see that a well-formed part of a tree, or a retired node, stands under the
-/// number.
+/// The caller must name a well-formed part of a tree, or a retired node.
 #[inline(always)]
 pub fn leaf_for<K: Ord + Drop, V: Drop, const LEN: usize>(
     arenas: &ArenasOf<K, V, LEN>,

@@ -1,5 +1,5 @@
 //! Trees of nodes over linked leaves, kept in arenas under numbers: what a tree is, how a key finds
-//! its child, and the way of a key from the root to its leaf, with look-ups over it.
+//! its child, and the path of a key from the root to its leaf, with look-ups along it.
 #![tactic(auto)]
 
 pub mod branch;

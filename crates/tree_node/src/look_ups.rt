@@ -33,11 +33,11 @@ pub fn search_at<'a, K: Ord + Drop, V: Drop, J: Judge<K>, const LEN: usize>(
     arenas.leaf(leaf).array().search_entry(judge)
 }
 
-/// Returns the leaf that the key of the asked, a judge or the key itself, belongs to under a
-/// number, or `None` if the node is retired. Makes at most `4 * level` comparisons with 15 slots,
-/// and `3 * level` with 7.
+/// Returns the leaf that the sought key belongs to under a number, or `None` if the node is
+/// retired. `asked` is a judge, or the key itself. Makes at most `4 * level` comparisons with 15
+/// slots, and `3 * level` with 7.
 ///
-/// It goes down by a loop, so that the search in the leaf keeps its moves without a branch in the
+/// It descends in a loop, so that the search in the leaf keeps its moves without a branch in the
 /// caller's loop over keys.
 ///
 /// The caller must name a well-formed part of a tree at this level, or a retired node.

@@ -17,9 +17,9 @@ pub struct ChildPlace<I> {
 }
 
 impl<K: Ord + Drop, I: Copy + Drop, const LEN: usize> BranchOf<K, I, LEN> {
-    /// Returns the child that the key of the asked, a judge or the key itself, belongs to: the
-    /// child under the least separator that the key doesn't exceed, or else the unbounded child.
-    /// Returns `None` if the node is retired. Makes at most 4 comparisons among 15 slots, and 3
+    /// Returns the child that the sought key belongs to: the child under the least separator that
+    /// the key doesn't exceed, or else the unbounded child. Returns `None` if the node is retired.
+    /// `asked` is a judge, or the key itself. Makes at most 4 comparisons among 15 slots, and 3
     /// among 7.
     #[inline(always)]
     pub fn child_for<By, A: Asks<K, By>>(&self, asked: &mut A) -> Option<I>
@@ -38,8 +38,8 @@ impl<K: Ord + Drop, I: Copy + Drop, const LEN: usize> BranchOf<K, I, LEN> {
     /// Returns the child that a key belongs to, as [`child_for`](BranchOf::child_for) does, and the
     /// slot of its separator. Makes as many comparisons, which no judge counts.
     ///
-    /// With `rightmost` it compares the key with the last separator first, and answers the
-    /// unbounded child at once if the key is larger: an insert asks so as long as its way down
+    /// With `rightmost` it first compares the key with the last separator, and returns the
+    /// unbounded child at once if the key is larger: an insert calls it so as long as its descent
     /// keeps to the unbounded children, where keys that arrive in ascending order belong. That is
     /// at most one comparison more.
     #[inline]
@@ -97,7 +97,7 @@ pub fn is_beyond<K: Ord + Drop, V: Drop, const LEN: usize>(
 ) -> bool
     ensures { IsTrue result ↔ (least_from K.cmp array.now.entries key.now ≡ None) }
 {
-    // The contract of `free` says that the keys ascend.
+    // The contract of `free` states that the keys ascend.
     let _ = array.free();
     match array.last_slot() {
         Some(slot) => key.cmp(array.key(slot)).is_gt(),

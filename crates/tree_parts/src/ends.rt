@@ -10,12 +10,12 @@ use tree_leaf::leaf::LeafOf;
 use tree_model::Direction;
 use tree_node::node::{ArenasOf, NodeOf};
 
-/// Returns a walk, either way, that stands before the entry under a number of this level that it
-/// comes to first, in its leaf, or `None` if no entry is there. Makes no comparisons. Reads one
-/// array a level, and those of the leaves without an entry before that one.
+/// Returns a walk, either way, that is before the first entry on its way under a number of this
+/// level, in the leaf of that entry, or `None` if no entry is there. Makes no comparisons. Reads
+/// one array a level, and those of the leaves without an entry before that one.
 ///
-/// The caller must see that a well-formed part of a tree stands there, whose leaves are in one
-/// chain, or a retired node.
+/// The caller must name a well-formed part of a tree, whose leaves are in one chain, or a retired
+/// node.
 pub fn walk_from_end<'a, K: Ord + Drop, V: Drop, D: Direction, const LEN: usize>(
     arenas: &'a ArenasOf<K, V, LEN>,
     level: usize,
@@ -30,8 +30,7 @@ pub fn walk_from_end<'a, K: Ord + Drop, V: Drop, D: Direction, const LEN: usize>
     Some(LinkedIter::new(arenas, leaf))
 }
 
-// Returns the leaf with an entry that a walk comes to first, of those under a number of this
-// level.
+// Returns the first leaf with an entry on the way of a walk, of those under a number of this level.
 fn end_leaf_at<K: Ord + Drop, V: Drop, D: Direction, const LEN: usize>(
     arenas: &ArenasOf<K, V, LEN>,
     level: usize,

@@ -24,8 +24,7 @@ pub struct EntryPlace {
 /// `None` if the key is absent. Makes at most 4 comparisons a level and in the leaf (3 among 7
 /// slots).
 ///
-/// The caller must see that a well-formed part of a tree, or a retired node, stands under the
-/// number.
+/// The caller must name a well-formed part of a tree, or a retired node.
 pub fn entry_for<K: Ord + Drop, V: Drop, const LEN: usize>(
     arenas: &ArenasOf<K, V, LEN>,
     level: usize,
@@ -85,7 +84,7 @@ fn take_slot<K: Ord + Drop, V: Drop, const LEN: usize>(
     ensures removes { RemovesUnder K.cmp surely 0 arenas.old arenas.new place.leaf result.2 result.0 }
     ensures settled { result.2 ≡ RemoveResult.Success → IsRetired 0 arenas.new place.leaf → ⊥ }
 {
-    // The contract of `free` says what holds of a retired leaf.
+    // The contract of `free` states what holds of a retired leaf.
     let _ = arenas.leaf(place.leaf).array().free();
     arenas.leaf_mut(place.leaf).array_mut().take(place.slot)
 }

@@ -13,8 +13,7 @@ use tree_node::node::{ArenasOf, NodeOf, Root};
 /// A retired internal root leaves `None`. A root that is a leaf node stays, retired or not. Drops
 /// one node for each level that is lost; makes no comparisons and allocates nothing.
 ///
-/// The caller must see that a well-formed part of a tree, or a retired node, stands under the
-/// number.
+/// The caller must name a well-formed part of a tree, or a retired node.
 #[inline(always)]
 pub fn lower_root_at<K: Ord + Drop, V: Drop, const LEN: usize>(
     arenas: &mut ArenasOf<K, V, LEN>,

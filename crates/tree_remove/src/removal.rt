@@ -15,16 +15,16 @@ use tree_node::descent::leaf_for;
 use tree_node::node::ArenasOf;
 
 /// Removes the pair with an equal key from under the number of a node of this level, if the
-/// condition says yes of its value. The condition is called once if the key is there, and never
-/// otherwise.
+/// condition returns `true` for its value. Calls the condition once if the key is present, else
+/// never.
 ///
-/// Returns `Fail` if the key is absent or the condition says no; nothing has changed then. Returns
-/// `Retired` if no child is left under the number, and `Success` otherwise. Makes at most 4
+/// Returns `Fail` if the key is absent or the condition returns `false`; nothing has changed then.
+/// Returns `Retired` if no child is left under the number, and `Success` otherwise. Makes at most 4
 /// comparisons a level and in the leaf (3 among 7 slots), and twice as many if the pair is the last
 /// of its leaf. Allocates nothing.
 ///
-/// The caller must see that a well-formed part of a tree, or a retired node, stands under the
-/// number, and that the condition may be called on the value at the key.
+/// The caller must name a well-formed part of a tree, or a retired node, and pass a condition that
+/// may be called on the value at the key.
 pub fn remove_at<K: Ord + Drop, V: Drop, F: FnOnce(&V) -> bool + Drop, const LEN: usize>(
     arenas: &mut ArenasOf<K, V, LEN>,
     level: usize,
@@ -53,7 +53,7 @@ pub fn remove_at<K: Ord + Drop, V: Drop, F: FnOnce(&V) -> bool + Drop, const LEN
 /// Removes a pair, as [`remove_at`] does, from the leaf that its key belongs to, if this has
 /// another one, so that no node changes. Returns whether it did. Reads no node.
 ///
-/// Returns `Err` with the condition, and changes nothing, if the leaf has one pair alone or none.
+/// Returns `Err` with the condition, and changes nothing, if the leaf has only one pair or none.
 #[inline(always)]
 pub fn remove_beside<K: Ord + Drop, V: Drop, F: FnOnce(&V) -> bool + Drop, const LEN: usize>(
     arenas: &mut ArenasOf<K, V, LEN>,
@@ -81,7 +81,7 @@ pub fn remove_beside<K: Ord + Drop, V: Drop, F: FnOnce(&V) -> bool + Drop, const
     match remove_in_leaf(arenas, leaf, key, condition) {
         RemoveResult::Success => Ok(true),
         RemoveResult::Fail => Ok(false),
-        // Of two pairs one is left.
+        // Of two pairs, one is left.
         RemoveResult::Retired => unreachable!(),
     }
 }
@@ -110,7 +110,7 @@ pub fn remove_alone<K: Ord + Drop, V: Drop, F: FnOnce(&V) -> bool + Drop, const 
     }
 }
 
-// Removes the pair with an equal key from a leaf, if the condition says yes of its value.
+// Removes the pair with an equal key from a leaf, if the condition returns `true` for its value.
 #[inline(always)]
 fn remove_in_leaf<K: Ord + Drop, V: Drop, F: FnOnce(&V) -> bool + Drop, const LEN: usize>(
     arenas: &mut ArenasOf<K, V, LEN>,
@@ -125,7 +125,7 @@ fn remove_in_leaf<K: Ord + Drop, V: Drop, F: FnOnce(&V) -> bool + Drop, const LE
         (λ val said. FnOnceReturnsAt F.FnOnce condition val said) 0 arenas.old arenas.new id result key.now }
     ensures settled { result ≡ RemoveResult.Success → IsRetired 0 arenas.new id → ⊥ }
 {
-    // The contract of `free` says what holds of a retired leaf.
+    // The contract of `free` states what holds of a retired leaf.
     let _ = arenas.leaf(id).array().free();
     arenas.leaf_mut(id).array_mut().remove_if(key, condition)
 }

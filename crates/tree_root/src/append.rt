@@ -19,7 +19,7 @@ use tree_model::InsertError;
 
 impl<K: IndexKey, V: Drop, const LEN: usize> Tree<K, V, LEN> {
     /// Creates an empty tree with room for so many pairs that are appended: their leaves and nodes
-    /// are reserved. Returns `Err` if an allocation is refused. Allocates nothing for no pair.
+    /// are reserved. Returns `Err` if it cannot allocate. Allocates nothing for no pair.
     pub fn with_room(alloc: Global, pairs: usize) -> Result<Self, AllocError>
         requires { IsLen LEN }
         ensures whole { IfOk result (IsWhole K.cmp) }
@@ -32,8 +32,8 @@ impl<K: IndexKey, V: Drop, const LEN: usize> Tree<K, V, LEN> {
         Ok(tree)
     }
 
-    /// Returns a tree of pairs whose keys ascend, which the caller must see to. Returns `Err` if an
-    /// allocation is refused; nothing of the tree is left then. Makes no comparisons but a few for
+    /// Returns a tree of these pairs. The caller must pass pairs whose keys ascend. Returns `Err`
+    /// if it cannot allocate; nothing of the tree is left then. Makes no comparisons but a few for
     /// each leaf, and those of a descent for each leaf node.
     pub fn from_sorted(alloc: Global, pairs: Vec<(K, V)>) -> Result<Self, AllocError>
         requires len { IsLen LEN }
@@ -47,8 +47,8 @@ impl<K: IndexKey, V: Drop, const LEN: usize> Tree<K, V, LEN> {
         Ok(tree)
     }
 
-    // Appends pairs whose keys ascend and are larger than all. Returns `Err` if an allocation is
-    // refused. The caller must reserve the leaves and nodes that the pairs fill.
+    // Appends pairs whose keys ascend and are larger than all. Returns `Err` if it cannot allocate.
+    // The caller must reserve the leaves and nodes that the pairs fill.
     fn append_sorted(&mut self, pairs: Vec<(K, V)>) -> Result<(), AllocError>
         requires len { IsLen LEN }
         requires whole { IsWhole K.cmp self.old }
@@ -63,8 +63,8 @@ impl<K: IndexKey, V: Drop, const LEN: usize> Tree<K, V, LEN> {
         self.append_run(&mut run)
     }
 
-    /// Puts a pair behind a run, and appends the run to the tree first if it is full. Returns `Err`
-    /// if an allocation is refused.
+    /// Appends a pair to a run, and first appends the run to the tree if it is full. Returns `Err`
+    /// if it cannot allocate.
     ///
     /// The caller must pass a pair whose key is larger than those of the run, which are larger than
     /// those of the tree.
@@ -82,8 +82,7 @@ impl<K: IndexKey, V: Drop, const LEN: usize> Tree<K, V, LEN> {
         Ok(())
     }
 
-    /// Appends the pairs of a run, which has none afterwards. Returns `Err` if an allocation is
-    /// refused.
+    /// Appends the pairs of a run, which has none afterwards. Returns `Err` if it cannot allocate.
     ///
     /// The run becomes the last leaf as a whole, under its node, which is found along the unbounded
     /// children. If that node is full, or the tree has no leaf yet, its pairs are appended one by
@@ -132,9 +131,9 @@ impl<K: IndexKey, V: Drop, const LEN: usize> Tree<K, V, LEN> {
     // Stores a pair whose key is larger than all, and keeps the last leaf in `last`, to be passed
     // with the next pair.
     //
-    // Returns `Err` with the pair if an allocation is refused. If `last` has a free slot, the pair
-    // is put there: that compares and allocates nothing. Otherwise costs what
-    // [`store`](Tree::store) does.
+    // Returns `Err` with the pair if it cannot allocate. If `last` has a free slot, the pair is put
+    // there, without a comparison or an allocation. Otherwise costs what [`store`](Tree::store)
+    // does.
     //
     // The caller must pass no leaf but the last one.
     #[inline(always)]

@@ -10,8 +10,8 @@ use tree_node::node::ArenasOf;
 
 /// The leaf that the last removal descended to, and whether the one before went there too.
 ///
-/// It is a hint, which may be out of date: it is taken only if the key lies in the leaf that has
-/// the number now. So no clause speaks of it, and no other call has to keep it right.
+/// It is a hint, which may be out of date: it is used only if the key lies in the leaf that has the
+/// number now. So no clause mentions it, and no other call has to keep it right.
 #[derive(Clone, Copy)]
 pub struct Finger {
     leaf: LeafId,

@@ -1,4 +1,4 @@
-//! The tree that an index stands on.
+//! The tree of an index.
 ghost use Rattle.std.specs.Prelude.{◌≡◌, ◌⊎◌, ℕ, [], ◌+◌, ◌*◌, ◌^◌, ◌<◌, ◌≤◌, length, Bool, MatchOption, None, Some, false, true};
 ghost use Rattle.std.specs.Fn.{FnOnceReturnsAt, FnOnceTakesAt};
 ghost use Rattle.std.specs.Option.{ForSome};
@@ -35,7 +35,7 @@ use tree_remove::removal::{remove_alone, remove_beside};
 pub enum Stored {
     /// No pair had an equal key.
     New,
-    /// The pair stands in place of one with an equal key.
+    /// The pair replaced one with an equal key.
     Replaced,
 }
 
@@ -75,10 +75,10 @@ impl<K: IndexKey, V: Drop, const LEN: usize> Tree<K, V, LEN> {
 
     /// Stores a pair. With `UPSERT` it replaces the pair with an equal key.
     ///
-    /// Returns `Err` with the pair if an equal key is there and `UPSERT` is false, or if memory is
-    /// refused. Makes at most 4 comparisons a level and in the leaf (3 among 7 slots), and one more
-    /// in all. If the leaf is full, it searches the leaf and its node once more, or descends once
-    /// more.
+    /// Returns `Err` with the pair if an equal key is there and `UPSERT` is false, or if it cannot
+    /// allocate. Makes at most 4 comparisons a level and in the leaf (3 among 7 slots), and one
+    /// more in all. If the leaf is full, it searches the leaf and its node once more, or descends
+    /// once more.
     #[inline(always)]
     pub fn store<const UPSERT: bool>(&mut self, key: K, val: V) -> Result<Stored, InsertError<K, V>>
         requires len { IsLen LEN }
@@ -183,9 +183,9 @@ impl<K: IndexKey, V: Drop, const LEN: usize> Tree<K, V, LEN> {
         }
     }
 
-    /// Removes the pair at a key where the condition says so of its value, and says whether it did.
-    /// Makes at most 4 comparisons a level and in the leaf (3 among 7 slots), and twice as many if
-    /// the pair is the last of its leaf. Allocates nothing.
+    /// Removes the pair at a key if the condition returns `true` for its value, and returns whether
+    /// it did. Makes at most 4 comparisons a level and in the leaf (3 among 7 slots), and twice as
+    /// many if the pair is the last of its leaf. Allocates nothing.
     ///
     /// If the last two removals went to one leaf, the key is first compared with the first and the
     /// last one there. Between them it needs no descent.

@@ -1,4 +1,4 @@
-//! How the value of a pair is changed where it stands.
+//! How the value of a pair is changed in place.
 ghost use Rattle.std.specs.Prelude.{◌≡◌, Err, MatchOption, Ok, false, true};
 ghost use Rattle.std.specs.Option.{ForSome};
 ghost use Rattle.tree_model.specs.Pairs.{pair_at, put};
@@ -32,8 +32,8 @@ impl<K: IndexKey, V: Drop, const LEN: usize> Tree<K, V, LEN> {
         }
     }
 
-    /// Passes the value at a key to a function, and stores what it returns in its stead. Returns
-    /// whether the key is there, and calls the function only then. Costs what
+    /// Passes the value at a key to a function, and stores what it returns in its place. Returns
+    /// whether the key is present, and calls the function only then. Costs what
     /// [`replace_value`](Tree::replace_value) does, and the call.
     pub fn change_value<F: FnOnce(V) -> V + Drop>(&mut self, key: &K, change: F) -> bool
         requires whole { IsWhole K.cmp self.old }

@@ -31,7 +31,7 @@ pub type UnclosedOf<K, V, C, S, M, F, D, const LEN: usize> = UnclosedOver<
     LEN,
 >;
 
-/// Why an index was not closed. Hands everything back. `LEN` is 7 or 15.
+/// Why an index was not closed, with the shared index and the passes. `LEN` is 7 or 15.
 #[derive(Drop)]
 pub enum UnclosedOver<K: IndexKey + SameClone, V: SameClone, B: Books, const LEN: usize> {
     /// A pass is absent.

@@ -1,24 +1,24 @@
-//! What the workers of a storm ask and tell.
+//! The calls of a storm's workers before and after each call of the index.
 ghost use Rattle.std.specs.Prelude.{◌≡◌, ℕ, Bool, true, ⊤};
 
-/// What each worker asks before a call, and tells after it. Workers count from 0, and the calls of
-/// each from 1.
+/// What each worker of a storm calls before and after each call of the index. Workers count from 0,
+/// and the calls of each from 1.
 pub trait Gate {
-    // What a worker may be answered before a call. Contracts of storms say what their gate
-    // answered.
+    // What `before` may return to a worker. Contracts of storms state what their gate returned.
     ghost answers: { Self → ℕ → ℕ → Bool → Type 0 } = { λ _ _ _ _. ⊤ };
 
-    /// Comes before each call. A worker that is answered `false` stops. It costs each call one
-    /// question, outside the lock.
+    /// Called before each call of the index. A worker to which it returns `false` stops. Costs each
+    /// call of the index one call, outside the lock.
     fn before(&self, worker: usize, call: u64) -> bool
         ensures { answers self.now worker call result };
 
-    /// Comes after each call, once it is answered. It costs each call one report, outside the lock.
+    /// Called after each call of the index, once it is answered. Costs each call of the index one
+    /// call, outside the lock.
     fn after(&self, worker: usize, call: u64)
         requires { answers self.now worker call true };
 }
 
-/// A gate that always answers `true`.
+/// A gate whose `before` always returns `true`.
 #[derive(Clone, Copy)]
 pub struct OpenGate;
 

@@ -1,4 +1,4 @@
-//! What lies under the lock of a shared index.
+//! What the lock of a shared index guards.
 ghost use Rattle.std.specs.Prelude.{◌≡◌, ◌<◌, true, IfOk, IfErr, OnErr};
 ghost use Rattle.tree_model.specs.History.{Appends};
 ghost use Rattle.tree_state.specs.Inserts.{RecordsInsert};
@@ -11,7 +11,7 @@ use crate::serves::Serves;
 use tree_index::{Command, IndexKey, InsertError, Reply, SameClone};
 use tree_state::{Books, BooksOf, PassOf, PreparedPair, StateOf, Workers};
 
-/// What lies under the lock: the state, and the books that tally its history. `LEN` is 7 or 15.
+/// What the lock guards: the state, and the books that tally its history. `LEN` is 7 or 15.
 pub struct Locked<K: IndexKey + SameClone, V: SameClone, B: Books, const LEN: usize> {
     pub(crate) state: StateOf<K, V, LEN>,
     pub(crate) books: BooksOf<B>,
@@ -50,7 +50,7 @@ impl<K: IndexKey + SameClone, V: SameClone, B: Books, const LEN: usize> Locked<K
 
     /// Answers a command, and counts its reply in the books and in the pass.
     ///
-    /// Returns `Err` with the command if an allocation is refused; nothing changed then.
+    /// Returns `Err` with the command if an allocation fails; nothing changed then.
     #[inline(always)]
     pub fn apply(
         &mut self,
@@ -105,7 +105,7 @@ impl<K: IndexKey + SameClone, V: SameClone, B: Books, const LEN: usize> Locked<K
 
     /// Answers an upsert, and counts its reply in the books and in the pass.
     ///
-    /// Returns `Err` with the pair if an allocation is refused; nothing changed then.
+    /// Returns `Err` with the pair if an allocation fails; nothing changed then.
     #[inline(always)]
     pub fn upsert(&mut self, pass: &mut PassOf<B>, pair: PreparedPair<K, V>) -> Result<(), (K, V)>
         requires room { pass.old.calls < u64.MAX }

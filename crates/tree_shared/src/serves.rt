@@ -1,14 +1,14 @@
-//! What a lock guards, as a call sees it that takes the lock.
+//! What a lock guards, as seen by a call that takes the lock.
 ghost use Rattle.std.specs.Prelude.{◌<◌};
 ghost use Rattle.tree_state.specs.declared.tally.Tally.{Tally};
 
 use std::sync::{Mutex, Wait};
 use tree_state::{Books, PassOf};
 
-/// What answers requests, and counts the answers in the pass of the worker that asks.
+/// What answers requests, and counts the answers in the pass of the calling worker.
 ///
-/// A call that takes the lock knows what it guards by this trait alone, so it speaks of no number
-/// of slots.
+/// A call that takes the lock knows what it guards only by this trait, so it doesn't depend on the
+/// number of slots.
 pub trait Serves<Q, A, B: Books>: Drop {
     // What an answer to a request makes of the pass's tally.
     ghost counts: { Q → A → Tally → Tally → Type 0 };
@@ -25,8 +25,8 @@ pub trait Serves<Q, A, B: Books>: Drop {
 
 /// Takes the lock, and answers a request under it.
 ///
-/// No clause sees what the lock guards. But nothing else makes an `A` of a `Q`, so the answer is
-/// what `serve` gave to this request.
+/// No clause sees what the lock guards. But nothing else makes an `A` from a `Q`, so the answer is
+/// what `serve` returned for this request.
 #[inline(always)]
 pub fn serve<Q, A, B: Books, T: Serves<Q, A, B>, R: Wait>(
     lock: &Mutex<T>,
@@ -37,7 +37,7 @@ pub fn serve<Q, A, B: Books, T: Serves<Q, A, B>, R: Wait>(
     requires { pass.old.calls < u64.MAX }
     ensures { T.counts request result pass.old pass.new }
 {
-    // A free lock is taken here, so that waiting alone is a call.
+    // A free lock is taken here, so that only waiting is a call.
     let mut guarded = match lock.try_lock() {
         Some(guarded) => guarded,
         None => lock.lock(rt),

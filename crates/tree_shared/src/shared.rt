@@ -35,7 +35,7 @@ pub type SharedTreeIndexOf<K, V, C, S, M, F, D, const LEN: usize> = SharedOver<
 /// An index that threads share by reference, each with a pass of its own. `LEN` is 7 or 15.
 ///
 /// One lock guards the index, the history of its calls and the tally of the history, and each call
-/// takes it once. A call is counted in the pass it is made by.
+/// takes it once. A call is counted in the pass that it was made with.
 #[derive(Drop)]
 pub struct SharedOver<K: IndexKey + SameClone, V: SameClone, B: Books, const LEN: usize> {
     locked: Mutex<Locked<K, V, B, LEN>>,
@@ -89,9 +89,9 @@ impl<K: IndexKey + SameClone, V: SameClone, B: Books, const LEN: usize> SharedOv
 
     /// Stores a pair if its key is absent.
     ///
-    /// Returns `Duplicate` if the key is present, and `OutOfMemory` if an allocation is refused,
-    /// for the pair or for the history, also where the key is present. Both hand the pair back.
-    /// After `OutOfMemory` nothing changed. Clones the pair before it takes the lock.
+    /// Returns `Duplicate` if the key is present, and `OutOfMemory` if an allocation fails, for the
+    /// pair or for the history, even if the key is present. Both return the pair. After
+    /// `OutOfMemory` nothing changed. Clones the pair before it takes the lock.
     ///
     /// ```
     /// for number in numbers {
@@ -119,8 +119,8 @@ impl<K: IndexKey + SameClone, V: SameClone, B: Books, const LEN: usize> SharedOv
 
     /// Stores a pair. A pair with an equal key is replaced, key and value.
     ///
-    /// Returns `Err` with the pair if an allocation is refused; nothing changed then. Clones the
-    /// pair before it takes the lock.
+    /// Returns `Err` with the pair if an allocation fails; nothing changed then. Clones the pair
+    /// before it takes the lock.
     ///
     /// ```
     /// Command::Upsert(key, value) => match shared.upsert(rt, pass, *key, *value) {
@@ -148,8 +148,8 @@ impl<K: IndexKey + SameClone, V: SameClone, B: Books, const LEN: usize> SharedOv
 
     /// Removes the pair with a key. Returns whether there was one.
     ///
-    /// Returns `Err` if an allocation is refused; nothing changed then. Clones the key before it
-    /// takes the lock.
+    /// Returns `Err` if an allocation fails; nothing changed then. Clones the key before it takes
+    /// the lock.
     ///
     /// ```
     /// Command::Remove(key) => Reply::Removed(shared.remove(rt, pass, key)?),
@@ -167,7 +167,7 @@ impl<K: IndexKey + SameClone, V: SameClone, B: Books, const LEN: usize> SharedOv
 
     /// Removes every pair whose key is within both bounds.
     ///
-    /// Returns `Err` if an allocation is refused; nothing changed then. Clones the bounds before it
+    /// Returns `Err` if an allocation fails; nothing changed then. Clones the bounds before it
     /// takes the lock.
     ///
     /// ```
@@ -211,8 +211,8 @@ impl<K: IndexKey + SameClone, V: SameClone, B: Books, const LEN: usize> SharedOv
 
     /// Returns a clone of the value of a key.
     ///
-    /// Returns `Err` if an allocation is refused; nothing changed then. Clones the key before it
-    /// takes the lock.
+    /// Returns `Err` if an allocation fails; nothing changed then. Clones the key before it takes
+    /// the lock.
     ///
     /// ```
     /// Command::Peek(key) => Reply::Found(shared.peek(rt, pass, key)?),
@@ -233,7 +233,7 @@ impl<K: IndexKey + SameClone, V: SameClone, B: Books, const LEN: usize> SharedOv
         }
     }
 
-    // Answers a command under the lock. Returns `Err` with the command if an allocation is refused.
+    // Answers a command under the lock. Returns `Err` with the command if an allocation fails.
     #[inline(always)]
     fn apply<R: Wait>(
         &self,
@@ -301,7 +301,7 @@ impl<K: IndexKey + SameClone, V: SameClone, B: Books, const LEN: usize> SharedOv
     pub fn into_parts(self) -> (TreeIndexOf<K, V, LEN>, Vec<Record<K, V>>)
         ensures { IsHistoryOf K.cmp K.seen V.seen result.1.items result.0.pairs }
     {
-        // No clause sees that this is what the lock guarded: without the passes nothing here tells
+        // No clause sees that this is what the lock guarded: without the passes nothing here has
         // its numbers.
         let (state, _books, _workers) = self.locked.into_inner().into_parts();
         state.into_parts()

@@ -19,7 +19,7 @@ use std::thread::{SpawnError, Threads};
 /// Why a storm left no closed index.
 #[derive(Clone, Copy, PartialEq, Eq, Debug, Drop)]
 pub enum StormError {
-    /// Memory or a thread was refused.
+    /// An allocation failed or a thread could not be started.
     Refused,
     /// The gate stopped a worker.
     GateStopped,
@@ -69,14 +69,15 @@ impl<T: Drop> From<SpawnError<T>> for StormError {
 /// Lets each worker insert the pairs (1, 1) to (n, n) in ascending order, through a pass and in a
 /// thread of its own, and closes the index once all have ended.
 ///
-/// Before each call a worker asks `gate`, and stops if that answers `false`; after the call it
-/// tells it. A call that cannot allocate is left, and the worker goes on.
+/// A worker calls `before` of the gate before each call, and stops if that returns `false`; it
+/// calls `after` when the call is answered. If a call cannot allocate, the worker goes on with the
+/// next one.
 ///
-/// Returns `Refused` if an allocation fails otherwise or a thread is refused, and else
-/// `GateStopped` if the gate stopped a worker. The caller must ask for 1 to 64 workers.
+/// Returns `Refused` if another allocation fails or a thread cannot be started, and else
+/// `GateStopped` if the gate stopped a worker. The caller must choose 1 to 64 workers.
 ///
-/// Starts a thread for each worker. Allocates the passes, a vector of handles and one of the passes
-/// that come back, and what the inserts allocate, for the history too.
+/// Starts a thread for each worker. Allocates the passes, a vector of handles, one of the returned
+/// passes, and what the inserts allocate, for the history too.
 ///
 /// ```
 /// let closed = run_workers(&rt, rt.alloc(), 8, 1000, &OpenGate)?;

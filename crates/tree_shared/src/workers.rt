@@ -32,7 +32,7 @@ impl<B: Books, G: Gate> Promise<Ended<B>> for Task<G> {
         × IsAnswered (G.answers task.gate.value task.worker) task.n ended.stopped };
 }
 
-// Inserts the pairs (1, 1) to (n, n). An insert that is refused is left.
+// Inserts the pairs (1, 1) to (n, n). Goes on after an insert that cannot allocate.
 fn work<B: Books, R: Wait, G: Gate>(
     rt: &R,
     shared: &SharedOver<u64, u64, B, 15>,
@@ -97,8 +97,8 @@ fn start_all<'s, E: 's, B: Books + Send + Sync + 's, R: Wait + Sync, G: Gate + S
     Ok(handles)
 }
 
-// Joins each thread, and puts its pass behind those in a vector, which has room. Returns whether
-// one was stopped too.
+// Joins each thread, and appends its pass to a vector, which has room. Also returns whether one was
+// stopped.
 fn join_all<B: Books, R: Threads, G: Gate>(
     rt: &R,
     handles: Vec<PromisedHandle<Ended<B>, Task<G>>>,
@@ -122,9 +122,9 @@ fn join_all<B: Books, R: Threads, G: Gate>(
 }
 
 /// Inserts the pairs (1, 1) to (n, n) through each pass, by a thread for each. Returns the passes
-/// once all threads ended, and whether the gate stopped one.
+/// once all threads have ended, and whether the gate stopped one.
 ///
-/// Returns `Err` if an allocation fails or a thread is refused.
+/// Returns `Err` if an allocation fails or a thread cannot be started.
 pub fn run_all<B: Books + Send + Sync, R: Threads + Wait + Sync, G: Gate + Sync>(
     rt: &R,
     alloc: Global,

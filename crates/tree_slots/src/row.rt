@@ -8,9 +8,10 @@ use std::mem::ManuallyDrop;
 /// A row of `LEN` slots, of the size of `LEN` values. A contract sees the value or `None` of each
 /// slot.
 ///
-/// As with a [`Slot`], no byte says which slots own a value, and a row is not dropped by itself: it
-/// ends by [`discard`](Row::discard), which wants every slot empty. Each call runs in constant time
-/// but [`with`](Row::with) and [`spare`](Row::spare), which copy one slot's bytes into each slot.
+/// As with a [`Slot`], no byte records which slots own a value, and a row is not dropped by itself:
+/// it ends by [`discard`](Row::discard), which requires every slot to be empty. Each call runs in
+/// constant time but [`with`](Row::with) and [`spare`](Row::spare), which copy one slot's bytes
+/// into each slot.
 pub struct Row<T, const LEN: usize> {
     slots: [Slot<T>; LEN],
     ghost whole: { length slots ≡ LEN },
@@ -77,7 +78,7 @@ impl<T, const LEN: usize> Row<T, LEN> {
         row
     }
 
-    /// Returns the value of a slot. The caller must know that there is one.
+    /// Returns the value of a slot. The caller must name a slot that owns one.
     pub fn get(&self, index: usize) -> &T
         requires { IsSome (slice_index_or self.now.slots index None) }
         ensures { slice_index_or self.now.slots index None ≡ Some result.now }
@@ -85,7 +86,7 @@ impl<T, const LEN: usize> Row<T, LEN> {
         self.slots[index].get()
     }
 
-    /// Puts a value into an empty slot. The caller must know that it is empty.
+    /// Puts a value into a slot. The caller must choose an empty one.
     pub fn put(&mut self, index: usize, value: T)
         requires within { index < LEN }
         requires empty { slice_index_or self.old.slots index None ≡ None }
@@ -94,8 +95,8 @@ impl<T, const LEN: usize> Row<T, LEN> {
         self.slots[index].put(value);
     }
 
-    /// Takes the value out of a slot and leaves it empty. The caller must know that there is a
-    /// value.
+    /// Takes the value out of a slot and leaves it empty. The caller must name a slot that owns
+    /// one.
     pub fn take(&mut self, index: usize) -> T
         requires { IsSome (slice_index_or self.old.slots index None) }
         ensures value { slice_index_or self.old.slots index None ≡ Some result }
@@ -104,8 +105,8 @@ impl<T, const LEN: usize> Row<T, LEN> {
         self.slots[index].take()
     }
 
-    /// Puts a value into a slot and returns the one that was there. The caller must know that there
-    /// was one.
+    /// Puts a value into a slot and returns the one that was there. The caller must name a slot
+    /// that owns one.
     pub fn replace(&mut self, index: usize, value: T) -> T
         requires { IsSome (slice_index_or self.old.slots index None) }
         ensures before { slice_index_or self.old.slots index None ≡ Some result }
@@ -114,7 +115,7 @@ impl<T, const LEN: usize> Row<T, LEN> {
         self.slots[index].replace(value)
     }
 
-    /// Ends a row whose slots are all empty. The caller must know that they are.
+    /// Ends the row. The caller must have emptied all its slots.
     pub fn discard(self)
         requires { (i : ℕ) → slice_index_or self.slots i None ≡ None }
     {

@@ -1,4 +1,4 @@
-//! A slot that owns a value or nothing. No byte in memory says which: the owner has to know it.
+//! A slot that owns a value or nothing. No byte in memory records which: the owner has to know it.
 ghost use Rattle.std.specs.Prelude.{◌≡◌, Option, Some, None, IsSome};
 ghost use Rattle.std.specs.Coded.{coded_option};
 ghost use Rattle.tree_slots.specs.Slot.{owned, lent};
@@ -10,9 +10,9 @@ use std::mem::{self, ManuallyDrop};
 /// `None`.
 ///
 /// The bytes of an empty slot are a copy of some value's bytes, which nothing owns and nothing
-/// reads. A slot is not dropped by itself: it ends by [`into_inner`](Slot::into_inner), which wants
-/// a value, or by [`discard`](Slot::discard), which wants none. So no value is leaked, and none is
-/// dropped twice.
+/// reads. A slot is not dropped by itself: it ends by [`into_inner`](Slot::into_inner), which
+/// requires a value, or by [`discard`](Slot::discard), which requires none. So no value is leaked,
+/// and none is dropped twice.
 pub struct Slot<T> {
     value: T,
 }
@@ -39,7 +39,7 @@ impl<T> Slot<T> {
         Self { value }
     }
 
-    /// Ends the slot and returns its value. The caller must know that there is one.
+    /// Ends the slot and returns its value. The slot must own one.
     pub fn into_inner(self) -> T
         requires { IsSome self }
         ensures { self ≡ Some result }
@@ -57,7 +57,7 @@ impl<T> Slot<T> {
         unsafe { place.read() }
     }
 
-    /// Returns the value. The caller must know that there is one.
+    /// Returns the value. The slot must own one.
     pub fn get(&self) -> &T
         requires { IsSome self.now }
         ensures { self.now ≡ Some result.now }
@@ -65,14 +65,14 @@ impl<T> Slot<T> {
         &self.value
     }
 
-    /// Ends an empty slot. The caller must know that it is empty.
+    /// Ends the slot, which must be empty.
     pub fn discard(self)
         requires { self ≡ None }
     {
         let _bytes = unsafe { ManuallyDrop::new_unchecked(self) };
     }
 
-    /// Takes the value out and leaves the slot empty. The caller must know that there is a value.
+    /// Takes the value out and leaves the slot empty. The slot must own a value.
     pub fn take(&mut self) -> T
         requires { IsSome self.old }
         ensures value { self.old ≡ Some result }
@@ -82,7 +82,7 @@ impl<T> Slot<T> {
         mem::replace(self, spare).into_inner()
     }
 
-    /// Puts a value into an empty slot. The caller must know that it is empty.
+    /// Puts a value into a slot. The caller must choose an empty one.
     pub fn put(&mut self, value: T)
         requires { self.old ≡ None }
         ensures { self.new ≡ Some value }
@@ -90,7 +90,7 @@ impl<T> Slot<T> {
         mem::replace(self, Slot::full(value)).discard();
     }
 
-    /// Puts a value in and returns the one that was there. The caller must know that there was one.
+    /// Puts a value in and returns the one that was there. The slot must own one.
     pub fn replace(&mut self, value: T) -> T
         requires { IsSome self.old }
         ensures before { self.old ≡ Some result }

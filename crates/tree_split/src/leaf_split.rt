@@ -38,12 +38,11 @@ use tree_node::routing::is_beyond;
 /// The unbounded leaf stays the unbounded one, and a key larger than every key in it belongs to it
 /// still.
 ///
-/// Returns `Err` if the leaf is to be split and memory is refused, also by the clone; nothing has
-/// changed then. Allocates at most one leaf. Makes at most 5 comparisons in the put into the node's
-/// array (4 among 7 slots), and two beside them.
+/// Returns `Err` if the leaf has to be split and an allocation fails, including one made by the
+/// clone; nothing has changed then. Allocates at most one leaf. Makes at most 5 comparisons to put
+/// a child into the node's array (4 among 7 slots), and two more.
 ///
-/// The caller must see that a well-formed leaf node stands under the number, and that the key
-/// belongs to the leaf.
+/// The caller must name a well-formed leaf node, and the leaf under it that the key belongs to.
 pub fn make_room<K: IndexKey, V: Drop, const LEN: usize>(
     arenas: &mut ArenasOf<K, V, LEN>,
     id: NodeId,
@@ -76,15 +75,15 @@ pub fn make_room<K: IndexKey, V: Drop, const LEN: usize>(
 
 /// Empties the last leaf for a key, if the leaf is full, its pairs arrived in ascending order and
 /// the key is larger than all: as [`make_room`] does then, it moves all pairs to a new leaf before
-/// it. Returns whether it did; if not, nothing has changed, as where the node has no slot for
-/// another separator.
+/// it. Returns whether it did; if not, for example because the node has no slot for another
+/// separator, nothing has changed.
 ///
-/// Returns `Err` if an allocation fails, also in the clone of the separator; nothing has changed
-/// then. Allocates at most one leaf. Makes at most 5 comparisons in the put into the node's array
-/// (4 among 7 slots), and two beside them.
+/// Returns `Err` if an allocation fails, including one made by the clone of the separator; nothing
+/// has changed then. Allocates at most one leaf. Makes at most 5 comparisons to put a child into
+/// the node's array (4 among 7 slots), and two more.
 ///
-/// The caller must see that a well-formed leaf node stands under the number, and that the leaf is
-/// its unbounded one, which the key belongs to.
+/// The caller must name a well-formed leaf node, and its unbounded leaf, which the key must belong
+/// to.
 pub fn empty_last<K: IndexKey, V: Drop, const LEN: usize>(
     arenas: &mut ArenasOf<K, V, LEN>,
     id: NodeId,
@@ -109,8 +108,8 @@ pub fn empty_last<K: IndexKey, V: Drop, const LEN: usize>(
 }
 
 // Returns how many of the first entries move when the leaf is split for a key, or `None` if the
-// array is rebuilt instead. `last` says whether the leaf is the unbounded one. Compares the key
-// only where a last leaf was filled in ascending order.
+// array is rebuilt instead. `last` is whether the leaf is the unbounded one. Compares the key only
+// if a last leaf was filled in ascending order.
 fn low_count<K: Ord + Drop, V: Drop, const LEN: usize>(
     array: &ArrayOf<K, V, LEN>,
     key: &K,
@@ -135,8 +134,8 @@ fn low_count<K: Ord + Drop, V: Drop, const LEN: usize>(
 // Splits a leaf: its first `count` entries move to a new leaf, linked before it, under a clone of
 // the greatest key among them. Returns the one of the two that the key belongs to.
 //
-// Returns `Err` if memory is refused, also by the clone; nothing has changed then, since the key
-// is cloned before an entry moves.
+// Returns `Err` if an allocation fails, including one made by the clone; nothing has changed then,
+// since the key is cloned before any entry moves.
 fn split_leaf<K: IndexKey, V: Drop, const LEN: usize>(
     arenas: &mut ArenasOf<K, V, LEN>,
     id: NodeId,
@@ -166,8 +165,8 @@ fn split_leaf<K: IndexKey, V: Drop, const LEN: usize>(
 }
 
 // Divides a leaf: its first `count` entries move to a new leaf, linked before it. Returns the
-// number of the new leaf. Returns `Err` if memory is refused; nothing has changed then, since the
-// place for the leaf is reserved before an entry moves.
+// number of the new leaf. Returns `Err` if it cannot allocate; nothing has changed then, since the
+// place for the leaf is reserved before any entry moves.
 fn divide_leaf<K: Ord + Drop, V: Drop, const LEN: usize>(
     arenas: &mut ArenasOf<K, V, LEN>,
     target: LeafId,

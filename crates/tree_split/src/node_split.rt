@@ -28,12 +28,12 @@ use tree_node::node::{ArenasOf, NodeOf};
 ///    node of the same kind, the keyed child at the boundary becomes that node's unbounded child,
 ///    and its separator becomes the new node's. No key is cloned.
 ///
-/// Returns `Err` if the target is to be split and memory is refused; nothing has changed then.
-/// Allocates at most one node, and isn't refused where one was reserved. Makes at most 5
-/// comparisons (4 among 7 slots), in the put into the parent's array. No leaf changes.
+/// Returns `Err` if the target has to be split and it cannot allocate; nothing has changed then.
+/// Allocates at most one node, and doesn't fail if one was reserved. Makes at most 5 comparisons (4
+/// among 7 slots), to put a child into the parent's array. No leaf changes.
 ///
-/// The caller must see that a well-formed part of a tree stands under the parent, that the parent
-/// is above the leaf nodes, and that the target is one of its children.
+/// The caller must name a well-formed part of a tree as the parent, above the leaf nodes, and one
+/// of its children as the target.
 pub fn split_child<K: Ord + Drop, V: Drop, const LEN: usize>(
     arenas: &mut ArenasOf<K, V, LEN>,
     parent: NodeId,
@@ -62,8 +62,8 @@ pub fn split_child<K: Ord + Drop, V: Drop, const LEN: usize>(
 }
 
 // Divides a node: its children below the one at this place move to a new node, whose unbounded
-// child that one becomes. Returns its separator and the number of the new node. Returns `Err` if
-// memory is refused; nothing has changed then.
+// child that one becomes. Returns its separator and the number of the new node. Returns `Err` if it
+// cannot allocate; nothing has changed then.
 fn divide_node<K: Ord + Drop, V: Drop, const LEN: usize>(
     arenas: &mut ArenasOf<K, V, LEN>,
     target: NodeId,

@@ -15,8 +15,8 @@ use tree_index::{Command, IndexKey, InsertError, Reply, SameClone, TreeIndexOf};
 /// on.
 ///
 /// Of the writes before the first command that removes, as many as the index had spare are not
-/// refused. If all commands are inserts of ascending keys into an index without a tree, and none
-/// is refused, the depth is at most 1, or there are more than `LEN^depth` of them.
+/// refused. If all commands are inserts of ascending keys into an index without a tree, and none is
+/// refused, the depth is at most 1, or there are more than `LEN^depth` commands.
 ///
 /// Allocates the replies at once, before the first command; each command costs what the call of the
 /// index costs. A `Peek` clones the value that it finds.
@@ -78,7 +78,7 @@ fn answer<K: IndexKey, V: SameClone, const LEN: usize>(
     }
 }
 
-// Answers an insert. Apart from the others, so that a wrong body of it is tried in its own few
+// Answers an insert. A function of its own, so that a wrong body of it is tried in its own few
 // goals.
 fn insert<K: IndexKey, V: SameClone, const LEN: usize>(
     index: &mut TreeIndexOf<K, V, LEN>,
@@ -96,7 +96,7 @@ fn insert<K: IndexKey, V: SameClone, const LEN: usize>(
     }
 }
 
-// Answers an upsert, apart for the same reason.
+// Answers an upsert. A function of its own for the same reason.
 fn upsert<K: IndexKey, V: SameClone, const LEN: usize>(
     index: &mut TreeIndexOf<K, V, LEN>,
     key: K,

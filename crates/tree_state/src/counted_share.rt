@@ -4,8 +4,7 @@ ghost use Rattle.std.specs.Prelude.{◌≡◌, ℕ};
 use std::marker::Model;
 use std::sync::ledger::{Ledger, Share};
 
-/// One number of a pass, and the share of its ledger that stands behind it. Contracts see the
-/// number.
+/// One number of a pass, with the share of its ledger that backs it. Contracts see the number.
 #[derive(Drop)]
 pub struct CountedShare<L: Ledger> {
     pub(crate) number: u64,

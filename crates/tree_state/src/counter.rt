@@ -38,7 +38,7 @@ impl<L: Ledger> Counter<L> {
         self.number
     }
 
-    /// Hands one part out, which counts nothing yet.
+    /// Returns one part, which counts nothing yet.
     pub fn hand_out(&mut self) -> CountedShare<L>
         requires { 1 < self.old.kept.parts }
         ensures zero { result ≡ 0 }
@@ -64,7 +64,7 @@ impl<L: Ledger> Counter<L> {
         }
     }
 
-    /// Takes one part back, with its number.
+    /// Takes back one part, with its number.
     pub fn take_back(&mut self, count: CountedShare<L>)
         requires { self.old.book.total ≤ u64.MAX }
         ensures total { self.new.book.total ≡ self.old.book.total }

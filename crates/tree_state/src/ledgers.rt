@@ -51,7 +51,7 @@ impl<B: Books> Ledgers<B> {
         }
     }
 
-    /// Hands a pass out.
+    /// Returns a new pass.
     pub fn hand_out(&mut self) -> PassOf<B>
         requires { 1 < self.old.parts }
         ensures zero { result ≡ none }
@@ -68,7 +68,7 @@ impl<B: Books> Ledgers<B> {
         }
     }
 
-    /// Counts a reply that is no refusal, here and in the pass.
+    /// Counts a reply other than `Refused`, here and in the pass.
     pub fn count<V>(&mut self, pass: &mut PassOf<B>, reply: &Reply<V>)
         requires room { pass.old.calls < u64.MAX }
         requires answered { is_refused reply.now ≡ false }
@@ -174,7 +174,7 @@ impl<B: Books> Model for BooksOf<B> {
 }
 
 impl<B: Books> BooksOf<B> {
-    /// Counts a reply that is no refusal, here and in the pass.
+    /// Counts a reply other than `Refused`, here and in the pass.
     pub fn count<V>(&mut self, pass: &mut PassOf<B>, reply: &Reply<V>)
         requires room { pass.old.calls < u64.MAX }
         requires answered { is_refused reply.now ≡ false }

@@ -1,4 +1,4 @@
-//! What a worker calls the index by.
+//! A worker's token for calls of a shared index.
 ghost use Rattle.std.specs.Prelude.{◌≡◌, ◌≤◌};
 ghost use Rattle.tree_state.specs.Tallies.{tally_of};
 ghost use Rattle.tree_state.specs.declared.tally.Tally.{Tally};
@@ -9,10 +9,11 @@ use crate::tally::Tally;
 use std::fmt;
 use std::marker::Model;
 
-/// What a worker calls a shared index by. See [`PassOf`].
+/// A worker's token for calls of a shared index. See [`PassOf`].
 pub type Pass<C, S, M, F, D> = PassOf<(C, S, M, F, D)>;
 
-/// What a worker calls a shared index by. Contracts see the tally of the worker's calls.
+/// A worker's token for calls of a shared index, which counts the calls that were answered.
+/// Contracts see the tally of the worker's calls.
 ///
 /// A pass is a part of each of the index's five ledgers, so its type ties it to that index. It
 /// can't be cloned.
@@ -35,7 +36,7 @@ impl<B: Books> Model for PassOf<B> {
 }
 
 impl<B: Books> PassOf<B> {
-    /// Returns the tally of the calls that were made by this pass. Each number is at most that of
+    /// Returns the tally of the calls that were made with this pass. Each number is at most that of
     /// the calls. Runs in constant time.
     ///
     /// ```

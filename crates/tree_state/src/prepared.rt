@@ -9,8 +9,8 @@ use tree_index::{IndexKey, SameClone};
 
 /// A pair with the clones of it that a history keeps. Contracts see the pair.
 ///
-/// Who shares a state behind a lock prepares a pair before taking the lock, so that these clones
-/// aren't made under it.
+/// A caller that shares a state behind a lock prepares a pair before it takes the lock, so that
+/// these clones aren't made under it.
 #[derive(Drop)]
 pub struct PreparedPair<K: IndexKey + SameClone, V: SameClone> {
     pub(crate) key: K,
@@ -30,7 +30,7 @@ impl<K: IndexKey + SameClone, V: SameClone> Model for PreparedPair<K, V> {
 impl<K: IndexKey + SameClone, V: SameClone> PreparedPair<K, V> {
     /// Clones a key and a value.
     ///
-    /// Returns `Err` with the pair if a clone is refused.
+    /// Returns `Err` with the pair if a clone cannot allocate.
     ///
     /// ```
     /// let pair = match PreparedPair::new(key, value) {

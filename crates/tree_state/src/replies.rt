@@ -1,4 +1,4 @@
-//! What a reply raises in a tally.
+//! Which numbers of a tally a reply raises.
 ghost use Rattle.std.specs.Prelude.{◌≡◌};
 ghost use Rattle.tree_state.specs.Tallies.{is_refused, is_stored, is_removed, is_found, is_done, found_value};
 
@@ -39,7 +39,7 @@ pub fn is_done<V>(reply: &Reply<V>) -> bool
     matches!(reply, Reply::Done)
 }
 
-/// Returns the value that was found. Answers `None` to a reply of another kind.
+/// Returns the value that was found, or `None` for a reply of another kind.
 pub fn found_value<V: Drop>(reply: Reply<V>) -> Option<V>
     ensures { result ≡ found_value reply }
 {

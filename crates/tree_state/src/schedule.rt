@@ -8,11 +8,11 @@ use tree_index::{Command, IndexKey, SameClone};
 /// Applies each command in turn, and counts its reply for its worker. Returns how many commands
 /// were refused.
 ///
-/// The commands stand with the number of their worker, which the caller must keep below the number
-/// of tallies. In no way in which the schedule may run may a number of a tally pass `u64::MAX`.
+/// Each command has the number of its worker. The caller must keep these numbers below the number
+/// of tallies, and pass a schedule in no run of which a number of a tally exceeds `u64::MAX`.
 ///
-/// Each command costs what [`StateOf::apply`] costs. A command is dropped if an allocation fails in
-/// it.
+/// Each command costs what [`StateOf::apply`] costs. A command in which an allocation fails is
+/// dropped.
 ///
 /// ```
 /// let commands = schedule(alloc)?;

@@ -18,8 +18,8 @@ pub type State<K, V> = StateOf<K, V, 15>;
 /// An index with the history of its calls. Contracts see the list of its pairs and the history.
 /// `LEN` is 7 or 15.
 ///
-/// The type keeps that the history replays to that list: from the empty list, each reply is the one
-/// that the list gives, and none is `Refused`.
+/// The type's invariant is that the history replays to that list: from the empty list, each reply
+/// is the one that the list gives, and none is `Refused`.
 pub struct StateOf<K: IndexKey + SameClone, V: SameClone, const LEN: usize> {
     index: TreeIndexOf<K, V, LEN>,
     history: Vec<Record<K, V>>,
@@ -111,9 +111,9 @@ impl<K: IndexKey + SameClone, V: SameClone, const LEN: usize> StateOf<K, V, LEN>
 
     /// Answers a command, and appends a clone of it with its reply to the history.
     ///
-    /// Returns `Err` with the command if an allocation is refused; index and history are then as
-    /// they were. The room for the record and the clones are allocated before the index changes. A
-    /// reply is never `Refused`.
+    /// Returns `Err` with the command if an allocation fails; index and history are then unchanged.
+    /// The room for the record and the clones are allocated before the index changes. A reply is
+    /// never `Refused`.
     ///
     /// ```
     /// match state.apply(*command) {
@@ -142,10 +142,10 @@ impl<K: IndexKey + SameClone, V: SameClone, const LEN: usize> StateOf<K, V, LEN>
         }
     }
 
-    /// Does what [`apply`](StateOf::apply) does with an insert, and hands the pair back for a
+    /// Does what [`apply`](StateOf::apply) does with an insert, and returns the pair for a
     /// duplicate too.
     ///
-    /// After `OutOfMemory` index and history are as they were.
+    /// After `OutOfMemory` index and history are unchanged.
     ///
     /// ```
     /// let Err(back) = state.insert(1, 1) else {
@@ -217,8 +217,7 @@ impl<K: IndexKey + SameClone, V: SameClone, const LEN: usize> StateOf<K, V, LEN>
     /// Does what [`apply`](StateOf::apply) does with an upsert, with a pair whose clones for the
     /// history are made.
     ///
-    /// Returns `Err` with the pair if an allocation is refused; index and history are then as they
-    /// were.
+    /// Returns `Err` with the pair if an allocation fails; index and history are then unchanged.
     ///
     /// ```
     /// match self.upsert_prepared(pair) {
@@ -342,7 +341,7 @@ fn two_clones<V: SameClone>(value: Option<&V>) -> Result<(Option<V>, Option<V>),
     }
 }
 
-// Appends a record. The caller must see that there is room.
+// Appends a record. The caller must reserve room for it.
 fn keep<K: Drop, V: Drop>(history: &mut Vec<Record<K, V>>, command: Command<K, V>, reply: Reply<V>)
     requires { vec_len history.old < vec_capacity history.old }
     ensures { history.new.items ≡ history.old.items ++ record { command = command; reply = reply } ∷ [] }

@@ -1,4 +1,4 @@
-//! What calls came to, in numbers.
+//! The results of calls, counted.
 ghost use Rattle.std.specs.Prelude.{◌≡◌, ◌≤◌, cond, is_err};
 ghost use Rattle.tree_state.specs.Ledgers.{Fits};
 ghost use Rattle.tree_state.specs.Tallies.{raised, reply_of_apply};
@@ -6,7 +6,7 @@ ghost use Rattle.tree_state.specs.Tallies.{raised, reply_of_apply};
 use crate::replies::{is_done, is_found, is_refused, is_removed, is_stored};
 use tree_model::{Command, Reply};
 
-/// What calls of an index came to. Counts no call that was refused.
+/// The results of the calls of an index, counted. A call that was refused isn't counted.
 #[derive(Clone, Copy, PartialEq, Eq, Debug, Default, Drop)]
 pub struct Tally {
     /// The calls that were answered.
@@ -23,7 +23,7 @@ pub struct Tally {
 
 impl Tally {
     /// Counts the outcome of a command. Returns how many commands were refused, which is 1 or 0.
-    /// The caller must know that no number passes `u64::MAX`.
+    /// The caller must ensure that no number exceeds `u64::MAX`.
     ///
     /// ```
     /// for (worker, command) in schedule {

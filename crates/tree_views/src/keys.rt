@@ -48,7 +48,7 @@ impl<'t, K: Ord, V, A: Ranged<K, V, L>, L: Walked> Model for KeysOver<'t, K, V, 
 
 impl<'t, K: Ord, V, A: Ranged<K, V, L>, L: Walked> KeysOver<'t, K, V, A, L> {
     /// Creates a walk over the keys of the pairs that a cursor has left. Runs in constant time. The
-    /// caller must pass a cursor whose ends stand within its list, as those of a new one do.
+    /// caller must pass a cursor whose ends are within its list, as those of a new one are.
     pub fn new(pairs: IterOver<'t, K, V, A, L>) -> Self
         requires { GoesThroughAll K.cmp pairs }
         ensures { result ≡ keys_left K.cmp pairs.entry }
@@ -140,7 +140,7 @@ impl<'t, K: Ord, V, A: Ranged<K, V, L>, L: Walked> Model for ValuesOver<'t, K, V
 
 impl<'t, K: Ord, V, A: Ranged<K, V, L>, L: Walked> ValuesOver<'t, K, V, A, L> {
     /// Creates a walk over the values of the pairs that a cursor has left. Runs in constant time.
-    /// The caller must pass a cursor whose ends stand within its list, as those of a new one do.
+    /// The caller must pass a cursor whose ends are within its list, as those of a new one are.
     pub fn new(pairs: IterOver<'t, K, V, A, L>) -> Self
         requires { GoesThroughAll K.cmp pairs }
         ensures { result ≡ values_left K.cmp pairs.entry }

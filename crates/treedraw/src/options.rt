@@ -1,4 +1,4 @@
-//! What the arguments of the program ask for.
+//! What the arguments of the program request.
 
 /// Of which trees pictures are drawn, and how.
 #[derive(Clone, Copy)]
@@ -11,7 +11,7 @@ pub struct Options {
     pub is_small: bool,
 }
 
-/// Returns what the arguments ask for, or `None` if one of them is not an option.
+/// Returns what the arguments request, or `None` if one of them is not an option.
 pub fn options_of(arguments: &[String]) -> Option<Options> {
     let mut options = Options {
         is_svg: false,

@@ -96,7 +96,7 @@ fn draw_lines<W: Write, const LEN: usize>(
     Ok(())
 }
 
-// Applies a line, and draws the tree after it if that is asked for.
+// Applies a line, and draws the tree after it if that is requested.
 fn take_line<W: Write, const LEN: usize>(
     alloc: Global,
     index: &mut TreeIndexOf<u64, u64, LEN>,
@@ -192,7 +192,7 @@ fn drawn(
     Ok(picture)
 }
 
-// Returns the language that the options ask for.
+// Returns the language that the options request.
 fn language_of(options: Options) -> &'static Language {
     if options.is_svg { &SVG } else { &DOT }
 }

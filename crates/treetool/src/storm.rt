@@ -1,4 +1,4 @@
-//! The storm: threads that fill a shared index, and the line that tells what came of it.
+//! The storm: threads that fill a shared index, and the line that reports the result.
 ghost use Rattle.std.specs.Prelude.{◌≡◌, ◌++◌, false, decimal, map, IfErr, IfOk, OnErr, OnOk};
 ghost use Rattle.std.specs.Result.{ForOk};
 ghost use Rattle.std.specs.String.{string_bytes};
@@ -14,8 +14,8 @@ use std::thread::Threads;
 use tree_lines::{WriteFailed, number_of, write_number, write_whole};
 use tree_shared::{Closed, Gate, StormError, run_workers};
 
-/// Returns the number of workers and of pairs that the arguments ask a storm for, or `None` if they
-/// ask for something else.
+/// Returns the numbers of workers and of pairs of the storm that the arguments request, or `None`
+/// if they request something else.
 pub fn storm_of(arguments: &[String]) -> Option<(usize, u64)>
     ensures { AsksForStorm (map string_bytes arguments.now) result }
 {
@@ -34,7 +34,8 @@ pub fn storm_of(arguments: &[String]) -> Option<(usize, u64)>
 }
 
 /// Runs a storm at a gate, writes its line and returns the exit status: 0, or 3 with the line
-/// `refused` if memory or a thread was refused or the gate stopped a worker, or 2 if a write fails.
+/// `refused` if an allocation failed, a thread could not be started or the gate stopped a worker,
+/// or 2 if a write fails.
 pub fn run_storm<R: Threads + Wait + Sync, G: Gate + Sync, W: Write>(
     rt: &R,
     alloc: Global,

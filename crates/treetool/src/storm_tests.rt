@@ -106,7 +106,7 @@ fn tells_that_the_line_failed(rt: HostRuntime) {
     }
 }
 
-// Counts the calls before which workers asked.
+// Counts the calls before which workers called the gate.
 #[derive(Drop)]
 struct Counter(AtomicU64);
 
@@ -125,12 +125,12 @@ const LEFT: End<'static> = (0, b"calls 0 stored 0 length 0\n");
 
 const REFUSED: End<'static> = (3, b"refused\n");
 
-// What came of a storm of one worker and one pair.
+// The result of a storm of one worker and one pair.
 #[derive(Clone, Copy, PartialEq, Eq)]
 enum Storm {
     // Its call was answered.
     Answered,
-    // Its call was refused, and left.
+    // Its call was refused, and it went on.
     CallRefused,
     // It was refused before its call.
     Refused,
@@ -138,7 +138,7 @@ enum Storm {
     Wrong,
 }
 
-// What a status and a line tell of such a storm.
+// What a status and a line report of such a storm.
 fn storm_of(told: End<'_>) -> Storm {
     if told == STORED {
         return Storm::Answered;
@@ -153,7 +153,7 @@ fn storm_of(told: End<'_>) -> Storm {
     }
 }
 
-// Runs such a storm. It is refused if its worker doesn't come to the call, and only then.
+// Runs such a storm. It is refused if and only if its worker doesn't reach the call.
 fn run_at_gate<R: Threads + Wait + Sync>(rt: &R, alloc: Global) -> Storm {
     let gate = Counter(AtomicU64::new(0));
     let mut memory = [0; 64];
@@ -185,8 +185,9 @@ fn run_by_tool<R: Threads + Wait + Sync>(rt: &R, alloc: Global, arguments: &[Str
     }
 }
 
-// Whether such a storm is answered. `Err` if memory or a thread was refused: then the same storm is
-// answered the second time, or memory is refused for good, and so it is refused before its call.
+// Whether such a storm is answered. `Err` if an allocation failed or a thread could not be started:
+// then the same storm is answered the second time, or every allocation fails from then on, and so
+// it is refused before its call.
 fn is_answered<F: Fn() -> Storm + Drop>(alloc: Global, run: F) -> Result<bool, AllocError>
     requires { F.IsAlwaysCallable run }
 {

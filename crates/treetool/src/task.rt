@@ -1,4 +1,4 @@
-//! What the arguments of the program ask for.
+//! What the arguments of the program request.
 ghost use Rattle.std.specs.Prelude.{◌≡◌, ◌↔◌, IsTrue, map};
 ghost use Rattle.std.specs.String.{string_bytes};
 ghost use Rattle.treetool.specs.Tasks.{AsksFor, small_words};
@@ -16,7 +16,7 @@ pub enum Task {
     Storm(usize, u64),
 }
 
-/// Returns what the arguments ask for, or `None` if it is nothing that the program does.
+/// Returns what the arguments request, or `None` if the program doesn't do that.
 pub fn task_of(arguments: &[String]) -> Option<Task>
     ensures { AsksFor (map string_bytes arguments.now) result }
 {

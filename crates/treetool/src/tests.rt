@@ -1,4 +1,4 @@
-//! The exit statuses of the program and what it writes, also where a read or a write fails.
+//! The exit statuses of the program and what it writes, also if a read or a write fails.
 ghost use Rattle.std.specs.Prelude.{◌≤◌, IfOk};
 
 use crate::tool::tool;
@@ -113,14 +113,14 @@ fn ends_with<R: Threads + Wait + Sync>(
 }
 
 // Whether this holds, at once or the second time: a run in which an allocation fails answers
-// otherwise. Where both were refused some, a request of this function is refused too.
+// otherwise. If an allocation failed in both, one of this function fails too.
 pub(crate) fn holds<F: Fn() -> bool + Drop>(alloc: Global, once: F) -> bool
     requires { F.IsAlwaysCallable once }
 {
     once() || once() || is_out_of_memory(alloc)
 }
 
-// Whether a small request for memory is refused.
+// Whether a small allocation fails.
 pub(crate) fn is_out_of_memory(alloc: Global) -> bool {
     Vec::<u8>::with_capacity(alloc, 1).is_err()
 }

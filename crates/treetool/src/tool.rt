@@ -23,8 +23,8 @@ use tree_shared::OpenGate;
 /// end of the input and 2 if a read or a write fails.
 ///
 /// With the arguments of a storm it runs the storm and writes its line to `output`. The status is 0
-/// then, 2 if the write fails, and 3, with the line `refused`, if the workers got no memory or no
-/// thread.
+/// then, 2 if the write fails, and 3, with the line `refused`, if the storm couldn't start a
+/// thread, or couldn't allocate its passes or threads.
 ///
 /// With other arguments it writes the usage line to `errors`; the status is then 1, even if that
 /// write fails.
@@ -45,7 +45,7 @@ pub fn tool<R: Threads + Wait + Sync, I: Read + Drop, W: Write + Drop, E: Write 
     run_tool(rt, alloc, arguments, &mut input, &mut output, &mut errors)
 }
 
-// Runs the program over borrowed streams, so that its contract can say what happens to them.
+// Runs the program over borrowed streams, so that its contract can state what happens to them.
 fn run_tool<R: Threads + Wait + Sync, I: Read, W: Write, E: Write>(
     rt: &R,
     alloc: Global,
@@ -54,8 +54,7 @@ fn run_tool<R: Threads + Wait + Sync, I: Read, W: Write, E: Write>(
     output: &mut W,
     errors: &mut E,
 ) -> u8
-    // Lines are answered over an index of the size that is asked for, and nothing is written to the
-    // errors.
+    // Lines are answered over an index of the requested size, and nothing is written to the errors.
     ensures lines { AsksFor (map string_bytes arguments.now) (Some Lines) →
         AnswersLines 15 (I.remaining input.old) (I.remaining input.new)
         (W.contents output.old) (W.contents output.new) result × (errors.new ≡ errors.old) }
@@ -63,7 +62,8 @@ fn run_tool<R: Threads + Wait + Sync, I: Read, W: Write, E: Write>(
         AnswersLines 7 (I.remaining input.old) (I.remaining input.new)
         (W.contents output.old) (W.contents output.new) result × (errors.new ≡ errors.old) }
 
-    // Of a storm its line is written. The input is not read, and nothing is written to the errors.
+    // For a storm, its line is written. The input is not read, and nothing is written to the
+    // errors.
     ensures storm { (workers pairs : _) → AsksFor (map string_bytes arguments.now) (Some (Storm workers pairs)) →
         RunsStorm (workers, pairs) (W.contents output.old) (W.contents output.new) result
         × (input.new ≡ input.old) × (errors.new ≡ errors.old) }
@@ -104,9 +104,9 @@ fn answer_small_lines<I: Read, W: Write>(alloc: Global, input: &mut I, output: &
     answer_over(&mut index, input, output)
 }
 
-// Answers lines over an index that is empty, and returns the exit status. An index of a number of
-// slots that isn't known can be borrowed here, but not made: its proof would have to say how large
-// it is.
+// Answers lines over an index that is empty, and returns the exit status. An index of an unknown
+// number of slots can be borrowed here, but not made: its proof would have to state how large it
+// is.
 fn answer_over<I: Read, W: Write, const LEN: usize>(
     index: &mut TreeIndexOf<u64, u64, LEN>,
     input: &mut I,

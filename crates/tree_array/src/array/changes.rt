@@ -1,4 +1,4 @@
-//! Where a key is, and how the value of a slot is changed where it stands.
+//! Where a key is, and how the value of a slot is changed in place.
 ghost use Rattle.std.specs.Prelude.{◌≡◌, IsSome, MatchOption, Some};
 ghost use Rattle.std.specs.Option.{ForSome};
 ghost use Rattle.std.specs.declared.cmp.Ordering.TheVariants.{Equal};

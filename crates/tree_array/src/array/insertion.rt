@@ -15,7 +15,7 @@ impl<K: Ord + Drop, V: Drop, const LEN: usize> ArrayOf<K, V, LEN> {
     ///
     /// Returns `Duplicate` if `UPSERT` is false and an equal key is there, also if no slot is free.
     /// Returns `Full` if no slot is free or the array is retired, with `UPSERT` also for a key that
-    /// is there. Both hand the pair back and change nothing. Makes at most 4 comparisons (3 among 7
+    /// is there. Both return the pair and change nothing. Makes at most 4 comparisons (3 among 7
     /// slots).
     pub fn insert<const UPSERT: bool>(&mut self, key: K, val: V) -> InsertResult<K, V>
         ensures { IsInsert K.cmp LEN UPSERT self.old key val result self.new }
@@ -23,15 +23,15 @@ impl<K: Ord + Drop, V: Drop, const LEN: usize> ArrayOf<K, V, LEN> {
         self.store::<UPSERT>(key, val).into_insert()
     }
 
-    /// Does what [`insert`](ArrayOf::insert) does, and tells whether the key is new.
+    /// Does what [`insert`](ArrayOf::insert) does, and reports whether the key is new.
     pub fn store<const UPSERT: bool>(&mut self, key: K, val: V) -> StoreResult<K, V>
         ensures { IsStore K.cmp LEN UPSERT self.old key val result self.new }
     {
         self.store_beyond::<UPSERT>(false, key, val)
     }
 
-    /// Does what [`store`](ArrayOf::store) does. With `rightmost` it compares the key with the last
-    /// one first: where that is smaller, this is the only comparison, and else there is one more.
+    /// Does what [`store`](ArrayOf::store) does. With `rightmost` it first compares the key with
+    /// the last one: if that is smaller, this is the only comparison, else there is one more.
     #[inline(always)]
     pub fn store_beyond<const UPSERT: bool>(
         &mut self,
@@ -70,8 +70,8 @@ impl<K: Ord + Drop, V: Drop, const LEN: usize> ArrayOf<K, V, LEN> {
         }
     }
 
-    /// Stores a pair whose key is larger than all. Makes no comparisons. The caller must see that
-    /// the key is, and that the array isn't full.
+    /// Stores a pair whose key is larger than all. Makes no comparisons. The caller must pass such
+    /// a key, and an array that isn't full.
     #[inline(always)]
     pub fn append(&mut self, key: K, val: V)
         requires room { IsFull LEN self.old → ⊥ }

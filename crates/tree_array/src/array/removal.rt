@@ -46,12 +46,12 @@ impl<K: Ord + Drop, V: Drop, const LEN: usize> ArrayOf<K, V, LEN> {
         (key, val, removal)
     }
 
-    /// Removes the pair with a key if the condition says so of its value. Calls the condition once
-    /// if the key is there, else never.
+    /// Removes the pair with a key if the condition returns `true` for its value. Calls the
+    /// condition once if the key is present, else never.
     ///
-    /// Returns `Fail` if the key is absent or the condition said no, and nothing changed; `Retired`
-    /// if the last pair went; else `Success`. Makes at most 4 comparisons (3 among 7 slots). The
-    /// condition must be callable on the value that is stored with the key.
+    /// Returns `Fail` if the key is absent or the condition returned `false`, and nothing changed;
+    /// `Retired` if the last pair went; else `Success`. Makes at most 4 comparisons (3 among 7
+    /// slots). The condition must be callable on the value that is stored with the key.
     #[inline(always)]
     pub fn remove_if<F: FnOnce(&V) -> bool + Drop>(&mut self, key: &K, condition: F) -> RemoveResult
         requires { ForSome (pair_at K.cmp self.old.entries key.now) (λ pair. FnOnceTakesAt F.FnOnce condition pair.1) }

@@ -71,8 +71,8 @@ impl<K: Ord + Drop, V: Drop, const LEN: usize> RunOf<K, V, LEN> {
         }
     }
 
-    /// Puts a pair behind the others. The caller must see that its key is larger than all, and that
-    /// the run isn't full.
+    /// Appends a pair. The caller must pass a key that is larger than all, and a run that isn't
+    /// full.
     #[inline(always)]
     pub fn push(&mut self, key: K, val: V)
         requires room { length self.old ≢ LEN }
@@ -92,7 +92,7 @@ impl<K: Ord + Drop, V: Drop, const LEN: usize> RunOf<K, V, LEN> {
     }
 }
 
-// Returns the array of cells in which the pairs stand in turn, in ascending order.
+// Returns the array of cells in which the pairs are stored in turn, in ascending order.
 fn array_in_turn<K: Ord, V, const LEN: usize>(cells: Cells<K, V, LEN>) -> ArrayOf<K, V, LEN>
     requires { IsRun K.cmp LEN cells.pairs cells.counts.entries cells.counts.arrivals }
     ensures { result ≡ in_order (gathered cells.pairs cells.counts.entries) }

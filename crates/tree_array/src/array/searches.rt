@@ -39,8 +39,9 @@ impl<K: Ord + Drop, V: Drop, const LEN: usize> ArrayOf<K, V, LEN> {
         Some(val)
     }
 
-    /// Returns the slot of the least key that isn't less than that of the asked, a judge or the key
-    /// itself, or `None` if all are. Makes at most 4 comparisons (3 among 7 slots).
+    /// Returns the slot of the smallest key that is at least the sought key, or `None` if every key
+    /// is smaller. `asked` is a judge, or the key itself. Makes at most 4 comparisons (3 among 7
+    /// slots).
     #[tactic(auto, using(tree_cells::proofs::Halving::searched_few))]
     #[inline(always)]
     pub fn min_greater_equal<By, A: Asks<K, By>>(&self, asked: &mut A) -> Option<u8>
@@ -55,8 +56,8 @@ impl<K: Ord + Drop, V: Drop, const LEN: usize> ArrayOf<K, V, LEN> {
         if slot < BEYOND { Some(slot) } else { None }
     }
 
-    /// Returns the slot of the least key that isn't less than this one, or `None` if all are. Makes
-    /// at most 4 comparisons (3 among 7 slots), which no judge counts.
+    /// Returns the slot of the smallest key that is at least this one, or `None` if every key is
+    /// smaller. Makes at most 4 comparisons (3 among 7 slots), which no judge counts.
     #[inline(always)]
     pub fn slot_for(&self, key: &K) -> Option<u8>
         ensures { MatchOption result (least_from K.cmp self.now.entries key.now ≡ None)
@@ -66,8 +67,8 @@ impl<K: Ord + Drop, V: Drop, const LEN: usize> ArrayOf<K, V, LEN> {
         self.min_greater_equal(&mut &*key)
     }
 
-    /// Returns how many keys are less than this one, which is the place in key order where it stands
-    /// or belongs, counted from 0. Makes at most 4 comparisons (3 among 7 slots).
+    /// Returns how many keys are smaller than this one: the place in key order, counted from 0,
+    /// where it is or belongs. Makes at most 4 comparisons (3 among 7 slots).
     #[inline(always)]
     pub fn place_for(&self, key: &K) -> u8
         ensures parts { PartsAt K.cmp key.now self.now.entries result }

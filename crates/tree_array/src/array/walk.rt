@@ -12,7 +12,7 @@ use tree_cells::order::slot_at;
 use tree_cells::search::{Place, find_key};
 use tree_model::{Backward, Direction, Forward, Way};
 
-/// A walk over the reachable slots of an array, either way. It is of the array as it stood when the
+/// A walk over the reachable slots of an array, either way. It is over the array as it was when the
 /// walk was made. A slot is named by the number of its arrival.
 ///
 /// A `next` that returns `None` keeps the place.
@@ -20,8 +20,8 @@ use tree_model::{Backward, Direction, Forward, Way};
 pub struct ArrayWalk<D> {
     order: u64,
     count: u8,
-    // The place that a walk in ascending order goes to. The walk stands at the one before, or has
-    // not begun if there is none.
+    // The place that a walk in ascending order goes to. The walk is at the one before, or has not
+    // begun if there is none.
     ahead: u8,
     direction: PhantomData<D>,
 }
@@ -60,7 +60,7 @@ impl<D> Clone for ArrayWalk<D> {
 }
 
 impl<D: Direction> ArrayWalk<D> {
-    /// Creates a walk that stands before the first slot on its way. Makes no comparisons.
+    /// Creates a walk that is before the first slot on its way. Makes no comparisons.
     pub fn new<K: Ord + Drop, V: Drop, const LEN: usize>(array: &ArrayOf<K, V, LEN>) -> Self
         ensures slots { result ≡ standing (slots_in_order K.cmp array.now) None }
         ensures over { IsOver K.cmp LEN array.now result }
@@ -92,7 +92,7 @@ impl<D: Direction> ArrayWalk<D> {
         }
     }
 
-    /// Returns the slot that the walk stands at, if it has begun.
+    /// Returns the slot that the walk is at, if it has begun.
     #[tactic(auto, using(crate::proofs::Stepped::stands_at))]
     pub fn slot(&self) -> Option<u8>
         ensures { result ≡ option_and_then (slice_get self.now.slots) self.now.at }
@@ -167,8 +167,8 @@ impl<D: Direction> ArrayWalk<D> {
 }
 
 impl ArrayIter {
-    /// Creates a walk that stands at the last slot whose key is less than this one, or before the
-    /// first slot. Makes at most 4 comparisons (3 among 7 slots).
+    /// Creates a walk at the last slot whose key is less than this one, or before the first slot.
+    /// Makes at most 4 comparisons (3 among 7 slots).
     #[inline(always)]
     pub fn below<K: Ord + Drop, V: Drop, const LEN: usize>(
         array: &ArrayOf<K, V, LEN>,
@@ -189,8 +189,8 @@ impl ArrayIter {
 }
 
 impl ArrayRevIter {
-    /// Creates a walk that stands at the first slot whose key is greater than this one, or before
-    /// that of the greatest key. Makes at most 4 comparisons (3 among 7 slots).
+    /// Creates a walk at the first slot whose key is greater than this one, or before that of the
+    /// greatest key. Makes at most 4 comparisons (3 among 7 slots).
     #[inline(always)]
     pub fn above<K: Ord + Drop, V: Drop, const LEN: usize>(
         array: &ArrayOf<K, V, LEN>,

@@ -1,4 +1,4 @@
-//! How the value of a cell is changed where it stands.
+//! How the value of a cell is changed in place.
 ghost use Rattle.std.specs.Prelude.{◌≡◌, IsSome, Some, slice_set};
 ghost use Rattle.std.specs.Option.{ForSome};
 ghost use Rattle.tree_cells.specs.Arrivals.{arrival};
@@ -7,7 +7,7 @@ use super::Cells;
 
 impl<K, V, const LEN: usize> Cells<K, V, LEN> {
     /// Passes the value of a cell to a function, and puts what it returns into the cell. The caller
-    /// must know that the cell holds a pair.
+    /// must name a cell that holds a pair.
     pub fn change<F: FnOnce(V) -> V + Drop>(&mut self, cell: u8, change: F)
         requires pair { IsSome (arrival self.old.pairs cell) }
         requires callable { ForSome (arrival self.old.pairs cell) (λ pair. F.pre change pair.1) }

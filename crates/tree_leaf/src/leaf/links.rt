@@ -23,9 +23,8 @@ pub fn unlink<K: Ord + Drop, V: Drop, N: Drop, const LEN: usize>(
     splice_link(arenas, left, right);
 }
 
-/// Makes two leaves neighbours of each other. What stood between them in a chain is out of it, and
-/// `None` stands for an end of the chain. Runs in constant time. The caller must name numbers in
-/// use.
+/// Makes two leaves neighbours of each other. What was between them in a chain is out of it, and
+/// `None` means an end of the chain. Runs in constant time. The caller must name numbers in use.
 pub fn splice_link<K: Ord + Drop, V: Drop, N: Drop, const LEN: usize>(
     arenas: &mut SlotsOf<K, V, N, LEN>,
     left: Option<LeafId>,
@@ -42,7 +41,7 @@ pub fn splice_link<K: Ord + Drop, V: Drop, N: Drop, const LEN: usize>(
 }
 
 /// Adds a leaf to the arena and links it right before the one at `at`. Returns `Err` with the leaf,
-/// and changes no leaf and no link, if there is no room for it and memory is refused. Runs in
+/// and changes no leaf and no link, if there is no room for it and the allocation fails. Runs in
 /// amortized constant time. The caller must name a leaf of a chain by `at`.
 pub fn add_before<K: Ord + Drop, V: Drop, N: Drop, const LEN: usize>(
     arenas: &mut SlotsOf<K, V, N, LEN>,
