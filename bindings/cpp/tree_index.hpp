@@ -263,16 +263,33 @@ struct byte_bound {
   std::string key;
   static byte_bound including(std::string_view key) { return {TREE_INDEX_INCLUDED, std::string(key)}; }
   static byte_bound excluding(std::string_view key) { return {TREE_INDEX_EXCLUDED, std::string(key)}; }
+  // The end of a prefix: it excludes the least key that is larger than all that begin with the prefix. If there is none, as
+  // of an empty prefix, it is no bound.
+  static byte_bound end_of(std::string_view prefix);
 };
+
+namespace inside {
+
+inline const uint8_t *bytes_of(std::string_view key) {
+  static const uint8_t none = 0;
+  return key.empty() ? &none : reinterpret_cast<const uint8_t *>(key.data());
+}
+
+} // namespace inside
+
+inline byte_bound byte_bound::end_of(std::string_view prefix) {
+  byte_bound end{TREE_INDEX_EXCLUDED, std::string(prefix)};
+  std::size_t length = 0;
+  if (!inside::done(tree_index_bytes_prefix_end(inside::bytes_of(prefix), prefix.size(), reinterpret_cast<uint8_t *>(&end.key[0]), end.key.size(), &length))) return {};
+  end.key.resize(length);
+  return end;
+}
 
 // An ordered index of byte strings by numbers, in the order of memcmp, a prefix first. It copies its keys.
 class byte_index {
   inside::owner owner_;
 
-  static const uint8_t *bytes_of(std::string_view key) {
-    static const uint8_t none = 0;
-    return key.empty() ? &none : reinterpret_cast<const uint8_t *>(key.data());
-  }
+  static const uint8_t *bytes_of(std::string_view key) { return inside::bytes_of(key); }
 
 public:
   using key_type = std::string;
@@ -310,6 +327,12 @@ public:
   void erase_range(const byte_bound &low, const byte_bound &high) {
     inside::done(tree_index_bytes_remove_range(owner_.get(), low.kind, bytes_of(low.key), low.key.size(), high.kind, bytes_of(high.key), high.key.size()));
   }
+  // Removes the keys that begin with a prefix. Returns how many there were.
+  size_type erase_prefix(std::string_view prefix) {
+    size_type count = 0;
+    inside::done(tree_index_bytes_remove_prefix(owner_.get(), bytes_of(prefix), prefix.size(), &count));
+    return count;
+  }
   void clear() noexcept { tree_index_clear(owner_.get()); }
   std::optional<value_type> pop_first() {
     return pair_by([this](uint8_t *key, size_t length, tree_index_entry *entry) { return tree_index_bytes_pop_first(owner_.get(), key, length, entry); });
@@ -346,6 +369,8 @@ public:
   iterator end() const;
   range_type range(byte_bound low = {}, byte_bound high = {}) const;
   range_type reversed(byte_bound low = {}, byte_bound high = {}) const;
+  // The pairs whose keys begin with a prefix. In descending order: reversed(byte_bound::including(prefix), byte_bound::end_of(prefix)).
+  range_type prefix(std::string_view prefix) const;
   // A walk from the first key that isn't smaller than this one, or from the first that is larger.
   iterator lower_bound(std::string_view key) const;
   iterator upper_bound(std::string_view key) const;
@@ -457,6 +482,7 @@ inline byte_index::iterator byte_index::begin() const { return iterator(this, fa
 inline byte_index::iterator byte_index::end() const { return iterator(); }
 inline byte_index::range_type byte_index::range(byte_bound low, byte_bound high) const { return range_type(this, false, std::move(low), std::move(high)); }
 inline byte_index::range_type byte_index::reversed(byte_bound low, byte_bound high) const { return range_type(this, true, std::move(low), std::move(high)); }
+inline byte_index::range_type byte_index::prefix(std::string_view prefix) const { return range(byte_bound::including(prefix), byte_bound::end_of(prefix)); }
 inline byte_index::iterator byte_index::lower_bound(std::string_view key) const { return iterator(this, false, byte_bound::including(key), {}, inside::few_ahead); }
 inline byte_index::iterator byte_index::upper_bound(std::string_view key) const { return iterator(this, false, byte_bound::excluding(key), {}, inside::few_ahead); }
 

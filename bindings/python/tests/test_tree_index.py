@@ -31,7 +31,7 @@ def number(chance, keys):
 
 
 def word(chance, keys):
-    return bytes(chance.randrange(3) * 100 for _ in range(chance.randrange(keys)))
+    return bytes(chance.choice((0, 100, 255)) for _ in range(chance.randrange(keys)))
 
 
 def compare(kind, key_of, keys, calls):
@@ -39,7 +39,7 @@ def compare(kind, key_of, keys, calls):
     index, plain = TreeIndex(), SortedDict() if SortedDict else {}
     for call in range(calls):
         key, other, value = key_of(chance, keys), key_of(chance, keys), object()
-        which = chance.randrange(14)
+        which = chance.randrange(15)
         if which < 3:
             index[key] = plain[key] = value
         elif which == 3:
@@ -65,6 +65,12 @@ def compare(kind, key_of, keys, calls):
         elif which == 12 and chance.random() < 0.05:
             gone = [(k, plain.pop(k)) for k in sorted(plain) if key <= k <= other]
             assert index.pop_range(key, other) == gone
+        elif which == 13 and type(key) is bytes:
+            begin = [k for k in sorted(plain) if k.startswith(key)]
+            assert list(index.iprefix(key)) == begin and list(index.iprefix(key, reverse=True)) == begin[::-1]
+            assert list(index.iprefix_items(key)) == [(k, plain[k]) for k in begin]
+            if chance.random() < 0.05:
+                assert index.pop_prefix(key) == [(k, plain.pop(k)) for k in begin]
         elif call % 997 == 0:
             assert index == plain and index.copy() == plain and list(index) == sorted(plain)
     assert list(index.items()) == sorted(plain.items()) and list(index.values()) == [plain[k] for k in sorted(plain)]
@@ -87,6 +93,20 @@ def test_long_keys():
     assert [len(key) for key in index] == [3000 * n + 1 for n in range(20)]
     assert [len(key) for key in reversed(index)] == [3000 * n + 1 for n in reversed(range(20))]
     assert index.peekitem() == (b"T" * 57001, 19) and index.peekitem(2) == (b"C" * 6001, 2)
+
+
+def test_prefixes():
+    index = TreeIndex((word, n) for n, word in enumerate([b"", b"a", b"ab", b"b", b"\xff", b"\xff\xff", b"\xff\xff\x01"]))
+    assert list(index.iprefix(b"a")) == [b"a", b"ab"] and list(index.iprefix(b"\xff\xff")) == [b"\xff\xff", b"\xff\xff\x01"]
+    assert list(index.iprefix(b"")) == list(index) and list(index.iprefix(b"c")) == []
+    assert index.pop_prefix(b"\xff") == [(b"\xff", 4), (b"\xff\xff", 5), (b"\xff\xff\x01", 6)]
+    assert list(index) == [b"", b"a", b"ab", b"b"] and index.pop_prefix(b"abc") == []
+    walk = index.iprefix(b"a")
+    next(walk)
+    index.pop_prefix(b"b")
+    assert refused(RuntimeError, next, walk)
+    assert refused(TypeError, index.iprefix, 1) and refused(TypeError, index.pop_prefix, "a") and refused(TypeError, TreeIndex({1: 1}).iprefix, b"a")
+    assert list(TreeIndex().iprefix(b"a")) == [] and TreeIndex().pop_prefix(b"a") == []
 
 
 def test_places():

@@ -4,4 +4,5 @@ pub mod Held
 pub mod Opened
 pub mod Owned
 pub mod Pairs
+pub mod Prefixes
 pub mod Sorted

@@ -3,3 +3,4 @@ pub mod Firsts
 pub mod Keys
 pub mod Moves
 pub mod Merged
+pub mod Prefixes

@@ -94,6 +94,10 @@ class TreeIndex(Index, MutableMapping):
         """The items from one key to another, as irange() gives the keys."""
         return self.irange(minimum, maximum, inclusive, reverse, _ITEMS)
 
+    def iprefix_items(self, prefix, reverse=False):
+        """The items whose keys begin with a prefix, as iprefix() gives the keys."""
+        return self.iprefix(prefix, reverse, _ITEMS)
+
     def copy(self):
         """A copy with the same values."""
         made = type(self)()
