@@ -1,6 +1,6 @@
 pub mod Apart
+pub mod Beginning
 pub mod Firsts
 pub mod Keys
 pub mod Moves
 pub mod Merged
-pub mod Prefixes

@@ -1,4 +1,4 @@
-use Rattle.tree_set.proofs.Prefixes.{found, removed}
+use Rattle.tree_set.proofs.Beginning.{found, removed}
 use Rattle.tree_set.proofs.prefixes.TreeSetOf+Text+LEN.remove_text_prefix.Goals as goal
 
 pub returns-clause-removed : goal.returns-clause-removed

@@ -3,6 +3,7 @@ use Rattle.std.specs.Cmp.Lexicographic.{slice_cmp}
 use Rattle.std.specs.List.{starts_with}
 use Rattle.std.specs.Prelude.{nat_eq}
 use Rattle.tree_model.proofs.Common.{within}
+use Rattle.tree_node.proofs.Common.{fits}
 use Rattle.tree_set.proofs.Keys.{keys-filter}
 use Rattle.tree_set.specs.Sets.{keys_of}
 use Rattle.tree_set.proofs.prefixes.TreeSetOf+Text+LEN.text_prefix.Goals as goal
