@@ -142,6 +142,19 @@ public:
   }
   // The same, or std::out_of_range if the key is absent.
   uint64_t at(uint64_t key) const { return inside::value_at(find(key)); }
+  // The value of each key of a vector, an array or a span, in order. Out of cache this is faster than single look-ups.
+  template <class Keys> std::vector<std::optional<uint64_t>> find_many(const Keys &keys) const {
+    std::size_t count = std::size(keys);
+    std::vector<uint64_t> values(count + 1);
+    std::vector<uint8_t> found(count + 1);
+    const uint64_t none = 0, *from = count ? std::data(keys) : &none;
+    tree_index_peek_many(owner_.get(), from, count, values.data(), count, found.data(), count);
+    std::vector<std::optional<uint64_t>> told(count);
+    for (std::size_t at = 0; at < count; at++) {
+      if (found[at]) told[at] = values[at];
+    }
+    return told;
+  }
   bool contains(uint64_t key) const { return tree_index_contains(owner_.get(), key) == TREE_INDEX_YES; }
   size_type size() const noexcept { return tree_index_len(owner_.get()); }
   bool empty() const noexcept { return size() == 0; }

@@ -64,6 +64,13 @@ static void numbers(uint64_t keys, int calls) {
     case 6:
       WANT(index.find(key) == (is ? std::optional(at->second) : std::nullopt) && index.contains(key) == is && index.size() == map.size());
       WANT(value_at(index, key) == index.find(key));
+      {
+        std::vector<uint64_t> sought(below(40));
+        for (auto &one : sought) one = below(keys);
+        auto told = index.find_many(sought);
+        WANT(told.size() == sought.size());
+        for (std::size_t n = 0; n < told.size(); n++) WANT(told[n] == index.find(sought[n]));
+      }
       break;
     case 7:
       WANT(index.at_or_above(key) == pair_at(at, map.end()) && index.at_or_below(key) == last_before(map, is ? std::next(at) : at));

@@ -1,4 +1,5 @@
 """The mapping beside a dict, and beside sortedcontainers.SortedDict where it is installed."""
+import array
 import ast
 import collections.abc
 import copy
@@ -93,6 +94,23 @@ def test_long_keys():
     assert [len(key) for key in index] == [3000 * n + 1 for n in range(20)]
     assert [len(key) for key in reversed(index)] == [3000 * n + 1 for n in reversed(range(20))]
     assert index.peekitem() == (b"T" * 57001, 19) and index.peekitem(2) == (b"C" * 6001, 2)
+
+
+def test_many_keys():
+    for key_of in (lambda n: n - 50, lambda n: b"%04d" % n):
+        index = TreeIndex((key_of(n), n) for n in range(0, 300, 3))
+        for count in (0, 1, 63, 64, 65, 300):
+            assert index.get_many([key_of(n) for n in range(count)]) == [None if n % 3 else n for n in range(count)]
+            assert index.get_many((key_of(n) for n in range(count)), -1) == [-1 if n % 3 else n for n in range(count)]
+        assert refused(TypeError, index.get_many, [1, b"x"]) and refused(TypeError, index.get_many, 5)
+    index = TreeIndex({-1: "a", 5: "b", 2**63 - 1: "c"})
+    for kind in "ql":
+        assert index.get_many(array.array(kind, [5, -1, 2, 2**63 - 1] * 40)) == ["b", "a", None, "c"] * 40
+    assert index.get_many(array.array("Q", [2**64 - 1, 5, 2**63 - 1]), 0) == [0, "b", "c"]
+    assert index.get_many(array.array("h", [5, -1])) == ["b", "a"] and index.get_many(memoryview(array.array("q", [5, 0, -1]))[::2]) == ["b", "a"]
+    assert index.get_many([2**70, 5, -(2**70)]) == [None, "b", None]
+    assert TreeIndex().get_many([1, 2]) == [None, None] and TreeIndex().get_many(array.array("q", [1])) == [None]
+    assert refused(TypeError, TreeIndex({b"x": 1}).get_many, array.array("q", [1]))
 
 
 def test_prefixes():

@@ -63,7 +63,11 @@ fn numbers(keys: u64, calls: usize) {
                 index.upsert(key, value).unwrap();
             }
             5 | 6 => assert_eq!(index.remove(key), map.remove(&key)),
-            7 => assert_eq!((index.peek(key), index.contains(key)), (map.get(&key).copied(), map.contains_key(&key))),
+            7 => {
+                assert_eq!((index.peek(key), index.contains(key)), (map.get(&key).copied(), map.contains_key(&key)));
+                let sought: Vec<u64> = (0..chance.below(40)).map(|_| chance.below(keys)).collect();
+                assert_eq!(index.peek_many(&sought), sought.iter().map(|key| map.get(key).copied()).collect::<Vec<_>>());
+            }
             8 => {
                 assert_eq!(index.at_or_above(key), map.range(key..).next().map(|(k, v)| (*k, *v)));
                 assert_eq!(index.at_or_below(key), map.range(..=key).next_back().map(|(k, v)| (*k, *v)));

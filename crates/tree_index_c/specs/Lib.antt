@@ -1,6 +1,7 @@
 pub mod Answers
 pub mod Entries
 pub mod Held
+pub mod Many
 pub mod Opened
 pub mod Owned
 pub mod Pairs

@@ -594,6 +594,88 @@ static PyObject *index_get(PyObject *object, PyObject *args) {
   return new_reference(may && peek(self, &key, &stored) == TREE_INDEX_YES ? value_in(item_of(stored)) : otherwise);
 }
 
+/* Appends the values of some numbers to a list, or the default in place of one that is absent or that `fits` rules out. */
+static int append_many(Index *self, const uint64_t *numbers, const uint8_t *fits, size_t count, PyObject *otherwise, PyObject *values) {
+  uint64_t stored[AHEAD];
+  uint8_t found[AHEAD] = {0};
+  PyObject *told[AHEAD];
+  if (self->kind == NUMBERS) tree_index_peek_many(&self->handle, numbers, count, stored, AHEAD, found, AHEAD);
+  for (size_t at = 0; at < count; at++) {
+    if (found[at] && (!fits || fits[at])) ask_memory_for((PyVarObject *)item_of(stored[at]) + 1);
+  }
+  for (size_t at = 0; at < count; at++) told[at] = new_reference(found[at] && (!fits || fits[at]) ? value_in(item_of(stored[at])) : otherwise);
+  int failed = 0;
+  for (size_t at = 0; at < count; at++) {
+    if (!failed) failed = PyList_Append(values, told[at]);
+    Py_DECREF(told[at]);
+  }
+  return failed;
+}
+
+/* The values of the numbers that a bytes holds, eight bytes each, as the machine has them. */
+static PyObject *index_get_packed(PyObject *object, PyObject *args) {
+  Index *self = (Index *)object;
+  PyObject *packed, *otherwise;
+  char *bytes;
+  Py_ssize_t length;
+  int is_signed;
+  if (!PyArg_ParseTuple(args, "SOp", &packed, &otherwise, &is_signed) || PyBytes_AsStringAndSize(packed, &bytes, &length) < 0) return NULL;
+  if (self->kind == BYTES && length > 0) {
+    PyErr_SetString(PyExc_TypeError, "the keys of this index are of the other type than numbers");
+    return NULL;
+  }
+  PyObject *values = PyList_New(0);
+  for (Py_ssize_t from = 0; values && from < length;) {
+    uint64_t numbers[AHEAD];
+    uint8_t fits[AHEAD];
+    size_t count = 0;
+    for (; count < AHEAD && from < length; count++, from += 8) {
+      memcpy(&numbers[count], bytes + from, 8);
+      fits[count] = is_signed || numbers[count] < turned(0);
+      numbers[count] = turned(numbers[count]);
+    }
+    if (append_many(self, numbers, fits, count, otherwise, values) < 0) Py_CLEAR(values);
+  }
+  return values;
+}
+
+/* The values of the keys that an iterable gives. */
+static PyObject *index_get_each(PyObject *object, PyObject *args) {
+  Index *self = (Index *)object;
+  PyObject *keys, *otherwise, *sought;
+  if (!PyArg_ParseTuple(args, "OO", &keys, &otherwise)) return NULL;
+  PyObject *walk = PyObject_GetIter(keys), *values = walk ? PyList_New(0) : NULL;
+  uint64_t numbers[AHEAD] = {0};
+  uint8_t fits[AHEAD];
+  size_t count = 0;
+  int failed = !values;
+  while (!failed && (sought = PyIter_Next(walk))) {
+    Key key;
+    int may = read_sought(self, sought, &key);
+    if (may < 0) {
+      failed = 1;
+    } else if (may && key.kind == BYTES) {
+      uint64_t stored;
+      if (count > 0) failed = append_many(self, numbers, fits, count, otherwise, values);
+      count = 0;
+      PyObject *value = new_reference(peek(self, &key, &stored) == TREE_INDEX_YES ? value_in(item_of(stored)) : otherwise);
+      if (!failed) failed = PyList_Append(values, value);
+      Py_DECREF(value);
+    } else {
+      fits[count] = (uint8_t)may;
+      numbers[count++] = may ? key.number : 0;
+      if (count == AHEAD) {
+        failed = append_many(self, numbers, fits, count, otherwise, values);
+        count = 0;
+      }
+    }
+    Py_DECREF(sought);
+  }
+  if (failed || PyErr_Occurred() || append_many(self, numbers, fits, count, otherwise, values) < 0) Py_CLEAR(values);
+  Py_XDECREF(walk);
+  return values;
+}
+
 static PyObject *index_setdefault(PyObject *object, PyObject *args) {
   Index *self = (Index *)object;
   PyObject *name, *value = Py_None;
@@ -856,6 +938,8 @@ static PyMethodDef index_methods[] = {
     {"__reversed__", index_reversed, METH_NOARGS, "The keys in descending order."},
     {"_walk", index_walk, METH_VARARGS, NULL},
     {"_copy_from", index_copy_from, METH_O, NULL},
+    {"_get_packed", index_get_packed, METH_VARARGS, NULL},
+    {"_get_each", index_get_each, METH_VARARGS, NULL},
     {"get", index_get, METH_VARARGS, "get(key, default=None): the value of a key, or the default."},
     {"setdefault", index_setdefault, METH_VARARGS, "setdefault(key, default=None): the value of a key, stored first if it is absent."},
     {"pop", index_pop, METH_VARARGS, "pop(key[, default]): removes a key and returns its value."},
