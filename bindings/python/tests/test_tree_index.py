@@ -248,6 +248,21 @@ def test_references_are_counted():
         assert Counted.alive == 0
 
 
+def test_references_of_many_keys_and_of_prefixes():
+    numbers, words = TreeIndex((n, Counted()) for n in range(200)), TreeIndex((b"%03d" % n, Counted()) for n in range(200))
+    for index, keys in ((numbers, [150, 7, 150]), (numbers, array.array("q", [150, 7, 150])), (words, [b"150", b"007", b"150"])):
+        value = index[keys[0] if index is words else 150]
+        base = sys.getrefcount(value)
+        told = index.get_many(keys)
+        assert told[0] is value and sys.getrefcount(value) == base + 2
+        del told
+        assert sys.getrefcount(value) == base
+    del value, index
+    assert Counted.alive == 400 and len(words.pop_prefix(b"1")) == 100 and Counted.alive == 300
+    del numbers, words
+    assert Counted.alive == 0
+
+
 def test_a_cycle_is_collected():
     index = TreeIndex({1: Counted()})
     index[2] = index
