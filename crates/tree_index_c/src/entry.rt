@@ -22,7 +22,7 @@ pub fn write_entry(pair: Option<(&Bytes, &u64)>, places: &mut [u8], entry: &mut 
     let Some((key, value)) = pair else {
         return NO;
     };
-    let bytes = key.as_bytes();
+    let bytes = key.as_slice();
     *entry = Entry {
         length: bytes.len(),
         value: *value,

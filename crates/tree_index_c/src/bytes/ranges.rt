@@ -204,7 +204,7 @@ fn fill_from(
         let Some((key, value)) = step(&mut cursor, backwards) else {
             return Ok(at);
         };
-        let bytes = key.as_bytes();
+        let bytes = key.as_slice();
         if !write_bytes(bytes, used, keys) {
             if at == 0 {
                 return Err(bytes.len());
