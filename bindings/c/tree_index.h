@@ -104,6 +104,20 @@ uint8_t tree_index_bytes_at_or_below(tree_index_handle *handle, const uint8_t *s
  * [`tree_index_bytes_first`] does. Runs in O(log n). Copies the key meanwhile. */
 uint8_t tree_index_bytes_at_or_above(tree_index_handle *handle, const uint8_t *sought, size_t sought_length, uint8_t *key, size_t key_length, tree_index_entry *entry);
 
+/* Writes the end of a prefix and its length. The end is the least key that is larger than all keys
+ * that begin with the prefix: these are the keys from the prefix, included, up to its end,
+ * excluded. Answers `NO`, and writes nothing, if there is no end, since the prefix is empty or each
+ * of its bytes is 255: then all keys from the prefix on begin with it. Answers `NO_ROOM` if the end
+ * has too few places, and writes its length. An end is never longer than its prefix. Runs in the
+ * length of the prefix. Copies the end meanwhile. */
+uint8_t tree_index_bytes_prefix_end(const uint8_t *prefix, size_t prefix_length, uint8_t *end, size_t end_length, size_t *length);
+
+/* Removes every pair whose key begins with a prefix, and writes how many there were. The number is
+ * sure unless the index had 2^64 pairs or more. Answers `YES`, also if there was none. Makes O(log
+ * n) comparisons, and frees the leaves between the first pair and the last whole. Copies the prefix
+ * and its end meanwhile. */
+uint8_t tree_index_bytes_remove_prefix(tree_index_handle *handle, const uint8_t *prefix, size_t prefix_length, size_t *count);
+
 /* Writes the first pairs whose keys are within both bounds, in ascending order, and how many.
  * Stops at the first key that has no room in what is left of `keys`, and at the last of `entries`.
  * `YES` with a count of 0 means that there is no pair, or no entry. `keys` gets the bytes of one
@@ -180,6 +194,12 @@ uint8_t tree_index_spare(tree_index_handle *handle);
 /* Removes all pairs. Answers `YES`, also if there was none. Runs in O(n). Keeps the memory for
  * later pairs. */
 uint8_t tree_index_clear(tree_index_handle *handle);
+
+/* Looks up each of `keys`, eight at a time. Writes the value of each to the same place of
+ * `values`, and `YES` to that of `found`. If a key is absent, it writes 0 and `NO` there. Answers
+ * `NO_ROOM`, and writes nothing, if there are fewer places of either than keys. Makes the
+ * comparisons of a single look-up for each key. Allocates nothing. */
+uint8_t tree_index_peek_many(tree_index_handle *handle, const uint64_t *keys, size_t keys_length, uint64_t *values, size_t values_length, uint8_t *found, size_t found_length);
 
 /* Writes the value of a key. Answers `NO`, and writes nothing, if the key is absent. Runs in O(log
  * n). */

@@ -142,6 +142,19 @@ public:
   }
   // The same, or std::out_of_range if the key is absent.
   uint64_t at(uint64_t key) const { return inside::value_at(find(key)); }
+  // The value of each key of a vector, an array or a span, in order. Out of cache this is faster than single look-ups.
+  template <class Keys> std::vector<std::optional<uint64_t>> find_many(const Keys &keys) const {
+    std::size_t count = std::size(keys);
+    std::vector<uint64_t> values(count + 1);
+    std::vector<uint8_t> found(count + 1);
+    const uint64_t none = 0, *from = count ? std::data(keys) : &none;
+    tree_index_peek_many(owner_.get(), from, count, values.data(), count, found.data(), count);
+    std::vector<std::optional<uint64_t>> told(count);
+    for (std::size_t at = 0; at < count; at++) {
+      if (found[at]) told[at] = values[at];
+    }
+    return told;
+  }
   bool contains(uint64_t key) const { return tree_index_contains(owner_.get(), key) == TREE_INDEX_YES; }
   size_type size() const noexcept { return tree_index_len(owner_.get()); }
   bool empty() const noexcept { return size() == 0; }
@@ -263,16 +276,33 @@ struct byte_bound {
   std::string key;
   static byte_bound including(std::string_view key) { return {TREE_INDEX_INCLUDED, std::string(key)}; }
   static byte_bound excluding(std::string_view key) { return {TREE_INDEX_EXCLUDED, std::string(key)}; }
+  // The end of a prefix: it excludes the least key that is larger than all that begin with the prefix. If there is none, as
+  // of an empty prefix, it is no bound.
+  static byte_bound end_of(std::string_view prefix);
 };
+
+namespace inside {
+
+inline const uint8_t *bytes_of(std::string_view key) {
+  static const uint8_t none = 0;
+  return key.empty() ? &none : reinterpret_cast<const uint8_t *>(key.data());
+}
+
+} // namespace inside
+
+inline byte_bound byte_bound::end_of(std::string_view prefix) {
+  byte_bound end{TREE_INDEX_EXCLUDED, std::string(prefix)};
+  std::size_t length = 0;
+  if (!inside::done(tree_index_bytes_prefix_end(inside::bytes_of(prefix), prefix.size(), reinterpret_cast<uint8_t *>(&end.key[0]), end.key.size(), &length))) return {};
+  end.key.resize(length);
+  return end;
+}
 
 // An ordered index of byte strings by numbers, in the order of memcmp, a prefix first. It copies its keys.
 class byte_index {
   inside::owner owner_;
 
-  static const uint8_t *bytes_of(std::string_view key) {
-    static const uint8_t none = 0;
-    return key.empty() ? &none : reinterpret_cast<const uint8_t *>(key.data());
-  }
+  static const uint8_t *bytes_of(std::string_view key) { return inside::bytes_of(key); }
 
 public:
   using key_type = std::string;
@@ -310,6 +340,12 @@ public:
   void erase_range(const byte_bound &low, const byte_bound &high) {
     inside::done(tree_index_bytes_remove_range(owner_.get(), low.kind, bytes_of(low.key), low.key.size(), high.kind, bytes_of(high.key), high.key.size()));
   }
+  // Removes the keys that begin with a prefix. Returns how many there were.
+  size_type erase_prefix(std::string_view prefix) {
+    size_type count = 0;
+    inside::done(tree_index_bytes_remove_prefix(owner_.get(), bytes_of(prefix), prefix.size(), &count));
+    return count;
+  }
   void clear() noexcept { tree_index_clear(owner_.get()); }
   std::optional<value_type> pop_first() {
     return pair_by([this](uint8_t *key, size_t length, tree_index_entry *entry) { return tree_index_bytes_pop_first(owner_.get(), key, length, entry); });
@@ -346,6 +382,8 @@ public:
   iterator end() const;
   range_type range(byte_bound low = {}, byte_bound high = {}) const;
   range_type reversed(byte_bound low = {}, byte_bound high = {}) const;
+  // The pairs whose keys begin with a prefix. In descending order: reversed(byte_bound::including(prefix), byte_bound::end_of(prefix)).
+  range_type prefix(std::string_view prefix) const;
   // A walk from the first key that isn't smaller than this one, or from the first that is larger.
   iterator lower_bound(std::string_view key) const;
   iterator upper_bound(std::string_view key) const;
@@ -457,6 +495,7 @@ inline byte_index::iterator byte_index::begin() const { return iterator(this, fa
 inline byte_index::iterator byte_index::end() const { return iterator(); }
 inline byte_index::range_type byte_index::range(byte_bound low, byte_bound high) const { return range_type(this, false, std::move(low), std::move(high)); }
 inline byte_index::range_type byte_index::reversed(byte_bound low, byte_bound high) const { return range_type(this, true, std::move(low), std::move(high)); }
+inline byte_index::range_type byte_index::prefix(std::string_view prefix) const { return range(byte_bound::including(prefix), byte_bound::end_of(prefix)); }
 inline byte_index::iterator byte_index::lower_bound(std::string_view key) const { return iterator(this, false, byte_bound::including(key), {}, inside::few_ahead); }
 inline byte_index::iterator byte_index::upper_bound(std::string_view key) const { return iterator(this, false, byte_bound::excluding(key), {}, inside::few_ahead); }
 

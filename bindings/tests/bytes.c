@@ -4,10 +4,10 @@
 static model m;
 static tree_index_handle index_ = TREE_INDEX_CLOSED;
 
-/* A key of few different bytes, so that prefixes and equal keys are met. */
+/* A key of few different bytes, 255 among them, so that prefixes and equal keys are met. */
 static key_of_bytes some_key(size_t longest, uint64_t letters) {
   key_of_bytes key = {below(longest + 1), {0}};
-  for (size_t at = 0; at < key.length; at++) key.bytes[at] = (uint8_t)(below(letters) * (255 / letters));
+  for (size_t at = 0; at < key.length; at++) key.bytes[at] = (uint8_t)(below(letters) * 255 / (letters - 1));
   return key;
 }
 
@@ -54,13 +54,37 @@ static void fills(uint8_t low_kind, const key_of_bytes *low, uint8_t high_kind, 
   }
 }
 
+static int begins_with(const key_of_bytes *key, const key_of_bytes *prefix) {
+  return key->length >= prefix->length && memcmp(key->bytes, prefix->bytes, prefix->length) == 0;
+}
+
+/* The keys that begin with a prefix are those from it up to its end, and are removed with it. */
+static void prefixed(const key_of_bytes *prefix, int removes) {
+  size_t from = place(&m, prefix), to = from, count = 999;
+  while (to < m.count && begins_with(&m.keys[to], prefix)) to++;
+  key_of_bytes end = {99, {0}}, none = {99, {0}};
+  uint8_t answer = tree_index_bytes_prefix_end(prefix->bytes, prefix->length, end.bytes, 31, &end.length);
+  if (answer == TREE_INDEX_NO) {
+    WANT(to == m.count && end.length == 99);
+    for (size_t at = 0; at < prefix->length; at++) WANT(prefix->bytes[at] == 255);
+  } else {
+    WANT(answer == TREE_INDEX_YES && end.length <= prefix->length && place(&m, &end) == to);
+    WANT(compare(prefix, &end) < 0 && !begins_with(&end, prefix));
+    WANT(tree_index_bytes_prefix_end(prefix->bytes, prefix->length, none.bytes, end.length - 1, &none.length) == TREE_INDEX_NO_ROOM);
+    WANT(none.length == end.length && none.bytes[0] == 0);
+  }
+  if (!removes) return;
+  WANT(tree_index_bytes_remove_prefix(&index_, prefix->bytes, prefix->length, &count) == TREE_INDEX_YES && count == to - from);
+  cut(&m, from, to);
+}
+
 static void call(size_t longest, uint64_t letters) {
   key_of_bytes key = some_key(longest, letters), other = some_key(longest, letters);
   uint64_t value = draw() | 1, told = 0;
   size_t at = place(&m, &key);
   int is = is_at(&m, at, &key);
   uint8_t yes_if = is ? TREE_INDEX_YES : TREE_INDEX_NO;
-  switch (below(13)) {
+  switch (below(14)) {
   case 0: case 1: case 2:
     WANT(tree_index_bytes_insert(&index_, key.bytes, key.length, value) == (is ? TREE_INDEX_NO : TREE_INDEX_YES));
     if (!is) put(&m, &key, value);
@@ -108,6 +132,9 @@ static void call(size_t longest, uint64_t letters) {
   }
   case 10: case 11:
     fills((uint8_t)below(3), &key, (uint8_t)below(3), &other, (int)below(2));
+    break;
+  case 12:
+    prefixed(&key, below(40) == 0);
     break;
   default:
     if (below(40) == 0) {

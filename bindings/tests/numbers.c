@@ -23,13 +23,34 @@ static void fills(uint8_t low_kind, uint64_t low, uint8_t high_kind, uint64_t hi
   for (size_t at = 0; at < want; at++) same_pair(TREE_INDEX_YES, &places[at], to - 1 - at);
 }
 
+/* Look-ups of many keys, some of them the same. */
+static void many(uint64_t keys) {
+  uint64_t numbers[40], values[40];
+  uint8_t found[40];
+  size_t count = below(40), places = below(2) ? 40 : below(40), marks = below(2) ? 40 : below(40);
+  for (size_t at = 0; at < 40; at++) {
+    numbers[at] = below(keys);
+    values[at] = found[at] = 77;
+  }
+  uint8_t answer = tree_index_peek_many(&index_, numbers, count, values, places, found, marks);
+  size_t done = count <= places && count <= marks ? count : 0;
+  WANT(answer == (done == count ? TREE_INDEX_YES : TREE_INDEX_NO_ROOM));
+  for (size_t n = 0; n < done; n++) {
+    key_of_bytes key = of_number(numbers[n]);
+    size_t at = place(&m, &key);
+    int is = is_at(&m, at, &key);
+    WANT(found[n] == (is ? TREE_INDEX_YES : TREE_INDEX_NO) && values[n] == (is ? m.values[at] : 0));
+  }
+  for (size_t n = done; n < 40; n++) WANT(values[n] == 77 && found[n] == 77);
+}
+
 static void call(uint64_t keys) {
   uint64_t number = below(keys), value = draw() | 1, told = 0;
   key_of_bytes key = of_number(number);
   size_t at = place(&m, &key);
   int is = is_at(&m, at, &key);
   tree_index_pair pair = {0, 0};
-  switch (below(16)) {
+  switch (below(17)) {
   case 0: case 1: case 2: case 3:
     WANT(tree_index_insert(&index_, number, value) == (is ? TREE_INDEX_NO : TREE_INDEX_YES));
     if (!is) put(&m, &key, value);
@@ -71,6 +92,9 @@ static void call(uint64_t keys) {
     break;
   case 12:
     WANT(tree_index_len(&index_) == m.count && (tree_index_depth(&index_) > 0 || m.count == 0) && tree_index_spare(&index_) <= 15);
+    break;
+  case 15:
+    many(keys);
     break;
   case 13: case 14:
     fills((uint8_t)below(3), number, (uint8_t)below(3), number + below(keys / 4 + 1));

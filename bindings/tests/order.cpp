@@ -64,6 +64,13 @@ static void numbers(uint64_t keys, int calls) {
     case 6:
       WANT(index.find(key) == (is ? std::optional(at->second) : std::nullopt) && index.contains(key) == is && index.size() == map.size());
       WANT(value_at(index, key) == index.find(key));
+      {
+        std::vector<uint64_t> sought(below(40));
+        for (auto &one : sought) one = below(keys);
+        auto told = index.find_many(sought);
+        WANT(told.size() == sought.size());
+        for (std::size_t n = 0; n < told.size(); n++) WANT(told[n] == index.find(sought[n]));
+      }
       break;
     case 7:
       WANT(index.at_or_above(key) == pair_at(at, map.end()) && index.at_or_below(key) == last_before(map, is ? std::next(at) : at));
@@ -110,13 +117,13 @@ static void numbers(uint64_t keys, int calls) {
 static void byte_strings(size_t longest, int calls) {
   tree_index::byte_index index;
   std::map<std::string, uint64_t> map;
-  auto word = [&] { std::string key(below(longest + 1), 0); for (auto &letter : key) letter = char('a' + below(3)); return key; };
+  auto word = [&] { std::string key(below(longest + 1), 0); for (auto &letter : key) letter = "ab\xff"[below(3)]; return key; };
   for (int call = 0; call < calls; call++) {
     std::string key = word(), other = word();
     uint64_t value = chance();
     auto at = map.lower_bound(key);
     bool is = at != map.end() && at->first == key;
-    switch (below(9)) {
+    switch (below(10)) {
     case 0: case 1: case 2: WANT(index.insert(key, value) == map.emplace(key, value).second); break;
     case 3: index.upsert(key, value); map[key] = value; break;
     case 4: WANT(index.erase(key) == map.erase(key)); break;
@@ -133,6 +140,16 @@ static void byte_strings(size_t longest, int calls) {
       same(index.reversed(tree_index::byte_bound::including(key), tree_index::byte_bound::including(other)), std::make_reverse_iterator(to), std::make_reverse_iterator(from));
       same_from(index.lower_bound(key), index.end(), from, map.end());
       same_from(index.upper_bound(other), index.end(), to, map.end());
+      break;
+    }
+    case 8: {
+      auto to = std::find_if(at, map.end(), [&](const auto &pair) { return pair.first.compare(0, key.size(), key) != 0; });
+      same(index.prefix(key), at, to);
+      same(index.reversed(tree_index::byte_bound::including(key), tree_index::byte_bound::end_of(key)), std::make_reverse_iterator(to), std::make_reverse_iterator(at));
+      if (below(40) == 0) {
+        WANT(index.erase_prefix(key) == std::size_t(std::distance(at, to)) && index.prefix(key).begin() == index.end());
+        map.erase(at, to);
+      }
       break;
     }
     default:

@@ -109,6 +109,19 @@ static uint8_t cuts(int is_bytes, uint64_t key) {
                   : tree_index_remove_range(&index_, TREE_INDEX_INCLUDED, key, TREE_INDEX_EXCLUDED, key + 40);
 }
 
+/* Removes the keys that begin as this one does. */
+static uint8_t cuts_alike(int is_bytes, uint64_t key) {
+  uint8_t prefix[24], end[24];
+  size_t length = 0, count = 0;
+  if (!is_bytes) return tree_index_remove_range(&index_, TREE_INDEX_INCLUDED, key, TREE_INDEX_EXCLUDED, key + 256);
+  uint8_t answer = tree_index_bytes_prefix_end(bytes_of(key, prefix), 23, end, 24, &length);
+  if (answer != TREE_INDEX_YES) return answer;
+  WANT(length == 23 && end[22] == prefix[22] + 1);
+  answer = tree_index_bytes_remove_prefix(&index_, prefix, 23, &count);
+  WANT(answer != TREE_INDEX_YES || count == KEYS - key);
+  return answer;
+}
+
 /* All calls once, with one request refused. Returns whether there was such a request. */
 static int run(int is_bytes, long at) {
   requests = 0;
@@ -124,7 +137,8 @@ static int run(int is_bytes, long at) {
   WANT(tree_index_len(&built) == 40);
   again(is_bytes, takes, 17);
   again(is_bytes, cuts, 100);
-  WANT(tree_index_len(&index_) == KEYS - 41 && blocks > 0);
+  again(is_bytes, cuts_alike, 512);
+  WANT(tree_index_len(&index_) == 512 - 41 && blocks > 0);
   tree_index_free(&copy);
   tree_index_free(&built);
   tree_index_free(&index_);

@@ -48,8 +48,10 @@ static bool run(long at) {
   std::optional<tree_index::index> copy;
   refusals += twice([&] { copy = numbers->copy(); });
   refusals += twice([&] { std::size_t count = 0; for (const auto &pair : *words) count += pair.second < 300; want(count == 300, "a walk over words"); });
+  refusals += twice([&] { std::size_t count = 0; for (const auto &pair : words->prefix("a key that has no rooa")) count += pair.second < 26; want(count == 26, "a walk over a prefix"); });
+  refusals += twice([&] { want(words->erase_prefix("a key that has no rooa") == 26, "how many keys began with a prefix"); });
   refused_at = -1;
-  want(copy->size() == 300 && numbers->size() == 300 && words->size() == 300, "the pairs at the end");
+  want(copy->size() == 300 && numbers->size() == 300 && words->size() == 274, "the pairs at the end");
   return refusals > 0;
 }
 

@@ -13,6 +13,8 @@ near: Optional[Tuple[int, str]] = prices.at_or_above(100)
 last: Tuple[bytes, float] = sizes.peekitem()
 walk: Iterator[int] = prices.irange(101, reverse=True)
 gone: List[Tuple[bytes, float]] = sizes.pop_range(maximum=b"b")
+begin: Iterator[bytes] = sizes.iprefix(b"a")
+begun: List[Tuple[bytes, float]] = sizes.pop_prefix(b"a")
 both: TreeIndex[int, str] = prices | {107: "three"}
 place: int = prices.keys()[0]
 places: List[Tuple[int, str]] = prices.items()[-2:]
@@ -20,5 +22,6 @@ backwards: Iterator[str] = reversed(prices.values())
 
 prices[101:104]  # type: ignore[index]
 prices[b"x"]  # type: ignore[index]
+prices.iprefix(b"x")  # type: ignore[misc]
 sizes[b"x"] = "large"  # type: ignore[assignment]
 names: TreeIndex[str, int]  # type: ignore[type-var]

@@ -1,4 +1,5 @@
 """The mapping beside a dict, and beside sortedcontainers.SortedDict where it is installed."""
+import array
 import ast
 import collections.abc
 import copy
@@ -31,7 +32,7 @@ def number(chance, keys):
 
 
 def word(chance, keys):
-    return bytes(chance.randrange(3) * 100 for _ in range(chance.randrange(keys)))
+    return bytes(chance.choice((0, 100, 255)) for _ in range(chance.randrange(keys)))
 
 
 def compare(kind, key_of, keys, calls):
@@ -39,7 +40,7 @@ def compare(kind, key_of, keys, calls):
     index, plain = TreeIndex(), SortedDict() if SortedDict else {}
     for call in range(calls):
         key, other, value = key_of(chance, keys), key_of(chance, keys), object()
-        which = chance.randrange(14)
+        which = chance.randrange(15)
         if which < 3:
             index[key] = plain[key] = value
         elif which == 3:
@@ -65,6 +66,12 @@ def compare(kind, key_of, keys, calls):
         elif which == 12 and chance.random() < 0.05:
             gone = [(k, plain.pop(k)) for k in sorted(plain) if key <= k <= other]
             assert index.pop_range(key, other) == gone
+        elif which == 13 and type(key) is bytes:
+            begin = [k for k in sorted(plain) if k.startswith(key)]
+            assert list(index.iprefix(key)) == begin and list(index.iprefix(key, reverse=True)) == begin[::-1]
+            assert list(index.iprefix_items(key)) == [(k, plain[k]) for k in begin]
+            if chance.random() < 0.05:
+                assert index.pop_prefix(key) == [(k, plain.pop(k)) for k in begin]
         elif call % 997 == 0:
             assert index == plain and index.copy() == plain and list(index) == sorted(plain)
     assert list(index.items()) == sorted(plain.items()) and list(index.values()) == [plain[k] for k in sorted(plain)]
@@ -87,6 +94,37 @@ def test_long_keys():
     assert [len(key) for key in index] == [3000 * n + 1 for n in range(20)]
     assert [len(key) for key in reversed(index)] == [3000 * n + 1 for n in reversed(range(20))]
     assert index.peekitem() == (b"T" * 57001, 19) and index.peekitem(2) == (b"C" * 6001, 2)
+
+
+def test_many_keys():
+    for key_of in (lambda n: n - 50, lambda n: b"%04d" % n):
+        index = TreeIndex((key_of(n), n) for n in range(0, 300, 3))
+        for count in (0, 1, 63, 64, 65, 300):
+            assert index.get_many([key_of(n) for n in range(count)]) == [None if n % 3 else n for n in range(count)]
+            assert index.get_many((key_of(n) for n in range(count)), -1) == [-1 if n % 3 else n for n in range(count)]
+        assert refused(TypeError, index.get_many, [1, b"x"]) and refused(TypeError, index.get_many, 5)
+    index = TreeIndex({-1: "a", 5: "b", 2**63 - 1: "c"})
+    for kind in "ql":
+        assert index.get_many(array.array(kind, [5, -1, 2, 2**63 - 1] * 40)) == ["b", "a", None, "c"] * 40
+    assert index.get_many(array.array("Q", [2**64 - 1, 5, 2**63 - 1]), 0) == [0, "b", "c"]
+    assert index.get_many(array.array("h", [5, -1])) == ["b", "a"] and index.get_many(memoryview(array.array("q", [5, 0, -1]))[::2]) == ["b", "a"]
+    assert index.get_many([2**70, 5, -(2**70)]) == [None, "b", None]
+    assert TreeIndex().get_many([1, 2]) == [None, None] and TreeIndex().get_many(array.array("q", [1])) == [None]
+    assert refused(TypeError, TreeIndex({b"x": 1}).get_many, array.array("q", [1]))
+
+
+def test_prefixes():
+    index = TreeIndex((word, n) for n, word in enumerate([b"", b"a", b"ab", b"b", b"\xff", b"\xff\xff", b"\xff\xff\x01"]))
+    assert list(index.iprefix(b"a")) == [b"a", b"ab"] and list(index.iprefix(b"\xff\xff")) == [b"\xff\xff", b"\xff\xff\x01"]
+    assert list(index.iprefix(b"")) == list(index) and list(index.iprefix(b"c")) == []
+    assert index.pop_prefix(b"\xff") == [(b"\xff", 4), (b"\xff\xff", 5), (b"\xff\xff\x01", 6)]
+    assert list(index) == [b"", b"a", b"ab", b"b"] and index.pop_prefix(b"abc") == []
+    walk = index.iprefix(b"a")
+    next(walk)
+    index.pop_prefix(b"b")
+    assert refused(RuntimeError, next, walk)
+    assert refused(TypeError, index.iprefix, 1) and refused(TypeError, index.pop_prefix, "a") and refused(TypeError, TreeIndex({1: 1}).iprefix, b"a")
+    assert list(TreeIndex().iprefix(b"a")) == [] and TreeIndex().pop_prefix(b"a") == []
 
 
 def test_places():
@@ -208,6 +246,21 @@ def test_references_are_counted():
         assert Counted.alive == 800 and len(other) == 800
         del other
         assert Counted.alive == 0
+
+
+def test_references_of_many_keys_and_of_prefixes():
+    numbers, words = TreeIndex((n, Counted()) for n in range(200)), TreeIndex((b"%03d" % n, Counted()) for n in range(200))
+    for index, keys in ((numbers, [150, 7, 150]), (numbers, array.array("q", [150, 7, 150])), (words, [b"150", b"007", b"150"])):
+        value = index[keys[0] if index is words else 150]
+        base = sys.getrefcount(value)
+        told = index.get_many(keys)
+        assert told[0] is value and sys.getrefcount(value) == base + 2
+        del told
+        assert sys.getrefcount(value) == base
+    del value, index
+    assert Counted.alive == 400 and len(words.pop_prefix(b"1")) == 100 and Counted.alive == 300
+    del numbers, words
+    assert Counted.alive == 0
 
 
 def test_a_cycle_is_collected():

@@ -77,6 +77,15 @@ impl ByteIndex {
         }
     }
 
+    /// Removes every pair whose key begins with a prefix. Returns how many there were. Copies the prefix meanwhile.
+    pub fn remove_prefix(&mut self, prefix: impl AsRef<[u8]>) -> Result<usize, OutOfMemory> {
+        let (prefix, mut count) = (prefix.as_ref(), 0);
+        match unsafe { raw::tree_index_bytes_remove_prefix(self.owner.get(), prefix.as_ptr(), prefix.len(), &mut count) } {
+            raw::YES => Ok(count),
+            _ => Err(OutOfMemory),
+        }
+    }
+
     /// Removes all pairs.
     pub fn clear(&mut self) {
         unsafe { raw::tree_index_clear(self.owner.get()) };
@@ -145,13 +154,24 @@ impl ByteIndex {
     /// is refused. The type of a bound has to be told where both are open: [`iter`](ByteIndex::iter) needs none.
     pub fn range<B: AsRef<[u8]>>(&self, bounds: impl RangeBounds<B>) -> ByteRange<'_> {
         let owned = |bound: Bound<&B>| bound.map(|key| key.as_ref().to_vec());
-        ByteRange {
-            index: self,
-            low: owned(bounds.start_bound()),
-            high: owned(bounds.end_bound()),
-            front: Ahead::default(),
-            back: Ahead::default(),
-        }
+        self.between(owned(bounds.start_bound()), owned(bounds.end_bound()))
+    }
+
+    /// Returns the pairs whose keys begin with a prefix, in ascending order and from both ends. Panics if memory for keys is
+    /// refused.
+    ///
+    /// ```
+    /// # use tree_index::ByteIndex;
+    /// let words: ByteIndex = [("plum", 1), ("plus", 2), ("pull", 3)].into_iter().collect();
+    /// assert_eq!(words.prefix("plu").map(|(_, value)| value).collect::<Vec<_>>(), [1, 2]);
+    /// ```
+    pub fn prefix(&self, prefix: impl AsRef<[u8]>) -> ByteRange<'_> {
+        let prefix = prefix.as_ref();
+        self.between(Bound::Included(prefix.to_vec()), end_of(prefix).expect("memory for the end of a prefix"))
+    }
+
+    fn between(&self, low: Bound<Vec<u8>>, high: Bound<Vec<u8>>) -> ByteRange<'_> {
+        ByteRange { index: self, low, high, front: Ahead::default(), back: Ahead::default() }
     }
 
     /// Returns all pairs in ascending order and from both ends.
@@ -224,6 +244,19 @@ fn kind_of<B: AsRef<[u8]>>(bound: Bound<&B>) -> (u8, &[u8]) {
         Bound::Unbounded => (0, &[]),
         Bound::Included(key) => (1, key.as_ref()),
         Bound::Excluded(key) => (2, key.as_ref()),
+    }
+}
+
+/// The least key that is larger than all that begin with a prefix, or no bound if there is none.
+fn end_of(prefix: &[u8]) -> Result<Bound<Vec<u8>>, OutOfMemory> {
+    let (mut end, mut length) = (vec![0; prefix.len()], 0);
+    match unsafe { raw::tree_index_bytes_prefix_end(prefix.as_ptr(), prefix.len(), end.as_mut_ptr(), end.len(), &mut length) } {
+        raw::YES => {
+            end.truncate(length);
+            Ok(Bound::Excluded(end))
+        }
+        raw::NO => Ok(Bound::Unbounded),
+        _ => Err(OutOfMemory),
     }
 }
 

@@ -96,6 +96,20 @@ impl TreeIndex {
         (unsafe { raw::tree_index_peek(self.owner.get(), key, &mut value) } == raw::YES).then_some(value)
     }
 
+    /// Returns the value of each key, or `None` if it is absent, in the order of the keys. Out of cache this is faster than
+    /// single look-ups.
+    ///
+    /// ```
+    /// # use tree_index::TreeIndex;
+    /// let index: TreeIndex = [(1, 10), (3, 30)].into_iter().collect();
+    /// assert_eq!(index.peek_many(&[3, 2, 1]), [Some(30), None, Some(10)]);
+    /// ```
+    pub fn peek_many(&self, keys: &[u64]) -> Vec<Option<u64>> {
+        let (mut values, mut found) = (vec![0; keys.len()], vec![0; keys.len()]);
+        unsafe { raw::tree_index_peek_many(self.owner.get(), keys.as_ptr(), keys.len(), values.as_mut_ptr(), values.len(), found.as_mut_ptr(), found.len()) };
+        values.into_iter().zip(found).map(|(value, is)| (is == raw::YES).then_some(value)).collect()
+    }
+
     /// Returns whether a key is present.
     pub fn contains(&self, key: u64) -> bool {
         unsafe { raw::tree_index_contains(self.owner.get(), key) == raw::YES }

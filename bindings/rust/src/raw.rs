@@ -21,6 +21,8 @@ unsafe extern "C" {
     pub fn tree_index_bytes_last(handle: *mut Handle, key: *mut u8, key_length: usize, entry: *mut Entry) -> u8;
     pub fn tree_index_bytes_at_or_below(handle: *mut Handle, sought: *const u8, sought_length: usize, key: *mut u8, key_length: usize, entry: *mut Entry) -> u8;
     pub fn tree_index_bytes_at_or_above(handle: *mut Handle, sought: *const u8, sought_length: usize, key: *mut u8, key_length: usize, entry: *mut Entry) -> u8;
+    pub fn tree_index_bytes_prefix_end(prefix: *const u8, prefix_length: usize, end: *mut u8, end_length: usize, length: *mut usize) -> u8;
+    pub fn tree_index_bytes_remove_prefix(handle: *mut Handle, prefix: *const u8, prefix_length: usize, count: *mut usize) -> u8;
     pub fn tree_index_bytes_fill(handle: *mut Handle, low_kind: u8, low: *const u8, low_length: usize, high_kind: u8, high: *const u8, high_length: usize, keys: *mut u8, keys_length: usize, entries: *mut Entry, entries_length: usize, count: *mut usize) -> u8;
     pub fn tree_index_bytes_fill_back(handle: *mut Handle, low_kind: u8, low: *const u8, low_length: usize, high_kind: u8, high: *const u8, high_length: usize, keys: *mut u8, keys_length: usize, entries: *mut Entry, entries_length: usize, count: *mut usize) -> u8;
     pub fn tree_index_bytes_remove_range(handle: *mut Handle, low_kind: u8, low: *const u8, low_length: usize, high_kind: u8, high: *const u8, high_length: usize) -> u8;
@@ -38,6 +40,7 @@ unsafe extern "C" {
     pub fn tree_index_depth(handle: *mut Handle) -> usize;
     pub fn tree_index_spare(handle: *mut Handle) -> u8;
     pub fn tree_index_clear(handle: *mut Handle) -> u8;
+    pub fn tree_index_peek_many(handle: *mut Handle, keys: *const u64, keys_length: usize, values: *mut u64, values_length: usize, found: *mut u8, found_length: usize) -> u8;
     pub fn tree_index_peek(handle: *mut Handle, key: u64, value: *mut u64) -> u8;
     pub fn tree_index_contains(handle: *mut Handle, key: u64) -> u8;
     pub fn tree_index_first(handle: *mut Handle, pair: *mut Pair) -> u8;

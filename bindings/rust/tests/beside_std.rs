@@ -63,7 +63,11 @@ fn numbers(keys: u64, calls: usize) {
                 index.upsert(key, value).unwrap();
             }
             5 | 6 => assert_eq!(index.remove(key), map.remove(&key)),
-            7 => assert_eq!((index.peek(key), index.contains(key)), (map.get(&key).copied(), map.contains_key(&key))),
+            7 => {
+                assert_eq!((index.peek(key), index.contains(key)), (map.get(&key).copied(), map.contains_key(&key)));
+                let sought: Vec<u64> = (0..chance.below(40)).map(|_| chance.below(keys)).collect();
+                assert_eq!(index.peek_many(&sought), sought.iter().map(|key| map.get(key).copied()).collect::<Vec<_>>());
+            }
             8 => {
                 assert_eq!(index.at_or_above(key), map.range(key..).next().map(|(k, v)| (*k, *v)));
                 assert_eq!(index.at_or_below(key), map.range(..=key).next_back().map(|(k, v)| (*k, *v)));
@@ -91,10 +95,10 @@ fn numbers(keys: u64, calls: usize) {
 
 fn byte_strings(longest: u64, letters: u64, calls: usize) {
     let (mut chance, mut index, mut map) = (Chance(longest), ByteIndex::new().unwrap(), BTreeMap::<Vec<u8>, u64>::new());
-    let word = |chance: &mut Chance| -> Vec<u8> { (0..chance.below(longest + 1)).map(|_| (chance.below(letters) * 17) as u8).collect() };
+    let word = |chance: &mut Chance| -> Vec<u8> { (0..chance.below(longest + 1)).map(|_| (chance.below(letters) * 255 / (letters - 1)) as u8).collect() };
     for _ in 0..calls {
         let (key, other, value) = (word(&mut chance), word(&mut chance), chance.draw());
-        match chance.below(9) {
+        match chance.below(10) {
             0..=2 => {
                 let want = if map.contains_key(&key) { Err(InsertError::Duplicate) } else { Ok(()) };
                 assert_eq!(index.insert(&key, value), want);
@@ -116,6 +120,17 @@ fn byte_strings(longest: u64, letters: u64, calls: usize) {
                 let told = ends(&mut Chance(seed), index.range::<Vec<u8>>(bounds.clone()), most);
                 let want = ends(&mut Chance(seed), map.range::<Vec<u8>, _>(bounds).map(|(k, v)| (k.clone(), *v)), most);
                 assert_eq!(told, want);
+            }
+            8 => {
+                let begins = |k: &Vec<u8>| k.starts_with(&key);
+                let seed = chance.0;
+                let told = ends(&mut Chance(seed), index.prefix(&key), usize::MAX);
+                let want = ends(&mut Chance(seed), map.iter().filter(|(k, _)| begins(k)).map(|(k, v)| (k.clone(), *v)), usize::MAX);
+                assert_eq!(told, want);
+                if chance.below(30) == 0 {
+                    assert_eq!(index.remove_prefix(&key), Ok(want.len()));
+                    map.retain(|k, _| !begins(k));
+                }
             }
             _ if chance.below(30) == 0 => {
                 index.remove_range::<&Vec<u8>>(&key..&other).unwrap();

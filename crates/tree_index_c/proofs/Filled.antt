@@ -1,5 +1,5 @@
 -- How a loop fills places with what a walk gives.
-use Rattle.std.proofs.Common.{◌≡◌, ℕ, suc, ◌+◌, ◌<◌, ◌≤◌, List, [], ◌∷◌, ◌++◌, length, map, take, drop, refl, sym, ap, ◌∙◌, append_assoc, arith, length-append, length-drop}
+use Rattle.std.proofs.Common.{◌≡◌, ℕ, suc, ◌+◌, ◌<◌, ◌≤◌, List, [], ◌∷◌, ◌++◌, length, map, take, drop, refl, sym, ap, ◌∙◌, subst, append_assoc, arith, length-append, length-drop}
 use Rattle.tree_model.proofs.Common.{map-append}
 use Rattle.std.proofs.lemmas.List.{length-map}
 use Rattle.std.proofs.Math.ListN.{get_or, set}
@@ -64,3 +64,11 @@ module _ {P X : Type 0} (show : P → X) (all : List P) (before : List X) where
 
       pub fills_all : left ≡ [] → Fills show all before at now
       fills_all none = record { count = omega (arith, ap length none, was.within, in_all); filled = filled }
+
+    -- where there is room for all, the next one has its place
+    module _ (p : P) (left rest : List P) (is : left ≡ p ∷ rest) (was : Filling at now left) (room : length all ≤ length before) where
+      pub has_place : at < length now
+      has_place = omega (arith, in_all left was, ap length is, all_places was, room)
+
+      pub filling_next : (x : X) → x ≡ show p → Filling (at + 1) (set now at x) rest
+      filling_next x shown = subst (λ (y : X). Filling (at + 1) (set now at y) rest) (sym shown) (filling_more p rest (subst (λ (l : List P). Filling at now l) is was) has_place)

@@ -1,7 +1,9 @@
 pub mod Answers
 pub mod Entries
 pub mod Held
+pub mod Many
 pub mod Opened
 pub mod Owned
 pub mod Pairs
+pub mod Prefixes
 pub mod Sorted

@@ -4,7 +4,9 @@
 //! Each takes the index out of its handle, calls it and puts it back. Any other handle is answered
 //! with `MISFIT`.
 
+mod key;
 mod lookups;
+mod prefixes;
 mod ranges;
 mod sorted;
 mod writes;

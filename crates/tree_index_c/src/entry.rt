@@ -3,8 +3,8 @@ ghost use Rattle.std.specs.Prelude.{◌≤◌, length};
 ghost use Rattle.tree_model.specs.Rest.{lent};
 ghost use Rattle.tree_index_c.specs.Entries.{WritesBytes, WritesEntry};
 
-use crate::byte_key::ByteKey;
 use crate::status::{NO, NO_ROOM, YES};
+use tree_texts::Bytes;
 
 /// The length of a key, whose bytes lie elsewhere, and a value.
 #[repr(C)]
@@ -16,13 +16,13 @@ pub struct Entry {
 
 /// Writes the bytes of a key to the first places, and its length and its value to an entry. Where
 /// the places are too few it writes the entry alone.
-pub fn write_entry(pair: Option<(&ByteKey, &u64)>, places: &mut [u8], entry: &mut Entry) -> u8
+pub fn write_entry(pair: Option<(&Bytes, &u64)>, places: &mut [u8], entry: &mut Entry) -> u8
     ensures { WritesEntry (lent pair.entry) result places.old places.new entry.old entry.new }
 {
     let Some((key, value)) = pair else {
         return NO;
     };
-    let bytes = key.as_bytes();
+    let bytes = key.as_slice();
     *entry = Entry {
         length: bytes.len(),
         value: *value,

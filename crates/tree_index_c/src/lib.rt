@@ -12,7 +12,6 @@
 //! that each fill as many places as the caller has.
 #![tactic(auto)]
 
-mod byte_key;
 mod bytes;
 mod copies;
 mod detached;

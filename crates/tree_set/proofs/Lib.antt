@@ -1,4 +1,5 @@
 pub mod Apart
+pub mod Beginning
 pub mod Firsts
 pub mod Keys
 pub mod Moves

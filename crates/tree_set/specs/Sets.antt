@@ -1,6 +1,6 @@
 -- A set as a list of elements, strictly ascending. `cmp` is the order of the elements.
-use Rattle.std.specs.Prelude.{◌≡◌, Bool, true, false, not, List, [], ◌∷◌, ◌++◌, filter, find, map, Option, Result, Ok, Err, ⊤}
-use Rattle.std.specs.List.{AllByRecursion, list_any}
+use Rattle.std.specs.Prelude.{◌≡◌, ℕ, Bool, true, false, not, List, [], ◌∷◌, ◌++◌, filter, find, map, nat_eq, Option, Result, Ok, Err, ⊤}
+use Rattle.std.specs.List.{AllByRecursion, list_any, starts_with}
 use Rattle.std.specs.declared.cmp.Ordering.{Ordering}
 use Rattle.std.specs.declared.cmp.Ordering.TheVariants.{Less}
 use Rattle.std.specs.declared.ops.Bound.{Bound}
@@ -49,3 +49,10 @@ module _ {K : Type 0} (cmp : K → K → Ordering) where
   Inserts old k (Ok true) new = (has old k ≡ false) × (new ≡ put old k)
   Inserts old k (Ok false) new = (has old k ≡ true) × (new ≡ old)
   Inserts old k (Err back) new = (has old k ≡ false) × (back ≡ k) × (new ≡ old)
+
+-- the elements that begin with the prefix, and the others
+abbrev pub beginning_with : List ℕ → List (List ℕ) → List (List ℕ)
+beginning_with prefix l = filter (λ x. starts_with nat_eq x prefix) l
+
+abbrev pub not_beginning_with : List ℕ → List (List ℕ) → List (List ℕ)
+not_beginning_with prefix l = filter (λ x. not (starts_with nat_eq x prefix)) l

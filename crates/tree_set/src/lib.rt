@@ -7,6 +7,7 @@ mod difference;
 mod elements;
 mod equality;
 mod intersection;
+mod prefixes;
 mod set;
 mod symmetric_difference;
 mod union;

@@ -1,8 +1,10 @@
-//! The pairs whose keys begin with a prefix, and bytes that are looked up.
+//! The pairs whose keys begin with a prefix, bytes that are looked up, and elements of a set that begin
+//! with a prefix.
 use std::alloc::{AllocError, Global};
 use std::process::Abort;
 use test_support::refusals::succeeds;
 use tree_index::TreeIndex;
+use tree_set::{TreeSet, TreeSetOf};
 use tree_texts::{
     Bytes, Text, peek_bytes, prefix_bounds, prefix_range, remove_prefix, remove_text_prefix,
     text_prefix_bounds, text_prefix_range,
@@ -170,4 +172,94 @@ fn counts_and_removes_bytes(rt: &impl Abort, alloc: Global) -> Result<(), AllocE
 #[test]
 fn bytes_by_prefix(rt: HostRuntime) {
     assert!(rt; succeeds(rt.alloc(), || counts_and_removes_bytes(&rt, rt.alloc())));
+}
+
+// Stores the words in a set.
+fn set_of_words(alloc: Global) -> Result<TreeSet<Text>, AllocError> {
+    let mut words: TreeSet<Text> = TreeSetOf::new(alloc);
+    for word in &WORDS {
+        let element = Text::from(String::from_str(alloc, *word)?);
+        if words.insert(element).is_err() {
+            return Err(AllocError);
+        }
+    }
+    Ok(words)
+}
+
+// Returns whether the elements with a prefix are these.
+fn walks_elements(
+    alloc: Global,
+    words: &TreeSet<Text>,
+    prefix: &str,
+    wanted: &[&str],
+) -> Result<bool, AllocError> {
+    let bounds = text_prefix_bounds(alloc, prefix)?;
+    let mut left = words.text_prefix(&bounds);
+    for word in wanted {
+        let Some(element) = left.next() else {
+            return Ok(false);
+        };
+        if element.as_str() != *word {
+            return Ok(false);
+        }
+    }
+    Ok(left.next().is_none())
+}
+
+// Walks the elements of each row, removes them, and finds that they are gone and the others are not.
+fn walks_and_removes_elements(rt: &impl Abort, alloc: Global) -> Result<(), AllocError> {
+    for (prefix, wanted) in &ROWS {
+        let mut words = set_of_words(alloc)?;
+        assert!(rt; walks_elements(alloc, &words, *prefix, *wanted)?);
+        let found = words.remove_text_prefix(alloc, *prefix)?;
+        assert!(rt; found != wanted.is_empty());
+        assert!(rt; walks_elements(alloc, &words, *prefix, &[])?);
+        assert!(rt; words.len().saturating_add(wanted.len()) == WORDS.len());
+    }
+    Ok(())
+}
+
+#[test]
+fn set_of_texts_by_prefix(rt: HostRuntime) {
+    assert!(rt; succeeds(rt.alloc(), || walks_and_removes_elements(&rt, rt.alloc())));
+}
+
+// Stores the bytes in a set.
+fn set_of_bytes(alloc: Global) -> Result<TreeSet<Bytes>, AllocError> {
+    let mut set: TreeSet<Bytes> = TreeSetOf::new(alloc);
+    for bytes in &BYTES {
+        let element = Bytes::from((*bytes).to_vec(alloc)?);
+        if set.insert(element).is_err() {
+            return Err(AllocError);
+        }
+    }
+    Ok(set)
+}
+
+// Returns how many elements begin with a prefix.
+fn elements_with(alloc: Global, set: &TreeSet<Bytes>, prefix: &[u8]) -> Result<usize, AllocError> {
+    let bounds = prefix_bounds(alloc, prefix)?;
+    let mut count: usize = 0;
+    for _element in set.prefix(&bounds) {
+        count = count.saturating_add(1);
+    }
+    Ok(count)
+}
+
+// Counts the elements of each row, and removes them.
+fn counts_and_removes_elements(rt: &impl Abort, alloc: Global) -> Result<(), AllocError> {
+    for (prefix, wanted) in &BYTES_ROWS {
+        let mut set = set_of_bytes(alloc)?;
+        assert!(rt; elements_with(alloc, &set, *prefix)? == *wanted);
+        let found = set.remove_prefix(alloc, *prefix)?;
+        assert!(rt; found == (*wanted > 0));
+        assert!(rt; elements_with(alloc, &set, *prefix)? == 0);
+        assert!(rt; set.len().saturating_add(*wanted) == BYTES.len());
+    }
+    Ok(())
+}
+
+#[test]
+fn set_of_bytes_by_prefix(rt: HostRuntime) {
+    assert!(rt; succeeds(rt.alloc(), || counts_and_removes_elements(&rt, rt.alloc())));
 }

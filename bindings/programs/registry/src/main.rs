@@ -44,10 +44,9 @@ impl Registry {
         Ok(())
     }
 
-    /// The children of a name: the names from `NAME.` up to `NAME/`, the next character.
+    /// The children of a name: the names that begin with `NAME.`.
     fn children(&self, name: &str) -> impl Iterator<Item = (String, u64)> {
-        let (low, high) = (format!("{name}."), format!("{name}/"));
-        self.services.range(low..high).map(|(name, told)| (String::from_utf8_lossy(&name).into_owned(), told))
+        self.services.prefix(format!("{name}.")).map(|(name, told)| (String::from_utf8_lossy(&name).into_owned(), told))
     }
 }
 

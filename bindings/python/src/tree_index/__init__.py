@@ -19,6 +19,8 @@ from ._core import Index
 __all__ = ["TreeIndex"]
 
 _KEYS, _VALUES, _ITEMS = range(3)
+# The formats of a buffer whose numbers may have 64 bits.
+_SIGNED, _UNSIGNED = ("q", "l", "n"), ("Q", "L", "N")
 
 
 class _Places:
@@ -93,6 +95,24 @@ class TreeIndex(Index, MutableMapping):
     def irange_items(self, minimum=None, maximum=None, inclusive=(True, True), reverse=False):
         """The items from one key to another, as irange() gives the keys."""
         return self.irange(minimum, maximum, inclusive, reverse, _ITEMS)
+
+    def get_many(self, keys, default=None):
+        """The value of each key, or the default if it is absent, as a list in the order of the keys.
+
+        Of a buffer of 64-bit numbers, such as an ``array`` of type ``q``, no object is made for a key.
+        """
+        if not isinstance(keys, (bytes, bytearray, list, tuple)):
+            try:
+                view = memoryview(keys)
+            except TypeError:
+                return self._get_each(keys, default)
+            if view.ndim == 1 and view.itemsize == 8 and view.format in _SIGNED + _UNSIGNED:
+                return self._get_packed(view.tobytes(), default, view.format in _SIGNED)
+        return self._get_each(keys, default)
+
+    def iprefix_items(self, prefix, reverse=False):
+        """The items whose keys begin with a prefix, as iprefix() gives the keys."""
+        return self.iprefix(prefix, reverse, _ITEMS)
 
     def copy(self):
         """A copy with the same values."""

@@ -430,6 +430,30 @@ static int read_bounds(Index *self, PyObject *minimum, PyObject *maximum, PyObje
   return 1;
 }
 
+/* Reads the bounds of the keys that begin with a prefix. Returns -1 with an exception. */
+static int read_prefix(Index *self, PyObject *prefix, Bound *low, Bound *high) {
+  Key key;
+  *low = *high = unbounded;
+  if (!PyBytes_Check(prefix) || self->kind == NUMBERS) {
+    PyErr_Format(PyExc_TypeError, self->kind == NUMBERS ? "the keys of this index are ints, and begin with no %R" : "a prefix is a bytes, not %R", prefix);
+    return -1;
+  }
+  if (read_key(prefix, &key) < 0) return -1;
+  size_t length = (size_t)key.length;
+  uint8_t *end = PyMem_Malloc(length ? length : 1);
+  uint8_t answer = end ? tree_index_bytes_prefix_end(key.bytes, length, end, length, &length) : TREE_INDEX_NO_MEMORY;
+  if (answer == TREE_INDEX_NO_MEMORY) PyErr_NoMemory();
+  if (answer == TREE_INDEX_YES) {
+    high->kind = TREE_INDEX_EXCLUDED;
+    high->bytes = PyBytes_FromStringAndSize((const char *)end, (Py_ssize_t)length);
+  }
+  PyMem_Free(end);
+  if (PyErr_Occurred()) return -1;
+  low->kind = TREE_INDEX_INCLUDED;
+  low->bytes = new_reference(prefix);
+  return 0;
+}
+
 /* ---- the mapping */
 
 /* Lets every value go. The index is empty meanwhile, as the values' destructors may see it. */
@@ -570,6 +594,88 @@ static PyObject *index_get(PyObject *object, PyObject *args) {
   return new_reference(may && peek(self, &key, &stored) == TREE_INDEX_YES ? value_in(item_of(stored)) : otherwise);
 }
 
+/* Appends the values of some numbers to a list, or the default in place of one that is absent or that `fits` rules out. */
+static int append_many(Index *self, const uint64_t *numbers, const uint8_t *fits, size_t count, PyObject *otherwise, PyObject *values) {
+  uint64_t stored[AHEAD];
+  uint8_t found[AHEAD] = {0};
+  PyObject *told[AHEAD];
+  if (self->kind == NUMBERS) tree_index_peek_many(&self->handle, numbers, count, stored, AHEAD, found, AHEAD);
+  for (size_t at = 0; at < count; at++) {
+    if (found[at] && (!fits || fits[at])) ask_memory_for((PyVarObject *)item_of(stored[at]) + 1);
+  }
+  for (size_t at = 0; at < count; at++) told[at] = new_reference(found[at] && (!fits || fits[at]) ? value_in(item_of(stored[at])) : otherwise);
+  int failed = 0;
+  for (size_t at = 0; at < count; at++) {
+    if (!failed) failed = PyList_Append(values, told[at]);
+    Py_DECREF(told[at]);
+  }
+  return failed;
+}
+
+/* The values of the numbers that a bytes holds, eight bytes each, as the machine has them. */
+static PyObject *index_get_packed(PyObject *object, PyObject *args) {
+  Index *self = (Index *)object;
+  PyObject *packed, *otherwise;
+  char *bytes;
+  Py_ssize_t length;
+  int is_signed;
+  if (!PyArg_ParseTuple(args, "SOp", &packed, &otherwise, &is_signed) || PyBytes_AsStringAndSize(packed, &bytes, &length) < 0) return NULL;
+  if (self->kind == BYTES && length > 0) {
+    PyErr_SetString(PyExc_TypeError, "the keys of this index are of the other type than numbers");
+    return NULL;
+  }
+  PyObject *values = PyList_New(0);
+  for (Py_ssize_t from = 0; values && from < length;) {
+    uint64_t numbers[AHEAD];
+    uint8_t fits[AHEAD];
+    size_t count = 0;
+    for (; count < AHEAD && from < length; count++, from += 8) {
+      memcpy(&numbers[count], bytes + from, 8);
+      fits[count] = is_signed || numbers[count] < turned(0);
+      numbers[count] = turned(numbers[count]);
+    }
+    if (append_many(self, numbers, fits, count, otherwise, values) < 0) Py_CLEAR(values);
+  }
+  return values;
+}
+
+/* The values of the keys that an iterable gives. */
+static PyObject *index_get_each(PyObject *object, PyObject *args) {
+  Index *self = (Index *)object;
+  PyObject *keys, *otherwise, *sought;
+  if (!PyArg_ParseTuple(args, "OO", &keys, &otherwise)) return NULL;
+  PyObject *walk = PyObject_GetIter(keys), *values = walk ? PyList_New(0) : NULL;
+  uint64_t numbers[AHEAD] = {0};
+  uint8_t fits[AHEAD];
+  size_t count = 0;
+  int failed = !values;
+  while (!failed && (sought = PyIter_Next(walk))) {
+    Key key;
+    int may = read_sought(self, sought, &key);
+    if (may < 0) {
+      failed = 1;
+    } else if (may && key.kind == BYTES) {
+      uint64_t stored;
+      if (count > 0) failed = append_many(self, numbers, fits, count, otherwise, values);
+      count = 0;
+      PyObject *value = new_reference(peek(self, &key, &stored) == TREE_INDEX_YES ? value_in(item_of(stored)) : otherwise);
+      if (!failed) failed = PyList_Append(values, value);
+      Py_DECREF(value);
+    } else {
+      fits[count] = (uint8_t)may;
+      numbers[count++] = may ? key.number : 0;
+      if (count == AHEAD) {
+        failed = append_many(self, numbers, fits, count, otherwise, values);
+        count = 0;
+      }
+    }
+    Py_DECREF(sought);
+  }
+  if (failed || PyErr_Occurred() || append_many(self, numbers, fits, count, otherwise, values) < 0) Py_CLEAR(values);
+  Py_XDECREF(walk);
+  return values;
+}
+
 static PyObject *index_setdefault(PyObject *object, PyObject *args) {
   Index *self = (Index *)object;
   PyObject *name, *value = Py_None;
@@ -676,6 +782,16 @@ static PyObject *index_irange(PyObject *object, PyObject *args, PyObject *kwargs
   return walk_over((Index *)object, low, high, descends, (enum shows)shows);
 }
 
+static PyObject *index_iprefix(PyObject *object, PyObject *args, PyObject *kwargs) {
+  static char *names[] = {"prefix", "reverse", "show", NULL};
+  PyObject *prefix;
+  int descends = 0, shows = KEYS;
+  if (!PyArg_ParseTupleAndKeywords(args, kwargs, "O|pi:iprefix", names, &prefix, &descends, &shows)) return NULL;
+  Bound low, high;
+  if (read_prefix((Index *)object, prefix, &low, &high) < 0) return NULL;
+  return walk_over((Index *)object, low, high, descends, (enum shows)shows);
+}
+
 /* The item with a key, or else the nearest one on one side, or None. */
 static PyObject *nearest(Index *self, PyObject *sought, int is_above) {
   Bound low = unbounded, high = unbounded;
@@ -708,17 +824,10 @@ static PyObject *index_at_or_below(PyObject *object, PyObject *sought) { return 
 
 static PyObject *index_at_or_above(PyObject *object, PyObject *sought) { return nearest((Index *)object, sought, 1); }
 
-/* Removes the items within two bounds and gives them as a list. */
-static PyObject *index_pop_range(PyObject *object, PyObject *args, PyObject *kwargs) {
-  static char *names[] = {"minimum", "maximum", "inclusive", NULL};
-  Index *self = (Index *)object;
-  PyObject *minimum = Py_None, *maximum = Py_None, *inclusive = NULL;
-  if (!PyArg_ParseTupleAndKeywords(args, kwargs, "|OOO:pop_range", names, &minimum, &maximum, &inclusive)) return NULL;
-  Bound low, high;
-  int some = read_bounds(self, minimum, maximum, inclusive, &low, &high);
-  if (some < 0) return NULL;
+/* Removes the items within two bounds, which it takes over, and gives them as a list. */
+static PyObject *pop_between(Index *self, Bound low, Bound high, const char *name) {
   PyObject *items = PyList_New(0);
-  if (!items || !some || self->kind == NONE) {
+  if (!items || self->kind == NONE) {
     Py_XDECREF(low.bytes);
     Py_XDECREF(high.bytes);
     return items;
@@ -737,7 +846,7 @@ static PyObject *index_pop_range(PyObject *object, PyObject *args, PyObject *kwa
     }
     if (writes != self->writes) {
       /* Python code ran, and it wrote. */
-      PyErr_SetString(PyExc_RuntimeError, "TreeIndex changed during pop_range");
+      PyErr_Format(PyExc_RuntimeError, "TreeIndex changed during %s", name);
       more = -1;
       break;
     }
@@ -762,6 +871,22 @@ static PyObject *index_pop_range(PyObject *object, PyObject *args, PyObject *kwa
   Py_ssize_t count = PyList_Size(items);
   for (Py_ssize_t at = 0; at < count; at++) Py_DECREF(PyList_GetItem(items, at));
   return items;
+}
+
+static PyObject *index_pop_range(PyObject *object, PyObject *args, PyObject *kwargs) {
+  static char *names[] = {"minimum", "maximum", "inclusive", NULL};
+  PyObject *minimum = Py_None, *maximum = Py_None, *inclusive = NULL;
+  if (!PyArg_ParseTupleAndKeywords(args, kwargs, "|OOO:pop_range", names, &minimum, &maximum, &inclusive)) return NULL;
+  Bound low, high;
+  int some = read_bounds((Index *)object, minimum, maximum, inclusive, &low, &high);
+  if (some < 0) return NULL;
+  return some ? pop_between((Index *)object, low, high, "pop_range") : PyList_New(0);
+}
+
+static PyObject *index_pop_prefix(PyObject *object, PyObject *prefix) {
+  Bound low, high;
+  if (read_prefix((Index *)object, prefix, &low, &high) < 0) return NULL;
+  return pop_between((Index *)object, low, high, "pop_prefix");
 }
 
 /* Fills an empty index with the pairs of another, and takes a reference to each item. */
@@ -813,6 +938,8 @@ static PyMethodDef index_methods[] = {
     {"__reversed__", index_reversed, METH_NOARGS, "The keys in descending order."},
     {"_walk", index_walk, METH_VARARGS, NULL},
     {"_copy_from", index_copy_from, METH_O, NULL},
+    {"_get_packed", index_get_packed, METH_VARARGS, NULL},
+    {"_get_each", index_get_each, METH_VARARGS, NULL},
     {"get", index_get, METH_VARARGS, "get(key, default=None): the value of a key, or the default."},
     {"setdefault", index_setdefault, METH_VARARGS, "setdefault(key, default=None): the value of a key, stored first if it is absent."},
     {"pop", index_pop, METH_VARARGS, "pop(key[, default]): removes a key and returns its value."},
@@ -821,6 +948,8 @@ static PyMethodDef index_methods[] = {
     {"popitem", (PyCFunction)(void (*)(void))index_popitem, METH_VARARGS | METH_KEYWORDS, "popitem(index=-1): removes the item at a place and returns it."},
     {"irange", (PyCFunction)(void (*)(void))index_irange, METH_VARARGS | METH_KEYWORDS, "irange(minimum=None, maximum=None, inclusive=(True, True), reverse=False): the keys from one to another."},
     {"pop_range", (PyCFunction)(void (*)(void))index_pop_range, METH_VARARGS | METH_KEYWORDS, "pop_range(minimum=None, maximum=None, inclusive=(True, True)): removes the items from one key to another and returns them."},
+    {"iprefix", (PyCFunction)(void (*)(void))index_iprefix, METH_VARARGS | METH_KEYWORDS, "iprefix(prefix, reverse=False): the keys that begin with a prefix."},
+    {"pop_prefix", index_pop_prefix, METH_O, "pop_prefix(prefix): removes the items whose keys begin with a prefix and returns them."},
     {"at_or_below", index_at_or_below, METH_O, "at_or_below(key): the item with a key, or else with the next smaller one, or None."},
     {"at_or_above", index_at_or_above, METH_O, "at_or_above(key): the item with a key, or else with the next larger one, or None."},
     {NULL, NULL, 0, NULL},

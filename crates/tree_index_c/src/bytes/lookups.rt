@@ -10,12 +10,13 @@ ghost use Rattle.tree_index_c.specs.Entries.{FindsEntry, WritesEntry};
 ghost use Rattle.tree_index_c.specs.Held.{OnBytes, held};
 ghost use Rattle.tree_model.specs.Pairs.{IsAbsent, IsPresent, pair_at};
 
-use crate::byte_key::{ByteKey, find};
+use crate::bytes::key::key_of;
 use crate::entry::{Entry, write_entry};
 use crate::handle::Handle;
 use crate::status::{MISFIT, NO, NO_MEMORY, YES};
 use crate::store::Store;
 use std::alloc::Global;
+use tree_texts::peek_bytes;
 
 /// Writes the value of a key. Answers `NO`, and writes nothing, if the key is absent. Runs in O(log
 /// n). Copies nothing.
@@ -153,7 +154,7 @@ fn peek(store: &Store, key: &[u8], value: &mut u64) -> u8
     let Store::Bytes(index) = store else {
         return MISFIT;
     };
-    let Some((_, found)) = find(index, key) else {
+    let Some((_, found)) = peek_bytes(index, key) else {
         return NO;
     };
     *value = *found;
@@ -169,7 +170,11 @@ fn contains(store: &Store, key: &[u8]) -> u8
     let Store::Bytes(index) = store else {
         return MISFIT;
     };
-    if find(index, key).is_some() { YES } else { NO }
+    if peek_bytes(index, key).is_some() {
+        YES
+    } else {
+        NO
+    }
 }
 
 fn first(store: &Store, key: &mut [u8], entry: &mut Entry) -> u8
@@ -203,7 +208,7 @@ fn below(store: &Store, alloc: Global, sought: &[u8], key: &mut [u8], entry: &mu
     let Store::Bytes(index) = store else {
         return MISFIT;
     };
-    let Ok(sought) = ByteKey::from_bytes(alloc, sought) else {
+    let Ok(sought) = key_of(alloc, sought) else {
         return NO_MEMORY;
     };
     write_entry(index.at_or_below(&sought), key, entry)
@@ -218,7 +223,7 @@ fn above(store: &Store, alloc: Global, sought: &[u8], key: &mut [u8], entry: &mu
     let Store::Bytes(index) = store else {
         return MISFIT;
     };
-    let Ok(sought) = ByteKey::from_bytes(alloc, sought) else {
+    let Ok(sought) = key_of(alloc, sought) else {
         return NO_MEMORY;
     };
     write_entry(index.at_or_above(&sought), key, entry)

@@ -10,7 +10,7 @@ ghost use Rattle.tree_index_c.specs.Pairs.{bound_at, pairs_between};
 ghost use Rattle.tree_model.specs.Pairs.{cut};
 ghost use Rattle.tree_cursors.specs.Ranged.{way_of};
 
-use crate::byte_key::ByteKey;
+use crate::bytes::key::key_of;
 use crate::entry::{Entry, write_bytes};
 use crate::handle::Handle;
 use crate::status::{MISFIT, NO_MEMORY, NO_ROOM, YES};
@@ -18,6 +18,7 @@ use crate::store::Store;
 use std::alloc::{AllocError, Global};
 use std::ops::Bound;
 use tree_index::{Range, TreeIndex};
+use tree_texts::Bytes;
 
 /// Writes the first pairs whose keys are within both bounds, in ascending order, and how many.
 /// Stops at the first key that has no room in what is left of `keys`, and at the last of `entries`.
@@ -108,12 +109,12 @@ pub extern "C" fn tree_index_bytes_remove_range(
     answer
 }
 
-fn bound_of(alloc: Global, kind: u8, key: &[u8]) -> Result<Bound<ByteKey>, AllocError>
+fn bound_of(alloc: Global, kind: u8, key: &[u8]) -> Result<Bound<Bytes>, AllocError>
     ensures { IfOk result (λ bound. bound ≡ bound_at kind key.now) }
 {
     match kind {
-        1 => Ok(Bound::Included(ByteKey::from_bytes(alloc, key)?)),
-        2 => Ok(Bound::Excluded(ByteKey::from_bytes(alloc, key)?)),
+        1 => Ok(Bound::Included(key_of(alloc, key)?)),
+        2 => Ok(Bound::Excluded(key_of(alloc, key)?)),
         _ => Ok(Bound::Unbounded),
     }
 }
@@ -124,7 +125,7 @@ fn bounds_of(
     low: &[u8],
     high_kind: u8,
     high: &[u8],
-) -> Result<(Bound<ByteKey>, Bound<ByteKey>), AllocError>
+) -> Result<(Bound<Bytes>, Bound<Bytes>), AllocError>
     ensures { IfOk result
         (λ bounds. (bounds.0 ≡ bound_at low_kind low.now) × (bounds.1 ≡ bound_at high_kind high.now)) }
 {
@@ -133,10 +134,7 @@ fn bounds_of(
     Ok((low, high))
 }
 
-fn remove_range(
-    store: &mut Store,
-    bounds: Result<(Bound<ByteKey>, Bound<ByteKey>), AllocError>,
-) -> u8
+fn remove_range(store: &mut Store, bounds: Result<(Bound<Bytes>, Bound<Bytes>), AllocError>) -> u8
     ensures { OnBytes
         (λ old answer new. IfBounds bounds answer
         (λ low high. (answer ≡ YES) × (new.pairs ≡ cut (slice_cmp nat_cmp) old.pairs low high)) (new ≡ old))
@@ -154,7 +152,7 @@ fn remove_range(
 
 fn fill(
     store: &Store,
-    bounds: Result<(Bound<ByteKey>, Bound<ByteKey>), AllocError>,
+    bounds: Result<(Bound<Bytes>, Bound<Bytes>), AllocError>,
     backwards: bool,
     keys: &mut [u8],
     entries: &mut [Entry],
@@ -188,8 +186,8 @@ fn fill(
 }
 
 fn fill_from(
-    index: &TreeIndex<ByteKey, u64>,
-    bounds: (Bound<ByteKey>, Bound<ByteKey>),
+    index: &TreeIndex<Bytes, u64>,
+    bounds: (Bound<Bytes>, Bound<Bytes>),
     backwards: bool,
     keys: &mut [u8],
     entries: &mut [Entry],
@@ -206,7 +204,7 @@ fn fill_from(
         let Some((key, value)) = step(&mut cursor, backwards) else {
             return Ok(at);
         };
-        let bytes = key.as_bytes();
+        let bytes = key.as_slice();
         if !write_bytes(bytes, used, keys) {
             if at == 0 {
                 return Err(bytes.len());
@@ -222,7 +220,7 @@ fn fill_from(
     Ok(entries.len())
 }
 
-fn step<'t>(cursor: &mut Range<'t, ByteKey, u64>, backwards: bool) -> Option<(&'t ByteKey, &'t u64)>
+fn step<'t>(cursor: &mut Range<'t, Bytes, u64>, backwards: bool) -> Option<(&'t Bytes, &'t u64)>
     ensures { Moves (slice_cmp nat_cmp) (way_of backwards) cursor.old result cursor.new }
 {
     if backwards {

@@ -3,13 +3,14 @@ ghost use Rattle.std.specs.Prelude.{◌≡◌, ◌<◌, ◌≤◌, IfOk, MatchOp
 ghost use Rattle.tree_index_c.specs.Held.{held};
 ghost use Rattle.tree_index_c.specs.Sorted.{OpensParted, parted, size_of};
 
-use crate::byte_key::ByteKey;
+use crate::bytes::key::key_of;
 use crate::entry::Entry;
 use crate::handle::Handle;
 use crate::status::{MISFIT, NO, NO_MEMORY, NO_ROOM};
 use crate::store::Store;
 use std::alloc::{AllocError, Global};
 use tree_index::{FromSortedError, TreeIndex};
+use tree_texts::Bytes;
 
 /// Opens a closed handle on an index of pairs whose keys strictly ascend. `keys` has the bytes of
 /// one key after another, and `entries` the length and the value of each. Answers `NO` if the keys
@@ -46,7 +47,7 @@ fn pairs_of(
     alloc: Global,
     keys: &[u8],
     entries: &[Entry],
-) -> Result<Option<Vec<(ByteKey, u64)>>, AllocError>
+) -> Result<Option<Vec<(Bytes, u64)>>, AllocError>
     ensures { IfOk result
         (λ copy. MatchOption copy (length keys.now < size_of entries.now)
         (λ pairs. (size_of entries.now ≤ length keys.now) × (pairs.items ≡ parted keys.now entries.now))) }
@@ -58,7 +59,7 @@ fn pairs_of(
         if length > keys.len() - used {
             return Ok(None);
         }
-        let key = ByteKey::from_bytes(alloc, &keys[used..used + length])?;
+        let key = key_of(alloc, &keys[used..used + length])?;
         pairs.push((key, value))?;
         used += length;
     }

@@ -7,7 +7,7 @@ ghost use Rattle.tree_index_c.specs.Answers.{OpensBytes, RemovesOrRefuses, Repla
 ghost use Rattle.tree_index_c.specs.Entries.{PopsEntry};
 ghost use Rattle.tree_index_c.specs.Held.{OnBytes, held};
 
-use crate::byte_key::ByteKey;
+use crate::bytes::key::key_of;
 use crate::entry::{Entry, write_entry};
 use crate::handle::Handle;
 use crate::pair::write_value;
@@ -152,7 +152,7 @@ fn insert(store: &mut Store, alloc: Global, key: &[u8], value: u64) -> u8
     let Store::Bytes(index) = store else {
         return MISFIT;
     };
-    let Ok(key) = ByteKey::from_bytes(alloc, key) else {
+    let Ok(key) = key_of(alloc, key) else {
         return NO_MEMORY;
     };
     match index.insert_sync(key, value) {
@@ -169,7 +169,7 @@ fn upsert(store: &mut Store, alloc: Global, key: &[u8], value: u64) -> u8
     let Store::Bytes(index) = store else {
         return MISFIT;
     };
-    let Ok(key) = ByteKey::from_bytes(alloc, key) else {
+    let Ok(key) = key_of(alloc, key) else {
         return NO_MEMORY;
     };
     match index.upsert_sync(key, value) {
@@ -185,7 +185,7 @@ fn remove(store: &mut Store, alloc: Global, key: &[u8]) -> u8
     let Store::Bytes(index) = store else {
         return MISFIT;
     };
-    let Ok(key) = ByteKey::from_bytes(alloc, key) else {
+    let Ok(key) = key_of(alloc, key) else {
         return NO_MEMORY;
     };
     if index.remove_sync(&key) { YES } else { NO }
@@ -198,7 +198,7 @@ fn take(store: &mut Store, alloc: Global, key: &[u8], value: &mut u64) -> u8
     let Store::Bytes(index) = store else {
         return MISFIT;
     };
-    let Ok(key) = ByteKey::from_bytes(alloc, key) else {
+    let Ok(key) = key_of(alloc, key) else {
         return NO_MEMORY;
     };
     let answer = write_value(index.peek(&key), value);

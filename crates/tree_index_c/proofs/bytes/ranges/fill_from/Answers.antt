@@ -19,20 +19,20 @@ returns-in_default c =
 pub returns-then-at-eq0 : goal.returns-then-at-eq0
 returns-then-at-eq0 c =
     let was = c.loop-at.invariant in
-    stops_at_once _ _ _ _ _ _ _ was.1 _ _ (walks_to nat_list_cmp_total _ _ _ _ _ _ _ _ was.0 _ c.in-Some.ensures) c.loop-at.auto.keys _ c.as_bytes-bytes.ensures _ c.if-at-eq0.true c.if-not-write_bytes.ensures.0 c.if-not-write_bytes.ensures.1
+    stops_at_once _ _ _ _ _ _ _ was.1 _ _ (walks_to nat_list_cmp_total _ _ _ _ _ _ _ _ was.0 _ c.in-Some.ensures) c.loop-at.auto.keys _ c.as_slice-bytes.ensures _ c.if-at-eq0.true c.if-not-write_bytes.ensures.0 c.if-not-write_bytes.ensures.1
 
 -- a later one has none
 pub returns-then-not-write_bytes : goal.returns-then-not-write_bytes
 returns-then-not-write_bytes c =
     let was = c.loop-at.invariant in
-    stops_short _ _ _ _ _ _ _ was.1 _ _ (walks_to nat_list_cmp_total _ _ _ _ _ _ _ _ was.0 _ c.in-Some.ensures) c.loop-at.auto.keys _ c.as_bytes-bytes.ensures _ (omega (arith, c.if-at-eq0.false)) c.if-not-write_bytes.ensures.0 c.if-not-write_bytes.ensures.1
+    stops_short _ _ _ _ _ _ _ was.1 _ _ (walks_to nat_list_cmp_total _ _ _ _ _ _ _ _ was.0 _ c.in-Some.ensures) c.loop-at.auto.keys _ c.as_slice-bytes.ensures _ (omega (arith, c.if-at-eq0.false)) c.if-not-write_bytes.ensures.0 c.if-not-write_bytes.ensures.1
 
 -- the key and its entry are written
 pub loop-at-preserved : goal.loop-at-preserved
 loop-at-preserved c =
     let was = c.loop-at.invariant in (
-      walks_on nat_list_cmp_total _ _ _ _ _ _ _ _ was.0 _ c.in-Some.ensures (omega (arith, c.loop-at-test.true, c.loop-at.auto.entries)) _ (ap (λ bytes. record { length = length bytes; value = c.in-Some.value.now }) c.as_bytes-bytes.ensures),
-      joining_more _ _ _ _ _ _ _ was.1 _ _ (walks_to nat_list_cmp_total _ _ _ _ _ _ _ _ was.0 _ c.in-Some.ensures) c.loop-at.auto.keys _ c.as_bytes-bytes.ensures _ c.if-not-write_bytes.ensures.0 c.if-not-write_bytes.ensures.1,
+      walks_on nat_list_cmp_total _ _ _ _ _ _ _ _ was.0 _ c.in-Some.ensures (omega (arith, c.loop-at-test.true, c.loop-at.auto.entries)) _ (ap (λ bytes. record { length = length bytes; value = c.in-Some.value.now }) c.as_slice-bytes.ensures),
+      joining_more _ _ _ _ _ _ _ was.1 _ _ (walks_to nat_list_cmp_total _ _ _ _ _ _ _ _ was.0 _ c.in-Some.ensures) c.loop-at.auto.keys _ c.as_slice-bytes.ensures _ c.if-not-write_bytes.ensures.0 c.if-not-write_bytes.ensures.1,
       refl,
       omega (arith, c.loop-at-test.true),
     )
