@@ -29,7 +29,6 @@ impl<const LEN: usize> TreeSetOf<Bytes, LEN> {
     ///     count = count.saturating_add(1);
     /// }
     /// ```
-    #[tactic(auto, using(tree_node::proofs::Sizes::fits))]
     pub fn prefix<'t>(
         &'t self,
         bounds: &'t (Bound<Bytes>, Bound<Bytes>),
@@ -49,7 +48,6 @@ impl<const LEN: usize> TreeSetOf<Bytes, LEN> {
     /// ```
     /// let found = set.remove_prefix(alloc, *prefix)?;
     /// ```
-    #[tactic(auto, using(tree_node::proofs::Sizes::fits))]
     pub fn remove_prefix(&mut self, alloc: Global, prefix: &[u8]) -> Result<bool, AllocError>
         ensures removed { IfOk result (λ _. self.new ≡ not_beginning_with prefix.now self.old) }
         ensures found { IfOk result (λ found. IsTrue found ↔ (beginning_with prefix.now self.old ≢ [])) }
@@ -71,7 +69,6 @@ impl<const LEN: usize> TreeSetOf<Text, LEN> {
     /// let bounds = text_prefix_bounds(alloc, prefix)?;
     /// let mut left = words.text_prefix(&bounds);
     /// ```
-    #[tactic(auto, using(tree_node::proofs::Sizes::fits))]
     pub fn text_prefix<'t>(
         &'t self,
         bounds: &'t (Bound<Text>, Bound<Text>),
@@ -91,7 +88,6 @@ impl<const LEN: usize> TreeSetOf<Text, LEN> {
     /// ```
     /// let found = words.remove_text_prefix(alloc, *prefix)?;
     /// ```
-    #[tactic(auto, using(tree_node::proofs::Sizes::fits))]
     pub fn remove_text_prefix(&mut self, alloc: Global, prefix: &str) -> Result<bool, AllocError>
         ensures removed { IfOk result (λ _. self.new ≡ not_beginning_with prefix.now self.old) }
         ensures found { IfOk result (λ found. IsTrue found ↔ (beginning_with prefix.now self.old ≢ [])) }

@@ -16,3 +16,6 @@ returns-clause-range g c = rw (c.new.ensures, c.prefix_range.ensures.range, ← 
 
 pub returns-clause-prefix : goal.returns-clause-prefix
 returns-clause-prefix g c = λ prefix b. rw (c.new.ensures, ← c.self.view_is) (ap keys_of (c.prefix_range.ensures.prefix prefix b) ∙ keys-filter (λ key. starts_with nat_eq key prefix) c.self.inside.index.pairs)
+
+pub prefix_range-requires : goal.prefix_range-requires
+prefix_range-requires g c = search fits

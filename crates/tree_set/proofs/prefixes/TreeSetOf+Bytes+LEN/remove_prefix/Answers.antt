@@ -1,3 +1,4 @@
+use Rattle.tree_node.proofs.Common.{fits}
 use Rattle.tree_set.proofs.Beginning.{found, removed}
 use Rattle.tree_set.proofs.prefixes.TreeSetOf+Bytes+LEN.remove_prefix.Goals as goal
 
@@ -6,3 +7,6 @@ returns-clause-removed g c = rw (← c.self.view_is) (removed c.args.prefix.now 
 
 pub returns-clause-found : goal.returns-clause-found
 returns-clause-found g c = rw (← c.self.view_is) (found c.args.prefix.now c.self.inside.index.pairs c.self.inside.index.pairs c.remove_prefix.result c.remove_prefix.ensures.found)
+
+pub remove_prefix-requires : goal.remove_prefix-requires
+remove_prefix-requires g c = search fits
