@@ -1,8 +1,8 @@
 //! Walks over the entries of linked leaves, either way.
 //!
-//! The compiler keeps an iterator in registers where no function that it calls is lent one. So what
-//! a loop over the entries calls is inlined, and what it rarely calls takes and returns its parts
-//! by value.
+//! The compiler keeps an iterator in registers if no function that is called borrows it. So what a
+//! loop over the entries calls is inlined, and what it rarely calls takes and returns its parts by
+//! value.
 ghost use Rattle.std.specs.Prelude.{◌≡◌, ◌++◌, ◌∷◌, None, ⊤, filter, not, option_copied, option_map};
 ghost use Rattle.std.specs.declared.ops.Bound.TheVariants.{Included};
 ghost use Rattle.tree_leaf.specs.Chain.{IsChain};
