@@ -21,7 +21,7 @@ impl<const LEN: usize> Stores for TreeIndexOf<u64, u64, LEN> {
     }
 }
 
-/// Stores the numbers from the first to the last, each as its own value.
+// Stores the numbers from the first to the last, each as its own value.
 pub(crate) fn ascend(index: &mut impl Stores, first: u64, last: u64) -> Result<(), AllocError> {
     for number in first..=last {
         index.store(number, number)?;

@@ -1,9 +1,9 @@
 //! What an array holds: the keys in its slots, and the children of a node.
 
-/// The most slots of an array.
+// The most slots of an array.
 const MOST_SLOTS: usize = 15;
 
-/// The most children of a node.
+// The most children of a node.
 const MOST_CHILDREN: usize = 16;
 
 /// What is in a slot of a leaf.
