@@ -161,7 +161,7 @@ pub fn of_level(level: usize, above: usize, found: Level) -> [u64; 11] {
     ]
 }
 
-// Returns a place so many steps behind a start.
+// Returns a place so many steps after a start.
 fn steps(start: u64, count: usize, step: u64) -> u64 {
     start.saturating_add((count as u64).saturating_mul(step))
 }

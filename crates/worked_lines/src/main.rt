@@ -1,5 +1,5 @@
 //! Answers the lines of its input, those before a form feed over an index with seven pairs a leaf,
-//! and those behind it over one with fifteen. Its stored run is two scripts of worked lines, part
+//! and those after it over one with fifteen. Its stored run is two scripts of worked lines, part
 //! after part. The index is cleared if a new one is meant.
 //!
 //! With seven pairs a leaf:

@@ -103,7 +103,7 @@ impl<D: Direction> ArrayWalk<D> {
         Some(slot_at(self.order, self.ahead - 1))
     }
 
-    // Goes one slot on. Returns `None` and keeps its place behind the last slot.
+    // Goes one slot on. Returns `None` and keeps its place after the last slot.
     #[tactic(auto, using(crate::proofs::Stepped::stays))]
     #[inline]
     fn step_on(&mut self) -> Option<u8>
