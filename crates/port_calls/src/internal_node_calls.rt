@@ -13,7 +13,7 @@ use tree_node::branch::InternalNodeOf;
 use tree_node::node::ArenasOf;
 use tree_split::split_child;
 
-/// The calls on the number of an internal node alone.
+/// The calls on just the number of an internal node.
 pub trait InternalNodeCalls<K: Ord + Drop, const LEN: usize> {
     /// Makes room in a child node, by the first rule that fits:
     ///

@@ -33,7 +33,7 @@ pub fn slot_at(word: u64, place: u8) -> u8
     (word >> (4 * place) & 15) as u8
 }
 
-// Keeps the first places alone.
+// Keeps only the first places.
 fn first(word: u64, count: u8) -> u64
     requires { count ≤ 15 }
     ensures { result ≡ packed (names word count) }

@@ -22,8 +22,8 @@ use tree_array::array::{ArrayIter, ArrayRevIter, ArrayWalk};
 use tree_model::{Backward, Direction, Forward, Way};
 
 /// An iterator over the entries of linked leaves of a type, the way that its iterator over the
-/// slots of a leaf goes. It is in one leaf, unopened or on an entry of it. `next` goes through that
-/// leaf alone, and `jump` to the next leaf that has an entry. No call compares keys or allocates.
+/// slots of a leaf goes. It is in one leaf, unopened or on an entry of it. `next` goes only through
+/// that leaf, and `jump` to the next leaf that has an entry. No call compares keys or allocates.
 #[derive(Drop)]
 pub struct LinkedIter<'t, L: Walked, D: Direction> {
     stand: Stand<'t, L>,
