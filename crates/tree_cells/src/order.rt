@@ -142,7 +142,7 @@ impl<const LEN: usize> Order<LEN> {
         }
     }
 
-    /// Takes out the entry at a place. If it was the last entry, the word that is left is
+    /// Takes out the entry at a place. If it was the only entry, the word that is left is
     /// [`RETIRED`].
     pub fn remove(self, place: u8) -> Self
         requires { place < self.count }

@@ -110,7 +110,7 @@ impl<'t, K: Ord + Drop, V: Drop, D: Direction, const LEN: usize> LinkedIter<
 
     /// Goes to the next leaf on the way that has an entry, and returns the first entry there. If
     /// none has one, returns `None` and is unopened in the last leaf on the way, or stays where it
-    /// is if that is the last. Runs in the number of the leaves passed.
+    /// is if that is the last. Runs in O(n) for n leaves passed.
     #[inline(always)]
     pub fn jump(&mut self) -> Option<(&'t K, &'t V)>
         ensures { Jumps D.way self.old result self.new }

@@ -60,7 +60,7 @@ impl<D> Clone for ArrayWalk<D> {
 }
 
 impl<D: Direction> ArrayWalk<D> {
-    /// Creates a walk that is before the first slot on its way. Makes no comparisons.
+    /// Creates a walk before the first slot on its way. Makes no comparisons.
     pub fn new<K: Ord + Drop, V: Drop, const LEN: usize>(array: &ArrayOf<K, V, LEN>) -> Self
         ensures slots { result ≡ standing (slots_in_order K.cmp array.now) None }
         ensures over { IsOver K.cmp LEN array.now result }
