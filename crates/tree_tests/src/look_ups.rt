@@ -107,8 +107,8 @@ static SMALL_SIZES: Sizes = Sizes {
     most: 3,
 };
 
-// Whether the look-ups of each key agree, in an index of the even numbers up to the last, and
-// those beside each are found.
+// Whether the look-ups of each key agree, in an index of the even numbers up to the last, and those
+// next to each are found.
 fn looks_up_all<'c>(
     index: &impl AskedKeys<'c>,
     counter: &'c Cell<u64>,
@@ -159,7 +159,7 @@ fn compares_fewer_keys_steps(rt: &impl Abort, alloc: Global) -> Result<(), Alloc
 }
 
 // At most one array a level is searched, and the leaf, with at most four comparisons each among 15
-// slots. A look-up of the pairs beside a key makes at most two more.
+// slots. A look-up of the pairs next to a key makes at most two more.
 #[test]
 fn compares_few_keys(rt: HostRuntime) {
     assert!(rt; succeeds(rt.alloc(), || compares_few_keys_steps(&rt, rt.alloc())));
