@@ -13,7 +13,7 @@ use tree_node::branch::InternalNodeOf;
 use tree_node::node::ArenasOf;
 use tree_split::split_child;
 
-/// The calls on the number of an internal node alone.
+/// The calls on just the number of an internal node.
 pub trait InternalNodeCalls<K: Ord + Drop, const LEN: usize> {
     /// Makes room in a child node, by the first rule that fits:
     ///
@@ -24,11 +24,11 @@ pub trait InternalNodeCalls<K: Ord + Drop, const LEN: usize> {
     ///    before it. The separator comes from the child, so that no key is cloned.
     ///
     /// Returns `Err` if it cannot allocate, and then nothing changed; never if a place for one more
-    /// node was reserved. Makes no comparisons but those of the insert into the parent. Allocates
-    /// at most one node. No leaf changes.
+    /// node was reserved. Makes only the comparisons of the insert into the parent. Allocates at
+    /// most one node. No leaf changes.
     ///
-    /// The caller must give the number of an internal node which has a well-formed part of a tree
-    /// under it, and a child of it.
+    /// The caller must give the number of an internal node with a well-formed part of a tree under
+    /// it, and a child of it.
     final fn split_node<V: Drop>(
         arenas: &mut ArenasOf<K, V, LEN>,
         parent: NodeId,

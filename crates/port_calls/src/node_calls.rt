@@ -90,9 +90,9 @@ pub trait NodeCalls<K: Ord + Drop, const LEN: usize> {
         Some(val)
     }
 
-    /// Returns a walk in key order that is before the least entry under the node, so that its
-    /// `next` returns that entry. Returns `None` if no entry is there. Makes no comparisons, and
-    /// allocates nothing.
+    /// Returns a walk in key order before the least entry under the node, so that its `next`
+    /// returns that entry. Returns `None` if no entry is there. Makes no comparisons, and allocates
+    /// nothing.
     ///
     /// The leaves under the node must be in one chain.
     final fn min<'a, V: Drop>(
@@ -109,8 +109,8 @@ pub trait NodeCalls<K: Ord + Drop, const LEN: usize> {
         walk_from_end::<K, V, Forward, LEN>(arenas, level, id)
     }
 
-    /// Returns a walk against key order that is before the greatest entry under the node: the
-    /// mirror of [`min`](NodeCalls::min).
+    /// Returns a walk against key order before the greatest entry under the node: the mirror of
+    /// [`min`](NodeCalls::min).
     final fn max<'a, V: Drop>(
         arenas: &'a ArenasOf<K, V, LEN>,
         id: NodeId,
@@ -188,7 +188,7 @@ pub trait NodeCalls<K: Ord + Drop, const LEN: usize> {
     /// Returns `Duplicate` if `UPSERT` is false and an equal key is there, and `Full` if the node
     /// is retired or if a child has to be split and the node has no room for one more, so that its
     /// parent must make room in it. Neither changes anything. Returns `Err` if it cannot allocate;
-    /// the entries are then what they were. Each of them returns the pair.
+    /// the entries are then unchanged. Each of them returns the pair.
     ///
     /// Makes at most 4 comparisons per level and in the leaf (3 among 7 slots); if an array on the
     /// path is full, the descent restarts at its level. Allocates one leaf or node for each one

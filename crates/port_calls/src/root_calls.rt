@@ -17,7 +17,7 @@ use tree_node::depth::level_of;
 use tree_node::node::{ArenasOf, NodeOf};
 use tree_remove::lowering::lower_root_at;
 
-/// The calls on the number of a root alone. The ghost parameter `level` is the tree's depth. Each
+/// The calls on just the number of a root. The ghost parameter `level` is the tree's depth. Each
 /// call first reads one node per level, to find it.
 pub trait RootCalls<K: Ord + Drop, const LEN: usize> {
     /// Makes room under a root, and returns the number of the root then: puts it under a new root

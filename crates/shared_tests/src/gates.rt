@@ -23,7 +23,7 @@ fn is_raised<R: Clock>(rt: &R, flag: &AtomicBool, patience: u64) -> bool {
     false
 }
 
-// What a worker asked its gate and told it.
+// Which calls of its gate a worker made.
 #[derive(Drop)]
 struct Turns {
     is_here: AtomicBool,
@@ -40,21 +40,21 @@ impl Turns {
         }
     }
 
-    // Takes note that the worker asks. Returns whether its turns went by one, `before` first.
+    // Records a call of `before`. Returns whether its turns went by one, `before` first.
     fn asks(&self, call: u64) -> bool {
         let asked = self.asked.swap(call, Ordering::SeqCst);
         asked == self.told.load(Ordering::SeqCst) && asked.checked_add(1) == Some(call)
     }
 
-    // Takes note that the worker tells. Returns whether its turns went by one, `before` first.
+    // Records a call of `after`. Returns whether its turns went by one, `before` first.
     fn tells(&self, call: u64) -> bool {
         let told = self.told.swap(call, Ordering::SeqCst);
         call == self.asked.load(Ordering::SeqCst) && told.checked_add(1) == Some(call)
     }
 }
 
-// Holds the first calls of two workers until both are there, and sees that each asks and tells by
-// turns.
+// Holds the first calls of two workers until both are there, and checks that each calls `before`
+// and `after` by turns.
 #[derive(Drop)]
 struct Meeting<R> {
     rt: R,
@@ -91,7 +91,7 @@ impl<R: Clock> Meeting<R> {
         }
     }
 
-    // Whether both workers told so many calls, each by turns.
+    // Whether both workers reported so many calls, each by turns.
     fn saw(&self, calls: u64) -> bool {
         self.is_in_turn.load(Ordering::SeqCst)
             && self.first.told.load(Ordering::SeqCst) == calls
@@ -119,7 +119,8 @@ fn is_out_of_memory(alloc: Global) -> bool {
 }
 
 // Returns the history of a storm that no gate stops. Its index and its tally fit it, and one
-// refusal takes one call at most. Returns `Err` if memory or a thread is refused before the calls.
+// refusal takes one call at most. Returns `Err` if an allocation fails or a thread cannot be
+// started before the calls.
 fn history_of<R: Threads + Wait + Abort + Sync, G: Gate + Sync>(
     rt: &R,
     alloc: Global,
@@ -184,8 +185,8 @@ fn gate_stops_a_worker_alone(rt: HostRuntime) {
     assert!(rt; succeeds(rt.alloc(), steps));
 }
 
-// Lets the second worker begin once the first has told its second call, and holds the first there
-// until the second asks for its own second call.
+// Lets the second worker begin once the first has reported its second call, and holds the first
+// there until the second begins its own second call.
 #[derive(Drop)]
 struct Relay<R> {
     rt: R,
@@ -219,8 +220,8 @@ fn inserts(history: &[Record<u64, u64>], keys: &[u64]) -> bool {
     history.len() == keys.len()
 }
 
-// Sees that the inserts of a storm are these, in this order. Returns `Err` if one is refused, or a
-// thread.
+// Checks that the inserts of a storm are these, in this order. Returns `Err` if one is refused, or
+// a thread cannot be started.
 fn expect_inserts<R: Threads + Wait + Abort + Sync, G: Gate + Sync>(
     rt: &R,
     alloc: Global,

@@ -104,7 +104,7 @@ impl Race {
         made == self.calls(racer)
     }
 
-    // Whether this can be the tally and the length where no call was refused.
+    // Whether this can be the tally and the length if no call was refused.
     fn fits(self, tally: Tally, length: usize) -> bool {
         match self {
             Race::Inserts => {
@@ -142,7 +142,7 @@ fn ends_with(history: &[Record<u64, u64>], rows: &[Row]) -> bool {
 }
 
 // Whether the history that a race leaves replays to the index, and has what was called. `Err` if a
-// call was refused, or a request of this function.
+// call was refused, or an allocation of this function failed.
 pub(crate) fn is_left<const LEN: usize>(
     alloc: Global,
     closed: &ClosedOf<u64, u64, LEN>,

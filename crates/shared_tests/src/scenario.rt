@@ -1,4 +1,4 @@
-//! Scenarios over a shared index, and the one place where its five ledgers are named.
+//! Scenarios over a shared index, and the one place in which its five ledgers are named.
 ghost use Rattle.std.specs.Prelude.{◌≡◌, ◌<◌};
 ghost use Rattle.tree_state.specs.Ledgers.{IsBlankFor};
 

@@ -55,7 +55,7 @@ static TALLIES: [Tally; 2] = [
     },
 ];
 
-// The replies if the first command alone is refused: the second one stores its pair then.
+// The replies if only the first command is refused: the second one stores its pair then.
 static WITHOUT_FIRST: [Reply<u64>; 4] = [
     Reply::Stored,
     Reply::Found(Some(11)),
@@ -82,7 +82,7 @@ fn has_replies(history: &[Record<u64, u64>], replies: &[Reply<u64>]) -> bool {
 
 // Whether a history and tallies can be those of a schedule of which so many commands were refused.
 // One alone is the first one, or the last one, for which the history has to grow; the inserts are
-// refused where no leaf can be allocated but a record can; else all are.
+// refused if no leaf can be allocated but a record can; else all are.
 fn are_all_told(refused: usize, history: &[Record<u64, u64>], tallies: &[Tally; 2]) -> bool {
     let [first, second] = tallies;
     let is_counted = history.len() as u64 == first.calls.saturating_add(second.calls);

@@ -66,11 +66,11 @@ fn passes_of<B: Books>(
     Ok((passes, served))
 }
 
-// What is added to the number of threads where one waited in vain.
+// What is added to the number of threads if one waited in vain.
 const TOO_LATE: u64 = 1 << 32;
 
-// Waits a while for as many threads as there are racers. Returns whether they all came: where a
-// thread or its memory is refused, its racer comes once another has raced.
+// Waits a while for as many threads as there are racers. Returns whether they all came: if a thread
+// cannot be started or allocated, its racer comes once another has raced.
 fn all_meet<R: Clock>(rt: &R, here: &AtomicU64, racers: u64) -> bool {
     here.fetch_add(1, Ordering::SeqCst);
     for _ in 0..3_000 {
@@ -142,7 +142,7 @@ pub(crate) fn run_small_race<B: Books + Send + Sync, R: Threads + Wait + Clock +
     is_left(alloc, &closed, race, served)
 }
 
-// Plays a race, a second time where memory is refused.
+// Plays a race, a second time if an allocation fails.
 fn holds<R: Threads + Wait + Clock + Abort + Sync>(
     rt: &R,
     alloc: Global,

@@ -1,12 +1,12 @@
-//! Tests of which requests for memory are refused.
+//! Tests in which allocations fail.
 use std::alloc::{AllocError, Global};
 
-/// Returns whether the steps of a test succeed, at once or, where memory was refused on the way,
-/// the second time.
+/// Returns whether the steps of a test succeed, at once or, if an allocation failed on the way, the
+/// second time.
 ///
-/// In an ordinary run nothing is refused, so a call that refuses without need fails the test. With
-/// one refusal the steps succeed the second time. Where each request is refused from some point on,
-/// they can't; then a request of this function is refused too, and the test ends well: what the
+/// In an ordinary run no allocation fails, so a call that fails without need fails the test. With
+/// one failed allocation the steps succeed the second time. If every allocation fails from some
+/// point on, they can't; then one of this function fails too, and the test ends well: what the
 /// steps assert is what it shows.
 pub fn succeeds<F: Fn() -> Result<(), AllocError> + Drop>(alloc: Global, steps: F) -> bool
     requires { F.IsAlwaysCallable steps }
@@ -14,7 +14,7 @@ pub fn succeeds<F: Fn() -> Result<(), AllocError> + Drop>(alloc: Global, steps: 
     steps().is_ok() || steps().is_ok() || is_out_of_memory(alloc)
 }
 
-/// Returns whether a small request is refused.
+/// Returns whether a small allocation fails.
 pub fn is_out_of_memory(alloc: Global) -> bool {
     Vec::<u8>::with_capacity(alloc, 1).is_err()
 }
@@ -31,9 +31,9 @@ pub fn is_granted_again(alloc: Global, call: &str, is_granted: bool) -> Result<b
     Ok(is_granted)
 }
 
-// How `bench/refusals` learns which call makes a request: `bench/refuse.c`, which stands before the
-// allocator, knows a block of one of these sizes, reads the name in it when it is freed, and never
-// counts or refuses its request. Nothing else asks for so many bytes.
+// How `bench/refusals` learns which call makes a request: `bench/refuse.c`, which is in front of
+// the allocator, knows a block of one of these sizes, reads the name in it when it is freed, and
+// never counts or refuses its request. Nothing else asks for so many bytes.
 const BEGINS: usize = 40961;
 
 const ENDS: usize = 40963;

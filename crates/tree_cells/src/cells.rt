@@ -107,7 +107,7 @@ impl<K, V, const LEN: usize> Cells<K, V, LEN> {
         }
     }
 
-    /// Puts a pair into the first cell behind the arrivals, and sets the count of the entries. The
+    /// Puts a pair into the first cell after the arrivals, and sets the count of the entries. The
     /// caller must have such a cell, which holds none.
     pub fn push(&mut self, key: K, val: V, entries: u8)
         requires within { self.old.counts.arrivals < LEN }

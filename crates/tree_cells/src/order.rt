@@ -1,5 +1,5 @@
 //! The order of an array: four bits of a word for each place, which name the slot of the entry
-//! there. The places behind the entries repeat the last name, and the place behind all slots holds
+//! there. The places after the entries repeat the last name, and the place after all slots holds
 //! [`BEYOND`].
 ghost use Rattle.std.specs.Prelude.{◌≡◌, ℕ, List, true, false, IsTrue, Some, ◌+◌, ◌-◌, ◌<◌, ◌≤◌, [], ◌∷◌, ◌++◌, length, replicate, slice_get, slice_index_or};
 ghost use Rattle.std.specs.List.{range_with_len};
@@ -8,7 +8,7 @@ ghost use Rattle.tree_cells.specs.Order.{AreSmall, inserted, is_retired, named, 
 /// The greatest number of slots of an array.
 pub const MOST: usize = 15;
 
-/// The name that is behind all slots.
+/// The name at the place after all slots.
 pub const BEYOND: u8 = 15;
 
 /// The order of an array that has lost its last entry. No other order is this one, as [`BEYOND`]
@@ -33,7 +33,7 @@ pub fn slot_at(word: u64, place: u8) -> u8
     (word >> (4 * place) & 15) as u8
 }
 
-// Keeps the first places alone.
+// Keeps only the first places.
 fn first(word: u64, count: u8) -> u64
     requires { count ≤ 15 }
     ensures { result ≡ packed (names word count) }
@@ -42,7 +42,7 @@ fn first(word: u64, count: u8) -> u64
     word - (word >> bits << bits)
 }
 
-// Puts the name of a slot at each place from `count` on, and [`BEYOND`] behind all places.
+// Puts the name of a slot at each place from `count` on, and [`BEYOND`] after all places.
 fn extended<const LEN: usize>(places: u64, count: u8, slot: u8) -> u64
     requires len { LEN ≤ 15 }
     requires few { count ≤ LEN }
@@ -142,7 +142,7 @@ impl<const LEN: usize> Order<LEN> {
         }
     }
 
-    /// Takes out the entry at a place. If it was the last entry, the word that is left is
+    /// Takes out the entry at a place. If it was the only entry, the word that is left is
     /// [`RETIRED`].
     pub fn remove(self, place: u8) -> Self
         requires { place < self.count }

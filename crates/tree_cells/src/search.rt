@@ -21,13 +21,13 @@ const WIDE: usize = 16;
 pub enum Place {
     /// The key equals that of the entry at this place, which is stored in this slot.
     At { place: u8, slot: u8 },
-    /// The key belongs before the entry at this place, which is stored in this slot; or behind all
+    /// The key belongs before the entry at this place, which is stored in this slot; or after all
     /// entries, and then the slot is [`BEYOND`].
     Before { place: u8, slot: u8 },
 }
 
 impl Place {
-    /// Returns the slot of the entry, or [`BEYOND`] behind all entries.
+    /// Returns the slot of the entry, or [`BEYOND`] after all entries.
     pub fn slot(self) -> u8
         ensures { result ≡ slot_of self }
     {

@@ -6,7 +6,7 @@ ghost use Rattle.tree_node.specs.Tree.{keyed};
 use tree_array::array::ArrayOf;
 use tree_node::node::NodeOf;
 
-/// Returns the slot of the keyed child at a place, or `None` behind the last.
+/// Returns the slot of the keyed child at a place, or `None` after the last.
 pub fn slot_at<K: Ord + Drop, const LEN: usize>(node: &NodeOf<K, LEN>, place: u8) -> Option<u8>
     ensures { MatchOption result (slice_get (keyed node.now).entries place ≡ None)
         (λ slot. (pair : _) × (arrival (keyed node.now).arrivals slot ≡ Some pair)

@@ -18,7 +18,7 @@ use tree_node::node::{ArenasOf, Root};
 /// Where a key is among pairs, with fifteen pairs a leaf.
 pub type Proximity<'t, K, V> = ProximityOf<IterOf<'t, K, V, 15>>;
 
-/// Returns where a key is: present, or between which pairs, with a cursor at that place. Descends
+/// Returns where a key is: present, or next to which pairs, with a cursor at that place. Descends
 /// once, or twice if all keys are smaller. The caller must lend the arenas of a well-formed tree
 /// with its root.
 pub fn locate<'t, K: Ord + Drop + 't, V: Drop + 't, const LEN: usize>(

@@ -16,8 +16,8 @@ pub(crate) enum Part {
 }
 
 // Returns the child of a node at a place in the order of the keys, counted from 0: a keyed child,
-// or the unbounded one behind them all. The node must have an unbounded child, and the place must
-// be one of its children's.
+// or the unbounded one after them all. The node must have an unbounded child, and the place must be
+// one of its children's.
 pub(crate) fn child_at<K: Ord + Drop, const LEN: usize>(node: &NodeOf<K, LEN>, place: u8) -> Part
     requires last { IsSome (unbounded node.now) }
     requires place { place ≤ length (keyed node.now).entries }

@@ -66,9 +66,9 @@ impl<K: IndexKey, V: Drop, const LEN: usize> TreeIndexOf<K, V, LEN> {
     /// `OutOfMemory` if an allocation fails. Nothing of the index is left then, and the pairs are
     /// dropped.
     ///
-    /// Compares each key with the one before it. Gathers the pairs into whole leaves and makes a
-    /// few comparisons for each leaf, and those of a descent for each full leaf node. Reserves
-    /// memory for as many leaves. The caller must choose 7 or 15 for `LEN`.
+    /// Compares each key with the one before it. Gathers the pairs into whole leaves. Makes a few
+    /// comparisons per leaf, and those of a descent per full leaf node. Reserves memory for as many
+    /// leaves. The caller must choose 7 or 15 for `LEN`.
     ///
     /// ```
     /// TreeIndex::from_sorted(alloc, samples)

@@ -21,8 +21,7 @@ impl<K: IndexKey, V: Drop + Clone, const LEN: usize> TreeIndexOf<K, V, LEN> {
     ///
     /// Returns `Err` if an allocation fails, including one made by a clone; nothing of the copy is
     /// left then. Reserves memory for as many leaves as the pairs fill. Gathers the clones into
-    /// whole leaves and makes a few comparisons for each leaf, and those of a descent for each full
-    /// leaf node.
+    /// whole leaves. Makes a few comparisons per leaf, and those of a descent per full leaf node.
     ///
     /// ```
     /// pub fn snapshot(

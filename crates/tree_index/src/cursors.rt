@@ -84,7 +84,7 @@ impl<K: IndexKey, V: Drop, const LEN: usize> TreeIndexOf<K, V, LEN> {
         RangeOver::new(&self.tree.arenas, self.tree.root, bounds)
     }
 
-    /// Returns where a key is: present, or between which pairs, with a cursor at that place.
+    /// Returns where a key is: present, or next to which pairs, with a cursor at that place.
     /// Descends once, or twice if every key is smaller. Makes at most `4 * (depth + 1) + 2`
     /// comparisons with 15 pairs a leaf, and `3 * (depth + 1) + 2` with 7, and allocates nothing.
     ///

@@ -31,7 +31,7 @@ pub type SmallTreeIndex<K, V> = TreeIndexOf<K, V, 7>;
 ///
 /// Contracts see the list of its pairs, strictly ascending by key; its depth, which is the number
 /// of levels of nodes; its spare, which is how many writes are sure not to allocate; and whether it
-/// is packed, which is as full as can be along the right edge of its tree. Pairs that arrive in
+/// is packed, which is as full as possible along the right edge of its tree. Pairs that arrive in
 /// ascending order leave it so.
 ///
 /// Costs are in terms of the depth. An array is searched with at most 4 comparisons among 15 slots,
@@ -192,10 +192,10 @@ impl<K: IndexKey, V: Drop, const LEN: usize> TreeIndexOf<K, V, LEN> {
     /// Removes every pair whose key is within both bounds. Bounds that contain no key, reversed
     /// ones among them, remove nothing.
     ///
-    /// Drops the parts of the tree between the bounds whole, each leaf and node of them once. Makes
-    /// comparisons only at the two ends of the range: at most two searches per level and bound, and
-    /// two comparisons per slot of two leaves, however many pairs it removes. Allocates nothing.
-    /// What [`spare`](TreeIndexOf::spare) returns afterwards is not promised.
+    /// Drops whole parts of the tree between the bounds, each leaf and node once. Makes comparisons
+    /// only at the two ends of the range: at most two searches per level and bound, and two
+    /// comparisons per slot of two leaves, however many pairs it removes. Allocates nothing. What
+    /// [`spare`](TreeIndexOf::spare) returns afterwards is not promised.
     ///
     /// ```
     /// samples.remove_range_sync((Bound::Unbounded, Bound::Excluded(&time)));

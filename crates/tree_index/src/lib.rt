@@ -1,7 +1,7 @@
 //! An ordered index that answers as one strictly ascending list of pairs.
 //!
-//! A type of the caller's own is a key once it has an `impl IndexKey`, whose one law states that a
-//! clone compares equal to its source:
+//! A type of your own is a key once it has an `impl IndexKey`, whose one law states that a clone
+//! compares equal to its source:
 //!
 //! ```
 //! impl IndexKey for Price {

@@ -1,4 +1,4 @@
-//! Look-ups by a key alone.
+//! Look-ups by just a key.
 ghost use Rattle.std.specs.Prelude.{◌≡◌, ◌<◌, List};
 ghost use Rattle.tree_model.specs.Pairs.{Finds, IsAscending};
 

@@ -17,8 +17,9 @@ impl<K: IndexKey, V: Drop, const LEN: usize> TreeIndexOf<K, V, LEN> {
     /// Removes the pair with a key and returns it, or `None` if the key is absent.
     ///
     /// Descends once and searches one array per level and the leaf. Descends once more if the pair
-    /// is the last of its leaf. Always descends: unlike [`remove_sync`](TreeIndexOf::remove_sync),
-    /// doesn't look first in the leaf of the last removals. Allocates nothing.
+    /// is the only one in its leaf. Always descends: unlike
+    /// [`remove_sync`](TreeIndexOf::remove_sync), doesn't look first in the leaf of the last
+    /// removals. Allocates nothing.
     ///
     /// ```
     /// let (_, quantity) = offers.take_sync(&price)?;
@@ -36,7 +37,7 @@ impl<K: IndexKey, V: Drop, const LEN: usize> TreeIndexOf<K, V, LEN> {
     /// Removes the pair with the smallest key and returns it, or `None` if there is no pair.
     ///
     /// Descends twice: to the pair without a comparison, and by its key. Descends once more if the
-    /// pair is the last of its leaf. Allocates nothing.
+    /// pair is the only one in its leaf. Allocates nothing.
     ///
     /// ```
     /// asks.pop_first()

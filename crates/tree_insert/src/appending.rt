@@ -93,9 +93,9 @@ pub fn append_to<K: IndexKey, V: Drop, const LEN: usize>(
     Ok(())
 }
 
-/// Puts the pairs of a run behind all others of a part of a tree, and returns whether it did: all
-/// pairs of the last leaf move to a new leaf before it, and it takes those of the run, which has
-/// none afterwards. The leaf is found along the unbounded children.
+/// Appends the pairs of a run to a part of a tree, and returns whether it did: all pairs of the
+/// last leaf move to a new leaf before it, and it takes those of the run, which has none
+/// afterwards. The leaf is found along the unbounded children.
 ///
 /// Returns `false`, and changes nothing, if the last leaf isn't full or its pairs didn't arrive in
 /// ascending order, if its node has no slot for another keyed child, or if the run has no pair.

@@ -29,7 +29,7 @@ pub struct Crowded<K, V> {
 /// - Returns `Full` if a child has to be split and the node has no slot for the separator, so that
 ///   its parent must split the node first, or if the node is retired.
 /// - Returns `Err` if a leaf or a node on the path of the key has to be split and an allocation
-///   fails. Arrays may have been split by then, but the entries are what they were.
+///   fails. Arrays may have been split by then, but the entries are unchanged.
 ///
 /// Each of the three returns the pair; the first two leave everything unchanged.
 ///

@@ -51,7 +51,7 @@ pub fn plant<K: Ord + Drop, V: Drop, const LEN: usize>(
     }
 }
 
-// Returns a leaf that holds this pair alone.
+// Returns a leaf that holds only this pair.
 fn leaf_with<K: Ord + Drop, V: Drop, const LEN: usize>(key: K, val: V) -> LeafOf<K, V, LEN>
     requires { IsLen LEN }
     ensures array { result.array ≡ in_order ((key, val) ∷ []) }

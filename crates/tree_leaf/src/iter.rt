@@ -1,8 +1,8 @@
 //! Walks over the entries of linked leaves, either way.
 //!
-//! The compiler keeps an iterator in registers where no function that it calls is lent one. So what
-//! a loop over the entries calls is inlined, and what it rarely calls takes and returns its parts
-//! by value.
+//! The compiler keeps an iterator in registers if no function that is called borrows it. So what a
+//! loop over the entries calls is inlined, and what it rarely calls takes and returns its parts by
+//! value.
 ghost use Rattle.std.specs.Prelude.{◌≡◌, ◌++◌, ◌∷◌, None, ⊤, filter, not, option_copied, option_map};
 ghost use Rattle.std.specs.declared.ops.Bound.TheVariants.{Included};
 ghost use Rattle.tree_leaf.specs.Chain.{IsChain};
@@ -22,8 +22,8 @@ use tree_array::array::{ArrayIter, ArrayRevIter, ArrayWalk};
 use tree_model::{Backward, Direction, Forward, Way};
 
 /// An iterator over the entries of linked leaves of a type, the way that its iterator over the
-/// slots of a leaf goes. It is in one leaf, unopened or on an entry of it. `next` goes through that
-/// leaf alone, and `jump` to the next leaf that has an entry. No call compares keys or allocates.
+/// slots of a leaf goes. It is in one leaf, unopened or on an entry of it. `next` goes only through
+/// that leaf, and `jump` to the next leaf that has an entry. No call compares keys or allocates.
 #[derive(Drop)]
 pub struct LinkedIter<'t, L: Walked, D: Direction> {
     stand: Stand<'t, L>,
@@ -110,7 +110,7 @@ impl<'t, K: Ord + Drop, V: Drop, D: Direction, const LEN: usize> LinkedIter<
 
     /// Goes to the next leaf on the way that has an entry, and returns the first entry there. If
     /// none has one, returns `None` and is unopened in the last leaf on the way, or stays where it
-    /// is if that is the last. Runs in the number of the leaves passed.
+    /// is if that is the last. Runs in O(n) for n leaves passed.
     #[inline(always)]
     pub fn jump(&mut self) -> Option<(&'t K, &'t V)>
         ensures { Jumps D.way self.old result self.new }

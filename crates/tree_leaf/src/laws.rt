@@ -41,7 +41,7 @@ pub fn entries_left<'t, K: Ord + Drop, V: Drop, D: Direction, const LEN: usize>(
     Ok(entries)
 }
 
-/// Returns all entries of a leaf and of those behind it, in ascending order. Returns `Err` if it
+/// Returns all entries of a leaf and of those after it, in ascending order. Returns `Err` if it
 /// cannot allocate the list. The caller must name a leaf of a chain.
 pub fn entries_on<'t, K: Ord + Drop, V: Drop, N: Drop, const LEN: usize>(
     alloc: Global,

@@ -90,8 +90,8 @@ impl<'t, K: Ord + Drop, V: Drop, const LEN: usize> Stand<'t, LeafOf<K, V, LEN>> 
     }
 
     /// Returns what is seen of the leaf where a jump lands: the next leaf on the way that has an
-    /// entry, or else the last leaf on the way. Returns `None` if no leaf follows. Runs in the
-    /// number of leaves passed.
+    /// entry, or else the last leaf on the way. Returns `None` if no leaf follows. Runs in O(n) for
+    /// n leaves passed.
     #[inline(always)]
     pub fn landing(&self, way: Way) -> Option<Beside>
         requires leaf { get self.now.leaves.now self.now.id ≡ Some self.now.leaf.now }

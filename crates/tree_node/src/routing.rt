@@ -59,7 +59,7 @@ impl<K: Ord + Drop, I: Copy + Drop, const LEN: usize> BranchOf<K, I, LEN> {
     }
 }
 
-/// Returns the child that a key belongs to, where `unbounded` is the unbounded one. Makes as many
+/// Returns the child that a key belongs to; `unbounded` is the unbounded one. Makes as many
 /// comparisons as [`child_for`](BranchOf::child_for), which no judge counts.
 #[inline(always)]
 pub fn child_by_key<K: Ord + Drop, I: Copy + Drop, const LEN: usize>(

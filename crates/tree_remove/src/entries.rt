@@ -49,9 +49,9 @@ pub fn entry_for<K: Ord + Drop, V: Drop, const LEN: usize>(
 /// returns it.
 ///
 /// Returns `Retired` with it if no child is left under the number, and `Success` otherwise. If the
-/// pair is the last of its leaf, descends once by its key, and drops the leaf and each node that is
-/// left without a child. Makes no comparisons otherwise, and allocates nothing. The caller must
-/// name a place at which [`entry_for`] finds a pair.
+/// pair is the only one in its leaf, descends once by its key, and drops the leaf and each node
+/// that is left without a child. Makes no comparisons otherwise, and allocates nothing. The caller
+/// must name a place at which [`entry_for`] finds a pair.
 pub fn take_entry<K: Ord + Drop, V: Drop, const LEN: usize>(
     arenas: &mut ArenasOf<K, V, LEN>,
     level: usize,

@@ -20,8 +20,8 @@ use tree_node::node::ArenasOf;
 ///
 /// Returns `Fail` if the key is absent or the condition returns `false`; nothing has changed then.
 /// Returns `Retired` if no child is left under the number, and `Success` otherwise. Makes at most 4
-/// comparisons a level and in the leaf (3 among 7 slots), and twice as many if the pair is the last
-/// of its leaf. Allocates nothing.
+/// comparisons a level and in the leaf (3 among 7 slots), and twice as many if the pair is the only
+/// one in its leaf. Allocates nothing.
 ///
 /// The caller must name a well-formed part of a tree, or a retired node, and pass a condition that
 /// may be called on the value at the key.
@@ -86,8 +86,9 @@ pub fn remove_beside<K: Ord + Drop, V: Drop, F: FnOnce(&V) -> bool + Drop, const
     }
 }
 
-/// Removes a pair, as [`remove_at`] does, from the leaf that its key belongs to. If it is the last
-/// of its leaf, descends once more, and drops the leaf and each node that is left without a child.
+/// Removes a pair, as [`remove_at`] does, from the leaf that its key belongs to. If it is the only
+/// pair in its leaf, descends once more, and drops the leaf and each node that is left without a
+/// child.
 pub fn remove_alone<K: Ord + Drop, V: Drop, F: FnOnce(&V) -> bool + Drop, const LEN: usize>(
     arenas: &mut ArenasOf<K, V, LEN>,
     level: usize,

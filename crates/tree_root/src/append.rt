@@ -33,8 +33,8 @@ impl<K: IndexKey, V: Drop, const LEN: usize> Tree<K, V, LEN> {
     }
 
     /// Returns a tree of these pairs. The caller must pass pairs whose keys ascend. Returns `Err`
-    /// if it cannot allocate; nothing of the tree is left then. Makes no comparisons but a few for
-    /// each leaf, and those of a descent for each leaf node.
+    /// if it cannot allocate; nothing of the tree is left then. Makes a few comparisons per leaf,
+    /// and those of a descent per leaf node.
     pub fn from_sorted(alloc: Global, pairs: Vec<(K, V)>) -> Result<Self, AllocError>
         requires len { IsLen LEN }
         requires ascending { IsAscending K.cmp pairs.items }

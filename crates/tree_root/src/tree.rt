@@ -185,7 +185,7 @@ impl<K: IndexKey, V: Drop, const LEN: usize> Tree<K, V, LEN> {
 
     /// Removes the pair at a key if the condition returns `true` for its value, and returns whether
     /// it did. Makes at most 4 comparisons a level and in the leaf (3 among 7 slots), and twice as
-    /// many if the pair is the last of its leaf. Allocates nothing.
+    /// many if the pair is the only one in its leaf. Allocates nothing.
     ///
     /// If the last two removals went to one leaf, the key is first compared with the first and the
     /// last one there. Between them it needs no descent.
@@ -250,7 +250,7 @@ impl<K: IndexKey, V: Drop, const LEN: usize> Tree<K, V, LEN> {
     }
 
     /// Takes out the pair that is stored at a place, and returns it. Makes no comparisons, but for
-    /// a descent by its key if it is the last pair of its leaf. Allocates nothing.
+    /// a descent by its key if it is the only pair in its leaf. Allocates nothing.
     pub fn take_entry(&mut self, place: EntryPlace) -> (K, V)
         requires whole { IsWhole K.cmp self.old }
         requires stored { (pair : K × V) × IsStored K.cmp self.old place pair }

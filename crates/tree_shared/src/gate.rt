@@ -12,7 +12,7 @@ pub trait Gate {
     fn before(&self, worker: usize, call: u64) -> bool
         ensures { answers self.now worker call result };
 
-    /// Called after each call of the index, once it is answered. Costs each call of the index one
+    /// Called after each call of the index, once it has returned. Costs each call of the index one
     /// call, outside the lock.
     fn after(&self, worker: usize, call: u64)
         requires { answers self.now worker call true };

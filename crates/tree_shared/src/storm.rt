@@ -70,7 +70,7 @@ impl<T: Drop> From<SpawnError<T>> for StormError {
 /// thread of its own, and closes the index once all have ended.
 ///
 /// A worker calls `before` of the gate before each call, and stops if that returns `false`; it
-/// calls `after` when the call is answered. If a call cannot allocate, the worker goes on with the
+/// calls `after` when the call has returned. If a call cannot allocate, the worker goes on with the
 /// next one.
 ///
 /// Returns `Refused` if another allocation fails or a thread cannot be started, and else

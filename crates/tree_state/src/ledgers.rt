@@ -148,7 +148,7 @@ impl<B: Books> Ledgers<B> {
 pub struct Workers<B: Books> {
     /// The number of workers.
     pub number: usize,
-    /// The ledgers, which the type alone names.
+    /// The ledgers, which only the type names.
     pub of: PhantomData<B>,
     ghost calls: { number + 1 ≡ B.calls.parts },
     ghost stored: { number + 1 ≡ B.stored.parts },

@@ -79,7 +79,7 @@ fn stands(state: &State<u64, u64>, calls: usize, pairs: &[(u64, u64)]) -> bool {
 }
 
 // Inserts the pair of 1 and 1 into an empty state. Returns whether an allocation failed: the pair
-// came back then, and the state stood.
+// was returned then, and the state was unchanged.
 fn is_refused_a_pair(rt: &impl Abort, state: &mut State<u64, u64>) -> bool {
     let calls = state.history().len();
     let Err(back) = state.insert(1, 1) else {

@@ -13,7 +13,7 @@ trait Conditional: Stores {
     fn add(&mut self, key: u64, amount: u64) -> bool;
 
     // Removes the pair of the key 1 by `remove_if_sync` if it has this value. Returns whether it
-    // did, and how often the condition was asked.
+    // did, and how often the condition was called.
     fn remove_value(&mut self, wanted: u64) -> (bool, u64);
 }
 
@@ -32,11 +32,11 @@ impl<const LEN: usize> Conditional for TreeIndexOf<u64, u64, LEN> {
     }
 }
 
-// Values that the condition wants of the key 1, in turn, whether the pair is removed, and how
-// often the condition is asked.
+// Values that the condition wants of the key 1, in turn, whether the pair is removed, and how often
+// the condition is called.
 static CONDITIONS: [(u64, bool, u64); 3] = [(0, false, 1), (10, true, 1), (10, false, 0)];
 
-// Whether the condition is asked once of a key that is present, and never of an absent one.
+// Whether the condition is called once for a key that is present, and never for an absent one.
 fn asks_once(index: &mut impl Conditional) -> Result<bool, AllocError> {
     index.store(1, 5)?;
     if [index.add(1, 5), index.add(2, 5)] != [true, false] {

@@ -34,7 +34,7 @@ pub struct Asked<'c> {
 }
 
 impl<'c> Asked<'c> {
-    /// The key of a number, which counts its comparisons there.
+    // The key of a number, which counts its comparisons there.
     pub(crate) fn new(number: u64, comparisons: &'c Cell<u64>) -> Self {
         Asked {
             number,

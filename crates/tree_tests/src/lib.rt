@@ -1,6 +1,6 @@
 //! Tests of the index, its histories, its runs and its lines, of sets and of keys that are texts,
-//! through their public items: where no contract says what they show, and one caller of each call
-//! that otherwise only tests outside the gate make.
+//! through their public items: what no contract states, and one caller of each call that otherwise
+//! only tests outside the gate make.
 #![tactic(auto)]
 
 #[cfg(test)]

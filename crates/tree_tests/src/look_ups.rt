@@ -73,7 +73,7 @@ fn looks_up_alike<'c>(
     true
 }
 
-// Whether the pairs beside a number, of the even numbers up to the last, are found where there are
+// Whether the pairs next to a number, of the even numbers up to the last, are found where there are
 // such, and each look-up compares it at most so often.
 fn finds_those_beside<'c>(
     index: &impl AskedKeys<'c>,
@@ -107,8 +107,8 @@ static SMALL_SIZES: Sizes = Sizes {
     most: 3,
 };
 
-// Whether the look-ups of each key agree, in an index of the even numbers up to the last, and
-// those beside each are found.
+// Whether the look-ups of each key agree, in an index of the even numbers up to the last, and those
+// next to each are found.
 fn looks_up_all<'c>(
     index: &impl AskedKeys<'c>,
     counter: &'c Cell<u64>,
@@ -159,7 +159,7 @@ fn compares_fewer_keys_steps(rt: &impl Abort, alloc: Global) -> Result<(), Alloc
 }
 
 // At most one array a level is searched, and the leaf, with at most four comparisons each among 15
-// slots. A look-up of the pairs beside a key makes at most two more.
+// slots. A look-up of the pairs next to a key makes at most two more.
 #[test]
 fn compares_few_keys(rt: HostRuntime) {
     assert!(rt; succeeds(rt.alloc(), || compares_few_keys_steps(&rt, rt.alloc())));
@@ -192,7 +192,7 @@ impl<J: Judge<u64>> Judge<u64> for Recording<J> {
     }
 }
 
-// Whether a judge of the key finds a pair, and the stored key that the judge was asked and found
+// Whether a judge of the key finds a pair, and the stored key that the judge compared and found
 // equal.
 fn found_and_asked<I: LookedUp<u64>>(index: &I, key: u64) -> (bool, Option<u64>) {
     found_and_asked_by::<I, Brand>(index, key, Blank::new(1))
@@ -213,8 +213,8 @@ fn found_and_asked_by<I: LookedUp<u64>, L: Ledger>(
     (found, recording.equal)
 }
 
-// Whether the look-ups up to 483 find the even numbers from 2 to 482 alone, and each that finds
-// one has asked of that very key, and each other one of no equal key.
+// Whether the look-ups up to 483 find the even numbers from 2 to 482 alone, and each that finds one
+// has compared that very key, and each other one no equal key.
 fn asks_found_keys(index: &impl LookedUp<u64>) -> bool {
     for key in 0..=483u64 {
         let there = (2..=482).contains(&key) && key % 2 == 0;
@@ -248,8 +248,8 @@ fn small_asks_found_keys_steps(rt: &impl Abort, alloc: Global) -> Result<(), All
     expect_asked(rt, &mut index)
 }
 
-// A look-up that finds a pair has asked its judge of that very key, and one that finds none has
-// asked of no equal key.
+// A look-up that finds a pair has compared its judge with that very key, and one that finds none
+// with no equal key.
 #[test]
 fn asks_the_key_it_finds(rt: HostRuntime) {
     assert!(rt;

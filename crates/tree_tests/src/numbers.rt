@@ -8,7 +8,7 @@ use tree_index::TreeIndexOf;
 /// no clauses. A type that is passed as one of a trait costs a proof of each function of the trait,
 /// so each test has a trait of what it calls alone.
 pub trait Stores {
-    /// Calls `insert_sync`. Returns `Err` if the pair is refused, for whatever reason.
+    /// Calls `insert_sync`. Returns `Err` if the pair isn't stored, for whatever reason.
     fn store(&mut self, key: u64, value: u64) -> Result<(), AllocError>;
 }
 
@@ -21,7 +21,7 @@ impl<const LEN: usize> Stores for TreeIndexOf<u64, u64, LEN> {
     }
 }
 
-/// Stores the numbers from the first to the last, each as its own value.
+// Stores the numbers from the first to the last, each as its own value.
 pub(crate) fn ascend(index: &mut impl Stores, first: u64, last: u64) -> Result<(), AllocError> {
     for number in first..=last {
         index.store(number, number)?;

@@ -61,7 +61,7 @@ fn run_inserts(
     Ok(())
 }
 
-// Runs so many inserts as a row says after those of the row before it.
+// Runs as many inserts as a row has, after those of the row before it.
 fn run_rows(rt: &impl Abort, alloc: Global, index: &mut impl Runs) -> Result<(), AllocError> {
     let mut stored: u64 = 0;
     for row in &DEPTHS {

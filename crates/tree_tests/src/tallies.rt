@@ -1,4 +1,4 @@
-//! Keys and values that are counted: each is dropped once, and a clone of a key may be refused.
+//! Keys and values that are counted: each is dropped once, and a clone of a key may fail.
 ghost use Rattle.std.specs.Prelude.{◌≡◌};
 ghost use Rattle.tree_model.specs.Keys.{equal_numbers};
 
@@ -11,7 +11,7 @@ use test_support::refusals::succeeds;
 use tree_index::{InsertError, TreeIndexOf};
 use tree_model::IndexKey;
 
-// How many were made and dropped, and whether clones are refused.
+// How many were made and dropped, and whether clones fail.
 #[derive(Drop)]
 struct Tally {
     made: Cell<u64>,
@@ -77,7 +77,7 @@ impl IndexKey for Counted<'_> {
 
 type Index<'c, const LEN: usize> = TreeIndexOf<Counted<'c>, Counted<'c>, LEN>;
 
-// A pair that comes back, if memory was refused.
+// The pair that is returned, if an allocation failed.
 type Refused<'c> = Option<(Counted<'c>, Counted<'c>)>;
 
 // What an insert returns.
@@ -173,7 +173,7 @@ fn pair_of(inserted: Inserted<'_>) -> Refused<'_> {
     }
 }
 
-// `Err` if memory was refused.
+// `Err` if an allocation failed.
 fn outcome(refused: Refused<'_>) -> Result<(), AllocError> {
     match refused {
         Some(_) => Err(AllocError),
@@ -181,7 +181,7 @@ fn outcome(refused: Refused<'_>) -> Result<(), AllocError> {
     }
 }
 
-// Makes one random call. Returns `Err` if memory was refused.
+// Makes one random call. Returns `Err` if an allocation failed.
 fn call<'c>(
     index: &mut impl CountedPairs<'c>,
     chance: &mut Chance,
@@ -228,8 +228,8 @@ fn lacks_it_alone<'c>(index: &impl CountedPairs<'c>, tally: &'c Tally, number: u
     true
 }
 
-// Stores an absent key, by an insert if it is even and else by an upsert. Returns the pair if
-// memory was refused.
+// Stores an absent key, by an insert if it is even and else by an upsert. Returns the pair if an
+// allocation failed.
 fn store<'c>(index: &mut impl CountedPairs<'c>, tally: &'c Tally, number: u64) -> Refused<'c> {
     let (key, value) = (Counted::new(number, tally), Counted::new(number, tally));
     if number % 2 == 1 {
@@ -239,8 +239,8 @@ fn store<'c>(index: &mut impl CountedPairs<'c>, tally: &'c Tally, number: u64) -
     }
 }
 
-// Stores a key while clones are refused, and again with clones if that refused it. Returns whether
-// it did.
+// Stores a key while clones fail, and again with clones if it wasn't stored. Returns whether that
+// was so.
 fn store_twice<'c>(
     rt: &impl Abort,
     index: &mut impl CountedPairs<'c>,
@@ -261,7 +261,7 @@ fn store_twice<'c>(
     Ok(true)
 }
 
-// Stores descending keys while clones are refused. Returns how many were refused.
+// Stores descending keys while clones fail. Returns how many weren't stored.
 fn refused_clones<'c>(
     rt: &impl Abort,
     index: &mut impl CountedPairs<'c>,
@@ -283,11 +283,11 @@ fn refused_clones<'c>(
 enum Use {
     // Random calls.
     Calls,
-    // Stores of descending keys while clones are refused.
+    // Stores of descending keys while clones fail.
     Stores,
 }
 
-// Uses an index. Returns how many stores were refused for a clone.
+// Uses an index. Returns how many stores failed for a clone.
 fn use_index<'c>(
     rt: &impl Abort,
     index: &mut impl CountedPairs<'c>,
@@ -326,7 +326,7 @@ fn use_seven_slots(
 }
 
 // Uses an index of each size, of which no key and no value is left then. At least so many stores
-// are refused for a clone.
+// fail for a clone.
 fn drops_each_once(
     rt: &impl Abort,
     alloc: Global,
@@ -353,8 +353,8 @@ fn drops_each_key_and_value_once(rt: HostRuntime) {
     assert!(rt; drops_once(&rt, rt.alloc(), Use::Calls, (0, 0)));
 }
 
-// A write that must split clones a separator. Where that is refused, the pair comes back and no
-// pair changed.
+// A write that must split clones a separator. If that fails, the pair is returned and no pair
+// changed.
 #[test]
 fn hands_back_the_pair_where_a_clone_is_refused(rt: HostRuntime) {
     assert!(rt; drops_once(&rt, rt.alloc(), Use::Stores, (16, 31)));

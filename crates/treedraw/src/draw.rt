@@ -7,7 +7,7 @@ use crate::shape::{LeafShape, NodeShape, Shape};
 use crate::text::{MOST_SHOWN, put, put_line};
 use std::alloc::AllocError;
 
-/// The most pairs of a tree that is drawn whole.
+// The most pairs of a tree that is drawn whole.
 const MOST_PAIRS: usize = 2_000;
 
 /// Appends a picture of the tree that a line left: the whole tree, or of a large one how full each

@@ -6,11 +6,11 @@ use crate::rows::{KeyRow, Slot};
 pub struct Language {
     /// What is before the line that a picture is of: the width and the height of the picture.
     pub head: &'static [u8],
-    /// What is behind that line.
+    /// What is after that line.
     pub body: &'static [u8],
     pub end: &'static [u8],
 
-    /// What is before and behind the cells of a node: its number.
+    /// What is before and after the cells of a node: its number.
     pub node: &'static [u8],
     pub node_end: &'static [u8],
     /// A cell of a node: its left edge, its upper edge, its width, the middle and the baseline of
@@ -25,7 +25,7 @@ pub struct Language {
     pub edge_to_node: &'static [u8],
     pub edge_to_leaf: &'static [u8],
 
-    /// What is before and behind the slots of a leaf: its number.
+    /// What is before and after the slots of a leaf: its number.
     pub leaf: &'static [u8],
     pub leaf_end: &'static [u8],
     /// A slot of a leaf, with the numbers of a cell of a node.
@@ -38,7 +38,7 @@ pub struct Language {
     pub link: &'static [u8],
     pub new_link: &'static [u8],
 
-    /// What is before and behind the levels of a large tree.
+    /// What is before and after the levels of a large tree.
     pub levels: &'static [u8],
     pub levels_end: &'static [u8],
     /// A level: which one it is, its arrays, keys, spent slots and slots; how long its bar is for

@@ -5,7 +5,7 @@
 pub struct Options {
     /// `--svg`: as SVG, and not as DOT.
     pub is_svg: bool,
-    /// `--every`: a picture after each line, and not after the last one alone.
+    /// `--every`: a picture after each line, and not only after the last.
     pub is_every: bool,
     /// `--small`: of an index with up to seven pairs a leaf.
     pub is_small: bool,

@@ -6,25 +6,25 @@ use crate::shape::{LeafShape, NodeShape, PARTS, Shape};
 /// The margin around a picture.
 pub const MARGIN: u64 = 20;
 
-/// The upper edge of the first level, which is below the line that a picture is of.
+// The upper edge of the first level, which is below the line that a picture is of.
 const TOP: u64 = 34;
 
-/// From a level to the one below it.
+// From a level to the one below it.
 const STEP: u64 = 56;
 
-/// From a leaf to the next one.
+// From a leaf to the next one.
 const GAP: u64 = 16;
 
-/// The height of a cell.
+// The height of a cell.
 const HEIGHT: u64 = 18;
 
-/// From the upper edge of a cell to the baseline of its text.
+// From the upper edge of a cell to the baseline of its text.
 const BASELINE: u64 = 13;
 
-/// From the bar of a level to the one below it.
+// From the bar of a level to the one below it.
 const BAR_STEP: u64 = 40;
 
-/// How long the bar of a level is.
+// How long the bar of a level is.
 const BAR: u64 = 400;
 
 /// The cells of a tree: their width, and what decides where they are.
@@ -161,7 +161,7 @@ pub fn of_level(level: usize, above: usize, found: Level) -> [u64; 11] {
     ]
 }
 
-// Returns a place so many steps behind a start.
+// Returns a place so many steps after a start.
 fn steps(start: u64, count: usize, step: u64) -> u64 {
     start.saturating_add((count as u64).saturating_mul(step))
 }

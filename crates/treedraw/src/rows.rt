@@ -1,9 +1,9 @@
 //! What an array holds: the keys in its slots, and the children of a node.
 
-/// The most slots of an array.
+// The most slots of an array.
 const MOST_SLOTS: usize = 15;
 
-/// The most children of a node.
+// The most children of a node.
 const MOST_CHILDREN: usize = 16;
 
 /// What is in a slot of a leaf.
@@ -74,7 +74,7 @@ impl KeyRow {
         self.key_at(self.count.saturating_sub(1)).unwrap_or(0)
     }
 
-    /// Returns the key at a place in ascending order, or `None` behind the last one.
+    /// Returns the key at a place in ascending order, or `None` after the last one.
     pub fn key_at(&self, place: usize) -> Option<u64> {
         if place < self.count && place < MOST_SLOTS {
             Some(self.ascending[place])
@@ -137,7 +137,7 @@ impl ChildRow {
         }
     }
 
-    /// Adds a child behind all others.
+    /// Adds a child after all others.
     pub fn push(&mut self, child: Child) {
         if self.count < MOST_CHILDREN {
             self.children[self.count] = child;
@@ -150,7 +150,7 @@ impl ChildRow {
         self.count
     }
 
-    /// Returns the child at a place, or `None` behind the last one.
+    /// Returns the child at a place, or `None` after the last one.
     pub fn child_at(&self, place: usize) -> Option<Child> {
         if place < self.count && place < MOST_CHILDREN {
             Some(self.children[place])

@@ -62,7 +62,7 @@ impl Shape {
         }
     }
 
-    /// Adds a leaf behind all others.
+    /// Adds a leaf after all others.
     ///
     /// Returns `Err` if an allocation fails.
     pub fn add_leaf(

@@ -118,7 +118,7 @@ fn lines_of(script: &[u8]) -> &[u8] {
     if script.is_empty() { b"\n" } else { script }
 }
 
-// Returns the first line of a text with its line feed, and what is behind it.
+// Returns the first line of a text with its line feed, and what is after it.
 fn first_line(text: &[u8]) -> (&[u8], &[u8])
     requires { 0 < length text.now }
     ensures { length result.1.now < length text.now }

@@ -91,7 +91,7 @@ fn tells_of_many_pairs(rt: HostRuntime) {
     expect_row(&rt, rt.alloc(), MANY_PAIRS);
 }
 
-// Rooms that end in each part of the line of the first storm, and before and behind it.
+// Rooms that end in each part of the line of the first storm, and before and after it.
 static ROOMS: [usize; 8] = [0, 3, 6, 8, 13, 19, 29, 31];
 
 #[test]

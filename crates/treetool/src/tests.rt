@@ -158,8 +158,8 @@ fn answers_within(bytes: usize) -> &'static [u8] {
     answers
 }
 
-// Whether the program ends as it should with each number of reads that pass, of so many bytes,
-// where the next one fails. Where the read that finds no more bytes passes, it ends well.
+// Whether the program ends as it should with each number of reads that pass, of so many bytes, when
+// the next one fails. If the read that finds no more bytes passes, it ends well.
 fn tells_failed_reads<R: Threads + Wait + Sync>(
     rt: &R,
     alloc: Global,

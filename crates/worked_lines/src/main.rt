@@ -1,6 +1,6 @@
 //! Answers the lines of its input, those before a form feed over an index with seven pairs a leaf,
-//! and those behind it over one with fifteen. Its stored run is two scripts of worked lines, part
-//! after part. The index is cleared where a new one is meant.
+//! and those after it over one with fifteen. Its stored run is two scripts of worked lines, part
+//! after part. The index is cleared if a new one is meant.
 //!
 //! With seven pairs a leaf:
 //!
@@ -36,7 +36,7 @@ use std::process::ExitCode;
 use tree_index::{SmallTreeIndex, TreeIndex};
 use tree_lines::{ToolFault, run_lines};
 
-// What stands between the two scripts.
+// What is between the two scripts.
 const FORM_FEED: u8 = 12;
 
 // Reads the input whole.

@@ -4,8 +4,8 @@ ghost use Rattle.std.specs.Prelude.{◌≡◌, true};
 use std::fmt::Debug;
 use std::process::Abort;
 
-// Ends the test unless the value is the one that is wanted. It is proved once, where `assert_eq!`
-// is proved at each place.
+// Ends the test unless the value is the expected one. It is proved once, where `assert_eq!` is
+// proved at each place.
 pub(crate) fn expect_eq<T: PartialEq + Debug + Drop>(rt: &impl Abort, found: T, wanted: T)
     ensures { T.eq found wanted ≡ true }
 {

@@ -14,8 +14,8 @@ use tree_cells::order::{Order, RETIRED};
 
 impl<K: Ord + Drop, V: Drop, const LEN: usize> ArrayOf<K, V, LEN> {
     /// Returns where to split: how many entries go low, how many there are, and whether all of
-    /// `LEN` arrived in ascending order. Up to three quarters of `LEN` entries there is no split,
-    /// and the first number is `LEN`. Makes no comparisons.
+    /// `LEN` arrived in ascending order. With at most three quarters of `LEN` entries there is no
+    /// split, and the first number is `LEN`. Makes no comparisons.
     pub fn optimal_boundary(&self) -> (u8, usize, bool)
         ensures boundary { result ≡ boundary K.cmp LEN self.now }
         ensures sound { IsSound K.cmp LEN self.now }
@@ -98,7 +98,7 @@ impl<K: Ord + Drop, V: Drop, const LEN: usize> ArrayOf<K, V, LEN> {
     fn sibling(&self) -> Self
         ensures { result ≡ in_order [] }
     {
-        // What every array keeps, such as that its slots are 7 or 15, is known where a field is
+        // An array's invariants, such as that its slots are 7 or 15, are known once a field is
         // read.
         let _ = &self.cells;
         ArrayOf::new()

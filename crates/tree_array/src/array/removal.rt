@@ -50,8 +50,8 @@ impl<K: Ord + Drop, V: Drop, const LEN: usize> ArrayOf<K, V, LEN> {
     /// condition once if the key is present, else never.
     ///
     /// Returns `Fail` if the key is absent or the condition returned `false`, and nothing changed;
-    /// `Retired` if the last pair went; else `Success`. Makes at most 4 comparisons (3 among 7
-    /// slots). The condition must be callable on the value that is stored with the key.
+    /// `Retired` if the last pair was removed; else `Success`. Makes at most 4 comparisons (3 among
+    /// 7 slots). The condition must be callable on the value that is stored with the key.
     #[inline(always)]
     pub fn remove_if<F: FnOnce(&V) -> bool + Drop>(&mut self, key: &K, condition: F) -> RemoveResult
         requires { ForSome (pair_at K.cmp self.old.entries key.now) (λ pair. FnOnceTakesAt F.FnOnce condition pair.1) }
@@ -76,7 +76,7 @@ impl<K: Ord + Drop, V: Drop, const LEN: usize> ArrayOf<K, V, LEN> {
     }
 
     /// Removes the pairs whose keys are within the bounds, and retires the array if the last one
-    /// went. Makes at most two comparisons per slot.
+    /// was removed. Makes at most two comparisons per slot.
     pub fn remove_range(&mut self, bounds: (Bound<&K>, Bound<&K>))
         ensures { self.new ≡ without_range K.cmp self.old (low_of bounds.entry) (high_of bounds.entry) }
     {

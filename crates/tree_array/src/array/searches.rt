@@ -81,7 +81,7 @@ impl<K: Ord + Drop, V: Drop, const LEN: usize> ArrayOf<K, V, LEN> {
         }
     }
 
-    /// Returns the slot of the entry at this place in key order, counted from 0, or `None` behind
+    /// Returns the slot of the entry at this place in key order, counted from 0, or `None` after
     /// the last. Makes no comparisons.
     pub fn slot_at(&self, place: u8) -> Option<u8>
         ensures { MatchOption result (slice_get self.now.entries place ≡ None)

@@ -60,7 +60,7 @@ impl<D> Clone for ArrayWalk<D> {
 }
 
 impl<D: Direction> ArrayWalk<D> {
-    /// Creates a walk that is before the first slot on its way. Makes no comparisons.
+    /// Creates a walk before the first slot on its way. Makes no comparisons.
     pub fn new<K: Ord + Drop, V: Drop, const LEN: usize>(array: &ArrayOf<K, V, LEN>) -> Self
         ensures slots { result ≡ standing (slots_in_order K.cmp array.now) None }
         ensures over { IsOver K.cmp LEN array.now result }
@@ -103,7 +103,7 @@ impl<D: Direction> ArrayWalk<D> {
         Some(slot_at(self.order, self.ahead - 1))
     }
 
-    // Goes one slot on. Returns `None` and keeps its place behind the last slot.
+    // Goes one slot on. Returns `None` and keeps its place after the last slot.
     #[tactic(auto, using(crate::proofs::Stepped::stays))]
     #[inline]
     fn step_on(&mut self) -> Option<u8>

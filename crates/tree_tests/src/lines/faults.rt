@@ -106,7 +106,7 @@ fn prepare(index: &mut TreeIndex<u64, u64>) -> Result<(), AllocError> {
 }
 
 // Whether each line that a line feed ended before the failed read is applied and answered, and no
-// other one. A run ends well where the read that finds no more bytes passes.
+// other one. A run ends well if the read that finds no more bytes passes.
 fn shows_a_failed_read(
     index: &mut impl Answers,
     script: &Script,
@@ -215,7 +215,7 @@ fn fails_steps(rt: &impl Abort, alloc: Global, failed: Failed) -> Result<(), All
     fail_each(rt, &mut index, failed)
 }
 
-// Whether each read or each write that fails is told.
+// Whether each read or each write that fails is reported.
 fn is_told(rt: &impl Abort, alloc: Global, failed: Failed) -> bool {
     succeeds(alloc, || fails_steps(rt, alloc, failed))
 }

@@ -16,7 +16,7 @@ fn fill(set: &mut TreeSet<u64>, count: u64) -> Result<(), AllocError> {
     Ok(())
 }
 
-// Returns whether the set has the numbers below `count`, and tells so.
+// Returns whether the set has the numbers below `count`, and reports them.
 fn has_run(set: &TreeSet<u64>, count: u64) -> bool {
     (set.len() as u64, set.is_empty(), set.contains(&count)) == (count, count == 0, false)
         && (count == 0 || set.contains(&(count - 1)))

@@ -1,4 +1,4 @@
-//! What the calls of an array answer, on arrays worked out by hand.
+//! What the calls of an array return, on arrays worked out by hand.
 use super::found::{Found, found};
 use crate::arrays::expect::expect_eq;
 use port_calls::dimension::DIMENSION;

@@ -1,4 +1,4 @@
-//! How often a search of an array asks.
+//! How many comparisons a search of an array makes.
 ghost use Rattle.std.specs.Prelude.{◌≡◌, ◌<◌};
 ghost use Rattle.tree_array.specs.Length.{IsLen};
 
@@ -10,7 +10,7 @@ use std::sync::ledger::{Blank, Ledger};
 use test_support::chance::Chance;
 use tree_array::array::{ArrayOf, Judge, KeyJudge, Steps};
 
-// A judge, whose questions the test counts beside it.
+// A judge, whose comparisons the test counts itself.
 #[derive(Drop)]
 struct Watching<J> {
     judge: J,
@@ -28,7 +28,7 @@ impl<K: Ord, J: Judge<K>> Judge<K> for Watching<J> {
     }
 }
 
-// Whether one search finds the key, and how often it asked.
+// Whether one search finds the key, and how many comparisons it made.
 fn questions<S: Searched>(searched: &S, key: u64) -> (bool, u64) {
     questions_by::<S, Brand>(searched, key, Blank::new(1))
 }
@@ -57,8 +57,8 @@ fn filled<const LEN: usize>(seed: u64) -> ArrayOf<u64, u64, LEN>
     array
 }
 
-// Whether a search of a full array of odd keys asks at most so often for each key below `bound`:
-// those that are stored, those between two of them, and those outside.
+// Whether a search of a full array of odd keys makes at most so many comparisons for each key below
+// `bound`: those that are stored, those between two of them, and those outside.
 fn asks_at_most<S: Searched>(searched: &S, bound: u64, most: u64) -> bool {
     for key in 0..bound {
         let (found, asked) = questions(searched, key);
