@@ -1,6 +1,7 @@
 //! Opens a walk near a key, among the entries under a number.
 ghost use Rattle.std.specs.Prelude.{◌≡◌, ◌<◌, if◌then◌else◌};
 ghost use Rattle.std.specs.Option.{option_map};
+ghost use Rattle.port_calls.specs.Approximate.{Approximates};
 ghost use Rattle.std.specs.declared.ops.Bound.TheVariants.{Included};
 ghost use Rattle.tree_model.specs.declared.way.Way.TheVariants.{On, Back};
 ghost use Rattle.tree_model.specs.Ways.{opposite};
@@ -8,7 +9,6 @@ ghost use Rattle.tree_node.specs.Tree.{StandsOrRetired, walk};
 ghost use Rattle.tree_leaf.specs.Walks.{first_on};
 ghost use Rattle.tree_parts.specs.Ends.{IsLinked};
 ghost use Rattle.tree_model.specs.Rest.{lent};
-ghost use Rattle.port_calls.specs.Approximate.{Approximates};
 
 use std::ops::Bound;
 use tree_cursors::seek::seek_at;

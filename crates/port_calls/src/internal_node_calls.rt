@@ -1,11 +1,11 @@
 //! How an internal node makes room in a child node.
 ghost use Rattle.std.specs.Prelude.{◌≡◌, ◌<◌, IfOk, IsOk, OnErr, ℕ};
-ghost use Rattle.slab.specs.Slab.{get};
-ghost use Rattle.tree_leaf.specs.Arena.{HasPlaces};
-ghost use Rattle.tree_leaf.specs.Counting.{times};
-ghost use Rattle.tree_node.specs.Parts.{IsPart, Unchanged};
-ghost use Rattle.tree_node.specs.Tree.{children_of};
 ghost use Rattle.tree_split.specs.Splits.{SplitResult};
+ghost use Rattle.tree_node.specs.Tree.{children_of};
+ghost use Rattle.tree_node.specs.Parts.{IsPart, Unchanged};
+ghost use Rattle.tree_leaf.specs.Counting.{times};
+ghost use Rattle.tree_leaf.specs.Arena.{HasPlaces};
+ghost use Rattle.slab.specs.Slab.{get};
 
 use std::alloc::AllocError;
 use tree_leaf::arena::NodeId;
