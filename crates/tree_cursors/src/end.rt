@@ -11,9 +11,9 @@ ghost use Rattle.tree_cursors.specs.View.{EndStands, StepsInLeaf, end_of, pair_o
 
 use crate::seek::seek_at;
 use std::ops::Bound;
+use tree_leaf::LinkedIter;
 use tree_leaf::laws::next_or_jump;
 use tree_leaf::leaf::LeafOf;
-use tree_leaf::LinkedIter;
 use tree_model::Direction;
 use tree_node::node::{ArenasOf, Root};
 

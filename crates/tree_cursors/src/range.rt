@@ -183,12 +183,7 @@ impl<'t, K: Ord + Drop + 't, V: Drop + 't, const LEN: usize> RangeOf<'t, K, V, L
         ensures { (pair : _) × Moves K.cmp On self.old pair self.new × (result ≡ is_some pair) }
     {
         let pair = step(self.arenas, self.root, &mut self.forward, self.low);
-        if_apart::<K, V, Backward, LEN>(
-            pair,
-            &self.forward,
-            &self.backward,
-            self.high,
-        ).is_some()
+        if_apart::<K, V, Backward, LEN>(pair, &self.forward, &self.backward, self.high).is_some()
     }
 
     // Moves the backward end, as [`goes_elsewhere`](RangeOver::goes_elsewhere) moves the forward

@@ -9,10 +9,10 @@ ghost use Rattle.tree_parts.specs.Ends.{IsLinked};
 ghost use Rattle.tree_cursors.specs.Seek.{NoneMeets, Opens, Seeks};
 
 use std::ops::Bound;
+use tree_leaf::LinkedIter;
 use tree_leaf::arena::NodeId;
 use tree_leaf::laws::next_or_jump;
 use tree_leaf::leaf::LeafOf;
-use tree_leaf::LinkedIter;
 use tree_model::{Direction, meets};
 use tree_node::look_ups::leaf_by;
 use tree_node::node::ArenasOf;
