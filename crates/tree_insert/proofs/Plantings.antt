@@ -1,6 +1,6 @@
 -- The first pair of an array and of a tree.
 use Rattle.tree_insert.proofs.Common.{Arrivals, IsInsert, IsLen, IsPacked, IsTotalOrder, LeafOf, NodeOf, None, Ordering, Some, TreeArenas, [], arith, false}
-use Rattle.tree_insert.proofs.Common.{false≢true, get, in_order, inl, inr, keyed, packed_in_order, refl, unbounded, ℕ, ◌∙◌, ◌∷◌, ◌≡◌, ◌≢◌}
+use Rattle.tree_insert.proofs.Common.{false≢true, get, in_order, inl, inr, keyed, packed_in_order, refl, unbounded, ℕ, ◌∙◌, ◌∷◌, ◌≡◌}
 use Rattle.tree_array.specs.declared.answers.InsertResult.{InsertResult}
 use Rattle.tree_array.specs.declared.answers.InsertResult.TheVariants.{Duplicate, Full, Success}
 

@@ -1,4 +1,4 @@
-use Rattle.std.proofs.Common.{[], ◌∷◌, ◌++◌, Some, append-nil, ap, refl, sym, ◌∙◌}
+use Rattle.std.proofs.Common.{[], ◌++◌, append-nil, refl, sym, ◌∙◌}
 use Rattle.std.proofs.lemmas.Result.{IfOk-weaker}
 use Rattle.tree_leaf.proofs.Rests.{count_falls}
 use Rattle.tree_model.specs.declared.way.Way.TheVariants.{On}

@@ -1,4 +1,3 @@
-use Rattle.std.proofs.Common.{None, Some, Option}
 use Rattle.tree_node.proofs.Common.{fits}
 use Rattle.tree_root.proofs.Storing.{stands_or_retired}
 use Rattle.tree_index.proofs.Copied.{begins_tree, chain_linked}
