@@ -7,7 +7,6 @@ use Rattle.tree_model.specs.Pairs.{pair_at}
 use Rattle.tree_node.specs.Arenas.{Slab, TreeArenas, get}
 use Rattle.tree_node.specs.Tree.{IsRetired, child_of}
 use Rattle.tree_node.specs.Ways.{IsLeafFor}
-use Rattle.tree_node.specs.Whole.{IsTop}
 use Rattle.tree_node.specs.declared.node.NodeOf.{NodeOf}
 use Rattle.tree_node.specs.declared.node.NodeOf.TheVariants.{Internal, Leaf}
 use Rattle.tree_node.specs.declared.node.Root.{Root}
@@ -41,28 +40,44 @@ module _ {K V : Type 0} {LEN : ℕ} (cmp : K → K → Ordering) (arenas : TreeA
   LeafUnder None key found = found ≡ None
   LeafUnder (Some root) key found = MatchOption found (IsRetired root.level arenas root.id) (IsLeafFor cmp key root.level arenas root.id)
 
-  -- the same of each key up to a place
-  abbrev pub HaveLeaves : Option Root → List K → ℕ → List (Option ℕ) → Type 0
-  HaveLeaves root keys to found = (k : ℕ) (d : K) → k < to → LeafUnder root (get_or keys k d) (get_or found k None)
+module _ {Q K V : Type 0} {LEN : ℕ} (key : Q → K) (cmp : K → K → Ordering) (arenas : TreeArenas K V LEN) where
+  -- the same of each key up to a place, by the forms in which they are lent
+  abbrev pub HaveLeaves : Option Root → List Q → ℕ → List (Option ℕ) → Type 0
+  HaveLeaves root keys to found = (k : ℕ) (d : Q) → k < to → LeafUnder cmp arenas root (key (get_or keys k d)) (get_or found k None)
 
   -- the leaves of all of these keys, in an array of eight
-  pub record LeavesUnder (root : Option Root) (keys : List K) (found : List (Option ℕ)) : Type 0 where
+  pub record LeavesUnder (root : Option Root) (keys : List Q) (found : List (Option ℕ)) : Type 0 where
     pub long : length found ≡ 8
     pub each : HaveLeaves root keys (length keys) found
 
-  -- A batch has at most eight keys of a list, each of which has its leaf from the first that wasn't answered on.
-  pub record HasLeaves (root : Option Root) (keys : List K) (batch : Batch) : Type 0 where
-    pub top : IsTop cmp arenas root
+-- what is answered for a key that is lent: what is shown of its pair
+abbrev pub answer_for : {Q K V Y : Type 0} → (Option (K × V) → Y) → (Q → K) → (K → K → Ordering) → List (K × V) → Q → Y
+answer_for shown key cmp pairs lent = shown (pair_at cmp pairs (key lent))
+
+module _ {Q X Y : Type 0} (seen : X → Y) (answer : Q → Y) where
+  -- the answers for the keys up to a place
+  abbrev pub AreFound : List Q → ℕ → List X → Type 0
+  AreFound keys to found = (k : ℕ) (d : Q) (e : X) → k < to → seen (get_or found k e) ≡ answer (get_or keys k d)
+
+  -- A batch has at most eight keys of a list, each of which has its answer from the first that wasn't answered on.
+  pub record HasFound (keys : List Q) (batch : Batch X) : Type 0 where
     pub begun : batch.start ≤ batch.answered
     pub within : batch.answered ≤ batch.end
     pub inside : batch.end ≤ length keys
     pub few : batch.end ≤ batch.start + 8
-    pub long : length batch.leaves ≡ 8
-    pub leaves : (k : ℕ) (d : K) → batch.answered ≤ k → k < batch.end → LeafUnder root (get_or keys k d) (get_or batch.leaves (k - batch.start) None)
+    pub long : length batch.found ≡ 8
+    pub each : (k : ℕ) (d : Q) (e : X) → batch.answered ≤ k → k < batch.end → seen (get_or batch.found (k - batch.start) e) ≡ answer (get_or keys k d)
 
--- no key has its leaf, and none was answered
-pub record IsEmpty (batch : Batch) : Type 0 where
+-- no key has its answer, and none was answered
+pub record IsEmpty {X : Type 0} (batch : Batch X) : Type 0 where
   pub answered : batch.answered ≡ 0
   pub start : batch.start ≡ 0
   pub end : batch.end ≡ 0
-  pub long : length batch.leaves ≡ 8
+  pub long : length batch.found ≡ 8
+
+-- one key more was answered
+pub record Advances {X : Type 0} (old new : Batch X) : Type 0 where
+  pub found : new.found ≡ old.found
+  pub start : new.start ≡ old.start
+  pub end : new.end ≡ old.end
+  pub answered : new.answered ≡ old.answered + 1

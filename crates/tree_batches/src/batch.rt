@@ -1,84 +1,63 @@
-//! A batch of keys, each with its leaf.
-ghost use Rattle.std.specs.Prelude.{◌≡◌, ◌⊎◌, ◌<◌, [], ◌∷◌, length, MatchOption, drop};
-ghost use Rattle.tree_batches.specs.Batches.{HasLeaves, IsEmpty, LeafUnder};
+//! A batch of keys, each with its answer.
+ghost use Rattle.std.specs.Prelude.{◌≡◌, ◌≤◌, ◌<◌, ◌+◌, ◌-◌, length, get_or};
+ghost use Rattle.tree_batches.specs.Batches.{Advances, IsEmpty};
 
-use crate::descent::{BATCH, Leaves, leaves_of};
-use tree_leaf::arena::LeafId;
-use tree_node::node::{ArenasOf, Root};
+/// How many keys are looked up together.
+pub(crate) const BATCH: usize = 8;
 
-/// Which keys of a list have their leaves, and which were answered.
+/// Which keys of a list have their answers, and which were answered.
 #[derive(Drop)]
-pub struct Batch {
-    // The leaf of each key from `start` up to `end`.
-    leaves: Leaves,
-    start: usize,
-    end: usize,
+pub struct Batch<X> {
+    // The answer for each key from `start` up to `end`.
+    pub(crate) found: [X; BATCH],
+    pub(crate) start: usize,
+    pub(crate) end: usize,
     // How many keys of the list were answered.
-    answered: usize,
+    pub(crate) answered: usize,
 }
 
-impl Batch {
+impl<X: Copy + Drop> Batch<X> {
+    // Returns a batch without a key, at the begin of a list.
+    pub(crate) fn empty(filler: X) -> Self
+        ensures { IsEmpty result }
+    {
+        Batch {
+            found: [filler; BATCH],
+            start: 0,
+            end: 0,
+            answered: 0,
+        }
+    }
+
     // Returns how many keys were answered.
+    #[inline(always)]
     pub(crate) fn answered(&self) -> usize
         ensures { result ≡ self.now.answered }
     {
         self.answered
     }
-}
 
-// Returns a batch without a key, at the begin of a list.
-pub(crate) fn empty() -> Batch
-    ensures { IsEmpty result }
-{
-    Batch {
-        leaves: [None; BATCH],
-        start: 0,
-        end: 0,
-        answered: 0,
+    // Takes the answer for the first key that wasn't answered.
+    #[inline(always)]
+    pub(crate) fn take_first(&mut self) -> X
+        requires more { self.old.answered < self.old.end }
+        requires begun { self.old.start ≤ self.old.answered }
+        requires few { self.old.end ≤ self.old.start + 8 }
+        requires long { length self.old.found ≡ 8 }
+        ensures found { result ≡ get_or self.old.found (self.old.answered - self.old.start) result }
+        ensures next { Advances self.old self.new }
+    {
+        let place = self.answered - self.start;
+        self.answered += 1;
+        at_place(&self.found, place)
     }
 }
 
-// Takes the first key that wasn't answered, with its leaf if there is one.
+// Returns the element at a place. An array of a type parameter is read as a slice.
 #[inline(always)]
-pub(crate) fn take_first<'k, K: Ord + Drop, V: Drop, const LEN: usize>(
-    arenas: &ArenasOf<K, V, LEN>,
-    root: Option<Root>,
-    keys: &'k [K],
-    batch: &mut Batch,
-) -> Option<(&'k K, Option<LeafId>)>
-    requires kept { HasLeaves K.cmp arenas.now root keys.now batch.old }
-    ensures first { MatchOption result
-        ((drop batch.old.answered keys.now ≡ []) × (drop batch.new.answered keys.now ≡ []))
-        (λ taken. (drop batch.old.answered keys.now ≡ taken.0.now ∷ drop batch.new.answered keys.now)
-        × LeafUnder K.cmp arenas.now root taken.0.now taken.1) }
-    ensures kept { HasLeaves K.cmp arenas.now root keys.now batch.new }
+fn at_place<X: Copy>(found: &[X], place: usize) -> X
+    requires { place < length found.now }
+    ensures { result ≡ get_or found.now place result }
 {
-    refill(arenas, root, keys, batch);
-    let key = keys.get(batch.answered)?;
-    let leaf = batch.leaves[batch.answered - batch.start];
-    batch.answered += 1;
-    Some((key, leaf))
-}
-
-// Finds the leaves of the next batch, if all keys of this one were answered.
-#[inline(always)]
-fn refill<K: Ord + Drop, V: Drop, const LEN: usize>(
-    arenas: &ArenasOf<K, V, LEN>,
-    root: Option<Root>,
-    keys: &[K],
-    batch: &mut Batch,
-)
-    requires kept { HasLeaves K.cmp arenas.now root keys.now batch.old }
-    ensures same { batch.new.answered ≡ batch.old.answered }
-    ensures more { (batch.new.answered < batch.new.end) ⊎ (batch.new.answered ≡ length keys.now) }
-    ensures kept { HasLeaves K.cmp arenas.now root keys.now batch.new }
-{
-    if batch.answered < batch.end {
-        return;
-    }
-    let start = batch.answered;
-    let end = start + (keys.len() - start).min(BATCH);
-    batch.leaves = leaves_of(arenas, root, &keys[start..end]);
-    batch.start = start;
-    batch.end = end;
+    found[place]
 }

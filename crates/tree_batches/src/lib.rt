@@ -2,22 +2,26 @@
 //!
 //! Out of cache a look-up spends its time on loads from memory, each of which waits for the one
 //! before it. Keys that are known at once needn't wait for each other: [`peek_each`] takes eight of
-//! them down the tree together, so the processor loads for all eight at the same time. In an index
-//! that fits into the cache single look-ups are faster.
+//! them down the tree together, so the processor loads for all eight at the same time.
 //!
 //! The answers are those of single look-ups, one for each key, in the order of the keys. Nothing is
 //! allocated.
 #![tactic(auto)]
 
+mod answers;
 mod batch;
+mod batched;
 mod descent;
-mod entries;
-mod search;
-mod values;
+mod each;
+mod filling;
+mod lent;
 
+pub use answers::{Answers, Entries, Presence, Values};
 pub use batch::Batch;
-pub use entries::{Batched, EntryEach, EntryEachOf, EntryEachOver, peek_entry_each};
-pub use values::{
-    ContainsEach, ContainsEachOf, ContainsEachOver, PeekEach, PeekEachOf, PeekEachOver,
-    contains_each, peek_each,
+pub use batched::Batched;
+pub use each::{
+    ContainsEach, ContainsEachOf, EachOf, EachOver, EntryEach, EntryEachOf, PeekEach,
+    PeekEachOf, contains_each, contains_each_lent, peek_each, peek_each_lent, peek_entry_each,
+    peek_entry_each_lent,
 };
+pub use lent::Lent;
