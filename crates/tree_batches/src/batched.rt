@@ -22,12 +22,7 @@ pub trait Batched<K: Ord, V> {
     ghost is_leaf: { Self → Option TreeRoot → K → Option ℕ → Type 0 };
 
     /// Writes the leaf that each key belongs to, all keys level by level.
-    fn leaves<Q: Lent<K>>(
-        &self,
-        root: &Option<Root>,
-        keys: &[Q],
-        leaves: &mut [Option<LeafId>],
-    )
+    fn leaves<Q: Lent<K>>(&self, root: &Option<Root>, keys: &[Q], leaves: &mut [Option<LeafId>])
         requires top { is_tree self.now root.now }
         requires few { length keys.now ≤ 8 }
         requires none { leaves.old ≡ replicate 8 None }
@@ -54,12 +49,7 @@ impl<K: Ord + Drop, V: Drop, const LEN: usize> Batched<K, V> for ArenasOf<K, V, 
     ghost is_leaf = { LeafUnder K.cmp };
 
     #[inline(always)]
-    fn leaves<Q: Lent<K>>(
-        &self,
-        root: &Option<Root>,
-        keys: &[Q],
-        leaves: &mut [Option<LeafId>],
-    ) {
+    fn leaves<Q: Lent<K>>(&self, root: &Option<Root>, keys: &[Q], leaves: &mut [Option<LeafId>]) {
         leaves_of(self, root, keys, leaves);
     }
 

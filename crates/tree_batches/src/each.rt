@@ -233,8 +233,14 @@ impl<'t, 'k, Q: Lent<K> + 'k, K: Ord + Drop + 't + 'k, V: Drop + 't, A: Batched<
     }
 }
 
-impl<'t, 'k, Q: Lent<K> + 'k, K: Ord + Drop + 't + 'k, V: Drop + 't, A: Batched<K, V>>
-    ExactSizeIterator for EachOver<'t, 'k, Values, Q, K, V, A> {
+impl<
+    't,
+    'k,
+    Q: Lent<K> + 'k,
+    K: Ord + Drop + 't + 'k,
+    V: Drop + 't,
+    A: Batched<K, V>,
+> ExactSizeIterator for EachOver<'t, 'k, Values, Q, K, V, A> {
     fn len(&self) -> usize {
         self.keys.len() - self.batch.answered()
     }
@@ -262,8 +268,14 @@ impl<'t, 'k, Q: Lent<K> + 'k, K: Ord + Drop + 't + 'k, V: Drop + 't, A: Batched<
     }
 }
 
-impl<'t, 'k, Q: Lent<K> + 'k, K: Ord + Drop + 't + 'k, V: Drop + 't, A: Batched<K, V>>
-    ExactSizeIterator for EachOver<'t, 'k, Entries, Q, K, V, A> {
+impl<
+    't,
+    'k,
+    Q: Lent<K> + 'k,
+    K: Ord + Drop + 't + 'k,
+    V: Drop + 't,
+    A: Batched<K, V>,
+> ExactSizeIterator for EachOver<'t, 'k, Entries, Q, K, V, A> {
     fn len(&self) -> usize {
         self.keys.len() - self.batch.answered()
     }
@@ -291,8 +303,14 @@ impl<'t, 'k, Q: Lent<K> + 'k, K: Ord + Drop + 't + 'k, V: Drop + 't, A: Batched<
     }
 }
 
-impl<'t, 'k, Q: Lent<K> + 'k, K: Ord + Drop + 't + 'k, V: Drop + 't, A: Batched<K, V>>
-    ExactSizeIterator for EachOver<'t, 'k, Presence, Q, K, V, A> {
+impl<
+    't,
+    'k,
+    Q: Lent<K> + 'k,
+    K: Ord + Drop + 't + 'k,
+    V: Drop + 't,
+    A: Batched<K, V>,
+> ExactSizeIterator for EachOver<'t, 'k, Presence, Q, K, V, A> {
     fn len(&self) -> usize {
         self.keys.len() - self.batch.answered()
     }

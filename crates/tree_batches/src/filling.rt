@@ -19,12 +19,7 @@ pub(crate) fn take_next<
     K: Ord + Drop + 't,
     V: Drop + 't,
     A: Batched<K, V>,
->(
-    arenas: &'t A,
-    root: &Option<Root>,
-    keys: &[Q],
-    batch: &mut Batch<W::Answer>,
-) -> Option<W::Answer>
+>(arenas: &'t A, root: &Option<Root>, keys: &[Q], batch: &mut Batch<W::Answer>) -> Option<W::Answer>
     requires top { A.is_tree arenas.now root.now }
     requires kept { HasFound W.seen (answer_for W.shown Q.key K.cmp (A.pairs arenas.now root.now)) keys.now batch.old }
     ensures first { TakesFirst W.seen
@@ -41,12 +36,14 @@ pub(crate) fn take_next<
 
 // Returns whether a key is left. Finds the answers of the next batch if all of this one were given.
 #[inline(always)]
-fn has_next<'t, W: Answers<'t, K, V>, Q: Lent<K>, K: Ord + Drop + 't, V: Drop + 't, A: Batched<K, V>>(
-    arenas: &'t A,
-    root: &Option<Root>,
-    keys: &[Q],
-    batch: &mut Batch<W::Answer>,
-) -> bool
+fn has_next<
+    't,
+    W: Answers<'t, K, V>,
+    Q: Lent<K>,
+    K: Ord + Drop + 't,
+    V: Drop + 't,
+    A: Batched<K, V>,
+>(arenas: &'t A, root: &Option<Root>, keys: &[Q], batch: &mut Batch<W::Answer>) -> bool
     requires top { A.is_tree arenas.now root.now }
     requires kept { HasFound W.seen (answer_for W.shown Q.key K.cmp (A.pairs arenas.now root.now)) keys.now batch.old }
     ensures same { batch.new.answered ≡ batch.old.answered }
@@ -88,12 +85,14 @@ fn refill<'t, W: Answers<'t, K, V>, Q: Lent<K>, K: Ord + Drop + 't, V: Drop + 't
 // Finds the answers for the keys of a batch, in place. Never inlined, so that a caller keeps its
 // own loop in registers.
 #[inline(never)]
-fn find_all<'t, W: Answers<'t, K, V>, Q: Lent<K>, K: Ord + Drop + 't, V: Drop + 't, A: Batched<K, V>>(
-    arenas: &'t A,
-    root: &Option<Root>,
-    keys: &[Q],
-    found: &mut [W::Answer],
-)
+fn find_all<
+    't,
+    W: Answers<'t, K, V>,
+    Q: Lent<K>,
+    K: Ord + Drop + 't,
+    V: Drop + 't,
+    A: Batched<K, V>,
+>(arenas: &'t A, root: &Option<Root>, keys: &[Q], found: &mut [W::Answer])
     requires top { A.is_tree arenas.now root.now }
     requires few { length keys.now ≤ 8 }
     requires long { length found.old ≡ 8 }
@@ -107,7 +106,14 @@ fn find_all<'t, W: Answers<'t, K, V>, Q: Lent<K>, K: Ord + Drop + 't, V: Drop + 
 
 // Finds the answers for the keys of a batch in their leaves, in place.
 #[inline(always)]
-fn answer_all<'t, W: Answers<'t, K, V>, Q: Lent<K>, K: Ord + Drop + 't, V: Drop + 't, A: Batched<K, V>>(
+fn answer_all<
+    't,
+    W: Answers<'t, K, V>,
+    Q: Lent<K>,
+    K: Ord + Drop + 't,
+    V: Drop + 't,
+    A: Batched<K, V>,
+>(
     arenas: &'t A,
     root: &Option<Root>,
     keys: &[Q],
@@ -130,12 +136,14 @@ fn answer_all<'t, W: Answers<'t, K, V>, Q: Lent<K>, K: Ord + Drop + 't, V: Drop 
 // Returns the answer for a key from the leaf that the key belongs to. Never inlined, as the steps of
 // the descent aren't.
 #[inline(never)]
-fn answer_in<'t, W: Answers<'t, K, V>, Q: Lent<K>, K: Ord + Drop + 't, V: Drop + 't, A: Batched<K, V>>(
-    arenas: &'t A,
-    root: &Option<Root>,
-    leaf: Option<LeafId>,
-    key: &Q,
-) -> W::Answer
+fn answer_in<
+    't,
+    W: Answers<'t, K, V>,
+    Q: Lent<K>,
+    K: Ord + Drop + 't,
+    V: Drop + 't,
+    A: Batched<K, V>,
+>(arenas: &'t A, root: &Option<Root>, leaf: Option<LeafId>, key: &Q) -> W::Answer
     requires top { A.is_tree arenas.now root.now }
     requires leaf { A.is_leaf arenas.now root.now (Q.key key.now) leaf }
     ensures { W.seen result ≡ answer_for W.shown Q.key K.cmp (A.pairs arenas.now root.now) key.now }

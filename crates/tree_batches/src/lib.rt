@@ -20,8 +20,8 @@ pub use answers::{Answers, Entries, Presence, Values};
 pub use batch::Batch;
 pub use batched::Batched;
 pub use each::{
-    ContainsEach, ContainsEachOf, EachOf, EachOver, EntryEach, EntryEachOf, PeekEach,
-    PeekEachOf, contains_each, contains_each_lent, peek_each, peek_each_lent, peek_entry_each,
+    ContainsEach, ContainsEachOf, EachOf, EachOver, EntryEach, EntryEachOf, PeekEach, PeekEachOf,
+    contains_each, contains_each_lent, peek_each, peek_each_lent, peek_entry_each,
     peek_entry_each_lent,
 };
 pub use lent::Lent;

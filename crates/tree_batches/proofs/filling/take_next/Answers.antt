@@ -14,7 +14,7 @@ pub returns-clause-first : goal.returns-clause-first
 returns-clause-first g c =
     let answer = answer_for g.W.Answers.shown g.Q.Lent.key g.K.Ord.cmp (g.A.Batched.pairs c.args.arenas.now c.args.root.now) in
     rw (← c.has_next.ensures.same, c.take_first.ensures.next.answered)
-      (first_answered g.W.Answers.seen answer c.args.keys.now c.has_next.new.batch c.has_next.ensures.kept c.if-not-has_next.ensures.more c.take_first.result c.take_first.ensures.found)
+    (first_answered g.W.Answers.seen answer c.args.keys.now c.has_next.new.batch c.has_next.ensures.kept c.if-not-has_next.ensures.more c.take_first.result c.take_first.ensures.found)
 
 pub returns-clause-kept : goal.returns-clause-kept
 returns-clause-kept g c =
