@@ -1,9 +1,9 @@
 -- A batch of keys on its way down: each key has come to a node of one level.
-use Rattle.std.proofs.Common.{◌≡◌, ◌≢◌, ◌⊎◌, ℕ, zero, suc, ◌+◌, ◌-◌, ◌<◌, ◌≤◌, List, length, get_or, set, Option, None, Some, IsSome, MatchOption, refl, sym, inl, inr, arith, Ordering}
+use Rattle.std.proofs.Common.{◌≡◌, ◌≢◌, ◌⊎◌, ℕ, suc, ◌+◌, ◌-◌, ◌<◌, ◌≤◌, List, length, get_or, set, Option, None, Some, refl, inl, inr, arith, Ordering}
 use Rattle.std.proofs.lemmas.Bool.{cases_eq}
 use Rattle.std.proofs.lemmas.List.{get_or_read, get_or-set_same, get_or-set_other}
 use Rattle.tree_batches.specs.Batches.{LeafUnder, HaveLeaves, child_or_itself, leaf_of}
-use Rattle.tree_node.proofs.Common.{HasKind, IsRetired, IsTop, IsTotalOrder, Slab, Stands, StandsOrRetired, TreeArenas, child_of, get, keyed, root_at, unbounded}
+use Rattle.tree_node.proofs.Common.{IsRetired, IsTop, IsTotalOrder, Stands, StandsOrRetired, TreeArenas, child_of, get, root_at}
 use Rattle.tree_node.specs.declared.branch.BranchOf.{BranchOf}
 use Rattle.tree_node.specs.declared.node.NodeOf.{NodeOf}
 use Rattle.tree_node.specs.declared.node.NodeOf.TheVariants.{Internal, Leaf}

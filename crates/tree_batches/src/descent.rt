@@ -9,7 +9,7 @@ use crate::lent::{Asked, Lent};
 use tree_leaf::arena::{LeafId, NodeId};
 use tree_node::node::{ArenasOf, NodeOf, Root};
 
-// Writes the leaf that each key of a batch belongs to. They are written in place, since an array that
+// Writes the leaf that each key of a batch belongs to. Written in place, since an array that
 // is returned is copied.
 #[inline(always)]
 pub(crate) fn leaves_of<Q: Lent<K>, K: Ord + Drop, V: Drop, const LEN: usize>(

@@ -1,5 +1,5 @@
-//! The pairs whose keys begin with a prefix, bytes that are looked up, and elements of a set that begin
-//! with a prefix.
+//! The pairs whose keys begin with a prefix, bytes that are looked up, and elements of a set that
+//! begin with a prefix.
 use std::alloc::{AllocError, Global};
 use std::process::Abort;
 use test_support::refusals::succeeds;

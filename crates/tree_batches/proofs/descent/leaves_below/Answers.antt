@@ -1,4 +1,4 @@
-use Rattle.std.proofs.Common.{◌≡◌, ◌-◌, ◌+◌, ◌<◌, ◌∙◌, ℕ, suc, length, get_or, replicate, set, IsSome, arith, refl}
+use Rattle.std.proofs.Common.{◌≡◌, ◌-◌, ◌+◌, ◌<◌, ◌∙◌, ℕ, suc, length, get_or, replicate, IsSome, arith, refl}
 use Rattle.std.proofs.lemmas.List.{get_or_default, get_or-replicate, length-set}
 use Rattle.tree_node.proofs.Common.{fits, get}
 use Rattle.tree_node.proofs.Ways.{is_there}

@@ -1,4 +1,4 @@
-use Rattle.std.proofs.Common.{◌<◌, ◌≤◌, length, refl, arith}
+use Rattle.std.proofs.Common.{◌≤◌, length, refl, arith}
 use Rattle.std.proofs.lemmas.List.{drop_all}
 use Rattle.tree_batches.specs.Batches.{answer_for}
 use Rattle.tree_batches.proofs.Places.{first_answered, kept_on}
