@@ -12,12 +12,12 @@ use std::alloc::Global;
 use std::ops::Bound;
 use tree_texts::{end_of_prefix, remove_prefix};
 
-/// Writes the end of a prefix and its length. The end is the least key that is larger than all keys
-/// that begin with the prefix: these are the keys from the prefix, included, up to its end,
+/// Writes the end of a prefix and its length. The end is the least key that is larger than all
+/// keys that begin with the prefix: these are the keys from the prefix, included, up to its end,
 /// excluded. Answers `NO` and writes nothing if there is no end, since the prefix is empty or each
-/// of its bytes is 255: then all keys from the prefix on begin with it. Answers `NO_ROOM` if the end
-/// has too few places, and writes its length. An end is never longer than its prefix. Runs in the
-/// length of the prefix. Copies the end meanwhile.
+/// of its bytes is 255: then all keys from the prefix on begin with it. Answers `NO_ROOM` if the
+/// end has too few places, and writes its length. An end is never longer than its prefix. Runs in
+/// the length of the prefix. Copies the end meanwhile.
 #[tactic(auto, using(crate::proofs::Prefixes::ends_prefix))]
 #[unsafe(no_mangle)]
 pub extern "C" fn tree_index_bytes_prefix_end(
