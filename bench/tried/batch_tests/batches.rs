@@ -1,10 +1,13 @@
 //! Look-ups of many keys, compared with a plain rule.
 use std::alloc::{AllocError, Global};
 use std::process::Abort;
-use tree_batches::{contains_each, peek_each, peek_entry_each};
+use tree_batches::{
+    contains_each, contains_each_lent, peek_each, peek_each_lent, peek_entry_each,
+    peek_entry_each_lent,
+};
 use test_support::refusals::succeeds;
 use tree_index::{SmallTreeIndex, TreeIndex, TreeIndexOf};
-use tree_texts::Text;
+use tree_texts::{Bytes, Text};
 
 // How many pairs are stored: none, one, a full leaf and one more of either size, and three levels of seven pairs a leaf.
 static STORED: [u64; 7] = [0, 1, 7, 8, 15, 16, 400];
@@ -151,4 +154,61 @@ fn text_steps(rt: &impl Abort, alloc: Global) -> Result<(), AllocError> {
 #[test]
 fn texts_are_keys(rt: HostRuntime) {
     assert!(rt; succeeds(rt.alloc(), || text_steps(&rt, rt.alloc())));
+}
+
+// Asks for words that are lent, some of them absent, by each of the three calls.
+fn lent_steps(rt: &impl Abort, alloc: Global) -> Result<(), AllocError> {
+    let mut index: SmallTreeIndex<Text, u64> = TreeIndexOf::new(alloc);
+    let stored = ["pear", "fig", "a longer name of a fruit", "plum"];
+    let mut number = 0u64;
+    for word in stored {
+        let text = Text::from(String::from_str(alloc, word)?);
+        if index.insert_sync(text, number).is_err() {
+            return Err(AllocError);
+        }
+        number = number.wrapping_add(1);
+    }
+    let asked = [
+        "fig", "", "plum", "apple", "a longer name of a fruit", "a longer name", "pear", "fig", "figs",
+    ];
+    let expected = [
+        Some(1), None, Some(3), None, Some(2), None, Some(0), Some(1), None,
+    ];
+    let mut values = peek_each_lent(&index, &asked);
+    let mut entries = peek_entry_each_lent(&index, &asked);
+    let mut presences = contains_each_lent(&index, &asked);
+    for answer in expected {
+        assert!(rt; values.next().map(|found| found.copied()) == Some(answer));
+        let entry = entries.next().map(|found| found.map(|(_, value)| *value));
+        assert!(rt; entry == Some(answer));
+        assert!(rt; presences.next() == Some(answer.is_some()));
+    }
+    assert!(rt; values.len() == 0 && entries.next().is_none() && presences.next().is_none());
+    Ok(())
+}
+
+#[test]
+fn words_are_lent(rt: HostRuntime) {
+    assert!(rt; succeeds(rt.alloc(), || lent_steps(&rt, rt.alloc())));
+}
+
+fn lent_bytes_steps(rt: &impl Abort, alloc: Global) -> Result<(), AllocError> {
+    let mut index: TreeIndex<Bytes, u64> = TreeIndex::new(alloc);
+    let key = Bytes::from([0u8, 255, 7].to_vec(alloc)?);
+    if index.insert_sync(key, 5).is_err() {
+        return Err(AllocError);
+    }
+    let stored = [0u8, 255, 7];
+    let asked = [&stored[..2], &stored[..], &stored[1..]];
+    let mut values = peek_each_lent(&index, &asked);
+    assert!(rt; values.next().map(|found| found.copied()) == Some(None));
+    assert!(rt; values.next().map(|found| found.copied()) == Some(Some(5)));
+    assert!(rt; values.next().map(|found| found.copied()) == Some(None));
+    assert!(rt; values.next().is_none());
+    Ok(())
+}
+
+#[test]
+fn bytes_are_lent(rt: HostRuntime) {
+    assert!(rt; succeeds(rt.alloc(), || lent_bytes_steps(&rt, rt.alloc())));
 }

@@ -15,6 +15,7 @@ mod descent;
 mod each;
 mod filling;
 mod lent;
+mod texts;
 
 pub use answers::{Answers, Entries, Presence, Values};
 pub use batch::Batch;

@@ -1,11 +1,13 @@
 //! Look-ups of all items of a basket.
 ghost use Rattle.std.specs.Prelude.{◌≡◌, [], ◌∷◌, take, map, is_some, sum_by, IfSome, Some};
+ghost use Rattle.std.specs.Cmp.Lexicographic.{slice_cmp};
 ghost use Rattle.std.specs.Ordering.{nat_cmp};
 ghost use Rattle.tree_batches.specs.Batches.{entries_for, values_for};
 ghost use Rattle.usage.specs.Baskets.{are_all_true, or_nothing};
 
-use tree_batches::{contains_each, peek_each, peek_entry_each};
+use tree_batches::{contains_each, peek_each, peek_each_lent, peek_entry_each};
 use tree_index::TreeIndex;
+use tree_texts::Text;
 
 /// Returns what the items of a basket cost. An item without a price costs nothing. Returns `None`
 /// if the sum doesn't fit.
@@ -38,4 +40,17 @@ pub fn first_in(offers: &TreeIndex<u64, u64>, basket: &[u64]) -> Option<(u64, u6
 {
     let (item, price) = peek_entry_each(offers, basket).next()??;
     Some((*item, *price))
+}
+
+/// Returns how often the words of a list were counted together. A word without a count counts
+/// nothing. Returns `None` if the sum doesn't fit.
+pub fn count_of_all(counts: &TreeIndex<Text, u64>, words: &[&str]) -> Option<u64>
+    ensures { IfSome result (λ count. count ≡ sum_by or_nothing
+        (values_for (slice_cmp nat_cmp) counts.now.pairs (map (λ word. word.now) words.now))) }
+{
+    let mut total = 0u64;
+    for count in peek_each_lent(counts, words) {
+        total = total.checked_add(count.copied().unwrap_or(0))?;
+    }
+    Some(total)
 }
