@@ -150,11 +150,7 @@ pub fn peek_each_lent<'t, 'k, Q: Lent<K>, K: IndexKey, V: Drop, const LEN: usize
     }
 }
 
-/// Does what [`peek_entry_each`] does, by keys in another form.
-///
-/// ```
-/// let (word, count) = peek_entry_each_lent(counts, words).next()??;
-/// ```
+/// Does what [`peek_entry_each`] does, by keys in another form, as [`peek_each_lent`] does.
 pub fn peek_entry_each_lent<'t, 'k, Q: Lent<K>, K: IndexKey, V: Drop, const LEN: usize>(
     index: &'t TreeIndexOf<K, V, LEN>,
     keys: &'k [Q],
@@ -171,11 +167,7 @@ pub fn peek_entry_each_lent<'t, 'k, Q: Lent<K>, K: IndexKey, V: Drop, const LEN:
     }
 }
 
-/// Does what [`contains_each`] does, by keys in another form.
-///
-/// ```
-/// contains_each_lent(counts, words).all(|present| present)
-/// ```
+/// Does what [`contains_each`] does, by keys in another form, as [`peek_each_lent`] does.
 pub fn contains_each_lent<'t, 'k, Q: Lent<K>, K: IndexKey, V: Drop, const LEN: usize>(
     index: &'t TreeIndexOf<K, V, LEN>,
     keys: &'k [Q],

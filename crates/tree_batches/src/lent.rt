@@ -7,11 +7,8 @@ use std::marker::Brand;
 use std::sync::ledger::{Blank, Ledger};
 use tree_array::array::{ArrayOf, Asks, Judge, Steps};
 
-/// A form in which a key is lent to a look-up. Each type of keys is a form of its own.
-///
-/// ```
-/// let found = peek_each_lent(&counts, &["one", "two"]);
-/// ```
+/// A form in which a key is lent to a look-up. Each type of keys is a form of its own, a `&str` is
+/// one of `Text`, and a `&[u8]` one of `Bytes`.
 pub trait Lent<K: Ord> {
     ghost key: { Self → K };
 
