@@ -150,7 +150,11 @@ pub fn peek_each_lent<'t, 'k, Q: Lent<K>, K: IndexKey, V: Drop, const LEN: usize
     }
 }
 
-/// Does what [`peek_entry_each`] does, by keys in another form, as [`peek_each_lent`] does.
+/// Does what [`peek_entry_each`] does, by keys in another form.
+///
+/// ```
+/// let (_, count) = peek_entry_each_lent(counts, words).next()??;
+/// ```
 pub fn peek_entry_each_lent<'t, 'k, Q: Lent<K>, K: IndexKey, V: Drop, const LEN: usize>(
     index: &'t TreeIndexOf<K, V, LEN>,
     keys: &'k [Q],
@@ -167,7 +171,15 @@ pub fn peek_entry_each_lent<'t, 'k, Q: Lent<K>, K: IndexKey, V: Drop, const LEN:
     }
 }
 
-/// Does what [`contains_each`] does, by keys in another form, as [`peek_each_lent`] does.
+/// Does what [`contains_each`] does, by keys in another form.
+///
+/// ```
+/// for present in contains_each_lent(counts, words) {
+///     if !present {
+///         return false;
+///     }
+/// }
+/// ```
 pub fn contains_each_lent<'t, 'k, Q: Lent<K>, K: IndexKey, V: Drop, const LEN: usize>(
     index: &'t TreeIndexOf<K, V, LEN>,
     keys: &'k [Q],

@@ -5,7 +5,10 @@ ghost use Rattle.std.specs.Ordering.{nat_cmp};
 ghost use Rattle.tree_batches.specs.Batches.{entries_for, values_for};
 ghost use Rattle.usage.specs.Baskets.{are_all_true, or_nothing};
 
-use tree_batches::{contains_each, peek_each, peek_each_lent, peek_entry_each};
+use tree_batches::{
+    contains_each, contains_each_lent, peek_each, peek_each_lent, peek_entry_each,
+    peek_entry_each_lent,
+};
 use tree_index::TreeIndex;
 use tree_texts::Text;
 
@@ -53,4 +56,26 @@ pub fn count_of_all(counts: &TreeIndex<Text, u64>, words: &[&str]) -> Option<u64
         total = total.checked_add(count.copied().unwrap_or(0))?;
     }
     Some(total)
+}
+
+/// Returns whether each word of a list was counted.
+pub fn are_counted(counts: &TreeIndex<Text, u64>, words: &[&str]) -> bool
+    ensures { result ≡ are_all_true (map is_some
+        (entries_for (slice_cmp nat_cmp) counts.now.pairs (map (λ word. word.now) words.now))) }
+{
+    for present in contains_each_lent(counts, words) {
+        if !present {
+            return false;
+        }
+    }
+    true
+}
+
+/// Returns how often the first word of a list was counted, if it was.
+pub fn count_of_first(counts: &TreeIndex<Text, u64>, words: &[&str]) -> Option<u64>
+    ensures { IfSome result (λ count. take 1
+        (values_for (slice_cmp nat_cmp) counts.now.pairs (map (λ word. word.now) words.now)) ≡ Some count ∷ []) }
+{
+    let (_, count) = peek_entry_each_lent(counts, words).next()??;
+    Some(*count)
 }

@@ -19,7 +19,7 @@ mod stock;
 mod stores;
 mod walks;
 
-pub use baskets::{cost_of, count_of_all, first_in, has_all};
+pub use baskets::{are_counted, cost_of, count_of_all, count_of_first, first_in, has_all};
 pub use book::{ask_from, best_ask, best_bid, cancel, second_ask};
 pub use fills::{fill, fill_bid, remove_filled, take_back};
 pub use guests::{invitation, invite, next_to_ask};
