@@ -14,6 +14,7 @@ pub trait Answers<'t, K, V> {
 
     ghost seen: { Self.Answer → Self.Shown };
 
+    /// Returns the answer for the pair that was found. Runs in constant time.
     fn answer(found: Option<(&'t K, &'t V)>) -> Self::Answer
         ensures { seen result ≡ shown (lent found.entry) };
 }

@@ -63,7 +63,8 @@ pub trait Enter: Drop {
     // That it was refused.
     ghost refuses: { Self → Type 0 };
 
-    /// Enters the index. Returns `Err` with the reader if the writer was closed or dropped.
+    /// Enters the index. Returns `Err` with the reader if the writer was closed or dropped. Runs in
+    /// constant time.
     fn enter_to(self) -> Result<Self::Inside, Self>
         ensures ok { IfOk result (λ inside. sees self inside) }
         ensures err { IfErr result (λ reader. (reader ≡ self) × refuses self) };

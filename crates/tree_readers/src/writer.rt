@@ -180,7 +180,7 @@ impl<K: IndexKey + SameClone, V: SameClone, R: Wait + Drop, const LEN: usize> Wr
     }
 
     /// Keeps an insert for the next call of `publish`. It stores the pair if no pair has its key by
-    /// then. Returns what [`append`](WriterOf::append) does.
+    /// then. Returns and costs what [`append`](WriterOf::append) does.
     ///
     /// ```
     /// writer.insert(1, 10)?;
@@ -192,7 +192,7 @@ impl<K: IndexKey + SameClone, V: SameClone, R: Wait + Drop, const LEN: usize> Wr
     }
 
     /// Keeps an upsert for the next call of `publish`. It stores the pair, and replaces one with an
-    /// equal key. Returns what [`append`](WriterOf::append) does.
+    /// equal key. Returns and costs what [`append`](WriterOf::append) does.
     ///
     /// ```
     /// writer.upsert(3, 30)?;
@@ -203,7 +203,7 @@ impl<K: IndexKey + SameClone, V: SameClone, R: Wait + Drop, const LEN: usize> Wr
         self.append(Command::Upsert(key, value))
     }
 
-    /// Keeps the removal of a key for the next call of `publish`. Returns what
+    /// Keeps the removal of a key for the next call of `publish`. Returns and costs what
     /// [`append`](WriterOf::append) does.
     ///
     /// ```
@@ -216,7 +216,7 @@ impl<K: IndexKey + SameClone, V: SameClone, R: Wait + Drop, const LEN: usize> Wr
     }
 
     /// Keeps the removal of every pair within two bounds for the next call of `publish`. Returns
-    /// what [`append`](WriterOf::append) does.
+    /// and costs what [`append`](WriterOf::append) does.
     ///
     /// ```
     /// writer.remove_range(Bound::Included(5), Bound::Excluded(9))?;
@@ -227,7 +227,7 @@ impl<K: IndexKey + SameClone, V: SameClone, R: Wait + Drop, const LEN: usize> Wr
         self.append(Command::RemoveRange(low, high))
     }
 
-    /// Keeps the removal of all pairs for the next call of `publish`. Returns what
+    /// Keeps the removal of all pairs for the next call of `publish`. Returns and costs what
     /// [`append`](WriterOf::append) does.
     ///
     /// ```
