@@ -104,12 +104,12 @@ uint8_t tree_index_bytes_at_or_below(tree_index_handle *handle, const uint8_t *s
  * [`tree_index_bytes_first`] does. Runs in O(log n). Copies the key meanwhile. */
 uint8_t tree_index_bytes_at_or_above(tree_index_handle *handle, const uint8_t *sought, size_t sought_length, uint8_t *key, size_t key_length, tree_index_entry *entry);
 
-/* Writes the end of a prefix and its length. The end is the least key that is larger than all keys
- * that begin with the prefix: these are the keys from the prefix, included, up to its end,
- * excluded. Answers `NO`, and writes nothing, if there is no end, since the prefix is empty or each
- * of its bytes is 255: then all keys from the prefix on begin with it. Answers `NO_ROOM` if the end
- * has too few places, and writes its length. An end is never longer than its prefix. Runs in the
- * length of the prefix. Copies the end meanwhile. */
+/* Writes the end of a prefix and its length. The end is the least key that is larger than all
+ * keys that begin with the prefix: these are the keys from the prefix, included, up to its end,
+ * excluded. Answers `NO` and writes nothing if there is no end, since the prefix is empty or each
+ * of its bytes is 255: then all keys from the prefix on begin with it. Answers `NO_ROOM` if the
+ * end has too few places, and writes its length. An end is never longer than its prefix. Runs in
+ * the length of the prefix. Copies the end meanwhile. */
 uint8_t tree_index_bytes_prefix_end(const uint8_t *prefix, size_t prefix_length, uint8_t *end, size_t end_length, size_t *length);
 
 /* Removes every pair whose key begins with a prefix, and writes how many there were. The number is
