@@ -7,6 +7,3 @@ returns-clause-goes g c = rw (← c.self.view_is) (first_progress (λ x. x.now) 
 
 pub alone-requires : goal.alone-requires
 alone-requires g c = search fits
-
-pub invariant_of-self : goal.invariant_of-self
-invariant_of-self g c = c.alone.ensures.ascending

@@ -7,6 +7,3 @@ returns-clause-goes g c = rw (← c.self.view_is) (first_progress (λ x. x.now) 
 
 pub common-requires : goal.common-requires
 common-requires g c = search fits
-
-pub invariant_of-self : goal.invariant_of-self
-invariant_of-self g c = c.common.ensures.ascending

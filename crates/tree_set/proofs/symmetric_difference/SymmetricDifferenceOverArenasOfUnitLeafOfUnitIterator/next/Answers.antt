@@ -7,6 +7,3 @@ returns-clause-goes g c = rw (← c.self.view_is) (first_progress (λ x. x.now) 
 
 pub of_one-requires : goal.of_one-requires
 of_one-requires g c = search fits
-
-pub invariant_of-self : goal.invariant_of-self
-invariant_of-self g c = c.of_one.ensures.ascending
