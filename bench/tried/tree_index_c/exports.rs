@@ -4,6 +4,7 @@
 //! Each call is compared with a sorted vector. If an allocation fails, the call must answer `NO_MEMORY` and change neither
 //! the pairs nor the places that it is passed. It is then made again, and must answer as the vector does.
 use crate::bytes::lookups::{tree_index_bytes_at_or_above, tree_index_bytes_at_or_below};
+use crate::bytes::prefixes::{tree_index_bytes_prefix_end, tree_index_bytes_remove_prefix};
 use crate::bytes::ranges::{
     tree_index_bytes_fill, tree_index_bytes_fill_back, tree_index_bytes_remove_range,
 };
@@ -39,6 +40,9 @@ const EXCLUDED: u8 = 2;
 /// The most bytes that a key has.
 const LONGEST: usize = 12;
 
+/// How many bytes the keys of 256 numbers have in common.
+const COMMON: usize = 7;
+
 /// How many places a fill has.
 const PLACES: usize = 4;
 
@@ -60,6 +64,8 @@ enum Call {
     Fill(u64, u64),
     FillBack(u64, u64),
     RemoveRange(u64, u64),
+    PrefixEnd(u64),
+    RemovePrefix(u64),
     FromSorted(u64),
     Copy,
 }
@@ -132,6 +138,8 @@ fn name_of(call: Call, is_bytes: bool) -> &'static str {
         Call::Fill(_, _) => "tree_index_bytes_fill",
         Call::FillBack(_, _) => "tree_index_bytes_fill_back",
         Call::RemoveRange(_, _) => "tree_index_bytes_remove_range",
+        Call::PrefixEnd(_) => "tree_index_bytes_prefix_end",
+        Call::RemovePrefix(_) => "tree_index_bytes_remove_prefix",
         Call::FromSorted(_) if is_bytes => "tree_index_bytes_from_sorted",
         Call::FromSorted(_) => "tree_index_from_sorted",
         Call::Copy => "tree_index_copy",
@@ -303,6 +311,15 @@ impl<R: Abort> Subject<'_, R> {
                     &high[..high_length],
                 )
             }
+            Call::PrefixEnd(number) => {
+                let (key, _) = bytes_of(number);
+                let prefix = &key[..COMMON];
+                tree_index_bytes_prefix_end(alloc, prefix, &mut places.key, &mut places.count)
+            }
+            Call::RemovePrefix(number) => {
+                let (key, _) = bytes_of(number);
+                tree_index_bytes_remove_prefix(alloc, handle, &key[..COMMON], &mut places.count)
+            }
             Call::FromSorted(count) => {
                 let mut used = 0;
                 for at in 0..count {
@@ -412,6 +429,20 @@ impl<R: Abort> Subject<'_, R> {
                     self.pairs.remove(from);
                 }
                 answer == YES
+            }
+            Call::PrefixEnd(number) => {
+                let (end, _) = bytes_of(number / 256 * 256 + 256);
+                answer == YES
+                    && self.places.count == COMMON
+                    && self.places.key[..COMMON] == end[..COMMON]
+            }
+            Call::RemovePrefix(number) => {
+                let low = number / 256 * 256;
+                let (from, to) = (self.place(low), self.place(low + 256));
+                for _ in from..to {
+                    self.pairs.remove(from);
+                }
+                answer == YES && self.places.count == to - from
             }
             Call::FromSorted(count) if self.other.is_open => {
                 answer == YES && self.other_is_ascending(count)
@@ -676,7 +707,13 @@ fn exports_of_bytes(rt: HostRuntime) {
             subject.step(Call::PopLast)?;
             subject.step(Call::RemoveRange(key + 2, key + 6))?;
         }
-        subject.step(Call::RemoveRange(0, 100))?;
+        for key in [200, 256, 300, 511, 512] {
+            subject.step(Call::Upsert(key, key))?;
+        }
+        subject.step(Call::PrefixEnd(300))?;
+        subject.step(Call::RemovePrefix(300))?;
+        subject.step(Call::RemovePrefix(300))?;
+        subject.step(Call::RemoveRange(0, 1000))?;
         subject.step(Call::PopFirst)?;
         subject.step(Call::PopLast)
     })));
