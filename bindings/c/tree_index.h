@@ -112,10 +112,10 @@ uint8_t tree_index_bytes_at_or_above(tree_index_handle *handle, const uint8_t *s
  * the length of the prefix. Copies the end meanwhile. */
 uint8_t tree_index_bytes_prefix_end(const uint8_t *prefix, size_t prefix_length, uint8_t *end, size_t end_length, size_t *length);
 
-/* Removes every pair whose key begins with a prefix, and writes how many there were. The number is
- * sure unless the index had 2^64 pairs or more. Answers `YES`, also if there was none. Makes O(log
- * n) comparisons, and frees the leaves between the first pair and the last whole. Copies the prefix
- * and its end meanwhile. */
+/* Removes every pair whose key begins with a prefix, and writes how many there were. The number
+ * is sure unless the index had 2^64 pairs or more. Answers `YES`, also if there was none. Makes
+ * O(log n) comparisons, and frees the leaves between the first pair and the last whole. Copies
+ * the prefix and its end meanwhile. */
 uint8_t tree_index_bytes_remove_prefix(tree_index_handle *handle, const uint8_t *prefix, size_t prefix_length, size_t *count);
 
 /* Writes the first pairs whose keys are within both bounds, in ascending order, and how many.

@@ -43,10 +43,10 @@ pub extern "C" fn tree_index_bytes_prefix_end(
     }
 }
 
-/// Removes every pair whose key begins with a prefix, and writes how many there were. The number is
-/// sure unless the index had 2^64 pairs or more. Answers `YES`, also if there was none. Makes O(log
-/// n) comparisons, and frees the leaves between the first pair and the last whole. Copies the prefix
-/// and its end meanwhile.
+/// Removes every pair whose key begins with a prefix, and writes how many there were. The number
+/// is sure unless the index had 2^64 pairs or more. Answers `YES`, also if there was none. Makes
+/// O(log n) comparisons, and frees the leaves between the first pair and the last whole. Copies
+/// the prefix and its end meanwhile.
 #[unsafe(no_mangle)]
 pub extern "C" fn tree_index_bytes_remove_prefix(
     alloc: Global,
