@@ -26,7 +26,11 @@ impl Model for BegunLine {
 }
 
 impl BegunLine {
-    /// Creates an empty line.
+    /// Creates an empty line, which has room for 256 bytes. Allocates nothing.
+    ///
+    /// ```
+    /// let mut line = BegunLine::new();
+    /// ```
     pub fn new() -> Self
         ensures { result ≡ Some [] }
     {
@@ -37,7 +41,13 @@ impl BegunLine {
         }
     }
 
-    /// Returns the bytes, or `None` if the line is too long.
+    /// Returns the bytes, or `None` if the line is too long. Runs in constant time.
+    ///
+    /// ```
+    /// let Some(text) = line.text() else {
+    ///     return Answer::Unknown;
+    /// };
+    /// ```
     pub fn text(&self) -> Option<&[u8]>
         ensures { option_map (λ text. text.now) result ≡ self.now }
     {
@@ -47,14 +57,27 @@ impl BegunLine {
         Some(&self.bytes[..self.length])
     }
 
-    /// Returns whether the line has no byte.
+    /// Returns whether the line has no byte. Runs in constant time.
+    ///
+    /// ```
+    /// if line.is_empty() {
+    ///     return Ok(());
+    /// }
+    /// ```
     pub fn is_empty(&self) -> bool
         ensures { IsTrue result ↔ (self.now ≡ Some []) }
     {
         self.length == 0 && !self.is_long
     }
 
-    /// Appends a byte.
+    /// Appends a byte. The 257th makes the line too long. Runs in constant time.
+    ///
+    /// ```
+    /// if byte != b'\n' {
+    ///     line.push(byte);
+    ///     return Ok(());
+    /// }
+    /// ```
     pub fn push(&mut self, byte: u8)
         ensures { (begun : List ℕ) → self.old ≡ clip begun → self.new ≡ clip (begun ++ byte ∷ []) }
     {
@@ -66,7 +89,12 @@ impl BegunLine {
         }
     }
 
-    /// Empties the line, so that the next one can begin.
+    /// Empties the line, so that the next one can begin. Runs in constant time.
+    ///
+    /// ```
+    /// line.clear();
+    /// Ok(())
+    /// ```
     pub fn clear(&mut self)
         ensures { self.new ≡ Some [] }
     {

@@ -14,7 +14,9 @@ mod short_text;
 mod words;
 mod writing;
 
+pub use answers::{Answer, write_answer};
+pub use begun_line::BegunLine;
 pub use lines::{ToolFault, run_lines};
 pub use numbers::number_of;
-pub use requests::Request;
+pub use requests::{Request, request_of};
 pub use writing::{WriteFailed, write_number, write_whole};

@@ -43,7 +43,15 @@ pub enum Request {
     Locate(u64),
 }
 
-/// Parses a line. Returns `None` if it is not the spelling of a request.
+/// Parses a line, without its line feed. Returns `None` if it is not the spelling of a request.
+/// Reads it once and allocates nothing.
+///
+/// ```
+/// let Some(text) = line.text() else {
+///     return Answer::Unknown;
+/// };
+/// respond(index, request_of(text))
+/// ```
 pub fn request_of(line: &[u8]) -> Option<Request>
     ensures { ReadsAs Fits spelling line.now result }
 {
