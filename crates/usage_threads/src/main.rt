@@ -1,13 +1,14 @@
 //! Threads that share an index, as docs/USING.md shows them. Behind one lock: two that claim
-//! numbers, eight that store numbers of their own, and a storm of eight. Beside readers that never
-//! wait: prices that two quote and read, and a writer that changes all of them at once. Then each
-//! call of a writer and of a handle.
+//! numbers, eight that store numbers of their own, without a history and with one, and a storm of
+//! eight. Beside readers that never wait: prices that two quote and read, and a writer that changes
+//! all of them at once. Then each call of a writer and of a handle.
 //!
 //! Prints what each of them saw, and prints the same whichever thread runs first.
 #![tactic(auto)]
 
 mod calls;
 mod claims;
+mod locked;
 mod prices;
 mod rounds;
 mod stores;
@@ -15,6 +16,7 @@ mod trouble;
 
 use crate::calls::call_each;
 use crate::claims::claimed_by_two;
+use crate::locked::store_by_lock;
 use crate::prices::{close, quote_and_read, reader_of};
 use crate::rounds::{Seen, race};
 use crate::stores::store_by_eight;
@@ -30,6 +32,8 @@ fn main(rt: HostRuntime) -> Result<(), Trouble> {
     let numbers: Vec<u64> = (1..=100).collect(rt.alloc())?;
     let claims = claimed_by_two(&rt, rt.alloc(), &numbers)?;
     show_calls(&rt, &claims.closed, 200)?;
+    let index = store_by_lock(rt, rt.alloc())?;
+    println!(rt; "locked {}", index.len())?;
     let closed = store_by_eight(rt, rt.alloc())?;
     show_calls(&rt, &closed, 800)?;
     let closed = run_workers(&rt, rt.alloc(), 8, 1000, &OpenGate)?;
