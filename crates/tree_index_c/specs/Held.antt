@@ -1,5 +1,5 @@
 -- What a handle holds, and what a call does to it.
-use Rattle.std.specs.Prelude.{◌≡◌, ℕ, List, [], Option, None, Some, length}
+use Rattle.std.specs.Prelude.{◌≡◌, ℕ, ℤ, List, [], Option, None, Some, length}
 use Rattle.tree_index.specs.Index.{Index}
 use Rattle.tree_index_c.specs.declared.handle.Handle.{Handle}
 use Rattle.tree_index_c.specs.declared.status.TheConstants.{YES, NO_MEMORY, MISFIT}
@@ -11,7 +11,7 @@ abbrev pub held : Handle → Option Store
 held handle = handle.pointer.behind
 
 -- A call on an index whose keys are numbers does this. Any other handle stays as it is, and the answer is `MISFIT`.
-abbrev pub OnNumbers : (Index ℕ ℕ → ℕ → Index ℕ ℕ → Type 0) → Option Store → ℕ → Option Store → Type 0
+abbrev pub OnNumbers : (Index ℕ ℕ → ℤ → Index ℕ ℕ → Type 0) → Option Store → ℤ → Option Store → Type 0
 OnNumbers Does (Some (Numbers old)) answer (Some (Numbers new)) = Does old answer new
 OnNumbers Does (Some (Numbers old)) answer (Some (Bytes new)) = ⊥
 OnNumbers Does (Some (Numbers old)) answer None = ⊥
@@ -19,7 +19,7 @@ OnNumbers Does (Some (Bytes old)) answer new = (answer ≡ MISFIT) × (new ≡ S
 OnNumbers Does None answer new = (answer ≡ MISFIT) × (new ≡ None)
 
 -- the same of an index whose keys are strings of bytes
-abbrev pub OnBytes : (Index (List ℕ) ℕ → ℕ → Index (List ℕ) ℕ → Type 0) → Option Store → ℕ → Option Store → Type 0
+abbrev pub OnBytes : (Index (List ℕ) ℕ → ℤ → Index (List ℕ) ℕ → Type 0) → Option Store → ℤ → Option Store → Type 0
 OnBytes Does (Some (Bytes old)) answer (Some (Bytes new)) = Does old answer new
 OnBytes Does (Some (Bytes old)) answer (Some (Numbers new)) = ⊥
 OnBytes Does (Some (Bytes old)) answer None = ⊥
@@ -56,7 +56,7 @@ SamePairs (Bytes old) (Bytes new) = new.pairs ≡ old.pairs
 SamePairs _ _ = ⊥
 
 -- A closed handle is opened on a copy.
-abbrev pub Copies : Option Store → Option Store → ℕ → Option Store → Type 0
+abbrev pub Copies : Option Store → Option Store → ℤ → Option Store → Type 0
 Copies (Some from) None answer (Some to) = (answer ≡ YES) × SamePairs from to
 Copies (Some from) None answer None = answer ≡ NO_MEMORY
 Copies (Some from) (Some old) answer new = (answer ≡ MISFIT) × (new ≡ Some old)

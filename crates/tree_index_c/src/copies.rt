@@ -10,7 +10,7 @@ use std::alloc::{AllocError, Global};
 /// Opens the closed handle `to` on a copy of the index of `from`. If an allocation fails, `to`
 /// stays closed. Runs in O(n).
 #[unsafe(no_mangle)]
-pub extern "C" fn tree_index_copy(alloc: Global, from: &mut Handle, to: &mut Handle) -> u8
+pub extern "C" fn tree_index_copy(alloc: Global, from: &mut Handle, to: &mut Handle) -> i32
     ensures kept { held from.new ≡ held from.old }
     ensures copied { Copies (held from.old) (held to.old) result (held to.new) }
 {

@@ -1,5 +1,5 @@
 //! Look-ups in an index whose keys are strings of bytes.
-ghost use Rattle.std.specs.Prelude.{◌≡◌, Some};
+ghost use Rattle.std.specs.Prelude.{◌≡◌};
 ghost use Rattle.std.specs.Cmp.Lexicographic.{slice_cmp};
 ghost use Rattle.std.specs.Option.{option_map};
 ghost use Rattle.std.specs.Ordering.{nat_cmp};
@@ -13,6 +13,7 @@ ghost use Rattle.tree_model.specs.Pairs.{IsAbsent, IsPresent, pair_at};
 use crate::bytes::key::key_of;
 use crate::entry::{Entry, write_entry};
 use crate::handle::Handle;
+use crate::pair::write_value;
 use crate::status::{MISFIT, NO, NO_MEMORY, YES};
 use crate::store::Store;
 use std::alloc::Global;
@@ -26,7 +27,7 @@ pub extern "C" fn tree_index_bytes_peek(
     handle: &mut Handle,
     key: &[u8],
     value: &mut u64,
-) -> u8
+) -> i32
     ensures { OnBytes
         (λ old answer new. Writes
         (option_map (λ pair. pair.1) (pair_at (slice_cmp nat_cmp) old.pairs key.now)) answer value.old value.new
@@ -35,14 +36,17 @@ pub extern "C" fn tree_index_bytes_peek(
     let Some(store) = handle.take(alloc) else {
         return MISFIT;
     };
-    let answer = peek(&store, key, value);
+    let answer = match &*store {
+        Store::Bytes(index) => write_value(peek_bytes(index, key).map(|(_, value)| *value), value),
+        Store::Numbers(_) => MISFIT,
+    };
     *handle = Handle::leading_to(store);
     answer
 }
 
 /// Answers whether a key is present. Runs in O(log n). Copies nothing.
 #[unsafe(no_mangle)]
-pub extern "C" fn tree_index_bytes_contains(alloc: Global, handle: &mut Handle, key: &[u8]) -> u8
+pub extern "C" fn tree_index_bytes_contains(alloc: Global, handle: &mut Handle, key: &[u8]) -> i32
     ensures { OnBytes
         (λ old answer new. Says (IsPresent (slice_cmp nat_cmp) old.pairs key.now)
         (IsAbsent (slice_cmp nat_cmp) old.pairs key.now) answer × (new ≡ old))
@@ -51,7 +55,16 @@ pub extern "C" fn tree_index_bytes_contains(alloc: Global, handle: &mut Handle, 
     let Some(store) = handle.take(alloc) else {
         return MISFIT;
     };
-    let answer = contains(&store, key);
+    let answer = match &*store {
+        Store::Bytes(index) => {
+            if peek_bytes(index, key).is_some() {
+                YES
+            } else {
+                NO
+            }
+        }
+        Store::Numbers(_) => MISFIT,
+    };
     *handle = Handle::leading_to(store);
     answer
 }
@@ -65,7 +78,7 @@ pub extern "C" fn tree_index_bytes_first(
     handle: &mut Handle,
     key: &mut [u8],
     entry: &mut Entry,
-) -> u8
+) -> i32
     ensures { OnBytes
         (λ old answer new. WritesEntry (first_of old.pairs) answer key.old key.new entry.old entry.new × (new ≡ old))
         (held handle.old) result (held handle.new) }
@@ -73,7 +86,10 @@ pub extern "C" fn tree_index_bytes_first(
     let Some(store) = handle.take(alloc) else {
         return MISFIT;
     };
-    let answer = first(&store, key, entry);
+    let answer = match &*store {
+        Store::Bytes(index) => write_entry(index.first(), key, entry),
+        Store::Numbers(_) => MISFIT,
+    };
     *handle = Handle::leading_to(store);
     answer
 }
@@ -86,7 +102,7 @@ pub extern "C" fn tree_index_bytes_last(
     handle: &mut Handle,
     key: &mut [u8],
     entry: &mut Entry,
-) -> u8
+) -> i32
     ensures { OnBytes
         (λ old answer new. WritesEntry (last_of old.pairs) answer key.old key.new entry.old entry.new × (new ≡ old))
         (held handle.old) result (held handle.new) }
@@ -94,7 +110,10 @@ pub extern "C" fn tree_index_bytes_last(
     let Some(store) = handle.take(alloc) else {
         return MISFIT;
     };
-    let answer = last(&store, key, entry);
+    let answer = match &*store {
+        Store::Bytes(index) => write_entry(index.last(), key, entry),
+        Store::Numbers(_) => MISFIT,
+    };
     *handle = Handle::leading_to(store);
     answer
 }
@@ -108,7 +127,7 @@ pub extern "C" fn tree_index_bytes_at_or_below(
     sought: &[u8],
     key: &mut [u8],
     entry: &mut Entry,
-) -> u8
+) -> i32
     ensures { OnBytes
         (λ old answer new. FindsEntry
         (at_or_below (slice_cmp nat_cmp) old.pairs sought.now) answer key.old key.new entry.old entry.new × (new ≡ old))
@@ -117,7 +136,13 @@ pub extern "C" fn tree_index_bytes_at_or_below(
     let Some(store) = handle.take(alloc) else {
         return MISFIT;
     };
-    let answer = below(&store, alloc, sought, key, entry);
+    let answer = match &*store {
+        Store::Bytes(index) => match key_of(alloc, sought) {
+            Ok(sought) => write_entry(index.at_or_below(&sought), key, entry),
+            Err(_) => NO_MEMORY,
+        },
+        Store::Numbers(_) => MISFIT,
+    };
     *handle = Handle::leading_to(store);
     answer
 }
@@ -131,7 +156,7 @@ pub extern "C" fn tree_index_bytes_at_or_above(
     sought: &[u8],
     key: &mut [u8],
     entry: &mut Entry,
-) -> u8
+) -> i32
     ensures { OnBytes
         (λ old answer new. FindsEntry
         (at_or_above (slice_cmp nat_cmp) old.pairs sought.now) answer key.old key.new entry.old entry.new × (new ≡ old))
@@ -140,91 +165,13 @@ pub extern "C" fn tree_index_bytes_at_or_above(
     let Some(store) = handle.take(alloc) else {
         return MISFIT;
     };
-    let answer = above(&store, alloc, sought, key, entry);
+    let answer = match &*store {
+        Store::Bytes(index) => match key_of(alloc, sought) {
+            Ok(sought) => write_entry(index.at_or_above(&sought), key, entry),
+            Err(_) => NO_MEMORY,
+        },
+        Store::Numbers(_) => MISFIT,
+    };
     *handle = Handle::leading_to(store);
     answer
-}
-
-fn peek(store: &Store, key: &[u8], value: &mut u64) -> u8
-    ensures { OnBytes
-        (λ old answer new. Writes
-        (option_map (λ pair. pair.1) (pair_at (slice_cmp nat_cmp) old.pairs key.now)) answer value.old value.new
-        × (new ≡ old)) (Some store.now) result (Some store.now) }
-{
-    let Store::Bytes(index) = store else {
-        return MISFIT;
-    };
-    let Some((_, found)) = peek_bytes(index, key) else {
-        return NO;
-    };
-    *value = *found;
-    YES
-}
-
-fn contains(store: &Store, key: &[u8]) -> u8
-    ensures { OnBytes
-        (λ old answer new. Says (IsPresent (slice_cmp nat_cmp) old.pairs key.now)
-        (IsAbsent (slice_cmp nat_cmp) old.pairs key.now) answer × (new ≡ old))
-        (Some store.now) result (Some store.now) }
-{
-    let Store::Bytes(index) = store else {
-        return MISFIT;
-    };
-    if peek_bytes(index, key).is_some() {
-        YES
-    } else {
-        NO
-    }
-}
-
-fn first(store: &Store, key: &mut [u8], entry: &mut Entry) -> u8
-    ensures { OnBytes
-        (λ old answer new. WritesEntry (first_of old.pairs) answer key.old key.new entry.old entry.new × (new ≡ old))
-        (Some store.now) result (Some store.now) }
-{
-    let Store::Bytes(index) = store else {
-        return MISFIT;
-    };
-    write_entry(index.first(), key, entry)
-}
-
-fn last(store: &Store, key: &mut [u8], entry: &mut Entry) -> u8
-    ensures { OnBytes
-        (λ old answer new. WritesEntry (last_of old.pairs) answer key.old key.new entry.old entry.new × (new ≡ old))
-        (Some store.now) result (Some store.now) }
-{
-    let Store::Bytes(index) = store else {
-        return MISFIT;
-    };
-    write_entry(index.last(), key, entry)
-}
-
-fn below(store: &Store, alloc: Global, sought: &[u8], key: &mut [u8], entry: &mut Entry) -> u8
-    ensures { OnBytes
-        (λ old answer new. FindsEntry
-        (at_or_below (slice_cmp nat_cmp) old.pairs sought.now) answer key.old key.new entry.old entry.new × (new ≡ old))
-        (Some store.now) result (Some store.now) }
-{
-    let Store::Bytes(index) = store else {
-        return MISFIT;
-    };
-    let Ok(sought) = key_of(alloc, sought) else {
-        return NO_MEMORY;
-    };
-    write_entry(index.at_or_below(&sought), key, entry)
-}
-
-fn above(store: &Store, alloc: Global, sought: &[u8], key: &mut [u8], entry: &mut Entry) -> u8
-    ensures { OnBytes
-        (λ old answer new. FindsEntry
-        (at_or_above (slice_cmp nat_cmp) old.pairs sought.now) answer key.old key.new entry.old entry.new × (new ≡ old))
-        (Some store.now) result (Some store.now) }
-{
-    let Store::Bytes(index) = store else {
-        return MISFIT;
-    };
-    let Ok(sought) = key_of(alloc, sought) else {
-        return NO_MEMORY;
-    };
-    write_entry(index.at_or_above(&sought), key, entry)
 }
